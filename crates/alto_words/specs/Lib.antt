@@ -1,0 +1,3 @@
+pub mod Fid
+pub mod Names
+pub mod Numbers

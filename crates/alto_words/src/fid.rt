@@ -1,0 +1,58 @@
+// Full names of files.
+ghost use Rattle.std.specs.Prelude.{◌≡◌, ◌<◌, ◌≤◌, ◌^◌};
+ghost use Rattle.alto_words.specs.Fid.{is_directory, serial_of, ordinary_fid, directory_fid};
+
+/// The full name of a file: a serial number of 31 bits in two words, with the directory mark as the
+/// top bit of the high word, and a version. Full names are ordered by (high, low, version).
+/// Source: the full names of the SOSP 1979 paper; the words are those of the Alto's labels.
+#[derive(Clone, Copy, Debug, PartialEq, Eq, PartialOrd, Ord)]
+pub struct Fid {
+    /// The directory mark (0x8000) and the upper 15 bits of the serial.
+    pub high: u16,
+    /// The lower 16 bits of the serial.
+    pub low: u16,
+    /// 1 to 0xFFFE for a file that can live.
+    pub version: u16,
+}
+
+impl Fid {
+    /// Whether the directory mark is set.
+    pub fn is_directory(&self) -> bool
+        ensures { result ≡ is_directory self.now }
+    {
+        self.high >= 0x8000
+    }
+
+    /// The serial without the directory mark, 0 to 2^31 - 1.
+    pub fn serial(&self) -> u32
+        ensures { result ≡ serial_of self.now }
+    {
+        self.high as u32 % 0x8000 * 0x1_0000 + self.low as u32
+    }
+
+    /// The ordinary file of this serial, version 1.
+    pub fn ordinary(serial: u32) -> Fid
+        requires least { 1 ≤ serial }
+        requires most { serial < 2 ^ 31 }
+        ensures { result ≡ ordinary_fid serial }
+    {
+        Fid {
+            high: (serial / 0x1_0000) as u16,
+            low: (serial % 0x1_0000) as u16,
+            version: 1,
+        }
+    }
+
+    /// The directory of this serial, version 1.
+    pub fn directory(serial: u32) -> Fid
+        requires least { 1 ≤ serial }
+        requires most { serial < 2 ^ 31 }
+        ensures { result ≡ directory_fid serial }
+    {
+        Fid {
+            high: (serial / 0x1_0000 + 0x8000) as u16,
+            low: (serial % 0x1_0000) as u16,
+            version: 1,
+        }
+    }
+}
