@@ -1,3 +1,6 @@
 pub mod Fid
+pub mod Laws
+pub mod Lists
 pub mod Names
 pub mod Numbers
+pub mod Texts

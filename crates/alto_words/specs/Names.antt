@@ -1,5 +1,5 @@
 -- Names of files, over lists of bytes.
-use Rattle.std.specs.Prelude.{ℕ, ◌+◌, ◌-◌, ◌==◌, ◌&&◌, ◌||◌, Bool, cond, nat_le, nat_eq, false, List, [], ◌∷◌, ◌++◌, length, take, map, codes}
+use Rattle.std.specs.Prelude.{ℕ, ◌+◌, ◌-◌, ◌==◌, ◌&&◌, ◌||◌, Bool, false, cond, nat_le, nat_eq, List, [], ◌∷◌, ◌++◌, length, take, map, codes, Option, Some, None}
 use Rattle.std.specs.declared.cmp.Ordering.{Ordering}
 use Rattle.std.specs.Ordering.{nat_cmp}
 use Rattle.std.specs.List.{list_all}
@@ -29,6 +29,10 @@ is_stored_name name = nat_le 2 (length name) && nat_le (length name) 39 && list_
 abbrev pub with_dot : List ℕ → List ℕ
 with_dot text = cond (last_byte text == 46) text (text ++ 46 ∷ [])
 
+-- the name that a text stands for, if it stands for one
+abbrev pub name_in : List ℕ → Option (List ℕ)
+name_in text = cond (is_stored_name (with_dot text)) (Some (with_dot text)) None
+
 -- a letter in lower case
 abbrev pub fold_case : ℕ → ℕ
 fold_case c = cond (nat_le 65 c && nat_le c 90) (c + 32) c
@@ -41,13 +45,14 @@ is_same_name a b = pointwise nat_eq (map fold_case a) (map fold_case b)
 abbrev pub folded_cmp : List ℕ → List ℕ → Ordering
 folded_cmp a b = slice_cmp nat_cmp (map fold_case a) (map fold_case b)
 
--- `$` and a number: what stands before the last `.` of the names that a taken name gives way to
+-- `$` and a number: what follows a taken name, before the final `.`
 abbrev pub suffix_of : ℕ → List ℕ
 suffix_of k = 36 ∷ decimal k
 
--- a name with a number in it: as many characters as leave room in 39, the suffix, `.`
+-- a name with a number in it: the first characters of the name, its own `.` with them, as many as leave room in 39; the
+-- suffix; `.`
 unfoldable pub suffixed : List ℕ → ℕ → List ℕ
-suffixed name k = take (38 - length (suffix_of k)) (take (length name - 1) name) ++ suffix_of k ++ (46 ∷ [])
+suffixed name k = take (38 - length (suffix_of k)) name ++ suffix_of k ++ (46 ∷ [])
 
 -- the name that stands for one that can't be read: `Lost`, the serial in octal, `.`
 unfoldable pub lost : ℕ → List ℕ

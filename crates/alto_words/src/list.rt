@@ -1,5 +1,5 @@
 // A `Vec` that contracts see as a list.
-ghost use Rattle.std.specs.Prelude.{◌≡◌, List as AntList};
+ghost use Rattle.std.specs.Prelude.{◌≡◌};
 
 use std::marker::Model;
 
@@ -11,12 +11,17 @@ pub struct List<T> {
 }
 
 impl<T> Model for List<T> {
+    ghost use Rattle.std.specs.Prelude.{List as AntList};
+
     ghost Value = { AntList T };
 
     ghost view = { λ l. l.items.items };
 }
 
 impl<T> List<T> {
+    ghost use Rattle.std.specs.Borrow.{sem};
+    ghost use Rattle.alto_words.specs.Lists.{LendsItems};
+
     /// The list of these items. It takes no memory.
     pub fn from_vec(items: Vec<T>) -> Self
         ensures { result ≡ items.items }
@@ -29,6 +34,14 @@ impl<T> List<T> {
         ensures { result.now ≡ self.now }
     {
         self.items.as_slice()
+    }
+
+    /// The items, to be changed in place: the list is what is left behind the reference.
+    pub fn as_vec(&mut self) -> &mut Vec<T>
+        ensures* writes_back { sem 𝓛 (LendsItems T.row self.entry result) }
+        ensures value { result.now.items ≡ self.old }
+    {
+        &mut self.items
     }
 
     /// The items, as a `Vec` with the same room.

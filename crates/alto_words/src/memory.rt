@@ -1,6 +1,14 @@
 // Want of memory, as an error of its own.
 
+use std::alloc::AllocError;
+
 /// No memory was left. It is the error of calls that can fail for memory alone, and says nothing of
 /// their input.
 #[derive(Clone, Copy, Debug, PartialEq, Eq)]
 pub struct Memory;
+
+impl From<AllocError> for Memory {
+    fn from(_refused: AllocError) -> Memory {
+        Memory
+    }
+}

@@ -1,0 +1,97 @@
+// Numbers and bytes in text: decimal digits, and hexadecimal digits in pairs.
+ghost use Rattle.std.specs.Prelude.{◌≡◌, ◌++◌, Some, None, IfOk, OnOk, OnErr, is_some, decimal};
+ghost use Rattle.std.specs.Char.{is_ascii_hexdigit};
+ghost use Rattle.std.specs.List.{list_all};
+ghost use Rattle.alto_words.specs.Numbers.{number_in, bytes_in_hex, hex_pairs, hex_of};
+
+use crate::memory::Memory;
+use itoa::Buffer;
+use std::alloc::Global;
+
+/// Why `read_hex` gives no bytes.
+#[derive(Clone, Copy, Debug, PartialEq, Eq)]
+pub enum HexError {
+    /// The text is neither `-` nor an even number, above 0, of hexadecimal digits.
+    Bad,
+    /// No memory was left for the bytes of a text that has them.
+    Memory,
+}
+
+/// The most decimal digits that `read_number` reads: those of 2^32 - 1.
+const MAX_DIGITS: usize = 10;
+
+/// The number that a text of 1 to 10 decimal digits gives, leading zeros included; None for any
+/// other text, and for a value of 2^32 or more.
+pub fn read_number(text: &[u8]) -> Option<u32>
+    ensures { result ≡ number_in text.now }
+{
+    if text.is_empty() || text.len() > MAX_DIGITS {
+        return None;
+    }
+    let mut value: u64 = 0;
+    for digit in text {
+        if !digit.is_ascii_digit() {
+            return None;
+        }
+        value = value * 10 + u64::from(*digit - b'0');
+    }
+    u32::try_from(value).ok()
+}
+
+/// The bytes that hexadecimal digits of either case give in pairs, the high digit first; `-` gives
+/// no bytes.
+///
+/// Bad: the text is neither `-` nor an even number, above 0, of digits. Memory: the text is one of
+/// these, and no memory was left.
+pub fn read_hex(alloc: Global, text: &[u8]) -> Result<Vec<u8>, HexError>
+    ensures ok { IfOk result (λ bytes. bytes_in_hex text.now ≡ Some bytes.items) }
+    ensures bad { result ≡ Err HexError.Bad → bytes_in_hex text.now ≡ None }
+    ensures refused { bytes_in_hex text.now ≡ None → result ≡ Err HexError.Bad }
+{
+    if text == b"-".as_slice() {
+        return Ok(Vec::new(alloc));
+    }
+    if text.is_empty() || !has_hex_pairs(text) {
+        return Err(HexError::Bad);
+    }
+    match hex::decode(alloc, text) {
+        Ok(bytes) => Ok(bytes),
+        // Digits in pairs are decoded unless memory runs out.
+        Err(_) => Err(HexError::Memory),
+    }
+}
+
+/// Whether a text is hexadecimal digits in pairs, or empty.
+fn has_hex_pairs(text: &[u8]) -> bool
+    ensures { result ≡ is_some (hex_pairs text.now) }
+{
+    text.len() % 2 == 0 && has_hex_digits(text)
+}
+
+/// Whether a text is hexadecimal digits alone.
+fn has_hex_digits(text: &[u8]) -> bool
+    ensures { result ≡ list_all is_ascii_hexdigit text.now }
+{
+    text.iter().all(|c| c.is_ascii_hexdigit())
+}
+
+/// Appends the decimal digits of a number, without leading zeros. On Memory the vector holds what it
+/// held. The room is the vector's own; the allocator is taken as every call with Memory takes it.
+pub fn push_number(_alloc: Global, out: &mut Vec<u8>, n: u64) -> Result<(), Memory>
+    ensures ok { OnOk result (out.new.items ≡ out.old.items ++ decimal n) }
+    ensures err { OnErr result (out.new.items ≡ out.old.items) }
+{
+    out.extend_from_slice(Buffer::new().format(n).as_bytes())?;
+    Ok(())
+}
+
+/// Appends two hexadecimal digits a byte, in lower case, the high digit first. On Memory the vector
+/// holds what it held.
+pub fn push_hex(alloc: Global, out: &mut Vec<u8>, bytes: &[u8]) -> Result<(), Memory>
+    ensures ok { OnOk result (out.new.items ≡ out.old.items ++ hex_of bytes.now) }
+    ensures err { OnErr result (out.new.items ≡ out.old.items) }
+{
+    let digits = hex::encode(alloc, bytes)?;
+    out.extend_from_slice(digits.as_bytes())?;
+    Ok(())
+}

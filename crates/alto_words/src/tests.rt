@@ -1,0 +1,178 @@
+// Worked rows of names and of numbers in text, and each call that takes memory once with enough of it.
+use crate::{HexError, List, Name, push_hex, push_number, read_hex, read_number};
+use std::cmp::Ordering;
+use std::test::Fail;
+
+/// 38 letters.
+const LETTERS: &str = "abcdefghijklmnopqrstuvwxyzABCDEFGHIJKL";
+
+#[test]
+fn texts_that_are_names(rt: HostRuntime) -> Result<(), Fail> {
+    let rows = [
+        ("A", "A."),
+        ("a.", "a."),
+        ("..", ".."),
+        ("x.y", "x.y."),
+        ("+-.$9", "+-.$9."),
+        (LETTERS, "abcdefghijklmnopqrstuvwxyzABCDEFGHIJKL."),
+        (
+            "abcdefghijklmnopqrstuvwxyzABCDEFGHIJKL.",
+            "abcdefghijklmnopqrstuvwxyzABCDEFGHIJKL.",
+        ),
+    ];
+    for (text, stored) in rows {
+        let name = Name::parse(text.as_bytes()).ok_or("no name")?;
+        assert_eq!(rt; name.as_bytes(), stored.as_bytes());
+    }
+    Ok(())
+}
+
+#[test]
+fn texts_that_are_no_names(rt: HostRuntime) {
+    let rows = [
+        "",
+        ".",
+        "a b",
+        "a/b",
+        "caf\u{e9}",
+        "abcdefghijklmnopqrstuvwxyzABCDEFGHIJKLM",
+        "abcdefghijklmnopqrstuvwxyzABCDEFGHIJKLM.",
+    ];
+    for text in rows {
+        assert!(rt; Name::parse(text.as_bytes()).is_none());
+    }
+}
+
+#[test]
+fn names_in_any_case(rt: HostRuntime) -> Result<(), Fail> {
+    let rows = [
+        ("A", "a.", Ordering::Equal),
+        ("a", "B", Ordering::Less),
+        ("Z", "a", Ordering::Greater),
+        ("ab", "aB.c", Ordering::Less),
+        ("a-", "a", Ordering::Less),
+    ];
+    for (left, right, order) in rows {
+        let left = Name::parse(left.as_bytes()).ok_or("no name")?;
+        let right = Name::parse(right.as_bytes()).ok_or("no name")?;
+        assert_eq!(rt; left.folded_cmp(&right), order);
+        assert_eq!(rt; left.same(&right), order == Ordering::Equal);
+        assert!(rt; left == left);
+    }
+    let capital = Name::parse(b"A").ok_or("no name")?;
+    let small = Name::parse(b"a").ok_or("no name")?;
+    assert!(rt; capital != small);
+    Ok(())
+}
+
+#[test]
+fn names_with_a_number(rt: HostRuntime) -> Result<(), Fail> {
+    let rows = [
+        ("A", 1, "A.$1."),
+        (
+            "abcdefghijklmnopqrstuvwxyzABCDEFGHI",
+            1,
+            "abcdefghijklmnopqrstuvwxyzABCDEFGHI.$1.",
+        ),
+        (
+            "abcdefghijklmnopqrstuvwxyzABCDEFGHIJ",
+            1,
+            "abcdefghijklmnopqrstuvwxyzABCDEFGHIJ$1.",
+        ),
+        (LETTERS, 1, "abcdefghijklmnopqrstuvwxyzABCDEFGHIJ$1."),
+        (LETTERS, 10, "abcdefghijklmnopqrstuvwxyzABCDEFGHI$10."),
+        (LETTERS, 65_535, "abcdefghijklmnopqrstuvwxyzABCDEF$65535."),
+        (
+            "abcdefghijklmnopqrstuvwxyzABCDEFGHIJ$1",
+            1,
+            "abcdefghijklmnopqrstuvwxyzABCDEFGHIJ$1.",
+        ),
+    ];
+    for (text, k, stored) in rows {
+        assert!(rt; 1 <= k && k <= 65_535);
+        let name = Name::parse(text.as_bytes()).ok_or("no name")?;
+        assert_eq!(rt; name.suffixed(k).as_bytes(), stored.as_bytes());
+    }
+    Ok(())
+}
+
+#[test]
+fn names_of_lost_files(rt: HostRuntime) {
+    let rows = [
+        (0, "Lost0."),
+        (7, "Lost7."),
+        (8, "Lost10."),
+        (100, "Lost144."),
+        (0x7fff_ffff, "Lost17777777777."),
+        (u32::MAX, "Lost37777777777."),
+    ];
+    for (serial, stored) in rows {
+        assert_eq!(rt;
+            Name::lost(serial).as_bytes(),
+            stored.as_bytes(),
+            "{serial}"
+        );
+    }
+}
+
+#[test]
+fn numbers_read(rt: HostRuntime) {
+    let rows = [
+        ("0", Some(0)),
+        ("007", Some(7)),
+        ("0000000010", Some(10)),
+        ("4294967295", Some(u32::MAX)),
+        ("4294967296", None),
+        ("9999999999", None),
+        ("00000000001", None),
+        ("", None),
+        ("1a", None),
+        ("-1", None),
+        ("+1", None),
+    ];
+    for (text, number) in rows {
+        assert_eq!(rt; read_number(text.as_bytes()), number);
+    }
+}
+
+#[test]
+fn numbers_written(rt: HostRuntime) -> Result<(), Fail> {
+    let mut out = Vec::new(rt.alloc());
+    for n in [0, 7, u64::MAX] {
+        push_number(rt.alloc(), &mut out, n)?;
+        out.push(b' ')?;
+    }
+    assert_eq!(rt; out.as_slice(), b"0 7 18446744073709551615 ".as_slice());
+    Ok(())
+}
+
+#[test]
+fn bytes_read(rt: HostRuntime) -> Result<(), Fail> {
+    assert_eq!(rt; read_hex(rt.alloc(), b"-")?.as_slice(), b"".as_slice());
+    assert_eq!(rt;
+        read_hex(rt.alloc(), b"09aFAf")?.as_slice(),
+        b"\x09\xaf\xaf".as_slice()
+    );
+    for text in ["", "4", "a-", "0g", "123", "--"] {
+        assert!(rt; matches!(read_hex(rt.alloc(), text.as_bytes()), Err(HexError::Bad)));
+    }
+    Ok(())
+}
+
+#[test]
+fn bytes_written(rt: HostRuntime) -> Result<(), Fail> {
+    let mut out = Vec::from_slice(rt.alloc(), b"x")?;
+    push_hex(rt.alloc(), &mut out, b"")?;
+    push_hex(rt.alloc(), &mut out, b"\x00\x9a\xff")?;
+    assert_eq!(rt; out.as_slice(), b"x009aff".as_slice());
+    Ok(())
+}
+
+#[test]
+fn lists_change_in_place(rt: HostRuntime) -> Result<(), Fail> {
+    let mut list = List::from_vec(Vec::from_slice(rt.alloc(), &[1u16, 2])?);
+    list.as_vec().push(3)?;
+    assert_eq!(rt; list.as_slice(), [1, 2, 3].as_slice());
+    assert_eq!(rt; list.into_vec().as_slice(), [1, 2, 3].as_slice());
+    Ok(())
+}
