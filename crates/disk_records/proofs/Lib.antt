@@ -1,0 +1,4 @@
+pub mod Checking
+pub mod FirstOnes
+pub mod Growing
+pub mod Reals

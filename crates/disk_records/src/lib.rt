@@ -1,0 +1,25 @@
+//! Sectors with their three records, what happens to them, and the machine as the layers above see it.
+//!
+//! Below it stands alto_words. A pack is a shape and a list of sectors. A machine is seen as one record, its
+//! *tape*: the sectors that it began with, the events since then (record writes and shown bytes), the keys left, and
+//! counts. Where the machine is *told*, its pack is the first one with the record writes of the events done in order.
+//! To all layers above, for every machine:
+//! 1. No call takes an event back or changes the shape (`Grown`).
+//! 2. A call that is given a disk shows nothing and takes no key; one that is given keys or the display touches no
+//!    sector (`DiskAlone`, `KeysAlone`, `ShowAlone`).
+//! 3. A device's fault is answered only where its own count rose (`failed`).
+//! 4. On a told machine a sector command's record writes are a first part of its plan's for every answer, all of it at
+//!    Ok, and none where a checked word differs (`Ran`).
+#![tactic(auto)]
+
+mod check;
+mod label;
+mod records;
+mod shape;
+mod traits;
+
+pub use check::{first_mismatch, update_memory};
+pub use label::{is_free_label, label_of, page_of, right_header};
+pub use records::{Act, Event, Page, Plan, Sector, Tally};
+pub use shape::Shape;
+pub use traits::{Console, ConsoleError, Disk, DiskError, Machine, Tape};

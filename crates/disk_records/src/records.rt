@@ -1,0 +1,60 @@
+// What stands on a pack, and what happens to it.
+use alto_words::{Fid, List};
+
+/// One sector: its three records in their order on the disk.
+#[derive(Clone, Copy, Debug, PartialEq, Eq, Drop)]
+pub struct Sector {
+    /// The pack number and the sector's real address.
+    pub header: [u16; 2],
+    /// Next, previous, blank, bytes, page number, version, serial high, serial low.
+    pub label: [u16; 8],
+    /// 512 bytes of the page, the high byte of a word first.
+    pub value: [u16; 256],
+}
+
+/// What a sector command does with one record.
+#[derive(Clone, Copy, Debug, PartialEq, Eq)]
+pub enum Act {
+    /// Copies the record from the disk to memory.
+    Read,
+    /// Compares the record word by word. A memory word of 0 matches anything and is replaced by the disk's word.
+    Check,
+    /// Copies the record from memory to the disk.
+    Write,
+}
+
+/// What a sector command does with each record. It is legal where a Write is followed by Writes alone: once a
+/// record is written, all later records of the command are. Source: Alto Hardware Manual.
+#[derive(Clone, Copy, Debug, PartialEq, Eq)]
+pub struct Plan {
+    pub header: Act,
+    pub label: Act,
+    pub value: Act,
+}
+
+/// A page of a file: page 0 is the leader page, data pages are numbered from 1.
+#[derive(Clone, Copy, Debug, PartialEq, Eq, PartialOrd, Ord)]
+pub struct Page {
+    pub fid: Fid,
+    pub number: u16,
+}
+
+/// What happens to a machine.
+#[derive(Drop)]
+pub enum Event {
+    /// A record write, whole: part 0 is the header, 1 the label, 2 the value.
+    Wrote { at: u16, part: u8, words: List<u16> },
+    /// A byte on the display.
+    Shown { byte: u8 },
+}
+
+/// How many operations took effect on a pack. Both counts stand at 2^64 - 1 once there.
+#[derive(Clone, Copy, Debug, PartialEq, Eq)]
+pub struct Tally {
+    /// The number of record writes of the machine up to which `passed` counts.
+    pub limit: u64,
+    /// The operations whose committing record is among the machine's first `limit` record writes.
+    pub passed: u64,
+    /// All operations that took effect.
+    pub all: u64,
+}

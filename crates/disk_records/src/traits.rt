@@ -1,0 +1,85 @@
+// The machine as the layers above see it.
+ghost use Rattle.std.specs.Prelude.{◌≡◌, ◌<◌, ◌≤◌, Bool, IsTrue, IsErrOf, IfOk, length};
+ghost use Rattle.disk_records.specs.Addresses.{pages_of};
+ghost use Rattle.disk_records.specs.Checks.{is_legal, is_checked};
+ghost use Rattle.disk_records.specs.Events.{writes_in};
+ghost use Rattle.disk_records.specs.Tapes.{Taped, DiskAlone, KeysAlone, ShowAlone, HasRead, HasShown, Rose, Ran, IfMismatch, capped};
+
+use crate::{Plan, Sector, Shape};
+
+/// Why a sector command wasn't done whole.
+#[derive(Clone, Copy, Debug, PartialEq, Eq, Drop)]
+pub enum DiskError {
+    /// A checked word that isn't 0 differs, first at this record (0 header, 1 label, 2 value) and word. Nothing was written.
+    Mismatch { part: u8, word: u16 },
+    /// The device failed, and the count of disk faults rose. The record writes done are a first part of the command's.
+    Failed,
+    /// No memory was left for the record writes of a sector that matched. Nothing was written.
+    Memory,
+}
+
+/// Why keys weren't read or bytes not all shown.
+#[derive(Clone, Copy, Debug, PartialEq, Eq, Drop)]
+pub enum ConsoleError {
+    /// The device failed, and its own count of faults rose. A failed `read` took no key; a failed `show` has shown a first
+    /// part of its bytes.
+    Failed,
+    /// No memory was left. No key was taken and nothing shown.
+    Memory,
+}
+
+/// What a machine holds and what has happened to it, for contracts alone.
+pub trait Tape {
+    /// Whether the machine tells what it holds: a constant of the type.
+    ghost told: { Bool };
+
+    /// What it holds and what has happened to it.
+    ghost tape: { Self → Taped };
+}
+
+/// A disk drive with one pack in it.
+pub trait Disk: Tape {
+    /// The shape of the pack. It never changes.
+    fn shape(&self) -> Shape
+        ensures { result ≡ (Self.tape self.now).form };
+
+    /// The number of record writes so far. It stands at 2^64 - 1 once there.
+    fn writes(&self) -> u64
+        ensures { result ≡ (Self.tape self.now).writes };
+
+    /// One sector command at the virtual address `at`: the records of the sector are read to `buf`, checked against it or
+    /// written from it, in order. After an error what `buf` holds is open.
+    fn run(&mut self, at: u16, plan: Plan, buf: &mut Sector) -> Result<(), DiskError>
+        requires place { at < pages_of (Self.tape self.old).form }
+        requires legal { IsTrue (is_legal plan) }
+        ensures alone { DiskAlone (Self.tape self.old) (Self.tape self.new) }
+        ensures failed { IsErrOf result DiskError.Failed → Rose (Self.tape self.old).disk_faults (Self.tape self.new).disk_faults }
+        ensures checked { IfMismatch result (λ part word. IsTrue (is_checked plan part)) }
+        ensures ran { IsTrue Self.told → Ran at plan buf.old buf.new (Self.tape self.old) (Self.tape self.new) result };
+
+    /// Where the machine is told, the count is that of its events.
+    ghost counted: { (d : Self) → IsTrue Self.told → (Self.tape d).writes ≡ capped (writes_in (Self.tape d).events) };
+
+    /// Where the machine is told, it has as many sectors as its shape says.
+    ghost sized: { (d : Self) → IsTrue Self.told → length (Self.tape d).base ≡ pages_of (Self.tape d).form };
+}
+
+/// A keyboard and a display.
+pub trait Console: Tape {
+    /// Moves keys to the front of `buf` and answers how many: 0 exactly at the end of input.
+    fn read(&mut self, buf: &mut [u8]) -> Result<usize, ConsoleError>
+        requires { 0 < length buf.old }
+        ensures alone { KeysAlone (Self.tape self.old) (Self.tape self.new) }
+        ensures failed { IsErrOf result ConsoleError.Failed → Rose (Self.tape self.old).key_faults (Self.tape self.new).key_faults }
+        ensures fits { IfOk result (λ n. n ≤ length buf.old) }
+        ensures read { IsTrue Self.told → HasRead buf.old buf.new (Self.tape self.old) (Self.tape self.new) result };
+
+    /// Shows these bytes.
+    fn show(&mut self, bytes: &[u8]) -> Result<(), ConsoleError>
+        ensures alone { ShowAlone (Self.tape self.old) (Self.tape self.new) }
+        ensures failed { IsErrOf result ConsoleError.Failed → Rose (Self.tape self.old).show_faults (Self.tape self.new).show_faults }
+        ensures shown { IsTrue Self.told → HasShown bytes.now (Self.tape self.old) (Self.tape self.new) result };
+}
+
+/// A whole machine: one disk drive, a keyboard and a display, with one tape.
+pub trait Machine: Disk + Console {}
