@@ -1,0 +1,5 @@
+mod Adding
+mod Counting
+mod Failing
+mod Keeping
+mod Reading
