@@ -1,0 +1,24 @@
+-- The second sector command of a guarded call.
+use Rattle.std.specs.Prelude.{◌≡◌, ℕ, ◌+◌, ◌<◌, List, [], length, Result, Err, OnOk, IsErrOf}
+use Rattle.disk_records.specs.declared.records.Event.{Event}
+use Rattle.disk_records.specs.Events.{IsFirstOf}
+use Rattle.disk_records.specs.Packs.{label_found}
+use Rattle.disk_records.specs.Tapes.{Taped, pack, added, capped}
+use Rattle.label_check.specs.declared.errors.GuardError.{GuardError}
+use Rattle.label_check.specs.declared.errors.GuardError.TheVariants.{Memory}
+use Rattle.label_check.specs.Guarded.{IfWrong}
+
+-- a sector command that finds no mismatch and does these record writes, or some first ones of them
+pub record Finished (writes : List Event) (old new : Taped) (result : Result (Unit {0}) GuardError) : Type 0 where
+  pub some : IsFirstOf writes (added old new)
+  pub ok : OnOk result (added old new ≡ writes)
+  pub matched : IfWrong result (λ found. ⊥)
+  pub want : IsErrOf result Memory → old.spare < length writes
+  pub runs : new.runs ≡ capped (old.runs + 1)
+
+-- a sector command that reads the label of a sector whose guard failed
+pub record Refused (at : ℕ) (old new : Taped) (error : GuardError) : Type 0 where
+  pub silent : added old new ≡ []
+  pub label : IfWrong {T = Unit {0}} (Err error) (λ found. found ≡ label_found (pack old) at)
+  pub want : error ≡ Memory → ⊥
+  pub runs : new.runs ≡ capped (old.runs + 1)

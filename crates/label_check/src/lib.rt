@@ -1,0 +1,21 @@
+//! One sector command, guarded by the label that stands there.
+//!
+//! A sector *carries* a page where its header is right and its label is in range and names that page. To the layers above, for
+//! every answer on a told disk:
+//! 1. What was written is a first part of the one list in the contract (`some`), all of it at Ok (`ok`).
+//! 2. No sector is written that didn't carry the page named, or, for `claim`, wasn't free (`guarded`).
+//! 3. Wrong comes exactly where that guard fails; nothing was written, and `found` is the label that stands there (`wrong`).
+//! 4. With spare for the list, or where its guard fails, no call answers Memory, and none takes an allocator (`want`).
+//! On every disk, told or not, `look` and `read_page` answer what the buffer says (`right`, `page`, `tells`, `other`).
+//! Not promised: that no other sector carries the page. pack_model says which of two counts.
+#![tactic(auto)]
+
+mod errors;
+mod read;
+mod take;
+mod write;
+
+pub use errors::{GuardError, LookError, PageInfo};
+pub use read::{look, read_page};
+pub use take::claim;
+pub use write::{relabel, release, write_value};

@@ -1,0 +1,85 @@
+// Taking a free sector.
+ghost use Rattle.std.specs.Prelude.{◌≡◌, ◌<◌, ◌≤◌, IsTrue, IsErrOf, true, [], ◌∷◌};
+ghost use Rattle.disk_records.specs.Addresses.{pages_of, real_of};
+ghost use Rattle.disk_records.specs.Commands.{claim_writes, value_writes};
+ghost use Rattle.disk_records.specs.Labels.{tag, in_range};
+ghost use Rattle.disk_records.specs.Tapes.{DiskAlone, Rose};
+ghost use Rattle.label_check.specs.Guarded.{IsFree, Guarded};
+ghost use Rattle.label_check.specs.Steps.{Refused};
+
+use crate::read::look;
+use crate::write::{WRITE_LABEL, WRITE_VALUE, finish};
+use crate::{GuardError, LookError};
+use disk_records::{Disk, DiskError, Sector, Shape};
+
+/// What a free label is checked against. The three words that make a label free aren't 0, so the disk compares each of them;
+/// the others are 0 and match any word.
+const FREE: [u16; 8] = [0, 0, 0, 0, 0, 0xFFFF, 0xFFFF, 0xFFFF];
+
+/// The memory side of a command on the sector at `at`. The real address isn't 0 from sector 1 on, so the disk compares it; the
+/// pack number is 0 and matches any.
+fn sector_for(shape: Shape, at: u16, label: [u16; 8], value: &[u16; 256]) -> Sector
+    requires { at < pages_of shape }
+    ensures { result ≡ record { header = 0 ∷ real_of shape at ∷ []; label = label; value = value.now } }
+{
+    Sector {
+        header: [0, shape.real_of(at)],
+        label,
+        value: *value,
+    }
+}
+
+/// The answer for a sector that isn't free: its label is read. One sector command.
+fn refusal<D: Disk>(disk: &mut D, at: u16, buf: &mut Sector) -> GuardError
+    requires first { 1 ≤ at }
+    requires place { at < pages_of (D.tape disk.old).form }
+    ensures alone { DiskAlone (D.tape disk.old) (D.tape disk.new) }
+    ensures fault { result ≡ GuardError.DiskFault → Rose (D.tape disk.old).disk_faults (D.tape disk.new).disk_faults }
+    ensures refused { IsTrue D.told → Refused at (D.tape disk.old) (D.tape disk.new) result }
+{
+    match look(disk, at, buf) {
+        Ok(true) => GuardError::Wrong {
+            found: Some(buf.label),
+        },
+        Ok(false) => GuardError::Wrong { found: None },
+        Err(LookError::DiskFault) => GuardError::DiskFault,
+        Err(LookError::Memory) => GuardError::Memory,
+    }
+}
+
+/// Writes the value of a free sector. One sector command, or two where Wrong.
+fn fill<D: Disk>(disk: &mut D, at: u16, value: &[u16; 256]) -> Result<(), GuardError>
+    requires first { 1 ≤ at }
+    requires place { at < pages_of (D.tape disk.old).form }
+    ensures alone { DiskAlone (D.tape disk.old) (D.tape disk.new) }
+    ensures fault { IsErrOf result GuardError.DiskFault → Rose (D.tape disk.old).disk_faults (D.tape disk.new).disk_faults }
+    ensures guarded { IsTrue D.told → Guarded (IsFree at) at (value_writes at value.now) 1 (D.tape disk.old) (D.tape disk.new) result }
+{
+    let mut buf = sector_for(disk.shape(), at, FREE, value);
+    match disk.run(at, WRITE_VALUE, &mut buf) {
+        Ok(()) => Ok(()),
+        Err(DiskError::Mismatch { .. }) => Err(refusal(disk, at, &mut buf)),
+        Err(DiskError::Failed) => Err(GuardError::DiskFault),
+        Err(DiskError::Memory) => Err(GuardError::Memory),
+    }
+}
+
+/// Takes the sector at the virtual address `at`, which is to be free: writes its value while it is still free, then this label
+/// and the equal value. Two sector commands, three record writes.
+pub fn claim<D: Disk>(
+    disk: &mut D,
+    at: u16,
+    label: [u16; 8],
+    value: &[u16; 256],
+) -> Result<(), GuardError>
+    requires first { 1 ≤ at }
+    requires place { at < pages_of (D.tape disk.old).form }
+    requires label { in_range (tag label) ≡ true }
+    ensures alone { DiskAlone (D.tape disk.old) (D.tape disk.new) }
+    ensures fault { IsErrOf result GuardError.DiskFault → Rose (D.tape disk.old).disk_faults (D.tape disk.new).disk_faults }
+    ensures guarded { IsTrue D.told → Guarded (IsFree at) at (claim_writes at label value.now) 2 (D.tape disk.old) (D.tape disk.new) result }
+{
+    fill(disk, at, value)?;
+    let mut buf = sector_for(disk.shape(), at, label, value);
+    finish(disk, at, WRITE_LABEL, &mut buf)
+}

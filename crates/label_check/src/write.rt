@@ -1,0 +1,116 @@
+// Writing a sector that carries a page.
+ghost use Rattle.std.specs.Prelude.{◌≡◌, ◌<◌, ◌≤◌, IsTrue, IsErrOf, None, Some};
+ghost use Rattle.disk_records.specs.Addresses.{pages_of};
+ghost use Rattle.disk_records.specs.Checks.{is_legal, mismatch, writes_of};
+ghost use Rattle.disk_records.specs.Commands.{value_writes, relabel_writes, release_writes};
+ghost use Rattle.disk_records.specs.Labels.{page_of};
+ghost use Rattle.disk_records.specs.Packs.{sector_at};
+ghost use Rattle.disk_records.specs.Tapes.{DiskAlone, Rose, pack};
+ghost use Rattle.label_check.specs.Guarded.{Carries, Guarded};
+ghost use Rattle.label_check.specs.Steps.{Finished};
+
+use crate::GuardError;
+use crate::read::look_for;
+use disk_records::{Act, Disk, DiskError, Page, Plan, Sector};
+
+/// Writes the value alone.
+pub(crate) const WRITE_VALUE: Plan = Plan {
+    header: Act::Check,
+    label: Act::Check,
+    value: Act::Write,
+};
+
+/// Writes label and value.
+pub(crate) const WRITE_LABEL: Plan = Plan {
+    header: Act::Check,
+    label: Act::Write,
+    value: Act::Write,
+};
+
+/// A sector with no words but zeros, to be read to.
+fn empty_sector() -> Sector {
+    Sector {
+        header: [0; 2],
+        label: [0; 8],
+        value: [0; 256],
+    }
+}
+
+/// The second sector command of a guarded call, on a sector that matches. Wrong comes where the disk isn't told and answers
+/// that it doesn't.
+pub(crate) fn finish<D: Disk>(
+    disk: &mut D,
+    at: u16,
+    plan: Plan,
+    buf: &mut Sector,
+) -> Result<(), GuardError>
+    requires place { at < pages_of (D.tape disk.old).form }
+    requires legal { IsTrue (is_legal plan) }
+    ensures alone { DiskAlone (D.tape disk.old) (D.tape disk.new) }
+    ensures fault { IsErrOf result GuardError.DiskFault → Rose (D.tape disk.old).disk_faults (D.tape disk.new).disk_faults }
+    ensures finished { IsTrue D.told → mismatch plan buf.old (sector_at (pack (D.tape disk.old)) at) ≡ None → Finished (writes_of at plan buf.old) (D.tape disk.old) (D.tape disk.new) result }
+{
+    match disk.run(at, plan, buf) {
+        Ok(()) => Ok(()),
+        Err(DiskError::Mismatch { .. }) => Err(GuardError::Wrong { found: None }),
+        Err(DiskError::Failed) => Err(GuardError::DiskFault),
+        Err(DiskError::Memory) => Err(GuardError::Memory),
+    }
+}
+
+/// Writes the value of the sector at the virtual address `at`, which is to carry this page. Two sector commands, one record
+/// write.
+pub fn write_value<D: Disk>(
+    disk: &mut D,
+    at: u16,
+    page: Page,
+    value: &[u16; 256],
+) -> Result<(), GuardError>
+    requires first { 1 ≤ at }
+    requires place { at < pages_of (D.tape disk.old).form }
+    ensures alone { DiskAlone (D.tape disk.old) (D.tape disk.new) }
+    ensures fault { IsErrOf result GuardError.DiskFault → Rose (D.tape disk.old).disk_faults (D.tape disk.new).disk_faults }
+    ensures guarded { IsTrue D.told → Guarded (Carries at page) at (value_writes at value.now) 2 (D.tape disk.old) (D.tape disk.new) result }
+{
+    let mut buf = empty_sector();
+    look_for(disk, at, page, &mut buf)?;
+    buf.value = *value;
+    finish(disk, at, WRITE_VALUE, &mut buf)
+}
+
+/// Gives the sector at the virtual address `at`, which is to carry this page, another label for the same page, and writes the
+/// value that stands there again. Two sector commands, two record writes.
+pub fn relabel<D: Disk>(
+    disk: &mut D,
+    at: u16,
+    page: Page,
+    label: [u16; 8],
+) -> Result<(), GuardError>
+    requires first { 1 ≤ at }
+    requires place { at < pages_of (D.tape disk.old).form }
+    requires same { page_of label ≡ Some page }
+    ensures alone { DiskAlone (D.tape disk.old) (D.tape disk.new) }
+    ensures fault { IsErrOf result GuardError.DiskFault → Rose (D.tape disk.old).disk_faults (D.tape disk.new).disk_faults }
+    ensures guarded { IsTrue D.told → Guarded (Carries at page) at (relabel_writes at label (sector_at (pack (D.tape disk.old)) at).value) 2 (D.tape disk.old) (D.tape disk.new) result }
+{
+    let mut buf = empty_sector();
+    look_for(disk, at, page, &mut buf)?;
+    buf.label = label;
+    finish(disk, at, WRITE_LABEL, &mut buf)
+}
+
+/// Makes the sector at the virtual address `at`, which is to carry this page, free: ones in its label and its value. Two sector
+/// commands, two record writes.
+pub fn release<D: Disk>(disk: &mut D, at: u16, page: Page) -> Result<(), GuardError>
+    requires first { 1 ≤ at }
+    requires place { at < pages_of (D.tape disk.old).form }
+    ensures alone { DiskAlone (D.tape disk.old) (D.tape disk.new) }
+    ensures fault { IsErrOf result GuardError.DiskFault → Rose (D.tape disk.old).disk_faults (D.tape disk.new).disk_faults }
+    ensures guarded { IsTrue D.told → Guarded (Carries at page) at (release_writes at) 2 (D.tape disk.old) (D.tape disk.new) result }
+{
+    let mut buf = empty_sector();
+    look_for(disk, at, page, &mut buf)?;
+    buf.label = [0xFFFF; 8];
+    buf.value = [0xFFFF; 256];
+    finish(disk, at, WRITE_LABEL, &mut buf)
+}
