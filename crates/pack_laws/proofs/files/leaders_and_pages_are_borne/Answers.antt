@@ -1,0 +1,5 @@
+use Rattle.pack_laws.proofs.Filing.{files_borne}
+use Rattle.pack_laws.proofs.files.leaders_and_pages_are_borne.Goals as goal
+
+pub returns : goal.returns
+returns c = files_borne

@@ -1,0 +1,5 @@
+use Rattle.pack_laws.proofs.Filing.{place_lowest}
+use Rattle.pack_laws.proofs.files.places_are_lowest.Goals as goal
+
+pub returns : goal.returns
+returns c = place_lowest

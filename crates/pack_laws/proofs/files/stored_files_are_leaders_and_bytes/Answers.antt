@@ -1,0 +1,5 @@
+use Rattle.pack_laws.proofs.Filing.{stored_is}
+use Rattle.pack_laws.proofs.files.stored_files_are_leaders_and_bytes.Goals as goal
+
+pub returns : goal.returns
+returns c = stored_is

@@ -1,0 +1,5 @@
+use Rattle.pack_laws.proofs.Guarding.{relabel_keeps}
+use Rattle.pack_laws.proofs.guards.relabel_keeps_the_page.Goals as goal
+
+pub returns : goal.returns
+returns c = relabel_keeps

@@ -1,0 +1,5 @@
+use Rattle.pack_laws.proofs.Guarding.{value_writes_keep}
+use Rattle.pack_laws.proofs.guards.value_writes_keep_the_page.Goals as goal
+
+pub returns : goal.returns
+returns c = value_writes_keep

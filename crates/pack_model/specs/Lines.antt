@@ -1,0 +1,32 @@
+-- Typed bytes as lines.
+-- The rules of lines are this project's choice.
+use Rattle.std.specs.Prelude.{ℕ, ◌+◌, ◌==◌, ◌^◌, Bool, cond, nat_le, List, [], ◌∷◌, ◌++◌, length, take}
+
+-- so many typed bytes are obeyed in one session; those behind them don't count
+unfoldable pub most_keys : ℕ
+most_keys = 2 ^ 31
+
+-- a longer line is a bad line
+unfoldable pub longest_line : ℕ
+longest_line = 4096
+
+-- the lines of the keys, where these bytes of the first one have come already: each ends with a byte 10, but for a last
+-- one that isn't empty
+abbrev pub lines_from : List ℕ → List ℕ → List (List ℕ)
+lines_from [] [] = []
+lines_from (b ∷ line) [] = (b ∷ line) ∷ []
+lines_from line (key ∷ keys) = cond (key == 10) (line ∷ lines_from [] keys) (lines_from (line ++ key ∷ []) keys)
+
+abbrev pub lines : List ℕ → List (List ℕ)
+lines keys = lines_from [] (take most_keys keys)
+
+-- those that end with a byte 10
+abbrev pub ended_from : List ℕ → List ℕ → List (List ℕ)
+ended_from line [] = []
+ended_from line (key ∷ keys) = cond (key == 10) (line ∷ ended_from [] keys) (ended_from (line ++ key ∷ []) keys)
+
+abbrev pub ended_lines : List ℕ → List (List ℕ)
+ended_lines keys = ended_from [] (take most_keys keys)
+
+abbrev pub is_too_long : List ℕ → Bool
+is_too_long line = nat_le (longest_line + 1) (length line)
