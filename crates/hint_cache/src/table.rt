@@ -1,0 +1,116 @@
+// Which sectors are free.
+ghost use Rattle.std.specs.Prelude.{◌≡◌, IfOk};
+ghost use Rattle.hint_cache.specs.Bits.{bit_in, bits_in};
+
+use alto_words::Memory;
+use std::alloc::{AllocError, Global};
+use std::marker::Model;
+
+/// The bits of a word.
+const WORD_BITS: u16 = 16;
+
+/// Which sectors of a pack are busy, a bit for each. Contracts see the list of its bits, in which true is busy.
+#[derive(Drop)]
+pub struct BitTable {
+    bits: Vec<bool>,
+}
+
+impl Model for BitTable {
+    ghost use Rattle.std.specs.Prelude.{Bool, List, length, ◌<◌};
+
+    ghost Value = { List Bool };
+
+    ghost view = { λ table. table.bits.items };
+
+    ghost invariant = { λ table. length table.bits.items < 65536 };
+}
+
+impl BitTable {
+    ghost use Rattle.std.specs.Prelude.{◌≡◌, ℕ, ◌+◌, ◌*◌, ◌<◌, IfOk, true, false, length, replicate, get_or, slice_set};
+    ghost use Rattle.hint_cache.specs.Bits.{busy_at, is_one, bits_in, digit_at, word_of};
+
+    /// A table of so many sectors, all busy. Memory: none was left for its bits.
+    pub fn new(alloc: Global, pages: u16) -> Result<BitTable, Memory>
+        ensures bits { IfOk result (λ table. table ≡ replicate pages true) }
+        ensures sized { IfOk result (λ table. length table ≡ pages) }
+    {
+        let bits = vec![in alloc; true; pages as usize].map_err(|_| Memory)?;
+        Ok(BitTable { bits })
+    }
+
+    /// The table of so many sectors that these words hold: the most significant bit of the first word is sector 0, and 1 is
+    /// busy. Any words are taken: sectors whose word is missing are busy, and bits past the last sector are passed over.
+    /// Memory: none was left for its bits.
+    pub fn from_words(alloc: Global, pages: u16, words: &[u16]) -> Result<BitTable, Memory>
+        ensures bits { IfOk result (λ table. table ≡ bits_in pages words.now) }
+        ensures sized { IfOk result (λ table. length table ≡ pages) }
+    {
+        let bits = bits_in(alloc, pages, words)?;
+        Ok(BitTable { bits })
+    }
+
+    /// The number of sectors.
+    pub fn pages(&self) -> u16
+        ensures { result ≡ length self.now }
+    {
+        self.bits.len() as u16
+    }
+
+    /// The word at this index, with 0 for each bit past the last sector; 0 past the last word.
+    pub fn word(&self, index: u16) -> u16
+        ensures value { result ≡ word_of self.now index }
+        ensures reads_back { (i : ℕ) → i < 16 → is_one result i ≡ get_or self.now (index * 16 + i) false }
+    {
+        let first = index as usize * WORD_BITS as usize;
+        let mut word = 0;
+        for i in 0..WORD_BITS {
+            word = word * 2 + self.digit(first + i as usize);
+        }
+        word
+    }
+
+    /// 1 where the sector is busy, 0 where it is free or there is no such sector.
+    fn digit(&self, at: usize) -> u16
+        ensures { result ≡ digit_at self.now at }
+    {
+        match self.bits.get(at) {
+            Some(true) => 1,
+            Some(false) => 0,
+            None => 0,
+        }
+    }
+
+    /// Marks the sector at this address as busy or free.
+    pub fn set(&mut self, at: u16, busy: bool)
+        requires { at < length self.old }
+        ensures { self.new ≡ slice_set self.old at busy }
+    {
+        self.bits[at as usize] = busy;
+    }
+
+    /// Whether the sector at this address is marked as busy.
+    pub fn is_busy(&self, at: u16) -> bool
+        requires { at < length self.now }
+        ensures { result ≡ busy_at self.now at }
+    {
+        self.bits[at as usize]
+    }
+}
+
+/// Whether these words have the sector at this address as busy. A missing word has ones.
+fn bit_in(words: &[u16], at: u16) -> bool
+    ensures { result ≡ bit_in words.now at }
+{
+    let word = words
+        .get((at / WORD_BITS) as usize)
+        .copied()
+        .unwrap_or(u16::MAX);
+    (word >> (WORD_BITS - 1 - at % WORD_BITS)) % 2 == 1
+}
+
+/// The bits of so many sectors.
+fn bits_in(alloc: Global, pages: u16, words: &[u16]) -> Result<Vec<bool>, AllocError>
+    ensures { IfOk result (λ bits. bits.items ≡ bits_in pages words.now) }
+{
+    (0..pages).map(|at| bit_in(words, at)).collect(alloc)
+}

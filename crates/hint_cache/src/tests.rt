@@ -1,0 +1,93 @@
+// Entries around the 48th, and each call that takes memory once with enough of it.
+use crate::{BitTable, HintCache, Hints};
+use alto_words::{Fid, Memory};
+use disk_records::Page;
+use std::test::Fail;
+
+/// A page of the ordinary file with serial 7.
+fn page(number: u16) -> Page {
+    Page {
+        fid: Fid::ordinary(7),
+        number,
+    }
+}
+
+/// Notes page 1 at 101, page 2 at 102 and so on to page 48.
+fn note_all(cache: &mut HintCache) -> Result<(), Memory> {
+    for number in 1..49 {
+        cache.note(page(number), 100 + number)?;
+    }
+    Ok(())
+}
+
+#[test]
+fn forty_eight_entries_are_kept(rt: HostRuntime) -> Result<(), Fail> {
+    let mut cache = HintCache::new(rt.alloc())?;
+    note_all(&mut cache)?;
+    assert_eq!(rt; cache.recall(page(1)), Some(101));
+    assert_eq!(rt; cache.recall(page(48)), Some(148));
+    assert_eq!(rt; cache.recall(page(49)), None);
+    assert_eq!(rt; cache.refused(), 0);
+    Ok(())
+}
+
+#[test]
+fn the_last_of_forty_nine_is_dropped(rt: HostRuntime) -> Result<(), Fail> {
+    let mut cache = HintCache::new(rt.alloc())?;
+    note_all(&mut cache)?;
+    // page 1 comes to the front, so page 2 is the last
+    assert_eq!(rt; cache.recall(page(1)), Some(101));
+    cache.note(page(49), 149)?;
+    assert_eq!(rt; cache.recall(page(2)), None);
+    assert_eq!(rt; cache.recall(page(1)), Some(101));
+    assert_eq!(rt; cache.recall(page(49)), Some(149));
+    // a listed page takes no other's place
+    cache.note(page(49), 249)?;
+    assert_eq!(rt; cache.recall(page(3)), Some(103));
+    assert_eq!(rt; cache.recall(page(49)), Some(249));
+    Ok(())
+}
+
+#[test]
+fn a_forgotten_page_makes_room(rt: HostRuntime) -> Result<(), Fail> {
+    let mut cache = HintCache::new(rt.alloc())?;
+    note_all(&mut cache)?;
+    cache.forget(page(30));
+    cache.forget(page(60));
+    assert_eq!(rt; cache.recall(page(30)), None);
+    cache.note(page(49), 149)?;
+    assert_eq!(rt; cache.recall(page(1)), Some(101));
+    assert_eq!(rt; cache.recall(page(49)), Some(149));
+    Ok(())
+}
+
+#[test]
+fn words_of_a_table(rt: HostRuntime) -> Result<(), Fail> {
+    // the second word's first four bits are sectors 16 to 19; the rest and the third word are too many
+    let table = BitTable::from_words(rt.alloc(), 20, &[0x8001, 0x5FFF, 7])?;
+    assert_eq!(rt; table.pages(), 20);
+    assert_eq!(rt; table.word(0), 0x8001);
+    assert_eq!(rt; table.word(1), 0x5000);
+    assert_eq!(rt; table.word(2), 0);
+    // sectors without a word are busy
+    let short = BitTable::from_words(rt.alloc(), 20, &[0])?;
+    assert_eq!(rt; short.word(0), 0);
+    assert_eq!(rt; short.word(1), 0xF000);
+    Ok(())
+}
+
+#[test]
+fn a_new_table_is_busy(rt: HostRuntime) -> Result<(), Fail> {
+    let mut hints = Hints {
+        cache: HintCache::new(rt.alloc())?,
+        table: BitTable::new(rt.alloc(), 48)?,
+    };
+    assert_eq!(rt; hints.table.word(2), 0xFFFF);
+    assert_eq!(rt; hints.table.word(3), 0);
+    hints.table.set(47, false);
+    assert!(rt; !hints.table.is_busy(47));
+    assert!(rt; hints.table.is_busy(46));
+    assert_eq!(rt; hints.table.word(2), 0xFFFE);
+    assert_eq!(rt; hints.cache.recall(page(0)), None);
+    Ok(())
+}

@@ -1,0 +1,4 @@
+pub mod Faults
+pub mod Silent
+pub mod FreeLists
+pub mod Tables
