@@ -1,0 +1,6 @@
+mod Words
+mod Packs
+mod Shapes
+mod Inverses
+mod Fronts
+mod Filling

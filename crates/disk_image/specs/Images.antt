@@ -1,0 +1,49 @@
+-- What a caller sees of pack files.
+use Rattle.std.specs.Prelude.{◌≡◌, ℕ, ◌*◌, ◌<◌, ◌≤◌, List, ◌++◌, length, All}
+use Rattle.std.specs.List.{flat_map}
+use Rattle.byteorder.specs.Endian.{big_bytes}
+use Rattle.disk_records.specs.declared.records.Sector.{Sector}
+use Rattle.disk_records.specs.declared.shape.Shape.{Shape}
+use Rattle.disk_records.specs.Words.{word}
+use Rattle.disk_records.specs.Addresses.{pages_of}
+use Rattle.disk_image.specs.declared.codec.ImageError.{ImageError}
+use Rattle.disk_image.specs.declared.codec.ImageError.TheVariants.{BadLength, Memory}
+
+-- a word is two bytes, the high one first
+abbrev pub words_bytes : List ℕ → List ℕ
+words_bytes words = flat_map (big_bytes 2) words
+
+-- a sector is its header, its label and its value
+abbrev pub sector_bytes : Sector → List ℕ
+sector_bytes sector = words_bytes sector.header ++ (words_bytes sector.label ++ words_bytes sector.value)
+
+-- a pack is its sectors in the order of their virtual addresses
+abbrev pub pack_bytes : List Sector → List ℕ
+pack_bytes sectors = flat_map sector_bytes sectors
+
+-- a sector has 2, 8 and 256 words of 16 bits
+pub record IsWhole (sector : Sector) : Type 0 where
+  pub header : length sector.header ≡ 2
+  pub label : length sector.label ≡ 8
+  pub value : length sector.value ≡ 256
+  pub header_words : (k : ℕ) → word sector.header k < 65536
+  pub label_words : (k : ℕ) → word sector.label k < 65536
+  pub value_words : (k : ℕ) → word sector.value k < 65536
+
+-- these bytes are the file of this pack
+pub record IsImage (shape : Shape) (sectors : List Sector) (bytes : List ℕ) : Type 0 where
+  pub count : length sectors ≡ pages_of shape
+  pub whole : All IsWhole sectors
+  pub bytes_are : bytes ≡ pack_bytes sectors
+
+-- a file of so many bytes is a pack's: it has 2 to 203 cylinders of 24 sectors of 532 bytes
+pub record IsPackLength (bytes : ℕ) : Type 0 where
+  pub cylinders : ℕ
+  pub least : 2 ≤ cylinders
+  pub most : cylinders ≤ 203
+  pub whole : bytes ≡ cylinders * 12768
+
+-- the error of a file of so many bytes
+abbrev pub IsErrorAt : ℕ → ImageError → Type 0
+IsErrorAt length (BadLength bytes) = (bytes ≡ length) × (IsPackLength length → ⊥)
+IsErrorAt length Memory = IsPackLength length

@@ -1,0 +1,5 @@
+pub mod Images
+pub mod Laws
+pub mod Machines
+pub mod Records
+pub mod Starts

@@ -1,0 +1,44 @@
+-- What one sector command reads of a file and writes to it.
+use Rattle.std.specs.Prelude.{ℕ, ◌+◌, List, [], ◌++◌}
+use Rattle.disk_records.specs.declared.records.Act.{Act}
+use Rattle.disk_records.specs.declared.records.Act.TheVariants.{Read, Check, Write}
+use Rattle.disk_records.specs.declared.records.Plan.{Plan}
+use Rattle.disk_records.specs.declared.records.Sector.{Sector}
+use Rattle.disk_records.specs.Tapes.{capped}
+use Rattle.disk_image.specs.Images.{words_bytes}
+
+-- the bytes of a record that a command reads, and of one that it writes
+abbrev pub read_bytes : Act → List ℕ → List ℕ
+read_bytes Read words = words_bytes words
+read_bytes Check words = words_bytes words
+read_bytes Write words = []
+
+abbrev pub written_bytes : Act → List ℕ → List ℕ
+written_bytes Read words = []
+written_bytes Check words = []
+written_bytes Write words = words_bytes words
+
+-- the same of a sector: since a Write is followed by Writes alone, what is read stands before what is written
+abbrev pub front_bytes : Plan → Sector → List ℕ
+front_bytes plan sector = read_bytes plan.header sector.header ++ (read_bytes plan.label sector.label ++ read_bytes plan.value sector.value)
+
+abbrev pub back_bytes : Plan → Sector → List ℕ
+back_bytes plan sector = written_bytes plan.header sector.header ++ (written_bytes plan.label sector.label ++ written_bytes plan.value sector.value)
+
+-- the count of record writes after an act; it stands at 2^64 - 1 once there
+abbrev pub counted : Act → ℕ → ℕ
+counted Read writes = writes
+counted Check writes = writes
+counted Write writes = capped (writes + 1)
+
+abbrev pub counted_all : Plan → ℕ → ℕ
+counted_all plan writes = counted plan.value (counted plan.label (counted plan.header writes))
+
+-- how many bytes of a record an act reads, and a command of a sector
+abbrev pub read_length : Act → ℕ → ℕ
+read_length Read bytes = bytes
+read_length Check bytes = bytes
+read_length Write bytes = 0
+
+abbrev pub front_length : Plan → ℕ
+front_length plan = read_length plan.header 4 + (read_length plan.label 16 + read_length plan.value 512)

@@ -1,0 +1,139 @@
+// The file of a pack: its sectors in the order of their virtual addresses, with no heading. Of the 532 bytes of a sector,
+//   bytes 0 to 3: the header, 2 words
+//   bytes 4 to 19: the label, 8 words
+//   bytes 20 to 531: the value, 256 words
+// and of a word the high byte comes first.
+ghost use Rattle.std.specs.Prelude.{◌≡◌, ℕ, ◌*◌, ◌<◌, length, All, IfSome, IfNone, IfOk, IfErr, OnOk};
+ghost use Rattle.disk_records.specs.Words.{word};
+ghost use Rattle.disk_records.specs.Addresses.{pages_of};
+ghost use Rattle.disk_image.specs.Images.{words_bytes, sector_bytes, pack_bytes, IsImage, IsWhole, IsPackLength, IsErrorAt};
+
+use alto_words::Memory;
+use byteorder::{BigEndian, ByteOrder};
+use disk_records::{Sector, Shape};
+use std::alloc::{AllocError, Global};
+
+/// The bytes of one sector.
+pub(crate) const SECTOR_BYTES: usize = 532;
+
+/// The bytes of one cylinder: 24 sectors.
+pub(crate) const CYLINDER_BYTES: u64 = 12_768;
+
+/// Why some bytes give no pack.
+#[derive(Clone, Copy, Debug, PartialEq, Eq)]
+pub enum ImageError {
+    /// The file has this many bytes, which are not those of 2 to 203 cylinders of 12,768 bytes.
+    BadLength { bytes: u64 },
+    /// The length is a pack's, and no memory was left for the sectors.
+    Memory,
+}
+
+/// The shape of the pack whose file has this many bytes. None exactly where they aren't those of 2 to 203 cylinders.
+pub(crate) fn shape_of_length(bytes: u64) -> Option<Shape>
+    ensures some { IfSome result (λ shape. bytes ≡ pages_of shape * 532) }
+    ensures none { IfNone result (IsPackLength bytes → ⊥) }
+{
+    if bytes % CYLINDER_BYTES != 0 {
+        return None;
+    }
+    let cylinders = u16::try_from(bytes / CYLINDER_BYTES).ok()?;
+    Shape::new(1, cylinders)
+}
+
+/// Reads words from their bytes, two a word.
+fn read_words(bytes: &[u8], words: &mut [u16])
+    requires { length bytes.now ≡ 2 * length words.old }
+    ensures bytes { words_bytes words.new ≡ bytes.now }
+    ensures fit { (k : ℕ) → word words.new k < 65536 }
+{
+    BigEndian::read_u16_into(bytes, words);
+}
+
+/// Writes words as their bytes, two a word.
+pub(crate) fn write_words(words: &[u16], bytes: &mut [u8])
+    requires { length bytes.old ≡ 2 * length words.now }
+    ensures bytes { bytes.new ≡ words_bytes words.now }
+    ensures fit { (k : ℕ) → word words.now k < 65536 }
+{
+    BigEndian::write_u16_into(words, bytes);
+}
+
+/// The sector of these 532 bytes.
+pub(crate) fn read_sector(bytes: &[u8]) -> Sector
+    requires { length bytes.now ≡ 532 }
+    ensures bytes { sector_bytes result ≡ bytes.now }
+    ensures whole { IsWhole result }
+{
+    let mut header = [0; 2];
+    let mut label = [0; 8];
+    let mut value = [0; 256];
+    read_words(&bytes[..4], &mut header);
+    read_words(&bytes[4..20], &mut label);
+    read_words(&bytes[20..], &mut value);
+    Sector {
+        header,
+        label,
+        value,
+    }
+}
+
+/// Writes a sector as its 532 bytes.
+fn write_sector(sector: &Sector, bytes: &mut [u8])
+    requires { length bytes.old ≡ 532 }
+    ensures bytes { bytes.new ≡ sector_bytes sector.now }
+    ensures whole { IsWhole sector.now }
+{
+    let (header, rest) = bytes.split_at_mut(4);
+    let (label, value) = rest.split_at_mut(16);
+    write_words(&sector.header, header);
+    write_words(&sector.label, label);
+    write_words(&sector.value, value);
+}
+
+/// The sectors of `count` times 532 bytes, in one allocation.
+fn read_sectors(alloc: Global, bytes: &[u8], count: usize) -> Result<Vec<Sector>, AllocError>
+    requires { length bytes.now ≡ count * 532 }
+    ensures count { IfOk result (λ sectors. length sectors.items ≡ count) }
+    ensures whole { IfOk result (λ sectors. All IsWhole sectors.items) }
+    ensures bytes { IfOk result (λ sectors. bytes.now ≡ pack_bytes sectors.items) }
+{
+    let mut sectors = Vec::with_capacity(alloc, count)?;
+    for at in 0..count {
+        let from = at * SECTOR_BYTES;
+        sectors.push(read_sector(&bytes[from..from + SECTOR_BYTES]))?;
+    }
+    Ok(sectors)
+}
+
+/// The pack of a file: its shape, and its sectors in the order of their virtual addresses.
+///
+/// BadLength comes exactly where the length isn't that of 2 to 203 cylinders of 12,768 bytes, and carries it. Memory: none was left
+/// for the sectors, which are one allocation.
+pub fn decode_pack(alloc: Global, bytes: &[u8]) -> Result<(Shape, Vec<Sector>), ImageError>
+    ensures ok { IfOk result (λ pack. IsImage pack.0 pack.1.items bytes.now) }
+    ensures err { IfErr result (IsErrorAt (length bytes.now)) }
+{
+    let Some(shape) = shape_of_length(bytes.len() as u64) else {
+        return Err(ImageError::BadLength {
+            bytes: bytes.len() as u64,
+        });
+    };
+    match read_sectors(alloc, bytes, shape.pages() as usize) {
+        Ok(sectors) => Ok((shape, sectors)),
+        Err(AllocError) => Err(ImageError::Memory),
+    }
+}
+
+/// The file of a pack: the bytes of each sector in order, in one allocation. There are as many sectors as the shape has.
+pub fn encode_pack(alloc: Global, shape: Shape, sectors: &[Sector]) -> Result<Vec<u8>, Memory>
+    requires { length sectors.now ≡ pages_of shape }
+    ensures { IfOk result (λ bytes. IsImage shape sectors.now bytes.items) }
+{
+    let mut bytes = Vec::with_capacity(alloc, shape.pages() as usize * SECTOR_BYTES)?;
+    let mut one = [0; SECTOR_BYTES];
+    for sector in sectors {
+        write_sector(sector, &mut one);
+        bytes.extend_from_slice(&one)?;
+    }
+    Ok(bytes)
+}

@@ -1,0 +1,30 @@
+//! Pack files, the machine over one of them, and the words that a program is started with.
+//!
+//! Below it stand alto_words and disk_records. A pack file is the pack's sectors in the order of their virtual addresses, as bytes.
+//! To the layers above:
+//! 1. A pack has one file, and a file is one pack's: what `encode_pack` writes `decode_pack` reads back, and the other way round
+//!    (`laws`).
+//! 2. `decode_pack` refuses exactly the files whose length isn't that of 2 to 203 cylinders (`IsErrorAt`).
+//! 3. `start_of` takes exactly the command lines `[--cylinders C] PACK WORDS` with C from 2 to 203 (`start`).
+//! 4. `FileMachine` meets what disk_records asks of every machine: a fault is answered only where the count of its own device rose,
+//!    and a mismatch only for a record that was to be checked.
+//!
+//! `FileMachine` is the edge to the outside. What a real file, terminal or pipe does is trusted and not proved, so it isn't told:
+//! no clause speaks of what it reads or shows. Proved is where a command goes in the file, which bytes it asks for and which it hands
+//! on (`seek_to`, `read_front`, `write_back`), over any file whose position and bytes are known.
+#![tactic(auto)]
+
+mod codec;
+mod error;
+pub mod laws;
+mod machine;
+mod records;
+mod start;
+
+pub use codec::{ImageError, decode_pack, encode_pack};
+pub use error::ReachError;
+pub use machine::FileMachine;
+pub use start::{Start, start_of};
+
+#[cfg(test)]
+mod tests;

@@ -1,0 +1,107 @@
+// The records of one sector, read from a file and written to it where the file stands.
+ghost use Rattle.std.specs.Prelude.{◌≡◌, ◌+◌, ◌*◌, ◌≤◌, length, replicate, IfOk, OnOk, OnErr, IsTrue};
+ghost use Rattle.std.specs.Io.KnownBytes.{Consumes, Appends};
+ghost use Rattle.std.specs.Io.Seek.{MovesTo};
+ghost use Rattle.disk_records.specs.Addresses.{pages_of};
+ghost use Rattle.disk_records.specs.Checks.{is_legal};
+ghost use Rattle.disk_image.specs.Records.{read_length, front_length, front_bytes, back_bytes, written_bytes, counted, counted_all};
+ghost use Rattle.disk_image.specs.Images.{words_bytes};
+
+use crate::codec::{CYLINDER_BYTES, SECTOR_BYTES, read_sector, write_words};
+use disk_records::{Act, Plan, Sector, Shape};
+use std::io;
+use std::io::{Read, Seek, SeekFrom, Write};
+
+/// How many of a record's bytes an act reads.
+fn read_length(act: Act, bytes: usize) -> usize
+    ensures { result ≡ read_length act bytes }
+{
+    match act {
+        Act::Read => bytes,
+        Act::Check => bytes,
+        Act::Write => 0,
+    }
+}
+
+/// The number of bytes of the records before the first Write, since a Write is followed by Writes alone.
+fn front_length(plan: Plan) -> usize
+    ensures length { result ≡ front_length plan }
+    ensures most { result ≤ 532 }
+{
+    read_length(plan.header, 4) + (read_length(plan.label, 16) + read_length(plan.value, 512))
+}
+
+/// Brings a file to the first byte of a sector.
+pub(crate) fn seek_to<F: Seek>(file: &mut F, at: u16) -> io::Result<()>
+    ensures { MovesTo (F.stream_position file.old) (F.stream_position file.new) (at * 532) result }
+{
+    file.seek(SeekFrom::Start(at as u64 * SECTOR_BYTES as u64))?;
+    Ok(())
+}
+
+/// Reads the records before the first Write, by one read call, or by none where there are none. The other records are zeros.
+pub(crate) fn read_front<F: Read>(file: &mut F, plan: Plan) -> io::Result<Sector>
+    requires { IsTrue (is_legal plan) }
+    ensures { IfOk result (λ sector. Consumes (F.remaining file.old) (F.remaining file.new) (front_bytes plan sector)) }
+{
+    let mut bytes = [0; SECTOR_BYTES];
+    file.read_exact(&mut bytes[..front_length(plan)])?;
+    Ok(read_sector(&bytes))
+}
+
+/// Writes the records whose act is Write, in order, by one write call each, and counts those that were written.
+pub(crate) fn write_back<F: Write>(
+    file: &mut F,
+    plan: Plan,
+    sector: &Sector,
+    writes: &mut u64,
+) -> io::Result<()>
+    ensures bytes { OnOk result (Appends (F.contents file.old) (F.contents file.new) (back_bytes plan sector.now)) }
+    ensures count { OnOk result (writes.new ≡ counted_all plan writes.old) }
+    ensures rise { writes.old ≤ writes.new }
+{
+    write_record(file, plan.header, &sector.header, writes)?;
+    write_record(file, plan.label, &sector.label, writes)?;
+    write_record(file, plan.value, &sector.value, writes)
+}
+
+/// Writes one record where its act is Write, by one write call, and counts it.
+fn write_record<F: Write>(file: &mut F, act: Act, words: &[u16], writes: &mut u64) -> io::Result<()>
+    requires { length words.now ≤ 256 }
+    ensures bytes { OnOk result (Appends (F.contents file.old) (F.contents file.new) (written_bytes act words.now)) }
+    ensures count { OnOk result (writes.new ≡ counted act writes.old) }
+    ensures err { OnErr result (writes.new ≡ writes.old) }
+    ensures rise { writes.old ≤ writes.new }
+{
+    match act {
+        Act::Write => {
+            write_bytes(file, words)?;
+            *writes = writes.saturating_add(1);
+            Ok(())
+        }
+        Act::Read => Ok(()),
+        Act::Check => Ok(()),
+    }
+}
+
+/// Writes the bytes of words by one write call.
+fn write_bytes<F: Write>(file: &mut F, words: &[u16]) -> io::Result<()>
+    requires { length words.now ≤ 256 }
+    ensures { OnOk result (Appends (F.contents file.old) (F.contents file.new) (words_bytes words.now)) }
+{
+    let mut bytes = [0; 512];
+    let record = &mut bytes[..2 * words.len()];
+    write_words(words, record);
+    file.write_all(record)
+}
+
+/// Fills a new file of this shape with zeros, one write call a cylinder.
+pub(crate) fn fill<F: Write>(file: &mut F, shape: Shape) -> io::Result<()>
+    ensures { OnOk result (Appends (F.contents file.old) (F.contents file.new) (replicate (pages_of shape * 532) 0)) }
+{
+    let zeros = [0; CYLINDER_BYTES as usize];
+    for _ in 0..shape.cylinders() {
+        file.write_all(&zeros)?;
+    }
+    Ok(())
+}
