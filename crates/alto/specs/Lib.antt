@@ -1,0 +1,4 @@
+pub mod Ends
+pub mod HandMade
+pub mod Input
+pub mod Runs

@@ -1,0 +1,15 @@
+pub mod Asking
+pub mod Booting
+pub mod Causes
+pub mod Counting
+pub mod Grammar
+pub mod InPlace
+pub mod Lined
+pub mod Obeying
+pub mod Patching
+pub mod Seeing
+pub mod Sweeping
+pub mod Turning
+pub mod Typing
+pub mod Words
+pub mod Writing

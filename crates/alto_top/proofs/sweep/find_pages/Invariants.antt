@@ -1,0 +1,20 @@
+use Rattle.std.proofs.Common.{◌≡◌, ℕ, suc, ◌+◌, ◌≤◌, [], take, IsTrue}
+use Rattle.disk_records.specs.Addresses.{pages_of}
+use Rattle.disk_records.specs.Tapes.{DiskAlone, pack, added}
+use Rattle.pack_model.specs.Sights.{sights}
+use Rattle.pack_model.specs.Files.{first, numbered}
+use Rattle.alto_top.specs.Sweeps.{held_at, kept_page, AreWithin}
+use Rattle.alto_top.proofs.sweep.find_pages.Given as goal
+
+abbrev pub invariant-loop-at : goal.invariant-loop-at
+invariant-loop-at g l =
+    let old = g.D.Tape.tape l.fn.disk in
+    let now = g.D.Tape.tape l.disk in
+    record {
+      alone : DiskAlone old now;
+      end : l.end ≡ pages_of old.form;
+      silent : IsTrue g.D.Tape.told → added old now ≡ [];
+      runs : IsTrue g.D.Tape.told → now.runs + 1 ≤ old.runs + l.at;
+      within : AreWithin (pages_of old.form) l.pages;
+      pages : IsTrue g.D.Tape.told → (n : ℕ) → kept_page l.pages (suc n) ≡ first (held_at l.fid (suc n)) (take l.at (numbered 0 (sights (pack old))));
+    }

@@ -1,0 +1,20 @@
+-- One value write into a page.
+use Rattle.std.specs.Prelude.{◌≡◌, ◌≢◌, ℕ, Bool, List, [], MatchBool, Result, IfOk}
+use Rattle.disk_records.specs.declared.records.Page.{Page}
+use Rattle.disk_records.specs.Packs.{Pack, sector_at}
+use Rattle.disk_records.specs.Events.{IsFirstOf}
+use Rattle.disk_records.specs.Commands.{value_writes}
+use Rattle.disk_records.specs.Tapes.{Taped, pack, added}
+use Rattle.label_check.specs.Guarded.{Carries}
+use Rattle.pack_model.specs.Bytes.{bytes_of, words_of, put_at}
+use Rattle.alto_top.specs.declared.status.Fault.{Fault}
+
+-- the value of a page with other bytes from an offset in it on
+abbrev pub value_with : Pack → ℕ → ℕ → List ℕ → List ℕ
+value_with p at offset bytes = words_of (put_at offset bytes (bytes_of (sector_at p at).value))
+
+-- For every answer the value was written or nothing; it was where true, and only where the sector carries the page.
+pub record PutDone (at : ℕ) (page : Page) (offset : ℕ) (bytes : List ℕ) (old new : Taped) (result : Result Bool Fault) : Type 0 where
+  pub some : IsFirstOf (value_writes at (value_with (pack old) at offset bytes)) (added old new)
+  pub carries : added old new ≢ [] → Carries at page (pack old)
+  pub ok : IfOk result (λ done. MatchBool done (added old new ≡ value_writes at (value_with (pack old) at offset bytes)) (Carries at page (pack old) → ⊥))

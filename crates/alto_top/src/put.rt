@@ -1,0 +1,61 @@
+// Bytes put into one page of a file.
+ghost use Rattle.std.specs.Prelude.{◌≡◌, ◌≤◌, ◌<◌, ◌+◌, ◌^◌, length, All, IsTrue};
+ghost use Rattle.disk_records.specs.Addresses.{pages_of};
+ghost use Rattle.disk_records.specs.Tapes.{DiskAlone};
+ghost use Rattle.pack_model.specs.Bytes.{bytes_of, words_of, put_at};
+ghost use Rattle.alto_top.specs.Faults.{HasDiskCause};
+ghost use Rattle.alto_top.specs.Putting.{PutDone};
+
+use crate::status::Fault;
+use disk_records::{Disk, Page, Sector};
+use label_check::{GuardError, read_page, write_value};
+
+/// Puts bytes into the words of a page, the high byte of a word first.
+fn put_in_words(value: &mut [u16; 256], offset: usize, bytes: &[u8])
+    requires { offset + length bytes.now ≤ 512 }
+    ensures { value.new ≡ words_of (put_at offset bytes.now (bytes_of value.old)) }
+{
+    for (i, byte) in bytes.iter().enumerate() {
+        let place = offset + i;
+        let word = value[place / 2];
+        value[place / 2] = if place % 2 == 0 {
+            *byte as u16 * 256 + word % 256
+        } else {
+            word / 256 * 256 + *byte as u16
+        };
+    }
+}
+
+/// Puts bytes into a page that a sector carries, from this byte of the page on: one value write, which leaves the page's other
+/// bytes. False where the sector doesn't carry the page; then nothing is written. Three sector commands at most.
+pub fn put_in_page<D: Disk>(
+    disk: &mut D,
+    at: u16,
+    page: Page,
+    offset: usize,
+    bytes: &[u8],
+    buf: &mut Sector,
+) -> Result<bool, Fault>
+    requires first { 1 ≤ at }
+    requires place { at < pages_of (D.tape disk.old).form }
+    requires fits { offset + length bytes.now ≤ 512 }
+    ensures alone { DiskAlone (D.tape disk.old) (D.tape disk.new) }
+    ensures cause { HasDiskCause (D.tape disk.old) (D.tape disk.new) result }
+    ensures done { IsTrue D.told → PutDone at page offset bytes.now (D.tape disk.old) (D.tape disk.new) result }
+    ensures runs { IsTrue D.told → (D.tape disk.new).runs ≤ (D.tape disk.old).runs + 3 }
+{
+    match read_page(disk, at, page, buf) {
+        Ok(_) => {}
+        Err(GuardError::Wrong { .. }) => return Ok(false),
+        Err(GuardError::DiskFault) => return Err(Fault::Disk),
+        Err(GuardError::Memory) => return Err(Fault::Memory),
+    }
+    let mut value = buf.value;
+    put_in_words(&mut value, offset, bytes);
+    match write_value(disk, at, page, &value) {
+        Ok(()) => Ok(true),
+        Err(GuardError::Wrong { .. }) => Ok(false),
+        Err(GuardError::DiskFault) => Err(Fault::Disk),
+        Err(GuardError::Memory) => Err(Fault::Memory),
+    }
+}

@@ -1,0 +1,204 @@
+// A session: typed lines are obeyed in order.
+ghost use Rattle.std.specs.Prelude.{◌≡◌, ◌≢◌, ◌≤◌, ◌<◌, ◌+◌, ◌/◌, [], true, length, All, IsTrue, IsErrOf, IfOk};
+ghost use Rattle.disk_records.specs.Addresses.{pages_of};
+ghost use Rattle.disk_records.specs.Tapes.{Grown, DiskAlone, ShowAlone, pack, added};
+ghost use Rattle.pack_model.specs.Sights.{sights};
+ghost use Rattle.pack_model.specs.Files.{file_bytes};
+ghost use Rattle.pack_model.specs.Stored.{stored_files};
+ghost use Rattle.pack_model.specs.Moves.{Does};
+ghost use Rattle.pack_model.specs.Puts.{putting};
+ghost use Rattle.alto_top.specs.Faults.{HasCause, HasDiskCause, HasShowCause, HasStatusCause};
+ghost use Rattle.alto_top.specs.Patches.{put_of, puts_at, puts_of, puts_of_patch, reply_within, reply_to, reply_to_patch, is_patched, lie_in_one_page};
+ghost use Rattle.alto_top.specs.Keys.{ShownAll};
+ghost use Rattle.alto_top.specs.Sweeps.{HoldsPages, AreWithin};
+ghost use Rattle.alto_top.specs.Sessions.{Booted, Obeyed, runs_of_line};
+ghost use Rattle.alto_top.specs.declared.reply.Reply.TheVariants.{Done};
+
+use crate::keys::{MOST_KEYS, read_line};
+use crate::pages::Pages;
+use crate::patch::{Patch, read_patch};
+use crate::put::put_in_page;
+use crate::reply::Reply;
+use crate::status::{Fault, Status};
+use crate::sweep::{find_file, find_pages};
+use alto_words::Fid;
+use disk_records::{Console, ConsoleError, Disk, Machine, Page, Sector};
+use std::alloc::Global;
+
+const DISK_DESCRIPTOR: Fid = Fid {
+    high: 0,
+    low: 2,
+    version: 1,
+};
+
+/// Whether the bytes of a file are patched: not those of directories and of DiskDescriptor.
+fn is_patched(fid: Fid) -> bool
+    ensures { result ≡ is_patched fid }
+{
+    !(fid.is_directory() || fid == DISK_DESCRIPTOR)
+}
+
+/// Whether these bytes lie in one page. No bytes always do.
+fn lie_in_one_page(offset: u32, bytes: &[u8]) -> bool
+    ensures one_page { result ≡ lie_in_one_page offset bytes.now }
+    ensures are_bytes { All (λ byte. byte < 256) bytes.now }
+{
+    bytes.is_empty() || offset as u64 / 512 == (offset as u64 + (bytes.len() as u64 - 1)) / 512
+}
+
+/// Puts the bytes of a patch, which lie in one page and within the file's length.
+fn put_bytes<D: Disk>(
+    disk: &mut D,
+    patch: &Patch,
+    fid: Fid,
+    pages: &Pages,
+    buf: &mut Sector,
+) -> Result<Reply, Fault>
+    requires some { patch.now.bytes ≢ [] }
+    requires are_bytes { All (λ byte. byte < 256) patch.now.bytes }
+    requires one_page { lie_in_one_page patch.now.offset patch.now.bytes ≡ true }
+    requires inside { patch.now.offset / 512 < 65535 }
+    requires within { AreWithin (pages_of (D.tape disk.old).form) pages.now }
+    requires length { IsTrue D.told → patch.now.offset + length patch.now.bytes ≤ length (file_bytes (sights (pack (D.tape disk.old))) fid) }
+    requires pages { IsTrue D.told → HoldsPages (sights (pack (D.tape disk.old))) fid pages.now }
+    ensures alone { DiskAlone (D.tape disk.old) (D.tape disk.new) }
+    ensures cause { HasDiskCause (D.tape disk.old) (D.tape disk.new) result }
+    ensures does { IsTrue D.told → Does putting (pack (D.tape disk.old)) (added (D.tape disk.old) (D.tape disk.new)) (put_of patch.now fid patch.now.bytes) result }
+    ensures reply { IsTrue D.told → IfOk result (λ reply. reply ≡ Done) }
+    ensures runs { IsTrue D.told → (D.tape disk.new).runs ≤ (D.tape disk.old).runs + 3 }
+{
+    let number = (patch.offset / 512 + 1) as u16;
+    let Some(at) = pages.place(number) else {
+        return Ok(Reply::NoSuchName);
+    };
+    let offset = (patch.offset % 512) as usize;
+    let done = put_in_page(
+        disk,
+        at,
+        Page { fid, number },
+        offset,
+        patch.bytes.as_slice(),
+        buf,
+    )?;
+    Ok(if done { Reply::Done } else { Reply::NoSuchName })
+}
+
+/// Obeys a patch of a file whose data pages are known, and which is patched in one page.
+fn patch_pages<D: Disk>(
+    disk: &mut D,
+    patch: &Patch,
+    fid: Fid,
+    pages: &Pages,
+    buf: &mut Sector,
+) -> Result<Reply, Fault>
+    requires are_bytes { All (λ byte. byte < 256) patch.now.bytes }
+    requires one_page { lie_in_one_page patch.now.offset patch.now.bytes ≡ true }
+    requires within { AreWithin (pages_of (D.tape disk.old).form) pages.now }
+    requires pages { IsTrue D.told → HoldsPages (sights (pack (D.tape disk.old))) fid pages.now }
+    ensures alone { DiskAlone (D.tape disk.old) (D.tape disk.new) }
+    ensures cause { HasDiskCause (D.tape disk.old) (D.tape disk.new) result }
+    ensures does { IsTrue D.told → Does putting (pack (D.tape disk.old)) (added (D.tape disk.old) (D.tape disk.new)) (puts_at patch.now fid (reply_within patch.now (length (file_bytes (sights (pack (D.tape disk.old))) fid)))) result }
+    ensures reply { IsTrue D.told → IfOk result (λ reply. reply ≡ reply_within patch.now (length (file_bytes (sights (pack (D.tape disk.old))) fid))) }
+    ensures runs { IsTrue D.told → (D.tape disk.new).runs ≤ (D.tape disk.old).runs + 3 }
+{
+    let length = pages.length();
+    let bytes = patch.bytes.as_slice();
+    if (length as u64) < patch.offset as u64 + bytes.len() as u64 {
+        return Ok(Reply::Beyond { length });
+    }
+    if bytes.is_empty() {
+        return Ok(Reply::Done);
+    }
+    put_bytes(disk, patch, fid, pages, buf)
+}
+
+/// Obeys a patch: the file of least full name with the serial, its pages, the reply.
+fn obey_patch<D: Disk>(alloc: Global, disk: &mut D, patch: &Patch) -> Result<Reply, Fault>
+    ensures alone { DiskAlone (D.tape disk.old) (D.tape disk.new) }
+    ensures cause { HasDiskCause (D.tape disk.old) (D.tape disk.new) result }
+    ensures does { IsTrue D.told → Does putting (pack (D.tape disk.old)) (added (D.tape disk.old) (D.tape disk.new)) (puts_of_patch (stored_files (pack (D.tape disk.old))) (Some patch.now)) result }
+    ensures reply { IsTrue D.told → IfOk result (λ reply. reply ≡ reply_to_patch (stored_files (pack (D.tape disk.old))) (Some patch.now)) }
+    ensures runs { IsTrue D.told → (D.tape disk.new).runs ≤ (D.tape disk.old).runs + runs_of_line (D.tape disk.old) }
+{
+    let mut buf = Sector {
+        header: [0; 2],
+        label: [0; 8],
+        value: [0; 256],
+    };
+    let Some(fid) = find_file(disk, patch.serial, &mut buf)? else {
+        return Ok(Reply::NoSuchName);
+    };
+    if !is_patched(fid) || !lie_in_one_page(patch.offset, patch.bytes.as_slice()) {
+        return Ok(Reply::NotYet);
+    }
+    let pages = find_pages(alloc, disk, fid, &mut buf)?;
+    patch_pages(disk, patch, fid, &pages, &mut buf)
+}
+
+/// Does what a line asks for, and answers the reply that is to be shown.
+fn act<D: Disk>(alloc: Global, disk: &mut D, line: &[u8]) -> Result<Reply, Fault>
+    ensures alone { DiskAlone (D.tape disk.old) (D.tape disk.new) }
+    ensures cause { HasDiskCause (D.tape disk.old) (D.tape disk.new) result }
+    ensures does { IsTrue D.told → Does putting (pack (D.tape disk.old)) (added (D.tape disk.old) (D.tape disk.new)) (puts_of (stored_files (pack (D.tape disk.old))) line.now) result }
+    ensures reply { IsTrue D.told → IfOk result (λ reply. reply ≡ reply_to (stored_files (pack (D.tape disk.old))) line.now) }
+    ensures runs { IsTrue D.told → (D.tape disk.new).runs ≤ (D.tape disk.old).runs + runs_of_line (D.tape disk.old) }
+{
+    match read_patch(alloc, line)? {
+        Some(patch) => obey_patch(alloc, disk, &patch),
+        None => Ok(Reply::BadLine),
+    }
+}
+
+/// Shows these bytes.
+pub fn show_all<C: Console>(console: &mut C, bytes: &[u8]) -> Result<(), Fault>
+    ensures alone { ShowAlone (C.tape console.old) (C.tape console.new) }
+    ensures cause { HasShowCause (C.tape console.old) (C.tape console.new) result }
+    ensures shown { IsTrue C.told → ShownAll bytes.now (C.tape console.old) (C.tape console.new) result }
+{
+    match console.show(bytes) {
+        Ok(()) => Ok(()),
+        Err(ConsoleError::Failed) => Err(Fault::Display),
+        Err(ConsoleError::Memory) => Err(Fault::Memory),
+    }
+}
+
+/// Obeys one line: does what it asks for, and then shows its reply.
+fn obey<M: Machine>(alloc: Global, machine: &mut M, line: &[u8]) -> Result<(), Fault>
+    ensures grown { Grown (M.tape machine.old) (M.tape machine.new) }
+    ensures keys { (M.tape machine.new).keys ≡ (M.tape machine.old).keys }
+    ensures cause { HasCause (M.tape machine.old) (M.tape machine.new) result }
+    ensures no_key { IsErrOf result Fault.Key → ⊥ }
+    ensures obeyed { IsTrue M.told → Obeyed (M.tape machine.old) (M.tape machine.new) line.now result }
+    ensures runs { IsTrue M.told → (M.tape machine.new).runs ≤ (M.tape machine.old).runs + runs_of_line (M.tape machine.old) }
+{
+    let reply = act(alloc, machine, line)?;
+    let text = reply.text(alloc)?;
+    show_all(machine, &text)
+}
+
+/// Obeys the typed lines in order: `patch #NUM NUM HEX` alone is in the grammar. Each turn is a line, its record write and its reply.
+/// `moment` is the time of what the lines do, in seconds since the start of 1901; no line of today keeps it.
+///
+/// Done: the keys were read to their end or to 2^31 bytes. DiskFault, KeyFault, DisplayFault: that device failed, and the
+/// session stopped at once. Memory: none was left. After each of them the cuts of what happened stand for the puts so far.
+pub fn boot<M: Machine>(alloc: Global, moment: u32, machine: &mut M) -> Status
+    ensures grown { Grown (M.tape machine.old) (M.tape machine.new) }
+    ensures cause { HasStatusCause (M.tape machine.old) (M.tape machine.new) result }
+    ensures no_usage { result ≢ Status.Usage }
+    ensures booted { IsTrue M.told → Booted (M.tape machine.old) (M.tape machine.new) result }
+{
+    let _ = moment;
+    let mut left = MOST_KEYS;
+    'lines: for _ in 0..MOST_KEYS {
+        let line = match read_line(alloc, machine, &mut left) {
+            Ok(Some(line)) => line,
+            Ok(None) => return Status::Done,
+            Err(fault) => return fault.status(),
+        };
+        match obey(alloc, machine, &line) {
+            Ok(()) => {}
+            Err(fault) => return fault.status(),
+        }
+    }
+    Status::Done
+}

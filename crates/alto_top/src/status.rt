@@ -1,0 +1,90 @@
+// How a call of the program ends, and the faults on the way there.
+ghost use Rattle.std.specs.Prelude.{◌≡◌, ◌≢◌};
+ghost use Rattle.disk_records.specs.Tapes.{Taped};
+ghost use Rattle.label_check.specs.declared.errors.LookError.{LookError};
+ghost use Rattle.alto_top.specs.Faults.{FaultCause, HasStatusCause, status_of, fault_of_look};
+ghost use Rattle.alto_top.specs.declared.status.Fault.TheVariants.{Memory};
+
+use alto_words::Memory;
+use label_check::LookError;
+use std::alloc::{AllocError, AllocFailed};
+
+/// How a call of the program ended; its number is the exit code.
+#[derive(Clone, Copy, Debug, PartialEq, Eq)]
+pub enum Status {
+    /// The typed input was obeyed to its end.
+    Done = 0,
+    /// The words of the command line ask for nothing.
+    Usage = 1,
+    /// The disk failed. The session stopped at once; what was acknowledged stands on the pack.
+    DiskFault = 3,
+    /// The keyboard failed. The lines that ended before have their replies.
+    KeyFault = 4,
+    /// The display failed. No record write follows the first byte that wasn't shown.
+    DisplayFault = 5,
+    /// No memory was left. What was acknowledged stands on the pack.
+    Memory = 6,
+}
+
+/// What ends a session before its input does.
+#[derive(Clone, Copy, Debug, PartialEq, Eq, Drop)]
+pub enum Fault {
+    /// The disk failed.
+    Disk,
+    /// The keyboard failed.
+    Key,
+    /// The display failed.
+    Display,
+    /// No memory was left.
+    Memory,
+}
+
+impl Fault {
+    /// The status that the session ends with.
+    pub fn status(self) -> Status
+        ensures value { result ≡ status_of self }
+        ensures cause { (old new : Taped) → FaultCause old new self → HasStatusCause old new result }
+    {
+        match self {
+            Fault::Disk => Status::DiskFault,
+            Fault::Key => Status::KeyFault,
+            Fault::Display => Status::DisplayFault,
+            Fault::Memory => Status::Memory,
+        }
+    }
+}
+
+impl From<LookError> for Fault {
+    ghost from_gives = { λ error fault. fault ≡ fault_of_look error };
+
+    fn from(error: LookError) -> Self {
+        match error {
+            LookError::DiskFault => Fault::Disk,
+            LookError::Memory => Fault::Memory,
+        }
+    }
+}
+
+impl From<Memory> for Fault {
+    ghost from_gives = { λ _ fault. fault ≡ Memory };
+
+    fn from(_: Memory) -> Self {
+        Fault::Memory
+    }
+}
+
+impl From<AllocError> for Fault {
+    ghost from_gives = { λ _ fault. fault ≡ Memory };
+
+    fn from(_: AllocError) -> Self {
+        Fault::Memory
+    }
+}
+
+impl<T: Drop> From<AllocFailed<T>> for Fault {
+    ghost from_gives = { λ _ fault. fault ≡ Memory };
+
+    fn from(_: AllocFailed<T>) -> Self {
+        Fault::Memory
+    }
+}
