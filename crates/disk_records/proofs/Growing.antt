@@ -1,6 +1,7 @@
 -- Calls one after another.
 use Rattle.std.proofs.Common.{◌≡◌, ℕ, ◌+◌, ◌≤◌, List, [], ◌∷◌, ◌++◌, length, drop, refl, sym, ◌∙◌, ap, append_assoc, length-append, arith}
 use Rattle.std.proofs.lemmas.List.{append-nil}
+use Rattle.std.proofs.Math.ListN.{length-set}
 use Rattle.disk_records.specs.declared.records.Sector.{Sector}
 use Rattle.disk_records.specs.declared.records.Event.{Event}
 use Rattle.disk_records.specs.declared.records.Event.TheVariants.{Wrote, Shown}
@@ -122,6 +123,22 @@ pack-after {a} {b} x =
   where
     first_same : {a b : Taped} → Grown a b → first_pack b ≡ first_pack a
     first_same {a} {b} x = ap (λ f. record { shape = f; sectors = b.base }) x.form ∙ ap (λ s. record { shape = a.form; sectors = s }) x.base
+
+-- a call that adds no event leaves the pack
+pub pack-silent : {a b : Taped} → Grown a b → added a b ≡ [] → pack b ≡ pack a
+pack-silent {a} {b} grown silent = pack-after grown ∙ ap (after (pack a)) silent
+
+pub silent_twice : {a b c : Taped} → Grown a b → Grown b c → added a b ≡ [] → added b c ≡ [] → added a c ≡ []
+silent_twice {a} {b} {c} one two x y = added-twice one two ∙ ap (λ l. l ++ added b c) x ∙ y
+
+-- events keep the number of sectors
+length-after_all : (events : List Event) (sectors : List Sector) → length (after_all events sectors) ≡ length sectors
+length-after_all [] sectors = refl
+length-after_all (Wrote at part words ∷ events) sectors = length-after_all events (after_one (Wrote at part words) sectors) ∙ length-set sectors at _
+length-after_all (Shown byte ∷ events) sectors = length-after_all events sectors
+
+pub length-pack : (t : Taped) → length (pack t).sectors ≡ length t.base
+length-pack t = length-after_all t.events t.base
 
 -- a fault of a later call
 pub rose_later : (before mid now : ℕ) → before ≤ mid → Rose mid now → Rose before now

@@ -1,5 +1,5 @@
-use Rattle.std.proofs.Common.{◌≡◌, ℕ, ◌+◌, ◌*◌, ◌/◌, ◌%◌, ◌<◌, ◌∙◌, ap, sym, Some, arith}
-use Rattle.disk_records.specs.Addresses.{pages_of, real_of}
+use Rattle.std.proofs.Common.{◌≡◌, ℕ, ◌+◌, ◌*◌, ◌/◌, ◌%◌, ◌<◌, ◌∙◌, ap, Some, arith}
+use Rattle.disk_records.specs.Addresses.{pages_of}
 use Rattle.disk_records.proofs.Reals.{real_of-one_disk, parts_of}
 use Rattle.disk_records.proofs.shape.Shape.virtual_of.Goals as goal
 use Rattle.disk_records.proofs.shape.Shape.virtual_of.Goals.{else-sector-lt12-via-then-sector-lt12+then-cylinder-self+else-real-eq0, else-sector-lt12-via-then-sector-lt12+else-cylinder-self, else-sector-lt12-via-else-sector-lt12}
