@@ -49,6 +49,14 @@ impl BitTable {
         Ok(BitTable { bits })
     }
 
+    /// Another table with the same bits. Memory: none was left for them.
+    pub fn copied(&self) -> Result<BitTable, Memory>
+        ensures { IfOk result (λ table. table ≡ self.now) }
+    {
+        let bits = self.bits.clone()?;
+        Ok(BitTable { bits })
+    }
+
     /// The number of sectors.
     pub fn pages(&self) -> u16
         ensures { result ≡ length self.now }
@@ -93,7 +101,7 @@ impl BitTable {
         requires { at < length self.now }
         ensures { result ≡ busy_at self.now at }
     {
-        self.bits[at as usize]
+        self.bits[usize::from(at)]
     }
 }
 

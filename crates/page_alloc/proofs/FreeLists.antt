@@ -1,15 +1,17 @@
--- Lists of free sectors.
-use Rattle.std.proofs.Common.{◌≡◌, ℕ, zero, suc, ◌+◌, ◌-◌, ◌<◌, ◌≤◌, ◌&&◌, min, Bool, true, false, cond, List, [], ◌∷◌, ◌++◌, length, take, get_or, refl, sym, ◌∙◌, ap, subst, length-append, arith}
+-- Lists of the addresses that pass a test, as of free sectors.
+use Rattle.std.proofs.Common.{◌≡◌, ℕ, zero, suc, ◌+◌, ◌-◌, ◌<◌, ◌≤◌, ◌&&◌, min, Bool, true, false, cond, not, List, [], ◌∷◌, ◌++◌, length, take, get_or, refl, sym, ◌∙◌, ap, subst, length-append, arith}
 use Rattle.std.specs.Prelude.{filter, All, nat_lt}
 use Rattle.std.specs.List.{range_with_len}
 use Rattle.std.proofs.lemmas.Bool.Decides.{nat_tests}
 use Rattle.std.proofs.lemmas.List.{append-nil, take_at, take_all, take-append-le, length-take, get_or_append_left, get_or_at}
-use Rattle.std.proofs.lemmas.List.Elements.{filter-append, All-nil, All-cons, All-push, All-take}
+use Rattle.std.proofs.lemmas.List.Elements.{filter-append, filter_passes, All-nil, All-push, All-take, All-weaker}
+use Rattle.disk_records.specs.Addresses.{pages_of}
 use Rattle.disk_records.specs.Packs.{Pack, is_free_at}
-use Rattle.page_alloc.specs.Free.{free_below, IsRising}
-use Rattle.page_alloc.specs.Inside.{listed}
+use Rattle.hint_cache.specs.Bits.{busy_at}
+use Rattle.page_alloc.specs.Free.{below, is_offered, is_offered_free, IsTrueTable, IsRising}
+use Rattle.page_alloc.specs.Inside.{is_left, listed}
 
--- ---- the free sectors below an address
+-- ---- the addresses below an end that pass a test
 range_with_len-add : (a n m : ℕ) → range_with_len a (n + m) ≡ range_with_len a n ++ range_with_len (a + n) m
 range_with_len-add a zero m = let none : 0 + m ≡ m = omega arith in let same : a ≡ a + 0 = omega arith in ap (range_with_len a) none ∙ ap (λ (b : ℕ). range_with_len b m) same
 range_with_len-add a (suc n) m =
@@ -18,41 +20,44 @@ range_with_len-add a (suc n) m =
     ap (range_with_len a) more ∙ ap (λ l. a ∷ l) (range_with_len-add (a + 1) n m ∙ ap (λ (b : ℕ). range_with_len (a + 1) n ++ range_with_len b m) same)
 
 -- those from there on come behind them
-free_below-add : (p : Pack) (at m : ℕ) → free_below p (at + m) ≡ free_below p at ++ filter (is_free_at p) (range_with_len (0 + at) m)
-free_below-add p at m = ap (filter (is_free_at p)) (range_with_len-add 0 at m) ∙ filter-append (is_free_at p) (range_with_len 0 at) (range_with_len (0 + at) m)
+below-add : (test : ℕ → Bool) (at m : ℕ) → below test (at + m) ≡ below test at ++ filter test (range_with_len (0 + at) m)
+below-add test at m = ap (filter test) (range_with_len-add 0 at m) ∙ filter-append test (range_with_len 0 at) (range_with_len (0 + at) m)
 
--- one sector more
-pub free_below-more : (p : Pack) (at : ℕ) → free_below p (at + 1) ≡ free_below p at ++ cond (is_free_at p at) (at ∷ []) []
-free_below-more p at = let plain : 0 + at ≡ at = omega arith in free_below-add p at 1 ∙ ap (λ (b : ℕ). free_below p at ++ filter (is_free_at p) (range_with_len b 1)) plain
+-- one address more
+pub below-more : (test : ℕ → Bool) (at : ℕ) → below test (at + 1) ≡ below test at ++ cond (test at) (at ∷ []) []
+below-more test at = let plain : 0 + at ≡ at = omega arith in below-add test at 1 ∙ ap (λ (b : ℕ). below test at ++ filter test (range_with_len b 1)) plain
 
--- sector 0 isn't free
-pub free_below-first : (p : Pack) → free_below p 1 ≡ []
-free_below-first p = refl
-
-pub length-free_below-le : (p : Pack) (at end : ℕ) → at ≤ end → length (free_below p at) ≤ length (free_below p end)
-length-free_below-le p at end h =
+pub length-below-le : (test : ℕ → Bool) (at end : ℕ) → at ≤ end → length (below test at) ≤ length (below test end)
+length-below-le test at end h =
     let rest : at + (end - at) ≡ end = omega arith in
-    let all = ap length (ap (free_below p) (sym rest) ∙ free_below-add p at (end - at)) ∙ length-append (free_below p at) (filter (is_free_at p) (range_with_len (0 + at) (end - at))) in
+    let all = ap length (ap (below test) (sym rest) ∙ below-add test at (end - at)) ∙ length-append (below test at) (filter test (range_with_len (0 + at) (end - at))) in
     omega (arith, all)
 
 -- the lowest are those below an address, where these are as many as are wanted
-pub take-free_below : (p : Pack) (wanted at end : ℕ) → at ≤ end → length (free_below p at) ≡ wanted → take wanted (free_below p end) ≡ free_below p at
-take-free_below p wanted at end h long =
+pub take-below : (test : ℕ → Bool) (wanted at end : ℕ) → at ≤ end → length (below test at) ≡ wanted → take wanted (below test end) ≡ below test at
+take-below test wanted at end h long =
     let rest : at + (end - at) ≡ end = omega arith in
-    ap (take wanted) (ap (free_below p) (sym rest) ∙ free_below-add p at (end - at)) ∙ take_at (free_below p at) (filter (is_free_at p) (range_with_len (0 + at) (end - at))) wanted long
+    ap (take wanted) (ap (below test) (sym rest) ∙ below-add test at (end - at)) ∙ take_at (below test at) (filter test (range_with_len (0 + at) (end - at))) wanted long
 
--- a filter keeps what passes
-filter-passes : {X : Type 0} (test : X → Bool) (xs : List X) → All (λ x. test x ≡ true) (filter test xs)
-filter-passes test [] = All-nil (λ x. test x ≡ true)
-filter-passes test (x ∷ xs) =
-    let rest = filter-passes test xs in
-    elim (test x) as (λ b. test x ≡ b → All (λ x. test x ≡ true) (cond b (x ∷ filter test xs) (filter test xs))) [
-      | true ↦ λ is. All-cons (λ x. test x ≡ true) x (filter test xs) is rest
-      | false ↦ λ is. rest
-    ] refl
+-- tests that agree below an end
+below_agree : (s t : ℕ → Bool) (end : ℕ) → ((k : ℕ) → k < end → s k ≡ t k) → below s end ≡ below t end
+below_agree s t zero h = refl
+below_agree s t (suc n) h =
+    let one : n + 1 ≡ suc n = omega arith in
+    let so_far = below_agree s t n (λ k low. h k (omega arith)) in
+    ap (below s) (sym one) ∙ below-more s n ∙ ap (λ l. l ++ cond (s n) (n ∷ []) []) so_far ∙ ap (λ b. below t n ++ cond b (n ∷ []) []) (h n (omega arith)) ∙ sym (below-more t n) ∙ ap (below t) one
 
-pub taken_are_free : (p : Pack) (wanted end : ℕ) (found : List ℕ) → found ≡ take wanted (free_below p end) → All (λ at. is_free_at p at ≡ true) found
-taken_are_free p wanted end found is = subst (All (λ at. is_free_at p at ≡ true)) (sym is) (All-take (λ at. is_free_at p at ≡ true) wanted (free_below p end) (filter-passes (is_free_at p) (range_with_len 0 end)))
+pub taken_are_free : (p : Pack) (wanted end : ℕ) (found : List ℕ) → found ≡ take wanted (below (is_free_at p) end) → All (λ at. is_free_at p at ≡ true) found
+taken_are_free p wanted end found is = subst (All (λ at. is_free_at p at ≡ true)) (sym is) (All-take (λ at. is_free_at p at ≡ true) wanted (below (is_free_at p) end) (filter_passes (is_free_at p) (range_with_len 0 end)))
+
+pub offers_are_free : (p : Pack) (bits : List Bool) (wanted end : ℕ) (found : List ℕ) → found ≡ take wanted (below (is_offered_free p bits) end) → All (λ at. is_free_at p at ≡ true) found
+offers_are_free p bits wanted end found is =
+    let both = All-take (λ at. is_offered_free p bits at ≡ true) wanted (below (is_offered_free p bits) end) (filter_passes (is_offered_free p bits) (range_with_len 0 end)) in
+    subst (All (λ at. is_free_at p at ≡ true)) (sym is) (All-weaker (λ at. is_offered_free p bits at ≡ true) (λ at. is_free_at p at ≡ true) (λ at. first (is_free_at p at) (not (busy_at bits at))) (take wanted (below (is_offered_free p bits) end)) both)
+  where
+    first : (a b : Bool) → a && b ≡ true → a ≡ true
+    first true b h = refl
+    first false b h = h
 
 -- ---- a list that one sector more may be appended to
 length-one : (at : ℕ) (free : Bool) → length (cond free (at ∷ []) []) ≡ cond free 1 0
@@ -62,25 +67,25 @@ length-one at false = refl
 pub length-more : (xs : List ℕ) (at : ℕ) (free : Bool) → length (xs ++ cond free (at ∷ []) []) ≡ length xs + cond free 1 0
 length-more xs at free = length-append xs (cond free (at ∷ []) []) ∙ ap (λ (n : ℕ). length xs + n) (length-one at free)
 
-pub length-free_below-more : (p : Pack) (at : ℕ) → length (free_below p (at + 1)) ≡ length (free_below p at) + cond (is_free_at p at) 1 0
-length-free_below-more p at = ap length (free_below-more p at) ∙ length-more (free_below p at) at (is_free_at p at)
+pub length-below-more : (test : ℕ → Bool) (at : ℕ) → length (below test (at + 1)) ≡ length (below test at) + cond (test at) 1 0
+length-below-more test at = ap length (below-more test at) ∙ length-more (below test at) at (test at)
 
 pub most_one : (free : Bool) → cond free 1 0 ≤ 1
 most_one true = omega arith
 most_one false = omega arith
 
-pub count_more : (p : Pack) (at count : ℕ) (free : Bool) → count ≡ length (free_below p at) → free ≡ is_free_at p at → count + cond free 1 0 ≡ length (free_below p (at + 1))
-count_more p at count free so_far is = ap (λ (n : ℕ). n + cond free 1 0) so_far ∙ ap (λ b. length (free_below p at) + cond b 1 0) is ∙ sym (length-free_below-more p at)
+pub count_more : (test : ℕ → Bool) (at count : ℕ) (passes : Bool) → count ≡ length (below test at) → passes ≡ test at → count + cond passes 1 0 ≡ length (below test (at + 1))
+count_more test at count passes so_far is = ap (λ (n : ℕ). n + cond passes 1 0) so_far ∙ ap (λ b. length (below test at) + cond b 1 0) is ∙ sym (length-below-more test at)
 
 -- where fewer are listed than are wanted
 pub listed_short : (wanted at : ℕ) (free : Bool) (xs ys : List ℕ) → length xs < wanted → ys ≡ listed wanted at free xs → ys ≡ xs ++ cond free (at ∷ []) []
 listed_short wanted at true xs ys h is = let room : listed wanted at true xs ≡ xs ++ at ∷ [] = grind (arith, nat_tests) in is ∙ room
 listed_short wanted at false xs ys h is = is ∙ sym (append-nil xs)
 
-lt-test : (m n : ℕ) → nat_lt m n ≡ true → m < n
+pub lt-test : (m n : ℕ) → nat_lt m n ≡ true → m < n
 lt-test m n e = grind (arith, nat_tests)
 
-le-test : (m n : ℕ) → nat_lt m n ≡ false → n ≤ m
+pub le-test : (m n : ℕ) → nat_lt m n ≡ false → n ≤ m
 le-test m n e = grind (arith, nat_tests)
 
 take-push : (wanted at : ℕ) (xs all : List ℕ) (room : Bool) → xs ≡ take wanted all → nat_lt (length xs) wanted ≡ room → cond room (xs ++ at ∷ []) xs ≡ take wanted (all ++ at ∷ [])
@@ -132,31 +137,14 @@ pub rising_listed : (wanted at : ℕ) (free : Bool) (xs : List ℕ) → 1 ≤ at
 rising_listed wanted at free xs first r =
     elim (free && nat_lt (length xs) wanted) as (λ b. IsRising (at + 1) (cond b (xs ++ at ∷ []) xs)) [ true ↦ rising_push at xs first r | false ↦ rising_within at (at + 1) xs (omega arith) r ]
 
-pub free_more : (p : Pack) (at : ℕ) (free : Bool) (xs : List ℕ) → All (λ k. is_free_at p k ≡ true) xs → (free ≡ true → is_free_at p at ≡ true) → All (λ k. is_free_at p k ≡ true) (xs ++ cond free (at ∷ []) [])
-free_more p at true xs all is = All-push (λ k. is_free_at p k ≡ true) xs at all (is refl)
-free_more p at false xs all is = subst (All (λ k. is_free_at p k ≡ true)) (sym (append-nil xs)) all
-
--- no more than the free sectors are listed
-pub few_more : (p : Pack) (at : ℕ) (free : Bool) (xs : List ℕ) → length xs ≤ length (free_below p at) → (free ≡ true → is_free_at p at ≡ true) → length (xs ++ cond free (at ∷ []) []) ≤ length (free_below p (at + 1))
-few_more p at free xs few is =
-    let one : cond free 1 0 ≤ cond (is_free_at p at) 1 0 = at_most free (is_free_at p at) is in
-    let more = length-more xs at free in
-    let all = length-free_below-more p at in
-    omega (arith, one, more, all, few)
-  where
-    at_most : (a b : Bool) → (a ≡ true → b ≡ true) → cond a 1 0 ≤ cond b 1 0
-    at_most false b h = omega arith
-    at_most true true h = omega arith
-    at_most true false h = let no : false ≡ true = h refl in cc
-
--- a list of all the free sectors so far has this one too
-pub all_more : (p : Pack) (at : ℕ) (free : Bool) (xs : List ℕ) → xs ≡ free_below p at → free ≡ is_free_at p at → xs ++ cond free (at ∷ []) [] ≡ free_below p (at + 1)
-all_more p at free xs so_far is = ap (λ l. l ++ cond free (at ∷ []) []) so_far ∙ ap (λ b. free_below p at ++ cond b (at ∷ []) []) is ∙ sym (free_below-more p at)
+-- a list of all that pass so far has this one too
+pub all_more : (test : ℕ → Bool) (at : ℕ) (passes : Bool) (xs : List ℕ) → xs ≡ below test at → passes ≡ test at → xs ++ cond passes (at ∷ []) [] ≡ below test (at + 1)
+all_more test at passes xs so_far is = ap (λ l. l ++ cond passes (at ∷ []) []) so_far ∙ ap (λ b. below test at ++ cond b (at ∷ []) []) is ∙ sym (below-more test at)
 
 -- and one of as many as are wanted too
-pub lowest_more : (p : Pack) (wanted at : ℕ) (free : Bool) (xs : List ℕ) → xs ≡ take wanted (free_below p at) → free ≡ is_free_at p at → listed wanted at free xs ≡ take wanted (free_below p (at + 1))
-lowest_more p wanted at free xs so_far is =
-    listed-take wanted at free xs (free_below p at) so_far ∙ ap (λ b. take wanted (free_below p at ++ cond b (at ∷ []) [])) is ∙ ap (take wanted) (sym (free_below-more p at))
+pub lowest_more : (test : ℕ → Bool) (wanted at : ℕ) (passes : Bool) (xs : List ℕ) → xs ≡ take wanted (below test at) → passes ≡ test at → listed wanted at passes xs ≡ take wanted (below test (at + 1))
+lowest_more test wanted at passes xs so_far is =
+    listed-take wanted at passes xs (below test at) so_far ∙ ap (λ b. take wanted (below test at ++ cond b (at ∷ []) [])) is ∙ ap (take wanted) (sym (below-more test at))
 
 -- how many are listed of those counted
 pub count_listed : (wanted at count : ℕ) (free : Bool) (xs : List ℕ) → length xs ≡ min wanted count → length (listed wanted at free xs) ≡ min wanted (count + cond free 1 0)
@@ -166,3 +154,73 @@ count_listed wanted at count true xs is = by (nat_lt (length xs) wanted) refl
     by : (room : Bool) → nat_lt (length xs) wanted ≡ room → length (cond room (xs ++ at ∷ []) xs) ≡ min wanted (count + 1)
     by true e = let low = lt-test (length xs) wanted e in let more = length-append xs (at ∷ []) in omega (arith, low, more, is)
     by false e = let high = le-test (length xs) wanted e in omega (arith, high, is)
+
+-- ---- a table's offers
+pub offer_here : (bits : List Bool) (at : ℕ) → 1 ≤ at → cond {A = ℕ} (busy_at bits at) 0 1 ≡ cond (is_offered bits at) 1 0
+offer_here bits zero h = absurd (omega arith)
+offer_here bits (suc n) h = by (busy_at bits (suc n))
+  where
+    by : (busy : Bool) → cond {A = ℕ} busy 0 1 ≡ cond (nat_lt 0 (suc n) && not busy) 1 0
+    by true = grind (arith, nat_tests)
+    by false = grind (arith, nat_tests)
+
+pub left_here : (bits : List Bool) (at : ℕ) → 1 ≤ at → cond {A = ℕ} (busy_at bits at) 1 0 ≡ cond (is_left bits at) 1 0
+left_here bits zero h = absurd (omega arith)
+left_here bits (suc n) h = by (busy_at bits (suc n))
+  where
+    by : (busy : Bool) → cond {A = ℕ} busy 1 0 ≡ cond (nat_lt 0 (suc n) && busy) 1 0
+    by true = grind (arith, nat_tests)
+    by false = grind (arith, nat_tests)
+
+-- each sector but the first is offered or left
+pub offered_or_left : (bits : List Bool) (end : ℕ) → length (below (is_offered bits) end) + length (below (is_left bits) end) ≤ end - 1
+offered_or_left bits zero = omega arith
+offered_or_left bits (suc n) =
+    let one : n + 1 ≡ suc n = omega arith in
+    let a = ap length (ap (below (is_offered bits)) (sym one)) ∙ length-below-more (is_offered bits) n in
+    let b = ap length (ap (below (is_left bits)) (sym one)) ∙ length-below-more (is_left bits) n in
+    let so_far = offered_or_left bits n in
+    let once = one_of n (busy_at bits n) in
+    omega (arith, a, b, so_far, once)
+  where
+    one_of : (n : ℕ) (busy : Bool) → cond (nat_lt 0 n && not busy) 1 0 + cond (nat_lt 0 n && busy) 1 0 ≤ n - (n - 1)
+    one_of zero busy = omega arith
+    one_of (suc k) true = grind (arith, nat_tests)
+    one_of (suc k) false = grind (arith, nat_tests)
+
+-- of those that are free no more are offered than there are
+pub offered_free-le : (p : Pack) (bits : List Bool) (end : ℕ) → length (below (is_offered_free p bits) end) ≤ length (below (is_free_at p) end)
+offered_free-le p bits zero = omega arith
+offered_free-le p bits (suc n) =
+    let one : n + 1 ≡ suc n = omega arith in
+    let a = ap length (ap (below (is_offered_free p bits)) (sym one)) ∙ length-below-more (is_offered_free p bits) n in
+    let b = ap length (ap (below (is_free_at p)) (sym one)) ∙ length-below-more (is_free_at p) n in
+    let so_far = offered_free-le p bits n in
+    let less = at_most (is_free_at p n) (not (busy_at bits n)) in
+    omega (arith, a, b, so_far, less)
+  where
+    at_most : (x y : Bool) → cond (x && y) 1 0 ≤ cond x 1 0
+    at_most false y = omega arith
+    at_most true true = omega arith
+    at_most true false = omega arith
+
+-- ---- a true table offers the free sectors, and no others
+free_and_free : (free busy : Bool) → busy ≡ not free → free && not busy ≡ free
+free_and_free true busy is = ap not is
+free_and_free false busy is = refl
+
+pub offers_of_true : (p : Pack) (bits : List Bool) (end : ℕ) → end ≤ pages_of p.shape → IsTrueTable p bits → below (is_offered_free p bits) end ≡ below (is_free_at p) end
+offers_of_true p bits end h is_true = below_agree (is_offered_free p bits) (is_free_at p) end (λ k low. free_and_free (is_free_at p k) (busy_at bits k) (is_true k (omega arith)))
+
+pub all_offers_of_true : (p : Pack) (bits : List Bool) (end : ℕ) → end ≤ pages_of p.shape → IsTrueTable p bits → below (is_offered bits) end ≡ below (is_offered_free p bits) end
+all_offers_of_true p bits end h is_true = below_agree (is_offered bits) (is_offered_free p bits) end agree
+  where
+    by : (n : ℕ) (free busy : Bool) → busy ≡ not free → nat_lt 0 (suc n) && not busy ≡ free && not busy
+    by n true false is = grind (arith, nat_tests)
+    by n true true is = let no : true ≡ false = is in cc
+    by n false true is = grind (arith, nat_tests)
+    by n false false is = let no : false ≡ true = is in cc
+
+    agree : (k : ℕ) → k < end → is_offered bits k ≡ is_offered_free p bits k
+    agree zero low = refl
+    agree (suc n) low = by n (is_free_at p (suc n)) (busy_at bits (suc n)) (is_true (suc n) (omega arith))

@@ -1,4 +1,3 @@
-pub mod Faults
-pub mod Silent
 pub mod FreeLists
+pub mod Silent
 pub mod Tables

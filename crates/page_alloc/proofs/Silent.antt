@@ -1,14 +1,11 @@
 -- Calls that write nothing, one after another.
-use Rattle.std.proofs.Common.{◌≡◌, ℕ, ◌+◌, ◌-◌, ◌≤◌, Bool, IsTrue, [], ◌++◌, ◌∙◌, ap, arith}
+use Rattle.std.proofs.Common.{◌≡◌, ℕ, ◌+◌, ◌-◌, ◌≤◌, Bool, cond, IsTrue, List, length, sym, ◌∙◌, ap, arith}
 use Rattle.disk_records.specs.Addresses.{pages_of}
-use Rattle.disk_records.specs.Packs.{after}
-use Rattle.disk_records.specs.Tapes.{Taped, Grown, pack, added}
-use Rattle.disk_records.proofs.Growing.{added-twice, alone_twice, alone_here, nothing_added, pack-after}
-use Rattle.page_alloc.specs.Inside.{Looked}
-
--- a call that adds no event leaves the pack
-pub pack-silent : {x y : Taped} → Grown x y → added x y ≡ [] → pack y ≡ pack x
-pack-silent {x} {y} grown silent = pack-after grown ∙ ap (after (pack x)) silent
+use Rattle.disk_records.specs.Tapes.{Taped, pack}
+use Rattle.disk_records.proofs.Growing.{alone_twice, alone_here, nothing_added, pack-silent, silent_twice}
+use Rattle.page_alloc.specs.Free.{below, offered_sectors}
+use Rattle.page_alloc.specs.Inside.{Looked, is_left}
+use Rattle.page_alloc.proofs.FreeLists.{length-below-le, length-below-more, offered_or_left}
 
 pub looked_pack : {told : Bool} {most : ℕ} {x y : Taped} → Looked told most x y → IsTrue told → pack y ≡ pack x
 looked_pack h told = pack-silent h.alone.grown (h.silent told)
@@ -21,7 +18,7 @@ pub looked_twice : {told : Bool} {first next : ℕ} {x y z : Taped} (most : ℕ)
 looked_twice {told} {first} {next} {x} {y} {z} most a b few =
     record {
       alone = alone_twice a.alone b.alone;
-      silent = λ t. added-twice a.alone.grown b.alone.grown ∙ ap (λ l. l ++ added y z) (a.silent t) ∙ b.silent t;
+      silent = λ t. silent_twice a.alone.grown b.alone.grown (a.silent t) (b.silent t);
       runs = λ t. omega (arith, a.runs t, b.runs t, few);
     }
 
@@ -31,6 +28,20 @@ looked_within most h few = record { alone = h.alone; silent = h.silent; runs = �
 pub looked_pages : {told : Bool} {most : ℕ} {x y : Taped} → Looked told most x y → pages_of y.form ≡ pages_of x.form
 looked_pages h = ap pages_of h.alone.grown.form
 
--- the table's offers, and a sweep
-pub looked_both : {told : Bool} {offered : ℕ} {x y z : Taped} → Looked told offered x y → Looked told (pages_of y.form - 1) y z → Looked told (offered + (pages_of x.form - 1)) x z
-looked_both {told} {offered} {x} {y} {z} a b = let same = looked_pages a in looked_twice (offered + (pages_of x.form - 1)) a b (omega (arith, same))
+-- ---- looks at those addresses that pass a test
+pub looked_step : {told : Bool} {x y z : Taped} (test : ℕ → Bool) (at most : ℕ) → most ≡ cond (test at) 1 0 → Looked told (length (below test at)) x y → Looked told most y z → Looked told (length (below test (at + 1))) x z
+looked_step test at most is a b = let more = length-below-more test at in looked_twice (length (below test (at + 1))) a b (omega (arith, more, is))
+
+pub looked_below : {told : Bool} {x y : Taped} (test : ℕ → Bool) (at end : ℕ) → at ≤ end → Looked told (length (below test at)) x y → Looked told (length (below test end)) x y
+looked_below test at end h a = looked_within (length (below test end)) a (length-below-le test at end h)
+
+-- the offers, and then the sectors that are left
+pub looked_both : {told : Bool} {x y z : Taped} (bits offers : List Bool) → offers ≡ bits → length bits ≡ pages_of x.form → Looked told (length (offered_sectors bits)) x y → Looked told (length (below (is_left offers) (pages_of y.form))) y z → Looked told (pages_of x.form - 1) x z
+looked_both {told} {x} {y} {z} bits offers same sized a b =
+    let pages = looked_pages a in
+    let left = ap (λ (n : ℕ). length (below (is_left offers) n)) (pages ∙ sym sized) ∙ ap (λ l. length (below (is_left l) (length bits))) same in
+    let all = offered_or_left bits (length bits) in
+    looked_twice (pages_of x.form - 1) a b (omega (arith, left, all, sized))
+
+pub looked_offered : {told : Bool} {x y : Taped} (bits : List Bool) → length bits ≡ pages_of x.form → Looked told (length (offered_sectors bits)) x y → Looked told (pages_of x.form - 1) x y
+looked_offered {told} {x} {y} bits sized a = let all = offered_or_left bits (length bits) in looked_within (pages_of x.form - 1) a (omega (arith, all, sized))

@@ -1,16 +1,14 @@
 -- Tables of busy bits that are corrected.
-use Rattle.std.proofs.Common.{◌≡◌, ℕ, zero, suc, ◌+◌, ◌<◌, ◌⊎◌, inl, inr, Bool, true, false, not, IsTrue, List, [], ◌∷◌, length, take, drop, ◌++◌, cond, length-append, get_or, set, refl, sym, ◌∙◌, ap, subst, ◌≤◌, arith}
-use Rattle.std.specs.Prelude.{All, Contains}
-use Rattle.std.specs.Prelude.{filter, count_by}
-use Rattle.std.proofs.lemmas.List.{take-append-drop}
-use Rattle.std.proofs.lemmas.List.Sums.{count_by_more_no, count_by_more_yes, length-filter}
-use Rattle.std.proofs.lemmas.List.Elements.{filter-append, All-more, All-weaker, Contains-get_or}
+use Rattle.std.proofs.Common.{◌≡◌, ℕ, zero, suc, ◌+◌, ◌<◌, ◌⊎◌, ◌&&◌, inl, inr, Bool, true, false, not, IsTrue, List, [], ◌∷◌, length, take, get_or, set, refl, sym, ◌∙◌, ap, subst, arith}
+use Rattle.std.specs.Prelude.{All, Contains, nat_lt}
+use Rattle.std.proofs.lemmas.List.Elements.{All-more, All-weaker, Contains-get_or}
 use Rattle.disk_records.specs.Packs.{Pack, is_free_at}
 use Rattle.disk_records.specs.Tapes.{Taped, pack}
 use Rattle.hint_cache.specs.Bits.{busy_at}
-use Rattle.page_alloc.specs.Free.{IsTrueTable, IsCorrected, IsCorrectedBut}
-use Rattle.page_alloc.specs.Inside.{Looked}
-use Rattle.page_alloc.proofs.Silent.{looked_pack, looked_twice, looked_within}
+use Rattle.page_alloc.specs.Free.{is_offered_free, IsCorrected, IsCorrectedBut}
+use Rattle.page_alloc.specs.Inside.{Looked, IsCheckedAt, AreChecked}
+use Rattle.page_alloc.proofs.Silent.{looked_pack}
+use Rattle.page_alloc.proofs.FreeLists.{lt-test, le-test}
 
 pub corrected_here : (p : Pack) (bits : List Bool) → IsCorrected p bits bits
 corrected_here p bits at = inl refl
@@ -20,10 +18,6 @@ corrected_twice p a b c x y at = elim (y at) [
   | inl same ↦ elim (x at) [ inl before ↦ inl (same ∙ before) | inr told ↦ inr (same ∙ told) ]
   | inr told ↦ inr told
 ]
-
--- what is true stays true
-pub true_corrected : (p : Pack) (a b : List Bool) → IsTrueTable p a → IsCorrected p a b → IsTrueTable p b
-true_corrected p a b t x at h = elim (x at) [ inl same ↦ same ∙ t at h | inr told ↦ told ]
 
 -- ---- bits that are set
 set_here : (bits : List Bool) (at : ℕ) → busy_at (set bits at true) at ≡ true
@@ -71,35 +65,33 @@ corrected_but p taken a b c x y at =
 pub corrected_then : {told : Bool} {most : ℕ} {x y : Taped} (a b c : List Bool) → Looked told most x y → IsTrue told → IsCorrected (pack x) a b → IsCorrected (pack y) b c → IsCorrected (pack x) a c
 corrected_then {told} {most} {x} {y} a b c looked t before now = corrected_twice (pack x) a b c before (subst (λ p. IsCorrected p b c) (looked_pack looked t) now)
 
-pub true_then : {told : Bool} {most : ℕ} {x y : Taped} (a b : List Bool) → Looked told most x y → IsTrue told → IsTrueTable (pack x) a → IsCorrected (pack x) a b → IsTrueTable (pack y) b
-true_then {told} {most} {x} {y} a b looked t is_true corrected = subst (λ p. IsTrueTable p b) (sym (looked_pack looked t)) (true_corrected (pack x) a b is_true corrected)
-
 pub free_then : {told : Bool} {most : ℕ} {x y : Taped} (at : ℕ) (free : Bool) → Looked told most x y → IsTrue told → free ≡ is_free_at (pack y) at → free ≡ is_free_at (pack x) at
 free_then at free looked t is = is ∙ ap (λ p. is_free_at p at) (looked_pack looked t)
 
-pub free_where : {told : Bool} {most : ℕ} {x y : Taped} (at : ℕ) (free : Bool) → Looked told most x y → IsTrue told → (free ≡ true → is_free_at (pack y) at ≡ true) → free ≡ true → is_free_at (pack x) at ≡ true
-free_where at free looked t is e = ap (λ p. is_free_at p at) (sym (looked_pack looked t)) ∙ is e
+-- ---- offers whose labels have been looked at
+pub checked_first : (p : Pack) (offers now : List Bool) → AreChecked p offers now 1
+checked_first p offers now at first low = absurd (omega arith)
 
--- ---- how many sectors a table has as free
-pub offered-more : (bits : List Bool) (at : ℕ) → at < length bits → count_by not (take (at + 1) bits) ≡ count_by not (take at bits) + cond (busy_at bits at) 0 1
-offered-more bits at h = by (busy_at bits at) refl
+-- what is checked stays so
+pub checked_corrected : (p : Pack) (offers a b : List Bool) (end : ℕ) → AreChecked p offers a end → IsCorrected p a b → AreChecked p offers b end
+checked_corrected p offers a b end checked x at first low free = elim (x at) [ inl same ↦ same ∙ checked at first low free | inr told ↦ told ]
+
+-- one sector more
+pub checked_more : (p : Pack) (offers now : List Bool) (end : ℕ) → AreChecked p offers now end → IsCheckedAt p offers now end → AreChecked p offers now (end + 1)
+checked_more p offers now end checked here at first low free = by (nat_lt at end) refl
   where
-    by : (busy : Bool) → busy_at bits at ≡ busy → count_by not (take (at + 1) bits) ≡ count_by not (take at bits) + cond busy 0 1
-    by true is = let more = count_by_more_no not bits at true h (ap not is) in omega (arith, more)
-    by false is = let more = count_by_more_yes not bits at true h (ap not is) in omega (arith, more)
+    by : (inner : Bool) → nat_lt at end ≡ inner → busy_at now at ≡ not (is_free_at p at)
+    by true e = checked at first (lt-test at end e) free
+    by false e = let high = le-test at end e in let same : end ≡ at = omega (arith, low, high) in subst (λ k. busy_at offers k ≡ false → busy_at now k ≡ not (is_free_at p k)) same here free
 
-pub offered-le : (bits : List Bool) (n : ℕ) → count_by not (take n bits) ≤ count_by not bits
-offered-le bits n =
-    let all = ap (count_by not) (sym (take-append-drop n bits)) ∙ sym (length-filter not (take n bits ++ drop n bits)) ∙ ap length (filter-append not (take n bits) (drop n bits)) ∙ length-append (filter not (take n bits)) (filter not (drop n bits)) in
-    let front = length-filter not (take n bits) in
-    omega (arith, all, front)
+-- after calls that write nothing
+pub checked_then : {told : Bool} {most : ℕ} {x y : Taped} (offers a b : List Bool) (end : ℕ) → Looked told most x y → IsTrue told → AreChecked (pack x) offers a end → IsCorrected (pack x) a b → AreChecked (pack y) offers b end
+checked_then {told} {most} {x} {y} offers a b end looked t checked corrected = subst (λ p. AreChecked p offers b end) (sym (looked_pack looked t)) (checked_corrected (pack x) offers a b end checked corrected)
 
--- one more offer is looked at
-pub looked_offer : {told : Bool} {x y z : Taped} (first now : List Bool) (at : ℕ) → at < length first → busy_at now at ≡ busy_at first at → Looked told (count_by not (take at first)) x y → Looked told (cond (busy_at now at) 0 1) y z → Looked told (count_by not (take (at + 1) first)) x z
-looked_offer first now at h same a b =
-    let more = offered-more first at h in
-    let one : cond (busy_at now at) 0 1 ≡ cond (busy_at first at) 0 1 = ap (λ busy. cond {A = ℕ} busy 0 1) same in
-    looked_twice (count_by not (take (at + 1) first)) a b (omega (arith, more, one))
+pub checked_step : {told : Bool} {most : ℕ} {x y : Taped} (offers a b : List Bool) (at : ℕ) → Looked told most x y → IsTrue told → busy_at a at ≡ busy_at offers at → AreChecked (pack x) offers a at → IsCorrected (pack y) a b → IsCheckedAt (pack y) a b at → AreChecked (pack x) offers b (at + 1)
+checked_step {told} {most} {x} {y} offers a b at looked t same checked corrected here =
+    let here_too = subst (λ p. IsCheckedAt p a b at) (looked_pack looked t) here in
+    checked_more (pack x) offers b at (checked_corrected (pack x) offers a b at checked (subst (λ p. IsCorrected p a b) (looked_pack looked t) corrected)) (λ free. here_too (same ∙ free))
 
-pub looked_offers : {told : Bool} {x y : Taped} (first : List Bool) (at : ℕ) → Looked told (count_by not (take at first)) x y → Looked told (count_by not first) x y
-looked_offers first at a = looked_within (count_by not first) a (offered-le first at)
+pub offer_then : {told : Bool} {most : ℕ} {x y : Taped} (offers a : List Bool) (at : ℕ) (free : Bool) → Looked told most x y → IsTrue told → busy_at a at ≡ busy_at offers at → free ≡ is_offered_free (pack y) a at → free ≡ is_offered_free (pack x) offers at
+offer_then {told} {most} {x} {y} offers a at free looked t same is = is ∙ ap (λ p. is_offered_free p a at) (looked_pack looked t) ∙ ap (λ busy. is_free_at (pack x) at && not busy) same

@@ -1,5 +1,5 @@
 -- What a caller sees of taking free sectors: which are free, what a true table is, what changes in it, and what Full tells.
-use Rattle.std.specs.Prelude.{◌≡◌, ℕ, ◌<◌, ◌≤◌, ◌⊎◌, Bool, not, List, filter, All, Contains, Result, Ok, Err}
+use Rattle.std.specs.Prelude.{◌≡◌, ℕ, ◌<◌, ◌≤◌, ◌⊎◌, ◌&&◌, Bool, not, nat_lt, List, length, filter, All, Contains, Result, Ok, Err}
 use Rattle.std.specs.List.{range_with_len}
 use Rattle.std.specs.List.Sorted.{IsStrictlyIncreasing}
 use Rattle.disk_records.specs.Addresses.{pages_of}
@@ -8,12 +8,27 @@ use Rattle.hint_cache.specs.Bits.{busy_at}
 use Rattle.page_alloc.specs.declared.errors.AllocError.{AllocError}
 use Rattle.page_alloc.specs.declared.errors.AllocError.TheVariants.{Full, DiskFault, Memory}
 
--- the free sectors of a pack, in rising order
-abbrev pub free_below : Pack → ℕ → List ℕ
-free_below p end = filter (is_free_at p) (range_with_len 0 end)
+-- the addresses below an end that pass a test, in rising order
+abbrev pub below : (ℕ → Bool) → ℕ → List ℕ
+below test end = filter test (range_with_len 0 end)
 
+-- the free sectors of a pack
 abbrev pub free_sectors : Pack → List ℕ
-free_sectors p = free_below p (pages_of p.shape)
+free_sectors p = below (is_free_at p) (pages_of p.shape)
+
+-- the sectors that a table offers: it has them as free, and they can carry a page, as all but the first can
+abbrev pub is_offered : List Bool → ℕ → Bool
+is_offered bits at = nat_lt 0 at && not (busy_at bits at)
+
+abbrev pub offered_sectors : List Bool → List ℕ
+offered_sectors bits = below (is_offered bits) (length bits)
+
+-- those that are free, and that the table has as free
+abbrev pub is_offered_free : Pack → List Bool → ℕ → Bool
+is_offered_free p bits at = is_free_at p at && not (busy_at bits at)
+
+abbrev pub offered_free : Pack → List Bool → List ℕ
+offered_free p bits = below (is_offered_free p bits) (pages_of p.shape)
 
 -- a table is true where it is busy exactly at the sectors that aren't free
 abbrev pub IsTrueTable : Pack → List Bool → Type 0

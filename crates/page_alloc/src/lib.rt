@@ -2,19 +2,27 @@
 //!
 //! Below it stand label_check and hint_cache. A sector is *free* where its header is right and its label says so. A table of
 //! busy bits is *true* where it is busy exactly at the sectors that aren't free; a table is a hint, and nothing but the choice
-//! of sectors and the number of sector commands rests on its being true. To the layers above, on a told disk:
-//! 1. What `reserve` answers is distinct, in rising order and free (`count`, `rising`, `free`), and busy in the table from then
-//!    on (`busy`).
-//! 2. With a true table these are the lowest free sectors (`lowest`), found in as many sector commands (`soon`). With any table
-//!    a sector that it has as free is looked at once at most, and then each sector once at most (`runs`).
-//! 3. Full comes exactly where fewer sectors are free than were asked for (`few`, `full`, `counted`).
-//! 4. Any other bit of the table stays, or becomes what its sector's label says, whatever the answer (`others`, `refused`).
-//! 5. Nothing is written, neither by `reserve` nor by `count_free` (`silent`).
+//! of sectors and the number of sector commands rests on its being true. To the layers above, on every disk:
+//! 1. What `reserve` answers is as many addresses as were asked for, distinct and in rising order, of sectors that can carry a
+//!    page (`count`, `rising`), and busy in the table from then on (`busy`).
+//! 2. Full has the number that was asked for and a smaller one (`full`), and a fault comes only where its count rose (`fault`).
+//!
+//! And where the disk is told:
+//! 3. Each sector that is taken is free (`free`). With a true table they are the lowest (`lowest`), found in as many sector
+//!    commands at most (`soon`).
+//! 4. With any table, where enough of the sectors that it has as free are free, only such are looked at (`offered`). For every
+//!    answer each sector is looked at once at most (`runs`), so there is one sweep at most.
+//! 5. Full comes exactly where fewer sectors are free than were asked for, with their number (`few`, `counted`).
+//! 6. Any other bit of the table stays, or becomes what its sector's label says, whatever the answer (`others`, `refused`).
+//! 7. Nothing is written, neither by `reserve` nor by `count_free` (`silent`).
+//!
 //! Not promised: that a taken sector stays free. `claim` checks it again.
 #![tactic(auto)]
 
+mod bits;
 mod count;
 mod errors;
+mod offers;
 mod sweep;
 mod take;
 

@@ -1,19 +1,20 @@
 // Taking free sectors.
-ghost use Rattle.std.specs.Prelude.{◌≡◌, ℕ, not, count_by, ◌+◌, ◌-◌, ◌*◌, ◌<◌, ◌≤◌, ◌⊎◌, true, [], IsTrue, IsErrOf, IfOk, OnOk, OnErr, length, take, All, Contains};
+ghost use Rattle.std.specs.Prelude.{◌≡◌, ℕ, ◌+◌, ◌-◌, ◌*◌, ◌<◌, ◌≤◌, ◌⊎◌, true, [], IsTrue, IsErrOf, IfOk, OnOk, OnErr, length, take, All, Contains};
 ghost use Rattle.disk_records.specs.Addresses.{pages_of};
 ghost use Rattle.disk_records.specs.Packs.{is_free_at};
 ghost use Rattle.disk_records.specs.Tapes.{DiskAlone, Rose, pack, added};
 ghost use Rattle.hint_cache.specs.Bits.{busy_at};
-ghost use Rattle.page_alloc.specs.Free.{free_sectors, IsTrueTable, IsCorrected, IsCorrectedBut, IsRising, IfFull};
+ghost use Rattle.page_alloc.specs.Free.{free_sectors, offered_sectors, offered_free, IsTrueTable, IsCorrected, IsCorrectedBut, IsRising, IfFull};
 ghost use Rattle.page_alloc.specs.Inside.{Looked};
 
 use crate::AllocError;
-use crate::sweep::{gather_offered, sweep};
+use crate::offers::gather_offered;
+use crate::sweep::sweep;
 use disk_records::{Disk, Sector};
 use hint_cache::BitTable;
 use std::alloc::Global;
 
-/// Free sectors in rising order, first of those that the table offers. Where these are too few, all labels are swept.
+/// Free sectors in rising order, first of those that the table offers. Where these are too few, all other labels are swept.
 fn find_free<D: Disk>(
     alloc: Global,
     disk: &mut D,
@@ -22,7 +23,7 @@ fn find_free<D: Disk>(
     buf: &mut Sector,
 ) -> Result<Vec<u16>, AllocError>
     requires sized { length table.old ≡ pages_of (D.tape disk.old).form }
-    ensures looked { Looked D.told (count_by not table.old + (pages_of (D.tape disk.old).form - 1)) (D.tape disk.old) (D.tape disk.new) }
+    ensures looked { Looked D.told (pages_of (D.tape disk.old).form - 1) (D.tape disk.old) (D.tape disk.new) }
     ensures fault { IsErrOf result AllocError.DiskFault → Rose (D.tape disk.old).disk_faults (D.tape disk.new).disk_faults }
     ensures sized { length table.new ≡ length table.old }
     ensures corrected { IsTrue D.told → IsCorrected (pack (D.tape disk.old)) table.old table.new }
@@ -34,12 +35,14 @@ fn find_free<D: Disk>(
     ensures counted { IsTrue D.told → IfFull result (λ needed free. free ≡ length (free_sectors (pack (D.tape disk.old)))) }
     ensures lowest { IsTrue D.told → IsTrueTable (pack (D.tape disk.old)) table.old → IfOk result (λ found. found.items ≡ take wanted (free_sectors (pack (D.tape disk.old)))) }
     ensures soon { IsTrue D.told → IsTrueTable (pack (D.tape disk.old)) table.old → OnOk result ((D.tape disk.new).runs ≤ (D.tape disk.old).runs + wanted) }
+    ensures offered { IsTrue D.told → wanted ≤ length (offered_free (pack (D.tape disk.old)) table.old) → (D.tape disk.new).runs ≤ (D.tape disk.old).runs + length (offered_sectors table.old) }
 {
+    let offers = table.copied()?;
     let offered = gather_offered(alloc, disk, table, wanted, buf)?;
     if offered.len() == wanted as usize {
         return Ok(offered);
     }
-    let swept = sweep(alloc, disk, table, wanted, buf)?;
+    let swept = sweep(alloc, disk, table, &offers, wanted, buf)?;
     if swept.free < wanted {
         return Err(AllocError::Full {
             needed: wanted,
@@ -64,7 +67,8 @@ fn mark_busy(table: &mut BitTable, taken: &[u16])
 /// Takes `n` free sectors: answers their addresses, distinct and in rising order, each read as free in this call, and marks them
 /// as busy in the table. Nothing is written on the disk. The table must have as many bits as the disk has sectors; what they say
 /// is a hint. First the sectors are looked at that the table has as free, until enough are found; where these are too few, all
-/// labels are swept once. With a true table the answer is the lowest free sectors, in at most `n` sector commands.
+/// other labels are swept, so each label is read once at most. With a true table the answer is the lowest free sectors, in at
+/// most `n` sector commands.
 ///
 /// Full: fewer than `n` sectors are free by their labels. DiskFault: the device failed. Memory: no memory was left. After each
 /// of these no sector is taken, and a bit of the table has changed only to what its sector's label says.
@@ -82,9 +86,10 @@ pub fn reserve<D: Disk>(
     ensures busy { IfOk result (λ taken. All (λ at. busy_at table.new at ≡ true) taken.items) }
     ensures free { IsTrue D.told → IfOk result (λ taken. All (λ at. is_free_at (pack (D.tape disk.old)) at ≡ true) taken.items) }
 
-    // With a true table they are the lowest, each found at once.
+    // With a true table they are the lowest, each found at once. With any table whose offers are enough, offers alone are looked at.
     ensures lowest { IsTrue D.told → IsTrueTable (pack (D.tape disk.old)) table.old → IfOk result (λ taken. taken.items ≡ take n (free_sectors (pack (D.tape disk.old)))) }
     ensures soon { IsTrue D.told → IsTrueTable (pack (D.tape disk.old)) table.old → OnOk result ((D.tape disk.new).runs ≤ (D.tape disk.old).runs + n) }
+    ensures offered { IsTrue D.told → n ≤ length (offered_free (pack (D.tape disk.old)) table.old) → (D.tape disk.new).runs ≤ (D.tape disk.old).runs + length (offered_sectors table.old) }
 
     // Full comes exactly where fewer are free, and has both numbers.
     ensures few { IsTrue D.told → length (free_sectors (pack (D.tape disk.old))) < n → OnOk result ⊥ }
@@ -92,10 +97,10 @@ pub fn reserve<D: Disk>(
     ensures counted { IsTrue D.told → IfFull result (λ needed free. free ≡ length (free_sectors (pack (D.tape disk.old)))) }
     ensures fault { IsErrOf result AllocError.DiskFault → Rose (D.tape disk.old).disk_faults (D.tape disk.new).disk_faults }
 
-    // What else changes. Each sector that the table has as free is looked at once, and all sectors once.
+    // What else changes. With any table, and for every answer, each sector but the first is looked at once at most.
     ensures alone { DiskAlone (D.tape disk.old) (D.tape disk.new) }
     ensures silent { IsTrue D.told → added (D.tape disk.old) (D.tape disk.new) ≡ [] }
-    ensures runs { IsTrue D.told → (D.tape disk.new).runs ≤ (D.tape disk.old).runs + (count_by not table.old + (pages_of (D.tape disk.old).form - 1)) }
+    ensures runs { IsTrue D.told → (D.tape disk.new).runs ≤ (D.tape disk.old).runs + (pages_of (D.tape disk.old).form - 1) }
     ensures sized { length table.new ≡ length table.old }
     ensures others { IsTrue D.told → IfOk result (λ taken. IsCorrectedBut (pack (D.tape disk.old)) taken.items table.old table.new) }
     ensures refused { IsTrue D.told → OnErr result (IsCorrected (pack (D.tape disk.old)) table.old table.new) }

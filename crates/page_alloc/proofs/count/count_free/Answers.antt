@@ -18,5 +18,5 @@ loop-at-preserved g c =
       counted = λ told.
           let same = looked_pack c.loop-at.invariant.looked told in
           let here : c.in_ok-is_free.field-0 ≡ is_free_at (pack first) c.loop-at.at = c.in_ok-is_free.ensures.free told ∙ ap (λ p. is_free_at p c.loop-at.at) same in
-          c.counted-free.ensures ∙ count_more (pack first) c.loop-at.at c.loop-at.free c.in_ok-is_free.field-0 (c.loop-at.invariant.counted told) here;
+          c.counted-free.ensures ∙ count_more (is_free_at (pack first)) c.loop-at.at c.loop-at.free c.in_ok-is_free.field-0 (c.loop-at.invariant.counted told) here;
     }

@@ -1,7 +1,8 @@
 use Rattle.std.proofs.Common.{◌≡◌, ◌-◌, ◌<◌, IsTrue, length}
 use Rattle.disk_records.specs.Addresses.{pages_of}
+use Rattle.disk_records.specs.Packs.{is_free_at}
 use Rattle.disk_records.specs.Tapes.{pack}
-use Rattle.page_alloc.specs.Free.{free_below}
+use Rattle.page_alloc.specs.Free.{below}
 use Rattle.page_alloc.specs.Inside.{Looked}
 use Rattle.page_alloc.proofs.count.count_free.Given as goal
 
@@ -13,5 +14,5 @@ invariant-loop-at g l =
       looked : Looked g.D.Tape.told (l.at - 1) old now;
       end : l.end ≡ pages_of old.form;
       few : l.free < l.at;
-      counted : IsTrue g.D.Tape.told → l.free ≡ length (free_below (pack old) l.at);
+      counted : IsTrue g.D.Tape.told → l.free ≡ length (below (is_free_at (pack old)) l.at);
     }
