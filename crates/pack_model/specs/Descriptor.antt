@@ -1,7 +1,7 @@
 -- DiskDescriptor's pages, and the record writes of opening the mark, of a new serial and of closing.
 -- A descriptor with the shape, and the map as a hint, is that of the SOSP 1979 paper; its layout, the mark and the last serial are
 -- this project's choice.
-use Rattle.std.specs.Prelude.{◌≡◌, ℕ, suc, ◌+◌, ◌*◌, ◌/◌, ◌<◌, ◌==◌, Bool, cond, not, List, [], ◌∷◌, ◌++◌, length, slice_get, take, drop, replicate, reverse}
+use Rattle.std.specs.Prelude.{◌≡◌, ℕ, suc, ◌+◌, ◌*◌, ◌/◌, ◌<◌, ◌==◌, Bool, true, false, cond, not, List, [], ◌∷◌, ◌++◌, length, slice_get, take, drop, replicate, reverse}
 use Rattle.alto_words.specs.Fid.{disk_descriptor}
 use Rattle.disk_records.specs.declared.shape.Shape.{Shape}
 use Rattle.disk_records.specs.declared.records.Event.{Event}
@@ -63,18 +63,22 @@ closed_values shape last busy n (at ∷ pages) = (at, descriptor_value shape las
 abbrev pub close_writes : ℕ → Shape → ℕ → List Bool → List ℕ → List Event
 close_writes mark shape last busy pages = cond (mark == mark_clean) [] (values_writes (reverse (closed_values shape last busy 0 pages)))
 
--- each of these record writes is quiet
+-- each of these record writes is quiet: a move says no more of it, and its place and words are those of `close_writes`
 abbrev pub close_moves : {X : Type 0} → ℕ → List X → List Move
 close_moves mark pages = cond (mark == mark_clean) [] (quiet_moves pages)
 
--- the mark once a line with these operations is done
-abbrev pub mark_after : ℕ → List Operation → ℕ
-mark_after mark [] = mark
-mark_after mark (o ∷ ops) = mark_open
+-- the mark that closing finds, once the last operations are done: open where there are some; a session that needs scavenging does none
+abbrev pub mark_after : Bool → ℕ → List Operation → ℕ
+mark_after true mark ops = mark
+mark_after false mark [] = mark
+mark_after false mark (o ∷ ops) = mark_open
 
--- all record writes of the end of a session: those of its last operations, and of closing
-abbrev pub ending_moves : ℕ → Model → List Operation → List Move
-ending_moves mark m ops = line_moves mark m ops ++ close_moves (mark_after mark ops) (units (data_pages m.shape))
+-- All record writes of the end of a session: none where it needs scavenging, and else those of its last operations and of closing.
+-- At a line `quit` they come before `done` is shown, as the record writes of every line come before its text; at the end of the
+-- keys there is no text.
+abbrev pub ending_moves : Bool → ℕ → Model → List Operation → List Move
+ending_moves true mark m ops = []
+ending_moves false mark m ops = line_moves mark m ops ++ close_moves (mark_after false mark ops) (units (data_pages m.shape))
 
 -- ---- what a session keeps of it
 -- It is so on the pack: the shape, the last serial, the mark, and the sectors that bear its data pages, in order.

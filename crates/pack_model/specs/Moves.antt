@@ -29,7 +29,8 @@ IsStartOf [] wanted = Unit {0}
 IsStartOf (x ∷ xs) [] = ⊥
 IsStartOf (x ∷ xs) (w ∷ wanted) = (x ≡ w) × IsStartOf xs wanted
 
--- A call on the pack p that is to make the moves that are wanted: all of them at Ok, and for every answer some first ones.
+-- A call on the pack p that is to make the moves that are wanted: all of them at Ok, and for every answer some first ones. Of moves
+-- that any record write makes it says only how many there are: their sectors and words are left to the call's other clauses.
 pub record Does {M O T E : Type 0} (means : Meaning M O) (p : Pack) (events : List Event) (wanted : List O) (result : Result T E) : Type 0 where
   pub ops : List O
   pub start : IsStartOf ops wanted

@@ -9,7 +9,8 @@ use Rattle.pack_model.specs.Commands.{Claim, claims_writes, releases_writes, val
 
 -- ---- moves
 -- What one record write does to the model: nothing; it commits an operation; it is the last of a scavenge, and the model is that
--- of the mended pack.
+-- of the mended pack. So moves fix how many record writes there are and which of them commit. Which sector a quiet one is in, with
+-- which words, and which quiet one comes first, is said by the lists of record writes below, which the calls' contracts cite.
 pub data Move : Type 0 where
   quiet : Move
   commits : Operation → Move

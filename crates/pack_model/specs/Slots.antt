@@ -101,7 +101,8 @@ pub data Reads : List ℕ → List Item → Type 0 where
   none : Reads [] []
   next : {words w rest : List ℕ} {i : Item} {is : List Item} → words ≡ w ++ rest → IsSlot w i → Reads rest is → Reads words (i ∷ is)
 
--- These are the slots of the longest first part of the words that slots fill to its end.
+-- These are the slots of the longest first part of the words that slots fill to its end. A relation, to be read; the function
+-- `slots` is to give them, as is shown where directories are read.
 pub record ReadsLongest (words : List ℕ) (is : List Item) : Type 0 where
   pub front : List ℕ
   pub rest : List ℕ

@@ -49,13 +49,13 @@ true_table p = map (λ e. not (is_available p.shape (sights p) e)) (numbered 0 (
 abbrev pub TableTrue : Pack → List Bool → Type 0
 TableTrue p busy = busy ≡ true_table p
 
--- the same of free sectors: busy exactly at those that aren't free, on any pack
-abbrev pub free_table : Pack → List Bool
-free_table p = map (λ s. not (is_free_sight s)) (sights p)
-
 -- and so do the words of the one in DiskDescriptor, whose bits past the last sector are 0
 abbrev pub WordsTrue : Pack → Type 0
 WordsTrue p = table_in p ≡ words_of_bits (table_words p.shape) (true_table p)
+
+-- the map of free sectors alone: busy exactly at those that aren't free, on any pack
+abbrev pub free_table : Pack → List Bool
+free_table p = map (λ s. not (is_free_sight s)) (sights p)
 
 -- All links and addresses, the map in DiskDescriptor and the number of free sectors are true.
 pub record HintsTrue (p : Pack) : Type 0 where
