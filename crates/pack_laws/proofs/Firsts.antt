@@ -1,7 +1,7 @@
 -- The first answer of a list: when one place changes, step by step, and the place that bears it.
 use Rattle.std.proofs.Common.{◌≡◌, ℕ, zero, suc, ◌+◌, ◌<◌, ◌≤◌, ◌≢◌, List, [], ◌∷◌, ◌++◌, length, get_or, set, drop, Option, Some, None, refl, sym, ap, ◌∙◌, arith}
 use Rattle.std.specs.Option.{option_or}
-use Rattle.std.proofs.lemmas.List.{at_drop_more, at_drop_all}
+use Rattle.std.proofs.lemmas.List.{at_drop_more, at_drop_all, get_or_default}
 use Rattle.pack_model.specs.Files.{first, Bears}
 use Rattle.pack_laws.specs.FileLaws.{FirstIsBorne}
 
@@ -82,14 +82,19 @@ module _ {S X : Type 0} (answer : S → Option X) where
   first_copy (x ∷ ss) (suc i) zero s d l some = answered (answer x) _ _ some
   first_copy (x ∷ ss) (suc i) (suc j) s d l some = ap (option_or (answer x)) (first_copy ss i j s d (omega arith) some)
 
-  -- an entry comes to answer as all do
-  pub first_equal : (ss : List S) (i : ℕ) (s d : S) → answer (get_or ss i d) ≡ None → answer s ≡ first answer ss → ((k : ℕ) (d : S) → k < i → answer (get_or ss k d) ≡ None) → first answer (set ss i s) ≡ first answer ss
+  -- an entry that didn't answer comes to answer as all do
+  pub first_again : (ss : List S) (i : ℕ) (s d : S) → answer (get_or ss i d) ≡ None → answer s ≡ first answer ss → first answer (set ss i s) ≡ first answer ss
   unfolding first
-  first_equal [] i s d none e low = refl
-  first_equal (x ∷ ss) zero s d none e low = ap (λ r. option_or r (first answer ss)) (e ∙ ap (λ r. option_or r (first answer ss)) none) ∙ same_twice (first answer ss) ∙ sym (ap (λ r. option_or r (first answer ss)) none)
-  first_equal (x ∷ ss) (suc i) s d none e low =
-      let z : answer x ≡ None = low 0 d (omega arith) in
-      ap (option_or (answer x)) (first_equal ss i s d none (e ∙ ap (λ r. option_or r (first answer ss)) z) (λ k d l. low (suc k) d (omega arith)))
+  first_again [] i s d none e = refl
+  first_again (x ∷ ss) zero s d none e =
+      let z : first answer (x ∷ ss) ≡ first answer ss = ap (λ r. option_or r (first answer ss)) none in
+      ap (λ r. option_or r (first answer ss)) (e ∙ z) ∙ same_twice (first answer ss) ∙ sym z
+  first_again (x ∷ ss) (suc i) s d none e = by (answer x) refl e (first_again ss i s d none)
+    where
+      by : (r : Option X) → answer x ≡ r → answer s ≡ option_or r (first answer ss) → (answer s ≡ first answer ss → first answer (set ss i s) ≡ first answer ss)
+          → option_or (answer x) (first answer (set ss i s)) ≡ option_or (answer x) (first answer ss)
+      by None is e again = ap (option_or (answer x)) (again e)
+      by (Some y) is e again = ap (λ r. option_or r (first answer (set ss i s))) is ∙ sym (ap (λ r. option_or r (first answer ss)) is)
 
 -- ---- a step through a list
 module _ {S X : Type 0} (answer : S → Option X) where
@@ -158,3 +163,17 @@ module _ {S X : Type 0} (answer : S → Option X) where
   -- both ways
   pub first_is_borne : (ss : List S) → FirstIsBorne answer ss
   first_is_borne ss = record { given = first_of_bears ss; borne = bears_of_first ss }
+
+module _ {S X : Type 0} (answer : S → Option X) where
+  -- the next one that answers gives the same answer, and so the first one may go
+  pub first_moves : (ss : List S) (i j : ℕ) (s d : S) (x : X) → i < j → j < length ss → answer (get_or ss i d) ≡ Some x → answer (get_or ss j d) ≡ Some x → ((k : ℕ) (e : S) → i < k → k < j → answer (get_or ss k e) ≡ None) → answer s ≡ None → first answer (set ss i s) ≡ first answer ss
+  unfolding first
+  first_moves [] i j s d x l w here there none e = refl
+  first_moves (y ∷ ss) zero zero s d x l w here there none e = absurd (omega arith)
+  first_moves (y ∷ ss) zero (suc j) s d x l w here there none e =
+      ap (λ r. option_or r (first answer ss)) e
+      ∙ first_of_bears answer ss j x (record { within = omega arith; answers = λ c. ap answer (get_or_default ss j c d (omega arith)) ∙ there; lowest = λ k c m. none (suc k) c (omega arith) (omega arith) })
+      ∙ sym (ap (λ r. option_or r (first answer ss)) here)
+  first_moves (y ∷ ss) (suc i) zero s d x l w here there none e = absurd (omega arith)
+  first_moves (y ∷ ss) (suc i) (suc j) s d x l w here there none e =
+      ap (option_or (answer y)) (first_moves ss i j s d x (omega arith) (omega arith) here there (λ k c m n. none (suc k) c (omega arith) (omega arith)) e)

@@ -30,7 +30,7 @@ unfolding in_range is_free
 free_out_of_range t none = grind (arith, nat_tests)
 
 -- what a label that names a page shows
-named_shown : (label value : List ℕ) (page : Page) → page_of label ≡ Some page → tag_sight (tag label) value ≡ page_sight page.fid page.number (tag label).bytes value
+pub named_shown : (label value : List ℕ) (page : Page) → page_of label ≡ Some page → tag_sight (tag label) value ≡ page_sight page.fid page.number (tag label).bytes value
 named_shown label value page names =
     let parts = cond_some (in_range (tag label)) _ page names in
     ap (λ b. cond b (page_sight (tag label).fid (tag label).page (tag label).bytes value) (cond (is_free (tag label)) free stray)) parts.0
@@ -39,11 +39,11 @@ named_shown label value page names =
 named_taken : (label : List ℕ) (page : Page) → page_of label ≡ Some page → is_free (tag label) ≡ false
 named_taken label page names = in_range_taken (tag label) (cond_some (in_range (tag label)) _ page names).0
 
-free_shown : (t : Tag) (value : List ℕ) → is_free t ≡ true → tag_sight t value ≡ free
+pub free_shown : (t : Tag) (value : List ℕ) → is_free t ≡ true → tag_sight t value ≡ free
 free_shown t value none =
     ap (λ b. cond b (page_sight t.fid t.page t.bytes value) (cond (is_free t) free stray)) (free_out_of_range t none) ∙ ap (λ b. cond b free stray) none
 
-free_unnamed : (label : List ℕ) → is_free (tag label) ≡ true → page_of label ≡ None
+pub free_unnamed : (label : List ℕ) → is_free (tag label) ≡ true → page_of label ≡ None
 free_unnamed label none = ap (λ b. cond b (Some (record { fid = (tag label).fid; number = (tag label).page })) None) (free_out_of_range (tag label) none)
 
 -- ---- usable sectors
@@ -61,7 +61,7 @@ usable_within p at usable = elim (within_or_none p.sectors at) [ inl l ↦ l | i
     none shape usable = let above = real_of-above shape at in grind (arith, nat_tests)
 
 -- what a usable sector shows
-usable_shown : (shape : Shape) (at : ℕ) (s : Sector) → is_usable shape at s ≡ true → sight shape at s ≡ tag_sight (tag s.label) s.value
+pub usable_shown : (shape : Shape) (at : ℕ) (s : Sector) → is_usable shape at s ≡ true → sight shape at s ≡ tag_sight (tag s.label) s.value
 unfolding sight
 usable_shown shape at s usable = ap (λ b. cond b (tag_sight (tag s.label) s.value) hidden) usable
 
@@ -82,10 +82,10 @@ free_parts p at is = usable_free (is_usable p.shape at (sector_at p at)) (is_fre
 
 -- ---- one record write
 module _ (p : Pack) (at part : ℕ) (words : List ℕ) where
-  other_kept : (i : ℕ) → i ≢ at → sector_at (after p (Wrote at part words ∷ [])) i ≡ sector_at p i
+  pub other_kept : (i : ℕ) → i ≢ at → sector_at (after p (Wrote at part words ∷ [])) i ≡ sector_at p i
   other_kept i other = get_or-set_other p.sectors at i (with_part part words (sector_at p at)) no_sector other
 
-  here_written : at < length p.sectors → sector_at (after p (Wrote at part words ∷ [])) at ≡ with_part part words (sector_at p at)
+  pub here_written : at < length p.sectors → sector_at (after p (Wrote at part words ∷ [])) at ≡ with_part part words (sector_at p at)
   here_written l = get_or-set_same p.sectors at (with_part part words (sector_at p at)) no_sector l
 
 -- the page and the freedom of a sector, by its header and its label
@@ -96,7 +96,7 @@ abbrev free_on : Shape → ℕ → List ℕ → List ℕ → Bool
 free_on shape at header label = cond (nat_lt 0 at && is_right_header shape at header) (is_free (tag label)) false
 
 -- a value write leaves headers and labels
-front_from : (sectors : List Sector) (at i : ℕ) (value : List ℕ) → let s = get_or (set sectors at (with_part 2 value (get_or sectors at no_sector))) i no_sector in (s.header ≡ (get_or sectors i no_sector).header) × (s.label ≡ (get_or sectors i no_sector).label)
+pub front_from : (sectors : List Sector) (at i : ℕ) (value : List ℕ) → let s = get_or (set sectors at (with_part 2 value (get_or sectors at no_sector))) i no_sector in (s.header ≡ (get_or sectors i no_sector).header) × (s.label ≡ (get_or sectors i no_sector).label)
 front_from [] at i value = (refl, refl)
 front_from (s ∷ sectors) zero zero value = (refl, refl)
 front_from (s ∷ sectors) zero (suc i) value = (refl, refl)

@@ -1,3 +1,4 @@
+pub mod ByLists
 pub mod Bytes
 pub mod Carrying
 pub mod Filing
@@ -8,19 +9,12 @@ pub mod Joining
 pub mod Keys
 pub mod Lining
 pub mod Mapping
-pub mod MisledVectors
 pub mod Moving
-pub mod PackVectors
 pub mod Paging
 pub mod Placing
 pub mod Putting
 pub mod Serials
-pub mod ShownVectors
 pub mod Sighted
-pub mod StateVectors
-pub mod StepVectors
 pub mod Storing
 pub mod Talking
-pub mod UseVectors
-pub mod Vectors
-pub mod WriteVectors
+pub mod Uses

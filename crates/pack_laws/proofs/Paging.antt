@@ -48,7 +48,7 @@ put_fits ss f offset count bytes short h e one all =
     by size (inr full) = omega arith
 
 -- another number is another page
-other_number : (b : Bool) (n k : ℕ) → n ≢ k → (b && n == k) ≡ false
+pub other_number : (b : Bool) (n k : ℕ) → n ≢ k → (b && n == k) ≡ false
 other_number false n k e = refl
 other_number true n k e = ne_eqb n k e
 

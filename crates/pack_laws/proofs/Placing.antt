@@ -171,7 +171,7 @@ pub record IsPageAt (ss : List Sight) (f : Fid) (n at : ℕ) : Type 0 where
   pub bears : Bears (page_at f n) ss at bytes
 
 -- no answer
-none_of_false : {X : Type 0} (r : Option X) → is_some r ≡ false → r ≡ None
+pub none_of_false : {X : Type 0} (r : Option X) → is_some r ≡ false → r ≡ None
 none_of_false None e = refl
 none_of_false (Some x) e = cc
 

@@ -19,7 +19,7 @@ use Rattle.pack_laws.proofs.Placing.{IsPageAt, data_page_of_place, short_pages}
 use Rattle.pack_laws.proofs.Paging.{page_fits, put_shown}
 
 -- the sector with bytes in place in its value shows its page with these bytes in place
-value_put : (p : Pack) (at n r : ℕ) (f : Fid) (new : List ℕ) (h : IsPageAt (sights p) f n at) → r + length new ≤ length h.bytes → All (λ b. b < 256) new
+pub value_put : (p : Pack) (at n r : ℕ) (f : Fid) (new : List ℕ) (h : IsPageAt (sights p) f n at) → r + length new ≤ length h.bytes → All (λ b. b < 256) new
     → sights (after p (Wrote at 2 (words_of (put_at r new (bytes_of (sector_at p at).value))) ∷ [])) ≡ set (sights p) at (holds f n (put_at r new h.bytes))
 value_put p at n r f new h fits below =
     let l : at < length p.sectors = subst (λ k. at < k) (length-sights p) h.within in

@@ -1,5 +1,5 @@
 -- Turns one after another, their cuts, and what is acknowledged.
-use Rattle.std.proofs.Common.{◌≡◌, ◌≢◌, ℕ, ◌+◌, ◌-◌, ◌<◌, ◌≤◌, zero, suc, List, [], ◌∷◌, ◌++◌, length, take, drop, refl, sym, subst, ◌∙◌, ap, inl, inr, arith, Result, Ok, Err, OnOk, Bool, true, false, cond, add-one, append_assoc, le_trans, length-append, length-drop, sum_by, ◌&&◌, ◌⊎◌, Some, slice_get}
+use Rattle.std.proofs.Common.{◌≡◌, ◌≢◌, ℕ, ◌+◌, ◌-◌, ◌<◌, ◌≤◌, zero, suc, List, [], ◌∷◌, ◌++◌, length, take, drop, refl, sym, subst, ◌∙◌, ap, inl, inr, arith, Result, Ok, Err, Bool, true, false, cond, add-one, append_assoc, le_trans, length-append, length-drop, sum_by, ◌&&◌, ◌⊎◌, Some, slice_get}
 use Rattle.std.proofs.lemmas.Bool.{cases_lt}
 use Rattle.std.proofs.lemmas.Option.{same_Some}
 use Rattle.std.proofs.lemmas.List.{take-append-le, take_all, append-nil}
@@ -12,7 +12,7 @@ use Rattle.disk_records.specs.Packs.{Pack, after, cut}
 use Rattle.disk_records.specs.Tapes.{Taped, Grown, pack, added}
 use Rattle.disk_records.proofs.Growing.{after-append, after-shown, shown-append, shown-events, writes-append, writes-shown, added-twice, nothing_added, pack-after}
 use Rattle.pack_model.specs.Moves.{Meaning, steps, Obeys, rest, write, IsStartOf, Does}
-use Rattle.pack_model.specs.Turns.{Turn, ops_of, texts_of, Talks, begun, spoken, BrokeOff, MadeBy, IsTurn, is_whole, acknowledged, ruler, CutAt, moves_at}
+use Rattle.pack_model.specs.Turns.{Turn, ops_of, texts_of, Talks, begun, spoken, IsTurn, is_whole, acknowledged, ruler, CutAt, moves_at}
 use Rattle.pack_laws.specs.Made.{AllMade}
 use Rattle.pack_laws.specs.TurnLaws.{acknowledged_moves, RisesByMove}
 use Rattle.pack_laws.proofs.Moving.{stands_last, obeys_cut, steps-append, start_self, start_after, start_within}

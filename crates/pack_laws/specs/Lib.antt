@@ -1,6 +1,6 @@
-pub mod PutLaws
-pub mod Least
-pub mod Made
-pub mod TurnLaws
 pub mod FileLaws
 pub mod GuardLaws
+pub mod Least
+pub mod Made
+pub mod PutLaws
+pub mod TurnLaws

@@ -1,0 +1,113 @@
+-- What is needed and what is available, by the room of the mended pack.
+use Rattle.std.proofs.Common.{◌*◌, ◌++◌, ◌+◌, ◌∙◌, ◌∷◌, ◌≡◌, ◌≤◌, Bool, Equal, Greater, Less, List, None, Option, Some, [], ap, arith, cond, false, refl, sym, true, ℕ}
+use Rattle.std.specs.FinMap.{FinMap, entries, entries-insert, entries_sorted, find, get, get-entries, get-retain_keys, insert, retain_keys}
+use Rattle.std.specs.FinMap.Entries.{by_order, find-where_key, is_sorted-where_key, put, same_entries, where_key}
+use Rattle.std.specs.Option.{is_some, option_map}
+use Rattle.std.specs.Ordering.{is_eq}
+use Rattle.alto_words.specs.Fid.{disk_descriptor, fid_cmp, sys_dir}
+use Rattle.alto_words.specs.declared.fid.Fid.{Fid}
+use Rattle.disk_records.specs.declared.shape.Shape.{Shape}
+use Rattle.pack_model.specs.Bodies.{Body, File, Files, body_length, described, found, is_described, pages_for}
+use Rattle.pack_model.specs.Bodies.Body.{data_of, items_of}
+use Rattle.pack_model.specs.Files.{file_bytes, leader, lives, page}
+use Rattle.pack_model.specs.InUse.{available}
+use Rattle.pack_model.specs.Leaders.{Leader}
+use Rattle.pack_model.specs.Mended.{HasRoom, mended, needs, root_body, root_file, rooted, with_system}
+use Rattle.pack_model.specs.Model.{descriptor_pages, files_pages, good_sectors}
+use Rattle.pack_model.specs.Namings.{Naming, body_kept, files_kept, is_kept, items_kept, kept_after_body, kept_by}
+use Rattle.pack_model.specs.Needed.{needed}
+use Rattle.pack_model.specs.Sights.{Sight}
+use Rattle.pack_model.specs.Slots.{Item, all_words, item_words}
+use Rattle.pack_model.specs.Slots.Item.{entry, space}
+use Rattle.count_laws.proofs.Counting.{available_is}
+use Rattle.count_laws.proofs.Totals.{all_files, without_descriptor}
+use Rattle.pack_laws.proofs.Joining.{AreShort}
+use Rattle.pack_laws.proofs.Keys.{fid_same, fid_total}
+use Rattle.record_laws.proofs.Around.{around}
+use Rattle.record_laws.proofs.Keeping.{get-where}
+use Rattle.record_laws.proofs.Mending.{entries-tidied}
+use Rattle.record_laws.proofs.Reading.{get-found, read_file}
+
+-- ---- the scan keeps the words
+-- words of items, whichever of them are kept
+pub items_words : (ok : List Naming → Naming → Bool) (d : Fid) (b : List Naming) (is : List Item) → all_words (items_kept ok d b is) ≡ all_words is
+items_words ok d b [] = refl
+items_words ok d b (space n ∷ is) = ap (λ k. n + k) (items_words ok d b is)
+items_words ok d b (entry f name ∷ is) =
+    let r = items_words ok d (kept_by ok d b (entry f name)) is in
+    ap (λ k. k + all_words (items_kept ok d (kept_by ok d b (entry f name)) is)) (one (ok b (record { dir = d; name = name; fid = f }))) ∙ ap (λ k. item_words (entry f name) + k) r
+  where
+    one : (c : Bool) → item_words (cond c (entry f name) (space (item_words (entry f name)))) ≡ item_words (entry f name)
+    one true = refl
+    one false = refl
+
+-- so each file keeps its pages
+kept_pages : (ok : List Naming → Naming → Bool) (b : List Naming) (es : List (Fid × File)) → files_pages (files_kept ok b es) ≡ files_pages es
+kept_pages ok b [] = refl
+kept_pages ok b (e ∷ es) = let h = ap pages_for (one e.1.body) in let r = kept_pages ok (kept_after_body ok e.0 b e.1.body) es in omega arith
+  where
+    one : (x : Body) → body_length (body_kept ok e.0 b x) ≡ body_length x
+    one (data_of bytes) = refl
+    one (items_of is) = ap (λ n. n * 2) (items_words ok e.0 b is)
+
+-- the pages of files one after another
+pages-append : (a b : List (Fid × File)) → files_pages (a ++ b) ≡ files_pages a + files_pages b
+pages-append [] b = omega arith
+pages-append (e ∷ a) b = let h = pages-append a b in omega arith
+
+-- one file changes by so many pages
+pub pages_around : (files : Files) (d : Fid) (x y : File) (m : ℕ) → get files d ≡ Some x → pages_for (body_length y.body) ≡ m + pages_for (body_length x.body) → files_pages (entries (insert files d y)) ≡ m + files_pages (entries files)
+pages_around files d x y m is e =
+    let r = around fid_total fid_same files d x is in
+    let p = pages-append r.front ((d, y) ∷ r.back) in
+    let q = pages-append r.front ((d, x) ∷ r.back) in
+    let now = ap files_pages (entries-insert fid_total files d y ∙ r.now y) in
+    let was = ap files_pages r.was in
+    omega arith
+
+-- the entries whose key passes
+entries-where : {X : Type 0} (m : FinMap fid_cmp X) (p : Fid → Bool) → entries (retain_keys m p) ≡ where_key fid_cmp p (entries m)
+entries-where m p = same_entries fid_cmp fid_total fid_same _ _ (entries_sorted (retain_keys m p)) (is_sorted-where_key fid_cmp p (entries m) (entries_sorted m)) (λ q.
+    sym (get-entries (retain_keys m p) q) ∙ get-retain_keys m p q (λ x e. ap p (sym (fid_same q x e))) ∙ ap (λ r. cond (p q) r None) (get-entries m q)
+    ∙ sym (find-where_key fid_cmp p q (λ x e. ap p (sym (fid_same q x e))) (entries m)))
+
+-- ---- SysDir's pages where it doesn't live
+-- a file more has its pages more
+put_pages : (es : List (Fid × File)) (f : Fid) (x : File) → find fid_cmp f es ≡ None → files_pages (put fid_cmp f x es) ≡ pages_for (body_length x.body) + files_pages es
+put_pages [] f x none = refl
+put_pages (e ∷ es) f x none = elim (fid_cmp f e.0) as (λ r. cond (is_eq r) (Some e.1) (find fid_cmp f es) ≡ None → files_pages (by_order r ((f, x) ∷ e ∷ es) ((e.0, x) ∷ es) (e ∷ put fid_cmp f x es)) ≡ pages_for (body_length x.body) + files_pages (e ∷ es)) [
+  | Less ↦ λ n. refl
+  | Equal ↦ λ n. absurd (let m : Some e.1 ≡ None = n in cc)
+  | Greater ↦ λ n. let h = put_pages es f x n in omega arith
+] none
+
+-- SysDir has two pages where it doesn't live
+rooted_pages : (files : Files) → files_pages (entries (rooted files)) ≡ files_pages (entries files) + cond (is_some (get files sys_dir)) 0 2
+rooted_pages files = by (get files sys_dir) refl
+  where
+    by : (r : Option File) → get files sys_dir ≡ r → files_pages (entries (insert files sys_dir (root_file (root_body r)))) ≡ files_pages (entries files) + cond (is_some r) 0 2
+    by (Some x) e = let h = pages_around files sys_dir x (root_file x.body) 0 e (omega arith) in omega arith
+    by None e = let h = ap files_pages (entries-insert fid_total files sys_dir (root_file (root_body None))) ∙ put_pages (entries files) sys_dir (root_file (root_body None)) (sym (get-entries files sys_dir) ∙ e) in omega arith
+
+-- needed and available, by the sum of pages of the mended pack
+pub needed_is : (shape : Shape) (ss : List Sight) → ((f : Fid) → AreShort (page ss f)) → available shape ss + (needs (mended shape ss) + descriptor_pages shape) ≡ needed shape ss + good_sectors ss
+unfolding needed needs mended
+needed_is shape ss short =
+    let a = available_is shape ss in
+    let b = all_files shape ss short in
+    let c = without_descriptor shape ss short (entries (found ss)) (entries_sorted (found ss)) in
+    let d : files_pages (entries (described ss)) ≡ files_pages (where_key fid_cmp is_described (entries (found ss))) = ap files_pages (entries-where (found ss) is_described) in
+    let e = rooted_pages (described ss) in
+    let f : files_pages (entries (mended shape ss).files) ≡ files_pages (entries (rooted (described ss))) = ap files_pages (entries-tidied (with_system (lives ss)) (rooted (described ss))) ∙ kept_pages (is_kept (with_system (lives ss))) [] (entries (rooted (described ss))) in
+    let g : ◌≡◌ {A = ℕ} (cond {A = ℕ} (is_some (get (described ss) sys_dir)) 0 2) (cond {A = ℕ} (lives ss sys_dir) 0 2) = ap (λ b. cond {A = ℕ} b 0 2) (ap is_some (get-where (found ss) is_described sys_dir ∙ get-found ss sys_dir) ∙ map_some sys_dir (file_bytes ss sys_dir) (leader ss sys_dir)) in
+    let h : ◌≡◌ {A = ℕ} (cond {A = ℕ} (is_some (find fid_cmp disk_descriptor (entries (found ss)))) 0 (descriptor_pages shape)) (cond {A = ℕ} (lives ss disk_descriptor) 0 (descriptor_pages shape)) = ap (λ b. cond {A = ℕ} b 0 (descriptor_pages shape)) (ap is_some (sym (get-entries (found ss) disk_descriptor) ∙ get-found ss disk_descriptor) ∙ map_some disk_descriptor (file_bytes ss disk_descriptor) (leader ss disk_descriptor)) in
+    omega arith
+  where
+    map_some : (f : Fid) (bytes : List ℕ) (r : Option Leader) → is_some (option_map (read_file f bytes) r) ≡ is_some r
+    map_some f bytes None = refl
+    map_some f bytes (Some x) = refl
+
+-- there is room where needed is at most the available
+pub room_is : (shape : Shape) (ss : List Sight) → ((f : Fid) → AreShort (page ss f)) → (HasRoom (mended shape ss) → needed shape ss ≤ available shape ss) × (needed shape ss ≤ available shape ss → HasRoom (mended shape ss))
+unfolding mended
+room_is shape ss short = let e = needed_is shape ss short in (λ h. omega arith, λ h. omega arith)

@@ -1,0 +1,4 @@
+pub mod CountLaws
+pub mod KeepLaws
+pub mod MarkLaws
+pub mod NextLaws

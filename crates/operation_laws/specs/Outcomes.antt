@@ -1,0 +1,51 @@
+-- What the record writes of a whole operation do to a whole and tidy pack.
+use Rattle.std.specs.Prelude.{◌≡◌, ◌↔◌, List, take, ℕ}
+use Rattle.alto_words.specs.Fid.{disk_descriptor}
+use Rattle.disk_records.specs.Packs.{Pack, after, cut}
+use Rattle.disk_records.specs.declared.records.Event.{Event}
+use Rattle.disk_records.specs.declared.shape.Shape.{Shape}
+use Rattle.pack_model.specs.Committing.{moves_of}
+use Rattle.pack_model.specs.Descriptor.{DescriptorFits}
+use Rattle.pack_model.specs.Files.{file_bytes, place}
+use Rattle.pack_model.specs.Meanings.{Meets, Sees, Views, viewing}
+use Rattle.pack_model.specs.Model.{read_pack}
+use Rattle.pack_model.specs.Moves.{steps}
+use Rattle.pack_model.specs.Operations.{Move}
+use Rattle.pack_model.specs.Sights.{sights}
+use Rattle.pack_model.specs.Sound.{Clean}
+use Rattle.pack_model.specs.Step.{Operation, step}
+
+-- ---- DiskDescriptor stays
+-- Its pages are borne by the same sectors, its bytes are the same, and so are the last serial and the mark.
+pub record KeepsDescriptor (p q : Pack) : Type 0 where
+  pub places : (n : ℕ) → place (sights q) disk_descriptor n ≡ place (sights p) disk_descriptor n
+  pub bytes : file_bytes (sights q) disk_descriptor ≡ file_bytes (sights p) disk_descriptor
+  pub clean : Clean p ↔ Clean q
+
+-- and what a session keeps of it is so still, where the last serial stands
+abbrev pub StillFits : Pack → Pack → Type 0
+StillFits p q = (shape : Shape) (last mark : ℕ) (pages : List ℕ) → DescriptorFits p shape last mark pages → DescriptorFits q shape last mark pages
+
+-- ---- views
+-- each cut is viewed as the model after as many moves as it has record writes: the old one before the committing record, and the
+-- stepped one from it on
+abbrev pub CutsAreViewed : Pack → List Event → List Move → Type 0
+CutsAreViewed p events moves = (k : ℕ) → Views (steps viewing (read_pack p) (take k moves)) (cut p events k)
+
+-- ---- operations
+-- These record writes, in order, are the operation: each makes its move and each cut is read as the model there, so one of them
+-- commits it and the others are quiet; afterwards the pack is read as the stepped model, and is whole and tidy again.
+pub record CarriesOut (p : Pack) (events : List Event) (o : Operation) : Type 0 where
+  pub meets : Meets p events (moves_of (read_pack p) o)
+  pub cuts : CutsAreViewed p events (moves_of (read_pack p) o)
+  pub ends : read_pack (after p events) ≡ step (read_pack p) o
+  pub descriptor : KeepsDescriptor p (after p events)
+  pub fits : StillFits p (after p events)
+
+-- The same where a quiet record write changes what is read and not what is viewed.
+pub record IsSeenAs (p : Pack) (events : List Event) (o : Operation) : Type 0 where
+  pub sees : Sees p events (moves_of (read_pack p) o)
+  pub cuts : CutsAreViewed p events (moves_of (read_pack p) o)
+  pub ends : read_pack (after p events) ≡ step (read_pack p) o
+  pub descriptor : KeepsDescriptor p (after p events)
+  pub fits : StillFits p (after p events)

@@ -1,0 +1,98 @@
+-- What a leader's sector shows of a label with another count, and the pages of DiskDescriptor where it has two.
+use Rattle.std.proofs.Common.{◌≡◌, ℕ, Bool, true, false, List, [], ◌∷◌, ◌++◌, refl, arith}
+use Rattle.std.specs.Prelude.{◌-◌, ◌≤◌, codes, replicate, length, take, drop, get_or}
+use Rattle.std.specs.Fmt.{digits}
+use Rattle.alto_words.specs.declared.fid.Fid.{Fid}
+use Rattle.alto_words.specs.Fid.{ordinary_fid}
+use Rattle.alto_words.specs.Names.{lost, is_stored_name}
+use Rattle.disk_records.specs.declared.shape.Shape.{Shape}
+use Rattle.disk_records.specs.declared.records.Sector.{Sector}
+use Rattle.disk_records.specs.Addresses.{real_of, descriptor_length}
+use Rattle.disk_records.specs.Labels.{in_range, is_free}
+use Rattle.pack_model.specs.Bytes.{words_of}
+use Rattle.pack_model.specs.Leaders.{Leader, leader_of, leader_name, is_readable}
+use Rattle.pack_model.specs.Sights.{sight}
+use Rattle.pack_model.specs.Sights.Sight.{leads}
+use Rattle.pack_model.specs.Descriptor.{data_pages, descriptor_value}
+use Rattle.pack_model.specs.Format.{format_page, formatted_sectors, sectors_used}
+use Rattle.pack_vectors.proofs.SmallPacks.{small}
+
+abbrev file_3 : Fid
+file_3 = ordinary_fid 3
+
+-- ---- leader sectors
+-- page 0 of #3 in sector 1, whose label counts 7 bytes; the name's words begin with these bytes, and the dates are 1000
+abbrev leader_sector : List ℕ → Sector
+leader_sector bytes = record {
+  header = 9 ∷ 4096 ∷ [];
+  label = 65535 ∷ 65535 ∷ 0 ∷ 7 ∷ 0 ∷ 1 ∷ 0 ∷ 3 ∷ [];
+  value = 0 ∷ 1000 ∷ 0 ∷ 1000 ∷ 0 ∷ 1000 ∷ (words_of (bytes ++ replicate (40 - length bytes) 0) ++ replicate 230 0);
+}
+
+abbrev lost_3 : Leader
+lost_3 = record { created = 1000; written = 1000; read = 1000; name = codes "Lost3."; rest = replicate 220 0 }
+
+-- a name of one character can't be read, nor can one of 40, or one with a mark; a stored name may spell the lost one, and can be
+-- read. A leader is one whatever its label counts
+flags :
+    (sight small 1 (leader_sector (1 ∷ codes ".")) ≡ leads file_3 false lost_3)
+    × (sight small 1 (leader_sector (40 ∷ codes "A.")) ≡ leads file_3 false lost_3)
+    × (sight small 1 (leader_sector (3 ∷ codes "A!.")) ≡ leads file_3 false lost_3)
+    × (sight small 1 (leader_sector (6 ∷ codes "Lost3.")) ≡ leads file_3 true lost_3)
+unfolding sight real_of in_range is_free leader_of leader_name is_readable is_stored_name lost digits
+flags = (refl, refl, refl, refl)
+
+-- ---- DiskDescriptor in two data pages: model 31, and 3,840 pages, where the first one is full and the second is empty
+abbrev shape_of : (cylinders : ℕ) → 2 ≤ cylinders → cylinders ≤ 203 → Shape
+shape_of cylinders least most = record { disks = 1; cylinders = cylinders; one_disk = refl; least = least; most = most }
+
+abbrev model_31 : Shape
+model_31 = shape_of 203 (omega arith) (omega arith)
+
+abbrev model_160 : Shape
+model_160 = shape_of 160 (omega arith) (omega arith)
+
+abbrev model_159 : Shape
+model_159 = shape_of 159 (omega arith) (omega arith)
+
+page_numbers :
+    (descriptor_length model_160 ≡ 512)
+    × (data_pages model_160 ≡ 2)
+    × (sectors_used model_160 ≡ 6)
+    × (descriptor_length model_159 ≡ 510)
+    × (data_pages model_159 ≡ 1)
+    × (data_pages model_31 ≡ 2)
+page_numbers = (refl, refl, refl, refl, refl, refl)
+
+-- the leader is in sector 3, the pages are in 4 and 5: each names its neighbours
+page_labels :
+    ((format_page model_31 0).0 ≡ 20480 ∷ 12288 ∷ 0 ∷ 512 ∷ 1 ∷ 1 ∷ 0 ∷ 2 ∷ [])
+    × ((format_page model_31 1).0 ≡ 65535 ∷ 16384 ∷ 0 ∷ 130 ∷ 2 ∷ 1 ∷ 0 ∷ 2 ∷ [])
+    × ((format_page model_160 0).0 ≡ 20480 ∷ 12288 ∷ 0 ∷ 512 ∷ 1 ∷ 1 ∷ 0 ∷ 2 ∷ [])
+    × ((format_page model_160 1).0 ≡ 65535 ∷ 16384 ∷ 0 ∷ 0 ∷ 2 ∷ 1 ∷ 0 ∷ 2 ∷ [])
+    × ((format_page model_159 0).0 ≡ 65535 ∷ 12288 ∷ 0 ∷ 510 ∷ 1 ∷ 1 ∷ 0 ∷ 2 ∷ [])
+unfolding real_of
+page_labels = (refl, refl, refl, refl, refl)
+
+-- six sectors are busy; the map's words from sector 3,840 on are in the second page: all of them are free
+page_values :
+    (take 18 (format_page model_31 0).1 ≡ 1 ∷ 203 ∷ 2 ∷ 12 ∷ 0 ∷ 2 ∷ 1 ∷ 4866 ∷ 305 ∷ 0 ∷ 0 ∷ 0 ∷ 0 ∷ 0 ∷ 0 ∷ 0 ∷ 64512 ∷ 0 ∷ [])
+    × ((format_page model_31 1).1 ≡ replicate 256 0)
+    × ((format_page model_160 1).1 ≡ replicate 256 0)
+page_values = (refl, refl, refl)
+
+-- where sectors 3,824, 3,840 and 3,841 are busy, the first page ends and the second one begins with their bits
+abbrev late : List Bool
+late = replicate 3824 false ++ true ∷ (replicate 15 false ++ true ∷ true ∷ replicate 1030 false)
+
+late_values :
+    (drop 254 (descriptor_value model_31 2 1 late 0) ≡ 0 ∷ 32768 ∷ [])
+    × (descriptor_value model_31 2 1 late 1 ≡ 49152 ∷ replicate 255 0)
+late_values = (refl, refl)
+
+-- DiskDescriptor's leader has true hints of its last page: the sector, the number and the bytes
+abbrev last_hints : Shape → List ℕ
+last_hints shape = drop 253 (get_or (take 4 (formatted_sectors shape 1000)) 3 ([], [])).1
+
+leader_hints : (last_hints model_31 ≡ 5 ∷ 2 ∷ 130 ∷ []) × (last_hints model_160 ≡ 5 ∷ 2 ∷ 0 ∷ []) × (last_hints small ≡ 4 ∷ 1 ∷ 38 ∷ [])
+leader_hints = (refl, refl, refl)

@@ -1,0 +1,13 @@
+//! The laws of an entry that comes into a directory, on any pack.
+
+ghost use Rattle.record_laws.specs.EnterLaws.{EnterIsTheStep, NextEntry};
+
+/// The write of an entry's first words is the operation: afterwards the pack is read as the model with the entry in its room, where the file lives, the entry fits, and neither the file nor the name stands anywhere.
+pub fn entry_is_the_step()
+    ensures { EnterIsTheStep }
+{}
+
+/// The entry that gives the first nameless file the name that settling gives it leaves what is shown.
+pub fn next_name_that_settling_gives()
+    ensures { NextEntry }
+{}
