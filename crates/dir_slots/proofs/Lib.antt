@@ -1,0 +1,9 @@
+pub mod Words
+pub mod Names
+pub mod Entries
+pub mod Heads
+pub mod Slots
+pub mod Longest
+pub mod Writing
+pub mod Rooms
+pub mod Rows

@@ -1,0 +1,34 @@
+//! The slots of a directory, between words and values.
+//!
+//! Below it stand alto_words, disk_records and pack_model. A directory's words are its bytes in pairs, read as slots from word 0 on. Of a slot,
+//!   word 0: its type times 1,024, and its length in words
+//! and where the type is 0, it is a free slot of 1 to 1,023 words, of which the others may be any; where it is 1, the entry of a
+//! file under a name of n characters, of 6 + (n + 2)/2 words, rounded down:
+//!   words 1, 2: the serial, the high word first
+//!   word 3: the version
+//!   word 4: 0
+//!   word 5: the virtual address of the file's leader: a hint
+//!   from word 6 on: a byte with n, the characters, and a byte 0 where these are odd
+//! Contracts see a slot as an item of pack_model, and its address apart. To the layers above:
+//! 1. `read_slots` gives exactly the slots of the longest first part that can be read (`items`, and the law `longest_is_read`).
+//! 2. What `write_slots` wrote is read back whole (`back`, and the law `reads_back`).
+//! 3. `slot_here` reads one slot from 26 words at most, and so from a page at a time.
+//! 4. `find_room` answers the first room for an entry, and None exactly where no free slots in a row have so many words.
+//! Not promised: that an address is that of the leader. Who follows one checks it by the label that stands there.
+#![tactic(auto)]
+
+mod codec;
+pub mod laws;
+mod read;
+mod room;
+mod slot;
+mod write;
+
+pub use codec::slot_here;
+pub use read::read_slots;
+pub use room::{Room, find_room, largest_run};
+pub use slot::{MAX_ENTRY_WORDS, MAX_FREE_WORDS, Slot, entry_words};
+pub use write::write_slots;
+
+#[cfg(test)]
+mod tests;

@@ -1,0 +1,119 @@
+// Rows of slots whose words and rooms are known, and each call that takes memory once with enough of it.
+use crate::{Room, Slot, entry_words, find_room, largest_run, read_slots, slot_here, write_slots};
+use alto_words::{Fid, Memory, Name};
+use std::alloc::Global;
+use std::process::Abort;
+use std::test::Fail;
+
+/// The words of the entry of `A.`, the ordinary file with serial 3, whose leader is at 5.
+const ENTRY_OF_A: [u16; 8] = [1032, 0, 3, 1, 0, 5, 577, 11776];
+
+/// That entry under another name.
+fn entry(name: Name) -> Slot {
+    Slot::Entry {
+        fid: Fid {
+            high: 0,
+            low: 3,
+            version: 1,
+        },
+        leader_at: 5,
+        name,
+    }
+}
+
+#[test]
+fn the_entry_of_a_has_eight_words(rt: HostRuntime) -> Result<(), Fail> {
+    let name = Name::parse(b"A.").ok_or("a name")?;
+    let (slots, length) = read_slots(rt.alloc(), &ENTRY_OF_A)?;
+    assert_eq!(rt; length, 8);
+    assert_eq!(rt; slots.as_slice(), [entry(name)].as_slice());
+    Ok(())
+}
+
+/// A slot is written and read back, and has so many words.
+fn goes_round(rt: &impl Abort, alloc: Global, text: &[u8], words: usize) -> Result<(), Fail> {
+    let name = Name::parse(text).ok_or("a name")?;
+    assert_eq!(rt; entry_words(&name) as usize, words);
+    let slot = entry(name);
+    assert!(rt; slot.is_in_range());
+    let written = write_slots(alloc, &[slot])?;
+    assert_eq!(rt; written.as_slice().len(), words);
+    let (read, length) = read_slots(alloc, written.as_slice())?;
+    assert_eq!(rt; length, words);
+    assert_eq!(rt; read.as_slice(), [slot].as_slice());
+    Ok(())
+}
+
+#[test]
+fn names_of_2_and_39_characters_go_round(rt: HostRuntime) -> Result<(), Fail> {
+    goes_round(&rt, rt.alloc(), b"Z", 8)?;
+    goes_round(
+        &rt,
+        rt.alloc(),
+        b"abcdefghijklmnopqrstuvwxyz0123456789+-.",
+        26,
+    )
+}
+
+/// The room for the longest entry among the slots of these words.
+fn room_in(alloc: Global, words: &[u16; 256]) -> Result<Option<Room>, Memory> {
+    let (slots, _) = read_slots(alloc, words)?;
+    Ok(find_room(slots.as_slice(), 26))
+}
+
+#[test]
+fn room_is_found_behind_an_entry(rt: HostRuntime) -> Result<(), Fail> {
+    let mut page = [0; 256];
+    page[..8].copy_from_slice(&ENTRY_OF_A);
+    page[8] = 248;
+    let room = Room {
+        first: 1,
+        place: 8,
+        total: 248,
+    };
+    assert_eq!(rt; room_in(rt.alloc(), &page)?, Some(room));
+    Ok(())
+}
+
+#[test]
+fn free_slots_side_by_side_are_joined(rt: HostRuntime) -> Result<(), Fail> {
+    let mut page = [0; 256];
+    page[0] = 10;
+    page[10] = 20;
+    page[30..38].copy_from_slice(&ENTRY_OF_A);
+    page[38] = 218;
+    let room = Room {
+        first: 0,
+        place: 0,
+        total: 30,
+    };
+    assert_eq!(rt; room_in(rt.alloc(), &page)?, Some(room));
+    let (slots, _) = read_slots(rt.alloc(), &page)?;
+    assert_eq!(rt; largest_run(slots.as_slice()), 218);
+    Ok(())
+}
+
+#[test]
+fn the_first_room_is_found_and_not_the_best(rt: HostRuntime) -> Result<(), Fail> {
+    let mut page = [0; 256];
+    page[0] = 40;
+    page[40..48].copy_from_slice(&ENTRY_OF_A);
+    page[48] = 26;
+    page[74..82].copy_from_slice(&ENTRY_OF_A);
+    let room = Room {
+        first: 0,
+        place: 0,
+        total: 40,
+    };
+    assert_eq!(rt; room_in(rt.alloc(), &page)?, Some(room));
+    Ok(())
+}
+
+#[test]
+fn a_slot_is_read_from_its_first_words(rt: HostRuntime) {
+    // a free slot of 1,000 words, of which 26 are here
+    let mut front = [7; 26];
+    front[0] = 1000;
+    assert_eq!(rt; slot_here(&front, 1000), Some(Slot::Free { words: 1000 }));
+    assert_eq!(rt; slot_here(&front, 999), None);
+}
