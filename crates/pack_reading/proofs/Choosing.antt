@@ -1,0 +1,100 @@
+-- Names that are given, and the first one that isn't taken.
+use Rattle.std.proofs.Common.{◌≡◌, ℕ, zero, suc, ◌+◌, ◌<◌, ◌≤◌, Bool, true, false, cond, List, [], ◌∷◌, ◌++◌, length, take, get_or, map, None, Result, refl, sym, ap, subst, ◌∙◌, arith, add-one}
+use Rattle.std.specs.Prelude.{◌&&◌, ◌||◌, OnOk}
+use Rattle.std.specs.List.{list_any}
+use Rattle.std.specs.BTreeSet.{contains}
+use Rattle.std.specs.FinMap.{FinMap, entries, get, insert, contains_key}
+use Rattle.std.proofs.lemmas.Result.{on_ok_weaker}
+use Rattle.std.proofs.lemmas.List.{take_more, map-append}
+use Rattle.alto_words.specs.declared.fid.Fid.{Fid}
+use Rattle.alto_words.specs.Fid.{fid_cmp, is_fid, sys_dir}
+use Rattle.alto_words.specs.Names.{is_same_name}
+use Rattle.pack_model.specs.Namings.{sys_dir_name, descriptor_name}
+use Rattle.pack_model.specs.View.{Home, Seen}
+use Rattle.pack_model.specs.Settling.{is_taken, choice, chosen_from, chosen, most_suffixes, adopted, settled}
+use Rattle.pack_laws.proofs.Keys.{is_fid-sym}
+use Rattle.pack_reading.specs.declared.names.Names.{Names}
+use Rattle.pack_reading.specs.declared.shown.ShownFile.{ShownFile}
+use Rattle.pack_reading.specs.Homes.{place_cmp, StandsFor}
+use Rattle.pack_reading.specs.Shows.{seen_file}
+use Rattle.pack_reading.proofs.Tests.{none_of}
+
+-- a name that no system file has is taken where an entry stands in SysDir
+pub taken_is : (names : Names) (name : List ℕ) → (is_same_name name sys_dir_name || is_same_name name descriptor_name) ≡ false → (homes : FinMap fid_cmp Home) → StandsFor names homes → contains place_cmp names.taken (record { directory = sys_dir; name = name }) ≡ is_taken homes name
+taken_is names name other homes stands =
+    stands.taken sys_dir name
+    ∙ (λ i. list_any (λ (e : Fid × Home). is_fid-sym sys_dir e.1.dir i && is_same_name name e.1.name) (entries homes))
+    ∙ ap (λ b. b || list_any (λ (e : Fid × Home). is_fid e.1.dir sys_dir && is_same_name name e.1.name) (entries homes)) (sym other)
+
+-- ---- the choices, one after another
+-- so many choices are taken
+pub record Choosing (taken : List ℕ → Bool) (name : List ℕ) (all k : ℕ) : Type 0 where
+  pub left : ℕ
+  pub total : k + left ≡ all
+  pub so_far : chosen_from left taken name k ≡ chosen_from all taken name 0
+
+pub choosing_none : (taken : List ℕ → Bool) (name : List ℕ) (all : ℕ) → Choosing taken name all 0
+choosing_none taken name all = record { left = all; total = omega arith; so_far = refl }
+
+module _ (taken : List ℕ → Bool) (name : List ℕ) (all k : ℕ) (c : Choosing taken name all k) where
+  -- this one isn't taken
+  pub choosing_here : k < all → taken (choice name k) ≡ false → choice name k ≡ chosen_from all taken name 0
+  choosing_here more no_one = by c.left c.total c.so_far
+    where
+      by : (left : ℕ) → k + left ≡ all → chosen_from left taken name k ≡ chosen_from all taken name 0 → choice name k ≡ chosen_from all taken name 0
+      by zero total so_far = absurd (omega arith)
+      by (suc n) total so_far = sym (ap (λ b. elim b as (λ _. List ℕ) [ false ↦ choice name k | true ↦ chosen_from n taken name (suc k) ]) no_one) ∙ so_far
+
+  -- this one is
+  pub choosing_next : k < all → taken (choice name k) ≡ true → Choosing taken name all (k + 1)
+  choosing_next more given = by c.left c.total c.so_far
+    where
+      by : (left : ℕ) → k + left ≡ all → chosen_from left taken name k ≡ chosen_from all taken name 0 → Choosing taken name all (k + 1)
+      by zero total so_far = absurd (omega arith)
+      by (suc n) total so_far = record {
+        left = n;
+        total = omega arith;
+        so_far = ap (chosen_from n taken name) (add-one k) ∙ sym (ap (λ b. elim b as (λ _. List ℕ) [ false ↦ choice name k | true ↦ chosen_from n taken name (suc k) ]) given) ∙ so_far;
+      }
+
+  -- all of them are
+  pub choosing_end : all ≤ k → choice name all ≡ chosen_from all taken name 0
+  choosing_end end = by c.left c.total c.so_far
+    where
+      by : (left : ℕ) → k + left ≡ all → chosen_from left taken name k ≡ chosen_from all taken name 0 → choice name all ≡ chosen_from all taken name 0
+      by zero total so_far = let last : all ≡ k = omega arith in ap (choice name) last ∙ so_far
+      by (suc n) total so_far = absurd (omega arith)
+
+pub chosen_is : (homes : FinMap fid_cmp Home) (name : List ℕ) → chosen_from 65535 (is_taken homes) name 0 ≡ chosen homes name
+unfolding chosen most_suffixes
+chosen_is homes name = refl
+
+-- ---- files one after another
+-- a file that has a name
+pub adopted_has : (names : Names) (homes : FinMap fid_cmp Home) (e : Fid × Seen) → StandsFor names homes → contains fid_cmp names.named e.0 ≡ true → StandsFor names (adopted homes e)
+adopted_has names homes e stands has =
+    let is : homes ≡ adopted homes e = sym (ap (λ b. cond b homes (insert homes e.0 (record { dir = sys_dir; name = chosen homes e.1.leader.name }))) (sym (stands.named e.0) ∙ has)) in
+    subst (StandsFor names) is stands
+
+-- one that has none
+pub adopted_new : {T E : Type 0} (r : Result T E) (old new : Names) (homes : FinMap fid_cmp Home) (e : Fid × Seen) (name : List ℕ) → StandsFor old homes → contains fid_cmp old.named e.0 ≡ false → name ≡ chosen homes e.1.leader.name
+    → (StandsFor old homes → get homes e.0 ≡ None → OnOk r (StandsFor new (insert homes e.0 (record { dir = sys_dir; name = name })))) → OnOk r (StandsFor new (adopted homes e))
+adopted_new r old new homes e name stands nameless is kept =
+    let absent : contains_key homes e.0 ≡ false = sym (stands.named e.0) ∙ nameless in
+    let same : insert homes e.0 (record { dir = sys_dir; name = name }) ≡ adopted homes e =
+    ap (λ n. insert homes e.0 (record { dir = sys_dir; name = n })) is ∙ sym (ap (λ b. cond b homes (insert homes e.0 (record { dir = sys_dir; name = chosen homes e.1.leader.name }))) absent) in
+    on_ok_weaker r (subst (StandsFor new) same) (kept stands (none_of (get homes e.0) absent))
+
+pub settled-push : (homes : FinMap fid_cmp Home) (es : List (Fid × Seen)) (e : Fid × Seen) → settled homes (es ++ e ∷ []) ≡ adopted (settled homes es) e
+settled-push homes [] e = refl
+settled-push homes (x ∷ es) e = settled-push (adopted homes x) es e
+
+-- one file more
+pub settled_more : (homes : FinMap fid_cmp Home) (files : List ShownFile) (i : ℕ) (file : ShownFile) → i < length files → file ≡ get_or files i file
+    → adopted (settled homes (map seen_file (take i files))) (seen_file file) ≡ settled homes (map seen_file (take (i + 1) files))
+settled_more homes files i file more is =
+    sym (
+    ap (λ l. settled homes (map seen_file l)) (take_more files i file more ∙ ap (λ s. take i files ++ s ∷ []) (sym is))
+    ∙ ap (settled homes) (map-append seen_file (take i files) (file ∷ []))
+    ∙ settled-push homes (map seen_file (take i files)) (seen_file file)
+    )

@@ -1,0 +1,234 @@
+-- The scan of entries that keeps their homes gives the entries that a pack is read with, those of the system files left out.
+use Rattle.std.proofs.Common.{◌≡◌, ℕ, Bool, true, false, cond, not, List, [], ◌∷◌, ◌++◌, map, Option, Some, None, refl, sym, ap, subst, ◌∙◌}
+use Rattle.std.specs.Prelude.{◌&&◌, ◌||◌, fold}
+use Rattle.std.specs.Cmp.{IsTotalOrder, eq_by_cmp_equiv, on_total}
+use Rattle.std.specs.Cmp.Lexicographic.{nat_list_cmp_total}
+use Rattle.std.specs.List.{list_any}
+use Rattle.std.specs.Option.{is_some, option_or}
+use Rattle.std.specs.FinMap.{FinMap, find, get, get-empty, get-insert, get-entries, entries, entries-insert, insert, contains_key, empty}
+use Rattle.std.proofs.lemmas.Bool.{and_parts}
+use Rattle.std.proofs.lemmas.List.{append_assoc, append-nil}
+use Rattle.alto_words.specs.declared.fid.Fid.{Fid}
+use Rattle.alto_words.specs.Fid.{fid_cmp, is_fid, is_system, sys_dir, disk_descriptor}
+use Rattle.alto_words.specs.Names.{fold_case, folded_cmp, is_same_name}
+use Rattle.pack_model.specs.Namings.{Naming, is_kept, may_stand, keeps_system, alike, is_own, clashes, sys_dir_name, descriptor_name}
+use Rattle.pack_model.specs.View.{Home, homes}
+use Rattle.pack_laws.proofs.Keys.{fid_total, same_fid}
+use Rattle.pack_reading.specs.Homes.{is_taken_in, may_show, considered}
+use Rattle.pack_reading.proofs.Tests.{tie_names, none_of, or_none}
+use Rattle.pack_reading.proofs.Inserting.{entries-empty, list_any-put}
+use Rattle.pack_reading.proofs.Tidying.{scanned}
+
+-- ---- tests of lists
+pub find-append : {X : Type 0} (q : Fid) (xs ys : List (Fid × X)) → find fid_cmp q (xs ++ ys) ≡ option_or (find fid_cmp q xs) (find fid_cmp q ys)
+find-append q [] ys = refl
+find-append q (x ∷ xs) ys = elim (is_fid q x.0) as (λ b. cond b (Some x.1) (find fid_cmp q (xs ++ ys)) ≡ option_or (cond b (Some x.1) (find fid_cmp q xs)) (find fid_cmp q ys)) [ true ↦ refl | false ↦ find-append q xs ys ]
+
+homes-append : (xs ys : List Naming) → homes (xs ++ ys) ≡ homes xs ++ homes ys
+homes-append [] ys = refl
+homes-append (x ∷ xs) ys = ap (λ l. (x.fid, record { dir = x.dir; name = x.name }) ∷ l) (homes-append xs ys)
+
+or_mixed : (a b c d : Bool) → ((a || b) || (c || d)) ≡ ((a || c) || (b || d))
+or_mixed true b c d = refl
+or_mixed false true true d = refl
+or_mixed false true false d = refl
+or_mixed false false c d = refl
+
+list_any-either : (p q : Naming → Bool) (ns : List Naming) → list_any (λ n. p n || q n) ns ≡ (list_any p ns || list_any q ns)
+list_any-either p q [] = refl
+list_any-either p q (n ∷ ns) = ap (λ b. (p n || q n) || b) (list_any-either p q ns) ∙ or_mixed (p n) (q n) (list_any p ns) (list_any q ns)
+
+-- ---- system files
+or_parts : (a b : Bool) → (a || b) ≡ false → (a ≡ false) × (b ≡ false)
+or_parts true b e = cc
+or_parts false b e = (refl, e)
+
+alike_true : (a b : Bool) → a ≡ true → alike a b ≡ true → b ≡ true
+alike_true true b e h = h
+alike_true false b e h = cc
+
+alike_false : (a b : Bool) → a ≡ false → alike a b ≡ true → b ≡ false
+alike_false true b e h = cc
+alike_false false true e h = cc
+alike_false false false e h = refl
+
+same_congr : (a b c : List ℕ) → is_same_name a b ≡ true → is_same_name a c ≡ is_same_name b c
+same_congr a b c e =
+    let total : IsTotalOrder folded_cmp = on_total (map fold_case) nat_list_cmp_total in
+    sym (tie_names a c) ∙ (eq_by_cmp_equiv total).congr a b c (tie_names a b ∙ e) ∙ tie_names b c
+
+-- a place has a name where another with the same name in the same directory has it
+own_congr : (nm : List ℕ) (x e : Naming) → is_fid x.dir e.dir ≡ true → is_same_name x.name e.name ≡ true → is_own nm x ≡ is_own nm e
+own_congr nm x e d n = λ i. (eq_by_cmp_equiv fid_total).congr x.dir e.dir sys_dir d i && same_congr x.name e.name nm n i
+
+-- an entry of a system file stands where no other may
+system_apart : (x e : Naming) → is_system x.fid ≡ false → keeps_system x ≡ true → is_system e.fid ≡ true → keeps_system e ≡ true → (is_fid x.dir e.dir && is_same_name x.name e.name) ≡ false
+unfolding keeps_system
+system_apart x e other fits_x system fits_e = by (is_fid x.dir e.dir && is_same_name x.name e.name) refl
+  where
+    not_x : (is_fid x.fid sys_dir ≡ false) × (is_fid x.fid disk_descriptor ≡ false)
+    not_x = or_parts _ _ other
+
+    keeps_x : (alike (is_fid x.fid sys_dir) (is_own sys_dir_name x) ≡ true) × (alike (is_fid x.fid disk_descriptor) (is_own descriptor_name x) ≡ true)
+    keeps_x = and_parts _ _ fits_x
+
+    keeps_e : (alike (is_fid e.fid sys_dir) (is_own sys_dir_name e) ≡ true) × (alike (is_fid e.fid disk_descriptor) (is_own descriptor_name e) ≡ true)
+    keeps_e = and_parts _ _ fits_e
+
+    clash : (is_fid x.dir e.dir ≡ true) × (is_same_name x.name e.name ≡ true) → (a b : Bool) → is_fid e.fid sys_dir ≡ a → is_fid e.fid disk_descriptor ≡ b → (a || b) ≡ true → ⊥
+    clash both true b p q h =
+        let here = alike_true (is_fid e.fid sys_dir) (is_own sys_dir_name e) p keeps_e.0 in
+        let there = alike_false (is_fid x.fid sys_dir) (is_own sys_dir_name x) not_x.0 keeps_x.0 in
+        let h : true ≡ false = sym here ∙ sym (own_congr sys_dir_name x e both.0 both.1) ∙ there in cc
+    clash both false true p q h =
+        let here = alike_true (is_fid e.fid disk_descriptor) (is_own descriptor_name e) q keeps_e.1 in
+        let there = alike_false (is_fid x.fid disk_descriptor) (is_own descriptor_name x) not_x.1 keeps_x.1 in
+        let h : true ≡ false = sym here ∙ sym (own_congr descriptor_name x e both.0 both.1) ∙ there in cc
+    clash both false false p q h = cc
+
+    by : (b : Bool) → (is_fid x.dir e.dir && is_same_name x.name e.name) ≡ b → b ≡ false
+    by true is = absurd (clash (and_parts _ _ is) (is_fid e.fid sys_dir) (is_fid e.fid disk_descriptor) refl refl system)
+    by false is = refl
+
+-- a file that is shown isn't a system file
+fid_apart : (f g : Fid) → is_system f ≡ false → is_system g ≡ true → is_fid f g ≡ false
+fid_apart f g other system = elim (is_fid f g) as (λ b. is_fid f g ≡ b → b ≡ false) [
+  | true ↦ λ e. absurd (let h : true ≡ false = sym system ∙ sym (ap is_system (same_fid f g e)) ∙ other in cc)
+  | false ↦ λ e. refl
+] refl
+
+-- ---- the two scans, side by side
+-- The homes are those of the entries that were kept, last first or in their order, without the system files.
+pub record Follows (before kept : List Naming) (h : FinMap fid_cmp Home) : Type 0 where
+  pub named : (f : Fid) → is_system f ≡ false → contains_key h f ≡ list_any (λ n. is_fid f n.fid) before
+  pub taken : (x : Naming) → is_system x.fid ≡ false → keeps_system x ≡ true → is_taken_in h x.dir x.name ≡ list_any (λ n. is_fid x.dir n.dir && is_same_name x.name n.name) before
+  pub has : (q : Fid) → get h q ≡ cond (is_system q) None (find fid_cmp q (homes kept))
+
+pub follows_none : Follows [] [] (empty {X = Home} {R = fid_cmp})
+follows_none = record {
+  named = λ f other. ap is_some (get-empty fid_cmp f);
+  taken = λ x other fits. ap (list_any (λ (e : Fid × Home). is_fid x.dir e.1.dir && is_same_name x.name e.1.name)) (entries-empty {X = Home} fid_cmp);
+  has = λ q. get-empty fid_cmp q ∙ elim (is_system q) as (λ b. None ≡ cond {A = Option Home} b None None) [ true ↦ refl | false ↦ refl ];
+}
+
+module _ (alive : Fid → Bool) (before kept : List Naming) (h : FinMap fid_cmp Home) (follows : Follows before kept h) (e : Naming) where
+  home : Home
+  home = record { dir = e.dir; name = e.name }
+
+  -- ---- an entry of a system file
+  system_same : is_system e.fid ≡ true → h ≡ considered alive h e
+  system_same system = sym (ap (λ b. cond (not b && may_stand alive e && not (contains_key h e.fid) && not (is_taken_in h e.dir e.name)) (insert h e.fid (record { dir = e.dir; name = e.name })) h) system)
+
+  system_kept : is_system e.fid ≡ true → keeps_system e ≡ true → Follows (e ∷ before) (kept ++ e ∷ []) h
+  system_kept system fits_e = record {
+    named = λ f other. follows.named f other ∙ sym (ap (λ b. b || list_any (λ n. is_fid f n.fid) before) (fid_apart f e.fid other system));
+    taken = λ x other fits_x. follows.taken x other fits_x ∙ sym (ap (λ b. b || list_any (λ n. is_fid x.dir n.dir && is_same_name x.name n.name) before) (system_apart x e other fits_x system fits_e));
+    has = λ q. follows.has q ∙ elim (is_system q) as (λ b. is_system q ≡ b → cond b None (find fid_cmp q (homes kept)) ≡ cond b None (find fid_cmp q (homes (kept ++ e ∷ [])))) [
+      | true ↦ λ _. refl
+      | false ↦ λ other. sym (
+          ap (find fid_cmp q) (homes-append kept (e ∷ []))
+          ∙ find-append q (homes kept) (homes (e ∷ []))
+          ∙ ap (λ b. option_or (find fid_cmp q (homes kept)) (cond b (Some (record { dir = e.dir; name = e.name })) None)) (fid_apart q e.fid other system)
+          ∙ or_none (find fid_cmp q (homes kept))
+          )
+    ] refl;
+  }
+
+  -- ---- an entry of a file that is shown
+  some_or : {X : Type 0} (b : Bool) (x : X) (o : Option X) → is_some (cond b (Some x) o) ≡ (b || is_some o)
+  some_or true x o = refl
+  some_or false x o = refl
+
+  found_then : (q : Fid) → find fid_cmp q (homes (kept ++ e ∷ [])) ≡ option_or (find fid_cmp q (homes kept)) (cond (is_fid q e.fid) (Some home) None)
+  unfolding home
+  found_then q = ap (find fid_cmp q) (homes-append kept (e ∷ [])) ∙ find-append q (homes kept) (homes (e ∷ []))
+
+  has_then : is_system e.fid ≡ false → get h e.fid ≡ None → (q : Fid) (b : Bool) → is_fid q e.fid ≡ b → cond b (Some home) (get h q) ≡ cond (is_system q) None (option_or (find fid_cmp q (homes kept)) (cond b (Some home) None))
+  has_then other none q true is =
+      let same = same_fid q e.fid is in
+      let shown : is_system q ≡ false = ap is_system same ∙ other in
+      let nothing : find fid_cmp q (homes kept) ≡ None = sym (ap (λ b. cond b None (find fid_cmp q (homes kept))) shown) ∙ sym (follows.has q) ∙ ap (get h) same ∙ none in
+      sym (λ i. cond (shown i) None (option_or (nothing i) (Some home)))
+  has_then other none q false is = follows.has q ∙ ap (cond (is_system q) None) (sym (or_none (find fid_cmp q (homes kept))))
+
+  entry_kept : is_system e.fid ≡ false → get h e.fid ≡ None → Follows (e ∷ before) (kept ++ e ∷ []) (insert h e.fid home)
+  unfolding home
+  entry_kept other none =
+      let absent : find fid_cmp e.fid (entries h) ≡ None = sym (get-entries h e.fid) ∙ none in
+      record {
+        named = λ f shown. ap is_some (get-insert fid_total h e.fid home f) ∙ some_or (is_fid f e.fid) home (get h f) ∙ ap (λ b. is_fid f e.fid || b) (follows.named f shown);
+        taken = λ x shown fits_x.
+            let test : Fid × Home → Bool = λ y. is_fid x.dir y.1.dir && is_same_name x.name y.1.name in
+            ap (list_any test) (entries-insert fid_total h e.fid home)
+            ∙ list_any-put fid_cmp test e.fid home (entries h) absent
+            ∙ ap (λ b. test (e.fid, home) || b) (follows.taken x shown fits_x);
+        has = λ q.
+            get-insert fid_total h e.fid home q
+            ∙ has_then other none q (is_fid q e.fid) refl
+            ∙ ap (cond (is_system q) None) (sym (found_then q));
+      }
+
+  -- ---- the test of an entry
+  dead : (s x y : Bool) → (not s && false && x && y) ≡ false
+  dead true x y = refl
+  dead false x y = refl
+
+  neither : (a b : Bool) → (not a && not b) ≡ not (a || b)
+  neither true b = refl
+  neither false b = refl
+
+  fits_of : may_stand alive e ≡ true → keeps_system e ≡ true
+  fits_of m = (and_parts _ _ (and_parts _ _ m).1).1
+
+  clash_parts : list_any (clashes e) before ≡ (list_any (λ n. is_fid e.fid n.fid) before || list_any (λ n. is_fid e.dir n.dir && is_same_name e.name n.name) before)
+  clash_parts = list_any-either (λ n. is_fid e.fid n.fid) (λ n. is_fid e.dir n.dir && is_same_name e.name n.name) before
+
+  same_test : is_system e.fid ≡ false → (may_show alive e && not (contains_key h e.fid) && not (is_taken_in h e.dir e.name)) ≡ is_kept alive before e
+  same_test other = by (may_stand alive e) refl
+    where
+      by : (m : Bool) → may_stand alive e ≡ m → (not (is_system e.fid) && m && not (contains_key h e.fid) && not (is_taken_in h e.dir e.name)) ≡ (m && not (list_any (clashes e) before))
+      by true is =
+          (λ i. not (other i) && true && not (follows.named e.fid other i) && not (follows.taken e other (fits_of is) i))
+          ∙ neither (list_any (λ n. is_fid e.fid n.fid) before) (list_any (λ n. is_fid e.dir n.dir && is_same_name e.name n.name) before)
+          ∙ ap not (sym clash_parts)
+      by false is = dead (is_system e.fid) (not (contains_key h e.fid)) (not (is_taken_in h e.dir e.name))
+
+  not_true : (b : Bool) → not b ≡ true → b ≡ false
+  not_true true no_one = cc
+  not_true false no_one = refl
+
+  absent_then : is_system e.fid ≡ false → is_kept alive before e ≡ true → get h e.fid ≡ None
+  absent_then other is =
+      let parts = and_parts (may_stand alive e) (not (list_any (clashes e) before)) is in
+      let apart = or_parts _ _ (sym clash_parts ∙ not_true (list_any (clashes e) before) parts.1) in
+      none_of (get h e.fid) (follows.named e.fid other ∙ apart.0)
+
+  pub follow_one : (b : Bool) → is_kept alive before e ≡ b → Follows (cond b (e ∷ before) before) (cond b (kept ++ e ∷ []) kept) (considered alive h e)
+  unfolding home
+  follow_one true is = by (is_system e.fid) refl
+    where
+      by : (s : Bool) → is_system e.fid ≡ s → Follows (e ∷ before) (kept ++ e ∷ []) (considered alive h e)
+      by true system = subst (Follows (e ∷ before) (kept ++ e ∷ [])) (system_same system) (system_kept system (fits_of (and_parts (may_stand alive e) (not (list_any (clashes e) before)) is).0))
+      by false other =
+          let kept_is : insert h e.fid home ≡ considered alive h e = sym (ap (λ b. cond b (insert h e.fid home) h) (same_test other ∙ is)) in
+          subst (Follows (e ∷ before) (kept ++ e ∷ [])) kept_is (entry_kept other (absent_then other is))
+  follow_one false is = by (is_system e.fid) refl
+    where
+      by : (s : Bool) → is_system e.fid ≡ s → Follows before kept (considered alive h e)
+      by true system = subst (Follows before kept) (system_same system) follows
+      by false other =
+          let kept_is : h ≡ considered alive h e = sym (ap (λ b. cond b (insert h e.fid home) h) (same_test other ∙ is)) in
+          subst (Follows before kept) kept_is follows
+
+-- all entries
+pub follow_all : (alive : Fid → Bool) (ns before kept : List Naming) (h : FinMap fid_cmp Home) → Follows before kept h → (q : Fid) → get (fold (considered alive) h ns) q ≡ cond (is_system q) None (find fid_cmp q (homes (kept ++ scanned (is_kept alive) before ns)))
+follow_all alive [] before kept h follows q = follows.has q ∙ ap (λ l. cond (is_system q) None (find fid_cmp q (homes l))) (sym (append-nil kept))
+follow_all alive (e ∷ ns) before kept h follows q =
+    let b = is_kept alive before e in
+    let joined : cond b (kept ++ e ∷ []) kept ++ scanned (is_kept alive) (cond b (e ∷ before) before) ns ≡ kept ++ scanned (is_kept alive) before (e ∷ ns) =
+    elim (is_kept alive before e) as (λ b. cond b (kept ++ e ∷ []) kept ++ scanned (is_kept alive) (cond b (e ∷ before) before) ns ≡ kept ++ cond b (e ∷ scanned (is_kept alive) (e ∷ before) ns) (scanned (is_kept alive) before ns)) [
+      | true ↦ append_assoc kept (e ∷ []) (scanned (is_kept alive) (e ∷ before) ns)
+      | false ↦ refl
+    ] in
+    follow_all alive ns (cond b (e ∷ before) before) (cond b (kept ++ e ∷ []) kept) (considered alive h e) (follow_one alive before kept h follows e b refl) q
+    ∙ ap (λ l. cond (is_system q) None (find fid_cmp q (homes l))) joined

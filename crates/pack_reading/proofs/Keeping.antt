@@ -1,0 +1,115 @@
+-- What one sector shows, and what is kept of it.
+use Rattle.std.proofs.Common.{◌≡◌, ℕ, zero, suc, ◌≤◌, Bool, true, false, cond, List, take, drop, Option, Some, None, refl, sym, ◌∙◌, ap, subst, arith}
+use Rattle.std.specs.Prelude.{nat_lt, ◌&&◌, ◌==◌}
+use Rattle.std.specs.Option.{option_map, option_or}
+use Rattle.std.proofs.lemmas.Bool.Decides.{nat_tests}
+use Rattle.std.proofs.lemmas.List.{drop-take}
+use Rattle.alto_words.specs.declared.fid.Fid.{Fid}
+use Rattle.alto_words.specs.Fid.{is_fid, serial_of}
+use Rattle.alto_words.specs.Names.{lost}
+use Rattle.disk_records.specs.declared.records.Page.{Page}
+use Rattle.disk_records.specs.declared.records.Sector.{Sector}
+use Rattle.disk_records.specs.declared.shape.Shape.{Shape}
+use Rattle.disk_records.specs.Addresses.{is_right_header}
+use Rattle.disk_records.specs.Words.{word, double}
+use Rattle.disk_records.specs.Labels.{Tag, tag, in_range, is_free, page_of}
+use Rattle.leader_page.specs.declared.leader.Leader.{Leader}
+use Rattle.pack_model.specs.Leaders.{leader_of, leader_name, leader_words, is_readable, spelled_name}
+use Rattle.pack_model.specs.Bytes.{bytes_of}
+use Rattle.pack_model.specs.Sights.{sight, tag_sight, page_sight}
+use Rattle.pack_model.specs.Sights.Sight.{hidden, free, stray}
+use Rattle.pack_reading.specs.declared.swept.Leaders.{Leaders}
+use Rattle.pack_reading.specs.declared.swept.Pages.{Pages}
+use Rattle.pack_reading.specs.declared.swept.Swept.{Swept}
+use Rattle.pack_reading.proofs.Tests.{or_none}
+use Rattle.pack_reading.specs.Kept.{plain_leader, leader_kept, page_kept, KeepsSight}
+
+-- ---- leaders
+-- the name that stands for one that can't be read
+pub lost_is : (f : Fid) (value : List ℕ) (l : Leader) → is_readable (leader_words value) ≡ false → l.created ≡ double (take 246 value) 0 → l.written ≡ double (take 246 value) 2 → l.read ≡ double (take 246 value) 4 → l.name ≡ lost (serial_of f) → l.rest ≡ take 220 (drop 26 value) → l.hints ≡ (plain_leader (leader_of f value)).hints → l ≡ plain_leader (leader_of f value)
+unfolding leader_of leader_name
+lost_is f value l unread created written read name rest hints =
+    let named : l.name ≡ leader_name f (leader_words value) = name ∙ sym (ap (λ b. cond b (spelled_name (leader_words value)) (lost (serial_of f))) unread) in
+    let rested : l.rest ≡ drop 26 (leader_words value) = rest ∙ sym (drop-take 26 220 value) in
+    λ i. record { created = created i; written = written i; read = read i; name = named i; rest = rested i; hints = hints i }
+
+-- ---- sights
+pub few_bytes : (t : Tag) → in_range t ≡ true → t.bytes ≤ 512
+unfolding in_range
+few_bytes t h = grind (arith, nat_tests, h)
+
+-- a label that names a page
+named : (label : List ℕ) (page : Page) (b : Bool) → cond b (Some (record { fid = (tag label).fid; number = (tag label).page })) None ≡ Some page → b ≡ true
+named label page true e = refl
+named label page false e = cc
+
+module _ (label value : List ℕ) where
+  -- a page that a label names has 512 bytes at most
+  pub page_few : (page : Page) → page_of label ≡ Some page → word label 3 ≤ 512
+  page_few page is = few_bytes (tag label) (named label page (in_range (tag label)) is)
+
+  -- a label that names a page shows it
+  pub page_shows : (page : Page) → page_of label ≡ Some page → tag_sight (tag label) value ≡ page_sight page.fid page.number (word label 3) value
+  page_shows page is = by (in_range (tag label)) is
+    where
+      by : (b : Bool) → cond b (Some (record { fid = (tag label).fid; number = (tag label).page })) None ≡ Some page → cond b (page_sight (tag label).fid (tag label).page (tag label).bytes value) (cond (is_free (tag label)) free stray) ≡ page_sight page.fid page.number (word label 3) value
+      by true e = let one : record { fid = (tag label).fid; number = (tag label).page } ≡ page = cc in ap (λ (p : Page). page_sight p.fid p.number (word label 3) value) one
+      by false e = cc
+
+  -- one that names none shows none
+  pub nothing_shows : (swept : Swept) → page_of label ≡ None → KeepsSight (tag_sight (tag label) value) swept swept
+  nothing_shows swept is = by (in_range (tag label)) (is_free (tag label)) is
+    where
+      by : (b c : Bool) → cond {A = Option Page} b (Some (record { fid = (tag label).fid; number = (tag label).page })) None ≡ None → KeepsSight (cond b (page_sight (tag label).fid (tag label).page (tag label).bytes value) (cond c free stray)) swept swept
+      by true c e = absurd cc
+      by false true e = record { leaders = λ f. sym (or_none _); pages = λ f n. sym (or_none _) }
+      by false false e = record { leaders = λ f. sym (or_none _); pages = λ f n. sym (or_none _) }
+
+-- ---- what is kept of a page
+answer_map : {X Y : Type 0} (g : X → Y) (b : Bool) (x : X) → cond b (Some (g x)) None ≡ option_map g (cond b (Some x) None)
+answer_map g true x = refl
+answer_map g false x = refl
+
+suc-eqb : (n k : ℕ) → (suc n == suc k) ≡ (n == k)
+suc-eqb n k = grind (arith, nat_tests)
+
+-- its leader page
+pub leader_keeps : (old : Swept) (new : Leaders) (f : Fid) (number bytes : ℕ) (value : List ℕ) (l : Leader) → number ≡ 0 → l ≡ plain_leader (leader_of f value)
+    → ((g : Fid) → leader_kept new g ≡ option_or (leader_kept old.leaders g) (cond (is_fid g f) (Some l) None))
+    → KeepsSight (page_sight f number bytes value) old (record { leaders = new; pages = old.pages })
+leader_keeps old new f number bytes value l zeroth is kept =
+    subst (λ n. KeepsSight (page_sight f n bytes value) old (record { leaders = new; pages = old.pages })) (sym zeroth)
+    (record {
+      leaders = λ g. kept g ∙ ap (λ x. option_or (leader_kept old.leaders g) (cond (is_fid g f) (Some x) None)) is ∙ ap (option_or (leader_kept old.leaders g)) (answer_map plain_leader (is_fid g f) (leader_of f value));
+      pages = λ g n. sym (or_none (page_kept old.pages g n));
+    })
+
+-- a data page
+pub page_keeps : (old : Swept) (new : Pages) (f : Fid) (number count : ℕ) (value bytes : List ℕ) → (number ≡ 0 → ⊥) → bytes ≡ take count (bytes_of value)
+    → ((g : Fid) (n : ℕ) → page_kept new g n ≡ option_or (page_kept old.pages g n) (cond (is_fid g f && suc n == number) (Some bytes) None))
+    → KeepsSight (page_sight f number count value) old (record { leaders = old.leaders; pages = new })
+page_keeps old new f zero count value bytes some is kept = absurd (some refl)
+page_keeps old new f (suc k) count value bytes some is kept = record {
+  leaders = λ g. sym (or_none (leader_kept old.leaders g));
+  pages = λ g n. kept g n ∙ (λ i. option_or (page_kept old.pages g n) (cond (is_fid g f && suc-eqb n k i) (Some (is i)) None));
+}
+
+-- ---- a sector that was read
+module _ (shape : Shape) (at : ℕ) (s : Sector) (first : 1 ≤ at) where
+  -- behind a right header the label says what it shows
+  pub sees : is_right_header shape at s.header ≡ true → sight shape at s ≡ tag_sight (tag s.label) s.value
+  unfolding sight
+  sees right =
+      let above : nat_lt 0 at ≡ true = grind (arith, nat_tests) in
+      rw (above, right) refl
+
+  -- behind a wrong one is nothing
+  pub sees_nothing : is_right_header shape at s.header ≡ false → sight shape at s ≡ hidden
+  unfolding sight
+  sees_nothing wrong =
+      let above : nat_lt 0 at ≡ true = grind (arith, nat_tests) in
+      rw (above, wrong) refl
+
+-- nothing is kept of it
+pub hidden_keeps : (swept : Swept) → KeepsSight hidden swept swept
+hidden_keeps swept = record { leaders = λ g. sym (or_none (leader_kept swept.leaders g)); pages = λ g n. sym (or_none (page_kept swept.pages g n)) }

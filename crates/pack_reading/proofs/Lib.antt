@@ -1,0 +1,12 @@
+pub mod Tests
+pub mod Inserting
+pub mod Homes
+pub mod Choosing
+pub mod Scanning
+pub mod Tidying
+pub mod Following
+pub mod Showing
+pub mod Words
+pub mod Joins
+pub mod Keeping
+pub mod Sweeping

@@ -1,0 +1,102 @@
+-- The scan of all directories, entry by entry.
+use Rattle.std.proofs.Common.{◌≡◌, ℕ, ◌+◌, ◌<◌, Bool, true, false, cond, not, List, [], ◌∷◌, ◌++◌, length, take, get_or, map, None, Result, refl, sym, ap, subst, ◌∙◌}
+use Rattle.std.specs.Prelude.{◌&&◌, ◌||◌, OnOk, fold}
+use Rattle.std.specs.BTreeSet.{contains}
+use Rattle.std.specs.FinMap.{FinMap, get, insert, contains_key}
+use Rattle.std.proofs.lemmas.Result.{on_ok_weaker}
+use Rattle.std.proofs.lemmas.List.{append_assoc, append-nil, take_more, map-append}
+use Rattle.alto_words.specs.declared.fid.Fid.{Fid}
+use Rattle.alto_words.specs.Fid.{fid_cmp, is_fid, is_system, is_directory, sys_dir}
+use Rattle.alto_words.specs.Names.{is_same_name}
+use Rattle.dir_slots.specs.declared.slot.Slot.{Slot}
+use Rattle.dir_slots.specs.Items.{item_of}
+use Rattle.pack_model.specs.Bytes.{words_of}
+use Rattle.pack_model.specs.Slots.{Item, slots}
+use Rattle.pack_model.specs.Slots.Item.{space, entry}
+use Rattle.pack_model.specs.Bodies.Body.{data_of, items_of}
+use Rattle.pack_model.specs.Namings.{Naming, namings_in, body_namings, sys_dir_name, descriptor_name}
+use Rattle.pack_model.specs.View.{Home}
+use Rattle.pack_reading.specs.declared.files.Found.{Found}
+use Rattle.pack_reading.specs.declared.names.Names.{Names}
+use Rattle.pack_reading.specs.declared.names.Entry.{Entry}
+use Rattle.pack_reading.specs.Homes.{place_cmp, home_at, naming_at, is_taken_in, may_show, considered, namings_of, all_namings, StandsFor}
+use Rattle.pack_reading.proofs.Tests.{may_show_is, none_of}
+
+-- ---- which entries may stand
+module _ (lives : Fid → Bool) (e : Naming) where
+  pub may_not : is_system e.fid ≡ true → false ≡ may_show lives e
+  may_not system = sym (may_show_is lives e ∙ ap (λ b. not b && (lives e.fid && cond (is_fid e.dir sys_dir) (not (is_same_name e.name sys_dir_name || is_same_name e.name descriptor_name)) (not (is_directory e.fid)))) system)
+
+  pub may_in_root : is_system e.fid ≡ false → lives e.fid ≡ true → is_fid e.dir sys_dir ≡ true → not (is_same_name e.name sys_dir_name || is_same_name e.name descriptor_name) ≡ may_show lives e
+  may_in_root other alive root = sym (
+      may_show_is lives e
+      ∙ (λ i. not (other i) && (alive i && cond (root i) (not (is_same_name e.name sys_dir_name || is_same_name e.name descriptor_name)) (not (is_directory e.fid))))
+      )
+
+  pub may_elsewhere : is_system e.fid ≡ false → lives e.fid ≡ true → is_fid e.dir sys_dir ≡ false → not (is_directory e.fid) ≡ may_show lives e
+  may_elsewhere other alive away = sym (
+      may_show_is lives e
+      ∙ (λ i. not (other i) && (alive i && cond (away i) (not (is_same_name e.name sys_dir_name || is_same_name e.name descriptor_name)) (not (is_directory e.fid))))
+      )
+
+-- ---- one entry
+module _ (lives : Fid → Bool) (e : Entry) where
+  -- an entry that isn't kept: by itself, by its file, by its place
+  passed : (homes : FinMap fid_cmp Home) (a b c : Bool) → may_show lives (naming_at e) ≡ a → contains_key homes e.fid ≡ b → is_taken_in homes e.place.directory e.place.name ≡ c → (a && not b && not c) ≡ false → homes ≡ considered lives homes (naming_at e)
+  passed homes a b c p q r fails = sym (
+      (λ i. cond (p i && not (q i) && not (r i)) (insert homes e.fid (home_at e.place)) homes)
+      ∙ ap (λ t. cond t (insert homes e.fid (home_at e.place)) homes) fails
+      )
+
+  pub considered_passed : (names : Names) (homes : FinMap fid_cmp Home) (a b c : Bool) → may_show lives (naming_at e) ≡ a → contains fid_cmp names.named e.fid ≡ b → contains place_cmp names.taken e.place ≡ c → (a && not b && not c) ≡ false → StandsFor names homes → StandsFor names (considered lives homes (naming_at e))
+  considered_passed names homes a b c p q r fails stands = subst (StandsFor names) (passed homes a b c p (sym (stands.named e.fid) ∙ q) (sym (stands.taken e.place.directory e.place.name) ∙ r) fails) stands
+
+  -- one that is
+  pub considered_kept : {T E : Type 0} (result : Result T E) (old new : Names) (homes : FinMap fid_cmp Home) → may_show lives (naming_at e) ≡ true → contains fid_cmp old.named e.fid ≡ false → contains place_cmp old.taken e.place ≡ false
+      → StandsFor old homes → (StandsFor old homes → get homes e.fid ≡ None → OnOk result (StandsFor new (insert homes e.fid (home_at e.place)))) → OnOk result (StandsFor new (considered lives homes (naming_at e)))
+  considered_kept result old new homes may nameless free stands kept =
+      let absent = sym (stands.named e.fid) ∙ nameless in
+      let untaken = sym (stands.taken e.place.directory e.place.name) ∙ free in
+      let is : insert homes e.fid (home_at e.place) ≡ considered lives homes (naming_at e) = sym (λ i. cond (may i && not (absent i) && not (untaken i)) (insert homes e.fid (home_at e.place)) homes) in
+      on_ok_weaker result (subst (StandsFor new) is) (kept stands (none_of (get homes e.fid) absent))
+
+-- ---- many entries
+pub fold-append : {X Y : Type 0} (g : Y → X → Y) (z : Y) (xs ys : List X) → fold g z (xs ++ ys) ≡ fold g (fold g z xs) ys
+fold-append g z [] ys = refl
+fold-append g z (x ∷ xs) ys = fold-append g (g z x) xs ys
+
+pub namings_in-append : (d : Fid) (is js : List Item) → namings_in d (is ++ js) ≡ namings_in d is ++ namings_in d js
+namings_in-append d [] js = refl
+namings_in-append d (space n ∷ is) js = namings_in-append d is js
+namings_in-append d (entry f name ∷ is) js = ap (λ l. record { dir = d; name = name; fid = f } ∷ l) (namings_in-append d is js)
+
+pub all_namings-push : (files : List Found) (file : Found) → all_namings (files ++ file ∷ []) ≡ all_namings files ++ namings_of file
+all_namings-push [] file = append-nil (namings_of file)
+all_namings-push (x ∷ files) file = ap (λ l. namings_of x ++ l) (all_namings-push files file) ∙ sym (append_assoc (namings_of x) (all_namings files) (namings_of file))
+
+-- ---- directories
+pub directory_namings : (file : Found) → is_directory file.fid ≡ true → namings_of file ≡ namings_in file.fid (slots (words_of file.bytes))
+directory_namings file is = ap (λ b. body_namings file.fid (cond b (items_of (slots (words_of file.bytes))) (data_of file.bytes))) is
+
+pub no_namings : (file : Found) → is_directory file.fid ≡ false → namings_of file ≡ []
+no_namings file is = ap (λ b. body_namings file.fid (cond b (items_of (slots (words_of file.bytes))) (data_of file.bytes))) is
+
+-- ---- one slot and one file more
+pub slot_more : (lives : Fid → Bool) (d : Fid) (all : List Slot) (i : ℕ) (slot : Slot) (homes : FinMap fid_cmp Home) → i < length all → slot ≡ get_or all i slot
+    → fold (considered lives) (fold (considered lives) homes (namings_in d (map item_of (take i all)))) (namings_in d (item_of slot ∷ [])) ≡ fold (considered lives) homes (namings_in d (map item_of (take (i + 1) all)))
+slot_more lives d all i slot homes more is =
+    sym (
+    ap (λ l. fold (considered lives) homes (namings_in d (map item_of l))) (take_more all i slot more ∙ ap (λ s. take i all ++ s ∷ []) (sym is))
+    ∙ ap (λ l. fold (considered lives) homes (namings_in d l)) (map-append item_of (take i all) (slot ∷ []))
+    ∙ ap (fold (considered lives) homes) (namings_in-append d (map item_of (take i all)) (item_of slot ∷ []))
+    ∙ fold-append (considered lives) homes (namings_in d (map item_of (take i all))) (namings_in d (item_of slot ∷ []))
+    )
+
+pub file_more : (lives : Fid → Bool) (all : List Found) (i : ℕ) (file : Found) (homes : FinMap fid_cmp Home) → i < length all → file ≡ get_or all i file
+    → fold (considered lives) (fold (considered lives) homes (all_namings (take i all))) (namings_of file) ≡ fold (considered lives) homes (all_namings (take (i + 1) all))
+file_more lives all i file homes more is =
+    sym (
+    ap (λ l. fold (considered lives) homes (all_namings l)) (take_more all i file more ∙ ap (λ s. take i all ++ s ∷ []) (sym is))
+    ∙ ap (fold (considered lives) homes) (all_namings-push (take i all) file)
+    ∙ fold-append (considered lives) homes (all_namings (take i all)) (namings_of file)
+    )

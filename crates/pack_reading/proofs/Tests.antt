@@ -1,0 +1,104 @@
+-- Tests of full names, names and places.
+use Rattle.std.proofs.Common.{◌≡◌, ℕ, Bool, true, false, cond, not, List, map, Option, Some, None, refl, sym, ap, ◌∙◌, arith}
+use Rattle.std.specs.Prelude.{◌&&◌, ◌||◌, ◌==◌}
+use Rattle.std.specs.declared.cmp.Ordering.{Ordering}
+use Rattle.std.specs.declared.cmp.Ordering.TheVariants.{Less, Equal, Greater}
+use Rattle.std.specs.Ordering.{nat_cmp, ordering_then, is_eq}
+use Rattle.std.specs.Cmp.{eq_by_cmp_equiv}
+use Rattle.std.specs.Cmp.Lexicographic.{texts_ties}
+use Rattle.std.specs.Option.{option_or, is_some}
+use Rattle.std.specs.BTreeMap.{BTreeMap, get}
+use Rattle.std.proofs.lemmas.Bool.{and_parts, eqb-true}
+use Rattle.std.proofs.lemmas.Bool.Decides.{nat_tests}
+use Rattle.alto_words.specs.declared.fid.Fid.{Fid}
+use Rattle.alto_words.specs.Fid.{fid_cmp, is_fid, is_system, is_directory, sys_dir, disk_descriptor}
+use Rattle.alto_words.specs.Names.{fold_case, folded_cmp, is_same_name}
+use Rattle.disk_records.specs.declared.records.Page.{Page}
+use Rattle.pack_model.specs.Namings.{Naming, keeps_system, alike, sys_dir_name, descriptor_name}
+use Rattle.pack_laws.proofs.Keys.{is_fid-sym, same_fid}
+use Rattle.pack_reading.specs.declared.names.Place.{Place}
+use Rattle.pack_reading.specs.Kept.{page_cmp}
+use Rattle.pack_reading.specs.Homes.{place_cmp, may_show}
+use Rattle.pack_reading.specs.Orders.{place_total}
+
+-- ---- orders that tie
+pub tie_then : (a b : Ordering) → is_eq (ordering_then a b) ≡ (is_eq a && is_eq b)
+tie_then Less b = refl
+tie_then Equal b = refl
+tie_then Greater b = refl
+
+tie_numbers : (a b : ℕ) → is_eq (nat_cmp a b) ≡ (b == a)
+tie_numbers a b = grind (arith, nat_tests)
+
+pub tie_names : (a b : List ℕ) → is_eq (folded_cmp a b) ≡ is_same_name a b
+tie_names a b = sym (texts_ties (map fold_case a) (map fold_case b))
+
+-- places are one where they have one directory and the same name
+pub tie_places : (p q : Place) → is_eq (place_cmp p q) ≡ (is_fid p.directory q.directory && is_same_name p.name q.name)
+tie_places p q = tie_then (fid_cmp p.directory q.directory) (folded_cmp p.name q.name) ∙ ap (λ b. is_fid p.directory q.directory && b) (tie_names p.name q.name)
+
+-- the same from the other one
+pub tie_places_back : (p q : Place) → is_eq (place_cmp p q) ≡ (is_fid q.directory p.directory && is_same_name q.name p.name)
+tie_places_back p q = (eq_by_cmp_equiv place_total).symm p q ∙ tie_places q p
+
+tie_pages : (p : Page) (f : Fid) (n : ℕ) → is_eq (page_cmp p (record { fid = f; number = n })) ≡ (is_fid f p.fid && n == p.number)
+tie_pages p f n = tie_then (fid_cmp p.fid f) (nat_cmp p.number n) ∙ (λ i. is_fid-sym p.fid f i && tie_numbers p.number n i)
+
+-- ---- answers
+pub none_of : {X : Type 0} (o : Option X) → is_some o ≡ false → o ≡ None
+none_of None e = refl
+none_of (Some x) e = absurd (let h : true ≡ false = e in cc)
+
+pub or_none : {X : Type 0} (o : Option X) → option_or o None ≡ o
+or_none None = refl
+or_none (Some x) = refl
+
+-- ---- what a map has once a new key is in it
+new_key : {X : Type 0} (o : Option X) (b c : Bool) (x : X) → b ≡ c → (c ≡ true → is_some o ≡ false) → cond b (Some x) o ≡ option_or o (cond c (Some x) None)
+new_key None true true x e none = refl
+new_key (Some y) true true x e none = absurd (let h = none refl in cc)
+new_key o true false x e none = cc
+new_key o false true x e none = cc
+new_key None false false x e none = refl
+new_key (Some y) false false x e none = refl
+
+pub fid_kept : {X : Type 0} (old new : BTreeMap Fid X) (f : Fid) (x : X) → is_some (get fid_cmp old f) ≡ false → ((q : Fid) → get fid_cmp new q ≡ cond (is_eq (fid_cmp f q)) (Some x) (get fid_cmp old q))
+    → (q : Fid) → get fid_cmp new q ≡ option_or (get fid_cmp old q) (cond (is_fid q f) (Some x) None)
+fid_kept old new f x none is q =
+    is q ∙ new_key (get fid_cmp old q) (is_eq (fid_cmp f q)) (is_fid q f) x (is_fid-sym f q) (λ tie. ap (λ k. is_some (get fid_cmp old k)) (same_fid q f tie) ∙ none)
+
+pub page_kept_new : {X : Type 0} (old new : BTreeMap Page X) (p : Page) (x : X) → is_some (get page_cmp old p) ≡ false → ((q : Page) → get page_cmp new q ≡ cond (is_eq (page_cmp p q)) (Some x) (get page_cmp old q))
+    → (f : Fid) (n : ℕ) → get page_cmp new (record { fid = f; number = n }) ≡ option_or (get page_cmp old (record { fid = f; number = n })) (cond (is_fid f p.fid && n == p.number) (Some x) None)
+page_kept_new old new p x none is f n =
+    is (record { fid = f; number = n })
+    ∙ new_key (get page_cmp old (record { fid = f; number = n })) (is_eq (page_cmp p (record { fid = f; number = n }))) (is_fid f p.fid && n == p.number) x (tie_pages p f n) (λ tie.
+    let parts = and_parts (is_fid f p.fid) (n == p.number) tie in
+    let file = same_fid f p.fid parts.0 in
+    let number = eqb-true n p.number parts.1 in
+    (λ i. is_some (get page_cmp old (record { fid = file i; number = number i }))) ∙ none)
+
+-- ---- which entries may stand
+core : (a b l d r m k : Bool) → (not (a || b) && (l && ((not d || r) && (alike a (r && m) && alike b (r && k))))) ≡ (not (a || b) && (l && cond r (not (m || k)) (not d)))
+core true b l d r m k = refl
+core false true l d r m k = refl
+core false false false d r m k = refl
+core false false true true true true k = refl
+core false false true true true false k = refl
+core false false true false true true k = refl
+core false false true false true false k = refl
+core false false true true false m k = refl
+core false false true false false m k = refl
+
+pub may_show_is : (lives : Fid → Bool) (e : Naming) → may_show lives e ≡ (not (is_system e.fid) && (lives e.fid && cond (is_fid e.dir sys_dir) (not (is_same_name e.name sys_dir_name || is_same_name e.name descriptor_name)) (not (is_directory e.fid))))
+unfolding keeps_system
+may_show_is lives e = core (is_fid e.fid sys_dir) (is_fid e.fid disk_descriptor) (lives e.fid) (is_directory e.fid) (is_fid e.dir sys_dir) (is_same_name e.name sys_dir_name) (is_same_name e.name descriptor_name)
+
+-- ---- two full names, word by word
+tie_same : (a b : ℕ) → is_eq (nat_cmp a b) ≡ (a == b)
+tie_same a b = grind (arith, nat_tests)
+
+pub fid_eq : (f g : Fid) → is_fid f g ≡ (f.high == g.high && (f.low == g.low && f.version == g.version))
+fid_eq f g =
+    tie_then (nat_cmp f.high g.high) (ordering_then (nat_cmp f.low g.low) (nat_cmp f.version g.version))
+    ∙ (λ i. tie_same f.high g.high i && tie_then (nat_cmp f.low g.low) (nat_cmp f.version g.version) i)
+    ∙ (λ i. f.high == g.high && (tie_same f.low g.low i && tie_same f.version g.version i))

@@ -1,0 +1,54 @@
+// The bytes of files, and the words of directories.
+ghost use Rattle.std.specs.Prelude.{◌≡◌, ◌≤◌, ◌<◌, IfOk, OnOk, ◌++◌};
+ghost use Rattle.pack_model.specs.Bytes.{words_of};
+ghost use Rattle.pack_reading.specs.Kept.{bytes_kept};
+
+use crate::swept::{PAGE_BYTES, Pages};
+use alto_words::{Fid, List, Memory};
+use byteorder::{BigEndian, ByteOrder};
+use disk_records::Page;
+use std::alloc::Global;
+
+/// The bytes of pages in order, up to and with the first that isn't full, or up to the first that is missing.
+fn join_pages(alloc: Global, pages: &Pages, fid: Fid) -> Result<Vec<u8>, Memory>
+    ensures { IfOk result (λ bytes. bytes.items ≡ bytes_kept pages.now fid) }
+{
+    let mut bytes = Vec::new(alloc);
+    for number in 0..u16::MAX {
+        let page = Page {
+            fid,
+            number: number + 1,
+        };
+        let Some(held) = pages.kept.get(&page) else {
+            return Ok(bytes);
+        };
+        bytes.extend_from_slice(held.as_slice())?;
+        if held.as_slice().len() < PAGE_BYTES {
+            return Ok(bytes);
+        }
+    }
+    Ok(bytes)
+}
+
+/// The bytes of a file, with no room behind them.
+pub(crate) fn file_bytes(alloc: Global, pages: &Pages, fid: Fid) -> Result<List<u8>, Memory>
+    ensures { IfOk result (λ bytes. bytes ≡ bytes_kept pages.now fid) }
+{
+    let mut bytes = join_pages(alloc, pages, fid)?;
+    bytes.shrink_to_fit();
+    Ok(List::from_vec(bytes))
+}
+
+/// The words of these bytes; a last odd byte is left out.
+pub(crate) fn words_of(alloc: Global, bytes: &[u8]) -> Result<List<u16>, Memory>
+    ensures { IfOk result (λ words. words ≡ words_of bytes.now) }
+{
+    let mut words = Vec::new(alloc);
+    let count = bytes.len() / 2;
+    for k in 0..count {
+        words
+            .push(bytes[2 * k] as u16 * 256 + bytes[2 * k + 1] as u16)
+            .map_err(|_| Memory)?;
+    }
+    Ok(List::from_vec(words))
+}

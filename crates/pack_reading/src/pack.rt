@@ -1,0 +1,51 @@
+// The whole reading of a pack.
+ghost use Rattle.std.specs.Prelude.{◌≡◌, ◌≤◌, ◌+◌, List, [], IsTrue, IsErrOf, IfOk};
+ghost use Rattle.disk_records.specs.Addresses.{pages_of};
+ghost use Rattle.disk_records.specs.Tapes.{DiskAlone, Rose, pack, added};
+ghost use Rattle.pack_model.specs.Sights.{Sight};
+ghost use Rattle.pack_model.specs.Settling.{show, settle};
+ghost use Rattle.pack_model.specs.View.{view};
+ghost use Rattle.pack_model.specs.Model.{read_sights};
+ghost use Rattle.disk_records.specs.declared.shape.Shape.{Shape as Form};
+ghost use Rattle.pack_reading.specs.Kept.{HoldsSights};
+ghost use Rattle.pack_reading.specs.Shows.{ShowsView};
+
+use crate::error::ReadingError;
+use crate::files::{find_files, show_files};
+use crate::scan::scan;
+use crate::settle::{list_names, settle};
+use crate::shown::Shown;
+use crate::sweep::sweep;
+use crate::swept::Swept;
+use alto_words::Memory;
+use disk_records::Disk;
+use std::alloc::Global;
+
+/// What these sectors show.
+fn show_swept(alloc: Global, swept: Swept) -> Result<Shown, Memory>
+    ensures { (form : Form) (ss : List Sight) → HoldsSights ss swept → IfOk result (λ shown. ShowsView shown (settle (view (read_sights form ss)))) }
+{
+    let Swept { leaders, pages } = swept;
+    let found = find_files(alloc, &leaders, pages)?;
+    let mut names = scan(alloc, found.as_slice(), &leaders)?;
+    let files = show_files(alloc, found)?;
+    settle(&mut names, files.as_slice())?;
+    let names = list_names(alloc, &names)?;
+    Ok(Shown { files, names })
+}
+
+/// What a pack shows, whatever stands on it: each living file with its leader and bytes, and its name, which it is given in
+/// SysDir where no entry of it is kept. Nothing is written. One sector command for each sector but the first.
+///
+/// DiskFault: a sector wasn't read, and the count of disk faults rose. Memory: none was left; it takes about twice the bytes of all
+/// pages.
+pub fn read_pack<D: Disk>(alloc: Global, disk: &mut D) -> Result<Shown, ReadingError>
+    ensures alone { DiskAlone (D.tape disk.old) (D.tape disk.new) }
+    ensures fault { IsErrOf result ReadingError.DiskFault → Rose (D.tape disk.old).disk_faults (D.tape disk.new).disk_faults }
+    ensures silent { IsTrue D.told → added (D.tape disk.old) (D.tape disk.new) ≡ [] }
+    ensures runs { IsTrue D.told → (D.tape disk.new).runs ≤ (D.tape disk.old).runs + pages_of (D.tape disk.old).form }
+    ensures read { IsTrue D.told → IfOk result (λ shown. ShowsView shown (show (pack (D.tape disk.old)))) }
+{
+    let swept = sweep(alloc, disk)?;
+    Ok(show_swept(alloc, swept)?)
+}

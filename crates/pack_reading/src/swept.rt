@@ -1,0 +1,172 @@
+// What a sweep of all sectors keeps: of each file its leader, and of each data page its bytes, always those of the lowest sector
+// that carries the page.
+ghost use Rattle.std.specs.Prelude.{◌≡◌, ◌+◌, ◌<◌, ◌≤◌, ℕ, suc, ◌==◌, ◌&&◌, false, cond, take, Some, None, OnOk, IfOk, is_some};
+ghost use Rattle.std.specs.Option.{option_or};
+ghost use Rattle.alto_words.specs.declared.fid.Fid.{Fid};
+ghost use Rattle.alto_words.specs.Fid.{is_fid};
+ghost use Rattle.disk_records.specs.Labels.{tag};
+ghost use Rattle.disk_records.specs.Words.{word, double};
+ghost use Rattle.pack_model.specs.Bytes.{bytes_of};
+ghost use Rattle.pack_model.specs.Leaders.{leader_of, leader_words, is_readable};
+ghost use Rattle.pack_model.specs.Sights.{page_sight, tag_sight};
+ghost use Rattle.pack_reading.specs.Kept.{plain_leader, leader_kept, lives_kept, page_kept, KeepsSight};
+
+use alto_words::{Fid, List, Memory, Name};
+use byteorder::{BigEndian, ByteOrder};
+use disk_records::{Page, Sector, page_of};
+use leader_page::Leader;
+use std::alloc::Global;
+use std::collections::BTreeMap;
+
+/// A page has so many bytes.
+pub(crate) const PAGE_BYTES: usize = 512;
+
+/// The words of a leader page that aren't hints; those from 26 on are kept as they are.
+const REST: usize = 26;
+
+const HINTS: usize = 246;
+
+/// The leaders of files.
+#[derive(Drop)]
+pub(crate) struct Leaders {
+    pub(crate) kept: BTreeMap<Fid, Leader>,
+}
+
+/// The counted bytes of data pages.
+#[derive(Drop)]
+pub(crate) struct Pages {
+    pub(crate) kept: BTreeMap<Page, List<u8>>,
+}
+
+/// What the sectors so far have shown.
+#[derive(Drop)]
+pub(crate) struct Swept {
+    pub(crate) leaders: Leaders,
+    pub(crate) pages: Pages,
+}
+
+impl Leaders {
+    /// None. It takes no memory.
+    pub(crate) fn new(alloc: Global) -> Leaders
+        ensures { (f : Fid) → leader_kept result f ≡ None }
+    {
+        Leaders {
+            kept: BTreeMap::new(alloc),
+        }
+    }
+
+    /// Keeps the leader of a file, unless one is kept.
+    pub(crate) fn keep(&mut self, fid: Fid, leader: Leader) -> Result<(), Memory>
+        ensures { OnOk result ((f : Fid) → leader_kept self.new f ≡ option_or (leader_kept self.old f) (cond (is_fid f fid) (Some leader) None)) }
+    {
+        if self.kept.contains_key(&fid) {
+            return Ok(());
+        }
+        match self.kept.insert(fid, leader) {
+            Ok(_) => Ok(()),
+            Err(_) => Err(Memory),
+        }
+    }
+
+    /// Whether a file's leader is kept.
+    pub(crate) fn has(&self, fid: Fid) -> bool
+        ensures { result ≡ lives_kept self.now fid }
+    {
+        self.kept.contains_key(&fid)
+    }
+}
+
+impl Pages {
+    /// None. It takes no memory.
+    pub(crate) fn new(alloc: Global) -> Pages
+        ensures { (f : Fid) (n : ℕ) → page_kept result f n ≡ None }
+    {
+        Pages {
+            kept: BTreeMap::new(alloc),
+        }
+    }
+
+    /// Keeps the bytes of a data page, unless some are kept.
+    pub(crate) fn keep(&mut self, page: Page, bytes: List<u8>) -> Result<(), Memory>
+        ensures { OnOk result ((f : Fid) (n : ℕ) → page_kept self.new f n ≡ option_or (page_kept self.old f n) (cond (is_fid f page.fid && suc n == page.number) (Some bytes) None)) }
+    {
+        if self.kept.contains_key(&page) {
+            return Ok(());
+        }
+        match self.kept.insert(page, bytes) {
+            Ok(_) => Ok(()),
+            Err(_) => Err(Memory),
+        }
+    }
+}
+
+/// The first `count` bytes of the value of a sector.
+fn counted_bytes(alloc: Global, value: &[u16; 256], count: u16) -> Result<List<u8>, Memory>
+    requires { count ≤ 512 }
+    ensures { IfOk result (λ bytes. bytes ≡ take count (bytes_of value.now)) }
+{
+    let mut bytes = [0; PAGE_BYTES];
+    BigEndian::write_u16_into(value, &mut bytes);
+    Ok(List::from_vec(Vec::from_slice(alloc, &bytes[..count as usize])?))
+}
+
+/// The number of two words of a leader page, the high one first.
+fn double(value: &[u16; 256], at: usize) -> u32
+    requires { at < 200 }
+    ensures { result ≡ double (take 246 value.now) at }
+{
+    value[at] as u32 * 0x1_0000 + value[at + 1] as u32
+}
+
+/// What the leader page of a file says whose name can't be read.
+fn lost_leader(fid: Fid, value: &[u16; 256]) -> Leader
+    ensures { is_readable (leader_words value.now) ≡ false → result ≡ plain_leader (leader_of fid value.now) }
+{
+    let mut rest = [0; 220];
+    rest.copy_from_slice(&value[REST..HINTS]);
+    Leader {
+        created: double(value, 0),
+        written: double(value, 2),
+        read: double(value, 4),
+        name: Name::lost(fid.serial()),
+        rest,
+        hints: [0; 10],
+    }
+}
+
+/// What the leader page of a file says, its hints left out.
+fn leader_in(fid: Fid, value: &[u16; 256]) -> Leader
+    ensures { result ≡ plain_leader (leader_of fid value.now) }
+{
+    match Leader::decode(value) {
+        Some(leader) => Leader {
+            hints: [0; 10],
+            ..leader
+        },
+        None => lost_leader(fid, value),
+    }
+}
+
+/// Keeps a page that a sector carries.
+fn keep_page(alloc: Global, swept: &mut Swept, page: Page, sector: &Sector) -> Result<(), Memory>
+    requires { word sector.now.label 3 ≤ 512 }
+    ensures { OnOk result (KeepsSight (page_sight page.fid page.number (word sector.now.label 3) sector.now.value) swept.old swept.new) }
+{
+    if page.number == 0 {
+        let leader = leader_in(page.fid, &sector.value);
+        swept.leaders.keep(page.fid, leader)
+    } else {
+        let bytes = counted_bytes(alloc, &sector.value, sector.label[3])?;
+        swept.pages.keep(page, bytes)
+    }
+}
+
+/// Keeps what this sector shows, whose header is right.
+pub(crate) fn keep_sector(alloc: Global, swept: &mut Swept, sector: &Sector) -> Result<(), Memory>
+    ensures { OnOk result (KeepsSight (tag_sight (tag sector.now.label) sector.now.value) swept.old swept.new) }
+{
+    match page_of(&sector.label) {
+        Some(page) => keep_page(alloc, swept, page, sector),
+        None => Ok(()),
+    }
+}
