@@ -2,12 +2,13 @@
 //
 // A sector command seeks to its sector once. It then makes one read call for the records before its first Write, and one write
 // call for each record that it writes, in their order and with no buffer between: a process that is stopped leaves a first part of
-// its record writes in the file. Nothing is synced to the device, so a power failure may leave less.
+// its record writes in the file. Before the first of them it asks for the file's length, so that no write makes the file longer.
+// Nothing is synced to the device, so a power failure may leave less.
 ghost use Rattle.std.specs.Prelude.{false, []};
 
 use crate::codec::shape_of_length;
 use crate::error::ReachError;
-use crate::records::{fill, read_front, seek_to, write_back};
+use crate::records::{fill, find_place, read_front, seek_to, write_back};
 use disk_records::{
     Console, ConsoleError, Disk, DiskError, Machine, Plan, Sector, Shape, Tape, first_mismatch,
     update_memory,
@@ -239,6 +240,7 @@ impl<'a, R: Files + Input + Print> FileMachine<'a, R> {
         if found.is_some() {
             return Ok(found);
         }
+        find_place(&self.file, at, plan)?;
         update_memory(plan, buf, &disk);
         write_back(&mut self.file, plan, buf, &mut self.writes)?;
         Ok(None)

@@ -1,5 +1,5 @@
 // The records of one sector, read from a file and written to it where the file stands.
-ghost use Rattle.std.specs.Prelude.{◌≡◌, ◌+◌, ◌*◌, ◌≤◌, length, replicate, IfOk, OnOk, OnErr, IsTrue};
+ghost use Rattle.std.specs.Prelude.{◌≡◌, ◌↔◌, ◌+◌, ◌*◌, ◌≤◌, length, replicate, IfOk, OnOk, OnErr, IsTrue};
 ghost use Rattle.std.specs.Io.KnownBytes.{Consumes, Appends};
 ghost use Rattle.std.specs.Io.Seek.{MovesTo};
 ghost use Rattle.disk_records.specs.Addresses.{pages_of};
@@ -9,8 +9,9 @@ ghost use Rattle.disk_image.specs.Images.{words_bytes};
 
 use crate::codec::{CYLINDER_BYTES, SECTOR_BYTES, read_sector, write_words};
 use disk_records::{Act, Plan, Sector, Shape};
+use std::fs::OpenFile;
 use std::io;
-use std::io::{Read, Seek, SeekFrom, Write};
+use std::io::{Error, ErrorKind, Read, Seek, SeekFrom, Write};
 
 /// How many of a record's bytes an act reads.
 fn read_length(act: Act, bytes: usize) -> usize
@@ -47,6 +48,23 @@ pub(crate) fn read_front<F: Read>(file: &mut F, plan: Plan) -> io::Result<Sector
     let mut bytes = [0; SECTOR_BYTES];
     file.read_exact(&mut bytes[..front_length(plan)])?;
     Ok(read_sector(&bytes))
+}
+
+/// Whether a file of this many bytes has the whole of a sector.
+fn has_sector(bytes: u64, at: u16) -> bool
+    ensures { IsTrue result ↔ at * 532 + 532 ≤ bytes }
+{
+    (at as u64 + 1) * SECTOR_BYTES as u64 <= bytes
+}
+
+/// Finds the place of a command that writes: an error where the file no longer has the whole of its sector. Records written there
+/// would make the file longer again, and those that were lost would be read as zeros. A command that only reads finds the end of
+/// the file by that. A Write is followed by Writes alone, so a command writes where it writes the value.
+pub(crate) fn find_place<F: OpenFile>(file: &F, at: u16, plan: Plan) -> io::Result<()> {
+    if plan.value != Act::Write || has_sector(file.metadata()?.len(), at) {
+        return Ok(());
+    }
+    Err(Error::from(ErrorKind::UnexpectedEof))
 }
 
 /// Writes the records whose act is Write, in order, by one write call each, and counts those that were written.

@@ -154,6 +154,7 @@ fn files_that_are_not_reached(rt: HostRuntime) -> Result<(), Fail> {
     assert!(rt; again.err() == Some(ReachError::NoFile));
     let nowhere = FileMachine::create(&rt, rt.alloc(), "missing/pack", 2);
     assert!(rt; nowhere.err() == Some(ReachError::NoFile));
+    fs::remove_file(&rt, "short")?;
     Ok(())
 }
 
@@ -166,6 +167,7 @@ fn a_new_file_is_zeros(rt: HostRuntime) -> Result<(), Fail> {
     assert!(rt; bytes.iter().all(|byte| *byte == 0));
     let reached = FileMachine::reach(&rt, rt.alloc(), "zeros")?;
     assert_eq!(rt; reached.shape().pages(), 72);
+    fs::remove_file(&rt, "zeros")?;
     Ok(())
 }
 
@@ -218,6 +220,7 @@ fn records_are_written_in_place(rt: HostRuntime) -> Result<(), Fail> {
     assert!(rt; memory == filled(0x0102, 0x0304, 0x0708));
     machine.run(47, READ_ALL, &mut memory)?;
     assert!(rt; memory == filled(0, 0, 0));
+    fs::remove_file(&rt, "written")?;
     Ok(())
 }
 
@@ -230,6 +233,34 @@ fn a_file_that_shrinks_is_a_fault(rt: HostRuntime) -> Result<(), Fail> {
     assert!(rt; machine.run(47, READ_ALL, &mut memory) == Err(DiskError::Failed));
     machine.run(46, READ_ALL, &mut memory)?;
     assert!(rt; memory == filled(0, 0, 0));
+    fs::remove_file(&rt, "shrinking")?;
+    Ok(())
+}
+
+#[test]
+fn a_write_never_makes_the_file_longer(rt: HostRuntime) -> Result<(), Fail> {
+    let write_value = Plan {
+        header: Act::Check,
+        label: Act::Check,
+        value: Act::Write,
+    };
+    let mut machine = FileMachine::create(&rt, rt.alloc(), "cut", 2)?;
+    let file = OpenOptions::new().write(true).open(&rt, "cut")?;
+    // sector 2 ends at byte 1,596; sector 3 is cut short, and sector 4 lost
+    for length in [2_127u64, 1_700, 1_596] {
+        file.set_len(length)?;
+        for at in [3u16, 4, 47] {
+            for plan in [WRITE_ALL, write_value] {
+                let failed = machine.run(at, plan, &mut filled(0, 0, 7));
+                assert!(rt; failed == Err(DiskError::Failed), "{at} of {length}");
+            }
+        }
+        machine.run(2, WRITE_ALL, &mut filled(0, 0, 7))?;
+        machine.run(2, write_value, &mut filled(0, 0, 7))?;
+        assert!(rt; fs::read(&rt, "cut")?.len() as u64 == length);
+    }
+    assert_eq!(rt; machine.writes(), 12);
+    fs::remove_file(&rt, "cut")?;
     Ok(())
 }
 
@@ -239,5 +270,6 @@ fn an_empty_input_has_no_keys(rt: HostRuntime) -> Result<(), Fail> {
     assert_eq!(rt; machine.read(&mut [0; 4])?, 0);
     assert_eq!(rt; machine.read(&mut [0])?, 0);
     machine.show(b"shown\n")?;
+    fs::remove_file(&rt, "keyless")?;
     Ok(())
 }
