@@ -5,26 +5,26 @@ use Rattle.std.specs.List.{starts_with}
 use Rattle.std.proofs.lemmas.List.{take_all, append-nil, length-append, length-take}
 use Rattle.std.proofs.lemmas.Bool.{cases_lt, le-leb}
 use Rattle.disk_records.specs.Addresses.{pages_of}
-use Rattle.disk_records.specs.Packs.{after}
-use Rattle.disk_records.specs.Tapes.{Taped, Grown, KeysAlone, pack, added, first_pack}
-use Rattle.disk_records.proofs.Growing.{rose_later}
+use Rattle.disk_records.specs.Tapes.{Taped, Grown, KeysAlone, pack, added}
 use Rattle.pack_model.specs.Lines.{lines, ended_lines, most_keys, longest_line, is_too_long}
 use Rattle.pack_model.specs.Stored.{StoredFiles, stored_files}
 use Rattle.pack_model.specs.Moves.{steps}
 use Rattle.pack_model.specs.Puts.{Put, putting}
 use Rattle.pack_model.specs.Turns.{Turn, Talks, IsTurn, ops_of}
+use Rattle.pack_laws.proofs.Lining.{most_keys-is}
 use Rattle.pack_laws.proofs.Moving.{steps-append}
 use Rattle.pack_laws.proofs.Talking.{talks_begin, talks_model, talks_turn, turn_stands, talks_cut, talks_shown}
-use Rattle.alto_top.specs.Keys.{kept_of, TookPart}
+use Rattle.alto_top.specs.Keys.{kept_of, TookRest, TookPart}
 use Rattle.alto_top.specs.Patches.{patch_in, turn_of, puts_of, puts_of_patch, reply_to_patch, text_of, operands_in, verb}
 use Rattle.alto_top.specs.declared.patch.Patch.{Patch}
 use Rattle.alto_top.specs.declared.status.Fault.{Fault}
 use Rattle.alto_top.specs.declared.status.Fault.TheVariants.{Disk, Key, Display, Memory}
-use Rattle.alto_top.specs.Sessions.{turns_of, BreaksBy, Obeyed, IsHistory, Booted, one_each, runs_of_line}
+use Rattle.alto_top.specs.Sessions.{turns_of, BreaksBy, Obeyed, TurnTaken, NextTurn, IsHistory, TookLines, Booted, one_each, runs_of_line}
 use Rattle.alto_top.specs.declared.status.Status.{Status}
 use Rattle.alto_top.specs.declared.status.Status.TheVariants as status
-use Rattle.alto_top.specs.Faults.{KeyFaultCause, HasStatusCause, status_of}
-use Rattle.alto_top.proofs.Lined.{Over, Lined, live_start, lined_front, lined_split, lined_part}
+use Rattle.alto_top.specs.Faults.{KeyFaultCause, status_of}
+use Rattle.alto_top.proofs.Lined.{Over, Lined, Took, live_start, ended_few, lined_front, lined_split, lined_part, lined_took, lined_over, lined_spent}
+use Rattle.alto_top.proofs.Turning.{keys_pack}
 
 abbrev pub files_of : Taped → StoredFiles
 files_of x = stored_files (pack x)
@@ -88,25 +88,11 @@ no_fault_is_done Key is = cc
 no_fault_is_done Display is = cc
 no_fault_is_done Memory is = cc
 
-pub no_fault_is_usage : (fault : Fault) → status_of fault ≢ status.Usage
-no_fault_is_usage Disk is = cc
-no_fault_is_usage Key is = cc
-no_fault_is_usage Display is = cc
-no_fault_is_usage Memory is = cc
-
 pub no_key_fault : (fault : Fault) → fault ≢ Key → status_of fault ≢ status.KeyFault
 no_key_fault Disk other is = cc
 no_key_fault Key other is = absurd (other refl)
 no_key_fault Display other is = cc
 no_key_fault Memory other is = cc
-
-pub cause_later : {first x : Taped} (y : Taped) (answer : Status) → Grown first x → HasStatusCause x y answer → HasStatusCause first y answer
-cause_later y status.Done grown cause = tt
-cause_later y status.Usage grown cause = tt
-cause_later {first} {x} y status.DiskFault grown cause = rose_later first.disk_faults x.disk_faults y.disk_faults grown.disk_faults cause
-cause_later {first} {x} y status.KeyFault grown cause = rose_later first.key_faults x.key_faults y.key_faults grown.key_faults cause
-cause_later {first} {x} y status.DisplayFault grown cause = rose_later first.show_faults x.show_faults y.show_faults grown.show_faults cause
-cause_later y status.Memory grown cause = tt
 
 -- ---- a session so far: the turns of these lines
 pub record Going (first now : Taped) (done : List (List ℕ)) : Type 0 where
@@ -163,8 +149,7 @@ key_is_whole x y fault cause = (no_disk x y fault cause, no_display x y fault ca
 pub taken : {first x y : Taped} {done : List (List ℕ)} → KeysAlone x y → Going first x done → Going first y done
 taken {first} {x} {y} keys going =
     let events : added first y ≡ added first x = ap (drop (length first.events)) keys.events in
-    let begun : first_pack y ≡ first_pack x = ap (λ s. record { shape = s; sectors = y.base }) keys.grown.form ∙ ap (λ b. record { shape = x.form; sectors = b }) keys.grown.base in
-    let same : pack y ≡ pack x = ap (λ p. after p y.events) begun ∙ ap (after (first_pack x)) keys.events in
+    let same : pack y ≡ pack x = keys_pack keys in
     record {
       turns = going.turns;
       are = going.are;
@@ -226,6 +211,7 @@ broke {first} {x} {y} {done} {line} {whole} {left} {fault} next answer is not_ke
     let going = next.going in
     let breaks : BreaksBy answer turn.made (turn_of (files_after (files_of first) done) whole) = subst (λ t. BreaksBy answer turn.made t) (turn_now next) (subst (λ s. BreaksBy s turn.made (turn_of (files_of x) line)) (sym is) obeyed.breaks) in
     let all : lines first.keys ≡ done ++ whole ∷ front.0 = front.1 ∙ append_assoc done (whole ∷ []) front.0 in
+    let count : length (going.turns ++ turn.made ∷ []) ≡ length (done ++ whole ∷ []) = omega (arith, length-append done (whole ∷ []), length-append going.turns (turn.made ∷ []), turns_count going) in
     let history = history_broken answer (files_of first) done front.0 whole turn.made breaks in
     record {
       turns = going.turns ++ turn.made ∷ [];
@@ -234,9 +220,11 @@ broke {first} {x} {y} {done} {line} {whole} {left} {fault} next answer is not_ke
       shown = talks_shown putting talks;
       cuts = talks_cut putting one_each talks;
       done = λ done. absurd (no_fault_is_done fault (sym is ∙ done));
-      taken = split.0;
-      split = split.1;
-      ahead = omega (arith, split.2, length-append done (whole ∷ []), length-append going.turns (turn.made ∷ []), turns_count going);
+      taken = split.taken;
+      split = split.split;
+      ahead = omega (arith, split.ahead, count);
+      behind = omega (arith, split.behind, count);
+      exact = λ fault. subst (TookLines first.keys y.keys split.taken) (sym count) split.exact;
       key_fault = λ is. absurd (not_key is);
       runs = runs_longer next turn.made;
     }
@@ -244,8 +232,8 @@ broke {first} {x} {y} {done} {line} {whole} {left} {fault} next answer is not_ke
 -- ---- how it ends
 module _ {first y : Taped} {done : List (List ℕ)} (going : Going first y done) where
   -- after whole lines
-  ended : (answer : Status) (keys : List ℕ) (more : List (List ℕ)) → IsWhole answer → lines first.keys ≡ done ++ more → first.keys ≡ keys ++ y.keys → length (ended_lines keys) ≤ length done → (answer ≡ status.Done → (lines first.keys ≡ done) × (y.keys ≡ drop most_keys first.keys)) → (answer ≡ status.KeyFault → ended_lines keys ≡ done) → Booted first y answer
-  ended answer keys more no_fault all split ahead whole part =
+  ended : (answer : Status) (keys : List ℕ) (more : List (List ℕ)) → IsWhole answer → lines first.keys ≡ done ++ more → first.keys ≡ keys ++ y.keys → length (ended_lines keys) ≤ length done → length done ≤ length (lines keys) → (answer ≡ status.Done → (lines first.keys ≡ done) × (y.keys ≡ drop most_keys first.keys)) → (answer ≡ status.KeyFault → ended_lines keys ≡ done) → Booted first y answer
+  ended answer keys more no_fault all split ahead behind whole part =
       record {
         turns = going.turns;
         history = subst (IsHistory answer (files_of first) (lines first.keys)) (sym going.are) (subst (λ l. IsHistory answer (files_of first) l (turns_of (files_of first) done)) (sym all) (history_front answer (files_of first) done more no_fault));
@@ -256,17 +244,53 @@ module _ {first y : Taped} {done : List (List ℕ)} (going : Going first y done)
         taken = keys;
         split = split;
         ahead = omega (arith, ahead, turns_count going);
+        behind = omega (arith, behind, turns_count going);
+        exact = λ fault. elim fault [ inl disk ↦ absurd (no_fault.0 disk) | inr display ↦ absurd (no_fault.1 display) ];
         key_fault = λ is. going.are ∙ ap (turns_of (files_of first)) (sym (part is));
         runs = going.runs;
       }
 
   -- with the keys
   pub ended_over : {left : ℕ} → Over first.keys y.keys left done → Booted first y status.Done
-  ended_over over = ended status.Done over.taken [] done_is_whole (over.all ∙ sym (append-nil done)) over.split over.ahead (λ is. (over.all, over.keys)) (λ is. absurd (done_is_no_key is))
+  ended_over over = ended status.Done over.taken [] done_is_whole (over.all ∙ sym (append-nil done)) over.split over.ahead over.behind (λ is. (over.all, over.keys)) (λ is. absurd (done_is_no_key is))
 
   -- in a line that isn't whole
   pub ended_part : {before : ℕ} {mid : List ℕ} (answer : Status) → answer ≢ status.Done → IsWhole answer → Lined first.keys mid before done → TookPart mid y.keys before → Booted first y answer
   ended_part answer not_done no_fault lined part =
       let front = lined_front lined in
       let split = lined_part lined part in
-      ended answer split.0 front.0 no_fault front.1 split.1 (omega (arith, ap length split.2)) (λ is. absurd (not_done is)) (λ is. split.2)
+      ended answer split.0 front.0 no_fault front.1 split.1 (omega (arith, ap length split.2)) (omega (arith, ap length split.2, ended_few split.0)) (λ is. absurd (not_done is)) (λ is. split.2)
+
+-- ---- the next line
+-- no key counts any more
+pub session_spent : {first x : Taped} {left index : ℕ} → Session first x left index → 2147483648 ≤ index → Booted first x status.Done
+session_spent so_far all = ended_over so_far.going (lined_spent so_far.lined (omega (arith, so_far.few, most_keys-is, all)))
+
+module _ {first x y : Taped} {left after index : ℕ} (so_far : Session first x left index) where
+  -- there is none
+  pub session_over : KeysAlone x y → TookRest x.keys y.keys left after [] → Booted first y status.Done
+  session_over keys rest = ended_over (taken keys so_far.going) (lined_over so_far.lined rest)
+
+  module _ (one : Grown first x) (two : Grown x y) (few : y.runs ≤ x.runs + runs_of_line x) where
+    next_of : {line : List ℕ} (took : Took first.keys y.keys left after so_far.done line) → Next first x y so_far.done line took.whole
+    next_of took = record { one = one; two = two; going = so_far.going; kept = took.kept; few = few }
+
+    -- it is obeyed
+    pub session_more : {u : Unit {0}} → TurnTaken x y left after (Ok u) → Session first y after (index + 1)
+    session_more turn =
+        let took = lined_took so_far.lined turn.took in
+        record {
+          done = so_far.done ++ took.whole ∷ [];
+          going = obeyed (next_of took) turn.obeyed.turn;
+          lined = took.lined;
+          few = omega (arith, so_far.few, took.fewer);
+        }
+
+    -- the session ends in it
+    pub session_broke : (fault : Fault) (answer : Status) → answer ≡ status_of fault → NextTurn x y left after (Err fault) → Booted first y answer
+    session_broke fault answer is (inl missed) =
+        let whole : IsWhole answer = subst IsWhole (sym is) (key_is_whole x y fault missed.cause) in
+        ended_part (taken missed.alone so_far.going) answer (λ done. no_fault_is_done fault (sym is ∙ done)) whole so_far.lined missed.part
+    session_broke fault answer is (inr (turn, other)) =
+        let took = lined_took so_far.lined turn.took in
+        broke (next_of took) answer is (λ key. no_key_fault fault other (sym is ∙ key)) took.lined turn.obeyed

@@ -5,8 +5,10 @@ pub mod Counting
 pub mod Grammar
 pub mod InPlace
 pub mod Lined
+pub mod Looking
 pub mod Obeying
 pub mod Patching
+pub mod Rows
 pub mod Seeing
 pub mod Sweeping
 pub mod Turning

@@ -6,6 +6,7 @@ use Rattle.std.proofs.Math.Seq.{take-append-add, drop-append-add}
 use Rattle.pack_model.specs.Lines.{lines, lines_from, ended_lines, ended_from, most_keys}
 use Rattle.pack_laws.proofs.Lining.{rest_from, lines-append, ended-append, rest-append, lines_split, ended-join}
 use Rattle.alto_top.specs.Keys.{kept_of, IsUnbroken, TookEnded, TookRest, TookLast, TookPart}
+use Rattle.alto_top.specs.Sessions.{keys_of, TookLines}
 
 -- ---- keys without a line's end
 unbroken_ended : (line keys : List ℕ) → IsUnbroken keys → ended_from line keys ≡ []
@@ -23,6 +24,20 @@ whole_line : (keys : List ℕ) → keys ≢ [] → lines_from keys [] ≡ keys �
 whole_line [] some = absurd (some refl)
 whole_line (key ∷ keys) some = refl
 
+-- a line more, with its byte 10
+keys_of-push : (done : List (List ℕ)) (line : List ℕ) → keys_of (done ++ line ∷ []) ≡ keys_of done ++ (line ++ 10 ∷ [])
+keys_of-push [] line = refl
+keys_of-push (first ∷ done) line =
+    ap (λ l. first ++ 10 ∷ l) (keys_of-push done line)
+    ∙ sym (append_assoc first (10 ∷ keys_of done) (line ++ 10 ∷ []))
+
+-- the lines that end are no more than all
+pub ended_few : (keys : List ℕ) → length (ended_lines keys) ≤ length (lines keys)
+ended_few keys =
+    let counted = take most_keys keys in
+    let same = ap length (lines_split [] counted) in
+    omega (arith, same, length-append (ended_from [] counted) (lines_from (rest_from [] counted) []))
+
 -- ---- lines that are taken
 -- All lines so far have ended, and so many keys still count.
 pub record Live (old now : List ℕ) (left : ℕ) (done : List (List ℕ)) : Type 0 where
@@ -31,6 +46,7 @@ pub record Live (old now : List ℕ) (left : ℕ) (done : List (List ℕ)) : Typ
   pub counted : length taken + left ≡ most_keys
   pub ended : ended_from [] taken ≡ done
   pub rest : rest_from [] taken ≡ []
+  pub typed : taken ≡ keys_of done
 
 -- All lines are taken, and no key counts any more.
 pub record Over (old now : List ℕ) (left : ℕ) (done : List (List ℕ)) : Type 0 where
@@ -38,11 +54,12 @@ pub record Over (old now : List ℕ) (left : ℕ) (done : List (List ℕ)) : Typ
   pub split : old ≡ taken ++ now
   pub all : lines old ≡ done
   pub ahead : length (ended_lines taken) ≤ length done
+  pub behind : length done ≤ length (lines taken)
   pub keys : now ≡ drop most_keys old
   pub spent : left ≡ 0
 
 pub live_start : (keys : List ℕ) → Live keys keys most_keys []
-live_start keys = record { taken = []; split = refl; counted = omega arith; ended = refl; rest = refl }
+live_start keys = record { taken = []; split = refl; counted = omega arith; ended = refl; rest = refl; typed = refl }
 
 -- Either of them.
 abbrev pub Lined : List ℕ → List ℕ → ℕ → List (List ℕ) → Type 0
@@ -79,8 +96,24 @@ module _ {old mid : List ℕ} {before : ℕ} {done : List (List ℕ)} (live : Li
       ∙ ap (λ l. done ++ l) (unbroken_ended [] part unbroken)
       ∙ append-nil done
 
+  -- so many as were taken
+  live_ended_lines : length (ended_lines live.taken) ≡ length done
+  live_ended_lines = ap length (ap ended_lines (sym (append-nil live.taken)) ∙ live_part [] tt (omega arith))
+
   live_ahead : length (ended_lines live.taken) ≤ length done
-  live_ahead = let same = ap length (ap ended_lines (sym (append-nil live.taken)) ∙ live_part [] tt (omega arith)) in omega (arith, same)
+  live_ahead = omega (arith, live_ended_lines)
+
+  live_behind : length done ≤ length (lines live.taken)
+  live_behind = omega (arith, live_ended_lines, ended_few live.taken)
+
+  -- the lines of the keys taken and of some more
+  live_more : (rest : List ℕ) → length rest ≤ before → lines (live.taken ++ rest) ≡ done ++ lines_from [] rest
+  live_more rest counted =
+      let few : length (live.taken ++ rest) ≤ most_keys = omega (arith, live.counted, counted, length-append live.taken rest) in
+      ap (lines_from []) (take_all most_keys (live.taken ++ rest) few)
+      ∙ lines-append [] live.taken rest
+      ∙ ap (λ l. l ++ lines_from (rest_from [] live.taken) rest) live.ended
+      ∙ ap (λ l. done ++ lines_from l rest) live.rest
 
   -- the keys that count are at their end, and these lines were in them
   live_rest : {new : List ℕ} {after : ℕ} {whole : List ℕ} (more : List (List ℕ)) → lines_from [] whole ≡ more → TookRest mid new before after whole → Over old new after (done ++ more)
@@ -93,6 +126,10 @@ module _ {old mid : List ℕ} {before : ℕ} {done : List (List ℕ)} (live : Li
             let within : length (take before mid) ≤ before = omega (arith, length-take before mid) in
             let ended = ap length (live_part (take before mid) (subst IsUnbroken (sym t.is) t.unbroken) within) in
             omega (arith, ended, length-append done more);
+        behind =
+            let within : length (take before mid) ≤ before = omega (arith, length-take before mid) in
+            let same = ap length (live_more (take before mid) within ∙ ap (λ l. done ++ lines_from [] l) t.is ∙ ap (λ l. done ++ l) are) in
+            omega (arith, same);
         keys = t.rest ∙ sym live_keys;
         spent = t.spent;
       }
@@ -109,6 +146,7 @@ module _ {old mid : List ℕ} {before : ℕ} {done : List (List ℕ)} (live : Li
         counted = omega (arith, live.counted, t.counted, length-append live.taken (t.whole ++ 10 ∷ []), length-append t.whole (10 ∷ []));
         ended = ended-append [] live.taken (t.whole ++ 10 ∷ []) ∙ ap (λ l. l ++ ended_from (rest_from [] live.taken) (t.whole ++ 10 ∷ [])) live.ended ∙ ap (λ l. done ++ ended_from l (t.whole ++ 10 ∷ [])) live.rest ∙ ap (λ l. done ++ l) one;
         rest = rest-append [] live.taken (t.whole ++ 10 ∷ []) ∙ ap (λ l. rest_from l (t.whole ++ 10 ∷ [])) live.rest ∙ none;
+        typed = ap (λ l. l ++ (t.whole ++ 10 ∷ [])) live.typed ∙ sym (keys_of-push done t.whole);
       }
 
   -- a last line that hasn't
@@ -124,10 +162,24 @@ pub lined_front : {old mid : List ℕ} {before : ℕ} {done : List (List ℕ)} �
 lined_front {mid = mid} {before} (inl live) = (lines_from [] (take before mid), live_lines live)
 lined_front {done = done} (inr over) = ([], over.all ∙ sym (append-nil done))
 
--- the keys that were taken
-pub lined_split : {old mid : List ℕ} {before : ℕ} {done : List (List ℕ)} → Lined old mid before done → (taken : List ℕ) × (old ≡ taken ++ mid) × (length (ended_lines taken) ≤ length done)
-lined_split (inl live) = (live.taken, live.split, live_ahead live)
-lined_split (inr over) = (over.taken, over.split, over.ahead)
+-- the keys that were taken: those of these lines, and no more
+pub record LinesTaken (old mid : List ℕ) (done : List (List ℕ)) : Type 0 where
+  pub taken : List ℕ
+  pub split : old ≡ taken ++ mid
+  pub ahead : length (ended_lines taken) ≤ length done
+  pub behind : length done ≤ length (lines taken)
+  pub exact : TookLines old mid taken (length done)
+
+-- so many first lines are these
+these_lines : (done more : List (List ℕ)) → take (length done) (done ++ more) ≡ done
+these_lines [] more = refl
+these_lines (line ∷ done) more = ap (λ l. line ∷ l) (these_lines done more)
+
+pub lined_split : {old mid : List ℕ} {before : ℕ} {done : List (List ℕ)} → Lined old mid before done → LinesTaken old mid done
+lined_split {old} {mid} {before} {done} (inl live) =
+    let first : take (length done) (lines old) ≡ done = ap (take (length done)) (live_lines live) ∙ these_lines done (lines_from [] (take before mid)) in
+    record { taken = live.taken; split = live.split; ahead = live_ahead live; behind = live_behind live; exact = inl (live.typed ∙ ap keys_of (sym first)) }
+lined_split (inr over) = record { taken = over.taken; split = over.split; ahead = over.ahead; behind = over.behind; exact = inr (ap length (sym over.all), over.keys) }
 
 -- a line that was taken, as it was typed
 pub record Took (old new : List ℕ) (before after : ℕ) (done : List (List ℕ)) (line : List ℕ) : Type 0 where
@@ -154,7 +206,7 @@ module _ {old mid : List ℕ} {before : ℕ} {done : List (List ℕ)} where
   lined_over {new} {after} (inl live) t = subst (Over old new after) (append-nil done) (live_rest live [] refl t)
   lined_over {new} (inr over) t =
       let same : new ≡ mid = t.rest ∙ ap (λ (k : ℕ). drop k mid) over.spent in
-      record { taken = over.taken; split = over.split ∙ ap (λ l. over.taken ++ l) (sym same); all = over.all; ahead = over.ahead; keys = same ∙ over.keys; spent = t.spent }
+      record { taken = over.taken; split = over.split ∙ ap (λ l. over.taken ++ l) (sym same); all = over.all; ahead = over.ahead; behind = over.behind; keys = same ∙ over.keys; spent = t.spent }
 
   pub lined_part : {new : List ℕ} → Lined old mid before done → TookPart mid new before → (taken : List ℕ) × (old ≡ taken ++ new) × (ended_lines taken ≡ done)
   lined_part {new} (inl live) t = (live.taken ++ t.part, split_more old live.taken t.part mid new live.split t.split, live_part live t.part t.unbroken t.counted)
@@ -168,6 +220,7 @@ module _ {old mid : List ℕ} {before : ℕ} {done : List (List ℕ)} where
         split = live.split;
         all = live_lines live ∙ ap (λ (k : ℕ). done ++ lines_from [] (take k mid)) none ∙ append-nil done;
         ahead = live_ahead live;
+        behind = live_behind live;
         keys = sym (live_keys live ∙ ap (λ (k : ℕ). drop k mid) none);
         spent = none;
       }

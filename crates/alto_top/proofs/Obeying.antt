@@ -4,7 +4,7 @@ use Rattle.std.specs.Prelude.{◌&&◌}
 use Rattle.std.specs.Option.{option_map}
 use Rattle.alto_words.specs.declared.fid.Fid.{Fid}
 use Rattle.disk_records.specs.Tapes.{Taped, Grown, pack, added}
-use Rattle.disk_records.proofs.Growing.{added-twice}
+use Rattle.disk_records.proofs.Growing.{added-twice, pack-silent, nothing_added}
 use Rattle.pack_model.specs.Sights.{Sight}
 use Rattle.pack_model.specs.Files.{file_bytes}
 use Rattle.pack_model.specs.Stored.{StoredFile, files_shown, stored_files, file_of_serial}
@@ -15,8 +15,7 @@ use Rattle.pack_laws.proofs.Moving.{does_nothing}
 use Rattle.pack_laws.proofs.Serials.{file_of_serial-fold}
 use Rattle.alto_top.specs.declared.patch.Patch.{Patch}
 use Rattle.alto_top.specs.declared.reply.Reply.TheVariants.{NotYet}
-use Rattle.alto_top.specs.Patches.{is_patched, lie_in_one_page, reply_within, reply_on, puts_at, puts_on}
-use Rattle.alto_top.proofs.Sweeping.{pack-silent}
+use Rattle.alto_top.specs.Patches.{is_patched, lie_in_one_page, patch_in, puts_of, puts_of_patch, reply_within, reply_on, puts_at, puts_on}
 
 module _ {T E : Type 0} where
   -- a call that gave up before its first event
@@ -39,6 +38,15 @@ module _ {T E : Type 0} where
   does_later {x} {y} {z} wanted result one two silent does =
       let events : added x z ≡ added y z = added-twice one two ∙ ap (λ l. l ++ added y z) silent in
       subst (λ e. Does putting (pack x) e wanted result) (sym events) (subst (λ p. Does putting p (added y z) wanted result) (pack-silent one silent) does)
+
+  -- there was no event
+  pub does_none : (x : Taped) (wanted : List Put) (result : Result T E) → OnOk result (wanted ≡ []) → Does putting (pack x) (added x x) wanted result
+  does_none x wanted (Ok y) none = silent_does x x wanted (Ok y) (nothing_added x.events) none
+  does_none x wanted (Err e) none = gave_up x x wanted (Err e) (nothing_added x.events) tt
+
+  -- nor was one asked for
+  pub bad_line_does : (x : Taped) (line : List ℕ) (result : Result T E) → patch_in line ≡ None → Does putting (pack x) (added x x) (puts_of (stored_files (pack x)) line) result
+  bad_line_does x line result none = silent_does x x (puts_of (stored_files (pack x)) line) result (nothing_added x.events) (ap (puts_of_patch (stored_files (pack x))) none)
 
 -- no file was found
 pub none_found : (files : Option (Fid × StoredFile)) → None ≡ option_map (λ e. e.0) files → files ≡ None

@@ -3,15 +3,12 @@ use Rattle.std.proofs.Common.{◌≡◌, ℕ, zero, suc, ◌+◌, ◌<◌, ◌�
 use Rattle.std.specs.Prelude.{fold}
 use Rattle.std.specs.Option.{option_or}
 use Rattle.std.proofs.lemmas.List.{take_more, take_all}
-use Rattle.std.proofs.Math.ListN.{length-set}
 use Rattle.alto_words.specs.declared.fid.Fid.{Fid}
 use Rattle.disk_records.specs.declared.records.Sector.{Sector}
 use Rattle.disk_records.specs.declared.shape.Shape.{Shape}
-use Rattle.disk_records.specs.declared.records.Event.{Event}
-use Rattle.disk_records.specs.declared.records.Event.TheVariants.{Wrote, Shown}
-use Rattle.disk_records.specs.Packs.{Pack, after, after_all, after_one, sector_at}
+use Rattle.disk_records.specs.Packs.{Pack, sector_at}
 use Rattle.disk_records.specs.Tapes.{Taped, Grown, pack, added}
-use Rattle.disk_records.proofs.Growing.{added-twice, pack-after}
+use Rattle.disk_records.proofs.Growing.{pack-silent, length-pack}
 use Rattle.pack_model.specs.Sights.{Sight, sight, sights_from, sights}
 use Rattle.pack_model.specs.Sights.Sight.{hidden}
 use Rattle.pack_model.specs.Files.{first, numbered}
@@ -21,22 +18,6 @@ use Rattle.pack_laws.proofs.Firsts.{first_more}
 use Rattle.pack_laws.proofs.Sighted.{sights-get, length-sights}
 use Rattle.alto_top.specs.declared.pages.Pages.{Pages}
 use Rattle.alto_top.specs.Sweeps.{held_at, held_page, kept_page}
-
--- a call that adds no event leaves the pack
-pub pack-silent : {x y : Taped} → Grown x y → added x y ≡ [] → pack y ≡ pack x
-pack-silent {x} {y} grown silent = pack-after grown ∙ ap (after (pack x)) silent
-
-pub silent_twice : {a b c : Taped} → Grown a b → Grown b c → added a b ≡ [] → added b c ≡ [] → added a c ≡ []
-silent_twice {a} {b} {c} one two x y = added-twice one two ∙ ap (λ l. l ++ added b c) x ∙ y
-
--- events keep the number of sectors
-length-after_all : (events : List Event) (sectors : List Sector) → length (after_all events sectors) ≡ length sectors
-length-after_all [] sectors = refl
-length-after_all (Wrote at part words ∷ events) sectors = length-after_all events (after_one (Wrote at part words) sectors) ∙ length-set sectors at _
-length-after_all (Shown byte ∷ events) sectors = length-after_all events sectors
-
-pub length-pack : (t : Taped) → length (pack t).sectors ≡ length t.base
-length-pack t = length-after_all t.events t.base
 
 -- one sector more of the first sweep
 pub find_more : {first now : Taped} (serial at : ℕ) (found next : Option Fid) → Grown first now → added first now ≡ [] → at < length first.base → found ≡ fold (least_shown serial) None (take at (sights (pack first))) → next ≡ least_shown serial found (sight now.form at (sector_at (pack now) at))

@@ -40,10 +40,6 @@ unbroken_more : (keys : List ℕ) (key : ℕ) → IsUnbroken keys → key ≢ 10
 unbroken_more [] key h other = (other, tt)
 unbroken_more (first ∷ keys) key h other = (h.0, unbroken_more keys key h.1 other)
 
--- no key yet
-pub taking_none : (keys : List ℕ) → Taking keys keys 0 []
-taking_none keys = record { whole = []; unbroken = tt; split = refl; counted = refl; kept = refl }
-
 -- one key more
 pub taking_more : {old mid : List ℕ} {taken : ℕ} {line : List ℕ} (key : ℕ) (now new : List ℕ) → Taking old mid taken line → mid ≡ key ∷ now → key ≢ 10 → new ≡ kept_of (line ++ key ∷ []) → Taking old now (taken + 1) new
 taking_more key now new t here other is =

@@ -3,6 +3,8 @@ use Rattle.std.specs.Prelude.{Result, Ok, Err}
 use Rattle.disk_records.specs.Tapes.{Taped, Rose}
 use Rattle.label_check.specs.declared.errors.LookError.{LookError}
 use Rattle.label_check.specs.declared.errors.LookError.TheVariants as look
+use Rattle.pack_reading.specs.declared.error.ReadingError.{ReadingError}
+use Rattle.pack_reading.specs.declared.error.ReadingError.TheVariants as reading
 use Rattle.alto_top.specs.declared.status.Fault.{Fault}
 use Rattle.alto_top.specs.declared.status.Fault.TheVariants.{Disk, Key, Display, Memory}
 use Rattle.alto_top.specs.declared.status.Status.{Status}
@@ -68,3 +70,7 @@ status_of Memory = status.Memory
 abbrev pub fault_of_look : LookError → Fault
 fault_of_look look.DiskFault = Disk
 fault_of_look look.Memory = Memory
+
+abbrev pub fault_of_reading : ReadingError → Fault
+fault_of_reading reading.DiskFault = Disk
+fault_of_reading reading.Memory = Memory

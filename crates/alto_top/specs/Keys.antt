@@ -41,6 +41,10 @@ pub record TookLast (old new : List ℕ) (before after : ℕ) (line : List ℕ) 
   pub took : TookRest old new before after whole
   pub kept : line ≡ kept_of whole
 
+-- a line that ended, or the last one
+abbrev pub TookWhole : List ℕ → List ℕ → ℕ → ℕ → List ℕ → Type 0
+TookWhole old new before after line = TookEnded old new before after line ⊎ TookLast old new before after line
+
 -- a part of a line was taken
 pub record TookPart (old new : List ℕ) (before : ℕ) : Type 0 where
   pub part : List ℕ
@@ -50,7 +54,7 @@ pub record TookPart (old new : List ℕ) (before : ℕ) : Type 0 where
   pub some : 0 < before
 
 abbrev pub TookLine : List ℕ → List ℕ → ℕ → ℕ → Result (Option (Vec ℕ Global)) Fault → Type 0
-TookLine old new before after (Ok (Some line)) = TookEnded old new before after line.items ⊎ TookLast old new before after line.items
+TookLine old new before after (Ok (Some line)) = TookWhole old new before after line.items
 TookLine old new before after (Ok None) = TookRest old new before after []
 TookLine old new before after (Err e) = TookPart old new before
 

@@ -4,4 +4,7 @@ pub mod Keys
 pub mod Sweeps
 pub mod Putting
 pub mod Sessions
+pub mod Orders
+pub mod Looking
+pub mod Showing
 pub mod Top

@@ -1,16 +1,18 @@
 -- A session: the turns of typed lines.
-use Rattle.std.specs.Prelude.{◌≡◌, ◌≢◌, ◌⊎◌, ◌≤◌, ℕ, ◌+◌, ◌*◌, List, [], ◌∷◌, ◌++◌, length, drop, Result, IfErr}
+use Rattle.std.specs.Prelude.{◌≡◌, ◌≢◌, ◌⊎◌, ◌≤◌, ℕ, ◌+◌, ◌*◌, List, [], ◌∷◌, ◌++◌, length, take, drop, Bool, true, false, Result, Ok, Err, IfErr}
 use Rattle.disk_records.specs.Addresses.{pages_of}
 use Rattle.disk_records.specs.Events.{shown_bytes}
-use Rattle.disk_records.specs.Tapes.{Taped, pack, added}
+use Rattle.disk_records.specs.Tapes.{Taped, KeysAlone, pack, added}
 use Rattle.pack_model.specs.Lines.{lines, ended_lines, most_keys}
 use Rattle.pack_model.specs.Stored.{StoredFiles, stored_files}
 use Rattle.pack_model.specs.Puts.{Put, putting}
 use Rattle.pack_model.specs.Moves.{steps}
 use Rattle.pack_model.specs.Turns.{Turn, Talks, IsTurn, BrokeOff, CutAt, texts_of}
 use Rattle.alto_top.specs.Patches.{turn_of, puts_of}
-use Rattle.alto_top.specs.Faults.{status_of}
+use Rattle.alto_top.specs.Keys.{TookWhole, TookRest, TookPart}
+use Rattle.alto_top.specs.Faults.{KeyFaultCause, status_of}
 use Rattle.alto_top.specs.declared.status.Fault.{Fault}
+use Rattle.alto_top.specs.declared.status.Fault.TheVariants.{Key}
 use Rattle.alto_top.specs.declared.status.Status.{Status}
 use Rattle.alto_top.specs.declared.status.Status.TheVariants as status
 
@@ -30,6 +32,24 @@ pub record Obeyed (old new : Taped) (line : List ℕ) (result : Result (Unit {0}
   pub turn : IsTurn putting (stored_files (pack old)) (pack old) (added old new) (turn_of (stored_files (pack old)) line) result
   pub breaks : IfErr result (λ fault. BreaksBy (status_of fault) turn.made (turn_of (stored_files (pack old)) line))
 
+-- the keys of one line were taken, and it was obeyed
+pub record TurnTaken (old new : Taped) (before after : ℕ) (result : Result (Unit {0}) Fault) : Type 0 where
+  pub line : List ℕ
+  pub took : TookWhole old.keys new.keys before after line
+  pub obeyed : Obeyed old new line result
+
+-- no line was taken to its end, and nothing else happened
+pub record TurnMissed (old new : Taped) (before : ℕ) (fault : Fault) : Type 0 where
+  pub alone : KeysAlone old new
+  pub part : TookPart old.keys new.keys before
+  pub cause : KeyFaultCause old new fault
+
+-- The next line, where `before` keys counted and `after` still do: Ok(true) where it was obeyed, Ok(false) where there is none.
+abbrev pub NextTurn : Taped → Taped → ℕ → ℕ → Result Bool Fault → Type 0
+NextTurn old new before after (Ok true) = TurnTaken old new before after (Ok tt)
+NextTurn old new before after (Ok false) = KeysAlone old new × TookRest old.keys new.keys before after []
+NextTurn old new before after (Err fault) = TurnMissed old new before fault ⊎ (TurnTaken old new before after (Err fault) × (fault ≢ Key))
+
 -- The history is the turns of some first lines, and perhaps one of the next line that broke off. After a fault of the disk or of
 -- the display one did, and nothing follows it.
 abbrev pub IsHistory : Status → StoredFiles → List (List ℕ) → List (Turn Put) → Type 0
@@ -38,6 +58,16 @@ IsHistory answer files [] (t ∷ turns) = ⊥
 IsHistory answer files (line ∷ lines) (t ∷ turns) =
     ((t ≡ turn_of files line) × IsHistory answer (steps putting files (puts_of files line)) lines turns)
     ⊎ (BreaksBy answer t (turn_of files line) × (turns ≡ []))
+
+-- the keys of these lines, each with the byte 10 that ends it
+abbrev pub keys_of : List (List ℕ) → List ℕ
+keys_of [] = []
+keys_of (line ∷ lines) = line ++ 10 ∷ keys_of lines
+
+-- The keys taken are those of so many first lines, and no key behind them. Where the last line isn't ended by a byte 10, they
+-- are all keys that count, and these are all their lines.
+abbrev pub TookLines : List ℕ → List ℕ → List ℕ → ℕ → Type 0
+TookLines old new taken count = (taken ≡ keys_of (take count (lines old))) ⊎ ((count ≡ length (lines old)) × (new ≡ drop most_keys old))
 
 -- a put is an operation
 abbrev pub one_each : Put → ℕ
@@ -56,9 +86,12 @@ pub record Booted (old new : Taped) (answer : Status) : Type 0 where
   pub shown : shown_bytes (added old new) ≡ texts_of turns
   pub cuts : (k : ℕ) → CutAt one_each putting (stored_files (pack old)) (pack old) (added old new) turns k
   pub done : answer ≡ status.Done → (turns ≡ turns_of (stored_files (pack old)) (lines old.keys)) × (new.keys ≡ drop most_keys old.keys)
-  -- the keys that were taken: no line is taken to its end before those ahead of it have their turns
+  -- the keys that were taken: no line is taken to its end before those ahead of it have their turns, and each line with a turn
+  -- is taken; where the disk or the display failed these lines are taken whole, and no key behind them
   pub taken : List ℕ
   pub split : old.keys ≡ taken ++ new.keys
   pub ahead : length (ended_lines taken) ≤ length turns
+  pub behind : length turns ≤ length (lines taken)
+  pub exact : (answer ≡ status.DiskFault) ⊎ (answer ≡ status.DisplayFault) → TookLines old.keys new.keys taken (length turns)
   pub key_fault : answer ≡ status.KeyFault → turns ≡ turns_of (stored_files (pack old)) (ended_lines taken)
   pub runs : new.runs ≤ old.runs + length turns * runs_of_line old

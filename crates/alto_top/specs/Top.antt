@@ -2,6 +2,8 @@
 use Rattle.std.specs.Prelude.{◌≡◌, ℕ, List, [], ◌∷◌, codes}
 use Rattle.disk_records.specs.Events.{IsFirstOf, shown_events}
 use Rattle.disk_records.specs.Tapes.{Taped, added}
+use Rattle.alto_top.specs.declared.top.Asked.{Asked}
+use Rattle.alto_top.specs.declared.top.Asked.TheVariants.{Boot, Show, Nothing}
 use Rattle.alto_top.specs.declared.status.Status.{Status}
 use Rattle.alto_top.specs.declared.status.Status.TheVariants as status
 
@@ -9,13 +11,36 @@ use Rattle.alto_top.specs.declared.status.Status.TheVariants as status
 abbrev pub AsksBoot : List (List ℕ) → Type 0
 AsksBoot words = words ≡ codes "boot" ∷ []
 
+-- the word `show`, alone
+abbrev pub AsksShow : List (List ℕ) → Type 0
+AsksShow words = words ≡ codes "show" ∷ []
+
+-- neither
+abbrev pub AsksNothing : List (List ℕ) → Type 0
+AsksNothing words = (AsksBoot words → ⊥) × (AsksShow words → ⊥)
+
+abbrev pub AsksFor : List (List ℕ) → Asked → Type 0
+AsksFor words Boot = AsksBoot words
+AsksFor words Show = AsksShow words
+AsksFor words Nothing = AsksNothing words
+
 abbrev pub usage_text : List ℕ
 usage_text = codes "usage\n"
 
--- Words that ask for nothing: `usage` is shown, some first bytes of it where the display failed or memory was wanting, and
--- nothing else happens.
+-- the answers to words that ask for nothing
+abbrev pub AnswersOther : Status → Type 0
+AnswersOther status.Done = ⊥
+AnswersOther status.Usage = Unit {0}
+AnswersOther status.DiskFault = ⊥
+AnswersOther status.KeyFault = ⊥
+AnswersOther status.DisplayFault = Unit {0}
+AnswersOther status.Memory = Unit {0}
+
+-- Words that ask for nothing: `usage` is shown, some first bytes of it where the display failed, none where memory was wanting,
+-- and nothing else happens.
 pub record ShowsUsage (old new : Taped) (answer : Status) : Type 0 where
   pub some : IsFirstOf (shown_events usage_text) (added old new)
   pub usage : answer ≡ status.Usage → added old new ≡ shown_events usage_text
+  pub memory : answer ≡ status.Memory → added old new ≡ []
   pub keys : new.keys ≡ old.keys
   pub runs : new.runs ≡ old.runs

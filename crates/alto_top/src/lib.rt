@@ -1,24 +1,31 @@
-//! The top call: a pack is booted, and typed lines are obeyed until the input ends.
+//! The top call: a pack is booted and typed lines are obeyed until the input ends, or what the pack shows is listed.
 //!
 //! To whoever starts it, for every machine that is told, whatever stands on its pack:
 //! 1. The events of `boot` are the turns of the typed lines: each line's record writes, and then its reply (`talks`, `history`).
 //! 2. A reply is that of the files as the earlier lines left them, by labels alone; a `done` stands for its put (`history`).
 //! 3. At each cut the living files are those after some of the puts, and no put whose whole `done` was shown is missing (`cuts`).
 //! 4. At Done the keys were read to their end, or to 2^31 bytes, and each line has its turn (`done`).
+//! And of one line: `obey` makes its turn, or breaks it off, in two sweeps and three sector commands more (`obeyed`, `runs`).
+//! And of `show`: at Done the shown bytes are the listing of what the pack shows, for every answer a first part of it, and nothing is
+//! written (`shown` of `show_pack`).
 //! And for every machine: DiskFault, KeyFault and DisplayFault come only where their own count rose (`cause`).
+//! And for every machine: with words other than `boot` alone or `show` alone no sector command is run, nothing is written and no key is taken (`alone`).
 //! Not promised: that memory is left; how long anything takes, but for the number of sector commands (`runs`).
 #![tactic(auto)]
 
 mod keys;
+mod listing;
 mod pages;
 mod patch;
 mod put;
 mod reply;
 mod session;
+mod show;
 mod status;
 mod sweep;
 mod top;
 
-pub use session::boot;
-pub use status::Status;
+pub use session::{boot, obey};
+pub use show::show_pack;
+pub use status::{Fault, Status};
 pub use top::alto;

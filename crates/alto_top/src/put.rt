@@ -1,5 +1,5 @@
 // Bytes put into one page of a file.
-ghost use Rattle.std.specs.Prelude.{◌≡◌, ◌≤◌, ◌<◌, ◌+◌, ◌^◌, length, All, IsTrue};
+ghost use Rattle.std.specs.Prelude.{◌≡◌, ◌≤◌, ◌<◌, ◌+◌, ◌^◌, length, All, IsTrue, IsErrOf};
 ghost use Rattle.disk_records.specs.Addresses.{pages_of};
 ghost use Rattle.disk_records.specs.Tapes.{DiskAlone};
 ghost use Rattle.pack_model.specs.Bytes.{bytes_of, words_of, put_at};
@@ -43,6 +43,7 @@ pub fn put_in_page<D: Disk>(
     ensures cause { HasDiskCause (D.tape disk.old) (D.tape disk.new) result }
     ensures done { IsTrue D.told → PutDone at page offset bytes.now (D.tape disk.old) (D.tape disk.new) result }
     ensures runs { IsTrue D.told → (D.tape disk.new).runs ≤ (D.tape disk.old).runs + 3 }
+    ensures want { IsTrue D.told → IsErrOf result Fault.Memory → (D.tape disk.old).spare < 1 }
 {
     match read_page(disk, at, page, buf) {
         Ok(_) => {}

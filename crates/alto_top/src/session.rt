@@ -8,10 +8,10 @@ ghost use Rattle.pack_model.specs.Stored.{stored_files};
 ghost use Rattle.pack_model.specs.Moves.{Does};
 ghost use Rattle.pack_model.specs.Puts.{putting};
 ghost use Rattle.alto_top.specs.Faults.{HasCause, HasDiskCause, HasShowCause, HasStatusCause};
-ghost use Rattle.alto_top.specs.Patches.{put_of, puts_at, puts_of, puts_of_patch, reply_within, reply_to, reply_to_patch, is_patched, lie_in_one_page};
+ghost use Rattle.alto_top.specs.Patches.{put_of, puts_at, puts_of, puts_of_patch, reply_within, reply_to, reply_to_patch, text_of, is_patched, lie_in_one_page};
 ghost use Rattle.alto_top.specs.Keys.{ShownAll};
 ghost use Rattle.alto_top.specs.Sweeps.{HoldsPages, AreWithin};
-ghost use Rattle.alto_top.specs.Sessions.{Booted, Obeyed, runs_of_line};
+ghost use Rattle.alto_top.specs.Sessions.{Booted, NextTurn, Obeyed, runs_of_line};
 ghost use Rattle.alto_top.specs.declared.reply.Reply.TheVariants.{Done};
 
 use crate::keys::{MOST_KEYS, read_line};
@@ -136,6 +136,7 @@ fn obey_patch<D: Disk>(alloc: Global, disk: &mut D, patch: &Patch) -> Result<Rep
 }
 
 /// Does what a line asks for, and answers the reply that is to be shown.
+#[tactic(auto, using(crate::proofs::Obeying::does_none))]
 fn act<D: Disk>(alloc: Global, disk: &mut D, line: &[u8]) -> Result<Reply, Fault>
     ensures alone { DiskAlone (D.tape disk.old) (D.tape disk.new) }
     ensures cause { HasDiskCause (D.tape disk.old) (D.tape disk.new) result }
@@ -162,18 +163,51 @@ pub fn show_all<C: Console>(console: &mut C, bytes: &[u8]) -> Result<(), Fault>
     }
 }
 
-/// Obeys one line: does what it asks for, and then shows its reply.
-fn obey<M: Machine>(alloc: Global, machine: &mut M, line: &[u8]) -> Result<(), Fault>
+/// Shows the reply to a line.
+fn show_reply<C: Console>(alloc: Global, console: &mut C, reply: Reply) -> Result<(), Fault>
+    ensures alone { ShowAlone (C.tape console.old) (C.tape console.new) }
+    ensures cause { HasShowCause (C.tape console.old) (C.tape console.new) result }
+    ensures shown { IsTrue C.told → ShownAll (text_of reply) (C.tape console.old) (C.tape console.new) result }
+{
+    let text = reply.text(alloc)?;
+    show_all(console, &text)
+}
+
+/// Obeys one line, given without the byte 10 that ends it: does what it asks for, and then shows its reply, one line of text.
+/// `patch #NUM NUM HEX` alone is in the grammar; any other line, or one of more than 4,096 bytes, is answered by `bad line` and
+/// nothing is written. A line takes at most two sweeps of one sector command a sector, and three more sector commands.
+///
+/// Disk: the disk failed; of the line's record writes some first ones are done, and nothing is shown. Display: the display
+/// failed; the record writes are all done, and some first bytes of the reply are shown. Memory: none was left; some first
+/// record writes are done, and nothing is shown. Key is never answered: no key is taken. After each of them nothing follows.
+#[tactic(auto, using(crate::proofs::Turning::obeyed_part, crate::proofs::Turning::obeyed_shown))]
+pub fn obey<M: Machine>(alloc: Global, machine: &mut M, line: &[u8]) -> Result<(), Fault>
     ensures grown { Grown (M.tape machine.old) (M.tape machine.new) }
     ensures keys { (M.tape machine.new).keys ≡ (M.tape machine.old).keys }
+    ensures key_faults { (M.tape machine.new).key_faults ≡ (M.tape machine.old).key_faults }
     ensures cause { HasCause (M.tape machine.old) (M.tape machine.new) result }
     ensures no_key { IsErrOf result Fault.Key → ⊥ }
     ensures obeyed { IsTrue M.told → Obeyed (M.tape machine.old) (M.tape machine.new) line.now result }
     ensures runs { IsTrue M.told → (M.tape machine.new).runs ≤ (M.tape machine.old).runs + runs_of_line (M.tape machine.old) }
 {
     let reply = act(alloc, machine, line)?;
-    let text = reply.text(alloc)?;
-    show_all(machine, &text)
+    show_reply(alloc, machine, reply)
+}
+
+/// Takes the keys of the next line and obeys it. False where no key is left that counts; then nothing else happens. `left` is
+/// the number of keys that still count.
+#[tactic(auto, using(crate::proofs::Turning::next_none, crate::proofs::Turning::next_missed, crate::proofs::Turning::next_obeyed, crate::proofs::Turning::next_broke))]
+fn obey_next<M: Machine>(alloc: Global, machine: &mut M, left: &mut u32) -> Result<bool, Fault>
+    ensures grown { Grown (M.tape machine.old) (M.tape machine.new) }
+    ensures cause { HasCause (M.tape machine.old) (M.tape machine.new) result }
+    ensures next { IsTrue M.told → NextTurn (M.tape machine.old) (M.tape machine.new) left.old left.new result }
+    ensures runs { IsTrue M.told → (M.tape machine.new).runs ≤ (M.tape machine.old).runs + runs_of_line (M.tape machine.old) }
+{
+    let Some(line) = read_line(alloc, machine, left)? else {
+        return Ok(false);
+    };
+    obey(alloc, machine, &line)?;
+    Ok(true)
 }
 
 /// Obeys the typed lines in order: `patch #NUM NUM HEX` alone is in the grammar. Each turn is a line, its record write and its reply.
@@ -181,6 +215,7 @@ fn obey<M: Machine>(alloc: Global, machine: &mut M, line: &[u8]) -> Result<(), F
 ///
 /// Done: the keys were read to their end or to 2^31 bytes. DiskFault, KeyFault, DisplayFault: that device failed, and the
 /// session stopped at once. Memory: none was left. After each of them the cuts of what happened stand for the puts so far.
+#[tactic(auto, using(crate::proofs::Booting::session_spent))]
 pub fn boot<M: Machine>(alloc: Global, moment: u32, machine: &mut M) -> Status
     ensures grown { Grown (M.tape machine.old) (M.tape machine.new) }
     ensures cause { HasStatusCause (M.tape machine.old) (M.tape machine.new) result }
@@ -190,13 +225,9 @@ pub fn boot<M: Machine>(alloc: Global, moment: u32, machine: &mut M) -> Status
     let _ = moment;
     let mut left = MOST_KEYS;
     'lines: for _ in 0..MOST_KEYS {
-        let line = match read_line(alloc, machine, &mut left) {
-            Ok(Some(line)) => line,
-            Ok(None) => return Status::Done,
-            Err(fault) => return fault.status(),
-        };
-        match obey(alloc, machine, &line) {
-            Ok(()) => {}
+        match obey_next(alloc, machine, &mut left) {
+            Ok(true) => {}
+            Ok(false) => return Status::Done,
             Err(fault) => return fault.status(),
         }
     }

@@ -2,21 +2,23 @@
 ghost use Rattle.std.specs.Prelude.{◌≡◌, ◌≢◌};
 ghost use Rattle.disk_records.specs.Tapes.{Taped};
 ghost use Rattle.label_check.specs.declared.errors.LookError.{LookError};
-ghost use Rattle.alto_top.specs.Faults.{FaultCause, HasStatusCause, status_of, fault_of_look};
+ghost use Rattle.pack_reading.specs.declared.error.ReadingError.{ReadingError};
+ghost use Rattle.alto_top.specs.Faults.{FaultCause, HasStatusCause, status_of, fault_of_look, fault_of_reading};
 ghost use Rattle.alto_top.specs.declared.status.Fault.TheVariants.{Memory};
 
 use alto_words::Memory;
 use label_check::LookError;
+use pack_reading::ReadingError;
 use std::alloc::{AllocError, AllocFailed};
 
 /// How a call of the program ended; its number is the exit code.
 #[derive(Clone, Copy, Debug, PartialEq, Eq)]
 pub enum Status {
-    /// The typed input was obeyed to its end.
+    /// The typed input was obeyed to its end, or the listing was shown.
     Done = 0,
     /// The words of the command line ask for nothing.
     Usage = 1,
-    /// The disk failed. The session stopped at once; what was acknowledged stands on the pack.
+    /// The disk failed. The session or the listing stopped at once; what was acknowledged stands on the pack.
     DiskFault = 3,
     /// The keyboard failed. The lines that ended before have their replies.
     KeyFault = 4,
@@ -61,6 +63,17 @@ impl From<LookError> for Fault {
         match error {
             LookError::DiskFault => Fault::Disk,
             LookError::Memory => Fault::Memory,
+        }
+    }
+}
+
+impl From<ReadingError> for Fault {
+    ghost from_gives = { λ error fault. fault ≡ fault_of_reading error };
+
+    fn from(error: ReadingError) -> Self {
+        match error {
+            ReadingError::DiskFault => Fault::Disk,
+            ReadingError::Memory => Fault::Memory,
         }
     }
 }

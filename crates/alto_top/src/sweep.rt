@@ -1,5 +1,5 @@
 // Sweeps of all labels: a file by its serial, and the places of its pages. No link is followed.
-ghost use Rattle.std.specs.Prelude.{◌≡◌, ◌≤◌, ◌<◌, ◌+◌, [], ℕ, suc, length, IsTrue, IfOk, OnOk};
+ghost use Rattle.std.specs.Prelude.{◌≡◌, ◌≢◌, ◌≤◌, ◌<◌, ◌+◌, [], ℕ, suc, length, IsTrue, IfOk, IfErr, OnOk};
 ghost use Rattle.std.specs.Option.{option_map, option_or};
 ghost use Rattle.disk_records.specs.Addresses.{pages_of};
 ghost use Rattle.disk_records.specs.Packs.{sector_at};
@@ -46,6 +46,7 @@ fn seen_in(sector: &Sector) -> Seen
 }
 
 /// What the sector at this address carries, with one sector command.
+#[tactic(auto, using(crate::proofs::Causes::look_wants_none))]
 fn see<D: Disk>(disk: &mut D, at: u16, buf: &mut Sector) -> Result<Seen, Fault>
     requires place { at < pages_of (D.tape disk.old).form }
     requires first { 1 ≤ at }
@@ -55,6 +56,7 @@ fn see<D: Disk>(disk: &mut D, at: u16, buf: &mut Sector) -> Result<Seen, Fault>
     ensures runs { IsTrue D.told → (D.tape disk.new).runs ≤ (D.tape disk.old).runs + 1 }
     ensures seen { IsTrue D.told → IfOk result (λ seen. seen ≡ seen_of (sight (D.tape disk.old).form at (sector_at (pack (D.tape disk.old)) at))) }
     ensures few { IfOk result CountsFew }
+    ensures want { IsTrue D.told → IfErr result (λ fault. fault ≢ Fault.Memory) }
 {
     Ok(if look(disk, at, buf)? {
         seen_in(buf)
@@ -83,11 +85,12 @@ fn find_leader<D: Disk>(
 ) -> Result<Option<Fid>, Fault>
     requires place { at < pages_of (D.tape disk.old).form }
     requires first { 1 ≤ at }
+    ensures runs { IsTrue D.told → (D.tape disk.new).runs ≤ (D.tape disk.old).runs + 1 }
     ensures alone { DiskAlone (D.tape disk.old) (D.tape disk.new) }
     ensures cause { HasDiskCause (D.tape disk.old) (D.tape disk.new) result }
     ensures silent { IsTrue D.told → added (D.tape disk.old) (D.tape disk.new) ≡ [] }
-    ensures runs { IsTrue D.told → (D.tape disk.new).runs ≤ (D.tape disk.old).runs + 1 }
     ensures found { IsTrue D.told → IfOk result (λ fid. fid ≡ least_shown serial found (sight (D.tape disk.old).form at (sector_at (pack (D.tape disk.old)) at))) }
+    ensures want { IsTrue D.told → IfErr result (λ fault. fault ≢ Fault.Memory) }
 {
     Ok(match see(disk, at, buf)? {
         Seen::Leader { fid } => if fid.serial() == serial {
@@ -100,13 +103,15 @@ fn find_leader<D: Disk>(
     })
 }
 
-/// The living file of least full name with this serial. One sector command for each sector but the first.
+/// The living file of least full name with this serial. One sector command for each sector but the first. On a told
+/// disk it never answers want of memory.
 pub fn find_file<D: Disk>(disk: &mut D, serial: u32, buf: &mut Sector) -> Result<Option<Fid>, Fault>
     ensures alone { DiskAlone (D.tape disk.old) (D.tape disk.new) }
     ensures cause { HasDiskCause (D.tape disk.old) (D.tape disk.new) result }
     ensures silent { IsTrue D.told → added (D.tape disk.old) (D.tape disk.new) ≡ [] }
     ensures runs { IsTrue D.told → (D.tape disk.new).runs + 1 ≤ (D.tape disk.old).runs + pages_of (D.tape disk.old).form }
     ensures found { IsTrue D.told → IfOk result (λ fid. fid ≡ option_map (λ e. e.0) (file_of_serial (stored_files (pack (D.tape disk.old))) serial)) }
+    ensures want { IsTrue D.told → IfErr result (λ fault. fault ≢ Fault.Memory) }
 {
     let mut found = None;
     let end = disk.shape().pages();

@@ -1,8 +1,8 @@
 use Rattle.std.proofs.Common.{◌∙◌, ◌<◌, length, arith, rules}
 use Rattle.disk_records.specs.Tapes.{pack}
-use Rattle.disk_records.proofs.Growing.{alone_twice, alone_here, nothing_added}
+use Rattle.disk_records.proofs.Growing.{alone_twice, alone_here, nothing_added, silent_twice, length-pack}
 use Rattle.pack_laws.proofs.Serials.{least_all}
-use Rattle.alto_top.proofs.Sweeping.{silent_twice, length-pack, find_more, find_none}
+use Rattle.alto_top.proofs.Sweeping.{find_more, find_none}
 use Rattle.alto_top.proofs.sweep.find_file.Goals as goal
 
 pub loop-at-init : goal.loop-at-init

@@ -1,8 +1,8 @@
 use Rattle.std.proofs.Common.{◌≡◌, suc, Some, None, sym, ◌∙◌, ◌<◌, length, arith, rules}
 use Rattle.disk_records.specs.Addresses.{pages_of}
 use Rattle.disk_records.specs.Tapes.{pack}
-use Rattle.disk_records.proofs.Growing.{alone_twice, alone_here, nothing_added}
-use Rattle.alto_top.proofs.Sweeping.{silent_twice, length-pack, pages_more, held_none, held_all}
+use Rattle.disk_records.proofs.Growing.{alone_twice, alone_here, nothing_added, silent_twice, length-pack}
+use Rattle.alto_top.proofs.Sweeping.{pages_more, held_none, held_all}
 use Rattle.alto_top.proofs.sweep.find_pages.Goals as goal
 
 pub loop-at-init : goal.loop-at-init

@@ -1,0 +1,255 @@
+// The listing of what a pack shows: one line for each name, and then the number of files.
+ghost use Rattle.std.specs.Prelude.{◌≡◌, ◌++◌, ℕ, cond, length, map, Some, None, IfOk, OnOk};
+ghost use Rattle.std.specs.List.{flat_map};
+ghost use Rattle.std.specs.Option.{option_cmp, option_or};
+ghost use Rattle.std.specs.BTreeMap.{get};
+ghost use Rattle.std.specs.Ordering.{then_cmp, on, eq_by_cmp, as_partial_cmp};
+ghost use Rattle.std.specs.Cmp.{partial_equiv_from_equiv, eq_by_cmp_equiv, partial_order_from_total};
+ghost use Rattle.std.specs.Cmp.Rules.{comparing};
+ghost use Rattle.std.proofs.Common.{rules};
+ghost use Rattle.alto_words.specs.declared.fid.Fid.{Fid as Named};
+ghost use Rattle.alto_words.specs.Fid.{fid_cmp, is_fid};
+ghost use Rattle.alto_words.specs.Names.{folded_cmp};
+ghost use Rattle.pack_model.specs.View.{View};
+ghost use Rattle.pack_model.specs.Listing.{line_of, listed_cmp, in_order};
+ghost use Rattle.pack_reading.specs.Shows.{naming, ShowsView};
+ghost use Rattle.alto_top.specs.Orders.{line_total};
+ghost use Rattle.alto_top.specs.Looking.{first_of, file_size, Knows, listed_in};
+ghost use Rattle.alto_top.specs.Showing.{stem, dir_text, size_text, line_text, count_text, listing_text};
+
+use alto_words::{Fid, Memory, Name, push_number};
+use pack_reading::{Shown, ShownFile, ShownName};
+use std::alloc::Global;
+use std::cmp::Ordering;
+use std::collections::{BTreeMap, BTreeSet};
+
+/// A line of the listing.
+#[derive(Drop)]
+pub struct Line {
+    /// The name in SysDir of the directory that has the name; None of SysDir itself.
+    pub dir_name: Option<Name>,
+    /// The name.
+    pub named: ShownName,
+    /// The file's length in bytes; None of a directory.
+    pub size: Option<u64>,
+}
+
+impl PartialEq for Line {
+    ghost eq = { eq_by_cmp (then_cmp (on (λ l. l.dir_name) (option_cmp folded_cmp)) (then_cmp (on (λ l. l.named.directory) fid_cmp) (then_cmp (on (λ l. l.named.name) folded_cmp) (on (λ l. l.named.fid) fid_cmp)))) };
+
+    ghost laws = { partial_equiv_from_equiv (eq_by_cmp_equiv line_total) };
+
+    fn eq(&self, other: &Line) -> bool {
+        self.cmp(other).is_eq()
+    }
+}
+
+impl Eq for Line {
+    ghost laws = { eq_by_cmp_equiv line_total };
+}
+
+impl PartialOrd for Line {
+    ghost partial_cmp = { as_partial_cmp (then_cmp (on (λ l. l.dir_name) (option_cmp folded_cmp)) (then_cmp (on (λ l. l.named.directory) fid_cmp) (then_cmp (on (λ l. l.named.name) folded_cmp) (on (λ l. l.named.fid) fid_cmp)))) };
+
+    ghost laws = { partial_order_from_total line_total };
+
+    fn partial_cmp(&self, other: &Line) -> Option<Ordering> {
+        Some(self.cmp(other))
+    }
+}
+
+impl Ord for Line {
+    ghost cmp = { then_cmp (on (λ l. l.dir_name) (option_cmp folded_cmp)) (then_cmp (on (λ l. l.named.directory) fid_cmp) (then_cmp (on (λ l. l.named.name) folded_cmp) (on (λ l. l.named.fid) fid_cmp))) };
+
+    ghost total = { line_total };
+
+    ghost matches_partial_cmp = { Prim.search (comparing, rules) };
+
+    ghost matches_eq = { Prim.search (comparing, rules) };
+
+    fn cmp(&self, other: &Line) -> Ordering {
+        compare_dirs(self.dir_name, other.dir_name).then(compare_names(&self.named, &other.named))
+    }
+}
+
+/// SysDir comes first, and then each directory by its name.
+fn compare_dirs(one: Option<Name>, other: Option<Name>) -> Ordering
+    ensures { result ≡ option_cmp folded_cmp one other }
+{
+    match (one, other) {
+        (None, None) => Ordering::Equal,
+        (None, Some(_)) => Ordering::Less,
+        (Some(_), None) => Ordering::Greater,
+        (Some(one), Some(other)) => one.folded_cmp(&other),
+    }
+}
+
+/// By directory, by name without regard to case, and by file.
+fn compare_names(one: &ShownName, other: &ShownName) -> Ordering
+    ensures { result ≡ then_cmp (on (λ n. n.directory) fid_cmp) (then_cmp (on (λ n. n.name) folded_cmp) (on (λ n. n.fid) fid_cmp)) one.now other.now }
+{
+    one.directory.cmp(&other.directory).then(
+        one.name
+            .folded_cmp(&other.name)
+            .then(one.fid.cmp(&other.fid)),
+    )
+}
+
+/// What is looked up for lines.
+#[derive(Drop)]
+pub struct Known {
+    /// The names of files.
+    pub names: BTreeMap<Fid, Name>,
+    /// Their lengths in bytes; None of a directory.
+    pub sizes: BTreeMap<Fid, Option<u64>>,
+}
+
+/// Keeps what is known of a file, unless something is.
+fn keep<V: Drop>(map: &mut BTreeMap<Fid, V>, fid: Fid, value: V) -> Result<(), Memory>
+    ensures { OnOk result ((f : Named) → get fid_cmp map.new f ≡ option_or (get fid_cmp map.old f) (cond (is_fid f fid) (Some value) None)) }
+{
+    if map.contains_key(&fid) {
+        return Ok(());
+    }
+    match map.insert(fid, value) {
+        Ok(_) => Ok(()),
+        Err(_) => Err(Memory),
+    }
+}
+
+/// The names by file.
+fn names_by_file(alloc: Global, names: &[ShownName]) -> Result<BTreeMap<Fid, Name>, Memory>
+    ensures { IfOk result (λ map. (f : Named) → get fid_cmp map f ≡ first_of (λ n. n.fid) (λ n. n.name) names.now f) }
+{
+    let mut map = BTreeMap::new(alloc);
+    for named in names {
+        keep(&mut map, named.fid, named.name)?;
+    }
+    Ok(map)
+}
+
+/// The length of a file in bytes; None of a directory.
+fn size_of(file: &ShownFile) -> Option<u64>
+    ensures { result ≡ file_size file.now }
+{
+    match &file.bytes {
+        Some(bytes) => Some(bytes.as_slice().len() as u64),
+        None => None,
+    }
+}
+
+/// The lengths by file.
+fn sizes_by_file(alloc: Global, files: &[ShownFile]) -> Result<BTreeMap<Fid, Option<u64>>, Memory>
+    ensures { IfOk result (λ map. (f : Named) → get fid_cmp map f ≡ first_of (λ x. x.fid) file_size files.now f) }
+{
+    let mut map = BTreeMap::new(alloc);
+    for file in files {
+        keep(&mut map, file.fid, size_of(file))?;
+    }
+    Ok(map)
+}
+
+/// What is looked up for the lines of what is shown.
+fn known_of(alloc: Global, shown: &Shown) -> Result<Known, Memory>
+    ensures { (v : View) → ShowsView shown.now v → IfOk result (λ known. Knows known v) }
+{
+    Ok(Known {
+        names: names_by_file(alloc, shown.names.as_slice())?,
+        sizes: sizes_by_file(alloc, shown.files.as_slice())?,
+    })
+}
+
+/// The line of a name.
+fn line_of(known: &Known, named: ShownName) -> Line
+    ensures { (v : View) → Knows known.now v → listed_in result ≡ line_of v (naming named) }
+{
+    Line {
+        dir_name: known.names.get(&named.directory).copied(),
+        named,
+        size: match known.sizes.get(&named.fid) {
+            Some(size) => *size,
+            None => None,
+        },
+    }
+}
+
+/// The lines of these names in the order in which they are shown.
+fn lines_of(alloc: Global, known: &Known, names: &[ShownName]) -> Result<BTreeSet<Line>, Memory>
+    ensures { (v : View) → Knows known.now v → IfOk result (λ lines. map listed_in lines.keys ≡ in_order listed_cmp (map (λ n. line_of v (naming n)) names.now)) }
+{
+    let mut lines = BTreeSet::new(alloc);
+    for named in names.iter().rev() {
+        if lines.insert(line_of(known, *named)).is_err() {
+            return Err(Memory);
+        }
+    }
+    Ok(lines)
+}
+
+/// Appends a line to a text.
+fn push_line(alloc: Global, text: &mut Vec<u8>, line: &Line) -> Result<(), Memory>
+    ensures { OnOk result (text.new.items ≡ text.old.items ++ line_text (listed_in line.now)) }
+{
+    match &line.dir_name {
+        Some(name) => text.extend_from_slice(without_dot(name))?,
+        None => text.extend_from_slice(b"SysDir")?,
+    }
+    text.extend_from_slice(b">")?;
+    text.extend_from_slice(line.named.name.as_bytes())?;
+    push_size(alloc, text, line.size)?;
+    text.extend_from_slice(b"\n")?;
+    Ok(())
+}
+
+/// A stored name without the `.` that ends it.
+fn without_dot(name: &Name) -> &[u8]
+    ensures { result.now ≡ stem name.now }
+{
+    let bytes = name.as_bytes();
+    &bytes[..bytes.len().saturating_sub(1)]
+}
+
+/// Appends the length of a file, or the word `directory`.
+fn push_size(alloc: Global, text: &mut Vec<u8>, size: Option<u64>) -> Result<(), Memory>
+    ensures { OnOk result (text.new.items ≡ text.old.items ++ size_text size) }
+{
+    match size {
+        Some(size) => {
+            text.extend_from_slice(b" length ")?;
+            push_number(alloc, text, size)?;
+        }
+        None => text.extend_from_slice(b" directory")?,
+    }
+    Ok(())
+}
+
+/// The lines as a text.
+fn text_of_lines(alloc: Global, lines: &BTreeSet<Line>) -> Result<Vec<u8>, Memory>
+    ensures { IfOk result (λ text. text.items ≡ flat_map (λ l. line_text (listed_in l)) lines.now.keys) }
+{
+    let mut text = Vec::new(alloc);
+    for line in lines {
+        push_line(alloc, &mut text, line)?;
+    }
+    Ok(text)
+}
+
+/// Appends the number of files.
+fn push_count(alloc: Global, text: &mut Vec<u8>, count: usize) -> Result<(), Memory>
+    ensures { OnOk result (text.new.items ≡ text.old.items ++ count_text count) }
+{
+    push_number(alloc, text, count as u64)?;
+    text.extend_from_slice(b" files\n")?;
+    Ok(())
+}
+
+/// The listing of what is shown: a line for each name, SysDir's names first, and then the number of files.
+pub fn listing_of(alloc: Global, shown: &Shown) -> Result<Vec<u8>, Memory>
+    ensures { (v : View) → ShowsView shown.now v → IfOk result (λ text. text.items ≡ listing_text v) }
+{
+    let known = known_of(alloc, shown)?;
+    let lines = lines_of(alloc, &known, shown.names.as_slice())?;
+    let mut text = text_of_lines(alloc, &lines)?;
+    push_count(alloc, &mut text, shown.files.as_slice().len())?;
+    Ok(text)
+}

@@ -1,0 +1,48 @@
+// The word `show`: what the pack shows, as a listing.
+ghost use Rattle.std.specs.Prelude.{◌≡◌, ◌≤◌, ◌+◌, [], IsTrue, IfOk};
+ghost use Rattle.disk_records.specs.Addresses.{pages_of};
+ghost use Rattle.disk_records.specs.Tapes.{Grown, DiskAlone, pack, added};
+ghost use Rattle.pack_model.specs.Settling.{show};
+ghost use Rattle.alto_top.specs.Faults.{HasDiskCause, HasStatusCause};
+ghost use Rattle.alto_top.specs.Showing.{listing_text, AnswersShow, KeepsKeys, ShowsPack};
+
+use crate::listing::listing_of;
+use crate::session::show_all;
+use crate::status::{Fault, Status};
+use disk_records::{Disk, Machine};
+use pack_reading::read_pack;
+use std::alloc::Global;
+
+/// The listing of what the pack shows, by its labels alone.
+fn list_pack<D: Disk>(alloc: Global, disk: &mut D) -> Result<Vec<u8>, Fault>
+    ensures alone { DiskAlone (D.tape disk.old) (D.tape disk.new) }
+    ensures cause { HasDiskCause (D.tape disk.old) (D.tape disk.new) result }
+    ensures silent { IsTrue D.told → added (D.tape disk.old) (D.tape disk.new) ≡ [] }
+    ensures runs { IsTrue D.told → (D.tape disk.new).runs ≤ (D.tape disk.old).runs + pages_of (D.tape disk.old).form }
+    ensures listed { IsTrue D.told → IfOk result (λ text. text.items ≡ listing_text (show (pack (D.tape disk.old)))) }
+{
+    let shown = read_pack(alloc, disk)?;
+    Ok(listing_of(alloc, &shown)?)
+}
+
+/// Shows what the pack shows, whatever stands on it: a line for each name, SysDir's first, and then the number of files. No key is
+/// taken and nothing is written. One sector command for each sector but the first.
+///
+/// DiskFault: a sector wasn't read; nothing is shown. DisplayFault: the display failed; some first bytes of the listing are shown.
+/// Memory: none was left; nothing is shown. Usage and KeyFault are never answered.
+pub fn show_pack<M: Machine>(alloc: Global, machine: &mut M) -> Status
+    ensures grown { Grown (M.tape machine.old) (M.tape machine.new) }
+    ensures keys { KeepsKeys (M.tape machine.old) (M.tape machine.new) }
+    ensures cause { HasStatusCause (M.tape machine.old) (M.tape machine.new) result }
+    ensures answer { AnswersShow result }
+    ensures shown { IsTrue M.told → ShowsPack (M.tape machine.old) (M.tape machine.new) result }
+{
+    let text = match list_pack(alloc, machine) {
+        Ok(text) => text,
+        Err(fault) => return fault.status(),
+    };
+    match show_all(machine, &text) {
+        Ok(()) => Status::Done,
+        Err(fault) => fault.status(),
+    }
+}
