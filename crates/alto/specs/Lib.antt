@@ -1,4 +1,3 @@
+pub mod Asking
 pub mod Ends
-pub mod HandMade
-pub mod Input
-pub mod Runs
+pub mod Running

@@ -1,46 +1,71 @@
-// What stops a run outside the session.
+// How a run ends: its exit code, and what it says on standard error.
 ghost use Rattle.std.specs.Prelude.{◌≡◌};
-ghost use Rattle.alto.specs.Ends.{code_of};
-ghost use Rattle.alto.specs.declared.end.Stop.TheVariants.{Memory};
+ghost use Rattle.alto.specs.Ends.{code_of, complaint_of, end_code, end_complaint};
+ghost use Rattle.alto.specs.declared.end.Stop.TheVariants.{Pack, Memory};
 
-use alto_words::Memory;
+use alto_top::Status;
+use disk_image::ReachError;
 use std::alloc::AllocError;
-use std::io::{Error, ErrorKind};
+use thiserror::Error;
 
-/// What stops a run outside the session.
-#[derive(Clone, Copy, Debug, PartialEq, Eq, Drop)]
+/// What ends a run that has no session.
+#[derive(Clone, Copy, Debug, PartialEq, Eq)]
 pub enum Stop {
-    /// More bytes stand in the standard input than a run takes. Nothing was run.
-    TooMuchInput,
-    /// The standard input can't be read. Nothing was run.
-    Input,
-    /// The standard output can't be written. The session was obeyed to its end.
+    /// The words aren't `[--cylinders C] PACK WORDS`, or one of them isn't UTF-8.
+    Words,
+    /// No machine was made over the pack file.
+    Pack(ReachError),
+    /// The help can't be written to standard output.
     Display,
-    /// No memory was left.
+    /// No memory was left for the words or the help.
     Memory,
 }
 
+/// What is said on standard error; its text is the line that is printed.
+#[derive(Clone, Copy, Debug, PartialEq, Eq, Error)]
+pub enum Complaint {
+    /// The words are no command line.
+    #[error("usage")]
+    Usage,
+    /// The pack file wasn't reached or made.
+    #[error(transparent)]
+    Pack(ReachError),
+}
+
 impl Stop {
-    /// The exit code. The standard streams stand for keyboard and display, so their faults have the numbers of these.
+    /// The exit code: that of `usage`, of no pack, or of the status with this cause.
     pub fn code(self) -> u8
         ensures { result ≡ code_of self }
     {
         match self {
-            Stop::TooMuchInput => 8,
-            Stop::Input => 4,
-            Stop::Display => 5,
-            Stop::Memory => 6,
+            Stop::Words => Status::Usage as u8,
+            Stop::Pack(ReachError::NoFile) => 8,
+            Stop::Pack(ReachError::BadLength { .. }) => 8,
+            Stop::Pack(ReachError::Memory) => Status::Memory as u8,
+            Stop::Display => Status::DisplayFault as u8,
+            Stop::Memory => Status::Memory as u8,
+        }
+    }
+
+    /// What is said of it on standard error. Nothing is said of a want of memory, nor of a display that fails.
+    pub fn complaint(self) -> Option<Complaint>
+        ensures { result ≡ complaint_of self }
+    {
+        match self {
+            Stop::Words => Some(Complaint::Usage),
+            Stop::Pack(ReachError::Memory) => None,
+            Stop::Pack(error) => Some(Complaint::Pack(error)),
+            Stop::Display => None,
+            Stop::Memory => None,
         }
     }
 }
 
-impl From<Error> for Stop {
-    fn from(error: Error) -> Self {
-        if error.kind() == ErrorKind::OutOfMemory {
-            Stop::Memory
-        } else {
-            Stop::Input
-        }
+impl From<ReachError> for Stop {
+    ghost from_gives = { λ error stop. stop ≡ Pack error };
+
+    fn from(error: ReachError) -> Self {
+        Stop::Pack(error)
     }
 }
 
@@ -52,10 +77,22 @@ impl From<AllocError> for Stop {
     }
 }
 
-impl From<Memory> for Stop {
-    ghost from_gives = { λ _ stop. stop ≡ Memory };
+/// The exit code of a run: the number of its status, or of what stopped it.
+pub fn exit_code(end: Result<Status, Stop>) -> u8
+    ensures { result ≡ end_code end }
+{
+    match end {
+        Ok(status) => status as u8,
+        Err(stop) => stop.code(),
+    }
+}
 
-    fn from(_: Memory) -> Self {
-        Stop::Memory
+/// What a run says on standard error. A session says nothing there.
+pub fn exit_complaint(end: Result<Status, Stop>) -> Option<Complaint>
+    ensures { result ≡ end_complaint end }
+{
+    match end {
+        Ok(_) => None,
+        Err(stop) => stop.complaint(),
     }
 }

@@ -1,6 +1,8 @@
 // Typed lines: what is shown, and what is written.
-use crate::packs::{DATA, LEADER, PATCHED, Placed, obey, sectors_of, set_page, sure_machine};
-use alto_top::Status;
+use crate::packs::{
+    DATA, LEADER, PATCHED, Placed, failing_machine, obey, sectors_of, set_page, sure_machine,
+};
+use alto_top::{Fault, Status};
 use disk_records::Disk;
 use std::process::Abort;
 use std::test::Fail;
@@ -117,6 +119,7 @@ fn words_that_ask_for_nothing(rt: HostRuntime) -> Result<(), Fail> {
         &["boot", "boot"],
         &["alto", "boot"],
         &["Boot"],
+        &["halt"],
         &["boot "],
         &[""],
     ];
@@ -126,6 +129,54 @@ fn words_that_ask_for_nothing(rt: HostRuntime) -> Result<(), Fail> {
         assert!(rt; obey(alloc, words, &mut machine)? == Status::Usage);
         assert_eq!(rt; machine.shown(alloc)?.as_slice(), b"usage\n".as_slice());
         assert!(rt; machine.event_count() == 6);
+    }
+    Ok(())
+}
+
+/// One line, its reply, and its sector commands.
+#[derive(Clone, Copy)]
+struct OneLine {
+    line: &'static [u8],
+    shown: &'static [u8],
+    commands: u64,
+}
+
+const fn one_line(line: &'static [u8], shown: &'static [u8], commands: u64) -> OneLine {
+    OneLine {
+        line,
+        shown,
+        commands,
+    }
+}
+
+#[test]
+fn one_line_takes_two_sweeps_at_most(rt: HostRuntime) -> Result<(), Fail> {
+    let alloc = rt.alloc();
+    // a sweep looks at 47 sectors; a put reads its page, and reads its label again before it writes
+    let lines = [
+        one_line(b"patch #3 1 4242", b"done\n", 97),
+        one_line(b"patch #3 4 4242", b"beyond length 5\n", 94),
+        one_line(b"patch #4 1 4242", b"no such name\n", 47),
+        one_line(b"Patch", b"bad line\n", 0),
+    ];
+    for one in lines {
+        // the call behind them shows the reply: where it fails nothing is shown, and no other call is made
+        for (failing, shown) in [
+            (one.commands, b"".as_slice()),
+            (one.commands.saturating_add(1), one.shown),
+        ] {
+            let sectors = sectors_of(alloc, &SMALL)?;
+            let mut machine = failing_machine(alloc, sectors, b"")?;
+            machine.fail_at(alloc, failing, 0)?;
+            let obeyed = alto_top::obey(alloc, &mut machine, one.line);
+            let wanted = if shown.is_empty() {
+                Err(Fault::Display)
+            } else {
+                Ok(())
+            };
+            assert!(rt; obeyed == wanted);
+            assert_eq!(rt; machine.shown(alloc)?.as_slice(), shown);
+        }
     }
     Ok(())
 }

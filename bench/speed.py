@@ -1,0 +1,100 @@
+#!/usr/bin/env python3
+"""Times patch lines over a pack file of model 31, and `cp` of the same file in the same run.
+
+    python3 bench/speed.py [LINES]
+
+The pack has 203 cylinders, 4,872 sectors, and one file of 40,000 bytes. Each line patches two bytes at another place. The first
+line is left out of the time, with the start of the program. Afterwards the file's bytes are compared with those wanted. A second
+session has 8 MB of bad lines: its memory mustn't grow with the input.
+"""
+import os
+import pathlib
+import platform
+import resource
+import subprocess
+import sys
+import tempfile
+import time
+
+sys.dont_write_bytecode = True
+import packs
+
+CYLINDERS = 203
+LENGTH = 40_000
+BAD_LINES = 2_000
+BAD_LINE = b"x" * 4_095 + b"\n"
+PAGE_KIB = os.sysconf("SC_PAGESIZE") // 1024
+
+
+def machine():
+    cpu = [line.split(":")[1].strip() for line in open("/proc/cpuinfo") if line.startswith("model name")]
+    return f"{cpu[0] if cpu else platform.machine()}, {os.cpu_count()} processors, Linux {platform.release()}"
+
+
+def most_memory(process):
+    """The most memory that a running process has had, in KiB."""
+    status = pathlib.Path(f"/proc/{process.pid}/status").read_text()
+    return next(int(line.split()[1]) for line in status.splitlines() if line.startswith("VmHWM"))
+
+
+def replies(process, count, reply):
+    """Reads so many replies, and answers how many seconds they took."""
+    start = time.perf_counter()
+    for _ in range(count):
+        assert process.stdout.readline() == reply, "each line is answered"
+    return time.perf_counter() - start
+
+
+def session(program, file, lines, reply=b"done\n"):
+    """The seconds of all lines but the first, those of the processor in all, and the most memory after the first line and the last."""
+    before = resource.getrusage(resource.RUSAGE_CHILDREN)
+    with subprocess.Popen([program, file, "boot"], stdin=subprocess.PIPE, stdout=subprocess.PIPE) as process:
+        process.stdin.write(lines[0])
+        process.stdin.flush()
+        replies(process, 1, reply)
+        first = most_memory(process)
+        process.stdin.write(b"".join(lines[1:]))
+        process.stdin.flush()
+        seconds = replies(process, len(lines) - 1, reply)
+        last = most_memory(process)
+        process.stdin.close()
+        assert process.wait() == 0, "the input was obeyed to its end"
+    after = resource.getrusage(resource.RUSAGE_CHILDREN)
+    used = after.ru_utime + after.ru_stime - before.ru_utime - before.ru_stime
+    return seconds, used, first, last
+
+
+def copied(file, copy):
+    start = time.perf_counter()
+    subprocess.run(["cp", file, copy], check=True)
+    return time.perf_counter() - start
+
+
+def main():
+    count = int(sys.argv[1]) if len(sys.argv) > 1 else 200
+    program = packs.program()
+    image = bytearray(packs.pack(CYLINDERS, bytes(LENGTH)))
+    offsets = [line * 997 % (LENGTH // 2) * 2 for line in range(count)]
+    lines = [f"patch #{packs.SERIAL} {at} {line % 65536:04x}\n".encode() for line, at in enumerate(offsets)]
+    with tempfile.TemporaryDirectory() as folder:
+        file = pathlib.Path(folder) / "pack"
+        file.write_bytes(image)
+        seconds, used, first, last = session(program, file, lines)
+        copy = min(copied(file, file.with_name("copy")) for _ in range(5))
+        for line, at in enumerate(offsets):
+            image[packs.place(at) : packs.place(at) + 2] = (line % 65536).to_bytes(2, "big")
+        assert file.read_bytes() == image, "these bytes changed, and no other"
+        _, _, bad_first, bad_last = session(program, file, [BAD_LINE] * BAD_LINES, b"bad line\n")
+        assert file.read_bytes() == image, "a bad line writes nothing"
+    line = seconds / (count - 1) * 1000
+    print(machine())
+    print(f"a line, which is two sweeps of {CYLINDERS * 24 - 1} sectors, a read and a write: {line:.2f} ms; a sweep: {line / 2:.2f} ms")
+    print(f"of the processor: {used / count * 1000:.2f} ms a line; the load was {os.getloadavg()[0]:.1f}")
+    print(f"cp of the pack file: {copy * 1000:.2f} ms")
+    print(f"most memory after the first line: {first} KiB, after the last: {last} KiB")
+    size = BAD_LINES * len(BAD_LINE) / 1e6
+    print(f"with {size:.0f} MB of bad lines, after the first line: {bad_first} KiB, after the last: {bad_last} KiB")
+    assert bad_last - bad_first <= 16 * PAGE_KIB, "memory doesn't grow with the input"
+
+
+main()

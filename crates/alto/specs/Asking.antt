@@ -1,0 +1,43 @@
+-- What a command line asks for.
+use Rattle.std.specs.Prelude.{◌≡◌, ℕ, ◌≤◌, Bool, true, false, nat_eq, List, [], ◌∷◌, drop, map, slice_index_or, string_bytes, Some, None, IfSome, codes}
+use Rattle.std.specs.Cmp.Lexicographic.{pointwise}
+use Rattle.disk_image.specs.declared.start.Start.{Start}
+use Rattle.disk_image.specs.Starts.{start_of}
+use Rattle.alto.specs.declared.asked.Asked.{Asked}
+use Rattle.alto.specs.declared.asked.Asked.TheVariants.{Help, Machine, Nothing}
+use Rattle.alto.specs.declared.asked.Call.{Call}
+
+abbrev pub is_help : List ℕ → Bool
+is_help word = pointwise nat_eq word (codes "--help")
+
+-- whether the words are `--help` alone
+abbrev pub asks_help : List (List ℕ) → Bool
+asks_help [] = false
+asks_help (word ∷ []) = is_help word
+asks_help (word ∷ other ∷ words) = false
+
+-- a command line `[--cylinders C] PACK WORDS`
+pub record IsCall (words : List (List ℕ)) (call : Call) : Type 0 where
+  pub start : Start
+  pub starts : start_of words ≡ Some start
+  pub cylinders : call.cylinders ≡ start.cylinders
+  pub pack : call.path.now ≡ slice_index_or words start.pack []
+  pub rest : map string_bytes call.words.now ≡ drop start.rest words
+
+-- no command line
+abbrev pub IsFaulty : List (List ℕ) → Type 0
+IsFaulty words = (asks_help words ≡ false) × (start_of words ≡ None)
+
+abbrev pub IsAsked : List (List ℕ) → Asked → Type 0
+IsAsked words Help = asks_help words ≡ true
+IsAsked words (Machine call) = (asks_help words ≡ false) × IsCall words call
+IsAsked words Nothing = IsFaulty words
+
+-- a new pack file has 2 to 203 cylinders
+abbrev pub HasRange : Call → Type 0
+HasRange call = IfSome call.cylinders (λ cylinders. (2 ≤ cylinders) × (cylinders ≤ 203))
+
+abbrev pub InRange : Asked → Type 0
+InRange Help = Unit {0}
+InRange (Machine call) = HasRange call
+InRange Nothing = Unit {0}

@@ -1,0 +1,72 @@
+// What the words of a command line ask for.
+ghost use Rattle.std.specs.Prelude.{◌≡◌, drop, map, string_bytes};
+ghost use Rattle.alto.specs.Asking.{is_help, asks_help, IsAsked, InRange};
+
+use disk_image::start_of;
+
+/// What the words of a command line ask for.
+#[derive(Clone, Copy)]
+pub enum Asked<'a> {
+    /// The text of `--help`.
+    Help,
+    /// A machine over a pack file, and what the words behind PACK ask of it.
+    Machine(Call<'a>),
+    /// Nothing: they are no command line.
+    Nothing,
+}
+
+/// A command line `[--cylinders C] PACK WORDS`.
+#[derive(Clone, Copy)]
+pub struct Call<'a> {
+    /// The number of cylinders, 2 to 203, of a new pack file that is made first.
+    pub cylinders: Option<u16>,
+    /// PACK, the path of the pack file.
+    pub path: &'a str,
+    /// The words behind PACK.
+    pub words: &'a [String],
+}
+
+/// The words behind the program's name, which comes first.
+pub fn words_behind_name(args: &[String]) -> &[String]
+    ensures words { result.now ≡ drop 1 args.now }
+{
+    match args {
+        [] => &[],
+        [_, words @ ..] => words,
+    }
+}
+
+/// Whether a word is `--help`.
+fn is_help(word: &[u8]) -> bool
+    ensures { result ≡ is_help word.now }
+{
+    word == b"--help".as_slice()
+}
+
+/// Whether the words are `--help` alone.
+fn asks_help(words: &[String]) -> bool
+    ensures { result ≡ asks_help (map string_bytes words.now) }
+{
+    match words {
+        [word] => is_help(word.as_bytes()),
+        _ => false,
+    }
+}
+
+/// What the words behind the program's name ask for.
+pub fn asked_of(words: &[String]) -> Asked<'_>
+    ensures asked { IsAsked (map string_bytes words.now) result }
+    ensures range { InRange result }
+{
+    if asks_help(words) {
+        return Asked::Help;
+    }
+    match start_of(words) {
+        Some(start) => Asked::Machine(Call {
+            cylinders: start.cylinders,
+            path: words[start.pack].as_str(),
+            words: &words[start.rest..],
+        }),
+        None => Asked::Nothing,
+    }
+}

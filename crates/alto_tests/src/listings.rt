@@ -1,0 +1,368 @@
+// What packs made by hand show: each sentence on which files live, which bytes they have and which names are theirs.
+use crate::outside::{Broken, Log, Outside};
+use crate::packs::{DATA, LEADER, failing_machine, obey, sectors_of, small_shape, sure_machine};
+use alto_top::{Status, show_pack};
+use disk_image::{FileMachine, encode_pack};
+use disk_records::{Disk, Sector};
+use std::alloc::Global;
+use std::fs;
+use std::process::Abort;
+use std::test::Fail;
+
+/// A full name: the high and the low word of the serial, and the version.
+type FullName = [u16; 3];
+
+const FILE_3: FullName = [0, 3, 1];
+
+const FILE_4: FullName = [0, 4, 1];
+
+const FILE_8: FullName = [0, 8, 1];
+
+const SYS_DIR: FullName = [0x8000, 1, 1];
+
+const DIRECTORY_5: FullName = [0x8000, 5, 1];
+
+const DIRECTORY_6: FullName = [0x8000, 6, 1];
+
+/// One page of a file: its sector, its number, how many of its bytes count, and the words of its value.
+#[derive(Clone, Copy)]
+struct Written<'a> {
+    at: usize,
+    name: FullName,
+    number: u16,
+    bytes: u16,
+    words: &'a [u16],
+}
+
+/// A leader's value: six words of dates, and then its name behind the name's length.
+fn leader_words(alloc: Global, name: &[u8]) -> Result<Vec<u16>, Fail> {
+    let mut words = Vec::new(alloc);
+    words.extend_from_slice(&[0; 6])?;
+    push_name(&mut words, name)?;
+    Ok(words)
+}
+
+/// Appends a name behind its length, two bytes a word; an odd byte has a 0 beside it.
+fn push_name(words: &mut Vec<u16>, name: &[u8]) -> Result<(), Fail> {
+    let mut high = Some((name.len() % 256) as u8);
+    for byte in name {
+        high = match high {
+            Some(high) => {
+                words.push(high as u16 * 256 + *byte as u16)?;
+                None
+            }
+            None => Some(*byte),
+        };
+    }
+    if let Some(high) = high {
+        words.push(high as u16 * 256)?;
+    }
+    Ok(())
+}
+
+/// The slot of an entry: its kind and its length, the full name, a 0, the leader's address, and the name behind its length.
+fn push_entry(words: &mut Vec<u16>, fid: FullName, name: &[u8]) -> Result<(), Fail> {
+    words.push(0x0400 + 6 + ((name.len() % 40) as u16 + 2) / 2)?;
+    words.extend_from_slice(&fid)?;
+    words.extend_from_slice(&[0, 5])?;
+    push_name(words, name)
+}
+
+/// Puts a page on its sector. Links are left as ones.
+fn put_page(sectors: &mut [Sector], page: Written<'_>) {
+    let [high, low, version] = page.name;
+    if let Some(sector) = sectors.get_mut(page.at) {
+        sector.label = [
+            0xFFFF,
+            0xFFFF,
+            0,
+            page.bytes,
+            page.number,
+            version,
+            high,
+            low,
+        ];
+        sector.value = [0; 256];
+        for (word, written) in sector.value.iter_mut().zip(page.words) {
+            *word = *written;
+        }
+    }
+}
+
+/// Puts a leader on its sector.
+fn put_leader(
+    alloc: Global,
+    sectors: &mut [Sector],
+    at: usize,
+    fid: FullName,
+    name: &[u8],
+) -> Result<(), Fail> {
+    let words = leader_words(alloc, name)?;
+    put_page(
+        sectors,
+        Written {
+            at,
+            name: fid,
+            number: 0,
+            bytes: 512,
+            words: &words,
+        },
+    );
+    Ok(())
+}
+
+/// Puts a data page on its sector; its words are 0.
+fn put_data(sectors: &mut [Sector], at: usize, name: FullName, number: u16, bytes: u16) {
+    put_page(
+        sectors,
+        Written {
+            at,
+            name,
+            number,
+            bytes,
+            words: &[],
+        },
+    );
+}
+
+/// Puts a directory: its leader, and one page with these slots, all of which count.
+fn put_directory(
+    alloc: Global,
+    sectors: &mut [Sector],
+    at: usize,
+    fid: FullName,
+    name: &[u8],
+    slots: &[u16],
+) -> Result<(), Fail> {
+    put_leader(alloc, sectors, at, fid, name)?;
+    put_page(
+        sectors,
+        Written {
+            at: at.saturating_add(1),
+            name: fid,
+            number: 1,
+            bytes: (slots.len() % 256) as u16 * 2,
+            words: slots,
+        },
+    );
+    Ok(())
+}
+
+/// Shows these sectors, and compares the listing. No key is taken and nothing is written.
+fn check<R: Abort + AllocGlobal>(rt: &R, sectors: &[Sector], listing: &[u8]) -> Result<(), Fail> {
+    let alloc = rt.alloc();
+    let mut machine = sure_machine(alloc, sectors.to_vec(alloc)?, b"key")?;
+    assert!(rt; obey(alloc, &["show"], &mut machine)? == Status::Done);
+    assert_eq!(rt; machine.shown(alloc)?.as_slice(), listing);
+    assert!(rt; machine.writes() == 0, "record writes");
+    assert!(rt; machine.into_sectors().as_slice() == sectors, "sectors");
+    Ok(())
+}
+
+#[test]
+fn packs_without_files(rt: HostRuntime) -> Result<(), Fail> {
+    let alloc = rt.alloc();
+    check(&rt, &sectors_of(alloc, &[])?, b"0 files\n")?;
+    let mut zeros = Vec::new(alloc);
+    for _ in 0..48 {
+        zeros.push(Sector {
+            header: [0; 2],
+            label: [0; 8],
+            value: [0; 256],
+        })?;
+    }
+    check(&rt, &zeros, b"0 files\n")?;
+    // more bytes than a page has: the label is out of range
+    let mut sectors = sectors_of(alloc, &[])?;
+    put_leader(alloc, &mut sectors, 5, FILE_3, b"A.")?;
+    put_data(&mut sectors, 6, FILE_3, 1, 5);
+    check(&rt, &sectors, b"SysDir>A. length 5\n1 files\n")?;
+    if let Some(sector) = sectors.get_mut(5) {
+        sector.label[3] = 513;
+    }
+    check(&rt, &sectors, b"0 files\n")?;
+    // the address in the header isn't the sector's
+    put_leader(alloc, &mut sectors, 5, FILE_3, b"A.")?;
+    if let Some(sector) = sectors.get_mut(5) {
+        sector.header[1] = 0x6000;
+    }
+    check(&rt, &sectors, b"0 files\n")
+}
+
+#[test]
+fn names_of_nameless_files(rt: HostRuntime) -> Result<(), Fail> {
+    let alloc = rt.alloc();
+    let mut sectors = sectors_of(alloc, &[])?;
+    // the leader's name can't be read: 8 is 10 in octal
+    put_leader(alloc, &mut sectors, 9, FILE_8, b"no name")?;
+    check(&rt, &sectors, b"SysDir>Lost10. length 0\n1 files\n")?;
+    // the lower full name takes the name, whichever sector is the lower; case doesn't make another name
+    put_leader(alloc, &mut sectors, 5, FILE_4, b"a.")?;
+    put_leader(alloc, &mut sectors, 7, FILE_3, b"A.")?;
+    let listing = b"SysDir>A. length 0\nSysDir>a.$1. length 0\nSysDir>Lost10. length 0\n3 files\n";
+    check(&rt, &sectors, listing.as_slice())?;
+    // the names of the system files are taken
+    put_leader(alloc, &mut sectors, 7, FILE_3, b"sysdir.")?;
+    let listing =
+        b"SysDir>a. length 0\nSysDir>Lost10. length 0\nSysDir>sysdir.$1. length 0\n3 files\n";
+    check(&rt, &sectors, listing.as_slice())
+}
+
+#[test]
+fn pages_that_count(rt: HostRuntime) -> Result<(), Fail> {
+    let alloc = rt.alloc();
+    let mut sectors = sectors_of(alloc, &[])?;
+    put_leader(alloc, &mut sectors, 5, FILE_3, b"A.")?;
+    put_data(&mut sectors, 6, FILE_3, 1, 5);
+    // a second copy above, of a page and of the leader
+    put_data(&mut sectors, 20, FILE_3, 1, 512);
+    put_leader(alloc, &mut sectors, 21, FILE_3, b"B.")?;
+    check(&rt, &sectors, b"SysDir>A. length 5\n1 files\n")?;
+    // a copy below
+    put_data(&mut sectors, 2, FILE_3, 1, 512);
+    check(&rt, &sectors, b"SysDir>A. length 512\n1 files\n")?;
+    // page 2 is missing
+    put_data(&mut sectors, 30, FILE_3, 3, 512);
+    check(&rt, &sectors, b"SysDir>A. length 512\n1 files\n")?;
+    put_data(&mut sectors, 40, FILE_3, 2, 512);
+    check(&rt, &sectors, b"SysDir>A. length 1536\n1 files\n")
+}
+
+#[test]
+fn entries_that_are_kept(rt: HostRuntime) -> Result<(), Fail> {
+    let alloc = rt.alloc();
+    let mut sectors = sectors_of(alloc, &[])?;
+    put_leader(alloc, &mut sectors, 5, FILE_3, b"X.")?;
+    put_leader(alloc, &mut sectors, 7, FILE_4, b"Y.")?;
+    // two entries for one file: the first stands, whatever the leader says; one of a file that doesn't live is left out
+    let mut slots = Vec::new(alloc);
+    push_entry(&mut slots, FILE_8, b"H.")?;
+    push_entry(&mut slots, FILE_3, b"B.")?;
+    push_entry(&mut slots, FILE_3, b"A.")?;
+    put_directory(alloc, &mut sectors, 1, SYS_DIR, b"SysDir.", &slots)?;
+    check(
+        &rt,
+        &sectors,
+        b"SysDir>B. length 0\nSysDir>Y. length 0\n2 files\n",
+    )?;
+    // a second name of the same letters isn't kept, and its file is named by its leader
+    let mut slots = Vec::new(alloc);
+    push_entry(&mut slots, FILE_3, b"B.")?;
+    push_entry(&mut slots, FILE_4, b"b.")?;
+    put_directory(alloc, &mut sectors, 1, SYS_DIR, b"SysDir.", &slots)?;
+    check(
+        &rt,
+        &sectors,
+        b"SysDir>B. length 0\nSysDir>Y. length 0\n2 files\n",
+    )?;
+    // the second slot has length 0: the one behind it isn't read
+    let mut slots = Vec::new(alloc);
+    push_entry(&mut slots, FILE_3, b"B.")?;
+    slots.push(0)?;
+    push_entry(&mut slots, FILE_4, b"C.")?;
+    put_directory(alloc, &mut sectors, 1, SYS_DIR, b"SysDir.", &slots)?;
+    check(
+        &rt,
+        &sectors,
+        b"SysDir>B. length 0\nSysDir>Y. length 0\n2 files\n",
+    )
+}
+
+#[test]
+fn order_of_the_lines(rt: HostRuntime) -> Result<(), Fail> {
+    let alloc = rt.alloc();
+    let mut sectors = sectors_of(alloc, &[])?;
+    put_leader(alloc, &mut sectors, 5, FILE_3, b"X.")?;
+    put_data(&mut sectors, 6, FILE_3, 1, 5);
+    put_leader(alloc, &mut sectors, 7, FILE_4, b"Y.")?;
+    put_leader(alloc, &mut sectors, 9, FILE_8, b"Z.")?;
+    // directories are ordered by their names without regard to case, and one in a directory is named in SysDir
+    let mut slots = Vec::new(alloc);
+    push_entry(&mut slots, FILE_3, b"a.")?;
+    push_entry(&mut slots, FILE_4, b"Q.")?;
+    put_directory(alloc, &mut sectors, 11, DIRECTORY_5, b"b.", &slots)?;
+    let mut slots = Vec::new(alloc);
+    push_entry(&mut slots, DIRECTORY_5, b"inner.")?;
+    push_entry(&mut slots, FILE_8, b"r.")?;
+    put_directory(alloc, &mut sectors, 13, DIRECTORY_6, b"C.", &slots)?;
+    let listing =
+        b"SysDir>b. directory\nSysDir>C. directory\nb>a. length 5\nb>Q. length 0\nC>r. length 0\n5 files\n";
+    check(&rt, &sectors, listing.as_slice())?;
+    // by the name that stands in SysDir, and not by the leader's
+    let mut slots = Vec::new(alloc);
+    push_entry(&mut slots, DIRECTORY_5, b"d.")?;
+    put_directory(alloc, &mut sectors, 1, SYS_DIR, b"SysDir.", &slots)?;
+    let listing =
+        b"SysDir>C. directory\nSysDir>d. directory\nC>r. length 0\nd>a. length 5\nd>Q. length 0\n5 files\n";
+    check(&rt, &sectors, listing.as_slice())
+}
+
+#[test]
+fn cuts_of_a_patch(rt: HostRuntime) -> Result<(), Fail> {
+    let alloc = rt.alloc();
+    let keys = b"patch #3 1 4242\npatch #3 4 4242\n";
+    let mut machine = sure_machine(alloc, sectors_of(alloc, &[LEADER, DATA])?, keys)?;
+    assert!(rt; obey(alloc, &["boot"], &mut machine)? == Status::Done);
+    for count in 0..=machine.event_count() {
+        let mut cut = machine.cut(alloc, count)?;
+        let before = cut.shown(alloc)?.len();
+        assert!(rt; show_pack(alloc, &mut cut) == Status::Done);
+        // the leader has no name
+        let shown = cut.shown(alloc)?;
+        let listing = b"SysDir>Lost3. length 5\n1 files\n".as_slice();
+        assert_eq!(rt; shown.get(before..), Some(listing), "{count}");
+    }
+    Ok(())
+}
+
+#[test]
+fn faults_while_showing(rt: HostRuntime) -> Result<(), Fail> {
+    let alloc = rt.alloc();
+    let rows = [
+        (0, Status::DiskFault, b"".as_slice()),
+        (46, Status::DiskFault, b""),
+        (47, Status::DisplayFault, b""),
+        (48, Status::Done, b"SysDir>Lost3. length 5\n1 files\n"),
+    ];
+    for (call, ended, shown) in rows {
+        let mut machine = failing_machine(alloc, sectors_of(alloc, &[LEADER, DATA])?, b"")?;
+        machine.fail_at(alloc, call, 0)?;
+        assert!(rt; obey(alloc, &["show"], &mut machine)? == ended, "{call}");
+        assert_eq!(rt; machine.shown(alloc)?.as_slice(), shown, "{call}");
+    }
+    Ok(())
+}
+
+#[test]
+fn a_real_pack_file(rt: HostRuntime) -> Result<(), Fail> {
+    let alloc = rt.alloc();
+    let made = FileMachine::create(&rt, alloc, "shown", 2)?;
+    drop(made);
+    let shape = small_shape()?;
+    let sectors = sectors_of(alloc, &[LEADER, DATA])?;
+    assert!(rt; sectors.len() == shape.pages() as usize);
+    let bytes = encode_pack(alloc, shape, &sectors)?;
+    let rows = [
+        (
+            Broken::Nothing,
+            Status::Done,
+            b"SysDir>Lost3. length 5\n1 files\n".as_slice(),
+        ),
+        (Broken::Display, Status::DisplayFault, b""),
+    ];
+    for (broken, ended, shown) in rows {
+        fs::write(&rt, "shown", bytes.as_slice())?;
+        let log = Log::new(alloc);
+        let outside = Outside::new(&rt, b"", broken, &log);
+        let mut machine = FileMachine::reach(&outside, alloc, "shown")?;
+        let status = obey(alloc, &["show"], &mut machine)?;
+        assert!(rt; status == ended, "{broken:?}");
+        assert_eq!(rt; log.shown(alloc)?.as_slice(), shown, "{broken:?}");
+        assert!(rt;
+            fs::read(&rt, "shown")?.as_slice() == bytes.as_slice(),
+            "{broken:?}"
+        );
+    }
+    fs::remove_file(&rt, "shown")?;
+    Ok(())
+}

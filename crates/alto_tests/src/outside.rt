@@ -1,0 +1,317 @@
+// The outside of a test: real files in its folder, keys from a list, and a display that keeps what it is shown. What calls were
+// made is noted, and each part may fail.
+use std::alloc::{AllocError, Allocator, Global};
+use std::cell::{Cell, RefCell};
+use std::fmt::Display;
+use std::fs::{File, Metadata, OpenFile, OpenOptions};
+use std::io::{BufRead, Error, ErrorKind, Input, Lines, Print, Read, Seek, SeekFrom, Write};
+use std::rt::Files;
+use std::{fs, io};
+
+/// What fails of an outside.
+#[derive(Clone, Copy, Debug, PartialEq, Eq)]
+pub enum Broken {
+    /// Nothing fails.
+    Nothing,
+    /// Nothing can be shown.
+    Display,
+    /// The keyboard fails behind its last key, where it would end.
+    Keyboard,
+    /// Files may be read and not written, however they are opened.
+    Writing,
+    /// Of each file that is opened one write call fails: that with this number, counted from 0.
+    WriteCall(u64),
+}
+
+/// One call of a file, with the place that it seeks, or how many bytes it was to read or write.
+#[derive(Clone, Copy, Debug, PartialEq, Eq)]
+pub enum FileCall {
+    Seek(SeekFrom),
+    Read(usize),
+    Write(usize),
+}
+
+/// How many calls of files are kept.
+const MOST_CALLS: usize = 8;
+
+/// What an outside was asked to do.
+#[derive(Drop)]
+pub struct Log {
+    shown: RefCell<Vec<u8>>,
+    shows: Cell<u64>,
+    key_reads: Cell<u64>,
+    file_calls: RefCell<Vec<FileCall>>,
+}
+
+impl Log {
+    /// A log of nothing.
+    pub fn new(alloc: Global) -> Log {
+        Log {
+            shown: RefCell::new(Vec::new(alloc)),
+            shows: Cell::new(0),
+            key_reads: Cell::new(0),
+            file_calls: RefCell::new(Vec::new(alloc)),
+        }
+    }
+
+    /// A copy of what was shown so far.
+    pub fn shown(&self, alloc: Global) -> Result<Vec<u8>, AllocError> {
+        match self.shown.try_borrow() {
+            Ok(bytes) => bytes.as_slice().to_vec(alloc),
+            Err(_) => Err(AllocError),
+        }
+    }
+
+    /// How many write calls the display had.
+    pub fn shows(&self) -> u64 {
+        self.shows.get()
+    }
+
+    /// How many read calls the keyboard had.
+    pub fn key_reads(&self) -> u64 {
+        self.key_reads.get()
+    }
+
+    /// The first 8 calls of files since they were last taken.
+    pub fn take_file_calls(&self, alloc: Global) -> Result<Vec<FileCall>, AllocError> {
+        match self.file_calls.try_borrow_mut() {
+            Ok(mut calls) => {
+                let taken = calls.as_slice().to_vec(alloc)?;
+                calls.clear();
+                Ok(taken)
+            }
+            Err(_) => Err(AllocError),
+        }
+    }
+
+    fn note_file_call(&self, call: FileCall) -> io::Result<()> {
+        match self.file_calls.try_borrow_mut() {
+            Ok(mut calls) => {
+                if calls.len() < MOST_CALLS {
+                    calls.push(call)?;
+                }
+                Ok(())
+            }
+            Err(_) => Err(Error::from(ErrorKind::ResourceBusy)),
+        }
+    }
+
+    fn note_key_read(&self) {
+        self.key_reads.set(self.key_reads.get().saturating_add(1));
+    }
+
+    fn note_shown(&self, bytes: &[u8]) -> io::Result<()> {
+        self.shows.set(self.shows.get().saturating_add(1));
+        match self.shown.try_borrow_mut() {
+            Ok(mut shown) => Ok(shown.extend_from_slice(bytes)?),
+            Err(_) => Err(Error::from(ErrorKind::ResourceBusy)),
+        }
+    }
+}
+
+/// A runtime over the host's: its files, and keys and a display of its own.
+#[derive(Drop)]
+pub struct Outside<'a> {
+    host: &'a HostRuntime,
+    keys: &'a [u8],
+    broken: Broken,
+    log: &'a Log,
+}
+
+impl<'a> Outside<'a> {
+    /// An outside with these keys.
+    pub fn new(host: &'a HostRuntime, keys: &'a [u8], broken: Broken, log: &'a Log) -> Outside<'a> {
+        Outside {
+            host,
+            keys,
+            broken,
+            log,
+        }
+    }
+
+    fn opened(&self, how: &OpenOptions, path: &str) -> io::Result<File> {
+        if self.broken == Broken::Writing {
+            return fs::open(self.host, path);
+        }
+        self.host.open_file(how, path)
+    }
+}
+
+/// The keyboard of an outside.
+#[derive(Drop)]
+pub struct Keys<'a> {
+    rest: &'a [u8],
+    is_broken: bool,
+    log: &'a Log,
+}
+
+impl Read for Keys<'_> {
+    fn read(&mut self, buf: &mut [u8]) -> io::Result<usize> {
+        self.log.note_key_read();
+        if self.is_broken && self.rest.is_empty() {
+            return Err(Error::from(ErrorKind::Other));
+        }
+        self.rest.read(buf)
+    }
+}
+
+impl BufRead for Keys<'_> {
+    fn fill_buf(&mut self) -> io::Result<&[u8]> {
+        Ok(self.rest)
+    }
+
+    fn consume(&mut self, amount: usize) {
+        self.rest.consume(amount);
+    }
+}
+
+/// A file of an outside.
+#[derive(Drop)]
+pub struct Logged<'a> {
+    file: File,
+    writes: u64,
+    failing: Option<u64>,
+    log: &'a Log,
+}
+
+impl Read for Logged<'_> {
+    fn read(&mut self, buf: &mut [u8]) -> io::Result<usize> {
+        self.log.note_file_call(FileCall::Read(buf.len()))?;
+        self.file.read(buf)
+    }
+}
+
+impl Write for Logged<'_> {
+    fn write(&mut self, buf: &[u8]) -> io::Result<usize> {
+        self.log.note_file_call(FileCall::Write(buf.len()))?;
+        let number = self.writes;
+        self.writes = number.saturating_add(1);
+        if self.failing == Some(number) {
+            return Err(Error::from(ErrorKind::StorageFull));
+        }
+        self.file.write(buf)
+    }
+
+    fn flush(&mut self) -> io::Result<()> {
+        self.file.flush()
+    }
+}
+
+impl Seek for Logged<'_> {
+    fn seek(&mut self, to: SeekFrom) -> io::Result<u64> {
+        self.log.note_file_call(FileCall::Seek(to))?;
+        self.file.seek(to)
+    }
+}
+
+impl OpenFile for Logged<'_> {
+    fn metadata(&self) -> io::Result<Metadata> {
+        self.file.metadata()
+    }
+
+    fn set_len(&self, size: u64) -> io::Result<()> {
+        self.file.set_len(size)
+    }
+
+    fn sync_all(&self) -> io::Result<()> {
+        self.file.sync_all()
+    }
+
+    fn sync_data(&self) -> io::Result<()> {
+        self.file.sync_data()
+    }
+}
+
+impl<'a> Input for Outside<'a> {
+    type Reader = Keys<'a>;
+
+    fn read_line<A: Allocator + Clone>(&self, buf: &mut String<A>) -> io::Result<usize> {
+        self.reader().read_line(buf)
+    }
+
+    fn lines<A: Allocator>(&self, alloc: A) -> Lines<Keys<'a>, A> {
+        self.reader().lines(alloc)
+    }
+
+    fn reader(&self) -> Keys<'a> {
+        Keys {
+            rest: self.keys,
+            is_broken: self.broken == Broken::Keyboard,
+            log: self.log,
+        }
+    }
+}
+
+impl Print for Outside<'_> {
+    fn print<D: Display + Drop>(&self, value: D) -> io::Result<()> {
+        let text = value.to_string(self.host.alloc())?;
+        self.write_all(text.as_bytes())
+    }
+
+    fn println<D: Display + Drop>(&self, value: D) -> io::Result<()> {
+        self.print(value)?;
+        self.write_all(b"\n")
+    }
+
+    fn write_all(&self, bytes: &[u8]) -> io::Result<()> {
+        if self.broken == Broken::Display {
+            return Err(Error::from(ErrorKind::BrokenPipe));
+        }
+        self.log.note_shown(bytes)
+    }
+}
+
+impl<'a> Files for Outside<'a> {
+    type File = Logged<'a>;
+
+    type Dir = <HostRuntime as Files>::Dir;
+
+    fn open_file(&self, how: &OpenOptions, path: &str) -> io::Result<Logged<'a>> {
+        let failing = match self.broken {
+            Broken::WriteCall(number) => Some(number),
+            _ => None,
+        };
+        Ok(Logged {
+            file: self.opened(how, path)?,
+            writes: 0,
+            failing,
+            log: self.log,
+        })
+    }
+
+    fn open_dir(&self, path: &str) -> io::Result<Self::Dir> {
+        self.host.open_dir(path)
+    }
+
+    fn metadata(&self, path: &str) -> io::Result<Metadata> {
+        Files::metadata(self.host, path)
+    }
+
+    fn symlink_metadata(&self, path: &str) -> io::Result<Metadata> {
+        self.host.symlink_metadata(path)
+    }
+
+    fn copy(&self, from: &str, to: &str) -> io::Result<u64> {
+        self.host.copy(from, to)
+    }
+
+    fn rename(&self, from: &str, to: &str) -> io::Result<()> {
+        self.host.rename(from, to)
+    }
+
+    fn remove_file(&self, path: &str) -> io::Result<()> {
+        self.host.remove_file(path)
+    }
+
+    fn create_dir(&self, path: &str) -> io::Result<()> {
+        self.host.create_dir(path)
+    }
+
+    fn remove_dir(&self, path: &str) -> io::Result<()> {
+        self.host.remove_dir(path)
+    }
+
+    fn remove_dir_all<B: Allocator>(&self, alloc: B, path: &str) -> io::Result<()> {
+        self.host.remove_dir_all(alloc, path)
+    }
+}
