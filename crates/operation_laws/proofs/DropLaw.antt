@@ -17,7 +17,7 @@ use Rattle.pack_model.specs.Meanings.{reading}
 use Rattle.pack_model.specs.Model.{dir_items, read_pack}
 use Rattle.pack_model.specs.Moves.{Obeys, steps}
 use Rattle.pack_model.specs.Namings.{Naming, namings_in}
-use Rattle.pack_model.specs.Operations.{drop_writes}
+use Rattle.pack_model.specs.Operations.{go_writes}
 use Rattle.pack_model.specs.Operations.Move.{quiet}
 use Rattle.pack_model.specs.PageWords.{freed_value}
 use Rattle.pack_model.specs.Sights.{Sight, sights}
@@ -59,7 +59,7 @@ pub drop_law : DropLaw
 drop_law p f at pages d slot_at a b own w t hyp fr =
     let ss : List Sight = sights p in
     let go = go_law p w t f at pages hyp in
-    let p1 : Pack = after p (drop_writes at pages) in
+    let p1 : Pack = after p (go_writes at pages) in
     let h = fr.write in
     let dir_leader = has_leader ss d h.lives in
     let items_are : dir_items (read_pack p) d ≡ a ++ entry f own ∷ b =
@@ -89,12 +89,12 @@ drop_law p f at pages d slot_at a b own w t hyp fr =
     let events_are : events1 ≡ events2 = ap (λ s. value_writes slot_at (freed_value (all_words a) n s.value)) same_sector in
     let last2 : SlotFreed p1 events2 = subst (SlotFreed p1) events_are last in
     let o : Operation = drop_file f in
-    let e : after p (drop_writes at pages ++ events2) ≡ after p1 events2 = after-append p (drop_writes at pages) events2 in
+    let e : after p (go_writes at pages ++ events2) ≡ after p1 events2 = after-append p (go_writes at pages) events2 in
     let model : read_pack p1 ≡ steps reading (read_pack p) (first_moves p f) = stands_last reading (go.0).drops.obeys in
-    let obeys : Obeys reading (read_pack p) p (drop_writes at pages ++ events2) (moves_of (read_pack p) o) = obeys_then reading (go.0).drops.obeys (subst (λ m. Obeys reading m p1 events2 (quiet ∷ [])) model last2.meets.obeys) in
+    let obeys : Obeys reading (read_pack p) p (go_writes at pages ++ events2) (moves_of (read_pack p) o) = obeys_then reading (go.0).drops.obeys (subst (λ m. Obeys reading m p1 events2 (quiet ∷ [])) model last2.meets.obeys) in
     record {
       meets = record { obeys = obeys; whole = subst Whole (sym e) last2.meets.whole; tidy = subst Tidy (sym e) last2.meets.tidy };
-      cuts = cuts_read p (drop_writes at pages ++ events2) (moves_of (read_pack p) o) obeys;
+      cuts = cuts_read p (go_writes at pages ++ events2) (moves_of (read_pack p) o) obeys;
       ends = ap read_pack e ∙ stands_last reading last2.meets.obeys ∙ (go.0).ends;
       descriptor = subst (KeepsDescriptor p) (sym e) (kept_twice p p1 (after p1 events2) (go.0).descriptor last2.descriptor);
       fits = λ shape s mark ps x. subst (λ r. DescriptorFits r shape s mark ps) (sym e) (last2.fits shape s mark ps ((go.0).fits shape s mark ps x));

@@ -12,6 +12,7 @@ use Rattle.pack_model.specs.Bodies.Body.{data_of, items_of}
 use Rattle.pack_model.specs.Bytes.{put_at}
 use Rattle.pack_model.specs.Commands.{values_writes}
 use Rattle.pack_model.specs.Committing.{page_of_word}
+use Rattle.pack_model.specs.Entering.{overlapping}
 use Rattle.pack_model.specs.Files.{file_bytes, place}
 use Rattle.pack_model.specs.Leaders.{Leader}
 use Rattle.pack_model.specs.Links.{dir_words}
@@ -40,7 +41,7 @@ use Rattle.operation_laws.proofs.Entering.{Ready, entry_long, second_stage, sect
 use Rattle.operation_laws.proofs.OneDirectory.{slots_namings}
 use Rattle.operation_laws.proofs.Rejoining.{enough_words, entered_there, room_again}
 use Rattle.operation_laws.proofs.Rooming.{run_bare}
-use Rattle.operation_laws.specs.NameLaws.{MayEnterAt, overlapping}
+use Rattle.operation_laws.specs.NameLaws.{MayEnterAt}
 
 -- the moves by how many values come first
 abbrev pub all_ticks : Bool → Bool → List (Unit {0})
@@ -68,8 +69,20 @@ module _ (p : Pack) (w : Whole p) (t : Tidy p) (d : Fid) (name : List ℕ) (f : 
     next_sector = h.next_sector;
   }
 
+  -- so it is where the room's first slot has all of its words
+  pub ready_alone : (item_words (get_or old 0 (space 0)) == all_words old) ≡ true → Ready p d name f a b left words at next_at
+  ready_alone e = ready (slots_are ∙ ap (λ x. a ++ x) (one_slot old h.room.run_is (eqb-true (item_words (get_or old 0 (space 0))) (all_words old) e) ∙ ap (λ k. space k ∷ b) h.total))
+    where
+      one_slot : (old : List Item) → run (entry_length (length name)) (old ++ b) ≡ Some (all_words old, b) → item_words (get_or old 0 (space 0)) ≡ all_words old → old ++ b ≡ space (all_words old) ∷ b
+      one_slot [] e z = absurd (let l = run_enough (entry_length (length name)) b (0, b) e in let m = entry_long name in omega arith)
+      one_slot (entry g own ∷ old) e z = absurd cc
+      one_slot (space k ∷ old) e z =
+          let y : k ≡ k + all_words old = z in
+          let r = run_one (entry_length (length name)) k (old ++ b) (k + all_words old, b) e (sym y) in
+          (λ i. space (y i) ∷ sym r i)
+
   -- several slots: the value that makes them one
-  frees : Frees p d at a old b
+  pub frees : Frees p d at a old b
   frees =
       let l = enough_words (entry_length (length name)) (dir_items (read_pack p) d) a old b h.room in
       let m = entry_long name in
@@ -90,10 +103,10 @@ module _ (p : Pack) (w : Whole p) (t : Tidy p) (d : Fid) (name : List ℕ) (f : 
         };
       }
 
-  bare : namings_in d old ≡ []
+  pub bare : namings_in d old ≡ []
   bare = run_bare d (entry_length (length name)) old b (all_words old) h.room.run_is
 
-  stage : Joined p (freed p at a old) d (dir_lead p w d (all_words a) at (all_words old ∷ []) frees.write) a old b
+  pub stage : Joined p (freed p at a old) d (dir_lead p w d (all_words a) at (all_words old ∷ []) frees.write) a old b
   stage = join_stage p w t d at a old b frees bare
 
   -- the entry comes into the same place before and after
@@ -104,7 +117,7 @@ module _ (p : Pack) (w : Whole p) (t : Tidy p) (d : Fid) (name : List ℕ) (f : 
       entered_there (entry f name) (a ++ space (all_words old) ∷ b) a (space (all_words old) ∷ []) b again ∙ ap (λ k. a ++ entry f name ∷ left_over (k - entry_length (length name)) b) z
       ∙ sym (entered_there (entry f name) (dir_items (read_pack p) d) a old b h.room) ∙ ap (items_entered (entry f name)) h.room.split
 
-  same_step : step (read_pack (freed p at a old)) (enter d name f) ≡ step (read_pack p) (enter d name f)
+  pub same_step : step (read_pack (freed p at a old)) (enter d name f) ≡ step (read_pack p) (enter d name f)
   same_step = ap (λ m. step m (enter d name f)) stage.reads ∙ alike_slots (read_pack p) d (dir_lead p w d (all_words a) at (all_words old ∷ []) frees.write) (a ++ (old ++ b)) (a ++ space (all_words old) ∷ b) (items_entered (entry f name)) stage.was same_place
 
   -- the directory's entries are the same
@@ -112,7 +125,7 @@ module _ (p : Pack) (w : Whole p) (t : Tidy p) (d : Fid) (name : List ℕ) (f : 
   same_names = ap (λ m. namings (entries m.files)) stage.reads ∙ slots_namings (read_pack p).files d (dir_lead p w d (all_words a) at (all_words old ∷ []) frees.write) (a ++ (old ++ b)) (a ++ space (all_words old) ∷ b) stage.was
       (namings_in-append d a (space (all_words old) ∷ b) ∙ ap (λ x. namings_in d a ++ x) (sym (namings_in-append d old b ∙ ap (λ x. x ++ namings_in d b) bare)) ∙ sym (namings_in-append d a (old ++ b)))
 
-  ready_joined : Ready (freed p at a old) d name f a b left words at next_at
+  pub ready_joined : Ready (freed p at a old) d name f a b left words at next_at
   ready_joined =
       let q : Pack = freed p at a old in
       let c = dir_change p d (all_words a) at (all_words old ∷ []) frees.write in
@@ -140,15 +153,7 @@ module _ (p : Pack) (w : Whole p) (t : Tidy p) (d : Fid) (name : List ℕ) (f : 
       ++ (values_writes (overlapping (after p (values_writes (cond one [] ((at, freed_value (all_words a) (all_words old) (sector_at p at).value) ∷ [])))) (all_words a) words next_at)
       ++ value_writes at (put_at (in_page (all_words a)) (near (all_words a) words) (sector_at (after (after p (values_writes (cond one [] ((at, freed_value (all_words a) (all_words old) (sector_at p at).value) ∷ [])))) (values_writes (overlapping (after p (values_writes (cond one [] ((at, freed_value (all_words a) (all_words old) (sector_at p at).value) ∷ [])))) (all_words a) words next_at))) at).value)))
       (all_ticks one (page_of_word (all_words a + length words - 1) == page_of_word (all_words a))) (enter d name f)
-  all_stages true e = second_stage p w t d name f a b left words at next_at (ready (slots_are ∙ ap (λ x. a ++ x) (one_slot old h.room.run_is (eqb-true (item_words (get_or old 0 (space 0))) (all_words old) e) ∙ ap (λ k. space k ∷ b) h.total)))
-    where
-      one_slot : (old : List Item) → run (entry_length (length name)) (old ++ b) ≡ Some (all_words old, b) → item_words (get_or old 0 (space 0)) ≡ all_words old → old ++ b ≡ space (all_words old) ∷ b
-      one_slot [] e z = absurd (let l = run_enough (entry_length (length name)) b (0, b) e in let m = entry_long name in omega arith)
-      one_slot (entry g own ∷ old) e z = absurd cc
-      one_slot (space k ∷ old) e z =
-          let y : k ≡ k + all_words old = z in
-          let r = run_one (entry_length (length name)) k (old ++ b) (k + all_words old, b) e (sym y) in
-          (λ i. space (y i) ∷ sym r i)
+  all_stages true e = second_stage p w t d name f a b left words at next_at (ready_alone e)
   all_stages false e =
       let q : Pack = freed p at a old in
       let s = second_stage q stage.whole stage.tidy d name f a b left words at next_at ready_joined in

@@ -9,6 +9,7 @@ use Rattle.disk_records.specs.declared.records.Event.{Event}
 use Rattle.pack_model.specs.Bytes.{put_at}
 use Rattle.pack_model.specs.Commands.{values_writes}
 use Rattle.pack_model.specs.Committing.{moves_of, page_of_word, units, values_before}
+use Rattle.pack_model.specs.Entering.{EntryRoom, entry_value, joined, joining, overlapping, values_first}
 use Rattle.pack_model.specs.InUse.{one_if}
 use Rattle.pack_model.specs.Meanings.{viewing}
 use Rattle.pack_model.specs.Model.{Model, dir_items, read_pack}
@@ -27,7 +28,7 @@ use Rattle.operation_laws.proofs.EnterStages.{EntersBy}
 use Rattle.operation_laws.proofs.Entering.{entry_long}
 use Rattle.operation_laws.proofs.Kept.{descriptor_kept, fits_still}
 use Rattle.operation_laws.proofs.Rejoining.{enough_words}
-use Rattle.operation_laws.specs.NameLaws.{EnterLaw, entry_value, joining, overlapping, room_joined, values_first}
+use Rattle.operation_laws.specs.NameLaws.{EnterLaw, entry_room}
 
 -- ---- counts
 ticks_are : (x y : Bool) → units (one_if (not x) + one_if (not y)) ≡ all_ticks x y
@@ -65,13 +66,14 @@ enter_law p d name f a old b left words at next_at w t h =
     let n : ℕ = entry_length (length name) in
     let o : Operation = enter d name f in
     let m : Model = read_pack p in
-    let x : List (ℕ × List ℕ) = joining p at a old in
-    let y : List (ℕ × List ℕ) = overlapping (room_joined p at a old) (all_words a) words next_at in
+    let r : EntryRoom = entry_room a old at next_at in
+    let x : List (ℕ × List ℕ) = joining p r in
+    let y : List (ℕ × List ℕ) = overlapping (joined p r) (all_words a) words next_at in
     let s = all_stages p w t d name f a old b left words at next_at h one refl in
-    let twice : after (room_joined p at a old) (values_writes y) ≡ after p (values_writes (x ++ y)) = sym (after-append p (values_writes x) (values_writes y)) ∙ ap (after p) (sym (values-append x y)) in
-    let value1 : List ℕ = put_at (in_page (all_words a)) (near (all_words a) words) (sector_at (after (room_joined p at a old) (values_writes y)) at).value in
-    let value_is : value1 ≡ entry_value p a old words at next_at = ap (λ q. put_at (in_page (all_words a)) (near (all_words a) words) (sector_at q at).value) twice in
-    let events : List Event = enter_writes (values_first p a old words at next_at) at (entry_value p a old words at next_at) in
+    let twice : after (joined p r) (values_writes y) ≡ after p (values_writes (x ++ y)) = sym (after-append p (values_writes x) (values_writes y)) ∙ ap (after p) (sym (values-append x y)) in
+    let value1 : List ℕ = put_at (in_page (all_words a)) (near (all_words a) words) (sector_at (after (joined p r) (values_writes y)) at).value in
+    let value_is : value1 ≡ entry_value p r words = ap (λ q. put_at (in_page (all_words a)) (near (all_words a) words) (sector_at q at).value) twice in
+    let events : List Event = enter_writes (values_first p r words) at (entry_value p r words) in
     let events_are : values_writes x ++ (values_writes y ++ value_writes at value1) ≡ events =
     sym (append_assoc (values_writes x) (values_writes y) (value_writes at value1)) ∙ ap (λ r. r ++ value_writes at value1) (sym (values-append x y)) ∙ ap (λ v. values_writes (x ++ y) ++ value_writes at v) value_is in
     let s1 : EntersBy p d events (all_ticks one same) o = subst (λ r. EntersBy p d r (all_ticks one same) o) events_are s in

@@ -14,6 +14,7 @@ use Rattle.disk_records.specs.declared.records.Event.{Event}
 use Rattle.pack_model.specs.Bytes.{put_at}
 use Rattle.pack_model.specs.Commands.{values_writes}
 use Rattle.pack_model.specs.Committing.{page_of_word}
+use Rattle.pack_model.specs.Entering.{overlapping}
 use Rattle.pack_model.specs.Files.{carries_page, lives, place}
 use Rattle.pack_model.specs.Links.{dir_words}
 use Rattle.pack_model.specs.Meanings.{reading}
@@ -38,7 +39,7 @@ use Rattle.record_laws.specs.DirLaws.{DirWrite, dir_written}
 use Rattle.record_laws.specs.EnterLaws.{IsItsRoom, MayEnter}
 use Rattle.operation_laws.proofs.EnterStages.{EntersBy, later_first, loose_stage, views_of}
 use Rattle.operation_laws.proofs.EntryWrite.{EntersLast, enters_of, last_stage, loose_in, put_drop}
-use Rattle.operation_laws.specs.NameLaws.{EntryWords, overlapping}
+use Rattle.operation_laws.specs.NameLaws.{EntryWords}
 
 -- ---- one free slot is the room
 -- An entry's words, of which the room is one free slot.
@@ -58,7 +59,7 @@ pub entry_long : (name : List ℕ) → 7 ≤ entry_length (length name)
 entry_long name = omega arith
 
 -- the words lie within the directory
-words_within : (p : Pack) (d : Fid) (a b : List Item) (k : ℕ) → slots (dir_words p d) ≡ a ++ space k ∷ b → all_words a + k ≤ length (dir_words p d)
+pub words_within : (p : Pack) (d : Fid) (a b : List Item) (k : ℕ) → slots (dir_words p d) ≡ a ++ space k ∷ b → all_words a + k ≤ length (dir_words p d)
 words_within p d a b k e = let l = all_within (a ++ space k ∷ b) (dir_words p d) e in let z : all_words (a ++ space k ∷ b) ≡ all_words a + (k + all_words b) = words-append a (space k ∷ b) in omega arith
 
 -- words in front of others

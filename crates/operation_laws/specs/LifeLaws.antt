@@ -1,5 +1,5 @@
 -- The operations by which a file comes to live or goes: make and drop.
-use Rattle.std.specs.Prelude.{List, Some, [], cond, false, length, true, ℕ, ◌++◌, ◌∷◌, ◌≡◌, ◌≢◌}
+use Rattle.std.specs.Prelude.{List, Some, [], cond, false, length, true, ℕ, ◌∷◌, ◌≡◌, ◌≢◌}
 use Rattle.alto_words.specs.Fid.{disk_descriptor, is_directory, is_fid, is_system, serial_of}
 use Rattle.alto_words.specs.declared.fid.Fid.{Fid}
 use Rattle.disk_records.specs.Commands.{value_writes}
@@ -14,7 +14,7 @@ use Rattle.pack_model.specs.Leaders.{is_readable, leader_of, leader_words}
 use Rattle.pack_model.specs.Meanings.{Drops, Meets}
 use Rattle.pack_model.specs.Model.{dir_items, read_pack}
 use Rattle.pack_model.specs.Namings.{namings_in}
-use Rattle.pack_model.specs.Operations.{Move, drop_moves, drop_writes, make_writes}
+use Rattle.pack_model.specs.Operations.{Move, drop_writes, go_moves, go_writes, make_writes}
 use Rattle.pack_model.specs.Operations.Move.{quiet}
 use Rattle.pack_model.specs.PageWords.{freed_value, page_number}
 use Rattle.pack_model.specs.Sights.{sights}
@@ -63,7 +63,7 @@ pub record MayDrop (p : Pack) (f : Fid) (at : ℕ) (pages : List ℕ) : Type 0 w
 
 -- the moves of a drop but for the last one
 abbrev pub first_moves : Pack → Fid → List Move
-first_moves p f = drop_moves (drop_file f) (units (page_of_byte (length_of (read_pack p) f)))
+first_moves p f = go_moves (drop_file f) (units (page_of_byte (length_of (read_pack p) f)))
 
 -- All record writes but the last: the file is gone, its entry's slot is left, and the pack is tidy but for this one.
 pub record GoesOut (p : Pack) (f : Fid) (events : List Event) : Type 0 where
@@ -75,7 +75,7 @@ pub record GoesOut (p : Pack) (f : Fid) (events : List Event) : Type 0 where
 
 -- the releases are the drop but for its slot
 abbrev pub GoLaw : Type 0
-GoLaw = (p : Pack) (f : Fid) (at : ℕ) (pages : List ℕ) → Whole p → Tidy p → MayDrop p f at pages → GoesOut p f (drop_writes at pages)
+GoLaw = (p : Pack) (f : Fid) (at : ℕ) (pages : List ℕ) → Whole p → Tidy p → MayDrop p f at pages → GoesOut p f (go_writes at pages)
 
 -- The last: on a whole pack that is tidy but for the entry of a file that doesn't live, the value in which its slot is a free one
 -- changes nothing that is read, and leaves a whole and tidy pack.
@@ -92,4 +92,4 @@ SlotLaw = (p : Pack) (f d : Fid) (at : ℕ) (a b : List Item) (own : List ℕ) �
 -- all of it, where the file has an entry
 abbrev pub DropLaw : Type 0
 DropLaw = (p : Pack) (f : Fid) (at : ℕ) (pages : List ℕ) (d : Fid) (slot_at : ℕ) (a b : List Item) (own : List ℕ) → Whole p → Tidy p → MayDrop p f at pages → Frees p d slot_at a (entry f own ∷ []) b
-    → CarriesOut p (drop_writes at pages ++ value_writes slot_at (freed_value (all_words a) (item_words (entry f own)) (sector_at p slot_at).value)) (drop_file f)
+    → CarriesOut p (drop_writes at pages slot_at (freed_value (all_words a) (item_words (entry f own)) (sector_at p slot_at).value)) (drop_file f)

@@ -1,19 +1,20 @@
--- The operations on the entries of directories: leave and enter, and the last record write of a drop.
-use Rattle.std.specs.Prelude.{List, Some, [], cond, false, get_or, length, min, suc, take, true, ℕ, ◌++◌, ◌+◌, ◌-◌, ◌<◌, ◌==◌, ◌∷◌, ◌≡◌, ◌≤◌}
+-- The operations on the slots of directories: leave, widen and enter.
+use Rattle.std.specs.Prelude.{List, Some, [], false, get_or, length, min, suc, take, true, ℕ, ◌++◌, ◌+◌, ◌<◌, ◌∷◌, ◌≡◌, ◌≤◌}
 use Rattle.alto_words.specs.Fid.{is_directory, is_system}
 use Rattle.alto_words.specs.Names.{is_same_name}
 use Rattle.alto_words.specs.declared.fid.Fid.{Fid}
 use Rattle.disk_records.specs.Commands.{value_writes}
 use Rattle.disk_records.specs.Labels.{page_of, tag}
-use Rattle.disk_records.specs.Packs.{Pack, after, sector_at}
+use Rattle.disk_records.specs.Packs.{Pack, sector_at}
 use Rattle.disk_records.specs.Words.{word}
-use Rattle.pack_model.specs.Bytes.{bytes_of, put_at}
-use Rattle.pack_model.specs.Commands.{Claim, Claimable, all_claimed, values_writes}
+use Rattle.pack_model.specs.Bytes.{bytes_of}
+use Rattle.pack_model.specs.Commands.{Claim, Claimable, all_claimed}
 use Rattle.pack_model.specs.Committing.{page_of_byte, page_of_word}
+use Rattle.pack_model.specs.Entering.{EntryRoom, entry_value, values_first}
 use Rattle.pack_model.specs.Files.{file_bytes, lives, place}
 use Rattle.pack_model.specs.Model.{dir_items, read_pack}
 use Rattle.pack_model.specs.Operations.{enter_writes, grow_writes}
-use Rattle.pack_model.specs.PageWords.{freed_value, in_page, later, near, page_number}
+use Rattle.pack_model.specs.PageWords.{freed_value, later, page_number}
 use Rattle.pack_model.specs.Rooms.{find_room, run}
 use Rattle.pack_model.specs.Sights.{sights}
 use Rattle.pack_model.specs.Slots.{IsSlot, Item, all_words, entry_length, item_words}
@@ -83,27 +84,11 @@ pub record MayEnterAt (p : Pack) (d : Fid) (name : List ℕ) (f : Fid) (a old b 
   pub sector : place (sights p) d (page_of_word (all_words a)) ≡ Some at
   pub next_sector : 0 < length (later (all_words a) words) → place (sights p) d (suc (page_of_word (all_words a))) ≡ Some next_at
 
--- the value that makes the room's free slots one, where they are several
-abbrev pub joining : Pack → ℕ → List Item → List Item → List (ℕ × List ℕ)
-joining p at a old = cond (item_words (get_or old 0 (space 0)) == all_words old) [] ((at, freed_value (all_words a) (all_words old) (sector_at p at).value) ∷ [])
-
--- the pack with it
-abbrev pub room_joined : Pack → ℕ → List Item → List Item → Pack
-room_joined p at a old = after p (values_writes (joining p at a old))
-
--- the value of the next page, where the words lie over the page's end
-abbrev pub overlapping : Pack → ℕ → List ℕ → ℕ → List (ℕ × List ℕ)
-overlapping p begin words next_at = cond (page_of_word (begin + length words - 1) == page_of_word begin) [] ((next_at, put_at 0 (later begin words) (sector_at p next_at).value) ∷ [])
-
--- the values before the one that commits, and that one
-abbrev pub values_first : Pack → List Item → List Item → List ℕ → ℕ → ℕ → List (ℕ × List ℕ)
-values_first p a old words at next_at = joining p at a old ++ overlapping (room_joined p at a old) (all_words a) words next_at
-
--- the value that commits
-abbrev pub entry_value : Pack → List Item → List Item → List ℕ → ℕ → ℕ → List ℕ
-entry_value p a old words at next_at = put_at (in_page (all_words a)) (near (all_words a) words) (sector_at (after p (values_writes (values_first p a old words at next_at))) at).value
+-- where the entry goes
+abbrev pub entry_room : List Item → List Item → ℕ → ℕ → EntryRoom
+entry_room a old at next_at = record { place = all_words a; first_words = item_words (get_or old 0 (space 0)); total = all_words old; at = at; next_at = next_at }
 
 -- these values, in order, are the entering
 abbrev pub EnterLaw : Type 0
 EnterLaw = (p : Pack) (d : Fid) (name : List ℕ) (f : Fid) (a old b : List Item) (left : ℕ) (words : List ℕ) (at next_at : ℕ) → Whole p → Tidy p → MayEnterAt p d name f a old b left words at next_at
-    → IsSeenAs p (enter_writes (values_first p a old words at next_at) at (entry_value p a old words at next_at)) (enter d name f)
+    → IsSeenAs p (enter_writes (values_first p (entry_room a old at next_at) words) at (entry_value p (entry_room a old at next_at) words)) (enter d name f)

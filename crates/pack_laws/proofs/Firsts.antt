@@ -26,12 +26,12 @@ same_twice None = refl
 same_twice (Some x) = refl
 
 -- nothing behind an answer
-or_none : {X : Type 0} (r : Option X) → option_or r None ≡ r
+pub or_none : {X : Type 0} (r : Option X) → option_or r None ≡ r
 or_none None = refl
 or_none (Some x) = refl
 
 -- three in a row
-or_assoc : {X : Type 0} (p q r : Option X) → option_or (option_or p q) r ≡ option_or p (option_or q r)
+pub or_assoc : {X : Type 0} (p q r : Option X) → option_or (option_or p q) r ≡ option_or p (option_or q r)
 or_assoc None q r = refl
 or_assoc (Some x) q r = refl
 

@@ -5,11 +5,13 @@ pub mod Filing
 pub mod Firsts
 pub mod Found
 pub mod Guarding
+pub mod Inserting
 pub mod Joining
 pub mod Keys
 pub mod Lining
 pub mod Mapping
 pub mod Moving
+pub mod Orders
 pub mod Paging
 pub mod Placing
 pub mod Putting

@@ -14,7 +14,7 @@ use Rattle.pack_model.specs.Sights.{Sight}
 use Rattle.pack_model.specs.Sights.Sight.{hidden, free, holds}
 use Rattle.pack_model.specs.Whole.{PageAt}
 use Rattle.pack_model.specs.Links.{no_link}
-use Rattle.pack_model.specs.PageWords.{page_value, put_value, page_number, link_to_first, relabelled}
+use Rattle.pack_model.specs.PageWords.{page_value, put_value, page_number, link_to_first, relabelled, leader_label, first_page_label, first_page_value, new_leader_value}
 
 -- ---- claims
 -- A free sector, and the label and the value that it gets.
@@ -59,6 +59,17 @@ claims_of shape f number previous bytes past (at ∷ fresh) =
       label = label_of (page_number f number) (min 512 (length bytes)) (link_to_first shape fresh) (real_of shape previous);
       value = page_value (take 512 bytes) (past_last past fresh);
     } ∷ claims_of shape f (suc number) at (drop 512 bytes) past fresh
+
+-- ---- make: a new file's page 1 and its leader, in two free sectors, and each links to the other
+abbrev pub first_page_claim : Shape → Fid → ℕ → ℕ → Claim
+first_page_claim shape f leader_at page_at = record { at = page_at; label = first_page_label shape f leader_at; value = first_page_value f }
+
+abbrev pub leader_claim : Shape → Fid → List ℕ → ℕ → ℕ → ℕ → Claim
+leader_claim shape f name moment leader_at page_at = record { at = leader_at; label = leader_label shape f page_at; value = new_leader_value f name moment page_at }
+
+-- in the order in which they are made
+abbrev pub make_claims : Shape → Fid → List ℕ → ℕ → ℕ → ℕ → List Claim
+make_claims shape f name moment leader_at page_at = first_page_claim shape f leader_at page_at ∷ leader_claim shape f name moment leader_at page_at ∷ []
 
 -- ---- grow, and widen: new bytes behind the b bytes of a file, whose last page is in the sector `at`
 -- the bytes that the last page still takes

@@ -1,4 +1,4 @@
--- How many record writes an operation has, which one commits, and in which sector: by the model alone.
+-- How many record writes an operation has, which one commits, and in which part of which page: by the model alone.
 -- Which record write commits an operation is this project's choice.
 use Rattle.std.specs.Prelude.{◌≡◌, ℕ, suc, ◌+◌, ◌-◌, ◌/◌, ◌==◌, cond, not, List, [], ◌∷◌, ◌++◌, length, replicate, get_or, Option, Some, None}
 use Rattle.std.specs.FinMap.{get}
@@ -13,11 +13,13 @@ use Rattle.pack_model.specs.Slots.{Item, item_words, entry_length}
 use Rattle.pack_model.specs.Slots.Item.{space, entry}
 use Rattle.pack_model.specs.Bodies.{File, body_length}
 use Rattle.pack_model.specs.Model.{Model, dir_items, read_pack}
+use Rattle.pack_model.specs.View.{view}
+use Rattle.pack_model.specs.Settling.{show}
 use Rattle.pack_model.specs.Rooms.{Room, find_room}
 use Rattle.pack_model.specs.Step.{Operation, step}
 use Rattle.pack_model.specs.Step.Operation.{make, put, grow, cut, title, stamp, drop_file, leave, enter, widen}
 use Rattle.pack_model.specs.InUse.{one_if}
-use Rattle.pack_model.specs.Sound.{mark_open}
+use Rattle.pack_model.specs.Sound.{Sound, Clean, mark_open}
 use Rattle.pack_model.specs.Operations.Move.{quiet, commits, mends}
 use Rattle.pack_model.specs.Operations.{Move, one_move, make_moves, grow_moves, cut_moves, drop_moves, enter_moves}
 
@@ -73,11 +75,12 @@ room_place (Some r) = r.place
 abbrev pub page_of_word : ℕ → ℕ
 page_of_word place = suc (place / 256)
 
--- how many values an entry of n words takes before the one that commits: one where its room is several slots, one where the
--- words that are written lie over a page's end: its own, and the first one of a free slot for words left over
+-- the words that an entry of n words has written in its room: its own, and the first one of a free slot for words left over
 abbrev pub written_words : ℕ → Room → ℕ
 written_words n r = n + one_if (not (r.total == n))
 
+-- how many values come before the one that commits: one where the room is several slots, one where the words that are written lie over
+-- a page's end
 abbrev pub values_before : List Item → ℕ → Option Room → ℕ
 values_before is n None = 0
 values_before is n (Some r) =
@@ -95,7 +98,7 @@ moves_of m (grow f new) = grow_moves (units (pages_added (length_of m f) (length
 moves_of m (cut f n) = cut_moves (cut f n) (units (pages_cut (length_of m f) n))
 moves_of m (title f name) = one_move (title f name)
 moves_of m (stamp f moment) = one_move (stamp f moment)
-moves_of m (drop_file f) = drop_moves (drop_file f) (units (page_of_byte (length_of m f))) ++ quiet ∷ []
+moves_of m (drop_file f) = drop_moves (drop_file f) (units (page_of_byte (length_of m f)))
 moves_of m (leave d name) = one_move (leave d name)
 moves_of m (enter d name f) = enter_moves (units (values_before (dir_items m d) (entry_length (length name)) (find_room (entry_length (length name)) (dir_items m d)))) (enter d name f)
 moves_of m (widen d) = grow_moves (units (pages_added (length_of m d) 512)) (widen d)
@@ -175,10 +178,17 @@ pub record IsCommitting (o : Operation) (c : CommitRecord) (p q : Pack) (at part
   pub part_is : part ≡ c.part
   pub bears : place (sights (bearing o p q)) c.fid c.page ≡ Some at
 
--- which record writes make a move: any one is quiet; an operation has the one that commits it; the last of a scavenge leaves
--- the pack that the model is read from
+-- The last record write of a scavenge: q, which it leaves of p, is sound and clean and read as the model, whose files have the names
+-- under which p shows them, each of them as an entry.
+pub record EndsScavenge (p q : Pack) (n : Model) : Type 0 where
+  pub reads : read_pack q ≡ n
+  pub views : view n ≡ show p
+  pub sound : Sound q
+  pub clean : Clean q
+
+-- which record writes make a move: any one is quiet; an operation has the one that commits it; a scavenge its last one
 abbrev pub MakesMove : Pack → Event → Move → Type 0
 MakesMove p (Shown byte) o = ⊥
 MakesMove p (Wrote at part words) quiet = Unit {0}
 MakesMove p (Wrote at part words) (commits o) = IsCommitting o (commit_of (read_pack p) o) p (after p (Wrote at part words ∷ [])) at part
-MakesMove p (Wrote at part words) (mends n) = read_pack (after p (Wrote at part words ∷ [])) ≡ n
+MakesMove p (Wrote at part words) (mends n) = EndsScavenge p (after p (Wrote at part words ∷ [])) n

@@ -67,18 +67,17 @@ close_writes mark shape last busy pages = cond (mark == mark_clean) [] (values_w
 abbrev pub close_moves : {X : Type 0} → ℕ → List X → List Move
 close_moves mark pages = cond (mark == mark_clean) [] (quiet_moves pages)
 
--- the mark that closing finds, once the last operations are done: open where there are some; a session that needs scavenging does none
-abbrev pub mark_after : Bool → ℕ → List Operation → ℕ
-mark_after true mark ops = mark
-mark_after false mark [] = mark
-mark_after false mark (o ∷ ops) = mark_open
+-- the mark that closing finds, once the last operations are done: open where there are some
+abbrev pub mark_after : ℕ → List Operation → ℕ
+mark_after mark [] = mark
+mark_after mark (o ∷ ops) = mark_open
 
--- All record writes of the end of a session: none where it needs scavenging, and else those of its last operations and of closing.
+-- The moves of the end of a session, one a record write: none where it needs scavenging, and else those of its last operations and of closing.
 -- At a line `quit` they come before `done` is shown, as the record writes of every line come before its text; at the end of the
 -- keys there is no text.
 abbrev pub ending_moves : Bool → ℕ → Model → List Operation → List Move
 ending_moves true mark m ops = []
-ending_moves false mark m ops = line_moves mark m ops ++ close_moves (mark_after false mark ops) (units (data_pages m.shape))
+ending_moves false mark m ops = line_moves mark m ops ++ close_moves (mark_after mark ops) (units (data_pages m.shape))
 
 -- ---- what a session keeps of it
 -- It is so on the pack: the shape, the last serial, the mark, and the sectors that bear its data pages, in order.

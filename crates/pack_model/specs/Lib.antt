@@ -34,6 +34,7 @@ pub mod PageWords
 pub mod Commands
 pub mod Operations
 pub mod Committing
+pub mod Entering
 pub mod Meanings
 pub mod Descriptor
 pub mod Format

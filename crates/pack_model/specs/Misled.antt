@@ -14,7 +14,7 @@ use Rattle.pack_model.specs.Files.{lives}
 use Rattle.pack_model.specs.Slots.Item.{entry}
 use Rattle.pack_model.specs.SlotWords.{SlotAt, address_word}
 use Rattle.pack_model.specs.Links.{dir_slots}
-use Rattle.pack_model.specs.Moves.{IsStartOf}
+use Rattle.pack_model.specs.Whole.{Whole}
 
 -- Where an address was taken from: the fixed address of SysDir's leader; a word of a directory, the address word of an entry;
 -- the next link of a sector; an address that was checked before.
@@ -79,10 +79,18 @@ pub record Finds (p : Pack) (place : HintPlace) (at : ℕ) (found : Option (List
   pub named : (i : ℕ) → NamesSector p.shape place at i → found ≡ label_found p i
   pub unnamed : ((i : ℕ) → NamesSector p.shape place at i → ⊥) → found ≡ None
 
--- A call on p, or a line, that made these events answers that a hint misled: it did as the call began. What was found is what the
--- call saw when it looked, after those events that came before: the first ones of its own, in their order, and no others. It is the
--- label that p has there, unless one of them wrote it.
-pub record AnswersMisled (p : Pack) (events before : List Event) (place : HintPlace) (at : ℕ) (wanted : Page) (found : Option (List ℕ)) : Type 0 where
-  pub start : IsStartOf before events
+-- a hint word on the disk; on a whole pack no other is answered
+abbrev pub IsOnDisk : HintPlace → Type 0
+IsOnDisk root = ⊥
+IsOnDisk (entry_word dir w) = Unit {0}
+IsOnDisk (next_of i) = Unit {0}
+IsOnDisk (held i) = ⊥
+
+-- A call on p, or a line, answers that a hint misled, and made these events: the hint did so as the call began. What was found is
+-- the label there when the call looked: that of p, unless the call itself wrote it before. No call writes a label of that sector after
+-- such a look, so it is the label behind all of its events. Which pages may be wanted is said by each call: those of its own file or
+-- directory.
+pub record AnswersMisled (p : Pack) (events : List Event) (place : HintPlace) (at : ℕ) (wanted : Page) (found : Option (List ℕ)) : Type 0 where
   pub misled : Misled p place at wanted
-  pub finds : Finds (after p before) place at found
+  pub on_disk : Whole p → IsOnDisk place
+  pub finds : Finds (after p events) place at found

@@ -39,14 +39,14 @@ abbrev pub quiet_moves : {X : Type 0} → List X → List Move
 quiet_moves [] = []
 quiet_moves (v ∷ vs) = quiet ∷ quiet_moves vs
 
--- ---- make: claim page 1, then the leader, whose label is the operation
+-- ---- make: claim page 1, then the leader, whose label is the operation; `make_claims` of `Commands` has the two claims
 abbrev pub make_writes : Claim → Claim → List Event
 make_writes page leader = claims_writes (page ∷ leader ∷ [])
 
 abbrev pub make_moves : Operation → List Move
 make_moves o = quiet ∷ quiet ∷ quiet ∷ quiet ∷ commits o ∷ quiet ∷ []
 
--- ---- put, title, stamp and leave: one value
+-- ---- put, title, stamp and leave: one value; `put_value`, `titled_value`, `stamped_value` and `freed_value` of `PageWords` are these
 abbrev pub one_move : Operation → List Move
 one_move o = commits o ∷ []
 
@@ -67,15 +67,22 @@ abbrev pub cut_moves : {X : Type 0} → Operation → List X → List Move
 cut_moves o later = commits o ∷ quiet ∷ releases_moves later
 
 -- ---- drop: ones in the leader's label are the operation; release the data pages, rising; and then one value, in which the
--- entry's slot becomes free
-abbrev pub drop_writes : ℕ → List ℕ → List Event
-drop_writes at pages = release_writes at ++ releases_writes pages
+-- slot of the file's entry becomes free: `freed_value` of `PageWords` is this value. The file is gone before it.
+abbrev pub go_writes : ℕ → List ℕ → List Event
+go_writes at pages = release_writes at ++ releases_writes pages
+
+abbrev pub drop_writes : ℕ → List ℕ → ℕ → List ℕ → List Event
+drop_writes at pages slot_at value = go_writes at pages ++ value_writes slot_at value
+
+abbrev pub go_moves : {X : Type 0} → Operation → List X → List Move
+go_moves o pages = commits o ∷ quiet ∷ releases_moves pages
 
 abbrev pub drop_moves : {X : Type 0} → Operation → List X → List Move
-drop_moves o pages = commits o ∷ quiet ∷ releases_moves pages
+drop_moves o pages = go_moves o pages ++ quiet ∷ []
 
--- ---- enter: the value that joins free slots, where they are several; the value of the later page, where the words lie over a
--- page's end; and last the value of the page with the slot's first word, which is the operation
+-- ---- enter: the values before the one that commits, which join the room's free slots, where they are several, and put the words
+-- that lie over a page's end into the next page; and last the value of the page with the slot's first word, which is the operation.
+-- `values_first` and `entry_value` of `Entering` are these values
 abbrev pub enter_writes : List (ℕ × List ℕ) → ℕ → List ℕ → List Event
 enter_writes before at value = values_writes before ++ value_writes at value
 

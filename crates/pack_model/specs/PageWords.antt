@@ -26,7 +26,7 @@ filled n items = items ++ replicate (n - length items) 0
 abbrev pub page_value : List ℕ → List ℕ → List ℕ
 page_value bytes past = words_of (filled 512 (bytes ++ bytes_of past))
 
--- a value with bytes in the place of others, and the same behind them
+-- a value with bytes in the place of others from `at` on, and behind them these words that don't count; what follows stays
 abbrev pub put_value : ℕ → List ℕ → List ℕ → List ℕ → List ℕ
 put_value at bytes past value = words_of (put_at at (bytes ++ bytes_of past) (bytes_of value))
 

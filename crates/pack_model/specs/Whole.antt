@@ -66,7 +66,7 @@ pub record SaysShape (shape : Shape) (words : List ℕ) : Type 0 where
   pub sectors : word words 3 ≡ 12
   pub table : word words 8 ≡ table_words shape
 
--- and it has their length
+-- and its bytes are as many as the shape asks for
 pub record Fits (shape : Shape) (bytes : List ℕ) : Type 0 where
   pub says : SaysShape shape (words_of bytes)
   pub size : length bytes ≡ descriptor_length shape

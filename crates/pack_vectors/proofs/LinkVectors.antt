@@ -1,16 +1,22 @@
--- Links that mislead: one at no sector, and one at a sector with another page; the fixed address of SysDir, and one that was held.
-use Rattle.std.proofs.Common.{◌≡◌, ℕ, List, [], ◌∷◌, Option, Some, None, refl, sym, ap, ◌∙◌, arith, inl, inr}
-use Rattle.std.specs.Prelude.{codes, replicate}
+-- Links that mislead; SysDir's fixed address and one that was held, which a call on a whole pack never answers.
+use Rattle.std.proofs.Common.{◌≡◌, ℕ, true, List, [], ◌∷◌, Option, Some, None, refl, sym, ap, ◌∙◌, arith, inl, inr}
+use Rattle.std.specs.Prelude.{codes, replicate, get_or}
 use Rattle.alto_words.specs.declared.fid.Fid.{Fid}
 use Rattle.alto_words.specs.Fid.{sys_dir, ordinary_fid}
 use Rattle.disk_records.specs.declared.records.Page.{Page}
+use Rattle.disk_records.specs.declared.records.Event.{Event}
 use Rattle.disk_records.specs.Addresses.{real_of}
-use Rattle.disk_records.specs.Labels.{in_range, label_of}
+use Rattle.disk_records.specs.Labels.{in_range, is_free, label_of}
 use Rattle.disk_records.specs.Commands.{ones}
 use Rattle.disk_records.specs.Packs.{Pack, carried, label_found}
+use Rattle.pack_model.specs.Sights.{sight, sights, sights_from}
+use Rattle.pack_model.specs.Sights.Sight.{hidden, free, leads}
+use Rattle.pack_model.specs.Whole.{Whole}
 use Rattle.pack_model.specs.PageWords.{page_number, page_value, new_leader_value}
+use Rattle.pack_model.specs.Format.{formatted}
 use Rattle.pack_model.specs.Misled.{Misled, Finds, AnswersMisled, NamesSector, StandsInLink}
 use Rattle.pack_model.specs.Misled.HintPlace.{root, next_of, held}
+use Rattle.pack_vectors.proofs.StateVectors.{sound_fresh}
 use Rattle.pack_vectors.proofs.SmallPacks.{small, pack_of, system, words_a, its_words, all_free}
 
 abbrev file_3 : Fid
@@ -28,6 +34,12 @@ linked leader_next page_next = pack_of 40 (system words_a (its_words 3 1) (
 abbrev page_of_3 : ℕ → Page
 page_of_3 n = record { fid = file_3; number = n }
 
+abbrev root_page : Page
+root_page = record { fid = sys_dir; number = 0 }
+
+abbrev formatted_pack : Pack
+formatted_pack = formatted small 1 1000
+
 abbrev number_in : Option Page → ℕ
 number_in None = 0
 number_in (Some page) = page.number
@@ -44,13 +56,13 @@ none_named : (i j : ℕ) → NamesSector small (next_of j) 65535 i → ⊥
 unfolding real_of
 none_named i j names = let named = names.named in omega arith
 
-ones_mislead : AnswersMisled unlinked [] [] (next_of 5) 65535 (page_of_3 1) None
+ones_mislead : AnswersMisled unlinked [] (next_of 5) 65535 (page_of_3 1) None
 ones_mislead = record {
-  start = tt;
   misled = record {
     stands = record { page = page_of_3 0; carries = in_sector_5; full = inl refl; means = refl; link = refl };
     misses = λ i names carries. none_named i 5 names;
   };
+  on_disk = λ whole. tt;
   finds = record { named = λ i names. absurd (none_named i 5 names); unnamed = λ none. refl };
 }
 
@@ -101,15 +113,15 @@ only_7 i names = let first = names.first in let last = names.last in let named =
 finds_7 : Finds astray (next_of 5) 28672 (Some label_7)
 finds_7 = record { named = λ i names. sym found_7 ∙ ap (label_found astray) (sym (only_7 i names)); unnamed = λ none. absurd (none 7 names_7) }
 
-link_misleads : AnswersMisled astray [] [] (next_of 5) 28672 (page_of_3 1) (Some label_7)
+link_misleads : AnswersMisled astray [] (next_of 5) 28672 (page_of_3 1) (Some label_7)
 link_misleads = record {
-  start = tt;
   misled = record {
     stands = record { page = page_of_3 0; carries = leads_in_5; full = inl refl; means = refl; link = refl };
     misses = λ i names carries.
         let numbers : ◌≡◌ {A = ℕ} 2 1 = ap number_in (sym page_in_7 ∙ ap (carried astray) (sym (only_7 i names)) ∙ carries) in
         cc;
   };
+  on_disk = λ whole. tt;
   finds = finds_7;
 }
 
@@ -118,7 +130,7 @@ link_leads : Misled astray (next_of 6) 28672 (page_of_3 2) → ⊥
 unfolding real_of
 link_leads m = m.misses 7 (record { first = omega arith; last = omega arith; named = refl }) page_in_7
 
--- ---- SysDir's leader isn't in sector 1, which is free; an address that was held names sector 7, and not page 1
+-- ---- SysDir's leader isn't in sector 1, which is free, and so the pack isn't whole
 carries_none : carried all_free 1 ≡ None
 unfolding real_of in_range
 carries_none = refl
@@ -127,33 +139,59 @@ found_1 : label_found all_free 1 ≡ Some (ones 8)
 unfolding real_of
 found_1 = refl
 
+shows_free : get_or (sights all_free) 1 hidden ≡ free
+unfolding sights_from sight real_of in_range is_free
+shows_free = refl
+
+not_whole : Whole all_free → ⊥
+not_whole whole = let other : free ≡ leads sys_dir true whole.root.0 = sym shows_free ∙ whole.root.1 in cc
+
 nothing : {page : Page} → None ≡ Some page → ⊥
 nothing e = cc
 
-root_misleads : AnswersMisled all_free [] [] root 1 (record { fid = sys_dir; number = 0 }) (Some (ones 8))
+root_misleads : AnswersMisled all_free [] root 1 root_page (Some (ones 8))
 root_misleads = record {
-  start = tt;
   misled = record {
     stands = (refl, refl);
     misses = λ i names carries. nothing (sym carries_none ∙ ap (carried all_free) names.named ∙ carries);
   };
+  on_disk = not_whole;
   finds = record {
     named = λ i names. sym found_1 ∙ ap (label_found all_free) names.named;
     unnamed = λ none. absurd (none 1 (record { first = omega arith; last = omega arith; named = refl }));
   };
 }
 
-held_misleads : AnswersMisled astray [] [] (held 7) 7 (page_of_3 1) (Some label_7)
+-- ---- an address that was held names sector 7, and not page 1; what is found there is its label
+held_misleads : Misled astray (held 7) 7 (page_of_3 1)
 held_misleads = record {
-  start = tt;
-  misled = record {
-    stands = refl;
-    misses = λ i names carries.
-        let numbers : ◌≡◌ {A = ℕ} 2 1 = ap number_in (sym page_in_7 ∙ ap (carried astray) names.named ∙ carries) in
-        omega arith;
-  };
-  finds = record {
-    named = λ i names. sym found_7 ∙ ap (label_found astray) names.named;
-    unnamed = λ none. absurd (none 7 (record { first = omega arith; last = omega arith; named = refl }));
-  };
+  stands = refl;
+  misses = λ i names carries.
+      let numbers : ◌≡◌ {A = ℕ} 2 1 = ap number_in (sym page_in_7 ∙ ap (carried astray) names.named ∙ carries) in
+      omega arith;
 }
+
+held_finds : Finds astray (held 7) 7 (Some label_7)
+held_finds = record {
+  named = λ i names. sym found_7 ∙ ap (label_found astray) names.named;
+  unnamed = λ none. absurd (none 7 (record { first = omega arith; last = omega arith; named = refl }));
+}
+
+-- ---- the formatted pack is whole: an address that was held, as of a free sector, isn't on the disk; SysDir's leader is in sector 1
+carries_no_root : carried formatted_pack 20 ≡ None
+unfolding real_of in_range
+carries_no_root = refl
+
+held_is_free : Misled formatted_pack (held 20) 20 root_page
+held_is_free = record { stands = refl; misses = λ i names carries. nothing (sym carries_no_root ∙ ap (carried formatted_pack) names.named ∙ carries) }
+
+held_never : (events : List Event) (i at : ℕ) (wanted : Page) (found : Option (List ℕ)) → AnswersMisled formatted_pack events (held i) at wanted found → ⊥
+held_never events i at wanted found answers = answers.on_disk sound_fresh.whole
+
+carries_root : carried formatted_pack 1 ≡ Some root_page
+unfolding real_of in_range
+carries_root = refl
+
+root_never : (events : List Event) (at : ℕ) (wanted : Page) (found : Option (List ℕ)) → AnswersMisled formatted_pack events root at wanted found → ⊥
+root_never events at wanted found answers =
+    answers.misled.misses 1 (record { first = omega arith; last = omega arith; named = answers.misled.stands.0 }) (carries_root ∙ ap Some (sym (answers.misled.stands.1)))

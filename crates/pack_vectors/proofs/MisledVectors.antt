@@ -104,10 +104,10 @@ misleads = record {
 }
 
 -- a call that has written nothing finds the label that stands in sector 6
-finds_6 : AnswersMisled wrong [] [] (entry_word sys_dir 29) 6 wanted (Some label_6)
+finds_6 : AnswersMisled wrong [] (entry_word sys_dir 29) 6 wanted (Some label_6)
 finds_6 = record {
-  start = tt;
   misled = misleads;
+  on_disk = λ whole. tt;
   finds = record {
     named = λ i names. sym found_6 ∙ ap (label_found wrong) names.named;
     unnamed = λ none. absurd (none 6 (record { first = omega arith; last = omega arith; named = refl }));
@@ -119,10 +119,10 @@ ones_6 : label_found (after wrong (Wrote 6 1 (ones 8) ∷ [])) 6 ≡ Some (ones 
 unfolding real_of
 ones_6 = refl
 
-finds_ones : AnswersMisled wrong (Wrote 6 1 (ones 8) ∷ Shown 10 ∷ []) (Wrote 6 1 (ones 8) ∷ []) (entry_word sys_dir 29) 6 wanted (Some (ones 8))
+finds_ones : AnswersMisled wrong (Wrote 6 1 (ones 8) ∷ Shown 10 ∷ []) (entry_word sys_dir 29) 6 wanted (Some (ones 8))
 finds_ones = record {
-  start = (refl, tt);
   misled = misleads;
+  on_disk = λ whole. tt;
   finds = record {
     named = λ i names. sym ones_6 ∙ ap (label_found (after wrong (Wrote 6 1 (ones 8) ∷ []))) names.named;
     unnamed = λ none. absurd (none 6 (record { first = omega arith; last = omega arith; named = refl }));

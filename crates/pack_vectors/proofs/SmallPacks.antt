@@ -31,11 +31,11 @@ free_sector = (ones 8, ones 256)
 abbrev leader_in : ℕ → Fid → List ℕ → Written
 leader_in at f name = (leader_label small f (suc at), new_leader_value f name 1000 (suc at))
 
-abbrev page_in : ℕ → Fid → ℕ → List ℕ → Written
+abbrev pub page_in : ℕ → Fid → ℕ → List ℕ → Written
 page_in at f n bytes = (label_of (page_number f n) (length bytes) no_link (real_of small at), page_value bytes [])
 
 -- both, from this sector on
-abbrev file_in : ℕ → Fid → List ℕ → List ℕ → List Written
+abbrev pub file_in : ℕ → Fid → List ℕ → List ℕ → List Written
 file_in at f name bytes = leader_in at f name ∷ page_in at f 1 bytes ∷ []
 
 -- ---- packs: sector 0, so many sectors, and free ones
@@ -47,7 +47,7 @@ abbrev pub its_words : ℕ → ℕ → List ℕ
 its_words last mark = descriptor_text small last mark []
 
 -- SysDir with these entries behind those of the two system files, DiskDescriptor with these words, and others
-abbrev root_words : List ℕ → List ℕ
+abbrev pub root_words : List ℕ → List ℕ
 root_words words = entry_words sys_dir 1 sys_dir_name ++ entry_words disk_descriptor 3 descriptor_name ++ words
 
 abbrev pub system : List ℕ → List ℕ → List Written → List Written

@@ -29,7 +29,10 @@ use Rattle.pack_laws.proofs.Keys.{same_fid}
 use Rattle.pack_laws.proofs.Placing.{both_test}
 use Rattle.pack_laws.proofs.Uses.{used_is}
 use Rattle.pack_vectors.proofs.PackVectors.{formatted_sights}
-use Rattle.pack_vectors.proofs.StateVectors.{fresh, root_leader, its_leader, root_bytes, its_bytes, each, by_living, whole_fresh, its_fits, last_is, sound_fresh, clean_sights, scavengeable_fresh}
+use Rattle.pack_vectors.proofs.FormattedFiles.{fresh, root_leader, its_leader, root_bytes, its_bytes, each, by_living}
+use Rattle.pack_vectors.proofs.FormattedModel.{its_fits, last_is}
+use Rattle.pack_vectors.proofs.FormattedMended.{scavengeable_fresh}
+use Rattle.pack_vectors.proofs.StateVectors.{whole_fresh, sound_fresh, clean_sights}
 use Rattle.pack_vectors.proofs.SmallPacks.{small, made_6, made_7}
 
 abbrev formatted_pack : Pack

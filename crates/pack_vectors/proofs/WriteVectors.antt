@@ -147,6 +147,6 @@ orders_of_claims = (refl, refl)
 -- an entering writes its own page last
 orders_of_others :
     (places_of (cut_writes 6 [] [] (7 ∷ 9 ∷ [])) ≡ (6, 1) ∷ (6, 2) ∷ (7, 1) ∷ (7, 2) ∷ (9, 1) ∷ (9, 2) ∷ [])
-    × (places_of (drop_writes 5 (6 ∷ 7 ∷ [])) ≡ (5, 1) ∷ (5, 2) ∷ (6, 1) ∷ (6, 2) ∷ (7, 1) ∷ (7, 2) ∷ [])
+    × (places_of (drop_writes 5 (6 ∷ 7 ∷ []) 2 []) ≡ (5, 1) ∷ (5, 2) ∷ (6, 1) ∷ (6, 2) ∷ (7, 1) ∷ (7, 2) ∷ (2, 2) ∷ [])
     × (places_of (enter_writes ((2, []) ∷ (8, []) ∷ []) 2 []) ≡ (2, 2) ∷ (8, 2) ∷ (2, 2) ∷ [])
 orders_of_others = (refl, refl, refl)
