@@ -1,0 +1,4 @@
+pub mod DescriptorLinkLaws
+pub mod LinkLaws
+pub mod NameLinkLaws
+pub mod OnceLaws

@@ -1,0 +1,13 @@
+-- Each sector of a whole pack is free or in use, where its header is right.
+use Rattle.std.proofs.Common.{get_or, refl}
+use Rattle.pack_model.specs.Sights.{sights}
+use Rattle.pack_model.specs.Sights.Sight.{hidden}
+use Rattle.room_laws.proofs.WholeFiles.{sector_free, sector_used}
+use Rattle.room_laws.specs.RoomLaws.{SectorLaw}
+
+-- the law
+pub each_sector : SectorLaw
+each_sector p at w = record {
+  in_use_is = sector_used p.shape (sights p) w at (get_or (sights p) at hidden) refl;
+  available_is = sector_free p.shape (sights p) w at (get_or (sights p) at hidden) refl;
+}

@@ -1,0 +1,13 @@
+pub mod BodyKinds
+pub mod Claiming
+pub mod Each
+pub mod EachSector
+pub mod EachUse
+pub mod FilesPages
+pub mod Found
+pub mod FreeRoom
+pub mod SectorsUsed
+pub mod SoundPacks
+pub mod Stepping
+pub mod SystemFiles
+pub mod WholeFiles

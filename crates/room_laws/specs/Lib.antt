@@ -1,0 +1,3 @@
+pub mod EachUses
+pub mod RoomLaws
+pub mod UseLaws

@@ -1,0 +1,53 @@
+-- Which packs the Scavenger takes, by the model that they are read as; and the free sectors of whole packs.
+use Rattle.std.specs.FinMap.{entries}
+use Rattle.std.specs.Prelude.{◌&&◌, ◌+◌, ◌↔◌, ◌≡◌, Bool, List, get_or, length, not, true, ℕ}
+use Rattle.alto_words.specs.Fid.{disk_descriptor, sys_dir}
+use Rattle.disk_records.specs.Packs.{Pack}
+use Rattle.pack_model.specs.Files.{lives, numbered}
+use Rattle.page_alloc.specs.Free.{free_sectors as sectors_found}
+use Rattle.pack_model.specs.InUse.{available, free_sectors, how_many, in_use, is_available, is_free_sight, is_good}
+use Rattle.pack_model.specs.Leaders.{Leader}
+use Rattle.pack_model.specs.Mended.{HasRoom}
+use Rattle.pack_model.specs.Model.{descriptor_pages, files_pages, read_pack, room}
+use Rattle.pack_model.specs.Needed.{needed}
+use Rattle.pack_model.specs.Scavenging.{Scavengeable}
+use Rattle.pack_model.specs.Sights.{Sight, sights}
+use Rattle.pack_model.specs.Sights.Sight.{hidden, leads}
+use Rattle.pack_model.specs.Sound.{Sound}
+use Rattle.pack_model.specs.Whole.{Whole}
+
+-- Sector 1 shows SysDir's leader, and DiskDescriptor lives.
+pub record SystemStands (ss : List Sight) : Type 0 where
+  pub root : (readable : Bool) × (l : Leader) × (get_or ss 1 hidden ≡ leads sys_dir readable l)
+  pub descriptor : lives ss disk_descriptor ≡ true
+
+-- such a pack is scavengeable exactly where the files that it is read as have room
+abbrev pub ScavengeableByModel : Type 0
+ScavengeableByModel = (p : Pack) → SystemStands (sights p) → Scavengeable p ↔ HasRoom (read_pack p)
+
+-- On a whole pack the available sectors are the free ones, those in use are the pages of all files, and the free ones are as many as
+-- the model has room.
+pub record FreeIsRoom (p : Pack) : Type 0 where
+  pub available_is : available p.shape (sights p) ≡ free_sectors (sights p)
+  pub in_use : how_many (in_use p.shape (sights p)) (numbered 0 (sights p)) ≡ files_pages (entries (read_pack p).files) + descriptor_pages p.shape
+  pub pages : files_pages (entries (read_pack p).files) + descriptor_pages p.shape + free_sectors (sights p) ≡ (read_pack p).good
+  pub room_is : room (read_pack p) ≡ free_sectors (sights p)
+
+abbrev pub FreeLaw : Type 0
+FreeLaw = (p : Pack) → Whole p → FreeIsRoom p
+
+-- each of its sectors is in use exactly where it is good and not free, and available exactly where it is free
+pub record SectorIsUsed (p : Pack) (at : ℕ) : Type 0 where
+  pub in_use_is : in_use p.shape (sights p) (at, get_or (sights p) at hidden) ≡ (is_good (get_or (sights p) at hidden) && not (is_free_sight (get_or (sights p) at hidden)))
+  pub available_is : is_available p.shape (sights p) (at, get_or (sights p) at hidden) ≡ is_free_sight (get_or (sights p) at hidden)
+
+abbrev pub SectorLaw : Type 0
+SectorLaw = (p : Pack) (at : ℕ) → Whole p → SectorIsUsed p at
+
+-- on any pack the sectors that are found free by their labels, one by one, are as many as those that show it
+abbrev pub FoundLaw : Type 0
+FoundLaw = (p : Pack) → length (sectors_found p) ≡ free_sectors (sights p)
+
+-- a sound pack needs nothing, and so it is scavengeable
+abbrev pub SoundNeedsNothing : Type 0
+SoundNeedsNothing = (p : Pack) → Sound p → (needed p.shape (sights p) ≡ 0) × Scavengeable p

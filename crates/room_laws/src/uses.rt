@@ -1,0 +1,20 @@
+//! How many sectors are in use once an operation is done, and once a scavenge has claimed a page.
+
+ghost use Rattle.room_laws.specs.EachUses.{EachTakesLaw};
+ghost use Rattle.room_laws.specs.UseLaws.{ClaimLessens, UseLaw};
+
+/// The sectors in use grow by the pages that the operation adds, and shrink by those that it frees.
+pub fn use_follows_the_operation()
+    ensures { UseLaw }
+{}
+
+/// Each operation may be done on what a whole and tidy pack is read as, wherever its own law names its record writes; and these take
+/// as many sectors into use as it adds pages, and leave as many as it frees.
+pub fn each_operation_takes_its_pages()
+    ensures { EachTakesLaw }
+{}
+
+/// A page within its file's end that a scavenge claims takes one available sector, and one that was needed.
+pub fn claim_takes_an_available_sector()
+    ensures { ClaimLessens }
+{}
