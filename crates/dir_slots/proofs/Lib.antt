@@ -4,6 +4,9 @@ pub mod Entries
 pub mod Heads
 pub mod Slots
 pub mod Longest
+pub mod NameWords
 pub mod Writing
 pub mod Rooms
+pub mod Runs
+pub mod Shortening
 pub mod Rows

@@ -1,19 +1,17 @@
--- Room among slots, and free slots in a row.
-use Rattle.std.proofs.Common.{◌≡◌, ℕ, suc, ◌+◌, ◌-◌, ◌<◌, ◌≤◌, List, [], ◌∷◌, ◌++◌, length, take, drop, get_or, Option, Some, None, refl, sym, ap, ◌∙◌, arith, inl, inr, max}
+-- Room among slots, and whether there is any.
+use Rattle.std.proofs.Common.{◌≡◌, ℕ, suc, ◌+◌, ◌-◌, ◌<◌, ◌≤◌, List, [], ◌∷◌, ◌++◌, length, Option, Some, None, refl, sym, ap, ◌∙◌, arith, inl, inr}
 use Rattle.std.specs.Prelude.{All}
 use Rattle.std.specs.Option.{option_map, option_or}
 use Rattle.std.proofs.lemmas.Bool.{cases_lt, cond-true, cond-false, le-leb, lt-leb}
 use Rattle.std.proofs.lemmas.Option.{none-some}
-use Rattle.std.proofs.lemmas.List.{take_more, drop_more, drop_all, take-append-drop, map-append}
 use Rattle.std.proofs.lemmas.List.Elements.{All-head, All-tail}
 use Rattle.pack_model.specs.Slots.{Item, item_words, all_words}
 use Rattle.pack_model.specs.Slots.Item.{space, entry}
 use Rattle.pack_model.specs.Rooms.{run, Room, room_here, room_from, words_free, largest_run, most_free}
 use Rattle.dir_slots.specs.declared.slot.Slot.{Slot}
 use Rattle.dir_slots.specs.declared.slot.Slot.TheVariants.{Free, Entry}
-use Rattle.dir_slots.specs.Items.{item_of, items_of, HasFreeLength}
+use Rattle.dir_slots.specs.Items.{items_of, HasFreeLength}
 use Rattle.dir_slots.specs.Inside.{AreFree}
-use Rattle.dir_slots.proofs.Slots.{all_words-append, all_words_more}
 
 -- free slots of an in-range list have at most 1,023 words
 abbrev pub AreShort : List Item → Type 0
@@ -167,65 +165,3 @@ some_found n first place (i ∷ is) r found = elim (run n (i ∷ is)) as (λ o. 
       let later = some_found n (suc first) (place + item_words i) is r (ap (λ o. option_or (room_here first place o) (room_from n (suc first) (place + item_words i) is)) (sym e) ∙ found) in
       omega arith
 ] refl
-
--- ---- the slots that have been seen
-pub take_words : (slots : List Slot) (i : ℕ) (s : Slot) → i < length slots → s ≡ get_or slots i s → all_words (items_of (take (i + 1) slots)) ≡ all_words (items_of (take i slots)) + item_words (item_of s)
-take_words slots i s lt is =
-    ap (λ l. all_words (items_of l)) (take_more slots i s lt) ∙ all_words_more (take i slots) (get_or slots i s)
-    ∙ ap (λ x. all_words (items_of (take i slots)) + item_words (item_of x)) (sym is)
-
-pub words_within : (slots : List Slot) (i : ℕ) → all_words (items_of (take i slots)) ≤ all_words (items_of slots)
-words_within slots i =
-    let whole = ap (λ l. all_words (items_of l)) (sym (take-append-drop i slots)) in
-    let parts = ap all_words (map-append item_of (take i slots) (drop i slots)) ∙ all_words-append (items_of (take i slots)) (items_of (drop i slots)) in
-    omega arith
-
-pub rest_more : (slots : List Slot) (i : ℕ) (s : Slot) → i < length slots → s ≡ get_or slots i s → items_of (drop i slots) ≡ item_of s ∷ items_of (drop (i + 1) slots)
-rest_more slots i s lt is = ap items_of (drop_more slots i s lt) ∙ ap (λ x. item_of x ∷ items_of (drop (i + 1) slots)) (sym is)
-
--- ---- the row that ends here, and the longest so far
-abbrev pub next_run : ℕ → Item → ℕ
-next_run words (space n) = words + n
-next_run words (entry f name) = 0
-
-pub record Running (slots : List Slot) (i run largest : ℕ) : Type 0 where
-  pub within : run ≤ largest
-  pub bound : largest ≤ all_words (items_of (take i slots))
-  pub all : max largest (max (run + words_free (items_of (drop i slots))) (largest_run (items_of (drop i slots)))) ≡ largest_run (items_of slots)
-
-pub running_none : (slots : List Slot) → Running slots 0 0 0
-running_none slots = record {
-  within = omega arith;
-  bound = omega arith;
-  all = let within = words_free-within (items_of slots) in omega arith;
-}
-
-running_step : (run largest : ℕ) (i : Item) (is : List Item) → run ≤ largest
-    → max (max (next_run run i) largest) (max (next_run run i + words_free is) (largest_run is)) ≡ max largest (max (run + words_free (i ∷ is)) (largest_run (i ∷ is)))
-running_step run largest (space n) is within = omega arith
-running_step run largest (entry f name) is within = let w = words_free-within is in omega arith
-
-next_run-most : (run : ℕ) (i : Item) → next_run run i ≤ run + item_words i
-next_run-most run (space n) = omega arith
-next_run-most run (entry f name) = omega arith
-
-pub running_more : (slots : List Slot) (i run largest : ℕ) (s : Slot) → i < length slots → s ≡ get_or slots i s → Running slots i run largest → Running slots (i + 1) (next_run run (item_of s)) (max (next_run run (item_of s)) largest)
-running_more slots i run largest s lt is r =
-    let within = r.within in
-    let bound = r.bound in
-    let more = take_words slots i s lt is in
-    let most = next_run-most run (item_of s) in
-    let rest : List Item = items_of (drop (i + 1) slots) in
-    record {
-      within = omega arith;
-      bound = omega arith;
-      all = running_step run largest (item_of s) rest within
-          ∙ ap (λ l. max largest (max (run + words_free l) (largest_run l))) (sym (rest_more slots i s lt is)) ∙ r.all;
-    }
-
-pub running_all : (slots : List Slot) (i run largest : ℕ) → length slots ≤ i → Running slots i run largest → largest ≡ largest_run (items_of slots)
-running_all slots i run largest past r =
-    let within = r.within in
-    let none : items_of (drop i slots) ≡ [] = ap items_of (drop_all i slots past) in
-    let all = ap (λ l. max largest (max (run + words_free l) (largest_run l))) (sym none) ∙ r.all in
-    omega arith

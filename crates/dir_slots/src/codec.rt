@@ -14,7 +14,7 @@ use crate::slot::{MAX_ENTRY_WORDS, Slot, entry_words, is_full_name};
 use alto_words::{Fid, Name};
 use byteorder::{BigEndian, ByteOrder};
 
-// The words of an entry.
+// The words of an entry, counted from its first.
 const TYPE: usize = 0;
 
 const SERIAL_HIGH: usize = 1;
@@ -36,10 +36,11 @@ pub(crate) const FILE: u16 = 1024;
 const MIN_ENTRY_WORDS: usize = 8;
 
 /// The most bytes of a name with its length: those of the words behind word 5.
-pub(crate) const MAX_NAME_BYTES: usize = 40;
+const MAX_NAME_BYTES: usize = 40;
 
 /// The slot at the head of `left` words, of which `front` has the first 26, or all where they are fewer. None exactly where they
-/// begin with no slot that can be read. It takes no memory. The slot's length is its `words`.
+/// begin with no slot that can be read: its length is 0 or goes past them, its type isn't 0 or 1, or it is of type 1 and isn't an
+/// entry. It takes no memory. The slot's length is its `words`.
 pub fn slot_here(front: &[u16], left: usize) -> Option<Slot>
     requires { length front.now ≡ min 26 left }
 
@@ -70,7 +71,8 @@ pub fn slot_here(front: &[u16], left: usize) -> Option<Slot>
     read_entry(&front[..length as usize])
 }
 
-/// The entry that these words are.
+/// The entry that these words are. None where they are none: too few or too many for the name, another type or length in word 0,
+/// a word 4 or a byte behind the name that isn't 0, a serial or version out of range, or no stored name.
 fn read_entry(words: &[u16]) -> Option<Slot>
     requires { length words.now ≤ 26 }
     ensures item { option_map item_of result ≡ entry_of words.now }
@@ -104,7 +106,7 @@ fn read_entry(words: &[u16]) -> Option<Slot>
     })
 }
 
-/// Whether the words that every entry has the same are so: the type with the length, and word 4.
+/// Whether word 0 is the type of an entry with the length, and word 4 is 0.
 fn is_file(words: &[u16]) -> bool
     requires { 5 ≤ length words.now }
     ensures { result ≡ (word words.now 0 == 1024 + length words.now && word words.now 4 == 0) }
@@ -112,7 +114,8 @@ fn is_file(words: &[u16]) -> bool
     words[TYPE] as usize == FILE as usize + words.len() && words[ZERO] == 0
 }
 
-/// The name in these words, which begin with its length.
+/// The name in these words, whose first byte is its length. None where that goes past them, the characters form no stored name, or
+/// a byte behind them isn't 0.
 fn read_name(words: &[u16]) -> Option<Name>
     requires { length words.now ≤ 20 }
     ensures { result ≡ name_of (bytes_of words.now) }
@@ -123,7 +126,7 @@ fn read_name(words: &[u16]) -> Option<Name>
     name_of(bytes)
 }
 
-/// The name that a byte with its length begins, where nothing but 0 follows it.
+/// The name in these bytes, of which the first is its length. None as in `read_name`.
 fn name_of(bytes: &[u8]) -> Option<Name>
     ensures { result ≡ name_of bytes.now }
 {
@@ -142,7 +145,7 @@ fn is_blank(bytes: &[u8]) -> bool
     bytes.iter().all(|byte| *byte == 0)
 }
 
-/// The stored name that this text is, with its `.`.
+/// The name that this text is, the final `.` with it. None where `parse` would add one, or where it is no name.
 fn stored_name(text: &[u8]) -> Option<Name>
     ensures { result ≡ stored_in text.now }
 {

@@ -1,6 +1,7 @@
 //! The slots of a directory, between words and values.
 //!
-//! Below it stand alto_words, disk_records and pack_model. A directory's words are its bytes in pairs, read as slots from word 0 on. Of a slot,
+//! Below it stand alto_words, disk_records, leader_page and pack_model. A directory's words are its bytes in pairs, read as slots
+//! from word 0 on. Of a slot,
 //!   word 0: its type times 1,024, and its length in words
 //! and where the type is 0, it is a free slot of 1 to 1,023 words, of which the others may be any; where it is 1, the entry of a
 //! file under a name of n characters, of 6 + (n + 2)/2 words, rounded down:

@@ -16,13 +16,13 @@ pub struct Room {
     pub first: u32,
     /// The first word of that slot in the directory, counted from 0.
     pub place: u32,
-    /// The words of them all.
+    /// The words of them all together, 1 to 1,023.
     pub total: u16,
 }
 
 /// The room for an entry of `n` words, 1 to 26: the first free slot from which adjacent free slots reach `n` words with a total of
 /// at most 1,023, and the fewest slots from there that do. None exactly where no free slots in a row have `n` words. Each free slot
-/// must have 1 to 1,023 words, and all slots together fewer than 2^32. Each slot is looked at twice at most.
+/// must have 1 to 1,023 words, and all slots together fewer than 2^32.
 pub fn find_room(slots: &[Slot], n: u16) -> Option<Room>
     requires least { 1 ≤ n }
     requires most { n ≤ 26 }

@@ -17,7 +17,7 @@ const MAX_VERSION: u16 = 0xFFFE;
 /// Source: a directory of names and full names is that of the SOSP 1979 paper; the layout is this project's choice.
 #[derive(Clone, Copy, Debug, PartialEq, Eq)]
 pub enum Slot {
-    /// So many words, 1 to 1,023, that no entry has.
+    /// So many words, 1 to 1,023, that no entry has; the first of them is their number.
     Free {
         words: u16,
     },
@@ -34,7 +34,7 @@ impl Slot {
     ghost use Rattle.pack_model.specs.Slots.{item_words};
     ghost use Rattle.dir_slots.specs.Items.{item_of, IsInRange};
 
-    /// How many words the slot has.
+    /// How many words the slot has: 1 to 1,023 of a free one that is in range, 8 to 26 of an entry.
     pub fn words(&self) -> u16
         ensures { result ≡ item_words (item_of self.now) }
     {

@@ -109,6 +109,38 @@ fn the_first_room_is_found_and_not_the_best(rt: HostRuntime) -> Result<(), Fail>
     Ok(())
 }
 
+/// 2,000 times a free slot of one word and an entry, then 25 free slots of one word and one of 1,023.
+fn long_directory() -> [u16; 19_048] {
+    let mut words = [1; 19_048];
+    for at in 0..2000 {
+        words[9 * at + 1..9 * at + 9].copy_from_slice(&ENTRY_OF_A);
+    }
+    words[18_025] = 1023;
+    words
+}
+
+#[test]
+fn room_is_found_at_the_end_of_4026_slots(rt: HostRuntime) -> Result<(), Fail> {
+    let (slots, length) = read_slots(rt.alloc(), &long_directory())?;
+    assert_eq!(rt; length, 19_048);
+    assert_eq!(rt; slots.as_slice().len(), 4026);
+    assert_eq!(rt; largest_run(slots.as_slice()), 1048);
+    // the one slot of 1,023 words, since with any before it the room has more
+    let last = Room {
+        first: 4025,
+        place: 18_025,
+        total: 1023,
+    };
+    assert_eq!(rt; find_room(slots.as_slice(), 26), Some(last));
+    let two = Room {
+        first: 4000,
+        place: 18_000,
+        total: 2,
+    };
+    assert_eq!(rt; find_room(slots.as_slice(), 2), Some(two));
+    Ok(())
+}
+
 #[test]
 fn a_slot_is_read_from_its_first_words(rt: HostRuntime) {
     // a free slot of 1,000 words, of which 26 are here

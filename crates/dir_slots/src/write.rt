@@ -1,15 +1,15 @@
 // Slots as the words of a directory.
-ghost use Rattle.std.specs.Prelude.{◌≡◌, ◌+◌, ◌-◌, ◌/◌, ◌≤◌, ◌∷◌, ◌++◌, replicate, true, length, map, take, All, IfOk, OnOk};
+ghost use Rattle.std.specs.Prelude.{◌≡◌, ◌≤◌, ◌++◌, true, length, map, All, IfOk, OnOk};
 ghost use Rattle.alto_words.specs.Names.{is_stored_name};
 ghost use Rattle.pack_model.specs.Slots.{slots as items_in, all_words};
 ghost use Rattle.pack_model.specs.SlotWords.{short_name_words, entry_words as words_of_entry, space_words};
 ghost use Rattle.dir_slots.specs.Items.{items_of, address_of, addresses_in, slot_words, slots_words, IsInRange};
 ghost use Rattle.dir_slots.specs.Laws.{HasStoredName};
 
-use crate::codec::{FILE, MAX_NAME_BYTES};
+use crate::codec::FILE;
 use crate::slot::{MAX_FREE_WORDS, Slot, entry_words};
 use alto_words::{Fid, List, Memory, Name};
-use byteorder::{BigEndian, ByteOrder};
+use leader_page::name_words;
 use std::alloc::Global;
 
 /// The words of these slots, one after the other: of a free one its length and zeros. Each free slot must have 1 to 1,023 words,
@@ -65,29 +65,15 @@ fn push_entry(words: &mut Vec<u16>, fid: &Fid, leader_at: u16, name: &Name) -> R
 {
     let first = FILE + entry_words(name);
     words.extend_from_slice(&[first, fid.high, fid.low, fid.version, 0, leader_at])?;
-    let short = name_words(name);
-    words.extend_from_slice(&short[..(name.as_bytes().len() + 2) / 2])?;
+    push_name(words, name)
+}
+
+/// Appends the words of a name: those that a leader page has of it, without the words of zeros behind them.
+fn push_name(words: &mut Vec<u16>, name: &Name) -> Result<(), Memory>
+    ensures words { OnOk result (words.new.items ≡ words.old.items ++ short_name_words name.now) }
+    ensures stored { OnOk result (is_stored_name name.now ≡ true) }
+{
+    let filled = name_words(name);
+    words.extend_from_slice(&filled[..(name.as_bytes().len() + 2) / 2])?;
     Ok(())
-}
-
-/// The words of a name: a byte with its length, its characters, and bytes 0.
-fn name_words(name: &Name) -> [u16; MAX_NAME_BYTES / 2]
-    ensures { take ((length name.now + 2) / 2) result ≡ short_name_words name.now }
-{
-    let bytes = name_bytes(name);
-    let mut words = [0; MAX_NAME_BYTES / 2];
-    BigEndian::read_u16_into(&bytes, &mut words);
-    words
-}
-
-/// A byte with the length of a name, its characters, and bytes 0.
-fn name_bytes(name: &Name) -> [u8; MAX_NAME_BYTES]
-    ensures bytes { result ≡ length name.now ∷ (name.now ++ replicate (39 - length name.now) 0) }
-    ensures short { length name.now ≤ 39 }
-{
-    let text = name.as_bytes();
-    let mut bytes = [0; MAX_NAME_BYTES];
-    bytes[0] = text.len() as u8;
-    bytes[1..=text.len()].copy_from_slice(text);
-    bytes
 }

@@ -1,13 +1,11 @@
 -- What was encoded is decoded as it was, and the other way round.
-use Rattle.std.proofs.Common.{◌≡◌, ℕ, ◌+◌, ◌-◌, ◌*◌, ◌/◌, ◌%◌, ◌<◌, true, false, List, [], ◌∷◌, ◌++◌, length, take, drop, replicate, Option, Some, None, refl, sym, ap, ◌∙◌, arith, inl, inr}
+use Rattle.std.proofs.Common.{◌≡◌, ℕ, ◌+◌, ◌-◌, ◌*◌, ◌/◌, ◌%◌, ◌<◌, true, List, [], ◌∷◌, ◌++◌, length, take, drop, replicate, Option, Some, None, refl, sym, ap, ◌∙◌, arith}
 use Rattle.std.specs.Prelude.{All}
-use Rattle.std.proofs.lemmas.List.{length-take-le, length-drop, take-append-drop, drop-take, take-take, take_all, get_or-take}
-use Rattle.std.proofs.lemmas.Bool.{cases_Bool}
+use Rattle.std.proofs.lemmas.List.{length-take-le, take-append-drop, drop-take, take-take}
 use Rattle.std.proofs.lemmas.Bool.Decides.{nat_tests}
-use Rattle.std.proofs.lemmas.Option.{cond_some}
 use Rattle.std.proofs.Math.Seq.{take-add}
 use Rattle.alto_words.specs.Fid.{sys_dir}
-use Rattle.disk_records.specs.Words.{word, double}
+use Rattle.disk_records.specs.Words.{word}
 use Rattle.pack_model.specs.Bytes.{bytes_of, words_of}
 use Rattle.pack_model.specs.Leaders as model
 use Rattle.pack_model.specs.Leaders.{name_bytes, spelled_name, is_readable, leader_words, leader_of}
@@ -16,7 +14,6 @@ use Rattle.leader_page.specs.declared.leader.Leader.{Leader}
 use Rattle.leader_page.specs.Pages.{said, Says, IsDecoded, IsPadded}
 use Rattle.leader_page.proofs.Bytes.{length-bytes_of, words_of-bytes_of}
 use Rattle.leader_page.proofs.Names.{filled-name}
-use Rattle.leader_page.proofs.Parsing.{spelled}
 use Rattle.leader_page.proofs.Values.{in_words, leader_of-in_words, leader_name-readable}
 
 -- ---- a value is that of one leader alone
@@ -26,37 +23,6 @@ same_leader l other e h = λ i. record { created = (e i).created; written = (e i
 pub reads_back : (value : List ℕ) (l : Leader) (answer : Option Leader) → Says value (said l) l.hints → IsDecoded value answer → answer ≡ Some l
 reads_back value l None says none = absurd (let readable = says.readable in cc)
 reads_back value l (Some other) says some = ap Some (same_leader l other (sym (some.leader_is sys_dir) ∙ says.leader_is sys_dir) (sym some.hints_are ∙ says.hints_are))
-
--- ---- what is decoded
-pub none_decoded : (value : List ℕ) → None ≡ spelled (leader_words value) → is_readable (leader_words value) ≡ false
-none_decoded value none =
-    elim (cases_Bool (is_readable (leader_words value))) [
-      | inl spells ↦ absurd (let e : spelled (leader_words value) ≡ Some (spelled_name (leader_words value)) = rw spells refl in cc)
-      | inr spells_none ↦ spells_none
-    ]
-
-double_in : (value : List ℕ) (at : ℕ) → at + 1 < 246 → double (leader_words value) at ≡ double value at
-double_in value at below =
-    let high = get_or-take 246 value at 0 (omega (arith, below)) in
-    let low = get_or-take 246 value (at + 1) 0 below in
-    λ i. high i * 65536 + low i
-
-pub some_decoded : (value : List ℕ) (l : Leader) → length value ≡ 256 → Some l.name ≡ spelled (leader_words value)
-    → l.created ≡ double value 0 → l.written ≡ double value 2 → l.read ≡ double value 4 → l.rest ≡ take 220 (drop 26 value) → l.hints ≡ take 10 (drop 246 value)
-    → Says value (said l) l.hints
-some_decoded value l long name created written read rest hints =
-    let found = cond_some (is_readable (leader_words value)) (spelled_name (leader_words value)) l.name (sym name) in
-    let c = double_in value 0 (omega arith) ∙ sym created in
-    let w = double_in value 2 (omega arith) ∙ sym written in
-    let r = double_in value 4 (omega arith) ∙ sym read in
-    let k = drop-take 26 220 value ∙ sym rest in
-    record {
-      readable = found.0;
-      leader_is = λ f.
-          let n = leader_name-readable f (leader_words value) found.0 ∙ found.1 in
-          leader_of-in_words f value ∙ (λ i. record { created = c i; written = w i; read = r i; name = n i; rest = k i });
-      hints_are = sym (hints ∙ take_all 10 (drop 246 value) (omega (arith, length-drop 246 value, long)));
-    }
 
 -- ---- a value that is written back
 first_and_rest : (l : List ℕ) → 0 < length l → word l 0 ∷ drop 1 l ≡ l

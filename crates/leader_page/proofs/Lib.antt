@@ -4,5 +4,6 @@ mod Parsing
 mod Reading
 mod Values
 mod Changes
+mod Decoding
 mod Inverses
 mod Puts

@@ -7,13 +7,15 @@
 //   246 to 255: hints: property bounds; the flag of pages in a row; the home directory; the last page
 // Leader pages with dates, names and hints are those of the SOSP 1979 paper; the words are this project's choice.
 ghost use Rattle.std.specs.Prelude.{◌≡◌, ◌+◌, ◌<◌, ◌≤◌, ◌∷◌, length, take, drop, true, cond, Some, None};
+ghost use Rattle.alto_words.specs.declared.fid.Fid.{Fid};
 ghost use Rattle.alto_words.specs.Names.{is_stored_name};
 ghost use Rattle.disk_records.specs.Words.{double};
+ghost use Rattle.leader_page.specs.Pages.{said};
 ghost use Rattle.pack_model.specs.Bytes.{put_at};
-ghost use Rattle.pack_model.specs.Leaders.{is_readable, spelled_name, leader_words};
+ghost use Rattle.pack_model.specs.Leaders.{is_readable, spelled_name, leader_words, leader_of};
 ghost use Rattle.pack_model.specs.PageWords.{filled, halves, name_words};
 
-use alto_words::Name;
+use alto_words::{Fid, Name};
 use byteorder::{BigEndian, ByteOrder};
 
 /// The first of the two words that say when the file was made.
@@ -54,6 +56,7 @@ pub struct Leader {
 
 impl Leader {
     ghost use Rattle.leader_page.specs.Pages.{said, Says, IsDecoded};
+    ghost use Rattle.pack_model.specs.Leaders.{leader_of};
     ghost use Rattle.pack_model.specs.PageWords.{leader_value};
 
     /// The leader that the value of a leader page says. None exactly where words 6 to 25 spell no stored name: the length byte
@@ -62,18 +65,20 @@ impl Leader {
         ensures { IsDecoded value.now result }
     {
         let name = read_name(value)?;
-        let mut rest = [0; 220];
-        rest.copy_from_slice(&value[REST..HINTS]);
-        let mut hints = [0; 10];
-        hints.copy_from_slice(&value[HINTS..]);
-        Some(Leader {
-            created: double(value, CREATED),
-            written: double(value, WRITTEN),
-            read: double(value, READ),
-            name,
-            rest,
-            hints,
-        })
+        Some(under(name, value))
+    }
+
+    /// The leader of the file with this full name whose leader page has this value: the one that `decode` answers, and where it
+    /// answers None, what the value says under `Name::lost` of the file's serial. It takes no memory.
+    pub fn of_file(fid: Fid, value: &[u16; 256]) -> Leader
+        ensures leader { said result ≡ leader_of fid value.now }
+        ensures hints { result.hints ≡ drop 246 value.now }
+    {
+        let name = match read_name(value) {
+            Some(name) => name,
+            None => Name::lost(fid.serial()),
+        };
+        under(name, value)
     }
 
     /// The value of the leader page that says this leader. The bytes behind the name are 0.
@@ -130,6 +135,25 @@ fn read_name(value: &[u16; 256]) -> Option<Name>
         Some(name)
     } else {
         None
+    }
+}
+
+/// What a value says but for its name, under this name.
+fn under(name: Name, value: &[u16; 256]) -> Leader
+    ensures leader { (f : Fid) → said result ≡ record (leader_of f value.now) { name = name } }
+    ensures hints { result.hints ≡ drop 246 value.now }
+{
+    let mut rest = [0; 220];
+    rest.copy_from_slice(&value[REST..HINTS]);
+    let mut hints = [0; 10];
+    hints.copy_from_slice(&value[HINTS..]);
+    Leader {
+        created: double(value, CREATED),
+        written: double(value, WRITTEN),
+        read: double(value, READ),
+        name,
+        rest,
+        hints,
     }
 }
 

@@ -4,8 +4,10 @@
 //! is the leader that pack_model speaks of, with the hints apart. To the layers above:
 //! 1. `decode` answers a leader exactly where words 6 to 25 spell a stored name, and then the one that the value says for every
 //!    full name (`IsDecoded`). It believes no hint and refuses none.
-//! 2. `encode` gives the value of a leader, word for word (`value`), and that value says this leader with these hints (`says`).
-//! 3. `name_words` gives words 6 to 25 of the value of every leader with that name (`name`).
+//! 2. `of_file` answers that leader for a file, and where no stored name is spelled the one under its lost name (`leader_of` of
+//!    pack_model), so that who reads packs needs no places of words.
+//! 3. `encode` gives the value of a leader, word for word (`value`), and that value says this leader with these hints (`says`).
+//! 4. `name_words` gives words 6 to 25 of the value of every leader with that name (`name`).
 //! The `laws`: what was encoded is decoded as the same leader (`reads_back`), and what was decoded is encoded as the same words
 //! where the bytes behind the name are 0 (`writes_back`); a title changes the name alone, a stamp the written date alone.
 //! Not promised: that a hint is true.

@@ -1,6 +1,6 @@
 // Rows by hand of the table in leader.rt, one at each end of what a name may be.
 use crate::{Leader, name_words};
-use alto_words::Name;
+use alto_words::{Fid, Name};
 use std::test::Fail;
 
 /// 38 letters.
@@ -77,6 +77,22 @@ fn pages_that_spell_no_name(rt: HostRuntime) {
         assert!(rt; Leader::decode(&page(&row)).is_none());
     }
     assert!(rt; Leader::decode(&page(&[0x032E, 0x412E, 0])).is_some());
+}
+
+#[test]
+fn the_leader_of_a_file(rt: HostRuntime) -> Result<(), Fail> {
+    // a length byte of 0; 9 is 11 in octal
+    let lost = Leader::of_file(Fid::ordinary(9), &page(&[0x0041, 0x2E00, 0]));
+    assert_eq!(rt; lost.name.as_bytes(), b"Lost11.".as_slice());
+    assert_eq!(rt; lost.created, 65_537_001);
+    assert_eq!(rt; lost.written, 65_668_075);
+    assert_eq!(rt; lost.read, 65_799_149);
+    assert_eq!(rt; lost.rest[219], 1245);
+    assert_eq!(rt; lost.hints[0], 1246);
+    let value = page(&[577, 11776, 0]);
+    let named = Leader::of_file(Fid::ordinary(9), &value);
+    assert_eq!(rt; Leader::decode(&value), Some(named));
+    Ok(())
 }
 
 #[test]

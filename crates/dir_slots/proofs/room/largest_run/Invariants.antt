@@ -1,4 +1,4 @@
-use Rattle.dir_slots.proofs.Rooms.{Running}
+use Rattle.dir_slots.proofs.Runs.{Running}
 use Rattle.dir_slots.proofs.room.largest_run.Given as goal
 
 abbrev pub invariant-loop-slot : goal.invariant-loop-slot

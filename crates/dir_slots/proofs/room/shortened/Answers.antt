@@ -1,4 +1,4 @@
-use Rattle.dir_slots.proofs.Rows.{shortening_none, shortening_more, shortened_here, shortened_all}
+use Rattle.dir_slots.proofs.Shortening.{shortening_none, shortening_more, shortened_here, shortened_all}
 use Rattle.dir_slots.proofs.room.shortened.Goals as goal
 
 pub loop-slot-init : goal.loop-slot-init

@@ -1,4 +1,4 @@
-use Rattle.dir_slots.proofs.Rows.{Shortening}
+use Rattle.dir_slots.proofs.Shortening.{Shortening}
 use Rattle.dir_slots.proofs.room.shortened.Given as goal
 
 abbrev pub invariant-loop-slot : goal.invariant-loop-slot
