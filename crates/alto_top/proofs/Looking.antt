@@ -1,11 +1,11 @@
 -- What is looked up for the lines of the listing.
-use Rattle.std.proofs.Common.{◌≡◌, ◌≢◌, ℕ, Bool, true, false, cond, List, [], ◌∷◌, ◌++◌, map, take, Option, Some, None, refl, sym, ap, ◌∙◌, arith, suc, ◌+◌, ◌<◌, ◌≤◌, get_or}
+use Rattle.std.proofs.Common.{◌≡◌, ℕ, Bool, true, false, cond, List, [], ◌∷◌, ◌++◌, map, take, Option, Some, None, refl, sym, ap, ◌∙◌, arith, suc, ◌+◌, ◌<◌, ◌≤◌, get_or}
 use Rattle.std.specs.Prelude.{◌&&◌, T, length}
 use Rattle.std.proofs.Math.Seq.{take-suc}
 use Rattle.std.proofs.lemmas.List.{take_all}
 use Rattle.std.specs.declared.cmp.Ordering.{Ordering}
 use Rattle.std.specs.declared.cmp.Ordering.TheVariants.{Less, Equal, Greater}
-use Rattle.std.specs.Ordering.{is_eq, is_lt, ordering_then, match_ordering}
+use Rattle.std.specs.Ordering.{is_eq, is_lt, match_ordering}
 use Rattle.std.specs.Option.{option_map, option_or}
 use Rattle.std.specs.BTreeMap.{get}
 use Rattle.std.specs.BTreeSet.{insert_key}
@@ -16,25 +16,17 @@ use Rattle.alto_words.specs.Fid.{fid_cmp, is_fid}
 use Rattle.alto_words.specs.Names.{folded_cmp}
 use Rattle.pack_model.specs.Namings.{Naming}
 use Rattle.pack_model.specs.View.{Home, Seen, View}
-use Rattle.pack_model.specs.Listing.{naming_of, naming_cmp, in_order, size_of, shown_names, shown_files}
-use Rattle.pack_laws.proofs.Keys.{same_fid, is_fid-itself}
+use Rattle.pack_model.specs.Listing.{naming_of, naming_cmp, in_order, size_of, shown_names}
+use Rattle.pack_laws.proofs.Keys.{same_fid}
+use Rattle.pack_laws.proofs.Firsts.{or_none, or_assoc}
+use Rattle.pack_laws.proofs.Inserting.{in_order-none, in_order-cons}
+use Rattle.pack_laws.proofs.Orders.{naming_total, last_apart}
 use Rattle.pack_reading.specs.declared.shown.Shown.{Shown}
-use Rattle.pack_reading.specs.declared.shown.ShownFile.{ShownFile}
 use Rattle.pack_reading.specs.Shows.{ShowsView, shown_file, shown_name}
-use Rattle.pack_reading.proofs.Homes.{naming_total}
-use Rattle.pack_reading.proofs.Inserting.{entries-empty, in_order-cons}
 use Rattle.alto_top.specs.declared.listing.Known.{Known}
 use Rattle.alto_top.specs.Looking.{first_of, file_size, flat, Knows}
 
 -- ---- one after another
-pub or_assoc : {X : Type 0} (a b c : Option X) → option_or (option_or a b) c ≡ option_or a (option_or b c)
-or_assoc None b c = refl
-or_assoc (Some x) b c = refl
-
-or_none : {X : Type 0} (a : Option X) → option_or a None ≡ a
-or_none None = refl
-or_none (Some x) = refl
-
 or_parts : {X : Type 0} (b : Bool) (x : X) (o : Option X) → option_or (cond b (Some x) None) o ≡ None → (b ≡ false) × (o ≡ None)
 or_parts true x o e = cc
 or_parts false x o e = (refl, e)
@@ -45,10 +37,6 @@ or_swap true true x y o apart = absurd (apart refl refl)
 or_swap true false x y o apart = refl
 or_swap false c x y o apart = refl
 
--- no items in order
-pub in_order-none : {X : Type 0} (R : X → X → Ordering) → in_order R [] ≡ []
-in_order-none R = ap (map (λ e. e.0)) (entries-empty R)
-
 -- ---- names by file
 abbrev pub name_in : List Naming → Fid → Option (List ℕ)
 name_in = first_of (λ n. n.fid) (λ n. n.name)
@@ -56,13 +44,6 @@ name_in = first_of (λ n. n.fid) (λ n. n.name)
 pub name_shown : (ns : List Naming) (f : Fid) → first_of (λ n. n.fid) (λ n. n.name) (map shown_name ns) f ≡ name_in ns f
 name_shown [] f = refl
 name_shown (n ∷ ns) f = ap (option_or (cond (is_fid f n.fid) (Some n.name) None)) (name_shown ns f)
-
-last_apart : (a b c : Ordering) → is_eq c ≡ false → ordering_then a (ordering_then b c) ≢ Equal
-last_apart Less b c differs e = cc
-last_apart Greater b c differs e = cc
-last_apart Equal Less c differs e = cc
-last_apart Equal Greater c differs e = cc
-last_apart Equal Equal c differs e = let h : true ≡ false = sym (ap is_eq e) ∙ differs in cc
 
 -- two files aren't one
 not_both : (f n k : Fid) → is_fid n k ≡ false → is_fid f n ≡ true → is_fid f k ≡ true → ⊥

@@ -1,29 +1,22 @@
 -- The lines of the listing in order, and their text.
-use Rattle.std.proofs.Common.{◌≡◌, ℕ, List, [], ◌∷◌, ◌++◌, map, Option, Some, None, refl, sym, ap, ◌∙◌, append_assoc, append-nil}
-use Rattle.std.specs.Prelude.{option_to_list, length}
+use Rattle.std.proofs.Common.{◌≡◌, ℕ, List, [], ◌∷◌, ◌++◌, map, refl, sym, ap, ◌∙◌, append_assoc, append-nil}
+use Rattle.std.specs.Prelude.{length}
 use Rattle.std.specs.List.{flat_map}
-use Rattle.std.specs.Cmp.{IsTotalOrder, then_total, on_total}
-use Rattle.std.specs.Cmp.Lexicographic.{options_total}
 use Rattle.std.specs.BTreeSet.{insert_key}
 use Rattle.std.proofs.lemmas.List.{length-map}
 use Rattle.std.proofs.lemmas.List.Folds.{flat_map-map}
 use Rattle.pack_model.specs.Namings.{Naming}
 use Rattle.pack_model.specs.View.{View}
 use Rattle.pack_model.specs.Listing.{Listed, line_of, listed_cmp, listing, in_order, shown_names, shown_files}
+use Rattle.pack_laws.proofs.Inserting.{in_order-none, in_order-cons, map-insert_key}
+use Rattle.pack_laws.proofs.Orders.{listed_total}
 use Rattle.pack_reading.specs.declared.shown.Shown.{Shown}
 use Rattle.pack_reading.specs.declared.shown.ShownName.{ShownName}
 use Rattle.pack_reading.specs.Shows.{ShowsView, naming, shown_name, shown_file}
-use Rattle.pack_reading.proofs.Homes.{naming_total}
-use Rattle.pack_reading.proofs.Inserting.{in_order-cons, map-insert_key}
-use Rattle.alto_top.specs.declared.listing.Line.{Line}
-use Rattle.alto_top.specs.declared.listing.Known.{Known}
-use Rattle.alto_top.specs.Orders.{line_cmp, name_total}
-use Rattle.alto_top.specs.Looking.{Knows, listed_in}
-use Rattle.alto_top.proofs.Looking.{in_order-none}
+use Rattle.alto_top.specs.declared.line.Line.{Line}
+use Rattle.alto_top.specs.Orders.{line_cmp}
+use Rattle.alto_top.specs.Looking.{listed_in}
 use Rattle.alto_top.specs.Showing.{line_text, count_text, listing_text}
-
-pub listed_total : IsTotalOrder listed_cmp
-listed_total = then_total (on_total (λ l. l.dir_name) (options_total name_total)) (on_total (λ l. l.naming) naming_total)
 
 abbrev pub line_for : View → ShownName → Listed
 line_for v n = line_of v (naming n)

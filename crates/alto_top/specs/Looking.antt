@@ -8,9 +8,8 @@ use Rattle.alto_words.specs.Fid.{fid_cmp, is_fid}
 use Rattle.pack_model.specs.View.{View}
 use Rattle.pack_model.specs.Listing.{Listed, home_name, size_of}
 use Rattle.pack_reading.specs.declared.shown.ShownFile.{ShownFile}
-use Rattle.pack_reading.specs.declared.shown.ShownName.{ShownName}
 use Rattle.pack_reading.specs.Shows.{naming}
-use Rattle.alto_top.specs.declared.listing.Line.{Line}
+use Rattle.alto_top.specs.declared.line.Line.{Line}
 use Rattle.alto_top.specs.declared.listing.Known.{Known}
 
 -- what the first item of a file says

@@ -1,23 +1,20 @@
 -- The order of lines is total.
-use Rattle.std.specs.Prelude.{map}
 use Rattle.std.specs.declared.cmp.Ordering.{Ordering}
 use Rattle.std.specs.Ordering.{then_cmp, on}
 use Rattle.std.specs.Option.{option_cmp}
 use Rattle.std.specs.Cmp.{IsTotalOrder, then_total, on_total}
-use Rattle.std.specs.Cmp.Lexicographic.{nat_list_cmp_total, options_total}
+use Rattle.std.specs.Cmp.Lexicographic.{options_total}
 use Rattle.alto_words.specs.Fid.{fid_cmp}
-use Rattle.alto_words.specs.Names.{fold_case, folded_cmp}
+use Rattle.alto_words.specs.Names.{folded_cmp}
 use Rattle.pack_laws.proofs.Keys.{fid_total}
-use Rattle.alto_top.specs.declared.listing.Line.{Line}
+use Rattle.pack_laws.proofs.Orders.{name_total}
+use Rattle.alto_top.specs.declared.line.Line.{Line}
 
 -- by the directory's name, the directory, the name and the file
 abbrev pub line_cmp : Line → Line → Ordering
 line_cmp =
     then_cmp (on (λ l. l.dir_name) (option_cmp folded_cmp))
     (then_cmp (on (λ l. l.named.directory) fid_cmp) (then_cmp (on (λ l. l.named.name) folded_cmp) (on (λ l. l.named.fid) fid_cmp)))
-
-pub name_total : IsTotalOrder folded_cmp
-name_total = on_total (map fold_case) nat_list_cmp_total
 
 pub line_total : IsTotalOrder line_cmp
 line_total =

@@ -14,6 +14,7 @@
 #![tactic(auto)]
 
 mod keys;
+mod line;
 mod listing;
 mod pages;
 mod patch;

@@ -1,99 +1,21 @@
 // The listing of what a pack shows: one line for each name, and then the number of files.
 ghost use Rattle.std.specs.Prelude.{◌≡◌, ◌++◌, ℕ, cond, length, map, Some, None, IfOk, OnOk};
 ghost use Rattle.std.specs.List.{flat_map};
-ghost use Rattle.std.specs.Option.{option_cmp, option_or};
+ghost use Rattle.std.specs.Option.{option_or};
 ghost use Rattle.std.specs.BTreeMap.{get};
-ghost use Rattle.std.specs.Ordering.{then_cmp, on, eq_by_cmp, as_partial_cmp};
-ghost use Rattle.std.specs.Cmp.{partial_equiv_from_equiv, eq_by_cmp_equiv, partial_order_from_total};
-ghost use Rattle.std.specs.Cmp.Rules.{comparing};
-ghost use Rattle.std.proofs.Common.{rules};
 ghost use Rattle.alto_words.specs.declared.fid.Fid.{Fid as Named};
 ghost use Rattle.alto_words.specs.Fid.{fid_cmp, is_fid};
-ghost use Rattle.alto_words.specs.Names.{folded_cmp};
 ghost use Rattle.pack_model.specs.View.{View};
 ghost use Rattle.pack_model.specs.Listing.{line_of, listed_cmp, in_order};
 ghost use Rattle.pack_reading.specs.Shows.{naming, ShowsView};
-ghost use Rattle.alto_top.specs.Orders.{line_total};
 ghost use Rattle.alto_top.specs.Looking.{first_of, file_size, Knows, listed_in};
 ghost use Rattle.alto_top.specs.Showing.{stem, dir_text, size_text, line_text, count_text, listing_text};
 
+use crate::line::Line;
 use alto_words::{Fid, Memory, Name, push_number};
 use pack_reading::{Shown, ShownFile, ShownName};
 use std::alloc::Global;
-use std::cmp::Ordering;
 use std::collections::{BTreeMap, BTreeSet};
-
-/// A line of the listing.
-#[derive(Drop)]
-pub struct Line {
-    /// The name in SysDir of the directory that has the name; None of SysDir itself.
-    pub dir_name: Option<Name>,
-    /// The name.
-    pub named: ShownName,
-    /// The file's length in bytes; None of a directory.
-    pub size: Option<u64>,
-}
-
-impl PartialEq for Line {
-    ghost eq = { eq_by_cmp (then_cmp (on (λ l. l.dir_name) (option_cmp folded_cmp)) (then_cmp (on (λ l. l.named.directory) fid_cmp) (then_cmp (on (λ l. l.named.name) folded_cmp) (on (λ l. l.named.fid) fid_cmp)))) };
-
-    ghost laws = { partial_equiv_from_equiv (eq_by_cmp_equiv line_total) };
-
-    fn eq(&self, other: &Line) -> bool {
-        self.cmp(other).is_eq()
-    }
-}
-
-impl Eq for Line {
-    ghost laws = { eq_by_cmp_equiv line_total };
-}
-
-impl PartialOrd for Line {
-    ghost partial_cmp = { as_partial_cmp (then_cmp (on (λ l. l.dir_name) (option_cmp folded_cmp)) (then_cmp (on (λ l. l.named.directory) fid_cmp) (then_cmp (on (λ l. l.named.name) folded_cmp) (on (λ l. l.named.fid) fid_cmp)))) };
-
-    ghost laws = { partial_order_from_total line_total };
-
-    fn partial_cmp(&self, other: &Line) -> Option<Ordering> {
-        Some(self.cmp(other))
-    }
-}
-
-impl Ord for Line {
-    ghost cmp = { then_cmp (on (λ l. l.dir_name) (option_cmp folded_cmp)) (then_cmp (on (λ l. l.named.directory) fid_cmp) (then_cmp (on (λ l. l.named.name) folded_cmp) (on (λ l. l.named.fid) fid_cmp))) };
-
-    ghost total = { line_total };
-
-    ghost matches_partial_cmp = { Prim.search (comparing, rules) };
-
-    ghost matches_eq = { Prim.search (comparing, rules) };
-
-    fn cmp(&self, other: &Line) -> Ordering {
-        compare_dirs(self.dir_name, other.dir_name).then(compare_names(&self.named, &other.named))
-    }
-}
-
-/// SysDir comes first, and then each directory by its name.
-fn compare_dirs(one: Option<Name>, other: Option<Name>) -> Ordering
-    ensures { result ≡ option_cmp folded_cmp one other }
-{
-    match (one, other) {
-        (None, None) => Ordering::Equal,
-        (None, Some(_)) => Ordering::Less,
-        (Some(_), None) => Ordering::Greater,
-        (Some(one), Some(other)) => one.folded_cmp(&other),
-    }
-}
-
-/// By directory, by name without regard to case, and by file.
-fn compare_names(one: &ShownName, other: &ShownName) -> Ordering
-    ensures { result ≡ then_cmp (on (λ n. n.directory) fid_cmp) (then_cmp (on (λ n. n.name) folded_cmp) (on (λ n. n.fid) fid_cmp)) one.now other.now }
-{
-    one.directory.cmp(&other.directory).then(
-        one.name
-            .folded_cmp(&other.name)
-            .then(one.fid.cmp(&other.fid)),
-    )
-}
 
 /// What is looked up for lines.
 #[derive(Drop)]

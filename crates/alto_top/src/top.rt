@@ -62,6 +62,10 @@ fn show_usage<C: Console>(console: &mut C) -> Status
 
 /// Does what the words of a command line ask for on this machine. The words are `boot` alone or `show` alone; with any others
 /// `usage` is shown and nothing else happens. `moment` is the time now, in seconds since the start of 1901.
+///
+/// Done: the typed input was obeyed to its end, or the listing was shown. Usage: the words are others, and `usage` was shown.
+/// DiskFault and KeyFault: that device failed, and the session or the listing stopped at once; a listing takes no key. DisplayFault:
+/// the display failed, with any words. Memory: none was left. After each of them what was acknowledged stands on the pack.
 pub fn alto<M: Machine>(alloc: Global, words: &[String], moment: u32, machine: &mut M) -> Status
     ensures grown { Grown (M.tape machine.old) (M.tape machine.new) }
     ensures cause { HasStatusCause (M.tape machine.old) (M.tape machine.new) result }

@@ -1,8 +1,7 @@
 -- The scan of entries that keeps their homes gives the entries that a pack is read with, those of the system files left out.
-use Rattle.std.proofs.Common.{◌≡◌, ℕ, Bool, true, false, cond, not, List, [], ◌∷◌, ◌++◌, map, Option, Some, None, refl, sym, ap, subst, ◌∙◌}
+use Rattle.std.proofs.Common.{◌≡◌, ℕ, Bool, true, false, cond, not, List, [], ◌∷◌, ◌++◌, Option, Some, None, refl, sym, ap, subst, ◌∙◌}
 use Rattle.std.specs.Prelude.{◌&&◌, ◌||◌, fold}
-use Rattle.std.specs.Cmp.{IsTotalOrder, eq_by_cmp_equiv, on_total}
-use Rattle.std.specs.Cmp.Lexicographic.{nat_list_cmp_total}
+use Rattle.std.specs.Cmp.{eq_by_cmp_equiv}
 use Rattle.std.specs.List.{list_any}
 use Rattle.std.specs.Option.{is_some, option_or}
 use Rattle.std.specs.FinMap.{FinMap, find, get, get-empty, get-insert, get-entries, entries, entries-insert, insert, contains_key, empty}
@@ -10,13 +9,14 @@ use Rattle.std.proofs.lemmas.Bool.{and_parts}
 use Rattle.std.proofs.lemmas.List.{append_assoc, append-nil}
 use Rattle.alto_words.specs.declared.fid.Fid.{Fid}
 use Rattle.alto_words.specs.Fid.{fid_cmp, is_fid, is_system, sys_dir, disk_descriptor}
-use Rattle.alto_words.specs.Names.{fold_case, folded_cmp, is_same_name}
+use Rattle.alto_words.specs.Names.{is_same_name}
 use Rattle.pack_model.specs.Namings.{Naming, is_kept, may_stand, keeps_system, alike, is_own, clashes, sys_dir_name, descriptor_name}
 use Rattle.pack_model.specs.View.{Home, homes}
 use Rattle.pack_laws.proofs.Keys.{fid_total, same_fid}
+use Rattle.pack_laws.proofs.Firsts.{or_none}
+use Rattle.pack_laws.proofs.Inserting.{entries-empty, list_any-put}
 use Rattle.pack_reading.specs.Homes.{is_taken_in, may_show, considered}
-use Rattle.pack_reading.proofs.Tests.{tie_names, none_of, or_none}
-use Rattle.pack_reading.proofs.Inserting.{entries-empty, list_any-put}
+use Rattle.pack_reading.proofs.Tests.{same_congr, none_of}
 use Rattle.pack_reading.proofs.Tidying.{scanned}
 
 -- ---- tests of lists
@@ -51,11 +51,6 @@ alike_false : (a b : Bool) → a ≡ false → alike a b ≡ true → b ≡ fals
 alike_false true b e h = cc
 alike_false false true e h = cc
 alike_false false false e h = refl
-
-same_congr : (a b c : List ℕ) → is_same_name a b ≡ true → is_same_name a c ≡ is_same_name b c
-same_congr a b c e =
-    let total : IsTotalOrder folded_cmp = on_total (map fold_case) nat_list_cmp_total in
-    sym (tie_names a c) ∙ (eq_by_cmp_equiv total).congr a b c (tie_names a b ∙ e) ∙ tie_names b c
 
 -- a place has a name where another with the same name in the same directory has it
 own_congr : (nm : List ℕ) (x e : Naming) → is_fid x.dir e.dir ≡ true → is_same_name x.name e.name ≡ true → is_own nm x ≡ is_own nm e

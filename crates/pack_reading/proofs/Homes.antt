@@ -1,11 +1,9 @@
 -- Kept entries, and the homes that they stand for.
-use Rattle.std.proofs.Common.{◌≡◌, ◌≢◌, Bool, true, false, cond, List, [], ◌∷◌, map, Option, Some, None, Result, Ok, Err, refl, sym, ap, ◌∙◌}
-use Rattle.std.specs.Prelude.{◌&&◌, ◌||◌, OnOk, is_err}
+use Rattle.std.proofs.Common.{◌≡◌, ◌≢◌, Bool, true, false, cond, List, [], ◌∷◌, map, Option, Some, None, refl, sym, ap, ◌∙◌}
+use Rattle.std.specs.Prelude.{◌&&◌, ◌||◌}
 use Rattle.std.specs.declared.cmp.Ordering.{Ordering}
 use Rattle.std.specs.declared.cmp.Ordering.TheVariants.{Less, Equal, Greater}
 use Rattle.std.specs.Ordering.{is_eq, ordering_then}
-use Rattle.std.specs.Cmp.{IsTotalOrder, then_total, on_total}
-use Rattle.std.specs.Cmp.Lexicographic.{nat_list_cmp_total}
 use Rattle.std.specs.List.{list_any}
 use Rattle.std.specs.Option.{is_some}
 use Rattle.std.specs.BTreeSet.{contains, insert_key}
@@ -13,26 +11,19 @@ use Rattle.std.specs.FinMap.{FinMap, find, entries, entries-insert, get, get-emp
 use Rattle.std.specs.FinMap.Entries.{by_order}
 use Rattle.alto_words.specs.declared.fid.Fid.{Fid}
 use Rattle.alto_words.specs.Fid.{fid_cmp, is_fid}
-use Rattle.alto_words.specs.Names.{fold_case, folded_cmp, is_same_name}
+use Rattle.alto_words.specs.Names.{folded_cmp, is_same_name}
 use Rattle.pack_model.specs.View.{Home}
 use Rattle.pack_model.specs.Listing.{naming_of, naming_cmp, in_order}
 use Rattle.pack_laws.proofs.Keys.{fid_total, is_fid-sym}
+use Rattle.pack_laws.proofs.Inserting.{absent_tail, entries-empty, list_any-put, map-insert_key, in_order-none, in_order-cons, insert-swap}
+use Rattle.pack_laws.proofs.Orders.{naming_total, last_apart}
 use Rattle.pack_reading.specs.declared.names.Place.{Place}
 use Rattle.pack_reading.specs.declared.names.Entry.{Entry}
 use Rattle.pack_reading.specs.declared.names.Names.{Names}
 use Rattle.pack_reading.specs.Homes.{place_cmp, home_at, naming_at, StandsFor}
 use Rattle.pack_reading.proofs.Tests.{tie_places_back}
-use Rattle.pack_reading.proofs.Inserting.{absent_tail, entries-empty, list_any-put, map-insert_key, in_order-cons, insert-swap}
-
--- what a call ensures where it didn't fail
-pub when_ok : {T E : Type 0} {P : Type 0} (r : Result T E) → is_err r ≡ false → OnOk r P → P
-when_ok (Ok x) ok h = h
-when_ok (Err e) ok h = absurd (let h : true ≡ false = ok in cc)
 
 -- ---- the order of entries
-pub naming_total : IsTotalOrder naming_cmp
-naming_total = then_total (on_total (λ n. n.dir) fid_total) (then_total (on_total (λ n. n.name) (on_total (map fold_case) nat_list_cmp_total)) (on_total (λ n. n.fid) fid_total))
-
 then_assoc : (a b c : Ordering) → ordering_then (ordering_then a b) c ≡ ordering_then a (ordering_then b c)
 then_assoc Less b c = refl
 then_assoc Equal b c = refl
@@ -40,13 +31,6 @@ then_assoc Greater b c = refl
 
 pub entry_order : (x y : Entry) → ordering_then (place_cmp x.place y.place) (fid_cmp x.fid y.fid) ≡ naming_cmp (naming_at x) (naming_at y)
 entry_order x y = then_assoc (fid_cmp x.place.directory y.place.directory) (folded_cmp x.place.name y.place.name) (fid_cmp x.fid y.fid)
-
-last_apart : (a b c : Ordering) → is_eq c ≡ false → ordering_then a (ordering_then b c) ≢ Equal
-last_apart Less b c differs e = cc
-last_apart Greater b c differs e = cc
-last_apart Equal Less c differs e = cc
-last_apart Equal Greater c differs e = cc
-last_apart Equal Equal c differs e = let h : true ≡ false = sym (ap is_eq e) ∙ differs in cc
 
 -- the names in order, with that of one file more
 in_order-put : (f : Fid) (h : Home) (es : List (Fid × Home)) → find fid_cmp f es ≡ None → in_order naming_cmp (map naming_of (put fid_cmp f h es)) ≡ insert_key naming_cmp (in_order naming_cmp (map naming_of es)) (naming_of (f, h))
@@ -73,7 +57,7 @@ empty_stands names named taken kept = record {
   taken = λ d name.
       ap (list_any (λ k. is_eq (place_cmp (record { directory = d; name = name }) k))) taken
       ∙ sym (ap (list_any (λ (e : Fid × Home). is_fid d e.1.dir && is_same_name name e.1.name)) (entries-empty {X = Home} fid_cmp));
-  kept = ap (map naming_at) kept ∙ sym (ap (λ es. in_order naming_cmp (map naming_of es)) (entries-empty {X = Home} fid_cmp) ∙ ap (map (λ e. e.0)) (entries-empty {X = Unit {0}} naming_cmp));
+  kept = ap (map naming_at) kept ∙ sym (ap (λ es. in_order naming_cmp (map naming_of es)) (entries-empty {X = Home} fid_cmp) ∙ in_order-none naming_cmp);
 }
 
 -- ---- one entry more

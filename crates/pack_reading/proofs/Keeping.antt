@@ -1,37 +1,26 @@
 -- What one sector shows, and what is kept of it.
-use Rattle.std.proofs.Common.{◌≡◌, ℕ, zero, suc, ◌≤◌, Bool, true, false, cond, List, take, drop, Option, Some, None, refl, sym, ◌∙◌, ap, subst, arith}
+use Rattle.std.proofs.Common.{◌≡◌, ℕ, zero, suc, ◌≤◌, Bool, true, false, cond, List, take, Option, Some, None, refl, sym, ◌∙◌, ap, subst, arith}
 use Rattle.std.specs.Prelude.{nat_lt, ◌&&◌, ◌==◌}
 use Rattle.std.specs.Option.{option_map, option_or}
 use Rattle.std.proofs.lemmas.Bool.Decides.{nat_tests}
-use Rattle.std.proofs.lemmas.List.{drop-take}
 use Rattle.alto_words.specs.declared.fid.Fid.{Fid}
-use Rattle.alto_words.specs.Fid.{is_fid, serial_of}
-use Rattle.alto_words.specs.Names.{lost}
+use Rattle.alto_words.specs.Fid.{is_fid}
 use Rattle.disk_records.specs.declared.records.Page.{Page}
 use Rattle.disk_records.specs.declared.records.Sector.{Sector}
 use Rattle.disk_records.specs.declared.shape.Shape.{Shape}
 use Rattle.disk_records.specs.Addresses.{is_right_header}
-use Rattle.disk_records.specs.Words.{word, double}
+use Rattle.disk_records.specs.Words.{word}
 use Rattle.disk_records.specs.Labels.{Tag, tag, in_range, is_free, page_of}
 use Rattle.leader_page.specs.declared.leader.Leader.{Leader}
-use Rattle.pack_model.specs.Leaders.{leader_of, leader_name, leader_words, is_readable, spelled_name}
+use Rattle.pack_model.specs.Leaders.{leader_of}
 use Rattle.pack_model.specs.Bytes.{bytes_of}
 use Rattle.pack_model.specs.Sights.{sight, tag_sight, page_sight}
 use Rattle.pack_model.specs.Sights.Sight.{hidden, free, stray}
+use Rattle.pack_laws.proofs.Firsts.{or_none}
 use Rattle.pack_reading.specs.declared.swept.Leaders.{Leaders}
 use Rattle.pack_reading.specs.declared.swept.Pages.{Pages}
 use Rattle.pack_reading.specs.declared.swept.Swept.{Swept}
-use Rattle.pack_reading.proofs.Tests.{or_none}
 use Rattle.pack_reading.specs.Kept.{plain_leader, leader_kept, page_kept, KeepsSight}
-
--- ---- leaders
--- the name that stands for one that can't be read
-pub lost_is : (f : Fid) (value : List ℕ) (l : Leader) → is_readable (leader_words value) ≡ false → l.created ≡ double (take 246 value) 0 → l.written ≡ double (take 246 value) 2 → l.read ≡ double (take 246 value) 4 → l.name ≡ lost (serial_of f) → l.rest ≡ take 220 (drop 26 value) → l.hints ≡ (plain_leader (leader_of f value)).hints → l ≡ plain_leader (leader_of f value)
-unfolding leader_of leader_name
-lost_is f value l unread created written read name rest hints =
-    let named : l.name ≡ leader_name f (leader_words value) = name ∙ sym (ap (λ b. cond b (spelled_name (leader_words value)) (lost (serial_of f))) unread) in
-    let rested : l.rest ≡ drop 26 (leader_words value) = rest ∙ sym (drop-take 26 220 value) in
-    λ i. record { created = created i; written = written i; read = read i; name = named i; rest = rested i; hints = hints i }
 
 -- ---- sights
 pub few_bytes : (t : Tag) → in_range t ≡ true → t.bytes ≤ 512

@@ -1,7 +1,7 @@
 pub mod Tests
-pub mod Inserting
 pub mod Homes
 pub mod Choosing
+pub mod Passing
 pub mod Scanning
 pub mod Tidying
 pub mod Following

@@ -16,6 +16,7 @@ use Rattle.alto_words.specs.Names.{fold_case, folded_cmp, is_same_name}
 use Rattle.disk_records.specs.declared.records.Page.{Page}
 use Rattle.pack_model.specs.Namings.{Naming, keeps_system, alike, sys_dir_name, descriptor_name}
 use Rattle.pack_laws.proofs.Keys.{is_fid-sym, same_fid}
+use Rattle.pack_laws.proofs.Orders.{name_total}
 use Rattle.pack_reading.specs.declared.names.Place.{Place}
 use Rattle.pack_reading.specs.Kept.{page_cmp}
 use Rattle.pack_reading.specs.Homes.{place_cmp, may_show}
@@ -33,6 +34,10 @@ tie_numbers a b = grind (arith, nat_tests)
 pub tie_names : (a b : List ℕ) → is_eq (folded_cmp a b) ≡ is_same_name a b
 tie_names a b = sym (texts_ties (map fold_case a) (map fold_case b))
 
+-- a name is like others where one is that differs from it by the case of letters alone
+pub same_congr : (a b c : List ℕ) → is_same_name a b ≡ true → is_same_name a c ≡ is_same_name b c
+same_congr a b c e = sym (tie_names a c) ∙ (eq_by_cmp_equiv name_total).congr a b c (tie_names a b ∙ e) ∙ tie_names b c
+
 -- places are one where they have one directory and the same name
 pub tie_places : (p q : Place) → is_eq (place_cmp p q) ≡ (is_fid p.directory q.directory && is_same_name p.name q.name)
 tie_places p q = tie_then (fid_cmp p.directory q.directory) (folded_cmp p.name q.name) ∙ ap (λ b. is_fid p.directory q.directory && b) (tie_names p.name q.name)
@@ -48,10 +53,6 @@ tie_pages p f n = tie_then (fid_cmp p.fid f) (nat_cmp p.number n) ∙ (λ i. is_
 pub none_of : {X : Type 0} (o : Option X) → is_some o ≡ false → o ≡ None
 none_of None e = refl
 none_of (Some x) e = absurd (let h : true ≡ false = e in cc)
-
-pub or_none : {X : Type 0} (o : Option X) → option_or o None ≡ o
-or_none None = refl
-or_none (Some x) = refl
 
 -- ---- what a map has once a new key is in it
 new_key : {X : Type 0} (o : Option X) (b c : Bool) (x : X) → b ≡ c → (c ≡ true → is_some o ≡ false) → cond b (Some x) o ≡ option_or o (cond c (Some x) None)

@@ -1,5 +1,5 @@
 // The bytes of files, and the words of directories.
-ghost use Rattle.std.specs.Prelude.{◌≡◌, ◌≤◌, ◌<◌, IfOk, OnOk, ◌++◌};
+ghost use Rattle.std.specs.Prelude.{◌≡◌, IfOk};
 ghost use Rattle.pack_model.specs.Bytes.{words_of};
 ghost use Rattle.pack_reading.specs.Kept.{bytes_kept};
 
@@ -47,7 +47,7 @@ pub(crate) fn words_of(alloc: Global, bytes: &[u8]) -> Result<List<u16>, Memory>
     let count = bytes.len() / 2;
     for k in 0..count {
         words
-            .push(bytes[2 * k] as u16 * 256 + bytes[2 * k + 1] as u16)
+            .push(BigEndian::read_u16(&bytes[2 * k..]))
             .map_err(|_| Memory)?;
     }
     Ok(List::from_vec(words))

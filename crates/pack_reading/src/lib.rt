@@ -4,7 +4,7 @@
 //! all labels once, one sector command for each sector, and follows no link. Then it works in memory: the bytes of each file by page
 //! numbers, the slots of each directory, the one scan of all entries, and the names of nameless files.
 //! 1. At Ok the files and names are those of `show` of the pack, for every told pack (`read`).
-//! 2. Nothing is written (`silent`), and each sector is read once (`runs`).
+//! 2. Nothing is written (`silent`), and each sector but the first is read once at most (`runs`).
 //! 3. A fault of the disk is answered only where its count rose (`fault`).
 #![tactic(auto)]
 
@@ -13,6 +13,7 @@ mod error;
 mod files;
 mod names;
 mod pack;
+mod passed;
 mod scan;
 mod settle;
 mod shown;

@@ -1,14 +1,17 @@
 // The names that nameless files get.
-ghost use Rattle.std.specs.Prelude.{◌≡◌, ◌≤◌, map, IfOk, OnOk};
+ghost use Rattle.std.specs.Prelude.{◌≡◌, ◌≤◌, ◌-◌, true, map, IfOk, OnOk};
 ghost use Rattle.std.specs.FinMap.{FinMap};
 ghost use Rattle.alto_words.specs.Fid.{fid_cmp};
-ghost use Rattle.pack_model.specs.Settling.{is_taken, choice, chosen, adopted, settled};
+ghost use Rattle.alto_words.specs.Names.{suffixed};
+ghost use Rattle.pack_model.specs.Settling.{is_taken, chosen, adopted, settled};
 ghost use Rattle.pack_model.specs.View.{Home};
 ghost use Rattle.pack_reading.specs.Homes.{StandsFor, naming_at};
+ghost use Rattle.pack_reading.specs.Passed.{AreTaken, IsPassed};
 ghost use Rattle.pack_reading.specs.Shows.{seen_file, shown_name};
 
 use crate::files::SYS_DIR;
 use crate::names::{Entry, Names, Place};
+use crate::passed::Passed;
 use crate::scan::is_system_name;
 use crate::shown::{ShownFile, ShownName};
 use alto_words::{List, Memory, Name};
@@ -28,37 +31,46 @@ fn is_taken(names: &Names, name: Name) -> bool
         })
 }
 
-/// The name itself, and then its suffixes 1, 2 and so on.
-fn choice(name: Name, k: u32) -> Name
-    requires { k ≤ 65535 }
-    ensures { result ≡ choice name k }
+/// The first suffix of a name that isn't taken, where the name itself is.
+fn free_suffix(names: &Names, passed: &Passed, name: Name) -> u32
+    ensures least { 1 ≤ result }
+    ensures most { result ≤ 65535 }
+    ensures chosen { (homes : FinMap fid_cmp Home) → StandsFor names.now homes → IsPassed homes passed.now → is_taken homes name ≡ true → suffixed name result ≡ chosen homes name }
+    ensures taken { (homes : FinMap fid_cmp Home) → StandsFor names.now homes → IsPassed homes passed.now → AreTaken homes name (result - 1) }
 {
-    if k == 0 { name } else { name.suffixed(k) }
-}
-
-/// The first choice that isn't taken.
-fn choose(names: &Names, name: Name) -> Name
-    ensures { (homes : FinMap fid_cmp Home) → StandsFor names.now homes → result ≡ chosen homes name }
-{
-    for k in 0..MOST_SUFFIXES {
-        let candidate = choice(name, k);
-        if !is_taken(names, candidate) {
-            return candidate;
+    for k in passed.count(name)..MOST_SUFFIXES - 1 {
+        if !is_taken(names, name.suffixed(k + 1)) {
+            return k + 1;
         }
     }
-    choice(name, MOST_SUFFIXES)
+    MOST_SUFFIXES
+}
+
+/// The name itself, or where it is taken its first suffix that isn't. The suffixes before that aren't asked for again.
+fn choose(names: &Names, passed: &mut Passed, name: Name) -> Result<Name, Memory>
+    ensures chosen { (homes : FinMap fid_cmp Home) → StandsFor names.now homes → IsPassed homes passed.old → IfOk result (λ given. given ≡ chosen homes name) }
+    ensures passed { (homes : FinMap fid_cmp Home) → StandsFor names.now homes → IsPassed homes passed.old → OnOk result (IsPassed homes passed.new) }
+{
+    if !is_taken(names, name) {
+        return Ok(name);
+    }
+    let k = free_suffix(names, passed, name);
+    passed.keep(name, k - 1)?;
+    Ok(name.suffixed(k))
 }
 
 /// Gives a file a name in SysDir where it has none.
-fn adopt(names: &mut Names, file: &ShownFile) -> Result<(), Memory>
-    ensures { (homes : FinMap fid_cmp Home) → StandsFor names.old homes → OnOk result (StandsFor names.new (adopted homes (seen_file file.now))) }
+fn adopt(names: &mut Names, passed: &mut Passed, file: &ShownFile) -> Result<(), Memory>
+    ensures names { (homes : FinMap fid_cmp Home) → StandsFor names.old homes → IsPassed homes passed.old → OnOk result (StandsFor names.new (adopted homes (seen_file file.now))) }
+    ensures passed { (homes : FinMap fid_cmp Home) → StandsFor names.old homes → IsPassed homes passed.old → OnOk result (IsPassed (adopted homes (seen_file file.now)) passed.new) }
 {
     if names.has(file.fid) {
         return Ok(());
     }
+    let name = choose(names, passed, file.leader.name)?;
     let place = Place {
         directory: SYS_DIR,
-        name: choose(names, file.leader.name),
+        name,
     };
     names.add(Entry {
         place,
@@ -67,11 +79,12 @@ fn adopt(names: &mut Names, file: &ShownFile) -> Result<(), Memory>
 }
 
 /// Gives each file that has no name one, in order.
-pub(crate) fn settle(names: &mut Names, files: &[ShownFile]) -> Result<(), Memory>
+pub(crate) fn settle(alloc: Global, names: &mut Names, files: &[ShownFile]) -> Result<(), Memory>
     ensures { (homes : FinMap fid_cmp Home) → StandsFor names.old homes → OnOk result (StandsFor names.new (settled homes (map seen_file files.now))) }
 {
+    let mut passed = Passed::new(alloc);
     for file in files {
-        adopt(names, file)?;
+        adopt(names, &mut passed, file)?;
     }
     Ok(())
 }

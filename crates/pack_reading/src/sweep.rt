@@ -28,7 +28,8 @@ fn sweep_sector<D: Disk>(
     ensures runs { IsTrue D.told → (D.tape disk.new).runs ≤ (D.tape disk.old).runs + 1 }
     ensures kept { IsTrue D.told → OnOk result (KeepsSight (sight (D.tape disk.old).form at (sector_at (pack (D.tape disk.old)) at)) swept.old swept.new) }
 {
-    if look(disk, at, buf)? {
+    let right = look(disk, at, buf)?;
+    if right {
         keep_sector(alloc, swept, buf)?;
     }
     Ok(())

@@ -5,13 +5,13 @@ ghost use Rattle.std.specs.Option.{option_or};
 ghost use Rattle.alto_words.specs.declared.fid.Fid.{Fid};
 ghost use Rattle.alto_words.specs.Fid.{is_fid};
 ghost use Rattle.disk_records.specs.Labels.{tag};
-ghost use Rattle.disk_records.specs.Words.{word, double};
+ghost use Rattle.disk_records.specs.Words.{word};
 ghost use Rattle.pack_model.specs.Bytes.{bytes_of};
-ghost use Rattle.pack_model.specs.Leaders.{leader_of, leader_words, is_readable};
+ghost use Rattle.pack_model.specs.Leaders.{leader_of};
 ghost use Rattle.pack_model.specs.Sights.{page_sight, tag_sight};
 ghost use Rattle.pack_reading.specs.Kept.{plain_leader, leader_kept, lives_kept, page_kept, KeepsSight};
 
-use alto_words::{Fid, List, Memory, Name};
+use alto_words::{Fid, List, Memory};
 use byteorder::{BigEndian, ByteOrder};
 use disk_records::{Page, Sector, page_of};
 use leader_page::Leader;
@@ -20,11 +20,6 @@ use std::collections::BTreeMap;
 
 /// A page has so many bytes.
 pub(crate) const PAGE_BYTES: usize = 512;
-
-/// The words of a leader page that aren't hints; those from 26 on are kept as they are.
-const REST: usize = 26;
-
-const HINTS: usize = 246;
 
 /// The leaders of files.
 #[derive(Drop)]
@@ -110,40 +105,13 @@ fn counted_bytes(alloc: Global, value: &[u16; 256], count: u16) -> Result<List<u
     Ok(List::from_vec(Vec::from_slice(alloc, &bytes[..count as usize])?))
 }
 
-/// The number of two words of a leader page, the high one first.
-fn double(value: &[u16; 256], at: usize) -> u32
-    requires { at < 200 }
-    ensures { result ≡ double (take 246 value.now) at }
-{
-    value[at] as u32 * 0x1_0000 + value[at + 1] as u32
-}
-
-/// What the leader page of a file says whose name can't be read.
-fn lost_leader(fid: Fid, value: &[u16; 256]) -> Leader
-    ensures { is_readable (leader_words value.now) ≡ false → result ≡ plain_leader (leader_of fid value.now) }
-{
-    let mut rest = [0; 220];
-    rest.copy_from_slice(&value[REST..HINTS]);
-    Leader {
-        created: double(value, 0),
-        written: double(value, 2),
-        read: double(value, 4),
-        name: Name::lost(fid.serial()),
-        rest,
-        hints: [0; 10],
-    }
-}
-
 /// What the leader page of a file says, its hints left out.
 fn leader_in(fid: Fid, value: &[u16; 256]) -> Leader
     ensures { result ≡ plain_leader (leader_of fid value.now) }
 {
-    match Leader::decode(value) {
-        Some(leader) => Leader {
-            hints: [0; 10],
-            ..leader
-        },
-        None => lost_leader(fid, value),
+    Leader {
+        hints: [0; 10],
+        ..Leader::of_file(fid, value)
     }
 }
 

@@ -2,7 +2,7 @@ use Rattle.std.proofs.Common.{sym, ap, ◌∙◌, subst}
 use Rattle.std.specs.Iterator.Adapters.{rev_source}
 use Rattle.std.specs.Slice.Iter.{iter_rest}
 use Rattle.alto_top.proofs.Rows.{Listing, listing_none, listing_more}
-use Rattle.pack_reading.proofs.Homes.{when_ok}
+use Rattle.pack_laws.proofs.Inserting.{when_ok}
 use Rattle.alto_top.proofs.listing.lines_of.Goals as goal
 
 pub loop-named-init : goal.loop-named-init

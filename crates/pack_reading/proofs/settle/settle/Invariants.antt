@@ -4,8 +4,12 @@ use Rattle.alto_words.specs.Fid.{fid_cmp}
 use Rattle.pack_model.specs.View.{Home}
 use Rattle.pack_model.specs.Settling.{settled}
 use Rattle.pack_reading.specs.Homes.{StandsFor}
+use Rattle.pack_reading.specs.Passed.{IsPassed}
 use Rattle.pack_reading.specs.Shows.{seen_file}
 use Rattle.pack_reading.proofs.settle.settle.Given as goal
 
 abbrev pub invariant-loop-file : goal.invariant-loop-file
-invariant-loop-file l = (homes : FinMap fid_cmp Home) → StandsFor l.fn.names homes → StandsFor l.names (settled homes (map seen_file (take l.file-index l.files)))
+invariant-loop-file l = record {
+  names : (homes : FinMap fid_cmp Home) → StandsFor l.fn.names homes → StandsFor l.names (settled homes (map seen_file (take l.file-index l.files)));
+  passed : (homes : FinMap fid_cmp Home) → StandsFor l.fn.names homes → IsPassed (settled homes (map seen_file (take l.file-index l.files))) l.passed;
+}

@@ -1,8 +1,9 @@
 use Rattle.std.proofs.Common.{sym, ap, ◌∙◌, cond, true}
 use Rattle.std.specs.Ordering.{is_eq}
 use Rattle.std.specs.BTreeSet.{contains}
+use Rattle.pack_laws.proofs.Inserting.{when_ok}
 use Rattle.pack_reading.specs.Homes.{place_cmp}
-use Rattle.pack_reading.proofs.Homes.{when_ok, entry_order, entry_stands}
+use Rattle.pack_reading.proofs.Homes.{entry_order, entry_stands}
 use Rattle.pack_reading.proofs.names.Names.add.Goals as goal
 
 pub returns : goal.returns
