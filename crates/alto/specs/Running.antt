@@ -1,7 +1,13 @@
--- What stops a run that has no session.
-use Rattle.std.specs.Prelude.{ℕ, Option, Some, None}
+-- What stops a run that has no session, and how a run ends.
+use Rattle.std.specs.Prelude.{◌≡◌, ◌⊎◌, ℕ, List, drop, true, false, Option, Some, None, IfSome, Result, Ok, Err}
+use Rattle.alto_top.specs.declared.status.Status.{Status}
+use Rattle.alto_top.specs.declared.status.Status.TheVariants as status
+use Rattle.alto_top.specs.Top.{AsksBoot, AsksShow, AsksNothing, AnswersOther}
+use Rattle.alto_top.specs.Showing.{AnswersShow}
 use Rattle.disk_image.specs.declared.error.ReachError.{ReachError}
 use Rattle.disk_image.specs.Machines.{IsReaching, IsMaking}
+use Rattle.disk_image.specs.Starts.{start_of}
+use Rattle.alto.specs.Asking.{asks_help}
 use Rattle.alto.specs.declared.end.Stop.{Stop}
 use Rattle.alto.specs.declared.end.Stop.TheVariants as stop
 
@@ -23,3 +29,25 @@ IsHelpStop stop.Words = ⊥
 IsHelpStop (stop.Pack error) = ⊥
 IsHelpStop stop.Display = Unit {0}
 IsHelpStop stop.Memory = Unit {0}
+
+-- how the help ends
+abbrev pub IsHelpEnd : Result Status Stop → Type 0
+IsHelpEnd (Ok answer) = answer ≡ status.Done
+IsHelpEnd (Err stop) = IsHelpStop stop
+
+-- what the words behind PACK let a session answer, on every machine
+pub record AnswersTo (words : List (List ℕ)) (answer : Status) : Type 0 where
+  pub usage : answer ≡ status.Usage → AsksNothing words
+  pub done : answer ≡ status.Done → AsksBoot words ⊎ AsksShow words
+  pub show : AsksShow words → AnswersShow answer
+  pub other : AsksNothing words → AnswersOther answer
+
+-- how a command line with these words behind PACK ends
+abbrev pub IsCallEnd : Option ℕ → List (List ℕ) → Result Status Stop → Type 0
+IsCallEnd cylinders words (Ok answer) = AnswersTo words answer
+IsCallEnd cylinders words (Err stop) = IsCallStop cylinders stop
+
+-- how a run ends whose words ask for the help, and one whose words are a command line
+pub record IsEnd (words : List (List ℕ)) (end : Result Status Stop) : Type 0 where
+  pub help : asks_help words ≡ true → IsHelpEnd end
+  pub call : asks_help words ≡ false → IfSome (start_of words) (λ start. IsCallEnd start.cylinders (drop start.rest words) end)

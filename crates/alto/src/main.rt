@@ -1,9 +1,9 @@
-//! The program `alto`: boots a pack file and obeys what is typed.
+//! The program `alto`: boots a pack file and obeys what is typed, or lists what the pack shows.
 //!
-//! Below it stand alto_top, whose contract says what a session shows and leaves, and disk_image, whose machine is over a pack file,
-//! standard input and standard output. Here are the program's edges: what its words ask for (`IsAsked`), the machine that they
-//! name (`machine_of`), the clock, read once (`moment_of`), the text of `--help`, and the exit code with what is said on standard
-//! error (`end_code`, `end_complaint`).
+//! Below it stand alto_top, whose contract says what a session shows and leaves and what is listed, and disk_image, whose machine is
+//! over a pack file, standard input and standard output. Here are the program's edges: what its words ask for (`IsAsked`), the
+//! machine that they name (`machine_of`), the clock, read once (`run_call`, `moment_of`), how a run ends (`IsEnd`), the text of
+//! `--help`, and the exit code with what is said on standard error (`end_code`, `end_complaint`).
 #![tactic(auto)]
 
 mod asked;
@@ -11,6 +11,7 @@ mod clock;
 mod end;
 mod help;
 mod run;
+mod session;
 #[cfg(test)]
 mod tests;
 

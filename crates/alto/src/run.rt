@@ -1,21 +1,21 @@
-// One run of the program, over any runtime.
-ghost use Rattle.std.specs.Prelude.{◌≡◌, ◌⊎◌, ◌↔◌, map, string_bytes, IfOk, IfErr, IfSome, IsErrOf};
+// One run of the program, over any runtime, clock and session.
+ghost use Rattle.std.specs.Prelude.{◌≡◌, ◌↔◌, map, string_bytes, IfOk, IfErr, IfSome, IsErrOf};
 ghost use Rattle.disk_records.specs.Addresses.{cylinders_of};
 ghost use Rattle.disk_image.specs.Machines.{IsUntouched};
-ghost use Rattle.alto_top.specs.Top.{AsksBoot, AsksShow, AsksNothing};
 ghost use Rattle.alto.specs.Asking.{IsFaulty, HasRange};
-ghost use Rattle.alto.specs.Running.{IsRefusal, IsCallStop, IsHelpStop};
+ghost use Rattle.alto.specs.Running.{IsRefusal, IsHelpStop, IsCallEnd, IsEnd};
 
 use crate::asked::{Asked, Call, asked_of, words_behind_name};
 use crate::clock::read_moment;
 use crate::end::Stop;
 use crate::help::help_text;
-use alto_top::{Status, alto};
+use crate::session::{Alto, Session};
+use alto_top::Status;
 use disk_image::{FileMachine, ReachError};
 use disk_records::Tape;
 use std::env;
-use std::io::ErrorKind;
-use std::rt::{Env, Runtime};
+use std::io::{ErrorKind, Input};
+use std::rt::{Clock, Env, Files, Runtime};
 
 /// The program's name and the words that it was started with. One that isn't UTF-8 makes no command line.
 fn read_args<R: Env + AllocGlobal>(rt: &R) -> Result<Vec<String>, Stop> {
@@ -43,7 +43,7 @@ fn print_help<R: Print + AllocGlobal>(rt: &R) -> Result<Status, Stop>
 
 /// The machine that a command line asks for: over a new pack file where it names a number of cylinders, and else over the one
 /// that is there.
-fn machine_of<'a, R: Runtime + AllocGlobal>(
+fn machine_of<'a, R: Files + Input + Print + AllocGlobal>(
     rt: &'a R,
     call: Call<'_>,
 ) -> Result<FileMachine<'a, R>, ReachError>
@@ -58,24 +58,34 @@ fn machine_of<'a, R: Runtime + AllocGlobal>(
     }
 }
 
-/// Does on its machine what a command line asks for. The clock is read once.
-fn run_call<R: Runtime + AllocGlobal>(rt: &R, call: Call<'_>) -> Result<Status, Stop>
+/// Does on its machine what a command line asks for, at the moment of the one reading of the clock. Nothing else here can read a
+/// clock, so a run reads it once at most.
+fn run_call<R: Files + Input + Print + AllocGlobal, C: Clock, S: Session>(
+    rt: &R,
+    clock: &C,
+    session: &S,
+    call: Call<'_>,
+) -> Result<Status, Stop>
     requires range { HasRange call }
-    ensures usage { IfOk result (λ status. status ≡ Status.Usage → AsksNothing (map string_bytes call.entry.words.now)) }
-    ensures done { IfOk result (λ status. status ≡ Status.Done → AsksBoot (map string_bytes call.entry.words.now) ⊎ AsksShow (map string_bytes call.entry.words.now)) }
-    ensures err { IfErr result (IsCallStop call.entry.cylinders) }
+    ensures end { IsCallEnd call.entry.cylinders (map string_bytes call.entry.words.now) result }
 {
     let mut machine = machine_of(rt, call)?;
-    Ok(alto(rt.alloc(), call.words, read_moment(rt), &mut machine))
+    Ok(session.obey(rt.alloc(), call.words, read_moment(clock), &mut machine))
 }
 
 /// Does what the words behind the program's name ask for.
-fn run_words<R: Runtime + AllocGlobal>(rt: &R, words: &[String]) -> Result<Status, Stop>
+pub fn run_words<R: Files + Input + Print + AllocGlobal, C: Clock, S: Session>(
+    rt: &R,
+    clock: &C,
+    session: &S,
+    words: &[String],
+) -> Result<Status, Stop>
     ensures faulty { IsErrOf result Stop.Words ↔ IsFaulty (map string_bytes words.now) }
+    ensures end { IsEnd (map string_bytes words.now) result }
 {
     match asked_of(words) {
         Asked::Help => print_help(rt),
-        Asked::Machine(call) => run_call(rt, call),
+        Asked::Machine(call) => run_call(rt, clock, session, call),
         Asked::Nothing => Err(Stop::Words),
     }
 }
@@ -83,5 +93,5 @@ fn run_words<R: Runtime + AllocGlobal>(rt: &R, words: &[String]) -> Result<Statu
 /// Does what the words that the program was started with ask for.
 pub fn run<R: Runtime + AllocGlobal>(rt: &R) -> Result<Status, Stop> {
     let args = read_args(rt)?;
-    run_words(rt, words_behind_name(&args))
+    run_words(rt, rt, &Alto, words_behind_name(&args))
 }

@@ -1,13 +1,19 @@
-// What no clause says: texts, and the moments of worked times.
+// What no clause says: texts, the moments of worked times, and of what reading of the clock the moment of a session is.
 use crate::clock::moment_of;
 use crate::end::{Complaint, Stop, exit_code, exit_complaint};
 use crate::help::help_text;
+use crate::run::run_words;
+use crate::session::Session;
 use alto_top::Status;
 use disk_image::ReachError;
-use std::io;
+use disk_records::Machine;
+use std::alloc::{AllocError, Global};
+use std::cell::Cell;
 use std::io::ErrorKind;
+use std::rt::Clock;
 use std::test::Fail;
 use std::time::{Duration, UNIX_EPOCH};
+use std::{fs, io};
 
 const HELP: &str = "The operating system of the Xerox Alto, over a disk pack file
 
@@ -74,5 +80,87 @@ fn moments(rt: HostRuntime) -> Result<(), Fail> {
         }
     }
     assert_eq!(rt; moment_of(Err(io::Error::from(ErrorKind::Unsupported))), 0);
+    Ok(())
+}
+
+/// A clock that is an hour later at each reading, the first one at the start of 1970.
+#[derive(Drop)]
+struct Ticking {
+    readings: Cell<u64>,
+}
+
+impl Clock for Ticking {
+    fn monotonic(&self) -> io::Result<Duration> {
+        Err(io::Error::from(ErrorKind::Unsupported))
+    }
+
+    fn since_1970(&self) -> io::Result<Duration> {
+        let reading = self.readings.get();
+        self.readings.set(reading.saturating_add(1));
+        Ok(Duration::from_secs(reading.saturating_mul(3_600)))
+    }
+}
+
+/// A session that does nothing and notes its calls, with the last moment. Want of memory is what every session may answer.
+#[derive(Drop)]
+struct Noting {
+    calls: Cell<u64>,
+    moment: Cell<u32>,
+}
+
+impl Session for Noting {
+    fn obey<M: Machine>(&self, _: Global, _: &[String], moment: u32, _: &mut M) -> Status {
+        self.calls.set(self.calls.get().saturating_add(1));
+        self.moment.set(moment);
+        Status::Memory
+    }
+}
+
+/// The words of a line, which are parted by single spaces.
+fn words_of(alloc: Global, line: &str) -> Result<Vec<String>, AllocError> {
+    let mut words = Vec::new(alloc);
+    for word in line.split(' ') {
+        words.push(word.to_string(alloc)?)?;
+    }
+    Ok(words)
+}
+
+#[test]
+fn moment_of_a_session(rt: HostRuntime) -> Result<(), Fail> {
+    let clock = Ticking {
+        readings: Cell::new(0),
+    };
+    let session = Noting {
+        calls: Cell::new(0),
+        moment: Cell::new(0),
+    };
+    // each line that has a machine reads the clock once, and the moment of its session is that of its reading
+    let rows = [
+        (
+            "--cylinders 2 clocked boot",
+            Ok(Status::Memory),
+            1,
+            2_177_452_800,
+        ),
+        ("clocked boot", Ok(Status::Memory), 2, 2_177_456_400),
+        ("clocked show", Ok(Status::Memory), 3, 2_177_460_000),
+        ("clocked", Ok(Status::Memory), 4, 2_177_463_600),
+        (
+            "missing boot",
+            Err(Stop::Pack(ReachError::NoFile)),
+            4,
+            2_177_463_600,
+        ),
+        ("--cylinders 2", Err(Stop::Words), 4, 2_177_463_600),
+        ("--help", Ok(Status::Done), 4, 2_177_463_600),
+    ];
+    for (line, end, calls, moment) in rows {
+        let words = words_of(rt.alloc(), line)?;
+        assert!(rt; run_words(&rt, &clock, &session, &words) == end, "{line}");
+        assert_eq!(rt; clock.readings.get(), calls, "{line}");
+        assert_eq!(rt; session.calls.get(), calls, "{line}");
+        assert_eq!(rt; session.moment.get(), moment, "{line}");
+    }
+    fs::remove_file(&rt, "clocked")?;
     Ok(())
 }

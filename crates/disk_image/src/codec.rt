@@ -3,7 +3,7 @@
 //   bytes 4 to 19: the label, 8 words
 //   bytes 20 to 531: the value, 256 words
 // and of a word the high byte comes first.
-ghost use Rattle.std.specs.Prelude.{◌≡◌, ℕ, ◌*◌, ◌<◌, length, All, IfSome, IfNone, IfOk, IfErr, OnOk};
+ghost use Rattle.std.specs.Prelude.{◌≡◌, ℕ, ◌*◌, ◌<◌, ◌≤◌, [], length, All, IfSome, IfNone, IfOk, IfErr, OnOk, vec_capacity};
 ghost use Rattle.disk_records.specs.Words.{word};
 ghost use Rattle.disk_records.specs.Addresses.{pages_of};
 ghost use Rattle.disk_image.specs.Images.{words_bytes, sector_bytes, pack_bytes, IsImage, IsWhole, IsPackLength, IsErrorAt};
@@ -11,7 +11,7 @@ ghost use Rattle.disk_image.specs.Images.{words_bytes, sector_bytes, pack_bytes,
 use alto_words::Memory;
 use byteorder::{BigEndian, ByteOrder};
 use disk_records::{Sector, Shape};
-use std::alloc::{AllocError, Global};
+use std::alloc::Global;
 
 /// The bytes of one sector.
 pub(crate) const SECTOR_BYTES: usize = 532;
@@ -90,19 +90,20 @@ fn write_sector(sector: &Sector, bytes: &mut [u8])
     write_words(&sector.value, value);
 }
 
-/// The sectors of `count` times 532 bytes, in one allocation.
-fn read_sectors(alloc: Global, bytes: &[u8], count: usize) -> Result<Vec<Sector>, AllocError>
-    requires { length bytes.now ≡ count * 532 }
-    ensures count { IfOk result (λ sectors. length sectors.items ≡ count) }
-    ensures whole { IfOk result (λ sectors. All IsWhole sectors.items) }
-    ensures bytes { IfOk result (λ sectors. bytes.now ≡ pack_bytes sectors.items) }
+/// Reads the sectors of `count` times 532 bytes into an empty list that has room for them. No memory is taken.
+fn read_sectors(bytes: &[u8], count: usize, sectors: &mut Vec<Sector>)
+    requires length { length bytes.now ≡ count * 532 }
+    requires empty { sectors.old.items ≡ [] }
+    requires room { count ≤ vec_capacity sectors.old }
+    ensures count { length sectors.new.items ≡ count }
+    ensures whole { All IsWhole sectors.new.items }
+    ensures bytes { bytes.now ≡ pack_bytes sectors.new.items }
+    ensures same_room { vec_capacity sectors.new ≡ vec_capacity sectors.old }
 {
-    let mut sectors = Vec::with_capacity(alloc, count)?;
     for at in 0..count {
         let from = at * SECTOR_BYTES;
-        sectors.push(read_sector(&bytes[from..from + SECTOR_BYTES]))?;
+        sectors.push_reserved(read_sector(&bytes[from..from + SECTOR_BYTES]));
     }
-    Ok(sectors)
 }
 
 /// The pack of a file: its shape, and its sectors in the order of their virtual addresses.
@@ -111,6 +112,7 @@ fn read_sectors(alloc: Global, bytes: &[u8], count: usize) -> Result<Vec<Sector>
 /// for the sectors, which are one allocation.
 pub fn decode_pack(alloc: Global, bytes: &[u8]) -> Result<(Shape, Vec<Sector>), ImageError>
     ensures ok { IfOk result (λ pack. IsImage pack.0 pack.1.items bytes.now) }
+    ensures room { IfOk result (λ pack. vec_capacity pack.1 ≡ pages_of pack.0) }
     ensures err { IfErr result (IsErrorAt (length bytes.now)) }
 {
     let Some(shape) = shape_of_length(bytes.len() as u64) else {
@@ -118,13 +120,17 @@ pub fn decode_pack(alloc: Global, bytes: &[u8]) -> Result<(Shape, Vec<Sector>), 
             bytes: bytes.len() as u64,
         });
     };
-    match read_sectors(alloc, bytes, shape.pages() as usize) {
-        Ok(sectors) => Ok((shape, sectors)),
-        Err(AllocError) => Err(ImageError::Memory),
-    }
+    let count = shape.pages() as usize;
+    let Ok(mut sectors) = Vec::with_capacity(alloc, count) else {
+        return Err(ImageError::Memory);
+    };
+    read_sectors(bytes, count, &mut sectors);
+    Ok((shape, sectors))
 }
 
 /// The file of a pack: the bytes of each sector in order, in one allocation. There are as many sectors as the shape has.
+///
+/// Memory: none was left for the bytes.
 pub fn encode_pack(alloc: Global, shape: Shape, sectors: &[Sector]) -> Result<Vec<u8>, Memory>
     requires { length sectors.now ≡ pages_of shape }
     ensures { IfOk result (λ bytes. IsImage shape sectors.now bytes.items) }
@@ -133,7 +139,9 @@ pub fn encode_pack(alloc: Global, shape: Shape, sectors: &[Sector]) -> Result<Ve
     let mut one = [0; SECTOR_BYTES];
     for sector in sectors {
         write_sector(sector, &mut one);
-        bytes.extend_from_slice(&one)?;
+        let Ok(()) = bytes.extend_from_slice(&one) else {
+            unreachable!();
+        };
     }
     Ok(bytes)
 }

@@ -4,7 +4,8 @@ use thiserror::Error;
 /// Why no machine was made over a pack file. Its text is what a program tells of it.
 #[derive(Clone, Copy, Debug, PartialEq, Eq, Error)]
 pub enum ReachError {
-    /// The file can't be opened for reading and writing, or a new one can't be made or is there already.
+    /// The file can't be opened for reading and writing, or a new one can't be made or is there already, or `/dev/null` can't be
+    /// opened.
     #[error("no pack")]
     NoFile,
     /// The file has this many bytes, which are not those of 2 to 203 cylinders of 12,768 bytes.

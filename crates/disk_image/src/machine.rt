@@ -147,7 +147,8 @@ impl<'a, R: Files + Input + Print> FileMachine<'a, R> {
 
     /// A machine over the pack file at this path, which is opened for reading and writing. The file isn't read yet.
     ///
-    /// NoFile: the file can't be opened. BadLength: its length isn't a pack's. Memory: none was left for the buffer of the keys.
+    /// NoFile: the file or `/dev/null` can't be opened, or the file's length can't be asked. BadLength: its length isn't a pack's.
+    /// Memory: none was left for the buffer of the keys.
     pub fn reach(rt: &'a R, alloc: Global, path: &str) -> Result<FileMachine<'a, R>, ReachError>
         ensures untouched { IfOk result (λ machine. IsUntouched (⟦<FileMachine<'a, R> as Tape>⟧.tape machine)) }
         ensures err { IfErr result IsReaching }
@@ -172,8 +173,9 @@ impl<'a, R: Files + Input + Print> FileMachine<'a, R> {
 
     /// A machine over a new pack file of zeros at this path. The number of cylinders is 2 to 203.
     ///
-    /// NoFile: the file is there already, or can't be made, or can't be filled; one that can't be filled is removed again. Memory:
-    /// none was left for the buffer of the keys, and no file was made.
+    /// NoFile: the file is there already, or it can't be made or filled, or `/dev/null` can't be opened. A file that can't be filled
+    /// is removed again; where that fails too, nothing tells of it and a shorter file stays. Memory: none was left for the buffer of
+    /// the keys, and no file was made.
     pub fn create(
         rt: &'a R,
         alloc: Global,
@@ -248,10 +250,11 @@ impl<'a, R: Files + Input + Print> FileMachine<'a, R> {
 }
 
 /// Opens a file away from the standard streams. Where a program was started with one of these closed, the next file that it opens
-/// takes that place, and what is shown would be written over the pack: so other files are open in such places meanwhile.
+/// takes that place, and what is shown would be written over the pack: so other files are open in such places meanwhile. Where one
+/// of those can't be opened, the file isn't opened either.
 fn open_apart<R: Files>(rt: &R, options: &OpenOptions, path: &str) -> io::Result<R::File> {
-    let _input = fs::open(rt, "/dev/null");
-    let _output = fs::open(rt, "/dev/null");
-    let _errors = fs::open(rt, "/dev/null");
+    let _input = fs::open(rt, "/dev/null")?;
+    let _output = fs::open(rt, "/dev/null")?;
+    let _errors = fs::open(rt, "/dev/null")?;
     options.open(rt, path)
 }

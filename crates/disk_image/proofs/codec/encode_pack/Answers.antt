@@ -5,6 +5,8 @@ use Rattle.disk_image.proofs.codec.encode_pack.Goals as goal
 pub loop-sector-preserved : goal.loop-sector-preserved
 loop-sector-preserved c = record {
   one = search rules;
+  count = search rules;
+  room = search rules;
   whole = whole-taken c.args.sectors.now c.loop-sector.sector-index _ c.loop-sector-test.true c.loop-sector.invariant.whole c.write_sector.ensures.whole;
-  so_far = rw (c.in_ok-extend_from_slice.ensures.items, c.write_sector.ensures.bytes) (pack_bytes-written c.args.sectors.now c.loop-sector.sector-index _ c.loop-sector.bytes.items c.loop-sector-test.true c.loop-sector.invariant.so_far);
+  so_far = rw (c.in-Ok.ensures.items, c.write_sector.ensures.bytes) (pack_bytes-written c.args.sectors.now c.loop-sector.sector-index _ c.loop-sector.bytes.items c.loop-sector-test.true c.loop-sector.invariant.so_far);
 }
