@@ -8,6 +8,10 @@ wanted stands in docs/commands.md, and was never taken from a run.
 """
 import os
 import pathlib
+import re
+import resource
+import shutil
+import signal
 import subprocess
 import sys
 import tempfile
@@ -18,9 +22,15 @@ import packs
 SECONDS = 10
 DONE, USAGE, DISK_FAILED, KEYS_FAILED, DISPLAY_FAILED, NO_SESSION = 0, 1, 3, 4, 5, 8
 SMALL = 25_536
+# a user whom permissions bind
+NOBODY = 65_534
 HELP_STARTS = b"The operating system of the Xerox Alto"
+HELP_ENDS = b"Prints this help, where it is the only word\n"
 PATCHES = b"patch #3 1 4242\npatch #3 4 4242\n"
 REPLIES = b"done\nbeyond length 5\n"
+# of the pack with the file `ABCDE`, which no directory names, and of a new pack
+LISTING = b"SysDir>Lost3. length 5\n1 files\n"
+NO_FILES = b"0 files\n"
 
 failures = []
 
@@ -32,10 +42,11 @@ def abcde(letters=b"ABCDE"):
 class Run:
     """One run of the program in a folder of its own, in which some files stand."""
 
-    def __init__(self, program, words, files=None, typed=b"", redirect=""):
+    def __init__(self, program, words, files=None, typed=b"", redirect="", before=None):
         self.name = f"{words} {redirect}"
         with tempfile.TemporaryDirectory() as folder:
             folder = pathlib.Path(folder)
+            folder.chmod(0o755)
             for name, content in (files or {}).items():
                 if callable(content):
                     content(folder / name)
@@ -43,7 +54,7 @@ class Run:
                     (folder / name).write_bytes(content)
             command = ["sh", "-c", f'exec "$@" {redirect}', "sh", program, *words]
             try:
-                ended = subprocess.run(command, cwd=folder, input=typed, capture_output=True, timeout=SECONDS)
+                ended = subprocess.run(command, cwd=folder, input=typed, capture_output=True, timeout=SECONDS, preexec_fn=before)
             except subprocess.TimeoutExpired:
                 self.code, self.out, self.err, self.left = "no end", b"", b"", {}
                 return
@@ -92,8 +103,8 @@ def check_words(program):
 
 def check_help(program):
     run = Run(program, ["--help"])
-    if not run.out.startswith(HELP_STARTS) or b"--cylinders" not in run.out:
-        failures.append(f"{run.name}: the help isn't shown")
+    if not run.out.startswith(HELP_STARTS) or run.out.count(HELP_STARTS) != 1 or not run.out.endswith(HELP_ENDS):
+        failures.append(f"{run.name}: the help isn't shown once and whole")
     run.gives(DONE, run.out)
     for redirect in [">&-", ">/dev/full"]:
         Run(program, ["--help"], redirect=redirect).gives(DISPLAY_FAILED)
@@ -134,6 +145,123 @@ def check_sessions(program):
     Run(program, ["--cylinders", "2", "new", "boot"], typed=PATCHES, redirect=">&-").gives(DISPLAY_FAILED, left=made)
 
 
+def check_show(program):
+    pack, made = abcde(), bytes(SMALL)
+    show = ["pack", "show"]
+    # what is typed isn't obeyed, and the pack file stays as it was
+    Run(program, show, {"pack": pack}, PATCHES).gives(DONE, LISTING, left={"pack": pack})
+    Run(program, ["--cylinders", "2", "new", "show"], typed=PATCHES).gives(DONE, NO_FILES, left={"new": made})
+    Run(program, show, {"pack": made}).gives(DONE, NO_FILES, left={"pack": made})
+    patched = abcde(b"A" * packs.PAGE + b"B")
+    Run(program, show, {"pack": patched}).gives(DONE, b"SysDir>Lost3. length 513\n1 files\n", left={"pack": patched})
+    for words in [["pack", "show", "extra"], ["pack", "Show"], ["pack", "show", "show"], ["pack", "boot", "show"]]:
+        Run(program, words, {"pack": pack}, PATCHES).gives(USAGE, b"usage\n", left={"pack": pack})
+    # a closed keyboard is never asked; a display that fails ends it, and nothing is said of that
+    for redirect in ["<&-", "</", "2>&-", "<&- 2>&-"]:
+        Run(program, show, {"pack": pack}, redirect=redirect).gives(DONE, LISTING, left={"pack": pack})
+    for redirect in [">&-", ">/dev/full", ">/dev/full 2>&-", "<&- >&- 2>&-"]:
+        Run(program, show, {"pack": pack}, redirect=redirect).gives(DISPLAY_FAILED, left={"pack": pack})
+        Run(program, ["pack", "show", "extra"], {"pack": pack}, redirect=redirect).gives(DISPLAY_FAILED, left={"pack": pack})
+    Run(program, ["--cylinders", "2", "new", "show"], redirect=">&-").gives(DISPLAY_FAILED, left={"new": made})
+    # no session
+    for length in [0, 532, 25_535, 25_537, 12_768]:
+        file = bytes(length)
+        Run(program, show, {"pack": file}).gives(NO_SESSION, err=b"bad length %d\n" % length, left={"pack": file})
+    for words in [[".", "show"], ["missing", "show"], ["", "show"], ["--cylinders", "2", "missing/new", "show"]]:
+        Run(program, words).gives(NO_SESSION, err=b"no pack\n")
+    Run(program, ["--cylinders", "2", "pack", "show"], {"pack": pack}).gives(NO_SESSION, err=b"no pack\n", left={"pack": pack})
+
+
+def may(act):
+    """Whether a process may do this here."""
+    try:
+        return subprocess.run(["true"], preexec_fn=act).returncode == 0
+    except subprocess.SubprocessError:
+        return False
+
+
+def with_mode(mode, content):
+    """A file with this content and these permissions."""
+
+    def make(path):
+        path.write_bytes(content)
+        path.chmod(mode)
+
+    return make
+
+
+def check_file_for_reading(program):
+    """A pack file that may only be read. No permission binds root, so another user runs a copy of the program there."""
+    before = (lambda: os.setuid(NOBODY)) if os.geteuid() == 0 else None
+    if not may(before):
+        print("edges: left out, for no other user can be taken: a pack file that may only be read")
+        return
+    pack = abcde()
+    with tempfile.TemporaryDirectory() as folder:
+        os.chmod(folder, 0o755)
+        copied = shutil.copy(program, folder)
+        os.chmod(copied, 0o755)
+        Run(copied, ["pack", "show"], {"pack": with_mode(0o666, pack)}, before=before).gives(DONE, LISTING, left={"pack": pack})
+        for word in ["boot", "show"]:
+            run = Run(copied, ["pack", word], {"pack": with_mode(0o444, pack)}, PATCHES, before=before)
+            run.gives(NO_SESSION, err=b"no pack\n", left={"pack": pack})
+
+
+def check_without_null_device(program):
+    """A root folder without /dev/null, and a closed standard output: the pack file doesn't take its place."""
+    if not may(lambda: os.chroot("/")):
+        print("edges: left out, for no other root folder can be taken: one without /dev/null")
+        return
+    libraries = subprocess.run(["ldd", program], capture_output=True, text=True, check=True).stdout
+    with tempfile.TemporaryDirectory() as folder:
+        folder = pathlib.Path(folder)
+        for file in [str(program), *re.findall(r"(/\S+) \(0x", libraries)]:
+            (folder / file[1:]).parent.mkdir(parents=True, exist_ok=True)
+            shutil.copy(file, folder / file[1:])
+
+        def enter():
+            os.chroot(folder)
+            os.chdir("/")
+            os.close(1)
+
+        pack, device = folder / "pack", folder / "dev" / "null"
+        # at last a file stands there, and holds the place of a stream as well
+        rows = [(False, "boot", NO_SESSION, b"no pack\n", b"ABCDE"), (False, "show", NO_SESSION, b"no pack\n", b"ABCDE")]
+        for is_there, word, code, err, left in [*rows, (True, "boot", DISPLAY_FAILED, b"", b"ABBDE")]:
+            if is_there:
+                device.parent.mkdir()
+                device.touch()
+            pack.write_bytes(abcde())
+            ended = subprocess.run([program, "pack", word], input=PATCHES, capture_output=True, timeout=SECONDS, preexec_fn=enter)
+            if (ended.returncode, ended.stderr) != (code, err):
+                failures.append(f"/dev/null: {is_there}, {word}: exit code {ended.returncode}, {ended.stderr!r}")
+            if pack.read_bytes() != abcde(left):
+                failures.append(f"/dev/null: {is_there}, {word}: the file isn't left as it should be")
+
+
+def limited(size):
+    """Sets a limit on the size of files, and leaves no picture of a process that it stops."""
+
+    def limit():
+        resource.setrlimit(resource.RLIMIT_CORE, (0, 0))
+        resource.setrlimit(resource.RLIMIT_FSIZE, (size, size))
+
+    return limit
+
+
+def check_size_limit(program):
+    """A write behind a limit on the size of files stops the process: a shorter file stays, and later it is refused."""
+    new, size = ["--cylinders", "2", "new", "show"], 20_480
+    short = {"new": bytes(size)}
+    Run(program, new, before=limited(size)).gives(-signal.SIGXFSZ, left=short)
+    Run(program, new, before=limited(SMALL)).gives(DONE, NO_FILES, left={"new": bytes(SMALL)})
+    Run(program, ["new", "boot"], short).gives(NO_SESSION, err=b"bad length %d\n" % size, left=short)
+    Run(program, new, short).gives(NO_SESSION, err=b"no pack\n", left=short)
+    # a line's write, which makes no file longer, is stopped too, and no reply is shown
+    pack = {"pack": abcde()}
+    Run(program, ["pack", "boot"], pack, PATCHES, before=limited(1_000)).gives(-signal.SIGXFSZ, left=pack)
+
+
 def check_shrinking_file(program):
     """The pack file becomes shorter during a session: the next line ends it, and the file stays as short."""
     with tempfile.TemporaryDirectory() as folder:
@@ -152,23 +280,38 @@ def check_shrinking_file(program):
 
 
 def check_closed_pipe(program):
-    """The reader of the replies goes away before the first of them: the display has failed."""
-    with tempfile.TemporaryDirectory() as folder:
-        file = pathlib.Path(folder) / "pack"
-        file.write_bytes(abcde())
-        reader, writer = os.pipe()
-        os.close(reader)
-        ended = subprocess.run([program, file, "boot"], input=PATCHES, stdout=writer, stderr=subprocess.PIPE, timeout=SECONDS)
-        os.close(writer)
-        if ended.returncode != DISPLAY_FAILED or ended.stderr:
-            failures.append(f"a closed pipe: exit code {ended.returncode}, {ended.stderr!r}")
-        if file.read_bytes() != abcde(b"ABBDE"):
-            failures.append("a closed pipe: the write ahead of the reply isn't in the file")
+    """The reader of what is shown goes away before the first of it: the display has failed. The write ahead of the reply stays."""
+    for word, left in [("boot", b"ABBDE"), ("show", b"ABCDE")]:
+        with tempfile.TemporaryDirectory() as folder:
+            file = pathlib.Path(folder) / "pack"
+            file.write_bytes(abcde())
+            reader, writer = os.pipe()
+            os.close(reader)
+            ended = subprocess.run([program, file, word], input=PATCHES, stdout=writer, stderr=subprocess.PIPE, timeout=SECONDS)
+            os.close(writer)
+            if ended.returncode != DISPLAY_FAILED or ended.stderr:
+                failures.append(f"a closed pipe at {word}: exit code {ended.returncode}, {ended.stderr!r}")
+            if file.read_bytes() != abcde(left):
+                failures.append(f"a closed pipe at {word}: the file isn't left as it should be")
+
+
+CHECKS = [
+    check_words,
+    check_help,
+    check_pack_files,
+    check_sessions,
+    check_show,
+    check_file_for_reading,
+    check_without_null_device,
+    check_size_limit,
+    check_shrinking_file,
+    check_closed_pipe,
+]
 
 
 def main():
     program = pathlib.Path(sys.argv[1]).resolve() if len(sys.argv) > 1 else packs.program()
-    for check in [check_words, check_help, check_pack_files, check_sessions, check_shrinking_file, check_closed_pipe]:
+    for check in CHECKS:
         check(program)
     for failure in failures:
         print(f"edges: {failure}")

@@ -3,8 +3,8 @@
 
     python3 bench/show.py [RUNS [PROGRAM]]
 
-The packs have 2, 20 and 203 cylinders, 1, 19 and 200 files of 10,000 bytes, and a SysDir with an entry of each. The listing is
-compared with the one that these files must have. A time is the median of the runs, whole processes from their start to their end.
+The packs have 2, 20 and 203 cylinders, 1, 19 and 200 files of 10,000 bytes, and a SysDir with an entry of each. A last one has 203
+cylinders and 2,000 files without an entry, whose leaders have one name. The listing is compared with the one that these files must have. A time is the median of the runs, whole processes from their start to their end.
 PROGRAM is one that is built already; without it the program is built first.
 """
 import fcntl
@@ -22,6 +22,7 @@ sys.dont_write_bytecode = True
 import packs
 
 PACKS = [(2, 1), (20, 19), (203, 200)]
+NAMELESS = (203, 2_000)
 LENGTH = 10_000
 FIRST_SERIAL = 3
 DIRECTORY = 0x8000
@@ -72,6 +73,18 @@ def full_pack(cylinders, files):
     return b"".join(sectors), b"".join(lines) + b"%d files\n" % files
 
 
+def nameless_pack(cylinders, files):
+    """A pack with so many leader pages of one name and nothing else, and the listing that it must have."""
+    sectors = [packs.sector(at, [packs.ONES] * 8, b"\xff" * packs.PAGE) for at in range(cylinders * 24)]
+    leader = struct.pack(">6H", 0, 0, 0, 0, 0, 0) + counted(b"File.")
+    for n in range(files):
+        label = [packs.ONES, packs.ONES, 0, packs.PAGE, 0, 1, 0, FIRST_SERIAL + n]
+        sectors[1 + n] = packs.sector(1 + n, label, leader.ljust(packs.PAGE, b"\0"))
+    names = sorted([b"File."] + [b"File.$%d." % k for k in range(1, files)])
+    lines = [b"SysDir>" + text + b" length 0\n" for text in names]
+    return b"".join(sectors), b"".join(lines) + b"%d files\n" % files
+
+
 def timed(command):
     """The seconds of a whole process, and what it printed."""
     start = time.perf_counter()
@@ -95,29 +108,34 @@ def most_memory(command):
     return int(peak[0]) * 1024 if peak else None
 
 
+def measure(program, folder, runs, what, data, listing):
+    """Prints the times of `show` over this pack, and of `cp` of it."""
+    file = pathlib.Path(folder) / "pack"
+    file.write_bytes(data)
+    shows, copies = [], []
+    for _ in range(runs):
+        seconds, text = timed([program, file, "show"])
+        assert text == listing, "the listing is that of the files"
+        shows.append(seconds)
+        copies.append(timed(["cp", file, pathlib.Path(folder) / "copy"])[0])
+    assert file.read_bytes() == data, "nothing is written"
+    show, copy = statistics.median(shows), statistics.median(copies)
+    print(f"{what}, {len(data):,} bytes: show {show * 1000:.1f} ms, cp {copy * 1000:.1f} ms, {show / copy:.1f} times")
+    if len(listing) > 4096:
+        memory = most_memory([program, file, "show"])
+        print(f"most memory {memory:,} bytes, {memory / len(data):.2f} times the pack")
+
+
 def main():
     runs = int(sys.argv[1]) if len(sys.argv) > 1 else 21
     program = sys.argv[2] if len(sys.argv) > 2 else packs.program()
     with tempfile.TemporaryDirectory() as folder:
         for cylinders, files in PACKS:
-            data, listing = full_pack(cylinders, files)
-            file = pathlib.Path(folder) / "pack"
-            file.write_bytes(data)
-            shows, copies = [], []
-            for _ in range(runs):
-                seconds, text = timed([program, file, "show"])
-                assert text == listing, "the listing is that of the files"
-                shows.append(seconds)
-                copies.append(timed(["cp", file, pathlib.Path(folder) / "copy"])[0])
-            assert file.read_bytes() == data, "nothing is written"
-            show, copy = statistics.median(shows), statistics.median(copies)
-            print(
-                f"{cylinders} cylinders, {cylinders * 24} sectors, {files} files, {len(data):,} bytes: show {show * 1000:.1f} ms, "
-                f"cp {copy * 1000:.1f} ms, {show / copy:.1f} times"
-            )
-            if len(listing) > 4096:
-                memory = most_memory([program, file, "show"])
-                print(f"most memory {memory:,} bytes, {memory / len(data):.2f} times the pack")
+            what = f"{cylinders} cylinders, {cylinders * 24} sectors, {files} files"
+            measure(program, folder, runs, what, *full_pack(cylinders, files))
+        cylinders, files = NAMELESS
+        what = f"{cylinders} cylinders, {cylinders * 24} sectors, {files} files of one name without an entry"
+        measure(program, folder, runs, what, *nameless_pack(cylinders, files))
 
 
 if __name__ == "__main__":

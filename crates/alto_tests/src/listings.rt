@@ -4,6 +4,7 @@ use crate::packs::{DATA, LEADER, failing_machine, obey, sectors_of, small_shape,
 use alto_top::{Status, show_pack};
 use disk_image::{FileMachine, encode_pack};
 use disk_records::{Disk, Sector};
+use pack_reading::read_pack;
 use std::alloc::Global;
 use std::fs;
 use std::process::Abort;
@@ -205,6 +206,11 @@ fn names_of_nameless_files(rt: HostRuntime) -> Result<(), Fail> {
     put_leader(alloc, &mut sectors, 7, FILE_3, b"sysdir.")?;
     let listing =
         b"SysDir>a. length 0\nSysDir>Lost10. length 0\nSysDir>sysdir.$1. length 0\n3 files\n";
+    check(&rt, &sectors, listing.as_slice())?;
+    // three files of one name
+    put_leader(alloc, &mut sectors, 7, FILE_3, b"A.")?;
+    put_leader(alloc, &mut sectors, 9, FILE_8, b"A.")?;
+    let listing = b"SysDir>A. length 0\nSysDir>a.$1. length 0\nSysDir>A.$2. length 0\n3 files\n";
     check(&rt, &sectors, listing.as_slice())
 }
 
@@ -225,6 +231,13 @@ fn pages_that_count(rt: HostRuntime) -> Result<(), Fail> {
     put_data(&mut sectors, 30, FILE_3, 3, 512);
     check(&rt, &sectors, b"SysDir>A. length 512\n1 files\n")?;
     put_data(&mut sectors, 40, FILE_3, 2, 512);
+    check(&rt, &sectors, b"SysDir>A. length 1536\n1 files\n")?;
+    // links lie: page 1 leads to page 3 on sector 30, and page 3 back to page 1 on sector 2
+    for (at, next) in [(2, 0x6008), (30, 0x2000)] {
+        if let Some(sector) = sectors.get_mut(at) {
+            sector.label[0] = next;
+        }
+    }
     check(&rt, &sectors, b"SysDir>A. length 1536\n1 files\n")
 }
 
@@ -298,6 +311,27 @@ fn order_of_the_lines(rt: HostRuntime) -> Result<(), Fail> {
 }
 
 #[test]
+fn names_with_their_last_dot(rt: HostRuntime) -> Result<(), Fail> {
+    let alloc = rt.alloc();
+    let mut sectors = sectors_of(alloc, &[])?;
+    // `-` comes before `.`, so the longer of two names is the first
+    put_leader(alloc, &mut sectors, 5, FILE_3, b"A.")?;
+    put_leader(alloc, &mut sectors, 7, FILE_4, b"A-.")?;
+    let listing = b"SysDir>A-. length 0\nSysDir>A. length 0\n2 files\n";
+    check(&rt, &sectors, listing.as_slice())?;
+    // and so with directories
+    let mut slots = Vec::new(alloc);
+    push_entry(&mut slots, FILE_3, b"X.")?;
+    put_directory(alloc, &mut sectors, 11, DIRECTORY_5, b"D.", &slots)?;
+    let mut slots = Vec::new(alloc);
+    push_entry(&mut slots, FILE_4, b"Y.")?;
+    put_directory(alloc, &mut sectors, 13, DIRECTORY_6, b"D-.", &slots)?;
+    let listing =
+        b"SysDir>D-. directory\nSysDir>D. directory\nD->Y. length 0\nD>X. length 0\n4 files\n";
+    check(&rt, &sectors, listing.as_slice())
+}
+
+#[test]
 fn cuts_of_a_patch(rt: HostRuntime) -> Result<(), Fail> {
     let alloc = rt.alloc();
     let keys = b"patch #3 1 4242\npatch #3 4 4242\n";
@@ -306,6 +340,12 @@ fn cuts_of_a_patch(rt: HostRuntime) -> Result<(), Fail> {
     for count in 0..=machine.event_count() {
         let mut cut = machine.cut(alloc, count)?;
         let before = cut.shown(alloc)?.len();
+        // the record write of the first line comes before all that is shown
+        let bytes = if count == 0 { b"ABCDE" } else { b"ABBDE" };
+        let files = read_pack(alloc, &mut cut)?.files;
+        let file = files.as_slice().first().ok_or("no file")?;
+        let held = file.bytes.as_ref().ok_or("a directory")?;
+        assert_eq!(rt; held.as_slice(), bytes.as_slice(), "{count}");
         assert!(rt; show_pack(alloc, &mut cut) == Status::Done);
         // the leader has no name
         let shown = cut.shown(alloc)?;
@@ -339,14 +379,17 @@ fn a_real_pack_file(rt: HostRuntime) -> Result<(), Fail> {
     let made = FileMachine::create(&rt, alloc, "shown", 2)?;
     drop(made);
     let shape = small_shape()?;
-    let sectors = sectors_of(alloc, &[LEADER, DATA])?;
+    let mut sectors = sectors_of(alloc, &[LEADER, DATA])?;
+    let mut slots = Vec::new(alloc);
+    push_entry(&mut slots, FILE_3, b"X.")?;
+    put_directory(alloc, &mut sectors, 11, DIRECTORY_5, b"D.", &slots)?;
     assert!(rt; sectors.len() == shape.pages() as usize);
     let bytes = encode_pack(alloc, shape, &sectors)?;
     let rows = [
         (
             Broken::Nothing,
             Status::Done,
-            b"SysDir>Lost3. length 5\n1 files\n".as_slice(),
+            b"SysDir>D. directory\nD>X. length 5\n2 files\n".as_slice(),
         ),
         (Broken::Display, Status::DisplayFault, b""),
     ];

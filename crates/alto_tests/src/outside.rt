@@ -21,6 +21,8 @@ pub enum Broken {
     Writing,
     /// Of each file that is opened one write call fails: that with this number, counted from 0.
     WriteCall(u64),
+    /// One opening of a file fails: that with this number, counted from 0.
+    Opening(u64),
 }
 
 /// One call of a file, with the place that it seeks, or how many bytes it was to read or write.
@@ -40,6 +42,7 @@ pub struct Log {
     shown: RefCell<Vec<u8>>,
     shows: Cell<u64>,
     key_reads: Cell<u64>,
+    openings: Cell<u64>,
     file_calls: RefCell<Vec<FileCall>>,
 }
 
@@ -50,6 +53,7 @@ impl Log {
             shown: RefCell::new(Vec::new(alloc)),
             shows: Cell::new(0),
             key_reads: Cell::new(0),
+            openings: Cell::new(0),
             file_calls: RefCell::new(Vec::new(alloc)),
         }
     }
@@ -62,7 +66,7 @@ impl Log {
         }
     }
 
-    /// How many write calls the display had.
+    /// How many write calls the display had, those that failed among them.
     pub fn shows(&self) -> u64 {
         self.shows.get()
     }
@@ -96,12 +100,22 @@ impl Log {
         }
     }
 
+    /// Notes the opening of a file, and answers its number.
+    fn note_opening(&self) -> u64 {
+        let number = self.openings.get();
+        self.openings.set(number.saturating_add(1));
+        number
+    }
+
     fn note_key_read(&self) {
         self.key_reads.set(self.key_reads.get().saturating_add(1));
     }
 
-    fn note_shown(&self, bytes: &[u8]) -> io::Result<()> {
+    fn note_show(&self) {
         self.shows.set(self.shows.get().saturating_add(1));
+    }
+
+    fn note_shown(&self, bytes: &[u8]) -> io::Result<()> {
         match self.shown.try_borrow_mut() {
             Ok(mut shown) => Ok(shown.extend_from_slice(bytes)?),
             Err(_) => Err(Error::from(ErrorKind::ResourceBusy)),
@@ -130,6 +144,10 @@ impl<'a> Outside<'a> {
     }
 
     fn opened(&self, how: &OpenOptions, path: &str) -> io::Result<File> {
+        let number = self.log.note_opening();
+        if self.broken == Broken::Opening(number) {
+            return Err(Error::from(ErrorKind::NotFound));
+        }
         if self.broken == Broken::Writing {
             return fs::open(self.host, path);
         }
@@ -254,6 +272,7 @@ impl Print for Outside<'_> {
     }
 
     fn write_all(&self, bytes: &[u8]) -> io::Result<()> {
+        self.log.note_show();
         if self.broken == Broken::Display {
             return Err(Error::from(ErrorKind::BrokenPipe));
         }

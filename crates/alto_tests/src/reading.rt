@@ -193,6 +193,40 @@ fn bytes_end_where_a_page_is_missing(rt: HostRuntime) -> Result<(), Fail> {
 }
 
 #[test]
+fn all_that_a_file_shows(rt: HostRuntime) -> Result<(), Fail> {
+    let mut page = leader(5, 0, 3, 30, 0x0241);
+    // each date has its high word first
+    page.front[..6].copy_from_slice(&[1, 30, 2, 31, 3, 32]);
+    let mut first = data(6, 3, 1, 512);
+    first.front[0] = 0x4142;
+    first.front[23] = 0x4344;
+    // the sixth byte doesn't count
+    let mut last = data(7, 3, 2, 5);
+    last.front[..3].copy_from_slice(&[0x4546, 0x4748, 0x494A]);
+    let mut sectors = sectors_with(rt.alloc(), &[page, first, last])?;
+    // properties and hints
+    if let Some(sector) = sectors.get_mut(5) {
+        sector.value[26..].copy_from_slice(&[7; 230]);
+    }
+    let mut machine = sure_machine(rt.alloc(), sectors, b"")?;
+    let shown = read_pack(rt.alloc(), &mut machine)?;
+    assert_eq!(rt; shown.files.as_slice().len(), 1);
+    let file = shown.files.as_slice().first().ok_or("no file")?;
+    assert_eq!(rt; file.leader.created, 65_566);
+    assert_eq!(rt; file.leader.written, 131_103);
+    assert_eq!(rt; file.leader.read, 196_640);
+    assert_eq!(rt; file.leader.rest.as_slice(), [7; 220].as_slice());
+    assert_eq!(rt; file.leader.hints.as_slice(), [0; 10].as_slice());
+    let mut expected = [0; 517];
+    expected[..2].copy_from_slice(b"AB");
+    expected[46..48].copy_from_slice(b"CD");
+    expected[512..].copy_from_slice(b"EFGHI");
+    let bytes = file.bytes.as_ref().ok_or("a directory")?;
+    assert_eq!(rt; bytes.as_slice(), expected.as_slice());
+    Ok(())
+}
+
+#[test]
 fn a_fault_ends_the_reading(rt: HostRuntime) -> Result<(), Fail> {
     let sectors = sectors_with(rt.alloc(), &[leader(5, 0, 3, 30, 0x0242)])?;
     let mut machine = failing_machine(rt.alloc(), sectors, b"")?;

@@ -87,20 +87,30 @@ fn machine_over<'a, R: Runtime + Abort + AllocGlobal>(
 #[test]
 fn what_fails_and_what_stands_in_the_file(rt: HostRuntime) -> Result<(), Fail> {
     let alloc = rt.alloc();
+    // what fails is asked once, and a reply is shown once
     let rows = [
-        (Broken::Nothing, Status::Done, b"done\n".as_slice(), true),
-        (Broken::Display, Status::DisplayFault, b"", true),
-        (Broken::Keyboard, Status::KeyFault, b"done\n", true),
-        (Broken::Writing, Status::DiskFault, b"", false),
-        (Broken::WriteCall(0), Status::DiskFault, b"", false),
+        (
+            Broken::Nothing,
+            Status::Done,
+            b"done\n".as_slice(),
+            true,
+            1u64,
+            2u64,
+        ),
+        (Broken::Display, Status::DisplayFault, b"", true, 1, 1),
+        (Broken::Keyboard, Status::KeyFault, b"done\n", true, 1, 2),
+        (Broken::Writing, Status::DiskFault, b"", false, 0, 1),
+        (Broken::WriteCall(0), Status::DiskFault, b"", false, 0, 1),
     ];
-    for (broken, ended, shown, is_written) in rows {
+    for (broken, ended, shown, is_written, shows, key_reads) in rows {
         let log = Log::new(alloc);
         let outside = Outside::new(&rt, KEYS, broken, &log);
         let mut machine = machine_over(&rt, &outside, "patched")?;
         let status = obey(alloc, &["boot"], &mut machine)?;
         assert!(rt; status == ended, "{broken:?}");
         assert_eq!(rt; log.shown(alloc)?.as_slice(), shown, "{broken:?}");
+        assert_eq!(rt; log.shows(), shows, "{broken:?}");
+        assert_eq!(rt; log.key_reads(), key_reads, "{broken:?}");
         let bytes = if is_written {
             new_bytes(&rt)?
         } else {
@@ -248,6 +258,38 @@ fn a_file_that_cannot_be_filled_is_removed(rt: HostRuntime) -> Result<(), Fail> 
         let made = FileMachine::create(&outside, alloc, "filling", 2);
         assert!(rt; made.err() == Some(ReachError::NoFile), "{failing}");
         assert!(rt; fs::metadata(&rt, "filling").is_err(), "{failing}");
+    }
+    Ok(())
+}
+
+#[test]
+fn no_pack_file_is_opened_where_a_stream_may_be_closed(rt: HostRuntime) -> Result<(), Fail> {
+    let alloc = rt.alloc();
+    // three openings hold the places of the standard streams, and the fourth is that of the pack file
+    for failing in 0u64..=4 {
+        let wanted = if failing < 4 {
+            Some(ReachError::NoFile)
+        } else {
+            None
+        };
+        let log = Log::new(alloc);
+        let outside = Outside::new(&rt, b"", Broken::Opening(failing), &log);
+        let made = FileMachine::create(&outside, alloc, "opening", 2).err();
+        assert!(rt; made == wanted, "{failing}");
+        assert!(rt;
+            fs::metadata(&rt, "opening").is_ok() == (failing == 4),
+            "{failing}"
+        );
+        fs::write(&rt, "opening", old_bytes(&rt)?.as_slice())?;
+        let log = Log::new(alloc);
+        let outside = Outside::new(&rt, b"", Broken::Opening(failing), &log);
+        let reached = FileMachine::reach(&outside, alloc, "opening").err();
+        assert!(rt; reached == wanted, "{failing}");
+        assert!(rt;
+            fs::read(&rt, "opening")?.as_slice() == old_bytes(&rt)?.as_slice(),
+            "{failing}"
+        );
+        fs::remove_file(&rt, "opening")?;
     }
     Ok(())
 }
