@@ -1,7 +1,8 @@
 // Every cut of a session: the old bytes or the new ones, whole, and no reply before them.
-use crate::packs::{DATA, LEADER, PATCHED, Placed, obey, sectors_of, set_page, sure_machine};
+use crate::sessions::obey;
 use alto_top::Status;
 use disk_records::Disk;
+use sample_packs::{DATA, LEADER, PATCHED, Placed, sectors_of, set_page, sure_machine};
 use std::test::Fail;
 
 #[test]

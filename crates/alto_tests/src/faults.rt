@@ -1,7 +1,8 @@
 // A device that fails once, at each call of a session in turn.
-use crate::packs::{DATA, LEADER, PATCHED, Placed, failing_machine, obey, sectors_of, set_page};
+use crate::sessions::obey;
 use alto_top::Status;
 use disk_records::Sector;
+use sample_packs::{DATA, LEADER, PATCHED, Placed, failing_machine, sectors_of, set_page};
 use std::alloc::Global;
 use std::test::Fail;
 

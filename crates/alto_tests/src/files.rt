@@ -1,6 +1,6 @@
 // Files as their labels say: which sectors count, where a file ends, and which files aren't patched.
 use crate::lines::check;
-use crate::packs::{DATA, LEADER, PATCHED, Placed};
+use sample_packs::{DATA, LEADER, PATCHED, Placed};
 use std::test::Fail;
 
 /// A data page of the file with serial 3, with `ABCDE` and zeros.

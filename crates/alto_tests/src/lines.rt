@@ -1,9 +1,10 @@
 // Typed lines: what is shown, and what is written.
-use crate::packs::{
-    DATA, LEADER, PATCHED, Placed, failing_machine, obey, sectors_of, set_page, sure_machine,
-};
+use crate::sessions::obey;
 use alto_top::{Fault, Status};
 use disk_records::Disk;
+use sample_packs::{
+    DATA, LEADER, PATCHED, Placed, failing_machine, sectors_of, set_page, sure_machine,
+};
 use std::process::Abort;
 use std::test::Fail;
 
@@ -130,6 +131,19 @@ fn words_that_ask_for_nothing(rt: HostRuntime) -> Result<(), Fail> {
         assert_eq!(rt; machine.shown(alloc)?.as_slice(), b"usage\n".as_slice());
         assert!(rt; machine.event_count() == 6);
     }
+    Ok(())
+}
+
+#[test]
+fn the_word_show_lists_the_files(rt: HostRuntime) -> Result<(), Fail> {
+    let alloc = rt.alloc();
+    let keys = b"patch #3 1 4242\n";
+    let mut machine = sure_machine(alloc, sectors_of(alloc, &SMALL)?, keys)?;
+    assert!(rt; obey(alloc, &["show"], &mut machine)? == Status::Done);
+    // the leader has no name, and 3 is 3 in octal; no key is taken for a line
+    let listing = b"SysDir>Lost3. length 5\n1 files\n".as_slice();
+    assert_eq!(rt; machine.shown(alloc)?.as_slice(), listing);
+    assert!(rt; machine.writes() == 0);
     Ok(())
 }
 

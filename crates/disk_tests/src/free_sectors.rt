@@ -1,8 +1,8 @@
 // Free sectors on a pack of 48 sectors of which 43 to 47 are free, over tables that are true and tables that aren't.
-use crate::packs::{Placed, failing_machine, sectors_of, set_page, sure_machine};
 use disk_records::{Disk, Sector};
 use hint_cache::BitTable;
 use page_alloc::{AllocError, count_free, reserve};
+use sample_packs::{Placed, failing_machine, sectors_of, set_page, sure_machine};
 use std::alloc::Global;
 use std::process::Abort;
 use std::test::Fail;

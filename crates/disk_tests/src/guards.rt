@@ -1,9 +1,9 @@
 // Guarded sector commands: the sector that carries the page, and sectors that don't.
-use crate::packs::{Placed, sectors_of, small_shape, sure_machine, value_of};
 use alto_words::Fid;
 use disk_memory::SureMachine;
 use disk_records::{Disk, Page, Sector, page_of};
 use label_check::{GuardError, PageInfo, claim, look, read_page, relabel, release, write_value};
+use sample_packs::{Placed, sectors_of, sure_machine, value_of};
 use std::alloc::Global;
 use std::process::Abort;
 use std::test::Fail;
@@ -45,7 +45,7 @@ fn machine_with(alloc: Global, at: u16, label: [u16; 8]) -> Result<SureMachine, 
         label,
         front: [1, 2, 3],
     };
-    sure_machine(alloc, sectors_of(alloc, &[placed])?, b"")
+    Ok(sure_machine(alloc, sectors_of(alloc, &[placed])?, b"")?)
 }
 
 /// The sectors that carry the page in turn: the first that is used, one between, the last.
@@ -155,7 +155,7 @@ fn machine_of(
         }
         sector.label = label;
     }
-    sure_machine(alloc, sectors, b"")
+    Ok(sure_machine(alloc, sectors, b"")?)
 }
 
 #[test]

@@ -1,12 +1,9 @@
 // What packs made by hand show: each sentence on which files live, which bytes they have and which names are theirs.
-use crate::outside::{Broken, Log, Outside};
-use crate::packs::{DATA, LEADER, failing_machine, obey, sectors_of, small_shape, sure_machine};
-use alto_top::{Status, show_pack};
-use disk_image::{FileMachine, encode_pack};
+use alto_top::{Status, boot, show_pack};
 use disk_records::{Disk, Sector};
 use pack_reading::read_pack;
+use sample_packs::{DATA, LEADER, failing_machine, sectors_of, sure_machine};
 use std::alloc::Global;
-use std::fs;
 use std::process::Abort;
 use std::test::Fail;
 
@@ -153,7 +150,7 @@ fn put_directory(
 fn check<R: Abort + AllocGlobal>(rt: &R, sectors: &[Sector], listing: &[u8]) -> Result<(), Fail> {
     let alloc = rt.alloc();
     let mut machine = sure_machine(alloc, sectors.to_vec(alloc)?, b"key")?;
-    assert!(rt; obey(alloc, &["show"], &mut machine)? == Status::Done);
+    assert!(rt; show_pack(alloc, &mut machine) == Status::Done);
     assert_eq!(rt; machine.shown(alloc)?.as_slice(), listing);
     assert!(rt; machine.writes() == 0, "record writes");
     assert!(rt; machine.into_sectors().as_slice() == sectors, "sectors");
@@ -336,7 +333,7 @@ fn cuts_of_a_patch(rt: HostRuntime) -> Result<(), Fail> {
     let alloc = rt.alloc();
     let keys = b"patch #3 1 4242\npatch #3 4 4242\n";
     let mut machine = sure_machine(alloc, sectors_of(alloc, &[LEADER, DATA])?, keys)?;
-    assert!(rt; obey(alloc, &["boot"], &mut machine)? == Status::Done);
+    assert!(rt; boot(alloc, 1000, &mut machine) == Status::Done);
     for count in 0..=machine.event_count() {
         let mut cut = machine.cut(alloc, count)?;
         let before = cut.shown(alloc)?.len();
@@ -367,45 +364,8 @@ fn faults_while_showing(rt: HostRuntime) -> Result<(), Fail> {
     for (call, ended, shown) in rows {
         let mut machine = failing_machine(alloc, sectors_of(alloc, &[LEADER, DATA])?, b"")?;
         machine.fail_at(alloc, call, 0)?;
-        assert!(rt; obey(alloc, &["show"], &mut machine)? == ended, "{call}");
+        assert!(rt; show_pack(alloc, &mut machine) == ended, "{call}");
         assert_eq!(rt; machine.shown(alloc)?.as_slice(), shown, "{call}");
     }
-    Ok(())
-}
-
-#[test]
-fn a_real_pack_file(rt: HostRuntime) -> Result<(), Fail> {
-    let alloc = rt.alloc();
-    let made = FileMachine::create(&rt, alloc, "shown", 2)?;
-    drop(made);
-    let shape = small_shape()?;
-    let mut sectors = sectors_of(alloc, &[LEADER, DATA])?;
-    let mut slots = Vec::new(alloc);
-    push_entry(&mut slots, FILE_3, b"X.")?;
-    put_directory(alloc, &mut sectors, 11, DIRECTORY_5, b"D.", &slots)?;
-    assert!(rt; sectors.len() == shape.pages() as usize);
-    let bytes = encode_pack(alloc, shape, &sectors)?;
-    let rows = [
-        (
-            Broken::Nothing,
-            Status::Done,
-            b"SysDir>D. directory\nD>X. length 5\n2 files\n".as_slice(),
-        ),
-        (Broken::Display, Status::DisplayFault, b""),
-    ];
-    for (broken, ended, shown) in rows {
-        fs::write(&rt, "shown", bytes.as_slice())?;
-        let log = Log::new(alloc);
-        let outside = Outside::new(&rt, b"", broken, &log);
-        let mut machine = FileMachine::reach(&outside, alloc, "shown")?;
-        let status = obey(alloc, &["show"], &mut machine)?;
-        assert!(rt; status == ended, "{broken:?}");
-        assert_eq!(rt; log.shown(alloc)?.as_slice(), shown, "{broken:?}");
-        assert!(rt;
-            fs::read(&rt, "shown")?.as_slice() == bytes.as_slice(),
-            "{broken:?}"
-        );
-    }
-    fs::remove_file(&rt, "shown")?;
     Ok(())
 }

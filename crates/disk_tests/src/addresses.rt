@@ -1,10 +1,10 @@
 // Real and virtual addresses of a pack of 48 sectors.
-use crate::packs::small_shape;
+use sample_packs::small_shape;
 use std::test::Fail;
 
 #[test]
 fn real_and_virtual_addresses(rt: HostRuntime) -> Result<(), Fail> {
-    let shape = small_shape()?;
+    let shape = small_shape();
     for (at, real) in [(1, 0x1000), (12, 0x0004), (24, 0x0008), (47, 0xB00C)] {
         assert!(rt; at < shape.pages());
         assert!(rt; shape.real_of(at) == real);

@@ -3,10 +3,10 @@ ghost use Rattle.std.specs.Prelude.{IsTrue};
 ghost use Rattle.disk_records.specs.Checks.{is_legal};
 
 use crate::outside::{Broken, FileCall, Log, Outside};
-use crate::packs::{DATA, LEADER, obey, sectors_of, small_shape};
-use alto_top::Status;
+use alto_top::{Status, boot, show_pack};
 use disk_image::{FileMachine, ReachError, encode_pack};
 use disk_records::{Act, Disk, DiskError, Plan, Sector};
+use sample_packs::{DATA, LEADER, Placed, sectors_of, small_shape};
 use std::fs;
 use std::fs::{OpenFile, OpenOptions};
 use std::io::SeekFrom;
@@ -21,6 +21,24 @@ const PLACED: &[u8] = b"VWXYZ";
 
 /// Where the file's bytes stand in the pack file: behind the six sectors ahead, a header and a label.
 const BYTES_AT: usize = 6 * 532 + 20;
+
+/// The directory with serial 5 and the name `D.`: its leader page on sector 11, its data page on sector 12. There one entry
+/// gives the file with serial 3 the name `X.`.
+const DIRECTORY: Placed = Placed {
+    at: 11,
+    label: [0xFFFF, 0xFFFF, 0, 512, 0, 1, 0x8000, 5],
+    front: [0; 3],
+};
+
+const ENTRIES: Placed = Placed {
+    at: 12,
+    label: [0xFFFF, 0xFFFF, 0, 16, 1, 1, 0x8000, 5],
+    front: [0; 3],
+};
+
+const NAME: [u16; 2] = [0x0244, 0x2E00];
+
+const ENTRY: [u16; 8] = [0x0408, 0, 3, 1, 0, 5, 0x0258, 0x2E00];
 
 const ZEROS: Sector = Sector {
     header: [0; 2],
@@ -54,7 +72,7 @@ const WRITE_VALUE: Plan = Plan {
 
 /// The bytes of the pack file with the one file.
 fn old_bytes<R: Abort + AllocGlobal>(rt: &R) -> Result<Vec<u8>, Fail> {
-    let shape = small_shape()?;
+    let shape = small_shape();
     let sectors = sectors_of(rt.alloc(), &[LEADER, DATA])?;
     assert!(rt; sectors.len() == shape.pages() as usize);
     let bytes = encode_pack(rt.alloc(), shape, &sectors)?;
@@ -106,7 +124,7 @@ fn what_fails_and_what_stands_in_the_file(rt: HostRuntime) -> Result<(), Fail> {
         let log = Log::new(alloc);
         let outside = Outside::new(&rt, KEYS, broken, &log);
         let mut machine = machine_over(&rt, &outside, "patched")?;
-        let status = obey(alloc, &["boot"], &mut machine)?;
+        let status = boot(alloc, 1000, &mut machine);
         assert!(rt; status == ended, "{broken:?}");
         assert_eq!(rt; log.shown(alloc)?.as_slice(), shown, "{broken:?}");
         assert_eq!(rt; log.shows(), shows, "{broken:?}");
@@ -134,7 +152,7 @@ fn a_file_that_shrinks_ends_the_session(rt: HostRuntime) -> Result<(), Fail> {
         let mut machine = machine_over(&rt, &outside, "shrinking")?;
         let file = OpenOptions::new().write(true).open(&rt, "shrinking")?;
         file.set_len(length as u64)?;
-        let status = obey(alloc, &["boot"], &mut machine)?;
+        let status = boot(alloc, 1000, &mut machine);
         assert!(rt; status == Status::DiskFault, "{length}");
         assert!(rt; log.shown(alloc)?.is_empty(), "{length}");
         let mut bytes = old_bytes(&rt)?;
@@ -318,7 +336,7 @@ fn keys_are_read_ahead_and_replies_shown_whole(rt: HostRuntime) -> Result<(), Fa
         let log = Log::new(alloc);
         let outside = Outside::new(&rt, &keys, Broken::Nothing, &log);
         let mut machine = machine_over(&rt, &outside, "typed")?;
-        assert!(rt; obey(alloc, &["boot"], &mut machine)? == Status::Done);
+        assert!(rt; boot(alloc, 1000, &mut machine) == Status::Done);
         assert!(rt;
             log.shown(alloc)?.as_slice() == replies.as_slice(),
             "{pairs}"
@@ -327,5 +345,45 @@ fn keys_are_read_ahead_and_replies_shown_whole(rt: HostRuntime) -> Result<(), Fa
         assert!(rt; log.key_reads() <= most_reads, "{pairs}");
         fs::remove_file(&rt, "typed")?;
     }
+    Ok(())
+}
+
+#[test]
+fn a_listing_of_a_real_pack_file(rt: HostRuntime) -> Result<(), Fail> {
+    let alloc = rt.alloc();
+    let made = FileMachine::create(&rt, alloc, "shown", 2)?;
+    drop(made);
+    let shape = small_shape();
+    let mut sectors = sectors_of(alloc, &[LEADER, DATA, DIRECTORY, ENTRIES])?;
+    if let Some(sector) = sectors.get_mut(11) {
+        sector.value[6..8].copy_from_slice(&NAME);
+    }
+    if let Some(sector) = sectors.get_mut(12) {
+        sector.value[..8].copy_from_slice(&ENTRY);
+    }
+    assert!(rt; sectors.len() == shape.pages() as usize);
+    let bytes = encode_pack(alloc, shape, &sectors)?;
+    let rows = [
+        (
+            Broken::Nothing,
+            Status::Done,
+            b"SysDir>D. directory\nD>X. length 5\n2 files\n".as_slice(),
+        ),
+        (Broken::Display, Status::DisplayFault, b""),
+    ];
+    for (broken, ended, shown) in rows {
+        fs::write(&rt, "shown", bytes.as_slice())?;
+        let log = Log::new(alloc);
+        let outside = Outside::new(&rt, b"", broken, &log);
+        let mut machine = FileMachine::reach(&outside, alloc, "shown")?;
+        let status = show_pack(alloc, &mut machine);
+        assert!(rt; status == ended, "{broken:?}");
+        assert_eq!(rt; log.shown(alloc)?.as_slice(), shown, "{broken:?}");
+        assert!(rt;
+            fs::read(&rt, "shown")?.as_slice() == bytes.as_slice(),
+            "{broken:?}"
+        );
+    }
+    fs::remove_file(&rt, "shown")?;
     Ok(())
 }

@@ -1,8 +1,8 @@
 // What packs made by hand show.
-use crate::packs::{failing_machine, sectors_of, sure_machine};
 use alto_words::push_number;
 use disk_records::Sector;
 use pack_reading::{ReadingError, Shown, read_pack};
+use sample_packs::{failing_machine, sectors_of, sure_machine};
 use std::alloc::Global;
 use std::test::Fail;
 
