@@ -1,0 +1,5 @@
+pub mod AllSectors
+pub mod Ends
+pub mod LyingFiles
+pub mod Rows
+pub mod Seats

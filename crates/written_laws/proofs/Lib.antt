@@ -1,0 +1,11 @@
+pub mod DirectoryLaws
+pub mod EntryBytes
+pub mod FewPages
+pub mod FileLaws
+pub mod Filled
+pub mod FreshPages
+pub mod GrownPages
+pub mod Labels
+pub mod LeaderWords
+pub mod NameWords
+pub mod RoomFound

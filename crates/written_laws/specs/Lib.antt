@@ -1,0 +1,2 @@
+pub mod DirectoryWords
+pub mod FileWords
