@@ -3,8 +3,11 @@
 
     python3 bench/show.py [RUNS [PROGRAM]]
 
-The packs have 2, 20 and 203 cylinders, 1, 19 and 200 files of 10,000 bytes, and a SysDir with an entry of each. A last one has 203
-cylinders and 2,000 files without an entry, whose leaders have one name. The listing is compared with the one that these files must have. A time is the median of the runs, whole processes from their start to their end.
+The packs have 2, 20 and 203 cylinders, 1, 19 and 200 files of 10,000 bytes, and a SysDir with an entry of each. Two more have 203
+cylinders and files without an entry: 2,000 whose leaders have one name; 200 such files beside a SysDir that fills the other sectors
+with free slots of one word; and 4,870 whose leaders have 200 names of 38 characters in turn. Of these, 40 at a time share their
+suffixes from 10 on, and all of them those from 100 on. The listing is compared with the one that these files must have. A time is the
+median of the runs, whole processes from their start to their end.
 PROGRAM is one that is built already; without it the program is built first.
 """
 import fcntl
@@ -23,9 +26,12 @@ import packs
 
 PACKS = [(2, 1), (20, 19), (203, 200)]
 NAMELESS = (203, 2_000)
+FREE_SLOTS = (203, 200)
+ALIKE = (203, 4_870)
 LENGTH = 10_000
 FIRST_SERIAL = 3
 DIRECTORY = 0x8000
+NAME_CHARACTERS = b"abcdefghijklmnopqrstuvwxyz0123456789+-.$"
 
 
 def name(number):
@@ -73,16 +79,51 @@ def full_pack(cylinders, files):
     return b"".join(sectors), b"".join(lines) + b"%d files\n" % files
 
 
-def nameless_pack(cylinders, files):
-    """A pack with so many leader pages of one name and nothing else, and the listing that it must have."""
+def free_slots(cylinders, files):
+    """Free slots of one word, as many as SysDir can have beside its leader and so many others."""
+    pages = cylinders * 24 - 2 - files
+    return b"\0\1" * (pages * packs.PAGE // 2 - 1)
+
+
+def suffixed(text, number):
+    """The name with a number in it, of at most 39 characters."""
+    suffix = b"$%d." % number
+    return text[: 39 - len(suffix)] + suffix
+
+
+def given_names(leaders):
+    """The names that nameless files get, whose leaders have these: each suffix of each is asked for, from the first one on."""
+    taken = set()
+    for text in leaders:
+        number, given = 0, text
+        while given.lower() in taken:
+            number += 1
+            given = suffixed(text, number)
+        taken.add(given.lower())
+        yield given
+
+
+def alike_names(files):
+    """Names that differ in their characters 35 and 36 alone, in turn."""
+    names = [b"N" * 34 + bytes([first, second]) + b"N." for first in NAME_CHARACTERS[:5] for second in NAME_CHARACTERS]
+    return [names[n % len(names)] for n in range(files)]
+
+
+def nameless_pack(cylinders, leaders, given, slots=b""):
+    """A pack with leader pages of such names, a SysDir where slots are given, and the listing of its files by the names given to them."""
     sectors = [packs.sector(at, [packs.ONES] * 8, b"\xff" * packs.PAGE) for at in range(cylinders * 24)]
-    leader = struct.pack(">6H", 0, 0, 0, 0, 0, 0) + counted(b"File.")
-    for n in range(files):
+    first = put_file(sectors, 1, DIRECTORY, 1, b"SysDir.", slots) if slots else 1
+    for n, text in enumerate(leaders):
+        leader = struct.pack(">6H", 0, 0, 0, 0, 0, 0) + counted(text)
         label = [packs.ONES, packs.ONES, 0, packs.PAGE, 0, 1, 0, FIRST_SERIAL + n]
-        sectors[1 + n] = packs.sector(1 + n, label, leader.ljust(packs.PAGE, b"\0"))
-    names = sorted([b"File."] + [b"File.$%d." % k for k in range(1, files)])
-    lines = [b"SysDir>" + text + b" length 0\n" for text in names]
-    return b"".join(sectors), b"".join(lines) + b"%d files\n" % files
+        sectors[first + n] = packs.sector(first + n, label, leader.ljust(packs.PAGE, b"\0"))
+    lines = [b"SysDir>" + text + b" length 0\n" for text in sorted(given, key=bytes.lower)]
+    return b"".join(sectors), b"".join(lines) + b"%d files\n" % len(leaders)
+
+
+def numbered_names(files):
+    """The names that so many nameless files of the name `File.` get."""
+    return [b"File."] + [suffixed(b"File.", k) for k in range(1, files)]
 
 
 def timed(command):
@@ -135,7 +176,15 @@ def main():
             measure(program, folder, runs, what, *full_pack(cylinders, files))
         cylinders, files = NAMELESS
         what = f"{cylinders} cylinders, {cylinders * 24} sectors, {files} files of one name without an entry"
-        measure(program, folder, runs, what, *nameless_pack(cylinders, files))
+        measure(program, folder, runs, what, *nameless_pack(cylinders, [b"File."] * files, numbered_names(files)))
+        cylinders, files = FREE_SLOTS
+        what = f"{cylinders} cylinders, {cylinders * 24} sectors, {files} files of one name and free slots of one word"
+        slots = free_slots(cylinders, files)
+        measure(program, folder, runs, what, *nameless_pack(cylinders, [b"File."] * files, numbered_names(files), slots))
+        cylinders, files = ALIKE
+        what = f"{cylinders} cylinders, {cylinders * 24} sectors, {files} files of 200 names alike without an entry"
+        leaders = alike_names(files)
+        measure(program, folder, runs, what, *nameless_pack(cylinders, leaders, given_names(leaders)))
 
 
 if __name__ == "__main__":

@@ -13,7 +13,8 @@
 //! Contracts see a slot as an item of pack_model, and its address apart. To the layers above:
 //! 1. `read_slots` gives exactly the slots of the longest first part that can be read (`items`, and the law `longest_is_read`).
 //! 2. What `write_slots` wrote is read back whole (`back`, and the law `reads_back`).
-//! 3. `slot_here` reads one slot from 26 words at most, and so from a page at a time.
+//! 3. `slot_here` reads one slot from 26 words at most, and so from a page at a time; `first_slot` reads that at the head of words
+//!    that are all there, so that slots are read one after another with none kept.
 //! 4. `find_room` answers the first room for an entry, and None exactly where no free slots in a row have so many words.
 //! Not promised: that an address is that of the leader. Who follows one checks it by the label that stands there.
 #![tactic(auto)]
@@ -26,7 +27,7 @@ mod slot;
 mod write;
 
 pub use codec::slot_here;
-pub use read::read_slots;
+pub use read::{first_slot, read_slots};
 pub use room::{Room, find_room, largest_run};
 pub use slot::{MAX_ENTRY_WORDS, MAX_FREE_WORDS, Slot, entry_words};
 pub use write::write_slots;

@@ -1,4 +1,4 @@
-// All slots of a directory's words.
+// The slots of a directory's words: the first one, and all.
 ghost use Rattle.std.specs.Prelude.{◌≡◌, ◌≤◌, [], ◌∷◌, ◌++◌, length, map, All, IfOk, IfSome, OnOk};
 ghost use Rattle.std.specs.Option.{option_map};
 ghost use Rattle.disk_records.specs.Words.{word};
@@ -41,8 +41,10 @@ fn keep(read: &mut Vec<Slot>, slot: Slot) -> Result<(), Memory>
     read.push(slot).map_err(|_| Memory)
 }
 
-/// The slot at the head of these words.
-fn first_slot(words: &[u16]) -> Option<Slot>
+/// The slot at the head of these words, those of a directory from its first word or from the end of a slot on. None exactly where
+/// they begin with no slot that can be read, so also where there are none. It looks at 26 words at most and takes no memory. The
+/// slot's length is its `words`: those behind it are the ones to read on from.
+pub fn first_slot(words: &[u16]) -> Option<Slot>
     ensures item { option_map item_of result ≡ slot_at words.now }
     ensures address { IfSome result (λ slot. address_of slot ≡ address_at words.now 0 (item_of slot)) }
     ensures in_range { IfSome result IsInRange }

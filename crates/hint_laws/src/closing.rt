@@ -1,8 +1,8 @@
-//! Closing with the true map leaves all hints true.
+//! Closing, and the hints behind it.
 
 ghost use Rattle.hint_laws.specs.ClosingLaws.{CleanIsLeft, ClosesTrue};
 
-/// So it is where the mark isn't clean, and all links are true.
+/// Where all links are true and the mark isn't clean, closing with the true map leaves all hints true.
 pub fn closing_leaves_hints_true()
     ensures { ClosesTrue }
 {}

@@ -12,12 +12,12 @@ pub fn links_join()
     ensures { LinksJoin }
 {}
 
-/// So do the opening of the mark and then such a line.
+/// The opening of the mark and then a line whose operations each keep links keep them.
 pub fn opened_line_keeps_links()
     ensures { OpenedLineKeepsLinks }
 {}
 
-/// Closing behind them with the true map leaves all hints true.
+/// Closing behind the opening of the mark and such a line, with the true map, leaves all hints true.
 pub fn line_closes_with_true_hints()
     ensures { LineClosesTrue }
 {}

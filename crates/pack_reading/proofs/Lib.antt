@@ -1,7 +1,10 @@
 pub mod Tests
 pub mod Homes
 pub mod Choosing
+pub mod Suffixes
 pub mod Passing
+pub mod Slots
+pub mod Grouping
 pub mod Scanning
 pub mod Tidying
 pub mod Following

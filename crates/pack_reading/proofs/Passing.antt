@@ -1,21 +1,17 @@
 -- Suffixes that are known to be taken, while names are given.
-use Rattle.std.proofs.Common.{◌≡◌, ℕ, zero, suc, ◌+◌, ◌-◌, ◌<◌, ◌≤◌, Bool, true, false, cond, List, [], ◌∷◌, ◌++◌, length, take, map, Some, None, Result, Ok, Err, refl, sym, ap, subst, ◌∙◌, inl, inr, arith, add-one}
-use Rattle.std.specs.Prelude.{◌&&◌, ◌||◌, nat_eq, unwrap_or, OnOk}
+use Rattle.std.proofs.Common.{◌≡◌, ℕ, zero, suc, ◌+◌, ◌-◌, ◌^◌, ◌<◌, ◌≤◌, Bool, true, false, cond, List, [], Some, None, Result, Ok, Err, refl, sym, ap, subst, ◌∙◌, inl, inr, arith, add-one}
+use Rattle.std.specs.Prelude.{◌&&◌, ◌||◌, unwrap_or, OnOk}
 use Rattle.std.specs.Ordering.{is_eq}
-use Rattle.std.specs.Fmt.{digits}
-use Rattle.std.specs.Cmp.Lexicographic.{same_text, nat_list_eq_equiv, pointwise}
-use Rattle.std.specs.List.{list_any, take-map}
+use Rattle.std.specs.List.{list_any}
 use Rattle.std.specs.BTreeMap.{get, is_at}
 use Rattle.std.specs.Map.{lookup}
 use Rattle.std.specs.FinMap as finite
 use Rattle.std.specs.FinMap.{FinMap, find, entries, entries-insert, get-entries, insert, contains_key}
 use Rattle.std.proofs.lemmas.Bool.{and_parts}
-use Rattle.std.proofs.lemmas.Bool.Decides.{eqb_tells}
-use Rattle.std.proofs.lemmas.Fmt.{decimal_nonempty}
-use Rattle.std.proofs.lemmas.List.{append_assoc, append_cancel_right, map-append}
+use Rattle.std.proofs.lemmas.Bool.Decides.{eqb_tells, leb_tells}
 use Rattle.alto_words.specs.declared.fid.Fid.{Fid}
 use Rattle.alto_words.specs.Fid.{fid_cmp, is_fid, sys_dir}
-use Rattle.alto_words.specs.Names.{fold_case, is_same_name, suffix_of, suffixed}
+use Rattle.alto_words.specs.Names.{is_same_name, suffixed}
 use Rattle.pack_model.specs.Namings.{sys_dir_name, descriptor_name}
 use Rattle.pack_model.specs.View.{Home, Seen}
 use Rattle.pack_model.specs.Settling.{is_taken, choice, given, adopted, chosen}
@@ -24,45 +20,10 @@ use Rattle.pack_laws.proofs.Inserting.{list_any-put}
 use Rattle.pack_reading.specs.declared.names.Place.{Place}
 use Rattle.pack_reading.specs.declared.passed.Passed.{Passed}
 use Rattle.pack_reading.specs.Homes.{place_cmp}
-use Rattle.pack_reading.specs.Passed.{first_suffix, passed_of, AreTaken, IsPassed}
+use Rattle.pack_reading.specs.Passed.{suffix_place, passed_of, AreTaken, IsPassed}
 use Rattle.pack_reading.proofs.Choosing.{Choosing, choosing_none, choosing_here, choosing_next, choosing_end, chosen_is}
+use Rattle.pack_reading.proofs.Suffixes.{same_later, same_numbers}
 use Rattle.pack_reading.proofs.Tests.{none_of, tie_places, same_congr}
-
--- ---- names that differ by the case of letters alone
-folded : (a b : List ℕ) → is_same_name a b ≡ true → map fold_case a ≡ map fold_case b
-folded a b same = same_text (map fold_case a) (map fold_case b) (sym same)
-
-same_folded : (a b : List ℕ) → map fold_case a ≡ map fold_case b → is_same_name a b ≡ true
-same_folded a b e = ap (λ l. pointwise nat_eq l (map fold_case b)) e ∙ nat_list_eq_equiv.refl (map fold_case b)
-
-fold_suffixed : (name : List ℕ) (k : ℕ) → map fold_case (suffixed name k) ≡ take (38 - length (suffix_of k)) (map fold_case name) ++ map fold_case (suffix_of k ++ (46 ∷ []))
-unfolding suffixed
-fold_suffixed name k =
-    ap (map fold_case) (append_assoc (take (38 - length (suffix_of k)) name) (suffix_of k) (46 ∷ []))
-    ∙ map-append fold_case (take (38 - length (suffix_of k)) name) (suffix_of k ++ (46 ∷ []))
-    ∙ ap (λ l. l ++ map fold_case (suffix_of k ++ (46 ∷ []))) (sym (take-map fold_case (38 - length (suffix_of k)) name))
-
-take_fewer : (xs : List ℕ) (n m : ℕ) → n ≤ m → take n (take m xs) ≡ take n xs
-take_fewer xs zero m few = refl
-take_fewer xs (suc n) zero few = absurd (omega arith)
-take_fewer [] (suc n) (suc m) few = refl
-take_fewer (x ∷ xs) (suc n) (suc m) few = ap (λ l. x ∷ l) (take_fewer xs n m (omega arith))
-
-room_for_one : 38 - length (suffix_of 1) ≡ 36
-unfolding digits
-room_for_one = refl
-
--- names with the same first suffix have the same others
-same_suffixes : (a b : List ℕ) → is_same_name (suffixed a 1) (suffixed b 1) ≡ true → (k : ℕ) → k < 65535 → is_same_name (suffixed a (suc k)) (suffixed b (suc k)) ≡ true
-same_suffixes a b same k few =
-    let front : take 36 (map fold_case a) ≡ take 36 (map fold_case b) =
-    subst (λ n. take n (map fold_case a) ≡ take n (map fold_case b)) room_for_one
-    (append_cancel_right _ _ (map fold_case (suffix_of 1 ++ (46 ∷ []))) (sym (fold_suffixed a 1) ∙ folded (suffixed a 1) (suffixed b 1) same ∙ fold_suffixed b 1)) in
-    let n = 38 - length (suffix_of (suc k)) in
-    let digits = decimal_nonempty (suc k) (omega arith) in
-    let short : n ≤ 36 = omega (arith, digits) in
-    let fronts : take n (map fold_case a) ≡ take n (map fold_case b) = sym (take_fewer (map fold_case a) n 36 short) ∙ ap (take n) front ∙ take_fewer (map fold_case b) n 36 short in
-    same_folded (suffixed a (suc k)) (suffixed b (suc k)) (fold_suffixed a (suc k) ∙ ap (λ l. l ++ map fold_case (suffix_of (suc k) ++ (46 ∷ []))) fronts ∙ sym (fold_suffixed b (suc k)))
 
 -- ---- what is taken
 taken_same : (homes : FinMap fid_cmp Home) (a b : List ℕ) → is_same_name a b ≡ true → is_taken homes a ≡ is_taken homes b
@@ -86,15 +47,15 @@ taken_stays homes f h name none taken =
 
 -- ---- what is known to be taken
 pub none_passed : (homes : FinMap fid_cmp Home) (passed : Passed) → passed.counts.entries ≡ [] → IsPassed homes passed
-none_passed homes passed none name k less few =
-    let zeroth : passed_of passed name ≡ 0 = ap (λ es. unwrap_or (lookup (is_at (place_cmp (first_suffix name))) es) 0) none in
+none_passed homes passed none name first few k from less =
+    let zeroth : passed_of passed name first ≡ 0 = ap (λ es. unwrap_or (lookup (is_at (place_cmp (suffix_place name first))) es) 0) none in
     absurd (omega (arith, less, zeroth))
 
 -- it stays so when a file gets a name
 pub passed_adopted : (homes : FinMap fid_cmp Home) (passed : Passed) (e : Fid × Seen) → IsPassed homes passed → IsPassed (adopted homes e) passed
 passed_adopted homes passed e is = elim (contains_key homes e.0) as (λ b. contains_key homes e.0 ≡ b → IsPassed (cond b homes (given homes e.0 e.1)) passed) [
   | true ↦ λ _. is
-  | false ↦ λ absent. λ name k less few. taken_stays homes e.0 _ (suffixed name (suc k)) (none_of (finite.get homes e.0) absent) (is name k less few)
+  | false ↦ λ absent. λ name first few k from less. taken_stays homes e.0 _ (suffixed name k) (none_of (finite.get homes e.0) absent) (is name first few k from less)
 ] refl
 
 -- a fact that holds whatever a call answers
@@ -103,18 +64,40 @@ always (Ok x) h = h
 always (Err e) h = tt
 
 -- and with a new count
-pub passed_kept : (homes : FinMap fid_cmp Home) (old new : Passed) (name : List ℕ) (count : ℕ) → IsPassed homes old → AreTaken homes name count
-    → ((q : Place) → get place_cmp new.counts q ≡ cond (is_eq (place_cmp (first_suffix name) q)) (Some count) (get place_cmp old.counts q)) → IsPassed homes new
-passed_kept homes old new name count is taken updates other k less few = by (is_eq (place_cmp (first_suffix name) (first_suffix other))) refl
+pub passed_kept : (homes : FinMap fid_cmp Home) (old new : Passed) (name : List ℕ) (first count : ℕ) → IsPassed homes old → first ≤ 65535 → count < 2 ^ 32 → AreTaken homes name first (first + count)
+    → ((q : Place) → get place_cmp new.counts q ≡ cond (is_eq (place_cmp (suffix_place name first) q)) (Some count) (get place_cmp old.counts q)) → IsPassed homes new
+passed_kept homes old new name first count is most fits taken updates other start few k from less = by (is_eq (place_cmp (suffix_place name first) (suffix_place other start))) refl
   where
-    by : (b : Bool) → is_eq (place_cmp (first_suffix name) (first_suffix other)) ≡ b → is_taken homes (suffixed other (suc k)) ≡ true
+    by : (b : Bool) → is_eq (place_cmp (suffix_place name first) (suffix_place other start)) ≡ b → is_taken homes (suffixed other k) ≡ true
     by true tie =
-        let counted : passed_of new other ≡ count = ap (λ o. unwrap_or o 0) (updates (first_suffix other)) ∙ ap (λ b. unwrap_or (cond b (Some count) (get place_cmp old.counts (first_suffix other))) 0) tie in
-        let same = (and_parts (is_fid sys_dir sys_dir) (is_same_name (suffixed name 1) (suffixed other 1)) (sym (tie_places (first_suffix name) (first_suffix other)) ∙ tie)).1 in
-        sym (taken_same homes (suffixed name (suc k)) (suffixed other (suc k)) (same_suffixes name other same k few)) ∙ taken k (omega (arith, less, counted)) few
+        let counted : passed_of new other start ≡ count = ap (λ o. unwrap_or o 0) (updates (suffix_place other start)) ∙ ap (λ b. unwrap_or (cond b (Some count) (get place_cmp old.counts (suffix_place other start))) 0) tie in
+        let same = (and_parts (is_fid sys_dir sys_dir) (is_same_name (suffixed name first) (suffixed other start)) (sym (tie_places (suffix_place name first) (suffix_place other start)) ∙ tie)).1 in
+        let one : first ≡ start = same_numbers name other first start (omega arith) (omega arith) same in
+        let at_one = subst (λ n. is_same_name (suffixed name n) (suffixed other start) ≡ true) one same in
+        sym (taken_same homes (suffixed name k) (suffixed other k) (same_later name other start k from (omega (arith, less, counted)) at_one)) ∙ taken k (omega (arith, from, one)) (omega (arith, less, counted, one))
     by false apart =
-        let counted : passed_of new other ≡ passed_of old other = ap (λ o. unwrap_or o 0) (updates (first_suffix other)) ∙ ap (λ b. unwrap_or (cond b (Some count) (get place_cmp old.counts (first_suffix other))) 0) apart in
-        is other k (omega (arith, less, counted)) few
+        let counted : passed_of new other start ≡ passed_of old other start =
+        ap (λ o. unwrap_or o 0) (updates (suffix_place other start)) ∙ ap (λ b. unwrap_or (cond b (Some count) (get place_cmp old.counts (suffix_place other start))) 0) apart in
+        is other start few k from (omega (arith, less, counted))
+
+-- ---- suffixes that are taken, one after another
+-- one more
+pub taken_more : (homes : FinMap fid_cmp Home) (name : List ℕ) (first end : ℕ) → AreTaken homes name first end → is_taken homes (suffixed name end) ≡ true → AreTaken homes name first (end + 1)
+taken_more homes name first end taken here k from less = elim (eqb_tells k end) as (λ _. is_taken homes (suffixed name k) ≡ true) [
+  | inl last ↦ ap (λ n. is_taken homes (suffixed name n)) last.1 ∙ here
+  | inr before ↦ taken k from (omega (arith, less, before.1))
+]
+
+-- more of them, behind those
+pub taken_on : (homes : FinMap fid_cmp Home) (name : List ℕ) (first next end : ℕ) → AreTaken homes name first next → AreTaken homes name next end → AreTaken homes name first end
+taken_on homes name first next end before behind k from less = elim (leb_tells next k) as (λ _. is_taken homes (suffixed name k) ≡ true) [
+  | inl later ↦ behind k later.1 less
+  | inr sooner ↦ before k from sooner.1
+]
+
+-- the same by their number
+pub taken_by_count : (homes : FinMap fid_cmp Home) (name : List ℕ) (first end : ℕ) → AreTaken homes name first end → AreTaken homes name first (first + (end - first))
+taken_by_count homes name first end taken k from less = taken k from (omega (arith, from, less))
 
 -- ---- the choice behind them
 -- so many choices are taken
@@ -123,34 +106,25 @@ choosing_taken taken name all zero within each = choosing_none taken name all
 choosing_taken taken name all (suc k) within each =
     subst (Choosing taken name all) (add-one k) (choosing_next taken name all k (choosing_taken taken name all k (omega arith) (λ j less. each j (omega arith))) (omega arith) (each k (omega arith)))
 
--- the name itself and so many suffixes are
-pub passed_choosing : (homes : FinMap fid_cmp Home) (name : List ℕ) (k : ℕ) → k < 65535 → is_taken homes name ≡ true → AreTaken homes name k → Choosing (is_taken homes) name 65535 (suc k)
-passed_choosing homes name k few first taken = choosing_taken (is_taken homes) name 65535 (suc k) (omega arith) by
+-- the name itself and the suffixes before this one are
+passed_choosing : (homes : FinMap fid_cmp Home) (name : List ℕ) (k : ℕ) → k ≤ 65535 → is_taken homes name ≡ true → AreTaken homes name 1 k → Choosing (is_taken homes) name 65535 k
+passed_choosing homes name k most itself taken = choosing_taken (is_taken homes) name 65535 k most by
   where
-    by : (j : ℕ) → j < suc k → is_taken homes (choice name j) ≡ true
-    by zero less = first
-    by (suc j) less = taken j (omega arith) (omega arith)
-
-pub taken_more : (homes : FinMap fid_cmp Home) (name : List ℕ) (k : ℕ) → AreTaken homes name k → is_taken homes (suffixed name (k + 1)) ≡ true → AreTaken homes name (k + 1)
-taken_more homes name k taken here j less few = elim (eqb_tells j k) as (λ _. is_taken homes (suffixed name (suc j)) ≡ true) [
-  | inl last ↦ let one : suc j ≡ k + 1 = omega (arith, last.1) in ap (λ n. is_taken homes (suffixed name n)) one ∙ here
-  | inr before ↦ taken j (omega (arith, less, before.1)) few
-]
+    by : (j : ℕ) → j < k → is_taken homes (choice name j) ≡ true
+    by zero less = itself
+    by (suc j) less = taken (suc j) (omega arith) less
 
 -- the name itself isn't taken
 pub free_itself : (homes : FinMap fid_cmp Home) (name : List ℕ) → is_taken homes name ≡ false → name ≡ chosen homes name
 free_itself homes name no_one = choosing_here (is_taken homes) name 65535 0 (choosing_none (is_taken homes) name 65535) (omega arith) no_one ∙ chosen_is homes name
 
--- it is, and the suffix behind those that are taken isn't
-pub free_here : (homes : FinMap fid_cmp Home) (name : List ℕ) (k : ℕ) → k < 65534 → AreTaken homes name k → is_taken homes (suffixed name (k + 1)) ≡ false → is_taken homes name ≡ true → suffixed name (k + 1) ≡ chosen homes name
-free_here homes name k few taken no_one first =
-    let one : suc k ≡ k + 1 = omega arith in
-    ap (suffixed name) (sym one)
-    ∙ choosing_here (is_taken homes) name 65535 (suc k) (passed_choosing homes name k (omega arith) first taken) (omega arith) (ap (λ n. is_taken homes (suffixed name n)) one ∙ no_one)
+-- it is, and so are the suffixes before one that isn't
+pub free_here : (homes : FinMap fid_cmp Home) (name : List ℕ) (k : ℕ) → 1 ≤ k → k < 65535 → is_taken homes name ≡ true → AreTaken homes name 1 k → is_taken homes (suffixed name k) ≡ false → suffixed name k ≡ chosen homes name
+free_here homes name zero some few itself taken no_one = absurd (omega arith)
+free_here homes name (suc k) some few itself taken no_one =
+    choosing_here (is_taken homes) name 65535 (suc k) (passed_choosing homes name (suc k) (omega arith) itself taken) few no_one
     ∙ chosen_is homes name
 
--- all are taken
-pub free_last : (homes : FinMap fid_cmp Home) (name : List ℕ) (k : ℕ) → 65534 ≤ k → AreTaken homes name k → is_taken homes name ≡ true → suffixed name 65535 ≡ chosen homes name
-free_last homes name k end taken first =
-    choosing_end (is_taken homes) name 65535 65535 (passed_choosing homes name 65534 (omega arith) first (λ j less few. taken j (omega arith) few)) (omega arith)
-    ∙ chosen_is homes name
+-- all that are asked for are taken
+pub free_last : (homes : FinMap fid_cmp Home) (name : List ℕ) → is_taken homes name ≡ true → AreTaken homes name 1 65535 → suffixed name 65535 ≡ chosen homes name
+free_last homes name itself taken = choosing_end (is_taken homes) name 65535 65535 (passed_choosing homes name 65535 (omega arith) itself taken) (omega arith) ∙ chosen_is homes name

@@ -1,17 +1,15 @@
 -- The scan of all directories, entry by entry.
-use Rattle.std.proofs.Common.{◌≡◌, ℕ, ◌+◌, ◌<◌, Bool, true, false, cond, not, List, [], ◌∷◌, ◌++◌, length, take, get_or, map, None, Result, refl, sym, ap, subst, ◌∙◌}
+use Rattle.std.proofs.Common.{◌≡◌, ℕ, ◌+◌, ◌<◌, ◌≤◌, Bool, true, false, cond, not, List, [], ◌∷◌, ◌++◌, length, take, drop, get_or, None, Some, Result, refl, sym, ap, subst, ◌∙◌}
 use Rattle.std.specs.Prelude.{◌&&◌, ◌||◌, OnOk, fold}
 use Rattle.std.specs.BTreeSet.{contains}
 use Rattle.std.specs.FinMap.{FinMap, get, insert, contains_key}
 use Rattle.std.proofs.lemmas.Result.{on_ok_weaker}
-use Rattle.std.proofs.lemmas.List.{append_assoc, append-nil, take_more, map-append}
+use Rattle.std.proofs.lemmas.List.{append_assoc, append-nil, take_more}
 use Rattle.alto_words.specs.declared.fid.Fid.{Fid}
 use Rattle.alto_words.specs.Fid.{fid_cmp, is_fid, is_system, is_directory, sys_dir}
 use Rattle.alto_words.specs.Names.{is_same_name}
-use Rattle.dir_slots.specs.declared.slot.Slot.{Slot}
-use Rattle.dir_slots.specs.Items.{item_of}
 use Rattle.pack_model.specs.Bytes.{words_of}
-use Rattle.pack_model.specs.Slots.{Item, slots}
+use Rattle.pack_model.specs.Slots.{Item, item_words, slot_at, slots}
 use Rattle.pack_model.specs.Slots.Item.{space, entry}
 use Rattle.pack_model.specs.Bodies.Body.{data_of, items_of}
 use Rattle.pack_model.specs.Namings.{Naming, namings_in, body_namings, sys_dir_name, descriptor_name}
@@ -21,6 +19,7 @@ use Rattle.pack_reading.specs.declared.names.Names.{Names}
 use Rattle.pack_reading.specs.declared.names.Entry.{Entry}
 use Rattle.pack_reading.specs.Homes.{place_cmp, home_at, naming_at, is_taken_in, may_show, considered, namings_of, all_namings, StandsFor}
 use Rattle.pack_reading.proofs.Tests.{may_show_is, none_of}
+use Rattle.pack_reading.proofs.Slots.{slots-none, slots-some}
 
 -- ---- which entries may stand
 module _ (lives : Fid → Bool) (e : Naming) where
@@ -81,17 +80,30 @@ directory_namings file is = ap (λ b. body_namings file.fid (cond b (items_of (s
 pub no_namings : (file : Found) → is_directory file.fid ≡ false → namings_of file ≡ []
 no_namings file is = ap (λ b. body_namings file.fid (cond b (items_of (slots (words_of file.bytes))) (data_of file.bytes))) is
 
--- ---- one slot and one file more
-pub slot_more : (lives : Fid → Bool) (d : Fid) (all : List Slot) (i : ℕ) (slot : Slot) (homes : FinMap fid_cmp Home) → i < length all → slot ≡ get_or all i slot
-    → fold (considered lives) (fold (considered lives) homes (namings_in d (map item_of (take i all)))) (namings_in d (item_of slot ∷ [])) ≡ fold (considered lives) homes (namings_in d (map item_of (take (i + 1) all)))
-slot_more lives d all i slot homes more is =
-    sym (
-    ap (λ l. fold (considered lives) homes (namings_in d (map item_of l))) (take_more all i slot more ∙ ap (λ s. take i all ++ s ∷ []) (sym is))
-    ∙ ap (λ l. fold (considered lives) homes (namings_in d l)) (map-append item_of (take i all) (slot ∷ []))
-    ∙ ap (fold (considered lives) homes) (namings_in-append d (map item_of (take i all)) (item_of slot ∷ []))
-    ∙ fold-append (considered lives) homes (namings_in d (map item_of (take i all))) (namings_in d (item_of slot ∷ []))
-    )
+-- ---- a directory's words, slot by slot
+-- so far the scan has come: the entries of the words that are left, considered on from here, come to all of these
+pub record ComesTo (lives : Fid → Bool) (d : Fid) (names : Names) (rest : List ℕ) (all : FinMap fid_cmp Home) : Type 0 where
+  pub homes : FinMap fid_cmp Home
+  pub stands : StandsFor names homes
+  pub ahead : fold (considered lives) homes (namings_in d (slots rest)) ≡ all
 
+module _ (lives : Fid → Bool) (d : Fid) where
+  -- the first slot of these words, and then those behind it
+  pub slot_considered : (words : List ℕ) (i : Item) (homes : FinMap fid_cmp Home) → slot_at words ≡ Some i → 1 ≤ item_words i → item_words i ≤ length words
+      → fold (considered lives) (fold (considered lives) homes (namings_in d (i ∷ []))) (namings_in d (slots (drop (item_words i) words))) ≡ fold (considered lives) homes (namings_in d (slots words))
+  slot_considered words i homes some least most =
+      let behind : List Item = slots (drop (item_words i) words) in
+      sym (
+      ap (λ is. fold (considered lives) homes (namings_in d is)) (slots-some words i some least most)
+      ∙ ap (fold (considered lives) homes) (namings_in-append d (i ∷ []) behind)
+      ∙ fold-append (considered lives) homes (namings_in d (i ∷ [])) (namings_in d behind)
+      )
+
+  -- no slot is left
+  pub none_left : (names : Names) (words : List ℕ) (all : FinMap fid_cmp Home) → slot_at words ≡ None → ComesTo lives d names words all → StandsFor names all
+  none_left names words all none so_far = subst (StandsFor names) (ap (λ is. fold (considered lives) so_far.homes (namings_in d is)) (sym (slots-none words none)) ∙ so_far.ahead) so_far.stands
+
+-- ---- one file more
 pub file_more : (lives : Fid → Bool) (all : List Found) (i : ℕ) (file : Found) (homes : FinMap fid_cmp Home) → i < length all → file ≡ get_or all i file
     → fold (considered lives) (fold (considered lives) homes (all_namings (take i all))) (namings_of file) ≡ fold (considered lives) homes (all_namings (take (i + 1) all))
 file_more lives all i file homes more is =

@@ -1,5 +1,5 @@
 -- Suffixes that are known to be taken.
-use Rattle.std.specs.Prelude.{◌≡◌, ℕ, suc, ◌<◌, true, List, unwrap_or}
+use Rattle.std.specs.Prelude.{◌≡◌, ℕ, ◌+◌, ◌<◌, ◌≤◌, true, false, List, Option, unwrap_or, IfSome}
 use Rattle.std.specs.BTreeMap.{get}
 use Rattle.std.specs.FinMap.{FinMap}
 use Rattle.alto_words.specs.Fid.{fid_cmp, sys_dir}
@@ -8,19 +8,26 @@ use Rattle.pack_model.specs.Settling.{is_taken}
 use Rattle.pack_model.specs.View.{Home}
 use Rattle.pack_reading.specs.declared.names.Place.{Place}
 use Rattle.pack_reading.specs.declared.passed.Passed.{Passed}
+use Rattle.pack_reading.specs.declared.groups.Group.{Group}
 use Rattle.pack_reading.specs.Homes.{place_cmp}
 
-abbrev pub first_suffix : List ℕ → Place
-first_suffix name = record { directory = sys_dir; name = suffixed name 1 }
+-- where a suffix of a name stands
+abbrev pub suffix_place : List ℕ → ℕ → Place
+suffix_place name k = record { directory = sys_dir; name = suffixed name k }
 
--- how many first suffixes of a name are known to be taken
-abbrev pub passed_of : Passed → List ℕ → ℕ
-passed_of passed name = unwrap_or (get place_cmp passed.counts (first_suffix name)) 0
+-- how many suffixes of a name, from a first one on, are known to be taken
+abbrev pub passed_of : Passed → List ℕ → ℕ → ℕ
+passed_of passed name first = unwrap_or (get place_cmp passed.counts (suffix_place name first)) 0
 
--- the first suffixes of a name are taken, so many of them, and of those that are asked for
-abbrev pub AreTaken : FinMap fid_cmp Home → List ℕ → ℕ → Type 0
-AreTaken homes name count = (k : ℕ) → k < count → k < 65535 → is_taken homes (suffixed name (suc k)) ≡ true
+-- the suffixes of a name from a first one on, and before an end, are taken
+abbrev pub AreTaken : FinMap fid_cmp Home → List ℕ → ℕ → ℕ → Type 0
+AreTaken homes name first end = (k : ℕ) → first ≤ k → k < end → is_taken homes (suffixed name k) ≡ true
 
--- what is known is so
+-- the first suffix of a group that isn't taken, or none where all of them are
+pub record IsFirstFree (homes : FinMap fid_cmp Home) (name : List ℕ) (group : Group) (suffix : Option ℕ) : Type 0 where
+  pub free : IfSome suffix (λ k. is_taken homes (suffixed name k) ≡ false)
+  pub taken : AreTaken homes name group.first (unwrap_or suffix group.end)
+
+-- what is known is so, from whichever suffix on
 abbrev pub IsPassed : FinMap fid_cmp Home → Passed → Type 0
-IsPassed homes passed = (name : List ℕ) → AreTaken homes name (passed_of passed name)
+IsPassed homes passed = (name : List ℕ) (first : ℕ) → first ≤ 65535 → AreTaken homes name first (first + passed_of passed name first)

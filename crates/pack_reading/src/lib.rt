@@ -11,6 +11,7 @@
 mod bytes;
 mod error;
 mod files;
+mod groups;
 mod names;
 mod pack;
 mod passed;

@@ -1,10 +1,9 @@
 // Suffixes that are known to be taken, so that they aren't asked for again.
-ghost use Rattle.std.specs.Prelude.{◌≡◌, OnOk};
+ghost use Rattle.std.specs.Prelude.{◌≡◌, ◌≤◌, ◌+◌, OnOk};
 ghost use Rattle.std.specs.FinMap.{FinMap};
-ghost use Rattle.alto_words.specs.Fid.{fid_cmp, sys_dir};
-ghost use Rattle.alto_words.specs.Names.{suffixed};
+ghost use Rattle.alto_words.specs.Fid.{fid_cmp};
 ghost use Rattle.pack_model.specs.View.{Home};
-ghost use Rattle.pack_reading.specs.Passed.{passed_of, IsPassed, AreTaken};
+ghost use Rattle.pack_reading.specs.Passed.{suffix_place, passed_of, IsPassed, AreTaken};
 
 use crate::files::SYS_DIR;
 use crate::names::Place;
@@ -12,10 +11,10 @@ use alto_words::{Memory, Name};
 use std::alloc::Global;
 use std::collections::BTreeMap;
 
-/// How many first suffixes of names are known to be taken in SysDir.
+/// How many suffixes of names, from some first ones on, are known to be taken in SysDir.
 #[derive(Drop)]
 pub(crate) struct Passed {
-    /// By the place of the first suffix: names that have it in common have all of them.
+    /// By the place of the first one: names that have it in common have all later ones in common, which keep no more of a name.
     pub(crate) counts: BTreeMap<Place, u32>,
 }
 
@@ -29,33 +28,39 @@ impl Passed {
         }
     }
 
-    /// How many first suffixes of a name are known to be taken.
-    pub(crate) fn count(&self, name: Name) -> u32
-        ensures { result ≡ passed_of self.now name }
+    /// How many suffixes of a name, from this first one on, are known to be taken.
+    pub(crate) fn count(&self, name: Name, first: u32) -> u32
+        requires least { 1 ≤ first }
+        requires most { first ≤ 65535 }
+        ensures { result ≡ passed_of self.now name first }
     {
-        match self.counts.get(&first_suffix(name)) {
+        match self.counts.get(&place_of(name, first)) {
             Some(count) => *count,
             None => 0,
         }
     }
 
-    /// Keeps that so many first suffixes of a name are taken.
-    pub(crate) fn keep(&mut self, name: Name, count: u32) -> Result<(), Memory>
-        ensures { (homes : FinMap fid_cmp Home) → IsPassed homes self.old → AreTaken homes name count → OnOk result (IsPassed homes self.new) }
+    /// Keeps that so many suffixes of a name, from this first one on, are taken.
+    pub(crate) fn keep(&mut self, name: Name, first: u32, count: u32) -> Result<(), Memory>
+        requires least { 1 ≤ first }
+        requires most { first ≤ 65535 }
+        ensures { (homes : FinMap fid_cmp Home) → IsPassed homes self.old → AreTaken homes name first (first + count) → OnOk result (IsPassed homes self.new) }
     {
-        match self.counts.insert(first_suffix(name), count) {
+        match self.counts.insert(place_of(name, first), count) {
             Ok(_) => Ok(()),
             Err(_) => Err(Memory),
         }
     }
 }
 
-/// The place of the first suffix of a name.
-fn first_suffix(name: Name) -> Place
-    ensures { result ≡ record { directory = sys_dir; name = suffixed name 1 } }
+/// The place of a suffix of a name.
+fn place_of(name: Name, suffix: u32) -> Place
+    requires least { 1 ≤ suffix }
+    requires most { suffix ≤ 65535 }
+    ensures { result ≡ suffix_place name suffix }
 {
     Place {
         directory: SYS_DIR,
-        name: name.suffixed(1),
+        name: name.suffixed(suffix),
     }
 }

@@ -15,7 +15,7 @@ use crate::files::{Found, SYS_DIR, is_system};
 use crate::names::{Entry, Names, Place};
 use crate::swept::Leaders;
 use alto_words::{Fid, Memory, Name};
-use dir_slots::{Slot, read_slots};
+use dir_slots::{Slot, first_slot};
 use std::alloc::Global;
 
 /// Whether this is the name of a system file.
@@ -79,7 +79,8 @@ fn consider_slot(
     }
 }
 
-/// Considers the entries of a directory, each in its turn.
+/// Considers the entries of a directory, each in its turn. No list of its slots is made: in memory a slot is many times as long as the
+/// one word that it may have.
 fn scan_directory(
     alloc: Global,
     names: &mut Names,
@@ -92,9 +93,10 @@ fn scan_directory(
         return Ok(());
     }
     let words = words_of(alloc, file.bytes.as_slice())?;
-    let (slots, _) = read_slots(alloc, words.as_slice())?;
-    for slot in slots.as_slice() {
-        consider_slot(names, leaders, file.fid, slot)?;
+    let mut rest = words.as_slice();
+    while let Some(slot) = first_slot(rest) {
+        consider_slot(names, leaders, file.fid, &slot)?;
+        rest = &rest[slot.words() as usize..];
     }
     Ok(())
 }

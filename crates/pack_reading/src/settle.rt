@@ -1,24 +1,22 @@
 // The names that nameless files get.
-ghost use Rattle.std.specs.Prelude.{◌≡◌, ◌≤◌, ◌-◌, true, map, IfOk, OnOk};
+ghost use Rattle.std.specs.Prelude.{◌≡◌, ◌≤◌, ◌<◌, true, map, IfSome, IfOk, OnOk};
 ghost use Rattle.std.specs.FinMap.{FinMap};
 ghost use Rattle.alto_words.specs.Fid.{fid_cmp};
 ghost use Rattle.alto_words.specs.Names.{suffixed};
 ghost use Rattle.pack_model.specs.Settling.{is_taken, chosen, adopted, settled};
 ghost use Rattle.pack_model.specs.View.{Home};
 ghost use Rattle.pack_reading.specs.Homes.{StandsFor, naming_at};
-ghost use Rattle.pack_reading.specs.Passed.{AreTaken, IsPassed};
+ghost use Rattle.pack_reading.specs.Passed.{IsPassed, IsFirstFree};
 ghost use Rattle.pack_reading.specs.Shows.{seen_file, shown_name};
 
 use crate::files::SYS_DIR;
+use crate::groups::{GROUPS, Group, MOST_SUFFIXES};
 use crate::names::{Entry, Names, Place};
 use crate::passed::Passed;
 use crate::scan::is_system_name;
 use crate::shown::{ShownFile, ShownName};
 use alto_words::{List, Memory, Name};
 use std::alloc::Global;
-
-/// More suffixes than this are never asked for.
-const MOST_SUFFIXES: u32 = 65535;
 
 /// Whether a name in SysDir is given away, or is that of a system file.
 fn is_taken(names: &Names, name: Name) -> bool
@@ -31,22 +29,52 @@ fn is_taken(names: &Names, name: Name) -> bool
         })
 }
 
-/// The first suffix of a name that isn't taken, where the name itself is.
-fn free_suffix(names: &Names, passed: &Passed, name: Name) -> u32
-    ensures least { 1 ≤ result }
-    ensures most { result ≤ 65535 }
-    ensures chosen { (homes : FinMap fid_cmp Home) → StandsFor names.now homes → IsPassed homes passed.now → is_taken homes name ≡ true → suffixed name result ≡ chosen homes name }
-    ensures taken { (homes : FinMap fid_cmp Home) → StandsFor names.now homes → IsPassed homes passed.now → AreTaken homes name (result - 1) }
+/// The first suffix of a name in a group that isn't taken, past those that are known to be.
+fn next_in_group(names: &Names, passed: &Passed, name: Name, group: Group) -> Option<u32>
+    ensures within { IfSome result (λ k. (group.first ≤ k) × (k < group.end)) }
+    ensures free { (homes : FinMap fid_cmp Home) → StandsFor names.now homes → IsPassed homes passed.now → IsFirstFree homes name group result }
 {
-    for k in passed.count(name)..MOST_SUFFIXES - 1 {
-        if !is_taken(names, name.suffixed(k + 1)) {
-            return k + 1;
+    for count in passed.count(name, group.first)..group.end - group.first {
+        let k = group.first + count;
+        if !is_taken(names, name.suffixed(k)) {
+            return Some(k);
         }
     }
-    MOST_SUFFIXES
+    None
 }
 
-/// The name itself, or where it is taken its first suffix that isn't. The suffixes before that aren't asked for again.
+/// The first suffix of a name in a group that isn't taken. Those before it aren't asked for again.
+fn free_in_group(
+    names: &Names,
+    passed: &mut Passed,
+    name: Name,
+    group: Group,
+) -> Result<Option<u32>, Memory>
+    ensures within { IfOk result (λ free. IfSome free (λ k. (group.first ≤ k) × (k < group.end))) }
+    ensures free { (homes : FinMap fid_cmp Home) → StandsFor names.now homes → IsPassed homes passed.old → IfOk result (λ free. IsFirstFree homes name group free) }
+    ensures passed { (homes : FinMap fid_cmp Home) → StandsFor names.now homes → IsPassed homes passed.old → OnOk result (IsPassed homes passed.new) }
+{
+    let free = next_in_group(names, passed, name, group);
+    passed.keep(name, group.first, free.unwrap_or(group.end) - group.first)?;
+    Ok(free)
+}
+
+/// The first suffix of a name that isn't taken, where the name itself is. Those before it aren't asked for again.
+fn free_suffix(names: &Names, passed: &mut Passed, name: Name) -> Result<u32, Memory>
+    ensures least { IfOk result (λ k. 1 ≤ k) }
+    ensures most { IfOk result (λ k. k ≤ 65535) }
+    ensures chosen { (homes : FinMap fid_cmp Home) → StandsFor names.now homes → IsPassed homes passed.old → is_taken homes name ≡ true → IfOk result (λ k. suffixed name k ≡ chosen homes name) }
+    ensures passed { (homes : FinMap fid_cmp Home) → StandsFor names.now homes → IsPassed homes passed.old → OnOk result (IsPassed homes passed.new) }
+{
+    for &group in &GROUPS {
+        if let Some(k) = free_in_group(names, passed, name, group)? {
+            return Ok(k);
+        }
+    }
+    Ok(MOST_SUFFIXES)
+}
+
+/// The name itself, or where it is taken its first suffix that isn't.
 fn choose(names: &Names, passed: &mut Passed, name: Name) -> Result<Name, Memory>
     ensures chosen { (homes : FinMap fid_cmp Home) → StandsFor names.now homes → IsPassed homes passed.old → IfOk result (λ given. given ≡ chosen homes name) }
     ensures passed { (homes : FinMap fid_cmp Home) → StandsFor names.now homes → IsPassed homes passed.old → OnOk result (IsPassed homes passed.new) }
@@ -54,8 +82,7 @@ fn choose(names: &Names, passed: &mut Passed, name: Name) -> Result<Name, Memory
     if !is_taken(names, name) {
         return Ok(name);
     }
-    let k = free_suffix(names, passed, name);
-    passed.keep(name, k - 1)?;
+    let k = free_suffix(names, passed, name)?;
     Ok(name.suffixed(k))
 }
 

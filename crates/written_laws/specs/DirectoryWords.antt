@@ -31,8 +31,8 @@ EntryWritten = (f : Fid) (address : ℕ) (name : List ℕ) (left : ℕ) → is_f
 abbrev pub left_in : Room → List ℕ → ℕ
 left_in r name = r.total - entry_length (length name)
 
--- A living directory and a living file without an entry, and a stored name that isn't in the directory; the room that was found
--- for the entry; the sectors of the page where it begins, and of the next one where words lie over the page's end.
+-- A living directory and a living file without an entry, which is no system file, and a stored name that isn't in the directory; the
+-- room that was found for the entry; the sectors of the page where it begins, and of the next one where words lie over the page's end.
 pub record CanEnter (p : Pack) (d : Fid) (name : List ℕ) (f : Fid) (r : Room) (words : List ℕ) (at next_at : ℕ) : Type 0 where
   pub directory : is_directory d ≡ true
   pub living : lives (sights p) d ≡ true
@@ -51,7 +51,7 @@ pub record EntersThere (p : Pack) (d : Fid) (name : List ℕ) (f : Fid) (r : Roo
   pub may : MayEnterAt p d name f before old behind (left_in r name) words at next_at
   pub room : entry_room before old at next_at ≡ found_room r (dir_items (read_pack p) d) at next_at
 
--- the words of the entry, with any address, and of a free slot for those left over
+-- the words of the entry, with any address, and of a free slot for those left over may be entered in the room that was found
 abbrev pub EnteredWords : Type 0
 EnteredWords = (p : Pack) (d : Fid) (name : List ℕ) (f : Fid) (address : ℕ) (r : Room) (at next_at : ℕ) → let words : List ℕ = entered_words f address name (left_in r name) in
     CanEnter p d name f r words at next_at → EntersThere p d name f r words at next_at

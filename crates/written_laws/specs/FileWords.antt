@@ -49,8 +49,8 @@ abbrev pub PutInWords : Type 0
 PutInWords = (p : Pack) (f : Fid) (offset : ℕ) (new : List ℕ) (at : ℕ) → Whole p → CanPut p f offset new at → MayPut p f offset new at (put_value (offset % 512) new [] (sector_at p at).value)
 
 -- ---- grow, and widen
--- More bytes for a file of b bytes, and words behind them in its last page; the sector of its last page, with a value of 256 words;
--- and as many free sectors as there come pages, each of them once.
+-- More bytes for a file of b bytes, and words behind them in the page that is the last one then; the sector of the page that is the
+-- last one before, with a value of 256 words; and as many free sectors as there come pages, each of them once.
 pub record CanGrow (p : Pack) (f : Fid) (b : ℕ) (new past fresh : List ℕ) (at : ℕ) : Type 0 where
   pub size : b ≡ length (file_bytes (sights p) f)
   pub sector : place (sights p) f (page_of_byte b) ≡ Some at

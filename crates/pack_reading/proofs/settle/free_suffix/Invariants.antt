@@ -2,8 +2,12 @@ use Rattle.std.specs.FinMap.{FinMap}
 use Rattle.alto_words.specs.Fid.{fid_cmp}
 use Rattle.pack_model.specs.View.{Home}
 use Rattle.pack_reading.specs.Homes.{StandsFor}
-use Rattle.pack_reading.specs.Passed.{AreTaken, IsPassed}
+use Rattle.pack_reading.specs.Passed.{IsPassed}
+use Rattle.pack_reading.proofs.Grouping.{AreBehind}
 use Rattle.pack_reading.proofs.settle.free_suffix.Given as goal
 
-abbrev pub invariant-loop-k : goal.invariant-loop-k
-invariant-loop-k l = (homes : FinMap fid_cmp Home) → StandsFor l.names homes → IsPassed homes l.passed → AreTaken homes l.name l.k
+abbrev pub invariant-loop-group : goal.invariant-loop-group
+invariant-loop-group l = record {
+  passed : (homes : FinMap fid_cmp Home) → StandsFor l.names homes → IsPassed homes l.fn.passed → IsPassed homes l.passed;
+  behind : (homes : FinMap fid_cmp Home) → StandsFor l.names homes → IsPassed homes l.fn.passed → AreBehind l.group-items homes l.name l.group-index;
+}

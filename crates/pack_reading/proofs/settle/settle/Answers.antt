@@ -9,6 +9,12 @@ use Rattle.pack_reading.specs.Shows.{seen_file}
 use Rattle.pack_reading.proofs.Choosing.{settled_more}
 use Rattle.pack_reading.proofs.settle.settle.Goals as goal
 
+pub loop-file-init : goal.loop-file-init
+loop-file-init c = record {
+  names = λ homes stands. stands;
+  passed = λ homes stands. c.new-passed.ensures homes;
+}
+
 pub loop-file-preserved : goal.loop-file-preserved
 loop-file-preserved c =
     let so_far = λ (homes : FinMap fid_cmp Home). settled homes (map seen_file (take c.loop-file.file-index c.args.files.now)) in

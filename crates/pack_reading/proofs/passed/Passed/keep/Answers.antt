@@ -1,4 +1,4 @@
-use Rattle.std.proofs.Common.{ap, ◌∙◌, cond, Some}
+use Rattle.std.proofs.Common.{ap, ◌∙◌, cond, Some, arith}
 use Rattle.std.specs.Ordering.{is_eq}
 use Rattle.std.specs.BTreeMap.{get}
 use Rattle.pack_reading.specs.Homes.{place_cmp}
@@ -7,5 +7,5 @@ use Rattle.pack_reading.proofs.passed.Passed.keep.Goals as goal
 
 pub returns-in-Ok : goal.returns-in-Ok
 returns-in-Ok c = λ homes is taken.
-    passed_kept homes c.args.self.now (record { counts = c.insert.new.self }) c.args.name c.args.count is taken
-    (λ q. c.in-Ok.ensures.updates.0 q ∙ ap (λ p. cond (is_eq (place_cmp p q)) (Some c.args.count) (get place_cmp c.args.self.now.counts q)) c.first_suffix.ensures)
+    passed_kept homes c.args.self.now (record { counts = c.insert.new.self }) c.args.name c.args.first c.args.count is c.requires.most (omega arith) taken
+    (λ q. c.in-Ok.ensures.updates.0 q ∙ ap (λ p. cond (is_eq (place_cmp p q)) (Some c.args.count) (get place_cmp c.args.self.now.counts q)) c.place_of.ensures)
