@@ -2,7 +2,6 @@
 use Rattle.std.proofs.Common.{◌&&◌, ◌+◌, ◌∙◌, ◌∷◌, ◌≡◌, Bool, List, None, Some, T, [], ap, arith, cond, false, nat_le, not, refl, suc, true, ℕ}
 use Rattle.std.specs.FinMap.{entries, entries_sorted, find, get-entries, is_sorted}
 use Rattle.std.specs.FinMap.Entries.{below_all}
-use Rattle.std.specs.Ordering.{is_eq, is_lt}
 use Rattle.alto_words.specs.Fid.{fid_cmp, is_fid}
 use Rattle.alto_words.specs.declared.fid.Fid.{Fid}
 use Rattle.disk_records.specs.declared.shape.Shape.{Shape}
@@ -15,7 +14,7 @@ use Rattle.pack_model.specs.Sights.Sight.{free, hidden, holds, leads, stray}
 use Rattle.count_laws.proofs.Pages.{file_many, none_many, none_page, same_many, same_page, sum_many, sum_page, up_to}
 use Rattle.count_laws.specs.CountLaws.{placed_all}
 use Rattle.pack_laws.proofs.Keys.{same_fid}
-use Rattle.record_laws.proofs.Around.{first_part, is_less, second_part}
+use Rattle.record_laws.proofs.Around.{first_part, not_below, second_part}
 
 -- ---- all files
 module _ (shape : Shape) (ss : List Sight) where
@@ -41,14 +40,10 @@ module _ (shape : Shape) (ss : List Sight) where
       let below = first_part (below_all fid_cmp e.0 es) (is_sorted fid_cmp es) s in
       let h = sum_many (used_by (e ∷ es)) (up_to ss e.0 (last_page shape e.0 e.1.body)) (used_by es)
       (λ q. sum_page (λ f n. is_within shape f n (find fid_cmp f (e ∷ es)) && is_place q.0 (place ss f n)) (λ g k. is_fid g e.0 && nat_le k (last_page shape e.0 e.1.body) && is_place q.0 (place ss g k)) (λ f n. is_within shape f n (find fid_cmp f es) && is_place q.0 (place ss f n))
-      (λ g k. split_file e.0 e.1 es g k (is_place q.0 (place ss g k)) (not_below e.0 es below)) q.1) (numbered 0 ss) in
+      (λ g k. split_file e.0 e.1 es g k (is_place q.0 (place ss g k)) (not_below fid_cmp e.0 es below)) q.1) (numbered 0 ss) in
       let r = all_many es (second_part (below_all fid_cmp e.0 es) (is_sorted fid_cmp es) s) in
       let o = file_many ss e.0 (last_page shape e.0 e.1.body) in
       omega arith
-    where
-      not_below : (k : Fid) (es : List (Fid × File)) → T (below_all fid_cmp k es) → find fid_cmp k es ≡ None
-      not_below k [] h = refl
-      not_below k (x ∷ es) h = ap (λ r. cond (is_eq r) (Some x.1) (find fid_cmp k es)) (is_less (fid_cmp k x.0) (first_part (is_lt (fid_cmp k x.0)) (below_all fid_cmp k es) h)) ∙ not_below k es (second_part (is_lt (fid_cmp k x.0)) (below_all fid_cmp k es) h)
 
   -- sectors in use are the pages within the ends of files that some sector carries
   pub in_use_many : how_many (in_use shape ss) (numbered 0 ss) ≡ placed_all shape ss (entries (found ss))

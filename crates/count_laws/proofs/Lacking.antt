@@ -78,9 +78,6 @@ module _ (shape : Shape) (good last : ℕ) (files : Files) (l : Leader) (is : Li
   same_namings a b e = let r = around fid_total fid_same files sys_dir (directory l is) in_files in namings_around files sys_dir l is r a ∙ ap (λ x. namings r.front ++ (x ++ namings r.back)) e ∙ sym (namings_around files sys_dir l is r b)
 
   module _ (f : Fid) (name : List ℕ) (js : List Item) (s : Stands sys_dir f name is js) where
-    spaced : List Item
-    spaced = s.front ++ space 0 ∷ s.back
-
     spaced_names : namings_in sys_dir (s.front ++ space 0 ∷ s.back) ≡ namings_in sys_dir is
     spaced_names = namings_in-append sys_dir s.front (space 0 ∷ s.back) ∙ sym s.was
 

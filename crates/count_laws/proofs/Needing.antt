@@ -1,9 +1,8 @@
 -- What is needed and what is available, by the room of the mended pack.
-use Rattle.std.proofs.Common.{◌*◌, ◌++◌, ◌+◌, ◌∙◌, ◌∷◌, ◌≡◌, ◌≤◌, Bool, Equal, Greater, Less, List, None, Option, Some, [], ap, arith, cond, false, refl, sym, true, ℕ}
-use Rattle.std.specs.FinMap.{FinMap, entries, entries-insert, entries_sorted, find, get, get-entries, get-retain_keys, insert, retain_keys}
-use Rattle.std.specs.FinMap.Entries.{by_order, find-where_key, is_sorted-where_key, put, same_entries, where_key}
+use Rattle.std.proofs.Common.{◌*◌, ◌+◌, ◌∙◌, ◌∷◌, ◌≡◌, ◌≤◌, Bool, List, None, Option, Some, [], ap, arith, cond, false, refl, sym, true, ℕ}
+use Rattle.std.specs.FinMap.{FinMap, entries, entries_sorted, find, get, get-entries, get-retain_keys, insert, retain_keys}
+use Rattle.std.specs.FinMap.Entries.{find-where_key, is_sorted-where_key, same_entries, where_key}
 use Rattle.std.specs.Option.{is_some, option_map}
-use Rattle.std.specs.Ordering.{is_eq}
 use Rattle.alto_words.specs.Fid.{disk_descriptor, fid_cmp, sys_dir}
 use Rattle.alto_words.specs.declared.fid.Fid.{Fid}
 use Rattle.disk_records.specs.declared.shape.Shape.{Shape}
@@ -23,7 +22,7 @@ use Rattle.count_laws.proofs.Counting.{available_is}
 use Rattle.count_laws.proofs.Totals.{all_files, without_descriptor}
 use Rattle.pack_laws.proofs.Joining.{AreShort}
 use Rattle.pack_laws.proofs.Keys.{fid_same, fid_total}
-use Rattle.record_laws.proofs.Around.{around}
+use Rattle.record_laws.proofs.FilePages.{changed_pages, new_pages}
 use Rattle.record_laws.proofs.Keeping.{get-where}
 use Rattle.record_laws.proofs.Mending.{entries-tidied}
 use Rattle.record_laws.proofs.Reading.{get-found, read_file}
@@ -50,20 +49,9 @@ kept_pages ok b (e ∷ es) = let h = ap pages_for (one e.1.body) in let r = kept
     one (data_of bytes) = refl
     one (items_of is) = ap (λ n. n * 2) (items_words ok e.0 b is)
 
--- the pages of files one after another
-pages-append : (a b : List (Fid × File)) → files_pages (a ++ b) ≡ files_pages a + files_pages b
-pages-append [] b = omega arith
-pages-append (e ∷ a) b = let h = pages-append a b in omega arith
-
 -- one file changes by so many pages
 pub pages_around : (files : Files) (d : Fid) (x y : File) (m : ℕ) → get files d ≡ Some x → pages_for (body_length y.body) ≡ m + pages_for (body_length x.body) → files_pages (entries (insert files d y)) ≡ m + files_pages (entries files)
-pages_around files d x y m is e =
-    let r = around fid_total fid_same files d x is in
-    let p = pages-append r.front ((d, y) ∷ r.back) in
-    let q = pages-append r.front ((d, x) ∷ r.back) in
-    let now = ap files_pages (entries-insert fid_total files d y ∙ r.now y) in
-    let was = ap files_pages r.was in
-    omega arith
+pages_around files d x y m is e = let h = changed_pages files d x y is in omega arith
 
 -- the entries whose key passes
 entries-where : {X : Type 0} (m : FinMap fid_cmp X) (p : Fid → Bool) → entries (retain_keys m p) ≡ where_key fid_cmp p (entries m)
@@ -72,22 +60,13 @@ entries-where m p = same_entries fid_cmp fid_total fid_same _ _ (entries_sorted 
     ∙ sym (find-where_key fid_cmp p q (λ x e. ap p (sym (fid_same q x e))) (entries m)))
 
 -- ---- SysDir's pages where it doesn't live
--- a file more has its pages more
-put_pages : (es : List (Fid × File)) (f : Fid) (x : File) → find fid_cmp f es ≡ None → files_pages (put fid_cmp f x es) ≡ pages_for (body_length x.body) + files_pages es
-put_pages [] f x none = refl
-put_pages (e ∷ es) f x none = elim (fid_cmp f e.0) as (λ r. cond (is_eq r) (Some e.1) (find fid_cmp f es) ≡ None → files_pages (by_order r ((f, x) ∷ e ∷ es) ((e.0, x) ∷ es) (e ∷ put fid_cmp f x es)) ≡ pages_for (body_length x.body) + files_pages (e ∷ es)) [
-  | Less ↦ λ n. refl
-  | Equal ↦ λ n. absurd (let m : Some e.1 ≡ None = n in cc)
-  | Greater ↦ λ n. let h = put_pages es f x n in omega arith
-] none
-
 -- SysDir has two pages where it doesn't live
 rooted_pages : (files : Files) → files_pages (entries (rooted files)) ≡ files_pages (entries files) + cond (is_some (get files sys_dir)) 0 2
 rooted_pages files = by (get files sys_dir) refl
   where
     by : (r : Option File) → get files sys_dir ≡ r → files_pages (entries (insert files sys_dir (root_file (root_body r)))) ≡ files_pages (entries files) + cond (is_some r) 0 2
     by (Some x) e = let h = pages_around files sys_dir x (root_file x.body) 0 e (omega arith) in omega arith
-    by None e = let h = ap files_pages (entries-insert fid_total files sys_dir (root_file (root_body None))) ∙ put_pages (entries files) sys_dir (root_file (root_body None)) (sym (get-entries files sys_dir) ∙ e) in omega arith
+    by None e = let h = new_pages files sys_dir (root_file (root_body None)) e in omega arith
 
 -- needed and available, by the sum of pages of the mended pack
 pub needed_is : (shape : Shape) (ss : List Sight) → ((f : Fid) → AreShort (page ss f)) → available shape ss + (needs (mended shape ss) + descriptor_pages shape) ≡ needed shape ss + good_sectors ss

@@ -1,5 +1,5 @@
 -- Where an item comes to stand among slots: entries and words.
-use Rattle.std.proofs.Common.{◌++◌, ◌+◌, ◌-◌, ◌∙◌, ◌∷◌, ◌≡◌, ◌≤◌, Bool, List, None, Option, Some, [], ap, arith, cond, false, le-leb, leb-true, nat_le, refl, subst, suc, sym, true, zero, ℕ}
+use Rattle.std.proofs.Common.{◌++◌, ◌+◌, ◌-◌, ◌∙◌, ◌∷◌, ◌≡◌, ◌≤◌, Bool, List, None, Option, Some, [], ap, arith, cond, false, le-leb, nat_le, refl, subst, suc, sym, true, zero, ℕ}
 use Rattle.std.specs.Option.{option_map, option_or}
 use Rattle.alto_words.specs.declared.fid.Fid.{Fid}
 use Rattle.pack_model.specs.Mended.{with_page}
@@ -7,6 +7,7 @@ use Rattle.pack_model.specs.Namings.{namings_in}
 use Rattle.pack_model.specs.Rooms.{in_run, left_over, placed, run}
 use Rattle.pack_model.specs.Slots.{Item, all_words, item_words}
 use Rattle.pack_model.specs.Slots.Item.{entry, space}
+use Rattle.record_laws.proofs.Roomy.{run_enough}
 
 -- ---- where the entry comes to stand
 pub record Stands (d f : Fid) (name : List ℕ) (is js : List Item) : Type 0 where
@@ -71,27 +72,22 @@ placed_stands d f name (k ∷ is) js e = by (λ ks e. placed_stands d f name is 
             subst (Stands d f name (k ∷ is)) x (record { front = k ∷ s.front; back = s.back; now = ap (λ r. k ∷ r) s.now; was = one_more d k is s.front s.back s.was })
 
 -- ---- an item in a run of free slots keeps the words
-record RunIs (n : ℕ) (is : List Item) (r : ℕ × List Item) : Type 0 where
-  total : all_words is ≡ r.0 + all_words r.1
-  enough : n ≤ r.0
-
--- a run has enough words
-run_words : (n : ℕ) (is : List Item) (r : ℕ × List Item) → run n is ≡ Some r → RunIs n is r
+-- a run's words, and those behind it
+run_words : (n : ℕ) (is : List Item) (r : ℕ × List Item) → run n is ≡ Some r → all_words is ≡ r.0 + all_words r.1
 run_words n [] r e = absurd (let x : None ≡ Some r = e in cc)
 run_words n (entry f name ∷ is) r e = absurd (let x : None ≡ Some r = e in cc)
-run_words n (space k ∷ is) r e = by (λ q e. run_words (n - k) is q e) (nat_le n k) refl e
+run_words n (space k ∷ is) r e = by (λ q e. run_words (n - k) is q e) (nat_le n k) e
   where
-    by : ((q : ℕ × List Item) → run (n - k) is ≡ Some q → RunIs (n - k) is q) → (b : Bool) → nat_le n k ≡ b → cond b (Some (k, is)) (option_map (λ r. (k + r.0, r.1)) (run (n - k) is)) ≡ Some r → RunIs n (space k ∷ is) r
-    by again true q e = let x : (k, is) ≡ r = cc in subst (RunIs n (space k ∷ is)) x (record { total = refl; enough = leb-true n k q })
-    by again false q e = more (run (n - k) is) refl e
+    by : ((q : ℕ × List Item) → run (n - k) is ≡ Some q → all_words is ≡ q.0 + all_words q.1) → (b : Bool) → cond b (Some (k, is)) (option_map (λ r. (k + r.0, r.1)) (run (n - k) is)) ≡ Some r → k + all_words is ≡ r.0 + all_words r.1
+    by again true e = let x : (k, is) ≡ r = cc in ap (λ (q : ℕ × List Item). q.0 + all_words q.1) x
+    by again false e = more (run (n - k) is) refl e
       where
-        more : (o : Option (ℕ × List Item)) → run (n - k) is ≡ o → option_map (λ r. (k + r.0, r.1)) o ≡ Some r → RunIs n (space k ∷ is) r
+        more : (o : Option (ℕ × List Item)) → run (n - k) is ≡ o → option_map (λ r. (k + r.0, r.1)) o ≡ Some r → k + all_words is ≡ r.0 + all_words r.1
         more None p e = absurd (let x : None ≡ Some r = e in cc)
         more (Some q) p e =
             let x : (k + q.0, q.1) ≡ r = cc in
-            let s = again q p in
-            let t = s.total in let m = s.enough in
-            subst (RunIs n (space k ∷ is)) x (record { total = omega arith; enough = omega arith })
+            let t : k + all_words is ≡ k + q.0 + all_words q.1 = let s = again q p in omega arith in
+            t ∙ ap (λ (q : ℕ × List Item). q.0 + all_words q.1) x
 
 -- words left over
 pub left_words : (n : ℕ) (is : List Item) → all_words (left_over n is) ≡ n + all_words is
@@ -110,8 +106,9 @@ in_run_words i is js e = by (run (item_words i) is) refl e
         test false e = absurd (let x : None ≡ Some js = e in cc)
         test true e =
             let x : i ∷ left_over (r.0 - item_words i) r.1 ≡ js = cc in
-            let s = run_words (item_words i) is r p in
-            let t = s.total in let m = s.enough in let w = left_words (r.0 - item_words i) r.1 in
+            let t = run_words (item_words i) is r p in
+            let m = run_enough (item_words i) is r p in
+            let w = left_words (r.0 - item_words i) r.1 in
             sym (ap all_words x) ∙ omega arith
 
 -- so does an item that is placed

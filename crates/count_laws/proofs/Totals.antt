@@ -3,7 +3,6 @@ use Rattle.std.proofs.Common.{◌*◌, ◌+◌, ◌/◌, ◌∙◌, ◌∷◌, �
 use Rattle.std.specs.FinMap.{entries, entries_sorted, find, get, get-entries, is_sorted}
 use Rattle.std.specs.FinMap.Entries.{below_all, where_key}
 use Rattle.std.specs.Option.{is_some, option_map}
-use Rattle.std.specs.Ordering.{is_eq, is_lt}
 use Rattle.alto_words.specs.Fid.{disk_descriptor, fid_cmp, is_directory, is_fid}
 use Rattle.alto_words.specs.declared.fid.Fid.{Fid}
 use Rattle.disk_records.specs.Addresses.{descriptor_length}
@@ -23,7 +22,7 @@ use Rattle.pack_laws.proofs.Bytes.{length-words_of}
 use Rattle.pack_laws.proofs.Joining.{AreShort, has_byte}
 use Rattle.pack_laws.proofs.Keys.{is_fid-itself, is_fid-sym, same_fid}
 use Rattle.pack_laws.proofs.Placing.{leader_of_place, no_leader, no_page, page_of_place}
-use Rattle.record_laws.proofs.Around.{first_part, is_less, second_part}
+use Rattle.record_laws.proofs.Around.{first_part, not_below, second_part}
 use Rattle.record_laws.proofs.Heads.{all_within}
 use Rattle.record_laws.proofs.Reading.{get-found, read_file}
 
@@ -108,11 +107,6 @@ module _ (shape : Shape) (ss : List Sight) (short : (f : Fid) → AreShort (page
   totals [] = 0
   totals (e ∷ es) = total e.0 e.1.body + totals es
 
-  -- a key below all others is none of them
-  not_below : (k : Fid) (es : List (Fid × File)) → T (below_all fid_cmp k es) → find fid_cmp k es ≡ None
-  not_below k [] h = refl
-  not_below k (x ∷ es) h = ap (λ r. cond (is_eq r) (Some x.1) (find fid_cmp k es)) (is_less (fid_cmp k x.0) (first_part (is_lt (fid_cmp k x.0)) (below_all fid_cmp k es) h)) ∙ not_below k es (second_part (is_lt (fid_cmp k x.0)) (below_all fid_cmp k es) h)
-
   -- these files, each with its carried and its lacking pages
   sum_files : (es : List (Fid × File)) → T (is_sorted fid_cmp es) → ((f : Fid) (x : File) → find fid_cmp f es ≡ Some x → placed_pages ss f (last_page shape f x.body) + file_lacks shape ss f x.body ≡ total f x.body) → placed_all shape ss es + files_lack shape ss es ≡ totals es
   sum_files [] s h = omega arith
@@ -126,7 +120,7 @@ module _ (shape : Shape) (ss : List Sight) (short : (f : Fid) → AreShort (page
         where
           by : (b : Bool) → is_fid f e.0 ≡ b → cond b (Some e.1) (find fid_cmp f es) ≡ Some x
           by false q = is
-          by true q = absurd (let n : None ≡ Some x = sym (not_below e.0 es (first_part (below_all fid_cmp e.0 es) (is_sorted fid_cmp es) s)) ∙ ap (λ k. find fid_cmp k es) (sym (same_fid f e.0 q)) ∙ is in cc)
+          by true q = absurd (let n : None ≡ Some x = sym (not_below fid_cmp e.0 es (first_part (below_all fid_cmp e.0 es) (is_sorted fid_cmp es) s)) ∙ ap (λ k. find fid_cmp k es) (sym (same_fid f e.0 q)) ∙ is in cc)
 
   -- each file that is found
   found_good : (f : Fid) (x : File) → get (found ss) f ≡ Some x → placed_pages ss f (last_page shape f x.body) + file_lacks shape ss f x.body ≡ total f x.body
@@ -149,7 +143,7 @@ module _ (shape : Shape) (ss : List Sight) (short : (f : Fid) → AreShort (page
           → totals es + cond (is_some (find fid_cmp disk_descriptor es)) 0 (descriptor_pages shape) ≡ files_pages (where_key fid_cmp is_described es) + descriptor_pages shape
           → (cond b (descriptor_pages shape) (pages_for (body_length e.1.body)) + totals es) + cond (is_some (cond c (Some e.1) (find fid_cmp disk_descriptor es))) 0 (descriptor_pages shape) ≡ files_pages (cond (not b) (e ∷ where_key fid_cmp is_described es) (where_key fid_cmp is_described es)) + descriptor_pages shape
       by true true q r h =
-          let n = ap (λ x. cond (is_some x) 0 (descriptor_pages shape)) (ap (λ k. find fid_cmp k es) (sym (same_fid e.0 disk_descriptor q)) ∙ not_below e.0 es (first_part (below_all fid_cmp e.0 es) (is_sorted fid_cmp es) s)) in omega arith
+          let n = ap (λ x. cond (is_some x) 0 (descriptor_pages shape)) (ap (λ k. find fid_cmp k es) (sym (same_fid e.0 disk_descriptor q)) ∙ not_below fid_cmp e.0 es (first_part (below_all fid_cmp e.0 es) (is_sorted fid_cmp es) s)) in omega arith
       by true false q r h = absurd cc
       by false true q r h = absurd cc
       by false false q r h = omega arith

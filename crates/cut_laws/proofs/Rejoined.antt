@@ -1,7 +1,7 @@
 -- A model in which free slots of a directory are made one is ready where the model was.
 use Rattle.std.proofs.Common.{Bool, List, Some, [], ap, arith, cond, false, inl, inr, length, max, refl, subst, sym, true, ℕ, ◌*◌, ◌++◌, ◌+◌, ◌∙◌, ◌∷◌, ◌≡◌, ◌≤◌, ◌⊎◌}
 use Rattle.std.proofs.lemmas.List.Elements.{All-cons, All-head, All-tail}
-use Rattle.std.specs.FinMap.{contains_key, entries, entries-insert, get, get-insert, insert}
+use Rattle.std.specs.FinMap.{contains_key, entries, get, get-insert, insert}
 use Rattle.std.specs.List.{list_any}
 use Rattle.std.specs.Option.{is_some}
 use Rattle.std.specs.Prelude.{All}
@@ -14,25 +14,17 @@ use Rattle.pack_model.specs.Namings.{namings_in}
 use Rattle.pack_model.specs.Rooms.{largest_run, most_free, words_free}
 use Rattle.pack_model.specs.Slots.{Item, all_words, item_words}
 use Rattle.pack_model.specs.Slots.Item.{entry, space}
-use Rattle.pack_laws.proofs.Keys.{fid_same, fid_total, same_fid}
-use Rattle.record_laws.proofs.Around.{around}
-use Rattle.record_laws.proofs.DirReads.{insert_same}
+use Rattle.pack_laws.proofs.Keys.{fid_total, same_fid}
 use Rattle.record_laws.proofs.Entered.{directory, namings_in-append}
+use Rattle.record_laws.proofs.FilePages.{changed_pages}
 use Rattle.line_laws.specs.Ready.{Ready}
 use Rattle.operation_laws.proofs.Leaving.{words_alike}
 use Rattle.operation_laws.proofs.OneDirectory.{slots_namings}
 
 -- ---- lengths
-pages-append : (x y : List (Fid × File)) → files_pages (x ++ y) ≡ files_pages x + files_pages y
-pages-append [] y = omega arith
-pages-append (e ∷ x) y = let h = pages-append x y in omega (arith, h)
-
 -- a file of the same length
 pages_same : (files : Files) (d : Fid) (x y : File) → get files d ≡ Some x → body_length y.body ≡ body_length x.body → files_pages (entries (insert files d y)) ≡ files_pages (entries files)
-pages_same files d x y is long =
-    let r = around fid_total fid_same files d x is in
-    let with = λ (z : File). ap files_pages (entries-insert fid_total files d z ∙ r.now z) ∙ pages-append r.front ((d, z) ∷ r.back) in
-    with y ∙ ap (λ n. files_pages r.front + (pages_for n + files_pages r.back)) long ∙ sym (with x) ∙ ap (λ m. files_pages (entries m)) (insert_same files d x is)
+pages_same files d x y is long = let h = changed_pages files d x y is in let l = ap pages_for long in omega (arith, h, l)
 
 -- ---- slots
 module _ (d : Fid) where

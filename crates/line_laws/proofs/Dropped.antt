@@ -1,7 +1,7 @@
 -- A file goes, and its entry with it: the others keep their names.
-use Rattle.std.proofs.Common.{◌*◌, ◌∙◌, ◌∷◌, ◌≡◌, ◌≤◌, ◌||◌, Bool, List, None, Option, Some, [], ap, arith, cond, false, inl, length, refl, subst, sym, true}
+use Rattle.std.proofs.Common.{◌∙◌, ◌∷◌, ◌≡◌, ◌≤◌, ◌||◌, Bool, List, None, Option, Some, [], ap, arith, cond, false, inl, length, refl, subst, sym, true}
 use Rattle.std.proofs.lemmas.List.Elements.{All-cons, All-head, All-tail}
-use Rattle.std.specs.FinMap.{entries, get, get-insert, get-remove, insert, remove, same_map}
+use Rattle.std.specs.FinMap.{entries, get, get-remove, remove, same_map}
 use Rattle.std.specs.List.{list_any}
 use Rattle.std.specs.Option.{is_some, option_map}
 use Rattle.std.specs.Prelude.{All}
@@ -10,21 +10,22 @@ use Rattle.alto_words.specs.declared.fid.Fid.{Fid}
 use Rattle.line_laws.proofs.Mentions.{Mentioned, mentioned, mentions, named_there}
 use Rattle.line_laws.proofs.Runs.{IsShort}
 use Rattle.line_laws.proofs.Throughout.{settled_ready}
-use Rattle.line_laws.proofs.Updates.{pages_new}
 use Rattle.line_laws.specs.LineLaws.{DropLine, MayGo}
 use Rattle.line_laws.specs.Ready.{Ready, Settled}
-use Rattle.pack_laws.proofs.Keys.{fid_same, fid_total, is_fid-itself, is_fid-sym, same_fid}
+use Rattle.pack_laws.proofs.Keys.{fid_same, fid_total, is_fid-sym, same_fid}
 use Rattle.pack_laws.proofs.Mapping.{entries-map_values, get-map_values}
-use Rattle.pack_model.specs.Bodies.{Body, File, Files, body_items, body_length, items_in, pages_for}
+use Rattle.pack_model.specs.Bodies.{Body, File, Files, body_items, items_in}
 use Rattle.pack_model.specs.Bodies.Body.{data_of, items_of}
-use Rattle.pack_model.specs.Maps.{map_entries, map_values}
+use Rattle.pack_model.specs.Maps.{map_values}
 use Rattle.pack_model.specs.Model.{IsNamed, Model, dir_items, files_pages}
 use Rattle.pack_model.specs.Namings.{namings_in}
-use Rattle.pack_model.specs.Slots.{Item, all_words, item_words}
+use Rattle.pack_model.specs.Slots.{Item, item_words}
 use Rattle.pack_model.specs.Slots.Item.{entry, space}
 use Rattle.pack_model.specs.Step.{body_without, file_without, item_without, items_without, step}
 use Rattle.pack_model.specs.Step.Operation.{drop_file}
 use Rattle.record_laws.proofs.Mending.{no_left, no_right}
+use Rattle.room_laws.proofs.FilesPages.{gone_pages}
+use Rattle.room_laws.proofs.Stepping.{without_pages}
 
 -- ---- slots without the entries of the file
 -- each has its words
@@ -35,10 +36,6 @@ item_kept f (entry g name) = by (is_fid g f)
     by : (b : Bool) → item_words (cond b (space (item_words (entry g name))) (entry g name)) ≡ item_words (entry g name)
     by true = refl
     by false = refl
-
-words_kept : (f : Fid) (is : List Item) → all_words (items_without f is) ≡ all_words is
-words_kept f [] = refl
-words_kept f (i ∷ is) = let h = item_kept f i in let r = words_kept f is in omega arith
 
 pub short_kept : (f : Fid) (is : List Item) → All IsShort is → All IsShort (items_without f is)
 short_kept f [] h = h
@@ -58,25 +55,6 @@ others_kept f q d (entry g name ∷ is) other = by (is_fid g f) refl (others_kep
     by false e again = ap (λ c. is_fid g q || c) again
 
 -- ---- all files
--- pages
-pages_without : (f : Fid) (es : List (Fid × File)) → files_pages (map_entries (file_without f) es) ≡ files_pages es
-pages_without f [] = refl
-pages_without f (e ∷ es) = let h = body e.1.body in let r = pages_without f es in omega arith
-  where
-    body : (b : Body) → pages_for (body_length (body_without f b)) ≡ pages_for (body_length b)
-    body (data_of bytes) = refl
-    body (items_of is) = ap (λ n. pages_for (n * 2)) (words_kept f is)
-
--- a file that is taken out and put back
-back : (files : Files) (f : Fid) (x : File) → get files f ≡ Some x → insert (remove files f) f x ≡ files
-back files f x here = same_map fid_total fid_same _ _ (λ g. get-insert fid_total (remove files f) f x g ∙ ap (cond (is_fid g f) (Some x)) (get-remove fid_total files f g) ∙ at g)
-  where
-    at : (g : Fid) → cond (is_fid g f) (Some x) (cond (is_fid g f) None (get files g)) ≡ get files g
-    at g = elim (is_fid g f) as (λ b. is_fid g f ≡ b → cond b (Some x) (cond b None (get files g)) ≡ get files g) [
-      | true ↦ λ e. sym (ap (get files) (same_fid g f e) ∙ here)
-      | false ↦ λ e. refl
-    ] refl
-
 -- a file that isn't there
 none_gone : (files : Files) (f : Fid) → get files f ≡ None → remove files f ≡ files
 none_gone files f none = same_map fid_total fid_same _ _ (λ g. get-remove fid_total files f g ∙ at g)
@@ -105,14 +83,13 @@ module _ (m : Model) (f : Fid) (s : Settled m) (h : MayGo m f) where
   fewer = by (get m.files f) refl
     where
       pages : files_pages (entries now) ≡ files_pages (entries (remove m.files f))
-      pages = ap files_pages (entries-map_values fid_total fid_same (file_without f) (remove m.files f)) ∙ pages_without f (entries (remove m.files f))
+      pages = ap files_pages (entries-map_values fid_total fid_same (file_without f) (remove m.files f)) ∙ without_pages f (entries (remove m.files f))
 
       by : (r : Option File) → get m.files f ≡ r → files_pages (entries now) ≤ files_pages (entries m.files)
       by None e = let n = pages in let b = ap (λ fs. files_pages (entries fs)) (none_gone m.files f e) in omega arith
       by (Some x) e =
           let n = pages in
-          let p = pages_new (remove m.files f) f x (get-remove fid_total m.files f f ∙ ap (λ b. cond b None (get m.files f)) (is_fid-itself f)) in
-          let b = ap (λ fs. files_pages (entries fs)) (back m.files f x e) in
+          let p = gone_pages m.files f x e in
           omega arith
 
   -- What is known of a file that is there then.

@@ -1,36 +1,27 @@
 -- A new file: it alone has no name, and SysDir still has the run for it.
-use Rattle.std.proofs.Common.{◌+◌, ◌∙◌, ◌∷◌, ◌≡◌, ◌≤◌, Bool, List, None, Option, Some, [], ap, arith, cond, false, length, refl, subst, sym, true, ℕ}
+use Rattle.std.proofs.Common.{◌+◌, ◌∙◌, ◌≡◌, ◌≤◌, Bool, List, None, Option, Some, ap, arith, cond, false, length, refl, subst, sym, true, ℕ}
 use Rattle.std.specs.FinMap.{contains_key, entries, get, get-insert}
 use Rattle.std.specs.Option.{is_some}
 use Rattle.std.specs.Prelude.{All}
-use Rattle.alto_words.specs.Fid.{disk_descriptor, is_directory, is_fid, sys_dir}
+use Rattle.alto_words.specs.Fid.{disk_descriptor, is_fid, sys_dir}
 use Rattle.alto_words.specs.declared.fid.Fid.{Fid}
 use Rattle.line_laws.proofs.Mentions.{Mentioned, mentioned, named_there}
 use Rattle.line_laws.proofs.Runs.{IsShort}
 use Rattle.line_laws.proofs.Spared.{Spared}
 use Rattle.line_laws.proofs.Throughout.{Pages}
-use Rattle.line_laws.proofs.Updates.{pages_new}
 use Rattle.pack_laws.proofs.Keys.{fid_total, same_fid}
-use Rattle.pack_model.specs.Bodies.{File, body_length, items_in, pages_for}
-use Rattle.pack_model.specs.Bodies.Body.{data_of, items_of}
+use Rattle.pack_model.specs.Bodies.{File, items_in}
 use Rattle.pack_model.specs.Model.{IsNamed, Model, files_pages, root_items}
 use Rattle.pack_model.specs.Rooms.{largest_run}
-use Rattle.pack_model.specs.Slots.Item.{space}
-use Rattle.pack_model.specs.Step.{new_body, new_file, step}
+use Rattle.pack_model.specs.Step.{new_file, step}
 use Rattle.pack_model.specs.Step.Operation.{make}
+use Rattle.record_laws.proofs.FilePages.{new_pages}
+use Rattle.room_laws.proofs.Stepping.{first_pages}
 
 -- a key that isn't there has no value
 pub no_key : (r : Option File) → is_some r ≡ false → r ≡ None
 no_key None e = refl
 no_key (Some x) e = cc
-
--- a new file has two pages
-new_pages : (f : Fid) → pages_for (body_length (new_body f)) ≡ 2
-new_pages f = by (is_directory f)
-  where
-    by : (b : Bool) → pages_for (body_length (cond b (items_of (space 255 ∷ [])) (data_of []))) ≡ 2
-    by true = refl
-    by false = refl
 
 module _ (m : Model) (f : Fid) (name : List ℕ) (moment : ℕ) (s : Spared m f) (short : length name ≤ 39) (fresh : contains_key m.files f ≡ false) where
   -- the model then
@@ -46,7 +37,7 @@ module _ (m : Model) (f : Fid) (name : List ℕ) (moment : ℕ) (s : Spared m f)
 
   -- two pages more
   pub made_pages : files_pages (entries made.files) ≡ 2 + files_pages (entries m.files)
-  made_pages = let p = pages_new m.files f (new_file f name moment) none in let n = new_pages f in omega arith
+  made_pages = let p = new_pages m.files f (new_file f name moment) none in let n = first_pages f in omega arith
 
   -- SysDir is another file, since it has a run of free words
   root_still : root_items made ≡ root_items m

@@ -52,12 +52,6 @@ directory_roomy m d h = record {
 pub roomy_directory : (k : ℕ) (m : Model) (d : Fid) → Roomy k m d → IsDirectory m d
 roomy_directory k m d h = record { lead = h.slotted.lead; slots = h.slotted.slots; there = h.there ∙ ap (λ x. Some x) h.slotted.is; short = h.slotted.short }
 
--- with fewer words
-pub roomy_less : (k j : ℕ) (m : Model) (d : Fid) → j ≤ k → Roomy k m d → Roomy j m d
-roomy_less k j m d less h =
-    let r = h.slotted.row in
-    record { own = h.own; there = h.there; slotted = record { lead = h.slotted.lead; slots = h.slotted.slots; is = h.slotted.is; short = h.slotted.short; row = omega arith } }
-
 -- by the slots of the model
 pub roomy_slots : (k : ℕ) (m : Model) (d : Fid) (h : Roomy k m d) → dir_items m d ≡ h.slotted.slots
 roomy_slots k m d h = ap items_in (h.there ∙ ap (λ x. Some x) h.slotted.is)

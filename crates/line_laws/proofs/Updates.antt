@@ -1,53 +1,22 @@
 -- One file changes: pages, names, slots and entries of all files.
-use Rattle.std.proofs.Common.{◌++◌, ◌+◌, ◌∙◌, ◌∷◌, ◌≡◌, ◌≤◌, Bool, Equal, Greater, Less, List, None, Option, Some, [], ap, arith, cond, false, length, refl, subst, sym, true, ℕ}
-use Rattle.std.specs.FinMap.{contains_key, entries, entries-insert, find, get, get-entries, insert}
-use Rattle.std.specs.FinMap.Entries.{by_order, put}
+use Rattle.std.proofs.Common.{◌+◌, ◌∙◌, ◌≡◌, ◌≤◌, Bool, List, None, Option, Some, ap, arith, cond, false, length, refl, subst, sym, true, ℕ}
+use Rattle.std.specs.FinMap.{contains_key, entries, get}
 use Rattle.std.specs.Option.{is_some, option_map}
-use Rattle.std.specs.Ordering.{is_eq}
 use Rattle.std.specs.Prelude.{All}
-use Rattle.alto_words.specs.Fid.{fid_cmp, is_fid, sys_dir}
+use Rattle.alto_words.specs.Fid.{is_fid, sys_dir}
 use Rattle.alto_words.specs.declared.fid.Fid.{Fid}
 use Rattle.line_laws.proofs.Mentions.{Mentioned, mentioned, mentions, named_there}
 use Rattle.line_laws.proofs.Runs.{IsShort}
 use Rattle.line_laws.specs.Ready.{Fitting}
 use Rattle.pack_laws.proofs.Keys.{fid_same, fid_total, same_fid}
 use Rattle.pack_laws.proofs.Mapping.{get-update}
-use Rattle.pack_model.specs.Bodies.{File, Files, body_items, body_length, items_in, pages_for}
+use Rattle.pack_model.specs.Bodies.{File, body_items, body_length, items_in, pages_for}
 use Rattle.pack_model.specs.Maps.{update, update_found}
 use Rattle.pack_model.specs.Model.{IsNamed, Model, descriptor_pages, dir_items, files_pages, root_items}
 use Rattle.pack_model.specs.Rooms.{largest_run}
 use Rattle.pack_model.specs.Slots.{Item}
 use Rattle.pack_model.specs.Step.{update_file}
-use Rattle.record_laws.proofs.Around.{around}
-
--- ---- pages
--- of files one after another
-pages-append : (a b : List (Fid × File)) → files_pages (a ++ b) ≡ files_pages a + files_pages b
-pages-append [] b = omega arith
-pages-append (e ∷ a) b = let h = pages-append a b in omega arith
-
--- a file in the place of another
-pub pages_insert : (files : Files) (d : Fid) (x y : File) → get files d ≡ Some x → files_pages (entries (insert files d y)) + pages_for (body_length x.body) ≡ files_pages (entries files) + pages_for (body_length y.body)
-pages_insert files d x y is =
-    let r = around fid_total fid_same files d x is in
-    let p = pages-append r.front ((d, y) ∷ r.back) in
-    let q = pages-append r.front ((d, x) ∷ r.back) in
-    let now = ap files_pages (entries-insert fid_total files d y ∙ r.now y) in
-    let was = ap files_pages r.was in
-    omega arith
-
--- a file more, among entries
-put_pages : (es : List (Fid × File)) (f : Fid) (x : File) → find fid_cmp f es ≡ None → files_pages (put fid_cmp f x es) ≡ pages_for (body_length x.body) + files_pages es
-put_pages [] f x none = refl
-put_pages (e ∷ es) f x none = elim (fid_cmp f e.0) as (λ r. cond (is_eq r) (Some e.1) (find fid_cmp f es) ≡ None → files_pages (by_order r ((f, x) ∷ e ∷ es) ((e.0, x) ∷ es) (e ∷ put fid_cmp f x es)) ≡ pages_for (body_length x.body) + files_pages (e ∷ es)) [
-  | Less ↦ λ n. refl
-  | Equal ↦ λ n. absurd (let m : Some e.1 ≡ None = n in cc)
-  | Greater ↦ λ n. let h = put_pages es f x n in omega arith
-] none
-
--- and in a map
-pub pages_new : (files : Files) (f : Fid) (x : File) → get files f ≡ None → files_pages (entries (insert files f x)) ≡ pages_for (body_length x.body) + files_pages (entries files)
-pages_new files f x none = ap files_pages (entries-insert fid_total files f x) ∙ put_pages (entries files) f x (sym (get-entries files f) ∙ none)
+use Rattle.record_laws.proofs.FilePages.{changed_pages}
 
 -- ---- what the new models keep
 -- each leader's name has at most 39 characters
@@ -97,7 +66,7 @@ module _ (m : Model) (d : Fid) (g : File → File) where
     where
       by : (r : Option File) → get m.files d ≡ r → files_pages (entries (update_found m.files d g r)) ≤ files_pages (entries m.files) + more
       by None e = omega arith
-      by (Some x) e = let p = pages_insert m.files d x (g x) e in let l = fair x e in omega arith
+      by (Some x) e = let p = changed_pages m.files d x (g x) e in let l = fair x e in omega arith
 
   -- leaders' names
   pub names_updated : ((x : File) → get m.files d ≡ Some x → length x.leader.name ≤ 39 → length (g x).leader.name ≤ 39) → ShortNames m → ShortNames (update_file m d g)

@@ -119,10 +119,6 @@ module _ (p : Pack) (w : Whole p) (t : Tidy p) (d : Fid) (name : List ℕ) (f : 
   abbrev before_values : List (ℕ × List ℕ)
   before_values = values_first p (entry_room a old at next_at) words
 
-  -- with the last one
-  abbrev all_values : List (ℕ × List ℕ)
-  all_values = before_values ++ (at, entry_value p (entry_room a old at next_at) words) ∷ []
-
   -- they are all record writes
   events_are : values_writes (values_first p (entry_room a old at next_at) words ++ (at, entry_value p (entry_room a old at next_at) words) ∷ []) ≡ enter_writes (values_first p (entry_room a old at next_at) words) at (entry_value p (entry_room a old at next_at) words)
   events_are = values-append before_values ((at, entry_value p (entry_room a old at next_at) words) ∷ [])

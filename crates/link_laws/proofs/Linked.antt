@@ -61,7 +61,7 @@ ends_there p w f l is = by (is_fid f disk_descriptor) (is_directory f) refl refl
     by false true e dir =
         let r = w.directories f (ap is_some is) dir in
         let x = all_read (words_of (file_bytes (sights p) f)) r.items r.reads in
-        directory_length l (slots (words_of (file_bytes (sights p) f))) (file_bytes (sights p) f) r.even (ap all_words x.0 ∙ x.1)
+        directory_length (slots (words_of (file_bytes (sights p) f))) (file_bytes (sights p) f) r.even (ap all_words x.0 ∙ x.1)
 
 -- a page's number is within the pages of the bytes
 number_within : (p : Pack) → Whole p → (f : Fid) (n i : ℕ) → place (sights p) f n ≡ Some i → (l : Leader) × (leader (sights p) f ≡ Some l) × (n ≤ suc (length (file_bytes (sights p) f) / 512))

@@ -13,13 +13,12 @@ use Rattle.disk_records.specs.declared.records.Event.TheVariants.{Wrote}
 use Rattle.disk_records.specs.declared.shape.Shape.{Shape}
 use Rattle.pack_model.specs.Commands.{values_writes}
 use Rattle.pack_model.specs.Descriptor.{closed_values, descriptor_value}
-use Rattle.pack_model.specs.Files.{place}
 use Rattle.pack_model.specs.Meanings.{meaning, reading}
 use Rattle.pack_model.specs.Model.{Model, read_pack}
 use Rattle.pack_model.specs.Moves.{Meaning, Obeys, rest, steps, write}
 use Rattle.pack_model.specs.Operations.{Move, quiet_moves}
 use Rattle.pack_model.specs.Operations.Move.{quiet}
-use Rattle.pack_model.specs.Sights.{Sight, sights}
+use Rattle.pack_model.specs.Sights.{sights}
 use Rattle.pack_model.specs.Sound.{mark_clean, mark_of}
 use Rattle.pack_model.specs.Whole.{Tidy, Whole}
 use Rattle.pack_laws.proofs.Moving.{obeys_cut, obeys_then, stands_last}
@@ -38,16 +37,6 @@ as_read : {p : Pack} {m : Model} {q : Pack} {events : List Event} {moves : List 
 as_read (rest here) = rest here.0
 as_read (write here makes later) = write here.0 makes (as_read later)
 
--- a pack between
-from_first : {p q : Pack} {m : Model} {r : Pack} {events : List Event} {moves : List Move} → Mid p q → Obeys (closing q) m r events moves → Obeys (closing p) m r events moves
-from_first {p} {q} mid (rest {p = r} here) = rest (here.0, mid_twice p q r mid here.1)
-from_first {p} {q} mid (write {p = r} here makes later) = write (here.0, mid_twice p q r mid here.1) makes (from_first mid later)
-
--- quiet moves leave the model
-quiet_still : (p : Pack) (pages : List ℕ) (m : Model) → steps (closing p) m (quiet_moves pages) ≡ m
-quiet_still p [] m = refl
-quiet_still p (at ∷ pages) m = quiet_still p pages m
-
 -- one more of them
 quiet_last : (pages : List ℕ) → quiet_moves pages ++ quiet ∷ [] ≡ quiet ∷ quiet_moves pages
 quiet_last [] = refl
@@ -56,11 +45,6 @@ quiet_last (at ∷ pages) = ap (λ r. quiet ∷ r) (quiet_last pages)
 -- the list of record writes, with the first page's value last
 last_value : (shape : Shape) (last n at : ℕ) (busy : List Bool) (pages : List ℕ) → values_writes (reverse (closed_values shape last busy n (at ∷ pages))) ≡ values_writes (reverse (closed_values shape last busy (suc n) pages)) ++ value_writes at (descriptor_value shape last mark_clean busy n)
 last_value shape last n at busy pages = ap values_writes (reverse-cons (at, descriptor_value shape last mark_clean busy n) (closed_values shape last busy (suc n) pages)) ∙ values-append (reverse (closed_values shape last busy (suc n) pages)) ((at, descriptor_value shape last mark_clean busy n) ∷ [])
-
--- the pages stay where they are
-bear_still : (ss us : List Sight) → ((n : ℕ) → place us disk_descriptor n ≡ place ss disk_descriptor n) → (n : ℕ) (pages : List ℕ) → Bear ss disk_descriptor n pages → Bear us disk_descriptor n pages
-bear_still ss us same n [] b = tt
-bear_still ss us same n (at ∷ pages) b = (same n ∙ b.0, bear_still ss us same (suc n) pages b.1)
 
 -- their values are as long as they are
 abbrev Sized : Pack → List ℕ → Type 0

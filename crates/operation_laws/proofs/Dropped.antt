@@ -64,7 +64,7 @@ length_there p f l w t other is = ap length_in (read_there p f l t other is) ∙
     by true e =
         let r = w.directories f (ap is_some is) e in
         let x = all_read (words_of (file_bytes (sights p) f)) r.items r.reads in
-        directory_length l (slots (words_of (file_bytes (sights p) f))) (file_bytes (sights p) f) r.even (ap all_words x.0 ∙ x.1)
+        directory_length (slots (words_of (file_bytes (sights p) f))) (file_bytes (sights p) f) r.even (ap all_words x.0 ∙ x.1)
 
 -- the entries in a body are those of its slots
 bodies_bare : (f : Fid) (b : Body) → body_namings f b ≡ namings_in f (body_items b)

@@ -1,5 +1,5 @@
 -- Sectors that concern one file alone: every other file stays where and what it is.
-use Rattle.std.proofs.Common.{List, None, Option, Some, [], ap, cond, false, get_or, inl, inr, length, refl, set, subst, suc, sym, true, zero, ℕ, ◌&&◌, ◌+◌, ◌∙◌, ◌∷◌, ◌≡◌, ◌⊎◌}
+use Rattle.std.proofs.Common.{List, None, Option, Some, [], ap, cond, false, get_or, inl, inr, refl, set, subst, suc, sym, true, zero, ℕ, ◌&&◌, ◌+◌, ◌∙◌, ◌∷◌, ◌≡◌, ◌⊎◌}
 use Rattle.std.specs.Option.{option_or}
 use Rattle.std.specs.Prelude.{◌==◌}
 use mathlib.Core.Path.{fun_ext}
@@ -92,13 +92,6 @@ same_good f (s ∷ ss) [] a = absurd a
 same_good f (s ∷ ss) (u ∷ us) a =
     let e : good_one u ≡ good_one s = elim a.0 [ inl e ↦ ap good_one (sym e) | inr p ↦ may_good f u p.1 ∙ sym (may_good f s p.0) ] in
     ap (λ n. n + good_sectors us) e ∙ ap (λ n. good_one s + n) (same_good f ss us a.1)
-
--- as many sectors
-pub same_length : (f : Fid) (ss us : List Sight) → SameBut f ss us → length us ≡ length ss
-same_length f [] [] a = refl
-same_length f [] (u ∷ us) a = absurd a
-same_length f (s ∷ ss) [] a = absurd a
-same_length f (s ∷ ss) (u ∷ us) a = ap suc (same_length f ss us a.1)
 
 -- ---- other files answer as before
 -- they do not lead another file

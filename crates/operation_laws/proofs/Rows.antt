@@ -82,8 +82,3 @@ releases_units (c ∷ cs) (suc n) e = ap (λ r. quiet ∷ quiet ∷ r) (releases
 pub claims_still : {X : Type 0} (cs : List X) (m : Model) (more : List Move) → steps reading m (claims_moves cs ++ more) ≡ steps reading m more
 claims_still [] m more = refl
 claims_still (c ∷ cs) m more = claims_still cs m more
-
--- those of releases
-pub releases_still : {X : Type 0} (cs : List X) (m : Model) (more : List Move) → steps reading m (releases_moves cs ++ more) ≡ steps reading m more
-releases_still [] m more = refl
-releases_still (c ∷ cs) m more = releases_still cs m more

@@ -50,8 +50,8 @@ use Rattle.operation_laws.specs.NameLaws.{MayWiden}
 use Rattle.operation_laws.specs.Outcomes.{CarriesOut}
 
 -- the length of a directory in the model is that of its bytes
-pub directory_length : (l : Leader) (items : List Item) (bytes : List ℕ) → IsEven bytes → all_words items ≡ length (words_of bytes) → body_length (items_of items) ≡ length bytes
-directory_length l items bytes even all = let r = even_half bytes even in let e = r.1 in let n : length (words_of bytes) ≡ length bytes / 2 = length-words_of bytes in omega (arith, all, e, n)
+pub directory_length : (items : List Item) (bytes : List ℕ) → IsEven bytes → all_words items ≡ length (words_of bytes) → body_length (items_of items) ≡ length bytes
+directory_length items bytes even all = let r = even_half bytes even in let e = r.1 in let n : length (words_of bytes) ≡ length bytes / 2 = length-words_of bytes in omega (arith, all, e, n)
 
 module _ (p : Pack) (w : Whole p) (t : Tidy p) (d : Fid) where
   -- widen
@@ -100,7 +100,7 @@ module _ (p : Pack) (w : Whole p) (t : Tidy p) (d : Fid) where
       get_or-set_other (sights q) i 1 (holds d k c0) hidden (λ z. let c : holds d k old ≡ leads sys_dir true l = sym (still_here p d k i old h is last.short cs hyp.claimable (read_pack p) refl) ∙ ap (λ n. get_or (sights q) n hidden) (sym z) ∙ there in absurd cc) ∙ there in
       let shows = grow_shows p d k i old h is last.short cs hyp.claimable (read_pack p) refl label v c0 past hyp.page refl hyp.laid few in
       let o : Operation = widen d in
-      let size_in : length_of (read_pack p) d ≡ length (file_bytes ss d) = ap length_in gets ∙ directory_length h.lead items (file_bytes ss d) ends.even old_read.1 in
+      let size_in : length_of (read_pack p) d ≡ length (file_bytes ss d) = ap length_in gets ∙ directory_length items (file_bytes ss d) ends.even old_read.1 in
       let q1 : Pack = after q (Wrote i 2 v ∷ []) in
       let same_model : read_pack q1 ≡ read_pack p = read_before p d k i old h is last.short cs hyp.claimable (read_pack p) refl label v c0 past hyp.page refl hyp.laid few in
       let number : page_of_byte (length_of (read_pack q1) d) ≡ suc k = ap (λ m. page_of_byte (length_of m d)) same_model ∙ ap page_of_byte size_in in

@@ -49,19 +49,12 @@ pairs_of_bytes [] n even below = tt
 pairs_of_bytes (a ∷ []) n even below = absurd (omega arith)
 pairs_of_bytes (a ∷ b ∷ bytes) n even below = (below 1 0 (omega arith), pairs_of_bytes bytes (n - 1) (omega arith) (λ k d l. below (suc (suc k)) d (omega arith)))
 
--- bytes of words, and words of bytes, are in range
+-- bytes of words are in range
 pub bytes_below : (words : List ℕ) → All (λ w. w < 65536) words → All (λ b. b < 256) (bytes_of words)
 bytes_below [] h k d l = absurd (omega arith)
 bytes_below (w ∷ words) h zero d l = let below = h 0 0 (omega arith) in omega arith
 bytes_below (w ∷ words) h (suc zero) d l = omega arith
 bytes_below (w ∷ words) h (suc (suc k)) d l = bytes_below words (λ j e m. h (suc j) e (omega arith)) k d (omega arith)
-
--- words of bytes are below 2^16
-pub words_below : (bytes : List ℕ) → All (λ b. b < 256) bytes → All (λ w. w < 65536) (words_of bytes)
-words_below [] h k d l = absurd (omega arith)
-words_below (a ∷ []) h k d l = absurd (omega arith)
-words_below (a ∷ b ∷ bytes) h zero d l = let high = h 0 0 (omega arith) in let low = h 1 0 (omega arith) in omega arith
-words_below (a ∷ b ∷ bytes) h (suc k) d l = words_below bytes (λ j e m. h (suc (suc j)) e (omega arith)) k d (omega arith)
 
 -- ---- bytes in place
 pub length-put_at : (at : ℕ) (new old : List ℕ) → at + length new ≤ length old → length (put_at at new old) ≡ length old
@@ -136,11 +129,3 @@ put_pairs (suc (suc at)) new (a ∷ b ∷ old) fits below h =
 -- Words with bytes put in place, as bytes: those bytes in place.
 pub bytes_of-put : (at : ℕ) (new words : List ℕ) → at + length new ≤ length (bytes_of words) → All (λ b. b < 256) new → bytes_of (words_of (put_at at new (bytes_of words))) ≡ put_at at new (bytes_of words)
 bytes_of-put at new words fits below = bytes_of-words_of _ (put_pairs at new (bytes_of words) fits below (pairs_of_words words))
-
--- and as many words as before
-pub length-put_words : (at : ℕ) (new words : List ℕ) → at + length new ≤ length (bytes_of words) → length (words_of (put_at at new (bytes_of words))) ≡ length words
-length-put_words at new words fits =
-    let bytes : length (put_at at new (bytes_of words)) ≡ length (bytes_of words) = length-put_at at new (bytes_of words) fits in
-    let twice : length (bytes_of words) ≡ 2 * length words = length-bytes_of words in
-    let half : length (words_of (put_at at new (bytes_of words))) ≡ length (put_at at new (bytes_of words)) / 2 = length-words_of (put_at at new (bytes_of words)) in
-    omega arith

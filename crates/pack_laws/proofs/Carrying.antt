@@ -1,6 +1,5 @@
 -- Sectors that carry a page, by their labels and by what they show.
-use Rattle.std.proofs.Common.{◌≡◌, ℕ, zero, suc, ◌<◌, Bool, true, false, cond, List, length, get_or, take, min, Some, None, refl, sym, ap, ◌∙◌, arith}
-use Rattle.std.proofs.lemmas.List.{length-take}
+use Rattle.std.proofs.Common.{◌≡◌, ℕ, zero, suc, ◌<◌, Bool, true, false, cond, length, get_or, take, Some, None, refl, sym, ap, ◌∙◌}
 use Rattle.alto_words.specs.declared.fid.Fid.{Fid}
 use Rattle.disk_records.specs.declared.shape.Shape.{Shape}
 use Rattle.disk_records.specs.declared.records.Sector.{Sector}
@@ -10,11 +9,10 @@ use Rattle.disk_records.specs.Packs.{Pack, sector_at, is_usable, carried}
 use Rattle.pack_model.specs.Bytes.{bytes_of}
 use Rattle.pack_model.specs.Leaders.{leader_of, leader_words, is_readable}
 use Rattle.pack_model.specs.Sights.{Sight, sight, sights, tag_sight, page_sight}
-use Rattle.pack_model.specs.Sights.Sight.{hidden, free, stray, leads, holds}
+use Rattle.pack_model.specs.Sights.Sight.{hidden, free, stray, leads}
 use Rattle.pack_model.specs.Files.{carries_page}
-use Rattle.pack_laws.proofs.Bytes.{length-bytes_of}
 use Rattle.pack_laws.proofs.Keys.{is_fid-itself, same_fid}
-use Rattle.pack_laws.proofs.Sighted.{shows_page, page_shown, counted, sights-get}
+use Rattle.pack_laws.proofs.Sighted.{page_shown, sights-get}
 use Rattle.pack_laws.proofs.Placing.{both_test, carries-holds}
 
 -- a usable sector whose label is in range and names this page
@@ -84,12 +82,3 @@ pub carried_shown : (p : Pack) (at : ℕ) (page : Page) (d : Sight) → at < len
 carried_shown p at page d l e =
     carried_of_names p.shape at (sector_at p at) page
     (names_of_sight p.shape at (sector_at p at) page.fid page.number (ap (carries_page page.fid page.number) (sym (sights-get p at d l)) ∙ e))
-
--- Of a value of 256 words as many bytes count as the label says.
-pub page_count : (shape : Shape) (at : ℕ) (s : Sector) (f : Fid) (n : ℕ) (bytes : List ℕ) → length s.value ≡ 256 → sight shape at s ≡ holds f n bytes → length bytes ≡ (tag s.label).bytes
-page_count shape at s f n bytes long e =
-    let h = shows_page shape at s f n bytes e in
-    let most = counted (tag s.label) h.ranged in
-    let size : length bytes ≡ min (tag s.label).bytes (length (bytes_of s.value)) = ap length h.bytes_are ∙ length-take (tag s.label).bytes (bytes_of s.value) in
-    let twice = length-bytes_of s.value in
-    omega arith

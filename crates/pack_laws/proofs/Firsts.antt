@@ -1,7 +1,7 @@
 -- The first answer of a list: when one place changes, step by step, and the place that bears it.
-use Rattle.std.proofs.Common.{◌≡◌, ℕ, zero, suc, ◌+◌, ◌<◌, ◌≤◌, ◌≢◌, List, [], ◌∷◌, ◌++◌, length, get_or, set, drop, Option, Some, None, refl, sym, ap, ◌∙◌, arith}
+use Rattle.std.proofs.Common.{◌≡◌, ℕ, zero, suc, ◌<◌, ◌≢◌, List, [], ◌∷◌, ◌++◌, length, get_or, set, Option, Some, None, refl, sym, ap, ◌∙◌, arith}
 use Rattle.std.specs.Option.{option_or}
-use Rattle.std.proofs.lemmas.List.{at_drop_more, at_drop_all, get_or_default}
+use Rattle.std.proofs.lemmas.List.{get_or_default}
 use Rattle.pack_model.specs.Files.{first, Bears}
 use Rattle.pack_laws.specs.FileLaws.{FirstIsBorne}
 
@@ -98,21 +98,6 @@ module _ {S X : Type 0} (answer : S → Option X) where
 
 -- ---- a step through a list
 module _ {S X : Type 0} (answer : S → Option X) where
-  -- the entry here answers
-  pub first_found : (ss : List S) (i : ℕ) (d : S) (x : X) → i < length ss → answer (get_or ss i d) ≡ Some x → first answer (drop i ss) ≡ Some x
-  unfolding first
-  first_found ss i d x l e = at_drop_more (first answer) ss i d l ∙ ap (λ r. option_or r (first answer (drop (i + 1) ss))) e
-
-  -- the entry here doesn't answer
-  pub first_next : (ss : List S) (i : ℕ) (d : S) → i < length ss → answer (get_or ss i d) ≡ None → first answer (drop i ss) ≡ first answer (drop (i + 1) ss)
-  unfolding first
-  first_next ss i d l e = at_drop_more (first answer) ss i d l ∙ ap (λ r. option_or r (first answer (drop (i + 1) ss))) e
-
-  -- no entry is left
-  pub first_end : (ss : List S) (i : ℕ) → length ss ≤ i → first answer (drop i ss) ≡ None
-  unfolding first
-  first_end ss i l = at_drop_all (first answer) ss i l
-
   -- a front that has been seen, and the rest
   pub first_append : (ss tt : List S) → first answer (ss ++ tt) ≡ option_or (first answer ss) (first answer tt)
   unfolding first

@@ -61,11 +61,3 @@ serial_found ss serial f e = by (file_of_serial (files_shown ss) serial) refl (f
           leader_is = r.1;
           found = is ∙ (λ i. Some (name i, r.2 i));
         }
-
--- no leader with this serial is shown
-pub serial_missing : (ss : List Sight) (serial : ℕ) → fold (least_shown serial) None ss ≡ None → file_of_serial (files_shown ss) serial ≡ None
-serial_missing ss serial e = by (file_of_serial (files_shown ss) serial) (file_of_serial-fold serial ss ∙ e)
-  where
-    by : (r : Option (Fid × StoredFile)) → option_map (λ e. e.0) r ≡ None → r ≡ None
-    by None e = refl
-    by (Some x) e = cc

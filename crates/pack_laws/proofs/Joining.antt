@@ -1,5 +1,5 @@
 -- The bytes of pages in order: what their length says, and what the change of one page makes of them.
-use Rattle.std.proofs.Common.{◌≡◌, ℕ, zero, suc, ◌+◌, ◌-◌, ◌*◌, ◌<◌, ◌≤◌, ◌≢◌, Bool, true, false, cond, not, List, [], ◌++◌, length, Option, Some, None, refl, sym, ap, subst, ◌∙◌, arith, append_assoc, append-nil, ltb-false, lt-ltb, le-ltb, inl, inr}
+use Rattle.std.proofs.Common.{◌≡◌, ℕ, zero, suc, ◌+◌, ◌-◌, ◌*◌, ◌<◌, ◌≤◌, ◌≢◌, Bool, true, false, cond, not, List, [], ◌++◌, length, Option, Some, None, refl, sym, ap, subst, ◌∙◌, arith, append_assoc, ltb-false, inl, inr}
 use Rattle.std.proofs.lemmas.Bool.{cases_lt, not-true}
 use mathlib.Core.Path.{fun_ext}
 use Rattle.std.specs.Prelude.{nat_lt}
@@ -120,57 +120,6 @@ joined_change k fuel p q l r e =
     joined_at k fuel q l (record { full = λ j m. ap is_full (e j (omega arith)) ∙ r.full j m })
     ∙ ap (λ x. x ++ continue (q k) (joined (fuel - suc k) (skip (suc k) q))) (front_same k q p (λ n m. e n (omega arith)))
     ∙ ap (λ g. front k p ++ continue (q k) (joined (fuel - suc k) g)) (skip_same (suc k) q p (λ n m. e n (omega arith)))
-
--- ---- one page after another
-skip_at : (n : ℕ) (pages : ℕ → Option (List ℕ)) → skip n pages 0 ≡ pages n
-skip_at zero pages = refl
-skip_at (suc n) pages = skip_at n (λ j. pages (suc j))
-
--- the pages after it
-skip_next : (n : ℕ) (pages : ℕ → Option (List ℕ)) → (λ j. skip n pages (suc j)) ≡ skip (suc n) pages
-skip_next zero pages = refl
-skip_next (suc n) pages = skip_next n (λ j. pages (suc j))
-
--- the bytes from page n on: those of page n, and the rest
-pub joined_next : (most n : ℕ) (pages : ℕ → Option (List ℕ)) → n < most → joined (most - n) (skip n pages) ≡ continue (pages n) (joined (most - (n + 1)) (skip (n + 1) pages))
-joined_next most n pages l =
-    let e : most - n ≡ suc (most - (n + 1)) = omega arith in
-    let s : n + 1 ≡ suc n = omega arith in
-    ap (λ k. joined k (skip n pages)) e ∙ joined-suc (most - (n + 1)) (skip n pages)
-    ∙ ap (λ r. continue r (joined (most - (n + 1)) (λ j. skip n pages (suc j)))) (skip_at n pages)
-    ∙ ap (λ g. continue (pages n) (joined (most - (n + 1)) g)) (skip_next n pages ∙ ap (λ k. skip k pages) (sym s))
-
--- no page has a number from the limit on
-pub joined_none : (most n : ℕ) (pages : ℕ → Option (List ℕ)) → most ≤ n → joined (most - n) (skip n pages) ≡ []
-joined_none most n pages l = let e : most - n ≡ 0 = omega arith in ap (λ k. joined k (skip n pages)) e ∙ joined-zero (skip n pages)
-
--- ---- a loop over the pages: the bytes so far and those that are left are all
-module _ (pages : ℕ → Option (List ℕ)) (all total : List ℕ) (n : ℕ) (so_far : all ++ joined (most_pages - n) (skip n pages) ≡ total) where
-  -- page n, whatever it is
-  step_on : (r : Option (List ℕ)) → n < 65535 → pages n ≡ r → all ++ continue r (joined (most_pages - (n + 1)) (skip (n + 1) pages)) ≡ total
-  step_on r l e =
-      let m : n < most_pages = rw most_is l in
-      ap (λ x. all ++ continue x (joined (most_pages - (n + 1)) (skip (n + 1) pages))) (sym e) ∙ sym (ap (λ x. all ++ x) (joined_next most_pages n pages m)) ∙ so_far
-
-  -- this page is missing
-  pub read_missing : n < 65535 → pages n ≡ None → all ≡ total
-  read_missing l e = sym (append-nil all) ∙ step_on None l e
-
-  -- this page is the last
-  pub read_last : (b : List ℕ) → n < 65535 → pages n ≡ Some b → length b < 512 → all ++ b ≡ total
-  read_last b l e s = sym (ap (λ t. all ++ cond t b (b ++ joined (most_pages - (n + 1)) (skip (n + 1) pages))) (lt-ltb (length b) 512 s)) ∙ step_on (Some b) l e
-
-  -- this page is full
-  pub read_more : (b : List ℕ) → n < 65535 → pages n ≡ Some b → 512 ≤ length b → (all ++ b) ++ joined (most_pages - (n + 1)) (skip (n + 1) pages) ≡ total
-  read_more b l e s = append_assoc all b _ ∙ sym (ap (λ t. all ++ cond t b (b ++ joined (most_pages - (n + 1)) (skip (n + 1) pages))) (le-ltb (length b) 512 s)) ∙ step_on (Some b) l e
-
-  -- no page has a higher number
-  pub read_end : 65535 ≤ n → all ≡ total
-  read_end l = let m : most_pages ≤ n = rw most_is l in sym (append-nil all) ∙ sym (ap (λ x. all ++ x) (joined_none most_pages n pages m)) ∙ so_far
-
--- before the first page all are left
-pub read_start : (pages : ℕ → Option (List ℕ)) (all : List ℕ) → all ≡ [] → all ++ joined (most_pages - 0) (skip 0 pages) ≡ joined most_pages pages
-read_start pages all e = let z : most_pages - 0 ≡ most_pages = omega arith in ap (λ x. x ++ joined (most_pages - 0) pages) e ∙ ap (λ k. joined k pages) z
 
 -- ---- what the length says, where no page has more than 512 bytes
 pub record AreShort (pages : ℕ → Option (List ℕ)) : Type 0 where

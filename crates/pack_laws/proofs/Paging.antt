@@ -1,5 +1,5 @@
 -- One page of a file holds other bytes.
-use Rattle.std.proofs.Common.{◌≡◌, ℕ, ◌+◌, ◌*◌, ◌/◌, ◌%◌, ◌<◌, ◌≤◌, ◌≢◌, Bool, true, false, cond, List, length, get_or, set, Some, None, refl, sym, ap, subst, ◌∙◌, arith, ne_eqb, ◌⊎◌, inl, inr}
+use Rattle.std.proofs.Common.{◌≡◌, ℕ, ◌+◌, ◌*◌, ◌/◌, ◌%◌, ◌<◌, ◌≤◌, ◌≢◌, Bool, true, false, cond, List, length, set, Some, None, refl, sym, ap, subst, ◌∙◌, arith, ne_eqb, ◌⊎◌, inl, inr}
 use Rattle.std.proofs.lemmas.Bool.{cases_lt}
 use mathlib.Core.Path.{fun_ext}
 use Rattle.std.specs.Prelude.{◌&&◌, ◌==◌}
@@ -54,10 +54,6 @@ other_number true n k e = ne_eqb n k e
 
 -- ---- sector i, which bears page k of f, holds other bytes of it
 module _ (ss : List Sight) (f : Fid) (k i : ℕ) (h : IsPageAt ss f k i) (new : List ℕ) where
-  -- what the sector answered
-  was : page_at f k (get_or ss i hidden) ≡ Some h.bytes
-  was = ap (page_at f k) (h.shows hidden) ∙ page_at-holds f k h.bytes
-
   -- all leaders are as before
   pub same_leaders : (g : Fid) → leader (set ss i (holds f k new)) g ≡ leader ss g
   same_leaders g = first_same (leader_at g) ss i (holds f k new) hidden (ap (leader_at g) (sym (h.shows hidden)))

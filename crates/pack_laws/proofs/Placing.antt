@@ -64,18 +64,6 @@ carries_alike f n (holds g k b) = elim (is_fid f g && n == k) as (λ t. t ≡ is
 pub leader_at-leads : (f : Fid) (r : Bool) (l : Leader) → leader_at f (leads f r l) ≡ Some l
 leader_at-leads f r l = ap (λ b. cond b (Some l) None) (is_fid-itself f)
 
--- and shows the leader that it answers for
-pub shows_leader : (f : Fid) (s : Sight) (l : Leader) → leader_at f s ≡ Some l → (r : Bool) × (s ≡ leads f r l)
-shows_leader f hidden l e = absurd cc
-shows_leader f free l e = absurd cc
-shows_leader f stray l e = absurd cc
-shows_leader f (holds g k b) l e = absurd cc
-shows_leader f (leads g r k) l e = by (is_fid f g) refl e
-  where
-    by : (t : Bool) → is_fid f g ≡ t → cond t (Some k) None ≡ Some l → (q : Bool) × (leads g r k ≡ leads f q l)
-    by true is same = let p : g ≡ f = sym (same_fid f g is) in let q : k ≡ l = cc in (r, λ i. leads (p i) r (q i))
-    by false is same = absurd cc
-
 -- and that it carries
 pub shows_led : (f : Fid) (s : Sight) → carries_page f 0 s ≡ true → (r : Bool) × (l : Leader) × (s ≡ leads f r l)
 shows_led f hidden e = absurd cc

@@ -35,19 +35,6 @@ get-files_shown ss f =
     get-map_values fid_total fid_same (stored_file ss) (from_entries (leader_entries ss)) f
     ∙ ap (option_map (stored_file ss f)) (get-from_entries fid_total (leader_entries ss) f ∙ find-leaders ss f)
 
--- Sights with the same leaders, and the same bytes of each file that lives, show the same files.
-pub same_files : (ss tt : List Sight) → ((f : Fid) → leader ss f ≡ leader tt f) → ((f : Fid) → (leader ss f ≡ None → ⊥) → file_bytes ss f ≡ file_bytes tt f) → files_shown ss ≡ files_shown tt
-same_files ss tt l b = same_map fid_total fid_same (files_shown ss) (files_shown tt) (λ f. get-files_shown ss f ∙ same_file f ∙ sym (get-files_shown tt f))
-  where
-    same_bytes : (f : Fid) → option_map (stored_file ss f) (leader ss f) ≡ option_map (stored_file tt f) (leader ss f)
-    same_bytes f = elim (leader ss f) as (λ r. leader ss f ≡ r → option_map (stored_file ss f) r ≡ option_map (stored_file tt f) r) [
-      | None ↦ λ is. refl
-      | Some x ↦ λ is. ap (λ bytes. Some (record { leader = x; bytes = bytes })) (b f (λ none. cc))
-    ] refl
-
-    same_file : (f : Fid) → option_map (stored_file ss f) (leader ss f) ≡ option_map (stored_file tt f) (leader tt f)
-    same_file f = same_bytes f ∙ ap (option_map (stored_file tt f)) (l f)
-
 -- Sights that differ in the bytes of one file show files that differ by those bytes. If it doesn't live they show the same.
 pub changed_files : (ss tt : List Sight) (f : Fid) (offset : ℕ) (new : List ℕ) → ((g : Fid) → leader tt g ≡ leader ss g) → ((g : Fid) → is_fid g f ≡ false → file_bytes tt g ≡ file_bytes ss g)
     → file_bytes tt f ≡ put_at offset new (file_bytes ss f) → files_shown tt ≡ stored_put (files_shown ss) f offset new

@@ -208,11 +208,6 @@ module _ {M O : Type 0} (means : Meaning M O) where
   writes_all (write here makes later) zero h = refl
   writes_all (write here makes later) (suc k) h = let l = writes_all later k (omega arith) in omega (arith, l)
 
-  -- it has as many writes as moves
-  pub as_many : {m : M} {p : Pack} {events : List Event} {ops : List O} → Obeys means m p events ops → length events ≡ length ops
-  as_many (rest here) = refl
-  as_many (write here makes later) = ap suc (as_many later)
-
   -- all of a run shows nothing
   pub silent_all : {m : M} {p : Pack} {events : List Event} {ops : List O} → Obeys means m p events ops → shown_bytes events ≡ []
   silent_all (rest here) = refl
@@ -229,17 +224,6 @@ module _ {M O : Type 0} (means : Meaning M O) where
       ap (steps means m) (ops-push turns turn) ∙ steps-append means m (ops_of turns) turn.ops ∙ ap (λ x. steps means x turn.ops) (sym model)
 
   module _ {m : M} {p : Pack} where
-    -- the pack before the turns stands for the model there
-    pub talks_first : {events : List Event} {turns : List (Turn O)} {n : M} → Talks means m p events turns n → means.Stands m p
-    talks_first (begun here) = here
-    talks_first (spoken turn so_far o) = talks_first so_far
-
-    -- the pack after the turns stands for the model that they leave
-    pub talks_last : {events : List Event} {turns : List (Turn O)} {n : M} → Talks means m p events turns n → means.Stands n (after p events)
-    talks_last (begun here) = here
-    talks_last (spoken {events} {wrote} {turns} {n} turn so_far o) =
-        rw (after-append p events (wrote ++ shown_events turn.text), after-append (after p events) wrote (shown_events turn.text), after-shown (after (after p events) wrote) turn.text) (stands_last means o)
-
     -- the model that they leave is the one after all their moves
     pub talks_model : {events : List Event} {turns : List (Turn O)} {n : M} → Talks means m p events turns n → n ≡ steps means m (ops_of turns)
     talks_model (begun here) = refl
@@ -470,10 +454,6 @@ module _ {M O : Type 0} (means : Meaning M O) where
   talks_begin x here = let none : added x x ≡ [] = nothing_added x.events in rw none (begun here)
 
   module _ {T E : Type 0} where
-    -- a turn from the model that the pack is read as, where that is the model of the history
-    pub turn_at : {p : Pack} {n : M} {events : List Event} {t : Turn O} {result : Result T E} → means.read p ≡ n → IsTurn means (means.read p) p events t result → IsTurn means n p events t result
-    turn_at {p} {n} {events} {t} {result} is turn = subst (λ m. IsTurn means m p events t result) is turn
-
     -- the pack after a turn: its text changes no sector
     pub pack-turn : {x y : Taped} {n : M} {t : Turn O} {result : Result T E} → Grown x y → (turn : IsTurn means n (pack x) (added x y) t result) → pack y ≡ after (pack x) turn.wrote
     pack-turn {x} {y} two turn =

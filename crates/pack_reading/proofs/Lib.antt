@@ -7,7 +7,9 @@ pub mod Slots
 pub mod Grouping
 pub mod Scanning
 pub mod Tidying
+pub mod SystemApart
 pub mod Following
+pub mod ShownFiles
 pub mod Showing
 pub mod Words
 pub mod Joins

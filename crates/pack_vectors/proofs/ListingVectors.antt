@@ -4,12 +4,11 @@ use Rattle.std.specs.Prelude.{codes, map}
 use Rattle.std.specs.Fmt.{digits}
 use Rattle.std.specs.declared.cmp.Ordering.{Ordering}
 use Rattle.std.specs.Option.{option_map}
-use Rattle.std.specs.Cmp.{IsTotalOrder, then_total, on_total}
-use Rattle.std.specs.Cmp.Lexicographic.{nat_list_cmp_total, options_total}
+use Rattle.std.specs.Cmp.{IsTotalOrder}
 use Rattle.std.specs.FinMap.{find, get-entries, entries}
 use Rattle.alto_words.specs.declared.fid.Fid.{Fid}
 use Rattle.alto_words.specs.Fid.{fid_cmp, sys_dir, ordinary_fid, directory_fid}
-use Rattle.alto_words.specs.Names.{is_stored_name, suffixed, fold_case, folded_cmp}
+use Rattle.alto_words.specs.Names.{is_stored_name, suffixed}
 use Rattle.disk_records.specs.Addresses.{real_of}
 use Rattle.disk_records.specs.Labels.{in_range, is_free}
 use Rattle.disk_records.specs.Packs.{Pack}
@@ -22,20 +21,11 @@ use Rattle.pack_model.specs.Model.{read_pack}
 use Rattle.pack_model.specs.View.{Home, Seen, View}
 use Rattle.pack_model.specs.Settling.{most_suffixes, settle, show}
 use Rattle.pack_model.specs.Listing.{Listed, in_order, naming_of, naming_cmp, listed_cmp, size_of, line_of, shown_names, listing}
-use Rattle.pack_laws.proofs.Keys.{fid_total}
 use Rattle.pack_laws.proofs.ByLists.{puts, entries-puts, read_by, read_list, seen_by, seen_list, shown_by, shown_list}
+use Rattle.pack_laws.proofs.Orders.{listed_total, naming_total}
 use Rattle.pack_vectors.proofs.SmallPacks.{three_x, in_d}
 
 -- ---- the listing by lists
-folded_total : IsTotalOrder folded_cmp
-folded_total = on_total (map fold_case) nat_list_cmp_total
-
-naming_total : IsTotalOrder naming_cmp
-naming_total = then_total (on_total (λ n. n.dir) fid_total) (then_total (on_total (λ n. n.name) folded_total) (on_total (λ n. n.fid) fid_total))
-
-listed_total : IsTotalOrder listed_cmp
-listed_total = then_total (on_total (λ l. l.dir_name) (options_total folded_total)) (on_total (λ l. l.naming) naming_total)
-
 abbrev ordered_by : {X : Type 0} → (X → X → Ordering) → List X → List X
 ordered_by R xs = map (λ e. e.0) (puts R (map (λ x. (x, tt {0})) xs))
 

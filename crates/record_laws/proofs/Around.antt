@@ -22,6 +22,13 @@ is_less Less h = refl
 is_less Equal h = absurd h
 is_less Greater h = absurd h
 
+-- a key below all others is none of them
+pub not_below : {K X : Type 0} (R : K → K → Ordering) (k : K) (es : List (K × X)) → T (below_all R k es) → find R k es ≡ None
+not_below R k [] h = refl
+not_below R k (x ∷ es) h =
+    ap (λ r. cond (is_eq r) (Some x.1) (find R k es)) (is_less (R k x.0) (first_part (is_lt (R k x.0)) (below_all R k es) h))
+    ∙ not_below R k es (second_part (is_lt (R k x.0)) (below_all R k es) h)
+
 pub record Around {K X : Type 0} (R : K → K → Ordering) (es : List (K × X)) (k : K) (x : X) : Type 0 where
   pub front : List (K × X)
   pub back : List (K × X)

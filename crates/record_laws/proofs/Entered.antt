@@ -65,10 +65,6 @@ spot files d l is a b in_files =
 
 -- ---- an entry leaves, or enters
 module _ (lives : Fid → Bool) (files : Files) (d : Fid) (l : Leader) (is a b : List Item) (in_files : get files d ≡ Some (directory l is)) (f : Fid) (name : List ℕ) where
-  -- the entry
-  naming : Naming
-  naming = record { dir = d; name = name; fid = f }
-
   -- an entry that goes leaves tidy files tidy
   pub leave_tidy : (n : ℕ) → IsTidy lives (insert files d (directory l (a ++ entry f name ∷ b))) → IsTidy lives (insert files d (directory l (a ++ space n ∷ b)))
   leave_tidy n tidy =

@@ -21,6 +21,7 @@ pub mod EnterScan
 pub mod EnterSlots
 pub mod Entered
 pub mod Entering
+pub mod FilePages
 pub mod FileSteps
 pub mod Fitting
 pub mod Framing

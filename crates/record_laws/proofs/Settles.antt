@@ -9,10 +9,6 @@ use Rattle.pack_model.specs.View.{Home, Seen, View}
 use Rattle.pack_laws.proofs.Keys.{fid_total, is_fid-itself}
 use Rattle.record_laws.specs.EnterLaws.{AllNamed, IsNext}
 
--- names by the file that has them
-Names : Type 0
-Names = FinMap fid_cmp Home
-
 -- files with names are passed
 named_skip : (names : FinMap fid_cmp Home) (a b : List (Fid × Seen)) → AllNamed names a → settled names (a ++ b) ≡ settled names b
 named_skip names [] b h = refl

@@ -39,10 +39,6 @@ pub same_view : (a b : FinMap fid_cmp Seen) (m n : FinMap fid_cmp Home) → a �
 same_view a b m n p q = λ i. record { files = p i; names = q i }
 
 module _ (shape : Shape) (good last : ℕ) (files : Files) (d : Fid) (l : Leader) (is a b : List Item) (in_files : get files d ≡ Some (directory l is)) where
-  -- the model of these files
-  model : Files → Model
-  model files = record { shape = shape; good = good; last = last; files = files }
-
   -- an entry more is a name more
   pub view_enter : (f : Fid) (name : List ℕ) (n : ℕ) → is_system f ≡ false → get (names_of (insert files d (directory l (a ++ space n ∷ b)))) f ≡ None
       → view (record { shape = shape; good = good; last = last; files = insert files d (directory l (a ++ entry f name ∷ b)) })

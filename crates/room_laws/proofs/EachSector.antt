@@ -8,6 +8,6 @@ use Rattle.room_laws.specs.RoomLaws.{SectorLaw}
 -- the law
 pub each_sector : SectorLaw
 each_sector p at w = record {
-  in_use_is = sector_used p.shape (sights p) w at (get_or (sights p) at hidden) refl;
-  available_is = sector_free p.shape (sights p) w at (get_or (sights p) at hidden) refl;
+  in_use_is = sector_used p w at (get_or (sights p) at hidden) refl;
+  available_is = sector_free p w at (get_or (sights p) at hidden) refl;
 }

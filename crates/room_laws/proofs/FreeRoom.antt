@@ -28,8 +28,8 @@ pages_and_free p w =
     let ss : List Sight = sights p in
     let lead = has_leader ss sys_dir (root_lives p.shape ss w) in
     let count = (counts_hold p).needed_is in
-    let free = available_free p.shape ss w in
-    let complete = files_complete p.shape ss w in
+    let free = available_free p w in
+    let complete = files_complete p w in
     let pages = pages_read p.shape ss lead.0 lead.1 w.descriptor_lives in
     let root : ◌≡◌ {A = ℕ} (cond {A = ℕ} (lives ss sys_dir) 0 2) 0 = ap (λ b. cond {A = ℕ} b 0 2) (root_lives p.shape ss w) in
     let own : ◌≡◌ {A = ℕ} (cond {A = ℕ} (lives ss disk_descriptor) 0 (descriptor_pages p.shape)) 0 = ap (λ b. cond {A = ℕ} b 0 (descriptor_pages p.shape)) w.descriptor_lives in
@@ -41,11 +41,11 @@ in_use_pages p w =
     let count = counts_hold p in
     let used = count.in_use in
     let good = count.available_is in
-    let free = available_free p.shape (sights p) w in
+    let free = available_free p w in
     let all = pages_and_free p w in
     omega arith
 
 -- the law
 pub free_is_room : FreeLaw
 unfolding read_sights
-free_is_room p w = let all = pages_and_free p w in record { available_is = available_free p.shape (sights p) w; in_use = in_use_pages p w; pages = all; room_is = omega arith }
+free_is_room p w = let all = pages_and_free p w in record { available_is = available_free p w; in_use = in_use_pages p w; pages = all; room_is = omega arith }

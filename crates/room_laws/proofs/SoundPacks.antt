@@ -5,13 +5,14 @@ use Rattle.std.specs.List.{list_any}
 use Rattle.std.specs.Option.{is_some, option_map}
 use Rattle.alto_words.specs.Fid.{disk_descriptor, fid_cmp, is_fid, is_system, sys_dir}
 use Rattle.alto_words.specs.declared.fid.Fid.{Fid}
+use Rattle.disk_records.specs.Packs.{Pack}
 use Rattle.disk_records.specs.declared.shape.Shape.{Shape}
 use Rattle.pack_model.specs.Bodies.{File, described, found, is_described}
 use Rattle.pack_model.specs.Files.{file_bytes, leader, lives}
 use Rattle.pack_model.specs.Leaders.{Leader}
 use Rattle.pack_model.specs.Maps.{map_values}
 use Rattle.pack_model.specs.Mended.{lacking, mended, widens}
-use Rattle.pack_model.specs.Model.{IsNamed, Model, descriptor_pages, read_sights, root_items}
+use Rattle.pack_model.specs.Model.{IsNamed, Model, descriptor_pages, read_pack, read_sights, root_items}
 use Rattle.pack_model.specs.Namings.{Naming, descriptor_name, namings, sys_dir_name}
 use Rattle.pack_model.specs.Needed.{needed}
 use Rattle.pack_model.specs.Scavenging.{root_stands}
@@ -19,7 +20,7 @@ use Rattle.pack_model.specs.Settling.{chosen, given, given_names, unless}
 use Rattle.pack_model.specs.Sights.{Sight, sights}
 use Rattle.pack_model.specs.Slots.{Item}
 use Rattle.pack_model.specs.View.{Home, Seen, homes, names_of, seen_of, view}
-use Rattle.pack_model.specs.Whole.{WholeSights}
+use Rattle.pack_model.specs.Whole.{Whole, WholeSights}
 use Rattle.pack_laws.proofs.Keys.{fid_same, fid_total, is_fid-sym}
 use Rattle.pack_laws.proofs.Mapping.{get-map_values}
 use Rattle.record_laws.proofs.DirReads.{has_leader}
@@ -102,11 +103,13 @@ unfolding widens
 no_widening is = refl
 
 -- ---- the law
-pub needs_nothing : (shape : Shape) (ss : List Sight) → WholeSights shape ss → ((f : Fid) → lives ss f ≡ true → IsNamed (read_sights shape ss) f) → needed shape ss ≡ 0
+pub needs_nothing : (p : Pack) → Whole p → ((f : Fid) → lives (sights p) f ≡ true → IsNamed (read_pack p) f) → needed p.shape (sights p) ≡ 0
 unfolding needed
-needs_nothing shape ss w named =
+needs_nothing p w named =
+    let shape : Shape = p.shape in
+    let ss : List Sight = sights p in
     let lead = has_leader ss sys_dir (root_lives shape ss w) in
-    let complete = files_complete shape ss w in
+    let complete = files_complete p w in
     let root : ◌≡◌ {A = ℕ} (cond {A = ℕ} (lives ss sys_dir) 0 2) 0 = ap (λ b. cond {A = ℕ} b 0 2) (root_lives shape ss w) in
     let own : ◌≡◌ {A = ℕ} (cond {A = ℕ} (lives ss disk_descriptor) 0 (descriptor_pages shape)) 0 = ap (λ b. cond {A = ℕ} b 0 (descriptor_pages shape)) w.descriptor_lives in
     let wide : widens (root_items (mended shape ss)) (lacking (mended shape ss)) ≡ 0 = ap (widens (root_items (mended shape ss))) (lacking_read shape ss lead.0 lead.1 w.descriptor_lives ∙ none_lacking shape ss w named) ∙ no_widening (root_items (mended shape ss)) in
@@ -115,5 +118,5 @@ needs_nothing shape ss w named =
 -- and it is scavengeable
 pub sound_needs_nothing : SoundNeedsNothing
 sound_needs_nothing p s =
-    let none = needs_nothing p.shape (sights p) s.whole s.named in
+    let none = needs_nothing p s.whole s.named in
     (none, record { root = ap (root_stands p.shape (sights p)) s.whole.root.1; room = omega arith })

@@ -21,8 +21,9 @@ use Rattle.count_laws.proofs.Standing.{placed_words}
 use Rattle.pack_laws.proofs.Bytes.{length-put_at}
 use Rattle.pack_laws.proofs.Keys.{fid_same, fid_total}
 use Rattle.pack_laws.proofs.Mapping.{entries-map_values}
+use Rattle.record_laws.proofs.FilePages.{new_pages}
 use Rattle.record_laws.proofs.Slotwise.{words-append}
-use Rattle.room_laws.proofs.FilesPages.{gone_pages, new_pages, pages_of, updated_pages}
+use Rattle.room_laws.proofs.FilesPages.{gone_pages, pages_of, updated_pages}
 use Rattle.room_laws.proofs.BodyKinds.{HasKinds, is_data}
 use Rattle.room_laws.specs.UseLaws.{MayBeDone, pages_freed}
 
@@ -56,7 +57,7 @@ entered_words i is = by (placed i is) refl
 
 -- ---- files keep their pages
 -- with the entries of one file gone
-without_pages : (f : Fid) (es : List (Fid × File)) → files_pages (map_entries (file_without f) es) ≡ files_pages es
+pub without_pages : (f : Fid) (es : List (Fid × File)) → files_pages (map_entries (file_without f) es) ≡ files_pages es
 without_pages f [] = refl
 without_pages f (e ∷ es) = let here = ap pages_for (one e.1.body) in let rest = without_pages f es in omega arith
   where
@@ -73,7 +74,7 @@ slots_pages g same x = ap pages_for (one x.body)
     one (items_of is) = ap (λ k. k * 2) (same is)
 
 -- a new file has two
-first_pages : (f : Fid) → pages_for (body_length (new_body f)) ≡ 2
+pub first_pages : (f : Fid) → pages_for (body_length (new_body f)) ≡ 2
 first_pages f = elim (is_directory f) as (λ b. pages_for (body_length (cond b (items_of (space 255 ∷ [])) (data_of []))) ≡ 2) [ true ↦ refl | false ↦ refl ]
 
 -- a file that is there

@@ -113,6 +113,10 @@ module _ (p : Pack) (f : Fid) (at : ℕ) (l : Leader) (pages : List PageAt) (h :
       let e = ends in
       ap is_some (spot (length (file_bytes ss f) / 512) (omega arith))
 
+  -- as are those before it
+  all_there : (j : ℕ) → j ≤ length (file_bytes ss f) / 512 → is_some (page ss f j) ≡ true
+  all_there j low = let e = ends in ap is_some (page_there j (omega arith))
+
   -- each sector that carries a page of it is in use
   in_place : EndsFit p.shape ss → (n i : ℕ) → carries_page f n (get_or ss i hidden) ≡ true → (counts p.shape ss f n && is_place i (place ss f n)) ≡ true
   in_place fit n i e =
@@ -134,11 +138,11 @@ module _ (p : Pack) (f : Fid) (at : ℕ) (l : Leader) (pages : List PageAt) (h :
 -- ---- the pack
 module _ (p : Pack) (w : Whole p) where
   -- ends fit
-  fit : EndsFit p.shape (sights p)
+  pub fit : EndsFit p.shape (sights p)
   fit = record { directories = w.directories; descriptor = w.descriptor_fits.size }
 
   -- what carries a page of a whole file is in use
-  carried_used : (f : Fid) (n i : ℕ) → FileWhole (sights p) f → carries_page f n (get_or (sights p) i hidden) ≡ true → (counts p.shape (sights p) f n && is_place i (place (sights p) f n)) ≡ true
+  pub carried_used : (f : Fid) (n i : ℕ) → FileWhole (sights p) f → carries_page f n (get_or (sights p) i hidden) ≡ true → (counts p.shape (sights p) f n && is_place i (place (sights p) f n)) ≡ true
   carried_used f zero i (absent headless c) e = let x = shows_led f (get_or (sights p) i hidden) e in absurd (headless i x.0 x.1 x.2)
   carried_used f (suc n) i (absent headless c) e = let x = shows_carried f n (get_or (sights p) i hidden) e in absurd (seat_in (sights p) f [] c n i x.0 x.1)
   carried_used f n i (present at l pages h c laid few) e = in_place p f at l pages h c laid few fit n i e
@@ -166,6 +170,11 @@ module _ (p : Pack) (w : Whole p) where
   has_last : (f : Fid) → FileWhole (sights p) f → lives (sights p) f ≡ true → HasLastPage (sights p) f
   has_last f (absent headless c) live = absurd (living f live headless)
   has_last f (present at l pages h c laid few) live = last_there p f at l pages h c laid few
+
+  -- and those before it
+  pub has_pages : (f : Fid) → FileWhole (sights p) f → lives (sights p) f ≡ true → (j : ℕ) → j ≤ length (file_bytes (sights p) f) / 512 → is_some (page (sights p) f j) ≡ true
+  has_pages f (absent headless c) live = absurd (living f live headless)
+  has_pages f (present at l pages h c laid few) live = all_there p f at l pages h c laid few
 
   -- and its name
   has_name : (f : Fid) → FileWhole (sights p) f → lives (sights p) f ≡ true → HasReadableName (sights p) f

@@ -38,7 +38,7 @@ twice bytes (two {bytes = rest} even) = let e = twice rest even in omega arith
 
 module _ (shape : Shape) (ss : List Sight) (fit : EndsFit shape ss) where
   -- a living file ends with its bytes
-  end_is : (f : Fid) → lives ss f ≡ true → end_of shape f (body_of f (file_bytes ss f)) ≡ length (file_bytes ss f)
+  pub end_is : (f : Fid) → lives ss f ≡ true → end_of shape f (body_of f (file_bytes ss f)) ≡ length (file_bytes ss f)
   end_is f live = by (is_fid f disk_descriptor) (is_directory f) refl refl
     where
       by : (a b : Bool) → is_fid f disk_descriptor ≡ a → is_directory f ≡ b → cond a (descriptor_length shape) (body_length (cond b (items_of (slots (words_of (file_bytes ss f)))) (data_of (file_bytes ss f)))) ≡ length (file_bytes ss f)
