@@ -7,7 +7,7 @@ use Rattle.std.proofs.lemmas.Bool.{eq-eqb, cond-true, cond-false, false_from_ne_
 use Rattle.std.proofs.lemmas.Bool.Decides.{nat_tests}
 use Rattle.std.proofs.lemmas.List.{length_push}
 use Rattle.std.proofs.lemmas.List.Folds.{list_all-append}
-use Rattle.alto_words.specs.Names.{is_name_character, is_stored_name, last_byte, with_dot}
+use Rattle.alto_words.specs.Names.{is_name_character, is_stored_name, stored_in, last_byte, with_dot}
 
 last_byte-push : (text : List ℕ) (c : ℕ) → last_byte (text ++ c ∷ []) ≡ c
 last_byte-push [] c = refl
@@ -29,6 +29,16 @@ is_stored_name-stem stem =
     let long = length_push stem 46 in
     let last = last_byte-push stem 46 in
     grind (arith, nat_tests)
+
+-- bytes that don't end with a `.` are none
+last_byte-stored : (bytes : List ℕ) → is_stored_name bytes ≡ true → last_byte bytes ≡ 46
+unfolding is_stored_name
+last_byte-stored bytes stored = grind (arith, nat_tests)
+
+pub stored_in-no_dot : (bytes : List ℕ) → ((front : List ℕ) → bytes ≢ front ++ 46 ∷ []) → stored_in bytes ≡ None
+stored_in-no_dot bytes none =
+    let other : is_stored_name bytes ≡ false = false_from_ne_true _ (λ e. let h = last_byte-front bytes (last_byte-stored bytes e) in none h.0 h.1) in
+    cond-false _ (Some bytes) None other
 
 -- a text with its final `.` added or kept
 pub with_dot-stem : (text : List ℕ) (r : Option (Bor (List ℕ))) (whole : Bor (List ℕ)) → whole.now ≡ text

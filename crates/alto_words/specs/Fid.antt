@@ -1,5 +1,5 @@
 -- Full names of files: a serial of 31 bits in two words, the directory mark, and a version.
-use Rattle.std.specs.Prelude.{ℕ, ◌+◌, ◌*◌, ◌/◌, ◌%◌, ◌||◌, Bool, nat_le}
+use Rattle.std.specs.Prelude.{ℕ, ◌+◌, ◌*◌, ◌/◌, ◌%◌, ◌==◌, ◌&&◌, ◌||◌, Bool, not, nat_le}
 use Rattle.std.specs.declared.cmp.Ordering.{Ordering}
 use Rattle.std.specs.Ordering.{nat_cmp, eq_by_cmp, then_cmp, on}
 use Rattle.alto_words.specs.declared.fid.Fid.{Fid}
@@ -15,6 +15,10 @@ is_fid = eq_by_cmp fid_cmp
 -- the serial without the directory mark
 abbrev pub serial_of : Fid → ℕ
 serial_of f = f.high % 32768 * 65536 + f.low
+
+-- a serial above 0, and a version that can be given
+abbrev pub is_full_name : Fid → Bool
+is_full_name f = nat_le 1 f.version && nat_le f.version 65534 && not (serial_of f == 0)
 
 -- the directory mark is the top bit of the high word
 abbrev pub is_directory : Fid → Bool

@@ -25,13 +25,17 @@ last_byte (b ∷ c ∷ bytes) = last_byte (c ∷ bytes)
 unfoldable pub is_stored_name : List ℕ → Bool
 is_stored_name name = nat_le 2 (length name) && nat_le (length name) 39 && list_all is_name_character name && last_byte name == 46
 
+-- the name that is stored as these bytes, if there is one
+abbrev pub stored_in : List ℕ → Option (List ℕ)
+stored_in bytes = cond (is_stored_name bytes) (Some bytes) None
+
 -- a final `.` where it is missing
 abbrev pub with_dot : List ℕ → List ℕ
 with_dot text = cond (last_byte text == 46) text (text ++ 46 ∷ [])
 
 -- the name that a text stands for, if it stands for one
 abbrev pub name_in : List ℕ → Option (List ℕ)
-name_in text = cond (is_stored_name (with_dot text)) (Some (with_dot text)) None
+name_in text = stored_in (with_dot text)
 
 -- a letter in lower case
 abbrev pub fold_case : ℕ → ℕ

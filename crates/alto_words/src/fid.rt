@@ -1,6 +1,9 @@
 // Full names of files.
 ghost use Rattle.std.specs.Prelude.{◌≡◌, ◌<◌, ◌≤◌, ◌^◌};
-ghost use Rattle.alto_words.specs.Fid.{is_directory, serial_of, ordinary_fid, directory_fid};
+ghost use Rattle.alto_words.specs.Fid.{is_directory, serial_of, is_full_name, ordinary_fid, directory_fid};
+
+/// The greatest version: ones say that a sector is free.
+const MAX_VERSION: u16 = 0xFFFE;
 
 /// The full name of a file: a serial number of 31 bits in two words, with the directory mark as the
 /// top bit of the high word, and a version. Full names are ordered by (high, low, version).
@@ -28,6 +31,13 @@ impl Fid {
         ensures { result ≡ serial_of self.now }
     {
         self.high as u32 % 0x8000 * 0x1_0000 + self.low as u32
+    }
+
+    /// Whether a file can have this full name: the serial is at least 1, the version 1 to 0xFFFE.
+    pub fn is_full_name(&self) -> bool
+        ensures { result ≡ is_full_name self.now }
+    {
+        1 <= self.version && self.version <= MAX_VERSION && self.serial() != 0
     }
 
     /// The ordinary file of this serial, version 1.

@@ -3,7 +3,7 @@ ghost use Rattle.std.specs.Prelude.{◌≡◌, ◌≤◌, ◌++◌, ◌∷◌, [
 ghost use Rattle.std.specs.Cmp.{partial_equiv_from_equiv};
 ghost use Rattle.std.specs.Cmp.Lexicographic.{pointwise, nat_list_eq_equiv};
 ghost use Rattle.std.specs.List.{list_all};
-ghost use Rattle.alto_words.specs.Names.{is_name_character, is_stored_name, name_in, with_dot, is_same_name, folded_cmp, suffixed, lost};
+ghost use Rattle.alto_words.specs.Names.{is_name_character, is_stored_name, stored_in, name_in, with_dot, is_same_name, folded_cmp, suffixed, lost};
 
 use crate::text::{MAX_LENGTH, ShortText};
 use itoa::Buffer;
@@ -47,7 +47,23 @@ impl Name {
     pub fn parse(text: &[u8]) -> Option<Name>
         ensures { result ≡ name_in text.now }
     {
-        let stem = without_dot(text);
+        Name::with_stem(without_dot(text))
+    }
+
+    /// The name that is stored as these bytes. None exactly where they aren't a stored name: a
+    /// final `.` isn't added.
+    pub fn stored(bytes: &[u8]) -> Option<Name>
+        ensures { result ≡ stored_in bytes.now }
+    {
+        let stem = bytes.strip_suffix(b".".as_slice())?;
+        Name::with_stem(stem)
+    }
+
+    /// The name with these characters before its final `.`. None exactly where they and the `.`
+    /// aren't a stored name.
+    fn with_stem(stem: &[u8]) -> Option<Name>
+        ensures { result ≡ stored_in (stem.now ++ 46 ∷ []) }
+    {
         if !is_stem(stem) {
             return None;
         }

@@ -1,7 +1,24 @@
 // Worked rows of names and of numbers in text, and each call that takes memory once with enough of it.
-use crate::{HexError, List, Name, push_hex, push_number, read_hex, read_number};
+use crate::{Fid, HexError, List, Name, push_hex, push_number, read_hex, read_number};
 use std::cmp::Ordering;
 use std::test::Fail;
+
+#[test]
+fn full_names_that_a_file_can_have(rt: HostRuntime) {
+    let rows = [
+        (0, 1, 1, true),
+        (0x8000, 1, 0xFFFE, true),
+        (1, 0, 1, true),
+        (0, 1, 0, false),
+        (0, 1, 0xFFFF, false),
+        (0, 0, 1, false),
+        (0x8000, 0, 1, false),
+    ];
+    for (high, low, version, may) in rows {
+        let fid = Fid { high, low, version };
+        assert_eq!(rt; fid.is_full_name(), may);
+    }
+}
 
 /// 38 letters.
 const LETTERS: &str = "abcdefghijklmnopqrstuvwxyzABCDEFGHIJKL";
@@ -40,6 +57,27 @@ fn texts_that_are_no_names(rt: HostRuntime) {
     ];
     for text in rows {
         assert!(rt; Name::parse(text.as_bytes()).is_none());
+    }
+}
+
+#[test]
+fn bytes_that_are_stored_names(rt: HostRuntime) {
+    let rows = [
+        ("A.", true),
+        ("..", true),
+        ("abcdefghijklmnopqrstuvwxyzABCDEFGHIJKL.", true),
+        ("A", false),
+        (".", false),
+        ("", false),
+        ("a b.", false),
+        ("abcdefghijklmnopqrstuvwxyzABCDEFGHIJKLM.", false),
+    ];
+    for (text, is_stored) in rows {
+        let name = Name::stored(text.as_bytes());
+        assert_eq!(rt; name.is_some(), is_stored, "{text}");
+        if let Some(name) = name {
+            assert_eq!(rt; name.as_bytes(), text.as_bytes());
+        }
     }
 }
 

@@ -4,9 +4,10 @@ use Rattle.std.specs.Prelude.{◌==◌, ◌&&◌}
 use Rattle.std.specs.List.{list_all}
 use Rattle.std.proofs.lemmas.Bool.{eq-eqb, cond-true, cond-false, false_from_ne_true, eqb-true, and_parts, and_from}
 use Rattle.std.proofs.lemmas.Option.{cond_some}
+use Rattle.alto_words.specs.Fid.{is_full_name}
 use Rattle.alto_words.specs.Names.{is_stored_name}
 use Rattle.disk_records.specs.Words.{word}
-use Rattle.pack_model.specs.Slots.{entry_length, is_full_name, slot_bytes, slot_name, slot_pad, slot_fid, is_entry}
+use Rattle.pack_model.specs.Slots.{entry_length, slot_bytes, slot_name, slot_pad, slot_fid, is_entry}
 use Rattle.pack_model.specs.Slots.Item.{entry}
 use Rattle.dir_slots.specs.Inside.{name_of, entry_of}
 use Rattle.dir_slots.proofs.Names.{stored_parts}

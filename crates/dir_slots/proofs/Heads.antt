@@ -6,8 +6,9 @@ use Rattle.std.specs.Option.{IfSome}
 use Rattle.std.proofs.lemmas.Bool.{eq-eqb, ne_eqb, cond-true, cond-false, and_parts, and_from, and_left, and_right, le-leb, lt-leb, leb-true, cases_Bool}
 use Rattle.std.proofs.lemmas.List.{length-take, get_or-take}
 use Rattle.std.proofs.lemmas.Option.{none-some, same_Some, cond_some}
+use Rattle.alto_words.specs.Fid.{is_full_name}
 use Rattle.disk_records.specs.Words.{word}
-use Rattle.pack_model.specs.Slots.{Item, item_words, is_entry, slot_fid, slot_name, slot_of, first_length, slot_at, IsSlot, is_full_name}
+use Rattle.pack_model.specs.Slots.{Item, item_words, is_entry, slot_fid, slot_name, slot_of, first_length, slot_at, IsSlot}
 use Rattle.pack_model.specs.Slots.Item.{space, entry}
 use Rattle.pack_model.specs.SlotWords.{address_at}
 use Rattle.dir_slots.specs.declared.slot.Slot.{Slot}

@@ -1,15 +1,12 @@
 -- When bytes are a name behind its length.
-use Rattle.std.proofs.Common.{◌≡◌, ℕ, ◌<◌, ◌≤◌, Bool, true, false, cond, List, [], ◌∷◌, length, take, drop, Some, None, refl, sym, ap, ◌∙◌, subst, arith, eqb}
-use Rattle.std.specs.Prelude.{◌==◌, ◌&&◌, not}
+use Rattle.std.proofs.Common.{◌≡◌, ℕ, ◌<◌, ◌≤◌, Bool, true, false, cond, List, [], ◌∷◌, length, take, drop, Some, None, refl, sym, ap, ◌∙◌, arith}
+use Rattle.std.specs.Prelude.{◌==◌, ◌&&◌}
 use Rattle.std.specs.List.{list_all, IsSplitAt}
-use Rattle.std.proofs.lemmas.Bool.{eq-eqb, ne_eqb, cond-true, cond-false, false_from_ne_true, true≢false}
-use Rattle.std.proofs.lemmas.Bool.Decides.{nat_tests, Decides-eqb}
-use Rattle.std.proofs.lemmas.Slice.Eq.{slice_eq-Decides}
-use Rattle.std.specs.Cmp.Lexicographic.{pointwise}
+use Rattle.std.proofs.lemmas.Bool.{eq-eqb, ne_eqb}
+use Rattle.std.proofs.lemmas.Bool.Decides.{nat_tests}
 use Rattle.std.proofs.lemmas.List.{length-take}
-use Rattle.std.proofs.lemmas.Option.{none-some, same_Some, cond_some}
-use Rattle.alto_words.specs.Names.{is_name_character, is_stored_name, last_byte, with_dot, name_in}
-use Rattle.dir_slots.specs.Inside.{stored_in, name_of}
+use Rattle.alto_words.specs.Names.{is_name_character, is_stored_name, stored_in, last_byte}
+use Rattle.dir_slots.specs.Inside.{name_of}
 
 -- ---- stored names
 pub record StoredParts (name : List ℕ) : Type 0 where
@@ -26,28 +23,6 @@ stored_parts name stored = record {
   characters = grind (arith, nat_tests);
   last = grind (arith, nat_tests);
 }
-
--- a stored name stands for itself
-pub name_in-stored : (text : List ℕ) → is_stored_name text ≡ true → name_in text ≡ Some text
-name_in-stored text stored =
-    let whole : with_dot text ≡ text = cond-true _ text _ (eq-eqb (last_byte text) 46 (stored_parts text stored).last) in
-    ap (λ t. cond (is_stored_name t) (Some t) None) whole ∙ cond-true _ (Some text) None stored
-
-pub stored_in-none : (text : List ℕ) → name_in text ≡ None → stored_in text ≡ None
-stored_in-none text none = cond-false _ (Some text) None (false_from_ne_true _ (λ e. none-some text (sym none ∙ name_in-stored text e)))
-
-pub stored_in-other : (text name : List ℕ) → name_in text ≡ Some name → (name ≡ text → ⊥) → stored_in text ≡ None
-stored_in-other text name some other = cond-false _ (Some text) None (false_from_ne_true _ (λ e. other (same_Some name text (sym some ∙ name_in-stored text e))))
-
-pub stored_in-same : (text name : List ℕ) → name_in text ≡ Some name → name ≡ text → stored_in text ≡ Some name
-stored_in-same text name some same =
-    let found = cond_some _ _ _ some in
-    let stored : is_stored_name text ≡ true = subst (λ t. is_stored_name t ≡ true) (found.1 ∙ same) found.0 in
-    cond-true _ (Some text) None stored ∙ ap Some (sym same)
-
--- texts that are told to differ do
-pub differ : (xs ys : List ℕ) → not (pointwise eqb xs ys) ≡ true → xs ≡ ys → ⊥
-differ xs ys told same = let alike = (slice_eq-Decides Decides-eqb xs ys (pointwise eqb xs ys) refl).1 same in true≢false (sym told ∙ ap not alike)
 
 -- ---- behind its length
 pub name_of-nil : (bytes : List ℕ) → length bytes ≡ 0 → name_of bytes ≡ None

@@ -7,10 +7,6 @@ use Rattle.pack_model.specs.Slots.{Item, entry_length, is_entry, slot_fid, slot_
 use Rattle.pack_model.specs.Slots.Item.{space, entry}
 use Rattle.dir_slots.specs.declared.room.Room.{Room}
 
--- a text that is a stored name
-abbrev pub stored_in : List ℕ → Option (List ℕ)
-stored_in text = cond (is_stored_name text) (Some text) None
-
 -- the characters that a byte with their number begins, and the bytes behind them
 abbrev pub counted : List ℕ → List ℕ
 counted bytes = take (word bytes 0) (drop 1 bytes)

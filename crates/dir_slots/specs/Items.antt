@@ -1,7 +1,8 @@
 -- What contracts see of slots: each as its item, and the address of an entry's leader apart from it, since that is a hint.
 use Rattle.std.specs.Prelude.{◌≡◌, ℕ, ◌≤◌, true, List, map}
 use Rattle.std.specs.List.{flat_map}
-use Rattle.pack_model.specs.Slots.{Item, is_full_name, slots}
+use Rattle.alto_words.specs.Fid.{is_full_name}
+use Rattle.pack_model.specs.Slots.{Item, slots}
 use Rattle.pack_model.specs.Slots.Item.{space, entry}
 use Rattle.pack_model.specs.SlotWords.{entry_words, space_words, slots_at}
 use Rattle.pack_model.specs.Rooms.{most_free}

@@ -6,13 +6,13 @@ ghost use Rattle.disk_records.specs.Words.{word};
 ghost use Rattle.pack_model.specs.Bytes.{bytes_of};
 ghost use Rattle.pack_model.specs.Slots.{item_words, slot_at};
 ghost use Rattle.pack_model.specs.SlotWords.{address_at};
-ghost use Rattle.dir_slots.specs.Inside.{stored_in, name_of, entry_of};
+ghost use Rattle.dir_slots.specs.Inside.{name_of, entry_of};
 ghost use Rattle.dir_slots.specs.Items.{item_of, address_of, IsInRange};
 ghost use Rattle.dir_slots.specs.Laws.{HasStoredName};
 
-use crate::slot::{MAX_ENTRY_WORDS, Slot, entry_words, is_full_name};
+use crate::slot::{MAX_ENTRY_WORDS, Slot, entry_words};
 use alto_words::{Fid, Name};
-use byteorder::{BigEndian, ByteOrder};
+use leader_page::words_into_bytes;
 
 // The words of an entry, counted from its first.
 const TYPE: usize = 0;
@@ -92,7 +92,7 @@ fn read_entry(words: &[u16]) -> Option<Slot>
         low: words[SERIAL_LOW],
         version: words[VERSION],
     };
-    if !is_full_name(&fid) {
+    if !fid.is_full_name() {
         return None;
     }
     let name = read_name(&words[NAME..])?;
@@ -122,7 +122,7 @@ fn read_name(words: &[u16]) -> Option<Name>
 {
     let mut bytes = [0; MAX_NAME_BYTES];
     let bytes = &mut bytes[..2 * words.len()];
-    BigEndian::write_u16_into(words, bytes);
+    words_into_bytes(words, bytes);
     name_of(bytes)
 }
 
@@ -135,7 +135,7 @@ fn name_of(bytes: &[u8]) -> Option<Name>
     if !is_blank(pad) {
         return None;
     }
-    stored_name(text)
+    Name::stored(text)
 }
 
 /// Whether these bytes are 0.
@@ -143,15 +143,4 @@ fn is_blank(bytes: &[u8]) -> bool
     ensures { result ≡ list_all (λ b. b == 0) bytes.now }
 {
     bytes.iter().all(|byte| *byte == 0)
-}
-
-/// The name that this text is, the final `.` with it. None where `parse` would add one, or where it is no name.
-fn stored_name(text: &[u8]) -> Option<Name>
-    ensures { result ≡ stored_in text.now }
-{
-    let name = Name::parse(text)?;
-    if name.as_bytes() != text {
-        return None;
-    }
-    Some(name)
 }

@@ -20,13 +20,14 @@
 #![tactic(auto)]
 
 mod codec;
-pub mod laws;
+mod laws;
 mod read;
 mod room;
 mod slot;
 mod write;
 
 pub use codec::slot_here;
+pub use laws::{longest_is_read, reads_back};
 pub use read::{first_slot, read_slots};
 pub use room::{Room, find_room, largest_run};
 pub use slot::{MAX_ENTRY_WORDS, MAX_FREE_WORDS, Slot, entry_words};

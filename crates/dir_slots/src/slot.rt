@@ -1,6 +1,6 @@
 // A slot of a directory, and how many words it has.
 ghost use Rattle.std.specs.Prelude.{◌≡◌, ◌≤◌, ◌↔◌, IsTrue, length};
-ghost use Rattle.pack_model.specs.Slots.{entry_length, is_full_name};
+ghost use Rattle.pack_model.specs.Slots.{entry_length};
 
 use alto_words::{Fid, Name};
 
@@ -9,9 +9,6 @@ pub const MAX_FREE_WORDS: u16 = 1023;
 
 /// The most words of an entry: those of one whose name has 39 characters.
 pub const MAX_ENTRY_WORDS: usize = 26;
-
-/// The greatest version: ones say that a sector is free.
-const MAX_VERSION: u16 = 0xFFFE;
 
 /// A slot of a directory.
 /// Source: a directory of names and full names is that of the SOSP 1979 paper; the layout is this project's choice.
@@ -51,7 +48,7 @@ impl Slot {
     {
         match self {
             Slot::Free { words } => 1 <= *words && *words <= MAX_FREE_WORDS,
-            Slot::Entry { fid, .. } => is_full_name(fid),
+            Slot::Entry { fid, .. } => fid.is_full_name(),
         }
     }
 }
@@ -64,11 +61,4 @@ pub fn entry_words(name: &Name) -> u16
 {
     let characters = name.as_bytes().len() as u16;
     6 + (characters + 2) / 2
-}
-
-/// Whether a file can have this full name: the serial without the directory mark is at least 1, the version 1 to 0xFFFE.
-pub(crate) fn is_full_name(fid: &Fid) -> bool
-    ensures { result ≡ is_full_name fid.now }
-{
-    1 <= fid.version && fid.version <= MAX_VERSION && fid.serial() != 0
 }

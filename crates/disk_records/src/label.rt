@@ -31,7 +31,7 @@ pub fn page_of(label: &[u16; 8]) -> Option<Page>
         low: label[7],
         version: label[5],
     };
-    if label[3] <= 512 && 1 <= fid.version && fid.version <= 0xFFFE && fid.serial() != 0 {
+    if label[3] <= 512 && fid.is_full_name() {
         Some(Page {
             fid,
             number: label[4],

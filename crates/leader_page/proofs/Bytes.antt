@@ -1,5 +1,5 @@
 -- Words as bytes, and bytes as words.
-use Rattle.std.proofs.Common.{◌≡◌, ℕ, zero, suc, ◌+◌, ◌-◌, ◌*◌, ◌/◌, ◌%◌, ◌<◌, List, [], ◌∷◌, ◌++◌, length, get_or, drop, replicate, refl, ap, ◌∙◌, arith}
+use Rattle.std.proofs.Common.{◌≡◌, ℕ, zero, suc, ◌+◌, ◌-◌, ◌*◌, ◌/◌, ◌%◌, ◌<◌, List, [], ◌∷◌, ◌++◌, length, get_or, drop, replicate, refl, ap, ◌∙◌, arith, Fits, w16}
 use Rattle.std.specs.List.{slice_index, flat_map}
 use Rattle.byteorder.specs.Endian.{big_number, big_bytes}
 use Rattle.pack_model.specs.Bytes.{bytes_of, words_of}
@@ -42,13 +42,12 @@ bytes_of-words_of n (a ∷ b ∷ bytes) even h =
     λ i. high i ∷ rest i ∷ bytes_of-words_of (n - 1) bytes more h.1.1 i
 
 -- bytes that are written of words are theirs
-pub bytes_of-written : (words : List ℕ) → ((k : ℕ) → k < length words → get_or words k 0 < 65536) → flat_map (big_bytes 2) words ≡ bytes_of words
+pub bytes_of-written : (words : List ℕ) → ((k : ℕ) → Fits w16 (get_or words k 0)) → flat_map (big_bytes 2) words ≡ bytes_of words
 bytes_of-written [] fits = refl
 bytes_of-written (w ∷ words) fits =
-    let here = fits 0 (omega arith) in
+    let here = fits 0 in
     let high : w / 256 % 256 ≡ w / 256 = omega (arith, here) in
-    let rest = bytes_of-written words (λ k below. fits (suc k) (omega arith)) in
-    λ i. high i ∷ w % 256 ∷ rest i
+    λ i. high i ∷ w % 256 ∷ bytes_of-written words (λ k. fits (suc k)) i
 
 -- each word is read from its two bytes
 abbrev AreRead : List ℕ → List ℕ → Type 0

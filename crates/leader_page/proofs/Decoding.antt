@@ -11,7 +11,7 @@ use Rattle.pack_model.specs.Leaders as model
 use Rattle.pack_model.specs.Leaders.{spelled_name, is_readable, leader_name, leader_words, leader_of}
 use Rattle.leader_page.specs.declared.leader.Leader.{Leader}
 use Rattle.leader_page.specs.Pages.{said, Says}
-use Rattle.leader_page.proofs.Parsing.{spelled}
+use Rattle.leader_page.proofs.Spelling.{spelled}
 use Rattle.leader_page.proofs.Values.{in_words, leader_of-in_words, leader_name-readable}
 
 -- ---- what a value says under some name

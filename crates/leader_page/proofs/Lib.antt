@@ -1,6 +1,6 @@
 mod Bytes
 mod Names
-mod Parsing
+mod Spelling
 mod Reading
 mod Values
 mod Changes

@@ -1,31 +1,23 @@
 -- The name that is read from words 6 to 25 of a value.
-use Rattle.std.proofs.Common.{◌≡◌, ℕ, ◌+◌, ◌-◌, ◌<◌, ◌≤◌, List, length, get_or, take, drop, Some, None, sym, ap, ◌∙◌, arith}
-use Rattle.std.specs.List.{flat_map, slice_range}
-use Rattle.std.proofs.lemmas.List.{length-take-le, length-drop, get_or-take, get_or-drop, drop-take, take-take, take_all}
-use Rattle.byteorder.specs.Endian.{big_bytes}
-use Rattle.alto_words.specs.Names.{name_in}
+use Rattle.std.proofs.Common.{◌≡◌, ℕ, ◌-◌, ◌<◌, ◌≤◌, List, length, get_or, take, drop, None, sym, ap, ◌∙◌, arith}
+use Rattle.std.specs.List.{slice_range}
+use Rattle.std.proofs.lemmas.List.{length-take-le, length-drop, drop-take, take-take, take_all}
+use Rattle.alto_words.specs.Names.{stored_in}
 use Rattle.disk_records.specs.Words.{word}
 use Rattle.pack_model.specs.Bytes.{bytes_of}
 use Rattle.pack_model.specs.Leaders.{name_bytes, spelled_name, leader_words}
-use Rattle.leader_page.proofs.Bytes.{length-bytes_of, bytes_of-written}
-use Rattle.leader_page.proofs.Parsing.{spelled, as_it_stands, spelled-too_long, spelled-whole, stands-none, stands-same, stands-longer}
+use Rattle.leader_page.proofs.Bytes.{length-bytes_of}
+use Rattle.leader_page.proofs.Spelling.{spelled, spelled-too_long, spelled-whole}
 
 name_words-leader : (value : List ℕ) → take 20 (drop 6 (leader_words value)) ≡ take 20 (drop 6 value)
 name_words-leader value = ap (take 20) (drop-take 6 240 value) ∙ take-take 20 240 (drop 6 value) (omega arith)
 
-module _ (value bytes : List ℕ) (long : length value ≡ 256) (fit : (k : ℕ) → get_or value k 0 < 65536) (written : bytes ≡ flat_map (big_bytes 2) (take 20 (drop 6 value))) where
+module _ (value bytes : List ℕ) (long : length value ≡ 256) (written : bytes ≡ bytes_of (take 20 (drop 6 value))) where
   words-length : length (take 20 (drop 6 value)) ≡ 20
   words-length = length-take-le 20 (drop 6 value) (omega (arith, length-drop 6 value, long))
 
-  words-fit : (k : ℕ) → k < length (take 20 (drop 6 value)) → get_or (take 20 (drop 6 value)) k 0 < 65536
-  words-fit k below =
-      let first : k < 20 = omega (arith, below, words-length) in
-      let same : get_or (take 20 (drop 6 value)) k 0 ≡ get_or value (6 + k) 0 = get_or-take 20 (drop 6 value) k 0 first ∙ get_or-drop 6 value k 0 in
-      let here = fit (6 + k) in
-      omega (arith, same, here)
-
   bytes-name : bytes ≡ name_bytes (leader_words value)
-  bytes-name = written ∙ bytes_of-written (take 20 (drop 6 value)) words-fit ∙ ap bytes_of (sym (name_words-leader value))
+  bytes-name = written ∙ ap bytes_of (sym (name_words-leader value))
 
   room : length (name_bytes (leader_words value)) ≡ 40
   room = ap (λ (w : List ℕ). length (bytes_of w)) (name_words-leader value) ∙ length-bytes_of (take 20 (drop 6 value)) ∙ omega (arith, words-length)
@@ -56,16 +48,7 @@ module _ (value bytes : List ℕ) (long : length value ≡ 256) (fit : (k : ℕ)
         let none : get_or bytes 0 0 - 0 ≡ get_or bytes 0 0 = omega arith in
         is ∙ ap (λ (n : ℕ). take n (take 39 (drop 1 bytes))) none ∙ ap (take (get_or bytes 0 0)) behind
 
-    pub reads-text : spelled (leader_words value) ≡ as_it_stands text
-    reads-text =
+    pub reads-stored : spelled (leader_words value) ≡ stored_in text
+    reads-stored =
         let same : spelled_name (leader_words value) ≡ text = sym (text-is ∙ ap (λ (b : List ℕ). take (get_or b 0 0) (drop 1 b)) bytes-name) in
-        spelled-whole (leader_words value) room (omega (arith, fits, first_byte)) ∙ ap as_it_stands same
-
-    pub reads-parsed-none : name_in text ≡ None → spelled (leader_words value) ≡ None
-    reads-parsed-none none = reads-text ∙ stands-none text none
-
-    pub reads-parsed-same : (name : List ℕ) → name_in text ≡ Some name → length name ≡ length text → spelled (leader_words value) ≡ Some name
-    reads-parsed-same name some same = reads-text ∙ stands-same text name some same
-
-    pub reads-parsed-longer : (name : List ℕ) → name_in text ≡ Some name → (length name ≡ length text → ⊥) → spelled (leader_words value) ≡ None
-    reads-parsed-longer name some other = reads-text ∙ stands-longer text name some other
+        spelled-whole (leader_words value) room (omega (arith, fits, first_byte)) ∙ ap stored_in same

@@ -15,6 +15,7 @@ ghost use Rattle.pack_model.specs.Bytes.{put_at};
 ghost use Rattle.pack_model.specs.Leaders.{is_readable, spelled_name, leader_words, leader_of};
 ghost use Rattle.pack_model.specs.PageWords.{filled, halves, name_words};
 
+use crate::words::words_into_bytes;
 use alto_words::{Fid, Name};
 use byteorder::{BigEndian, ByteOrder};
 
@@ -126,16 +127,10 @@ fn read_name(value: &[u16; 256]) -> Option<Name>
     ensures { result ≡ cond (is_readable (leader_words value.now)) (Some (spelled_name (leader_words value.now))) None }
 {
     let mut bytes = [0; 40];
-    BigEndian::write_u16_into(&value[NAME..REST], &mut bytes);
+    words_into_bytes(&value[NAME..REST], &mut bytes);
     let length = bytes[0] as usize;
     let text = bytes[1..].get(..length)?;
-    let name = Name::parse(text)?;
-    // `parse` adds a final `.` where it is missing
-    if name.as_bytes().len() == length {
-        Some(name)
-    } else {
-        None
-    }
+    Name::stored(text)
 }
 
 /// What a value says but for its name, under this name.

@@ -1,9 +1,9 @@
 -- A directory's words as slots, with no address in them.
 -- A directory of names and full names is that of the SOSP 1979 paper; the layout of slots is this project's choice.
-use Rattle.std.specs.Prelude.{◌≡◌, ℕ, zero, suc, ◌+◌, ◌-◌, ◌/◌, ◌%◌, ◌<◌, ◌≤◌, ◌==◌, ◌&&◌, Bool, not, cond, nat_le, List, [], ◌∷◌, ◌++◌, length, take, drop, Option, Some, None}
+use Rattle.std.specs.Prelude.{◌≡◌, ℕ, zero, suc, ◌+◌, ◌-◌, ◌/◌, ◌%◌, ◌<◌, ◌≤◌, ◌==◌, ◌&&◌, Bool, cond, nat_le, List, [], ◌∷◌, ◌++◌, length, take, drop, Option, Some, None}
 use Rattle.std.specs.List.{list_all}
 use Rattle.alto_words.specs.declared.fid.Fid.{Fid}
-use Rattle.alto_words.specs.Fid.{serial_of}
+use Rattle.alto_words.specs.Fid.{is_full_name}
 use Rattle.alto_words.specs.Names.{is_stored_name}
 use Rattle.disk_records.specs.Words.{word}
 use Rattle.pack_model.specs.Bytes.{bytes_of, words_of}
@@ -27,10 +27,6 @@ all_words [] = 0
 all_words (i ∷ is) = item_words i + all_words is
 
 -- ---- the words of one slot
--- a serial above 0, and a version that can be given
-abbrev pub is_full_name : Fid → Bool
-is_full_name f = nat_le 1 f.version && nat_le f.version 65534 && not (serial_of f == 0)
-
 -- from word 6 on: a length byte, the characters, and where the sum is odd a byte 0
 abbrev pub slot_bytes : List ℕ → List ℕ
 slot_bytes words = bytes_of (drop 6 words)

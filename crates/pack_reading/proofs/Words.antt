@@ -1,20 +1,10 @@
--- Words and their bytes.
-use Rattle.std.proofs.Common.{◌≡◌, ℕ, suc, ◌+◌, ◌*◌, ◌/◌, ◌%◌, ◌<◌, ◌≤◌, List, [], ◌∷◌, ◌++◌, length, get_or, drop, refl, sym, ap, ◌∙◌, arith}
-use Rattle.std.specs.List.{flat_map}
+-- Bytes as words, pair by pair.
+use Rattle.std.proofs.Common.{◌≡◌, ℕ, suc, ◌+◌, ◌*◌, ◌/◌, ◌<◌, ◌≤◌, List, [], ◌∷◌, ◌++◌, length, get_or, drop, refl, sym, ap, ◌∙◌, arith}
 use Rattle.std.proofs.lemmas.List.{length-drop, append_assoc}
 use Rattle.std.proofs.Math.Seq.{drop-cons}
-use Rattle.byteorder.specs.Endian.{big_bytes, big_number}
-use Rattle.pack_model.specs.Bytes.{bytes_of, words_of}
+use Rattle.byteorder.specs.Endian.{big_number}
+use Rattle.pack_model.specs.Bytes.{words_of}
 
--- words as bytes, the high byte first
-pub big_bytes-words : (words : List ℕ) → ((k : ℕ) → get_or words k 0 < 65536) → flat_map (big_bytes 2) words ≡ bytes_of words
-big_bytes-words [] fits = refl
-big_bytes-words (w ∷ words) fits =
-    let first = fits 0 in
-    let high : w / 256 % 256 ≡ w / 256 = omega arith in
-    ap (λ (x : ℕ). x ∷ w % 256 ∷ flat_map (big_bytes 2) words) high ∙ ap (λ (l : List ℕ). w / 256 ∷ w % 256 ∷ l) (big_bytes-words words (λ k. fits (suc k)))
-
--- ---- bytes as words, pair by pair
 -- the pair here, and those behind it
 pair_here : (bytes : List ℕ) (i : ℕ) → i + 1 < length bytes → drop i bytes ≡ get_or bytes i 0 ∷ get_or bytes (i + 1) 0 ∷ drop (i + 2) bytes
 pair_here bytes i more =

@@ -12,9 +12,8 @@ ghost use Rattle.pack_model.specs.Sights.{page_sight, tag_sight};
 ghost use Rattle.pack_reading.specs.Kept.{plain_leader, leader_kept, lives_kept, page_kept, KeepsSight};
 
 use alto_words::{Fid, List, Memory};
-use byteorder::{BigEndian, ByteOrder};
 use disk_records::{Page, Sector, page_of};
-use leader_page::Leader;
+use leader_page::{Leader, words_into_bytes};
 use std::alloc::Global;
 use std::collections::BTreeMap;
 
@@ -101,7 +100,7 @@ fn counted_bytes(alloc: Global, value: &[u16; 256], count: u16) -> Result<List<u
     ensures { IfOk result (λ bytes. bytes ≡ take count (bytes_of value.now)) }
 {
     let mut bytes = [0; PAGE_BYTES];
-    BigEndian::write_u16_into(value, &mut bytes);
+    words_into_bytes(value, &mut bytes);
     Ok(List::from_vec(Vec::from_slice(alloc, &bytes[..count as usize])?))
 }
 

@@ -5,6 +5,7 @@ use Rattle.std.proofs.lemmas.List.{get_or-set_other, length-drop, length-take, l
 use Rattle.std.proofs.lemmas.List.Elements.{All-drop, All-take}
 use Rattle.std.specs.List.{AllPairs}
 use Rattle.std.specs.Prelude.{All}
+use Rattle.alto_words.specs.Fid.{is_full_name}
 use Rattle.alto_words.specs.declared.fid.Fid.{Fid}
 use Rattle.disk_records.specs.Addresses.{real_of}
 use Rattle.disk_records.specs.Packs.{Pack, is_free_at}
@@ -14,7 +15,6 @@ use Rattle.pack_model.specs.Commands.{Claimable, all_claimed, claims_of, past_la
 use Rattle.pack_model.specs.PageWords.{link_to_first, page_value}
 use Rattle.pack_model.specs.Sights.{Sight, sights}
 use Rattle.pack_model.specs.Sights.Sight.{free, hidden}
-use Rattle.pack_model.specs.Slots.{is_full_name}
 use Rattle.pack_model.specs.Whole.{IsLaid, PageAt}
 use Rattle.operation_laws.proofs.Making.{free_sight}
 use Rattle.operation_laws.specs.ByteLaws.{together}

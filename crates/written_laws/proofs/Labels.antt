@@ -2,14 +2,13 @@
 use Rattle.std.proofs.Common.{Bool, List, None, Some, ap, cond, le-leb, not, sym, true, false, ℕ, ◌&&◌, ◌<◌, ◌∙◌, ◌≡◌, ◌≤◌}
 use Rattle.std.proofs.lemmas.Bool.{lt-ltb}
 use Rattle.std.specs.Prelude.{nat_le, nat_lt, ◌==◌}
-use Rattle.alto_words.specs.Fid.{serial_of}
+use Rattle.alto_words.specs.Fid.{is_full_name, serial_of}
 use Rattle.alto_words.specs.declared.fid.Fid.{Fid}
 use Rattle.disk_records.specs.Labels.{in_range, label_of, page_of, tag}
 use Rattle.disk_records.specs.Packs.{Pack, sector_at}
 use Rattle.pack_model.specs.Files.{lives, place}
 use Rattle.pack_model.specs.PageWords.{page_number}
 use Rattle.pack_model.specs.Sights.{sights}
-use Rattle.pack_model.specs.Slots.{is_full_name}
 use Rattle.pack_laws.proofs.Guarding.{carried_parts}
 use Rattle.pack_laws.proofs.Placing.{place_of_leader}
 use Rattle.record_laws.proofs.Copying.{place_carried}

@@ -1,6 +1,6 @@
 -- What a calling program can know before it writes a directory, and the words that the laws of operations want then.
 use Rattle.std.specs.Prelude.{◌++◌, ◌-◌, ◌<◌, ◌∷◌, ◌≡◌, List, Some, [], false, length, suc, true, ℕ}
-use Rattle.alto_words.specs.Fid.{is_directory, is_system}
+use Rattle.alto_words.specs.Fid.{is_directory, is_full_name, is_system}
 use Rattle.alto_words.specs.Names.{is_same_name, is_stored_name}
 use Rattle.alto_words.specs.declared.fid.Fid.{Fid}
 use Rattle.disk_records.specs.Packs.{Pack, sector_at}
@@ -14,7 +14,7 @@ use Rattle.pack_model.specs.PageWords.{entered_words, later, widening_bytes}
 use Rattle.pack_model.specs.Rooms.{Room, find_room}
 use Rattle.pack_model.specs.Sights.{sights}
 use Rattle.pack_model.specs.SlotWords.{space_words}
-use Rattle.pack_model.specs.Slots.{Item, all_words, entry_length, is_full_name, slots}
+use Rattle.pack_model.specs.Slots.{Item, all_words, entry_length, slots}
 use Rattle.pack_model.specs.Slots.Item.{entry}
 use Rattle.pack_model.specs.Whole.{Whole}
 use Rattle.record_laws.specs.DirLaws.{Frees}

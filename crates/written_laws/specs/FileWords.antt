@@ -1,7 +1,7 @@
 -- What a calling program can know before it makes a file or writes one, and the words that the laws of operations want then.
 use Rattle.std.specs.List.{AllPairs}
 use Rattle.std.specs.Prelude.{◌%◌, ◌+◌, ◌<◌, ◌≡◌, ◌≢◌, ◌≤◌, All, List, Some, [], false, length, suc, true, ℕ}
-use Rattle.alto_words.specs.Fid.{disk_descriptor, is_fid, serial_of}
+use Rattle.alto_words.specs.Fid.{disk_descriptor, is_fid, is_full_name, serial_of}
 use Rattle.alto_words.specs.Names.{is_stored_name}
 use Rattle.alto_words.specs.declared.fid.Fid.{Fid}
 use Rattle.disk_records.specs.Packs.{Pack, is_free_at, sector_at}
@@ -12,7 +12,6 @@ use Rattle.pack_model.specs.Files.{file_bytes, lives, place}
 use Rattle.pack_model.specs.Model.{read_pack}
 use Rattle.pack_model.specs.PageWords.{put_value, stamped_value, titled_value}
 use Rattle.pack_model.specs.Sights.{sights}
-use Rattle.pack_model.specs.Slots.{is_full_name}
 use Rattle.pack_model.specs.Whole.{Whole}
 use Rattle.operation_laws.specs.ByteLaws.{Bear, IsOrdinary, MayCut, MayGrow, MayPut}
 use Rattle.operation_laws.specs.LeaderLaws.{MayWriteLeader, stamped, titled}

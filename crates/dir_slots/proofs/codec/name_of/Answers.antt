@@ -17,4 +17,4 @@ returns-then-not-is_blank c =
 pub returns : goal.returns
 returns c =
     let parts = name_of-parts c.args.bytes.now c.in_ok-length.rest.now c.in_ok-text.text.now c.in_ok-text.pad.now c.in_ok-length.length.now c.in_ok-length.ensures.cases.0 c.in_ok-text.ensures.cases in
-    c.stored_name.ensures ∙ sym (parts ∙ cond-true _ _ _ (sym c.is_blank.ensures ∙ c.if-not-is_blank.false))
+    c.stored.ensures ∙ sym (parts ∙ cond-true _ _ _ (sym c.is_blank.ensures ∙ c.if-not-is_blank.false))

@@ -3,9 +3,9 @@ use Rattle.std.proofs.lemmas.Bool.Decides.{nat_tests}
 use Rattle.disk_records.specs.Labels.{in_range}
 use Rattle.disk_records.proofs.label.page_of.Goals as goal
 
-pub returns-then-serial-ne0 : goal.returns-then-serial-ne0
+pub returns-then-is_full_name : goal.returns-then-is_full_name
 unfolding in_range
-returns-then-serial-ne0 c = grind (arith, nat_tests)
+returns-then-is_full_name c = grind (arith, nat_tests)
 
 pub returns-else-label-le512 : goal.returns-else-label-le512
 unfolding in_range

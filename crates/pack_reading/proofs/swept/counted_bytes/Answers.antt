@@ -1,7 +1,6 @@
 use Rattle.std.proofs.Common.{ap, ◌∙◌}
 use Rattle.std.specs.Prelude.{take}
-use Rattle.pack_reading.proofs.Words.{big_bytes-words}
 use Rattle.pack_reading.proofs.swept.counted_bytes.Goals as goal
 
 pub returns : goal.returns
-returns c = c.from_vec.ensures ∙ c.in_ok-from_slice.ensures.items ∙ ap (take c.args.count) (c.write_u16_into.ensures ∙ big_bytes-words c.args.value.now c.fits-value)
+returns c = c.from_vec.ensures ∙ c.in_ok-from_slice.ensures.items ∙ ap (take c.args.count) c.words_into_bytes.ensures
