@@ -3,7 +3,7 @@
 
     python3 bench/show.py [RUNS [PROGRAM]]
 
-The packs have 2, 20 and 203 cylinders, 1, 19 and 200 files of 10,000 bytes, and a SysDir with an entry of each. Two more have 203
+The packs have 2, 20 and 203 cylinders, 1, 19 and 200 files of 10,000 bytes, and a SysDir with an entry of each. Three more have 203
 cylinders and files without an entry: 2,000 whose leaders have one name; 200 such files beside a SysDir that fills the other sectors
 with free slots of one word; and 4,870 whose leaders have 200 names of 38 characters in turn. Of these, 40 at a time share their
 suffixes from 10 on, and all of them those from 100 on. The listing is compared with the one that these files must have. A time is the
@@ -24,7 +24,8 @@ import time
 sys.dont_write_bytecode = True
 import packs
 
-PACKS = [(2, 1), (20, 19), (203, 200)]
+MODEL_31 = 203
+PACKS = [(2, 1), (20, 19), (MODEL_31, 200)]
 NAMELESS = (203, 2_000)
 FREE_SLOTS = (203, 200)
 ALIKE = (203, 4_870)
@@ -149,8 +150,9 @@ def most_memory(command):
     return int(peak[0]) * 1024 if peak else None
 
 
-def measure(program, folder, runs, what, data, listing):
-    """Prints the times of `show` over this pack, and of `cp` of it."""
+def measure(program, folder, runs, what, data, listing, bounded=False):
+    """Prints the times of `show` over this pack, and of `cp` of it. Where they are bounded `show` takes less than 5 times as long, and
+    memory of 3 times the pack at most."""
     file = pathlib.Path(folder) / "pack"
     file.write_bytes(data)
     shows, copies = [], []
@@ -162,9 +164,11 @@ def measure(program, folder, runs, what, data, listing):
     assert file.read_bytes() == data, "nothing is written"
     show, copy = statistics.median(shows), statistics.median(copies)
     print(f"{what}, {len(data):,} bytes: show {show * 1000:.1f} ms, cp {copy * 1000:.1f} ms, {show / copy:.1f} times")
+    assert not bounded or show < 5 * copy, "show is slower than 5 times cp"
     if len(listing) > 4096:
         memory = most_memory([program, file, "show"])
         print(f"most memory {memory:,} bytes, {memory / len(data):.2f} times the pack")
+        assert not bounded or memory <= 3 * len(data), "show takes more memory than 3 times the pack"
 
 
 def main():
@@ -173,7 +177,7 @@ def main():
     with tempfile.TemporaryDirectory() as folder:
         for cylinders, files in PACKS:
             what = f"{cylinders} cylinders, {cylinders * 24} sectors, {files} files"
-            measure(program, folder, runs, what, *full_pack(cylinders, files))
+            measure(program, folder, runs, what, *full_pack(cylinders, files), bounded=cylinders == MODEL_31)
         cylinders, files = NAMELESS
         what = f"{cylinders} cylinders, {cylinders * 24} sectors, {files} files of one name without an entry"
         measure(program, folder, runs, what, *nameless_pack(cylinders, [b"File."] * files, numbered_names(files)))

@@ -378,6 +378,7 @@ fn a_listing_of_a_real_pack_file(rt: HostRuntime) -> Result<(), Fail> {
         let mut machine = FileMachine::reach(&outside, alloc, "shown")?;
         let status = show_pack(alloc, &mut machine);
         assert!(rt; status == ended, "{broken:?}");
+        assert_eq!(rt; log.shows(), 1, "{broken:?}");
         assert_eq!(rt; log.shown(alloc)?.as_slice(), shown, "{broken:?}");
         assert!(rt;
             fs::read(&rt, "shown")?.as_slice() == bytes.as_slice(),

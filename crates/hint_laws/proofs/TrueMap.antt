@@ -33,7 +33,7 @@ true_is_free p w = map_alike (is_available p.shape (sights p)) is_free_sight 0 (
 
 -- ---- values
 -- a page isn't free
-page_not_free : (f : Fid) (n bytes : ℕ) (value : List ℕ) → is_free_sight (page_sight f n bytes value) ≡ false
+pub page_not_free : (f : Fid) (n bytes : ℕ) (value : List ℕ) → is_free_sight (page_sight f n bytes value) ≡ false
 page_not_free f zero bytes value = refl
 page_not_free f (suc n) bytes value = refl
 

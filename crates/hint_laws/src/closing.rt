@@ -2,7 +2,7 @@
 
 ghost use Rattle.hint_laws.specs.ClosingLaws.{CleanIsLeft, ClosesTrue};
 
-/// Where all links are true and the mark isn't clean, closing with the true map leaves all hints true.
+/// On a whole and tidy pack where all links are true and the mark isn't clean, closing with the true map leaves all hints true.
 pub fn closing_leaves_hints_true()
     ensures { ClosesTrue }
 {}

@@ -2,22 +2,23 @@
 
 ghost use Rattle.hint_laws.specs.LineLinks.{LineClosesTrue, LineKeepsLinks, LinksJoin, OpenedLineKeepsLinks};
 
-/// A line keeps links where each of its operations does.
+/// From a whole and tidy pack, a line leaves true links true where each of its operations does.
 pub fn line_keeps_links()
     ensures { LineKeepsLinks }
 {}
 
-/// Record writes that keep links, one after another, keep them together.
+/// Two lists of record writes, the second on the pack that the first leaves, leave true links true together where each does.
 pub fn links_join()
     ensures { LinksJoin }
 {}
 
-/// The opening of the mark and then a line whose operations each keep links keep them.
+/// From a whole and tidy pack, the opening of the mark and then a line whose operations each leave true links true do so together.
 pub fn opened_line_keeps_links()
     ensures { OpenedLineKeepsLinks }
 {}
 
-/// Closing behind the opening of the mark and such a line, with the true map, leaves all hints true.
+/// Closing with the true map, behind the opening of the mark and a line whose operations each leave true links true, leaves all hints
+/// true where the links were at the start.
 pub fn line_closes_with_true_hints()
     ensures { LineClosesTrue }
 {}

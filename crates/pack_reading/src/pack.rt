@@ -37,9 +37,9 @@ fn show_swept(alloc: Global, swept: Swept) -> Result<Shown, Memory>
 /// What a pack shows, whatever stands on it: each living file with its leader and bytes, and its name, which it is given in
 /// SysDir where no entry of it is kept. Nothing is written. One sector command for each sector but the first.
 ///
-/// DiskFault: a sector wasn't read, and the count of disk faults rose. Memory: none was left. On usual packs it takes about twice the
-/// bytes of all pages. The words and slots of a directory are held too while it is scanned, so where one is all free slots of one
-/// word it takes up to some 33 times the pack.
+/// DiskFault: a sector wasn't read, and the count of disk faults rose. Memory: none was left. A pack full of ordinary files takes about
+/// twice its bytes, and one that is all leader pages or one large directory up to some five times as many: leaders are held as they
+/// were seen and as they are shown, and the words of a directory while it is scanned.
 pub fn read_pack<D: Disk>(alloc: Global, disk: &mut D) -> Result<Shown, ReadingError>
     ensures alone { DiskAlone (D.tape disk.old) (D.tape disk.new) }
     ensures fault { IsErrOf result ReadingError.DiskFault → Rose (D.tape disk.old).disk_faults (D.tape disk.new).disk_faults }

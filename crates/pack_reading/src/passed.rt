@@ -44,7 +44,8 @@ impl Passed {
     pub(crate) fn keep(&mut self, name: Name, first: u32, count: u32) -> Result<(), Memory>
         requires least { 1 ≤ first }
         requires most { first ≤ 65535 }
-        ensures { (homes : FinMap fid_cmp Home) → IsPassed homes self.old → AreTaken homes name first (first + count) → OnOk result (IsPassed homes self.new) }
+        ensures kept { OnOk result (passed_of self.new name first ≡ count) }
+        ensures passed { (homes : FinMap fid_cmp Home) → IsPassed homes self.old → AreTaken homes name first (first + count) → OnOk result (IsPassed homes self.new) }
     {
         match self.counts.insert(place_of(name, first), count) {
             Ok(_) => Ok(()),

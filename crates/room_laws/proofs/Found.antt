@@ -65,7 +65,7 @@ shown_free p at = by (is_usable p.shape at (sector_at p at))
     by false e = e
 
 -- one of no sector isn't, nor one past the end of the pack
-found_shown : (p : Pack) (at : ℕ) → is_free_at p at ≡ is_free_sight (get_or (sights p) at hidden)
+pub found_shown : (p : Pack) (at : ℕ) → is_free_at p at ≡ is_free_sight (get_or (sights p) at hidden)
 found_shown p at = by (is_free_at p at) (is_free_sight (get_or (sights p) at hidden)) refl refl
   where
     by : (a b : Bool) → is_free_at p at ≡ a → is_free_sight (get_or (sights p) at hidden) ≡ b → a ≡ b

@@ -34,7 +34,8 @@ pub fn sure_machine(
     SureMachine::new(alloc, small_shape(), sectors, keys)
 }
 
-/// A machine that fails where it is told to, over the same. WrongCount and Memory: as of one that never fails.
+/// A machine that fails where it is told to, and is told of nothing yet, over these sectors, with these keys to be read. WrongCount: there
+/// aren't 48. Memory: none was left for the keys or for a copy of the sectors.
 pub fn failing_machine(
     alloc: Global,
     sectors: Vec<Sector>,

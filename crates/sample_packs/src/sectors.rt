@@ -6,7 +6,7 @@ use crate::machines::small_shape;
 use disk_records::Sector;
 use std::alloc::{AllocError, Global};
 
-/// A sector that isn't free: its label, and the first words of its value. The others are 0.
+/// What is put on the sector at a virtual address: its label, and the first words of its value. The others are 0.
 #[derive(Clone, Copy)]
 pub struct Placed {
     pub at: u16,
@@ -14,13 +14,14 @@ pub struct Placed {
     pub front: [u16; 3],
 }
 
-/// The file with serial 3 and the five bytes `ABCDE`: its leader page on sector 5, its data page on sector 6.
+/// The leader page, on sector 5, of the file with serial 3 and the five bytes `ABCDE`. It has no name.
 pub const LEADER: Placed = Placed {
     at: 5,
     label: [0x6000, 0xFFFF, 0, 512, 0, 1, 0, 3],
     front: [0, 0, 0],
 };
 
+/// The data page of the same file, on sector 6.
 pub const DATA: Placed = Placed {
     at: 6,
     label: [0xFFFF, 0x5000, 0, 5, 1, 1, 0, 3],
@@ -54,7 +55,7 @@ pub fn set_page(sectors: &mut [Sector], page: &Placed)
 }
 
 #[tactic(auto, unfolding(disk_records::specs::Addresses::real_of))]
-/// The 48 sectors of two cylinders, free behind right headers of the pack with the number 1, on free sectors ones in their values.
+/// The 48 sectors of two cylinders, all free: right headers with the pack number 1, and ones in labels and values.
 fn free_sectors(alloc: Global) -> Result<Vec<Sector>, AllocError>
     ensures { IfOk result (λ sectors. sectors.items ≡ free_sectors 48) }
 {

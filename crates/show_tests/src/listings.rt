@@ -1,158 +1,30 @@
-// What packs made by hand show: each sentence on which files live, which bytes they have and which names are theirs.
+// What packs made by hand show: which files live, which bytes they have, which names are theirs, and in which order.
+use crate::filed::read_file;
+use crate::pages::{
+    DIRECTORY_5, DIRECTORY_6, FILE_3, FILE_4, FILE_8, SYS_DIR, push_entry, put_data, put_directory,
+    put_leader,
+};
 use alto_top::{Status, boot, show_pack};
-use disk_records::{Disk, Sector};
+use disk_records::{Console, Disk, Sector};
 use pack_reading::read_pack;
 use sample_packs::{DATA, LEADER, failing_machine, sectors_of, sure_machine};
 use std::alloc::Global;
 use std::process::Abort;
 use std::test::Fail;
 
-/// A full name: the high and the low word of the serial, and the version.
-type FullName = [u16; 3];
-
-const FILE_3: FullName = [0, 3, 1];
-
-const FILE_4: FullName = [0, 4, 1];
-
-const FILE_8: FullName = [0, 8, 1];
-
-const SYS_DIR: FullName = [0x8000, 1, 1];
-
-const DIRECTORY_5: FullName = [0x8000, 5, 1];
-
-const DIRECTORY_6: FullName = [0x8000, 6, 1];
-
-/// One page of a file: its sector, its number, how many of its bytes count, and the words of its value.
-#[derive(Clone, Copy)]
-struct Written<'a> {
-    at: usize,
-    name: FullName,
-    number: u16,
-    bytes: u16,
-    words: &'a [u16],
-}
-
-/// A leader's value: six words of dates, and then its name behind the name's length.
-fn leader_words(alloc: Global, name: &[u8]) -> Result<Vec<u16>, Fail> {
-    let mut words = Vec::new(alloc);
-    words.extend_from_slice(&[0; 6])?;
-    push_name(&mut words, name)?;
-    Ok(words)
-}
-
-/// Appends a name behind its length, two bytes a word; an odd byte has a 0 beside it.
-fn push_name(words: &mut Vec<u16>, name: &[u8]) -> Result<(), Fail> {
-    let mut high = Some((name.len() % 256) as u8);
-    for byte in name {
-        high = match high {
-            Some(high) => {
-                words.push(high as u16 * 256 + *byte as u16)?;
-                None
-            }
-            None => Some(*byte),
-        };
-    }
-    if let Some(high) = high {
-        words.push(high as u16 * 256)?;
-    }
-    Ok(())
-}
-
-/// The slot of an entry: its kind and its length, the full name, a 0, the leader's address, and the name behind its length.
-fn push_entry(words: &mut Vec<u16>, fid: FullName, name: &[u8]) -> Result<(), Fail> {
-    words.push(0x0400 + 6 + ((name.len() % 40) as u16 + 2) / 2)?;
-    words.extend_from_slice(&fid)?;
-    words.extend_from_slice(&[0, 5])?;
-    push_name(words, name)
-}
-
-/// Puts a page on its sector. Links are left as ones.
-fn put_page(sectors: &mut [Sector], page: Written<'_>) {
-    let [high, low, version] = page.name;
-    if let Some(sector) = sectors.get_mut(page.at) {
-        sector.label = [
-            0xFFFF,
-            0xFFFF,
-            0,
-            page.bytes,
-            page.number,
-            version,
-            high,
-            low,
-        ];
-        sector.value = [0; 256];
-        for (word, written) in sector.value.iter_mut().zip(page.words) {
-            *word = *written;
-        }
-    }
-}
-
-/// Puts a leader on its sector.
-fn put_leader(
-    alloc: Global,
-    sectors: &mut [Sector],
-    at: usize,
-    fid: FullName,
-    name: &[u8],
-) -> Result<(), Fail> {
-    let words = leader_words(alloc, name)?;
-    put_page(
-        sectors,
-        Written {
-            at,
-            name: fid,
-            number: 0,
-            bytes: 512,
-            words: &words,
-        },
-    );
-    Ok(())
-}
-
-/// Puts a data page on its sector; its words are 0.
-fn put_data(sectors: &mut [Sector], at: usize, name: FullName, number: u16, bytes: u16) {
-    put_page(
-        sectors,
-        Written {
-            at,
-            name,
-            number,
-            bytes,
-            words: &[],
-        },
-    );
-}
-
-/// Puts a directory: its leader, and one page with these slots, all of which count.
-fn put_directory(
-    alloc: Global,
-    sectors: &mut [Sector],
-    at: usize,
-    fid: FullName,
-    name: &[u8],
-    slots: &[u16],
-) -> Result<(), Fail> {
-    put_leader(alloc, sectors, at, fid, name)?;
-    put_page(
-        sectors,
-        Written {
-            at: at.saturating_add(1),
-            name: fid,
-            number: 1,
-            bytes: (slots.len() % 256) as u16 * 2,
-            words: slots,
-        },
-    );
-    Ok(())
-}
-
 /// Shows these sectors, and compares the listing. No key is taken and nothing is written.
-fn check<R: Abort + AllocGlobal>(rt: &R, sectors: &[Sector], listing: &[u8]) -> Result<(), Fail> {
+pub fn check<R: Abort + AllocGlobal>(
+    rt: &R,
+    sectors: &[Sector],
+    listing: &[u8],
+) -> Result<(), Fail> {
     let alloc = rt.alloc();
     let mut machine = sure_machine(alloc, sectors.to_vec(alloc)?, b"key")?;
     assert!(rt; show_pack(alloc, &mut machine) == Status::Done);
     assert_eq!(rt; machine.shown(alloc)?.as_slice(), listing);
     assert!(rt; machine.writes() == 0, "record writes");
+    let mut keys = [0; 4];
+    assert!(rt; matches!(machine.read(&mut keys), Ok(3)), "keys");
     assert!(rt; machine.into_sectors().as_slice() == sectors, "sectors");
     Ok(())
 }
@@ -199,7 +71,7 @@ fn names_of_nameless_files(rt: HostRuntime) -> Result<(), Fail> {
     put_leader(alloc, &mut sectors, 7, FILE_3, b"A.")?;
     let listing = b"SysDir>A. length 0\nSysDir>a.$1. length 0\nSysDir>Lost10. length 0\n3 files\n";
     check(&rt, &sectors, listing.as_slice())?;
-    // the names of the system files are taken
+    // the name of SysDir is taken
     put_leader(alloc, &mut sectors, 7, FILE_3, b"sysdir.")?;
     let listing =
         b"SysDir>a. length 0\nSysDir>Lost10. length 0\nSysDir>sysdir.$1. length 0\n3 files\n";
@@ -348,6 +220,11 @@ fn cuts_of_a_patch(rt: HostRuntime) -> Result<(), Fail> {
         let shown = cut.shown(alloc)?;
         let listing = b"SysDir>Lost3. length 5\n1 files\n".as_slice();
         assert_eq!(rt; shown.get(before..), Some(listing), "{count}");
+        // the same bytes through a real pack file
+        let files = read_file(&rt, "cut", &cut.into_sectors())?.files;
+        let file = files.as_slice().first().ok_or("no file")?;
+        let held = file.bytes.as_ref().ok_or("a directory")?;
+        assert_eq!(rt; held.as_slice(), bytes.as_slice(), "{count}");
     }
     Ok(())
 }

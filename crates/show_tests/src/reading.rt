@@ -1,9 +1,12 @@
 // What packs made by hand show.
+use crate::filed::read_file;
 use alto_words::push_number;
 use disk_records::Sector;
 use pack_reading::{ReadingError, Shown, read_pack};
 use sample_packs::{failing_machine, sectors_of, sure_machine};
 use std::alloc::Global;
+use std::process::Abort;
+use std::rt::Runtime;
 use std::test::Fail;
 
 /// A sector with its label and the first words of its value. The others are 0.
@@ -97,11 +100,19 @@ fn lines_of(alloc: Global, shown: &Shown) -> Result<Vec<u8>, Fail> {
     Ok(out)
 }
 
-/// What these sectors show, as such lines.
-fn shown_lines(alloc: Global, sectors: Vec<Sector>) -> Result<Vec<u8>, Fail> {
+/// What these sectors show, as such lines: in memory, and the same through a real pack file.
+fn shown_lines<R: Runtime + Abort + AllocGlobal>(
+    rt: &R,
+    path: &str,
+    sectors: Vec<Sector>,
+) -> Result<Vec<u8>, Fail> {
+    let alloc = rt.alloc();
+    let filed = lines_of(alloc, &read_file(rt, path, &sectors)?)?;
     let mut machine = sure_machine(alloc, sectors, b"")?;
     let shown = read_pack(alloc, &mut machine)?;
-    lines_of(alloc, &shown)
+    let lines = lines_of(alloc, &shown)?;
+    assert_eq!(rt; filed.as_slice(), lines.as_slice());
+    Ok(lines)
 }
 
 #[test]
@@ -114,7 +125,7 @@ fn zeros_show_nothing(rt: HostRuntime) -> Result<(), Fail> {
             value: [0; 256],
         })?;
     }
-    let lines = shown_lines(rt.alloc(), sectors)?;
+    let lines = shown_lines(&rt, "zeros", sectors)?;
     assert_eq!(rt; lines.as_slice(), b"".as_slice());
     Ok(())
 }
@@ -140,7 +151,7 @@ fn each_file_has_one_name(rt: HostRuntime) -> Result<(), Fail> {
         // a copy of a leader, higher up
         leader(20, 0, 3, 90, 0x0258),
     ];
-    let lines = shown_lines(rt.alloc(), sectors_with(rt.alloc(), &pages)?)?;
+    let lines = shown_lines(&rt, "names", sectors_with(rt.alloc(), &pages)?)?;
     let expected = b"3 30 5\n4 40 0\n5 50 0\n1>A. 3\n1>a.$1. 4\n1>Lost5. 5\n";
     assert_eq!(rt; lines.as_slice(), expected.as_slice());
     Ok(())
@@ -164,7 +175,7 @@ fn directories_stand_in_sys_dir(rt: HostRuntime) -> Result<(), Fail> {
         directory(7, 6, slots),
         leader(8, 0x8000, 7, 70, 0x0259),
     ];
-    let lines = shown_lines(rt.alloc(), sectors_with(rt.alloc(), &pages)?)?;
+    let lines = shown_lines(&rt, "directories", sectors_with(rt.alloc(), &pages)?)?;
     let expected = b"3 30 0\n6 60 directory\n7 70 directory\n1>D. 6\n1>Y. 7\n6>C. 3\n";
     assert_eq!(rt; lines.as_slice(), expected.as_slice());
     Ok(())
@@ -187,7 +198,7 @@ fn bytes_end_where_a_page_is_missing(rt: HostRuntime) -> Result<(), Fail> {
     if let Some(sector) = sectors.get_mut(10) {
         sector.header[1] = 0;
     }
-    let lines = shown_lines(rt.alloc(), sectors)?;
+    let lines = shown_lines(&rt, "bytes", sectors)?;
     assert_eq!(rt; lines.as_slice(), b"3 30 512\n1>B. 3\n".as_slice());
     Ok(())
 }

@@ -2,32 +2,32 @@
 
 ghost use Rattle.written_laws.specs.FileWords.{CutWords, GrownWords, MadeWords, PutInWords, StampedWords, TitledWords};
 
-/// The two claims of a make.
+/// The two claims of a make are such as its law asks for.
 pub fn words_of_a_make()
     ensures { MadeWords }
 {}
 
-/// The value of a put.
+/// The value of a put is such as its law asks for.
 pub fn words_of_a_put()
     ensures { PutInWords }
 {}
 
-/// The claims of a growth, and its label and value of the old last page.
+/// The claims of a growth, and its label and value of the old last page, are such as its law asks for.
 pub fn words_of_a_growth()
     ensures { GrownWords }
 {}
 
-/// The label of a cut.
+/// The label of a cut is such as its law asks for.
 pub fn words_of_a_cut()
     ensures { CutWords }
 {}
 
-/// The value of a title.
+/// The value of a title is such as its law asks for.
 pub fn words_of_a_title()
     ensures { TitledWords }
 {}
 
-/// The value of a stamp.
+/// The value of a stamp is such as its law asks for.
 pub fn words_of_a_stamp()
     ensures { StampedWords }
 {}

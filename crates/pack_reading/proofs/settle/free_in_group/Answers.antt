@@ -5,7 +5,7 @@ use Rattle.pack_reading.proofs.settle.free_in_group.Goals as goal
 
 pub returns-clause-passed : goal.returns-clause-passed
 returns-clause-passed c = λ homes stands is.
-    c.in_ok-keep.ensures homes is (
+    c.in_ok-keep.ensures.passed homes is (
     taken_by_count homes c.args.name c.args.group.first c.unwrap_or.result
     (subst (AreTaken homes c.args.name c.args.group.first) (sym c.unwrap_or.ensures) (c.next_in_group-free.ensures.free homes stands is).taken)
     )

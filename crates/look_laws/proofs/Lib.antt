@@ -1,0 +1,9 @@
+pub mod Apart
+pub mod Borne
+pub mod Counted
+pub mod Freed
+pub mod Kept
+pub mod Left
+pub mod Nameless
+pub mod ReadFiles
+pub mod Unmoved

@@ -1,0 +1,4 @@
+pub mod EntryLaws
+pub mod FreeLaws
+pub mod LengthLaws
+pub mod PlaceLaws

@@ -1,0 +1,4 @@
+pub mod MapMeanings
+pub mod MapWords
+pub mod MapChanges
+pub mod MapClosing
