@@ -58,8 +58,8 @@ fn machine_of<'a, R: Files + Input + Print + AllocGlobal>(
     }
 }
 
-/// Does on its machine what a command line asks for, at the moment of the one reading of the clock. Nothing else here can read a
-/// clock, so a run reads it once at most.
+/// Does on its machine what a command line asks for, at the moment of a reading of the clock. Else only `run_words`, which hands the
+/// clock on, and `run`, which has the whole runtime, could read one here; that a run reads it once at most is tested.
 fn run_call<R: Files + Input + Print + AllocGlobal, C: Clock, S: Session>(
     rt: &R,
     clock: &C,

@@ -5,11 +5,13 @@
 //! 2. A reply is that of the files as the earlier lines left them, by labels alone; a `done` stands for its put (`history`).
 //! 3. At each cut the living files are those after some of the puts, and no put whose whole `done` was shown is missing (`cuts`).
 //! 4. At Done the keys were read to their end, or to 2^31 bytes, and each line has its turn (`done`).
-//! And of one line: `obey` makes its turn, or breaks it off, in two sweeps and three sector commands more (`obeyed`, `runs`).
+//! And of one line: `obey` makes its turn, or breaks it off, in at most as many sector commands as two sweeps and three more take
+//! (`obeyed`, `runs`).
 //! And of `show`: at Done the shown bytes are the listing of what the pack shows, for every answer a first part of it, and nothing is
 //! written (`shown` of `show_pack`).
 //! And for every machine: DiskFault, KeyFault and DisplayFault come only where their own count rose (`cause`).
-//! And for every machine: with words other than `boot` alone or `show` alone no sector command is run, nothing is written and no key is taken (`alone`).
+//! And for every machine: with words other than `boot` alone or `show` alone no record write is counted, and no fault but the display's
+//! (`alone`); told, no sector command is run, nothing is written and no key is taken (`shown` of `alto`).
 //! Not promised: that memory is left; how long anything takes, but for the number of sector commands (`runs`).
 #![tactic(auto)]
 

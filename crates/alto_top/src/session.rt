@@ -175,7 +175,7 @@ fn show_reply<C: Console>(alloc: Global, console: &mut C, reply: Reply) -> Resul
 
 /// Obeys one line, given without the byte 10 that ends it: does what it asks for, and then shows its reply, one line of text.
 /// `patch #NUM NUM HEX` alone is in the grammar; any other line, or one of more than 4,096 bytes, is answered by `bad line` and
-/// nothing is written. A line takes at most two sweeps of one sector command a sector, and three more sector commands.
+/// nothing is written. A line takes at most as many sector commands as two sweeps of all sectors but the first, and three more.
 ///
 /// Disk: the disk failed; of the line's record writes some first ones are done, and nothing is shown. Display: the display
 /// failed; the record writes are all done, and some first bytes of the reply are shown. Memory: none was left; some first
@@ -211,7 +211,7 @@ fn obey_next<M: Machine>(alloc: Global, machine: &mut M, left: &mut u32) -> Resu
 }
 
 /// Obeys the typed lines in order: `patch #NUM NUM HEX` alone is in the grammar. Each turn is a line, its record write and its reply.
-/// `moment` is the time of what the lines do, in seconds since the start of 1901; no line of today keeps it.
+/// `moment` is the time of what the lines do, in seconds since the start of 1901; no line keeps it.
 ///
 /// Done: the keys were read to their end or to 2^31 bytes. DiskFault, KeyFault, DisplayFault: that device failed, and the
 /// session stopped at once. Memory: none was left. After each of them the cuts of what happened stand for the puts so far.

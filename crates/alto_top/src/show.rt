@@ -13,7 +13,7 @@ use disk_records::{Disk, Machine};
 use pack_reading::read_pack;
 use std::alloc::Global;
 
-/// The listing of what the pack shows, by its labels alone.
+/// The listing of what the pack shows. Which pages count is told by headers and labels alone.
 fn list_pack<D: Disk>(alloc: Global, disk: &mut D) -> Result<Vec<u8>, Fault>
     ensures alone { DiskAlone (D.tape disk.old) (D.tape disk.new) }
     ensures cause { HasDiskCause (D.tape disk.old) (D.tape disk.new) result }
@@ -26,7 +26,7 @@ fn list_pack<D: Disk>(alloc: Global, disk: &mut D) -> Result<Vec<u8>, Fault>
 }
 
 /// Shows what the pack shows, whatever stands on it: a line for each name, SysDir's first, and then the number of files. No key is
-/// taken and nothing is written. One sector command for each sector but the first.
+/// taken and nothing is written. Fewer sector commands than sectors.
 ///
 /// DiskFault: a sector wasn't read; nothing is shown. DisplayFault: the display failed; some first bytes of the listing are shown.
 /// Memory: none was left; nothing is shown. Usage and KeyFault are never answered.

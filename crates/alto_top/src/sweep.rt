@@ -45,7 +45,7 @@ fn seen_in(sector: &Sector) -> Seen
     }
 }
 
-/// What the sector at this address carries, with one sector command.
+/// What the sector at this address carries. At most one sector command.
 #[tactic(auto, using(crate::proofs::Causes::look_wants_none))]
 fn see<D: Disk>(disk: &mut D, at: u16, buf: &mut Sector) -> Result<Seen, Fault>
     requires place { at < pages_of (D.tape disk.old).form }
@@ -103,8 +103,8 @@ fn find_leader<D: Disk>(
     })
 }
 
-/// The living file of least full name with this serial. One sector command for each sector but the first. On a told
-/// disk it never answers want of memory.
+/// The living file of least full name with this serial. Fewer sector commands than sectors. On a told disk it never answers want
+/// of memory.
 pub fn find_file<D: Disk>(disk: &mut D, serial: u32, buf: &mut Sector) -> Result<Option<Fid>, Fault>
     ensures alone { DiskAlone (D.tape disk.old) (D.tape disk.new) }
     ensures cause { HasDiskCause (D.tape disk.old) (D.tape disk.new) result }
@@ -153,7 +153,7 @@ fn keep_page<D: Disk>(
     }
 }
 
-/// The data pages of a file, each at the lowest sector that carries it. One sector command for each sector but the first.
+/// The data pages of a file, each at the lowest sector that carries it. Fewer sector commands than sectors.
 pub fn find_pages<D: Disk>(
     alloc: Global,
     disk: &mut D,

@@ -42,7 +42,7 @@ pub fn number_reads_back()
     ensures { NumberReadsBack }
 {}
 
-/// What `push_hex` writes of some bytes, `read_hex` reads as those bytes.
+/// What `push_hex` writes of one byte or more, `read_hex` reads as those bytes.
 pub fn hex_reads_back()
     ensures { HexReadsBack }
 {}

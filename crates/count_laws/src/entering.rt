@@ -1,4 +1,5 @@
-//! Record writes of directories when entries are entered, on any pack: what a scavenge keeps, and which entries are lacking then.
+//! Record writes of directories when entries are entered, on any pack: what a scavenge keeps, where sector 1 may still become SysDir's
+//! leader, and which entries are lacking then.
 
 ghost use Rattle.count_laws.specs.NextLaws.{UnkeptGoes, NextComes, FreeSlotsMeet, RoomComes};
 

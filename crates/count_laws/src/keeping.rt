@@ -1,4 +1,5 @@
-//! Record writes that keep, of any pack, what a scavenge keeps: what is shown, the available sectors less the needed ones, and that the pack is scavengeable.
+//! Record writes that keep, of any pack, what a scavenge keeps: what is shown, the available sectors less the needed ones, and that the
+//! pack is scavengeable, where sector 1 may still become SysDir's leader.
 
 ghost use Rattle.count_laws.specs.KeepLaws.{KeepsAside, KeepsWithRoot, FreshRoot};
 ghost use Rattle.record_laws.specs.QuietLaws.{FreeValue, EqualValue, OtherLinks, PastCount, LeaderHints, SameLeader, UnreadClaim, UnreadRelease, StrayRelease, CopyRelease, CopyClaim, LowestRelease, LastClaim};

@@ -41,7 +41,7 @@ pub record LineOnSound (p : Pack) (events : List Event) (ops : List Operation) :
   pub unmarked : Unmarked (after p events)
   pub sound : Sound (after p events)
 
--- So it is where the free sectors are as many as the pages that the line adds: so many, and no more, the refusal `full` asks for.
+-- So it is where there are at least as many free sectors as the line adds pages.
 abbrev pub SoundLineLaw : Type 0
 SoundLineLaw = (p : Pack) (at : ℕ) (events : List Event) (ops : List Operation) → let all : List Event = open_writes (mark_of (sights p)) at (sector_at p at).value ++ events in
     Sound p → place (sights p) disk_descriptor 1 ≡ Some at → 0 < length ops → IsLine (read_pack p) ops → pages_for_operations (read_pack p) ops ≤ free_sectors (sights p)

@@ -1,4 +1,4 @@
-//! Every cut of an operation, and of a line, can be scavenged.
+//! Every cut of an operation, and of a line, can be scavenged, where its models are ready.
 
 ghost use Rattle.cut_laws.specs.CutLaws.{CutsLaw, EntersLaw, LineLaw, LinesJoin, OpenIsUnmarked, UnmarkedLineLaw};
 ghost use Rattle.cut_laws.specs.EachLaws.{EachLaw};

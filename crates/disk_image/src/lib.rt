@@ -4,14 +4,15 @@
 //! To the layers above:
 //! 1. A pack has one file, and a file is one pack's: what `encode_pack` writes `decode_pack` reads back, and the other way round
 //!    (`laws`).
-//! 2. `decode_pack` refuses exactly the files whose length isn't that of 2 to 203 cylinders (`IsErrorAt`).
+//! 2. `decode_pack` refuses a file for its length exactly where that isn't the length of 2 to 203 cylinders (`IsErrorAt`).
 //! 3. `start_of` takes exactly the command lines `[--cylinders C] PACK WORDS` with C from 2 to 203 (`start`).
 //! 4. `FileMachine` meets what disk_records asks of every machine: a fault is answered only where the count of its own device rose,
 //!    and a mismatch only for a record that was to be checked.
 //!
 //! `FileMachine` is the edge to the outside. What a real file, terminal or pipe does is trusted and not proved, so it isn't told:
-//! no clause speaks of what it reads or shows. Proved is where a command goes in the file, which bytes it asks for and which it hands
-//! on (`seek_to`, `read_front`, `write_back`), over any file whose position and bytes are known.
+//! no clause speaks of what it reads or shows. Proved of each step of a command by itself is where it goes in the file, which bytes it
+//! asks for and which it hands on (`seek_to`, `read_front`, `write_back`), over any file whose position and bytes are known; that a
+//! command takes these steps in this order is tested.
 #![tactic(auto)]
 
 mod codec;

@@ -48,7 +48,7 @@ pub enum Event {
     Shown { byte: u8 },
 }
 
-/// How many operations took effect on a pack. Both counts stand at 2^64 - 1 once there.
+/// How many operations took effect on a pack. Both counts stand at 2^64 - 1 once there. No call counts by it yet.
 #[derive(Clone, Copy, Debug, PartialEq, Eq)]
 pub struct Tally {
     /// The number of record writes of the machine up to which `passed` counts.

@@ -1,8 +1,7 @@
-// All that is kept of a pack between calls.
+// Both hints of one pack.
 use crate::{BitTable, HintCache};
 
-/// The hints of one pack. Each is checked by the label that stands there before it counts, so a wrong one costs sector commands
-/// and nothing else.
+/// The hints of one pack. Who follows one has to check it first by the label that stands there.
 #[derive(Drop)]
 pub struct Hints {
     /// Where pages were last seen.

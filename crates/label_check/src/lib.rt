@@ -4,7 +4,8 @@
 //! every answer on a told disk:
 //! 1. What was written is a first part of the one list in the contract (`some`), all of it at Ok (`ok`).
 //! 2. No sector is written that didn't carry the page named, or, for `claim`, wasn't free (`guarded`).
-//! 3. Wrong comes exactly where that guard fails; nothing was written, and `found` is the label that stands there (`wrong`).
+//! 3. Wrong comes only where that guard fails, and Ok only where it holds. At Wrong nothing was written, and `found` is the label that
+//!    stands there, None where its header is wrong (`wrong`).
 //! 4. With spare for the list, or where its guard fails, no call answers Memory, and none takes an allocator (`want`).
 //! On every disk, told or not, `look` and `read_page` answer what the buffer says (`right`, `page`, `tells`, `other`).
 //! Not promised: that no other sector carries the page. pack_model says which of two counts.

@@ -1,10 +1,10 @@
 //! What any pack shows: its files and names, whatever stands on it.
 //!
 //! Below it stand alto_words, disk_records, label_check, leader_page, dir_slots and the definitions of pack_model. `read_pack` sweeps
-//! all labels once, one sector command for each sector, and follows no link. Then it works in memory: the bytes of each file by page
-//! numbers, the slots of each directory, the one scan of all entries, and the names of nameless files.
+//! all labels once and follows no link. Then it works in memory: the bytes of each file by page numbers, the slots of each directory,
+//! the one scan of all entries, and the names of nameless files.
 //! 1. At Ok the files and names are those of `show` of the pack, for every told pack (`read`).
-//! 2. Nothing is written (`silent`), and each sector but the first is read once at most (`runs`).
+//! 2. Nothing is written (`silent`), and there are fewer sector commands than sectors (`runs`).
 //! 3. A fault of the disk is answered only where its count rose (`fault`).
 #![tactic(auto)]
 

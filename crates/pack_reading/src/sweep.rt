@@ -12,7 +12,7 @@ use disk_records::{Disk, Sector};
 use label_check::look;
 use std::alloc::Global;
 
-/// Keeps what the sector at this address shows. One sector command.
+/// Keeps what the sector at this address shows. At most one sector command.
 fn sweep_sector<D: Disk>(
     alloc: Global,
     disk: &mut D,
@@ -35,7 +35,7 @@ fn sweep_sector<D: Disk>(
     Ok(())
 }
 
-/// What all sectors show. One sector command for each sector but the first, which is never used.
+/// What all sectors show, but for the first, which is never used. Fewer sector commands than sectors.
 pub(crate) fn sweep<D: Disk>(alloc: Global, disk: &mut D) -> Result<Swept, ReadingError>
     ensures alone { DiskAlone (D.tape disk.old) (D.tape disk.new) }
     ensures fault { IsErrOf result ReadingError.DiskFault → Rose (D.tape disk.old).disk_faults (D.tape disk.new).disk_faults }

@@ -13,7 +13,7 @@ use alto_words::Memory;
 use disk_records::{Disk, Sector};
 use hint_cache::BitTable;
 
-/// Looks at a sector, and marks it in the table as its label says. One sector command.
+/// Looks at a sector, and marks it in the table as its label says. At most one sector command.
 pub(crate) fn correct<D: Disk>(
     disk: &mut D,
     table: &mut BitTable,

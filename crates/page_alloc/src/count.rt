@@ -9,7 +9,7 @@ ghost use Rattle.page_alloc.specs.Inside.{Looked};
 use disk_records::{Disk, Sector, is_free_label};
 use label_check::{LookError, look};
 
-/// Whether the sector at this address is free. One sector command.
+/// Whether the sector at this address is free. At most one sector command.
 pub(crate) fn is_free<D: Disk>(disk: &mut D, at: u16, buf: &mut Sector) -> Result<bool, LookError>
     requires first { 1 ≤ at }
     requires place { at < pages_of (D.tape disk.old).form }
@@ -33,8 +33,8 @@ pub(crate) fn counted(free: u16, is_free: bool) -> u16
     if is_free { free + 1 } else { free }
 }
 
-/// The number of free sectors, by a sweep of all labels: one sector command for each sector but the first. It takes no memory
-/// of its own; Memory comes only from a device that wants some.
+/// The number of free sectors, by a sweep of all labels, in fewer sector commands than sectors. It takes no memory of its own;
+/// Memory comes only from a device that wants some.
 pub fn count_free<D: Disk>(disk: &mut D, buf: &mut Sector) -> Result<u16, LookError>
     ensures alone { DiskAlone (D.tape disk.old) (D.tape disk.new) }
     ensures fault { IsErrOf result LookError.DiskFault → Rose (D.tape disk.old).disk_faults (D.tape disk.new).disk_faults }

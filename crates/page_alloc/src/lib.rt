@@ -10,8 +10,8 @@
 //! And where the disk is told:
 //! 3. Each sector that is taken is free (`free`). With a true table they are the lowest (`lowest`), found in as many sector
 //!    commands at most (`soon`).
-//! 4. With any table, where enough of the sectors that it has as free are free, only such are looked at (`offered`). For every
-//!    answer each sector is looked at once at most (`runs`), so there is one sweep at most.
+//! 4. With any table, where enough of the sectors that it has as free are free, there are at most as many sector commands as it
+//!    offers sectors (`offered`). For every answer there are fewer sector commands than sectors (`runs`).
 //! 5. Full comes exactly where fewer sectors are free than were asked for, with their number (`few`, `counted`).
 //! 6. Any other bit of the table stays, or becomes what its sector's label says, whatever the answer (`others`, `refused`).
 //! 7. Nothing is written, neither by `reserve` nor by `count_free` (`silent`).

@@ -13,7 +13,7 @@ use disk_records::{Disk, Sector};
 use hint_cache::BitTable;
 use std::alloc::Global;
 
-/// Whether a sector is free that the table has as free. One sector command, or none where the table has it as busy.
+/// Whether a sector is free that the table has as free. At most one sector command, and none where the table has it as busy.
 fn is_offered_free<D: Disk>(
     disk: &mut D,
     table: &mut BitTable,

@@ -14,8 +14,8 @@ use disk_records::{Disk, Sector};
 use hint_cache::BitTable;
 use std::alloc::Global;
 
-/// Whether a sector is free. One sector command, or none where it was offered: its label was looked at then, and its bit says
-/// since what that says.
+/// Whether a sector is free. At most one sector command, and none where it was offered: its label was looked at then, and its bit
+/// says since what that says.
 fn is_free_by_now<D: Disk>(
     disk: &mut D,
     table: &mut BitTable,

@@ -67,8 +67,8 @@ fn mark_busy(table: &mut BitTable, taken: &[u16])
 /// Takes `n` free sectors: answers their addresses, distinct and in rising order, each read as free in this call, and marks them
 /// as busy in the table. Nothing is written on the disk. The table must have as many bits as the disk has sectors; what they say
 /// is a hint. First the sectors are looked at that the table has as free, until enough are found; where these are too few, all
-/// other labels are swept, so each label is read once at most. With a true table the answer is the lowest free sectors, in at
-/// most `n` sector commands.
+/// other labels are swept, so there are fewer sector commands than sectors. With a true table the answer is the lowest free
+/// sectors, in at most `n` sector commands.
 ///
 /// Full: fewer than `n` sectors are free by their labels. DiskFault: the device failed. Memory: no memory was left. After each
 /// of these no sector is taken, and a bit of the table has changed only to what its sector's label says.
@@ -86,7 +86,8 @@ pub fn reserve<D: Disk>(
     ensures busy { IfOk result (λ taken. All (λ at. busy_at table.new at ≡ true) taken.items) }
     ensures free { IsTrue D.told → IfOk result (λ taken. All (λ at. is_free_at (pack (D.tape disk.old)) at ≡ true) taken.items) }
 
-    // With a true table they are the lowest, each found at once. With any table whose offers are enough, offers alone are looked at.
+    // With a true table they are the lowest, each found at once. With any table whose offers are enough, there are no more sector
+    // commands than offers.
     ensures lowest { IsTrue D.told → IsTrueTable (pack (D.tape disk.old)) table.old → IfOk result (λ taken. taken.items ≡ take n (free_sectors (pack (D.tape disk.old)))) }
     ensures soon { IsTrue D.told → IsTrueTable (pack (D.tape disk.old)) table.old → OnOk result ((D.tape disk.new).runs ≤ (D.tape disk.old).runs + n) }
     ensures offered { IsTrue D.told → n ≤ length (offered_free (pack (D.tape disk.old)) table.old) → (D.tape disk.new).runs ≤ (D.tape disk.old).runs + length (offered_sectors table.old) }
@@ -97,7 +98,7 @@ pub fn reserve<D: Disk>(
     ensures counted { IsTrue D.told → IfFull result (λ needed free. free ≡ length (free_sectors (pack (D.tape disk.old)))) }
     ensures fault { IsErrOf result AllocError.DiskFault → Rose (D.tape disk.old).disk_faults (D.tape disk.new).disk_faults }
 
-    // What else changes. With any table, and for every answer, each sector but the first is looked at once at most.
+    // What else changes. With any table, and for every answer, there are fewer sector commands than sectors.
     ensures alone { DiskAlone (D.tape disk.old) (D.tape disk.new) }
     ensures silent { IsTrue D.told → added (D.tape disk.old) (D.tape disk.new) ≡ [] }
     ensures runs { IsTrue D.told → (D.tape disk.new).runs ≤ (D.tape disk.old).runs + (pages_of (D.tape disk.old).form - 1) }

@@ -2,7 +2,8 @@
 
 ghost use Rattle.record_laws.specs.EnterLaws.{EnterIsTheStep, NextEntry};
 
-/// The write of an entry's first words is the operation: afterwards the pack is read as the model with the entry in its room, where the file lives, the entry fits, and neither the file nor the name stands anywhere.
+/// The write of an entry's first words is the operation, where the file lives, the entry fits, and the model has no entry of the file
+/// and none of the name in the directory: afterwards the pack is read as the model with the entry in its room, the one that is found.
 pub fn entry_is_the_step()
     ensures { EnterIsTheStep }
 {}

@@ -27,7 +27,7 @@ pub fn stamp_is_the_step()
     ensures { StampIsTheStep }
 {}
 
-/// A label after which the words of a directory have one free slot of 256 words more widens it.
+/// A label after which the words of a directory, whose slots reached its end, have one free slot of 256 words more widens it.
 pub fn widen_is_the_step()
     ensures { WidenIsTheStep }
 {}
@@ -37,12 +37,14 @@ pub fn leave_is_the_step()
     ensures { LeaveIsTheStep }
 {}
 
-/// The label of a new leader on a free sector makes the file, whose first page is claimed and which no entry names.
+/// The label of a new leader on a free sector makes the file, other than DiskDescriptor, whose first page is claimed and which no entry
+/// names.
 pub fn make_is_the_step()
     ensures { MakeIsTheStep }
 {}
 
-/// On a tidy pack, a free label in the place of a file's only leader drops it: the file is gone, and its entry is free.
+/// On a tidy pack, a free label in the place of the only leader of a file other than DiskDescriptor drops it: the file is gone, and its
+/// entry is free.
 pub fn drop_is_the_step()
     ensures { DropIsTheStep }
 {}

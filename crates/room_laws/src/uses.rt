@@ -3,7 +3,8 @@
 ghost use Rattle.room_laws.specs.EachUses.{EachTakesLaw};
 ghost use Rattle.room_laws.specs.UseLaws.{ClaimLessens, UseLaw};
 
-/// The sectors in use grow by the pages that the operation adds, and shrink by those that it frees.
+/// Between two whole packs of one shape, the second read as the first with an operation done that may be done on it, the sectors in
+/// use grow by the pages that the operation adds, and shrink by those that it frees.
 pub fn use_follows_the_operation()
     ensures { UseLaw }
 {}
