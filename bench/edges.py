@@ -20,8 +20,11 @@ sys.dont_write_bytecode = True
 import packs
 
 SECONDS = 10
-DONE, USAGE, DISK_FAILED, KEYS_FAILED, DISPLAY_FAILED, NO_SESSION = 0, 1, 3, 4, 5, 8
+DONE, USAGE, DISK_FAILED, KEYS_FAILED, DISPLAY_FAILED, NO_MEMORY, NO_SESSION = 0, 1, 3, 4, 5, 6, 8
 SMALL = 25_536
+MIB = 2**20
+# limits on memory, each greater than the one before it by half a MiB
+STEP = MIB // 2
 # a user whom permissions bind
 NOBODY = 65_534
 HELP_STARTS = b"The operating system of the Xerox Alto"
@@ -260,6 +263,34 @@ def check_size_limit(program):
     # a line's write, which makes no file longer, is stopped too, and no reply is shown
     pack = {"pack": abcde()}
     Run(program, ["pack", "boot"], pack, PATCHES, before=limited(1_000)).gives(-signal.SIGXFSZ, left=pack)
+    # one within a record, whose value begins at byte 3,212: the first 372 of its bytes are new
+    line, old = b"patch #3 0 " + b"42" * packs.PAGE + b"\n", {"pack": abcde(b"A" * 600)}
+    torn = {"pack": abcde(b"B" * 372 + b"A" * 228)}
+    Run(program, ["pack", "boot"], old, line, before=limited(3_584)).gives(-signal.SIGXFSZ, left=torn)
+
+
+def within(size):
+    """Sets a limit on the memory of a process, in bytes of its addresses."""
+    return lambda: resource.setrlimit(resource.RLIMIT_AS, (size, size))
+
+
+def check_memory_limit(program):
+    """Limits on memory from the least under which a small pack is shown, and a step more, up to 16 MiB more: a full pack is shown
+    whole, or the program ends with 6 and says nothing. The first limit is too small for the full pack, and the last one isn't."""
+    show, (full, listing) = ["pack", "show"], packs.full_pack(203, 200)
+    small = {"pack": abcde()}
+    least = next((limit for limit in range(STEP, 64 * MIB, STEP) if Run(program, show, small, before=within(limit)).code == DONE), None)
+    if least is None:
+        failures.append("limits on memory: the program starts under none")
+        return
+    codes = []
+    for limit in range(least + STEP, least + 16 * MIB, STEP):
+        run = Run(program, show, {"pack": full}, before=within(limit))
+        run.name += f"under a limit of {limit} bytes on memory"
+        run.gives(run.code if run.code == DONE else NO_MEMORY, listing if run.code == DONE else b"", left={"pack": full})
+        codes.append(run.code)
+    if (codes[0], codes[-1]) != (NO_MEMORY, DONE):
+        failures.append(f"limits on memory: the exit codes are {codes}, and not 6 at first and 0 at last")
 
 
 def check_shrinking_file(program):
@@ -304,6 +335,7 @@ CHECKS = [
     check_file_for_reading,
     check_without_null_device,
     check_size_limit,
+    check_memory_limit,
     check_shrinking_file,
     check_closed_pipe,
 ]

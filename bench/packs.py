@@ -1,7 +1,8 @@
 """Packs made by hand for the scripts beside this one, and the program that they run.
 
 A pack file is its sectors in order, 532 bytes each: header (pack number, real address), label and value, words with the high byte
-first. docs/formats.md tells the words. Run as a script, it writes a small pack with one file of the five bytes `ABCDE`:
+first. docs/formats.md tells the words. A file's full name is its serial, the high word first, and its version. Run as a script, it
+writes a small pack with one file of the five bytes `ABCDE`:
 
     python3 bench/packs.py PACK
 """
@@ -14,6 +15,8 @@ TOP = pathlib.Path(__file__).resolve().parent.parent
 SECTOR = 532
 PAGE = 512
 ONES = 0xFFFF
+SYS_DIR = (0x8000, 1, 1)
+DESCRIPTOR = (0, 2, 1)
 SERIAL = 3
 LEADER_AT = 5
 
@@ -25,6 +28,16 @@ def program():
     return crate / "out" / "alto"
 
 
+def ordinary(serial):
+    """The full name of an ordinary file of version 1."""
+    return serial >> 16, serial & 0xFFFF, 1
+
+
+def directory(serial):
+    """The full name of a directory of version 1."""
+    return 0x8000 | serial >> 16, serial & 0xFFFF, 1
+
+
 def real_of(at):
     return at % 12 << 12 | at // 24 << 3 | at // 12 % 2 << 2
 
@@ -34,19 +47,70 @@ def sector(at, label, value):
     return words + value
 
 
+def free_sectors(cylinders):
+    """The sectors of a pack without files."""
+    return [sector(at, [ONES] * 8, b"\xff" * PAGE) for at in range(cylinders * 24)]
+
+
+def counted(text):
+    """A name behind its length, in whole words."""
+    return (bytes([len(text)]) + text).ljust(len(text) // 2 * 2 + 2, b"\0")
+
+
+def leader(text):
+    """The first bytes of a leader page: three dates of 0 and this name. The others are 0."""
+    return struct.pack(">6H", 0, 0, 0, 0, 0, 0) + counted(text)
+
+
+def slot(file, text, leader_at=LEADER_AT):
+    """The entry of a file in a directory."""
+    words = counted(text)
+    return struct.pack(">6H", 0x0400 + 6 + len(words) // 2, *file, 0, leader_at) + words
+
+
+def free_slot(words):
+    return struct.pack(">H", words).ljust(2 * words, b"\0")
+
+
+def put_page(sectors, at, file, number, value, count=PAGE, following=ONES, previous=ONES):
+    """Puts a page of a file on a sector, of whose bytes so many count. The links are real addresses."""
+    label = [following, previous, 0, count, number, file[2], file[0], file[1]]
+    sectors[at] = sector(at, label, value.ljust(PAGE, b"\0"))
+
+
+def put_file(sectors, at, file, text, data):
+    """Puts a file from a sector on, its leader first, and answers the sector behind it. The last data page isn't full."""
+    pages = [leader(text)] + [data[place : place + PAGE] for place in range(0, len(data) + 1, PAGE)]
+    last = at + len(pages) - 1
+    assert 0 <= at and last < len(sectors), "the file fits the pack"
+    for number, page in enumerate(pages):
+        here = at + number
+        following = real_of(here + 1) if here < last else ONES
+        previous = real_of(here - 1) if number > 0 else ONES
+        put_page(sectors, here, file, number, page, len(page) if number > 0 else PAGE, following, previous)
+    return last + 1
+
+
 def pack(cylinders, data):
-    """A pack whose one living file, with the serial 3, has these bytes. Its leader is on sector 5 and its pages follow."""
-    sectors = [sector(at, [ONES] * 8, b"\xff" * PAGE) for at in range(cylinders * 24)]
-    count = len(data) // PAGE + 1
-    assert LEADER_AT + count < len(sectors), "the file fits the pack"
-    for number in range(count + 1):
-        at = LEADER_AT + number
-        following = real_of(at + 1) if number < count else ONES
-        previous = real_of(at - 1) if number > 0 else ONES
-        part = data[(number - 1) * PAGE : number * PAGE] if number > 0 else bytes(PAGE)
-        label = [following, previous, 0, len(part), number, 1, 0, SERIAL]
-        sectors[at] = sector(at, label, part.ljust(PAGE, b"\0"))
+    """A pack whose one living file, with the serial 3 and no name, has these bytes. Its leader is on sector 5 and its pages follow."""
+    sectors = free_sectors(cylinders)
+    put_file(sectors, LEADER_AT, ordinary(SERIAL), b"", data)
     return b"".join(sectors)
+
+
+def file_name(number):
+    return f"File{number:03}.".encode()
+
+
+def full_pack(cylinders, files):
+    """A pack with so many files of 10,000 bytes and a SysDir that names them, and the listing that it must have."""
+    sectors, data = free_sectors(cylinders), bytes(n * 31 % 251 for n in range(10_000))
+    slots = b"".join(slot(ordinary(SERIAL + n), file_name(n)) for n in range(files))
+    at = put_file(sectors, 1, SYS_DIR, b"SysDir.", slots)
+    for n in range(files):
+        at = put_file(sectors, at, ordinary(SERIAL + n), file_name(n), data)
+    lines = [b"SysDir>" + file_name(n) + b" length %d\n" % len(data) for n in range(files)]
+    return b"".join(sectors), b"".join(lines) + b"%d files\n" % files
 
 
 def place(offset):

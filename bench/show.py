@@ -1,21 +1,28 @@
 #!/usr/bin/env python3
-"""Times `show` over full pack files, and `cp` of the same files in the same run.
+"""Times `show` over four kinds of packs of 2, 20 and 203 cylinders, and `cp` of the same files in the same run.
 
     python3 bench/show.py [RUNS [PROGRAM]]
 
-The packs have 2, 20 and 203 cylinders, 1, 19 and 200 files of 10,000 bytes, and a SysDir with an entry of each. Three more have 203
-cylinders and files without an entry: 2,000 whose leaders have one name; 200 such files beside a SysDir that fills the other sectors
-with free slots of one word; and 4,870 whose leaders have 200 names of 38 characters in turn. Of these, 40 at a time share their
-suffixes from 10 on, and all of them those from 100 on. The listing is compared with the one that these files must have. A time is the
-median of the runs, whole processes from their start to their end.
+The kinds, by the files that they have at 203 cylinders, and at the others in proportion:
+- 200 files of 10,000 bytes, and a SysDir with an entry of each;
+- 2,000 files without an entry whose leaders have one name;
+- 200 such files beside a SysDir that fills the other sectors with free slots of one word;
+- 4,870 files without an entry whose leaders have 200 names of 38 characters in turn. Of these, 40 at a time share their suffixes from
+  10 on, and all of them those from 100 on.
+
+Each listing is compared with the one that these files must have. A time is the median of the runs, of whole processes from their
+start to their end. Of the processor's time that of `show` over a pack of 2 cylinders without files, in the same run, is taken off: it
+is the start's, and most of the time of small packs. What is left mustn't grow from 20 to 203 cylinders by more than 2.5 times as much
+as n log n of the sectors does. n log n grows 14 times there, and so has slack, but n squared 103 times.
 PROGRAM is one that is built already; without it the program is built first.
 """
 import fcntl
+import math
 import os
 import pathlib
+import resource
 import select
 import statistics
-import struct
 import subprocess
 import sys
 import tempfile
@@ -23,67 +30,18 @@ import time
 
 sys.dont_write_bytecode = True
 import packs
+from packs import SERIAL, SYS_DIR, ordinary
 
-MODEL_31 = 203
-PACKS = [(2, 1), (20, 19), (MODEL_31, 200)]
-NAMELESS = (203, 2_000)
-FREE_SLOTS = (203, 200)
-ALIKE = (203, 4_870)
-LENGTH = 10_000
-FIRST_SERIAL = 3
-DIRECTORY = 0x8000
+SMALLEST, MIDDLE, MODEL_31 = 2, 20, 203
+SLACK = 2.5
+PIPE = 4_096
 NAME_CHARACTERS = b"abcdefghijklmnopqrstuvwxyz0123456789+-.$"
-
-
-def name(number):
-    return f"File{number:03}.".encode()
-
-
-def counted(text):
-    """A name behind its length, in whole words."""
-    return (bytes([len(text)]) + text).ljust(len(text) // 2 * 2 + 2, b"\0")
-
-
-def slot(serial, leader_at, text):
-    """The entry of an ordinary file in a directory."""
-    words = counted(text)
-    return struct.pack(">6H", 0x0400 + 6 + len(words) // 2, 0, serial, 1, 0, leader_at) + words
-
-
-def pages_of(data):
-    """The data pages of a file: the last one isn't full."""
-    return [data[at : at + packs.PAGE] for at in range(0, len(data) + 1, packs.PAGE)]
-
-
-def put_file(sectors, at, high, low, text, data):
-    """Puts a file from a sector on, its leader first, and answers the sector behind it."""
-    pages = [struct.pack(">6H", 0, 0, 0, 0, 0, 0) + counted(text)] + pages_of(data)
-    for number, page in enumerate(pages):
-        following = packs.real_of(at + number + 1) if number + 1 < len(pages) else packs.ONES
-        previous = packs.real_of(at + number - 1) if number > 0 else packs.ONES
-        length = len(page) if number > 0 else packs.PAGE
-        label = [following, previous, 0, length, number, 1, high, low]
-        sectors[at + number] = packs.sector(at + number, label, page.ljust(packs.PAGE, b"\0"))
-    return at + len(pages)
-
-
-def full_pack(cylinders, files):
-    """A pack with so many files of 10,000 bytes and a SysDir that names them, and the listing that it must have."""
-    sectors = [packs.sector(at, [packs.ONES] * 8, b"\xff" * packs.PAGE) for at in range(cylinders * 24)]
-    data = bytes(n * 31 % 251 for n in range(LENGTH))
-    slots = b"".join(slot(FIRST_SERIAL + n, 5, name(n)) for n in range(files))
-    at = put_file(sectors, 1, DIRECTORY, 1, b"SysDir.", slots)
-    for n in range(files):
-        at = put_file(sectors, at, 0, FIRST_SERIAL + n, name(n), data)
-    assert at <= cylinders * 24, "the files fit the pack"
-    lines = [b"SysDir>" + name(n) + b" length %d\n" % LENGTH for n in range(files)]
-    return b"".join(sectors), b"".join(lines) + b"%d files\n" % files
 
 
 def free_slots(cylinders, files):
     """Free slots of one word, as many as SysDir can have beside its leader and so many others."""
     pages = cylinders * 24 - 2 - files
-    return b"\0\1" * (pages * packs.PAGE // 2 - 1)
+    return packs.free_slot(1) * (pages * packs.PAGE // 2 - 1)
 
 
 def suffixed(text, number):
@@ -104,43 +62,61 @@ def given_names(leaders):
         yield given
 
 
-def alike_names(files):
-    """Names that differ in their characters 35 and 36 alone, in turn."""
-    names = [b"N" * 34 + bytes([first, second]) + b"N." for first in NAME_CHARACTERS[:5] for second in NAME_CHARACTERS]
-    return [names[n % len(names)] for n in range(files)]
-
-
 def nameless_pack(cylinders, leaders, given, slots=b""):
     """A pack with leader pages of such names, a SysDir where slots are given, and the listing of its files by the names given to them."""
-    sectors = [packs.sector(at, [packs.ONES] * 8, b"\xff" * packs.PAGE) for at in range(cylinders * 24)]
-    first = put_file(sectors, 1, DIRECTORY, 1, b"SysDir.", slots) if slots else 1
+    sectors = packs.free_sectors(cylinders)
+    first = packs.put_file(sectors, 1, SYS_DIR, b"SysDir.", slots) if slots else 1
     for n, text in enumerate(leaders):
-        leader = struct.pack(">6H", 0, 0, 0, 0, 0, 0) + counted(text)
-        label = [packs.ONES, packs.ONES, 0, packs.PAGE, 0, 1, 0, FIRST_SERIAL + n]
-        sectors[first + n] = packs.sector(first + n, label, leader.ljust(packs.PAGE, b"\0"))
+        packs.put_page(sectors, first + n, ordinary(SERIAL + n), 0, packs.leader(text))
     lines = [b"SysDir>" + text + b" length 0\n" for text in sorted(given, key=bytes.lower)]
     return b"".join(sectors), b"".join(lines) + b"%d files\n" % len(leaders)
 
 
-def numbered_names(files):
-    """The names that so many nameless files of the name `File.` get."""
-    return [b"File."] + [suffixed(b"File.", k) for k in range(1, files)]
+def one_name(cylinders, files, slots=b""):
+    """A pack of files of the name `File.` without an entry."""
+    given = [b"File."] + [suffixed(b"File.", k) for k in range(1, files)]
+    return nameless_pack(cylinders, [b"File."] * files, given, slots)
 
 
-def timed(command):
-    """The seconds of a whole process, and what it printed."""
-    start = time.perf_counter()
+def one_name_and_free_slots(cylinders, files):
+    return one_name(cylinders, files, free_slots(cylinders, files))
+
+
+def names_alike(cylinders, files):
+    """A pack of files without an entry: their names differ in their characters 35 and 36 alone, and are as many as cylinders, 200 at
+    most."""
+    names = [b"N" * 34 + bytes([first, second]) + b"N." for first in NAME_CHARACTERS[:5] for second in NAME_CHARACTERS][:cylinders]
+    leaders = [names[n % len(names)] for n in range(files)]
+    return nameless_pack(cylinders, leaders, given_names(leaders))
+
+
+# how a pack is made, what its files are, and their number for each number of cylinders
+KINDS = [
+    (packs.full_pack, "files of 10,000 bytes", {SMALLEST: 1, MIDDLE: 19, MODEL_31: 200}),
+    (one_name, "files of one name without an entry", {SMALLEST: 20, MIDDLE: 200, MODEL_31: 2_000}),
+    (one_name_and_free_slots, "such files and free slots of one word", {SMALLEST: 2, MIDDLE: 20, MODEL_31: 200}),
+    (names_alike, "files of names alike without an entry", {SMALLEST: 46, MIDDLE: 478, MODEL_31: 4_870}),
+]
+
+
+def timed(command, output=b""):
+    """The seconds of a whole process, and those of the processor. It has to print this."""
+    before, start = resource.getrusage(resource.RUSAGE_CHILDREN), time.perf_counter()
     done = subprocess.run(command, stdin=subprocess.DEVNULL, stdout=subprocess.PIPE, check=True)
-    return time.perf_counter() - start, done.stdout
+    seconds, after = time.perf_counter() - start, resource.getrusage(resource.RUSAGE_CHILDREN)
+    assert done.stdout == output, "the listing is that of the files"
+    return seconds, after.ru_utime + after.ru_stime - before.ru_utime - before.ru_stime
 
 
-def most_memory(command):
-    """The most memory in bytes that a process had until its first byte was printed, where it prints more than 4,096 bytes.
+def most_memory(command, listing):
+    """The most memory in bytes that a process had until its first byte was printed. None where it can't be measured.
 
-    The pipe holds no more, so the process waits in its write call while its status is read. None where it prints less.
+    The pipe holds no more than 4,096 bytes, so the process waits in its write call while its status is read, if its listing is longer.
     """
+    if len(listing) <= PIPE:
+        return None
     reading, writing = os.pipe()
-    fcntl.fcntl(writing, fcntl.F_SETPIPE_SZ, 4096)
+    fcntl.fcntl(writing, fcntl.F_SETPIPE_SZ, PIPE)
     with subprocess.Popen(command, stdin=subprocess.DEVNULL, stdout=writing) as process, open(reading, "rb") as output:
         os.close(writing)
         select.select([output], [], [])
@@ -150,45 +126,52 @@ def most_memory(command):
     return int(peak[0]) * 1024 if peak else None
 
 
-def measure(program, folder, runs, what, data, listing, bounded=False):
-    """Prints the times of `show` over this pack, and of `cp` of it. Where they are bounded `show` takes less than 5 times as long, and
-    memory of 3 times the pack at most."""
-    file = pathlib.Path(folder) / "pack"
-    file.write_bytes(data)
-    shows, copies = [], []
+def measure(program, folder, runs, what, content, listing, bounded=False):
+    """Prints the times of `show` over this pack, and of `cp` of it, and answers the seconds of the processor without those of the
+    start. Where they are bounded `show` takes less than 5 times as long, and memory of 3 times the pack at most."""
+    file, empty, copy_to = (pathlib.Path(folder) / name for name in ("pack", "empty", "copy"))
+    file.write_bytes(content)
+    empty.write_bytes(b"".join(packs.free_sectors(SMALLEST)))
+    starts, shows, copies = [], [], []
     for _ in range(runs):
-        seconds, text = timed([program, file, "show"])
-        assert text == listing, "the listing is that of the files"
-        shows.append(seconds)
-        copies.append(timed(["cp", file, pathlib.Path(folder) / "copy"])[0])
-    assert file.read_bytes() == data, "nothing is written"
-    show, copy = statistics.median(shows), statistics.median(copies)
-    print(f"{what}, {len(data):,} bytes: show {show * 1000:.1f} ms, cp {copy * 1000:.1f} ms, {show / copy:.1f} times")
+        starts.append(timed([program, empty, "show"], b"0 files\n"))
+        shows.append(timed([program, file, "show"], listing))
+        copies.append(timed(["cp", file, copy_to]))
+    assert file.read_bytes() == content, "nothing is written"
+    show, copy = (statistics.median(seconds for seconds, _ in times) for times in (shows, copies))
+    used, start = (statistics.median(processor for _, processor in times) for times in (shows, starts))
+    print(f"{what}, {len(content):,} bytes: show {show * 1000:.1f} ms, cp {copy * 1000:.1f} ms, {show / copy:.1f} times")
     assert not bounded or show < 5 * copy, "show is slower than 5 times cp"
-    if len(listing) > 4096:
-        memory = most_memory([program, file, "show"])
-        print(f"most memory {memory:,} bytes, {memory / len(data):.2f} times the pack")
-        assert not bounded or memory <= 3 * len(data), "show takes more memory than 3 times the pack"
+    memory = most_memory([program, file, "show"], listing)
+    if memory is not None:
+        print(f"  most memory {memory:,} bytes, {memory / len(content):.2f} times the pack")
+    assert not bounded or memory is not None, "the memory of show can be measured"
+    assert not bounded or memory <= 3 * len(content), "show takes more memory than 3 times the pack"
+    return used - start
+
+
+def steps(cylinders):
+    """n log n to the base 2, with n the sectors."""
+    sectors = cylinders * 24
+    return sectors * math.log2(sectors)
 
 
 def main():
     runs = int(sys.argv[1]) if len(sys.argv) > 1 else 21
     program = sys.argv[2] if len(sys.argv) > 2 else packs.program()
+    growth = steps(MODEL_31) / steps(MIDDLE)
     with tempfile.TemporaryDirectory() as folder:
-        for cylinders, files in PACKS:
-            what = f"{cylinders} cylinders, {cylinders * 24} sectors, {files} files"
-            measure(program, folder, runs, what, *full_pack(cylinders, files), bounded=cylinders == MODEL_31)
-        cylinders, files = NAMELESS
-        what = f"{cylinders} cylinders, {cylinders * 24} sectors, {files} files of one name without an entry"
-        measure(program, folder, runs, what, *nameless_pack(cylinders, [b"File."] * files, numbered_names(files)))
-        cylinders, files = FREE_SLOTS
-        what = f"{cylinders} cylinders, {cylinders * 24} sectors, {files} files of one name and free slots of one word"
-        slots = free_slots(cylinders, files)
-        measure(program, folder, runs, what, *nameless_pack(cylinders, [b"File."] * files, numbered_names(files), slots))
-        cylinders, files = ALIKE
-        what = f"{cylinders} cylinders, {cylinders * 24} sectors, {files} files of 200 names alike without an entry"
-        leaders = alike_names(files)
-        measure(program, folder, runs, what, *nameless_pack(cylinders, leaders, given_names(leaders)))
+        for make, kind, sizes in KINDS:
+            used = {}
+            for cylinders, files in sizes.items():
+                what, bounded = f"{cylinders} cylinders, {files:,} {kind}", make is packs.full_pack and cylinders == MODEL_31
+                used[cylinders] = measure(program, folder, runs, what, *make(cylinders, files), bounded)
+                each = used[cylinders] / steps(cylinders)
+                print(f"  of the processor {used[cylinders] * 1000:.2f} ms beyond the start, {each * 1e9:.0f} ns for each of n log n")
+            assert used[MIDDLE] > 0, "the time of 20 cylinders can be told from the start's"
+            grown = used[MODEL_31] / used[MIDDLE]
+            print(f"  from 20 to 203 cylinders {grown:.1f} times as much, where n log n is {growth:.1f} times as much")
+            assert grown < SLACK * growth, "show grows faster than n log n"
 
 
 if __name__ == "__main__":

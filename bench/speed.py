@@ -1,11 +1,13 @@
 #!/usr/bin/env python3
 """Times patch lines over a pack file of model 31, and `cp` of the same file in the same run.
 
-    python3 bench/speed.py [LINES]
+    python3 bench/speed.py [LINES [PROGRAM]]
 
-The pack has 203 cylinders, 4,872 sectors, and one file of 40,000 bytes. Each line patches two bytes at another place. The first
-line is left out of the time, with the start of the program. Afterwards the file's bytes are compared with those wanted. A second
-session has 8 MB of bad lines: its memory mustn't grow with the input.
+The pack has 203 cylinders, 4,872 sectors, and one file of 40,000 bytes. Each line patches two bytes, up to 20,000 lines each at
+another place. One more line comes ahead of them: it is left out of the time, with the start of the program. The clock starts before
+the first byte of the others is written. Afterwards the file's bytes are compared with those wanted. A second session has 8 MB of bad
+lines: its memory mustn't grow with the input.
+PROGRAM is one that is built already; without it the program is built first.
 """
 import os
 import pathlib
@@ -14,6 +16,7 @@ import resource
 import subprocess
 import sys
 import tempfile
+import threading
 import time
 
 sys.dont_write_bytecode = True
@@ -37,25 +40,31 @@ def most_memory(process):
     return next(int(line.split()[1]) for line in status.splitlines() if line.startswith("VmHWM"))
 
 
-def replies(process, count, reply):
-    """Reads so many replies, and answers how many seconds they took."""
+def write_all(process, lines):
+    """Writes all lines, and waits wherever the program is behind with them."""
+    process.stdin.write(b"".join(lines))
+    process.stdin.flush()
+
+
+def answered(process, lines, reply):
+    """The seconds until so many lines are answered. They are written while replies are read, so neither pipe stays full."""
+    writer = threading.Thread(target=write_all, args=(process, lines), daemon=True)
     start = time.perf_counter()
-    for _ in range(count):
+    writer.start()
+    for _ in lines:
         assert process.stdout.readline() == reply, "each line is answered"
-    return time.perf_counter() - start
+    seconds = time.perf_counter() - start
+    writer.join()
+    return seconds
 
 
 def session(program, file, lines, reply=b"done\n"):
     """The seconds of all lines but the first, those of the processor in all, and the most memory after the first line and the last."""
     before = resource.getrusage(resource.RUSAGE_CHILDREN)
     with subprocess.Popen([program, file, "boot"], stdin=subprocess.PIPE, stdout=subprocess.PIPE) as process:
-        process.stdin.write(lines[0])
-        process.stdin.flush()
-        replies(process, 1, reply)
+        answered(process, lines[:1], reply)
         first = most_memory(process)
-        process.stdin.write(b"".join(lines[1:]))
-        process.stdin.flush()
-        seconds = replies(process, len(lines) - 1, reply)
+        seconds = answered(process, lines[1:], reply)
         last = most_memory(process)
         process.stdin.close()
         assert process.wait() == 0, "the input was obeyed to its end"
@@ -72,9 +81,11 @@ def copied(file, copy):
 
 def main():
     count = int(sys.argv[1]) if len(sys.argv) > 1 else 200
-    program = packs.program()
+    if count < 1:
+        sys.exit("speed: LINES is 1 or more")
+    program = sys.argv[2] if len(sys.argv) > 2 else packs.program()
     image = bytearray(packs.pack(CYLINDERS, bytes(LENGTH)))
-    offsets = [line * 997 % (LENGTH // 2) * 2 for line in range(count)]
+    offsets = [line * 997 % (LENGTH // 2) * 2 for line in range(count + 1)]
     lines = [f"patch #{packs.SERIAL} {at} {line % 65536:04x}\n".encode() for line, at in enumerate(offsets)]
     with tempfile.TemporaryDirectory() as folder:
         file = pathlib.Path(folder) / "pack"
@@ -86,10 +97,10 @@ def main():
         assert file.read_bytes() == image, "these bytes changed, and no other"
         _, _, bad_first, bad_last = session(program, file, [BAD_LINE] * BAD_LINES, b"bad line\n")
         assert file.read_bytes() == image, "a bad line writes nothing"
-    line = seconds / (count - 1) * 1000
+    line = seconds / count * 1000
     print(machine())
     print(f"a line, which is two sweeps of {CYLINDERS * 24 - 1} sectors, a read and a write: {line:.2f} ms; a sweep: {line / 2:.2f} ms")
-    print(f"of the processor: {used / count * 1000:.2f} ms a line; the load was {os.getloadavg()[0]:.1f}")
+    print(f"of the processor: {used / (count + 1) * 1000:.2f} ms a line; the load was {os.getloadavg()[0]:.1f}")
     print(f"cp of the pack file: {copy * 1000:.2f} ms")
     print(f"most memory after the first line: {first} KiB, after the last: {last} KiB")
     size = BAD_LINES * len(BAD_LINE) / 1e6
