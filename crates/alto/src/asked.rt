@@ -4,7 +4,7 @@ ghost use Rattle.alto.specs.Asking.{is_help, asks_help, IsAsked, InRange};
 
 use disk_image::start_of;
 
-/// What the words of a command line ask for.
+/// What all words of a command line ask of the program. The `Asked` of alto_top is what the words behind PACK ask of a machine.
 #[derive(Clone, Copy)]
 pub enum Asked<'a> {
     /// The text of `--help`.
@@ -53,7 +53,7 @@ fn asks_help(words: &[String]) -> bool
     }
 }
 
-/// What the words behind the program's name ask for.
+/// What the words behind the program's name ask for. The `asked_of` of alto_top is given those behind PACK alone.
 pub fn asked_of(words: &[String]) -> Asked<'_>
     ensures asked { IsAsked (map string_bytes words.now) result }
     ensures range { InRange result }

@@ -8,6 +8,9 @@ use disk_image::ReachError;
 use std::alloc::AllocError;
 use thiserror::Error;
 
+/// The exit code of a run without a session for its pack file: it wasn't reached or made. The others are those of statuses.
+const NO_PACK: u8 = 8;
+
 /// What ends a run that has no session.
 #[derive(Clone, Copy, Debug, PartialEq, Eq)]
 pub enum Stop {
@@ -39,8 +42,8 @@ impl Stop {
     {
         match self {
             Stop::Words => Status::Usage as u8,
-            Stop::Pack(ReachError::NoFile) => 8,
-            Stop::Pack(ReachError::BadLength { .. }) => 8,
+            Stop::Pack(ReachError::NoFile) => NO_PACK,
+            Stop::Pack(ReachError::BadLength { .. }) => NO_PACK,
             Stop::Pack(ReachError::Memory) => Status::Memory as u8,
             Stop::Display => Status::DisplayFault as u8,
             Stop::Memory => Status::Memory as u8,

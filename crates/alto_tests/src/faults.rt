@@ -15,17 +15,16 @@ struct Part {
     /// How the session ends where one of them fails, and what is shown by then.
     status: Status,
     shown: &'static [u8],
-    /// How many there are: one for each key, one for each reply; of sector commands two sweeps, a read and a guarded write at most.
-    least: u64,
-    most: u64,
+    /// How many there are: one for each key and one for each reply; of sector commands two sweeps of 47, and for the line that
+    /// writes a read and a guarded write of two.
+    count: u64,
 }
 
-const fn calls(status: Status, shown: &'static [u8], least: u64, most: u64) -> Part {
+const fn calls(status: Status, shown: &'static [u8], count: u64) -> Part {
     Part {
         status,
         shown,
-        least,
-        most,
+        count,
     }
 }
 
@@ -63,7 +62,7 @@ fn count_calls(alloc: Global, first: u64, after: u8, part: &Part) -> Result<u64,
     );
     let may_be_old = part.shown.is_empty() && part.status != Status::DisplayFault;
     let may_be_new = !may_be_old || (part.status == Status::DiskFault && after == 1);
-    let end = first.saturating_add(part.most.saturating_add(1));
+    let end = first.saturating_add(part.count.saturating_add(1));
     for call in first..end {
         let ended = ended_at(alloc, call, after)?;
         if ended.status != part.status || ended.shown.as_slice() != part.shown {
@@ -81,22 +80,19 @@ fn count_calls(alloc: Global, first: u64, after: u8, part: &Part) -> Result<u64,
 #[test]
 fn a_fault_at_each_call_ends_the_session(rt: HostRuntime) -> Result<(), Fail> {
     let parts = [
-        calls(Status::KeyFault, b"", 16, 16),
-        calls(Status::DiskFault, b"", 1, 99),
-        calls(Status::DisplayFault, b"", 1, 1),
-        calls(Status::KeyFault, b"done\n", 16, 16),
-        calls(Status::DiskFault, b"done\n", 1, 99),
-        calls(Status::DisplayFault, b"done\n", 1, 1),
-        calls(Status::KeyFault, b"done\nbeyond length 5\n", 1, 1),
+        calls(Status::KeyFault, b"", 16),
+        calls(Status::DiskFault, b"", 97),
+        calls(Status::DisplayFault, b"", 1),
+        calls(Status::KeyFault, b"done\n", 16),
+        calls(Status::DiskFault, b"done\n", 94),
+        calls(Status::DisplayFault, b"done\n", 1),
+        calls(Status::KeyFault, b"done\nbeyond length 5\n", 1),
     ];
     for after in [0, 1] {
         let mut first = 0u64;
         for part in &parts {
             let count = count_calls(rt.alloc(), first, after, part)?;
-            assert!(rt;
-                part.least <= count && count <= part.most,
-                "{count} calls from {first} on"
-            );
+            assert!(rt; count == part.count, "{count} calls from {first} on");
             first = first.saturating_add(count);
         }
         // the first call that isn't made

@@ -1,5 +1,5 @@
 // Files as their labels say: which sectors count, where a file ends, and which files aren't patched.
-use crate::lines::check;
+use crate::sessions::expect_session;
 use sample_packs::{DATA, LEADER, PATCHED, Placed};
 use std::test::Fail;
 
@@ -34,10 +34,10 @@ fn the_lowest_sector_counts(rt: HostRuntime) -> Result<(), Fail> {
     let keys = b"patch #3 1 4242\n";
     // copies of both pages higher up
     let copies = [LEADER, DATA, leader(20, 0, 3, 1), data(21, 1, 512)];
-    check(&rt, &copies, keys, b"done\n", patched(DATA))?;
+    expect_session(&rt, &copies, keys, b"done\n", patched(DATA))?;
     // the data page stands below its leader page, and no link is true
     let turned = [leader(47, 0, 3, 1), data(1, 1, 5)];
-    check(&rt, &turned, keys, b"done\n", patched(data(1, 1, 5)))
+    expect_session(&rt, &turned, keys, b"done\n", patched(data(1, 1, 5)))
 }
 
 #[test]
@@ -54,7 +54,7 @@ fn the_least_full_name_counts(rt: HostRuntime) -> Result<(), Fail> {
         LEADER,
         DATA,
     ];
-    check(&rt, &pages, b"patch #3 1 4242\n", b"done\n", patched(DATA))
+    expect_session(&rt, &pages, b"patch #3 1 4242\n", b"done\n", patched(DATA))
 }
 
 #[test]
@@ -63,18 +63,18 @@ fn a_file_ends_where_its_pages_do(rt: HostRuntime) -> Result<(), Fail> {
     let hole = [LEADER, data(6, 1, 512), data(8, 3, 5)];
     let keys = b"patch #3 1 4242\npatch #3 512 42\npatch #3 512 -\npatch #3 513 -\n";
     let shown = b"done\nbeyond length 512\ndone\nbeyond length 512\n";
-    check(&rt, &hole, keys, shown, patched(data(6, 1, 512)))?;
+    expect_session(&rt, &hole, keys, shown, patched(data(6, 1, 512)))?;
 
     // page 1 isn't full, so page 2 doesn't count
     let short = [LEADER, DATA, data(8, 2, 5)];
     let keys = b"patch #3 512 42\npatch #3 5 42\npatch #3 4294967295 -\n";
     let shown = b"beyond length 5\nbeyond length 5\nbeyond length 5\n";
-    check(&rt, &short, keys, shown, None)?;
+    expect_session(&rt, &short, keys, shown, None)?;
 
     // the second page is patched from its own first byte
     let two = [LEADER, data(8, 2, 5), data(9, 1, 512)];
     let keys = b"patch #3 513 4242\npatch #3 516 4242\n";
-    check(
+    expect_session(
         &rt,
         &two,
         keys,
@@ -85,7 +85,7 @@ fn a_file_ends_where_its_pages_do(rt: HostRuntime) -> Result<(), Fail> {
     // no data page, or one whose label isn't in range
     let keys = b"patch #3 0 42\npatch #3 0 -\n";
     for pages in [[LEADER, LEADER], [LEADER, data(6, 1, 513)]] {
-        check(&rt, &pages, keys, b"beyond length 0\ndone\n", None)?;
+        expect_session(&rt, &pages, keys, b"beyond length 0\ndone\n", None)?;
     }
     Ok(())
 }
@@ -101,7 +101,7 @@ fn files_that_do_not_live(rt: HostRuntime) -> Result<(), Fail> {
         leader(9, 0x8000, 0, 1),
     ];
     let keys = b"patch #3 1 4242\npatch #0 0 -\n";
-    check(&rt, &pages, keys, b"no such name\nno such name\n", None)
+    expect_session(&rt, &pages, keys, b"no such name\nno such name\n", None)
 }
 
 #[test]
@@ -109,5 +109,5 @@ fn files_that_are_not_patched_yet(rt: HostRuntime) -> Result<(), Fail> {
     // a directory, DiskDescriptor, and bytes over the end of a page, which come before the file's length
     let pages = [LEADER, DATA, leader(7, 0x8000, 4, 1), leader(8, 0, 2, 1)];
     let keys = b"patch #4 0 -\npatch #2 0 42\npatch #3 511 4242\n";
-    check(&rt, &pages, keys, b"not yet\nnot yet\nnot yet\n", None)
+    expect_session(&rt, &pages, keys, b"not yet\nnot yet\nnot yet\n", None)
 }

@@ -1,46 +1,12 @@
 // Typed lines: what is shown, and what is written.
-use crate::sessions::obey;
+use crate::sessions::{expect_no_key_taken, expect_session, obey};
 use alto_top::{Fault, Status};
 use disk_records::Disk;
-use sample_packs::{
-    DATA, LEADER, PATCHED, Placed, failing_machine, sectors_of, set_page, sure_machine,
-};
-use std::process::Abort;
+use sample_packs::{DATA, LEADER, PATCHED, Placed, failing_machine, sectors_of, sure_machine};
 use std::test::Fail;
 
 /// The pack with the one file.
 const SMALL: [Placed; 2] = [LEADER, DATA];
-
-/// Obeys these keys over these pages, and compares all that happens: what is shown, and the one page that is written, or none.
-pub fn check<R: Abort + AllocGlobal>(
-    rt: &R,
-    placed: &[Placed],
-    keys: &[u8],
-    shown: &[u8],
-    written: Option<Placed>,
-) -> Result<(), Fail> {
-    let alloc = rt.alloc();
-    let mut sectors = sectors_of(alloc, placed)?;
-    let mut machine = sure_machine(alloc, sectors_of(alloc, placed)?, keys)?;
-    let status = obey(alloc, &["boot"], &mut machine)?;
-    assert!(rt; status == Status::Done);
-    assert_eq!(rt; machine.shown(alloc)?.as_slice(), shown);
-    let mut writes = 0;
-    if let Some(page) = written {
-        set_page(&mut sectors, &page);
-        writes = 1;
-    }
-    assert!(rt; machine.writes() == writes, "record writes");
-    assert!(rt;
-        machine.event_count() == shown.len() + writes as usize,
-        "events"
-    );
-    assert!(rt;
-        machine.into_sectors().as_slice() == sectors.as_slice(),
-        "sectors"
-    );
-    Ok(())
-}
 
 #[test]
 fn worked_rows(rt: HostRuntime) -> Result<(), Fail> {
@@ -49,10 +15,10 @@ fn worked_rows(rt: HostRuntime) -> Result<(), Fail> {
         ..DATA
     };
     let keys = b"patch #3 1 4242\npatch #3 4 4242\n";
-    check(&rt, &SMALL, keys, b"done\nbeyond length 5\n", Some(patched))?;
-    check(&rt, &SMALL, b"patch #4 0 00\n", b"no such name\n", None)?;
-    check(&rt, &SMALL, b"patch #3 0 -\n", b"done\n", None)?;
-    check(&rt, &SMALL, b"Patch\n", b"bad line\n", None)
+    expect_session(&rt, &SMALL, keys, b"done\nbeyond length 5\n", Some(patched))?;
+    expect_session(&rt, &SMALL, b"patch #4 0 00\n", b"no such name\n", None)?;
+    expect_session(&rt, &SMALL, b"patch #3 0 -\n", b"done\n", None)?;
+    expect_session(&rt, &SMALL, b"Patch\n", b"bad line\n", None)
 }
 
 #[test]
@@ -76,7 +42,7 @@ fn lines_outside_the_grammar(rt: HostRuntime) -> Result<(), Fail> {
         b"patch #3 1 4242\r\n",
     ];
     for line in lines {
-        check(&rt, &SMALL, line, b"bad line\n", None)?;
+        expect_session(&rt, &SMALL, line, b"bad line\n", None)?;
     }
     Ok(())
 }
@@ -87,9 +53,9 @@ fn long_lines_and_the_last_one(rt: HostRuntime) -> Result<(), Fail> {
         front: PATCHED,
         ..DATA
     };
-    check(&rt, &SMALL, b"", b"", None)?;
-    check(&rt, &SMALL, b"patch #3 1 4242", b"done\n", Some(patched))?;
-    check(
+    expect_session(&rt, &SMALL, b"", b"", None)?;
+    expect_session(&rt, &SMALL, b"patch #3 1 4242", b"done\n", Some(patched))?;
+    expect_session(
         &rt,
         &SMALL,
         b"patch #3 1 4242\nx",
@@ -99,15 +65,15 @@ fn long_lines_and_the_last_one(rt: HostRuntime) -> Result<(), Fail> {
 
     let alloc = rt.alloc();
     let mut long = vec![in alloc; b'x'; 4097]?;
-    check(&rt, &SMALL, &long, b"bad line\n", None)?;
+    expect_session(&rt, &SMALL, &long, b"bad line\n", None)?;
     long.extend_from_slice(b"\npatch #3 0 -")?;
-    check(&rt, &SMALL, &long, b"bad line\ndone\n", None)?;
+    expect_session(&rt, &SMALL, &long, b"bad line\ndone\n", None)?;
 
     // 2,000 bytes are in the grammar, and don't lie in one page
     for (digits, shown) in [(4000, b"not yet\n".as_slice()), (4002, b"bad line\n")] {
         let mut line = b"patch #3 0 ".to_vec(alloc)?;
         line.extend_from_slice(&vec![in alloc; b'0'; digits]?)?;
-        check(&rt, &SMALL, &line, shown, None)?;
+        expect_session(&rt, &SMALL, &line, shown, None)?;
     }
     Ok(())
 }
@@ -130,6 +96,7 @@ fn words_that_ask_for_nothing(rt: HostRuntime) -> Result<(), Fail> {
         assert!(rt; obey(alloc, words, &mut machine)? == Status::Usage);
         assert_eq!(rt; machine.shown(alloc)?.as_slice(), b"usage\n".as_slice());
         assert!(rt; machine.event_count() == 6);
+        expect_no_key_taken(&rt, &mut machine, keys)?;
     }
     Ok(())
 }
@@ -140,11 +107,11 @@ fn the_word_show_lists_the_files(rt: HostRuntime) -> Result<(), Fail> {
     let keys = b"patch #3 1 4242\n";
     let mut machine = sure_machine(alloc, sectors_of(alloc, &SMALL)?, keys)?;
     assert!(rt; obey(alloc, &["show"], &mut machine)? == Status::Done);
-    // the leader has no name, and 3 is 3 in octal; no key is taken for a line
+    // the leader has no name, and 3 is 3 in octal
     let listing = b"SysDir>Lost3. length 5\n1 files\n".as_slice();
     assert_eq!(rt; machine.shown(alloc)?.as_slice(), listing);
     assert!(rt; machine.writes() == 0);
-    Ok(())
+    expect_no_key_taken(&rt, &mut machine, keys)
 }
 
 /// One line, its reply, and its sector commands.

@@ -1,12 +1,13 @@
 -- The bytes of a file, counted page by page.
-use Rattle.std.proofs.Common.{◌≡◌, ℕ, zero, suc, ◌+◌, ◌<◌, ◌≤◌, Option, Some, None, refl, sym, ◌∙◌, ap, arith, add-one}
-use Rattle.std.proofs.lemmas.Bool.{lt-ltb, le-ltb}
+use Rattle.std.proofs.Common.{◌≡◌, inl, inr, ℕ, zero, suc, ◌+◌, ◌/◌, ◌<◌, ◌≤◌, Option, Some, None, refl, sym, ◌∙◌, ap, subst, arith, add-one}
+use Rattle.std.specs.Prelude.{◌-◌, IsSome}
+use Rattle.std.proofs.lemmas.Bool.{cases_lt, lt-ltb, le-ltb}
 use Rattle.std.specs.Option.{option_map}
 use Rattle.std.specs.BTreeMap.{get}
 use Rattle.std.specs.Ordering.{nat_cmp}
-use Rattle.alto_top.specs.declared.pages.Held.{Held}
+use Rattle.alto_top.specs.declared.pages.PagePlace.{PagePlace}
 use Rattle.alto_top.specs.declared.pages.Pages.{Pages}
-use Rattle.alto_top.specs.Sweeps.{kept_page, seen_held, bytes_counted}
+use Rattle.alto_top.specs.Sweeps.{kept_page, seen_held, bytes_counted, bytes_kept}
 
 -- ---- the first of some pages
 pub counted_none : (k : ℕ) (pages : ℕ → Option (ℕ × ℕ)) → pages 0 ≡ None → bytes_counted (suc k) pages ≡ 0
@@ -73,8 +74,44 @@ counting_all pages all done length c end =
     let counted : length + 0 ≡ bytes_counted all pages = rw none at c.counted in
     omega arith
 
+-- ---- one of the bytes that count
+abbrev few_counted : Option (ℕ × ℕ) → Type 0
+few_counted None = Unit {0}
+few_counted (Some held) = held.1 ≤ 512
+
+byte_case : (k : ℕ) (pages : ℕ → Option (ℕ × ℕ)) (i : ℕ) (first : Option (ℕ × ℕ)) → pages 0 ≡ first → few_counted first → i < bytes_counted (suc k) pages
+    → ((j : ℕ) → j < bytes_counted k (λ n. pages (suc n)) → (j / 512 < k) × IsSome (pages (suc (j / 512))))
+    → (i / 512 < suc k) × IsSome (pages (i / 512))
+byte_case k pages i None is few counts later = absurd (omega (arith, counts, counted_none k pages is))
+byte_case k pages i (Some held) is few counts later = elim (cases_lt i 512) [
+  | inl low ↦ let here : i / 512 ≡ 0 = omega (arith, low) in (omega (arith, here), subst IsSome (sym (ap pages here ∙ is)) refl)
+  | inr high ↦ elim (cases_lt held.1 512) [
+    | inl less ↦ absurd (omega (arith, counts, counted_last k pages held.0 held.1 is less, less, high))
+    | inr full ↦
+        let rest = later (i - 512) (omega (arith, counts, counted_more k pages held.0 held.1 is full, few, high)) in
+        let next : suc ((i - 512) / 512) ≡ i / 512 = omega (arith, high) in
+        (omega (arith, rest.0, next), subst (λ n. IsSome (pages n)) next rest.1)
+  ]
+]
+
+-- so low is the number of its page, and the page is there
+byte_counted : (k : ℕ) (pages : ℕ → Option (ℕ × ℕ)) → ((n : ℕ) → few_counted (pages n)) → (i : ℕ) → i < bytes_counted k pages → (i / 512 < k) × IsSome (pages (i / 512))
+unfolding bytes_counted
+byte_counted zero pages few i counts = absurd (omega (arith, counts))
+byte_counted (suc k) pages few i counts = byte_case k pages i (pages 0) refl (few 0) counts (byte_counted k (λ n. pages (suc n)) (λ n. few (suc n)))
+
 -- ---- what is kept
-pub kept_some : (pages : Pages) (n : ℕ) (held : Held) → Some held ≡ get nat_cmp pages.held (n + 1) → kept_page pages (suc n) ≡ Some (held.at, held.bytes)
+held_few : (o : Option PagePlace) → few_counted (option_map seen_held o)
+held_few None = tt
+held_few (Some held) = held.most
+
+-- a byte within the pages that are kept
+pub byte_kept : (pages : Pages) (i : ℕ) → i < bytes_kept pages → (i / 512 < 65535) × IsSome (kept_page pages (i / 512 + 1))
+byte_kept pages i within =
+    let there = byte_counted 65535 (λ n. kept_page pages (suc n)) (λ n. held_few (get nat_cmp pages.held (suc n))) i within in
+    (there.0, subst (λ n. IsSome (kept_page pages n)) (sym (add-one (i / 512))) there.1)
+
+pub kept_some : (pages : Pages) (n : ℕ) (held : PagePlace) → Some held ≡ get nat_cmp pages.held (n + 1) → kept_page pages (suc n) ≡ Some (held.at, held.bytes)
 kept_some pages n held e = ap (kept_page pages) (sym (add-one n)) ∙ ap (option_map seen_held) (sym e)
 
 pub kept_none : (pages : Pages) (n : ℕ) → None ≡ get nat_cmp pages.held (n + 1) → kept_page pages (suc n) ≡ None

@@ -1,13 +1,11 @@
 -- What is looked up for the lines of the listing.
-use Rattle.std.proofs.Common.{◌≡◌, ℕ, Bool, true, false, cond, List, [], ◌∷◌, ◌++◌, map, take, Option, Some, None, refl, sym, ap, ◌∙◌, arith, suc, ◌+◌, ◌<◌, ◌≤◌, get_or}
+use Rattle.std.proofs.Common.{◌≡◌, ℕ, Bool, true, false, cond, List, [], ◌∷◌, ◌++◌, map, take, Option, Some, None, refl, sym, ap, ◌∙◌, arith, suc, ◌+◌, ◌<◌, get_or}
 use Rattle.std.specs.Prelude.{◌&&◌, T, length}
 use Rattle.std.proofs.Math.Seq.{take-suc}
-use Rattle.std.proofs.lemmas.List.{take_all}
 use Rattle.std.specs.declared.cmp.Ordering.{Ordering}
 use Rattle.std.specs.declared.cmp.Ordering.TheVariants.{Less, Equal, Greater}
 use Rattle.std.specs.Ordering.{is_eq, is_lt, match_ordering}
 use Rattle.std.specs.Option.{option_map, option_or}
-use Rattle.std.specs.BTreeMap.{get}
 use Rattle.std.specs.BTreeSet.{insert_key}
 use Rattle.std.specs.FinMap.{find, is_sorted, entries, entries_sorted, get-entries}
 use Rattle.std.specs.FinMap.Entries.{below_all}
@@ -15,16 +13,15 @@ use Rattle.alto_words.specs.declared.fid.Fid.{Fid}
 use Rattle.alto_words.specs.Fid.{fid_cmp, is_fid}
 use Rattle.alto_words.specs.Names.{folded_cmp}
 use Rattle.pack_model.specs.Namings.{Naming}
-use Rattle.pack_model.specs.View.{Home, Seen, View}
-use Rattle.pack_model.specs.Listing.{naming_of, naming_cmp, in_order, size_of, shown_names}
+use Rattle.pack_model.specs.View.{Home, View}
+use Rattle.pack_model.specs.Listing.{naming_of, naming_cmp, in_order, shown_names}
 use Rattle.pack_laws.proofs.Keys.{same_fid}
 use Rattle.pack_laws.proofs.Firsts.{or_none, or_assoc}
 use Rattle.pack_laws.proofs.Inserting.{in_order-none, in_order-cons}
 use Rattle.pack_laws.proofs.Orders.{naming_total, last_apart}
 use Rattle.pack_reading.specs.declared.shown.Shown.{Shown}
-use Rattle.pack_reading.specs.Shows.{ShowsView, shown_file, shown_name}
-use Rattle.alto_top.specs.declared.listing.Known.{Known}
-use Rattle.alto_top.specs.Looking.{first_of, file_size, flat, Knows}
+use Rattle.pack_reading.specs.Shows.{ShowsView, shown_name}
+use Rattle.alto_top.specs.Looking.{first_of, Knows}
 
 -- ---- one after another
 or_parts : {X : Type 0} (b : Bool) (x : X) (o : Option X) → option_or (cond b (Some x) None) o ≡ None → (b ≡ false) × (o ≡ None)
@@ -69,11 +66,11 @@ below_first Equal b x o h rest = absurd h
 below_first Greater b x o h rest = absurd h
 
 -- a full name below each of some is none of them
-lower : (q : Fid) (es : List (Fid × Home)) → T (below_all fid_cmp q es) → find fid_cmp q es ≡ None
+pub lower : {X : Type 0} (q : Fid) (es : List (Fid × X)) → T (below_all fid_cmp q es) → find fid_cmp q es ≡ None
 lower q [] h = refl
 lower q (e ∷ es) h = below_first (fid_cmp q e.0) (below_all fid_cmp q es) e.1 (find fid_cmp q es) h (lower q es)
 
-sorted_parts : (b c : Bool) → T (b && c) → T b × T c
+pub sorted_parts : (b c : Bool) → T (b && c) → T b × T c
 sorted_parts true c h = (tt, h)
 sorted_parts false c h = absurd h
 
@@ -91,31 +88,16 @@ name_found (e ∷ es) sorted f =
     ∙ ap (option_or (cond (is_fid f e.0) (Some e.1.name) None)) (rest f)
     ∙ map_or (is_fid f e.0) e.1 (find fid_cmp f es)
 
--- ---- sizes by file
-size_step : (b : Bool) (x : Fid × Seen) (o : Option (Option ℕ)) (p : Option Seen) → flat o ≡ size_of p → flat (option_or (cond b (Some (file_size (shown_file x))) None) o) ≡ size_of (cond b (Some x.1) p)
-size_step true x o p rest = refl
-size_step false x o p rest = rest
-
-pub size_found : (es : List (Fid × Seen)) (f : Fid) → flat (first_of (λ x. x.fid) file_size (map shown_file es) f) ≡ size_of (find fid_cmp f es)
-size_found [] f = refl
-size_found (e ∷ es) f = size_step (is_fid f e.0) e (first_of (λ x. x.fid) file_size (map shown_file es) f) (find fid_cmp f es) (size_found es f)
-
 -- ---- both
-pub knows : (known : Known) (shown : Shown) (v : View) → ShowsView shown v
-    → ((f : Fid) → get fid_cmp known.names f ≡ first_of (λ n. n.fid) (λ n. n.name) shown.names f)
-    → ((f : Fid) → get fid_cmp known.sizes f ≡ first_of (λ x. x.fid) file_size shown.files f)
-    → Knows known v
-knows known shown v shows names sizes = record {
+pub knows : (name : Fid → Option (List ℕ)) (shown : Shown) (v : View) → ShowsView shown v → ((f : Fid) → name f ≡ first_of (λ n. n.fid) (λ n. n.name) shown.names f) → Knows name shown.files v
+knows name shown v shows names = record {
   names = λ f.
       names f
       ∙ ap (λ l. first_of (λ n. n.fid) (λ n. n.name) l f) shows.names
       ∙ name_shown (shown_names v) f
       ∙ name_found (entries v.names) (entries_sorted v.names) f
       ∙ ap (option_map (λ h. h.name)) (sym (get-entries v.names f));
-  sizes = λ f.
-      ap flat (sizes f ∙ ap (λ l. first_of (λ x. x.fid) file_size l f) shows.files)
-      ∙ size_found (entries v.files) f
-      ∙ ap size_of (sym (get-entries v.files f));
+  files_are = shows.files;
 }
 
 -- ---- a map by the items so far
@@ -137,6 +119,3 @@ looked key value old new i x all more here is so_far f =
     ∙ ap (λ o. option_or o (cond (is_fid f (key x)) (Some (value x)) None)) (so_far f)
     ∙ sym (first_append key value (take i all) x f)
     ∙ ap (λ l. first_of key value l f) (ap (λ y. take i all ++ y ∷ []) here ∙ sym (take-suc all i x more) ∙ ap (λ n. take n all) next)
-
-pub looked_all : {X V : Type 0} (key : X → Fid) (value : X → V) (now : Fid → Option V) (i : ℕ) (all : List X) → length all ≤ i → ((f : Fid) → now f ≡ first_of key value (take i all) f) → (f : Fid) → now f ≡ first_of key value all f
-looked_all key value now i all end so_far f = so_far f ∙ ap (λ l. first_of key value l f) (take_all i all end)

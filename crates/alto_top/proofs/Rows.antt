@@ -45,9 +45,6 @@ listing_more v lines new line n left before all c last is inserted = record {
       ∙ sym (in_order-cons listed_total (line_for v n) (map (line_for v) c.done));
 }
 
-pub listing_all : (v : View) (lines : List Line) (left all : List ShownName) → Listing v lines left all → left ≡ [] → map listed_in lines ≡ in_order listed_cmp (map (line_for v) all)
-listing_all v lines left all c none = c.listed ∙ ap (λ l. in_order listed_cmp (map (line_for v) l)) (ap (λ l. l ++ c.done) (sym none) ∙ c.split)
-
 -- ---- the text
 names_back : (v : View) (ns : List Naming) → map (line_for v) (map shown_name ns) ≡ map (line_of v) ns
 names_back v [] = refl

@@ -14,7 +14,7 @@ use Rattle.pack_model.specs.Bytes.{bytes_of}
 use Rattle.pack_model.specs.Sights.{sight, page_sight}
 use Rattle.pack_model.specs.Sights.Sight.{free, stray}
 use Rattle.pack_laws.proofs.Bytes.{length-bytes_of}
-use Rattle.alto_top.specs.declared.sweep.Seen.TheVariants.{Nothing, Data}
+use Rattle.alto_top.specs.declared.sweep.LabelSight.TheVariants.{Nothing, Data}
 use Rattle.alto_top.specs.Sweeps.{seen_page, seen_in, seen_of}
 
 pub few_bytes : (t : Tag) → in_range t ≡ true → t.bytes ≤ 512

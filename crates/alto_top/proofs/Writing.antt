@@ -9,16 +9,27 @@ use Rattle.disk_records.specs.Tapes.{Taped, DiskAlone, pack, added}
 use Rattle.disk_records.proofs.FirstOnes.{none_of_none, first_all}
 use Rattle.disk_records.proofs.Growing.{added-twice}
 use Rattle.label_check.specs.declared.errors.PageInfo.{PageInfo}
-use Rattle.label_check.specs.Guarded.{Carries, DoneWhole, IsReadPage}
+use Rattle.label_check.specs.declared.errors.GuardError.{GuardError}
+use Rattle.label_check.specs.declared.errors.GuardError.TheVariants as guard
+use Rattle.label_check.specs.Guarded.{Carries, Guarded, DoneWhole, IsReadPage}
 use Rattle.pack_model.specs.Bytes.{bytes_of, words_of, put_at}
 use Rattle.alto_top.specs.declared.status.Fault.{Fault}
-use Rattle.alto_top.specs.Putting.{PutDone, value_with}
+use Rattle.alto_top.specs.declared.status.Fault.TheVariants.{Disk, Memory}
+use Rattle.alto_top.specs.Putting.{PutDone, value_with, not_done}
 
 -- a fault of the read: nothing is written
-pub put_nothing : (at : ℕ) (page : Page) (offset : ℕ) (bytes : List ℕ) (old new : Taped) (fault : Fault) → IsFirstOf [] (added old new) → PutDone at page offset bytes old new (Err fault)
+put_nothing : (at : ℕ) (page : Page) (offset : ℕ) (bytes : List ℕ) (old new : Taped) (fault : Fault) → IsFirstOf [] (added old new) → PutDone at page offset bytes old new (Err fault)
 put_nothing at page offset bytes old new fault first =
     let none = none_of_none (added old new) first in
     record { some = rw none tt; carries = λ some. absurd (some none); ok = tt }
+
+-- a read that wasn't done: nothing is written
+pub put_unread : (at : ℕ) (page : Page) (offset : ℕ) (bytes : List ℕ) (old new : Taped) (error : GuardError) → Guarded {T = PageInfo} (Carries at page) at [] 1 old new (Err error) → PutDone at page offset bytes old new (not_done error)
+put_unread at page offset bytes old new (guard.Wrong found) guarded =
+    let none = none_of_none (added old new) guarded.some in
+    record { some = rw none tt; carries = λ some. absurd (some none); ok = guarded.wrong.failed }
+put_unread at page offset bytes old new guard.DiskFault guarded = put_nothing at page offset bytes old new Disk guarded.some
+put_unread at page offset bytes old new guard.Memory guarded = put_nothing at page offset bytes old new Memory guarded.some
 
 -- the page was read, and its value written with other bytes
 pub put_whole : (offset : ℕ) (bytes value : List ℕ) {at : ℕ} {page : Page} {old mid new : Taped} {buffer : Sector} {info : PageInfo} → DiskAlone old mid → DiskAlone mid new

@@ -1,13 +1,22 @@
 -- One value write into a page.
-use Rattle.std.specs.Prelude.{◌≡◌, ◌≢◌, ℕ, Bool, List, [], MatchBool, Result, IfOk}
+use Rattle.std.specs.Prelude.{◌≡◌, ◌≢◌, ℕ, Bool, false, List, [], MatchBool, Result, Ok, Err, IfOk}
 use Rattle.disk_records.specs.declared.records.Page.{Page}
 use Rattle.disk_records.specs.Packs.{Pack, sector_at}
 use Rattle.disk_records.specs.Events.{IsFirstOf}
 use Rattle.disk_records.specs.Commands.{value_writes}
 use Rattle.disk_records.specs.Tapes.{Taped, pack, added}
+use Rattle.label_check.specs.declared.errors.GuardError.{GuardError}
+use Rattle.label_check.specs.declared.errors.GuardError.TheVariants as guard
 use Rattle.label_check.specs.Guarded.{Carries}
 use Rattle.pack_model.specs.Bytes.{bytes_of, words_of, put_at}
 use Rattle.alto_top.specs.declared.status.Fault.{Fault}
+use Rattle.alto_top.specs.declared.status.Fault.TheVariants.{Disk, Memory}
+
+-- what a guarded call that wasn't done answers: false where the sector doesn't carry the page
+abbrev pub not_done : GuardError → Result Bool Fault
+not_done (guard.Wrong found) = Ok false
+not_done guard.DiskFault = Err Disk
+not_done guard.Memory = Err Memory
 
 -- the value of a page with other bytes from an offset in it on
 abbrev pub value_with : Pack → ℕ → ℕ → List ℕ → List ℕ

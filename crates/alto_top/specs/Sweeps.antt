@@ -8,20 +8,20 @@ use Rattle.disk_records.specs.Labels.{tag, in_range}
 use Rattle.pack_model.specs.Sights.{Sight}
 use Rattle.pack_model.specs.Sights.Sight.{hidden, free, stray, leads, holds}
 use Rattle.pack_model.specs.Files.{first, numbered, carries_page}
-use Rattle.alto_top.specs.declared.sweep.Seen.{Seen}
-use Rattle.alto_top.specs.declared.sweep.Seen.TheVariants.{Nothing, Leader, Data}
-use Rattle.alto_top.specs.declared.pages.Held.{Held}
+use Rattle.alto_top.specs.declared.sweep.LabelSight.{LabelSight}
+use Rattle.alto_top.specs.declared.sweep.LabelSight.TheVariants.{Nothing, Leader, Data}
+use Rattle.alto_top.specs.declared.pages.PagePlace.{PagePlace}
 use Rattle.alto_top.specs.declared.pages.Pages.{Pages}
 
 -- ---- what a sector's label names
-abbrev pub seen_page : Fid → ℕ → ℕ → Seen
+abbrev pub seen_page : Fid → ℕ → ℕ → LabelSight
 seen_page f zero bytes = Leader f
 seen_page f (suc n) bytes = Data f (suc n) bytes
 
-abbrev pub seen_in : List ℕ → Seen
+abbrev pub seen_in : List ℕ → LabelSight
 seen_in label = cond (in_range (tag label)) (seen_page (tag label).fid (tag label).page (tag label).bytes) Nothing
 
-abbrev pub seen_of : Sight → Seen
+abbrev pub seen_of : Sight → LabelSight
 seen_of hidden = Nothing
 seen_of free = Nothing
 seen_of stray = Nothing
@@ -29,7 +29,7 @@ seen_of (leads f readable l) = Leader f
 seen_of (holds f n bytes) = Data f (suc n) (length bytes)
 
 -- a page's count is at most 512
-abbrev pub CountsFew : Seen → Type 0
+abbrev pub CountsFew : LabelSight → Type 0
 CountsFew Nothing = Unit {0}
 CountsFew (Leader f) = Unit {0}
 CountsFew (Data f n bytes) = bytes ≤ 512
@@ -51,7 +51,7 @@ abbrev pub held_page : List Sight → Fid → ℕ → Option (ℕ × ℕ)
 held_page ss f n = first (held_at f n) (numbered 0 ss)
 
 -- the same of what is kept
-abbrev pub seen_held : Held → ℕ × ℕ
+abbrev pub seen_held : PagePlace → ℕ × ℕ
 seen_held held = (held.at, held.bytes)
 
 abbrev pub kept_page : Pages → ℕ → Option (ℕ × ℕ)
@@ -69,6 +69,10 @@ bytes_counted (suc k) pages =
       | None ↦ 0
       | Some held ↦ elim (nat_lt held.1 512) [ true ↦ held.1 | false ↦ held.1 + bytes_counted k (λ n. pages (suc n)) ]
     ]
+
+-- the same of the pages that are kept
+abbrev pub bytes_kept : Pages → ℕ
+bytes_kept pages = bytes_counted 65535 (λ n. kept_page pages (suc n))
 
 -- each page that is kept is in a sector below `end` that isn't the first
 abbrev pub AreWithin : ℕ → Pages → Type 0

@@ -8,10 +8,10 @@ use crate::status::Fault;
 use disk_records::{Console, ConsoleError};
 use std::alloc::Global;
 
-/// So many typed bytes are obeyed in one session.
+/// At most 2^31 typed bytes are obeyed in one session.
 pub const MOST_KEYS: u32 = 1 << 31;
 
-/// A line has at most so many bytes; a longer one is read to its end and is a bad line.
+/// A line has at most 4,096 bytes; a longer one is read to its end and is a bad line.
 pub const LONGEST_LINE: usize = 4096;
 
 const LINE_END: u8 = 10;

@@ -6,9 +6,10 @@ ghost use Rattle.std.specs.BTreeMap.{get};
 ghost use Rattle.alto_words.specs.declared.fid.Fid.{Fid as Named};
 ghost use Rattle.alto_words.specs.Fid.{fid_cmp, is_fid};
 ghost use Rattle.pack_model.specs.View.{View};
-ghost use Rattle.pack_model.specs.Listing.{line_of, listed_cmp, in_order};
-ghost use Rattle.pack_reading.specs.Shows.{naming, ShowsView};
+ghost use Rattle.pack_model.specs.Listing.{line_of, listed_cmp, in_order, size_of, shown_files};
+ghost use Rattle.pack_reading.specs.Shows.{naming, shown_file, ShowsView};
 ghost use Rattle.alto_top.specs.Looking.{first_of, file_size, Knows, listed_in};
+ghost use Rattle.std.specs.FinMap.{get as look_up};
 ghost use Rattle.alto_top.specs.Showing.{stem, dir_text, size_text, line_text, count_text, listing_text};
 
 use crate::line::Line;
@@ -17,26 +18,14 @@ use pack_reading::{Shown, ShownFile, ShownName};
 use std::alloc::Global;
 use std::collections::{BTreeMap, BTreeSet};
 
-/// What is looked up for lines.
-#[derive(Drop)]
-pub struct Known {
-    /// The names of files.
-    pub names: BTreeMap<Fid, Name>,
-    /// Their lengths in bytes; None of a directory.
-    pub sizes: BTreeMap<Fid, Option<u64>>,
-}
-
-/// Keeps what is known of a file, unless something is.
-fn keep<V: Drop>(map: &mut BTreeMap<Fid, V>, fid: Fid, value: V) -> Result<(), Memory>
+/// Keeps a name of a file, unless one is kept.
+fn keep(map: &mut BTreeMap<Fid, Name>, fid: Fid, value: Name) -> Result<(), Memory>
     ensures { OnOk result ((f : Named) → get fid_cmp map.new f ≡ option_or (get fid_cmp map.old f) (cond (is_fid f fid) (Some value) None)) }
 {
-    if map.contains_key(&fid) {
-        return Ok(());
+    if !map.contains_key(&fid) {
+        map.insert(fid, value)?;
     }
-    match map.insert(fid, value) {
-        Ok(_) => Ok(()),
-        Err(_) => Err(Memory),
-    }
+    Ok(())
 }
 
 /// The names by file.
@@ -51,59 +40,49 @@ fn names_by_file(alloc: Global, names: &[ShownName]) -> Result<BTreeMap<Fid, Nam
 }
 
 /// The length of a file in bytes; None of a directory.
-fn size_of(file: &ShownFile) -> Option<u64>
+fn length_of(file: &ShownFile) -> Option<u64>
     ensures { result ≡ file_size file.now }
 {
-    match &file.bytes {
-        Some(bytes) => Some(bytes.as_slice().len() as u64),
-        None => None,
-    }
+    file.bytes
+        .as_ref()
+        .map(|bytes| bytes.as_slice().len() as u64)
 }
 
-/// The lengths by file.
-fn sizes_by_file(alloc: Global, files: &[ShownFile]) -> Result<BTreeMap<Fid, Option<u64>>, Memory>
-    ensures { IfOk result (λ map. (f : Named) → get fid_cmp map f ≡ first_of (λ x. x.fid) file_size files.now f) }
+/// The length in bytes of the file of this full name among these, which rise by full name; None of a directory, and where it
+/// isn't there.
+fn size_of(files: &[ShownFile], fid: Fid) -> Option<u64>
+    ensures { (v : View) → files.now ≡ map shown_file (shown_files v) → result ≡ size_of (look_up v.files fid) }
 {
-    let mut map = BTreeMap::new(alloc);
-    for file in files {
-        keep(&mut map, file.fid, size_of(file))?;
+    match files.binary_search_by_key(&fid, |file| file.fid) {
+        Ok(i) => length_of(&files[i]),
+        Err(_) => None,
     }
-    Ok(map)
-}
-
-/// What is looked up for the lines of what is shown.
-fn known_of(alloc: Global, shown: &Shown) -> Result<Known, Memory>
-    ensures { (v : View) → ShowsView shown.now v → IfOk result (λ known. Knows known v) }
-{
-    Ok(Known {
-        names: names_by_file(alloc, shown.names.as_slice())?,
-        sizes: sizes_by_file(alloc, shown.files.as_slice())?,
-    })
 }
 
 /// The line of a name.
-fn line_of(known: &Known, named: ShownName) -> Line
-    ensures { (v : View) → Knows known.now v → listed_in result ≡ line_of v (naming named) }
+fn line_of(names: &BTreeMap<Fid, Name>, files: &[ShownFile], named: ShownName) -> Line
+    ensures { (v : View) → Knows (get fid_cmp names.now) files.now v → listed_in result ≡ line_of v (naming named) }
 {
     Line {
-        dir_name: known.names.get(&named.directory).copied(),
+        dir_name: names.get(&named.directory).copied(),
         named,
-        size: match known.sizes.get(&named.fid) {
-            Some(size) => *size,
-            None => None,
-        },
+        size: size_of(files, named.fid),
     }
 }
 
 /// The lines of these names in the order in which they are shown.
-fn lines_of(alloc: Global, known: &Known, names: &[ShownName]) -> Result<BTreeSet<Line>, Memory>
-    ensures { (v : View) → Knows known.now v → IfOk result (λ lines. map listed_in lines.keys ≡ in_order listed_cmp (map (λ n. line_of v (naming n)) names.now)) }
+fn lines_of(
+    alloc: Global,
+    by_file: &BTreeMap<Fid, Name>,
+    files: &[ShownFile],
+    names: &[ShownName],
+) -> Result<BTreeSet<Line>, Memory>
+    ensures { (v : View) → Knows (get fid_cmp by_file.now) files.now v → IfOk result (λ lines. map listed_in lines.keys ≡ in_order listed_cmp (map (λ n. line_of v (naming n)) names.now)) }
 {
     let mut lines = BTreeSet::new(alloc);
+    // from the last name to the first, as the model's `in_order` inserts them
     for named in names.iter().rev() {
-        if lines.insert(line_of(known, *named)).is_err() {
-            return Err(Memory);
-        }
+        lines.insert(line_of(by_file, files, *named))?;
     }
     Ok(lines)
 }
@@ -169,8 +148,13 @@ fn push_count(alloc: Global, text: &mut Vec<u8>, count: usize) -> Result<(), Mem
 pub fn listing_of(alloc: Global, shown: &Shown) -> Result<Vec<u8>, Memory>
     ensures { (v : View) → ShowsView shown.now v → IfOk result (λ text. text.items ≡ listing_text v) }
 {
-    let known = known_of(alloc, shown)?;
-    let lines = lines_of(alloc, &known, shown.names.as_slice())?;
+    let by_file = names_by_file(alloc, shown.names.as_slice())?;
+    let lines = lines_of(
+        alloc,
+        &by_file,
+        shown.files.as_slice(),
+        shown.names.as_slice(),
+    )?;
     let mut text = text_of_lines(alloc, &lines)?;
     push_count(alloc, &mut text, shown.files.as_slice().len())?;
     Ok(text)

@@ -5,12 +5,12 @@ use crate::status::Fault;
 use std::alloc::Global;
 use std::collections::BTreeMap;
 
-/// A full page has so many bytes.
+/// A full page has 512 bytes.
 const PAGE_BYTES: u16 = 512;
 
 /// Where a page is, and how many of its bytes count.
 #[derive(Clone, Copy, Debug, PartialEq, Eq)]
-pub struct Held {
+pub struct PagePlace {
     /// The virtual address of the lowest sector that carries the page.
     pub at: u16,
     /// 0 to 512.
@@ -21,14 +21,14 @@ pub struct Held {
 /// The data pages of a file by their numbers, from 1.
 #[derive(Drop)]
 pub struct Pages {
-    held: BTreeMap<u16, Held>,
+    held: BTreeMap<u16, PagePlace>,
 }
 
 impl Pages {
-    ghost use Rattle.std.specs.Prelude.{ℕ, suc, ◌+◌, ◌*◌, None, OnOk, IfErr};
+    ghost use Rattle.std.specs.Prelude.{ℕ, ◌+◌, ◌*◌, None, OnOk, IfErr, IsSome};
     ghost use Rattle.std.specs.Option.{option_map, option_or};
     ghost use Rattle.std.specs.Prelude.{◌==◌, cond, Some};
-    ghost use Rattle.alto_top.specs.Sweeps.{kept_page, seen_held, bytes_counted};
+    ghost use Rattle.alto_top.specs.Sweeps.{kept_page, seen_held, bytes_kept};
 
     /// No pages. It takes no memory.
     pub fn new(alloc: Global) -> Pages
@@ -39,28 +39,27 @@ impl Pages {
         }
     }
 
-    /// Keeps a page, unless one of its number is kept.
-    pub fn keep(&mut self, number: u16, held: Held) -> Result<(), Fault>
+    /// Keeps a page, unless one of its number is kept. Memory: no memory was left.
+    pub fn keep(&mut self, number: u16, held: PagePlace) -> Result<(), Fault>
         ensures kept { OnOk result ((n : ℕ) → kept_page self.new n ≡ option_or (kept_page self.old n) (cond (n == number) (Some (seen_held held)) None)) }
         ensures want { IfErr result (λ fault. fault ≡ Fault.Memory) }
     {
-        if !self.held.contains_key(&number) {
-            self.held.insert(number, held)?;
-        }
+        self.held.entry(number)?.or_insert(held);
         Ok(())
     }
 
-    /// Where the page of this number is.
-    pub fn place(&self, number: u16) -> Option<u16>
-        ensures { result ≡ option_map (λ held. held.0) (kept_page self.now number) }
+    /// The virtual address of the lowest sector that carries the page of this number, which is kept.
+    pub fn place(&self, number: u16) -> u16
+        requires { IsSome (kept_page self.now number) }
+        ensures { option_map (λ held. held.0) (kept_page self.now number) ≡ Some result }
     {
-        self.held.get(&number).map(|held| held.at)
+        self.held[&number].at
     }
 
     /// The length of the file in bytes: those of its pages up to and with the first that isn't full, or up to the first that
     /// is missing.
     pub fn length(&self) -> u32
-        ensures counted { result ≡ bytes_counted 65535 (λ n. kept_page self.now (suc n)) }
+        ensures counted { result ≡ bytes_kept self.now }
         ensures most { result ≤ 65535 * 512 }
     {
         let mut length = 0;

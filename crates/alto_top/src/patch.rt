@@ -11,7 +11,7 @@ const VERB: &[u8] = b"patch #";
 
 const SPACE: u8 = 32;
 
-/// At most so many bytes in one line.
+/// At most 2,000 bytes are put by one line.
 const MOST_BYTES: usize = 2000;
 
 /// Bytes that are to be put into a file.
@@ -19,7 +19,7 @@ const MOST_BYTES: usize = 2000;
 pub struct Patch {
     /// The serial of the file, without the directory mark.
     pub serial: u32,
-    /// The place of the first byte in the file.
+    /// Where the first byte goes in the file, in bytes from 0.
     pub offset: u32,
     /// At most 2,000 bytes.
     pub bytes: List<u8>,

@@ -4,7 +4,7 @@ ghost use Rattle.disk_records.specs.Addresses.{pages_of};
 ghost use Rattle.disk_records.specs.Tapes.{DiskAlone};
 ghost use Rattle.pack_model.specs.Bytes.{bytes_of, words_of, put_at};
 ghost use Rattle.alto_top.specs.Faults.{HasDiskCause};
-ghost use Rattle.alto_top.specs.Putting.{PutDone};
+ghost use Rattle.alto_top.specs.Putting.{PutDone, not_done};
 
 use crate::status::Fault;
 use disk_records::{Disk, Page, Sector};
@@ -26,8 +26,21 @@ fn put_in_words(value: &mut [u16; 256], offset: usize, bytes: &[u8])
     }
 }
 
+/// What a guarded call that wasn't done answers: false where the sector doesn't carry the page.
+fn not_done(error: GuardError) -> Result<bool, Fault>
+    ensures { result ≡ not_done error }
+{
+    match error {
+        GuardError::Wrong { .. } => Ok(false),
+        GuardError::DiskFault => Err(Fault::Disk),
+        GuardError::Memory => Err(Fault::Memory),
+    }
+}
+
 /// Puts bytes into a page that a sector carries, from this byte of the page on: one value write, which leaves the page's other
 /// bytes. False where the sector doesn't carry the page; then nothing is written. Three sector commands at most.
+///
+/// Disk: the disk failed. Memory: no memory was left. On a told disk the value is written or nothing is, whatever the answer.
 pub fn put_in_page<D: Disk>(
     disk: &mut D,
     at: u16,
@@ -45,18 +58,13 @@ pub fn put_in_page<D: Disk>(
     ensures runs { IsTrue D.told → (D.tape disk.new).runs ≤ (D.tape disk.old).runs + 3 }
     ensures want { IsTrue D.told → IsErrOf result Fault.Memory → (D.tape disk.old).spare < 1 }
 {
-    match read_page(disk, at, page, buf) {
-        Ok(_) => {}
-        Err(GuardError::Wrong { .. }) => return Ok(false),
-        Err(GuardError::DiskFault) => return Err(Fault::Disk),
-        Err(GuardError::Memory) => return Err(Fault::Memory),
+    if let Err(error) = read_page(disk, at, page, buf) {
+        return not_done(error);
     }
     let mut value = buf.value;
     put_in_words(&mut value, offset, bytes);
     match write_value(disk, at, page, &value) {
         Ok(()) => Ok(true),
-        Err(GuardError::Wrong { .. }) => Ok(false),
-        Err(GuardError::DiskFault) => Err(Fault::Disk),
-        Err(GuardError::Memory) => Err(Fault::Memory),
+        Err(error) => not_done(error),
     }
 }

@@ -10,7 +10,7 @@ ghost use Rattle.pack_model.specs.Puts.{putting};
 ghost use Rattle.alto_top.specs.Faults.{HasCause, HasDiskCause, HasShowCause, HasStatusCause};
 ghost use Rattle.alto_top.specs.Patches.{put_of, puts_at, puts_of, puts_of_patch, reply_within, reply_to, reply_to_patch, text_of, is_patched, lie_in_one_page};
 ghost use Rattle.alto_top.specs.Keys.{ShownAll};
-ghost use Rattle.alto_top.specs.Sweeps.{HoldsPages, AreWithin};
+ghost use Rattle.alto_top.specs.Sweeps.{HoldsPages, AreWithin, bytes_kept};
 ghost use Rattle.alto_top.specs.Sessions.{Booted, NextTurn, Obeyed, runs_of_line};
 ghost use Rattle.alto_top.specs.declared.reply.Reply.TheVariants.{Done};
 
@@ -25,17 +25,11 @@ use alto_words::Fid;
 use disk_records::{Console, ConsoleError, Disk, Machine, Page, Sector};
 use std::alloc::Global;
 
-const DISK_DESCRIPTOR: Fid = Fid {
-    high: 0,
-    low: 2,
-    version: 1,
-};
-
 /// Whether the bytes of a file are patched: not those of directories and of DiskDescriptor.
 fn is_patched(fid: Fid) -> bool
     ensures { result ≡ is_patched fid }
 {
-    !(fid.is_directory() || fid == DISK_DESCRIPTOR)
+    !(fid.is_directory() || fid == Fid::DISK_DESCRIPTOR)
 }
 
 /// Whether these bytes lie in one page. No bytes always do.
@@ -46,7 +40,7 @@ fn lie_in_one_page(offset: u32, bytes: &[u8]) -> bool
     bytes.is_empty() || offset as u64 / 512 == (offset as u64 + (bytes.len() as u64 - 1)) / 512
 }
 
-/// Puts the bytes of a patch, which lie in one page and within the file's length.
+/// Puts the bytes of a patch, which lie in one page and within the pages that are kept.
 fn put_bytes<D: Disk>(
     disk: &mut D,
     patch: &Patch,
@@ -57,9 +51,8 @@ fn put_bytes<D: Disk>(
     requires some { patch.now.bytes ≢ [] }
     requires are_bytes { All (λ byte. byte < 256) patch.now.bytes }
     requires one_page { lie_in_one_page patch.now.offset patch.now.bytes ≡ true }
-    requires inside { patch.now.offset / 512 < 65535 }
     requires within { AreWithin (pages_of (D.tape disk.old).form) pages.now }
-    requires length { IsTrue D.told → patch.now.offset + length patch.now.bytes ≤ length (file_bytes (sights (pack (D.tape disk.old))) fid) }
+    requires length { patch.now.offset + length patch.now.bytes ≤ bytes_kept pages.now }
     requires pages { IsTrue D.told → HoldsPages (sights (pack (D.tape disk.old))) fid pages.now }
     ensures alone { DiskAlone (D.tape disk.old) (D.tape disk.new) }
     ensures cause { HasDiskCause (D.tape disk.old) (D.tape disk.new) result }
@@ -68,9 +61,7 @@ fn put_bytes<D: Disk>(
     ensures runs { IsTrue D.told → (D.tape disk.new).runs ≤ (D.tape disk.old).runs + 3 }
 {
     let number = (patch.offset / 512 + 1) as u16;
-    let Some(at) = pages.place(number) else {
-        return Ok(Reply::NoSuchName);
-    };
+    let at = pages.place(number);
     let offset = (patch.offset % 512) as usize;
     let done = put_in_page(
         disk,
@@ -120,11 +111,7 @@ fn obey_patch<D: Disk>(alloc: Global, disk: &mut D, patch: &Patch) -> Result<Rep
     ensures reply { IsTrue D.told → IfOk result (λ reply. reply ≡ reply_to_patch (stored_files (pack (D.tape disk.old))) (Some patch.now)) }
     ensures runs { IsTrue D.told → (D.tape disk.new).runs ≤ (D.tape disk.old).runs + runs_of_line (D.tape disk.old) }
 {
-    let mut buf = Sector {
-        header: [0; 2],
-        label: [0; 8],
-        value: [0; 256],
-    };
+    let mut buf = Sector::ZEROS;
     let Some(fid) = find_file(disk, patch.serial, &mut buf)? else {
         return Ok(Reply::NoSuchName);
     };

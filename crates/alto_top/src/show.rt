@@ -18,7 +18,7 @@ fn list_pack<D: Disk>(alloc: Global, disk: &mut D) -> Result<Vec<u8>, Fault>
     ensures alone { DiskAlone (D.tape disk.old) (D.tape disk.new) }
     ensures cause { HasDiskCause (D.tape disk.old) (D.tape disk.new) result }
     ensures silent { IsTrue D.told → added (D.tape disk.old) (D.tape disk.new) ≡ [] }
-    ensures runs { IsTrue D.told → (D.tape disk.new).runs ≤ (D.tape disk.old).runs + pages_of (D.tape disk.old).form }
+    ensures runs { IsTrue D.told → (D.tape disk.new).runs + 1 ≤ (D.tape disk.old).runs + pages_of (D.tape disk.old).form }
     ensures listed { IsTrue D.told → IfOk result (λ text. text.items ≡ listing_text (show (pack (D.tape disk.old)))) }
 {
     let shown = read_pack(alloc, disk)?;

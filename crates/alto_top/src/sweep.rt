@@ -10,7 +10,7 @@ ghost use Rattle.pack_laws.specs.Least.{least, least_shown};
 ghost use Rattle.alto_top.specs.Faults.{HasDiskCause};
 ghost use Rattle.alto_top.specs.Sweeps.{seen_in, seen_of, CountsFew, held_at, kept_page, HoldsPages, AreWithin};
 
-use crate::pages::{Held, Pages};
+use crate::pages::{PagePlace, Pages};
 use crate::status::Fault;
 use alto_words::Fid;
 use disk_records::{Disk, Page, Sector, page_of};
@@ -19,7 +19,7 @@ use std::alloc::Global;
 
 /// What a sector's label names.
 #[derive(Clone, Copy, Debug, PartialEq, Eq)]
-enum Seen {
+enum LabelSight {
     /// No page.
     Nothing,
     /// The leader page of a file.
@@ -29,25 +29,25 @@ enum Seen {
 }
 
 /// What a label names.
-fn seen_in(sector: &Sector) -> Seen
+fn seen_in(sector: &Sector) -> LabelSight
     ensures seen { result ≡ seen_in sector.now.label }
     ensures few { CountsFew result }
     ensures whole { length sector.now.value ≡ 256 }
 {
     match page_of(&sector.label) {
-        Some(Page { fid, number: 0 }) => Seen::Leader { fid },
-        Some(Page { fid, number }) => Seen::Data {
+        Some(Page { fid, number: 0 }) => LabelSight::Leader { fid },
+        Some(Page { fid, number }) => LabelSight::Data {
             fid,
             number,
             bytes: sector.label[3],
         },
-        None => Seen::Nothing,
+        None => LabelSight::Nothing,
     }
 }
 
 /// What the sector at this address carries. At most one sector command.
 #[tactic(auto, using(crate::proofs::Causes::look_wants_none))]
-fn see<D: Disk>(disk: &mut D, at: u16, buf: &mut Sector) -> Result<Seen, Fault>
+fn see<D: Disk>(disk: &mut D, at: u16, buf: &mut Sector) -> Result<LabelSight, Fault>
     requires place { at < pages_of (D.tape disk.old).form }
     requires first { 1 ≤ at }
     ensures alone { DiskAlone (D.tape disk.old) (D.tape disk.new) }
@@ -61,7 +61,7 @@ fn see<D: Disk>(disk: &mut D, at: u16, buf: &mut Sector) -> Result<Seen, Fault>
     Ok(if look(disk, at, buf)? {
         seen_in(buf)
     } else {
-        Seen::Nothing
+        LabelSight::Nothing
     })
 }
 
@@ -93,18 +93,20 @@ fn find_leader<D: Disk>(
     ensures want { IsTrue D.told → IfErr result (λ fault. fault ≢ Fault.Memory) }
 {
     Ok(match see(disk, at, buf)? {
-        Seen::Leader { fid } => if fid.serial() == serial {
+        LabelSight::Leader { fid } => if fid.serial() == serial {
             lesser(found, fid)
         } else {
             found
         },
-        Seen::Data { .. } => found,
-        Seen::Nothing => found,
+        LabelSight::Data { .. } => found,
+        LabelSight::Nothing => found,
     })
 }
 
-/// The living file of least full name with this serial. Fewer sector commands than sectors. On a told disk it never answers want
-/// of memory.
+/// The living file of least full name with this serial; None where there is none. Fewer sector commands than sectors.
+///
+/// Disk: the disk failed. Memory: no memory was left, which never comes on a told disk. There nothing is written, whatever the
+/// answer.
 pub fn find_file<D: Disk>(disk: &mut D, serial: u32, buf: &mut Sector) -> Result<Option<Fid>, Fault>
     ensures alone { DiskAlone (D.tape disk.old) (D.tape disk.new) }
     ensures cause { HasDiskCause (D.tape disk.old) (D.tape disk.new) result }
@@ -139,21 +141,23 @@ fn keep_page<D: Disk>(
     ensures kept { IsTrue D.told → OnOk result ((n : ℕ) → kept_page pages.new (suc n) ≡ option_or (kept_page pages.old (suc n)) (held_at fid (suc n) (at, sight (D.tape disk.old).form at (sector_at (pack (D.tape disk.old)) at)))) }
 {
     match see(disk, at, buf)? {
-        Seen::Data {
+        LabelSight::Data {
             fid: of,
             number,
             bytes,
         } => if of == fid {
-            pages.keep(number, Held { at, bytes })
+            pages.keep(number, PagePlace { at, bytes })
         } else {
             Ok(())
         },
-        Seen::Leader { .. } => Ok(()),
-        Seen::Nothing => Ok(()),
+        LabelSight::Leader { .. } => Ok(()),
+        LabelSight::Nothing => Ok(()),
     }
 }
 
 /// The data pages of a file, each at the lowest sector that carries it. Fewer sector commands than sectors.
+///
+/// Disk: the disk failed. Memory: no memory was left. On a told disk nothing is written, whatever the answer.
 pub fn find_pages<D: Disk>(
     alloc: Global,
     disk: &mut D,

@@ -19,6 +19,21 @@ pub struct Fid {
 }
 
 impl Fid {
+    /// The full name of SysDir, the directory of all other directories: serial 1 with the directory
+    /// mark, version 1.
+    pub const SYS_DIR: Fid = Fid {
+        high: 0x8000,
+        low: 1,
+        version: 1,
+    };
+
+    /// The full name of DiskDescriptor, the file with the allocation map: serial 2, version 1.
+    pub const DISK_DESCRIPTOR: Fid = Fid {
+        high: 0,
+        low: 2,
+        version: 1,
+    };
+
     /// Whether the directory mark is set.
     pub fn is_directory(&self) -> bool
         ensures { result ≡ is_directory self.now }

@@ -6,7 +6,6 @@ use Rattle.std.specs.Option.{IfSome}
 use Rattle.std.proofs.lemmas.Bool.{eq-eqb, ne_eqb, cond-true, cond-false, and_parts, and_from, and_left, and_right, le-leb, lt-leb, leb-true, cases_Bool}
 use Rattle.std.proofs.lemmas.List.{length-take, get_or-take}
 use Rattle.std.proofs.lemmas.Option.{none-some, same_Some, cond_some}
-use Rattle.alto_words.specs.Fid.{is_full_name}
 use Rattle.disk_records.specs.Words.{word}
 use Rattle.pack_model.specs.Slots.{Item, item_words, is_entry, slot_fid, slot_name, slot_of, first_length, slot_at, IsSlot}
 use Rattle.pack_model.specs.Slots.Item.{space, entry}
@@ -106,20 +105,6 @@ slot_at-is words i is =
       }),
       omega arith,
     )
-
--- a slot is in range
-pub slot_in_range : (words : List ℕ) (s : Slot) → IsSlot words (item_of s) → IsInRange s
-slot_in_range words (Free n) slot = let size = slot.size in let some = slot.some in let most = slot.most in (omega arith, omega arith)
-slot_in_range words (Entry f address name) slot = elim (cases_Bool (word words 0 == length words)) [
-  | inl free ↦
-      let e : Some (space (length words)) ≡ Some (entry f name) = sym (cond-true _ (Some (space (length words))) (entry_of words) free) ∙ slot.reads in
-      absurd (cc)
-  | inr file ↦
-      let e : entry_of words ≡ Some (entry f name) = sym (cond-false _ (Some (space (length words))) (entry_of words) file) ∙ slot.reads in
-      let some = cond_some (is_entry words) (entry (slot_fid words) (slot_name words)) (entry f name) e in
-      let fid : slot_fid words ≡ f = cc in
-      subst (λ g. is_full_name g ≡ true) fid (entry_parts words some.0).full
-]
 
 pub free_in_range : (s : Slot) → IsInRange s → HasFreeLength s
 free_in_range (Free n) h = h

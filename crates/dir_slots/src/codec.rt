@@ -30,7 +30,7 @@ const LEADER_AT: usize = 5;
 const NAME: usize = 6;
 
 /// Word 0 of an entry less its length: the type 1 times 1,024. That of a free slot is its length alone.
-pub(crate) const FILE: u16 = 1024;
+pub(crate) const ENTRY_TYPE: u16 = 1024;
 
 /// The fewest words of an entry: those of one whose name has 2 characters.
 const MIN_ENTRY_WORDS: usize = 8;
@@ -55,7 +55,7 @@ pub fn slot_here(front: &[u16], left: usize) -> Option<Slot>
     ensures most { IfSome result (λ slot. item_words (item_of slot) ≤ left) }
 {
     let first = *front.first()?;
-    let length = first % FILE;
+    let length = first % ENTRY_TYPE;
     if length == 0 {
         return None;
     }
@@ -84,7 +84,7 @@ fn read_entry(words: &[u16]) -> Option<Slot>
     if words.len() < MIN_ENTRY_WORDS {
         return None;
     }
-    if !is_file(words) {
+    if !is_entry_head(words) {
         return None;
     }
     let fid = Fid {
@@ -107,11 +107,11 @@ fn read_entry(words: &[u16]) -> Option<Slot>
 }
 
 /// Whether word 0 is the type of an entry with the length, and word 4 is 0.
-fn is_file(words: &[u16]) -> bool
+fn is_entry_head(words: &[u16]) -> bool
     requires { 5 ≤ length words.now }
     ensures { result ≡ (word words.now 0 == 1024 + length words.now && word words.now 4 == 0) }
 {
-    words[TYPE] as usize == FILE as usize + words.len() && words[ZERO] == 0
+    words[TYPE] as usize == ENTRY_TYPE as usize + words.len() && words[ZERO] == 0
 }
 
 /// The name in these words, whose first byte is its length. None where that goes past them, the characters form no stored name, or

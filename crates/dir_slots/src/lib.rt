@@ -9,7 +9,7 @@
 //!   word 3: the version
 //!   word 4: 0
 //!   word 5: the virtual address of the file's leader: a hint
-//!   from word 6 on: a byte with n, the characters, and a byte 0 where these are odd
+//!   from word 6 on: a byte with n, the characters, and a byte 0 where these n + 1 bytes are odd in number
 //! Contracts see a slot as an item of pack_model, and its address apart. To the layers above:
 //! 1. `read_slots` gives exactly the slots of the longest first part that can be read (`items`, and the law `longest_is_read`).
 //! 2. What `write_slots` wrote is read back whole (`back`, and the law `reads_back`).

@@ -1,5 +1,5 @@
 // The slots of a directory's words: the first one, and all.
-ghost use Rattle.std.specs.Prelude.{◌≡◌, ◌≤◌, [], ◌∷◌, ◌++◌, length, map, All, IfOk, IfSome, OnOk};
+ghost use Rattle.std.specs.Prelude.{◌≡◌, ◌≤◌, length, map, All, IfOk, IfSome};
 ghost use Rattle.std.specs.Option.{option_map};
 ghost use Rattle.disk_records.specs.Words.{word};
 ghost use Rattle.pack_model.specs.Slots.{item_words, slot_at, slots, all_words};
@@ -29,16 +29,9 @@ pub fn read_slots(alloc: Global, words: &[u16]) -> Result<(List<Slot>, usize), M
     let mut at = 0;
     while let Some(slot) = first_slot(&words[at..]) {
         at += slot.words() as usize;
-        keep(&mut read, slot)?;
+        read.push(slot)?;
     }
     Ok((List::from_vec(read), at))
-}
-
-/// Appends a slot to those that have been read.
-fn keep(read: &mut Vec<Slot>, slot: Slot) -> Result<(), Memory>
-    ensures { OnOk result (read.new.items ≡ read.old.items ++ slot ∷ []) }
-{
-    read.push(slot).map_err(|_| Memory)
 }
 
 /// The slot at the head of these words, those of a directory from its first word or from the end of a slot on. None exactly where

@@ -6,7 +6,7 @@ ghost use Rattle.pack_model.specs.SlotWords.{short_name_words, entry_words as wo
 ghost use Rattle.dir_slots.specs.Items.{items_of, address_of, addresses_in, slot_words, slots_words, IsInRange};
 ghost use Rattle.dir_slots.specs.Laws.{HasStoredName};
 
-use crate::codec::FILE;
+use crate::codec::ENTRY_TYPE;
 use crate::slot::{MAX_FREE_WORDS, Slot, entry_words};
 use alto_words::{Fid, List, Memory, Name};
 use leader_page::name_words;
@@ -63,7 +63,7 @@ fn push_entry(words: &mut Vec<u16>, fid: &Fid, leader_at: u16, name: &Name) -> R
     ensures words { OnOk result (words.new.items ≡ words.old.items ++ words_of_entry fid.now leader_at name.now) }
     ensures stored { OnOk result (is_stored_name name.now ≡ true) }
 {
-    let first = FILE + entry_words(name);
+    let first = ENTRY_TYPE + entry_words(name);
     words.extend_from_slice(&[first, fid.high, fid.low, fid.version, 0, leader_at])?;
     push_name(words, name)
 }

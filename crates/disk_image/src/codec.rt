@@ -13,6 +13,15 @@ use byteorder::{BigEndian, ByteOrder};
 use disk_records::{Sector, Shape};
 use std::alloc::Global;
 
+/// The bytes of one header.
+pub(crate) const HEADER_BYTES: usize = 4;
+
+/// The bytes of one label.
+pub(crate) const LABEL_BYTES: usize = 16;
+
+/// The bytes of one value.
+pub(crate) const VALUE_BYTES: usize = 512;
+
 /// The bytes of one sector.
 pub(crate) const SECTOR_BYTES: usize = 532;
 
@@ -67,9 +76,9 @@ pub(crate) fn read_sector(bytes: &[u8]) -> Sector
     let mut header = [0; 2];
     let mut label = [0; 8];
     let mut value = [0; 256];
-    read_words(&bytes[..4], &mut header);
-    read_words(&bytes[4..20], &mut label);
-    read_words(&bytes[20..], &mut value);
+    read_words(&bytes[..HEADER_BYTES], &mut header);
+    read_words(&bytes[HEADER_BYTES..HEADER_BYTES + LABEL_BYTES], &mut label);
+    read_words(&bytes[HEADER_BYTES + LABEL_BYTES..], &mut value);
     Sector {
         header,
         label,
@@ -83,8 +92,8 @@ fn write_sector(sector: &Sector, bytes: &mut [u8])
     ensures bytes { bytes.new ≡ sector_bytes sector.now }
     ensures whole { IsWhole sector.now }
 {
-    let (header, rest) = bytes.split_at_mut(4);
-    let (label, value) = rest.split_at_mut(16);
+    let (header, rest) = bytes.split_at_mut(HEADER_BYTES);
+    let (label, value) = rest.split_at_mut(LABEL_BYTES);
     write_words(&sector.header, header);
     write_words(&sector.label, label);
     write_words(&sector.value, value);

@@ -1,23 +1,38 @@
 // The machine over a pack file, standard input and standard output: the edge to the outside.
 //
 // A sector command seeks to its sector once. It then makes one read call for the records before its first Write, and one write
-// call for each record that it writes, in their order and with no buffer between: a process that is stopped leaves a first part of
-// its record writes in the file. Before the first of them it asks for the file's length, so that no write makes the file longer.
-// Nothing is synced to the device, so a power failure may leave less.
-ghost use Rattle.std.specs.Prelude.{false, []};
+// call for each record that it writes, in their order and with no buffer between. That is said of calls that are neither short nor
+// interrupted by a signal, here and in records.rt: behind a short one another does the rest, and an interrupted one is made again.
+//
+// That a process which is stopped leaves a first part of its record writes in the file, each of them whole, is a premise. It holds
+// for one that is stopped between two calls, of which the first wasn't short, and for one that a signal kills within a write call
+// unless the record crosses a multiple of 4,096 bytes in the file: Linux looks for such a signal between two pages of memory, and the
+// record may be torn there. About one sector in 8 has such a record; the value of sector 7, at the bytes 3,744 to 4,255, is the first.
+// It doesn't hold where a call writes a part of a record and the one for the rest fails, or is stopped by a limit on the size of
+// files. Nothing is synced to the device, so a power failure may leave less.
+//
+// Before its first write a command asks for the file's length, so that no write makes the file longer, unless another process
+// shortens the file between the question and the write.
+ghost use Rattle.std.specs.Prelude.{◌≡◌, ◌≢◌, ◌<◌, false, [], length, take, IfOk, IfErr, OnErr};
+ghost use Rattle.std.specs.Io.{ReadsAtMost};
+ghost use Rattle.std.specs.Io.KnownBytes.{Consumes, IsAtEnd, Keeps};
+ghost use Rattle.std.specs.IoError.{error_kind};
 
 use crate::codec::shape_of_length;
 use crate::error::ReachError;
-use crate::records::{fill, find_place, read_front, seek_to, write_back};
+use crate::records::{check_in_file, fill, read_front, seek_to, write_back};
 use disk_records::{
     Console, ConsoleError, Disk, DiskError, Machine, Plan, Sector, Shape, Tape, first_mismatch,
     update_memory,
 };
 use std::alloc::Global;
 use std::fs::{OpenFile, OpenOptions};
-use std::io::{BufReader, Input, Print, Read};
+use std::io::{BufReader, Error, ErrorKind, Input, Print, Read};
 use std::rt::Files;
 use std::{fs, io};
+
+/// How often at most a read of keys is tried that a signal interrupts each time.
+const MOST_TRIES: u64 = u64::MAX;
 
 /// A machine over a pack file, standard input and standard output. It isn't told: contracts see its shape and its counts, and
 /// nothing of what the file, the keys and the display hold. Each fault of the outside, as a read past the file's end, raises the
@@ -94,7 +109,7 @@ impl<'a, R: Files + Input + Print> Console for FileMachine<'a, R> {
     ghost use Rattle.disk_records.specs.Tapes.{KeysAlone, ShowAlone, HasRead, HasShown, Rose};
     ghost use Rattle.disk_image.specs.Machines.{CountsFault};
 
-    /// It takes no memory.
+    /// A read that a signal interrupts is made again. It takes no memory.
     fn read(&mut self, buf: &mut [u8]) -> Result<usize, ConsoleError>
         requires { 0 < length buf.old }
         ensures alone { KeysAlone (⟦<FileMachine<'a, R> as Tape>⟧.tape self.old) (⟦<FileMachine<'a, R> as Tape>⟧.tape self.new) }
@@ -106,7 +121,7 @@ impl<'a, R: Files + Input + Print> Console for FileMachine<'a, R> {
         ensures fault { CountsFault (IsErrOf result ConsoleError.Failed) (⟦<FileMachine<'a, R> as Tape>⟧.tape self.old).key_faults (⟦<FileMachine<'a, R> as Tape>⟧.tape self.new).key_faults }
         ensures no_want { IsErrOf result ConsoleError.Memory → ⊥ }
     {
-        match self.keys.read(buf) {
+        match read_keys(&mut self.keys, buf) {
             Ok(count) => Ok(count),
             Err(_) => {
                 self.key_faults = self.key_faults.saturating_add(1);
@@ -158,7 +173,7 @@ impl<'a, R: Files + Input + Print> FileMachine<'a, R> {
         };
         let mut options = OpenOptions::new();
         options.read(true).write(true);
-        let Ok(file) = open_apart(rt, &options, path) else {
+        let Ok(file) = open_above_std_streams(rt, &options, path) else {
             return Err(ReachError::NoFile);
         };
         let Ok(metadata) = file.metadata() else {
@@ -196,7 +211,7 @@ impl<'a, R: Files + Input + Print> FileMachine<'a, R> {
         };
         let mut options = OpenOptions::new();
         options.read(true).write(true).create_new(true);
-        let Ok(mut file) = open_apart(rt, &options, path) else {
+        let Ok(mut file) = open_above_std_streams(rt, &options, path) else {
             return Err(ReachError::NoFile);
         };
         if fill(&mut file, shape).is_err() {
@@ -242,17 +257,42 @@ impl<'a, R: Files + Input + Print> FileMachine<'a, R> {
         if found.is_some() {
             return Ok(found);
         }
-        find_place(&self.file, at, plan)?;
+        check_in_file(&self.file, at, plan)?;
         update_memory(plan, buf, &disk);
         write_back(&mut self.file, plan, buf, &mut self.writes)?;
         Ok(None)
     }
 }
 
-/// Opens a file away from the standard streams. Where a program was started with one of these closed, the next file that it opens
-/// takes that place, and what is shown would be written over the pack: so other files are open in such places meanwhile. Where one
-/// of those can't be opened, the file isn't opened either.
-fn open_apart<R: Files>(rt: &R, options: &OpenOptions, path: &str) -> io::Result<R::File> {
+/// Reads keys, and again where a signal interrupted the call, as std's own calls do that read more than once.
+fn read_keys<R: Read>(keys: &mut R, buf: &mut [u8]) -> io::Result<usize>
+    ensures bound { ReadsAtMost result buf.new }
+    ensures ok { IfOk result (λ count. Consumes (R.remaining keys.old) (R.remaining keys.new) (take count buf.new)) }
+    ensures end { IfOk result (λ count. count ≡ 0 → 0 < length buf.old → IsAtEnd (R.remaining keys.new)) }
+    ensures err { OnErr result (Keeps (R.remaining keys.old) (R.remaining keys.new)) }
+    ensures retried { IfErr result (λ error. error_kind error ≢ ErrorKind.Interrupted) }
+{
+    for _ in 0..MOST_TRIES {
+        match keys.read(buf) {
+            Ok(count) => return Ok(count),
+            Err(error) => {
+                if error.kind() != ErrorKind::Interrupted {
+                    return Err(error);
+                }
+            }
+        }
+    }
+    Err(Error::from(ErrorKind::TimedOut))
+}
+
+/// Opens a file in a place above those of the standard streams. Where a program was started with one of these closed, the next file
+/// that it opens takes that place, and what is shown would be written over the pack: so other files are open in such places
+/// meanwhile. Where one of those can't be opened, the file isn't opened either.
+fn open_above_std_streams<R: Files>(
+    rt: &R,
+    options: &OpenOptions,
+    path: &str,
+) -> io::Result<R::File> {
     let _input = fs::open(rt, "/dev/null")?;
     let _output = fs::open(rt, "/dev/null")?;
     let _errors = fs::open(rt, "/dev/null")?;

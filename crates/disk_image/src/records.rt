@@ -7,7 +7,9 @@ ghost use Rattle.disk_records.specs.Checks.{is_legal};
 ghost use Rattle.disk_image.specs.Records.{read_length, front_length, front_bytes, back_bytes, written_bytes, counted, counted_all};
 ghost use Rattle.disk_image.specs.Images.{words_bytes};
 
-use crate::codec::{CYLINDER_BYTES, SECTOR_BYTES, read_sector, write_words};
+use crate::codec::{
+    CYLINDER_BYTES, HEADER_BYTES, LABEL_BYTES, SECTOR_BYTES, VALUE_BYTES, read_sector, write_words,
+};
 use disk_records::{Act, Plan, Sector, Shape};
 use std::fs::OpenFile;
 use std::io;
@@ -29,7 +31,8 @@ fn front_length(plan: Plan) -> usize
     ensures length { result ≡ front_length plan }
     ensures most { result ≤ 532 }
 {
-    read_length(plan.header, 4) + (read_length(plan.label, 16) + read_length(plan.value, 512))
+    read_length(plan.header, HEADER_BYTES)
+        + (read_length(plan.label, LABEL_BYTES) + read_length(plan.value, VALUE_BYTES))
 }
 
 /// Brings a file to the first byte of a sector.
@@ -57,10 +60,11 @@ fn has_sector(bytes: u64, at: u16) -> bool
     (at as u64 + 1) * SECTOR_BYTES as u64 <= bytes
 }
 
-/// Finds the place of a command that writes: an error where the file no longer has the whole of its sector. Records written there
-/// would make the file longer again, and those that were lost would be read as zeros. A command that only reads finds the end of
-/// the file by that. A Write is followed by Writes alone, so a command writes where it writes the value.
-pub(crate) fn find_place<F: OpenFile>(file: &F, at: u16, plan: Plan) -> io::Result<()> {
+/// Checks that the sector of a command that writes lies in the file: an error where the file no longer has the whole of it. Records
+/// written there would make the file longer again, and those that were lost would be read as zeros. It holds for the moment of the
+/// question: another process can shorten the file behind it. A command that only reads finds the end of the file by that. A Write
+/// is followed by Writes alone, so a command writes where it writes the value.
+pub(crate) fn check_in_file<F: OpenFile>(file: &F, at: u16, plan: Plan) -> io::Result<()> {
     if plan.value != Act::Write || has_sector(file.metadata()?.len(), at) {
         return Ok(());
     }
@@ -107,7 +111,7 @@ fn write_bytes<F: Write>(file: &mut F, words: &[u16]) -> io::Result<()>
     requires { length words.now ≤ 256 }
     ensures { OnOk result (Appends (F.contents file.old) (F.contents file.new) (words_bytes words.now)) }
 {
-    let mut bytes = [0; 512];
+    let mut bytes = [0; VALUE_BYTES];
     let record = &mut bytes[..2 * words.len()];
     write_words(words, record);
     file.write_all(record)

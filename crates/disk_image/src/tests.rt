@@ -238,7 +238,7 @@ fn a_file_that_shrinks_is_a_fault(rt: HostRuntime) -> Result<(), Fail> {
 }
 
 #[test]
-fn a_write_never_makes_the_file_longer(rt: HostRuntime) -> Result<(), Fail> {
+fn a_write_at_a_lost_sector_is_a_fault(rt: HostRuntime) -> Result<(), Fail> {
     let write_value = Plan {
         header: Act::Check,
         label: Act::Check,
@@ -269,7 +269,6 @@ fn an_empty_input_has_no_keys(rt: HostRuntime) -> Result<(), Fail> {
     let mut machine = FileMachine::create(&rt, rt.alloc(), "keyless", 2)?;
     assert_eq!(rt; machine.read(&mut [0; 4])?, 0);
     assert_eq!(rt; machine.read(&mut [0])?, 0);
-    machine.show(b"shown\n")?;
     fs::remove_file(&rt, "keyless")?;
     Ok(())
 }

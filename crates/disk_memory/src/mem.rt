@@ -168,10 +168,8 @@ impl MemMachine {
         ensures ok { OnOk result (FailsAt self.old self.new call after) }
         ensures err { OnErr result (SameFailures self.old self.new) }
     {
-        match self.failures.insert(call, after) {
-            Ok(_) => Ok(()),
-            Err(_) => Err(Memory),
-        }
+        self.failures.insert(call, after)?;
+        Ok(())
     }
 
     /// The number of events so far.
@@ -195,10 +193,7 @@ impl MemMachine {
         ensures cut { IfOk result (λ machine. IsCut (⟦<MemMachine as Tape>⟧.tape self.now) count (⟦<MemMachine as Tape>⟧.tape machine)) }
         ensures fresh { IfOk result IsFresh }
     {
-        match self.machine.cut(alloc, count) {
-            Ok(machine) => Ok(MemMachine::over(alloc, machine)),
-            Err(Memory) => Err(Memory),
-        }
+        Ok(MemMachine::over(alloc, self.machine.cut(alloc, count)?))
     }
 
     /// The sector that stands at this virtual address.

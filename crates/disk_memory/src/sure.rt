@@ -183,17 +183,6 @@ impl SureMachine {
         requires { count ≤ length (⟦<SureMachine as Tape>⟧.tape self.now).events }
         ensures { IfOk result (λ machine. IsCut (⟦<SureMachine as Tape>⟧.tape self.now) count (⟦<SureMachine as Tape>⟧.tape machine)) }
     {
-        match self.redone(alloc, count) {
-            Ok(machine) => Ok(machine),
-            Err(AllocError) => Err(Memory),
-        }
-    }
-
-    /// The same as `cut`, with the error of what it calls.
-    fn redone(&self, alloc: Global, count: usize) -> Result<SureMachine, AllocError>
-        requires { count ≤ length (⟦<SureMachine as Tape>⟧.tape self.now).events }
-        ensures { IfOk result (λ machine. IsCut (⟦<SureMachine as Tape>⟧.tape self.now) count (⟦<SureMachine as Tape>⟧.tape machine)) }
-    {
         let sectors = self.base.to_vec(alloc)?;
         let mut machine = SureMachine::over(alloc, self.shape, sectors, Vec::new(alloc))?;
         for event in &self.events[..count] {
@@ -216,9 +205,7 @@ impl SureMachine {
     {
         let mut bytes = Vec::new(alloc);
         for event in &self.events {
-            if add_shown_byte(&mut bytes, event).is_err() {
-                return Err(Memory);
-            }
+            add_shown_byte(&mut bytes, event)?;
         }
         Ok(bytes)
     }
@@ -230,10 +217,8 @@ impl SureMachine {
         ensures kept { (⟦<SureMachine as Tape>⟧.tape self.old).spare ≤ (⟦<SureMachine as Tape>⟧.tape self.new).spare }
         ensures ready { OnOk result (events ≤ (⟦<SureMachine as Tape>⟧.tape self.new).spare) }
     {
-        match self.make_room(alloc, events as usize) {
-            Ok(()) => Ok(()),
-            Err(AllocError) => Err(Memory),
-        }
+        self.make_room(alloc, events as usize)?;
+        Ok(())
     }
 
     /// The sectors that stand, in order of their virtual addresses.

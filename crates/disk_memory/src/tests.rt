@@ -7,12 +7,6 @@ use disk_records::{Act, Console, ConsoleError, Disk, DiskError, Plan, Sector, Sh
 use std::alloc::{AllocError, Global};
 use std::test::Fail;
 
-const BLANK: Sector = Sector {
-    header: [0; 2],
-    label: [0; 8],
-    value: [0; 256],
-};
-
 const WRITE_ALL: Plan = Plan {
     header: Act::Write,
     label: Act::Write,
@@ -22,7 +16,7 @@ const WRITE_ALL: Plan = Plan {
 fn blank_sectors(alloc: Global, count: u16) -> Result<Vec<Sector>, AllocError> {
     let mut sectors = Vec::new(alloc);
     for _ in 0..count {
-        sectors.push(BLANK)?;
+        sectors.push(Sector::ZEROS)?;
     }
     Ok(sectors)
 }

@@ -1,5 +1,6 @@
 -- A check of what was read.
-use Rattle.std.proofs.Common.{◌≡◌, ◌≢◌, ℕ, zero, suc, ◌+◌, ◌==◌, ◌||◌, Bool, true, false, cond, List, [], ◌∷◌, refl, Option, Some, None, arith}
+use Rattle.std.proofs.Common.{◌≡◌, ◌≢◌, ℕ, zero, suc, ◌+◌, ◌==◌, ◌||◌, Bool, true, false, cond, not, List, [], ◌∷◌, length, refl, ap, ◌∙◌, Option, Some, None, arith}
+use Rattle.std.specs.List.{zip, position_from}
 use Rattle.std.proofs.lemmas.Bool.Decides.{nat_tests}
 use Rattle.disk_records.specs.declared.records.Sector.{Sector}
 use Rattle.disk_records.specs.declared.records.Act.TheVariants.{Check, Write}
@@ -38,3 +39,18 @@ all_matched i (m ∷ memory) (d ∷ disk) h =
     let first = h zero in
     let rest = all_matched (i + 1) memory disk (λ k. h (suc k)) in
     grind (arith, nat_tests)
+
+-- ---- the search of the words in pairs
+abbrev pub differs : ℕ × ℕ → Bool
+differs pair = not (pair.0 == 0 || pair.0 == pair.1)
+
+turned : (b : Bool) (i : ℕ) (rest : Option ℕ) → cond (not b) (Some i) rest ≡ cond b rest (Some i)
+turned true i rest = refl
+turned false i rest = refl
+
+pub first_pair : (i : ℕ) (memory disk : List ℕ) → length memory ≡ length disk → position_from differs i (zip memory disk) ≡ mismatch_from i memory disk
+first_pair i [] disk same = refl
+first_pair i (m ∷ memory) [] same = absurd (omega arith)
+first_pair i (m ∷ memory) (d ∷ disk) same =
+    turned (m == 0 || m == d) i (position_from differs (i + 1) (zip memory disk))
+    ∙ ap (λ rest. cond (m == 0 || m == d) rest (Some i)) (first_pair (i + 1) memory disk (omega arith))

@@ -1,5 +1,5 @@
 -- First parts of lists of events.
-use Rattle.std.proofs.Common.{◌≡◌, ℕ, ◌<◌, zero, suc, List, [], ◌∷◌, ◌++◌, length, take, map, get_or, refl, arith}
+use Rattle.std.proofs.Common.{◌≡◌, List, [], ◌∷◌, ◌++◌, refl}
 use Rattle.disk_records.specs.declared.records.Event.{Event}
 use Rattle.disk_records.specs.Events.{IsFirstOf}
 
@@ -21,18 +21,6 @@ first_then ws vs a b e h = rw e (along ws h)
     along [] h = h
     along (u ∷ us) h = (refl, along us h)
 
-pub first_cut : (k : ℕ) (ws a : List Event) → IsFirstOf ws a → IsFirstOf ws (take k a)
-first_cut zero ws a h = tt
-first_cut (suc k) ws [] h = tt
-first_cut (suc k) [] (x ∷ a) h = elim h [ ]
-first_cut (suc k) (w ∷ ws) (x ∷ a) h = (h.0, first_cut k ws a h.1)
-
 pub none_of_none : (events : List Event) → IsFirstOf [] events → events ≡ []
 none_of_none [] h = refl
 none_of_none (x ∷ events) h = elim h [ ]
-
--- all of the writes of the turns before, and then some first ones of this turn's
-pub first_turn : {X : Type 0} (f : X → Event) (xs : List X) (i : ℕ) (x : X) (a b : List Event) → i < length xs → x ≡ get_or xs i x → a ≡ map f (take i xs) → IsFirstOf (f x ∷ []) b → IsFirstOf (map f xs) (a ++ b)
-first_turn f [] i x a b in_list is so_far one = absurd (omega arith)
-first_turn f (y ∷ xs) zero x a b in_list is so_far one = rw so_far (first_front (f y ∷ []) (map f xs) b (rw is at one))
-first_turn f (y ∷ xs) (suc i) x a b in_list is so_far one = rw so_far (refl, first_turn f xs i x _ b (omega arith) is refl one)

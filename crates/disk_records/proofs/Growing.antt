@@ -1,5 +1,5 @@
 -- Calls one after another.
-use Rattle.std.proofs.Common.{◌≡◌, ℕ, ◌+◌, ◌≤◌, List, [], ◌∷◌, ◌++◌, length, drop, refl, sym, ◌∙◌, ap, append_assoc, length-append, arith}
+use Rattle.std.proofs.Common.{◌≡◌, ℕ, ◌+◌, List, [], ◌∷◌, ◌++◌, length, drop, refl, sym, ◌∙◌, ap, append_assoc, length-append, arith}
 use Rattle.std.proofs.lemmas.List.{append-nil}
 use Rattle.std.proofs.Math.ListN.{length-set}
 use Rattle.disk_records.specs.declared.records.Sector.{Sector}
@@ -7,7 +7,7 @@ use Rattle.disk_records.specs.declared.records.Event.{Event}
 use Rattle.disk_records.specs.declared.records.Event.TheVariants.{Wrote, Shown}
 use Rattle.disk_records.specs.Packs.{Pack, after, after_all, after_one}
 use Rattle.disk_records.specs.Events.{shown_bytes, shown_events, writes_in}
-use Rattle.disk_records.specs.Tapes.{Taped, Grown, DiskAlone, KeysAlone, added, first_pack, pack, Rose}
+use Rattle.disk_records.specs.Tapes.{Taped, Grown, DiskAlone, KeysAlone, added, first_pack, pack}
 
 after_all-append : (sectors : List Sector) (a b : List Event) → after_all (a ++ b) sectors ≡ after_all b (after_all a sectors)
 after_all-append sectors [] b = refl
@@ -111,9 +111,6 @@ grown_here a =
 pub alone_here : (a : Taped) → DiskAlone a a
 alone_here a = record { grown = grown_here a; keys = refl; key_faults = refl; show_faults = refl; shown = ap shown_bytes (nothing_added a.events) }
 
-pub keys_here : (a : Taped) → KeysAlone a a
-keys_here a = record { grown = grown_here a; events = refl; disk_faults = refl; show_faults = refl; runs = refl; writes = refl }
-
 -- the pack after a call
 pub pack-after : {a b : Taped} → Grown a b → pack b ≡ after (pack a) (added a b)
 pack-after {a} {b} x =
@@ -139,11 +136,3 @@ length-after_all (Shown byte ∷ events) sectors = length-after_all events secto
 
 pub length-pack : (t : Taped) → length (pack t).sectors ≡ length t.base
 length-pack t = length-after_all t.events t.base
-
--- a fault of a later call
-pub rose_later : (before mid now : ℕ) → before ≤ mid → Rose mid now → Rose before now
-rose_later before mid now h rose = omega (arith, h, rose)
-
--- a fault of an earlier call
-pub rose_before : (before mid now : ℕ) → Rose before mid → mid ≤ now → Rose before now
-rose_before before mid now rose h = omega (arith, h, rose)

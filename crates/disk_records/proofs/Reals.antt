@@ -28,16 +28,6 @@ parts_of shape at real within is =
     let low : at / 24 < shape.cylinders = omega arith in
     record { sector = omega (arith, e, most, low); cylinder = omega (arith, e, most, low); head = omega (arith, e, most, low); rest = omega (arith, e, most, low); within = low }
 
--- two sectors of one pack have different real addresses
-pub real_of-apart : (shape : Shape) (a b : ℕ) → a < pages_of shape → b < pages_of shape → real_of shape a ≡ real_of shape b → a ≡ b
-real_of-apart shape a b first second same =
-    let x = parts_of shape a (real_of shape b) first same in
-    let y = parts_of shape b (real_of shape b) second (λ i. real_of shape b) in
-    let sector : a % 12 ≡ b % 12 = sym x.sector ∙ y.sector in
-    let head : a / 12 % 2 ≡ b / 12 % 2 = sym x.head ∙ y.head in
-    let cylinder : a / 24 ≡ b / 24 = sym x.cylinder ∙ y.cylinder in
-    omega (arith, sector, head, cylinder)
-
 -- from sector 1 on a real address isn't 0
 pub real_of-above : (shape : Shape) (at : ℕ) → 1 ≤ at → at < pages_of shape → real_of shape at ≢ 0
 real_of-above shape at first within =

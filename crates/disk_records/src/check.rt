@@ -17,12 +17,11 @@ fn find_mismatch(memory: &[u16], disk: &[u16]) -> Option<u16>
     requires small { length memory.now ≤ 256 }
     ensures { result ≡ mismatch_from 0 memory.now disk.now }
 {
-    for i in 0..memory.len() {
-        if !matches(memory[i], disk[i]) {
-            return Some(i as u16);
-        }
-    }
-    None
+    memory
+        .iter()
+        .zip(disk)
+        .position(|(word, on_disk)| !matches(*word, *on_disk))
+        .map(|place| place as u16)
 }
 
 /// A record's first word that doesn't match, as its part and word, where the act is Check.
@@ -34,10 +33,7 @@ fn mismatch_in(part: u8, act: Act, memory: &[u16], disk: &[u16]) -> Option<(u8, 
     match act {
         Act::Read => None,
         Act::Write => None,
-        Act::Check => match find_mismatch(memory, disk) {
-            Some(word) => Some((part, word)),
-            None => None,
-        },
+        Act::Check => find_mismatch(memory, disk).map(|word| (part, word)),
     }
 }
 

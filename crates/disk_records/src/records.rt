@@ -12,6 +12,15 @@ pub struct Sector {
     pub value: [u16; 256],
 }
 
+impl Sector {
+    /// A sector of zeros.
+    pub const ZEROS: Sector = Sector {
+        header: [0; 2],
+        label: [0; 8],
+        value: [0; 256],
+    };
+}
+
 /// What a sector command does with one record.
 #[derive(Clone, Copy, Debug, PartialEq, Eq)]
 pub enum Act {
@@ -27,22 +36,27 @@ pub enum Act {
 /// record is written, all later records of the command are. Source: Alto Hardware Manual.
 #[derive(Clone, Copy, Debug, PartialEq, Eq)]
 pub struct Plan {
+    /// What is done with the header.
     pub header: Act,
+    /// What is done with the label.
     pub label: Act,
+    /// What is done with the value.
     pub value: Act,
 }
 
 /// A page of a file: page 0 is the leader page, data pages are numbered from 1.
 #[derive(Clone, Copy, Debug, PartialEq, Eq, PartialOrd, Ord)]
 pub struct Page {
+    /// The file's full name.
     pub fid: Fid,
+    /// Its number in the file.
     pub number: u16,
 }
 
 /// What happens to a machine.
 #[derive(Drop)]
 pub enum Event {
-    /// A record write, whole: part 0 is the header, 1 the label, 2 the value.
+    /// A record write, whole, in the sector at the virtual address `at`: part 0 is the header, 1 the label, 2 the value.
     Wrote { at: u16, part: u8, words: List<u16> },
     /// A byte on the display.
     Shown { byte: u8 },

@@ -195,11 +195,7 @@ fn a_fault_leaves_what_labels_say(rt: HostRuntime) -> Result<(), Fail> {
 #[test]
 fn five_are_counted(rt: HostRuntime) -> Result<(), Fail> {
     let mut disk = sure_machine(rt.alloc(), sectors(rt.alloc())?, b"")?;
-    let mut buf = Sector {
-        header: [0; 2],
-        label: [0; 8],
-        value: [0; 256],
-    };
+    let mut buf = Sector::ZEROS;
     assert_eq!(rt; count_free(&mut disk, &mut buf)?, 5);
     Ok(())
 }

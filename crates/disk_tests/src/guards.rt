@@ -32,12 +32,6 @@ const fn page(high: u16, low: u16, version: u16, number: u16) -> Page {
 
 const FREE: [u16; 8] = [0xFFFF; 8];
 
-const NOTHING: Sector = Sector {
-    header: [0; 2],
-    label: [0; 8],
-    value: [0; 256],
-};
-
 /// A machine where one sector has this label and a value that begins with 1, 2, 3.
 fn machine_with(alloc: Global, at: u16, label: [u16; 8]) -> Result<SureMachine, Fail> {
     let placed = Placed {
@@ -66,11 +60,11 @@ fn pages_are_read(rt: HostRuntime) -> Result<(), Fail> {
     for at in PLACES {
         let mut machine = machine_with(rt.alloc(), at, label(5, PAGE))?;
         assert!(rt; 1 <= at && at < machine.shape().pages());
-        let mut buf = NOTHING;
+        let mut buf = Sector::ZEROS;
         assert!(rt; look(&mut machine, at, &mut buf)?);
         assert!(rt; buf == *machine.sector(at));
 
-        buf = NOTHING;
+        buf = Sector::ZEROS;
         let info = read_page(&mut machine, at, PAGE, &mut buf)?;
         let wanted = PageInfo {
             bytes: 5,
@@ -171,7 +165,7 @@ fn headers_are_looked_at(rt: HostRuntime) -> Result<(), Fail> {
         for (real, label, right) in rows {
             let mut machine = machine_of(alloc, at, real, label)?;
             assert!(rt; 1 <= at && at < machine.shape().pages());
-            let mut buf = NOTHING;
+            let mut buf = Sector::ZEROS;
             assert!(rt; look(&mut machine, at, &mut buf)? == right);
             assert!(rt; buf == *machine.sector(at));
         }
@@ -185,7 +179,7 @@ fn check_refused<R: Abort + AllocGlobal>(rt: &R, row: &Refused) -> Result<(), Fa
     let at = row.at;
     let mut machine = machine_of(rt.alloc(), at, row.real, row.label)?;
     assert!(rt; 1 <= at && at < machine.shape().pages());
-    let mut buf = NOTHING;
+    let mut buf = Sector::ZEROS;
     assert!(rt; read_page(&mut machine, at, row.asked, &mut buf) == Err(wrong));
     assert!(rt; write_value(&mut machine, at, row.asked, &[0; 256]) == Err(wrong));
     assert!(rt; release(&mut machine, at, row.asked) == Err(wrong));

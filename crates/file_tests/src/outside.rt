@@ -1,5 +1,7 @@
 // The outside of a test: real files in its folder, keys from a list, and a display that keeps what it is shown. What calls were
-// made is noted, and each part may fail.
+// made is noted; each part may fail, and calls may be short or interrupted.
+ghost use Rattle.std.specs.Prelude.{◌≤◌, IfOk};
+
 use std::alloc::{AllocError, Allocator, Global};
 use std::cell::{Cell, RefCell};
 use std::fmt::Display;
@@ -8,7 +10,7 @@ use std::io::{BufRead, Error, ErrorKind, Input, Lines, Print, Read, Seek, SeekFr
 use std::rt::Files;
 use std::{fs, io};
 
-/// What fails of an outside.
+/// What fails of an outside, or goes otherwise than a call asks.
 #[derive(Clone, Copy, Debug, PartialEq, Eq)]
 pub enum Broken {
     /// Nothing fails.
@@ -23,6 +25,55 @@ pub enum Broken {
     WriteCall(u64),
     /// One opening of a file fails: that with this number, counted from 0.
     Opening(u64),
+    /// Each read and write call of a file, and each read of keys, does 5 bytes of what it is asked at most.
+    Short,
+    /// Every other read and write call of a file, and every other read of keys, is interrupted by a signal: the first of each.
+    Interrupted,
+}
+
+/// How many bytes a short call does at most: an odd number, so that words are cut too.
+const SHORT_BYTES: usize = 5;
+
+/// How the read and write calls of a file or of a keyboard go.
+#[derive(Clone, Copy)]
+enum Calls {
+    /// As they are asked.
+    Plain,
+    /// Each is short.
+    Short,
+    /// This one is interrupted, and the next one isn't.
+    Interrupted,
+    /// This one isn't interrupted, and the next one is.
+    Resumed,
+}
+
+impl Calls {
+    /// Those of an outside with this fault, before the first.
+    fn of(broken: Broken) -> Calls {
+        match broken {
+            Broken::Short => Calls::Short,
+            Broken::Interrupted => Calls::Interrupted,
+            _ => Calls::Plain,
+        }
+    }
+
+    /// How many bytes the next call does of those that it is asked. Interrupted: none, this time.
+    fn next_length(&mut self, asked: usize) -> io::Result<usize>
+        ensures most { IfOk result (λ length. length ≤ asked) }
+    {
+        match *self {
+            Calls::Plain => Ok(asked),
+            Calls::Short => Ok(asked.min(SHORT_BYTES)),
+            Calls::Interrupted => {
+                *self = Calls::Resumed;
+                Err(Error::from(ErrorKind::Interrupted))
+            }
+            Calls::Resumed => {
+                *self = Calls::Interrupted;
+                Ok(asked)
+            }
+        }
+    }
 }
 
 /// One call of a file, with the place that it seeks, or how many bytes it was to read or write.
@@ -160,6 +211,7 @@ impl<'a> Outside<'a> {
 pub struct Keys<'a> {
     rest: &'a [u8],
     is_broken: bool,
+    calls: Calls,
     log: &'a Log,
 }
 
@@ -169,7 +221,8 @@ impl Read for Keys<'_> {
         if self.is_broken && self.rest.is_empty() {
             return Err(Error::from(ErrorKind::Other));
         }
-        self.rest.read(buf)
+        let length = self.calls.next_length(buf.len())?;
+        self.rest.read(&mut buf[..length])
     }
 }
 
@@ -189,13 +242,15 @@ pub struct Logged<'a> {
     file: File,
     writes: u64,
     failing: Option<u64>,
+    calls: Calls,
     log: &'a Log,
 }
 
 impl Read for Logged<'_> {
     fn read(&mut self, buf: &mut [u8]) -> io::Result<usize> {
         self.log.note_file_call(FileCall::Read(buf.len()))?;
-        self.file.read(buf)
+        let length = self.calls.next_length(buf.len())?;
+        self.file.read(&mut buf[..length])
     }
 }
 
@@ -207,7 +262,8 @@ impl Write for Logged<'_> {
         if self.failing == Some(number) {
             return Err(Error::from(ErrorKind::StorageFull));
         }
-        self.file.write(buf)
+        let length = self.calls.next_length(buf.len())?;
+        self.file.write(&buf[..length])
     }
 
     fn flush(&mut self) -> io::Result<()> {
@@ -255,6 +311,7 @@ impl<'a> Input for Outside<'a> {
         Keys {
             rest: self.keys,
             is_broken: self.broken == Broken::Keyboard,
+            calls: Calls::of(self.broken),
             log: self.log,
         }
     }
@@ -294,6 +351,7 @@ impl<'a> Files for Outside<'a> {
             file: self.opened(how, path)?,
             writes: 0,
             failing,
+            calls: Calls::of(self.broken),
             log: self.log,
         })
     }

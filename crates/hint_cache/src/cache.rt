@@ -13,7 +13,9 @@ const MAX_ENTRIES: usize = 48;
 /// A page, and the virtual address of the sector where it was last seen: a hint.
 #[derive(Clone, Copy, Debug, PartialEq, Eq, Drop)]
 pub struct Entry {
+    /// The page that was seen.
     pub page: Page,
+    /// The virtual address of the sector that it was seen at.
     pub at: u16,
 }
 
@@ -124,8 +126,6 @@ fn put_first(entries: &mut Vec<Entry>, page: Page, at: u16) -> Result<(), Memory
 {
     take_out(entries, page);
     entries.truncate(MAX_ENTRIES - 1);
-    match entries.insert(0, Entry { page, at }) {
-        Ok(()) => Ok(()),
-        Err(_) => Err(Memory),
-    }
+    entries.insert(0, Entry { page, at })?;
+    Ok(())
 }

@@ -34,7 +34,7 @@ impl BitTable {
         ensures bits { IfOk result (λ table. table ≡ replicate pages true) }
         ensures sized { IfOk result (λ table. length table ≡ pages) }
     {
-        let bits = vec![in alloc; true; pages as usize].map_err(|_| Memory)?;
+        let bits = vec![in alloc; true; pages as usize]?;
         Ok(BitTable { bits })
     }
 
@@ -81,11 +81,7 @@ impl BitTable {
     fn digit(&self, at: usize) -> u16
         ensures { result ≡ digit_at self.now at }
     {
-        match self.bits.get(at) {
-            Some(true) => 1,
-            Some(false) => 0,
-            None => 0,
-        }
+        u16::from(self.bits.get(at).copied().unwrap_or(false))
     }
 
     /// Marks the sector at this address as busy or free.

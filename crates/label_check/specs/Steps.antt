@@ -5,7 +5,9 @@ use Rattle.disk_records.specs.Events.{IsFirstOf}
 use Rattle.disk_records.specs.Packs.{label_found}
 use Rattle.disk_records.specs.Tapes.{Taped, pack, added, capped}
 use Rattle.label_check.specs.declared.errors.GuardError.{GuardError}
-use Rattle.label_check.specs.declared.errors.GuardError.TheVariants.{Memory}
+use Rattle.label_check.specs.declared.errors.GuardError.TheVariants.{DiskFault, Memory}
+use Rattle.label_check.specs.declared.errors.LookError.{LookError}
+use Rattle.label_check.specs.declared.errors.LookError.TheVariants as look
 use Rattle.label_check.specs.Guarded.{IfWrong}
 
 -- a sector command that finds no mismatch and does these record writes, or some first ones of them
@@ -22,3 +24,8 @@ pub record Refused (at : ℕ) (old new : Taped) (error : GuardError) : Type 0 wh
   pub label : IfWrong {T = Unit {0}} (Err error) (λ found. found ≡ label_found (pack old) at)
   pub want : error ≡ Memory → ⊥
   pub runs : new.runs ≡ capped (old.runs + 1)
+
+-- the error of a sector that wasn't read
+abbrev pub error_of_look : LookError → GuardError
+error_of_look look.DiskFault = DiskFault
+error_of_look look.Memory = Memory

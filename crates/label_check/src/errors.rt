@@ -1,4 +1,8 @@
 // What guarded commands answer.
+ghost use Rattle.std.specs.Prelude.{◌≡◌};
+ghost use Rattle.label_check.specs.declared.errors.GuardError.{GuardError};
+ghost use Rattle.label_check.specs.declared.errors.LookError.{LookError};
+ghost use Rattle.label_check.specs.Steps.{error_of_look};
 
 /// What a label says beside the page that it names: words 3, 0 and 1.
 #[derive(Clone, Copy, Debug, PartialEq, Eq)]
@@ -32,4 +36,15 @@ pub enum LookError {
     DiskFault,
     /// No memory was left.
     Memory,
+}
+
+impl From<LookError> for GuardError {
+    ghost from_gives = { λ error refusal. refusal ≡ error_of_look error };
+
+    fn from(error: LookError) -> Self {
+        match error {
+            LookError::DiskFault => GuardError::DiskFault,
+            LookError::Memory => GuardError::Memory,
+        }
+    }
 }

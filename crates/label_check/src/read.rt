@@ -53,11 +53,8 @@ pub(crate) fn look_for<D: Disk>(
     ensures guarded { IsTrue D.told → Guarded (Carries at page) at [] 1 (D.tape disk.old) (D.tape disk.new) result }
     ensures holds { IsTrue D.told → OnOk result (buf.new ≡ sector_at (pack (D.tape disk.old)) at) }
 {
-    match look(disk, at, buf) {
-        Ok(true) => {}
-        Ok(false) => return Err(GuardError::Wrong { found: None }),
-        Err(LookError::DiskFault) => return Err(GuardError::DiskFault),
-        Err(LookError::Memory) => return Err(GuardError::Memory),
+    if !look(disk, at, buf)? {
+        return Err(GuardError::Wrong { found: None });
     }
     if page_of(&buf.label) == Some(page) {
         Ok(())

@@ -7,9 +7,9 @@ ghost use Rattle.disk_records.specs.Tapes.{DiskAlone, Rose};
 ghost use Rattle.label_check.specs.Guarded.{IsFree, Guarded};
 ghost use Rattle.label_check.specs.Steps.{Refused};
 
+use crate::GuardError;
 use crate::read::look;
 use crate::write::{WRITE_LABEL, WRITE_VALUE, finish};
-use crate::{GuardError, LookError};
 use disk_records::{Disk, DiskError, Sector, Shape};
 
 /// What a free label is checked against. The three words that make a label free aren't 0, so the disk compares each of them;
@@ -42,8 +42,7 @@ fn refusal<D: Disk>(disk: &mut D, at: u16, buf: &mut Sector) -> GuardError
             found: Some(buf.label),
         },
         Ok(false) => GuardError::Wrong { found: None },
-        Err(LookError::DiskFault) => GuardError::DiskFault,
-        Err(LookError::Memory) => GuardError::Memory,
+        Err(error) => GuardError::from(error),
     }
 }
 

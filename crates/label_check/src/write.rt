@@ -27,15 +27,6 @@ pub(crate) const WRITE_LABEL: Plan = Plan {
     value: Act::Write,
 };
 
-/// A sector with no words but zeros, to be read to.
-fn empty_sector() -> Sector {
-    Sector {
-        header: [0; 2],
-        label: [0; 8],
-        value: [0; 256],
-    }
-}
-
 /// The second sector command of a guarded call, on a sector that matches. Wrong comes where the disk isn't told and answers
 /// that it doesn't.
 pub(crate) fn finish<D: Disk>(
@@ -72,7 +63,7 @@ pub fn write_value<D: Disk>(
     ensures fault { IsErrOf result GuardError.DiskFault → Rose (D.tape disk.old).disk_faults (D.tape disk.new).disk_faults }
     ensures guarded { IsTrue D.told → Guarded (Carries at page) at (value_writes at value.now) 2 (D.tape disk.old) (D.tape disk.new) result }
 {
-    let mut buf = empty_sector();
+    let mut buf = Sector::ZEROS;
     look_for(disk, at, page, &mut buf)?;
     buf.value = *value;
     finish(disk, at, WRITE_VALUE, &mut buf)
@@ -93,7 +84,7 @@ pub fn relabel<D: Disk>(
     ensures fault { IsErrOf result GuardError.DiskFault → Rose (D.tape disk.old).disk_faults (D.tape disk.new).disk_faults }
     ensures guarded { IsTrue D.told → Guarded (Carries at page) at (relabel_writes at label (sector_at (pack (D.tape disk.old)) at).value) 2 (D.tape disk.old) (D.tape disk.new) result }
 {
-    let mut buf = empty_sector();
+    let mut buf = Sector::ZEROS;
     look_for(disk, at, page, &mut buf)?;
     buf.label = label;
     finish(disk, at, WRITE_LABEL, &mut buf)
@@ -108,7 +99,7 @@ pub fn release<D: Disk>(disk: &mut D, at: u16, page: Page) -> Result<(), GuardEr
     ensures fault { IsErrOf result GuardError.DiskFault → Rose (D.tape disk.old).disk_faults (D.tape disk.new).disk_faults }
     ensures guarded { IsTrue D.told → Guarded (Carries at page) at (release_writes at) 2 (D.tape disk.old) (D.tape disk.new) result }
 {
-    let mut buf = empty_sector();
+    let mut buf = Sector::ZEROS;
     look_for(disk, at, page, &mut buf)?;
     buf.label = [0xFFFF; 8];
     buf.value = [0xFFFF; 256];

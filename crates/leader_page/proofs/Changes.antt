@@ -7,7 +7,8 @@ use Rattle.alto_words.specs.Names.{is_stored_name}
 use Rattle.pack_model.specs.Leaders.{Leader, is_readable, leader_name, leader_words}
 use Rattle.pack_model.specs.PageWords.{name_words, titled_value, stamped_value}
 use Rattle.leader_page.specs.Laws.{SaysTitled, SaysStamped}
-use Rattle.leader_page.proofs.Names.{stored-fits, length-name_words, is_readable-named}
+use Rattle.alto_words.proofs.Names.{is_stored_name-fits}
+use Rattle.leader_page.proofs.Names.{length-name_words, is_readable-named}
 use Rattle.leader_page.proofs.Values.{in_words, leader_of-in_words, leader_name-named, of_halves}
 
 -- ---- another name, in a value by its first six words and the others
@@ -16,7 +17,7 @@ module _ (a b c d e g : ℕ) (t name : List ℕ) (stored : is_stored_name name �
   first words = a ∷ b ∷ c ∷ d ∷ e ∷ g ∷ words
 
   size : length (name_words name) ≡ 20
-  size = length-name_words name (stored-fits name stored)
+  size = length-name_words name (is_stored_name-fits name stored)
 
   value_is : titled_value name (first t) ≡ first (name_words name ++ drop 20 t)
   value_is = ap (λ (n : ℕ). first (name_words name) ++ drop (6 + n) (first t)) size

@@ -7,6 +7,7 @@ use Rattle.std.proofs.lemmas.List.{length-append, length-replicate, drop-replica
 use Rattle.std.proofs.lemmas.Bool.{eq-eqb}
 use Rattle.std.proofs.lemmas.Bool.Decides.{nat_tests}
 use Rattle.alto_words.specs.Names.{is_name_character, is_stored_name}
+use Rattle.alto_words.proofs.Names.{is_stored_name-fits, is_stored_name-characters}
 use Rattle.disk_records.specs.Words.{word}
 use Rattle.pack_model.specs.Bytes.{bytes_of, words_of}
 use Rattle.pack_model.specs.Leaders.{name_bytes, spelled_name, is_readable}
@@ -14,14 +15,6 @@ use Rattle.pack_model.specs.PageWords.{filled, name_words}
 use Rattle.leader_page.proofs.Bytes.{length-words_of, bytes_of-words_of, AreBytes, AreBytes-append, AreBytes-zeros}
 
 -- ---- stored names
-pub stored-fits : (name : List ℕ) → is_stored_name name ≡ true → length name ≤ 39
-unfolding is_stored_name
-stored-fits name stored = grind (arith, nat_tests)
-
-stored-all : (name : List ℕ) → is_stored_name name ≡ true → list_all is_name_character name ≡ true
-unfolding is_stored_name
-stored-all name stored = grind (arith, nat_tests)
-
 character-below : (c : ℕ) → is_name_character c ≡ true → c < 256
 character-below c h = grind (arith, nat_tests)
 
@@ -62,11 +55,11 @@ length-name_words name fits =
 
 pub bytes_of-name_words : (name : List ℕ) → is_stored_name name ≡ true → bytes_of (name_words name) ≡ spelled_bytes name
 bytes_of-name_words name stored =
-    let fits = stored-fits name stored in
+    let fits = is_stored_name-fits name stored in
     let small : length name < 256 = omega (arith, fits) in
     ap (λ (b : List ℕ). bytes_of (words_of b)) (filled-name name)
     ∙ bytes_of-words_of 20 (spelled_bytes name) (length-spelled_bytes name fits)
-    (small, AreBytes-append name (replicate (39 - length name) 0) (characters-are_bytes name (stored-all name stored)) (AreBytes-zeros (39 - length name)))
+    (small, AreBytes-append name (replicate (39 - length name) 0) (characters-are_bytes name (is_stored_name-characters name stored)) (AreBytes-zeros (39 - length name)))
 
 -- ---- words that have a name's words in the place of the name
 module _ (words name : List ℕ) (stored : is_stored_name name ≡ true) (named : take 20 (drop 6 words) ≡ name_words name) where

@@ -8,7 +8,8 @@ use Rattle.disk_records.specs.Words.{double}
 use Rattle.pack_model.specs.Leaders.{Leader, spelled_name, is_readable, leader_name, leader_words, leader_of}
 use Rattle.pack_model.specs.PageWords.{name_words, leader_value}
 use Rattle.leader_page.specs.Pages.{Says}
-use Rattle.leader_page.proofs.Names.{stored-fits, length-name_words, spelled_name-named, is_readable-named}
+use Rattle.alto_words.proofs.Names.{is_stored_name-fits}
+use Rattle.leader_page.proofs.Names.{length-name_words, spelled_name-named, is_readable-named}
 
 -- the leader of the words that say something
 abbrev pub in_words : Fid → List ℕ → Leader
@@ -33,7 +34,7 @@ of_halves n = omega arith
 -- ---- what the words of a leader say
 module _ (l : Leader) (hints : List ℕ) (stored : is_stored_name l.name ≡ true) (whole : length l.rest ≡ 220) where
   size : length (name_words l.name) ≡ 20
-  size = length-name_words l.name (stored-fits l.name stored)
+  size = length-name_words l.name (is_stored_name-fits l.name stored)
 
   both : length (name_words l.name ++ l.rest) ≡ 240
   both = length-append (name_words l.name) l.rest ∙ omega (arith, size, whole)

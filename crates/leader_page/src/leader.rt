@@ -75,10 +75,7 @@ impl Leader {
         ensures leader { said result ≡ leader_of fid value.now }
         ensures hints { result.hints ≡ drop 246 value.now }
     {
-        let name = match read_name(value) {
-            Some(name) => name,
-            None => Name::lost(fid.serial()),
-        };
+        let name = read_name(value).unwrap_or_else(|| Name::lost(fid.serial()));
         under(name, value)
     }
 

@@ -1,10 +1,9 @@
 -- Names that are given, and the first one that isn't taken.
-use Rattle.std.proofs.Common.{◌≡◌, ℕ, zero, suc, ◌+◌, ◌<◌, ◌≤◌, Bool, true, false, cond, List, [], ◌∷◌, ◌++◌, length, take, get_or, map, None, Result, refl, sym, ap, subst, ◌∙◌, arith, add-one}
-use Rattle.std.specs.Prelude.{◌&&◌, ◌||◌, OnOk}
+use Rattle.std.proofs.Common.{◌≡◌, ℕ, zero, suc, ◌+◌, ◌<◌, ◌≤◌, Bool, true, false, List, [], ◌∷◌, ◌++◌, length, take, get_or, map, refl, sym, ap, ◌∙◌, arith, add-one}
+use Rattle.std.specs.Prelude.{◌&&◌, ◌||◌}
 use Rattle.std.specs.List.{list_any}
 use Rattle.std.specs.BTreeSet.{contains}
-use Rattle.std.specs.FinMap.{FinMap, entries, get, insert, contains_key}
-use Rattle.std.proofs.lemmas.Result.{on_ok_weaker}
+use Rattle.std.specs.FinMap.{FinMap, entries}
 use Rattle.std.proofs.lemmas.List.{take_more, map-append}
 use Rattle.alto_words.specs.declared.fid.Fid.{Fid}
 use Rattle.alto_words.specs.Fid.{fid_cmp, is_fid, sys_dir}
@@ -17,7 +16,6 @@ use Rattle.pack_reading.specs.declared.names.Names.{Names}
 use Rattle.pack_reading.specs.declared.shown.ShownFile.{ShownFile}
 use Rattle.pack_reading.specs.Homes.{place_cmp, StandsFor}
 use Rattle.pack_reading.specs.Shows.{seen_file}
-use Rattle.pack_reading.proofs.Tests.{none_of}
 
 -- a name that no system file has is taken where an entry stands in SysDir
 pub taken_is : (names : Names) (name : List ℕ) → (is_same_name name sys_dir_name || is_same_name name descriptor_name) ≡ false → (homes : FinMap fid_cmp Home) → StandsFor names homes → contains place_cmp names.taken (record { directory = sys_dir; name = name }) ≡ is_taken homes name
@@ -70,21 +68,6 @@ unfolding chosen most_suffixes
 chosen_is homes name = refl
 
 -- ---- files one after another
--- a file that has a name
-pub adopted_has : (names : Names) (homes : FinMap fid_cmp Home) (e : Fid × Seen) → StandsFor names homes → contains fid_cmp names.named e.0 ≡ true → StandsFor names (adopted homes e)
-adopted_has names homes e stands has =
-    let is : homes ≡ adopted homes e = sym (ap (λ b. cond b homes (insert homes e.0 (record { dir = sys_dir; name = chosen homes e.1.leader.name }))) (sym (stands.named e.0) ∙ has)) in
-    subst (StandsFor names) is stands
-
--- one that has none
-pub adopted_new : {T E : Type 0} (r : Result T E) (old new : Names) (homes : FinMap fid_cmp Home) (e : Fid × Seen) (name : List ℕ) → StandsFor old homes → contains fid_cmp old.named e.0 ≡ false → name ≡ chosen homes e.1.leader.name
-    → (StandsFor old homes → get homes e.0 ≡ None → OnOk r (StandsFor new (insert homes e.0 (record { dir = sys_dir; name = name })))) → OnOk r (StandsFor new (adopted homes e))
-adopted_new r old new homes e name stands nameless is kept =
-    let absent : contains_key homes e.0 ≡ false = sym (stands.named e.0) ∙ nameless in
-    let same : insert homes e.0 (record { dir = sys_dir; name = name }) ≡ adopted homes e =
-    ap (λ n. insert homes e.0 (record { dir = sys_dir; name = n })) is ∙ sym (ap (λ b. cond b homes (insert homes e.0 (record { dir = sys_dir; name = chosen homes e.1.leader.name }))) absent) in
-    on_ok_weaker r (subst (StandsFor new) same) (kept stands (none_of (get homes e.0) absent))
-
 pub settled-push : (homes : FinMap fid_cmp Home) (es : List (Fid × Seen)) (e : Fid × Seen) → settled homes (es ++ e ∷ []) ≡ adopted (settled homes es) e
 settled-push homes [] e = refl
 settled-push homes (x ∷ es) e = settled-push (adopted homes x) es e

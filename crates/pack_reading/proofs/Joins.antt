@@ -1,12 +1,23 @@
 -- The bytes of a file, joined page by page.
-use Rattle.std.proofs.Common.{◌≡◌, ℕ, zero, suc, ◌+◌, ◌<◌, ◌≤◌, List, [], ◌++◌, length, Option, Some, None, refl, sym, ◌∙◌, ap, arith, add-one}
-use Rattle.std.proofs.lemmas.Bool.{lt-ltb, le-ltb}
-use Rattle.std.proofs.lemmas.List.{append_assoc, append-nil}
+use Rattle.std.proofs.Common.{◌≡◌, ℕ, zero, suc, ◌+◌, ◌<◌, ◌≤◌, Bool, true, false, List, [], ◌∷◌, ◌++◌, length, Option, Some, None, refl, sym, ◌∙◌, ap, arith, add-one}
+use Rattle.std.specs.Prelude.{◌&&◌, ◌==◌}
+use Rattle.std.specs.declared.cmp.Ordering.TheVariants.{Less}
+use Rattle.std.specs.Ordering.{is_eq}
+use Rattle.std.specs.List.{AllByRecursion}
+use Rattle.std.specs.List.Sorted.{IsStrictlySortedBy}
+use Rattle.std.specs.Map.{keys_of}
 use Rattle.std.specs.BTreeMap.{get}
+use Rattle.std.proofs.lemmas.Bool.{lt-ltb, le-ltb}
+use Rattle.std.proofs.lemmas.Bool.Decides.{nat_tests}
+use Rattle.std.proofs.lemmas.List.{append_assoc, append-nil}
 use Rattle.alto_words.specs.declared.fid.Fid.{Fid}
+use Rattle.alto_words.specs.Fid.{fid_cmp, is_fid}
+use Rattle.disk_records.specs.declared.records.Page.{Page}
 use Rattle.pack_model.specs.Files.{joined, most_pages}
+use Rattle.pack_laws.proofs.Keys.{is_fid-sym}
 use Rattle.pack_reading.specs.declared.swept.Pages.{Pages}
-use Rattle.pack_reading.specs.Kept.{page_cmp, page_kept, bytes_kept}
+use Rattle.pack_reading.specs.Kept.{page_cmp, page_kept, bytes_kept, KeepsOthers}
+use Rattle.pack_reading.proofs.Tests.{tie_pages}
 
 -- ---- the first of some pages
 joined_none : (k : ℕ) (pages : ℕ → Option (List ℕ)) → pages 0 ≡ None → joined (suc k) pages ≡ []
@@ -89,3 +100,49 @@ all_pages = refl
 
 pub kept_all : (pages : Pages) (f : Fid) → joined 65535 (page_kept pages f) ≡ bytes_kept pages f
 kept_all pages f = ap (λ (k : ℕ). joined k (page_kept pages f)) all_pages
+
+-- ---- pages are taken out
+no_right : (a b : Bool) → b ≡ false → (a && b) ≡ false
+no_right true b e = e
+no_right false b e = refl
+
+-- one page is: all others stay
+module _ (old new : Pages) (p : Page) (stays : (q : Page) → is_eq (page_cmp p q) ≡ false → get page_cmp new.kept q ≡ get page_cmp old.kept q) where
+  pub others_left : KeepsOthers p.fid old new
+  others_left f apart n = stays (record { fid = f; number = suc n }) (tie_pages p f (suc n) ∙ ap (λ b. b && suc n == p.number) apart)
+
+  pub pages_ahead : (f : Fid) (n : ℕ) → (suc n ≡ p.number → ⊥) → page_kept new f n ≡ page_kept old f n
+  pages_ahead f n other = stays (record { fid = f; number = suc n }) (tie_pages p f (suc n) ∙ no_right (is_fid f p.fid) (suc n == p.number) (grind (arith, nat_tests, other)))
+
+-- the pages of these files are all left, and each file stands among them once
+pub record AreLeft {X : Type 0} (old now : Pages) (es : List (Fid × X)) : Type 0 where
+  pub ordered : IsStrictlySortedBy fid_cmp (keys_of es)
+  pub pages : AllByRecursion (λ f. (n : ℕ) → page_kept now f n ≡ page_kept old f n) (keys_of es)
+
+all_left : (pages : Pages) (ks : List Fid) → AllByRecursion (λ f. (n : ℕ) → page_kept pages f n ≡ page_kept pages f n) ks
+all_left pages [] = tt
+all_left pages (k ∷ ks) = (λ n. refl, all_left pages ks)
+
+-- those of all of them at first
+pub left_first : {X : Type 0} (pages : Pages) (es : List (Fid × X)) → IsStrictlySortedBy fid_cmp (keys_of es) → AreLeft pages pages es
+left_first pages es ordered = record { ordered = ordered; pages = all_left pages (keys_of es) }
+
+below_apart : (k f : Fid) → fid_cmp k f ≡ Less → is_fid f k ≡ false
+below_apart k f less = is_fid-sym f k ∙ ap is_eq less
+
+left_behind : (old now next : Pages) (k : Fid) (ks : List Fid) → KeepsOthers k now next → AllByRecursion (λ f. fid_cmp k f ≡ Less) ks
+    → AllByRecursion (λ f. (n : ℕ) → page_kept now f n ≡ page_kept old f n) ks → AllByRecursion (λ f. (n : ℕ) → page_kept next f n ≡ page_kept old f n) ks
+left_behind old now next k [] others above left = tt
+left_behind old now next k (f ∷ ks) others above left = (λ n. others f (below_apart k f above.0) n ∙ left.0 n, left_behind old now next k ks others above.1 left.1)
+
+-- the bytes of the first are those that it had
+pub bytes_left : {X : Type 0} (old now : Pages) (e : Fid × X) (es : List (Fid × X)) → AreLeft old now (e ∷ es) → bytes_kept now e.0 ≡ bytes_kept old e.0
+bytes_left old now e es left = ap (joined most_pages) (λ i n. left.pages.0 n i)
+
+-- and then those behind it are left
+pub left_more : {X : Type 0} (old now next : Pages) (e : Fid × X) (es : List (Fid × X)) → AreLeft old now (e ∷ es) → KeepsOthers e.0 now next → AreLeft old next es
+unfolding IsStrictlySortedBy
+left_more old now next e es left others = record {
+  ordered = left.ordered.1;
+  pages = left_behind old now next e.0 (keys_of es) others left.ordered.0 left.pages.1;
+}

@@ -32,46 +32,13 @@ named : (label : List ℕ) (page : Page) (b : Bool) → cond b (Some (record { f
 named label page true e = refl
 named label page false e = cc
 
-module _ (label value : List ℕ) where
-  -- a page that a label names has 512 bytes at most
-  pub page_few : (page : Page) → page_of label ≡ Some page → word label 3 ≤ 512
-  page_few page is = few_bytes (tag label) (named label page (in_range (tag label)) is)
-
-  -- a label that names a page shows it
-  pub page_shows : (page : Page) → page_of label ≡ Some page → tag_sight (tag label) value ≡ page_sight page.fid page.number (word label 3) value
-  page_shows page is = by (in_range (tag label)) is
-    where
-      by : (b : Bool) → cond b (Some (record { fid = (tag label).fid; number = (tag label).page })) None ≡ Some page → cond b (page_sight (tag label).fid (tag label).page (tag label).bytes value) (cond (is_free (tag label)) free stray) ≡ page_sight page.fid page.number (word label 3) value
-      by true e = let one : record { fid = (tag label).fid; number = (tag label).page } ≡ page = cc in ap (λ (p : Page). page_sight p.fid p.number (word label 3) value) one
-      by false e = cc
-
-  -- one that names none shows none
-  pub nothing_shows : (swept : Swept) → page_of label ≡ None → KeepsSight (tag_sight (tag label) value) swept swept
-  nothing_shows swept is = by (in_range (tag label)) (is_free (tag label)) is
-    where
-      by : (b c : Bool) → cond {A = Option Page} b (Some (record { fid = (tag label).fid; number = (tag label).page })) None ≡ None → KeepsSight (cond b (page_sight (tag label).fid (tag label).page (tag label).bytes value) (cond c free stray)) swept swept
-      by true c e = absurd cc
-      by false true e = record { leaders = λ f. sym (or_none _); pages = λ f n. sym (or_none _) }
-      by false false e = record { leaders = λ f. sym (or_none _); pages = λ f n. sym (or_none _) }
+-- a page that a label names has 512 bytes at most
+pub page_few : (label : List ℕ) (page : Page) → page_of label ≡ Some page → word label 3 ≤ 512
+page_few label page is = few_bytes (tag label) (named label page (in_range (tag label)) is)
 
 -- ---- what is kept of a page
-answer_map : {X Y : Type 0} (g : X → Y) (b : Bool) (x : X) → cond b (Some (g x)) None ≡ option_map g (cond b (Some x) None)
-answer_map g true x = refl
-answer_map g false x = refl
-
 suc-eqb : (n k : ℕ) → (suc n == suc k) ≡ (n == k)
 suc-eqb n k = grind (arith, nat_tests)
-
--- its leader page
-pub leader_keeps : (old : Swept) (new : Leaders) (f : Fid) (number bytes : ℕ) (value : List ℕ) (l : Leader) → number ≡ 0 → l ≡ plain_leader (leader_of f value)
-    → ((g : Fid) → leader_kept new g ≡ option_or (leader_kept old.leaders g) (cond (is_fid g f) (Some l) None))
-    → KeepsSight (page_sight f number bytes value) old (record { leaders = new; pages = old.pages })
-leader_keeps old new f number bytes value l zeroth is kept =
-    subst (λ n. KeepsSight (page_sight f n bytes value) old (record { leaders = new; pages = old.pages })) (sym zeroth)
-    (record {
-      leaders = λ g. kept g ∙ ap (λ x. option_or (leader_kept old.leaders g) (cond (is_fid g f) (Some x) None)) is ∙ ap (option_or (leader_kept old.leaders g)) (answer_map plain_leader (is_fid g f) (leader_of f value));
-      pages = λ g n. sym (or_none (page_kept old.pages g n));
-    })
 
 -- a data page
 pub page_keeps : (old : Swept) (new : Pages) (f : Fid) (number count : ℕ) (value bytes : List ℕ) → (number ≡ 0 → ⊥) → bytes ≡ take count (bytes_of value)

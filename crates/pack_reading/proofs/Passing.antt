@@ -8,7 +8,7 @@ use Rattle.std.specs.Map.{lookup}
 use Rattle.std.specs.FinMap as finite
 use Rattle.std.specs.FinMap.{FinMap, find, entries, entries-insert, get-entries, insert, contains_key}
 use Rattle.std.proofs.lemmas.Bool.{and_parts}
-use Rattle.std.proofs.lemmas.Bool.Decides.{eqb_tells, leb_tells}
+use Rattle.std.proofs.lemmas.Bool.Decides.{leb_tells}
 use Rattle.alto_words.specs.declared.fid.Fid.{Fid}
 use Rattle.alto_words.specs.Fid.{fid_cmp, is_fid, sys_dir}
 use Rattle.alto_words.specs.Names.{is_same_name, suffixed}
@@ -81,13 +81,6 @@ passed_kept homes old new name first count is most fits taken updates other star
         is other start few k from (omega (arith, less, counted))
 
 -- ---- suffixes that are taken, one after another
--- one more
-pub taken_more : (homes : FinMap fid_cmp Home) (name : List ℕ) (first end : ℕ) → AreTaken homes name first end → is_taken homes (suffixed name end) ≡ true → AreTaken homes name first (end + 1)
-taken_more homes name first end taken here k from less = elim (eqb_tells k end) as (λ _. is_taken homes (suffixed name k) ≡ true) [
-  | inl last ↦ ap (λ n. is_taken homes (suffixed name n)) last.1 ∙ here
-  | inr before ↦ taken k from (omega (arith, less, before.1))
-]
-
 -- more of them, behind those
 pub taken_on : (homes : FinMap fid_cmp Home) (name : List ℕ) (first next end : ℕ) → AreTaken homes name first next → AreTaken homes name next end → AreTaken homes name first end
 taken_on homes name first next end before behind k from less = elim (leb_tells next k) as (λ _. is_taken homes (suffixed name k) ≡ true) [

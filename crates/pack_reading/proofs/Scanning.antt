@@ -23,9 +23,6 @@ use Rattle.pack_reading.proofs.Slots.{slots-none, slots-some}
 
 -- ---- which entries may stand
 module _ (lives : Fid → Bool) (e : Naming) where
-  pub may_not : is_system e.fid ≡ true → false ≡ may_show lives e
-  may_not system = sym (may_show_is lives e ∙ ap (λ b. not b && (lives e.fid && cond (is_fid e.dir sys_dir) (not (is_same_name e.name sys_dir_name || is_same_name e.name descriptor_name)) (not (is_directory e.fid)))) system)
-
   pub may_in_root : is_system e.fid ≡ false → lives e.fid ≡ true → is_fid e.dir sys_dir ≡ true → not (is_same_name e.name sys_dir_name || is_same_name e.name descriptor_name) ≡ may_show lives e
   may_in_root other alive root = sym (
       may_show_is lives e
@@ -37,27 +34,6 @@ module _ (lives : Fid → Bool) (e : Naming) where
       may_show_is lives e
       ∙ (λ i. not (other i) && (alive i && cond (away i) (not (is_same_name e.name sys_dir_name || is_same_name e.name descriptor_name)) (not (is_directory e.fid))))
       )
-
--- ---- one entry
-module _ (lives : Fid → Bool) (e : Entry) where
-  -- an entry that isn't kept: by itself, by its file, by its place
-  passed : (homes : FinMap fid_cmp Home) (a b c : Bool) → may_show lives (naming_at e) ≡ a → contains_key homes e.fid ≡ b → is_taken_in homes e.place.directory e.place.name ≡ c → (a && not b && not c) ≡ false → homes ≡ considered lives homes (naming_at e)
-  passed homes a b c p q r fails = sym (
-      (λ i. cond (p i && not (q i) && not (r i)) (insert homes e.fid (home_at e.place)) homes)
-      ∙ ap (λ t. cond t (insert homes e.fid (home_at e.place)) homes) fails
-      )
-
-  pub considered_passed : (names : Names) (homes : FinMap fid_cmp Home) (a b c : Bool) → may_show lives (naming_at e) ≡ a → contains fid_cmp names.named e.fid ≡ b → contains place_cmp names.taken e.place ≡ c → (a && not b && not c) ≡ false → StandsFor names homes → StandsFor names (considered lives homes (naming_at e))
-  considered_passed names homes a b c p q r fails stands = subst (StandsFor names) (passed homes a b c p (sym (stands.named e.fid) ∙ q) (sym (stands.taken e.place.directory e.place.name) ∙ r) fails) stands
-
-  -- one that is
-  pub considered_kept : {T E : Type 0} (result : Result T E) (old new : Names) (homes : FinMap fid_cmp Home) → may_show lives (naming_at e) ≡ true → contains fid_cmp old.named e.fid ≡ false → contains place_cmp old.taken e.place ≡ false
-      → StandsFor old homes → (StandsFor old homes → get homes e.fid ≡ None → OnOk result (StandsFor new (insert homes e.fid (home_at e.place)))) → OnOk result (StandsFor new (considered lives homes (naming_at e)))
-  considered_kept result old new homes may nameless free stands kept =
-      let absent = sym (stands.named e.fid) ∙ nameless in
-      let untaken = sym (stands.taken e.place.directory e.place.name) ∙ free in
-      let is : insert homes e.fid (home_at e.place) ≡ considered lives homes (naming_at e) = sym (λ i. cond (may i && not (absent i) && not (untaken i)) (insert homes e.fid (home_at e.place)) homes) in
-      on_ok_weaker result (subst (StandsFor new) is) (kept stands (none_of (get homes e.fid) absent))
 
 -- ---- many entries
 pub fold-append : {X Y : Type 0} (g : Y → X → Y) (z : Y) (xs ys : List X) → fold g z (xs ++ ys) ≡ fold g (fold g z xs) ys
@@ -76,9 +52,6 @@ all_namings-push (x ∷ files) file = ap (λ l. namings_of x ++ l) (all_namings-
 -- ---- directories
 pub directory_namings : (file : Found) → is_directory file.fid ≡ true → namings_of file ≡ namings_in file.fid (slots (words_of file.bytes))
 directory_namings file is = ap (λ b. body_namings file.fid (cond b (items_of (slots (words_of file.bytes))) (data_of file.bytes))) is
-
-pub no_namings : (file : Found) → is_directory file.fid ≡ false → namings_of file ≡ []
-no_namings file is = ap (λ b. body_namings file.fid (cond b (items_of (slots (words_of file.bytes))) (data_of file.bytes))) is
 
 -- ---- a directory's words, slot by slot
 -- so far the scan has come: the entries of the words that are left, considered on from here, come to all of these

@@ -46,7 +46,7 @@ tie_places p q = tie_then (fid_cmp p.directory q.directory) (folded_cmp p.name q
 pub tie_places_back : (p q : Place) → is_eq (place_cmp p q) ≡ (is_fid q.directory p.directory && is_same_name q.name p.name)
 tie_places_back p q = (eq_by_cmp_equiv place_total).symm p q ∙ tie_places q p
 
-tie_pages : (p : Page) (f : Fid) (n : ℕ) → is_eq (page_cmp p (record { fid = f; number = n })) ≡ (is_fid f p.fid && n == p.number)
+pub tie_pages : (p : Page) (f : Fid) (n : ℕ) → is_eq (page_cmp p (record { fid = f; number = n })) ≡ (is_fid f p.fid && n == p.number)
 tie_pages p f n = tie_then (fid_cmp p.fid f) (nat_cmp p.number n) ∙ (λ i. is_fid-sym p.fid f i && tie_numbers p.number n i)
 
 -- ---- answers

@@ -1,11 +1,11 @@
 -- What a sweep keeps, and what it stands for.
-use Rattle.std.specs.Prelude.{◌≡◌, ℕ, suc, Bool, List, replicate, Option}
+use Rattle.std.specs.Prelude.{◌≡◌, ℕ, suc, Bool, false, List, replicate, Option}
 use Rattle.std.specs.declared.cmp.Ordering.{Ordering}
 use Rattle.std.specs.Ordering.{nat_cmp, then_cmp, on}
 use Rattle.std.specs.Option.{option_map, option_or, is_some}
 use Rattle.std.specs.BTreeMap.{get}
 use Rattle.alto_words.specs.declared.fid.Fid.{Fid}
-use Rattle.alto_words.specs.Fid.{fid_cmp}
+use Rattle.alto_words.specs.Fid.{fid_cmp, is_fid}
 use Rattle.disk_records.specs.declared.records.Page.{Page}
 use Rattle.leader_page.specs.declared.leader.Leader.{Leader}
 use Rattle.pack_model.specs.Leaders as model
@@ -54,6 +54,10 @@ found_of f x = record { fid = f; leader = plain_leader x.leader; bytes = x.bytes
 -- the bytes of a file by its kept pages
 abbrev pub bytes_kept : Pages → Fid → List ℕ
 bytes_kept pages f = joined most_pages (page_kept pages f)
+
+-- the pages of all other files stay
+abbrev pub KeepsOthers : Fid → Pages → Pages → Type 0
+KeepsOthers fid old new = (f : Fid) → is_fid f fid ≡ false → (n : ℕ) → page_kept new f n ≡ page_kept old f n
 
 -- a kept leader's file
 abbrev pub found_in : Pages → Fid → Leader → Found

@@ -1,7 +1,7 @@
 // The bytes of files, and the words of directories.
 ghost use Rattle.std.specs.Prelude.{◌≡◌, IfOk};
 ghost use Rattle.pack_model.specs.Bytes.{words_of};
-ghost use Rattle.pack_reading.specs.Kept.{bytes_kept};
+ghost use Rattle.pack_reading.specs.Kept.{bytes_kept, KeepsOthers};
 
 use crate::swept::{PAGE_BYTES, Pages};
 use alto_words::{Fid, List, Memory};
@@ -9,9 +9,11 @@ use byteorder::{BigEndian, ByteOrder};
 use disk_records::Page;
 use std::alloc::Global;
 
-/// The bytes of pages in order, up to and with the first that isn't full, or up to the first that is missing.
-fn join_pages(alloc: Global, pages: &Pages, fid: Fid) -> Result<Vec<u8>, Memory>
-    ensures { IfOk result (λ bytes. bytes.items ≡ bytes_kept pages.now fid) }
+/// The bytes of pages in order, up to and with the first that isn't full, or up to the first that is missing. Each page is taken
+/// out as it is joined, so that its bytes aren't held twice.
+fn join_pages(alloc: Global, pages: &mut Pages, fid: Fid) -> Result<Vec<u8>, Memory>
+    ensures bytes { IfOk result (λ bytes. bytes.items ≡ bytes_kept pages.old fid) }
+    ensures others { KeepsOthers fid pages.old pages.new }
 {
     let mut bytes = Vec::new(alloc);
     for number in 0..u16::MAX {
@@ -19,7 +21,7 @@ fn join_pages(alloc: Global, pages: &Pages, fid: Fid) -> Result<Vec<u8>, Memory>
             fid,
             number: number + 1,
         };
-        let Some(held) = pages.kept.get(&page) else {
+        let Some(held) = pages.kept.remove(&page) else {
             return Ok(bytes);
         };
         bytes.extend_from_slice(held.as_slice())?;
@@ -30,9 +32,10 @@ fn join_pages(alloc: Global, pages: &Pages, fid: Fid) -> Result<Vec<u8>, Memory>
     Ok(bytes)
 }
 
-/// The bytes of a file, with no room behind them.
-pub(crate) fn file_bytes(alloc: Global, pages: &Pages, fid: Fid) -> Result<List<u8>, Memory>
-    ensures { IfOk result (λ bytes. bytes ≡ bytes_kept pages.now fid) }
+/// The bytes of a file, with no room behind them. Its pages are let go.
+pub(crate) fn file_bytes(alloc: Global, pages: &mut Pages, fid: Fid) -> Result<List<u8>, Memory>
+    ensures bytes { IfOk result (λ bytes. bytes ≡ bytes_kept pages.old fid) }
+    ensures others { KeepsOthers fid pages.old pages.new }
 {
     let mut bytes = join_pages(alloc, pages, fid)?;
     bytes.shrink_to_fit();
@@ -43,12 +46,10 @@ pub(crate) fn file_bytes(alloc: Global, pages: &Pages, fid: Fid) -> Result<List<
 pub(crate) fn words_of(alloc: Global, bytes: &[u8]) -> Result<List<u16>, Memory>
     ensures { IfOk result (λ words. words ≡ words_of bytes.now) }
 {
-    let mut words = Vec::new(alloc);
     let count = bytes.len() / 2;
+    let mut words = Vec::with_capacity(alloc, count)?;
     for k in 0..count {
-        words
-            .push(BigEndian::read_u16(&bytes[2 * k..]))
-            .map_err(|_| Memory)?;
+        words.push(BigEndian::read_u16(&bytes[2 * k..]))?;
     }
     Ok(List::from_vec(words))
 }

@@ -13,20 +13,6 @@ use alto_words::{Fid, List, Memory};
 use leader_page::Leader;
 use std::alloc::Global;
 
-/// The directory of all other directories.
-pub(crate) const SYS_DIR: Fid = Fid {
-    high: 0x8000,
-    low: 1,
-    version: 1,
-};
-
-/// The file with the allocation map.
-const DISK_DESCRIPTOR: Fid = Fid {
-    high: 0,
-    low: 2,
-    version: 1,
-};
-
 /// A living file.
 #[derive(Drop)]
 pub(crate) struct Found {
@@ -39,28 +25,26 @@ pub(crate) struct Found {
 pub(crate) fn is_system(fid: Fid) -> bool
     ensures { result ≡ is_system fid }
 {
-    fid == SYS_DIR || fid == DISK_DESCRIPTOR
+    fid == Fid::SYS_DIR || fid == Fid::DISK_DESCRIPTOR
 }
 
-/// The living files, rising by full name. The pages are let go.
+/// The living files, rising by full name. The pages of each are let go as its bytes are joined.
 pub(crate) fn find_files(
     alloc: Global,
     leaders: &Leaders,
-    pages: Pages,
+    mut pages: Pages,
 ) -> Result<List<Found>, Memory>
     ensures files { IfOk result (λ files. files ≡ map (λ e. found_in pages e.0 e.1) leaders.now.kept.entries) }
     ensures ordered { IsOrdered fid_cmp leaders.now.kept }
 {
-    let mut files = Vec::new(alloc);
+    let mut files = Vec::with_capacity(alloc, leaders.kept.len())?;
     for (fid, leader) in &leaders.kept {
-        let bytes = file_bytes(alloc, &pages, *fid)?;
-        files
-            .push(Found {
-                fid: *fid,
-                leader: *leader,
-                bytes,
-            })
-            .map_err(|_| Memory)?;
+        let bytes = file_bytes(alloc, &mut pages, *fid)?;
+        files.push(Found {
+            fid: *fid,
+            leader: *leader,
+            bytes,
+        })?;
     }
     Ok(List::from_vec(files))
 }
@@ -84,10 +68,10 @@ fn show_file(file: Found) -> ShownFile
 pub(crate) fn show_files(alloc: Global, files: List<Found>) -> Result<List<ShownFile>, Memory>
     ensures { IfOk result (λ shown. shown ≡ map shown_of (filter is_shown files)) }
 {
-    let mut shown = Vec::new(alloc);
+    let mut shown = Vec::with_capacity(alloc, files.as_slice().len())?;
     for file in files.into_vec() {
         if !is_system(file.fid) {
-            shown.push(show_file(file)).map_err(|_| Memory)?;
+            shown.push(show_file(file))?;
         }
     }
     Ok(List::from_vec(shown))

@@ -19,22 +19,10 @@ use std::cmp::Ordering;
 use std::collections::BTreeSet;
 
 /// A name in a directory. Two that differ by the case of letters alone are one.
-#[derive(Drop)]
+#[derive(Clone, Copy)]
 pub(crate) struct Place {
     pub(crate) directory: Fid,
     pub(crate) name: Name,
-}
-
-impl Place {
-    /// The same place.
-    fn again(&self) -> Place
-        ensures { result ≡ self.now }
-    {
-        Place {
-            directory: self.directory,
-            name: self.name,
-        }
-    }
 }
 
 impl PartialEq for Place {
@@ -96,7 +84,7 @@ pub(crate) struct Names {
 }
 
 impl Names {
-    /// None. It takes no memory.
+    /// No entries; they take no memory.
     pub(crate) fn new(alloc: Global) -> Names
         ensures { StandsFor result (empty {R = fid_cmp}) }
     {
@@ -125,17 +113,9 @@ impl Names {
     pub(crate) fn add(&mut self, entry: Entry) -> Result<(), Memory>
         ensures { (homes : FinMap fid_cmp Home) → StandsFor self.old homes → get homes entry.fid ≡ None → OnOk result (StandsFor self.new (insert homes entry.fid (home_at entry.place))) }
     {
-        let fid = entry.fid;
-        let place = entry.place.again();
-        if self.named.insert(fid).is_err() {
-            return Err(Memory);
-        }
-        if self.taken.insert(place).is_err() {
-            return Err(Memory);
-        }
-        if self.kept.insert(entry).is_err() {
-            return Err(Memory);
-        }
+        self.named.insert(entry.fid)?;
+        self.taken.insert(entry.place)?;
+        self.kept.insert(entry)?;
         Ok(())
     }
 }

@@ -5,9 +5,8 @@ ghost use Rattle.alto_words.specs.Fid.{fid_cmp};
 ghost use Rattle.pack_model.specs.View.{Home};
 ghost use Rattle.pack_reading.specs.Passed.{suffix_place, passed_of, IsPassed, AreTaken};
 
-use crate::files::SYS_DIR;
 use crate::names::Place;
-use alto_words::{Memory, Name};
+use alto_words::{Fid, Memory, Name};
 use std::alloc::Global;
 use std::collections::BTreeMap;
 
@@ -19,7 +18,7 @@ pub(crate) struct Passed {
 }
 
 impl Passed {
-    /// Of no name any. It takes no memory.
+    /// An empty map: of no name a suffix is known to be taken. It takes no memory.
     pub(crate) fn new(alloc: Global) -> Passed
         ensures { (homes : FinMap fid_cmp Home) → IsPassed homes result }
     {
@@ -34,10 +33,10 @@ impl Passed {
         requires most { first ≤ 65535 }
         ensures { result ≡ passed_of self.now name first }
     {
-        match self.counts.get(&place_of(name, first)) {
-            Some(count) => *count,
-            None => 0,
-        }
+        self.counts
+            .get(&place_of(name, first))
+            .copied()
+            .unwrap_or(0)
     }
 
     /// Keeps that so many suffixes of a name, from this first one on, are taken.
@@ -47,10 +46,8 @@ impl Passed {
         ensures kept { OnOk result (passed_of self.new name first ≡ count) }
         ensures passed { (homes : FinMap fid_cmp Home) → IsPassed homes self.old → AreTaken homes name first (first + count) → OnOk result (IsPassed homes self.new) }
     {
-        match self.counts.insert(place_of(name, first), count) {
-            Ok(_) => Ok(()),
-            Err(_) => Err(Memory),
-        }
+        self.counts.insert(place_of(name, first), count)?;
+        Ok(())
     }
 }
 
@@ -61,7 +58,7 @@ fn place_of(name: Name, suffix: u32) -> Place
     ensures { result ≡ suffix_place name suffix }
 {
     Place {
-        directory: SYS_DIR,
+        directory: Fid::SYS_DIR,
         name: name.suffixed(suffix),
     }
 }

@@ -11,7 +11,7 @@ ghost use Rattle.pack_reading.specs.Kept.{lives_kept};
 ghost use Rattle.pack_reading.specs.Homes.{StandsFor, naming_at, may_show, considered, namings_of, all_namings};
 
 use crate::bytes::words_of;
-use crate::files::{Found, SYS_DIR, is_system};
+use crate::files::{Found, is_system};
 use crate::names::{Entry, Names, Place};
 use crate::swept::Leaders;
 use alto_words::{Fid, Memory, Name};
@@ -40,7 +40,7 @@ fn may_show(leaders: &Leaders, entry: &Entry) -> bool
     if is_system(entry.fid) || !leaders.has(entry.fid) {
         return false;
     }
-    if entry.place.directory == SYS_DIR {
+    if entry.place.directory == Fid::SYS_DIR {
         !is_system_name(&entry.place.name)
     } else {
         !entry.fid.is_directory()

@@ -9,13 +9,12 @@ ghost use Rattle.pack_reading.specs.Homes.{StandsFor, naming_at};
 ghost use Rattle.pack_reading.specs.Passed.{IsPassed, IsFirstFree};
 ghost use Rattle.pack_reading.specs.Shows.{seen_file, shown_name};
 
-use crate::files::SYS_DIR;
 use crate::groups::{GROUPS, Group, MOST_SUFFIXES};
 use crate::names::{Entry, Names, Place};
 use crate::passed::Passed;
 use crate::scan::is_system_name;
 use crate::shown::{ShownFile, ShownName};
-use alto_words::{List, Memory, Name};
+use alto_words::{Fid, List, Memory, Name};
 use std::alloc::Global;
 
 /// Whether a name in SysDir is given away, or is that of a system file.
@@ -24,7 +23,7 @@ fn is_taken(names: &Names, name: Name) -> bool
 {
     is_system_name(&name)
         || names.is_taken(&Place {
-            directory: SYS_DIR,
+            directory: Fid::SYS_DIR,
             name,
         })
 }
@@ -96,7 +95,7 @@ fn adopt(names: &mut Names, passed: &mut Passed, file: &ShownFile) -> Result<(),
     }
     let name = choose(names, passed, file.leader.name)?;
     let place = Place {
-        directory: SYS_DIR,
+        directory: Fid::SYS_DIR,
         name,
     };
     names.add(Entry {
@@ -120,14 +119,13 @@ pub(crate) fn settle(alloc: Global, names: &mut Names, files: &[ShownFile]) -> R
 pub(crate) fn list_names(alloc: Global, names: &Names) -> Result<List<ShownName>, Memory>
     ensures { IfOk result (λ list. list ≡ map (λ e. shown_name (naming_at e)) names.now.kept.keys) }
 {
-    let mut list = Vec::new(alloc);
+    let mut list = Vec::with_capacity(alloc, names.kept.len())?;
     for entry in &names.kept {
         list.push(ShownName {
             directory: entry.place.directory,
             name: entry.place.name,
             fid: entry.fid,
-        })
-        .map_err(|_| Memory)?;
+        })?;
     }
     Ok(List::from_vec(list))
 }

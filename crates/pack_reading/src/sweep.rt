@@ -47,11 +47,7 @@ pub(crate) fn sweep<D: Disk>(alloc: Global, disk: &mut D) -> Result<Swept, Readi
         leaders: Leaders::new(alloc),
         pages: Pages::new(alloc),
     };
-    let mut buf = Sector {
-        header: [0; 2],
-        label: [0; 8],
-        value: [0; 256],
-    };
+    let mut buf = Sector::ZEROS;
     let end = disk.shape().pages();
     for at in 1..end {
         sweep_sector(alloc, disk, at, &mut swept, &mut buf)?;

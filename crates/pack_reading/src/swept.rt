@@ -17,7 +17,7 @@ use leader_page::{Leader, words_into_bytes};
 use std::alloc::Global;
 use std::collections::BTreeMap;
 
-/// A page has so many bytes.
+/// The bytes of a page: 512.
 pub(crate) const PAGE_BYTES: usize = 512;
 
 /// The leaders of files.
@@ -40,7 +40,7 @@ pub(crate) struct Swept {
 }
 
 impl Leaders {
-    /// None. It takes no memory.
+    /// An empty map of leaders; it takes no memory.
     pub(crate) fn new(alloc: Global) -> Leaders
         ensures { (f : Fid) → leader_kept result f ≡ None }
     {
@@ -56,10 +56,8 @@ impl Leaders {
         if self.kept.contains_key(&fid) {
             return Ok(());
         }
-        match self.kept.insert(fid, leader) {
-            Ok(_) => Ok(()),
-            Err(_) => Err(Memory),
-        }
+        self.kept.insert(fid, leader)?;
+        Ok(())
     }
 
     /// Whether a file's leader is kept.
@@ -71,7 +69,7 @@ impl Leaders {
 }
 
 impl Pages {
-    /// None. It takes no memory.
+    /// An empty map of pages; it takes no memory.
     pub(crate) fn new(alloc: Global) -> Pages
         ensures { (f : Fid) (n : ℕ) → page_kept result f n ≡ None }
     {
@@ -87,10 +85,8 @@ impl Pages {
         if self.kept.contains_key(&page) {
             return Ok(());
         }
-        match self.kept.insert(page, bytes) {
-            Ok(_) => Ok(()),
-            Err(_) => Err(Memory),
-        }
+        self.kept.insert(page, bytes)?;
+        Ok(())
     }
 }
 

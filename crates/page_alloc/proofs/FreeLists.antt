@@ -4,7 +4,7 @@ use Rattle.std.specs.Prelude.{filter, All, nat_lt}
 use Rattle.std.specs.List.{range_with_len}
 use Rattle.std.proofs.lemmas.Bool.Decides.{nat_tests}
 use Rattle.std.proofs.lemmas.List.{append-nil, take_at, take_all, take-append-le, length-take, get_or_append_left, get_or_at}
-use Rattle.std.proofs.lemmas.List.Elements.{filter-append, filter_passes, All-nil, All-push, All-take, All-weaker}
+use Rattle.std.proofs.lemmas.List.Elements.{filter-append, filter_passes, All-push, All-take, All-weaker}
 use Rattle.disk_records.specs.Addresses.{pages_of}
 use Rattle.disk_records.specs.Packs.{Pack, is_free_at}
 use Rattle.hint_cache.specs.Bits.{busy_at}
@@ -104,9 +104,6 @@ take-push wanted at xs all false is room =
 pub listed-take : (wanted at : ℕ) (free : Bool) (xs all : List ℕ) → xs ≡ take wanted all → listed wanted at free xs ≡ take wanted (all ++ cond free (at ∷ []) [])
 listed-take wanted at true xs all is = take-push wanted at xs all (nat_lt (length xs) wanted) is refl
 listed-take wanted at false xs all is = is ∙ ap (take wanted) (sym (append-nil all))
-
-pub rising_none : (end : ℕ) → IsRising end []
-rising_none end = record { rising = λ k h. absurd (omega arith); within = All-nil (λ k. (1 ≤ k) × (k < end)) }
 
 pub rising_within : (at end : ℕ) (xs : List ℕ) → at ≤ end → IsRising at xs → IsRising end xs
 rising_within at end xs h r = record { rising = r.rising; within = λ k d in'. ((r.within k d in').0, let w = (r.within k d in').1 in omega (arith, w)) }

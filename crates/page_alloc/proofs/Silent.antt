@@ -2,16 +2,13 @@
 use Rattle.std.proofs.Common.{◌≡◌, ℕ, ◌+◌, ◌-◌, ◌≤◌, Bool, cond, IsTrue, List, length, sym, ◌∙◌, ap, arith}
 use Rattle.disk_records.specs.Addresses.{pages_of}
 use Rattle.disk_records.specs.Tapes.{Taped, pack}
-use Rattle.disk_records.proofs.Growing.{alone_twice, alone_here, nothing_added, pack-silent, silent_twice}
+use Rattle.disk_records.proofs.Growing.{alone_twice, pack-silent, silent_twice}
 use Rattle.page_alloc.specs.Free.{below, offered_sectors}
 use Rattle.page_alloc.specs.Inside.{Looked, is_left}
 use Rattle.page_alloc.proofs.FreeLists.{length-below-le, length-below-more, offered_or_left}
 
 pub looked_pack : {told : Bool} {most : ℕ} {x y : Taped} → Looked told most x y → IsTrue told → pack y ≡ pack x
 looked_pack h told = pack-silent h.alone.grown (h.silent told)
-
-pub looked_here : (told : Bool) (x : Taped) → Looked told 0 x x
-looked_here told x = record { alone = alone_here x; silent = λ t. nothing_added x.events; runs = λ t. omega arith }
 
 -- the sector commands of two calls are at most so many together
 pub looked_twice : {told : Bool} {first next : ℕ} {x y z : Taped} (most : ℕ) → Looked told first x y → Looked told next y z → first + next ≤ most → Looked told most x z

@@ -10,9 +10,6 @@ use Rattle.page_alloc.specs.Inside.{Looked, IsCheckedAt, AreChecked}
 use Rattle.page_alloc.proofs.Silent.{looked_pack}
 use Rattle.page_alloc.proofs.FreeLists.{lt-test, le-test}
 
-pub corrected_here : (p : Pack) (bits : List Bool) → IsCorrected p bits bits
-corrected_here p bits at = inl refl
-
 pub corrected_twice : (p : Pack) (a b c : List Bool) → IsCorrected p a b → IsCorrected p b c → IsCorrected p a c
 corrected_twice p a b c x y at = elim (y at) [
   | inl same ↦ elim (x at) [ inl before ↦ inl (same ∙ before) | inr told ↦ inr (same ∙ told) ]
@@ -69,9 +66,6 @@ pub free_then : {told : Bool} {most : ℕ} {x y : Taped} (at : ℕ) (free : Bool
 free_then at free looked t is = is ∙ ap (λ p. is_free_at p at) (looked_pack looked t)
 
 -- ---- offers whose labels have been looked at
-pub checked_first : (p : Pack) (offers now : List Bool) → AreChecked p offers now 1
-checked_first p offers now at first low = absurd (omega arith)
-
 -- what is checked stays so
 pub checked_corrected : (p : Pack) (offers a b : List Bool) (end : ℕ) → AreChecked p offers a end → IsCorrected p a b → AreChecked p offers b end
 checked_corrected p offers a b end checked x at first low free = elim (x at) [ inl same ↦ same ∙ checked at first low free | inr told ↦ told ]

@@ -46,8 +46,7 @@ pub(crate) fn list_free(
     ensures { OnOk result (found.new.items ≡ listed wanted at free found.old.items) }
 {
     if free && found.len() < wanted as usize {
-        found.push(at).map_err(|_| Memory)
-    } else {
-        Ok(())
+        found.push(at)?;
     }
+    Ok(())
 }

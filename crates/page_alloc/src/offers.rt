@@ -58,8 +58,8 @@ pub(crate) fn gather_offered<D: Disk>(
     ensures checked { IsTrue D.told → IfOk result (λ found. length found.items < wanted → AreChecked (pack (D.tape disk.old)) table.old table.new (pages_of (D.tape disk.old).form)) }
     ensures soon { IsTrue D.told → IsTrueTable (pack (D.tape disk.old)) table.old → IfOk result (λ found. (D.tape disk.new).runs ≤ (D.tape disk.old).runs + length found.items) }
 {
-    let mut found = Vec::with_capacity(alloc, wanted as usize)?;
     let end = disk.shape().pages();
+    let mut found = Vec::with_capacity(alloc, wanted.min(end) as usize)?;
     for at in 1..end {
         if found.len() == wanted as usize {
             return Ok(found);

@@ -72,9 +72,9 @@ pub(crate) fn sweep<D: Disk>(
     ensures free { IsTrue D.told → IfOk result (λ swept. swept.free ≡ length (free_sectors (pack (D.tape disk.old)))) }
     ensures lowest { IsTrue D.told → IfOk result (λ swept. swept.lowest.items ≡ take wanted (free_sectors (pack (D.tape disk.old)))) }
 {
-    let mut lowest = Vec::with_capacity(alloc, wanted as usize)?;
-    let mut free = 0;
     let end = disk.shape().pages();
+    let mut lowest = Vec::with_capacity(alloc, wanted.min(end) as usize)?;
+    let mut free = 0;
     for at in 1..end {
         let is_free = is_free_by_now(disk, table, offers, at, buf)?;
         list_free(&mut lowest, wanted, at, is_free)?;

@@ -37,6 +37,7 @@ fn find_free<D: Disk>(
     ensures soon { IsTrue D.told → IsTrueTable (pack (D.tape disk.old)) table.old → OnOk result ((D.tape disk.new).runs ≤ (D.tape disk.old).runs + wanted) }
     ensures offered { IsTrue D.told → wanted ≤ length (offered_free (pack (D.tape disk.old)) table.old) → (D.tape disk.new).runs ≤ (D.tape disk.old).runs + length (offered_sectors table.old) }
 {
+    // Bits change as offers are looked at, and a sweep is to pass over each sector that was one.
     let offers = table.copied()?;
     let offered = gather_offered(alloc, disk, table, wanted, buf)?;
     if offered.len() == wanted as usize {
@@ -106,11 +107,7 @@ pub fn reserve<D: Disk>(
     ensures others { IsTrue D.told → IfOk result (λ taken. IsCorrectedBut (pack (D.tape disk.old)) taken.items table.old table.new) }
     ensures refused { IsTrue D.told → OnErr result (IsCorrected (pack (D.tape disk.old)) table.old table.new) }
 {
-    let mut buf = Sector {
-        header: [0; 2],
-        label: [0; 8],
-        value: [0; 256],
-    };
+    let mut buf = Sector::ZEROS;
     let taken = find_free(alloc, disk, table, n, &mut buf)?;
     mark_busy(table, &taken);
     Ok(taken)

@@ -5,12 +5,20 @@
 #![tactic(auto)]
 
 #[cfg(test)]
+mod expected;
+#[cfg(test)]
 mod filed;
 #[cfg(test)]
 mod listings;
+#[cfg(test)]
+mod names;
 #[cfg(test)]
 mod pages;
 #[cfg(test)]
 mod reading;
 #[cfg(test)]
 mod rules;
+#[cfg(test)]
+mod slots;
+#[cfg(test)]
+mod worked;

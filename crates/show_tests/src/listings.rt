@@ -1,62 +1,37 @@
 // What packs made by hand show: which files live, which bytes they have, which names are theirs, and in which order.
+use crate::expected::{expect_first_bytes, expect_listing};
 use crate::filed::read_file;
 use crate::pages::{
     DIRECTORY_5, DIRECTORY_6, FILE_3, FILE_4, FILE_8, SYS_DIR, push_entry, put_data, put_directory,
     put_leader,
 };
 use alto_top::{Status, boot, show_pack};
-use disk_records::{Console, Disk, Sector};
+use disk_records::Sector;
 use pack_reading::read_pack;
 use sample_packs::{DATA, LEADER, failing_machine, sectors_of, sure_machine};
-use std::alloc::Global;
-use std::process::Abort;
 use std::test::Fail;
-
-/// Shows these sectors, and compares the listing. No key is taken and nothing is written.
-pub fn check<R: Abort + AllocGlobal>(
-    rt: &R,
-    sectors: &[Sector],
-    listing: &[u8],
-) -> Result<(), Fail> {
-    let alloc = rt.alloc();
-    let mut machine = sure_machine(alloc, sectors.to_vec(alloc)?, b"key")?;
-    assert!(rt; show_pack(alloc, &mut machine) == Status::Done);
-    assert_eq!(rt; machine.shown(alloc)?.as_slice(), listing);
-    assert!(rt; machine.writes() == 0, "record writes");
-    let mut keys = [0; 4];
-    assert!(rt; matches!(machine.read(&mut keys), Ok(3)), "keys");
-    assert!(rt; machine.into_sectors().as_slice() == sectors, "sectors");
-    Ok(())
-}
 
 #[test]
 fn packs_without_files(rt: HostRuntime) -> Result<(), Fail> {
     let alloc = rt.alloc();
-    check(&rt, &sectors_of(alloc, &[])?, b"0 files\n")?;
-    let mut zeros = Vec::new(alloc);
-    for _ in 0..48 {
-        zeros.push(Sector {
-            header: [0; 2],
-            label: [0; 8],
-            value: [0; 256],
-        })?;
-    }
-    check(&rt, &zeros, b"0 files\n")?;
+    expect_listing(&rt, &sectors_of(alloc, &[])?, b"0 files\n")?;
+    let zeros = vec![in alloc; Sector::ZEROS; 48]?;
+    expect_listing(&rt, &zeros, b"0 files\n")?;
     // more bytes than a page has: the label is out of range
     let mut sectors = sectors_of(alloc, &[])?;
     put_leader(alloc, &mut sectors, 5, FILE_3, b"A.")?;
     put_data(&mut sectors, 6, FILE_3, 1, 5);
-    check(&rt, &sectors, b"SysDir>A. length 5\n1 files\n")?;
+    expect_listing(&rt, &sectors, b"SysDir>A. length 5\n1 files\n")?;
     if let Some(sector) = sectors.get_mut(5) {
         sector.label[3] = 513;
     }
-    check(&rt, &sectors, b"0 files\n")?;
+    expect_listing(&rt, &sectors, b"0 files\n")?;
     // the address in the header isn't the sector's
     put_leader(alloc, &mut sectors, 5, FILE_3, b"A.")?;
     if let Some(sector) = sectors.get_mut(5) {
         sector.header[1] = 0x6000;
     }
-    check(&rt, &sectors, b"0 files\n")
+    expect_listing(&rt, &sectors, b"0 files\n")
 }
 
 #[test]
@@ -65,22 +40,22 @@ fn names_of_nameless_files(rt: HostRuntime) -> Result<(), Fail> {
     let mut sectors = sectors_of(alloc, &[])?;
     // the leader's name can't be read: 8 is 10 in octal
     put_leader(alloc, &mut sectors, 9, FILE_8, b"no name")?;
-    check(&rt, &sectors, b"SysDir>Lost10. length 0\n1 files\n")?;
+    expect_listing(&rt, &sectors, b"SysDir>Lost10. length 0\n1 files\n")?;
     // the lower full name takes the name, whichever sector is the lower; case doesn't make another name
     put_leader(alloc, &mut sectors, 5, FILE_4, b"a.")?;
     put_leader(alloc, &mut sectors, 7, FILE_3, b"A.")?;
     let listing = b"SysDir>A. length 0\nSysDir>a.$1. length 0\nSysDir>Lost10. length 0\n3 files\n";
-    check(&rt, &sectors, listing.as_slice())?;
+    expect_listing(&rt, &sectors, listing.as_slice())?;
     // the name of SysDir is taken
     put_leader(alloc, &mut sectors, 7, FILE_3, b"sysdir.")?;
     let listing =
         b"SysDir>a. length 0\nSysDir>Lost10. length 0\nSysDir>sysdir.$1. length 0\n3 files\n";
-    check(&rt, &sectors, listing.as_slice())?;
+    expect_listing(&rt, &sectors, listing.as_slice())?;
     // three files of one name
     put_leader(alloc, &mut sectors, 7, FILE_3, b"A.")?;
     put_leader(alloc, &mut sectors, 9, FILE_8, b"A.")?;
     let listing = b"SysDir>A. length 0\nSysDir>a.$1. length 0\nSysDir>A.$2. length 0\n3 files\n";
-    check(&rt, &sectors, listing.as_slice())
+    expect_listing(&rt, &sectors, listing.as_slice())
 }
 
 #[test]
@@ -92,22 +67,22 @@ fn pages_that_count(rt: HostRuntime) -> Result<(), Fail> {
     // a second copy above, of a page and of the leader
     put_data(&mut sectors, 20, FILE_3, 1, 512);
     put_leader(alloc, &mut sectors, 21, FILE_3, b"B.")?;
-    check(&rt, &sectors, b"SysDir>A. length 5\n1 files\n")?;
+    expect_listing(&rt, &sectors, b"SysDir>A. length 5\n1 files\n")?;
     // a copy below
     put_data(&mut sectors, 2, FILE_3, 1, 512);
-    check(&rt, &sectors, b"SysDir>A. length 512\n1 files\n")?;
+    expect_listing(&rt, &sectors, b"SysDir>A. length 512\n1 files\n")?;
     // page 2 is missing
     put_data(&mut sectors, 30, FILE_3, 3, 512);
-    check(&rt, &sectors, b"SysDir>A. length 512\n1 files\n")?;
+    expect_listing(&rt, &sectors, b"SysDir>A. length 512\n1 files\n")?;
     put_data(&mut sectors, 40, FILE_3, 2, 512);
-    check(&rt, &sectors, b"SysDir>A. length 1536\n1 files\n")?;
+    expect_listing(&rt, &sectors, b"SysDir>A. length 1536\n1 files\n")?;
     // links lie: page 1 leads to page 3 on sector 30, and page 3 back to page 1 on sector 2
     for (at, next) in [(2, 0x6008), (30, 0x2000)] {
         if let Some(sector) = sectors.get_mut(at) {
             sector.label[0] = next;
         }
     }
-    check(&rt, &sectors, b"SysDir>A. length 1536\n1 files\n")
+    expect_listing(&rt, &sectors, b"SysDir>A. length 1536\n1 files\n")
 }
 
 #[test]
@@ -122,7 +97,7 @@ fn entries_that_are_kept(rt: HostRuntime) -> Result<(), Fail> {
     push_entry(&mut slots, FILE_3, b"B.")?;
     push_entry(&mut slots, FILE_3, b"A.")?;
     put_directory(alloc, &mut sectors, 1, SYS_DIR, b"SysDir.", &slots)?;
-    check(
+    expect_listing(
         &rt,
         &sectors,
         b"SysDir>B. length 0\nSysDir>Y. length 0\n2 files\n",
@@ -132,7 +107,7 @@ fn entries_that_are_kept(rt: HostRuntime) -> Result<(), Fail> {
     push_entry(&mut slots, FILE_3, b"B.")?;
     push_entry(&mut slots, FILE_4, b"b.")?;
     put_directory(alloc, &mut sectors, 1, SYS_DIR, b"SysDir.", &slots)?;
-    check(
+    expect_listing(
         &rt,
         &sectors,
         b"SysDir>B. length 0\nSysDir>Y. length 0\n2 files\n",
@@ -143,7 +118,7 @@ fn entries_that_are_kept(rt: HostRuntime) -> Result<(), Fail> {
     slots.push(0)?;
     push_entry(&mut slots, FILE_4, b"C.")?;
     put_directory(alloc, &mut sectors, 1, SYS_DIR, b"SysDir.", &slots)?;
-    check(
+    expect_listing(
         &rt,
         &sectors,
         b"SysDir>B. length 0\nSysDir>Y. length 0\n2 files\n",
@@ -169,14 +144,14 @@ fn order_of_the_lines(rt: HostRuntime) -> Result<(), Fail> {
     put_directory(alloc, &mut sectors, 13, DIRECTORY_6, b"C.", &slots)?;
     let listing =
         b"SysDir>b. directory\nSysDir>C. directory\nb>a. length 5\nb>Q. length 0\nC>r. length 0\n5 files\n";
-    check(&rt, &sectors, listing.as_slice())?;
+    expect_listing(&rt, &sectors, listing.as_slice())?;
     // by the name that stands in SysDir, and not by the leader's
     let mut slots = Vec::new(alloc);
     push_entry(&mut slots, DIRECTORY_5, b"d.")?;
     put_directory(alloc, &mut sectors, 1, SYS_DIR, b"SysDir.", &slots)?;
     let listing =
         b"SysDir>C. directory\nSysDir>d. directory\nC>r. length 0\nd>a. length 5\nd>Q. length 0\n5 files\n";
-    check(&rt, &sectors, listing.as_slice())
+    expect_listing(&rt, &sectors, listing.as_slice())
 }
 
 #[test]
@@ -187,7 +162,7 @@ fn names_with_their_last_dot(rt: HostRuntime) -> Result<(), Fail> {
     put_leader(alloc, &mut sectors, 5, FILE_3, b"A.")?;
     put_leader(alloc, &mut sectors, 7, FILE_4, b"A-.")?;
     let listing = b"SysDir>A-. length 0\nSysDir>A. length 0\n2 files\n";
-    check(&rt, &sectors, listing.as_slice())?;
+    expect_listing(&rt, &sectors, listing.as_slice())?;
     // and so with directories
     let mut slots = Vec::new(alloc);
     push_entry(&mut slots, FILE_3, b"X.")?;
@@ -197,7 +172,7 @@ fn names_with_their_last_dot(rt: HostRuntime) -> Result<(), Fail> {
     put_directory(alloc, &mut sectors, 13, DIRECTORY_6, b"D-.", &slots)?;
     let listing =
         b"SysDir>D-. directory\nSysDir>D. directory\nD->Y. length 0\nD>X. length 0\n4 files\n";
-    check(&rt, &sectors, listing.as_slice())
+    expect_listing(&rt, &sectors, listing.as_slice())
 }
 
 #[test]
@@ -211,20 +186,14 @@ fn cuts_of_a_patch(rt: HostRuntime) -> Result<(), Fail> {
         let before = cut.shown(alloc)?.len();
         // the record write of the first line comes before all that is shown
         let bytes = if count == 0 { b"ABCDE" } else { b"ABBDE" };
-        let files = read_pack(alloc, &mut cut)?.files;
-        let file = files.as_slice().first().ok_or("no file")?;
-        let held = file.bytes.as_ref().ok_or("a directory")?;
-        assert_eq!(rt; held.as_slice(), bytes.as_slice(), "{count}");
+        expect_first_bytes(&rt, &read_pack(alloc, &mut cut)?, bytes)?;
         assert!(rt; show_pack(alloc, &mut cut) == Status::Done);
         // the leader has no name
         let shown = cut.shown(alloc)?;
         let listing = b"SysDir>Lost3. length 5\n1 files\n".as_slice();
         assert_eq!(rt; shown.get(before..), Some(listing), "{count}");
         // the same bytes through a real pack file
-        let files = read_file(&rt, "cut", &cut.into_sectors())?.files;
-        let file = files.as_slice().first().ok_or("no file")?;
-        let held = file.bytes.as_ref().ok_or("a directory")?;
-        assert_eq!(rt; held.as_slice(), bytes.as_slice(), "{count}");
+        expect_first_bytes(&rt, &read_file(&rt, "cut", &cut.into_sectors())?, bytes)?;
     }
     Ok(())
 }

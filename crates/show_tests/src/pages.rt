@@ -14,6 +14,8 @@ pub const FILE_8: FullName = [0, 8, 1];
 
 pub const SYS_DIR: FullName = [0x8000, 1, 1];
 
+pub const DISK_DESCRIPTOR: FullName = [0, 2, 1];
+
 pub const DIRECTORY_5: FullName = [0x8000, 5, 1];
 
 pub const DIRECTORY_6: FullName = [0x8000, 6, 1];
@@ -28,17 +30,19 @@ pub struct Written<'a> {
     pub words: &'a [u16],
 }
 
-/// The first words of a leader's value: six words of dates, and then its name behind the name's length.
+/// The first words of a leader's value: three dates, all moment 1000, and then its name behind the name's length. Fail: the
+/// name has more than 255 bytes, or no memory was left.
 pub fn leader_words(alloc: Global, name: &[u8]) -> Result<Vec<u16>, Fail> {
     let mut words = Vec::new(alloc);
-    words.extend_from_slice(&[0; 6])?;
+    words.extend_from_slice(&[0, 1000, 0, 1000, 0, 1000])?;
     push_name(&mut words, name)?;
     Ok(words)
 }
 
-/// Appends a name behind its length, two bytes a word; an odd byte has a 0 beside it.
+/// Appends a name behind its length, two bytes a word; an odd byte has a 0 beside it. Fail: the name has more than 255 bytes, or
+/// no memory was left.
 pub fn push_name(words: &mut Vec<u16>, name: &[u8]) -> Result<(), Fail> {
-    let mut high = Some((name.len() % 256) as u8);
+    let mut high = Some(u8::try_from(name.len())?);
     for byte in name {
         high = match high {
             Some(high) => {
@@ -54,9 +58,11 @@ pub fn push_name(words: &mut Vec<u16>, name: &[u8]) -> Result<(), Fail> {
     Ok(())
 }
 
-/// The slot of an entry: its kind and its length, the full name, a 0, the leader's address, and the name behind its length.
+/// The slot of an entry: its kind and its length, the full name, a 0, the leader's address, and the name behind its length. Fail:
+/// the name has more than 255 bytes, or no memory was left.
 pub fn push_entry(words: &mut Vec<u16>, fid: FullName, name: &[u8]) -> Result<(), Fail> {
-    words.push(0x0400 + 6 + ((name.len() % 40) as u16 + 2) / 2)?;
+    let length = u8::try_from(name.len())?;
+    words.push(0x0400 + 6 + (length as u16 + 2) / 2)?;
     words.extend_from_slice(&fid)?;
     words.extend_from_slice(&[0, 5])?;
     push_name(words, name)
@@ -83,7 +89,7 @@ pub fn put_page(sectors: &mut [Sector], page: Written<'_>) {
     }
 }
 
-/// Puts a leader on its sector.
+/// Puts a leader on its sector. Fail: the name has more than 255 bytes, or no memory was left.
 pub fn put_leader(
     alloc: Global,
     sectors: &mut [Sector],
@@ -119,7 +125,8 @@ pub fn put_data(sectors: &mut [Sector], at: usize, name: FullName, number: u16, 
     );
 }
 
-/// Puts a directory: its leader, and one page with these slots, of fewer than 256 words, which count to their end.
+/// Puts a directory: its leader, and one page with these slots, of fewer than 256 words, which count to their end. Fail: they
+/// have 256 words or more, its name has more than 255 bytes, or no memory was left.
 pub fn put_directory(
     alloc: Global,
     sectors: &mut [Sector],
@@ -129,13 +136,14 @@ pub fn put_directory(
     slots: &[u16],
 ) -> Result<(), Fail> {
     put_leader(alloc, sectors, at, fid, name)?;
+    let words = u8::try_from(slots.len())?;
     put_page(
         sectors,
         Written {
             at: at.saturating_add(1),
             name: fid,
             number: 1,
-            bytes: (slots.len() % 256) as u16 * 2,
+            bytes: words as u16 * 2,
             words: slots,
         },
     );

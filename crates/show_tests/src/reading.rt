@@ -1,253 +1,115 @@
-// What packs made by hand show.
-use crate::filed::read_file;
-use alto_words::push_number;
-use disk_records::Sector;
-use pack_reading::{ReadingError, Shown, read_pack};
+// What packs made by hand show, as values: files with their dates, rest and bytes, and the files of the names.
+use crate::expected::{expect_files, expect_first_bytes, lines_of};
+use crate::pages::{
+    DIRECTORY_6, FILE_3, FILE_4, FILE_8, SYS_DIR, Written, push_entry, push_name, put_data,
+    put_directory, put_leader, put_page,
+};
+use pack_reading::{ReadingError, read_pack};
 use sample_packs::{failing_machine, sectors_of, sure_machine};
-use std::alloc::Global;
-use std::process::Abort;
-use std::rt::Runtime;
 use std::test::Fail;
 
-/// A sector with its label and the first words of its value. The others are 0.
-#[derive(Clone, Copy)]
-struct Filled {
-    at: u16,
-    label: [u16; 8],
-    front: [u16; 24],
-}
-
-/// The words of the entry of a file: `A.` for 0x0241, and so on.
-const fn entry(high: u16, low: u16, letter: u16) -> [u16; 8] {
-    [1032, high, low, 1, 0, 0, letter, 0x2E00]
-}
-
-/// The leader page of a file that was made at this moment, with such a name.
-const fn leader(at: u16, high: u16, low: u16, created: u16, letter: u16) -> Filled {
-    let mut front = [0; 24];
-    front[1] = created;
-    front[6] = letter;
-    front[7] = 0x2E00;
-    Filled {
-        at,
-        label: [0xFFFF, 0xFFFF, 0, 512, 0, 1, high, low],
-        front,
-    }
-}
-
-/// A data page of a file, of so many bytes.
-const fn data(at: u16, low: u16, number: u16, bytes: u16) -> Filled {
-    Filled {
-        at,
-        label: [0xFFFF, 0xFFFF, 0, bytes, number, 1, 0, low],
-        front: [0; 24],
-    }
-}
-
-/// Page 1 of a directory: three slots of 8 words.
-fn directory(at: u16, low: u16, slots: [[u16; 8]; 3]) -> Filled {
-    let [first, second, third] = slots;
-    let mut front = [0; 24];
-    for i in 0..8 {
-        front[i] = first[i];
-        front[8 + i] = second[i];
-        front[16 + i] = third[i];
-    }
-    Filled {
-        at,
-        label: [0xFFFF, 0xFFFF, 0, 48, 1, 1, 0x8000, low],
-        front,
-    }
-}
-
-/// The sectors of two cylinders, free but for these.
-fn sectors_with(alloc: Global, pages: &[Filled]) -> Result<Vec<Sector>, Fail> {
-    let mut sectors = sectors_of(alloc, &[])?;
-    for page in pages {
-        if let Some(sector) = sectors.get_mut(page.at as usize) {
-            sector.label = page.label;
-            sector.value = [0; 256];
-            sector.value[..24].copy_from_slice(&page.front);
-        }
-    }
-    Ok(sectors)
-}
-
-/// A line for each file, with its serial, its moment and its length, and one for each name.
-fn lines_of(alloc: Global, shown: &Shown) -> Result<Vec<u8>, Fail> {
-    let mut out = Vec::new(alloc);
-    for file in shown.files.as_slice() {
-        push_number(alloc, &mut out, u64::from(file.fid.serial()))?;
-        out.extend_from_slice(b" ")?;
-        push_number(alloc, &mut out, u64::from(file.leader.created))?;
-        match &file.bytes {
-            Some(bytes) => {
-                out.extend_from_slice(b" ")?;
-                push_number(alloc, &mut out, bytes.as_slice().len() as u64)?;
-                out.extend_from_slice(b"\n")?;
-            }
-            None => out.extend_from_slice(b" directory\n")?,
-        }
-    }
-    for name in shown.names.as_slice() {
-        push_number(alloc, &mut out, u64::from(name.directory.serial()))?;
-        out.extend_from_slice(b">")?;
-        out.extend_from_slice(name.name.as_bytes())?;
-        out.extend_from_slice(b" ")?;
-        push_number(alloc, &mut out, u64::from(name.fid.serial()))?;
-        out.extend_from_slice(b"\n")?;
-    }
-    Ok(out)
-}
-
-/// What these sectors show, as such lines: in memory, and the same through a real pack file.
-fn shown_lines<R: Runtime + Abort + AllocGlobal>(
-    rt: &R,
-    path: &str,
-    sectors: Vec<Sector>,
-) -> Result<Vec<u8>, Fail> {
+#[test]
+fn files_and_names_with_their_full_names(rt: HostRuntime) -> Result<(), Fail> {
     let alloc = rt.alloc();
-    let filed = lines_of(alloc, &read_file(rt, path, &sectors)?)?;
-    let mut machine = sure_machine(alloc, sectors, b"")?;
-    let shown = read_pack(alloc, &mut machine)?;
-    let lines = lines_of(alloc, &shown)?;
-    assert_eq!(rt; filed.as_slice(), lines.as_slice());
-    Ok(lines)
-}
-
-#[test]
-fn zeros_show_nothing(rt: HostRuntime) -> Result<(), Fail> {
-    let mut sectors = Vec::new(rt.alloc());
-    for _ in 0..48 {
-        sectors.push(Sector {
-            header: [0; 2],
-            label: [0; 8],
-            value: [0; 256],
-        })?;
+    let mut sectors = sectors_of(alloc, &[])?;
+    let mut slots = Vec::new(alloc);
+    push_entry(&mut slots, DIRECTORY_6, b"D.")?;
+    push_entry(&mut slots, FILE_3, b"A.")?;
+    put_directory(alloc, &mut sectors, 1, SYS_DIR, b"SysDir.", &slots)?;
+    // the directory 7 may not stand in this one
+    let mut slots = Vec::new(alloc);
+    push_entry(&mut slots, [0x8000, 7, 1], b"E.")?;
+    push_entry(&mut slots, FILE_8, b"C.")?;
+    put_directory(alloc, &mut sectors, 9, DIRECTORY_6, b"Z.", &slots)?;
+    put_data(&mut sectors, 6, FILE_3, 1, 5);
+    // a nameless file, and on 20 a second leader of file 3; the files 10 and 11 don't live
+    let leaders = [
+        (5, FILE_3, b"Z.".as_slice()),
+        (7, FILE_4, b"a."),
+        (8, [0, 5, 1], b""),
+        (11, [0x8000, 7, 1], b"Y."),
+        (12, FILE_8, b"Z."),
+        (20, FILE_3, b"X."),
+        (30, [0, 10, 1], b"V."),
+        (31, [0, 11, 1], b"W."),
+    ];
+    for (at, name, letters) in leaders {
+        put_leader(alloc, &mut sectors, at, name, letters)?;
     }
-    let lines = shown_lines(&rt, "zeros", sectors)?;
-    assert_eq!(rt; lines.as_slice(), b"".as_slice());
-    Ok(())
-}
-
-#[test]
-fn each_file_has_one_name(rt: HostRuntime) -> Result<(), Fail> {
-    let slots = [
-        entry(0, 3, 0x0241),
-        entry(0, 3, 0x0242),
-        entry(0, 4, 0x0261),
-    ];
-    let mut nameless = leader(8, 0, 5, 50, 0);
-    nameless.front[7] = 0;
-    let pages = [
-        leader(1, 0x8000, 1, 10, 0x0253),
-        directory(2, 1, slots),
-        leader(5, 0, 3, 30, 0x025A),
-        data(6, 3, 1, 5),
-        // its name is that of the first entry, in another case
-        leader(7, 0, 4, 40, 0x0261),
-        // no name can be read
-        nameless,
-        // a copy of a leader, higher up
-        leader(20, 0, 3, 90, 0x0258),
-    ];
-    let lines = shown_lines(&rt, "names", sectors_with(rt.alloc(), &pages)?)?;
-    let expected = b"3 30 5\n4 40 0\n5 50 0\n1>A. 3\n1>a.$1. 4\n1>Lost5. 5\n";
-    assert_eq!(rt; lines.as_slice(), expected.as_slice());
-    Ok(())
-}
-
-#[test]
-fn directories_stand_in_sys_dir(rt: HostRuntime) -> Result<(), Fail> {
-    // the second slot has length 0, so the third isn't read
-    let root = [entry(0x8000, 6, 0x0244), [0; 8], entry(0, 3, 0x0242)];
-    // the directory 7 may not stand there, and file 9 doesn't live
-    let slots = [
-        entry(0x8000, 7, 0x0245),
-        entry(0, 9, 0x0246),
-        entry(0, 3, 0x0243),
-    ];
-    let pages = [
-        leader(1, 0x8000, 1, 10, 0x0253),
-        directory(2, 1, root),
-        leader(5, 0, 3, 30, 0x025A),
-        leader(6, 0x8000, 6, 60, 0x025A),
-        directory(7, 6, slots),
-        leader(8, 0x8000, 7, 70, 0x0259),
-    ];
-    let lines = shown_lines(&rt, "directories", sectors_with(rt.alloc(), &pages)?)?;
-    let expected = b"3 30 0\n6 60 directory\n7 70 directory\n1>D. 6\n1>Y. 7\n6>C. 3\n";
-    assert_eq!(rt; lines.as_slice(), expected.as_slice());
-    Ok(())
-}
-
-#[test]
-fn bytes_end_where_a_page_is_missing(rt: HostRuntime) -> Result<(), Fail> {
-    let mut long = leader(9, 0, 4, 40, 0x0244);
-    long.label[3] = 513;
-    let pages = [
-        leader(5, 0, 3, 30, 0x0242),
-        data(6, 3, 1, 512),
-        data(7, 3, 3, 5),
-        // a leader page of 513 bytes is none
-        long,
-        leader(10, 0, 5, 50, 0x0245),
-    ];
-    let mut sectors = sectors_with(rt.alloc(), &pages)?;
-    // and one behind a wrong header isn't seen
-    if let Some(sector) = sectors.get_mut(10) {
-        sector.header[1] = 0;
+    for (at, sector) in sectors.iter_mut().enumerate() {
+        match at {
+            // made later than the lower one
+            20 => sector.value[1] = 2000,
+            30 => sector.label[3] = 513,
+            31 => sector.header[1] = 0,
+            _ => (),
+        }
     }
-    let lines = shown_lines(&rt, "bytes", sectors)?;
-    assert_eq!(rt; lines.as_slice(), b"3 30 512\n1>B. 3\n".as_slice());
-    Ok(())
+    let lines = b"3 1000 5\n4 1000 0\n5 1000 0\n8 1000 0\n6 1000 directory\n7 1000 directory\n\
+        1>A. 3\n1>a.$1. 4\n1>D. 6\n1>Lost5. 5\n1>Y. 7\n6>C. 8\n";
+    expect_files(&rt, "full_names", &sectors, lines)
 }
 
 #[test]
 fn all_that_a_file_shows(rt: HostRuntime) -> Result<(), Fail> {
-    let mut page = leader(5, 0, 3, 30, 0x0241);
-    // each date has its high word first
-    page.front[..6].copy_from_slice(&[1, 30, 2, 31, 3, 32]);
-    let mut first = data(6, 3, 1, 512);
-    first.front[0] = 0x4142;
-    first.front[23] = 0x4344;
-    // the sixth byte doesn't count
-    let mut last = data(7, 3, 2, 5);
-    last.front[..3].copy_from_slice(&[0x4546, 0x4748, 0x494A]);
-    let mut sectors = sectors_with(rt.alloc(), &[page, first, last])?;
-    // properties and hints
-    if let Some(sector) = sectors.get_mut(5) {
-        sector.value[26..].copy_from_slice(&[7; 230]);
+    let alloc = rt.alloc();
+    let mut sectors = sectors_of(alloc, &[])?;
+    // three dates, each with its high word first, and then the name, the rest and the hints; what stands behind the name doesn't count
+    let mut leader = [1, 30, 2, 31, 3, 32].to_vec(alloc)?;
+    push_name(&mut leader, b"A.")?;
+    leader.resize(256, 7)?;
+    let mut first = [0; 256];
+    first[0] = 0x4142;
+    first[23] = 0x4344;
+    // the sixth byte of the last page doesn't count
+    let pages = [
+        (5, 512, leader.as_slice()),
+        (6, 512, &first),
+        (7, 5, &[0x4546, 0x4748, 0x494A]),
+    ];
+    for (number, (at, bytes, words)) in (0..).zip(pages) {
+        let name = FILE_3;
+        put_page(
+            &mut sectors,
+            Written {
+                at,
+                name,
+                number,
+                bytes,
+                words,
+            },
+        );
     }
-    let mut machine = sure_machine(rt.alloc(), sectors, b"")?;
-    let shown = read_pack(rt.alloc(), &mut machine)?;
+    let mut machine = sure_machine(alloc, sectors, b"")?;
+    let shown = read_pack(alloc, &mut machine)?;
     assert_eq!(rt; shown.files.as_slice().len(), 1);
-    let file = shown.files.as_slice().first().ok_or("no file")?;
-    assert_eq!(rt; file.leader.created, 65_566);
-    assert_eq!(rt; file.leader.written, 131_103);
-    assert_eq!(rt; file.leader.read, 196_640);
-    assert_eq!(rt; file.leader.rest.as_slice(), [7; 220].as_slice());
-    assert_eq!(rt; file.leader.hints.as_slice(), [0; 10].as_slice());
-    let mut expected = [0; 517];
-    expected[..2].copy_from_slice(b"AB");
-    expected[46..48].copy_from_slice(b"CD");
-    expected[512..].copy_from_slice(b"EFGHI");
-    let bytes = file.bytes.as_ref().ok_or("a directory")?;
-    assert_eq!(rt; bytes.as_slice(), expected.as_slice());
-    Ok(())
+    let leader = &shown.files.as_slice().first().ok_or("no file")?.leader;
+    assert_eq!(rt; leader.created, 65_566);
+    assert_eq!(rt; leader.written, 131_103);
+    assert_eq!(rt; leader.read, 196_640);
+    assert_eq!(rt; leader.name.as_bytes(), b"A.".as_slice());
+    assert_eq!(rt; leader.rest.as_slice(), [7; 220].as_slice());
+    assert_eq!(rt; leader.hints.as_slice(), [0; 10].as_slice());
+    let mut bytes = [0; 517];
+    bytes[..2].copy_from_slice(b"AB");
+    bytes[46..48].copy_from_slice(b"CD");
+    bytes[512..].copy_from_slice(b"EFGHI");
+    expect_first_bytes(&rt, &shown, &bytes)
 }
 
 #[test]
 fn a_fault_ends_the_reading(rt: HostRuntime) -> Result<(), Fail> {
-    let sectors = sectors_with(rt.alloc(), &[leader(5, 0, 3, 30, 0x0242)])?;
-    let mut machine = failing_machine(rt.alloc(), sectors, b"")?;
-    machine.fail_at(rt.alloc(), 46, 0)?;
-    match read_pack(rt.alloc(), &mut machine) {
+    let alloc = rt.alloc();
+    let mut sectors = sectors_of(alloc, &[])?;
+    put_leader(alloc, &mut sectors, 5, FILE_3, b"B.")?;
+    let mut machine = failing_machine(alloc, sectors, b"")?;
+    machine.fail_at(alloc, 46, 0)?;
+    match read_pack(alloc, &mut machine) {
         Ok(_) => assert!(rt; false, "the last sector failed"),
         Err(error) => assert_eq!(rt; error, ReadingError::DiskFault),
     }
-    let shown = read_pack(rt.alloc(), &mut machine)?;
-    let lines = lines_of(rt.alloc(), &shown)?;
-    assert_eq!(rt; lines.as_slice(), b"3 30 0\n1>B. 3\n".as_slice());
+    let shown = read_pack(alloc, &mut machine)?;
+    let lines = lines_of(alloc, &shown)?;
+    assert_eq!(rt; lines.as_slice(), b"3 1000 0\n1>B. 3\n".as_slice());
     Ok(())
 }

@@ -1,13 +1,11 @@
 // What packs made by hand show: system files and their names, labels out of range, and entries in several directories and pages.
-use crate::listings::check;
+use crate::expected::expect_listing;
 use crate::pages::{
-    DIRECTORY_5, DIRECTORY_6, FILE_3, FILE_4, FullName, SYS_DIR, Written, push_entry,
-    put_directory, put_leader, put_page,
+    DIRECTORY_5, DIRECTORY_6, DISK_DESCRIPTOR, FILE_3, FILE_4, SYS_DIR, Written, push_entry,
+    put_data, put_directory, put_leader, put_page,
 };
 use sample_packs::sectors_of;
 use std::test::Fail;
-
-const DISK_DESCRIPTOR: FullName = [0, 2, 1];
 
 #[test]
 fn system_files_and_their_names(rt: HostRuntime) -> Result<(), Fail> {
@@ -19,13 +17,13 @@ fn system_files_and_their_names(rt: HostRuntime) -> Result<(), Fail> {
     push_entry(&mut slots, DISK_DESCRIPTOR, b"DiskDescriptor.")?;
     put_directory(alloc, &mut sectors, 1, SYS_DIR, b"SysDir.", &slots)?;
     put_leader(alloc, &mut sectors, 3, DISK_DESCRIPTOR, b"DiskDescriptor.")?;
-    check(&rt, &sectors, b"0 files\n")?;
+    expect_listing(&rt, &sectors, b"0 files\n")?;
     // both names are taken in SysDir, whatever an entry there says
     let mut slots = Vec::new(alloc);
     push_entry(&mut slots, FILE_3, b"SYSDIR.")?;
     put_directory(alloc, &mut sectors, 1, SYS_DIR, b"SysDir.", &slots)?;
     put_leader(alloc, &mut sectors, 5, FILE_3, b"diskdescriptor.")?;
-    check(
+    expect_listing(
         &rt,
         &sectors,
         b"SysDir>diskdescriptor.$1. length 0\n1 files\n",
@@ -36,7 +34,7 @@ fn system_files_and_their_names(rt: HostRuntime) -> Result<(), Fail> {
     push_entry(&mut slots, FILE_3, b"SysDir.")?;
     put_directory(alloc, &mut sectors, 11, DIRECTORY_5, b"D.", &slots)?;
     let listing = b"SysDir>D. directory\nD>SysDir. length 0\n2 files\n";
-    check(&rt, &sectors, listing.as_slice())
+    expect_listing(&rt, &sectors, listing.as_slice())
 }
 
 #[test]
@@ -52,14 +50,14 @@ fn the_first_directory_that_names_a_file(rt: HostRuntime) -> Result<(), Fail> {
     push_entry(&mut slots, FILE_3, b"in5.")?;
     put_directory(alloc, &mut sectors, 13, DIRECTORY_5, b"five.", &slots)?;
     let listing = b"SysDir>five. directory\nSysDir>six. directory\nfive>in5. length 0\n3 files\n";
-    check(&rt, &sectors, listing.as_slice())?;
+    expect_listing(&rt, &sectors, listing.as_slice())?;
     // and SysDir before all others
     let mut slots = Vec::new(alloc);
     push_entry(&mut slots, FILE_3, b"root.")?;
     put_directory(alloc, &mut sectors, 1, SYS_DIR, b"SysDir.", &slots)?;
     let listing =
         b"SysDir>five. directory\nSysDir>root. length 0\nSysDir>six. directory\n3 files\n";
-    check(&rt, &sectors, listing.as_slice())
+    expect_listing(&rt, &sectors, listing.as_slice())
 }
 
 #[test]
@@ -75,11 +73,32 @@ fn leaders_that_do_not_count(rt: HostRuntime) -> Result<(), Fail> {
     for (at, name) in rows {
         let mut sectors = sectors_of(alloc, &[])?;
         put_leader(alloc, &mut sectors, at, name, b"X.")?;
-        check(&rt, &sectors, b"0 files\n")?;
+        expect_listing(&rt, &sectors, b"0 files\n")?;
     }
     let mut sectors = sectors_of(alloc, &[])?;
     put_leader(alloc, &mut sectors, 5, [0, 3, 0xFFFE], b"X.")?;
-    check(&rt, &sectors, b"SysDir>X. length 0\n1 files\n")
+    expect_listing(&rt, &sectors, b"SysDir>X. length 0\n1 files\n")?;
+    // a leader page counts with any number of bytes that a page can have
+    if let Some(sector) = sectors.get_mut(5) {
+        sector.label[3] = 0;
+    }
+    expect_listing(&rt, &sectors, b"SysDir>X. length 0\n1 files\n")
+}
+
+#[test]
+fn data_pages_of_too_many_bytes(rt: HostRuntime) -> Result<(), Fail> {
+    let alloc = rt.alloc();
+    let mut sectors = sectors_of(alloc, &[])?;
+    put_leader(alloc, &mut sectors, 5, FILE_3, b"A.")?;
+    // the label is out of range, so no sector carries page 1
+    put_data(&mut sectors, 6, FILE_3, 1, 513);
+    expect_listing(&rt, &sectors, b"SysDir>A. length 0\n1 files\n")?;
+    // a higher sector does, and the same with page 2
+    put_data(&mut sectors, 8, FILE_3, 1, 512);
+    put_data(&mut sectors, 7, FILE_3, 2, 0xFFFF);
+    expect_listing(&rt, &sectors, b"SysDir>A. length 512\n1 files\n")?;
+    put_data(&mut sectors, 9, FILE_3, 2, 5);
+    expect_listing(&rt, &sectors, b"SysDir>A. length 517\n1 files\n")
 }
 
 #[test]
@@ -119,5 +138,5 @@ fn a_directory_of_two_pages(rt: HostRuntime) -> Result<(), Fail> {
         },
     );
     let listing = b"SysDir>B. length 0\nSysDir>Y. length 0\n2 files\n";
-    check(&rt, &sectors, listing.as_slice())
+    expect_listing(&rt, &sectors, listing.as_slice())
 }

@@ -2,7 +2,6 @@ use Rattle.std.proofs.Common.{sym, ap, ◌∙◌, subst}
 use Rattle.std.specs.Iterator.Adapters.{rev_source}
 use Rattle.std.specs.Slice.Iter.{iter_rest}
 use Rattle.alto_top.proofs.Rows.{Listing, listing_none, listing_more}
-use Rattle.pack_laws.proofs.Inserting.{when_ok}
 use Rattle.alto_top.proofs.listing.lines_of.Goals as goal
 
 pub loop-named-init : goal.loop-named-init
@@ -14,4 +13,4 @@ pub loop-named-preserved : goal.loop-named-preserved
 loop-named-preserved c = λ v knows.
     listing_more v c.loop-named.lines.keys c.insert.new.self.keys c.line_of.result c.in-Some.named.now (iter_rest (rev_source c.next.new.self)) (iter_rest (rev_source c.loop-named.named-iterator)) c.args.names.now
     (c.loop-named.invariant v knows) c.in-Some.ensures.steps (c.line_of.ensures v knows)
-    (when_ok c.insert.result (sym c.is_err.ensures.value ∙ c.if-is_err.false) c.insert.ensures.keys)
+    c.in_ok-insert.ensures.keys

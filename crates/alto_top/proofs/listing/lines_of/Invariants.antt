@@ -1,9 +1,11 @@
 use Rattle.std.specs.Iterator.Adapters.{rev_source}
 use Rattle.std.specs.Slice.Iter.{iter_rest}
+use Rattle.std.specs.BTreeMap.{get}
+use Rattle.alto_words.specs.Fid.{fid_cmp}
 use Rattle.pack_model.specs.View.{View}
 use Rattle.alto_top.specs.Looking.{Knows}
 use Rattle.alto_top.proofs.Rows.{Listing}
 use Rattle.alto_top.proofs.listing.lines_of.Given as goal
 
 abbrev pub invariant-loop-named : goal.invariant-loop-named
-invariant-loop-named l = (v : View) → Knows l.known v → Listing v l.lines.keys (iter_rest (rev_source l.named-iterator)) l.names
+invariant-loop-named l = (v : View) → Knows (get fid_cmp l.by_file) l.files v → Listing v l.lines.keys (iter_rest (rev_source l.named-iterator)) l.names

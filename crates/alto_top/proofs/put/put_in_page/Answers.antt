@@ -1,24 +1,23 @@
+use Rattle.std.proofs.Common.{sym, subst}
 use Rattle.disk_records.proofs.Growing.{alone_twice}
-use Rattle.alto_top.specs.declared.status.Fault.TheVariants.{Disk}
-use Rattle.alto_top.proofs.Writing.{put_nothing, put_whole}
+use Rattle.alto_top.specs.Putting.{PutDone}
+use Rattle.alto_top.proofs.Writing.{put_unread, put_whole}
 use Rattle.alto_top.proofs.put.put_in_page.Goals as goal
 
-pub returns-in-Err-DiskFault-clause-done : goal.returns-in-Err-DiskFault-clause-done
-returns-in-Err-DiskFault-clause-done g c told = put_nothing c.args.at c.args.page c.args.offset c.args.bytes.now _ _ Disk (c.in-Err-DiskFault.ensures.guarded told).some
+pub returns-in-Err-clause-done : goal.returns-in-Err-clause-done
+returns-in-Err-clause-done g c told =
+    let old = g.D.Tape.tape c.args.disk.now in
+    let new = g.D.Tape.tape c.read_page.new.disk in
+    subst (PutDone c.args.at c.args.page c.args.offset c.args.bytes.now old new) (sym c.not_done.ensures)
+    (put_unread c.args.at c.args.page c.args.offset c.args.bytes.now old new c.in-Err.error (c.in-Err.ensures.guarded told))
 
-pub returns-in-Ok-write_value-clause-alone : goal.returns-in-Ok-write_value-clause-alone
-returns-in-Ok-write_value-clause-alone g c = alone_twice c.read_page.ensures.alone c.write_value.ensures.alone
+pub returns-in-Ok-clause-alone : goal.returns-in-Ok-clause-alone
+returns-in-Ok-clause-alone g c = alone_twice c.read_page.ensures.alone c.write_value.ensures.alone
 
-pub returns-in-Ok-write_value-clause-done : goal.returns-in-Ok-write_value-clause-done
-returns-in-Ok-write_value-clause-done g c told =
-    put_whole c.args.offset c.args.bytes.now c.put_in_words.new.value c.read_page.ensures.alone c.write_value.ensures.alone (c.in-Ok.ensures.guarded told).ok (c.in-Ok.ensures.read told)
-    c.put_in_words.ensures (c.in-Ok-write_value.ensures.guarded told).ok
+pub returns-in-Ok-clause-done : goal.returns-in-Ok-clause-done
+returns-in-Ok-clause-done g c told =
+    put_whole c.args.offset c.args.bytes.now c.put_in_words.new.value c.read_page.ensures.alone c.write_value.ensures.alone (c.in_default.ensures.guarded told).ok (c.in_default.ensures.read told)
+    c.put_in_words.ensures (c.in-Ok.ensures.guarded told).ok
 
-pub returns-in-Err-Wrong-write_value-clause-alone : goal.returns-in-Err-Wrong-write_value-clause-alone
-returns-in-Err-Wrong-write_value-clause-alone g c = alone_twice c.read_page.ensures.alone c.write_value.ensures.alone
-
-pub returns-in-Err-DiskFault-write_value-clause-alone : goal.returns-in-Err-DiskFault-write_value-clause-alone
-returns-in-Err-DiskFault-write_value-clause-alone g c = alone_twice c.read_page.ensures.alone c.write_value.ensures.alone
-
-pub returns-in-Err-Memory-write_value-clause-alone : goal.returns-in-Err-Memory-write_value-clause-alone
-returns-in-Err-Memory-write_value-clause-alone g c = alone_twice c.read_page.ensures.alone c.write_value.ensures.alone
+pub returns-in-Err-write_value-clause-alone : goal.returns-in-Err-write_value-clause-alone
+returns-in-Err-write_value-clause-alone g c = alone_twice c.read_page.ensures.alone c.write_value.ensures.alone

@@ -1,7 +1,8 @@
 use Rattle.std.proofs.Common.{subst}
 use Rattle.disk_records.proofs.Growing.{grown_twice, grown_here}
 use Rattle.pack_laws.proofs.Lining.{most_keys-is}
-use Rattle.alto_top.proofs.Booting.{Session, start, session_over, session_more, session_broke}
+use Rattle.alto_top.proofs.SoFar.{Session, start}
+use Rattle.alto_top.proofs.Booting.{session_over, session_more, session_broke}
 use Rattle.alto_top.proofs.session.boot.Goals as goal
 
 pub lines-init : goal.lines-init

@@ -1,6 +1,6 @@
 use Rattle.std.proofs.Common.{IsTrue}
 use Rattle.disk_records.specs.Tapes.{Grown}
-use Rattle.alto_top.proofs.Booting.{Session}
+use Rattle.alto_top.proofs.SoFar.{Session}
 use Rattle.alto_top.proofs.session.boot.Given as goal
 
 abbrev pub invariant-lines : goal.invariant-lines

@@ -3,7 +3,8 @@ use Rattle.disk_records.specs.Tapes.{pack}
 use Rattle.pack_model.specs.Sights.{sights}
 use Rattle.pack_model.specs.Files.{file_bytes}
 use Rattle.alto_top.specs.declared.reply.Reply.TheVariants.{Beyond}
-use Rattle.alto_top.proofs.Patching.{kept_length, no_bytes, done_within, reply_beyond, reply_done, beyond_does, empty_does, bytes_does}
+use Rattle.alto_top.proofs.KeptPages.{kept_length}
+use Rattle.alto_top.proofs.WithinLength.{no_bytes, done_within, reply_beyond, reply_done, beyond_does, empty_does, bytes_does}
 use Rattle.alto_top.proofs.session.patch_pages.Goals as goal
 
 pub returns-then-length-patch-clause-does : goal.returns-then-length-patch-clause-does
@@ -35,11 +36,9 @@ returns-then-is_empty-clause-reply g c = λ told.
     sym (reply_done c.args.patch.now (length (file_bytes (sights (pack old)) c.args.fid)) (omega (arith, size, bytes, c.if-length-patch.false)))
 
 pub put_bytes-requires-clause-length : goal.put_bytes-requires-clause-length
-put_bytes-requires-clause-length g c = λ told.
-    let old = g.D.Tape.tape c.args.disk.now in
-    let size : c.length-length.result ≡ length (file_bytes (sights (pack old)) c.args.fid) = c.length-length.ensures.counted ∙ kept_length (pack old) c.args.fid c.args.pages.now (c.requires.pages told) in
+put_bytes-requires-clause-length g c =
     let bytes : length c.as_slice-bytes.result.now ≡ length c.args.patch.now.bytes = ap length c.as_slice-bytes.ensures in
-    omega (arith, size, bytes, c.if-length-patch.false)
+    omega (arith, c.length-length.ensures.counted, bytes, c.if-length-patch.false)
 
 pub returns-clause-does : goal.returns-clause-does
 returns-clause-does g c = λ told.

@@ -11,9 +11,9 @@ use Rattle.dir_slots.proofs.codec.read_entry.Goals as goal
 pub returns-then-words-lt-MIN_ENTRY_WORDS-clause-item : goal.returns-then-words-lt-MIN_ENTRY_WORDS-clause-item
 returns-then-words-lt-MIN_ENTRY_WORDS-clause-item c = sym (entry_of-short c.args.words.now c.if-words-lt-MIN_ENTRY_WORDS.true)
 
-pub returns-then-not-is_file-clause-item : goal.returns-then-not-is_file-clause-item
-returns-then-not-is_file-clause-item c =
-    sym (entry_of-none c.args.words.now (λ parts. both_ways _ (sym c.is_file.ensures ∙ c.if-not-is_file.true) (and_from _ _ (eq-eqb _ _ parts.first) (eq-eqb _ _ parts.zero))))
+pub returns-then-not-is_entry_head-clause-item : goal.returns-then-not-is_entry_head-clause-item
+returns-then-not-is_entry_head-clause-item c =
+    sym (entry_of-none c.args.words.now (λ parts. both_ways _ (sym c.is_entry_head.ensures ∙ c.if-not-is_entry_head.true) (and_from _ _ (eq-eqb _ _ parts.first) (eq-eqb _ _ parts.zero))))
 
 pub returns-then-not-is_full_name-clause-item : goal.returns-then-not-is_full_name-clause-item
 returns-then-not-is_full_name-clause-item c =
@@ -29,7 +29,7 @@ returns-then-entry_words-words-clause-item c =
 
 pub returns-clause-item : goal.returns-clause-item
 returns-clause-item c =
-    let same = and_parts _ _ (sym c.is_file.ensures ∙ c.if-not-is_file.false) in
+    let same = and_parts _ _ (sym c.is_entry_head.ensures ∙ c.if-not-is_entry_head.false) in
     sym (entry_of-some c.args.words.now c.in_ok-name.name (record {
       first = eqb-true _ _ same.0;
       size = sym c.if-entry_words-words.false ∙ c.entry_words.ensures.words;

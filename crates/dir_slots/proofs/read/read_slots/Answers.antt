@@ -30,11 +30,11 @@ loop-slot-preserved c =
     let address : address_of slot ≡ address_at (drop at words) 0 (item_of slot) = c.in-Some.ensures.address ∙ ap (λ l. address_at l 0 (item_of slot)) rest in
     let most = c.in-Some.ensures.most in
     record {
-      items = rw (c.in_ok-keep.ensures, c.words.ensures) (items_more words at read slot some c.loop-slot.invariant.items);
-      addresses = rw (c.in_ok-keep.ensures, c.words.ensures) (addresses_more words at read slot some address c.loop-slot.invariant.addresses);
-      in_range = rw c.in_ok-keep.ensures (All-push IsInRange read slot c.loop-slot.invariant.in_range c.in-Some.ensures.in_range);
-      stored = rw c.in_ok-keep.ensures (All-push HasStoredName read slot c.loop-slot.invariant.stored c.in-Some.ensures.stored);
-      size = rw (c.in_ok-keep.ensures, c.words.ensures) (let e = all_words_more read slot in omega arith);
+      items = rw (c.in_ok-push.ensures.items, c.words.ensures) (items_more words at read slot some c.loop-slot.invariant.items);
+      addresses = rw (c.in_ok-push.ensures.items, c.words.ensures) (addresses_more words at read slot some address c.loop-slot.invariant.addresses);
+      in_range = rw c.in_ok-push.ensures.items (All-push IsInRange read slot c.loop-slot.invariant.in_range c.in-Some.ensures.in_range);
+      stored = rw c.in_ok-push.ensures.items (All-push HasStoredName read slot c.loop-slot.invariant.stored c.in-Some.ensures.stored);
+      size = rw (c.in_ok-push.ensures.items, c.words.ensures) (let e = all_words_more read slot in omega arith);
       within = rw c.words.ensures (let e = ap length rest in let f = length-drop at words in omega (arith, most));
     }
 

@@ -1,7 +1,7 @@
 use Rattle.std.proofs.Common.{rules, refl}
 use Rattle.disk_memory.proofs.Adding.{cut_begun, cut_more, is_cut}
 use Rattle.disk_memory.proofs.Keeping.{whole_in}
-use Rattle.disk_memory.proofs.sure.SureMachine.redone.Goals as goal
+use Rattle.disk_memory.proofs.sure.SureMachine.cut.Goals as goal
 
 pub loop-event-init : goal.loop-event-init
 loop-event-init c =
