@@ -9,7 +9,7 @@ use Rattle.pack_model.specs.Stored.{stored_files}
 use Rattle.pack_model.specs.Moves.{Does}
 use Rattle.pack_model.specs.Puts.{putting}
 use Rattle.pack_model.specs.Turns.{IsTurn}
-use Rattle.pack_laws.proofs.Talking.{turn_whole, turn_cut, turn_broken}
+use Rattle.pack_laws.proofs.TurnCalls.{turn_whole, turn_cut, turn_broken}
 use Rattle.alto_top.specs.Faults.{DiskFaultCause, KeyFaultCause, status_of}
 use Rattle.alto_top.specs.Keys.{ShownAll, TookWhole, TookRest, TookPart}
 use Rattle.alto_top.specs.Patches.{turn_of}

@@ -18,37 +18,18 @@ use Rattle.record_laws.proofs.Around.{around}
 use Rattle.record_laws.proofs.DirReads.{insert_same}
 use Rattle.record_laws.proofs.Entered.{Spot, directory, enter_names, namings_around, namings_in-append, spot}
 use Rattle.record_laws.proofs.Keeping.{get-where}
+use Rattle.record_laws.proofs.Tidying.{or_false_left, or_false_right}
 use Rattle.record_laws.proofs.Viewing.{same_view, seen_same, view_enter, view_slots}
+use Rattle.std.proofs.lemmas.List.Folds.{list_any-append}
+use Rattle.pack_laws.proofs.Inserting.{swap_or}
 
 -- ---- which files are named
-any-append : (t : Naming → Bool) (a b : List Naming) → list_any t (a ++ b) ≡ (list_any t a || list_any t b)
-any-append t [] b = refl
-any-append t (x ∷ a) b = ap (λ r. t x || r) (any-append t a b) ∙ sym (or_assoc (t x) (list_any t a) (list_any t b))
-  where
-    or_assoc : (a b c : Bool) → ((a || b) || c) ≡ (a || (b || c))
-    or_assoc true b c = refl
-    or_assoc false b c = refl
-
--- the first two change places
-or_swap : (a b c : Bool) → (a || (b || c)) ≡ (b || (a || c))
-or_swap true true c = refl
-or_swap true false c = refl
-or_swap false b c = refl
-
 -- a file that no entry names has no home
 pub unnamed_find : (f : Fid) (ns : List Naming) → list_any (λ n. is_fid n.fid f) ns ≡ false → find fid_cmp f (homes ns) ≡ None
 unnamed_find f [] e = refl
 unnamed_find f (n ∷ ns) e =
     let h : Home = record { dir = n.dir; name = n.name } in
-    ap (λ b. cond b (Some h) (find fid_cmp f (homes ns))) (is_fid-sym f n.fid ∙ left (is_fid n.fid f) _ e) ∙ unnamed_find f ns (right (is_fid n.fid f) _ e)
-  where
-    left : (a b : Bool) → (a || b) ≡ false → a ≡ false
-    left false b e = refl
-    left true b e = cc
-
-    right : (a b : Bool) → (a || b) ≡ false → b ≡ false
-    right false b e = e
-    right true b e = cc
+    ap (λ b. cond b (Some h) (find fid_cmp f (homes ns))) (is_fid-sym f n.fid ∙ or_false_left (is_fid n.fid f) _ e) ∙ unnamed_find f ns (or_false_right (is_fid n.fid f) _ e)
 
 -- a name that is left out anyway
 drop_insert : (m : FinMap fid_cmp Home) (p : Fid → Bool) (f : Fid) (h : Home) → p f ≡ false → retain_keys (insert m f h) p ≡ retain_keys m p
@@ -95,9 +76,9 @@ module _ (shape : Shape) (good last : ℕ) (files : Files) (l : Leader) (is : Li
         let t : Naming → Bool = λ n. is_fid n.fid g in
         ap (λ ks. is_named (now_model ks) g) s.now
         ∙ ap (list_any t) (p.with f name)
-        ∙ any-append t p.before (record { dir = sys_dir; name = name; fid = f } ∷ p.later)
-        ∙ or_swap (list_any t p.before) (is_fid f g) (list_any t p.later)
-        ∙ ap (λ b. is_fid f g || b) (sym (any-append t p.before p.later) ∙ ap (list_any t) (sym (p.without 0) ∙ spaced_is))
+        ∙ list_any-append t p.before (record { dir = sys_dir; name = name; fid = f } ∷ p.later)
+        ∙ swap_or (list_any t p.before) (is_fid f g) (list_any t p.later)
+        ∙ ap (λ b. is_fid f g || b) (sym (list_any-append t p.before p.later) ∙ ap (list_any t) (sym (p.without 0) ∙ spaced_is))
 
     unnamed_now : is_named was_model f ≡ false → get (names_of (insert files sys_dir (directory l (s.front ++ space 0 ∷ s.back)))) f ≡ None
     unnamed_now e = get-from_entries fid_total _ f ∙ ap (λ ns. find fid_cmp f (homes ns)) spaced_is ∙ unnamed_find f (namings (entries files)) e

@@ -1,8 +1,8 @@
 -- What is needed and what is available, by the room of the mended pack.
 use Rattle.std.proofs.Common.{◌*◌, ◌+◌, ◌∙◌, ◌∷◌, ◌≡◌, ◌≤◌, Bool, List, None, Option, Some, [], ap, arith, cond, false, refl, sym, true, ℕ}
-use Rattle.std.specs.FinMap.{FinMap, entries, entries_sorted, find, get, get-entries, get-retain_keys, insert, retain_keys}
-use Rattle.std.specs.FinMap.Entries.{find-where_key, is_sorted-where_key, same_entries, where_key}
-use Rattle.std.specs.Option.{is_some, option_map}
+use Rattle.std.specs.FinMap.{entries, entries_sorted, find, get, get-entries, insert}
+use Rattle.std.specs.FinMap.Entries.{where_key}
+use Rattle.std.specs.Option.{is_some}
 use Rattle.alto_words.specs.Fid.{disk_descriptor, fid_cmp, sys_dir}
 use Rattle.alto_words.specs.declared.fid.Fid.{Fid}
 use Rattle.disk_records.specs.declared.shape.Shape.{Shape}
@@ -10,7 +10,6 @@ use Rattle.pack_model.specs.Bodies.{Body, File, Files, body_length, described, f
 use Rattle.pack_model.specs.Bodies.Body.{data_of, items_of}
 use Rattle.pack_model.specs.Files.{file_bytes, leader, lives, page}
 use Rattle.pack_model.specs.InUse.{available}
-use Rattle.pack_model.specs.Leaders.{Leader}
 use Rattle.pack_model.specs.Mended.{HasRoom, mended, needs, root_body, root_file, rooted, with_system}
 use Rattle.pack_model.specs.Model.{descriptor_pages, files_pages, good_sectors}
 use Rattle.pack_model.specs.Namings.{Naming, body_kept, files_kept, is_kept, items_kept, kept_after_body, kept_by}
@@ -20,12 +19,14 @@ use Rattle.pack_model.specs.Slots.{Item, all_words, item_words}
 use Rattle.pack_model.specs.Slots.Item.{entry, space}
 use Rattle.count_laws.proofs.Counting.{available_is}
 use Rattle.count_laws.proofs.Totals.{all_files, without_descriptor}
+use Rattle.pack_laws.proofs.ByLists.{entries-retain_keys}
 use Rattle.pack_laws.proofs.Joining.{AreShort}
 use Rattle.pack_laws.proofs.Keys.{fid_same, fid_total}
 use Rattle.record_laws.proofs.FilePages.{changed_pages, new_pages}
 use Rattle.record_laws.proofs.Keeping.{get-where}
 use Rattle.record_laws.proofs.Mending.{entries-tidied}
 use Rattle.record_laws.proofs.Reading.{get-found, read_file}
+use Rattle.record_laws.proofs.Tidying.{some_map}
 
 -- ---- the scan keeps the words
 -- words of items, whichever of them are kept
@@ -53,12 +54,6 @@ kept_pages ok b (e ∷ es) = let h = ap pages_for (one e.1.body) in let r = kept
 pub pages_around : (files : Files) (d : Fid) (x y : File) (m : ℕ) → get files d ≡ Some x → pages_for (body_length y.body) ≡ m + pages_for (body_length x.body) → files_pages (entries (insert files d y)) ≡ m + files_pages (entries files)
 pages_around files d x y m is e = let h = changed_pages files d x y is in omega arith
 
--- the entries whose key passes
-entries-where : {X : Type 0} (m : FinMap fid_cmp X) (p : Fid → Bool) → entries (retain_keys m p) ≡ where_key fid_cmp p (entries m)
-entries-where m p = same_entries fid_cmp fid_total fid_same _ _ (entries_sorted (retain_keys m p)) (is_sorted-where_key fid_cmp p (entries m) (entries_sorted m)) (λ q.
-    sym (get-entries (retain_keys m p) q) ∙ get-retain_keys m p q (λ x e. ap p (sym (fid_same q x e))) ∙ ap (λ r. cond (p q) r None) (get-entries m q)
-    ∙ sym (find-where_key fid_cmp p q (λ x e. ap p (sym (fid_same q x e))) (entries m)))
-
 -- ---- SysDir's pages where it doesn't live
 -- SysDir has two pages where it doesn't live
 rooted_pages : (files : Files) → files_pages (entries (rooted files)) ≡ files_pages (entries files) + cond (is_some (get files sys_dir)) 0 2
@@ -75,16 +70,12 @@ needed_is shape ss short =
     let a = available_is shape ss in
     let b = all_files shape ss short in
     let c = without_descriptor shape ss short (entries (found ss)) (entries_sorted (found ss)) in
-    let d : files_pages (entries (described ss)) ≡ files_pages (where_key fid_cmp is_described (entries (found ss))) = ap files_pages (entries-where (found ss) is_described) in
+    let d : files_pages (entries (described ss)) ≡ files_pages (where_key fid_cmp is_described (entries (found ss))) = ap files_pages (entries-retain_keys fid_total fid_same (found ss) is_described) in
     let e = rooted_pages (described ss) in
     let f : files_pages (entries (mended shape ss).files) ≡ files_pages (entries (rooted (described ss))) = ap files_pages (entries-tidied (with_system (lives ss)) (rooted (described ss))) ∙ kept_pages (is_kept (with_system (lives ss))) [] (entries (rooted (described ss))) in
-    let g : ◌≡◌ {A = ℕ} (cond {A = ℕ} (is_some (get (described ss) sys_dir)) 0 2) (cond {A = ℕ} (lives ss sys_dir) 0 2) = ap (λ b. cond {A = ℕ} b 0 2) (ap is_some (get-where (found ss) is_described sys_dir ∙ get-found ss sys_dir) ∙ map_some sys_dir (file_bytes ss sys_dir) (leader ss sys_dir)) in
-    let h : ◌≡◌ {A = ℕ} (cond {A = ℕ} (is_some (find fid_cmp disk_descriptor (entries (found ss)))) 0 (descriptor_pages shape)) (cond {A = ℕ} (lives ss disk_descriptor) 0 (descriptor_pages shape)) = ap (λ b. cond {A = ℕ} b 0 (descriptor_pages shape)) (ap is_some (sym (get-entries (found ss) disk_descriptor) ∙ get-found ss disk_descriptor) ∙ map_some disk_descriptor (file_bytes ss disk_descriptor) (leader ss disk_descriptor)) in
+    let g : ◌≡◌ {A = ℕ} (cond {A = ℕ} (is_some (get (described ss) sys_dir)) 0 2) (cond {A = ℕ} (lives ss sys_dir) 0 2) = ap (λ b. cond {A = ℕ} b 0 2) (ap is_some (get-where (found ss) is_described sys_dir ∙ get-found ss sys_dir) ∙ some_map (read_file sys_dir (file_bytes ss sys_dir)) (leader ss sys_dir)) in
+    let h : ◌≡◌ {A = ℕ} (cond {A = ℕ} (is_some (find fid_cmp disk_descriptor (entries (found ss)))) 0 (descriptor_pages shape)) (cond {A = ℕ} (lives ss disk_descriptor) 0 (descriptor_pages shape)) = ap (λ b. cond {A = ℕ} b 0 (descriptor_pages shape)) (ap is_some (sym (get-entries (found ss) disk_descriptor) ∙ get-found ss disk_descriptor) ∙ some_map (read_file disk_descriptor (file_bytes ss disk_descriptor)) (leader ss disk_descriptor)) in
     omega arith
-  where
-    map_some : (f : Fid) (bytes : List ℕ) (r : Option Leader) → is_some (option_map (read_file f bytes) r) ≡ is_some r
-    map_some f bytes None = refl
-    map_some f bytes (Some x) = refl
 
 -- there is room where needed is at most the available
 pub room_is : (shape : Shape) (ss : List Sight) → ((f : Fid) → AreShort (page ss f)) → (HasRoom (mended shape ss) → needed shape ss ≤ available shape ss) × (needed shape ss ≤ available shape ss → HasRoom (mended shape ss))

@@ -20,7 +20,6 @@ use Rattle.count_laws.proofs.DirRooted.{rooted_was, same_count, zeros}
 use Rattle.count_laws.proofs.RootEntries.{RootScan, root_found, root_turns}
 use Rattle.count_laws.proofs.RootStanding.{root_may}
 use Rattle.count_laws.proofs.RootTurns.{root_was, turn_enters}
-use Rattle.count_laws.proofs.Standing.{left_words}
 use Rattle.count_laws.specs.NextLaws.{MayBeEntered, NextComes}
 use Rattle.record_laws.proofs.DirReads.{has_leader}
 use Rattle.record_laws.proofs.DirWords.{dir_change}
@@ -31,6 +30,7 @@ use Rattle.record_laws.proofs.Mending.{entries-tidied}
 use Rattle.record_laws.proofs.Roomy.{placed_there}
 use Rattle.record_laws.proofs.Scanned.{kept_before, tidied_items}
 use Rattle.record_laws.proofs.Slotwise.{words-append}
+use Rattle.record_laws.proofs.SystemEntries.{left_words}
 use Rattle.record_laws.specs.DirLaws.{entered}
 
 -- ---- the next entry

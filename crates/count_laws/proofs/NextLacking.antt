@@ -1,7 +1,6 @@
 -- The next entry that is lacking comes: what is shown stays, and the others are lacking then.
-use Rattle.std.proofs.Common.{◌++◌, ◌||◌, ◌∙◌, ◌∷◌, ◌≡◌, Bool, List, None, Option, Some, [], ap, cond, false, not, refl, sym, true, ℕ}
+use Rattle.std.proofs.Common.{◌++◌, ◌||◌, ◌∙◌, ◌∷◌, ◌≡◌, Bool, List, None, Some, [], ap, cond, false, not, refl, sym, true, ℕ}
 use Rattle.std.specs.FinMap.{FinMap, contains_key, entries, find, get, get-entries, insert}
-use Rattle.std.specs.Option.{is_some}
 use Rattle.alto_words.specs.Fid.{disk_descriptor, fid_cmp, is_fid, is_system, sys_dir}
 use Rattle.alto_words.specs.declared.fid.Fid.{Fid}
 use Rattle.disk_records.specs.declared.shape.Shape.{Shape}
@@ -21,6 +20,7 @@ use Rattle.record_laws.proofs.Entered.{directory}
 use Rattle.record_laws.proofs.Keeping.{get-where}
 use Rattle.record_laws.proofs.Settles.{has_name, named_insert, next_settles}
 use Rattle.record_laws.specs.EnterLaws.{AllNamed}
+use Rattle.pack_laws.proofs.Placing.{none_of_false}
 
 pub record FirstGiven (names : FinMap fid_cmp Home) (es : List (Fid × Seen)) (f : Fid) (n : List ℕ) (rest : List (Fid × List ℕ)) : Type 0 where
   pub x : Seen
@@ -31,11 +31,6 @@ pub record FirstGiven (names : FinMap fid_cmp Home) (es : List (Fid × Seen)) (f
   pub nameless : get names f ≡ None
   pub name_is : n ≡ chosen names x.leader.name
   pub rest_is : rest ≡ given_names (given names f x) later
-
--- none where there isn't some
-not_some : {X : Type 0} (r : Option X) → is_some r ≡ false → r ≡ None
-not_some None e = refl
-not_some (Some x) e = cc
 
 -- the first nameless file is the one that gets the first name
 pub first_given : (names : FinMap fid_cmp Home) (es : List (Fid × Seen)) (f : Fid) (n : List ℕ) (rest : List (Fid × List ℕ)) → given_names names es ≡ (f, n) ∷ rest → FirstGiven names es f n rest
@@ -57,7 +52,7 @@ first_given names (y ∷ es) f n rest e = by (λ e. first_given names es f n res
           later = es;
           split = λ i. (a i, y.1) ∷ es;
           named = tt;
-          nameless = ap (get names) (sym a) ∙ not_some (get names y.0) c;
+          nameless = ap (get names) (sym a) ∙ none_of_false (get names y.0) c;
           name_is = sym b;
           rest_is = sym d ∙ ap (λ g. given_names (given names g y.1) es) a;
         }

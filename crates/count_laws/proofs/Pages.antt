@@ -108,15 +108,11 @@ module _ (ss : List Sight) (f : Fid) where
   only_same : (n at : ℕ) (g : Fid) (k : ℕ) → (is_fid g f && k == n && is_place at (place ss g k)) ≡ (is_fid f g && n == k && is_place at (place ss f n))
   only_same n at g k = by (is_fid g f) (k == n) refl refl
     where
-      nothing : (c d : Bool) → (c && false && d) ≡ false
-      nothing true d = refl
-      nothing false d = refl
-
       by : (a b : Bool) → is_fid g f ≡ a → (k == n) ≡ b → (a && b && is_place at (place ss g k)) ≡ (is_fid f g && n == k && is_place at (place ss f n))
       by true true p q =
           let e : k ≡ n = eqb-true k n q in
           sym (ap (λ c. c && n == k && is_place at (place ss f n)) (is_fid-sym f g ∙ p) ∙ ap (λ c. c && is_place at (place ss f n)) (eq-eqb n k (sym e)) ∙ ap (λ h. is_place at (place ss h n)) (sym (same_fid g f p)) ∙ ap (λ m. is_place at (place ss g m)) (sym e))
-      by true false p q = sym (ap (λ c. is_fid f g && c && is_place at (place ss f n)) (ne_eqb n k (λ e. let x : true ≡ false = sym (eq-eqb k n (sym e)) ∙ q in cc)) ∙ nothing (is_fid f g) _)
+      by true false p q = sym (ap (λ c. is_fid f g && c && is_place at (place ss f n)) (ne_eqb n k (λ e. let x : true ≡ false = sym (eq-eqb k n (sym e)) ∙ q in cc)) ∙ nothing_left (is_fid f g) _)
       by false b p q = sym (ap (λ c. c && n == k && is_place at (place ss f n)) (is_fid-sym f g ∙ p))
 
   -- so on each sector

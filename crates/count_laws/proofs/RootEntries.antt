@@ -31,7 +31,7 @@ use Rattle.record_laws.proofs.DirWords.{DirChange, dir_change}
 use Rattle.record_laws.proofs.EnterScan.{find_replaced}
 use Rattle.record_laws.proofs.Entered.{directory}
 use Rattle.record_laws.proofs.Scanned.{kept_before, kept_none, none_in_front, not_kept, scan_at, scan_tidied, tidied_items}
-use Rattle.record_laws.proofs.Slotwise.{slots_freed, words-append}
+use Rattle.record_laws.proofs.Slotwise.{one_word, slots_freed, words-append}
 use Rattle.record_laws.proofs.Unkept.{unkept_items}
 use Rattle.record_laws.specs.DirLaws.{freed}
 use Rattle.record_laws.specs.QuietLaws.{with_label}
@@ -63,10 +63,6 @@ scan_turns v files d l is js here same =
     ∙ sym (get-insert fid_total (from_entries {R = fid_cmp} (files_kept (is_kept v) [] (entries files))) d new g))
 
 -- ---- an entry that isn't kept
--- the words of one entry
-one_word : (f : Fid) (name : List ℕ) → all_words (entry f name ∷ []) ≡ item_words (entry f name)
-one_word f name = omega arith
-
 -- the scan leaves it out
 unkept_scan : (v : Fid → Bool) (files : Files) (d : Fid) (l : Leader) (is js a b : List Item) (f : Fid) (name : List ℕ) → get files d ≡ Some (directory l is) → is ≡ a ++ entry f name ∷ b → js ≡ a ++ space (item_words (entry f name)) ∷ b
     → get_or (items_in (get (tidied v files) d)) (length a) (entry f name) ≡ space (item_words (entry f name)) → tidied v (insert files d (directory l js)) ≡ tidied v files

@@ -36,7 +36,7 @@ unfolding lacking view
 lacking_files m n e = ap (λ fs. lacking (record { shape = m.shape; good = m.good; last = m.last; files = fs })) e
 
 -- the list of what is lacking, by the entries and the view
-abbrev listed : List Naming → View → List (Fid × List ℕ)
+abbrev pub listed : List Naming → View → List (Fid × List ℕ)
 listed ns v = unless (list_any (λ n. is_fid n.fid sys_dir) ns) (sys_dir, sys_dir_name) (unless (list_any (λ n. is_fid n.fid disk_descriptor) ns) (disk_descriptor, descriptor_name) (given_names v.names (entries v.files)))
 
 -- These are SysDir's slots before and after, and all else stays.

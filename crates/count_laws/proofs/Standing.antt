@@ -1,13 +1,16 @@
 -- Where an item comes to stand among slots: entries and words.
-use Rattle.std.proofs.Common.{◌++◌, ◌+◌, ◌-◌, ◌∙◌, ◌∷◌, ◌≡◌, ◌≤◌, Bool, List, None, Option, Some, [], ap, arith, cond, false, le-leb, nat_le, refl, subst, suc, sym, true, zero, ℕ}
-use Rattle.std.specs.Option.{option_map, option_or}
+use Rattle.std.proofs.Common.{◌++◌, ◌+◌, ◌-◌, ◌∙◌, ◌∷◌, ◌≡◌, ◌≤◌, Bool, List, None, Option, Some, [], ap, arith, cond, false, le-leb, nat_le, refl, subst, sym, true, ℕ}
+use Rattle.std.specs.Option.{is_some, option_map, option_or}
 use Rattle.alto_words.specs.declared.fid.Fid.{Fid}
 use Rattle.pack_model.specs.Mended.{with_page}
 use Rattle.pack_model.specs.Namings.{namings_in}
 use Rattle.pack_model.specs.Rooms.{in_run, left_over, placed, run}
 use Rattle.pack_model.specs.Slots.{Item, all_words, item_words}
 use Rattle.pack_model.specs.Slots.Item.{entry, space}
+use Rattle.pack_laws.proofs.Placing.{none_of_false}
 use Rattle.record_laws.proofs.Roomy.{run_enough}
+use Rattle.record_laws.proofs.SystemEntries.{left_names, left_words}
+use Rattle.record_laws.proofs.Tidying.{some_map}
 
 -- ---- where the entry comes to stand
 pub record Stands (d f : Fid) (name : List ℕ) (is js : List Item) : Type 0 where
@@ -29,11 +32,6 @@ run_names d n (space k ∷ is) r e = by (λ q e. run_names d (n - k) is q e) (na
         more : (o : Option (ℕ × List Item)) → run (n - k) is ≡ o → option_map (λ r. (k + r.0, r.1)) o ≡ Some r → namings_in d is ≡ namings_in d r.1
         more None p e = absurd (let x : None ≡ Some r = e in cc)
         more (Some q) p e = let x : (k + q.0, q.1) ≡ r = cc in again q p ∙ ap (λ r. namings_in d r.1) x
-
--- words left over have no entry
-left_names : (d : Fid) (n : ℕ) (is : List Item) → namings_in d (left_over n is) ≡ namings_in d is
-left_names d zero is = refl
-left_names d (suc n) is = refl
 
 -- an item in a run
 in_run_stands : (d f : Fid) (name : List ℕ) (is js : List Item) → in_run (entry f name) (run (item_words (entry f name)) is) ≡ Some js → Stands d f name is js
@@ -89,11 +87,6 @@ run_words n (space k ∷ is) r e = by (λ q e. run_words (n - k) is q e) (nat_le
             let t : k + all_words is ≡ k + q.0 + all_words q.1 = let s = again q p in omega arith in
             t ∙ ap (λ (q : ℕ × List Item). q.0 + all_words q.1) x
 
--- words left over
-pub left_words : (n : ℕ) (is : List Item) → all_words (left_over n is) ≡ n + all_words is
-left_words zero is = omega arith
-left_words (suc n) is = refl
-
 -- an item in a run leaves the words as many
 in_run_words : (i : Item) (is js : List Item) → in_run i (run (item_words i) is) ≡ Some js → all_words js ≡ all_words is
 in_run_words i is js e = by (run (item_words i) is) refl e
@@ -130,11 +123,6 @@ some_or : (a : Option (List Item)) (b : Option (List Item)) → (b ≡ None → 
 some_or None b some e = some e
 some_or (Some x) b some e = let y : Some x ≡ None = e in cc
 
--- some stays some
-some_map : (g : List Item → List Item) (b : Option (List Item)) → (b ≡ None → ⊥) → option_map g b ≡ None → ⊥
-some_map g None some e = some refl
-some_map g (Some x) some e = let y : Some (g x) ≡ None = e in cc
-
 -- a page more has room for up to 256 words
 pub page_places : (i : Item) (is : List Item) → item_words i ≤ 256 → placed i (with_page is) ≡ None → ⊥
 unfolding placed
@@ -143,4 +131,4 @@ page_places i [] l e = single (nat_le (item_words i) 256) (le-leb (item_words i)
     single : (b : Bool) → b ≡ true → option_or (in_run i (cond b (Some (256, [])) (option_map {T = ℕ × List Item} (λ r. (256 + r.0, r.1)) None))) (option_map {T = List Item} (λ ks. space 256 ∷ ks) None) ≡ None → ⊥
     single true t e = let x : Some (i ∷ left_over (256 - item_words i) []) ≡ None = e in cc
     single false t e = cc
-page_places i (k ∷ is) l e = some_or (in_run i (run (item_words i) (k ∷ with_page is))) (option_map (λ ks. k ∷ ks) (placed i (with_page is))) (some_map (λ ks. k ∷ ks) (placed i (with_page is)) (page_places i is l)) e
+page_places i (k ∷ is) l e = some_or (in_run i (run (item_words i) (k ∷ with_page is))) (option_map (λ ks. k ∷ ks) (placed i (with_page is))) (λ none. page_places i is l (none_of_false (placed i (with_page is)) (sym (some_map (λ ks. k ∷ ks) (placed i (with_page is))) ∙ ap is_some none))) e

@@ -19,7 +19,8 @@ use Rattle.pack_model.specs.Sights.{Sight}
 use Rattle.pack_model.specs.Slots.{slots}
 use Rattle.count_laws.specs.CountLaws.{placed_all, placed_pages}
 use Rattle.pack_laws.proofs.Bytes.{length-words_of}
-use Rattle.pack_laws.proofs.Joining.{AreShort, has_byte}
+use Rattle.pack_laws.proofs.Joining.{AreShort}
+use Rattle.pack_laws.proofs.ByteInPages.{has_byte}
 use Rattle.pack_laws.proofs.Keys.{is_fid-itself, is_fid-sym, same_fid}
 use Rattle.pack_laws.proofs.Placing.{leader_of_place, no_leader, no_page, page_of_place}
 use Rattle.record_laws.proofs.Around.{first_part, not_below, second_part}

@@ -32,6 +32,7 @@ use Rattle.cut_laws.proofs.OneCommit.{moves_step}
 use Rattle.cut_laws.proofs.Parting.{of_both_parts}
 use Rattle.cut_laws.proofs.Still.{still_self}
 use Rattle.cut_laws.specs.CutLaws.{Line, LineLaw, LineStays, LinesJoin, UnmarkedLineLaw, does, makes, over, with_serial}
+use Rattle.line_laws.proofs.SettledAgain.{first_ready}
 
 -- ---- the last serial aside
 -- it is no matter for readiness
@@ -47,11 +48,6 @@ ready_last m k h = record {
 make_from : {m : Model} {p : Pack} {events : List Event} {o : Operation} → Obeys viewing m p events (make_moves o) → (n : Model) → view m ≡ view n → step m o ≡ step n o → Obeys viewing n p events (make_moves o)
 make_from (write h1 m1 (write h2 m2 (write h3 m3 (write h4 m4 (write {p = p} {at = at} {part = part} {words = words} {events = events} h5 m5 later))))) n v e =
     write (h1 ∙ v) m1 (write (h2 ∙ v) m2 (write (h3 ∙ v) m3 (write (h4 ∙ v) m4 (write (h5 ∙ v) m5 (subst (λ x. Obeys viewing x (after p (Wrote at part words ∷ [])) events (quiet ∷ [])) e later)))))
-
--- the first model of a line
-ready_first : (m : Model) (ops : List Operation) → ReadyThroughout m ops → Ready m
-ready_first m [] h = h
-ready_first m (o ∷ ops) h = h.0
 
 -- ---- one after another
 -- one pack that is read as a ready model
@@ -72,7 +68,7 @@ leaves (does {p = p} {events = events} {later = later} {o = o} {ops = ops} other
     let next : Obeys viewing (steps viewing m (moves_of m o)) q later (moves_of_all (step m o) ops) = subst (λ x. Obeys viewing x q later (moves_of_all (step m o) ops)) (sym (moves_step Views m o)) (later_obeys q (step m o) later ops s.reads h.obeys) in
     record {
       obeys = subst (λ first. Obeys viewing m p (events ++ later) ((first ++ moves_of m o) ++ moves_of_all (step m o) ops)) (sym other) (obeys_then viewing s.obeys next);
-      cuts = λ ready. of_both_parts Mendable p events later (s.cuts unmarked ready.0 (ready_first (step m o) ops ready.1)) (h.cuts (subst (λ x. ReadyThroughout x ops) (sym s.reads) ready.1));
+      cuts = λ ready. of_both_parts Mendable p events later (s.cuts unmarked ready.0 (first_ready (step m o) ops ready.1)) (h.cuts (subst (λ x. ReadyThroughout x ops) (sym s.reads) ready.1));
       unmarked = subst Unmarked (sym both) h.unmarked;
       whole = subst Whole (sym both) h.whole;
       tidy = subst Tidy (sym both) h.tidy;
@@ -95,7 +91,7 @@ leaves (makes {p = p} {at = at} {last = last} {events = events} {later = later} 
       cuts = λ ready. (
         mendable_now p w unmarked ready.0,
         of_both_parts Mendable q events later
-            (s.cuts still (subst Ready (sym g.reads) (ready_last m last ready.0)) (subst Ready (sym same) (ready_first (step m o) ops ready.1)))
+            (s.cuts still (subst Ready (sym g.reads) (ready_last m last ready.0)) (subst Ready (sym same) (first_ready (step m o) ops ready.1)))
             (h.cuts (subst (λ x. ReadyThroughout x ops) (sym reads) ready.1)),
       );
       unmarked = subst Unmarked (sym both) h.unmarked;

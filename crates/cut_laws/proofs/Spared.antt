@@ -1,6 +1,6 @@
 -- The record writes of each operation leave SysDir's leader and DiskDescriptor alone.
-use Rattle.std.proofs.Common.{Bool, List, None, Some, [], ap, arith, cond, eq-eqb, false, get_or, inl, inr, length, length-drop, refl, set, subst, suc, sym, take, true, ℕ, ◌++◌, ◌+◌, ◌-◌, ◌/◌, ◌<◌, ◌||◌, ◌∙◌, ◌∷◌, ◌≡◌, ◌≢◌}
-use Rattle.std.proofs.lemmas.Bool.{cases_lt}
+use Rattle.std.proofs.Common.{Bool, List, None, Some, [], ap, arith, cond, eq-eqb, false, get_or, inl, inr, length, length-drop, refl, set, subst, suc, sym, take, true, ℕ, ◌++◌, ◌+◌, ◌-◌, ◌/◌, ◌<◌, ◌∙◌, ◌∷◌, ◌≡◌, ◌≢◌}
+use Rattle.std.proofs.lemmas.Bool.{cases_lt, or_parts}
 use Rattle.std.proofs.lemmas.List.Elements.{All-append, All-nil}
 use Rattle.std.specs.Prelude.{◌==◌}
 use Rattle.alto_words.specs.Fid.{disk_descriptor, is_directory, is_fid, sys_dir}
@@ -32,11 +32,6 @@ use Rattle.cut_laws.proofs.Sparing.{IsElse, claim_spares, names_else, reclaim_sp
 use Rattle.cut_laws.specs.SpareLaws.{CutSpares, DropSpares, EnterSpares, GoSpares, GrowSpares, LeaderSpares, MakeSpares, PutSpares, SlotSpares, Spares, SparesSystem, WidenSpares}
 
 -- ---- names of files
--- neither of two
-neither : (a b : Bool) → (a || b) ≡ false → (a ≡ false) × (b ≡ false)
-neither true b e = absurd cc
-neither false b e = (refl, e)
-
 -- an ordinary file isn't SysDir
 not_root : (f : Fid) → is_directory f ≡ false → is_fid f sys_dir ≡ false
 not_root f ordinary = by (is_fid f sys_dir) refl
@@ -107,7 +102,7 @@ make_spares p f name moment page leader w h =
 pub go_spares : GoSpares
 go_spares p f at pages w h =
     let x : Page = page_number f 0 in
-    let apart = neither (is_fid f sys_dir) (is_fid f disk_descriptor) h.no_system in
+    let apart = or_parts (is_fid f sys_dir) (is_fid f disk_descriptor) h.no_system in
     All-append (SparesSystem p) (release_writes at) (releases_writes pages)
     (release_spares p w.root.0 w.root.1 at x (place_carried p x at h.sector) (record { no_descriptor = apart.1; no_root = inr apart.0 }))
     (releases_spare p w.root.0 w.root.1 f 1 pages apart.1 (omega arith) h.pages_are)

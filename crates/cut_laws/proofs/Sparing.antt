@@ -4,7 +4,7 @@ use Rattle.std.proofs.lemmas.List.Elements.{All-append, All-cons, All-nil}
 use Rattle.alto_words.specs.Fid.{disk_descriptor, is_fid, sys_dir}
 use Rattle.alto_words.specs.declared.fid.Fid.{Fid}
 use Rattle.disk_records.specs.Commands.{claim_writes, ones, release_writes, relabel_writes, value_writes}
-use Rattle.disk_records.specs.Labels.{in_range, is_free, page_of, tag}
+use Rattle.disk_records.specs.Labels.{is_free, page_of, tag}
 use Rattle.disk_records.specs.Packs.{Pack, carried, is_free_at, sector_at}
 use Rattle.disk_records.specs.declared.records.Event.TheVariants.{Wrote}
 use Rattle.disk_records.specs.declared.records.Page.{Page}
@@ -20,6 +20,7 @@ use Rattle.pack_laws.proofs.Guarding.{carried_parts, free_parts, free_unnamed}
 use Rattle.pack_laws.proofs.Keys.{is_fid-itself}
 use Rattle.record_laws.proofs.Copying.{place_carried}
 use Rattle.record_laws.proofs.Recording.{free_sight}
+use Rattle.operation_laws.proofs.Commanding.{ones_none}
 use Rattle.operation_laws.proofs.Showing.{free_is, is_here, usable_is}
 use Rattle.operation_laws.specs.ByteLaws.{Bear}
 use Rattle.cut_laws.specs.SpareLaws.{Spares, SparesAt, SparesSystem}
@@ -39,11 +40,6 @@ names_else words x is apart page e = let same : page ≡ x = (let both : Some pa
 
 pub names_none : (words : List ℕ) → page_of words ≡ None → NamesElse words
 names_none words none page e = absurd (let both : None ≡ Some page = sym none ∙ e in cc)
-
--- ones
-pub ones_name_none : page_of (ones 8) ≡ None
-unfolding in_range
-ones_name_none = refl
 
 module _ (p : Pack) (l : Leader) (root : get_or (sights p) 1 hidden ≡ leads sys_dir true l) where
   -- sector 1 carries SysDir's leader
@@ -91,7 +87,7 @@ module _ (p : Pack) (l : Leader) (root : get_or (sights p) 1 hidden ≡ leads sy
     relabel_spares x label value is other names = All-cons (SparesSystem p) (Wrote at 1 label) (value_writes at value) (label_spares x label is other names) (value_alone x value is other)
 
     pub release_spares : (x : Page) → carried p at ≡ Some x → IsElse x → Spares p (release_writes at)
-    release_spares x is other = relabel_spares x (ones 8) (ones 256) is other (names_none (ones 8) ones_name_none)
+    release_spares x is other = relabel_spares x (ones 8) (ones 256) is other (names_none (ones 8) ones_none)
 
     -- of a page that is in use, its value, its label and its value again
     pub reclaim_spares : (x : Page) (label value : List ℕ) → carried p at ≡ Some x → IsElse x → NamesElse label → Spares p (claim_writes at label value)

@@ -19,7 +19,7 @@ use Rattle.pack_model.specs.Sights.{sights}
 use Rattle.pack_model.specs.Whole.{Whole}
 use Rattle.count_laws.specs.MarkLaws.{mark_page}
 use Rattle.pack_laws.proofs.Filing.{place_lowest}
-use Rattle.pack_laws.proofs.Guarding.{carried_parts, front_from, here_written, other_kept, usable_within}
+use Rattle.pack_laws.proofs.Guarding.{carried_parts, here_written, other_kept, usable_within, value_page}
 use Rattle.pack_laws.proofs.Placing.{leader_of_place, place_of_leader}
 use Rattle.record_laws.proofs.Copying.{place_carried}
 use Rattle.record_laws.proofs.Recording.{carried_sight}
@@ -37,10 +37,6 @@ pub record Still (p q : Pack) : Type 0 where
 pub still_self : (p : Pack) → Still p p
 still_self p = record { shape = refl; root = refl; pages = λ i x c d. refl; none_new = λ i x c d. c }
 
--- a value write leaves what sectors carry
-value_carries : (q : Pack) (at : ℕ) (value : List ℕ) (i : ℕ) → carried (after q (Wrote at 2 value ∷ [])) i ≡ carried q i
-value_carries q at value i = let front = front_from q.sectors at i value in λ j. cond (is_usable q.shape i (record { header = front.0 j; label = []; value = [] })) (page_of (front.1 j)) None
-
 -- a page of DiskDescriptor isn't one of another file
 one_file : (x : Page) → is_fid x.fid disk_descriptor ≡ true → is_fid x.fid disk_descriptor ≡ false → ⊥
 one_file x a b = let t : true ≡ false = sym a ∙ b in cc
@@ -52,7 +48,7 @@ module _ (p q : Pack) (at part : ℕ) (words : List ℕ) (s : Still p q) (h : Sp
   -- the written sector carries no page of DiskDescriptor
   here_new : (x : Page) → carried written at ≡ Some x → is_fid x.fid disk_descriptor ≡ true → carried p at ≡ Some x
   here_new x c d = elim h.record_is [
-    | inl value ↦ s.none_new at x (sym (ap (λ k. carried (after q (Wrote at k words ∷ [])) at) value ∙ value_carries q at words at) ∙ c) d
+    | inl value ↦ s.none_new at x (sym (ap (λ k. carried (after q (Wrote at k words ∷ [])) at) value ∙ value_page q at words at) ∙ c) d
     | inr label ↦ absurd (
         let c1 : carried (after q (Wrote at 1 words ∷ [])) at ≡ Some x = sym (ap (λ k. carried (after q (Wrote at k words ∷ [])) at) label.0) ∙ c in
         let parts = carried_parts (after q (Wrote at 1 words ∷ [])) at x c1 in

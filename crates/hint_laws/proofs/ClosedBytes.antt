@@ -6,6 +6,7 @@ use Rattle.pack_model.specs.Bytes.{bytes_of}
 use Rattle.pack_model.specs.PageWords.{filled}
 use Rattle.pack_model.specs.Whole.{IsLaid, PageAt}
 use Rattle.operation_laws.specs.ByteLaws.{together}
+use Rattle.std.proofs.Math.Seq.{take-append-add}
 
 -- the bytes of words, one after another
 bytes_of-append : (a b : List ℕ) → bytes_of (a ++ b) ≡ bytes_of a ++ bytes_of b
@@ -15,11 +16,6 @@ bytes_of-append (w ∷ a) b = ap (λ r. (w / 256) ∷ (w % 256) ∷ r) (bytes_of
 -- the bytes of words are those of the first 256 and then those of the others
 bytes_split : (ws : List ℕ) → bytes_of ws ≡ bytes_of (take 256 ws) ++ bytes_of (drop 256 ws)
 bytes_split ws = ap bytes_of (sym (take-append-drop 256 ws)) ∙ bytes_of-append (take 256 ws) (drop 256 ws)
-
--- some first bytes of two lists
-take_both : (a b : List ℕ) (n : ℕ) → take (length a + n) (a ++ b) ≡ a ++ take n b
-take_both [] b n = let z : 0 + n ≡ n = omega arith in ap (λ m. take m b) z
-take_both (x ∷ a) b n = let z : suc (length a) + n ≡ suc (length a + n) = omega arith in ap (λ m. take m (x ∷ (a ++ b))) z ∙ ap (λ r. x ∷ r) (take_both a b n)
 
 -- the value of data page n, counted from 0, of a file of these words; zeros past its end
 abbrev pub page_words : List ℕ → ℕ → List ℕ
@@ -87,6 +83,6 @@ shown_bytes text n (c ∷ d ∷ cs) shows laid within =
     let left_is = ap length later in
     let next : rest ≡ take (length rest) (bytes_of (drop (256 * suc n) text)) = shown_bytes text (suc n) (d ∷ cs) shows.1 laid.1 (omega arith) in
     ap (λ r. c.1 ++ r) (next ∙ ap (λ v. take (length rest) (bytes_of v)) (sym later))
-    ∙ sym (take_both c.1 (bytes_of (drop 256 ws)) (length rest))
+    ∙ sym (take-append-add c.1 (bytes_of (drop 256 ws)) (length rest))
     ∙ ap (λ m. take m (c.1 ++ bytes_of (drop 256 ws))) (sym size)
     ∙ ap (take (length (c.1 ++ rest))) (ap (λ b. b ++ bytes_of (drop 256 ws)) page ∙ sym (bytes_split ws))

@@ -18,9 +18,10 @@ use Rattle.pack_model.specs.Sound.{mark_clean}
 use Rattle.pack_model.specs.Tables.{words_of_bits}
 use Rattle.pack_model.specs.Whole.{Carries, IsSeat, PageAt, Seated, Whole}
 use Rattle.record_laws.proofs.DirReads.{has_leader}
+use Rattle.record_laws.proofs.Seats.{seat_once}
 use Rattle.operation_laws.proofs.Changing.{headed}
 use Rattle.operation_laws.proofs.Grown.{old_counted}
-use Rattle.operation_laws.proofs.Lying.{bytes_laid, seat_once}
+use Rattle.operation_laws.proofs.Lying.{bytes_laid}
 use Rattle.operation_laws.proofs.Rows.{pages_by_bytes, place_alone}
 use Rattle.operation_laws.proofs.Seating.{carries_none}
 use Rattle.operation_laws.specs.ByteLaws.{together}

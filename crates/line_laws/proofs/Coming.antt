@@ -86,9 +86,6 @@ module _ (d f : Fid) (name : List ℕ) (short : length name ≤ 39) where
         named : (q : Fid) → IsNamed m q → IsNamed (step m (enter d name f)) q
         named q h = named_updated m d entering q (λ x e. (body_enter x.body).named q) h
 
-        now_root : Type 0
-        now_root = IsNamed (step m (enter d name f)) f ⊎ (longest_entry ≤ largest_run (root_items (step m (enter d name f))))
-
         in_root : (b : Bool) → is_fid sys_dir d ≡ b → IsNamed (step m (enter d name f)) f ⊎ (longest_entry ≤ largest_run (root_items (step m (enter d name f))))
         in_root false e =
             let same : root_items (step m (enter d name f)) ≡ root_items m = ap items_in (got_updated m d entering sys_dir ∙ ap (λ b. cond b (option_map entering (get m.files d)) (get m.files sys_dir)) e) in

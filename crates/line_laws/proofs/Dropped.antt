@@ -23,20 +23,12 @@ use Rattle.pack_model.specs.Slots.{Item, item_words}
 use Rattle.pack_model.specs.Slots.Item.{entry, space}
 use Rattle.pack_model.specs.Step.{body_without, file_without, item_without, items_without, step}
 use Rattle.pack_model.specs.Step.Operation.{drop_file}
-use Rattle.record_laws.proofs.Mending.{no_left, no_right}
 use Rattle.room_laws.proofs.FilesPages.{gone_pages}
-use Rattle.room_laws.proofs.Stepping.{without_pages}
+use Rattle.room_laws.proofs.Stepping.{item_kept, without_pages}
+use Rattle.record_laws.proofs.Tidying.{or_false_left, or_false_right}
 
 -- ---- slots without the entries of the file
 -- each has its words
-item_kept : (f : Fid) (i : Item) → item_words (item_without f i) ≡ item_words i
-item_kept f (space n) = refl
-item_kept f (entry g name) = by (is_fid g f)
-  where
-    by : (b : Bool) → item_words (cond b (space (item_words (entry g name))) (entry g name)) ≡ item_words (entry g name)
-    by true = refl
-    by false = refl
-
 pub short_kept : (f : Fid) (is : List Item) → All IsShort is → All IsShort (items_without f is)
 short_kept f [] h = h
 short_kept f (i ∷ is) h =
@@ -109,7 +101,7 @@ module _ (m : Model) (f : Fid) (s : Settled m) (h : MayGo m f) where
 
   -- SysDir isn't the file
   pub root_other : is_fid sys_dir f ≡ false
-  root_other = is_fid-sym sys_dir f ∙ no_left (is_fid f sys_dir) (is_fid f disk_descriptor) h.no_system
+  root_other = is_fid-sym sys_dir f ∙ or_false_left (is_fid f sys_dir) (is_fid f disk_descriptor) h.no_system
 
   -- its slots are slots
   root_short : All IsShort (items_in (get now sys_dir))
@@ -155,7 +147,7 @@ module _ (m : Model) (f : Fid) (s : Settled m) (h : MayGo m f) where
         nameless = sys_dir;
         named = record {
           main = main;
-          descriptor = named_still disk_descriptor (is_fid-sym disk_descriptor f ∙ no_right (is_fid f sys_dir) (is_fid f disk_descriptor) h.no_system) s.descriptor;
+          descriptor = named_still disk_descriptor (is_fid-sym disk_descriptor f ∙ or_false_right (is_fid f sys_dir) (is_fid f disk_descriptor) h.no_system) s.descriptor;
           others = λ g there other. still g (get now g) refl there;
         };
         room = inl main;

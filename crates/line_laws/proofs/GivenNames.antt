@@ -1,5 +1,5 @@
 -- The names that settling gives where at most one file is nameless.
-use Rattle.std.proofs.Common.{◌+◌, ◌∙◌, ◌∷◌, ◌≡◌, ◌≤◌, ◌⊎◌, Bool, List, Option, Some, [], ap, arith, cond, false, inl, inr, length, refl, suc, sym, true, zero, ℕ}
+use Rattle.std.proofs.Common.{◌+◌, ◌∙◌, ◌∷◌, ◌≡◌, ◌≤◌, ◌⊎◌, Bool, List, [], ap, arith, cond, false, inl, inr, length, refl, suc, sym, true, zero, ℕ}
 use Rattle.std.specs.FinMap.{FinMap, contains_key, get, get-insert}
 use Rattle.std.specs.Option.{is_some}
 use Rattle.alto_words.proofs.Made.{length-suffixed}
@@ -8,7 +8,7 @@ use Rattle.alto_words.specs.declared.fid.Fid.{Fid}
 use Rattle.pack_laws.proofs.Keys.{fid_total, same_fid}
 use Rattle.pack_model.specs.Settling.{choice, chosen, chosen_from, given, given_names, is_taken, most_suffixes, unless}
 use Rattle.pack_model.specs.View.{Home, Seen}
-use Rattle.record_laws.proofs.Settles.{has_name}
+use Rattle.record_laws.proofs.Settles.{has_name, some_more}
 use Rattle.room_laws.proofs.Each.{Each}
 
 -- ---- how long a chosen name is
@@ -70,10 +70,6 @@ one_given names f (e ∷ es) h = by (contains_key names e.0) refl (is_fid e.0 f)
         home : Home
         home = record { dir = sys_dir; name = chosen names e.1.leader.name }
 
-        more : (b : Bool) (h : Home) (r : Option Home) → is_some r ≡ true → is_some (cond b (Some h) r) ≡ true
-        more true h r t = refl
-        more false h r t = t
-
         named : (k : Fid) (c : Bool) → is_fid k f ≡ c → (is_fid k f ≡ false → contains_key names k ≡ true) → contains_key (given names e.0 e.1) k ≡ true
         named k true q has = ap (contains_key (given names e.0 e.1)) (same_fid k f q ∙ sym (same_fid e.0 f same)) ∙ has_name names e.0 home
-        named k false q has = ap is_some (get-insert fid_total names e.0 home k) ∙ more (is_fid k e.0) home (get names k) (has q)
+        named k false q has = ap is_some (get-insert fid_total names e.0 home k) ∙ some_more (is_fid k e.0) home (get names k) (has q)

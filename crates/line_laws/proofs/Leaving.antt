@@ -23,7 +23,6 @@ use Rattle.pack_model.specs.Slots.{Item, all_words, item_words}
 use Rattle.pack_model.specs.Slots.Item.{entry, space}
 use Rattle.pack_model.specs.Step.{body_slots, items_left, longest_entry, on_items, on_leader, step}
 use Rattle.pack_model.specs.Step.Operation.{leave, title, widen}
-use Rattle.record_laws.proofs.Mending.{no_left, no_right}
 use Rattle.record_laws.proofs.Tidying.{or_false_left, or_false_right}
 
 -- The first of these slots under this name, in whatever case, is of the file.
@@ -129,8 +128,8 @@ module _ (m : Model) (d : Fid) (name : List ℕ) (f : Fid) (h : EntersIn d name 
           slots = items_updated m d leaving (All IsShort) sys_dir (λ x e. (leaves x e).short) s.fitting.slots;
         };
         named = record {
-          main = named sys_dir (no_left (is_fid f sys_dir) (is_fid f disk_descriptor) ordinary) s.named.main;
-          descriptor = named disk_descriptor (no_right (is_fid f sys_dir) (is_fid f disk_descriptor) ordinary) s.named.descriptor;
+          main = named sys_dir (or_false_left (is_fid f sys_dir) (is_fid f disk_descriptor) ordinary) s.named.main;
+          descriptor = named disk_descriptor (or_false_right (is_fid f sys_dir) (is_fid f disk_descriptor) ordinary) s.named.descriptor;
           others = λ g there other. named g (is_fid-sym f g ∙ other) (s.named.others g (sym (there_updated m d leaving g) ∙ there) other);
         };
         run = items_updated m d leaving (λ is. longest_entry ≤ largest_run is) sys_dir (λ x e k. let r = (leaves x e).row in omega arith) s.run;

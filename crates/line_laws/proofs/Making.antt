@@ -1,5 +1,5 @@
 -- A new file: it alone has no name, and SysDir still has the run for it.
-use Rattle.std.proofs.Common.{◌+◌, ◌∙◌, ◌≡◌, ◌≤◌, Bool, List, None, Option, Some, ap, arith, cond, false, length, refl, subst, sym, true, ℕ}
+use Rattle.std.proofs.Common.{◌+◌, ◌∙◌, ◌≡◌, ◌≤◌, Bool, List, None, Some, ap, arith, cond, false, length, refl, subst, sym, true, ℕ}
 use Rattle.std.specs.FinMap.{contains_key, entries, get, get-insert}
 use Rattle.std.specs.Option.{is_some}
 use Rattle.std.specs.Prelude.{All}
@@ -17,11 +17,7 @@ use Rattle.pack_model.specs.Step.{new_file, step}
 use Rattle.pack_model.specs.Step.Operation.{make}
 use Rattle.record_laws.proofs.FilePages.{new_pages}
 use Rattle.room_laws.proofs.Stepping.{first_pages}
-
--- a key that isn't there has no value
-pub no_key : (r : Option File) → is_some r ≡ false → r ≡ None
-no_key None e = refl
-no_key (Some x) e = cc
+use Rattle.pack_laws.proofs.Placing.{none_of_false}
 
 module _ (m : Model) (f : Fid) (name : List ℕ) (moment : ℕ) (s : Spared m f) (short : length name ≤ 39) (fresh : contains_key m.files f ≡ false) where
   -- the model then
@@ -29,7 +25,7 @@ module _ (m : Model) (f : Fid) (name : List ℕ) (moment : ℕ) (s : Spared m f)
   made = step m (make f name moment)
 
   none : get m.files f ≡ None
-  none = no_key (get m.files f) fresh
+  none = none_of_false (get m.files f) fresh
 
   -- a look-up
   got : (q : Fid) → get made.files q ≡ cond (is_fid q f) (Some (new_file f name moment)) (get m.files q)

@@ -1,18 +1,19 @@
 -- A file is named where some directory has an entry of it.
 use Rattle.std.proofs.Common.{◌++◌, ◌∙◌, ◌∷◌, ◌≡◌, ◌⊎◌, ◌||◌, Bool, List, Some, [], ap, false, inl, inr, refl, sym, true, ℕ}
+use Rattle.std.proofs.lemmas.Bool.{or_right}
 use Rattle.std.specs.FinMap.{entries, get}
 use Rattle.std.specs.List.{list_any}
 use Rattle.alto_words.specs.Fid.{is_fid}
 use Rattle.alto_words.specs.declared.fid.Fid.{Fid}
 use Rattle.pack_laws.proofs.Keys.{fid_same, fid_total, is_fid-itself}
-use Rattle.pack_model.specs.Bodies.{Body, File, Files, body_items}
-use Rattle.pack_model.specs.Bodies.Body.{data_of, items_of}
+use Rattle.pack_model.specs.Bodies.{File, Files, body_items}
 use Rattle.pack_model.specs.Namings.{Naming, body_namings, namings, namings_in}
 use Rattle.pack_model.specs.Slots.{Item}
 use Rattle.pack_model.specs.Slots.Item.{entry, space}
 use Rattle.record_laws.proofs.Around.{around}
 use Rattle.record_laws.proofs.Entered.{namings-append, namings_in-append}
 use Rattle.room_laws.proofs.Each.{Each, each_entry}
+use Rattle.operation_laws.proofs.Dropped.{bodies_bare}
 
 -- ---- some of several entries
 -- of the first ones
@@ -27,11 +28,7 @@ any_first t (x ∷ a) b h = by (t x) h (any_first t a b)
 -- of the others
 pub any_second : (t : Naming → Bool) (a b : List Naming) → list_any t b ≡ true → list_any t (a ++ b) ≡ true
 any_second t [] b h = h
-any_second t (x ∷ a) b h = or_true (t x) (any_second t a b h)
-  where
-    or_true : (c : Bool) {d : Bool} → d ≡ true → (c || d) ≡ true
-    or_true true h = refl
-    or_true false h = h
+any_second t (x ∷ a) b h = or_right (t x) (list_any t (a ++ b)) (any_second t a b h)
 
 -- of either
 pub any_either : (t : Naming → Bool) (a b : List Naming) → list_any t (a ++ b) ≡ true → (list_any t a ≡ true) ⊎ (list_any t b ≡ true)
@@ -74,11 +71,6 @@ pub record Mentioned (files : Files) (q : Fid) : Type 0 where
   pub there : get files dir ≡ Some own
   pub says : mentions q dir (body_items own.body) ≡ true
 
--- the entries of a body are those of its slots
-body_says : (d : Fid) (b : Body) → body_namings d b ≡ namings_in d (body_items b)
-body_says d (data_of bytes) = refl
-body_says d (items_of is) = refl
-
 -- a named file has one in some directory
 pub mentioned : (files : Files) (q : Fid) → list_any (λ n. is_fid n.fid q) (namings (entries files)) ≡ true → Mentioned files q
 mentioned files q h = somewhere (entries files) (each_entry (λ k x. get files k ≡ Some x) files (λ k x is. is)) h
@@ -88,7 +80,7 @@ mentioned files q h = somewhere (entries files) (each_entry (λ k x. get files k
     somewhere (e ∷ es) found h = by (any_either (λ n. is_fid n.fid q) (body_namings e.0 e.1.body) (namings es) h) (somewhere es found.1)
       where
         by : (list_any (λ n. is_fid n.fid q) (body_namings e.0 e.1.body) ≡ true) ⊎ (list_any (λ n. is_fid n.fid q) (namings es) ≡ true) → (list_any (λ n. is_fid n.fid q) (namings es) ≡ true → Mentioned files q) → Mentioned files q
-        by (inl here) again = record { dir = e.0; own = e.1; there = found.0; says = sym (ap (list_any (λ n. is_fid n.fid q)) (body_says e.0 e.1.body)) ∙ here }
+        by (inl here) again = record { dir = e.0; own = e.1; there = found.0; says = sym (ap (list_any (λ n. is_fid n.fid q)) (bodies_bare e.0 e.1.body)) ∙ here }
         by (inr later) again = again later
 
 -- and such a file is named
@@ -97,7 +89,7 @@ named_there files q h =
     let r = around fid_total fid_same files h.dir h.own h.there in
     let t : Naming → Bool = λ n. is_fid n.fid q in
     ap (λ es. list_any t (namings es)) r.was ∙ ap (list_any t) (namings-append r.front ((h.dir, h.own) ∷ r.back))
-    ∙ any_second t (namings r.front) (body_namings h.dir h.own.body ++ namings r.back) (any_first t (body_namings h.dir h.own.body) (namings r.back) (ap (list_any t) (body_says h.dir h.own.body) ∙ h.says))
+    ∙ any_second t (namings r.front) (body_namings h.dir h.own.body ++ namings r.back) (any_first t (body_namings h.dir h.own.body) (namings r.back) (ap (list_any t) (bodies_bare h.dir h.own.body) ∙ h.says))
 
 -- ---- slots that change
 -- a slot between others, by the entries before and behind it

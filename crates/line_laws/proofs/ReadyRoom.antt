@@ -24,6 +24,7 @@ use Rattle.pack_model.specs.Step.{longest_entry}
 use Rattle.pack_model.specs.View.{Home, Seen, homes, names_of, seen_of, view}
 use Rattle.record_laws.proofs.Keeping.{get-where}
 use Rattle.room_laws.proofs.Each.{each_entry}
+use Rattle.room_laws.proofs.SoundPacks.{no_widening}
 
 -- ---- names that are shown
 -- a file has a home where an entry names it
@@ -91,11 +92,6 @@ module _ (m : Model) (h : Ready m) where
       at k x there false e = h.named.others k (ap is_some there) e
 
 -- ---- pages for the names that lack
--- nothing lacks
-widens_none : (is : List Item) → widens is [] ≡ 0
-unfolding widens
-widens_none is = refl
-
 -- a name that has room
 widens_one : (is : List Item) (f : Fid) (name : List ℕ) → is_some (placed (entry f name) is) ≡ true → widens is ((f, name) ∷ []) ≡ 0
 unfolding widens
@@ -110,7 +106,7 @@ no_widens : (m : Model) → Ready m → widens (root_items m) (lacking m) ≡ 0
 no_widens m h = ap (widens (root_items m)) (lacking_given m h) ∙ by h.room
   where
     none : given_names (view m).names (entries (view m).files) ≡ [] → widens (root_items m) (given_names (view m).names (entries (view m).files)) ≡ 0
-    none e = ap (widens (root_items m)) e ∙ widens_none (root_items m)
+    none e = ap (widens (root_items m)) e ∙ no_widening (root_items m)
 
     by : IsNamed m h.nameless ⊎ (longest_entry ≤ largest_run (root_items m)) → widens (root_items m) (given_names (view m).names (entries (view m).files)) ≡ 0
     by (inl own) = none (none_lacking m h own)

@@ -9,7 +9,6 @@ use Rattle.alto_words.specs.Names.{is_same_name}
 use Rattle.alto_words.specs.declared.fid.Fid.{Fid}
 use Rattle.line_laws.proofs.Coming.{slots_enter}
 use Rattle.line_laws.proofs.FreeWords.{MoreFree, more_behind, row_behind, row_widened}
-use Rattle.line_laws.proofs.Making.{no_key}
 use Rattle.line_laws.proofs.Runs.{IsShort}
 use Rattle.line_laws.proofs.Updates.{got_updated}
 use Rattle.line_laws.specs.BehindLaws.{IsDirectory, RootIsDirectory}
@@ -26,6 +25,7 @@ use Rattle.pack_model.specs.Slots.{Item, item_words}
 use Rattle.pack_model.specs.Slots.Item.{entry, space}
 use Rattle.pack_model.specs.Step.{Operation, items_left, new_file, on_bytes, on_items, on_leader, step, update_file}
 use Rattle.pack_model.specs.Step.Operation.{cut, drop_file, enter, grow, leave, make, put, stamp, title, widen}
+use Rattle.pack_laws.proofs.Placing.{none_of_false}
 
 -- Slots of at most 1,023 words, with so many free words in a row.
 pub record Slotted (k : ℕ) (x : File) : Type 0 where
@@ -167,4 +167,4 @@ roomy_make k m f name moment d fresh h = by (is_fid d f) refl
   where
     by : (b : Bool) → is_fid d f ≡ b → Roomy k (step m (make f name moment)) d
     by false e = record { own = h.own; there = get-insert fid_total m.files f (new_file f name moment) d ∙ ap (λ b. cond b (Some (new_file f name moment)) (get m.files d)) e ∙ h.there; slotted = h.slotted }
-    by true e = absurd (let n : None ≡ Some h.own = sym (no_key (get m.files f) fresh) ∙ ap (get m.files) (sym (same_fid d f e)) ∙ h.there in cc)
+    by true e = absurd (let n : None ≡ Some h.own = sym (none_of_false (get m.files f) fresh) ∙ ap (get m.files) (sym (same_fid d f e)) ∙ h.there in cc)

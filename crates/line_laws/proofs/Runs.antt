@@ -7,6 +7,7 @@ use Rattle.std.specs.Prelude.{All}
 use Rattle.pack_model.specs.Rooms.{in_run, largest_run, left_over, most_free, placed, run, words_free}
 use Rattle.pack_model.specs.Slots.{Item, item_words}
 use Rattle.pack_model.specs.Slots.Item.{entry, space}
+use Rattle.record_laws.proofs.Tidying.{some_map}
 
 -- a slot that a free slot's length could have
 abbrev pub IsShort : Item → Type 0
@@ -20,10 +21,6 @@ or_first (Some x) b e = refl
 or_second : {X : Type 0} (a b : Option X) → is_some b ≡ true → is_some (option_or a b) ≡ true
 or_second None b e = e
 or_second (Some x) b e = refl
-
-some_map : {X Y : Type 0} (g : X → Y) (r : Option X) → is_some (option_map g r) ≡ is_some r
-some_map g None = refl
-some_map g (Some x) = refl
 
 -- ---- a run
 -- one slot has the words

@@ -13,7 +13,7 @@ use Rattle.pack_model.specs.Model.{IsNamed, Model}
 use Rattle.pack_model.specs.Step.{Operation, step}
 
 -- the first of several models is ready
-first_ready : (m : Model) (more : List Operation) → ReadyThroughout m more → Ready m
+pub first_ready : (m : Model) (more : List Operation) → ReadyThroughout m more → Ready m
 first_ready m [] h = h
 first_ready m (o ∷ more) h = h.0
 

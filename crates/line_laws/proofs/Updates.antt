@@ -17,6 +17,7 @@ use Rattle.pack_model.specs.Rooms.{largest_run}
 use Rattle.pack_model.specs.Slots.{Item}
 use Rattle.pack_model.specs.Step.{update_file}
 use Rattle.record_laws.proofs.FilePages.{changed_pages}
+use Rattle.record_laws.proofs.Tidying.{some_map}
 
 -- ---- what the new models keep
 -- each leader's name has at most 39 characters
@@ -52,12 +53,8 @@ module _ (m : Model) (d : Fid) (g : File → File) where
   pub there_updated : (q : Fid) → contains_key (update m.files d g) q ≡ contains_key m.files q
   there_updated q = ap is_some (got_updated q) ∙ by (is_fid q d) refl
     where
-      map_some : (r : Option File) → is_some (option_map g r) ≡ is_some r
-      map_some None = refl
-      map_some (Some x) = refl
-
       by : (b : Bool) → is_fid q d ≡ b → is_some (cond b (option_map g (get m.files d)) (get m.files q)) ≡ is_some (get m.files q)
-      by true e = map_some (get m.files d) ∙ ap (contains_key m.files) (sym (same_fid q d e))
+      by true e = some_map g (get m.files d) ∙ ap (contains_key m.files) (sym (same_fid q d e))
       by false e = refl
 
   -- pages

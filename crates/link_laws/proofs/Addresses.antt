@@ -1,5 +1,5 @@
 -- The addresses of entries in the words of a directory.
-use Rattle.std.proofs.Common.{All, List, Some, [], cond, arith, false, length, refl, subst, sym, true, ℕ, ◌++◌, ◌+◌, ◌/◌, ◌<◌, ◌∷◌, ◌≡◌, ◌≤◌, suc, zero}
+use Rattle.std.proofs.Common.{All, List, Some, [], cond, arith, false, length, refl, subst, sym, true, ℕ, ◌++◌, ◌+◌, ◌<◌, ◌∷◌, ◌≡◌, ◌≤◌, suc, zero}
 use Rattle.std.proofs.lemmas.List.Elements.{All-cons, All-head, All-nil, All-tail}
 use Rattle.alto_words.specs.Fid.{is_fid}
 use Rattle.alto_words.specs.declared.fid.Fid.{Fid}
@@ -12,6 +12,7 @@ use Rattle.pack_model.specs.SlotWords.{SlotAt, address_at, slots_at}
 use Rattle.pack_model.specs.Slots.{Item, all_words, item_words}
 use Rattle.pack_model.specs.Slots.Item.{entry, space}
 use Rattle.pack_model.specs.Step.{items_without}
+use Rattle.record_laws.proofs.Addressing.{entry_words_many}
 
 -- the addresses of these slots, which begin with this word, are true
 abbrev pub AllTrue : List Sight → List ℕ → ℕ → List Item → Type 0
@@ -37,14 +38,10 @@ to_slots ss words begin (i ∷ is) h =
     All-cons true_one s (slots_at words (begin + item_words i) is) h.0 (to_slots ss words (begin + item_words i) is h.1)
 
 -- ---- in other words
--- an entry has more words than its address
-entry_long : (n : ℕ) → 7 ≤ 6 + (n + 2) / 2
-entry_long n = omega arith
-
 -- an address in the same words
 address_same : (i : Item) (xs ys : List ℕ) (begin : ℕ) → ((k : ℕ) → begin ≤ k → k < begin + item_words i → word ys k ≡ word xs k) → address_at ys begin i ≡ address_at xs begin i
 address_same (space n) xs ys begin same = refl
-address_same (entry f name) xs ys begin same = let l = entry_long (length name) in same (begin + 5) (omega arith) (omega arith)
+address_same (entry f name) xs ys begin same = let l = entry_words_many (length name) in same (begin + 5) (omega arith) (omega arith)
 
 -- the same words have the same addresses
 pub true_words : (ss : List Sight) (xs ys : List ℕ) (begin : ℕ) (is : List Item) → ((k : ℕ) → begin ≤ k → k < begin + all_words is → word ys k ≡ word xs k) → AllTrue ss xs begin is → AllTrue ss ys begin is
@@ -99,10 +96,6 @@ true_replaced ss xs ys a old new b before behind size here h =
     true_join ss ys 0 a (new ++ b) first (subst (λ n. AllTrue ss ys n (new ++ b)) (sym z) (true_join ss ys (all_words a) new b here last))
 
 -- ---- the free slot for words left over
-pub left_split : (k : ℕ) (b : List Item) → left_over k b ≡ left_over k [] ++ b
-left_split zero b = refl
-left_split (suc k) b = refl
-
 -- has no address
 pub left_true : (ss : List Sight) (words : List ℕ) (begin k : ℕ) → AllTrue ss words begin (left_over k [])
 left_true ss words begin zero = tt

@@ -11,10 +11,9 @@ use Rattle.disk_records.specs.declared.records.Page.{Page}
 use Rattle.pack_model.specs.Files.{carries_page}
 use Rattle.pack_model.specs.Sights.{sights}
 use Rattle.pack_model.specs.Sights.Sight.{free, hidden}
-use Rattle.pack_laws.proofs.Guarding.{front_from, usable_within}
+use Rattle.pack_laws.proofs.Guarding.{front_from, usable_within, value_page}
+use Rattle.whole_laws.proofs.Carried.{carried_shows}
 use Rattle.link_laws.proofs.Framing.{AllConcern, OfOne}
-use Rattle.link_laws.proofs.Lone.{carried_shows}
-use Rattle.link_laws.proofs.Records.{value_carried}
 use Rattle.link_laws.proofs.Relabelled.{relabel_carried, relabel_concern, relabel_here, relabel_label}
 
 -- a free sector carries nothing
@@ -28,7 +27,7 @@ module _ (p : Pack) (at : ℕ) (label value : List ℕ) where
 
   -- what is carried then
   pub claim_carried : (i : ℕ) (x : Page) → carried (after p (claim_writes at label value)) i ≡ Some x → ((i ≡ at) × (page_of label ≡ Some x)) ⊎ (carried p i ≡ Some x)
-  claim_carried i x is = elim (relabel_carried valued at label value i x is) [ inl new ↦ inl new | inr old ↦ inr (sym (value_carried p at i value) ∙ old) ]
+  claim_carried i x is = elim (relabel_carried valued at label value i x is) [ inl new ↦ inl new | inr old ↦ inr (sym (value_page p at value i) ∙ old) ]
 
   -- its header stays
   still_usable : is_usable p.shape at (sector_at (after p (Wrote at 2 value ∷ [])) at) ≡ is_usable p.shape at (sector_at p at)
@@ -44,7 +43,7 @@ module _ (p : Pack) (at : ℕ) (label value : List ℕ) where
 
   -- a claim for f
   pub claim_concern : (f : Fid) → ((x : Page) → page_of label ≡ Some x → x.fid ≡ f) → OfOne f p at → AllConcern f p (claim_writes at label value)
-  claim_concern f names of = (of, relabel_concern valued at label value f names (λ x is. of x (sym (value_carried p at at value) ∙ is)))
+  claim_concern f names of = (of, relabel_concern valued at label value f names (λ x is. of x (sym (value_page p at value at) ∙ is)))
 
   -- a sector of f is of f still
   pub claim_of : (f : Fid) → ((x : Page) → page_of label ≡ Some x → x.fid ≡ f) → (i : ℕ) → OfOne f p i → OfOne f (after p (claim_writes at label value)) i

@@ -24,12 +24,12 @@ use Rattle.pack_laws.proofs.Placing.{one_page}
 use Rattle.pack_laws.proofs.Sighted.{length-sights}
 use Rattle.record_laws.proofs.Copying.{place_carried}
 use Rattle.record_laws.proofs.Recording.{carried_sight, carried_within}
+use Rattle.whole_laws.proofs.Carried.{carried_place}
 use Rattle.operation_laws.proofs.Cutting.{cut_law}
 use Rattle.operation_laws.specs.ByteLaws.{Bear, MayCut}
 use Rattle.link_laws.proofs.Ending.{none_later}
 use Rattle.link_laws.proofs.Framing.{AllConcern, concern_join, places_alike}
 use Rattle.link_laws.proofs.Linked.{FileLinks, file_links}
-use Rattle.link_laws.proofs.Lone.{carried_place}
 use Rattle.link_laws.proofs.OneFile.{old_linked, ordinary_true}
 use Rattle.link_laws.proofs.Records.{carried_same}
 use Rattle.link_laws.proofs.Relabelled.{relabel_apart, relabel_carried, relabel_concern, relabel_here, relabel_label, relabel_of}

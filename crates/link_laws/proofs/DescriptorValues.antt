@@ -70,9 +70,6 @@ of_pages p last busy n (at ∷ pages) h =
 pub close_links : CloseLinks
 close_links p busy pages k w t h links = by (mark_of (sights p) == mark_clean) ((close_law p busy pages w t h).keeps k)
   where
-    vs : List (ℕ × List ℕ)
-    vs = reverse (closed_values p.shape (read_pack p).last busy 0 pages)
-
     by : (c : Bool) → KeepsSound p (cut p (cond c [] (values_writes (reverse (closed_values p.shape (read_pack p).last busy 0 pages)))) k) → LinksTrue (cut p (cond c [] (values_writes (reverse (closed_values p.shape (read_pack p).last busy 0 pages)))) k)
     by true keeps = nothing k
       where

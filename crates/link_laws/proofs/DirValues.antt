@@ -12,7 +12,7 @@ use Rattle.pack_model.specs.Links.{LinksTrue, dir_words}
 use Rattle.pack_model.specs.Model.{dir_items, read_pack}
 use Rattle.pack_model.specs.PageWords.{in_page, page_number}
 use Rattle.pack_model.specs.Sights.{sights}
-use Rattle.pack_model.specs.Slots.{Item, all_words, item_words, slots}
+use Rattle.pack_model.specs.Slots.{Item, all_words, slots}
 use Rattle.pack_model.specs.Slots.Item.{entry, space}
 use Rattle.pack_model.specs.Whole.{Tidy, Whole}
 use Rattle.pack_laws.proofs.Keys.{same_fid}
@@ -21,14 +21,15 @@ use Rattle.pack_model.specs.Meanings.{reading}
 use Rattle.record_laws.proofs.Addressing.{LooseIn}
 use Rattle.record_laws.proofs.Copying.{place_carried}
 use Rattle.record_laws.proofs.DirWords.{dir_change}
-use Rattle.record_laws.proofs.Slotwise.{put_before, put_behind, slots_freed}
+use Rattle.record_laws.proofs.Slotwise.{one_word, put_before, put_behind, slots_freed}
 use Rattle.record_laws.specs.DirLaws.{Frees, dir_written}
+use Rattle.operation_laws.proofs.EnterLaw.{items_are}
 use Rattle.operation_laws.proofs.EnterStages.{join_stage, loose_stage}
 use Rattle.operation_laws.proofs.EntryWrite.{loose_in}
 use Rattle.operation_laws.proofs.Freeing.{slot_law}
 use Rattle.operation_laws.proofs.Leaving.{leave_law}
 use Rattle.link_laws.proofs.Addresses.{AllTrue, true_more, true_replaced}
-use Rattle.link_laws.proofs.Directories.{DirTrue, all_dirs, dirs_true, items_are, other_dir_by, other_items, other_lives}
+use Rattle.link_laws.proofs.Directories.{DirTrue, all_dirs, dirs_true, other_dir_by, other_items, other_lives}
 use Rattle.link_laws.proofs.Framing.{AllConcern}
 use Rattle.link_laws.proofs.Values.{AllOf, of_carried, values_concern, values_linked, values_place}
 use Rattle.link_laws.specs.NameLinkLaws.{JoinLinks, LeaveLinks, LooseLinks, SlotLinks}
@@ -99,10 +100,6 @@ module _ (p : Pack) (d : Fid) (at : ℕ) (a old b : List Item) (fr : Frees p d a
         let vs : List (ℕ × List ℕ) = (at, put_at (in_page (all_words a)) (all_words old ∷ []) (sector_at p at).value) ∷ [] in
         freed_links old refl (items_are p tp d fr.write.lives fr.write.directory ∙ fr.slots_are) (λ g ne live dir. other_items p d (values_writes vs) wp wq (values_concern d vs p freed_of) tp tq g ne live dir) links
 
--- the words of one slot
-one_slot : (f : Fid) (own : List ℕ) → all_words (entry f own ∷ []) ≡ item_words (entry f own)
-one_slot f own = omega arith
-
 -- the pack with the first word of the slot
 abbrev slot_of_words : Pack → ℕ → List Item → ℕ → Pack
 slot_of_words p at a k = after p (value_writes at (put_at (in_page (all_words a)) (k ∷ []) (sector_at p at).value))
@@ -111,7 +108,7 @@ slot_of_words p at a k = after p (value_writes at (put_at (in_page (all_words a)
 pub leave_links : LeaveLinks
 leave_links p d name at a b f own w t h links =
     let old : List Item = entry f own ∷ [] in
-    let one = one_slot f own in
+    let one = one_word f own in
     let out = leave_law p w t d name at a b f own h in
     let wq : Whole (slot_of_words p at a (all_words old)) = subst (λ k. Whole (slot_of_words p at a k)) (sym one) out.meets.whole in
     let tq : Tidy (slot_of_words p at a (all_words old)) = subst (λ k. Tidy (slot_of_words p at a k)) (sym one) out.meets.tidy in
@@ -121,7 +118,7 @@ leave_links p d name at a b f own w t h links =
 pub slot_links : SlotLinks
 slot_links p f d at a b own w t dead fr links =
     let old : List Item = entry f own ∷ [] in
-    let one = one_slot f own in
+    let one = one_word f own in
     let n : ℕ = all_words old in
     let out = slot_law p f d at a b own w t dead fr in
     let wq : Whole (slot_of_words p at a n) = subst (λ k. Whole (slot_of_words p at a k)) (sym one) out.meets.whole in

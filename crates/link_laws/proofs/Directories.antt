@@ -1,5 +1,5 @@
 -- The entries of directories whose words stay.
-use Rattle.std.proofs.Common.{Bool, List, None, Option, Some, ap, cond, false, get_or, refl, subst, suc, sym, true, ℕ, ◌∙◌, ◌≡◌}
+use Rattle.std.proofs.Common.{Bool, List, None, Option, Some, ap, false, get_or, refl, subst, suc, sym, true, ℕ, ◌∙◌, ◌≡◌}
 use Rattle.std.specs.Option.{is_some}
 use mathlib.Core.Path.{fun_ext}
 use Rattle.alto_words.specs.Fid.{is_directory, is_fid}
@@ -8,8 +8,6 @@ use Rattle.disk_records.specs.Labels.{tag}
 use Rattle.disk_records.specs.Packs.{Pack, after, carried, sector_at}
 use Rattle.disk_records.specs.declared.records.Event.{Event}
 use Rattle.disk_records.specs.declared.records.Page.{Page}
-use Rattle.pack_model.specs.Bodies.{body_items, items_in}
-use Rattle.pack_model.specs.Bodies.Body.{data_of, items_of}
 use Rattle.pack_model.specs.Bytes.{words_of}
 use Rattle.pack_model.specs.Files.{file_bytes, joined, lives, most_pages, page, place}
 use Rattle.pack_model.specs.Links.{EntryAddresses, dir_words}
@@ -22,9 +20,9 @@ use Rattle.pack_model.specs.Whole.{Tidy, Whole}
 use Rattle.pack_laws.proofs.Keys.{same_fid}
 use Rattle.pack_laws.proofs.Placing.{leader_of_place, no_page, page_of_place, place_of_leader}
 use Rattle.record_laws.proofs.Copying.{place_carried}
-use Rattle.record_laws.proofs.DirReads.{has_leader, not_descriptor}
+use Rattle.record_laws.proofs.DirReads.{has_leader}
 use Rattle.record_laws.proofs.Recording.{carried_sight}
-use Rattle.operation_laws.proofs.Dropped.{read_there}
+use Rattle.operation_laws.proofs.EnterLaw.{items_are}
 use Rattle.link_laws.proofs.Addresses.{AllTrue, from_slots, to_slots, true_more}
 use Rattle.link_laws.proofs.Framing.{AllConcern, other_place, other_sector}
 use Rattle.link_laws.proofs.Records.{carried_same}
@@ -41,12 +39,6 @@ dirs_true p h d live dir = from_slots (sights p) (dir_words p d) 0 (dir_items (r
 -- and the other way
 pub all_dirs : (p : Pack) → ((d : Fid) → lives (sights p) d ≡ true → is_directory d ≡ true → DirTrue p d) → EntryAddresses p
 all_dirs p h d live dir = to_slots (sights p) (dir_words p d) 0 (dir_items (read_pack p) d) (h d live dir)
-
--- a tidy pack's directory is read as its words are
-pub items_are : (p : Pack) → Tidy p → (d : Fid) → lives (sights p) d ≡ true → is_directory d ≡ true → dir_items (read_pack p) d ≡ slots (dir_words p d)
-items_are p t d live dir =
-    let l = has_leader (sights p) d live in
-    ap items_in (read_there p d l.0 t (not_descriptor d dir) l.1) ∙ ap (λ c. body_items (cond c (items_of (slots (dir_words p d))) (data_of (file_bytes (sights p) d)))) dir
 
 -- ---- sectors that stay
 -- a page in the same place, with the same words

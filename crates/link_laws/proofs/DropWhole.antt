@@ -11,7 +11,7 @@ use Rattle.pack_model.specs.Bytes.{words_of}
 use Rattle.pack_model.specs.Files.{lives}
 use Rattle.pack_model.specs.Links.{LinksTrue, dir_words}
 use Rattle.pack_model.specs.Model.{dir_items, read_pack}
-use Rattle.pack_model.specs.Namings.{Naming, namings_in}
+use Rattle.pack_model.specs.Namings.{namings_in}
 use Rattle.pack_model.specs.Operations.{go_writes}
 use Rattle.pack_model.specs.PageWords.{freed_value, page_number}
 use Rattle.pack_model.specs.Sights.{sights}
@@ -25,15 +25,12 @@ use Rattle.record_laws.specs.DirLaws.{DirWrite, Frees}
 use Rattle.operation_laws.proofs.Dropped.{go_law}
 use Rattle.operation_laws.proofs.Seating.{leader_none_is}
 use Rattle.link_laws.proofs.DirValues.{slot_links}
-use Rattle.link_laws.proofs.Directories.{items_are, lives_by, other_bytes}
+use Rattle.link_laws.proofs.Directories.{lives_by, other_bytes}
 use Rattle.link_laws.proofs.Dropping.{go_concerns, go_links}
 use Rattle.link_laws.proofs.Framing.{AllConcern, other_place, other_sector}
 use Rattle.link_laws.specs.NameLinkLaws.{DropLinks}
-
--- a list with an item is not empty
-not_none : (x : List Naming) (e : Naming) (y : List Naming) → x ++ e ∷ y ≡ [] → ⊥
-not_none [] e y h = absurd cc
-not_none (n ∷ x) e y h = absurd cc
+use Rattle.operation_laws.proofs.DropLaw.{not_none}
+use Rattle.operation_laws.proofs.EnterLaw.{items_are}
 
 -- a directory with entries isn't one without
 apart : (p : Pack) (f d : Fid) (a b : List Item) (g : Fid) (own : List ℕ) → dir_items (read_pack p) d ≡ a ++ entry g own ∷ b → namings_in f (dir_items (read_pack p) f) ≡ [] → is_fid d f ≡ false

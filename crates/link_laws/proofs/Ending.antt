@@ -1,20 +1,16 @@
 -- A page that isn't full is the last of a whole file.
-use Rattle.std.proofs.Common.{List, Some, [], ap, arith, get_or, inl, inr, length, refl, suc, sym, true, ℕ, ◌++◌, ◌<◌, ◌∙◌, ◌∷◌, ◌≡◌}
+use Rattle.std.proofs.Common.{List, Some, [], ap, arith, get_or, inl, inr, length, suc, true, ℕ, ◌++◌, ◌<◌, ◌∙◌, ◌∷◌, ◌≡◌}
 use Rattle.std.specs.Prelude.{nat_lt}
 use Rattle.alto_words.specs.declared.fid.Fid.{Fid}
 use Rattle.pack_model.specs.Files.{place}
 use Rattle.pack_model.specs.Sights.{Sight}
 use Rattle.pack_model.specs.Sights.Sight.{hidden, holds}
-use Rattle.pack_model.specs.Whole.{FileWhole, IsLaid, PageAt}
+use Rattle.pack_model.specs.Whole.{FileWhole}
 use Rattle.pack_laws.proofs.Placing.{page_of_place}
 use Rattle.operation_laws.proofs.Changing.{length-one, seat_of}
-use Rattle.operation_laws.proofs.Lying.{seat_range}
+use Rattle.record_laws.proofs.Seats.{seat_range}
 use Rattle.operation_laws.proofs.Seating.{laid_back}
-
--- none comes behind it
-laid_last : (i : ℕ) (b : List ℕ) (later : List PageAt) → IsLaid ((i, b) ∷ later) → nat_lt (length b) 512 ≡ true → later ≡ []
-laid_last i b [] h e = refl
-laid_last i b (d ∷ later) h e = let x : nat_lt 512 512 ≡ true = ap (λ n. nat_lt n 512) (sym h.0) ∙ e in absurd cc
+use Rattle.operation_laws.proofs.Growing.{laid_last}
 
 -- so no sector is the place of a later page
 pub none_later : (ss : List Sight) (f : Fid) (n i : ℕ) (b : List ℕ) → FileWhole ss f → get_or ss i hidden ≡ holds f n b → nat_lt (length b) 512 ≡ true → (m j : ℕ) → n < m → place ss f (suc m) ≡ Some j → ⊥

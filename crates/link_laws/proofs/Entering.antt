@@ -27,6 +27,7 @@ use Rattle.pack_model.specs.Step.{step}
 use Rattle.pack_model.specs.Step.Operation.{enter}
 use Rattle.pack_model.specs.Whole.{Tidy, Whole}
 use Rattle.pack_laws.proofs.Keys.{fid_total, is_fid-itself}
+use Rattle.record_laws.proofs.Addressing.{entry_words_many}
 use Rattle.record_laws.proofs.Copying.{place_carried}
 use Rattle.record_laws.proofs.DirReads.{has_leader, not_descriptor}
 use Rattle.record_laws.proofs.Entered.{directory}
@@ -35,18 +36,18 @@ use Rattle.record_laws.proofs.Heads.{all_within}
 use Rattle.record_laws.proofs.Slotwise.{words-append}
 use Rattle.record_laws.specs.DirLaws.{dir_written}
 use Rattle.operation_laws.proofs.Dropped.{read_there}
+use Rattle.operation_laws.proofs.EnterLaw.{items_are}
 use Rattle.operation_laws.proofs.EnterMoves.{enter_law, values-append}
-use Rattle.operation_laws.proofs.Entering.{entry_long}
-use Rattle.operation_laws.proofs.EntryKept.{left_words}
 use Rattle.operation_laws.proofs.Rejoining.{entered_there}
 use Rattle.operation_laws.specs.NameLaws.{MayEnterAt, entry_room}
-use Rattle.link_laws.proofs.Addresses.{AllTrue, left_split, left_true, true_replaced}
+use Rattle.link_laws.proofs.Addresses.{AllTrue, left_true, true_replaced}
 use Rattle.link_laws.proofs.DirValues.{dir_values}
-use Rattle.link_laws.proofs.Directories.{dirs_true, items_are, other_items}
+use Rattle.link_laws.proofs.Directories.{dirs_true, other_items}
 use Rattle.link_laws.proofs.EnterWords.{Apart, Spot, Stage, apart_twice, join_words, near_words, next_there, over_words}
 use Rattle.link_laws.proofs.Framing.{AllConcern, OfOne}
 use Rattle.link_laws.proofs.Values.{AllOf, of_carried, of_join, of_one, values_concern}
 use Rattle.link_laws.specs.NameLinkLaws.{EnterLinks}
+use Rattle.record_laws.proofs.SystemEntries.{left_split, left_words}
 
 -- a directory's slots in the model after an entering
 entered_items : (m : Model) (d f : Fid) (name : List ℕ) (l : Leader) (is : List Item) → get m.files d ≡ Some (directory l is) → dir_items (step m (enter d name f)) d ≡ items_entered (entry f name) is
@@ -57,7 +58,7 @@ entered_items m d f name l is gets =
 module _ (p : Pack) (w : Whole p) (t : Tidy p) (d : Fid) (name : List ℕ) (f : Fid) (a old b : List Item) (left : ℕ) (words : List ℕ) (at next_at : ℕ) (h : MayEnterAt p d name f a old b left words at next_at) where
   -- the entry's words, and the room's
   long : 7 ≤ entry_length (length name)
-  long = entry_long name
+  long = entry_words_many (length name)
 
   -- at most 26 of the entry
   few : entry_length (length name) ≤ 26

@@ -15,11 +15,11 @@ use Rattle.pack_model.specs.PageWords.{page_number}
 use Rattle.pack_model.specs.Sights.{sights}
 use Rattle.pack_model.specs.Whole.{Whole}
 use Rattle.record_laws.proofs.Copying.{place_carried}
+use Rattle.whole_laws.proofs.Carried.{carried_place}
 use Rattle.operation_laws.proofs.Elsewhere.{not_same}
-use Rattle.operation_laws.proofs.Showing.{sector_apart}
 use Rattle.link_laws.proofs.Linked.{FileLinks, link_before}
-use Rattle.link_laws.proofs.Lone.{carried_place}
-use Rattle.link_laws.proofs.Records.{carried_same, label_carried, value_carried}
+use Rattle.link_laws.proofs.Records.{carried_same, label_carried}
+use Rattle.pack_laws.proofs.Guarding.{other_kept, value_page}
 
 -- ---- record writes that concern one file
 -- the sector carries nothing, or a page of f
@@ -50,11 +50,11 @@ one_beside f p (Wrote at (suc zero) label) h i = elim (cases_eq i at) [
   | inl e ↦
       let was : OfOne f p i = subst (OfOne f p) (sym e) h.0 in
       inr (was, λ x is. elim (label_carried p at i label x is) [ inl new ↦ h.1 x new.1 | inr old ↦ was x old ])
-  | inr other ↦ inl (sector_apart p at 1 i label other)
+  | inr other ↦ inl (other_kept p at 1 label i other)
 ]
 one_beside f p (Wrote at (suc (suc zero)) value) h i = elim (cases_eq i at) [
-  | inl e ↦ let was : OfOne f p i = subst (OfOne f p) (sym e) h in inr (was, λ x is. was x (sym (value_carried p at i value) ∙ is))
-  | inr other ↦ inl (sector_apart p at 2 i value other)
+  | inl e ↦ let was : OfOne f p i = subst (OfOne f p) (sym e) h in inr (was, λ x is. was x (sym (value_page p at value i) ∙ is))
+  | inr other ↦ inl (other_kept p at 2 value i other)
 ]
 one_beside f p (Wrote at (suc (suc (suc n))) words) h i = absurd h
 one_beside f p (Shown byte) h i = absurd h

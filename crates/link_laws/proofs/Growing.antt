@@ -19,12 +19,12 @@ use Rattle.pack_model.specs.Whole.{Whole}
 use Rattle.pack_laws.proofs.Guarding.{carried_parts}
 use Rattle.pack_laws.proofs.Placing.{one_page}
 use Rattle.record_laws.proofs.Copying.{place_carried}
+use Rattle.whole_laws.proofs.Carried.{carried_place}
 use Rattle.operation_laws.proofs.Commanding.{claim_apart}
 use Rattle.link_laws.proofs.Claims.{claim_carried, claim_concern, claim_here, claim_label, free_none}
 use Rattle.link_laws.proofs.ClaimsRow.{IsClaim, Rowed, claim_range, claims_apart, claims_carried, claims_concern, claims_rowed, rowed_same}
 use Rattle.link_laws.proofs.Framing.{AllConcern, concern_join, places_alike}
 use Rattle.link_laws.proofs.Linked.{FileLinks, Linked}
-use Rattle.link_laws.proofs.Lone.{carried_place}
 use Rattle.link_laws.proofs.OneFile.{old_linked}
 use Rattle.link_laws.proofs.Records.{carried_same, names_one}
 use Rattle.link_laws.proofs.Values.{of_carried}

@@ -15,7 +15,6 @@ pub mod FileValues
 pub mod Framing
 pub mod Growing
 pub mod Linked
-pub mod Lone
 pub mod Making
 pub mod NamedAlone
 pub mod OnceGrowing

@@ -27,8 +27,9 @@ use Rattle.pack_laws.proofs.Guarding.{free_parts}
 use Rattle.pack_laws.proofs.Keys.{fid_total, is_fid-itself, same_fid}
 use Rattle.pack_laws.proofs.Placing.{none_of_false}
 use Rattle.record_laws.proofs.Copying.{place_carried}
+use Rattle.whole_laws.proofs.Carried.{carried_place}
 use Rattle.operation_laws.proofs.Commanding.{claim_apart}
-use Rattle.operation_laws.proofs.Making.{free_sight, make_law, missing}
+use Rattle.operation_laws.proofs.Making.{make_law, missing}
 use Rattle.operation_laws.specs.LifeLaws.{MayMake}
 use Rattle.link_laws.proofs.Addresses.{AllTrue}
 use Rattle.link_laws.proofs.Claims.{claim_carried, claim_concern, claim_here, claim_label, claim_of, free_none}
@@ -36,10 +37,10 @@ use Rattle.link_laws.proofs.Directories.{DirTrue, all_dirs, dirs_true, other_dir
 use Rattle.link_laws.proofs.Dropping.{none_there}
 use Rattle.link_laws.proofs.Framing.{AllConcern, OfOne, concern_join}
 use Rattle.link_laws.proofs.Linked.{FileLinks, Linked}
-use Rattle.link_laws.proofs.Lone.{carried_place}
 use Rattle.link_laws.proofs.OneFile.{pages_true}
 use Rattle.link_laws.proofs.Records.{carried_same, names_one, number_one}
 use Rattle.link_laws.specs.LinkLaws.{MakeLinks}
+use Rattle.record_laws.proofs.Recording.{free_sight}
 
 -- a file that doesn't live has no page in a whole pack
 pub never_carried : (p : Pack) → Whole p → (f : Fid) → lives (sights p) f ≡ false → (m i : ℕ) → carried p i ≡ Some (page_number f m) → ⊥

@@ -8,9 +8,10 @@ use Rattle.disk_records.specs.declared.records.Event.TheVariants.{Shown, Wrote}
 use Rattle.disk_records.specs.declared.records.Page.{Page}
 use Rattle.pack_model.specs.Commands.{releases_writes, values_writes}
 use Rattle.pack_model.specs.Scavenging.{Throughout}
-use Rattle.link_laws.proofs.Records.{label_carried, value_carried}
+use Rattle.link_laws.proofs.Records.{label_carried}
 use Rattle.link_laws.proofs.Releases.{ones_not}
 use Rattle.link_laws.specs.OnceLaws.{CarriedOnce}
+use Rattle.pack_laws.proofs.Guarding.{value_page}
 
 -- a label names no page that another sector carries
 abbrev pub NamesAlone : Pack → ℕ → List ℕ → Type 0
@@ -42,7 +43,7 @@ alone_once p (Wrote at (suc zero) label) once h i j x a b = elim (label_carried 
     | inr too ↦ once i j x old too
   ]
 ]
-alone_once p (Wrote at (suc (suc zero)) value) once h i j x a b = once i j x (sym (value_carried p at i value) ∙ a) (sym (value_carried p at j value) ∙ b)
+alone_once p (Wrote at (suc (suc zero)) value) once h i j x a b = once i j x (sym (value_page p at value i) ∙ a) (sym (value_page p at value j) ∙ b)
 alone_once p (Wrote at (suc (suc (suc n))) words) once h i j x a b = absurd h
 alone_once p (Shown byte) once h i j x a b = absurd h
 
@@ -68,7 +69,7 @@ relabel_alone p at label value h = (h, (tt, tt))
 
 -- a claim
 pub claim_alone : (p : Pack) (at : ℕ) (label value : List ℕ) → NamesAlone p at label → AllAlone p (claim_writes at label value)
-claim_alone p at label value h = (tt, relabel_alone (after p (Wrote at 2 value ∷ [])) at label value (λ x e i is. h x e i (sym (value_carried p at i value) ∙ is)))
+claim_alone p at label value h = (tt, relabel_alone (after p (Wrote at 2 value ∷ [])) at label value (λ x e i is. h x e i (sym (value_page p at value i) ∙ is)))
 
 -- releases
 pub releases_alone : (ats : List ℕ) (p : Pack) → AllAlone p (releases_writes ats)

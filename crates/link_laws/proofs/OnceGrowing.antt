@@ -13,10 +13,10 @@ use Rattle.pack_model.specs.PageWords.{page_number}
 use Rattle.pack_model.specs.Sights.{sights}
 use Rattle.pack_model.specs.Whole.{Whole}
 use Rattle.record_laws.proofs.Copying.{place_carried}
+use Rattle.whole_laws.proofs.Carried.{carried_place, whole_once}
 use Rattle.link_laws.proofs.Claims.{claim_carried}
 use Rattle.link_laws.proofs.ClaimsRow.{IsClaim, claim_names, claim_range, claims_carried, next_able}
 use Rattle.link_laws.proofs.FileGrowth.{none_behind}
-use Rattle.link_laws.proofs.Lone.{carried_place, whole_once}
 use Rattle.link_laws.proofs.NamedAlone.{AllAlone, NamesAlone, all_once, alone_join, claim_alone}
 use Rattle.link_laws.proofs.Records.{number_one, page_one}
 use Rattle.link_laws.specs.OnceLaws.{GrowOnce, StaysOnce, WidenOnce}

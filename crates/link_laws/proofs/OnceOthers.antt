@@ -12,8 +12,8 @@ use Rattle.pack_model.specs.Operations.{cut_writes, drop_writes, enter_writes, g
 use Rattle.pack_model.specs.PageWords.{page_number}
 use Rattle.pack_model.specs.Sound.{mark_clean, mark_open}
 use Rattle.record_laws.proofs.Copying.{place_carried}
+use Rattle.whole_laws.proofs.Carried.{whole_once}
 use Rattle.link_laws.proofs.Claims.{claim_carried}
-use Rattle.link_laws.proofs.Lone.{whole_once}
 use Rattle.link_laws.proofs.Making.{never_carried}
 use Rattle.link_laws.proofs.NamedAlone.{NamesAlone, all_once, alone_join, claim_alone, relabel_alone, releases_alone, values_alone}
 use Rattle.link_laws.proofs.Records.{number_one, page_one}

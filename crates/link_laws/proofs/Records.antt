@@ -1,18 +1,14 @@
 -- What a record write leaves of sectors, and of the pages that they carry.
-use Rattle.std.proofs.Common.{List, None, Option, Some, [], ap, cond, get_or, inl, inr, refl, set, suc, sym, zero, ℕ, ◌&&◌, ◌∙◌, ◌∷◌, ◌≡◌, ◌⊎◌}
+use Rattle.std.proofs.Common.{List, Some, [], ap, get_or, inl, inr, refl, set, suc, sym, zero, ℕ, ◌∙◌, ◌∷◌, ◌≡◌, ◌⊎◌}
 use Rattle.std.proofs.lemmas.Bool.{cases_eq}
-use Rattle.std.specs.Prelude.{nat_lt}
 use Rattle.alto_words.specs.declared.fid.Fid.{Fid}
-use Rattle.disk_records.specs.Addresses.{is_right_header}
 use Rattle.disk_records.specs.Labels.{page_of}
 use Rattle.disk_records.specs.Packs.{Pack, after, carried, no_sector, sector_at, with_part}
 use Rattle.disk_records.specs.declared.records.Event.TheVariants.{Wrote}
 use Rattle.disk_records.specs.declared.records.Page.{Page}
 use Rattle.disk_records.specs.declared.records.Sector.{Sector}
-use Rattle.disk_records.specs.declared.shape.Shape.{Shape}
 use Rattle.pack_model.specs.PageWords.{page_number}
-use Rattle.pack_laws.proofs.Guarding.{carried_parts, front_from}
-use Rattle.operation_laws.proofs.Showing.{sector_apart}
+use Rattle.pack_laws.proofs.Guarding.{carried_parts, front_from, other_kept, page_on}
 
 -- ---- one record
 -- the sector with the record, or past the end none
@@ -25,22 +21,14 @@ part_from (s ∷ sectors) (suc at) part words = part_from sectors at part words
 pub record_at : (p : Pack) (at part : ℕ) (words : List ℕ) → (sector_at (after p (Wrote at part words ∷ [])) at ≡ with_part part words (sector_at p at)) ⊎ (sector_at (after p (Wrote at part words ∷ [])) at ≡ sector_at p at)
 record_at p at part words = part_from p.sectors at part words
 
--- what a sector carries, by its header and its label
-abbrev carried_on : Shape → ℕ → List ℕ → List ℕ → Option Page
-carried_on shape i header label = cond (nat_lt 0 i && is_right_header shape i header) (page_of label) None
-
 -- a sector with the same words carries the same page
 pub carried_same : (p q : Pack) (i : ℕ) → q.shape ≡ p.shape → sector_at q i ≡ sector_at p i → carried q i ≡ carried p i
-carried_same p q i shape same = λ j. carried_on (shape j) i (same j).header (same j).label
+carried_same p q i shape same = λ j. page_on (shape j) i (same j).header (same j).label
 
 -- ---- a value
 -- labels stay
 pub value_label : (p : Pack) (at i : ℕ) (value : List ℕ) → (sector_at (after p (Wrote at 2 value ∷ [])) i).label ≡ (sector_at p i).label
 value_label p at i value = (front_from p.sectors at i value).1
-
--- and so do the pages that are carried
-pub value_carried : (p : Pack) (at i : ℕ) (value : List ℕ) → carried (after p (Wrote at 2 value ∷ [])) i ≡ carried p i
-value_carried p at i value = let front = front_from p.sectors at i value in λ j. carried_on p.shape i (front.0 j) (front.1 j)
 
 -- ---- a label
 -- what is carried then was carried, or is what the label names
@@ -53,7 +41,7 @@ label_carried p at i label x is = elim (cases_eq i at) [
         inl (e, sym (ap page_of here) ∙ (carried_parts q i x is).1)
     | inr old ↦ inr (sym (carried_same p (after p (Wrote at 1 label ∷ [])) i refl (ap (sector_at (after p (Wrote at 1 label ∷ []))) e ∙ old ∙ ap (sector_at p) (sym e))) ∙ is)
   ]
-  | inr other ↦ inr (sym (carried_same p (after p (Wrote at 1 label ∷ [])) i refl (sector_apart p at 1 i label other)) ∙ is)
+  | inr other ↦ inr (sym (carried_same p (after p (Wrote at 1 label ∷ [])) i refl (other_kept p at 1 label i other)) ∙ is)
 ]
 
 -- ---- what labels name

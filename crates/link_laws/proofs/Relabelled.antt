@@ -6,29 +6,28 @@ use Rattle.disk_records.specs.Labels.{page_of}
 use Rattle.disk_records.specs.Packs.{Pack, after, carried, is_usable, sector_at}
 use Rattle.disk_records.specs.declared.records.Event.TheVariants.{Wrote}
 use Rattle.disk_records.specs.declared.records.Page.{Page}
-use Rattle.pack_laws.proofs.Guarding.{usable_within}
-use Rattle.operation_laws.proofs.Showing.{sector_apart, sector_written}
+use Rattle.pack_laws.proofs.Guarding.{here_written, other_kept, usable_within, value_page}
 use Rattle.link_laws.proofs.Framing.{AllConcern, OfOne}
-use Rattle.link_laws.proofs.Records.{label_carried, value_carried, value_label}
+use Rattle.link_laws.proofs.Records.{label_carried, value_label}
 
 module _ (p : Pack) (at : ℕ) (label value : List ℕ) where
   -- what is carried then
   pub relabel_carried : (i : ℕ) (x : Page) → carried (after p (relabel_writes at label value)) i ≡ Some x → ((i ≡ at) × (page_of label ≡ Some x)) ⊎ (carried p i ≡ Some x)
-  relabel_carried i x is = label_carried p at i label x (sym (value_carried (after p (Wrote at 1 label ∷ [])) at i value) ∙ is)
+  relabel_carried i x is = label_carried p at i label x (sym (value_page (after p (Wrote at 1 label ∷ [])) at value i) ∙ is)
 
   -- other sectors stay
   pub relabel_apart : (i : ℕ) → i ≢ at → sector_at (after p (relabel_writes at label value)) i ≡ sector_at p i
-  relabel_apart i ne = sector_apart (after p (Wrote at 1 label ∷ [])) at 2 i value ne ∙ sector_apart p at 1 i label ne
+  relabel_apart i ne = other_kept (after p (Wrote at 1 label ∷ [])) at 2 value i ne ∙ other_kept p at 1 label i ne
 
   -- the sector has the label
   pub relabel_label : at < length p.sectors → (sector_at (after p (relabel_writes at label value)) at).label ≡ label
-  relabel_label l = value_label (after p (Wrote at 1 label ∷ [])) at at value ∙ ap (λ s. s.label) (sector_written p at 1 label l)
+  relabel_label l = value_label (after p (Wrote at 1 label ∷ [])) at at value ∙ ap (λ s. s.label) (here_written p at 1 label l)
 
   -- and carries the page that it names
   pub relabel_here : (x : Page) → is_usable p.shape at (sector_at p at) ≡ true → page_of label ≡ Some x → carried (after p (relabel_writes at label value)) at ≡ Some x
   relabel_here x usable names =
-      value_carried (after p (Wrote at 1 label ∷ [])) at at value
-      ∙ ap (λ s. cond (is_usable p.shape at s) (page_of s.label) None) (sector_written p at 1 label (usable_within p at usable))
+      value_page (after p (Wrote at 1 label ∷ [])) at value at
+      ∙ ap (λ s. cond (is_usable p.shape at s) (page_of s.label) None) (here_written p at 1 label (usable_within p at usable))
       ∙ ap (λ b. cond b (page_of label) None) usable ∙ names
 
   module _ (f : Fid) (names : (x : Page) → page_of label ≡ Some x → x.fid ≡ f) where

@@ -2,30 +2,24 @@
 use Rattle.std.proofs.Common.{List, None, Some, [], ap, inl, inr, length, refl, subst, suc, sym, ℕ, ◌<◌, ◌∙◌, ◌∷◌, ◌≡◌, ◌≢◌}
 use Rattle.alto_words.specs.declared.fid.Fid.{Fid}
 use Rattle.disk_records.specs.Commands.{ones, release_writes}
-use Rattle.disk_records.specs.Labels.{in_range, page_of}
+use Rattle.disk_records.specs.Labels.{page_of}
 use Rattle.disk_records.specs.Packs.{Pack, after, carried, sector_at}
 use Rattle.disk_records.specs.declared.records.Event.TheVariants.{Wrote}
 use Rattle.disk_records.specs.declared.records.Page.{Page}
 use Rattle.pack_model.specs.Commands.{releases_writes}
 use Rattle.pack_model.specs.PageWords.{page_number}
 use Rattle.pack_model.specs.Sights.{sights}
-use Rattle.pack_laws.proofs.Guarding.{carried_parts}
+use Rattle.pack_laws.proofs.Guarding.{carried_parts, here_written, value_page}
 use Rattle.pack_laws.proofs.Sighted.{length-sights}
 use Rattle.record_laws.proofs.Copying.{place_carried}
 use Rattle.record_laws.proofs.Recording.{carried_within}
-use Rattle.operation_laws.proofs.Commanding.{release_apart}
-use Rattle.operation_laws.proofs.Showing.{sector_written}
+use Rattle.operation_laws.proofs.Commanding.{ones_none, release_apart}
 use Rattle.operation_laws.specs.ByteLaws.{Bear}
 use Rattle.link_laws.proofs.Framing.{AllConcern, OfOne}
-use Rattle.link_laws.proofs.Records.{carried_same, label_carried, value_carried}
+use Rattle.link_laws.proofs.Records.{carried_same, label_carried}
 use Rattle.link_laws.proofs.Values.{of_carried}
 
--- ones name no page
-pub ones_none : page_of (ones 8) ≡ None
-unfolding in_range
-ones_none = refl
-
--- so they name none
+-- ones name none
 pub ones_not : (x : Page) → page_of (ones 8) ≡ Some x → ⊥
 ones_not x e = let clash : None ≡ Some x = sym ones_none ∙ e in absurd cc
 
@@ -34,12 +28,12 @@ ones_not x e = let clash : None ≡ Some x = sym ones_none ∙ e in absurd cc
 released_not : (p : Pack) (at : ℕ) (x : Page) → carried (after p (release_writes at)) at ≡ Some x → ⊥
 released_not p at x is =
     let q : Pack = after p (Wrote at 1 (ones 8) ∷ []) in
-    let labelled : carried q at ≡ Some x = sym (value_carried q at at (ones 256)) ∙ is in
+    let labelled : carried q at ≡ Some x = sym (value_page q at (ones 256) at) ∙ is in
     elim (label_carried p at at (ones 8) x labelled) [
       | inl new ↦ ones_not x new.1
       | inr old ↦
           let l : at < length p.sectors = subst (λ n. at < n) (length-sights p) (carried_within p at x old) in
-          ones_not x (sym (ap (λ s. page_of s.label) (sector_written p at 1 (ones 8) l)) ∙ (carried_parts q at x labelled).1)
+          ones_not x (sym (ap (λ s. page_of s.label) (here_written p at 1 (ones 8) l)) ∙ (carried_parts q at x labelled).1)
     ]
 
 -- what carries a page then is another one

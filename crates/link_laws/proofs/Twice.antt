@@ -5,10 +5,10 @@ use Rattle.disk_records.specs.Labels.{page_of}
 use Rattle.disk_records.specs.Packs.{Pack, after, carried, is_free_at}
 use Rattle.disk_records.specs.declared.records.Event.TheVariants.{Wrote}
 use Rattle.disk_records.specs.declared.records.Page.{Page}
-use Rattle.pack_laws.proofs.Guarding.{free_parts, other_kept}
+use Rattle.pack_laws.proofs.Guarding.{free_parts, other_kept, value_page}
 use Rattle.record_laws.proofs.Recording.{free_sight}
 use Rattle.link_laws.proofs.Claims.{claim_here, free_none}
-use Rattle.link_laws.proofs.Records.{carried_same, value_carried}
+use Rattle.link_laws.proofs.Records.{carried_same}
 use Rattle.link_laws.specs.OnceLaws.{CarriedOnce}
 
 claimed_twice : (p : Pack) (at j : ℕ) (label value : List ℕ) (x : Page) → is_free_at p at ≡ true → page_of label ≡ Some x → carried p j ≡ Some x → CarriedOnce (after p (claim_writes at label value)) → ⊥
@@ -22,6 +22,6 @@ claimed_twice p at j label value x is names elsewhere once = apart (once j at x 
 
     kept : carried (after p (claim_writes at label value)) j ≡ carried p j
     kept =
-        value_carried (after with_value (Wrote at 1 label ∷ [])) at j value
+        value_page (after with_value (Wrote at 1 label ∷ [])) at value j
         ∙ carried_same with_value (after with_value (Wrote at 1 label ∷ [])) j refl (other_kept with_value at 1 label j apart)
-        ∙ value_carried p at j value
+        ∙ value_page p at value j

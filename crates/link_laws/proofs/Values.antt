@@ -10,19 +10,16 @@ use Rattle.pack_model.specs.Links.{PageLinks, link_to}
 use Rattle.pack_model.specs.PageWords.{page_number}
 use Rattle.pack_model.specs.Sights.{sights}
 use Rattle.pack_model.specs.Whole.{Whole}
+use Rattle.whole_laws.proofs.Carried.{values_carried}
 use Rattle.link_laws.proofs.Framing.{AllConcern, OfOne, places_alike}
 use Rattle.link_laws.proofs.Linked.{FileLinks, file_links, link_before, page_links}
-use Rattle.link_laws.proofs.Records.{value_carried, value_label}
+use Rattle.link_laws.proofs.Records.{value_label}
+use Rattle.pack_laws.proofs.Guarding.{value_page}
 
 -- the label of each sector stays
 pub values_label : (vs : List (ℕ × List ℕ)) (p : Pack) (i : ℕ) → (sector_at (after p (values_writes vs)) i).label ≡ (sector_at p i).label
 values_label [] p i = refl
 values_label (v ∷ vs) p i = values_label vs (after p (Wrote v.0 2 v.1 ∷ [])) i ∙ value_label p v.0 i v.1
-
--- and the page that it carries
-pub values_carried : (vs : List (ℕ × List ℕ)) (p : Pack) (i : ℕ) → carried (after p (values_writes vs)) i ≡ carried p i
-values_carried [] p i = refl
-values_carried (v ∷ vs) p i = values_carried vs (after p (Wrote v.0 2 v.1 ∷ [])) i ∙ value_carried p v.0 i v.1
 
 -- values in sectors of one file concern it
 abbrev pub AllOf : Fid → Pack → List (ℕ × List ℕ) → Type 0
@@ -42,7 +39,7 @@ of_one f p false v h = (h refl, tt)
 -- also once a value is written
 of_still : (f : Fid) (vs : List (ℕ × List ℕ)) (p : Pack) (at : ℕ) (value : List ℕ) → AllOf f p vs → AllOf f (after p (Wrote at 2 value ∷ [])) vs
 of_still f [] p at value h = tt
-of_still f (v ∷ vs) p at value h = (λ x is. h.0 x (sym (value_carried p at v.0 value) ∙ is), of_still f vs p at value h.1)
+of_still f (v ∷ vs) p at value h = (λ x is. h.0 x (sym (value_page p at value v.0) ∙ is), of_still f vs p at value h.1)
 
 -- so they do together
 pub values_concern : (f : Fid) (vs : List (ℕ × List ℕ)) (p : Pack) → AllOf f p vs → AllConcern f p (values_writes vs)

@@ -25,6 +25,7 @@ use Rattle.pack_laws.proofs.Keys.{same_fid}
 use Rattle.record_laws.proofs.Heads.{all_read}
 use Rattle.record_laws.proofs.Slotting.{slots_reads}
 use Rattle.record_laws.specs.QuietLaws.{counted_of}
+use Rattle.operation_laws.proofs.EnterLaw.{items_are}
 use Rattle.operation_laws.proofs.Evens.{words_of-append}
 use Rattle.operation_laws.proofs.Grown.{few_pages, last_page, old_counted}
 use Rattle.operation_laws.proofs.Growing.{grow_changed, grow_shows}
@@ -34,7 +35,7 @@ use Rattle.operation_laws.proofs.Widening.{widen_law}
 use Rattle.operation_laws.specs.ByteLaws.{together}
 use Rattle.operation_laws.specs.NameLaws.{MayWiden}
 use Rattle.link_laws.proofs.Addresses.{AllTrue, true_join, true_more, true_words}
-use Rattle.link_laws.proofs.Directories.{DirTrue, all_dirs, dirs_true, items_are, leaders_stay, other_dir, other_lives}
+use Rattle.link_laws.proofs.Directories.{DirTrue, all_dirs, dirs_true, leaders_stay, other_dir, other_lives}
 use Rattle.link_laws.proofs.FileGrowth.{none_behind}
 use Rattle.link_laws.proofs.Framing.{AllConcern}
 use Rattle.link_laws.proofs.Growing.{grow_concerns, grown_links, grown_place}

@@ -1,5 +1,6 @@
 -- Entries that clash with none, by the file and by the slots of one directory.
-use Rattle.std.proofs.Common.{Bool, Equal, Greater, Less, List, Some, T, [], ap, cond, false, not, refl, subst, sym, true, ℕ, ◌&&◌, ◌++◌, ◌||◌, ◌∙◌, ◌∷◌, ◌≡◌}
+use Rattle.std.proofs.Common.{Bool, Equal, Greater, Less, List, Some, T, [], ap, cond, false, not, refl, subst, sym, ℕ, ◌&&◌, ◌++◌, ◌||◌, ◌∙◌, ◌∷◌, ◌≡◌}
+use Rattle.std.proofs.lemmas.Bool.{and_right}
 use Rattle.std.specs.FinMap.{entries, entries_sorted, find, get-entries, is_sorted}
 use Rattle.std.specs.FinMap.Entries.{below_all}
 use Rattle.std.specs.List.{list_any}
@@ -42,11 +43,7 @@ module _ (d f : Fid) (name : List ℕ) where
   this_dir : (g : Fid) (own : List ℕ) → is_fid g f ≡ false → is_of_another f name (entry g own) ≡ false → clashes new (record { dir = d; name = own; fid = g }) ≡ false
   this_dir g own a b =
       let other : is_same_name own name ≡ false = sym (ap (λ t. not t && is_same_name own name) a) ∙ b in
-      or_false (is_fid f g) (is_fid d d && is_same_name name own) (is_fid-sym f g ∙ a) (and_false (is_fid d d) (is_same_name name own) (same_sym name own ∙ other))
-    where
-      and_false : (a b : Bool) → b ≡ false → (a && b) ≡ false
-      and_false true b e = e
-      and_false false b e = refl
+      or_false (is_fid f g) (is_fid d d && is_same_name name own) (is_fid-sym f g ∙ a) (and_right (is_fid d d) (is_same_name name own) (same_sym name own ∙ other))
 
   -- slots of another directory
   other_items : (g : Fid) (is : List Item) → is_fid d g ≡ false → list_any names (namings_in g is) ≡ false → list_any (clashes new) (namings_in g is) ≡ false

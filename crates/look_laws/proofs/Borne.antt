@@ -1,31 +1,23 @@
 -- Places by labels, and places behind values.
-use Rattle.std.proofs.Common.{Bool, List, None, Option, Some, [], ap, arith, cond, false, get_or, ltb-true, nat_lt, refl, sym, true, ℕ, ◌&&◌, ◌<◌, ◌∙◌, ◌∷◌, ◌≡◌}
+use Rattle.std.proofs.Common.{None, Option, Some, [], ap, arith, ltb-true, nat_lt, refl, sym, true, ℕ, ◌<◌, ◌∙◌, ◌∷◌, ◌≡◌}
 use Rattle.std.specs.Option.{is_some}
 use Rattle.alto_words.specs.Fid.{serial_of}
-use Rattle.disk_records.specs.Addresses.{is_right_header, pages_of}
-use Rattle.disk_records.specs.Labels.{page_of}
+use Rattle.disk_records.specs.Addresses.{pages_of}
 use Rattle.disk_records.specs.Packs.{Pack, after, carried, is_usable, sector_at}
-use Rattle.disk_records.specs.declared.records.Event.TheVariants.{Wrote}
 use Rattle.disk_records.specs.declared.records.Page.{Page}
 use Rattle.pack_model.specs.Commands.{values_writes}
 use Rattle.pack_model.specs.Descriptor.{serial_value}
-use Rattle.pack_model.specs.Files.{carries_page, lives, place}
+use Rattle.pack_model.specs.Files.{lives, place}
 use Rattle.pack_model.specs.PageWords.{page_number}
 use Rattle.pack_model.specs.Sights.{sights}
-use Rattle.pack_model.specs.Sights.Sight.{hidden}
-use Rattle.pack_laws.proofs.Carrying.{sight_carries}
 use Rattle.pack_laws.proofs.Filing.{place_lowest}
-use Rattle.pack_laws.proofs.Guarding.{carried_parts, front_from, usable_within}
+use Rattle.pack_laws.proofs.Guarding.{carried_parts}
 use Rattle.pack_laws.proofs.Placing.{leader_of_place, no_leader}
 use Rattle.record_laws.proofs.Copying.{place_carried}
 use Rattle.record_laws.proofs.Heads.{and_left, and_right}
-use Rattle.whole_laws.proofs.AllSectors.{sentences_of_whole}
+use Rattle.whole_laws.proofs.Carried.{carried_place, values_carried}
 use Rattle.look_laws.specs.PlaceLaws.{CarriedInPlace, LivesInAPlace, NewSerialNamesNone, NoneAboveLast, NoneCarries, SamePlaces, SerialKeepsPlaces, ValuesKeepPlaces}
-
--- a test that can't hold
-not_true : (b : Bool) → (b ≡ true → ⊥) → b ≡ false
-not_true true never = absurd (never refl)
-not_true false never = refl
+use Rattle.std.proofs.lemmas.Bool.{false_from_ne_true}
 
 -- ---- on any pack
 pub lives_in_a_place : LivesInAPlace
@@ -49,30 +41,13 @@ none_carries p page none = by (place (sights p) page.fid page.number) refl
     by (Some at) e = let is : carried p at ≡ Some page = place_carried p page at e in absurd (none at (carried_below p at page is) is)
 
 -- ---- on a whole pack
--- what carries a page shows it
-carried_shows : (p : Pack) (at : ℕ) (page : Page) → carried p at ≡ Some page → carries_page page.fid page.number (get_or (sights p) at hidden) ≡ true
-carried_shows p at page is = sight_carries p at page hidden (usable_within p at (carried_parts p at page is).0) is
-
 pub carried_in_place : CarriedInPlace
-carried_in_place p page at w is = by (place (sights p) page.fid page.number) refl
-  where
-    by : (r : Option ℕ) → place (sights p) page.fid page.number ≡ r → place (sights p) page.fid page.number ≡ Some at
-    by None e = absurd ((place_lowest p page).none e at is)
-    by (Some j) e = e ∙ ap Some ((sentences_of_whole p w).pages.once page.fid page.number j at (carried_shows p j page (place_carried p page j e)) (carried_shows p at page is))
+carried_in_place p page at w is = carried_place p w at page is
 
 pub none_above_last : NoneAboveLast
-none_above_last p f w above = not_true (lives (sights p) f) (λ live. let most = w.last f live in absurd (omega arith))
+none_above_last p f w above = false_from_ne_true (lives (sights p) f) (λ live. let most = w.last f live in absurd (omega arith))
 
 -- ---- values
--- a value leaves what a sector carries
-value_carried : (p : Pack) (at : ℕ) (value : List ℕ) (i : ℕ) → carried (after p (Wrote at 2 value ∷ [])) i ≡ carried p i
-value_carried p at value i = let f = front_from p.sectors at i value in λ k. cond (nat_lt 0 i && is_right_header p.shape i (f.0 k)) (page_of (f.1 k)) None
-
--- so do several
-values_carried : (values : List (ℕ × List ℕ)) (p : Pack) (i : ℕ) → carried (after p (values_writes values)) i ≡ carried p i
-values_carried [] p i = refl
-values_carried (v ∷ values) p i = values_carried values (after p (Wrote v.0 2 v.1 ∷ [])) i ∙ value_carried p v.0 v.1 i
-
 -- where the same pages are carried they have the same places
 module _ (p q : Pack) (same : (i : ℕ) → carried q i ≡ carried p i) where
   places_same : (page : Page) → place (sights q) page.fid page.number ≡ place (sights p) page.fid page.number

@@ -18,8 +18,9 @@ use Rattle.pack_model.specs.Whole.{Carries, FileWhole, IsLaid, PageAt, Whole, ab
 use Rattle.pack_laws.proofs.Bytes.{length-bytes_of}
 use Rattle.pack_laws.proofs.Placing.{carries-holds, page_of_place, place_none}
 use Rattle.pack_laws.proofs.Sighted.{counted, shows_page}
+use Rattle.record_laws.proofs.Seats.{seat_range}
 use Rattle.operation_laws.proofs.Changing.{length-together, seat_of}
-use Rattle.operation_laws.proofs.Lying.{bytes_laid, seat_here, seat_range, together-append, within}
+use Rattle.operation_laws.proofs.Lying.{bytes_laid, seat_here, together-append, within}
 use Rattle.operation_laws.proofs.Rows.{pages_by_bytes}
 use Rattle.operation_laws.proofs.Seating.{carries_none, laid_back, laid_front, leader_none_is}
 use Rattle.operation_laws.proofs.Showing.{sight_is}

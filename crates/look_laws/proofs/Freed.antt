@@ -17,9 +17,8 @@ use Rattle.pack_model.specs.Files.{place}
 use Rattle.pack_model.specs.Operations.{go_writes}
 use Rattle.pack_model.specs.PageWords.{page_number}
 use Rattle.pack_model.specs.Sights.{sights}
-use Rattle.pack_laws.proofs.Guarding.{carried_parts, free_parts, front_from, here_written, in_range_taken, other_kept, usable_within}
+use Rattle.pack_laws.proofs.Guarding.{carried_parts, free_parts, front_from, here_written, in_range_taken, ones_free, other_kept, usable_within}
 use Rattle.record_laws.proofs.Copying.{place_carried}
-use Rattle.operation_laws.proofs.Standing.{ones_free}
 use Rattle.operation_laws.specs.ByteLaws.{Bear}
 use Rattle.look_laws.specs.FreeLaws.{CutOffAreFree, CutTakesNone, DropTakesNone, DroppedAreFree, EnterLeavesFree, GrowthKeepsUnclaimed, MakeKeepsUnclaimed, ReleasedAreFree, ReleasesTakeNone, SameFree, StayFree, StayFreeBut, ValuesLeaveFree}
 

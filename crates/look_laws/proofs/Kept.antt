@@ -1,5 +1,5 @@
 -- The entries that the scan of all directories leaves are all kept, whatever files it scans.
-use Rattle.std.proofs.Common.{Bool, List, [], cond, false, refl, subst, sym, true, ◌++◌, ◌∷◌, ◌≡◌}
+use Rattle.std.proofs.Common.{Bool, List, [], cond, false, refl, subst, sym, true, ◌∷◌, ◌≡◌}
 use Rattle.std.specs.FinMap.{entries}
 use Rattle.alto_words.specs.declared.fid.Fid.{Fid}
 use Rattle.pack_model.specs.Bodies.{Body, File, Files}
@@ -7,15 +7,11 @@ use Rattle.pack_model.specs.Bodies.Body.{data_of, items_of}
 use Rattle.pack_model.specs.Namings.{AllKept, IsTidy, Naming, body_kept, body_namings, files_kept, is_kept, items_kept, kept_after, kept_after_body, namings, namings_in, tidied}
 use Rattle.pack_model.specs.Slots.{Item, item_words}
 use Rattle.pack_model.specs.Slots.Item.{entry, space}
+use Rattle.record_laws.proofs.DropSteps.{join_kept}
 use Rattle.record_laws.proofs.Mending.{entries-tidied}
 use Rattle.record_laws.proofs.Tidying.{onto}
 
 module _ (ok : List Naming → Naming → Bool) where
-  -- entries that are kept, and others that are kept behind them
-  join_kept : (before a b : List Naming) → AllKept ok before a → AllKept ok (onto a before) b → AllKept ok before (a ++ b)
-  join_kept before [] b h later = later
-  join_kept before (e ∷ a) b h later = (h.0, join_kept (e ∷ before) a b h.1 later)
-
   -- the slots of a directory as they are left, and what is kept behind them
   items_left_kept : (d : Fid) (before : List Naming) (is : List Item) → AllKept ok before (namings_in d (items_kept ok d before is)) × (kept_after ok d before is ≡ onto (namings_in d (items_kept ok d before is)) before)
   items_left_kept d before [] = (tt, refl)
@@ -39,7 +35,7 @@ module _ (ok : List Naming → Naming → Bool) where
   files_left_kept before (e ∷ es) =
       let r = body_left_kept e.0 before e.1.body in
       let now : List Naming = kept_after_body ok e.0 before e.1.body in
-      join_kept before (body_namings e.0 (body_kept ok e.0 before e.1.body)) (namings (files_kept ok now es)) r.0 (subst (λ b. AllKept ok b (namings (files_kept ok now es))) r.1 (files_left_kept now es))
+      join_kept ok before (body_namings e.0 (body_kept ok e.0 before e.1.body)) (namings (files_kept ok now es)) r.0 (subst (λ b. AllKept ok b (namings (files_kept ok now es))) r.1 (files_left_kept now es))
 
 -- files are tidy once they are scanned
 pub tidied_is_tidy : (v : Fid → Bool) (files : Files) → IsTidy v (tidied v files)

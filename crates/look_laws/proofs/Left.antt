@@ -18,7 +18,7 @@ use Rattle.pack_model.specs.Step.{items_left, step}
 use Rattle.pack_model.specs.Step.Operation.{leave}
 use Rattle.pack_laws.proofs.Keys.{fid_total, is_fid-sym, same_fid}
 use Rattle.record_laws.proofs.DirReads.{insert_same}
-use Rattle.record_laws.proofs.DirSteps.{apart_before}
+use Rattle.record_laws.proofs.DirSteps.{apart_before, onto_none}
 use Rattle.record_laws.proofs.Entered.{Spot, directory, spot}
 use Rattle.record_laws.proofs.Entering.{on_slots}
 use Rattle.record_laws.proofs.Heads.{and_right}
@@ -27,20 +27,9 @@ use Rattle.operation_laws.proofs.Leaving.{left_here}
 use Rattle.look_laws.proofs.Apart.{any_both, nameless_is_apart}
 use Rattle.look_laws.proofs.ReadFiles.{read_tidy}
 use Rattle.look_laws.specs.EntryLaws.{ApartBehindLeaving, HasName, LeavingTakesOnly, is_of_another}
+use Rattle.std.proofs.lemmas.Bool.{not-true}
 
 -- ---- entries of other files
--- a test that its opposite passes
-not_true : (t : Bool) → not t ≡ true → t ≡ false
-not_true true e = cc
-not_true false e = refl
-
--- none of those before others passes a test
-onto_first : (t : Naming → Bool) (a b : List Naming) → list_any t (onto a b) ≡ false → (list_any t a ≡ false) × (list_any t b ≡ false)
-onto_first t [] b h = (refl, h)
-onto_first t (x ∷ a) b h =
-    let r = onto_first t a (x ∷ b) h in
-    (or_false (t x) (list_any t a) (or_false_left (t x) (list_any t b) r.1) r.0, or_false_right (t x) (list_any t b) r.1)
-
 -- an entry that clashes with none has another file
 clash_fid : (e : Naming) (ns : List Naming) → list_any (clashes e) ns ≡ false → list_any (λ n. is_fid n.fid e.fid) ns ≡ false
 clash_fid e [] h = refl
@@ -54,7 +43,7 @@ module _ (v : Fid → Bool) (e : Naming) where
   behind_other s r [] h = refl
   behind_other s r (x ∷ es) h =
       or_false (is_fid x.fid e.fid) (list_any (λ n. is_fid n.fid e.fid) es)
-      (or_false_left (is_fid x.fid e.fid) _ (at_last s (not_true (list_any (clashes x) (s ++ e ∷ r)) (and_right (may_stand v x) (not (list_any (clashes x) (s ++ e ∷ r))) h.0))))
+      (or_false_left (is_fid x.fid e.fid) _ (at_last s (not-true (list_any (clashes x) (s ++ e ∷ r)) (and_right (may_stand v x) (not (list_any (clashes x) (s ++ e ∷ r))) h.0))))
       (behind_other (x ∷ s) r es h.1)
     where
       at_last : (s : List Naming) → list_any (clashes x) (s ++ e ∷ r) ≡ false → clashes x e ≡ false
@@ -119,9 +108,9 @@ module _ (p : Pack) (d f : Fid) (old : List ℕ) (h : HasName (read_pack p) d ol
   others_apart =
       let e : Naming = record { dir = d; name = h.own; fid = f } in
       let s = split_kept (is_kept (lives (sights p))) [] place_of.before (e ∷ place_of.later) all_kept in
-      let clear : list_any (clashes e) (onto place_of.before []) ≡ false = not_true (list_any (clashes e) (onto place_of.before [])) (and_right (may_stand (lives (sights p)) e) (not (list_any (clashes e) (onto place_of.before []))) s.1.0) in
+      let clear : list_any (clashes e) (onto place_of.before []) ≡ false = not-true (list_any (clashes e) (onto place_of.before [])) (and_right (may_stand (lives (sights p)) e) (not (list_any (clashes e) (onto place_of.before []))) s.1.0) in
       any_both (λ n. is_fid n.fid f) place_of.before place_of.later
-      (clash_fid e place_of.before (onto_first (clashes e) place_of.before [] clear).0)
+      (clash_fid e place_of.before (onto_none (clashes e) place_of.before [] clear).0)
       (behind_other (lives (sights p)) e [] (onto place_of.before []) place_of.later s.1.1)
 
   -- so it has no entry then

@@ -8,7 +8,7 @@ use Rattle.pack_model.specs.Bodies.{body_items, items_in}
 use Rattle.pack_model.specs.Bodies.Body.{data_of, items_of}
 use Rattle.pack_model.specs.Files.{lives}
 use Rattle.pack_model.specs.Model.{read_pack}
-use Rattle.pack_model.specs.Namings.{AllKept, Naming, body_namings, clashes, fits, is_kept, may_stand, namings}
+use Rattle.pack_model.specs.Namings.{AllKept, Naming, clashes, fits, is_kept, may_stand, namings}
 use Rattle.pack_model.specs.Sights.{sights}
 use Rattle.pack_model.specs.Slots.Item.{space}
 use Rattle.pack_model.specs.Step.{new_body, new_file, step}
@@ -20,6 +20,7 @@ use Rattle.operation_laws.proofs.Coming.{bare_namings}
 use Rattle.look_laws.proofs.Apart.{nameless_is_apart}
 use Rattle.look_laws.proofs.ReadFiles.{not_read, read_tidy}
 use Rattle.look_laws.specs.EntryLaws.{ApartBehindMake, EntriesNameLiving, MadeIsNameless, is_of_another}
+use Rattle.operation_laws.proofs.Making.{bare_first}
 
 -- ---- a file that doesn't live
 -- what is kept lives
@@ -42,14 +43,6 @@ pub entries_name_living : EntriesNameLiving
 entries_name_living p f dead = none_kept (lives (sights p)) f dead [] (namings (entries (read_pack p).files)) (read_tidy p)
 
 -- ---- a make
--- a new file's body has no entry
-bare_new : (f : Fid) → body_namings f (new_body f) ≡ []
-bare_new f = by (is_directory f)
-  where
-    by : (b : Bool) → body_namings f (cond b (items_of (space 255 ∷ [])) (data_of [])) ≡ []
-    by true = refl
-    by false = refl
-
 -- nor one of another file
 open_new : (f g : Fid) (name : List ℕ) → list_any (is_of_another g name) (body_items (new_body f)) ≡ false
 open_new f g name = by (is_directory f)
@@ -60,7 +53,7 @@ open_new f g name = by (is_directory f)
 
 pub made_is_nameless : MadeIsNameless
 made_is_nameless p f own moment dead =
-    ap (list_any (λ n. is_fid n.fid f)) (bare_namings (read_pack p).files f (new_file f own moment) (bare_new f) (not_read p f dead)) ∙ entries_name_living p f dead
+    ap (list_any (λ n. is_fid n.fid f)) (bare_namings (read_pack p).files f (new_file f own moment) (bare_first f) (not_read p f dead)) ∙ entries_name_living p f dead
 
 pub apart_behind_make : ApartBehindMake
 apart_behind_make p d f name own moment dead clear =

@@ -1,24 +1,21 @@
 -- The files that a pack is read as: those that live but DiskDescriptor, with entries that are all kept.
-use Rattle.std.proofs.Common.{Bool, None, Option, Some, ap, cond, false, not, refl, sym, true, ◌∙◌, ◌≡◌}
+use Rattle.std.proofs.Common.{Bool, None, Option, ap, cond, false, not, refl, sym, true, ◌∙◌, ◌≡◌}
 use Rattle.std.specs.FinMap.{get}
 use Rattle.std.specs.Option.{is_some, option_map}
 use Rattle.alto_words.specs.declared.fid.Fid.{Fid}
 use Rattle.disk_records.specs.Packs.{Pack}
-use Rattle.pack_model.specs.Bodies.{File, body_items, described, found, is_described, items_in}
-use Rattle.pack_model.specs.Bodies.Body.{data_of, items_of}
+use Rattle.pack_model.specs.Bodies.{File, described, found, is_described}
 use Rattle.pack_model.specs.Files.{file_bytes, leader, lives}
-use Rattle.pack_model.specs.Links.{dir_words}
 use Rattle.pack_model.specs.Model.{read_pack, read_sights}
 use Rattle.pack_model.specs.Namings.{IsTidy}
 use Rattle.pack_model.specs.Sights.{sights}
-use Rattle.pack_model.specs.Slots.{slots}
 use Rattle.pack_model.specs.View.{seen_of}
 use Rattle.pack_laws.proofs.Placing.{none_of_false}
-use Rattle.record_laws.proofs.DirReads.{has_leader, not_descriptor}
 use Rattle.record_laws.proofs.Keeping.{get-where}
 use Rattle.record_laws.proofs.Mending.{get-seen}
 use Rattle.record_laws.proofs.Reading.{get-found, read_file}
-use Rattle.operation_laws.proofs.Dropped.{read_there}
+use Rattle.record_laws.proofs.Tidying.{some_map}
+use Rattle.operation_laws.proofs.EnterLaw.{items_are}
 use Rattle.look_laws.proofs.Kept.{tidied_is_tidy}
 use Rattle.look_laws.specs.EntryLaws.{ItemsAreSlots}
 use Rattle.look_laws.specs.PlaceLaws.{ModelHasTheLiving}
@@ -29,17 +26,12 @@ pub read_tidy : (p : Pack) → IsTidy (lives (sights p)) (read_pack p).files
 unfolding read_sights
 read_tidy p = tidied_is_tidy (lives (sights p)) (described (sights p))
 
--- a value made from another is there where that is
-some_mapped : {X Y : Type 0} (g : X → Y) (r : Option X) → is_some (option_map g r) ≡ is_some r
-some_mapped g None = refl
-some_mapped g (Some x) = refl
-
 -- the model has the files that are described
 described_there : (p : Pack) (f : Fid) → is_some (get (read_pack p).files f) ≡ is_some (get (described (sights p)) f)
 unfolding read_sights
 described_there p f =
     let d = described (sights p) in
-    sym (some_mapped (seen_of f) (get (read_pack p).files f)) ∙ ap is_some (get-seen (lives (sights p)) d f) ∙ some_mapped (seen_of f) (get d f)
+    sym (some_map (seen_of f) (get (read_pack p).files f)) ∙ ap is_some (get-seen (lives (sights p)) d f) ∙ some_map (seen_of f) (get d f)
 
 -- which are there by their leaders
 file_read : (p : Pack) (f : Fid) → get (described (sights p)) f ≡ cond (is_described f) (option_map (read_file f (file_bytes (sights p) f)) (leader (sights p) f)) None
@@ -58,10 +50,8 @@ pub model_has_the_living : ModelHasTheLiving
 model_has_the_living p f other =
     described_there p f
     ∙ ap is_some (file_read p f ∙ ap (λ b. cond (not b) (option_map (read_file f (file_bytes (sights p) f)) (leader (sights p) f)) None) other)
-    ∙ some_mapped (read_file f (file_bytes (sights p) f)) (leader (sights p) f)
+    ∙ some_map (read_file f (file_bytes (sights p) f)) (leader (sights p) f)
 
 -- ---- on a tidy pack
 pub items_are_slots : ItemsAreSlots
-items_are_slots p d t live dir =
-    let l = has_leader (sights p) d live in
-    ap items_in (read_there p d l.0 t (not_descriptor d dir) l.1) ∙ ap (λ b. body_items (cond b (items_of (slots (dir_words p d))) (data_of (file_bytes (sights p) d)))) dir
+items_are_slots p d t live dir = items_are p t d live dir

@@ -16,9 +16,8 @@ use Rattle.pack_model.specs.InUse.{is_free_sight}
 use Rattle.pack_model.specs.Sights.{page_sight, sight, sights}
 use Rattle.pack_model.specs.Sights.Sight.{free, hidden, stray}
 use Rattle.pack_model.specs.Tables.{free_table}
-use Rattle.pack_laws.proofs.Guarding.{free_shown, usable_shown}
+use Rattle.pack_laws.proofs.Guarding.{free_shown, ones_free, usable_shown}
 use Rattle.pack_laws.proofs.Sighted.{sights-write}
-use Rattle.operation_laws.proofs.Standing.{ones_free}
 use Rattle.hint_laws.proofs.TrueMap.{page_not_free, values_free}
 use Rattle.map_laws.specs.MapChanges.{MarkedBits, SectorMarksLaw, marked}
 

@@ -140,13 +140,10 @@ page_changed ss f k i old new h is e =
       same = same_set f ss i (holds f k new) (subst (MayBe f) (sym is) refl) refl;
       was = leader_is ss f h.at true h.lead h.leads_it;
       now = leader_is us f h.at true h.lead leads_us;
-      before = bytes_laid ss f _ (length (h.front ++ (i, old) ∷ h.later)) [] (from ss (h.front ++ (i, old) ∷ h.later) h.carries) (omega arith) h.laid h.few;
-      since = bytes_laid us f _ (length (h.front ++ (i, new) ∷ h.later)) [] (from us (h.front ++ (i, new) ∷ h.later) c) (omega arith) laid few;
+      before = bytes_laid ss f _ (length (h.front ++ (i, old) ∷ h.later)) [] (carries_none ss f (h.front ++ (i, old) ∷ h.later) 0 (length (h.front ++ (i, old) ∷ h.later)) h.carries) (omega arith) h.laid h.few;
+      since = bytes_laid us f _ (length (h.front ++ (i, new) ∷ h.later)) [] (carries_none us f (h.front ++ (i, new) ∷ h.later) 0 (length (h.front ++ (i, new) ∷ h.later)) c) (omega arith) laid few;
       whole = present h.at h.lead (h.front ++ (i, new) ∷ h.later) leads_us c laid few;
     }
-  where
-    from : (ss : List Sight) (pages : List PageAt) → Carries ss f pages 0 [] → Carries ss f pages (length pages) []
-    from ss pages c = record { seated = c.seated; waiting = tt; only = λ i m d e. elim (c.only i m d e) [ inl s ↦ inl s | inr s ↦ absurd s ] }
 
 -- the leader has other words
 pub leader_changed : (ss : List Sight) (f : Fid) (i : ℕ) (l k : Leader) (h : Headed ss f i l) → Changed ss (set ss i (leads f true k)) f l k (together h.pages) (together h.pages)

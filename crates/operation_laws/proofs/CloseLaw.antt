@@ -43,7 +43,7 @@ quiet_last [] = refl
 quiet_last (at ∷ pages) = ap (λ r. quiet ∷ r) (quiet_last pages)
 
 -- the list of record writes, with the first page's value last
-last_value : (shape : Shape) (last n at : ℕ) (busy : List Bool) (pages : List ℕ) → values_writes (reverse (closed_values shape last busy n (at ∷ pages))) ≡ values_writes (reverse (closed_values shape last busy (suc n) pages)) ++ value_writes at (descriptor_value shape last mark_clean busy n)
+pub last_value : (shape : Shape) (last n at : ℕ) (busy : List Bool) (pages : List ℕ) → values_writes (reverse (closed_values shape last busy n (at ∷ pages))) ≡ values_writes (reverse (closed_values shape last busy (suc n) pages)) ++ value_writes at (descriptor_value shape last mark_clean busy n)
 last_value shape last n at busy pages = ap values_writes (reverse-cons (at, descriptor_value shape last mark_clean busy n) (closed_values shape last busy (suc n) pages)) ∙ values-append (reverse (closed_values shape last busy (suc n) pages)) ((at, descriptor_value shape last mark_clean busy n) ∷ [])
 
 -- their values are as long as they are
@@ -85,10 +85,6 @@ no_writes p w t is = record { obeys = rest refl; keeps = λ k. nothing k; unclea
 take_more : (k : ℕ) (es : List Event) (e : Event) → k ≤ length es → take k (es ++ e ∷ []) ≡ take k es
 take_more k es e l = take-append-le k es (e ∷ []) l
 
--- or of all of them
-take_past_all : (k : ℕ) (es : List Event) → length es ≤ k → take k es ≡ es
-take_past_all k es l = take_all k es l
-
 -- all of it
 pub close_law : CloseLaw
 close_law p busy pages w t h = by (mark_of (sights p) == mark_clean) refl
@@ -114,7 +110,7 @@ close_law p busy pages w t h = by (mark_of (sights p) == mark_clean) refl
         let size : length events ≡ length es + 1 = length-append es (value_writes at value) in
         let cuts : (k : ℕ) → KeepsSound p (cut p events k) = λ k. elim (cases_lt k (length events)) [
           | inl l ↦ subst (λ x. KeepsSound p (after p x)) (sym (take_more k es (Wrote at 2 value) (omega (arith, size, l)))) (early k).keeps
-          | inr l ↦ subst (λ x. KeepsSound p (after p x)) (sym (take_past_all k events l)) keeps_end
+          | inr l ↦ subst (λ x. KeepsSound p (after p x)) (sym (take_all k events l)) keeps_end
         ] in
         let out : Closes p events (quiet_moves (at ∷ pages)) = record {
           obeys = subst (Obeys reading (read_pack p) p events) (quiet_last pages) (obeys_then reading (as_read s) one);

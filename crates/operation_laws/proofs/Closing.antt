@@ -1,5 +1,5 @@
 -- Closing: DiskDescriptor's data pages are written, from the last to the first.
-use Rattle.std.proofs.Common.{List, Some, [], ap, arith, get_or, inl, inr, length, refl, set, subst, suc, sym, zero, ℕ, ◌*◌, ◌++◌, ◌+◌, ◌/◌, ◌<◌, ◌∙◌, ◌∷◌, ◌≡◌, ◌≤◌, ◌⊎◌}
+use Rattle.std.proofs.Common.{List, Some, [], ap, arith, get_or, inl, inr, length, refl, set, subst, suc, sym, ℕ, ◌*◌, ◌++◌, ◌+◌, ◌/◌, ◌<◌, ◌∙◌, ◌∷◌, ◌≡◌, ◌≤◌, ◌⊎◌}
 use Rattle.std.proofs.lemmas.Bool.{cases_eq, cases_lt}
 use Rattle.std.proofs.lemmas.List.{get_or_append_left, length-append, length-take, set_past}
 use Rattle.alto_words.specs.Fid.{disk_descriptor}
@@ -8,7 +8,6 @@ use Rattle.disk_records.specs.Commands.{value_writes}
 use Rattle.disk_records.specs.Labels.{tag}
 use Rattle.disk_records.specs.Packs.{Pack, after, no_sector, sector_at, with_part}
 use Rattle.disk_records.specs.Words.{word}
-use Rattle.disk_records.specs.declared.records.Sector.{Sector}
 use Rattle.pack_model.specs.Bytes.{bytes_of, words_of}
 use Rattle.pack_model.specs.Files.{file_bytes, lives, place}
 use Rattle.pack_model.specs.Model.{descriptor_words, is_named, last_serial, read_pack, read_sights}
@@ -22,9 +21,9 @@ use Rattle.operation_laws.proofs.Evens.{even_by, words_of-append}
 use Rattle.operation_laws.proofs.Lying.{together-append}
 use Rattle.operation_laws.proofs.OpeningMark.{last_read, last_there}
 use Rattle.operation_laws.proofs.Seating.{AllFull, laid_front}
-use Rattle.operation_laws.proofs.Showing.{sector_apart, sector_written}
 use Rattle.operation_laws.specs.ByteLaws.{together}
 use Rattle.operation_laws.specs.DescriptorLaws.{KeepsSound}
+use Rattle.pack_laws.proofs.Guarding.{here_written, other_kept}
 
 -- ---- what stays until the last record write
 -- What is read, what is whole and sound, the words before the map, and how long the values are.
@@ -64,7 +63,7 @@ sizes_same p at v w a b =
 pub value_sized : (p : Pack) (at i : ℕ) (value : List ℕ) → length value ≡ 256 → length (sector_at p i).value ≡ 256 → length (sector_at (after p (value_writes at value)) i).value ≡ 256
 value_sized p at i value size e = elim (cases_eq i at) [
   | inl same ↦ by (value_there p at value i)
-  | inr other ↦ ap (λ s. length s.value) (sector_apart p at 2 i value other) ∙ e
+  | inr other ↦ ap (λ s. length s.value) (other_kept p at 2 value i other) ∙ e
 ]
   where
     by : (sector_at (after p (value_writes at value)) i ≡ sector_at p i) ⊎ ((i ≡ at) × ((sector_at (after p (value_writes at value)) i).value ≡ value)) → length (sector_at (after p (value_writes at value)) i).value ≡ 256
@@ -74,16 +73,11 @@ value_sized p at i value size e = elim (cases_eq i at) [
     value_there : (p : Pack) (at : ℕ) (value : List ℕ) (i : ℕ) → (sector_at (after p (value_writes at value)) i ≡ sector_at p i) ⊎ ((i ≡ at) × ((sector_at (after p (value_writes at value)) i).value ≡ value))
     value_there p at value i = elim (cases_lt at (length p.sectors)) [
       | inl l ↦ elim (cases_eq i at) [
-        | inl same ↦ inr (same, ap (λ k. (sector_at (after p (value_writes at value)) k).value) same ∙ ap (λ s. s.value) (sector_written p at 2 value l))
-        | inr other ↦ inl (sector_apart p at 2 i value other)
+        | inl same ↦ inr (same, ap (λ k. (sector_at (after p (value_writes at value)) k).value) same ∙ ap (λ s. s.value) (here_written p at 2 value l))
+        | inr other ↦ inl (other_kept p at 2 value i other)
       ]
       | inr l ↦ inl (ap (λ ss. get_or ss i no_sector) (set_past p.sectors at (with_part 2 value (sector_at p at)) l))
     ]
-
-    set_past : (ss : List Sector) (at : ℕ) (s : Sector) → length ss ≤ at → set ss at s ≡ ss
-    set_past [] at s l = refl
-    set_past (x ∷ ss) zero s l = absurd (omega arith)
-    set_past (x ∷ ss) (suc at) s l = ap (λ r. x ∷ r) (set_past ss at s (omega arith))
 
 -- the words before the map stand in the first page
 head_words : (c : PageAt) (more : List PageAt) (j : ℕ) → length c.1 ≡ 512 → j < 9 → word (words_of (together (c ∷ more))) j ≡ word (words_of c.1) j

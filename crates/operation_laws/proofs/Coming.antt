@@ -25,17 +25,14 @@ use Rattle.record_laws.proofs.Keeping.{get-where, kept_insert}
 use Rattle.record_laws.proofs.Reading.{get-found, get_alike, get_by, insert_from_get, read_file}
 use Rattle.record_laws.proofs.Tidying.{tidy_same}
 use Rattle.operation_laws.proofs.Elsewhere.{SameBut, not_same, other_bytes, other_file, other_leader, other_used, same_good}
-
--- both are true
-and_true : (a b : Bool) → a ≡ true → b ≡ true → (a && b) ≡ true
-and_true a b p q = ap (λ x. x && b) p ∙ q
+use Rattle.std.proofs.lemmas.Bool.{and_from}
 
 -- more files live: what is kept stays kept
 kept_more : (v u : Fid → Bool) → ((g : Fid) → v g ≡ true → u g ≡ true) → (before es : List Naming) → AllKept (is_kept v) before es → AllKept (is_kept u) before es
 kept_more v u more before [] h = tt
 kept_more v u more before (e ∷ es) h =
     let l = and_left (v e.fid && fits e) (not (list_any (clashes e) before)) h.0 in (
-      and_true (u e.fid && fits e) (not (list_any (clashes e) before)) (and_true (u e.fid) (fits e) (more e.fid (and_left (v e.fid) (fits e) l)) (and_right (v e.fid) (fits e) l)) (and_right (v e.fid && fits e) (not (list_any (clashes e) before)) h.0),
+      and_from (u e.fid && fits e) (not (list_any (clashes e) before)) (and_from (u e.fid) (fits e) (more e.fid (and_left (v e.fid) (fits e) l)) (and_right (v e.fid) (fits e) l)) (and_right (v e.fid && fits e) (not (list_any (clashes e) before)) h.0),
       kept_more v u more (e ∷ before) es h.1,
     )
 

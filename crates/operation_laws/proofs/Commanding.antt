@@ -1,8 +1,8 @@
 -- The sector commands, cut by cut: what they show and what is read.
-use Rattle.std.proofs.Common.{List, [], ap, cond, get_or, set, sym, true, ℕ, ◌∙◌, ◌∷◌, ◌≡◌, ◌≢◌}
+use Rattle.std.proofs.Common.{List, None, [], ap, cond, get_or, refl, set, sym, true, ℕ, ◌∙◌, ◌∷◌, ◌≡◌, ◌≢◌}
 use Rattle.std.proofs.lemmas.List.{set-get_or}
 use Rattle.disk_records.specs.Commands.{claim_writes, ones, relabel_writes, release_writes, value_writes}
-use Rattle.disk_records.specs.Labels.{is_free, tag}
+use Rattle.disk_records.specs.Labels.{in_range, is_free, page_of, tag}
 use Rattle.disk_records.specs.Packs.{Pack, after, is_usable, no_sector, sector_at, with_part}
 use Rattle.disk_records.specs.declared.records.Event.TheVariants.{Wrote}
 use Rattle.pack_model.specs.Committing.{MakesMove}
@@ -13,10 +13,10 @@ use Rattle.pack_model.specs.Operations.{Move, moved}
 use Rattle.pack_model.specs.Operations.Move.{quiet}
 use Rattle.pack_model.specs.Sights.{Sight, sight, sights, tag_sight}
 use Rattle.pack_model.specs.Sights.Sight.{free, hidden}
-use Rattle.pack_laws.proofs.Guarding.{free_shown}
+use Rattle.pack_laws.proofs.Guarding.{free_shown, here_written, other_kept}
 use Rattle.pack_laws.proofs.Sighted.{sights-write}
 use Rattle.record_laws.proofs.Unseen.{sights_kept}
-use Rattle.operation_laws.proofs.Showing.{free_is, is_here, sector_apart, sector_written, usable_is}
+use Rattle.operation_laws.proofs.Showing.{free_is, is_here, usable_is}
 
 -- the value of a free sector isn't shown
 quiet_free : (p : Pack) (at : ℕ) (value : List ℕ) → is_free (tag (sector_at p at).label) ≡ true → sights (after p (Wrote at 2 value ∷ [])) ≡ sights p
@@ -26,6 +26,11 @@ quiet_free p at value e = sights_kept p at 2 value (ap (λ s. cond (is_usable p.
 -- the value that stands there
 written_again : (p : Pack) (at : ℕ) (value : List ℕ) → value ≡ (sector_at p at).value → after p (Wrote at 2 value ∷ []) ≡ p
 written_again p at value e = ap (λ v. after p (Wrote at 2 v ∷ [])) e ∙ ap (λ ss. record { shape = p.shape; sectors = ss }) (set-get_or p.sectors at no_sector)
+
+-- ones name no page
+pub ones_none : page_of (ones 8) ≡ None
+unfolding in_range
+ones_none = refl
 
 -- ---- one record
 module _ (p : Pack) (at : ℕ) (good : good_one (get_or (sights p) at hidden) ≡ 1) where
@@ -50,7 +55,7 @@ module _ (p : Pack) (at : ℕ) (good : good_one (get_or (sights p) at hidden) �
   -- RELABEL: the first record makes the move, and the value is written again
   same_value : (label : List ℕ) → after p (relabel_writes at label (sector_at p at).value) ≡ after p (Wrote at 1 label ∷ [])
   same_value label =
-      written_again (after p (Wrote at 1 label ∷ [])) at (sector_at p at).value (sym (ap (λ s. s.value) (sector_written p at 1 label (is_here p at good))))
+      written_again (after p (Wrote at 1 label ∷ [])) at (sector_at p at).value (sym (ap (λ s. s.value) (here_written p at 1 label (is_here p at good))))
 
   -- both
   pub relabel_shows : (label value : List ℕ) (s : Sight) → value ≡ (sector_at p at).value → tag_sight (tag label) (sector_at p at).value ≡ s → sights (after p (relabel_writes at label value)) ≡ set (sights p) at s
@@ -66,7 +71,7 @@ module _ (p : Pack) (at : ℕ) (good : good_one (get_or (sights p) at hidden) �
   pub release_shows : (label value : List ℕ) → is_free (tag label) ≡ true → sights (after p (relabel_writes at label value)) ≡ set (sights p) at free
   release_shows label value blank =
       let q : Pack = after p (Wrote at 1 label ∷ []) in
-      quiet_free q at value (ap (λ s. is_free (tag s.label)) (sector_written p at 1 label (is_here p at good)) ∙ blank)
+      quiet_free q at value (ap (λ s. is_free (tag s.label)) (here_written p at 1 label (is_here p at good)) ∙ blank)
       ∙ label_shows label free (free_shown (tag label) (sector_at p at).value blank)
 
   -- cut by cut
@@ -88,7 +93,7 @@ module _ (p : Pack) (at : ℕ) (is : get_or (sights p) at hidden ≡ free) (labe
 
   -- it holds the value
   its_value : value ≡ (sector_at (after p (Wrote at 2 value ∷ [])) at).value
-  its_value = sym (ap (λ s. s.value) (sector_written p at 2 value (is_here p at (ap good_one is))))
+  its_value = sym (ap (λ s. s.value) (here_written p at 2 value (is_here p at (ap good_one is))))
 
   -- and shows the page once it has the label
   its_sight : tag_sight (tag label) (sector_at (after p (Wrote at 2 value ∷ [])) at).value ≡ s
@@ -110,9 +115,9 @@ module _ (p : Pack) (at : ℕ) (is : get_or (sights p) at hidden ≡ free) (labe
 -- other sectors keep their words
 pub claim_apart : (p : Pack) (at i : ℕ) (label value : List ℕ) → i ≢ at → sector_at (after p (claim_writes at label value)) i ≡ sector_at p i
 claim_apart p at i label value ne =
-    sector_apart (after p (Wrote at 2 value ∷ Wrote at 1 label ∷ [])) at 2 i value ne
-    ∙ sector_apart (after p (Wrote at 2 value ∷ [])) at 1 i label ne ∙ sector_apart p at 2 i value ne
+    other_kept (after p (Wrote at 2 value ∷ Wrote at 1 label ∷ [])) at 2 value i ne
+    ∙ other_kept (after p (Wrote at 2 value ∷ [])) at 1 label i ne ∙ other_kept p at 2 value i ne
 
 -- a release keeps the words of other sectors
 pub release_apart : (p : Pack) (at i : ℕ) → i ≢ at → sector_at (after p (release_writes at)) i ≡ sector_at p i
-release_apart p at i ne = sector_apart (after p (Wrote at 1 (ones 8) ∷ [])) at 2 i (ones 256) ne ∙ sector_apart p at 1 i (ones 8) ne
+release_apart p at i ne = other_kept (after p (Wrote at 1 (ones 8) ∷ [])) at 2 (ones 256) i ne ∙ other_kept p at 1 (ones 8) i ne

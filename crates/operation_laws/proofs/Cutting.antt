@@ -33,13 +33,14 @@ use Rattle.operation_laws.proofs.Elsewhere.{MayBe, SameBut, but_trans, same_set}
 use Rattle.operation_laws.proofs.Kept.{carries_out}
 use Rattle.operation_laws.proofs.Lying.{bytes_laid, seated_right, together-append, within}
 use Rattle.operation_laws.proofs.OneFile.{file_step}
-use Rattle.operation_laws.proofs.OneValue.{fits_page, take_past}
+use Rattle.operation_laws.proofs.OneValue.{fits_page}
 use Rattle.operation_laws.proofs.Rows.{ordinary_length, pages_by_bytes, releases_units, row_is}
 use Rattle.operation_laws.proofs.Seating.{carries_none, carries_split, carries_write, laid_front, laid_join, leader_is, leads_set}
 use Rattle.operation_laws.proofs.Showing.{other_value, tag_is}
 use Rattle.operation_laws.proofs.Standing.{FileStands, releases_go}
 use Rattle.operation_laws.specs.ByteLaws.{IsOrdinary, MayCut, together}
 use Rattle.operation_laws.specs.Outcomes.{CarriesOut}
+use Rattle.std.proofs.Math.Seq.{take-append-add}
 
 -- a page of fewer bytes
 short_page : (b : ℕ) (old : List ℕ) → b ≤ length old → b < 512 → nat_lt (length (take b old)) 512 ≡ true
@@ -93,7 +94,7 @@ module _ (ss : List Sight) (f : Fid) (k i : ℕ) (old : List ℕ) (h : Placed ss
       let e = h.number in
       let place : 512 * k + b ≡ length (together h.front) + b = omega arith in
       ap (λ x. take x (together (h.front ++ (i, old) ∷ h.later))) place ∙ ap (take (length (together h.front) + b)) (together-append h.front ((i, old) ∷ h.later))
-      ∙ take_past (together h.front) (old ++ together h.later) b
+      ∙ take-append-add (together h.front) (old ++ together h.later) b
       ∙ ap (λ x. together h.front ++ x) (take-append-le b old (together h.later) less ∙ sym (append-nil (take b old)))
       ∙ sym (together-append h.front ((i, take b old) ∷ []))
 

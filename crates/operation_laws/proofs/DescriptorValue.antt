@@ -19,8 +19,8 @@ use Rattle.pack_laws.proofs.Keys.{same_fid}
 use Rattle.pack_laws.proofs.Placing.{page_of_place, place_same}
 use Rattle.record_laws.proofs.DirReads.{not_descriptor}
 use Rattle.record_laws.proofs.Framing.{lives_same, model_same}
+use Rattle.record_laws.proofs.Keeping.{described_kept}
 use Rattle.record_laws.proofs.Reading.{get_alike}
-use Rattle.record_laws.proofs.Systemic.{described_kept}
 use Rattle.record_laws.specs.QuietLaws.{counted_of}
 use Rattle.operation_laws.proofs.Changing.{Changed, Placed, page_changed, seat_of}
 use Rattle.operation_laws.proofs.Commanding.{value_shows}

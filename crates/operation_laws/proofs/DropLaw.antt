@@ -50,7 +50,7 @@ kept_twice p q r x y = record {
 }
 
 -- a list with an item is not empty
-not_none : (x : List Naming) (e : Naming) (y : List Naming) → x ++ e ∷ y ≡ [] → ⊥
+pub not_none : (x : List Naming) (e : Naming) (y : List Naming) → x ++ e ∷ y ≡ [] → ⊥
 not_none [] e y h = absurd cc
 not_none (n ∷ x) e y h = absurd cc
 

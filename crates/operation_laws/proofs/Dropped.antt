@@ -26,6 +26,7 @@ use Rattle.pack_model.specs.Slots.{all_words, slots}
 use Rattle.pack_model.specs.Step.{Operation, step}
 use Rattle.pack_model.specs.Step.Operation.{drop_file}
 use Rattle.pack_model.specs.Whole.{Carries, Headless, PageAt, Tidy, TidyBut, Whole, absent}
+use Rattle.pack_laws.proofs.Guarding.{ones_free}
 use Rattle.pack_laws.proofs.Moving.{obeys_then, stands_last}
 use Rattle.pack_laws.proofs.Placing.{leader_of_place}
 use Rattle.record_laws.proofs.Heads.{all_read}
@@ -41,7 +42,7 @@ use Rattle.operation_laws.proofs.Leaving.{system_apart}
 use Rattle.operation_laws.proofs.Lying.{bytes_laid, shows_set, within}
 use Rattle.operation_laws.proofs.Rows.{pages_by_bytes, releases_units, row_is}
 use Rattle.operation_laws.proofs.Seating.{carries_none, carries_set, carries_split, leader_is, leader_none_is}
-use Rattle.operation_laws.proofs.Standing.{FileStands, ones_free, releases_go}
+use Rattle.operation_laws.proofs.Standing.{FileStands, releases_go}
 use Rattle.operation_laws.proofs.Widening.{directory_length}
 use Rattle.operation_laws.specs.ByteLaws.{together}
 use Rattle.operation_laws.specs.LifeLaws.{GoesOut, MayDrop, first_moves}
@@ -67,7 +68,7 @@ length_there p f l w t other is = ap length_in (read_there p f l t other is) ∙
         directory_length (slots (words_of (file_bytes (sights p) f))) (file_bytes (sights p) f) r.even (ap all_words x.0 ∙ x.1)
 
 -- the entries in a body are those of its slots
-bodies_bare : (f : Fid) (b : Body) → body_namings f b ≡ namings_in f (body_items b)
+pub bodies_bare : (f : Fid) (b : Body) → body_namings f b ≡ namings_in f (body_items b)
 bodies_bare f (data_of bytes) = refl
 bodies_bare f (items_of is) = refl
 

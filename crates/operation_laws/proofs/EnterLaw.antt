@@ -4,6 +4,7 @@ use Rattle.std.specs.FinMap.{entries, get, get-insert, insert}
 use Rattle.std.specs.List.{list_any}
 use Rattle.std.specs.Option.{is_some}
 use Rattle.std.specs.Prelude.{◌==◌}
+use Rattle.alto_words.specs.Fid.{is_directory}
 use Rattle.alto_words.specs.declared.fid.Fid.{Fid}
 use Rattle.disk_records.specs.Commands.{value_writes}
 use Rattle.disk_records.specs.Packs.{Pack, after, sector_at}
@@ -13,7 +14,7 @@ use Rattle.pack_model.specs.Bytes.{put_at}
 use Rattle.pack_model.specs.Commands.{values_writes}
 use Rattle.pack_model.specs.Committing.{page_of_word}
 use Rattle.pack_model.specs.Entering.{overlapping}
-use Rattle.pack_model.specs.Files.{file_bytes, place}
+use Rattle.pack_model.specs.Files.{file_bytes, lives, place}
 use Rattle.pack_model.specs.Leaders.{Leader}
 use Rattle.pack_model.specs.Links.{dir_words}
 use Rattle.pack_model.specs.Model.{Model, dir_items, read_pack}
@@ -27,6 +28,7 @@ use Rattle.pack_model.specs.Step.{step}
 use Rattle.pack_model.specs.Step.Operation.{enter}
 use Rattle.pack_model.specs.Whole.{Tidy, Whole}
 use Rattle.pack_laws.proofs.Keys.{fid_total, is_fid-itself}
+use Rattle.record_laws.proofs.Addressing.{entry_words_many}
 use Rattle.record_laws.proofs.DirReads.{has_leader, not_descriptor}
 use Rattle.record_laws.proofs.DirWords.{dir_change}
 use Rattle.record_laws.proofs.Entered.{directory, namings_in-append}
@@ -37,7 +39,7 @@ use Rattle.record_laws.specs.DirLaws.{Frees, freed}
 use Rattle.operation_laws.proofs.DirValue.{dir_lead}
 use Rattle.operation_laws.proofs.Dropped.{read_there}
 use Rattle.operation_laws.proofs.EnterStages.{EntersBy, Joined, alike_slots, join_stage, quiet_first}
-use Rattle.operation_laws.proofs.Entering.{Ready, entry_long, second_stage, sector_still, ticks}
+use Rattle.operation_laws.proofs.Entering.{Ready, second_stage, sector_still, ticks}
 use Rattle.operation_laws.proofs.OneDirectory.{slots_namings}
 use Rattle.operation_laws.proofs.Rejoining.{enough_words, entered_there, room_again}
 use Rattle.operation_laws.proofs.Rooming.{run_bare}
@@ -47,13 +49,16 @@ use Rattle.operation_laws.specs.NameLaws.{MayEnterAt}
 abbrev pub all_ticks : Bool → Bool → List (Unit {0})
 all_ticks one same = cond one (ticks same) (tt ∷ ticks same)
 
+-- a tidy pack's directory is read as its words are
+pub items_are : (p : Pack) → Tidy p → (d : Fid) → lives (sights p) d ≡ true → is_directory d ≡ true → dir_items (read_pack p) d ≡ slots (dir_words p d)
+items_are p t d live dir =
+    let l = has_leader (sights p) d live in
+    ap items_in (read_there p d l.0 t (not_descriptor d dir) l.1) ∙ ap (λ c. body_items (cond c (items_of (slots (dir_words p d))) (data_of (file_bytes (sights p) d)))) dir
+
 module _ (p : Pack) (w : Whole p) (t : Tidy p) (d : Fid) (name : List ℕ) (f : Fid) (a old b : List Item) (left : ℕ) (words : List ℕ) (at next_at : ℕ) (h : MayEnterAt p d name f a old b left words at next_at) where
   -- the directory's slots are those of the model
-  read_slots : dir_items (read_pack p) d ≡ slots (dir_words p d)
-  read_slots = ap items_in (read_there p d (has_leader (sights p) d h.living).0 t (not_descriptor d h.directory) (has_leader (sights p) d h.living).1) ∙ ap (λ c. body_items (cond c (items_of (slots (dir_words p d))) (data_of (file_bytes (sights p) d)))) h.directory
-
   slots_are : slots (dir_words p d) ≡ a ++ (old ++ b)
-  slots_are = sym read_slots ∙ h.room.split
+  slots_are = sym (items_are p t d h.living h.directory) ∙ h.room.split
 
   -- where the room is one slot
   ready : slots (dir_words p d) ≡ a ++ space (entry_length (length name) + left) ∷ b → Ready p d name f a b left words at next_at
@@ -74,7 +79,7 @@ module _ (p : Pack) (w : Whole p) (t : Tidy p) (d : Fid) (name : List ℕ) (f : 
   ready_alone e = ready (slots_are ∙ ap (λ x. a ++ x) (one_slot old h.room.run_is (eqb-true (item_words (get_or old 0 (space 0))) (all_words old) e) ∙ ap (λ k. space k ∷ b) h.total))
     where
       one_slot : (old : List Item) → run (entry_length (length name)) (old ++ b) ≡ Some (all_words old, b) → item_words (get_or old 0 (space 0)) ≡ all_words old → old ++ b ≡ space (all_words old) ∷ b
-      one_slot [] e z = absurd (let l = run_enough (entry_length (length name)) b (0, b) e in let m = entry_long name in omega arith)
+      one_slot [] e z = absurd (let l = run_enough (entry_length (length name)) b (0, b) e in let m = entry_words_many (length name) in omega arith)
       one_slot (entry g own ∷ old) e z = absurd cc
       one_slot (space k ∷ old) e z =
           let y : k ≡ k + all_words old = z in
@@ -85,7 +90,7 @@ module _ (p : Pack) (w : Whole p) (t : Tidy p) (d : Fid) (name : List ℕ) (f : 
   pub frees : Frees p d at a old b
   frees =
       let l = enough_words (entry_length (length name)) (dir_items (read_pack p) d) a old b h.room in
-      let m = entry_long name in
+      let m = entry_words_many (length name) in
       let all = all_within (a ++ (old ++ b)) (dir_words p d) slots_are in
       let x = words-append a (old ++ b) in
       let y = words-append old b in

@@ -22,10 +22,10 @@ use Rattle.pack_model.specs.Slots.Item.{space}
 use Rattle.pack_model.specs.Step.{Operation, step}
 use Rattle.pack_model.specs.Step.Operation.{enter}
 use Rattle.pack_laws.proofs.Moving.{obeys_cut}
+use Rattle.record_laws.proofs.Addressing.{entry_words_many}
 use Rattle.record_laws.proofs.DirReads.{not_descriptor}
 use Rattle.operation_laws.proofs.EnterLaw.{all_stages, all_ticks}
 use Rattle.operation_laws.proofs.EnterStages.{EntersBy}
-use Rattle.operation_laws.proofs.Entering.{entry_long}
 use Rattle.operation_laws.proofs.Kept.{descriptor_kept, fits_still}
 use Rattle.operation_laws.proofs.Rejoining.{enough_words}
 use Rattle.operation_laws.specs.NameLaws.{EnterLaw, entry_room}
@@ -43,7 +43,7 @@ left_word n zero = ap (λ c. one_if (not c)) (eq-eqb (n + 0) n (omega arith))
 left_word n (suc k) = ap (λ c. one_if (not c)) (ne_eqb (n + suc k) n (omega arith)) ∙ (let z : 1 ≡ min (suc k) 1 = omega arith in z)
 
 -- the first slot of a room
-first_slot : (a old b : List Item) → 0 < all_words old → get_or (a ++ (old ++ b)) (length a) (space 0) ≡ get_or old 0 (space 0)
+pub first_slot : (a old b : List Item) → 0 < all_words old → get_or (a ++ (old ++ b)) (length a) (space 0) ≡ get_or old 0 (space 0)
 first_slot [] [] b l = absurd (omega arith)
 first_slot [] (i ∷ old) b l = refl
 first_slot (j ∷ a) old b l = first_slot a old b l
@@ -79,7 +79,7 @@ enter_law p d name f a old b left words at next_at w t h =
     let s1 : EntersBy p d events (all_ticks one same) o = subst (λ r. EntersBy p d r (all_ticks one same) o) events_are s in
     let found = h.room.found in
     let long = enough_words n (dir_items m d) a old b h.room in
-    let many = entry_long name in
+    let many = entry_words_many (length name) in
     let first : get_or (dir_items m d) (length a) (space 0) ≡ get_or old 0 (space 0) = ap (λ is. get_or is (length a) (space 0)) h.room.split ∙ first_slot a old b (omega arith) in
     let size : n + one_if (not (all_words old == n)) ≡ length words = ap (λ k. n + one_if (not (k == n))) h.total ∙ ap (λ k. n + k) (left_word n left) ∙ sym h.words_are.size in
     let count : values_before (dir_items m d) n (find_room n (dir_items m d)) ≡ one_if (not one) + one_if (not same) =

@@ -1,7 +1,7 @@
 -- The record writes of an entering, stage by stage: words inside a free slot, free slots made one, and the entry's first words.
-use Rattle.std.proofs.Common.{Bool, List, Some, [], ap, arith, cond, false, inl, inr, length, refl, subst, sym, true, ℕ, ◌++◌, ◌+◌, ◌<◌, ◌∙◌, ◌∷◌, ◌≡◌, ◌≤◌}
+use Rattle.std.proofs.Common.{List, Some, [], ap, arith, cond, inl, inr, length, refl, subst, sym, ℕ, ◌++◌, ◌+◌, ◌<◌, ◌∙◌, ◌∷◌, ◌≡◌, ◌≤◌}
 use Rattle.std.proofs.lemmas.Bool.{cases_lt}
-use Rattle.std.specs.FinMap.{entries, get, get-insert, insert, same_map}
+use Rattle.std.specs.FinMap.{entries, get, get-insert, insert}
 use Rattle.std.specs.List.{list_any}
 use Rattle.alto_words.specs.Fid.{is_fid}
 use Rattle.alto_words.specs.declared.fid.Fid.{Fid}
@@ -9,7 +9,7 @@ use Rattle.disk_records.specs.Commands.{value_writes}
 use Rattle.disk_records.specs.Packs.{Pack, after, sector_at}
 use Rattle.disk_records.specs.declared.records.Event.{Event}
 use Rattle.disk_records.specs.declared.records.Event.TheVariants.{Wrote}
-use Rattle.pack_model.specs.Bodies.{File, Files, described}
+use Rattle.pack_model.specs.Bodies.{Files, described}
 use Rattle.pack_model.specs.Bytes.{put_at}
 use Rattle.pack_model.specs.Files.{leader, lives}
 use Rattle.pack_model.specs.Leaders.{Leader}
@@ -29,7 +29,7 @@ use Rattle.pack_model.specs.Step.{Operation, on_items, step, update_file}
 use Rattle.pack_model.specs.View.{view}
 use Rattle.pack_model.specs.Whole.{Tidy, Whole}
 use Rattle.pack_laws.proofs.Bytes.{length-put_at}
-use Rattle.pack_laws.proofs.Keys.{fid_same, fid_total, is_fid-itself}
+use Rattle.pack_laws.proofs.Keys.{fid_total, is_fid-itself}
 use Rattle.record_laws.proofs.Addressing.{LooseIn, slots_kept}
 use Rattle.record_laws.proofs.DirKinds.{free_slots_joined}
 use Rattle.record_laws.proofs.DirReads.{dir_reads, dir_same, has_leader, insert_same}
@@ -42,6 +42,7 @@ use Rattle.operation_laws.proofs.DirValue.{dir_before, dir_lead, dir_read, value
 use Rattle.operation_laws.proofs.Elsewhere.{SameBut, but_trans}
 use Rattle.operation_laws.proofs.Leaving.{words_alike}
 use Rattle.operation_laws.proofs.OneDirectory.{slots_namings}
+use Rattle.record_laws.proofs.Rooting.{insert_twice}
 
 -- ---- moves from another model
 -- moves that come to the same from two models
@@ -176,13 +177,6 @@ join_stage p w t d at a old b fr bare =
     }
 
 -- ---- changes that an operation doesn't care for
-insert_twice : (m : Files) (d : Fid) (x y : File) → insert (insert m d x) d y ≡ insert m d y
-insert_twice m d x y = same_map fid_total fid_same _ _ (λ q. get-insert fid_total (insert m d x) d y q ∙ ap (cond (is_fid q d) (Some y)) (get-insert fid_total m d x q) ∙ at q (is_fid q d) ∙ sym (get-insert fid_total m d y q))
-  where
-    at : (q : Fid) (b : Bool) → cond b (Some y) (cond b (Some x) (get m q)) ≡ cond b (Some y) (get m q)
-    at q true = refl
-    at q false = refl
-
 -- the directory has other slots, which become the same
 pub alike_slots : (m : Model) (d : Fid) (l : Leader) (is js : List Item) (g : List Item → List Item) → get m.files d ≡ Some (directory l is) → g js ≡ g is
     → update_file (record m { files = insert m.files d (directory l js) }) d (on_items g) ≡ update_file m d (on_items g)

@@ -1,7 +1,7 @@
 -- Enter: all its record writes, one after another.
 use Rattle.std.proofs.Common.{Bool, List, Some, [], add-one, ap, arith, cond, drop, eq-eqb, eqb-true, false, inl, inr, length, length-drop, min, refl, subst, suc, sym, take, true, zero, ℕ, ◌*◌, ◌++◌, ◌+◌, ◌-◌, ◌/◌, ◌<◌, ◌∙◌, ◌∷◌, ◌≡◌, ◌≢◌, ◌≤◌}
 use Rattle.std.proofs.lemmas.Bool.{cases_lt}
-use Rattle.std.proofs.lemmas.List.{length-append, length-take, take-append-drop}
+use Rattle.std.proofs.lemmas.List.{length-append, length-take, nil_from_length, take-append-drop}
 use Rattle.std.specs.FinMap.{entries}
 use Rattle.std.specs.List.{list_any}
 use Rattle.std.specs.Option.{is_some}
@@ -31,7 +31,7 @@ use Rattle.pack_model.specs.Step.Operation.{enter}
 use Rattle.pack_model.specs.Whole.{Tidy, Whole}
 use Rattle.pack_laws.proofs.Moving.{stands_last}
 use Rattle.pack_laws.proofs.Placing.{place_same}
-use Rattle.record_laws.proofs.Addressing.{LooseIn}
+use Rattle.record_laws.proofs.Addressing.{LooseIn, entry_words_many}
 use Rattle.record_laws.proofs.DirWords.{dir_change, new_bytes, page_by_bytes, written_sights}
 use Rattle.record_laws.proofs.Heads.{all_within}
 use Rattle.record_laws.proofs.Slotwise.{words-append}
@@ -40,6 +40,7 @@ use Rattle.record_laws.specs.EnterLaws.{IsItsRoom, MayEnter}
 use Rattle.operation_laws.proofs.EnterStages.{EntersBy, later_first, loose_stage, views_of}
 use Rattle.operation_laws.proofs.EntryWrite.{EntersLast, enters_of, last_stage, loose_in, put_drop}
 use Rattle.operation_laws.specs.NameLaws.{EntryWords}
+use Rattle.std.proofs.Math.Seq.{take-append_seam}
 
 -- ---- one free slot is the room
 -- An entry's words, of which the room is one free slot.
@@ -54,18 +55,9 @@ pub record Ready (p : Pack) (d : Fid) (name : List ℕ) (f : Fid) (a b : List It
   pub sector : place (sights p) d (page_of_word (all_words a)) ≡ Some at
   pub next_sector : 0 < length (later (all_words a) words) → place (sights p) d (suc (page_of_word (all_words a))) ≡ Some next_at
 
--- an entry has at least seven words
-pub entry_long : (name : List ℕ) → 7 ≤ entry_length (length name)
-entry_long name = omega arith
-
 -- the words lie within the directory
 pub words_within : (p : Pack) (d : Fid) (a b : List Item) (k : ℕ) → slots (dir_words p d) ≡ a ++ space k ∷ b → all_words a + k ≤ length (dir_words p d)
 words_within p d a b k e = let l = all_within (a ++ space k ∷ b) (dir_words p d) e in let z : all_words (a ++ space k ∷ b) ≡ all_words a + (k + all_words b) = words-append a (space k ∷ b) in omega arith
-
--- words in front of others
-take_front : (x r : List ℕ) → take (length x) (x ++ r) ≡ x
-take_front [] r = refl
-take_front (y ∷ x) r = ap (λ z. y ∷ z) (take_front x r)
 
 -- pages stay where they are when words of one of them are written
 pub sector_still : (p : Pack) (d : Fid) (w at : ℕ) (new : List ℕ) (h : DirWrite p d w at new) (n : ℕ) → place (sights (dir_written p w at new)) d n ≡ place (sights p) d n
@@ -114,7 +106,7 @@ second_stage p w t d name f a b left words at next_at r = by (page_of_word (all_
     split = sym (take-append-drop (256 - in_page (all_words a)) words)
 
     many : 7 ≤ length words
-    many = let s = r.words_are.size in let l = entry_long name in omega arith
+    many = let s = r.words_are.size in let l = entry_words_many (length name) in omega arith
 
     near_size : length (near (all_words a) words) ≡ min (256 - in_page (all_words a)) (length words)
     near_size = length-take (256 - in_page (all_words a)) words
@@ -132,11 +124,7 @@ second_stage p w t d name f a b left words at next_at r = by (page_of_word (all_
         let s = near_size in let o = over_size in let m = many in let q = within_page in
         let none : length (later (all_words a) words) ≡ 0 = omega arith in
         last_by p d (value_writes at (put_at (in_page (all_words a)) (near (all_words a) words) (sector_at p at).value)) (enter d name f)
-        (last_here p w t d name f a b left words at next_at r (near (all_words a) words) (later (all_words a) words) split (omega arith) (omega arith) (ap (λ k. take k (drop (all_words a + length (near (all_words a) words)) (dir_words p d))) none ∙ sym (no_words (later (all_words a) words) none)))
-      where
-        no_words : (x : List ℕ) → length x ≡ 0 → x ≡ []
-        no_words [] e = refl
-        no_words (y ∷ x) e = absurd (omega (arith, e))
+        (last_here p w t d name f a b left words at next_at r (near (all_words a) words) (later (all_words a) words) split (omega arith) (omega arith) (ap (λ k. take k (drop (all_words a + length (near (all_words a) words)) (dir_words p d))) none ∙ sym (nil_from_length (later (all_words a) words) none)))
     by false e =
         let apart : page_of_word (all_words a + length words - 1) ≢ page_of_word (all_words a) = λ z. (let x : true ≡ false = sym (eq-eqb (page_of_word (all_words a + length words - 1)) (page_of_word (all_words a)) z) ∙ e in cc) in
         let s = near_size in let o = over_size in let m = many in let q = within_page in
@@ -172,7 +160,7 @@ second_stage p w t d name f a b left words at next_at r = by (page_of_word (all_
         } in
         let stands : take (length (later (all_words a) words)) (drop (all_words a + length (near (all_words a) words)) (dir_words q1 d)) ≡ later (all_words a) words =
         ap (λ x. take (length (later (all_words a) words)) (drop w2 x)) c.words_are ∙ ap (take (length (later (all_words a) words))) (put_drop w2 (later (all_words a) words) (dir_words p d) h.within)
-        ∙ take_front (later (all_words a) words) (drop (w2 + length (later (all_words a) words)) (dir_words p d)) in
+        ∙ take-append_seam (later (all_words a) words) (drop (w2 + length (later (all_words a) words)) (dir_words p d)) in
         let last = last_by q1 d (value_writes at (put_at (in_page (all_words a)) (near (all_words a) words) (sector_at q1 at).value)) (enter d name f)
         (last_here q1 st.whole st.tidy d name f a b left words at next_at r1 (near (all_words a) words) (later (all_words a) words) split (omega arith) (omega arith) stands) in
         let all = later_first p w t d w2 next_at (later (all_words a) words) h loose (value_writes at (put_at (in_page (all_words a)) (near (all_words a) words) (sector_at q1 at).value)) [] (enter d name f) last in

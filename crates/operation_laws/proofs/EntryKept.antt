@@ -1,5 +1,5 @@
 -- An entry more in a directory of tidy files.
-use Rattle.std.proofs.Common.{Bool, List, Some, [], ap, arith, false, not, refl, subst, suc, sym, true, zero, ℕ, ◌&&◌, ◌++◌, ◌+◌, ◌||◌, ◌∙◌, ◌∷◌, ◌≡◌}
+use Rattle.std.proofs.Common.{Bool, List, Some, [], ap, false, not, refl, subst, sym, true, ℕ, ◌&&◌, ◌++◌, ◌∙◌, ◌∷◌, ◌≡◌}
 use Rattle.std.specs.FinMap.{entries, get, insert}
 use Rattle.std.specs.List.{list_any}
 use Rattle.alto_words.specs.Fid.{is_fid, is_system}
@@ -8,26 +8,17 @@ use Rattle.pack_model.specs.Bodies.{Files}
 use Rattle.pack_model.specs.Leaders.{Leader}
 use Rattle.pack_model.specs.Namings.{AllKept, IsTidy, Naming, clashes, is_kept, may_stand, namings, namings_in}
 use Rattle.pack_model.specs.Rooms.{left_over}
-use Rattle.pack_model.specs.Slots.{Item, all_words}
+use Rattle.pack_model.specs.Slots.{Item}
 use Rattle.pack_model.specs.Slots.Item.{entry, space}
-use Rattle.pack_laws.proofs.Keys.{is_fid-sym}
 use Rattle.record_laws.proofs.Beside.{any_first, any_second}
 use Rattle.record_laws.proofs.Entered.{directory, namings_in-append, spot}
-use Rattle.record_laws.proofs.Fitting.{same_sym}
-use Rattle.record_laws.proofs.Tidying.{NoneClashes, and_not, onto, or_false, or_false_left, or_false_right}
+use Rattle.record_laws.proofs.Tidying.{NoneClashes, and_not, onto, or_false, or_false_left, or_false_right, any_more}
 use Rattle.operation_laws.proofs.Leaving.{names_apart}
 use Rattle.operation_laws.proofs.OneDirectory.{slots_namings}
+use Rattle.record_laws.proofs.EnterScan.{none_of_any}
+use Rattle.record_laws.proofs.SystemEntries.{left_names}
 
 -- ---- one entry more among those that are kept
-any_more : (t : Naming → Bool) (s : List Naming) (e : Naming) (r : List Naming) → t e ≡ false → list_any t (s ++ r) ≡ false → list_any t (s ++ e ∷ r) ≡ false
-any_more t [] e r n h = or_false (t e) (list_any t r) n h
-any_more t (x ∷ s) e r n h = or_false (t x) (list_any t (s ++ e ∷ r)) (or_false_left (t x) (list_any t (s ++ r)) h) (any_more t s e r n (or_false_right (t x) (list_any t (s ++ r)) h))
-
--- none of these clashes with it
-none_clashes : (e : Naming) (xs : List Naming) → list_any (clashes e) xs ≡ false → NoneClashes e xs
-none_clashes e [] h = tt
-none_clashes e (x ∷ xs) h = ((λ i. is_fid-sym x.fid e.fid i || (is_fid-sym x.dir e.dir i && same_sym x.name e.name i)) ∙ or_false_left (clashes e x) (list_any (clashes e) xs) h, none_clashes e xs (or_false_right (clashes e x) (list_any (clashes e) xs) h))
-
 -- none of those put onto others passes a test
 onto_any : (t : Naming → Bool) (a b : List Naming) → list_any t a ≡ false → list_any t b ≡ false → list_any t (onto a b) ≡ false
 onto_any t [] b h g = g
@@ -45,16 +36,6 @@ module _ (live : Fid → Bool) where
   insert_kept before (x ∷ a) e b k n h = (h.0, insert_kept (x ∷ before) a e b k n h.1)
 
 -- ---- slots
--- the words left over have no entry, and as many words as they are
-pub left_names : (d : Fid) (left : ℕ) (b : List Item) → namings_in d (left_over left b) ≡ namings_in d b
-left_names d zero b = refl
-left_names d (suc n) b = refl
-
--- and as many words as they are
-pub left_words : (left : ℕ) (b : List Item) → all_words (left_over left b) ≡ left + all_words b
-left_words zero b = let z : all_words b ≡ 0 + all_words b = omega arith in z
-left_words (suc n) b = refl
-
 module _ (lives : Fid → Bool) (files : Files) (d : Fid) (l : Leader) (a b : List Item) (k left : ℕ) (here : get files d ≡ Some (directory l (a ++ space k ∷ b))) (f : Fid) (name : List ℕ) where
   -- the entries, with the free slot and the words left over behind it
   spaced : namings (entries (insert files d (directory l (a ++ space k ∷ left_over left b)))) ≡ namings (entries files)
@@ -68,7 +49,7 @@ module _ (lives : Fid → Bool) (files : Files) (d : Fid) (l : Leader) (a b : Li
       let p = spot files d l (a ++ space k ∷ b) a (left_over left b) here in
       let all : list_any (clashes e) (p.before ++ p.later) ≡ false = ap (list_any (clashes e)) (sym (p.without k) ∙ spaced) ∙ clear in
       let kept : is_kept lives (onto p.before []) e ≡ true = ap (λ x. x && not (list_any (clashes e) (onto p.before []))) stands ∙ ap not (onto_any (clashes e) p.before [] (any_first (clashes e) p.before p.later all) refl) in
-      let apart : NoneClashes e p.later = none_clashes e p.later (any_second (clashes e) p.before p.later all) in
+      let apart : NoneClashes e p.later = none_of_any e p.later (any_second (clashes e) p.before p.later all) in
       subst (AllKept (is_kept lives) []) (sym (p.with f name)) (insert_kept lives [] p.before e p.later kept apart (subst (AllKept (is_kept lives) []) (sym spaced ∙ p.without k) tidy))
 
   -- system files are named as before

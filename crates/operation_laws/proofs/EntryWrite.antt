@@ -30,16 +30,18 @@ use Rattle.pack_model.specs.Step.Operation.{enter}
 use Rattle.pack_model.specs.Whole.{Tidy, Whole}
 use Rattle.pack_laws.proofs.Bytes.{put_at-later}
 use Rattle.record_laws.proofs.Addressing.{LooseIn}
+use Rattle.record_laws.proofs.Addressing.{entry_words_many}
 use Rattle.record_laws.proofs.EnterSlots.{slots_entered}
 use Rattle.record_laws.proofs.Entered.{directory}
 use Rattle.record_laws.proofs.Entering.{enter_is_the_step}
 use Rattle.record_laws.proofs.Slotwise.{words-append}
+use Rattle.record_laws.proofs.SystemEntries.{left_words}
 use Rattle.record_laws.proofs.Tidying.{tidy_same}
 use Rattle.record_laws.specs.DirLaws.{DirWrite, Enters}
 use Rattle.record_laws.specs.EnterLaws.{IsItsRoom, MayEnter}
 use Rattle.operation_laws.proofs.DirValue.{dir_before, dir_lead, value_same, value_tidy, value_whole}
 use Rattle.operation_laws.proofs.Elsewhere.{SameBut}
-use Rattle.operation_laws.proofs.EntryKept.{entry_names, entry_tidy, left_words}
+use Rattle.operation_laws.proofs.EntryKept.{entry_names, entry_tidy}
 use Rattle.operation_laws.specs.NameLaws.{EntryWords}
 
 -- a tidy pack is read as it stands
@@ -103,7 +105,7 @@ enters_of p d at new over words a b f name left es split slots_are h stands =
     let shape : drop begin ys ≡ words ++ tail = put_drop begin new (dir_words p d) h.within ∙ ap (λ x. new ++ x) (sym (take-append-drop (length over) behind) ∙ ap (λ x. x ++ tail) stands) ∙ sym (append_assoc new over tail) ∙ ap (λ x. x ++ tail) (sym split) in
     let size = es.size in
     let long : n ≤ length words = omega arith in
-    let many : 7 ≤ n = long_entry name in
+    let many : 7 ≤ n = entry_words_many (length name) in
     let first : take n (drop begin ys) ≡ take n words = ap (take n) shape ∙ take-append-le n words tail long in
     let parts : length words ≡ length new + length over = ap length split ∙ length-append new over in
     let took : length (take n words) ≡ n = length-take-le n words long in
@@ -116,9 +118,6 @@ enters_of p d at new over words a b f name left es split slots_are h stands =
       first_is = ap (λ x. x % 1024) word0 ∙ es.slot.first ∙ took;
       left_is = λ some. let z : n < length words = omega arith in sym (get_or-drop begin ys n 0) ∙ ap (λ x. word x n) shape ∙ get_or_append_left words tail 0 n z ∙ es.left_is some;
     }
-  where
-    long_entry : (name : List ℕ) → 7 ≤ entry_length (length name)
-    long_entry name = omega arith
 
 -- words of a free slot behind its first one
 pub loose_in : (from : ℕ) (a b : List Item) (t k : ℕ) → from + all_words a < k → k < from + all_words a + t → LooseIn from (a ++ space t ∷ b) k

@@ -28,13 +28,15 @@ use Rattle.record_laws.proofs.Entered.{directory, spot}
 use Rattle.record_laws.proofs.Heads.{and_right}
 use Rattle.record_laws.proofs.Scanned.{kept_before, scan_tidied}
 use Rattle.record_laws.proofs.Slotwise.{slots_freed}
-use Rattle.record_laws.proofs.Tidying.{onto, or_false, or_false_left, or_false_right, remove_kept, split_kept}
+use Rattle.record_laws.proofs.Tidying.{onto, or_false_left, or_false_right, remove_kept, split_kept}
 use Rattle.record_laws.proofs.Unkept.{unkept_items}
 use Rattle.record_laws.specs.DirLaws.{Frees, dir_written}
 use Rattle.operation_laws.proofs.DirValue.{described_then, dir_before, dir_lead, lives_then, value_change, value_same, value_whole_by}
 use Rattle.operation_laws.proofs.Kept.{descriptor_kept, fits_still}
 use Rattle.operation_laws.proofs.Leaving.{words_alike}
 use Rattle.operation_laws.specs.LifeLaws.{SlotFreed, SlotLaw}
+use Rattle.record_laws.proofs.DirSteps.{onto_none}
+use Rattle.std.proofs.lemmas.Bool.{not-true}
 
 -- ---- entries of other files
 -- none of these is f's
@@ -47,16 +49,6 @@ none_join : (f : Fid) (a b : List Naming) → NoneOf f a → NoneOf f b → None
 none_join f [] b h g = g
 none_join f (x ∷ a) b h g = (h.0, none_join f a b h.1 g)
 
--- none of those put onto others passes a test, nor of the others
-any_onto : (t : Naming → Bool) (a b : List Naming) → list_any t (onto a b) ≡ false → (list_any t a ≡ false) × (list_any t b ≡ false)
-any_onto t [] b h = (refl, h)
-any_onto t (e ∷ a) b h = let r = any_onto t a (e ∷ b) h in (or_false (t e) (list_any t a) (or_false_left (t e) (list_any t b) r.1) r.0, or_false_right (t e) (list_any t b) r.1)
-
--- what is not true is false
-not_true : (b : Bool) → not b ≡ true → b ≡ false
-not_true false e = refl
-not_true true e = cc
-
 -- what stands before an entry, and what is kept after it, is of other files
 before_clear : (e : Naming) (xs : List Naming) → list_any (clashes e) xs ≡ false → NoneOf e.fid xs
 before_clear e [] h = tt
@@ -66,7 +58,7 @@ before_clear e (x ∷ xs) h = (is_fid-sym x.fid e.fid ∙ or_false_left (is_fid 
 later_clear : (v : Fid → Bool) (e : Naming) (pre post xs : List Naming) → AllKept (is_kept v) (pre ++ e ∷ post) xs → NoneOf e.fid xs
 later_clear v e pre post [] h = tt
 later_clear v e pre post (x ∷ xs) h =
-    let clear : list_any (clashes x) (pre ++ e ∷ post) ≡ false = not_true (list_any (clashes x) (pre ++ e ∷ post)) (and_right (may_stand v x) (not (list_any (clashes x) (pre ++ e ∷ post))) h.0) in
+    let clear : list_any (clashes x) (pre ++ e ∷ post) ≡ false = not-true (list_any (clashes x) (pre ++ e ∷ post)) (and_right (may_stand v x) (not (list_any (clashes x) (pre ++ e ∷ post))) h.0) in
     (or_false_left (is_fid x.fid e.fid) (is_fid x.dir e.dir && is_same_name x.name e.name) (or_false_left (clashes x e) (list_any (clashes x) post) (any_second (clashes x) pre (e ∷ post) clear)), later_clear v e (x ∷ pre) post xs h.1)
 
 -- whether f lives doesn't matter to the others
@@ -79,8 +71,8 @@ left_kept : (f : Fid) (v : Fid → Bool) (e : Naming) (a b : List Naming) → e.
 left_kept f v e a b is kept =
     let u : Fid → Bool = living_too f v in
     let parts = split_kept (is_kept u) [] a (e ∷ b) kept in
-    let none : list_any (clashes e) (onto a []) ≡ false = not_true (list_any (clashes e) (onto a [])) (and_right (may_stand u e) (not (list_any (clashes e) (onto a []))) parts.1.0) in
-    let clear : NoneOf e.fid (a ++ b) = none_join e.fid a b (before_clear e a (any_onto (clashes e) a [] none).0) (later_clear u e [] (onto a []) b parts.1.1) in
+    let none : list_any (clashes e) (onto a []) ≡ false = not-true (list_any (clashes e) (onto a [])) (and_right (may_stand u e) (not (list_any (clashes e) (onto a []))) parts.1.0) in
+    let clear : NoneOf e.fid (a ++ b) = none_join e.fid a b (before_clear e a (onto_none (clashes e) a [] none).0) (later_clear u e [] (onto a []) b parts.1.1) in
     kept_dead f v [] (a ++ b) (subst (λ g. NoneOf g (a ++ b)) is clear) (remove_kept u [] a e b kept)
 
 -- ---- the record write

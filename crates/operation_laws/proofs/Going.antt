@@ -23,7 +23,7 @@ use Rattle.pack_model.specs.Step.Operation.{drop_file}
 use Rattle.pack_model.specs.Whole.{FileWhole, Fits, TidyBut, TidySights, WholeSights, living_too}
 use Rattle.pack_laws.proofs.Keys.{fid_same, fid_total, is_fid-itself, is_fid-sym, same_fid}
 use Rattle.pack_laws.proofs.Mapping.{entries-map_values}
-use Rattle.record_laws.proofs.Dropping.{dropped_tidied, gone, others}
+use Rattle.record_laws.proofs.Dropping.{dropped_tidied, gone, others, others-append}
 use Rattle.record_laws.proofs.Framing.{model_same}
 use Rattle.record_laws.proofs.Keeping.{get-where}
 use Rattle.record_laws.proofs.Reading.{get-found, get_alike, read_file}
@@ -45,13 +45,6 @@ bare_removed files f x bare is =
     sym (bare_namings (remove files f) f x bare (get-remove fid_total files f f ∙ ap (λ b. cond b None (get files f)) (is_fid-itself f))) ∙ ap (λ m. namings (entries m)) (insert_back files f x is)
 
 -- ---- entries of other files
-pub others-append : (f : Fid) (a b : List Naming) → others f (a ++ b) ≡ others f a ++ others f b
-others-append f [] b = refl
-others-append f (x ∷ a) b = elim (is_fid x.fid f) as (λ c. cond c (others f (a ++ b)) (x ∷ others f (a ++ b)) ≡ cond c (others f a) (x ∷ others f a) ++ others f b) [
-  | true ↦ others-append f a b
-  | false ↦ ap (λ r. x ∷ r) (others-append f a b)
-]
-
 -- a directory's entries without those of f
 others_in : (f d : Fid) (is : List Item) → namings_in d (items_without f is) ≡ others f (namings_in d is)
 others_in f d [] = refl

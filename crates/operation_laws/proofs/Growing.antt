@@ -22,20 +22,21 @@ use Rattle.pack_model.specs.Sights.{sights, tag_sight}
 use Rattle.pack_model.specs.Sights.Sight.{free, hidden, holds, leads}
 use Rattle.pack_model.specs.Step.{Operation}
 use Rattle.pack_model.specs.Whole.{Carries, IsLaid, IsSeat, Leads, PageAt, present}
-use Rattle.pack_laws.proofs.Guarding.{named_shown}
+use Rattle.pack_laws.proofs.Guarding.{named_shown, here_written}
 use Rattle.pack_laws.proofs.Moving.{obeys_then, stands_last}
+use Rattle.record_laws.proofs.Seats.{seat_once, seat_range}
 use Rattle.operation_laws.proofs.Changing.{Changed, Placed, length-one}
 use Rattle.operation_laws.proofs.Commanding.{relabel_obeys, relabel_shows, value_shows}
 use Rattle.operation_laws.proofs.Elsewhere.{MayBe, but_trans, same_set}
-use Rattle.operation_laws.proofs.Lying.{bytes_laid, seat_once, seat_range, seat_right, within}
+use Rattle.operation_laws.proofs.Lying.{bytes_laid, seat_right, within}
 use Rattle.operation_laws.proofs.Rows.{place_alone}
 use Rattle.operation_laws.proofs.Seating.{carries_join, carries_none, carries_write, laid_back, laid_front, laid_join, leader_is, leads_set}
-use Rattle.operation_laws.proofs.Showing.{is_here, other_value, sector_written, tag_is}
+use Rattle.operation_laws.proofs.Showing.{is_here, other_value, tag_is}
 use Rattle.operation_laws.proofs.Standing.{Claimed, claims_go}
 use Rattle.operation_laws.specs.ByteLaws.{together}
 
 -- a page that is not full is the last
-laid_last : (i : ℕ) (old : List ℕ) (later : List PageAt) → IsLaid ((i, old) ∷ later) → nat_lt (length old) 512 ≡ true → later ≡ []
+pub laid_last : (i : ℕ) (old : List ℕ) (later : List PageAt) → IsLaid ((i, old) ∷ later) → nat_lt (length old) 512 ≡ true → later ≡ []
 laid_last i old [] h e = refl
 laid_last i old (d ∷ later) h e = let x : nat_lt 512 512 ≡ true = ap (λ n. nat_lt n 512) (sym h.0) ∙ e in absurd cc
 
@@ -128,7 +129,7 @@ module _ (p : Pack) (f : Fid) (k i : ℕ) (old : List ℕ) (h : Placed (sights p
 
     -- it holds the new value
     its_value : v ≡ (sector_at (after (after p (claims_writes cs)) (Wrote i 2 v ∷ [])) i).value
-    its_value = sym (ap (λ s. s.value) (sector_written (after p (claims_writes cs)) i 2 v (here_within)))
+    its_value = sym (ap (λ s. s.value) (here_written (after p (claims_writes cs)) i 2 v (here_within)))
       where
         here_within : i < length (after p (claims_writes cs)).sectors
         here_within = is_here (after p (claims_writes cs)) i good

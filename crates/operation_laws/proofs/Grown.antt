@@ -1,6 +1,6 @@
 -- Grow: new pages come behind the last page of an ordinary file.
 use Rattle.std.proofs.Common.{List, None, Some, [], ap, append_assoc, arith, cond, get_or, length, refl, set, subst, suc, sym, take, true, ℕ, ◌++◌, ◌+◌, ◌/◌, ◌<◌, ◌∙◌, ◌∷◌, ◌≡◌, ◌≤◌}
-use Rattle.std.proofs.lemmas.List.{append-nil, length-append}
+use Rattle.std.proofs.lemmas.List.{append-nil, length-append, nil_from_length}
 use Rattle.std.specs.Prelude.{nat_lt}
 use Rattle.alto_words.specs.declared.fid.Fid.{Fid}
 use Rattle.disk_records.specs.Labels.{Tag, page_of, tag}
@@ -63,11 +63,6 @@ pub record IsLastPage (ss : List Sight) (f : Fid) (at : ℕ) : Type 0 where
   pub ends : spot.later ≡ []
   pub short : nat_lt (length old) 512 ≡ true
 
--- a list of no items
-no_more : (cs : List PageAt) → length cs ≡ 0 → cs ≡ []
-no_more [] e = refl
-no_more (c ∷ cs) e = absurd (omega (arith, e))
-
 -- the page that the end of a whole file's bytes is in is its last
 pub last_page : (ss : List Sight) (f : Fid) (at : ℕ) → FileWhole ss f → place ss f (page_of_byte (length (file_bytes ss f))) ≡ Some at → IsLastPage ss f at
 last_page ss f at whole sector =
@@ -78,7 +73,7 @@ last_page ss f at whole sector =
     let size : length (file_bytes ss f) ≡ length (together pages) = ap length (bytes_laid ss f pages (length pages) [] (carries_none ss f pages 0 (length pages) h.carries) (omega arith) h.laid h.few) in
     let all : length pages ≡ suc (length (together pages) / 512) = pages_by_bytes pages h.laid in
     let parts : length pages ≡ length h.front + suc (length h.later) = length-append h.front ((at, here.bytes) ∷ h.later) in
-    let ends : h.later ≡ [] = let n = h.number in no_more h.later (omega (arith, n, size, all, parts)) in
+    let ends : h.later ≡ [] = let n = h.number in nil_from_length h.later (omega (arith, n, size, all, parts)) in
     record {
       old = here.bytes;
       shows = here.shows hidden;

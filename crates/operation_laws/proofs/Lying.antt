@@ -13,6 +13,7 @@ use Rattle.pack_model.specs.Whole.{Carries, IsLaid, IsSeat, PageAt, Seated}
 use Rattle.pack_laws.proofs.Firsts.{first_alone}
 use Rattle.pack_laws.proofs.Joining.{continue, joined-suc}
 use Rattle.pack_laws.proofs.Keys.{is_fid-itself, same_fid}
+use Rattle.record_laws.proofs.Seats.{seat_once, seat_range}
 use Rattle.operation_laws.specs.ByteLaws.{together}
 
 -- what shows something is within
@@ -26,21 +27,6 @@ pub same_number : (f : Fid) (m k : ℕ) (b c : List ℕ) → holds f m b ≡ hol
 same_number f m k b c e = cc
 
 -- ---- seats
-pub seat_range : (k : ℕ) (cs : List PageAt) (m i : ℕ) → IsSeat k cs m i → (k ≤ m) × (m < k + length cs)
-seat_range k [] m i h = absurd h
-seat_range k (c ∷ cs) m i h = elim h [
-  | inl p ↦ let e = p.0 in (omega arith, omega arith)
-  | inr q ↦ let r = seat_range (suc k) cs m i q in let a = r.0 in let b = r.1 in (omega arith, omega arith)
-]
-
--- each page has one seat
-pub seat_once : (k : ℕ) (cs : List PageAt) (m i j : ℕ) → IsSeat k cs m i → IsSeat k cs m j → i ≡ j
-seat_once k [] m i j h g = absurd h
-seat_once k (c ∷ cs) m i j h g = elim h [
-  | inl p ↦ elim g [ inl q ↦ p.1 ∙ sym q.1 | inr q ↦ absurd (let r = (seat_range (suc k) cs m j q).0 in let e = p.0 in omega arith) ]
-  | inr p ↦ elim g [ inl q ↦ absurd (let r = (seat_range (suc k) cs m i p).0 in let e = q.0 in omega arith) | inr q ↦ seat_once (suc k) cs m i j p q ]
-]
-
 -- a seat among the first pages
 pub seat_left : (k : ℕ) (a b : List PageAt) (m i : ℕ) → IsSeat k a m i → IsSeat k (a ++ b) m i
 seat_left k [] b m i h = absurd h

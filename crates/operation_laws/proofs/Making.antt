@@ -6,7 +6,7 @@ use Rattle.std.specs.Prelude.{nat_lt, replicate}
 use Rattle.alto_words.specs.Fid.{disk_descriptor, is_directory, sys_dir}
 use Rattle.alto_words.specs.declared.fid.Fid.{Fid}
 use Rattle.disk_records.specs.Labels.{in_range, page_of, tag}
-use Rattle.disk_records.specs.Packs.{Pack, after, is_free_at, sector_at}
+use Rattle.disk_records.specs.Packs.{Pack, after}
 use Rattle.disk_records.specs.Words.{word}
 use Rattle.disk_records.specs.declared.records.Event.TheVariants.{Wrote}
 use Rattle.disk_records.specs.declared.records.Page.{Page}
@@ -33,11 +33,10 @@ use Rattle.pack_model.specs.Step.{new_body, new_file, new_leader, step}
 use Rattle.pack_model.specs.Step.Operation.{make}
 use Rattle.pack_model.specs.Whole.{Carries, FileWhole, Headless, IsLaid, Leads, PageAt, Tidy, TidySights, Whole, WholeSights, absent, present}
 use Rattle.pack_laws.proofs.Bytes.{length-bytes_of, words_of-bytes_of}
-use Rattle.pack_laws.proofs.Guarding.{free_parts, free_shown, named_shown, usable_shown, usable_within}
+use Rattle.pack_laws.proofs.Guarding.{named_shown}
 use Rattle.pack_laws.proofs.Joining.{most_is}
 use Rattle.pack_laws.proofs.Moving.{obeys_then, stands_last}
 use Rattle.pack_laws.proofs.Placing.{leader_of_place, none_of_false, place_of_leader}
-use Rattle.pack_laws.proofs.Sighted.{sights-get}
 use Rattle.record_laws.proofs.Heads.{all_read}
 use Rattle.record_laws.proofs.Reading.{read_file}
 use Rattle.operation_laws.proofs.Coming.{make_reads, make_tidy, make_whole}
@@ -50,6 +49,7 @@ use Rattle.operation_laws.proofs.Seating.{carries_join, carries_none, carries_se
 use Rattle.operation_laws.proofs.Standing.{claims_go}
 use Rattle.operation_laws.specs.LifeLaws.{MayMake, first_bytes}
 use Rattle.operation_laws.specs.Outcomes.{CarriesOut}
+use Rattle.record_laws.proofs.Recording.{free_sight}
 
 -- what isn't there
 pub record Missing (ss : List Sight) (f : Fid) : Type 0 where
@@ -68,12 +68,6 @@ named_page label x e = by (in_range (tag label)) refl e
     by : (r : Bool) → in_range (tag label) ≡ r → cond r (Some (page_number (tag label).fid (tag label).page)) None ≡ Some x → (tag label ≡ record { fid = x.fid; page = x.number; bytes = word label 3 }) × (in_range (tag label) ≡ true)
     by true is e = let y : page_number (tag label).fid (tag label).page ≡ x = cc in ((λ i. record { fid = (y i).fid; page = (y i).number; bytes = word label 3 }), is)
     by false is e = absurd cc
-
--- what a free sector shows
-pub free_sight : (p : Pack) (at : ℕ) → is_free_at p at ≡ true → get_or (sights p) at hidden ≡ free
-free_sight p at e =
-    let parts = free_parts p at e in
-    sights-get p at hidden (usable_within p at parts.0) ∙ usable_shown p.shape at (sector_at p at) parts.0 ∙ free_shown (tag (sector_at p at).label) (sector_at p at).value parts.1
 
 -- ---- the first page of a new file
 -- words of which the first says their number are a free slot
@@ -118,7 +112,7 @@ first_short f = by (is_directory f)
     by false = refl
 
 -- it has no entries
-bare_first : (f : Fid) → body_namings f (new_body f) ≡ []
+pub bare_first : (f : Fid) → body_namings f (new_body f) ≡ []
 bare_first f = by (is_directory f)
   where
     by : (b : Bool) → body_namings f (cond b (items_of (space 255 ∷ [])) (data_of [])) ≡ []

@@ -1,5 +1,5 @@
 -- The operations that are one value write to an ordinary file: put, title and stamp.
-use Rattle.std.proofs.Common.{List, [], ap, arith, get_or, length, refl, set, subst, suc, sym, take, true, zero-add, ℕ, ◌%◌, ◌*◌, ◌++◌, ◌+◌, ◌/◌, ◌∙◌, ◌∷◌, ◌≡◌, ◌≤◌}
+use Rattle.std.proofs.Common.{List, [], ap, arith, get_or, length, refl, set, subst, sym, true, ℕ, ◌%◌, ◌*◌, ◌++◌, ◌+◌, ◌/◌, ◌∙◌, ◌∷◌, ◌≡◌, ◌≤◌}
 use Rattle.std.proofs.lemmas.List.{append-nil, length-append}
 use Rattle.alto_words.specs.declared.fid.Fid.{Fid}
 use Rattle.disk_records.specs.Commands.{value_writes}
@@ -34,11 +34,6 @@ use Rattle.operation_laws.proofs.Showing.{other_leader_value, other_value, tag_i
 use Rattle.operation_laws.specs.ByteLaws.{IsOrdinary, MayPut, together}
 use Rattle.operation_laws.specs.LeaderLaws.{MayWriteLeader, stamped, titled}
 use Rattle.operation_laws.specs.Outcomes.{CarriesOut}
-
--- the first items of two lists, past the first of them
-pub take_past : (a x : List ℕ) (n : ℕ) → take (length a + n) (a ++ x) ≡ a ++ take n x
-take_past [] x n = rw zero-add refl
-take_past (y ∷ a) x n = let z : suc (length a) + n ≡ suc (length a + n) = omega arith in rw z (ap (λ r. y ∷ r) (take_past a x n))
 
 -- bytes in place within a page are bytes in place within the file
 pub put_there : (front : List PageAt) (i k : ℕ) (old : List ℕ) (later : List PageAt) (off : ℕ) (new : List ℕ) → AllFull front → length front ≡ k → off + length new ≤ length old

@@ -1,6 +1,6 @@
 -- Free slots of a room are made one: the room is the first one again, and an entry goes there.
-use Rattle.std.proofs.Common.{Bool, List, None, Option, Some, [], ap, arith, cond, false, leb-false, leb-true, length, refl, suc, sym, true, ℕ, ◌++◌, ◌+◌, ◌-◌, ◌<◌, ◌∙◌, ◌∷◌, ◌≡◌, ◌≤◌}
-use Rattle.std.proofs.lemmas.Bool.{le-leb}
+use Rattle.std.proofs.Common.{Bool, List, None, Option, Some, [], ap, arith, cond, false, leb-false, length, refl, suc, sym, true, ℕ, ◌++◌, ◌+◌, ◌-◌, ◌<◌, ◌∙◌, ◌∷◌, ◌≡◌, ◌≤◌}
+use Rattle.std.proofs.lemmas.Bool.{le-leb, lt-leb}
 use Rattle.std.specs.Option.{option_map, option_or, unwrap_or}
 use Rattle.std.specs.Prelude.{nat_le}
 use Rattle.pack_model.specs.Rooms.{find_room, in_run, items_entered, left_over, placed, room_from, room_here, run}
@@ -9,14 +9,6 @@ use Rattle.pack_model.specs.Slots.Item.{entry, space}
 use Rattle.record_laws.proofs.Roomy.{run_enough}
 use Rattle.operation_laws.proofs.Rooming.{FailsAll, placed_past, room_behind, room_past, shorter_run}
 use Rattle.operation_laws.specs.NameLaws.{IsRoom}
-
--- a number above another
-not_below : (a b : ℕ) → b < a → nat_le a b ≡ false
-not_below a b l = by (nat_le a b) refl
-  where
-    by : (t : Bool) → nat_le a b ≡ t → t ≡ false
-    by true e = absurd (let x = leb-true a b e in omega arith)
-    by false e = refl
 
 module _ (n total : ℕ) (old b : List Item) (run_is : run n (old ++ b) ≡ Some (total, b)) (enough : n ≤ total) where
   -- a start that has too many words has too many where they are one slot
@@ -50,7 +42,7 @@ module _ (n total : ℕ) (old b : List Item) (run_is : run n (old ++ b) ≡ Some
   -- so earlier starts fail as before
   pub fails_joined : (a : List Item) → FailsAll n a (old ++ b) → FailsAll n a (space total ∷ b)
   fails_joined [] h = tt
-  fails_joined (i ∷ a) h = (λ r e. not_below r.0 1023 (let x = too_many (i ∷ a) n 0 (omega arith) (λ s y. let w = leb-false s.0 1023 (h.0 s y) in omega arith) r e in omega arith), fails_joined a h.1)
+  fails_joined (i ∷ a) h = (λ r e. lt-leb r.0 1023 (let x = too_many (i ∷ a) n 0 (omega arith) (λ s y. let w = leb-false s.0 1023 (h.0 s y) in omega arith) r e in omega arith), fails_joined a h.1)
 
 -- ---- where the entry goes
 -- earlier starts fail

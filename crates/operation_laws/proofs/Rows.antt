@@ -18,8 +18,9 @@ use Rattle.pack_model.specs.Sights.Sight.{hidden, holds}
 use Rattle.pack_model.specs.Whole.{Carries, IsLaid, IsSeat, PageAt, Seated}
 use Rattle.pack_laws.proofs.Placing.{page_of_place, place_of_page}
 use Rattle.record_laws.proofs.Keeping.{get-tidied_plain, plain}
+use Rattle.record_laws.proofs.Seats.{seat_once}
 use Rattle.operation_laws.proofs.Elsewhere.{same_refl}
-use Rattle.operation_laws.proofs.Lying.{page_alone, seat_once}
+use Rattle.operation_laws.proofs.Lying.{page_alone}
 use Rattle.operation_laws.proofs.OneFile.{described_was}
 use Rattle.operation_laws.specs.ByteLaws.{Bear, IsOrdinary, together}
 

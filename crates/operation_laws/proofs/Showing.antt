@@ -1,10 +1,8 @@
 -- What the sight of a sector tells of its words.
-use Rattle.std.proofs.Common.{Bool, List, [], ap, cond, false, get_or, length, refl, subst, suc, sym, take, true, zero, ℕ, ◌<◌, ◌∙◌, ◌∷◌, ◌≡◌, ◌≢◌}
-use Rattle.std.proofs.lemmas.List.{get_or-set_other, get_or-set_same}
+use Rattle.std.proofs.Common.{Bool, List, ap, cond, false, get_or, length, refl, subst, suc, sym, take, true, zero, ℕ, ◌<◌, ◌∙◌, ◌≡◌}
 use Rattle.alto_words.specs.declared.fid.Fid.{Fid}
 use Rattle.disk_records.specs.Labels.{Tag, in_range, is_free, tag}
-use Rattle.disk_records.specs.Packs.{Pack, after, is_usable, no_sector, sector_at, with_part}
-use Rattle.disk_records.specs.declared.records.Event.TheVariants.{Wrote}
+use Rattle.disk_records.specs.Packs.{Pack, is_usable, sector_at}
 use Rattle.pack_model.specs.Bytes.{bytes_of}
 use Rattle.pack_model.specs.Leaders.{Leader, is_readable, leader_of, leader_words}
 use Rattle.pack_model.specs.Model.{good_one}
@@ -12,14 +10,6 @@ use Rattle.pack_model.specs.Sights.{Sight, page_sight, sight, sights, tag_sight}
 use Rattle.pack_model.specs.Sights.Sight.{free, hidden, holds, leads, stray}
 use Rattle.pack_laws.proofs.Sighted.{length-sights, sights-get}
 use Rattle.operation_laws.proofs.Lying.{within}
-
--- the sector that is written
-pub sector_written : (p : Pack) (at part : ℕ) (words : List ℕ) → at < length p.sectors → sector_at (after p (Wrote at part words ∷ [])) at ≡ with_part part words (sector_at p at)
-sector_written p at part words l = get_or-set_same p.sectors at (with_part part words (sector_at p at)) no_sector l
-
--- any other
-pub sector_apart : (p : Pack) (at part i : ℕ) (words : List ℕ) → i ≢ at → sector_at (after p (Wrote at part words ∷ [])) i ≡ sector_at p i
-sector_apart p at part i words ne = get_or-set_other p.sectors at i (with_part part words (sector_at p at)) no_sector ne
 
 -- ---- what a sector shows tells of its words
 pub is_here : (p : Pack) (at : ℕ) → good_one (get_or (sights p) at hidden) ≡ 1 → at < length p.sectors

@@ -4,7 +4,7 @@ use Rattle.std.proofs.lemmas.List.{get_or-set_other, length-append}
 use Rattle.alto_words.specs.Fid.{disk_descriptor}
 use Rattle.alto_words.specs.declared.fid.Fid.{Fid}
 use Rattle.disk_records.specs.Commands.{claim_writes, ones, release_writes}
-use Rattle.disk_records.specs.Labels.{is_free, tag}
+use Rattle.disk_records.specs.Labels.{tag}
 use Rattle.disk_records.specs.Packs.{Pack, after, sector_at}
 use Rattle.disk_records.specs.Words.{word}
 use Rattle.disk_records.specs.declared.records.Event.{Event}
@@ -21,6 +21,7 @@ use Rattle.pack_model.specs.Operations.Move.{quiet}
 use Rattle.pack_model.specs.Sights.{Sight, sights}
 use Rattle.pack_model.specs.Sights.Sight.{free, hidden, holds, leads, stray}
 use Rattle.pack_model.specs.Whole.{Carries, Headless, IsLaid, Leads, PageAt}
+use Rattle.pack_laws.proofs.Guarding.{ones_free}
 use Rattle.pack_laws.proofs.Moving.{obeys_then}
 use Rattle.operation_laws.proofs.Commanding.{claim_apart, claim_obeys, claim_shows, release_apart, release_obeys, release_shows}
 use Rattle.operation_laws.proofs.Elsewhere.{MayBe, SameBut, but_trans, same_refl, same_set}
@@ -144,11 +145,6 @@ pub record Released (p q : Pack) (f : Fid) (pages : List PageAt) (who : Option (
   pub carries : Carries (sights q) f pages 0 []
   pub apart : (i : ℕ) → (MayBe f (get_or (sights p) i hidden) → ⊥) → sector_at q i ≡ sector_at p i
   pub still : steps reading m os ≡ m
-
--- ones are a free label
-pub ones_free : is_free (tag (ones 8)) ≡ true
-unfolding is_free
-ones_free = refl
 
 -- they are released one after another
 pub releases_go : (cs : List PageAt) (p : Pack) (f : Fid) (pages : List PageAt) (who : Option (ℕ × Leader)) (lo : ℕ) (m : Model) → length pages ≤ lo

@@ -1,36 +1,29 @@
 -- Maps by their lists of entries, and by these what packs are read as and what the Scavenger counts, so that small cases compute.
-use Rattle.std.proofs.Common.{◌≡◌, ℕ, suc, ◌+◌, ◌-◌, Bool, true, false, cond, not, List, [], ◌∷◌, Option, Some, None, refl, sym, ap, ◌∙◌, arith}
-use Rattle.std.specs.Prelude.{◌&&◌, ◌||◌, nat_le, length, get_or, max}
+use Rattle.std.proofs.Common.{◌≡◌, ℕ, ◌-◌, Bool, true, false, cond, not, List, [], ◌∷◌, None, refl, sym, ap, ◌∙◌}
+use Rattle.std.specs.Prelude.{◌&&◌, ◌||◌}
 use Rattle.std.specs.declared.cmp.Ordering.{Ordering}
 use Rattle.std.specs.List.{list_any}
 use Rattle.std.specs.Option.{is_some}
 use Rattle.std.specs.Cmp.{IsTotalOrder}
-use Rattle.std.specs.FinMap.{FinMap, IsAntisymmetric, len-entries, len-empty, find, get, get-entries, get-retain_keys, entries, entries_sorted, entries-insert, contains_key, from_entries, retain_keys}
+use Rattle.std.specs.FinMap.{FinMap, IsAntisymmetric, len-entries, len-empty, find, get-entries, get-retain_keys, entries, entries_sorted, entries-insert, contains_key, from_entries, retain_keys}
 use Rattle.std.specs.FinMap.Entries.{same_entries, put, where_key, is_sorted-where_key, find-where_key}
 use Rattle.alto_words.specs.declared.fid.Fid.{Fid}
-use Rattle.alto_words.specs.Fid.{fid_cmp, is_fid, is_system, serial_of, sys_dir, disk_descriptor}
+use Rattle.alto_words.specs.Fid.{fid_cmp, is_fid, is_system, sys_dir}
 use Rattle.alto_words.specs.Names.{is_same_name}
 use Rattle.disk_records.specs.declared.shape.Shape.{Shape}
-use Rattle.disk_records.specs.Packs.{Pack, sector_at}
+use Rattle.disk_records.specs.Packs.{Pack}
 use Rattle.pack_model.specs.Sights.{Sight, sights}
-use Rattle.pack_model.specs.Sights.Sight.{hidden, free, stray, leads, holds}
-use Rattle.pack_model.specs.Files.{lives, file_bytes, numbered}
+use Rattle.pack_model.specs.Files.{lives}
 use Rattle.pack_model.specs.Maps.{map_entries}
 use Rattle.pack_model.specs.Stored.{leader_entries, stored_file, files_shown}
-use Rattle.pack_model.specs.Bodies.{File, Files, found, file_of, described, is_described, items_in}
+use Rattle.pack_model.specs.Bodies.{File, Files, found, file_of, described, is_described}
 use Rattle.pack_model.specs.Namings.{tidied, files_kept, is_kept, namings, sys_dir_name, descriptor_name}
-use Rattle.pack_model.specs.Model.{Model, read_sights, read_pack, room, descriptor_pages, files_pages, good_sectors, descriptor_words}
+use Rattle.pack_model.specs.Model.{Model, read_sights, read_pack, room, descriptor_pages, files_pages, good_sectors}
 use Rattle.pack_model.specs.View.{Home, Seen, view, seen_of, homes}
 use Rattle.pack_model.specs.Settling.{chosen, chosen_from, most_suffixes, given, adopted, settled, settle, show, unless, given_names}
-use Rattle.pack_model.specs.Mended.{mended, with_system, rooted, root_body, root_file, lacking, widens, needs}
-use Rattle.pack_model.specs.Needed.{needed, files_lack, root_lacks, descriptor_lacks}
-use Rattle.pack_model.specs.InUse.{is_within, is_good, is_free_sight, how_many, bad_sectors}
-use Rattle.pack_model.specs.Scavenging.{Refusal, first_refusal, root_stands}
-use Rattle.pack_model.specs.Scavenging.Refusal.{root_bad, root_taken, pack_full}
-use Rattle.pack_model.specs.Reports.{Report, report_of, freed_sectors, mended_serial, old_serial, greatest_serial}
 use Rattle.pack_laws.proofs.Keys.{fid_total, fid_same}
 use Rattle.pack_laws.proofs.Mapping.{entries-map_values}
-use Rattle.pack_laws.proofs.Uses.{file_by, found_is, used_by, used_is, available_is}
+use Rattle.std.proofs.lemmas.List.{nil_from_length}
 
 -- ---- maps
 -- the entries in order, of two with one key the first
@@ -38,12 +31,8 @@ abbrev pub puts : {K X : Type 0} → (K → K → Ordering) → List (K × X) �
 puts R [] = []
 puts R (e ∷ es) = put R e.0 e.1 (puts R es)
 
-no_length : {X : Type 0} (xs : List X) → length xs ≡ 0 → xs ≡ []
-no_length [] e = refl
-no_length (x ∷ xs) e = absurd (omega arith)
-
 pub entries-puts : {K X : Type 0} {R : K → K → Ordering} (o : IsTotalOrder R) (es : List (K × X)) → entries (from_entries {R = R} es) ≡ puts R es
-entries-puts {X = X} {R = R} o [] = no_length (entries (from_entries {X = X} {R = R} [])) (sym (len-entries (from_entries {X = X} {R = R} [])) ∙ len-empty R X)
+entries-puts {X = X} {R = R} o [] = nil_from_length (entries (from_entries {X = X} {R = R} [])) (sym (len-entries (from_entries {X = X} {R = R} [])) ∙ len-empty R X)
 entries-puts {R = R} o (e ∷ es) = entries-insert o (from_entries es) e.0 e.1 ∙ ap (put R e.0 e.1) (entries-puts o es)
 
 module _ {K X : Type 0} {R : K → K → Ordering} (o : IsTotalOrder R) (same : IsAntisymmetric R) where
@@ -154,7 +143,7 @@ shown_by ss = settled_by (names_by (read_by ss)) (seen_by (read_by ss))
 abbrev pub adopts_by : List (Fid × File) → List (Fid × List ℕ)
 adopts_by es = given_by (names_by es) (seen_by es)
 
-adopts_list : (m : Model) → given_names (view m).names (entries (view m).files) ≡ adopts_by (entries m.files)
+pub adopts_list : (m : Model) → given_names (view m).names (entries (view m).files) ≡ adopts_by (entries m.files)
 adopts_list m = given_list (view m).names (entries (view m).files) ∙ (λ i. given_by (names_list m i) (seen_list m i))
 
 pub shown_list : (p : Pack) → entries (show p).names ≡ shown_by (sights p)
@@ -163,107 +152,3 @@ shown_list p =
     settled_list (view (read_pack p)).names (entries (view (read_pack p)).files)
     ∙ (λ i. settled_by (names_list (read_pack p) i) (seen_list (read_pack p) i))
     ∙ ap (λ es. settled_by (names_by es) (seen_by es)) (read_list p.shape (sights p))
-
--- ---- what the Scavenger needs
-abbrev pub mended_by : List Sight → List (Fid × File)
-mended_by ss =
-    let es = described_by ss in
-    tidied_by (with_system (lives ss)) (put fid_cmp sys_dir (root_file (root_body (find fid_cmp sys_dir es))) es)
-
-pub mended_list : (shape : Shape) (ss : List Sight) → entries (mended shape ss).files ≡ mended_by ss
-unfolding mended
-mended_list shape ss =
-    tidied_list (with_system (lives ss)) (rooted (described ss))
-    ∙ ap (tidied_by (with_system (lives ss))) (entries-insert fid_total (described ss) sys_dir (root_file (root_body (get (described ss) sys_dir)))
-    ∙ ap (λ r. put fid_cmp sys_dir (root_file (root_body r)) (entries (described ss))) (get-entries (described ss) sys_dir)
-    ∙ ap (λ es. put fid_cmp sys_dir (root_file (root_body (find fid_cmp sys_dir es))) es) (described_list ss))
-
-abbrev pub has_entry : List (Fid × File) → Fid → Bool
-has_entry es f = list_any (λ n. is_fid n.fid f) (namings es)
-
-abbrev pub lacking_by : List (Fid × File) → List (Fid × List ℕ)
-lacking_by es =
-    unless (has_entry es sys_dir) (sys_dir, sys_dir_name)
-    (unless (has_entry es disk_descriptor) (disk_descriptor, descriptor_name) (adopts_by es))
-
-pub lacking_list : (shape : Shape) (ss : List Sight) → lacking (mended shape ss) ≡ lacking_by (mended_by ss)
-unfolding lacking
-lacking_list shape ss =
-    ap (λ es. unless (has_entry (entries (mended shape ss).files) sys_dir) (sys_dir, sys_dir_name) (unless (has_entry (entries (mended shape ss).files) disk_descriptor) (disk_descriptor, descriptor_name) es)) (adopts_list (mended shape ss))
-    ∙ ap lacking_by (mended_list shape ss)
-
-abbrev pub widens_by : List (Fid × File) → ℕ
-widens_by es = widens (items_in (find fid_cmp sys_dir es)) (lacking_by es)
-
-abbrev pub needed_by : Shape → List Sight → ℕ
-needed_by shape ss = files_lack shape ss (found_by ss) + root_lacks ss + descriptor_lacks shape ss + widens_by (mended_by ss)
-
-pub needed_is : (shape : Shape) (ss : List Sight) → needed shape ss ≡ needed_by shape ss
-unfolding needed
-needed_is shape ss = λ i. files_lack shape ss (found_list ss i) + root_lacks ss + descriptor_lacks shape ss
-    + widens (items_in ((get-entries (mended shape ss).files sys_dir ∙ ap (find fid_cmp sys_dir) (mended_list shape ss)) i)) (lacking_list shape ss i)
-
--- the same, to be proved with: all pages of the mended files
-pub needs_is : (shape : Shape) (ss : List Sight) → needs (mended shape ss) ≡ files_pages (mended_by ss) + widens_by (mended_by ss)
-unfolding needs
-needs_is shape ss = λ i. files_pages (mended_list shape ss i) + widens (items_in ((get-entries (mended shape ss).files sys_dir ∙ ap (find fid_cmp sys_dir) (mended_list shape ss)) i)) (lacking_list shape ss i)
-
--- the last serial that it writes
-pub serial_is : (p : Pack) → mended_serial p
-    ≡ max (old_serial p.shape (file_bytes (sights p) disk_descriptor) (descriptor_words (sights p))) (max (serial_of disk_descriptor) (greatest_serial (found_by (sights p))))
-serial_is p = λ i. max (old_serial p.shape (file_bytes (sights p) disk_descriptor) (descriptor_words (sights p))) (max (serial_of disk_descriptor) (greatest_serial (found_list (sights p) i)))
-
--- ---- what it refuses, and what it reports
-abbrev pub available_by : Shape → List Sight → ℕ
-available_by shape ss = how_many (λ e. is_good e.1 && not (used_by shape ss e)) (numbered 0 ss)
-
-abbrev pub freed_by : Shape → List Sight → ℕ
-freed_by shape ss = how_many (λ e. (is_good e.1 && not (used_by shape ss e)) && not (is_free_sight e.1)) (numbered 0 ss)
-
-freed_is : (shape : Shape) (ss : List Sight) → freed_sectors shape ss ≡ freed_by shape ss
-freed_is shape ss = λ i. how_many (λ e. (is_good e.1 && not (used_is shape ss e i)) && not (is_free_sight e.1)) (numbered 0 ss)
-
--- whether sector 1 stands
-abbrev pub stands_by : Shape → List Sight → Sight → Bool
-stands_by shape ss hidden = false
-stands_by shape ss free = true
-stands_by shape ss stray = true
-stands_by shape ss (leads f readable l) = is_fid f sys_dir
-stands_by shape ss (holds f n bytes) = not (is_within shape f (suc n) (file_by ss f))
-
-stands_is : (shape : Shape) (ss : List Sight) (s : Sight) → root_stands shape ss s ≡ stands_by shape ss s
-stands_is shape ss hidden = refl
-stands_is shape ss free = refl
-stands_is shape ss stray = refl
-stands_is shape ss (leads f readable l) = refl
-stands_is shape ss (holds f n bytes) = ap (λ r. not (is_within shape f (suc n) r)) (found_is ss f)
-
-abbrev full_by : ℕ → ℕ → Option Refusal
-full_by n a = cond (nat_le n a) None (Some (pack_full n a))
-
-abbrev pub refusal_by : Shape → List Sight → List ℕ → List ℕ → Option Refusal
-refusal_by shape ss header label =
-    cond (not (is_good (get_or ss 1 hidden))) (Some (root_bad header))
-    (cond (not (stands_by shape ss (get_or ss 1 hidden))) (Some (root_taken label)) (full_by (needed_by shape ss) (available_by shape ss)))
-
-pub refusal_is : (p : Pack) → first_refusal p ≡ refusal_by p.shape (sights p) (sector_at p 1).header (sector_at p 1).label
-refusal_is p = λ i.
-    cond (not (is_good (get_or (sights p) 1 hidden))) (Some (root_bad (sector_at p 1).header))
-    (cond (not (stands_is p.shape (sights p) (get_or (sights p) 1 hidden) i)) (Some (root_taken (sector_at p 1).label)) (full_by (needed_is p.shape (sights p) i) (available_is p.shape (sights p) i)))
-
-abbrev pub report_by : Shape → List Sight → Report
-report_by shape ss = record {
-  files = length (seen_by (read_by ss)) + 2;
-  freed = freed_by shape ss;
-  bad = bad_sectors ss;
-  adopted = length (adopts_by (read_by ss));
-}
-
-pub report_is : (p : Pack) → report_of p ≡ report_by p.shape (sights p)
-unfolding settle
-report_is p = λ i. record {
-  files = length ((seen_list (read_pack p) ∙ ap seen_by (read_list p.shape (sights p))) i) + 2;
-  freed = freed_is p.shape (sights p) i;
-  bad = bad_sectors (sights p);
-  adopted = length ((adopts_list (read_pack p) ∙ ap adopts_by (read_list p.shape (sights p))) i);
-}

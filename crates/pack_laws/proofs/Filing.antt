@@ -1,5 +1,5 @@
 -- Places, leaders and stored files of a pack, by what its sectors carry.
-use Rattle.std.proofs.Common.{◌≡◌, ◌≢◌, ℕ, ◌<◌, Bool, true, false, List, length, get_or, Option, Some, None, refl, sym, ap, subst, ◌∙◌, arith}
+use Rattle.std.proofs.Common.{◌≡◌, ◌≢◌, ℕ, ◌<◌, List, length, get_or, Option, Some, None, refl, sym, ap, subst, ◌∙◌, arith}
 use Rattle.std.specs.Option.{is_some, option_map}
 use Rattle.std.specs.FinMap.{get}
 use Rattle.alto_words.specs.declared.fid.Fid.{Fid}
@@ -17,6 +17,7 @@ use Rattle.pack_laws.proofs.Placing.{place_is, place_from, place_none}
 use Rattle.pack_laws.proofs.Carrying.{sight_carries, carried_shown}
 use Rattle.pack_laws.proofs.Guarding.{usable_within, carried_parts}
 use Rattle.pack_laws.proofs.Storing.{get-files_shown}
+use Rattle.std.proofs.lemmas.Bool.{false_from_ne_true}
 
 -- ---- bearers
 pub files_borne : (ss : List Sight) (f : Fid) → FilesAreBorne ss f
@@ -26,11 +27,6 @@ files_borne ss f = record { leaders = first_is_borne (leader_at f) ss; pages = �
 -- a sector that carries a page is one of the pack's
 carried_within : (p : Pack) (at : ℕ) (page : Page) → carried p at ≡ Some page → at < length p.sectors
 carried_within p at page is = usable_within p at (carried_parts p at page is).0
-
--- a test that doesn't hold, where what it tests can't
-not_true : (b : Bool) → (b ≡ true → ⊥) → b ≡ false
-not_true true never = absurd (never refl)
-not_true false never = refl
 
 module _ (p : Pack) (page : Page) where
   -- the place of a page carries it, and no lower sector does
@@ -53,7 +49,7 @@ module _ (p : Pack) (page : Page) where
       place_from (sights p) page.fid page.number at (record {
         within = subst (λ k. at < k) (sym (length-sights p)) l;
         carries = λ d. sight_carries p at page d l h.here;
-        lowest = λ j d below. not_true (carries_page page.fid page.number (get_or (sights p) j d)) (λ shown. h.lowest j below (carried_shown p j page d (omega arith) shown));
+        lowest = λ j d below. false_from_ne_true (carries_page page.fid page.number (get_or (sights p) j d)) (λ shown. h.lowest j below (carried_shown p j page d (omega arith) shown));
       })
 
   -- where there is no place no sector carries the page

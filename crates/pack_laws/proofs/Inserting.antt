@@ -30,7 +30,7 @@ pub absent_tail : {X : Type 0} (b : Bool) (x : X) (r : Option X) → cond b (Som
 absent_tail true x r e = cc
 absent_tail false x r e = (refl, e)
 
-swap_or : (a b c : Bool) → (a || (b || c)) ≡ (b || (a || c))
+pub swap_or : (a b c : Bool) → (a || (b || c)) ≡ (b || (a || c))
 swap_or true true c = refl
 swap_or true false c = refl
 swap_or false b c = refl

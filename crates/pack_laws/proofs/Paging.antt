@@ -11,7 +11,8 @@ use Rattle.pack_model.specs.Sights.Sight.{hidden, holds}
 use Rattle.pack_model.specs.Files.{leader_at, page_at, leader, page, file_bytes, joined, most_pages}
 use Rattle.pack_model.specs.Stored.{files_shown, stored_put}
 use Rattle.pack_laws.proofs.Firsts.{first_same, first_borne}
-use Rattle.pack_laws.proofs.Joining.{AreShort, Reaches, HasByte, has_byte, length-joined, joined_put}
+use Rattle.pack_laws.proofs.Joining.{AreShort, Reaches, length-joined, joined_put}
+use Rattle.pack_laws.proofs.ByteInPages.{HasByte, has_byte}
 use Rattle.pack_laws.proofs.Placing.{IsPageAt, page_at-holds}
 use Rattle.pack_laws.proofs.Storing.{changed_files}
 

@@ -1,21 +1,20 @@
 -- Turns one after another, their cuts, and what is acknowledged.
-use Rattle.std.proofs.Common.{◌≡◌, ◌≢◌, ℕ, ◌+◌, ◌-◌, ◌<◌, ◌≤◌, zero, suc, List, [], ◌∷◌, ◌++◌, length, take, drop, refl, sym, subst, ◌∙◌, ap, inl, inr, arith, Result, Ok, Err, Bool, true, false, cond, add-one, append_assoc, le_trans, length-append, length-drop, sum_by, ◌&&◌, ◌⊎◌, Some, slice_get}
+use Rattle.std.proofs.Common.{◌≡◌, ℕ, ◌+◌, ◌-◌, ◌<◌, ◌≤◌, zero, suc, List, [], ◌∷◌, ◌++◌, length, take, refl, sym, subst, ◌∙◌, ap, inl, inr, arith, Result, append_assoc, le_trans, length-append, sum_by}
 use Rattle.std.proofs.lemmas.Bool.{cases_lt}
-use Rattle.std.proofs.lemmas.Option.{same_Some}
 use Rattle.std.proofs.lemmas.List.{take-append-le, take_all, append-nil}
-use Rattle.std.proofs.lemmas.List.Sums.{sum_by-append, sum_by-cons}
+use Rattle.std.proofs.lemmas.List.Sums.{sum_by-append}
 use Rattle.std.proofs.Math.Seq.{take-append-add}
 use Rattle.disk_records.specs.declared.records.Event.{Event}
 use Rattle.disk_records.specs.declared.records.Event.TheVariants.{Wrote, Shown}
-use Rattle.disk_records.specs.Events.{IsFirstOf, shown_events, shown_bytes, writes_in}
+use Rattle.disk_records.specs.Events.{shown_events, shown_bytes, writes_in}
 use Rattle.disk_records.specs.Packs.{Pack, after, cut}
 use Rattle.disk_records.specs.Tapes.{Taped, Grown, pack, added}
 use Rattle.disk_records.proofs.Growing.{after-append, after-shown, shown-append, shown-events, writes-append, writes-shown, added-twice, nothing_added, pack-after}
-use Rattle.pack_model.specs.Moves.{Meaning, steps, Obeys, rest, write, IsStartOf, Does}
-use Rattle.pack_model.specs.Turns.{Turn, ops_of, texts_of, Talks, begun, spoken, IsTurn, is_whole, acknowledged, ruler, CutAt, moves_at}
-use Rattle.pack_laws.specs.Made.{AllMade}
-use Rattle.pack_laws.specs.TurnLaws.{acknowledged_moves, RisesByMove}
-use Rattle.pack_laws.proofs.Moving.{stands_last, obeys_cut, steps-append, start_self, start_after, start_within}
+use Rattle.pack_model.specs.Moves.{Meaning, steps, Obeys, rest, write, IsStartOf}
+use Rattle.pack_model.specs.Turns.{Turn, ops_of, texts_of, Talks, begun, spoken, IsTurn, acknowledged, CutAt, moves_at}
+use Rattle.pack_laws.specs.TurnLaws.{acknowledged_moves}
+use Rattle.pack_laws.proofs.Moving.{stands_last, obeys_cut, steps-append, start_within}
+use Rattle.pack_laws.proofs.Acknowledging.{acknowledged-moves, acknowledged_at_most, acknowledged_short, acknowledged_start, ops-append, ops-push, sum_of_ones, texts-push}
 
 -- ---- events
 -- a cut shows no more bytes than all events
@@ -37,160 +36,6 @@ writes_at_most zero a = omega arith
 writes_at_most (suc k) [] = omega arith
 writes_at_most (suc k) (Wrote at part words ∷ a) = let h = writes_at_most k a in omega (arith, h)
 writes_at_most (suc k) (Shown byte ∷ a) = writes_at_most k a
-
--- an event more is a record write more, or none
-pub writes_next : (k : ℕ) (a : List Event) → (writes_in (take (suc k) a) ≡ writes_in (take k a)) ⊎ (writes_in (take (suc k) a) ≡ suc (writes_in (take k a)))
-writes_next zero [] = inl refl
-writes_next zero (Wrote at part words ∷ a) = inr refl
-writes_next zero (Shown byte ∷ a) = inl refl
-writes_next (suc k) [] = inl refl
-writes_next (suc k) (Wrote at part words ∷ a) = elim (writes_next k a) [
-  | inl same ↦ inl (omega (arith, same))
-  | inr more ↦ inr (omega (arith, more))
-]
-writes_next (suc k) (Shown byte ∷ a) = writes_next k a
-
--- a shown byte more is no record write
-pub writes_next_shown : (k : ℕ) (a : List Event) (byte : ℕ) → slice_get a k ≡ Some (Shown byte) → writes_in (take (suc k) a) ≡ writes_in (take k a)
-writes_next_shown k [] byte is = cc
-writes_next_shown zero (Wrote at part words ∷ a) byte is = cc
-writes_next_shown zero (Shown shown ∷ a) byte is = refl
-writes_next_shown (suc k) (Wrote at part words ∷ a) byte is = let h = writes_next_shown k a byte is in omega (arith, h)
-writes_next_shown (suc k) (Shown shown ∷ a) byte is = writes_next_shown k a byte is
-
--- a record write more is one more, of those that there are
-pub writes_next_wrote : (k : ℕ) (a : List Event) (at part : ℕ) (words : List ℕ) → slice_get a k ≡ Some (Wrote at part words) → (writes_in (take (suc k) a) ≡ suc (writes_in (take k a))) × (writes_in (take k a) < writes_in a)
-writes_next_wrote k [] at part words is = cc
-writes_next_wrote zero (Wrote place half new ∷ a) at part words is = (refl, omega arith)
-writes_next_wrote zero (Shown byte ∷ a) at part words is = cc
-writes_next_wrote (suc k) (Wrote place half new ∷ a) at part words is = let h = writes_next_wrote k a at part words is in (omega (arith, h.0), omega (arith, h.1))
-writes_next_wrote (suc k) (Shown byte ∷ a) at part words is = writes_next_wrote k a at part words is
-
--- ---- weights
--- what a turn acknowledges weighs no more than it and the turns after it
-acknowledged_cond : (b : Bool) (n m l : ℕ) → n ≤ m → cond b (l + n) 0 ≤ l + m
-acknowledged_cond true n m l h = omega arith
-acknowledged_cond false n m l h = omega arith
-
--- the same turn acknowledges no more where the turns after it do not
-acknowledged_less : (b : Bool) (n m l : ℕ) → n ≤ m → cond b (l + n) 0 ≤ cond b (l + m) 0
-acknowledged_less true n m l h = omega arith
-acknowledged_less false n m l h = omega arith
-
--- a turn whose text does not stand there acknowledges nothing
-not_then : (b : Bool) (n : ℕ) → cond (b && false) n 0 ≡ 0
-not_then true n = refl
-not_then false n = refl
-
-module _ {O : Type 0} where
-  -- the moves of turns, and then of more turns
-  pub ops-append : (ts us : List (Turn O)) → ops_of (ts ++ us) ≡ ops_of ts ++ ops_of us
-  ops-append [] us = refl
-  ops-append (t ∷ ts) us = ap (λ l. t.ops ++ l) (ops-append ts us) ∙ sym (append_assoc t.ops (ops_of ts) (ops_of us))
-
-  -- the moves of a turn more
-  pub ops-push : (ts : List (Turn O)) (t : Turn O) → ops_of (ts ++ t ∷ []) ≡ ops_of ts ++ t.ops
-  ops-push ts t = ops-append ts (t ∷ []) ∙ ap (λ l. ops_of ts ++ l) (append-nil t.ops)
-
-  -- the texts of turns, and then of more turns
-  pub texts-append : (ts us : List (Turn O)) → texts_of (ts ++ us) ≡ texts_of ts ++ texts_of us
-  texts-append [] us = refl
-  texts-append (t ∷ ts) us = ap (λ l. t.text ++ l) (texts-append ts us) ∙ sym (append_assoc t.text (texts_of ts) (texts_of us))
-
-  -- the text of a turn more
-  pub texts-push : (ts : List (Turn O)) (t : Turn O) → texts_of (ts ++ t ∷ []) ≡ texts_of ts ++ t.text
-  texts-push ts t = texts-append ts (t ∷ []) ∙ ap (λ l. texts_of ts ++ l) (append-nil t.text)
-
-  -- the moves that are acknowledged are the first ones of the turns
-  pub acknowledged_start : (ts : List (Turn O)) (bytes : List ℕ) → IsStartOf (acknowledged_moves ts bytes) (ops_of ts)
-  acknowledged_start [] bytes = tt
-  acknowledged_start (t ∷ ts) bytes = starts (t.counts && is_whole t.text bytes) t.ops (acknowledged_moves ts (drop (length t.text) bytes)) (ops_of ts) (acknowledged_start ts (drop (length t.text) bytes))
-    where
-      starts : (b : Bool) (ops more all : List O) → IsStartOf more all → IsStartOf (cond b (ops ++ more) []) (ops ++ all)
-      starts true ops more all h = start_after ops more all h
-      starts false ops more all h = tt
-
-  -- where each move weighs 1, the weight is the number
-  sum_of_ones : (ops : List O) → sum_by (λ o. 1) ops ≡ length ops
-  sum_of_ones [] = refl
-  sum_of_ones (o ∷ ops) = let h = sum_of_ones ops in rw (sum_by-cons (λ (x : O). 1) o ops) (omega (arith, h))
-
-  -- a place within the moves is that of a move
-  move_at : (i : ℕ) (ops : List O) → i < length ops → (o : O) × (slice_get ops i ≡ Some o)
-  move_at i [] l = absurd (omega arith)
-  move_at zero (x ∷ ops) l = (x, refl)
-  move_at (suc i) (x ∷ ops) l = move_at i ops (omega arith)
-
-  module _ (weight : O → ℕ) where
-    -- no more is acknowledged than the turns have made
-    pub acknowledged_at_most : (ts : List (Turn O)) (bytes : List ℕ) → acknowledged weight ts bytes ≤ sum_by weight (ops_of ts)
-    acknowledged_at_most [] bytes = omega arith
-    acknowledged_at_most (t ∷ ts) bytes =
-        rw (sum_by-append weight t.ops (ops_of ts)) (acknowledged_cond (t.counts && is_whole t.text bytes) (acknowledged weight ts (drop (length t.text) bytes)) (sum_by weight (ops_of ts)) (sum_by weight t.ops) (acknowledged_at_most ts (drop (length t.text) bytes)))
-
-    -- no bytes acknowledge nothing
-    pub acknowledged_nothing : (t : Turn O) → acknowledged weight (t ∷ []) [] ≡ 0
-    acknowledged_nothing t = elim t.text as (λ x. cond (t.counts && is_whole x []) (sum_by weight t.ops + 0) 0 ≡ 0) [ [] ↦ not_then t.counts (sum_by weight t.ops + 0) | b ∷ x ↦ not_then t.counts (sum_by weight t.ops + 0) ]
-
-    -- a turn more is not acknowledged by bytes that reach no further than the texts before it
-    pub acknowledged_short : (ts : List (Turn O)) (t : Turn O) (bytes : List ℕ) → length bytes ≤ length (texts_of ts) → acknowledged weight (ts ++ t ∷ []) bytes ≤ acknowledged weight ts bytes
-    acknowledged_short [] t [] h = rw (acknowledged_nothing t) (omega arith)
-    acknowledged_short [] t (b ∷ bytes) h = absurd (omega arith)
-    acknowledged_short (u ∷ ts) t bytes h =
-        acknowledged_less (u.counts && is_whole u.text bytes) (acknowledged weight (ts ++ t ∷ []) (drop (length u.text) bytes)) (acknowledged weight ts (drop (length u.text) bytes)) (sum_by weight u.ops)
-        (acknowledged_short ts t (drop (length u.text) bytes) (omega (arith, h, length-append u.text (texts_of ts), length-drop (length u.text) bytes)))
-
-    -- the moves that are acknowledged weigh as much as is acknowledged
-    pub acknowledged-moves : (ts : List (Turn O)) (bytes : List ℕ) → acknowledged weight ts bytes ≡ sum_by weight (acknowledged_moves ts bytes)
-    acknowledged-moves [] bytes = refl
-    acknowledged-moves (t ∷ ts) bytes = weighs (t.counts && is_whole t.text bytes) t.ops (acknowledged_moves ts (drop (length t.text) bytes)) (acknowledged weight ts (drop (length t.text) bytes)) (acknowledged-moves ts (drop (length t.text) bytes))
-      where
-        weighs : (b : Bool) (ops more : List O) (n : ℕ) → n ≡ sum_by weight more → cond b (sum_by weight ops + n) 0 ≡ sum_by weight (cond b (ops ++ more) [])
-        weighs true ops more n e = rw (e, sum_by-append weight ops more) refl
-        weighs false ops more n e = refl
-
-    -- a move more never weighs less
-    sum_rises : (i : ℕ) (ops : List O) → sum_by weight (take i ops) ≤ sum_by weight (take (suc i) ops)
-    sum_rises zero ops = omega arith
-    sum_rises (suc i) [] = omega arith
-    sum_rises (suc i) (o ∷ ops) = let h = sum_rises i ops in rw (sum_by-cons weight o (take i ops), sum_by-cons weight o (take (suc i) ops)) (omega (arith, h))
-
-    -- a move more weighs its weight more
-    sum_next : (most i : ℕ) (ops : List O) → ((o : O) → weight o ≤ most) → sum_by weight (take (suc i) ops) ≤ sum_by weight (take i ops) + most
-    sum_next most zero [] light = omega arith
-    sum_next most zero (o ∷ ops) light = let h = light o in omega (arith, h)
-    sum_next most (suc i) [] light = omega arith
-    sum_next most (suc i) (o ∷ ops) light = let h = sum_next most i ops light in rw (sum_by-cons weight o (take i ops), sum_by-cons weight o (take (suc i) ops)) (omega (arith, h))
-
-    -- this move more weighs its weight more
-    sum_one : (i : ℕ) (ops : List O) (o : O) → slice_get ops i ≡ Some o → sum_by weight (take (suc i) ops) ≡ sum_by weight (take i ops) + weight o
-    sum_one i [] o is = cc
-    sum_one zero (x ∷ ops) o is = let h : weight x ≡ weight o = cc in rw (sum_by-cons weight x []) (omega (arith, h))
-    sum_one (suc i) (x ∷ ops) o is = let h = sum_one i ops o is in rw (sum_by-cons weight x (take i ops), sum_by-cons weight x (take (suc i) ops)) (omega (arith, h))
-
-    -- ---- the ruler
-    module _ (turns : List (Turn O)) (events : List Event) where
-      -- it starts at 0
-      pub ruler_start : ruler weight turns events 0 ≡ 0
-      ruler_start = refl
-
-      -- it never falls
-      pub ruler_rises : (k : ℕ) → ruler weight turns events k ≤ ruler weight turns events (k + 1)
-      ruler_rises k = rw add-one (elim (writes_next k events) [
-        | inl same ↦ rw same (omega arith)
-        | inr more ↦ rw more (sum_rises (writes_in (take k events)) (ops_of turns))
-      ])
-
-      -- an event more adds at most the weight of one move
-      pub ruler_next : (most k : ℕ) → ((o : O) → weight o ≤ most) → ruler weight turns events (k + 1) ≤ ruler weight turns events k + most
-      ruler_next most k light = rw add-one (elim (writes_next k events) [
-        | inl same ↦ rw same (omega arith)
-        | inr more ↦ rw more (sum_next most (writes_in (take k events)) (ops_of turns) light)
-      ])
-
-      -- a shown byte leaves it
-      pub ruler_shown : (k byte : ℕ) → slice_get events k ≡ Some (Shown byte) → ruler weight turns events (k + 1) ≡ ruler weight turns events k
-      ruler_shown k byte is = rw (add-one, writes_next_shown k events byte is) refl
 
 -- ---- turns
 module _ {M O : Type 0} (means : Meaning M O) where
@@ -244,13 +89,6 @@ module _ {M O : Type 0} (means : Meaning M O) where
         let b = writes_whole o in
         let c = writes-shown turn.text in
         rw (ops-push turns turn, length-append (ops_of turns) turn.ops, writes-append events (wrote ++ shown_events turn.text), writes-append wrote (shown_events turn.text)) (omega (arith, a, b, c))
-
-    -- at the end the ruler stands at all operations of the turns
-    pub ruler_whole : (weight : O → ℕ) {events : List Event} {turns : List (Turn O)} {n : M} → Talks means m p events turns n → ruler weight turns events (length events) ≡ sum_by weight (ops_of turns)
-    ruler_whole weight {events} {turns} {n} talks =
-        let many = talks_writes talks in
-        let all : take (length events) events ≡ events = take_all (length events) events (omega arith) in
-        ap (λ l. sum_by weight (take (writes_in l) (ops_of turns))) all ∙ ap (sum_by weight) (take_all (writes_in events) (ops_of turns) (omega arith))
 
     module _ (weight : O → ℕ) where
       -- a cut before the last turn
@@ -330,124 +168,7 @@ module _ {M O : Type 0} (means : Meaning M O) where
         let o : Obeys means k (after p (a ++ events)) wrote turn.ops = rw (after-append p a events) o in
         rw (← append_assoc a events (wrote ++ shown_events turn.text), ← append_assoc turns others (turn ∷ [])) (spoken turn (talks_join first so_far) o)
 
-  -- ---- which writes make which moves
-  -- one run of events after another
-  pub made_then : (p : Pack) (a b : List Event) (ops more : List O) → AllMade means p a ops → AllMade means (after p a) b more → AllMade means p (a ++ b) (ops ++ more)
-  made_then p [] b [] more first next = next
-  made_then p [] b (o ∷ ops) more first next = elim first [ ]
-  made_then p (Wrote at part words ∷ a) b [] more first next = elim first [ ]
-  made_then p (Wrote at part words ∷ a) b (o ∷ ops) more first next = (first.0, made_then (after p (Wrote at part words ∷ [])) a b ops more first.1 next)
-  made_then p (Shown byte ∷ a) b ops more first next = made_then p a b ops more first next
-
-  -- shown bytes make no move
-  pub made_shown : (p : Pack) (text : List ℕ) → AllMade means p (shown_events text) []
-  made_shown p [] = tt
-  made_shown p (b ∷ text) = made_shown p text
-
-  -- each write of a run makes its move
-  pub obeys_made : {m : M} {p : Pack} {events : List Event} {ops : List O} → Obeys means m p events ops → AllMade means p events ops
-  obeys_made (rest here) = tt
-  obeys_made (write here makes later) = (makes, obeys_made later)
-
-  -- each write of the turns makes its move
-  pub talks_makes : {m : M} {p : Pack} {events : List Event} {turns : List (Turn O)} {n : M} → Talks means m p events turns n → AllMade means p events (ops_of turns)
-  talks_makes (begun here) = tt
-  talks_makes {p = p} (spoken {events} {wrote} {turns} {n} turn so_far o) =
-      let whole : AllMade means (after p events) (wrote ++ shown_events turn.text) (turn.ops ++ []) = made_then (after p events) wrote (shown_events turn.text) turn.ops [] (obeys_made o) (made_shown (after (after p events) wrote) turn.text) in
-      rw ops-append (made_then p events (wrote ++ shown_events turn.text) (ops_of turns) (turn.ops ++ []) (talks_makes so_far) whole)
-
-  -- the move that a write makes
-  made_at : (p : Pack) (events : List Event) (ops : List O) (k at part : ℕ) (words : List ℕ) (o : O) → AllMade means p events ops → slice_get events k ≡ Some (Wrote at part words) → slice_get ops (writes_in (take k events)) ≡ Some o → means.Makes (cut p events k) (Wrote at part words) o
-  made_at p [] ops k at part words o all is next = cc
-  made_at p (Wrote place half new ∷ events) [] k at part words o all is next = elim all [ ]
-  made_at p (Wrote place half new ∷ events) (x ∷ ops) zero at part words o all is next =
-      let event : Wrote place half new ≡ Wrote at part words = same_Some _ _ is in
-      let move : x ≡ o = same_Some _ _ next in
-      subst (λ e. means.Makes p e o) event (subst (means.Makes p (Wrote place half new)) move all.0)
-  made_at p (Wrote place half new ∷ events) (x ∷ ops) (suc k) at part words o all is next =
-      let one : suc (writes_in (take k events)) ≡ 1 + writes_in (take k events) = omega arith in
-      made_at (after p (Wrote place half new ∷ [])) events ops k at part words o all.1 is (ap (slice_get (x ∷ ops)) one ∙ next)
-  made_at p (Shown byte ∷ events) ops zero at part words o all is next = cc
-  made_at p (Shown byte ∷ events) ops (suc k) at part words o all is next = made_at p events ops k at part words o all is next
-
-  -- a record write makes a move, and the ruler rises by its weight
-  pub ruler_wrote : {m : M} {p : Pack} (weight : O → ℕ) {events : List Event} {turns : List (Turn O)} {n : M} → Talks means m p events turns n → (k at part : ℕ) (words : List ℕ) → slice_get events k ≡ Some (Wrote at part words) → RisesByMove weight means p events turns k at part words
-  ruler_wrote {p = p} weight {events} {turns} {n} talks k at part words is =
-      let many = talks_writes talks in
-      let more = writes_next_wrote k events at part words is in
-      let few = more.1 in
-      let found = move_at (writes_in (take k events)) (ops_of turns) (omega arith) in
-      record {
-        move = found.0;
-        next = found.1;
-        made = made_at p events (ops_of turns) k at part words found.0 (talks_makes talks) is found.1;
-        risen = rw (add-one, more.0) (sum_one weight (writes_in (take k events)) (ops_of turns) found.0 found.1);
-      }
-
 -- ---- calls that are turns
--- some first ones of shown bytes are the shown bytes of some first bytes
-pub record ShownFirst (text : List ℕ) (shown : List Event) : Type 0 where
-  pub some : List ℕ
-  pub start : IsStartOf some text
-  pub are : shown ≡ shown_events some
-
--- bytes that are shown of a text are some first ones of it
-pub shown_first : (text : List ℕ) (shown : List Event) → IsFirstOf (shown_events text) shown → ShownFirst text shown
-shown_first text [] h = record { some = []; start = tt; are = refl }
-shown_first [] (x ∷ shown) h = elim h [ ]
-shown_first (b ∷ text) (x ∷ shown) h =
-    let l = shown_first text shown h.1 in
-    record { some = b ∷ l.some; start = (refl, l.start); are = rw (h.0, l.are) refl }
-
--- a text of which nothing is shown
-shown_nothing : (text : List ℕ) → shown_events text ≡ [] → text ≡ []
-shown_nothing [] none = refl
-shown_nothing (b ∷ text) none = absurd (some none)
-  where
-    some : Shown b ∷ shown_events text ≢ []
-    some e = cc
-
-module _ {M O : Type 0} (means : Meaning M O) {T E F : Type 0} where
-  -- all moves are made and the text is shown
-  pub turn_whole : {x y z : Taped} {u : T} {v : Unit {0}} (t : Turn O) → Grown x y → Grown y z → Does {E = E} means (pack x) (added x y) t.ops (Ok u) → added y z ≡ shown_events t.text → IsTurn {E = F} means (means.read (pack x)) (pack x) (added x z) t (Ok v)
-  turn_whole {x} {y} {z} t one two did shown =
-      record {
-        made = t;
-        wrote = added x y;
-        each = subst (λ o. Obeys means (means.read (pack x)) (pack x) (added x y) o) did.all did.each;
-        split = added-twice one two ∙ ap (λ l. added x y ++ l) shown;
-        by = refl;
-      }
-
-  -- all moves are made, and some first bytes of the text are shown
-  pub turn_cut : {x y z : Taped} {u : T} {f : F} (t : Turn O) → Grown x y → Grown y z → Does {E = E} means (pack x) (added x y) t.ops (Ok u) → IsFirstOf (shown_events t.text) (added y z)
-      → (turn : IsTurn {T = Unit {0}} means (means.read (pack x)) (pack x) (added x z) t (Err f)) × (turn.made.ops ≡ t.ops) × (added y z ≡ [] → turn.made.text ≡ [])
-  turn_cut {x} {y} {z} t one two did shown =
-      let l = shown_first t.text (added y z) shown in (
-        record {
-          made = record { ops = t.ops; text = l.some; counts = false };
-          wrote = added x y;
-          each = subst (λ o. Obeys means (means.read (pack x)) (pack x) (added x y) o) did.all did.each;
-          split = added-twice one two ∙ ap (λ e. added x y ++ e) l.are;
-          by = record { start = start_self t.ops; text = l.start; later = λ h. refl; uncounted = refl };
-        },
-        refl,
-        λ none. shown_nothing l.some (sym l.are ∙ none),
-      )
-
-  -- the moves broke off, and nothing is shown
-  pub turn_broken : {p : Pack} {events : List Event} {e : E} {f : F} (t : Turn O) → Does {T = T} means p events t.ops (Err e) → (turn : IsTurn {T = Unit {0}} means (means.read p) p events t (Err f)) × (turn.made.text ≡ [])
-  turn_broken {p} {events} {e} {f} t did = (
-    record {
-      made = record { ops = did.ops; text = []; counts = false };
-      wrote = events;
-      each = did.each;
-      split = sym (append-nil events);
-      by = record { start = did.start; text = tt; later = λ h. absurd (h refl); uncounted = refl };
-    },
-    refl,
-  )
-
 module _ {M O : Type 0} (means : Meaning M O) where
   -- no turn yet
   pub talks_begin : {m : M} (x : Taped) → means.Stands m (pack x) → Talks means m (pack x) (added x x) [] m

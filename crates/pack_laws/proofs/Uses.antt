@@ -18,7 +18,7 @@ use Rattle.pack_laws.proofs.Storing.{get-files_shown}
 abbrev pub file_by : List Sight → Fid → Option File
 file_by ss f = option_map (λ l. file_of f (stored_file ss f l)) (leader ss f)
 
-map_twice : {X Y Z : Type 0} (g : Y → Z) (h : X → Y) (r : Option X) → option_map g (option_map h r) ≡ option_map (λ x. g (h x)) r
+pub map_twice : {X Y Z : Type 0} (g : Y → Z) (h : X → Y) (r : Option X) → option_map g (option_map h r) ≡ option_map (λ x. g (h x)) r
 map_twice g h None = refl
 map_twice g h (Some x) = refl
 

@@ -4,12 +4,12 @@ use Rattle.std.specs.Prelude.{cond, nat_le, codes}
 use Rattle.std.specs.Option.{option_map}
 use Rattle.std.specs.FinMap.{get, from_entries, get-from_entries}
 use Rattle.alto_words.specs.declared.fid.Fid.{Fid}
-use Rattle.alto_words.specs.Fid.{sys_dir, ordinary_fid, directory_fid}
+use Rattle.alto_words.specs.Fid.{sys_dir, ordinary_fid}
 use Rattle.pack_model.specs.Maps.{update}
 use Rattle.pack_model.specs.Slots.{Item}
 use Rattle.pack_model.specs.Slots.Item.{space, entry}
 use Rattle.pack_model.specs.Bodies.{File, items_in}
-use Rattle.pack_model.specs.Bodies.Body.{data_of, items_of}
+use Rattle.pack_model.specs.Bodies.Body.{items_of}
 use Rattle.pack_model.specs.Namings.{sys_dir_name}
 use Rattle.pack_model.specs.Model.{Model, dir_items}
 use Rattle.pack_model.specs.Rooms.{placed, largest_run}
@@ -17,15 +17,9 @@ use Rattle.pack_model.specs.Step.{step, new_leader, spare, room_in}
 use Rattle.pack_model.specs.Step.Operation.{put, grow, cut, title, leave, enter, widen}
 use Rattle.pack_laws.proofs.Keys.{fid_total, fid_same}
 use Rattle.pack_laws.proofs.Mapping.{get-update}
-use Rattle.pack_vectors.proofs.SmallPacks.{small}
+use Rattle.pack_vectors.proofs.SmallPacks.{small, file_of_bytes, dir_4, file_3}
 
 -- ---- a model with a file of five bytes, and SysDir with its entry and ten free words
-abbrev file_3 : Fid
-file_3 = ordinary_fid 3
-
-abbrev file_of_bytes : List ℕ → List ℕ → File
-file_of_bytes name bytes = record { leader = new_leader name 1000; body = data_of bytes }
-
 abbrev directory_of : List Item → File
 directory_of is = record { leader = new_leader sys_dir_name 1000; body = items_of is }
 
@@ -64,9 +58,6 @@ root_changes = (changed_root _, changed_root _, changed_root _)
 -- ---- the widenings before a line that makes or renames a file
 abbrev one_dir : Fid → List Item → Model
 one_dir d is = model_by ((d, directory_of is) ∷ [])
-
-abbrev dir_4 : Fid
-dir_4 = directory_fid 4
 
 -- SysDir keeps 26 free words in a row, whatever the name
 spares :

@@ -2,8 +2,6 @@
 use Rattle.std.proofs.Common.{◌≡◌, ℕ, Bool, true, false, List, [], ◌∷◌, ◌++◌, refl, arith}
 use Rattle.std.specs.Prelude.{◌-◌, ◌≤◌, codes, replicate, length, take, drop, get_or}
 use Rattle.std.specs.Fmt.{digits}
-use Rattle.alto_words.specs.declared.fid.Fid.{Fid}
-use Rattle.alto_words.specs.Fid.{ordinary_fid}
 use Rattle.alto_words.specs.Names.{lost, is_stored_name}
 use Rattle.disk_records.specs.declared.shape.Shape.{Shape}
 use Rattle.disk_records.specs.declared.records.Sector.{Sector}
@@ -15,10 +13,7 @@ use Rattle.pack_model.specs.Sights.{sight}
 use Rattle.pack_model.specs.Sights.Sight.{leads}
 use Rattle.pack_model.specs.Descriptor.{data_pages, descriptor_value}
 use Rattle.pack_model.specs.Format.{format_page, formatted_sectors, sectors_used}
-use Rattle.pack_vectors.proofs.SmallPacks.{small}
-
-abbrev file_3 : Fid
-file_3 = ordinary_fid 3
+use Rattle.pack_vectors.proofs.SmallPacks.{small, file_3}
 
 -- ---- leader sectors
 -- page 0 of #3 in sector 1, whose label counts 7 bytes; the name's words begin with these bytes, and the dates are 1000

@@ -1,10 +1,11 @@
 -- Hints that may be passed over: which are handy, and which aren't.
 use Rattle.std.proofs.Common.{◌≡◌, ◌⊎◌, ℕ, zero, suc, ◌+◌, Bool, true, false, cond, arith, eqb-true, List, [], ◌∷◌, ◌++◌, Option, Some, None, refl, sym, ap, subst, ◌∙◌, inl, inr}
+use Rattle.std.proofs.lemmas.Option.{none-some}
 use Rattle.std.proofs.lemmas.List.Elements.{All-cons, All-nil}
 use Rattle.std.specs.Prelude.{◌==◌, codes, replicate}
 use Rattle.std.specs.Option.{option_or}
 use Rattle.alto_words.specs.declared.fid.Fid.{Fid}
-use Rattle.alto_words.specs.Fid.{sys_dir, ordinary_fid}
+use Rattle.alto_words.specs.Fid.{sys_dir}
 use Rattle.alto_words.specs.Names.{is_stored_name}
 use Rattle.disk_records.specs.Addresses.{real_of}
 use Rattle.disk_records.specs.Labels.{in_range, is_free, label_of}
@@ -17,17 +18,7 @@ use Rattle.pack_model.specs.Step.{new_leader}
 use Rattle.pack_model.specs.Links.{no_link}
 use Rattle.pack_model.specs.Format.{Written, formatted}
 use Rattle.pack_model.specs.Handy.{Handy, HandyCache, LiesInARow, NamesLastPage, IsRightOrIdle, Cached, leader_word, row_word, last_at_word, last_number_word}
-use Rattle.pack_vectors.proofs.SmallPacks.{small, free_sector, pack_of, system, words_a, its_words}
-
-abbrev file_3 : Fid
-file_3 = ordinary_fid 3
-
-abbrev some_or : Option ℕ → ℕ
-some_or None = 0
-some_or (Some n) = n
-
-never : {n : ℕ} → None ≡ Some n → ⊥
-never e = cc
+use Rattle.pack_vectors.proofs.SmallPacks.{small, free_sector, pack_of, system, words_a, its_words, some_or, file_3}
 
 -- with the one sector that bears the leader
 handy_by : (p : Pack) (f : Fid) (at : ℕ) (cache : List Cached)
@@ -73,7 +64,7 @@ rows (suc n) at e = by (n == 0) (n == 1) refl refl e
     by : (a b : Bool) → (n == 0) ≡ a → (n == 1) ≡ b → option_or (cond a (Some 6) None) (option_or (cond b (Some 7) None) None) ≡ Some at → at ≡ 5 + suc n
     by true b p q e = let m : n ≡ 0 = eqb-true n 0 p in let i : 6 ≡ at = ap some_or e in omega arith
     by false true p q e = let m : n ≡ 1 = eqb-true n 1 q in let i : 7 ≡ at = ap some_or e in omega arith
-    by false false p q e = absurd (never e)
+    by false false p q e = absurd (none-some _ e)
 
 -- a flag of pages that are in a row, and a last page where it is; a leader and a page where they are, a page that no sector
 -- carries, and a page of another file, wherever that is said to be
@@ -120,7 +111,7 @@ idle_handy = (
 -- ---- not handy: page 2 is in sector 8, and so not in a row; the leader says 7 of it; the cache does
 wrongly : {r : Option ℕ} → r ≡ Some 8 → (r ≡ Some 7) ⊎ (r ≡ None) → ⊥
 wrongly e (inl seven) = let apart : ◌≡◌ {A = ℕ} 8 7 = ap some_or (sym e ∙ seven) in omega arith
-wrongly e (inr none) = never (sym none ∙ e)
+wrongly e (inr none) = none-some _ (sym none ∙ e)
 
 flag_wrong : Handy (apart 1 8 2) file_3 [] → ⊥
 unfolding sights_from sight real_of in_range is_free leader_of leader_name is_readable is_stored_name first

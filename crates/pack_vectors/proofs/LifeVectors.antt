@@ -2,7 +2,7 @@
 use Rattle.std.proofs.Common.{◌≡◌, ℕ, List, [], ◌∷◌, ◌++◌, refl}
 use Rattle.std.specs.Prelude.{codes, length, replicate}
 use Rattle.alto_words.specs.declared.fid.Fid.{Fid}
-use Rattle.alto_words.specs.Fid.{sys_dir, disk_descriptor, ordinary_fid, directory_fid}
+use Rattle.alto_words.specs.Fid.{sys_dir, disk_descriptor, directory_fid}
 use Rattle.disk_records.specs.declared.shape.Shape.{Shape}
 use Rattle.disk_records.specs.declared.records.Event.TheVariants.{Wrote}
 use Rattle.disk_records.specs.Addresses.{real_of}
@@ -15,10 +15,7 @@ use Rattle.pack_model.specs.Commands.{Claim, claims_writes, first_page_claim, le
 use Rattle.pack_model.specs.Operations.{make_writes, drop_writes, drop_moves}
 use Rattle.pack_model.specs.Committing.{units}
 use Rattle.pack_model.specs.Step.Operation.{drop_file}
-use Rattle.pack_vectors.proofs.SmallPacks.{small, pack_of, system, its_words, words_a, made_6, made_7, appended_9}
-
-abbrev file_3 : Fid
-file_3 = ordinary_fid 3
+use Rattle.pack_vectors.proofs.SmallPacks.{small, pack_of, system, its_words, words_a, made_6, made_7, appended_9, file_3}
 
 -- ---- make
 -- page 1 first, with no bytes, and then the leader; each has the other one's address in its label: the leader's next link, the

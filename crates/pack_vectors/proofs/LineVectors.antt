@@ -1,11 +1,10 @@
 -- Small cases of the record writes of whole lines, and of a session's end.
-use Rattle.std.proofs.Common.{◌≡◌, ℕ, Bool, true, false, List, [], ◌∷◌, ◌++◌, Option, Some, refl, ap, ◌∙◌, arith}
+use Rattle.std.proofs.Common.{◌≡◌, ℕ, Bool, true, false, List, [], ◌∷◌, ◌++◌, Option, Some, refl, ap, ◌∙◌}
 use Rattle.std.specs.Prelude.{codes, length, replicate}
 use Rattle.std.specs.Option.{option_map}
 use Rattle.std.specs.FinMap.{get, from_entries, get-from_entries, get-insert}
 use Rattle.alto_words.specs.declared.fid.Fid.{Fid}
 use Rattle.alto_words.specs.Fid.{sys_dir, disk_descriptor, ordinary_fid}
-use Rattle.disk_records.specs.declared.shape.Shape.{Shape}
 use Rattle.disk_records.specs.declared.records.Event.TheVariants.{Wrote}
 use Rattle.pack_model.specs.Slots.Item.{space, entry}
 use Rattle.pack_model.specs.Bodies.{File, items_in}
@@ -21,10 +20,8 @@ use Rattle.pack_model.specs.Committing.{units, length_in, values_before, pages_a
 use Rattle.pack_model.specs.Descriptor.{descriptor_value, open_writes, close_writes, close_moves, mark_after, ending_moves}
 use Rattle.pack_laws.proofs.Keys.{fid_total, fid_same}
 use Rattle.pack_laws.proofs.Mapping.{get-update}
-use Rattle.pack_vectors.proofs.StepVectors.{small, file_3, entries_with, model_with, done_after}
-
-abbrev model_31 : Shape
-model_31 = record { disks = 1; cylinders = 203; one_disk = refl; least = omega arith; most = omega arith }
+use Rattle.pack_vectors.proofs.StepVectors.{entries_with, model_with, done_after}
+use Rattle.pack_vectors.proofs.SmallPacks.{file_3, model_31, small}
 
 -- ---- DiskDescriptor
 -- closing writes the last data page first, and both with a clean mark; nothing where the mark is clean

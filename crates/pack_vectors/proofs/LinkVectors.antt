@@ -1,8 +1,8 @@
 -- Links that mislead; SysDir's fixed address and one that was held, which a call on a whole pack never answers.
 use Rattle.std.proofs.Common.{◌≡◌, ℕ, true, List, [], ◌∷◌, Option, Some, None, refl, sym, ap, ◌∙◌, arith, inl, inr}
+use Rattle.std.proofs.lemmas.Option.{none-some}
 use Rattle.std.specs.Prelude.{codes, replicate, get_or}
-use Rattle.alto_words.specs.declared.fid.Fid.{Fid}
-use Rattle.alto_words.specs.Fid.{sys_dir, ordinary_fid}
+use Rattle.alto_words.specs.Fid.{sys_dir}
 use Rattle.disk_records.specs.declared.records.Page.{Page}
 use Rattle.disk_records.specs.declared.records.Event.{Event}
 use Rattle.disk_records.specs.Addresses.{real_of}
@@ -13,14 +13,10 @@ use Rattle.pack_model.specs.Sights.{sight, sights, sights_from}
 use Rattle.pack_model.specs.Sights.Sight.{hidden, free, leads}
 use Rattle.pack_model.specs.Whole.{Whole}
 use Rattle.pack_model.specs.PageWords.{page_number, page_value, new_leader_value}
-use Rattle.pack_model.specs.Format.{formatted}
 use Rattle.pack_model.specs.Misled.{Misled, Finds, AnswersMisled, NamesSector, StandsInLink}
 use Rattle.pack_model.specs.Misled.HintPlace.{root, next_of, held}
 use Rattle.pack_vectors.proofs.StateVectors.{sound_fresh}
-use Rattle.pack_vectors.proofs.SmallPacks.{small, pack_of, system, words_a, its_words, all_free}
-
-abbrev file_3 : Fid
-file_3 = ordinary_fid 3
+use Rattle.pack_vectors.proofs.SmallPacks.{small, pack_of, system, words_a, its_words, all_free, formatted_pack, file_3}
 
 -- #3 has 600 bytes: its leader is in sector 5, its pages are in 6 and 7; these are the next links of leader and first page
 abbrev linked : ℕ → ℕ → Pack
@@ -37,10 +33,7 @@ page_of_3 n = record { fid = file_3; number = n }
 abbrev root_page : Page
 root_page = record { fid = sys_dir; number = 0 }
 
-abbrev formatted_pack : Pack
-formatted_pack = formatted small 1 1000
-
-abbrev number_in : Option Page → ℕ
+abbrev pub number_in : Option Page → ℕ
 number_in None = 0
 number_in (Some page) = page.number
 
@@ -146,14 +139,11 @@ shows_free = refl
 not_whole : Whole all_free → ⊥
 not_whole whole = let other : free ≡ leads sys_dir true whole.root.0 = sym shows_free ∙ whole.root.1 in cc
 
-nothing : {page : Page} → None ≡ Some page → ⊥
-nothing e = cc
-
 root_misleads : AnswersMisled all_free [] root 1 root_page (Some (ones 8))
 root_misleads = record {
   misled = record {
     stands = (refl, refl);
-    misses = λ i names carries. nothing (sym carries_none ∙ ap (carried all_free) names.named ∙ carries);
+    misses = λ i names carries. none-some _ (sym carries_none ∙ ap (carried all_free) names.named ∙ carries);
   };
   on_disk = not_whole;
   finds = record {
@@ -183,7 +173,7 @@ unfolding real_of in_range
 carries_no_root = refl
 
 held_is_free : Misled formatted_pack (held 20) 20 root_page
-held_is_free = record { stands = refl; misses = λ i names carries. nothing (sym carries_no_root ∙ ap (carried formatted_pack) names.named ∙ carries) }
+held_is_free = record { stands = refl; misses = λ i names carries. none-some _ (sym carries_no_root ∙ ap (carried formatted_pack) names.named ∙ carries) }
 
 held_never : (events : List Event) (i at : ℕ) (wanted : Page) (found : Option (List ℕ)) → AnswersMisled formatted_pack events (held i) at wanted found → ⊥
 held_never events i at wanted found answers = answers.on_disk sound_fresh.whole

@@ -1,10 +1,8 @@
 -- A pack on which a hint misleads, and what a call finds there.
-use Rattle.std.proofs.Common.{◌≡◌, ℕ, List, [], ◌∷◌, ◌++◌, Option, Some, None, refl, sym, ap, ◌∙◌, arith}
+use Rattle.std.proofs.Common.{◌≡◌, ℕ, List, [], ◌∷◌, ◌++◌, Some, refl, sym, ap, ◌∙◌, arith}
 use Rattle.std.specs.Prelude.{codes, replicate}
-use Rattle.alto_words.specs.declared.fid.Fid.{Fid}
-use Rattle.alto_words.specs.Fid.{sys_dir, disk_descriptor, ordinary_fid}
+use Rattle.alto_words.specs.Fid.{sys_dir, disk_descriptor}
 use Rattle.alto_words.specs.Names.{is_stored_name}
-use Rattle.disk_records.specs.declared.shape.Shape.{Shape}
 use Rattle.disk_records.specs.declared.records.Page.{Page}
 use Rattle.disk_records.specs.declared.records.Event.TheVariants.{Wrote, Shown}
 use Rattle.disk_records.specs.Addresses.{real_of}
@@ -23,12 +21,8 @@ use Rattle.pack_model.specs.Links.{no_link, dir_slots}
 use Rattle.pack_model.specs.Format.{Written, format_leader, format_page, with_headers}
 use Rattle.pack_model.specs.Misled.{Misled, AnswersMisled, StandsInEntry}
 use Rattle.pack_model.specs.Misled.HintPlace.{entry_word}
-
-abbrev small : Shape
-small = record { disks = 1; cylinders = 2; one_disk = refl; least = omega arith; most = omega arith }
-
-abbrev file_3 : Fid
-file_3 = ordinary_fid 3
+use Rattle.pack_vectors.proofs.SmallPacks.{file_3, small}
+use Rattle.pack_vectors.proofs.LinkVectors.{number_in}
 
 -- a file without bytes, its leader in sector 5 and its page 1 in sector 6; SysDir's word 29, the address in its entry, is 6
 abbrev wrong_slots : List ℕ
@@ -77,10 +71,6 @@ wrong_stands = record {
   word = refl;
   address = refl;
 }
-
-abbrev number_in : Option Page → ℕ
-number_in None = 0
-number_in (Some page) = page.number
 
 in_sector_6 : carried wrong 6 ≡ Some (record { fid = file_3; number = 1 })
 unfolding real_of in_range

@@ -1,16 +1,14 @@
 -- Small cases of sectors, files and whole packs, by computation.
-use Rattle.std.proofs.Common.{◌≡◌, ℕ, true, false, List, [], ◌∷◌, ◌++◌, Some, None, refl, arith}
+use Rattle.std.proofs.Common.{◌≡◌, ℕ, true, false, List, [], ◌∷◌, ◌++◌, Some, None, refl}
 use Rattle.std.specs.Prelude.{◌-◌, codes, replicate, length}
 use Rattle.std.specs.Fmt.{digits}
-use Rattle.alto_words.specs.declared.fid.Fid.{Fid}
-use Rattle.alto_words.specs.Fid.{sys_dir, disk_descriptor, ordinary_fid}
+use Rattle.alto_words.specs.Fid.{sys_dir, disk_descriptor}
 use Rattle.alto_words.specs.Names.{lost, is_stored_name}
-use Rattle.disk_records.specs.declared.shape.Shape.{Shape}
 use Rattle.disk_records.specs.declared.records.Sector.{Sector}
 use Rattle.disk_records.specs.Addresses.{descriptor_length, real_of}
 use Rattle.disk_records.specs.Labels.{in_range, is_free, label_of}
 use Rattle.pack_model.specs.Bytes.{bytes_of, words_of}
-use Rattle.pack_model.specs.Leaders.{Leader, leader_of, leader_name, is_readable}
+use Rattle.pack_model.specs.Leaders.{leader_of, leader_name, is_readable}
 use Rattle.pack_model.specs.Sights.{Sight, sight, sights, sights_from}
 use Rattle.pack_model.specs.Sights.Sight.{hidden, free, stray, leads, holds}
 use Rattle.pack_model.specs.Files.{first, joined, most_pages, file_bytes, place, leader}
@@ -27,21 +25,9 @@ use Rattle.pack_model.specs.Step.{new_leader}
 use Rattle.pack_model.specs.PageWords.{leader_value, page_number}
 use Rattle.pack_model.specs.Descriptor.{descriptor_text}
 use Rattle.pack_model.specs.Format.{formatted, format_slots, format_table, free_after_format, sectors_used}
-
--- 48 pages, and model 31
-abbrev small : Shape
-small = record { disks = 1; cylinders = 2; one_disk = refl; least = omega arith; most = omega arith }
-
-abbrev model_31 : Shape
-model_31 = record { disks = 1; cylinders = 203; one_disk = refl; least = omega arith; most = omega arith }
-
-abbrev file_3 : Fid
-file_3 = ordinary_fid 3
+use Rattle.pack_vectors.proofs.SmallPacks.{model_31, leader_a, file_3, small}
 
 -- ---- leader pages
-abbrev leader_a : Leader
-leader_a = new_leader (codes "A.") 1000
-
 -- what is written is read again, whatever the hints
 leader_read : leader_of file_3 (leader_value leader_a (replicate 10 7)) ≡ leader_a
 unfolding leader_of leader_name is_readable is_stored_name

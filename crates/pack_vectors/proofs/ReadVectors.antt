@@ -16,7 +16,7 @@ use Rattle.pack_model.specs.Slots.{Item, slots_after, slot_at, is_entry}
 use Rattle.pack_model.specs.Slots.Item.{space, entry}
 use Rattle.pack_model.specs.Stored.{StoredFile, file_of_serial}
 use Rattle.pack_model.specs.Bodies.{File}
-use Rattle.pack_model.specs.Bodies.Body.{data_of, items_of}
+use Rattle.pack_model.specs.Bodies.Body.{items_of}
 use Rattle.pack_model.specs.Namings.{sys_dir_name, descriptor_name, keeps_system}
 use Rattle.pack_model.specs.Model.{read_sights, read_pack, room}
 use Rattle.pack_model.specs.View.{Home, view}
@@ -24,13 +24,7 @@ use Rattle.pack_model.specs.Settling.{most_suffixes, show}
 use Rattle.pack_model.specs.Step.{new_leader}
 use Rattle.pack_laws.proofs.Keys.{fid_total}
 use Rattle.pack_laws.proofs.ByLists.{puts, entries-puts, read_list, room_is, seen_by, seen_list, shown_list}
-use Rattle.pack_vectors.proofs.SmallPacks.{small, copied, unread, three_x, in_d, made_6, made_7, appended_8, appended_9, no_leader, all_free, good_up_to}
-
-abbrev file_3 : Fid
-file_3 = ordinary_fid 3
-
-abbrev data_file : List ℕ → List ℕ → File
-data_file name bytes = record { leader = new_leader name 1000; body = data_of bytes }
+use Rattle.pack_vectors.proofs.SmallPacks.{small, copied, unread, three_x, in_d, made_6, made_7, appended_8, appended_9, no_leader, all_free, good_up_to, file_of_bytes, file_3}
 
 abbrev directory : List ℕ → List Item → File
 directory name is = record { leader = new_leader name 1000; body = items_of is }
@@ -44,12 +38,12 @@ files_of p = entries (read_pack p).files
 
 -- ---- files, by rising full name: DiskDescriptor isn't among them
 -- the lower of two copies counts
-copied_files : files_of copied ≡ (file_3, data_file (codes "A.") (codes "ABCDE")) ∷ root_with (entry file_3 (codes "A.") ∷ space 223 ∷ []) ∷ []
+copied_files : files_of copied ≡ (file_3, file_of_bytes (codes "A.") (codes "ABCDE")) ∷ root_with (entry file_3 (codes "A.") ∷ space 223 ∷ []) ∷ []
 unfolding sights_from sight real_of in_range is_free leader_of leader_name is_readable is_stored_name first joined most_pages file_bytes slots_after slot_at is_entry keeps_system
 copied_files = read_list small (sights copied)
 
 -- the slots end where one can't be read
-unread_files : files_of unread ≡ (file_3, data_file (codes "A.") (codes "ABCDE")) ∷ root_with [] ∷ []
+unread_files : files_of unread ≡ (file_3, file_of_bytes (codes "A.") (codes "ABCDE")) ∷ root_with [] ∷ []
 unfolding sights_from sight real_of in_range is_free leader_of leader_name is_readable is_stored_name first joined most_pages file_bytes slots_after slot_at is_entry keeps_system
 unread_files = read_list small (sights unread)
 
@@ -59,22 +53,22 @@ unfolding sights_from sight real_of in_range is_free leader_of leader_name is_re
 leaderless_files = read_list small (sights no_leader)
 
 -- a make has happened once the leader has its label
-made_files : (files_of made_6 ≡ root_with (space 231 ∷ []) ∷ []) × (files_of made_7 ≡ (file_3, data_file (codes "A.") []) ∷ root_with (space 231 ∷ []) ∷ [])
+made_files : (files_of made_6 ≡ root_with (space 231 ∷ []) ∷ []) × (files_of made_7 ≡ (file_3, file_of_bytes (codes "A.") []) ∷ root_with (space 231 ∷ []) ∷ [])
 unfolding sights_from sight real_of in_range is_free leader_of leader_name is_readable is_stored_name first joined most_pages file_bytes slots_after slot_at is_entry keeps_system
 made_files = (read_list small (sights made_6), read_list small (sights made_7))
 
 -- bytes are appended once the old last page counts 512, whatever its link
 appended_files :
-    (files_of appended_8 ≡ (file_3, data_file (codes "A.") []) ∷ root_with (entry file_3 (codes "A.") ∷ space 223 ∷ []) ∷ [])
-    × (files_of appended_9 ≡ (file_3, data_file (codes "A.") (replicate 1200 65)) ∷ root_with (entry file_3 (codes "A.") ∷ space 223 ∷ []) ∷ [])
+    (files_of appended_8 ≡ (file_3, file_of_bytes (codes "A.") []) ∷ root_with (entry file_3 (codes "A.") ∷ space 223 ∷ []) ∷ [])
+    × (files_of appended_9 ≡ (file_3, file_of_bytes (codes "A.") (replicate 1200 65)) ∷ root_with (entry file_3 (codes "A.") ∷ space 223 ∷ []) ∷ [])
 unfolding sights_from sight real_of in_range is_free leader_of leader_name is_readable is_stored_name first joined most_pages file_bytes slots_after slot_at is_entry keeps_system
 appended_files = (read_list small (sights appended_8), read_list small (sights appended_9))
 
 -- ordinary files come before directories, SysDir before the others
 three_files : files_of three_x
-    ≡ (ordinary_fid 4, data_file (codes "X.") [])
-    ∷ (ordinary_fid 6, data_file (codes "X.") [])
-    ∷ (ordinary_fid 7, data_file (codes "X.") [])
+    ≡ (ordinary_fid 4, file_of_bytes (codes "X.") [])
+    ∷ (ordinary_fid 6, file_of_bytes (codes "X.") [])
+    ∷ (ordinary_fid 7, file_of_bytes (codes "X.") [])
     ∷ root_with (entry (directory_fid 3) (codes "D.") ∷ entry (directory_fid 5) (codes "E.") ∷ entry (ordinary_fid 7) (codes "X.") ∷ space 207 ∷ [])
     ∷ (directory_fid 3, directory (codes "D.") (space 8 ∷ space 247 ∷ []))
     ∷ (directory_fid 5, directory (codes "E.") (space 8 ∷ space 247 ∷ []))

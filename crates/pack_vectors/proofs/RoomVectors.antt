@@ -15,9 +15,7 @@ use Rattle.pack_model.specs.Mended.{widens}
 use Rattle.pack_model.specs.Committing.{values_before, pages_added, pages_cut, entry_place}
 use Rattle.pack_laws.proofs.Keys.{fid_total, fid_same}
 use Rattle.pack_laws.proofs.Mapping.{entries-from_entries}
-
-abbrev file_3 : Fid
-file_3 = ordinary_fid 3
+use Rattle.pack_vectors.proofs.SmallPacks.{file_3}
 
 -- ---- room for entries
 abbrev name_39 : List ℕ

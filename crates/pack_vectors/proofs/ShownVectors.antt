@@ -1,6 +1,6 @@
 -- Small cases of the names that nameless files get.
 use Rattle.std.proofs.Common.{◌≡◌, ℕ, cond, List, [], ◌∷◌, Option, Some, None, refl, ap, ◌∙◌}
-use Rattle.std.specs.Prelude.{T, ◌&&◌, ◌||◌, Bool, codes}
+use Rattle.std.specs.Prelude.{T, ◌&&◌, ◌||◌, codes}
 use Rattle.std.specs.Fmt.{digits}
 use Rattle.std.specs.declared.cmp.Ordering.TheVariants.{Less, Greater}
 use Rattle.std.specs.List.{list_any}
@@ -16,12 +16,7 @@ use Rattle.pack_model.specs.Listing.{Listed, listed_cmp}
 use Rattle.pack_model.specs.Step.{new_leader}
 use Rattle.pack_laws.proofs.Keys.{fid_total, fid_same}
 use Rattle.pack_laws.proofs.Mapping.{entries-from_entries}
-
--- the same tests on the entries of a map in order
-abbrev taken_by : List (Fid × Home) → List ℕ → Bool
-taken_by es name =
-    is_same_name name sys_dir_name || is_same_name name descriptor_name
-    || list_any (λ e. is_fid e.1.dir sys_dir && is_same_name name e.1.name) es
+use Rattle.pack_laws.proofs.ByLists.{taken_by}
 
 taken_is : (es : List (Fid × Home)) → T (is_sorted fid_cmp es) → is_taken (from_entries es) ≡ taken_by es
 taken_is es h = ap (λ list name. is_same_name name sys_dir_name || is_same_name name descriptor_name || list_any (λ e. is_fid e.1.dir sys_dir && is_same_name name e.1.name) list) (entries-from_entries fid_total fid_same es h)

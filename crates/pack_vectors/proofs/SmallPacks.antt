@@ -1,5 +1,5 @@
 -- Small packs of 48 sectors: the cases by which reading and mending are checked.
-use Rattle.std.proofs.Common.{ℕ, zero, suc, ◌-◌, List, [], ◌∷◌, ◌++◌, refl, arith}
+use Rattle.std.proofs.Common.{ℕ, zero, suc, ◌-◌, List, [], ◌∷◌, ◌++◌, refl, arith, None, Option, Some}
 use Rattle.std.specs.Prelude.{codes, replicate, length, take, set}
 use Rattle.alto_words.specs.declared.fid.Fid.{Fid}
 use Rattle.alto_words.specs.Fid.{sys_dir, disk_descriptor, ordinary_fid, directory_fid}
@@ -15,10 +15,36 @@ use Rattle.pack_model.specs.Namings.{sys_dir_name, descriptor_name}
 use Rattle.pack_model.specs.Links.{no_link}
 use Rattle.pack_model.specs.PageWords.{page_number, page_value, leader_label, new_leader_value}
 use Rattle.pack_model.specs.Descriptor.{descriptor_text}
-use Rattle.pack_model.specs.Format.{Written, with_headers}
+use Rattle.pack_model.specs.Format.{Written, with_headers, formatted}
+use Rattle.pack_model.specs.Step.{new_leader}
+use Rattle.pack_model.specs.Leaders.{Leader}
+use Rattle.pack_model.specs.Bodies.Body.{data_of}
+use Rattle.pack_model.specs.Bodies.{File}
+
+abbrev pub file_of_bytes : List ℕ → List ℕ → File
+file_of_bytes name bytes = record { leader = new_leader name 1000; body = data_of bytes }
+
+abbrev pub some_or : Option ℕ → ℕ
+some_or None = 0
+some_or (Some n) = n
+
+abbrev pub leader_a : Leader
+leader_a = new_leader (codes "A.") 1000
+
+abbrev pub model_31 : Shape
+model_31 = record { disks = 1; cylinders = 203; one_disk = refl; least = omega arith; most = omega arith }
+
+abbrev pub dir_4 : Fid
+dir_4 = directory_fid 4
+
+abbrev pub file_3 : Fid
+file_3 = ordinary_fid 3
 
 abbrev pub small : Shape
 small = record { disks = 1; cylinders = 2; one_disk = refl; least = omega arith; most = omega arith }
+
+abbrev pub formatted_pack : Pack
+formatted_pack = formatted small 1 1000
 
 -- ---- sectors
 abbrev boot_sector : Written

@@ -2,13 +2,12 @@
 use Rattle.std.proofs.Common.{◌≡◌, ◌⊎◌, ℕ, zero, suc, ◌+◌, Bool, true, cond, List, [], ◌∷◌, refl, sym, ap, subst, ◌∙◌, arith, inl, inr}
 use Rattle.std.specs.Prelude.{◌<◌, codes, get_or, slice_get}
 use Rattle.alto_words.specs.declared.fid.Fid.{Fid}
-use Rattle.alto_words.specs.Fid.{is_fid, sys_dir, disk_descriptor, ordinary_fid}
+use Rattle.alto_words.specs.Fid.{is_fid, sys_dir, disk_descriptor}
 use Rattle.alto_words.specs.Names.{is_stored_name}
 use Rattle.disk_records.specs.declared.records.Event.TheVariants.{Wrote}
 use Rattle.disk_records.specs.Addresses.{real_of}
 use Rattle.disk_records.specs.Labels.{in_range, is_free}
 use Rattle.disk_records.specs.Commands.{ones}
-use Rattle.disk_records.specs.Packs.{Pack}
 use Rattle.pack_model.specs.Leaders.{Leader, leader_of, leader_name, is_readable}
 use Rattle.pack_model.specs.Sights.{Sight, sight, sights_from}
 use Rattle.pack_model.specs.Sights.Sight.{hidden, free, stray, leads, holds}
@@ -19,7 +18,6 @@ use Rattle.pack_model.specs.InUse.{in_use, is_good}
 use Rattle.pack_model.specs.Sentences.{IsUsed, EachOnce, HasLastPage, WholeBySentences, IsWholeBySentences}
 use Rattle.pack_model.specs.Sound.{mark_of}
 use Rattle.pack_model.specs.PageWords.{leader_label}
-use Rattle.pack_model.specs.Format.{formatted}
 use Rattle.pack_model.specs.Descriptor.{DescriptorFits}
 use Rattle.pack_model.specs.Step.Operation.{make, title, put, drop_file}
 use Rattle.pack_model.specs.Operations.Move.{commits}
@@ -33,10 +31,7 @@ use Rattle.pack_vectors.proofs.FormattedFiles.{fresh, root_leader, its_leader, r
 use Rattle.pack_vectors.proofs.FormattedModel.{its_fits, last_is}
 use Rattle.pack_vectors.proofs.FormattedMended.{scavengeable_fresh}
 use Rattle.pack_vectors.proofs.StateVectors.{whole_fresh, sound_fresh, clean_sights}
-use Rattle.pack_vectors.proofs.SmallPacks.{small, made_6, made_7}
-
-abbrev formatted_pack : Pack
-formatted_pack = formatted small 1 1000
+use Rattle.pack_vectors.proofs.SmallPacks.{small, made_6, made_7, file_3, formatted_pack}
 
 -- ---- cuts: it stands for the model that it is read as, the Scavenger takes it, and it is clean as it is sound
 mendable_fresh : Mendable formatted_pack
@@ -133,11 +128,6 @@ whole_by_sentences : IsWholeBySentences formatted_pack
 whole_by_sentences = subst (WholeBySentences small) (sym formatted_sights) sentences_fresh
 
 -- ---- record writes that commit
--- a make commits with its leader's label, in the sector that bears the leader once it is written; a leader that bears another name
--- by a value, and a file that is dropped by ones in its leader's label, in the sector that bears it before
-abbrev file_3 : Fid
-file_3 = ordinary_fid 3
-
 committing :
     MakesMove made_6 (Wrote 5 1 (leader_label small file_3 6)) (commits (make file_3 (codes "A.") 1000))
     × MakesMove made_7 (Wrote 5 2 []) (commits (title file_3 (codes "B.")))

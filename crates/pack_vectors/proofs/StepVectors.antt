@@ -1,11 +1,10 @@
 -- Small cases of operations on a model, and of the record writes that each has.
-use Rattle.std.proofs.Common.{◌≡◌, ℕ, List, [], ◌∷◌, Some, None, refl, ap, ◌∙◌, arith}
+use Rattle.std.proofs.Common.{◌≡◌, ℕ, List, [], ◌∷◌, Some, None, refl, ap, ◌∙◌}
 use Rattle.std.specs.Prelude.{codes, length, replicate, sum_by, take}
 use Rattle.std.specs.Option.{option_map}
 use Rattle.std.specs.FinMap.{get, from_entries, get-from_entries, get-remove}
 use Rattle.alto_words.specs.declared.fid.Fid.{Fid}
 use Rattle.alto_words.specs.Fid.{sys_dir, disk_descriptor, ordinary_fid, directory_fid}
-use Rattle.disk_records.specs.declared.shape.Shape.{Shape}
 use Rattle.pack_model.specs.Slots.Item.{space, entry}
 use Rattle.pack_model.specs.Bodies.{File, Files}
 use Rattle.pack_model.specs.Bodies.Body.{data_of, items_of}
@@ -17,15 +16,7 @@ use Rattle.pack_model.specs.Operations.{Move, weight_of, make_moves, grow_moves,
 use Rattle.pack_model.specs.Committing.{units, pages_added, page_of_byte, pages_cut}
 use Rattle.pack_laws.proofs.Keys.{fid_total, fid_same}
 use Rattle.pack_laws.proofs.Mapping.{get-map_values, get-update}
-
-abbrev pub small : Shape
-small = record { disks = 1; cylinders = 2; one_disk = refl; least = omega arith; most = omega arith }
-
-abbrev pub file_3 : Fid
-file_3 = ordinary_fid 3
-
-abbrev dir_4 : Fid
-dir_4 = directory_fid 4
+use Rattle.pack_vectors.proofs.SmallPacks.{file_3, dir_4, small}
 
 -- ---- a pack with one file, which stands in SysDir
 abbrev root_with : File

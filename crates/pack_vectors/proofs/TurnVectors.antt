@@ -23,7 +23,7 @@ use Rattle.pack_model.specs.Operations.{Move, weight_of}
 use Rattle.pack_model.specs.Operations.Move.{quiet, commits}
 use Rattle.pack_laws.proofs.Keys.{fid_total, fid_same}
 use Rattle.pack_laws.proofs.Mapping.{get-update}
-use Rattle.pack_vectors.proofs.SmallPacks.{small}
+use Rattle.pack_vectors.proofs.SmallPacks.{small, file_3}
 
 -- ---- lines
 -- each ends with a byte 10, the last one may end with the keys; an empty line is one, and byte 13 is a byte of a line
@@ -83,10 +83,6 @@ rulers :
 rulers = (refl, refl, refl, refl, refl, refl, refl)
 
 -- ---- the record that commits, and the pages that come
--- a file of 600 bytes; SysDir with an entry and a free slot in its first page, and an entry that begins the second
-abbrev file_3 : Fid
-file_3 = ordinary_fid 3
-
 abbrev some_files : List (Fid × File)
 some_files =
     (sys_dir, record { leader = new_leader (codes "SysDir.") 1000; body = items_of (space 24 ∷ entry file_3 (codes "A.") ∷ space 224 ∷ entry (ordinary_fid 4) (codes "B.") ∷ space 30 ∷ []) })

@@ -1,48 +1,30 @@
 -- Small cases of sectors in use, and of pages that are lacking.
-use Rattle.std.proofs.Common.{◌≡◌, true, List, [], ◌∷◌, refl, arith}
+use Rattle.std.proofs.Common.{◌≡◌, true, List, [], ◌∷◌, refl}
 use Rattle.std.specs.Prelude.{codes, replicate}
-use Rattle.alto_words.specs.declared.fid.Fid.{Fid}
-use Rattle.alto_words.specs.Fid.{ordinary_fid, directory_fid, disk_descriptor}
-use Rattle.disk_records.specs.declared.shape.Shape.{Shape}
+use Rattle.alto_words.specs.Fid.{ordinary_fid, disk_descriptor}
 use Rattle.pack_model.specs.Sights.{Sight}
 use Rattle.pack_model.specs.Sights.Sight.{hidden, free, stray, leads, holds}
 use Rattle.pack_model.specs.Files.{first, joined, most_pages, file_bytes}
-use Rattle.pack_model.specs.Leaders.{Leader}
 use Rattle.pack_model.specs.Slots.{slots_after, slot_at}
 use Rattle.pack_model.specs.Slots.Item.{space}
 use Rattle.pack_model.specs.Bodies.Body.{data_of, items_of}
 use Rattle.pack_model.specs.Model.{good_sectors}
 use Rattle.pack_model.specs.InUse.{end_of, last_page, available, bad_sectors}
 use Rattle.pack_model.specs.Needed.{file_lacks, root_lacks, descriptor_lacks}
-use Rattle.pack_model.specs.Step.{new_leader}
 use Rattle.pack_laws.proofs.Uses.{available_is}
-
-abbrev small : Shape
-small = record { disks = 1; cylinders = 2; one_disk = refl; least = omega arith; most = omega arith }
-
-abbrev model_31 : Shape
-model_31 = record { disks = 1; cylinders = 203; one_disk = refl; least = omega arith; most = omega arith }
-
-abbrev file_3 : Fid
-file_3 = ordinary_fid 3
-
-abbrev leader_3 : Leader
-leader_3 = new_leader (codes "A.") 1000
+use Rattle.pack_vectors.proofs.SmallPacks.{dir_4, file_3, leader_a, model_31, small}
 
 -- the leader and both pages are in use; a second copy, a page behind the last one, a page of a file that doesn't live, a free
 -- sector and a stray label are available
 abbrev some : List Sight
-some = hidden ∷ leads file_3 true leader_3 ∷ holds file_3 0 (replicate 512 7) ∷ holds file_3 1 (codes "B") ∷ holds file_3 1 (codes "C") ∷ holds file_3 2 (codes "D") ∷ holds (ordinary_fid 4) 0 [] ∷ free ∷ stray ∷ hidden ∷ []
+some = hidden ∷ leads file_3 true leader_a ∷ holds file_3 0 (replicate 512 7) ∷ holds file_3 1 (codes "B") ∷ holds file_3 1 (codes "C") ∷ holds file_3 2 (codes "D") ∷ holds (ordinary_fid 4) 0 [] ∷ free ∷ stray ∷ hidden ∷ []
 
 five_available : available small some ≡ 5
 unfolding file_bytes joined most_pages first
 five_available = available_is small some
 
-abbrev dir_4 : Fid
-dir_4 = directory_fid 4
-
 abbrev short_dir : List Sight
-short_dir = hidden ∷ leads dir_4 true leader_3 ∷ holds dir_4 0 (0 ∷ 2 ∷ 0 ∷ 0 ∷ replicate 508 0) ∷ holds dir_4 1 (codes "B") ∷ []
+short_dir = hidden ∷ leads dir_4 true leader_a ∷ holds dir_4 0 (0 ∷ 2 ∷ 0 ∷ 0 ∷ replicate 508 0) ∷ holds dir_4 1 (codes "B") ∷ []
 
 -- a directory ends with its slots: these are one of 2 words, and so page 1 is its last
 short_available : available small short_dir ≡ 1
@@ -51,7 +33,7 @@ short_available = available_is small short_dir
 
 -- ---- DiskDescriptor ends by the shape, whatever its bytes are: with its page 1 on 48 sectors, with its page 2 on model 31
 abbrev three_pages : List Sight
-three_pages = hidden ∷ leads disk_descriptor true leader_3 ∷ holds disk_descriptor 0 [] ∷ holds disk_descriptor 1 [] ∷ holds disk_descriptor 2 [] ∷ []
+three_pages = hidden ∷ leads disk_descriptor true leader_a ∷ holds disk_descriptor 0 [] ∷ holds disk_descriptor 1 [] ∷ holds disk_descriptor 2 [] ∷ []
 
 ends :
     (end_of small disk_descriptor (data_of []) ≡ 38)

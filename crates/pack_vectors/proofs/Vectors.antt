@@ -2,8 +2,7 @@
 use Rattle.std.proofs.Common.{◌≡◌, ℕ, Bool, List, [], ◌∷◌, ◌++◌, refl}
 use Rattle.std.specs.Prelude.{◌||◌, codes, replicate}
 use Rattle.std.specs.Fmt.{digits}
-use Rattle.alto_words.specs.declared.fid.Fid.{Fid}
-use Rattle.alto_words.specs.Fid.{sys_dir, ordinary_fid}
+use Rattle.alto_words.specs.Fid.{sys_dir}
 use Rattle.alto_words.specs.Names.{suffixed, lost, is_stored_name, is_same_name}
 use Rattle.pack_model.specs.Bytes.{bytes_of, words_of, put_at}
 use Rattle.pack_model.specs.Slots.{slots, slots_after, slot_at, is_entry}
@@ -11,6 +10,7 @@ use Rattle.pack_model.specs.Slots.Item.{space, entry}
 use Rattle.pack_model.specs.SlotWords.{entry_words, space_words, slots_at}
 use Rattle.pack_model.specs.Namings.{sys_dir_name}
 use Rattle.pack_model.specs.Settling.{chosen_from}
+use Rattle.pack_vectors.proofs.SmallPacks.{file_3}
 
 -- ---- bytes and words
 -- the high byte comes first
@@ -59,9 +59,6 @@ unfolding suffixed digits
 second_choice = refl
 
 -- ---- slots
-abbrev file_3 : Fid
-file_3 = ordinary_fid 3
-
 -- the entry of `A.`, with its leader in sector 5
 entry_written : entry_words file_3 5 (codes "A.") ≡ 1032 ∷ 0 ∷ 3 ∷ 1 ∷ 0 ∷ 5 ∷ 577 ∷ 11776 ∷ []
 entry_written = refl

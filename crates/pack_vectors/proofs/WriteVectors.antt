@@ -1,32 +1,20 @@
 -- Small cases of the words that record writes leave.
-use Rattle.std.proofs.Common.{◌≡◌, ℕ, List, [], ◌∷◌, ◌++◌, refl, arith}
+use Rattle.std.proofs.Common.{◌≡◌, ℕ, List, [], ◌∷◌, ◌++◌, refl}
 use Rattle.std.specs.Prelude.{codes, map, replicate, take}
-use Rattle.alto_words.specs.declared.fid.Fid.{Fid}
-use Rattle.alto_words.specs.Fid.{ordinary_fid, directory_fid}
+use Rattle.alto_words.specs.Fid.{directory_fid}
 use Rattle.alto_words.specs.Names.{is_stored_name}
-use Rattle.disk_records.specs.declared.shape.Shape.{Shape}
 use Rattle.disk_records.specs.declared.records.Event.{Event}
 use Rattle.disk_records.specs.declared.records.Event.TheVariants.{Wrote, Shown}
 use Rattle.disk_records.specs.Addresses.{real_of}
-use Rattle.pack_model.specs.Leaders.{Leader}
 use Rattle.pack_model.specs.Slots.{slots, slots_after, slot_at, is_entry}
 use Rattle.pack_model.specs.Slots.Item.{space, entry}
 use Rattle.pack_model.specs.SlotWords.{space_words}
 use Rattle.pack_model.specs.Bytes.{put_at}
-use Rattle.pack_model.specs.Step.{new_leader}
 use Rattle.pack_model.specs.PageWords.{leader_value, titled_value, stamped_value, freed_value, entered_words, put_value, first_page_value, new_leader_value, widening_bytes, near, later}
 use Rattle.pack_model.specs.Operations.{make_writes, grow_writes, cut_writes, drop_writes, enter_writes}
 use Rattle.pack_model.specs.Commands.{Claim, claims_of, all_claimed, grown_claims, grown_label, grown_value, cut_label}
 use Rattle.pack_model.specs.Descriptor.{opened_value, serial_value}
-
-abbrev small : Shape
-small = record { disks = 1; cylinders = 2; one_disk = refl; least = omega arith; most = omega arith }
-
-abbrev file_3 : Fid
-file_3 = ordinary_fid 3
-
-abbrev leader_a : Leader
-leader_a = new_leader (codes "A.") 1000
+use Rattle.pack_vectors.proofs.SmallPacks.{file_3, leader_a, small}
 
 abbrev old_value : List ℕ
 old_value = leader_value leader_a (replicate 10 7)

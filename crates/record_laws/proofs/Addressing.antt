@@ -37,7 +37,7 @@ slot_of-set (a ∷ b ∷ c ∷ d ∷ e ∷ g ∷ words) v l = refl
 slot_of-set _ v l = absurd (omega arith)
 
 -- an entry has at least seven words
-entry_words_many : (n : ℕ) → 7 ≤ entry_length n
+pub entry_words_many : (n : ℕ) → 7 ≤ entry_length n
 entry_words_many n = omega arith
 
 -- whether a word of the slot says nothing: any but the first of a free one, an entry's address

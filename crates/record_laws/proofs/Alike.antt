@@ -1,12 +1,11 @@
 -- Sights that differ in hints alone: they are read the same, and one is whole where the other is.
-use Rattle.std.proofs.Common.{◌*◌, ◌+◌, ◌/◌, ◌<◌, ◌∙◌, ◌∷◌, ◌≡◌, ◌≢◌, ◌⊎◌, Bool, List, None, Option, Some, [], ap, arith, cond, false, get_or, inl, inr, length, nat_le, not, refl, suc, sym, true, zero, ℕ}
-use Rattle.std.specs.FinMap.{get, same_map}
+use Rattle.std.proofs.Common.{◌*◌, ◌+◌, ◌/◌, ◌<◌, ◌∙◌, ◌∷◌, ◌≡◌, ◌≢◌, ◌⊎◌, Bool, List, None, Option, Some, [], ap, arith, cond, false, get_or, inl, inr, length, nat_le, refl, suc, sym, true, zero, ℕ}
 use Rattle.std.specs.Option.{is_some, option_map, option_or}
 use Rattle.alto_words.specs.Fid.{disk_descriptor, is_directory, is_fid}
 use Rattle.alto_words.specs.declared.fid.Fid.{Fid}
 use Rattle.disk_records.specs.Words.{word}
 use Rattle.disk_records.specs.declared.shape.Shape.{Shape}
-use Rattle.pack_model.specs.Bodies.{body_of, described, found, is_described}
+use Rattle.pack_model.specs.Bodies.{body_of, described}
 use Rattle.pack_model.specs.Bodies.Body.{data_of, items_of}
 use Rattle.pack_model.specs.Bytes.{words_of}
 use Rattle.pack_model.specs.Files.{carries_page, file_bytes, first, leader, leader_at, lives, numbered, place, place_at}
@@ -19,8 +18,7 @@ use Rattle.pack_model.specs.Slots.{slots}
 use Rattle.pack_model.specs.Sound.{mark_of}
 use Rattle.pack_laws.proofs.Bytes.{length-words_of}
 use Rattle.record_laws.proofs.Framing.{lives_same, model_same}
-use Rattle.record_laws.proofs.Keeping.{get-where}
-use Rattle.pack_laws.proofs.Keys.{fid_same, fid_total}
+use Rattle.record_laws.proofs.Keeping.{described_kept}
 use Rattle.record_laws.proofs.Reading.{get-found, read_file}
 
 -- ---- one sector
@@ -143,17 +141,11 @@ module _ (ss tt : List Sight) (a : Alike ss tt) where
 
   -- the same files
   pub described_alike : described tt ≡ described ss
-  described_alike = same_map fid_total fid_same _ _ (λ g. get-where (found tt) is_described g ∙ at g ∙ sym (get-where (found ss) is_described g))
+  described_alike = described_kept ss tt (λ g e. get-found tt g ∙ ap (option_map (read_file g (file_bytes tt g))) (leaders_alike g) ∙ file g (leader ss g) refl e ∙ sym (get-found ss g))
     where
       file : (g : Fid) (r : Option Leader) → leader ss g ≡ r → is_fid g disk_descriptor ≡ false → option_map (read_file g (file_bytes tt g)) r ≡ option_map (read_file g (file_bytes ss g)) r
       file g None is other = refl
       file g (Some l) is other = ap (λ b. Some (record { leader = l; body = b })) (body_alike g l is other)
-
-      at : (g : Fid) → cond (is_described g) (get (found tt) g) None ≡ cond (is_described g) (get (found ss) g) None
-      at g = elim (is_fid g disk_descriptor) as (λ b. is_fid g disk_descriptor ≡ b → cond (not b) (get (found tt) g) None ≡ cond (not b) (get (found ss) g) None) [
-        | true ↦ λ e. refl
-        | false ↦ λ e. get-found tt g ∙ ap (option_map (read_file g (file_bytes tt g))) (leaders_alike g) ∙ file g (leader ss g) refl e ∙ sym (get-found ss g)
-      ] refl
 
   -- as many words
   words_alike : length (descriptor_words tt) ≡ length (descriptor_words ss)

@@ -12,13 +12,12 @@ use Rattle.pack_model.specs.Slots.{Item, item_words}
 use Rattle.pack_model.specs.Slots.Item.{entry, space}
 use Rattle.pack_model.specs.View.{homes}
 use Rattle.record_laws.proofs.Around.{around}
-use Rattle.record_laws.proofs.Dropping.{others}
+use Rattle.record_laws.proofs.Dropping.{others, others-append}
 use Rattle.record_laws.proofs.Entered.{directory}
-use Rattle.record_laws.proofs.Heads.{and_left, and_right}
 use Rattle.pack_laws.proofs.Keys.{fid_same, fid_total, is_fid-itself}
 use Rattle.record_laws.proofs.Mending.{find-others}
 use Rattle.record_laws.proofs.Viewed.{name_left}
-use Rattle.record_laws.proofs.Waking.{OwnFit, any_same}
+use Rattle.record_laws.proofs.Waking.{OwnFit, any_same, kept_fits}
 
 module _ (sf : Fid) (sname : List ℕ) (own_name : (e : Naming) → fits e ≡ true → is_fid e.fid sf ≡ is_own sname e) (v : Fid → Bool) where
   -- two lists of kept entries that differ in those of the file alone
@@ -39,10 +38,6 @@ module _ (sf : Fid) (sname : List ℕ) (own_name : (e : Naming) → fits e ≡ t
       by true fe = ap (λ a. (v e.fid && fits e) && not a) (sym (any_same sf sname own_name e b other fe s.left_fits) ∙ ap (list_any (clashes e)) s.same ∙ any_same sf sname own_name e c other fe s.right_fits)
       by false fe = ap (λ t. (v e.fid && t) && not (list_any (clashes e) b)) fe ∙ nothing (v e.fid) _ _ ∙ sym (ap (λ t. (v e.fid && t) && not (list_any (clashes e) c)) fe)
 
-  -- what is kept fits
-  kept_fits : (b : List Naming) (e : Naming) → is_kept v b e ≡ true → fits e ≡ true
-  kept_fits b e k = and_right (v e.fid) (fits e) (and_left _ (not (list_any (clashes e) b)) k)
-
   -- one more kept entry in either
   more_aside : (b c : List Naming) (e : Naming) → AsideSame b c → AsideSame (cond (is_kept v b e) (e ∷ b) b) (cond (is_kept v c e) (e ∷ c) c)
   more_aside b c e s = by (is_fid e.fid sf) refl (is_kept v b e) (is_kept v c e) refl refl
@@ -54,11 +49,11 @@ module _ (sf : Fid) (sname : List ℕ) (own_name : (e : Naming) → fits e ≡ t
       stays x other = ap (λ t. cond t (others sf x) (e ∷ others sf x)) other
 
       by : (o : Bool) → is_fid e.fid sf ≡ o → (s1 t : Bool) → is_kept v b e ≡ s1 → is_kept v c e ≡ t → AsideSame (cond s1 (e ∷ b) b) (cond t (e ∷ c) c)
-      by true own true true x y = record { same = drops b own ∙ s.same ∙ sym (drops c own); left_fits = ((λ _. kept_fits b e x), s.left_fits); right_fits = ((λ _. kept_fits c e y), s.right_fits) }
-      by true own true false x y = record { same = drops b own ∙ s.same; left_fits = ((λ _. kept_fits b e x), s.left_fits); right_fits = s.right_fits }
-      by true own false true x y = record { same = s.same ∙ sym (drops c own); left_fits = s.left_fits; right_fits = ((λ _. kept_fits c e y), s.right_fits) }
+      by true own true true x y = record { same = drops b own ∙ s.same ∙ sym (drops c own); left_fits = ((λ _. kept_fits v b e x), s.left_fits); right_fits = ((λ _. kept_fits v c e y), s.right_fits) }
+      by true own true false x y = record { same = drops b own ∙ s.same; left_fits = ((λ _. kept_fits v b e x), s.left_fits); right_fits = s.right_fits }
+      by true own false true x y = record { same = s.same ∙ sym (drops c own); left_fits = s.left_fits; right_fits = ((λ _. kept_fits v c e y), s.right_fits) }
       by true own false false x y = s
-      by false other true true x y = record { same = stays b other ∙ ap (λ r. e ∷ r) s.same ∙ sym (stays c other); left_fits = ((λ _. kept_fits b e x), s.left_fits); right_fits = ((λ _. kept_fits c e y), s.right_fits) }
+      by false other true true x y = record { same = stays b other ∙ ap (λ r. e ∷ r) s.same ∙ sym (stays c other); left_fits = ((λ _. kept_fits v b e x), s.left_fits); right_fits = ((λ _. kept_fits v c e y), s.right_fits) }
       by false other true false x y = absurd (let clash : true ≡ false = sym x ∙ kept_aside b c e s other ∙ y in cc)
       by false other false true x y = absurd (let clash : false ≡ true = sym x ∙ kept_aside b c e s other ∙ y in cc)
       by false other false false x y = s
@@ -108,21 +103,13 @@ module _ (sf : Fid) (sname : List ℕ) (own_name : (e : Naming) → fits e ≡ t
       drops false e z own = refl
 
       by : (t : Bool) → is_kept v x (record { dir = d; name = name; fid = sf }) ≡ t → AsideSame x y → is_fid sf sf ≡ true → AsideSame (cond t (record { dir = d; name = name; fid = sf } ∷ x) x) y
-      by true kept s own = record { same = drops true (record { dir = d; name = name; fid = sf }) x own ∙ s.same; left_fits = ((λ _. kept_fits x (record { dir = d; name = name; fid = sf }) kept), s.left_fits); right_fits = s.right_fits }
+      by true kept s own = record { same = drops true (record { dir = d; name = name; fid = sf }) x own ∙ s.same; left_fits = ((λ _. kept_fits v x (record { dir = d; name = name; fid = sf }) kept), s.left_fits); right_fits = s.right_fits }
       by false kept s own = s
   entry_aside d (space k ∷ a) b name n x y s = entry_aside d a b name n x y s
   entry_aside d (entry f other ∷ a) b name n x y s =
       let e : Naming = record { dir = d; name = other; fid = f } in
       let r = entry_aside d a b name n (cond (is_kept v x e) (e ∷ x) x) (cond (is_kept v y e) (e ∷ y) y) (more_aside x y e s) in
       (ap (others sf) (left_item (is_kept v x e) d f other _) ∙ one_aside x y e _ _ s r.0 ∙ sym (ap (others sf) (left_item (is_kept v y e) d f other _)), r.1)
-
-  -- the entries of other files, in two lists
-  others_append : (a b : List Naming) → others sf (a ++ b) ≡ others sf a ++ others sf b
-  others_append [] b = refl
-  others_append (x ∷ a) b = elim (is_fid x.fid sf) as (λ c. cond c (others sf (a ++ b)) (x ∷ others sf (a ++ b)) ≡ cond c (others sf a) (x ∷ others sf a) ++ others sf b) [
-    | true ↦ others_append a b
-    | false ↦ ap (λ r. x ∷ r) (others_append a b)
-  ]
 
   -- one body
   body_aside : (d : Fid) (x : Body) (b c : List Naming) → AsideSame b c → (others sf (body_namings d (body_kept (is_kept v) d b x)) ≡ others sf (body_namings d (body_kept (is_kept v) d c x))) × AsideSame (kept_after_body (is_kept v) d b x) (kept_after_body (is_kept v) d c x)
@@ -134,23 +121,23 @@ module _ (sf : Fid) (sname : List ℕ) (own_name : (e : Naming) → fits e ≡ t
   files_aside [] b c s = refl
   files_aside (e ∷ es) b c s =
       let r = body_aside e.0 e.1.body b c s in
-      others_append (body_namings e.0 (body_kept (is_kept v) e.0 b e.1.body)) (namings (files_kept (is_kept v) (kept_after_body (is_kept v) e.0 b e.1.body) es))
+      others-append sf (body_namings e.0 (body_kept (is_kept v) e.0 b e.1.body)) (namings (files_kept (is_kept v) (kept_after_body (is_kept v) e.0 b e.1.body) es))
       ∙ (λ i. r.0 i ++ files_aside es (kept_after_body (is_kept v) e.0 b e.1.body) (kept_after_body (is_kept v) e.0 c e.1.body) r.1 i)
-      ∙ sym (others_append (body_namings e.0 (body_kept (is_kept v) e.0 c e.1.body)) (namings (files_kept (is_kept v) (kept_after_body (is_kept v) e.0 c e.1.body) es)))
+      ∙ sym (others-append sf (body_namings e.0 (body_kept (is_kept v) e.0 c e.1.body)) (namings (files_kept (is_kept v) (kept_after_body (is_kept v) e.0 c e.1.body) es)))
 
   -- a directory with the entry, in its place among all files
   place_aside : (d : Fid) (l : Leader) (a b : List Item) (name : List ℕ) (n : ℕ) (front back : List (Fid × File)) (x y : List Naming) → AsideSame x y
       → others sf (namings (files_kept (is_kept v) x (front ++ (d, directory l (a ++ entry sf name ∷ b)) ∷ back))) ≡ others sf (namings (files_kept (is_kept v) y (front ++ (d, directory l (a ++ space n ∷ b)) ∷ back)))
   place_aside d l a b name n [] back x y s =
       let r = entry_aside d a b name n x y s in
-      others_append (namings_in d (items_kept (is_kept v) d x (a ++ entry sf name ∷ b))) (namings (files_kept (is_kept v) (kept_after (is_kept v) d x (a ++ entry sf name ∷ b)) back))
+      others-append sf (namings_in d (items_kept (is_kept v) d x (a ++ entry sf name ∷ b))) (namings (files_kept (is_kept v) (kept_after (is_kept v) d x (a ++ entry sf name ∷ b)) back))
       ∙ (λ i. r.0 i ++ files_aside back (kept_after (is_kept v) d x (a ++ entry sf name ∷ b)) (kept_after (is_kept v) d y (a ++ space n ∷ b)) r.1 i)
-      ∙ sym (others_append (namings_in d (items_kept (is_kept v) d y (a ++ space n ∷ b))) (namings (files_kept (is_kept v) (kept_after (is_kept v) d y (a ++ space n ∷ b)) back)))
+      ∙ sym (others-append sf (namings_in d (items_kept (is_kept v) d y (a ++ space n ∷ b))) (namings (files_kept (is_kept v) (kept_after (is_kept v) d y (a ++ space n ∷ b)) back)))
   place_aside d l a b name n (e ∷ front) back x y s =
       let r = body_aside e.0 e.1.body x y s in
-      others_append (body_namings e.0 (body_kept (is_kept v) e.0 x e.1.body)) (namings (files_kept (is_kept v) (kept_after_body (is_kept v) e.0 x e.1.body) (front ++ (d, directory l (a ++ entry sf name ∷ b)) ∷ back)))
+      others-append sf (body_namings e.0 (body_kept (is_kept v) e.0 x e.1.body)) (namings (files_kept (is_kept v) (kept_after_body (is_kept v) e.0 x e.1.body) (front ++ (d, directory l (a ++ entry sf name ∷ b)) ∷ back)))
       ∙ (λ i. r.0 i ++ place_aside d l a b name n front back (kept_after_body (is_kept v) e.0 x e.1.body) (kept_after_body (is_kept v) e.0 y e.1.body) r.1 i)
-      ∙ sym (others_append (body_namings e.0 (body_kept (is_kept v) e.0 y e.1.body)) (namings (files_kept (is_kept v) (kept_after_body (is_kept v) e.0 y e.1.body) (front ++ (d, directory l (a ++ space n ∷ b)) ∷ back))))
+      ∙ sym (others-append sf (body_namings e.0 (body_kept (is_kept v) e.0 y e.1.body)) (namings (files_kept (is_kept v) (kept_after_body (is_kept v) e.0 y e.1.body) (front ++ (d, directory l (a ++ space n ∷ b)) ∷ back))))
 
   -- so each other file has the same name
   pub names_aside : (files : Files) (d : Fid) (l : Leader) (is a b : List Item) (name : List ℕ) (n : ℕ) → get files d ≡ Some (directory l is) → (q : Fid) → is_fid q sf ≡ false

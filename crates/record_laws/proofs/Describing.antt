@@ -1,18 +1,16 @@
 -- What DiskDescriptor's pages hold isn't shown.
-use Rattle.std.proofs.Common.{◌∙◌, ◌≡◌, List, None, ap, cond, false, get_or, not, refl, set, sym, true, ℕ}
-use mathlib.Core.Path.{fun_ext}
-use Rattle.std.specs.FinMap.{get, same_map}
+use Rattle.std.proofs.Common.{◌∙◌, ◌≡◌, List, None, ap, false, get_or, set, sym, ℕ}
 use Rattle.alto_words.specs.Fid.{disk_descriptor, is_fid}
 use Rattle.alto_words.specs.declared.fid.Fid.{Fid}
-use Rattle.pack_model.specs.Bodies.{described, found, is_described}
-use Rattle.pack_model.specs.Files.{file_bytes, joined, leader, leader_at, most_pages, page_at}
+use Rattle.pack_model.specs.Bodies.{described}
+use Rattle.pack_model.specs.Files.{file_bytes, leader, leader_at, page_at}
 use Rattle.pack_model.specs.Model.{Model}
 use Rattle.pack_model.specs.Sights.{Sight}
 use Rattle.pack_model.specs.Sights.Sight.{hidden}
 use Rattle.pack_model.specs.View.{view}
 use Rattle.pack_laws.proofs.Firsts.{first_same}
-use Rattle.pack_laws.proofs.Keys.{fid_same, fid_total}
-use Rattle.record_laws.proofs.Keeping.{get-where}
+use Rattle.record_laws.proofs.Framing.{bytes_same}
+use Rattle.record_laws.proofs.Keeping.{described_kept}
 use Rattle.record_laws.proofs.Reading.{get_alike}
 
 -- what is shown is by the files alone
@@ -32,15 +30,8 @@ module _ (ss : List Sight) (i : ℕ) (s : Sight) (was : OnlyDescriptor (get_or s
 
   -- so do the bytes of all other files
   pub bytes_stay : (g : Fid) → is_fid g disk_descriptor ≡ false → file_bytes (set ss i s) g ≡ file_bytes ss g
-  unfolding file_bytes
-  bytes_stay g e = ap (joined most_pages) (fun_ext (λ n. first_same (page_at g n) ss i s hidden (now.holds g n e ∙ sym (was.holds g n e))))
+  bytes_stay g e = bytes_same ss i s g (λ n. now.holds g n e ∙ sym (was.holds g n e))
 
   -- so do all other files
   pub described_same : described (set ss i s) ≡ described ss
-  described_same = same_map fid_total fid_same _ _ (λ g. get-where (found (set ss i s)) is_described g ∙ at g ∙ sym (get-where (found ss) is_described g))
-    where
-      at : (g : Fid) → cond (is_described g) (get (found (set ss i s)) g) None ≡ cond (is_described g) (get (found ss) g) None
-      at g = elim (is_fid g disk_descriptor) as (λ b. is_fid g disk_descriptor ≡ b → cond (not b) (get (found (set ss i s)) g) None ≡ cond (not b) (get (found ss) g) None) [
-        | true ↦ λ e. refl
-        | false ↦ λ e. get_alike ss (set ss i s) g (leaders_stay g) (bytes_stay g e)
-      ] refl
+  described_same = described_kept ss (set ss i s) (λ g e. get_alike ss (set ss i s) g (leaders_stay g) (bytes_stay g e))

@@ -1,5 +1,6 @@
 -- Widen and leave: the record write is the step.
 use Rattle.std.proofs.Common.{◌&&◌, ◌++◌, ◌/◌, ◌∙◌, ◌∷◌, ◌≡◌, Bool, List, Some, [], ap, arith, cond, false, length, map, not, refl, subst, suc, sym, take, true, ℕ}
+use Rattle.std.proofs.lemmas.Bool.{not-true}
 use Rattle.std.specs.FinMap.{entries, find, from_entries, get, get-from_entries, get-insert, insert, same_map}
 use Rattle.std.specs.List.{list_any}
 use Rattle.alto_words.specs.Fid.{fid_cmp, is_directory, is_fid}
@@ -107,7 +108,7 @@ widen_is_the_step p at d label fresh dir live bears names ends more one =
 
 -- ---- leave
 -- none of several passes a test, nor of those put onto them
-onto_none : (t : Naming → Bool) (a b : List Naming) → list_any t (onto a b) ≡ false → (list_any t a ≡ false) × (list_any t b ≡ false)
+pub onto_none : (t : Naming → Bool) (a b : List Naming) → list_any t (onto a b) ≡ false → (list_any t a ≡ false) × (list_any t b ≡ false)
 onto_none t [] b h = (refl, h)
 onto_none t (x ∷ a) b h =
     let r = onto_none t a (x ∷ b) h in
@@ -132,12 +133,8 @@ apart_before v files d l a b f name tidy here =
     let p = spot files d l (a ++ entry f name ∷ b) a b here in
     let all : AllKept (is_kept v) [] (p.before ++ e ∷ p.later) = subst (AllKept (is_kept v) []) (ap (λ m. namings (entries m)) (sym (insert_same files d (directory l (a ++ entry f name ∷ b)) here)) ∙ p.with f name) tidy in
     let kept : is_kept v (onto p.before []) e ≡ true = (split_kept (is_kept v) [] p.before (e ∷ p.later) all).1.0 in
-    let none : list_any (clashes e) (onto p.before []) ≡ false = not_true (list_any (clashes e) (onto p.before [])) (and_right (may_stand v e) (not (list_any (clashes e) (onto p.before []))) kept) in
+    let none : list_any (clashes e) (onto p.before []) ≡ false = not-true (list_any (clashes e) (onto p.before [])) (and_right (may_stand v e) (not (list_any (clashes e) (onto p.before []))) kept) in
     any_second (clashes e) p.ahead (namings_in d a) (sym (ap (list_any (clashes e)) p.before_is) ∙ (onto_none (clashes e) p.before [] none).0)
-  where
-    not_true : (t : Bool) → not t ≡ true → t ≡ false
-    not_true true e = cc
-    not_true false e = refl
 
 -- the value in which an entry's slot becomes free
 pub leave_is_the_step : LeaveIsTheStep

@@ -38,17 +38,17 @@ use Rattle.record_laws.proofs.Tidying.{onto, split_kept, still_kept, tidy_same}
 use Rattle.record_laws.specs.QuietLaws.{with_label}
 use Rattle.record_laws.specs.StepLaws.{DropIsTheStep}
 
+-- entries that are kept, and others that are kept behind them
+pub join_kept : (ok : List Naming → Naming → Bool) (b x y : List Naming) → AllKept ok b x → AllKept ok (onto x b) y → AllKept ok b (x ++ y)
+join_kept ok b [] y h g = g
+join_kept ok b (e ∷ x) y h g = (h.0, join_kept ok (e ∷ b) x y h.1 g)
+
 -- ---- tidy files without one
 module _ (v : Fid → Bool) where
   -- entries are kept beside fewer
   fewer_kept : (a b c : List Naming) → AllKept (is_kept v) (onto a b) c → AllKept (is_kept v) b c
   fewer_kept [] b c h = h
   fewer_kept (x ∷ a) b c h = still_kept v [] x b c (fewer_kept a (x ∷ b) c h)
-
-  -- two parts as one
-  join_kept : (b x y : List Naming) → AllKept (is_kept v) b x → AllKept (is_kept v) (onto x b) y → AllKept (is_kept v) b (x ++ y)
-  join_kept b [] y h g = g
-  join_kept b (e ∷ x) y h g = (h.0, join_kept (e ∷ b) x y h.1 g)
 
   -- without one file they are all kept
   put_kept : (f : Fid) (x : File) (b : List Naming) (es : List (Fid × File)) → find fid_cmp f es ≡ None → AllKept (is_kept v) b (namings (put fid_cmp f x es)) → AllKept (is_kept v) b (namings es)
@@ -62,7 +62,7 @@ module _ (v : Fid → Bool) where
       by Greater n h again =
           let here : List Naming = body_namings e.0 e.1.body in
           let s = split_kept (is_kept v) b here (namings (put fid_cmp f x es)) h in
-          join_kept b here (namings es) s.0 (again (onto here b) n s.1)
+          join_kept (is_kept v) b here (namings es) s.0 (again (onto here b) n s.1)
 
   -- so tidy files stay so
   tidy_remove : (files : Files) (f : Fid) (x : File) → get files f ≡ Some x → IsTidy v files → IsTidy v (remove files f)

@@ -1,5 +1,5 @@
 -- A file goes: its entry is kept no more.
-use Rattle.std.proofs.Common.{◌&&◌, ◌∙◌, ◌∷◌, ◌≡◌, Bool, List, [], ap, cond, false, not, refl, true}
+use Rattle.std.proofs.Common.{◌&&◌, ◌++◌, ◌∙◌, ◌∷◌, ◌≡◌, Bool, List, [], ap, cond, false, not, refl, true}
 use Rattle.std.specs.FinMap.{entries, from_entries, remove}
 use Rattle.std.specs.List.{list_any}
 use Rattle.alto_words.specs.Fid.{fid_cmp, is_fid}
@@ -17,6 +17,14 @@ use Rattle.record_laws.proofs.Tidying.{and_not, onto, or_false, or_false_left, o
 abbrev pub others : Fid → List Naming → List Naming
 others f [] = []
 others f (e ∷ es) = cond (is_fid e.fid f) (others f es) (e ∷ others f es)
+
+-- of two lists, those of each
+pub others-append : (f : Fid) (a b : List Naming) → others f (a ++ b) ≡ others f a ++ others f b
+others-append f [] b = refl
+others-append f (x ∷ a) b = elim (is_fid x.fid f) as (λ c. cond c (others f (a ++ b)) (x ∷ others f (a ++ b)) ≡ cond c (others f a) (x ∷ others f a) ++ others f b) [
+  | true ↦ others-append f a b
+  | false ↦ ap (λ r. x ∷ r) (others-append f a b)
+]
 
 -- one file lives no more
 abbrev pub gone : Fid → (Fid → Bool) → Fid → Bool

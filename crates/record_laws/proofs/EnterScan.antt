@@ -25,7 +25,7 @@ clashes_sym : (a b : Naming) → clashes a b ≡ clashes b a
 clashes_sym a b = λ i. is_fid-sym a.fid b.fid i || (is_fid-sym a.dir b.dir i && same_sym a.name b.name i)
 
 -- none of these clashes with it
-none_of_any : (e : Naming) (ns : List Naming) → list_any (clashes e) ns ≡ false → NoneClashes e ns
+pub none_of_any : (e : Naming) (ns : List Naming) → list_any (clashes e) ns ≡ false → NoneClashes e ns
 none_of_any e [] h = Prim.tt
 none_of_any e (n ∷ ns) h = (clashes_sym n e ∙ or_false_left (clashes e n) _ h, none_of_any e ns (or_false_right (clashes e n) _ h))
 

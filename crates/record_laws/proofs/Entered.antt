@@ -13,6 +13,7 @@ use Rattle.pack_model.specs.View.{Home, homes, names_of}
 use Rattle.record_laws.proofs.Around.{Around, around}
 use Rattle.pack_laws.proofs.Keys.{fid_same, fid_total, is_fid-sym, same_fid}
 use Rattle.record_laws.proofs.Tidying.{remove_kept}
+use Rattle.pack_laws.proofs.Inserting.{absent_tail}
 
 -- the entries of files one after another
 pub namings-append : (a b : List (Fid × File)) → namings (a ++ b) ≡ namings a ++ namings b
@@ -72,16 +73,12 @@ module _ (lives : Fid → Bool) (files : Files) (d : Fid) (l : Leader) (is a b :
       subst (AllKept (is_kept lives) []) (sym (p.without n)) (remove_kept lives [] p.before _ p.later (subst (AllKept (is_kept lives) []) (p.with f name) tidy))
 
 -- ---- names
-pub cond_none : {X : Type 0} (b : Bool) (x : X) (r : Option X) → cond b (Some x) r ≡ None → (b ≡ false) × (r ≡ None)
-cond_none false x r e = (refl, e)
-cond_none true x r e = absurd cc
-
 -- one name more
 find-homes : (q f : Fid) (h : Home) (x y : List Naming) → find fid_cmp f (homes x) ≡ None → find fid_cmp q (homes (x ++ record { dir = h.dir; name = h.name; fid = f } ∷ y)) ≡ cond (is_fid q f) (Some h) (find fid_cmp q (homes (x ++ y)))
 find-homes q f h [] y none = refl
 find-homes q f h (n ∷ x) y none =
-    let here : is_fid f n.fid ≡ false = (cond_none (is_fid f n.fid) _ (find fid_cmp f (homes x)) none).0 in
-    let there = find-homes q f h x y (cond_none (is_fid f n.fid) _ (find fid_cmp f (homes x)) none).1 in
+    let here : is_fid f n.fid ≡ false = (absent_tail (is_fid f n.fid) _ (find fid_cmp f (homes x)) none).0 in
+    let there = find-homes q f h x y (absent_tail (is_fid f n.fid) _ (find fid_cmp f (homes x)) none).1 in
     let hn : Home = record { dir = n.dir; name = n.name } in
     let rest : Option Home = find fid_cmp q (homes (x ++ y)) in
     elim (is_fid q n.fid) as (λ b. is_fid q n.fid ≡ b → cond b (Some hn) (find fid_cmp q (homes (x ++ record { dir = h.dir; name = h.name; fid = f } ∷ y))) ≡ cond (is_fid q f) (Some h) (cond b (Some hn) rest)) [
@@ -93,7 +90,7 @@ find-homes q f h (n ∷ x) y none =
 none_before : (f : Fid) (x y : List Naming) → find fid_cmp f (homes (x ++ y)) ≡ None → find fid_cmp f (homes x) ≡ None
 none_before f [] y e = refl
 none_before f (n ∷ x) y e =
-    let c = cond_none (is_fid f n.fid) _ (find fid_cmp f (homes (x ++ y))) e in
+    let c = absent_tail (is_fid f n.fid) _ (find fid_cmp f (homes (x ++ y))) e in
     ap (λ b. cond b (Some (record { dir = n.dir; name = n.name })) (find fid_cmp f (homes x))) c.0 ∙ none_before f x y c.1
 
 -- an entry more is a name more

@@ -1,7 +1,6 @@
 -- Put, cut and grow: the record write is the step.
-use Rattle.std.proofs.Common.{◌%◌, ◌*◌, ◌++◌, ◌+◌, ◌-◌, ◌/◌, ◌<◌, ◌∙◌, ◌∷◌, ◌≡◌, ◌≢◌, ◌≤◌, Bool, List, Some, [], ap, append_assoc, arith, cond, drop, false, inl, inr, length, length-take, lt-ltb, min, nat_lt, refl, set, subst, suc, sym, take, take-append-drop, take-take, true, ℕ}
-use Rattle.std.proofs.lemmas.Bool.{cases_lt}
-use Rattle.std.proofs.lemmas.List.{drop_at, take_all}
+use Rattle.std.proofs.Common.{◌%◌, ◌*◌, ◌++◌, ◌+◌, ◌-◌, ◌/◌, ◌<◌, ◌∙◌, ◌∷◌, ◌≡◌, ◌≢◌, ◌≤◌, Bool, List, Some, [], ap, append_assoc, arith, cond, drop, false, length, length-take, lt-ltb, min, nat_lt, refl, set, subst, suc, sym, take, take-append-drop, take-take, true, ℕ}
+use Rattle.std.proofs.lemmas.List.{drop_at, take_min}
 use Rattle.alto_words.specs.Fid.{is_fid}
 use Rattle.alto_words.specs.declared.fid.Fid.{Fid}
 use Rattle.disk_records.specs.Labels.{page_of, tag}
@@ -102,13 +101,6 @@ bytes_grow ss tt f n old new l r others was short now begins =
     let before : joined most_pages (page ss f) ≡ front n (page ss f) ++ old =
     joined_at n most_pages (page ss f) l r ∙ ap (λ x. front n (page ss f) ++ continue x rest) was ∙ ap (λ t. front n (page ss f) ++ cond t old (old ++ rest)) (lt-ltb (length old) 512 short) in
     (m.0, joined_change n most_pages (page ss f) (page tt f) l r others ∙ ap (λ x. front n (page ss f) ++ continue x rest) now ∙ m.1 ∙ ap (λ x. x ++ m.0) (sym before))
-
--- as many as there are, or as they say
-take_min : (c : ℕ) (value : List ℕ) → take (min c (length value)) value ≡ take c value
-take_min c value = elim (cases_lt c (length value)) [
-  | inl low ↦ (let z : min c (length value) ≡ c = omega arith in ap (λ k. take k value) z)
-  | inr high ↦ (let z : min c (length value) ≡ length value = omega arith in ap (λ k. take k value) z ∙ take_all (length value) value (omega arith) ∙ sym (take_all c value high))
-]
 
 -- more of the same bytes begin as fewer do
 first_bytes : (old value : List ℕ) (b c : ℕ) → old ≡ take c value → length old ≤ b → take (length old) (take b value) ≡ old

@@ -40,6 +40,10 @@ pub bytes_frame : (ss tt : List Sight) (f : Fid) → ((n : ℕ) → Reaches (pag
 unfolding file_bytes
 bytes_frame ss tt f e = joined_frame most_pages (page ss f) (page tt f) e
 
+-- one sector that answers as before for the pages of a file leaves its bytes
+pub bytes_same : (ss : List Sight) (i : ℕ) (s : Sight) (g : Fid) → ((n : ℕ) → page_at g n s ≡ page_at g n (get_or ss i hidden)) → file_bytes (set ss i s) g ≡ file_bytes ss g
+bytes_same ss i s g same = bytes_frame (set ss i s) ss g (λ n r. first_same (page_at g n) ss i s hidden (same n))
+
 -- two models with the same parts
 pub model_same : (shape : Shape) (g h l k : ℕ) (a b : Files) → g ≡ h → l ≡ k → a ≡ b → ◌≡◌ {A = Model} (record { shape = shape; good = g; last = l; files = a }) (record { shape = shape; good = h; last = k; files = b })
 model_same shape g h l k a b p q r = λ i. record { shape = shape; good = p i; last = q i; files = r i }

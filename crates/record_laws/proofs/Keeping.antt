@@ -1,14 +1,15 @@
 -- The scan that keeps entries, when one file changes.
-use Rattle.std.proofs.Common.{◌∙◌, ◌∷◌, ◌≡◌, Bool, Equal, Greater, Less, List, None, Option, Some, [], ap, cond, false, refl, subst, sym, true, ℕ}
+use Rattle.std.proofs.Common.{◌∙◌, ◌∷◌, ◌≡◌, Bool, Equal, Greater, Less, List, None, Option, Some, [], ap, cond, false, not, refl, subst, sym, true, ℕ}
 use Rattle.std.specs.FinMap.{FinMap, entries, entries-insert, find, get, get-entries, get-from_entries, get-insert, get-retain_keys, insert, retain_keys, same_map}
 use Rattle.std.specs.FinMap.Entries.{by_order, find-put, put}
 use Rattle.std.specs.Ordering.{is_eq}
-use Rattle.alto_words.specs.Fid.{fid_cmp, is_fid}
+use Rattle.alto_words.specs.Fid.{disk_descriptor, fid_cmp, is_fid}
 use Rattle.alto_words.specs.declared.fid.Fid.{Fid}
-use Rattle.pack_model.specs.Bodies.{File, Files}
+use Rattle.pack_model.specs.Bodies.{File, Files, described, found, is_described}
 use Rattle.pack_model.specs.Bodies.Body.{data_of}
 use Rattle.pack_model.specs.Leaders.{Leader}
 use Rattle.pack_model.specs.Namings.{Naming, body_kept, files_kept, is_kept, kept_after_body, tidied}
+use Rattle.pack_model.specs.Sights.{Sight}
 use Rattle.pack_laws.proofs.Keys.{fid_same, fid_total, same_fid}
 
 -- an ordinary file
@@ -65,6 +66,16 @@ get-tidied_plain lives files f x is has =
 -- a value whose key passes
 pub get-where : {X : Type 0} (m : FinMap fid_cmp X) (p : Fid → Bool) (q : Fid) → get (retain_keys m p) q ≡ cond (p q) (get m q) None
 get-where m p q = get-retain_keys m p q (λ x e. ap p (sym (fid_same q x e)))
+
+-- DiskDescriptor is left out of the files
+pub described_kept : (ss tt : List Sight) → ((g : Fid) → is_fid g disk_descriptor ≡ false → get (found tt) g ≡ get (found ss) g) → described tt ≡ described ss
+described_kept ss tt e = same_map fid_total fid_same _ _ (λ g. get-where (found tt) is_described g ∙ at g ∙ sym (get-where (found ss) is_described g))
+  where
+    at : (g : Fid) → cond (is_described g) (get (found tt) g) None ≡ cond (is_described g) (get (found ss) g) None
+    at g = elim (is_fid g disk_descriptor) as (λ b. is_fid g disk_descriptor ≡ b → cond (not b) (get (found tt) g) None ≡ cond (not b) (get (found ss) g) None) [
+      | true ↦ λ is. refl
+      | false ↦ λ is. e g is
+    ] refl
 
 -- a new value whose key passes
 pub kept_insert : {X : Type 0} (m : FinMap fid_cmp X) (p : Fid → Bool) (f : Fid) (x : X) → p f ≡ true → retain_keys (insert m f x) p ≡ insert (retain_keys m p) f x

@@ -1,6 +1,5 @@
 -- A missing last page comes, and a leader is written that says the same.
 use Rattle.std.proofs.Common.{◌%◌, ◌&&◌, ◌*◌, ◌++◌, ◌+◌, ◌-◌, ◌/◌, ◌<◌, ◌==◌, ◌∙◌, ◌≡◌, ◌≤◌, Bool, List, None, Some, [], ap, arith, cond, false, get_or, le-ltb, length, not, refl, set, subst, suc, sym, take, true, zero, ℕ}
-use mathlib.Core.Path.{fun_ext}
 use Rattle.alto_words.specs.Fid.{is_fid}
 use Rattle.alto_words.specs.declared.fid.Fid.{Fid}
 use Rattle.disk_records.specs.Labels.{tag}
@@ -16,7 +15,7 @@ use Rattle.pack_laws.proofs.Joining.{AreShort, Reaches, Reaches-more, Reaches-no
 use Rattle.pack_laws.proofs.Keys.{same_fid}
 use Rattle.pack_laws.proofs.Paging.{byte_of_file, other_number}
 use Rattle.pack_laws.proofs.Placing.{no_page, page_at-holds, short_pages}
-use Rattle.record_laws.proofs.Framing.{SameBytes, good_set, mute_frame}
+use Rattle.record_laws.proofs.Framing.{SameBytes, bytes_same, good_set, mute_frame}
 use Rattle.record_laws.proofs.Recording.{carried_sight, free_sight, free_within, label_sights, number_below, value_sights}
 use Rattle.record_laws.proofs.Staying.{Stays, stay_bytes, stay_counted}
 use Rattle.record_laws.specs.QuietLaws.{LastClaim, SameLeader, with_label, with_value}
@@ -47,9 +46,7 @@ last_bytes ss i f k l is none r most =
 
 -- the bytes of all other files stay
 other_bytes : (ss : List Sight) (i : ℕ) (f g : Fid) (k : ℕ) (bytes : List ℕ) → get_or ss i hidden ≡ free → is_fid g f ≡ false → file_bytes (set ss i (holds f k bytes)) g ≡ file_bytes ss g
-unfolding file_bytes
-other_bytes ss i f g k bytes is e =
-    ap (joined most_pages) (fun_ext (λ n. first_same (page_at g n) ss i (holds f k bytes) hidden (ap (λ b. cond (b && n == k) (Some bytes) None) e ∙ ap (page_at g n) (sym is))))
+other_bytes ss i f g k bytes is e = bytes_same ss i (holds f k bytes) g (λ n. ap (λ b. cond (b && n == k) (Some bytes) None) e ∙ ap (page_at g n) (sym is))
 
 -- so the bytes of every file do
 last_frame : (ss : List Sight) (i : ℕ) (f : Fid) (k : ℕ) → i < length ss → get_or ss i hidden ≡ free → page ss f k ≡ None → Reaches (page ss f) k → k < most_pages → SameBytes ss (set ss i (holds f k []))

@@ -23,7 +23,7 @@ use Rattle.record_laws.proofs.Copying.{place_carried}
 use Rattle.record_laws.proofs.DirReads.{insert_same}
 use Rattle.record_laws.proofs.EnterScan.{find_replaced}
 use Rattle.pack_laws.proofs.Firsts.{first_borne, first_same}
-use Rattle.record_laws.proofs.Framing.{bytes_frame, good_set, model_same}
+use Rattle.record_laws.proofs.Framing.{bytes_same, good_set, model_same}
 use Rattle.record_laws.proofs.Keeping.{kept_insert}
 use Rattle.pack_laws.proofs.Keys.{fid_same, fid_total, is_fid-itself, same_fid}
 use Rattle.pack_laws.proofs.Placing.{leader_at-leads, leader_of_place}
@@ -139,7 +139,7 @@ module _ (p : Pack) (at : ℕ) (f : Fid) (value : List ℕ) (bears : place (sigh
 
   -- and the bytes of all files
   bytes_stay : (g : Fid) → file_bytes (set ss at s) g ≡ file_bytes ss g
-  bytes_stay g = bytes_frame (set ss at s) ss g (λ n r. first_same (page_at g n) ss at s hidden (sym (ap (page_at g n) was)))
+  bytes_stay g = bytes_same ss at s g (λ n. sym (ap (page_at g n) was))
 
   -- so the same files live
   lives_stay : lives (set ss at s) ≡ lives ss

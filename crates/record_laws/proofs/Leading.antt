@@ -1,16 +1,16 @@
 -- A leader is written, comes or goes.
 use Rattle.std.proofs.Common.{◌<◌, ◌∙◌, ◌≡◌, ◌≢◌, List, None, ap, cond, false, get_or, length, refl, set, sym, true, ℕ}
-use mathlib.Core.Path.{fun_ext}
 use Rattle.std.specs.FinMap.{get, get-remove, remove, same_map}
 use Rattle.std.specs.Option.{option_map}
 use Rattle.alto_words.specs.Fid.{is_fid}
 use Rattle.alto_words.specs.declared.fid.Fid.{Fid}
 use Rattle.pack_model.specs.Bodies.{found}
-use Rattle.pack_model.specs.Files.{file_bytes, joined, leader, leader_at, most_pages, page_at}
+use Rattle.pack_model.specs.Files.{file_bytes, leader, leader_at, page_at}
 use Rattle.pack_model.specs.Sights.{Sight}
 use Rattle.pack_model.specs.Sights.Sight.{free, hidden}
 use Rattle.pack_laws.proofs.Firsts.{first_alone, first_same}
 use Rattle.pack_laws.proofs.Keys.{fid_same, fid_total, same_fid}
+use Rattle.record_laws.proofs.Framing.{bytes_same}
 use Rattle.record_laws.proofs.Reading.{get-found, get_alike, read_file}
 
 -- sector i shows no page but the leader of f, and no other sector shows that
@@ -23,8 +23,7 @@ pub record LeadsAlone (ss : List Sight) (i : ℕ) (f : Fid) : Type 0 where
 module _ (ss : List Sight) (i : ℕ) (f : Fid) (h : LeadsAlone ss i f) where
   -- the bytes of all files stay
   module_parts : (s : Sight) → ((g : Fid) (n : ℕ) → page_at g n s ≡ None) → (g : Fid) → file_bytes (set ss i s) g ≡ file_bytes ss g
-  unfolding file_bytes
-  module_parts s none g = ap (joined most_pages) (fun_ext (λ n. first_same (page_at g n) ss i s hidden (none g n ∙ sym (h.no_page g n))))
+  module_parts s none g = bytes_same ss i s g (λ n. none g n ∙ sym (h.no_page g n))
 
   -- the leaders of other files stay
   other_leaders : (s : Sight) → ((g : Fid) → is_fid g f ≡ false → leader_at g s ≡ None) → (g : Fid) → is_fid g f ≡ false → leader (set ss i s) g ≡ leader ss g

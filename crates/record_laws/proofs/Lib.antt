@@ -43,6 +43,7 @@ pub mod Recording
 pub mod Roomy
 pub mod Rooting
 pub mod Scanned
+pub mod Seats
 pub mod Settles
 pub mod SlotReading
 pub mod SlotWriting

@@ -27,7 +27,7 @@ use Rattle.pack_model.specs.Step.{new_body, new_file}
 use Rattle.pack_model.specs.Whole.{living_too}
 use Rattle.record_laws.proofs.Beside.{any_first, any_second}
 use Rattle.pack_laws.proofs.Firsts.{first_new, first_same}
-use Rattle.record_laws.proofs.Framing.{bytes_frame, good_set, model_same}
+use Rattle.record_laws.proofs.Framing.{bytes_same, good_set, model_same}
 use Rattle.pack_laws.proofs.Guarding.{free_parts}
 use Rattle.record_laws.proofs.Keeping.{kept_insert}
 use Rattle.pack_laws.proofs.Keys.{fid_same, fid_total, same_fid}
@@ -92,9 +92,6 @@ unfolding IsBare
 scan_put ok f x bare before [] none = let r = bare ok before in ap (λ b. (f, record { leader = x.leader; body = b }) ∷ []) r.0
 scan_put ok f x bare before (e ∷ es) none = by (fid_cmp f e.0) none (scan_put ok f x bare (kept_after_body ok e.0 before e.1.body) es)
   where
-    kept : List (Fid × File)
-    kept = files_kept ok (kept_after_body ok e.0 before e.1.body) es
-
     by : (r : Ordering) → cond (is_eq r) (Some e.1) (find fid_cmp f es) ≡ None
         → (find fid_cmp f es ≡ None → files_kept ok (kept_after_body ok e.0 before e.1.body) (put fid_cmp f x es) ≡ put fid_cmp f x (files_kept ok (kept_after_body ok e.0 before e.1.body) es))
         → files_kept ok before (by_order r ((f, x) ∷ e ∷ es) ((e.0, x) ∷ es) (e ∷ put fid_cmp f x es))
@@ -135,7 +132,7 @@ make_is_the_step p at f name moment label h =
     let shown : sights (with_label p at label) ≡ us = label_sights p at x label (free_parts p at h.is_free).0 h.names in
     let lead : leader us f ≡ Some new = first_new (leader_at f) ss at s within h.headless ∙ leader_at-leads f (is_readable (leader_words value)) new in
     let leaders : (g : Fid) → is_fid g f ≡ false → leader us g ≡ leader ss g = λ g e. first_same (leader_at g) ss at s hidden (ap (λ b. cond b (Some new) None) e ∙ sym (ap (leader_at g) blank)) in
-    let bytes : (g : Fid) → file_bytes us g ≡ file_bytes ss g = λ g. bytes_frame us ss g (λ n r. first_same (page_at g n) ss at s hidden (sym (ap (page_at g n) blank))) in
+    let bytes : (g : Fid) → file_bytes us g ≡ file_bytes ss g = λ g. bytes_same ss at s g (λ n. sym (ap (page_at g n) blank)) in
     let live : lives us ≡ living_too f (lives ss) = fun_ext (λ g. elim (is_fid g f) as (λ b. is_fid g f ≡ b → is_some (leader us g) ≡ cond b true (is_some (leader ss g))) [
       | true ↦ λ e. ap (λ k. is_some (leader us k)) (same_fid g f e) ∙ ap is_some lead
       | false ↦ λ e. ap is_some (leaders g e)

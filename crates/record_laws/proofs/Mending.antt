@@ -26,6 +26,7 @@ use Rattle.pack_laws.proofs.Keys.{fid_same, fid_total, same_fid}
 use Rattle.pack_laws.proofs.Mapping.{get-map_values}
 use Rattle.record_laws.proofs.Viewing.{same_view}
 use Rattle.record_laws.proofs.Waking.{names_alike}
+use Rattle.record_laws.proofs.Tidying.{or_false_left, or_false_right}
 
 -- ---- the scan keeps the keys in order
 below-kept : (ok : List Naming → Naming → Bool) (k : Fid) (b : List Naming) (es : List (Fid × File)) → below_all fid_cmp k (files_kept ok b es) ≡ below_all fid_cmp k es
@@ -93,21 +94,11 @@ or_cond false false c = refl
 both_alive : (v : Fid → Bool) → with_system v ≡ living_too sys_dir (living_too disk_descriptor v)
 both_alive v = fun_ext (λ g. or_cond (is_fid g sys_dir) (is_fid g disk_descriptor) (v g))
 
--- neither of two
-pub no_left : (a b : Bool) → (a || b) ≡ false → a ≡ false
-no_left false b e = refl
-no_left true b e = cc
-
--- nor the second
-pub no_right : (a b : Bool) → (a || b) ≡ false → b ≡ false
-no_right false b e = e
-no_right true b e = cc
-
 -- so both change the name of no other
 names_stay : (v : Fid → Bool) (es : List (Fid × File)) (q : Fid) → is_system q ≡ false → name_of v es q ≡ name_of (with_system v) es q
 names_stay v es q e =
-    one_alive disk_descriptor descriptor_name fits_own v es q (no_right (is_fid q sys_dir) _ e)
-    ∙ one_alive sys_dir sys_dir_name fits_root (living_too disk_descriptor v) es q (no_left (is_fid q sys_dir) (is_fid q disk_descriptor) e)
+    one_alive disk_descriptor descriptor_name fits_own v es q (or_false_right (is_fid q sys_dir) _ e)
+    ∙ one_alive sys_dir sys_dir_name fits_root (living_too disk_descriptor v) es q (or_false_left (is_fid q sys_dir) (is_fid q disk_descriptor) e)
     ∙ ap (λ w. name_of w es q) (sym (both_alive v))
 
 -- ---- a fresh SysDir has no entries, and its leader counts nowhere
@@ -146,7 +137,7 @@ shown_files v files = same_map fid_total fid_same _ _ (λ q. get-where _ (λ f. 
     at : (q : Fid) → cond (not (is_system q)) (get (map_values {R = fid_cmp} seen_of (tidied (with_system v) (rooted files))) q) None ≡ cond (not (is_system q)) (get (map_values {R = fid_cmp} seen_of (tidied v files)) q) None
     at q = elim (is_system q) as (λ b. is_system q ≡ b → cond (not b) (get (map_values {R = fid_cmp} seen_of (tidied (with_system v) (rooted files))) q) None ≡ cond (not b) (get (map_values {R = fid_cmp} seen_of (tidied v files)) q) None) [
       | true ↦ λ e. refl
-      | false ↦ λ e. look (with_system v) (rooted files) q ∙ ap (option_map (seen_of q)) (get-insert fid_total files sys_dir _ q ∙ ap (λ b. cond b (Some (root_file (root_body (get files sys_dir)))) (get files q)) (no_left (is_fid q sys_dir) (is_fid q disk_descriptor) e)) ∙ sym (look v files q)
+      | false ↦ λ e. look (with_system v) (rooted files) q ∙ ap (option_map (seen_of q)) (get-insert fid_total files sys_dir _ q ∙ ap (λ b. cond b (Some (root_file (root_body (get files sys_dir)))) (get files q)) (or_false_left (is_fid q sys_dir) (is_fid q disk_descriptor) e)) ∙ sym (look v files q)
     ] refl
 
 -- the same names

@@ -1,5 +1,5 @@
 -- The next entry that settling adds leaves what is shown.
-use Rattle.std.proofs.Common.{◌++◌, ◌+◌, ◌∙◌, ◌∷◌, ◌≡◌, List, None, Some, [], ap, cond, false, length, not, refl, subst, suc, sym, zero, ℕ}
+use Rattle.std.proofs.Common.{◌++◌, ◌+◌, ◌∙◌, ◌∷◌, ◌≡◌, List, None, Some, [], ap, cond, false, length, not, refl, subst, sym, ℕ}
 use Rattle.std.specs.FinMap.{get, insert}
 use Rattle.alto_words.specs.Fid.{is_system, sys_dir}
 use Rattle.alto_words.specs.declared.fid.Fid.{Fid}
@@ -15,6 +15,7 @@ use Rattle.record_laws.proofs.DirReads.{insert_same}
 use Rattle.record_laws.proofs.Entered.{directory, namings_in-append}
 use Rattle.record_laws.proofs.Entering.{back_slots, dir_leader, enter_reads, front_slots, model_dir}
 use Rattle.record_laws.proofs.Keeping.{get-where}
+use Rattle.record_laws.proofs.SystemEntries.{left_names}
 use Rattle.record_laws.proofs.Viewing.{adopt_shows, view_slots}
 use Rattle.record_laws.specs.EnterLaws.{IsNext, NextEntry}
 
@@ -36,16 +37,12 @@ next_model m l a b total left f x here next ordinary =
     let lo : List Item = left_over left b in
     let old : Model = record m { files = insert m.files sys_dir (directory l (a ++ space 0 ∷ lo)) } in
     let entries_same : namings_in sys_dir (a ++ space 0 ∷ lo) ≡ namings_in sys_dir (a ++ space total ∷ b) =
-    namings_in-append sys_dir a (space 0 ∷ lo) ∙ ap (λ r. namings_in sys_dir a ++ r) (left_names left) ∙ sym (namings_in-append sys_dir a (space total ∷ b)) in
+    namings_in-append sys_dir a (space 0 ∷ lo) ∙ ap (λ r. namings_in sys_dir a ++ r) (left_names sys_dir left b) ∙ sym (namings_in-append sys_dir a (space total ∷ b)) in
     let same : view old ≡ view m = slots_view m sys_dir l (a ++ space total ∷ b) (a ++ space 0 ∷ lo) here entries_same in
     let next_old : IsNext (view old) f x = subst (λ w. IsNext w f x) (sym same) next in
     ap (λ w. settle (view (record m { files = insert m.files sys_dir (directory l (a ++ entry f (chosen w.names x.leader.name) ∷ lo)) }))) (sym same)
     ∙ adopt_shows m.shape m.good m.last m.files sys_dir l (a ++ space total ∷ b) a lo here f x 0 ordinary refl next_old (nameless_model old f ordinary next_old.nameless)
     ∙ ap settle same
-  where
-    left_names : (left : ℕ) → namings_in sys_dir (left_over left b) ≡ namings_in sys_dir b
-    left_names zero = refl
-    left_names (suc n) = refl
 
 -- the next entry that settling adds
 pub next_entry : NextEntry

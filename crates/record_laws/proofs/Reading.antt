@@ -1,5 +1,5 @@
 -- The files that are found in sectors, with their bodies, by their look-ups.
-use Rattle.std.proofs.Common.{◌∙◌, ◌≡◌, List, None, Option, Some, ap, cond, false, refl, sym, true, ℕ}
+use Rattle.std.proofs.Common.{◌∙◌, ◌≡◌, List, None, Some, ap, cond, false, refl, sym, true, ℕ}
 use Rattle.std.specs.FinMap.{FinMap, get, get-insert, insert, same_map}
 use Rattle.std.specs.Option.{option_map}
 use Rattle.alto_words.specs.Fid.{fid_cmp, is_fid}
@@ -12,15 +12,11 @@ use Rattle.pack_model.specs.Stored.{files_shown, stored_file}
 use Rattle.pack_laws.proofs.Keys.{fid_same, fid_total, same_fid}
 use Rattle.pack_laws.proofs.Mapping.{get-map_values}
 use Rattle.pack_laws.proofs.Storing.{get-files_shown}
+use Rattle.pack_laws.proofs.Uses.{map_twice}
 
 -- a file, by its leader and its bytes
 abbrev pub read_file : Fid → List ℕ → Leader → File
 read_file f bytes l = record { leader = l; body = body_of f bytes }
-
--- a change twice is one change
-map_twice : {X Y Z : Type 0} (g : X → Y) (h : Y → Z) (r : Option X) → option_map h (option_map g r) ≡ option_map (λ x. h (g x)) r
-map_twice g h None = refl
-map_twice g h (Some x) = refl
 
 -- a file is found where it has a leader
 pub get-found : (ss : List Sight) (f : Fid) → get (found ss) f ≡ option_map (read_file f (file_bytes ss f)) (leader ss f)
@@ -28,7 +24,7 @@ unfolding found
 get-found ss f =
     get-map_values fid_total fid_same file_of (files_shown ss) f
     ∙ ap (option_map (file_of f)) (get-files_shown ss f)
-    ∙ map_twice (stored_file ss f) (file_of f) (leader ss f)
+    ∙ map_twice (file_of f) (stored_file ss f) (leader ss f)
 
 -- with the same leaders, and the same bytes of each file that lives, the same files are found
 pub found_frame : (ss tt : List Sight) → ((f : Fid) → leader ss f ≡ leader tt f) → ((f : Fid) → (leader ss f ≡ None → ⊥) → file_bytes ss f ≡ file_bytes tt f) → found ss ≡ found tt

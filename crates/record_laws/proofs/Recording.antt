@@ -1,5 +1,5 @@
 -- What sectors show before and after a record is written, by what they carry.
-use Rattle.std.proofs.Common.{◌&&◌, ◌<◌, ◌∙◌, ◌≡◌, Bool, List, Some, ap, false, get_or, length, ltb-true, nat_lt, set, subst, sym, true, ℕ}
+use Rattle.std.proofs.Common.{◌<◌, ◌∙◌, ◌≡◌, List, Some, ap, get_or, length, ltb-true, nat_lt, set, subst, sym, true, ℕ}
 use Rattle.std.proofs.lemmas.Option.{cond_some}
 use Rattle.disk_records.specs.Labels.{Tag, in_range, is_free, page_of, tag}
 use Rattle.disk_records.specs.Packs.{Pack, carried, is_free_at, is_usable, sector_at, with_part}
@@ -9,16 +9,12 @@ use Rattle.pack_model.specs.Sights.Sight.{free, hidden}
 use Rattle.pack_laws.proofs.Guarding.{carried_parts, free_parts, free_shown, named_shown, usable_shown, usable_within}
 use Rattle.pack_laws.proofs.Sighted.{length-sights, sights-get, sights-write}
 use Rattle.record_laws.specs.QuietLaws.{with_label, with_value}
-
--- the last of several tests
-and_last : (a b : Bool) → (a && b) ≡ true → b ≡ true
-and_last true b e = e
-and_last false b e = cc
+use Rattle.record_laws.proofs.Heads.{and_right}
 
 -- a page number is a word
 numbered_below : (t : Tag) → in_range t ≡ true → t.page < 65536
 unfolding in_range
-numbered_below t e = ltb-true t.page 65536 (and_last _ (nat_lt t.page 65536) e)
+numbered_below t e = ltb-true t.page 65536 (and_right _ (nat_lt t.page 65536) e)
 
 -- also in a label
 pub number_below : (label : List ℕ) (page : Page) → page_of label ≡ Some page → page.number < 65536

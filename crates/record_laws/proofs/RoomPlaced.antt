@@ -10,13 +10,13 @@ use Rattle.record_laws.specs.SlotLaws.{FoundIsPlaced, IsPlacedIn, IsSpace}
 
 -- ---- a run
 -- the free slots of a run, and what follows them
-record IsRun (is : List Item) (q : ℕ × List Item) : Type 0 where
-  free : List Item
-  are : is ≡ free ++ q.1
-  are_free : All IsSpace free
-  words : q.0 ≡ all_words free
+pub record IsRun (is : List Item) (q : ℕ × List Item) : Type 0 where
+  pub free : List Item
+  pub are : is ≡ free ++ q.1
+  pub are_free : All IsSpace free
+  pub words : q.0 ≡ all_words free
 
-run_is : (n : ℕ) (is : List Item) (q : ℕ × List Item) → run n is ≡ Some q → IsRun is q
+pub run_is : (n : ℕ) (is : List Item) (q : ℕ × List Item) → run n is ≡ Some q → IsRun is q
 run_is n [] q e = absurd cc
 run_is n (entry f name ∷ is) q e = absurd cc
 run_is n (space k ∷ is) q e = by (nat_le n k) (run (n - k) is) refl e (run_is (n - k) is)

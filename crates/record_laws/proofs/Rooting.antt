@@ -18,8 +18,9 @@ use Rattle.pack_model.specs.Slots.Item.{entry, space}
 use Rattle.pack_model.specs.View.{homes, seen_of, view}
 use Rattle.record_laws.proofs.Around.{around}
 use Rattle.pack_laws.proofs.Keys.{fid_same, fid_total, is_fid-itself}
-use Rattle.record_laws.proofs.Mending.{mended_view, no_left}
+use Rattle.record_laws.proofs.Mending.{mended_view}
 use Rattle.record_laws.proofs.Viewed.{tidied_view}
+use Rattle.record_laws.proofs.Tidying.{or_false_left}
 
 -- ---- slots with no entry
 -- the scan passes them
@@ -38,7 +39,7 @@ bare_names ok d k l is js e f [] before c =
 bare_names ok d k l is js e f (y ∷ a) before c = ap (λ r. body_namings y.0 (body_kept ok y.0 before y.1.body) ++ r) (bare_names ok d k l is js e f a (kept_after_body ok y.0 before y.1.body) c)
 
 -- the last of two values of a key counts
-insert_twice : (m : Files) (f : Fid) (x y : File) → insert (insert m f x) f y ≡ insert m f y
+pub insert_twice : (m : Files) (f : Fid) (x y : File) → insert (insert m f x) f y ≡ insert m f y
 insert_twice m f x y = same_map fid_total fid_same _ _ (λ g. get-insert fid_total (insert m f x) f y g ∙ ap (cond (is_fid g f) (Some y)) (get-insert fid_total m f x g) ∙ at g (is_fid g f) ∙ sym (get-insert fid_total m f y g))
   where
     at : (g : Fid) (b : Bool) → cond b (Some y) (cond b (Some x) (get m g)) ≡ cond b (Some y) (get m g)
@@ -51,7 +52,7 @@ module _ (shape : Shape) (ss tt : List Sight) (is : List Item) (l : Leader) (v :
   -- the files as the Scavenger will find them, but for the slots of SysDir
   root_now : (g : Fid) → is_system g ≡ false → get (rooted (described tt)) g ≡ get (rooted (described ss)) g
   root_now g e =
-      let other : is_fid g sys_dir ≡ false = no_left (is_fid g sys_dir) (is_fid g disk_descriptor) e in
+      let other : is_fid g sys_dir ≡ false = or_false_left (is_fid g sys_dir) (is_fid g disk_descriptor) e in
       get-insert fid_total (described tt) sys_dir _ g
       ∙ ap (λ b. cond b (Some (root_file (root_body (get (described tt) sys_dir)))) (get (described tt) g)) other
       ∙ others g other

@@ -15,7 +15,7 @@ named_skip names [] b h = refl
 named_skip names (e ∷ a) b h = ap (λ c. settled (cond c names (given names e.0 e.1)) (a ++ b)) h.0 ∙ named_skip names a b h.1
 
 -- a value more
-some_more : (b : Bool) (h : Home) (r : Option Home) → is_some r ≡ true → is_some (cond b (Some h) r) ≡ true
+pub some_more : (b : Bool) (h : Home) (r : Option Home) → is_some r ≡ true → is_some (cond b (Some h) r) ≡ true
 some_more true h r e = refl
 some_more false h r e = e
 

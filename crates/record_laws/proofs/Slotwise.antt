@@ -1,6 +1,7 @@
 -- Slots in the place of slots: those before and behind stay.
 use Rattle.std.proofs.Common.{◌%◌, ◌++◌, ◌+◌, ◌-◌, ◌<◌, ◌∙◌, ◌∷◌, ◌≡◌, ◌≤◌, List, None, Some, [], ap, append_assoc, arith, cond, drop, eq-eqb, get_or-drop, inl, length, length-append, length-drop, refl, sym, take, ℕ}
 use Rattle.std.proofs.lemmas.List.{drop-drop, get_or-append_right, get_or-take, get_or_append_left, length-take-le}
+use Rattle.alto_words.specs.declared.fid.Fid.{Fid}
 use Rattle.disk_records.specs.Words.{word}
 use Rattle.pack_model.specs.Bytes.{put_at}
 use Rattle.pack_model.specs.Slots.{Item, all_words, is_entry, item_words, slot_at, slot_fid, slot_name, slots}
@@ -42,6 +43,10 @@ put_behind at new old k fits l =
 pub words-append : (a b : List Item) → all_words (a ++ b) ≡ all_words a + all_words b
 words-append [] b = omega arith
 words-append (i ∷ a) b = let r = words-append a b in omega arith
+
+-- those of one entry
+pub one_word : (f : Fid) (name : List ℕ) → all_words (entry f name ∷ []) ≡ item_words (entry f name)
+one_word f name = omega arith
 
 -- what follows the first slots
 pub slots_behind : (place : ℕ) (words : List ℕ) (a b : List Item) → slots (drop place words) ≡ a ++ b → slots (drop (place + all_words a) words) ≡ b

@@ -1,5 +1,5 @@
 -- The entry of a system file is entered: what is viewed stays.
-use Rattle.std.proofs.Common.{◌++◌, ◌+◌, ◌||◌, ◌∙◌, ◌∷◌, ◌≡◌, Bool, List, Some, [], ap, false, length, refl, suc, sym, true, zero, ℕ}
+use Rattle.std.proofs.Common.{◌++◌, ◌+◌, ◌||◌, ◌∙◌, ◌∷◌, ◌≡◌, Bool, List, Some, [], ap, arith, false, length, refl, suc, sym, true, zero, ℕ}
 use Rattle.std.specs.FinMap.{find, get, insert}
 use Rattle.alto_words.specs.Fid.{disk_descriptor, fid_cmp, is_fid, is_system, sys_dir}
 use Rattle.alto_words.specs.declared.fid.Fid.{Fid}
@@ -22,13 +22,23 @@ use Rattle.record_laws.proofs.Entered.{directory}
 use Rattle.record_laws.proofs.EnterSlots.{slots_entered}
 use Rattle.record_laws.proofs.Fitting.{fits_own, fits_root}
 use Rattle.pack_laws.proofs.Keys.{same_fid}
-use Rattle.record_laws.proofs.Mending.{no_left, no_right}
 use Rattle.record_laws.proofs.Scanned.{kept_before, scan_same}
 use Rattle.record_laws.proofs.Viewed.{name_left}
 use Rattle.record_laws.specs.DirLaws.{SystemEntry, entered}
+use Rattle.record_laws.proofs.Tidying.{or_false_left, or_false_right}
 
--- words left over are a free slot, or none
-left_split : (left : ℕ) (b : List Item) → left_over left b ≡ left_over left [] ++ b
+-- words left over have no entry
+pub left_names : (d : Fid) (left : ℕ) (b : List Item) → namings_in d (left_over left b) ≡ namings_in d b
+left_names d zero b = refl
+left_names d (suc n) b = refl
+
+-- and as many words as they are
+pub left_words : (left : ℕ) (b : List Item) → all_words (left_over left b) ≡ left + all_words b
+left_words zero b = omega arith
+left_words (suc n) b = refl
+
+-- they are a free slot, or none
+pub left_split : (left : ℕ) (b : List Item) → left_over left b ≡ left_over left [] ++ b
 left_split zero b = refl
 left_split (suc n) b = refl
 
@@ -46,10 +56,10 @@ name_aside v files d l is a b f name n system here q other = by (is_fid f sys_di
     by false false x y e = cc
     by true y e0 e1 e =
         ap (λ g. name_left v (insert files d (directory l (a ++ entry g name ∷ b))) q) (same_fid f sys_dir e0)
-        ∙ names_aside sys_dir sys_dir_name fits_root v files d l is a b name n here q (no_left (is_fid q sys_dir) (is_fid q disk_descriptor) other)
+        ∙ names_aside sys_dir sys_dir_name fits_root v files d l is a b name n here q (or_false_left (is_fid q sys_dir) (is_fid q disk_descriptor) other)
     by false true e0 e1 e =
         ap (λ g. name_left v (insert files d (directory l (a ++ entry g name ∷ b))) q) (same_fid f disk_descriptor e1)
-        ∙ names_aside disk_descriptor descriptor_name fits_own v files d l is a b name n here q (no_right (is_fid q sys_dir) (is_fid q disk_descriptor) other)
+        ∙ names_aside disk_descriptor descriptor_name fits_own v files d l is a b name n here q (or_false_right (is_fid q sys_dir) (is_fid q disk_descriptor) other)
 
 -- the entry of a system file
 pub system_entry : SystemEntry

@@ -7,7 +7,7 @@ use Rattle.alto_words.specs.Fid.{disk_descriptor, is_fid, is_system, sys_dir}
 use Rattle.alto_words.specs.declared.fid.Fid.{Fid}
 use Rattle.disk_records.specs.Packs.{Pack}
 use Rattle.pack_model.specs.Bodies.{Files, described, found, is_described}
-use Rattle.pack_model.specs.Files.{file_bytes, joined, leader, leader_at, lives, most_pages, page_at}
+use Rattle.pack_model.specs.Files.{file_bytes, leader, leader_at, lives, page_at}
 use Rattle.pack_model.specs.Leaders.{Leader}
 use Rattle.pack_model.specs.Mended.{mended, root_body, root_file, rooted, with_system}
 use Rattle.pack_model.specs.Model.{good_sectors, read_sights}
@@ -18,8 +18,8 @@ use Rattle.pack_model.specs.View.{view}
 use Rattle.pack_laws.proofs.Firsts.{first_same}
 use Rattle.pack_laws.proofs.Keys.{fid_same, fid_total, same_fid}
 use Rattle.record_laws.proofs.Describing.{view_files}
-use Rattle.record_laws.proofs.Framing.{lives_same}
-use Rattle.record_laws.proofs.Keeping.{get-where}
+use Rattle.record_laws.proofs.Framing.{bytes_same, lives_same}
+use Rattle.record_laws.proofs.Keeping.{described_kept, get-where}
 use Rattle.record_laws.proofs.Mending.{mended_view}
 use Rattle.record_laws.proofs.Reading.{get_alike}
 use Rattle.record_laws.proofs.Staying.{FilesStay}
@@ -68,8 +68,7 @@ only_free f = record { no_page = λ g n. refl; no_other = λ g e. refl }
 module _ (ss : List Sight) (i : ℕ) (f : Fid) (s : Sight) (was : OnlyLeader f (get_or ss i hidden)) (now : OnlyLeader f s) where
   -- the bytes of all files stay
   pub bytes_kept : (g : Fid) → file_bytes (set ss i s) g ≡ file_bytes ss g
-  unfolding file_bytes
-  bytes_kept g = ap (joined most_pages) (fun_ext (λ n. first_same (page_at g n) ss i s hidden (now.no_page g n ∙ sym (was.no_page g n))))
+  bytes_kept g = bytes_same ss i s g (λ n. now.no_page g n ∙ sym (was.no_page g n))
 
   -- and the leaders of all others
   leaders_kept : (g : Fid) → is_fid g f ≡ false → leader (set ss i s) g ≡ leader ss g
@@ -85,16 +84,6 @@ module _ (ss : List Sight) (i : ℕ) (f : Fid) (s : Sight) (was : OnlyLeader f (
     | true ↦ λ e. (let y : is_system g ≡ true = ap is_system (same_fid g f e) ∙ system in ap (λ b. cond b true (lives (set ss i s) g)) y ∙ sym (ap (λ b. cond b true (lives ss g)) y))
     | false ↦ λ e. ap (λ r. cond (is_system g) true (is_some r)) (leaders_kept g e)
   ] refl)
-
--- DiskDescriptor is left out of the files
-pub described_kept : (ss tt : List Sight) → ((g : Fid) → is_fid g disk_descriptor ≡ false → get (found tt) g ≡ get (found ss) g) → described tt ≡ described ss
-described_kept ss tt e = same_map fid_total fid_same _ _ (λ g. get-where (found tt) is_described g ∙ at g ∙ sym (get-where (found ss) is_described g))
-  where
-    at : (g : Fid) → cond (is_described g) (get (found tt) g) None ≡ cond (is_described g) (get (found ss) g) None
-    at g = elim (is_fid g disk_descriptor) as (λ b. is_fid g disk_descriptor ≡ b → cond (not b) (get (found tt) g) None ≡ cond (not b) (get (found ss) g) None) [
-      | true ↦ λ is. refl
-      | false ↦ λ is. e g is
-    ] refl
 
 -- a leader of DiskDescriptor comes, goes or changes
 pub descriptor_leads : (ss : List Sight) (i : ℕ) (s : Sight) → OnlyLeader disk_descriptor (get_or ss i hidden) → OnlyLeader disk_descriptor s → mended_files (set ss i s) ≡ mended_files ss

@@ -1,7 +1,8 @@
 -- Tidy files: the scan changes nothing, and a slot may change.
-use Rattle.std.proofs.Common.{◌&&◌, ◌++◌, ◌||◌, ◌∙◌, ◌∷◌, ◌≡◌, Bool, List, [], ap, cond, false, not, refl, sym, true}
+use Rattle.std.proofs.Common.{◌&&◌, ◌++◌, ◌||◌, ◌∙◌, ◌∷◌, ◌≡◌, Bool, List, None, Option, Some, [], ap, cond, false, not, refl, sym, true}
 use Rattle.std.specs.FinMap.{entries, find, get-entries, get-from_entries, same_map}
 use Rattle.std.specs.List.{list_any}
+use Rattle.std.specs.Option.{is_some, option_map}
 use Rattle.alto_words.specs.Fid.{fid_cmp}
 use Rattle.alto_words.specs.declared.fid.Fid.{Fid}
 use Rattle.pack_model.specs.Bodies.{Body, File, Files}
@@ -53,6 +54,12 @@ pub tidy_same : (lives : Fid → Bool) (files : Files) → IsTidy lives files �
 unfolding tidied
 tidy_same lives files h = same_map fid_total fid_same _ _ (λ g.
     get-from_entries fid_total _ g ∙ ap (λ es. find fid_cmp g es) (files_all_kept (is_kept lives) [] (entries files) h) ∙ sym (get-entries files g))
+
+-- ---- an answer made from another
+-- it is there where that is
+pub some_map : {X Y : Type 0} (g : X → Y) (r : Option X) → is_some (option_map g r) ≡ is_some r
+some_map g None = refl
+some_map g (Some x) = refl
 
 -- ---- one entry less, or one more
 pub or_false_left : (a b : Bool) → (a || b) ≡ false → a ≡ false

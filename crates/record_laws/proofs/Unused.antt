@@ -138,9 +138,6 @@ data_release : (p : Pack) (at n : ℕ) (f : Fid) (label : List ℕ) → carried 
     → is_fid f disk_descriptor ≡ false → counts p.shape (sights p) f (suc n) ≡ false → Stays p (with_label p at label)
 data_release p at n f label is only none other uncounted = by (leader (sights p) f) refl
   where
-    ss : List Sight
-    ss = sights p
-
     by : (r : Option Leader) → leader (sights p) f ≡ r → Stays p (with_label p at label)
     by None e = unread_release p at (record { fid = f; number = suc n }) label is none (leaderless e other (omega arith))
     by (Some l) e = kind (is_directory f) refl

@@ -9,11 +9,15 @@ use Rattle.pack_model.specs.Bodies.Body.{data_of, items_of}
 use Rattle.pack_model.specs.Namings.{Naming, body_kept, body_namings, clashes, files_kept, fits, is_kept, is_own, items_kept, kept_after, kept_after_body, namings, namings_in}
 use Rattle.pack_model.specs.Slots.{Item, item_words}
 use Rattle.pack_model.specs.Slots.Item.{entry, space}
-use Rattle.record_laws.proofs.Dropping.{others}
+use Rattle.record_laws.proofs.Dropping.{others, others-append}
 use Rattle.record_laws.proofs.Fitting.{same_sym, same_trans}
 use Rattle.record_laws.proofs.Heads.{and_left, and_right}
 use Rattle.pack_laws.proofs.Keys.{same_fid}
 use Rattle.record_laws.proofs.Tidying.{or_false}
+
+-- what is kept fits
+pub kept_fits : (v : Fid → Bool) (b : List Naming) (e : Naming) → is_kept v b e ≡ true → fits e ≡ true
+kept_fits v b e k = and_right (v e.fid) (fits e) (and_left _ (not (list_any (clashes e) b)) k)
 
 module _ (sf : Fid) (sname : List ℕ) (own_name : (e : Naming) → fits e ≡ true → is_fid e.fid sf ≡ is_own sname e) where
   -- another naming that fits doesn't clash with it
@@ -63,10 +67,6 @@ module _ (sf : Fid) (sname : List ℕ) (own_name : (e : Naming) → fits e ≡ t
             nothing : (l x y : Bool) → ((l && false) && x) ≡ ((l && false) && y)
             nothing true x y = refl
             nothing false x y = refl
-
-    -- what is kept fits
-    own_kept : (b : List Naming) (e : Naming) → is_kept (with_one lives) b e ≡ true → fits e ≡ true
-    own_kept b e k = and_right (with_one lives e.fid) (fits e) (and_left _ (not (list_any (clashes e) b)) k)
 
     -- both in one
     ok_cond : (b : List Naming) (e : Naming) → OwnFit b → is_kept lives (others sf b) e ≡ cond (is_fid e.fid sf) false (is_kept (with_one lives) b e)
@@ -129,21 +129,13 @@ module _ (sf : Fid) (sname : List ℕ) (own_name : (e : Naming) → fits e ≡ t
         subst (λ c. Same d (namings_in d (one_item d f name c ∷ items_kept (is_kept lives) d (more e (others sf b) c) is)) (kept_after (is_kept lives) d (more e (others sf b) c) is)
         (namings_in d (one_item d f name (is_kept (with_one lives) b e) ∷ items_kept (is_kept (with_one lives)) d (more e b (is_kept (with_one lives) b e)) is)) (kept_after (is_kept (with_one lives)) d (more e b (is_kept (with_one lives) b e)) is))
         (sym (ok_cond b e own))
-        (by_case d f name is b own (λ b o. items_alike d is b o) (is_fid f sf) (is_kept (with_one lives) b e) refl (own_kept b e))
+        (by_case d f name is b own (λ b o. items_alike d is b o) (is_fid f sf) (is_kept (with_one lives) b e) refl (kept_fits (with_one lives) b e))
 
     -- bodies
     bodies_alike : (d : Fid) (x : Body) (b : List Naming) → OwnFit b → Same d (body_namings d (body_kept (is_kept lives) d (others sf b) x)) (kept_after_body (is_kept lives) d (others sf b) x)
         (body_namings d (body_kept (is_kept (with_one lives)) d b x)) (kept_after_body (is_kept (with_one lives)) d b x)
     bodies_alike d (data_of bytes) b own = record { names = refl; state = refl; own = own }
     bodies_alike d (items_of is) b own = items_alike d is b own
-
-    -- lists one after another
-    pub others-append : (a b : List Naming) → others sf (a ++ b) ≡ others sf a ++ others sf b
-    others-append [] b = refl
-    others-append (x ∷ a) b = elim (is_fid x.fid sf) as (λ c. cond c (others sf (a ++ b)) (x ∷ others sf (a ++ b)) ≡ cond c (others sf a) (x ∷ others sf a) ++ others sf b) [
-      | true ↦ others-append a b
-      | false ↦ ap (λ r. x ∷ r) (others-append a b)
-    ]
 
     -- all entries of other files are kept as before
     pub names_alike : (es : List (Fid × File)) (b : List Naming) → OwnFit b → namings (files_kept (is_kept lives) (others sf b) es) ≡ others sf (namings (files_kept (is_kept (with_one lives)) b es))
@@ -154,4 +146,4 @@ module _ (sf : Fid) (sname : List ℕ) (own_name : (e : Naming) → fits e ≡ t
         ap (λ x. x ++ namings (files_kept (is_kept lives) (kept_after_body (is_kept lives) e.0 (others sf b) e.1.body) es)) r.names
         ∙ ap (λ s. others sf (body_namings e.0 (body_kept (is_kept (with_one lives)) e.0 b e.1.body)) ++ namings (files_kept (is_kept lives) s es)) r.state
         ∙ ap (λ x. others sf (body_namings e.0 (body_kept (is_kept (with_one lives)) e.0 b e.1.body)) ++ x) (names_alike es after r.own)
-        ∙ sym (others-append (body_namings e.0 (body_kept (is_kept (with_one lives)) e.0 b e.1.body)) (namings (files_kept (is_kept (with_one lives)) after es)))
+        ∙ sym (others-append sf (body_namings e.0 (body_kept (is_kept (with_one lives)) e.0 b e.1.body)) (namings (files_kept (is_kept (with_one lives)) after es)))

@@ -98,7 +98,7 @@ none_lacking shape ss w named =
     ∙ none_given (view m).names (entries (view m).files) (each_entry (λ f x. contains_key (view m).names f ≡ true) (view m).files (names_all shape ss named))
 
 -- no entry needs no page
-no_widening : (is : List Item) → widens is [] ≡ 0
+pub no_widening : (is : List Item) → widens is [] ≡ 0
 unfolding widens
 no_widening is = refl
 

@@ -26,6 +26,7 @@ use Rattle.record_laws.proofs.Slotwise.{words-append}
 use Rattle.room_laws.proofs.FilesPages.{gone_pages, pages_of, updated_pages}
 use Rattle.room_laws.proofs.BodyKinds.{HasKinds, is_data}
 use Rattle.room_laws.specs.UseLaws.{MayBeDone, pages_freed}
+use Rattle.pack_laws.proofs.Placing.{none_of_false}
 
 -- ---- slots keep their words
 -- where an entry leaves
@@ -38,14 +39,15 @@ left_words name (entry f own ∷ is) = by (left_words name is) (is_same_name own
     by again true = refl
     by again false = ap (λ k. item_words (entry f own) + k) again
 
--- where the entries of a file do
+-- one slot does where the entries of a file leave
+pub item_kept : (f : Fid) (i : Item) → item_words (item_without f i) ≡ item_words i
+item_kept f (space n) = refl
+item_kept f (entry g name) = elim (is_fid g f) as (λ b. item_words (cond b (space (item_words (entry g name))) (entry g name)) ≡ item_words (entry g name)) [ true ↦ refl | false ↦ refl ]
+
+-- so all do
 without_words : (f : Fid) (is : List Item) → all_words (items_without f is) ≡ all_words is
 without_words f [] = refl
-without_words f (i ∷ is) = let here = one i in let rest = without_words f is in omega arith
-  where
-    one : (i : Item) → item_words (item_without f i) ≡ item_words i
-    one (space n) = refl
-    one (entry g name) = elim (is_fid g f) as (λ b. item_words (cond b (space (item_words (entry g name))) (entry g name)) ≡ item_words (entry g name)) [ true ↦ refl | false ↦ refl ]
+without_words f (i ∷ is) = let here = item_kept f i in let rest = without_words f is in omega arith
 
 -- where an item is placed, or has no room
 entered_words : (i : Item) (is : List Item) → all_words (items_entered i is) ≡ all_words is
@@ -82,11 +84,6 @@ there : (r : Option File) → is_some r ≡ true → (x : File) × (r ≡ Some x
 there None e = absurd cc
 there (Some x) e = (x, refl)
 
--- a file that isn't
-gone : (r : Option File) → is_some r ≡ false → r ≡ None
-gone None e = refl
-gone (Some x) e = cc
-
 -- a body of bytes
 data_body : (b : Body) → is_data b ≡ true → (bytes : List ℕ) × (b ≡ data_of bytes)
 data_body (data_of bytes) e = (bytes, refl)
@@ -113,7 +110,7 @@ module _ (m : Model) (kinds : HasKinds m) where
 
   -- what an operation adds, and what it frees
   pub step_pages : (o : Operation) → MayBeDone m o → files_pages (entries (step m o).files) + pages_freed m o ≡ files_pages (entries m.files) + pages_for_operation m o
-  step_pages (make f name moment) fit = let h = new_pages m.files f (new_file f name moment) (gone (get m.files f) fit) in let two = first_pages f in omega arith
+  step_pages (make f name moment) fit = let h = new_pages m.files f (new_file f name moment) (none_of_false (get m.files f) fit) in let two = first_pages f in omega arith
   step_pages (put f offset new) fit = bytes_pages f (put_at offset new) 0 0 fit.0 (λ bytes e. let l = fit.1 in ap (λ n. pages_for n + 0) (length-put_at offset new bytes (omega arith))) (λ none. refl)
   step_pages (grow f new) fit = bytes_pages f (λ bytes. bytes ++ new) 0 (pages_added (length_of m f) (length new)) fit.0 (λ bytes e. let l = length-append bytes new in omega arith) (λ none. absurd (let n : false ≡ true = sym (ap is_some none) ∙ fit.1 in cc))
   step_pages (cut f n) fit = bytes_pages f (take n) (pages_cut (length_of m f) n) 0 fit.0 (λ bytes e. let low = fit.1 in let l : length (take n bytes) ≡ n = length-take-le n bytes (omega arith) in omega arith) (λ none. let low = fit.1 in let z : length_of m f ≡ 0 = ap length_in none in omega arith)

@@ -5,7 +5,6 @@ use mathlib.Core.Path.{fun_ext}
 use Rattle.std.proofs.lemmas.Bool.{cases_lt}
 use Rattle.std.proofs.lemmas.List.{get_or_past}
 use Rattle.std.specs.FinMap.{entries, entries-insert, get, get-insert, insert}
-use Rattle.std.specs.List.{list_any}
 use Rattle.std.specs.Option.{is_some}
 use Rattle.alto_words.specs.Fid.{disk_descriptor, is_fid, sys_dir}
 use Rattle.alto_words.specs.declared.fid.Fid.{Fid}
@@ -15,13 +14,12 @@ use Rattle.pack_model.specs.Files.{file_bytes, leader, leader_at, lives}
 use Rattle.pack_model.specs.Leaders.{Leader}
 use Rattle.pack_model.specs.Mended.{HasRoom, lacking, mended, needs, root_body, root_file, rooted, widens, with_system}
 use Rattle.pack_model.specs.Model.{Model, descriptor_pages, files_pages, read_sights, root_items}
-use Rattle.pack_model.specs.Namings.{Naming, descriptor_name, namings, sys_dir_name, tidied}
+use Rattle.pack_model.specs.Namings.{namings, tidied}
 use Rattle.pack_model.specs.Scavenging.{root_stands}
-use Rattle.pack_model.specs.Settling.{given_names, unless}
 use Rattle.pack_model.specs.Sights.{Sight, sights}
 use Rattle.pack_model.specs.Sights.Sight.{hidden, leads}
 use Rattle.pack_model.specs.Slots.{Item}
-use Rattle.pack_model.specs.View.{View, view}
+use Rattle.pack_model.specs.View.{view}
 use Rattle.count_laws.proofs.DirRooted.{zeros}
 use Rattle.count_laws.proofs.Needing.{pages_around}
 use Rattle.count_laws.proofs.Rooming.{counts_hold}
@@ -36,11 +34,9 @@ use Rattle.record_laws.proofs.Mending.{mended_view}
 use Rattle.record_laws.proofs.Reading.{get_by, read_file}
 use Rattle.record_laws.proofs.Systemic.{described_get, mended_files}
 use Rattle.room_laws.specs.RoomLaws.{ScavengeableByModel}
+use Rattle.count_laws.proofs.RootTurns.{listed}
 
 -- ---- what is lacking, by the entries and the view
-abbrev listed : List Naming → View → List (Fid × List ℕ)
-listed ns v = unless (list_any (λ n. is_fid n.fid sys_dir) ns) (sys_dir, sys_dir_name) (unless (list_any (λ n. is_fid n.fid disk_descriptor) ns) (disk_descriptor, descriptor_name) (given_names v.names (entries v.files)))
-
 -- so it is the same with the same ones
 lacking_same : (m n : Model) → namings (entries m.files) ≡ namings (entries n.files) → view m ≡ view n → lacking m ≡ lacking n
 unfolding lacking

@@ -1,6 +1,5 @@
 -- Where each file lies as a whole one does, all sectors say the sentences.
-use Rattle.std.proofs.Common.{◌&&◌, ◌+◌, ◌/◌, ◌<◌, ◌∙◌, ◌∷◌, ◌≡◌, ◌≤◌, ◌⊎◌, Bool, List, None, Option, Some, [], ap, arith, eq-eqb, false, get_or, inl, inr, le-leb, le-ltb, length, not, refl, suc, sym, true, zero, ℕ}
-use Rattle.std.proofs.lemmas.List.{get_or_default}
+use Rattle.std.proofs.Common.{◌&&◌, ◌+◌, ◌/◌, ◌<◌, ◌∙◌, ◌≡◌, ◌≤◌, ◌⊎◌, List, None, Option, Some, [], ap, arith, eq-eqb, get_or, inl, inr, le-leb, le-ltb, length, not, refl, suc, sym, true, zero, ℕ}
 use Rattle.std.specs.Option.{is_some}
 use Rattle.alto_words.specs.declared.fid.Fid.{Fid}
 use Rattle.disk_records.specs.Packs.{Pack}
@@ -10,53 +9,13 @@ use Rattle.pack_model.specs.Leaders.{Leader}
 use Rattle.pack_model.specs.Sentences.{HasLastPage, HasReadableName, IsWholeBySentences}
 use Rattle.pack_model.specs.Sights.{Sight, sights}
 use Rattle.pack_model.specs.Sights.Sight.{free, hidden, holds, leads, stray}
-use Rattle.pack_model.specs.Whole.{Carries, FileWhole, Headless, IsLaid, IsSeat, Leads, PageAt, Whole, absent, present}
+use Rattle.pack_model.specs.Whole.{Carries, FileWhole, Headless, IsLaid, Leads, PageAt, Whole, absent, present}
 use Rattle.pack_laws.proofs.Joining.{Reaches, is_full, length-joined}
 use Rattle.pack_laws.proofs.Keys.{is_fid-itself}
-use Rattle.pack_laws.proofs.Placing.{carries-holds, leader_of_place, page_of_place, place_from, place_of_leader, short_pages, shows_carried, shows_led}
+use Rattle.pack_laws.proofs.Placing.{carries-holds, leader_of_place, page_of_place, place_of_leader, short_pages, shows_carried, shows_led}
+use Rattle.whole_laws.proofs.Carried.{carried_once, place_of_carried, seat_in}
 use Rattle.whole_laws.proofs.Ends.{EndsFit, counts_is}
-use Rattle.whole_laws.proofs.Seats.{laid_full, laid_last, laid_some, one_seat, seat, seat_number, seat_shows}
-
--- ---- one sector a page
--- a sector that carries a page is one of the list
-carries_within : (ss : List Sight) (f : Fid) (n i : ℕ) → carries_page f n (get_or ss i hidden) ≡ true → i < length ss
-carries_within [] f n i e = absurd cc
-carries_within (s ∷ ss) f n zero e = omega arith
-carries_within (s ∷ ss) f n (suc i) e = let l = carries_within ss f n i e in omega arith
-
--- a test that can't hold
-not_true : (b : Bool) → (b ≡ true → ⊥) → b ≡ false
-not_true true never = absurd (never refl)
-not_true false never = refl
-
-module _ (ss : List Sight) (f : Fid) where
-  -- a page is among those that carry the file
-  seat_in : (pages : List PageAt) → Carries ss f pages 0 [] → (n i : ℕ) (b : List ℕ) → get_or ss i hidden ≡ holds f n b → IsSeat 0 pages n i
-  seat_in pages c n i b e = elim (c.only i n b e) [ inl s ↦ s | inr s ↦ absurd s ]
-
-  -- one sector carries a page of a whole file
-  carried_once : FileWhole ss f → (n i j : ℕ) → carries_page f n (get_or ss i hidden) ≡ true → carries_page f n (get_or ss j hidden) ≡ true → i ≡ j
-  carried_once (absent headless c) zero i j a b = let x = shows_led f (get_or ss i hidden) a in absurd (headless i x.0 x.1 x.2)
-  carried_once (absent headless c) (suc n) i j a b = let x = shows_carried f n (get_or ss i hidden) a in absurd (seat_in [] c n i x.0 x.1)
-  carried_once (present at l pages h c laid few) zero i j a b =
-      let x = shows_led f (get_or ss i hidden) a in
-      let y = shows_led f (get_or ss j hidden) b in
-      h.only i x.0 x.1 x.2 ∙ sym (h.only j y.0 y.1 y.2)
-  carried_once (present at l pages h c laid few) (suc n) i j a b =
-      let x = shows_carried f n (get_or ss i hidden) a in
-      let y = shows_carried f n (get_or ss j hidden) b in
-      one_seat 0 pages n i j (seat_in pages c n i x.0 x.1) (seat_in pages c n j y.0 y.1)
-
-  -- it is the page's place
-  place_of_carried : FileWhole ss f → (n i : ℕ) → carries_page f n (get_or ss i hidden) ≡ true → place ss f n ≡ Some i
-  place_of_carried whole n i e =
-      let l = carries_within ss f n i e in
-      place_from ss f n i (record {
-        within = l;
-        carries = λ d. ap (carries_page f n) (get_or_default ss i d hidden l) ∙ e;
-        lowest = λ j d low. not_true (carries_page f n (get_or ss j d)) (λ is.
-            let same = carried_once whole n j i (ap (carries_page f n) (sym (get_or_default ss j d hidden (omega arith))) ∙ is) e in omega arith);
-      })
+use Rattle.whole_laws.proofs.Seats.{laid_full, laid_last, laid_some, seat, seat_number, seat_shows}
 
 -- ---- a file that lies as a whole one
 module _ (p : Pack) (f : Fid) (at : ℕ) (l : Leader) (pages : List PageAt) (h : Leads (sights p) f at true l) (c : Carries (sights p) f pages 0 []) (laid : IsLaid pages) (few : length pages ≤ most_pages) where

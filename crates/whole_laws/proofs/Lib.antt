@@ -1,4 +1,5 @@
 pub mod AllSectors
+pub mod Carried
 pub mod Ends
 pub mod LyingFiles
 pub mod Rows

@@ -1,5 +1,5 @@
 -- Where all sectors say the sentences each file lies as a whole one does.
-use Rattle.std.proofs.Common.{◌&&◌, ◌+◌, ◌/◌, ◌<◌, ◌∙◌, ◌≡◌, ◌≤◌, Bool, List, None, Option, Some, [], ap, arith, eqb-true, false, get_or, inl, inr, leb-true, length, ltb-false, refl, subst, suc, sym, true, ℕ}
+use Rattle.std.proofs.Common.{◌&&◌, ◌+◌, ◌/◌, ◌<◌, ◌∙◌, ◌≡◌, ◌≤◌, Bool, List, None, Option, Some, [], ap, arith, false, get_or, inl, inr, leb-true, length, ltb-false, refl, subst, suc, sym, true, ℕ}
 use Rattle.std.proofs.lemmas.Bool.{cases_eq, not-true}
 use Rattle.std.specs.Option.{is_some}
 use Rattle.std.specs.Prelude.{nat_lt}
@@ -17,6 +17,7 @@ use Rattle.pack_laws.proofs.Joining.{Reaches, content, is_full, length-joined}
 use Rattle.pack_laws.proofs.Placing.{leader_of_place, page_of_place, place_of_leader, place_of_page, short_pages}
 use Rattle.record_laws.proofs.Heads.{and_left, and_right}
 use Rattle.record_laws.proofs.Lasting.{reaches_end}
+use Rattle.whole_laws.proofs.Carried.{place_by}
 use Rattle.whole_laws.proofs.Ends.{EndsFit, counts_is, counts_none, number_few}
 use Rattle.whole_laws.proofs.Rows.{length-row, page_in, row, row_laid, row_seat, row_seated, sector_of}
 
@@ -24,11 +25,6 @@ use Rattle.whole_laws.proofs.Rows.{length-row, page_in, row, row_laid, row_seat,
 there : {X : Type 0} (r : Option X) → is_some r ≡ true → (x : X) × (r ≡ Some x)
 there None e = absurd cc
 there (Some x) e = (x, refl)
-
--- a place by its test
-place_by : (i : ℕ) (r : Option ℕ) → is_place i r ≡ true → r ≡ Some i
-place_by i None e = absurd cc
-place_by i (Some j) e = ap Some (sym (eqb-true i j e))
 
 -- a full page of at most 512 bytes has 512
 full_page : (r : Option (List ℕ)) → ((b : List ℕ) → r ≡ Some b → length b ≤ 512) → is_full r ≡ true → (b : List ℕ) × (r ≡ Some b) × (length b ≡ 512)

@@ -1,5 +1,5 @@
 -- The seats of a file's pages, by their numbers.
-use Rattle.std.proofs.Common.{◌+◌, ◌<◌, ◌∙◌, ◌≡◌, ◌∷◌, List, [], ap, arith, get_or, inl, inr, length, ltb-true, refl, suc, sym, zero, ℕ}
+use Rattle.std.proofs.Common.{◌+◌, ◌<◌, ◌∙◌, ◌≡◌, ◌∷◌, List, [], ap, arith, get_or, inl, inr, length, ltb-true, refl, suc, zero, ℕ}
 use Rattle.alto_words.specs.declared.fid.Fid.{Fid}
 use Rattle.pack_model.specs.Sights.{Sight}
 use Rattle.pack_model.specs.Sights.Sight.{hidden, holds}
@@ -24,17 +24,7 @@ seat_number k (c ∷ cs) m i h = elim h [
   | inr q ↦ let r = seat_number (suc k) cs m i q in let l = r.within in let e = r.page_is in record { number = suc r.number; within = omega arith; page_is = omega arith; sector_is = r.sector_is }
 ]
 
--- so each page has one
-pub one_seat : (k : ℕ) (cs : List PageAt) (m i j : ℕ) → IsSeat k cs m i → IsSeat k cs m j → i ≡ j
-one_seat k cs m i j a b =
-    let x = seat_number k cs m i a in
-    let y = seat_number k cs m j b in
-    let e = x.page_is in
-    let d = y.page_is in
-    let same : x.number ≡ y.number = omega arith in
-    x.sector_is ∙ ap (λ n. (seat cs n).0) same ∙ sym y.sector_is
-
--- what it shows
+-- what page j of them shows
 pub seat_shows : (ss : List Sight) (f : Fid) (k : ℕ) (cs : List PageAt) (j : ℕ) → j < length cs → Seated ss f k cs → get_or ss (seat cs j).0 hidden ≡ holds f (k + j) (seat cs j).1
 seat_shows ss f k [] j l h = absurd (omega arith)
 seat_shows ss f k (c ∷ cs) zero l h = let z : k ≡ k + 0 = omega arith in h.0 ∙ ap (λ n. holds f n c.1) z

@@ -3,7 +3,6 @@ use Rattle.std.proofs.Common.{List, Some, [], ap, append-nil, append_assoc, arit
 use Rattle.std.proofs.lemmas.Bool.{cases_lt, lt-ltb}
 use Rattle.std.proofs.lemmas.List.{length-append, length-drop, length-take, take_all}
 use Rattle.std.proofs.lemmas.List.Elements.{All-append, All-drop, All-take}
-use Rattle.std.specs.Prelude.{All}
 use Rattle.alto_words.specs.declared.fid.Fid.{Fid}
 use Rattle.disk_records.specs.Addresses.{pages_of}
 use Rattle.disk_records.specs.Labels.{page_of, tag}
@@ -25,7 +24,7 @@ use Rattle.operation_laws.proofs.Wording.{relabelled_words}
 use Rattle.operation_laws.specs.ByteLaws.{together}
 use Rattle.written_laws.proofs.FewPages.{few_pages}
 use Rattle.written_laws.proofs.Filled.{take-put_before, take-put_front}
-use Rattle.written_laws.proofs.FreshPages.{Hold, claims_able, claims_hold, free_in, in_pages, pages_laid, pages_together}
+use Rattle.written_laws.proofs.FreshPages.{Hold, behind_below, claims_able, claims_hold, free_in, in_pages, pages_laid, pages_together}
 use Rattle.written_laws.proofs.Labels.{placed_label, placed_name}
 use Rattle.written_laws.specs.FileWords.{CanGrow, GrownWords}
 
@@ -87,10 +86,6 @@ module _ (p : Pack) (f : Fid) (b : ℕ) (new past fresh : List ℕ) (at : ℕ) (
   ]
 
   -- ---- the value of the old last page
-  behind_below : (fs : List ℕ) → All (λ w. w < 65536) (past_last past fs)
-  behind_below [] = h.words
-  behind_below (i ∷ fs) = λ k d l. absurd (omega arith)
-
   fits : (fs : List ℕ) → Many fs → b % 512 + length (take (last_room b) new ++ bytes_of (past_last past fs)) ≤ 512
   fits [] m =
       let both : length (take (last_room b) new ++ bytes_of past) ≡ length (take (last_room b) new) + length (bytes_of past) = length-append (take (last_room b) new) (bytes_of past) in
@@ -99,7 +94,7 @@ module _ (p : Pack) (f : Fid) (b : ℕ) (new past fresh : List ℕ) (at : ℕ) (
 
   value_bytes : bytes_of (grown_value b new past fresh value) ≡ put_at (b % 512) (take (last_room b) new ++ bytes_of (past_last past fresh)) (bytes_of value)
   value_bytes = bytes_of-put (b % 512) (take (last_room b) new ++ bytes_of (past_last past fresh)) value (let l = fits fresh many in omega (arith, value_size))
-      (All-append (λ x. x < 256) (take (last_room b) new) (bytes_of (past_last past fresh)) (All-take (λ x. x < 256) (last_room b) new h.bytes) (bytes_below (past_last past fresh) (behind_below fresh)))
+      (All-append (λ x. x < 256) (take (last_room b) new) (bytes_of (past_last past fresh)) (All-take (λ x. x < 256) (last_room b) new h.bytes) (bytes_below (past_last past fresh) (behind_below past fresh h.words)))
 
   -- its counted bytes stay
   kept : counted_of p at (grown_value b new past fresh value) ≡ counted_of p at value

@@ -1,7 +1,6 @@
 -- The room that was found for an entry, among the slots of its directory.
-use Rattle.std.proofs.Common.{Bool, List, None, Option, Some, [], ap, arith, cond, false, get_or, leb-true, length, nat_le, refl, subst, suc, sym, true, ℕ, ◌++◌, ◌+◌, ◌-◌, ◌<◌, ◌∙◌, ◌∷◌, ◌≡◌, ◌≤◌}
-use Rattle.std.proofs.lemmas.List.{get_or-append-add}
-use Rattle.std.specs.Option.{option_map, option_or}
+use Rattle.std.proofs.Common.{Bool, List, None, Option, Some, [], ap, arith, cond, false, get_or, leb-true, length, nat_le, refl, subst, suc, sym, true, ℕ, ◌++◌, ◌+◌, ◌<◌, ◌∙◌, ◌∷◌, ◌≡◌, ◌≤◌}
+use Rattle.std.specs.Option.{option_or}
 use Rattle.pack_model.specs.Committing.{page_of_word}
 use Rattle.pack_model.specs.Files.{place}
 use Rattle.pack_model.specs.Model.{dir_items, read_pack}
@@ -9,36 +8,13 @@ use Rattle.pack_model.specs.PageWords.{entered_words, later}
 use Rattle.pack_model.specs.Rooms.{Room, most_free, room_from, room_here, run}
 use Rattle.pack_model.specs.Sights.{sights}
 use Rattle.pack_model.specs.Slots.{Item, all_words, entry_length, item_words}
-use Rattle.pack_model.specs.Slots.Item.{entry, space}
+use Rattle.pack_model.specs.Slots.Item.{space}
+use Rattle.record_laws.proofs.RoomPlaced.{run_is}
 use Rattle.record_laws.proofs.Roomy.{run_enough}
 use Rattle.written_laws.proofs.EntryBytes.{entry_written}
 use Rattle.written_laws.proofs.Labels.{living_name}
 use Rattle.written_laws.specs.DirectoryWords.{EnteredWords, left_in}
-
--- ---- a run
--- its slots, and what follows them
-record IsRun (is : List Item) (q : ℕ × List Item) : Type 0 where
-  old : List Item
-  are : is ≡ old ++ q.1
-  words : q.0 ≡ all_words old
-
-run_is : (n : ℕ) (is : List Item) (q : ℕ × List Item) → run n is ≡ Some q → IsRun is q
-run_is n [] q e = absurd cc
-run_is n (entry f name ∷ is) q e = absurd cc
-run_is n (space k ∷ is) q e = by (nat_le n k) (run (n - k) is) refl e (run_is (n - k) is)
-  where
-    by : (t : Bool) (s : Option (ℕ × List Item)) → run (n - k) is ≡ s → cond t (Some (k, is)) (option_map (λ r. (k + r.0, r.1)) s) ≡ Some q → ((q : ℕ × List Item) → run (n - k) is ≡ Some q → IsRun is q) → IsRun (space k ∷ is) q
-    by true s s_is e again =
-        let same : ◌≡◌ {A = ℕ × List Item} (k, is) q = cc in
-        let words : k ≡ q.0 = ap (λ x. x.0) same in
-        record { old = space k ∷ []; are = ap (λ x. space k ∷ x.1) same; words = omega arith }
-    by false None s_is e again = absurd cc
-    by false (Some s) s_is e again =
-        let same : ◌≡◌ {A = ℕ × List Item} (k + s.0, s.1) q = cc in
-        let words : k + s.0 ≡ q.0 = ap (λ x. x.0) same in
-        let r = again s s_is in
-        let more = r.words in
-        record { old = space k ∷ r.old; are = ap (λ l. space k ∷ l) (r.are ∙ ap (λ x. r.old ++ x.1) same); words = omega arith }
+use Rattle.operation_laws.proofs.EnterMoves.{first_slot}
 
 -- ---- a room
 -- the slots before it, its own and those behind it, where the search begins with a slot of this number and at this word
@@ -74,7 +50,7 @@ parted n first place (i ∷ is) r e = by (run n (i ∷ is)) refl e (λ e. behind
         let l = leb-true q.0 1023 few in
         record {
           before = [];
-          old = here.old;
+          old = here.free;
           behind = q.1;
           split = here.are;
           first_is = omega arith;
@@ -88,11 +64,6 @@ parted n first place (i ∷ is) r e = by (run n (i ∷ is)) refl e (λ e. behind
     by : (q : Option (ℕ × List Item)) → run n (i ∷ is) ≡ q → option_or (room_here first place q) (room_from n (suc first) (place + item_words i) is) ≡ Some r → (room_from n (suc first) (place + item_words i) is ≡ Some r → Parted n first place (i ∷ is) r) → Parted n first place (i ∷ is) r
     by None q_is e again = again e
     by (Some q) q_is e again = tried (nat_le q.0 most_free) q q_is refl e again
-
--- the first of its slots
-first_slot : (before old behind : List Item) → 0 < all_words old → get_or (before ++ (old ++ behind)) (length before) (space 0) ≡ get_or old 0 (space 0)
-first_slot before [] behind some = absurd (omega arith)
-first_slot before (i ∷ old) behind some = let z : length before ≡ length before + 0 = omega arith in ap (λ n. get_or (before ++ ((i ∷ old) ++ behind)) n (space 0)) z ∙ get_or-append-add before ((i ∷ old) ++ behind) 0 (space 0)
 
 -- ---- an entering there
 pub entered_there : EnteredWords

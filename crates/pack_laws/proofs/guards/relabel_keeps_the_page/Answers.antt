@@ -1,4 +1,4 @@
-use Rattle.pack_laws.proofs.Guarding.{relabel_keeps}
+use Rattle.pack_laws.proofs.GuardedWrites.{relabel_keeps}
 use Rattle.pack_laws.proofs.guards.relabel_keeps_the_page.Goals as goal
 
 pub returns : goal.returns

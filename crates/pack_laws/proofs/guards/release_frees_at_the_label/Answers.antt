@@ -1,4 +1,4 @@
-use Rattle.pack_laws.proofs.Guarding.{release_frees}
+use Rattle.pack_laws.proofs.GuardedWrites.{release_frees}
 use Rattle.pack_laws.proofs.guards.release_frees_at_the_label.Goals as goal
 
 pub returns : goal.returns

@@ -1,4 +1,4 @@
-use Rattle.pack_laws.proofs.Talking.{ruler_start, ruler_rises, ruler_next, ruler_shown, ruler_wrote, ruler_whole}
+use Rattle.pack_laws.proofs.Ruling.{ruler_start, ruler_rises, ruler_next, ruler_shown, ruler_wrote, ruler_whole}
 use Rattle.pack_laws.proofs.turns.ruler_laws.Goals as goal
 
 pub returns : goal.returns

@@ -1,4 +1,4 @@
-use Rattle.pack_laws.proofs.Talking.{talks_makes}
+use Rattle.pack_laws.proofs.Ruling.{talks_makes}
 use Rattle.pack_laws.proofs.turns.writes_are_made.Goals as goal
 
 pub returns : goal.returns
