@@ -12,7 +12,7 @@ The kinds, by the files that they have at 203 cylinders, and at the others in pr
 
 Each listing is compared with the one that these files must have. A time is the median of the runs, of whole processes from their
 start to their end. Of the processor's time that of `show` over a pack of 2 cylinders without files, in the same run, is taken off: it
-is the start's, and most of the time of small packs. What is left mustn't grow from 20 to 203 cylinders by more than 2.5 times as much
+is the start's, and most of the time at 2 cylinders. What is left mustn't grow from 20 to 203 cylinders by more than 2.5 times as much
 as n log n of the sectors does. n log n grows 14 times there, and so has slack, but n squared 103 times.
 PROGRAM is one that is built already; without it the program is built first.
 """
