@@ -5,7 +5,7 @@ use Rattle.byteorder.specs.Endian.{big_bytes}
 use Rattle.disk_records.specs.declared.records.Sector.{Sector}
 use Rattle.disk_records.specs.declared.shape.Shape.{Shape}
 use Rattle.disk_records.specs.Words.{word}
-use Rattle.disk_records.specs.Addresses.{pages_of}
+use Rattle.disk_records.specs.Addresses.{disks_of, pages_of}
 use Rattle.disk_image.specs.declared.codec.ImageError.{ImageError}
 use Rattle.disk_image.specs.declared.codec.ImageError.TheVariants.{BadLength, Memory}
 
@@ -30,17 +30,18 @@ pub record IsWhole (sector : Sector) : Type 0 where
   pub label_words : (k : ℕ) → word sector.label k < 65536
   pub value_words : (k : ℕ) → word sector.value k < 65536
 
--- these bytes are the file of this pack
+-- these bytes are the file of this pack, which has one drive
 pub record IsImage (shape : Shape) (sectors : List Sector) (bytes : List ℕ) : Type 0 where
+  pub one : disks_of shape ≡ 1
   pub count : length sectors ≡ pages_of shape
   pub whole : All IsWhole sectors
   pub bytes_are : bytes ≡ pack_bytes sectors
 
--- a file of so many bytes is a pack's: it has 2 to 203 cylinders of 24 sectors of 532 bytes
+-- a file of so many bytes is a pack's: it has 2 to 406 cylinders of 24 sectors of 532 bytes
 pub record IsPackLength (bytes : ℕ) : Type 0 where
   pub cylinders : ℕ
   pub least : 2 ≤ cylinders
-  pub most : cylinders ≤ 203
+  pub most : cylinders ≤ 406
   pub whole : bytes ≡ cylinders * 12768
 
 -- the error of a file of so many bytes

@@ -9,9 +9,9 @@ use Rattle.disk_image.specs.declared.start.Start.{Start}
 abbrev pub is_option : List ℕ → Bool
 is_option word = pointwise nat_eq word (codes "--cylinders")
 
--- the number of cylinders that a word gives: 2 to 203
+-- the number of cylinders that a word gives: 2 to 406
 abbrev pub in_range : ℕ → Option ℕ
-in_range cylinders = if nat_le 2 cylinders && nat_le cylinders 203 then Some cylinders else None
+in_range cylinders = if nat_le 2 cylinders && nat_le cylinders 406 then Some cylinders else None
 
 abbrev pub cylinders_in : List ℕ → Option ℕ
 cylinders_in word = option_and_then in_range (number_in word)

@@ -5,7 +5,7 @@
 // and of a word the high byte comes first.
 ghost use Rattle.std.specs.Prelude.{◌≡◌, ℕ, ◌*◌, ◌<◌, ◌≤◌, [], length, All, IfSome, IfNone, IfOk, IfErr, OnOk, vec_capacity};
 ghost use Rattle.disk_records.specs.Words.{word};
-ghost use Rattle.disk_records.specs.Addresses.{pages_of};
+ghost use Rattle.disk_records.specs.Addresses.{disks_of, pages_of};
 ghost use Rattle.disk_image.specs.Images.{words_bytes, sector_bytes, pack_bytes, IsImage, IsWhole, IsPackLength, IsErrorAt};
 
 use alto_words::Memory;
@@ -40,6 +40,7 @@ pub enum ImageError {
 /// The shape of the pack whose file has this many bytes. None exactly where they aren't those of 2 to 203 cylinders.
 pub(crate) fn shape_of_length(bytes: u64) -> Option<Shape>
     ensures some { IfSome result (λ shape. bytes ≡ pages_of shape * 532) }
+    ensures one { IfSome result (λ shape. disks_of shape ≡ 1) }
     ensures none { IfNone result (IsPackLength bytes → ⊥) }
 {
     if bytes % CYLINDER_BYTES != 0 {
@@ -137,11 +138,12 @@ pub fn decode_pack(alloc: Global, bytes: &[u8]) -> Result<(Shape, Vec<Sector>), 
     Ok((shape, sectors))
 }
 
-/// The file of a pack: the bytes of each sector in order, in one allocation. There are as many sectors as the shape has.
+/// The file of a pack of one drive: the bytes of each sector in order, in one allocation. There are as many sectors as the shape has.
 ///
 /// Memory: none was left for the bytes.
 pub fn encode_pack(alloc: Global, shape: Shape, sectors: &[Sector]) -> Result<Vec<u8>, Memory>
-    requires { length sectors.now ≡ pages_of shape }
+    requires one { disks_of shape ≡ 1 }
+    requires count { length sectors.now ≡ pages_of shape }
     ensures { IfOk result (λ bytes. IsImage shape sectors.now bytes.items) }
 {
     let mut bytes = Vec::with_capacity(alloc, shape.pages() as usize * SECTOR_BYTES)?;

@@ -186,7 +186,7 @@ impl<'a, R: Files + Input + Print> FileMachine<'a, R> {
         }
     }
 
-    /// A machine over a new pack file of zeros at this path. The number of cylinders is 2 to 203.
+    /// A machine over a new pack file of zeros at this path. The number of cylinders is 2 to 406.
     ///
     /// NoFile: the file is there already, or it can't be made or filled, or `/dev/null` can't be opened. A file that can't be filled
     /// is removed again; where that fails too, nothing tells of it and a shorter file stays. Memory: none was left for the buffer of
@@ -198,7 +198,7 @@ impl<'a, R: Files + Input + Print> FileMachine<'a, R> {
         cylinders: u16,
     ) -> Result<FileMachine<'a, R>, ReachError>
         requires least { 2 ≤ cylinders }
-        requires most { cylinders ≤ 203 }
+        requires most { cylinders ≤ 406 }
         ensures untouched { IfOk result (λ machine. IsUntouched (⟦<FileMachine<'a, R> as Tape>⟧.tape machine)) }
         ensures form { IfOk result (λ machine. cylinders_of (⟦<FileMachine<'a, R> as Tape>⟧.tape machine).form ≡ cylinders) }
         ensures err { IfErr result IsMaking }

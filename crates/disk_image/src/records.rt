@@ -2,7 +2,7 @@
 ghost use Rattle.std.specs.Prelude.{◌≡◌, ◌↔◌, ◌+◌, ◌*◌, ◌≤◌, length, replicate, IfOk, OnOk, OnErr, IsTrue};
 ghost use Rattle.std.specs.Io.KnownBytes.{Consumes, Appends};
 ghost use Rattle.std.specs.Io.Seek.{MovesTo};
-ghost use Rattle.disk_records.specs.Addresses.{pages_of};
+ghost use Rattle.disk_records.specs.Addresses.{cylinders_of, pages_of};
 ghost use Rattle.disk_records.specs.Checks.{is_legal};
 ghost use Rattle.disk_image.specs.Records.{read_length, front_length, front_bytes, back_bytes, written_bytes, counted, counted_all};
 ghost use Rattle.disk_image.specs.Images.{words_bytes};
@@ -117,9 +117,9 @@ fn write_bytes<F: Write>(file: &mut F, words: &[u16]) -> io::Result<()>
     file.write_all(record)
 }
 
-/// Fills a new file of this shape with zeros, one write call a cylinder.
+/// Fills the new file of one drive of this shape with zeros, one write call a cylinder.
 pub(crate) fn fill<F: Write>(file: &mut F, shape: Shape) -> io::Result<()>
-    ensures { OnOk result (Appends (F.contents file.old) (F.contents file.new) (replicate (pages_of shape * 532) 0)) }
+    ensures { OnOk result (Appends (F.contents file.old) (F.contents file.new) (replicate (cylinders_of shape * 12768) 0)) }
 {
     let zeros = [0; CYLINDER_BYTES as usize];
     for _ in 0..shape.cylinders() {
