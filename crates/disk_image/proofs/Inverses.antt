@@ -35,7 +35,7 @@ first_whole s sectors all = all 0 s (omega arith)
 rest_whole : (s : Sector) (sectors : List Sector) → All IsWhole (s ∷ sectors) → All IsWhole sectors
 rest_whole s sectors all = λ k d lt. all (suc k) d (omega arith)
 
-length-pack_bytes : (sectors : List Sector) → All IsWhole sectors → length (pack_bytes sectors) ≡ length sectors * 532
+pub length-pack_bytes : (sectors : List Sector) → All IsWhole sectors → length (pack_bytes sectors) ≡ length sectors * 532
 length-pack_bytes [] all = refl
 length-pack_bytes (s ∷ sectors) all =
     let first = length-sector_bytes s (first_whole s sectors all) in
@@ -69,7 +69,7 @@ sector_same s t whole also same =
     let value : s.value ≡ t.value = words_same s.value t.value (whole.value ∙ sym also.value) whole.value_words also.value_words last in
     λ i. record { header = header i; label = label i; value = value i }
 
-packs_same : (xs ys : List Sector) → length xs ≡ length ys → All IsWhole xs → All IsWhole ys → pack_bytes xs ≡ pack_bytes ys → xs ≡ ys
+pub packs_same : (xs ys : List Sector) → length xs ≡ length ys → All IsWhole xs → All IsWhole ys → pack_bytes xs ≡ pack_bytes ys → xs ≡ ys
 packs_same [] [] len whole also same = refl
 packs_same [] (y ∷ ys) len whole also same = absurd (omega (arith, len))
 packs_same (x ∷ xs) [] len whole also same = absurd (omega (arith, len))

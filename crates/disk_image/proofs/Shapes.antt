@@ -1,5 +1,5 @@
 -- Shapes.
-use Rattle.std.proofs.Common.{◌≡◌, ◌≤◌, ◌*◌, sym, ◌∙◌}
+use Rattle.std.proofs.Common.{◌≡◌, ◌≤◌, ◌*◌}
 use Rattle.std.proofs.Math.Bridge.{le_prop}
 use mathlib.Core.HLevel.{is_prop→PathP}
 use Rattle.disk_records.specs.declared.shape.Shape.{Shape}
