@@ -1,7 +1,7 @@
 // Machines over pack files that are there, and over new ones.
 //
-// That two paths lead to one file is seen by the numbers of the device and of the file on it, which the outside tells. Where it tells no
-// number of a file, two paths aren't known to be one.
+// That two paths lead to one file is seen by the device and by the file's number there, which the outside tells. A stand-in for it in a
+// test may tell no numbers, and all are 0 then: the files of two paths are taken for different ones.
 ghost use Rattle.std.specs.Prelude.{◌≡◌, ◌≤◌, IfOk, IfErr};
 ghost use Rattle.disk_records.specs.Addresses.{disks_of, cylinders_of};
 ghost use Rattle.disk_image.specs.Machines.{IsUntouched, IsReaching, IsReachingTwo, IsMaking};
@@ -166,7 +166,7 @@ fn make_pack<R: Files>(rt: &R, path: &str, cylinders: u16) -> Result<R::File, Re
     Ok(file)
 }
 
-/// Whether two open files are one. A file of which the outside tells no number, or 0, isn't known to be another.
+/// Whether two open files are one. False where the outside tells no number of them.
 fn is_same_file(one: &Metadata, other: &Metadata) -> bool {
     one.ino() != 0 && one.ino() == other.ino() && one.dev() == other.dev()
 }
