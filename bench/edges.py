@@ -22,6 +22,7 @@ import packs
 SECONDS = 10
 DONE, USAGE, DISK_FAILED, KEYS_FAILED, DISPLAY_FAILED, NO_MEMORY, NO_SESSION = 0, 1, 3, 4, 5, 6, 8
 SMALL = 25_536
+LARGEST = 5_183_808
 MIB = 2**20
 # limits on memory, each greater than the one before it by half a MiB
 STEP = MIB // 2
@@ -81,8 +82,13 @@ FAULTY = [
     ["--cylinders"],
     ["--cylinders", "2"],
     ["--cylinders", "1", "new", "boot"],
-    ["--cylinders", "204", "new", "boot"],
+    ["--cylinders", "407", "new", "boot"],
     ["--cylinders", "x", "new", "boot"],
+    ["--second"],
+    ["--second", "pack"],
+    ["--cylinders", "2", "--second"],
+    ["--cylinders", "2", "--second", "new"],
+    ["--cylinders", "407", "--second", "other", "new", "boot"],
     [b"\xff", "boot"],
     ["pack", b"\xff"],
     ["pack", "boot", b"bo\xfft"],
@@ -96,7 +102,8 @@ def check_words(program):
     for words in FAULTY:
         Run(program, words, {"pack": pack}, PATCHES).gives(USAGE, err=b"usage\n", left={"pack": pack})
     # a PACK with words that ask for nothing
-    for words in [["pack"], ["pack", "Boot"], ["pack", "boot", "boot"], ["pack", "--help"], ["pack", "--cylinders", "2"]]:
+    after_pack = [["--cylinders", "2"], ["--second", "pack"], ["--second", "pack", "boot"]]
+    for words in [["pack"], ["pack", "Boot"], ["pack", "boot", "boot"], ["pack", "--help"], *[["pack", *words] for words in after_pack]]:
         Run(program, words, {"pack": pack}, PATCHES).gives(USAGE, b"usage\n", left={"pack": pack})
     for words in [["--cylinders", "2", "new"], ["--cylinders", "2", "new", "halt"]]:
         Run(program, words).gives(USAGE, b"usage\n", left={"new": made})
@@ -119,7 +126,7 @@ def check_pack_files(program):
     for words in [["missing", "boot"], [".", "boot"], ["", "boot"], ["missing/new", "boot"], ["--cylinders", "2", "missing/new", "boot"]]:
         Run(program, words).gives(NO_SESSION, err=b"no pack\n")
     Run(program, ["--cylinders", "2", "pack", "boot"], {"pack": pack}, PATCHES).gives(NO_SESSION, err=b"no pack\n", left={"pack": pack})
-    for length in [0, 532, 25_535, 25_537, 12_768]:
+    for length in [0, 532, 25_535, 25_537, 12_768, LARGEST + 12_768]:
         file = bytes(length)
         Run(program, ["pack", "boot"], {"pack": file}).gives(NO_SESSION, err=b"bad length %d\n" % length, left={"pack": file})
     # a pipe with a name, and devices: nobody writes to the pipe, and nothing is waited for
@@ -129,6 +136,67 @@ def check_pack_files(program):
     # the complaint can't be said: the exit code says it
     for redirect in ["2>&-", "2>/dev/full"]:
         Run(program, ["missing", "boot"], redirect=redirect).gives(NO_SESSION)
+
+
+def check_cylinders(program):
+    """As many cylinders as a drive can have."""
+    Run(program, ["--cylinders", "406", "new", "show"]).gives(DONE, NO_FILES, left={"new": bytes(LARGEST)})
+
+
+def linked(target):
+    """A second name of the file with this one, which stands there already."""
+    return lambda path: os.link(path.parent / target, path)
+
+
+def pointing(target):
+    """A symbolic link to the file with this name."""
+    return lambda path: path.symlink_to(target)
+
+
+def check_second(program):
+    """Packs of two drives: a session, files that are refused, and files that are made."""
+    (one, two), three = packs.pair(2, b"ABCDE"), bytes(38_304)
+    both, patched = {"one": one, "two": two}, {"one": one, "two": packs.pair(2, b"ABBDE")[1]}
+    boot = ["--second", "two", "one", "boot"]
+    Run(program, boot, both, PATCHES).gives(DONE, REPLIES, left=patched)
+    Run(program, boot, both, PATCHES, ">/dev/full").gives(DISPLAY_FAILED, left=patched)
+    Run(program, boot, both, redirect="<&- >&- 2>&-").gives(KEYS_FAILED, left=both)
+    Run(program, ["--second", "two", "one", "show"], both, PATCHES).gives(DONE, LISTING, left=both)
+    Run(program, ["--second", "two", "one", "halt"], both, PATCHES).gives(USAGE, b"usage\n", left=both)
+    # each file is that of its drive: the other way round all headers are wrong
+    Run(program, ["--second", "one", "two", "boot"], both, PATCHES).gives(DONE, b"no such name\n" * 2, left=both)
+    # one that isn't there, or no file
+    for words in [["--second", "two", "missing"], ["--second", "missing", "one"], ["--second", ".", "one"], ["--second", "", "one"]]:
+        Run(program, [*words, "boot"], both, PATCHES).gives(NO_SESSION, err=b"no pack\n", left=both)
+    # lengths: the first one that is bad, and then two that are unlike
+    short, long = bytes(25_535), bytes(25_537)
+    rows = [
+        (short, long, b"bad length 25535\n"),
+        (one, long, b"bad length 25537\n"),
+        (short, three, b"bad length 25535\n"),
+        (one, three, b"unlike packs 25536 38304\n"),
+        (three, two, b"unlike packs 38304 25536\n"),
+    ]
+    for first, second, err in rows:
+        for word in ["boot", "show", "halt"]:
+            files = {"one": first, "two": second}
+            Run(program, ["--second", "two", "one", word], files, PATCHES).gives(NO_SESSION, err=err, left=files)
+    # one file, by one path, by two, and by two names; also where its length is bad
+    for path in ["one", "./one"]:
+        for file in [one, short]:
+            Run(program, ["--second", path, "one", "boot"], {"one": file}, PATCHES).gives(NO_SESSION, err=b"no pack\n", left={"one": file})
+    Run(program, boot, {"one": one, "two": linked("one")}, PATCHES).gives(NO_SESSION, err=b"no pack\n", left={"one": one, "two": one})
+    Run(program, boot, {"one": one, "two": pointing("one")}, PATCHES).gives(NO_SESSION, err=b"no pack\n", left={"one": one})
+    # new files: both, or none
+    made = bytes(SMALL)
+    new = ["--cylinders", "2", "--second", "two", "one"]
+    Run(program, [*new, "show"]).gives(DONE, NO_FILES, left={"one": made, "two": made})
+    Run(program, [*new, "boot"], typed=PATCHES).gives(DONE, b"no such name\n" * 2, left={"one": made, "two": made})
+    Run(program, new).gives(USAGE, b"usage\n", left={"one": made, "two": made})
+    for files in [{"one": one}, {"two": two}, both]:
+        Run(program, [*new, "show"], files).gives(NO_SESSION, err=b"no pack\n", left=files)
+    for second in ["one", "./one", ".", "missing/two"]:
+        Run(program, ["--cylinders", "2", "--second", second, "one", "show"]).gives(NO_SESSION, err=b"no pack\n")
 
 
 def check_sessions(program):
@@ -330,6 +398,8 @@ CHECKS = [
     check_words,
     check_help,
     check_pack_files,
+    check_cylinders,
+    check_second,
     check_sessions,
     check_show,
     check_file_for_reading,

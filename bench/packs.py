@@ -19,6 +19,8 @@ SYS_DIR = (0x8000, 1, 1)
 DESCRIPTOR = (0, 2, 1)
 SERIAL = 3
 LEADER_AT = 5
+# more cylinders than a drive has
+ONE_DRIVE = 512
 
 
 def program():
@@ -38,8 +40,9 @@ def directory(serial):
     return 0x8000 | serial >> 16, serial & 0xFFFF, 1
 
 
-def real_of(at):
-    return at % 12 << 12 | at // 24 << 3 | at // 12 % 2 << 2
+def real_of(at, cylinders=ONE_DRIVE):
+    """The real address of a sector of a pack of one drive, or of two drives with so many cylinders each."""
+    return at % 12 << 12 | at // 24 % cylinders << 3 | at // 12 % 2 << 2 | at // 24 // cylinders << 1
 
 
 def sector(at, label, value):
@@ -96,6 +99,16 @@ def pack(cylinders, data):
     sectors = free_sectors(cylinders)
     put_file(sectors, LEADER_AT, ordinary(SERIAL), b"", data)
     return b"".join(sectors)
+
+
+def pair(cylinders, data):
+    """The two files of a pack of two drives with so many cylinders each. Its one living file, with the serial 3 and no name, has these
+    bytes: its leader is the last sector of the first drive, and its pages are the first ones of the second. Its links are those of a
+    pack of one drive."""
+    sectors, half = free_sectors(2 * cylinders), cylinders * 24
+    put_file(sectors, half - 1, ordinary(SERIAL), b"", data)
+    files = [it[:2] + struct.pack(">H", real_of(at, cylinders)) + it[4:] for at, it in enumerate(sectors)]
+    return b"".join(files[:half]), b"".join(files[half:])
 
 
 def file_name(number):

@@ -1,5 +1,6 @@
 -- What a command line asks for.
 use Rattle.std.specs.Prelude.{◌≡◌, ℕ, ◌≤◌, Bool, true, false, nat_eq, List, [], ◌∷◌, drop, map, slice_index_or, string_bytes, Some, None, IfSome, codes}
+use Rattle.std.specs.Option.{option_map}
 use Rattle.std.specs.Cmp.Lexicographic.{pointwise}
 use Rattle.disk_image.specs.declared.start.Start.{Start}
 use Rattle.disk_image.specs.Starts.{start_of}
@@ -16,11 +17,12 @@ asks_help [] = false
 asks_help (word ∷ []) = is_help word
 asks_help (word ∷ other ∷ words) = false
 
--- a command line `[--cylinders C] PACK WORDS`
+-- a command line `[--cylinders C] [--second PACK2] PACK WORDS`
 pub record IsCall (words : List (List ℕ)) (call : Call) : Type 0 where
   pub start : Start
   pub starts : start_of words ≡ Some start
   pub cylinders : call.cylinders ≡ start.cylinders
+  pub second : option_map (λ path. path.now) call.second ≡ option_map (λ at. slice_index_or words at []) start.second
   pub pack : call.path.now ≡ slice_index_or words start.pack []
   pub rest : map string_bytes call.words.now ≡ drop start.rest words
 
@@ -33,9 +35,9 @@ IsAsked words Help = asks_help words ≡ true
 IsAsked words (Machine call) = (asks_help words ≡ false) × IsCall words call
 IsAsked words Nothing = IsFaulty words
 
--- a new pack file has 2 to 203 cylinders
+-- a new pack has 2 to 406 cylinders to a drive
 abbrev pub HasRange : Call → Type 0
-HasRange call = IfSome call.cylinders (λ cylinders. (2 ≤ cylinders) × (cylinders ≤ 203))
+HasRange call = IfSome call.cylinders (λ cylinders. (2 ≤ cylinders) × (cylinders ≤ 406))
 
 abbrev pub InRange : Asked → Type 0
 InRange Help = Unit {0}

@@ -13,6 +13,7 @@ abbrev pub code_of : Stop → ℕ
 code_of stop.Words = 1
 code_of (stop.Pack reach.NoFile) = 8
 code_of (stop.Pack (reach.BadLength bytes)) = 8
+code_of (stop.Pack (reach.Unlike first second)) = 8
 code_of (stop.Pack reach.Memory) = 6
 code_of stop.Display = 5
 code_of stop.Memory = 6
@@ -22,6 +23,7 @@ abbrev pub complaint_of : Stop → Option Complaint
 complaint_of stop.Words = Some complaint.Usage
 complaint_of (stop.Pack reach.NoFile) = Some (complaint.Pack reach.NoFile)
 complaint_of (stop.Pack (reach.BadLength bytes)) = Some (complaint.Pack (reach.BadLength bytes))
+complaint_of (stop.Pack (reach.Unlike first second)) = Some (complaint.Pack (reach.Unlike first second))
 complaint_of (stop.Pack reach.Memory) = None
 complaint_of stop.Display = None
 complaint_of stop.Memory = None

@@ -4,25 +4,27 @@ ghost use Rattle.alto.specs.Asking.{is_help, asks_help, IsAsked, InRange};
 
 use disk_image::start_of;
 
-/// What all words of a command line ask of the program. The `Asked` of alto_top is what the words behind PACK ask of a machine.
+/// What all words of a command line ask of the program. The `Asked` of alto_top is what the words after PACK ask of a machine.
 #[derive(Clone, Copy)]
 pub enum Asked<'a> {
     /// The text of `--help`.
     Help,
-    /// A machine over a pack file, and what the words behind PACK ask of it.
+    /// A machine over a pack file, or two, and what the words after PACK ask of it.
     Machine(Call<'a>),
     /// Nothing: they are no command line.
     Nothing,
 }
 
-/// A command line `[--cylinders C] PACK WORDS`.
+/// A command line `[--cylinders C] [--second PACK2] PACK WORDS`.
 #[derive(Clone, Copy)]
 pub struct Call<'a> {
-    /// The number of cylinders, 2 to 203, of a new pack file that is made first.
+    /// The number of cylinders, 2 to 406, of new pack files that are made first.
     pub cylinders: Option<u16>,
-    /// PACK, the path of the pack file.
+    /// PACK2, the path of the second drive's pack file. None where there is one drive.
+    pub second: Option<&'a str>,
+    /// PACK, the path of the first drive's pack file.
     pub path: &'a str,
-    /// The words behind PACK.
+    /// The words after PACK.
     pub words: &'a [String],
 }
 
@@ -53,7 +55,7 @@ fn asks_help(words: &[String]) -> bool
     }
 }
 
-/// What the words behind the program's name ask for. The `asked_of` of alto_top is given those behind PACK alone.
+/// What the words behind the program's name ask for. The `asked_of` of alto_top is given those after PACK alone.
 pub fn asked_of(words: &[String]) -> Asked<'_>
     ensures asked { IsAsked (map string_bytes words.now) result }
     ensures range { InRange result }
@@ -64,6 +66,7 @@ pub fn asked_of(words: &[String]) -> Asked<'_>
     match start_of(words) {
         Some(start) => Asked::Machine(Call {
             cylinders: start.cylinders,
+            second: start.second.map(|at| words[at].as_str()),
             path: words[start.pack].as_str(),
             words: &words[start.rest..],
         }),

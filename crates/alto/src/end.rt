@@ -8,15 +8,16 @@ use disk_image::ReachError;
 use std::alloc::AllocError;
 use thiserror::Error;
 
-/// The exit code of a run without a session for its pack file: it wasn't reached or made. The others are those of statuses.
+/// The exit code of a run without a session for its pack files: one wasn't reached or made, or two are unlike. The others are those of
+/// statuses.
 const NO_PACK: u8 = 8;
 
 /// What ends a run that has no session.
 #[derive(Clone, Copy, Debug, PartialEq, Eq)]
 pub enum Stop {
-    /// The words aren't `[--cylinders C] PACK WORDS`, or one of them isn't UTF-8.
+    /// The words aren't `[--cylinders C] [--second PACK2] PACK WORDS`, or one of them isn't UTF-8.
     Words,
-    /// No machine was made over the pack file.
+    /// No machine was made over the pack files.
     Pack(ReachError),
     /// The help can't be written to standard output.
     Display,
@@ -30,7 +31,7 @@ pub enum Complaint {
     /// The words are no command line.
     #[error("usage")]
     Usage,
-    /// The pack file wasn't reached or made.
+    /// A pack file wasn't reached or made, or two are unlike.
     #[error(transparent)]
     Pack(ReachError),
 }
@@ -44,6 +45,7 @@ impl Stop {
             Stop::Words => Status::Usage as u8,
             Stop::Pack(ReachError::NoFile) => NO_PACK,
             Stop::Pack(ReachError::BadLength { .. }) => NO_PACK,
+            Stop::Pack(ReachError::Unlike { .. }) => NO_PACK,
             Stop::Pack(ReachError::Memory) => Status::Memory as u8,
             Stop::Display => Status::DisplayFault as u8,
             Stop::Memory => Status::Memory as u8,

@@ -7,7 +7,11 @@ pub fn help_text(alloc: Global) -> Result<String, AllocError> {
     let cylinders = Arg::new(alloc, "cylinders")
         .long("cylinders")
         .value_name("C")
-        .help("Makes the pack file first, new and of zeros, with 2 to 203 cylinders");
+        .help("Makes the pack file first, or both, new and of zeros, with 2 to 406 cylinders");
+    let second = Arg::new(alloc, "second")
+        .long("second")
+        .value_name("PACK2")
+        .help("The path of the pack file of a second drive, as long as PACK");
     let help = Arg::new(alloc, "help")
         .long("help")
         .action(ArgAction::Help)
@@ -19,12 +23,13 @@ pub fn help_text(alloc: Global) -> Result<String, AllocError> {
         "boot: obeys the lines that are typed; show: lists what the pack holds",
     );
     let mut command = Command::new(alloc, "alto")
-        .about("The operating system of the Xerox Alto, over a disk pack file")
-        .override_usage("alto [--cylinders C] PACK WORDS")
+        .about("The operating system of the Xerox Alto, over disk pack files")
+        .override_usage("alto [--cylinders C] [--second PACK2] PACK WORDS")
         .disable_help_flag(true)
         .arg(pack)?
         .arg(words)?
         .arg(cylinders)?
+        .arg(second)?
         .arg(help)?;
     command.render_help()
 }

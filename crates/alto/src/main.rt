@@ -1,7 +1,7 @@
 //! The program `alto`: boots a pack file and obeys what is typed, or lists what the pack shows.
 //!
 //! Below it stand alto_top, whose contract says what a session shows and leaves and what is listed, and disk_image, whose machine is
-//! over a pack file, standard input and standard output. Here are the program's edges: what its words ask for (`IsAsked`), the
+//! over one or two pack files, standard input and standard output. Here are the program's edges: what its words ask for (`IsAsked`), the
 //! machine that they name (`machine_of`), the moment of a reading of the clock (`moment_of`; that it is read once is tested), how a
 //! run ends (`IsEnd`), the text of `--help` (tested), and the exit code with what is said on standard error (`end_code`,
 //! `end_complaint`).

@@ -1,6 +1,6 @@
 // One run of the program, over any runtime, clock and session.
-ghost use Rattle.std.specs.Prelude.{◌≡◌, ◌↔◌, map, string_bytes, IfOk, IfErr, IfSome, IsErrOf};
-ghost use Rattle.disk_records.specs.Addresses.{cylinders_of};
+ghost use Rattle.std.specs.Prelude.{◌≡◌, ◌↔◌, if◌then◌else◌, map, string_bytes, is_some, IfOk, IfErr, IfSome, IsErrOf};
+ghost use Rattle.disk_records.specs.Addresses.{disks_of, cylinders_of};
 ghost use Rattle.disk_image.specs.Machines.{IsUntouched};
 ghost use Rattle.alto.specs.Asking.{IsFaulty, HasRange};
 ghost use Rattle.alto.specs.Running.{IsRefusal, IsHelpStop, IsCallEnd, IsEnd};
@@ -41,20 +41,27 @@ fn print_help<R: Print + AllocGlobal>(rt: &R) -> Result<Status, Stop>
     }
 }
 
-/// The machine that a command line asks for: over a new pack file where it names a number of cylinders, and else over the one
-/// that is there.
+/// The machine that a command line asks for: over two drives where it names a PACK2, and over new pack files where it names a number of
+/// cylinders, else over those that are there.
 fn machine_of<'a, R: Files + Input + Print + AllocGlobal>(
     rt: &'a R,
     call: Call<'_>,
 ) -> Result<FileMachine<'a, R>, ReachError>
     requires range { HasRange call }
     ensures untouched { IfOk result (λ machine. IsUntouched (⟦<FileMachine<'a, R> as Tape>⟧.tape machine)) }
+    ensures disks { IfOk result (λ machine. disks_of (⟦<FileMachine<'a, R> as Tape>⟧.tape machine).form ≡ (if is_some call.entry.second then 2 else 1)) }
     ensures form { IfSome call.entry.cylinders (λ cylinders. IfOk result (λ machine. cylinders_of (⟦<FileMachine<'a, R> as Tape>⟧.tape machine).form ≡ cylinders)) }
-    ensures err { IfErr result (IsRefusal call.entry.cylinders) }
+    ensures err { IfErr result (IsRefusal call.entry.cylinders (is_some call.entry.second)) }
 {
-    match call.cylinders {
-        Some(cylinders) => FileMachine::create(rt, rt.alloc(), call.path, cylinders),
-        None => FileMachine::reach(rt, rt.alloc(), call.path),
+    let alloc = rt.alloc();
+    let path = call.path;
+    match (call.cylinders, call.second) {
+        (Some(cylinders), Some(second)) => {
+            FileMachine::create_two(rt, alloc, path, second, cylinders)
+        }
+        (Some(cylinders), None) => FileMachine::create(rt, alloc, path, cylinders),
+        (None, Some(second)) => FileMachine::reach_two(rt, alloc, path, second),
+        (None, None) => FileMachine::reach(rt, alloc, path),
     }
 }
 
@@ -67,13 +74,13 @@ fn run_call<R: Files + Input + Print + AllocGlobal, C: Clock, S: Session>(
     call: Call<'_>,
 ) -> Result<Status, Stop>
     requires range { HasRange call }
-    ensures end { IsCallEnd call.entry.cylinders (map string_bytes call.entry.words.now) result }
+    ensures end { IsCallEnd call.entry.cylinders (is_some call.entry.second) (map string_bytes call.entry.words.now) result }
 {
     let mut machine = machine_of(rt, call)?;
     Ok(session.obey(rt.alloc(), call.words, read_moment(clock), &mut machine))
 }
 
-/// Does what the words behind the program's name ask for.
+/// Does what the words after the program's name ask for.
 pub fn run_words<R: Files + Input + Print + AllocGlobal, C: Clock, S: Session>(
     rt: &R,
     clock: &C,

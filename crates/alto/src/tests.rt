@@ -15,17 +15,18 @@ use std::test::Fail;
 use std::time::{Duration, UNIX_EPOCH};
 use std::{fs, io};
 
-const HELP: &str = "The operating system of the Xerox Alto, over a disk pack file
+const HELP: &str = "The operating system of the Xerox Alto, over disk pack files
 
-Usage: alto [--cylinders C] PACK WORDS
+Usage: alto [--cylinders C] [--second PACK2] PACK WORDS
 
 Arguments:
   <PACK>   The path of the pack file
   <WORDS>  boot: obeys the lines that are typed; show: lists what the pack holds
 
 Options:
-      --cylinders <C>  Makes the pack file first, new and of zeros, with 2 to 203 cylinders
-      --help           Prints this help, where it is the only word
+      --cylinders <C>   Makes the pack file first, or both, new and of zeros, with 2 to 406 cylinders
+      --second <PACK2>  The path of the pack file of a second drive, as long as PACK
+      --help            Prints this help, where it is the only word
 ";
 
 #[test]
@@ -37,6 +38,10 @@ fn text_of_help(rt: HostRuntime) -> Result<(), Fail> {
 #[test]
 fn exit_codes_and_texts(rt: HostRuntime) -> Result<(), Fail> {
     let bad_length = ReachError::BadLength { bytes: 25_535 };
+    let unlike = ReachError::Unlike {
+        first: 25_536,
+        second: 38_304,
+    };
     let rows = [
         (Ok(Status::Done), 0, None),
         (Ok(Status::Usage), 1, None),
@@ -47,6 +52,7 @@ fn exit_codes_and_texts(rt: HostRuntime) -> Result<(), Fail> {
         (Err(Stop::Words), 1, Some("usage")),
         (Err(Stop::Pack(ReachError::NoFile)), 8, Some("no pack")),
         (Err(Stop::Pack(bad_length)), 8, Some("bad length 25535")),
+        (Err(Stop::Pack(unlike)), 8, Some("unlike packs 25536 38304")),
         (Err(Stop::Pack(ReachError::Memory)), 6, None),
         (Err(Stop::Display), 5, None),
         (Err(Stop::Memory), 6, None),

@@ -5,6 +5,7 @@ use Rattle.std.proofs.Math.Seq.{take-append_seam, drop-append_seam}
 use Rattle.disk_records.specs.declared.records.Sector.{Sector}
 use Rattle.disk_records.specs.declared.shape.Shape.{Shape}
 use Rattle.disk_records.specs.Words.{word}
+use Rattle.disk_records.specs.Addresses.{pages_of}
 use Rattle.disk_image.specs.Images.{words_bytes, sector_bytes, pack_bytes, IsWhole, IsImage, IsPackLength}
 use Rattle.disk_image.proofs.Shapes.{shape_same}
 
@@ -34,7 +35,7 @@ first_whole s sectors all = all 0 s (omega arith)
 rest_whole : (s : Sector) (sectors : List Sector) → All IsWhole (s ∷ sectors) → All IsWhole sectors
 rest_whole s sectors all = λ k d lt. all (suc k) d (omega arith)
 
-length-pack_bytes : (sectors : List Sector) → All IsWhole sectors → length (pack_bytes sectors) ≡ length sectors * 532
+pub length-pack_bytes : (sectors : List Sector) → All IsWhole sectors → length (pack_bytes sectors) ≡ length sectors * 532
 length-pack_bytes [] all = refl
 length-pack_bytes (s ∷ sectors) all =
     let first = length-sector_bytes s (first_whole s sectors all) in
@@ -68,7 +69,7 @@ sector_same s t whole also same =
     let value : s.value ≡ t.value = words_same s.value t.value (whole.value ∙ sym also.value) whole.value_words also.value_words last in
     λ i. record { header = header i; label = label i; value = value i }
 
-packs_same : (xs ys : List Sector) → length xs ≡ length ys → All IsWhole xs → All IsWhole ys → pack_bytes xs ≡ pack_bytes ys → xs ≡ ys
+pub packs_same : (xs ys : List Sector) → length xs ≡ length ys → All IsWhole xs → All IsWhole ys → pack_bytes xs ≡ pack_bytes ys → xs ≡ ys
 packs_same [] [] len whole also same = refl
 packs_same [] (y ∷ ys) len whole also same = absurd (omega (arith, len))
 packs_same (x ∷ xs) [] len whole also same = absurd (omega (arith, len))
@@ -80,6 +81,10 @@ packs_same (x ∷ xs) (y ∷ ys) len whole also same =
     let rest : xs ≡ ys = packs_same xs ys (omega (arith, len)) (rest_whole x xs whole) (rest_whole y ys also) (backs_same (sector_bytes x) (pack_bytes xs) (sector_bytes y) (pack_bytes ys) lengths same) in
     ap (λ (z : Sector). z ∷ xs) first ∙ ap (λ (l : List Sector). y ∷ l) rest
 
+-- the sectors of one drive
+one_drive : (shape : Shape) → shape.disks ≡ 1 → pages_of shape ≡ shape.cylinders * 24
+one_drive shape one = ap (λ (d : ℕ). d * shape.cylinders * 24) one ∙ omega arith
+
 pub image_same : (shape other : Shape) (sectors others : List Sector) (bytes : List ℕ) → IsImage shape sectors bytes → IsImage other others bytes → (other ≡ shape) × (others ≡ sectors)
 image_same shape other sectors others bytes one two =
     let same : pack_bytes others ≡ pack_bytes sectors = sym two.bytes_are ∙ one.bytes_are in
@@ -87,11 +92,11 @@ image_same shape other sectors others bytes one two =
     let b = length-pack_bytes others two.whole in
     let c = ap length same in
     let count : length others ≡ length sectors = omega (arith, a, b, c) in
-    let cylinders : other.cylinders ≡ shape.cylinders = omega (arith, count, one.count, two.count) in
-    (shape_same other shape cylinders, packs_same others sectors count two.whole one.whole same)
+    let cylinders : other.cylinders ≡ shape.cylinders = omega (arith, count, one.count ∙ one_drive shape one.one, two.count ∙ one_drive other two.one) in
+    (shape_same other shape (two.one ∙ sym one.one) cylinders, packs_same others sectors count two.whole one.whole same)
 
 pub image_accepted : (shape : Shape) (sectors : List Sector) (bytes : List ℕ) → IsImage shape sectors bytes → IsPackLength (length bytes)
 image_accepted shape sectors bytes image =
     let a = length-pack_bytes sectors image.whole in
     let b = ap length image.bytes_are in
-    record { cylinders = shape.cylinders; least = shape.least; most = shape.most; whole = omega (arith, a, b, image.count) }
+    record { cylinders = shape.cylinders; least = shape.least; most = shape.most; whole = omega (arith, a, b, image.count ∙ one_drive shape image.one) }

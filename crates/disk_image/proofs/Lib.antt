@@ -2,5 +2,6 @@ mod Words
 mod Packs
 mod Shapes
 mod Inverses
+mod Pairs
 mod Fronts
 mod Filling

@@ -1,3 +1,4 @@
+pub mod Drives
 pub mod Images
 pub mod Laws
 pub mod Machines

@@ -1,8 +1,10 @@
--- What a caller sees of the machine over a pack file.
-use Rattle.std.specs.Prelude.{◌≡◌, ℕ, ◌+◌}
+-- What a caller sees of the machine over a pack file, or two.
+use Rattle.std.specs.Prelude.{◌≡◌, ◌≢◌, ℕ, ◌+◌}
 use Rattle.disk_records.specs.Tapes.{Taped, capped}
+use Rattle.disk_image.specs.declared.error.ImageError.{ImageError}
+use Rattle.disk_image.specs.declared.error.ImageError.TheVariants as image
 use Rattle.disk_image.specs.declared.error.ReachError.{ReachError}
-use Rattle.disk_image.specs.declared.error.ReachError.TheVariants.{NoFile, BadLength, Memory}
+use Rattle.disk_image.specs.declared.error.ReachError.TheVariants.{NoFile, BadLength, Unlike, Memory}
 use Rattle.disk_image.specs.Images.{IsPackLength}
 
 -- nothing has failed and nothing was written
@@ -17,14 +19,29 @@ pub record CountsFault (failed : Type 0) (old new : ℕ) : Type 0 where
   pub once : failed → new ≡ capped (old + 1)
   pub same : (failed → ⊥) → new ≡ old
 
--- an error of reaching a file: a bad length isn't a pack's
+-- an error of reaching a file: a bad length isn't a drive's
 abbrev pub IsReaching : ReachError → Type 0
 IsReaching NoFile = Unit {0}
 IsReaching (BadLength bytes) = IsPackLength bytes → ⊥
+IsReaching (Unlike first second) = ⊥
 IsReaching Memory = Unit {0}
 
--- an error of making a file: its length is always a pack's
+-- an error of reaching two: lengths that are unlike are a drive's each
+abbrev pub IsReachingTwo : ReachError → Type 0
+IsReachingTwo NoFile = Unit {0}
+IsReachingTwo (BadLength bytes) = IsPackLength bytes → ⊥
+IsReachingTwo (Unlike first second) = IsPackLength first × IsPackLength second × (first ≢ second)
+IsReachingTwo Memory = Unit {0}
+
+-- an error of making files: their lengths are always right
 abbrev pub IsMaking : ReachError → Type 0
 IsMaking NoFile = Unit {0}
 IsMaking (BadLength bytes) = ⊥
+IsMaking (Unlike first second) = ⊥
 IsMaking Memory = Unit {0}
+
+-- why no machine was reached where the files are no pack
+abbrev pub reached : ImageError → ReachError
+reached (image.BadLength bytes) = BadLength bytes
+reached (image.Unlike first second) = Unlike first second
+reached image.Memory = Memory

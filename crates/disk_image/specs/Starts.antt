@@ -1,28 +1,38 @@
--- What a caller sees of a command line `[--cylinders C] PACK WORDS`.
-use Rattle.std.specs.Prelude.{ℕ, ◌&&◌, Bool, nat_eq, nat_le, if◌then◌else◌, List, [], ◌∷◌, Option, Some, None, codes}
-use Rattle.std.specs.Option.{option_and_then, option_map}
+-- What a caller sees of a command line `[--cylinders C] [--second PACK2] PACK WORDS`.
+use Rattle.std.specs.Prelude.{ℕ, ◌+◌, ◌&&◌, Bool, nat_eq, nat_le, if◌then◌else◌, List, [], ◌∷◌, Option, Some, None, codes}
+use Rattle.std.specs.Option.{option_and_then}
 use Rattle.std.specs.Cmp.Lexicographic.{pointwise}
 use Rattle.alto_words.specs.Numbers.{number_in}
 use Rattle.disk_image.specs.declared.start.Start.{Start}
 
--- whether a word is the option
-abbrev pub is_option : List ℕ → Bool
-is_option word = pointwise nat_eq word (codes "--cylinders")
+-- whether a word is this option
+abbrev pub is_option : List ℕ → List ℕ → Bool
+is_option option word = pointwise nat_eq word option
 
--- the number of cylinders that a word gives: 2 to 203
+-- the number of cylinders that a word gives: 2 to 406
 abbrev pub in_range : ℕ → Option ℕ
-in_range cylinders = if nat_le 2 cylinders && nat_le cylinders 203 then Some cylinders else None
+in_range cylinders = if nat_le 2 cylinders && nat_le cylinders 406 then Some cylinders else None
 
 abbrev pub cylinders_in : List ℕ → Option ℕ
 cylinders_in word = option_and_then in_range (number_in word)
 
--- behind the option stand C and PACK
-abbrev pub start_behind : List (List ℕ) → Option Start
-start_behind [] = None
-start_behind (number ∷ []) = None
-start_behind (number ∷ pack ∷ words) = option_map (λ cylinders. record { cylinders = Some cylinders; pack = 2; rest = 3 }) (cylinders_in number)
+-- after `--second`, which stands at word n: PACK2, PACK and the words
+abbrev pub second_from : Option ℕ → ℕ → List (List ℕ) → Option Start
+second_from c n [] = None
+second_from c n (second ∷ []) = None
+second_from c n (second ∷ pack ∷ words) = Some (record { cylinders = c; second = Some (n + 1); pack = n + 2; rest = n + 3 })
 
--- the option stands first or not at all
+-- from word n on: `--second PACK2` or not, and PACK
+abbrev pub packs_from : Option ℕ → ℕ → List (List ℕ) → Option Start
+packs_from c n [] = None
+packs_from c n (word ∷ words) = if is_option (codes "--second") word then second_from c n words else Some (record { cylinders = c; second = None; pack = n; rest = n + 1 })
+
+-- after `--cylinders`: C, and the packs
+abbrev pub after_option : List (List ℕ) → Option Start
+after_option [] = None
+after_option (number ∷ words) = option_and_then (λ c. packs_from (Some c) 2 words) (cylinders_in number)
+
+-- each option stands in its place or not at all
 abbrev pub start_of : List (List ℕ) → Option Start
 start_of [] = None
-start_of (first ∷ words) = if is_option first then start_behind words else Some (record { cylinders = None; pack = 0; rest = 1 })
+start_of (word ∷ words) = if is_option (codes "--cylinders") word then after_option words else packs_from None 0 (word ∷ words)

@@ -1,13 +1,14 @@
-// The file of a pack: its sectors in the order of their virtual addresses, with no heading. Of the 532 bytes of a sector,
+// The file of a drive: its sectors in the order of their virtual addresses, with no heading. Of the 532 bytes of a sector,
 //   bytes 0 to 3: the header, 2 words
 //   bytes 4 to 19: the label, 8 words
 //   bytes 20 to 531: the value, 256 words
 // and of a word the high byte comes first.
-ghost use Rattle.std.specs.Prelude.{◌≡◌, ℕ, ◌*◌, ◌<◌, ◌≤◌, [], length, All, IfSome, IfNone, IfOk, IfErr, OnOk, vec_capacity};
+ghost use Rattle.std.specs.Prelude.{◌≡◌, ℕ, ◌+◌, ◌*◌, ◌<◌, ◌≤◌, length, take, drop, All, IfSome, IfNone, IfOk, IfErr, OnOk, vec_len, vec_capacity};
 ghost use Rattle.disk_records.specs.Words.{word};
-ghost use Rattle.disk_records.specs.Addresses.{pages_of};
+ghost use Rattle.disk_records.specs.Addresses.{disks_of, cylinders_of, pages_of};
 ghost use Rattle.disk_image.specs.Images.{words_bytes, sector_bytes, pack_bytes, IsImage, IsWhole, IsPackLength, IsErrorAt};
 
+use crate::error::ImageError;
 use alto_words::Memory;
 use byteorder::{BigEndian, ByteOrder};
 use disk_records::{Sector, Shape};
@@ -28,25 +29,20 @@ pub(crate) const SECTOR_BYTES: usize = 532;
 /// The bytes of one cylinder: 24 sectors.
 pub(crate) const CYLINDER_BYTES: u64 = 12_768;
 
-/// Why some bytes give no pack.
-#[derive(Clone, Copy, Debug, PartialEq, Eq)]
-pub enum ImageError {
-    /// The file has this many bytes, which are not those of 2 to 203 cylinders of 12,768 bytes.
-    BadLength { bytes: u64 },
-    /// The length is a pack's, and no memory was left for the sectors.
-    Memory,
-}
-
-/// The shape of the pack whose file has this many bytes. None exactly where they aren't those of 2 to 203 cylinders.
-pub(crate) fn shape_of_length(bytes: u64) -> Option<Shape>
-    ensures some { IfSome result (λ shape. bytes ≡ pages_of shape * 532) }
+/// The shape of a pack of one or two drives whose files have this many bytes each. None exactly where that isn't the length of 2 to
+/// 406 cylinders.
+pub(crate) fn shape_of_length(disks: u16, bytes: u64) -> Option<Shape>
+    requires some_disk { 1 ≤ disks }
+    requires two_disks { disks ≤ 2 }
+    ensures some { IfSome result (λ shape. bytes ≡ cylinders_of shape * 12768) }
+    ensures disks { IfSome result (λ shape. disks_of shape ≡ disks) }
     ensures none { IfNone result (IsPackLength bytes → ⊥) }
 {
     if bytes % CYLINDER_BYTES != 0 {
         return None;
     }
     let cylinders = u16::try_from(bytes / CYLINDER_BYTES).ok()?;
-    Shape::new(1, cylinders)
+    Shape::new(disks, cylinders)
 }
 
 /// Reads words from their bytes, two a word.
@@ -99,14 +95,14 @@ fn write_sector(sector: &Sector, bytes: &mut [u8])
     write_words(&sector.value, value);
 }
 
-/// Reads the sectors of `count` times 532 bytes into an empty list that has room for them. No memory is taken.
-fn read_sectors(bytes: &[u8], count: usize, sectors: &mut Vec<Sector>)
+/// Reads the sectors of `count` times 532 bytes into a list that has room for them, after those that are there. No memory is taken.
+pub(crate) fn read_sectors(bytes: &[u8], count: usize, sectors: &mut Vec<Sector>)
     requires length { length bytes.now ≡ count * 532 }
-    requires empty { sectors.old.items ≡ [] }
-    requires room { count ≤ vec_capacity sectors.old }
-    ensures count { length sectors.new.items ≡ count }
-    ensures whole { All IsWhole sectors.new.items }
-    ensures bytes { bytes.now ≡ pack_bytes sectors.new.items }
+    requires room { vec_len sectors.old + count ≤ vec_capacity sectors.old }
+    ensures count { vec_len sectors.new ≡ vec_len sectors.old + count }
+    ensures kept { take (vec_len sectors.old) sectors.new.items ≡ sectors.old.items }
+    ensures whole { All IsWhole (drop (vec_len sectors.old) sectors.new.items) }
+    ensures bytes { bytes.now ≡ pack_bytes (drop (vec_len sectors.old) sectors.new.items) }
     ensures same_room { vec_capacity sectors.new ≡ vec_capacity sectors.old }
 {
     for at in 0..count {
@@ -115,16 +111,16 @@ fn read_sectors(bytes: &[u8], count: usize, sectors: &mut Vec<Sector>)
     }
 }
 
-/// The pack of a file: its shape, and its sectors in the order of their virtual addresses.
+/// The pack of a file: its shape, of one drive, and its sectors in the order of their virtual addresses.
 ///
-/// BadLength comes exactly where the length isn't that of 2 to 203 cylinders of 12,768 bytes, and carries it. Memory: none was left
-/// for the sectors, which are one allocation.
+/// BadLength comes exactly where the length isn't that of 2 to 406 cylinders of 12,768 bytes, and carries it. Unlike never comes.
+/// Memory: none was left for the sectors, which are one allocation.
 pub fn decode_pack(alloc: Global, bytes: &[u8]) -> Result<(Shape, Vec<Sector>), ImageError>
     ensures ok { IfOk result (λ pack. IsImage pack.0 pack.1.items bytes.now) }
     ensures room { IfOk result (λ pack. vec_capacity pack.1 ≡ pages_of pack.0) }
     ensures err { IfErr result (IsErrorAt (length bytes.now)) }
 {
-    let Some(shape) = shape_of_length(bytes.len() as u64) else {
+    let Some(shape) = shape_of_length(1, bytes.len() as u64) else {
         return Err(ImageError::BadLength {
             bytes: bytes.len() as u64,
         });
@@ -137,14 +133,24 @@ pub fn decode_pack(alloc: Global, bytes: &[u8]) -> Result<(Shape, Vec<Sector>), 
     Ok((shape, sectors))
 }
 
-/// The file of a pack: the bytes of each sector in order, in one allocation. There are as many sectors as the shape has.
+/// The file of a pack of one drive: the bytes of each sector in order, in one allocation. There are as many sectors as the shape has.
 ///
 /// Memory: none was left for the bytes.
 pub fn encode_pack(alloc: Global, shape: Shape, sectors: &[Sector]) -> Result<Vec<u8>, Memory>
-    requires { length sectors.now ≡ pages_of shape }
+    requires one { disks_of shape ≡ 1 }
+    requires count { length sectors.now ≡ pages_of shape }
     ensures { IfOk result (λ bytes. IsImage shape sectors.now bytes.items) }
 {
-    let mut bytes = Vec::with_capacity(alloc, shape.pages() as usize * SECTOR_BYTES)?;
+    encode_drive(alloc, sectors)
+}
+
+/// The file of a drive with these sectors, at most those of 406 cylinders: their bytes in order, in one allocation.
+pub(crate) fn encode_drive(alloc: Global, sectors: &[Sector]) -> Result<Vec<u8>, Memory>
+    requires { length sectors.now ≤ 9744 }
+    ensures whole { OnOk result (All IsWhole sectors.now) }
+    ensures bytes { IfOk result (λ bytes. bytes.items ≡ pack_bytes sectors.now) }
+{
+    let mut bytes = Vec::with_capacity(alloc, sectors.len() * SECTOR_BYTES)?;
     let mut one = [0; SECTOR_BYTES];
     for sector in sectors {
         write_sector(sector, &mut one);

@@ -1,31 +1,39 @@
-//! Pack files, the machine over one of them, and the words that a program is started with.
+//! Pack files, the machine over one or two of them, and the words that a program is started with.
 //!
-//! Below it stand alto_words and disk_records. A pack file is the pack's sectors in the order of their virtual addresses, as bytes.
-//! To the layers above:
-//! 1. A pack has one file, and a file is one pack's: what `encode_pack` writes `decode_pack` reads back, and the other way round
-//!    (`laws`).
-//! 2. `decode_pack` refuses a file for its length exactly where that isn't the length of 2 to 203 cylinders (`IsErrorAt`).
-//! 3. `start_of` takes exactly the command lines `[--cylinders C] PACK WORDS` with C from 2 to 203 (`start`).
+//! Below it stand alto_words and disk_records. A drive's file is its sectors in the order of their virtual addresses, as bytes; a pack
+//! has a file for each of its one or two drives. To the layers above:
+//! 1. A pack has one file, and a file is one pack's: what `encode_pack` writes `decode_pack` reads back, and the other way round; and so
+//!    of the two files of two drives, by `encode_two` and `decode_two` (`laws`).
+//! 2. `decode_pack` refuses a file for its length exactly where that isn't the length of 2 to 406 cylinders (`IsErrorAt`), and
+//!    `decode_two` two files for the first such length, or for two lengths that differ (`IsErrorOfTwo`).
+//! 3. `start_of` takes exactly the command lines `[--cylinders C] [--second PACK2] PACK WORDS` with C from 2 to 406 (`start`).
 //! 4. `FileMachine` meets what disk_records asks of every machine: a fault is answered only where the count of its own device rose,
 //!    and a mismatch only for a record that was to be checked.
 //!
 //! `FileMachine` is the edge to the outside. What a real file, terminal or pipe does is trusted and not proved, so it isn't told:
-//! no clause speaks of what it reads or shows. Proved of each step of a command by itself is where it goes in the file, which bytes it
-//! asks for and which it hands on (`seek_to`, `read_front`, `write_back`), over any file whose position and bytes are known; that a
-//! command takes these steps in this order is tested.
+//! no clause speaks of what it reads or shows. Proved are which drive's file a command goes to and where in it (`drive_of`), that the
+//! other drive's file isn't touched (`obey`), and of each step of a command by itself where it goes in the file, which bytes it asks for
+//! and which it hands on (`seek_to`, `read_front`, `write_back`), over any file whose position and bytes are known; that a command takes
+//! these steps in this order is tested.
 #![tactic(auto)]
 
 mod codec;
+mod drives;
 mod error;
 pub mod laws;
 mod machine;
+mod pair;
+mod reach;
 mod records;
 mod start;
 
-pub use codec::{ImageError, decode_pack, encode_pack};
-pub use error::ReachError;
+pub use codec::{decode_pack, encode_pack};
+pub use error::{ImageError, ReachError};
 pub use machine::FileMachine;
+pub use pair::{decode_two, encode_two};
 pub use start::{Start, start_of};
 
+#[cfg(test)]
+mod pair_tests;
 #[cfg(test)]
 mod tests;

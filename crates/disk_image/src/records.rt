@@ -1,16 +1,15 @@
 // The records of one sector, read from a file and written to it where the file stands.
-ghost use Rattle.std.specs.Prelude.{◌≡◌, ◌↔◌, ◌+◌, ◌*◌, ◌≤◌, length, replicate, IfOk, OnOk, OnErr, IsTrue};
+ghost use Rattle.std.specs.Prelude.{◌≡◌, ◌↔◌, ◌+◌, ◌*◌, ◌≤◌, length, replicate, IfOk, IfSome, IfNone, OnOk, OnErr, IsTrue};
 ghost use Rattle.std.specs.Io.KnownBytes.{Consumes, Appends};
 ghost use Rattle.std.specs.Io.Seek.{MovesTo};
-ghost use Rattle.disk_records.specs.Addresses.{pages_of};
-ghost use Rattle.disk_records.specs.Checks.{is_legal};
+ghost use Rattle.disk_records.specs.Checks.{is_legal, is_checked};
 ghost use Rattle.disk_image.specs.Records.{read_length, front_length, front_bytes, back_bytes, written_bytes, counted, counted_all};
 ghost use Rattle.disk_image.specs.Images.{words_bytes};
 
 use crate::codec::{
     CYLINDER_BYTES, HEADER_BYTES, LABEL_BYTES, SECTOR_BYTES, VALUE_BYTES, read_sector, write_words,
 };
-use disk_records::{Act, Plan, Sector, Shape};
+use disk_records::{Act, Plan, Sector, first_mismatch, update_memory};
 use std::fs::OpenFile;
 use std::io;
 use std::io::{Error, ErrorKind, Read, Seek, SeekFrom, Write};
@@ -35,7 +34,7 @@ fn front_length(plan: Plan) -> usize
         + (read_length(plan.label, LABEL_BYTES) + read_length(plan.value, VALUE_BYTES))
 }
 
-/// Brings a file to the first byte of a sector.
+/// Brings a file to the first byte of the sector at this place, counted in sectors from the file's start, as at the calls below.
 pub(crate) fn seek_to<F: Seek>(file: &mut F, at: u16) -> io::Result<()>
     ensures { MovesTo (F.stream_position file.old) (F.stream_position file.new) (at * 532) result }
 {
@@ -62,13 +61,39 @@ fn has_sector(bytes: u64, at: u16) -> bool
 
 /// Checks that the sector of a command that writes lies in the file: an error where the file no longer has the whole of it. Records
 /// written there would make the file longer again, and those that were lost would be read as zeros. It holds for the moment of the
-/// question: another process can shorten the file behind it. A command that only reads finds the end of the file by that. A Write
+/// question: another process can shorten the file after it. A command that only reads finds the end of the file by that. A Write
 /// is followed by Writes alone, so a command writes where it writes the value.
 pub(crate) fn check_in_file<F: OpenFile>(file: &F, at: u16, plan: Plan) -> io::Result<()> {
     if plan.value != Act::Write || has_sector(file.metadata()?.len(), at) {
         return Ok(());
     }
     Err(Error::from(ErrorKind::UnexpectedEof))
+}
+
+/// Does one sector command in the file of the sector's drive, and answers the first word that differs, if one does. Each record that is
+/// written raises the count of writes.
+pub(crate) fn obey_in_file<F: Read + Write + Seek + OpenFile>(
+    file: &mut F,
+    at: u16,
+    plan: Plan,
+    buf: &mut Sector,
+    writes: &mut u64,
+) -> io::Result<Option<(u8, u16)>>
+    requires { IsTrue (is_legal plan) }
+    ensures checked { IfOk result (λ found. IfSome found (λ place. IsTrue (is_checked plan place.0))) }
+    ensures wrote { IfOk result (λ found. IfNone found (writes.new ≡ counted_all plan writes.old)) }
+    ensures rise { writes.old ≤ writes.new }
+{
+    seek_to(file, at)?;
+    let disk = read_front(file, plan)?;
+    let found = first_mismatch(plan, buf, &disk);
+    if found.is_some() {
+        return Ok(found);
+    }
+    check_in_file(file, at, plan)?;
+    update_memory(plan, buf, &disk);
+    write_back(file, plan, buf, writes)?;
+    Ok(None)
 }
 
 /// Writes the records whose act is Write, in order, by one write call each, and counts those that were written.
@@ -117,12 +142,12 @@ fn write_bytes<F: Write>(file: &mut F, words: &[u16]) -> io::Result<()>
     file.write_all(record)
 }
 
-/// Fills a new file of this shape with zeros, one write call a cylinder.
-pub(crate) fn fill<F: Write>(file: &mut F, shape: Shape) -> io::Result<()>
-    ensures { OnOk result (Appends (F.contents file.old) (F.contents file.new) (replicate (pages_of shape * 532) 0)) }
+/// Fills the new file of a drive of so many cylinders with zeros, one write call a cylinder.
+pub(crate) fn fill<F: Write>(file: &mut F, cylinders: u16) -> io::Result<()>
+    ensures { OnOk result (Appends (F.contents file.old) (F.contents file.new) (replicate (cylinders * 12768) 0)) }
 {
     let zeros = [0; CYLINDER_BYTES as usize];
-    for _ in 0..shape.cylinders() {
+    for _ in 0..cylinders {
         file.write_all(&zeros)?;
     }
     Ok(())

@@ -83,34 +83,45 @@ fn words_of(alloc: Global, line: &str) -> Result<Vec<String>, AllocError> {
 
 #[test]
 fn command_lines(rt: HostRuntime) -> Result<(), Fail> {
-    let plain = Start {
-        cylinders: None,
-        pack: 0,
-        rest: 1,
-    };
-    let sized = |cylinders| {
+    let start = |cylinders, second, pack| {
         Some(Start {
-            cylinders: Some(cylinders),
-            pack: 2,
-            rest: 3,
+            cylinders,
+            second,
+            pack,
+            rest: pack + 1,
         })
     };
     let rows = [
-        ("P", Some(plain)),
-        ("P boot", Some(plain)),
-        ("P --cylinders 2", Some(plain)),
-        ("--help", Some(plain)),
-        ("--cylinders 2 P", sized(2)),
-        ("--cylinders 0203 P format 1", sized(203)),
-        ("--cylinders 2 --cylinders", sized(2)),
+        ("P", start(None, None, 0)),
+        ("P boot", start(None, None, 0)),
+        ("P --cylinders 2", start(None, None, 0)),
+        ("P --second P2", start(None, None, 0)),
+        ("--help", start(None, None, 0)),
+        ("--cylinders 2 P", start(Some(2), None, 2)),
+        ("--cylinders 0406 P format 1", start(Some(406), None, 2)),
+        ("--cylinders 2 --cylinders", start(Some(2), None, 2)),
+        ("--second P2 P", start(None, Some(1), 2)),
+        ("--second P2 P boot", start(None, Some(1), 2)),
+        ("--second --second --second", start(None, Some(1), 2)),
+        ("--second P2 --cylinders 2 P", start(None, Some(1), 2)),
+        (
+            "--cylinders 2 --second P2 P boot",
+            start(Some(2), Some(3), 4),
+        ),
+        ("--cylinders 2 P --second P2", start(Some(2), None, 2)),
         ("--cylinders", None),
         ("--cylinders 2", None),
         ("--cylinders 1 P boot", None),
-        ("--cylinders 204 P boot", None),
+        ("--cylinders 407 P boot", None),
         ("--cylinders 65538 P boot", None),
         ("--cylinders x P boot", None),
         ("--cylinders -2 P boot", None),
         ("--cylinders P boot", None),
+        ("--second", None),
+        ("--second P2", None),
+        ("--cylinders 2 --second", None),
+        ("--cylinders 2 --second P2", None),
+        ("--cylinders 407 --second P2 P boot", None),
     ];
     for (line, start) in rows {
         let words = words_of(rt.alloc(), line)?;
@@ -125,6 +136,13 @@ fn texts_of_errors(rt: HostRuntime) -> Result<(), Fail> {
     let rows = [
         (ReachError::NoFile, "no pack"),
         (ReachError::BadLength { bytes: 25_535 }, "bad length 25535"),
+        (
+            ReachError::Unlike {
+                first: 25_536,
+                second: 38_304,
+            },
+            "unlike packs 25536 38304",
+        ),
         (ReachError::Memory, "no memory"),
     ];
     for (error, text) in rows {

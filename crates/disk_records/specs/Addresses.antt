@@ -9,9 +9,9 @@ disks_of shape = shape.disks
 abbrev pub cylinders_of : Shape → ℕ
 cylinders_of shape = shape.cylinders
 
--- the sectors of a pack: 24 to a cylinder
+-- the sectors of a pack: 24 to a cylinder of each disk
 abbrev pub pages_of : Shape → ℕ
-pages_of shape = shape.cylinders * 24
+pages_of shape = shape.disks * shape.cylinders * 24
 
 -- the real address of the sector at a virtual address: sector, cylinder, head, disk and restore,
 -- in 4, 9, 1, 1 and 1 bits

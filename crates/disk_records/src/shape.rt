@@ -1,51 +1,55 @@
-// The shape of a drive.
-ghost use Rattle.std.specs.Prelude.{◌≡◌, ◌≤◌};
+// The shape of a pack.
+ghost use Rattle.std.specs.Prelude.{◌≡◌, ◌≤◌, ◌*◌};
 
-/// The shape of a Diablo model 31 drive with some of its 203 cylinders: 2 heads and 12 sectors to a track.
+/// The shape of a pack on one or two Diablo drives of one size, with 2 to 406 cylinders each: 2 heads and 12 sectors to a track. A
+/// model 31 drive has 203 cylinders, a model 44 drive 406.
 #[derive(Clone, Copy, Debug, PartialEq, Eq, Drop)]
 pub struct Shape {
     disks: u16,
     cylinders: u16,
-    pub ghost one_disk: { disks ≡ 1 },
+    pub ghost some_disk: { 1 ≤ disks },
+    pub ghost two_disks: { disks ≤ 2 },
     pub ghost least: { 2 ≤ cylinders },
-    pub ghost most: { cylinders ≤ 203 },
+    pub ghost most: { cylinders ≤ 406 },
+    pub ghost least_pages: { 48 ≤ disks * cylinders * 24 },
+    pub ghost most_pages: { disks * cylinders * 24 ≤ 19488 },
 }
 
 impl Shape {
     ghost use Rattle.std.specs.Prelude.{ℕ, ◌≢◌, ◌<◌, ◌↔◌, Some, IsSome, IfNone, IfSome};
     ghost use Rattle.disk_records.specs.Addresses.{disks_of, cylinders_of, pages_of, real_of, descriptor_length};
 
-    /// A shape of one disk with 2 to 203 cylinders. None exactly where the numbers aren't these.
+    /// A shape of one or two disks with 2 to 406 cylinders each. None exactly where the numbers aren't these.
     pub fn new(disks: u16, cylinders: u16) -> Option<Shape>
         ensures some { IfSome result (λ shape. (disks_of shape ≡ disks) × (cylinders_of shape ≡ cylinders)) }
-        ensures valid { IsSome result ↔ ((disks ≡ 1) × (2 ≤ cylinders) × (cylinders ≤ 203)) }
+        ensures valid { IsSome result ↔ ((1 ≤ disks) × (disks ≤ 2) × (2 ≤ cylinders) × (cylinders ≤ 406)) }
     {
-        if disks == 1 && 2 <= cylinders && cylinders <= 203 {
+        if 1 <= disks && disks <= 2 && 2 <= cylinders && cylinders <= 406 {
             Some(Shape { disks, cylinders })
         } else {
             None
         }
     }
 
-    /// The number of disks: 1.
+    /// The number of disks: 1 or 2.
     pub fn disks(&self) -> u16
         ensures { result ≡ disks_of self.now }
     {
         self.disks
     }
 
-    /// The number of cylinders, 2 to 203.
+    /// The number of cylinders of each disk, 2 to 406.
     pub fn cylinders(&self) -> u16
         ensures { result ≡ cylinders_of self.now }
     {
         self.cylinders
     }
 
-    /// The number of sectors, 48 to 4,872.
+    /// The number of sectors, 48 to 19,488.
     pub fn pages(&self) -> u16
         ensures { result ≡ pages_of self.now }
     {
-        self.cylinders * 24
+        self.disks * self.cylinders * 24
     }
 
     /// The real address of the sector at this virtual address, restore bit 0.
@@ -53,7 +57,11 @@ impl Shape {
         requires { at < pages_of self.now }
         ensures { result ≡ real_of self.now at }
     {
-        at % 12 * 4096 + at / 24 * 8 + at / 12 % 2 * 4
+        let cylinder = at / 24;
+        at % 12 * 4096
+            + cylinder % self.cylinders * 8
+            + at / 12 % 2 * 4
+            + cylinder / self.cylinders * 2
     }
 
     /// The virtual address of the sector with this real address. None exactly where no sector has it with restore bit 0.
@@ -65,8 +73,9 @@ impl Shape {
         let sector = real / 4096;
         let cylinder = real / 8 % 512;
         let head = real / 4 % 2;
-        if sector < 12 && cylinder < self.cylinders && real % 4 == 0 {
-            Some(cylinder * 24 + head * 12 + sector)
+        let disk = real / 2 % 2;
+        if sector < 12 && cylinder < self.cylinders && disk < self.disks && real % 2 == 0 {
+            Some((disk * self.cylinders + cylinder) * 24 + head * 12 + sector)
         } else {
             None
         }

@@ -9,3 +9,5 @@
 mod outside;
 #[cfg(test)]
 mod real_files;
+#[cfg(test)]
+mod two_drives;

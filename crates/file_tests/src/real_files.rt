@@ -210,22 +210,30 @@ fn a_file_that_shrinks_ends_the_session(rt: HostRuntime) -> Result<(), Fail> {
 fn every_byte_is_read_and_written_back(rt: HostRuntime) -> Result<(), Fail> {
     let alloc = rt.alloc();
     let mut bytes = Vec::new(alloc);
-    for at in 0..25_536u32 {
-        bytes.push((at * 11 / 5 % 256) as u8)?;
+    for at in 0..51_072u32 {
+        bytes.push((at as u64 * 11 / 5 % 256) as u8)?;
     }
-    fs::write(&rt, "every", bytes.as_slice())?;
-    let mut every = FileMachine::reach(&rt, alloc, "every")?;
-    let mut again = FileMachine::create(&rt, alloc, "again", 2)?;
+    // of two drives, whose sectors follow each other
+    let (front, back) = bytes.split_at(25_536);
+    fs::write(&rt, "front", front)?;
+    fs::write(&rt, "back", back)?;
+    let mut every = FileMachine::reach_two(&rt, alloc, "front", "back")?;
+    let mut again = FileMachine::create_two(&rt, alloc, "again", "also", 2)?;
     let mut sector = ZEROS;
-    for at in 0u16..48 {
+    for at in 0u16..96 {
         assert!(rt; at < every.shape().pages() && at < again.shape().pages());
         every.run(at, READ_ALL, &mut sector)?;
         again.run(at, WRITE_ALL, &mut sector)?;
     }
-    assert!(rt; fs::read(&rt, "again")?.as_slice() == bytes.as_slice());
-    assert!(rt; fs::read(&rt, "every")?.as_slice() == bytes.as_slice());
-    fs::remove_file(&rt, "every")?;
-    fs::remove_file(&rt, "again")?;
+    for (path, wanted) in [
+        ("front", front),
+        ("back", back),
+        ("again", front),
+        ("also", back),
+    ] {
+        assert!(rt; fs::read(&rt, path)?.as_slice() == wanted, "{path}");
+        fs::remove_file(&rt, path)?;
+    }
     Ok(())
 }
 

@@ -1,11 +1,11 @@
 -- What the Scavenger leaves, and what it reports.
 -- The Scavenger is that of the SOSP 1979 paper; its report is this project's choice.
-use Rattle.std.specs.Prelude.{◌≡◌, ℕ, ◌+◌, ◌==◌, ◌&&◌, true, Bool, cond, not, max, List, [], ◌∷◌, length}
+use Rattle.std.specs.Prelude.{◌≡◌, ℕ, ◌+◌, ◌*◌, ◌/◌, ◌==◌, ◌&&◌, ◌||◌, true, Bool, cond, not, max, List, [], ◌∷◌, length}
 use Rattle.std.specs.FinMap.{entries}
 use Rattle.alto_words.specs.declared.fid.Fid.{Fid}
 use Rattle.alto_words.specs.Fid.{serial_of, disk_descriptor}
 use Rattle.disk_records.specs.declared.shape.Shape.{Shape}
-use Rattle.disk_records.specs.Addresses.{disks_of, cylinders_of, table_words, descriptor_length}
+use Rattle.disk_records.specs.Addresses.{disks_of, cylinders_of}
 use Rattle.disk_records.specs.Words.{word}
 use Rattle.disk_records.specs.Packs.{Pack}
 use Rattle.pack_model.specs.Sights.{Sight, sights}
@@ -47,14 +47,21 @@ report_of p = record {
 }
 
 -- ---- the last serial that it writes
-abbrev pub says_shape : Shape → List ℕ → Bool
-says_shape shape words =
-    word words 0 == disks_of shape && word words 1 == cylinders_of shape && word words 2 == 2 && word words 3 == 12
-    && word words 8 == table_words shape
+-- the words of the map of so many drives with the cylinders of this shape
+abbrev pub map_words : ℕ → Shape → ℕ
+map_words drives shape = (drives * cylinders_of shape * 24 + 15) / 16
 
--- that of the old descriptor, whether or not it lives, where its length and its shape are right
+-- DiskDescriptor has the length and says the shape of so many drives with these cylinders
+abbrev pub says_drives : ℕ → Shape → List ℕ → List ℕ → Bool
+says_drives drives shape bytes words =
+    length bytes == 32 + 2 * map_words drives shape
+    && word words 0 == drives && word words 1 == cylinders_of shape && word words 2 == 2 && word words 3 == 12
+    && word words 8 == map_words drives shape
+
+-- that of the old descriptor, whether or not it lives, where its length and its words are right for this shape, or for one drive with as
+-- many cylinders
 abbrev pub old_serial : Shape → List ℕ → List ℕ → ℕ
-old_serial shape bytes words = cond (length bytes == descriptor_length shape && says_shape shape words) (last_serial words) 0
+old_serial shape bytes words = cond (says_drives (disks_of shape) shape bytes words || says_drives 1 shape bytes words) (last_serial words) 0
 
 abbrev pub greatest_serial : List (Fid × File) → ℕ
 greatest_serial [] = 0

@@ -1,6 +1,6 @@
 -- What a leader's sector shows of a label with another count, and the pages of DiskDescriptor where it has two.
 use Rattle.std.proofs.Common.{◌≡◌, ℕ, Bool, true, false, List, [], ◌∷◌, ◌++◌, refl, arith}
-use Rattle.std.specs.Prelude.{◌-◌, ◌≤◌, codes, replicate, length, take, drop, get_or}
+use Rattle.std.specs.Prelude.{◌+◌, ◌*◌, ◌-◌, ◌≤◌, codes, replicate, length, take, drop, get_or}
 use Rattle.std.specs.Fmt.{digits}
 use Rattle.alto_words.specs.Names.{lost, is_stored_name}
 use Rattle.disk_records.specs.declared.shape.Shape.{Shape}
@@ -12,7 +12,8 @@ use Rattle.pack_model.specs.Leaders.{Leader, leader_of, leader_name, is_readable
 use Rattle.pack_model.specs.Sights.{sight}
 use Rattle.pack_model.specs.Sights.Sight.{leads}
 use Rattle.pack_model.specs.Descriptor.{data_pages, descriptor_value}
-use Rattle.pack_model.specs.Format.{format_page, formatted_sectors, sectors_used}
+use Rattle.pack_model.specs.Format.{format_page, formatted_sectors, sectors_used, free_after_format}
+use Rattle.pack_model.specs.Reports.{old_serial, map_words}
 use Rattle.pack_vectors.proofs.SmallPacks.{small, file_3}
 
 -- ---- leader sectors
@@ -38,8 +39,56 @@ unfolding sight real_of in_range is_free leader_of leader_name is_readable is_st
 flags = (refl, refl, refl, refl)
 
 -- ---- DiskDescriptor in two data pages: model 31, and 3,840 pages, where the first one is full and the second is empty
-abbrev shape_of : (cylinders : ℕ) → 2 ≤ cylinders → cylinders ≤ 203 → Shape
-shape_of cylinders least most = record { disks = 1; cylinders = cylinders; one_disk = refl; least = least; most = most }
+abbrev shape_of : (cylinders : ℕ) → 2 ≤ cylinders → cylinders ≤ 406 → Shape
+shape_of cylinders least most = record {
+  disks = 1;
+  cylinders = cylinders;
+  some_disk = omega arith;
+  two_disks = omega arith;
+  least = least;
+  most = most;
+  least_pages = omega (arith, least);
+  most_pages = omega (arith, most);
+}
+
+-- two drives of so many cylinders
+abbrev two_of : (cylinders : ℕ) → 2 ≤ cylinders → cylinders ≤ 406 → Shape
+two_of cylinders least most = record {
+  disks = 2;
+  cylinders = cylinders;
+  some_disk = omega arith;
+  two_disks = omega arith;
+  least = least;
+  most = most;
+  least_pages = omega (arith, least);
+  most_pages = omega (arith, most);
+}
+
+abbrev two_31 : Shape
+two_31 = two_of 203 (omega arith) (omega arith)
+
+abbrev two_44 : Shape
+two_44 = two_of 406 (omega arith) (omega arith)
+
+abbrev model_44 : Shape
+model_44 = shape_of 406 (omega arith) (omega arith)
+
+-- model 44, two drives of 203 cylinders, two of 406: the bytes and the pages of DiskDescriptor, and what is free
+drives :
+    (descriptor_length model_44 ≡ 1250) × (descriptor_length two_31 ≡ 1250) × (descriptor_length two_44 ≡ 2468)
+    × (data_pages model_44 ≡ 3) × (data_pages two_31 ≡ 3) × (data_pages two_44 ≡ 5)
+    × (free_after_format model_44 ≡ 9737) × (free_after_format two_31 ≡ 9737) × (free_after_format two_44 ≡ 19479)
+drives = (refl, refl, refl, refl, refl, refl, refl, refl, refl)
+
+-- the last sector of the first drive, the first and the last of the second
+second_drive : (real_of two_31 4871 ≡ 11 * 4096 + 202 * 8 + 4) × (real_of two_31 4872 ≡ 2) × (real_of two_31 9743 ≡ 11 * 4096 + 202 * 8 + 6) × (real_of two_44 19487 ≡ 48302)
+unfolding real_of
+second_drive = (refl, refl, refl, refl)
+
+-- five pages: the last one counts 420 bytes
+fifth_page : ((format_page two_44 4).0 ≡ 65535 ∷ 28672 ∷ 0 ∷ 420 ∷ 5 ∷ 1 ∷ 0 ∷ 2 ∷ []) × ((format_page two_44 3).0 ≡ 32768 ∷ 24576 ∷ 0 ∷ 512 ∷ 4 ∷ 1 ∷ 0 ∷ 2 ∷ [])
+unfolding real_of
+fifth_page = (refl, refl)
 
 abbrev model_31 : Shape
 model_31 = shape_of 203 (omega arith) (omega arith)
@@ -91,3 +140,16 @@ last_hints shape = drop 253 (get_or (take 4 (formatted_sectors shape 1000)) 3 ([
 
 leader_hints : (last_hints model_31 ≡ 5 ∷ 2 ∷ 130 ∷ []) × (last_hints model_160 ≡ 5 ∷ 2 ∷ 0 ∷ []) × (last_hints small ≡ 4 ∷ 1 ∷ 38 ∷ [])
 leader_hints = (refl, refl, refl)
+
+-- ---- the old last serial: of this shape, of one drive with as many cylinders, of one drive of another size, and of a descriptor that
+-- is as long as that of two drives and still says one
+serial_of_drives : ℕ → Shape → ℕ → ℕ
+serial_of_drives length shape drives = old_serial two_31 (replicate length 0) (drives ∷ 203 ∷ 2 ∷ 12 ∷ 0 ∷ 9 ∷ 1 ∷ 0 ∷ (map_words drives shape) ∷ [])
+
+old_serials :
+    (serial_of_drives 1250 two_31 2 ≡ 9)
+    × (serial_of_drives 642 two_31 1 ≡ 9)
+    × (serial_of_drives 1250 two_31 1 ≡ 0)
+    × (serial_of_drives 642 two_44 1 ≡ 0)
+unfolding serial_of_drives
+old_serials = (refl, refl, refl, refl)

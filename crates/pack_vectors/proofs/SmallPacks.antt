@@ -32,7 +32,16 @@ abbrev pub leader_a : Leader
 leader_a = new_leader (codes "A.") 1000
 
 abbrev pub model_31 : Shape
-model_31 = record { disks = 1; cylinders = 203; one_disk = refl; least = omega arith; most = omega arith }
+model_31 = record {
+  disks = 1;
+  cylinders = 203;
+  some_disk = omega arith;
+  two_disks = omega arith;
+  least = omega arith;
+  most = omega arith;
+  least_pages = omega arith;
+  most_pages = omega arith;
+}
 
 abbrev pub dir_4 : Fid
 dir_4 = directory_fid 4
@@ -41,7 +50,16 @@ abbrev pub file_3 : Fid
 file_3 = ordinary_fid 3
 
 abbrev pub small : Shape
-small = record { disks = 1; cylinders = 2; one_disk = refl; least = omega arith; most = omega arith }
+small = record {
+  disks = 1;
+  cylinders = 2;
+  some_disk = omega arith;
+  two_disks = omega arith;
+  least = omega arith;
+  most = omega arith;
+  least_pages = omega arith;
+  most_pages = omega arith;
+}
 
 abbrev pub formatted_pack : Pack
 formatted_pack = formatted small 1 1000

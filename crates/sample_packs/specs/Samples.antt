@@ -1,7 +1,7 @@
 -- Packs of 48 sectors made by hand.
 use Rattle.std.specs.Prelude.{⊤, ◌≡◌, ◌≢◌, ℕ, suc, zero, ◌+◌, ◌*◌, ◌/◌, ◌%◌, List, [], ◌∷◌, ◌++◌, get_or, set, replicate}
 use Rattle.disk_records.specs.declared.records.Sector.{Sector}
-use Rattle.disk_records.specs.Addresses.{cylinders_of}
+use Rattle.disk_records.specs.Addresses.{disks_of, cylinders_of}
 use Rattle.disk_records.specs.Packs.{no_sector}
 use Rattle.disk_records.specs.Tapes.{Taped}
 use Rattle.disk_memory.specs.declared.error.NewError.{NewError}
@@ -36,6 +36,7 @@ placed_all (page ∷ pages) sectors = placed_all pages (placed_on page sectors)
 
 -- a machine of two cylinders before its first call
 pub record IsOver (sectors : List Sector) (keys : List ℕ) (t : Taped) : Type 0 where
+  pub disks : disks_of t.form ≡ 1
   pub cylinders : cylinders_of t.form ≡ 2
   pub tape : t ≡ first_tape t.form sectors keys
 

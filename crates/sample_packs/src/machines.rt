@@ -1,6 +1,6 @@
 // Machines over packs of two cylinders.
 ghost use Rattle.std.specs.Prelude.{◌≡◌, IfOk, IfErr, length};
-ghost use Rattle.disk_records.specs.Addresses.{cylinders_of};
+ghost use Rattle.disk_records.specs.Addresses.{disks_of, cylinders_of};
 ghost use Rattle.disk_memory.specs.Failing.{IsFresh};
 ghost use Rattle.sample_packs.specs.Samples.{IsErrorOf, IsOver};
 
@@ -10,7 +10,8 @@ use std::alloc::Global;
 
 /// The shape of two cylinders: 48 sectors.
 pub fn small_shape() -> Shape
-    ensures { cylinders_of result ≡ 2 }
+    ensures disks { disks_of result ≡ 1 }
+    ensures cylinders { cylinders_of result ≡ 2 }
 {
     match Shape::new(1, 2) {
         Some(shape) => shape,

@@ -1,6 +1,7 @@
-use Rattle.std.proofs.Common.{sym}
-use Rattle.disk_records.proofs.Reals.{real_of-one_disk}
+use Rattle.std.proofs.Common.{refl}
+use Rattle.disk_records.specs.Addresses.{real_of}
 use Rattle.disk_records.proofs.shape.Shape.real_of.Goals as goal
 
 pub returns : goal.returns
-returns c = sym (real_of-one_disk c.args.self.now c.args.at c.requires)
+unfolding real_of
+returns c = refl

@@ -1,6 +1,6 @@
 use Rattle.std.proofs.Common.{◌≡◌, ◌*◌, ◌≤◌, length, take, All, vec_len, vec_capacity}
 use Rattle.disk_image.specs.Images.{pack_bytes, IsWhole}
-use Rattle.disk_image.proofs.codec.encode_pack.Given as goal
+use Rattle.disk_image.proofs.codec.encode_drive.Given as goal
 
 abbrev pub invariant-loop-sector : goal.invariant-loop-sector
 invariant-loop-sector l = record {

@@ -1,6 +1,6 @@
 use Rattle.std.proofs.Common.{rules}
 use Rattle.disk_image.proofs.Packs.{pack_bytes-written, whole-taken}
-use Rattle.disk_image.proofs.codec.encode_pack.Goals as goal
+use Rattle.disk_image.proofs.codec.encode_drive.Goals as goal
 
 pub loop-sector-preserved : goal.loop-sector-preserved
 loop-sector-preserved c = record {
