@@ -1,3 +1,4 @@
+pub mod OwnRule
 pub mod Acknowledging
 pub mod ByLists
 pub mod ByteInPages
