@@ -1,7 +1,14 @@
+pub mod Alike
 pub mod Digits
 pub mod Folding
 pub mod Hex
 pub mod Made
+pub mod Marked
+pub mod Marks
+pub mod NameVectors
 pub mod Names
+pub mod Ordered
 pub mod Reading
+pub mod Stems
 pub mod Texts
+pub mod Versions

@@ -11,7 +11,8 @@ use Rattle.std.proofs.lemmas.Bool.Decides.{nat_tests}
 use Rattle.std.proofs.lemmas.List.{take_all}
 use Rattle.std.proofs.lemmas.List.Folds.{list_all_at}
 use Rattle.alto_words.specs.Names.{is_digit}
-use Rattle.alto_words.specs.Numbers.{decimal_value, number_in}
+use Rattle.alto_words.specs.Names.{decimal_value}
+use Rattle.alto_words.specs.Numbers.{number_in}
 
 -- a text of no digits or of more than ten is no number
 pub number_in-length : (text : List ℕ) → (length text ≡ 0) ⊎ (10 < length text) → None ≡ number_in text
@@ -56,11 +57,16 @@ decimal_value-digits n (c ∷ cs) all =
     digit : (c : ℕ) → digit_value c < 10 → (is_digit c ≡ true) × (c - 48 ≡ digit_value c)
     digit c h = (grind (arith, nat_tests), grind (arith, nat_tests))
 
+pub decimal_value-decimal : (n : ℕ) → n < 2 ^ 64 → decimal_value (decimal n) ≡ n
+decimal_value-decimal n fits =
+    let numeral = decimal_is_IsNumeral n fits in
+    (decimal_value-digits 0 (decimal n) numeral.0.1).1 ∙ numeral.1
+
 pub number_in-decimal : (n : ℕ) → n < 2 ^ 32 → number_in (decimal n) ≡ Some n
 number_in-decimal n fits =
     let numeral = decimal_is_IsNumeral n (omega arith) in
     let few = length-decimal-le 10 n (omega arith) (omega arith) (omega arith) in
     let digits = decimal_value-digits 0 (decimal n) numeral.0.1 in
-    let value : decimal_value (decimal n) ≡ n = digits.1 ∙ numeral.1 in
+    let value : decimal_value (decimal n) ≡ n = decimal_value-decimal n (omega arith) in
     number_in-digits (decimal n) numeral.0.0 few digits.0
     ∙ ap (λ v. cond (nat_lt v 4294967296) (Some v) None) value ∙ cond-true (nat_lt n 4294967296) (Some n) None (lt-ltb n 4294967296 (omega arith))

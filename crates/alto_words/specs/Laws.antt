@@ -3,16 +3,16 @@ use Rattle.std.specs.Prelude.{◌≡◌, ◌↔◌, ℕ, ◌+◌, ◌^◌, ◌<�
 use Rattle.std.specs.Cmp.{IsTotalOrder}
 use Rattle.std.specs.List.{All}
 use Rattle.std.specs.declared.cmp.Ordering.TheVariants.{Less, Equal}
-use Rattle.alto_words.specs.Names.{is_stored_name, is_same_name, folded_cmp, suffix_of, suffixed, lost}
+use Rattle.alto_words.specs.Names.{is_bare_name, is_stored_name, is_same_name, folded_cmp, base_of, after_kept, suffixed, lost}
 use Rattle.alto_words.specs.Numbers.{number_in, bytes_in_hex, hex_of}
 
 -- the order of names is total: seen from the other name it is turned round, and it carries on from name to name
 abbrev pub OrderIsTotal : Type 0
 OrderIsTotal = IsTotalOrder folded_cmp
 
--- a name comes before a longer one that begins with it, in any case of its letters
+-- a bare name comes before a longer one that begins with it, in any case of its letters
 abbrev pub PrefixComesFirst : Type 0
-PrefixComesFirst = (name front rest : List ℕ) → is_same_name name front ≡ true → 0 < length rest → folded_cmp name (front ++ rest) ≡ Less
+PrefixComesFirst = (name front rest : List ℕ) → is_bare_name name ≡ true → is_bare_name (front ++ rest) ≡ true → is_same_name name front ≡ true → 0 < length rest → folded_cmp name (front ++ rest) ≡ Less
 
 -- two names are tied exactly where they are the same
 abbrev pub OrderAgreesWithSame : Type 0
@@ -22,9 +22,9 @@ OrderAgreesWithSame = (a b : List ℕ) → (folded_cmp a b ≡ Equal) ↔ (is_sa
 abbrev pub SuffixedIsStored : Type 0
 SuffixedIsStored = (name : List ℕ) (k : ℕ) → is_stored_name name ≡ true → k ≤ 65535 → is_stored_name (suffixed name k) ≡ true
 
--- it is the longer by the suffix and a `.`, where 39 characters are enough for that
+-- it has the base, the suffix, the version and a `.`, where 39 characters are enough for that
 abbrev pub LengthSuffixed : Type 0
-LengthSuffixed = (name : List ℕ) (k : ℕ) → k ≤ 65535 → length (suffixed name k) ≡ min (length name + length (suffix_of k) + 1) 39
+LengthSuffixed = (name : List ℕ) (k : ℕ) → k ≤ 65535 → length (suffixed name k) ≡ min (length (base_of name) + length (after_kept name k) + 1) 39
 
 -- the name that stands for one that can't be read is a stored name
 abbrev pub LostIsStored : Type 0

@@ -1,12 +1,8 @@
 -- Numbers in text.
-use Rattle.std.specs.Prelude.{ℕ, ◌+◌, ◌-◌, ◌*◌, ◌/◌, ◌%◌, ◌==◌, ◌&&◌, false, cond, nat_le, nat_lt, List, [], ◌∷◌, length, Option, Some, None, fold}
+use Rattle.std.specs.Prelude.{ℕ, ◌+◌, ◌-◌, ◌*◌, ◌/◌, ◌%◌, ◌==◌, ◌&&◌, false, cond, nat_le, nat_lt, List, [], ◌∷◌, length, Option, Some, None}
 use Rattle.std.specs.List.{list_all, flat_map}
 use Rattle.std.specs.Fmt.{digit_glyph}
-use Rattle.alto_words.specs.Names.{is_digit}
-
--- the value of decimal digits, the first one first
-abbrev pub decimal_value : List ℕ → ℕ
-decimal_value text = fold (λ n digit. n * 10 + (digit - 48)) 0 text
+use Rattle.alto_words.specs.Names.{is_digit, decimal_value}
 
 -- 1 to 10 decimal digits with a value below 2^32; leading zeros are read
 unfoldable pub number_in : List ℕ → Option ℕ

@@ -7,7 +7,7 @@ pub fn order_is_total()
     ensures { OrderIsTotal }
 {}
 
-/// A name comes before a longer one that begins with it, in any case of its letters.
+/// A bare name comes before a longer one that begins with it, in any case of its letters.
 pub fn prefix_comes_first()
     ensures { PrefixComesFirst }
 {}

@@ -1,10 +1,11 @@
 // Names of files, as they are stored.
-ghost use Rattle.std.specs.Prelude.{◌≡◌, ◌≤◌, ◌++◌, ◌∷◌, [], true, nat_eq};
+ghost use Rattle.std.specs.Prelude.{◌≡◌, ◌≤◌, ◌++◌, ◌∷◌, [], None, true, IfSome, IfNone, nat_eq};
 ghost use Rattle.std.specs.Cmp.{partial_equiv_from_equiv};
 ghost use Rattle.std.specs.Cmp.Lexicographic.{pointwise, nat_list_eq_equiv};
 ghost use Rattle.std.specs.List.{list_all};
-ghost use Rattle.alto_words.specs.Names.{is_name_character, is_stored_name, stored_in, name_in, with_dot, is_same_name, folded_cmp, suffixed, lost};
+ghost use Rattle.alto_words.specs.Names.{is_name_character, is_stored_name, stored_in, name_in, with_dot, without_dot, is_same_name, folded_cmp, suffixed, lost, base_of, version_of, after_mark, IsFirstMark, version_text, version_in};
 
+use crate::numbers::read_number;
 use crate::text::{MAX_LENGTH, ShortText};
 use itoa::Buffer;
 use std::cmp::Ordering;
@@ -13,8 +14,13 @@ use std::marker::Model;
 /// The most characters of a name before its final `.`.
 const MAX_STEM: usize = MAX_LENGTH - 1;
 
-/// The name of a file as it is stored: 2 to 39 characters, each an ASCII letter, a digit or one of
-/// `+ - . $`, the last a `.`. It takes no memory. Contracts see it as the list of its bytes.
+/// The greatest version.
+const MAX_VERSION: u32 = 65_534;
+
+/// The name of a file as it is stored: 2 to 39 characters, the last a `.`. A bare name has ASCII
+/// letters, digits and `+ - . $` before that; it is version 1 of itself. `TEXT!n.` is version n of
+/// the bare name `TEXT.`, its base: n is 2 to 65,534, in decimal without leading zeros. A `Name`
+/// takes no memory. Contracts see it as the list of its bytes.
 #[derive(Clone, Copy, Debug)]
 pub struct Name {
     text: ShortText,
@@ -42,35 +48,93 @@ impl Name {
         self.text.as_bytes()
     }
 
-    /// The name that this text stands for: the text, with a final `.` where it is missing. None
-    /// exactly where that isn't a stored name.
+    /// The name that a text stands for: `TEXT` and `TEXT.` stand for the bare name `TEXT.`;
+    /// `TEXT!n` and `TEXT!n.`, where TEXT may end with its `.`, for version n of it, with n from 1
+    /// to 65,534 in decimal without leading zeros. None if and only if that isn't a stored name.
     pub fn parse(text: &[u8]) -> Option<Name>
         ensures { result ≡ name_in text.now }
     {
-        Name::with_stem(without_dot(text))
+        match mark_in(text) {
+            None => Name::with_stem(without_dot(text), 1),
+            Some(at) => {
+                let version = version_in(without_dot(&text[at + 1..]))?;
+                Name::with_stem(without_dot(&text[..at]), version)
+            }
+        }
     }
 
-    /// The name that is stored as these bytes. None exactly where they aren't a stored name: a
-    /// final `.` isn't added.
+    /// The name that is stored as these bytes. None if and only if they aren't a stored name: no
+    /// final `.` is added, and version 1 isn't written out.
     pub fn stored(bytes: &[u8]) -> Option<Name>
         ensures { result ≡ stored_in bytes.now }
     {
-        let stem = bytes.strip_suffix(b".".as_slice())?;
-        Name::with_stem(stem)
+        match mark_in(bytes) {
+            None => Name::with_stem(bytes.strip_suffix(b".".as_slice())?, 1),
+            Some(at) => {
+                let version = version_in(bytes[at + 1..].strip_suffix(b".".as_slice())?)?;
+                if version == 1 {
+                    return None;
+                }
+                Name::with_stem(&bytes[..at], version)
+            }
+        }
     }
 
-    /// The name with these characters before its final `.`. None exactly where they and the `.`
-    /// aren't a stored name.
-    fn with_stem(stem: &[u8]) -> Option<Name>
-        ensures { result ≡ stored_in (stem.now ++ 46 ∷ []) }
+    /// The name of these bytes, a version and a final `.`. None if and only if that isn't a stored
+    /// name.
+    fn with_stem(stem: &[u8], version: u16) -> Option<Name>
+        requires unmarked { after_mark stem.now ≡ None }
+        requires least { 1 ≤ version }
+        requires most { version ≤ 65534 }
+        ensures { result ≡ stored_in (stem.now ++ version_text version ++ (46 ∷ [])) }
     {
-        if !is_stem(stem) {
+        if stem.is_empty() || !has_name_characters(stem) {
             return None;
         }
-        let mut stored = ShortText::new();
-        stored.push(stem);
-        stored.push(b".");
-        Some(Name { text: stored })
+        let mark = version_mark(version);
+        if stem.len() > MAX_STEM - mark.as_bytes().len() {
+            return None;
+        }
+        let mut text = ShortText::new();
+        text.push(stem);
+        text.push(mark.as_bytes());
+        text.push(b".");
+        Some(Name { text })
+    }
+
+    /// The bare name of which this name is a version.
+    pub fn base(&self) -> Name
+        ensures { result ≡ base_of self.now }
+    {
+        match mark_in(self.as_bytes()) {
+            None => *self,
+            Some(at) => {
+                let mut text = ShortText::new();
+                text.push(&self.as_bytes()[..at]);
+                text.push(b".");
+                Name { text }
+            }
+        }
+    }
+
+    /// The version of the name, 1 to 65,534: 1 where it states none.
+    pub fn version(&self) -> u16
+        ensures value { result ≡ version_of self.now }
+        ensures stored { is_stored_name self.now ≡ true }
+        ensures least { 1 ≤ result }
+        ensures most { result ≤ 65534 }
+    {
+        let bytes = self.as_bytes();
+        match mark_in(bytes) {
+            None => 1,
+            Some(at) => {
+                let after = &bytes[at + 1..];
+                match version_in(&after[..after.len() - 1]) {
+                    Some(version) => version,
+                    None => unreachable!(),
+                }
+            }
+        }
     }
 
     /// Whether two names are equal without regard to the case of ASCII letters.
@@ -80,18 +144,21 @@ impl Name {
         self.as_bytes().eq_ignore_ascii_case(other.as_bytes())
     }
 
-    /// The order of names: that of their bytes in lower case, a name that begins another first.
+    /// The order of names: that of their bases in lower case, a base that begins another first,
+    /// and then that of their versions as numbers.
     pub fn folded_cmp(&self, other: &Name) -> Ordering
         ensures { result ≡ folded_cmp self.now other.now }
     {
-        let own = self.as_bytes().iter().map(|c| c.to_ascii_lowercase());
-        let others = other.as_bytes().iter().map(|c| c.to_ascii_lowercase());
-        own.cmp(others)
+        let one = self.base();
+        let another = other.base();
+        let own = one.as_bytes().iter().map(|c| c.to_ascii_lowercase());
+        let others = another.as_bytes().iter().map(|c| c.to_ascii_lowercase());
+        own.cmp(others).then(self.version().cmp(&other.version()))
     }
 
-    /// The name that this one gives way to where it is taken: its first characters, its own `.`
-    /// with them, as many as leave room in 39; then `$` and the number in decimal; then `.`. The
-    /// number is 1 to 65,535.
+    /// The name that this one gives way to where it is taken: the first characters of its base,
+    /// the base's `.` with them, as many as leave room in 39; then `$` and the number k in decimal;
+    /// then the version, if the name states one; then `.`. k is 1 to 65,535.
     pub fn suffixed(&self, k: u32) -> Name
         requires least { 1 ≤ k }
         requires most { k ≤ 65535 }
@@ -99,12 +166,17 @@ impl Name {
     {
         let mut buffer = Buffer::new();
         let digits = buffer.format(k).as_bytes();
-        let name = self.as_bytes();
-        let kept = name.len().min(MAX_LENGTH - (b"$.".len() + digits.len()));
+        let mark = version_mark(self.version());
+        let base = self.base();
+        let name = base.as_bytes();
+        let kept = name
+            .len()
+            .min(MAX_STEM - (1 + digits.len() + mark.as_bytes().len()));
         let mut text = ShortText::new();
         text.push(&name[..kept]);
         text.push(b"$");
         text.push(digits);
+        text.push(mark.as_bytes());
         text.push(b".");
         Name { text }
     }
@@ -137,19 +209,53 @@ impl Eq for Name {
     ghost laws = { nat_list_eq_equiv };
 }
 
+/// `!` and a version; nothing for version 1.
+fn version_mark(version: u16) -> ShortText
+    requires { version ≤ 65534 }
+    ensures { result ≡ version_text version }
+{
+    let mut text = ShortText::new();
+    if version != 1 {
+        let mut buffer = Buffer::new();
+        text.push(b"!");
+        text.push(buffer.format(version).as_bytes());
+    }
+    text
+}
+
+/// Where the first `!` of a text stands, if one does.
+fn mark_in(text: &[u8]) -> Option<usize>
+    ensures some { IfSome result (λ at. IsFirstMark text.now at) }
+    ensures none { IfNone result (after_mark text.now ≡ None) }
+{
+    for at in 0..text.len() {
+        if text[at] == b'!' {
+            return Some(at);
+        }
+    }
+    None
+}
+
+/// The version that these digits state: 1 to 65,534, without leading zeros.
+fn version_in(digits: &[u8]) -> Option<u16>
+    ensures value { result ≡ version_in digits.now }
+    ensures range { IfSome result (λ n. (1 ≤ n) × (n ≤ 65534)) }
+{
+    let n = read_number(digits)?;
+    let mut buffer = Buffer::new();
+    if n < 1 || n > MAX_VERSION || digits != buffer.format(n).as_bytes() {
+        return None;
+    }
+    Some(n as u16)
+}
+
 /// What stands before the final `.` of a text that is a name, once a `.` is added where it is
 /// missing.
 fn without_dot(text: &[u8]) -> &[u8]
-    ensures { with_dot text.now ≡ result.now ++ 46 ∷ [] }
+    ensures with { with_dot text.now ≡ result.now ++ 46 ∷ [] }
+    ensures without { result.now ≡ without_dot text.now }
 {
     text.strip_suffix(b".".as_slice()).unwrap_or(text)
-}
-
-/// Whether these characters are a name once a `.` is added.
-fn is_stem(stem: &[u8]) -> bool
-    ensures { result ≡ is_stored_name (stem.now ++ 46 ∷ []) }
-{
-    !stem.is_empty() && stem.len() <= MAX_STEM && has_name_characters(stem)
 }
 
 /// Whether all of these may stand in a name.

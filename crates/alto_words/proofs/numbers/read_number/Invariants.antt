@@ -2,7 +2,7 @@
 use Rattle.std.proofs.Common.{◌≡◌, ◌<◌, ◌^◌, take, true}
 use Rattle.std.specs.List.{list_all}
 use Rattle.alto_words.specs.Names.{is_digit}
-use Rattle.alto_words.specs.Numbers.{decimal_value}
+use Rattle.alto_words.specs.Names.{decimal_value}
 use Rattle.alto_words.proofs.numbers.read_number.Given as goal
 
 abbrev pub invariant-loop-digit : goal.invariant-loop-digit
