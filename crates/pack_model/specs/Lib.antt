@@ -39,3 +39,4 @@ pub mod Meanings
 pub mod Descriptor
 pub mod Format
 pub mod Reports
+pub mod OtherNames
