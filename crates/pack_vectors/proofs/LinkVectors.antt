@@ -16,7 +16,8 @@ use Rattle.pack_model.specs.Whole.{Whole}
 use Rattle.pack_model.specs.PageWords.{page_number, page_value, new_leader_value}
 use Rattle.pack_model.specs.Misled.{Misled, Finds, AnswersMisled, NamesSector, StandsInLink}
 use Rattle.pack_vectors.proofs.StateVectors.{sound_fresh}
-use Rattle.pack_vectors.proofs.SmallPacks.{small, pack_of, system, words_a, its_words, all_free, formatted_pack, file_3}
+use Rattle.pack_vectors.proofs.Shapes.{small}
+use Rattle.pack_vectors.proofs.SmallPacks.{pack_of, system, words_a, its_words, all_free, formatted_pack, file_3}
 
 -- #3 has 600 bytes: its leader is in sector 5, its pages are in 6 and 7; these are the next links of leader and first page
 abbrev linked : ℕ → ℕ → Pack

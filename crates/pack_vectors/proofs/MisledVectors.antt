@@ -21,7 +21,8 @@ use Rattle.pack_model.specs.PageWords.{filled, page_number, new_leader_value, le
 use Rattle.pack_model.specs.Links.{no_link, dir_slots}
 use Rattle.pack_model.specs.Format.{Written, format_leader, format_page, with_headers}
 use Rattle.pack_model.specs.Misled.{Misled, AnswersMisled, StandsInEntry}
-use Rattle.pack_vectors.proofs.SmallPacks.{file_3, small}
+use Rattle.pack_vectors.proofs.Shapes.{small}
+use Rattle.pack_vectors.proofs.SmallPacks.{file_3}
 use Rattle.pack_vectors.proofs.LinkVectors.{number_in}
 
 -- a file without bytes, its leader in sector 5 and its page 1 in sector 6; SysDir's word 29, the address in its entry, is 6
