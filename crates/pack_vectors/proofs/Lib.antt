@@ -27,4 +27,5 @@ pub mod StepVectors
 pub mod TurnVectors
 pub mod UseVectors
 pub mod Vectors
+pub mod VersionVectors
 pub mod WriteVectors

@@ -34,8 +34,8 @@ unstored :
 unfolding is_stored_name digits
 unstored = (refl, refl, refl, refl, refl, refl)
 
--- no number behind the mark; version 0; version 1, which isn't spelled; leading zeros; a version above 65,534; nothing before the mark;
--- two marks; two dots behind the number; a number that isn't one
+-- no number after the mark; version 0; version 1, which isn't spelled; leading zeros; a version above 65,534; nothing before the mark;
+-- two marks; two dots after the number; a number that isn't one
 unversioned :
     (is_stored_name (codes "A!.") ≡ false)
     × (is_stored_name (codes "A!0.") ≡ false)
@@ -109,7 +109,7 @@ ordered :
 ordered = (refl, refl, refl, refl, refl, refl)
 
 -- ---- suffixes
--- the suffix stands behind the base, and the version behind the suffix; of 39 characters these two leave 30, and 26 for the longest
+-- the suffix stands after the base, and the version after the suffix; of 39 characters these two leave 30, and 26 for the longest
 numbered_suffixes :
     (suffixed (codes "X!2.") 1 ≡ codes "X.$1!2.")
     × (suffixed (codes "X.$1!2.") 1 ≡ codes "X.$1.$1!2.")
