@@ -6,11 +6,12 @@ use Rattle.std.proofs.lemmas.Bool.{eq-eqb, cond-true, cond-false, false_from_ne_
 use Rattle.std.proofs.lemmas.Option.{cond_some}
 use Rattle.alto_words.specs.Fid.{is_full_name}
 use Rattle.alto_words.specs.Names.{is_stored_name}
+use Rattle.alto_words.proofs.Versions.{is_stored_name-fits}
 use Rattle.disk_records.specs.Words.{word}
 use Rattle.pack_model.specs.Slots.{entry_length, slot_bytes, slot_name, slot_pad, slot_fid, is_entry}
 use Rattle.pack_model.specs.Slots.Item.{entry}
 use Rattle.dir_slots.specs.Inside.{name_of, entry_of}
-use Rattle.dir_slots.proofs.Names.{stored_parts}
+use Rattle.dir_slots.proofs.Names.{stored_least}
 
 pub record EntryParts (words name : List ℕ) : Type 0 where
   pub first : word words 0 ≡ 1024 + length words
@@ -63,8 +64,8 @@ same_size words name named parts = ap (λ t. entry_length (length t)) (sym (name
 pub entry_size : (words name : List ℕ) → EntryParts words name → (2 ≤ length name) × (length name ≤ 39)
 entry_size words name parts =
     let n = named_parts words name parts.named in
-    let stored = stored_parts (slot_name words) (and_parts _ _ (and_parts _ _ n.0).0).1 in
-    (subst (λ t. 2 ≤ length t) n.1 stored.least, subst (λ t. length t ≤ 39) n.1 stored.most)
+    let stored = (and_parts _ _ (and_parts _ _ n.0).0).1 in
+    (subst (λ t. 2 ≤ length t) n.1 (stored_least (slot_name words) stored), subst (λ t. length t ≤ 39) n.1 (is_stored_name-fits (slot_name words) stored))
 
 -- words that lack a part are no entry
 pub entry_of-none : (words : List ℕ) → (EntryParts words (slot_name words) → ⊥) → entry_of words ≡ None

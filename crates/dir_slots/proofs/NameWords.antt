@@ -5,12 +5,13 @@ use Rattle.std.specs.List.{list_all, IsSplitAt}
 use Rattle.std.proofs.lemmas.Bool.{cond-true, and_parts, cases_lt}
 use Rattle.std.proofs.lemmas.Bool.Decides.{nat_tests}
 use Rattle.std.proofs.lemmas.List.{append_assoc, append-nil, length-append, length_push, take_all, take_at, drop_at, take-append-le}
-use Rattle.alto_words.specs.Names.{is_name_character, is_stored_name}
+use Rattle.alto_words.specs.Names.{is_stored_name}
+use Rattle.alto_words.proofs.Versions.{is_stored_character, is_stored_name-fits, is_stored_name-characters}
 use Rattle.pack_model.specs.Bytes.{bytes_of, words_of}
 use Rattle.pack_model.specs.PageWords.{name_words}
 use Rattle.pack_model.specs.SlotWords.{short_name_words}
 use Rattle.dir_slots.specs.Inside.{name_of}
-use Rattle.dir_slots.proofs.Names.{stored_parts, name_of-parts}
+use Rattle.dir_slots.proofs.Names.{name_of-parts}
 
 -- ---- bytes in words
 -- numbers that are bytes
@@ -18,12 +19,12 @@ abbrev pub AreBytes : List ℕ → Type 0
 AreBytes [] = Unit {0}
 AreBytes (b ∷ bytes) = (b < 256) × AreBytes bytes
 
-character_below : (c : ℕ) → is_name_character c ≡ true → c < 256
+character_below : (c : ℕ) → is_stored_character c ≡ true → c < 256
 character_below c h = grind (arith, nat_tests)
 
-characters_below : (name rest : List ℕ) → list_all is_name_character name ≡ true → AreBytes rest → AreBytes (name ++ rest)
+characters_below : (name rest : List ℕ) → list_all is_stored_character name ≡ true → AreBytes rest → AreBytes (name ++ rest)
 characters_below [] rest h bytes = bytes
-characters_below (c ∷ name) rest h bytes = let parts = and_parts (is_name_character c) (list_all is_name_character name) h in (character_below c parts.0, characters_below name rest parts.1 bytes)
+characters_below (c ∷ name) rest h bytes = let parts = and_parts (is_stored_character c) (list_all is_stored_character name) h in (character_below c parts.0, characters_below name rest parts.1 bytes)
 
 -- bytes survive as words, but for a last odd one
 bytes_of-pairs : (bytes : List ℕ) → AreBytes bytes → bytes_of (words_of bytes) ≡ take (2 * (length bytes / 2)) bytes
@@ -84,9 +85,8 @@ behind_name name pad =
 -- the words of a stored name are read as that name
 pub name_of-written : (name : List ℕ) → is_stored_name name ≡ true → name_of (bytes_of (short_name_words name)) ≡ Some name
 name_of-written name stored =
-    let parts = stored_parts name stored in
     let s = spelled name in
-    let bytes : AreBytes (short_bytes name) = (let most = parts.most in omega arith, characters_below name (0 ∷ []) parts.characters (omega arith, tt)) in
+    let bytes : AreBytes (short_bytes name) = (let most = is_stored_name-fits name stored in omega arith, characters_below name (0 ∷ []) (is_stored_name-characters name stored) (omega arith, tt)) in
     name_of-parts (bytes_of (short_name_words name)) (name ++ s.pad) name s.pad (length name) (bytes_of-pairs (short_bytes name) bytes ∙ s.whole) (behind_name name s.pad)
     ∙ cond-true _ _ None s.blank ∙ cond-true _ (Some name) None stored
 

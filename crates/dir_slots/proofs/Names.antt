@@ -1,30 +1,24 @@
--- When bytes are a name behind its length.
-use Rattle.std.proofs.Common.{◌≡◌, ℕ, ◌<◌, ◌≤◌, Bool, true, false, cond, List, [], ◌∷◌, length, take, drop, Some, None, refl, sym, ap, ◌∙◌, arith}
+-- When bytes are a name after its length.
+use Rattle.std.proofs.Common.{◌≡◌, ℕ, ◌<◌, ◌≤◌, Bool, true, false, cond, List, [], ◌∷◌, ◌++◌, length, take, drop, Some, None, refl, sym, ap, ◌∙◌, arith}
 use Rattle.std.specs.Prelude.{◌==◌, ◌&&◌}
 use Rattle.std.specs.List.{list_all, IsSplitAt}
 use Rattle.std.proofs.lemmas.Bool.{eq-eqb, ne_eqb}
 use Rattle.std.proofs.lemmas.Bool.Decides.{nat_tests}
-use Rattle.std.proofs.lemmas.List.{length-take}
-use Rattle.alto_words.specs.Names.{is_name_character, is_stored_name, stored_in, last_byte}
+use Rattle.std.proofs.lemmas.List.{length-append, length-take}
+use Rattle.alto_words.specs.Names.{is_stored_name, stored_in, version_of, version_text}
+use Rattle.alto_words.proofs.Versions.{stored_parts}
 use Rattle.dir_slots.specs.Inside.{name_of}
 
--- ---- stored names
-pub record StoredParts (name : List ℕ) : Type 0 where
-  pub least : 2 ≤ length name
-  pub most : length name ≤ 39
-  pub characters : list_all is_name_character name ≡ true
-  pub last : last_byte name ≡ 46
+-- a stored name has a character before its final `.`
+pub stored_least : (name : List ℕ) → is_stored_name name ≡ true → 2 ≤ length name
+stored_least name stored =
+    let parts = stored_parts name stored in
+    let some = parts.some in
+    let both = length-append parts.stem (version_text (version_of name)) in
+    let whole = length-append (parts.stem ++ version_text (version_of name)) (46 ∷ []) in
+    omega (arith, ap length parts.is)
 
-pub stored_parts : (name : List ℕ) → is_stored_name name ≡ true → StoredParts name
-unfolding is_stored_name
-stored_parts name stored = record {
-  least = grind (arith, nat_tests);
-  most = grind (arith, nat_tests);
-  characters = grind (arith, nat_tests);
-  last = grind (arith, nat_tests);
-}
-
--- ---- behind its length
+-- ---- after its length
 pub name_of-nil : (bytes : List ℕ) → length bytes ≡ 0 → name_of bytes ≡ None
 unfolding name_of is_stored_name
 name_of-nil [] none = refl

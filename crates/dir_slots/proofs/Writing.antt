@@ -4,6 +4,7 @@ use Rattle.std.specs.Prelude.{All}
 use Rattle.std.proofs.lemmas.List.{append_assoc, length-append, length-replicate, take_all, take_at, drop_at, get_or-append-add, flat_map_more, take_more, take-replicate}
 use Rattle.std.proofs.lemmas.List.Elements.{All-head, All-tail, All-more, All-same}
 use Rattle.alto_words.specs.declared.fid.Fid.{Fid}
+use Rattle.alto_words.proofs.Versions.{is_stored_name-fits}
 use Rattle.pack_model.specs.Slots.{item_words, all_words, entry_length, first_length, slot_at, slots}
 use Rattle.pack_model.specs.Slots.Item.{space}
 use Rattle.pack_model.specs.SlotWords.{entry_words, space_words, address_at}
@@ -12,7 +13,6 @@ use Rattle.dir_slots.specs.declared.slot.Slot.TheVariants.{Free, Entry}
 use Rattle.dir_slots.specs.Inside.{entry_of}
 use Rattle.dir_slots.specs.Items.{item_of, items_of, address_of, addresses_in, slot_words, slots_words, IsInRange}
 use Rattle.dir_slots.specs.Laws.{HasStoredName, ReadsBack}
-use Rattle.dir_slots.proofs.Names.{stored_parts}
 use Rattle.dir_slots.proofs.Entries.{entry_of-some}
 use Rattle.dir_slots.proofs.NameWords.{length-short_name, name_of-written}
 use Rattle.dir_slots.proofs.Heads.{slot_at-nil, slot_at-free, slot_at-file}
@@ -41,8 +41,7 @@ slot_at-written (Free n) rest h stored =
 slot_at-written (Entry f a name) rest full stored =
     let own : List ℕ = entry_words f a name in
     let words : List ℕ = own ++ rest in
-    let parts = stored_parts name stored in
-    let most = parts.most in
+    let most = is_stored_name-fits name stored in
     let size : length own ≡ entry_length (length name) = length-entry f a name in
     let states : first_length words ≡ entry_length (length name) = omega arith in
     let long = length-append own rest in

@@ -22,6 +22,6 @@ mod traits;
 
 pub use check::{first_mismatch, update_memory};
 pub use label::{is_free_label, label_of, page_of, right_header};
-pub use records::{Act, Event, Page, Plan, Sector, Tally};
+pub use records::{Act, Event, Page, Place, Plan, Sector, Tally};
 pub use shape::Shape;
 pub use traits::{Console, ConsoleError, Disk, DiskError, Machine, Tape};

@@ -53,6 +53,21 @@ pub struct Page {
     pub number: u16,
 }
 
+/// Where the address of a page was taken from, for an answer that says that it names another sector than it should.
+#[derive(Clone, Copy, Debug, PartialEq, Eq)]
+pub enum Place {
+    /// The fixed virtual address 1 of SysDir's leader. No word on the disk holds it.
+    Root,
+    /// The address word of an entry in the directory `dir`: `word` is its index in the directory's words, from 0. It holds the virtual
+    /// address of the leader of the entry's file.
+    Entry { dir: Fid, word: u32 },
+    /// The next link in the label of the sector at the virtual address `at`: the link that was followed. It holds the real address of
+    /// the page after this one.
+    Next { at: u16 },
+    /// The virtual address `at` itself, which was checked earlier in this session.
+    Held { at: u16 },
+}
+
 /// What happens to a machine.
 #[derive(Drop)]
 pub enum Event {

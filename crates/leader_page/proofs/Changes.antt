@@ -7,7 +7,7 @@ use Rattle.alto_words.specs.Names.{is_stored_name}
 use Rattle.pack_model.specs.Leaders.{Leader, is_readable, leader_name, leader_words}
 use Rattle.pack_model.specs.PageWords.{name_words, titled_value, stamped_value}
 use Rattle.leader_page.specs.Laws.{SaysTitled, SaysStamped}
-use Rattle.alto_words.proofs.Names.{is_stored_name-fits}
+use Rattle.alto_words.proofs.Versions.{is_stored_name-fits}
 use Rattle.leader_page.proofs.Names.{length-name_words, is_readable-named}
 use Rattle.leader_page.proofs.Values.{in_words, leader_of-in_words, leader_name-named, of_halves}
 

@@ -6,8 +6,8 @@ use borrow.Rule.Slice.PartMut.{post_of}
 use Rattle.std.proofs.lemmas.List.{length-append, length-replicate, drop-replicate, take_at}
 use Rattle.std.proofs.lemmas.Bool.{eq-eqb}
 use Rattle.std.proofs.lemmas.Bool.Decides.{nat_tests}
-use Rattle.alto_words.specs.Names.{is_name_character, is_stored_name}
-use Rattle.alto_words.proofs.Names.{is_stored_name-fits, is_stored_name-characters}
+use Rattle.alto_words.specs.Names.{is_stored_name}
+use Rattle.alto_words.proofs.Versions.{is_stored_character, is_stored_name-fits, is_stored_name-characters}
 use Rattle.disk_records.specs.Words.{word}
 use Rattle.pack_model.specs.Bytes.{bytes_of, words_of}
 use Rattle.pack_model.specs.Leaders.{name_bytes, spelled_name, is_readable}
@@ -15,13 +15,13 @@ use Rattle.pack_model.specs.PageWords.{filled, name_words}
 use Rattle.leader_page.proofs.Bytes.{length-words_of, bytes_of-words_of, AreBytes, AreBytes-append, AreBytes-zeros}
 
 -- ---- stored names
-character-below : (c : ℕ) → is_name_character c ≡ true → c < 256
+character-below : (c : ℕ) → is_stored_character c ≡ true → c < 256
 character-below c h = grind (arith, nat_tests)
 
-characters-are_bytes : (name : List ℕ) → list_all is_name_character name ≡ true → AreBytes name
+characters-are_bytes : (name : List ℕ) → list_all is_stored_character name ≡ true → AreBytes name
 characters-are_bytes [] h = tt
 characters-are_bytes (c ∷ name) h =
-    let both : (is_name_character c ≡ true) × (list_all is_name_character name ≡ true) = grind (arith, nat_tests) in
+    let both : (is_stored_character c ≡ true) × (list_all is_stored_character name ≡ true) = grind (arith, nat_tests) in
     (character-below c both.0, characters-are_bytes name both.1)
 
 -- ---- a name's words

@@ -4,7 +4,7 @@ use Rattle.std.proofs.lemmas.List.Elements.{All-cons, All-head, All-nil, All-tai
 use Rattle.std.specs.FinMap.{get}
 use Rattle.std.specs.Option.{is_some, option_map}
 use Rattle.std.specs.Prelude.{All}
-use Rattle.alto_words.proofs.Names.{is_stored_name-fits}
+use Rattle.alto_words.proofs.Versions.{is_stored_name-fits}
 use Rattle.alto_words.specs.Fid.{serial_of, sys_dir}
 use Rattle.alto_words.specs.Names.{is_stored_name, lost}
 use Rattle.alto_words.specs.declared.fid.Fid.{Fid}

@@ -16,7 +16,9 @@ pub mod Lining
 pub mod Mapping
 pub mod MendedByLists
 pub mod Moving
+pub mod OldPacks
 pub mod Orders
+pub mod OwnRule
 pub mod Paging
 pub mod Places
 pub mod Placing
@@ -24,7 +26,9 @@ pub mod Putting
 pub mod Ruling
 pub mod Serials
 pub mod Sighted
+pub mod SlotsByRule
 pub mod Storing
 pub mod Talking
 pub mod TurnCalls
 pub mod Uses
+pub mod WiderRule

@@ -1,5 +1,5 @@
 -- What the Scavenger finds, needs, refuses and reports, by lists of entries.
-use Rattle.std.proofs.Common.{◌≡◌, ℕ, suc, ◌+◌, ◌-◌, Bool, true, false, cond, not, List, Option, Some, None, refl, ap, ◌∙◌}
+use Rattle.std.proofs.Common.{◌≡◌, ℕ, suc, ◌+◌, Bool, true, false, cond, not, List, Option, Some, None, refl, ap, ◌∙◌}
 use Rattle.std.specs.Prelude.{◌&&◌, nat_le, length, get_or, max}
 use Rattle.std.specs.List.{list_any}
 use Rattle.std.specs.FinMap.{find, get, get-entries, entries, entries-insert}
@@ -14,7 +14,7 @@ use Rattle.pack_model.specs.Files.{lives, file_bytes, numbered}
 use Rattle.pack_model.specs.Bodies.{File, described, items_in}
 use Rattle.pack_model.specs.Namings.{namings, sys_dir_name, descriptor_name}
 use Rattle.pack_model.specs.Model.{read_pack, files_pages, descriptor_words}
-use Rattle.pack_model.specs.Settling.{adopted, settle, unless}
+use Rattle.pack_model.specs.Settling.{settle, unless}
 use Rattle.pack_model.specs.Mended.{mended, with_system, rooted, root_body, root_file, lacking, widens, needs}
 use Rattle.pack_model.specs.Needed.{needed, files_lack, root_lacks, descriptor_lacks}
 use Rattle.pack_model.specs.InUse.{is_within, is_good, is_free_sight, how_many, bad_sectors}

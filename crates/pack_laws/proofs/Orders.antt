@@ -1,17 +1,17 @@
 -- The orders of names and of lines of the listing.
 use Rattle.std.proofs.Common.{◌≡◌, ◌≢◌, true, false, sym, ap, ◌∙◌}
-use Rattle.std.specs.Prelude.{map}
 use Rattle.std.specs.declared.cmp.Ordering.{Ordering}
 use Rattle.std.specs.declared.cmp.Ordering.TheVariants.{Less, Equal, Greater}
 use Rattle.std.specs.Ordering.{is_eq, ordering_then}
 use Rattle.std.specs.Cmp.{IsTotalOrder, then_total, on_total}
-use Rattle.std.specs.Cmp.Lexicographic.{nat_list_cmp_total, options_total}
-use Rattle.alto_words.specs.Names.{fold_case, folded_cmp}
+use Rattle.std.specs.Cmp.Lexicographic.{options_total}
+use Rattle.alto_words.specs.Names.{folded_cmp}
+use Rattle.alto_words.proofs.Folding.{folded_cmp-total}
 use Rattle.pack_model.specs.Listing.{naming_cmp, listed_cmp}
 use Rattle.pack_laws.proofs.Keys.{fid_total}
 
 pub name_total : IsTotalOrder folded_cmp
-name_total = on_total (map fold_case) nat_list_cmp_total
+name_total = folded_cmp-total
 
 pub naming_total : IsTotalOrder naming_cmp
 naming_total = then_total (on_total (λ n. n.dir) fid_total) (then_total (on_total (λ n. n.name) name_total) (on_total (λ n. n.fid) fid_total))

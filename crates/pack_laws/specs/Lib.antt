@@ -2,5 +2,6 @@ pub mod FileLaws
 pub mod GuardLaws
 pub mod Least
 pub mod Made
+pub mod NameLaws
 pub mod PutLaws
 pub mod TurnLaws

@@ -6,6 +6,7 @@
 
 pub mod files;
 pub mod guards;
+pub mod names;
 pub mod puts;
 pub mod turns;
 

@@ -11,6 +11,7 @@ pub mod Puts
 pub mod Slots
 pub mod SlotWords
 pub mod Bodies
+pub mod Versions
 pub mod Namings
 pub mod Model
 pub mod View
@@ -39,3 +40,4 @@ pub mod Meanings
 pub mod Descriptor
 pub mod Format
 pub mod Reports
+pub mod OtherNames

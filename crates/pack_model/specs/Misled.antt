@@ -5,6 +5,8 @@ use Rattle.alto_words.specs.declared.fid.Fid.{Fid}
 use Rattle.alto_words.specs.Fid.{is_directory, sys_dir}
 use Rattle.disk_records.specs.declared.shape.Shape.{Shape}
 use Rattle.disk_records.specs.declared.records.Page.{Page}
+use Rattle.disk_records.specs.declared.records.Place.{Place}
+use Rattle.disk_records.specs.declared.records.Place.TheVariants.{Root, Entry, Next, Held}
 use Rattle.disk_records.specs.declared.records.Event.{Event}
 use Rattle.disk_records.specs.Addresses.{pages_of, real_of}
 use Rattle.disk_records.specs.Words.{word}
@@ -15,14 +17,6 @@ use Rattle.pack_model.specs.Slots.Item.{entry}
 use Rattle.pack_model.specs.SlotWords.{SlotAt, address_word}
 use Rattle.pack_model.specs.Links.{dir_slots}
 use Rattle.pack_model.specs.Whole.{Whole}
-
--- Where an address was taken from: the fixed address of SysDir's leader; a word of a directory, the address word of an entry;
--- the next link of a sector; an address that was checked before.
-pub data HintPlace : Type 0 where
-  root : HintPlace
-  entry_word : Fid → ℕ → HintPlace
-  next_of : ℕ → HintPlace
-  held : ℕ → HintPlace
 
 -- ---- the word at a place, and the page that the place means
 abbrev pub leader_page : Fid → Page
@@ -49,48 +43,48 @@ pub record StandsInLink (p : Pack) (i at : ℕ) (wanted : Page) : Type 0 where
   pub link : at ≡ word (sector_at p i).label 0
 
 -- the hint word at the place is `at`, and the place means the page that is wanted; an address that was checked means any page
-abbrev pub StandsAt : Pack → HintPlace → ℕ → Page → Type 0
-StandsAt p root at wanted = (at ≡ 1) × (wanted ≡ leader_page sys_dir)
-StandsAt p (entry_word dir w) at wanted = StandsInEntry p dir w at wanted
-StandsAt p (next_of i) at wanted = StandsInLink p i at wanted
-StandsAt p (held i) at wanted = at ≡ i
+abbrev pub StandsAt : Pack → Place → ℕ → Page → Type 0
+StandsAt p Root at wanted = (at ≡ 1) × (wanted ≡ leader_page sys_dir)
+StandsAt p (Entry dir w) at wanted = StandsInEntry p dir w at wanted
+StandsAt p (Next i) at wanted = StandsInLink p i at wanted
+StandsAt p (Held i) at wanted = at ≡ i
 
 -- ---- the sector that a hint word names
 -- a link is the real address of a sector, all others are virtual ones
-abbrev pub IsAddressOf : Shape → HintPlace → ℕ → ℕ → Type 0
-IsAddressOf shape root at i = at ≡ i
-IsAddressOf shape (entry_word dir w) at i = at ≡ i
-IsAddressOf shape (next_of j) at i = at ≡ real_of shape i
-IsAddressOf shape (held j) at i = at ≡ i
+abbrev pub IsAddressOf : Shape → Place → ℕ → ℕ → Type 0
+IsAddressOf shape Root at i = at ≡ i
+IsAddressOf shape (Entry dir w) at i = at ≡ i
+IsAddressOf shape (Next j) at i = at ≡ real_of shape i
+IsAddressOf shape (Held j) at i = at ≡ i
 
 -- it is a usable one: sector 0 is never used
-pub record NamesSector (shape : Shape) (place : HintPlace) (at i : ℕ) : Type 0 where
+pub record NamesSector (shape : Shape) (place : Place) (at i : ℕ) : Type 0 where
   pub first : 0 < i
   pub last : i < pages_of shape
   pub named : IsAddressOf shape place at i
 
 -- The hint word at the place is `at`, and it names no usable sector, or one that doesn't carry the page that is wanted.
-pub record Misled (p : Pack) (place : HintPlace) (at : ℕ) (wanted : Page) : Type 0 where
+pub record Misled (p : Pack) (place : Place) (at : ℕ) (wanted : Page) : Type 0 where
   pub stands : StandsAt p place at wanted
   pub misses : (i : ℕ) → NamesSector p.shape place at i → carried p i ≡ Some wanted → ⊥
 
 -- the label of the sector that is named, none where no usable sector is, or one with a wrong header
-pub record Finds (p : Pack) (place : HintPlace) (at : ℕ) (found : Option (List ℕ)) : Type 0 where
+pub record Finds (p : Pack) (place : Place) (at : ℕ) (found : Option (List ℕ)) : Type 0 where
   pub named : (i : ℕ) → NamesSector p.shape place at i → found ≡ label_found p i
   pub unnamed : ((i : ℕ) → NamesSector p.shape place at i → ⊥) → found ≡ None
 
 -- a hint word on the disk; on a whole pack no other is answered
-abbrev pub IsOnDisk : HintPlace → Type 0
-IsOnDisk root = ⊥
-IsOnDisk (entry_word dir w) = Unit {0}
-IsOnDisk (next_of i) = Unit {0}
-IsOnDisk (held i) = ⊥
+abbrev pub IsOnDisk : Place → Type 0
+IsOnDisk Root = ⊥
+IsOnDisk (Entry dir w) = Unit {0}
+IsOnDisk (Next i) = Unit {0}
+IsOnDisk (Held i) = ⊥
 
 -- A call on p, or a line, answers that a hint misled, and made these events: the hint did so as the call began. What was found is
 -- the label there when the call looked: that of p, unless the call itself wrote it before. No call writes a label of that sector after
 -- such a look, so it is the label behind all of its events. Which pages may be wanted is said by each call: those of its own file or
 -- directory.
-pub record AnswersMisled (p : Pack) (events : List Event) (place : HintPlace) (at : ℕ) (wanted : Page) (found : Option (List ℕ)) : Type 0 where
+pub record AnswersMisled (p : Pack) (events : List Event) (place : Place) (at : ℕ) (wanted : Page) (found : Option (List ℕ)) : Type 0 where
   pub misled : Misled p place at wanted
   pub on_disk : Whole p → IsOnDisk place
   pub finds : Finds (after p events) place at found

@@ -14,11 +14,11 @@ use Rattle.pack_model.specs.Settling.{is_taken, choice, chosen_from, chosen, mos
 use Rattle.pack_laws.proofs.Keys.{is_fid-sym}
 use Rattle.pack_reading.specs.declared.names.Names.{Names}
 use Rattle.pack_reading.specs.declared.shown.ShownFile.{ShownFile}
-use Rattle.pack_reading.specs.Homes.{place_cmp, StandsFor}
+use Rattle.pack_reading.specs.Homes.{qualified_cmp, StandsFor}
 use Rattle.pack_reading.specs.Shows.{seen_file}
 
 -- a name that no system file has is taken where an entry stands in SysDir
-pub taken_is : (names : Names) (name : List ℕ) → (is_same_name name sys_dir_name || is_same_name name descriptor_name) ≡ false → (homes : FinMap fid_cmp Home) → StandsFor names homes → contains place_cmp names.taken (record { directory = sys_dir; name = name }) ≡ is_taken homes name
+pub taken_is : (names : Names) (name : List ℕ) → (is_same_name name sys_dir_name || is_same_name name descriptor_name) ≡ false → (homes : FinMap fid_cmp Home) → StandsFor names homes → contains qualified_cmp names.taken (record { directory = sys_dir; name = name }) ≡ is_taken homes name
 taken_is names name other homes stands =
     stands.taken sys_dir name
     ∙ (λ i. list_any (λ (e : Fid × Home). is_fid-sym sys_dir e.1.dir i && is_same_name name e.1.name) (entries homes))

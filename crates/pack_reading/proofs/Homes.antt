@@ -17,11 +17,11 @@ use Rattle.pack_model.specs.Listing.{naming_of, naming_cmp, in_order}
 use Rattle.pack_laws.proofs.Keys.{fid_total, is_fid-sym}
 use Rattle.pack_laws.proofs.Inserting.{absent_tail, entries-empty, list_any-put, map-insert_key, in_order-none, in_order-cons, insert-swap}
 use Rattle.pack_laws.proofs.Orders.{naming_total, last_apart}
-use Rattle.pack_reading.specs.declared.names.Place.{Place}
+use Rattle.pack_reading.specs.declared.names.QualifiedName.{QualifiedName}
 use Rattle.pack_reading.specs.declared.names.Entry.{Entry}
 use Rattle.pack_reading.specs.declared.names.Names.{Names}
-use Rattle.pack_reading.specs.Homes.{place_cmp, home_at, naming_at, StandsFor}
-use Rattle.pack_reading.proofs.Tests.{tie_places_back}
+use Rattle.pack_reading.specs.Homes.{qualified_cmp, home_at, naming_at, StandsFor}
+use Rattle.pack_reading.proofs.Tests.{tie_qualified_back}
 
 -- ---- the order of entries
 then_assoc : (a b c : Ordering) → ordering_then (ordering_then a b) c ≡ ordering_then a (ordering_then b c)
@@ -29,8 +29,8 @@ then_assoc Less b c = refl
 then_assoc Equal b c = refl
 then_assoc Greater b c = refl
 
-pub entry_order : (x y : Entry) → ordering_then (place_cmp x.place y.place) (fid_cmp x.fid y.fid) ≡ naming_cmp (naming_at x) (naming_at y)
-entry_order x y = then_assoc (fid_cmp x.place.directory y.place.directory) (folded_cmp x.place.name y.place.name) (fid_cmp x.fid y.fid)
+pub entry_order : (x y : Entry) → ordering_then (qualified_cmp x.name y.name) (fid_cmp x.fid y.fid) ≡ naming_cmp (naming_at x) (naming_at y)
+entry_order x y = then_assoc (fid_cmp x.name.directory y.name.directory) (folded_cmp x.name.name y.name.name) (fid_cmp x.fid y.fid)
 
 -- the names in order, with that of one file more
 in_order-put : (f : Fid) (h : Home) (es : List (Fid × Home)) → find fid_cmp f es ≡ None → in_order naming_cmp (map naming_of (put fid_cmp f h es)) ≡ insert_key naming_cmp (in_order naming_cmp (map naming_of es)) (naming_of (f, h))
@@ -55,7 +55,7 @@ pub empty_stands : (names : Names) → names.named.keys ≡ [] → names.taken.k
 empty_stands names named taken kept = record {
   named = λ f. ap (list_any (λ k. is_eq (fid_cmp f k))) named ∙ sym (ap is_some (get-empty fid_cmp f));
   taken = λ d name.
-      ap (list_any (λ k. is_eq (place_cmp (record { directory = d; name = name }) k))) taken
+      ap (list_any (λ k. is_eq (qualified_cmp (record { directory = d; name = name }) k))) taken
       ∙ sym (ap (list_any (λ (e : Fid × Home). is_fid d e.1.dir && is_same_name name e.1.name)) (entries-empty {X = Home} fid_cmp));
   kept = ap (map naming_at) kept ∙ sym (ap (λ es. in_order naming_cmp (map naming_of es)) (entries-empty {X = Home} fid_cmp) ∙ in_order-none naming_cmp);
 }
@@ -71,12 +71,12 @@ or_is false c = refl
 
 pub entry_stands : (cmp : Entry → Entry → Ordering) → ((x y : Entry) → cmp x y ≡ naming_cmp (naming_at x) (naming_at y)) → (old new : Names) (entry : Entry) (homes : FinMap fid_cmp Home)
     → ((q : Fid) → contains fid_cmp new.named q ≡ cond (is_eq (fid_cmp entry.fid q)) true (contains fid_cmp old.named q))
-    → ((q : Place) → contains place_cmp new.taken q ≡ cond (is_eq (place_cmp entry.place q)) true (contains place_cmp old.taken q))
+    → ((q : QualifiedName) → contains qualified_cmp new.taken q ≡ cond (is_eq (qualified_cmp entry.name q)) true (contains qualified_cmp old.taken q))
     → new.kept.keys ≡ insert_key cmp old.kept.keys entry
-    → StandsFor old homes → get homes entry.fid ≡ None → StandsFor new (insert homes entry.fid (home_at entry.place))
+    → StandsFor old homes → get homes entry.fid ≡ None → StandsFor new (insert homes entry.fid (home_at entry.name))
 entry_stands cmp order old new entry homes named taken kept stands none =
     let f = entry.fid in
-    let h = home_at entry.place in
+    let h = home_at entry.name in
     let absent : find fid_cmp f (entries homes) ≡ None = sym (get-entries homes f) ∙ none in
     record {
       named = λ q.
@@ -85,10 +85,10 @@ entry_stands cmp order old new entry homes named taken kept stands none =
           ∙ some_or (is_fid q f) h (get homes q)
           ∙ sym (ap is_some (get-insert fid_total homes f h q));
       taken = λ d name.
-          let p : Place = record { directory = d; name = name } in
+          let p : QualifiedName = record { directory = d; name = name } in
           let test : Fid × Home → Bool = λ e. is_fid d e.1.dir && is_same_name name e.1.name in
           taken p
-          ∙ (λ i. cond (tie_places_back entry.place p i) true (stands.taken d name i))
+          ∙ (λ i. cond (tie_qualified_back entry.name p i) true (stands.taken d name i))
           ∙ or_is (test (f, h)) (list_any test (entries homes))
           ∙ sym (list_any-put fid_cmp test f h (entries homes) absent)
           ∙ ap (list_any test) (sym (entries-insert fid_total homes f h));

@@ -1,7 +1,6 @@
 pub mod Tests
 pub mod Homes
 pub mod Choosing
-pub mod Suffixes
 pub mod Passing
 pub mod Slots
 pub mod Grouping

@@ -12,18 +12,18 @@ use Rattle.std.proofs.lemmas.Bool.Decides.{leb_tells}
 use Rattle.alto_words.specs.declared.fid.Fid.{Fid}
 use Rattle.alto_words.specs.Fid.{fid_cmp, is_fid, sys_dir}
 use Rattle.alto_words.specs.Names.{is_same_name, suffixed}
+use Rattle.alto_words.proofs.Alike.{same_later, same_numbers}
 use Rattle.pack_model.specs.Namings.{sys_dir_name, descriptor_name}
 use Rattle.pack_model.specs.View.{Home, Seen}
 use Rattle.pack_model.specs.Settling.{is_taken, choice, given, adopted, chosen}
 use Rattle.pack_laws.proofs.Keys.{fid_total}
 use Rattle.pack_laws.proofs.Inserting.{list_any-put}
-use Rattle.pack_reading.specs.declared.names.Place.{Place}
+use Rattle.pack_reading.specs.declared.names.QualifiedName.{QualifiedName}
 use Rattle.pack_reading.specs.declared.passed.Passed.{Passed}
-use Rattle.pack_reading.specs.Homes.{place_cmp}
-use Rattle.pack_reading.specs.Passed.{suffix_place, passed_of, AreTaken, IsPassed}
+use Rattle.pack_reading.specs.Homes.{qualified_cmp}
+use Rattle.pack_reading.specs.Passed.{suffix_in_root, passed_of, AreTaken, IsPassed}
 use Rattle.pack_reading.proofs.Choosing.{Choosing, choosing_none, choosing_here, choosing_next, choosing_end, chosen_is}
-use Rattle.pack_reading.proofs.Suffixes.{same_later, same_numbers}
-use Rattle.pack_reading.proofs.Tests.{none_of, tie_places, same_congr}
+use Rattle.pack_reading.proofs.Tests.{none_of, tie_qualified, same_congr}
 
 -- ---- what is taken
 taken_same : (homes : FinMap fid_cmp Home) (a b : List ℕ) → is_same_name a b ≡ true → is_taken homes a ≡ is_taken homes b
@@ -48,7 +48,7 @@ taken_stays homes f h name none taken =
 -- ---- what is known to be taken
 pub none_passed : (homes : FinMap fid_cmp Home) (passed : Passed) → passed.counts.entries ≡ [] → IsPassed homes passed
 none_passed homes passed none name first few k from less =
-    let zeroth : passed_of passed name first ≡ 0 = ap (λ es. unwrap_or (lookup (is_at (place_cmp (suffix_place name first))) es) 0) none in
+    let zeroth : passed_of passed name first ≡ 0 = ap (λ es. unwrap_or (lookup (is_at (qualified_cmp (suffix_in_root name first))) es) 0) none in
     absurd (omega (arith, less, zeroth))
 
 -- it stays so when a file gets a name
@@ -65,19 +65,19 @@ always (Err e) h = tt
 
 -- and with a new count
 pub passed_kept : (homes : FinMap fid_cmp Home) (old new : Passed) (name : List ℕ) (first count : ℕ) → IsPassed homes old → first ≤ 65535 → count < 2 ^ 32 → AreTaken homes name first (first + count)
-    → ((q : Place) → get place_cmp new.counts q ≡ cond (is_eq (place_cmp (suffix_place name first) q)) (Some count) (get place_cmp old.counts q)) → IsPassed homes new
-passed_kept homes old new name first count is most fits taken updates other start few k from less = by (is_eq (place_cmp (suffix_place name first) (suffix_place other start))) refl
+    → ((q : QualifiedName) → get qualified_cmp new.counts q ≡ cond (is_eq (qualified_cmp (suffix_in_root name first) q)) (Some count) (get qualified_cmp old.counts q)) → IsPassed homes new
+passed_kept homes old new name first count is most fits taken updates other start few k from less = by (is_eq (qualified_cmp (suffix_in_root name first) (suffix_in_root other start))) refl
   where
-    by : (b : Bool) → is_eq (place_cmp (suffix_place name first) (suffix_place other start)) ≡ b → is_taken homes (suffixed other k) ≡ true
+    by : (b : Bool) → is_eq (qualified_cmp (suffix_in_root name first) (suffix_in_root other start)) ≡ b → is_taken homes (suffixed other k) ≡ true
     by true tie =
-        let counted : passed_of new other start ≡ count = ap (λ o. unwrap_or o 0) (updates (suffix_place other start)) ∙ ap (λ b. unwrap_or (cond b (Some count) (get place_cmp old.counts (suffix_place other start))) 0) tie in
-        let same = (and_parts (is_fid sys_dir sys_dir) (is_same_name (suffixed name first) (suffixed other start)) (sym (tie_places (suffix_place name first) (suffix_place other start)) ∙ tie)).1 in
+        let counted : passed_of new other start ≡ count = ap (λ o. unwrap_or o 0) (updates (suffix_in_root other start)) ∙ ap (λ b. unwrap_or (cond b (Some count) (get qualified_cmp old.counts (suffix_in_root other start))) 0) tie in
+        let same = (and_parts (is_fid sys_dir sys_dir) (is_same_name (suffixed name first) (suffixed other start)) (sym (tie_qualified (suffix_in_root name first) (suffix_in_root other start)) ∙ tie)).1 in
         let one : first ≡ start = same_numbers name other first start (omega arith) (omega arith) same in
         let at_one = subst (λ n. is_same_name (suffixed name n) (suffixed other start) ≡ true) one same in
         sym (taken_same homes (suffixed name k) (suffixed other k) (same_later name other start k from (omega (arith, less, counted)) at_one)) ∙ taken k (omega (arith, from, one)) (omega (arith, less, counted, one))
     by false apart =
         let counted : passed_of new other start ≡ passed_of old other start =
-        ap (λ o. unwrap_or o 0) (updates (suffix_place other start)) ∙ ap (λ b. unwrap_or (cond b (Some count) (get place_cmp old.counts (suffix_place other start))) 0) apart in
+        ap (λ o. unwrap_or o 0) (updates (suffix_in_root other start)) ∙ ap (λ b. unwrap_or (cond b (Some count) (get qualified_cmp old.counts (suffix_in_root other start))) 0) apart in
         is other start few k from (omega (arith, less, counted))
 
 -- ---- suffixes that are taken, one after another

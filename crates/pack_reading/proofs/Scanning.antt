@@ -17,7 +17,7 @@ use Rattle.pack_model.specs.View.{Home}
 use Rattle.pack_reading.specs.declared.files.Found.{Found}
 use Rattle.pack_reading.specs.declared.names.Names.{Names}
 use Rattle.pack_reading.specs.declared.names.Entry.{Entry}
-use Rattle.pack_reading.specs.Homes.{place_cmp, home_at, naming_at, is_taken_in, may_show, considered, namings_of, all_namings, StandsFor}
+use Rattle.pack_reading.specs.Homes.{qualified_cmp, home_at, naming_at, is_taken_in, may_show, considered, namings_of, all_namings, StandsFor}
 use Rattle.pack_reading.proofs.Tests.{may_show_is, none_of}
 use Rattle.pack_reading.proofs.Slots.{slots-none, slots-some}
 

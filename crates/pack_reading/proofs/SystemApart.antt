@@ -47,7 +47,7 @@ alike_false true b e h = cc
 alike_false false true e h = cc
 alike_false false false e h = refl
 
--- a place has a name where another with the same name in the same directory has it
+-- an entry has this name in SysDir where another with the same name in the same directory has it
 own_congr : (nm : List ℕ) (x e : Naming) → is_fid x.dir e.dir ≡ true → is_same_name x.name e.name ≡ true → is_own nm x ≡ is_own nm e
 own_congr nm x e d n = λ i. (eq_by_cmp_equiv fid_total).congr x.dir e.dir sys_dir d i && same_congr x.name e.name nm n i
 

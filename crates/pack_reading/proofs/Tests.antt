@@ -1,26 +1,26 @@
--- Tests of full names, names and places.
-use Rattle.std.proofs.Common.{◌≡◌, ℕ, Bool, true, false, cond, not, List, map, Option, Some, None, refl, sym, ap, ◌∙◌, arith}
+-- Tests of full names, and of names by themselves and with their directories.
+use Rattle.std.proofs.Common.{◌≡◌, ℕ, Bool, true, false, cond, not, List, Option, Some, None, refl, sym, ap, ◌∙◌, arith}
 use Rattle.std.specs.Prelude.{◌&&◌, ◌||◌, ◌==◌}
 use Rattle.std.specs.declared.cmp.Ordering.{Ordering}
 use Rattle.std.specs.declared.cmp.Ordering.TheVariants.{Less, Equal, Greater}
 use Rattle.std.specs.Ordering.{nat_cmp, ordering_then, is_eq}
 use Rattle.std.specs.Cmp.{eq_by_cmp_equiv}
-use Rattle.std.specs.Cmp.Lexicographic.{texts_ties}
 use Rattle.std.specs.Option.{option_or, is_some}
 use Rattle.std.specs.BTreeMap.{BTreeMap, get}
 use Rattle.std.proofs.lemmas.Bool.{and_parts, eqb-true}
 use Rattle.std.proofs.lemmas.Bool.Decides.{nat_tests}
 use Rattle.alto_words.specs.declared.fid.Fid.{Fid}
 use Rattle.alto_words.specs.Fid.{fid_cmp, is_fid, is_system, is_directory, sys_dir, disk_descriptor}
-use Rattle.alto_words.specs.Names.{fold_case, folded_cmp, is_same_name}
+use Rattle.alto_words.specs.Names.{folded_cmp, is_same_name}
+use Rattle.alto_words.proofs.Folding.{folded_cmp-equal}
 use Rattle.disk_records.specs.declared.records.Page.{Page}
 use Rattle.pack_model.specs.Namings.{Naming, keeps_system, alike, sys_dir_name, descriptor_name}
-use Rattle.pack_laws.proofs.Keys.{is_fid-sym, same_fid}
+use Rattle.pack_laws.proofs.Keys.{is_eq-Equal, is_fid-sym, same_fid}
 use Rattle.pack_laws.proofs.Orders.{name_total}
-use Rattle.pack_reading.specs.declared.names.Place.{Place}
+use Rattle.pack_reading.specs.declared.names.QualifiedName.{QualifiedName}
 use Rattle.pack_reading.specs.Kept.{page_cmp}
-use Rattle.pack_reading.specs.Homes.{place_cmp, may_show}
-use Rattle.pack_reading.specs.Orders.{place_total}
+use Rattle.pack_reading.specs.Homes.{qualified_cmp, may_show}
+use Rattle.pack_reading.specs.Orders.{qualified_total}
 
 -- ---- orders that tie
 pub tie_then : (a b : Ordering) → is_eq (ordering_then a b) ≡ (is_eq a && is_eq b)
@@ -31,20 +31,28 @@ tie_then Greater b = refl
 tie_numbers : (a b : ℕ) → is_eq (nat_cmp a b) ≡ (b == a)
 tie_numbers a b = grind (arith, nat_tests)
 
+-- two tests that are true together are one
+true_together : (a b : Bool) → (a ≡ true → b ≡ true) → (b ≡ true → a ≡ true) → a ≡ b
+true_together true b f g = sym (f refl)
+true_together false true f g = g refl
+true_together false false f g = refl
+
 pub tie_names : (a b : List ℕ) → is_eq (folded_cmp a b) ≡ is_same_name a b
-tie_names a b = sym (texts_ties (map fold_case a) (map fold_case b))
+tie_names a b =
+    let e = folded_cmp-equal a b in
+    true_together (is_eq (folded_cmp a b)) (is_same_name a b) (λ tie. e.0 (is_eq-Equal (folded_cmp a b) tie)) (λ same. ap is_eq (e.1 same))
 
 -- a name is like others where one is that differs from it by the case of letters alone
 pub same_congr : (a b c : List ℕ) → is_same_name a b ≡ true → is_same_name a c ≡ is_same_name b c
 same_congr a b c e = sym (tie_names a c) ∙ (eq_by_cmp_equiv name_total).congr a b c (tie_names a b ∙ e) ∙ tie_names b c
 
--- places are one where they have one directory and the same name
-pub tie_places : (p q : Place) → is_eq (place_cmp p q) ≡ (is_fid p.directory q.directory && is_same_name p.name q.name)
-tie_places p q = tie_then (fid_cmp p.directory q.directory) (folded_cmp p.name q.name) ∙ ap (λ b. is_fid p.directory q.directory && b) (tie_names p.name q.name)
+-- names with their directories are one where the directory is one and the name the same
+pub tie_qualified : (p q : QualifiedName) → is_eq (qualified_cmp p q) ≡ (is_fid p.directory q.directory && is_same_name p.name q.name)
+tie_qualified p q = tie_then (fid_cmp p.directory q.directory) (folded_cmp p.name q.name) ∙ ap (λ b. is_fid p.directory q.directory && b) (tie_names p.name q.name)
 
 -- the same from the other one
-pub tie_places_back : (p q : Place) → is_eq (place_cmp p q) ≡ (is_fid q.directory p.directory && is_same_name q.name p.name)
-tie_places_back p q = (eq_by_cmp_equiv place_total).symm p q ∙ tie_places q p
+pub tie_qualified_back : (p q : QualifiedName) → is_eq (qualified_cmp p q) ≡ (is_fid q.directory p.directory && is_same_name q.name p.name)
+tie_qualified_back p q = (eq_by_cmp_equiv qualified_total).symm p q ∙ tie_qualified q p
 
 pub tie_pages : (p : Page) (f : Fid) (n : ℕ) → is_eq (page_cmp p (record { fid = f; number = n })) ≡ (is_fid f p.fid && n == p.number)
 tie_pages p f n = tie_then (fid_cmp p.fid f) (nat_cmp p.number n) ∙ (λ i. is_fid-sym p.fid f i && tie_numbers p.number n i)

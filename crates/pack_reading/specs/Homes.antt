@@ -13,20 +13,20 @@ use Rattle.pack_model.specs.Namings.{Naming, may_stand, body_namings}
 use Rattle.pack_model.specs.View.{Home}
 use Rattle.pack_model.specs.Listing.{naming_of, naming_cmp, in_order}
 use Rattle.pack_reading.specs.declared.files.Found.{Found}
-use Rattle.pack_reading.specs.declared.names.Place.{Place}
+use Rattle.pack_reading.specs.declared.names.QualifiedName.{QualifiedName}
 use Rattle.pack_reading.specs.declared.names.Entry.{Entry}
 use Rattle.pack_reading.specs.declared.names.Names.{Names}
 
 -- ---- the entries that are kept
--- the order of places: by directory, and then by name without regard to case
-abbrev pub place_cmp : Place → Place → Ordering
-place_cmp = then_cmp (on (λ p. p.directory) fid_cmp) (on (λ p. p.name) folded_cmp)
+-- the order of names with their directories: by directory, and then by name without regard to case
+abbrev pub qualified_cmp : QualifiedName → QualifiedName → Ordering
+qualified_cmp = then_cmp (on (λ p. p.directory) fid_cmp) (on (λ p. p.name) folded_cmp)
 
-abbrev pub home_at : Place → Home
-home_at place = record { dir = place.directory; name = place.name }
+abbrev pub home_at : QualifiedName → Home
+home_at n = record { dir = n.directory; name = n.name }
 
 abbrev pub naming_at : Entry → Naming
-naming_at e = record { dir = e.place.directory; name = e.place.name; fid = e.fid }
+naming_at e = record { dir = e.name.directory; name = e.name.name; fid = e.fid }
 
 -- some file is named so in this directory
 abbrev pub is_taken_in : FinMap fid_cmp Home → Fid → List ℕ → Bool
@@ -35,7 +35,7 @@ is_taken_in homes d name = list_any (λ e. is_fid d e.1.dir && is_same_name name
 -- the entries are those of files that are named so
 pub record StandsFor (names : Names) (homes : FinMap fid_cmp Home) : Type 0 where
   pub named : (f : Fid) → contains fid_cmp names.named f ≡ contains_key homes f
-  pub taken : (d : Fid) (name : List ℕ) → contains place_cmp names.taken (record { directory = d; name = name }) ≡ is_taken_in homes d name
+  pub taken : (d : Fid) (name : List ℕ) → contains qualified_cmp names.taken (record { directory = d; name = name }) ≡ is_taken_in homes d name
   pub kept : map naming_at names.kept.keys ≡ in_order naming_cmp (map naming_of (entries homes))
 
 -- ---- the scan
@@ -43,7 +43,7 @@ pub record StandsFor (names : Names) (homes : FinMap fid_cmp Home) : Type 0 wher
 abbrev pub may_show : (Fid → Bool) → Naming → Bool
 may_show lives e = not (is_system e.fid) && may_stand lives e
 
--- and it is kept where neither its file nor its place is named yet
+-- and it is kept where neither its file has a name yet nor its name is taken in its directory
 abbrev pub considered : (Fid → Bool) → FinMap fid_cmp Home → Naming → FinMap fid_cmp Home
 considered lives homes e =
     cond (may_show lives e && not (contains_key homes e.fid) && not (is_taken_in homes e.dir e.name)) (insert homes e.fid (record { dir = e.dir; name = e.name })) homes

@@ -6,18 +6,18 @@ use Rattle.alto_words.specs.Fid.{fid_cmp, sys_dir}
 use Rattle.alto_words.specs.Names.{suffixed}
 use Rattle.pack_model.specs.Settling.{is_taken}
 use Rattle.pack_model.specs.View.{Home}
-use Rattle.pack_reading.specs.declared.names.Place.{Place}
+use Rattle.pack_reading.specs.declared.names.QualifiedName.{QualifiedName}
 use Rattle.pack_reading.specs.declared.passed.Passed.{Passed}
 use Rattle.pack_reading.specs.declared.groups.Group.{Group}
-use Rattle.pack_reading.specs.Homes.{place_cmp}
+use Rattle.pack_reading.specs.Homes.{qualified_cmp}
 
--- where a suffix of a name stands
-abbrev pub suffix_place : List ℕ → ℕ → Place
-suffix_place name k = record { directory = sys_dir; name = suffixed name k }
+-- a name with a suffix, in SysDir
+abbrev pub suffix_in_root : List ℕ → ℕ → QualifiedName
+suffix_in_root name k = record { directory = sys_dir; name = suffixed name k }
 
 -- how many suffixes of a name, from a first one on, are known to be taken
 abbrev pub passed_of : Passed → List ℕ → ℕ → ℕ
-passed_of passed name first = unwrap_or (get place_cmp passed.counts (suffix_place name first)) 0
+passed_of passed name first = unwrap_or (get qualified_cmp passed.counts (suffix_in_root name first)) 0
 
 -- the suffixes of a name from a first one on, and before an end, are taken
 abbrev pub AreTaken : FinMap fid_cmp Home → List ℕ → ℕ → ℕ → Type 0

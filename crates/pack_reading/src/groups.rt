@@ -4,8 +4,8 @@ ghost use Rattle.std.specs.Prelude.{◌≤◌};
 /// More suffixes than this are never asked for.
 pub(crate) const MOST_SUFFIXES: u32 = 65535;
 
-/// Suffixes with equally many digits, which keep equally many characters of a name: names that have the first of them in common,
-/// without regard to case, have all of them in common.
+/// Suffixes with equally many digits, which keep equally many characters of a name, and its version: names that have the first of
+/// them in common, without regard to case, have all of them in common.
 #[derive(Clone, Copy)]
 pub(crate) struct Group {
     pub(crate) first: u32,

@@ -3,9 +3,9 @@ ghost use Rattle.std.specs.Prelude.{◌≡◌, ◌≤◌, ◌+◌, OnOk};
 ghost use Rattle.std.specs.FinMap.{FinMap};
 ghost use Rattle.alto_words.specs.Fid.{fid_cmp};
 ghost use Rattle.pack_model.specs.View.{Home};
-ghost use Rattle.pack_reading.specs.Passed.{suffix_place, passed_of, IsPassed, AreTaken};
+ghost use Rattle.pack_reading.specs.Passed.{suffix_in_root, passed_of, IsPassed, AreTaken};
 
-use crate::names::Place;
+use crate::names::QualifiedName;
 use alto_words::{Fid, Memory, Name};
 use std::alloc::Global;
 use std::collections::BTreeMap;
@@ -13,8 +13,8 @@ use std::collections::BTreeMap;
 /// How many suffixes of names, from some first ones on, are known to be taken in SysDir.
 #[derive(Drop)]
 pub(crate) struct Passed {
-    /// By the place of the first one: names that have it in common have all later ones in common, which keep no more of a name.
-    pub(crate) counts: BTreeMap<Place, u32>,
+    /// By the first one: names that have it in common have all later ones in common, which keep no more of a name.
+    pub(crate) counts: BTreeMap<QualifiedName, u32>,
 }
 
 impl Passed {
@@ -34,7 +34,7 @@ impl Passed {
         ensures { result ≡ passed_of self.now name first }
     {
         self.counts
-            .get(&place_of(name, first))
+            .get(&suffix_in_root(name, first))
             .copied()
             .unwrap_or(0)
     }
@@ -46,18 +46,18 @@ impl Passed {
         ensures kept { OnOk result (passed_of self.new name first ≡ count) }
         ensures passed { (homes : FinMap fid_cmp Home) → IsPassed homes self.old → AreTaken homes name first (first + count) → OnOk result (IsPassed homes self.new) }
     {
-        self.counts.insert(place_of(name, first), count)?;
+        self.counts.insert(suffix_in_root(name, first), count)?;
         Ok(())
     }
 }
 
-/// The place of a suffix of a name.
-fn place_of(name: Name, suffix: u32) -> Place
+/// A name with a suffix, in SysDir.
+fn suffix_in_root(name: Name, suffix: u32) -> QualifiedName
     requires least { 1 ≤ suffix }
     requires most { suffix ≤ 65535 }
-    ensures { result ≡ suffix_place name suffix }
+    ensures { result ≡ suffix_in_root name suffix }
 {
-    Place {
+    QualifiedName {
         directory: Fid::SYS_DIR,
         name: name.suffixed(suffix),
     }

@@ -12,7 +12,7 @@ ghost use Rattle.pack_reading.specs.Homes.{StandsFor, naming_at, may_show, consi
 
 use crate::bytes::words_of;
 use crate::files::{Found, is_system};
-use crate::names::{Entry, Names, Place};
+use crate::names::{Entry, Names, QualifiedName};
 use crate::swept::Leaders;
 use alto_words::{Fid, Memory, Name};
 use dir_slots::{Slot, first_slot};
@@ -40,18 +40,18 @@ fn may_show(leaders: &Leaders, entry: &Entry) -> bool
     if is_system(entry.fid) || !leaders.has(entry.fid) {
         return false;
     }
-    if entry.place.directory == Fid::SYS_DIR {
-        !is_system_name(&entry.place.name)
+    if entry.name.directory == Fid::SYS_DIR {
+        !is_system_name(&entry.name.name)
     } else {
         !entry.fid.is_directory()
     }
 }
 
-/// Keeps an entry that may stand, where neither its file nor its place is named yet.
+/// Keeps an entry that may stand, where neither its file has a name yet nor its name is taken in its directory.
 fn consider(names: &mut Names, leaders: &Leaders, entry: Entry) -> Result<(), Memory>
     ensures { (homes : FinMap fid_cmp Home) → StandsFor names.old homes → OnOk result (StandsFor names.new (considered (lives_kept leaders.now) homes (naming_at entry))) }
 {
-    if may_show(leaders, &entry) && !names.has(entry.fid) && !names.is_taken(&entry.place) {
+    if may_show(leaders, &entry) && !names.has(entry.fid) && !names.is_taken(&entry.name) {
         names.add(entry)
     } else {
         Ok(())
@@ -70,11 +70,11 @@ fn consider_slot(
     match slot {
         Slot::Free { .. } => Ok(()),
         Slot::Entry { fid, name, .. } => {
-            let place = Place {
+            let name = QualifiedName {
                 directory,
                 name: *name,
             };
-            consider(names, leaders, Entry { place, fid: *fid })
+            consider(names, leaders, Entry { name, fid: *fid })
         }
     }
 }

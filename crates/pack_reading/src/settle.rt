@@ -10,7 +10,7 @@ ghost use Rattle.pack_reading.specs.Passed.{IsPassed, IsFirstFree};
 ghost use Rattle.pack_reading.specs.Shows.{seen_file, shown_name};
 
 use crate::groups::{GROUPS, Group, MOST_SUFFIXES};
-use crate::names::{Entry, Names, Place};
+use crate::names::{Entry, Names, QualifiedName};
 use crate::passed::Passed;
 use crate::scan::is_system_name;
 use crate::shown::{ShownFile, ShownName};
@@ -22,7 +22,7 @@ fn is_taken(names: &Names, name: Name) -> bool
     ensures { (homes : FinMap fid_cmp Home) → StandsFor names.now homes → result ≡ is_taken homes name }
 {
     is_system_name(&name)
-        || names.is_taken(&Place {
+        || names.is_taken(&QualifiedName {
             directory: Fid::SYS_DIR,
             name,
         })
@@ -94,12 +94,11 @@ fn adopt(names: &mut Names, passed: &mut Passed, file: &ShownFile) -> Result<(),
         return Ok(());
     }
     let name = choose(names, passed, file.leader.name)?;
-    let place = Place {
-        directory: Fid::SYS_DIR,
-        name,
-    };
     names.add(Entry {
-        place,
+        name: QualifiedName {
+            directory: Fid::SYS_DIR,
+            name,
+        },
         fid: file.fid,
     })
 }
@@ -122,8 +121,8 @@ pub(crate) fn list_names(alloc: Global, names: &Names) -> Result<List<ShownName>
     let mut list = Vec::with_capacity(alloc, names.kept.len())?;
     for entry in &names.kept {
         list.push(ShownName {
-            directory: entry.place.directory,
-            name: entry.place.name,
+            directory: entry.name.directory,
+            name: entry.name.name,
             fid: entry.fid,
         })?;
     }

@@ -17,7 +17,8 @@ use Rattle.pack_model.specs.Step.{step, new_leader, spare, room_in}
 use Rattle.pack_model.specs.Step.Operation.{put, grow, cut, title, leave, enter, widen}
 use Rattle.pack_laws.proofs.Keys.{fid_total, fid_same}
 use Rattle.pack_laws.proofs.Mapping.{get-update}
-use Rattle.pack_vectors.proofs.SmallPacks.{small, file_of_bytes, dir_4, file_3}
+use Rattle.pack_vectors.proofs.Shapes.{small}
+use Rattle.pack_vectors.proofs.SmallPacks.{file_of_bytes, dir_4, file_3}
 
 -- ---- a model with a file of five bytes, and SysDir with its entry and ten free words
 abbrev directory_of : List Item → File

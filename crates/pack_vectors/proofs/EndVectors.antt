@@ -28,7 +28,8 @@ use Rattle.pack_model.specs.Operations.Move.{mends}
 use Rattle.pack_model.specs.Committing.{MakesMove}
 use Rattle.pack_laws.proofs.ByLists.{read_by, read_list, seen_by, seen_list, names_by, names_list, shown_list}
 use Rattle.pack_vectors.proofs.StateVectors.{sound_fresh, clean_fresh}
-use Rattle.pack_vectors.proofs.SmallPacks.{small, its_words, made_7}
+use Rattle.pack_vectors.proofs.Shapes.{small}
+use Rattle.pack_vectors.proofs.SmallPacks.{its_words, made_7}
 
 -- ---- what packs are read as, and show
 -- models of one shape, with as many good sectors, one last serial and the same files

@@ -1,6 +1,6 @@
--- What a leader's sector shows of a label with another count, and the pages of DiskDescriptor where it has two.
+-- What a leader's sector shows of a label with another count; DiskDescriptor of several data pages, and of two drives; the old last serial.
 use Rattle.std.proofs.Common.{◌≡◌, ℕ, Bool, true, false, List, [], ◌∷◌, ◌++◌, refl, arith}
-use Rattle.std.specs.Prelude.{◌+◌, ◌*◌, ◌-◌, ◌≤◌, codes, replicate, length, take, drop, get_or}
+use Rattle.std.specs.Prelude.{◌+◌, ◌*◌, ◌-◌, codes, replicate, length, take, drop, get_or}
 use Rattle.std.specs.Fmt.{digits}
 use Rattle.alto_words.specs.Names.{lost, is_stored_name}
 use Rattle.disk_records.specs.declared.shape.Shape.{Shape}
@@ -13,8 +13,9 @@ use Rattle.pack_model.specs.Sights.{sight}
 use Rattle.pack_model.specs.Sights.Sight.{leads}
 use Rattle.pack_model.specs.Descriptor.{data_pages, descriptor_value}
 use Rattle.pack_model.specs.Format.{format_page, formatted_sectors, sectors_used, free_after_format}
-use Rattle.pack_model.specs.Reports.{old_serial, map_words}
-use Rattle.pack_vectors.proofs.SmallPacks.{small, file_3}
+use Rattle.pack_model.specs.Reports.{old_serial}
+use Rattle.pack_vectors.proofs.Shapes.{one_of, small, model_31, model_44, two_31, two_44}
+use Rattle.pack_vectors.proofs.SmallPacks.{file_3}
 
 -- ---- leader sectors
 -- page 0 of #3 in sector 1, whose label counts 7 bytes; the name's words begin with these bytes, and the dates are 1000
@@ -28,76 +29,24 @@ leader_sector bytes = record {
 abbrev lost_3 : Leader
 lost_3 = record { created = 1000; written = 1000; read = 1000; name = codes "Lost3."; rest = replicate 220 0 }
 
--- a name of one character can't be read, nor can one of 40, or one with a mark; a stored name may spell the lost one, and can be
--- read. A leader is one whatever its label counts
+-- a name of one character can't be read, nor can one of 40, or one whose version isn't spelled as stored names spell it; a numbered name
+-- can, and one that spells the lost name. A leader is one whatever its label counts
 flags :
     (sight small 1 (leader_sector (1 ∷ codes ".")) ≡ leads file_3 false lost_3)
     × (sight small 1 (leader_sector (40 ∷ codes "A.")) ≡ leads file_3 false lost_3)
     × (sight small 1 (leader_sector (3 ∷ codes "A!.")) ≡ leads file_3 false lost_3)
+    × (sight small 1 (leader_sector (5 ∷ codes "A!02.")) ≡ leads file_3 false lost_3)
+    × (sight small 1 (leader_sector (4 ∷ codes "A!2.")) ≡ leads file_3 true (record lost_3 { name = codes "A!2." }))
     × (sight small 1 (leader_sector (6 ∷ codes "Lost3.")) ≡ leads file_3 true lost_3)
 unfolding sight real_of in_range is_free leader_of leader_name is_readable is_stored_name lost digits
-flags = (refl, refl, refl, refl)
+flags = (refl, refl, refl, refl, refl, refl)
 
 -- ---- DiskDescriptor in two data pages: model 31, and 3,840 pages, where the first one is full and the second is empty
-abbrev shape_of : (cylinders : ℕ) → 2 ≤ cylinders → cylinders ≤ 406 → Shape
-shape_of cylinders least most = record {
-  disks = 1;
-  cylinders = cylinders;
-  some_disk = omega arith;
-  two_disks = omega arith;
-  least = least;
-  most = most;
-  least_pages = omega (arith, least);
-  most_pages = omega (arith, most);
-}
-
--- two drives of so many cylinders
-abbrev two_of : (cylinders : ℕ) → 2 ≤ cylinders → cylinders ≤ 406 → Shape
-two_of cylinders least most = record {
-  disks = 2;
-  cylinders = cylinders;
-  some_disk = omega arith;
-  two_disks = omega arith;
-  least = least;
-  most = most;
-  least_pages = omega (arith, least);
-  most_pages = omega (arith, most);
-}
-
-abbrev two_31 : Shape
-two_31 = two_of 203 (omega arith) (omega arith)
-
-abbrev two_44 : Shape
-two_44 = two_of 406 (omega arith) (omega arith)
-
-abbrev model_44 : Shape
-model_44 = shape_of 406 (omega arith) (omega arith)
-
--- model 44, two drives of 203 cylinders, two of 406: the bytes and the pages of DiskDescriptor, and what is free
-drives :
-    (descriptor_length model_44 ≡ 1250) × (descriptor_length two_31 ≡ 1250) × (descriptor_length two_44 ≡ 2468)
-    × (data_pages model_44 ≡ 3) × (data_pages two_31 ≡ 3) × (data_pages two_44 ≡ 5)
-    × (free_after_format model_44 ≡ 9737) × (free_after_format two_31 ≡ 9737) × (free_after_format two_44 ≡ 19479)
-drives = (refl, refl, refl, refl, refl, refl, refl, refl, refl)
-
--- the last sector of the first drive, the first and the last of the second
-second_drive : (real_of two_31 4871 ≡ 11 * 4096 + 202 * 8 + 4) × (real_of two_31 4872 ≡ 2) × (real_of two_31 9743 ≡ 11 * 4096 + 202 * 8 + 6) × (real_of two_44 19487 ≡ 48302)
-unfolding real_of
-second_drive = (refl, refl, refl, refl)
-
--- five pages: the last one counts 420 bytes
-fifth_page : ((format_page two_44 4).0 ≡ 65535 ∷ 28672 ∷ 0 ∷ 420 ∷ 5 ∷ 1 ∷ 0 ∷ 2 ∷ []) × ((format_page two_44 3).0 ≡ 32768 ∷ 24576 ∷ 0 ∷ 512 ∷ 4 ∷ 1 ∷ 0 ∷ 2 ∷ [])
-unfolding real_of
-fifth_page = (refl, refl)
-
-abbrev model_31 : Shape
-model_31 = shape_of 203 (omega arith) (omega arith)
-
 abbrev model_160 : Shape
-model_160 = shape_of 160 (omega arith) (omega arith)
+model_160 = one_of 160 (omega arith) (omega arith)
 
 abbrev model_159 : Shape
-model_159 = shape_of 159 (omega arith) (omega arith)
+model_159 = one_of 159 (omega arith) (omega arith)
 
 page_numbers :
     (descriptor_length model_160 ≡ 512)
@@ -141,15 +90,40 @@ last_hints shape = drop 253 (get_or (take 4 (formatted_sectors shape 1000)) 3 ([
 leader_hints : (last_hints model_31 ≡ 5 ∷ 2 ∷ 130 ∷ []) × (last_hints model_160 ≡ 5 ∷ 2 ∷ 0 ∷ []) × (last_hints small ≡ 4 ∷ 1 ∷ 38 ∷ [])
 leader_hints = (refl, refl, refl)
 
--- ---- the old last serial: of this shape, of one drive with as many cylinders, of one drive of another size, and of a descriptor that
--- is as long as that of two drives and still says one
-serial_of_drives : ℕ → Shape → ℕ → ℕ
-serial_of_drives length shape drives = old_serial two_31 (replicate length 0) (drives ∷ 203 ∷ 2 ∷ 12 ∷ 0 ∷ 9 ∷ 1 ∷ 0 ∷ (map_words drives shape) ∷ [])
+-- ---- larger shapes
+-- model 44, two drives of 203 cylinders, two of 406: the bytes and the pages of DiskDescriptor, and what is free
+drives :
+    (descriptor_length model_44 ≡ 1250) × (descriptor_length two_31 ≡ 1250) × (descriptor_length two_44 ≡ 2468)
+    × (data_pages model_44 ≡ 3) × (data_pages two_31 ≡ 3) × (data_pages two_44 ≡ 5)
+    × (free_after_format model_44 ≡ 9737) × (free_after_format two_31 ≡ 9737) × (free_after_format two_44 ≡ 19479)
+drives = (refl, refl, refl, refl, refl, refl, refl, refl, refl)
 
+-- the last sector of the first drive, the first and the last of the second
+second_drive : (real_of two_31 4871 ≡ 11 * 4096 + 202 * 8 + 4) × (real_of two_31 4872 ≡ 2) × (real_of two_31 9743 ≡ 11 * 4096 + 202 * 8 + 6) × (real_of two_44 19487 ≡ 48302)
+unfolding real_of
+second_drive = (refl, refl, refl, refl)
+
+-- five pages: the last one counts 420 bytes
+fifth_page : ((format_page two_44 4).0 ≡ 65535 ∷ 28672 ∷ 0 ∷ 420 ∷ 5 ∷ 1 ∷ 0 ∷ 2 ∷ []) × ((format_page two_44 3).0 ≡ 32768 ∷ 24576 ∷ 0 ∷ 512 ∷ 4 ∷ 1 ∷ 0 ∷ 2 ∷ [])
+unfolding real_of
+fifth_page = (refl, refl)
+
+-- ---- the old last serial
+-- that of a descriptor of so many bytes, with this number of drives, of cylinders and of map words
+abbrev old_of : Shape → ℕ → ℕ → ℕ → ℕ → ℕ
+old_of shape bytes drives cylinders words = old_serial shape (replicate bytes 0) (drives ∷ cylinders ∷ 2 ∷ 12 ∷ 0 ∷ 9 ∷ 1 ∷ 0 ∷ words ∷ [])
+
+-- its own shape, and one drive with as many cylinders; one drive of twice as many, which has as many sectors; the length of two drives
+-- with the words of one, as a move that was cut leaves it, or the other way round; another number of map words
 old_serials :
-    (serial_of_drives 1250 two_31 2 ≡ 9)
-    × (serial_of_drives 642 two_31 1 ≡ 9)
-    × (serial_of_drives 1250 two_31 1 ≡ 0)
-    × (serial_of_drives 642 two_44 1 ≡ 0)
-unfolding serial_of_drives
-old_serials = (refl, refl, refl, refl)
+    (old_of two_31 1250 2 203 609 ≡ 9)
+    × (old_of two_31 642 1 203 305 ≡ 9)
+    × (old_of two_31 1250 1 406 609 ≡ 0)
+    × (old_of two_31 1250 1 203 305 ≡ 0)
+    × (old_of two_31 642 2 203 609 ≡ 0)
+    × (old_of two_31 642 1 203 306 ≡ 0)
+old_serials = (refl, refl, refl, refl, refl, refl)
+
+-- one drive takes none of two
+old_of_two : (old_of model_44 1250 1 406 609 ≡ 9) × (old_of model_44 1250 2 203 609 ≡ 0) × (old_of two_44 1250 1 406 609 ≡ 9) × (old_of two_44 1250 2 203 609 ≡ 0)
+old_of_two = (refl, refl, refl, refl)

@@ -16,7 +16,7 @@ use Rattle.pack_model.specs.Whole.FileWhole.{absent, present}
 use Rattle.pack_model.specs.Descriptor.{descriptor_text}
 use Rattle.pack_model.specs.Format.{format_slots, format_table}
 use Rattle.pack_laws.proofs.Keys.{is_fid-itself, same_fid}
-use Rattle.pack_vectors.proofs.SmallPacks.{small}
+use Rattle.pack_vectors.proofs.Shapes.{small}
 
 -- ---- what its sectors show
 abbrev pub root_leader : Leader

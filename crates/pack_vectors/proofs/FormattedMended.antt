@@ -27,7 +27,7 @@ use Rattle.pack_laws.proofs.Mapping.{entries-from_entries, get-map_values}
 use Rattle.pack_laws.proofs.Uses.{file_by, found_is, available_is}
 use Rattle.pack_vectors.proofs.PackVectors.{formatted_sights}
 use Rattle.pack_vectors.proofs.FormattedFiles.{its_leader, its_bytes, fresh, by_file, no_leader}
-use Rattle.pack_vectors.proofs.SmallPacks.{small}
+use Rattle.pack_vectors.proofs.Shapes.{small}
 use Rattle.pack_vectors.proofs.FormattedModel.{root_file, root_entries, described_is}
 
 -- ---- what the Scavenger would do with it

@@ -22,7 +22,7 @@ use Rattle.pack_laws.proofs.Keys.{fid_total, fid_same}
 use Rattle.pack_laws.proofs.Mapping.{entries-from_entries}
 use Rattle.pack_laws.proofs.Uses.{file_by, found_is}
 use Rattle.pack_vectors.proofs.FormattedFiles.{root_leader, root_bytes, fresh, by_file, no_leader}
-use Rattle.pack_vectors.proofs.SmallPacks.{small}
+use Rattle.pack_vectors.proofs.Shapes.{small}
 
 -- ---- SysDir
 abbrev pub root_file : File

@@ -18,7 +18,8 @@ use Rattle.pack_model.specs.Step.{new_leader}
 use Rattle.pack_model.specs.Links.{no_link}
 use Rattle.pack_model.specs.Format.{Written, formatted}
 use Rattle.pack_model.specs.Handy.{Handy, HandyCache, LiesInARow, NamesLastPage, IsRightOrIdle, Cached, leader_word, row_word, last_at_word, last_number_word}
-use Rattle.pack_vectors.proofs.SmallPacks.{small, free_sector, pack_of, system, words_a, its_words, some_or, file_3}
+use Rattle.pack_vectors.proofs.Shapes.{small}
+use Rattle.pack_vectors.proofs.SmallPacks.{free_sector, pack_of, system, words_a, its_words, some_or, file_3}
 
 -- with the one sector that bears the leader
 handy_by : (p : Pack) (f : Fid) (at : ℕ) (cache : List Cached)

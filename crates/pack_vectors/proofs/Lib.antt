@@ -14,9 +14,11 @@ pub mod LinkVectors
 pub mod ListingVectors
 pub mod MendVectors
 pub mod MisledVectors
+pub mod NameVectors
 pub mod PackVectors
 pub mod ReadVectors
 pub mod RoomVectors
+pub mod Shapes
 pub mod ShownVectors
 pub mod SmallPacks
 pub mod StandVectors
@@ -25,4 +27,5 @@ pub mod StepVectors
 pub mod TurnVectors
 pub mod UseVectors
 pub mod Vectors
+pub mod VersionVectors
 pub mod WriteVectors

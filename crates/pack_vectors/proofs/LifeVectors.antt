@@ -15,7 +15,8 @@ use Rattle.pack_model.specs.Commands.{Claim, claims_writes, first_page_claim, le
 use Rattle.pack_model.specs.Operations.{make_writes, drop_writes, drop_moves}
 use Rattle.pack_model.specs.Committing.{units}
 use Rattle.pack_model.specs.Step.Operation.{drop_file}
-use Rattle.pack_vectors.proofs.SmallPacks.{small, pack_of, system, its_words, words_a, made_6, made_7, appended_9, file_3}
+use Rattle.pack_vectors.proofs.Shapes.{small}
+use Rattle.pack_vectors.proofs.SmallPacks.{pack_of, system, its_words, words_a, made_6, made_7, appended_9, file_3}
 
 -- ---- make
 -- page 1 first, with no bytes, and then the leader; each has the other one's address in its label: the leader's next link, the

@@ -21,7 +21,8 @@ use Rattle.pack_model.specs.Descriptor.{descriptor_value, open_writes, close_wri
 use Rattle.pack_laws.proofs.Keys.{fid_total, fid_same}
 use Rattle.pack_laws.proofs.Mapping.{get-update}
 use Rattle.pack_vectors.proofs.StepVectors.{entries_with, model_with, done_after}
-use Rattle.pack_vectors.proofs.SmallPacks.{file_3, model_31, small}
+use Rattle.pack_vectors.proofs.Shapes.{model_31, small}
+use Rattle.pack_vectors.proofs.SmallPacks.{file_3}
 
 -- ---- DiskDescriptor
 -- closing writes the last data page first, and both with a clean mark; nothing where the mark is clean

@@ -4,6 +4,7 @@ use Rattle.std.proofs.lemmas.Option.{none-some}
 use Rattle.std.specs.Prelude.{codes, replicate, get_or}
 use Rattle.alto_words.specs.Fid.{sys_dir}
 use Rattle.disk_records.specs.declared.records.Page.{Page}
+use Rattle.disk_records.specs.declared.records.Place.TheVariants.{Root, Next, Held}
 use Rattle.disk_records.specs.declared.records.Event.{Event}
 use Rattle.disk_records.specs.Addresses.{real_of}
 use Rattle.disk_records.specs.Labels.{in_range, is_free, label_of}
@@ -14,9 +15,9 @@ use Rattle.pack_model.specs.Sights.Sight.{hidden, free, leads}
 use Rattle.pack_model.specs.Whole.{Whole}
 use Rattle.pack_model.specs.PageWords.{page_number, page_value, new_leader_value}
 use Rattle.pack_model.specs.Misled.{Misled, Finds, AnswersMisled, NamesSector, StandsInLink}
-use Rattle.pack_model.specs.Misled.HintPlace.{root, next_of, held}
 use Rattle.pack_vectors.proofs.StateVectors.{sound_fresh}
-use Rattle.pack_vectors.proofs.SmallPacks.{small, pack_of, system, words_a, its_words, all_free, formatted_pack, file_3}
+use Rattle.pack_vectors.proofs.Shapes.{small}
+use Rattle.pack_vectors.proofs.SmallPacks.{pack_of, system, words_a, its_words, all_free, formatted_pack, file_3}
 
 -- #3 has 600 bytes: its leader is in sector 5, its pages are in 6 and 7; these are the next links of leader and first page
 abbrev linked : ℕ → ℕ → Pack
@@ -45,11 +46,11 @@ in_sector_5 : carried unlinked 5 ≡ Some (page_of_3 0)
 unfolding real_of in_range
 in_sector_5 = refl
 
-none_named : (i j : ℕ) → NamesSector small (next_of j) 65535 i → ⊥
+none_named : (i j : ℕ) → NamesSector small (Next j) 65535 i → ⊥
 unfolding real_of
 none_named i j names = let named = names.named in omega arith
 
-ones_mislead : AnswersMisled unlinked [] (next_of 5) 65535 (page_of_3 1) None
+ones_mislead : AnswersMisled unlinked [] (Next 5) 65535 (page_of_3 1) None
 ones_mislead = record {
   misled = record {
     stands = record { page = page_of_3 0; carries = in_sector_5; full = inl refl; means = refl; link = refl };
@@ -95,18 +96,18 @@ page_in_7 : carried astray 7 ≡ Some (page_of_3 2)
 unfolding real_of in_range
 page_in_7 = refl
 
-names_7 : NamesSector small (next_of 5) 28672 7
+names_7 : NamesSector small (Next 5) 28672 7
 unfolding real_of
 names_7 = record { first = omega arith; last = omega arith; named = refl }
 
-only_7 : (i : ℕ) → NamesSector small (next_of 5) 28672 i → i ≡ 7
+only_7 : (i : ℕ) → NamesSector small (Next 5) 28672 i → i ≡ 7
 unfolding real_of
 only_7 i names = let first = names.first in let last = names.last in let named = names.named in omega arith
 
-finds_7 : Finds astray (next_of 5) 28672 (Some label_7)
+finds_7 : Finds astray (Next 5) 28672 (Some label_7)
 finds_7 = record { named = λ i names. sym found_7 ∙ ap (label_found astray) (sym (only_7 i names)); unnamed = λ none. absurd (none 7 names_7) }
 
-link_misleads : AnswersMisled astray [] (next_of 5) 28672 (page_of_3 1) (Some label_7)
+link_misleads : AnswersMisled astray [] (Next 5) 28672 (page_of_3 1) (Some label_7)
 link_misleads = record {
   misled = record {
     stands = record { page = page_of_3 0; carries = leads_in_5; full = inl refl; means = refl; link = refl };
@@ -119,7 +120,7 @@ link_misleads = record {
 }
 
 -- the same link of the first page, which is full, is right: it names page 2
-link_leads : Misled astray (next_of 6) 28672 (page_of_3 2) → ⊥
+link_leads : Misled astray (Next 6) 28672 (page_of_3 2) → ⊥
 unfolding real_of
 link_leads m = m.misses 7 (record { first = omega arith; last = omega arith; named = refl }) page_in_7
 
@@ -139,7 +140,7 @@ shows_free = refl
 not_whole : Whole all_free → ⊥
 not_whole whole = let other : free ≡ leads sys_dir true whole.root.0 = sym shows_free ∙ whole.root.1 in cc
 
-root_misleads : AnswersMisled all_free [] root 1 root_page (Some (ones 8))
+root_misleads : AnswersMisled all_free [] Root 1 root_page (Some (ones 8))
 root_misleads = record {
   misled = record {
     stands = (refl, refl);
@@ -153,7 +154,7 @@ root_misleads = record {
 }
 
 -- ---- an address that was held names sector 7, and not page 1; what is found there is its label
-held_misleads : Misled astray (held 7) 7 (page_of_3 1)
+held_misleads : Misled astray (Held 7) 7 (page_of_3 1)
 held_misleads = record {
   stands = refl;
   misses = λ i names carries.
@@ -161,7 +162,7 @@ held_misleads = record {
       omega arith;
 }
 
-held_finds : Finds astray (held 7) 7 (Some label_7)
+held_finds : Finds astray (Held 7) 7 (Some label_7)
 held_finds = record {
   named = λ i names. sym found_7 ∙ ap (label_found astray) names.named;
   unnamed = λ none. absurd (none 7 (record { first = omega arith; last = omega arith; named = refl }));
@@ -172,16 +173,16 @@ carries_no_root : carried formatted_pack 20 ≡ None
 unfolding real_of in_range
 carries_no_root = refl
 
-held_is_free : Misled formatted_pack (held 20) 20 root_page
+held_is_free : Misled formatted_pack (Held 20) 20 root_page
 held_is_free = record { stands = refl; misses = λ i names carries. none-some _ (sym carries_no_root ∙ ap (carried formatted_pack) names.named ∙ carries) }
 
-held_never : (events : List Event) (i at : ℕ) (wanted : Page) (found : Option (List ℕ)) → AnswersMisled formatted_pack events (held i) at wanted found → ⊥
+held_never : (events : List Event) (i at : ℕ) (wanted : Page) (found : Option (List ℕ)) → AnswersMisled formatted_pack events (Held i) at wanted found → ⊥
 held_never events i at wanted found answers = answers.on_disk sound_fresh.whole
 
 carries_root : carried formatted_pack 1 ≡ Some root_page
 unfolding real_of in_range
 carries_root = refl
 
-root_never : (events : List Event) (at : ℕ) (wanted : Page) (found : Option (List ℕ)) → AnswersMisled formatted_pack events root at wanted found → ⊥
+root_never : (events : List Event) (at : ℕ) (wanted : Page) (found : Option (List ℕ)) → AnswersMisled formatted_pack events Root at wanted found → ⊥
 root_never events at wanted found answers =
     answers.misled.misses 1 (record { first = omega arith; last = omega arith; named = answers.misled.stands.0 }) (carries_root ∙ ap Some (sym (answers.misled.stands.1)))

@@ -23,7 +23,7 @@ use Rattle.pack_model.specs.Settling.{most_suffixes, settle, show}
 use Rattle.pack_model.specs.Listing.{Listed, in_order, naming_of, naming_cmp, listed_cmp, size_of, line_of, shown_names, listing}
 use Rattle.pack_laws.proofs.ByLists.{puts, entries-puts, read_by, read_list, seen_by, seen_list, shown_by, shown_list}
 use Rattle.pack_laws.proofs.Orders.{listed_total, naming_total}
-use Rattle.pack_vectors.proofs.SmallPacks.{three_x, in_d}
+use Rattle.pack_vectors.proofs.SmallPacks.{three_x, in_d, versions}
 
 -- ---- the listing by lists
 abbrev ordered_by : {X : Type 0} → (X → X → Ordering) → List X → List X
@@ -60,6 +60,16 @@ three_listed : listing (show three_x)
     ∷ []
 unfolding sights_from sight real_of in_range is_free leader_of leader_name is_readable is_stored_name first joined most_pages file_bytes slots_after slot_at is_entry keeps_system most_suffixes suffixed digits
 three_listed = listing_is three_x
+
+-- by base, and then by version as a number
+versions_listed : listing (show versions)
+    ≡ line None sys_dir (codes "A.") (ordinary_fid 3) (Some 0)
+    ∷ line None sys_dir (codes "a!2.") (ordinary_fid 4) (Some 0)
+    ∷ line None sys_dir (codes "A!10.") (ordinary_fid 5) (Some 0)
+    ∷ line None sys_dir (codes "A.$1!2.") (ordinary_fid 6) (Some 0)
+    ∷ []
+unfolding sights_from sight real_of in_range is_free leader_of leader_name is_readable is_stored_name first joined most_pages file_bytes slots_after slot_at is_entry keeps_system most_suffixes suffixed digits
+versions_listed = listing_is versions
 
 -- a directory's names come behind SysDir's, under its own name there
 in_d_listed : listing (show in_d) ≡ line None sys_dir (codes "D.") (directory_fid 3) None ∷ line (Some (codes "D.")) (directory_fid 3) (codes "A.") (ordinary_fid 4) (Some 5) ∷ []

@@ -28,7 +28,8 @@ use Rattle.pack_model.specs.Scavenging.Refusal.{root_bad, root_taken, pack_full}
 use Rattle.pack_model.specs.Reports.{Report, report_of, mended_serial}
 use Rattle.pack_laws.proofs.Uses.{available_is}
 use Rattle.pack_laws.proofs.MendedByLists.{mended_list, lacking_list, needed_is, needs_is, refusal_is, report_is, serial_is}
-use Rattle.pack_vectors.proofs.SmallPacks.{small, copied, unread, three_x, made_6, made_7, appended_8, appended_9, no_end, no_leader, crowded, crowded_alive, name_26, described_by_words, words_of_9, nameless_alone, all_free, good_up_to, root_header, root_label, zeros}
+use Rattle.pack_vectors.proofs.Shapes.{small}
+use Rattle.pack_vectors.proofs.SmallPacks.{copied, unread, three_x, made_6, made_7, appended_8, appended_9, no_end, no_leader, crowded, crowded_alive, name_26, described_by_words, words_of_9, nameless_alone, all_free, good_up_to, root_header, root_label, zeros}
 
 abbrev file_3 : Fid
 file_3 = ordinary_fid 3

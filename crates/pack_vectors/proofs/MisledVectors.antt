@@ -4,6 +4,7 @@ use Rattle.std.specs.Prelude.{codes, replicate}
 use Rattle.alto_words.specs.Fid.{sys_dir, disk_descriptor}
 use Rattle.alto_words.specs.Names.{is_stored_name}
 use Rattle.disk_records.specs.declared.records.Page.{Page}
+use Rattle.disk_records.specs.declared.records.Place.TheVariants.{Entry}
 use Rattle.disk_records.specs.declared.records.Event.TheVariants.{Wrote, Shown}
 use Rattle.disk_records.specs.Addresses.{real_of}
 use Rattle.disk_records.specs.Labels.{in_range, is_free, label_of}
@@ -20,8 +21,8 @@ use Rattle.pack_model.specs.PageWords.{filled, page_number, new_leader_value, le
 use Rattle.pack_model.specs.Links.{no_link, dir_slots}
 use Rattle.pack_model.specs.Format.{Written, format_leader, format_page, with_headers}
 use Rattle.pack_model.specs.Misled.{Misled, AnswersMisled, StandsInEntry}
-use Rattle.pack_model.specs.Misled.HintPlace.{entry_word}
-use Rattle.pack_vectors.proofs.SmallPacks.{file_3, small}
+use Rattle.pack_vectors.proofs.Shapes.{small}
+use Rattle.pack_vectors.proofs.SmallPacks.{file_3}
 use Rattle.pack_vectors.proofs.LinkVectors.{number_in}
 
 -- a file without bytes, its leader in sector 5 and its page 1 in sector 6; SysDir's word 29, the address in its entry, is 6
@@ -83,7 +84,7 @@ found_6 : label_found wrong 6 ≡ Some label_6
 unfolding real_of
 found_6 = refl
 
-misleads : Misled wrong (entry_word sys_dir 29) 6 wanted
+misleads : Misled wrong (Entry sys_dir 29) 6 wanted
 misleads = record {
   stands = wrong_stands;
   misses = λ i names carries.
@@ -94,7 +95,7 @@ misleads = record {
 }
 
 -- a call that has written nothing finds the label that stands in sector 6
-finds_6 : AnswersMisled wrong [] (entry_word sys_dir 29) 6 wanted (Some label_6)
+finds_6 : AnswersMisled wrong [] (Entry sys_dir 29) 6 wanted (Some label_6)
 finds_6 = record {
   misled = misleads;
   on_disk = λ whole. tt;
@@ -109,7 +110,7 @@ ones_6 : label_found (after wrong (Wrote 6 1 (ones 8) ∷ [])) 6 ≡ Some (ones 
 unfolding real_of
 ones_6 = refl
 
-finds_ones : AnswersMisled wrong (Wrote 6 1 (ones 8) ∷ Shown 10 ∷ []) (entry_word sys_dir 29) 6 wanted (Some (ones 8))
+finds_ones : AnswersMisled wrong (Wrote 6 1 (ones 8) ∷ Shown 10 ∷ []) (Entry sys_dir 29) 6 wanted (Some (ones 8))
 finds_ones = record {
   misled = misleads;
   on_disk = λ whole. tt;

@@ -25,7 +25,8 @@ use Rattle.pack_model.specs.Step.{new_leader}
 use Rattle.pack_model.specs.PageWords.{leader_value, page_number}
 use Rattle.pack_model.specs.Descriptor.{descriptor_text}
 use Rattle.pack_model.specs.Format.{formatted, format_slots, format_table, free_after_format, sectors_used}
-use Rattle.pack_vectors.proofs.SmallPacks.{model_31, leader_a, file_3, small}
+use Rattle.pack_vectors.proofs.Shapes.{model_31, small}
+use Rattle.pack_vectors.proofs.SmallPacks.{leader_a, file_3}
 
 -- ---- leader pages
 -- what is written is read again, whatever the hints
@@ -33,8 +34,8 @@ leader_read : leader_of file_3 (leader_value leader_a (replicate 10 7)) ≡ lead
 unfolding leader_of leader_name is_readable is_stored_name
 leader_read = refl
 
--- bytes behind the name are ignored; a length byte of 1 or 40, or a character that a name can't have, make it unreadable, and the
--- serial stands for it
+-- bytes behind the name are ignored; a length byte of 1 or 40, or a version that isn't one or isn't spelled so, make it unreadable, and
+-- the serial stands for it
 abbrev with_name : List ℕ → List ℕ
 with_name bytes = replicate 6 0 ++ words_of (bytes ++ replicate (40 - length bytes) 0) ++ replicate 230 0
 
@@ -43,9 +44,11 @@ names_read :
     × (leader_name file_3 (with_name (1 ∷ codes ".")) ≡ codes "Lost3.")
     × (leader_name file_3 (with_name (40 ∷ replicate 39 46)) ≡ codes "Lost3.")
     × (leader_name file_3 (with_name (3 ∷ codes "A!.")) ≡ codes "Lost3.")
+    × (leader_name file_3 (with_name (4 ∷ codes "A!2.")) ≡ codes "A!2.")
+    × (leader_name file_3 (with_name (5 ∷ codes "A!02.")) ≡ codes "Lost3.")
     × (leader_name file_3 (with_name (39 ∷ replicate 39 46)) ≡ replicate 39 46)
 unfolding leader_name is_readable is_stored_name lost digits
-names_read = (refl, refl, refl, refl, refl)
+names_read = (refl, refl, refl, refl, refl, refl, refl)
 
 -- ---- what a sector shows
 abbrev sector_with : ℕ → List ℕ → Sector

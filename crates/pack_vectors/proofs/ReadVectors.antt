@@ -24,7 +24,8 @@ use Rattle.pack_model.specs.Settling.{most_suffixes, show}
 use Rattle.pack_model.specs.Step.{new_leader}
 use Rattle.pack_laws.proofs.Keys.{fid_total}
 use Rattle.pack_laws.proofs.ByLists.{puts, entries-puts, read_list, room_is, seen_by, seen_list, shown_list}
-use Rattle.pack_vectors.proofs.SmallPacks.{small, copied, unread, three_x, in_d, made_6, made_7, appended_8, appended_9, no_leader, all_free, good_up_to, file_of_bytes, file_3}
+use Rattle.pack_vectors.proofs.Shapes.{small}
+use Rattle.pack_vectors.proofs.SmallPacks.{copied, unread, three_x, in_d, made_6, made_7, appended_8, appended_9, no_leader, all_free, versions, good_up_to, file_of_bytes, file_3}
 
 abbrev directory : List ℕ → List Item → File
 directory name is = record { leader = new_leader name 1000; body = items_of is }
@@ -107,6 +108,16 @@ three_names : entries (show three_x).names
     ∷ []
 unfolding sights_from sight real_of in_range is_free leader_of leader_name is_readable is_stored_name first joined most_pages file_bytes slots_after slot_at is_entry keeps_system most_suffixes suffixed digits
 three_names = shown_list three_x
+
+-- versions of a name stand beside each other; a nameless file of one that is there gets its suffix before the version
+version_names : entries (show versions).names
+    ≡ in_root (ordinary_fid 3) (codes "A.")
+    ∷ in_root (ordinary_fid 4) (codes "a!2.")
+    ∷ in_root (ordinary_fid 5) (codes "A!10.")
+    ∷ in_root (ordinary_fid 6) (codes "A.$1!2.")
+    ∷ []
+unfolding sights_from sight real_of in_range is_free leader_of leader_name is_readable is_stored_name first joined most_pages file_bytes slots_after slot_at is_entry keeps_system most_suffixes suffixed digits
+version_names = shown_list versions
 
 -- a file whose entry can't be read is shown by its leader's name; one that has no leader isn't shown
 shown_names : (entries (show unread).names ≡ in_root file_3 (codes "A.") ∷ []) × (entries (show no_leader).names ≡ [])

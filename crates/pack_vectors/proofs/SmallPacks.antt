@@ -1,9 +1,8 @@
 -- Small packs of 48 sectors: the cases by which reading and mending are checked.
-use Rattle.std.proofs.Common.{ℕ, zero, suc, ◌-◌, List, [], ◌∷◌, ◌++◌, refl, arith, None, Option, Some}
+use Rattle.std.proofs.Common.{ℕ, zero, suc, ◌-◌, List, [], ◌∷◌, ◌++◌, None, Option, Some}
 use Rattle.std.specs.Prelude.{codes, replicate, length, take, set}
 use Rattle.alto_words.specs.declared.fid.Fid.{Fid}
 use Rattle.alto_words.specs.Fid.{sys_dir, disk_descriptor, ordinary_fid, directory_fid}
-use Rattle.disk_records.specs.declared.shape.Shape.{Shape}
 use Rattle.disk_records.specs.Addresses.{real_of}
 use Rattle.disk_records.specs.Labels.{label_of}
 use Rattle.disk_records.specs.Commands.{ones}
@@ -20,6 +19,7 @@ use Rattle.pack_model.specs.Step.{new_leader}
 use Rattle.pack_model.specs.Leaders.{Leader}
 use Rattle.pack_model.specs.Bodies.Body.{data_of}
 use Rattle.pack_model.specs.Bodies.{File}
+use Rattle.pack_vectors.proofs.Shapes.{small}
 
 abbrev pub file_of_bytes : List ℕ → List ℕ → File
 file_of_bytes name bytes = record { leader = new_leader name 1000; body = data_of bytes }
@@ -31,35 +31,11 @@ some_or (Some n) = n
 abbrev pub leader_a : Leader
 leader_a = new_leader (codes "A.") 1000
 
-abbrev pub model_31 : Shape
-model_31 = record {
-  disks = 1;
-  cylinders = 203;
-  some_disk = omega arith;
-  two_disks = omega arith;
-  least = omega arith;
-  most = omega arith;
-  least_pages = omega arith;
-  most_pages = omega arith;
-}
-
 abbrev pub dir_4 : Fid
 dir_4 = directory_fid 4
 
 abbrev pub file_3 : Fid
 file_3 = ordinary_fid 3
-
-abbrev pub small : Shape
-small = record {
-  disks = 1;
-  cylinders = 2;
-  some_disk = omega arith;
-  two_disks = omega arith;
-  least = omega arith;
-  most = omega arith;
-  least_pages = omega arith;
-  most_pages = omega arith;
-}
 
 abbrev pub formatted_pack : Pack
 formatted_pack = formatted small 1 1000
@@ -125,6 +101,15 @@ three_x = pack_of 33 (system words_two (its_words 7 1) (
     ++ file_in 9 (directory_fid 5) (codes "E.") (bytes_of (emptied 6 11))
     ++ file_in 11 (ordinary_fid 6) (codes "X.") []
     ++ file_in 13 (ordinary_fid 7) (codes "X.") []
+    ))
+
+-- three versions of a name, their entries from the greatest down, and a nameless file whose leader has one of these names
+abbrev pub versions : Pack
+versions = pack_of 35 (system (entry_words (ordinary_fid 5) 9 (codes "A!10.") ++ entry_words (ordinary_fid 4) 7 (codes "a!2.") ++ entry_words (ordinary_fid 3) 5 (codes "A.") ++ space_words 205) (its_words 6 1) (
+    file_in 5 (ordinary_fid 3) (codes "A.") []
+    ++ file_in 7 (ordinary_fid 4) (codes "a!2.") []
+    ++ file_in 9 (ordinary_fid 5) (codes "A!10.") []
+    ++ file_in 11 (ordinary_fid 6) (codes "A!2.") []
     ))
 
 -- a file in a directory

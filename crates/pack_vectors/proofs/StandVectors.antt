@@ -31,7 +31,8 @@ use Rattle.pack_vectors.proofs.FormattedFiles.{fresh, root_leader, its_leader, r
 use Rattle.pack_vectors.proofs.FormattedModel.{its_fits, last_is}
 use Rattle.pack_vectors.proofs.FormattedMended.{scavengeable_fresh}
 use Rattle.pack_vectors.proofs.StateVectors.{whole_fresh, sound_fresh, clean_sights}
-use Rattle.pack_vectors.proofs.SmallPacks.{small, made_6, made_7, file_3, formatted_pack}
+use Rattle.pack_vectors.proofs.Shapes.{small}
+use Rattle.pack_vectors.proofs.SmallPacks.{made_6, made_7, file_3, formatted_pack}
 
 -- ---- cuts: it stands for the model that it is read as, the Scavenger takes it, and it is clean as it is sound
 mendable_fresh : Mendable formatted_pack

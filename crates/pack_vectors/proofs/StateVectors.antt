@@ -27,7 +27,7 @@ use Rattle.pack_laws.proofs.Keys.{fid_total}
 use Rattle.pack_laws.proofs.Uses.{used_is}
 use Rattle.pack_vectors.proofs.PackVectors.{formatted_sights, formatted_links}
 use Rattle.pack_vectors.proofs.FormattedFiles.{root_leader, root_bytes, fresh, each, whole_file, by_living}
-use Rattle.pack_vectors.proofs.SmallPacks.{small}
+use Rattle.pack_vectors.proofs.Shapes.{small}
 use Rattle.pack_vectors.proofs.FormattedModel.{root_file, root_entries, files_are, named_by, tidy_fresh, root_is_read, root_slots, its_fits, last_is}
 
 -- ---- the pack

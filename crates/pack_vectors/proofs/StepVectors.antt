@@ -16,7 +16,8 @@ use Rattle.pack_model.specs.Operations.{Move, weight_of, make_moves, grow_moves,
 use Rattle.pack_model.specs.Committing.{units, pages_added, page_of_byte, pages_cut}
 use Rattle.pack_laws.proofs.Keys.{fid_total, fid_same}
 use Rattle.pack_laws.proofs.Mapping.{get-map_values, get-update}
-use Rattle.pack_vectors.proofs.SmallPacks.{file_3, dir_4, small}
+use Rattle.pack_vectors.proofs.Shapes.{small}
+use Rattle.pack_vectors.proofs.SmallPacks.{file_3, dir_4}
 
 -- ---- a pack with one file, which stands in SysDir
 abbrev root_with : File

@@ -23,7 +23,8 @@ use Rattle.pack_model.specs.Operations.{Move, weight_of}
 use Rattle.pack_model.specs.Operations.Move.{quiet, commits}
 use Rattle.pack_laws.proofs.Keys.{fid_total, fid_same}
 use Rattle.pack_laws.proofs.Mapping.{get-update}
-use Rattle.pack_vectors.proofs.SmallPacks.{small, file_3}
+use Rattle.pack_vectors.proofs.Shapes.{small}
+use Rattle.pack_vectors.proofs.SmallPacks.{file_3}
 
 -- ---- lines
 -- each ends with a byte 10, the last one may end with the keys; an empty line is one, and byte 13 is a byte of a line

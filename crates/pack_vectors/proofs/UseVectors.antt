@@ -12,7 +12,8 @@ use Rattle.pack_model.specs.Model.{good_sectors}
 use Rattle.pack_model.specs.InUse.{end_of, last_page, available, bad_sectors}
 use Rattle.pack_model.specs.Needed.{file_lacks, root_lacks, descriptor_lacks}
 use Rattle.pack_laws.proofs.Uses.{available_is}
-use Rattle.pack_vectors.proofs.SmallPacks.{dir_4, file_3, leader_a, model_31, small}
+use Rattle.pack_vectors.proofs.Shapes.{model_31, small}
+use Rattle.pack_vectors.proofs.SmallPacks.{dir_4, file_3, leader_a}
 
 -- the leader and both pages are in use; a second copy, a page behind the last one, a page of a file that doesn't live, a free
 -- sector and a stray label are available

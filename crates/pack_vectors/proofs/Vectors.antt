@@ -10,7 +10,7 @@ use Rattle.pack_model.specs.Slots.Item.{space, entry}
 use Rattle.pack_model.specs.SlotWords.{entry_words, space_words, slots_at}
 use Rattle.pack_model.specs.Namings.{sys_dir_name}
 use Rattle.pack_model.specs.Settling.{chosen_from}
-use Rattle.pack_vectors.proofs.SmallPacks.{file_3}
+use Rattle.pack_vectors.proofs.SmallPacks.{file_3, dir_4}
 
 -- ---- bytes and words
 -- the high byte comes first
@@ -78,8 +78,14 @@ placed_slots : slots_at (3 ∷ 9 ∷ 9 ∷ entry_words file_3 5 (codes "A.")) 0 
 unfolding slots_at
 placed_slots = refl
 
+-- a numbered name is one as well
+version_read : slots (entry_words file_3 5 (codes "A!2.") ++ entry_words dir_4 7 (codes "A!10.")) ≡ entry file_3 (codes "A!2.") ∷ entry dir_4 (codes "A!10.") ∷ []
+unfolding slots_after slot_at is_entry is_stored_name digits
+version_read = refl
+
 -- what can't be read ends the slots: no words; words past the end; another type; word 4 not 0; the byte behind an even number of
--- characters not 0; serial 0; versions 0 and 65,535; no stored name; a word too many
+-- characters not 0; serial 0; versions 0 and 65,535; no stored name; names with a version 1, with a leading zero, or with no number; a
+-- word too many
 abbrev NoSlot : List ℕ → Type 0
 NoSlot words = slots (2 ∷ 7 ∷ (words ++ 1 ∷ [])) ≡ space 2 ∷ []
 
@@ -93,6 +99,9 @@ no_slots :
     × NoSlot (1032 ∷ 0 ∷ 3 ∷ 0 ∷ 0 ∷ 5 ∷ 577 ∷ 11776 ∷ [])
     × NoSlot (1032 ∷ 0 ∷ 3 ∷ 65535 ∷ 0 ∷ 5 ∷ 577 ∷ 11776 ∷ [])
     × NoSlot (1032 ∷ 0 ∷ 3 ∷ 1 ∷ 0 ∷ 5 ∷ 577 ∷ 16640 ∷ [])
+    × NoSlot (entry_words file_3 5 (codes "A!1."))
+    × NoSlot (entry_words file_3 5 (codes "A!02."))
+    × NoSlot (entry_words file_3 5 (codes "A!."))
     × NoSlot (1033 ∷ 0 ∷ 3 ∷ 1 ∷ 0 ∷ 5 ∷ 577 ∷ 11776 ∷ 0 ∷ [])
-unfolding slots_after slot_at is_entry is_stored_name
-no_slots = (refl, refl, refl, refl, refl, refl, refl, refl, refl, refl)
+unfolding slots_after slot_at is_entry is_stored_name digits
+no_slots = (refl, refl, refl, refl, refl, refl, refl, refl, refl, refl, refl, refl, refl)

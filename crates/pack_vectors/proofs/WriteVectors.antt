@@ -14,7 +14,8 @@ use Rattle.pack_model.specs.PageWords.{leader_value, titled_value, stamped_value
 use Rattle.pack_model.specs.Operations.{make_writes, grow_writes, cut_writes, drop_writes, enter_writes}
 use Rattle.pack_model.specs.Commands.{Claim, claims_of, all_claimed, grown_claims, grown_label, grown_value, cut_label}
 use Rattle.pack_model.specs.Descriptor.{opened_value, serial_value}
-use Rattle.pack_vectors.proofs.SmallPacks.{file_3, leader_a, small}
+use Rattle.pack_vectors.proofs.Shapes.{small}
+use Rattle.pack_vectors.proofs.SmallPacks.{file_3, leader_a}
 
 abbrev old_value : List ℕ
 old_value = leader_value leader_a (replicate 10 7)

@@ -34,7 +34,7 @@ abbrev pub placed_all : List Placed → List Sector → List Sector
 placed_all [] sectors = sectors
 placed_all (page ∷ pages) sectors = placed_all pages (placed_on page sectors)
 
--- a machine of two cylinders before its first call
+-- a machine over one drive of two cylinders before its first call
 pub record IsOver (sectors : List Sector) (keys : List ℕ) (t : Taped) : Type 0 where
   pub disks : disks_of t.form ≡ 1
   pub cylinders : cylinders_of t.form ≡ 2

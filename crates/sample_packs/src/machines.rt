@@ -8,7 +8,7 @@ use disk_memory::{MemMachine, NewError, SureMachine};
 use disk_records::{Sector, Shape, Tape};
 use std::alloc::Global;
 
-/// The shape of two cylinders: 48 sectors.
+/// The shape of one drive with two cylinders: 48 sectors.
 pub fn small_shape() -> Shape
     ensures disks { disks_of result ≡ 1 }
     ensures cylinders { cylinders_of result ≡ 2 }

@@ -7,7 +7,8 @@ use Rattle.std.proofs.lemmas.List.Elements.{All-cons, All-nil}
 use Rattle.std.specs.List.{list_all}
 use Rattle.std.specs.Prelude.{All, replicate}
 use Rattle.alto_words.specs.Fid.{serial_of}
-use Rattle.alto_words.specs.Names.{is_name_character, is_stored_name, lost}
+use Rattle.alto_words.proofs.Versions.{is_stored_character, is_stored_name-fits, is_stored_name-characters}
+use Rattle.alto_words.specs.Names.{is_stored_name, lost}
 use Rattle.alto_words.specs.declared.fid.Fid.{Fid}
 use Rattle.disk_records.specs.Words.{word}
 use Rattle.pack_model.specs.Bytes.{bytes_of, words_of}
@@ -18,25 +19,20 @@ use Rattle.written_laws.proofs.Filled.{filled_back, length-filled}
 
 -- ---- stored names
 pub stored_short : (name : List ℕ) → is_stored_name name ≡ true → length name ≤ 39
-unfolding is_stored_name
-stored_short name stored = grind (arith, nat_tests)
+stored_short = is_stored_name-fits
 
-stored_all : (name : List ℕ) → is_stored_name name ≡ true → list_all is_name_character name ≡ true
-unfolding is_stored_name
-stored_all name stored = grind (arith, nat_tests)
-
-character_below : (c : ℕ) → is_name_character c ≡ true → c < 256
+character_below : (c : ℕ) → is_stored_character c ≡ true → c < 256
 character_below c h = grind (arith, nat_tests)
 
-characters_below : (name : List ℕ) → list_all is_name_character name ≡ true → All (λ b. b < 256) name
+characters_below : (name : List ℕ) → list_all is_stored_character name ≡ true → All (λ b. b < 256) name
 characters_below [] h = All-nil (λ b. b < 256)
 characters_below (c ∷ name) h =
-    let both : (is_name_character c ≡ true) × (list_all is_name_character name ≡ true) = grind (arith, nat_tests) in
+    let both : (is_stored_character c ≡ true) × (list_all is_stored_character name ≡ true) = grind (arith, nat_tests) in
     All-cons (λ b. b < 256) c name (character_below c both.0) (characters_below name both.1)
 
 -- a stored name has bytes
 pub stored_below : (name : List ℕ) → is_stored_name name ≡ true → All (λ b. b < 256) name
-stored_below name stored = characters_below name (stored_all name stored)
+stored_below name stored = characters_below name (is_stored_name-characters name stored)
 
 -- and with its length before it
 pub spelled_below : (name : List ℕ) → is_stored_name name ≡ true → All (λ b. b < 256) (length name ∷ name)

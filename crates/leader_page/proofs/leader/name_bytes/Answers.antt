@@ -1,5 +1,5 @@
 use Rattle.std.proofs.Common.{◌≤◌, length, ap, arith, rules}
-use Rattle.alto_words.proofs.Names.{is_stored_name-fits}
+use Rattle.alto_words.proofs.Versions.{is_stored_name-fits}
 use Rattle.leader_page.proofs.Names.{spelled_bytes-copied}
 use Rattle.leader_page.proofs.leader.name_bytes.Goals as goal
 
