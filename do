@@ -1,0 +1,45 @@
+#!/usr/bin/env bash
+# One entry to what is done in this repository. `./do` alone tells the verbs.
+set -u
+cd "$(dirname "$0")" || exit 1
+
+usage() {
+    cat <<'END'
+usage: ./do VERB ..
+
+  build                 proves and builds the program: crates/alto/out/alto
+  check CRATE           proves a crate, over what earlier checks left; with the flags of `rt check`
+  only CRATE FUNCTION   proves one function, module or type of it
+  test CRATE            proves and runs its tests
+  edits CRATE ..        tries its must-fail edits
+  docs                  compares the documents with the code
+  find WORD             finds functions, types, laws and definitions by a word
+  demo                  replays the transcripts of demo/
+  gate                  all that a change has to pass
+END
+}
+
+# Runs a command of rt in the folder of a crate.
+in_crate() {
+    local crate=$1
+    shift
+    [ -d "crates/$crate/src" ] || { echo "do: there is no crate $crate" >&2; exit 1; }
+    cd "crates/$crate" && exec rt "$@"
+}
+
+verb=${1:-}
+[ $# -gt 0 ] && shift
+case $verb/$# in
+    build/0) (cd crates/alto && rt run -- --help >/dev/null) && echo crates/alto/out/alto ;;
+    check/0 | only/[01] | test/0 | edits/0 | find/0) usage >&2; exit 1 ;;
+    check/*) crate=$1; shift; in_crate "$crate" check "$@" ;;
+    only/*) crate=$1 path=$2; shift 2; in_crate "$crate" check --only "$path" "$@" ;;
+    test/*) crate=$1; shift; in_crate "$crate" test "$@" ;;
+    edits/*) exec rt must-fail "$@" ;;
+    docs/0) exec python3 check/documents.py ;;
+    find/*) exec python3 check/names.py "$@" ;;
+    demo/0) exec python3 check/demos.py ;;
+    gate/0) exec .ci/run ;;
+    help/0 | --help/0 | -h/0) usage ;;
+    *) usage >&2; exit 1 ;;
+esac
