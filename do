@@ -8,10 +8,11 @@ usage() {
 usage: ./do VERB ..
 
   build                 proves and builds the program: crates/alto/out/alto
-  check CRATE           proves a crate, over what earlier checks left; with the flags of `rt check`
+  check CRATE           proves a crate, over what its last check left; with the flags of `rt check`
   only CRATE FUNCTION   proves one function, module or type of it
   test CRATE            proves and runs its tests
   edits CRATE ..        tries its must-fail edits
+  fmt [CRATE ..]        lays out the files of these crates, or of all
   docs                  compares the documents with the code
   find WORD             finds functions, types, laws and definitions by a word
   demo                  replays the transcripts of demo/
@@ -27,19 +28,31 @@ in_crate() {
     cd "crates/$crate" && exec rt "$@"
 }
 
-verb=${1:-}
-[ $# -gt 0 ] && shift
-case $verb/$# in
-    build/0) (cd crates/alto && rt run -- --help >/dev/null) && echo crates/alto/out/alto ;;
-    check/0 | only/[01] | test/0 | edits/0 | find/0) usage >&2; exit 1 ;;
-    check/*) crate=$1; shift; in_crate "$crate" check "$@" ;;
-    only/*) crate=$1 path=$2; shift 2; in_crate "$crate" check --only "$path" "$@" ;;
-    test/*) crate=$1; shift; in_crate "$crate" test "$@" ;;
-    edits/*) exec rt must-fail "$@" ;;
-    docs/0) exec python3 check/documents.py ;;
-    find/*) exec python3 check/names.py "$@" ;;
-    demo/0) exec python3 check/demos.py ;;
-    gate/0) exec .ci/run ;;
-    help/0 | --help/0 | -h/0) usage ;;
+build() {
+    (in_crate alto run -- --help >/dev/null) && echo crates/alto/out/alto
+}
+
+fmt() {
+    [ $# -gt 0 ] || set -- $(ls crates)
+    for crate in "$@"; do
+        (in_crate "$crate" fmt) || exit 1
+    done
+}
+
+verb=${1:-help}
+shift
+case "$verb $#" in
+    "build 0") build ;;
+    "check 0" | "only "[01] | "test 0" | "edits 0") usage >&2; exit 1 ;;
+    "check "*) in_crate "$1" check "${@:2}" ;;
+    "only "*) in_crate "$1" check --only "${@:2}" ;;
+    "test "*) in_crate "$1" test "${@:2}" ;;
+    "edits "*) exec rt must-fail "$@" ;;
+    "fmt "*) fmt "$@" ;;
+    "docs 0") exec python3 check/documents.py ;;
+    "find 1") exec python3 check/names.py "$1" ;;
+    "demo 0") exec python3 check/demos.py ;;
+    "gate 0") exec .ci/run ;;
+    "help 0" | "--help 0" | "-h 0") usage ;;
     *) usage >&2; exit 1 ;;
 esac
