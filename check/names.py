@@ -1,10 +1,10 @@
 #!/usr/bin/env python3
-"""Finds public functions, types, laws and definitions by a word of their name or of the first sentence of their comment.
+"""Finds public functions, types, variants, laws and definitions by a word of their name or of the first sentence of their comment.
 
 Those with the word in their name come first. Each is shown with its place and that sentence.
 """
-# A path is as the code imports it, with `::` between its parts: a crate, modules, a type and an item of src/; or a crate, `specs` or
-# `proofs`, folders, a file and what it defines. What a root file passes on by `pub use` has the shorter path too.
+# A path is as the code imports it, with `::` between its parts: a crate, modules, a type and an item or a variant of src/; or a crate,
+# `specs` or `proofs`, folders, a file and what it defines. What a root file passes on by `pub use` has the shorter path too.
 import argparse
 import collections
 import pathlib
@@ -15,8 +15,10 @@ import typing
 
 TOP = pathlib.Path(__file__).resolve().parent.parent
 ITEM = re.compile(r"( *)(pub(?:\([a-z]+\))? )?(?:const )?(fn|struct|enum|trait|const|type) (\w+)")
+VARIANT = re.compile(r"    ([A-Z]\w*)(?=[ ({,]|$)")
 IMPL = re.compile(r"impl\b(?:<[^>]*>)?(?:[^{]* for)? (\w+)")
 DEFINITION = re.compile(r"((?:(?:pub|abbrev|unfoldable|opaque|data|record) )*)(?!(?:use|mod) )([^\s:(){}]+)(?= :| [({][^=]* : )")
+CONSTRUCTOR = re.compile(r"  ([^\s:(){}]+) :")
 PASSED_ON = re.compile(r"^pub use ([\w:.]+?)(?:::|\.)(?:\{([^}]*)\}|(\w+));?$", re.M)
 ATTRIBUTE = re.compile(r" *#\[")
 COMMENT = re.compile(r" *(?:///|//|--) ?(?P<heading>---- )?(?P<words>.*)")
@@ -78,31 +80,36 @@ def module_of(crate, folder, file):
 
 
 def items_of(file, module):
-    """The items of a source file. Those of a trait or an impl stand under its name, and so does the impl itself."""
-    lines, holder, is_shared = file.read_text().splitlines(), None, False
+    """The items of a source file. What a trait, an impl or an enum has stands under its name, and so does the impl itself."""
+    lines, holder, is_shared, has_variants = file.read_text().splitlines(), None, False, False
     for at, line in enumerate(lines):
         if line.startswith("}"):
             holder = None
         elif line.startswith("impl"):
-            holder, is_shared = IMPL.match(" ".join(lines[at : at + 9]))[1], False
+            holder, is_shared, has_variants = IMPL.match(" ".join(lines[at : at + 9]))[1], False, False
             yield Name((*module, holder), file, at, False, lines)
         elif item := ITEM.match(line):
             indent, public, kind, name = item.groups()
             if not indent:
                 yield Name((*module, name), file, at, public == "pub ", lines)
-                if kind == "trait":
-                    holder, is_shared = name, public == "pub "
+                if kind in ("trait", "enum"):
+                    holder, is_shared, has_variants = name, public == "pub ", kind == "enum"
             elif len(indent) == 4 and holder:
                 yield Name((*module, holder, name), file, at, public == "pub " or is_shared, lines)
+        elif holder and has_variants and (variant := VARIANT.match(line)):
+            yield Name((*module, holder, variant[1]), file, at, is_shared, lines)
 
 
 def definitions_of(file, module):
-    """The definitions of a file of specs/, or the lemmas of one of proofs/, with what it passes on."""
+    """The definitions of a file of specs/, with their constructors, or the lemmas of one of proofs/, and what it passes on."""
     text = file.read_text()
-    lines = text.splitlines()
+    lines, data = text.splitlines(), None
     for at, line in enumerate(lines):
         if found := DEFINITION.match(line):
             yield Name((*module, found[2]), file, at, "pub " in found[1], lines)
+            data = found[2] if "data " in found[1] else None
+        elif data and (constructor := CONSTRUCTOR.match(line)):
+            yield Name((*module, data, constructor[1]), file, at, True, lines)
     for passed in PASSED_ON.finditer(text):
         for name in re.split(r"[,\s]+", passed[2] or passed[3]):
             yield Name((*module, name), file, text.count("\n", 0, passed.start()), False, lines)
@@ -153,7 +160,8 @@ def main():
     by_name, by_sentence = found_by(parser.parse_args().word)
     for name in [*by_name, *by_sentence]:
         print(f"{'::'.join(name.path)}  {name.place()}  {name.sentence()}")
-    sys.exit(0 if by_name or by_sentence else 1)
+    if not by_name and not by_sentence:
+        sys.exit("nothing public has this in its name or its sentence; git grep looks through all texts")
 
 
 if __name__ == "__main__":
