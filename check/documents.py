@@ -24,7 +24,10 @@ PATH = re.compile(r"`((?:\w+::)+\w+)`")
 CRATE_ROW = re.compile(r"\| `(\w+)` \|")
 DEMO_BLOCK = re.compile(r"^<!-- (demo/\S+) -->\n(?:```\w*\n(.*?)^```$)?", re.M | re.S)
 # a paper, a definition or an issue named by its number, and an address on the network
-CITATION = r"\b(paper|document|demand|issue) #?0?[0-9]|\b0[1-4](-scope|-theorems|-requests|-formats|, (section )?[A-N0-9])|\b[DTWR][0-9]{1,2}[a-i]?\b"
+CITATION = (
+    r"\b(paper|document|demand|issue) #?0?[0-9]|\b0[1-4](-scope|-theorems|-requests|-formats|, (section )?[A-N0-9])"
+    r"|\b[DTWR][0-9]{1,2}[a-i]?\b"
+)
 ADDRESS = r"[a-z]+://[^ )]*|[a-z0-9.-]+\.(com|dev|io|net|org)\b"
 
 

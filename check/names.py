@@ -59,7 +59,8 @@ class Name(typing.NamedTuple):
         end = self.at + 1
         while end < len(self.lines):
             line = self.lines[end]
-            if line == indent + "}" if whole else line.strip() in ("{", "{}") or line.endswith(";") or ITEM.match(line):
+            is_last = line == indent + "}" if whole else line.strip() in ("{", "{}") or line.endswith(";") or ITEM.match(line)
+            if is_last:
                 break
             end += 1
         return "\n".join(self.lines[self.at : end + 1])
