@@ -1,16 +1,13 @@
 #!/usr/bin/env python3
 """Kills the program while it patches in a loop, and compares the pack with what was acknowledged.
 
-    python3 bench/killed.py [TIMES [SEED [PROGRAM]]]
-
 Each line writes a whole page. After each kill the pack file must be, byte by byte, what the acknowledged lines make, or these and one
 more whose reply wasn't shown whole: the record of that line is old or new, and nothing else has changed. Linux looks for a signal that
 kills between the pages of memory that a write call fills. So a record that lies over a multiple of 4,096 bytes of the file may be torn
 there, its first part new and its last part old. It may be torn nowhere else, and no other record may be.
 
 Three kills of four come while lines write the page on sector 7, which lies over byte 4,096, and the others while lines write one page
-after the other. SEED is of the random choices, which are how long the program runs before it is killed.
-PROGRAM is one that is built already; without it the program is built first.
+after the other. The random choices are how long the program runs before it is killed.
 """
 import collections
 import pathlib
@@ -21,6 +18,8 @@ import tempfile
 import time
 
 sys.dont_write_bytecode = True
+sys.path.append(str(pathlib.Path(__file__).resolve().parent.parent / "check"))
+import arguments
 import packs
 
 CYLINDERS = 2
@@ -106,11 +105,11 @@ def kill_once(program, start, folder, lines, wait):
 
 
 def main():
-    times = int(sys.argv[1]) if len(sys.argv) > 1 else 300
-    if times < 1:
-        sys.exit("killed: TIMES is 1 or more")
-    seed = int(sys.argv[2]) if len(sys.argv) > 2 else random.randrange(2**32)
-    program = sys.argv[3] if len(sys.argv) > 3 else packs.program()
+    options = arguments.parser(__doc__)
+    options.add_argument("--runs", type=arguments.positive, default=300, metavar="N", help="how many kills (default: 300)")
+    options.add_argument("--seed", type=int, metavar="N", help="of the random choices (default: another one each time)")
+    options = arguments.read(options)
+    seed = random.randrange(2**32) if options.seed is None else options.seed
     print(f"seed {seed}", flush=True)
     choices = random.Random(seed)
     start = packs.pack(CYLINDERS, bytes(PAGES * packs.PAGE))
@@ -119,12 +118,12 @@ def main():
         folder = pathlib.Path(folder)
         kinds = {False: Lines(folder, in_turn=False), True: Lines(folder, in_turn=True)}
         states = {in_turn: collections.Counter() for in_turn in kinds}
-        for number in range(times):
+        for number in range(options.runs):
             in_turn = number % 4 == 3
-            done, state = kill_once(program, start, folder, kinds[in_turn], choices.uniform(SHORTEST, LONGEST))
+            done, state = kill_once(options.program, start, folder, kinds[in_turn], choices.uniform(SHORTEST, LONGEST))
             states[in_turn][state] += 1
             counts.append(done)
-    print(f"killed {times} times, after {min(counts)} to {max(counts)} acknowledged lines, {sum(counts)} in all")
+    print(f"killed {options.runs} times, after {min(counts)} to {max(counts)} acknowledged lines, {sum(counts)} in all")
     for in_turn, what in [(False, "on the page over byte 4,096"), (True, "on one page after the other")]:
         found = states[in_turn]
         print(f"the next record, {what}: {found['old']} old, {found['new']} new, {found['torn']} torn at a multiple of 4,096")

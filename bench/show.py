@@ -1,8 +1,6 @@
 #!/usr/bin/env python3
 """Times `show` over four kinds of packs of 2, 20 and 203 cylinders, and `cp` of the same files in the same run.
 
-    python3 bench/show.py [RUNS [PROGRAM]]
-
 The kinds, by the files that they have at 203 cylinders, and at the others in proportion:
 - 200 files of 10,000 bytes, and a SysDir with an entry of each;
 - 2,000 files without an entry whose leaders have one name;
@@ -14,7 +12,6 @@ Each listing is compared with the one that these files must have. A time is the 
 start to their end. Of the processor's time that of `show` over a pack of 2 cylinders without files, in the same run, is taken off: it
 is the start's, and most of the time at 2 cylinders. What is left mustn't grow from 20 to 203 cylinders by more than 2.5 times as much
 as n log n of the sectors does. n log n grows 14 times there, and so has slack, but n squared 103 times.
-PROGRAM is one that is built already; without it the program is built first.
 """
 import fcntl
 import math
@@ -29,6 +26,8 @@ import tempfile
 import time
 
 sys.dont_write_bytecode = True
+sys.path.append(str(pathlib.Path(__file__).resolve().parent.parent / "check"))
+import arguments
 import packs
 from packs import SERIAL, SYS_DIR, ordinary
 
@@ -157,15 +156,16 @@ def steps(cylinders):
 
 
 def main():
-    runs = int(sys.argv[1]) if len(sys.argv) > 1 else 21
-    program = sys.argv[2] if len(sys.argv) > 2 else packs.program()
+    options = arguments.parser(__doc__)
+    options.add_argument("--runs", type=arguments.positive, default=21, metavar="N", help="how many runs of each pack (default: 21)")
+    options = arguments.read(options)
     growth = steps(MODEL_31) / steps(MIDDLE)
     with tempfile.TemporaryDirectory() as folder:
         for make, kind, sizes in KINDS:
             used = {}
             for cylinders, files in sizes.items():
                 what, bounded = f"{cylinders} cylinders, {files:,} {kind}", make is packs.full_pack and cylinders == MODEL_31
-                used[cylinders] = measure(program, folder, runs, what, *make(cylinders, files), bounded)
+                used[cylinders] = measure(options.program, folder, options.runs, what, *make(cylinders, files), bounded)
                 each = used[cylinders] / steps(cylinders)
                 print(f"  of the processor {used[cylinders] * 1000:.2f} ms beyond the start, {each * 1e9:.0f} ns for each of n log n")
             assert used[MIDDLE] > 0, "the time of 20 cylinders can be told from the start's"

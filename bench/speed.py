@@ -1,13 +1,10 @@
 #!/usr/bin/env python3
 """Times patch lines over a pack file of model 31, and `cp` of the same file in the same run.
 
-    python3 bench/speed.py [LINES [PROGRAM]]
-
 The pack has 203 cylinders, 4,872 sectors, and one file of 40,000 bytes. Each line patches two bytes, up to 20,000 lines each at
 another place. One more line comes ahead of them: it is left out of the time, with the start of the program. The clock starts before
 the first byte of the others is written. Afterwards the file's bytes are compared with those wanted. A second session has 8 MB of bad
 lines: its memory mustn't grow with the input.
-PROGRAM is one that is built already; without it the program is built first.
 """
 import os
 import pathlib
@@ -20,6 +17,8 @@ import threading
 import time
 
 sys.dont_write_bytecode = True
+sys.path.append(str(pathlib.Path(__file__).resolve().parent.parent / "check"))
+import arguments
 import packs
 
 CYLINDERS = 203
@@ -80,10 +79,10 @@ def copied(file, copy):
 
 
 def main():
-    count = int(sys.argv[1]) if len(sys.argv) > 1 else 200
-    if count < 1:
-        sys.exit("speed: LINES is 1 or more")
-    program = sys.argv[2] if len(sys.argv) > 2 else packs.program()
+    options = arguments.parser(__doc__)
+    options.add_argument("--lines", type=arguments.positive, default=200, metavar="N", help="how many lines are timed (default: 200)")
+    options = arguments.read(options)
+    count, program = options.lines, options.program
     image = bytearray(packs.pack(CYLINDERS, bytes(LENGTH)))
     offsets = [line * 997 % (LENGTH // 2) * 2 for line in range(count + 1)]
     lines = [f"patch #{packs.SERIAL} {at} {line % 65536:04x}\n".encode() for line, at in enumerate(offsets)]

@@ -1,10 +1,7 @@
 #!/usr/bin/env python3
 """Runs the program as it is called from a shell, and compares exit code, standard output, standard error and the files left.
 
-    python3 bench/edges.py [PROGRAM]
-
-Without PROGRAM it is built first, and proved where it changed. Each run has a folder of its own and at most 10 seconds. What is
-wanted stands in docs/commands.md, and was never taken from a run.
+Each run has a folder of its own and at most 10 seconds. What is wanted stands in docs/commands.md, and was never taken from a run.
 """
 import os
 import pathlib
@@ -17,6 +14,7 @@ import sys
 import tempfile
 
 sys.dont_write_bytecode = True
+import arguments
 import packs
 
 SECONDS = 10
@@ -412,7 +410,7 @@ CHECKS = [
 
 
 def main():
-    program = pathlib.Path(sys.argv[1]).resolve() if len(sys.argv) > 1 else packs.program()
+    program = arguments.read(arguments.parser(__doc__)).program
     for check in CHECKS:
         check(program)
     for failure in failures:

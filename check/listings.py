@@ -1,11 +1,9 @@
 #!/usr/bin/env python3
 """Shows packs made by hand through real pack files, and compares the whole listing of each.
 
-    python3 bench/listings.py [PROGRAM]
-
-Without PROGRAM it is built first, and proved where it changed. Each pack is named by the sentence that it shows. The listings were
-worked out by hand from docs/model.md, docs/formats.md and docs/commands.md, and never taken from a run. Besides, `show` has to end
-with 0, to say nothing on the standard error, and to leave the pack file byte for byte as it was, with no other beside it.
+Each pack is named by the sentence that it shows. The listings were worked out by hand from docs/model.md, docs/formats.md and
+docs/commands.md, and never taken from a run. Besides, `show` has to end with 0, to say nothing on the standard error, and to leave
+the pack file byte for byte as it was, with no other beside it.
 """
 import pathlib
 import struct
@@ -14,6 +12,7 @@ import sys
 import tempfile
 
 sys.dont_write_bytecode = True
+import arguments
 import packs
 from packs import DESCRIPTOR, ONES, PAGE, SYS_DIR, directory, free_slot, ordinary, slot
 
@@ -764,7 +763,7 @@ def check(program, file, cylinders, sentence, changes, lines):
 
 
 def main():
-    program = pathlib.Path(sys.argv[1]).resolve() if len(sys.argv) > 1 else packs.program()
+    program = arguments.read(arguments.parser(__doc__)).program
     sentences = [row[1] for row in PACKS]
     assert len(set(sentences)) == len(sentences), "each sentence stands once"
     with tempfile.TemporaryDirectory() as folder:

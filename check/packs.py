@@ -1,17 +1,14 @@
-"""Packs made by hand for the scripts beside this one, and the program that they run.
+"""Packs made by hand, for the scripts of check/ and bench/.
 
 A pack file is its sectors in order, 532 bytes each: header (pack number, real address), label and value, words with the high byte
 first. docs/formats.md tells the words. A file's full name is its serial, the high word first, and its version. Run as a script, it
-writes a small pack with one file of the five bytes `ABCDE`:
-
-    python3 bench/packs.py PACK
+writes a small pack with one file of the five bytes `ABCDE`, which no directory names, or with --named one with three files that
+directories name.
 """
+import argparse
 import pathlib
 import struct
-import subprocess
-import sys
 
-TOP = pathlib.Path(__file__).resolve().parent.parent
 SECTOR = 532
 PAGE = 512
 ONES = 0xFFFF
@@ -21,13 +18,6 @@ SERIAL = 3
 LEADER_AT = 5
 # more cylinders than a drive has
 ONE_DRIVE = 512
-
-
-def program():
-    """Builds the program, which is proved first where it changed, and answers its path."""
-    crate = TOP / "crates" / "alto"
-    subprocess.run(["rt", "run", "--", "--help"], cwd=crate, check=True, stdout=subprocess.DEVNULL)
-    return crate / "out" / "alto"
 
 
 def ordinary(serial):
@@ -111,6 +101,16 @@ def pair(cylinders, data):
     return b"".join(files[:half]), b"".join(files[half:])
 
 
+def named_pack():
+    """A pack of 48 sectors with a file `A.` of five bytes, a directory `D.`, and in it a file `X.` of 512 bytes."""
+    sectors = free_sectors(2)
+    put_file(sectors, 1, SYS_DIR, b"SysDir.", slot(ordinary(3), b"A.", 5) + slot(directory(4), b"D.", 7))
+    put_file(sectors, 5, ordinary(3), b"A.", b"ABCDE")
+    put_file(sectors, 7, directory(4), b"D.", slot(ordinary(5), b"X.", 9))
+    put_file(sectors, 9, ordinary(5), b"X.", b"X" * PAGE)
+    return b"".join(sectors)
+
+
 def file_name(number):
     return f"File{number:03}.".encode()
 
@@ -131,5 +131,13 @@ def place(offset):
     return (LEADER_AT + 1 + offset // PAGE) * SECTOR + 20 + offset % PAGE
 
 
+def main():
+    parser = argparse.ArgumentParser(description=__doc__, formatter_class=argparse.RawDescriptionHelpFormatter)
+    parser.add_argument("pack", metavar="PACK", help="the path of the pack file, which is written anew")
+    parser.add_argument("--named", action="store_true", help="three files that directories name")
+    options = parser.parse_args()
+    pathlib.Path(options.pack).write_bytes(named_pack() if options.named else pack(2, b"ABCDE"))
+
+
 if __name__ == "__main__":
-    pathlib.Path(sys.argv[1]).write_bytes(pack(2, b"ABCDE"))
+    main()

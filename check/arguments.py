@@ -1,0 +1,45 @@
+"""The arguments of the scripts in check/ and bench/, which all of them read in one way, and the program that they run."""
+import argparse
+import pathlib
+import subprocess
+import sys
+
+TOP = pathlib.Path(__file__).resolve().parent.parent
+
+
+def parser(description):
+    """A parser with `--help`, which shows this text, and `--program`."""
+    made = argparse.ArgumentParser(description=description, formatter_class=argparse.RawDescriptionHelpFormatter)
+    made.add_argument("--program", type=built, metavar="PATH", help="the built program (default: it is built, and proved where it changed)")
+    return made
+
+
+def built(path):
+    """The path of a program that is there, whole."""
+    program = pathlib.Path(path).resolve()
+    if not program.is_file():
+        raise argparse.ArgumentTypeError(f"{path} isn't there: ./do build makes crates/alto/out/alto")
+    return program
+
+
+def positive(text):
+    """A number from 1 on."""
+    number = int(text)
+    if number < 1:
+        raise argparse.ArgumentTypeError(f"{text} is less than 1")
+    return number
+
+
+def read(made):
+    """What the words of the process ask for. The program is built where none is named."""
+    options = made.parse_args()
+    options.program = options.program or build()
+    return options
+
+
+def build():
+    """Builds the program, which is proved first where it changed, and answers its path."""
+    crate = TOP / "crates" / "alto"
+    if subprocess.run(["rt", "run", "--", "--help"], cwd=crate, stdout=subprocess.DEVNULL).returncode != 0:
+        sys.exit("the program can't be built")
+    return crate / "out" / "alto"

@@ -1,0 +1,153 @@
+#!/usr/bin/env python3
+"""Compares the documents with the code. Nothing has to be built, and it takes about a second.
+
+Prints each difference with its place, and ends with 1 where there is one.
+"""
+# Each check is a function that yields what it complains of.
+import argparse
+import collections
+import pathlib
+import re
+import subprocess
+import sys
+
+sys.dont_write_bytecode = True
+import names
+
+TOP = names.TOP
+DOCUMENTS = [path for path in [TOP / "README.md", TOP / "CONTRIBUTING.md", *sorted((TOP / "docs").glob("*.md"))] if path.exists()]
+README_LINES = 110
+# `crate/edit`, and `crate::module::item (clause, clause)`
+EDIT = re.compile(r"`([a-z_]+/[a-z0-9_]+)`")
+CONTRACT = re.compile(r"\b([a-z_]+(?:::\w+)+)`?(?: \(([a-z0-9_]+(?:, [a-z0-9_]+)*)\))?")
+PATH = re.compile(r"`((?:\w+::)+\w+)`")
+CRATE_ROW = re.compile(r"\| `(\w+)` \|")
+DEMO_BLOCK = re.compile(r"^<!-- (demo/\S+) -->\n(?:```\w*\n(.*?)^```$)?", re.M | re.S)
+# a paper, a definition or an issue named by its number, and an address on the network
+CITATION = (
+    r"\b(paper|document|demand|issue) #?0?[0-9]|\b0[1-4](-scope|-theorems|-requests|-formats|, (section )?[A-N0-9])"
+    r"|\b[DTWR][0-9]{1,2}[a-i]?\b"
+)
+ADDRESS = r"[a-z]+://[^ )]*|[a-z0-9.-]+\.(com|dev|io|net|org)\b"
+
+
+def lines_of(path):
+    """The lines of a file, each with its place."""
+    for number, line in enumerate(path.read_text().splitlines(), 1):
+        yield f"{path.relative_to(TOP)}:{number}", line
+
+
+def tracked(*patterns):
+    """The files that git knows by these patterns."""
+    return subprocess.run(["git", "ls-files", "--", *patterns], cwd=TOP, capture_output=True, text=True, check=True).stdout.split()
+
+
+def all_edits():
+    """Each must-fail edit as crate/name."""
+    return [f"{path.split('/')[1]}/{pathlib.Path(path).stem}" for path in tracked("crates/*/must-fail/*.edit")]
+
+
+def check_map():
+    """docs/map.md has a row for each crate of crates.txt, and for no other."""
+    rows = [CRATE_ROW.match(line) for _, line in lines_of(TOP / "docs/map.md")]
+    yield from differences("docs/map.md", "crate", [row[1] for row in rows if row], names.crates())
+
+
+def check_edits():
+    """docs/promises.md names each must-fail edit once."""
+    named = EDIT.findall((TOP / "docs/promises.md").read_text())
+    yield from differences("docs/promises.md", "edit", named, all_edits())
+
+
+def differences(document, kind, named, there):
+    """What a document is to name once each, and doesn't; and what it names that isn't there."""
+    counts = collections.Counter(named)
+    for name in sorted({*counts, *there}):
+        if name not in there:
+            yield f"{document}: names the {kind} {name}, which isn't there"
+        elif not counts[name]:
+            yield f"{document}: doesn't name the {kind} {name}"
+        elif counts[name] > 1:
+            yield f"{document}: names the {kind} {name} {counts[name]} times"
+
+
+def check_contracts(found):
+    """Each contract that docs/promises.md names is there, and so is each of its clauses."""
+    by_end = collections.defaultdict(list)
+    for path, items in found.items():
+        by_end[path[0], path[-1]].extend(items)
+    for place, line in lines_of(TOP / "docs/promises.md"):
+        for path, clauses in CONTRACT.findall(line):
+            parts = path.split("::")
+            items = by_end.get((parts[0], parts[-1]), [])
+            if not items:
+                yield f"{place}: names {path}, which isn't there"
+            for clause in clauses.split(", ") if items and clauses else []:
+                if not any(re.search(rf"\b(ensures|ghost) {clause}\b", item.text()) for item in items):
+                    yield f"{place}: names the clause {clause} of {path}, which isn't there"
+
+
+def check_paths(found):
+    """Each name with `::` that a document has in backquotes is there: from its crate on, or as the end of such a path."""
+    ends = {path[start:] for path in found for start in range(len(path) - 1)}
+    for document in DOCUMENTS:
+        for place, line in lines_of(document):
+            for path in PATH.findall(line):
+                parts = tuple(path.split("::"))
+                if parts not in (found if parts[0] in names.crates() else ends):
+                    yield f"{place}: names {path}, which isn't there"
+
+
+def check_readme():
+    """README.md is short."""
+    lines = len((TOP / "README.md").read_text().splitlines())
+    if lines > README_LINES:
+        yield f"README.md: has {lines} lines, and may have {README_LINES}"
+
+
+def check_demos():
+    """A block after a line `<!-- demo/NAME.txt -->` is that transcript."""
+    for document in DOCUMENTS:
+        text = document.read_text()
+        for block in DEMO_BLOCK.finditer(text):
+            place = f"{document.relative_to(TOP)}:{text.count(chr(10), 0, block.start()) + 1}"
+            transcript = TOP / block[1]
+            if not transcript.exists():
+                yield f"{place}: names {block[1]}, which isn't there"
+            elif block[2] != transcript.read_text():
+                yield f"{place}: the block after this line isn't {block[1]}"
+
+
+def check_citations():
+    """The repository stands alone: no paper, definition or issue is cited by its number, and no address on the network is named."""
+    for what, pattern, files in [
+        ("looks like a citation by number", CITATION, ["*.md", "*.rt", "*.antt", "*.edit", "*.sh"]),
+        ("looks like an address on the network", ADDRESS, ["*.md", "*.py", "*.sh", "*.txt"]),
+    ]:
+        run = subprocess.run(["git", "grep", "-nIoE", pattern, "--", *files], cwd=TOP, capture_output=True, text=True)
+        for line in run.stdout.splitlines():
+            path, number, text = line.split(":", 2)
+            yield f"{path}:{number}: {text!r} {what}"
+
+
+def main():
+    argparse.ArgumentParser(description=__doc__, formatter_class=argparse.RawDescriptionHelpFormatter).parse_args()
+    found = names.index()
+    complaints = [
+        *check_map(),
+        *check_edits(),
+        *check_contracts(found),
+        *check_paths(found),
+        *check_readme(),
+        *check_demos(),
+        *check_citations(),
+    ]
+    for complaint in complaints:
+        print(f"docs: {complaint}")
+    if not complaints:
+        print("docs: the documents name what is there")
+    sys.exit(1 if complaints else 0)
+
+
+if __name__ == "__main__":
+    main()
