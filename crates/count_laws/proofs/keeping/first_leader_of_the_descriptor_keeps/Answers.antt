@@ -1,5 +1,0 @@
-use Rattle.count_laws.proofs.Kept.{descriptor_leader_keeps}
-use Rattle.count_laws.proofs.keeping.first_leader_of_the_descriptor_keeps.Goals as goal
-
-pub returns : goal.returns
-returns c = descriptor_leader_keeps

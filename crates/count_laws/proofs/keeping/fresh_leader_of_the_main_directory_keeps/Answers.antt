@@ -1,5 +1,0 @@
-use Rattle.count_laws.proofs.Kept.{fresh_root_keeps}
-use Rattle.count_laws.proofs.keeping.fresh_leader_of_the_main_directory_keeps.Goals as goal
-
-pub returns : goal.returns
-returns c = fresh_root_keeps

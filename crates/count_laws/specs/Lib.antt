@@ -1,4 +1,0 @@
-pub mod CountLaws
-pub mod KeepLaws
-pub mod MarkLaws
-pub mod NextLaws

@@ -1,5 +1,0 @@
-use Rattle.cut_laws.proofs.Parting.{of_parts}
-use Rattle.cut_laws.proofs.parts.cuts_of_parts.Goals as goal
-
-pub returns : goal.returns
-returns g c = of_parts g.X.Property.holds

@@ -1,5 +1,0 @@
-use Rattle.hint_laws.proofs.ClosedHints.{clean_is_left}
-use Rattle.hint_laws.proofs.closing.closing_leaves_a_clean_pack.Goals as goal
-
-pub returns : goal.returns
-returns c = clean_is_left

@@ -1,5 +1,0 @@
-use Rattle.hint_laws.proofs.LineLinking.{line_closes_true}
-use Rattle.hint_laws.proofs.lines.line_closes_with_true_hints.Goals as goal
-
-pub returns : goal.returns
-returns c = line_closes_true

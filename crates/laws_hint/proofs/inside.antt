@@ -1,0 +1,11 @@
+pub mod ClosedBytes
+pub mod ClosedHints
+pub mod ClosedMaps
+pub mod ClosedValues
+pub mod ClosedWords
+pub mod LineLinking
+pub mod MarkedOperations
+pub mod Marking
+pub mod Meaning
+pub mod TrueMap
+pub mod Wording

@@ -1,0 +1,5 @@
+use Rattle.laws_hint.proofs.inside.LineLinking.{line_links}
+use Rattle.laws_hint.proofs.lines.line_keeps_links.Goals as goal
+
+pub returns : goal.returns
+returns c = line_links

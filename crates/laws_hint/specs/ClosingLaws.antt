@@ -1,0 +1,30 @@
+-- Closing with the true map leaves all hints true.
+use Rattle.std.specs.Prelude.{◌≡◌, ◌≢◌, Bool, List, [], ℕ}
+use Rattle.disk_records.specs.Packs.{Pack, after}
+use Rattle.disk_records.specs.declared.records.Event.{Event}
+use Rattle.pack_model.specs.Descriptor.{close_writes}
+use Rattle.pack_model.specs.Links.{LinksTrue}
+use Rattle.pack_model.specs.Model.{read_pack}
+use Rattle.pack_model.specs.Sights.{sights}
+use Rattle.pack_model.specs.Sound.{Clean, Sound, mark_clean, mark_of}
+use Rattle.pack_model.specs.Tables.{HintsTrue, TableTrue}
+use Rattle.pack_model.specs.Whole.{Tidy, Whole}
+use Rattle.laws_operation.specs.DescriptorLaws.{MayClose}
+
+-- the record writes by which this pack is closed, with this map, in these sectors of DiskDescriptor's data pages
+abbrev pub closing_writes : Pack → List Bool → List ℕ → List Event
+closing_writes p busy pages = close_writes (mark_of (sights p)) p.shape (read_pack p).last busy pages
+
+-- Of q, which closing leaves of p, all hints are true; it is clean, and sound where p was.
+pub record ClosedTrue (p q : Pack) : Type 0 where
+  pub hints : HintsTrue q
+  pub clean : Clean q
+  pub sound : Sound p → Sound q
+
+-- so it is with the true map, where links are true and the mark isn't clean
+abbrev pub ClosesTrue : Type 0
+ClosesTrue = (p : Pack) (busy : List Bool) (pages : List ℕ) → Whole p → Tidy p → MayClose p pages → mark_of (sights p) ≢ mark_clean → LinksTrue p → TableTrue p busy → ClosedTrue p (after p (closing_writes p busy pages))
+
+-- where it is, nothing is written
+abbrev pub CleanIsLeft : Type 0
+CleanIsLeft = (p : Pack) (busy : List Bool) (pages : List ℕ) → mark_of (sights p) ≡ mark_clean → closing_writes p busy pages ≡ []

@@ -1,0 +1,5 @@
+use Rattle.laws_line.proofs.Lining.{lines_join}
+use Rattle.laws_line.proofs.cuts.lines_join.Goals as goal
+
+pub returns : goal.returns
+returns c = lines_join

@@ -1,0 +1,46 @@
+-- The line that makes a file.
+use Rattle.std.proofs.Common.{◌∙◌, ◌∷◌, ◌≡◌, ◌≤◌, List, [], arith, false, length, subst, ℕ}
+use Rattle.std.specs.FinMap.{contains_key}
+use Rattle.alto_words.specs.declared.fid.Fid.{Fid}
+use Rattle.laws_line.proofs.inside.Coming.{entered_pages, entered_ready}
+use Rattle.laws_line.proofs.inside.Making.{made_pages, made_spared}
+use Rattle.laws_line.proofs.inside.Spared.{Prepared, Spared, behind, front, ready_line, spared_ready, there_behind}
+use Rattle.laws_line.proofs.inside.Throughout.{ready_changes, steps_both}
+use Rattle.laws_line.specs.LineLaws.{LeaveNames, NewFileLine, with_new_file}
+use Rattle.laws_line.specs.Ready.{ReadyThroughout, Settled}
+use Rattle.pack_model.specs.Model.{Model}
+use Rattle.pack_model.specs.Step.{Operation, step}
+use Rattle.pack_model.specs.Step.Operation.{enter, make}
+
+module _ (m : Model) (d : Fid) (name : List ℕ) (f : Fid) (moment : ℕ) (rest : List Operation) (s : Settled m) (short : length name ≤ 39) (fresh : contains_key m.files f ≡ false) where
+  -- the models behind the making and the entering
+  abbrev pub made : Model
+  made = step (behind m d name s) (make f name moment)
+
+  abbrev pub entered : Model
+  entered = step made (enter d name f)
+
+  pub fresh_behind : contains_key (behind m d name s).files f ≡ false
+  fresh_behind = there_behind m d name s f ∙ fresh
+
+  -- behind the making the file alone has no name
+  pub made_behind : Prepared m d name s (make f name moment ∷ enter d name f ∷ rest) → Spared made f
+  made_behind p = let enough = p.pages in made_spared (behind m d name s) f name moment (p.spared f) short fresh_behind (omega arith)
+
+  -- the making, the entering, and what comes then
+  new_file_rest : LeaveNames entered rest → Prepared m d name s (make f name moment ∷ enter d name f ∷ rest) → ReadyThroughout (behind m d name s) (make f name moment ∷ enter d name f ∷ rest)
+  new_file_rest leaves p =
+      let h : Spared (behind m d name s) f = p.spared f in
+      let enough = p.pages in
+      let a : Spared made f = made_behind p in
+      let more = made_pages (behind m d name s) f name moment h short fresh_behind in
+      let same = entered_pages d f name short made in
+      (spared_ready (behind m d name s) f h, (spared_ready made f a, ready_changes entered rest (entered_ready d f name short made a) leaves (omega arith)))
+
+  -- what comes then leaves names as they are, on the model behind the entering
+  pub leaves_entered : LeaveNames (with_new_file m d name f moment) rest → LeaveNames entered rest
+  leaves_entered leaves = subst (λ n. LeaveNames n rest) (steps_both m (front m d name s) (make f name moment ∷ enter d name f ∷ [])) leaves
+
+pub new_file_line_ready : NewFileLine
+new_file_line_ready m d name f moment rest s short fresh leaves few =
+    ready_line m d name s (make f name moment ∷ enter d name f ∷ rest) few (new_file_rest m d name f moment rest s short fresh (leaves_entered m d name f moment rest s short fresh leaves))

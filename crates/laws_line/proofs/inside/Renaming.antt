@@ -1,0 +1,52 @@
+-- The line that renames a file.
+use Rattle.std.proofs.Common.{◌∷◌, ◌≡◌, ◌≤◌, ◌||◌, Bool, List, [], arith, cond, false, length, nat_le, subst, sym, true, ℕ}
+use Rattle.alto_words.specs.Fid.{is_fid, is_system, sys_dir}
+use Rattle.alto_words.specs.declared.fid.Fid.{Fid}
+use Rattle.laws_line.proofs.inside.Changes.{keeps_step}
+use Rattle.laws_line.proofs.inside.Coming.{entered_ready}
+use Rattle.laws_line.proofs.inside.Leaving.{EntersIn, enters_in, enters_titled, enters_widened, left_spared}
+use Rattle.laws_line.proofs.inside.Spared.{Prepared, Spared, behind, ready_line, spared_kept, spared_ready}
+use Rattle.laws_line.proofs.inside.Throughout.{steps_both}
+use Rattle.laws_line.specs.LineLaws.{IsEntered, RenameLine}
+use Rattle.laws_line.specs.Ready.{ReadyThroughout, Settled, steps_of}
+use Rattle.pack_model.specs.Model.{Model, dir_items, root_items}
+use Rattle.pack_model.specs.Rooms.{largest_run}
+use Rattle.pack_model.specs.Slots.{entry_length}
+use Rattle.pack_model.specs.Step.{Operation, longest_entry, room_in, spare, step}
+use Rattle.pack_model.specs.Step.Operation.{enter, leave, title, widen}
+
+-- the entry is still there where a directory gets a page, or none
+enters_page : (m : Model) (d e : Fid) (name : List ℕ) (f : Fid) (b : Bool) → EntersIn d name f (dir_items m d) → EntersIn d name f (dir_items (steps_of m (cond b [] (widen e ∷ []))) d)
+enters_page m d e name f true h = h
+enters_page m d e name f false h = enters_widened m d e name f h
+
+module _ (m : Model) (d : Fid) (old : List ℕ) (to : Fid) (name : List ℕ) (f : Fid) (s : Settled m) (h : IsEntered m d old f) (short : length name ≤ 39) (ordinary : is_system f ≡ false) where
+  abbrev pub rest : List Operation
+  rest = title f name ∷ leave d old ∷ enter to name f ∷ []
+
+  -- the models behind the title and behind the entry that goes
+  abbrev pub titled : Model
+  titled = step (behind m to name s) (title f name)
+
+  abbrev pub left : Model
+  left = step titled (leave d old)
+
+  -- the entry behind the front of the line
+  enters_behind : EntersIn d old f (dir_items (behind m to name s) d)
+  enters_behind = subst (λ n. EntersIn d old f (dir_items n d)) (sym (steps_both m (spare m) (room_in m to name)))
+      (enters_page (steps_of m (spare m)) d to old f (is_fid to sys_dir || nat_le (entry_length (length name)) (largest_run (dir_items m to)))
+      (enters_page m d sys_dir old f (nat_le longest_entry (largest_run (root_items m))) (enters_in m d old f h)))
+
+  -- behind the title, and behind the entry that goes, the file alone may have no name
+  titled_behind : Prepared m to name s rest → Spared titled f
+  titled_behind p = let enough = p.pages in spared_kept (behind m to name s) titled 0 f (keeps_step (behind m to name s) (title f name) short) (omega arith) (p.spared f)
+
+  pub left_behind : Prepared m to name s rest → Spared left f
+  left_behind p = left_spared titled d old f (enters_titled (behind m to name s) d f old name f enters_behind) (titled_behind p) ordinary
+
+  -- the title, the entry that goes, and the one that comes
+  rename_rest : Prepared m to name s rest → ReadyThroughout (behind m to name s) rest
+  rename_rest p = (spared_ready (behind m to name s) f (p.spared f), (spared_ready titled f (titled_behind p), (spared_ready left f (left_behind p), entered_ready to f name short left (left_behind p))))
+
+pub rename_line_ready : RenameLine
+rename_line_ready m d old to name f s h short ordinary few = ready_line m to name s (title f name ∷ leave d old ∷ enter to name f ∷ []) few (rename_rest m d old to name f s h short ordinary)

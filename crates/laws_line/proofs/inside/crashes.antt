@@ -1,0 +1,10 @@
+pub mod Cutting
+pub mod EnterCuts
+pub mod OneCommit
+pub mod Parting
+pub mod Rejoined
+pub mod SoundLining
+pub mod Spared
+pub mod Sparing
+pub mod Staying
+pub mod Still

@@ -1,0 +1,92 @@
+-- Each cut of a line of the operating system can be scavenged, and behind it the pack is sound again.
+use Rattle.std.proofs.Common.{◌∙◌, ◌≡◌, ◌≤◌, Bool, List, None, Option, Some, ap, arith, cond, false, not, refl, subst, sym, true}
+use Rattle.std.specs.FinMap.{contains_key, get}
+use Rattle.std.specs.Option.{is_some, option_map}
+use Rattle.alto_words.specs.Fid.{disk_descriptor, is_fid}
+use Rattle.alto_words.specs.declared.fid.Fid.{Fid}
+use Rattle.disk_records.specs.Packs.{Pack, after}
+use Rattle.disk_records.specs.declared.records.Event.{Event}
+use Rattle.disk_records.specs.declared.shape.Shape.{Shape}
+use Rattle.pack_model.specs.Bodies.{File, described, found, is_described}
+use Rattle.pack_model.specs.Committing.{pages_for_operations}
+use Rattle.pack_model.specs.Files.{file_bytes, leader, lives}
+use Rattle.pack_model.specs.Leaders.{Leader}
+use Rattle.pack_model.specs.Model.{IsNamed, Model, read_pack, read_sights, room}
+use Rattle.pack_model.specs.Operations.{Move}
+use Rattle.pack_model.specs.Sights.{Sight, sights}
+use Rattle.pack_model.specs.Sound.{Sound}
+use Rattle.pack_model.specs.Step.{Operation}
+use Rattle.pack_model.specs.View.{seen_of}
+use Rattle.pack_laws.proofs.Keys.{same_fid}
+use Rattle.laws_record.proofs.Keeping.{get-where}
+use Rattle.laws_record.proofs.Mending.{get-seen}
+use Rattle.laws_record.proofs.Reading.{get-found, read_file}
+use Rattle.laws_room.proofs.FreeRoom.{free_is_room}
+use Rattle.laws_line.proofs.inside.SettledAgain.{behind_changes}
+use Rattle.laws_line.proofs.inside.SettledDrop.{behind_drop}
+use Rattle.laws_line.proofs.inside.SettledNewFile.{behind_new_file}
+use Rattle.laws_line.proofs.inside.SettledRename.{behind_rename}
+use Rattle.laws_line.proofs.inside.SoundSettled.{sound_is_settled}
+use Rattle.laws_line.specs.BehindLaws.{SettledBehind}
+use Rattle.laws_line.specs.Ready.{Settled, steps_of}
+use Rattle.laws_line.proofs.Lining.{line_law}
+use Rattle.laws_line.proofs.inside.crashes.Parting.{in_session, operates}
+use Rattle.laws_line.specs.CutLaws.{LineStays}
+use Rattle.laws_line.specs.SoundLines.{IsLine, SoundLineLaw, changes, comes, goes, renamed}
+
+-- ---- the model
+-- each kind of line keeps a settled model ready where there is room for the pages that it adds, and leaves a settled one
+line_behind : (m : Model) (ops : List Operation) → Settled m → IsLine m ops → pages_for_operations m ops ≤ room m → SettledBehind m ops
+line_behind m _ s (changes ops leave) few = behind_changes m ops s leave few
+line_behind m _ s (goes f may) few = behind_drop m f s may
+line_behind m _ s (comes d name f moment rest dir short new leave) few = behind_new_file m d name f moment rest s dir short new leave few
+line_behind m _ s (renamed d old to name f dir entered short other) few = behind_rename m d old to name f s dir entered short other few
+
+-- ---- the pack
+-- a living file but DiskDescriptor is one of the model
+living_read : (shape : Shape) (ss : List Sight) (f : Fid) → is_fid f disk_descriptor ≡ false → lives ss f ≡ true → contains_key (read_sights shape ss).files f ≡ true
+unfolding read_sights
+living_read shape ss f other alive = same _ _ (get-seen (lives ss) (described ss) f) ∙ ap is_some here ∙ by (leader ss f) alive
+  where
+    same : (x y : Option File) → option_map (seen_of f) x ≡ option_map (seen_of f) y → is_some x ≡ is_some y
+    same None None e = refl
+    same None (Some y) e = cc
+    same (Some x) None e = cc
+    same (Some x) (Some y) e = refl
+
+    here : get (described ss) f ≡ option_map (read_file f (file_bytes ss f)) (leader ss f)
+    here = get-where (found ss) is_described f ∙ ap (λ b. cond (not b) (get (found ss) f) None) other ∙ get-found ss f
+
+    by : (r : Option Leader) → is_some r ≡ true → is_some (option_map (read_file f (file_bytes ss f)) r) ≡ true
+    by None e = e
+    by (Some l) e = refl
+
+-- what the line leaves is sound where its last model is settled
+sound_behind : (p : Pack) (events : List Event) (ops : List Operation) {moves : List Move} → LineStays p events ops moves → Settled (steps_of (read_pack p) ops) → Sound (after p events)
+sound_behind p events ops h settled = record { whole = h.whole; tidy = h.tidy; named = λ f alive. by f alive (is_fid f disk_descriptor) refl }
+  where
+    q : Pack
+    q = after p events
+
+    again : Settled (read_pack q)
+    again = subst Settled (sym h.reads) settled
+
+    by : (f : Fid) → lives (sights q) f ≡ true → (b : Bool) → is_fid f disk_descriptor ≡ b → IsNamed (read_pack q) f
+    by f alive true e = subst (IsNamed (read_pack q)) (sym (same_fid f disk_descriptor e)) h.whole.descriptor_named
+    by f alive false e = again.all f (living_read q.shape (sights q) f e alive)
+
+-- ---- the law
+pub sound_line_law : SoundLineLaw
+sound_line_law p at events ops sound placed some is few line =
+    let h = line_law p at events ops sound placed some line in
+    let free = (free_is_room p sound.whole).room_is in
+    let behind = line_behind (read_pack p) ops (sound_is_settled p sound) is (omega arith) in
+    let cuts = h.cuts behind.ready in
+    record {
+      cuts = cuts;
+      operating = operates (read_pack p) p _ _ h.obeys cuts;
+      session = in_session (read_pack p) p _ _ h.obeys cuts;
+      reads = h.reads;
+      unmarked = h.unmarked;
+      sound = sound_behind p _ ops h behind.behind;
+    }

@@ -1,0 +1,86 @@
+-- Every cut of a line can be scavenged, and is clean only where it is sound.
+use Rattle.std.specs.Prelude.{◌++◌, ◌<◌, ◌≡◌, ◌≤◌, List, Some, [], length, ◌∷◌, ℕ}
+use Rattle.disk_records.specs.declared.records.Event.{Event}
+use Rattle.disk_records.specs.Packs.{Pack, after, sector_at}
+use Rattle.alto_words.specs.Fid.{disk_descriptor}
+use Rattle.alto_words.specs.declared.fid.Fid.{Fid}
+use Rattle.pack_model.specs.Committing.{line_moves, moves_of, moves_of_all, serial_moves}
+use Rattle.pack_model.specs.Descriptor.{open_writes, serial_writes}
+use Rattle.pack_model.specs.Entering.{entry_value, values_first}
+use Rattle.pack_model.specs.Files.{place}
+use Rattle.pack_model.specs.Meanings.{Mendable, viewing}
+use Rattle.pack_model.specs.Model.{read_pack}
+use Rattle.pack_model.specs.Moves.{Obeys}
+use Rattle.pack_model.specs.Operations.{Move, enter_writes}
+use Rattle.pack_model.specs.Scavenging.{Throughout, Unmarked}
+use Rattle.pack_model.specs.Sights.{sights}
+use Rattle.pack_model.specs.Slots.{Item}
+use Rattle.pack_model.specs.Sound.{Sound, mark_of, mark_open}
+use Rattle.pack_model.specs.Step.{Operation, step}
+use Rattle.pack_model.specs.Step.Operation.{enter, make}
+use Rattle.pack_model.specs.Whole.{Tidy, Whole}
+use Rattle.laws_line.specs.Ready.{Ready, ReadyThroughout, steps_of}
+use Rattle.laws_operation.specs.NameLaws.{MayEnterAt, entry_room}
+use Rattle.laws_operation.specs.Outcomes.{CarriesOut}
+use Rattle.laws_line.specs.SpareLaws.{Spares}
+
+-- ---- the mark
+-- where it is open, the pack is unmarked
+abbrev pub OpenIsUnmarked : Type 0
+OpenIsUnmarked = (p : Pack) → Whole p → mark_of (sights p) ≡ mark_open → Unmarked p
+
+-- ---- one operation
+-- These record writes are the operation on a pack whose mark is open: each makes its move, and each cut is viewed as the model there;
+-- where the models before and behind it are ready, each cut can be scavenged and none is clean; and so it is for the pack behind them.
+pub record StaysMendable (p : Pack) (events : List Event) (o : Operation) : Type 0 where
+  pub obeys : Obeys viewing (read_pack p) p events (moves_of (read_pack p) o)
+  pub cuts : Unmarked p → Ready (read_pack p) → Ready (step (read_pack p) o) → Throughout Mendable p events
+  pub unmarked : Unmarked p → Unmarked (after p events)
+  pub reads : read_pack (after p events) ≡ step (read_pack p) o
+  pub whole : Whole (after p events)
+  pub tidy : Tidy (after p events)
+
+-- so it is wherever the record writes carry out the operation and leave the system files alone
+abbrev pub CutsLaw : Type 0
+CutsLaw = (p : Pack) (events : List Event) (o : Operation) → Whole p → CarriesOut p events o → Spares p events → StaysMendable p events o
+
+-- so it is of an entering, in which a record write may join free slots
+abbrev pub EntersLaw : Type 0
+EntersLaw = (p : Pack) (d : Fid) (name : List ℕ) (f : Fid) (a old b : List Item) (left : ℕ) (words : List ℕ) (at next_at : ℕ) → Whole p → Tidy p → MayEnterAt p d name f a old b left words at next_at
+    → StaysMendable p (enter_writes (values_first p (entry_room a old at next_at) words) at (entry_value p (entry_room a old at next_at) words)) (enter d name f)
+
+-- ---- a line
+-- the pack behind a new serial
+abbrev pub with_serial : Pack → ℕ → ℕ → Pack
+with_serial p at last = after p (serial_writes at last (sector_at p at).value)
+
+-- Such operations, one after another, each on the pack that the ones before it leave; and right before a make its new serial.
+pub data Line : Pack → List Event → List Operation → Type 0 where
+  over : {p : Pack} → Line p [] []
+  does : {p : Pack} {events later : List Event} {o : Operation} {ops : List Operation} → serial_moves o ≡ [] → StaysMendable p events o → Line (after p events) later ops → Line p (events ++ later) (o ∷ ops)
+  makes : {p : Pack} {at last : ℕ} {events later : List Event} {f : Fid} {name : List ℕ} {moment : ℕ} {ops : List Operation} → place (sights p) disk_descriptor 1 ≡ Some at → (read_pack p).last ≤ last
+      → StaysMendable (with_serial p at last) events (make f name moment) → Line (after (with_serial p at last) events) later ops → Line p (serial_writes at last (sector_at p at).value ++ (events ++ later)) (make f name moment ∷ ops)
+
+-- a line and then another one on the pack that it leaves are one line
+abbrev pub LinesJoin : Type 0
+LinesJoin = (p : Pack) (a b : List Event) (ops more : List Operation) → Line p a ops → Line (after p a) b more → Line p (a ++ b) (ops ++ more)
+
+-- Its record writes make these moves, and each cut is viewed as the model there; where the models of its operations are ready, each can be
+-- scavenged, and is clean only where it is sound. The pack that it leaves is whole, tidy and unmarked, and is read as the model behind them.
+pub record LineStays (p : Pack) (events : List Event) (ops : List Operation) (moves : List Move) : Type 0 where
+  pub obeys : Obeys viewing (read_pack p) p events moves
+  pub cuts : ReadyThroughout (read_pack p) ops → Throughout Mendable p events
+  pub unmarked : Unmarked (after p events)
+  pub whole : Whole (after p events)
+  pub tidy : Tidy (after p events)
+  pub reads : read_pack (after p events) ≡ steps_of (read_pack p) ops
+
+-- so it is for a line on an unmarked pack
+abbrev pub UnmarkedLineLaw : Type 0
+UnmarkedLineLaw = (p : Pack) (events : List Event) (ops : List Operation) → Whole p → Tidy p → Unmarked p → Line p events ops → LineStays p events ops (moves_of_all (read_pack p) ops)
+
+-- and from a sound pack, for the opening of the mark and then a line with some operations
+abbrev pub LineLaw : Type 0
+LineLaw = (p : Pack) (at : ℕ) (events : List Event) (ops : List Operation) → Sound p → place (sights p) disk_descriptor 1 ≡ Some at → 0 < length ops
+    → Line (after p (open_writes (mark_of (sights p)) at (sector_at p at).value)) events ops
+    → LineStays p (open_writes (mark_of (sights p)) at (sector_at p at).value ++ events) ops (line_moves (mark_of (sights p)) (read_pack p) ops)

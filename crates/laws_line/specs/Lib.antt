@@ -1,0 +1,8 @@
+pub mod BehindLaws
+pub mod CutLaws
+pub mod EachLaws
+pub mod LineLaws
+pub mod PartLaws
+pub mod Ready
+pub mod SoundLines
+pub mod SpareLaws

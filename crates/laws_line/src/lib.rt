@@ -1,0 +1,20 @@
+//! A whole line: every crash point within it can be mended.
+//!
+//! The laws of lines, on models: after each operation of a line the files have room, as the Scavenger will find them, and behind it
+//! every file has a name again.
+//!
+//! FullModels has the models in which a line that gives SysDir no room first, or puts bytes past a file's end, leaves no room.
+//!
+//! The laws of cuts: every cut of a line from a sound pack with the free sectors for it is viewed as its model, can be scavenged,
+//! and is clean only where it is sound.
+//!
+//! A law function is public, has an empty body and one clause, the law. Lemmas that other crates cite stand in proofs/, all others
+//! in proofs/inside/, which no other crate can name.
+#![tactic(auto)]
+
+pub mod behind;
+pub mod cuts;
+pub mod lines;
+pub mod parts;
+pub mod sound;
+pub mod spares;

@@ -1,0 +1,50 @@
+//! What holds of the pack at each cut, by parts of the events and cut by cut; and moves whose cuts can be scavenged.
+//!
+//! The first three laws hold of any property of packs. `CanBeMended` is one.
+
+ghost use Rattle.laws_line.specs.PartLaws.{CutByCut, InSessionLaw, LinesLead, OfBothParts, OfParts, OperatesLaw};
+ghost use Rattle.disk_records.specs.Packs.{Pack};
+ghost use Rattle.pack_model.specs.Meanings.{Mendable};
+
+/// A property of packs, of which the laws are stated. It has no functions.
+pub trait Property {
+    /// What it says of a pack.
+    ghost holds: { Pack → Type 0 };
+}
+
+/// The Scavenger takes the pack, and it is clean only where it is sound.
+pub struct CanBeMended;
+
+impl Property for CanBeMended {
+    ghost holds = { Mendable };
+}
+
+/// What holds at each cut holds at each cut of first events, as where a call was broken off, and of the others from there on.
+pub fn cuts_of_parts<X: Property>()
+    ensures { OfParts X.holds }
+{}
+
+/// What holds at each cut of some events, and of others from there on, holds at each cut of both.
+pub fn cuts_of_both_parts<X: Property>()
+    ensures { OfBothParts X.holds }
+{}
+
+/// What holds throughout some events holds at each cut by its number of events, and the other way round.
+pub fn cut_by_cut<X: Property>()
+    ensures { CutByCut X.holds }
+{}
+
+/// Record writes whose cuts are viewed as the models of their moves and can be scavenged are those of operations.
+pub fn viewed_and_mendable_operates()
+    ensures { OperatesLaw }
+{}
+
+/// They are those of a session, too.
+pub fn viewed_and_mendable_in_session()
+    ensures { InSessionLaw }
+{}
+
+/// The moves of a line lead to the model behind its operations, from which the next line goes on.
+pub fn line_moves_lead_to_the_model()
+    ensures { LinesLead }
+{}

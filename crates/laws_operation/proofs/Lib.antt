@@ -1,0 +1,26 @@
+pub mod Changing
+pub mod CloseLaw
+pub mod Commanding
+pub mod Cutting
+pub mod DescriptorValues
+pub mod DirValue
+pub mod DropLaw
+pub mod Dropped
+pub mod EnterLaw
+pub mod EnterMoves
+pub mod EnterStages
+pub mod Entering
+pub mod EntryWrite
+pub mod FirstWords
+pub mod Grown
+pub mod Leaving
+pub mod Lying
+pub mod Making
+pub mod OneDirectory
+pub mod OneValue
+pub mod OpeningMark
+pub mod Rows
+pub mod Seating
+pub mod Showing
+pub mod Widening
+mod inside

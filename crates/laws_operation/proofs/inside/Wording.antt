@@ -1,0 +1,47 @@
+-- The words that are written.
+use Rattle.std.proofs.Common.{Bool, List, None, Some, [], ap, arith, cond, drop, false, get_or-drop, not, refl, take, true, ℕ, ◌&&◌, ◌+◌, ◌∙◌, ◌≡◌, ◌≤◌}
+use Rattle.std.proofs.lemmas.Bool.{le-leb}
+use Rattle.std.proofs.lemmas.List.{append-nil, length-take}
+use Rattle.std.specs.Prelude.{nat_le, nat_lt, ◌==◌}
+use Rattle.alto_words.specs.Fid.{serial_of}
+use Rattle.disk_records.specs.Labels.{Tag, in_range, tag}
+use Rattle.disk_records.specs.Packs.{sector_at}
+use Rattle.disk_records.specs.Words.{word}
+use Rattle.pack_model.specs.Bytes.{bytes_of, put_at, words_of}
+use Rattle.pack_model.specs.Files.{page}
+use Rattle.pack_model.specs.Namings.{fits}
+use Rattle.pack_model.specs.PageWords.{page_number, put_value, relabelled}
+use Rattle.pack_laws.proofs.Bytes.{bytes_of-put, take-put_at}
+use Rattle.laws_operation.proofs.Making.{named_page}
+use Rattle.laws_operation.specs.WordLaws.{PutWords, RelabelledWords}
+
+-- whatever the first of several tests was
+first_true : (a b c d e : Bool) → (a && b && c && d && e) ≡ true → (true && b && c && d && e) ≡ true
+first_true true b c d e h = h
+first_true false b c d e h = absurd cc
+
+-- another count of at most 512 bytes is in range as well
+range_still : (t : Tag) (bytes : ℕ) → in_range t ≡ true → bytes ≤ 512 → in_range (record { fid = t.fid; page = t.page; bytes = bytes }) ≡ true
+unfolding in_range
+range_still t bytes e l =
+    ap (λ b. b && nat_le 1 t.fid.version && nat_le t.fid.version 65534 && not (serial_of t.fid == 0) && nat_lt t.page 65536) (le-leb bytes 512 l)
+    ∙ first_true (nat_le t.bytes 512) (nat_le 1 t.fid.version) (nat_le t.fid.version 65534) (not (serial_of t.fid == 0)) (nat_lt t.page 65536) e
+
+-- a label with another count and another next link
+pub relabelled_words : RelabelledWords
+relabelled_words label page bytes next e l =
+    let named = named_page label page e in
+    let behind : (k : ℕ) → word (drop 4 label) k ≡ word label (4 + k) = λ k. get_or-drop 4 label k 0 in
+    let same : tag (relabelled label bytes next) ≡ record { fid = (tag label).fid; page = (tag label).page; bytes = bytes } = λ i. record { fid = record { high = behind 2 i; low = behind 3 i; version = behind 1 i }; page = behind 0 i; bytes = bytes } in
+    let told : record { fid = (tag label).fid; page = (tag label).page; bytes = bytes } ≡ record { fid = page.fid; page = page.number; bytes = bytes } = ap (λ t. record { fid = t.fid; page = t.page; bytes = bytes }) named.0 in
+    let range : in_range (tag (relabelled label bytes next)) ≡ true = ap in_range same ∙ range_still (tag label) bytes named.1 l in
+    (ap (λ b. cond b (Some (page_number (tag (relabelled label bytes next)).fid (tag (relabelled label bytes next)).page)) None) range ∙ ap (λ t. Some (page_number t.fid t.page)) (same ∙ told), refl)
+
+-- bytes in place in a value
+pub put_words_in : PutWords
+put_words_in p at offset new below fits =
+    let c : ℕ = (tag (sector_at p at).label).bytes in
+    let v : List ℕ = (sector_at p at).value in
+    let short = length-take c (bytes_of v) in
+    let none : put_value offset new [] v ≡ words_of (put_at offset new (bytes_of v)) = ap (λ x. words_of (put_at offset x (bytes_of v))) (append-nil new) in
+    ap (λ x. take c (bytes_of x)) none ∙ ap (take c) (bytes_of-put offset new v (omega arith) below) ∙ take-put_at c offset new (bytes_of v) fits

@@ -1,0 +1,81 @@
+-- No page is carried twice: whole packs, values, cuts, makes and drops.
+use Rattle.std.proofs.Common.{Bool, Some, [], ap, arith, cond, false, inl, inr, true, ℕ, ◌++◌, ◌∙◌, ◌∷◌, ◌≡◌}
+use Rattle.std.specs.Prelude.{reverse, ◌==◌}
+use Rattle.disk_records.specs.Commands.{claim_writes, relabel_writes, value_writes}
+use Rattle.disk_records.specs.Labels.{page_of}
+use Rattle.disk_records.specs.Packs.{Pack, after, carried}
+use Rattle.disk_records.specs.declared.records.Page.{Page}
+use Rattle.pack_model.specs.Commands.{releases_writes, values_writes}
+use Rattle.pack_model.specs.Committing.{page_of_byte}
+use Rattle.pack_model.specs.Descriptor.{closed_values, opened_value}
+use Rattle.pack_model.specs.Operations.{cut_writes, drop_writes, enter_writes, go_writes, make_writes}
+use Rattle.pack_model.specs.PageWords.{page_number}
+use Rattle.pack_model.specs.Sound.{mark_clean, mark_open}
+use Rattle.laws_record.proofs.Copying.{place_carried}
+use Rattle.laws_record.proofs.Carried.{whole_once}
+use Rattle.laws_operation.proofs.inside.links.Claims.{claim_carried}
+use Rattle.laws_operation.proofs.inside.links.Making.{never_carried}
+use Rattle.laws_operation.proofs.inside.links.NamedAlone.{NamesAlone, all_once, alone_join, claim_alone, relabel_alone, releases_alone, values_alone}
+use Rattle.laws_operation.proofs.inside.links.Records.{number_one, page_one}
+use Rattle.laws_operation.specs.OnceLaws.{CloseOnce, CutOnce, DropOnce, EnterOnce, GoOnce, MakeOnce, OpenOnce, StaysOnce, ValuesOnce, WholeOnce}
+
+-- a whole pack
+pub whole_pack_once : WholeOnce
+whole_pack_once p w = whole_once p w
+
+-- values
+pub values_once : ValuesOnce
+values_once p vs w = all_once p (values_writes vs) (whole_once p w) (values_alone vs p)
+
+-- opening the mark
+pub open_once : OpenOnce
+open_once p mark at value w = by (mark == mark_open)
+  where
+    by : (c : Bool) → StaysOnce p (cond c [] (values_writes ((at, opened_value value) ∷ [])))
+    by true = whole_once p w
+    by false = values_once p ((at, opened_value value) ∷ []) w
+
+-- and closing
+pub close_once : CloseOnce
+close_once p mark shape last busy pages w = by (mark == mark_clean)
+  where
+    by : (c : Bool) → StaysOnce p (cond c [] (values_writes (reverse (closed_values shape last busy 0 pages))))
+    by true = whole_once p w
+    by false = values_once p (reverse (closed_values shape last busy 0 pages)) w
+
+-- an entering
+pub enter_once : EnterOnce
+enter_once p before at value w = all_once p (enter_writes before at value) (whole_once p w) (alone_join p (values_writes before) (value_writes at value) (values_alone before p) (values_alone ((at, value) ∷ []) (after p (values_writes before))))
+
+-- a cut
+pub cut_once : CutOnce
+cut_once p f n at label value later w h =
+    let x : Page = page_number f (page_of_byte n) in
+    let was : carried p at ≡ Some x = place_carried p x at h.sector in
+    let alone : NamesAlone p at label = λ y e i is. whole_once p w i at y is (was ∙ ap Some (page_one label x y h.page e)) in
+    all_once p (cut_writes at label value later) (whole_once p w) (alone_join p (relabel_writes at label value) (releases_writes later) (relabel_alone p at label value alone) (releases_alone later (after p (relabel_writes at label value))))
+
+-- a make
+pub make_once : MakeOnce
+make_once p f name moment page head w h =
+    let q : Pack = after p (claim_writes page.at page.label page.value) in
+    let first : NamesAlone p page.at page.label = λ x e i is. absurd (never_carried p w f h.not_there 1 i (is ∙ ap Some (page_one page.label x (page_number f 1) e h.page_is))) in
+    let second : NamesAlone q head.at head.label = λ x e i is. absurd (apart x e i is) in
+    all_once p (make_writes page head) (whole_once p w) (alone_join p (claim_writes page.at page.label page.value) (claim_writes head.at head.label head.value ++ []) (claim_alone p page.at page.label page.value first) (claim_alone q head.at head.label head.value second))
+  where
+    apart : (x : Page) → page_of head.label ≡ Some x → (i : ℕ) → carried (after p (claim_writes page.at page.label page.value)) i ≡ Some x → ⊥
+    apart x e i is =
+        let zero_is : carried (after p (claim_writes page.at page.label page.value)) i ≡ Some (page_number f 0) = is ∙ ap Some (page_one head.label x (page_number f 0) e h.leader_is) in
+        elim (claim_carried p page.at page.label page.value i (page_number f 0) zero_is) [
+          | inl new ↦ (let n = number_one f 0 1 page.label h.page_is new.1 in omega arith)
+          | inr old ↦ never_carried p w f h.not_there 0 i old
+        ]
+
+-- a drop but for its entry's slot
+pub go_once : GoOnce
+go_once p at pages w = all_once p (go_writes at pages) (whole_once p w) (releases_alone (at ∷ pages) p)
+
+-- with the value of its entry's slot
+pub drop_once : DropOnce
+drop_once p at pages slot_at value w =
+    all_once p (drop_writes at pages slot_at value) (whole_once p w) (alone_join p (go_writes at pages) (value_writes slot_at value) (releases_alone (at ∷ pages) p) (values_alone ((slot_at, value) ∷ []) (after p (go_writes at pages))))

@@ -1,0 +1,125 @@
+-- The words of a make, a put, a cut, a title and a stamp.
+use Rattle.std.proofs.Common.{Bool, List, Some, [], ap, arith, cond, false, get_or, length, refl, subst, sym, take, true, ℕ, ◌%◌, ◌*◌, ◌++◌, ◌+◌, ◌/◌, ◌∙◌, ◌∷◌, ◌≡◌, ◌≤◌}
+use Rattle.std.proofs.lemmas.List.{length-replicate}
+use Rattle.alto_words.specs.Fid.{is_directory}
+use Rattle.alto_words.specs.declared.fid.Fid.{Fid}
+use Rattle.disk_records.specs.Addresses.{real_of}
+use Rattle.disk_records.specs.Labels.{tag}
+use Rattle.disk_records.specs.Packs.{Pack, sector_at}
+use Rattle.pack_model.specs.Bytes.{bytes_of}
+use Rattle.pack_model.specs.Committing.{page_of_byte}
+use Rattle.pack_model.specs.Files.{file_bytes, place}
+use Rattle.pack_model.specs.Leaders.{Leader, is_readable, leader_of, leader_words}
+use Rattle.pack_model.specs.Links.{no_link}
+use Rattle.pack_model.specs.Model.{good_one}
+use Rattle.pack_model.specs.PageWords.{page_number, filled, first_page_value, last_page_hints, new_bytes}
+use Rattle.pack_model.specs.Sights.{Sight, sights, tag_sight}
+use Rattle.pack_model.specs.Sights.Sight.{hidden, holds, leads}
+use Rattle.pack_model.specs.SlotWords.{space_words}
+use Rattle.pack_model.specs.Step.{new_leader}
+use Rattle.pack_model.specs.Whole.{PageAt, Whole}
+use Rattle.pack_laws.proofs.Placing.{leader_of_place, page_of_place}
+use Rattle.laws_record.specs.QuietLaws.{counted_of}
+use Rattle.laws_operation.proofs.Changing.{headed, seat_of}
+use Rattle.laws_operation.proofs.Grown.{old_counted}
+use Rattle.laws_operation.proofs.Lying.{bytes_laid}
+use Rattle.laws_operation.proofs.OneValue.{fits_page}
+use Rattle.laws_operation.proofs.Seating.{carries_none}
+use Rattle.laws_operation.proofs.Showing.{other_leader_value, tag_is}
+use Rattle.laws_operation.proofs.inside.Wording.{put_words_in, relabelled_words}
+use Rattle.laws_operation.specs.ByteLaws.{together}
+use Rattle.laws_operation.specs.LifeLaws.{first_bytes}
+use Rattle.laws_operation.proofs.inside.words.Labels.{label_page, placed_label}
+use Rattle.laws_operation.proofs.inside.words.LeaderWords.{new_says, stamp_says, title_says}
+use Rattle.laws_operation.specs.FileWords.{CutWords, MadeWords, PutInWords, StampedWords, TitledWords}
+
+-- ---- make
+-- page 1 of a new file has at most 510 bytes
+few_bytes : (f : Fid) → new_bytes f ≤ 512
+few_bytes f = by (is_directory f)
+  where
+    by : (b : Bool) → cond b 510 0 ≤ 512
+    by true = omega arith
+    by false = omega arith
+
+-- its value's first bytes are these
+first_counted : (f : Fid) → take (new_bytes f) (bytes_of (first_page_value f)) ≡ first_bytes f
+first_counted f = by (is_directory f)
+  where
+    by : (b : Bool) → take (cond b 510 0) (bytes_of (filled 256 (cond b (space_words 255) []))) ≡ cond b (bytes_of (space_words 255)) []
+    by true = refl
+    by false = refl
+
+-- a new leader keeps no properties
+rest_size : (name : List ℕ) (moment : ℕ) → length (new_leader name moment).rest ≡ 220
+rest_size name moment = length-replicate {A = ℕ} 220 0
+
+pub made : MadeWords
+made p f name moment leader_at page_at h =
+    let says = new_says (new_leader name moment) (last_page_hints page_at 1 (new_bytes f)) h.stored (rest_size name moment) in
+    record {
+      no_descriptor = h.no_descriptor;
+      not_there = h.not_there;
+      last = h.last;
+      page_free = h.page_free;
+      leader_free = h.leader_free;
+      two = h.two;
+      page_is = label_page f 1 (new_bytes f) no_link (real_of p.shape leader_at) h.full_name (few_bytes f) (omega arith);
+      bytes = first_counted f;
+      leader_is = label_page f 0 512 (real_of p.shape page_at) no_link h.full_name (omega arith) (omega arith);
+      readable = says.readable;
+      says = says.says f;
+    }
+
+-- ---- title and stamp
+-- the leader of a whole file can be read
+still_readable : (p : Pack) (f : Fid) (at : ℕ) → Whole p → place (sights p) f 0 ≡ Some at → is_readable (leader_words (sector_at p at).value) ≡ true
+still_readable p f at w sector =
+    let v : List ℕ = (sector_at p at).value in
+    let here = leader_of_place (sights p) f at sector in
+    let l : Leader = here.lead in
+    let h = headed (sights p) f at here.readable l (w.files f) (here.shows hidden) in
+    let shown : tag_sight (tag (sector_at p at).label) v ≡ leads f true l = sym (tag_is p at (ap good_one h.leads_it.shows)) ∙ h.leads_it.shows in
+    let again : leads f true l ≡ leads f (is_readable (leader_words v)) (leader_of f v) = sym shown ∙ other_leader_value (tag (sector_at p at).label) v v f true l shown in
+    cc
+
+pub titled_words : TitledWords
+titled_words p f name at h stored =
+    let says = title_says (sector_at p at).value h.sized name stored in
+    record { file = h.file; sector = h.sector; readable = says.readable; says = says.says f }
+
+pub stamped_words : StampedWords
+stamped_words p f moment at last_at number bytes w h =
+    let says = stamp_says (sector_at p at).value h.sized moment last_at number bytes (still_readable p f at w h.sector) in
+    record { file = h.file; sector = h.sector; readable = says.readable; says = says.says f }
+
+-- ---- put
+-- bytes within a page and within the file are among those that the page's label counts
+fits_counted : (p : Pack) (f : Fid) (offset count at : ℕ) → Whole p → place (sights p) f (page_of_byte offset) ≡ Some at → offset % 512 + count ≤ 512 → offset + count ≤ length (file_bytes (sights p) f) → offset % 512 + count ≤ length (counted_of p at (sector_at p at).value)
+fits_counted p f offset count at w sector one_page within =
+    let ss : List Sight = sights p in
+    let k : ℕ = offset / 512 in
+    let here = page_of_place ss f k at sector in
+    let old : List ℕ = here.bytes in
+    let is : get_or ss at hidden ≡ holds f k old = here.shows hidden in
+    let pl = seat_of ss f k at old (w.files f) is in
+    let pages : List PageAt = pl.front ++ (at, old) ∷ pl.later in
+    let size : length (file_bytes ss f) ≡ length (together pages) = ap length (bytes_laid ss f pages (length pages) [] (carries_none ss f pages 0 (length pages) pl.carries) (omega arith) pl.laid pl.few) in
+    let z : 512 * k + offset % 512 ≡ offset = omega arith in
+    let l : offset % 512 + count ≤ length old = fits_page pl.front at k old pl.later (offset % 512) count pl.laid pl.number one_page (omega (arith, within, z, size)) in
+    subst (λ x. offset % 512 + count ≤ length x) (old_counted p f k at old is) l
+
+pub put_in_words : PutInWords
+put_in_words p f offset new at w h = record {
+  file = h.file;
+  sector = h.sector;
+  one_page = h.one_page;
+  within = h.within;
+  counted = put_words_in p at (offset % 512) new h.bytes (fits_counted p f offset (length new) at w h.sector h.one_page h.within);
+}
+
+-- ---- cut
+pub cut_words : CutWords
+cut_words p f n at later h =
+    let r = relabelled_words (sector_at p at).label (page_number f (page_of_byte n)) (n % 512) no_link (placed_label p f (page_of_byte n) at h.sector) (omega arith) in
+    record { file = h.file; sector = h.sector; within = h.within; page = r.0; count = r.1; number = h.number; later_are = h.later_are }

@@ -1,0 +1,67 @@
+-- Opening the mark, a new serial, and closing: what they leave at every cut.
+use Rattle.std.specs.Prelude.{All, Bool, List, Some, [], length, ℕ, ◌<◌, ◌∷◌, ◌≡◌, ◌≤◌}
+use Rattle.alto_words.specs.Fid.{disk_descriptor}
+use Rattle.disk_records.specs.Packs.{Pack, after, cut, sector_at}
+use Rattle.disk_records.specs.declared.records.Event.{Event}
+use Rattle.pack_model.specs.Committing.{open_moves}
+use Rattle.pack_model.specs.Descriptor.{close_moves, close_writes, data_pages, open_writes, serial_writes}
+use Rattle.pack_model.specs.Files.{place}
+use Rattle.pack_model.specs.Meanings.{reading, viewing}
+use Rattle.pack_model.specs.Model.{read_pack}
+use Rattle.pack_model.specs.Moves.{Obeys}
+use Rattle.pack_model.specs.Operations.{Move}
+use Rattle.pack_model.specs.Operations.Move.{quiet}
+use Rattle.pack_model.specs.Sights.{sights}
+use Rattle.pack_model.specs.Sound.{Sound, mark_clean, mark_of, mark_open}
+use Rattle.pack_model.specs.Step.{Operation}
+use Rattle.pack_model.specs.Whole.{Tidy, Whole}
+use Rattle.laws_operation.specs.ByteLaws.{Bear}
+
+-- ---- words of the first data page
+-- All but DiskDescriptor is as before, and so are the sectors that bear its pages.
+pub record KeepsSound (p q : Pack) : Type 0 where
+  pub whole : Whole q
+  pub tidy : Tidy q
+  pub sound : Sound p → Sound q
+  pub places : (n : ℕ) → place (sights q) disk_descriptor n ≡ place (sights p) disk_descriptor n
+
+-- The mark is open behind these record writes, so the pack isn't clean; each cut is read as before.
+pub record Opens (p : Pack) (events : List Event) (moves : List Move) : Type 0 where
+  pub obeys : Obeys reading (read_pack p) p events moves
+  pub keeps : KeepsSound p (after p events)
+  pub marked : mark_of (sights (after p events)) ≡ mark_open
+
+-- where the mark is open nothing is written; else it is the value of the first data page
+abbrev pub OpenLaw : Type 0
+OpenLaw = (p : Pack) (at : ℕ) (o : Operation) (ops : List Operation) → Whole p → Tidy p → place (sights p) disk_descriptor 1 ≡ Some at
+    → Opens p (open_writes (mark_of (sights p)) at (sector_at p at).value) (open_moves (mark_of (sights p)) (o ∷ ops))
+
+-- Each cut is viewed as before; read as a model the pack has the new last serial behind the record write, and the mark that it had.
+pub record GivesSerial (p : Pack) (last : ℕ) (events : List Event) : Type 0 where
+  pub obeys : Obeys viewing (read_pack p) p events (quiet ∷ [])
+  pub reads : read_pack (after p events) ≡ record (read_pack p) { last = last }
+  pub keeps : KeepsSound p (after p events)
+  pub mark : mark_of (sights (after p events)) ≡ mark_of (sights p)
+
+-- the value with the new serial
+abbrev pub SerialLaw : Type 0
+SerialLaw = (p : Pack) (at last : ℕ) → Whole p → Tidy p → place (sights p) disk_descriptor 1 ≡ Some at → (read_pack p).last ≤ last → GivesSerial p last (serial_writes at last (sector_at p at).value)
+
+-- ---- closing
+-- The sectors of DiskDescriptor's data pages, all of them, each with a value of 256 words.
+pub record MayClose (p : Pack) (pages : List ℕ) : Type 0 where
+  pub pages_are : Bear (sights p) disk_descriptor 1 pages
+  pub number : length pages ≡ data_pages p.shape
+  pub sized : All (λ at. length (sector_at p at).value ≡ 256) pages
+
+-- Each cut is read as before, and is whole, tidy, and sound where the pack was; the mark stays what it was until the last record
+-- write, and is clean behind it.
+pub record Closes (p : Pack) (events : List Event) (moves : List Move) : Type 0 where
+  pub obeys : Obeys reading (read_pack p) p events moves
+  pub keeps : (k : ℕ) → KeepsSound p (cut p events k)
+  pub unclean : (k : ℕ) → k < length events → mark_of (sights (cut p events k)) ≡ mark_of (sights p)
+  pub marked : mark_of (sights (after p events)) ≡ mark_clean
+
+-- the data pages with this map, from the last to the first, and nothing where the mark is clean
+abbrev pub CloseLaw : Type 0
+CloseLaw = (p : Pack) (busy : List Bool) (pages : List ℕ) → Whole p → Tidy p → MayClose p pages → Closes p (close_writes (mark_of (sights p)) p.shape (read_pack p).last busy pages) (close_moves (mark_of (sights p)) pages)

@@ -1,0 +1,17 @@
+pub mod ByteLaws
+pub mod DescriptorLaws
+pub mod DescriptorLinkLaws
+pub mod DirectoryWords
+pub mod EntryLaws
+pub mod FileWords
+pub mod FreeLaws
+pub mod LeaderLaws
+pub mod LengthLaws
+pub mod LifeLaws
+pub mod LinkLaws
+pub mod NameLaws
+pub mod NameLinkLaws
+pub mod OnceLaws
+pub mod Outcomes
+pub mod PlaceLaws
+pub mod WordLaws

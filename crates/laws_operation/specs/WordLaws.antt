@@ -1,0 +1,17 @@
+-- The words that are written, as the laws of operations want them.
+use Rattle.std.specs.Prelude.{All, List, Some, [], length, ℕ, ◌+◌, ◌<◌, ◌≡◌, ◌≤◌}
+use Rattle.disk_records.specs.Labels.{page_of, tag}
+use Rattle.disk_records.specs.Packs.{Pack, sector_at}
+use Rattle.disk_records.specs.declared.records.Page.{Page}
+use Rattle.pack_model.specs.Bytes.{put_at}
+use Rattle.pack_model.specs.PageWords.{put_value, relabelled}
+use Rattle.laws_record.specs.QuietLaws.{counted_of}
+
+-- another count and another next link: the label names the page that it named
+abbrev pub RelabelledWords : Type 0
+RelabelledWords = (label : List ℕ) (page : Page) (bytes next : ℕ) → page_of label ≡ Some page → bytes ≤ 512 → (page_of (relabelled label bytes next) ≡ Some page) × ((tag (relabelled label bytes next)).bytes ≡ bytes)
+
+-- bytes in the place of others in a value, within those that its label counts: they are so among the counted ones
+abbrev pub PutWords : Type 0
+PutWords = (p : Pack) (at offset : ℕ) (new : List ℕ) → All (λ byte. byte < 256) new → offset + length new ≤ length (counted_of p at (sector_at p at).value)
+    → counted_of p at (put_value offset new [] (sector_at p at).value) ≡ put_at offset new (counted_of p at (sector_at p at).value)

@@ -1,0 +1,34 @@
+//! Each operation: what to know, what to write, what is true at each crash point and afterwards.
+//!
+//! The laws of operations: what the whole list of record writes of an operation does to a whole and tidy pack, at every cut.
+//!
+//! The laws of written words: those that each operation writes, as pack_model defines them, are such as the laws of operations ask
+//! for, by what a calling program is to know.
+//!
+//! The laws of links: those of pages and of entries that were true are true again once an operation is done, and no page is carried
+//! twice on the way.
+//!
+//! The laws of looks: what a calling program has to know before it writes, of places, lengths, entries, names and free sectors.
+//!
+//! Which files live, where their pages are and where they end follows, on a whole pack, from which sector carries which page and
+//! from the counts of labels. The slots of a directory in the model are, on a tidy pack, those of its words; no law here leads from
+//! the values of pages to these words, or to a file's bytes. Entries, names and free sectors are said of any pack.
+//!
+//! A law function is public, has an empty body and one clause, the law. Lemmas that other crates cite stand in proofs/, all others
+//! in proofs/inside/, which no other crate can name.
+#![tactic(auto)]
+
+pub mod bytes;
+pub mod descriptor;
+pub mod directories;
+pub mod entries;
+pub mod files;
+pub mod frees;
+pub mod leaders;
+pub mod lengths;
+pub mod links;
+pub mod lives;
+pub mod names;
+pub mod once;
+pub mod places;
+pub mod words;

@@ -1,0 +1,21 @@
+-- What packs that differ in hint words alone have in common.
+use Rattle.std.specs.Prelude.{◌↔◌, ◌≡◌, ◌⊎◌, List, get_or, length, ℕ}
+use Rattle.disk_records.specs.Packs.{Pack, sector_at}
+use Rattle.pack_model.specs.Bytes.{bytes_of}
+use Rattle.pack_model.specs.HintWords.{IsHintByte, SameButHints, byte_at}
+use Rattle.pack_model.specs.Model.{read_pack}
+use Rattle.pack_model.specs.Sound.{Clean, Sound}
+use Rattle.laws_record.specs.QuietLaws.{with_value}
+
+-- They are read the same, and one is sound or clean exactly where the other is.
+pub record MeansSame (p q : Pack) : Type 0 where
+  pub read : read_pack q ≡ read_pack p
+  pub sound : Sound p ↔ Sound q
+  pub clean : Clean p ↔ Clean q
+
+abbrev pub HintsMeanNothing : Type 0
+HintsMeanNothing = (p q : Pack) → SameButHints p q → MeansSame p q
+
+-- a value that differs from the one that stands there in hint bytes alone, as in an entry's address or in DiskDescriptor's map
+abbrev pub OtherHints : Type 0
+OtherHints = (p : Pack) (at : ℕ) (value : List ℕ) → length value ≡ length (sector_at p at).value → ((k : ℕ) → (get_or (bytes_of value) k 0 ≡ byte_at p at k) ⊎ IsHintByte p at k) → MeansSame p (with_value p at value)

@@ -1,0 +1,21 @@
+//! What one write of one record changes, and what it doesn't.
+//!
+//! The laws of record writes: which leave a pack as it is read or viewed, and which carry out operations. With them stand those of
+//! the slots of a directory.
+//!
+//! The laws of whole packs: a pack is whole by the sentences, asked of all sectors, exactly where each of its files lies as a whole
+//! one does.
+//!
+//! A law function is public, has an empty body and one clause, the law. Lemmas that other crates cite stand in proofs/, all others
+//! in proofs/inside/, which no other crate can name.
+#![tactic(auto)]
+
+pub mod chains;
+pub mod directories;
+pub mod entries;
+pub mod hints;
+pub mod quiet;
+pub mod sentences;
+pub mod slots;
+pub mod steps;
+pub mod views;

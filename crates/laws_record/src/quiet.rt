@@ -1,0 +1,68 @@
+//! The laws of record writes after which any pack is read as before: what they change is a hint, or isn't read, or is told twice.
+
+ghost use Rattle.laws_record.specs.QuietLaws.{FreeValue, EqualValue, OtherLinks, PastCount, LeaderHints, SameLeader, UnreadClaim, UnreadRelease, StrayRelease, CopyRelease, CopyClaim, LowestRelease, LastClaim, ReadsSame};
+
+/// Any value of a free sector.
+pub fn value_of_a_free_sector()
+    ensures { FreeValue ReadsSame }
+{}
+
+/// The value that stands there already.
+pub fn equal_value()
+    ensures { EqualValue ReadsSame }
+{}
+
+/// A label with other links and the same page and count.
+pub fn label_with_other_links()
+    ensures { OtherLinks ReadsSame }
+{}
+
+/// A data page's value with the same counted bytes.
+pub fn bytes_past_a_count()
+    ensures { PastCount ReadsSame }
+{}
+
+/// A leader page's value with the same words before its hints.
+pub fn leader_hints()
+    ensures { LeaderHints ReadsSame }
+{}
+
+/// A leader page's value that says the same, as where a name that can't be read is written out as the one that stands for it.
+pub fn leader_that_says_the_same()
+    ensures { SameLeader ReadsSame }
+{}
+
+/// A label on a free sector for a page past its file's end, or of a file without a leader.
+pub fn label_of_an_unread_page()
+    ensures { UnreadClaim ReadsSame }
+{}
+
+/// A free label in the place of a page past its file's end, or of a file without a leader.
+pub fn release_of_an_unread_page()
+    ensures { UnreadRelease ReadsSame }
+{}
+
+/// A free label in the place of one that is neither free nor in range.
+pub fn release_of_a_label_out_of_range()
+    ensures { StrayRelease ReadsSame }
+{}
+
+/// A free label in the place of a page that a lower sector carries.
+pub fn release_of_a_second_copy()
+    ensures { CopyRelease ReadsSame }
+{}
+
+/// A label on a free sector that makes an equal copy of a page, above or below the sector that counts.
+pub fn label_of_an_equal_copy()
+    ensures { CopyClaim ReadsSame }
+{}
+
+/// A free label in the place of the copy that counts, where the next sector that carries the page holds an equal one.
+pub fn release_of_the_lowest_copy()
+    ensures { LowestRelease ReadsSame }
+{}
+
+/// A label of 0 bytes on a free sector for the last page of a file, where no sector carries it.
+pub fn label_of_a_missing_last_page()
+    ensures { LastClaim ReadsSame }
+{}

@@ -1,0 +1,44 @@
+//! The laws of slots: how far words are slots, when a reader knows the next one, and where an entry's room is.
+
+ghost use Rattle.laws_record.specs.SlotLaws.{LengthIsRead, ReadsToTheEnd, EntryWritesBack, MoreBehind, NotYet, OneByOne, ReadsOn, FoundIsPlaced};
+
+/// The longest first part of words that slots fill to its end has as many words as they have together.
+pub fn length_is_read()
+    ensures { LengthIsRead }
+{}
+
+/// Words are slots to their end exactly where the slots that are read have as many words together.
+pub fn reads_to_the_end()
+    ensures { ReadsToTheEnd }
+{}
+
+/// An entry that was read is written as the words that it was read from, if with the address that stands there.
+pub fn entry_writes_back()
+    ensures { EntryWritesBack }
+{}
+
+/// The slot at the head of words is there whatever words follow them.
+pub fn more_behind()
+    ensures { MoreBehind }
+{}
+
+/// Where no slot can be read at the head of words, one that can be with more words behind them is longer than they are.
+pub fn not_yet()
+    ensures { NotYet }
+{}
+
+/// The slots of words are the first one, if it can be read, and the slots of the words behind it.
+pub fn one_by_one()
+    ensures { OneByOne }
+{}
+
+/// The slots of words that begin with some to whose end slots reach: these slots, and those of the words behind.
+pub fn reads_on()
+    ensures { ReadsOn }
+{}
+
+/// An item is placed among slots exactly where a room for its words is found, and where this room is: between the slots before it
+/// and those behind it, with a free slot of the words left over.
+pub fn found_is_placed()
+    ensures { FoundIsPlaced }
+{}

@@ -1,0 +1,13 @@
+-- Each sector of a whole pack is free or in use, where its header is right.
+use Rattle.std.proofs.Common.{get_or, refl}
+use Rattle.pack_model.specs.Sights.{sights}
+use Rattle.pack_model.specs.Sights.Sight.{hidden}
+use Rattle.laws_room.proofs.inside.WholeFiles.{sector_free, sector_used}
+use Rattle.laws_room.specs.RoomLaws.{SectorLaw}
+
+-- the law
+pub each_sector : SectorLaw
+each_sector p at w = record {
+  in_use_is = sector_used p w at (get_or (sights p) at hidden) refl;
+  available_is = sector_free p w at (get_or (sights p) at hidden) refl;
+}

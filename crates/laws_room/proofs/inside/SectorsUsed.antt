@@ -1,0 +1,19 @@
+-- The sectors in use before and after an operation.
+use Rattle.std.proofs.Common.{ap, arith}
+use Rattle.std.specs.FinMap.{entries}
+use Rattle.pack_model.specs.Model.{descriptor_pages, files_pages, read_pack}
+use Rattle.pack_model.specs.Sights.{sights}
+use Rattle.laws_room.proofs.FreeRoom.{in_use_pages}
+use Rattle.laws_room.proofs.inside.BodyKinds.{read_kinds}
+use Rattle.laws_room.proofs.Stepping.{step_pages}
+use Rattle.laws_room.specs.UseLaws.{UseLaw}
+
+-- they follow the operation
+pub use_follows : UseLaw
+use_follows p q o before behind shape fits reads =
+    let was = in_use_pages p before in
+    let now = in_use_pages q behind in
+    let pages = step_pages (read_pack p) (read_kinds p.shape (sights p)) o fits in
+    let files = ap (λ m. files_pages (entries m.files)) reads in
+    let own = ap descriptor_pages shape in
+    omega arith

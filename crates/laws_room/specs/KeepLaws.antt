@@ -1,0 +1,30 @@
+-- Record writes that keep, of any pack, what a scavenge keeps: what is shown, and the available sectors less the needed ones.
+use Rattle.std.specs.Prelude.{◌≡◌, List, None, Some, [], ◌∷◌, true, ℕ}
+use Rattle.alto_words.specs.Fid.{sys_dir}
+use Rattle.disk_records.specs.Labels.{page_of}
+use Rattle.disk_records.specs.Packs.{Pack, carried, is_free_at, is_usable, sector_at}
+use Rattle.pack_model.specs.Files.{leader}
+use Rattle.pack_model.specs.Links.{dir_words}
+use Rattle.pack_model.specs.Scavenging.{Keeps, RootStands}
+use Rattle.pack_model.specs.Sights.{sights}
+use Rattle.pack_model.specs.Slots.{slots}
+use Rattle.pack_model.specs.Slots.Item.{space}
+use Rattle.laws_record.specs.QuietLaws.{Relation, with_label}
+
+-- Sector 1 has the page that it had, or none, or SysDir's leader: so it may become SysDir's leader afterwards if it might before.
+pub data RootMay (p q : Pack) : Type 0 where
+  as_before : is_usable q.shape 1 (sector_at q 1) ≡ is_usable p.shape 1 (sector_at p 1) → carried q 1 ≡ carried p 1 → RootMay p q
+  made_free : is_free_at q 1 ≡ true → RootMay p q
+  its_leader : carried q 1 ≡ Some (record { fid = sys_dir; number = 0 }) → RootMay p q
+
+-- it keeps what a scavenge keeps, where sector 1 may still become SysDir's leader
+abbrev pub KeepsAside : Relation
+KeepsAside p q = RootMay p q → Keeps p q
+
+-- the same, where the premise on sector 1 is told by the files too: a leader more may make its page count
+abbrev pub KeepsWithRoot : Relation
+KeepsWithRoot p q = (RootStands p.shape (sights p) → RootStands q.shape (sights q)) → Keeps p q
+
+-- the first leader of SysDir, whose slots are one free slot of 255 words
+abbrev pub FreshRoot : Relation → Type 0
+FreshRoot Kept = (p : Pack) (at : ℕ) (label : List ℕ) → is_free_at p at ≡ true → page_of label ≡ Some (record { fid = sys_dir; number = 0 }) → leader (sights p) sys_dir ≡ None → slots (dir_words p sys_dir) ≡ space 255 ∷ [] → Kept p (with_label p at label)

@@ -1,0 +1,7 @@
+pub mod CountLaws
+pub mod EachUses
+pub mod KeepLaws
+pub mod MarkLaws
+pub mod NextLaws
+pub mod RoomLaws
+pub mod UseLaws

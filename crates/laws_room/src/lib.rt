@@ -1,0 +1,17 @@
+//! How many sectors are in use, free and needed, and which packs can be scavenged.
+//!
+//! The laws of counts: which sectors are available, how many a pack needs, and which record writes keep what a scavenge keeps.
+//!
+//! The laws of room: which packs the Scavenger takes, by the model that they are read as; the free sectors of whole packs; and how
+//! many sectors an operation takes into use.
+//!
+//! A law function is public, has an empty body and one clause, the law. Lemmas that other crates cite stand in proofs/, all others
+//! in proofs/inside/, which no other crate can name.
+#![tactic(auto)]
+
+pub mod entering;
+pub mod keeping;
+pub mod marks;
+pub mod numbers;
+pub mod rooms;
+pub mod uses;

@@ -1,3 +1,0 @@
-pub mod Ready
-pub mod LineLaws
-pub mod BehindLaws

@@ -1,4 +1,0 @@
-pub mod DescriptorLinkLaws
-pub mod LinkLaws
-pub mod NameLinkLaws
-pub mod OnceLaws

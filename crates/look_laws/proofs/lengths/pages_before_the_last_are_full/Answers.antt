@@ -1,5 +1,0 @@
-use Rattle.look_laws.proofs.Counted.{full_before_last}
-use Rattle.look_laws.proofs.lengths.pages_before_the_last_are_full.Goals as goal
-
-pub returns : goal.returns
-returns c = full_before_last

@@ -1,5 +1,0 @@
-use Rattle.look_laws.proofs.Borne.{new_serial_names_none}
-use Rattle.look_laws.proofs.places.new_serial_names_no_living_file.Goals as goal
-
-pub returns : goal.returns
-returns c = new_serial_names_none

@@ -1,4 +1,0 @@
-pub mod EntryLaws
-pub mod FreeLaws
-pub mod LengthLaws
-pub mod PlaceLaws

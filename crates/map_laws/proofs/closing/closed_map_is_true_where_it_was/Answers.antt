@@ -1,5 +1,0 @@
-use Rattle.map_laws.proofs.ClosedMaps.{closed_is_true}
-use Rattle.map_laws.proofs.closing.closed_map_is_true_where_it_was.Goals as goal
-
-pub returns : goal.returns
-returns c = closed_is_true

@@ -1,5 +1,0 @@
-use Rattle.map_laws.proofs.Meaning.{no_other}
-use Rattle.map_laws.proofs.meanings.only_free_table_is_complete_and_true.Goals as goal
-
-pub returns : goal.returns
-returns c = no_other

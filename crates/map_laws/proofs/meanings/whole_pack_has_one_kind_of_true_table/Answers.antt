@@ -1,5 +1,0 @@
-use Rattle.map_laws.proofs.Meaning.{one_meaning}
-use Rattle.map_laws.proofs.meanings.whole_pack_has_one_kind_of_true_table.Goals as goal
-
-pub returns : goal.returns
-returns c = one_meaning

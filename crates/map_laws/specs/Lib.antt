@@ -1,4 +1,0 @@
-pub mod MapMeanings
-pub mod MapWords
-pub mod MapChanges
-pub mod MapClosing

@@ -1,5 +1,0 @@
-use Rattle.operation_laws.proofs.OneValue.{put_law}
-use Rattle.operation_laws.proofs.bytes.put_carries_out.Goals as goal
-
-pub returns : goal.returns
-returns c = λ p f offset new at value w t h. put_law p w t f h.file offset new at value h

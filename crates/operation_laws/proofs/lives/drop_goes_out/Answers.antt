@@ -1,5 +1,0 @@
-use Rattle.operation_laws.proofs.Dropped.{go_law}
-use Rattle.operation_laws.proofs.lives.drop_goes_out.Goals as goal
-
-pub returns : goal.returns
-returns c = λ p f at pages w t h. (go_law p w t f at pages h).0

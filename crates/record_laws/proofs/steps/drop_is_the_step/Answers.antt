@@ -1,5 +1,0 @@
-use Rattle.record_laws.proofs.DropSteps.{drop_is_the_step}
-use Rattle.record_laws.proofs.steps.drop_is_the_step.Goals as goal
-
-pub returns : goal.returns
-returns c = drop_is_the_step

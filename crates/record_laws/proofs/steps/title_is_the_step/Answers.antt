@@ -1,5 +1,0 @@
-use Rattle.record_laws.proofs.LeaderSteps.{title_is_the_step}
-use Rattle.record_laws.proofs.steps.title_is_the_step.Goals as goal
-
-pub returns : goal.returns
-returns c = title_is_the_step

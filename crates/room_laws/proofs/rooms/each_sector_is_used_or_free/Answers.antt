@@ -1,5 +1,0 @@
-use Rattle.room_laws.proofs.EachSector.{each_sector}
-use Rattle.room_laws.proofs.rooms.each_sector_is_used_or_free.Goals as goal
-
-pub returns : goal.returns
-returns c = each_sector

@@ -1,3 +1,0 @@
-pub mod EachUses
-pub mod RoomLaws
-pub mod UseLaws

@@ -1,2 +1,0 @@
-pub mod DirectoryWords
-pub mod FileWords
