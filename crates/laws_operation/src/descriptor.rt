@@ -1,9 +1,8 @@
-//! The laws of the record writes of DiskDescriptor: opening the mark, a new serial, and closing.
-//!
-//! Links that were true are true at every cut of the values of DiskDescriptor.
+//! The record writes of DiskDescriptor: opening the mark, a new serial, and closing.
 
 ghost use Rattle.laws_operation.specs.DescriptorLaws.{CloseLaw, OpenLaw, SerialLaw};
 ghost use Rattle.laws_operation.specs.DescriptorLinkLaws.{CloseLinks, OpenLinks, SerialLinks};
+ghost use Rattle.laws_operation.specs.OnceLaws.{CloseOnce, OpenOnce};
 
 /// Opening the mark leaves what is read, a sound pack sound, and a pack that isn't clean.
 pub fn mark_is_opened()
@@ -34,4 +33,14 @@ pub fn serial_keeps_links()
 /// Closing, at every cut.
 pub fn closing_keeps_links()
     ensures { CloseLinks }
+{}
+
+/// Opening the mark.
+pub fn opening_carries_once()
+    ensures { OpenOnce }
+{}
+
+/// Closing.
+pub fn closing_carries_once()
+    ensures { CloseOnce }
 {}

@@ -18,17 +18,18 @@
 //! in proofs/inside/, which no other crate can name.
 #![tactic(auto)]
 
-pub mod bytes;
+pub mod cut;
 pub mod descriptor;
-pub mod directories;
+pub mod drop;
+pub mod enter;
 pub mod entries;
-pub mod files;
-pub mod frees;
-pub mod leaders;
+pub mod grow;
+pub mod leave;
 pub mod lengths;
-pub mod links;
-pub mod lives;
-pub mod names;
-pub mod once;
+pub mod make;
 pub mod places;
-pub mod words;
+pub mod put;
+pub mod stamp;
+pub mod title;
+pub mod values;
+pub mod widen;

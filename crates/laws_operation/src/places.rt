@@ -1,6 +1,12 @@
 //! Which files live, and where their pages are.
 
+ghost use Rattle.laws_operation.specs.OnceLaws.{WholeOnce};
 ghost use Rattle.laws_operation.specs.PlaceLaws.{CarriedInPlace, LivesInAPlace, ModelHasTheLiving, NewSerialNamesNone, NoneAboveLast, NoneCarries, SerialKeepsPlaces, ValuesKeepPlaces};
+
+/// A whole pack carries each page once.
+pub fn whole_pack_carries_once()
+    ensures { WholeOnce }
+{}
 
 /// On any pack a file lives exactly where its leader page has a place.
 pub fn file_lives_in_a_place()

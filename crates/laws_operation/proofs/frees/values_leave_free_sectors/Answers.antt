@@ -1,5 +1,0 @@
-use Rattle.laws_operation.proofs.inside.looks.Freed.{values_leave_free}
-use Rattle.laws_operation.proofs.frees.values_leave_free_sectors.Goals as goal
-
-pub returns : goal.returns
-returns c = values_leave_free

@@ -1,5 +1,0 @@
-use Rattle.laws_operation.proofs.inside.links.Cutting.{cut_links}
-use Rattle.laws_operation.proofs.links.cut_keeps_links.Goals as goal
-
-pub returns : goal.returns
-returns c = cut_links

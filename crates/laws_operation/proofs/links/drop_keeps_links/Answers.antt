@@ -1,5 +1,0 @@
-use Rattle.laws_operation.proofs.inside.links.Dropping.{go_links}
-use Rattle.laws_operation.proofs.links.drop_keeps_links.Goals as goal
-
-pub returns : goal.returns
-returns c = go_links

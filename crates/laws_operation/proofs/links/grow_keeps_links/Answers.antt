@@ -1,5 +1,0 @@
-use Rattle.laws_operation.proofs.inside.links.FileGrowth.{grow_links}
-use Rattle.laws_operation.proofs.links.grow_keeps_links.Goals as goal
-
-pub returns : goal.returns
-returns c = grow_links

@@ -1,5 +1,0 @@
-use Rattle.laws_operation.proofs.inside.links.Making.{make_links}
-use Rattle.laws_operation.proofs.links.make_keeps_links.Goals as goal
-
-pub returns : goal.returns
-returns c = make_links

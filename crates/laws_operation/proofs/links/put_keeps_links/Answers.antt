@@ -1,5 +1,0 @@
-use Rattle.laws_operation.proofs.inside.links.FileValues.{put_links}
-use Rattle.laws_operation.proofs.links.put_keeps_links.Goals as goal
-
-pub returns : goal.returns
-returns c = put_links

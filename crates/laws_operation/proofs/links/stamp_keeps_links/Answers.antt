@@ -1,5 +1,0 @@
-use Rattle.laws_operation.proofs.inside.links.FileValues.{stamp_links}
-use Rattle.laws_operation.proofs.links.stamp_keeps_links.Goals as goal
-
-pub returns : goal.returns
-returns c = stamp_links

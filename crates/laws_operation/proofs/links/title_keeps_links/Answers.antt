@@ -1,5 +1,0 @@
-use Rattle.laws_operation.proofs.inside.links.FileValues.{title_links}
-use Rattle.laws_operation.proofs.links.title_keeps_links.Goals as goal
-
-pub returns : goal.returns
-returns c = title_links

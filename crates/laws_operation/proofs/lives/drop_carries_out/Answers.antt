@@ -1,5 +1,0 @@
-use Rattle.laws_operation.proofs.DropLaw.{drop_law}
-use Rattle.laws_operation.proofs.lives.drop_carries_out.Goals as goal
-
-pub returns : goal.returns
-returns c = drop_law

@@ -1,0 +1,5 @@
+use Rattle.laws_operation.proofs.inside.links.OnceOthers.{make_once}
+use Rattle.laws_operation.proofs.make.make_carries_once.Goals as goal
+
+pub returns : goal.returns
+returns c = make_once

@@ -1,5 +1,0 @@
-use Rattle.laws_operation.proofs.EnterMoves.{enter_law}
-use Rattle.laws_operation.proofs.names.enter_carries_out.Goals as goal
-
-pub returns : goal.returns
-returns c = enter_law

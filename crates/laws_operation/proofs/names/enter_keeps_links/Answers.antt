@@ -1,5 +1,0 @@
-use Rattle.laws_operation.proofs.inside.links.Entering.{enter_links}
-use Rattle.laws_operation.proofs.names.enter_keeps_links.Goals as goal
-
-pub returns : goal.returns
-returns c = enter_links

@@ -1,5 +1,0 @@
-use Rattle.laws_operation.proofs.inside.links.DirValues.{leave_links}
-use Rattle.laws_operation.proofs.names.leave_keeps_links.Goals as goal
-
-pub returns : goal.returns
-returns c = leave_links

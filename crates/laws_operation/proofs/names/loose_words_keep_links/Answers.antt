@@ -1,5 +1,0 @@
-use Rattle.laws_operation.proofs.inside.links.DirValues.{loose_links}
-use Rattle.laws_operation.proofs.names.loose_words_keep_links.Goals as goal
-
-pub returns : goal.returns
-returns c = loose_links

@@ -1,5 +1,0 @@
-use Rattle.laws_operation.proofs.inside.links.Widening.{widen_links}
-use Rattle.laws_operation.proofs.names.widen_keeps_links.Goals as goal
-
-pub returns : goal.returns
-returns c = widen_links

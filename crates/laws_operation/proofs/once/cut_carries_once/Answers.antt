@@ -1,5 +1,0 @@
-use Rattle.laws_operation.proofs.inside.links.OnceOthers.{cut_once}
-use Rattle.laws_operation.proofs.once.cut_carries_once.Goals as goal
-
-pub returns : goal.returns
-returns c = cut_once

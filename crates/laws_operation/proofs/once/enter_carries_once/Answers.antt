@@ -1,5 +1,0 @@
-use Rattle.laws_operation.proofs.inside.links.OnceOthers.{enter_once}
-use Rattle.laws_operation.proofs.once.enter_carries_once.Goals as goal
-
-pub returns : goal.returns
-returns c = enter_once

@@ -1,5 +1,0 @@
-use Rattle.laws_operation.proofs.inside.links.OnceGrowing.{grow_once}
-use Rattle.laws_operation.proofs.once.grow_carries_once.Goals as goal
-
-pub returns : goal.returns
-returns c = grow_once

@@ -1,5 +1,0 @@
-use Rattle.laws_operation.proofs.inside.links.OnceOthers.{make_once}
-use Rattle.laws_operation.proofs.once.make_carries_once.Goals as goal
-
-pub returns : goal.returns
-returns c = make_once

@@ -1,5 +1,0 @@
-use Rattle.laws_operation.proofs.inside.links.OnceOthers.{values_once}
-use Rattle.laws_operation.proofs.once.values_carry_once.Goals as goal
-
-pub returns : goal.returns
-returns c = values_once

@@ -1,5 +1,0 @@
-use Rattle.laws_operation.proofs.inside.links.OnceOthers.{whole_pack_once}
-use Rattle.laws_operation.proofs.once.whole_pack_carries_once.Goals as goal
-
-pub returns : goal.returns
-returns c = whole_pack_once

@@ -1,5 +1,0 @@
-use Rattle.laws_operation.proofs.inside.links.OnceGrowing.{widen_once}
-use Rattle.laws_operation.proofs.once.widen_carries_once.Goals as goal
-
-pub returns : goal.returns
-returns c = widen_once
