@@ -1,28 +1,28 @@
 -- The bytes of a patch, put into one page.
-use Rattle.std.proofs.Common.{◌≡◌, ◌≢◌, ℕ, suc, ◌+◌, ◌/◌, ◌%◌, ◌<◌, ◌≤◌, List, [], ◌∷◌, length, Some, Result, Ok, Err, OnOk, IfOk, Bool, true, false, refl, sym, ◌∙◌, subst, arith, eqb-true}
+use Rattle.std.proofs.Common.{Bool, Err, IfOk, List, Ok, OnOk, Result, Some, [], arith, eqb-true, false, length, refl, subst, suc, sym, true, ℕ, ◌%◌, ◌+◌, ◌/◌, ◌<◌, ◌∙◌, ◌∷◌, ◌≡◌, ◌≢◌, ◌≤◌}
 use Rattle.std.specs.Prelude.{All, MatchBool, get_or}
 use Rattle.alto_words.specs.declared.fid.Fid.{Fid}
 use Rattle.disk_records.specs.declared.records.Event.{Event}
 use Rattle.disk_records.specs.Packs.{Pack, carried}
 use Rattle.disk_records.specs.Events.{IsFirstOf}
 use Rattle.disk_records.specs.Commands.{value_writes}
-use Rattle.disk_records.specs.Tapes.{Taped, pack, added}
+use Rattle.disk_records.specs.Tapes.{Taped, added, pack}
 use Rattle.pack_model.specs.Sights.{sights}
 use Rattle.pack_model.specs.Sights.Sight.{hidden}
-use Rattle.pack_model.specs.Files.{carries_page, place, file_bytes}
+use Rattle.pack_model.specs.Files.{carries_page, file_bytes, place}
 use Rattle.pack_model.specs.Moves.{Does}
 use Rattle.pack_model.specs.Puts.{Put, WritesValue, putting}
 use Rattle.pack_laws.specs.PutLaws.{StaysWithin}
 use Rattle.pack_laws.proofs.Carrying.{carried_shown}
 use Rattle.pack_laws.proofs.Moving.{does_first, stands_last}
 use Rattle.pack_laws.proofs.Placing.{place_is}
-use Rattle.pack_laws.proofs.Putting.{value_obeys}
+use Rattle.pack_laws.proofs.Putting.{value_write_is_the_put}
 use Rattle.pack_laws.proofs.Sighted.{length-sights}
 use Rattle.alto_top.specs.declared.patch.Patch.{Patch}
 use Rattle.alto_top.specs.declared.status.Fault.{Fault}
 use Rattle.label_check.specs.Guarded.{Carries}
 use Rattle.alto_top.specs.Patches.{lie_in_one_page, put_of}
-use Rattle.alto_top.specs.Putting.{value_with, PutDone}
+use Rattle.alto_top.specs.Putting.{PutDone, value_with}
 
 pub one_page_fits : (offset : ℕ) (bytes : List ℕ) → bytes ≢ [] → lie_in_one_page offset bytes ≡ true → offset % 512 + length bytes ≤ 512
 one_page_fits offset [] some one = absurd (some refl)
@@ -50,7 +50,7 @@ module _ (p : Pack) (f : Fid) (offset : ℕ) (bytes : List ℕ) (some : bytes �
           let put : Put = record { fid = f; offset = offset; bytes = bytes } in
           let stays : StaysWithin p put = record { some = some_bytes bytes some; are_bytes = are_bytes; page = in_page; file = fits } in
           let writes : WritesValue p at 2 (value_with p at (offset % 512) bytes) put = record { value_alone = refl; bears = subst (λ n. place (sights p) f n ≡ Some at) number bears; value = refl } in
-          let obeys = value_obeys p at 2 (value_with p at (offset % 512) bytes) put stays writes in
+          let obeys = value_write_is_the_put p at 2 (value_with p at (offset % 512) bytes) put stays writes in
           does_first putting events result obeys (stands_last putting obeys) some_first ok
 
 module _ (old new : Taped) (patch : Patch) (f : Fid) (at : ℕ) (b : List ℕ) (same : b ≡ patch.bytes) (some : patch.bytes ≢ []) (fits : patch.offset + length patch.bytes ≤ length (file_bytes (sights (pack old)) f)) (bears : place (sights (pack old)) f (suc (patch.offset / 512)) ≡ Some at) where

@@ -1,5 +1,5 @@
 -- Closing with the true map leaves all hints true.
-use Rattle.std.specs.Prelude.{◌≡◌, ◌≢◌, Bool, List, [], ℕ}
+use Rattle.std.specs.Prelude.{Bool, List, [], ℕ, ◌≡◌, ◌≢◌}
 use Rattle.disk_records.specs.Packs.{Pack, after}
 use Rattle.disk_records.specs.declared.records.Event.{Event}
 use Rattle.pack_model.specs.Descriptor.{close_writes}
@@ -22,9 +22,9 @@ pub record ClosedTrue (p q : Pack) : Type 0 where
   pub sound : Sound p → Sound q
 
 -- so it is with the true map, where links are true and the mark isn't clean
-abbrev pub ClosesTrue : Type 0
-ClosesTrue = (p : Pack) (busy : List Bool) (pages : List ℕ) → Whole p → Tidy p → MayClose p pages → mark_of (sights p) ≢ mark_clean → LinksTrue p → TableTrue p busy → ClosedTrue p (after p (closing_writes p busy pages))
+abbrev pub ClosingLeavesHintsTrue : Type 0
+ClosingLeavesHintsTrue = (p : Pack) (busy : List Bool) (pages : List ℕ) → Whole p → Tidy p → MayClose p pages → mark_of (sights p) ≢ mark_clean → LinksTrue p → TableTrue p busy → ClosedTrue p (after p (closing_writes p busy pages))
 
 -- where it is, nothing is written
-abbrev pub CleanIsLeft : Type 0
-CleanIsLeft = (p : Pack) (busy : List Bool) (pages : List ℕ) → mark_of (sights p) ≡ mark_clean → closing_writes p busy pages ≡ []
+abbrev pub ClosingLeavesACleanPack : Type 0
+ClosingLeavesACleanPack = (p : Pack) (busy : List Bool) (pages : List ℕ) → mark_of (sights p) ≡ mark_clean → closing_writes p busy pages ≡ []

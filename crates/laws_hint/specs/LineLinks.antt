@@ -1,5 +1,5 @@
 -- The links of a line as a whole, and of a line and the closing behind it.
-use Rattle.std.specs.Prelude.{◌≡◌, ◌++◌, Bool, List, Some, ℕ}
+use Rattle.std.specs.Prelude.{Bool, List, Some, ℕ, ◌++◌, ◌≡◌}
 use Rattle.alto_words.specs.Fid.{disk_descriptor}
 use Rattle.disk_records.specs.Packs.{Pack, after, sector_at}
 use Rattle.disk_records.specs.declared.records.Event.{Event}
@@ -42,6 +42,6 @@ OpenedLineKeepsLinks = (p : Pack) (at : ℕ) (events : List Event) (ops : List O
     → EachKeepsLinks line → KeepsLinks p (opening_writes p at ++ events)
 
 -- where links were true before both, closing the pack behind them with its true map leaves all hints true
-abbrev pub LineClosesTrue : Type 0
-LineClosesTrue = (p : Pack) (at : ℕ) (events : List Event) (ops : List Operation) (line : Line (after p (opening_writes p at)) events ops) (busy : List Bool) (pages : List ℕ) → let q : Pack = after p (opening_writes p at ++ events) in
+abbrev pub LineClosesWithTrueHints : Type 0
+LineClosesWithTrueHints = (p : Pack) (at : ℕ) (events : List Event) (ops : List Operation) (line : Line (after p (opening_writes p at)) events ops) (busy : List Bool) (pages : List ℕ) → let q : Pack = after p (opening_writes p at ++ events) in
     Whole p → Tidy p → place (sights p) disk_descriptor 1 ≡ Some at → EachKeepsLinks line → LinksTrue p → MayClose q pages → TableTrue q busy → ClosedTrue q (after q (closing_writes q busy pages))

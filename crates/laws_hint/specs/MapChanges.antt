@@ -1,7 +1,7 @@
 -- Which bits of a map change. On a whole and tidy pack an operation changes none of the true map but those of the sectors that it claims
 -- and releases; on any pack a claim, a release and a value change none of the map of the free sectors but that of their own sector.
 use Rattle.std.specs.List.{list_any}
-use Rattle.std.specs.Prelude.{◌<◌, ◌==◌, ◌≡◌, ◌≤◌, Bool, List, Some, [], cond, false, length, set, true, ℕ, ◌∷◌}
+use Rattle.std.specs.Prelude.{Bool, List, Some, [], cond, false, length, set, true, ℕ, ◌<◌, ◌==◌, ◌∷◌, ◌≡◌, ◌≤◌}
 use Rattle.alto_words.specs.Fid.{disk_descriptor}
 use Rattle.alto_words.specs.declared.fid.Fid.{Fid}
 use Rattle.disk_records.specs.Commands.{claim_writes, release_writes, value_writes}
@@ -37,8 +37,8 @@ marked busy [] table = table
 marked busy (at ∷ ats) table = marked busy ats (set table at busy)
 
 -- each bit of a marked table is what it is set to, where its sector is among these, and else what it was
-abbrev pub MarkedBits : Type 0
-MarkedBits = (busy : Bool) (ats : List ℕ) (table : List Bool) (at : ℕ) → at < length table → busy_at (marked busy ats table) at ≡ cond (list_any (λ i. at == i) ats) busy (busy_at table at)
+abbrev pub MarkingSetsListedBitsAlone : Type 0
+MarkingSetsListedBitsAlone = (busy : Bool) (ats : List ℕ) (table : List Bool) (at : ℕ) → at < length table → busy_at (marked busy ats table) at ≡ cond (list_any (λ i. at == i) ats) busy (busy_at table at)
 
 -- the true map behind these record writes is the one before them, with the claimed sectors busy and the released ones free
 abbrev pub MarksMap : Pack → List Event → List ℕ → List ℕ → Type 0
@@ -56,8 +56,8 @@ pub record SectorMarks (p : Pack) (at : ℕ) : Type 0 where
   pub releases : is_usable p.shape at (sector_at p at) ≡ true → free_table (after p (release_writes at)) ≡ marked false (at ∷ []) (free_table p)
   pub values : (value : List ℕ) → free_table (after p (value_writes at value)) ≡ free_table p
 
-abbrev pub SectorMarksLaw : Type 0
-SectorMarksLaw = (p : Pack) (at : ℕ) → SectorMarks p at
+abbrev pub ClaimsAndReleasesMarkFreeTable : Type 0
+ClaimsAndReleasesMarkFreeTable = (p : Pack) (at : ℕ) → SectorMarks p at
 
 -- ---- operations on whole and tidy packs
 -- The operations that claim sectors: a make, a growth and a widening.
@@ -66,8 +66,8 @@ pub record ClaimsMark (p : Pack) : Type 0 where
   pub grows : (f : Fid) (new : List ℕ) (claims : List Claim) (at : ℕ) (label value : List ℕ) → MayGrow p f new claims at label value → MarksMap p (grow_writes claims at label value) (sectors_of (all_claimed claims)) []
   pub widens : (d : Fid) (added : List ℕ) (claims : List Claim) (at : ℕ) (label value : List ℕ) → MayWiden p d added claims at label value → MarksMap p (grow_writes claims at label value) (sectors_of (all_claimed claims)) []
 
-abbrev pub ClaimsMarkLaw : Type 0
-ClaimsMarkLaw = (p : Pack) → Whole p → Tidy p → ClaimsMark p
+abbrev pub ClaimsMarkTheMap : Type 0
+ClaimsMarkTheMap = (p : Pack) → Whole p → Tidy p → ClaimsMark p
 
 -- The operations that release sectors: a cut, and a drop, without its entry's slot and with it.
 pub record ReleasesMark (p : Pack) : Type 0 where
@@ -76,8 +76,8 @@ pub record ReleasesMark (p : Pack) : Type 0 where
   pub drops : (f : Fid) (at : ℕ) (pages : List ℕ) (d : Fid) (slot_at : ℕ) (a b : List Item) (own : List ℕ) → MayDrop p f at pages → Frees p d slot_at a (entry f own ∷ []) b
       → MarksMap p (drop_writes at pages slot_at (freed_value (all_words a) (item_words (entry f own)) (sector_at p slot_at).value)) [] (at ∷ pages)
 
-abbrev pub ReleasesMarkLaw : Type 0
-ReleasesMarkLaw = (p : Pack) → Whole p → Tidy p → ReleasesMark p
+abbrev pub ReleasesMarkTheMap : Type 0
+ReleasesMarkTheMap = (p : Pack) → Whole p → Tidy p → ReleasesMark p
 
 -- The operations that write values alone.
 pub record ValuesLeave (p : Pack) : Type 0 where
@@ -89,8 +89,8 @@ pub record ValuesLeave (p : Pack) : Type 0 where
   pub enters : (d : Fid) (name : List ℕ) (f : Fid) (a old b : List Item) (left : ℕ) (words : List ℕ) (at next_at : ℕ) → MayEnterAt p d name f a old b left words at next_at
       → LeavesMap p (enter_writes (values_first p (entry_room a old at next_at) words) at (entry_value p (entry_room a old at next_at) words))
 
-abbrev pub ValuesLeaveLaw : Type 0
-ValuesLeaveLaw = (p : Pack) → Whole p → Tidy p → ValuesLeave p
+abbrev pub ValuesLeaveTheMap : Type 0
+ValuesLeaveTheMap = (p : Pack) → Whole p → Tidy p → ValuesLeave p
 
 -- ---- DiskDescriptor's own words
 -- The opening of the mark, a new serial, and closing with any map.
@@ -99,5 +99,5 @@ pub record DescriptorLeaves (p : Pack) : Type 0 where
   pub serials : (at last : ℕ) → place (sights p) disk_descriptor 1 ≡ Some at → (read_pack p).last ≤ last → LeavesMap p (serial_writes at last (sector_at p at).value)
   pub closes : (busy : List Bool) (pages : List ℕ) → MayClose p pages → LeavesMap p (close_writes (mark_of (sights p)) p.shape (read_pack p).last busy pages)
 
-abbrev pub DescriptorLeavesLaw : Type 0
-DescriptorLeavesLaw = (p : Pack) → Whole p → Tidy p → DescriptorLeaves p
+abbrev pub DescriptorWritesLeaveTheMap : Type 0
+DescriptorWritesLeaveTheMap = (p : Pack) → Whole p → Tidy p → DescriptorLeaves p

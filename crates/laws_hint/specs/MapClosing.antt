@@ -1,5 +1,5 @@
 -- Closing with any map: what DiskDescriptor says behind it.
-use Rattle.std.specs.Prelude.{◌↔◌, ◌≡◌, ◌≢◌, Bool, List, length, not, ℕ}
+use Rattle.std.specs.Prelude.{Bool, List, length, not, ℕ, ◌↔◌, ◌≡◌, ◌≢◌}
 use Rattle.disk_records.specs.Addresses.{pages_of, table_words}
 use Rattle.disk_records.specs.Packs.{Pack, after}
 use Rattle.pack_model.specs.Descriptor.{descriptor_text}
@@ -21,16 +21,16 @@ pub record Describes (p q : Pack) (busy : List Bool) : Type 0 where
   pub free : described_free q ≡ how_many not busy
 
 -- closing a whole and tidy pack whose mark isn't clean, with any map, leaves a DiskDescriptor with this map's words
-abbrev pub ClosesWithAny : Type 0
-ClosesWithAny = (p : Pack) (busy : List Bool) (pages : List ℕ) → Whole p → Tidy p → MayClose p pages → mark_of (sights p) ≢ mark_clean → Describes p (after p (closing_writes p busy pages)) busy
+abbrev pub ClosingDescribesItsMap : Type 0
+ClosingDescribesItsMap = (p : Pack) (busy : List Bool) (pages : List ℕ) → Whole p → Tidy p → MayClose p pages → mark_of (sights p) ≢ mark_clean → Describes p (after p (closing_writes p busy pages)) busy
 
 -- closing a whole and tidy pack whose mark isn't clean, with a map that has a bit for each sector, leaves a DiskDescriptor that says this map
-abbrev pub ClosedIsDescribed : Type 0
-ClosedIsDescribed = (p : Pack) (busy : List Bool) (pages : List ℕ) → Whole p → Tidy p → MayClose p pages → mark_of (sights p) ≢ mark_clean → length busy ≡ pages_of p.shape
+abbrev pub ClosedMapIsReadBack : Type 0
+ClosedMapIsReadBack = (p : Pack) (busy : List Bool) (pages : List ℕ) → Whole p → Tidy p → MayClose p pages → mark_of (sights p) ≢ mark_clean → length busy ≡ pages_of p.shape
     → described_table (after p (closing_writes p busy pages)) ≡ busy
 
 -- behind closing a whole and tidy pack whose mark isn't clean and that has a sector for each address, with a map that has a bit for each
 -- sector, the words of DiskDescriptor's map are true exactly where that map was the true one before
-abbrev pub ClosedIsTrue : Type 0
-ClosedIsTrue = (p : Pack) (busy : List Bool) (pages : List ℕ) → Whole p → Tidy p → MayClose p pages → mark_of (sights p) ≢ mark_clean → HasEachSector p → length busy ≡ pages_of p.shape
+abbrev pub ClosedMapIsTrueWhereItWas : Type 0
+ClosedMapIsTrueWhereItWas = (p : Pack) (busy : List Bool) (pages : List ℕ) → Whole p → Tidy p → MayClose p pages → mark_of (sights p) ≢ mark_clean → HasEachSector p → length busy ≡ pages_of p.shape
     → WordsTrue (after p (closing_writes p busy pages)) ↔ TableTrue p busy

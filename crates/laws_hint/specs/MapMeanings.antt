@@ -1,5 +1,5 @@
 -- What it is for a table of busy bits to be true, in page_alloc's term and in pack_model's.
-use Rattle.std.specs.Prelude.{◌↔◌, ◌≡◌, Bool, List, false, length, ℕ}
+use Rattle.std.specs.Prelude.{Bool, List, false, length, ℕ, ◌↔◌, ◌≡◌}
 use Rattle.disk_records.specs.Addresses.{pages_of}
 use Rattle.disk_records.specs.Packs.{Pack}
 use Rattle.hint_cache.specs.Bits.{busy_at}
@@ -17,17 +17,17 @@ FreeTableIsTrue = (p : Pack) → IsTrueTable p (free_table p)
 
 -- on a pack with a sector for each address, a table with a bit for each sector is true in page_alloc's term exactly where it is the map of
 -- the free sectors
-abbrev pub NoOtherIsTrue : Type 0
-NoOtherIsTrue = (p : Pack) (bits : List Bool) → HasEachSector p → length bits ≡ pages_of p.shape → IsTrueTable p bits ↔ (bits ≡ free_table p)
+abbrev pub OnlyFreeTableIsCompleteAndTrue : Type 0
+OnlyFreeTableIsCompleteAndTrue = (p : Pack) (bits : List Bool) → HasEachSector p → length bits ≡ pages_of p.shape → IsTrueTable p bits ↔ (bits ≡ free_table p)
 
 -- on any pack what is free in the map of the free sectors is free in the true map too, which may have more free bits
-abbrev pub FreeIsAvailable : Type 0
-FreeIsAvailable = (p : Pack) (at : ℕ) → busy_at (free_table p) at ≡ false → busy_at (true_table p) at ≡ false
+abbrev pub FreeSectorsAreAvailable : Type 0
+FreeSectorsAreAvailable = (p : Pack) (at : ℕ) → busy_at (free_table p) at ≡ false → busy_at (true_table p) at ≡ false
 
 -- on a whole pack the true map is the map of the free sectors
-abbrev pub TrueIsFree : Type 0
-TrueIsFree = (p : Pack) → Whole p → true_table p ≡ free_table p
+abbrev pub TrueTableIsFreeTable : Type 0
+TrueTableIsFreeTable = (p : Pack) → Whole p → true_table p ≡ free_table p
 
 -- on a whole pack with a sector for each address, a table with a bit for each sector is true in one term exactly where it is in the other
-abbrev pub OneMeaning : Type 0
-OneMeaning = (p : Pack) (bits : List Bool) → Whole p → HasEachSector p → length bits ≡ pages_of p.shape → IsTrueTable p bits ↔ TableTrue p bits
+abbrev pub WholePackHasOneKindOfTrueTable : Type 0
+WholePackHasOneKindOfTrueTable = (p : Pack) (bits : List Bool) → Whole p → HasEachSector p → length bits ≡ pages_of p.shape → IsTrueTable p bits ↔ TableTrue p bits

@@ -1,6 +1,6 @@
 //! The links of a line as a whole, and of a line and the closing behind it.
 
-ghost use Rattle.laws_hint.specs.LineLinks.{LineClosesTrue, LineKeepsLinks, LinksJoin, OpenedLineKeepsLinks};
+ghost use Rattle.laws_hint.specs.LineLinks.{LineClosesWithTrueHints, LineKeepsLinks, LinksJoin, OpenedLineKeepsLinks};
 
 /// From a whole and tidy pack, a line leaves true links true where each of its operations does.
 pub fn line_keeps_links()
@@ -20,5 +20,5 @@ pub fn opened_line_keeps_links()
 /// Closing with the true map, behind the opening of the mark and a line whose operations each leave true links true, leaves all hints
 /// true where the links were at the start.
 pub fn line_closes_with_true_hints()
-    ensures { LineClosesTrue }
+    ensures { LineClosesWithTrueHints }
 {}

@@ -1,5 +1,5 @@
 -- Each cut of a line can be scavenged, and its record writes make its moves.
-use Rattle.std.proofs.Common.{◌++◌, ◌∙◌, ◌∷◌, ◌≡◌, Bool, List, [], ap, append_assoc, arith, cond, eqb-true, false, refl, subst, sym, true, ℕ}
+use Rattle.std.proofs.Common.{Bool, List, [], ap, append_assoc, arith, cond, eqb-true, false, refl, subst, sym, true, ℕ, ◌++◌, ◌∙◌, ◌∷◌, ◌≡◌}
 use Rattle.std.specs.Prelude.{◌==◌}
 use Rattle.disk_records.proofs.Growing.{after-append}
 use Rattle.disk_records.specs.Commands.{value_writes}
@@ -8,7 +8,7 @@ use Rattle.disk_records.specs.declared.records.Event.{Event}
 use Rattle.disk_records.specs.declared.records.Event.TheVariants.{Wrote}
 use Rattle.pack_model.specs.Committing.{moves_of, moves_of_all}
 use Rattle.pack_model.specs.Descriptor.{opened_value, serial_writes}
-use Rattle.pack_model.specs.Meanings.{Views, Mendable, reading, viewing}
+use Rattle.pack_model.specs.Meanings.{Mendable, Views, reading, viewing}
 use Rattle.pack_model.specs.Model.{Model, read_pack}
 use Rattle.pack_model.specs.Moves.{Obeys, rest, steps, write}
 use Rattle.pack_model.specs.Operations.Move.{quiet}
@@ -23,15 +23,15 @@ use Rattle.pack_model.specs.Whole.{Tidy, Whole}
 use Rattle.pack_laws.proofs.Moving.{obeys_then, stands_last}
 use Rattle.laws_line.specs.Ready.{Ready, ReadyThroughout, steps_of}
 use Rattle.laws_operation.proofs.EnterStages.{views_of}
-use Rattle.laws_operation.proofs.OpeningMark.{open_law, serial_law}
+use Rattle.laws_operation.proofs.OpeningMark.{open_carries_out, serial_carries_out}
 use Rattle.laws_operation.specs.DescriptorLaws.{Opens}
 use Rattle.laws_room.proofs.SoundPacks.{sound_needs_nothing}
 use Rattle.laws_line.proofs.inside.crashes.Cutting.{mendable_still}
-use Rattle.laws_line.proofs.Marked.{open_unmarked, opened_unmarked, serial_unmarked}
+use Rattle.laws_line.proofs.Marked.{open_pack_is_unmarked, opened_unmarked, serial_unmarked}
 use Rattle.laws_line.proofs.inside.crashes.OneCommit.{moves_step}
-use Rattle.laws_line.proofs.inside.crashes.Parting.{of_both_parts}
+use Rattle.laws_line.proofs.inside.crashes.Parting.{crashes_of_both_parts}
 use Rattle.laws_line.proofs.inside.crashes.Still.{still_self}
-use Rattle.laws_line.specs.CutLaws.{Line, LineLaw, LineStays, LinesJoin, UnmarkedLineLaw, does, makes, over, with_serial}
+use Rattle.laws_line.specs.CutLaws.{CrashesOfALine, CrashesOfAnUnmarkedLine, Line, LineStays, LinesJoin, does, makes, over, with_serial}
 use Rattle.laws_line.proofs.inside.SettledAgain.{first_ready}
 
 -- ---- the last serial aside
@@ -68,7 +68,7 @@ leaves (does {p = p} {events = events} {later = later} {o = o} {ops = ops} other
     let next : Obeys viewing (steps viewing m (moves_of m o)) q later (moves_of_all (step m o) ops) = subst (λ x. Obeys viewing x q later (moves_of_all (step m o) ops)) (sym (moves_step Views m o)) (later_obeys q (step m o) later ops s.reads h.obeys) in
     record {
       obeys = subst (λ first. Obeys viewing m p (events ++ later) ((first ++ moves_of m o) ++ moves_of_all (step m o) ops)) (sym other) (obeys_then viewing s.obeys next);
-      cuts = λ ready. of_both_parts Mendable p events later (s.cuts unmarked ready.0 (first_ready (step m o) ops ready.1)) (h.cuts (subst (λ x. ReadyThroughout x ops) (sym s.reads) ready.1));
+      cuts = λ ready. crashes_of_both_parts Mendable p events later (s.cuts unmarked ready.0 (first_ready (step m o) ops ready.1)) (h.cuts (subst (λ x. ReadyThroughout x ops) (sym s.reads) ready.1));
       unmarked = subst Unmarked (sym both) h.unmarked;
       whole = subst Whole (sym both) h.whole;
       tidy = subst Tidy (sym both) h.tidy;
@@ -79,7 +79,7 @@ leaves (makes {p = p} {at = at} {last = last} {events = events} {later = later} 
     let o : Operation = make f name moment in
     let q : Pack = with_serial p at last in
     let r : Pack = after q events in
-    let g = serial_law p at last w t placed more in
+    let g = serial_carries_out p at last w t placed more in
     let still : Unmarked q = serial_unmarked p at last unmarked placed in
     let h = leaves line s.whole s.tidy (s.unmarked still) in
     let both : after q (events ++ later) ≡ after r later = after-append q events later in
@@ -90,7 +90,7 @@ leaves (makes {p = p} {at = at} {last = last} {events = events} {later = later} 
       obeys = obeys_then viewing g.obeys (obeys_then viewing made (later_obeys r (step m o) later ops reads h.obeys));
       cuts = λ ready. (
         mendable_now p w unmarked ready.0,
-        of_both_parts Mendable q events later
+        crashes_of_both_parts Mendable q events later
             (s.cuts still (subst Ready (sym g.reads) (ready_last m last ready.0)) (subst Ready (sym same) (first_ready (step m o) ops ready.1)))
             (h.cuts (subst (λ x. ReadyThroughout x ops) (sym reads) ready.1)),
       );
@@ -113,16 +113,16 @@ join b more (makes {p = p} {at = at} {last = last} {events = events} {later = la
 pub lines_join : LinesJoin
 lines_join p a b ops more line next = join b more line next
 
-pub unmarked_line_law : UnmarkedLineLaw
-unmarked_line_law p events ops w t unmarked line = leaves line w t unmarked
+pub crashes_of_an_unmarked_line : CrashesOfAnUnmarkedLine
+crashes_of_an_unmarked_line p events ops w t unmarked line = leaves line w t unmarked
 
-pub line_law : LineLaw
-line_law p at events [] sound placed some line = absurd (omega arith)
-line_law p at events (o ∷ ops) sound placed some line = by (mark_of (sights p) == mark_open) refl (open_law p at o ops sound.whole sound.tidy placed) line
+pub crashes_of_a_line : CrashesOfALine
+crashes_of_a_line p at events [] sound placed some line = absurd (omega arith)
+crashes_of_a_line p at events (o ∷ ops) sound placed some line = by (mark_of (sights p) == mark_open) refl (open_carries_out p at o ops sound.whole sound.tidy placed) line
   where
     by : (c : Bool) → (mark_of (sights p) == mark_open) ≡ c → Opens p (cond c [] (value_writes at (opened_value (sector_at p at).value))) (cond c [] (quiet ∷ [])) → Line (after p (cond c [] (value_writes at (opened_value (sector_at p at).value)))) events (o ∷ ops)
         → LineStays p (cond c [] (value_writes at (opened_value (sector_at p at).value)) ++ events) (o ∷ ops) (cond c [] (quiet ∷ []) ++ moves_of_all (read_pack p) (o ∷ ops))
-    by true e opens line = leaves line sound.whole sound.tidy (open_unmarked p sound.whole (eqb-true (mark_of (sights p)) mark_open e))
+    by true e opens line = leaves line sound.whole sound.tidy (open_pack_is_unmarked p sound.whole (eqb-true (mark_of (sights p)) mark_open e))
     by false e opens line =
         let q : Pack = after p (value_writes at (opened_value (sector_at p at).value)) in
         let h = leaves line opens.keeps.whole opens.keeps.tidy (opened_unmarked p at placed) in

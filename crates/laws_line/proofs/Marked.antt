@@ -1,5 +1,5 @@
 -- Packs without the clean mark: where it is open, where it is opened, and where a new serial is written.
-use Rattle.std.proofs.Common.{◌%◌, ◌++◌, ◌/◌, ◌<◌, ◌∙◌, ◌∷◌, ◌≡◌, ◌⊎◌, List, Some, [], ap, arith, drop, get_or, inl, inr, length, refl, suc, sym, take, zero, ℕ}
+use Rattle.std.proofs.Common.{List, Some, [], ap, arith, drop, get_or, inl, inr, length, refl, suc, sym, take, zero, ℕ, ◌%◌, ◌++◌, ◌/◌, ◌<◌, ◌∙◌, ◌∷◌, ◌≡◌, ◌⊎◌}
 use Rattle.std.proofs.lemmas.List.{set-get_or}
 use Rattle.alto_words.specs.Fid.{disk_descriptor}
 use Rattle.disk_records.specs.Commands.{value_writes}
@@ -13,7 +13,7 @@ use Rattle.pack_model.specs.Scavenging.{Unmarked}
 use Rattle.pack_model.specs.Sights.{sights}
 use Rattle.pack_model.specs.Sound.{mark_clean, mark_of, mark_open}
 use Rattle.pack_model.specs.Whole.{Whole}
-use Rattle.laws_room.proofs.Marking.{mark_is_opened}
+use Rattle.laws_room.proofs.Marking.{opened_is_unmarked}
 use Rattle.laws_room.specs.MarkLaws.{OtherMark}
 use Rattle.laws_record.proofs.Slotwise.{put_here}
 use Rattle.laws_operation.proofs.FirstWords.{words_written}
@@ -51,8 +51,8 @@ opened_mark v e = elim (put_word 6 mark_open v) [
 ]
 
 -- where the mark is open, the pack is unmarked
-pub open_unmarked : (p : Pack) → Whole p → mark_of (sights p) ≡ mark_open → Unmarked p
-open_unmarked p w opened at placed clean =
+pub open_pack_is_unmarked : (p : Pack) → Whole p → mark_of (sights p) ≡ mark_open → Unmarked p
+open_pack_is_unmarked p w opened at placed clean =
     let v : List ℕ = (sector_at p at).value in
     let new : List ℕ = mark_clean ∷ [] in
     let one : length new ≡ 1 = refl in
@@ -66,8 +66,8 @@ open_unmarked p w opened at placed clean =
 
 -- it is once the mark is opened
 pub opened_unmarked : (p : Pack) (at : ℕ) → place (sights p) disk_descriptor 1 ≡ Some at → Unmarked (after p (value_writes at (opened_value (sector_at p at).value)))
-opened_unmarked p at placed = mark_is_opened p at (opened_value (sector_at p at).value) placed (opened_mark (sector_at p at).value)
+opened_unmarked p at placed = opened_is_unmarked p at (opened_value (sector_at p at).value) placed (opened_mark (sector_at p at).value)
 
 -- and stays so where a new serial is written
 pub serial_unmarked : (p : Pack) (at last : ℕ) → Unmarked p → place (sights p) disk_descriptor 1 ≡ Some at → Unmarked (after p (value_writes at (serial_value last (sector_at p at).value)))
-serial_unmarked p at last unmarked placed = mark_is_opened p at (serial_value last (sector_at p at).value) placed (λ e. unmarked at placed (sym (put_two (last / 65536) (last % 65536) (sector_at p at).value) ∙ e))
+serial_unmarked p at last unmarked placed = opened_is_unmarked p at (serial_value last (sector_at p at).value) placed (λ e. unmarked at placed (sym (put_two (last / 65536) (last % 65536) (sector_at p at).value) ∙ e))

@@ -1,6 +1,6 @@
 -- What is so behind a line: every file has a name again, as the next line needs it, and directories are still there with their slots.
 use Rattle.std.specs.FinMap.{contains_key, get}
-use Rattle.std.specs.Prelude.{◌++◌, ◌≡◌, ◌≤◌, All, List, Some, [], ◌∷◌, false, length, true, ℕ}
+use Rattle.std.specs.Prelude.{All, List, Some, [], false, length, true, ℕ, ◌++◌, ◌∷◌, ◌≡◌, ◌≤◌}
 use Rattle.alto_words.specs.Fid.{is_directory, is_system, sys_dir}
 use Rattle.alto_words.specs.declared.fid.Fid.{Fid}
 use Rattle.disk_records.specs.Packs.{Pack}
@@ -30,29 +30,29 @@ pub record SettledBehind (m : Model) (ops : List Operation) : Type 0 where
 
 -- ---- lines
 -- puts, growths, cuts, titles, dates and widenings, and a file that goes, where they leave room
-abbrev pub BehindChanges : Type 0
-BehindChanges = (m : Model) (ops : List Operation) → Settled m → LeaveNames m ops → pages_for_operations m ops ≤ room m → SettledBehind m ops
+abbrev pub SettledAfterChanges : Type 0
+SettledAfterChanges = (m : Model) (ops : List Operation) → Settled m → LeaveNames m ops → pages_for_operations m ops ≤ room m → SettledBehind m ops
 
-abbrev pub BehindDrop : Type 0
-BehindDrop = (m : Model) (f : Fid) → Settled m → MayGo m f → SettledBehind m (drop_file f ∷ [])
+abbrev pub SettledAfterDrop : Type 0
+SettledAfterDrop = (m : Model) (f : Fid) → Settled m → MayGo m f → SettledBehind m (drop_file f ∷ [])
 
 -- A new file in a directory of the model: there the entry finds room.
-abbrev pub BehindNewFile : Type 0
-BehindNewFile = (m : Model) (d : Fid) (name : List ℕ) (f : Fid) (moment : ℕ) (rest : List Operation)
+abbrev pub SettledAfterNewFile : Type 0
+SettledAfterNewFile = (m : Model) (d : Fid) (name : List ℕ) (f : Fid) (moment : ℕ) (rest : List Operation)
     → Settled m → IsDirectory m d → length name ≤ 39 → contains_key m.files f ≡ false
     → LeaveNames (with_new_file m d name f moment) rest
     → pages_for_operations m (new_file_line m d name f moment rest) ≤ room m → SettledBehind m (new_file_line m d name f moment rest)
 
 -- a renamed file whose new entry is in a directory of the model
-abbrev pub BehindRename : Type 0
-BehindRename = (m : Model) (d : Fid) (old : List ℕ) (to : Fid) (name : List ℕ) (f : Fid)
+abbrev pub SettledAfterRename : Type 0
+SettledAfterRename = (m : Model) (d : Fid) (old : List ℕ) (to : Fid) (name : List ℕ) (f : Fid)
     → Settled m → IsDirectory m to → IsEntered m d old f → length name ≤ 39 → is_system f ≡ false
     → pages_for_operations m (rename_line m d old to name f) ≤ room m → SettledBehind m (rename_line m d old to name f)
 
 -- ---- directories
 -- a pack's directories are such, as the pack is read
-abbrev pub ReadDirectory : Type 0
-ReadDirectory = (p : Pack) (d : Fid) → is_directory d ≡ true → contains_key (read_pack p).files d ≡ true → IsDirectory (read_pack p) d
+abbrev pub DirectoriesAreRead : Type 0
+DirectoriesAreRead = (p : Pack) (d : Fid) → is_directory d ≡ true → contains_key (read_pack p).files d ≡ true → IsDirectory (read_pack p) d
 
 -- SysDir is one where every file has a name
 abbrev pub RootIsDirectory : Type 0

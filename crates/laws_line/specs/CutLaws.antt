@@ -1,5 +1,5 @@
 -- Every cut of a line can be scavenged, and is clean only where it is sound.
-use Rattle.std.specs.Prelude.{◌++◌, ◌<◌, ◌≡◌, ◌≤◌, List, Some, [], length, ◌∷◌, ℕ}
+use Rattle.std.specs.Prelude.{List, Some, [], length, ℕ, ◌++◌, ◌<◌, ◌∷◌, ◌≡◌, ◌≤◌}
 use Rattle.disk_records.specs.declared.records.Event.{Event}
 use Rattle.disk_records.specs.Packs.{Pack, after, sector_at}
 use Rattle.alto_words.specs.Fid.{disk_descriptor}
@@ -26,8 +26,8 @@ use Rattle.laws_line.specs.SpareLaws.{Spares}
 
 -- ---- the mark
 -- where it is open, the pack is unmarked
-abbrev pub OpenIsUnmarked : Type 0
-OpenIsUnmarked = (p : Pack) → Whole p → mark_of (sights p) ≡ mark_open → Unmarked p
+abbrev pub OpenPackIsUnmarked : Type 0
+OpenPackIsUnmarked = (p : Pack) → Whole p → mark_of (sights p) ≡ mark_open → Unmarked p
 
 -- ---- one operation
 -- These record writes are the operation on a pack whose mark is open: each makes its move, and each cut is viewed as the model there;
@@ -41,12 +41,12 @@ pub record StaysMendable (p : Pack) (events : List Event) (o : Operation) : Type
   pub tidy : Tidy (after p events)
 
 -- so it is wherever the record writes carry out the operation and leave the system files alone
-abbrev pub CutsLaw : Type 0
-CutsLaw = (p : Pack) (events : List Event) (o : Operation) → Whole p → CarriesOut p events o → Spares p events → StaysMendable p events o
+abbrev pub CrashesOfAnOperation : Type 0
+CrashesOfAnOperation = (p : Pack) (events : List Event) (o : Operation) → Whole p → CarriesOut p events o → Spares p events → StaysMendable p events o
 
 -- so it is of an entering, in which a record write may join free slots
-abbrev pub EntersLaw : Type 0
-EntersLaw = (p : Pack) (d : Fid) (name : List ℕ) (f : Fid) (a old b : List Item) (left : ℕ) (words : List ℕ) (at next_at : ℕ) → Whole p → Tidy p → MayEnterAt p d name f a old b left words at next_at
+abbrev pub CrashesOfEnter : Type 0
+CrashesOfEnter = (p : Pack) (d : Fid) (name : List ℕ) (f : Fid) (a old b : List Item) (left : ℕ) (words : List ℕ) (at next_at : ℕ) → Whole p → Tidy p → MayEnterAt p d name f a old b left words at next_at
     → StaysMendable p (enter_writes (values_first p (entry_room a old at next_at) words) at (entry_value p (entry_room a old at next_at) words)) (enter d name f)
 
 -- ---- a line
@@ -76,11 +76,11 @@ pub record LineStays (p : Pack) (events : List Event) (ops : List Operation) (mo
   pub reads : read_pack (after p events) ≡ steps_of (read_pack p) ops
 
 -- so it is for a line on an unmarked pack
-abbrev pub UnmarkedLineLaw : Type 0
-UnmarkedLineLaw = (p : Pack) (events : List Event) (ops : List Operation) → Whole p → Tidy p → Unmarked p → Line p events ops → LineStays p events ops (moves_of_all (read_pack p) ops)
+abbrev pub CrashesOfAnUnmarkedLine : Type 0
+CrashesOfAnUnmarkedLine = (p : Pack) (events : List Event) (ops : List Operation) → Whole p → Tidy p → Unmarked p → Line p events ops → LineStays p events ops (moves_of_all (read_pack p) ops)
 
 -- and from a sound pack, for the opening of the mark and then a line with some operations
-abbrev pub LineLaw : Type 0
-LineLaw = (p : Pack) (at : ℕ) (events : List Event) (ops : List Operation) → Sound p → place (sights p) disk_descriptor 1 ≡ Some at → 0 < length ops
+abbrev pub CrashesOfALine : Type 0
+CrashesOfALine = (p : Pack) (at : ℕ) (events : List Event) (ops : List Operation) → Sound p → place (sights p) disk_descriptor 1 ≡ Some at → 0 < length ops
     → Line (after p (open_writes (mark_of (sights p)) at (sector_at p at).value)) events ops
     → LineStays p (open_writes (mark_of (sights p)) at (sector_at p at).value ++ events) ops (line_moves (mark_of (sights p)) (read_pack p) ops)

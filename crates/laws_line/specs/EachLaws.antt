@@ -1,5 +1,5 @@
 -- Each operation of a line, by the record writes that its own law names: every cut of it can be scavenged.
-use Rattle.std.specs.Prelude.{List, [], ◌∷◌, ℕ}
+use Rattle.std.specs.Prelude.{List, [], ℕ, ◌∷◌}
 use Rattle.alto_words.specs.declared.fid.Fid.{Fid}
 use Rattle.disk_records.specs.Commands.{value_writes}
 use Rattle.disk_records.specs.Packs.{Pack, sector_at}
@@ -31,5 +31,5 @@ pub record EachStays (p : Pack) : Type 0 where
       → StaysMendable p (value_writes at (freed_value (all_words a) (item_words (entry f own)) (sector_at p at).value)) (leave d name)
   pub widens : (d : Fid) (added : List ℕ) (claims : List Claim) (at : ℕ) (label value : List ℕ) → MayWiden p d added claims at label value → StaysMendable p (grow_writes claims at label value) (widen d)
 
-abbrev pub EachLaw : Type 0
-EachLaw = (p : Pack) → Whole p → Tidy p → EachStays p
+abbrev pub CrashesOfEachOperation : Type 0
+CrashesOfEachOperation = (p : Pack) → Whole p → Tidy p → EachStays p

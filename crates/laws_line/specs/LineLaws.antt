@@ -1,7 +1,7 @@
 -- The operations of one line, on models: each file that comes or is renamed leaves room for its name.
 use Rattle.std.specs.FinMap.{contains_key}
 use Rattle.std.specs.List.{list_any}
-use Rattle.std.specs.Prelude.{◌++◌, ◌+◌, ◌≡◌, ◌≤◌, List, [], ◌∷◌, false, length, true, ℕ}
+use Rattle.std.specs.Prelude.{List, [], false, length, true, ℕ, ◌++◌, ◌+◌, ◌∷◌, ◌≡◌, ◌≤◌}
 use Rattle.alto_words.specs.Fid.{is_system}
 use Rattle.alto_words.specs.Names.{is_same_name}
 use Rattle.alto_words.specs.declared.fid.Fid.{Fid}
@@ -46,8 +46,8 @@ LeaveNames m (o ∷ ops) = LeavesNames m o × LeaveNames (step m o) ops
 
 -- Puts, growths, cuts, titles, dates and widenings, as in the lines that append, patch, cut, close a stream: enough that the pages that
 -- they add are there.
-abbrev pub ChangesLaw : Type 0
-ChangesLaw = (m : Model) (ops : List Operation) → Settled m → LeaveNames m ops → pages_for_operations m ops ≤ room m → ReadyThroughout m ops
+abbrev pub ChangesLeaveRoom : Type 0
+ChangesLeaveRoom = (m : Model) (ops : List Operation) → Settled m → LeaveNames m ops → pages_for_operations m ops ≤ room m → ReadyThroughout m ops
 
 -- ---- a file goes
 -- A full name that isn't a system file's; a file of this name, if there is one, has no entries of its own.
@@ -56,8 +56,8 @@ pub record MayGo (m : Model) (f : Fid) : Type 0 where
   pub bare : namings_in f (dir_items m f) ≡ []
 
 -- nothing is asked of free sectors or of SysDir
-abbrev pub DropLine : Type 0
-DropLine = (m : Model) (f : Fid) → Settled m → MayGo m f → ReadyThroughout m (drop_file f ∷ [])
+abbrev pub DropLeavesRoom : Type 0
+DropLeavesRoom = (m : Model) (f : Fid) → Settled m → MayGo m f → ReadyThroughout m (drop_file f ∷ [])
 
 -- ---- a file comes
 -- SysDir gets a page where it has no run of free words for the longest entry, another directory where it has none for this one; then
@@ -71,8 +71,8 @@ with_new_file m d name f moment = steps_of m (new_file_line m d name f moment []
 
 -- enough that the pages are there that the line adds, and that the name has at most 39 characters; where the entry finds no room it is
 -- lacking still, and has its room in SysDir
-abbrev pub NewFileLine : Type 0
-NewFileLine = (m : Model) (d : Fid) (name : List ℕ) (f : Fid) (moment : ℕ) (rest : List Operation)
+abbrev pub NewFileLeavesRoom : Type 0
+NewFileLeavesRoom = (m : Model) (d : Fid) (name : List ℕ) (f : Fid) (moment : ℕ) (rest : List Operation)
     → Settled m → length name ≤ 39 → contains_key m.files f ≡ false
     → LeaveNames (with_new_file m d name f moment) rest
     → pages_for_operations m (new_file_line m d name f moment rest) ≤ room m → ReadyThroughout m (new_file_line m d name f moment rest)
@@ -91,7 +91,7 @@ pub record IsEntered (m : Model) (d : Fid) (name : List ℕ) (f : Fid) : Type 0 
 abbrev pub rename_line : Model → Fid → List ℕ → Fid → List ℕ → Fid → List Operation
 rename_line m d old to name f = spare m ++ room_in m to name ++ title f name ∷ leave d old ∷ enter to name f ∷ []
 
-abbrev pub RenameLine : Type 0
-RenameLine = (m : Model) (d : Fid) (old : List ℕ) (to : Fid) (name : List ℕ) (f : Fid)
+abbrev pub RenameLeavesRoom : Type 0
+RenameLeavesRoom = (m : Model) (d : Fid) (old : List ℕ) (to : Fid) (name : List ℕ) (f : Fid)
     → Settled m → IsEntered m d old f → length name ≤ 39 → is_system f ≡ false
     → pages_for_operations m (rename_line m d old to name f) ≤ room m → ReadyThroughout m (rename_line m d old to name f)

@@ -1,6 +1,6 @@
 -- What holds of the pack at each cut of some events: of first ones of them, of more behind them, and cut by cut. And moves whose cuts are
 -- viewed as their models and can be scavenged.
-use Rattle.std.specs.Prelude.{◌++◌, ◌↔◌, ◌≡◌, List, ℕ}
+use Rattle.std.specs.Prelude.{List, ℕ, ◌++◌, ◌↔◌, ◌≡◌}
 use Rattle.disk_records.specs.Events.{IsFirstOf}
 use Rattle.disk_records.specs.Packs.{Pack, after, cut}
 use Rattle.disk_records.specs.declared.records.Event.{Event}
@@ -16,27 +16,27 @@ use Rattle.laws_line.specs.Ready.{steps_of}
 -- ---- a property of packs
 -- What holds at each cut of some events holds at each cut of first ones of them, as where a call was broken off; and from these on at
 -- each cut of the others.
-pub record OfParts (P : Pack → Type 0) : Type 0 where
+pub record CrashesOfParts (P : Pack → Type 0) : Type 0 where
   pub first : (p : Pack) (a b : List Event) → Throughout P p (a ++ b) → Throughout P p a
   pub broken : (p : Pack) (wanted events : List Event) → IsFirstOf wanted events → Throughout P p wanted → Throughout P p events
   pub later : (p : Pack) (a b : List Event) → Throughout P p (a ++ b) → Throughout P (after p a) b
 
 -- what holds at each cut of some events, and from these on at each cut of others, holds at each cut of both
-abbrev pub OfBothParts : (Pack → Type 0) → Type 0
-OfBothParts P = (p : Pack) (a b : List Event) → Throughout P p a → Throughout P (after p a) b → Throughout P p (a ++ b)
+abbrev pub CrashesOfBothParts : (Pack → Type 0) → Type 0
+CrashesOfBothParts P = (p : Pack) (a b : List Event) → Throughout P p a → Throughout P (after p a) b → Throughout P p (a ++ b)
 
 -- throughout is at each cut, by its number of events
-abbrev pub CutByCut : (Pack → Type 0) → Type 0
-CutByCut P = (p : Pack) (events : List Event) → Throughout P p events ↔ ((k : ℕ) → P (cut p events k))
+abbrev pub CrashByCrash : (Pack → Type 0) → Type 0
+CrashByCrash P = (p : Pack) (events : List Event) → Throughout P p events ↔ ((k : ℕ) → P (cut p events k))
 
 -- ---- moves
 -- Record writes whose cuts are viewed as the models of their moves and can be scavenged are those of operations,
-abbrev pub OperatesLaw : Type 0
-OperatesLaw = (m : Model) (p : Pack) (events : List Event) (moves : List Move) → Obeys viewing m p events moves → Throughout Mendable p events → Obeys operating m p events moves
+abbrev pub ViewedAndMendableOperates : Type 0
+ViewedAndMendableOperates = (m : Model) (p : Pack) (events : List Event) (moves : List Move) → Obeys viewing m p events moves → Throughout Mendable p events → Obeys operating m p events moves
 
 -- and those of a session.
-abbrev pub InSessionLaw : Type 0
-InSessionLaw = (m : Model) (p : Pack) (events : List Event) (moves : List Move) → Obeys viewing m p events moves → Throughout Mendable p events → Obeys session m p events moves
+abbrev pub ViewedAndMendableInSession : Type 0
+ViewedAndMendableInSession = (m : Model) (p : Pack) (events : List Event) (moves : List Move) → Obeys viewing m p events moves → Throughout Mendable p events → Obeys session m p events moves
 
 -- Whatever a cut stands for, the moves of a line lead to the model behind its operations, from which the next line goes on.
 pub record LeadsOn (mark : ℕ) (m : Model) (ops : List Operation) : Type 0 where
@@ -44,5 +44,5 @@ pub record LeadsOn (mark : ℕ) (m : Model) (ops : List Operation) : Type 0 wher
   pub in_operations : steps operating m (line_moves mark m ops) ≡ steps_of m ops
   pub in_session : steps session m (line_moves mark m ops) ≡ steps_of m ops
 
-abbrev pub LinesLead : Type 0
-LinesLead = (mark : ℕ) (m : Model) (ops : List Operation) → LeadsOn mark m ops
+abbrev pub LineMovesLeadToTheModel : Type 0
+LineMovesLeadToTheModel = (mark : ℕ) (m : Model) (ops : List Operation) → LeadsOn mark m ops

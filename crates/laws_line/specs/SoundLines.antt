@@ -1,6 +1,6 @@
 -- The lines of the operating system, from a sound pack.
 use Rattle.std.specs.FinMap.{contains_key}
-use Rattle.std.specs.Prelude.{◌++◌, ◌<◌, ◌≡◌, ◌≤◌, List, Some, [], ◌∷◌, false, length, ℕ}
+use Rattle.std.specs.Prelude.{List, Some, [], false, length, ℕ, ◌++◌, ◌<◌, ◌∷◌, ◌≡◌, ◌≤◌}
 use Rattle.alto_words.specs.Fid.{disk_descriptor, is_system}
 use Rattle.alto_words.specs.declared.fid.Fid.{Fid}
 use Rattle.disk_records.specs.Packs.{Pack, after, sector_at}
@@ -42,7 +42,7 @@ pub record LineOnSound (p : Pack) (events : List Event) (ops : List Operation) :
   pub sound : Sound (after p events)
 
 -- So it is where there are at least as many free sectors as the line adds pages.
-abbrev pub SoundLineLaw : Type 0
-SoundLineLaw = (p : Pack) (at : ℕ) (events : List Event) (ops : List Operation) → let all : List Event = open_writes (mark_of (sights p)) at (sector_at p at).value ++ events in
+abbrev pub CrashesOfALineOnASoundPack : Type 0
+CrashesOfALineOnASoundPack = (p : Pack) (at : ℕ) (events : List Event) (ops : List Operation) → let all : List Event = open_writes (mark_of (sights p)) at (sector_at p at).value ++ events in
     Sound p → place (sights p) disk_descriptor 1 ≡ Some at → 0 < length ops → IsLine (read_pack p) ops → pages_for_operations (read_pack p) ops ≤ free_sectors (sights p)
     → Line (after p (open_writes (mark_of (sights p)) at (sector_at p at).value)) events ops → LineOnSound p all ops

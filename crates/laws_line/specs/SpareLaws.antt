@@ -1,10 +1,10 @@
 -- The record writes of an operation leave SysDir's leader and DiskDescriptor alone.
-use Rattle.std.specs.Prelude.{◌≡◌, ◌≢◌, ◌⊎◌, All, List, Some, false, ℕ}
+use Rattle.std.specs.Prelude.{All, List, Some, false, ℕ, ◌≡◌, ◌≢◌, ◌⊎◌}
 use Rattle.alto_words.specs.Fid.{disk_descriptor, is_fid}
 use Rattle.alto_words.specs.declared.fid.Fid.{Fid}
 use Rattle.disk_records.specs.Commands.{value_writes}
 use Rattle.disk_records.specs.declared.records.Event.{Event}
-use Rattle.disk_records.specs.declared.records.Event.TheVariants.{Wrote, Shown}
+use Rattle.disk_records.specs.declared.records.Event.TheVariants.{Shown, Wrote}
 use Rattle.disk_records.specs.declared.records.Page.{Page}
 use Rattle.disk_records.specs.Labels.{page_of}
 use Rattle.disk_records.specs.Packs.{Pack, carried, sector_at}
@@ -37,42 +37,42 @@ Spares p events = All (SparesSystem p) events
 
 -- ---- each operation does so
 -- bytes put in the place of others
-abbrev pub PutSpares : Type 0
-PutSpares = (p : Pack) (f : Fid) (offset : ℕ) (new : List ℕ) (at : ℕ) (value : List ℕ) → Whole p → MayPut p f offset new at value → Spares p (value_writes at value)
+abbrev pub PutLeavesTheSystem : Type 0
+PutLeavesTheSystem = (p : Pack) (f : Fid) (offset : ℕ) (new : List ℕ) (at : ℕ) (value : List ℕ) → Whole p → MayPut p f offset new at value → Spares p (value_writes at value)
 
 -- bytes appended
-abbrev pub GrowSpares : Type 0
-GrowSpares = (p : Pack) (f : Fid) (new : List ℕ) (claims : List Claim) (at : ℕ) (label value : List ℕ) → Whole p → MayGrow p f new claims at label value → Spares p (grow_writes claims at label value)
+abbrev pub GrowLeavesTheSystem : Type 0
+GrowLeavesTheSystem = (p : Pack) (f : Fid) (new : List ℕ) (claims : List Claim) (at : ℕ) (label value : List ℕ) → Whole p → MayGrow p f new claims at label value → Spares p (grow_writes claims at label value)
 
 -- the first bytes kept
-abbrev pub CutSpares : Type 0
-CutSpares = (p : Pack) (f : Fid) (n at : ℕ) (label later : List ℕ) → Whole p → MayCut p f n at label later → Spares p (cut_writes at label (sector_at p at).value later)
+abbrev pub CutLeavesTheSystem : Type 0
+CutLeavesTheSystem = (p : Pack) (f : Fid) (n at : ℕ) (label later : List ℕ) → Whole p → MayCut p f n at label later → Spares p (cut_writes at label (sector_at p at).value later)
 
 -- another name or date in a leader
-abbrev pub LeaderSpares : Type 0
-LeaderSpares = (p : Pack) (f : Fid) (change : Leader → Leader) (at : ℕ) (value : List ℕ) → Whole p → MayWriteLeader p f change at value → Spares p (value_writes at value)
+abbrev pub LeaderLeavesTheSystem : Type 0
+LeaderLeavesTheSystem = (p : Pack) (f : Fid) (change : Leader → Leader) (at : ℕ) (value : List ℕ) → Whole p → MayWriteLeader p f change at value → Spares p (value_writes at value)
 
 -- a new file
-abbrev pub MakeSpares : Type 0
-MakeSpares = (p : Pack) (f : Fid) (name : List ℕ) (moment : ℕ) (page leader : Claim) → Whole p → MayMake p f name moment page leader → Spares p (make_writes page leader)
+abbrev pub MakeLeavesTheSystem : Type 0
+MakeLeavesTheSystem = (p : Pack) (f : Fid) (name : List ℕ) (moment : ℕ) (page leader : Claim) → Whole p → MayMake p f name moment page leader → Spares p (make_writes page leader)
 
 -- a file that goes, but for the slot of its entry
-abbrev pub GoSpares : Type 0
-GoSpares = (p : Pack) (f : Fid) (at : ℕ) (pages : List ℕ) → Whole p → MayDrop p f at pages → Spares p (go_writes at pages)
+abbrev pub ReleaseLeavesTheSystem : Type 0
+ReleaseLeavesTheSystem = (p : Pack) (f : Fid) (at : ℕ) (pages : List ℕ) → Whole p → MayDrop p f at pages → Spares p (go_writes at pages)
 
 -- an entry's slot that becomes a free one, where an entry leaves or its file is gone
-abbrev pub SlotSpares : Type 0
-SlotSpares = (p : Pack) (d : Fid) (at : ℕ) (a old b : List Item) (value : List ℕ) → Whole p → Frees p d at a old b → Spares p (value_writes at value)
+abbrev pub SlotLeavesTheSystem : Type 0
+SlotLeavesTheSystem = (p : Pack) (d : Fid) (at : ℕ) (a old b : List Item) (value : List ℕ) → Whole p → Frees p d at a old b → Spares p (value_writes at value)
 
 -- both together
-abbrev pub DropSpares : Type 0
-DropSpares = (p : Pack) (f : Fid) (at : ℕ) (pages : List ℕ) (d : Fid) (slot_at : ℕ) (a old b : List Item) (value : List ℕ) → Whole p → MayDrop p f at pages → Frees p d slot_at a old b → Spares p (drop_writes at pages slot_at value)
+abbrev pub DropLeavesTheSystem : Type 0
+DropLeavesTheSystem = (p : Pack) (f : Fid) (at : ℕ) (pages : List ℕ) (d : Fid) (slot_at : ℕ) (a old b : List Item) (value : List ℕ) → Whole p → MayDrop p f at pages → Frees p d slot_at a old b → Spares p (drop_writes at pages slot_at value)
 
 -- a page more for a directory
-abbrev pub WidenSpares : Type 0
-WidenSpares = (p : Pack) (d : Fid) (added : List ℕ) (claims : List Claim) (at : ℕ) (label value : List ℕ) → Whole p → MayWiden p d added claims at label value → Spares p (grow_writes claims at label value)
+abbrev pub WidenLeavesTheSystem : Type 0
+WidenLeavesTheSystem = (p : Pack) (d : Fid) (added : List ℕ) (claims : List Claim) (at : ℕ) (label value : List ℕ) → Whole p → MayWiden p d added claims at label value → Spares p (grow_writes claims at label value)
 
 -- an entry that comes
-abbrev pub EnterSpares : Type 0
-EnterSpares = (p : Pack) (d : Fid) (name : List ℕ) (f : Fid) (a old b : List Item) (left : ℕ) (words : List ℕ) (at next_at : ℕ) → Whole p → MayEnterAt p d name f a old b left words at next_at
+abbrev pub EnterLeavesTheSystem : Type 0
+EnterLeavesTheSystem = (p : Pack) (d : Fid) (name : List ℕ) (f : Fid) (a old b : List Item) (left : ℕ) (words : List ℕ) (at next_at : ℕ) → Whole p → MayEnterAt p d name f a old b left words at next_at
     → Spares p (enter_writes (values_first p (entry_room a old at next_at) words) at (entry_value p (entry_room a old at next_at) words))

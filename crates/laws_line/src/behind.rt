@@ -1,30 +1,30 @@
 //! What is so behind a line, as the next line needs it: every file has a name, and directories have their slots.
 
-ghost use Rattle.laws_line.specs.BehindLaws.{BehindChanges, BehindDrop, BehindNewFile, BehindRename, FirstPartReady, NewDirectory, ReadDirectory, RootIsDirectory};
+ghost use Rattle.laws_line.specs.BehindLaws.{DirectoriesAreRead, FirstPartReady, NewDirectory, RootIsDirectory, SettledAfterChanges, SettledAfterDrop, SettledAfterNewFile, SettledAfterRename};
 
 /// Puts within a file, growths, cuts, titles, dates and widenings leave every file its name.
-pub fn settled_behind_changes()
-    ensures { BehindChanges }
+pub fn settled_after_changes()
+    ensures { SettledAfterChanges }
 {}
 
 /// A file that goes leaves the others their names.
-pub fn settled_behind_drop()
-    ensures { BehindDrop }
+pub fn settled_after_drop()
+    ensures { SettledAfterDrop }
 {}
 
 /// A file that is made and entered in a directory of the model has a name then: its entry finds room.
-pub fn settled_behind_new_file()
-    ensures { BehindNewFile }
+pub fn settled_after_new_file()
+    ensures { SettledAfterNewFile }
 {}
 
 /// A renamed file has its new name, where that is entered in a directory of the model.
-pub fn settled_behind_rename()
-    ensures { BehindRename }
+pub fn settled_after_rename()
+    ensures { SettledAfterRename }
 {}
 
 /// Any pack is read as a model whose directories are there with their slots.
 pub fn directories_are_read()
-    ensures { ReadDirectory }
+    ensures { DirectoriesAreRead }
 {}
 
 /// SysDir is a directory of a model in which every file has a name.

@@ -1,31 +1,31 @@
 //! Every cut of an operation, and of a line, can be scavenged, where its models are ready.
 
-ghost use Rattle.laws_line.specs.CutLaws.{CutsLaw, EntersLaw, LineLaw, LinesJoin, OpenIsUnmarked, UnmarkedLineLaw};
-ghost use Rattle.laws_line.specs.EachLaws.{EachLaw};
+ghost use Rattle.laws_line.specs.CutLaws.{CrashesOfALine, CrashesOfAnOperation, CrashesOfAnUnmarkedLine, CrashesOfEnter, LinesJoin, OpenPackIsUnmarked};
+ghost use Rattle.laws_line.specs.EachLaws.{CrashesOfEachOperation};
 
 /// So it is for an operation that leaves SysDir's leader and DiskDescriptor alone, where its models are ready.
-pub fn cuts_of_an_operation()
-    ensures { CutsLaw }
+pub fn crashes_of_an_operation()
+    ensures { CrashesOfAnOperation }
 {}
 
 /// So it is for an entering, which may join free slots before the value that commits.
-pub fn cuts_of_an_entering()
-    ensures { EntersLaw }
+pub fn crashes_of_enter()
+    ensures { CrashesOfEnter }
 {}
 
 /// So it is for each other operation, by its own law.
-pub fn cuts_of_each_operation()
-    ensures { EachLaw }
+pub fn crashes_of_each_operation()
+    ensures { CrashesOfEachOperation }
 {}
 
 /// So it is for a line, on a pack whose mark is open.
-pub fn cuts_of_an_unmarked_line()
-    ensures { UnmarkedLineLaw }
+pub fn crashes_of_an_unmarked_line()
+    ensures { CrashesOfAnUnmarkedLine }
 {}
 
 /// So it is for a line, from a sound pack.
-pub fn cuts_of_a_line()
-    ensures { LineLaw }
+pub fn crashes_of_a_line()
+    ensures { CrashesOfALine }
 {}
 
 /// A line and then another one, on the pack that it leaves, are one line.
@@ -35,5 +35,5 @@ pub fn lines_join()
 
 /// A whole pack whose mark is open is without the clean mark, by the sector that bears it.
 pub fn open_pack_is_unmarked()
-    ensures { OpenIsUnmarked }
+    ensures { OpenPackIsUnmarked }
 {}

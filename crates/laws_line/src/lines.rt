@@ -1,6 +1,6 @@
 //! What a line needs of free sectors and of SysDir when it begins, so that each cut of it can be scavenged.
 
-ghost use Rattle.laws_line.specs.LineLaws.{ChangesLaw, DropLine, NewFileLine, ReadyHasRoom, RenameLine, SoundIsSettled};
+ghost use Rattle.laws_line.specs.LineLaws.{ChangesLeaveRoom, DropLeavesRoom, NewFileLeavesRoom, ReadyHasRoom, RenameLeavesRoom, SoundIsSettled};
 
 /// Where at most one file has no name, and SysDir has a run of free words for it, the files as the Scavenger will find them have room.
 pub fn ready_has_room()
@@ -14,21 +14,21 @@ pub fn sound_is_settled()
 
 /// Puts within a file, growths, cuts, titles, dates and widenings need the pages that they add.
 pub fn changes_leave_room()
-    ensures { ChangesLaw }
+    ensures { ChangesLeaveRoom }
 {}
 
 /// A file without entries of its own that goes needs nothing.
 pub fn drop_leaves_room()
-    ensures { DropLine }
+    ensures { DropLeavesRoom }
 {}
 
 /// A file that is made and entered needs the pages that the line adds, with one for SysDir where it has no run of free words for the
 /// longest entry; then come operations that leave names as they are.
 pub fn new_file_leaves_room()
-    ensures { NewFileLine }
+    ensures { NewFileLeavesRoom }
 {}
 
 /// A file that is renamed needs the same.
 pub fn rename_leaves_room()
-    ensures { RenameLine }
+    ensures { RenameLeavesRoom }
 {}

@@ -2,7 +2,7 @@
 //!
 //! The first three laws hold of any property of packs. `CanBeMended` is one.
 
-ghost use Rattle.laws_line.specs.PartLaws.{CutByCut, InSessionLaw, LinesLead, OfBothParts, OfParts, OperatesLaw};
+ghost use Rattle.laws_line.specs.PartLaws.{CrashByCrash, CrashesOfBothParts, CrashesOfParts, LineMovesLeadToTheModel, ViewedAndMendableInSession, ViewedAndMendableOperates};
 ghost use Rattle.disk_records.specs.Packs.{Pack};
 ghost use Rattle.pack_model.specs.Meanings.{Mendable};
 
@@ -20,31 +20,31 @@ impl Property for CanBeMended {
 }
 
 /// What holds at each cut holds at each cut of first events, as where a call was broken off, and of the others from there on.
-pub fn cuts_of_parts<X: Property>()
-    ensures { OfParts X.holds }
+pub fn crashes_of_parts<X: Property>()
+    ensures { CrashesOfParts X.holds }
 {}
 
 /// What holds at each cut of some events, and of others from there on, holds at each cut of both.
-pub fn cuts_of_both_parts<X: Property>()
-    ensures { OfBothParts X.holds }
+pub fn crashes_of_both_parts<X: Property>()
+    ensures { CrashesOfBothParts X.holds }
 {}
 
 /// What holds throughout some events holds at each cut by its number of events, and the other way round.
-pub fn cut_by_cut<X: Property>()
-    ensures { CutByCut X.holds }
+pub fn crash_by_crash<X: Property>()
+    ensures { CrashByCrash X.holds }
 {}
 
 /// Record writes whose cuts are viewed as the models of their moves and can be scavenged are those of operations.
 pub fn viewed_and_mendable_operates()
-    ensures { OperatesLaw }
+    ensures { ViewedAndMendableOperates }
 {}
 
 /// They are those of a session, too.
 pub fn viewed_and_mendable_in_session()
-    ensures { InSessionLaw }
+    ensures { ViewedAndMendableInSession }
 {}
 
 /// The moves of a line lead to the model behind its operations, from which the next line goes on.
 pub fn line_moves_lead_to_the_model()
-    ensures { LinesLead }
+    ensures { LineMovesLeadToTheModel }
 {}

@@ -26,7 +26,7 @@ use Rattle.laws_operation.proofs.inside.Closed.{Marks, close_value_size, first_p
 use Rattle.laws_operation.proofs.inside.Closing.{Mid, later_page, mid_itself, mid_twice}
 use Rattle.laws_operation.proofs.EnterMoves.{values-append}
 use Rattle.laws_operation.specs.ByteLaws.{Bear}
-use Rattle.laws_operation.specs.DescriptorLaws.{CloseLaw, Closes, KeepsSound}
+use Rattle.laws_operation.specs.DescriptorLaws.{CloseCarriesOut, Closes, KeepsSound}
 
 -- each cut is read as before, and is as the first pack
 abbrev closing : Pack → Meaning Model Move
@@ -86,8 +86,8 @@ take_more : (k : ℕ) (es : List Event) (e : Event) → k ≤ length es → take
 take_more k es e l = take-append-le k es (e ∷ []) l
 
 -- all of it
-pub close_law : CloseLaw
-close_law p busy pages w t h = by (mark_of (sights p) == mark_clean) refl
+pub close_carries_out : CloseCarriesOut
+close_carries_out p busy pages w t h = by (mark_of (sights p) == mark_clean) refl
   where
     written : (pages : List ℕ) → Bear (sights p) disk_descriptor 1 pages → Sized p pages → 0 < length pages → Closes p (values_writes (reverse (closed_values p.shape (read_pack p).last busy 0 pages))) (quiet_moves pages)
     written [] bear sized some = absurd (omega arith)

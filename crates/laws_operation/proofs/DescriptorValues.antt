@@ -16,13 +16,13 @@ use Rattle.pack_model.specs.Sound.{mark_clean, mark_of, mark_open}
 use Rattle.pack_model.specs.Step.Operation.{drop_file}
 use Rattle.pack_model.specs.Whole.{Tidy, Whole}
 use Rattle.laws_record.proofs.Copying.{place_carried}
-use Rattle.laws_operation.proofs.CloseLaw.{close_law}
-use Rattle.laws_operation.proofs.OpeningMark.{open_law, serial_law}
+use Rattle.laws_operation.proofs.CloseLaw.{close_carries_out}
+use Rattle.laws_operation.proofs.OpeningMark.{open_carries_out, serial_carries_out}
 use Rattle.laws_operation.specs.ByteLaws.{Bear}
 use Rattle.laws_operation.specs.DescriptorLaws.{KeepsSound}
 use Rattle.laws_operation.proofs.inside.links.FileValues.{file_values}
 use Rattle.laws_operation.proofs.inside.links.Values.{AllOf, of_carried, of_join}
-use Rattle.laws_operation.specs.DescriptorLinkLaws.{CloseLinks, OpenLinks, SerialLinks}
+use Rattle.laws_operation.specs.DescriptorLinkLaws.{CloseKeepsLinks, OpenKeepsLinks, SerialKeepsLinks}
 
 -- its first data page
 of_first : (p : Pack) (at : ℕ) (value : List ℕ) → place (sights p) disk_descriptor 1 ≡ Some at → AllOf disk_descriptor p ((at, value) ∷ [])
@@ -33,17 +33,17 @@ descriptor_values : (vs : List (ℕ × List ℕ)) (p : Pack) → Whole p → Tid
 descriptor_values vs p w t keeps of links = file_values vs p disk_descriptor w t keeps.whole keeps.tidy refl of links
 
 -- the mark is opened
-pub open_links : OpenLinks
-open_links p at w t e links = by (mark_of (sights p) == mark_open) (open_law p at (drop_file disk_descriptor) [] w t e).keeps
+pub open_keeps_links : OpenKeepsLinks
+open_keeps_links p at w t e links = by (mark_of (sights p) == mark_open) (open_carries_out p at (drop_file disk_descriptor) [] w t e).keeps
   where
     by : (c : Bool) → KeepsSound p (after p (cond c [] (values_writes ((at, opened_value (sector_at p at).value) ∷ [])))) → LinksTrue (after p (cond c [] (values_writes ((at, opened_value (sector_at p at).value) ∷ []))))
     by true keeps = links
     by false keeps = descriptor_values ((at, opened_value (sector_at p at).value) ∷ []) p w t keeps (of_first p at (opened_value (sector_at p at).value) e) links
 
 -- a new serial
-pub serial_links : SerialLinks
-serial_links p at last w t e more links =
-    descriptor_values ((at, serial_value last (sector_at p at).value) ∷ []) p w t (serial_law p at last w t e more).keeps (of_first p at (serial_value last (sector_at p at).value) e) links
+pub serial_keeps_links : SerialKeepsLinks
+serial_keeps_links p at last w t e more links =
+    descriptor_values ((at, serial_value last (sector_at p at).value) ∷ []) p w t (serial_carries_out p at last w t e more).keeps (of_first p at (serial_value last (sector_at p at).value) e) links
 
 -- ---- closing
 -- some first values
@@ -67,8 +67,8 @@ of_pages p last busy n (at ∷ pages) h =
     subst (AllOf disk_descriptor p) (sym (reverse-cons v vs)) (of_join disk_descriptor p (reverse vs) (v ∷ []) (of_pages p last busy (suc n) pages h.1) (of_carried disk_descriptor (suc n) p at (place_carried p (page_number disk_descriptor (suc n)) at h.0), tt))
 
 -- each cut of closing
-pub close_links : CloseLinks
-close_links p busy pages k w t h links = by (mark_of (sights p) == mark_clean) ((close_law p busy pages w t h).keeps k)
+pub close_keeps_links : CloseKeepsLinks
+close_keeps_links p busy pages k w t h links = by (mark_of (sights p) == mark_clean) ((close_carries_out p busy pages w t h).keeps k)
   where
     by : (c : Bool) → KeepsSound p (cut p (cond c [] (values_writes (reverse (closed_values p.shape (read_pack p).last busy 0 pages)))) k) → LinksTrue (cut p (cond c [] (values_writes (reverse (closed_values p.shape (read_pack p).last busy 0 pages)))) k)
     by true keeps = nothing k

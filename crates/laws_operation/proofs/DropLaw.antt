@@ -35,10 +35,10 @@ use Rattle.laws_record.proofs.Entered.{namings_in-append}
 use Rattle.laws_record.specs.DirLaws.{DirWrite, Frees}
 use Rattle.laws_operation.proofs.Dropped.{go_law, read_there}
 use Rattle.laws_operation.proofs.inside.Elsewhere.{MayBe, not_same, other_bytes, other_leader}
-use Rattle.laws_operation.proofs.inside.Freeing.{slot_law}
+use Rattle.laws_operation.proofs.inside.Freeing.{slot_carries_out}
 use Rattle.laws_operation.proofs.inside.Kept.{cuts_read, same_places}
 use Rattle.laws_operation.proofs.Seating.{leader_none_is}
-use Rattle.laws_operation.specs.LifeLaws.{DropLaw, SlotFreed, first_moves}
+use Rattle.laws_operation.specs.LifeLaws.{DropCarriesOut, SlotFreed, first_moves}
 use Rattle.laws_operation.specs.Outcomes.{KeepsDescriptor}
 
 -- what two steps keep
@@ -55,8 +55,8 @@ not_none [] e y h = absurd cc
 not_none (n ∷ x) e y h = absurd cc
 
 -- both parts, one after the other
-pub drop_law : DropLaw
-drop_law p f at pages d slot_at a b own w t hyp fr =
+pub drop_carries_out : DropCarriesOut
+drop_carries_out p f at pages d slot_at a b own w t hyp fr =
     let ss : List Sight = sights p in
     let go = go_law p w t f at pages hyp in
     let p1 : Pack = after p (go_writes at pages) in
@@ -80,7 +80,7 @@ drop_law p f at pages d slot_at a b own w t hyp fr =
     } in
     let fr1 : Frees p1 d slot_at a (entry f own ∷ []) b = record { slots_are = ap slots words ∙ fr.slots_are; some = fr.some; most = fr.most; write = write1 } in
     let dead : lives (sights p1) f ≡ false = ap is_some (leader_none_is (sights p1) f (go.0).drops.gone) in
-    let last = slot_law p1 f d slot_at a b own (go.0).drops.whole (go.0).drops.tidy_but dead fr1 in
+    let last = slot_carries_out p1 f d slot_at a b own (go.0).drops.whole (go.0).drops.tidy_but dead fr1 in
     let n : ℕ = item_words (entry f own) in
     let there = dir_page p d (all_words a) slot_at (all_words (entry f own ∷ []) ∷ []) h in
     let same_sector : sector_at p1 slot_at ≡ sector_at p slot_at = go.2 slot_at (λ z. not_same d f apart (subst (MayBe f) (there.shows hidden) z)) in

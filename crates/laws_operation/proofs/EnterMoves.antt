@@ -28,7 +28,7 @@ use Rattle.laws_operation.proofs.EnterLaw.{all_stages, all_ticks}
 use Rattle.laws_operation.proofs.EnterStages.{EntersBy}
 use Rattle.laws_operation.proofs.inside.Kept.{descriptor_kept, fits_still}
 use Rattle.laws_operation.proofs.inside.Rejoining.{enough_words}
-use Rattle.laws_operation.specs.NameLaws.{EnterLaw, entry_room}
+use Rattle.laws_operation.specs.NameLaws.{EnterCarriesOut, entry_room}
 
 -- ---- counts
 ticks_are : (x y : Bool) → units (one_if (not x) + one_if (not y)) ≡ all_ticks x y
@@ -59,8 +59,8 @@ values-append [] y = refl
 values-append (v ∷ x) y = ap (λ r. value_writes v.0 v.1 ++ r) (values-append x y)
 
 -- all of an entering
-pub enter_law : EnterLaw
-enter_law p d name f a old b left words at next_at w t h =
+pub enter_carries_out : EnterCarriesOut
+enter_carries_out p d name f a old b left words at next_at w t h =
     let one : Bool = item_words (get_or old 0 (space 0)) == all_words old in
     let same : Bool = page_of_word (all_words a + length words - 1) == page_of_word (all_words a) in
     let n : ℕ = entry_length (length name) in

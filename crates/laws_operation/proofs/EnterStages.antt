@@ -31,7 +31,7 @@ use Rattle.pack_model.specs.Whole.{Tidy, Whole}
 use Rattle.pack_laws.proofs.Bytes.{length-put_at}
 use Rattle.pack_laws.proofs.Keys.{fid_total, is_fid-itself}
 use Rattle.laws_record.proofs.Addressing.{LooseIn, slots_kept}
-use Rattle.laws_record.proofs.DirKinds.{free_slots_joined}
+use Rattle.laws_record.proofs.DirKinds.{free_slots_made_one}
 use Rattle.laws_record.proofs.DirReads.{dir_reads, dir_same, has_leader, insert_same}
 use Rattle.laws_record.proofs.DirWords.{dir_change}
 use Rattle.laws_record.proofs.Entered.{directory, namings_in-append}
@@ -167,7 +167,7 @@ join_stage p w t d at a old b fr bare =
     let was : get (read_pack p).files d ≡ Some (directory l (a ++ (old ++ b))) = dir_read p w d (all_words a) at new h js now sum t still ∙ ap (λ x. Some (directory l x)) fr.slots_are in
     let lead : leader ss d ≡ Some l = (value_change p w d (all_words a) at new h).was in
     record {
-      views = free_slots_joined p d at a old b fr bare;
+      views = free_slots_made_one p d at a old b fr bare;
       reads = dir_reads p q d (put_at (all_words a) new (dir_words p d)) c h.directory l lead (insert (read_pack p).files d (directory l js)) (joined_files p d l js t (ap (λ x. insert (described ss) d (directory l x)) now) still);
       was = was;
       whole = value_whole p w d (all_words a) at new h js now sum t still (λ g system. ap (list_any (λ n. is_fid n.fid g)) names);

@@ -33,7 +33,7 @@ use Rattle.laws_record.proofs.Addressing.{LooseIn}
 use Rattle.laws_record.proofs.Addressing.{entry_words_many}
 use Rattle.laws_record.proofs.EnterSlots.{slots_entered}
 use Rattle.laws_record.proofs.Entered.{directory}
-use Rattle.laws_record.proofs.Entering.{enter_is_the_step}
+use Rattle.laws_record.proofs.Entering.{entry_is_the_step}
 use Rattle.laws_record.proofs.Slotwise.{words-append}
 use Rattle.laws_record.proofs.SystemEntries.{left_words}
 use Rattle.laws_record.proofs.Tidying.{tidy_same}
@@ -78,7 +78,7 @@ last_stage p w t d at new a b f name left h may room other =
     let clear : list_any (clashes e) (namings (entries files)) ≡ false = ap (λ m. list_any (clashes e) (namings (entries m))) (sym (read_files p t)) ∙ may.apart in
     let stands : may_stand (lives ss) e ≡ true = λ i. may.lives i && may.fits i in
     let still : IsTidy (lives ss) (insert files d (directory l js)) = entry_tidy (lives ss) files d l a b k left here f name t stands clear in
-    let step_is = enter_is_the_step p d at new a b f name left h may room in
+    let step_is = entry_is_the_step p d at new a b f name left h may room in
     let sector : place ss d (page_of_word (room_place (find_room n (dir_items (read_pack p) d)))) ≡ Some at = ap (λ r. place ss d (page_of_word (room_place r))) room ∙ ap (place ss d) (sym (add-one (all_words a / 256))) ∙ h.write.sector in
     record {
       obeys = write refl (record { part_is = refl; bears = sector }) (rest step_is);

@@ -20,7 +20,7 @@ use Rattle.pack_laws.proofs.Bytes.{length-put_at}
 use Rattle.laws_record.proofs.Describing.{view_files}
 use Rattle.laws_record.proofs.Slotwise.{put_before, put_behind, put_here}
 use Rattle.laws_operation.proofs.FirstWords.{kept_sound, words_read, words_written}
-use Rattle.laws_operation.specs.DescriptorLaws.{KeepsSound, OpenLaw, Opens, SerialLaw}
+use Rattle.laws_operation.specs.DescriptorLaws.{KeepsSound, OpenCarriesOut, Opens, SerialCarriesOut}
 
 -- words 4 and 5, or word 6, are no words of the shape
 says_still : (shape : Shape) (words : List ℕ) (word_at : ℕ) (new : List ℕ) → 4 ≤ word_at → word_at + length new ≤ 8 → 16 ≤ length words → SaysShape shape words → SaysShape shape (put_at word_at new words)
@@ -56,8 +56,8 @@ keeps_itself : (p : Pack) → Whole p → Tidy p → KeepsSound p p
 keeps_itself p w t = record { whole = w; tidy = t; sound = λ s. s; places = λ n. refl }
 
 -- the mark is opened, where it is not open
-pub open_law : OpenLaw
-open_law p at o ops w t sector = by (mark_of (sights p) == mark_open) refl
+pub open_carries_out : OpenCarriesOut
+open_carries_out p at o ops w t sector = by (mark_of (sights p) == mark_open) refl
   where
     by : (c : Bool) → (mark_of (sights p) == mark_open) ≡ c → Opens p (cond c [] (value_writes at (opened_value (sector_at p at).value))) (cond c [] (quiet ∷ []))
     by true e = record { obeys = rest refl; keeps = keeps_itself p w t; marked = eqb-true (mark_of (sights p)) mark_open e }
@@ -79,8 +79,8 @@ open_law p at o ops w t sector = by (mark_of (sights p) == mark_open) refl
 
 -- ---- a new serial
 -- the last serial is written
-pub serial_law : SerialLaw
-serial_law p at last w t sector more =
+pub serial_carries_out : SerialCarriesOut
+serial_carries_out p at last w t sector more =
     let words : List ℕ = descriptor_words (sights p) in
     let new : List ℕ = halves last in
     let two_words : length new ≡ 2 = refl in

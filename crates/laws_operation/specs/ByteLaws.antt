@@ -33,8 +33,8 @@ pub record MayPut (p : Pack) (f : Fid) (offset : ℕ) (new : List ℕ) (at : ℕ
   pub counted : counted_of p at value ≡ put_at (offset % 512) new (counted_of p at (sector_at p at).value)
 
 -- that value is the put
-abbrev pub PutLaw : Type 0
-PutLaw = (p : Pack) (f : Fid) (offset : ℕ) (new : List ℕ) (at : ℕ) (value : List ℕ) → Whole p → Tidy p → MayPut p f offset new at value → CarriesOut p (value_writes at value) (put f offset new)
+abbrev pub PutCarriesOut : Type 0
+PutCarriesOut = (p : Pack) (f : Fid) (offset : ℕ) (new : List ℕ) (at : ℕ) (value : List ℕ) → Whole p → Tidy p → MayPut p f offset new at value → CarriesOut p (value_writes at value) (put f offset new)
 
 -- ---- pages in a row
 -- these sectors bear the pages with these numbers in their labels, rising from n on
@@ -55,8 +55,8 @@ pub record MayCut (p : Pack) (f : Fid) (n at : ℕ) (label later : List ℕ) : T
   pub later_are : Bear (sights p) f (suc (page_of_byte n)) later
 
 -- that label, its old value, and the releases are the cut
-abbrev pub CutLaw : Type 0
-CutLaw = (p : Pack) (f : Fid) (n at : ℕ) (label later : List ℕ) → Whole p → Tidy p → MayCut p f n at label later → CarriesOut p (cut_writes at label (sector_at p at).value later) (cut f n)
+abbrev pub CutCarriesOut : Type 0
+CutCarriesOut = (p : Pack) (f : Fid) (n at : ℕ) (label later : List ℕ) → Whole p → Tidy p → MayCut p f n at label later → CarriesOut p (cut_writes at label (sector_at p at).value later) (cut f n)
 
 -- ---- grow
 -- the bytes of pages, one after another
@@ -77,5 +77,5 @@ pub record MayGrow (p : Pack) (f : Fid) (new : List ℕ) (claims : List Claim) (
   pub bytes : take (tag label).bytes (bytes_of value) ++ together (all_claimed claims) ≡ counted_of p at (sector_at p at).value ++ new
 
 -- the claims, the value, the label and the value again are the growth
-abbrev pub GrowLaw : Type 0
-GrowLaw = (p : Pack) (f : Fid) (new : List ℕ) (claims : List Claim) (at : ℕ) (label value : List ℕ) → Whole p → Tidy p → MayGrow p f new claims at label value → CarriesOut p (grow_writes claims at label value) (grow f new)
+abbrev pub GrowCarriesOut : Type 0
+GrowCarriesOut = (p : Pack) (f : Fid) (new : List ℕ) (claims : List Claim) (at : ℕ) (label value : List ℕ) → Whole p → Tidy p → MayGrow p f new claims at label value → CarriesOut p (grow_writes claims at label value) (grow f new)

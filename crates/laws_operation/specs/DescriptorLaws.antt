@@ -32,8 +32,8 @@ pub record Opens (p : Pack) (events : List Event) (moves : List Move) : Type 0 w
   pub marked : mark_of (sights (after p events)) ≡ mark_open
 
 -- where the mark is open nothing is written; else it is the value of the first data page
-abbrev pub OpenLaw : Type 0
-OpenLaw = (p : Pack) (at : ℕ) (o : Operation) (ops : List Operation) → Whole p → Tidy p → place (sights p) disk_descriptor 1 ≡ Some at
+abbrev pub OpenCarriesOut : Type 0
+OpenCarriesOut = (p : Pack) (at : ℕ) (o : Operation) (ops : List Operation) → Whole p → Tidy p → place (sights p) disk_descriptor 1 ≡ Some at
     → Opens p (open_writes (mark_of (sights p)) at (sector_at p at).value) (open_moves (mark_of (sights p)) (o ∷ ops))
 
 -- Each cut is viewed as before; read as a model the pack has the new last serial behind the record write, and the mark that it had.
@@ -44,8 +44,8 @@ pub record GivesSerial (p : Pack) (last : ℕ) (events : List Event) : Type 0 wh
   pub mark : mark_of (sights (after p events)) ≡ mark_of (sights p)
 
 -- the value with the new serial
-abbrev pub SerialLaw : Type 0
-SerialLaw = (p : Pack) (at last : ℕ) → Whole p → Tidy p → place (sights p) disk_descriptor 1 ≡ Some at → (read_pack p).last ≤ last → GivesSerial p last (serial_writes at last (sector_at p at).value)
+abbrev pub SerialCarriesOut : Type 0
+SerialCarriesOut = (p : Pack) (at last : ℕ) → Whole p → Tidy p → place (sights p) disk_descriptor 1 ≡ Some at → (read_pack p).last ≤ last → GivesSerial p last (serial_writes at last (sector_at p at).value)
 
 -- ---- closing
 -- The sectors of DiskDescriptor's data pages, all of them, each with a value of 256 words.
@@ -63,5 +63,5 @@ pub record Closes (p : Pack) (events : List Event) (moves : List Move) : Type 0 
   pub marked : mark_of (sights (after p events)) ≡ mark_clean
 
 -- the data pages with this map, from the last to the first, and nothing where the mark is clean
-abbrev pub CloseLaw : Type 0
-CloseLaw = (p : Pack) (busy : List Bool) (pages : List ℕ) → Whole p → Tidy p → MayClose p pages → Closes p (close_writes (mark_of (sights p)) p.shape (read_pack p).last busy pages) (close_moves (mark_of (sights p)) pages)
+abbrev pub CloseCarriesOut : Type 0
+CloseCarriesOut = (p : Pack) (busy : List Bool) (pages : List ℕ) → Whole p → Tidy p → MayClose p pages → Closes p (close_writes (mark_of (sights p)) p.shape (read_pack p).last busy pages) (close_moves (mark_of (sights p)) pages)

@@ -1,5 +1,5 @@
 -- Links that were true are true at every cut of the values of DiskDescriptor.
-use Rattle.std.specs.Prelude.{◌≡◌, ◌≤◌, Bool, List, Some, ℕ}
+use Rattle.std.specs.Prelude.{Bool, List, Some, ℕ, ◌≡◌, ◌≤◌}
 use Rattle.alto_words.specs.Fid.{disk_descriptor}
 use Rattle.disk_records.specs.Packs.{Pack, cut, sector_at}
 use Rattle.pack_model.specs.Descriptor.{close_writes, open_writes, serial_writes}
@@ -13,13 +13,13 @@ use Rattle.laws_operation.specs.DescriptorLaws.{MayClose}
 use Rattle.laws_operation.specs.LinkLaws.{KeepsLinks}
 
 -- the mark is opened
-abbrev pub OpenLinks : Type 0
-OpenLinks = (p : Pack) (at : ℕ) → Whole p → Tidy p → place (sights p) disk_descriptor 1 ≡ Some at → KeepsLinks p (open_writes (mark_of (sights p)) at (sector_at p at).value)
+abbrev pub OpenKeepsLinks : Type 0
+OpenKeepsLinks = (p : Pack) (at : ℕ) → Whole p → Tidy p → place (sights p) disk_descriptor 1 ≡ Some at → KeepsLinks p (open_writes (mark_of (sights p)) at (sector_at p at).value)
 
 -- a new serial
-abbrev pub SerialLinks : Type 0
-SerialLinks = (p : Pack) (at last : ℕ) → Whole p → Tidy p → place (sights p) disk_descriptor 1 ≡ Some at → (read_pack p).last ≤ last → KeepsLinks p (serial_writes at last (sector_at p at).value)
+abbrev pub SerialKeepsLinks : Type 0
+SerialKeepsLinks = (p : Pack) (at last : ℕ) → Whole p → Tidy p → place (sights p) disk_descriptor 1 ≡ Some at → (read_pack p).last ≤ last → KeepsLinks p (serial_writes at last (sector_at p at).value)
 
 -- closing, at every cut
-abbrev pub CloseLinks : Type 0
-CloseLinks = (p : Pack) (busy : List Bool) (pages : List ℕ) (k : ℕ) → Whole p → Tidy p → MayClose p pages → LinksTrue p → LinksTrue (cut p (close_writes (mark_of (sights p)) p.shape (read_pack p).last busy pages) k)
+abbrev pub CloseKeepsLinks : Type 0
+CloseKeepsLinks = (p : Pack) (busy : List Bool) (pages : List ℕ) (k : ℕ) → Whole p → Tidy p → MayClose p pages → LinksTrue p → LinksTrue (cut p (close_writes (mark_of (sights p)) p.shape (read_pack p).last busy pages) k)

@@ -1,5 +1,5 @@
 -- What a calling program can know before it writes a directory, and the words that the laws of operations want then.
-use Rattle.std.specs.Prelude.{◌++◌, ◌-◌, ◌<◌, ◌∷◌, ◌≡◌, List, Some, [], false, length, suc, true, ℕ}
+use Rattle.std.specs.Prelude.{List, Some, [], false, length, suc, true, ℕ, ◌++◌, ◌-◌, ◌<◌, ◌∷◌, ◌≡◌}
 use Rattle.alto_words.specs.Fid.{is_directory, is_full_name, is_system}
 use Rattle.alto_words.specs.Names.{is_same_name, is_stored_name}
 use Rattle.alto_words.specs.declared.fid.Fid.{Fid}
@@ -24,8 +24,8 @@ use Rattle.laws_operation.specs.FileWords.{CanGrow}
 
 -- ---- enter
 -- the words of an entry of a full name that can be given, under a stored name, with any address
-abbrev pub EntryWritten : Type 0
-EntryWritten = (f : Fid) (address : ℕ) (name : List ℕ) (left : ℕ) → is_full_name f ≡ true → is_stored_name name ≡ true → EntryWords f name left (entered_words f address name left)
+abbrev pub EntryWordsFit : Type 0
+EntryWordsFit = (f : Fid) (address : ℕ) (name : List ℕ) (left : ℕ) → is_full_name f ≡ true → is_stored_name name ≡ true → EntryWords f name left (entered_words f address name left)
 
 -- the words that are left over in a room
 abbrev pub left_in : Room → List ℕ → ℕ
@@ -52,14 +52,14 @@ pub record EntersThere (p : Pack) (d : Fid) (name : List ℕ) (f : Fid) (r : Roo
   pub room : entry_room before old at next_at ≡ found_room r (dir_items (read_pack p) d) at next_at
 
 -- the words of the entry, with any address, and of a free slot for those left over may be entered in the room that was found
-abbrev pub EnteredWords : Type 0
-EnteredWords = (p : Pack) (d : Fid) (name : List ℕ) (f : Fid) (address : ℕ) (r : Room) (at next_at : ℕ) → let words : List ℕ = entered_words f address name (left_in r name) in
+abbrev pub EnterWordsFit : Type 0
+EnterWordsFit = (p : Pack) (d : Fid) (name : List ℕ) (f : Fid) (address : ℕ) (r : Room) (at next_at : ℕ) → let words : List ℕ = entered_words f address name (left_in r name) in
     CanEnter p d name f r words at next_at → EntersThere p d name f r words at next_at
 
 -- ---- widen
 -- the claim, and the label and the value of the old last page, where the new bytes are those of one free slot
-abbrev pub WidenedWords : Type 0
-WidenedWords = (p : Pack) (d : Fid) (b : ℕ) (past fresh : List ℕ) (at : ℕ) → Whole p → is_directory d ≡ true → CanGrow p d b widening_bytes past fresh at
+abbrev pub WidenWordsFit : Type 0
+WidenWordsFit = (p : Pack) (d : Fid) (b : ℕ) (past fresh : List ℕ) (at : ℕ) → Whole p → is_directory d ≡ true → CanGrow p d b widening_bytes past fresh at
     → MayWiden p d (space_words 256) (grown_claims p.shape d b at widening_bytes past fresh) at (grown_label p.shape b widening_bytes fresh (sector_at p at).label) (grown_value b widening_bytes past fresh (sector_at p at).value)
 
 -- ---- leave, and the last value of a drop
@@ -71,9 +71,9 @@ pub record HasEntry (p : Pack) (d : Fid) (at : ℕ) (a b : List Item) (f : Fid) 
   pub sector : place (sights p) d (page_of_word (all_words a)) ≡ Some at
 
 -- its slot can be made free
-abbrev pub SlotFreedWords : Type 0
-SlotFreedWords = (p : Pack) (d : Fid) (at : ℕ) (a b : List Item) (f : Fid) (own : List ℕ) → HasEntry p d at a b f own → Frees p d at a (entry f own ∷ []) b
+abbrev pub SlotWordsFit : Type 0
+SlotWordsFit = (p : Pack) (d : Fid) (at : ℕ) (a b : List Item) (f : Fid) (own : List ℕ) → HasEntry p d at a b f own → Frees p d at a (entry f own ∷ []) b
 
 -- and it may leave, under this name in whatever case
-abbrev pub LeftWords : Type 0
-LeftWords = (p : Pack) (d : Fid) (name : List ℕ) (at : ℕ) (a b : List Item) (f : Fid) (own : List ℕ) → HasEntry p d at a b f own → is_same_name own name ≡ true → is_system f ≡ false → MayLeave p d name at a b f own
+abbrev pub LeaveWordsFit : Type 0
+LeaveWordsFit = (p : Pack) (d : Fid) (name : List ℕ) (at : ℕ) (a b : List Item) (f : Fid) (own : List ℕ) → HasEntry p d at a b f own → is_same_name own name ≡ true → is_system f ≡ false → MayLeave p d name at a b f own

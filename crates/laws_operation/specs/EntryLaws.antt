@@ -1,7 +1,7 @@
 -- Entries of what a pack is read as, and names that are free in its directories.
 use Rattle.std.specs.List.{list_any}
 use Rattle.std.specs.FinMap.{entries}
-use Rattle.std.specs.Prelude.{◌&&◌, ◌++◌, ◌∷◌, ◌≡◌, Bool, List, false, not, true, ℕ}
+use Rattle.std.specs.Prelude.{Bool, List, false, not, true, ℕ, ◌&&◌, ◌++◌, ◌∷◌, ◌≡◌}
 use Rattle.alto_words.specs.Fid.{is_directory, is_fid}
 use Rattle.alto_words.specs.Names.{is_same_name}
 use Rattle.alto_words.specs.declared.fid.Fid.{Fid}
@@ -37,17 +37,17 @@ abbrev pub IsApart : Model → Fid → Fid → List ℕ → Type 0
 IsApart m d f name = list_any (clashes (record { dir = d; name = name; fid = f })) (namings (entries m.files)) ≡ false
 
 -- an entry of a file without one, under a name that no entry of its directory gives another file, clashes with none of the model
-abbrev pub NamelessIsApart : Type 0
-NamelessIsApart = (m : Model) (d f : Fid) (name : List ℕ) → is_named m f ≡ false → IsOpenTo m d f name → IsApart m d f name
+abbrev pub FreeNameIsApartForANamelessFile : Type 0
+FreeNameIsApartForANamelessFile = (m : Model) (d f : Fid) (name : List ℕ) → is_named m f ≡ false → IsOpenTo m d f name → IsApart m d f name
 
 -- ---- files without an entry
 -- no entry of what any pack is read as has a file that doesn't live
-abbrev pub EntriesNameLiving : Type 0
-EntriesNameLiving = (p : Pack) (f : Fid) → lives (sights p) f ≡ false → is_named (read_pack p) f ≡ false
+abbrev pub EntriesNameLivingFiles : Type 0
+EntriesNameLivingFiles = (p : Pack) (f : Fid) → lives (sights p) f ≡ false → is_named (read_pack p) f ≡ false
 
 -- behind the make of a file that didn't live no entry has it, on any pack
-abbrev pub MadeIsNameless : Type 0
-MadeIsNameless = (p : Pack) (f : Fid) (own : List ℕ) (moment : ℕ) → lives (sights p) f ≡ false → is_named (step (read_pack p) (make f own moment)) f ≡ false
+abbrev pub MakeLeavesNoName : Type 0
+MakeLeavesNoName = (p : Pack) (f : Fid) (own : List ℕ) (moment : ℕ) → lives (sights p) f ≡ false → is_named (step (read_pack p) (make f own moment)) f ≡ false
 
 -- An entry of this file in a directory of the model, under this name in whatever case. Of what a pack is read as it is the only one
 -- there under this name, so that it is the one that leaves by it; of other models the first one with the name leaves.
@@ -59,17 +59,17 @@ pub record HasName (m : Model) (d : Fid) (old : List ℕ) (f : Fid) : Type 0 whe
   pub same : is_same_name own old ≡ true
 
 -- behind the leaving of a file's entry no other has the file, on any pack
-abbrev pub LeavingTakesOnly : Type 0
-LeavingTakesOnly = (p : Pack) (d f : Fid) (old : List ℕ) → HasName (read_pack p) d old f → is_named (step (read_pack p) (leave d old)) f ≡ false
+abbrev pub LeaveTakesTheOnlyEntry : Type 0
+LeaveTakesTheOnlyEntry = (p : Pack) (d f : Fid) (old : List ℕ) → HasName (read_pack p) d old f → is_named (step (read_pack p) (leave d old)) f ≡ false
 
 -- ---- names that are free behind a make and behind a leaving, by the directories as they were before
 -- behind the make of a file that didn't live an entry of it clashes with none, under a name that no entry of its directory had, on any pack
-abbrev pub ApartBehindMake : Type 0
-ApartBehindMake = (p : Pack) (d f : Fid) (name own : List ℕ) (moment : ℕ) → lives (sights p) f ≡ false → IsOpenTo (read_pack p) d f name → IsApart (step (read_pack p) (make f own moment)) d f name
+abbrev pub FreeNameIsApartAfterMake : Type 0
+FreeNameIsApartAfterMake = (p : Pack) (d f : Fid) (name own : List ℕ) (moment : ℕ) → lives (sights p) f ≡ false → IsOpenTo (read_pack p) d f name → IsApart (step (read_pack p) (make f own moment)) d f name
 
 -- behind the leaving of a file's entry another one of it clashes with none, in any directory where no other file had its name, on any pack
-abbrev pub ApartBehindLeaving : Type 0
-ApartBehindLeaving = (p : Pack) (d e f : Fid) (name old : List ℕ) → HasName (read_pack p) d old f → IsOpenTo (read_pack p) e f name → IsApart (step (read_pack p) (leave d old)) e f name
+abbrev pub FreeNameIsApartAfterLeave : Type 0
+FreeNameIsApartAfterLeave = (p : Pack) (d e f : Fid) (name old : List ℕ) → HasName (read_pack p) d old f → IsOpenTo (read_pack p) e f name → IsApart (step (read_pack p) (leave d old)) e f name
 
 -- ---- other operations
 -- an operation on a file's bytes or leader, or a widening: not a make, a drop, a leaving or an entering
@@ -86,5 +86,5 @@ keeps_entries (enter d name f) = false
 keeps_entries (widen d) = true
 
 -- behind such an operation the entries of any model are the same, so that what clashed with none of them clashes with none still
-abbrev pub EntriesStay : Type 0
-EntriesStay = (m : Model) (o : Operation) → keeps_entries o ≡ true → namings (entries (step m o).files) ≡ namings (entries m.files)
+abbrev pub BytesLeadersAndWideningsKeepEntries : Type 0
+BytesLeadersAndWideningsKeepEntries = (m : Model) (o : Operation) → keeps_entries o ≡ true → namings (entries (step m o).files) ≡ namings (entries m.files)

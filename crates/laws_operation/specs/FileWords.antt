@@ -1,6 +1,6 @@
 -- What a calling program can know before it makes a file or writes one, and the words that the laws of operations want then.
 use Rattle.std.specs.List.{AllPairs}
-use Rattle.std.specs.Prelude.{◌%◌, ◌+◌, ◌<◌, ◌≡◌, ◌≢◌, ◌≤◌, All, List, Some, [], false, length, suc, true, ℕ}
+use Rattle.std.specs.Prelude.{All, List, Some, [], false, length, suc, true, ℕ, ◌%◌, ◌+◌, ◌<◌, ◌≡◌, ◌≢◌, ◌≤◌}
 use Rattle.alto_words.specs.Fid.{disk_descriptor, is_fid, is_full_name, serial_of}
 use Rattle.alto_words.specs.Names.{is_stored_name}
 use Rattle.alto_words.specs.declared.fid.Fid.{Fid}
@@ -30,8 +30,8 @@ pub record CanMake (p : Pack) (f : Fid) (name : List ℕ) (leader_at page_at : �
   pub two : leader_at ≢ page_at
 
 -- the two claims, whatever the moment
-abbrev pub MadeWords : Type 0
-MadeWords = (p : Pack) (f : Fid) (name : List ℕ) (moment leader_at page_at : ℕ) → CanMake p f name leader_at page_at
+abbrev pub MakeWordsFit : Type 0
+MakeWordsFit = (p : Pack) (f : Fid) (name : List ℕ) (moment leader_at page_at : ℕ) → CanMake p f name leader_at page_at
     → MayMake p f name moment (first_page_claim p.shape f leader_at page_at) (leader_claim p.shape f name moment leader_at page_at)
 
 -- ---- put
@@ -44,8 +44,8 @@ pub record CanPut (p : Pack) (f : Fid) (offset : ℕ) (new : List ℕ) (at : ℕ
   pub bytes : All (λ b. b < 256) new
 
 -- the page's value with them in place
-abbrev pub PutInWords : Type 0
-PutInWords = (p : Pack) (f : Fid) (offset : ℕ) (new : List ℕ) (at : ℕ) → Whole p → CanPut p f offset new at → MayPut p f offset new at (put_value (offset % 512) new [] (sector_at p at).value)
+abbrev pub PutWordsFit : Type 0
+PutWordsFit = (p : Pack) (f : Fid) (offset : ℕ) (new : List ℕ) (at : ℕ) → Whole p → CanPut p f offset new at → MayPut p f offset new at (put_value (offset % 512) new [] (sector_at p at).value)
 
 -- ---- grow, and widen
 -- More bytes for a file of b bytes, and words behind them in the page that is the last one then; the sector of the page that is the
@@ -62,8 +62,8 @@ pub record CanGrow (p : Pack) (f : Fid) (b : ℕ) (new past fresh : List ℕ) (a
   pub distinct : AllPairs (λ i j. i ≢ j) fresh
 
 -- the claims, and the label and the value of the old last page
-abbrev pub GrownWords : Type 0
-GrownWords = (p : Pack) (f : Fid) (b : ℕ) (new past fresh : List ℕ) (at : ℕ) → Whole p → IsOrdinary f → CanGrow p f b new past fresh at
+abbrev pub GrowWordsFit : Type 0
+GrowWordsFit = (p : Pack) (f : Fid) (b : ℕ) (new past fresh : List ℕ) (at : ℕ) → Whole p → IsOrdinary f → CanGrow p f b new past fresh at
     → MayGrow p f new (grown_claims p.shape f b at new past fresh) at (grown_label p.shape b new fresh (sector_at p at).label) (grown_value b new past fresh (sector_at p at).value)
 
 -- ---- cut
@@ -76,8 +76,8 @@ pub record CanCut (p : Pack) (f : Fid) (n at : ℕ) (later : List ℕ) : Type 0 
   pub later_are : Bear (sights p) f (suc (page_of_byte n)) later
 
 -- its label with another count, and no next link
-abbrev pub CutWords : Type 0
-CutWords = (p : Pack) (f : Fid) (n at : ℕ) (later : List ℕ) → CanCut p f n at later → MayCut p f n at (cut_label n (sector_at p at).label) later
+abbrev pub CutWordsFit : Type 0
+CutWordsFit = (p : Pack) (f : Fid) (n at : ℕ) (later : List ℕ) → CanCut p f n at later → MayCut p f n at (cut_label n (sector_at p at).label) later
 
 -- ---- title and stamp
 -- The sector of an ordinary file's leader, with a value of 256 words.
@@ -87,9 +87,9 @@ pub record CanWriteLeader (p : Pack) (f : Fid) (at : ℕ) : Type 0 where
   pub sized : length (sector_at p at).value ≡ 256
 
 -- its value with another stored name
-abbrev pub TitledWords : Type 0
-TitledWords = (p : Pack) (f : Fid) (name : List ℕ) (at : ℕ) → CanWriteLeader p f at → is_stored_name name ≡ true → MayWriteLeader p f (titled name) at (titled_value name (sector_at p at).value)
+abbrev pub TitleWordsFit : Type 0
+TitleWordsFit = (p : Pack) (f : Fid) (name : List ℕ) (at : ℕ) → CanWriteLeader p f at → is_stored_name name ≡ true → MayWriteLeader p f (titled name) at (titled_value name (sector_at p at).value)
 
 -- its value with another written date, and any hints of the last page
-abbrev pub StampedWords : Type 0
-StampedWords = (p : Pack) (f : Fid) (moment at last_at number bytes : ℕ) → Whole p → CanWriteLeader p f at → MayWriteLeader p f (stamped moment) at (stamped_value moment last_at number bytes (sector_at p at).value)
+abbrev pub StampWordsFit : Type 0
+StampWordsFit = (p : Pack) (f : Fid) (moment at last_at number bytes : ℕ) → Whole p → CanWriteLeader p f at → MayWriteLeader p f (stamped moment) at (stamped_value moment last_at number bytes (sector_at p at).value)

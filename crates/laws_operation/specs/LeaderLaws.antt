@@ -1,5 +1,5 @@
 -- The operations on the leader of an ordinary file: title and stamp.
-use Rattle.std.specs.Prelude.{◌≡◌, List, Some, true, ℕ}
+use Rattle.std.specs.Prelude.{List, Some, true, ℕ, ◌≡◌}
 use Rattle.alto_words.specs.declared.fid.Fid.{Fid}
 use Rattle.disk_records.specs.Commands.{value_writes}
 use Rattle.disk_records.specs.Packs.{Pack, sector_at}
@@ -27,9 +27,9 @@ abbrev pub stamped : ℕ → Leader → Leader
 stamped moment l = record l { written = moment }
 
 -- that value is the title
-abbrev pub TitleLaw : Type 0
-TitleLaw = (p : Pack) (f : Fid) (name : List ℕ) (at : ℕ) (value : List ℕ) → Whole p → Tidy p → MayWriteLeader p f (titled name) at value → CarriesOut p (value_writes at value) (title f name)
+abbrev pub TitleCarriesOut : Type 0
+TitleCarriesOut = (p : Pack) (f : Fid) (name : List ℕ) (at : ℕ) (value : List ℕ) → Whole p → Tidy p → MayWriteLeader p f (titled name) at value → CarriesOut p (value_writes at value) (title f name)
 
 -- that value is the stamp
-abbrev pub StampLaw : Type 0
-StampLaw = (p : Pack) (f : Fid) (moment : ℕ) (at : ℕ) (value : List ℕ) → Whole p → Tidy p → MayWriteLeader p f (stamped moment) at value → CarriesOut p (value_writes at value) (stamp f moment)
+abbrev pub StampCarriesOut : Type 0
+StampCarriesOut = (p : Pack) (f : Fid) (moment : ℕ) (at : ℕ) (value : List ℕ) → Whole p → Tidy p → MayWriteLeader p f (stamped moment) at value → CarriesOut p (value_writes at value) (stamp f moment)

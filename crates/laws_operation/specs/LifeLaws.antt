@@ -49,8 +49,8 @@ pub record MayMake (p : Pack) (f : Fid) (name : List ℕ) (moment : ℕ) (page l
   pub says : leader_of f leader.value ≡ new_leader name moment
 
 -- the two claims are the making
-abbrev pub MakeLaw : Type 0
-MakeLaw = (p : Pack) (f : Fid) (name : List ℕ) (moment : ℕ) (page leader : Claim) → Whole p → Tidy p → MayMake p f name moment page leader → CarriesOut p (make_writes page leader) (make f name moment)
+abbrev pub MakeCarriesOut : Type 0
+MakeCarriesOut = (p : Pack) (f : Fid) (name : List ℕ) (moment : ℕ) (page leader : Claim) → Whole p → Tidy p → MayMake p f name moment page leader → CarriesOut p (make_writes page leader) (make f name moment)
 
 -- ---- drop
 -- A file that isn't a system file and has no entries of its own; the sector of its leader, and those of its data pages, rising.
@@ -74,8 +74,8 @@ pub record GoesOut (p : Pack) (f : Fid) (events : List Event) : Type 0 where
   pub fits : StillFits p (after p events)
 
 -- the releases are the drop but for its slot
-abbrev pub GoLaw : Type 0
-GoLaw = (p : Pack) (f : Fid) (at : ℕ) (pages : List ℕ) → Whole p → Tidy p → MayDrop p f at pages → GoesOut p f (go_writes at pages)
+abbrev pub ReleaseCarriesOut : Type 0
+ReleaseCarriesOut = (p : Pack) (f : Fid) (at : ℕ) (pages : List ℕ) → Whole p → Tidy p → MayDrop p f at pages → GoesOut p f (go_writes at pages)
 
 -- The last: on a whole pack that is tidy but for the entry of a file that doesn't live, the value in which its slot is a free one
 -- changes nothing that is read, and leaves a whole and tidy pack.
@@ -85,11 +85,11 @@ pub record SlotFreed (p : Pack) (events : List Event) : Type 0 where
   pub fits : StillFits p (after p events)
 
 -- so it is for such a value
-abbrev pub SlotLaw : Type 0
-SlotLaw = (p : Pack) (f d : Fid) (at : ℕ) (a b : List Item) (own : List ℕ) → Whole p → TidyBut f (sights p) → lives (sights p) f ≡ false → Frees p d at a (entry f own ∷ []) b
+abbrev pub SlotCarriesOut : Type 0
+SlotCarriesOut = (p : Pack) (f d : Fid) (at : ℕ) (a b : List Item) (own : List ℕ) → Whole p → TidyBut f (sights p) → lives (sights p) f ≡ false → Frees p d at a (entry f own ∷ []) b
     → SlotFreed p (value_writes at (freed_value (all_words a) (item_words (entry f own)) (sector_at p at).value))
 
 -- all of it, where the file has an entry
-abbrev pub DropLaw : Type 0
-DropLaw = (p : Pack) (f : Fid) (at : ℕ) (pages : List ℕ) (d : Fid) (slot_at : ℕ) (a b : List Item) (own : List ℕ) → Whole p → Tidy p → MayDrop p f at pages → Frees p d slot_at a (entry f own ∷ []) b
+abbrev pub DropCarriesOut : Type 0
+DropCarriesOut = (p : Pack) (f : Fid) (at : ℕ) (pages : List ℕ) (d : Fid) (slot_at : ℕ) (a b : List Item) (own : List ℕ) → Whole p → Tidy p → MayDrop p f at pages → Frees p d slot_at a (entry f own ∷ []) b
     → CarriesOut p (drop_writes at pages slot_at (freed_value (all_words a) (item_words (entry f own)) (sector_at p slot_at).value)) (drop_file f)

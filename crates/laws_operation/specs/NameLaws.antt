@@ -35,8 +35,8 @@ pub record MayLeave (p : Pack) (d : Fid) (name : List ℕ) (at : ℕ) (a b : Lis
   pub no_system : is_system f ≡ false
 
 -- the value in which its slot is a free one is the leaving
-abbrev pub LeaveLaw : Type 0
-LeaveLaw = (p : Pack) (d : Fid) (name : List ℕ) (at : ℕ) (a b : List Item) (f : Fid) (own : List ℕ) → Whole p → Tidy p → MayLeave p d name at a b f own
+abbrev pub LeaveCarriesOut : Type 0
+LeaveCarriesOut = (p : Pack) (d : Fid) (name : List ℕ) (at : ℕ) (a b : List Item) (f : Fid) (own : List ℕ) → Whole p → Tidy p → MayLeave p d name at a b f own
     → CarriesOut p (value_writes at (freed_value (all_words a) (item_words (entry f own)) (sector_at p at).value)) (leave d name)
 
 -- ---- widen
@@ -52,8 +52,8 @@ pub record MayWiden (p : Pack) (d : Fid) (added : List ℕ) (claims : List Claim
   pub slot : IsSlot added (space 256)
 
 -- the record writes of that growth are the widening
-abbrev pub WidenLaw : Type 0
-WidenLaw = (p : Pack) (d : Fid) (added : List ℕ) (claims : List Claim) (at : ℕ) (label value : List ℕ) → Whole p → Tidy p → MayWiden p d added claims at label value → CarriesOut p (grow_writes claims at label value) (widen d)
+abbrev pub WidenCarriesOut : Type 0
+WidenCarriesOut = (p : Pack) (d : Fid) (added : List ℕ) (claims : List Claim) (at : ℕ) (label value : List ℕ) → Whole p → Tidy p → MayWiden p d added claims at label value → CarriesOut p (grow_writes claims at label value) (widen d)
 
 -- ---- enter
 -- the room's slots are these, and no others
@@ -89,6 +89,6 @@ abbrev pub entry_room : List Item → List Item → ℕ → ℕ → EntryRoom
 entry_room a old at next_at = record { place = all_words a; first_words = item_words (get_or old 0 (space 0)); total = all_words old; at = at; next_at = next_at }
 
 -- these values, in order, are the entering
-abbrev pub EnterLaw : Type 0
-EnterLaw = (p : Pack) (d : Fid) (name : List ℕ) (f : Fid) (a old b : List Item) (left : ℕ) (words : List ℕ) (at next_at : ℕ) → Whole p → Tidy p → MayEnterAt p d name f a old b left words at next_at
+abbrev pub EnterCarriesOut : Type 0
+EnterCarriesOut = (p : Pack) (d : Fid) (name : List ℕ) (f : Fid) (a old b : List Item) (left : ℕ) (words : List ℕ) (at next_at : ℕ) → Whole p → Tidy p → MayEnterAt p d name f a old b left words at next_at
     → IsSeenAs p (enter_writes (values_first p (entry_room a old at next_at) words) at (entry_value p (entry_room a old at next_at) words)) (enter d name f)

@@ -1,5 +1,5 @@
 -- No page is carried twice, at any cut of an operation on a whole pack.
-use Rattle.std.specs.Prelude.{◌≡◌, Bool, List, Some, ℕ}
+use Rattle.std.specs.Prelude.{Bool, List, Some, ℕ, ◌≡◌}
 use Rattle.alto_words.specs.declared.fid.Fid.{Fid}
 use Rattle.disk_records.specs.Packs.{Pack, carried}
 use Rattle.disk_records.specs.declared.records.Event.{Event}
@@ -23,44 +23,44 @@ abbrev pub StaysOnce : Pack → List Event → Type 0
 StaysOnce p events = Throughout CarriedOnce p events
 
 -- a whole pack
-abbrev pub WholeOnce : Type 0
-WholeOnce = (p : Pack) → Whole p → CarriedOnce p
+abbrev pub WholePackCarriesOnce : Type 0
+WholePackCarriesOnce = (p : Pack) → Whole p → CarriedOnce p
 
 -- any values in any sectors: a put, a title, a stamp, a leaving, a freed slot, a new serial
-abbrev pub ValuesOnce : Type 0
-ValuesOnce = (p : Pack) (values : List (ℕ × List ℕ)) → Whole p → StaysOnce p (values_writes values)
+abbrev pub ValuesCarryOnce : Type 0
+ValuesCarryOnce = (p : Pack) (values : List (ℕ × List ℕ)) → Whole p → StaysOnce p (values_writes values)
 
 -- opening and closing
-abbrev pub OpenOnce : Type 0
-OpenOnce = (p : Pack) (mark at : ℕ) (value : List ℕ) → Whole p → StaysOnce p (open_writes mark at value)
+abbrev pub OpenCarriesOnce : Type 0
+OpenCarriesOnce = (p : Pack) (mark at : ℕ) (value : List ℕ) → Whole p → StaysOnce p (open_writes mark at value)
 
-abbrev pub CloseOnce : Type 0
-CloseOnce = (p : Pack) (mark : ℕ) (shape : Shape) (last : ℕ) (busy : List Bool) (pages : List ℕ) → Whole p → StaysOnce p (close_writes mark shape last busy pages)
+abbrev pub CloseCarriesOnce : Type 0
+CloseCarriesOnce = (p : Pack) (mark : ℕ) (shape : Shape) (last : ℕ) (busy : List Bool) (pages : List ℕ) → Whole p → StaysOnce p (close_writes mark shape last busy pages)
 
 -- an entering
-abbrev pub EnterOnce : Type 0
-EnterOnce = (p : Pack) (before : List (ℕ × List ℕ)) (at : ℕ) (value : List ℕ) → Whole p → StaysOnce p (enter_writes before at value)
+abbrev pub EnterCarriesOnce : Type 0
+EnterCarriesOnce = (p : Pack) (before : List (ℕ × List ℕ)) (at : ℕ) (value : List ℕ) → Whole p → StaysOnce p (enter_writes before at value)
 
 -- a growth
-abbrev pub GrowOnce : Type 0
-GrowOnce = (p : Pack) (f : Fid) (new : List ℕ) (claims : List Claim) (at : ℕ) (label value : List ℕ) → Whole p → MayGrow p f new claims at label value → StaysOnce p (grow_writes claims at label value)
+abbrev pub GrowCarriesOnce : Type 0
+GrowCarriesOnce = (p : Pack) (f : Fid) (new : List ℕ) (claims : List Claim) (at : ℕ) (label value : List ℕ) → Whole p → MayGrow p f new claims at label value → StaysOnce p (grow_writes claims at label value)
 
 -- a widening
-abbrev pub WidenOnce : Type 0
-WidenOnce = (p : Pack) (d : Fid) (added : List ℕ) (claims : List Claim) (at : ℕ) (label value : List ℕ) → Whole p → MayWiden p d added claims at label value → StaysOnce p (grow_writes claims at label value)
+abbrev pub WidenCarriesOnce : Type 0
+WidenCarriesOnce = (p : Pack) (d : Fid) (added : List ℕ) (claims : List Claim) (at : ℕ) (label value : List ℕ) → Whole p → MayWiden p d added claims at label value → StaysOnce p (grow_writes claims at label value)
 
 -- a cut, with any value
-abbrev pub CutOnce : Type 0
-CutOnce = (p : Pack) (f : Fid) (n at : ℕ) (label value later : List ℕ) → Whole p → MayCut p f n at label later → StaysOnce p (cut_writes at label value later)
+abbrev pub CutCarriesOnce : Type 0
+CutCarriesOnce = (p : Pack) (f : Fid) (n at : ℕ) (label value later : List ℕ) → Whole p → MayCut p f n at label later → StaysOnce p (cut_writes at label value later)
 
 -- a make
-abbrev pub MakeOnce : Type 0
-MakeOnce = (p : Pack) (f : Fid) (name : List ℕ) (moment : ℕ) (page leader : Claim) → Whole p → MayMake p f name moment page leader → StaysOnce p (make_writes page leader)
+abbrev pub MakeCarriesOnce : Type 0
+MakeCarriesOnce = (p : Pack) (f : Fid) (name : List ℕ) (moment : ℕ) (page leader : Claim) → Whole p → MayMake p f name moment page leader → StaysOnce p (make_writes page leader)
 
 -- a drop, of any sectors
-abbrev pub DropOnce : Type 0
-DropOnce = (p : Pack) (at : ℕ) (pages : List ℕ) (slot_at : ℕ) (value : List ℕ) → Whole p → StaysOnce p (drop_writes at pages slot_at value)
+abbrev pub DropCarriesOnce : Type 0
+DropCarriesOnce = (p : Pack) (at : ℕ) (pages : List ℕ) (slot_at : ℕ) (value : List ℕ) → Whole p → StaysOnce p (drop_writes at pages slot_at value)
 
 -- but for its entry's slot
-abbrev pub GoOnce : Type 0
-GoOnce = (p : Pack) (at : ℕ) (pages : List ℕ) → Whole p → StaysOnce p (go_writes at pages)
+abbrev pub ReleaseCarriesOnce : Type 0
+ReleaseCarriesOnce = (p : Pack) (at : ℕ) (pages : List ℕ) → Whole p → StaysOnce p (go_writes at pages)

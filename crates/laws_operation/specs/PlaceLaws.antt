@@ -1,7 +1,7 @@
 -- Which files live and where their pages are, by what the labels of sectors carry.
 use Rattle.std.specs.FinMap.{get}
 use Rattle.std.specs.Option.{is_some}
-use Rattle.std.specs.Prelude.{◌<◌, ◌≡◌, ◌≢◌, List, None, Some, false, ℕ}
+use Rattle.std.specs.Prelude.{List, None, Some, false, ℕ, ◌<◌, ◌≡◌, ◌≢◌}
 use Rattle.alto_words.specs.Fid.{disk_descriptor, is_fid, serial_of}
 use Rattle.alto_words.specs.declared.fid.Fid.{Fid}
 use Rattle.disk_records.specs.Addresses.{pages_of}
@@ -16,12 +16,12 @@ use Rattle.pack_model.specs.Whole.{Whole}
 
 -- ---- on any pack
 -- a file lives exactly where its leader page has a place
-abbrev pub LivesInAPlace : Type 0
-LivesInAPlace = (p : Pack) (f : Fid) → lives (sights p) f ≡ is_some (place (sights p) f 0)
+abbrev pub FileLivesInAPlace : Type 0
+FileLivesInAPlace = (p : Pack) (f : Fid) → lives (sights p) f ≡ is_some (place (sights p) f 0)
 
 -- a page that no sector carries has no place
-abbrev pub NoneCarries : Type 0
-NoneCarries = (p : Pack) (page : Page) → ((at : ℕ) → at < pages_of p.shape → carried p at ≢ Some page) → place (sights p) page.fid page.number ≡ None
+abbrev pub UncarriedPageHasNoPlace : Type 0
+UncarriedPageHasNoPlace = (p : Pack) (page : Page) → ((at : ℕ) → at < pages_of p.shape → carried p at ≢ Some page) → place (sights p) page.fid page.number ≡ None
 
 -- of the files but DiskDescriptor the model has exactly those that live
 abbrev pub ModelHasTheLiving : Type 0
@@ -33,8 +33,8 @@ abbrev pub CarriedInPlace : Type 0
 CarriedInPlace = (p : Pack) (page : Page) (at : ℕ) → Whole p → carried p at ≡ Some page → place (sights p) page.fid page.number ≡ Some at
 
 -- on a whole pack no file with a serial above the last one given out lives
-abbrev pub NoneAboveLast : Type 0
-NoneAboveLast = (p : Pack) (f : Fid) → Whole p → (read_pack p).last < serial_of f → lives (sights p) f ≡ false
+abbrev pub NoneAboveTheLastSerial : Type 0
+NoneAboveTheLastSerial = (p : Pack) (f : Fid) → Whole p → (read_pack p).last < serial_of f → lives (sights p) f ≡ false
 
 -- ---- behind values
 -- The same files live, and each page has the same place.
@@ -51,5 +51,5 @@ abbrev pub SerialKeepsPlaces : Type 0
 SerialKeepsPlaces = (p : Pack) (at last : ℕ) (value : List ℕ) → SamePlaces p (after p (serial_writes at last value))
 
 -- behind a new serial above the last one given out no file with it lives, on a whole pack
-abbrev pub NewSerialNamesNone : Type 0
-NewSerialNamesNone = (p : Pack) (f : Fid) (at : ℕ) (value : List ℕ) → Whole p → (read_pack p).last < serial_of f → lives (sights (after p (serial_writes at (serial_of f) value))) f ≡ false
+abbrev pub NewSerialNamesNoLivingFile : Type 0
+NewSerialNamesNoLivingFile = (p : Pack) (f : Fid) (at : ℕ) (value : List ℕ) → Whole p → (read_pack p).last < serial_of f → lives (sights (after p (serial_writes at (serial_of f) value))) f ≡ false

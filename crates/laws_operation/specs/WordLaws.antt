@@ -8,10 +8,10 @@ use Rattle.pack_model.specs.PageWords.{put_value, relabelled}
 use Rattle.laws_record.specs.QuietLaws.{counted_of}
 
 -- another count and another next link: the label names the page that it named
-abbrev pub RelabelledWords : Type 0
-RelabelledWords = (label : List ℕ) (page : Page) (bytes next : ℕ) → page_of label ≡ Some page → bytes ≤ 512 → (page_of (relabelled label bytes next) ≡ Some page) × ((tag (relabelled label bytes next)).bytes ≡ bytes)
+abbrev pub LabelWithAnotherCount : Type 0
+LabelWithAnotherCount = (label : List ℕ) (page : Page) (bytes next : ℕ) → page_of label ≡ Some page → bytes ≤ 512 → (page_of (relabelled label bytes next) ≡ Some page) × ((tag (relabelled label bytes next)).bytes ≡ bytes)
 
 -- bytes in the place of others in a value, within those that its label counts: they are so among the counted ones
-abbrev pub PutWords : Type 0
-PutWords = (p : Pack) (at offset : ℕ) (new : List ℕ) → All (λ byte. byte < 256) new → offset + length new ≤ length (counted_of p at (sector_at p at).value)
+abbrev pub BytesInAValue : Type 0
+BytesInAValue = (p : Pack) (at offset : ℕ) (new : List ℕ) → All (λ byte. byte < 256) new → offset + length new ≤ length (counted_of p at (sector_at p at).value)
     → counted_of p at (put_value offset new [] (sector_at p at).value) ≡ put_at offset new (counted_of p at (sector_at p at).value)

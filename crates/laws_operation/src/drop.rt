@@ -1,74 +1,74 @@
 //! Dropping a file with its entry; the release of its pages alone; and the slot of its entry alone.
 
-ghost use Rattle.laws_operation.specs.DirectoryWords.{SlotFreedWords};
-ghost use Rattle.laws_operation.specs.FreeLaws.{DropTakesNone, DroppedAreFree, ReleasedAreFree, ReleasesTakeNone};
-ghost use Rattle.laws_operation.specs.LifeLaws.{DropLaw, GoLaw, SlotLaw};
-ghost use Rattle.laws_operation.specs.LinkLaws.{GoLinks};
-ghost use Rattle.laws_operation.specs.NameLinkLaws.{DropLinks, SlotLinks};
-ghost use Rattle.laws_operation.specs.OnceLaws.{DropOnce, GoOnce};
+ghost use Rattle.laws_operation.specs.DirectoryWords.{SlotWordsFit};
+ghost use Rattle.laws_operation.specs.FreeLaws.{DropFreesItsPages, DropTakesNoSector, ReleaseFreesItsPages, ReleaseTakesNoSector};
+ghost use Rattle.laws_operation.specs.LifeLaws.{DropCarriesOut, ReleaseCarriesOut, SlotCarriesOut};
+ghost use Rattle.laws_operation.specs.LinkLaws.{ReleaseKeepsLinks};
+ghost use Rattle.laws_operation.specs.NameLinkLaws.{DropKeepsLinks, SlotKeepsLinks};
+ghost use Rattle.laws_operation.specs.OnceLaws.{DropCarriesOnce, ReleaseCarriesOnce};
 
 /// The value that makes an entry's slot a free one is such as the last law of a drop asks for.
-pub fn words_of_a_freed_slot()
-    ensures { SlotFreedWords }
+pub fn slot_words_fit()
+    ensures { SlotWordsFit }
 {}
 
 /// The release of a file's leader, and then those of its data pages, are its drop but for the slot of its entry: it takes place at
 /// the leader's label.
-pub fn drop_goes_out()
-    ensures { GoLaw }
+pub fn release_carries_out()
+    ensures { ReleaseCarriesOut }
 {}
 
 /// The value in which the slot of a file that was dropped is a free one changes nothing that is read.
-pub fn slot_of_a_dropped_file()
-    ensures { SlotLaw }
+pub fn slot_carries_out()
+    ensures { SlotCarriesOut }
 {}
 
 /// These record writes, one after another, are the whole drop of a file that has an entry.
 pub fn drop_carries_out()
-    ensures { DropLaw }
+    ensures { DropCarriesOut }
 {}
 
 /// A drop but for the slot of its entry.
-pub fn drop_keeps_links()
-    ensures { GoLinks }
+pub fn release_keeps_links()
+    ensures { ReleaseKeepsLinks }
 {}
 
 /// The slot of a file that was dropped is made free.
-pub fn freed_slot_keeps_links()
-    ensures { SlotLinks }
+pub fn slot_keeps_links()
+    ensures { SlotKeepsLinks }
 {}
 
 /// A whole drop.
-pub fn whole_drop_keeps_links()
-    ensures { DropLinks }
+pub fn drop_keeps_links()
+    ensures { DropKeepsLinks }
 {}
 
 /// A drop.
 pub fn drop_carries_once()
-    ensures { DropOnce }
+    ensures { DropCarriesOnce }
 {}
 
 /// A drop but for the slot of its entry.
-pub fn drop_goes_once()
-    ensures { GoOnce }
+pub fn release_carries_once()
+    ensures { ReleaseCarriesOnce }
 {}
 
 /// Behind a drop each sector of any pack that was free is free still.
 pub fn drop_takes_no_sector()
-    ensures { DropTakesNone }
+    ensures { DropTakesNoSector }
 {}
 
 /// Behind the releases of a drop, before the value that frees its entry's slot, each sector of any pack that was free is free still.
-pub fn releases_take_no_sector()
-    ensures { ReleasesTakeNone }
+pub fn release_takes_no_sector()
+    ensures { ReleaseTakesNoSector }
 {}
 
 /// The sectors of any pack that bear pages of a file in a row are free once they are released.
-pub fn released_pages_are_free()
-    ensures { ReleasedAreFree }
+pub fn release_frees_its_pages()
+    ensures { ReleaseFreesItsPages }
 {}
 
 /// The sectors of any pack that bear a file's leader and its first data pages are free behind a drop that releases them.
-pub fn dropped_pages_are_free()
-    ensures { DroppedAreFree }
+pub fn drop_frees_its_pages()
+    ensures { DropFreesItsPages }
 {}

@@ -1,54 +1,54 @@
 //! Entering a name in a directory.
 
-ghost use Rattle.laws_operation.specs.DirectoryWords.{EnteredWords, EntryWritten};
-ghost use Rattle.laws_operation.specs.EntryLaws.{NamelessIsApart};
-ghost use Rattle.laws_operation.specs.FreeLaws.{EnterLeavesFree};
-ghost use Rattle.laws_operation.specs.NameLaws.{EnterLaw};
-ghost use Rattle.laws_operation.specs.NameLinkLaws.{EnterLinks, JoinLinks, LooseLinks};
-ghost use Rattle.laws_operation.specs.OnceLaws.{EnterOnce};
+ghost use Rattle.laws_operation.specs.DirectoryWords.{EnterWordsFit, EntryWordsFit};
+ghost use Rattle.laws_operation.specs.EntryLaws.{FreeNameIsApartForANamelessFile};
+ghost use Rattle.laws_operation.specs.FreeLaws.{EnterLeavesFreeSectors};
+ghost use Rattle.laws_operation.specs.NameLaws.{EnterCarriesOut};
+ghost use Rattle.laws_operation.specs.NameLinkLaws.{EnterKeepsLinks, JoinKeepsLinks, LooseWordsKeepLinks};
+ghost use Rattle.laws_operation.specs.OnceLaws.{EnterCarriesOnce};
 
 /// The words of an entry, and of a free slot for those left over, are such as an entering asks for.
-pub fn words_of_an_entry()
-    ensures { EntryWritten }
+pub fn entry_words_fit()
+    ensures { EntryWordsFit }
 {}
 
 /// The values of an entering in the room that was found are such as its law asks for.
-pub fn words_of_an_entering()
-    ensures { EnteredWords }
+pub fn enter_words_fit()
+    ensures { EnterWordsFit }
 {}
 
 /// The value that makes the room's free slots one, where they are several, the value of the next page, where the words lie over a
 /// page's end, and the value with the entry's first words are its entering: it takes place at the last of them.
 pub fn enter_carries_out()
-    ensures { EnterLaw }
+    ensures { EnterCarriesOut }
 {}
 
 /// Free slots are made one.
-pub fn joined_slots_keep_links()
-    ensures { JoinLinks }
+pub fn join_keeps_links()
+    ensures { JoinKeepsLinks }
 {}
 
 /// Words inside a free slot.
 pub fn loose_words_keep_links()
-    ensures { LooseLinks }
+    ensures { LooseWordsKeepLinks }
 {}
 
 /// An entry comes, with the address of its file's leader.
 pub fn enter_keeps_links()
-    ensures { EnterLinks }
+    ensures { EnterKeepsLinks }
 {}
 
 /// An entering.
 pub fn enter_carries_once()
-    ensures { EnterOnce }
+    ensures { EnterCarriesOnce }
 {}
 
 /// On any model an entry of a file without one, under a name that no entry of its directory gives another file, clashes with no entry.
 pub fn free_name_is_apart_for_a_nameless_file()
-    ensures { NamelessIsApart }
+    ensures { FreeNameIsApartForANamelessFile }
 {}
 
 /// Behind the values of an entering the same sectors of any pack are free.
 pub fn enter_leaves_free_sectors()
-    ensures { EnterLeavesFree }
+    ensures { EnterLeavesFreeSectors }
 {}

@@ -1,21 +1,21 @@
 //! Which files live, and where their pages are.
 
-ghost use Rattle.laws_operation.specs.OnceLaws.{WholeOnce};
-ghost use Rattle.laws_operation.specs.PlaceLaws.{CarriedInPlace, LivesInAPlace, ModelHasTheLiving, NewSerialNamesNone, NoneAboveLast, NoneCarries, SerialKeepsPlaces, ValuesKeepPlaces};
+ghost use Rattle.laws_operation.specs.OnceLaws.{WholePackCarriesOnce};
+ghost use Rattle.laws_operation.specs.PlaceLaws.{CarriedInPlace, FileLivesInAPlace, ModelHasTheLiving, NewSerialNamesNoLivingFile, NoneAboveTheLastSerial, SerialKeepsPlaces, UncarriedPageHasNoPlace, ValuesKeepPlaces};
 
 /// A whole pack carries each page once.
 pub fn whole_pack_carries_once()
-    ensures { WholeOnce }
+    ensures { WholePackCarriesOnce }
 {}
 
 /// On any pack a file lives exactly where its leader page has a place.
 pub fn file_lives_in_a_place()
-    ensures { LivesInAPlace }
+    ensures { FileLivesInAPlace }
 {}
 
 /// On any pack a page that no sector carries has no place.
 pub fn uncarried_page_has_no_place()
-    ensures { NoneCarries }
+    ensures { UncarriedPageHasNoPlace }
 {}
 
 /// On a whole pack whichever sector carries a page is its place.
@@ -25,7 +25,7 @@ pub fn carried_in_place()
 
 /// On a whole pack no file with a serial above the last one given out lives.
 pub fn none_above_the_last_serial()
-    ensures { NoneAboveLast }
+    ensures { NoneAboveTheLastSerial }
 {}
 
 /// On any pack the model has, of all files but DiskDescriptor, exactly those that live.
@@ -45,5 +45,5 @@ pub fn serial_keeps_places()
 
 /// On a whole pack, behind a new serial above the last one given out, no file with this serial lives.
 pub fn new_serial_names_no_living_file()
-    ensures { NewSerialNamesNone }
+    ensures { NewSerialNamesNoLivingFile }
 {}

@@ -1,20 +1,20 @@
 //! Giving a leader page another name.
 
-ghost use Rattle.laws_operation.specs.FileWords.{TitledWords};
-ghost use Rattle.laws_operation.specs.LeaderLaws.{TitleLaw};
-ghost use Rattle.laws_operation.specs.LinkLaws.{TitleLinks};
+ghost use Rattle.laws_operation.specs.FileWords.{TitleWordsFit};
+ghost use Rattle.laws_operation.specs.LeaderLaws.{TitleCarriesOut};
+ghost use Rattle.laws_operation.specs.LinkLaws.{TitleKeepsLinks};
 
 /// The value of a title is such as its law asks for.
-pub fn words_of_a_title()
-    ensures { TitledWords }
+pub fn title_words_fit()
+    ensures { TitleWordsFit }
 {}
 
 /// The value of a leader with another name in it is the title.
 pub fn title_carries_out()
-    ensures { TitleLaw }
+    ensures { TitleCarriesOut }
 {}
 
 /// A title.
 pub fn title_keeps_links()
-    ensures { TitleLinks }
+    ensures { TitleKeepsLinks }
 {}

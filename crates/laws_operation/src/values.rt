@@ -1,20 +1,20 @@
 //! Any values of sectors, with their labels as they were.
 
-ghost use Rattle.laws_operation.specs.FreeLaws.{ValuesLeaveFree};
-ghost use Rattle.laws_operation.specs.OnceLaws.{ValuesOnce};
-ghost use Rattle.laws_operation.specs.WordLaws.{RelabelledWords};
+ghost use Rattle.laws_operation.specs.FreeLaws.{ValuesLeaveFreeSectors};
+ghost use Rattle.laws_operation.specs.OnceLaws.{ValuesCarryOnce};
+ghost use Rattle.laws_operation.specs.WordLaws.{LabelWithAnotherCount};
 
 /// A label with another count and another next link names the page that it named, and counts so many bytes.
 pub fn label_with_another_count()
-    ensures { RelabelledWords }
+    ensures { LabelWithAnotherCount }
 {}
 
 /// Values, whatever they are.
 pub fn values_carry_once()
-    ensures { ValuesOnce }
+    ensures { ValuesCarryOnce }
 {}
 
 /// Behind values, wherever they are written, the same sectors of any pack are free.
 pub fn values_leave_free_sectors()
-    ensures { ValuesLeaveFree }
+    ensures { ValuesLeaveFreeSectors }
 {}

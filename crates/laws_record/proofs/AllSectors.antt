@@ -1,5 +1,5 @@
 -- Where each file lies as a whole one does, all sectors say the sentences.
-use Rattle.std.proofs.Common.{◌&&◌, ◌+◌, ◌/◌, ◌<◌, ◌∙◌, ◌≡◌, ◌≤◌, ◌⊎◌, List, None, Option, Some, [], ap, arith, eq-eqb, get_or, inl, inr, le-leb, le-ltb, length, not, refl, suc, sym, true, zero, ℕ}
+use Rattle.std.proofs.Common.{List, None, Option, Some, [], ap, arith, eq-eqb, get_or, inl, inr, le-leb, le-ltb, length, not, refl, suc, sym, true, zero, ℕ, ◌&&◌, ◌+◌, ◌/◌, ◌<◌, ◌∙◌, ◌≡◌, ◌≤◌, ◌⊎◌}
 use Rattle.std.specs.Option.{is_some}
 use Rattle.alto_words.specs.declared.fid.Fid.{Fid}
 use Rattle.disk_records.specs.Packs.{Pack}
@@ -141,8 +141,8 @@ module _ (p : Pack) (w : Whole p) where
   has_name f (present at l pages h c laid few) live = named p f at l pages h c laid few
 
 -- all together
-pub sentences_of_whole : (p : Pack) → Whole p → IsWholeBySentences p
-sentences_of_whole p w = record {
+pub sentences_hold : (p : Pack) → Whole p → IsWholeBySentences p
+sentences_hold p w = record {
   pages = record {
     used = λ i good. sector_used p w i (get_or (sights p) i hidden) refl good;
     once = λ f n i j a b. carried_once (sights p) f (w.files f) n i j a b;

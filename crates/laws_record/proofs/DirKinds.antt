@@ -1,5 +1,5 @@
 -- Words of a directory are written: loose ones, free slots made one, and slots that aren't kept made free.
-use Rattle.std.proofs.Common.{◌++◌, ◌+◌, ◌-◌, ◌∙◌, ◌∷◌, ◌≡◌, Bool, List, Some, [], ap, arith, cond, false, get_or, inl, inr, length, refl, subst, sym, true, ℕ}
+use Rattle.std.proofs.Common.{Bool, List, Some, [], ap, arith, cond, false, get_or, inl, inr, length, refl, subst, sym, true, ℕ, ◌++◌, ◌+◌, ◌-◌, ◌∙◌, ◌∷◌, ◌≡◌}
 use Rattle.std.proofs.lemmas.Bool.{cases_lt}
 use Rattle.std.specs.FinMap.{find, get, get-insert, insert}
 use Rattle.std.specs.Option.{option_map}
@@ -28,7 +28,7 @@ use Rattle.laws_record.proofs.Slotwise.{put_before, put_behind, slots_freed}
 use Rattle.laws_record.proofs.Staying.{Stays}
 use Rattle.laws_record.proofs.Unkept.{unkept_items}
 use Rattle.laws_record.proofs.inside.Viewed.{name_left, tidied_view}
-use Rattle.laws_record.specs.DirLaws.{FreeSlotsJoined, IsLooseWord, LooseWords, UnkeptFreed, dir_written, freed}
+use Rattle.laws_record.specs.DirLaws.{FreeSlotsMadeOne, IsLooseWord, LooseWords, SlotThatIsNotKept, dir_written, freed}
 use Rattle.laws_record.specs.DirLaws.IsLooseWord.{in_space, of_address}
 use Rattle.laws_record.specs.ViewLaws.{ViewsSame}
 
@@ -100,8 +100,8 @@ spaces_in ok d before (entry f name ∷ a) old n b e =
     namings_one d (entry f name) x y e = ap (λ r. record { dir = d; name = name; fid = f } ∷ r) e
 
 -- free slots are made one
-pub free_slots_joined : FreeSlotsJoined
-free_slots_joined p d at a old b h bare =
+pub free_slots_made_one : FreeSlotsMadeOne
+free_slots_made_one p d at a old b h bare =
     let v : Fid → Bool = lives (sights p) in
     let n : ℕ = all_words old in
     let words : List ℕ = put_at (all_words a) (n ∷ []) (dir_words p d) in
@@ -125,9 +125,9 @@ unfolding read_sights
 model_items p d l is here = ap items_in (tidied_items (lives (sights p)) (described (sights p)) d l is here)
 
 -- an entry that isn't kept is made free
-pub unkept_freed : UnkeptFreed
+pub slot_that_is_not_kept : SlotThatIsNotKept
 unfolding read_sights
-unkept_freed p d at a b f name h unkept =
+slot_that_is_not_kept p d at a b f name h unkept =
     let v : Fid → Bool = lives (sights p) in
     let old : List Item = entry f name ∷ [] in
     let n : ℕ = all_words old in

@@ -1,5 +1,5 @@
 -- An entry comes into a directory of any pack.
-use Rattle.std.proofs.Common.{◌&&◌, ◌++◌, ◌+◌, ◌-◌, ◌∙◌, ◌∷◌, ◌≡◌, Bool, List, Some, [], ap, arith, false, length, refl, sym, true, ℕ}
+use Rattle.std.proofs.Common.{Bool, List, Some, [], ap, arith, false, length, refl, sym, true, ℕ, ◌&&◌, ◌++◌, ◌+◌, ◌-◌, ◌∙◌, ◌∷◌, ◌≡◌}
 use Rattle.std.specs.FinMap.{entries, get, insert}
 use Rattle.std.specs.List.{list_any}
 use Rattle.std.specs.Option.{unwrap_or}
@@ -27,7 +27,7 @@ use Rattle.laws_record.proofs.Mending.{entries-tidied}
 use Rattle.laws_record.proofs.Roomy.{placed_there}
 use Rattle.laws_record.proofs.Scanned.{kept_before, tidied_items}
 use Rattle.laws_record.specs.DirLaws.{Enters, entered}
-use Rattle.laws_record.specs.EnterLaws.{EnterIsTheStep, MayEnter}
+use Rattle.laws_record.specs.EnterLaws.{EntryIsTheStep, MayEnter}
 
 module _ (p : Pack) (d : Fid) (at : ℕ) (new : List ℕ) (a b : List Item) (f : Fid) (name : List ℕ) (left : ℕ) (h : Enters p d at new a b f name left) (may : MayEnter p d f name) where
   -- the words of the free slot
@@ -99,8 +99,8 @@ pub on_slots : (m : Model) (d : Fid) (dir_leader : Leader) (is js : List Item) (
 on_slots m d dir_leader is js g here e = ap (λ x. record m { files = insert m.files d (directory dir_leader x) }) (sym e) ∙ ap (λ r. record m { files = update_found m.files d (on_items g) r }) (sym here)
 
 -- the record write of an entry's first words is the operation
-pub enter_is_the_step : EnterIsTheStep
-enter_is_the_step p d at new a b f name left h may room =
+pub entry_is_the_step : EntryIsTheStep
+entry_is_the_step p d at new a b f name left h may room =
     let n : ℕ = entry_length (length name) in
     let k : List Item = front_slots p d at new a b f name left h may in
     let q : List Item = back_slots p d at new a b f name left h may in

@@ -1,5 +1,5 @@
 -- The entry of a system file is entered: what is viewed stays.
-use Rattle.std.proofs.Common.{◌++◌, ◌+◌, ◌||◌, ◌∙◌, ◌∷◌, ◌≡◌, Bool, List, Some, [], ap, arith, false, length, refl, suc, sym, true, zero, ℕ}
+use Rattle.std.proofs.Common.{Bool, List, Some, [], ap, arith, false, length, refl, suc, sym, true, zero, ℕ, ◌++◌, ◌+◌, ◌||◌, ◌∙◌, ◌∷◌, ◌≡◌}
 use Rattle.std.specs.FinMap.{find, get, insert}
 use Rattle.alto_words.specs.Fid.{disk_descriptor, fid_cmp, is_fid, is_system, sys_dir}
 use Rattle.alto_words.specs.declared.fid.Fid.{Fid}
@@ -24,7 +24,7 @@ use Rattle.laws_record.proofs.Fitting.{fits_own, fits_root}
 use Rattle.pack_laws.proofs.Keys.{same_fid}
 use Rattle.laws_record.proofs.Scanned.{kept_before, scan_same}
 use Rattle.laws_record.proofs.inside.Viewed.{name_left}
-use Rattle.laws_record.specs.DirLaws.{SystemEntry, entered}
+use Rattle.laws_record.specs.DirLaws.{EntryOfASystemFile, entered}
 use Rattle.laws_record.proofs.Tidying.{or_false_left, or_false_right}
 
 -- words left over have no entry
@@ -62,8 +62,8 @@ name_aside v files d l is a b f name n system here q other = by (is_fid f sys_di
         ∙ names_aside disk_descriptor descriptor_name fits_own v files d l is a b name n here q (or_false_right (is_fid q sys_dir) (is_fid q disk_descriptor) other)
 
 -- the entry of a system file
-pub system_entry : SystemEntry
-system_entry p d at new a b f name left h system =
+pub entry_of_a_system_file : EntryOfASystemFile
+entry_of_a_system_file p d at new a b f name left h system =
     let v : Fid → Bool = lives (sights p) in
     let files : Files = described (sights p) in
     let n : ℕ = entry_length (length name) in

@@ -1,5 +1,5 @@
 -- Record writes on the sectors of system files, on any pack.
-use Rattle.std.proofs.Common.{◌&&◌, ◌<◌, ◌==◌, ◌||◌, ◌∙◌, ◌∷◌, ◌≡◌, Bool, List, None, Option, Some, [], ap, cond, false, get_or, length, refl, set, subst, suc, sym, take, true, ℕ}
+use Rattle.std.proofs.Common.{Bool, List, None, Option, Some, [], ap, cond, false, get_or, length, refl, set, subst, suc, sym, take, true, ℕ, ◌&&◌, ◌<◌, ◌==◌, ◌||◌, ◌∙◌, ◌∷◌, ◌≡◌}
 use Rattle.std.proofs.lemmas.List.{get_or-set_same, length-set}
 use Rattle.std.specs.FinMap.{get}
 use Rattle.std.specs.Option.{option_map}
@@ -34,7 +34,7 @@ use Rattle.laws_record.proofs.Rooting.{root_view}
 use Rattle.laws_record.proofs.Staying.{FilesStay}
 use Rattle.laws_record.proofs.Systemic.{MendedStay, OnlyLeader, bytes_kept, described_get, descriptor_leads, mended_files, only_free, only_leads, root_leads, root_others, system_lives}
 use Rattle.laws_record.specs.QuietLaws.{with_label, with_value}
-use Rattle.laws_record.specs.ViewLaws.{DescriptorLeader, DescriptorPages, IsDescriptorPage, RootLeader, SystemLeaderValue, ViewsSame}
+use Rattle.laws_record.specs.ViewLaws.{DescriptorLeader, DescriptorPages, FirstLeaderOfTheMainDirectory, IsDescriptorPage, SystemLeaderValue, ViewsSame}
 use Rattle.laws_record.specs.ViewLaws.IsDescriptorPage.{claimed, unclaimed}
 
 -- the view of a pack from its sights
@@ -104,8 +104,8 @@ some_leader ss i f r l within is = by (leader ss f) refl
     by None e = absurd (let clash : Some l ≡ None = sym (leader_at-leads f r l) ∙ sym (ap (leader_at f) is) ∙ none_each (leader_at f) ss i hidden e within in cc)
 
 -- SysDir's first leader
-pub root_leader : RootLeader
-root_leader p at label is names none bare =
+pub first_leader_of_the_main_directory : FirstLeaderOfTheMainDirectory
+first_leader_of_the_main_directory p at label is names none bare =
     let x : Page = record { fid = sys_dir; number = 0 } in
     let ss : List Sight = sights p in
     let l : Leader = leader_of sys_dir (sector_at p at).value in

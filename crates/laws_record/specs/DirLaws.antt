@@ -1,5 +1,5 @@
 -- Record writes of the words of a directory, on any pack: what becomes of its slots, and of what is read and viewed.
-use Rattle.std.specs.Prelude.{◌*◌, ◌++◌, ◌+◌, ◌/◌, ◌<◌, ◌∷◌, ◌≡◌, ◌≤◌, Contains, List, Some, [], drop, false, get_or, length, min, suc, take, true, ℕ}
+use Rattle.std.specs.Prelude.{Contains, List, Some, [], drop, false, get_or, length, min, suc, take, true, ℕ, ◌*◌, ◌++◌, ◌+◌, ◌/◌, ◌<◌, ◌∷◌, ◌≡◌, ◌≤◌}
 use Rattle.alto_words.specs.Fid.{is_directory, is_system}
 use Rattle.alto_words.specs.declared.fid.Fid.{Fid}
 use Rattle.disk_records.specs.Labels.{is_free, page_of, tag}
@@ -59,16 +59,16 @@ abbrev pub freed : Pack → ℕ → List Item → List Item → Pack
 freed p at a old = dir_written p (all_words a) at (all_words old ∷ [])
 
 -- free slots are made one
-abbrev pub FreeSlotsJoined : Type 0
-FreeSlotsJoined = (p : Pack) (d : Fid) (at : ℕ) (a old b : List Item) → Frees p d at a old b → namings_in d old ≡ [] → ViewsSame p (freed p at a old)
+abbrev pub FreeSlotsMadeOne : Type 0
+FreeSlotsMadeOne = (p : Pack) (d : Fid) (at : ℕ) (a old b : List Item) → Frees p d at a old b → namings_in d old ≡ [] → ViewsSame p (freed p at a old)
 
 -- an entry that isn't kept: in the model its slot is a free one
 abbrev pub IsUnkept : Pack → Fid → ℕ → Item → Type 0
 IsUnkept p d k i = get_or (dir_items (read_pack p) d) k i ≡ space (item_words i)
 
 -- its slot is made free
-abbrev pub UnkeptFreed : Type 0
-UnkeptFreed = (p : Pack) (d : Fid) (at : ℕ) (a b : List Item) (f : Fid) (name : List ℕ) → Frees p d at a (entry f name ∷ []) b → IsUnkept p d (length a) (entry f name) → ReadsSame p (freed p at a (entry f name ∷ []))
+abbrev pub SlotThatIsNotKept : Type 0
+SlotThatIsNotKept = (p : Pack) (d : Fid) (at : ℕ) (a b : List Item) (f : Fid) (name : List ℕ) → Frees p d at a (entry f name ∷ []) b → IsUnkept p d (length a) (entry f name) → ReadsSame p (freed p at a (entry f name ∷ []))
 
 -- ---- an entry
 -- An entry in the place of a free slot, and a free slot for the words left over. Where its words lie over a page's end, those of
@@ -85,8 +85,8 @@ abbrev pub entered : Pack → ℕ → List Item → List ℕ → Pack
 entered p at a new = dir_written p (all_words a) at new
 
 -- the entry of a system file, wherever it is
-abbrev pub SystemEntry : Type 0
-SystemEntry = (p : Pack) (d : Fid) (at : ℕ) (new : List ℕ) (a b : List Item) (f : Fid) (name : List ℕ) (left : ℕ) → Enters p d at new a b f name left → is_system f ≡ true → ViewsSame p (entered p at a new)
+abbrev pub EntryOfASystemFile : Type 0
+EntryOfASystemFile = (p : Pack) (d : Fid) (at : ℕ) (new : List ℕ) (a b : List Item) (f : Fid) (name : List ℕ) (left : ℕ) → Enters p d at new a b f name left → is_system f ≡ true → ViewsSame p (entered p at a new)
 
 -- ---- the end of a directory
 -- a label that counts fewer bytes of one of its pages, so that its bytes end with its slots

@@ -1,7 +1,7 @@
 -- An entry comes into a directory, on any pack: what is read then, and that the next one that settling adds leaves what is shown.
 use Rattle.std.specs.FinMap.{FinMap, contains_key, entries, get}
 use Rattle.std.specs.List.{list_any}
-use Rattle.std.specs.Prelude.{◌++◌, ◌+◌, ◌∷◌, ◌≡◌, List, None, Some, [], false, length, true, ℕ}
+use Rattle.std.specs.Prelude.{List, None, Some, [], false, length, true, ℕ, ◌++◌, ◌+◌, ◌∷◌, ◌≡◌}
 use Rattle.alto_words.specs.Fid.{fid_cmp, is_system, sys_dir}
 use Rattle.alto_words.specs.declared.fid.Fid.{Fid}
 use Rattle.disk_records.specs.Packs.{Pack}
@@ -30,8 +30,8 @@ abbrev pub IsItsRoom : Pack → Fid → List Item → List ℕ → ℕ → Type 
 IsItsRoom p d a name left = find_room (entry_length (length name)) (dir_items (read_pack p) d) ≡ Some (record { first = length a; place = all_words a; total = entry_length (length name) + left })
 
 -- the record write of its first words is the operation
-abbrev pub EnterIsTheStep : Type 0
-EnterIsTheStep = (p : Pack) (d : Fid) (at : ℕ) (new : List ℕ) (a b : List Item) (f : Fid) (name : List ℕ) (left : ℕ) → Enters p d at new a b f name left → MayEnter p d f name → IsItsRoom p d a name left → read_pack (entered p at a new) ≡ step (read_pack p) (enter d name f)
+abbrev pub EntryIsTheStep : Type 0
+EntryIsTheStep = (p : Pack) (d : Fid) (at : ℕ) (new : List ℕ) (a b : List Item) (f : Fid) (name : List ℕ) (left : ℕ) → Enters p d at new a b f name left → MayEnter p d f name → IsItsRoom p d a name left → read_pack (entered p at a new) ≡ step (read_pack p) (enter d name f)
 
 -- ---- the next name that settling adds
 -- all of these have names
@@ -48,6 +48,6 @@ pub record IsNext (v : View) (f : Fid) (x : Seen) : Type 0 where
   pub nameless : get v.names f ≡ None
 
 -- the entry that gives it this name in SysDir, wherever its room is
-abbrev pub NextEntry : Type 0
-NextEntry = (p : Pack) (at : ℕ) (new : List ℕ) (a b : List Item) (f : Fid) (x : Seen) (left : ℕ) → let name : List ℕ = chosen (view (read_pack p)).names x.leader.name in
+abbrev pub NextNameThatSettlingGives : Type 0
+NextNameThatSettlingGives = (p : Pack) (at : ℕ) (new : List ℕ) (a b : List Item) (f : Fid) (x : Seen) (left : ℕ) → let name : List ℕ = chosen (view (read_pack p)).names x.leader.name in
     IsNext (view (read_pack p)) f x → is_system f ≡ false → Enters p sys_dir at new a b f name left → MayEnter p sys_dir f name → ShowsSame p (entered p at a new)

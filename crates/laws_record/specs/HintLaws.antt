@@ -1,5 +1,5 @@
 -- What packs that differ in hint words alone have in common.
-use Rattle.std.specs.Prelude.{◌↔◌, ◌≡◌, ◌⊎◌, List, get_or, length, ℕ}
+use Rattle.std.specs.Prelude.{List, get_or, length, ℕ, ◌↔◌, ◌≡◌, ◌⊎◌}
 use Rattle.disk_records.specs.Packs.{Pack, sector_at}
 use Rattle.pack_model.specs.Bytes.{bytes_of}
 use Rattle.pack_model.specs.HintWords.{IsHintByte, SameButHints, byte_at}
@@ -17,5 +17,5 @@ abbrev pub HintsMeanNothing : Type 0
 HintsMeanNothing = (p q : Pack) → SameButHints p q → MeansSame p q
 
 -- a value that differs from the one that stands there in hint bytes alone, as in an entry's address or in DiskDescriptor's map
-abbrev pub OtherHints : Type 0
-OtherHints = (p : Pack) (at : ℕ) (value : List ℕ) → length value ≡ length (sector_at p at).value → ((k : ℕ) → (get_or (bytes_of value) k 0 ≡ byte_at p at k) ⊎ IsHintByte p at k) → MeansSame p (with_value p at value)
+abbrev pub ValueWithOtherHints : Type 0
+ValueWithOtherHints = (p : Pack) (at : ℕ) (value : List ℕ) → length value ≡ length (sector_at p at).value → ((k : ℕ) → (get_or (bytes_of value) k 0 ≡ byte_at p at k) ⊎ IsHintByte p at k) → MeansSame p (with_value p at value)

@@ -1,5 +1,5 @@
 -- Record writes after which a pack is viewed as before, on any pack: they concern the system files.
-use Rattle.std.specs.Prelude.{◌∷◌, ◌≡◌, List, None, Some, [], suc, true, ℕ}
+use Rattle.std.specs.Prelude.{List, None, Some, [], suc, true, ℕ, ◌∷◌, ◌≡◌}
 use Rattle.alto_words.specs.Fid.{disk_descriptor, is_system, sys_dir}
 use Rattle.alto_words.specs.declared.fid.Fid.{Fid}
 use Rattle.disk_records.specs.Labels.{page_of}
@@ -34,8 +34,8 @@ abbrev pub DescriptorLeader : Relation → Type 0
 DescriptorLeader Kept = (p : Pack) (at : ℕ) (label : List ℕ) → is_free_at p at ≡ true → page_of label ≡ Some (record { fid = disk_descriptor; number = 0 }) → Kept p (with_label p at label)
 
 -- the first leader of SysDir, in whose slots no entry stands
-abbrev pub RootLeader : Type 0
-RootLeader = (p : Pack) (at : ℕ) (label : List ℕ) → is_free_at p at ≡ true → page_of label ≡ Some (record { fid = sys_dir; number = 0 }) → leader (sights p) sys_dir ≡ None → namings_in sys_dir (slots (dir_words p sys_dir)) ≡ [] → ViewsSame p (with_label p at label)
+abbrev pub FirstLeaderOfTheMainDirectory : Type 0
+FirstLeaderOfTheMainDirectory = (p : Pack) (at : ℕ) (label : List ℕ) → is_free_at p at ≡ true → page_of label ≡ Some (record { fid = sys_dir; number = 0 }) → leader (sights p) sys_dir ≡ None → namings_in sys_dir (slots (dir_words p sys_dir)) ≡ [] → ViewsSame p (with_label p at label)
 
 -- any value of a system file's leader, as where its name is written
 abbrev pub SystemLeaderValue : Relation → Type 0

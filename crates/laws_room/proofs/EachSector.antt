@@ -3,11 +3,11 @@ use Rattle.std.proofs.Common.{get_or, refl}
 use Rattle.pack_model.specs.Sights.{sights}
 use Rattle.pack_model.specs.Sights.Sight.{hidden}
 use Rattle.laws_room.proofs.inside.WholeFiles.{sector_free, sector_used}
-use Rattle.laws_room.specs.RoomLaws.{SectorLaw}
+use Rattle.laws_room.specs.RoomLaws.{EachSectorIsUsedOrFree}
 
 -- the law
-pub each_sector : SectorLaw
-each_sector p at w = record {
+pub each_sector_is_used_or_free : EachSectorIsUsedOrFree
+each_sector_is_used_or_free p at w = record {
   in_use_is = sector_used p w at (get_or (sights p) at hidden) refl;
   available_is = sector_free p w at (get_or (sights p) at hidden) refl;
 }

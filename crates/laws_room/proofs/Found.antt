@@ -1,5 +1,5 @@
 -- The sectors that are found free by their labels are those that show it.
-use Rattle.std.proofs.Common.{◌+◌, ◌∙◌, ◌∷◌, ◌≡◌, ◌≤◌, Bool, List, [], ap, arith, cond, false, get_or, inl, inr, length, refl, subst, sym, true, zero, suc, ℕ}
+use Rattle.std.proofs.Common.{Bool, List, [], ap, arith, cond, false, get_or, inl, inr, length, refl, subst, suc, sym, true, zero, ℕ, ◌+◌, ◌∙◌, ◌∷◌, ◌≡◌, ◌≤◌}
 use Rattle.std.specs.Prelude.{filter}
 use Rattle.std.specs.List.{range_with_len}
 use Rattle.std.proofs.lemmas.Bool.{cases_lt}
@@ -14,7 +14,7 @@ use Rattle.pack_model.specs.Sights.Sight.{free, hidden, stray}
 use Rattle.pack_laws.proofs.Guarding.{free_parts}
 use Rattle.pack_laws.proofs.Sighted.{length-sights, sights-get}
 use Rattle.laws_record.proofs.Recording.{free_sight}
-use Rattle.laws_room.specs.RoomLaws.{FoundLaw}
+use Rattle.laws_room.specs.RoomLaws.{FreeSectorsAreThoseFound}
 
 -- ---- numbers
 -- none where no sight passes
@@ -85,5 +85,5 @@ none_past p at past = by (is_free_at p at) refl
     by true e = let u = (free_parts p at e).0 in absurd (grind (arith, nat_tests, u))
 
 -- the law
-pub found_free : FoundLaw
-found_free p = as_many (is_free_at p) is_free_sight (pages_of p.shape) 0 (sights p) (λ k. let z : 0 + k ≡ k = omega arith in ap (is_free_at p) z ∙ found_shown p k) (λ k past. sym (found_shown p k) ∙ none_past p k past)
+pub free_sectors_are_those_found : FreeSectorsAreThoseFound
+free_sectors_are_those_found p = as_many (is_free_at p) is_free_sight (pages_of p.shape) 0 (sights p) (λ k. let z : 0 + k ≡ k = omega arith in ap (is_free_at p) z ∙ found_shown p k) (λ k past. sym (found_shown p k) ∙ none_past p k past)

@@ -1,5 +1,5 @@
 -- The free sectors of a whole pack are as many as its model has room.
-use Rattle.std.proofs.Common.{◌+◌, ◌≡◌, List, ap, arith, cond, true, ℕ}
+use Rattle.std.proofs.Common.{List, ap, arith, cond, true, ℕ, ◌+◌, ◌≡◌}
 use Rattle.std.specs.FinMap.{entries}
 use Rattle.alto_words.specs.Fid.{disk_descriptor, sys_dir}
 use Rattle.disk_records.specs.Packs.{Pack}
@@ -11,11 +11,11 @@ use Rattle.pack_model.specs.Model.{descriptor_pages, files_pages, good_sectors, 
 use Rattle.pack_model.specs.Needed.{needed}
 use Rattle.pack_model.specs.Sights.{Sight, sights}
 use Rattle.pack_model.specs.Whole.{Whole, WholeSights}
-use Rattle.laws_room.proofs.inside.Rooming.{counts_hold}
+use Rattle.laws_room.proofs.inside.Rooming.{counting_theorem}
 use Rattle.laws_record.proofs.DirReads.{has_leader}
 use Rattle.laws_room.proofs.SystemFiles.{leader_shown, pages_read}
 use Rattle.laws_room.proofs.inside.WholeFiles.{available_free, files_complete}
-use Rattle.laws_room.specs.RoomLaws.{FreeLaw}
+use Rattle.laws_room.specs.RoomLaws.{FreeIsTheRoom}
 
 -- SysDir lives
 pub root_lives : (shape : Shape) (ss : List Sight) → WholeSights shape ss → lives ss sys_dir ≡ true
@@ -27,7 +27,7 @@ unfolding needs needed
 pages_and_free p w =
     let ss : List Sight = sights p in
     let lead = has_leader ss sys_dir (root_lives p.shape ss w) in
-    let count = (counts_hold p).needed_is in
+    let count = (counting_theorem p).needed_is in
     let free = available_free p w in
     let complete = files_complete p w in
     let pages = pages_read p.shape ss lead.0 lead.1 w.descriptor_lives in
@@ -38,7 +38,7 @@ pages_and_free p w =
 -- those in use are these pages
 pub in_use_pages : (p : Pack) → Whole p → how_many (in_use p.shape (sights p)) (numbered 0 (sights p)) ≡ files_pages (entries (read_pack p).files) + descriptor_pages p.shape
 in_use_pages p w =
-    let count = counts_hold p in
+    let count = counting_theorem p in
     let used = count.in_use in
     let good = count.available_is in
     let free = available_free p w in
@@ -46,6 +46,6 @@ in_use_pages p w =
     omega arith
 
 -- the law
-pub free_is_room : FreeLaw
+pub free_is_the_room : FreeIsTheRoom
 unfolding read_sights
-free_is_room p w = let all = pages_and_free p w in record { available_is = available_free p w; in_use = in_use_pages p w; pages = all; room_is = omega arith }
+free_is_the_room p w = let all = pages_and_free p w in record { available_is = available_free p w; in_use = in_use_pages p w; pages = all; room_is = omega arith }

@@ -1,5 +1,5 @@
 -- The mark of DiskDescriptor, by its first data page.
-use Rattle.std.proofs.Common.{◌&&◌, ◌*◌, ◌++◌, ◌+◌, ◌-◌, ◌<◌, ◌==◌, ◌∙◌, ◌∷◌, ◌≡◌, ◌≢◌, ◌≤◌, ◌⊎◌, Bool, List, None, Option, Some, [], ap, arith, cond, eqb-true, false, get_or, inl, inr, length, ltb-false, nat_lt, refl, suc, sym, take, true, zero, ℕ}
+use Rattle.std.proofs.Common.{Bool, List, None, Option, Some, [], ap, arith, cond, eqb-true, false, get_or, inl, inr, length, ltb-false, nat_lt, refl, suc, sym, take, true, zero, ℕ, ◌&&◌, ◌*◌, ◌++◌, ◌+◌, ◌-◌, ◌<◌, ◌==◌, ◌∙◌, ◌∷◌, ◌≡◌, ◌≢◌, ◌≤◌, ◌⊎◌}
 use Rattle.std.proofs.lemmas.Bool.{cases_lt, eqb-false}
 use Rattle.alto_words.specs.Fid.{disk_descriptor}
 use Rattle.disk_records.specs.Addresses.{is_right_header}
@@ -13,8 +13,8 @@ use Rattle.pack_model.specs.Files.{file_bytes, joined, most_pages, page, place}
 use Rattle.pack_model.specs.Sights.{Sight, sights}
 use Rattle.pack_model.specs.Sights.Sight.{hidden, holds}
 use Rattle.pack_model.specs.Sound.{mark_clean, mark_of}
-use Rattle.laws_room.specs.MarkLaws.{MarkIsOpened, UnmarkedIsUnclean, UnmarkedStays, mark_page}
-use Rattle.pack_laws.proofs.Filing.{place_lowest}
+use Rattle.laws_room.specs.MarkLaws.{OpenedIsUnmarked, UnmarkedIsUnclean, UnmarkedStays, mark_page}
+use Rattle.pack_laws.proofs.Filing.{places_are_lowest}
 use Rattle.pack_laws.proofs.Guarding.{carried_parts, front_from, here_written, other_kept, usable_within}
 use Rattle.pack_laws.proofs.Joining.{Reaches-none, continue, joined_at, most_is, skip}
 use Rattle.pack_laws.proofs.Placing.{no_page, page_of_place}
@@ -96,11 +96,11 @@ value_carries : (p : Pack) (at : ℕ) (value : List ℕ) (i : ℕ) → carried (
 value_carries p at value i = let front = front_from p.sectors at i value in λ j. cond (nat_lt 0 i && is_right_header p.shape i (front.0 j)) (page_of (front.1 j)) None
 
 -- another mark is written
-pub mark_is_opened : MarkIsOpened
-mark_is_opened p at value is other i placed mark =
+pub opened_is_unmarked : OpenedIsUnmarked
+opened_is_unmarked p at value is other i placed mark =
     let q : Pack = with_value p at value in
-    let was = (place_lowest p mark_page).lowest at is in
-    let now = (place_lowest q mark_page).lowest i placed in
+    let was = (places_are_lowest p mark_page).lowest at is in
+    let now = (places_are_lowest q mark_page).lowest i placed in
     let here : CarriesLowest p mark_page i = record { here = sym (value_carries p at value i) ∙ now.here; lowest = λ j low c. now.lowest j low (value_carries p at value j ∙ c) } in
     let same : i ≡ at = lowest_one p mark_page at i was here in
     let within = usable_within p at (carried_parts p at mark_page was.here).0 in
@@ -117,7 +117,7 @@ unmarked_stays p at part words unmarked stays other i placed mark = elim (i == a
     q = after p (Wrote at part words ∷ [])
 
     now : CarriesLowest q mark_page i
-    now = (place_lowest q mark_page).lowest i placed
+    now = (places_are_lowest q mark_page).lowest i placed
 
     -- other sectors carry what they carried
     kept : (j : ℕ) → j ≢ at → carried q j ≡ carried p j
@@ -130,17 +130,17 @@ unmarked_stays p at part words unmarked stays other i placed mark = elim (i == a
         here = sym (kept i apart) ∙ now.here
 
         by : (r : Option ℕ) → place (sights p) disk_descriptor 1 ≡ r → ⊥
-        by None e = (place_lowest p mark_page).none e i here
+        by None e = (places_are_lowest p mark_page).none e i here
         by (Some k) e = elim (k == at) as (λ b. (k == at) ≡ b → ⊥) [
           | true ↦ λ t. (
               let z : k ≡ at = eqb-true k at t in
-              let was = (place_lowest p mark_page).lowest k e in
+              let was = (places_are_lowest p mark_page).lowest k e in
               let c : carried q at ≡ Some mark_page = stays (e ∙ ap Some z) in
               elim (cases_lt at i) [ inl low ↦ now.lowest at low c | inr high ↦ was.lowest i (omega arith) here ]
               )
           | false ↦ λ t. (
               let far = eqb-false k at t in
-              let was = (place_lowest p mark_page).lowest k e in
+              let was = (places_are_lowest p mark_page).lowest k e in
               let c : carried q k ≡ Some mark_page = kept k far ∙ was.here in
               elim (cases_lt k i) [
                 | inl low ↦ now.lowest k low c

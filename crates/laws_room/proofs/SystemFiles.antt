@@ -1,5 +1,5 @@
 -- Where both system files live, the mended files need what the files of the model need.
-use Rattle.std.proofs.Common.{◌+◌, ◌∙◌, ◌∷◌, ◌≡◌, ◌≤◌, ◌||◌, Bool, List, None, Option, Some, ap, arith, cond, false, get_or, inl, inr, length, refl, subst, sym, true, ℕ}
+use Rattle.std.proofs.Common.{Bool, List, None, Option, Some, ap, arith, cond, false, get_or, inl, inr, length, refl, subst, sym, true, ℕ, ◌+◌, ◌||◌, ◌∙◌, ◌∷◌, ◌≡◌, ◌≤◌}
 use Rattle.std.specs.Prelude.{◌↔◌}
 use mathlib.Core.Path.{fun_ext}
 use Rattle.std.proofs.lemmas.Bool.{cases_lt}
@@ -22,7 +22,7 @@ use Rattle.pack_model.specs.Slots.{Item}
 use Rattle.pack_model.specs.View.{view}
 use Rattle.laws_room.proofs.inside.DirRooted.{zeros}
 use Rattle.laws_room.proofs.inside.Needing.{pages_around}
-use Rattle.laws_room.proofs.inside.Rooming.{counts_hold}
+use Rattle.laws_room.proofs.inside.Rooming.{counting_theorem}
 use Rattle.pack_laws.proofs.Firsts.{none_each}
 use Rattle.pack_laws.proofs.Keys.{fid_same, fid_total, is_fid-itself, same_fid}
 use Rattle.pack_laws.proofs.Placing.{leader_at-leads}
@@ -127,5 +127,5 @@ scavengeable_by_model p at =
     let ss : List Sight = sights p in
     let lead = has_leader ss sys_dir (leader_shown ss sys_dir 1 at.root.0 at.root.1 at.root.2) in
     let read = room_read p.shape ss lead.0 lead.1 at.descriptor in
-    let count = (counts_hold p).room in
+    let count = (counting_theorem p).room in
     (λ h. read.0 (count.1 h.room), λ h. record { root = ap (root_stands p.shape ss) at.root.2; room = count.0 (read.1 h) })

@@ -1,5 +1,5 @@
 -- Each operation, by the record writes that its own law names: it may be done, and takes as many sectors into use as the model says.
-use Rattle.std.specs.Prelude.{List, [], ◌+◌, ◌∷◌, ◌≡◌, ℕ}
+use Rattle.std.specs.Prelude.{List, [], ℕ, ◌+◌, ◌∷◌, ◌≡◌}
 use Rattle.alto_words.specs.declared.fid.Fid.{Fid}
 use Rattle.disk_records.specs.Commands.{value_writes}
 use Rattle.disk_records.specs.Packs.{Pack, after, sector_at}
@@ -46,5 +46,5 @@ pub record EachTakes (p : Pack) : Type 0 where
       → TakesIntoUse p (enter_writes (values_first p (entry_room a old at next_at) words) at (entry_value p (entry_room a old at next_at) words)) (enter d name f)
   pub widens : (d : Fid) (added : List ℕ) (claims : List Claim) (at : ℕ) (label value : List ℕ) → MayWiden p d added claims at label value → TakesIntoUse p (grow_writes claims at label value) (widen d)
 
-abbrev pub EachTakesLaw : Type 0
-EachTakesLaw = (p : Pack) → Whole p → Tidy p → EachTakes p
+abbrev pub EachOperationTakesItsPages : Type 0
+EachOperationTakesItsPages = (p : Pack) → Whole p → Tidy p → EachTakes p

@@ -1,5 +1,5 @@
 -- Record writes that keep, of any pack, what a scavenge keeps: what is shown, and the available sectors less the needed ones.
-use Rattle.std.specs.Prelude.{◌≡◌, List, None, Some, [], ◌∷◌, true, ℕ}
+use Rattle.std.specs.Prelude.{List, None, Some, [], true, ℕ, ◌∷◌, ◌≡◌}
 use Rattle.alto_words.specs.Fid.{sys_dir}
 use Rattle.disk_records.specs.Labels.{page_of}
 use Rattle.disk_records.specs.Packs.{Pack, carried, is_free_at, is_usable, sector_at}
@@ -26,5 +26,5 @@ abbrev pub KeepsWithRoot : Relation
 KeepsWithRoot p q = (RootStands p.shape (sights p) → RootStands q.shape (sights q)) → Keeps p q
 
 -- the first leader of SysDir, whose slots are one free slot of 255 words
-abbrev pub FreshRoot : Relation → Type 0
-FreshRoot Kept = (p : Pack) (at : ℕ) (label : List ℕ) → is_free_at p at ≡ true → page_of label ≡ Some (record { fid = sys_dir; number = 0 }) → leader (sights p) sys_dir ≡ None → slots (dir_words p sys_dir) ≡ space 255 ∷ [] → Kept p (with_label p at label)
+abbrev pub FreshLeaderOfTheMainDirectoryKeeps : Relation → Type 0
+FreshLeaderOfTheMainDirectoryKeeps Kept = (p : Pack) (at : ℕ) (label : List ℕ) → is_free_at p at ≡ true → page_of label ≡ Some (record { fid = sys_dir; number = 0 }) → leader (sights p) sys_dir ≡ None → slots (dir_words p sys_dir) ≡ space 255 ∷ [] → Kept p (with_label p at label)

@@ -1,5 +1,5 @@
 -- The mark of DiskDescriptor while a pack is scavenged.
-use Rattle.std.specs.Prelude.{◌∷◌, ◌≡◌, ◌≢◌, List, Some, [], ℕ}
+use Rattle.std.specs.Prelude.{List, Some, [], ℕ, ◌∷◌, ◌≡◌, ◌≢◌}
 use Rattle.alto_words.specs.Fid.{disk_descriptor}
 use Rattle.disk_records.specs.Packs.{Pack, after, carried, sector_at}
 use Rattle.disk_records.specs.Words.{word}
@@ -24,8 +24,8 @@ abbrev pub UnmarkedIsUnclean : Type 0
 UnmarkedIsUnclean = (p : Pack) → Unmarked p → Clean p → ⊥
 
 -- The mark is opened: another one is written where the page is.
-abbrev pub MarkIsOpened : Type 0
-MarkIsOpened = (p : Pack) (at : ℕ) (value : List ℕ) → place (sights p) disk_descriptor 1 ≡ Some at → OtherMark value → Unmarked (with_value p at value)
+abbrev pub OpenedIsUnmarked : Type 0
+OpenedIsUnmarked = (p : Pack) (at : ℕ) (value : List ℕ) → place (sights p) disk_descriptor 1 ≡ Some at → OtherMark value → Unmarked (with_value p at value)
 
 -- A record write keeps a pack unmarked where its sector, if it is the place of the page, carries it afterwards too, and has another
 -- mark wherever it carries it then.

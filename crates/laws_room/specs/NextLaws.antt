@@ -1,7 +1,7 @@
 -- Record writes of directories when entries are entered: what a scavenge keeps, and which entries are lacking then.
 use Rattle.std.specs.FinMap.{entries}
 use Rattle.std.specs.List.{list_any}
-use Rattle.std.specs.Prelude.{◌++◌, ◌+◌, ◌/◌, ◌∷◌, ◌≡◌, ◌≤◌, List, None, Some, [], false, get_or, length, suc, true, ℕ}
+use Rattle.std.specs.Prelude.{List, None, Some, [], false, get_or, length, suc, true, ℕ, ◌++◌, ◌+◌, ◌/◌, ◌∷◌, ◌≡◌, ◌≤◌}
 use Rattle.alto_words.specs.Fid.{sys_dir}
 use Rattle.alto_words.specs.declared.fid.Fid.{Fid}
 use Rattle.disk_records.specs.Labels.{page_of}
@@ -33,8 +33,8 @@ Lacking p todo = lacking (mended_pack p) ≡ todo
 
 -- ---- an entry that isn't kept
 -- it goes, where neither file and name nor the living files keep it, both system files taken for living
-abbrev pub UnkeptGoes : Type 0
-UnkeptGoes = (p : Pack) (d : Fid) (at : ℕ) (a b : List Item) (f : Fid) (name : List ℕ) → Frees p d at a (entry f name ∷ []) b → get_or (dir_items (mended_pack p) d) (length a) (entry f name) ≡ space (item_words (entry f name)) → KeepsAside p (freed p at a (entry f name ∷ []))
+abbrev pub SlotThatIsNotKeptKeeps : Type 0
+SlotThatIsNotKeptKeeps = (p : Pack) (d : Fid) (at : ℕ) (a b : List Item) (f : Fid) (name : List ℕ) → Frees p d at a (entry f name ∷ []) b → get_or (dir_items (mended_pack p) d) (length a) (entry f name) ≡ space (item_words (entry f name)) → KeepsAside p (freed p at a (entry f name ∷ []))
 
 -- ---- the next entry
 -- Its file lives, or is a system file; it fits, and neither the file nor the name stands anywhere.
@@ -44,23 +44,23 @@ pub record MayBeEntered (p : Pack) (f : Fid) (name : List ℕ) : Type 0 where
   pub apart : list_any (clashes (record { dir = sys_dir; name = name; fid = f })) (namings (entries (mended_pack p).files)) ≡ false
 
 -- it comes in its room
-abbrev pub NextComes : Type 0
-NextComes = (p : Pack) (at : ℕ) (new : List ℕ) (a b : List Item) (f : Fid) (name : List ℕ) (left : ℕ) (rest : List (Fid × List ℕ)) → let q : Pack = entered p at a new in
+abbrev pub NextEntryKeeps : Type 0
+NextEntryKeeps = (p : Pack) (at : ℕ) (new : List ℕ) (a b : List Item) (f : Fid) (name : List ℕ) (left : ℕ) (rest : List (Fid × List ℕ)) → let q : Pack = entered p at a new in
     Enters p sys_dir at new a b f name left → LackingNext p f name rest → MayBeEntered p f name
     → find_room (entry_length (length name)) (root_items (mended_pack p)) ≡ Some (record { first = length a; place = all_words a; total = entry_length (length name) + left })
     → KeepsAside p q × Lacking q rest
 
 -- ---- room for it
 -- free slots of SysDir are made one, and the next entry is placed as before
-abbrev pub FreeSlotsMeet : Type 0
-FreeSlotsMeet = (p : Pack) (at : ℕ) (a old b : List Item) (f : Fid) (name : List ℕ) (rest : List (Fid × List ℕ)) (then : List Item) → let q : Pack = freed p at a old in
+abbrev pub FreeSlotsMadeOneKeeps : Type 0
+FreeSlotsMadeOneKeeps = (p : Pack) (at : ℕ) (a old b : List Item) (f : Fid) (name : List ℕ) (rest : List (Fid × List ℕ)) (then : List Item) → let q : Pack = freed p at a old in
     Frees p sys_dir at a old b → namings_in sys_dir old ≡ [] → LackingNext p f name rest
     → placed (entry f name) (root_items (mended_pack p)) ≡ Some then → placed (entry f name) (root_items (mended_pack q)) ≡ Some then
     → KeepsAside p q × LackingNext q f name rest
 
 -- SysDir gets one free slot of 256 words more, where the next entry has no room
-abbrev pub RoomComes : Type 0
-RoomComes = (p : Pack) (at : ℕ) (label fresh : List ℕ) (f : Fid) (name : List ℕ) (rest : List (Fid × List ℕ)) → let b : ℕ = length (file_bytes (sights p) sys_dir) in let q : Pack = with_label p at label in
+abbrev pub MoreRoomKeeps : Type 0
+MoreRoomKeeps = (p : Pack) (at : ℕ) (label fresh : List ℕ) (f : Fid) (name : List ℕ) (rest : List (Fid × List ℕ)) → let b : ℕ = length (file_bytes (sights p) sys_dir) in let q : Pack = with_label p at label in
     lives (sights p) sys_dir ≡ true → place (sights p) sys_dir (suc (b / 512)) ≡ Some at → page_of label ≡ Some (record { fid = sys_dir; number = suc (b / 512) })
     → SlotsReachEnd (file_bytes (sights p) sys_dir) → dir_words q sys_dir ≡ dir_words p sys_dir ++ fresh → slots fresh ≡ space 256 ∷ []
     → LackingNext p f name rest → placed (entry f name) (root_items (mended_pack p)) ≡ None → entry_length (length name) ≤ 256

@@ -1,6 +1,6 @@
 -- Which packs the Scavenger takes, by the model that they are read as; and the free sectors of whole packs.
 use Rattle.std.specs.FinMap.{entries}
-use Rattle.std.specs.Prelude.{◌&&◌, ◌+◌, ◌↔◌, ◌≡◌, Bool, List, get_or, length, not, true, ℕ}
+use Rattle.std.specs.Prelude.{Bool, List, get_or, length, not, true, ℕ, ◌&&◌, ◌+◌, ◌↔◌, ◌≡◌}
 use Rattle.alto_words.specs.Fid.{disk_descriptor, sys_dir}
 use Rattle.disk_records.specs.Packs.{Pack}
 use Rattle.pack_model.specs.Files.{lives, numbered}
@@ -33,20 +33,20 @@ pub record FreeIsRoom (p : Pack) : Type 0 where
   pub pages : files_pages (entries (read_pack p).files) + descriptor_pages p.shape + free_sectors (sights p) ≡ (read_pack p).good
   pub room_is : room (read_pack p) ≡ free_sectors (sights p)
 
-abbrev pub FreeLaw : Type 0
-FreeLaw = (p : Pack) → Whole p → FreeIsRoom p
+abbrev pub FreeIsTheRoom : Type 0
+FreeIsTheRoom = (p : Pack) → Whole p → FreeIsRoom p
 
 -- each of its sectors is in use exactly where it is good and not free, and available exactly where it is free
 pub record SectorIsUsed (p : Pack) (at : ℕ) : Type 0 where
   pub in_use_is : in_use p.shape (sights p) (at, get_or (sights p) at hidden) ≡ (is_good (get_or (sights p) at hidden) && not (is_free_sight (get_or (sights p) at hidden)))
   pub available_is : is_available p.shape (sights p) (at, get_or (sights p) at hidden) ≡ is_free_sight (get_or (sights p) at hidden)
 
-abbrev pub SectorLaw : Type 0
-SectorLaw = (p : Pack) (at : ℕ) → Whole p → SectorIsUsed p at
+abbrev pub EachSectorIsUsedOrFree : Type 0
+EachSectorIsUsedOrFree = (p : Pack) (at : ℕ) → Whole p → SectorIsUsed p at
 
 -- on any pack the sectors that are found free by their labels, one by one, are as many as those that show it
-abbrev pub FoundLaw : Type 0
-FoundLaw = (p : Pack) → length (sectors_found p) ≡ free_sectors (sights p)
+abbrev pub FreeSectorsAreThoseFound : Type 0
+FreeSectorsAreThoseFound = (p : Pack) → length (sectors_found p) ≡ free_sectors (sights p)
 
 -- a sound pack needs nothing, and so it is scavengeable
 abbrev pub SoundNeedsNothing : Type 0

@@ -1,5 +1,5 @@
 -- The sectors in use, before and after an operation, and a claim that a scavenge makes.
-use Rattle.std.specs.Prelude.{◌+◌, ◌/◌, ◌≡◌, ◌≤◌, List, None, Some, false, length, suc, true, ℕ}
+use Rattle.std.specs.Prelude.{List, None, Some, false, length, suc, true, ℕ, ◌+◌, ◌/◌, ◌≡◌, ◌≤◌}
 use Rattle.std.specs.FinMap.{contains_key}
 use Rattle.alto_words.specs.Fid.{disk_descriptor, is_directory}
 use Rattle.disk_records.specs.Labels.{page_of, tag}
@@ -13,7 +13,7 @@ use Rattle.pack_model.specs.Needed.{needed}
 use Rattle.pack_model.specs.Bodies.{pages_for}
 use Rattle.pack_model.specs.Sights.{sights}
 use Rattle.pack_model.specs.Step.{Operation, step}
-use Rattle.pack_model.specs.Step.Operation.{make, put, grow, cut, title, stamp, drop_file, leave, enter, widen}
+use Rattle.pack_model.specs.Step.Operation.{cut, drop_file, enter, grow, leave, make, put, stamp, title, widen}
 use Rattle.pack_model.specs.Whole.{Whole}
 use Rattle.laws_record.specs.QuietLaws.{with_label}
 
@@ -48,8 +48,8 @@ MayBeDone m (enter d name f) = Unit {0}
 MayBeDone m (widen d) = (is_directory d ≡ true) × (contains_key m.files d ≡ true)
 
 -- Between whole packs of which one is read as the other with an operation done, the sectors in use are more by the pages that it adds and fewer by those that it frees.
-abbrev pub UseLaw : Type 0
-UseLaw = (p q : Pack) (o : Operation) → Whole p → Whole q → q.shape ≡ p.shape → MayBeDone (read_pack p) o → read_pack q ≡ step (read_pack p) o
+abbrev pub UseFollowsTheOperation : Type 0
+UseFollowsTheOperation = (p q : Pack) (o : Operation) → Whole p → Whole q → q.shape ≡ p.shape → MayBeDone (read_pack p) o → read_pack q ≡ step (read_pack p) o
     → sectors_in_use q + pages_freed (read_pack p) o ≡ sectors_in_use p + pages_for_operation (read_pack p) o
 
 -- ---- a claim that a scavenge makes
@@ -65,6 +65,6 @@ pub data IsClaimed (p : Pack) (page : Page) (label : List ℕ) : Type 0 where
   describes : (n : ℕ) → page ≡ record { fid = disk_descriptor; number = suc n } → IsClaimed p page label
 
 -- such a page within its living file's end, that no sector carries, in the label of a free sector
-abbrev pub ClaimLessens : Type 0
-ClaimLessens = (p : Pack) (at : ℕ) (page : Page) (label : List ℕ) → is_free_at p at ≡ true → page_of label ≡ Some page → place (sights p) page.fid page.number ≡ None
+abbrev pub ClaimTakesAnAvailableSector : Type 0
+ClaimTakesAnAvailableSector = (p : Pack) (at : ℕ) (page : Page) (label : List ℕ) → is_free_at p at ≡ true → page_of label ≡ Some page → place (sights p) page.fid page.number ≡ None
     → counts p.shape (sights p) page.fid page.number ≡ true → IsClaimed p page label → Lessens p (with_label p at label)

@@ -1,6 +1,6 @@
 //! Which packs the Scavenger takes, by the model that they are read as, and the free sectors of whole packs.
 
-ghost use Rattle.laws_room.specs.RoomLaws.{FoundLaw, FreeLaw, ScavengeableByModel, SectorLaw, SoundNeedsNothing};
+ghost use Rattle.laws_room.specs.RoomLaws.{EachSectorIsUsedOrFree, FreeIsTheRoom, FreeSectorsAreThoseFound, ScavengeableByModel, SoundNeedsNothing};
 
 /// Where sector 1 shows SysDir's leader and DiskDescriptor lives, a pack is scavengeable exactly where its model has room.
 pub fn scavengeable_by_model()
@@ -8,18 +8,18 @@ pub fn scavengeable_by_model()
 {}
 
 /// The free sectors of a whole pack are the available ones, and as many as its model has room.
-pub fn free_is_room()
-    ensures { FreeLaw }
+pub fn free_is_the_room()
+    ensures { FreeIsTheRoom }
 {}
 
 /// Each sector of a whole pack is in use exactly where it is good and not free, and available exactly where it is free.
 pub fn each_sector_is_used_or_free()
-    ensures { SectorLaw }
+    ensures { EachSectorIsUsedOrFree }
 {}
 
 /// The sectors of a pack whose labels are found to be free are as many as its free sectors.
 pub fn free_sectors_are_those_found()
-    ensures { FoundLaw }
+    ensures { FreeSectorsAreThoseFound }
 {}
 
 /// A sound pack needs nothing, and is scavengeable.

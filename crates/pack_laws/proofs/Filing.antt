@@ -1,5 +1,5 @@
 -- Places, leaders and stored files of a pack, by what its sectors carry.
-use Rattle.std.proofs.Common.{◌≡◌, ◌≢◌, ℕ, ◌<◌, List, length, get_or, Option, Some, None, refl, sym, ap, subst, ◌∙◌, arith}
+use Rattle.std.proofs.Common.{List, None, Option, Some, ap, arith, get_or, length, refl, subst, sym, ℕ, ◌<◌, ◌∙◌, ◌≡◌, ◌≢◌}
 use Rattle.std.specs.Option.{is_some, option_map}
 use Rattle.std.specs.FinMap.{get}
 use Rattle.alto_words.specs.declared.fid.Fid.{Fid}
@@ -8,20 +8,20 @@ use Rattle.disk_records.specs.Packs.{Pack, carried}
 use Rattle.pack_model.specs.Leaders.{Leader}
 use Rattle.pack_model.specs.Sights.{Sight, sights}
 use Rattle.pack_model.specs.Sights.Sight.{hidden}
-use Rattle.pack_model.specs.Files.{leader_at, page_at, carries_page, leader, file_bytes, place}
+use Rattle.pack_model.specs.Files.{carries_page, file_bytes, leader, leader_at, page_at, place}
 use Rattle.pack_model.specs.Stored.{StoredFile, stored_file, stored_files}
-use Rattle.pack_laws.specs.FileLaws.{FilesAreBorne, CarriesLowest, PlaceIsLowest, IsStoredFile}
+use Rattle.pack_laws.specs.FileLaws.{CarriesLowest, FilesAreBorne, IsStoredFile, PlaceIsLowest}
 use Rattle.pack_laws.proofs.Firsts.{first_is_borne}
 use Rattle.pack_laws.proofs.Sighted.{length-sights}
-use Rattle.pack_laws.proofs.Placing.{place_is, place_from, place_none}
-use Rattle.pack_laws.proofs.Carrying.{sight_carries, carried_shown}
-use Rattle.pack_laws.proofs.Guarding.{usable_within, carried_parts}
+use Rattle.pack_laws.proofs.Placing.{place_from, place_is, place_none}
+use Rattle.pack_laws.proofs.Carrying.{carried_shown, sight_carries}
+use Rattle.pack_laws.proofs.Guarding.{carried_parts, usable_within}
 use Rattle.pack_laws.proofs.Storing.{get-files_shown}
 use Rattle.std.proofs.lemmas.Bool.{false_from_ne_true}
 
 -- ---- bearers
-pub files_borne : (ss : List Sight) (f : Fid) → FilesAreBorne ss f
-files_borne ss f = record { leaders = first_is_borne (leader_at f) ss; pages = λ n. first_is_borne (page_at f n) ss }
+pub leaders_and_pages_are_borne : (ss : List Sight) (f : Fid) → FilesAreBorne ss f
+leaders_and_pages_are_borne ss f = record { leaders = first_is_borne (leader_at f) ss; pages = λ n. first_is_borne (page_at f n) ss }
 
 -- ---- places
 -- a sector that carries a page is one of the pack's
@@ -61,8 +61,8 @@ module _ (p : Pack) (page : Page) where
       absurd cc
 
 -- both ways
-pub place_lowest : (p : Pack) (page : Page) → PlaceIsLowest p page
-place_lowest p page = record { lowest = lowest_of_place p page; place_is = place_of_lowest p page; none = none_carries p page }
+pub places_are_lowest : (p : Pack) (page : Page) → PlaceIsLowest p page
+places_are_lowest p page = record { lowest = lowest_of_place p page; place_is = place_of_lowest p page; none = none_carries p page }
 
 -- ---- stored files
 -- what stands for a leader is there where the leader is
@@ -75,8 +75,8 @@ kept_leader : (ss : List Sight) (f : Fid) (r : Option Leader) (x : StoredFile) �
 kept_leader ss f None x e = absurd cc
 kept_leader ss f (Some l) x e = let same : x ≡ stored_file ss f l = cc in (ap (λ y. Some y.leader) (sym same), ap (λ y. y.bytes) same)
 
-pub stored_is : (p : Pack) (f : Fid) → IsStoredFile p f
-stored_is p f =
+pub stored_files_are_leaders_and_bytes : (p : Pack) (f : Fid) → IsStoredFile p f
+stored_files_are_leaders_and_bytes p f =
     let ss : List Sight = sights p in
     let both : (x : StoredFile) → get (stored_files p) f ≡ Some x → (leader ss f ≡ Some x.leader) × (x.bytes ≡ file_bytes ss f) = λ x e. kept_leader ss f (leader ss f) x (sym (get-files_shown ss f) ∙ e) in
     record {

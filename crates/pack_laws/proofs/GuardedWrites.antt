@@ -1,15 +1,15 @@
 -- What the record writes of guarded sector commands leave.
-use Rattle.std.proofs.Common.{◌≡◌, ℕ, zero, suc, ◌<◌, Bool, true, false, cond, nat_lt, List, [], ◌∷◌, set, Option, Some, None, refl, sym, ap, ◌∙◌, arith}
+use Rattle.std.proofs.Common.{Bool, List, None, Option, Some, [], ap, arith, cond, false, nat_lt, refl, set, suc, sym, true, zero, ℕ, ◌<◌, ◌∙◌, ◌∷◌, ◌≡◌}
 use Rattle.std.proofs.lemmas.Bool.{le-ltb}
 use Rattle.disk_records.specs.declared.records.Page.{Page}
 use Rattle.disk_records.specs.declared.records.Sector.{Sector}
 use Rattle.disk_records.specs.declared.records.Event.TheVariants.{Wrote}
-use Rattle.disk_records.specs.Commands.{value_writes, relabel_writes, release_writes, ones}
-use Rattle.disk_records.specs.Labels.{Tag, tag, is_free, page_of}
-use Rattle.disk_records.specs.Packs.{Pack, after, cut, sector_at, with_part, is_usable, carried, is_free_at}
+use Rattle.disk_records.specs.Commands.{ones, relabel_writes, release_writes, value_writes}
+use Rattle.disk_records.specs.Labels.{Tag, is_free, page_of, tag}
+use Rattle.disk_records.specs.Packs.{Pack, after, carried, cut, is_free_at, is_usable, sector_at, with_part}
 use Rattle.pack_model.specs.Sights.{Sight, sights, tag_sight}
 use Rattle.pack_model.specs.Sights.Sight.{free}
-use Rattle.pack_laws.specs.GuardLaws.{with_words, LooksSame, ChangesOne, HoldsPage, TakesAtTheLabel, released}
+use Rattle.pack_laws.specs.GuardLaws.{ChangesOne, HoldsPage, LooksSame, TakesAtTheLabel, released, with_words}
 use Rattle.pack_laws.proofs.Sighted.{sights-write, sights_same}
 use Rattle.pack_laws.proofs.Guarding.{carried_parts, free_on, free_parts, free_shown, free_unnamed, front_from, here_written, named_shown, named_taken, ones_free, other_kept, page_on, usable_shown, usable_within, value_page}
 
@@ -102,10 +102,10 @@ value_keeps p at page value is =
       others = other_kept p at 2 value;
     }
 
-pub value_writes_keep : (p : Pack) (at : ℕ) (page : Page) (value : List ℕ) (k : ℕ) → carried p at ≡ Some page → 0 < k → HoldsPage at page (sector_at p at).label value p (cut p (value_writes at value) k)
-value_writes_keep p at page value zero is some = absurd (omega arith)
-value_writes_keep p at page value (suc zero) is some = value_keeps p at page value is
-value_writes_keep p at page value (suc (suc k)) is some = value_keeps p at page value is
+pub value_writes_keep_the_page : (p : Pack) (at : ℕ) (page : Page) (value : List ℕ) (k : ℕ) → carried p at ≡ Some page → 0 < k → HoldsPage at page (sector_at p at).label value p (cut p (value_writes at value) k)
+value_writes_keep_the_page p at page value zero is some = absurd (omega arith)
+value_writes_keep_the_page p at page value (suc zero) is some = value_keeps p at page value is
+value_writes_keep_the_page p at page value (suc (suc k)) is some = value_keeps p at page value is
 
 -- after a label on a usable sector a value may follow that shows the same
 value_follows : (p : Pack) (at : ℕ) (label value : List ℕ) → is_usable p.shape at (sector_at p at) ≡ true → tag_sight (tag label) value ≡ tag_sight (tag label) (sector_at p at).value
@@ -138,13 +138,13 @@ either_same : (b : Bool) (words : List ℕ) → cond b words words ≡ words
 either_same true words = refl
 either_same false words = refl
 
-pub relabel_keeps : (p : Pack) (at : ℕ) (page : Page) (label : List ℕ) (k : ℕ) → carried p at ≡ Some page → page_of label ≡ Some page → 0 < k → HoldsPage at page label (sector_at p at).value p (cut p (relabel_writes at label (sector_at p at).value) k)
-relabel_keeps p at page label k is names some =
+pub relabel_keeps_the_page : (p : Pack) (at : ℕ) (page : Page) (label : List ℕ) (k : ℕ) → carried p at ≡ Some page → page_of label ≡ Some page → 0 < k → HoldsPage at page label (sector_at p at).value p (cut p (relabel_writes at label (sector_at p at).value) k)
+relabel_keeps_the_page p at page label k is names some =
     changes_as names (named_taken label page names) (named_shown label (sector_at p at).value page names) (ap (with_words (sector_at p at) label) (either_same (nat_lt k 2) (sector_at p at).value))
     (relabelled p at label (sector_at p at).value k (carried_parts p at page is).0 refl some)
 
-pub release_frees : (p : Pack) (at : ℕ) (page : Page) (k : ℕ) → carried p at ≡ Some page → 0 < k → ChangesOne at None true free (released (sector_at p at) k) p (cut p (release_writes at) k)
-release_frees p at page k is some =
+pub release_frees_at_the_label : (p : Pack) (at : ℕ) (page : Page) (k : ℕ) → carried p at ≡ Some page → 0 < k → ChangesOne at None true free (released (sector_at p at) k) p (cut p (release_writes at) k)
+release_frees_at_the_label p at page k is some =
     let none : is_free (tag (ones 8)) ≡ true = ones_free in
     let v : List ℕ = (sector_at p at).value in
     changes_as (free_unnamed (ones 8) none) none (free_shown (tag (ones 8)) v none) refl
@@ -171,7 +171,7 @@ claim_relabelled p at page label value k is names some =
     (changes_as names (named_taken label page names) (ap (tag_sight (tag label)) stands ∙ named_shown label value page names) (words (nat_lt k 2))
     (relabelled q at label value k usable (ap (tag_sight (tag label)) (sym stands)) some))
 
-pub claim_takes : (p : Pack) (at : ℕ) (page : Page) (label value : List ℕ) (k : ℕ) → is_free_at p at ≡ true → page_of label ≡ Some page → TakesAtTheLabel p at page label value k
-claim_takes p at page label value zero is names = record { before = λ few. same_self p at; filled = λ one. absurd (omega arith); taken = λ more. absurd (omega arith) }
-claim_takes p at page label value (suc zero) is names = record { before = λ few. free_filled p at value is; filled = λ one. here_written p at 2 value (usable_within p at (free_parts p at is).0); taken = λ more. absurd (omega arith) }
-claim_takes p at page label value (suc (suc k)) is names = record { before = λ few. absurd (omega arith); filled = λ one. absurd (omega arith); taken = λ more. claim_relabelled p at page label value (suc k) is names (omega arith) }
+pub claim_takes_at_the_label : (p : Pack) (at : ℕ) (page : Page) (label value : List ℕ) (k : ℕ) → is_free_at p at ≡ true → page_of label ≡ Some page → TakesAtTheLabel p at page label value k
+claim_takes_at_the_label p at page label value zero is names = record { before = λ few. same_self p at; filled = λ one. absurd (omega arith); taken = λ more. absurd (omega arith) }
+claim_takes_at_the_label p at page label value (suc zero) is names = record { before = λ few. free_filled p at value is; filled = λ one. here_written p at 2 value (usable_within p at (free_parts p at is).0); taken = λ more. absurd (omega arith) }
+claim_takes_at_the_label p at page label value (suc (suc k)) is names = record { before = λ few. absurd (omega arith); filled = λ one. absurd (omega arith); taken = λ more. claim_relabelled p at page label value (suc k) is names (omega arith) }

@@ -1,11 +1,11 @@
 -- The law of a put: a value write with bytes in their place makes the put of the living files.
-use Rattle.std.proofs.Common.{◌≡◌, ℕ, ◌+◌, ◌/◌, ◌%◌, ◌<◌, ◌≤◌, List, [], ◌∷◌, All, length, set, take, min, refl, sym, ap, subst, ◌∙◌, arith}
+use Rattle.std.proofs.Common.{All, List, [], ap, arith, length, min, refl, set, subst, sym, take, ℕ, ◌%◌, ◌+◌, ◌/◌, ◌<◌, ◌∙◌, ◌∷◌, ◌≡◌, ◌≤◌}
 use Rattle.std.proofs.lemmas.List.{length-take}
 use Rattle.alto_words.specs.declared.fid.Fid.{Fid}
 use Rattle.disk_records.specs.declared.records.Event.TheVariants.{Wrote}
 use Rattle.disk_records.specs.Labels.{tag}
 use Rattle.disk_records.specs.Packs.{Pack, after, sector_at}
-use Rattle.pack_model.specs.Bytes.{bytes_of, words_of, put_at}
+use Rattle.pack_model.specs.Bytes.{bytes_of, put_at, words_of}
 use Rattle.pack_model.specs.Sights.{sights}
 use Rattle.pack_model.specs.Sights.Sight.{hidden, holds}
 use Rattle.pack_model.specs.Stored.{files_shown, stored_files, stored_put}
@@ -14,7 +14,7 @@ use Rattle.pack_model.specs.Moves.Obeys.{rest, write}
 use Rattle.pack_model.specs.Puts.{Put, WritesValue, putting}
 use Rattle.pack_laws.specs.PutLaws.{StaysWithin}
 use Rattle.pack_laws.proofs.Bytes.{bytes_of-put, take-put_at}
-use Rattle.pack_laws.proofs.Sighted.{ShowsPage, shows_page, value_shown, sights-write, sights-get, length-sights}
+use Rattle.pack_laws.proofs.Sighted.{ShowsPage, length-sights, shows_page, sights-get, sights-write, value_shown}
 use Rattle.pack_laws.proofs.Placing.{IsPageAt, data_page_of_place, short_pages}
 use Rattle.pack_laws.proofs.Paging.{page_fits, put_shown}
 
@@ -47,5 +47,5 @@ value_puts p at part words put w v =
     ∙ put_shown (sights p) put.fid at put.offset put.bytes h short w.some w.page w.file
 
 -- so the write makes the put
-pub value_obeys : (p : Pack) (at part : ℕ) (words : List ℕ) (put : Put) → StaysWithin p put → WritesValue p at part words put → Obeys putting (stored_files p) p (Wrote at part words ∷ []) (put ∷ [])
-value_obeys p at part words put w v = write refl v (rest (value_puts p at part words put w v))
+pub value_write_is_the_put : (p : Pack) (at part : ℕ) (words : List ℕ) (put : Put) → StaysWithin p put → WritesValue p at part words put → Obeys putting (stored_files p) p (Wrote at part words ∷ []) (put ∷ [])
+value_write_is_the_put p at part words put w v = write refl v (rest (value_puts p at part words put w v))

@@ -1,11 +1,11 @@
 -- The laws of moves and turns, of any meaning of moves.
-use Rattle.std.specs.Prelude.{◌≡◌, ℕ, ◌+◌, ◌≤◌, ◌&&◌, cond, List, [], ◌++◌, ◌∷◌, length, take, drop, sum_by, slice_get, Some, Result, Ok, OnOk}
+use Rattle.std.specs.Prelude.{List, Ok, OnOk, Result, Some, [], cond, drop, length, slice_get, sum_by, take, ℕ, ◌&&◌, ◌++◌, ◌+◌, ◌∷◌, ◌≡◌, ◌≤◌}
 use Rattle.disk_records.specs.declared.records.Event.{Event}
-use Rattle.disk_records.specs.declared.records.Event.TheVariants.{Wrote, Shown}
+use Rattle.disk_records.specs.declared.records.Event.TheVariants.{Shown, Wrote}
 use Rattle.disk_records.specs.Events.{IsFirstOf, shown_bytes, writes_in}
 use Rattle.disk_records.specs.Packs.{Pack, after, cut}
-use Rattle.pack_model.specs.Moves.{Meaning, steps, Obeys, IsStartOf, Does}
-use Rattle.pack_model.specs.Turns.{Turn, ops_of, Talks, is_whole, moves_at, ruler, CutAt}
+use Rattle.pack_model.specs.Moves.{Does, IsStartOf, Meaning, Obeys, steps}
+use Rattle.pack_model.specs.Turns.{CutAt, Talks, Turn, is_whole, moves_at, ops_of, ruler}
 use Rattle.pack_laws.specs.Made.{AllMade}
 
 -- ---- runs of writes
@@ -61,7 +61,7 @@ pub record RisesByMove {M O : Type 0} (weight : O → ℕ) (means : Meaning M O)
 
 -- The ruler starts at 0 and never falls; an event more adds at most the weight of one move, a shown byte adds nothing, and a
 -- record write adds the weight of the move that it makes; at the end of the turns it stands at all their operations.
-pub record IsRuler {M O : Type 0} (weight : O → ℕ) (means : Meaning M O) : Type 0 where
+pub record RulerLaws {M O : Type 0} (weight : O → ℕ) (means : Meaning M O) : Type 0 where
   pub starts : (turns : List (Turn O)) (events : List Event) → ruler weight turns events 0 ≡ 0
   pub rises : (turns : List (Turn O)) (events : List Event) (k : ℕ) → ruler weight turns events k ≤ ruler weight turns events (k + 1)
   pub adds : (turns : List (Turn O)) (events : List Event) (k most : ℕ) → ((o : O) → weight o ≤ most) → ruler weight turns events (k + 1) ≤ ruler weight turns events k + most

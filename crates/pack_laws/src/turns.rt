@@ -2,7 +2,7 @@
 //!
 //! They hold of any meaning of moves. `Puts` is one: a move puts bytes in a stored file.
 
-ghost use Rattle.pack_laws.specs.TurnLaws.{RunsJoin, CutOfRun, CallsJoin, FaultsLeaveAFirstPart, TurnsJoin, CutOfTurns, AcknowledgedAreDone, WritesAreMade, IsRuler};
+ghost use Rattle.pack_laws.specs.TurnLaws.{AcknowledgedAreDone, CallsJoin, CutOfRun, CutOfTurns, FaultsLeaveAFirstPart, RulerLaws, RunsJoin, TurnsJoin, WritesAreMade};
 ghost use Rattle.pack_model.specs.Moves.{Meaning};
 ghost use Rattle.pack_model.specs.Puts.{Put, putting};
 ghost use Rattle.pack_model.specs.Stored.{StoredFiles};
@@ -79,5 +79,5 @@ pub fn writes_are_made<X: Moves>()
 /// The number of operations done grows from 0 to all those of the turns: at each record write by the weight of the move that it
 /// makes, and at no other event.
 pub fn ruler_laws<X: Moves>()
-    ensures { IsRuler X.weight X.means }
+    ensures { RulerLaws X.weight X.means }
 {}

@@ -1,5 +1,5 @@
 -- Closing with the true map leaves all hints true.
-use Rattle.std.proofs.Common.{Bool, List, Some, [], ap, arith, cond, eqb-true, false, drop, length, not, refl, reverse, subst, suc, sym, take, true, ℕ, ◌+◌, ◌<◌, ◌∙◌, ◌≡◌, ◌≢◌}
+use Rattle.std.proofs.Common.{Bool, List, Some, [], ap, arith, cond, drop, eqb-true, false, length, not, refl, reverse, subst, suc, sym, take, true, ℕ, ◌+◌, ◌<◌, ◌∙◌, ◌≡◌, ◌≢◌}
 use Rattle.std.proofs.lemmas.List.{take_all}
 use Rattle.std.specs.Prelude.{◌==◌}
 use Rattle.alto_words.specs.Fid.{disk_descriptor}
@@ -17,13 +17,13 @@ use Rattle.pack_model.specs.Sights.{sights}
 use Rattle.pack_model.specs.Sound.{mark_clean, mark_of}
 use Rattle.pack_model.specs.Tables.{TableTrue, WordsTrue, described_free, true_table, words_of_bits}
 use Rattle.pack_model.specs.Whole.{Tidy, Whole}
-use Rattle.laws_operation.proofs.CloseLaw.{close_law}
+use Rattle.laws_operation.proofs.CloseLaw.{close_carries_out}
 use Rattle.laws_operation.specs.DescriptorLaws.{KeepsSound, MayClose}
-use Rattle.laws_operation.proofs.DescriptorValues.{close_links}
+use Rattle.laws_operation.proofs.DescriptorValues.{close_keeps_links}
 use Rattle.laws_hint.proofs.inside.ClosedValues.{closed_value}
 use Rattle.laws_hint.proofs.inside.ClosedWords.{closed_words, words_many}
 use Rattle.laws_hint.proofs.inside.TrueMap.{true_is_free, true_many, values_free}
-use Rattle.laws_hint.specs.ClosingLaws.{CleanIsLeft, ClosedTrue, ClosesTrue, closing_writes}
+use Rattle.laws_hint.specs.ClosingLaws.{ClosedTrue, ClosingLeavesACleanPack, ClosingLeavesHintsTrue, closing_writes}
 
 -- what holds at each cut holds behind all record writes
 pub at_end : (P : Pack → Type 0) (p : Pack) (events : List Event) → ((k : ℕ) → P (cut p events k)) → P (after p events)
@@ -77,7 +77,7 @@ closed_true p busy pages w h true_map links keeps marked =
 
 -- the words behind closing
 pub closing_text : (p : Pack) (busy : List Bool) (pages : List ℕ) → Whole p → Tidy p → MayClose p pages → mark_of (sights p) ≢ mark_clean → descriptor_words (sights (after p (closing_writes p busy pages))) ≡ descriptor_text p.shape (read_pack p).last mark_clean busy
-closing_text p busy pages w t h unclean = by (mark_of (sights p) == mark_clean) refl (at_end (KeepsSound p) p (closing_writes p busy pages) (close_law p busy pages w t h).keeps)
+closing_text p busy pages w t h unclean = by (mark_of (sights p) == mark_clean) refl (at_end (KeepsSound p) p (closing_writes p busy pages) (close_carries_out p busy pages w t h).keeps)
   where
     writes : Bool → List Event
     writes c = cond c [] (values_writes (reverse (closed_values p.shape (read_pack p).last busy 0 pages)))
@@ -87,11 +87,11 @@ closing_text p busy pages w t h unclean = by (mark_of (sights p) == mark_clean) 
     by false e keeps = values_text p busy pages h keeps
 
 -- the laws
-pub closes_true : ClosesTrue
-closes_true p busy pages w t h unclean links true_map =
-    let closes = close_law p busy pages w t h in
+pub closing_leaves_hints_true : ClosingLeavesHintsTrue
+closing_leaves_hints_true p busy pages w t h unclean links true_map =
+    let closes = close_carries_out p busy pages w t h in
     by (mark_of (sights p) == mark_clean) refl
-    (at_end LinksTrue p (closing_writes p busy pages) (λ k. close_links p busy pages k w t h links))
+    (at_end LinksTrue p (closing_writes p busy pages) (λ k. close_keeps_links p busy pages k w t h links))
     (at_end (KeepsSound p) p (closing_writes p busy pages) closes.keeps) closes.marked
   where
     writes : Bool → List Event
@@ -101,5 +101,5 @@ closes_true p busy pages w t h unclean links true_map =
     by true e links keeps marked = absurd (unclean (eqb-true (mark_of (sights p)) mark_clean e))
     by false e links keeps marked = closed_true p busy pages w h true_map links keeps marked
 
-pub clean_is_left : CleanIsLeft
-clean_is_left p busy pages e = ap (λ mark. close_writes mark p.shape (read_pack p).last busy pages) e
+pub closing_leaves_a_clean_pack : ClosingLeavesACleanPack
+closing_leaves_a_clean_pack p busy pages e = ap (λ mark. close_writes mark p.shape (read_pack p).last busy pages) e

@@ -15,15 +15,15 @@ use Rattle.pack_model.specs.Sights.{sights}
 use Rattle.pack_model.specs.Step.{Operation}
 use Rattle.pack_model.specs.Step.Operation.{drop_file}
 use Rattle.pack_model.specs.Whole.{Tidy, Whole}
-use Rattle.laws_operation.proofs.OpeningMark.{open_law}
+use Rattle.laws_operation.proofs.OpeningMark.{open_carries_out}
 use Rattle.laws_operation.specs.DescriptorLaws.{KeepsSound}
-use Rattle.laws_operation.proofs.DescriptorValues.{open_links, serial_links}
+use Rattle.laws_operation.proofs.DescriptorValues.{open_keeps_links, serial_keeps_links}
 use Rattle.laws_operation.specs.LinkLaws.{KeepsLinks}
-use Rattle.laws_line.proofs.Lining.{unmarked_line_law}
-use Rattle.laws_line.proofs.Marked.{open_unmarked}
+use Rattle.laws_line.proofs.Lining.{crashes_of_an_unmarked_line}
+use Rattle.laws_line.proofs.Marked.{open_pack_is_unmarked}
 use Rattle.laws_line.specs.CutLaws.{Line, LineStays, does, makes, over, with_serial}
-use Rattle.laws_hint.proofs.inside.ClosedHints.{closes_true}
-use Rattle.laws_hint.specs.LineLinks.{EachKeepsLinks, LineClosesTrue, LineKeepsLinks, LinksJoin, OpenedLineKeepsLinks, opening_writes}
+use Rattle.laws_hint.proofs.inside.ClosedHints.{closing_leaves_hints_true}
+use Rattle.laws_hint.specs.LineLinks.{EachKeepsLinks, LineClosesWithTrueHints, LineKeepsLinks, LinksJoin, OpenedLineKeepsLinks, opening_writes}
 
 -- ---- links
 -- one after another
@@ -35,38 +35,38 @@ along : {p : Pack} {events : List Event} {ops : List Operation} (line : Line p e
 along over w t each = λ links. links
 along (does {p = p} {events = events} {later = later} other s line) w t each = links_join p events later each.0 (along line s.whole s.tidy each.1)
 along (makes {p = p} {at = at} {last = last} {events = events} {later = later} placed above s line) w t each =
-    links_join p (serial_writes at last (sector_at p at).value) (events ++ later) (serial_links p at last w t placed above)
+    links_join p (serial_writes at last (sector_at p at).value) (events ++ later) (serial_keeps_links p at last w t placed above)
     (links_join (with_serial p at last) events later each.0 (along line s.whole s.tidy each.1))
 
 -- the law
-pub line_links : LineKeepsLinks
-line_links p events ops line w t each = along line w t each
+pub line_keeps_links : LineKeepsLinks
+line_keeps_links p events ops line w t each = along line w t each
 
 -- ---- from the opening of the mark on
 -- what the opening keeps, and the mark behind it
 opened : (p : Pack) (at : ℕ) → Whole p → Tidy p → place (sights p) disk_descriptor 1 ≡ Some at → KeepsSound p (after p (opening_writes p at)) × Unmarked (after p (opening_writes p at))
 opened p at w t placed =
-    let h = open_law p at (drop_file disk_descriptor) [] w t placed in
-    (h.keeps, open_unmarked (after p (opening_writes p at)) h.keeps.whole h.marked)
+    let h = open_carries_out p at (drop_file disk_descriptor) [] w t placed in
+    (h.keeps, open_pack_is_unmarked (after p (opening_writes p at)) h.keeps.whole h.marked)
 
 -- links
-pub opened_line_links : OpenedLineKeepsLinks
-opened_line_links p at events ops line w t placed each =
+pub opened_line_keeps_links : OpenedLineKeepsLinks
+opened_line_keeps_links p at events ops line w t placed each =
     let h = opened p at w t placed in
-    links_join p (opening_writes p at) events (open_links p at w t placed) (along line h.0.whole h.0.tidy each)
+    links_join p (opening_writes p at) events (open_keeps_links p at w t placed) (along line h.0.whole h.0.tidy each)
 
 -- what the line leaves
 stays : (p : Pack) (at : ℕ) (events : List Event) (ops : List Operation) → Line (after p (opening_writes p at)) events ops → Whole p → Tidy p → place (sights p) disk_descriptor 1 ≡ Some at
     → LineStays (after p (opening_writes p at)) events ops (moves_of_all (read_pack (after p (opening_writes p at))) ops)
-stays p at events ops line w t placed = let h = opened p at w t placed in unmarked_line_law (after p (opening_writes p at)) events ops h.0.whole h.0.tidy h.1 line
+stays p at events ops line w t placed = let h = opened p at w t placed in crashes_of_an_unmarked_line (after p (opening_writes p at)) events ops h.0.whole h.0.tidy h.1 line
 
 -- and closing behind it
-pub line_closes_true : LineClosesTrue
-line_closes_true p at events ops line busy pages w t placed each links may map =
+pub line_closes_with_true_hints : LineClosesWithTrueHints
+line_closes_with_true_hints p at events ops line busy pages w t placed each links may map =
     let q : Pack = after p (opening_writes p at ++ events) in
     let both : q ≡ after (after p (opening_writes p at)) events = after-append p (opening_writes p at) events in
     let h = stays p at events ops line w t placed in
     let whole : Whole q = subst Whole (sym both) h.whole in
     let unmarked : Unmarked q = subst Unmarked (sym both) h.unmarked in
-    closes_true q busy pages whole (subst Tidy (sym both) h.tidy) may (λ e. unmarked_is_unclean q unmarked (record { lives = whole.descriptor_lives; mark = e }))
-    (opened_line_links p at events ops line w t placed each links) map
+    closing_leaves_hints_true q busy pages whole (subst Tidy (sym both) h.tidy) may (λ e. unmarked_is_unclean q unmarked (record { lives = whole.descriptor_lives; mark = e }))
+    (opened_line_keeps_links p at events ops line w t placed each links) map

@@ -33,16 +33,16 @@ use Rattle.pack_model.specs.Step.Operation.{drop_file}
 use Rattle.pack_model.specs.Tables.{free_table}
 use Rattle.pack_model.specs.Whole.{Tidy, Whole}
 use Rattle.pack_laws.proofs.Placing.{leader_of_place, page_of_place}
-use Rattle.laws_operation.proofs.CloseLaw.{close_law}
+use Rattle.laws_operation.proofs.CloseLaw.{close_carries_out}
 use Rattle.laws_operation.proofs.Cutting.{cut_law}
-use Rattle.laws_operation.proofs.DropLaw.{drop_law}
+use Rattle.laws_operation.proofs.DropLaw.{drop_carries_out}
 use Rattle.laws_operation.proofs.Dropped.{go_law}
-use Rattle.laws_operation.proofs.EnterMoves.{enter_law}
+use Rattle.laws_operation.proofs.EnterMoves.{enter_carries_out}
 use Rattle.laws_operation.proofs.Grown.{grow_law}
 use Rattle.laws_operation.proofs.Leaving.{leave_law}
 use Rattle.laws_operation.proofs.Making.{make_law}
 use Rattle.laws_operation.proofs.OneValue.{put_law, stamp_law, title_law}
-use Rattle.laws_operation.proofs.OpeningMark.{open_law, serial_law}
+use Rattle.laws_operation.proofs.OpeningMark.{open_carries_out, serial_carries_out}
 use Rattle.laws_operation.proofs.Showing.{usable_is}
 use Rattle.laws_operation.proofs.Widening.{widen_law}
 use Rattle.laws_operation.specs.ByteLaws.{Bear}
@@ -53,7 +53,7 @@ use Rattle.laws_hint.proofs.inside.ClosedHints.{at_end}
 use Rattle.laws_hint.proofs.inside.TrueMap.{true_is_free, values_free}
 use Rattle.laws_hint.proofs.inside.Marking.{AreRanged, AreUsable, claim_bit, claims_bits, label_bit, releases_bits, set_again, usable_stays, value_bit}
 use Rattle.laws_hint.proofs.inside.Meaning.{busy_at-free}
-use Rattle.laws_hint.specs.MapChanges.{ClaimsMarkLaw, DescriptorLeavesLaw, LeavesMap, MarksMap, ReleasesMarkLaw, ValuesLeaveLaw, marked}
+use Rattle.laws_hint.specs.MapChanges.{ClaimsMarkTheMap, DescriptorWritesLeaveTheMap, LeavesMap, MarksMap, ReleasesMarkTheMap, ValuesLeaveTheMap, marked}
 
 -- ---- pages that are borne
 -- The sector of one is good, and not free.
@@ -133,8 +133,8 @@ module _ (p : Pack) (w : Whole p) (t : Tidy p) where
   valued {o} at value h = leaves (value_writes at value) h.meets.whole (value_bit p at value)
 
 -- ---- the laws
-pub claims_mark : ClaimsMarkLaw
-claims_mark p w t = record {
+pub claims_mark_the_map : ClaimsMarkTheMap
+claims_mark_the_map p w t = record {
   makes = λ f name moment page leader h. carried p w t (make_law p w t f name moment page leader h) (page.at ∷ leader.at ∷ []) []
       (claims_bits p (page ∷ leader ∷ []) (named_ranged page.label (page_number f 1) h.page_is, (named_ranged leader.label (page_number f 0) h.leader_is, tt)));
   grows = λ f new claims at label value h. let n : ℕ = page_of_byte (length (file_bytes (sights p) f)) in carried p w t (grow_law p w t f h.file new claims at label value h) (sectors_of (all_claimed claims)) []
@@ -143,34 +143,34 @@ claims_mark p w t = record {
       (grown p w t claims d n at label value (claimable_ranged claims (sights p) d n h.claimable) (named_ranged label (page_number d n) h.page) h.sector);
 }
 
-pub releases_mark : ReleasesMarkLaw
-releases_mark p w t = record {
+pub releases_mark_the_map : ReleasesMarkTheMap
+releases_mark_the_map p w t = record {
   cuts = λ f n at label later h. let k : ℕ = page_of_byte n in carried p w t (cut_law p w t f h.file n at label later h) [] later
       (shortened p w t f k (suc k) at label (sector_at p at).value later (named_ranged label (page_number f k) h.page) h.sector h.later_are);
   goes = λ f at pages h. marks p w t (go_writes at pages) [] (at ∷ pages) (go_law p w t f at pages h).0.drops.whole (gone p w t f at pages h.sector h.pages_are);
-  drops = λ f at pages d slot_at a b own h frees. carried p w t (drop_law p f at pages d slot_at a b own w t h frees) [] (at ∷ pages)
+  drops = λ f at pages d slot_at a b own h frees. carried p w t (drop_carries_out p f at pages d slot_at a b own w t h frees) [] (at ∷ pages)
       (then_value p w t (go_writes at pages) slot_at (freed_value (all_words a) (item_words (entry f own)) (sector_at p slot_at).value) (marked false (at ∷ pages) (free_table p)) (gone p w t f at pages h.sector h.pages_are));
 }
 
-pub values_leave : ValuesLeaveLaw
-values_leave p w t = record {
+pub values_leave_the_map : ValuesLeaveTheMap
+values_leave_the_map p w t = record {
   puts = λ f offset new at value h. valued p w t at value (put_law p w t f h.file offset new at value h);
   titles = λ f name at value h. valued p w t at value (title_law p w t f h.file name at value h);
   stamps = λ f moment at value h. valued p w t at value (stamp_law p w t f h.file moment at value h);
   leaves = λ d name at a b f own h. valued p w t at (freed_value (all_words a) (item_words (entry f own)) (sector_at p at).value) (leave_law p w t d name at a b f own h);
   enters = λ d name f a old b left words at next_at h.
       let r : EntryRoom = entry_room a old at next_at in
-      leaves p w t (enter_writes (values_first p r words) at (entry_value p r words)) (enter_law p d name f a old b left words at next_at w t h).sees.whole
+      leaves p w t (enter_writes (values_first p r words) at (entry_value p r words)) (enter_carries_out p d name f a old b left words at next_at w t h).sees.whole
       (then_value p w t (values_writes (values_first p r words)) at (entry_value p r words) (free_table p) (values_free (values_first p r words) p));
 }
 
-pub descriptor_leaves : DescriptorLeavesLaw
-descriptor_leaves p w t = record {
-  opens = λ at placed. leaves p w t (open_writes (mark_of (sights p)) at (sector_at p at).value) (open_law p at (drop_file disk_descriptor) [] w t placed).keeps.whole
+pub descriptor_writes_leave_the_map : DescriptorWritesLeaveTheMap
+descriptor_writes_leave_the_map p w t = record {
+  opens = λ at placed. leaves p w t (open_writes (mark_of (sights p)) at (sector_at p at).value) (open_carries_out p at (drop_file disk_descriptor) [] w t placed).keeps.whole
       (unless_free p w t (mark_of (sights p) == mark_open) ((at, opened_value (sector_at p at).value) ∷ []));
-  serials = λ at last placed above. leaves p w t (serial_writes at last (sector_at p at).value) (serial_law p at last w t placed above).keeps.whole (value_bit p at (serial_value last (sector_at p at).value));
+  serials = λ at last placed above. leaves p w t (serial_writes at last (sector_at p at).value) (serial_carries_out p at last w t placed above).keeps.whole (value_bit p at (serial_value last (sector_at p at).value));
   closes = λ busy pages h.
       let events : List Event = close_writes (mark_of (sights p)) p.shape (read_pack p).last busy pages in
-      leaves p w t events (at_end (KeepsSound p) p events (close_law p busy pages w t h).keeps).whole
+      leaves p w t events (at_end (KeepsSound p) p events (close_carries_out p busy pages w t h).keeps).whole
       (unless_free p w t (mark_of (sights p) == mark_clean) (reverse (closed_values p.shape (read_pack p).last busy 0 pages)));
 }

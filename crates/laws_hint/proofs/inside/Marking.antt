@@ -19,7 +19,7 @@ use Rattle.pack_model.specs.Tables.{free_table}
 use Rattle.pack_laws.proofs.Guarding.{free_shown, ones_free, usable_shown}
 use Rattle.pack_laws.proofs.Sighted.{sights-write}
 use Rattle.laws_hint.proofs.inside.TrueMap.{page_not_free, values_free}
-use Rattle.laws_hint.specs.MapChanges.{MarkedBits, SectorMarksLaw, marked}
+use Rattle.laws_hint.specs.MapChanges.{ClaimsAndReleasesMarkFreeTable, MarkingSetsListedBitsAlone, marked}
 
 -- ---- bits
 -- one that is set to what it is, or past the end
@@ -54,9 +54,9 @@ set_bit table i at busy low = by (at == i) refl
     by false e = get_or-set_other table i at busy true (λ same. let both : true ≡ false = sym (eq-eqb at i same) ∙ e in absurd cc)
 
 -- so where several are set
-pub marked_bits : MarkedBits
-marked_bits busy [] table at low = refl
-marked_bits busy (i ∷ ats) table at low = marked_bits busy ats (set table i busy) at (subst (λ n. at < n) (sym (length-set table i busy)) low) ∙ ap (cond (list_any (λ k. at == k) ats) busy) (set_bit table i at busy low) ∙ by (at == i) (list_any (λ k. at == k) ats)
+pub marking_sets_listed_bits_alone : MarkingSetsListedBitsAlone
+marking_sets_listed_bits_alone busy [] table at low = refl
+marking_sets_listed_bits_alone busy (i ∷ ats) table at low = marking_sets_listed_bits_alone busy ats (set table i busy) at (subst (λ n. at < n) (sym (length-set table i busy)) low) ∙ ap (cond (list_any (λ k. at == k) ats) busy) (set_bit table i at busy low) ∙ by (at == i) (list_any (λ k. at == k) ats)
   where
     by : (a b : Bool) → cond b busy (cond a busy (busy_at table at)) ≡ cond (a || b) busy (busy_at table at)
     by true true = refl
@@ -99,8 +99,8 @@ release_bit p at usable =
     value_bit (after p (Wrote at 1 (ones 8) ∷ [])) at (ones 256) ∙ written_bit p at 1 (ones 8) ∙ ap (λ x. set (free_table p) at (not (is_free_sight x))) shows
 
 -- the law
-pub sector_marks : SectorMarksLaw
-sector_marks p at = record {
+pub claims_and_releases_mark_free_table : ClaimsAndReleasesMarkFreeTable
+claims_and_releases_mark_free_table p at = record {
   claims = λ page label value names. claim_bit p at label value (cond_some (in_range (tag label)) _ page names).0;
   releases = release_bit p at;
   values = value_bit p at;

@@ -14,7 +14,7 @@ use Rattle.pack_model.specs.Tables.{free_table}
 use Rattle.pack_laws.proofs.Sighted.{length-sights}
 use Rattle.laws_room.proofs.Found.{found_shown}
 use Rattle.laws_hint.proofs.inside.TrueMap.{true_is_free}
-use Rattle.laws_hint.specs.MapMeanings.{FreeIsAvailable, FreeTableIsTrue, NoOtherIsTrue, OneMeaning, TrueIsFree}
+use Rattle.laws_hint.specs.MapMeanings.{FreeSectorsAreAvailable, FreeTableIsTrue, OnlyFreeTableIsCompleteAndTrue, TrueTableIsFreeTable, WholePackHasOneKindOfTrueTable}
 
 -- a bit of the map, or one past its end, says whether the sector shows that it is free
 pub busy_at-free : (ss : List Sight) (at : ℕ) → busy_at (map (λ s. not (is_free_sight s)) ss) at ≡ not (is_free_sight (get_or ss at hidden))
@@ -55,22 +55,22 @@ pub length-free_table : (p : Pack) → length (free_table p) ≡ length p.sector
 length-free_table p = length-map (sights p) (λ s. not (is_free_sight s)) ∙ length-sights p
 
 -- ---- the laws
-pub free_true : FreeTableIsTrue
-free_true p at low = busy_at-free (sights p) at ∙ ap not (sym (found_shown p at))
+pub free_table_is_true : FreeTableIsTrue
+free_table_is_true p at low = busy_at-free (sights p) at ∙ ap not (sym (found_shown p at))
 
-pub no_other : NoOtherIsTrue
-no_other p bits each size = (
-  λ h. same_bits bits (free_table p) (size ∙ sym each ∙ sym (length-free_table p)) (λ at low. let l = subst (λ n. at < n) size low in h at l ∙ sym (free_true p at l)),
-  λ same. subst (IsTrueTable p) (sym same) (free_true p),
+pub only_free_table_is_complete_and_true : OnlyFreeTableIsCompleteAndTrue
+only_free_table_is_complete_and_true p bits each size = (
+  λ h. same_bits bits (free_table p) (size ∙ sym each ∙ sym (length-free_table p)) (λ at low. let l = subst (λ n. at < n) size low in h at l ∙ sym (free_table_is_true p at l)),
+  λ same. subst (IsTrueTable p) (sym same) (free_table_is_true p),
 )
 
-pub free_is_available : FreeIsAvailable
-free_is_available p at e = free_by (is_available p.shape (sights p)) (free_available p.shape (sights p)) 0 (sights p) at e
+pub free_sectors_are_available : FreeSectorsAreAvailable
+free_sectors_are_available p at e = free_by (is_available p.shape (sights p)) (free_available p.shape (sights p)) 0 (sights p) at e
 
-pub true_free : TrueIsFree
-true_free = true_is_free
+pub true_table_is_free_table : TrueTableIsFreeTable
+true_table_is_free_table = true_is_free
 
-pub one_meaning : OneMeaning
-one_meaning p bits w each size =
-    let h = no_other p bits each size in
+pub whole_pack_has_one_kind_of_true_table : WholePackHasOneKindOfTrueTable
+whole_pack_has_one_kind_of_true_table p bits w each size =
+    let h = only_free_table_is_complete_and_true p bits each size in
     (λ true_by. h.0 true_by ∙ sym (true_is_free p w), λ same. h.1 (same ∙ true_is_free p w))

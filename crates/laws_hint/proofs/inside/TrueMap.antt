@@ -13,7 +13,7 @@ use Rattle.pack_model.specs.Sights.{Sight, page_sight, sight, sights, sights_fro
 use Rattle.pack_model.specs.Sights.Sight.{free, hidden, stray}
 use Rattle.pack_model.specs.Tables.{free_table, true_table}
 use Rattle.pack_model.specs.Whole.{Whole}
-use Rattle.laws_room.proofs.EachSector.{each_sector}
+use Rattle.laws_room.proofs.EachSector.{each_sector_is_used_or_free}
 
 -- ---- on a whole pack
 -- tests that agree on each sector make one map
@@ -29,7 +29,7 @@ map_alike t u from (s ∷ ss) h =
 pub true_is_free : (p : Pack) → Whole p → true_table p ≡ free_table p
 true_is_free p w = map_alike (is_available p.shape (sights p)) is_free_sight 0 (sights p) (λ k.
     let z : 0 + k ≡ k = omega arith in
-    ap (λ n. is_available p.shape (sights p) (n, get_or (sights p) k hidden)) z ∙ (each_sector p k w).available_is)
+    ap (λ n. is_available p.shape (sights p) (n, get_or (sights p) k hidden)) z ∙ (each_sector_is_used_or_free p k w).available_is)
 
 -- ---- values
 -- a page isn't free

@@ -17,7 +17,7 @@ use Rattle.pack_model.specs.Sights.{sights}
 use Rattle.pack_model.specs.Tables.{bits_from, bits_value, is_busy, table_in, words_of_bits}
 use Rattle.pack_laws.proofs.Bytes.{length-words_of}
 use Rattle.laws_hint.proofs.inside.Meaning.{same_bits}
-use Rattle.laws_hint.specs.MapWords.{AbsentMap, BitsAreThese, TableIsDescribed, TableIsWritten, WholeIsDescribed, WordsAreThese, WordsGiveBack, words_given}
+use Rattle.laws_hint.specs.MapWords.{AbsentMapIsReadBusyAndDescribedFree, TableGivesTheWordsOfItsBits, TableIsWritten, TableOfEnoughWordsIsTheirMap, TableReadIsDescribed, WholePackDescribesTheTableRead, WordsGiveTheMapBack, words_given}
 
 -- ---- numbers
 -- the most significant of one digit more
@@ -74,8 +74,8 @@ words_from (suc many) from bits =
     words_from many (from + 1) bits ∙ ap (λ n. words_of_bits many (drop n bits)) (sym z) ∙ ap (words_of_bits many) (sym (drop-drop 16 (from * 16) bits)) in
     λ i. here i ∷ rest i
 
-pub words_are : WordsAreThese
-words_are many bits = words_from many 0 bits
+pub table_gives_the_words_of_its_bits : TableGivesTheWordsOfItsBits
+table_gives_the_words_of_its_bits many bits = words_from many 0 bits
 
 -- ---- bits of words
 bits_from-each : (words : List ℕ) (n at : ℕ) → at + n ≤ 16 * length words → map (bit_in words) (range_with_len at n) ≡ bits_from words at n
@@ -86,8 +86,8 @@ bits_from-each words (suc n) at l =
     let rest : map (bit_in words) (range_with_len (at + 1) n) ≡ bits_from words (suc at) n = ap (λ k. map (bit_in words) (range_with_len k n)) z ∙ bits_from-each words n (suc at) (omega (arith, l)) in
     λ i. here i ∷ rest i
 
-pub bits_are : BitsAreThese
-bits_are pages words l = bits_from-each words pages 0 (omega (arith, l))
+pub table_of_enough_words_is_their_map : TableOfEnoughWordsIsTheirMap
+table_of_enough_words_is_their_map pages words l = bits_from-each words pages 0 (omega (arith, l))
 
 -- ---- and back
 -- the table that a table's words hold is that table
@@ -111,23 +111,23 @@ given_back many bits l = same_bits (bits_in (length bits) ws) bits size (λ at l
         ∙ ap (λ n. get_or bits n false) x
         ∙ get_or_default bits at false true low
 
-pub give_back : WordsGiveBack
-give_back many bits l =
+pub words_give_the_map_back : WordsGiveTheMapBack
+words_give_the_map_back many bits l =
     let size : length (words_given many bits) ≡ many = length-map-range_with_len (word_of bits) 0 many in
-    ap (λ ws. bits_from ws 0 (length bits)) (sym (words_are many bits)) ∙ sym (bits_are (length bits) (words_given many bits) (omega (arith, l, size))) ∙ given_back many bits l
+    ap (λ ws. bits_from ws 0 (length bits)) (sym (table_gives_the_words_of_its_bits many bits)) ∙ sym (table_of_enough_words_is_their_map (length bits) (words_given many bits) (omega (arith, l, size))) ∙ given_back many bits l
 
 -- ---- DiskDescriptor
-pub table_described : TableIsDescribed
-table_described p long =
+pub table_read_is_described : TableReadIsDescribed
+table_read_is_described p long =
     let left = length-drop 16 (descriptor_words (sights p)) in
     let size = length-take (table_words p.shape) (drop 16 (descriptor_words (sights p))) in
-    bits_are (pages_of p.shape) (table_in p) (omega (arith, long, left, size))
+    table_of_enough_words_is_their_map (pages_of p.shape) (table_in p) (omega (arith, long, left, size))
 
-pub whole_described : WholeIsDescribed
-whole_described p w =
+pub whole_pack_describes_the_table_read : WholePackDescribesTheTableRead
+whole_pack_describes_the_table_read p w =
     let bytes = w.descriptor_fits.size in
     let words = length-words_of (file_bytes (sights p) disk_descriptor) in
-    table_described p (omega (arith, bytes, words))
+    table_read_is_described p (omega (arith, bytes, words))
 
 -- a map without words
 none_read : (n at : ℕ) → map (bit_in []) (range_with_len at n) ≡ replicate n true
@@ -144,8 +144,8 @@ none_said (suc n) at =
     let rest = none_said n (suc at) in
     λ i. zero i ∷ rest i
 
-pub absent_map : AbsentMap
-absent_map p none = (ap (bits_in (pages_of p.shape)) none ∙ none_read (pages_of p.shape) 0, ap (λ ws. bits_from ws 0 (pages_of p.shape)) none ∙ none_said (pages_of p.shape) 0)
+pub absent_map_is_read_busy_and_described_free : AbsentMapIsReadBusyAndDescribedFree
+absent_map_is_read_busy_and_described_free p none = (ap (bits_in (pages_of p.shape)) none ∙ none_read (pages_of p.shape) 0, ap (λ ws. bits_from ws 0 (pages_of p.shape)) none ∙ none_said (pages_of p.shape) 0)
 
-pub table_written : TableIsWritten
-table_written shape last mark bits = sym (words_are (table_words shape) bits)
+pub table_is_written : TableIsWritten
+table_is_written shape last mark bits = sym (table_gives_the_words_of_its_bits (table_words shape) bits)

@@ -1,5 +1,5 @@
 -- A file goes, and its entry with it: the others keep their names.
-use Rattle.std.proofs.Common.{◌∙◌, ◌∷◌, ◌≡◌, ◌≤◌, ◌||◌, Bool, List, None, Option, Some, [], ap, arith, cond, false, inl, length, refl, subst, sym, true}
+use Rattle.std.proofs.Common.{Bool, List, None, Option, Some, [], ap, arith, cond, false, inl, length, refl, subst, sym, true, ◌||◌, ◌∙◌, ◌∷◌, ◌≡◌, ◌≤◌}
 use Rattle.std.proofs.lemmas.List.Elements.{All-cons, All-head, All-tail}
 use Rattle.std.specs.FinMap.{entries, get, get-remove, remove, same_map}
 use Rattle.std.specs.List.{list_any}
@@ -10,7 +10,7 @@ use Rattle.alto_words.specs.declared.fid.Fid.{Fid}
 use Rattle.laws_line.proofs.inside.Mentions.{Mentioned, mentioned, mentions, named_there}
 use Rattle.laws_line.proofs.inside.Runs.{IsShort}
 use Rattle.laws_line.proofs.inside.Throughout.{settled_ready}
-use Rattle.laws_line.specs.LineLaws.{DropLine, MayGo}
+use Rattle.laws_line.specs.LineLaws.{DropLeavesRoom, MayGo}
 use Rattle.laws_line.specs.Ready.{Ready, Settled}
 use Rattle.pack_laws.proofs.Keys.{fid_same, fid_total, is_fid-sym, same_fid}
 use Rattle.pack_laws.proofs.Mapping.{entries-map_values, get-map_values}
@@ -157,5 +157,5 @@ module _ (m : Model) (f : Fid) (s : Settled m) (h : MayGo m f) where
       still g None e t = cc
       still g (Some y) e t = let k = stays g y e in named_still g k.other (s.all g (ap is_some k.there))
 
-pub drop_line : DropLine
-drop_line m f s h = (settled_ready m s, dropped_ready m f s h)
+pub drop_leaves_room : DropLeavesRoom
+drop_leaves_room m f s h = (settled_ready m s, dropped_ready m f s h)

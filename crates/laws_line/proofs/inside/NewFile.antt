@@ -1,12 +1,12 @@
 -- The line that makes a file.
-use Rattle.std.proofs.Common.{◌∙◌, ◌∷◌, ◌≡◌, ◌≤◌, List, [], arith, false, length, subst, ℕ}
+use Rattle.std.proofs.Common.{List, [], arith, false, length, subst, ℕ, ◌∙◌, ◌∷◌, ◌≡◌, ◌≤◌}
 use Rattle.std.specs.FinMap.{contains_key}
 use Rattle.alto_words.specs.declared.fid.Fid.{Fid}
 use Rattle.laws_line.proofs.inside.Coming.{entered_pages, entered_ready}
 use Rattle.laws_line.proofs.inside.Making.{made_pages, made_spared}
 use Rattle.laws_line.proofs.inside.Spared.{Prepared, Spared, behind, front, ready_line, spared_ready, there_behind}
 use Rattle.laws_line.proofs.inside.Throughout.{ready_changes, steps_both}
-use Rattle.laws_line.specs.LineLaws.{LeaveNames, NewFileLine, with_new_file}
+use Rattle.laws_line.specs.LineLaws.{LeaveNames, NewFileLeavesRoom, with_new_file}
 use Rattle.laws_line.specs.Ready.{ReadyThroughout, Settled}
 use Rattle.pack_model.specs.Model.{Model}
 use Rattle.pack_model.specs.Step.{Operation, step}
@@ -41,6 +41,6 @@ module _ (m : Model) (d : Fid) (name : List ℕ) (f : Fid) (moment : ℕ) (rest 
   pub leaves_entered : LeaveNames (with_new_file m d name f moment) rest → LeaveNames entered rest
   leaves_entered leaves = subst (λ n. LeaveNames n rest) (steps_both m (front m d name s) (make f name moment ∷ enter d name f ∷ [])) leaves
 
-pub new_file_line_ready : NewFileLine
-new_file_line_ready m d name f moment rest s short fresh leaves few =
+pub new_file_leaves_room : NewFileLeavesRoom
+new_file_leaves_room m d name f moment rest s short fresh leaves few =
     ready_line m d name s (make f name moment ∷ enter d name f ∷ rest) few (new_file_rest m d name f moment rest s short fresh (leaves_entered m d name f moment rest s short fresh leaves))

@@ -1,5 +1,5 @@
 -- A directory that a pack is read with has its slots.
-use Rattle.std.proofs.Common.{◌∙◌, ◌≡◌, Bool, List, [], None, Option, Some, ap, cond, refl, sym, true, false}
+use Rattle.std.proofs.Common.{Bool, List, None, Option, Some, [], ap, cond, false, refl, sym, true, ◌∙◌, ◌≡◌}
 use Rattle.std.specs.FinMap.{get}
 use Rattle.std.specs.Option.{is_some, option_map}
 use Rattle.std.specs.Prelude.{All}
@@ -8,7 +8,7 @@ use Rattle.alto_words.specs.declared.fid.Fid.{Fid}
 use Rattle.disk_records.specs.Packs.{Pack}
 use Rattle.laws_line.proofs.inside.Runs.{IsShort}
 use Rattle.laws_line.proofs.inside.SoundSettled.{kept_short, slots_short}
-use Rattle.laws_line.specs.BehindLaws.{IsDirectory, ReadDirectory}
+use Rattle.laws_line.specs.BehindLaws.{DirectoriesAreRead, IsDirectory}
 use Rattle.pack_laws.proofs.Keys.{fid_same, fid_total}
 use Rattle.pack_model.specs.Bodies.{Body, File, described, found, is_described}
 use Rattle.pack_model.specs.Bodies.Body.{data_of, items_of}
@@ -69,5 +69,5 @@ module _ (p : Pack) (d : Fid) (kind : is_directory d ≡ true) where
       let s = left x e in
       record { lead = x.leader; slots = s.items; there = tidied_file (lives shown) (described shown) d x e ∙ ap (λ b. Some (record { leader = x.leader; body = b })) s.is; short = s.short }
 
-pub read_directory : ReadDirectory
-read_directory p d kind there = directory p d kind (get (described (sights p)) d) refl (get (read_pack p).files d) refl there
+pub directories_are_read : DirectoriesAreRead
+directories_are_read p d kind there = directory p d kind (get (described (sights p)) d) refl (get (read_pack p).files d) refl there

@@ -1,5 +1,5 @@
 -- The line that renames a file.
-use Rattle.std.proofs.Common.{◌∷◌, ◌≡◌, ◌≤◌, ◌||◌, Bool, List, [], arith, cond, false, length, nat_le, subst, sym, true, ℕ}
+use Rattle.std.proofs.Common.{Bool, List, [], arith, cond, false, length, nat_le, subst, sym, true, ℕ, ◌||◌, ◌∷◌, ◌≡◌, ◌≤◌}
 use Rattle.alto_words.specs.Fid.{is_fid, is_system, sys_dir}
 use Rattle.alto_words.specs.declared.fid.Fid.{Fid}
 use Rattle.laws_line.proofs.inside.Changes.{keeps_step}
@@ -7,7 +7,7 @@ use Rattle.laws_line.proofs.inside.Coming.{entered_ready}
 use Rattle.laws_line.proofs.inside.Leaving.{EntersIn, enters_in, enters_titled, enters_widened, left_spared}
 use Rattle.laws_line.proofs.inside.Spared.{Prepared, Spared, behind, ready_line, spared_kept, spared_ready}
 use Rattle.laws_line.proofs.inside.Throughout.{steps_both}
-use Rattle.laws_line.specs.LineLaws.{IsEntered, RenameLine}
+use Rattle.laws_line.specs.LineLaws.{IsEntered, RenameLeavesRoom}
 use Rattle.laws_line.specs.Ready.{ReadyThroughout, Settled, steps_of}
 use Rattle.pack_model.specs.Model.{Model, dir_items, root_items}
 use Rattle.pack_model.specs.Rooms.{largest_run}
@@ -48,5 +48,5 @@ module _ (m : Model) (d : Fid) (old : List ℕ) (to : Fid) (name : List ℕ) (f 
   rename_rest : Prepared m to name s rest → ReadyThroughout (behind m to name s) rest
   rename_rest p = (spared_ready (behind m to name s) f (p.spared f), (spared_ready titled f (titled_behind p), (spared_ready left f (left_behind p), entered_ready to f name short left (left_behind p))))
 
-pub rename_line_ready : RenameLine
-rename_line_ready m d old to name f s h short ordinary few = ready_line m to name s (title f name ∷ leave d old ∷ enter to name f ∷ []) few (rename_rest m d old to name f s h short ordinary)
+pub rename_leaves_room : RenameLeavesRoom
+rename_leaves_room m d old to name f s h short ordinary few = ready_line m to name s (title f name ∷ leave d old ∷ enter to name f ∷ []) few (rename_rest m d old to name f s h short ordinary)

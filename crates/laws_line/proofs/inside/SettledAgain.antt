@@ -1,13 +1,13 @@
 -- Models behind a line in which every file has a name.
-use Rattle.std.proofs.Common.{◌∙◌, ◌∷◌, ◌≡◌, List, [], ap, refl, subst, sym, true}
+use Rattle.std.proofs.Common.{List, [], ap, refl, subst, sym, true, ◌∙◌, ◌∷◌, ◌≡◌}
 use Rattle.std.specs.FinMap.{contains_key}
 use Rattle.std.specs.Option.{is_some}
 use Rattle.alto_words.specs.Fid.{sys_dir}
 use Rattle.alto_words.specs.declared.fid.Fid.{Fid}
-use Rattle.laws_line.proofs.inside.Roomy.{Roomy, directory_roomy, root_is_directory, roomy_directory, roomy_steps}
+use Rattle.laws_line.proofs.inside.Roomy.{Roomy, directory_roomy, roomy_directory, roomy_steps, root_is_directory}
 use Rattle.laws_line.proofs.inside.Spared.{keeps_all}
-use Rattle.laws_line.proofs.inside.Throughout.{changes_law, last_ready}
-use Rattle.laws_line.specs.BehindLaws.{BehindChanges, FirstPartReady, IsDirectory, SettledBehind}
+use Rattle.laws_line.proofs.inside.Throughout.{changes_leave_room, last_ready}
+use Rattle.laws_line.specs.BehindLaws.{FirstPartReady, IsDirectory, SettledAfterChanges, SettledBehind}
 use Rattle.laws_line.specs.Ready.{Ready, ReadyThroughout, Settled, steps_of}
 use Rattle.pack_model.specs.Model.{IsNamed, Model}
 use Rattle.pack_model.specs.Step.{Operation, step}
@@ -42,8 +42,8 @@ behind_line m ops n e s ready all stays root = record {
 }
 
 -- ---- operations that leave names as they are
-pub behind_changes : BehindChanges
-behind_changes m ops s leaves few =
+pub settled_after_changes : SettledAfterChanges
+settled_after_changes m ops s leaves few =
     let k = keeps_all m ops leaves in
-    behind_line m ops (steps_of m ops) refl s (changes_law m ops s leaves few) (λ g there. k.named g (s.all g (sym (k.there g) ∙ there))) (λ d there h. roomy_steps 0 m ops d leaves h)
+    behind_line m ops (steps_of m ops) refl s (changes_leave_room m ops s leaves few) (λ g there. k.named g (s.all g (sym (k.there g) ∙ there))) (λ d there h. roomy_steps 0 m ops d leaves h)
     (k.there sys_dir ∙ ap is_some s.root.2)

@@ -1,18 +1,18 @@
 -- Behind the line that makes a file every file has a name, and a new directory has its slots.
-use Rattle.std.proofs.Common.{◌∙◌, ◌∷◌, ◌≡◌, ◌≤◌, List, Some, [], ap, arith, cond, false, length, subst, sym, true, ℕ}
+use Rattle.std.proofs.Common.{List, Some, [], ap, arith, cond, false, length, subst, sym, true, ℕ, ◌∙◌, ◌∷◌, ◌≡◌, ◌≤◌}
 use Rattle.std.proofs.lemmas.List.Elements.{All-cons, All-nil}
 use Rattle.std.specs.FinMap.{contains_key, get, get-insert}
 use Rattle.std.specs.Option.{is_some}
 use Rattle.alto_words.specs.Fid.{is_directory, sys_dir}
 use Rattle.alto_words.specs.declared.fid.Fid.{Fid}
-use Rattle.laws_line.proofs.inside.NewFile.{entered, fresh_behind, leaves_entered, made, made_behind, new_file_line_ready}
+use Rattle.laws_line.proofs.inside.NewFile.{entered, fresh_behind, leaves_entered, made, made_behind, new_file_leaves_room}
 use Rattle.laws_line.proofs.inside.RoomFound.{all_named, roomy_behind}
-use Rattle.laws_line.proofs.inside.Roomy.{Roomy, directory_roomy, root_is_directory, roomy_directory, roomy_enter, roomy_make, roomy_steps}
+use Rattle.laws_line.proofs.inside.Roomy.{Roomy, directory_roomy, roomy_directory, roomy_enter, roomy_make, roomy_steps, root_is_directory}
 use Rattle.laws_line.proofs.inside.Runs.{IsShort}
 use Rattle.laws_line.proofs.inside.SettledAgain.{behind_line}
 use Rattle.laws_line.proofs.inside.Spared.{behind, front, keeps_all, leaves_front, prepared_line}
 use Rattle.laws_line.proofs.inside.Throughout.{steps_both}
-use Rattle.laws_line.specs.BehindLaws.{BehindNewFile, IsDirectory, NewDirectory}
+use Rattle.laws_line.specs.BehindLaws.{IsDirectory, NewDirectory, SettledAfterNewFile}
 use Rattle.laws_line.specs.LineLaws.{LeaveNames, new_file_line}
 use Rattle.laws_line.specs.Ready.{Settled, steps_of}
 use Rattle.pack_laws.proofs.Keys.{fid_total, is_fid-itself}
@@ -73,11 +73,11 @@ module _ (m : Model) (d : Fid) (name : List ℕ) (f : Fid) (moment : ℕ) (rest 
     };
   }
 
-pub behind_new_file : BehindNewFile
-behind_new_file m d name f moment rest s dir short fresh behind_leaves few =
+pub settled_after_new_file : SettledAfterNewFile
+settled_after_new_file m d name f moment rest s dir short fresh behind_leaves few =
     let leaves = leaves_entered m d name f moment rest s short fresh behind_leaves in
     behind_line m (new_file_line m d name f moment rest) (last m d name f moment rest s short fresh) (last_is m d name f moment rest s short fresh) s
-    (new_file_line_ready m d name f moment rest s short fresh behind_leaves few) (named m d name f moment rest s short fresh leaves (directory_roomy m d dir) few)
+    (new_file_leaves_room m d name f moment rest s short fresh behind_leaves few) (named m d name f moment rest s short fresh leaves (directory_roomy m d dir) few)
     (λ e there h. stays m d name f moment rest s short fresh leaves e h)
     (ap is_some (stays m d name f moment rest s short fresh leaves sys_dir (directory_roomy m sys_dir (root_is_directory m s))).there)
 

@@ -1,5 +1,5 @@
 -- What a sound pack is read as is settled.
-use Rattle.std.proofs.Common.{◌<◌, ◌==◌, ◌∙◌, ◌∷◌, ◌≡◌, ◌≤◌, Bool, List, None, Option, Some, [], ap, arith, cond, drop, false, length, refl, subst, suc, sym, true, zero, ℕ}
+use Rattle.std.proofs.Common.{Bool, List, None, Option, Some, [], ap, arith, cond, drop, false, length, refl, subst, suc, sym, true, zero, ℕ, ◌<◌, ◌==◌, ◌∙◌, ◌∷◌, ◌≡◌, ◌≤◌}
 use Rattle.std.proofs.lemmas.List.Elements.{All-cons, All-head, All-nil, All-tail}
 use Rattle.std.specs.FinMap.{get}
 use Rattle.std.specs.Option.{is_some, option_map}
@@ -39,7 +39,7 @@ use Rattle.laws_record.proofs.LeaderSteps.{body_left, tidied_file}
 use Rattle.laws_record.proofs.Mending.{get-seen}
 use Rattle.laws_record.proofs.Reading.{get-found, get_by, read_file}
 use Rattle.laws_record.proofs.Systemic.{described_get}
-use Rattle.laws_room.proofs.FreeRoom.{free_is_room, root_lives}
+use Rattle.laws_room.proofs.FreeRoom.{free_is_the_room, root_lives}
 
 -- ---- slots
 -- a slot that is read has at most 1,023 words
@@ -143,7 +143,7 @@ module _ (p : Pack) (s : Sound p) where
   settled : Settled (read_pack p)
   unfolding read_sights
   settled =
-      let pages = (free_is_room p s.whole).pages in
+      let pages = (free_is_the_room p s.whole).pages in
       record {
         fitting = record {
           pages = omega arith;

@@ -1,11 +1,11 @@
 -- Operations one after another.
-use Rattle.std.proofs.Common.{◌++◌, ◌+◌, ◌∙◌, ◌∷◌, ◌≡◌, ◌≤◌, ◌⊎◌, List, [], ap, arith, inl, inr, refl, sym, ℕ}
+use Rattle.std.proofs.Common.{List, [], ap, arith, inl, inr, refl, sym, ℕ, ◌++◌, ◌+◌, ◌∙◌, ◌∷◌, ◌≡◌, ◌≤◌, ◌⊎◌}
 use Rattle.std.specs.FinMap.{entries}
 use Rattle.alto_words.specs.Fid.{disk_descriptor, sys_dir}
 use Rattle.alto_words.specs.declared.fid.Fid.{Fid}
 use Rattle.laws_line.proofs.inside.Changes.{keeps_step}
 use Rattle.laws_line.proofs.inside.Updates.{Keeps, fitting_kept}
-use Rattle.laws_line.specs.LineLaws.{ChangesLaw, LeaveNames}
+use Rattle.laws_line.specs.LineLaws.{ChangesLeaveRoom, LeaveNames}
 use Rattle.laws_line.specs.Ready.{NamedBut, Ready, ReadyThroughout, Settled, steps_of}
 use Rattle.pack_model.specs.Committing.{pages_for_operation, pages_for_operations}
 use Rattle.pack_model.specs.Model.{IsNamed, Model, descriptor_pages, files_pages, room, root_items}
@@ -64,8 +64,8 @@ ready_changes m (o ∷ ops) h leaves enough =
           (pages_kept m (step m o) (pages_for_operation m o) (pages_for_operations (step m o) ops) k enough),
     )
 
-pub changes_law : ChangesLaw
-changes_law m ops s leaves few = ready_changes m ops (settled_ready m s) leaves (pages_room m ops s few)
+pub changes_leave_room : ChangesLeaveRoom
+changes_leave_room m ops s leaves few = ready_changes m ops (settled_ready m s) leaves (pages_room m ops s few)
 
 -- ---- two lists of operations
 -- the models of both are those of one list

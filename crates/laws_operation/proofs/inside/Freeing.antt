@@ -34,7 +34,7 @@ use Rattle.laws_record.specs.DirLaws.{Frees, dir_written}
 use Rattle.laws_operation.proofs.DirValue.{described_then, dir_before, dir_lead, lives_then, value_change, value_same, value_whole_by}
 use Rattle.laws_operation.proofs.inside.Kept.{descriptor_kept, fits_still}
 use Rattle.laws_operation.proofs.Leaving.{words_alike}
-use Rattle.laws_operation.specs.LifeLaws.{SlotFreed, SlotLaw}
+use Rattle.laws_operation.specs.LifeLaws.{SlotCarriesOut, SlotFreed}
 use Rattle.laws_record.proofs.DirSteps.{onto_none}
 use Rattle.std.proofs.lemmas.Bool.{not-true}
 
@@ -90,8 +90,8 @@ free_reads p d at a b f own l fr lead here now dead =
     (ap (λ is. tidied v (insert (described (sights p)) d (directory l is))) now ∙ scan_tidied v (described (sights p)) d l (a ++ entry f own ∷ b) (a ++ space (item_words (entry f own)) ∷ b) here (sym u.0, sym u.1))
 
 -- the slot is made free
-pub slot_law : SlotLaw
-slot_law p f d at a b own w t dead fr =
+pub slot_carries_out : SlotCarriesOut
+slot_carries_out p f d at a b own w t dead fr =
     let ss : List Sight = sights p in
     let h = fr.write in
     let old : List Item = entry f own ∷ [] in

@@ -13,7 +13,7 @@ use Rattle.pack_model.specs.Namings.{fits}
 use Rattle.pack_model.specs.PageWords.{page_number, put_value, relabelled}
 use Rattle.pack_laws.proofs.Bytes.{bytes_of-put, take-put_at}
 use Rattle.laws_operation.proofs.Making.{named_page}
-use Rattle.laws_operation.specs.WordLaws.{PutWords, RelabelledWords}
+use Rattle.laws_operation.specs.WordLaws.{BytesInAValue, LabelWithAnotherCount}
 
 -- whatever the first of several tests was
 first_true : (a b c d e : Bool) → (a && b && c && d && e) ≡ true → (true && b && c && d && e) ≡ true
@@ -28,8 +28,8 @@ range_still t bytes e l =
     ∙ first_true (nat_le t.bytes 512) (nat_le 1 t.fid.version) (nat_le t.fid.version 65534) (not (serial_of t.fid == 0)) (nat_lt t.page 65536) e
 
 -- a label with another count and another next link
-pub relabelled_words : RelabelledWords
-relabelled_words label page bytes next e l =
+pub label_with_another_count : LabelWithAnotherCount
+label_with_another_count label page bytes next e l =
     let named = named_page label page e in
     let behind : (k : ℕ) → word (drop 4 label) k ≡ word label (4 + k) = λ k. get_or-drop 4 label k 0 in
     let same : tag (relabelled label bytes next) ≡ record { fid = (tag label).fid; page = (tag label).page; bytes = bytes } = λ i. record { fid = record { high = behind 2 i; low = behind 3 i; version = behind 1 i }; page = behind 0 i; bytes = bytes } in
@@ -38,8 +38,8 @@ relabelled_words label page bytes next e l =
     (ap (λ b. cond b (Some (page_number (tag (relabelled label bytes next)).fid (tag (relabelled label bytes next)).page)) None) range ∙ ap (λ t. Some (page_number t.fid t.page)) (same ∙ told), refl)
 
 -- bytes in place in a value
-pub put_words_in : PutWords
-put_words_in p at offset new below fits =
+pub bytes_in_a_value : BytesInAValue
+bytes_in_a_value p at offset new below fits =
     let c : ℕ = (tag (sector_at p at).label).bytes in
     let v : List ℕ = (sector_at p at).value in
     let short = length-take c (bytes_of v) in

@@ -1,5 +1,5 @@
 -- A value with other hints.
-use Rattle.std.proofs.Common.{◌==◌, ◌∙◌, ◌≡◌, ◌⊎◌, List, ap, drop, eq-eqb, eqb-true, false, get_or, inl, inr, length, refl, subst, sym, true, ℕ}
+use Rattle.std.proofs.Common.{List, ap, drop, eq-eqb, eqb-true, false, get_or, inl, inr, length, refl, subst, sym, true, ℕ, ◌==◌, ◌∙◌, ◌≡◌, ◌⊎◌}
 use Rattle.std.proofs.lemmas.Bool.{cases_lt}
 use Rattle.std.proofs.lemmas.List.{length-set, set_past}
 use Rattle.disk_records.specs.Packs.{Pack, no_sector, sector_at, with_part}
@@ -7,7 +7,7 @@ use Rattle.pack_model.specs.Bytes.{bytes_of}
 use Rattle.pack_model.specs.HintWords.{IsHintByte, SameButHints, byte_at}
 use Rattle.pack_laws.proofs.Guarding.{front_from, here_written, other_kept}
 use Rattle.laws_record.proofs.inside.HintBytes.{hints_mean_nothing}
-use Rattle.laws_record.specs.HintLaws.{OtherHints}
+use Rattle.laws_record.specs.HintLaws.{ValueWithOtherHints}
 use Rattle.laws_record.specs.QuietLaws.{with_value}
 
 -- the sector after the write, or the one before
@@ -41,5 +41,5 @@ value_hints p at value size bytes = record {
 }
 
 -- so it means the same
-pub other_hints : OtherHints
-other_hints p at value size bytes = hints_mean_nothing p (with_value p at value) (value_hints p at value size bytes)
+pub value_with_other_hints : ValueWithOtherHints
+value_with_other_hints p at value size bytes = hints_mean_nothing p (with_value p at value) (value_hints p at value size bytes)

@@ -1,5 +1,5 @@
 -- Where all sectors say the sentences each file lies as a whole one does.
-use Rattle.std.proofs.Common.{◌&&◌, ◌+◌, ◌/◌, ◌<◌, ◌∙◌, ◌≡◌, ◌≤◌, Bool, List, None, Option, Some, [], ap, arith, false, get_or, inl, inr, leb-true, length, ltb-false, refl, subst, suc, sym, true, ℕ}
+use Rattle.std.proofs.Common.{Bool, List, None, Option, Some, [], ap, arith, false, get_or, inl, inr, leb-true, length, ltb-false, refl, subst, suc, sym, true, ℕ, ◌&&◌, ◌+◌, ◌/◌, ◌<◌, ◌∙◌, ◌≡◌, ◌≤◌}
 use Rattle.std.proofs.lemmas.Bool.{cases_eq, not-true}
 use Rattle.std.specs.Option.{is_some}
 use Rattle.std.specs.Prelude.{nat_lt}
@@ -179,8 +179,8 @@ module _ (p : Pack) (w : IsWholeBySentences p) where
   no_stray i is = let e : false ≡ true = used i stray is refl (λ e. cc) in cc
 
 -- all together
-pub whole_by_sentences : (p : Pack) → IsWholeBySentences p → Whole p
-whole_by_sentences p w = record {
+pub by_sentences : (p : Pack) → IsWholeBySentences p → Whole p
+by_sentences p w = record {
   files = file_whole p w;
   used = no_stray p w;
   directories = w.pages.directories;

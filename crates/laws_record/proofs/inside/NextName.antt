@@ -1,5 +1,5 @@
 -- The next entry that settling adds leaves what is shown.
-use Rattle.std.proofs.Common.{◌++◌, ◌+◌, ◌∙◌, ◌∷◌, ◌≡◌, List, None, Some, [], ap, cond, false, length, not, refl, subst, sym, ℕ}
+use Rattle.std.proofs.Common.{List, None, Some, [], ap, cond, false, length, not, refl, subst, sym, ℕ, ◌++◌, ◌+◌, ◌∙◌, ◌∷◌, ◌≡◌}
 use Rattle.std.specs.FinMap.{get, insert}
 use Rattle.alto_words.specs.Fid.{is_system, sys_dir}
 use Rattle.alto_words.specs.declared.fid.Fid.{Fid}
@@ -17,7 +17,7 @@ use Rattle.laws_record.proofs.Entering.{back_slots, dir_leader, enter_reads, fro
 use Rattle.laws_record.proofs.Keeping.{get-where}
 use Rattle.laws_record.proofs.SystemEntries.{left_names}
 use Rattle.laws_record.proofs.Viewing.{adopt_shows, view_slots}
-use Rattle.laws_record.specs.EnterLaws.{IsNext, NextEntry}
+use Rattle.laws_record.specs.EnterLaws.{IsNext, NextNameThatSettlingGives}
 
 -- a file without a name in the view has none in the model
 nameless_model : (m : Model) (f : Fid) → is_system f ≡ false → get (view m).names f ≡ None → get (names_of m.files) f ≡ None
@@ -45,8 +45,8 @@ next_model m l a b total left f x here next ordinary =
     ∙ ap settle same
 
 -- the next entry that settling adds
-pub next_entry : NextEntry
-next_entry p at new a b f x left next ordinary h may =
+pub next_name_that_settling_gives : NextNameThatSettlingGives
+next_name_that_settling_gives p at new a b f x left next ordinary h may =
     let name : List ℕ = chosen (view (read_pack p)).names x.leader.name in
     ap (λ m. settle (view m)) (enter_reads p sys_dir at new a b f name left h may)
     ∙ next_model (read_pack p) (dir_leader p sys_dir at new a b f name left h may) (front_slots p sys_dir at new a b f name left h may) (back_slots p sys_dir at new a b f name left h may) (entry_length (length name) + left) left f x

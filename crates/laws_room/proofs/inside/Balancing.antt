@@ -1,5 +1,5 @@
 -- What a scavenge keeps, by the files as it will find them.
-use Rattle.std.proofs.Common.{◌+◌, ◌≡◌, ap, arith}
+use Rattle.std.proofs.Common.{ap, arith, ◌+◌, ◌≡◌}
 use Rattle.disk_records.specs.Packs.{Pack}
 use Rattle.pack_model.specs.InUse.{available}
 use Rattle.pack_model.specs.Mended.{lacking, mended, needs}
@@ -8,7 +8,7 @@ use Rattle.pack_model.specs.Needed.{needed}
 use Rattle.pack_model.specs.Settling.{settle, show}
 use Rattle.pack_model.specs.Sights.{sights}
 use Rattle.pack_model.specs.View.{view}
-use Rattle.laws_room.proofs.inside.Rooming.{counts_hold}
+use Rattle.laws_room.proofs.inside.Rooming.{counting_theorem}
 use Rattle.laws_room.specs.KeepLaws.{KeepsWithRoot}
 use Rattle.laws_record.proofs.Systemic.{MendedStay, mended_same}
 
@@ -20,8 +20,8 @@ needs_files m n e = ap (λ fs. needs (record { shape = m.shape; good = m.good; l
 -- where as much is needed, this is kept, where sector 1 may become SysDir's leader
 pub needs_keep : (p q : Pack) → q.shape ≡ p.shape → good_sectors (sights q) ≡ good_sectors (sights p) → needs (mended q.shape (sights q)) ≡ needs (mended p.shape (sights p)) → show q ≡ show p → KeepsWithRoot p q
 needs_keep p q shape good need shown root =
-    let a = (counts_hold p).needed_is in
-    let b = (counts_hold q).needed_is in
+    let a = (counting_theorem p).needed_is in
+    let b = (counting_theorem q).needed_is in
     let d = ap descriptor_pages shape in
     let balance : available q.shape (sights q) + needed p.shape (sights p) ≡ available p.shape (sights p) + needed q.shape (sights q) = omega arith in
     record {

@@ -1,5 +1,5 @@
 -- A page that was missing is claimed: one sector fewer is available, and one fewer needed.
-use Rattle.std.proofs.Common.{◌&&◌, ◌+◌, ◌<◌, ◌==◌, ◌∙◌, ◌∷◌, ◌≡◌, ◌≢◌, Bool, List, None, Some, [], ap, arith, cond, eq-eqb, false, get_or, inl, inr, length, not, refl, set, subst, suc, sym, true, zero, ℕ}
+use Rattle.std.proofs.Common.{Bool, List, None, Some, [], ap, arith, cond, eq-eqb, false, get_or, inl, inr, length, not, refl, set, subst, suc, sym, true, zero, ℕ, ◌&&◌, ◌+◌, ◌<◌, ◌==◌, ◌∙◌, ◌∷◌, ◌≡◌, ◌≢◌}
 use Rattle.std.proofs.lemmas.Bool.{cases_lt}
 use Rattle.std.proofs.Math.ListN.{length-set}
 use Rattle.std.proofs.lemmas.List.{get_or-set_other, get_or-set_same, get_or_past}
@@ -16,7 +16,7 @@ use Rattle.pack_model.specs.Sights.{Sight, page_sight, sights}
 use Rattle.pack_model.specs.Sights.Sight.{free, hidden, holds, leads, stray}
 use Rattle.laws_room.proofs.inside.Balancing.{needs_files}
 use Rattle.laws_room.proofs.inside.RootStanding.{within_stays}
-use Rattle.laws_room.proofs.inside.Rooming.{counts_hold}
+use Rattle.laws_room.proofs.inside.Rooming.{counting_theorem}
 use Rattle.pack_laws.proofs.Guarding.{free_parts, here_written, usable_within}
 use Rattle.pack_laws.proofs.Keys.{is_fid-itself, same_fid}
 use Rattle.pack_laws.proofs.Placing.{both_test, place_from, place_none, place_same}
@@ -27,7 +27,7 @@ use Rattle.laws_record.proofs.SystemWrites.{descriptor_pages as descriptor_stays
 use Rattle.laws_record.proofs.Systemic.{mended_stays}
 use Rattle.laws_record.specs.QuietLaws.{with_label}
 use Rattle.laws_record.specs.ViewLaws.IsDescriptorPage.{claimed, unclaimed}
-use Rattle.laws_room.specs.UseLaws.{ClaimLessens, Lessens}
+use Rattle.laws_room.specs.UseLaws.{ClaimTakesAnAvailableSector, Lessens}
 use Rattle.laws_room.specs.UseLaws.IsClaimed.{describes, ends}
 
 -- ---- tests of sectors
@@ -146,8 +146,8 @@ claim_lessens p at x label is names none inside stays =
     let same : (g : Fid) (m : ℕ) → counts p.shape (set (sights p) at (page_sight x.fid x.number (tag label).bytes (sector_at p at).value)) g m ≡ counts p.shape (sights p) g m = λ g m. ap (λ us. counts p.shape us g m) (sym shown) ∙ within_stays p q stays g m in
     let taken : available p.shape (sights p) ≡ available p.shape (sights q) + 1 =
     one_taken p.shape (sights p) at x.fid x.number (tag label).bytes (sector_at p at).value (free_within p at is) (free_sight p at is) none same inside ∙ ap (λ us. available p.shape us + 1) (sym shown) in
-    let a = counts_hold p in
-    let b = counts_hold q in
+    let a = counting_theorem p in
+    let b = counting_theorem q in
     let was = a.needed_is in
     let now = b.needed_is in
     let used_was = a.in_use in
@@ -159,9 +159,9 @@ claim_lessens p at x label is names none inside stays =
     record { in_use = omega arith; available_is = taken; needed_is = omega arith }
 
 -- the law
-pub claim_takes : ClaimLessens
-claim_takes p at x label is names none inside (ends empty number) = claim_lessens p at x label is names none inside (last_claim p at x label is names empty number none).files
-claim_takes p at x label is names none inside (describes n own) =
+pub claim_takes_an_available_sector : ClaimTakesAnAvailableSector
+claim_takes_an_available_sector p at x label is names none inside (ends empty number) = claim_lessens p at x label is names none inside (last_claim p at x label is names empty number none).files
+claim_takes_an_available_sector p at x label is names none inside (describes n own) =
     let usable = (free_parts p at is).0 in
     let now : carried (with_label p at label) at ≡ Some (record { fid = disk_descriptor; number = suc n }) =
     ap (λ s. cond (is_usable p.shape at s) (page_of s.label) None) (here_written p at 1 label (usable_within p at usable)) ∙ ap (λ b. cond b (page_of label) None) usable ∙ names ∙ ap Some own in

@@ -1,5 +1,5 @@
 -- Each operation may be done where its record writes may, and takes as many sectors into use as the model says.
-use Rattle.std.proofs.Common.{◌+◌, ◌∙◌, ◌≡◌, ◌≤◌, ◌/◌, Bool, List, None, Option, Some, ap, cond, false, length, refl, subst, suc, sym, true, ℕ}
+use Rattle.std.proofs.Common.{Bool, List, None, Option, Some, ap, cond, false, length, refl, subst, suc, sym, true, ℕ, ◌+◌, ◌/◌, ◌∙◌, ◌≡◌, ◌≤◌}
 use Rattle.std.specs.FinMap.{contains_key, get}
 use Rattle.std.specs.Option.{is_some, option_map}
 use Rattle.alto_words.specs.Fid.{disk_descriptor, is_fid, is_system}
@@ -24,9 +24,9 @@ use Rattle.laws_record.proofs.Mending.{get-seen}
 use Rattle.laws_record.proofs.Reading.{get-found, read_file}
 use Rattle.laws_operation.proofs.Changing.{seat_of}
 use Rattle.laws_operation.proofs.Cutting.{cut_law}
-use Rattle.laws_operation.proofs.DropLaw.{drop_law}
+use Rattle.laws_operation.proofs.DropLaw.{drop_carries_out}
 use Rattle.laws_operation.proofs.Dropped.{go_law, read_there}
-use Rattle.laws_operation.proofs.EnterMoves.{enter_law}
+use Rattle.laws_operation.proofs.EnterMoves.{enter_carries_out}
 use Rattle.laws_operation.proofs.Grown.{grow_law}
 use Rattle.laws_operation.proofs.Leaving.{leave_law, system_apart}
 use Rattle.laws_operation.proofs.Making.{make_law}
@@ -36,8 +36,8 @@ use Rattle.laws_operation.proofs.Seating.{leader_is}
 use Rattle.laws_operation.proofs.Widening.{widen_law}
 use Rattle.laws_operation.specs.ByteLaws.{IsOrdinary}
 use Rattle.laws_operation.specs.Outcomes.{CarriesOut}
-use Rattle.laws_room.proofs.inside.SectorsUsed.{use_follows}
-use Rattle.laws_room.specs.EachUses.{EachTakes, EachTakesLaw, TakesIntoUse}
+use Rattle.laws_room.proofs.inside.SectorsUsed.{use_follows_the_operation}
+use Rattle.laws_room.specs.EachUses.{EachOperationTakesItsPages, EachTakes, TakesIntoUse}
 use Rattle.laws_room.specs.UseLaws.{MayBeDone}
 
 -- ---- files in the model
@@ -74,7 +74,7 @@ module _ (p : Pack) (w : Whole p) (t : Tidy p) where
   -- ---- operations
   -- one that may be done, behind which the pack is whole and is read as the model is then
   takes : (events : List Event) (o : Operation) → Whole (after p events) → read_pack (after p events) ≡ step (read_pack p) o → MayBeDone (read_pack p) o → TakesIntoUse p events o
-  takes events o behind reads may = record { may = may; in_use = use_follows p (after p events) o w behind refl may reads }
+  takes events o behind reads may = record { may = may; in_use = use_follows_the_operation p (after p events) o w behind refl may reads }
 
   carried : {events : List Event} {o : Operation} → CarriesOut p events o → MayBeDone (read_pack p) o → TakesIntoUse p events o
   carried {events} {o} h may = takes events o h.meets.whole h.ends may
@@ -89,9 +89,9 @@ module _ (p : Pack) (w : Whole p) (t : Tidy p) where
     stamps = λ f moment at value h. carried (stamp_law p w t f h.file moment at value h) tt;
     makes = λ f name moment page leader h. carried (make_law p w t f name moment page leader h) (unread p f h.not_there);
     goes = λ f at pages h. let g = (go_law p w t f at pages h).0 in takes _ (drop_file f) g.drops.whole g.ends (gone f at h.no_system h.sector);
-    drops = λ f at pages d slot_at a b own h frees. carried (drop_law p f at pages d slot_at a b own w t h frees) (gone f at h.no_system h.sector);
+    drops = λ f at pages d slot_at a b own h frees. carried (drop_carries_out p f at pages d slot_at a b own w t h frees) (gone f at h.no_system h.sector);
     leaves = λ d name at a b f own h. carried (leave_law p w t d name at a b f own h) tt;
-    enters = λ d name f a old b left words at next_at h. let g = enter_law p d name f a old b left words at next_at w t h in takes _ (enter d name f) g.sees.whole g.ends tt;
+    enters = λ d name f a old b left words at next_at h. let g = enter_carries_out p d name f a old b left words at next_at w t h in takes _ (enter d name f) g.sees.whole g.ends tt;
     widens = λ d added claims at label value h. let l = lead_of d (length (file_bytes (sights p) d) / 512) at h.sector in carried (widen_law p w t d added claims at label value h) (h.directory, there d l.0 (not_descriptor d h.directory) l.1);
   }
     where
@@ -99,5 +99,5 @@ module _ (p : Pack) (w : Whole p) (t : Tidy p) where
       gone f at ordinary is = let l = leader_of_place (sights p) f at is in there f l.lead (system_apart disk_descriptor f refl ordinary) l.leader_is
 
 -- the law
-pub each_takes : EachTakesLaw
-each_takes p w t = each p w t
+pub each_operation_takes_its_pages : EachOperationTakesItsPages
+each_operation_takes_its_pages p w t = each p w t

@@ -1,5 +1,5 @@
 -- SysDir comes alive with one free slot of 255 words: as the Scavenger has it where it doesn't live.
-use Rattle.std.proofs.Common.{◌∙◌, ◌≡◌, List, None, Some, ap, refl, set, subst, sym}
+use Rattle.std.proofs.Common.{List, None, Some, ap, refl, set, subst, sym, ◌∙◌, ◌≡◌}
 use Rattle.std.specs.FinMap.{get}
 use Rattle.std.specs.Option.{option_map}
 use Rattle.alto_words.specs.Fid.{sys_dir}
@@ -15,7 +15,7 @@ use Rattle.pack_model.specs.Mended.{root_body}
 use Rattle.pack_model.specs.Model.{good_one}
 use Rattle.pack_model.specs.Sights.{Sight, page_sight, sights}
 use Rattle.pack_model.specs.Slots.{slots}
-use Rattle.laws_room.specs.KeepLaws.{FreshRoot}
+use Rattle.laws_room.specs.KeepLaws.{FreshLeaderOfTheMainDirectoryKeeps}
 use Rattle.pack_laws.proofs.Firsts.{first_new}
 use Rattle.pack_laws.proofs.Guarding.{free_parts}
 use Rattle.pack_laws.proofs.Placing.{leader_at-leads}
@@ -26,7 +26,7 @@ use Rattle.laws_record.proofs.Systemic.{MendedStay, OnlyLeader, bytes_kept, desc
 use Rattle.laws_record.specs.QuietLaws.{with_label}
 
 -- SysDir's first leader, over one free slot
-pub fresh_root : FreshRoot MendedStay
+pub fresh_root : FreshLeaderOfTheMainDirectoryKeeps MendedStay
 fresh_root p at label is names none free_slot =
     let ss : List Sight = sights p in
     let x : Page = record { fid = sys_dir; number = 0 } in

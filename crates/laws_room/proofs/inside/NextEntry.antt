@@ -1,5 +1,5 @@
 -- The next entry that is lacking comes in its room, on any pack.
-use Rattle.std.proofs.Common.{◌&&◌, ◌++◌, ◌+◌, ◌-◌, ◌∙◌, ◌∷◌, ◌≡◌, Bool, List, Some, [], ap, arith, false, length, refl, sym, true, ℕ}
+use Rattle.std.proofs.Common.{Bool, List, Some, [], ap, arith, false, length, refl, sym, true, ℕ, ◌&&◌, ◌++◌, ◌+◌, ◌-◌, ◌∙◌, ◌∷◌, ◌≡◌}
 use Rattle.std.specs.FinMap.{entries, get, insert}
 use Rattle.std.specs.List.{list_any}
 use Rattle.alto_words.specs.Fid.{sys_dir}
@@ -20,7 +20,7 @@ use Rattle.laws_room.proofs.inside.DirRooted.{rooted_was, same_count, zeros}
 use Rattle.laws_room.proofs.inside.RootEntries.{RootScan, root_found, root_turns}
 use Rattle.laws_room.proofs.inside.RootStanding.{root_may}
 use Rattle.laws_room.proofs.inside.RootTurns.{root_was, turn_enters}
-use Rattle.laws_room.specs.NextLaws.{MayBeEntered, NextComes}
+use Rattle.laws_room.specs.NextLaws.{MayBeEntered, NextEntryKeeps}
 use Rattle.laws_record.proofs.DirReads.{has_leader}
 use Rattle.laws_record.proofs.DirWords.{dir_change}
 use Rattle.laws_record.proofs.EnterScan.{back_items, enter_scan, front_items, kept_was, length-items_kept}
@@ -60,8 +60,8 @@ unfolding mended
 mended_apart p f name may = sym (ap (λ es. list_any (clashes (record { dir = sys_dir; name = name; fid = f })) (namings es)) (entries-tidied (with_system (lives (sights p))) (rooted (described (sights p))))) ∙ may.apart
 
 -- it comes in its room
-pub next_comes : NextComes
-next_comes p at new a b f name left rest h next may room =
+pub next_entry_keeps : NextEntryKeeps
+next_entry_keeps p at new a b f name left rest h next may room =
     let q : Pack = entered p at a new in
     let n : ℕ = entry_length (length name) in
     let words : List ℕ = put_at (all_words a) new (dir_words p sys_dir) in

@@ -6,8 +6,8 @@ use Rattle.laws_room.specs.CountLaws.{CountingTheorem}
 use Rattle.pack_laws.proofs.Placing.{short_pages}
 
 -- the counting theorem
-pub counts_hold : CountingTheorem
-counts_hold p =
+pub counting_theorem : CountingTheorem
+counting_theorem p =
     let r = room_is p.shape (sights p) (short_pages p) in
     record {
       in_use = in_use_many p.shape (sights p);

@@ -1,5 +1,5 @@
 -- Record writes of directories when entries are entered, on any pack.
-use Rattle.std.proofs.Common.{◌++◌, ◌+◌, ◌∙◌, ◌∷◌, ◌≡◌, Bool, List, None, Option, Some, [], ap, arith, cond, get_or, length, refl, sym, ℕ}
+use Rattle.std.proofs.Common.{Bool, List, None, Option, Some, [], ap, arith, cond, get_or, length, refl, sym, ℕ, ◌++◌, ◌+◌, ◌∙◌, ◌∷◌, ◌≡◌}
 use Rattle.std.specs.FinMap.{entries, find, from_entries, get, get-from_entries, get-insert, insert, same_map}
 use Rattle.alto_words.specs.Fid.{fid_cmp, is_fid, sys_dir}
 use Rattle.alto_words.specs.declared.fid.Fid.{Fid}
@@ -21,7 +21,7 @@ use Rattle.laws_room.proofs.inside.DirRooted.{dir_leader, files, living, mended_
 use Rattle.laws_room.proofs.inside.Needing.{items_words}
 use Rattle.laws_room.proofs.inside.RootStanding.{root_may}
 use Rattle.laws_room.proofs.inside.RootTurns.{RootTurns, root_now, root_was, turn_joins, turn_widens}
-use Rattle.laws_room.specs.NextLaws.{FreeSlotsMeet, RoomComes, UnkeptGoes}
+use Rattle.laws_room.specs.NextLaws.{FreeSlotsMadeOneKeeps, MoreRoomKeeps, SlotThatIsNotKeptKeeps}
 use Rattle.pack_laws.proofs.Keys.{fid_same, fid_total}
 use Rattle.laws_record.proofs.Around.{around}
 use Rattle.laws_record.proofs.DirKinds.{spaces_in}
@@ -77,9 +77,9 @@ unkept_scan v files d l is js a b f name here was now unkept =
     )
 
 -- it goes
-pub unkept_goes : UnkeptGoes
+pub slot_that_is_not_kept_keeps : SlotThatIsNotKeptKeeps
 unfolding mended
-unkept_goes p d at a b f name h unkept may =
+slot_that_is_not_kept_keeps p d at a b f name h unkept may =
     let q : Pack = freed p at a (entry f name ∷ []) in
     let n : ℕ = all_words (entry f name ∷ []) in
     let words : List ℕ = put_at (all_words a) (n ∷ []) (dir_words p d) in
@@ -137,8 +137,8 @@ spaces_meet v files l is js a old b here was now size bare =
     }
 
 -- the next entry is placed as before
-pub free_slots_meet : FreeSlotsMeet
-free_slots_meet p at a old b f name rest ks h bare next room room_now =
+pub free_slots_made_one_keeps : FreeSlotsMadeOneKeeps
+free_slots_made_one_keeps p at a old b f name rest ks h bare next room room_now =
     let q : Pack = freed p at a old in
     let words : List ℕ = put_at (all_words a) (all_words old ∷ []) (dir_words p sys_dir) in
     let l = has_leader (sights p) sys_dir h.write.lives in
@@ -160,8 +160,8 @@ wider v files l is js here now = (
 )
 
 -- where the next entry has no room
-pub room_comes : RoomComes
-room_comes p at label fresh f name rest live bears names ends more one next none small =
+pub more_room_keeps : MoreRoomKeeps
+more_room_keeps p at label fresh f name rest live bears names ends more one next none small =
     let q : Pack = with_label p at label in
     let words : List ℕ = dir_words p sys_dir ++ fresh in
     let l = has_leader (sights p) sys_dir live in

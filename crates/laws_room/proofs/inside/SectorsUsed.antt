@@ -6,11 +6,11 @@ use Rattle.pack_model.specs.Sights.{sights}
 use Rattle.laws_room.proofs.FreeRoom.{in_use_pages}
 use Rattle.laws_room.proofs.inside.BodyKinds.{read_kinds}
 use Rattle.laws_room.proofs.Stepping.{step_pages}
-use Rattle.laws_room.specs.UseLaws.{UseLaw}
+use Rattle.laws_room.specs.UseLaws.{UseFollowsTheOperation}
 
 -- they follow the operation
-pub use_follows : UseLaw
-use_follows p q o before behind shape fits reads =
+pub use_follows_the_operation : UseFollowsTheOperation
+use_follows_the_operation p q o before behind shape fits reads =
     let was = in_use_pages p before in
     let now = in_use_pages q behind in
     let pages = step_pages (read_pack p) (read_kinds p.shape (sights p)) o fits in

@@ -1,5 +1,5 @@
-use Rattle.laws_hint.proofs.inside.ClosedHints.{closes_true}
+use Rattle.laws_hint.proofs.inside.ClosedHints.{closing_leaves_hints_true}
 use Rattle.laws_hint.proofs.closing.closing_leaves_hints_true.Goals as goal
 
 pub returns : goal.returns
-returns c = closes_true
+returns c = closing_leaves_hints_true

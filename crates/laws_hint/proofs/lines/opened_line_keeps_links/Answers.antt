@@ -1,5 +1,5 @@
-use Rattle.laws_hint.proofs.inside.LineLinking.{opened_line_links}
+use Rattle.laws_hint.proofs.inside.LineLinking.{opened_line_keeps_links}
 use Rattle.laws_hint.proofs.lines.opened_line_keeps_links.Goals as goal
 
 pub returns : goal.returns
-returns c = opened_line_links
+returns c = opened_line_keeps_links

@@ -1,5 +1,5 @@
-use Rattle.laws_hint.proofs.inside.Meaning.{free_is_available}
+use Rattle.laws_hint.proofs.inside.Meaning.{free_sectors_are_available}
 use Rattle.laws_hint.proofs.meanings.free_sectors_are_available.Goals as goal
 
 pub returns : goal.returns
-returns c = free_is_available
+returns c = free_sectors_are_available

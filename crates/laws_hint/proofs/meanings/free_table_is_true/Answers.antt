@@ -1,5 +1,5 @@
-use Rattle.laws_hint.proofs.inside.Meaning.{free_true}
+use Rattle.laws_hint.proofs.inside.Meaning.{free_table_is_true}
 use Rattle.laws_hint.proofs.meanings.free_table_is_true.Goals as goal
 
 pub returns : goal.returns
-returns c = free_true
+returns c = free_table_is_true

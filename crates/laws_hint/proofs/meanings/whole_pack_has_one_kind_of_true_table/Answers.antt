@@ -1,5 +1,5 @@
-use Rattle.laws_hint.proofs.inside.Meaning.{one_meaning}
+use Rattle.laws_hint.proofs.inside.Meaning.{whole_pack_has_one_kind_of_true_table}
 use Rattle.laws_hint.proofs.meanings.whole_pack_has_one_kind_of_true_table.Goals as goal
 
 pub returns : goal.returns
-returns c = one_meaning
+returns c = whole_pack_has_one_kind_of_true_table

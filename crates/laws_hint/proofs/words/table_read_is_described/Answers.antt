@@ -1,5 +1,5 @@
-use Rattle.laws_hint.proofs.inside.Wording.{table_described}
+use Rattle.laws_hint.proofs.inside.Wording.{table_read_is_described}
 use Rattle.laws_hint.proofs.words.table_read_is_described.Goals as goal
 
 pub returns : goal.returns
-returns c = table_described
+returns c = table_read_is_described

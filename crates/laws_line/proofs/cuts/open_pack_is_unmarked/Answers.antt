@@ -1,5 +1,5 @@
-use Rattle.laws_line.proofs.Marked.{open_unmarked}
+use Rattle.laws_line.proofs.Marked.{open_pack_is_unmarked}
 use Rattle.laws_line.proofs.cuts.open_pack_is_unmarked.Goals as goal
 
 pub returns : goal.returns
-returns c = open_unmarked
+returns c = open_pack_is_unmarked

@@ -1,5 +1,5 @@
 -- Each cut of an operation is read as the model before it or behind it, and is mendable where both are ready.
-use Rattle.std.proofs.Common.{◌∷◌, ◌≡◌, ◌⊎◌, List, [], inl, inr, subst, sym}
+use Rattle.std.proofs.Common.{List, [], inl, inr, subst, sym, ◌∷◌, ◌≡◌, ◌⊎◌}
 use Rattle.disk_records.specs.Packs.{Pack, after}
 use Rattle.disk_records.specs.declared.records.Event.{Event}
 use Rattle.disk_records.specs.declared.records.Event.TheVariants.{Wrote}
@@ -15,15 +15,15 @@ use Rattle.pack_model.specs.Whole.{Whole}
 use Rattle.laws_room.proofs.Marking.{unmarked_is_unclean}
 use Rattle.laws_line.proofs.inside.ReadyRoom.{ready_has_room}
 use Rattle.laws_line.specs.Ready.{Ready}
-use Rattle.laws_operation.proofs.EnterMoves.{enter_law}
+use Rattle.laws_operation.proofs.EnterMoves.{enter_carries_out}
 use Rattle.laws_operation.proofs.EnterStages.{views_of}
 use Rattle.laws_operation.specs.NameLaws.{entry_room}
 use Rattle.laws_room.proofs.SystemFiles.{scavengeable_by_model}
 use Rattle.laws_line.proofs.inside.crashes.EnterCuts.{ReadsReady, enter_ready}
 use Rattle.laws_line.proofs.inside.crashes.OneCommit.{Once, Quiets, moves_once}
-use Rattle.laws_line.proofs.inside.crashes.Spared.{enter_spares}
+use Rattle.laws_line.proofs.inside.crashes.Spared.{enter_leaves_the_system}
 use Rattle.laws_line.proofs.inside.crashes.Still.{Still, still_after, still_throughout, system_still, unmarked_still}
-use Rattle.laws_line.specs.CutLaws.{CutsLaw, EntersLaw}
+use Rattle.laws_line.specs.CutLaws.{CrashesOfAnOperation, CrashesOfEnter}
 use Rattle.laws_line.specs.SpareLaws.{Spares}
 
 -- ---- what cuts are read as
@@ -61,8 +61,8 @@ pub mendable_either : (p q : Pack) (m n : Model) → Whole p → Unmarked p → 
 mendable_either p q m n w unmarked first last s h = mendable_still p q w unmarked s (elim h [ inl e ↦ subst Ready (sym e) first | inr e ↦ subst Ready (sym e) last ])
 
 -- so each cut of an operation can be scavenged
-pub cuts_law : CutsLaw
-cuts_law p events o w c spares = record {
+pub crashes_of_an_operation : CrashesOfAnOperation
+crashes_of_an_operation p events o w c spares = record {
   obeys = views_of c.meets.obeys;
   cuts = λ unmarked first last. both_throughout (Still p) (IsEither (read_pack p) (step (read_pack p) o)) Mendable (λ q. mendable_either p q (read_pack p) (step (read_pack p) o) w unmarked first last) p events (still_throughout p events spares)
       (either o c.meets.obeys (moves_once (read_pack p) o));
@@ -73,11 +73,11 @@ cuts_law p events o w c spares = record {
 }
 
 -- and each cut of an entering
-pub enters_law : EntersLaw
-enters_law p d name f a old b left words at next_at w t h =
+pub crashes_of_enter : CrashesOfEnter
+crashes_of_enter p d name f a old b left words at next_at w t h =
     let events : List Event = enter_writes (values_first p (entry_room a old at next_at) words) at (entry_value p (entry_room a old at next_at) words) in
-    let spares : Spares p events = enter_spares p d name f a old b left words at next_at w h in
-    let s = enter_law p d name f a old b left words at next_at w t h in
+    let spares : Spares p events = enter_leaves_the_system p d name f a old b left words at next_at w h in
+    let s = enter_carries_out p d name f a old b left words at next_at w t h in
     record {
       obeys = s.sees.obeys;
       cuts = λ unmarked first last. both_throughout (Still p) ReadsReady Mendable (λ q still ready. mendable_still p q w unmarked still ready) p events (still_throughout p events spares) (enter_ready p w t d name f a old b left words at next_at h first last);

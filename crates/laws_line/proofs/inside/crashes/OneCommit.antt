@@ -1,5 +1,5 @@
 -- The moves of an operation, of which one commits it; and the model to which those of a line lead, whatever a cut stands for.
-use Rattle.std.proofs.Common.{◌++◌, ◌==◌, ◌∙◌, ◌∷◌, ◌≡◌, Bool, List, [], ap, cond, false, length, refl, true, ℕ}
+use Rattle.std.proofs.Common.{Bool, List, [], ap, cond, false, length, refl, true, ℕ, ◌++◌, ◌==◌, ◌∙◌, ◌∷◌, ◌≡◌}
 use Rattle.disk_records.specs.Packs.{Pack}
 use Rattle.pack_model.specs.Committing.{length_of, line_moves, moves_of, moves_of_all, page_of_byte, pages_added, pages_cut, serial_moves, units, values_before}
 use Rattle.pack_model.specs.Meanings.{OperationCut, SessionCut, Views, meaning}
@@ -14,7 +14,7 @@ use Rattle.pack_model.specs.Step.{Operation, step}
 use Rattle.pack_model.specs.Step.Operation.{cut, drop_file, enter, grow, leave, make, put, stamp, title, widen}
 use Rattle.pack_laws.proofs.Moving.{steps-append}
 use Rattle.laws_line.specs.Ready.{steps_of}
-use Rattle.laws_line.specs.PartLaws.{LinesLead}
+use Rattle.laws_line.specs.PartLaws.{LineMovesLeadToTheModel}
 
 -- ---- moves of which one commits
 -- each is quiet
@@ -108,5 +108,5 @@ module _ (stands : Model → Pack → Type 0) where
       opened true = refl
       opened false = refl
 
-pub lines_lead : LinesLead
-lines_lead mark m ops = record { in_views = line_leads Views mark m ops; in_operations = line_leads OperationCut mark m ops; in_session = line_leads SessionCut mark m ops }
+pub line_moves_lead_to_the_model : LineMovesLeadToTheModel
+line_moves_lead_to_the_model mark m ops = record { in_views = line_leads Views mark m ops; in_operations = line_leads OperationCut mark m ops; in_session = line_leads SessionCut mark m ops }

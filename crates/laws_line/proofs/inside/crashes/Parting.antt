@@ -1,5 +1,5 @@
 -- Properties of each cut, by parts of the events; and moves whose cuts can be scavenged.
-use Rattle.std.proofs.Common.{◌++◌, ◌∷◌, List, [], ap, subst, suc, sym, zero, ℕ}
+use Rattle.std.proofs.Common.{List, [], ap, subst, suc, sym, zero, ℕ, ◌++◌, ◌∷◌}
 use Rattle.disk_records.specs.Events.{IsFirstOf}
 use Rattle.disk_records.specs.Packs.{Pack, after, cut}
 use Rattle.disk_records.specs.declared.records.Event.{Event}
@@ -7,7 +7,7 @@ use Rattle.pack_model.specs.Moves.{rest, write}
 use Rattle.pack_model.specs.Scavenging.{Throughout}
 use Rattle.pack_model.specs.Settling.{settle}
 use Rattle.laws_record.proofs.Chaining.{at_cut}
-use Rattle.laws_line.specs.PartLaws.{CutByCut, InSessionLaw, OfBothParts, OfParts, OperatesLaw}
+use Rattle.laws_line.specs.PartLaws.{CrashByCrash, CrashesOfBothParts, CrashesOfParts, ViewedAndMendableInSession, ViewedAndMendableOperates}
 
 -- ---- a property of packs
 module _ (P : Pack → Type 0) where
@@ -29,25 +29,25 @@ module _ (P : Pack → Type 0) where
   later_part p [] b r = r
   later_part p (e ∷ a) b r = later_part (after p (e ∷ [])) a b r.1
 
-  pub of_parts : OfParts P
-  of_parts = record { first = first_part; broken = broken_part; later = later_part }
+  pub crashes_of_parts : CrashesOfParts P
+  crashes_of_parts = record { first = first_part; broken = broken_part; later = later_part }
 
-  pub of_both_parts : OfBothParts P
-  of_both_parts p [] b r s = s
-  of_both_parts p (e ∷ a) b r s = (r.0, of_both_parts (after p (e ∷ [])) a b r.1 s)
+  pub crashes_of_both_parts : CrashesOfBothParts P
+  crashes_of_both_parts p [] b r s = s
+  crashes_of_both_parts p (e ∷ a) b r s = (r.0, crashes_of_both_parts (after p (e ∷ [])) a b r.1 s)
 
   from_cuts : (p : Pack) (events : List Event) → ((k : ℕ) → P (cut p events k)) → Throughout P p events
   from_cuts p [] h = h zero
   from_cuts p (e ∷ events) h = (h zero, from_cuts (after p (e ∷ [])) events (λ k. h (suc k)))
 
-  pub cut_by_cut : CutByCut P
-  cut_by_cut p events = (at_cut P p events, from_cuts p events)
+  pub crash_by_crash : CrashByCrash P
+  crash_by_crash p events = (at_cut P p events, from_cuts p events)
 
 -- ---- moves
-pub operates : OperatesLaw
-operates m p _ _ (rest here) r = rest (record { views = here; mendable = r })
-operates m p _ _ (write {at = at} {part = part} {words = words} {events = events} {o = o} {ops = ops} here makes later) r = write (record { views = here; mendable = r.0 }) makes (operates _ _ events ops later r.1)
+pub viewed_and_mendable_operates : ViewedAndMendableOperates
+viewed_and_mendable_operates m p _ _ (rest here) r = rest (record { views = here; mendable = r })
+viewed_and_mendable_operates m p _ _ (write {at = at} {part = part} {words = words} {events = events} {o = o} {ops = ops} here makes later) r = write (record { views = here; mendable = r.0 }) makes (viewed_and_mendable_operates _ _ events ops later r.1)
 
-pub in_session : InSessionLaw
-in_session m p _ _ (rest here) r = rest (record { shows = ap settle here; mendable = r })
-in_session m p _ _ (write {at = at} {part = part} {words = words} {events = events} {o = o} {ops = ops} here makes later) r = write (record { shows = ap settle here; mendable = r.0 }) makes (in_session _ _ events ops later r.1)
+pub viewed_and_mendable_in_session : ViewedAndMendableInSession
+viewed_and_mendable_in_session m p _ _ (rest here) r = rest (record { shows = ap settle here; mendable = r })
+viewed_and_mendable_in_session m p _ _ (write {at = at} {part = part} {words = words} {events = events} {o = o} {ops = ops} here makes later) r = write (record { shows = ap settle here; mendable = r.0 }) makes (viewed_and_mendable_in_session _ _ events ops later r.1)

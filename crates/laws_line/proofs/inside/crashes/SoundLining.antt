@@ -1,5 +1,5 @@
 -- Each cut of a line of the operating system can be scavenged, and behind it the pack is sound again.
-use Rattle.std.proofs.Common.{◌∙◌, ◌≡◌, ◌≤◌, Bool, List, None, Option, Some, ap, arith, cond, false, not, refl, subst, sym, true}
+use Rattle.std.proofs.Common.{Bool, List, None, Option, Some, ap, arith, cond, false, not, refl, subst, sym, true, ◌∙◌, ◌≡◌, ◌≤◌}
 use Rattle.std.specs.FinMap.{contains_key, get}
 use Rattle.std.specs.Option.{is_some, option_map}
 use Rattle.alto_words.specs.Fid.{disk_descriptor, is_fid}
@@ -21,26 +21,26 @@ use Rattle.pack_laws.proofs.Keys.{same_fid}
 use Rattle.laws_record.proofs.Keeping.{get-where}
 use Rattle.laws_record.proofs.Mending.{get-seen}
 use Rattle.laws_record.proofs.Reading.{get-found, read_file}
-use Rattle.laws_room.proofs.FreeRoom.{free_is_room}
-use Rattle.laws_line.proofs.inside.SettledAgain.{behind_changes}
-use Rattle.laws_line.proofs.inside.SettledDrop.{behind_drop}
-use Rattle.laws_line.proofs.inside.SettledNewFile.{behind_new_file}
-use Rattle.laws_line.proofs.inside.SettledRename.{behind_rename}
+use Rattle.laws_room.proofs.FreeRoom.{free_is_the_room}
+use Rattle.laws_line.proofs.inside.SettledAgain.{settled_after_changes}
+use Rattle.laws_line.proofs.inside.SettledDrop.{settled_after_drop}
+use Rattle.laws_line.proofs.inside.SettledNewFile.{settled_after_new_file}
+use Rattle.laws_line.proofs.inside.SettledRename.{settled_after_rename}
 use Rattle.laws_line.proofs.inside.SoundSettled.{sound_is_settled}
 use Rattle.laws_line.specs.BehindLaws.{SettledBehind}
 use Rattle.laws_line.specs.Ready.{Settled, steps_of}
-use Rattle.laws_line.proofs.Lining.{line_law}
-use Rattle.laws_line.proofs.inside.crashes.Parting.{in_session, operates}
+use Rattle.laws_line.proofs.Lining.{crashes_of_a_line}
+use Rattle.laws_line.proofs.inside.crashes.Parting.{viewed_and_mendable_in_session, viewed_and_mendable_operates}
 use Rattle.laws_line.specs.CutLaws.{LineStays}
-use Rattle.laws_line.specs.SoundLines.{IsLine, SoundLineLaw, changes, comes, goes, renamed}
+use Rattle.laws_line.specs.SoundLines.{CrashesOfALineOnASoundPack, IsLine, changes, comes, goes, renamed}
 
 -- ---- the model
 -- each kind of line keeps a settled model ready where there is room for the pages that it adds, and leaves a settled one
 line_behind : (m : Model) (ops : List Operation) → Settled m → IsLine m ops → pages_for_operations m ops ≤ room m → SettledBehind m ops
-line_behind m _ s (changes ops leave) few = behind_changes m ops s leave few
-line_behind m _ s (goes f may) few = behind_drop m f s may
-line_behind m _ s (comes d name f moment rest dir short new leave) few = behind_new_file m d name f moment rest s dir short new leave few
-line_behind m _ s (renamed d old to name f dir entered short other) few = behind_rename m d old to name f s dir entered short other few
+line_behind m _ s (changes ops leave) few = settled_after_changes m ops s leave few
+line_behind m _ s (goes f may) few = settled_after_drop m f s may
+line_behind m _ s (comes d name f moment rest dir short new leave) few = settled_after_new_file m d name f moment rest s dir short new leave few
+line_behind m _ s (renamed d old to name f dir entered short other) few = settled_after_rename m d old to name f s dir entered short other few
 
 -- ---- the pack
 -- a living file but DiskDescriptor is one of the model
@@ -76,16 +76,16 @@ sound_behind p events ops h settled = record { whole = h.whole; tidy = h.tidy; n
     by f alive false e = again.all f (living_read q.shape (sights q) f e alive)
 
 -- ---- the law
-pub sound_line_law : SoundLineLaw
-sound_line_law p at events ops sound placed some is few line =
-    let h = line_law p at events ops sound placed some line in
-    let free = (free_is_room p sound.whole).room_is in
+pub crashes_of_a_line_on_a_sound_pack : CrashesOfALineOnASoundPack
+crashes_of_a_line_on_a_sound_pack p at events ops sound placed some is few line =
+    let h = crashes_of_a_line p at events ops sound placed some line in
+    let free = (free_is_the_room p sound.whole).room_is in
     let behind = line_behind (read_pack p) ops (sound_is_settled p sound) is (omega arith) in
     let cuts = h.cuts behind.ready in
     record {
       cuts = cuts;
-      operating = operates (read_pack p) p _ _ h.obeys cuts;
-      session = in_session (read_pack p) p _ _ h.obeys cuts;
+      operating = viewed_and_mendable_operates (read_pack p) p _ _ h.obeys cuts;
+      session = viewed_and_mendable_in_session (read_pack p) p _ _ h.obeys cuts;
       reads = h.reads;
       unmarked = h.unmarked;
       sound = sound_behind p _ ops h behind.behind;

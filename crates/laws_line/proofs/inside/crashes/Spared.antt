@@ -5,7 +5,7 @@ use Rattle.std.proofs.lemmas.List.Elements.{All-append, All-nil}
 use Rattle.std.specs.Prelude.{◌==◌}
 use Rattle.alto_words.specs.Fid.{disk_descriptor, is_directory, is_fid, sys_dir}
 use Rattle.alto_words.specs.declared.fid.Fid.{Fid}
-use Rattle.disk_records.specs.Commands.{claim_writes, release_writes, relabel_writes, value_writes}
+use Rattle.disk_records.specs.Commands.{claim_writes, relabel_writes, release_writes, value_writes}
 use Rattle.disk_records.specs.Labels.{Tag, in_range, page_of, tag}
 use Rattle.disk_records.specs.Packs.{Pack, sector_at}
 use Rattle.disk_records.specs.Words.{word}
@@ -29,7 +29,7 @@ use Rattle.laws_operation.proofs.EnterMoves.{values-append}
 use Rattle.laws_operation.proofs.Lying.{shows_set, within}
 use Rattle.laws_operation.specs.NameLaws.{entry_room}
 use Rattle.laws_line.proofs.inside.crashes.Sparing.{IsElse, claim_spares, names_else, reclaim_spares, relabel_spares, release_spares, releases_spare, shown_free, value_alone}
-use Rattle.laws_line.specs.SpareLaws.{CutSpares, DropSpares, EnterSpares, GoSpares, GrowSpares, LeaderSpares, MakeSpares, PutSpares, SlotSpares, Spares, SparesSystem, WidenSpares}
+use Rattle.laws_line.specs.SpareLaws.{CutLeavesTheSystem, DropLeavesTheSystem, EnterLeavesTheSystem, GrowLeavesTheSystem, LeaderLeavesTheSystem, MakeLeavesTheSystem, PutLeavesTheSystem, ReleaseLeavesTheSystem, SlotLeavesTheSystem, Spares, SparesSystem, WidenLeavesTheSystem}
 
 -- ---- names of files
 -- an ordinary file isn't SysDir
@@ -72,52 +72,52 @@ module _ (p : Pack) (w : Whole p) where
   dir_page d n at value dir some bears = value_alone p w.root.0 w.root.1 at (page_number d n) value (place_carried p (page_number d n) at bears) (data_page d n (not_descriptor d dir) some)
 
 -- ---- the laws
-pub put_spares : PutSpares
-put_spares p f offset new at value w h =
+pub put_leaves_the_system : PutLeavesTheSystem
+put_leaves_the_system p f offset new at value w h =
     let x : Page = page_number f (page_of_byte offset) in
     value_alone p w.root.0 w.root.1 at x value (place_carried p x at h.sector) (data_page f (page_of_byte offset) h.file.no_descriptor (omega arith))
 
-pub grow_law_spares : GrowSpares
-grow_law_spares p f new claims at label value w h = grow_spares p w f (length (file_bytes (sights p) f)) claims at label value h.file.no_descriptor h.sector h.claimable h.page
+pub grow_leaves_the_system : GrowLeavesTheSystem
+grow_leaves_the_system p f new claims at label value w h = grow_spares p w f (length (file_bytes (sights p) f)) claims at label value h.file.no_descriptor h.sector h.claimable h.page
 
-pub cut_spares : CutSpares
-cut_spares p f n at label later w h =
+pub cut_leaves_the_system : CutLeavesTheSystem
+cut_leaves_the_system p f n at label later w h =
     let x : Page = page_number f (page_of_byte n) in
     All-append (SparesSystem p) (relabel_writes at label (sector_at p at).value) (releases_writes later)
     (relabel_spares p w.root.0 w.root.1 at x label (sector_at p at).value (place_carried p x at h.sector) (data_page f (page_of_byte n) h.file.no_descriptor (omega arith)) (names_else label x h.page h.file.no_descriptor))
     (releases_spare p w.root.0 w.root.1 f (suc (page_of_byte n)) later h.file.no_descriptor (omega arith) h.later_are)
 
-pub leader_spares : LeaderSpares
-leader_spares p f change at value w h =
+pub leader_leaves_the_system : LeaderLeavesTheSystem
+leader_leaves_the_system p f change at value w h =
     let x : Page = page_number f 0 in
     value_alone p w.root.0 w.root.1 at x value (place_carried p x at h.sector) (record { no_descriptor = h.file.no_descriptor; no_root = inr (not_root f h.file.no_directory) })
 
-pub make_spares : MakeSpares
-make_spares p f name moment page leader w h =
+pub make_leaves_the_system : MakeLeavesTheSystem
+make_leaves_the_system p f name moment page leader w h =
     All-append (SparesSystem p) (claim_writes page.at page.label page.value) (claim_writes leader.at leader.label leader.value ++ [])
     (claim_spares p w.root.0 w.root.1 page.at page.label page.value h.page_free (names_else page.label (page_number f 1) h.page_is h.no_descriptor))
     (All-append (SparesSystem p) (claim_writes leader.at leader.label leader.value) []
     (claim_spares p w.root.0 w.root.1 leader.at leader.label leader.value h.leader_free (names_else leader.label (page_number f 0) h.leader_is h.no_descriptor)) (All-nil (SparesSystem p)))
 
-pub go_spares : GoSpares
-go_spares p f at pages w h =
+pub release_leaves_the_system : ReleaseLeavesTheSystem
+release_leaves_the_system p f at pages w h =
     let x : Page = page_number f 0 in
     let apart = or_parts (is_fid f sys_dir) (is_fid f disk_descriptor) h.no_system in
     All-append (SparesSystem p) (release_writes at) (releases_writes pages)
     (release_spares p w.root.0 w.root.1 at x (place_carried p x at h.sector) (record { no_descriptor = apart.1; no_root = inr apart.0 }))
     (releases_spare p w.root.0 w.root.1 f 1 pages apart.1 (omega arith) h.pages_are)
 
-pub slot_spares : SlotSpares
-slot_spares p d at a old b value w h = dir_page p w d (all_words a / 256 + 1) at value h.write.directory (omega arith) h.write.sector
+pub slot_leaves_the_system : SlotLeavesTheSystem
+slot_leaves_the_system p d at a old b value w h = dir_page p w d (all_words a / 256 + 1) at value h.write.directory (omega arith) h.write.sector
 
-pub drop_spares : DropSpares
-drop_spares p f at pages d slot_at a old b value w h frees = All-append (SparesSystem p) (go_writes at pages) (value_writes slot_at value) (go_spares p f at pages w h) (slot_spares p d slot_at a old b value w frees)
+pub drop_leaves_the_system : DropLeavesTheSystem
+drop_leaves_the_system p f at pages d slot_at a old b value w h frees = All-append (SparesSystem p) (go_writes at pages) (value_writes slot_at value) (release_leaves_the_system p f at pages w h) (slot_leaves_the_system p d slot_at a old b value w frees)
 
-pub widen_spares : WidenSpares
-widen_spares p d added claims at label value w h = grow_spares p w d (length (file_bytes (sights p) d)) claims at label value (not_descriptor d h.directory) h.sector h.claimable h.page
+pub widen_leaves_the_system : WidenLeavesTheSystem
+widen_leaves_the_system p d added claims at label value w h = grow_spares p w d (length (file_bytes (sights p) d)) claims at label value (not_descriptor d h.directory) h.sector h.claimable h.page
 
-pub enter_spares : EnterSpares
-enter_spares p d name f a old b left words at next_at w h =
+pub enter_leaves_the_system : EnterLeavesTheSystem
+enter_leaves_the_system p d name f a old b left words at next_at w h =
     let r : EntryRoom = entry_room a old at next_at in
     let x : List (ℕ × List ℕ) = joining p r in
     let y : List (ℕ × List ℕ) = overlapping (joined p r) (all_words a) words next_at in

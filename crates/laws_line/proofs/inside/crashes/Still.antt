@@ -1,5 +1,5 @@
 -- Packs on which sector 1 and DiskDescriptor stand as they stood, at each cut of record writes that leave them alone.
-use Rattle.std.proofs.Common.{◌<◌, ◌==◌, ◌∙◌, ◌∷◌, ◌≡◌, List, None, Option, Some, [], ap, cond, eqb-true, false, inl, inr, length, refl, subst, sym, true, ℕ}
+use Rattle.std.proofs.Common.{List, None, Option, Some, [], ap, cond, eqb-true, false, inl, inr, length, refl, subst, sym, true, ℕ, ◌<◌, ◌==◌, ◌∙◌, ◌∷◌, ◌≡◌}
 use Rattle.std.proofs.Math.ListN.{length-set}
 use Rattle.std.proofs.lemmas.Bool.{eqb-false}
 use Rattle.std.proofs.lemmas.List.Elements.{All-head, All-tail}
@@ -18,7 +18,7 @@ use Rattle.pack_model.specs.Scavenging.{Throughout, Unmarked}
 use Rattle.pack_model.specs.Sights.{sights}
 use Rattle.pack_model.specs.Whole.{Whole}
 use Rattle.laws_room.specs.MarkLaws.{mark_page}
-use Rattle.pack_laws.proofs.Filing.{place_lowest}
+use Rattle.pack_laws.proofs.Filing.{places_are_lowest}
 use Rattle.pack_laws.proofs.Guarding.{carried_parts, here_written, other_kept, usable_within, value_page}
 use Rattle.pack_laws.proofs.Placing.{leader_of_place, place_of_leader}
 use Rattle.laws_record.proofs.Copying.{place_carried}
@@ -108,7 +108,7 @@ module _ (p q : Pack) (s : Still p q) where
 
       -- its leader has a place
       placed : (at : ℕ) → carried q at ≡ Some x → (r : Option ℕ) → place (sights q) disk_descriptor 0 ≡ r → is_some (leader (sights q) disk_descriptor) ≡ true
-      placed at c None e = absurd ((place_lowest q x).none e at c)
+      placed at c None e = absurd ((places_are_lowest q x).none e at c)
       placed at c (Some i) e = ap is_some (leader_of_place (sights q) disk_descriptor i e).leader_is
 
       by : (r : Option Leader) → leader (sights p) disk_descriptor ≡ r → is_some (leader (sights p) disk_descriptor) ≡ true → is_some (leader (sights q) disk_descriptor) ≡ true
@@ -120,7 +120,7 @@ module _ (p q : Pack) (s : Still p q) where
   -- and the pack is unmarked
   pub unmarked_still : Unmarked p → Unmarked q
   unmarked_still unmarked at placed mark =
-      let now = (place_lowest q mark_page).lowest at placed in
+      let now = (places_are_lowest q mark_page).lowest at placed in
       let here : carried p at ≡ Some mark_page = s.none_new at mark_page now.here refl in
-      let was = (place_lowest p mark_page).place_is at (record { here = here; lowest = λ j low c. now.lowest j low (carried_still j mark_page c refl) }) in
+      let was = (places_are_lowest p mark_page).place_is at (record { here = here; lowest = λ j low c. now.lowest j low (carried_still j mark_page c refl) }) in
       unmarked at was (ap (λ t. word t.value 6) (sym (s.pages at mark_page here refl)) ∙ mark)

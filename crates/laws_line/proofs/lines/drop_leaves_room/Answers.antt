@@ -1,5 +1,5 @@
-use Rattle.laws_line.proofs.inside.Dropped.{drop_line}
+use Rattle.laws_line.proofs.inside.Dropped.{drop_leaves_room}
 use Rattle.laws_line.proofs.lines.drop_leaves_room.Goals as goal
 
 pub returns : goal.returns
-returns c = drop_line
+returns c = drop_leaves_room

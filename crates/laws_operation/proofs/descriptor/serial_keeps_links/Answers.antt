@@ -1,5 +1,5 @@
-use Rattle.laws_operation.proofs.DescriptorValues.{serial_links}
+use Rattle.laws_operation.proofs.DescriptorValues.{serial_keeps_links}
 use Rattle.laws_operation.proofs.descriptor.serial_keeps_links.Goals as goal
 
 pub returns : goal.returns
-returns c = serial_links
+returns c = serial_keeps_links

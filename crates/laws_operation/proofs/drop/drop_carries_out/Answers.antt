@@ -1,5 +1,5 @@
-use Rattle.laws_operation.proofs.DropLaw.{drop_law}
+use Rattle.laws_operation.proofs.DropLaw.{drop_carries_out}
 use Rattle.laws_operation.proofs.drop.drop_carries_out.Goals as goal
 
 pub returns : goal.returns
-returns c = drop_law
+returns c = drop_carries_out

@@ -35,7 +35,7 @@ use Rattle.laws_operation.proofs.inside.links.Records.{carried_same}
 use Rattle.laws_operation.proofs.inside.links.Relabelled.{relabel_apart, relabel_carried, relabel_concern, relabel_here, relabel_label, relabel_of}
 use Rattle.laws_operation.proofs.inside.links.Releases.{EachOf, NoneOf, bear_of, releases_apart, releases_concern, releases_same}
 use Rattle.laws_operation.proofs.inside.links.Values.{of_carried}
-use Rattle.laws_operation.specs.LinkLaws.{CutLinks}
+use Rattle.laws_operation.specs.LinkLaws.{CutKeepsLinks}
 
 -- an earlier page is none of those in a row
 bear_none : (ss : List Sight) (f : Fid) (n : ℕ) (ats : List ℕ) → Bear ss f n ats → (m i : ℕ) → m < n → place ss f m ≡ Some i → NoneOf i ats
@@ -154,5 +154,5 @@ module _ (p : Pack) (wp : Whole p) (tp : Tidy p) (f : Fid) (n at : ℕ) (label l
       none_of (Some j) never = absurd (never j refl)
 
 -- a cut
-pub cut_links : CutLinks
-cut_links p f n at later w t h = cut_true p w t f n at (cut_label n (sector_at p at).label) later h refl refl
+pub cut_keeps_links : CutKeepsLinks
+cut_keeps_links p f n at later w t h = cut_true p w t f n at (cut_label n (sector_at p at).label) later h refl refl

@@ -26,13 +26,13 @@ use Rattle.laws_record.specs.DirLaws.{Frees, dir_written}
 use Rattle.laws_operation.proofs.EnterLaw.{items_are}
 use Rattle.laws_operation.proofs.EnterStages.{join_stage, loose_stage}
 use Rattle.laws_operation.proofs.EntryWrite.{loose_in}
-use Rattle.laws_operation.proofs.inside.Freeing.{slot_law}
+use Rattle.laws_operation.proofs.inside.Freeing.{slot_carries_out}
 use Rattle.laws_operation.proofs.Leaving.{leave_law}
 use Rattle.laws_operation.proofs.inside.links.Addresses.{AllTrue, true_more, true_replaced}
 use Rattle.laws_operation.proofs.inside.links.Directories.{DirTrue, all_dirs, dirs_true, other_dir_by, other_items, other_lives}
 use Rattle.laws_operation.proofs.inside.links.Framing.{AllConcern}
 use Rattle.laws_operation.proofs.inside.links.Values.{AllOf, of_carried, values_concern, values_linked, values_place}
-use Rattle.laws_operation.specs.NameLinkLaws.{JoinLinks, LeaveLinks, LooseLinks, SlotLinks}
+use Rattle.laws_operation.specs.NameLinkLaws.{JoinKeepsLinks, LeaveKeepsLinks, LooseWordsKeepLinks, SlotKeepsLinks}
 
 -- values in sectors of a directory, where it and the others are read so
 pub dir_values : (vs : List (ℕ × List ℕ)) (p : Pack) (d : Fid) → Whole p → Whole (after p (values_writes vs)) → AllOf d p vs
@@ -105,8 +105,8 @@ abbrev slot_of_words : Pack → ℕ → List Item → ℕ → Pack
 slot_of_words p at a k = after p (value_writes at (put_at (in_page (all_words a)) (k ∷ []) (sector_at p at).value))
 
 -- an entry leaves
-pub leave_links : LeaveLinks
-leave_links p d name at a b f own w t h links =
+pub leave_keeps_links : LeaveKeepsLinks
+leave_keeps_links p d name at a b f own w t h links =
     let old : List Item = entry f own ∷ [] in
     let one = one_word f own in
     let out = leave_law p w t d name at a b f own h in
@@ -115,12 +115,12 @@ leave_links p d name at a b f own w t h links =
     subst (λ k. LinksTrue (slot_of_words p at a k)) one (tidy_freed p d at a old b h.frees w wq tq t links)
 
 -- the slot of a file that was dropped is made free
-pub slot_links : SlotLinks
-slot_links p f d at a b own w t dead fr links =
+pub slot_keeps_links : SlotKeepsLinks
+slot_keeps_links p f d at a b own w t dead fr links =
     let old : List Item = entry f own ∷ [] in
     let one = one_word f own in
     let n : ℕ = all_words old in
-    let out = slot_law p f d at a b own w t dead fr in
+    let out = slot_carries_out p f d at a b own w t dead fr in
     let wq : Whole (slot_of_words p at a n) = subst (λ k. Whole (slot_of_words p at a k)) (sym one) out.meets.whole in
     let tq : Tidy (slot_of_words p at a n) = subst (λ k. Tidy (slot_of_words p at a k)) (sym one) out.meets.tidy in
     let reads : read_pack (slot_of_words p at a n) ≡ read_pack p = subst (λ k. read_pack (slot_of_words p at a k) ≡ read_pack p) (sym one) (stands_last reading out.meets.obeys) in
@@ -128,12 +128,12 @@ slot_links p f d at a b own w t dead fr links =
     subst (λ k. LinksTrue (slot_of_words p at a k)) one (freed_links p d at a old b fr w wq tq (space n ∷ []) (omega arith) items (λ g ne live dir. ap (λ m. dir_items m g) reads) links)
 
 -- free slots are made one
-pub join_links : JoinLinks
-join_links p d at a old b w t fr bare links = let st = join_stage p w t d at a old b fr bare in tidy_freed p d at a old b fr w st.whole st.tidy t links
+pub join_keeps_links : JoinKeepsLinks
+join_keeps_links p d at a old b w t fr bare links = let st = join_stage p w t d at a old b fr bare in tidy_freed p d at a old b fr w st.whole st.tidy t links
 
 -- ---- words inside a free slot
-pub loose_links : LooseLinks
-loose_links p d w at new a b n wp t h slots_are low high links =
+pub loose_words_keep_links : LooseWordsKeepLinks
+loose_words_keep_links p d w at new a b n wp t h slots_are low high links =
     let is : List Item = a ++ space n ∷ b in
     let loose : (k : ℕ) → w ≤ k → k < w + length new → LooseIn 0 (slots (dir_words p d)) k = λ k l m. subst (λ x. LooseIn 0 x k) (sym slots_are) (loose_in 0 a b n k (omega arith) (omega arith)) in
     let st = loose_stage p wp t d w at new h loose in

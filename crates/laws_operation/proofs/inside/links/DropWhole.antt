@@ -1,5 +1,5 @@
 -- A whole drop.
-use Rattle.std.proofs.Common.{Bool, List, [], ap, false, length, refl, subst, sym, true, ℕ, ◌++◌, ◌+◌, ◌/◌, ◌≤◌, ◌∙◌, ◌∷◌, ◌≡◌}
+use Rattle.std.proofs.Common.{Bool, List, [], ap, false, length, refl, subst, sym, true, ℕ, ◌++◌, ◌+◌, ◌/◌, ◌∙◌, ◌∷◌, ◌≡◌, ◌≤◌}
 use Rattle.std.specs.Option.{is_some}
 use Rattle.alto_words.specs.Fid.{is_fid}
 use Rattle.alto_words.specs.declared.fid.Fid.{Fid}
@@ -24,11 +24,11 @@ use Rattle.laws_record.proofs.Entered.{namings_in-append}
 use Rattle.laws_record.specs.DirLaws.{DirWrite, Frees}
 use Rattle.laws_operation.proofs.Dropped.{go_law}
 use Rattle.laws_operation.proofs.Seating.{leader_none_is}
-use Rattle.laws_operation.proofs.inside.links.DirValues.{slot_links}
+use Rattle.laws_operation.proofs.inside.links.DirValues.{slot_keeps_links}
 use Rattle.laws_operation.proofs.inside.links.Directories.{lives_by, other_bytes}
-use Rattle.laws_operation.proofs.inside.links.Dropping.{go_concerns, go_links}
+use Rattle.laws_operation.proofs.inside.links.Dropping.{go_concerns, release_keeps_links}
 use Rattle.laws_operation.proofs.inside.links.Framing.{AllConcern, other_place, other_sector}
-use Rattle.laws_operation.specs.NameLinkLaws.{DropLinks}
+use Rattle.laws_operation.specs.NameLinkLaws.{DropKeepsLinks}
 use Rattle.laws_operation.proofs.DropLaw.{not_none}
 use Rattle.laws_operation.proofs.EnterLaw.{items_are}
 
@@ -42,8 +42,8 @@ apart p f d a b g own items bare = by (is_fid d f) refl
         (sym (namings_in-append d a (entry g own ∷ b)) ∙ sym (ap (namings_in d) items) ∙ subst (λ h. namings_in h (dir_items (read_pack p) h) ≡ []) (sym (same_fid d f e)) bare))
 
 -- all record writes
-pub drop_links : DropLinks
-drop_links p f at pages d slot_at a b own w t h fr links =
+pub drop_keeps_links : DropKeepsLinks
+drop_keeps_links p f at pages d slot_at a b own w t h fr links =
     let events : List Event = go_writes at pages in
     let q : Pack = after p events in
     let out = (go_law p w t f at pages h).0 in
@@ -64,7 +64,7 @@ drop_links p f at pages d slot_at a b own w t h fr links =
     let fr1 : Frees q d slot_at a (entry f own ∷ []) b = record { slots_are = ap slots words ∙ fr.slots_are; some = fr.some; most = fr.most; write = write1 } in
     let dead : lives (sights q) f ≡ false = ap is_some (leader_none_is (sights q) f out.drops.gone) in
     let same : sector_at q slot_at ≡ sector_at p slot_at = other_sector p f events w wq all d (all_words a / 256 + 1) slot_at ne (place_carried p (page_number d (all_words a / 256 + 1)) slot_at write.sector) in
-    let kept = slot_links q f d slot_at a b own wq out.drops.tidy_but dead fr1 (go_links p f at pages w t h links) in
+    let kept = slot_keeps_links q f d slot_at a b own wq out.drops.tidy_but dead fr1 (release_keeps_links p f at pages w t h links) in
     let value : List ℕ = freed_value (all_words a) (item_words (entry f own)) (sector_at p slot_at).value in
     let last : LinksTrue (after q (value_writes slot_at value)) = subst (λ s. LinksTrue (after q (value_writes slot_at (freed_value (all_words a) (item_words (entry f own)) s.value)))) same kept in
     subst LinksTrue (sym (after-append p events (value_writes slot_at value))) last

@@ -32,7 +32,7 @@ use Rattle.laws_operation.proofs.inside.links.Framing.{AllConcern, other_place}
 use Rattle.laws_operation.proofs.inside.links.OneFile.{pages_true}
 use Rattle.laws_operation.proofs.inside.links.Releases.{bear_of, releases_concern}
 use Rattle.laws_operation.proofs.inside.links.Values.{of_carried}
-use Rattle.laws_operation.specs.LinkLaws.{GoLinks}
+use Rattle.laws_operation.specs.LinkLaws.{ReleaseKeepsLinks}
 
 -- no sector is a place of a whole file without a leader
 pub none_there : (ss : List Sight) (f : Fid) → FileWhole ss f → Headless ss f → (n i : ℕ) → place ss f n ≡ Some i → ⊥
@@ -60,8 +60,8 @@ pub go_concerns : (p : Pack) (f : Fid) (at : ℕ) (pages : List ℕ) → MayDrop
 go_concerns p f at pages h = releases_concern f (at ∷ pages) p (of_carried f 0 p at (place_carried p (page_number f 0) at h.sector), bear_of p f 1 pages h.pages_are)
 
 -- they keep links true
-pub go_links : GoLinks
-go_links p f at pages w t h links =
+pub release_keeps_links : ReleaseKeepsLinks
+release_keeps_links p f at pages w t h links =
     let events : List Event = go_writes at pages in
     let q : Pack = after p events in
     let out = (go_law p w t f at pages h).0 in

@@ -37,7 +37,7 @@ use Rattle.laws_record.proofs.Slotwise.{words-append}
 use Rattle.laws_record.specs.DirLaws.{dir_written}
 use Rattle.laws_operation.proofs.Dropped.{read_there}
 use Rattle.laws_operation.proofs.EnterLaw.{items_are}
-use Rattle.laws_operation.proofs.EnterMoves.{enter_law, values-append}
+use Rattle.laws_operation.proofs.EnterMoves.{enter_carries_out, values-append}
 use Rattle.laws_operation.proofs.inside.Rejoining.{entered_there}
 use Rattle.laws_operation.specs.NameLaws.{MayEnterAt, entry_room}
 use Rattle.laws_operation.proofs.inside.links.Addresses.{AllTrue, left_true, true_replaced}
@@ -46,7 +46,7 @@ use Rattle.laws_operation.proofs.inside.links.Directories.{dirs_true, other_item
 use Rattle.laws_operation.proofs.inside.links.EnterWords.{Apart, Spot, Stage, apart_twice, join_words, near_words, next_there, over_words}
 use Rattle.laws_operation.proofs.inside.links.Framing.{AllConcern, OfOne}
 use Rattle.laws_operation.proofs.inside.links.Values.{AllOf, of_carried, of_join, of_one, values_concern}
-use Rattle.laws_operation.specs.NameLinkLaws.{EnterLinks}
+use Rattle.laws_operation.specs.NameLinkLaws.{EnterKeepsLinks}
 use Rattle.laws_record.proofs.SystemEntries.{left_split, left_words}
 
 -- a directory's slots in the model after an entering
@@ -165,11 +165,11 @@ module _ (p : Pack) (w : Whole p) (t : Tidy p) (d : Fid) (name : List ℕ) (f : 
       (of_at, tt)
 
 -- an entering
-pub enter_links : EnterLinks
-enter_links p d name f a old b left words at next_at w t h address links =
+pub enter_keeps_links : EnterKeepsLinks
+enter_keeps_links p d name f a old b left words at next_at w t h address links =
     let r : EntryRoom = entry_room a old at next_at in
     let vs : List (ℕ × List ℕ) = values_first p r words ++ (at, entry_value p r words) ∷ [] in
-    let out = enter_law p d name f a old b left words at next_at w t h in
+    let out = enter_carries_out p d name f a old b left words at next_at w t h in
     let es = events_are p w t d name f a old b left words at next_at h in
     let q : Pack = after p (values_writes vs) in
     let wq : Whole q = subst (λ x. Whole (after p x)) (sym es) out.sees.whole in

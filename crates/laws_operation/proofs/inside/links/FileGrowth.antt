@@ -13,7 +13,7 @@ use Rattle.laws_operation.proofs.inside.links.Ending.{none_later}
 use Rattle.laws_operation.proofs.inside.links.Growing.{grow_concerns, grown_links, grown_place}
 use Rattle.laws_operation.proofs.inside.links.Linked.{FileLinks, file_links}
 use Rattle.laws_operation.proofs.inside.links.OneFile.{ordinary_true}
-use Rattle.laws_operation.specs.LinkLaws.{GrowLinks}
+use Rattle.laws_operation.specs.LinkLaws.{GrowKeepsLinks}
 
 -- no page comes behind the one that the end of a file's bytes is in
 pub none_behind : (p : Pack) → Whole p → (f : Fid) (at : ℕ) → place (sights p) f (page_of_byte (length (file_bytes (sights p) f))) ≡ Some at → (m j : ℕ) → page_of_byte (length (file_bytes (sights p) f)) < m → place (sights p) f m ≡ Some j → ⊥
@@ -23,8 +23,8 @@ none_behind p w f at e (suc m) j l there =
     none_later (sights p) f (length (file_bytes (sights p) f) / 512) at h.old (w.files f) h.shows h.short m j (omega arith) there
 
 -- a growth
-pub grow_links : GrowLinks
-grow_links p f new past fresh at w t h links =
+pub grow_keeps_links : GrowKeepsLinks
+grow_keeps_links p f new past fresh at w t h links =
     let b : ℕ = length (file_bytes (sights p) f) in
     let last : ℕ = page_of_byte b in
     let cs : List Claim = grown_claims p.shape f b at new past fresh in

@@ -39,7 +39,7 @@ use Rattle.laws_operation.proofs.inside.links.Framing.{AllConcern, OfOne, concer
 use Rattle.laws_operation.proofs.inside.links.Linked.{FileLinks, Linked}
 use Rattle.laws_operation.proofs.inside.links.OneFile.{pages_true}
 use Rattle.laws_operation.proofs.inside.links.Records.{carried_same, names_one, number_one}
-use Rattle.laws_operation.specs.LinkLaws.{MakeLinks}
+use Rattle.laws_operation.specs.LinkLaws.{MakeKeepsLinks}
 use Rattle.laws_record.proofs.Recording.{free_sight}
 
 -- a file that doesn't live has no page in a whole pack
@@ -141,5 +141,5 @@ module _ (p : Pack) (w : Whole p) (t : Tidy p) (f : Fid) (name : List ℕ) (mome
           subst (AllTrue (sights done) (dir_words done f) 0) (sym items) (tt, tt)
 
 -- a make
-pub make_links : MakeLinks
-make_links p f name moment leader_at page_at w t h = make_true p w t f name moment (first_page_claim p.shape f leader_at page_at) (leader_claim p.shape f name moment leader_at page_at) h refl refl refl refl
+pub make_keeps_links : MakeKeepsLinks
+make_keeps_links p f name moment leader_at page_at w t h = make_true p w t f name moment (first_page_claim p.shape f leader_at page_at) (leader_claim p.shape f name moment leader_at page_at) h refl refl refl refl

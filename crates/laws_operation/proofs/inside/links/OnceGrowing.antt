@@ -19,7 +19,7 @@ use Rattle.laws_operation.proofs.inside.links.ClaimsRow.{IsClaim, claim_names, c
 use Rattle.laws_operation.proofs.inside.links.FileGrowth.{none_behind}
 use Rattle.laws_operation.proofs.inside.links.NamedAlone.{AllAlone, NamesAlone, all_once, alone_join, claim_alone}
 use Rattle.laws_operation.proofs.inside.links.Records.{number_one, page_one}
-use Rattle.laws_operation.specs.OnceLaws.{GrowOnce, StaysOnce, WidenOnce}
+use Rattle.laws_operation.specs.OnceLaws.{GrowCarriesOnce, StaysOnce, WidenCarriesOnce}
 
 -- the claims of pages that no sector carries
 claims_alone : (cs : List Claim) (p : Pack) (f : Fid) (k : ℕ) → Claimable (sights p) f k cs → ((m i : ℕ) → k < m → carried p i ≡ Some (page_number f m) → ⊥) → AllAlone p (claims_writes cs)
@@ -49,9 +49,9 @@ growth_once p w f last at cs label value sector able names ends =
         absurd (let r = (claim_range f last cs i last (subst (IsClaim f last cs i) one new)).0 in omega arith)
 
 -- a growth
-pub grow_once : GrowOnce
-grow_once p f new claims at label value w h = growth_once p w f (page_of_byte (length (file_bytes (sights p) f))) at claims label value h.sector h.claimable h.page (none_behind p w f at h.sector)
+pub grow_carries_once : GrowCarriesOnce
+grow_carries_once p f new claims at label value w h = growth_once p w f (page_of_byte (length (file_bytes (sights p) f))) at claims label value h.sector h.claimable h.page (none_behind p w f at h.sector)
 
 -- a widening
-pub widen_once : WidenOnce
-widen_once p d added claims at label value w h = growth_once p w d (page_of_byte (length (file_bytes (sights p) d))) at claims label value h.sector h.claimable h.page (none_behind p w d at h.sector)
+pub widen_carries_once : WidenCarriesOnce
+widen_carries_once p d added claims at label value w h = growth_once p w d (page_of_byte (length (file_bytes (sights p) d))) at claims label value h.sector h.claimable h.page (none_behind p w d at h.sector)

@@ -17,47 +17,47 @@ use Rattle.laws_operation.proofs.inside.links.Claims.{claim_carried}
 use Rattle.laws_operation.proofs.inside.links.Making.{never_carried}
 use Rattle.laws_operation.proofs.inside.links.NamedAlone.{NamesAlone, all_once, alone_join, claim_alone, relabel_alone, releases_alone, values_alone}
 use Rattle.laws_operation.proofs.inside.links.Records.{number_one, page_one}
-use Rattle.laws_operation.specs.OnceLaws.{CloseOnce, CutOnce, DropOnce, EnterOnce, GoOnce, MakeOnce, OpenOnce, StaysOnce, ValuesOnce, WholeOnce}
+use Rattle.laws_operation.specs.OnceLaws.{CloseCarriesOnce, CutCarriesOnce, DropCarriesOnce, EnterCarriesOnce, MakeCarriesOnce, OpenCarriesOnce, ReleaseCarriesOnce, StaysOnce, ValuesCarryOnce, WholePackCarriesOnce}
 
 -- a whole pack
-pub whole_pack_once : WholeOnce
-whole_pack_once p w = whole_once p w
+pub whole_pack_carries_once : WholePackCarriesOnce
+whole_pack_carries_once p w = whole_once p w
 
 -- values
-pub values_once : ValuesOnce
-values_once p vs w = all_once p (values_writes vs) (whole_once p w) (values_alone vs p)
+pub values_carry_once : ValuesCarryOnce
+values_carry_once p vs w = all_once p (values_writes vs) (whole_once p w) (values_alone vs p)
 
 -- opening the mark
-pub open_once : OpenOnce
-open_once p mark at value w = by (mark == mark_open)
+pub open_carries_once : OpenCarriesOnce
+open_carries_once p mark at value w = by (mark == mark_open)
   where
     by : (c : Bool) → StaysOnce p (cond c [] (values_writes ((at, opened_value value) ∷ [])))
     by true = whole_once p w
-    by false = values_once p ((at, opened_value value) ∷ []) w
+    by false = values_carry_once p ((at, opened_value value) ∷ []) w
 
 -- and closing
-pub close_once : CloseOnce
-close_once p mark shape last busy pages w = by (mark == mark_clean)
+pub close_carries_once : CloseCarriesOnce
+close_carries_once p mark shape last busy pages w = by (mark == mark_clean)
   where
     by : (c : Bool) → StaysOnce p (cond c [] (values_writes (reverse (closed_values shape last busy 0 pages))))
     by true = whole_once p w
-    by false = values_once p (reverse (closed_values shape last busy 0 pages)) w
+    by false = values_carry_once p (reverse (closed_values shape last busy 0 pages)) w
 
 -- an entering
-pub enter_once : EnterOnce
-enter_once p before at value w = all_once p (enter_writes before at value) (whole_once p w) (alone_join p (values_writes before) (value_writes at value) (values_alone before p) (values_alone ((at, value) ∷ []) (after p (values_writes before))))
+pub enter_carries_once : EnterCarriesOnce
+enter_carries_once p before at value w = all_once p (enter_writes before at value) (whole_once p w) (alone_join p (values_writes before) (value_writes at value) (values_alone before p) (values_alone ((at, value) ∷ []) (after p (values_writes before))))
 
 -- a cut
-pub cut_once : CutOnce
-cut_once p f n at label value later w h =
+pub cut_carries_once : CutCarriesOnce
+cut_carries_once p f n at label value later w h =
     let x : Page = page_number f (page_of_byte n) in
     let was : carried p at ≡ Some x = place_carried p x at h.sector in
     let alone : NamesAlone p at label = λ y e i is. whole_once p w i at y is (was ∙ ap Some (page_one label x y h.page e)) in
     all_once p (cut_writes at label value later) (whole_once p w) (alone_join p (relabel_writes at label value) (releases_writes later) (relabel_alone p at label value alone) (releases_alone later (after p (relabel_writes at label value))))
 
 -- a make
-pub make_once : MakeOnce
-make_once p f name moment page head w h =
+pub make_carries_once : MakeCarriesOnce
+make_carries_once p f name moment page head w h =
     let q : Pack = after p (claim_writes page.at page.label page.value) in
     let first : NamesAlone p page.at page.label = λ x e i is. absurd (never_carried p w f h.not_there 1 i (is ∙ ap Some (page_one page.label x (page_number f 1) e h.page_is))) in
     let second : NamesAlone q head.at head.label = λ x e i is. absurd (apart x e i is) in
@@ -72,10 +72,10 @@ make_once p f name moment page head w h =
         ]
 
 -- a drop but for its entry's slot
-pub go_once : GoOnce
-go_once p at pages w = all_once p (go_writes at pages) (whole_once p w) (releases_alone (at ∷ pages) p)
+pub release_carries_once : ReleaseCarriesOnce
+release_carries_once p at pages w = all_once p (go_writes at pages) (whole_once p w) (releases_alone (at ∷ pages) p)
 
 -- with the value of its entry's slot
-pub drop_once : DropOnce
-drop_once p at pages slot_at value w =
+pub drop_carries_once : DropCarriesOnce
+drop_carries_once p at pages slot_at value w =
     all_once p (drop_writes at pages slot_at value) (whole_once p w) (alone_join p (go_writes at pages) (value_writes slot_at value) (releases_alone (at ∷ pages) p) (values_alone ((slot_at, value) ∷ []) (after p (go_writes at pages))))

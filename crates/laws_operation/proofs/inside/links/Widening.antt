@@ -41,7 +41,7 @@ use Rattle.laws_operation.proofs.inside.links.Framing.{AllConcern}
 use Rattle.laws_operation.proofs.inside.links.Growing.{grow_concerns, grown_links, grown_place}
 use Rattle.laws_operation.proofs.inside.links.Linked.{FileLinks, file_links}
 use Rattle.laws_operation.proofs.inside.links.OneFile.{pages_true}
-use Rattle.laws_operation.specs.NameLinkLaws.{WidenLinks}
+use Rattle.laws_operation.specs.NameLinkLaws.{WidenKeepsLinks}
 
 module _ (p : Pack) (w : Whole p) (t : Tidy p) (d : Fid) (added : List ℕ) (cs : List Claim) (i : ℕ) (label value : List ℕ) (hyp : MayWiden p d added cs i label value) where
   -- the directory lives
@@ -87,8 +87,8 @@ module _ (p : Pack) (w : Whole p) (t : Tidy p) (d : Fid) (added : List ℕ) (cs 
       subst (AllTrue us (dir_words p d ++ added) 0) (sym now) (true_join us (dir_words p d ++ added) 0 r.items (space 256 ∷ []) front (tt, tt))
 
 -- a widening
-pub widen_links : WidenLinks
-widen_links p d added past fresh at w t h links =
+pub widen_keeps_links : WidenKeepsLinks
+widen_keeps_links p d added past fresh at w t h links =
     let b : ℕ = length (file_bytes (sights p) d) in
     let last : ℕ = page_of_byte b in
     let new : List ℕ = bytes_of added in

@@ -19,7 +19,7 @@ use Rattle.laws_record.proofs.Around.{first_part, is_less, second_part}
 use Rattle.laws_record.proofs.Beside.{any_first, any_second}
 use Rattle.laws_record.proofs.Fitting.{same_sym}
 use Rattle.laws_record.proofs.Tidying.{or_false, or_false_left, or_false_right}
-use Rattle.laws_operation.specs.EntryLaws.{NamelessIsApart, is_of_another}
+use Rattle.laws_operation.specs.EntryLaws.{FreeNameIsApartForANamelessFile, is_of_another}
 
 -- neither of two lists passes a test
 pub any_both : (t : Naming → Bool) (a b : List Naming) → list_any t a ≡ false → list_any t b ≡ false → list_any t (a ++ b) ≡ false
@@ -108,5 +108,5 @@ module _ (d f : Fid) (name : List ℕ) where
           (subst (λ g. list_any names (body_namings g e.1.body) ≡ false → list_any (clashes new) (body_namings g e.1.body) ≡ false) same (this_body e.1.body items) first)
           (above es (subst (λ g. T (below_all fid_cmp g es)) (sym same) (first_part (below_all fid_cmp e.0 es) (is_sorted fid_cmp es) s)) later)
 
-pub nameless_is_apart : NamelessIsApart
-nameless_is_apart m d f name nameless clear = each_file d f name (entries m.files) (entries_sorted m.files) nameless (ap (λ r. list_any (is_of_another f name) (items_in r)) (sym (get-entries m.files d)) ∙ clear)
+pub free_name_is_apart_for_a_nameless_file : FreeNameIsApartForANamelessFile
+free_name_is_apart_for_a_nameless_file m d f name nameless clear = each_file d f name (entries m.files) (entries_sorted m.files) nameless (ap (λ r. list_any (is_of_another f name) (items_in r)) (sym (get-entries m.files d)) ∙ clear)

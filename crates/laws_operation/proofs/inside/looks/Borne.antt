@@ -10,18 +10,18 @@ use Rattle.pack_model.specs.Descriptor.{serial_value}
 use Rattle.pack_model.specs.Files.{lives, place}
 use Rattle.pack_model.specs.PageWords.{page_number}
 use Rattle.pack_model.specs.Sights.{sights}
-use Rattle.pack_laws.proofs.Filing.{place_lowest}
+use Rattle.pack_laws.proofs.Filing.{places_are_lowest}
 use Rattle.pack_laws.proofs.Guarding.{carried_parts}
 use Rattle.pack_laws.proofs.Placing.{leader_of_place, no_leader}
 use Rattle.laws_record.proofs.Copying.{place_carried}
 use Rattle.laws_record.proofs.Heads.{and_left, and_right}
 use Rattle.laws_record.proofs.Carried.{carried_place, values_carried}
-use Rattle.laws_operation.specs.PlaceLaws.{CarriedInPlace, LivesInAPlace, NewSerialNamesNone, NoneAboveLast, NoneCarries, SamePlaces, SerialKeepsPlaces, ValuesKeepPlaces}
+use Rattle.laws_operation.specs.PlaceLaws.{CarriedInPlace, FileLivesInAPlace, NewSerialNamesNoLivingFile, NoneAboveTheLastSerial, SamePlaces, SerialKeepsPlaces, UncarriedPageHasNoPlace, ValuesKeepPlaces}
 use Rattle.std.proofs.lemmas.Bool.{false_from_ne_true}
 
 -- ---- on any pack
-pub lives_in_a_place : LivesInAPlace
-lives_in_a_place p f = by (place (sights p) f 0) refl
+pub file_lives_in_a_place : FileLivesInAPlace
+file_lives_in_a_place p f = by (place (sights p) f 0) refl
   where
     by : (r : Option ℕ) → place (sights p) f 0 ≡ r → lives (sights p) f ≡ is_some (place (sights p) f 0)
     by None e = ap is_some (no_leader (sights p) f e) ∙ sym (ap is_some e)
@@ -33,8 +33,8 @@ carried_below p at page is =
     let usable : is_usable p.shape at (sector_at p at) ≡ true = (carried_parts p at page is).0 in
     ltb-true at (pages_of p.shape) (and_left (nat_lt at (pages_of p.shape)) _ (and_right (nat_lt 0 at) _ usable))
 
-pub none_carries : NoneCarries
-none_carries p page none = by (place (sights p) page.fid page.number) refl
+pub uncarried_page_has_no_place : UncarriedPageHasNoPlace
+uncarried_page_has_no_place p page none = by (place (sights p) page.fid page.number) refl
   where
     by : (r : Option ℕ) → place (sights p) page.fid page.number ≡ r → place (sights p) page.fid page.number ≡ None
     by None e = e
@@ -44,8 +44,8 @@ none_carries p page none = by (place (sights p) page.fid page.number) refl
 pub carried_in_place : CarriedInPlace
 carried_in_place p page at w is = carried_place p w at page is
 
-pub none_above_last : NoneAboveLast
-none_above_last p f w above = false_from_ne_true (lives (sights p) f) (λ live. let most = w.last f live in absurd (omega arith))
+pub none_above_the_last_serial : NoneAboveTheLastSerial
+none_above_the_last_serial p f w above = false_from_ne_true (lives (sights p) f) (λ live. let most = w.last f live in absurd (omega arith))
 
 -- ---- values
 -- where the same pages are carried they have the same places
@@ -55,15 +55,15 @@ module _ (p q : Pack) (same : (i : ℕ) → carried q i ≡ carried p i) where
     where
       by : (r : Option ℕ) → place (sights p) page.fid page.number ≡ r → (s : Option ℕ) → place (sights q) page.fid page.number ≡ s → place (sights q) page.fid page.number ≡ place (sights p) page.fid page.number
       by (Some at) e s d =
-          let h = (place_lowest p page).lowest at e in
-          (place_lowest q page).place_is at (record { here = same at ∙ h.here; lowest = λ j l is. h.lowest j l (sym (same j) ∙ is) }) ∙ sym e
-      by None e (Some at) d = let h = (place_lowest q page).lowest at d in absurd ((place_lowest p page).none e at (sym (same at) ∙ h.here))
+          let h = (places_are_lowest p page).lowest at e in
+          (places_are_lowest q page).place_is at (record { here = same at ∙ h.here; lowest = λ j l is. h.lowest j l (sym (same j) ∙ is) }) ∙ sym e
+      by None e (Some at) d = let h = (places_are_lowest q page).lowest at d in absurd ((places_are_lowest p page).none e at (sym (same at) ∙ h.here))
       by None e None d = d ∙ sym e
 
   -- and the same files live
   pub same_places : SamePlaces p q
   same_places = record {
-    living = λ f. lives_in_a_place q f ∙ ap is_some (places_same (page_number f 0)) ∙ sym (lives_in_a_place p f);
+    living = λ f. file_lives_in_a_place q f ∙ ap is_some (places_same (page_number f 0)) ∙ sym (file_lives_in_a_place p f);
     places = λ f n. places_same (page_number f n);
   }
 
@@ -73,5 +73,5 @@ values_keep_places p values = same_places p (after p (values_writes values)) (va
 pub serial_keeps_places : SerialKeepsPlaces
 serial_keeps_places p at last value = values_keep_places p ((at, serial_value last value) ∷ [])
 
-pub new_serial_names_none : NewSerialNamesNone
-new_serial_names_none p f at value w above = (serial_keeps_places p at (serial_of f) value).living f ∙ none_above_last p f w above
+pub new_serial_names_no_living_file : NewSerialNamesNoLivingFile
+new_serial_names_no_living_file p f at value w above = (serial_keeps_places p at (serial_of f) value).living f ∙ none_above_the_last_serial p f w above

@@ -25,8 +25,8 @@ use Rattle.laws_operation.proofs.Rows.{pages_by_bytes}
 use Rattle.laws_operation.proofs.Seating.{carries_none, laid_back, laid_front, leader_none_is}
 use Rattle.laws_operation.proofs.Showing.{sight_is}
 use Rattle.laws_operation.specs.ByteLaws.{together}
-use Rattle.laws_operation.proofs.inside.looks.Borne.{lives_in_a_place}
-use Rattle.laws_operation.specs.LengthLaws.{CountsPage, FullBeforeLast, FullGoesOn, LengthByLastPage, PlacedUpToLast}
+use Rattle.laws_operation.proofs.inside.looks.Borne.{file_lives_in_a_place}
+use Rattle.laws_operation.specs.LengthLaws.{CountsPage, FullPageIsNotTheLast, LengthByTheLastPage, PagesBeforeTheLastAreFull, PlacedPagesAreThoseUpToTheLast}
 
 -- ---- one page of a whole file
 -- of a value of 256 words as many bytes count as the label says
@@ -83,8 +83,8 @@ among p f k at count w h =
       last = ap page_of_byte bytes ∙ sym (pages_by_bytes pages pl.laid) ∙ many ∙ ap (λ n. n + suc (length pl.later)) number;
     }
 
-pub length_by_last : LengthByLastPage
-length_by_last p f k at count w h short =
+pub length_by_the_last_page : LengthByTheLastPage
+length_by_the_last_page p f k at count w h short =
     let a = among p f k at count w h in
     let size = a.size in
     let none : a.later ≡ [] = none_behind a.here a.later a.laid (omega arith) in
@@ -93,14 +93,14 @@ length_by_last p f k at count w h short =
     let before = a.before in
     omega arith
 
-pub full_before_last : FullBeforeLast
-full_before_last p f k at count w h low =
+pub pages_before_the_last_are_full : PagesBeforeTheLastAreFull
+pages_before_the_last_are_full p f k at count w h low =
     let a = among p f k at count w h in
     let last = a.last in
     sym a.size ∙ full_before a.here a.later a.laid (omega arith)
 
-pub full_goes_on : FullGoesOn
-full_goes_on p f k at w h =
+pub full_page_is_not_the_last : FullPageIsNotTheLast
+full_page_is_not_the_last p f k at w h =
     let a = among p f k at 512 w h in
     let all = a.all in
     let before = a.before in
@@ -129,11 +129,11 @@ placed_pages ss f pages c m = by (place ss f (suc m)) refl (nat_le (suc m) (leng
 
 -- all of them
 placed_numbers : (p : Pack) (f : Fid) → FileWhole (sights p) f → lives (sights p) f ≡ true → (n : ℕ) → is_some (place (sights p) f n) ≡ nat_le n (page_of_byte (length (file_bytes (sights p) f)))
-placed_numbers p f whole live zero = sym (lives_in_a_place p f) ∙ live ∙ sym (le-leb 0 (page_of_byte (length (file_bytes (sights p) f))) (omega arith))
+placed_numbers p f whole live zero = sym (file_lives_in_a_place p f) ∙ live ∙ sym (le-leb 0 (page_of_byte (length (file_bytes (sights p) f))) (omega arith))
 placed_numbers p f (absent h c) live (suc m) = let dead : lives (sights p) f ≡ false = ap is_some (leader_none_is (sights p) f h) in absurd cc
 placed_numbers p f (present at l pages h c laid few) live (suc m) =
     let bytes : file_bytes (sights p) f ≡ together pages = bytes_laid (sights p) f pages (length pages) [] (carries_none (sights p) f pages 0 (length pages) c) (omega arith) laid few in
     placed_pages (sights p) f pages c m ∙ ap (nat_le (suc m)) (pages_by_bytes pages laid ∙ sym (ap (λ b. page_of_byte (length b)) bytes))
 
-pub placed_up_to_last : PlacedUpToLast
-placed_up_to_last p f n w live = placed_numbers p f (w.files f) live n
+pub placed_pages_are_those_up_to_the_last : PlacedPagesAreThoseUpToTheLast
+placed_pages_are_those_up_to_the_last p f n w live = placed_numbers p f (w.files f) live n

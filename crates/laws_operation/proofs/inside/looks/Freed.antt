@@ -20,7 +20,7 @@ use Rattle.pack_model.specs.Sights.{sights}
 use Rattle.pack_laws.proofs.Guarding.{carried_parts, free_parts, front_from, here_written, in_range_taken, ones_free, other_kept, usable_within}
 use Rattle.laws_record.proofs.Copying.{place_carried}
 use Rattle.laws_operation.specs.ByteLaws.{Bear}
-use Rattle.laws_operation.specs.FreeLaws.{CutOffAreFree, CutTakesNone, DropTakesNone, DroppedAreFree, EnterLeavesFree, GrowthKeepsUnclaimed, MakeKeepsUnclaimed, ReleasedAreFree, ReleasesTakeNone, SameFree, StayFree, StayFreeBut, ValuesLeaveFree}
+use Rattle.laws_operation.specs.FreeLaws.{CutFreesItsPages, CutTakesNoSector, DropFreesItsPages, DropTakesNoSector, EnterLeavesFreeSectors, GrowKeepsUnclaimedFree, MakeKeepsUnclaimedFree, ReleaseFreesItsPages, ReleaseTakesNoSector, SameFree, StayFree, StayFreeBut, ValuesLeaveFreeSectors}
 
 -- ---- one record write
 -- a value leaves what is free
@@ -71,12 +71,12 @@ release_free p at i is = value_frees (after p (Wrote at 1 (ones 8) ∷ [])) at (
 then_free : (p : Pack) (a b : List Event) (i : ℕ) → is_free_at (after p a) i ≡ true → StayFree (after p a) b → is_free_at (after p (a ++ b)) i ≡ true
 then_free p a b i is stay = ap (λ q. is_free_at q i) (after-append p a b) ∙ stay i is
 
-pub values_leave_free : ValuesLeaveFree
-values_leave_free p [] i = refl
-values_leave_free p (v ∷ values) i = values_leave_free (after p (value_writes v.0 v.1)) values i ∙ value_frees p v.0 v.1 i
+pub values_leave_free_sectors : ValuesLeaveFreeSectors
+values_leave_free_sectors p [] i = refl
+values_leave_free_sectors p (v ∷ values) i = values_leave_free_sectors (after p (value_writes v.0 v.1)) values i ∙ value_frees p v.0 v.1 i
 
-pub enter_leaves_free : EnterLeavesFree
-enter_leaves_free p before at value i = ap (λ q. is_free_at q i) (after-append p (values_writes before) (value_writes at value)) ∙ value_frees (after p (values_writes before)) at value i ∙ values_leave_free p before i
+pub enter_leaves_free_sectors : EnterLeavesFreeSectors
+enter_leaves_free_sectors p before at value i = ap (λ q. is_free_at q i) (after-append p (values_writes before) (value_writes at value)) ∙ value_frees (after p (values_writes before)) at value i ∙ values_leave_free_sectors p before i
 
 -- claims leave all free sectors but theirs
 claims_free : (cs : List Claim) (p : Pack) → StayFreeBut (sectors_of (all_claimed cs)) p (claims_writes cs)
@@ -86,19 +86,19 @@ claims_free (c ∷ cs) p i is apart =
     let first : is_free_at q i ≡ true = claim_apart p c.at c.label c.value i (apart 0 0 (omega arith)) ∙ is in
     ap (λ r. is_free_at r i) (after-append p (claim_writes c.at c.label c.value) (claims_writes cs)) ∙ claims_free cs q i first (λ k d l. apart (suc k) d (omega arith))
 
-pub make_keeps_unclaimed : MakeKeepsUnclaimed
-make_keeps_unclaimed p page leader = claims_free (page ∷ leader ∷ []) p
+pub make_keeps_unclaimed_free : MakeKeepsUnclaimedFree
+make_keeps_unclaimed_free p page leader = claims_free (page ∷ leader ∷ []) p
 
 -- releases leave all free sectors
 releases_free : (ats : List ℕ) (p : Pack) → StayFree p (releases_writes ats)
 releases_free [] p i is = is
 releases_free (at ∷ ats) p i is = then_free p (release_writes at) (releases_writes ats) i (release_free p at i is) (releases_free ats (after p (release_writes at)))
 
-pub releases_take_none : ReleasesTakeNone
-releases_take_none p at pages = releases_free (at ∷ pages) p
+pub release_takes_no_sector : ReleaseTakesNoSector
+release_takes_no_sector p at pages = releases_free (at ∷ pages) p
 
-pub drop_takes_none : DropTakesNone
-drop_takes_none p at pages slot_at value i is = then_free p (go_writes at pages) (value_writes slot_at value) i (releases_take_none p at pages i is) (λ j free. value_frees (after p (go_writes at pages)) slot_at value j ∙ free)
+pub drop_takes_no_sector : DropTakesNoSector
+drop_takes_no_sector p at pages slot_at value i is = then_free p (go_writes at pages) (value_writes slot_at value) i (release_takes_no_sector p at pages i is) (λ j free. value_frees (after p (go_writes at pages)) slot_at value j ∙ free)
 
 -- ---- a page gets another label
 -- a free sector isn't that of a page
@@ -110,13 +110,13 @@ free_elsewhere p f n at i sector free is =
     let taken : is_free (tag label) ≡ false = in_range_taken (tag label) (cond_some (in_range (tag label)) _ (page_number f n) (carried_parts p at (page_number f n) bears).1).0 in
     cc
 
-pub growth_keeps_unclaimed : GrowthKeepsUnclaimed
-growth_keeps_unclaimed p f n claims at label value sector i is apart =
+pub grow_keeps_unclaimed_free : GrowKeepsUnclaimedFree
+grow_keeps_unclaimed_free p f n claims at label value sector i is apart =
     let q : Pack = after p (claims_writes claims) in
     ap (λ r. is_free_at r i) (after-append p (claims_writes claims) (claim_writes at label value)) ∙ claim_apart q at label value i (free_elsewhere p f n at i sector is) ∙ claims_free claims p i is apart
 
-pub cut_takes_none : CutTakesNone
-cut_takes_none p f n at label value later sector i is =
+pub cut_takes_no_sector : CutTakesNoSector
+cut_takes_no_sector p f n at label value later sector i is =
     then_free p (relabel_writes at label value) (releases_writes later) i (relabel_apart p at label value i (free_elsewhere p f n at i sector is) ∙ is) (releases_free later (after p (relabel_writes at label value)))
 
 -- ---- released sectors
@@ -135,16 +135,16 @@ bear_usable : (p : Pack) (f : Fid) (n : ℕ) (ats : List ℕ) → Bear (sights p
 bear_usable p f n [] bear = λ i d l. absurd (omega arith)
 bear_usable p f n (at ∷ ats) bear = All-cons (λ i. is_usable p.shape i (sector_at p i) ≡ true) at ats (carried_parts p at (page_number f n) (place_carried p (page_number f n) at bear.0)).0 (bear_usable p f (suc n) ats bear.1)
 
-pub released_are_free : ReleasedAreFree
-released_are_free p f n pages bear = usable_released pages p (bear_usable p f n pages bear)
+pub release_frees_its_pages : ReleaseFreesItsPages
+release_frees_its_pages p f n pages bear = usable_released pages p (bear_usable p f n pages bear)
 
-pub dropped_are_free : DroppedAreFree
-dropped_are_free p f at pages slot_at value bear = λ i d l.
+pub drop_frees_its_pages : DropFreesItsPages
+drop_frees_its_pages p f at pages slot_at value bear = λ i d l.
     let j : ℕ = get_or (at ∷ pages) i d in
-    ap (λ q. is_free_at q j) (after-append p (go_writes at pages) (value_writes slot_at value)) ∙ value_frees (after p (go_writes at pages)) slot_at value j ∙ released_are_free p f 0 (at ∷ pages) bear i d l
+    ap (λ q. is_free_at q j) (after-append p (go_writes at pages) (value_writes slot_at value)) ∙ value_frees (after p (go_writes at pages)) slot_at value j ∙ release_frees_its_pages p f 0 (at ∷ pages) bear i d l
 
-pub cut_off_are_free : CutOffAreFree
-cut_off_are_free p f n at label value later bear =
+pub cut_frees_its_pages : CutFreesItsPages
+cut_frees_its_pages p f n at label value later bear =
     let q : Pack = after p (relabel_writes at label value) in
     let usable : All (λ i. is_usable q.shape i (sector_at q i) ≡ true) later = λ i d l.
     value_usable (after p (Wrote at 1 label ∷ [])) at value (get_or later i d) ∙ label_usable p at label (get_or later i d) (bear_usable p f n later bear i d l) in

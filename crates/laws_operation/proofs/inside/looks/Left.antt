@@ -24,9 +24,9 @@ use Rattle.laws_record.proofs.Entering.{on_slots}
 use Rattle.laws_record.proofs.Heads.{and_right}
 use Rattle.laws_record.proofs.Tidying.{onto, or_false, or_false_left, or_false_right, split_kept}
 use Rattle.laws_operation.proofs.Leaving.{left_here}
-use Rattle.laws_operation.proofs.inside.looks.Apart.{any_both, nameless_is_apart}
+use Rattle.laws_operation.proofs.inside.looks.Apart.{any_both, free_name_is_apart_for_a_nameless_file}
 use Rattle.laws_operation.proofs.inside.looks.ReadFiles.{read_tidy}
-use Rattle.laws_operation.specs.EntryLaws.{ApartBehindLeaving, HasName, LeavingTakesOnly, is_of_another}
+use Rattle.laws_operation.specs.EntryLaws.{FreeNameIsApartAfterLeave, HasName, LeaveTakesTheOnlyEntry, is_of_another}
 use Rattle.std.proofs.lemmas.Bool.{not-true}
 
 -- ---- entries of other files
@@ -129,8 +129,8 @@ module _ (p : Pack) (d f : Fid) (old : List ℕ) (h : HasName (read_pack p) d ol
           (ap (list_any (is_of_another f name)) (sym h.items) ∙ ap (λ g. list_any (is_of_another f name) (dir_items m g)) (sym (same_fid e d is)) ∙ clear)
       by false is = clear
 
-pub leaving_takes_only : LeavingTakesOnly
-leaving_takes_only p d f old h = nameless_then p d f old h
+pub leave_takes_the_only_entry : LeaveTakesTheOnlyEntry
+leave_takes_the_only_entry p d f old h = nameless_then p d f old h
 
-pub apart_behind_leaving : ApartBehindLeaving
-apart_behind_leaving p d e f name old h clear = nameless_is_apart (step (read_pack p) (leave d old)) e f name (nameless_then p d f old h) (still_open p d f old h e name clear)
+pub free_name_is_apart_after_leave : FreeNameIsApartAfterLeave
+free_name_is_apart_after_leave p d e f name old h clear = free_name_is_apart_for_a_nameless_file (step (read_pack p) (leave d old)) e f name (nameless_then p d f old h) (still_open p d f old h e name clear)

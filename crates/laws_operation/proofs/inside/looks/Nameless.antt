@@ -17,9 +17,9 @@ use Rattle.pack_laws.proofs.Keys.{fid_total, same_fid}
 use Rattle.laws_record.proofs.Heads.{and_left}
 use Rattle.laws_record.proofs.Tidying.{or_false}
 use Rattle.laws_operation.proofs.inside.Coming.{bare_namings}
-use Rattle.laws_operation.proofs.inside.looks.Apart.{nameless_is_apart}
+use Rattle.laws_operation.proofs.inside.looks.Apart.{free_name_is_apart_for_a_nameless_file}
 use Rattle.laws_operation.proofs.inside.looks.ReadFiles.{not_read, read_tidy}
-use Rattle.laws_operation.specs.EntryLaws.{ApartBehindMake, EntriesNameLiving, MadeIsNameless, is_of_another}
+use Rattle.laws_operation.specs.EntryLaws.{EntriesNameLivingFiles, FreeNameIsApartAfterMake, MakeLeavesNoName, is_of_another}
 use Rattle.laws_operation.proofs.Making.{bare_first}
 
 -- ---- a file that doesn't live
@@ -39,8 +39,8 @@ module _ (v : Fid → Bool) (f : Fid) (dead : v f ≡ false) where
   none_kept before [] h = refl
   none_kept before (e ∷ es) h = or_false (is_fid e.fid f) (list_any (λ n. is_fid n.fid f) es) (kept_other before e h.0) (none_kept (e ∷ before) es h.1)
 
-pub entries_name_living : EntriesNameLiving
-entries_name_living p f dead = none_kept (lives (sights p)) f dead [] (namings (entries (read_pack p).files)) (read_tidy p)
+pub entries_name_living_files : EntriesNameLivingFiles
+entries_name_living_files p f dead = none_kept (lives (sights p)) f dead [] (namings (entries (read_pack p).files)) (read_tidy p)
 
 -- ---- a make
 -- nor one of another file
@@ -51,13 +51,13 @@ open_new f g name = by (is_directory f)
     by true = refl
     by false = refl
 
-pub made_is_nameless : MadeIsNameless
-made_is_nameless p f own moment dead =
-    ap (list_any (λ n. is_fid n.fid f)) (bare_namings (read_pack p).files f (new_file f own moment) (bare_first f) (not_read p f dead)) ∙ entries_name_living p f dead
+pub make_leaves_no_name : MakeLeavesNoName
+make_leaves_no_name p f own moment dead =
+    ap (list_any (λ n. is_fid n.fid f)) (bare_namings (read_pack p).files f (new_file f own moment) (bare_first f) (not_read p f dead)) ∙ entries_name_living_files p f dead
 
-pub apart_behind_make : ApartBehindMake
-apart_behind_make p d f name own moment dead clear =
-    nameless_is_apart (step (read_pack p) (make f own moment)) d f name (made_is_nameless p f own moment dead)
+pub free_name_is_apart_after_make : FreeNameIsApartAfterMake
+free_name_is_apart_after_make p d f name own moment dead clear =
+    free_name_is_apart_for_a_nameless_file (step (read_pack p) (make f own moment)) d f name (make_leaves_no_name p f own moment dead)
     (ap (λ r. list_any (is_of_another f name) (items_in r)) (get-insert fid_total (read_pack p).files f (new_file f own moment) d) ∙ by (is_fid d f))
   where
     by : (b : Bool) → list_any (is_of_another f name) (items_in (cond b (Some (new_file f own moment)) (get (read_pack p).files d))) ≡ false

@@ -13,7 +13,7 @@ use Rattle.pack_model.specs.Step.Operation.{cut, drop_file, enter, grow, leave, 
 use Rattle.pack_laws.proofs.Keys.{fid_same, fid_total}
 use Rattle.laws_record.proofs.Around.{around}
 use Rattle.laws_record.proofs.Entered.{namings-append, namings_in-append}
-use Rattle.laws_operation.specs.EntryLaws.{EntriesStay}
+use Rattle.laws_operation.specs.EntryLaws.{BytesLeadersAndWideningsKeepEntries}
 
 -- another file of the same entries in the place of one
 insert_namings : (files : Files) (f : Fid) (x y : File) → get files f ≡ Some x → body_namings f y.body ≡ body_namings f x.body → namings (entries (insert files f y)) ≡ namings (entries files)
@@ -41,14 +41,14 @@ widened_bare : (d : Fid) (b : Body) → body_namings d (body_slots (λ is. is ++
 widened_bare d (data_of bytes) = refl
 widened_bare d (items_of is) = namings_in-append d is (space 256 ∷ []) ∙ append-nil (namings_in d is)
 
-pub entries_stay : EntriesStay
-entries_stay m (make f name moment) e = absurd cc
-entries_stay m (put f offset new) e = update_namings m.files f _ (λ x. bytes_bare f _ x.body)
-entries_stay m (grow f new) e = update_namings m.files f _ (λ x. bytes_bare f _ x.body)
-entries_stay m (cut f n) e = update_namings m.files f _ (λ x. bytes_bare f _ x.body)
-entries_stay m (title f name) e = update_namings m.files f _ (λ x. refl)
-entries_stay m (stamp f moment) e = update_namings m.files f _ (λ x. refl)
-entries_stay m (drop_file f) e = absurd cc
-entries_stay m (leave d name) e = absurd cc
-entries_stay m (enter d name f) e = absurd cc
-entries_stay m (widen d) e = update_namings m.files d _ (λ x. widened_bare d x.body)
+pub bytes_leaders_and_widenings_keep_entries : BytesLeadersAndWideningsKeepEntries
+bytes_leaders_and_widenings_keep_entries m (make f name moment) e = absurd cc
+bytes_leaders_and_widenings_keep_entries m (put f offset new) e = update_namings m.files f _ (λ x. bytes_bare f _ x.body)
+bytes_leaders_and_widenings_keep_entries m (grow f new) e = update_namings m.files f _ (λ x. bytes_bare f _ x.body)
+bytes_leaders_and_widenings_keep_entries m (cut f n) e = update_namings m.files f _ (λ x. bytes_bare f _ x.body)
+bytes_leaders_and_widenings_keep_entries m (title f name) e = update_namings m.files f _ (λ x. refl)
+bytes_leaders_and_widenings_keep_entries m (stamp f moment) e = update_namings m.files f _ (λ x. refl)
+bytes_leaders_and_widenings_keep_entries m (drop_file f) e = absurd cc
+bytes_leaders_and_widenings_keep_entries m (leave d name) e = absurd cc
+bytes_leaders_and_widenings_keep_entries m (enter d name f) e = absurd cc
+bytes_leaders_and_widenings_keep_entries m (widen d) e = update_namings m.files d _ (λ x. widened_bare d x.body)

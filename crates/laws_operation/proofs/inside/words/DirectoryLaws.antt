@@ -11,21 +11,21 @@ use Rattle.pack_model.specs.Slots.Item.{entry, space}
 use Rattle.laws_record.proofs.Heads.{all_within, head_of, slots_cons}
 use Rattle.laws_record.proofs.Slotwise.{slots_behind, words-append}
 use Rattle.laws_operation.proofs.inside.words.GrownPages.{grows}
-use Rattle.laws_operation.specs.DirectoryWords.{LeftWords, SlotFreedWords, WidenedWords}
+use Rattle.laws_operation.specs.DirectoryWords.{LeaveWordsFit, SlotWordsFit, WidenWordsFit}
 
 -- ---- widen
 -- a page's words as one free slot
 page_slot : IsSlot (space_words 256) (space 256)
 page_slot = record { some = omega arith; most = omega arith; first = refl; reads = refl; size = refl }
 
-pub widened_words : WidenedWords
-widened_words p d b past fresh at w dir h =
+pub widen_words_fit : WidenWordsFit
+widen_words_fit p d b past fresh at w dir h =
     let g = grows p d b widening_bytes past fresh at w h in
     record { directory = dir; sector = g.at_last; claimable = g.claimable; kept = g.counted_still; page = g.page; laid = g.laid; bytes = g.bytes; slot = page_slot }
 
 -- ---- a slot that is made free
-pub slot_freed_words : SlotFreedWords
-slot_freed_words p d at a b f own h =
+pub slot_words_fit : SlotWordsFit
+slot_words_fit p d at a b f own h =
     let words : List ℕ = dir_words p d in
     let old : List Item = entry f own ∷ [] in
     let one : all_words old ≡ entry_length (length own) = omega arith in
@@ -48,5 +48,5 @@ slot_freed_words p d at a b f own h =
       };
     }
 
-pub left_words : LeftWords
-left_words p d name at a b f own h same other = record { frees = slot_freed_words p d at a b f own h; same = same; no_system = other }
+pub leave_words_fit : LeaveWordsFit
+leave_words_fit p d name at a b f own h same other = record { frees = slot_words_fit p d at a b f own h; same = same; no_system = other }

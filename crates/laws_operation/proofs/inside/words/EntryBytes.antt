@@ -15,7 +15,7 @@ use Rattle.pack_model.specs.Slots.{IsSlot, entry_length, is_entry, slot_bytes, s
 use Rattle.pack_model.specs.Slots.Item.{entry, space}
 use Rattle.pack_laws.proofs.Bytes.{length-words_of}
 use Rattle.laws_operation.proofs.inside.words.NameWords.{spelled_below, stored_short}
-use Rattle.laws_operation.specs.DirectoryWords.{EntryWritten}
+use Rattle.laws_operation.specs.DirectoryWords.{EntryWordsFit}
 
 -- bytes survive as words, but for a last odd one
 whole_bytes : (bytes : List ℕ) → All (λ b. b < 256) bytes → bytes_of (words_of bytes) ≡ take (2 * (length bytes / 2)) bytes
@@ -110,8 +110,8 @@ left_size zero = refl
 left_size (suc n) = ap length (left_words (suc n) (omega arith)) ∙ omega arith
 
 -- both together
-pub entry_written : EntryWritten
-entry_written f address name left full stored =
+pub entry_words_fit : EntryWordsFit
+entry_words_fit f address name left full stored =
     let own : List ℕ = entry_words f address name in
     let size : length own ≡ entry_length (length name) = entry_size f address name full stored in
     let over : List ℕ = cond (left == 0) [] (left ∷ []) in

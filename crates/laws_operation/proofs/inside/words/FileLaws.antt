@@ -12,7 +12,7 @@ use Rattle.pack_model.specs.Files.{file_bytes, place}
 use Rattle.pack_model.specs.Leaders.{Leader, is_readable, leader_of, leader_words}
 use Rattle.pack_model.specs.Links.{no_link}
 use Rattle.pack_model.specs.Model.{good_one}
-use Rattle.pack_model.specs.PageWords.{page_number, filled, first_page_value, last_page_hints, new_bytes}
+use Rattle.pack_model.specs.PageWords.{filled, first_page_value, last_page_hints, new_bytes, page_number}
 use Rattle.pack_model.specs.Sights.{Sight, sights, tag_sight}
 use Rattle.pack_model.specs.Sights.Sight.{hidden, holds, leads}
 use Rattle.pack_model.specs.SlotWords.{space_words}
@@ -26,12 +26,12 @@ use Rattle.laws_operation.proofs.Lying.{bytes_laid}
 use Rattle.laws_operation.proofs.OneValue.{fits_page}
 use Rattle.laws_operation.proofs.Seating.{carries_none}
 use Rattle.laws_operation.proofs.Showing.{other_leader_value, tag_is}
-use Rattle.laws_operation.proofs.inside.Wording.{put_words_in, relabelled_words}
+use Rattle.laws_operation.proofs.inside.Wording.{bytes_in_a_value, label_with_another_count}
 use Rattle.laws_operation.specs.ByteLaws.{together}
 use Rattle.laws_operation.specs.LifeLaws.{first_bytes}
 use Rattle.laws_operation.proofs.inside.words.Labels.{label_page, placed_label}
 use Rattle.laws_operation.proofs.inside.words.LeaderWords.{new_says, stamp_says, title_says}
-use Rattle.laws_operation.specs.FileWords.{CutWords, MadeWords, PutInWords, StampedWords, TitledWords}
+use Rattle.laws_operation.specs.FileWords.{CutWordsFit, MakeWordsFit, PutWordsFit, StampWordsFit, TitleWordsFit}
 
 -- ---- make
 -- page 1 of a new file has at most 510 bytes
@@ -54,8 +54,8 @@ first_counted f = by (is_directory f)
 rest_size : (name : List ℕ) (moment : ℕ) → length (new_leader name moment).rest ≡ 220
 rest_size name moment = length-replicate {A = ℕ} 220 0
 
-pub made : MadeWords
-made p f name moment leader_at page_at h =
+pub make_words_fit : MakeWordsFit
+make_words_fit p f name moment leader_at page_at h =
     let says = new_says (new_leader name moment) (last_page_hints page_at 1 (new_bytes f)) h.stored (rest_size name moment) in
     record {
       no_descriptor = h.no_descriptor;
@@ -83,13 +83,13 @@ still_readable p f at w sector =
     let again : leads f true l ≡ leads f (is_readable (leader_words v)) (leader_of f v) = sym shown ∙ other_leader_value (tag (sector_at p at).label) v v f true l shown in
     cc
 
-pub titled_words : TitledWords
-titled_words p f name at h stored =
+pub title_words_fit : TitleWordsFit
+title_words_fit p f name at h stored =
     let says = title_says (sector_at p at).value h.sized name stored in
     record { file = h.file; sector = h.sector; readable = says.readable; says = says.says f }
 
-pub stamped_words : StampedWords
-stamped_words p f moment at last_at number bytes w h =
+pub stamp_words_fit : StampWordsFit
+stamp_words_fit p f moment at last_at number bytes w h =
     let says = stamp_says (sector_at p at).value h.sized moment last_at number bytes (still_readable p f at w h.sector) in
     record { file = h.file; sector = h.sector; readable = says.readable; says = says.says f }
 
@@ -109,17 +109,17 @@ fits_counted p f offset count at w sector one_page within =
     let l : offset % 512 + count ≤ length old = fits_page pl.front at k old pl.later (offset % 512) count pl.laid pl.number one_page (omega (arith, within, z, size)) in
     subst (λ x. offset % 512 + count ≤ length x) (old_counted p f k at old is) l
 
-pub put_in_words : PutInWords
-put_in_words p f offset new at w h = record {
+pub put_words_fit : PutWordsFit
+put_words_fit p f offset new at w h = record {
   file = h.file;
   sector = h.sector;
   one_page = h.one_page;
   within = h.within;
-  counted = put_words_in p at (offset % 512) new h.bytes (fits_counted p f offset (length new) at w h.sector h.one_page h.within);
+  counted = bytes_in_a_value p at (offset % 512) new h.bytes (fits_counted p f offset (length new) at w h.sector h.one_page h.within);
 }
 
 -- ---- cut
-pub cut_words : CutWords
-cut_words p f n at later h =
-    let r = relabelled_words (sector_at p at).label (page_number f (page_of_byte n)) (n % 512) no_link (placed_label p f (page_of_byte n) at h.sector) (omega arith) in
+pub cut_words_fit : CutWordsFit
+cut_words_fit p f n at later h =
+    let r = label_with_another_count (sector_at p at).label (page_number f (page_of_byte n)) (n % 512) no_link (placed_label p f (page_of_byte n) at h.sector) (omega arith) in
     record { file = h.file; sector = h.sector; within = h.within; page = r.0; count = r.1; number = h.number; later_are = h.later_are }

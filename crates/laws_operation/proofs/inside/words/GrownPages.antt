@@ -20,13 +20,13 @@ use Rattle.laws_operation.proofs.Changing.{length-together}
 use Rattle.laws_operation.proofs.Grown.{last_page, old_counted}
 use Rattle.laws_operation.proofs.Lying.{bytes_laid, together-append}
 use Rattle.laws_operation.proofs.Seating.{carries_none, laid_front}
-use Rattle.laws_operation.proofs.inside.Wording.{relabelled_words}
+use Rattle.laws_operation.proofs.inside.Wording.{label_with_another_count}
 use Rattle.laws_operation.specs.ByteLaws.{together}
 use Rattle.laws_operation.proofs.inside.words.FewPages.{few_pages}
 use Rattle.laws_operation.proofs.inside.words.Filled.{take-put_before, take-put_front}
 use Rattle.laws_operation.proofs.inside.words.FreshPages.{Hold, behind_below, claims_able, claims_hold, free_in, in_pages, pages_laid, pages_together}
 use Rattle.laws_operation.proofs.inside.words.Labels.{placed_label, placed_name}
-use Rattle.laws_operation.specs.FileWords.{CanGrow, GrownWords}
+use Rattle.laws_operation.specs.FileWords.{CanGrow, GrowWordsFit}
 
 -- the last page of a whole file counts what its bytes have behind full pages
 last_count : (p : Pack) (f : Fid) (at : ℕ) → Whole p → place (sights p) f (page_of_byte (length (file_bytes (sights p) f))) ≡ Some at → length (counted_of p at (sector_at p at).value) ≡ length (file_bytes (sights p) f) % 512
@@ -170,13 +170,13 @@ module _ (p : Pack) (f : Fid) (b : ℕ) (new past fresh : List ℕ) (at : ℕ) (
     at_last = sector;
     claimable = able;
     counted_still = kept;
-    page = (relabelled_words label (page_number f (page_of_byte (length (file_bytes (sights p) f)))) (min 512 (b % 512 + length new)) (link_to_first p.shape fresh) (placed_label p f (page_of_byte (length (file_bytes (sights p) f))) at sector) (omega arith)).0;
+    page = (label_with_another_count label (page_number f (page_of_byte (length (file_bytes (sights p) f)))) (min 512 (b % 512 + length new)) (link_to_first p.shape fresh) (placed_label p f (page_of_byte (length (file_bytes (sights p) f))) at sector) (omega arith)).0;
     laid = subst (λ cs. IsLaid ((at, more) ∷ cs)) (sym claims_are) (laid_by fresh many);
     bytes = ap (λ cs. more ++ together cs) claims_are ∙ bytes_by fresh many;
   }
 
 -- a growth
-pub grown_words : GrownWords
-grown_words p f b new past fresh at w file h =
+pub grow_words_fit : GrowWordsFit
+grow_words_fit p f b new past fresh at w file h =
     let g = grows p f b new past fresh at w h in
     record { file = file; sector = g.at_last; claimable = g.claimable; kept = g.counted_still; page = g.page; laid = g.laid; bytes = g.bytes }

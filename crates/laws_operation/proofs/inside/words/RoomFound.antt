@@ -11,9 +11,9 @@ use Rattle.pack_model.specs.Slots.{Item, all_words, entry_length, item_words}
 use Rattle.pack_model.specs.Slots.Item.{space}
 use Rattle.laws_record.proofs.RoomPlaced.{run_is}
 use Rattle.laws_record.proofs.Roomy.{run_enough}
-use Rattle.laws_operation.proofs.inside.words.EntryBytes.{entry_written}
+use Rattle.laws_operation.proofs.inside.words.EntryBytes.{entry_words_fit}
 use Rattle.laws_operation.proofs.inside.words.Labels.{living_name}
-use Rattle.laws_operation.specs.DirectoryWords.{EnteredWords, left_in}
+use Rattle.laws_operation.specs.DirectoryWords.{EnterWordsFit, left_in}
 use Rattle.laws_operation.proofs.EnterMoves.{first_slot}
 
 -- ---- a room
@@ -66,8 +66,8 @@ parted n first place (i ∷ is) r e = by (run n (i ∷ is)) refl e (λ e. behind
     by (Some q) q_is e again = tried (nat_le q.0 most_free) q q_is refl e again
 
 -- ---- an entering there
-pub entered_there : EnteredWords
-entered_there p d name f address r at next_at h =
+pub enter_words_fit : EnterWordsFit
+enter_words_fit p d name f address r at next_at h =
     let n : ℕ = entry_length (length name) in
     let is : List Item = dir_items (read_pack p) d in
     let b = parted n 0 0 is r h.found in
@@ -92,7 +92,7 @@ entered_there p d name f address r at next_at h =
           most = let l = b.most in omega arith;
         };
         total = omega arith;
-        words_are = entry_written f address name (left_in r name) (living_name p f h.entry_is.lives) h.stored;
+        words_are = entry_words_fit f address name (left_in r name) (living_name p f h.entry_is.lives) h.stored;
         sector = ap (λ x. place (sights p) d (page_of_word x)) (sym begin) ∙ h.sector;
         next_sector = λ some. ap (λ x. place (sights p) d (suc (page_of_word x))) (sym begin) ∙ h.next_sector (subst (λ x. 0 < length (later x (entered_words f address name (left_in r name)))) (sym begin) some);
       };

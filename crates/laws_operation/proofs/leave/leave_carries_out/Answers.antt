@@ -1,5 +1,5 @@
-use Rattle.laws_operation.proofs.Leaving.{leave_law}
+use Rattle.laws_operation.proofs.leave.Laws.{leave_carries_out}
 use Rattle.laws_operation.proofs.leave.leave_carries_out.Goals as goal
 
 pub returns : goal.returns
-returns c = λ p d name at a b f own w t h. leave_law p w t d name at a b f own h
+returns c = leave_carries_out

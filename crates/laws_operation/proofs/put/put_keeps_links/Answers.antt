@@ -1,5 +1,5 @@
-use Rattle.laws_operation.proofs.inside.links.FileValues.{put_links}
+use Rattle.laws_operation.proofs.inside.links.FileValues.{put_keeps_links}
 use Rattle.laws_operation.proofs.put.put_keeps_links.Goals as goal
 
 pub returns : goal.returns
-returns c = put_links
+returns c = put_keeps_links

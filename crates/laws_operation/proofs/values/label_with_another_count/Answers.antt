@@ -1,5 +1,5 @@
-use Rattle.laws_operation.proofs.inside.Wording.{relabelled_words}
+use Rattle.laws_operation.proofs.inside.Wording.{label_with_another_count}
 use Rattle.laws_operation.proofs.values.label_with_another_count.Goals as goal
 
 pub returns : goal.returns
-returns c = relabelled_words
+returns c = label_with_another_count

@@ -1,5 +1,5 @@
-use Rattle.laws_record.proofs.SystemEntries.{system_entry}
+use Rattle.laws_record.proofs.SystemEntries.{entry_of_a_system_file}
 use Rattle.laws_record.proofs.directories.entry_of_a_system_file.Goals as goal
 
 pub returns : goal.returns
-returns c = system_entry
+returns c = entry_of_a_system_file

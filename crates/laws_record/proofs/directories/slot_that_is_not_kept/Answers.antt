@@ -1,5 +1,5 @@
-use Rattle.laws_record.proofs.DirKinds.{unkept_freed}
+use Rattle.laws_record.proofs.DirKinds.{slot_that_is_not_kept}
 use Rattle.laws_record.proofs.directories.slot_that_is_not_kept.Goals as goal
 
 pub returns : goal.returns
-returns c = unkept_freed
+returns c = slot_that_is_not_kept

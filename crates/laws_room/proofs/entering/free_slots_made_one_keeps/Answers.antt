@@ -1,5 +1,5 @@
-use Rattle.laws_room.proofs.inside.RootEntries.{free_slots_meet}
+use Rattle.laws_room.proofs.inside.RootEntries.{free_slots_made_one_keeps}
 use Rattle.laws_room.proofs.entering.free_slots_made_one_keeps.Goals as goal
 
 pub returns : goal.returns
-returns c = free_slots_meet
+returns c = free_slots_made_one_keeps

@@ -1,5 +1,5 @@
-use Rattle.laws_room.proofs.inside.Rooming.{counts_hold}
+use Rattle.laws_room.proofs.inside.Rooming.{counting_theorem}
 use Rattle.laws_room.proofs.numbers.counting_theorem.Goals as goal
 
 pub returns : goal.returns
-returns c = counts_hold
+returns c = counting_theorem

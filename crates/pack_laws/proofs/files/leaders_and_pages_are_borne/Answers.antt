@@ -1,5 +1,5 @@
-use Rattle.pack_laws.proofs.Filing.{files_borne}
+use Rattle.pack_laws.proofs.Filing.{leaders_and_pages_are_borne}
 use Rattle.pack_laws.proofs.files.leaders_and_pages_are_borne.Goals as goal
 
 pub returns : goal.returns
-returns c = files_borne
+returns c = leaders_and_pages_are_borne

@@ -1,5 +1,5 @@
-use Rattle.pack_laws.proofs.Filing.{place_lowest}
+use Rattle.pack_laws.proofs.Filing.{places_are_lowest}
 use Rattle.pack_laws.proofs.files.places_are_lowest.Goals as goal
 
 pub returns : goal.returns
-returns c = place_lowest
+returns c = places_are_lowest

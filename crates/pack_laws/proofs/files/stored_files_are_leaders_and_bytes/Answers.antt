@@ -1,5 +1,5 @@
-use Rattle.pack_laws.proofs.Filing.{stored_is}
+use Rattle.pack_laws.proofs.Filing.{stored_files_are_leaders_and_bytes}
 use Rattle.pack_laws.proofs.files.stored_files_are_leaders_and_bytes.Goals as goal
 
 pub returns : goal.returns
-returns c = stored_is
+returns c = stored_files_are_leaders_and_bytes

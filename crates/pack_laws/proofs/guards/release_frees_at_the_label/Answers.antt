@@ -1,5 +1,5 @@
-use Rattle.pack_laws.proofs.GuardedWrites.{release_frees}
+use Rattle.pack_laws.proofs.GuardedWrites.{release_frees_at_the_label}
 use Rattle.pack_laws.proofs.guards.release_frees_at_the_label.Goals as goal
 
 pub returns : goal.returns
-returns c = release_frees
+returns c = release_frees_at_the_label

@@ -1,5 +1,5 @@
-use Rattle.pack_laws.proofs.Talking.{talks_acknowledged}
+use Rattle.pack_laws.proofs.turns.Laws.{acknowledged_are_done}
 use Rattle.pack_laws.proofs.turns.acknowledged_are_done.Goals as goal
 
 pub returns : goal.returns
-returns g c = λ m n p events turns talks k. talks_acknowledged g.X.Moves.means talks k
+returns g c = acknowledged_are_done g.X.Moves.means

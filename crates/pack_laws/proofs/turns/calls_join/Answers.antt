@@ -1,5 +1,5 @@
-use Rattle.pack_laws.proofs.Moving.{then_does}
+use Rattle.pack_laws.proofs.turns.Laws.{calls_join}
 use Rattle.pack_laws.proofs.turns.calls_join.Goals as goal
 
 pub returns : goal.returns
-returns g c = λ p a b wanted more x result first next. then_does g.X.Moves.means first next
+returns g c = calls_join _ _ _ _ g.X.Moves.means

@@ -1,5 +1,5 @@
-use Rattle.pack_laws.proofs.Talking.{talks_cut}
+use Rattle.pack_laws.proofs.turns.Laws.{cut_of_turns}
 use Rattle.pack_laws.proofs.turns.cut_of_turns.Goals as goal
 
 pub returns : goal.returns
-returns g c = λ m n p events turns talks k. talks_cut g.X.Moves.means g.X.Moves.weight talks k
+returns g c = cut_of_turns g.X.Moves.weight g.X.Moves.means

@@ -1,5 +1,5 @@
-use Rattle.pack_laws.proofs.Moving.{does_first}
+use Rattle.pack_laws.proofs.turns.Laws.{faults_leave_a_first_part}
 use Rattle.pack_laws.proofs.turns.faults_leave_a_first_part.Goals as goal
 
 pub returns : goal.returns
-returns g c = λ p writes events wanted result all ends first ok. does_first g.X.Moves.means events result all ends first ok
+returns g c = faults_leave_a_first_part _ _ g.X.Moves.means

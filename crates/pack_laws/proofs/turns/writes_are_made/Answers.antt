@@ -1,5 +1,5 @@
-use Rattle.pack_laws.proofs.Ruling.{talks_makes}
+use Rattle.pack_laws.proofs.turns.Laws.{writes_are_made}
 use Rattle.pack_laws.proofs.turns.writes_are_made.Goals as goal
 
 pub returns : goal.returns
-returns g c = λ m n p events turns talks. talks_makes g.X.Moves.means talks
+returns g c = writes_are_made g.X.Moves.means

@@ -1,5 +1,0 @@
-use Rattle.laws_line.proofs.inside.crashes.Parting.{of_both_parts}
-use Rattle.laws_line.proofs.parts.cuts_of_both_parts.Goals as goal
-
-pub returns : goal.returns
-returns g c = of_both_parts g.X.Property.holds

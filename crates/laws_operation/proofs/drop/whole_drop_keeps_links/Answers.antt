@@ -1,5 +1,0 @@
-use Rattle.laws_operation.proofs.inside.links.DropWhole.{drop_links}
-use Rattle.laws_operation.proofs.drop.whole_drop_keeps_links.Goals as goal
-
-pub returns : goal.returns
-returns c = drop_links

@@ -1,0 +1,6 @@
+-- The laws of put, as they are stated.
+use Rattle.laws_operation.proofs.OneValue.{put_law}
+use Rattle.laws_operation.specs.ByteLaws.{PutCarriesOut}
+
+pub put_carries_out : PutCarriesOut
+put_carries_out = λ p f offset new at value w t h. put_law p w t f h.file offset new at value h

@@ -1,0 +1,6 @@
+-- The laws of widen, as they are stated.
+use Rattle.laws_operation.proofs.Widening.{widen_law}
+use Rattle.laws_operation.specs.NameLaws.{WidenCarriesOut}
+
+pub widen_carries_out : WidenCarriesOut
+widen_carries_out = λ p d added claims at label value w t h. widen_law p w t d added claims at label value h

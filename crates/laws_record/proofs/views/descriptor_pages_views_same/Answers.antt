@@ -1,0 +1,5 @@
+use Rattle.laws_record.proofs.inside.AsBefore.{descriptor_pages_views_same}
+use Rattle.laws_record.proofs.views.descriptor_pages_views_same.Goals as goal
+
+pub returns : goal.returns
+returns c = descriptor_pages_views_same

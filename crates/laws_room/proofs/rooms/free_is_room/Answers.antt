@@ -1,5 +1,0 @@
-use Rattle.laws_room.proofs.FreeRoom.{free_is_room}
-use Rattle.laws_room.proofs.rooms.free_is_room.Goals as goal
-
-pub returns : goal.returns
-returns c = free_is_room

@@ -1,0 +1,41 @@
+-- The laws of turns, as they are stated.
+use Rattle.std.proofs.Common.{ℕ}
+use Rattle.pack_laws.proofs.Moving.{does_first, obeys_cut, obeys_then, then_does}
+use Rattle.pack_laws.proofs.Ruling.{ruler_next, ruler_rises, ruler_shown, ruler_start, ruler_whole, ruler_wrote, talks_makes}
+use Rattle.pack_laws.proofs.Talking.{talks_acknowledged, talks_cut, talks_join}
+use Rattle.pack_laws.specs.TurnLaws.{AcknowledgedAreDone, CallsJoin, CutOfRun, CutOfTurns, FaultsLeaveAFirstPart, RulerLaws, RunsJoin, TurnsJoin, WritesAreMade}
+use Rattle.pack_model.specs.Moves.{Meaning}
+
+pub runs_join : {M O : Type 0} (means : Meaning M O) → RunsJoin means
+runs_join means = λ m p a b ops more first next. obeys_then means first next
+
+pub cut_of_run : {M O : Type 0} (means : Meaning M O) → CutOfRun means
+cut_of_run means = λ m p events ops obeys k. obeys_cut means obeys k
+
+pub calls_join : {M O : Type 0} (T U E F : Type 0) (means : Meaning M O) → CallsJoin T U E F means
+calls_join T U E F means = λ p a b wanted more x result first next. then_does means first next
+
+pub faults_leave_a_first_part : {M O : Type 0} (T E : Type 0) (means : Meaning M O) → FaultsLeaveAFirstPart T E means
+faults_leave_a_first_part T E means = λ p writes events wanted result all ends first ok. does_first means events result all ends first ok
+
+pub turns_join : {M O : Type 0} (means : Meaning M O) → TurnsJoin means
+turns_join means = λ m n l p a b turns more first next. talks_join means first next
+
+pub cut_of_turns : {M O : Type 0} (weight : O → ℕ) (means : Meaning M O) → CutOfTurns weight means
+cut_of_turns weight means = λ m n p events turns talks k. talks_cut means weight talks k
+
+pub acknowledged_are_done : {M O : Type 0} (means : Meaning M O) → AcknowledgedAreDone means
+acknowledged_are_done means = λ m n p events turns talks k. talks_acknowledged means talks k
+
+pub writes_are_made : {M O : Type 0} (means : Meaning M O) → WritesAreMade means
+writes_are_made means = λ m n p events turns talks. talks_makes means talks
+
+pub ruler_laws : {M O : Type 0} (weight : O → ℕ) (means : Meaning M O) → RulerLaws weight means
+ruler_laws weight means = record {
+  starts = λ turns events. ruler_start weight turns events;
+  rises = λ turns events k. ruler_rises weight turns events k;
+  adds = λ turns events k most light. ruler_next weight turns events most k light;
+  rests = λ turns events k byte is. ruler_shown weight turns events k byte is;
+  makes = λ m n p events turns talks k at part words is. ruler_wrote means weight talks k at part words is;
+  ends = λ m n p events turns talks. ruler_whole means weight talks;
+}
