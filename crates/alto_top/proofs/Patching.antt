@@ -16,13 +16,13 @@ use Rattle.pack_laws.specs.PutLaws.{StaysWithin}
 use Rattle.pack_laws.proofs.Carrying.{carried_shown}
 use Rattle.pack_laws.proofs.Moving.{does_first, stands_last}
 use Rattle.pack_laws.proofs.Placing.{place_is}
-use Rattle.pack_laws.proofs.Putting.{value_write_is_the_put}
 use Rattle.pack_laws.proofs.Sighted.{length-sights}
 use Rattle.alto_top.specs.declared.patch.Patch.{Patch}
 use Rattle.alto_top.specs.declared.status.Fault.{Fault}
 use Rattle.label_check.specs.Guarded.{Carries}
 use Rattle.alto_top.specs.Patches.{lie_in_one_page, put_of}
 use Rattle.alto_top.specs.Putting.{PutDone, value_with}
+use Rattle.pack_laws.proofs.puts.Laws.{value_write_is_the_put}
 
 pub one_page_fits : (offset : ℕ) (bytes : List ℕ) → bytes ≢ [] → lie_in_one_page offset bytes ≡ true → offset % 512 + length bytes ≤ 512
 one_page_fits offset [] some one = absurd (some refl)

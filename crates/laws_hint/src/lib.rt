@@ -6,8 +6,9 @@
 //! The laws of the allocation map: what it is for a map to be true, its words, which of its bits an operation changes, and closing
 //! with any map.
 //!
-//! A law function is public, has an empty body and one clause, the law. Lemmas that other crates cite stand in proofs/, all others
-//! in proofs/inside/, which no other crate can name.
+//! A law function is public, has an empty body and one clause, the law; its lemma has the same name, and its statement has it in
+//! capitals. To cite a law: `use Rattle.laws_hint.proofs.changes.Laws.{claims_and_releases_mark_free_table}`. Lemma files right in
+//! proofs/ are cited by other crates too; those in proofs/inside/ no other crate can name.
 #![tactic(auto)]
 
 pub mod changes;

@@ -6,8 +6,10 @@ pub mod FreeWords
 pub mod FullModels
 pub mod GivenNames
 pub mod Leaving
+pub mod Lining
 pub mod ListedModels
 pub mod Making
+pub mod Marked
 pub mod Mentions
 pub mod NewFile
 pub mod NowhereModels

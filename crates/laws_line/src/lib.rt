@@ -8,8 +8,9 @@
 //! The laws of cuts: every cut of a line from a sound pack with the free sectors for it is viewed as its model, can be scavenged,
 //! and is clean only where it is sound.
 //!
-//! A law function is public, has an empty body and one clause, the law. Lemmas that other crates cite stand in proofs/, all others
-//! in proofs/inside/, which no other crate can name.
+//! A law function is public, has an empty body and one clause, the law; its lemma has the same name, and its statement has it in
+//! capitals. To cite a law: `use Rattle.laws_line.proofs.behind.Laws.{directories_are_read}`. Lemma files right in proofs/ are
+//! cited by other crates too; those in proofs/inside/ no other crate can name.
 #![tactic(auto)]
 
 pub mod behind;

@@ -31,7 +31,6 @@ use Rattle.pack_model.specs.Whole.{Tidy, Whole}
 use Rattle.pack_laws.proofs.Bytes.{length-put_at}
 use Rattle.pack_laws.proofs.Keys.{fid_total, is_fid-itself}
 use Rattle.laws_record.proofs.Addressing.{LooseIn, slots_kept}
-use Rattle.laws_record.proofs.DirKinds.{free_slots_made_one}
 use Rattle.laws_record.proofs.DirReads.{dir_reads, dir_same, has_leader, insert_same}
 use Rattle.laws_record.proofs.DirWords.{dir_change}
 use Rattle.laws_record.proofs.Entered.{directory, namings_in-append}
@@ -43,6 +42,7 @@ use Rattle.laws_operation.proofs.inside.Elsewhere.{SameBut, but_trans}
 use Rattle.laws_operation.proofs.Leaving.{words_alike}
 use Rattle.laws_operation.proofs.OneDirectory.{slots_namings}
 use Rattle.laws_record.proofs.Rooting.{insert_twice}
+use Rattle.laws_record.proofs.directories.Laws.{free_slots_made_one}
 
 -- ---- moves from another model
 -- moves that come to the same from two models

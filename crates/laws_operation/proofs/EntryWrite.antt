@@ -33,7 +33,6 @@ use Rattle.laws_record.proofs.Addressing.{LooseIn}
 use Rattle.laws_record.proofs.Addressing.{entry_words_many}
 use Rattle.laws_record.proofs.EnterSlots.{slots_entered}
 use Rattle.laws_record.proofs.Entered.{directory}
-use Rattle.laws_record.proofs.Entering.{entry_is_the_step}
 use Rattle.laws_record.proofs.Slotwise.{words-append}
 use Rattle.laws_record.proofs.SystemEntries.{left_words}
 use Rattle.laws_record.proofs.Tidying.{tidy_same}
@@ -43,6 +42,7 @@ use Rattle.laws_operation.proofs.DirValue.{dir_before, dir_lead, value_same, val
 use Rattle.laws_operation.proofs.inside.Elsewhere.{SameBut}
 use Rattle.laws_operation.proofs.inside.EntryKept.{entry_names, entry_tidy}
 use Rattle.laws_operation.specs.NameLaws.{EntryWords}
+use Rattle.laws_record.proofs.entries.Laws.{entry_is_the_step}
 
 -- a tidy pack is read as it stands
 pub read_files : (p : Pack) → Tidy p → (read_pack p).files ≡ described (sights p)

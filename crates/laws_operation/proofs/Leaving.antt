@@ -25,7 +25,7 @@ use Rattle.pack_model.specs.Step.Operation.{leave}
 use Rattle.pack_model.specs.Whole.{Tidy, Whole}
 use Rattle.pack_laws.proofs.Keys.{is_fid-itself, same_fid}
 use Rattle.laws_record.proofs.DirReads.{insert_same, not_descriptor}
-use Rattle.laws_record.proofs.DirSteps.{apart_before, leave_is_the_step}
+use Rattle.laws_record.proofs.DirSteps.{apart_before}
 use Rattle.laws_record.proofs.Entered.{directory, leave_tidy, spot}
 use Rattle.laws_record.proofs.Entering.{on_slots}
 use Rattle.laws_record.proofs.Fitting.{same_equiv, same_sym, same_trans}
@@ -37,6 +37,7 @@ use Rattle.laws_operation.proofs.inside.Kept.{carries_out}
 use Rattle.laws_operation.proofs.OneDirectory.{named_apart}
 use Rattle.laws_operation.specs.NameLaws.{MayLeave}
 use Rattle.laws_operation.specs.Outcomes.{CarriesOut}
+use Rattle.laws_record.proofs.steps.Laws.{leave_is_the_step}
 
 -- an entry's name stands only once in its directory, whatever its case
 module _ (d f : Fid) (own name : List ℕ) (same : is_same_name own name ≡ true) where

@@ -2,9 +2,7 @@ pub mod Changing
 pub mod CloseLaw
 pub mod Commanding
 pub mod Cutting
-pub mod DescriptorValues
 pub mod DirValue
-pub mod DropLaw
 pub mod Dropped
 pub mod EnterLaw
 pub mod EnterMoves
@@ -18,7 +16,6 @@ pub mod Lying
 pub mod Making
 pub mod OneDirectory
 pub mod OneValue
-pub mod OpeningMark
 pub mod Rows
 pub mod Seating
 pub mod Showing

@@ -2,6 +2,8 @@ pub mod Closed
 pub mod Closing
 pub mod Coming
 pub mod DescriptorValue
+pub mod DescriptorValues
+pub mod DropLaw
 pub mod Elsewhere
 pub mod EntryKept
 pub mod Evens
@@ -10,6 +12,7 @@ pub mod Going
 pub mod Growing
 pub mod Kept
 pub mod OneFile
+pub mod OpeningMark
 pub mod Rejoining
 pub mod Rooming
 pub mod Standing

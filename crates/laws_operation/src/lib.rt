@@ -14,8 +14,9 @@
 //! from the counts of labels. The slots of a directory in the model are, on a tidy pack, those of its words; no law here leads from
 //! the values of pages to these words, or to a file's bytes. Entries, names and free sectors are said of any pack.
 //!
-//! A law function is public, has an empty body and one clause, the law. Lemmas that other crates cite stand in proofs/, all others
-//! in proofs/inside/, which no other crate can name.
+//! A law function is public, has an empty body and one clause, the law; its lemma has the same name, and its statement has it in
+//! capitals. To cite a law: `use Rattle.laws_operation.proofs.cut.Laws.{cut_carries_once}`. Lemma files right in proofs/ are cited
+//! by other crates too; those in proofs/inside/ no other crate can name.
 #![tactic(auto)]
 
 pub mod cut;

@@ -6,8 +6,9 @@
 //! The laws of whole packs: a pack is whole by the sentences, asked of all sectors, exactly where each of its files lies as a whole
 //! one does.
 //!
-//! A law function is public, has an empty body and one clause, the law. Lemmas that other crates cite stand in proofs/, all others
-//! in proofs/inside/, which no other crate can name.
+//! A law function is public, has an empty body and one clause, the law; its lemma has the same name, and its statement has it in
+//! capitals. To cite a law: `use Rattle.laws_record.proofs.chains.Laws.{runs_chain}`. Lemma files right in proofs/ are cited by
+//! other crates too; those in proofs/inside/ no other crate can name.
 #![tactic(auto)]
 
 pub mod chains;

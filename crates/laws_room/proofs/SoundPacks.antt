@@ -29,7 +29,7 @@ use Rattle.laws_record.proofs.Mending.{get-seen}
 use Rattle.laws_record.proofs.Reading.{get-found, read_file}
 use Rattle.laws_room.proofs.Each.{Each, each_entry}
 use Rattle.laws_room.proofs.FreeRoom.{root_lives}
-use Rattle.laws_room.proofs.SystemFiles.{lacking_read}
+use Rattle.laws_room.proofs.inside.SystemFiles.{lacking_read}
 use Rattle.laws_room.proofs.inside.WholeFiles.{files_complete}
 use Rattle.laws_room.specs.RoomLaws.{SoundNeedsNothing}
 

@@ -3,10 +3,12 @@ pub mod BodyKinds
 pub mod Claiming
 pub mod Counting
 pub mod DirRooted
+pub mod EachSector
 pub mod EachUse
 pub mod FreshRoot
 pub mod Kept
 pub mod Lacking
+pub mod Marking
 pub mod Needing
 pub mod NeedsNext
 pub mod NextEntry
@@ -18,5 +20,6 @@ pub mod RootStanding
 pub mod RootTurns
 pub mod RootedAt
 pub mod SectorsUsed
+pub mod SystemFiles
 pub mod Totals
 pub mod WholeFiles

@@ -14,7 +14,7 @@ use Rattle.pack_laws.proofs.Keys.{is_fid-itself, same_fid}
 use Rattle.pack_laws.proofs.Firsts.{first_of_bears, bears_of_first}
 use Rattle.pack_laws.proofs.Joining.{AreShort}
 use Rattle.pack_laws.proofs.Sighted.{length-sights, sights-get, page_size}
-pub use Rattle.pack_laws.proofs.Places.{IsPlace, place_from, place_is, place_none, place_same}
+pub use Rattle.pack_laws.proofs.inside.Places.{IsPlace, place_from, place_is, place_none, place_same}
 
 -- ---- which sectors carry a page
 pub page_at-holds : (f : Fid) (n : ℕ) (bytes : List ℕ) → page_at f n (holds f n bytes) ≡ Some bytes

@@ -19,7 +19,7 @@ use Rattle.pack_laws.specs.Least.{least, least_shown}
 use Rattle.pack_laws.proofs.Keys.{fid_total, fid_same}
 use Rattle.pack_laws.proofs.Mapping.{entries-map_values}
 use Rattle.pack_laws.proofs.Sighted.{sights-get, length-sights}
-use Rattle.pack_laws.proofs.LesserNames.{beyond, both, least-turns, left, less, right, tied}
+use Rattle.pack_laws.proofs.inside.LesserNames.{beyond, both, least-turns, left, less, right, tied}
 
 -- ---- the first full name with a serial, of entries
 module _ {X : Type 0} (serial : ℕ) where

@@ -14,7 +14,7 @@ use Rattle.pack_model.specs.Moves.{Meaning, steps, Obeys, rest, write, IsStartOf
 use Rattle.pack_model.specs.Turns.{Turn, ops_of, texts_of, Talks, begun, spoken, IsTurn, acknowledged, CutAt, moves_at}
 use Rattle.pack_laws.specs.TurnLaws.{acknowledged_moves}
 use Rattle.pack_laws.proofs.Moving.{stands_last, obeys_cut, steps-append, start_within}
-use Rattle.pack_laws.proofs.Acknowledging.{acknowledged-moves, acknowledged_at_most, acknowledged_short, acknowledged_start, ops-append, ops-push, sum_of_ones, texts-push}
+use Rattle.pack_laws.proofs.inside.Acknowledging.{acknowledged-moves, acknowledged_at_most, acknowledged_short, acknowledged_start, ops-append, ops-push, sum_of_ones, texts-push}
 
 -- ---- events
 -- a cut shows no more bytes than all events

@@ -17,13 +17,12 @@ use Rattle.pack_model.specs.Sights.{sights}
 use Rattle.pack_model.specs.Sound.{mark_clean, mark_of}
 use Rattle.pack_model.specs.Tables.{TableTrue, WordsTrue, described_free, true_table, words_of_bits}
 use Rattle.pack_model.specs.Whole.{Tidy, Whole}
-use Rattle.laws_operation.proofs.CloseLaw.{close_carries_out}
 use Rattle.laws_operation.specs.DescriptorLaws.{KeepsSound, MayClose}
-use Rattle.laws_operation.proofs.DescriptorValues.{close_keeps_links}
 use Rattle.laws_hint.proofs.inside.ClosedValues.{closed_value}
 use Rattle.laws_hint.proofs.inside.ClosedWords.{closed_words, words_many}
 use Rattle.laws_hint.proofs.inside.TrueMap.{true_is_free, true_many, values_free}
 use Rattle.laws_hint.specs.ClosingLaws.{ClosedTrue, ClosingLeavesACleanPack, ClosingLeavesHintsTrue, closing_writes}
+use Rattle.laws_operation.proofs.descriptor.Laws.{close_carries_out, close_keeps_links}
 
 -- what holds at each cut holds behind all record writes
 pub at_end : (P : Pack → Type 0) (p : Pack) (events : List Event) → ((k : ℕ) → P (cut p events k)) → P (after p events)

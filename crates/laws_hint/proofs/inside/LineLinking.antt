@@ -1,7 +1,6 @@
 -- A line keeps links where its operations do, and closing behind it leaves all hints true.
 use Rattle.std.proofs.Common.{List, Some, [], subst, sym, ℕ, ◌++◌, ◌≡◌}
 use Rattle.alto_words.specs.Fid.{disk_descriptor}
-use Rattle.laws_room.proofs.Marking.{unmarked_is_unclean}
 use Rattle.disk_records.proofs.Growing.{after-append}
 use Rattle.disk_records.specs.Packs.{Pack, after, sector_at}
 use Rattle.disk_records.specs.declared.records.Event.{Event}
@@ -15,15 +14,14 @@ use Rattle.pack_model.specs.Sights.{sights}
 use Rattle.pack_model.specs.Step.{Operation}
 use Rattle.pack_model.specs.Step.Operation.{drop_file}
 use Rattle.pack_model.specs.Whole.{Tidy, Whole}
-use Rattle.laws_operation.proofs.OpeningMark.{open_carries_out}
 use Rattle.laws_operation.specs.DescriptorLaws.{KeepsSound}
-use Rattle.laws_operation.proofs.DescriptorValues.{open_keeps_links, serial_keeps_links}
 use Rattle.laws_operation.specs.LinkLaws.{KeepsLinks}
-use Rattle.laws_line.proofs.Lining.{crashes_of_an_unmarked_line}
-use Rattle.laws_line.proofs.Marked.{open_pack_is_unmarked}
 use Rattle.laws_line.specs.CutLaws.{Line, LineStays, does, makes, over, with_serial}
 use Rattle.laws_hint.proofs.inside.ClosedHints.{closing_leaves_hints_true}
 use Rattle.laws_hint.specs.LineLinks.{EachKeepsLinks, LineClosesWithTrueHints, LineKeepsLinks, LinksJoin, OpenedLineKeepsLinks, opening_writes}
+use Rattle.laws_line.proofs.cuts.Laws.{crashes_of_an_unmarked_line, open_pack_is_unmarked}
+use Rattle.laws_operation.proofs.descriptor.Laws.{open_carries_out, open_keeps_links, serial_keeps_links}
+use Rattle.laws_room.proofs.marks.Laws.{unmarked_is_unclean}
 
 -- ---- links
 -- one after another

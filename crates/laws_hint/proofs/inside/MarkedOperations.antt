@@ -33,16 +33,12 @@ use Rattle.pack_model.specs.Step.Operation.{drop_file}
 use Rattle.pack_model.specs.Tables.{free_table}
 use Rattle.pack_model.specs.Whole.{Tidy, Whole}
 use Rattle.pack_laws.proofs.Placing.{leader_of_place, page_of_place}
-use Rattle.laws_operation.proofs.CloseLaw.{close_carries_out}
 use Rattle.laws_operation.proofs.Cutting.{cut_law}
-use Rattle.laws_operation.proofs.DropLaw.{drop_carries_out}
 use Rattle.laws_operation.proofs.Dropped.{go_law}
-use Rattle.laws_operation.proofs.EnterMoves.{enter_carries_out}
 use Rattle.laws_operation.proofs.Grown.{grow_law}
 use Rattle.laws_operation.proofs.Leaving.{leave_law}
 use Rattle.laws_operation.proofs.Making.{make_law}
 use Rattle.laws_operation.proofs.OneValue.{put_law, stamp_law, title_law}
-use Rattle.laws_operation.proofs.OpeningMark.{open_carries_out, serial_carries_out}
 use Rattle.laws_operation.proofs.Showing.{usable_is}
 use Rattle.laws_operation.proofs.Widening.{widen_law}
 use Rattle.laws_operation.specs.ByteLaws.{Bear}
@@ -54,6 +50,9 @@ use Rattle.laws_hint.proofs.inside.TrueMap.{true_is_free, values_free}
 use Rattle.laws_hint.proofs.inside.Marking.{AreRanged, AreUsable, claim_bit, claims_bits, label_bit, releases_bits, set_again, usable_stays, value_bit}
 use Rattle.laws_hint.proofs.inside.Meaning.{busy_at-free}
 use Rattle.laws_hint.specs.MapChanges.{ClaimsMarkTheMap, DescriptorWritesLeaveTheMap, LeavesMap, MarksMap, ReleasesMarkTheMap, ValuesLeaveTheMap, marked}
+use Rattle.laws_operation.proofs.descriptor.Laws.{close_carries_out, open_carries_out, serial_carries_out}
+use Rattle.laws_operation.proofs.drop.Laws.{drop_carries_out}
+use Rattle.laws_operation.proofs.enter.Laws.{enter_carries_out}
 
 -- ---- pages that are borne
 -- The sector of one is good, and not free.

@@ -13,7 +13,7 @@ use Rattle.pack_model.specs.Sights.{Sight, page_sight, sight, sights, sights_fro
 use Rattle.pack_model.specs.Sights.Sight.{free, hidden, stray}
 use Rattle.pack_model.specs.Tables.{free_table, true_table}
 use Rattle.pack_model.specs.Whole.{Whole}
-use Rattle.laws_room.proofs.EachSector.{each_sector_is_used_or_free}
+use Rattle.laws_room.proofs.rooms.Laws.{each_sector_is_used_or_free}
 
 -- ---- on a whole pack
 -- tests that agree on each sector make one map

@@ -39,7 +39,8 @@ use Rattle.laws_record.proofs.LeaderSteps.{body_left, tidied_file}
 use Rattle.laws_record.proofs.Mending.{get-seen}
 use Rattle.laws_record.proofs.Reading.{get-found, get_by, read_file}
 use Rattle.laws_record.proofs.Systemic.{described_get}
-use Rattle.laws_room.proofs.FreeRoom.{free_is_the_room, root_lives}
+use Rattle.laws_room.proofs.FreeRoom.{root_lives}
+use Rattle.laws_room.proofs.rooms.Laws.{free_is_the_room}
 
 -- ---- slots
 -- a slot that is read has at most 1,023 words

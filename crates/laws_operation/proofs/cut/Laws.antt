@@ -1,4 +1,8 @@
 -- The laws of cut, as they are stated.
+pub use Rattle.laws_operation.proofs.inside.links.Cutting.{cut_keeps_links}
+pub use Rattle.laws_operation.proofs.inside.links.OnceOthers.{cut_carries_once}
+pub use Rattle.laws_operation.proofs.inside.looks.Freed.{cut_frees_its_pages, cut_takes_no_sector}
+pub use Rattle.laws_operation.proofs.inside.words.FileLaws.{cut_words_fit}
 use Rattle.laws_operation.proofs.Cutting.{cut_law}
 use Rattle.laws_operation.specs.ByteLaws.{CutCarriesOut}
 

@@ -25,7 +25,7 @@ use Rattle.laws_operation.proofs.inside.Closing.{sizes_same}
 use Rattle.laws_operation.proofs.inside.DescriptorValue.{descriptor_reads, descriptor_tidy, descriptor_whole, lives_still, one_page_of, page_stays}
 use Rattle.laws_operation.proofs.FirstWords.{first_page_long}
 use Rattle.laws_operation.proofs.Lying.{together-append}
-use Rattle.laws_operation.proofs.OpeningMark.{last_there}
+use Rattle.laws_operation.proofs.inside.OpeningMark.{last_there}
 use Rattle.laws_operation.specs.ByteLaws.{together}
 use Rattle.laws_operation.specs.DescriptorLaws.{KeepsSound}
 

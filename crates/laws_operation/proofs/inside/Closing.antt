@@ -19,7 +19,7 @@ use Rattle.laws_record.specs.QuietLaws.{counted_of}
 use Rattle.laws_operation.proofs.inside.DescriptorValue.{descriptor_reads, descriptor_tidy, descriptor_whole, lives_still, one_page_of, page_stays}
 use Rattle.laws_operation.proofs.inside.Evens.{even_by, words_of-append}
 use Rattle.laws_operation.proofs.Lying.{together-append}
-use Rattle.laws_operation.proofs.OpeningMark.{last_read, last_there}
+use Rattle.laws_operation.proofs.inside.OpeningMark.{last_read, last_there}
 use Rattle.laws_operation.proofs.Seating.{AllFull, laid_front}
 use Rattle.laws_operation.specs.ByteLaws.{together}
 use Rattle.laws_operation.specs.DescriptorLaws.{KeepsSound}

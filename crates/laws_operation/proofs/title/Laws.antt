@@ -1,4 +1,6 @@
 -- The laws of title, as they are stated.
+pub use Rattle.laws_operation.proofs.inside.links.FileValues.{title_keeps_links}
+pub use Rattle.laws_operation.proofs.inside.words.FileLaws.{title_words_fit}
 use Rattle.laws_operation.proofs.OneValue.{title_law}
 use Rattle.laws_operation.specs.LeaderLaws.{TitleCarriesOut}
 

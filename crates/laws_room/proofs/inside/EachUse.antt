@@ -24,9 +24,7 @@ use Rattle.laws_record.proofs.Mending.{get-seen}
 use Rattle.laws_record.proofs.Reading.{get-found, read_file}
 use Rattle.laws_operation.proofs.Changing.{seat_of}
 use Rattle.laws_operation.proofs.Cutting.{cut_law}
-use Rattle.laws_operation.proofs.DropLaw.{drop_carries_out}
 use Rattle.laws_operation.proofs.Dropped.{go_law, read_there}
-use Rattle.laws_operation.proofs.EnterMoves.{enter_carries_out}
 use Rattle.laws_operation.proofs.Grown.{grow_law}
 use Rattle.laws_operation.proofs.Leaving.{leave_law, system_apart}
 use Rattle.laws_operation.proofs.Making.{make_law}
@@ -39,6 +37,8 @@ use Rattle.laws_operation.specs.Outcomes.{CarriesOut}
 use Rattle.laws_room.proofs.inside.SectorsUsed.{use_follows_the_operation}
 use Rattle.laws_room.specs.EachUses.{EachOperationTakesItsPages, EachTakes, TakesIntoUse}
 use Rattle.laws_room.specs.UseLaws.{MayBeDone}
+use Rattle.laws_operation.proofs.drop.Laws.{drop_carries_out}
+use Rattle.laws_operation.proofs.enter.Laws.{enter_carries_out}
 
 -- ---- files in the model
 -- one that doesn't live isn't there

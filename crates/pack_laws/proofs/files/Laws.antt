@@ -1,4 +1,5 @@
 -- The laws of files, as they are stated.
+pub use Rattle.pack_laws.proofs.inside.Filing.{leaders_and_pages_are_borne, places_are_lowest, stored_files_are_leaders_and_bytes}
 use Rattle.pack_laws.proofs.Firsts.{first_is_borne}
 use Rattle.pack_laws.specs.FileLaws.{FirstIsBears}
 

@@ -1,7 +1,7 @@
 -- The laws of turns, as they are stated.
 use Rattle.std.proofs.Common.{ℕ}
 use Rattle.pack_laws.proofs.Moving.{does_first, obeys_cut, obeys_then, then_does}
-use Rattle.pack_laws.proofs.Ruling.{ruler_next, ruler_rises, ruler_shown, ruler_start, ruler_whole, ruler_wrote, talks_makes}
+use Rattle.pack_laws.proofs.inside.Ruling.{ruler_next, ruler_rises, ruler_shown, ruler_start, ruler_whole, ruler_wrote, talks_makes}
 use Rattle.pack_laws.proofs.Talking.{talks_acknowledged, talks_cut, talks_join}
 use Rattle.pack_laws.specs.TurnLaws.{AcknowledgedAreDone, CallsJoin, CutOfRun, CutOfTurns, FaultsLeaveAFirstPart, RulerLaws, RunsJoin, TurnsJoin, WritesAreMade}
 use Rattle.pack_model.specs.Moves.{Meaning}

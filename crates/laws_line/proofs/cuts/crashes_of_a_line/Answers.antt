@@ -1,4 +1,4 @@
-use Rattle.laws_line.proofs.Lining.{crashes_of_a_line}
+use Rattle.laws_line.proofs.inside.Lining.{crashes_of_a_line}
 use Rattle.laws_line.proofs.cuts.crashes_of_a_line.Goals as goal
 
 pub returns : goal.returns

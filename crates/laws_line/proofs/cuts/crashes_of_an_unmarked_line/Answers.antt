@@ -1,4 +1,4 @@
-use Rattle.laws_line.proofs.Lining.{crashes_of_an_unmarked_line}
+use Rattle.laws_line.proofs.inside.Lining.{crashes_of_an_unmarked_line}
 use Rattle.laws_line.proofs.cuts.crashes_of_an_unmarked_line.Goals as goal
 
 pub returns : goal.returns

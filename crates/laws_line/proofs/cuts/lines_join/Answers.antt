@@ -1,4 +1,4 @@
-use Rattle.laws_line.proofs.Lining.{lines_join}
+use Rattle.laws_line.proofs.inside.Lining.{lines_join}
 use Rattle.laws_line.proofs.cuts.lines_join.Goals as goal
 
 pub returns : goal.returns

@@ -12,19 +12,19 @@ use Rattle.pack_model.specs.Operations.Move.{commits, mends, quiet}
 use Rattle.pack_model.specs.Scavenging.{Throughout, Unmarked}
 use Rattle.pack_model.specs.Step.{Operation, step}
 use Rattle.pack_model.specs.Whole.{Whole}
-use Rattle.laws_room.proofs.Marking.{unmarked_is_unclean}
 use Rattle.laws_line.proofs.inside.ReadyRoom.{ready_has_room}
 use Rattle.laws_line.specs.Ready.{Ready}
-use Rattle.laws_operation.proofs.EnterMoves.{enter_carries_out}
 use Rattle.laws_operation.proofs.EnterStages.{views_of}
 use Rattle.laws_operation.specs.NameLaws.{entry_room}
-use Rattle.laws_room.proofs.SystemFiles.{scavengeable_by_model}
 use Rattle.laws_line.proofs.inside.crashes.EnterCuts.{ReadsReady, enter_ready}
 use Rattle.laws_line.proofs.inside.crashes.OneCommit.{Once, Quiets, moves_once}
 use Rattle.laws_line.proofs.inside.crashes.Spared.{enter_leaves_the_system}
 use Rattle.laws_line.proofs.inside.crashes.Still.{Still, still_after, still_throughout, system_still, unmarked_still}
 use Rattle.laws_line.specs.CutLaws.{CrashesOfAnOperation, CrashesOfEnter}
 use Rattle.laws_line.specs.SpareLaws.{Spares}
+use Rattle.laws_operation.proofs.enter.Laws.{enter_carries_out}
+use Rattle.laws_room.proofs.marks.Laws.{unmarked_is_unclean}
+use Rattle.laws_room.proofs.rooms.Laws.{scavengeable_by_model}
 
 -- ---- what cuts are read as
 -- one model or another

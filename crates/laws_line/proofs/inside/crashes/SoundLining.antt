@@ -21,7 +21,6 @@ use Rattle.pack_laws.proofs.Keys.{same_fid}
 use Rattle.laws_record.proofs.Keeping.{get-where}
 use Rattle.laws_record.proofs.Mending.{get-seen}
 use Rattle.laws_record.proofs.Reading.{get-found, read_file}
-use Rattle.laws_room.proofs.FreeRoom.{free_is_the_room}
 use Rattle.laws_line.proofs.inside.SettledAgain.{settled_after_changes}
 use Rattle.laws_line.proofs.inside.SettledDrop.{settled_after_drop}
 use Rattle.laws_line.proofs.inside.SettledNewFile.{settled_after_new_file}
@@ -29,10 +28,11 @@ use Rattle.laws_line.proofs.inside.SettledRename.{settled_after_rename}
 use Rattle.laws_line.proofs.inside.SoundSettled.{sound_is_settled}
 use Rattle.laws_line.specs.BehindLaws.{SettledBehind}
 use Rattle.laws_line.specs.Ready.{Settled, steps_of}
-use Rattle.laws_line.proofs.Lining.{crashes_of_a_line}
+use Rattle.laws_line.proofs.inside.Lining.{crashes_of_a_line}
 use Rattle.laws_line.proofs.inside.crashes.Parting.{viewed_and_mendable_in_session, viewed_and_mendable_operates}
 use Rattle.laws_line.specs.CutLaws.{LineStays}
 use Rattle.laws_line.specs.SoundLines.{CrashesOfALineOnASoundPack, IsLine, changes, comes, goes, renamed}
+use Rattle.laws_room.proofs.rooms.Laws.{free_is_the_room}
 
 -- ---- the model
 -- each kind of line keeps a settled model ready where there is room for the pages that it adds, and leaves a settled one

@@ -18,7 +18,6 @@ use Rattle.pack_model.specs.Scavenging.{Throughout, Unmarked}
 use Rattle.pack_model.specs.Sights.{sights}
 use Rattle.pack_model.specs.Whole.{Whole}
 use Rattle.laws_room.specs.MarkLaws.{mark_page}
-use Rattle.pack_laws.proofs.Filing.{places_are_lowest}
 use Rattle.pack_laws.proofs.Guarding.{carried_parts, here_written, other_kept, usable_within, value_page}
 use Rattle.pack_laws.proofs.Placing.{leader_of_place, place_of_leader}
 use Rattle.laws_record.proofs.Copying.{place_carried}
@@ -26,6 +25,7 @@ use Rattle.laws_record.proofs.Recording.{carried_sight}
 use Rattle.laws_room.specs.RoomLaws.{SystemStands}
 use Rattle.laws_line.proofs.inside.crashes.Sparing.{root_carried}
 use Rattle.laws_line.specs.SpareLaws.{Spares, SparesAt, SparesSystem}
+use Rattle.pack_laws.proofs.files.Laws.{places_are_lowest}
 
 -- Sector 1 and each sector with a page of DiskDescriptor are as they were, and no other has one.
 pub record Still (p q : Pack) : Type 0 where

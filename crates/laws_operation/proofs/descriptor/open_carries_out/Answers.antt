@@ -1,4 +1,4 @@
-use Rattle.laws_operation.proofs.OpeningMark.{open_carries_out}
+use Rattle.laws_operation.proofs.inside.OpeningMark.{open_carries_out}
 use Rattle.laws_operation.proofs.descriptor.open_carries_out.Goals as goal
 
 pub returns : goal.returns

@@ -1,4 +1,4 @@
-use Rattle.laws_operation.proofs.OpeningMark.{serial_carries_out}
+use Rattle.laws_operation.proofs.inside.OpeningMark.{serial_carries_out}
 use Rattle.laws_operation.proofs.descriptor.serial_carries_out.Goals as goal
 
 pub returns : goal.returns

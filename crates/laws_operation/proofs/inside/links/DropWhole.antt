@@ -29,7 +29,7 @@ use Rattle.laws_operation.proofs.inside.links.Directories.{lives_by, other_bytes
 use Rattle.laws_operation.proofs.inside.links.Dropping.{go_concerns, release_keeps_links}
 use Rattle.laws_operation.proofs.inside.links.Framing.{AllConcern, other_place, other_sector}
 use Rattle.laws_operation.specs.NameLinkLaws.{DropKeepsLinks}
-use Rattle.laws_operation.proofs.DropLaw.{not_none}
+use Rattle.laws_operation.proofs.inside.DropLaw.{not_none}
 use Rattle.laws_operation.proofs.EnterLaw.{items_are}
 
 -- a directory with entries isn't one without

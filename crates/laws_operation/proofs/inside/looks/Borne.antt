@@ -10,7 +10,6 @@ use Rattle.pack_model.specs.Descriptor.{serial_value}
 use Rattle.pack_model.specs.Files.{lives, place}
 use Rattle.pack_model.specs.PageWords.{page_number}
 use Rattle.pack_model.specs.Sights.{sights}
-use Rattle.pack_laws.proofs.Filing.{places_are_lowest}
 use Rattle.pack_laws.proofs.Guarding.{carried_parts}
 use Rattle.pack_laws.proofs.Placing.{leader_of_place, no_leader}
 use Rattle.laws_record.proofs.Copying.{place_carried}
@@ -18,6 +17,7 @@ use Rattle.laws_record.proofs.Heads.{and_left, and_right}
 use Rattle.laws_record.proofs.Carried.{carried_place, values_carried}
 use Rattle.laws_operation.specs.PlaceLaws.{CarriedInPlace, FileLivesInAPlace, NewSerialNamesNoLivingFile, NoneAboveTheLastSerial, SamePlaces, SerialKeepsPlaces, UncarriedPageHasNoPlace, ValuesKeepPlaces}
 use Rattle.std.proofs.lemmas.Bool.{false_from_ne_true}
+use Rattle.pack_laws.proofs.files.Laws.{places_are_lowest}
 
 -- ---- on any pack
 pub file_lives_in_a_place : FileLivesInAPlace

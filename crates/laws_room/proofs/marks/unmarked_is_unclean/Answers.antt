@@ -1,4 +1,4 @@
-use Rattle.laws_room.proofs.Marking.{unmarked_is_unclean}
+use Rattle.laws_room.proofs.inside.Marking.{unmarked_is_unclean}
 use Rattle.laws_room.proofs.marks.unmarked_is_unclean.Goals as goal
 
 pub returns : goal.returns

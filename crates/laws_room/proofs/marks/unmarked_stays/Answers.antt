@@ -1,4 +1,4 @@
-use Rattle.laws_room.proofs.Marking.{unmarked_stays}
+use Rattle.laws_room.proofs.inside.Marking.{unmarked_stays}
 use Rattle.laws_room.proofs.marks.unmarked_stays.Goals as goal
 
 pub returns : goal.returns

@@ -17,7 +17,7 @@ use Rattle.pack_model.specs.Step.Operation.{drop_file}
 use Rattle.pack_model.specs.Whole.{Tidy, Whole}
 use Rattle.laws_record.proofs.Copying.{place_carried}
 use Rattle.laws_operation.proofs.CloseLaw.{close_carries_out}
-use Rattle.laws_operation.proofs.OpeningMark.{open_carries_out, serial_carries_out}
+use Rattle.laws_operation.proofs.inside.OpeningMark.{open_carries_out, serial_carries_out}
 use Rattle.laws_operation.specs.ByteLaws.{Bear}
 use Rattle.laws_operation.specs.DescriptorLaws.{KeepsSound}
 use Rattle.laws_operation.proofs.inside.links.FileValues.{file_values}

@@ -13,10 +13,10 @@ use Rattle.pack_model.specs.Scavenging.{Unmarked}
 use Rattle.pack_model.specs.Sights.{sights}
 use Rattle.pack_model.specs.Sound.{mark_clean, mark_of, mark_open}
 use Rattle.pack_model.specs.Whole.{Whole}
-use Rattle.laws_room.proofs.Marking.{opened_is_unmarked}
 use Rattle.laws_room.specs.MarkLaws.{OtherMark}
 use Rattle.laws_record.proofs.Slotwise.{put_here}
 use Rattle.laws_operation.proofs.FirstWords.{words_written}
+use Rattle.laws_room.proofs.marks.Laws.{opened_is_unmarked}
 
 -- ---- words
 -- a word that stands there is put there

@@ -12,7 +12,7 @@ use Rattle.pack_model.specs.Turns.{Turn, ops_of, Talks, begun, spoken, ruler}
 use Rattle.pack_laws.specs.Made.{AllMade}
 use Rattle.pack_laws.specs.TurnLaws.{RisesByMove}
 use Rattle.pack_laws.proofs.Talking.{talks_writes}
-use Rattle.pack_laws.proofs.Acknowledging.{ops-append}
+use Rattle.pack_laws.proofs.inside.Acknowledging.{ops-append}
 
 -- ---- events
 -- an event more is a record write more, or none

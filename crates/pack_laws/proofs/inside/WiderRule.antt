@@ -28,7 +28,7 @@ use Rattle.pack_model.specs.Whole.FileWhole.{absent, present}
 use Rattle.pack_model.specs.OtherNames.{Rule, is_readable_by, leader_by, page_sight_by, sight_by, sights_from_by, sights_by, slots_by, SlotsReachEndBy, file_by, described_by, read_sights_by, read_by, WholeSightsBy, SoundBy}
 use Rattle.pack_laws.proofs.Keys.{fid_total, fid_same}
 use Rattle.pack_laws.proofs.Mapping.{get-map_values}
-use Rattle.pack_laws.proofs.SlotsByRule.{slots_of_reads, reads_too}
+use Rattle.pack_laws.proofs.inside.SlotsByRule.{slots_of_reads, reads_too}
 use Rattle.pack_laws.proofs.Storing.{get-files_shown}
 
 -- a leader page that is shown can be read

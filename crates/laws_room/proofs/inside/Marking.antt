@@ -14,7 +14,6 @@ use Rattle.pack_model.specs.Sights.{Sight, sights}
 use Rattle.pack_model.specs.Sights.Sight.{hidden, holds}
 use Rattle.pack_model.specs.Sound.{mark_clean, mark_of}
 use Rattle.laws_room.specs.MarkLaws.{OpenedIsUnmarked, UnmarkedIsUnclean, UnmarkedStays, mark_page}
-use Rattle.pack_laws.proofs.Filing.{places_are_lowest}
 use Rattle.pack_laws.proofs.Guarding.{carried_parts, front_from, here_written, other_kept, usable_within}
 use Rattle.pack_laws.proofs.Joining.{Reaches-none, continue, joined_at, most_is, skip}
 use Rattle.pack_laws.proofs.Placing.{no_page, page_of_place}
@@ -22,6 +21,7 @@ use Rattle.pack_laws.specs.FileLaws.{CarriesLowest}
 use Rattle.laws_record.proofs.Copying.{place_carried}
 use Rattle.laws_record.proofs.Recording.{carried_sight}
 use Rattle.laws_record.specs.QuietLaws.{with_value}
+use Rattle.pack_laws.proofs.files.Laws.{places_are_lowest}
 
 -- the mark in the counted bytes of a page
 abbrev mark_in : Option (List ℕ) → ℕ

@@ -1,0 +1,2 @@
+-- The laws of keeping: what other crates cite.
+pub use Rattle.laws_room.proofs.inside.Kept.{copy_claim_keeps_aside, copy_release_keeps_aside, cut_at_slots_keeps_aside, descriptor_leader_keeps_with_root, descriptor_pages_keeps_aside, equal_value_keeps_aside, free_value_keeps_aside, fresh_leader_of_the_main_directory_keeps, last_claim_keeps_aside, leader_hints_keeps_aside, loose_words_keeps_aside, lowest_release_keeps_aside, other_links_keeps_aside, past_count_keeps_aside, same_leader_keeps_aside, stray_release_keeps_aside, system_leader_value_keeps_with_root, unread_claim_keeps_aside, unread_release_keeps_aside, unused_release_keeps_aside}
