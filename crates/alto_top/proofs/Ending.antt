@@ -2,8 +2,8 @@
 use Rattle.std.proofs.Common.{◌≡◌, ◌≢◌, inl, inr, ℕ, ◌≤◌, List, [], ◌∷◌, ◌++◌, length, drop, Err, sym, ◌∙◌, ap, subst, arith, append_assoc}
 use Rattle.std.proofs.lemmas.List.{append-nil, length-append}
 use Rattle.disk_records.specs.Tapes.{Taped}
-use Rattle.pack_model.specs.Lines.{lines, ended_lines, most_keys}
-use Rattle.pack_model.specs.Puts.{putting}
+use Rattle.pack_model.specs.sessions.Lines.{lines, ended_lines, most_keys}
+use Rattle.pack_model.specs.operations.Puts.{putting}
 use Rattle.pack_laws.proofs.Talking.{talks_cut, talks_shown}
 use Rattle.alto_top.specs.Keys.{TookPart}
 use Rattle.alto_top.specs.Patches.{turn_of}

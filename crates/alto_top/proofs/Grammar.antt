@@ -3,7 +3,7 @@ use Rattle.std.proofs.Common.{◌≡◌, ℕ, ◌+◌, ◌-◌, ◌<◌, ◌≤�
 use Rattle.std.proofs.lemmas.List.{take_all}
 use Rattle.std.proofs.lemmas.Bool.{le-leb, lt-leb}
 use Rattle.std.specs.List.{starts_with}
-use Rattle.pack_model.specs.Lines.{is_too_long, longest_line}
+use Rattle.pack_model.specs.sessions.Lines.{is_too_long, longest_line}
 use Rattle.pack_laws.proofs.Lining.{longest_line-is}
 use Rattle.alto_top.specs.Patches.{patch_in, operands_in, verb}
 

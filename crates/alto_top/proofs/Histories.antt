@@ -1,10 +1,10 @@
 -- Histories: the turns of some lines, one after another, and perhaps one that broke off.
 use Rattle.std.proofs.Common.{suc, ◌≡◌, ◌≢◌, inl, inr, ℕ, List, [], ◌∷◌, ◌++◌, length, refl, sym, ◌∙◌, ap}
 use Rattle.disk_records.specs.Tapes.{Taped, pack}
-use Rattle.pack_model.specs.Stored.{StoredFiles, stored_files}
-use Rattle.pack_model.specs.Moves.{steps}
-use Rattle.pack_model.specs.Puts.{Put, putting}
-use Rattle.pack_model.specs.Turns.{Turn, ops_of}
+use Rattle.pack_model.specs.reading.Stored.{StoredFiles, stored_files}
+use Rattle.pack_model.specs.sessions.Moves.{steps}
+use Rattle.pack_model.specs.operations.Puts.{Put, putting}
+use Rattle.pack_model.specs.sessions.Turns.{Turn, ops_of}
 use Rattle.pack_laws.proofs.Moving.{steps-append}
 use Rattle.alto_top.specs.Patches.{turn_of, puts_of}
 use Rattle.alto_top.specs.Sessions.{turns_of, BreaksBy, IsHistory}

@@ -2,7 +2,7 @@
 use Rattle.std.proofs.Common.{◌≡◌, ℕ, zero, suc, ◌+◌, ◌*◌, ◌/◌, ◌%◌, ◌<◌, ◌≤◌, List, [], ◌∷◌, ◌++◌, length, take, drop, get_or, refl, sym, ◌∙◌, ap, arith, append_assoc}
 use Rattle.std.proofs.lemmas.List.{length-append, length-take, drop-drop, take_more, take_all}
 use Rattle.std.proofs.Math.ListN.{set}
-use Rattle.pack_model.specs.Bytes.{bytes_of, words_of, put_at}
+use Rattle.pack_model.specs.reading.Bytes.{bytes_of, words_of, put_at}
 use Rattle.pack_laws.proofs.Bytes.{put_at-nil, put_at-later, put_at-here, put_at-append_right, words_of-bytes_of, length-bytes_of, length-put_at}
 
 -- ---- one byte more

@@ -4,10 +4,10 @@ use Rattle.std.specs.Prelude.{not, ◌&&◌, nat_eq}
 use Rattle.std.specs.List.{starts_with}
 use Rattle.std.proofs.lemmas.List.{take_all, length-take}
 use Rattle.std.proofs.lemmas.Bool.{cases_lt, le-leb}
-use Rattle.pack_model.specs.Lines.{longest_line, is_too_long}
-use Rattle.pack_model.specs.Stored.{StoredFiles}
-use Rattle.pack_model.specs.Puts.{Put}
-use Rattle.pack_model.specs.Turns.{Turn}
+use Rattle.pack_model.specs.sessions.Lines.{longest_line, is_too_long}
+use Rattle.pack_model.specs.reading.Stored.{StoredFiles}
+use Rattle.pack_model.specs.operations.Puts.{Put}
+use Rattle.pack_model.specs.sessions.Turns.{Turn}
 use Rattle.alto_top.specs.Keys.{kept_of}
 use Rattle.alto_top.specs.Patches.{patch_in, turn_of, puts_of_patch, reply_to_patch, text_of, operands_in, verb}
 use Rattle.alto_top.specs.declared.patch.Patch.{Patch}

@@ -7,9 +7,9 @@ use Rattle.std.proofs.lemmas.List.{length-append}
 use Rattle.alto_words.specs.declared.fid.Fid.{Fid}
 use Rattle.alto_words.specs.Fid.{is_fid}
 use Rattle.disk_records.specs.Packs.{Pack}
-use Rattle.pack_model.specs.Sights.{Sight, sights}
-use Rattle.pack_model.specs.Sights.Sight.{hidden, free, stray, leads, holds}
-use Rattle.pack_model.specs.Files.{first, numbered, carries_page, page_at, place_at, place, page, joined, file_bytes}
+use Rattle.pack_model.specs.reading.Sights.{Sight, sights}
+use Rattle.pack_model.specs.reading.Sights.Sight.{hidden, free, stray, leads, holds}
+use Rattle.pack_model.specs.reading.Files.{first, numbered, carries_page, page_at, place_at, place, page, joined, file_bytes}
 use Rattle.pack_laws.proofs.Joining.{most_is, continue, joined-zero, joined-suc}
 use Rattle.pack_laws.proofs.Paging.{file_bytes-joined}
 use Rattle.alto_top.proofs.Counting.{counted_none, counted_last, counted_more}

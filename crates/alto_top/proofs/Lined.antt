@@ -2,7 +2,7 @@
 use Rattle.std.proofs.Common.{◌≡◌, ◌⊎◌, inl, inr, ℕ, ◌+◌, ◌≤◌, List, [], ◌∷◌, ◌++◌, length, take, drop, refl, sym, ◌∙◌, ap, subst, arith}
 use Rattle.std.proofs.lemmas.List.{append-nil}
 use Rattle.std.proofs.lemmas.Bool.{cases_lt}
-use Rattle.pack_model.specs.Lines.{lines, lines_from, ended_lines}
+use Rattle.pack_model.specs.sessions.Lines.{lines, lines_from, ended_lines}
 use Rattle.alto_top.specs.Keys.{kept_of, TookEnded, TookRest, TookLast, TookPart}
 use Rattle.alto_top.specs.Sessions.{keys_of, TookLines}
 use Rattle.alto_top.proofs.Live.{Live, Over, split_more, live_lines, live_keys, live_part, live_ahead, live_behind, live_rest, live_ended, live_last}

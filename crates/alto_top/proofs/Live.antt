@@ -2,7 +2,7 @@
 use Rattle.std.proofs.Common.{◌≡◌, ℕ, ◌+◌, ◌≤◌, List, [], ◌∷◌, ◌++◌, length, take, drop, refl, sym, ◌∙◌, ap, subst, arith, append_assoc}
 use Rattle.std.proofs.lemmas.List.{take_all, append-nil, length-append, length-take, take-append-drop}
 use Rattle.std.proofs.Math.Seq.{take-append-add, drop-append-add}
-use Rattle.pack_model.specs.Lines.{lines, lines_from, ended_lines, ended_from, most_keys}
+use Rattle.pack_model.specs.sessions.Lines.{lines, lines_from, ended_lines, ended_from, most_keys}
 use Rattle.pack_laws.proofs.Lining.{rest_from, lines-append, ended-append, rest-append, lines_split}
 use Rattle.alto_top.specs.Keys.{IsUnbroken, TookEnded, TookRest, TookLast}
 use Rattle.alto_top.specs.Sessions.{keys_of}

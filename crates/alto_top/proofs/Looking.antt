@@ -12,9 +12,9 @@ use Rattle.std.specs.FinMap.Entries.{below_all}
 use Rattle.alto_words.specs.declared.fid.Fid.{Fid}
 use Rattle.alto_words.specs.Fid.{fid_cmp, is_fid}
 use Rattle.alto_words.specs.Names.{folded_cmp}
-use Rattle.pack_model.specs.Namings.{Naming}
-use Rattle.pack_model.specs.View.{Home, View}
-use Rattle.pack_model.specs.Listing.{naming_of, naming_cmp, in_order, shown_names}
+use Rattle.pack_model.specs.reading.Namings.{Naming}
+use Rattle.pack_model.specs.showing.View.{Home, View}
+use Rattle.pack_model.specs.showing.Listing.{naming_of, naming_cmp, in_order, shown_names}
 use Rattle.pack_laws.proofs.Keys.{same_fid}
 use Rattle.pack_laws.proofs.Firsts.{or_none, or_assoc}
 use Rattle.pack_laws.proofs.Inserting.{in_order-none, in_order-cons}

@@ -5,11 +5,11 @@ use Rattle.std.specs.Option.{option_map}
 use Rattle.alto_words.specs.declared.fid.Fid.{Fid}
 use Rattle.disk_records.specs.Tapes.{Taped, Grown, pack, added}
 use Rattle.disk_records.proofs.Growing.{added-twice, pack-silent, nothing_added}
-use Rattle.pack_model.specs.Sights.{Sight}
-use Rattle.pack_model.specs.Files.{file_bytes}
-use Rattle.pack_model.specs.Stored.{StoredFile, files_shown, stored_files, file_of_serial}
-use Rattle.pack_model.specs.Moves.{Does, rest, steps}
-use Rattle.pack_model.specs.Puts.{Put, putting}
+use Rattle.pack_model.specs.reading.Sights.{Sight}
+use Rattle.pack_model.specs.reading.Files.{file_bytes}
+use Rattle.pack_model.specs.reading.Stored.{StoredFile, files_shown, stored_files, file_of_serial}
+use Rattle.pack_model.specs.sessions.Moves.{Does, rest, steps}
+use Rattle.pack_model.specs.operations.Puts.{Put, putting}
 use Rattle.pack_laws.proofs.Found.{IsOfSerial, serial_found}
 use Rattle.pack_laws.proofs.Moving.{does_nothing}
 use Rattle.pack_laws.proofs.Serials.{file_of_serial-fold}

@@ -7,11 +7,11 @@ use Rattle.disk_records.specs.Packs.{Pack, carried}
 use Rattle.disk_records.specs.Events.{IsFirstOf}
 use Rattle.disk_records.specs.Commands.{value_writes}
 use Rattle.disk_records.specs.Tapes.{Taped, added, pack}
-use Rattle.pack_model.specs.Sights.{sights}
-use Rattle.pack_model.specs.Sights.Sight.{hidden}
-use Rattle.pack_model.specs.Files.{carries_page, file_bytes, place}
-use Rattle.pack_model.specs.Moves.{Does}
-use Rattle.pack_model.specs.Puts.{Put, WritesValue, putting}
+use Rattle.pack_model.specs.reading.Sights.{sights}
+use Rattle.pack_model.specs.reading.Sights.Sight.{hidden}
+use Rattle.pack_model.specs.reading.Files.{carries_page, file_bytes, place}
+use Rattle.pack_model.specs.sessions.Moves.{Does}
+use Rattle.pack_model.specs.operations.Puts.{Put, WritesValue, putting}
 use Rattle.pack_laws.specs.PutLaws.{StaysWithin}
 use Rattle.pack_laws.proofs.Carrying.{carried_shown}
 use Rattle.pack_laws.proofs.Moving.{does_first, stands_last}

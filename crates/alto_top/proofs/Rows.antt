@@ -5,9 +5,9 @@ use Rattle.std.specs.List.{flat_map}
 use Rattle.std.specs.BTreeSet.{insert_key}
 use Rattle.std.proofs.lemmas.List.{length-map}
 use Rattle.std.proofs.lemmas.List.Folds.{flat_map-map}
-use Rattle.pack_model.specs.Namings.{Naming}
-use Rattle.pack_model.specs.View.{View}
-use Rattle.pack_model.specs.Listing.{Listed, line_of, listed_cmp, listing, in_order, shown_names, shown_files}
+use Rattle.pack_model.specs.reading.Namings.{Naming}
+use Rattle.pack_model.specs.showing.View.{View}
+use Rattle.pack_model.specs.showing.Listing.{Listed, line_of, listed_cmp, listing, in_order, shown_names, shown_files}
 use Rattle.pack_laws.proofs.Inserting.{in_order-none, in_order-cons, map-insert_key}
 use Rattle.pack_laws.proofs.Orders.{listed_total}
 use Rattle.pack_reading.specs.declared.shown.Shown.{Shown}

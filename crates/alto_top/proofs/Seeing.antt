@@ -10,9 +10,9 @@ use Rattle.disk_records.specs.declared.shape.Shape.{Shape}
 use Rattle.alto_words.specs.declared.fid.Fid.{Fid}
 use Rattle.disk_records.specs.Addresses.{is_right_header}
 use Rattle.disk_records.specs.Labels.{Tag, tag, in_range, is_free, page_of}
-use Rattle.pack_model.specs.Bytes.{bytes_of}
-use Rattle.pack_model.specs.Sights.{sight, page_sight}
-use Rattle.pack_model.specs.Sights.Sight.{free, stray}
+use Rattle.pack_model.specs.reading.Bytes.{bytes_of}
+use Rattle.pack_model.specs.reading.Sights.{sight, page_sight}
+use Rattle.pack_model.specs.reading.Sights.Sight.{free, stray}
 use Rattle.pack_laws.proofs.Bytes.{length-bytes_of}
 use Rattle.alto_top.specs.declared.sweep.LabelSight.TheVariants.{Nothing, Data}
 use Rattle.alto_top.specs.Sweeps.{seen_page, seen_in, seen_of}

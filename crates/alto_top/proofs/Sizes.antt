@@ -11,8 +11,8 @@ use Rattle.std.specs.FinMap.{find, is_sorted, entries, entries_sorted, get, get-
 use Rattle.std.specs.FinMap.Entries.{below_all}
 use Rattle.alto_words.specs.declared.fid.Fid.{Fid}
 use Rattle.alto_words.specs.Fid.{fid_cmp}
-use Rattle.pack_model.specs.View.{Seen, View}
-use Rattle.pack_model.specs.Listing.{size_of}
+use Rattle.pack_model.specs.showing.View.{Seen, View}
+use Rattle.pack_model.specs.showing.Listing.{size_of}
 use Rattle.pack_laws.proofs.Keys.{fid_total, fid_same}
 use Rattle.pack_reading.specs.declared.shown.ShownFile.{ShownFile}
 use Rattle.pack_reading.specs.Shows.{shown_file}

@@ -3,11 +3,11 @@ use Rattle.std.proofs.Common.{suc, ◌≡◌, inl, ℕ, ◌+◌, ◌*◌, ◌≤
 use Rattle.std.proofs.lemmas.List.{length-append}
 use Rattle.disk_records.specs.Addresses.{pages_of}
 use Rattle.disk_records.specs.Tapes.{Taped, Grown, KeysAlone, pack, added}
-use Rattle.pack_model.specs.Lines.{most_keys}
-use Rattle.pack_model.specs.Stored.{stored_files}
-use Rattle.pack_model.specs.Moves.{steps}
-use Rattle.pack_model.specs.Puts.{Put, putting}
-use Rattle.pack_model.specs.Turns.{Turn, Talks, IsTurn, ops_of}
+use Rattle.pack_model.specs.sessions.Lines.{most_keys}
+use Rattle.pack_model.specs.reading.Stored.{stored_files}
+use Rattle.pack_model.specs.sessions.Moves.{steps}
+use Rattle.pack_model.specs.operations.Puts.{Put, putting}
+use Rattle.pack_model.specs.sessions.Turns.{Turn, Talks, IsTurn, ops_of}
 use Rattle.pack_laws.proofs.Talking.{talks_begin, talks_model, talks_turn, turn_stands}
 use Rattle.alto_top.specs.Keys.{kept_of}
 use Rattle.alto_top.specs.Patches.{turn_of}

@@ -5,10 +5,10 @@ use Rattle.disk_records.specs.declared.records.Event.{Event}
 use Rattle.disk_records.specs.Events.{IsFirstOf, shown_events}
 use Rattle.disk_records.specs.Packs.{Pack, after}
 use Rattle.disk_records.specs.Tapes.{Taped, Grown, KeysAlone, pack, added, first_pack}
-use Rattle.pack_model.specs.Stored.{stored_files}
-use Rattle.pack_model.specs.Moves.{Does}
-use Rattle.pack_model.specs.Puts.{putting}
-use Rattle.pack_model.specs.Turns.{IsTurn}
+use Rattle.pack_model.specs.reading.Stored.{stored_files}
+use Rattle.pack_model.specs.sessions.Moves.{Does}
+use Rattle.pack_model.specs.operations.Puts.{putting}
+use Rattle.pack_model.specs.sessions.Turns.{IsTurn}
 use Rattle.pack_laws.proofs.TurnCalls.{turn_whole, turn_cut, turn_broken}
 use Rattle.alto_top.specs.Faults.{DiskFaultCause, KeyFaultCause, status_of}
 use Rattle.alto_top.specs.Keys.{ShownAll, TookWhole, TookRest, TookPart}

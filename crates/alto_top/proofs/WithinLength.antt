@@ -3,8 +3,8 @@ use Rattle.std.proofs.Common.{◌≡◌, ℕ, ◌+◌, ◌<◌, ◌≤◌, List,
 use Rattle.std.proofs.lemmas.Bool.{lt-ltb, le-ltb}
 use Rattle.alto_words.specs.declared.fid.Fid.{Fid}
 use Rattle.disk_records.specs.Tapes.{Taped, pack, added}
-use Rattle.pack_model.specs.Moves.{Does}
-use Rattle.pack_model.specs.Puts.{putting}
+use Rattle.pack_model.specs.sessions.Moves.{Does}
+use Rattle.pack_model.specs.operations.Puts.{putting}
 use Rattle.pack_laws.proofs.Moving.{does_start}
 use Rattle.alto_top.specs.declared.patch.Patch.{Patch}
 use Rattle.alto_top.specs.Patches.{put_of, puts_at, reply_within}

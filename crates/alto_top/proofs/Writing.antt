@@ -12,7 +12,7 @@ use Rattle.label_check.specs.declared.errors.PageInfo.{PageInfo}
 use Rattle.label_check.specs.declared.errors.GuardError.{GuardError}
 use Rattle.label_check.specs.declared.errors.GuardError.TheVariants as guard
 use Rattle.label_check.specs.Guarded.{Carries, Guarded, DoneWhole, IsReadPage}
-use Rattle.pack_model.specs.Bytes.{bytes_of, words_of, put_at}
+use Rattle.pack_model.specs.reading.Bytes.{bytes_of, words_of, put_at}
 use Rattle.alto_top.specs.declared.status.Fault.{Fault}
 use Rattle.alto_top.specs.declared.status.Fault.TheVariants.{Disk, Memory}
 use Rattle.alto_top.specs.Putting.{PutDone, value_with, not_done}

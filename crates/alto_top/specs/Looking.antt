@@ -3,8 +3,8 @@ use Rattle.std.specs.Prelude.{◌≡◌, ℕ, length, map, List, [], ◌∷◌, 
 use Rattle.std.specs.Option.{option_map, option_or}
 use Rattle.alto_words.specs.declared.fid.Fid.{Fid}
 use Rattle.alto_words.specs.Fid.{is_fid}
-use Rattle.pack_model.specs.View.{View}
-use Rattle.pack_model.specs.Listing.{Listed, home_name, shown_files}
+use Rattle.pack_model.specs.showing.View.{View}
+use Rattle.pack_model.specs.showing.Listing.{Listed, home_name, shown_files}
 use Rattle.pack_reading.specs.declared.shown.ShownFile.{ShownFile}
 use Rattle.pack_reading.specs.Shows.{naming, shown_file}
 use Rattle.alto_top.specs.declared.line.Line.{Line}

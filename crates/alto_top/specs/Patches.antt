@@ -5,10 +5,10 @@ use Rattle.std.specs.Fmt.{decimal}
 use Rattle.alto_words.specs.declared.fid.Fid.{Fid}
 use Rattle.alto_words.specs.Fid.{is_fid, is_directory, disk_descriptor}
 use Rattle.alto_words.specs.Numbers.{number_in, bytes_in_hex}
-use Rattle.pack_model.specs.Lines.{is_too_long}
-use Rattle.pack_model.specs.Stored.{StoredFile, StoredFiles, file_of_serial}
-use Rattle.pack_model.specs.Puts.{Put}
-use Rattle.pack_model.specs.Turns.{Turn}
+use Rattle.pack_model.specs.sessions.Lines.{is_too_long}
+use Rattle.pack_model.specs.reading.Stored.{StoredFile, StoredFiles, file_of_serial}
+use Rattle.pack_model.specs.operations.Puts.{Put}
+use Rattle.pack_model.specs.sessions.Turns.{Turn}
 use Rattle.alto_top.specs.declared.patch.Patch.{Patch}
 use Rattle.alto_top.specs.declared.reply.Reply.{Reply}
 use Rattle.alto_top.specs.declared.reply.Reply.TheVariants.{BadLine, NoSuchName, NotYet, Beyond, Done}

@@ -8,7 +8,7 @@ use Rattle.disk_records.specs.Tapes.{Taped, pack, added}
 use Rattle.label_check.specs.declared.errors.GuardError.{GuardError}
 use Rattle.label_check.specs.declared.errors.GuardError.TheVariants as guard
 use Rattle.label_check.specs.Guarded.{Carries}
-use Rattle.pack_model.specs.Bytes.{bytes_of, words_of, put_at}
+use Rattle.pack_model.specs.reading.Bytes.{bytes_of, words_of, put_at}
 use Rattle.alto_top.specs.declared.status.Fault.{Fault}
 use Rattle.alto_top.specs.declared.status.Fault.TheVariants.{Disk, Memory}
 

@@ -3,11 +3,11 @@ use Rattle.std.specs.Prelude.{◌≡◌, ◌≢◌, ◌⊎◌, ◌≤◌, ℕ, �
 use Rattle.disk_records.specs.Addresses.{pages_of}
 use Rattle.disk_records.specs.Events.{shown_bytes}
 use Rattle.disk_records.specs.Tapes.{Taped, KeysAlone, pack, added}
-use Rattle.pack_model.specs.Lines.{lines, ended_lines, most_keys}
-use Rattle.pack_model.specs.Stored.{StoredFiles, stored_files}
-use Rattle.pack_model.specs.Puts.{Put, putting}
-use Rattle.pack_model.specs.Moves.{steps}
-use Rattle.pack_model.specs.Turns.{Turn, Talks, IsTurn, BrokeOff, CutAt, texts_of}
+use Rattle.pack_model.specs.sessions.Lines.{lines, ended_lines, most_keys}
+use Rattle.pack_model.specs.reading.Stored.{StoredFiles, stored_files}
+use Rattle.pack_model.specs.operations.Puts.{Put, putting}
+use Rattle.pack_model.specs.sessions.Moves.{steps}
+use Rattle.pack_model.specs.sessions.Turns.{Turn, Talks, IsTurn, BrokeOff, CutAt, texts_of}
 use Rattle.alto_top.specs.Patches.{turn_of, puts_of}
 use Rattle.alto_top.specs.Keys.{TookWhole, TookRest, TookPart}
 use Rattle.alto_top.specs.Faults.{KeyFaultCause, status_of}

@@ -6,9 +6,9 @@ use Rattle.std.specs.Fmt.{decimal}
 use Rattle.disk_records.specs.Addresses.{pages_of}
 use Rattle.disk_records.specs.Events.{IsFirstOf, shown_events}
 use Rattle.disk_records.specs.Tapes.{Taped, pack, added}
-use Rattle.pack_model.specs.View.{View}
-use Rattle.pack_model.specs.Settling.{show}
-use Rattle.pack_model.specs.Listing.{Listed, listing, shown_files}
+use Rattle.pack_model.specs.showing.View.{View}
+use Rattle.pack_model.specs.showing.Settling.{show}
+use Rattle.pack_model.specs.showing.Listing.{Listed, listing, shown_files}
 use Rattle.alto_top.specs.declared.status.Status.{Status}
 use Rattle.alto_top.specs.declared.status.Status.TheVariants as status
 

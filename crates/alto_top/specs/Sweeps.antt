@@ -5,9 +5,9 @@ use Rattle.std.specs.BTreeMap.{get}
 use Rattle.std.specs.Ordering.{nat_cmp}
 use Rattle.alto_words.specs.declared.fid.Fid.{Fid}
 use Rattle.disk_records.specs.Labels.{tag, in_range}
-use Rattle.pack_model.specs.Sights.{Sight}
-use Rattle.pack_model.specs.Sights.Sight.{hidden, free, stray, leads, holds}
-use Rattle.pack_model.specs.Files.{first, numbered, carries_page}
+use Rattle.pack_model.specs.reading.Sights.{Sight}
+use Rattle.pack_model.specs.reading.Sights.Sight.{hidden, free, stray, leads, holds}
+use Rattle.pack_model.specs.reading.Files.{first, numbered, carries_page}
 use Rattle.alto_top.specs.declared.sweep.LabelSight.{LabelSight}
 use Rattle.alto_top.specs.declared.sweep.LabelSight.TheVariants.{Nothing, Leader, Data}
 use Rattle.alto_top.specs.declared.pages.PagePlace.{PagePlace}

@@ -2,7 +2,7 @@
 ghost use Rattle.std.specs.Prelude.{◌≡◌, ◌≤◌, ◌<◌, ◌+◌, ◌^◌, length, All, IsTrue, IsErrOf};
 ghost use Rattle.disk_records.specs.Addresses.{pages_of};
 ghost use Rattle.disk_records.specs.Tapes.{DiskAlone};
-ghost use Rattle.pack_model.specs.Bytes.{bytes_of, words_of, put_at};
+ghost use Rattle.pack_model.specs.reading.Bytes.{bytes_of, words_of, put_at};
 ghost use Rattle.alto_top.specs.Faults.{HasDiskCause};
 ghost use Rattle.alto_top.specs.Putting.{PutDone, not_done};
 

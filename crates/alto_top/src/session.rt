@@ -2,11 +2,11 @@
 ghost use Rattle.std.specs.Prelude.{◌≡◌, ◌≢◌, ◌≤◌, ◌<◌, ◌+◌, ◌/◌, [], true, length, All, IsTrue, IsErrOf, IfOk};
 ghost use Rattle.disk_records.specs.Addresses.{pages_of};
 ghost use Rattle.disk_records.specs.Tapes.{Grown, DiskAlone, ShowAlone, pack, added};
-ghost use Rattle.pack_model.specs.Sights.{sights};
-ghost use Rattle.pack_model.specs.Files.{file_bytes};
-ghost use Rattle.pack_model.specs.Stored.{stored_files};
-ghost use Rattle.pack_model.specs.Moves.{Does};
-ghost use Rattle.pack_model.specs.Puts.{putting};
+ghost use Rattle.pack_model.specs.reading.Sights.{sights};
+ghost use Rattle.pack_model.specs.reading.Files.{file_bytes};
+ghost use Rattle.pack_model.specs.reading.Stored.{stored_files};
+ghost use Rattle.pack_model.specs.sessions.Moves.{Does};
+ghost use Rattle.pack_model.specs.operations.Puts.{putting};
 ghost use Rattle.alto_top.specs.Faults.{HasCause, HasDiskCause, HasShowCause, HasStatusCause};
 ghost use Rattle.alto_top.specs.Patches.{put_of, puts_at, puts_of, puts_of_patch, reply_within, reply_to, reply_to_patch, text_of, is_patched, lie_in_one_page};
 ghost use Rattle.alto_top.specs.Keys.{ShownAll};

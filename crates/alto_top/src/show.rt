@@ -2,7 +2,7 @@
 ghost use Rattle.std.specs.Prelude.{◌≡◌, ◌≤◌, ◌+◌, [], IsTrue, IfOk};
 ghost use Rattle.disk_records.specs.Addresses.{pages_of};
 ghost use Rattle.disk_records.specs.Tapes.{Grown, DiskAlone, pack, added};
-ghost use Rattle.pack_model.specs.Settling.{show};
+ghost use Rattle.pack_model.specs.showing.Settling.{show};
 ghost use Rattle.alto_top.specs.Faults.{HasDiskCause, HasStatusCause};
 ghost use Rattle.alto_top.specs.Showing.{listing_text, AnswersShow, KeepsKeys, ShowsPack};
 

@@ -8,8 +8,8 @@ use Rattle.alto_words.specs.Fid.{is_full_name}
 use Rattle.alto_words.specs.Names.{is_stored_name}
 use Rattle.alto_words.proofs.Versions.{is_stored_name-fits}
 use Rattle.disk_records.specs.Words.{word}
-use Rattle.pack_model.specs.Slots.{entry_length, slot_bytes, slot_name, slot_pad, slot_fid, is_entry}
-use Rattle.pack_model.specs.Slots.Item.{entry}
+use Rattle.pack_model.specs.reading.Slots.{entry_length, slot_bytes, slot_name, slot_pad, slot_fid, is_entry}
+use Rattle.pack_model.specs.reading.Slots.Item.{entry}
 use Rattle.dir_slots.specs.Inside.{name_of, entry_of}
 use Rattle.dir_slots.proofs.Names.{stored_least}
 

@@ -7,9 +7,9 @@ use Rattle.std.proofs.lemmas.Bool.{eq-eqb, ne_eqb, cond-true, cond-false, and_pa
 use Rattle.std.proofs.lemmas.List.{length-take, get_or-take}
 use Rattle.std.proofs.lemmas.Option.{none-some, same_Some, cond_some}
 use Rattle.disk_records.specs.Words.{word}
-use Rattle.pack_model.specs.Slots.{Item, item_words, is_entry, slot_fid, slot_name, slot_of, first_length, slot_at, IsSlot}
-use Rattle.pack_model.specs.Slots.Item.{space, entry}
-use Rattle.pack_model.specs.SlotWords.{address_at}
+use Rattle.pack_model.specs.reading.Slots.{Item, item_words, is_entry, slot_fid, slot_name, slot_of, first_length, slot_at, IsSlot}
+use Rattle.pack_model.specs.reading.Slots.Item.{space, entry}
+use Rattle.pack_model.specs.reading.SlotWords.{address_at}
 use Rattle.dir_slots.specs.declared.slot.Slot.{Slot}
 use Rattle.dir_slots.specs.declared.slot.Slot.TheVariants.{Free, Entry}
 use Rattle.dir_slots.specs.Inside.{entry_of}

@@ -1,8 +1,8 @@
 -- The slots of words are those of the longest first part that slots fill to its end.
 use Rattle.std.proofs.Common.{◌≡◌, ℕ, zero, suc, ◌+◌, ◌%◌, ◌≤◌, List, [], ◌∷◌, ◌++◌, length, take, drop, Some, None, refl, sym, ap, ◌∙◌, subst, arith, append_assoc, append-nil}
 use Rattle.std.proofs.lemmas.List.{length-append, length-drop, take-append-drop, take-take, drop-take, take_at, drop_at, get_or_append_left, nil_from_length}
-use Rattle.pack_model.specs.Slots.{Item, item_words, all_words, first_length, slot_of, slot_at, slots, IsSlot, Reads, ReadsLongest}
-use Rattle.pack_model.specs.Slots.Reads.{none, next}
+use Rattle.pack_model.specs.reading.Slots.{Item, item_words, all_words, first_length, slot_of, slot_at, slots, IsSlot, Reads, ReadsLongest}
+use Rattle.pack_model.specs.reading.Slots.Reads.{none, next}
 use Rattle.dir_slots.specs.Laws.{LongestIsRead}
 use Rattle.dir_slots.proofs.Heads.{slot_at-nil, slot_at-is, slot_at-within}
 use Rattle.dir_slots.proofs.Slots.{slots-none, slots-some, all_words-append}

@@ -7,9 +7,9 @@ use Rattle.std.proofs.lemmas.Bool.Decides.{nat_tests}
 use Rattle.std.proofs.lemmas.List.{append_assoc, append-nil, length-append, length_push, take_all, take_at, drop_at, take-append-le}
 use Rattle.alto_words.specs.Names.{is_stored_name}
 use Rattle.alto_words.proofs.Versions.{is_stored_character, is_stored_name-fits, is_stored_name-characters}
-use Rattle.pack_model.specs.Bytes.{bytes_of, words_of}
-use Rattle.pack_model.specs.PageWords.{name_words}
-use Rattle.pack_model.specs.SlotWords.{short_name_words}
+use Rattle.pack_model.specs.reading.Bytes.{bytes_of, words_of}
+use Rattle.pack_model.specs.operations.PageWords.{name_words}
+use Rattle.pack_model.specs.reading.SlotWords.{short_name_words}
 use Rattle.dir_slots.specs.Inside.{name_of}
 use Rattle.dir_slots.proofs.Names.{name_of-parts}
 

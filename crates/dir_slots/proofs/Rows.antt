@@ -3,9 +3,9 @@ use Rattle.std.proofs.Common.{◌≡◌, ℕ, suc, ◌+◌, ◌-◌, ◌^◌, �
 use Rattle.std.specs.Prelude.{All}
 use Rattle.std.proofs.lemmas.List.{length-take, length-drop, length-map, map-append, map_push, take_more, take-append-drop, drop-drop, drop_all, get_or-drop}
 use Rattle.std.proofs.lemmas.List.Elements.{All-get_or}
-use Rattle.pack_model.specs.Slots.{Item, item_words, all_words, entry_length}
-use Rattle.pack_model.specs.Slots.Item.{space, entry}
-use Rattle.pack_model.specs.Rooms.{run, room_from, find_room}
+use Rattle.pack_model.specs.reading.Slots.{Item, item_words, all_words, entry_length}
+use Rattle.pack_model.specs.reading.Slots.Item.{space, entry}
+use Rattle.pack_model.specs.operations.Rooms.{run, room_from, find_room}
 use Rattle.dir_slots.specs.declared.slot.Slot.{Slot}
 use Rattle.dir_slots.specs.declared.slot.Slot.TheVariants.{Free, Entry}
 use Rattle.dir_slots.specs.declared.room.Room.{Room}

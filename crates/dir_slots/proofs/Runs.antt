@@ -1,9 +1,9 @@
 -- The slots that have been seen, and the most words of free ones in a row.
 use Rattle.std.proofs.Common.{◌≡◌, ℕ, ◌+◌, ◌<◌, ◌≤◌, List, [], ◌∷◌, length, take, drop, get_or, sym, ap, ◌∙◌, arith, max}
 use Rattle.std.proofs.lemmas.List.{take_more, drop_more, drop_all, take-append-drop, map-append}
-use Rattle.pack_model.specs.Slots.{Item, item_words, all_words}
-use Rattle.pack_model.specs.Slots.Item.{space, entry}
-use Rattle.pack_model.specs.Rooms.{run, words_free, largest_run}
+use Rattle.pack_model.specs.reading.Slots.{Item, item_words, all_words}
+use Rattle.pack_model.specs.reading.Slots.Item.{space, entry}
+use Rattle.pack_model.specs.operations.Rooms.{run, words_free, largest_run}
 use Rattle.dir_slots.specs.declared.slot.Slot.{Slot}
 use Rattle.dir_slots.specs.Items.{item_of, items_of}
 use Rattle.dir_slots.proofs.Slots.{all_words-append, all_words_more}

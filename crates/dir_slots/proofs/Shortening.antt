@@ -1,9 +1,9 @@
 -- A row of free slots without its first ones, until it has few enough words for one free slot.
 use Rattle.std.proofs.Common.{◌≡◌, ℕ, suc, ◌+◌, ◌-◌, ◌<◌, ◌≤◌, List, ◌∷◌, ◌++◌, length, drop, get_or, Some, refl, ap, ◌∙◌, subst, arith, min}
 use Rattle.std.proofs.lemmas.List.{drop_all}
-use Rattle.pack_model.specs.Slots.{Item, item_words, all_words}
-use Rattle.pack_model.specs.Slots.Item.{space, entry}
-use Rattle.pack_model.specs.Rooms.{room_from}
+use Rattle.pack_model.specs.reading.Slots.{Item, item_words, all_words}
+use Rattle.pack_model.specs.reading.Slots.Item.{space, entry}
+use Rattle.pack_model.specs.operations.Rooms.{room_from}
 use Rattle.dir_slots.specs.declared.slot.Slot.{Slot}
 use Rattle.dir_slots.specs.declared.room.Room.{Room}
 use Rattle.dir_slots.specs.Items.{item_of, items_of, room_of}

@@ -2,9 +2,9 @@
 use Rattle.std.proofs.Common.{◌≡◌, ℕ, zero, suc, ◌+◌, ◌-◌, ◌≤◌, List, [], ◌∷◌, ◌++◌, length, take, drop, Some, None, refl, sym, ap, ◌∙◌, arith, min, map, zero-add}
 use Rattle.std.proofs.lemmas.Option.{none-some}
 use Rattle.std.proofs.lemmas.List.{append_assoc, append-nil, map_push, take_min, drop-drop, get_or-drop}
-use Rattle.pack_model.specs.Slots.{Item, item_words, all_words, and_then, slot_at, slots_after, slots}
-use Rattle.pack_model.specs.Slots.Item.{space, entry}
-use Rattle.pack_model.specs.SlotWords.{address_at, slots_at}
+use Rattle.pack_model.specs.reading.Slots.{Item, item_words, all_words, and_then, slot_at, slots_after, slots}
+use Rattle.pack_model.specs.reading.Slots.Item.{space, entry}
+use Rattle.pack_model.specs.reading.SlotWords.{address_at, slots_at}
 use Rattle.dir_slots.specs.declared.slot.Slot.{Slot}
 use Rattle.dir_slots.specs.Items.{item_of, items_of, address_of, addresses_in}
 use Rattle.dir_slots.proofs.Heads.{slot_at-nil, slot_at-is}

@@ -5,9 +5,9 @@ use Rattle.std.proofs.lemmas.List.{append_assoc, length-append, length-replicate
 use Rattle.std.proofs.lemmas.List.Elements.{All-head, All-tail, All-more, All-same}
 use Rattle.alto_words.specs.declared.fid.Fid.{Fid}
 use Rattle.alto_words.proofs.Versions.{is_stored_name-fits}
-use Rattle.pack_model.specs.Slots.{item_words, all_words, entry_length, first_length, slot_at, slots}
-use Rattle.pack_model.specs.Slots.Item.{space}
-use Rattle.pack_model.specs.SlotWords.{entry_words, space_words, address_at}
+use Rattle.pack_model.specs.reading.Slots.{item_words, all_words, entry_length, first_length, slot_at, slots}
+use Rattle.pack_model.specs.reading.Slots.Item.{space}
+use Rattle.pack_model.specs.reading.SlotWords.{entry_words, space_words, address_at}
 use Rattle.dir_slots.specs.declared.slot.Slot.{Slot}
 use Rattle.dir_slots.specs.declared.slot.Slot.TheVariants.{Free, Entry}
 use Rattle.dir_slots.specs.Inside.{entry_of}

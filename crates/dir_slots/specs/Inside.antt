@@ -3,8 +3,8 @@ use Rattle.std.specs.Prelude.{ℕ, ◌+◌, ◌==◌, ◌&&◌, cond, List, [], 
 use Rattle.std.specs.List.{list_all}
 use Rattle.alto_words.specs.Names.{is_stored_name}
 use Rattle.disk_records.specs.Words.{word}
-use Rattle.pack_model.specs.Slots.{Item, entry_length, is_entry, slot_fid, slot_name}
-use Rattle.pack_model.specs.Slots.Item.{space, entry}
+use Rattle.pack_model.specs.reading.Slots.{Item, entry_length, is_entry, slot_fid, slot_name}
+use Rattle.pack_model.specs.reading.Slots.Item.{space, entry}
 use Rattle.dir_slots.specs.declared.room.Room.{Room}
 
 -- the characters that a byte with their number begins, and the bytes behind them

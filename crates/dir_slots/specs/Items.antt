@@ -2,11 +2,11 @@
 use Rattle.std.specs.Prelude.{◌≡◌, ℕ, ◌≤◌, true, List, map}
 use Rattle.std.specs.List.{flat_map}
 use Rattle.alto_words.specs.Fid.{is_full_name}
-use Rattle.pack_model.specs.Slots.{Item, slots}
-use Rattle.pack_model.specs.Slots.Item.{space, entry}
-use Rattle.pack_model.specs.SlotWords.{entry_words, space_words, slots_at}
-use Rattle.pack_model.specs.Rooms.{most_free}
-use Rattle.pack_model.specs.Rooms as rooms
+use Rattle.pack_model.specs.reading.Slots.{Item, slots}
+use Rattle.pack_model.specs.reading.Slots.Item.{space, entry}
+use Rattle.pack_model.specs.reading.SlotWords.{entry_words, space_words, slots_at}
+use Rattle.pack_model.specs.operations.Rooms.{most_free}
+use Rattle.pack_model.specs.operations.Rooms as rooms
 use Rattle.dir_slots.specs.declared.slot.Slot.{Slot}
 use Rattle.dir_slots.specs.declared.slot.Slot.TheVariants.{Free, Entry}
 use Rattle.dir_slots.specs.declared.room.Room.{Room}

@@ -1,7 +1,7 @@
 -- What holds of slots and their words.
 use Rattle.std.specs.Prelude.{◌≡◌, ◌↔◌, ℕ, true, List, map, length, All}
 use Rattle.alto_words.specs.Names.{is_stored_name}
-use Rattle.pack_model.specs.Slots.{Item, all_words, slots, ReadsLongest}
+use Rattle.pack_model.specs.reading.Slots.{Item, all_words, slots, ReadsLongest}
 use Rattle.dir_slots.specs.declared.slot.Slot.{Slot}
 use Rattle.dir_slots.specs.declared.slot.Slot.TheVariants.{Free, Entry}
 use Rattle.dir_slots.specs.Items.{items_of, address_of, addresses_in, slots_words, IsInRange}

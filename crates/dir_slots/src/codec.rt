@@ -3,9 +3,9 @@ ghost use Rattle.std.specs.Prelude.{◌≡◌, ℕ, ◌+◌, ◌≤◌, ◌==◌
 ghost use Rattle.std.specs.List.{list_all};
 ghost use Rattle.std.specs.Option.{option_map};
 ghost use Rattle.disk_records.specs.Words.{word};
-ghost use Rattle.pack_model.specs.Bytes.{bytes_of};
-ghost use Rattle.pack_model.specs.Slots.{item_words, slot_at};
-ghost use Rattle.pack_model.specs.SlotWords.{address_at};
+ghost use Rattle.pack_model.specs.reading.Bytes.{bytes_of};
+ghost use Rattle.pack_model.specs.reading.Slots.{item_words, slot_at};
+ghost use Rattle.pack_model.specs.reading.SlotWords.{address_at};
 ghost use Rattle.dir_slots.specs.Inside.{name_of, entry_of};
 ghost use Rattle.dir_slots.specs.Items.{item_of, address_of, IsInRange};
 ghost use Rattle.dir_slots.specs.Laws.{HasStoredName};

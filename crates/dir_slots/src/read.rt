@@ -2,8 +2,8 @@
 ghost use Rattle.std.specs.Prelude.{◌≡◌, ◌≤◌, length, map, All, IfOk, IfSome};
 ghost use Rattle.std.specs.Option.{option_map};
 ghost use Rattle.disk_records.specs.Words.{word};
-ghost use Rattle.pack_model.specs.Slots.{item_words, slot_at, slots, all_words};
-ghost use Rattle.pack_model.specs.SlotWords.{address_at};
+ghost use Rattle.pack_model.specs.reading.Slots.{item_words, slot_at, slots, all_words};
+ghost use Rattle.pack_model.specs.reading.SlotWords.{address_at};
 ghost use Rattle.dir_slots.specs.Items.{item_of, items_of, address_of, addresses_in, IsInRange, HasFreeLength};
 ghost use Rattle.dir_slots.specs.Laws.{HasStoredName};
 

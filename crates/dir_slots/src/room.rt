@@ -1,10 +1,10 @@
 // Room for an entry among the slots of a directory.
 ghost use Rattle.std.specs.Prelude.{◌≡◌, ℕ, ◌+◌, ◌<◌, ◌≤◌, ◌^◌, List, ◌∷◌, ◌++◌, length, All, Some, IfSome, IfNone};
 ghost use Rattle.std.specs.Option.{option_map};
-ghost use Rattle.pack_model.specs.Slots.{Item, item_words, all_words};
-ghost use Rattle.pack_model.specs.Slots.Item.{space};
+ghost use Rattle.pack_model.specs.reading.Slots.{Item, item_words, all_words};
+ghost use Rattle.pack_model.specs.reading.Slots.Item.{space};
 ghost use Rattle.dir_slots.specs.Inside.{AreFree, row_after};
-ghost use Rattle.pack_model.specs.Rooms.{find_room as room_in, room_from, largest_run as most_words};
+ghost use Rattle.pack_model.specs.operations.Rooms.{find_room as room_in, room_from, largest_run as most_words};
 ghost use Rattle.dir_slots.specs.Items.{item_of, items_of, HasFreeLength, room_of};
 
 use crate::slot::{MAX_FREE_WORDS, Slot};

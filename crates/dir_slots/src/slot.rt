@@ -1,6 +1,6 @@
 // A slot of a directory, and how many words it has.
 ghost use Rattle.std.specs.Prelude.{◌≡◌, ◌≤◌, ◌↔◌, IsTrue, length};
-ghost use Rattle.pack_model.specs.Slots.{entry_length};
+ghost use Rattle.pack_model.specs.reading.Slots.{entry_length};
 
 use alto_words::{Fid, Name};
 
@@ -28,7 +28,7 @@ pub enum Slot {
 
 impl Slot {
     ghost use Rattle.std.specs.Prelude.{◌≡◌, ◌↔◌, IsTrue};
-    ghost use Rattle.pack_model.specs.Slots.{item_words};
+    ghost use Rattle.pack_model.specs.reading.Slots.{item_words};
     ghost use Rattle.dir_slots.specs.Items.{item_of, IsInRange};
 
     /// How many words the slot has: 1 to 1,023 of a free one that is in range, 8 to 26 of an entry.

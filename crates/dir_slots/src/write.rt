@@ -1,8 +1,8 @@
 // Slots as the words of a directory.
 ghost use Rattle.std.specs.Prelude.{◌≡◌, ◌≤◌, ◌++◌, true, length, map, All, IfOk, OnOk};
 ghost use Rattle.alto_words.specs.Names.{is_stored_name};
-ghost use Rattle.pack_model.specs.Slots.{slots as items_in, all_words};
-ghost use Rattle.pack_model.specs.SlotWords.{short_name_words, entry_words as words_of_entry, space_words};
+ghost use Rattle.pack_model.specs.reading.Slots.{slots as items_in, all_words};
+ghost use Rattle.pack_model.specs.reading.SlotWords.{short_name_words, entry_words as words_of_entry, space_words};
 ghost use Rattle.dir_slots.specs.Items.{items_of, address_of, addresses_in, slot_words, slots_words, IsInRange};
 ghost use Rattle.dir_slots.specs.Laws.{HasStoredName};
 

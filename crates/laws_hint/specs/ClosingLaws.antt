@@ -2,13 +2,13 @@
 use Rattle.std.specs.Prelude.{Bool, List, [], ℕ, ◌≡◌, ◌≢◌}
 use Rattle.disk_records.specs.Packs.{Pack, after}
 use Rattle.disk_records.specs.declared.records.Event.{Event}
-use Rattle.pack_model.specs.Descriptor.{close_writes}
-use Rattle.pack_model.specs.Links.{LinksTrue}
-use Rattle.pack_model.specs.Model.{read_pack}
-use Rattle.pack_model.specs.Sights.{sights}
-use Rattle.pack_model.specs.Sound.{Clean, Sound, mark_clean, mark_of}
-use Rattle.pack_model.specs.Tables.{HintsTrue, TableTrue}
-use Rattle.pack_model.specs.Whole.{Tidy, Whole}
+use Rattle.pack_model.specs.sessions.Descriptor.{close_writes}
+use Rattle.pack_model.specs.hints.Links.{LinksTrue}
+use Rattle.pack_model.specs.reading.Model.{read_pack}
+use Rattle.pack_model.specs.reading.Sights.{sights}
+use Rattle.pack_model.specs.states.Sound.{Clean, Sound, mark_clean, mark_of}
+use Rattle.pack_model.specs.hints.Tables.{HintsTrue, TableTrue}
+use Rattle.pack_model.specs.states.Whole.{Tidy, Whole}
 use Rattle.laws_operation.specs.DescriptorLaws.{MayClose}
 
 -- the record writes by which this pack is closed, with this map, in these sectors of DiskDescriptor's data pages

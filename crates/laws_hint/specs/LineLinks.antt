@@ -3,14 +3,14 @@ use Rattle.std.specs.Prelude.{Bool, List, Some, ℕ, ◌++◌, ◌≡◌}
 use Rattle.alto_words.specs.Fid.{disk_descriptor}
 use Rattle.disk_records.specs.Packs.{Pack, after, sector_at}
 use Rattle.disk_records.specs.declared.records.Event.{Event}
-use Rattle.pack_model.specs.Descriptor.{open_writes}
-use Rattle.pack_model.specs.Files.{place}
-use Rattle.pack_model.specs.Links.{LinksTrue}
-use Rattle.pack_model.specs.Sights.{sights}
-use Rattle.pack_model.specs.Sound.{mark_of}
-use Rattle.pack_model.specs.Step.{Operation}
-use Rattle.pack_model.specs.Tables.{TableTrue}
-use Rattle.pack_model.specs.Whole.{Tidy, Whole}
+use Rattle.pack_model.specs.sessions.Descriptor.{open_writes}
+use Rattle.pack_model.specs.reading.Files.{place}
+use Rattle.pack_model.specs.hints.Links.{LinksTrue}
+use Rattle.pack_model.specs.reading.Sights.{sights}
+use Rattle.pack_model.specs.states.Sound.{mark_of}
+use Rattle.pack_model.specs.operations.Step.{Operation}
+use Rattle.pack_model.specs.hints.Tables.{TableTrue}
+use Rattle.pack_model.specs.states.Whole.{Tidy, Whole}
 use Rattle.laws_operation.specs.DescriptorLaws.{MayClose}
 use Rattle.laws_line.specs.CutLaws.{Line, does, makes, over, with_serial}
 use Rattle.laws_operation.specs.LinkLaws.{KeepsLinks}

@@ -10,19 +10,19 @@ use Rattle.disk_records.specs.Packs.{Pack, after, is_usable, sector_at}
 use Rattle.disk_records.specs.declared.records.Event.{Event}
 use Rattle.disk_records.specs.declared.records.Page.{Page}
 use Rattle.hint_cache.specs.Bits.{busy_at}
-use Rattle.pack_model.specs.Commands.{Claim, all_claimed, sectors_of}
-use Rattle.pack_model.specs.Descriptor.{close_writes, open_writes, serial_writes}
-use Rattle.pack_model.specs.Entering.{entry_value, values_first}
-use Rattle.pack_model.specs.Files.{place}
-use Rattle.pack_model.specs.Model.{read_pack}
-use Rattle.pack_model.specs.Operations.{cut_writes, drop_writes, enter_writes, go_writes, grow_writes, make_writes}
-use Rattle.pack_model.specs.PageWords.{freed_value}
-use Rattle.pack_model.specs.Sights.{sights}
-use Rattle.pack_model.specs.Slots.{Item, all_words, item_words}
-use Rattle.pack_model.specs.Slots.Item.{entry}
-use Rattle.pack_model.specs.Sound.{mark_of}
-use Rattle.pack_model.specs.Tables.{free_table, true_table}
-use Rattle.pack_model.specs.Whole.{Tidy, Whole}
+use Rattle.pack_model.specs.operations.Commands.{Claim, all_claimed, sectors_of}
+use Rattle.pack_model.specs.sessions.Descriptor.{close_writes, open_writes, serial_writes}
+use Rattle.pack_model.specs.operations.Entering.{entry_value, values_first}
+use Rattle.pack_model.specs.reading.Files.{place}
+use Rattle.pack_model.specs.reading.Model.{read_pack}
+use Rattle.pack_model.specs.operations.Operations.{cut_writes, drop_writes, enter_writes, go_writes, grow_writes, make_writes}
+use Rattle.pack_model.specs.operations.PageWords.{freed_value}
+use Rattle.pack_model.specs.reading.Sights.{sights}
+use Rattle.pack_model.specs.reading.Slots.{Item, all_words, item_words}
+use Rattle.pack_model.specs.reading.Slots.Item.{entry}
+use Rattle.pack_model.specs.states.Sound.{mark_of}
+use Rattle.pack_model.specs.hints.Tables.{free_table, true_table}
+use Rattle.pack_model.specs.states.Whole.{Tidy, Whole}
 use Rattle.laws_record.specs.DirLaws.{Frees}
 use Rattle.laws_operation.specs.ByteLaws.{MayCut, MayGrow, MayPut}
 use Rattle.laws_operation.specs.DescriptorLaws.{MayClose}

@@ -4,8 +4,8 @@ use Rattle.disk_records.specs.Addresses.{pages_of}
 use Rattle.disk_records.specs.Packs.{Pack}
 use Rattle.hint_cache.specs.Bits.{busy_at}
 use Rattle.page_alloc.specs.Free.{IsTrueTable}
-use Rattle.pack_model.specs.Tables.{TableTrue, free_table, true_table}
-use Rattle.pack_model.specs.Whole.{Whole}
+use Rattle.pack_model.specs.hints.Tables.{TableTrue, free_table, true_table}
+use Rattle.pack_model.specs.states.Whole.{Whole}
 
 -- a pack has a sector for each address of its shape
 abbrev pub HasEachSector : Pack → Type 0

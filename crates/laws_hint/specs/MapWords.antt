@@ -5,11 +5,11 @@ use Rattle.disk_records.specs.Addresses.{pages_of, table_words}
 use Rattle.disk_records.specs.Packs.{Pack}
 use Rattle.disk_records.specs.declared.shape.Shape.{Shape}
 use Rattle.hint_cache.specs.Bits.{bits_in, word_of}
-use Rattle.pack_model.specs.Descriptor.{descriptor_text}
-use Rattle.pack_model.specs.Model.{descriptor_words}
-use Rattle.pack_model.specs.Sights.{sights}
-use Rattle.pack_model.specs.Tables.{bits_from, described_table, table_in, words_of_bits}
-use Rattle.pack_model.specs.Whole.{Whole}
+use Rattle.pack_model.specs.sessions.Descriptor.{descriptor_text}
+use Rattle.pack_model.specs.reading.Model.{descriptor_words}
+use Rattle.pack_model.specs.reading.Sights.{sights}
+use Rattle.pack_model.specs.hints.Tables.{bits_from, described_table, table_in, words_of_bits}
+use Rattle.pack_model.specs.states.Whole.{Whole}
 
 -- the first words that a table gives, one by one
 abbrev pub words_given : ℕ → List Bool → List ℕ

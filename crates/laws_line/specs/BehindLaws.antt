@@ -4,14 +4,14 @@ use Rattle.std.specs.Prelude.{All, List, Some, [], false, length, true, ℕ, ◌
 use Rattle.alto_words.specs.Fid.{is_directory, is_system, sys_dir}
 use Rattle.alto_words.specs.declared.fid.Fid.{Fid}
 use Rattle.disk_records.specs.Packs.{Pack}
-use Rattle.pack_model.specs.Bodies.Body.{items_of}
-use Rattle.pack_model.specs.Committing.{pages_for_operations}
-use Rattle.pack_model.specs.Leaders.{Leader}
-use Rattle.pack_model.specs.Model.{Model, read_pack, room}
-use Rattle.pack_model.specs.Rooms.{most_free}
-use Rattle.pack_model.specs.Slots.{Item, item_words}
-use Rattle.pack_model.specs.Step.{Operation}
-use Rattle.pack_model.specs.Step.Operation.{drop_file}
+use Rattle.pack_model.specs.reading.Bodies.Body.{items_of}
+use Rattle.pack_model.specs.operations.Committing.{pages_for_operations}
+use Rattle.pack_model.specs.reading.Leaders.{Leader}
+use Rattle.pack_model.specs.reading.Model.{Model, read_pack, room}
+use Rattle.pack_model.specs.operations.Rooms.{most_free}
+use Rattle.pack_model.specs.reading.Slots.{Item, item_words}
+use Rattle.pack_model.specs.operations.Step.{Operation}
+use Rattle.pack_model.specs.operations.Step.Operation.{drop_file}
 use Rattle.laws_line.specs.LineLaws.{IsEntered, LeaveNames, MayGo, new_file_line, rename_line, with_new_file}
 use Rattle.laws_line.specs.Ready.{ReadyThroughout, Settled, steps_of}
 

@@ -4,21 +4,21 @@ use Rattle.disk_records.specs.declared.records.Event.{Event}
 use Rattle.disk_records.specs.Packs.{Pack, after, sector_at}
 use Rattle.alto_words.specs.Fid.{disk_descriptor}
 use Rattle.alto_words.specs.declared.fid.Fid.{Fid}
-use Rattle.pack_model.specs.Committing.{line_moves, moves_of, moves_of_all, serial_moves}
-use Rattle.pack_model.specs.Descriptor.{open_writes, serial_writes}
-use Rattle.pack_model.specs.Entering.{entry_value, values_first}
-use Rattle.pack_model.specs.Files.{place}
-use Rattle.pack_model.specs.Meanings.{Mendable, viewing}
-use Rattle.pack_model.specs.Model.{read_pack}
-use Rattle.pack_model.specs.Moves.{Obeys}
-use Rattle.pack_model.specs.Operations.{Move, enter_writes}
-use Rattle.pack_model.specs.Scavenging.{Throughout, Unmarked}
-use Rattle.pack_model.specs.Sights.{sights}
-use Rattle.pack_model.specs.Slots.{Item}
-use Rattle.pack_model.specs.Sound.{Sound, mark_of, mark_open}
-use Rattle.pack_model.specs.Step.{Operation, step}
-use Rattle.pack_model.specs.Step.Operation.{enter, make}
-use Rattle.pack_model.specs.Whole.{Tidy, Whole}
+use Rattle.pack_model.specs.operations.Committing.{line_moves, moves_of, moves_of_all, serial_moves}
+use Rattle.pack_model.specs.sessions.Descriptor.{open_writes, serial_writes}
+use Rattle.pack_model.specs.operations.Entering.{entry_value, values_first}
+use Rattle.pack_model.specs.reading.Files.{place}
+use Rattle.pack_model.specs.sessions.Meanings.{Mendable, viewing}
+use Rattle.pack_model.specs.reading.Model.{read_pack}
+use Rattle.pack_model.specs.sessions.Moves.{Obeys}
+use Rattle.pack_model.specs.operations.Operations.{Move, enter_writes}
+use Rattle.pack_model.specs.scavenger.Scavenging.{Throughout, Unmarked}
+use Rattle.pack_model.specs.reading.Sights.{sights}
+use Rattle.pack_model.specs.reading.Slots.{Item}
+use Rattle.pack_model.specs.states.Sound.{Sound, mark_of, mark_open}
+use Rattle.pack_model.specs.operations.Step.{Operation, step}
+use Rattle.pack_model.specs.operations.Step.Operation.{enter, make}
+use Rattle.pack_model.specs.states.Whole.{Tidy, Whole}
 use Rattle.laws_line.specs.Ready.{Ready, ReadyThroughout, steps_of}
 use Rattle.laws_operation.specs.NameLaws.{MayEnterAt, entry_room}
 use Rattle.laws_operation.specs.Outcomes.{CarriesOut}

@@ -6,15 +6,15 @@ use Rattle.alto_words.specs.Fid.{is_system}
 use Rattle.alto_words.specs.Names.{is_same_name}
 use Rattle.alto_words.specs.declared.fid.Fid.{Fid}
 use Rattle.disk_records.specs.Packs.{Pack}
-use Rattle.pack_model.specs.Committing.{length_of, pages_for_operations}
-use Rattle.pack_model.specs.Mended.{HasRoom}
-use Rattle.pack_model.specs.Model.{Model, dir_items, read_pack, room}
-use Rattle.pack_model.specs.Namings.{namings_in}
-use Rattle.pack_model.specs.Slots.{Item}
-use Rattle.pack_model.specs.Slots.Item.{entry}
-use Rattle.pack_model.specs.Sound.{Sound}
-use Rattle.pack_model.specs.Step.{Operation, room_in, spare, step}
-use Rattle.pack_model.specs.Step.Operation.{cut, drop_file, enter, grow, leave, make, put, stamp, title, widen}
+use Rattle.pack_model.specs.operations.Committing.{length_of, pages_for_operations}
+use Rattle.pack_model.specs.scavenger.Mended.{HasRoom}
+use Rattle.pack_model.specs.reading.Model.{Model, dir_items, read_pack, room}
+use Rattle.pack_model.specs.reading.Namings.{namings_in}
+use Rattle.pack_model.specs.reading.Slots.{Item}
+use Rattle.pack_model.specs.reading.Slots.Item.{entry}
+use Rattle.pack_model.specs.states.Sound.{Sound}
+use Rattle.pack_model.specs.operations.Step.{Operation, room_in, spare, step}
+use Rattle.pack_model.specs.operations.Step.Operation.{cut, drop_file, enter, grow, leave, make, put, stamp, title, widen}
 use Rattle.laws_line.specs.Ready.{Ready, ReadyThroughout, Settled, steps_of}
 
 -- ---- what ready models are for

@@ -4,13 +4,13 @@ use Rattle.std.specs.Prelude.{List, ℕ, ◌++◌, ◌↔◌, ◌≡◌}
 use Rattle.disk_records.specs.Events.{IsFirstOf}
 use Rattle.disk_records.specs.Packs.{Pack, after, cut}
 use Rattle.disk_records.specs.declared.records.Event.{Event}
-use Rattle.pack_model.specs.Committing.{line_moves}
-use Rattle.pack_model.specs.Meanings.{Mendable, operating, session, viewing}
-use Rattle.pack_model.specs.Model.{Model}
-use Rattle.pack_model.specs.Moves.{Obeys, steps}
-use Rattle.pack_model.specs.Operations.{Move}
-use Rattle.pack_model.specs.Scavenging.{Throughout}
-use Rattle.pack_model.specs.Step.{Operation}
+use Rattle.pack_model.specs.operations.Committing.{line_moves}
+use Rattle.pack_model.specs.sessions.Meanings.{Mendable, operating, session, viewing}
+use Rattle.pack_model.specs.reading.Model.{Model}
+use Rattle.pack_model.specs.sessions.Moves.{Obeys, steps}
+use Rattle.pack_model.specs.operations.Operations.{Move}
+use Rattle.pack_model.specs.scavenger.Scavenging.{Throughout}
+use Rattle.pack_model.specs.operations.Step.{Operation}
 use Rattle.laws_line.specs.Ready.{steps_of}
 
 -- ---- a property of packs

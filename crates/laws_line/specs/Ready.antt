@@ -3,13 +3,13 @@ use Rattle.std.specs.FinMap.{contains_key, entries, get}
 use Rattle.std.specs.Prelude.{◌+◌, ◌≡◌, ◌⊎◌, ◌≤◌, All, List, Some, [], ◌∷◌, false, length, true}
 use Rattle.alto_words.specs.Fid.{disk_descriptor, is_fid, sys_dir}
 use Rattle.alto_words.specs.declared.fid.Fid.{Fid}
-use Rattle.pack_model.specs.Bodies.{File}
-use Rattle.pack_model.specs.Bodies.Body.{items_of}
-use Rattle.pack_model.specs.Leaders.{Leader}
-use Rattle.pack_model.specs.Model.{IsNamed, Model, descriptor_pages, files_pages, root_items}
-use Rattle.pack_model.specs.Rooms.{largest_run, most_free}
-use Rattle.pack_model.specs.Slots.{Item, item_words}
-use Rattle.pack_model.specs.Step.{Operation, longest_entry, step}
+use Rattle.pack_model.specs.reading.Bodies.{File}
+use Rattle.pack_model.specs.reading.Bodies.Body.{items_of}
+use Rattle.pack_model.specs.reading.Leaders.{Leader}
+use Rattle.pack_model.specs.reading.Model.{IsNamed, Model, descriptor_pages, files_pages, root_items}
+use Rattle.pack_model.specs.operations.Rooms.{largest_run, most_free}
+use Rattle.pack_model.specs.reading.Slots.{Item, item_words}
+use Rattle.pack_model.specs.operations.Step.{Operation, longest_entry, step}
 
 -- ---- names
 -- Each file but this one has a name, and so has each system file.

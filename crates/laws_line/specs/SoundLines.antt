@@ -5,18 +5,18 @@ use Rattle.alto_words.specs.Fid.{disk_descriptor, is_system}
 use Rattle.alto_words.specs.declared.fid.Fid.{Fid}
 use Rattle.disk_records.specs.Packs.{Pack, after, sector_at}
 use Rattle.disk_records.specs.declared.records.Event.{Event}
-use Rattle.pack_model.specs.Committing.{line_moves, pages_for_operations}
-use Rattle.pack_model.specs.Descriptor.{open_writes}
-use Rattle.pack_model.specs.Files.{place}
-use Rattle.pack_model.specs.InUse.{free_sectors}
-use Rattle.pack_model.specs.Meanings.{Mendable, operating, session}
-use Rattle.pack_model.specs.Model.{Model, read_pack}
-use Rattle.pack_model.specs.Moves.{Obeys}
-use Rattle.pack_model.specs.Scavenging.{Throughout, Unmarked}
-use Rattle.pack_model.specs.Sights.{sights}
-use Rattle.pack_model.specs.Sound.{Sound, mark_of}
-use Rattle.pack_model.specs.Step.{Operation}
-use Rattle.pack_model.specs.Step.Operation.{drop_file}
+use Rattle.pack_model.specs.operations.Committing.{line_moves, pages_for_operations}
+use Rattle.pack_model.specs.sessions.Descriptor.{open_writes}
+use Rattle.pack_model.specs.reading.Files.{place}
+use Rattle.pack_model.specs.states.InUse.{free_sectors}
+use Rattle.pack_model.specs.sessions.Meanings.{Mendable, operating, session}
+use Rattle.pack_model.specs.reading.Model.{Model, read_pack}
+use Rattle.pack_model.specs.sessions.Moves.{Obeys}
+use Rattle.pack_model.specs.scavenger.Scavenging.{Throughout, Unmarked}
+use Rattle.pack_model.specs.reading.Sights.{sights}
+use Rattle.pack_model.specs.states.Sound.{Sound, mark_of}
+use Rattle.pack_model.specs.operations.Step.{Operation}
+use Rattle.pack_model.specs.operations.Step.Operation.{drop_file}
 use Rattle.laws_line.specs.BehindLaws.{IsDirectory}
 use Rattle.laws_line.specs.LineLaws.{IsEntered, LeaveNames, MayGo, new_file_line, rename_line, with_new_file}
 use Rattle.laws_line.specs.Ready.{steps_of}

@@ -8,12 +8,12 @@ use Rattle.disk_records.specs.declared.records.Event.TheVariants.{Shown, Wrote}
 use Rattle.disk_records.specs.declared.records.Page.{Page}
 use Rattle.disk_records.specs.Labels.{page_of}
 use Rattle.disk_records.specs.Packs.{Pack, carried, sector_at}
-use Rattle.pack_model.specs.Commands.{Claim}
-use Rattle.pack_model.specs.Entering.{entry_value, values_first}
-use Rattle.pack_model.specs.Leaders.{Leader}
-use Rattle.pack_model.specs.Operations.{cut_writes, drop_writes, enter_writes, go_writes, grow_writes, make_writes}
-use Rattle.pack_model.specs.Slots.{Item}
-use Rattle.pack_model.specs.Whole.{Whole}
+use Rattle.pack_model.specs.operations.Commands.{Claim}
+use Rattle.pack_model.specs.operations.Entering.{entry_value, values_first}
+use Rattle.pack_model.specs.reading.Leaders.{Leader}
+use Rattle.pack_model.specs.operations.Operations.{cut_writes, drop_writes, enter_writes, go_writes, grow_writes, make_writes}
+use Rattle.pack_model.specs.reading.Slots.{Item}
+use Rattle.pack_model.specs.states.Whole.{Whole}
 use Rattle.laws_record.specs.DirLaws.{Frees}
 use Rattle.laws_operation.specs.ByteLaws.{MayCut, MayGrow, MayPut}
 use Rattle.laws_operation.specs.LeaderLaws.{MayWriteLeader}

@@ -4,7 +4,7 @@
 
 ghost use Rattle.laws_line.specs.PartLaws.{CrashByCrash, CrashesOfBothParts, CrashesOfParts, LineMovesLeadToTheModel, ViewedAndMendableInSession, ViewedAndMendableOperates};
 ghost use Rattle.disk_records.specs.Packs.{Pack};
-ghost use Rattle.pack_model.specs.Meanings.{Mendable};
+ghost use Rattle.pack_model.specs.sessions.Meanings.{Mendable};
 
 /// A property of packs, of which the laws are stated. It has no functions.
 pub trait Property {

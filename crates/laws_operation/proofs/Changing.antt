@@ -4,14 +4,14 @@ use Rattle.std.proofs.lemmas.List.{get_or-set_same, length-append}
 use Rattle.alto_words.specs.Fid.{disk_descriptor, is_directory, is_fid}
 use Rattle.alto_words.specs.declared.fid.Fid.{Fid}
 use Rattle.disk_records.specs.declared.shape.Shape.{Shape}
-use Rattle.pack_model.specs.Bodies.{File}
-use Rattle.pack_model.specs.Files.{file_bytes, leader, most_pages}
-use Rattle.pack_model.specs.Leaders.{Leader}
-use Rattle.pack_model.specs.Model.{good_one, read_sights}
-use Rattle.pack_model.specs.Sights.{Sight}
-use Rattle.pack_model.specs.Sights.Sight.{hidden, holds, leads}
-use Rattle.pack_model.specs.Step.{update_file}
-use Rattle.pack_model.specs.Whole.{Carries, FileWhole, IsLaid, IsSeat, Leads, PageAt, TidySights, WholeSights, absent, present}
+use Rattle.pack_model.specs.reading.Bodies.{File}
+use Rattle.pack_model.specs.reading.Files.{file_bytes, leader, most_pages}
+use Rattle.pack_model.specs.reading.Leaders.{Leader}
+use Rattle.pack_model.specs.reading.Model.{good_one, read_sights}
+use Rattle.pack_model.specs.reading.Sights.{Sight}
+use Rattle.pack_model.specs.reading.Sights.Sight.{hidden, holds, leads}
+use Rattle.pack_model.specs.operations.Step.{update_file}
+use Rattle.pack_model.specs.states.Whole.{Carries, FileWhole, IsLaid, IsSeat, Leads, PageAt, TidySights, WholeSights, absent, present}
 use Rattle.laws_record.proofs.Keeping.{plain}
 use Rattle.laws_operation.proofs.inside.Elsewhere.{MayBe, SameBut, same_set}
 use Rattle.laws_operation.proofs.Lying.{bytes_laid, seated_right, shows_set, within}

@@ -11,16 +11,16 @@ use Rattle.disk_records.specs.Packs.{Pack, after, cut, sector_at}
 use Rattle.disk_records.specs.declared.records.Event.{Event}
 use Rattle.disk_records.specs.declared.records.Event.TheVariants.{Wrote}
 use Rattle.disk_records.specs.declared.shape.Shape.{Shape}
-use Rattle.pack_model.specs.Commands.{values_writes}
-use Rattle.pack_model.specs.Descriptor.{closed_values, descriptor_value}
-use Rattle.pack_model.specs.Meanings.{meaning, reading}
-use Rattle.pack_model.specs.Model.{Model, read_pack}
-use Rattle.pack_model.specs.Moves.{Meaning, Obeys, rest, steps, write}
-use Rattle.pack_model.specs.Operations.{Move, quiet_moves}
-use Rattle.pack_model.specs.Operations.Move.{quiet}
-use Rattle.pack_model.specs.Sights.{sights}
-use Rattle.pack_model.specs.Sound.{mark_clean, mark_of}
-use Rattle.pack_model.specs.Whole.{Tidy, Whole}
+use Rattle.pack_model.specs.operations.Commands.{values_writes}
+use Rattle.pack_model.specs.sessions.Descriptor.{closed_values, descriptor_value}
+use Rattle.pack_model.specs.sessions.Meanings.{meaning, reading}
+use Rattle.pack_model.specs.reading.Model.{Model, read_pack}
+use Rattle.pack_model.specs.sessions.Moves.{Meaning, Obeys, rest, steps, write}
+use Rattle.pack_model.specs.operations.Operations.{Move, quiet_moves}
+use Rattle.pack_model.specs.operations.Operations.Move.{quiet}
+use Rattle.pack_model.specs.reading.Sights.{sights}
+use Rattle.pack_model.specs.states.Sound.{mark_clean, mark_of}
+use Rattle.pack_model.specs.states.Whole.{Tidy, Whole}
 use Rattle.pack_laws.proofs.Moving.{obeys_cut, obeys_then, stands_last}
 use Rattle.laws_operation.proofs.inside.Closed.{Marks, close_value_size, first_page}
 use Rattle.laws_operation.proofs.inside.Closing.{Mid, later_page, mid_itself, mid_twice}

@@ -5,14 +5,14 @@ use Rattle.disk_records.specs.Commands.{claim_writes, ones, relabel_writes, rele
 use Rattle.disk_records.specs.Labels.{in_range, is_free, page_of, tag}
 use Rattle.disk_records.specs.Packs.{Pack, after, is_usable, no_sector, sector_at, with_part}
 use Rattle.disk_records.specs.declared.records.Event.TheVariants.{Wrote}
-use Rattle.pack_model.specs.Committing.{MakesMove}
-use Rattle.pack_model.specs.Meanings.{reading}
-use Rattle.pack_model.specs.Model.{Model, good_one, read_pack, read_sights}
-use Rattle.pack_model.specs.Moves.{Obeys, rest, write}
-use Rattle.pack_model.specs.Operations.{Move, moved}
-use Rattle.pack_model.specs.Operations.Move.{quiet}
-use Rattle.pack_model.specs.Sights.{Sight, sight, sights, tag_sight}
-use Rattle.pack_model.specs.Sights.Sight.{free, hidden}
+use Rattle.pack_model.specs.operations.Committing.{MakesMove}
+use Rattle.pack_model.specs.sessions.Meanings.{reading}
+use Rattle.pack_model.specs.reading.Model.{Model, good_one, read_pack, read_sights}
+use Rattle.pack_model.specs.sessions.Moves.{Obeys, rest, write}
+use Rattle.pack_model.specs.operations.Operations.{Move, moved}
+use Rattle.pack_model.specs.operations.Operations.Move.{quiet}
+use Rattle.pack_model.specs.reading.Sights.{Sight, sight, sights, tag_sight}
+use Rattle.pack_model.specs.reading.Sights.Sight.{free, hidden}
 use Rattle.pack_laws.proofs.Guarding.{free_shown, here_written, other_kept}
 use Rattle.pack_laws.proofs.Sighted.{sights-write}
 use Rattle.laws_record.proofs.Unseen.{sights_kept}

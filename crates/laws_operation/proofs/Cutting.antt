@@ -8,21 +8,21 @@ use Rattle.disk_records.proofs.Growing.{after-append}
 use Rattle.disk_records.specs.Commands.{relabel_writes}
 use Rattle.disk_records.specs.Labels.{Tag, tag}
 use Rattle.disk_records.specs.Packs.{Pack, after, sector_at}
-use Rattle.pack_model.specs.Bytes.{bytes_of}
-use Rattle.pack_model.specs.Commands.{releases_writes, sectors_of}
-use Rattle.pack_model.specs.Committing.{length_of, moves_of, pages_cut}
-use Rattle.pack_model.specs.Files.{file_bytes, most_pages}
-use Rattle.pack_model.specs.Meanings.{reading}
-use Rattle.pack_model.specs.Model.{Model, good_one, read_pack, read_sights}
-use Rattle.pack_model.specs.Moves.{Obeys, steps}
-use Rattle.pack_model.specs.Operations.{cut_moves, cut_writes}
-use Rattle.pack_model.specs.Operations.Move.{commits, quiet}
-use Rattle.pack_model.specs.PageWords.{page_number}
-use Rattle.pack_model.specs.Sights.{Sight, sights, tag_sight}
-use Rattle.pack_model.specs.Sights.Sight.{hidden, holds, leads}
-use Rattle.pack_model.specs.Step.{Operation, on_bytes, step}
-use Rattle.pack_model.specs.Step.Operation.{cut}
-use Rattle.pack_model.specs.Whole.{Carries, IsLaid, Leads, PageAt, Seated, Tidy, Whole, present}
+use Rattle.pack_model.specs.reading.Bytes.{bytes_of}
+use Rattle.pack_model.specs.operations.Commands.{releases_writes, sectors_of}
+use Rattle.pack_model.specs.operations.Committing.{length_of, moves_of, pages_cut}
+use Rattle.pack_model.specs.reading.Files.{file_bytes, most_pages}
+use Rattle.pack_model.specs.sessions.Meanings.{reading}
+use Rattle.pack_model.specs.reading.Model.{Model, good_one, read_pack, read_sights}
+use Rattle.pack_model.specs.sessions.Moves.{Obeys, steps}
+use Rattle.pack_model.specs.operations.Operations.{cut_moves, cut_writes}
+use Rattle.pack_model.specs.operations.Operations.Move.{commits, quiet}
+use Rattle.pack_model.specs.operations.PageWords.{page_number}
+use Rattle.pack_model.specs.reading.Sights.{Sight, sights, tag_sight}
+use Rattle.pack_model.specs.reading.Sights.Sight.{hidden, holds, leads}
+use Rattle.pack_model.specs.operations.Step.{Operation, on_bytes, step}
+use Rattle.pack_model.specs.operations.Step.Operation.{cut}
+use Rattle.pack_model.specs.states.Whole.{Carries, IsLaid, Leads, PageAt, Seated, Tidy, Whole, present}
 use Rattle.pack_laws.proofs.Guarding.{named_shown}
 use Rattle.pack_laws.proofs.Moving.{obeys_then}
 use Rattle.pack_laws.proofs.Placing.{page_of_place}

@@ -6,17 +6,17 @@ use Rattle.std.specs.List.{list_any}
 use Rattle.alto_words.specs.Fid.{disk_descriptor, is_fid, is_system, sys_dir}
 use Rattle.alto_words.specs.declared.fid.Fid.{Fid}
 use Rattle.disk_records.specs.Packs.{Pack}
-use Rattle.pack_model.specs.Bodies.{described}
-use Rattle.pack_model.specs.Bytes.{put_at, words_of}
-use Rattle.pack_model.specs.Files.{file_bytes, lives}
-use Rattle.pack_model.specs.Leaders.{Leader}
-use Rattle.pack_model.specs.Links.{dir_words}
-use Rattle.pack_model.specs.Model.{IsNamed, read_pack, read_sights}
-use Rattle.pack_model.specs.Namings.{IsTidy, namings}
-use Rattle.pack_model.specs.Sights.{sights}
-use Rattle.pack_model.specs.Sights.Sight.{hidden, holds, leads}
-use Rattle.pack_model.specs.Slots.{Item, Reads, SlotsReachEnd, all_words, slots}
-use Rattle.pack_model.specs.Whole.{Tidy, TidySights, Whole, WholeSights}
+use Rattle.pack_model.specs.reading.Bodies.{described}
+use Rattle.pack_model.specs.reading.Bytes.{put_at, words_of}
+use Rattle.pack_model.specs.reading.Files.{file_bytes, lives}
+use Rattle.pack_model.specs.reading.Leaders.{Leader}
+use Rattle.pack_model.specs.hints.Links.{dir_words}
+use Rattle.pack_model.specs.reading.Model.{IsNamed, read_pack, read_sights}
+use Rattle.pack_model.specs.reading.Namings.{IsTidy, namings}
+use Rattle.pack_model.specs.reading.Sights.{sights}
+use Rattle.pack_model.specs.reading.Sights.Sight.{hidden, holds, leads}
+use Rattle.pack_model.specs.reading.Slots.{Item, Reads, SlotsReachEnd, all_words, slots}
+use Rattle.pack_model.specs.states.Whole.{Tidy, TidySights, Whole, WholeSights}
 use Rattle.pack_laws.proofs.Bytes.{length-put_at}
 use Rattle.laws_record.proofs.DirWords.{new_bytes, new_size, page_by_bytes, written_sights, written_words}
 use Rattle.laws_record.proofs.Entered.{directory}

@@ -7,25 +7,25 @@ use Rattle.alto_words.specs.declared.fid.Fid.{Fid}
 use Rattle.disk_records.proofs.Growing.{after-append}
 use Rattle.disk_records.specs.Commands.{ones, release_writes}
 use Rattle.disk_records.specs.Packs.{Pack, after, sector_at}
-use Rattle.pack_model.specs.Bodies.{Body, File, body_items, body_length, described, found, is_described, items_in}
-use Rattle.pack_model.specs.Bodies.Body.{data_of, items_of}
-use Rattle.pack_model.specs.Bytes.{words_of}
-use Rattle.pack_model.specs.Commands.{releases_writes, sectors_of}
-use Rattle.pack_model.specs.Committing.{length_in, length_of, page_of_byte}
-use Rattle.pack_model.specs.Files.{file_bytes, leader, lives}
-use Rattle.pack_model.specs.Leaders.{Leader}
-use Rattle.pack_model.specs.Meanings.{reading}
-use Rattle.pack_model.specs.Model.{Model, good_one, read_pack, read_sights}
-use Rattle.pack_model.specs.Moves.{Obeys, steps}
-use Rattle.pack_model.specs.Namings.{body_namings, namings_in}
-use Rattle.pack_model.specs.Operations.{go_moves, go_writes}
-use Rattle.pack_model.specs.Operations.Move.{commits, quiet}
-use Rattle.pack_model.specs.Sights.{Sight, sights}
-use Rattle.pack_model.specs.Sights.Sight.{free, hidden, holds, leads}
-use Rattle.pack_model.specs.Slots.{all_words, slots}
-use Rattle.pack_model.specs.Step.{Operation, step}
-use Rattle.pack_model.specs.Step.Operation.{drop_file}
-use Rattle.pack_model.specs.Whole.{Carries, Headless, PageAt, Tidy, TidyBut, Whole, absent}
+use Rattle.pack_model.specs.reading.Bodies.{Body, File, body_items, body_length, described, found, is_described, items_in}
+use Rattle.pack_model.specs.reading.Bodies.Body.{data_of, items_of}
+use Rattle.pack_model.specs.reading.Bytes.{words_of}
+use Rattle.pack_model.specs.operations.Commands.{releases_writes, sectors_of}
+use Rattle.pack_model.specs.operations.Committing.{length_in, length_of, page_of_byte}
+use Rattle.pack_model.specs.reading.Files.{file_bytes, leader, lives}
+use Rattle.pack_model.specs.reading.Leaders.{Leader}
+use Rattle.pack_model.specs.sessions.Meanings.{reading}
+use Rattle.pack_model.specs.reading.Model.{Model, good_one, read_pack, read_sights}
+use Rattle.pack_model.specs.sessions.Moves.{Obeys, steps}
+use Rattle.pack_model.specs.reading.Namings.{body_namings, namings_in}
+use Rattle.pack_model.specs.operations.Operations.{go_moves, go_writes}
+use Rattle.pack_model.specs.operations.Operations.Move.{commits, quiet}
+use Rattle.pack_model.specs.reading.Sights.{Sight, sights}
+use Rattle.pack_model.specs.reading.Sights.Sight.{free, hidden, holds, leads}
+use Rattle.pack_model.specs.reading.Slots.{all_words, slots}
+use Rattle.pack_model.specs.operations.Step.{Operation, step}
+use Rattle.pack_model.specs.operations.Step.Operation.{drop_file}
+use Rattle.pack_model.specs.states.Whole.{Carries, Headless, PageAt, Tidy, TidyBut, Whole, absent}
 use Rattle.pack_laws.proofs.Guarding.{ones_free}
 use Rattle.pack_laws.proofs.Moving.{obeys_then, stands_last}
 use Rattle.pack_laws.proofs.Placing.{leader_of_place}

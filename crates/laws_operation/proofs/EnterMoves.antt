@@ -6,21 +6,21 @@ use Rattle.disk_records.proofs.Growing.{after-append}
 use Rattle.disk_records.specs.Commands.{value_writes}
 use Rattle.disk_records.specs.Packs.{after, sector_at}
 use Rattle.disk_records.specs.declared.records.Event.{Event}
-use Rattle.pack_model.specs.Bytes.{put_at}
-use Rattle.pack_model.specs.Commands.{values_writes}
-use Rattle.pack_model.specs.Committing.{moves_of, page_of_word, units, values_before}
-use Rattle.pack_model.specs.Entering.{EntryRoom, entry_value, joined, joining, overlapping, values_first}
-use Rattle.pack_model.specs.InUse.{one_if}
-use Rattle.pack_model.specs.Meanings.{viewing}
-use Rattle.pack_model.specs.Model.{Model, dir_items, read_pack}
-use Rattle.pack_model.specs.Moves.{Obeys, steps}
-use Rattle.pack_model.specs.Operations.{enter_moves, enter_writes}
-use Rattle.pack_model.specs.PageWords.{in_page, near}
-use Rattle.pack_model.specs.Rooms.{find_room}
-use Rattle.pack_model.specs.Slots.{Item, all_words, entry_length, item_words}
-use Rattle.pack_model.specs.Slots.Item.{space}
-use Rattle.pack_model.specs.Step.{Operation, step}
-use Rattle.pack_model.specs.Step.Operation.{enter}
+use Rattle.pack_model.specs.reading.Bytes.{put_at}
+use Rattle.pack_model.specs.operations.Commands.{values_writes}
+use Rattle.pack_model.specs.operations.Committing.{moves_of, page_of_word, units, values_before}
+use Rattle.pack_model.specs.operations.Entering.{EntryRoom, entry_value, joined, joining, overlapping, values_first}
+use Rattle.pack_model.specs.states.InUse.{one_if}
+use Rattle.pack_model.specs.sessions.Meanings.{viewing}
+use Rattle.pack_model.specs.reading.Model.{Model, dir_items, read_pack}
+use Rattle.pack_model.specs.sessions.Moves.{Obeys, steps}
+use Rattle.pack_model.specs.operations.Operations.{enter_moves, enter_writes}
+use Rattle.pack_model.specs.operations.PageWords.{in_page, near}
+use Rattle.pack_model.specs.operations.Rooms.{find_room}
+use Rattle.pack_model.specs.reading.Slots.{Item, all_words, entry_length, item_words}
+use Rattle.pack_model.specs.reading.Slots.Item.{space}
+use Rattle.pack_model.specs.operations.Step.{Operation, step}
+use Rattle.pack_model.specs.operations.Step.Operation.{enter}
 use Rattle.pack_laws.proofs.Moving.{obeys_cut}
 use Rattle.laws_record.proofs.Addressing.{entry_words_many}
 use Rattle.laws_record.proofs.DirReads.{not_descriptor}

@@ -9,25 +9,25 @@ use Rattle.disk_records.specs.Commands.{value_writes}
 use Rattle.disk_records.specs.Packs.{Pack, after, sector_at}
 use Rattle.disk_records.specs.declared.records.Event.{Event}
 use Rattle.disk_records.specs.declared.records.Event.TheVariants.{Wrote}
-use Rattle.pack_model.specs.Bodies.{Files, described}
-use Rattle.pack_model.specs.Bytes.{put_at}
-use Rattle.pack_model.specs.Files.{leader, lives}
-use Rattle.pack_model.specs.Leaders.{Leader}
-use Rattle.pack_model.specs.Links.{dir_words}
-use Rattle.pack_model.specs.Maps.{update_found}
-use Rattle.pack_model.specs.Meanings.{reading, viewing}
-use Rattle.pack_model.specs.Model.{Model, read_pack, read_sights}
-use Rattle.pack_model.specs.Moves.{Obeys, rest, write}
-use Rattle.pack_model.specs.Namings.{AllKept, IsTidy, is_kept, namings, namings_in, tidied}
-use Rattle.pack_model.specs.Operations.{Move, enter_moves}
-use Rattle.pack_model.specs.Operations.Move.{commits, mends, quiet}
-use Rattle.pack_model.specs.PageWords.{in_page}
-use Rattle.pack_model.specs.Sights.{Sight, sights}
-use Rattle.pack_model.specs.Slots.{Item, all_words, slots}
-use Rattle.pack_model.specs.Slots.Item.{space}
-use Rattle.pack_model.specs.Step.{Operation, on_items, step, update_file}
-use Rattle.pack_model.specs.View.{view}
-use Rattle.pack_model.specs.Whole.{Tidy, Whole}
+use Rattle.pack_model.specs.reading.Bodies.{Files, described}
+use Rattle.pack_model.specs.reading.Bytes.{put_at}
+use Rattle.pack_model.specs.reading.Files.{leader, lives}
+use Rattle.pack_model.specs.reading.Leaders.{Leader}
+use Rattle.pack_model.specs.hints.Links.{dir_words}
+use Rattle.pack_model.specs.sessions.Maps.{update_found}
+use Rattle.pack_model.specs.sessions.Meanings.{reading, viewing}
+use Rattle.pack_model.specs.reading.Model.{Model, read_pack, read_sights}
+use Rattle.pack_model.specs.sessions.Moves.{Obeys, rest, write}
+use Rattle.pack_model.specs.reading.Namings.{AllKept, IsTidy, is_kept, namings, namings_in, tidied}
+use Rattle.pack_model.specs.operations.Operations.{Move, enter_moves}
+use Rattle.pack_model.specs.operations.Operations.Move.{commits, mends, quiet}
+use Rattle.pack_model.specs.operations.PageWords.{in_page}
+use Rattle.pack_model.specs.reading.Sights.{Sight, sights}
+use Rattle.pack_model.specs.reading.Slots.{Item, all_words, slots}
+use Rattle.pack_model.specs.reading.Slots.Item.{space}
+use Rattle.pack_model.specs.operations.Step.{Operation, on_items, step, update_file}
+use Rattle.pack_model.specs.showing.View.{view}
+use Rattle.pack_model.specs.states.Whole.{Tidy, Whole}
 use Rattle.pack_laws.proofs.Bytes.{length-put_at}
 use Rattle.pack_laws.proofs.Keys.{fid_total, is_fid-itself}
 use Rattle.laws_record.proofs.Addressing.{LooseIn, slots_kept}

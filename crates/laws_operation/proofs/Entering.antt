@@ -11,24 +11,24 @@ use Rattle.alto_words.specs.declared.fid.Fid.{Fid}
 use Rattle.disk_records.specs.Commands.{value_writes}
 use Rattle.disk_records.specs.Packs.{Pack, after, sector_at}
 use Rattle.disk_records.specs.declared.records.Event.{Event}
-use Rattle.pack_model.specs.Bytes.{put_at}
-use Rattle.pack_model.specs.Commands.{values_writes}
-use Rattle.pack_model.specs.Committing.{page_of_word}
-use Rattle.pack_model.specs.Entering.{overlapping}
-use Rattle.pack_model.specs.Files.{carries_page, lives, place}
-use Rattle.pack_model.specs.Links.{dir_words}
-use Rattle.pack_model.specs.Meanings.{reading}
-use Rattle.pack_model.specs.Model.{dir_items}
-use Rattle.pack_model.specs.Namings.{clashes, namings}
-use Rattle.pack_model.specs.PageWords.{in_page, later, near}
-use Rattle.pack_model.specs.Rooms.{find_room}
-use Rattle.pack_model.specs.Sights.{sights}
-use Rattle.pack_model.specs.Sights.Sight.{hidden, holds}
-use Rattle.pack_model.specs.Slots.{Item, all_words, entry_length, slots}
-use Rattle.pack_model.specs.Slots.Item.{space}
-use Rattle.pack_model.specs.Step.{Operation}
-use Rattle.pack_model.specs.Step.Operation.{enter}
-use Rattle.pack_model.specs.Whole.{Tidy, Whole}
+use Rattle.pack_model.specs.reading.Bytes.{put_at}
+use Rattle.pack_model.specs.operations.Commands.{values_writes}
+use Rattle.pack_model.specs.operations.Committing.{page_of_word}
+use Rattle.pack_model.specs.operations.Entering.{overlapping}
+use Rattle.pack_model.specs.reading.Files.{carries_page, lives, place}
+use Rattle.pack_model.specs.hints.Links.{dir_words}
+use Rattle.pack_model.specs.sessions.Meanings.{reading}
+use Rattle.pack_model.specs.reading.Model.{dir_items}
+use Rattle.pack_model.specs.reading.Namings.{clashes, namings}
+use Rattle.pack_model.specs.operations.PageWords.{in_page, later, near}
+use Rattle.pack_model.specs.operations.Rooms.{find_room}
+use Rattle.pack_model.specs.reading.Sights.{sights}
+use Rattle.pack_model.specs.reading.Sights.Sight.{hidden, holds}
+use Rattle.pack_model.specs.reading.Slots.{Item, all_words, entry_length, slots}
+use Rattle.pack_model.specs.reading.Slots.Item.{space}
+use Rattle.pack_model.specs.operations.Step.{Operation}
+use Rattle.pack_model.specs.operations.Step.Operation.{enter}
+use Rattle.pack_model.specs.states.Whole.{Tidy, Whole}
 use Rattle.pack_laws.proofs.Moving.{stands_last}
 use Rattle.pack_laws.proofs.Placing.{place_same}
 use Rattle.laws_record.proofs.Addressing.{LooseIn, entry_words_many}

@@ -9,25 +9,25 @@ use Rattle.disk_records.specs.Commands.{value_writes}
 use Rattle.disk_records.specs.Packs.{Pack, after, sector_at}
 use Rattle.disk_records.specs.Words.{word}
 use Rattle.disk_records.specs.declared.records.Event.{Event}
-use Rattle.pack_model.specs.Bodies.{Files, described}
-use Rattle.pack_model.specs.Bytes.{put_at}
-use Rattle.pack_model.specs.Committing.{page_of_word, room_place}
-use Rattle.pack_model.specs.Files.{lives, place}
-use Rattle.pack_model.specs.Leaders.{Leader}
-use Rattle.pack_model.specs.Links.{dir_words}
-use Rattle.pack_model.specs.Meanings.{reading}
-use Rattle.pack_model.specs.Model.{dir_items, read_pack, read_sights}
-use Rattle.pack_model.specs.Moves.{Obeys, rest, write}
-use Rattle.pack_model.specs.Namings.{IsTidy, Naming, clashes, may_stand, namings}
-use Rattle.pack_model.specs.Operations.{one_move}
-use Rattle.pack_model.specs.PageWords.{in_page}
-use Rattle.pack_model.specs.Rooms.{find_room, left_over}
-use Rattle.pack_model.specs.Sights.{Sight, sights}
-use Rattle.pack_model.specs.Slots.{Item, all_words, entry_length, item_words, slot_of, slots}
-use Rattle.pack_model.specs.Slots.Item.{entry, space}
-use Rattle.pack_model.specs.Step.{Operation}
-use Rattle.pack_model.specs.Step.Operation.{enter}
-use Rattle.pack_model.specs.Whole.{Tidy, Whole}
+use Rattle.pack_model.specs.reading.Bodies.{Files, described}
+use Rattle.pack_model.specs.reading.Bytes.{put_at}
+use Rattle.pack_model.specs.operations.Committing.{page_of_word, room_place}
+use Rattle.pack_model.specs.reading.Files.{lives, place}
+use Rattle.pack_model.specs.reading.Leaders.{Leader}
+use Rattle.pack_model.specs.hints.Links.{dir_words}
+use Rattle.pack_model.specs.sessions.Meanings.{reading}
+use Rattle.pack_model.specs.reading.Model.{dir_items, read_pack, read_sights}
+use Rattle.pack_model.specs.sessions.Moves.{Obeys, rest, write}
+use Rattle.pack_model.specs.reading.Namings.{IsTidy, Naming, clashes, may_stand, namings}
+use Rattle.pack_model.specs.operations.Operations.{one_move}
+use Rattle.pack_model.specs.operations.PageWords.{in_page}
+use Rattle.pack_model.specs.operations.Rooms.{find_room, left_over}
+use Rattle.pack_model.specs.reading.Sights.{Sight, sights}
+use Rattle.pack_model.specs.reading.Slots.{Item, all_words, entry_length, item_words, slot_of, slots}
+use Rattle.pack_model.specs.reading.Slots.Item.{entry, space}
+use Rattle.pack_model.specs.operations.Step.{Operation}
+use Rattle.pack_model.specs.operations.Step.Operation.{enter}
+use Rattle.pack_model.specs.states.Whole.{Tidy, Whole}
 use Rattle.pack_laws.proofs.Bytes.{put_at-later}
 use Rattle.laws_record.proofs.Addressing.{LooseIn}
 use Rattle.laws_record.proofs.Addressing.{entry_words_many}

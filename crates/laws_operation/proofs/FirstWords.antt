@@ -5,12 +5,12 @@ use Rattle.disk_records.specs.Addresses.{descriptor_length}
 use Rattle.disk_records.specs.Commands.{value_writes}
 use Rattle.disk_records.specs.Labels.{tag}
 use Rattle.disk_records.specs.Packs.{Pack, after, sector_at}
-use Rattle.pack_model.specs.Bytes.{bytes_of, put_at, words_of}
-use Rattle.pack_model.specs.Files.{file_bytes, lives, place}
-use Rattle.pack_model.specs.Model.{descriptor_words, is_named, last_serial, read_pack, read_sights}
-use Rattle.pack_model.specs.Sights.{Sight, sights}
-use Rattle.pack_model.specs.Sights.Sight.{hidden, holds}
-use Rattle.pack_model.specs.Whole.{PageAt, SaysShape, Tidy, TidySights, Whole, WholeSights}
+use Rattle.pack_model.specs.reading.Bytes.{bytes_of, put_at, words_of}
+use Rattle.pack_model.specs.reading.Files.{file_bytes, lives, place}
+use Rattle.pack_model.specs.reading.Model.{descriptor_words, is_named, last_serial, read_pack, read_sights}
+use Rattle.pack_model.specs.reading.Sights.{Sight, sights}
+use Rattle.pack_model.specs.reading.Sights.Sight.{hidden, holds}
+use Rattle.pack_model.specs.states.Whole.{PageAt, SaysShape, Tidy, TidySights, Whole, WholeSights}
 use Rattle.pack_laws.proofs.Bytes.{length-bytes_of, length-put_at, length-words_of, take-put_at}
 use Rattle.pack_laws.proofs.Placing.{page_of_place}
 use Rattle.laws_record.proofs.DirWords.{put_bytes, put_words}

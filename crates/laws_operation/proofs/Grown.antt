@@ -7,21 +7,21 @@ use Rattle.disk_records.specs.Labels.{Tag, page_of, tag}
 use Rattle.disk_records.specs.Packs.{Pack, after, sector_at}
 use Rattle.disk_records.specs.Words.{word}
 use Rattle.disk_records.specs.declared.records.Event.TheVariants.{Wrote}
-use Rattle.pack_model.specs.Bytes.{bytes_of}
-use Rattle.pack_model.specs.Commands.{Claim, Claimable, all_claimed, claims_writes}
-use Rattle.pack_model.specs.Committing.{MakesMove, length_of, moves_of, page_of_byte, pages_added}
-use Rattle.pack_model.specs.Files.{file_bytes, most_pages, place}
-use Rattle.pack_model.specs.Meanings.{reading}
-use Rattle.pack_model.specs.Model.{good_one, read_pack}
-use Rattle.pack_model.specs.Moves.{Obeys, steps}
-use Rattle.pack_model.specs.Operations.{grow_moves, grow_writes}
-use Rattle.pack_model.specs.Operations.Move.{commits, quiet}
-use Rattle.pack_model.specs.PageWords.{page_number}
-use Rattle.pack_model.specs.Sights.{Sight, sights, tag_sight}
-use Rattle.pack_model.specs.Sights.Sight.{hidden, holds}
-use Rattle.pack_model.specs.Step.{Operation, on_bytes}
-use Rattle.pack_model.specs.Step.Operation.{grow}
-use Rattle.pack_model.specs.Whole.{FileWhole, IsLaid, PageAt, Tidy, TidySights, Whole, WholeSights}
+use Rattle.pack_model.specs.reading.Bytes.{bytes_of}
+use Rattle.pack_model.specs.operations.Commands.{Claim, Claimable, all_claimed, claims_writes}
+use Rattle.pack_model.specs.operations.Committing.{MakesMove, length_of, moves_of, page_of_byte, pages_added}
+use Rattle.pack_model.specs.reading.Files.{file_bytes, most_pages, place}
+use Rattle.pack_model.specs.sessions.Meanings.{reading}
+use Rattle.pack_model.specs.reading.Model.{good_one, read_pack}
+use Rattle.pack_model.specs.sessions.Moves.{Obeys, steps}
+use Rattle.pack_model.specs.operations.Operations.{grow_moves, grow_writes}
+use Rattle.pack_model.specs.operations.Operations.Move.{commits, quiet}
+use Rattle.pack_model.specs.operations.PageWords.{page_number}
+use Rattle.pack_model.specs.reading.Sights.{Sight, sights, tag_sight}
+use Rattle.pack_model.specs.reading.Sights.Sight.{hidden, holds}
+use Rattle.pack_model.specs.operations.Step.{Operation, on_bytes}
+use Rattle.pack_model.specs.operations.Step.Operation.{grow}
+use Rattle.pack_model.specs.states.Whole.{FileWhole, IsLaid, PageAt, Tidy, TidySights, Whole, WholeSights}
 use Rattle.pack_laws.proofs.Joining.{most_is}
 use Rattle.pack_laws.proofs.Placing.{page_of_place}
 use Rattle.laws_record.proofs.Keeping.{plain}

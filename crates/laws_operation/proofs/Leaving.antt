@@ -7,22 +7,22 @@ use Rattle.alto_words.specs.Names.{fold_case, is_same_name}
 use Rattle.alto_words.specs.declared.fid.Fid.{Fid}
 use Rattle.disk_records.specs.Commands.{value_writes}
 use Rattle.disk_records.specs.Packs.{Pack, sector_at}
-use Rattle.pack_model.specs.Bodies.{Files, described, items_in}
-use Rattle.pack_model.specs.Bytes.{put_at}
-use Rattle.pack_model.specs.Committing.{entry_place, page_of_word}
-use Rattle.pack_model.specs.Files.{lives, place}
-use Rattle.pack_model.specs.Leaders.{Leader}
-use Rattle.pack_model.specs.Links.{dir_words}
-use Rattle.pack_model.specs.Model.{dir_items, read_pack}
-use Rattle.pack_model.specs.Moves.{rest, write}
-use Rattle.pack_model.specs.Namings.{IsTidy, clashes, namings, namings_in}
-use Rattle.pack_model.specs.PageWords.{freed_value, in_page}
-use Rattle.pack_model.specs.Sights.{Sight, sights}
-use Rattle.pack_model.specs.Slots.{Item, all_words, item_words, slots}
-use Rattle.pack_model.specs.Slots.Item.{entry, space}
-use Rattle.pack_model.specs.Step.{items_left, step}
-use Rattle.pack_model.specs.Step.Operation.{leave}
-use Rattle.pack_model.specs.Whole.{Tidy, Whole}
+use Rattle.pack_model.specs.reading.Bodies.{Files, described, items_in}
+use Rattle.pack_model.specs.reading.Bytes.{put_at}
+use Rattle.pack_model.specs.operations.Committing.{entry_place, page_of_word}
+use Rattle.pack_model.specs.reading.Files.{lives, place}
+use Rattle.pack_model.specs.reading.Leaders.{Leader}
+use Rattle.pack_model.specs.hints.Links.{dir_words}
+use Rattle.pack_model.specs.reading.Model.{dir_items, read_pack}
+use Rattle.pack_model.specs.sessions.Moves.{rest, write}
+use Rattle.pack_model.specs.reading.Namings.{IsTidy, clashes, namings, namings_in}
+use Rattle.pack_model.specs.operations.PageWords.{freed_value, in_page}
+use Rattle.pack_model.specs.reading.Sights.{Sight, sights}
+use Rattle.pack_model.specs.reading.Slots.{Item, all_words, item_words, slots}
+use Rattle.pack_model.specs.reading.Slots.Item.{entry, space}
+use Rattle.pack_model.specs.operations.Step.{items_left, step}
+use Rattle.pack_model.specs.operations.Step.Operation.{leave}
+use Rattle.pack_model.specs.states.Whole.{Tidy, Whole}
 use Rattle.pack_laws.proofs.Keys.{is_fid-itself, same_fid}
 use Rattle.laws_record.proofs.DirReads.{insert_same, not_descriptor}
 use Rattle.laws_record.proofs.DirSteps.{apart_before}

@@ -5,11 +5,11 @@ use Rattle.std.proofs.lemmas.List.{get_or-set_other, get_or-set_same, get_or_def
 use Rattle.std.specs.Prelude.{nat_lt, ◌==◌}
 use Rattle.alto_words.specs.Fid.{is_fid}
 use Rattle.alto_words.specs.declared.fid.Fid.{Fid}
-use Rattle.pack_model.specs.Files.{file_bytes, first, joined, most_pages, page, page_at}
-use Rattle.pack_model.specs.Model.{good_one}
-use Rattle.pack_model.specs.Sights.{Sight}
-use Rattle.pack_model.specs.Sights.Sight.{free, hidden, holds, leads, stray}
-use Rattle.pack_model.specs.Whole.{Carries, IsLaid, IsSeat, PageAt, Seated}
+use Rattle.pack_model.specs.reading.Files.{file_bytes, first, joined, most_pages, page, page_at}
+use Rattle.pack_model.specs.reading.Model.{good_one}
+use Rattle.pack_model.specs.reading.Sights.{Sight}
+use Rattle.pack_model.specs.reading.Sights.Sight.{free, hidden, holds, leads, stray}
+use Rattle.pack_model.specs.states.Whole.{Carries, IsLaid, IsSeat, PageAt, Seated}
 use Rattle.pack_laws.proofs.Firsts.{first_alone}
 use Rattle.pack_laws.proofs.Joining.{continue, joined-suc}
 use Rattle.pack_laws.proofs.Keys.{is_fid-itself, same_fid}

@@ -10,28 +10,28 @@ use Rattle.disk_records.specs.Packs.{Pack, after}
 use Rattle.disk_records.specs.Words.{word}
 use Rattle.disk_records.specs.declared.records.Event.TheVariants.{Wrote}
 use Rattle.disk_records.specs.declared.records.Page.{Page}
-use Rattle.pack_model.specs.Bodies.{body_of}
-use Rattle.pack_model.specs.Bodies.Body.{data_of, items_of}
-use Rattle.pack_model.specs.Bytes.{bytes_of, words_of}
-use Rattle.pack_model.specs.Commands.{Claim, claimed, claims_writes}
-use Rattle.pack_model.specs.Committing.{MakesMove}
-use Rattle.pack_model.specs.Files.{file_bytes, leader, most_pages, place}
-use Rattle.pack_model.specs.Leaders.{Leader}
-use Rattle.pack_model.specs.Meanings.{reading}
-use Rattle.pack_model.specs.Model.{Model, good_one, read_pack, read_sights}
-use Rattle.pack_model.specs.Namings.{body_namings}
-use Rattle.pack_model.specs.Operations.{make_writes}
-use Rattle.pack_model.specs.Operations.Move.{commits}
-use Rattle.pack_model.specs.PageWords.{page_number}
-use Rattle.pack_model.specs.Sights.{Sight, sights, tag_sight}
-use Rattle.pack_model.specs.Sights.Sight.{free, hidden, holds, leads}
-use Rattle.pack_model.specs.SlotWords.{space_words}
-use Rattle.pack_model.specs.Slots.{IsSlot, Reads, SlotsReachEnd, is_entry, slot_fid, slot_name, slots}
-use Rattle.pack_model.specs.Slots.Item.{entry, space}
-use Rattle.pack_model.specs.Slots.Reads.{next, none}
-use Rattle.pack_model.specs.Step.{new_body, new_file, new_leader, step}
-use Rattle.pack_model.specs.Step.Operation.{make}
-use Rattle.pack_model.specs.Whole.{Carries, FileWhole, Headless, IsLaid, Leads, PageAt, Tidy, TidySights, Whole, WholeSights, absent, present}
+use Rattle.pack_model.specs.reading.Bodies.{body_of}
+use Rattle.pack_model.specs.reading.Bodies.Body.{data_of, items_of}
+use Rattle.pack_model.specs.reading.Bytes.{bytes_of, words_of}
+use Rattle.pack_model.specs.operations.Commands.{Claim, claimed, claims_writes}
+use Rattle.pack_model.specs.operations.Committing.{MakesMove}
+use Rattle.pack_model.specs.reading.Files.{file_bytes, leader, most_pages, place}
+use Rattle.pack_model.specs.reading.Leaders.{Leader}
+use Rattle.pack_model.specs.sessions.Meanings.{reading}
+use Rattle.pack_model.specs.reading.Model.{Model, good_one, read_pack, read_sights}
+use Rattle.pack_model.specs.reading.Namings.{body_namings}
+use Rattle.pack_model.specs.operations.Operations.{make_writes}
+use Rattle.pack_model.specs.operations.Operations.Move.{commits}
+use Rattle.pack_model.specs.operations.PageWords.{page_number}
+use Rattle.pack_model.specs.reading.Sights.{Sight, sights, tag_sight}
+use Rattle.pack_model.specs.reading.Sights.Sight.{free, hidden, holds, leads}
+use Rattle.pack_model.specs.reading.SlotWords.{space_words}
+use Rattle.pack_model.specs.reading.Slots.{IsSlot, Reads, SlotsReachEnd, is_entry, slot_fid, slot_name, slots}
+use Rattle.pack_model.specs.reading.Slots.Item.{entry, space}
+use Rattle.pack_model.specs.reading.Slots.Reads.{next, none}
+use Rattle.pack_model.specs.operations.Step.{new_body, new_file, new_leader, step}
+use Rattle.pack_model.specs.operations.Step.Operation.{make}
+use Rattle.pack_model.specs.states.Whole.{Carries, FileWhole, Headless, IsLaid, Leads, PageAt, Tidy, TidySights, Whole, WholeSights, absent, present}
 use Rattle.pack_laws.proofs.Bytes.{length-bytes_of, words_of-bytes_of}
 use Rattle.pack_laws.proofs.Guarding.{named_shown}
 use Rattle.pack_laws.proofs.Joining.{most_is}

@@ -7,18 +7,18 @@ use mathlib.Core.Path.{fun_ext}
 use Rattle.alto_words.specs.Fid.{disk_descriptor, is_directory, is_fid, is_system, serial_of, sys_dir}
 use Rattle.alto_words.specs.declared.fid.Fid.{Fid}
 use Rattle.disk_records.specs.declared.shape.Shape.{Shape}
-use Rattle.pack_model.specs.Bodies.{Files, described, found, is_described}
-use Rattle.pack_model.specs.Bodies.Body.{data_of, items_of}
-use Rattle.pack_model.specs.Bytes.{words_of}
-use Rattle.pack_model.specs.Files.{file_bytes, leader, lives}
-use Rattle.pack_model.specs.Leaders.{Leader}
-use Rattle.pack_model.specs.Model.{IsNamed, is_named, last_serial, read_sights}
-use Rattle.pack_model.specs.Namings.{IsTidy, Naming, namings, namings_in, tidied}
-use Rattle.pack_model.specs.Sights.{Sight}
-use Rattle.pack_model.specs.Sights.Sight.{hidden, leads}
-use Rattle.pack_model.specs.Slots.{Item, Reads, SlotsReachEnd, slots}
-use Rattle.pack_model.specs.Slots.Reads.{next, none}
-use Rattle.pack_model.specs.Whole.{FileWhole, Fits, TidySights, WholeSights}
+use Rattle.pack_model.specs.reading.Bodies.{Files, described, found, is_described}
+use Rattle.pack_model.specs.reading.Bodies.Body.{data_of, items_of}
+use Rattle.pack_model.specs.reading.Bytes.{words_of}
+use Rattle.pack_model.specs.reading.Files.{file_bytes, leader, lives}
+use Rattle.pack_model.specs.reading.Leaders.{Leader}
+use Rattle.pack_model.specs.reading.Model.{IsNamed, is_named, last_serial, read_sights}
+use Rattle.pack_model.specs.reading.Namings.{IsTidy, Naming, namings, namings_in, tidied}
+use Rattle.pack_model.specs.reading.Sights.{Sight}
+use Rattle.pack_model.specs.reading.Sights.Sight.{hidden, leads}
+use Rattle.pack_model.specs.reading.Slots.{Item, Reads, SlotsReachEnd, slots}
+use Rattle.pack_model.specs.reading.Slots.Reads.{next, none}
+use Rattle.pack_model.specs.states.Whole.{FileWhole, Fits, TidySights, WholeSights}
 use Rattle.pack_laws.proofs.Keys.{fid_same, fid_total, is_fid-sym, same_fid}
 use Rattle.laws_record.proofs.Around.{around}
 use Rattle.laws_record.proofs.DirReads.{insert_same, not_descriptor}

@@ -6,20 +6,20 @@ use Rattle.disk_records.specs.Commands.{value_writes}
 use Rattle.disk_records.specs.Labels.{Tag, tag}
 use Rattle.disk_records.specs.Packs.{Pack, after, sector_at}
 use Rattle.disk_records.specs.declared.records.Event.TheVariants.{Wrote}
-use Rattle.pack_model.specs.Bytes.{put_at}
-use Rattle.pack_model.specs.Committing.{MakesMove, moves_of}
-use Rattle.pack_model.specs.Files.{file_bytes}
-use Rattle.pack_model.specs.Leaders.{Leader, is_readable, leader_of, leader_words}
-use Rattle.pack_model.specs.Meanings.{reading}
-use Rattle.pack_model.specs.Model.{Model, good_one, read_pack}
-use Rattle.pack_model.specs.Moves.{Obeys, steps}
-use Rattle.pack_model.specs.Operations.{one_move}
-use Rattle.pack_model.specs.Operations.Move.{commits}
-use Rattle.pack_model.specs.Sights.{Sight, sights, tag_sight}
-use Rattle.pack_model.specs.Sights.Sight.{hidden, holds, leads}
-use Rattle.pack_model.specs.Step.{Operation, on_bytes, on_leader, step, update_file}
-use Rattle.pack_model.specs.Step.Operation.{put, stamp, title}
-use Rattle.pack_model.specs.Whole.{IsLaid, PageAt, Tidy, TidySights, Whole, WholeSights}
+use Rattle.pack_model.specs.reading.Bytes.{put_at}
+use Rattle.pack_model.specs.operations.Committing.{MakesMove, moves_of}
+use Rattle.pack_model.specs.reading.Files.{file_bytes}
+use Rattle.pack_model.specs.reading.Leaders.{Leader, is_readable, leader_of, leader_words}
+use Rattle.pack_model.specs.sessions.Meanings.{reading}
+use Rattle.pack_model.specs.reading.Model.{Model, good_one, read_pack}
+use Rattle.pack_model.specs.sessions.Moves.{Obeys, steps}
+use Rattle.pack_model.specs.operations.Operations.{one_move}
+use Rattle.pack_model.specs.operations.Operations.Move.{commits}
+use Rattle.pack_model.specs.reading.Sights.{Sight, sights, tag_sight}
+use Rattle.pack_model.specs.reading.Sights.Sight.{hidden, holds, leads}
+use Rattle.pack_model.specs.operations.Step.{Operation, on_bytes, on_leader, step, update_file}
+use Rattle.pack_model.specs.operations.Step.Operation.{put, stamp, title}
+use Rattle.pack_model.specs.states.Whole.{IsLaid, PageAt, Tidy, TidySights, Whole, WholeSights}
 use Rattle.pack_laws.proofs.Bytes.{length-put_at, put_at-append_left, put_at-append_right}
 use Rattle.pack_laws.proofs.Placing.{leader_of_place, page_of_place}
 use Rattle.laws_record.proofs.Keeping.{plain}

@@ -3,19 +3,19 @@ use Rattle.std.proofs.Common.{List, Some, [], ap, arith, get_or, inl, inr, lengt
 use Rattle.std.proofs.lemmas.List.{append-nil, length-append}
 use Rattle.alto_words.specs.declared.fid.Fid.{Fid}
 use Rattle.disk_records.specs.declared.shape.Shape.{Shape}
-use Rattle.pack_model.specs.Bodies.{described}
-use Rattle.pack_model.specs.Commands.{sectors_of}
-use Rattle.pack_model.specs.Committing.{length_in, length_of, units}
-use Rattle.pack_model.specs.Files.{file_bytes, leader, lives, place}
-use Rattle.pack_model.specs.Leaders.{Leader}
-use Rattle.pack_model.specs.Meanings.{reading}
-use Rattle.pack_model.specs.Model.{Model, read_sights}
-use Rattle.pack_model.specs.Moves.{steps}
-use Rattle.pack_model.specs.Operations.{Move, claims_moves, releases_moves}
-use Rattle.pack_model.specs.Operations.Move.{quiet}
-use Rattle.pack_model.specs.Sights.{Sight}
-use Rattle.pack_model.specs.Sights.Sight.{hidden, holds}
-use Rattle.pack_model.specs.Whole.{Carries, IsLaid, IsSeat, PageAt, Seated}
+use Rattle.pack_model.specs.reading.Bodies.{described}
+use Rattle.pack_model.specs.operations.Commands.{sectors_of}
+use Rattle.pack_model.specs.operations.Committing.{length_in, length_of, units}
+use Rattle.pack_model.specs.reading.Files.{file_bytes, leader, lives, place}
+use Rattle.pack_model.specs.reading.Leaders.{Leader}
+use Rattle.pack_model.specs.sessions.Meanings.{reading}
+use Rattle.pack_model.specs.reading.Model.{Model, read_sights}
+use Rattle.pack_model.specs.sessions.Moves.{steps}
+use Rattle.pack_model.specs.operations.Operations.{Move, claims_moves, releases_moves}
+use Rattle.pack_model.specs.operations.Operations.Move.{quiet}
+use Rattle.pack_model.specs.reading.Sights.{Sight}
+use Rattle.pack_model.specs.reading.Sights.Sight.{hidden, holds}
+use Rattle.pack_model.specs.states.Whole.{Carries, IsLaid, IsSeat, PageAt, Seated}
 use Rattle.pack_laws.proofs.Placing.{page_of_place, place_of_page}
 use Rattle.laws_record.proofs.Keeping.{get-tidied_plain, plain}
 use Rattle.laws_record.proofs.Seats.{seat_once}

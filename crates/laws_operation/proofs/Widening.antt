@@ -9,27 +9,27 @@ use Rattle.alto_words.specs.declared.fid.Fid.{Fid}
 use Rattle.disk_records.specs.Labels.{tag}
 use Rattle.disk_records.specs.Packs.{Pack, after, sector_at}
 use Rattle.disk_records.specs.declared.records.Event.TheVariants.{Wrote}
-use Rattle.pack_model.specs.Bodies.{body_length, described}
-use Rattle.pack_model.specs.Bodies.Body.{items_of}
-use Rattle.pack_model.specs.Bytes.{bytes_of, words_of}
-use Rattle.pack_model.specs.Commands.{Claim, all_claimed, claims_writes}
-use Rattle.pack_model.specs.Committing.{MakesMove, length_in, length_of, moves_of, page_of_byte, pages_added}
-use Rattle.pack_model.specs.Files.{file_bytes, lives, most_pages, place}
-use Rattle.pack_model.specs.Leaders.{Leader}
-use Rattle.pack_model.specs.Meanings.{reading}
-use Rattle.pack_model.specs.Model.{read_pack, read_sights}
-use Rattle.pack_model.specs.Moves.{Obeys, steps}
-use Rattle.pack_model.specs.Namings.{AllKept, IsTidy, is_kept, namings_in}
-use Rattle.pack_model.specs.Operations.{grow_moves, grow_writes}
-use Rattle.pack_model.specs.Operations.Move.{commits, quiet}
-use Rattle.pack_model.specs.Sights.{Sight, sights}
-use Rattle.pack_model.specs.Sights.Sight.{free, hidden, holds, leads}
-use Rattle.pack_model.specs.Slots.{IsEven, Item, Reads, all_words, slots}
-use Rattle.pack_model.specs.Slots.Item.{space}
-use Rattle.pack_model.specs.Slots.Reads.{next, none}
-use Rattle.pack_model.specs.Step.{Operation, step}
-use Rattle.pack_model.specs.Step.Operation.{widen}
-use Rattle.pack_model.specs.Whole.{Tidy, TidySights, Whole, WholeSights}
+use Rattle.pack_model.specs.reading.Bodies.{body_length, described}
+use Rattle.pack_model.specs.reading.Bodies.Body.{items_of}
+use Rattle.pack_model.specs.reading.Bytes.{bytes_of, words_of}
+use Rattle.pack_model.specs.operations.Commands.{Claim, all_claimed, claims_writes}
+use Rattle.pack_model.specs.operations.Committing.{MakesMove, length_in, length_of, moves_of, page_of_byte, pages_added}
+use Rattle.pack_model.specs.reading.Files.{file_bytes, lives, most_pages, place}
+use Rattle.pack_model.specs.reading.Leaders.{Leader}
+use Rattle.pack_model.specs.sessions.Meanings.{reading}
+use Rattle.pack_model.specs.reading.Model.{read_pack, read_sights}
+use Rattle.pack_model.specs.sessions.Moves.{Obeys, steps}
+use Rattle.pack_model.specs.reading.Namings.{AllKept, IsTidy, is_kept, namings_in}
+use Rattle.pack_model.specs.operations.Operations.{grow_moves, grow_writes}
+use Rattle.pack_model.specs.operations.Operations.Move.{commits, quiet}
+use Rattle.pack_model.specs.reading.Sights.{Sight, sights}
+use Rattle.pack_model.specs.reading.Sights.Sight.{free, hidden, holds, leads}
+use Rattle.pack_model.specs.reading.Slots.{IsEven, Item, Reads, all_words, slots}
+use Rattle.pack_model.specs.reading.Slots.Item.{space}
+use Rattle.pack_model.specs.reading.Slots.Reads.{next, none}
+use Rattle.pack_model.specs.operations.Step.{Operation, step}
+use Rattle.pack_model.specs.operations.Step.Operation.{widen}
+use Rattle.pack_model.specs.states.Whole.{Tidy, TidySights, Whole, WholeSights}
 use Rattle.pack_laws.proofs.Bytes.{length-bytes_of, length-words_of, words_of-bytes_of}
 use Rattle.laws_record.proofs.DirReads.{not_descriptor}
 use Rattle.laws_record.proofs.Entered.{directory, namings_in-append}

@@ -5,15 +5,15 @@ use Rattle.alto_words.specs.declared.fid.Fid.{Fid}
 use Rattle.disk_records.specs.Commands.{value_writes}
 use Rattle.disk_records.specs.Labels.{page_of, tag}
 use Rattle.disk_records.specs.Packs.{Pack, sector_at}
-use Rattle.pack_model.specs.Bytes.{bytes_of, put_at}
-use Rattle.pack_model.specs.Commands.{Claim, Claimable, all_claimed}
-use Rattle.pack_model.specs.Committing.{page_of_byte, pages_cut}
-use Rattle.pack_model.specs.Files.{file_bytes, place}
-use Rattle.pack_model.specs.Operations.{cut_writes, grow_writes}
-use Rattle.pack_model.specs.PageWords.{page_number}
-use Rattle.pack_model.specs.Sights.{Sight, sights}
-use Rattle.pack_model.specs.Step.Operation.{cut, grow, put}
-use Rattle.pack_model.specs.Whole.{IsLaid, PageAt, Tidy, Whole}
+use Rattle.pack_model.specs.reading.Bytes.{bytes_of, put_at}
+use Rattle.pack_model.specs.operations.Commands.{Claim, Claimable, all_claimed}
+use Rattle.pack_model.specs.operations.Committing.{page_of_byte, pages_cut}
+use Rattle.pack_model.specs.reading.Files.{file_bytes, place}
+use Rattle.pack_model.specs.operations.Operations.{cut_writes, grow_writes}
+use Rattle.pack_model.specs.operations.PageWords.{page_number}
+use Rattle.pack_model.specs.reading.Sights.{Sight, sights}
+use Rattle.pack_model.specs.operations.Step.Operation.{cut, grow, put}
+use Rattle.pack_model.specs.states.Whole.{IsLaid, PageAt, Tidy, Whole}
 use Rattle.laws_record.specs.QuietLaws.{counted_of}
 use Rattle.laws_operation.specs.Outcomes.{CarriesOut}
 

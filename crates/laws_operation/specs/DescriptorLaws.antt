@@ -3,18 +3,18 @@ use Rattle.std.specs.Prelude.{All, Bool, List, Some, [], length, ℕ, ◌<◌, �
 use Rattle.alto_words.specs.Fid.{disk_descriptor}
 use Rattle.disk_records.specs.Packs.{Pack, after, cut, sector_at}
 use Rattle.disk_records.specs.declared.records.Event.{Event}
-use Rattle.pack_model.specs.Committing.{open_moves}
-use Rattle.pack_model.specs.Descriptor.{close_moves, close_writes, data_pages, open_writes, serial_writes}
-use Rattle.pack_model.specs.Files.{place}
-use Rattle.pack_model.specs.Meanings.{reading, viewing}
-use Rattle.pack_model.specs.Model.{read_pack}
-use Rattle.pack_model.specs.Moves.{Obeys}
-use Rattle.pack_model.specs.Operations.{Move}
-use Rattle.pack_model.specs.Operations.Move.{quiet}
-use Rattle.pack_model.specs.Sights.{sights}
-use Rattle.pack_model.specs.Sound.{Sound, mark_clean, mark_of, mark_open}
-use Rattle.pack_model.specs.Step.{Operation}
-use Rattle.pack_model.specs.Whole.{Tidy, Whole}
+use Rattle.pack_model.specs.operations.Committing.{open_moves}
+use Rattle.pack_model.specs.sessions.Descriptor.{close_moves, close_writes, data_pages, open_writes, serial_writes}
+use Rattle.pack_model.specs.reading.Files.{place}
+use Rattle.pack_model.specs.sessions.Meanings.{reading, viewing}
+use Rattle.pack_model.specs.reading.Model.{read_pack}
+use Rattle.pack_model.specs.sessions.Moves.{Obeys}
+use Rattle.pack_model.specs.operations.Operations.{Move}
+use Rattle.pack_model.specs.operations.Operations.Move.{quiet}
+use Rattle.pack_model.specs.reading.Sights.{sights}
+use Rattle.pack_model.specs.states.Sound.{Sound, mark_clean, mark_of, mark_open}
+use Rattle.pack_model.specs.operations.Step.{Operation}
+use Rattle.pack_model.specs.states.Whole.{Tidy, Whole}
 use Rattle.laws_operation.specs.ByteLaws.{Bear}
 
 -- ---- words of the first data page

@@ -2,13 +2,13 @@
 use Rattle.std.specs.Prelude.{Bool, List, Some, ℕ, ◌≡◌, ◌≤◌}
 use Rattle.alto_words.specs.Fid.{disk_descriptor}
 use Rattle.disk_records.specs.Packs.{Pack, cut, sector_at}
-use Rattle.pack_model.specs.Descriptor.{close_writes, open_writes, serial_writes}
-use Rattle.pack_model.specs.Files.{place}
-use Rattle.pack_model.specs.Links.{LinksTrue}
-use Rattle.pack_model.specs.Model.{read_pack}
-use Rattle.pack_model.specs.Sights.{sights}
-use Rattle.pack_model.specs.Sound.{mark_of}
-use Rattle.pack_model.specs.Whole.{Tidy, Whole}
+use Rattle.pack_model.specs.sessions.Descriptor.{close_writes, open_writes, serial_writes}
+use Rattle.pack_model.specs.reading.Files.{place}
+use Rattle.pack_model.specs.hints.Links.{LinksTrue}
+use Rattle.pack_model.specs.reading.Model.{read_pack}
+use Rattle.pack_model.specs.reading.Sights.{sights}
+use Rattle.pack_model.specs.states.Sound.{mark_of}
+use Rattle.pack_model.specs.states.Whole.{Tidy, Whole}
 use Rattle.laws_operation.specs.DescriptorLaws.{MayClose}
 use Rattle.laws_operation.specs.LinkLaws.{KeepsLinks}
 

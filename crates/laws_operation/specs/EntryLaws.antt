@@ -6,16 +6,16 @@ use Rattle.alto_words.specs.Fid.{is_directory, is_fid}
 use Rattle.alto_words.specs.Names.{is_same_name}
 use Rattle.alto_words.specs.declared.fid.Fid.{Fid}
 use Rattle.disk_records.specs.Packs.{Pack}
-use Rattle.pack_model.specs.Files.{lives}
-use Rattle.pack_model.specs.Links.{dir_words}
-use Rattle.pack_model.specs.Model.{Model, dir_items, is_named, read_pack}
-use Rattle.pack_model.specs.Namings.{clashes, namings}
-use Rattle.pack_model.specs.Sights.{sights}
-use Rattle.pack_model.specs.Slots.{Item, slots}
-use Rattle.pack_model.specs.Slots.Item.{entry, space}
-use Rattle.pack_model.specs.Step.{Operation, step}
-use Rattle.pack_model.specs.Step.Operation.{cut, drop_file, enter, grow, leave, make, put, stamp, title, widen}
-use Rattle.pack_model.specs.Whole.{Tidy}
+use Rattle.pack_model.specs.reading.Files.{lives}
+use Rattle.pack_model.specs.hints.Links.{dir_words}
+use Rattle.pack_model.specs.reading.Model.{Model, dir_items, is_named, read_pack}
+use Rattle.pack_model.specs.reading.Namings.{clashes, namings}
+use Rattle.pack_model.specs.reading.Sights.{sights}
+use Rattle.pack_model.specs.reading.Slots.{Item, slots}
+use Rattle.pack_model.specs.reading.Slots.Item.{entry, space}
+use Rattle.pack_model.specs.operations.Step.{Operation, step}
+use Rattle.pack_model.specs.operations.Step.Operation.{cut, drop_file, enter, grow, leave, make, put, stamp, title, widen}
+use Rattle.pack_model.specs.states.Whole.{Tidy}
 
 -- ---- slots
 -- on a tidy pack the slots of a living directory in the model are those that stand there

@@ -5,14 +5,14 @@ use Rattle.alto_words.specs.Fid.{disk_descriptor, is_fid, is_full_name, serial_o
 use Rattle.alto_words.specs.Names.{is_stored_name}
 use Rattle.alto_words.specs.declared.fid.Fid.{Fid}
 use Rattle.disk_records.specs.Packs.{Pack, is_free_at, sector_at}
-use Rattle.pack_model.specs.Bytes.{bytes_of}
-use Rattle.pack_model.specs.Commands.{cut_label, first_page_claim, grown_claims, grown_label, grown_value, leader_claim}
-use Rattle.pack_model.specs.Committing.{page_of_byte, pages_added, pages_cut}
-use Rattle.pack_model.specs.Files.{file_bytes, lives, place}
-use Rattle.pack_model.specs.Model.{read_pack}
-use Rattle.pack_model.specs.PageWords.{put_value, stamped_value, titled_value}
-use Rattle.pack_model.specs.Sights.{sights}
-use Rattle.pack_model.specs.Whole.{Whole}
+use Rattle.pack_model.specs.reading.Bytes.{bytes_of}
+use Rattle.pack_model.specs.operations.Commands.{cut_label, first_page_claim, grown_claims, grown_label, grown_value, leader_claim}
+use Rattle.pack_model.specs.operations.Committing.{page_of_byte, pages_added, pages_cut}
+use Rattle.pack_model.specs.reading.Files.{file_bytes, lives, place}
+use Rattle.pack_model.specs.reading.Model.{read_pack}
+use Rattle.pack_model.specs.operations.PageWords.{put_value, stamped_value, titled_value}
+use Rattle.pack_model.specs.reading.Sights.{sights}
+use Rattle.pack_model.specs.states.Whole.{Whole}
 use Rattle.laws_operation.specs.ByteLaws.{Bear, IsOrdinary, MayCut, MayGrow, MayPut}
 use Rattle.laws_operation.specs.LeaderLaws.{MayWriteLeader, stamped, titled}
 use Rattle.laws_operation.specs.LifeLaws.{MayMake}

@@ -3,10 +3,10 @@ use Rattle.std.specs.Prelude.{All, List, Some, [], true, ℕ, ◌∷◌, ◌≡�
 use Rattle.alto_words.specs.declared.fid.Fid.{Fid}
 use Rattle.disk_records.specs.Packs.{Pack, after, is_free_at}
 use Rattle.disk_records.specs.declared.records.Event.{Event}
-use Rattle.pack_model.specs.Commands.{Claim, all_claimed, releases_writes, sectors_of, values_writes}
-use Rattle.pack_model.specs.Files.{place}
-use Rattle.pack_model.specs.Operations.{cut_writes, drop_writes, enter_writes, go_writes, grow_writes, make_writes}
-use Rattle.pack_model.specs.Sights.{sights}
+use Rattle.pack_model.specs.operations.Commands.{Claim, all_claimed, releases_writes, sectors_of, values_writes}
+use Rattle.pack_model.specs.reading.Files.{place}
+use Rattle.pack_model.specs.operations.Operations.{cut_writes, drop_writes, enter_writes, go_writes, grow_writes, make_writes}
+use Rattle.pack_model.specs.reading.Sights.{sights}
 use Rattle.laws_operation.specs.ByteLaws.{Bear}
 
 -- each sector that was free, and is none of these, is free still

@@ -3,11 +3,11 @@ use Rattle.std.specs.Prelude.{List, Some, true, ℕ, ◌≡◌}
 use Rattle.alto_words.specs.declared.fid.Fid.{Fid}
 use Rattle.disk_records.specs.Commands.{value_writes}
 use Rattle.disk_records.specs.Packs.{Pack, sector_at}
-use Rattle.pack_model.specs.Files.{place}
-use Rattle.pack_model.specs.Leaders.{Leader, is_readable, leader_of, leader_words}
-use Rattle.pack_model.specs.Sights.{sights}
-use Rattle.pack_model.specs.Step.Operation.{stamp, title}
-use Rattle.pack_model.specs.Whole.{Tidy, Whole}
+use Rattle.pack_model.specs.reading.Files.{place}
+use Rattle.pack_model.specs.reading.Leaders.{Leader, is_readable, leader_of, leader_words}
+use Rattle.pack_model.specs.reading.Sights.{sights}
+use Rattle.pack_model.specs.operations.Step.Operation.{stamp, title}
+use Rattle.pack_model.specs.states.Whole.{Tidy, Whole}
 use Rattle.laws_operation.specs.ByteLaws.{IsOrdinary}
 use Rattle.laws_operation.specs.Outcomes.{CarriesOut}
 

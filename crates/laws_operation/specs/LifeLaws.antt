@@ -6,24 +6,24 @@ use Rattle.disk_records.specs.Commands.{value_writes}
 use Rattle.disk_records.specs.Labels.{page_of}
 use Rattle.disk_records.specs.Packs.{Pack, after, is_free_at, sector_at}
 use Rattle.disk_records.specs.declared.records.Event.{Event}
-use Rattle.pack_model.specs.Bytes.{bytes_of}
-use Rattle.pack_model.specs.Commands.{Claim, claimed}
-use Rattle.pack_model.specs.Committing.{length_of, page_of_byte, units}
-use Rattle.pack_model.specs.Files.{file_bytes, lives, place}
-use Rattle.pack_model.specs.Leaders.{is_readable, leader_of, leader_words}
-use Rattle.pack_model.specs.Meanings.{Drops, Meets}
-use Rattle.pack_model.specs.Model.{dir_items, read_pack}
-use Rattle.pack_model.specs.Namings.{namings_in}
-use Rattle.pack_model.specs.Operations.{Move, drop_writes, go_moves, go_writes, make_writes}
-use Rattle.pack_model.specs.Operations.Move.{quiet}
-use Rattle.pack_model.specs.PageWords.{freed_value, page_number}
-use Rattle.pack_model.specs.Sights.{sights}
-use Rattle.pack_model.specs.SlotWords.{space_words}
-use Rattle.pack_model.specs.Slots.{Item, all_words, item_words}
-use Rattle.pack_model.specs.Slots.Item.{entry}
-use Rattle.pack_model.specs.Step.{new_leader, step}
-use Rattle.pack_model.specs.Step.Operation.{drop_file, make}
-use Rattle.pack_model.specs.Whole.{Tidy, TidyBut, Whole}
+use Rattle.pack_model.specs.reading.Bytes.{bytes_of}
+use Rattle.pack_model.specs.operations.Commands.{Claim, claimed}
+use Rattle.pack_model.specs.operations.Committing.{length_of, page_of_byte, units}
+use Rattle.pack_model.specs.reading.Files.{file_bytes, lives, place}
+use Rattle.pack_model.specs.reading.Leaders.{is_readable, leader_of, leader_words}
+use Rattle.pack_model.specs.sessions.Meanings.{Drops, Meets}
+use Rattle.pack_model.specs.reading.Model.{dir_items, read_pack}
+use Rattle.pack_model.specs.reading.Namings.{namings_in}
+use Rattle.pack_model.specs.operations.Operations.{Move, drop_writes, go_moves, go_writes, make_writes}
+use Rattle.pack_model.specs.operations.Operations.Move.{quiet}
+use Rattle.pack_model.specs.operations.PageWords.{freed_value, page_number}
+use Rattle.pack_model.specs.reading.Sights.{sights}
+use Rattle.pack_model.specs.reading.SlotWords.{space_words}
+use Rattle.pack_model.specs.reading.Slots.{Item, all_words, item_words}
+use Rattle.pack_model.specs.reading.Slots.Item.{entry}
+use Rattle.pack_model.specs.operations.Step.{new_leader, step}
+use Rattle.pack_model.specs.operations.Step.Operation.{drop_file, make}
+use Rattle.pack_model.specs.states.Whole.{Tidy, TidyBut, Whole}
 use Rattle.laws_record.specs.DirLaws.{Frees}
 use Rattle.laws_operation.specs.ByteLaws.{Bear}
 use Rattle.laws_operation.specs.Outcomes.{CarriesOut, CutsAreViewed, KeepsDescriptor, StillFits}

@@ -4,12 +4,12 @@ use Rattle.alto_words.specs.declared.fid.Fid.{Fid}
 use Rattle.disk_records.specs.Commands.{value_writes}
 use Rattle.disk_records.specs.declared.records.Event.{Event}
 use Rattle.disk_records.specs.Packs.{Pack, after, sector_at}
-use Rattle.pack_model.specs.Commands.{cut_label, first_page_claim, grown_claims, grown_label, grown_value, leader_claim}
-use Rattle.pack_model.specs.Files.{file_bytes}
-use Rattle.pack_model.specs.Links.{LinksTrue}
-use Rattle.pack_model.specs.Operations.{cut_writes, go_writes, grow_writes, make_writes}
-use Rattle.pack_model.specs.Sights.{sights}
-use Rattle.pack_model.specs.Whole.{Tidy, Whole}
+use Rattle.pack_model.specs.operations.Commands.{cut_label, first_page_claim, grown_claims, grown_label, grown_value, leader_claim}
+use Rattle.pack_model.specs.reading.Files.{file_bytes}
+use Rattle.pack_model.specs.hints.Links.{LinksTrue}
+use Rattle.pack_model.specs.operations.Operations.{cut_writes, go_writes, grow_writes, make_writes}
+use Rattle.pack_model.specs.reading.Sights.{sights}
+use Rattle.pack_model.specs.states.Whole.{Tidy, Whole}
 use Rattle.laws_operation.specs.ByteLaws.{MayCut, MayGrow, MayPut}
 use Rattle.laws_operation.specs.LeaderLaws.{MayWriteLeader, stamped, titled}
 use Rattle.laws_operation.specs.LifeLaws.{MayDrop, MayMake}

@@ -7,20 +7,20 @@ use Rattle.disk_records.specs.Commands.{value_writes}
 use Rattle.disk_records.specs.Labels.{page_of, tag}
 use Rattle.disk_records.specs.Packs.{Pack, sector_at}
 use Rattle.disk_records.specs.Words.{word}
-use Rattle.pack_model.specs.Bytes.{bytes_of}
-use Rattle.pack_model.specs.Commands.{Claim, Claimable, all_claimed}
-use Rattle.pack_model.specs.Committing.{page_of_byte, page_of_word}
-use Rattle.pack_model.specs.Entering.{EntryRoom, entry_value, values_first}
-use Rattle.pack_model.specs.Files.{file_bytes, lives, place}
-use Rattle.pack_model.specs.Model.{dir_items, read_pack}
-use Rattle.pack_model.specs.Operations.{enter_writes, grow_writes}
-use Rattle.pack_model.specs.PageWords.{freed_value, later, page_number}
-use Rattle.pack_model.specs.Rooms.{find_room, run}
-use Rattle.pack_model.specs.Sights.{sights}
-use Rattle.pack_model.specs.Slots.{IsSlot, Item, all_words, entry_length, item_words}
-use Rattle.pack_model.specs.Slots.Item.{entry, space}
-use Rattle.pack_model.specs.Step.Operation.{enter, leave, widen}
-use Rattle.pack_model.specs.Whole.{IsLaid, Tidy, Whole}
+use Rattle.pack_model.specs.reading.Bytes.{bytes_of}
+use Rattle.pack_model.specs.operations.Commands.{Claim, Claimable, all_claimed}
+use Rattle.pack_model.specs.operations.Committing.{page_of_byte, page_of_word}
+use Rattle.pack_model.specs.operations.Entering.{EntryRoom, entry_value, values_first}
+use Rattle.pack_model.specs.reading.Files.{file_bytes, lives, place}
+use Rattle.pack_model.specs.reading.Model.{dir_items, read_pack}
+use Rattle.pack_model.specs.operations.Operations.{enter_writes, grow_writes}
+use Rattle.pack_model.specs.operations.PageWords.{freed_value, later, page_number}
+use Rattle.pack_model.specs.operations.Rooms.{find_room, run}
+use Rattle.pack_model.specs.reading.Sights.{sights}
+use Rattle.pack_model.specs.reading.Slots.{IsSlot, Item, all_words, entry_length, item_words}
+use Rattle.pack_model.specs.reading.Slots.Item.{entry, space}
+use Rattle.pack_model.specs.operations.Step.Operation.{enter, leave, widen}
+use Rattle.pack_model.specs.states.Whole.{IsLaid, Tidy, Whole}
 use Rattle.laws_record.specs.DirLaws.{Frees}
 use Rattle.laws_record.specs.EnterLaws.{MayEnter}
 use Rattle.laws_record.specs.QuietLaws.{counted_of}

@@ -5,11 +5,11 @@ use Rattle.disk_records.specs.Packs.{Pack, carried}
 use Rattle.disk_records.specs.declared.records.Event.{Event}
 use Rattle.disk_records.specs.declared.records.Page.{Page}
 use Rattle.disk_records.specs.declared.shape.Shape.{Shape}
-use Rattle.pack_model.specs.Commands.{Claim, values_writes}
-use Rattle.pack_model.specs.Descriptor.{close_writes, open_writes}
-use Rattle.pack_model.specs.Operations.{cut_writes, drop_writes, enter_writes, go_writes, grow_writes, make_writes}
-use Rattle.pack_model.specs.Scavenging.{Throughout}
-use Rattle.pack_model.specs.Whole.{Whole}
+use Rattle.pack_model.specs.operations.Commands.{Claim, values_writes}
+use Rattle.pack_model.specs.sessions.Descriptor.{close_writes, open_writes}
+use Rattle.pack_model.specs.operations.Operations.{cut_writes, drop_writes, enter_writes, go_writes, grow_writes, make_writes}
+use Rattle.pack_model.specs.scavenger.Scavenging.{Throughout}
+use Rattle.pack_model.specs.states.Whole.{Whole}
 use Rattle.laws_operation.specs.ByteLaws.{MayCut, MayGrow}
 use Rattle.laws_operation.specs.LifeLaws.{MayMake}
 use Rattle.laws_operation.specs.NameLaws.{MayWiden}

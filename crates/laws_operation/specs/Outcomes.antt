@@ -4,16 +4,16 @@ use Rattle.alto_words.specs.Fid.{disk_descriptor}
 use Rattle.disk_records.specs.Packs.{Pack, after, cut}
 use Rattle.disk_records.specs.declared.records.Event.{Event}
 use Rattle.disk_records.specs.declared.shape.Shape.{Shape}
-use Rattle.pack_model.specs.Committing.{moves_of}
-use Rattle.pack_model.specs.Descriptor.{DescriptorFits}
-use Rattle.pack_model.specs.Files.{file_bytes, place}
-use Rattle.pack_model.specs.Meanings.{Meets, Sees, Views, viewing}
-use Rattle.pack_model.specs.Model.{read_pack}
-use Rattle.pack_model.specs.Moves.{steps}
-use Rattle.pack_model.specs.Operations.{Move}
-use Rattle.pack_model.specs.Sights.{sights}
-use Rattle.pack_model.specs.Sound.{Clean}
-use Rattle.pack_model.specs.Step.{Operation, step}
+use Rattle.pack_model.specs.operations.Committing.{moves_of}
+use Rattle.pack_model.specs.sessions.Descriptor.{DescriptorFits}
+use Rattle.pack_model.specs.reading.Files.{file_bytes, place}
+use Rattle.pack_model.specs.sessions.Meanings.{Meets, Sees, Views, viewing}
+use Rattle.pack_model.specs.reading.Model.{read_pack}
+use Rattle.pack_model.specs.sessions.Moves.{steps}
+use Rattle.pack_model.specs.operations.Operations.{Move}
+use Rattle.pack_model.specs.reading.Sights.{sights}
+use Rattle.pack_model.specs.states.Sound.{Clean}
+use Rattle.pack_model.specs.operations.Step.{Operation, step}
 
 -- ---- DiskDescriptor stays
 -- Its pages are borne by the same sectors, its bytes are the same, and so are the last serial and the mark.

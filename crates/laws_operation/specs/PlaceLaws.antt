@@ -7,12 +7,12 @@ use Rattle.alto_words.specs.declared.fid.Fid.{Fid}
 use Rattle.disk_records.specs.Addresses.{pages_of}
 use Rattle.disk_records.specs.Packs.{Pack, after, carried}
 use Rattle.disk_records.specs.declared.records.Page.{Page}
-use Rattle.pack_model.specs.Commands.{values_writes}
-use Rattle.pack_model.specs.Descriptor.{serial_writes}
-use Rattle.pack_model.specs.Files.{lives, place}
-use Rattle.pack_model.specs.Model.{read_pack}
-use Rattle.pack_model.specs.Sights.{sights}
-use Rattle.pack_model.specs.Whole.{Whole}
+use Rattle.pack_model.specs.operations.Commands.{values_writes}
+use Rattle.pack_model.specs.sessions.Descriptor.{serial_writes}
+use Rattle.pack_model.specs.reading.Files.{lives, place}
+use Rattle.pack_model.specs.reading.Model.{read_pack}
+use Rattle.pack_model.specs.reading.Sights.{sights}
+use Rattle.pack_model.specs.states.Whole.{Whole}
 
 -- ---- on any pack
 -- a file lives exactly where its leader page has a place

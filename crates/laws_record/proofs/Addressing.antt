@@ -3,9 +3,9 @@ use Rattle.std.proofs.Common.{◌%◌, ◌+◌, ◌-◌, ◌<◌, ◌==◌, ◌�
 use Rattle.std.proofs.lemmas.Grind.{same_number_lists}
 use Rattle.std.proofs.lemmas.List.{drop-drop, get_or-set_other, get_or-set_same, get_or-take, length-set, length-take-le}
 use Rattle.disk_records.specs.Words.{word}
-use Rattle.pack_model.specs.SlotWords.{SlotAt, slots_at}
-use Rattle.pack_model.specs.Slots.{Item, entry_length, is_entry, item_words, slot_at, slot_fid, slot_name, slot_of, slots}
-use Rattle.pack_model.specs.Slots.Item.{entry, space}
+use Rattle.pack_model.specs.reading.SlotWords.{SlotAt, slots_at}
+use Rattle.pack_model.specs.reading.Slots.{Item, entry_length, is_entry, item_words, slot_at, slot_fid, slot_name, slot_of, slots}
+use Rattle.pack_model.specs.reading.Slots.Item.{entry, space}
 use Rattle.laws_record.proofs.Heads.{head_of, head_reads, slot_size, slots_cons, slots_some}
 
 -- ---- words that differ at most in some places

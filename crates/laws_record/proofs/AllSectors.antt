@@ -3,13 +3,13 @@ use Rattle.std.proofs.Common.{List, None, Option, Some, [], ap, arith, eq-eqb, g
 use Rattle.std.specs.Option.{is_some}
 use Rattle.alto_words.specs.declared.fid.Fid.{Fid}
 use Rattle.disk_records.specs.Packs.{Pack}
-use Rattle.pack_model.specs.Files.{carries_page, file_bytes, leader, lives, most_pages, page, place}
-use Rattle.pack_model.specs.InUse.{counts, in_use, is_good, is_place}
-use Rattle.pack_model.specs.Leaders.{Leader}
-use Rattle.pack_model.specs.Sentences.{HasLastPage, HasReadableName, IsWholeBySentences}
-use Rattle.pack_model.specs.Sights.{Sight, sights}
-use Rattle.pack_model.specs.Sights.Sight.{free, hidden, holds, leads, stray}
-use Rattle.pack_model.specs.Whole.{Carries, FileWhole, Headless, IsLaid, Leads, PageAt, Whole, absent, present}
+use Rattle.pack_model.specs.reading.Files.{carries_page, file_bytes, leader, lives, most_pages, page, place}
+use Rattle.pack_model.specs.states.InUse.{counts, in_use, is_good, is_place}
+use Rattle.pack_model.specs.reading.Leaders.{Leader}
+use Rattle.pack_model.specs.states.Sentences.{HasLastPage, HasReadableName, IsWholeBySentences}
+use Rattle.pack_model.specs.reading.Sights.{Sight, sights}
+use Rattle.pack_model.specs.reading.Sights.Sight.{free, hidden, holds, leads, stray}
+use Rattle.pack_model.specs.states.Whole.{Carries, FileWhole, Headless, IsLaid, Leads, PageAt, Whole, absent, present}
 use Rattle.pack_laws.proofs.Joining.{Reaches, is_full, length-joined}
 use Rattle.pack_laws.proofs.Keys.{is_fid-itself}
 use Rattle.pack_laws.proofs.Placing.{carries-holds, leader_of_place, page_of_place, place_of_leader, short_pages, shows_carried, shows_led}

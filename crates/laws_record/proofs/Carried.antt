@@ -6,12 +6,12 @@ use Rattle.alto_words.specs.declared.fid.Fid.{Fid}
 use Rattle.disk_records.specs.Packs.{Pack, after, carried}
 use Rattle.disk_records.specs.declared.records.Event.TheVariants.{Wrote}
 use Rattle.disk_records.specs.declared.records.Page.{Page}
-use Rattle.pack_model.specs.Commands.{values_writes}
-use Rattle.pack_model.specs.Files.{carries_page, place}
-use Rattle.pack_model.specs.InUse.{is_place}
-use Rattle.pack_model.specs.Sights.{Sight, sights}
-use Rattle.pack_model.specs.Sights.Sight.{hidden, holds}
-use Rattle.pack_model.specs.Whole.{Carries, FileWhole, IsSeat, PageAt, Whole, absent, present}
+use Rattle.pack_model.specs.operations.Commands.{values_writes}
+use Rattle.pack_model.specs.reading.Files.{carries_page, place}
+use Rattle.pack_model.specs.states.InUse.{is_place}
+use Rattle.pack_model.specs.reading.Sights.{Sight, sights}
+use Rattle.pack_model.specs.reading.Sights.Sight.{hidden, holds}
+use Rattle.pack_model.specs.states.Whole.{Carries, FileWhole, IsSeat, PageAt, Whole, absent, present}
 use Rattle.pack_laws.proofs.Carrying.{sight_carries}
 use Rattle.pack_laws.proofs.Guarding.{carried_parts, usable_within, value_page}
 use Rattle.pack_laws.proofs.Placing.{place_from, shows_carried, shows_led}

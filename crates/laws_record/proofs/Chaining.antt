@@ -3,8 +3,8 @@ use Rattle.std.proofs.Common.{◌++◌, ◌∙◌, ◌∷◌, List, [], ap, arit
 use Rattle.disk_records.proofs.Growing.{after-append}
 use Rattle.disk_records.specs.Packs.{Pack, after, cut}
 use Rattle.disk_records.specs.declared.records.Event.{Event}
-use Rattle.pack_model.specs.Moves.{Meaning, Obeys, steps}
-use Rattle.pack_model.specs.Scavenging.{Keeps, Mends, Throughout}
+use Rattle.pack_model.specs.sessions.Moves.{Meaning, Obeys, steps}
+use Rattle.pack_model.specs.scavenger.Scavenging.{Keeps, Mends, Throughout}
 use Rattle.pack_laws.proofs.Moving.{obeys_then, steps-append}
 use Rattle.laws_record.specs.ChainLaws.{Follows, KeptTogether, RunsChain, ScavengesJoin, ShowsSame}
 

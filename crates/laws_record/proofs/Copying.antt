@@ -5,12 +5,12 @@ use Rattle.alto_words.specs.declared.fid.Fid.{Fid}
 use Rattle.disk_records.specs.Labels.{tag}
 use Rattle.disk_records.specs.Packs.{Pack, carried, sector_at}
 use Rattle.disk_records.specs.declared.records.Page.{Page}
-use Rattle.pack_model.specs.Bytes.{bytes_of}
-use Rattle.pack_model.specs.Files.{carries_page, leader, leader_at, page, page_at, place}
-use Rattle.pack_model.specs.Leaders.{Leader, leader_of}
-use Rattle.pack_model.specs.Model.{good_one}
-use Rattle.pack_model.specs.Sights.{Sight, page_sight, sights}
-use Rattle.pack_model.specs.Sights.Sight.{free, hidden, holds, leads}
+use Rattle.pack_model.specs.reading.Bytes.{bytes_of}
+use Rattle.pack_model.specs.reading.Files.{carries_page, leader, leader_at, page, page_at, place}
+use Rattle.pack_model.specs.reading.Leaders.{Leader, leader_of}
+use Rattle.pack_model.specs.reading.Model.{good_one}
+use Rattle.pack_model.specs.reading.Sights.{Sight, page_sight, sights}
+use Rattle.pack_model.specs.reading.Sights.Sight.{free, hidden, holds, leads}
 use Rattle.pack_laws.proofs.Carrying.{carried_shown}
 use Rattle.pack_laws.proofs.Firsts.{first_again, first_copy, first_moves, first_same}
 use Rattle.pack_laws.proofs.Guarding.{carried_parts, free_parts}

@@ -6,17 +6,17 @@ use Rattle.std.specs.Option.{option_map}
 use Rattle.alto_words.specs.Fid.{fid_cmp, is_directory, is_fid, is_system}
 use Rattle.alto_words.specs.declared.fid.Fid.{Fid}
 use Rattle.disk_records.specs.Packs.{Pack}
-use Rattle.pack_model.specs.Bodies.{Files, described, items_in}
-use Rattle.pack_model.specs.Bytes.{put_at}
-use Rattle.pack_model.specs.Files.{leader, lives}
-use Rattle.pack_model.specs.Leaders.{Leader}
-use Rattle.pack_model.specs.Links.{dir_words}
-use Rattle.pack_model.specs.Model.{dir_items, read_pack, read_sights}
-use Rattle.pack_model.specs.Namings.{Naming, is_kept, item_kept, items_kept, kept_after, kept_by, namings_in, tidied}
-use Rattle.pack_model.specs.Sights.{sights}
-use Rattle.pack_model.specs.Slots.{Item, all_words, item_words, slots}
-use Rattle.pack_model.specs.Slots.Item.{entry, space}
-use Rattle.pack_model.specs.View.{homes, seen_of, view}
+use Rattle.pack_model.specs.reading.Bodies.{Files, described, items_in}
+use Rattle.pack_model.specs.reading.Bytes.{put_at}
+use Rattle.pack_model.specs.reading.Files.{leader, lives}
+use Rattle.pack_model.specs.reading.Leaders.{Leader}
+use Rattle.pack_model.specs.hints.Links.{dir_words}
+use Rattle.pack_model.specs.reading.Model.{dir_items, read_pack, read_sights}
+use Rattle.pack_model.specs.reading.Namings.{Naming, is_kept, item_kept, items_kept, kept_after, kept_by, namings_in, tidied}
+use Rattle.pack_model.specs.reading.Sights.{sights}
+use Rattle.pack_model.specs.reading.Slots.{Item, all_words, item_words, slots}
+use Rattle.pack_model.specs.reading.Slots.Item.{entry, space}
+use Rattle.pack_model.specs.showing.View.{homes, seen_of, view}
 use Rattle.pack_laws.proofs.Bytes.{length-put_at}
 use Rattle.pack_laws.proofs.Keys.{fid_total, same_fid}
 use Rattle.laws_record.proofs.Addressing.{IsLoose, LooseIn, loose_among, slots_kept}

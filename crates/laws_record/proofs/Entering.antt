@@ -5,19 +5,19 @@ use Rattle.std.specs.List.{list_any}
 use Rattle.std.specs.Option.{unwrap_or}
 use Rattle.alto_words.specs.declared.fid.Fid.{Fid}
 use Rattle.disk_records.specs.Packs.{Pack}
-use Rattle.pack_model.specs.Bodies.{Files, described, items_in}
-use Rattle.pack_model.specs.Bytes.{put_at}
-use Rattle.pack_model.specs.Files.{leader, lives}
-use Rattle.pack_model.specs.Leaders.{Leader}
-use Rattle.pack_model.specs.Links.{dir_words}
-use Rattle.pack_model.specs.Maps.{update_found}
-use Rattle.pack_model.specs.Model.{Model, read_pack, read_sights}
-use Rattle.pack_model.specs.Namings.{clashes, files_kept, is_kept, may_stand, namings, tidied}
-use Rattle.pack_model.specs.Rooms.{find_room, items_entered, left_over, placed}
-use Rattle.pack_model.specs.Sights.{sights}
-use Rattle.pack_model.specs.Slots.{Item, all_words, entry_length}
-use Rattle.pack_model.specs.Slots.Item.{entry, space}
-use Rattle.pack_model.specs.Step.{on_items, update_file}
+use Rattle.pack_model.specs.reading.Bodies.{Files, described, items_in}
+use Rattle.pack_model.specs.reading.Bytes.{put_at}
+use Rattle.pack_model.specs.reading.Files.{leader, lives}
+use Rattle.pack_model.specs.reading.Leaders.{Leader}
+use Rattle.pack_model.specs.hints.Links.{dir_words}
+use Rattle.pack_model.specs.sessions.Maps.{update_found}
+use Rattle.pack_model.specs.reading.Model.{Model, read_pack, read_sights}
+use Rattle.pack_model.specs.reading.Namings.{clashes, files_kept, is_kept, may_stand, namings, tidied}
+use Rattle.pack_model.specs.operations.Rooms.{find_room, items_entered, left_over, placed}
+use Rattle.pack_model.specs.reading.Sights.{sights}
+use Rattle.pack_model.specs.reading.Slots.{Item, all_words, entry_length}
+use Rattle.pack_model.specs.reading.Slots.Item.{entry, space}
+use Rattle.pack_model.specs.operations.Step.{on_items, update_file}
 use Rattle.laws_record.proofs.DirReads.{dir_reads, dir_was, has_leader}
 use Rattle.laws_record.proofs.DirWords.{DirChange, dir_change}
 use Rattle.laws_record.proofs.EnterScan.{back_items, enter_scan, front_items, kept_was, length-items_kept}

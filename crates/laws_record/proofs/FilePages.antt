@@ -5,8 +5,8 @@ use Rattle.std.specs.FinMap.Entries.{by_order, put}
 use Rattle.std.specs.Ordering.{is_eq}
 use Rattle.alto_words.specs.Fid.{fid_cmp}
 use Rattle.alto_words.specs.declared.fid.Fid.{Fid}
-use Rattle.pack_model.specs.Bodies.{File, Files, body_length, pages_for}
-use Rattle.pack_model.specs.Model.{files_pages}
+use Rattle.pack_model.specs.reading.Bodies.{File, Files, body_length, pages_for}
+use Rattle.pack_model.specs.reading.Model.{files_pages}
 use Rattle.pack_laws.proofs.Keys.{fid_same, fid_total}
 use Rattle.laws_record.proofs.Around.{around}
 

@@ -3,9 +3,9 @@ use Rattle.std.proofs.Common.{◌%◌, ◌&&◌, ◌++◌, ◌+◌, ◌-◌, ◌
 use Rattle.std.proofs.lemmas.List.{get_or-take, length-take-le}
 use Rattle.std.specs.Prelude.{is_none}
 use Rattle.disk_records.specs.Words.{word}
-use Rattle.pack_model.specs.Slots.{IsSlot, Item, Reads, all_words, and_then, entry_length, first_length, is_entry, item_words, slot_at, slot_fid, slot_name, slot_of, slots, slots_after}
-use Rattle.pack_model.specs.Slots.Item.{entry, space}
-use Rattle.pack_model.specs.Slots.Reads.{next, none}
+use Rattle.pack_model.specs.reading.Slots.{IsSlot, Item, Reads, all_words, and_then, entry_length, first_length, is_entry, item_words, slot_at, slot_fid, slot_name, slot_of, slots, slots_after}
+use Rattle.pack_model.specs.reading.Slots.Item.{entry, space}
+use Rattle.pack_model.specs.reading.Slots.Reads.{next, none}
 use Rattle.laws_record.proofs.Slotting.{slots_reads}
 
 -- ---- tests

@@ -8,16 +8,16 @@ use Rattle.alto_words.specs.declared.fid.Fid.{Fid}
 use Rattle.disk_records.specs.Labels.{tag}
 use Rattle.disk_records.specs.Packs.{Pack, carried, sector_at}
 use Rattle.disk_records.specs.declared.records.Page.{Page}
-use Rattle.pack_model.specs.Bodies.{Body, File, Files, described, found, is_described}
-use Rattle.pack_model.specs.Bytes.{words_of}
-use Rattle.pack_model.specs.Files.{file_bytes, leader, leader_at, lives, page_at, place}
-use Rattle.pack_model.specs.Leaders.{Leader, is_readable, leader_of, leader_words}
-use Rattle.pack_model.specs.Maps.{update_found}
-use Rattle.pack_model.specs.Model.{good_one, last_serial, read_pack, read_sights}
-use Rattle.pack_model.specs.Namings.{Naming, body_kept, files_kept, is_kept, kept_after_body, tidied}
-use Rattle.pack_model.specs.Sights.{Sight, page_sight, sights}
-use Rattle.pack_model.specs.Sights.Sight.{hidden, leads}
-use Rattle.pack_model.specs.Step.{on_leader, update_file}
+use Rattle.pack_model.specs.reading.Bodies.{Body, File, Files, described, found, is_described}
+use Rattle.pack_model.specs.reading.Bytes.{words_of}
+use Rattle.pack_model.specs.reading.Files.{file_bytes, leader, leader_at, lives, page_at, place}
+use Rattle.pack_model.specs.reading.Leaders.{Leader, is_readable, leader_of, leader_words}
+use Rattle.pack_model.specs.sessions.Maps.{update_found}
+use Rattle.pack_model.specs.reading.Model.{good_one, last_serial, read_pack, read_sights}
+use Rattle.pack_model.specs.reading.Namings.{Naming, body_kept, files_kept, is_kept, kept_after_body, tidied}
+use Rattle.pack_model.specs.reading.Sights.{Sight, page_sight, sights}
+use Rattle.pack_model.specs.reading.Sights.Sight.{hidden, leads}
+use Rattle.pack_model.specs.operations.Step.{on_leader, update_file}
 use Rattle.laws_record.proofs.Around.{around}
 use Rattle.laws_record.proofs.Copying.{place_carried}
 use Rattle.laws_record.proofs.DirReads.{insert_same}

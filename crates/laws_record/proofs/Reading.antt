@@ -4,11 +4,11 @@ use Rattle.std.specs.FinMap.{FinMap, get, get-insert, insert, same_map}
 use Rattle.std.specs.Option.{option_map}
 use Rattle.alto_words.specs.Fid.{fid_cmp, is_fid}
 use Rattle.alto_words.specs.declared.fid.Fid.{Fid}
-use Rattle.pack_model.specs.Bodies.{File, body_of, file_of, found}
-use Rattle.pack_model.specs.Files.{file_bytes, leader}
-use Rattle.pack_model.specs.Leaders.{Leader}
-use Rattle.pack_model.specs.Sights.{Sight}
-use Rattle.pack_model.specs.Stored.{files_shown, stored_file}
+use Rattle.pack_model.specs.reading.Bodies.{File, body_of, file_of, found}
+use Rattle.pack_model.specs.reading.Files.{file_bytes, leader}
+use Rattle.pack_model.specs.reading.Leaders.{Leader}
+use Rattle.pack_model.specs.reading.Sights.{Sight}
+use Rattle.pack_model.specs.reading.Stored.{files_shown, stored_file}
 use Rattle.pack_laws.proofs.Keys.{fid_same, fid_total, same_fid}
 use Rattle.pack_laws.proofs.Mapping.{get-map_values}
 use Rattle.pack_laws.proofs.Storing.{get-files_shown}

@@ -4,8 +4,8 @@ use Rattle.std.proofs.lemmas.Option.{cond_some}
 use Rattle.disk_records.specs.Labels.{Tag, in_range, is_free, page_of, tag}
 use Rattle.disk_records.specs.Packs.{Pack, carried, is_free_at, is_usable, sector_at, with_part}
 use Rattle.disk_records.specs.declared.records.Page.{Page}
-use Rattle.pack_model.specs.Sights.{page_sight, sights}
-use Rattle.pack_model.specs.Sights.Sight.{free, hidden}
+use Rattle.pack_model.specs.reading.Sights.{page_sight, sights}
+use Rattle.pack_model.specs.reading.Sights.Sight.{free, hidden}
 use Rattle.pack_laws.proofs.Guarding.{carried_parts, free_parts, free_shown, named_shown, usable_shown, usable_within}
 use Rattle.pack_laws.proofs.Sighted.{length-sights, sights-get, sights-write}
 use Rattle.laws_record.specs.QuietLaws.{with_label, with_value}

@@ -7,10 +7,10 @@ use Rattle.disk_records.specs.Packs.{Pack, carried, is_usable, sector_at, with_p
 use Rattle.disk_records.specs.declared.records.Page.{Page}
 use Rattle.disk_records.specs.declared.records.Sector.{Sector}
 use Rattle.disk_records.specs.declared.shape.Shape.{Shape}
-use Rattle.pack_model.specs.Files.{file_bytes, joined, leader_at, most_pages, page, page_at}
-use Rattle.pack_model.specs.Model.{good_one}
-use Rattle.pack_model.specs.Sights.{Sight, page_sight, sight, sights, tag_sight}
-use Rattle.pack_model.specs.Sights.Sight.{free, hidden, stray}
+use Rattle.pack_model.specs.reading.Files.{file_bytes, joined, leader_at, most_pages, page, page_at}
+use Rattle.pack_model.specs.reading.Model.{good_one}
+use Rattle.pack_model.specs.reading.Sights.{Sight, page_sight, sight, sights, tag_sight}
+use Rattle.pack_model.specs.reading.Sights.Sight.{free, hidden, stray}
 use Rattle.pack_laws.proofs.Guarding.{carried_parts, free_parts, usable_shown, usable_within}
 use Rattle.pack_laws.proofs.Joining.{AreShort, Reaches, continue, front, joined_at, length-front, most_is, skip}
 use Rattle.pack_laws.proofs.Keys.{is_fid-itself}

@@ -7,10 +7,10 @@ use Rattle.disk_records.specs.Words.{double, word}
 use Rattle.disk_records.specs.declared.records.Event.TheVariants.{Wrote}
 use Rattle.disk_records.specs.declared.records.Sector.{Sector}
 use Rattle.disk_records.specs.declared.shape.Shape.{Shape}
-use Rattle.pack_model.specs.Bytes.{bytes_of}
-use Rattle.pack_model.specs.Leaders.{is_readable, leader_name, leader_of, leader_words}
-use Rattle.pack_model.specs.Sights.{page_sight, sight, sights, sights_from, tag_sight}
-use Rattle.pack_model.specs.Sights.Sight.{hidden, holds, leads}
+use Rattle.pack_model.specs.reading.Bytes.{bytes_of}
+use Rattle.pack_model.specs.reading.Leaders.{is_readable, leader_name, leader_of, leader_words}
+use Rattle.pack_model.specs.reading.Sights.{page_sight, sight, sights, sights_from, tag_sight}
+use Rattle.pack_model.specs.reading.Sights.Sight.{hidden, holds, leads}
 use Rattle.pack_laws.proofs.Guarding.{carried_parts, free_parts, free_shown, named_shown}
 use Rattle.laws_record.proofs.Staying.{Stays, stay_sights}
 use Rattle.laws_record.specs.QuietLaws.{EqualValue, FreeValue, LeaderHints, OtherLinks, PastCount, with_label, with_value}

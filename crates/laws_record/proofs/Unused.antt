@@ -8,17 +8,17 @@ use Rattle.disk_records.specs.Addresses.{descriptor_length}
 use Rattle.disk_records.specs.Labels.{is_free, tag}
 use Rattle.disk_records.specs.Packs.{Pack, carried, is_free_at, is_usable, sector_at}
 use Rattle.disk_records.specs.declared.records.Page.{Page}
-use Rattle.pack_model.specs.Bodies.{Body, body_length, body_of}
-use Rattle.pack_model.specs.Bodies.Body.{data_of, items_of}
-use Rattle.pack_model.specs.Bytes.{words_of}
-use Rattle.pack_model.specs.Files.{carries_page, file_bytes, leader, leader_at, most_pages, page, page_at, place}
-use Rattle.pack_model.specs.InUse.{counts, in_use, is_place, is_within, last_page}
-use Rattle.pack_model.specs.Leaders.{Leader}
-use Rattle.pack_model.specs.Links.{dir_words}
-use Rattle.pack_model.specs.Model.{good_one, good_sectors}
-use Rattle.pack_model.specs.Sights.{Sight, page_sight, sights}
-use Rattle.pack_model.specs.Sights.Sight.{free, hidden}
-use Rattle.pack_model.specs.Slots.{all_words, slots}
+use Rattle.pack_model.specs.reading.Bodies.{Body, body_length, body_of}
+use Rattle.pack_model.specs.reading.Bodies.Body.{data_of, items_of}
+use Rattle.pack_model.specs.reading.Bytes.{words_of}
+use Rattle.pack_model.specs.reading.Files.{carries_page, file_bytes, leader, leader_at, most_pages, page, page_at, place}
+use Rattle.pack_model.specs.states.InUse.{counts, in_use, is_place, is_within, last_page}
+use Rattle.pack_model.specs.reading.Leaders.{Leader}
+use Rattle.pack_model.specs.hints.Links.{dir_words}
+use Rattle.pack_model.specs.reading.Model.{good_one, good_sectors}
+use Rattle.pack_model.specs.reading.Sights.{Sight, page_sight, sights}
+use Rattle.pack_model.specs.reading.Sights.Sight.{free, hidden}
+use Rattle.pack_model.specs.reading.Slots.{all_words, slots}
 use Rattle.pack_laws.proofs.Carrying.{carried_shown, sight_carries}
 use Rattle.pack_laws.proofs.Firsts.{first_alone, first_same}
 use Rattle.pack_laws.proofs.Guarding.{carried_parts, here_written, usable_within}

@@ -2,9 +2,9 @@
 use Rattle.std.specs.Prelude.{◌++◌, ◌≡◌, List, ℕ}
 use Rattle.disk_records.specs.Packs.{Pack, after, cut}
 use Rattle.disk_records.specs.declared.records.Event.{Event}
-use Rattle.pack_model.specs.Moves.{Meaning, Obeys, steps}
-use Rattle.pack_model.specs.Scavenging.{Keeps, Mends, Throughout}
-use Rattle.pack_model.specs.Settling.{show}
+use Rattle.pack_model.specs.sessions.Moves.{Meaning, Obeys, steps}
+use Rattle.pack_model.specs.scavenger.Scavenging.{Keeps, Mends, Throughout}
+use Rattle.pack_model.specs.showing.Settling.{show}
 
 -- ---- lists of moves
 -- They make these moves, in lockstep, and each cut stands for the model there; at the end the pack is read as the last model.

@@ -5,16 +5,16 @@ use Rattle.std.specs.Prelude.{List, None, Some, [], false, length, true, â„•, â—
 use Rattle.alto_words.specs.Fid.{fid_cmp, is_system, sys_dir}
 use Rattle.alto_words.specs.declared.fid.Fid.{Fid}
 use Rattle.disk_records.specs.Packs.{Pack}
-use Rattle.pack_model.specs.Files.{lives}
-use Rattle.pack_model.specs.Model.{dir_items, read_pack}
-use Rattle.pack_model.specs.Namings.{clashes, fits, namings}
-use Rattle.pack_model.specs.Rooms.{find_room}
-use Rattle.pack_model.specs.Settling.{chosen}
-use Rattle.pack_model.specs.Sights.{sights}
-use Rattle.pack_model.specs.Slots.{Item, all_words, entry_length}
-use Rattle.pack_model.specs.Step.{step}
-use Rattle.pack_model.specs.Step.Operation.{enter}
-use Rattle.pack_model.specs.View.{Home, Seen, View, view}
+use Rattle.pack_model.specs.reading.Files.{lives}
+use Rattle.pack_model.specs.reading.Model.{dir_items, read_pack}
+use Rattle.pack_model.specs.reading.Namings.{clashes, fits, namings}
+use Rattle.pack_model.specs.operations.Rooms.{find_room}
+use Rattle.pack_model.specs.showing.Settling.{chosen}
+use Rattle.pack_model.specs.reading.Sights.{sights}
+use Rattle.pack_model.specs.reading.Slots.{Item, all_words, entry_length}
+use Rattle.pack_model.specs.operations.Step.{step}
+use Rattle.pack_model.specs.operations.Step.Operation.{enter}
+use Rattle.pack_model.specs.showing.View.{Home, Seen, View, view}
 use Rattle.laws_record.specs.ChainLaws.{ShowsSame}
 use Rattle.laws_record.specs.DirLaws.{Enters, entered}
 

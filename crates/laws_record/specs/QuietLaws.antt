@@ -6,11 +6,11 @@ use Rattle.disk_records.specs.Labels.{is_free, page_of, tag}
 use Rattle.disk_records.specs.Packs.{Pack, after, carried, is_free_at, sector_at}
 use Rattle.disk_records.specs.declared.records.Event.TheVariants.{Wrote}
 use Rattle.disk_records.specs.declared.records.Page.{Page}
-use Rattle.pack_model.specs.Bytes.{bytes_of}
-use Rattle.pack_model.specs.Files.{file_bytes, leader, place}
-use Rattle.pack_model.specs.Leaders.{leader_of, leader_words}
-use Rattle.pack_model.specs.Model.{read_pack}
-use Rattle.pack_model.specs.Sights.{Sight, sights}
+use Rattle.pack_model.specs.reading.Bytes.{bytes_of}
+use Rattle.pack_model.specs.reading.Files.{file_bytes, leader, place}
+use Rattle.pack_model.specs.reading.Leaders.{leader_of, leader_words}
+use Rattle.pack_model.specs.reading.Model.{read_pack}
+use Rattle.pack_model.specs.reading.Sights.{Sight, sights}
 
 -- ---- one record write
 abbrev pub with_label : Pack → ℕ → List ℕ → Pack

@@ -3,10 +3,10 @@
 use Rattle.std.specs.Prelude.{◌++◌, ◌-◌, ◌<◌, ◌∷◌, ◌≡◌, ◌↔◌, All, List, None, Some, drop, length, take, ℕ}
 use Rattle.alto_words.specs.declared.fid.Fid.{Fid}
 use Rattle.disk_records.specs.Words.{word}
-use Rattle.pack_model.specs.Rooms.{Room, find_room, left_over, placed}
-use Rattle.pack_model.specs.SlotWords.{entry_words}
-use Rattle.pack_model.specs.Slots.{Item, Reads, ReadsLongest, all_words, and_then, entry_length, item_words, slot_at, slots}
-use Rattle.pack_model.specs.Slots.Item.{entry, space}
+use Rattle.pack_model.specs.operations.Rooms.{Room, find_room, left_over, placed}
+use Rattle.pack_model.specs.reading.SlotWords.{entry_words}
+use Rattle.pack_model.specs.reading.Slots.{Item, Reads, ReadsLongest, all_words, and_then, entry_length, item_words, slot_at, slots}
+use Rattle.pack_model.specs.reading.Slots.Item.{entry, space}
 
 -- ---- how far words are slots
 -- the longest first part that slots fill is as long as they are

@@ -5,13 +5,13 @@ use Rattle.alto_words.specs.declared.fid.Fid.{Fid}
 use Rattle.disk_records.specs.Labels.{page_of}
 use Rattle.disk_records.specs.Packs.{Pack, after, carried, is_free_at}
 use Rattle.disk_records.specs.declared.records.Event.TheVariants.{Wrote}
-use Rattle.pack_model.specs.Files.{leader}
-use Rattle.pack_model.specs.Links.{dir_words}
-use Rattle.pack_model.specs.Model.{read_pack}
-use Rattle.pack_model.specs.Namings.{namings_in}
-use Rattle.pack_model.specs.Sights.{sights}
-use Rattle.pack_model.specs.Slots.{slots}
-use Rattle.pack_model.specs.View.{view}
+use Rattle.pack_model.specs.reading.Files.{leader}
+use Rattle.pack_model.specs.hints.Links.{dir_words}
+use Rattle.pack_model.specs.reading.Model.{read_pack}
+use Rattle.pack_model.specs.reading.Namings.{namings_in}
+use Rattle.pack_model.specs.reading.Sights.{sights}
+use Rattle.pack_model.specs.reading.Slots.{slots}
+use Rattle.pack_model.specs.showing.View.{view}
 use Rattle.laws_record.specs.QuietLaws.{Relation, with_label, with_value}
 
 -- the second pack is viewed as the first

@@ -3,9 +3,9 @@ use Rattle.std.proofs.Common.{◌+◌, ◌∙◌, ◌≡◌, Bool, None, Option,
 use Rattle.std.specs.FinMap.{entries, get, get-insert, get-remove, insert, remove, same_map}
 use Rattle.alto_words.specs.Fid.{is_fid}
 use Rattle.alto_words.specs.declared.fid.Fid.{Fid}
-use Rattle.pack_model.specs.Bodies.{File, Files, body_length, pages_for}
-use Rattle.pack_model.specs.Maps.{update, update_found}
-use Rattle.pack_model.specs.Model.{files_pages}
+use Rattle.pack_model.specs.reading.Bodies.{File, Files, body_length, pages_for}
+use Rattle.pack_model.specs.sessions.Maps.{update, update_found}
+use Rattle.pack_model.specs.reading.Model.{files_pages}
 use Rattle.pack_laws.proofs.Keys.{fid_same, fid_total, is_fid-itself, same_fid}
 use Rattle.laws_record.proofs.FilePages.{changed_pages, new_pages}
 

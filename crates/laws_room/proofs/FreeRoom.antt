@@ -4,13 +4,13 @@ use Rattle.std.specs.FinMap.{entries}
 use Rattle.alto_words.specs.Fid.{disk_descriptor, sys_dir}
 use Rattle.disk_records.specs.Packs.{Pack}
 use Rattle.disk_records.specs.declared.shape.Shape.{Shape}
-use Rattle.pack_model.specs.Files.{lives, numbered}
-use Rattle.pack_model.specs.InUse.{free_sectors, how_many, in_use}
-use Rattle.pack_model.specs.Mended.{needs}
-use Rattle.pack_model.specs.Model.{descriptor_pages, files_pages, good_sectors, read_pack, read_sights}
-use Rattle.pack_model.specs.Needed.{needed}
-use Rattle.pack_model.specs.Sights.{Sight, sights}
-use Rattle.pack_model.specs.Whole.{Whole, WholeSights}
+use Rattle.pack_model.specs.reading.Files.{lives, numbered}
+use Rattle.pack_model.specs.states.InUse.{free_sectors, how_many, in_use}
+use Rattle.pack_model.specs.scavenger.Mended.{needs}
+use Rattle.pack_model.specs.reading.Model.{descriptor_pages, files_pages, good_sectors, read_pack, read_sights}
+use Rattle.pack_model.specs.scavenger.Needed.{needed}
+use Rattle.pack_model.specs.reading.Sights.{Sight, sights}
+use Rattle.pack_model.specs.states.Whole.{Whole, WholeSights}
 use Rattle.laws_room.proofs.inside.Rooming.{counting_theorem}
 use Rattle.laws_record.proofs.DirReads.{has_leader}
 use Rattle.laws_room.proofs.inside.SystemFiles.{leader_shown, pages_read}

@@ -6,17 +6,17 @@ use Rattle.std.specs.Option.{is_some, unwrap_or}
 use Rattle.alto_words.specs.Fid.{is_directory, is_fid}
 use Rattle.alto_words.specs.Names.{is_same_name}
 use Rattle.alto_words.specs.declared.fid.Fid.{Fid}
-use Rattle.pack_model.specs.Bodies.{Body, File, body_length, pages_for}
-use Rattle.pack_model.specs.Bodies.Body.{data_of, items_of}
-use Rattle.pack_model.specs.Bytes.{put_at}
-use Rattle.pack_model.specs.Committing.{length_in, length_of, pages_added, pages_cut, pages_for_operation}
-use Rattle.pack_model.specs.Maps.{map_entries, update}
-use Rattle.pack_model.specs.Model.{Model, files_pages}
-use Rattle.pack_model.specs.Rooms.{items_entered, placed}
-use Rattle.pack_model.specs.Slots.{Item, all_words, item_words}
-use Rattle.pack_model.specs.Slots.Item.{entry, space}
-use Rattle.pack_model.specs.Step.{Operation, body_bytes, body_slots, file_without, item_without, items_left, items_without, new_body, new_file, on_bytes, on_items, on_leader, step}
-use Rattle.pack_model.specs.Step.Operation.{make, put, grow, cut, title, stamp, drop_file, leave, enter, widen}
+use Rattle.pack_model.specs.reading.Bodies.{Body, File, body_length, pages_for}
+use Rattle.pack_model.specs.reading.Bodies.Body.{data_of, items_of}
+use Rattle.pack_model.specs.reading.Bytes.{put_at}
+use Rattle.pack_model.specs.operations.Committing.{length_in, length_of, pages_added, pages_cut, pages_for_operation}
+use Rattle.pack_model.specs.sessions.Maps.{map_entries, update}
+use Rattle.pack_model.specs.reading.Model.{Model, files_pages}
+use Rattle.pack_model.specs.operations.Rooms.{items_entered, placed}
+use Rattle.pack_model.specs.reading.Slots.{Item, all_words, item_words}
+use Rattle.pack_model.specs.reading.Slots.Item.{entry, space}
+use Rattle.pack_model.specs.operations.Step.{Operation, body_bytes, body_slots, file_without, item_without, items_left, items_without, new_body, new_file, on_bytes, on_items, on_leader, step}
+use Rattle.pack_model.specs.operations.Step.Operation.{make, put, grow, cut, title, stamp, drop_file, leave, enter, widen}
 use Rattle.laws_room.proofs.Standing.{placed_words}
 use Rattle.pack_laws.proofs.Bytes.{length-put_at}
 use Rattle.pack_laws.proofs.Keys.{fid_same, fid_total}

@@ -5,13 +5,13 @@ use Rattle.std.specs.Prelude.{◌+◌, ◌↔◌, ◌∷◌, ◌≡◌, ◌≤�
 use Rattle.alto_words.specs.declared.fid.Fid.{Fid}
 use Rattle.disk_records.specs.Packs.{Pack}
 use Rattle.disk_records.specs.declared.shape.Shape.{Shape}
-use Rattle.pack_model.specs.Bodies.{File, found}
-use Rattle.pack_model.specs.Files.{numbered, place}
-use Rattle.pack_model.specs.InUse.{available, how_many, in_use, last_page, one_if}
-use Rattle.pack_model.specs.Mended.{HasRoom, mended, needs}
-use Rattle.pack_model.specs.Model.{descriptor_pages, good_sectors}
-use Rattle.pack_model.specs.Needed.{needed}
-use Rattle.pack_model.specs.Sights.{Sight, sights}
+use Rattle.pack_model.specs.reading.Bodies.{File, found}
+use Rattle.pack_model.specs.reading.Files.{numbered, place}
+use Rattle.pack_model.specs.states.InUse.{available, how_many, in_use, last_page, one_if}
+use Rattle.pack_model.specs.scavenger.Mended.{HasRoom, mended, needs}
+use Rattle.pack_model.specs.reading.Model.{descriptor_pages, good_sectors}
+use Rattle.pack_model.specs.scavenger.Needed.{needed}
+use Rattle.pack_model.specs.reading.Sights.{Sight, sights}
 
 -- ---- pages that are carried
 -- of a file's leader and its first n data pages, how many some sector carries

@@ -5,10 +5,10 @@ use Rattle.disk_records.specs.Packs.{Pack, after, carried, sector_at}
 use Rattle.disk_records.specs.Words.{word}
 use Rattle.disk_records.specs.declared.records.Event.TheVariants.{Wrote}
 use Rattle.disk_records.specs.declared.records.Page.{Page}
-use Rattle.pack_model.specs.Files.{place}
-use Rattle.pack_model.specs.Scavenging.{Unmarked}
-use Rattle.pack_model.specs.Sights.{sights}
-use Rattle.pack_model.specs.Sound.{Clean, mark_clean}
+use Rattle.pack_model.specs.reading.Files.{place}
+use Rattle.pack_model.specs.scavenger.Scavenging.{Unmarked}
+use Rattle.pack_model.specs.reading.Sights.{sights}
+use Rattle.pack_model.specs.states.Sound.{Clean, mark_clean}
 use Rattle.laws_record.specs.QuietLaws.{with_value}
 
 -- the page whose value has the mark

@@ -6,15 +6,15 @@ use Rattle.alto_words.specs.Fid.{sys_dir}
 use Rattle.alto_words.specs.declared.fid.Fid.{Fid}
 use Rattle.disk_records.specs.Labels.{page_of}
 use Rattle.disk_records.specs.Packs.{Pack}
-use Rattle.pack_model.specs.Files.{file_bytes, lives, place}
-use Rattle.pack_model.specs.Links.{dir_words}
-use Rattle.pack_model.specs.Mended.{lacking, mended, with_system}
-use Rattle.pack_model.specs.Model.{Model, dir_items, root_items}
-use Rattle.pack_model.specs.Namings.{clashes, fits, namings, namings_in}
-use Rattle.pack_model.specs.Rooms.{find_room, placed}
-use Rattle.pack_model.specs.Sights.{sights}
-use Rattle.pack_model.specs.Slots.{Item, SlotsReachEnd, all_words, entry_length, item_words, slots}
-use Rattle.pack_model.specs.Slots.Item.{entry, space}
+use Rattle.pack_model.specs.reading.Files.{file_bytes, lives, place}
+use Rattle.pack_model.specs.hints.Links.{dir_words}
+use Rattle.pack_model.specs.scavenger.Mended.{lacking, mended, with_system}
+use Rattle.pack_model.specs.reading.Model.{Model, dir_items, root_items}
+use Rattle.pack_model.specs.reading.Namings.{clashes, fits, namings, namings_in}
+use Rattle.pack_model.specs.operations.Rooms.{find_room, placed}
+use Rattle.pack_model.specs.reading.Sights.{sights}
+use Rattle.pack_model.specs.reading.Slots.{Item, SlotsReachEnd, all_words, entry_length, item_words, slots}
+use Rattle.pack_model.specs.reading.Slots.Item.{entry, space}
 use Rattle.laws_room.specs.KeepLaws.{KeepsAside, KeepsWithRoot}
 use Rattle.laws_record.specs.DirLaws.{Enters, Frees, entered, freed}
 use Rattle.laws_record.specs.QuietLaws.{with_label}

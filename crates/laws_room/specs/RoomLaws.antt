@@ -3,18 +3,18 @@ use Rattle.std.specs.FinMap.{entries}
 use Rattle.std.specs.Prelude.{Bool, List, get_or, length, not, true, ℕ, ◌&&◌, ◌+◌, ◌↔◌, ◌≡◌}
 use Rattle.alto_words.specs.Fid.{disk_descriptor, sys_dir}
 use Rattle.disk_records.specs.Packs.{Pack}
-use Rattle.pack_model.specs.Files.{lives, numbered}
+use Rattle.pack_model.specs.reading.Files.{lives, numbered}
 use Rattle.page_alloc.specs.Free.{free_sectors as sectors_found}
-use Rattle.pack_model.specs.InUse.{available, free_sectors, how_many, in_use, is_available, is_free_sight, is_good}
-use Rattle.pack_model.specs.Leaders.{Leader}
-use Rattle.pack_model.specs.Mended.{HasRoom}
-use Rattle.pack_model.specs.Model.{descriptor_pages, files_pages, read_pack, room}
-use Rattle.pack_model.specs.Needed.{needed}
-use Rattle.pack_model.specs.Scavenging.{Scavengeable}
-use Rattle.pack_model.specs.Sights.{Sight, sights}
-use Rattle.pack_model.specs.Sights.Sight.{hidden, leads}
-use Rattle.pack_model.specs.Sound.{Sound}
-use Rattle.pack_model.specs.Whole.{Whole}
+use Rattle.pack_model.specs.states.InUse.{available, free_sectors, how_many, in_use, is_available, is_free_sight, is_good}
+use Rattle.pack_model.specs.reading.Leaders.{Leader}
+use Rattle.pack_model.specs.scavenger.Mended.{HasRoom}
+use Rattle.pack_model.specs.reading.Model.{descriptor_pages, files_pages, read_pack, room}
+use Rattle.pack_model.specs.scavenger.Needed.{needed}
+use Rattle.pack_model.specs.scavenger.Scavenging.{Scavengeable}
+use Rattle.pack_model.specs.reading.Sights.{Sight, sights}
+use Rattle.pack_model.specs.reading.Sights.Sight.{hidden, leads}
+use Rattle.pack_model.specs.states.Sound.{Sound}
+use Rattle.pack_model.specs.states.Whole.{Whole}
 
 -- Sector 1 shows SysDir's leader, and DiskDescriptor lives.
 pub record SystemStands (ss : List Sight) : Type 0 where

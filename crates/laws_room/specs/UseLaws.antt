@@ -5,16 +5,16 @@ use Rattle.alto_words.specs.Fid.{disk_descriptor, is_directory}
 use Rattle.disk_records.specs.Labels.{page_of, tag}
 use Rattle.disk_records.specs.Packs.{Pack, is_free_at}
 use Rattle.disk_records.specs.declared.records.Page.{Page}
-use Rattle.pack_model.specs.Committing.{length_of, pages_cut, pages_for_operation}
-use Rattle.pack_model.specs.Files.{file_bytes, numbered, place}
-use Rattle.pack_model.specs.InUse.{available, counts, how_many, in_use}
-use Rattle.pack_model.specs.Model.{Model, read_pack}
-use Rattle.pack_model.specs.Needed.{needed}
-use Rattle.pack_model.specs.Bodies.{pages_for}
-use Rattle.pack_model.specs.Sights.{sights}
-use Rattle.pack_model.specs.Step.{Operation, step}
-use Rattle.pack_model.specs.Step.Operation.{cut, drop_file, enter, grow, leave, make, put, stamp, title, widen}
-use Rattle.pack_model.specs.Whole.{Whole}
+use Rattle.pack_model.specs.operations.Committing.{length_of, pages_cut, pages_for_operation}
+use Rattle.pack_model.specs.reading.Files.{file_bytes, numbered, place}
+use Rattle.pack_model.specs.states.InUse.{available, counts, how_many, in_use}
+use Rattle.pack_model.specs.reading.Model.{Model, read_pack}
+use Rattle.pack_model.specs.scavenger.Needed.{needed}
+use Rattle.pack_model.specs.reading.Bodies.{pages_for}
+use Rattle.pack_model.specs.reading.Sights.{sights}
+use Rattle.pack_model.specs.operations.Step.{Operation, step}
+use Rattle.pack_model.specs.operations.Step.Operation.{cut, drop_file, enter, grow, leave, make, put, stamp, title, widen}
+use Rattle.pack_model.specs.states.Whole.{Whole}
 use Rattle.laws_record.specs.QuietLaws.{with_label}
 
 -- how many sectors are in use

@@ -2,7 +2,7 @@
 use Rattle.std.proofs.Common.{◌≡◌, ℕ, zero, suc, ◌+◌, ◌-◌, ◌*◌, ◌/◌, ◌%◌, ◌<◌, List, [], ◌∷◌, ◌++◌, length, get_or, drop, replicate, refl, ap, ◌∙◌, arith, Fits, w16}
 use Rattle.std.specs.List.{slice_index, flat_map}
 use Rattle.byteorder.specs.Endian.{big_number, big_bytes}
-use Rattle.pack_model.specs.Bytes.{bytes_of, words_of}
+use Rattle.pack_model.specs.reading.Bytes.{bytes_of, words_of}
 
 pub length-bytes_of : (words : List ℕ) → length (bytes_of words) ≡ 2 * length words
 length-bytes_of [] = refl

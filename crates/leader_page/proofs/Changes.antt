@@ -4,8 +4,8 @@ use Rattle.std.proofs.lemmas.List.{length-take-le, take_at, drop_at, drop-take, 
 use Rattle.std.proofs.Math.Seq.{take-add}
 use Rattle.alto_words.specs.declared.fid.Fid.{Fid}
 use Rattle.alto_words.specs.Names.{is_stored_name}
-use Rattle.pack_model.specs.Leaders.{Leader, is_readable, leader_name, leader_words}
-use Rattle.pack_model.specs.PageWords.{name_words, titled_value, stamped_value}
+use Rattle.pack_model.specs.reading.Leaders.{Leader, is_readable, leader_name, leader_words}
+use Rattle.pack_model.specs.operations.PageWords.{name_words, titled_value, stamped_value}
 use Rattle.leader_page.specs.Laws.{SaysTitled, SaysStamped}
 use Rattle.alto_words.proofs.Versions.{is_stored_name-fits}
 use Rattle.leader_page.proofs.Names.{length-name_words, is_readable-named}

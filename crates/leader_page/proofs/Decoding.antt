@@ -7,8 +7,8 @@ use Rattle.alto_words.specs.declared.fid.Fid.{Fid}
 use Rattle.alto_words.specs.Fid.{serial_of}
 use Rattle.alto_words.specs.Names.{lost}
 use Rattle.disk_records.specs.Words.{double}
-use Rattle.pack_model.specs.Leaders as model
-use Rattle.pack_model.specs.Leaders.{spelled_name, is_readable, leader_name, leader_words, leader_of}
+use Rattle.pack_model.specs.reading.Leaders as model
+use Rattle.pack_model.specs.reading.Leaders.{spelled_name, is_readable, leader_name, leader_words, leader_of}
 use Rattle.leader_page.specs.declared.leader.Leader.{Leader}
 use Rattle.leader_page.specs.Pages.{said, Says}
 use Rattle.leader_page.proofs.Spelling.{spelled}

@@ -6,10 +6,10 @@ use Rattle.std.proofs.lemmas.Bool.Decides.{nat_tests}
 use Rattle.std.proofs.Math.Seq.{take-add}
 use Rattle.alto_words.specs.Fid.{sys_dir}
 use Rattle.disk_records.specs.Words.{word}
-use Rattle.pack_model.specs.Bytes.{bytes_of, words_of}
-use Rattle.pack_model.specs.Leaders as model
-use Rattle.pack_model.specs.Leaders.{name_bytes, spelled_name, is_readable, leader_words, leader_of}
-use Rattle.pack_model.specs.PageWords.{name_words, leader_value}
+use Rattle.pack_model.specs.reading.Bytes.{bytes_of, words_of}
+use Rattle.pack_model.specs.reading.Leaders as model
+use Rattle.pack_model.specs.reading.Leaders.{name_bytes, spelled_name, is_readable, leader_words, leader_of}
+use Rattle.pack_model.specs.operations.PageWords.{name_words, leader_value}
 use Rattle.leader_page.specs.declared.leader.Leader.{Leader}
 use Rattle.leader_page.specs.Pages.{said, Says, IsDecoded, IsPadded}
 use Rattle.leader_page.proofs.Bytes.{length-bytes_of, words_of-bytes_of}

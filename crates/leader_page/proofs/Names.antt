@@ -9,9 +9,9 @@ use Rattle.std.proofs.lemmas.Bool.Decides.{nat_tests}
 use Rattle.alto_words.specs.Names.{is_stored_name}
 use Rattle.alto_words.proofs.Versions.{is_stored_character, is_stored_name-fits, is_stored_name-characters}
 use Rattle.disk_records.specs.Words.{word}
-use Rattle.pack_model.specs.Bytes.{bytes_of, words_of}
-use Rattle.pack_model.specs.Leaders.{name_bytes, spelled_name, is_readable}
-use Rattle.pack_model.specs.PageWords.{filled, name_words}
+use Rattle.pack_model.specs.reading.Bytes.{bytes_of, words_of}
+use Rattle.pack_model.specs.reading.Leaders.{name_bytes, spelled_name, is_readable}
+use Rattle.pack_model.specs.operations.PageWords.{filled, name_words}
 use Rattle.leader_page.proofs.Bytes.{length-words_of, bytes_of-words_of, AreBytes, AreBytes-append, AreBytes-zeros}
 
 -- ---- stored names

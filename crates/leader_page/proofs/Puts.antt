@@ -1,7 +1,7 @@
 -- Words that are put one part behind the other.
 use Rattle.std.proofs.Common.{◌≡◌, ℕ, ◌+◌, ◌-◌, List, [], ◌++◌, length, take, drop, replicate, refl, sym, ap, ◌∙◌, arith, append-nil}
 use Rattle.std.proofs.lemmas.List.{length-append, take_at, drop_at, drop-replicate, drop-drop}
-use Rattle.pack_model.specs.Bytes.{put_at}
+use Rattle.pack_model.specs.reading.Bytes.{put_at}
 
 -- a part goes behind those in front, in the place of zeros
 pub put_behind : (at m n : ℕ) (front new : List ℕ) → length front ≡ at → m ≡ length new + n → put_at at new (front ++ replicate m 0) ≡ (front ++ new) ++ replicate n 0

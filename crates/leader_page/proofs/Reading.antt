@@ -4,8 +4,8 @@ use Rattle.std.specs.List.{slice_range}
 use Rattle.std.proofs.lemmas.List.{length-take-le, length-drop, drop-take, take-take, take_all}
 use Rattle.alto_words.specs.Names.{stored_in}
 use Rattle.disk_records.specs.Words.{word}
-use Rattle.pack_model.specs.Bytes.{bytes_of}
-use Rattle.pack_model.specs.Leaders.{name_bytes, spelled_name, leader_words}
+use Rattle.pack_model.specs.reading.Bytes.{bytes_of}
+use Rattle.pack_model.specs.reading.Leaders.{name_bytes, spelled_name, leader_words}
 use Rattle.leader_page.proofs.Bytes.{length-bytes_of}
 use Rattle.leader_page.proofs.Spelling.{spelled, spelled-too_long, spelled-whole}
 

@@ -6,7 +6,7 @@ use Rattle.std.proofs.lemmas.Bool.{eq-eqb}
 use Rattle.std.proofs.lemmas.Bool.Decides.{nat_tests}
 use Rattle.alto_words.specs.Names.{is_stored_name, stored_in}
 use Rattle.disk_records.specs.Words.{word}
-use Rattle.pack_model.specs.Leaders.{name_bytes, spelled_name, is_readable}
+use Rattle.pack_model.specs.reading.Leaders.{name_bytes, spelled_name, is_readable}
 
 -- the answer to words: the name that they spell, if it is a stored one
 abbrev pub spelled : List ℕ → Option (List ℕ)

@@ -5,8 +5,8 @@ use Rattle.alto_words.specs.declared.fid.Fid.{Fid}
 use Rattle.alto_words.specs.Names.{is_stored_name, lost}
 use Rattle.alto_words.specs.Fid.{serial_of}
 use Rattle.disk_records.specs.Words.{double}
-use Rattle.pack_model.specs.Leaders.{Leader, spelled_name, is_readable, leader_name, leader_words, leader_of}
-use Rattle.pack_model.specs.PageWords.{name_words, leader_value}
+use Rattle.pack_model.specs.reading.Leaders.{Leader, spelled_name, is_readable, leader_name, leader_words, leader_of}
+use Rattle.pack_model.specs.operations.PageWords.{name_words, leader_value}
 use Rattle.leader_page.specs.Pages.{Says}
 use Rattle.alto_words.proofs.Versions.{is_stored_name-fits}
 use Rattle.leader_page.proofs.Names.{length-name_words, spelled_name-named, is_readable-named}

@@ -2,9 +2,9 @@
 use Rattle.std.specs.Prelude.{◌≡◌, ℕ, ◌<◌, true, List, [], ◌∷◌, ◌++◌, length, take, drop, Option, Some, All}
 use Rattle.alto_words.specs.declared.fid.Fid.{Fid}
 use Rattle.alto_words.specs.Names.{is_stored_name}
-use Rattle.pack_model.specs.Leaders as model
-use Rattle.pack_model.specs.Leaders.{is_readable, leader_words, leader_of}
-use Rattle.pack_model.specs.PageWords.{leader_value, titled_value, stamped_value}
+use Rattle.pack_model.specs.reading.Leaders as model
+use Rattle.pack_model.specs.reading.Leaders.{is_readable, leader_words, leader_of}
+use Rattle.pack_model.specs.operations.PageWords.{leader_value, titled_value, stamped_value}
 use Rattle.leader_page.specs.declared.leader.Leader.{Leader}
 use Rattle.leader_page.specs.Pages.{said, Says, IsDecoded, IsPadded}
 

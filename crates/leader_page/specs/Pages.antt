@@ -2,8 +2,8 @@
 use Rattle.std.specs.Prelude.{◌≡◌, ℕ, ◌-◌, true, false, List, drop, replicate, Option, MatchOption}
 use Rattle.alto_words.specs.declared.fid.Fid.{Fid}
 use Rattle.disk_records.specs.Words.{word}
-use Rattle.pack_model.specs.Leaders as model
-use Rattle.pack_model.specs.Leaders.{is_readable, name_bytes, leader_words, leader_of}
+use Rattle.pack_model.specs.reading.Leaders as model
+use Rattle.pack_model.specs.reading.Leaders.{is_readable, name_bytes, leader_words, leader_of}
 use Rattle.leader_page.specs.declared.leader.Leader.{Leader}
 
 -- what a leader says, its hints apart

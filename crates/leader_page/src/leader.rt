@@ -11,9 +11,9 @@ ghost use Rattle.alto_words.specs.declared.fid.Fid.{Fid};
 ghost use Rattle.alto_words.specs.Names.{is_stored_name};
 ghost use Rattle.disk_records.specs.Words.{double};
 ghost use Rattle.leader_page.specs.Pages.{said};
-ghost use Rattle.pack_model.specs.Bytes.{put_at};
-ghost use Rattle.pack_model.specs.Leaders.{is_readable, spelled_name, leader_words, leader_of};
-ghost use Rattle.pack_model.specs.PageWords.{filled, halves, name_words};
+ghost use Rattle.pack_model.specs.reading.Bytes.{put_at};
+ghost use Rattle.pack_model.specs.reading.Leaders.{is_readable, spelled_name, leader_words, leader_of};
+ghost use Rattle.pack_model.specs.operations.PageWords.{filled, halves, name_words};
 
 use crate::words::words_into_bytes;
 use alto_words::{Fid, Name};
@@ -57,8 +57,8 @@ pub struct Leader {
 
 impl Leader {
     ghost use Rattle.leader_page.specs.Pages.{said, Says, IsDecoded};
-    ghost use Rattle.pack_model.specs.Leaders.{leader_of};
-    ghost use Rattle.pack_model.specs.PageWords.{leader_value};
+    ghost use Rattle.pack_model.specs.reading.Leaders.{leader_of};
+    ghost use Rattle.pack_model.specs.operations.PageWords.{leader_value};
 
     /// The leader that the value of a leader page says. None exactly where words 6 to 25 spell no stored name: the length byte
     /// isn't 2 to 39, or so many characters don't form one. Bytes behind the name are ignored.

@@ -1,6 +1,6 @@
 // Words as bytes.
 ghost use Rattle.std.specs.Prelude.{◌≡◌, ◌*◌, length};
-ghost use Rattle.pack_model.specs.Bytes.{bytes_of};
+ghost use Rattle.pack_model.specs.reading.Bytes.{bytes_of};
 
 use byteorder::{BigEndian, ByteOrder};
 

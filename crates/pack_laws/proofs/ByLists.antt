@@ -12,15 +12,15 @@ use Rattle.alto_words.specs.Fid.{fid_cmp, is_fid, is_system, sys_dir}
 use Rattle.alto_words.specs.Names.{is_same_name}
 use Rattle.disk_records.specs.declared.shape.Shape.{Shape}
 use Rattle.disk_records.specs.Packs.{Pack}
-use Rattle.pack_model.specs.Sights.{Sight, sights}
-use Rattle.pack_model.specs.Files.{lives}
-use Rattle.pack_model.specs.Maps.{map_entries}
-use Rattle.pack_model.specs.Stored.{leader_entries, stored_file, files_shown}
-use Rattle.pack_model.specs.Bodies.{File, Files, found, file_of, described, is_described}
-use Rattle.pack_model.specs.Namings.{tidied, files_kept, is_kept, namings, sys_dir_name, descriptor_name}
-use Rattle.pack_model.specs.Model.{Model, read_sights, read_pack, room, descriptor_pages, files_pages, good_sectors}
-use Rattle.pack_model.specs.View.{Home, Seen, view, seen_of, homes}
-use Rattle.pack_model.specs.Settling.{chosen, chosen_from, most_suffixes, given, adopted, settled, settle, show, unless, given_names}
+use Rattle.pack_model.specs.reading.Sights.{Sight, sights}
+use Rattle.pack_model.specs.reading.Files.{lives}
+use Rattle.pack_model.specs.sessions.Maps.{map_entries}
+use Rattle.pack_model.specs.reading.Stored.{leader_entries, stored_file, files_shown}
+use Rattle.pack_model.specs.reading.Bodies.{File, Files, found, file_of, described, is_described}
+use Rattle.pack_model.specs.reading.Namings.{tidied, files_kept, is_kept, namings, sys_dir_name, descriptor_name}
+use Rattle.pack_model.specs.reading.Model.{Model, read_sights, read_pack, room, descriptor_pages, files_pages, good_sectors}
+use Rattle.pack_model.specs.showing.View.{Home, Seen, view, seen_of, homes}
+use Rattle.pack_model.specs.showing.Settling.{chosen, chosen_from, most_suffixes, given, adopted, settled, settle, show, unless, given_names}
 use Rattle.pack_laws.proofs.Keys.{fid_total, fid_same}
 use Rattle.pack_laws.proofs.Mapping.{entries-map_values}
 use Rattle.std.proofs.lemmas.List.{nil_from_length}

@@ -2,7 +2,7 @@
 use Rattle.std.proofs.Common.{◌≡◌, ℕ, zero, suc, ◌+◌, ◌*◌, ◌<◌, ◌≤◌, Bool, true, false, cond, not, List, ◌++◌, length, Option, Some, None, refl, ap, subst, ◌∙◌, arith, ltb-false}
 use Rattle.std.specs.Prelude.{nat_lt}
 use Rattle.std.proofs.lemmas.List.{length-append}
-use Rattle.pack_model.specs.Files.{joined}
+use Rattle.pack_model.specs.reading.Files.{joined}
 use Rattle.pack_laws.proofs.Joining.{AreShort, Reaches, Reaches-none, Reaches-suc, continue, is_full, joined-suc, joined-zero, next_pages, short_next}
 
 -- ---- what the length says, where no page has more than 512 bytes

@@ -3,7 +3,7 @@ use Rattle.std.proofs.Common.{◌≡◌, ℕ, zero, suc, ◌+◌, ◌-◌, ◌*�
 use Rattle.std.specs.Prelude.{All}
 use Rattle.std.proofs.lemmas.List.{length-append, length-take, length-drop, take-append-le, drop-append-le, take-append-drop, take_at, take_all, drop_all}
 use Rattle.std.proofs.lemmas.Bool.{cases_lt}
-use Rattle.pack_model.specs.Bytes.{bytes_of, words_of, put_at}
+use Rattle.pack_model.specs.reading.Bytes.{bytes_of, words_of, put_at}
 
 -- ---- there and back
 -- two bytes to a word

@@ -6,11 +6,11 @@ use Rattle.disk_records.specs.declared.records.Sector.{Sector}
 use Rattle.disk_records.specs.declared.records.Page.{Page}
 use Rattle.disk_records.specs.Labels.{tag, in_range, is_free, page_of}
 use Rattle.disk_records.specs.Packs.{Pack, sector_at, is_usable, carried}
-use Rattle.pack_model.specs.Bytes.{bytes_of}
-use Rattle.pack_model.specs.Leaders.{leader_of, leader_words, is_readable}
-use Rattle.pack_model.specs.Sights.{Sight, sight, sights, tag_sight, page_sight}
-use Rattle.pack_model.specs.Sights.Sight.{hidden, free, stray, leads}
-use Rattle.pack_model.specs.Files.{carries_page}
+use Rattle.pack_model.specs.reading.Bytes.{bytes_of}
+use Rattle.pack_model.specs.reading.Leaders.{leader_of, leader_words, is_readable}
+use Rattle.pack_model.specs.reading.Sights.{Sight, sight, sights, tag_sight, page_sight}
+use Rattle.pack_model.specs.reading.Sights.Sight.{hidden, free, stray, leads}
+use Rattle.pack_model.specs.reading.Files.{carries_page}
 use Rattle.pack_laws.proofs.Keys.{is_fid-itself, same_fid}
 use Rattle.pack_laws.proofs.Sighted.{page_shown, sights-get}
 use Rattle.pack_laws.proofs.Placing.{both_test, carries-holds}

@@ -2,7 +2,7 @@
 use Rattle.std.proofs.Common.{◌≡◌, ℕ, zero, suc, ◌<◌, ◌≢◌, List, [], ◌∷◌, ◌++◌, length, get_or, set, Option, Some, None, refl, sym, ap, ◌∙◌, arith}
 use Rattle.std.specs.Option.{option_or}
 use Rattle.std.proofs.lemmas.List.{get_or_default}
-use Rattle.pack_model.specs.Files.{first, Bears}
+use Rattle.pack_model.specs.reading.Files.{first, Bears}
 use Rattle.pack_laws.specs.FileLaws.{FirstIsBorne}
 
 -- where neither answers the left one doesn't

@@ -5,10 +5,10 @@ use Rattle.std.specs.Option.{option_map}
 use Rattle.std.specs.FinMap.{find as find_key, get, get-entries, entries}
 use Rattle.alto_words.specs.declared.fid.Fid.{Fid}
 use Rattle.alto_words.specs.Fid.{fid_cmp, is_fid, serial_of}
-use Rattle.pack_model.specs.Leaders.{Leader}
-use Rattle.pack_model.specs.Sights.{Sight}
-use Rattle.pack_model.specs.Files.{leader, file_bytes}
-use Rattle.pack_model.specs.Stored.{StoredFile, files_shown, stored_file, file_of_serial}
+use Rattle.pack_model.specs.reading.Leaders.{Leader}
+use Rattle.pack_model.specs.reading.Sights.{Sight}
+use Rattle.pack_model.specs.reading.Files.{leader, file_bytes}
+use Rattle.pack_model.specs.reading.Stored.{StoredFile, files_shown, stored_file, file_of_serial}
 use Rattle.pack_laws.specs.Least.{least_shown}
 use Rattle.pack_laws.proofs.Keys.{is_fid-itself, same_fid}
 use Rattle.pack_laws.proofs.Storing.{get-files_shown}

@@ -13,8 +13,8 @@ use Rattle.disk_records.specs.Commands.{ones}
 use Rattle.disk_records.specs.Labels.{Tag, tag, in_range, is_free, page_of}
 use Rattle.disk_records.specs.Packs.{Pack, after, sector_at, no_sector, with_part, is_usable, carried, is_free_at}
 use Rattle.disk_records.proofs.Reals.{real_of-above}
-use Rattle.pack_model.specs.Sights.{sight, tag_sight, page_sight}
-use Rattle.pack_model.specs.Sights.Sight.{hidden, free, stray}
+use Rattle.pack_model.specs.reading.Sights.{sight, tag_sight, page_sight}
+use Rattle.pack_model.specs.reading.Sights.Sight.{hidden, free, stray}
 
 -- ---- labels
 -- a label in range isn't free, and the other way

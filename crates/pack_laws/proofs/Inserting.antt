@@ -10,7 +10,7 @@ use Rattle.std.specs.BTreeSet.{insert_key}
 use Rattle.std.specs.FinMap.{FinMap, find, entries, entries-insert, from_entries, empty, len-entries, len-empty, put}
 use Rattle.std.specs.FinMap.Entries.{by_order}
 use Rattle.std.proofs.lemmas.List.{nil_from_length}
-use Rattle.pack_model.specs.Listing.{in_order}
+use Rattle.pack_model.specs.showing.Listing.{in_order}
 
 -- what a call ensures where it didn't fail
 pub when_ok : {T E : Type 0} {P : Type 0} (r : Result T E) → is_err r ≡ false → OnOk r P → P

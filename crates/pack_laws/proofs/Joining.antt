@@ -4,8 +4,8 @@ use Rattle.std.proofs.lemmas.Bool.{cases_lt, not-true}
 use mathlib.Core.Path.{fun_ext}
 use Rattle.std.specs.Prelude.{nat_lt}
 use Rattle.std.proofs.lemmas.List.{length-append}
-use Rattle.pack_model.specs.Bytes.{put_at}
-use Rattle.pack_model.specs.Files.{joined, most_pages}
+use Rattle.pack_model.specs.reading.Bytes.{put_at}
+use Rattle.pack_model.specs.reading.Files.{joined, most_pages}
 use Rattle.pack_laws.proofs.Bytes.{length-put_at, put_at-append_left, put_at-append_right}
 
 -- whether there is a page and no room in it

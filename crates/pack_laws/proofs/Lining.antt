@@ -3,7 +3,7 @@ use Rattle.std.proofs.Common.{◌≡◌, ◌≢◌, ℕ, ◌^◌, ◌==◌, Bool
 use Rattle.std.proofs.lemmas.Bool.{cond-false}
 use Rattle.std.proofs.lemmas.Bool.Decides.{nat_tests}
 use Rattle.std.proofs.lemmas.List.{append-nil}
-use Rattle.pack_model.specs.Lines.{lines_from, ended_from, longest_line, most_keys}
+use Rattle.pack_model.specs.sessions.Lines.{lines_from, ended_from, longest_line, most_keys}
 
 -- ---- a key more
 -- any other byte joins it, of lines that end

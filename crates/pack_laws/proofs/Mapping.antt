@@ -7,7 +7,7 @@ use Rattle.std.specs.Option.{option_map}
 use Rattle.std.specs.Cmp.{IsTotalOrder}
 use Rattle.std.specs.FinMap.{FinMap, IsAntisymmetric, find, get, get-insert, get-from_entries, get-entries, entries, entries_sorted, from_entries, is_sorted}
 use Rattle.std.specs.FinMap.Entries.{same_entries, below_all}
-use Rattle.pack_model.specs.Maps.{map_entries, map_values, update, update_found}
+use Rattle.pack_model.specs.sessions.Maps.{map_entries, map_values, update, update_found}
 use Rattle.pack_laws.proofs.Keys.{is_eq-Equal}
 
 -- other values in order are in order

@@ -8,19 +8,19 @@ use Rattle.alto_words.specs.declared.fid.Fid.{Fid}
 use Rattle.alto_words.specs.Fid.{fid_cmp, is_fid, serial_of, sys_dir, disk_descriptor}
 use Rattle.disk_records.specs.declared.shape.Shape.{Shape}
 use Rattle.disk_records.specs.Packs.{Pack, sector_at}
-use Rattle.pack_model.specs.Sights.{Sight, sights}
-use Rattle.pack_model.specs.Sights.Sight.{hidden, free, stray, leads, holds}
-use Rattle.pack_model.specs.Files.{lives, file_bytes, numbered}
-use Rattle.pack_model.specs.Bodies.{File, described, items_in}
-use Rattle.pack_model.specs.Namings.{namings, sys_dir_name, descriptor_name}
-use Rattle.pack_model.specs.Model.{read_pack, files_pages, descriptor_words}
-use Rattle.pack_model.specs.Settling.{settle, unless}
-use Rattle.pack_model.specs.Mended.{mended, with_system, rooted, root_body, root_file, lacking, widens, needs}
-use Rattle.pack_model.specs.Needed.{needed, files_lack, root_lacks, descriptor_lacks}
-use Rattle.pack_model.specs.InUse.{is_within, is_good, is_free_sight, how_many, bad_sectors}
-use Rattle.pack_model.specs.Scavenging.{Refusal, first_refusal, root_stands}
-use Rattle.pack_model.specs.Scavenging.Refusal.{root_bad, root_taken, pack_full}
-use Rattle.pack_model.specs.Reports.{Report, report_of, freed_sectors, mended_serial, old_serial, greatest_serial}
+use Rattle.pack_model.specs.reading.Sights.{Sight, sights}
+use Rattle.pack_model.specs.reading.Sights.Sight.{hidden, free, stray, leads, holds}
+use Rattle.pack_model.specs.reading.Files.{lives, file_bytes, numbered}
+use Rattle.pack_model.specs.reading.Bodies.{File, described, items_in}
+use Rattle.pack_model.specs.reading.Namings.{namings, sys_dir_name, descriptor_name}
+use Rattle.pack_model.specs.reading.Model.{read_pack, files_pages, descriptor_words}
+use Rattle.pack_model.specs.showing.Settling.{settle, unless}
+use Rattle.pack_model.specs.scavenger.Mended.{mended, with_system, rooted, root_body, root_file, lacking, widens, needs}
+use Rattle.pack_model.specs.scavenger.Needed.{needed, files_lack, root_lacks, descriptor_lacks}
+use Rattle.pack_model.specs.states.InUse.{is_within, is_good, is_free_sight, how_many, bad_sectors}
+use Rattle.pack_model.specs.scavenger.Scavenging.{Refusal, first_refusal, root_stands}
+use Rattle.pack_model.specs.scavenger.Scavenging.Refusal.{root_bad, root_taken, pack_full}
+use Rattle.pack_model.specs.scavenger.Reports.{Report, report_of, freed_sectors, mended_serial, old_serial, greatest_serial}
 use Rattle.pack_laws.proofs.Keys.{fid_total}
 use Rattle.pack_laws.proofs.Uses.{file_by, found_is, used_by, used_is, available_is}
 use Rattle.pack_laws.proofs.ByLists.{adopts_by, adopts_list, described_by, described_list, found_by, found_list, read_by, read_list, seen_by, seen_list, tidied_by, tidied_list}

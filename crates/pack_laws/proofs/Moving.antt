@@ -5,7 +5,7 @@ use Rattle.disk_records.specs.Events.{IsFirstOf}
 use Rattle.disk_records.specs.Packs.{Pack, after}
 use Rattle.disk_records.specs.Tapes.{Taped, pack, added}
 use Rattle.disk_records.proofs.Growing.{after-append, nothing_added}
-use Rattle.pack_model.specs.Moves.{Meaning, steps, Obeys, rest, write, IsStartOf, Does}
+use Rattle.pack_model.specs.sessions.Moves.{Meaning, steps, Obeys, rest, write, IsStartOf, Does}
 
 -- ---- first parts of lists
 -- all of a list is a first part of it

@@ -5,11 +5,11 @@ use mathlib.Core.Path.{fun_ext}
 use Rattle.std.specs.Prelude.{◌&&◌, ◌==◌}
 use Rattle.alto_words.specs.declared.fid.Fid.{Fid}
 use Rattle.alto_words.specs.Fid.{is_fid}
-use Rattle.pack_model.specs.Bytes.{put_at}
-use Rattle.pack_model.specs.Sights.{Sight}
-use Rattle.pack_model.specs.Sights.Sight.{hidden, holds}
-use Rattle.pack_model.specs.Files.{leader_at, page_at, leader, page, file_bytes, joined, most_pages}
-use Rattle.pack_model.specs.Stored.{files_shown, stored_put}
+use Rattle.pack_model.specs.reading.Bytes.{put_at}
+use Rattle.pack_model.specs.reading.Sights.{Sight}
+use Rattle.pack_model.specs.reading.Sights.Sight.{hidden, holds}
+use Rattle.pack_model.specs.reading.Files.{leader_at, page_at, leader, page, file_bytes, joined, most_pages}
+use Rattle.pack_model.specs.reading.Stored.{files_shown, stored_put}
 use Rattle.pack_laws.proofs.Firsts.{first_same, first_borne}
 use Rattle.pack_laws.proofs.Joining.{AreShort, Reaches, length-joined, joined_put}
 use Rattle.pack_laws.proofs.ByteInPages.{HasByte, has_byte}

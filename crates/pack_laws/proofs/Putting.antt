@@ -5,13 +5,13 @@ use Rattle.alto_words.specs.declared.fid.Fid.{Fid}
 use Rattle.disk_records.specs.declared.records.Event.TheVariants.{Wrote}
 use Rattle.disk_records.specs.Labels.{tag}
 use Rattle.disk_records.specs.Packs.{Pack, after, sector_at}
-use Rattle.pack_model.specs.Bytes.{bytes_of, put_at, words_of}
-use Rattle.pack_model.specs.Sights.{sights}
-use Rattle.pack_model.specs.Sights.Sight.{hidden, holds}
-use Rattle.pack_model.specs.Stored.{files_shown, stored_files, stored_put}
-use Rattle.pack_model.specs.Moves.{Obeys}
-use Rattle.pack_model.specs.Moves.Obeys.{rest, write}
-use Rattle.pack_model.specs.Puts.{Put, WritesValue, putting}
+use Rattle.pack_model.specs.reading.Bytes.{bytes_of, put_at, words_of}
+use Rattle.pack_model.specs.reading.Sights.{sights}
+use Rattle.pack_model.specs.reading.Sights.Sight.{hidden, holds}
+use Rattle.pack_model.specs.reading.Stored.{files_shown, stored_files, stored_put}
+use Rattle.pack_model.specs.sessions.Moves.{Obeys}
+use Rattle.pack_model.specs.sessions.Moves.Obeys.{rest, write}
+use Rattle.pack_model.specs.operations.Puts.{Put, WritesValue, putting}
 use Rattle.pack_laws.specs.PutLaws.{StaysWithin}
 use Rattle.pack_laws.proofs.Bytes.{bytes_of-put, take-put_at}
 use Rattle.pack_laws.proofs.Sighted.{ShowsPage, length-sights, shows_page, sights-get, sights-write, value_shown}

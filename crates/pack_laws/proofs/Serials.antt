@@ -11,10 +11,10 @@ use Rattle.std.proofs.lemmas.List.Sums.{fold_more}
 use Rattle.alto_words.specs.declared.fid.Fid.{Fid}
 use Rattle.alto_words.specs.Fid.{fid_cmp, serial_of}
 use Rattle.disk_records.specs.Packs.{Pack, sector_at}
-use Rattle.pack_model.specs.Sights.{Sight, sight, sights}
-use Rattle.pack_model.specs.Sights.Sight.{hidden, free, stray, leads, holds}
-use Rattle.pack_model.specs.Maps.{map_entries}
-use Rattle.pack_model.specs.Stored.{files_shown, stored_files, stored_file, leader_entries, file_of_serial}
+use Rattle.pack_model.specs.reading.Sights.{Sight, sight, sights}
+use Rattle.pack_model.specs.reading.Sights.Sight.{hidden, free, stray, leads, holds}
+use Rattle.pack_model.specs.sessions.Maps.{map_entries}
+use Rattle.pack_model.specs.reading.Stored.{files_shown, stored_files, stored_file, leader_entries, file_of_serial}
 use Rattle.pack_laws.specs.Least.{least, least_shown}
 use Rattle.pack_laws.proofs.Keys.{fid_total, fid_same}
 use Rattle.pack_laws.proofs.Mapping.{entries-map_values}

@@ -8,9 +8,9 @@ use Rattle.disk_records.specs.declared.records.Sector.{Sector}
 use Rattle.disk_records.specs.declared.records.Event.TheVariants.{Wrote}
 use Rattle.disk_records.specs.Labels.{Tag, tag, in_range, is_free}
 use Rattle.disk_records.specs.Packs.{Pack, after, sector_at, with_part, no_sector, is_usable}
-use Rattle.pack_model.specs.Bytes.{bytes_of}
-use Rattle.pack_model.specs.Sights.{Sight, sight, sights, sights_from, tag_sight, page_sight}
-use Rattle.pack_model.specs.Sights.Sight.{hidden, free, stray, holds}
+use Rattle.pack_model.specs.reading.Bytes.{bytes_of}
+use Rattle.pack_model.specs.reading.Sights.{Sight, sight, sights, sights_from, tag_sight, page_sight}
+use Rattle.pack_model.specs.reading.Sights.Sight.{hidden, free, stray, holds}
 
 -- ---- sights and sectors
 module _ (shape : Shape) where

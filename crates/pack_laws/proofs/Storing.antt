@@ -4,12 +4,12 @@ use Rattle.std.specs.Option.{option_map, option_or}
 use Rattle.std.specs.FinMap.{find, get, get-from_entries, from_entries, same_map}
 use Rattle.alto_words.specs.declared.fid.Fid.{Fid}
 use Rattle.alto_words.specs.Fid.{fid_cmp, is_fid}
-use Rattle.pack_model.specs.Bytes.{put_at}
-use Rattle.pack_model.specs.Leaders.{Leader}
-use Rattle.pack_model.specs.Sights.{Sight}
-use Rattle.pack_model.specs.Sights.Sight.{hidden, free, stray, leads, holds}
-use Rattle.pack_model.specs.Files.{first, leader, file_bytes}
-use Rattle.pack_model.specs.Stored.{leader_entries, stored_file, files_shown, put_bytes, stored_put}
+use Rattle.pack_model.specs.reading.Bytes.{put_at}
+use Rattle.pack_model.specs.reading.Leaders.{Leader}
+use Rattle.pack_model.specs.reading.Sights.{Sight}
+use Rattle.pack_model.specs.reading.Sights.Sight.{hidden, free, stray, leads, holds}
+use Rattle.pack_model.specs.reading.Files.{first, leader, file_bytes}
+use Rattle.pack_model.specs.reading.Stored.{leader_entries, stored_file, files_shown, put_bytes, stored_put}
 use Rattle.pack_laws.proofs.Keys.{fid_total, fid_same, same_fid}
 use Rattle.pack_laws.proofs.Mapping.{get-map_values, get-update}
 

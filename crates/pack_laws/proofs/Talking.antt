@@ -10,8 +10,8 @@ use Rattle.disk_records.specs.Events.{shown_events, shown_bytes, writes_in}
 use Rattle.disk_records.specs.Packs.{Pack, after, cut}
 use Rattle.disk_records.specs.Tapes.{Taped, Grown, pack, added}
 use Rattle.disk_records.proofs.Growing.{after-append, after-shown, shown-append, shown-events, writes-append, writes-shown, added-twice, nothing_added, pack-after}
-use Rattle.pack_model.specs.Moves.{Meaning, steps, Obeys, rest, write, IsStartOf}
-use Rattle.pack_model.specs.Turns.{Turn, ops_of, texts_of, Talks, begun, spoken, IsTurn, acknowledged, CutAt, moves_at}
+use Rattle.pack_model.specs.sessions.Moves.{Meaning, steps, Obeys, rest, write, IsStartOf}
+use Rattle.pack_model.specs.sessions.Turns.{Turn, ops_of, texts_of, Talks, begun, spoken, IsTurn, acknowledged, CutAt, moves_at}
 use Rattle.pack_laws.specs.TurnLaws.{acknowledged_moves}
 use Rattle.pack_laws.proofs.Moving.{stands_last, obeys_cut, steps-append, start_within}
 use Rattle.pack_laws.proofs.inside.Acknowledging.{acknowledged-moves, acknowledged_at_most, acknowledged_short, acknowledged_start, ops-append, ops-push, sum_of_ones, texts-push}

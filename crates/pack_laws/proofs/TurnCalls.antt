@@ -7,8 +7,8 @@ use Rattle.disk_records.specs.Events.{IsFirstOf, shown_events}
 use Rattle.disk_records.specs.Packs.{Pack}
 use Rattle.disk_records.specs.Tapes.{Taped, Grown, pack, added}
 use Rattle.disk_records.proofs.Growing.{added-twice}
-use Rattle.pack_model.specs.Moves.{Meaning, Obeys, IsStartOf, Does}
-use Rattle.pack_model.specs.Turns.{Turn, IsTurn}
+use Rattle.pack_model.specs.sessions.Moves.{Meaning, Obeys, IsStartOf, Does}
+use Rattle.pack_model.specs.sessions.Turns.{Turn, IsTurn}
 use Rattle.pack_laws.proofs.Moving.{start_self}
 
 -- ---- calls that are turns

@@ -5,11 +5,11 @@ use Rattle.std.specs.Option.{option_map}
 use Rattle.std.specs.FinMap.{get}
 use Rattle.alto_words.specs.declared.fid.Fid.{Fid}
 use Rattle.disk_records.specs.declared.shape.Shape.{Shape}
-use Rattle.pack_model.specs.Sights.{Sight}
-use Rattle.pack_model.specs.Files.{leader, place, numbered}
-use Rattle.pack_model.specs.Stored.{stored_file, files_shown}
-use Rattle.pack_model.specs.Bodies.{File, found, file_of}
-use Rattle.pack_model.specs.InUse.{in_use, is_within, is_place, of_page, is_good, how_many, available}
+use Rattle.pack_model.specs.reading.Sights.{Sight}
+use Rattle.pack_model.specs.reading.Files.{leader, place, numbered}
+use Rattle.pack_model.specs.reading.Stored.{stored_file, files_shown}
+use Rattle.pack_model.specs.reading.Bodies.{File, found, file_of}
+use Rattle.pack_model.specs.states.InUse.{in_use, is_within, is_place, of_page, is_good, how_many, available}
 use Rattle.pack_laws.proofs.Keys.{fid_total, fid_same}
 use Rattle.pack_laws.proofs.Mapping.{get-map_values}
 use Rattle.pack_laws.proofs.Storing.{get-files_shown}

@@ -5,10 +5,10 @@ use Rattle.std.specs.FinMap.{get}
 use Rattle.alto_words.specs.declared.fid.Fid.{Fid}
 use Rattle.disk_records.specs.declared.records.Page.{Page}
 use Rattle.disk_records.specs.Packs.{Pack, carried}
-use Rattle.pack_model.specs.Leaders.{Leader}
-use Rattle.pack_model.specs.Sights.{Sight, sights}
-use Rattle.pack_model.specs.Files.{first, leader_at, page_at, leader, lives, file_bytes, place, Bears}
-use Rattle.pack_model.specs.Stored.{StoredFile, stored_files}
+use Rattle.pack_model.specs.reading.Leaders.{Leader}
+use Rattle.pack_model.specs.reading.Sights.{Sight, sights}
+use Rattle.pack_model.specs.reading.Files.{first, leader_at, page_at, leader, lives, file_bytes, place, Bears}
+use Rattle.pack_model.specs.reading.Stored.{StoredFile, stored_files}
 
 -- ---- bearers
 -- What a place of the list bears is the first answer, and the first answer is borne by a place.

@@ -7,8 +7,8 @@ use Rattle.disk_records.specs.declared.records.Sector.{Sector}
 use Rattle.disk_records.specs.Commands.{value_writes, relabel_writes, claim_writes, release_writes, ones}
 use Rattle.disk_records.specs.Labels.{tag, page_of}
 use Rattle.disk_records.specs.Packs.{Pack, cut, sector_at, carried, is_free_at}
-use Rattle.pack_model.specs.Sights.{Sight, page_sight, sights}
-use Rattle.pack_model.specs.Sights.Sight.{free}
+use Rattle.pack_model.specs.reading.Sights.{Sight, page_sight, sights}
+use Rattle.pack_model.specs.reading.Sights.Sight.{free}
 
 -- a sector with another label and another value behind its header
 abbrev pub with_words : Sector → List ℕ → List ℕ → Sector

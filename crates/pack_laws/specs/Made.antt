@@ -3,7 +3,7 @@ use Rattle.std.specs.Prelude.{List, [], ◌∷◌}
 use Rattle.disk_records.specs.declared.records.Event.{Event}
 use Rattle.disk_records.specs.declared.records.Event.TheVariants.{Wrote, Shown}
 use Rattle.disk_records.specs.Packs.{Pack, after}
-use Rattle.pack_model.specs.Moves.{Meaning}
+use Rattle.pack_model.specs.sessions.Moves.{Meaning}
 
 -- Each record write makes the next move on the pack before it, shown bytes make none, and no move is left.
 abbrev pub AllMade : {M O : Type 0} → Meaning M O → Pack → List Event → List O → Type 0

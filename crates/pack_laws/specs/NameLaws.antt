@@ -2,10 +2,10 @@
 use Rattle.std.specs.Prelude.{◌≡◌, ◌↔◌}
 use Rattle.alto_words.specs.Names.{is_bare_name, is_stored_name}
 use Rattle.disk_records.specs.Packs.{Pack}
-use Rattle.pack_model.specs.Sights.{sights}
-use Rattle.pack_model.specs.Model.{read_pack}
-use Rattle.pack_model.specs.Sound.{Sound}
-use Rattle.pack_model.specs.OtherNames.{sights_by, read_by, SoundBy}
+use Rattle.pack_model.specs.reading.Sights.{sights}
+use Rattle.pack_model.specs.reading.Model.{read_pack}
+use Rattle.pack_model.specs.states.Sound.{Sound}
+use Rattle.pack_model.specs.reading.OtherNames.{sights_by, read_by, SoundBy}
 
 -- By the rule of stored names a pack shows what it shows, is read as it is read, and is sound exactly where it is.
 pub record IsByOwnRule (p : Pack) : Type 0 where

@@ -2,11 +2,11 @@
 use Rattle.std.specs.Prelude.{ℕ, ◌+◌, ◌%◌, ◌<◌, ◌≤◌, List, [], ◌∷◌, length, All}
 use Rattle.disk_records.specs.declared.records.Event.TheVariants.{Wrote}
 use Rattle.disk_records.specs.Packs.{Pack}
-use Rattle.pack_model.specs.Sights.{sights}
-use Rattle.pack_model.specs.Files.{file_bytes}
-use Rattle.pack_model.specs.Stored.{stored_files}
-use Rattle.pack_model.specs.Moves.{Obeys}
-use Rattle.pack_model.specs.Puts.{Put, WritesValue, putting}
+use Rattle.pack_model.specs.reading.Sights.{sights}
+use Rattle.pack_model.specs.reading.Files.{file_bytes}
+use Rattle.pack_model.specs.reading.Stored.{stored_files}
+use Rattle.pack_model.specs.sessions.Moves.{Obeys}
+use Rattle.pack_model.specs.operations.Puts.{Put, WritesValue, putting}
 
 -- Some bytes, within one page and within the file as it is.
 pub record StaysWithin (p : Pack) (put : Put) : Type 0 where

@@ -4,8 +4,8 @@ use Rattle.disk_records.specs.declared.records.Event.{Event}
 use Rattle.disk_records.specs.declared.records.Event.TheVariants.{Shown, Wrote}
 use Rattle.disk_records.specs.Events.{IsFirstOf, shown_bytes, writes_in}
 use Rattle.disk_records.specs.Packs.{Pack, after, cut}
-use Rattle.pack_model.specs.Moves.{Does, IsStartOf, Meaning, Obeys, steps}
-use Rattle.pack_model.specs.Turns.{CutAt, Talks, Turn, is_whole, moves_at, ops_of, ruler}
+use Rattle.pack_model.specs.sessions.Moves.{Does, IsStartOf, Meaning, Obeys, steps}
+use Rattle.pack_model.specs.sessions.Turns.{CutAt, Talks, Turn, is_whole, moves_at, ops_of, ruler}
 use Rattle.pack_laws.specs.Made.{AllMade}
 
 -- ---- runs of writes

@@ -3,9 +3,9 @@
 //! They hold of any meaning of moves. `Puts` is one: a move puts bytes in a stored file.
 
 ghost use Rattle.pack_laws.specs.TurnLaws.{AcknowledgedAreDone, CallsJoin, CutOfRun, CutOfTurns, FaultsLeaveAFirstPart, RulerLaws, RunsJoin, TurnsJoin, WritesAreMade};
-ghost use Rattle.pack_model.specs.Moves.{Meaning};
-ghost use Rattle.pack_model.specs.Puts.{Put, putting};
-ghost use Rattle.pack_model.specs.Stored.{StoredFiles};
+ghost use Rattle.pack_model.specs.sessions.Moves.{Meaning};
+ghost use Rattle.pack_model.specs.operations.Puts.{Put, putting};
+ghost use Rattle.pack_model.specs.reading.Stored.{StoredFiles};
 ghost use Rattle.std.specs.Prelude.{ℕ};
 
 /// A meaning of moves, of which the laws are stated. It has no functions.

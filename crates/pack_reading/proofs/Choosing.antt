@@ -8,9 +8,9 @@ use Rattle.std.proofs.lemmas.List.{take_more, map-append}
 use Rattle.alto_words.specs.declared.fid.Fid.{Fid}
 use Rattle.alto_words.specs.Fid.{fid_cmp, is_fid, sys_dir}
 use Rattle.alto_words.specs.Names.{is_same_name}
-use Rattle.pack_model.specs.Namings.{sys_dir_name, descriptor_name}
-use Rattle.pack_model.specs.View.{Home, Seen}
-use Rattle.pack_model.specs.Settling.{is_taken, choice, chosen_from, chosen, most_suffixes, adopted, settled}
+use Rattle.pack_model.specs.reading.Namings.{sys_dir_name, descriptor_name}
+use Rattle.pack_model.specs.showing.View.{Home, Seen}
+use Rattle.pack_model.specs.showing.Settling.{is_taken, choice, chosen_from, chosen, most_suffixes, adopted, settled}
 use Rattle.pack_laws.proofs.Keys.{is_fid-sym}
 use Rattle.pack_reading.specs.declared.names.Names.{Names}
 use Rattle.pack_reading.specs.declared.shown.ShownFile.{ShownFile}

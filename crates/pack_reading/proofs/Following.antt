@@ -9,8 +9,8 @@ use Rattle.std.proofs.lemmas.List.{append_assoc, append-nil}
 use Rattle.alto_words.specs.declared.fid.Fid.{Fid}
 use Rattle.alto_words.specs.Fid.{fid_cmp, is_fid, is_system}
 use Rattle.alto_words.specs.Names.{is_same_name}
-use Rattle.pack_model.specs.Namings.{Naming, is_kept, may_stand, keeps_system, clashes}
-use Rattle.pack_model.specs.View.{Home, homes}
+use Rattle.pack_model.specs.reading.Namings.{Naming, is_kept, may_stand, keeps_system, clashes}
+use Rattle.pack_model.specs.showing.View.{Home, homes}
 use Rattle.pack_laws.proofs.Keys.{fid_total, same_fid}
 use Rattle.pack_laws.proofs.Firsts.{or_none}
 use Rattle.pack_laws.proofs.Inserting.{entries-empty, list_any-put}

@@ -5,8 +5,8 @@ use Rattle.std.specs.FinMap.{FinMap}
 use Rattle.std.proofs.lemmas.List.{length-map, get_or-map, get_or_append_left, get_or-append_right}
 use Rattle.alto_words.specs.Fid.{fid_cmp}
 use Rattle.alto_words.specs.Names.{suffixed}
-use Rattle.pack_model.specs.View.{Home}
-use Rattle.pack_model.specs.Settling.{is_taken, chosen}
+use Rattle.pack_model.specs.showing.View.{Home}
+use Rattle.pack_model.specs.showing.Settling.{is_taken, chosen}
 use Rattle.pack_reading.specs.declared.groups.Group.{Group}
 use Rattle.pack_reading.specs.Passed.{AreTaken, IsFirstFree}
 use Rattle.pack_reading.proofs.Passing.{taken_on, free_here}

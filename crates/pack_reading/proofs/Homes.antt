@@ -12,8 +12,8 @@ use Rattle.std.specs.FinMap.Entries.{by_order}
 use Rattle.alto_words.specs.declared.fid.Fid.{Fid}
 use Rattle.alto_words.specs.Fid.{fid_cmp, is_fid}
 use Rattle.alto_words.specs.Names.{folded_cmp, is_same_name}
-use Rattle.pack_model.specs.View.{Home}
-use Rattle.pack_model.specs.Listing.{naming_of, naming_cmp, in_order}
+use Rattle.pack_model.specs.showing.View.{Home}
+use Rattle.pack_model.specs.showing.Listing.{naming_of, naming_cmp, in_order}
 use Rattle.pack_laws.proofs.Keys.{fid_total, is_fid-sym}
 use Rattle.pack_laws.proofs.Inserting.{absent_tail, entries-empty, list_any-put, map-insert_key, in_order-none, in_order-cons, insert-swap}
 use Rattle.pack_laws.proofs.Orders.{naming_total, last_apart}

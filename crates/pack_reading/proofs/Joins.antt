@@ -13,7 +13,7 @@ use Rattle.std.proofs.lemmas.List.{append_assoc, append-nil}
 use Rattle.alto_words.specs.declared.fid.Fid.{Fid}
 use Rattle.alto_words.specs.Fid.{fid_cmp, is_fid}
 use Rattle.disk_records.specs.declared.records.Page.{Page}
-use Rattle.pack_model.specs.Files.{joined, most_pages}
+use Rattle.pack_model.specs.reading.Files.{joined, most_pages}
 use Rattle.pack_laws.proofs.Keys.{is_fid-sym}
 use Rattle.pack_reading.specs.declared.swept.Pages.{Pages}
 use Rattle.pack_reading.specs.Kept.{page_cmp, page_kept, bytes_kept, KeepsOthers}

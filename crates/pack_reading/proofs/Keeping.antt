@@ -12,10 +12,10 @@ use Rattle.disk_records.specs.Addresses.{is_right_header}
 use Rattle.disk_records.specs.Words.{word}
 use Rattle.disk_records.specs.Labels.{Tag, tag, in_range, is_free, page_of}
 use Rattle.leader_page.specs.declared.leader.Leader.{Leader}
-use Rattle.pack_model.specs.Leaders.{leader_of}
-use Rattle.pack_model.specs.Bytes.{bytes_of}
-use Rattle.pack_model.specs.Sights.{sight, tag_sight, page_sight}
-use Rattle.pack_model.specs.Sights.Sight.{hidden, free, stray}
+use Rattle.pack_model.specs.reading.Leaders.{leader_of}
+use Rattle.pack_model.specs.reading.Bytes.{bytes_of}
+use Rattle.pack_model.specs.reading.Sights.{sight, tag_sight, page_sight}
+use Rattle.pack_model.specs.reading.Sights.Sight.{hidden, free, stray}
 use Rattle.pack_laws.proofs.Firsts.{or_none}
 use Rattle.pack_reading.specs.declared.swept.Leaders.{Leaders}
 use Rattle.pack_reading.specs.declared.swept.Pages.{Pages}

@@ -13,9 +13,9 @@ use Rattle.alto_words.specs.declared.fid.Fid.{Fid}
 use Rattle.alto_words.specs.Fid.{fid_cmp, is_fid, sys_dir}
 use Rattle.alto_words.specs.Names.{is_same_name, suffixed}
 use Rattle.alto_words.proofs.Alike.{same_later, same_numbers}
-use Rattle.pack_model.specs.Namings.{sys_dir_name, descriptor_name}
-use Rattle.pack_model.specs.View.{Home, Seen}
-use Rattle.pack_model.specs.Settling.{is_taken, choice, given, adopted, chosen}
+use Rattle.pack_model.specs.reading.Namings.{sys_dir_name, descriptor_name}
+use Rattle.pack_model.specs.showing.View.{Home, Seen}
+use Rattle.pack_model.specs.showing.Settling.{is_taken, choice, given, adopted, chosen}
 use Rattle.pack_laws.proofs.Keys.{fid_total}
 use Rattle.pack_laws.proofs.Inserting.{list_any-put}
 use Rattle.pack_reading.specs.declared.names.QualifiedName.{QualifiedName}

@@ -8,12 +8,12 @@ use Rattle.std.proofs.lemmas.List.{append_assoc, append-nil, take_more}
 use Rattle.alto_words.specs.declared.fid.Fid.{Fid}
 use Rattle.alto_words.specs.Fid.{fid_cmp, is_fid, is_system, is_directory, sys_dir}
 use Rattle.alto_words.specs.Names.{is_same_name}
-use Rattle.pack_model.specs.Bytes.{words_of}
-use Rattle.pack_model.specs.Slots.{Item, item_words, slot_at, slots}
-use Rattle.pack_model.specs.Slots.Item.{space, entry}
-use Rattle.pack_model.specs.Bodies.Body.{data_of, items_of}
-use Rattle.pack_model.specs.Namings.{Naming, namings_in, body_namings, sys_dir_name, descriptor_name}
-use Rattle.pack_model.specs.View.{Home}
+use Rattle.pack_model.specs.reading.Bytes.{words_of}
+use Rattle.pack_model.specs.reading.Slots.{Item, item_words, slot_at, slots}
+use Rattle.pack_model.specs.reading.Slots.Item.{space, entry}
+use Rattle.pack_model.specs.reading.Bodies.Body.{data_of, items_of}
+use Rattle.pack_model.specs.reading.Namings.{Naming, namings_in, body_namings, sys_dir_name, descriptor_name}
+use Rattle.pack_model.specs.showing.View.{Home}
 use Rattle.pack_reading.specs.declared.files.Found.{Found}
 use Rattle.pack_reading.specs.declared.names.Names.{Names}
 use Rattle.pack_reading.specs.declared.names.Entry.{Entry}

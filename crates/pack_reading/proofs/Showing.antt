@@ -9,17 +9,17 @@ use Rattle.std.specs.FinMap.Entries.{where_key}
 use Rattle.alto_words.specs.declared.fid.Fid.{Fid}
 use Rattle.alto_words.specs.Fid.{fid_cmp, is_system}
 use Rattle.disk_records.specs.declared.shape.Shape.{Shape}
-use Rattle.pack_model.specs.Leaders as model
-use Rattle.pack_model.specs.Sights.{Sight}
-use Rattle.pack_model.specs.Files.{leader, lives}
-use Rattle.pack_model.specs.Maps.{map_entries}
-use Rattle.pack_model.specs.Stored.{StoredFile, files_shown}
-use Rattle.pack_model.specs.Bodies.{file_of, is_described}
-use Rattle.pack_model.specs.Namings.{Naming, is_kept, namings}
-use Rattle.pack_model.specs.Model.{Model, read_sights}
-use Rattle.pack_model.specs.View.{Home, View, view, homes, names_of}
-use Rattle.pack_model.specs.Settling.{settle, settled}
-use Rattle.pack_model.specs.Listing.{naming_of, naming_cmp, in_order}
+use Rattle.pack_model.specs.reading.Leaders as model
+use Rattle.pack_model.specs.reading.Sights.{Sight}
+use Rattle.pack_model.specs.reading.Files.{leader, lives}
+use Rattle.pack_model.specs.sessions.Maps.{map_entries}
+use Rattle.pack_model.specs.reading.Stored.{StoredFile, files_shown}
+use Rattle.pack_model.specs.reading.Bodies.{file_of, is_described}
+use Rattle.pack_model.specs.reading.Namings.{Naming, is_kept, namings}
+use Rattle.pack_model.specs.reading.Model.{Model, read_sights}
+use Rattle.pack_model.specs.showing.View.{Home, View, view, homes, names_of}
+use Rattle.pack_model.specs.showing.Settling.{settle, settled}
+use Rattle.pack_model.specs.showing.Listing.{naming_of, naming_cmp, in_order}
 use Rattle.pack_laws.proofs.Keys.{fid_total, fid_same}
 use Rattle.pack_laws.proofs.ByLists.{is_shown as shows}
 use Rattle.pack_reading.specs.declared.files.Found.{Found}

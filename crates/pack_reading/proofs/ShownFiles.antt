@@ -16,18 +16,18 @@ use Rattle.alto_words.specs.declared.fid.Fid.{Fid}
 use Rattle.alto_words.specs.Fid.{fid_cmp, is_fid, is_directory, sys_dir, disk_descriptor}
 use Rattle.disk_records.specs.declared.shape.Shape.{Shape}
 use Rattle.leader_page.specs.declared.leader.Leader.{Leader}
-use Rattle.pack_model.specs.Leaders as model
-use Rattle.pack_model.specs.Bytes.{words_of}
-use Rattle.pack_model.specs.Slots.{slots}
-use Rattle.pack_model.specs.Sights.{Sight}
-use Rattle.pack_model.specs.Files.{leader, lives, page, file_bytes, joined, most_pages}
-use Rattle.pack_model.specs.Maps.{map_entries, map_values}
-use Rattle.pack_model.specs.Stored.{StoredFile, files_shown, stored_file, leader_entries}
-use Rattle.pack_model.specs.Bodies.{Body, File, file_of, is_described}
-use Rattle.pack_model.specs.Bodies.Body.{data_of, items_of}
-use Rattle.pack_model.specs.Namings.{Naming, is_kept, files_kept, body_kept, kept_after_body}
-use Rattle.pack_model.specs.Model.{read_sights}
-use Rattle.pack_model.specs.View.{Seen, view, seen_of, seen_body}
+use Rattle.pack_model.specs.reading.Leaders as model
+use Rattle.pack_model.specs.reading.Bytes.{words_of}
+use Rattle.pack_model.specs.reading.Slots.{slots}
+use Rattle.pack_model.specs.reading.Sights.{Sight}
+use Rattle.pack_model.specs.reading.Files.{leader, lives, page, file_bytes, joined, most_pages}
+use Rattle.pack_model.specs.sessions.Maps.{map_entries, map_values}
+use Rattle.pack_model.specs.reading.Stored.{StoredFile, files_shown, stored_file, leader_entries}
+use Rattle.pack_model.specs.reading.Bodies.{Body, File, file_of, is_described}
+use Rattle.pack_model.specs.reading.Bodies.Body.{data_of, items_of}
+use Rattle.pack_model.specs.reading.Namings.{Naming, is_kept, files_kept, body_kept, kept_after_body}
+use Rattle.pack_model.specs.reading.Model.{read_sights}
+use Rattle.pack_model.specs.showing.View.{Seen, view, seen_of, seen_body}
 use Rattle.pack_laws.proofs.Keys.{fid_total, fid_same}
 use Rattle.pack_laws.proofs.Mapping.{entries-map_values, get-map_values}
 use Rattle.pack_laws.proofs.Storing.{get-files_shown}

@@ -1,6 +1,6 @@
 -- The slots of words: the first one, and those of the words behind it.
 use Rattle.std.proofs.Common.{◌≡◌, ◌≤◌, ◌-◌, ℕ, zero, suc, List, [], ◌∷◌, length, drop, None, Some, refl, ap, ◌∙◌, arith}
-use Rattle.pack_model.specs.Slots.{Item, item_words, and_then, slot_at, slots_after, slots}
+use Rattle.pack_model.specs.reading.Slots.{Item, item_words, and_then, slot_at, slots_after, slots}
 
 -- words that are passed over
 slots_after-drop : (k : ℕ) (words : List ℕ) → slots_after k words ≡ slots (drop k words)

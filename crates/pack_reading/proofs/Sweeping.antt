@@ -8,9 +8,9 @@ use Rattle.disk_records.specs.declared.shape.Shape.{Shape}
 use Rattle.disk_records.specs.Packs.{Pack, sector_at}
 use Rattle.disk_records.specs.Tapes.{Taped, Grown, pack, added}
 use Rattle.disk_records.proofs.Growing.{pack-silent, length-pack}
-use Rattle.pack_model.specs.Sights.{Sight, sight, sights_from, sights}
-use Rattle.pack_model.specs.Sights.Sight.{hidden}
-use Rattle.pack_model.specs.Files.{first, leader_at, page_at}
+use Rattle.pack_model.specs.reading.Sights.{Sight, sight, sights_from, sights}
+use Rattle.pack_model.specs.reading.Sights.Sight.{hidden}
+use Rattle.pack_model.specs.reading.Files.{first, leader_at, page_at}
 use Rattle.pack_laws.proofs.Firsts.{first_more}
 use Rattle.pack_laws.proofs.Sighted.{sights-get, length-sights}
 use Rattle.pack_reading.specs.declared.swept.Swept.{Swept}

@@ -9,8 +9,8 @@ use Rattle.std.proofs.lemmas.Bool.{and_parts}
 use Rattle.alto_words.specs.declared.fid.Fid.{Fid}
 use Rattle.alto_words.specs.Fid.{fid_cmp, is_fid, is_system, sys_dir, disk_descriptor}
 use Rattle.alto_words.specs.Names.{is_same_name}
-use Rattle.pack_model.specs.Namings.{Naming, keeps_system, alike, is_own, sys_dir_name, descriptor_name}
-use Rattle.pack_model.specs.View.{homes}
+use Rattle.pack_model.specs.reading.Namings.{Naming, keeps_system, alike, is_own, sys_dir_name, descriptor_name}
+use Rattle.pack_model.specs.showing.View.{homes}
 use Rattle.pack_laws.proofs.Keys.{fid_total, same_fid}
 use Rattle.pack_reading.proofs.Tests.{same_congr}
 

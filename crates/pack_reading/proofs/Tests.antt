@@ -14,7 +14,7 @@ use Rattle.alto_words.specs.Fid.{fid_cmp, is_fid, is_system, is_directory, sys_d
 use Rattle.alto_words.specs.Names.{folded_cmp, is_same_name}
 use Rattle.alto_words.proofs.Folding.{folded_cmp-equal}
 use Rattle.disk_records.specs.declared.records.Page.{Page}
-use Rattle.pack_model.specs.Namings.{Naming, keeps_system, alike, sys_dir_name, descriptor_name}
+use Rattle.pack_model.specs.reading.Namings.{Naming, keeps_system, alike, sys_dir_name, descriptor_name}
 use Rattle.pack_laws.proofs.Keys.{is_eq-Equal, is_fid-sym, same_fid}
 use Rattle.pack_laws.proofs.Orders.{name_total}
 use Rattle.pack_reading.specs.declared.names.QualifiedName.{QualifiedName}

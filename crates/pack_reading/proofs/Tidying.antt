@@ -7,16 +7,16 @@ use Rattle.std.specs.FinMap.Entries.{is_sorted, below_all, where_key}
 use Rattle.alto_words.specs.declared.fid.Fid.{Fid}
 use Rattle.alto_words.specs.Fid.{fid_cmp, is_fid, disk_descriptor}
 use Rattle.disk_records.specs.declared.shape.Shape.{Shape}
-use Rattle.pack_model.specs.Sights.{Sight}
-use Rattle.pack_model.specs.Files.{lives}
-use Rattle.pack_model.specs.Maps.{map_entries}
-use Rattle.pack_model.specs.Stored.{StoredFile, files_shown}
-use Rattle.pack_model.specs.Slots.{Item, item_words}
-use Rattle.pack_model.specs.Slots.Item.{space, entry}
-use Rattle.pack_model.specs.Bodies.{Body, File, Files, found, file_of, body_of, described, is_described}
-use Rattle.pack_model.specs.Bodies.Body.{data_of, items_of}
-use Rattle.pack_model.specs.Namings.{Naming, is_kept, tidied, files_kept, body_kept, kept_after_body, kept_after, items_kept, namings, namings_in, body_namings}
-use Rattle.pack_model.specs.Model.{read_sights}
+use Rattle.pack_model.specs.reading.Sights.{Sight}
+use Rattle.pack_model.specs.reading.Files.{lives}
+use Rattle.pack_model.specs.sessions.Maps.{map_entries}
+use Rattle.pack_model.specs.reading.Stored.{StoredFile, files_shown}
+use Rattle.pack_model.specs.reading.Slots.{Item, item_words}
+use Rattle.pack_model.specs.reading.Slots.Item.{space, entry}
+use Rattle.pack_model.specs.reading.Bodies.{Body, File, Files, found, file_of, body_of, described, is_described}
+use Rattle.pack_model.specs.reading.Bodies.Body.{data_of, items_of}
+use Rattle.pack_model.specs.reading.Namings.{Naming, is_kept, tidied, files_kept, body_kept, kept_after_body, kept_after, items_kept, namings, namings_in, body_namings}
+use Rattle.pack_model.specs.reading.Model.{read_sights}
 use Rattle.pack_laws.proofs.Keys.{fid_total, fid_same, same_fid}
 use Rattle.pack_laws.proofs.Mapping.{entries-map_values, entries-from_entries}
 use Rattle.pack_laws.proofs.ByLists.{entries-retain_keys}

@@ -8,10 +8,10 @@ use Rattle.std.specs.FinMap.{FinMap, entries, contains_key, insert}
 use Rattle.alto_words.specs.declared.fid.Fid.{Fid}
 use Rattle.alto_words.specs.Fid.{fid_cmp, is_fid, is_system}
 use Rattle.alto_words.specs.Names.{folded_cmp, is_same_name}
-use Rattle.pack_model.specs.Bodies.{body_of}
-use Rattle.pack_model.specs.Namings.{Naming, may_stand, body_namings}
-use Rattle.pack_model.specs.View.{Home}
-use Rattle.pack_model.specs.Listing.{naming_of, naming_cmp, in_order}
+use Rattle.pack_model.specs.reading.Bodies.{body_of}
+use Rattle.pack_model.specs.reading.Namings.{Naming, may_stand, body_namings}
+use Rattle.pack_model.specs.showing.View.{Home}
+use Rattle.pack_model.specs.showing.Listing.{naming_of, naming_cmp, in_order}
 use Rattle.pack_reading.specs.declared.files.Found.{Found}
 use Rattle.pack_reading.specs.declared.names.QualifiedName.{QualifiedName}
 use Rattle.pack_reading.specs.declared.names.Entry.{Entry}

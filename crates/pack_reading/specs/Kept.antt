@@ -8,10 +8,10 @@ use Rattle.alto_words.specs.declared.fid.Fid.{Fid}
 use Rattle.alto_words.specs.Fid.{fid_cmp, is_fid}
 use Rattle.disk_records.specs.declared.records.Page.{Page}
 use Rattle.leader_page.specs.declared.leader.Leader.{Leader}
-use Rattle.pack_model.specs.Leaders as model
-use Rattle.pack_model.specs.Sights.{Sight}
-use Rattle.pack_model.specs.Files.{leader, page, leader_at, page_at, joined, most_pages}
-use Rattle.pack_model.specs.Stored.{StoredFile}
+use Rattle.pack_model.specs.reading.Leaders as model
+use Rattle.pack_model.specs.reading.Sights.{Sight}
+use Rattle.pack_model.specs.reading.Files.{leader, page, leader_at, page_at, joined, most_pages}
+use Rattle.pack_model.specs.reading.Stored.{StoredFile}
 use Rattle.pack_reading.specs.declared.swept.Leaders.{Leaders}
 use Rattle.pack_reading.specs.declared.swept.Pages.{Pages}
 use Rattle.pack_reading.specs.declared.swept.Swept.{Swept}

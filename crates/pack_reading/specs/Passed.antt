@@ -4,8 +4,8 @@ use Rattle.std.specs.BTreeMap.{get}
 use Rattle.std.specs.FinMap.{FinMap}
 use Rattle.alto_words.specs.Fid.{fid_cmp, sys_dir}
 use Rattle.alto_words.specs.Names.{suffixed}
-use Rattle.pack_model.specs.Settling.{is_taken}
-use Rattle.pack_model.specs.View.{Home}
+use Rattle.pack_model.specs.showing.Settling.{is_taken}
+use Rattle.pack_model.specs.showing.View.{Home}
 use Rattle.pack_reading.specs.declared.names.QualifiedName.{QualifiedName}
 use Rattle.pack_reading.specs.declared.passed.Passed.{Passed}
 use Rattle.pack_reading.specs.declared.groups.Group.{Group}

@@ -2,9 +2,9 @@
 use Rattle.std.specs.Prelude.{◌≡◌, map}
 use Rattle.alto_words.specs.declared.fid.Fid.{Fid}
 use Rattle.leader_page.specs.Pages.{said}
-use Rattle.pack_model.specs.Namings.{Naming}
-use Rattle.pack_model.specs.View.{Seen, View}
-use Rattle.pack_model.specs.Listing.{shown_files, shown_names}
+use Rattle.pack_model.specs.reading.Namings.{Naming}
+use Rattle.pack_model.specs.showing.View.{Seen, View}
+use Rattle.pack_model.specs.showing.Listing.{shown_files, shown_names}
 use Rattle.pack_reading.specs.declared.shown.Shown.{Shown}
 use Rattle.pack_reading.specs.declared.shown.ShownFile.{ShownFile}
 use Rattle.pack_reading.specs.declared.shown.ShownName.{ShownName}

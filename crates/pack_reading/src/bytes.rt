@@ -1,6 +1,6 @@
 // The bytes of files, and the words of directories.
 ghost use Rattle.std.specs.Prelude.{◌≡◌, IfOk};
-ghost use Rattle.pack_model.specs.Bytes.{words_of};
+ghost use Rattle.pack_model.specs.reading.Bytes.{words_of};
 ghost use Rattle.pack_reading.specs.Kept.{bytes_kept, KeepsOthers};
 
 use crate::swept::{PAGE_BYTES, Pages};

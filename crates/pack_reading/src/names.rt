@@ -8,7 +8,7 @@ ghost use Rattle.std.specs.FinMap.{FinMap, empty, get, insert};
 ghost use Rattle.std.proofs.Common.{rules};
 ghost use Rattle.alto_words.specs.declared.fid.Fid.{Fid};
 ghost use Rattle.alto_words.specs.Fid.{fid_cmp};
-ghost use Rattle.pack_model.specs.View.{Home};
+ghost use Rattle.pack_model.specs.showing.View.{Home};
 ghost use Rattle.pack_reading.specs.Homes.{qualified_cmp, home_at, StandsFor};
 ghost use Rattle.pack_reading.specs.Orders.{qualified_total};
 

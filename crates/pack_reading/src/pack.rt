@@ -2,10 +2,10 @@
 ghost use Rattle.std.specs.Prelude.{◌≡◌, ◌≤◌, ◌+◌, List, [], IsTrue, IsErrOf, IfOk};
 ghost use Rattle.disk_records.specs.Addresses.{pages_of};
 ghost use Rattle.disk_records.specs.Tapes.{DiskAlone, Rose, pack, added};
-ghost use Rattle.pack_model.specs.Sights.{Sight};
-ghost use Rattle.pack_model.specs.Settling.{show, settle};
-ghost use Rattle.pack_model.specs.View.{view};
-ghost use Rattle.pack_model.specs.Model.{read_sights};
+ghost use Rattle.pack_model.specs.reading.Sights.{Sight};
+ghost use Rattle.pack_model.specs.showing.Settling.{show, settle};
+ghost use Rattle.pack_model.specs.showing.View.{view};
+ghost use Rattle.pack_model.specs.reading.Model.{read_sights};
 ghost use Rattle.disk_records.specs.declared.shape.Shape.{Shape as Form};
 ghost use Rattle.pack_reading.specs.Kept.{HoldsSights};
 ghost use Rattle.pack_reading.specs.Shows.{ShowsView};

@@ -2,7 +2,7 @@
 ghost use Rattle.std.specs.Prelude.{◌≡◌, ◌≤◌, ◌+◌, OnOk};
 ghost use Rattle.std.specs.FinMap.{FinMap};
 ghost use Rattle.alto_words.specs.Fid.{fid_cmp};
-ghost use Rattle.pack_model.specs.View.{Home};
+ghost use Rattle.pack_model.specs.showing.View.{Home};
 ghost use Rattle.pack_reading.specs.Passed.{suffix_in_root, passed_of, IsPassed, AreTaken};
 
 use crate::names::QualifiedName;

@@ -5,8 +5,8 @@ ghost use Rattle.alto_words.specs.declared.fid.Fid.{Fid};
 ghost use Rattle.alto_words.specs.Fid.{fid_cmp};
 ghost use Rattle.alto_words.specs.Names.{is_same_name};
 ghost use Rattle.dir_slots.specs.Items.{item_of};
-ghost use Rattle.pack_model.specs.Namings.{namings_in, sys_dir_name, descriptor_name};
-ghost use Rattle.pack_model.specs.View.{Home};
+ghost use Rattle.pack_model.specs.reading.Namings.{namings_in, sys_dir_name, descriptor_name};
+ghost use Rattle.pack_model.specs.showing.View.{Home};
 ghost use Rattle.pack_reading.specs.Kept.{lives_kept};
 ghost use Rattle.pack_reading.specs.Homes.{StandsFor, naming_at, may_show, considered, namings_of, all_namings};
 

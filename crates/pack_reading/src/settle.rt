@@ -3,8 +3,8 @@ ghost use Rattle.std.specs.Prelude.{◌≡◌, ◌≤◌, ◌<◌, true, map, If
 ghost use Rattle.std.specs.FinMap.{FinMap};
 ghost use Rattle.alto_words.specs.Fid.{fid_cmp};
 ghost use Rattle.alto_words.specs.Names.{suffixed};
-ghost use Rattle.pack_model.specs.Settling.{is_taken, chosen, adopted, settled};
-ghost use Rattle.pack_model.specs.View.{Home};
+ghost use Rattle.pack_model.specs.showing.Settling.{is_taken, chosen, adopted, settled};
+ghost use Rattle.pack_model.specs.showing.View.{Home};
 ghost use Rattle.pack_reading.specs.Homes.{StandsFor, naming_at};
 ghost use Rattle.pack_reading.specs.Passed.{IsPassed, IsFirstFree};
 ghost use Rattle.pack_reading.specs.Shows.{seen_file, shown_name};

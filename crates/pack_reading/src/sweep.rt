@@ -3,7 +3,7 @@ ghost use Rattle.std.specs.Prelude.{◌≡◌, ◌≤◌, ◌<◌, ◌+◌, [], 
 ghost use Rattle.disk_records.specs.Addresses.{pages_of};
 ghost use Rattle.disk_records.specs.Packs.{sector_at};
 ghost use Rattle.disk_records.specs.Tapes.{DiskAlone, Rose, pack, added};
-ghost use Rattle.pack_model.specs.Sights.{sight, sights};
+ghost use Rattle.pack_model.specs.reading.Sights.{sight, sights};
 ghost use Rattle.pack_reading.specs.Kept.{KeepsSight, HoldsSights};
 
 use crate::error::ReadingError;

@@ -6,9 +6,9 @@ ghost use Rattle.alto_words.specs.declared.fid.Fid.{Fid};
 ghost use Rattle.alto_words.specs.Fid.{is_fid};
 ghost use Rattle.disk_records.specs.Labels.{tag};
 ghost use Rattle.disk_records.specs.Words.{word};
-ghost use Rattle.pack_model.specs.Bytes.{bytes_of};
-ghost use Rattle.pack_model.specs.Leaders.{leader_of};
-ghost use Rattle.pack_model.specs.Sights.{page_sight, tag_sight};
+ghost use Rattle.pack_model.specs.reading.Bytes.{bytes_of};
+ghost use Rattle.pack_model.specs.reading.Leaders.{leader_of};
+ghost use Rattle.pack_model.specs.reading.Sights.{page_sight, tag_sight};
 ghost use Rattle.pack_reading.specs.Kept.{plain_leader, leader_kept, lives_kept, page_kept, KeepsSight};
 
 use alto_words::{Fid, List, Memory};

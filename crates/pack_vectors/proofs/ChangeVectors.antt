@@ -5,16 +5,16 @@ use Rattle.std.specs.Option.{option_map}
 use Rattle.std.specs.FinMap.{get, from_entries, get-from_entries}
 use Rattle.alto_words.specs.declared.fid.Fid.{Fid}
 use Rattle.alto_words.specs.Fid.{sys_dir, ordinary_fid}
-use Rattle.pack_model.specs.Maps.{update}
-use Rattle.pack_model.specs.Slots.{Item}
-use Rattle.pack_model.specs.Slots.Item.{space, entry}
-use Rattle.pack_model.specs.Bodies.{File, items_in}
-use Rattle.pack_model.specs.Bodies.Body.{items_of}
-use Rattle.pack_model.specs.Namings.{sys_dir_name}
-use Rattle.pack_model.specs.Model.{Model, dir_items}
-use Rattle.pack_model.specs.Rooms.{placed, largest_run}
-use Rattle.pack_model.specs.Step.{step, new_leader, spare, room_in}
-use Rattle.pack_model.specs.Step.Operation.{put, grow, cut, title, leave, enter, widen}
+use Rattle.pack_model.specs.sessions.Maps.{update}
+use Rattle.pack_model.specs.reading.Slots.{Item}
+use Rattle.pack_model.specs.reading.Slots.Item.{space, entry}
+use Rattle.pack_model.specs.reading.Bodies.{File, items_in}
+use Rattle.pack_model.specs.reading.Bodies.Body.{items_of}
+use Rattle.pack_model.specs.reading.Namings.{sys_dir_name}
+use Rattle.pack_model.specs.reading.Model.{Model, dir_items}
+use Rattle.pack_model.specs.operations.Rooms.{placed, largest_run}
+use Rattle.pack_model.specs.operations.Step.{step, new_leader, spare, room_in}
+use Rattle.pack_model.specs.operations.Step.Operation.{put, grow, cut, title, leave, enter, widen}
 use Rattle.pack_laws.proofs.Keys.{fid_total, fid_same}
 use Rattle.pack_laws.proofs.Mapping.{get-update}
 use Rattle.pack_vectors.proofs.Shapes.{small}

@@ -7,17 +7,17 @@ use Rattle.alto_words.specs.Names.{is_stored_name}
 use Rattle.disk_records.specs.declared.records.Event.TheVariants.{Wrote}
 use Rattle.disk_records.specs.Addresses.{real_of}
 use Rattle.disk_records.specs.Packs.{Pack, sector_at, cut}
-use Rattle.pack_model.specs.Slots.{Item, slots, slots_after, slot_at, is_entry}
-use Rattle.pack_model.specs.Slots.Item.{space, entry}
-use Rattle.pack_model.specs.SlotWords.{entry_words, space_words}
-use Rattle.pack_model.specs.Namings.{sys_dir_name, descriptor_name}
-use Rattle.pack_model.specs.Rooms.{find_room}
-use Rattle.pack_model.specs.PageWords.{entered_words}
-use Rattle.pack_model.specs.Commands.{values_writes}
-use Rattle.pack_model.specs.Committing.{values_before}
-use Rattle.pack_model.specs.Operations.{enter_writes}
-use Rattle.pack_model.specs.Entering.{EntryRoom, found_room, values_first, entry_value, entered_values}
-use Rattle.pack_model.specs.Format.{Written}
+use Rattle.pack_model.specs.reading.Slots.{Item, slots, slots_after, slot_at, is_entry}
+use Rattle.pack_model.specs.reading.Slots.Item.{space, entry}
+use Rattle.pack_model.specs.reading.SlotWords.{entry_words, space_words}
+use Rattle.pack_model.specs.reading.Namings.{sys_dir_name, descriptor_name}
+use Rattle.pack_model.specs.operations.Rooms.{find_room}
+use Rattle.pack_model.specs.operations.PageWords.{entered_words}
+use Rattle.pack_model.specs.operations.Commands.{values_writes}
+use Rattle.pack_model.specs.operations.Committing.{values_before}
+use Rattle.pack_model.specs.operations.Operations.{enter_writes}
+use Rattle.pack_model.specs.operations.Entering.{EntryRoom, found_room, values_first, entry_value, entered_values}
+use Rattle.pack_model.specs.sessions.Format.{Written}
 use Rattle.pack_vectors.proofs.SmallPacks.{pack_of, system, root_words, its_words, file_in, page_in}
 
 -- ---- a SysDir that was widened

@@ -7,13 +7,13 @@ use Rattle.disk_records.specs.declared.shape.Shape.{Shape}
 use Rattle.disk_records.specs.declared.records.Sector.{Sector}
 use Rattle.disk_records.specs.Addresses.{real_of, descriptor_length}
 use Rattle.disk_records.specs.Labels.{in_range, is_free}
-use Rattle.pack_model.specs.Bytes.{words_of}
-use Rattle.pack_model.specs.Leaders.{Leader, leader_of, leader_name, is_readable}
-use Rattle.pack_model.specs.Sights.{sight}
-use Rattle.pack_model.specs.Sights.Sight.{leads}
-use Rattle.pack_model.specs.Descriptor.{data_pages, descriptor_value}
-use Rattle.pack_model.specs.Format.{format_page, formatted_sectors, sectors_used, free_after_format}
-use Rattle.pack_model.specs.Reports.{old_serial}
+use Rattle.pack_model.specs.reading.Bytes.{words_of}
+use Rattle.pack_model.specs.reading.Leaders.{Leader, leader_of, leader_name, is_readable}
+use Rattle.pack_model.specs.reading.Sights.{sight}
+use Rattle.pack_model.specs.reading.Sights.Sight.{leads}
+use Rattle.pack_model.specs.sessions.Descriptor.{data_pages, descriptor_value}
+use Rattle.pack_model.specs.sessions.Format.{format_page, formatted_sectors, sectors_used, free_after_format}
+use Rattle.pack_model.specs.scavenger.Reports.{old_serial}
 use Rattle.pack_vectors.proofs.Shapes.{one_of, small, model_31, model_44, two_31, two_44}
 use Rattle.pack_vectors.proofs.SmallPacks.{file_3}
 

@@ -4,17 +4,17 @@ use Rattle.std.specs.Prelude.{replicate, get_or}
 use Rattle.std.specs.Option.{is_some, option_or}
 use Rattle.alto_words.specs.declared.fid.Fid.{Fid}
 use Rattle.alto_words.specs.Fid.{is_fid, sys_dir, disk_descriptor}
-use Rattle.pack_model.specs.Bytes.{bytes_of}
-use Rattle.pack_model.specs.Leaders.{Leader}
-use Rattle.pack_model.specs.Sights.{Sight}
-use Rattle.pack_model.specs.Sights.Sight.{hidden, free, stray, leads, holds}
-use Rattle.pack_model.specs.Files.{first, most_pages, leader, lives}
-use Rattle.pack_model.specs.Namings.{sys_dir_name, descriptor_name}
-use Rattle.pack_model.specs.Step.{new_leader}
-use Rattle.pack_model.specs.Whole.{Leads, Headless, Carries, IsSeat, FileWhole}
-use Rattle.pack_model.specs.Whole.FileWhole.{absent, present}
-use Rattle.pack_model.specs.Descriptor.{descriptor_text}
-use Rattle.pack_model.specs.Format.{format_slots, format_table}
+use Rattle.pack_model.specs.reading.Bytes.{bytes_of}
+use Rattle.pack_model.specs.reading.Leaders.{Leader}
+use Rattle.pack_model.specs.reading.Sights.{Sight}
+use Rattle.pack_model.specs.reading.Sights.Sight.{hidden, free, stray, leads, holds}
+use Rattle.pack_model.specs.reading.Files.{first, most_pages, leader, lives}
+use Rattle.pack_model.specs.reading.Namings.{sys_dir_name, descriptor_name}
+use Rattle.pack_model.specs.operations.Step.{new_leader}
+use Rattle.pack_model.specs.states.Whole.{Leads, Headless, Carries, IsSeat, FileWhole}
+use Rattle.pack_model.specs.states.Whole.FileWhole.{absent, present}
+use Rattle.pack_model.specs.sessions.Descriptor.{descriptor_text}
+use Rattle.pack_model.specs.sessions.Format.{format_slots, format_table}
 use Rattle.pack_laws.proofs.Keys.{is_fid-itself, same_fid}
 use Rattle.pack_vectors.proofs.Shapes.{small}
 

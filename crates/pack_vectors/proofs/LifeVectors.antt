@@ -7,14 +7,14 @@ use Rattle.disk_records.specs.declared.shape.Shape.{Shape}
 use Rattle.disk_records.specs.declared.records.Event.TheVariants.{Wrote}
 use Rattle.disk_records.specs.Addresses.{real_of}
 use Rattle.disk_records.specs.Packs.{Pack, sector_at, after, cut}
-use Rattle.pack_model.specs.Bytes.{put_at}
-use Rattle.pack_model.specs.SlotWords.{entry_words, space_words}
-use Rattle.pack_model.specs.Namings.{sys_dir_name, descriptor_name}
-use Rattle.pack_model.specs.PageWords.{freed_value}
-use Rattle.pack_model.specs.Commands.{Claim, claims_writes, first_page_claim, leader_claim, make_claims}
-use Rattle.pack_model.specs.Operations.{make_writes, drop_writes, drop_moves}
-use Rattle.pack_model.specs.Committing.{units}
-use Rattle.pack_model.specs.Step.Operation.{drop_file}
+use Rattle.pack_model.specs.reading.Bytes.{put_at}
+use Rattle.pack_model.specs.reading.SlotWords.{entry_words, space_words}
+use Rattle.pack_model.specs.reading.Namings.{sys_dir_name, descriptor_name}
+use Rattle.pack_model.specs.operations.PageWords.{freed_value}
+use Rattle.pack_model.specs.operations.Commands.{Claim, claims_writes, first_page_claim, leader_claim, make_claims}
+use Rattle.pack_model.specs.operations.Operations.{make_writes, drop_writes, drop_moves}
+use Rattle.pack_model.specs.operations.Committing.{units}
+use Rattle.pack_model.specs.operations.Step.Operation.{drop_file}
 use Rattle.pack_vectors.proofs.Shapes.{small}
 use Rattle.pack_vectors.proofs.SmallPacks.{pack_of, system, its_words, words_a, made_6, made_7, appended_9, file_3}
 

@@ -10,11 +10,11 @@ use Rattle.disk_records.specs.Addresses.{real_of}
 use Rattle.disk_records.specs.Labels.{in_range, is_free, label_of}
 use Rattle.disk_records.specs.Commands.{ones}
 use Rattle.disk_records.specs.Packs.{Pack, carried, label_found}
-use Rattle.pack_model.specs.Sights.{sight, sights, sights_from}
-use Rattle.pack_model.specs.Sights.Sight.{hidden, free, leads}
-use Rattle.pack_model.specs.Whole.{Whole}
-use Rattle.pack_model.specs.PageWords.{page_number, page_value, new_leader_value}
-use Rattle.pack_model.specs.Misled.{Misled, Finds, AnswersMisled, NamesSector, StandsInLink}
+use Rattle.pack_model.specs.reading.Sights.{sight, sights, sights_from}
+use Rattle.pack_model.specs.reading.Sights.Sight.{hidden, free, leads}
+use Rattle.pack_model.specs.states.Whole.{Whole}
+use Rattle.pack_model.specs.operations.PageWords.{page_number, page_value, new_leader_value}
+use Rattle.pack_model.specs.hints.Misled.{Misled, Finds, AnswersMisled, NamesSector, StandsInLink}
 use Rattle.pack_vectors.proofs.StateVectors.{sound_fresh}
 use Rattle.pack_vectors.proofs.Shapes.{small}
 use Rattle.pack_vectors.proofs.SmallPacks.{pack_of, system, words_a, its_words, all_free, formatted_pack, file_3}

@@ -12,15 +12,15 @@ use Rattle.alto_words.specs.Names.{is_stored_name, suffixed}
 use Rattle.disk_records.specs.Addresses.{real_of}
 use Rattle.disk_records.specs.Labels.{in_range, is_free}
 use Rattle.disk_records.specs.Packs.{Pack}
-use Rattle.pack_model.specs.Leaders.{leader_of, leader_name, is_readable}
-use Rattle.pack_model.specs.Sights.{sight, sights, sights_from}
-use Rattle.pack_model.specs.Files.{first, joined, most_pages, file_bytes}
-use Rattle.pack_model.specs.Slots.{slots_after, slot_at, is_entry}
-use Rattle.pack_model.specs.Namings.{Naming, keeps_system}
-use Rattle.pack_model.specs.Model.{read_pack}
-use Rattle.pack_model.specs.View.{Home, Seen, View}
-use Rattle.pack_model.specs.Settling.{most_suffixes, settle, show}
-use Rattle.pack_model.specs.Listing.{Listed, in_order, naming_of, naming_cmp, listed_cmp, size_of, line_of, shown_names, listing}
+use Rattle.pack_model.specs.reading.Leaders.{leader_of, leader_name, is_readable}
+use Rattle.pack_model.specs.reading.Sights.{sight, sights, sights_from}
+use Rattle.pack_model.specs.reading.Files.{first, joined, most_pages, file_bytes}
+use Rattle.pack_model.specs.reading.Slots.{slots_after, slot_at, is_entry}
+use Rattle.pack_model.specs.reading.Namings.{Naming, keeps_system}
+use Rattle.pack_model.specs.reading.Model.{read_pack}
+use Rattle.pack_model.specs.showing.View.{Home, Seen, View}
+use Rattle.pack_model.specs.showing.Settling.{most_suffixes, settle, show}
+use Rattle.pack_model.specs.showing.Listing.{Listed, in_order, naming_of, naming_cmp, listed_cmp, size_of, line_of, shown_names, listing}
 use Rattle.pack_laws.proofs.ByLists.{puts, entries-puts, read_by, read_list, seen_by, seen_list, shown_by, shown_list}
 use Rattle.pack_laws.proofs.Orders.{listed_total, naming_total}
 use Rattle.pack_vectors.proofs.SmallPacks.{three_x, in_d, versions}

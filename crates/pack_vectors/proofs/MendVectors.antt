@@ -9,23 +9,23 @@ use Rattle.alto_words.specs.Names.{is_stored_name, suffixed}
 use Rattle.disk_records.specs.Addresses.{real_of}
 use Rattle.disk_records.specs.Labels.{in_range, is_free}
 use Rattle.disk_records.specs.Packs.{Pack}
-use Rattle.pack_model.specs.Bytes.{put_at}
-use Rattle.pack_model.specs.Leaders.{leader_of, leader_name, is_readable}
-use Rattle.pack_model.specs.Sights.{sight, sights, sights_from}
-use Rattle.pack_model.specs.Files.{first, joined, most_pages, file_bytes}
-use Rattle.pack_model.specs.Slots.{slots_after, slot_at, is_entry}
-use Rattle.pack_model.specs.Slots.Item.{space, entry}
-use Rattle.pack_model.specs.Bodies.Body.{data_of, items_of}
-use Rattle.pack_model.specs.Namings.{sys_dir_name, descriptor_name, keeps_system}
-use Rattle.pack_model.specs.Settling.{most_suffixes}
-use Rattle.pack_model.specs.Rooms.{placed}
-use Rattle.pack_model.specs.Step.{new_leader}
-use Rattle.pack_model.specs.InUse.{available}
-use Rattle.pack_model.specs.Mended.{mended, root_file, lacking, widens, needs}
-use Rattle.pack_model.specs.Needed.{needed}
-use Rattle.pack_model.specs.Scavenging.{first_refusal}
-use Rattle.pack_model.specs.Scavenging.Refusal.{root_bad, root_taken, pack_full}
-use Rattle.pack_model.specs.Reports.{Report, report_of, mended_serial}
+use Rattle.pack_model.specs.reading.Bytes.{put_at}
+use Rattle.pack_model.specs.reading.Leaders.{leader_of, leader_name, is_readable}
+use Rattle.pack_model.specs.reading.Sights.{sight, sights, sights_from}
+use Rattle.pack_model.specs.reading.Files.{first, joined, most_pages, file_bytes}
+use Rattle.pack_model.specs.reading.Slots.{slots_after, slot_at, is_entry}
+use Rattle.pack_model.specs.reading.Slots.Item.{space, entry}
+use Rattle.pack_model.specs.reading.Bodies.Body.{data_of, items_of}
+use Rattle.pack_model.specs.reading.Namings.{sys_dir_name, descriptor_name, keeps_system}
+use Rattle.pack_model.specs.showing.Settling.{most_suffixes}
+use Rattle.pack_model.specs.operations.Rooms.{placed}
+use Rattle.pack_model.specs.operations.Step.{new_leader}
+use Rattle.pack_model.specs.states.InUse.{available}
+use Rattle.pack_model.specs.scavenger.Mended.{mended, root_file, lacking, widens, needs}
+use Rattle.pack_model.specs.scavenger.Needed.{needed}
+use Rattle.pack_model.specs.scavenger.Scavenging.{first_refusal}
+use Rattle.pack_model.specs.scavenger.Scavenging.Refusal.{root_bad, root_taken, pack_full}
+use Rattle.pack_model.specs.scavenger.Reports.{Report, report_of, mended_serial}
 use Rattle.pack_laws.proofs.Uses.{available_is}
 use Rattle.pack_laws.proofs.MendedByLists.{mended_list, lacking_list, needed_is, needs_is, refusal_is, report_is, serial_is}
 use Rattle.pack_vectors.proofs.Shapes.{small}

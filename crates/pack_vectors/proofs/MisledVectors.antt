@@ -10,17 +10,17 @@ use Rattle.disk_records.specs.Addresses.{real_of}
 use Rattle.disk_records.specs.Labels.{in_range, is_free, label_of}
 use Rattle.disk_records.specs.Commands.{ones}
 use Rattle.disk_records.specs.Packs.{Pack, carried, label_found, after}
-use Rattle.pack_model.specs.Leaders.{leader_of, leader_name, is_readable}
-use Rattle.pack_model.specs.Sights.{sight, sights_from}
-use Rattle.pack_model.specs.Files.{first, joined, most_pages, file_bytes}
-use Rattle.pack_model.specs.Slots.{slots_after, slot_at, is_entry}
-use Rattle.pack_model.specs.Slots.Item.{space, entry}
-use Rattle.pack_model.specs.SlotWords.{SlotAt, entry_words, space_words, slots_at}
-use Rattle.pack_model.specs.Namings.{sys_dir_name, descriptor_name}
-use Rattle.pack_model.specs.PageWords.{filled, page_number, new_leader_value, leader_label}
-use Rattle.pack_model.specs.Links.{no_link, dir_slots}
-use Rattle.pack_model.specs.Format.{Written, format_leader, format_page, with_headers}
-use Rattle.pack_model.specs.Misled.{Misled, AnswersMisled, StandsInEntry}
+use Rattle.pack_model.specs.reading.Leaders.{leader_of, leader_name, is_readable}
+use Rattle.pack_model.specs.reading.Sights.{sight, sights_from}
+use Rattle.pack_model.specs.reading.Files.{first, joined, most_pages, file_bytes}
+use Rattle.pack_model.specs.reading.Slots.{slots_after, slot_at, is_entry}
+use Rattle.pack_model.specs.reading.Slots.Item.{space, entry}
+use Rattle.pack_model.specs.reading.SlotWords.{SlotAt, entry_words, space_words, slots_at}
+use Rattle.pack_model.specs.reading.Namings.{sys_dir_name, descriptor_name}
+use Rattle.pack_model.specs.operations.PageWords.{filled, page_number, new_leader_value, leader_label}
+use Rattle.pack_model.specs.hints.Links.{no_link, dir_slots}
+use Rattle.pack_model.specs.sessions.Format.{Written, format_leader, format_page, with_headers}
+use Rattle.pack_model.specs.hints.Misled.{Misled, AnswersMisled, StandsInEntry}
 use Rattle.pack_vectors.proofs.Shapes.{small}
 use Rattle.pack_vectors.proofs.SmallPacks.{file_3}
 use Rattle.pack_vectors.proofs.LinkVectors.{number_in}

@@ -8,17 +8,17 @@ use Rattle.disk_records.specs.Labels.{label_of}
 use Rattle.disk_records.specs.Commands.{ones}
 use Rattle.disk_records.specs.declared.records.Sector.{Sector}
 use Rattle.disk_records.specs.Packs.{Pack, sector_at}
-use Rattle.pack_model.specs.Bytes.{bytes_of, put_at}
-use Rattle.pack_model.specs.SlotWords.{entry_words, space_words}
-use Rattle.pack_model.specs.Namings.{sys_dir_name, descriptor_name}
-use Rattle.pack_model.specs.Links.{no_link}
-use Rattle.pack_model.specs.PageWords.{page_number, page_value, leader_label, new_leader_value}
-use Rattle.pack_model.specs.Descriptor.{descriptor_text}
-use Rattle.pack_model.specs.Format.{Written, with_headers, formatted}
-use Rattle.pack_model.specs.Step.{new_leader}
-use Rattle.pack_model.specs.Leaders.{Leader}
-use Rattle.pack_model.specs.Bodies.Body.{data_of}
-use Rattle.pack_model.specs.Bodies.{File}
+use Rattle.pack_model.specs.reading.Bytes.{bytes_of, put_at}
+use Rattle.pack_model.specs.reading.SlotWords.{entry_words, space_words}
+use Rattle.pack_model.specs.reading.Namings.{sys_dir_name, descriptor_name}
+use Rattle.pack_model.specs.hints.Links.{no_link}
+use Rattle.pack_model.specs.operations.PageWords.{page_number, page_value, leader_label, new_leader_value}
+use Rattle.pack_model.specs.sessions.Descriptor.{descriptor_text}
+use Rattle.pack_model.specs.sessions.Format.{Written, with_headers, formatted}
+use Rattle.pack_model.specs.operations.Step.{new_leader}
+use Rattle.pack_model.specs.reading.Leaders.{Leader}
+use Rattle.pack_model.specs.reading.Bodies.Body.{data_of}
+use Rattle.pack_model.specs.reading.Bodies.{File}
 use Rattle.pack_vectors.proofs.Shapes.{small}
 
 abbrev pub file_of_bytes : List ℕ → List ℕ → File

@@ -2,9 +2,9 @@
 use Rattle.std.proofs.Common.{List, [], ap, arith, drop, length, ltb-true, refl, replicate, suc, sym, take, ℕ, ◌*◌, ◌++◌, ◌+◌, ◌-◌, ◌/◌, ◌%◌, ◌<◌, ◌∙◌, ◌∷◌, ◌≡◌, ◌≤◌}
 use Rattle.std.proofs.lemmas.List.{append-nil, drop-drop, length-append, length-drop, length-replicate, length-take, take-append-drop, take-append-le, take_all}
 use Rattle.pack_laws.proofs.Bytes.{length-bytes_of}
-use Rattle.pack_model.specs.Bytes.{bytes_of}
-use Rattle.pack_model.specs.PageWords.{filled}
-use Rattle.pack_model.specs.Whole.{IsLaid, PageAt}
+use Rattle.pack_model.specs.reading.Bytes.{bytes_of}
+use Rattle.pack_model.specs.operations.PageWords.{filled}
+use Rattle.pack_model.specs.states.Whole.{IsLaid, PageAt}
 use Rattle.laws_operation.specs.ByteLaws.{together}
 use Rattle.std.proofs.Math.Seq.{take-append-add}
 

@@ -7,16 +7,16 @@ use Rattle.disk_records.specs.Addresses.{table_words}
 use Rattle.disk_records.specs.Packs.{Pack, after, cut, sector_at}
 use Rattle.disk_records.specs.Words.{word}
 use Rattle.disk_records.specs.declared.records.Event.{Event}
-use Rattle.pack_model.specs.Commands.{values_writes}
-use Rattle.pack_model.specs.Descriptor.{close_writes, closed_values, data_pages, descriptor_text, descriptor_value}
-use Rattle.pack_model.specs.Files.{place}
-use Rattle.pack_model.specs.InUse.{free_sectors, how_many}
-use Rattle.pack_model.specs.Links.{LinksTrue}
-use Rattle.pack_model.specs.Model.{descriptor_words, read_pack}
-use Rattle.pack_model.specs.Sights.{sights}
-use Rattle.pack_model.specs.Sound.{mark_clean, mark_of}
-use Rattle.pack_model.specs.Tables.{TableTrue, WordsTrue, described_free, true_table, words_of_bits}
-use Rattle.pack_model.specs.Whole.{Tidy, Whole}
+use Rattle.pack_model.specs.operations.Commands.{values_writes}
+use Rattle.pack_model.specs.sessions.Descriptor.{close_writes, closed_values, data_pages, descriptor_text, descriptor_value}
+use Rattle.pack_model.specs.reading.Files.{place}
+use Rattle.pack_model.specs.states.InUse.{free_sectors, how_many}
+use Rattle.pack_model.specs.hints.Links.{LinksTrue}
+use Rattle.pack_model.specs.reading.Model.{descriptor_words, read_pack}
+use Rattle.pack_model.specs.reading.Sights.{sights}
+use Rattle.pack_model.specs.states.Sound.{mark_clean, mark_of}
+use Rattle.pack_model.specs.hints.Tables.{TableTrue, WordsTrue, described_free, true_table, words_of_bits}
+use Rattle.pack_model.specs.states.Whole.{Tidy, Whole}
 use Rattle.laws_operation.specs.DescriptorLaws.{KeepsSound, MayClose}
 use Rattle.laws_hint.proofs.inside.ClosedValues.{closed_value}
 use Rattle.laws_hint.proofs.inside.ClosedWords.{closed_words, words_many}

@@ -4,7 +4,7 @@ use Rattle.std.proofs.lemmas.List.{take_all}
 use Rattle.disk_records.specs.Addresses.{pages_of, table_words}
 use Rattle.disk_records.specs.Packs.{Pack}
 use Rattle.disk_records.specs.Words.{word}
-use Rattle.pack_model.specs.Tables.{bits_from, true_table, words_of_bits}
+use Rattle.pack_model.specs.hints.Tables.{bits_from, true_table, words_of_bits}
 use Rattle.laws_hint.proofs.inside.ClosedHints.{closing_text}
 use Rattle.laws_hint.proofs.inside.ClosedWords.{words_many}
 use Rattle.laws_hint.proofs.inside.TrueMap.{true_is_free}

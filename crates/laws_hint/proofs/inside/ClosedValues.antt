@@ -5,11 +5,11 @@ use Rattle.disk_records.proofs.Growing.{after-append}
 use Rattle.disk_records.specs.Commands.{value_writes}
 use Rattle.disk_records.specs.Packs.{Pack, after, sector_at}
 use Rattle.disk_records.specs.declared.records.Event.TheVariants.{Wrote}
-use Rattle.pack_model.specs.Commands.{values_writes}
-use Rattle.pack_model.specs.Descriptor.{closed_values, descriptor_value}
-use Rattle.pack_model.specs.Files.{place}
-use Rattle.pack_model.specs.Sights.{sights}
-use Rattle.pack_model.specs.Sound.{mark_clean}
+use Rattle.pack_model.specs.operations.Commands.{values_writes}
+use Rattle.pack_model.specs.sessions.Descriptor.{closed_values, descriptor_value}
+use Rattle.pack_model.specs.reading.Files.{place}
+use Rattle.pack_model.specs.reading.Sights.{sights}
+use Rattle.pack_model.specs.states.Sound.{mark_clean}
 use Rattle.pack_laws.proofs.Placing.{one_page, page_of_place}
 use Rattle.pack_laws.proofs.Sighted.{length-sights}
 use Rattle.laws_operation.specs.ByteLaws.{Bear}

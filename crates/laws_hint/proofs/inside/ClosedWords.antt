@@ -8,15 +8,15 @@ use Rattle.disk_records.specs.Packs.{Pack, sector_at}
 use Rattle.disk_records.specs.declared.shape.Shape.{Shape}
 use Rattle.pack_laws.proofs.Bytes.{length-bytes_of, words_of-bytes_of}
 use Rattle.pack_laws.proofs.Placing.{leader_of_place, place_of_leader}
-use Rattle.pack_model.specs.Bytes.{bytes_of, words_of}
-use Rattle.pack_model.specs.Descriptor.{data_pages, descriptor_text, descriptor_value}
-use Rattle.pack_model.specs.Files.{file_bytes, place}
-use Rattle.pack_model.specs.Model.{descriptor_words}
-use Rattle.pack_model.specs.Sights.{sights}
-use Rattle.pack_model.specs.Sights.Sight.{hidden, holds}
-use Rattle.pack_model.specs.Sound.{mark_clean}
-use Rattle.pack_model.specs.Tables.{words_of_bits}
-use Rattle.pack_model.specs.Whole.{Carries, IsSeat, PageAt, Seated, Whole}
+use Rattle.pack_model.specs.reading.Bytes.{bytes_of, words_of}
+use Rattle.pack_model.specs.sessions.Descriptor.{data_pages, descriptor_text, descriptor_value}
+use Rattle.pack_model.specs.reading.Files.{file_bytes, place}
+use Rattle.pack_model.specs.reading.Model.{descriptor_words}
+use Rattle.pack_model.specs.reading.Sights.{sights}
+use Rattle.pack_model.specs.reading.Sights.Sight.{hidden, holds}
+use Rattle.pack_model.specs.states.Sound.{mark_clean}
+use Rattle.pack_model.specs.hints.Tables.{words_of_bits}
+use Rattle.pack_model.specs.states.Whole.{Carries, IsSeat, PageAt, Seated, Whole}
 use Rattle.laws_record.proofs.DirReads.{has_leader}
 use Rattle.laws_record.proofs.Seats.{seat_once}
 use Rattle.laws_operation.proofs.Changing.{headed}

@@ -4,16 +4,16 @@ use Rattle.alto_words.specs.Fid.{disk_descriptor}
 use Rattle.disk_records.proofs.Growing.{after-append}
 use Rattle.disk_records.specs.Packs.{Pack, after, sector_at}
 use Rattle.disk_records.specs.declared.records.Event.{Event}
-use Rattle.pack_model.specs.Committing.{moves_of_all}
-use Rattle.pack_model.specs.Descriptor.{serial_writes}
-use Rattle.pack_model.specs.Files.{place}
-use Rattle.pack_model.specs.Links.{LinksTrue}
-use Rattle.pack_model.specs.Model.{read_pack}
-use Rattle.pack_model.specs.Scavenging.{Unmarked}
-use Rattle.pack_model.specs.Sights.{sights}
-use Rattle.pack_model.specs.Step.{Operation}
-use Rattle.pack_model.specs.Step.Operation.{drop_file}
-use Rattle.pack_model.specs.Whole.{Tidy, Whole}
+use Rattle.pack_model.specs.operations.Committing.{moves_of_all}
+use Rattle.pack_model.specs.sessions.Descriptor.{serial_writes}
+use Rattle.pack_model.specs.reading.Files.{place}
+use Rattle.pack_model.specs.hints.Links.{LinksTrue}
+use Rattle.pack_model.specs.reading.Model.{read_pack}
+use Rattle.pack_model.specs.scavenger.Scavenging.{Unmarked}
+use Rattle.pack_model.specs.reading.Sights.{sights}
+use Rattle.pack_model.specs.operations.Step.{Operation}
+use Rattle.pack_model.specs.operations.Step.Operation.{drop_file}
+use Rattle.pack_model.specs.states.Whole.{Tidy, Whole}
 use Rattle.laws_operation.specs.DescriptorLaws.{KeepsSound}
 use Rattle.laws_operation.specs.LinkLaws.{KeepsLinks}
 use Rattle.laws_line.specs.CutLaws.{Line, LineStays, does, makes, over, with_serial}

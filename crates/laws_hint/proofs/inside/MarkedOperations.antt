@@ -13,25 +13,25 @@ use Rattle.disk_records.specs.declared.records.Event.{Event}
 use Rattle.disk_records.specs.declared.records.Event.TheVariants.{Wrote}
 use Rattle.disk_records.specs.declared.records.Page.{Page}
 use Rattle.hint_cache.specs.Bits.{busy_at}
-use Rattle.pack_model.specs.Commands.{Claim, Claimable, all_claimed, claims_writes, sectors_of, values_writes}
-use Rattle.pack_model.specs.Committing.{page_of_byte}
-use Rattle.pack_model.specs.Bytes.{bytes_of}
-use Rattle.pack_model.specs.Descriptor.{close_writes, closed_values, open_writes, opened_value, serial_value, serial_writes}
-use Rattle.pack_model.specs.Entering.{EntryRoom, entry_value, values_first}
-use Rattle.pack_model.specs.Files.{file_bytes, place}
-use Rattle.pack_model.specs.InUse.{is_free_sight}
-use Rattle.pack_model.specs.Model.{good_one, read_pack}
-use Rattle.pack_model.specs.Operations.{cut_writes, enter_writes, go_writes, grow_writes}
-use Rattle.pack_model.specs.Sights.{Sight, sights}
-use Rattle.pack_model.specs.PageWords.{freed_value, page_number}
-use Rattle.pack_model.specs.Sights.Sight.{hidden, holds}
-use Rattle.pack_model.specs.Slots.{all_words, item_words}
-use Rattle.pack_model.specs.Slots.Item.{entry}
-use Rattle.pack_model.specs.Sound.{mark_clean, mark_of, mark_open}
-use Rattle.pack_model.specs.Step.{Operation}
-use Rattle.pack_model.specs.Step.Operation.{drop_file}
-use Rattle.pack_model.specs.Tables.{free_table}
-use Rattle.pack_model.specs.Whole.{Tidy, Whole}
+use Rattle.pack_model.specs.operations.Commands.{Claim, Claimable, all_claimed, claims_writes, sectors_of, values_writes}
+use Rattle.pack_model.specs.operations.Committing.{page_of_byte}
+use Rattle.pack_model.specs.reading.Bytes.{bytes_of}
+use Rattle.pack_model.specs.sessions.Descriptor.{close_writes, closed_values, open_writes, opened_value, serial_value, serial_writes}
+use Rattle.pack_model.specs.operations.Entering.{EntryRoom, entry_value, values_first}
+use Rattle.pack_model.specs.reading.Files.{file_bytes, place}
+use Rattle.pack_model.specs.states.InUse.{is_free_sight}
+use Rattle.pack_model.specs.reading.Model.{good_one, read_pack}
+use Rattle.pack_model.specs.operations.Operations.{cut_writes, enter_writes, go_writes, grow_writes}
+use Rattle.pack_model.specs.reading.Sights.{Sight, sights}
+use Rattle.pack_model.specs.operations.PageWords.{freed_value, page_number}
+use Rattle.pack_model.specs.reading.Sights.Sight.{hidden, holds}
+use Rattle.pack_model.specs.reading.Slots.{all_words, item_words}
+use Rattle.pack_model.specs.reading.Slots.Item.{entry}
+use Rattle.pack_model.specs.states.Sound.{mark_clean, mark_of, mark_open}
+use Rattle.pack_model.specs.operations.Step.{Operation}
+use Rattle.pack_model.specs.operations.Step.Operation.{drop_file}
+use Rattle.pack_model.specs.hints.Tables.{free_table}
+use Rattle.pack_model.specs.states.Whole.{Tidy, Whole}
 use Rattle.pack_laws.proofs.Placing.{leader_of_place, page_of_place}
 use Rattle.laws_operation.proofs.Cutting.{cut_law}
 use Rattle.laws_operation.proofs.Dropped.{go_law}

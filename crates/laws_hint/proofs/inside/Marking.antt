@@ -11,11 +11,11 @@ use Rattle.disk_records.specs.declared.records.Event.TheVariants.{Wrote}
 use Rattle.disk_records.specs.declared.records.Sector.{Sector}
 use Rattle.disk_records.specs.declared.shape.Shape.{Shape}
 use Rattle.hint_cache.specs.Bits.{busy_at}
-use Rattle.pack_model.specs.Commands.{Claim, all_claimed, claims_writes, releases_writes, sectors_of}
-use Rattle.pack_model.specs.InUse.{is_free_sight}
-use Rattle.pack_model.specs.Sights.{page_sight, sight, sights}
-use Rattle.pack_model.specs.Sights.Sight.{free, hidden, stray}
-use Rattle.pack_model.specs.Tables.{free_table}
+use Rattle.pack_model.specs.operations.Commands.{Claim, all_claimed, claims_writes, releases_writes, sectors_of}
+use Rattle.pack_model.specs.states.InUse.{is_free_sight}
+use Rattle.pack_model.specs.reading.Sights.{page_sight, sight, sights}
+use Rattle.pack_model.specs.reading.Sights.Sight.{free, hidden, stray}
+use Rattle.pack_model.specs.hints.Tables.{free_table}
 use Rattle.pack_laws.proofs.Guarding.{free_shown, ones_free, usable_shown}
 use Rattle.pack_laws.proofs.Sighted.{sights-write}
 use Rattle.laws_hint.proofs.inside.TrueMap.{page_not_free, values_free}

@@ -6,11 +6,11 @@ use Rattle.disk_records.specs.Packs.{Pack}
 use Rattle.disk_records.specs.declared.shape.Shape.{Shape}
 use Rattle.hint_cache.specs.Bits.{busy_at}
 use Rattle.page_alloc.specs.Free.{IsTrueTable}
-use Rattle.pack_model.specs.Files.{numbered}
-use Rattle.pack_model.specs.InUse.{is_available, is_free_sight}
-use Rattle.pack_model.specs.Sights.{Sight, sights}
-use Rattle.pack_model.specs.Sights.Sight.{free, hidden, holds, leads, stray}
-use Rattle.pack_model.specs.Tables.{free_table}
+use Rattle.pack_model.specs.reading.Files.{numbered}
+use Rattle.pack_model.specs.states.InUse.{is_available, is_free_sight}
+use Rattle.pack_model.specs.reading.Sights.{Sight, sights}
+use Rattle.pack_model.specs.reading.Sights.Sight.{free, hidden, holds, leads, stray}
+use Rattle.pack_model.specs.hints.Tables.{free_table}
 use Rattle.pack_laws.proofs.Sighted.{length-sights}
 use Rattle.laws_room.proofs.Found.{found_shown}
 use Rattle.laws_hint.proofs.inside.TrueMap.{true_is_free}

@@ -6,13 +6,13 @@ use Rattle.disk_records.specs.Packs.{Pack, after, is_usable, no_sector, with_par
 use Rattle.disk_records.specs.declared.records.Event.TheVariants.{Wrote}
 use Rattle.disk_records.specs.declared.records.Sector.{Sector}
 use Rattle.disk_records.specs.declared.shape.Shape.{Shape}
-use Rattle.pack_model.specs.Commands.{values_writes}
-use Rattle.pack_model.specs.Files.{numbered}
-use Rattle.pack_model.specs.InUse.{free_sectors, how_many, is_available, is_free_sight, one_if}
-use Rattle.pack_model.specs.Sights.{Sight, page_sight, sight, sights, sights_from}
-use Rattle.pack_model.specs.Sights.Sight.{free, hidden, stray}
-use Rattle.pack_model.specs.Tables.{free_table, true_table}
-use Rattle.pack_model.specs.Whole.{Whole}
+use Rattle.pack_model.specs.operations.Commands.{values_writes}
+use Rattle.pack_model.specs.reading.Files.{numbered}
+use Rattle.pack_model.specs.states.InUse.{free_sectors, how_many, is_available, is_free_sight, one_if}
+use Rattle.pack_model.specs.reading.Sights.{Sight, page_sight, sight, sights, sights_from}
+use Rattle.pack_model.specs.reading.Sights.Sight.{free, hidden, stray}
+use Rattle.pack_model.specs.hints.Tables.{free_table, true_table}
+use Rattle.pack_model.specs.states.Whole.{Whole}
 use Rattle.laws_room.proofs.rooms.Laws.{each_sector_is_used_or_free}
 
 -- ---- on a whole pack

@@ -9,12 +9,12 @@ use Rattle.std.specs.Prelude.{◌==◌}
 use Rattle.disk_records.specs.Addresses.{pages_of, table_words}
 use Rattle.hint_cache.proofs.Numbers.{is_one-number_of}
 use Rattle.hint_cache.specs.Bits.{bit_in, bits_in, digit_at, is_one, number_of, word_of}
-use Rattle.pack_model.specs.Files.{file_bytes}
+use Rattle.pack_model.specs.reading.Files.{file_bytes}
 use Rattle.alto_words.specs.Fid.{disk_descriptor}
-use Rattle.pack_model.specs.InUse.{one_if}
-use Rattle.pack_model.specs.Model.{descriptor_words}
-use Rattle.pack_model.specs.Sights.{sights}
-use Rattle.pack_model.specs.Tables.{bits_from, bits_value, is_busy, table_in, words_of_bits}
+use Rattle.pack_model.specs.states.InUse.{one_if}
+use Rattle.pack_model.specs.reading.Model.{descriptor_words}
+use Rattle.pack_model.specs.reading.Sights.{sights}
+use Rattle.pack_model.specs.hints.Tables.{bits_from, bits_value, is_busy, table_in, words_of_bits}
 use Rattle.pack_laws.proofs.Bytes.{length-words_of}
 use Rattle.laws_hint.proofs.inside.Meaning.{same_bits}
 use Rattle.laws_hint.specs.MapWords.{AbsentMapIsReadBusyAndDescribedFree, TableGivesTheWordsOfItsBits, TableIsWritten, TableOfEnoughWordsIsTheirMap, TableReadIsDescribed, WholePackDescribesTheTableRead, WordsGiveTheMapBack, words_given}

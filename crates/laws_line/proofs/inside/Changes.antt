@@ -11,16 +11,16 @@ use Rattle.laws_line.proofs.inside.Runs.{IsShort}
 use Rattle.laws_line.proofs.inside.Updates.{Fair, Keeps, kept_updated}
 use Rattle.laws_line.specs.LineLaws.{LeavesNames}
 use Rattle.pack_laws.proofs.Bytes.{length-put_at}
-use Rattle.pack_model.specs.Bodies.{Body, File, body_length, pages_for}
-use Rattle.pack_model.specs.Bodies.Body.{data_of, items_of}
-use Rattle.pack_model.specs.Bytes.{put_at}
-use Rattle.pack_model.specs.Committing.{length_in, length_of, pages_added, pages_for_operation}
-use Rattle.pack_model.specs.Leaders.{Leader}
-use Rattle.pack_model.specs.Model.{Model}
-use Rattle.pack_model.specs.Namings.{Naming, namings_in}
-use Rattle.pack_model.specs.Slots.Item.{space}
-use Rattle.pack_model.specs.Step.{Operation, on_bytes, on_items, on_leader, step}
-use Rattle.pack_model.specs.Step.Operation.{cut, drop_file, enter, grow, leave, make, put, stamp, title, widen}
+use Rattle.pack_model.specs.reading.Bodies.{Body, File, body_length, pages_for}
+use Rattle.pack_model.specs.reading.Bodies.Body.{data_of, items_of}
+use Rattle.pack_model.specs.reading.Bytes.{put_at}
+use Rattle.pack_model.specs.operations.Committing.{length_in, length_of, pages_added, pages_for_operation}
+use Rattle.pack_model.specs.reading.Leaders.{Leader}
+use Rattle.pack_model.specs.reading.Model.{Model}
+use Rattle.pack_model.specs.reading.Namings.{Naming, namings_in}
+use Rattle.pack_model.specs.reading.Slots.Item.{space}
+use Rattle.pack_model.specs.operations.Step.{Operation, on_bytes, on_items, on_leader, step}
+use Rattle.pack_model.specs.operations.Step.Operation.{cut, drop_file, enter, grow, leave, make, put, stamp, title, widen}
 use Rattle.laws_record.proofs.Entered.{namings_in-append}
 use Rattle.laws_record.proofs.Slotwise.{words-append}
 

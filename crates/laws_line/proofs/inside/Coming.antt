@@ -14,14 +14,14 @@ use Rattle.laws_line.proofs.inside.Spared.{Spared}
 use Rattle.laws_line.proofs.inside.Updates.{got_updated, items_updated, named_updated, names_updated, pages_updated, there_updated}
 use Rattle.laws_line.specs.Ready.{Ready}
 use Rattle.pack_laws.proofs.Keys.{same_fid}
-use Rattle.pack_model.specs.Bodies.{Body, File, body_items, body_length, items_in, pages_for}
-use Rattle.pack_model.specs.Bodies.Body.{data_of, items_of}
-use Rattle.pack_model.specs.Model.{IsNamed, Model, files_pages, root_items}
-use Rattle.pack_model.specs.Rooms.{items_entered, largest_run, placed}
-use Rattle.pack_model.specs.Slots.{Item, all_words}
-use Rattle.pack_model.specs.Slots.Item.{entry}
-use Rattle.pack_model.specs.Step.{body_slots, longest_entry, on_items, step}
-use Rattle.pack_model.specs.Step.Operation.{enter}
+use Rattle.pack_model.specs.reading.Bodies.{Body, File, body_items, body_length, items_in, pages_for}
+use Rattle.pack_model.specs.reading.Bodies.Body.{data_of, items_of}
+use Rattle.pack_model.specs.reading.Model.{IsNamed, Model, files_pages, root_items}
+use Rattle.pack_model.specs.operations.Rooms.{items_entered, largest_run, placed}
+use Rattle.pack_model.specs.reading.Slots.{Item, all_words}
+use Rattle.pack_model.specs.reading.Slots.Item.{entry}
+use Rattle.pack_model.specs.operations.Step.{body_slots, longest_entry, on_items, step}
+use Rattle.pack_model.specs.operations.Step.Operation.{enter}
 
 -- What becomes of slots: they have as many words, no entry goes, and the file has one, or they are as before.
 pub record Enters (d f : Fid) (is js : List Item) : Type 0 where

@@ -14,15 +14,15 @@ use Rattle.laws_line.specs.LineLaws.{DropLeavesRoom, MayGo}
 use Rattle.laws_line.specs.Ready.{Ready, Settled}
 use Rattle.pack_laws.proofs.Keys.{fid_same, fid_total, is_fid-sym, same_fid}
 use Rattle.pack_laws.proofs.Mapping.{entries-map_values, get-map_values}
-use Rattle.pack_model.specs.Bodies.{Body, File, Files, body_items, items_in}
-use Rattle.pack_model.specs.Bodies.Body.{data_of, items_of}
-use Rattle.pack_model.specs.Maps.{map_values}
-use Rattle.pack_model.specs.Model.{IsNamed, Model, dir_items, files_pages}
-use Rattle.pack_model.specs.Namings.{namings_in}
-use Rattle.pack_model.specs.Slots.{Item, item_words}
-use Rattle.pack_model.specs.Slots.Item.{entry, space}
-use Rattle.pack_model.specs.Step.{body_without, file_without, item_without, items_without, step}
-use Rattle.pack_model.specs.Step.Operation.{drop_file}
+use Rattle.pack_model.specs.reading.Bodies.{Body, File, Files, body_items, items_in}
+use Rattle.pack_model.specs.reading.Bodies.Body.{data_of, items_of}
+use Rattle.pack_model.specs.sessions.Maps.{map_values}
+use Rattle.pack_model.specs.reading.Model.{IsNamed, Model, dir_items, files_pages}
+use Rattle.pack_model.specs.reading.Namings.{namings_in}
+use Rattle.pack_model.specs.reading.Slots.{Item, item_words}
+use Rattle.pack_model.specs.reading.Slots.Item.{entry, space}
+use Rattle.pack_model.specs.operations.Step.{body_without, file_without, item_without, items_without, step}
+use Rattle.pack_model.specs.operations.Step.Operation.{drop_file}
 use Rattle.laws_room.proofs.FilesPages.{gone_pages}
 use Rattle.laws_room.proofs.Stepping.{item_kept, without_pages}
 use Rattle.laws_record.proofs.Tidying.{or_false_left, or_false_right}

@@ -4,9 +4,9 @@ use Rattle.std.proofs.lemmas.List.Elements.{All-cons, All-head, All-tail}
 use Rattle.std.specs.Option.{option_map, option_or}
 use Rattle.std.specs.Prelude.{All}
 use Rattle.laws_line.proofs.inside.Runs.{IsShort}
-use Rattle.pack_model.specs.Rooms.{in_run, left_over, placed, run}
-use Rattle.pack_model.specs.Slots.{Item, item_words}
-use Rattle.pack_model.specs.Slots.Item.{entry, space}
+use Rattle.pack_model.specs.operations.Rooms.{in_run, left_over, placed, run}
+use Rattle.pack_model.specs.reading.Slots.{Item, item_words}
+use Rattle.pack_model.specs.reading.Slots.Item.{entry, space}
 
 -- what is behind a run are some of the slots
 behind_short : (n : ℕ) (is : List Item) (r : ℕ × List Item) → All IsShort is → run n is ≡ Some r → All IsShort r.1

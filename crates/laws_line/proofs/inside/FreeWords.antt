@@ -1,9 +1,9 @@
 -- Free words in a row, when slots change.
 use Rattle.std.proofs.Common.{◌++◌, ◌∷◌, ◌≤◌, List, [], append-nil, arith, ap, ℕ}
 use Rattle.alto_words.specs.declared.fid.Fid.{Fid}
-use Rattle.pack_model.specs.Rooms.{largest_run, words_free}
-use Rattle.pack_model.specs.Slots.{Item}
-use Rattle.pack_model.specs.Slots.Item.{entry, space}
+use Rattle.pack_model.specs.operations.Rooms.{largest_run, words_free}
+use Rattle.pack_model.specs.reading.Slots.{Item}
+use Rattle.pack_model.specs.reading.Slots.Item.{entry, space}
 
 -- More words are free at the front, and in a row.
 pub record MoreFree (a b : List Item) : Type 0 where

@@ -12,16 +12,16 @@ use Rattle.laws_line.specs.LineLaws.{IsEntered}
 use Rattle.laws_line.specs.Ready.{Settled}
 use Rattle.pack_laws.proofs.Keys.{fid_same, fid_total}
 use Rattle.pack_laws.proofs.Mapping.{entries-from_entries}
-use Rattle.pack_model.specs.Bodies.{File, Files, items_in}
-use Rattle.pack_model.specs.Bodies.Body.{data_of}
-use Rattle.pack_model.specs.Committing.{pages_for_operations}
-use Rattle.pack_model.specs.Maps.{update, update_found}
-use Rattle.pack_model.specs.Mended.{HasRoom, needs, widens}
-use Rattle.pack_model.specs.Model.{Model, descriptor_pages, files_pages, room}
-use Rattle.pack_model.specs.Rooms.{placed}
-use Rattle.pack_model.specs.Slots.Item.{entry, space}
-use Rattle.pack_model.specs.Step.{Operation, new_file, new_leader, room_in, step}
-use Rattle.pack_model.specs.Step.Operation.{enter, leave, make, title}
+use Rattle.pack_model.specs.reading.Bodies.{File, Files, items_in}
+use Rattle.pack_model.specs.reading.Bodies.Body.{data_of}
+use Rattle.pack_model.specs.operations.Committing.{pages_for_operations}
+use Rattle.pack_model.specs.sessions.Maps.{update, update_found}
+use Rattle.pack_model.specs.scavenger.Mended.{HasRoom, needs, widens}
+use Rattle.pack_model.specs.reading.Model.{Model, descriptor_pages, files_pages, room}
+use Rattle.pack_model.specs.operations.Rooms.{placed}
+use Rattle.pack_model.specs.reading.Slots.Item.{entry, space}
+use Rattle.pack_model.specs.operations.Step.{Operation, new_file, new_leader, room_in, step}
+use Rattle.pack_model.specs.operations.Step.Operation.{enter, leave, make, title}
 
 -- ---- a file is made
 -- SysDir with 25 free words, and two sectors that are free

@@ -6,8 +6,8 @@ use Rattle.alto_words.proofs.Made.{length-suffixed}
 use Rattle.alto_words.specs.Fid.{fid_cmp, is_fid, sys_dir}
 use Rattle.alto_words.specs.declared.fid.Fid.{Fid}
 use Rattle.pack_laws.proofs.Keys.{fid_total, same_fid}
-use Rattle.pack_model.specs.Settling.{choice, chosen, chosen_from, given, given_names, is_taken, most_suffixes, unless}
-use Rattle.pack_model.specs.View.{Home, Seen}
+use Rattle.pack_model.specs.showing.Settling.{choice, chosen, chosen_from, given, given_names, is_taken, most_suffixes, unless}
+use Rattle.pack_model.specs.showing.View.{Home, Seen}
 use Rattle.laws_record.proofs.Settles.{has_name, some_more}
 use Rattle.laws_room.proofs.Each.{Each}
 

@@ -14,15 +14,15 @@ use Rattle.laws_line.proofs.inside.Spared.{Spared}
 use Rattle.laws_line.proofs.inside.Updates.{items_updated, named_updated, names_updated, pages_updated, there_updated}
 use Rattle.laws_line.specs.LineLaws.{IsEntered}
 use Rattle.pack_laws.proofs.Keys.{is_fid-sym}
-use Rattle.pack_model.specs.Bodies.{Body, File, body_items, body_length, items_in, pages_for}
-use Rattle.pack_model.specs.Bodies.Body.{data_of, items_of}
-use Rattle.pack_model.specs.Model.{IsNamed, Model, dir_items, files_pages}
-use Rattle.pack_model.specs.Namings.{namings_in}
-use Rattle.pack_model.specs.Rooms.{largest_run}
-use Rattle.pack_model.specs.Slots.{Item, all_words, item_words}
-use Rattle.pack_model.specs.Slots.Item.{entry, space}
-use Rattle.pack_model.specs.Step.{body_slots, items_left, longest_entry, on_items, on_leader, step}
-use Rattle.pack_model.specs.Step.Operation.{leave, title, widen}
+use Rattle.pack_model.specs.reading.Bodies.{Body, File, body_items, body_length, items_in, pages_for}
+use Rattle.pack_model.specs.reading.Bodies.Body.{data_of, items_of}
+use Rattle.pack_model.specs.reading.Model.{IsNamed, Model, dir_items, files_pages}
+use Rattle.pack_model.specs.reading.Namings.{namings_in}
+use Rattle.pack_model.specs.operations.Rooms.{largest_run}
+use Rattle.pack_model.specs.reading.Slots.{Item, all_words, item_words}
+use Rattle.pack_model.specs.reading.Slots.Item.{entry, space}
+use Rattle.pack_model.specs.operations.Step.{body_slots, items_left, longest_entry, on_items, on_leader, step}
+use Rattle.pack_model.specs.operations.Step.Operation.{leave, title, widen}
 use Rattle.laws_record.proofs.Tidying.{or_false_left, or_false_right}
 
 -- The first of these slots under this name, in whatever case, is of the file.

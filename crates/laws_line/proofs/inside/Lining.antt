@@ -6,20 +6,20 @@ use Rattle.disk_records.specs.Commands.{value_writes}
 use Rattle.disk_records.specs.Packs.{Pack, after, sector_at}
 use Rattle.disk_records.specs.declared.records.Event.{Event}
 use Rattle.disk_records.specs.declared.records.Event.TheVariants.{Wrote}
-use Rattle.pack_model.specs.Committing.{moves_of, moves_of_all}
-use Rattle.pack_model.specs.Descriptor.{opened_value, serial_writes}
-use Rattle.pack_model.specs.Meanings.{Mendable, Views, reading, viewing}
-use Rattle.pack_model.specs.Model.{Model, read_pack}
-use Rattle.pack_model.specs.Moves.{Obeys, rest, steps, write}
-use Rattle.pack_model.specs.Operations.Move.{quiet}
-use Rattle.pack_model.specs.Operations.{make_moves}
-use Rattle.pack_model.specs.Scavenging.{Unmarked}
-use Rattle.pack_model.specs.Sights.{sights}
-use Rattle.pack_model.specs.Sound.{mark_of, mark_open}
-use Rattle.pack_model.specs.Step.{Operation, step}
-use Rattle.pack_model.specs.Step.Operation.{make}
-use Rattle.pack_model.specs.View.{view}
-use Rattle.pack_model.specs.Whole.{Tidy, Whole}
+use Rattle.pack_model.specs.operations.Committing.{moves_of, moves_of_all}
+use Rattle.pack_model.specs.sessions.Descriptor.{opened_value, serial_writes}
+use Rattle.pack_model.specs.sessions.Meanings.{Mendable, Views, reading, viewing}
+use Rattle.pack_model.specs.reading.Model.{Model, read_pack}
+use Rattle.pack_model.specs.sessions.Moves.{Obeys, rest, steps, write}
+use Rattle.pack_model.specs.operations.Operations.Move.{quiet}
+use Rattle.pack_model.specs.operations.Operations.{make_moves}
+use Rattle.pack_model.specs.scavenger.Scavenging.{Unmarked}
+use Rattle.pack_model.specs.reading.Sights.{sights}
+use Rattle.pack_model.specs.states.Sound.{mark_of, mark_open}
+use Rattle.pack_model.specs.operations.Step.{Operation, step}
+use Rattle.pack_model.specs.operations.Step.Operation.{make}
+use Rattle.pack_model.specs.showing.View.{view}
+use Rattle.pack_model.specs.states.Whole.{Tidy, Whole}
 use Rattle.pack_laws.proofs.Moving.{obeys_then, stands_last}
 use Rattle.laws_line.specs.Ready.{Ready, ReadyThroughout, steps_of}
 use Rattle.laws_operation.proofs.EnterStages.{views_of}

@@ -12,16 +12,16 @@ use Rattle.laws_line.proofs.inside.Runs.{IsShort}
 use Rattle.laws_line.specs.Ready.{Settled}
 use Rattle.pack_laws.proofs.ByLists.{names_by, names_list, seen_by, seen_list}
 use Rattle.pack_laws.proofs.Keys.{same_fid}
-use Rattle.pack_model.specs.Bodies.{File, items_in}
-use Rattle.pack_model.specs.Bodies.Body.{data_of, items_of}
-use Rattle.pack_model.specs.Mended.{lacking, needs, widens}
-use Rattle.pack_model.specs.Model.{IsNamed, Model, descriptor_pages, files_pages, root_items}
-use Rattle.pack_model.specs.Namings.{descriptor_name, namings, sys_dir_name}
-use Rattle.pack_model.specs.Settling.{chosen, chosen_from, given_names, is_taken, most_suffixes, unless}
-use Rattle.pack_model.specs.Slots.{Item}
-use Rattle.pack_model.specs.Slots.Item.{entry, space}
-use Rattle.pack_model.specs.Step.{new_leader}
-use Rattle.pack_model.specs.View.{view}
+use Rattle.pack_model.specs.reading.Bodies.{File, items_in}
+use Rattle.pack_model.specs.reading.Bodies.Body.{data_of, items_of}
+use Rattle.pack_model.specs.scavenger.Mended.{lacking, needs, widens}
+use Rattle.pack_model.specs.reading.Model.{IsNamed, Model, descriptor_pages, files_pages, root_items}
+use Rattle.pack_model.specs.reading.Namings.{descriptor_name, namings, sys_dir_name}
+use Rattle.pack_model.specs.showing.Settling.{chosen, chosen_from, given_names, is_taken, most_suffixes, unless}
+use Rattle.pack_model.specs.reading.Slots.{Item}
+use Rattle.pack_model.specs.reading.Slots.Item.{entry, space}
+use Rattle.pack_model.specs.operations.Step.{new_leader}
+use Rattle.pack_model.specs.showing.View.{view}
 use Rattle.laws_room.proofs.Each.{Each}
 
 -- a file, and a name of 39 characters, whose entry has 26 words

@@ -10,11 +10,11 @@ use Rattle.laws_line.proofs.inside.Runs.{IsShort}
 use Rattle.laws_line.proofs.inside.Spared.{Spared}
 use Rattle.laws_line.proofs.inside.Throughout.{Pages}
 use Rattle.pack_laws.proofs.Keys.{fid_total, same_fid}
-use Rattle.pack_model.specs.Bodies.{File, items_in}
-use Rattle.pack_model.specs.Model.{IsNamed, Model, files_pages, root_items}
-use Rattle.pack_model.specs.Rooms.{largest_run}
-use Rattle.pack_model.specs.Step.{new_file, step}
-use Rattle.pack_model.specs.Step.Operation.{make}
+use Rattle.pack_model.specs.reading.Bodies.{File, items_in}
+use Rattle.pack_model.specs.reading.Model.{IsNamed, Model, files_pages, root_items}
+use Rattle.pack_model.specs.operations.Rooms.{largest_run}
+use Rattle.pack_model.specs.operations.Step.{new_file, step}
+use Rattle.pack_model.specs.operations.Step.Operation.{make}
 use Rattle.laws_record.proofs.FilePages.{new_pages}
 use Rattle.laws_room.proofs.Stepping.{first_pages}
 use Rattle.pack_laws.proofs.Placing.{none_of_false}

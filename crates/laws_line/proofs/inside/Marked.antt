@@ -5,14 +5,14 @@ use Rattle.alto_words.specs.Fid.{disk_descriptor}
 use Rattle.disk_records.specs.Commands.{value_writes}
 use Rattle.disk_records.specs.Packs.{Pack, after, no_sector, sector_at}
 use Rattle.disk_records.specs.Words.{word}
-use Rattle.pack_model.specs.Bytes.{put_at}
-use Rattle.pack_model.specs.Descriptor.{opened_value, serial_value}
-use Rattle.pack_model.specs.Files.{place}
-use Rattle.pack_model.specs.Model.{descriptor_words}
-use Rattle.pack_model.specs.Scavenging.{Unmarked}
-use Rattle.pack_model.specs.Sights.{sights}
-use Rattle.pack_model.specs.Sound.{mark_clean, mark_of, mark_open}
-use Rattle.pack_model.specs.Whole.{Whole}
+use Rattle.pack_model.specs.reading.Bytes.{put_at}
+use Rattle.pack_model.specs.sessions.Descriptor.{opened_value, serial_value}
+use Rattle.pack_model.specs.reading.Files.{place}
+use Rattle.pack_model.specs.reading.Model.{descriptor_words}
+use Rattle.pack_model.specs.scavenger.Scavenging.{Unmarked}
+use Rattle.pack_model.specs.reading.Sights.{sights}
+use Rattle.pack_model.specs.states.Sound.{mark_clean, mark_of, mark_open}
+use Rattle.pack_model.specs.states.Whole.{Whole}
 use Rattle.laws_room.specs.MarkLaws.{OtherMark}
 use Rattle.laws_record.proofs.Slotwise.{put_here}
 use Rattle.laws_operation.proofs.FirstWords.{words_written}

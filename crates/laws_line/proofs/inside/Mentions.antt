@@ -6,10 +6,10 @@ use Rattle.std.specs.List.{list_any}
 use Rattle.alto_words.specs.Fid.{is_fid}
 use Rattle.alto_words.specs.declared.fid.Fid.{Fid}
 use Rattle.pack_laws.proofs.Keys.{fid_same, fid_total, is_fid-itself}
-use Rattle.pack_model.specs.Bodies.{File, Files, body_items}
-use Rattle.pack_model.specs.Namings.{Naming, body_namings, namings, namings_in}
-use Rattle.pack_model.specs.Slots.{Item}
-use Rattle.pack_model.specs.Slots.Item.{entry, space}
+use Rattle.pack_model.specs.reading.Bodies.{File, Files, body_items}
+use Rattle.pack_model.specs.reading.Namings.{Naming, body_namings, namings, namings_in}
+use Rattle.pack_model.specs.reading.Slots.{Item}
+use Rattle.pack_model.specs.reading.Slots.Item.{entry, space}
 use Rattle.laws_record.proofs.Around.{around}
 use Rattle.laws_record.proofs.Entered.{namings-append, namings_in-append}
 use Rattle.laws_room.proofs.Each.{Each, each_entry}

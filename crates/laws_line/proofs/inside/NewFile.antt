@@ -8,9 +8,9 @@ use Rattle.laws_line.proofs.inside.Spared.{Prepared, Spared, behind, front, read
 use Rattle.laws_line.proofs.inside.Throughout.{ready_changes, steps_both}
 use Rattle.laws_line.specs.LineLaws.{LeaveNames, NewFileLeavesRoom, with_new_file}
 use Rattle.laws_line.specs.Ready.{ReadyThroughout, Settled}
-use Rattle.pack_model.specs.Model.{Model}
-use Rattle.pack_model.specs.Step.{Operation, step}
-use Rattle.pack_model.specs.Step.Operation.{enter, make}
+use Rattle.pack_model.specs.reading.Model.{Model}
+use Rattle.pack_model.specs.operations.Step.{Operation, step}
+use Rattle.pack_model.specs.operations.Step.Operation.{enter, make}
 
 module _ (m : Model) (d : Fid) (name : List ℕ) (f : Fid) (moment : ℕ) (rest : List Operation) (s : Settled m) (short : length name ≤ 39) (fresh : contains_key m.files f ≡ false) where
   -- the models behind the making and the entering

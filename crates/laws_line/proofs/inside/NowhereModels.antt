@@ -13,15 +13,15 @@ use Rattle.laws_line.specs.LineLaws.{new_file_line}
 use Rattle.laws_line.specs.Ready.{Settled, steps_of}
 use Rattle.pack_laws.proofs.Keys.{fid_same, fid_total}
 use Rattle.pack_laws.proofs.Mapping.{entries-from_entries}
-use Rattle.pack_model.specs.Bodies.{File, items_in}
-use Rattle.pack_model.specs.Committing.{pages_for_operations}
-use Rattle.pack_model.specs.Maps.{update_found}
-use Rattle.pack_model.specs.Model.{Model, dir_items, descriptor_pages, files_pages, room}
-use Rattle.pack_model.specs.Namings.{namings}
-use Rattle.pack_model.specs.Rooms.{items_entered, largest_run}
-use Rattle.pack_model.specs.Slots.Item.{entry, space}
-use Rattle.pack_model.specs.Step.{Operation, new_file, on_items, step}
-use Rattle.pack_model.specs.Step.Operation.{enter, make, widen}
+use Rattle.pack_model.specs.reading.Bodies.{File, items_in}
+use Rattle.pack_model.specs.operations.Committing.{pages_for_operations}
+use Rattle.pack_model.specs.sessions.Maps.{update_found}
+use Rattle.pack_model.specs.reading.Model.{Model, dir_items, descriptor_pages, files_pages, room}
+use Rattle.pack_model.specs.reading.Namings.{namings}
+use Rattle.pack_model.specs.operations.Rooms.{items_entered, largest_run}
+use Rattle.pack_model.specs.reading.Slots.Item.{entry, space}
+use Rattle.pack_model.specs.operations.Step.{Operation, new_file, on_items, step}
+use Rattle.pack_model.specs.operations.Step.Operation.{enter, make, widen}
 
 -- SysDir with 26 free words, and three sectors that are free
 abbrev pub lone_list : List (Fid × File)

@@ -10,16 +10,16 @@ use Rattle.laws_line.proofs.inside.Runs.{IsShort}
 use Rattle.laws_line.proofs.inside.SoundSettled.{kept_short, slots_short}
 use Rattle.laws_line.specs.BehindLaws.{DirectoriesAreRead, IsDirectory}
 use Rattle.pack_laws.proofs.Keys.{fid_same, fid_total}
-use Rattle.pack_model.specs.Bodies.{Body, File, described, found, is_described}
-use Rattle.pack_model.specs.Bodies.Body.{data_of, items_of}
-use Rattle.pack_model.specs.Bytes.{words_of}
-use Rattle.pack_model.specs.Files.{file_bytes, leader, lives}
-use Rattle.pack_model.specs.Leaders.{Leader}
-use Rattle.pack_model.specs.Model.{read_pack, read_sights}
-use Rattle.pack_model.specs.Namings.{Naming, body_kept, is_kept, items_kept}
-use Rattle.pack_model.specs.Sights.{Sight, sights}
-use Rattle.pack_model.specs.Slots.{Item, slots}
-use Rattle.pack_model.specs.View.{seen_of}
+use Rattle.pack_model.specs.reading.Bodies.{Body, File, described, found, is_described}
+use Rattle.pack_model.specs.reading.Bodies.Body.{data_of, items_of}
+use Rattle.pack_model.specs.reading.Bytes.{words_of}
+use Rattle.pack_model.specs.reading.Files.{file_bytes, leader, lives}
+use Rattle.pack_model.specs.reading.Leaders.{Leader}
+use Rattle.pack_model.specs.reading.Model.{read_pack, read_sights}
+use Rattle.pack_model.specs.reading.Namings.{Naming, body_kept, is_kept, items_kept}
+use Rattle.pack_model.specs.reading.Sights.{Sight, sights}
+use Rattle.pack_model.specs.reading.Slots.{Item, slots}
+use Rattle.pack_model.specs.showing.View.{seen_of}
 use Rattle.laws_record.proofs.Around.{around}
 use Rattle.laws_record.proofs.Keeping.{get-where}
 use Rattle.laws_record.proofs.LeaderSteps.{body_left, tidied_file}

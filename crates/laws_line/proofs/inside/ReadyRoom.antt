@@ -11,17 +11,17 @@ use Rattle.laws_line.specs.LineLaws.{ReadyHasRoom}
 use Rattle.laws_line.specs.Ready.{Ready}
 use Rattle.pack_laws.proofs.Keys.{fid_same, fid_total, is_fid-sym, same_fid}
 use Rattle.pack_laws.proofs.Mapping.{get-map_values}
-use Rattle.pack_model.specs.Bodies.{File}
-use Rattle.pack_model.specs.Maps.{map_values}
-use Rattle.pack_model.specs.Mended.{lacking, needs, on_room, widens, with_page}
-use Rattle.pack_model.specs.Model.{IsNamed, Model, is_named, root_items}
-use Rattle.pack_model.specs.Namings.{Naming, descriptor_name, namings, sys_dir_name}
-use Rattle.pack_model.specs.Rooms.{largest_run, placed}
-use Rattle.pack_model.specs.Settling.{given_names, unless}
-use Rattle.pack_model.specs.Slots.{Item}
-use Rattle.pack_model.specs.Slots.Item.{entry}
-use Rattle.pack_model.specs.Step.{longest_entry}
-use Rattle.pack_model.specs.View.{Home, Seen, homes, names_of, seen_of, view}
+use Rattle.pack_model.specs.reading.Bodies.{File}
+use Rattle.pack_model.specs.sessions.Maps.{map_values}
+use Rattle.pack_model.specs.scavenger.Mended.{lacking, needs, on_room, widens, with_page}
+use Rattle.pack_model.specs.reading.Model.{IsNamed, Model, is_named, root_items}
+use Rattle.pack_model.specs.reading.Namings.{Naming, descriptor_name, namings, sys_dir_name}
+use Rattle.pack_model.specs.operations.Rooms.{largest_run, placed}
+use Rattle.pack_model.specs.showing.Settling.{given_names, unless}
+use Rattle.pack_model.specs.reading.Slots.{Item}
+use Rattle.pack_model.specs.reading.Slots.Item.{entry}
+use Rattle.pack_model.specs.operations.Step.{longest_entry}
+use Rattle.pack_model.specs.showing.View.{Home, Seen, homes, names_of, seen_of, view}
 use Rattle.laws_record.proofs.Keeping.{get-where}
 use Rattle.laws_room.proofs.Each.{each_entry}
 use Rattle.laws_room.proofs.SoundPacks.{no_widening}

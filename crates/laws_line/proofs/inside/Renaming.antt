@@ -9,11 +9,11 @@ use Rattle.laws_line.proofs.inside.Spared.{Prepared, Spared, behind, ready_line,
 use Rattle.laws_line.proofs.inside.Throughout.{steps_both}
 use Rattle.laws_line.specs.LineLaws.{IsEntered, RenameLeavesRoom}
 use Rattle.laws_line.specs.Ready.{ReadyThroughout, Settled, steps_of}
-use Rattle.pack_model.specs.Model.{Model, dir_items, root_items}
-use Rattle.pack_model.specs.Rooms.{largest_run}
-use Rattle.pack_model.specs.Slots.{entry_length}
-use Rattle.pack_model.specs.Step.{Operation, longest_entry, room_in, spare, step}
-use Rattle.pack_model.specs.Step.Operation.{enter, leave, title, widen}
+use Rattle.pack_model.specs.reading.Model.{Model, dir_items, root_items}
+use Rattle.pack_model.specs.operations.Rooms.{largest_run}
+use Rattle.pack_model.specs.reading.Slots.{entry_length}
+use Rattle.pack_model.specs.operations.Step.{Operation, longest_entry, room_in, spare, step}
+use Rattle.pack_model.specs.operations.Step.Operation.{enter, leave, title, widen}
 
 -- the entry is still there where a directory gets a page, or none
 enters_page : (m : Model) (d e : Fid) (name : List ℕ) (f : Fid) (b : Bool) → EntersIn d name f (dir_items m d) → EntersIn d name f (dir_items (steps_of m (cond b [] (widen e ∷ []))) d)

@@ -14,13 +14,13 @@ use Rattle.laws_line.proofs.inside.Throughout.{steps_both}
 use Rattle.laws_line.proofs.inside.Updates.{got_updated, named_updated, there_updated}
 use Rattle.laws_line.specs.Ready.{NamedBut, Settled, steps_of}
 use Rattle.pack_laws.proofs.Keys.{is_fid-itself, same_fid}
-use Rattle.pack_model.specs.Bodies.{body_items}
-use Rattle.pack_model.specs.Model.{IsNamed, Model, dir_items, root_items}
-use Rattle.pack_model.specs.Rooms.{items_entered, largest_run, placed}
-use Rattle.pack_model.specs.Slots.{Item, entry_length}
-use Rattle.pack_model.specs.Slots.Item.{entry}
-use Rattle.pack_model.specs.Step.{longest_entry, on_items, room_in, spare, step}
-use Rattle.pack_model.specs.Step.Operation.{enter, widen}
+use Rattle.pack_model.specs.reading.Bodies.{body_items}
+use Rattle.pack_model.specs.reading.Model.{IsNamed, Model, dir_items, root_items}
+use Rattle.pack_model.specs.operations.Rooms.{items_entered, largest_run, placed}
+use Rattle.pack_model.specs.reading.Slots.{Item, entry_length}
+use Rattle.pack_model.specs.reading.Slots.Item.{entry}
+use Rattle.pack_model.specs.operations.Step.{longest_entry, on_items, room_in, spare, step}
+use Rattle.pack_model.specs.operations.Step.Operation.{enter, widen}
 
 -- ---- the front of a line
 module _ (m : Model) (d : Fid) (name : List ℕ) (s : Settled m) (short : length name ≤ 39) (h : Roomy 0 m d) where

@@ -15,16 +15,16 @@ use Rattle.laws_line.specs.BehindLaws.{IsDirectory, RootIsDirectory}
 use Rattle.laws_line.specs.LineLaws.{LeaveNames, LeavesNames}
 use Rattle.laws_line.specs.Ready.{steps_of}
 use Rattle.pack_laws.proofs.Keys.{fid_total, is_fid-itself, same_fid}
-use Rattle.pack_model.specs.Bodies.{File, items_in}
-use Rattle.pack_model.specs.Bodies.Body.{items_of}
-use Rattle.pack_model.specs.Bytes.{put_at}
-use Rattle.pack_model.specs.Leaders.{Leader}
-use Rattle.pack_model.specs.Model.{Model, dir_items}
-use Rattle.pack_model.specs.Rooms.{items_entered, largest_run}
-use Rattle.pack_model.specs.Slots.{Item, item_words}
-use Rattle.pack_model.specs.Slots.Item.{entry, space}
-use Rattle.pack_model.specs.Step.{Operation, items_left, new_file, on_bytes, on_items, on_leader, step, update_file}
-use Rattle.pack_model.specs.Step.Operation.{cut, drop_file, enter, grow, leave, make, put, stamp, title, widen}
+use Rattle.pack_model.specs.reading.Bodies.{File, items_in}
+use Rattle.pack_model.specs.reading.Bodies.Body.{items_of}
+use Rattle.pack_model.specs.reading.Bytes.{put_at}
+use Rattle.pack_model.specs.reading.Leaders.{Leader}
+use Rattle.pack_model.specs.reading.Model.{Model, dir_items}
+use Rattle.pack_model.specs.operations.Rooms.{items_entered, largest_run}
+use Rattle.pack_model.specs.reading.Slots.{Item, item_words}
+use Rattle.pack_model.specs.reading.Slots.Item.{entry, space}
+use Rattle.pack_model.specs.operations.Step.{Operation, items_left, new_file, on_bytes, on_items, on_leader, step, update_file}
+use Rattle.pack_model.specs.operations.Step.Operation.{cut, drop_file, enter, grow, leave, make, put, stamp, title, widen}
 use Rattle.pack_laws.proofs.Placing.{none_of_false}
 
 -- Slots of at most 1,023 words, with so many free words in a row.

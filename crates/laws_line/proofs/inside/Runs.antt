@@ -4,9 +4,9 @@ use Rattle.std.proofs.lemmas.Bool.{cases_lt, cond-false, cond-true, le-leb, lt-l
 use Rattle.std.proofs.lemmas.List.Elements.{All-head, All-tail}
 use Rattle.std.specs.Option.{is_some, option_map, option_or}
 use Rattle.std.specs.Prelude.{All}
-use Rattle.pack_model.specs.Rooms.{in_run, largest_run, left_over, most_free, placed, run, words_free}
-use Rattle.pack_model.specs.Slots.{Item, item_words}
-use Rattle.pack_model.specs.Slots.Item.{entry, space}
+use Rattle.pack_model.specs.operations.Rooms.{in_run, largest_run, left_over, most_free, placed, run, words_free}
+use Rattle.pack_model.specs.reading.Slots.{Item, item_words}
+use Rattle.pack_model.specs.reading.Slots.Item.{entry, space}
 use Rattle.laws_record.proofs.Tidying.{some_map}
 
 -- a slot that a free slot's length could have

@@ -9,8 +9,8 @@ use Rattle.laws_line.proofs.inside.Spared.{keeps_all}
 use Rattle.laws_line.proofs.inside.Throughout.{changes_leave_room, last_ready}
 use Rattle.laws_line.specs.BehindLaws.{FirstPartReady, IsDirectory, SettledAfterChanges, SettledBehind}
 use Rattle.laws_line.specs.Ready.{Ready, ReadyThroughout, Settled, steps_of}
-use Rattle.pack_model.specs.Model.{IsNamed, Model}
-use Rattle.pack_model.specs.Step.{Operation, step}
+use Rattle.pack_model.specs.reading.Model.{IsNamed, Model}
+use Rattle.pack_model.specs.operations.Step.{Operation, step}
 
 -- the first of several models is ready
 pub first_ready : (m : Model) (more : List Operation) → ReadyThroughout m more → Ready m

@@ -10,10 +10,10 @@ use Rattle.laws_line.proofs.inside.SettledAgain.{behind_line}
 use Rattle.laws_line.specs.BehindLaws.{SettledAfterDrop}
 use Rattle.laws_line.specs.LineLaws.{MayGo}
 use Rattle.laws_line.specs.Ready.{Settled}
-use Rattle.pack_model.specs.Bodies.{File}
-use Rattle.pack_model.specs.Model.{IsNamed, Model}
-use Rattle.pack_model.specs.Step.{file_without, items_without, step}
-use Rattle.pack_model.specs.Step.Operation.{drop_file}
+use Rattle.pack_model.specs.reading.Bodies.{File}
+use Rattle.pack_model.specs.reading.Model.{IsNamed, Model}
+use Rattle.pack_model.specs.operations.Step.{file_without, items_without, step}
+use Rattle.pack_model.specs.operations.Step.Operation.{drop_file}
 
 module _ (m : Model) (f : Fid) (s : Settled m) (h : MayGo m f) where
   -- a file that is there then has its name

@@ -16,13 +16,13 @@ use Rattle.laws_line.specs.BehindLaws.{IsDirectory, NewDirectory, SettledAfterNe
 use Rattle.laws_line.specs.LineLaws.{LeaveNames, new_file_line}
 use Rattle.laws_line.specs.Ready.{Settled, steps_of}
 use Rattle.pack_laws.proofs.Keys.{fid_total, is_fid-itself}
-use Rattle.pack_model.specs.Bodies.Body.{data_of, items_of}
-use Rattle.pack_model.specs.Committing.{pages_for_operations}
-use Rattle.pack_model.specs.Model.{IsNamed, Model, room}
-use Rattle.pack_model.specs.Slots.{entry_length}
-use Rattle.pack_model.specs.Slots.Item.{space}
-use Rattle.pack_model.specs.Step.{Operation, new_file, new_leader}
-use Rattle.pack_model.specs.Step.Operation.{enter, make}
+use Rattle.pack_model.specs.reading.Bodies.Body.{data_of, items_of}
+use Rattle.pack_model.specs.operations.Committing.{pages_for_operations}
+use Rattle.pack_model.specs.reading.Model.{IsNamed, Model, room}
+use Rattle.pack_model.specs.reading.Slots.{entry_length}
+use Rattle.pack_model.specs.reading.Slots.Item.{space}
+use Rattle.pack_model.specs.operations.Step.{Operation, new_file, new_leader}
+use Rattle.pack_model.specs.operations.Step.Operation.{enter, make}
 
 module _ (m : Model) (d : Fid) (name : List ℕ) (f : Fid) (moment : ℕ) (rest : List Operation) (s : Settled m) (short : length name ≤ 39) (fresh : contains_key m.files f ≡ false) where
   abbrev line : List Operation

@@ -13,11 +13,11 @@ use Rattle.laws_line.proofs.inside.Throughout.{steps_both}
 use Rattle.laws_line.specs.BehindLaws.{SettledAfterRename}
 use Rattle.laws_line.specs.LineLaws.{IsEntered, rename_line}
 use Rattle.laws_line.specs.Ready.{Settled, steps_of}
-use Rattle.pack_model.specs.Committing.{pages_for_operations}
-use Rattle.pack_model.specs.Model.{IsNamed, Model, room}
-use Rattle.pack_model.specs.Slots.{entry_length}
-use Rattle.pack_model.specs.Step.{step}
-use Rattle.pack_model.specs.Step.Operation.{enter, title}
+use Rattle.pack_model.specs.operations.Committing.{pages_for_operations}
+use Rattle.pack_model.specs.reading.Model.{IsNamed, Model, room}
+use Rattle.pack_model.specs.reading.Slots.{entry_length}
+use Rattle.pack_model.specs.operations.Step.{step}
+use Rattle.pack_model.specs.operations.Step.Operation.{enter, title}
 
 module _ (m : Model) (d : Fid) (old : List ℕ) (to : Fid) (name : List ℕ) (f : Fid) (s : Settled m) (h : IsEntered m d old f) (short : length name ≤ 39) (ordinary : is_system f ≡ false) where
   -- the model behind the entry that goes, and the last one

@@ -19,19 +19,19 @@ use Rattle.laws_line.specs.Ready.{Settled}
 use Rattle.laws_operation.proofs.Changing.{headed}
 use Rattle.pack_laws.proofs.Placing.{leader_of_place, place_of_leader}
 use Rattle.pack_laws.proofs.Sighted.{length-sights, sights-get}
-use Rattle.pack_model.specs.Bodies.{File, body_items, described, found, is_described, items_in}
-use Rattle.pack_model.specs.Bodies.Body.{items_of}
-use Rattle.pack_model.specs.Bytes.{words_of}
-use Rattle.pack_model.specs.Files.{file_bytes, leader, lives}
-use Rattle.pack_model.specs.Leaders.{Leader, is_readable, leader_name, leader_of, leader_words, name_bytes, spelled_name}
-use Rattle.pack_model.specs.Model.{read_pack, read_sights}
-use Rattle.pack_model.specs.Namings.{Naming, is_kept, items_kept, kept_by}
-use Rattle.pack_model.specs.Sights.{Sight, page_sight, sight, sights}
-use Rattle.pack_model.specs.Sights.Sight.{free, hidden, leads, stray}
-use Rattle.pack_model.specs.Slots.{Item, item_words, slots}
-use Rattle.pack_model.specs.Slots.Item.{entry, space}
-use Rattle.pack_model.specs.Sound.{Sound}
-use Rattle.pack_model.specs.View.{seen_of}
+use Rattle.pack_model.specs.reading.Bodies.{File, body_items, described, found, is_described, items_in}
+use Rattle.pack_model.specs.reading.Bodies.Body.{items_of}
+use Rattle.pack_model.specs.reading.Bytes.{words_of}
+use Rattle.pack_model.specs.reading.Files.{file_bytes, leader, lives}
+use Rattle.pack_model.specs.reading.Leaders.{Leader, is_readable, leader_name, leader_of, leader_words, name_bytes, spelled_name}
+use Rattle.pack_model.specs.reading.Model.{read_pack, read_sights}
+use Rattle.pack_model.specs.reading.Namings.{Naming, is_kept, items_kept, kept_by}
+use Rattle.pack_model.specs.reading.Sights.{Sight, page_sight, sight, sights}
+use Rattle.pack_model.specs.reading.Sights.Sight.{free, hidden, leads, stray}
+use Rattle.pack_model.specs.reading.Slots.{Item, item_words, slots}
+use Rattle.pack_model.specs.reading.Slots.Item.{entry, space}
+use Rattle.pack_model.specs.states.Sound.{Sound}
+use Rattle.pack_model.specs.showing.View.{seen_of}
 use Rattle.laws_record.proofs.DirReads.{has_leader}
 use Rattle.laws_record.proofs.Heads.{and_right, head_of, slots_cons}
 use Rattle.laws_record.proofs.Keeping.{get-where}

@@ -10,14 +10,14 @@ use Rattle.laws_line.proofs.inside.Throughout.{Pages, named_kept, pages_both, pa
 use Rattle.laws_line.proofs.inside.Updates.{Keeps, fitting_kept, got_updated, kept_both}
 use Rattle.laws_line.specs.LineLaws.{LeaveNames}
 use Rattle.laws_line.specs.Ready.{Fitting, NamedBut, Ready, ReadyThroughout, Settled, steps_of}
-use Rattle.pack_model.specs.Bodies.{items_in}
-use Rattle.pack_model.specs.Committing.{pages_for_operation, pages_for_operations}
-use Rattle.pack_model.specs.Model.{Model, dir_items, root_items, room}
-use Rattle.pack_model.specs.Rooms.{largest_run}
-use Rattle.pack_model.specs.Slots.{Item, entry_length}
-use Rattle.pack_model.specs.Slots.Item.{space}
-use Rattle.pack_model.specs.Step.{Operation, longest_entry, on_items, room_in, spare, step}
-use Rattle.pack_model.specs.Step.Operation.{widen}
+use Rattle.pack_model.specs.reading.Bodies.{items_in}
+use Rattle.pack_model.specs.operations.Committing.{pages_for_operation, pages_for_operations}
+use Rattle.pack_model.specs.reading.Model.{Model, dir_items, root_items, room}
+use Rattle.pack_model.specs.operations.Rooms.{largest_run}
+use Rattle.pack_model.specs.reading.Slots.{Item, entry_length}
+use Rattle.pack_model.specs.reading.Slots.Item.{space}
+use Rattle.pack_model.specs.operations.Step.{Operation, longest_entry, on_items, room_in, spare, step}
+use Rattle.pack_model.specs.operations.Step.Operation.{widen}
 
 -- Each file but this one has a name, and SysDir has a run of free words for it.
 pub record Spared (m : Model) (f : Fid) : Type 0 where

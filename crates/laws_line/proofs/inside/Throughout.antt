@@ -7,10 +7,10 @@ use Rattle.laws_line.proofs.inside.Changes.{keeps_step}
 use Rattle.laws_line.proofs.inside.Updates.{Keeps, fitting_kept}
 use Rattle.laws_line.specs.LineLaws.{ChangesLeaveRoom, LeaveNames}
 use Rattle.laws_line.specs.Ready.{NamedBut, Ready, ReadyThroughout, Settled, steps_of}
-use Rattle.pack_model.specs.Committing.{pages_for_operation, pages_for_operations}
-use Rattle.pack_model.specs.Model.{IsNamed, Model, descriptor_pages, files_pages, room, root_items}
-use Rattle.pack_model.specs.Rooms.{largest_run}
-use Rattle.pack_model.specs.Step.{Operation, longest_entry, step}
+use Rattle.pack_model.specs.operations.Committing.{pages_for_operation, pages_for_operations}
+use Rattle.pack_model.specs.reading.Model.{IsNamed, Model, descriptor_pages, files_pages, room, root_items}
+use Rattle.pack_model.specs.operations.Rooms.{largest_run}
+use Rattle.pack_model.specs.operations.Step.{Operation, longest_entry, step}
 
 -- there are pages for this model's files and so many more
 abbrev pub Pages : Model → ℕ → Type 0

@@ -10,12 +10,12 @@ use Rattle.laws_line.proofs.inside.Runs.{IsShort}
 use Rattle.laws_line.specs.Ready.{Fitting}
 use Rattle.pack_laws.proofs.Keys.{fid_same, fid_total, same_fid}
 use Rattle.pack_laws.proofs.Mapping.{get-update}
-use Rattle.pack_model.specs.Bodies.{File, body_items, body_length, items_in, pages_for}
-use Rattle.pack_model.specs.Maps.{update, update_found}
-use Rattle.pack_model.specs.Model.{IsNamed, Model, descriptor_pages, dir_items, files_pages, root_items}
-use Rattle.pack_model.specs.Rooms.{largest_run}
-use Rattle.pack_model.specs.Slots.{Item}
-use Rattle.pack_model.specs.Step.{update_file}
+use Rattle.pack_model.specs.reading.Bodies.{File, body_items, body_length, items_in, pages_for}
+use Rattle.pack_model.specs.sessions.Maps.{update, update_found}
+use Rattle.pack_model.specs.reading.Model.{IsNamed, Model, descriptor_pages, dir_items, files_pages, root_items}
+use Rattle.pack_model.specs.operations.Rooms.{largest_run}
+use Rattle.pack_model.specs.reading.Slots.{Item}
+use Rattle.pack_model.specs.operations.Step.{update_file}
 use Rattle.laws_record.proofs.FilePages.{changed_pages}
 use Rattle.laws_record.proofs.Tidying.{some_map}
 

@@ -9,15 +9,15 @@ use Rattle.disk_records.specs.Labels.{tag}
 use Rattle.disk_records.specs.Packs.{Pack, after, sector_at}
 use Rattle.disk_records.specs.Words.{word}
 use Rattle.disk_records.specs.declared.shape.Shape.{Shape}
-use Rattle.pack_model.specs.Bytes.{bytes_of, words_of}
-use Rattle.pack_model.specs.Descriptor.{descriptor_text, descriptor_value}
-use Rattle.pack_model.specs.Files.{file_bytes, lives, place}
-use Rattle.pack_model.specs.Model.{descriptor_words, is_named, last_serial, read_pack, read_sights}
-use Rattle.pack_model.specs.PageWords.{filled}
-use Rattle.pack_model.specs.Sights.{Sight, sights}
-use Rattle.pack_model.specs.Sights.Sight.{holds}
-use Rattle.pack_model.specs.Sound.{mark_clean, mark_of}
-use Rattle.pack_model.specs.Whole.{PageAt, SaysShape, Tidy, TidySights, Whole, WholeSights}
+use Rattle.pack_model.specs.reading.Bytes.{bytes_of, words_of}
+use Rattle.pack_model.specs.sessions.Descriptor.{descriptor_text, descriptor_value}
+use Rattle.pack_model.specs.reading.Files.{file_bytes, lives, place}
+use Rattle.pack_model.specs.reading.Model.{descriptor_words, is_named, last_serial, read_pack, read_sights}
+use Rattle.pack_model.specs.operations.PageWords.{filled}
+use Rattle.pack_model.specs.reading.Sights.{Sight, sights}
+use Rattle.pack_model.specs.reading.Sights.Sight.{holds}
+use Rattle.pack_model.specs.states.Sound.{mark_clean, mark_of}
+use Rattle.pack_model.specs.states.Whole.{PageAt, SaysShape, Tidy, TidySights, Whole, WholeSights}
 use Rattle.pack_laws.proofs.Bytes.{length-bytes_of, length-words_of, words_of-bytes_of}
 use Rattle.laws_record.proofs.Differing.{word_bytes}
 use Rattle.laws_record.specs.QuietLaws.{counted_of}

@@ -8,12 +8,12 @@ use Rattle.disk_records.specs.Commands.{value_writes}
 use Rattle.disk_records.specs.Labels.{tag}
 use Rattle.disk_records.specs.Packs.{Pack, after, no_sector, sector_at, with_part}
 use Rattle.disk_records.specs.Words.{word}
-use Rattle.pack_model.specs.Bytes.{bytes_of, words_of}
-use Rattle.pack_model.specs.Files.{file_bytes, lives, place}
-use Rattle.pack_model.specs.Model.{descriptor_words, is_named, last_serial, read_pack, read_sights}
-use Rattle.pack_model.specs.Sights.{Sight, sights}
-use Rattle.pack_model.specs.Sights.Sight.{holds}
-use Rattle.pack_model.specs.Whole.{PageAt, SaysShape, Tidy, TidySights, Whole, WholeSights}
+use Rattle.pack_model.specs.reading.Bytes.{bytes_of, words_of}
+use Rattle.pack_model.specs.reading.Files.{file_bytes, lives, place}
+use Rattle.pack_model.specs.reading.Model.{descriptor_words, is_named, last_serial, read_pack, read_sights}
+use Rattle.pack_model.specs.reading.Sights.{Sight, sights}
+use Rattle.pack_model.specs.reading.Sights.Sight.{holds}
+use Rattle.pack_model.specs.states.Whole.{PageAt, SaysShape, Tidy, TidySights, Whole, WholeSights}
 use Rattle.pack_laws.proofs.Bytes.{length-bytes_of, length-words_of}
 use Rattle.laws_record.specs.QuietLaws.{counted_of}
 use Rattle.laws_operation.proofs.inside.DescriptorValue.{descriptor_reads, descriptor_tidy, descriptor_whole, lives_still, one_page_of, page_stays}

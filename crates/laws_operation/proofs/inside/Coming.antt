@@ -8,16 +8,16 @@ use Rattle.std.specs.Ordering.{is_eq}
 use Rattle.alto_words.specs.Fid.{disk_descriptor, fid_cmp, is_directory, is_fid, serial_of, sys_dir}
 use Rattle.alto_words.specs.declared.fid.Fid.{Fid}
 use Rattle.disk_records.specs.declared.shape.Shape.{Shape}
-use Rattle.pack_model.specs.Bodies.{File, Files, described, found, is_described}
-use Rattle.pack_model.specs.Bytes.{words_of}
-use Rattle.pack_model.specs.Files.{file_bytes, leader, lives}
-use Rattle.pack_model.specs.Leaders.{Leader}
-use Rattle.pack_model.specs.Model.{is_named, last_serial, read_sights}
-use Rattle.pack_model.specs.Namings.{AllKept, Naming, body_namings, clashes, fits, is_kept, namings}
-use Rattle.pack_model.specs.Sights.{Sight}
-use Rattle.pack_model.specs.Sights.Sight.{hidden, leads}
-use Rattle.pack_model.specs.Slots.{SlotsReachEnd}
-use Rattle.pack_model.specs.Whole.{FileWhole, Fits, TidySights, WholeSights}
+use Rattle.pack_model.specs.reading.Bodies.{File, Files, described, found, is_described}
+use Rattle.pack_model.specs.reading.Bytes.{words_of}
+use Rattle.pack_model.specs.reading.Files.{file_bytes, leader, lives}
+use Rattle.pack_model.specs.reading.Leaders.{Leader}
+use Rattle.pack_model.specs.reading.Model.{is_named, last_serial, read_sights}
+use Rattle.pack_model.specs.reading.Namings.{AllKept, Naming, body_namings, clashes, fits, is_kept, namings}
+use Rattle.pack_model.specs.reading.Sights.{Sight}
+use Rattle.pack_model.specs.reading.Sights.Sight.{hidden, leads}
+use Rattle.pack_model.specs.reading.Slots.{SlotsReachEnd}
+use Rattle.pack_model.specs.states.Whole.{FileWhole, Fits, TidySights, WholeSights}
 use Rattle.pack_laws.proofs.Keys.{fid_total, is_fid-sym, same_fid}
 use Rattle.laws_record.proofs.Framing.{model_same}
 use Rattle.laws_record.proofs.Heads.{and_left, and_right}

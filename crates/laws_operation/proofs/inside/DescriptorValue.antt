@@ -6,15 +6,15 @@ use Rattle.disk_records.specs.Commands.{value_writes}
 use Rattle.disk_records.specs.Labels.{Tag, tag}
 use Rattle.disk_records.specs.Packs.{Pack, after, sector_at}
 use Rattle.disk_records.specs.declared.shape.Shape.{Shape}
-use Rattle.pack_model.specs.Bodies.{described}
-use Rattle.pack_model.specs.Files.{carries_page, leader, lives, place}
-use Rattle.pack_model.specs.Leaders.{Leader}
-use Rattle.pack_model.specs.Model.{descriptor_words, good_one, good_sectors, is_named, last_serial, read_sights}
-use Rattle.pack_model.specs.Namings.{IsTidy, tidied}
-use Rattle.pack_model.specs.Sights.{Sight, sights, tag_sight}
-use Rattle.pack_model.specs.Sights.Sight.{hidden, holds, leads}
-use Rattle.pack_model.specs.Slots.{SlotsReachEnd}
-use Rattle.pack_model.specs.Whole.{FileWhole, SaysShape, TidySights, Whole, WholeSights}
+use Rattle.pack_model.specs.reading.Bodies.{described}
+use Rattle.pack_model.specs.reading.Files.{carries_page, leader, lives, place}
+use Rattle.pack_model.specs.reading.Leaders.{Leader}
+use Rattle.pack_model.specs.reading.Model.{descriptor_words, good_one, good_sectors, is_named, last_serial, read_sights}
+use Rattle.pack_model.specs.reading.Namings.{IsTidy, tidied}
+use Rattle.pack_model.specs.reading.Sights.{Sight, sights, tag_sight}
+use Rattle.pack_model.specs.reading.Sights.Sight.{hidden, holds, leads}
+use Rattle.pack_model.specs.reading.Slots.{SlotsReachEnd}
+use Rattle.pack_model.specs.states.Whole.{FileWhole, SaysShape, TidySights, Whole, WholeSights}
 use Rattle.pack_laws.proofs.Keys.{same_fid}
 use Rattle.pack_laws.proofs.Placing.{page_of_place, place_same}
 use Rattle.laws_record.proofs.DirReads.{not_descriptor}

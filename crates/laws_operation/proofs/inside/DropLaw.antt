@@ -6,27 +6,27 @@ use Rattle.disk_records.proofs.Growing.{after-append}
 use Rattle.disk_records.specs.Commands.{value_writes}
 use Rattle.disk_records.specs.Packs.{Pack, after, sector_at}
 use Rattle.disk_records.specs.declared.records.Event.{Event}
-use Rattle.pack_model.specs.Bodies.{body_items, items_in}
-use Rattle.pack_model.specs.Bodies.Body.{data_of, items_of}
-use Rattle.pack_model.specs.Bytes.{words_of}
-use Rattle.pack_model.specs.Committing.{moves_of}
-use Rattle.pack_model.specs.Descriptor.{DescriptorFits}
-use Rattle.pack_model.specs.Files.{file_bytes, lives}
-use Rattle.pack_model.specs.Links.{dir_words}
-use Rattle.pack_model.specs.Meanings.{reading}
-use Rattle.pack_model.specs.Model.{dir_items, read_pack}
-use Rattle.pack_model.specs.Moves.{Obeys, steps}
-use Rattle.pack_model.specs.Namings.{Naming, namings_in}
-use Rattle.pack_model.specs.Operations.{go_writes}
-use Rattle.pack_model.specs.Operations.Move.{quiet}
-use Rattle.pack_model.specs.PageWords.{freed_value}
-use Rattle.pack_model.specs.Sights.{Sight, sights}
-use Rattle.pack_model.specs.Sights.Sight.{hidden}
-use Rattle.pack_model.specs.Slots.{all_words, item_words, slot_at, slots}
-use Rattle.pack_model.specs.Slots.Item.{entry}
-use Rattle.pack_model.specs.Step.{Operation}
-use Rattle.pack_model.specs.Step.Operation.{drop_file}
-use Rattle.pack_model.specs.Whole.{Tidy, Whole}
+use Rattle.pack_model.specs.reading.Bodies.{body_items, items_in}
+use Rattle.pack_model.specs.reading.Bodies.Body.{data_of, items_of}
+use Rattle.pack_model.specs.reading.Bytes.{words_of}
+use Rattle.pack_model.specs.operations.Committing.{moves_of}
+use Rattle.pack_model.specs.sessions.Descriptor.{DescriptorFits}
+use Rattle.pack_model.specs.reading.Files.{file_bytes, lives}
+use Rattle.pack_model.specs.hints.Links.{dir_words}
+use Rattle.pack_model.specs.sessions.Meanings.{reading}
+use Rattle.pack_model.specs.reading.Model.{dir_items, read_pack}
+use Rattle.pack_model.specs.sessions.Moves.{Obeys, steps}
+use Rattle.pack_model.specs.reading.Namings.{Naming, namings_in}
+use Rattle.pack_model.specs.operations.Operations.{go_writes}
+use Rattle.pack_model.specs.operations.Operations.Move.{quiet}
+use Rattle.pack_model.specs.operations.PageWords.{freed_value}
+use Rattle.pack_model.specs.reading.Sights.{Sight, sights}
+use Rattle.pack_model.specs.reading.Sights.Sight.{hidden}
+use Rattle.pack_model.specs.reading.Slots.{all_words, item_words, slot_at, slots}
+use Rattle.pack_model.specs.reading.Slots.Item.{entry}
+use Rattle.pack_model.specs.operations.Step.{Operation}
+use Rattle.pack_model.specs.operations.Step.Operation.{drop_file}
+use Rattle.pack_model.specs.states.Whole.{Tidy, Whole}
 use Rattle.pack_laws.proofs.Keys.{same_fid}
 use Rattle.pack_laws.proofs.Moving.{obeys_then, stands_last}
 use Rattle.laws_record.proofs.DirReads.{has_leader, not_descriptor}

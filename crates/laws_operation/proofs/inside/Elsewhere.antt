@@ -5,11 +5,11 @@ use Rattle.std.specs.Prelude.{◌==◌}
 use mathlib.Core.Path.{fun_ext}
 use Rattle.alto_words.specs.Fid.{is_fid}
 use Rattle.alto_words.specs.declared.fid.Fid.{Fid}
-use Rattle.pack_model.specs.Files.{file_bytes, first, joined, leader, leader_at, most_pages, page_at}
-use Rattle.pack_model.specs.Model.{good_one, good_sectors}
-use Rattle.pack_model.specs.Sights.{Sight}
-use Rattle.pack_model.specs.Sights.Sight.{free, hidden, holds, leads, stray}
-use Rattle.pack_model.specs.Whole.{Carries, FileWhole, PageAt, Seated, absent, present}
+use Rattle.pack_model.specs.reading.Files.{file_bytes, first, joined, leader, leader_at, most_pages, page_at}
+use Rattle.pack_model.specs.reading.Model.{good_one, good_sectors}
+use Rattle.pack_model.specs.reading.Sights.{Sight}
+use Rattle.pack_model.specs.reading.Sights.Sight.{free, hidden, holds, leads, stray}
+use Rattle.pack_model.specs.states.Whole.{Carries, FileWhole, PageAt, Seated, absent, present}
 use Rattle.pack_laws.proofs.Keys.{is_fid-itself}
 
 -- free, or of f

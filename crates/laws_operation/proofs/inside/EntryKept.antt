@@ -4,12 +4,12 @@ use Rattle.std.specs.FinMap.{entries, get, insert}
 use Rattle.std.specs.List.{list_any}
 use Rattle.alto_words.specs.Fid.{is_fid, is_system}
 use Rattle.alto_words.specs.declared.fid.Fid.{Fid}
-use Rattle.pack_model.specs.Bodies.{Files}
-use Rattle.pack_model.specs.Leaders.{Leader}
-use Rattle.pack_model.specs.Namings.{AllKept, IsTidy, Naming, clashes, is_kept, may_stand, namings, namings_in}
-use Rattle.pack_model.specs.Rooms.{left_over}
-use Rattle.pack_model.specs.Slots.{Item}
-use Rattle.pack_model.specs.Slots.Item.{entry, space}
+use Rattle.pack_model.specs.reading.Bodies.{Files}
+use Rattle.pack_model.specs.reading.Leaders.{Leader}
+use Rattle.pack_model.specs.reading.Namings.{AllKept, IsTidy, Naming, clashes, is_kept, may_stand, namings, namings_in}
+use Rattle.pack_model.specs.operations.Rooms.{left_over}
+use Rattle.pack_model.specs.reading.Slots.{Item}
+use Rattle.pack_model.specs.reading.Slots.Item.{entry, space}
 use Rattle.laws_record.proofs.Beside.{any_first, any_second}
 use Rattle.laws_record.proofs.Entered.{directory, namings_in-append, spot}
 use Rattle.laws_record.proofs.Tidying.{NoneClashes, and_not, onto, or_false, or_false_left, or_false_right, any_more}

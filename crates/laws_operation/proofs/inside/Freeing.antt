@@ -7,19 +7,19 @@ use Rattle.alto_words.specs.Names.{is_same_name}
 use Rattle.alto_words.specs.declared.fid.Fid.{Fid}
 use Rattle.disk_records.specs.Commands.{value_writes}
 use Rattle.disk_records.specs.Packs.{Pack, sector_at}
-use Rattle.pack_model.specs.Bodies.{Files, described}
-use Rattle.pack_model.specs.Bytes.{put_at}
-use Rattle.pack_model.specs.Files.{leader, lives}
-use Rattle.pack_model.specs.Leaders.{Leader}
-use Rattle.pack_model.specs.Links.{dir_words}
-use Rattle.pack_model.specs.Model.{is_named, read_pack, read_sights}
-use Rattle.pack_model.specs.Moves.{rest, write}
-use Rattle.pack_model.specs.Namings.{AllKept, IsTidy, Naming, clashes, fits, is_kept, kept_after, may_stand, tidied}
-use Rattle.pack_model.specs.PageWords.{in_page}
-use Rattle.pack_model.specs.Sights.{Sight, sights}
-use Rattle.pack_model.specs.Slots.{Item, all_words, item_words, slots}
-use Rattle.pack_model.specs.Slots.Item.{entry, space}
-use Rattle.pack_model.specs.Whole.{Tidy, Whole, living_too}
+use Rattle.pack_model.specs.reading.Bodies.{Files, described}
+use Rattle.pack_model.specs.reading.Bytes.{put_at}
+use Rattle.pack_model.specs.reading.Files.{leader, lives}
+use Rattle.pack_model.specs.reading.Leaders.{Leader}
+use Rattle.pack_model.specs.hints.Links.{dir_words}
+use Rattle.pack_model.specs.reading.Model.{is_named, read_pack, read_sights}
+use Rattle.pack_model.specs.sessions.Moves.{rest, write}
+use Rattle.pack_model.specs.reading.Namings.{AllKept, IsTidy, Naming, clashes, fits, is_kept, kept_after, may_stand, tidied}
+use Rattle.pack_model.specs.operations.PageWords.{in_page}
+use Rattle.pack_model.specs.reading.Sights.{Sight, sights}
+use Rattle.pack_model.specs.reading.Slots.{Item, all_words, item_words, slots}
+use Rattle.pack_model.specs.reading.Slots.Item.{entry, space}
+use Rattle.pack_model.specs.states.Whole.{Tidy, Whole, living_too}
 use Rattle.pack_laws.proofs.Keys.{is_fid-sym}
 use Rattle.laws_record.proofs.Beside.{any_second}
 use Rattle.laws_record.proofs.DirReads.{dir_reads, insert_same, not_descriptor}

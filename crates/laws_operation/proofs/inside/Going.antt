@@ -7,20 +7,20 @@ use mathlib.Core.Path.{fun_ext}
 use Rattle.alto_words.specs.Fid.{disk_descriptor, fid_cmp, is_fid, is_system, serial_of, sys_dir}
 use Rattle.alto_words.specs.declared.fid.Fid.{Fid}
 use Rattle.disk_records.specs.declared.shape.Shape.{Shape}
-use Rattle.pack_model.specs.Bodies.{Body, File, Files, described, found, is_described}
-use Rattle.pack_model.specs.Bodies.Body.{data_of, items_of}
-use Rattle.pack_model.specs.Bytes.{words_of}
-use Rattle.pack_model.specs.Files.{file_bytes, leader, lives}
-use Rattle.pack_model.specs.Maps.{map_entries, map_values}
-use Rattle.pack_model.specs.Model.{is_named, last_serial, read_sights}
-use Rattle.pack_model.specs.Namings.{AllKept, IsTidy, Naming, body_namings, is_kept, namings, namings_in, tidied}
-use Rattle.pack_model.specs.Sights.{Sight}
-use Rattle.pack_model.specs.Sights.Sight.{leads}
-use Rattle.pack_model.specs.Slots.{Item, SlotsReachEnd, item_words}
-use Rattle.pack_model.specs.Slots.Item.{entry, space}
-use Rattle.pack_model.specs.Step.{body_without, file_without, items_without, step}
-use Rattle.pack_model.specs.Step.Operation.{drop_file}
-use Rattle.pack_model.specs.Whole.{FileWhole, Fits, TidyBut, TidySights, WholeSights, living_too}
+use Rattle.pack_model.specs.reading.Bodies.{Body, File, Files, described, found, is_described}
+use Rattle.pack_model.specs.reading.Bodies.Body.{data_of, items_of}
+use Rattle.pack_model.specs.reading.Bytes.{words_of}
+use Rattle.pack_model.specs.reading.Files.{file_bytes, leader, lives}
+use Rattle.pack_model.specs.sessions.Maps.{map_entries, map_values}
+use Rattle.pack_model.specs.reading.Model.{is_named, last_serial, read_sights}
+use Rattle.pack_model.specs.reading.Namings.{AllKept, IsTidy, Naming, body_namings, is_kept, namings, namings_in, tidied}
+use Rattle.pack_model.specs.reading.Sights.{Sight}
+use Rattle.pack_model.specs.reading.Sights.Sight.{leads}
+use Rattle.pack_model.specs.reading.Slots.{Item, SlotsReachEnd, item_words}
+use Rattle.pack_model.specs.reading.Slots.Item.{entry, space}
+use Rattle.pack_model.specs.operations.Step.{body_without, file_without, items_without, step}
+use Rattle.pack_model.specs.operations.Step.Operation.{drop_file}
+use Rattle.pack_model.specs.states.Whole.{FileWhole, Fits, TidyBut, TidySights, WholeSights, living_too}
 use Rattle.pack_laws.proofs.Keys.{fid_same, fid_total, is_fid-itself, is_fid-sym, same_fid}
 use Rattle.pack_laws.proofs.Mapping.{entries-map_values}
 use Rattle.laws_record.proofs.Dropping.{dropped_tidied, gone, others, others-append}

@@ -8,20 +8,20 @@ use Rattle.disk_records.specs.Commands.{claim_writes}
 use Rattle.disk_records.specs.Labels.{page_of, tag}
 use Rattle.disk_records.specs.Packs.{Pack, after, sector_at}
 use Rattle.disk_records.specs.declared.records.Event.TheVariants.{Wrote}
-use Rattle.pack_model.specs.Bytes.{bytes_of}
-use Rattle.pack_model.specs.Commands.{Claim, Claimable, all_claimed, claims_writes}
-use Rattle.pack_model.specs.Committing.{MakesMove}
-use Rattle.pack_model.specs.Files.{most_pages, place}
-use Rattle.pack_model.specs.Meanings.{reading}
-use Rattle.pack_model.specs.Model.{Model, good_one, read_pack, read_sights}
-use Rattle.pack_model.specs.Moves.{Obeys, write}
-use Rattle.pack_model.specs.Operations.{claims_moves, grow_moves, grow_writes, moved}
-use Rattle.pack_model.specs.Operations.Move.{commits, quiet}
-use Rattle.pack_model.specs.PageWords.{page_number}
-use Rattle.pack_model.specs.Sights.{sights, tag_sight}
-use Rattle.pack_model.specs.Sights.Sight.{free, hidden, holds, leads}
-use Rattle.pack_model.specs.Step.{Operation}
-use Rattle.pack_model.specs.Whole.{Carries, IsLaid, IsSeat, Leads, PageAt, present}
+use Rattle.pack_model.specs.reading.Bytes.{bytes_of}
+use Rattle.pack_model.specs.operations.Commands.{Claim, Claimable, all_claimed, claims_writes}
+use Rattle.pack_model.specs.operations.Committing.{MakesMove}
+use Rattle.pack_model.specs.reading.Files.{most_pages, place}
+use Rattle.pack_model.specs.sessions.Meanings.{reading}
+use Rattle.pack_model.specs.reading.Model.{Model, good_one, read_pack, read_sights}
+use Rattle.pack_model.specs.sessions.Moves.{Obeys, write}
+use Rattle.pack_model.specs.operations.Operations.{claims_moves, grow_moves, grow_writes, moved}
+use Rattle.pack_model.specs.operations.Operations.Move.{commits, quiet}
+use Rattle.pack_model.specs.operations.PageWords.{page_number}
+use Rattle.pack_model.specs.reading.Sights.{sights, tag_sight}
+use Rattle.pack_model.specs.reading.Sights.Sight.{free, hidden, holds, leads}
+use Rattle.pack_model.specs.operations.Step.{Operation}
+use Rattle.pack_model.specs.states.Whole.{Carries, IsLaid, IsSeat, Leads, PageAt, present}
 use Rattle.pack_laws.proofs.Guarding.{named_shown, here_written}
 use Rattle.pack_laws.proofs.Moving.{obeys_then, stands_last}
 use Rattle.laws_record.proofs.Seats.{seat_once, seat_range}

@@ -7,17 +7,17 @@ use Rattle.alto_words.specs.declared.fid.Fid.{Fid}
 use Rattle.disk_records.specs.Packs.{Pack, after}
 use Rattle.disk_records.specs.Words.{word}
 use Rattle.disk_records.specs.declared.records.Event.{Event}
-use Rattle.pack_model.specs.Bytes.{words_of}
-use Rattle.pack_model.specs.Committing.{moves_of}
-use Rattle.pack_model.specs.Files.{carries_page, file_bytes, first, lives, numbered, place, place_at}
-use Rattle.pack_model.specs.Meanings.{Meets, reading, viewing}
-use Rattle.pack_model.specs.Model.{Model, last_serial, read_pack, read_sights}
-use Rattle.pack_model.specs.Moves.{Obeys, steps}
-use Rattle.pack_model.specs.Operations.{Move, moved}
-use Rattle.pack_model.specs.Sights.{Sight, sights}
-use Rattle.pack_model.specs.Sights.Sight.{free, hidden, holds, leads, stray}
-use Rattle.pack_model.specs.Step.{Operation, step}
-use Rattle.pack_model.specs.View.{view}
+use Rattle.pack_model.specs.reading.Bytes.{words_of}
+use Rattle.pack_model.specs.operations.Committing.{moves_of}
+use Rattle.pack_model.specs.reading.Files.{carries_page, file_bytes, first, lives, numbered, place, place_at}
+use Rattle.pack_model.specs.sessions.Meanings.{Meets, reading, viewing}
+use Rattle.pack_model.specs.reading.Model.{Model, last_serial, read_pack, read_sights}
+use Rattle.pack_model.specs.sessions.Moves.{Obeys, steps}
+use Rattle.pack_model.specs.operations.Operations.{Move, moved}
+use Rattle.pack_model.specs.reading.Sights.{Sight, sights}
+use Rattle.pack_model.specs.reading.Sights.Sight.{free, hidden, holds, leads, stray}
+use Rattle.pack_model.specs.operations.Step.{Operation, step}
+use Rattle.pack_model.specs.showing.View.{view}
 use Rattle.pack_laws.proofs.Keys.{is_fid-sym}
 use Rattle.pack_laws.proofs.Moving.{obeys_cut, stands_last}
 use Rattle.laws_operation.proofs.inside.Elsewhere.{MayBe, SameBut, other_bytes, other_leader}

@@ -7,19 +7,19 @@ use mathlib.Core.Path.{fun_ext}
 use Rattle.alto_words.specs.Fid.{disk_descriptor, is_directory, is_fid, serial_of, sys_dir}
 use Rattle.alto_words.specs.declared.fid.Fid.{Fid}
 use Rattle.disk_records.specs.declared.shape.Shape.{Shape}
-use Rattle.pack_model.specs.Bodies.{File, Files, described, found, is_described}
-use Rattle.pack_model.specs.Bodies.Body.{data_of, items_of}
-use Rattle.pack_model.specs.Bytes.{words_of}
-use Rattle.pack_model.specs.Files.{file_bytes, leader, lives}
-use Rattle.pack_model.specs.Leaders.{Leader}
-use Rattle.pack_model.specs.Maps.{update_found}
-use Rattle.pack_model.specs.Model.{is_named, last_serial, read_sights}
-use Rattle.pack_model.specs.Namings.{AllKept, is_kept, namings, tidied}
-use Rattle.pack_model.specs.Sights.{Sight}
-use Rattle.pack_model.specs.Sights.Sight.{leads}
-use Rattle.pack_model.specs.Slots.{SlotsReachEnd, slots}
-use Rattle.pack_model.specs.Step.{update_file}
-use Rattle.pack_model.specs.Whole.{FileWhole, Fits, TidySights, WholeSights}
+use Rattle.pack_model.specs.reading.Bodies.{File, Files, described, found, is_described}
+use Rattle.pack_model.specs.reading.Bodies.Body.{data_of, items_of}
+use Rattle.pack_model.specs.reading.Bytes.{words_of}
+use Rattle.pack_model.specs.reading.Files.{file_bytes, leader, lives}
+use Rattle.pack_model.specs.reading.Leaders.{Leader}
+use Rattle.pack_model.specs.sessions.Maps.{update_found}
+use Rattle.pack_model.specs.reading.Model.{is_named, last_serial, read_sights}
+use Rattle.pack_model.specs.reading.Namings.{AllKept, is_kept, namings, tidied}
+use Rattle.pack_model.specs.reading.Sights.{Sight}
+use Rattle.pack_model.specs.reading.Sights.Sight.{leads}
+use Rattle.pack_model.specs.reading.Slots.{SlotsReachEnd, slots}
+use Rattle.pack_model.specs.operations.Step.{update_file}
+use Rattle.pack_model.specs.states.Whole.{FileWhole, Fits, TidySights, WholeSights}
 use Rattle.pack_laws.proofs.Keys.{fid_same, fid_total, is_fid-sym, same_fid}
 use Rattle.laws_record.proofs.Around.{around}
 use Rattle.laws_record.proofs.Entered.{namings-append}

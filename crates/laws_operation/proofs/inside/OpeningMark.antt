@@ -6,16 +6,16 @@ use Rattle.disk_records.specs.Commands.{value_writes}
 use Rattle.disk_records.specs.Packs.{Pack, after, sector_at}
 use Rattle.disk_records.specs.Words.{double, word}
 use Rattle.disk_records.specs.declared.shape.Shape.{Shape}
-use Rattle.pack_model.specs.Bytes.{put_at}
-use Rattle.pack_model.specs.Descriptor.{opened_value, serial_writes}
-use Rattle.pack_model.specs.Model.{descriptor_words, last_serial, read_pack, read_sights}
-use Rattle.pack_model.specs.Moves.{rest, write}
-use Rattle.pack_model.specs.Operations.Move.{quiet}
-use Rattle.pack_model.specs.PageWords.{halves}
-use Rattle.pack_model.specs.Sights.{sights}
-use Rattle.pack_model.specs.Sound.{mark_of, mark_open}
-use Rattle.pack_model.specs.View.{view}
-use Rattle.pack_model.specs.Whole.{SaysShape, Tidy, Whole}
+use Rattle.pack_model.specs.reading.Bytes.{put_at}
+use Rattle.pack_model.specs.sessions.Descriptor.{opened_value, serial_writes}
+use Rattle.pack_model.specs.reading.Model.{descriptor_words, last_serial, read_pack, read_sights}
+use Rattle.pack_model.specs.sessions.Moves.{rest, write}
+use Rattle.pack_model.specs.operations.Operations.Move.{quiet}
+use Rattle.pack_model.specs.operations.PageWords.{halves}
+use Rattle.pack_model.specs.reading.Sights.{sights}
+use Rattle.pack_model.specs.states.Sound.{mark_of, mark_open}
+use Rattle.pack_model.specs.showing.View.{view}
+use Rattle.pack_model.specs.states.Whole.{SaysShape, Tidy, Whole}
 use Rattle.pack_laws.proofs.Bytes.{length-put_at}
 use Rattle.laws_record.proofs.Describing.{view_files}
 use Rattle.laws_record.proofs.Slotwise.{put_before, put_behind, put_here}

@@ -3,9 +3,9 @@ use Rattle.std.proofs.Common.{Bool, List, None, Option, Some, [], ap, arith, con
 use Rattle.std.proofs.lemmas.Bool.{le-leb, lt-leb}
 use Rattle.std.specs.Option.{option_map, option_or, unwrap_or}
 use Rattle.std.specs.Prelude.{nat_le}
-use Rattle.pack_model.specs.Rooms.{find_room, in_run, items_entered, left_over, placed, room_from, room_here, run}
-use Rattle.pack_model.specs.Slots.{Item, all_words, item_words}
-use Rattle.pack_model.specs.Slots.Item.{entry, space}
+use Rattle.pack_model.specs.operations.Rooms.{find_room, in_run, items_entered, left_over, placed, room_from, room_here, run}
+use Rattle.pack_model.specs.reading.Slots.{Item, all_words, item_words}
+use Rattle.pack_model.specs.reading.Slots.Item.{entry, space}
 use Rattle.laws_record.proofs.Roomy.{run_enough}
 use Rattle.laws_operation.proofs.inside.Rooming.{FailsAll, placed_past, room_behind, room_past, shorter_run}
 use Rattle.laws_operation.specs.NameLaws.{IsRoom}

@@ -9,18 +9,18 @@ use Rattle.disk_records.specs.Packs.{Pack, after, sector_at}
 use Rattle.disk_records.specs.Words.{word}
 use Rattle.disk_records.specs.declared.records.Event.{Event}
 use Rattle.disk_records.specs.declared.shape.Shape.{Shape}
-use Rattle.pack_model.specs.Bytes.{bytes_of}
-use Rattle.pack_model.specs.Commands.{Claim, Claimable, all_claimed, claimed, claims_writes, releases_writes, sectors_of}
-use Rattle.pack_model.specs.Files.{leader, most_pages}
-use Rattle.pack_model.specs.Leaders.{Leader}
-use Rattle.pack_model.specs.Meanings.{reading}
-use Rattle.pack_model.specs.Model.{Model, good_one, read_pack, read_sights}
-use Rattle.pack_model.specs.Moves.{Obeys, rest, steps}
-use Rattle.pack_model.specs.Operations.{Move, claims_moves, releases_moves}
-use Rattle.pack_model.specs.Operations.Move.{quiet}
-use Rattle.pack_model.specs.Sights.{Sight, sights}
-use Rattle.pack_model.specs.Sights.Sight.{free, hidden, holds, leads, stray}
-use Rattle.pack_model.specs.Whole.{Carries, Headless, IsLaid, Leads, PageAt}
+use Rattle.pack_model.specs.reading.Bytes.{bytes_of}
+use Rattle.pack_model.specs.operations.Commands.{Claim, Claimable, all_claimed, claimed, claims_writes, releases_writes, sectors_of}
+use Rattle.pack_model.specs.reading.Files.{leader, most_pages}
+use Rattle.pack_model.specs.reading.Leaders.{Leader}
+use Rattle.pack_model.specs.sessions.Meanings.{reading}
+use Rattle.pack_model.specs.reading.Model.{Model, good_one, read_pack, read_sights}
+use Rattle.pack_model.specs.sessions.Moves.{Obeys, rest, steps}
+use Rattle.pack_model.specs.operations.Operations.{Move, claims_moves, releases_moves}
+use Rattle.pack_model.specs.operations.Operations.Move.{quiet}
+use Rattle.pack_model.specs.reading.Sights.{Sight, sights}
+use Rattle.pack_model.specs.reading.Sights.Sight.{free, hidden, holds, leads, stray}
+use Rattle.pack_model.specs.states.Whole.{Carries, Headless, IsLaid, Leads, PageAt}
 use Rattle.pack_laws.proofs.Guarding.{ones_free}
 use Rattle.pack_laws.proofs.Moving.{obeys_then}
 use Rattle.laws_operation.proofs.Commanding.{claim_apart, claim_obeys, claim_shows, release_apart, release_obeys, release_shows}

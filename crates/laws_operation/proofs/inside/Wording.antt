@@ -7,10 +7,10 @@ use Rattle.alto_words.specs.Fid.{serial_of}
 use Rattle.disk_records.specs.Labels.{Tag, in_range, tag}
 use Rattle.disk_records.specs.Packs.{sector_at}
 use Rattle.disk_records.specs.Words.{word}
-use Rattle.pack_model.specs.Bytes.{bytes_of, put_at, words_of}
-use Rattle.pack_model.specs.Files.{page}
-use Rattle.pack_model.specs.Namings.{fits}
-use Rattle.pack_model.specs.PageWords.{page_number, put_value, relabelled}
+use Rattle.pack_model.specs.reading.Bytes.{bytes_of, put_at, words_of}
+use Rattle.pack_model.specs.reading.Files.{page}
+use Rattle.pack_model.specs.reading.Namings.{fits}
+use Rattle.pack_model.specs.operations.PageWords.{page_number, put_value, relabelled}
 use Rattle.pack_laws.proofs.Bytes.{bytes_of-put, take-put_at}
 use Rattle.laws_operation.proofs.Making.{named_page}
 use Rattle.laws_operation.specs.WordLaws.{BytesInAValue, LabelWithAnotherCount}

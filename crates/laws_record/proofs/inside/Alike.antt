@@ -5,17 +5,17 @@ use Rattle.alto_words.specs.Fid.{disk_descriptor, is_directory, is_fid}
 use Rattle.alto_words.specs.declared.fid.Fid.{Fid}
 use Rattle.disk_records.specs.Words.{word}
 use Rattle.disk_records.specs.declared.shape.Shape.{Shape}
-use Rattle.pack_model.specs.Bodies.{body_of, described}
-use Rattle.pack_model.specs.Bodies.Body.{data_of, items_of}
-use Rattle.pack_model.specs.Bytes.{words_of}
-use Rattle.pack_model.specs.Files.{carries_page, file_bytes, first, leader, leader_at, lives, numbered, place, place_at}
-use Rattle.pack_model.specs.Leaders.{Leader}
-use Rattle.pack_model.specs.Model.{descriptor_words, good_one, good_sectors, last_serial, read_sights}
-use Rattle.pack_model.specs.Namings.{tidied}
-use Rattle.pack_model.specs.Sights.{Sight}
-use Rattle.pack_model.specs.Sights.Sight.{hidden, holds, leads, stray}
-use Rattle.pack_model.specs.Slots.{slots}
-use Rattle.pack_model.specs.Sound.{mark_of}
+use Rattle.pack_model.specs.reading.Bodies.{body_of, described}
+use Rattle.pack_model.specs.reading.Bodies.Body.{data_of, items_of}
+use Rattle.pack_model.specs.reading.Bytes.{words_of}
+use Rattle.pack_model.specs.reading.Files.{carries_page, file_bytes, first, leader, leader_at, lives, numbered, place, place_at}
+use Rattle.pack_model.specs.reading.Leaders.{Leader}
+use Rattle.pack_model.specs.reading.Model.{descriptor_words, good_one, good_sectors, last_serial, read_sights}
+use Rattle.pack_model.specs.reading.Namings.{tidied}
+use Rattle.pack_model.specs.reading.Sights.{Sight}
+use Rattle.pack_model.specs.reading.Sights.Sight.{hidden, holds, leads, stray}
+use Rattle.pack_model.specs.reading.Slots.{slots}
+use Rattle.pack_model.specs.states.Sound.{mark_of}
 use Rattle.pack_laws.proofs.Bytes.{length-words_of}
 use Rattle.laws_record.proofs.Framing.{lives_same, model_same}
 use Rattle.laws_record.proofs.Keeping.{described_kept}

@@ -6,10 +6,10 @@ use Rattle.alto_words.specs.declared.fid.Fid.{Fid}
 use Rattle.disk_records.specs.Labels.{page_of, tag}
 use Rattle.disk_records.specs.Packs.{Pack, after, sector_at}
 use Rattle.disk_records.specs.declared.records.Event.TheVariants.{Wrote}
-use Rattle.pack_model.specs.Bytes.{bytes_of, put_at}
-use Rattle.pack_model.specs.Files.{file_bytes, joined, most_pages, page}
-use Rattle.pack_model.specs.Sights.{Sight, sights}
-use Rattle.pack_model.specs.Sights.Sight.{hidden, holds}
+use Rattle.pack_model.specs.reading.Bytes.{bytes_of, put_at}
+use Rattle.pack_model.specs.reading.Files.{file_bytes, joined, most_pages, page}
+use Rattle.pack_model.specs.reading.Sights.{Sight, sights}
+use Rattle.pack_model.specs.reading.Sights.Sight.{hidden, holds}
 use Rattle.laws_record.proofs.inside.Cutting.{bytes_cut}
 use Rattle.laws_record.proofs.DirEnds.{enough}
 use Rattle.pack_laws.proofs.Joining.{Reaches, continue, front, joined_at, joined_change, most_is, skip}

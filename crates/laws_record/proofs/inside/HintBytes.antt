@@ -7,14 +7,14 @@ use Rattle.alto_words.specs.declared.fid.Fid.{Fid}
 use Rattle.disk_records.specs.Labels.{tag}
 use Rattle.disk_records.specs.Packs.{Pack, sector_at}
 use Rattle.disk_records.specs.Words.{word}
-use Rattle.pack_model.specs.Bytes.{bytes_of, words_of}
-use Rattle.pack_model.specs.Files.{file_bytes, most_pages, page, place}
-use Rattle.pack_model.specs.HintWords.{IsAddressWord, IsHintByte, IsMapWord, SameButHints}
-use Rattle.pack_model.specs.HintWords.IsHintByte.{of_entry, of_free, of_leader, of_map, past_count}
-use Rattle.pack_model.specs.Model.{descriptor_words}
-use Rattle.pack_model.specs.Sights.{sights}
-use Rattle.pack_model.specs.Sights.Sight.{free, hidden, holds, leads}
-use Rattle.pack_model.specs.Slots.{slots}
+use Rattle.pack_model.specs.reading.Bytes.{bytes_of, words_of}
+use Rattle.pack_model.specs.reading.Files.{file_bytes, most_pages, page, place}
+use Rattle.pack_model.specs.hints.HintWords.{IsAddressWord, IsHintByte, IsMapWord, SameButHints}
+use Rattle.pack_model.specs.hints.HintWords.IsHintByte.{of_entry, of_free, of_leader, of_map, past_count}
+use Rattle.pack_model.specs.reading.Model.{descriptor_words}
+use Rattle.pack_model.specs.reading.Sights.{sights}
+use Rattle.pack_model.specs.reading.Sights.Sight.{free, hidden, holds, leads}
+use Rattle.pack_model.specs.reading.Slots.{slots}
 use Rattle.laws_record.proofs.Addressing.{IsLoose, LooseIn, loose_among, slots_kept}
 use Rattle.laws_record.proofs.inside.Alike.{Alike}
 use Rattle.laws_record.proofs.inside.AlikeWhole.{means_alike}

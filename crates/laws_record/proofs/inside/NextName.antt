@@ -3,14 +3,14 @@ use Rattle.std.proofs.Common.{List, None, Some, [], ap, cond, false, length, not
 use Rattle.std.specs.FinMap.{get, insert}
 use Rattle.alto_words.specs.Fid.{is_system, sys_dir}
 use Rattle.alto_words.specs.declared.fid.Fid.{Fid}
-use Rattle.pack_model.specs.Leaders.{Leader}
-use Rattle.pack_model.specs.Model.{Model, read_pack}
-use Rattle.pack_model.specs.Namings.{namings_in}
-use Rattle.pack_model.specs.Rooms.{left_over}
-use Rattle.pack_model.specs.Settling.{chosen, settle}
-use Rattle.pack_model.specs.Slots.{Item, entry_length}
-use Rattle.pack_model.specs.Slots.Item.{entry, space}
-use Rattle.pack_model.specs.View.{Seen, names_of, view}
+use Rattle.pack_model.specs.reading.Leaders.{Leader}
+use Rattle.pack_model.specs.reading.Model.{Model, read_pack}
+use Rattle.pack_model.specs.reading.Namings.{namings_in}
+use Rattle.pack_model.specs.operations.Rooms.{left_over}
+use Rattle.pack_model.specs.showing.Settling.{chosen, settle}
+use Rattle.pack_model.specs.reading.Slots.{Item, entry_length}
+use Rattle.pack_model.specs.reading.Slots.Item.{entry, space}
+use Rattle.pack_model.specs.showing.View.{Seen, names_of, view}
 use Rattle.laws_record.proofs.DirReads.{insert_same}
 use Rattle.laws_record.proofs.Entered.{directory, namings_in-append}
 use Rattle.laws_record.proofs.Entering.{back_slots, dir_leader, enter_reads, front_slots, model_dir}

@@ -4,18 +4,18 @@ use Rattle.std.specs.FinMap.{get, insert, retain_keys}
 use Rattle.alto_words.specs.Fid.{disk_descriptor, is_fid}
 use Rattle.alto_words.specs.declared.fid.Fid.{Fid}
 use Rattle.disk_records.specs.Packs.{Pack}
-use Rattle.pack_model.specs.Bodies.{described, found, is_described}
-use Rattle.pack_model.specs.Bodies.Body.{data_of, items_of}
-use Rattle.pack_model.specs.Bytes.{words_of}
-use Rattle.pack_model.specs.Files.{file_bytes, leader, lives}
-use Rattle.pack_model.specs.Leaders.{Leader}
-use Rattle.pack_model.specs.Maps.{update_found}
-use Rattle.pack_model.specs.Model.{good_one, good_sectors, last_serial, read_pack, read_sights}
-use Rattle.pack_model.specs.Namings.{tidied}
-use Rattle.pack_model.specs.Sights.{sights}
-use Rattle.pack_model.specs.Sights.Sight.{hidden, holds}
-use Rattle.pack_model.specs.Slots.{slots}
-use Rattle.pack_model.specs.Step.{on_bytes, update_file}
+use Rattle.pack_model.specs.reading.Bodies.{described, found, is_described}
+use Rattle.pack_model.specs.reading.Bodies.Body.{data_of, items_of}
+use Rattle.pack_model.specs.reading.Bytes.{words_of}
+use Rattle.pack_model.specs.reading.Files.{file_bytes, leader, lives}
+use Rattle.pack_model.specs.reading.Leaders.{Leader}
+use Rattle.pack_model.specs.sessions.Maps.{update_found}
+use Rattle.pack_model.specs.reading.Model.{good_one, good_sectors, last_serial, read_pack, read_sights}
+use Rattle.pack_model.specs.reading.Namings.{tidied}
+use Rattle.pack_model.specs.reading.Sights.{sights}
+use Rattle.pack_model.specs.reading.Sights.Sight.{hidden, holds}
+use Rattle.pack_model.specs.reading.Slots.{slots}
+use Rattle.pack_model.specs.operations.Step.{on_bytes, update_file}
 use Rattle.laws_record.proofs.DirReads.{has_leader}
 use Rattle.laws_record.proofs.Framing.{good_set, lives_same, model_same}
 use Rattle.laws_record.proofs.Keeping.{get-tidied_plain, get-where, kept_insert, plain, tidied_insert}

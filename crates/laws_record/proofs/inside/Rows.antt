@@ -2,10 +2,10 @@
 use Rattle.std.proofs.Common.{◌+◌, ◌<◌, ◌∙◌, ◌≡◌, ◌≤◌, ◌∷◌, List, None, Option, Some, [], ap, arith, get_or, inl, inr, length, lt-ltb, refl, subst, suc, sym, zero, ℕ}
 use Rattle.std.proofs.lemmas.Bool.{cases_eq}
 use Rattle.alto_words.specs.declared.fid.Fid.{Fid}
-use Rattle.pack_model.specs.Files.{page, place}
-use Rattle.pack_model.specs.Sights.{Sight}
-use Rattle.pack_model.specs.Sights.Sight.{hidden, holds}
-use Rattle.pack_model.specs.Whole.{IsLaid, IsSeat, PageAt, Seated}
+use Rattle.pack_model.specs.reading.Files.{page, place}
+use Rattle.pack_model.specs.reading.Sights.{Sight}
+use Rattle.pack_model.specs.reading.Sights.Sight.{hidden, holds}
+use Rattle.pack_model.specs.states.Whole.{IsLaid, IsSeat, PageAt, Seated}
 use Rattle.pack_laws.proofs.Joining.{content}
 
 -- the sector of a page that is there

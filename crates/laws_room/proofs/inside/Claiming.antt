@@ -9,11 +9,11 @@ use Rattle.disk_records.specs.Labels.{page_of, tag}
 use Rattle.disk_records.specs.Packs.{Pack, carried, is_free_at, is_usable, sector_at}
 use Rattle.disk_records.specs.declared.records.Page.{Page}
 use Rattle.disk_records.specs.declared.shape.Shape.{Shape}
-use Rattle.pack_model.specs.Files.{carries_page, numbered, place}
-use Rattle.pack_model.specs.InUse.{available, counts, how_many, is_available, is_place, one_if}
-use Rattle.pack_model.specs.Mended.{mended}
-use Rattle.pack_model.specs.Sights.{Sight, page_sight, sights}
-use Rattle.pack_model.specs.Sights.Sight.{free, hidden, holds, leads, stray}
+use Rattle.pack_model.specs.reading.Files.{carries_page, numbered, place}
+use Rattle.pack_model.specs.states.InUse.{available, counts, how_many, is_available, is_place, one_if}
+use Rattle.pack_model.specs.scavenger.Mended.{mended}
+use Rattle.pack_model.specs.reading.Sights.{Sight, page_sight, sights}
+use Rattle.pack_model.specs.reading.Sights.Sight.{free, hidden, holds, leads, stray}
 use Rattle.laws_room.proofs.inside.Balancing.{needs_files}
 use Rattle.laws_room.proofs.inside.RootStanding.{within_stays}
 use Rattle.laws_room.proofs.inside.Rooming.{counting_theorem}

@@ -5,12 +5,12 @@ use Rattle.std.specs.FinMap.Entries.{below_all}
 use Rattle.alto_words.specs.Fid.{fid_cmp, is_fid}
 use Rattle.alto_words.specs.declared.fid.Fid.{Fid}
 use Rattle.disk_records.specs.declared.shape.Shape.{Shape}
-use Rattle.pack_model.specs.Bodies.{File, found}
-use Rattle.pack_model.specs.Files.{numbered, place}
-use Rattle.pack_model.specs.InUse.{available, counts, how_many, in_use, is_good, is_place, is_within, last_page, of_page, one_if}
-use Rattle.pack_model.specs.Model.{good_one, good_sectors}
-use Rattle.pack_model.specs.Sights.{Sight}
-use Rattle.pack_model.specs.Sights.Sight.{free, hidden, holds, leads, stray}
+use Rattle.pack_model.specs.reading.Bodies.{File, found}
+use Rattle.pack_model.specs.reading.Files.{numbered, place}
+use Rattle.pack_model.specs.states.InUse.{available, counts, how_many, in_use, is_good, is_place, is_within, last_page, of_page, one_if}
+use Rattle.pack_model.specs.reading.Model.{good_one, good_sectors}
+use Rattle.pack_model.specs.reading.Sights.{Sight}
+use Rattle.pack_model.specs.reading.Sights.Sight.{free, hidden, holds, leads, stray}
 use Rattle.laws_room.proofs.inside.Pages.{file_many, none_many, none_page, same_many, same_page, sum_many, sum_page, up_to}
 use Rattle.laws_room.specs.CountLaws.{placed_all}
 use Rattle.pack_laws.proofs.Keys.{same_fid}

@@ -5,17 +5,17 @@ use Rattle.alto_words.specs.Fid.{is_directory, is_fid, sys_dir}
 use Rattle.alto_words.specs.declared.fid.Fid.{Fid}
 use Rattle.disk_records.specs.Addresses.{descriptor_length}
 use Rattle.disk_records.specs.Packs.{Pack}
-use Rattle.pack_model.specs.Bodies.{File, Files, described}
-use Rattle.pack_model.specs.Bodies.Body.{data_of, items_of}
-use Rattle.pack_model.specs.Bytes.{words_of}
-use Rattle.pack_model.specs.Files.{file_bytes, leader, lives}
-use Rattle.pack_model.specs.InUse.{counts, is_within}
-use Rattle.pack_model.specs.Leaders.{Leader}
-use Rattle.pack_model.specs.Links.{dir_words}
-use Rattle.pack_model.specs.Mended.{root_file, rooted, with_system}
-use Rattle.pack_model.specs.Namings.{tidied}
-use Rattle.pack_model.specs.Sights.{sights}
-use Rattle.pack_model.specs.Slots.{Item, all_words, slots}
+use Rattle.pack_model.specs.reading.Bodies.{File, Files, described}
+use Rattle.pack_model.specs.reading.Bodies.Body.{data_of, items_of}
+use Rattle.pack_model.specs.reading.Bytes.{words_of}
+use Rattle.pack_model.specs.reading.Files.{file_bytes, leader, lives}
+use Rattle.pack_model.specs.states.InUse.{counts, is_within}
+use Rattle.pack_model.specs.reading.Leaders.{Leader}
+use Rattle.pack_model.specs.hints.Links.{dir_words}
+use Rattle.pack_model.specs.scavenger.Mended.{root_file, rooted, with_system}
+use Rattle.pack_model.specs.reading.Namings.{tidied}
+use Rattle.pack_model.specs.reading.Sights.{sights}
+use Rattle.pack_model.specs.reading.Slots.{Item, all_words, slots}
 use Rattle.laws_room.proofs.inside.RootStanding.{SamePagesCount}
 use Rattle.laws_room.proofs.inside.RootedAt.{counted_file, rooted_at}
 use Rattle.pack_laws.proofs.Keys.{fid_total, is_fid-itself, same_fid}

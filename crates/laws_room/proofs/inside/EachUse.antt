@@ -6,17 +6,17 @@ use Rattle.alto_words.specs.Fid.{disk_descriptor, is_fid, is_system}
 use Rattle.alto_words.specs.declared.fid.Fid.{Fid}
 use Rattle.disk_records.specs.Packs.{Pack, after}
 use Rattle.disk_records.specs.declared.records.Event.{Event}
-use Rattle.pack_model.specs.Bodies.{File, described, found, is_described}
-use Rattle.pack_model.specs.Committing.{length_of}
-use Rattle.pack_model.specs.Files.{file_bytes, leader, lives, place}
-use Rattle.pack_model.specs.Leaders.{Leader}
-use Rattle.pack_model.specs.Model.{read_pack, read_sights}
-use Rattle.pack_model.specs.Sights.{sights}
-use Rattle.pack_model.specs.Sights.Sight.{hidden}
-use Rattle.pack_model.specs.Step.{Operation, step}
-use Rattle.pack_model.specs.Step.Operation.{drop_file, enter}
-use Rattle.pack_model.specs.View.{seen_of}
-use Rattle.pack_model.specs.Whole.{Tidy, Whole}
+use Rattle.pack_model.specs.reading.Bodies.{File, described, found, is_described}
+use Rattle.pack_model.specs.operations.Committing.{length_of}
+use Rattle.pack_model.specs.reading.Files.{file_bytes, leader, lives, place}
+use Rattle.pack_model.specs.reading.Leaders.{Leader}
+use Rattle.pack_model.specs.reading.Model.{read_pack, read_sights}
+use Rattle.pack_model.specs.reading.Sights.{sights}
+use Rattle.pack_model.specs.reading.Sights.Sight.{hidden}
+use Rattle.pack_model.specs.operations.Step.{Operation, step}
+use Rattle.pack_model.specs.operations.Step.Operation.{drop_file, enter}
+use Rattle.pack_model.specs.showing.View.{seen_of}
+use Rattle.pack_model.specs.states.Whole.{Tidy, Whole}
 use Rattle.pack_laws.proofs.Placing.{leader_of_place, page_of_place}
 use Rattle.laws_record.proofs.DirReads.{not_descriptor}
 use Rattle.laws_record.proofs.Keeping.{get-where}

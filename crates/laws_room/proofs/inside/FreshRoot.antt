@@ -6,15 +6,15 @@ use Rattle.alto_words.specs.Fid.{sys_dir}
 use Rattle.disk_records.specs.Labels.{tag}
 use Rattle.disk_records.specs.Packs.{sector_at}
 use Rattle.disk_records.specs.declared.records.Page.{Page}
-use Rattle.pack_model.specs.Bodies.{described}
-use Rattle.pack_model.specs.Bodies.Body.{items_of}
-use Rattle.pack_model.specs.Files.{file_bytes, leader, leader_at}
-use Rattle.pack_model.specs.Leaders.{Leader, is_readable, leader_of, leader_words}
-use Rattle.pack_model.specs.Links.{dir_words}
-use Rattle.pack_model.specs.Mended.{root_body}
-use Rattle.pack_model.specs.Model.{good_one}
-use Rattle.pack_model.specs.Sights.{Sight, page_sight, sights}
-use Rattle.pack_model.specs.Slots.{slots}
+use Rattle.pack_model.specs.reading.Bodies.{described}
+use Rattle.pack_model.specs.reading.Bodies.Body.{items_of}
+use Rattle.pack_model.specs.reading.Files.{file_bytes, leader, leader_at}
+use Rattle.pack_model.specs.reading.Leaders.{Leader, is_readable, leader_of, leader_words}
+use Rattle.pack_model.specs.hints.Links.{dir_words}
+use Rattle.pack_model.specs.scavenger.Mended.{root_body}
+use Rattle.pack_model.specs.reading.Model.{good_one}
+use Rattle.pack_model.specs.reading.Sights.{Sight, page_sight, sights}
+use Rattle.pack_model.specs.reading.Slots.{slots}
 use Rattle.laws_room.specs.KeepLaws.{FreshLeaderOfTheMainDirectoryKeeps}
 use Rattle.pack_laws.proofs.Firsts.{first_new}
 use Rattle.pack_laws.proofs.Guarding.{free_parts}

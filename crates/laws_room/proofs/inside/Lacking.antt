@@ -5,13 +5,13 @@ use Rattle.std.specs.List.{list_any}
 use Rattle.alto_words.specs.Fid.{fid_cmp, is_fid, is_system, sys_dir}
 use Rattle.alto_words.specs.declared.fid.Fid.{Fid}
 use Rattle.disk_records.specs.declared.shape.Shape.{Shape}
-use Rattle.pack_model.specs.Bodies.{Files}
-use Rattle.pack_model.specs.Leaders.{Leader}
-use Rattle.pack_model.specs.Model.{Model, is_named}
-use Rattle.pack_model.specs.Namings.{Naming, namings, namings_in}
-use Rattle.pack_model.specs.Slots.{Item}
-use Rattle.pack_model.specs.Slots.Item.{entry, space}
-use Rattle.pack_model.specs.View.{Home, homes, names_of, view}
+use Rattle.pack_model.specs.reading.Bodies.{Files}
+use Rattle.pack_model.specs.reading.Leaders.{Leader}
+use Rattle.pack_model.specs.reading.Model.{Model, is_named}
+use Rattle.pack_model.specs.reading.Namings.{Naming, namings, namings_in}
+use Rattle.pack_model.specs.reading.Slots.{Item}
+use Rattle.pack_model.specs.reading.Slots.Item.{entry, space}
+use Rattle.pack_model.specs.showing.View.{Home, homes, names_of, view}
 use Rattle.laws_room.proofs.Standing.{Stands}
 use Rattle.pack_laws.proofs.Keys.{fid_same, fid_total, is_fid-sym, same_fid}
 use Rattle.laws_record.proofs.Around.{around}

@@ -8,11 +8,11 @@ use Rattle.disk_records.specs.Packs.{Pack, after, carried, is_usable, sector_at}
 use Rattle.disk_records.specs.Words.{word}
 use Rattle.disk_records.specs.declared.records.Event.TheVariants.{Wrote}
 use Rattle.disk_records.specs.declared.records.Page.{Page}
-use Rattle.pack_model.specs.Bytes.{bytes_of, words_of}
-use Rattle.pack_model.specs.Files.{file_bytes, joined, most_pages, page, place}
-use Rattle.pack_model.specs.Sights.{Sight, sights}
-use Rattle.pack_model.specs.Sights.Sight.{hidden, holds}
-use Rattle.pack_model.specs.Sound.{mark_clean, mark_of}
+use Rattle.pack_model.specs.reading.Bytes.{bytes_of, words_of}
+use Rattle.pack_model.specs.reading.Files.{file_bytes, joined, most_pages, page, place}
+use Rattle.pack_model.specs.reading.Sights.{Sight, sights}
+use Rattle.pack_model.specs.reading.Sights.Sight.{hidden, holds}
+use Rattle.pack_model.specs.states.Sound.{mark_clean, mark_of}
 use Rattle.laws_room.specs.MarkLaws.{OpenedIsUnmarked, UnmarkedIsUnclean, UnmarkedStays, mark_page}
 use Rattle.pack_laws.proofs.Guarding.{carried_parts, front_from, here_written, other_kept, usable_within}
 use Rattle.pack_laws.proofs.Joining.{Reaches-none, continue, joined_at, most_is, skip}

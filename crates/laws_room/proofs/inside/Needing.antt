@@ -6,17 +6,17 @@ use Rattle.std.specs.Option.{is_some}
 use Rattle.alto_words.specs.Fid.{disk_descriptor, fid_cmp, sys_dir}
 use Rattle.alto_words.specs.declared.fid.Fid.{Fid}
 use Rattle.disk_records.specs.declared.shape.Shape.{Shape}
-use Rattle.pack_model.specs.Bodies.{Body, File, Files, body_length, described, found, is_described, pages_for}
-use Rattle.pack_model.specs.Bodies.Body.{data_of, items_of}
-use Rattle.pack_model.specs.Files.{file_bytes, leader, lives, page}
-use Rattle.pack_model.specs.InUse.{available}
-use Rattle.pack_model.specs.Mended.{HasRoom, mended, needs, root_body, root_file, rooted, with_system}
-use Rattle.pack_model.specs.Model.{descriptor_pages, files_pages, good_sectors}
-use Rattle.pack_model.specs.Namings.{Naming, body_kept, files_kept, is_kept, items_kept, kept_after_body, kept_by}
-use Rattle.pack_model.specs.Needed.{needed}
-use Rattle.pack_model.specs.Sights.{Sight}
-use Rattle.pack_model.specs.Slots.{Item, all_words, item_words}
-use Rattle.pack_model.specs.Slots.Item.{entry, space}
+use Rattle.pack_model.specs.reading.Bodies.{Body, File, Files, body_length, described, found, is_described, pages_for}
+use Rattle.pack_model.specs.reading.Bodies.Body.{data_of, items_of}
+use Rattle.pack_model.specs.reading.Files.{file_bytes, leader, lives, page}
+use Rattle.pack_model.specs.states.InUse.{available}
+use Rattle.pack_model.specs.scavenger.Mended.{HasRoom, mended, needs, root_body, root_file, rooted, with_system}
+use Rattle.pack_model.specs.reading.Model.{descriptor_pages, files_pages, good_sectors}
+use Rattle.pack_model.specs.reading.Namings.{Naming, body_kept, files_kept, is_kept, items_kept, kept_after_body, kept_by}
+use Rattle.pack_model.specs.scavenger.Needed.{needed}
+use Rattle.pack_model.specs.reading.Sights.{Sight}
+use Rattle.pack_model.specs.reading.Slots.{Item, all_words, item_words}
+use Rattle.pack_model.specs.reading.Slots.Item.{entry, space}
 use Rattle.laws_room.proofs.inside.Counting.{available_is}
 use Rattle.laws_room.proofs.inside.Totals.{all_files, without_descriptor}
 use Rattle.pack_laws.proofs.ByLists.{entries-retain_keys}

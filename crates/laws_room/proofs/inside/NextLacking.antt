@@ -4,15 +4,15 @@ use Rattle.std.specs.FinMap.{FinMap, contains_key, entries, find, get, get-entri
 use Rattle.alto_words.specs.Fid.{disk_descriptor, fid_cmp, is_fid, is_system, sys_dir}
 use Rattle.alto_words.specs.declared.fid.Fid.{Fid}
 use Rattle.disk_records.specs.declared.shape.Shape.{Shape}
-use Rattle.pack_model.specs.Bodies.{Files}
-use Rattle.pack_model.specs.Leaders.{Leader}
-use Rattle.pack_model.specs.Maps.{map_values}
-use Rattle.pack_model.specs.Mended.{lacking}
-use Rattle.pack_model.specs.Model.{Model, is_named}
-use Rattle.pack_model.specs.Namings.{descriptor_name, sys_dir_name}
-use Rattle.pack_model.specs.Settling.{chosen, given, given_names, settle, unless}
-use Rattle.pack_model.specs.Slots.{Item}
-use Rattle.pack_model.specs.View.{Home, Seen, View, seen_of, view}
+use Rattle.pack_model.specs.reading.Bodies.{Files}
+use Rattle.pack_model.specs.reading.Leaders.{Leader}
+use Rattle.pack_model.specs.sessions.Maps.{map_values}
+use Rattle.pack_model.specs.scavenger.Mended.{lacking}
+use Rattle.pack_model.specs.reading.Model.{Model, is_named}
+use Rattle.pack_model.specs.reading.Namings.{descriptor_name, sys_dir_name}
+use Rattle.pack_model.specs.showing.Settling.{chosen, given, given_names, settle, unless}
+use Rattle.pack_model.specs.reading.Slots.{Item}
+use Rattle.pack_model.specs.showing.View.{Home, Seen, View, seen_of, view}
 use Rattle.laws_room.proofs.inside.Lacking.{named_now, ordinary_view, system_view}
 use Rattle.laws_room.proofs.Standing.{Stands}
 use Rattle.pack_laws.proofs.Keys.{is_fid-itself}

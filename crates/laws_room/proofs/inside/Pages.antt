@@ -4,10 +4,10 @@ use Rattle.std.proofs.lemmas.Bool.{eqb-false, lt-leb}
 use Rattle.std.specs.Option.{is_some, option_or}
 use Rattle.alto_words.specs.Fid.{is_fid}
 use Rattle.alto_words.specs.declared.fid.Fid.{Fid}
-use Rattle.pack_model.specs.Files.{carries_page, first, numbered, place, place_at}
-use Rattle.pack_model.specs.InUse.{how_many, is_place, of_page, one_if}
-use Rattle.pack_model.specs.Sights.{Sight}
-use Rattle.pack_model.specs.Sights.Sight.{free, hidden, holds, leads, stray}
+use Rattle.pack_model.specs.reading.Files.{carries_page, first, numbered, place, place_at}
+use Rattle.pack_model.specs.states.InUse.{how_many, is_place, of_page, one_if}
+use Rattle.pack_model.specs.reading.Sights.{Sight}
+use Rattle.pack_model.specs.reading.Sights.Sight.{free, hidden, holds, leads, stray}
 use Rattle.laws_room.specs.CountLaws.{placed_pages}
 use Rattle.pack_laws.proofs.Keys.{is_fid-sym, same_fid}
 

@@ -1,5 +1,5 @@
 -- The numbers of a pack.
-use Rattle.pack_model.specs.Sights.{sights}
+use Rattle.pack_model.specs.reading.Sights.{sights}
 use Rattle.laws_room.proofs.inside.Counting.{available_is, in_use_many}
 use Rattle.laws_room.proofs.inside.Needing.{needed_is, room_is}
 use Rattle.laws_room.specs.CountLaws.{CountingTheorem}

@@ -4,18 +4,18 @@ use Rattle.std.specs.FinMap.{entries, find, from_entries, get, get-from_entries,
 use Rattle.alto_words.specs.Fid.{fid_cmp, is_fid, sys_dir}
 use Rattle.alto_words.specs.declared.fid.Fid.{Fid}
 use Rattle.disk_records.specs.Packs.{Pack}
-use Rattle.pack_model.specs.Bodies.{File, Files, described, items_in}
-use Rattle.pack_model.specs.Bytes.{put_at}
-use Rattle.pack_model.specs.Files.{leader, lives}
-use Rattle.pack_model.specs.Leaders.{Leader}
-use Rattle.pack_model.specs.Links.{dir_words}
-use Rattle.pack_model.specs.Mended.{mended, rooted, with_page, with_system}
-use Rattle.pack_model.specs.Model.{root_items}
-use Rattle.pack_model.specs.Namings.{Naming, files_kept, is_kept, items_kept, kept_after, namings_in, tidied}
-use Rattle.pack_model.specs.Rooms.{Room, find_room, placed}
-use Rattle.pack_model.specs.Sights.{sights}
-use Rattle.pack_model.specs.Slots.{Item, all_words, item_words, slots}
-use Rattle.pack_model.specs.Slots.Item.{entry, space}
+use Rattle.pack_model.specs.reading.Bodies.{File, Files, described, items_in}
+use Rattle.pack_model.specs.reading.Bytes.{put_at}
+use Rattle.pack_model.specs.reading.Files.{leader, lives}
+use Rattle.pack_model.specs.reading.Leaders.{Leader}
+use Rattle.pack_model.specs.hints.Links.{dir_words}
+use Rattle.pack_model.specs.scavenger.Mended.{mended, rooted, with_page, with_system}
+use Rattle.pack_model.specs.reading.Model.{root_items}
+use Rattle.pack_model.specs.reading.Namings.{Naming, files_kept, is_kept, items_kept, kept_after, namings_in, tidied}
+use Rattle.pack_model.specs.operations.Rooms.{Room, find_room, placed}
+use Rattle.pack_model.specs.reading.Sights.{sights}
+use Rattle.pack_model.specs.reading.Slots.{Item, all_words, item_words, slots}
+use Rattle.pack_model.specs.reading.Slots.Item.{entry, space}
 use Rattle.laws_room.proofs.inside.Balancing.{mended_keeps}
 use Rattle.laws_room.proofs.inside.DirRooted.{dir_leader, files, living, mended_now, rooted_was, same_count, turned_stay, zeros}
 use Rattle.laws_room.proofs.inside.Needing.{items_words}

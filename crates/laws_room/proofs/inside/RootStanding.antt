@@ -8,12 +8,12 @@ use Rattle.alto_words.specs.Fid.{disk_descriptor, is_fid, sys_dir}
 use Rattle.alto_words.specs.declared.fid.Fid.{Fid}
 use Rattle.disk_records.specs.Packs.{Pack, carried, is_usable, sector_at}
 use Rattle.disk_records.specs.declared.records.Page.{Page}
-use Rattle.pack_model.specs.Files.{file_bytes, leader}
-use Rattle.pack_model.specs.InUse.{counts, is_within}
-use Rattle.pack_model.specs.Leaders.{Leader}
-use Rattle.pack_model.specs.Scavenging.{RootStands, root_stands}
-use Rattle.pack_model.specs.Sights.{page_sight, sights}
-use Rattle.pack_model.specs.Sights.Sight.{hidden}
+use Rattle.pack_model.specs.reading.Files.{file_bytes, leader}
+use Rattle.pack_model.specs.states.InUse.{counts, is_within}
+use Rattle.pack_model.specs.reading.Leaders.{Leader}
+use Rattle.pack_model.specs.scavenger.Scavenging.{RootStands, root_stands}
+use Rattle.pack_model.specs.reading.Sights.{page_sight, sights}
+use Rattle.pack_model.specs.reading.Sights.Sight.{hidden}
 use Rattle.laws_room.specs.KeepLaws.{RootMay}
 use Rattle.laws_room.specs.KeepLaws.RootMay.{as_before, its_leader, made_free}
 use Rattle.pack_laws.proofs.Keys.{same_fid}

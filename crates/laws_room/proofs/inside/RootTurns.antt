@@ -5,16 +5,16 @@ use Rattle.std.specs.List.{list_any}
 use Rattle.alto_words.specs.Fid.{disk_descriptor, is_fid, sys_dir}
 use Rattle.alto_words.specs.declared.fid.Fid.{Fid}
 use Rattle.disk_records.specs.Packs.{Pack}
-use Rattle.pack_model.specs.Bodies.{Files}
-use Rattle.pack_model.specs.Mended.{lacking, mended, needs, with_page}
-use Rattle.pack_model.specs.Model.{Model, descriptor_words, good_sectors, last_serial}
-use Rattle.pack_model.specs.Namings.{Naming, descriptor_name, namings, namings_in, sys_dir_name}
-use Rattle.pack_model.specs.Rooms.{placed}
-use Rattle.pack_model.specs.Settling.{given_names, settle, unless}
-use Rattle.pack_model.specs.Sights.{sights}
-use Rattle.pack_model.specs.Slots.{Item, all_words, item_words}
-use Rattle.pack_model.specs.Slots.Item.{entry, space}
-use Rattle.pack_model.specs.View.{View, view}
+use Rattle.pack_model.specs.reading.Bodies.{Files}
+use Rattle.pack_model.specs.scavenger.Mended.{lacking, mended, needs, with_page}
+use Rattle.pack_model.specs.reading.Model.{Model, descriptor_words, good_sectors, last_serial}
+use Rattle.pack_model.specs.reading.Namings.{Naming, descriptor_name, namings, namings_in, sys_dir_name}
+use Rattle.pack_model.specs.operations.Rooms.{placed}
+use Rattle.pack_model.specs.showing.Settling.{given_names, settle, unless}
+use Rattle.pack_model.specs.reading.Sights.{sights}
+use Rattle.pack_model.specs.reading.Slots.{Item, all_words, item_words}
+use Rattle.pack_model.specs.reading.Slots.Item.{entry, space}
+use Rattle.pack_model.specs.showing.View.{View, view}
 use Rattle.laws_room.proofs.inside.Balancing.{needs_files, needs_keep}
 use Rattle.laws_room.proofs.inside.DirRooted.{zeros}
 use Rattle.laws_room.proofs.inside.Lacking.{same_namings}

@@ -3,8 +3,8 @@ use Rattle.std.proofs.Common.{◌∙◌, ◌≡◌, Bool, Some, ap, cond, false,
 use Rattle.std.specs.FinMap.{get, get-insert, insert, same_map}
 use Rattle.alto_words.specs.Fid.{is_fid, sys_dir}
 use Rattle.alto_words.specs.declared.fid.Fid.{Fid}
-use Rattle.pack_model.specs.Bodies.{File, Files}
-use Rattle.pack_model.specs.Mended.{root_body, root_file, rooted}
+use Rattle.pack_model.specs.reading.Bodies.{File, Files}
+use Rattle.pack_model.specs.scavenger.Mended.{root_body, root_file, rooted}
 use Rattle.pack_laws.proofs.Keys.{fid_same, fid_total, is_fid-sym, same_fid}
 
 -- SysDir's leader is left out

@@ -9,17 +9,17 @@ use Rattle.std.specs.Option.{is_some}
 use Rattle.alto_words.specs.Fid.{disk_descriptor, is_fid, sys_dir}
 use Rattle.alto_words.specs.declared.fid.Fid.{Fid}
 use Rattle.disk_records.specs.declared.shape.Shape.{Shape}
-use Rattle.pack_model.specs.Bodies.{File, Files, described, items_in}
-use Rattle.pack_model.specs.Files.{file_bytes, leader, leader_at, lives}
-use Rattle.pack_model.specs.Leaders.{Leader}
-use Rattle.pack_model.specs.Mended.{HasRoom, lacking, mended, needs, root_body, root_file, rooted, widens, with_system}
-use Rattle.pack_model.specs.Model.{Model, descriptor_pages, files_pages, read_sights, root_items}
-use Rattle.pack_model.specs.Namings.{namings, tidied}
-use Rattle.pack_model.specs.Scavenging.{root_stands}
-use Rattle.pack_model.specs.Sights.{Sight, sights}
-use Rattle.pack_model.specs.Sights.Sight.{hidden, leads}
-use Rattle.pack_model.specs.Slots.{Item}
-use Rattle.pack_model.specs.View.{view}
+use Rattle.pack_model.specs.reading.Bodies.{File, Files, described, items_in}
+use Rattle.pack_model.specs.reading.Files.{file_bytes, leader, leader_at, lives}
+use Rattle.pack_model.specs.reading.Leaders.{Leader}
+use Rattle.pack_model.specs.scavenger.Mended.{HasRoom, lacking, mended, needs, root_body, root_file, rooted, widens, with_system}
+use Rattle.pack_model.specs.reading.Model.{Model, descriptor_pages, files_pages, read_sights, root_items}
+use Rattle.pack_model.specs.reading.Namings.{namings, tidied}
+use Rattle.pack_model.specs.scavenger.Scavenging.{root_stands}
+use Rattle.pack_model.specs.reading.Sights.{Sight, sights}
+use Rattle.pack_model.specs.reading.Sights.Sight.{hidden, leads}
+use Rattle.pack_model.specs.reading.Slots.{Item}
+use Rattle.pack_model.specs.showing.View.{view}
 use Rattle.laws_room.proofs.inside.DirRooted.{zeros}
 use Rattle.laws_room.proofs.inside.Needing.{pages_around}
 use Rattle.laws_room.proofs.inside.Rooming.{counting_theorem}

@@ -7,16 +7,16 @@ use Rattle.alto_words.specs.Fid.{disk_descriptor, fid_cmp, is_directory, is_fid}
 use Rattle.alto_words.specs.declared.fid.Fid.{Fid}
 use Rattle.disk_records.specs.Addresses.{descriptor_length}
 use Rattle.disk_records.specs.declared.shape.Shape.{Shape}
-use Rattle.pack_model.specs.Bodies.{Body, File, body_length, body_of, found, is_described, pages_for}
-use Rattle.pack_model.specs.Bodies.Body.{data_of, items_of}
-use Rattle.pack_model.specs.Bytes.{words_of}
-use Rattle.pack_model.specs.Files.{file_bytes, leader, most_pages, page, place}
-use Rattle.pack_model.specs.InUse.{last_page, one_if}
-use Rattle.pack_model.specs.Leaders.{Leader}
-use Rattle.pack_model.specs.Model.{descriptor_pages, files_pages}
-use Rattle.pack_model.specs.Needed.{file_lacks, files_lack, missing}
-use Rattle.pack_model.specs.Sights.{Sight}
-use Rattle.pack_model.specs.Slots.{slots}
+use Rattle.pack_model.specs.reading.Bodies.{Body, File, body_length, body_of, found, is_described, pages_for}
+use Rattle.pack_model.specs.reading.Bodies.Body.{data_of, items_of}
+use Rattle.pack_model.specs.reading.Bytes.{words_of}
+use Rattle.pack_model.specs.reading.Files.{file_bytes, leader, most_pages, page, place}
+use Rattle.pack_model.specs.states.InUse.{last_page, one_if}
+use Rattle.pack_model.specs.reading.Leaders.{Leader}
+use Rattle.pack_model.specs.reading.Model.{descriptor_pages, files_pages}
+use Rattle.pack_model.specs.scavenger.Needed.{file_lacks, files_lack, missing}
+use Rattle.pack_model.specs.reading.Sights.{Sight}
+use Rattle.pack_model.specs.reading.Slots.{slots}
 use Rattle.laws_room.specs.CountLaws.{placed_all, placed_pages}
 use Rattle.pack_laws.proofs.Bytes.{length-words_of}
 use Rattle.pack_laws.proofs.Joining.{AreShort}

@@ -5,14 +5,14 @@ use Rattle.std.specs.Option.{is_some, option_map}
 use Rattle.alto_words.specs.Fid.{disk_descriptor, is_fid}
 use Rattle.alto_words.specs.declared.fid.Fid.{Fid}
 use Rattle.disk_records.specs.Packs.{Pack}
-use Rattle.pack_model.specs.Bodies.{File, found}
-use Rattle.pack_model.specs.Files.{carries_page, file_bytes, leader, numbered}
-use Rattle.pack_model.specs.InUse.{available, free_sectors, how_many, in_use, is_available, is_free_sight, is_good, one_if}
-use Rattle.pack_model.specs.Leaders.{Leader}
-use Rattle.pack_model.specs.Needed.{file_lacks, files_lack, missing, page_lacks}
-use Rattle.pack_model.specs.Sights.{Sight, sights}
-use Rattle.pack_model.specs.Sights.Sight.{free, hidden, holds, leads, stray}
-use Rattle.pack_model.specs.Whole.{Whole}
+use Rattle.pack_model.specs.reading.Bodies.{File, found}
+use Rattle.pack_model.specs.reading.Files.{carries_page, file_bytes, leader, numbered}
+use Rattle.pack_model.specs.states.InUse.{available, free_sectors, how_many, in_use, is_available, is_free_sight, is_good, one_if}
+use Rattle.pack_model.specs.reading.Leaders.{Leader}
+use Rattle.pack_model.specs.scavenger.Needed.{file_lacks, files_lack, missing, page_lacks}
+use Rattle.pack_model.specs.reading.Sights.{Sight, sights}
+use Rattle.pack_model.specs.reading.Sights.Sight.{free, hidden, holds, leads, stray}
+use Rattle.pack_model.specs.states.Whole.{Whole}
 use Rattle.pack_laws.proofs.Keys.{is_fid-itself}
 use Rattle.pack_laws.proofs.Placing.{carries-holds}
 use Rattle.laws_record.proofs.Reading.{get-found, read_file}

@@ -2,8 +2,8 @@
 use Rattle.std.proofs.Common.{◌≡◌, ℕ, ◌+◌, ◌≤◌, List, [], ◌∷◌, ◌++◌, length, drop, refl, sym, ◌∙◌, ap, arith, Bool, true, false, cond, append_assoc, length-append, length-drop, sum_by, ◌&&◌}
 use Rattle.std.proofs.lemmas.List.{append-nil}
 use Rattle.std.proofs.lemmas.List.Sums.{sum_by-append, sum_by-cons}
-use Rattle.pack_model.specs.Moves.{IsStartOf}
-use Rattle.pack_model.specs.Turns.{Turn, ops_of, texts_of, is_whole, acknowledged}
+use Rattle.pack_model.specs.sessions.Moves.{IsStartOf}
+use Rattle.pack_model.specs.sessions.Turns.{Turn, ops_of, texts_of, is_whole, acknowledged}
 use Rattle.pack_laws.specs.TurnLaws.{acknowledged_moves}
 use Rattle.pack_laws.proofs.Moving.{start_after}
 

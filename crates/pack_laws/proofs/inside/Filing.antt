@@ -5,11 +5,11 @@ use Rattle.std.specs.FinMap.{get}
 use Rattle.alto_words.specs.declared.fid.Fid.{Fid}
 use Rattle.disk_records.specs.declared.records.Page.{Page}
 use Rattle.disk_records.specs.Packs.{Pack, carried}
-use Rattle.pack_model.specs.Leaders.{Leader}
-use Rattle.pack_model.specs.Sights.{Sight, sights}
-use Rattle.pack_model.specs.Sights.Sight.{hidden}
-use Rattle.pack_model.specs.Files.{carries_page, file_bytes, leader, leader_at, page_at, place}
-use Rattle.pack_model.specs.Stored.{StoredFile, stored_file, stored_files}
+use Rattle.pack_model.specs.reading.Leaders.{Leader}
+use Rattle.pack_model.specs.reading.Sights.{Sight, sights}
+use Rattle.pack_model.specs.reading.Sights.Sight.{hidden}
+use Rattle.pack_model.specs.reading.Files.{carries_page, file_bytes, leader, leader_at, page_at, place}
+use Rattle.pack_model.specs.reading.Stored.{StoredFile, stored_file, stored_files}
 use Rattle.pack_laws.specs.FileLaws.{CarriesLowest, FilesAreBorne, IsStoredFile, PlaceIsLowest}
 use Rattle.pack_laws.proofs.Firsts.{first_is_borne}
 use Rattle.pack_laws.proofs.Sighted.{length-sights}

@@ -7,8 +7,8 @@ use Rattle.disk_records.specs.declared.records.Event.TheVariants.{Wrote}
 use Rattle.disk_records.specs.Commands.{ones, relabel_writes, release_writes, value_writes}
 use Rattle.disk_records.specs.Labels.{Tag, is_free, page_of, tag}
 use Rattle.disk_records.specs.Packs.{Pack, after, carried, cut, is_free_at, is_usable, sector_at, with_part}
-use Rattle.pack_model.specs.Sights.{Sight, sights, tag_sight}
-use Rattle.pack_model.specs.Sights.Sight.{free}
+use Rattle.pack_model.specs.reading.Sights.{Sight, sights, tag_sight}
+use Rattle.pack_model.specs.reading.Sights.Sight.{free}
 use Rattle.pack_laws.specs.GuardLaws.{ChangesOne, HoldsPage, LooksSame, TakesAtTheLabel, released, with_words}
 use Rattle.pack_laws.proofs.Sighted.{sights-write, sights_same}
 use Rattle.pack_laws.proofs.Guarding.{carried_parts, free_on, free_parts, free_shown, free_unnamed, front_from, here_written, named_shown, named_taken, ones_free, other_kept, page_on, usable_shown, usable_within, value_page}

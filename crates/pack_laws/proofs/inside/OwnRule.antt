@@ -8,23 +8,23 @@ use Rattle.disk_records.specs.declared.shape.Shape.{Shape}
 use Rattle.disk_records.specs.declared.records.Sector.{Sector}
 use Rattle.disk_records.specs.Labels.{tag, in_range, is_free}
 use Rattle.disk_records.specs.Packs.{Pack, is_usable}
-use Rattle.pack_model.specs.Bytes.{words_of}
-use Rattle.pack_model.specs.Leaders.{leader_of, leader_name, is_readable}
-use Rattle.pack_model.specs.Sights.Sight.{hidden, free, stray}
-use Rattle.pack_model.specs.Sights.{Sight, sight, sights_from, sights, page_sight}
-use Rattle.pack_model.specs.Slots.{Item, is_entry, slot_of, slot_at, slots_after, and_then, Reads}
-use Rattle.pack_model.specs.Slots.Reads.{none as no_more, next as one_more}
-use Rattle.pack_model.specs.Files.{lives, file_bytes}
-use Rattle.pack_model.specs.Stored.{StoredFile, files_shown}
-use Rattle.pack_model.specs.Maps.{map_values}
-use Rattle.pack_model.specs.Bodies.{file_of, found, described, is_described}
-use Rattle.pack_model.specs.Bodies.Body.{data_of, items_of}
-use Rattle.pack_model.specs.Model.{IsNamed, good_sectors, last_serial, descriptor_words, read_sights, read_pack}
-use Rattle.pack_model.specs.Namings.{IsTidy, tidied}
-use Rattle.pack_model.specs.Whole.{WholeSights, TidySights}
-use Rattle.pack_model.specs.Sound.{Sound}
-use Rattle.pack_model.specs.OtherNames.{page_sight_by, sight_by, sights_from_by, sights_by, slot_of_by, slot_at_by, slots_after_by, ReadsBy, file_by, described_by, read_sights_by, read_by, WholeSightsBy, SoundBy}
-use Rattle.pack_model.specs.OtherNames.ReadsBy.{none, next}
+use Rattle.pack_model.specs.reading.Bytes.{words_of}
+use Rattle.pack_model.specs.reading.Leaders.{leader_of, leader_name, is_readable}
+use Rattle.pack_model.specs.reading.Sights.Sight.{hidden, free, stray}
+use Rattle.pack_model.specs.reading.Sights.{Sight, sight, sights_from, sights, page_sight}
+use Rattle.pack_model.specs.reading.Slots.{Item, is_entry, slot_of, slot_at, slots_after, and_then, Reads}
+use Rattle.pack_model.specs.reading.Slots.Reads.{none as no_more, next as one_more}
+use Rattle.pack_model.specs.reading.Files.{lives, file_bytes}
+use Rattle.pack_model.specs.reading.Stored.{StoredFile, files_shown}
+use Rattle.pack_model.specs.sessions.Maps.{map_values}
+use Rattle.pack_model.specs.reading.Bodies.{file_of, found, described, is_described}
+use Rattle.pack_model.specs.reading.Bodies.Body.{data_of, items_of}
+use Rattle.pack_model.specs.reading.Model.{IsNamed, good_sectors, last_serial, descriptor_words, read_sights, read_pack}
+use Rattle.pack_model.specs.reading.Namings.{IsTidy, tidied}
+use Rattle.pack_model.specs.states.Whole.{WholeSights, TidySights}
+use Rattle.pack_model.specs.states.Sound.{Sound}
+use Rattle.pack_model.specs.reading.OtherNames.{page_sight_by, sight_by, sights_from_by, sights_by, slot_of_by, slot_at_by, slots_after_by, ReadsBy, file_by, described_by, read_sights_by, read_by, WholeSightsBy, SoundBy}
+use Rattle.pack_model.specs.reading.OtherNames.ReadsBy.{none, next}
 use Rattle.pack_laws.specs.NameLaws.{OwnRule}
 
 -- ---- what sectors show

@@ -1,9 +1,9 @@
 -- The place of a page, among numbered sectors.
 use Rattle.std.proofs.Common.{◌≡◌, ℕ, zero, suc, ◌+◌, ◌<◌, Bool, true, false, cond, List, [], ◌∷◌, length, get_or, set, Some, None, refl, sym, ap, subst, ◌∙◌, arith}
 use Rattle.alto_words.specs.declared.fid.Fid.{Fid}
-use Rattle.pack_model.specs.Sights.{Sight}
-use Rattle.pack_model.specs.Sights.Sight.{hidden}
-use Rattle.pack_model.specs.Files.{first, Bears, numbered, carries_page, place_at, place}
+use Rattle.pack_model.specs.reading.Sights.{Sight}
+use Rattle.pack_model.specs.reading.Sights.Sight.{hidden}
+use Rattle.pack_model.specs.reading.Files.{first, Bears, numbered, carries_page, place_at, place}
 use Rattle.pack_laws.proofs.Firsts.{first_of_bears, bears_of_first, first_same, none_each}
 
 -- ---- which sectors carry a page

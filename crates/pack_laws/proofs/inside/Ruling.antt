@@ -7,8 +7,8 @@ use Rattle.disk_records.specs.declared.records.Event.{Event}
 use Rattle.disk_records.specs.declared.records.Event.TheVariants.{Wrote, Shown}
 use Rattle.disk_records.specs.Events.{shown_events, writes_in}
 use Rattle.disk_records.specs.Packs.{Pack, after, cut}
-use Rattle.pack_model.specs.Moves.{Meaning, Obeys, rest, write}
-use Rattle.pack_model.specs.Turns.{Turn, ops_of, Talks, begun, spoken, ruler}
+use Rattle.pack_model.specs.sessions.Moves.{Meaning, Obeys, rest, write}
+use Rattle.pack_model.specs.sessions.Turns.{Turn, ops_of, Talks, begun, spoken, ruler}
 use Rattle.pack_laws.specs.Made.{AllMade}
 use Rattle.pack_laws.specs.TurnLaws.{RisesByMove}
 use Rattle.pack_laws.proofs.Talking.{talks_writes}

@@ -12,20 +12,20 @@ use Rattle.disk_records.specs.declared.records.Sector.{Sector}
 use Rattle.disk_records.specs.Labels.{tag, in_range, is_free}
 use Rattle.disk_records.specs.Packs.{Pack, is_usable}
 use Rattle.disk_records.specs.Words.{word, double}
-use Rattle.pack_model.specs.Bytes.{words_of}
-use Rattle.pack_model.specs.Leaders.{Leader, name_bytes, spelled_name, leader_words}
-use Rattle.pack_model.specs.Sights.{Sight}
-use Rattle.pack_model.specs.Sights.Sight.{hidden, free, stray, leads}
-use Rattle.pack_model.specs.Files.{leader, lives, file_bytes}
-use Rattle.pack_model.specs.Stored.{stored_file, files_shown}
-use Rattle.pack_model.specs.Maps.{map_values}
-use Rattle.pack_model.specs.Bodies.{Body, is_described}
-use Rattle.pack_model.specs.Bodies.Body.{data_of, items_of}
-use Rattle.pack_model.specs.Namings.{IsTidy, tidied}
-use Rattle.pack_model.specs.Model.{IsNamed, good_sectors, last_serial, descriptor_words}
-use Rattle.pack_model.specs.Whole.{FileWhole}
-use Rattle.pack_model.specs.Whole.FileWhole.{absent, present}
-use Rattle.pack_model.specs.OtherNames.{Rule, is_readable_by, leader_by, page_sight_by, sight_by, sights_from_by, sights_by, slots_by, SlotsReachEndBy, file_by, described_by, read_sights_by, read_by, WholeSightsBy, SoundBy}
+use Rattle.pack_model.specs.reading.Bytes.{words_of}
+use Rattle.pack_model.specs.reading.Leaders.{Leader, name_bytes, spelled_name, leader_words}
+use Rattle.pack_model.specs.reading.Sights.{Sight}
+use Rattle.pack_model.specs.reading.Sights.Sight.{hidden, free, stray, leads}
+use Rattle.pack_model.specs.reading.Files.{leader, lives, file_bytes}
+use Rattle.pack_model.specs.reading.Stored.{stored_file, files_shown}
+use Rattle.pack_model.specs.sessions.Maps.{map_values}
+use Rattle.pack_model.specs.reading.Bodies.{Body, is_described}
+use Rattle.pack_model.specs.reading.Bodies.Body.{data_of, items_of}
+use Rattle.pack_model.specs.reading.Namings.{IsTidy, tidied}
+use Rattle.pack_model.specs.reading.Model.{IsNamed, good_sectors, last_serial, descriptor_words}
+use Rattle.pack_model.specs.states.Whole.{FileWhole}
+use Rattle.pack_model.specs.states.Whole.FileWhole.{absent, present}
+use Rattle.pack_model.specs.reading.OtherNames.{Rule, is_readable_by, leader_by, page_sight_by, sight_by, sights_from_by, sights_by, slots_by, SlotsReachEndBy, file_by, described_by, read_sights_by, read_by, WholeSightsBy, SoundBy}
 use Rattle.pack_laws.proofs.Keys.{fid_total, fid_same}
 use Rattle.pack_laws.proofs.Mapping.{get-map_values}
 use Rattle.pack_laws.proofs.inside.SlotsByRule.{slots_of_reads, reads_too}

@@ -4,7 +4,7 @@ use Rattle.pack_laws.proofs.Moving.{does_first, obeys_cut, obeys_then, then_does
 use Rattle.pack_laws.proofs.inside.Ruling.{ruler_next, ruler_rises, ruler_shown, ruler_start, ruler_whole, ruler_wrote, talks_makes}
 use Rattle.pack_laws.proofs.Talking.{talks_acknowledged, talks_cut, talks_join}
 use Rattle.pack_laws.specs.TurnLaws.{AcknowledgedAreDone, CallsJoin, CutOfRun, CutOfTurns, FaultsLeaveAFirstPart, RulerLaws, RunsJoin, TurnsJoin, WritesAreMade}
-use Rattle.pack_model.specs.Moves.{Meaning}
+use Rattle.pack_model.specs.sessions.Moves.{Meaning}
 
 pub runs_join : {M O : Type 0} (means : Meaning M O) → RunsJoin means
 runs_join means = λ m p a b ops more first next. obeys_then means first next

@@ -2,7 +2,7 @@ use Rattle.std.specs.Iterator.Adapters.{rev_source}
 use Rattle.std.specs.Slice.Iter.{iter_rest}
 use Rattle.std.specs.BTreeMap.{get}
 use Rattle.alto_words.specs.Fid.{fid_cmp}
-use Rattle.pack_model.specs.View.{View}
+use Rattle.pack_model.specs.showing.View.{View}
 use Rattle.alto_top.specs.Looking.{Knows}
 use Rattle.alto_top.proofs.Rows.{Listing}
 use Rattle.alto_top.proofs.listing.lines_of.Given as goal

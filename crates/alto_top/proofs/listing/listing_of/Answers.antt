@@ -2,7 +2,7 @@ use Rattle.std.proofs.Common.{◌≡◌, ◌++◌, map, length, sym, ap, ◌∙�
 use Rattle.std.specs.List.{flat_map}
 use Rattle.std.specs.BTreeMap.{get}
 use Rattle.alto_words.specs.Fid.{fid_cmp}
-use Rattle.pack_model.specs.Listing.{listed_cmp, in_order}
+use Rattle.pack_model.specs.showing.Listing.{listed_cmp, in_order}
 use Rattle.alto_top.specs.Looking.{first_of, Knows, listed_in}
 use Rattle.alto_top.specs.Showing.{line_text, count_text}
 use Rattle.alto_top.proofs.Looking.{knows}

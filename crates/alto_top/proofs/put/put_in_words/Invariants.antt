@@ -1,5 +1,5 @@
 use Rattle.std.proofs.Common.{◌≡◌, take}
-use Rattle.pack_model.specs.Bytes.{bytes_of, put_at}
+use Rattle.pack_model.specs.reading.Bytes.{bytes_of, put_at}
 use Rattle.alto_top.proofs.put.put_in_words.Given as goal
 
 abbrev pub invariant-loop-i : goal.invariant-loop-i

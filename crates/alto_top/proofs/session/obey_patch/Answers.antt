@@ -2,11 +2,11 @@ use Rattle.std.proofs.Common.{◌≡◌, length, true, false, sym, ◌∙◌, ap
 use Rattle.std.specs.Prelude.{IfOk, ◌&&◌}
 use Rattle.disk_records.specs.Tapes.{pack, added}
 use Rattle.disk_records.proofs.Growing.{alone_twice, pack-silent, silent_twice}
-use Rattle.pack_model.specs.Sights.{sights}
-use Rattle.pack_model.specs.Files.{file_bytes}
-use Rattle.pack_model.specs.Stored.{stored_files, file_of_serial}
-use Rattle.pack_model.specs.Moves.{Does}
-use Rattle.pack_model.specs.Puts.{putting}
+use Rattle.pack_model.specs.reading.Sights.{sights}
+use Rattle.pack_model.specs.reading.Files.{file_bytes}
+use Rattle.pack_model.specs.reading.Stored.{stored_files, file_of_serial}
+use Rattle.pack_model.specs.sessions.Moves.{Does}
+use Rattle.pack_model.specs.operations.Puts.{putting}
 use Rattle.alto_top.specs.Patches.{is_patched, lie_in_one_page, puts_on, puts_at, reply_within}
 use Rattle.alto_top.proofs.Obeying.{gave_up, silent_does, does_later, none_found, file_found, found_reply, found_puts, no_puts, not_both, not_other}
 use Rattle.alto_top.proofs.session.obey_patch.Goals as goal

@@ -1,7 +1,7 @@
 use Rattle.std.proofs.Common.{◌≡◌, length, sym, ◌∙◌, ap, arith, eqb-true}
 use Rattle.disk_records.specs.Tapes.{pack}
-use Rattle.pack_model.specs.Sights.{sights}
-use Rattle.pack_model.specs.Files.{file_bytes}
+use Rattle.pack_model.specs.reading.Sights.{sights}
+use Rattle.pack_model.specs.reading.Files.{file_bytes}
 use Rattle.alto_top.specs.declared.reply.Reply.TheVariants.{Beyond}
 use Rattle.alto_top.proofs.KeptPages.{kept_length}
 use Rattle.alto_top.proofs.WithinLength.{no_bytes, done_within, reply_beyond, reply_done, beyond_does, empty_does, bytes_does}

@@ -1,7 +1,7 @@
 use Rattle.std.proofs.Common.{◌<◌, ◌≤◌, ◌+◌, length, Ok, All, sym, ◌∙◌, ap, subst, arith, rules}
 use Rattle.disk_records.specs.Tapes.{pack}
-use Rattle.pack_model.specs.Sights.{sights}
-use Rattle.pack_model.specs.Files.{file_bytes}
+use Rattle.pack_model.specs.reading.Sights.{sights}
+use Rattle.pack_model.specs.reading.Files.{file_bytes}
 use Rattle.alto_top.proofs.Counting.{byte_kept}
 use Rattle.alto_top.proofs.KeptPages.{kept_number, kept_length}
 use Rattle.alto_top.proofs.Patching.{some_bytes, put_made, never_wrong}

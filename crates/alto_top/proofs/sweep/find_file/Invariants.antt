@@ -2,7 +2,7 @@ use Rattle.std.proofs.Common.{◌≡◌, ◌+◌, ◌≤◌, [], None, take, IsT
 use Rattle.std.specs.Prelude.{fold}
 use Rattle.disk_records.specs.Addresses.{pages_of}
 use Rattle.disk_records.specs.Tapes.{DiskAlone, pack, added}
-use Rattle.pack_model.specs.Sights.{sights}
+use Rattle.pack_model.specs.reading.Sights.{sights}
 use Rattle.pack_laws.specs.Least.{least_shown}
 use Rattle.alto_top.proofs.sweep.find_file.Given as goal
 

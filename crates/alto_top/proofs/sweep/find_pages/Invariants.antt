@@ -1,8 +1,8 @@
 use Rattle.std.proofs.Common.{◌≡◌, ℕ, suc, ◌+◌, ◌≤◌, [], take, IsTrue}
 use Rattle.disk_records.specs.Addresses.{pages_of}
 use Rattle.disk_records.specs.Tapes.{DiskAlone, pack, added}
-use Rattle.pack_model.specs.Sights.{sights}
-use Rattle.pack_model.specs.Files.{first, numbered}
+use Rattle.pack_model.specs.reading.Sights.{sights}
+use Rattle.pack_model.specs.reading.Files.{first, numbered}
 use Rattle.alto_top.specs.Sweeps.{held_at, kept_page, AreWithin}
 use Rattle.alto_top.proofs.sweep.find_pages.Given as goal
 

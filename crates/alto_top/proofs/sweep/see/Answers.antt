@@ -1,5 +1,5 @@
 use Rattle.std.proofs.Common.{◌≡◌, sym, ◌∙◌, ap, length}
-use Rattle.pack_model.specs.Sights.{sight}
+use Rattle.pack_model.specs.reading.Sights.{sight}
 use Rattle.alto_top.specs.Sweeps.{seen_of}
 use Rattle.alto_top.proofs.Seeing.{sees, sees_nothing}
 use Rattle.alto_top.proofs.sweep.see.Goals as goal

@@ -1,8 +1,8 @@
 use Rattle.std.proofs.Common.{◌≡◌, ◌%◌, take, Some, sym, ap, ◌∙◌, arith, inl, inr}
 use Rattle.std.specs.Option.{option_map}
 use Rattle.std.proofs.lemmas.List.{length-take, take-take}
-use Rattle.pack_model.specs.Slots.{first_length}
-use Rattle.pack_model.specs.Slots.Item.{space}
+use Rattle.pack_model.specs.reading.Slots.{first_length}
+use Rattle.pack_model.specs.reading.Slots.Item.{space}
 use Rattle.dir_slots.specs.Inside.{entry_of}
 use Rattle.dir_slots.specs.Items.{item_of}
 use Rattle.dir_slots.proofs.Entries.{entry_of-long}

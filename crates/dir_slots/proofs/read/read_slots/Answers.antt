@@ -1,8 +1,8 @@
 use Rattle.std.proofs.Common.{◌≡◌, length, drop, Some, None, sym, ap, ◌∙◌, refl, arith, rules}
 use Rattle.std.proofs.lemmas.List.{take_rest, length-drop}
 use Rattle.std.proofs.lemmas.List.Elements.{All-push, All-weaker}
-use Rattle.pack_model.specs.Slots.{slot_at, all_words}
-use Rattle.pack_model.specs.SlotWords.{address_at}
+use Rattle.pack_model.specs.reading.Slots.{slot_at, all_words}
+use Rattle.pack_model.specs.reading.SlotWords.{address_at}
 use Rattle.dir_slots.specs.Items.{item_of, address_of, IsInRange, HasFreeLength}
 use Rattle.dir_slots.specs.Laws.{HasStoredName}
 use Rattle.dir_slots.proofs.Heads.{free_in_range}

@@ -1,5 +1,5 @@
 use Rattle.std.proofs.Common.{◌≡◌, ◌≤◌, ◌-◌, ◌++◌, length, drop, map, All}
-use Rattle.pack_model.specs.Slots.{slots, all_words}
+use Rattle.pack_model.specs.reading.Slots.{slots, all_words}
 use Rattle.dir_slots.specs.Items.{items_of, address_of, addresses_in, IsInRange}
 use Rattle.dir_slots.specs.Laws.{HasStoredName}
 use Rattle.dir_slots.proofs.Slots.{addresses_from}

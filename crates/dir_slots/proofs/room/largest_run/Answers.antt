@@ -1,5 +1,5 @@
 use Rattle.std.proofs.Common.{◌≡◌, ◌+◌, ap, sym, ◌∙◌, arith, subst, max}
-use Rattle.pack_model.specs.Slots.{item_words}
+use Rattle.pack_model.specs.reading.Slots.{item_words}
 use Rattle.dir_slots.specs.Items.{item_of}
 use Rattle.dir_slots.proofs.Runs.{Running, next_run, running_none, running_more, running_all, take_words, words_within}
 use Rattle.dir_slots.proofs.room.largest_run.Goals as goal

@@ -1,6 +1,6 @@
 use Rattle.std.proofs.Common.{◌≡◌, ◌+◌, ◌/◌, ◌++◌, length, take, ap, ◌∙◌, arith}
 use Rattle.std.proofs.lemmas.List.{length-take}
-use Rattle.pack_model.specs.SlotWords.{short_name_words}
+use Rattle.pack_model.specs.reading.SlotWords.{short_name_words}
 use Rattle.alto_words.proofs.Versions.{is_stored_name-fits}
 use Rattle.dir_slots.proofs.NameWords.{name_words-short}
 use Rattle.dir_slots.proofs.write.push_name.Goals as goal

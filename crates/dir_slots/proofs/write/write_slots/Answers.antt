@@ -1,5 +1,5 @@
 use Rattle.std.proofs.Common.{length, ap, ◌∙◌}
-use Rattle.pack_model.specs.Slots.{slots as items_in}
+use Rattle.pack_model.specs.reading.Slots.{slots as items_in}
 use Rattle.dir_slots.specs.Items.{addresses_in}
 use Rattle.dir_slots.proofs.Writing.{words_more, stored_more, written_back}
 use Rattle.dir_slots.proofs.write.write_slots.Goals as goal

@@ -3,15 +3,15 @@ use Rattle.std.proofs.Common.{List, [], inl, inr, subst, sym, ◌∷◌, ◌≡�
 use Rattle.disk_records.specs.Packs.{Pack, after}
 use Rattle.disk_records.specs.declared.records.Event.{Event}
 use Rattle.disk_records.specs.declared.records.Event.TheVariants.{Wrote}
-use Rattle.pack_model.specs.Entering.{entry_value, values_first}
-use Rattle.pack_model.specs.Meanings.{Mendable, reading}
-use Rattle.pack_model.specs.Model.{Model, read_pack}
-use Rattle.pack_model.specs.Moves.{Obeys, rest, write}
-use Rattle.pack_model.specs.Operations.{Move, enter_writes}
-use Rattle.pack_model.specs.Operations.Move.{commits, mends, quiet}
-use Rattle.pack_model.specs.Scavenging.{Throughout, Unmarked}
-use Rattle.pack_model.specs.Step.{Operation, step}
-use Rattle.pack_model.specs.Whole.{Whole}
+use Rattle.pack_model.specs.operations.Entering.{entry_value, values_first}
+use Rattle.pack_model.specs.sessions.Meanings.{Mendable, reading}
+use Rattle.pack_model.specs.reading.Model.{Model, read_pack}
+use Rattle.pack_model.specs.sessions.Moves.{Obeys, rest, write}
+use Rattle.pack_model.specs.operations.Operations.{Move, enter_writes}
+use Rattle.pack_model.specs.operations.Operations.Move.{commits, mends, quiet}
+use Rattle.pack_model.specs.scavenger.Scavenging.{Throughout, Unmarked}
+use Rattle.pack_model.specs.operations.Step.{Operation, step}
+use Rattle.pack_model.specs.states.Whole.{Whole}
 use Rattle.laws_line.proofs.inside.ReadyRoom.{ready_has_room}
 use Rattle.laws_line.specs.Ready.{Ready}
 use Rattle.laws_operation.proofs.EnterStages.{views_of}

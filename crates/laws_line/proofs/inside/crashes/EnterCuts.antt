@@ -7,22 +7,22 @@ use Rattle.alto_words.specs.declared.fid.Fid.{Fid}
 use Rattle.disk_records.proofs.Growing.{after-append}
 use Rattle.disk_records.specs.Commands.{value_writes}
 use Rattle.disk_records.specs.Packs.{Pack, after, sector_at}
-use Rattle.pack_model.specs.Bytes.{put_at}
-use Rattle.pack_model.specs.Commands.{values_writes}
-use Rattle.pack_model.specs.Committing.{page_of_word}
-use Rattle.pack_model.specs.Entering.{entry_value, joined, joining, overlapping, values_first}
-use Rattle.pack_model.specs.Files.{place}
-use Rattle.pack_model.specs.Links.{dir_words}
-use Rattle.pack_model.specs.Model.{read_pack}
-use Rattle.pack_model.specs.Operations.{enter_writes}
-use Rattle.pack_model.specs.PageWords.{freed_value, in_page, later, near}
-use Rattle.pack_model.specs.Scavenging.{Throughout}
-use Rattle.pack_model.specs.Sights.{sights}
-use Rattle.pack_model.specs.Slots.{Item, all_words, entry_length, item_words, slots}
-use Rattle.pack_model.specs.Slots.Item.{space}
-use Rattle.pack_model.specs.Step.{step}
-use Rattle.pack_model.specs.Step.Operation.{enter}
-use Rattle.pack_model.specs.Whole.{Tidy, Whole}
+use Rattle.pack_model.specs.reading.Bytes.{put_at}
+use Rattle.pack_model.specs.operations.Commands.{values_writes}
+use Rattle.pack_model.specs.operations.Committing.{page_of_word}
+use Rattle.pack_model.specs.operations.Entering.{entry_value, joined, joining, overlapping, values_first}
+use Rattle.pack_model.specs.reading.Files.{place}
+use Rattle.pack_model.specs.hints.Links.{dir_words}
+use Rattle.pack_model.specs.reading.Model.{read_pack}
+use Rattle.pack_model.specs.operations.Operations.{enter_writes}
+use Rattle.pack_model.specs.operations.PageWords.{freed_value, in_page, later, near}
+use Rattle.pack_model.specs.scavenger.Scavenging.{Throughout}
+use Rattle.pack_model.specs.reading.Sights.{sights}
+use Rattle.pack_model.specs.reading.Slots.{Item, all_words, entry_length, item_words, slots}
+use Rattle.pack_model.specs.reading.Slots.Item.{space}
+use Rattle.pack_model.specs.operations.Step.{step}
+use Rattle.pack_model.specs.operations.Step.Operation.{enter}
+use Rattle.pack_model.specs.states.Whole.{Tidy, Whole}
 use Rattle.laws_record.proofs.Addressing.{LooseIn}
 use Rattle.laws_record.specs.DirLaws.{DirWrite, freed}
 use Rattle.laws_line.specs.Ready.{Ready}

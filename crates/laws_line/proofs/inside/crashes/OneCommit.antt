@@ -1,17 +1,17 @@
 -- The moves of an operation, of which one commits it; and the model to which those of a line lead, whatever a cut stands for.
 use Rattle.std.proofs.Common.{Bool, List, [], ap, cond, false, length, refl, true, ℕ, ◌++◌, ◌==◌, ◌∙◌, ◌∷◌, ◌≡◌}
 use Rattle.disk_records.specs.Packs.{Pack}
-use Rattle.pack_model.specs.Committing.{length_of, line_moves, moves_of, moves_of_all, page_of_byte, pages_added, pages_cut, serial_moves, units, values_before}
-use Rattle.pack_model.specs.Meanings.{OperationCut, SessionCut, Views, meaning}
-use Rattle.pack_model.specs.Model.{Model, dir_items}
-use Rattle.pack_model.specs.Moves.{steps}
-use Rattle.pack_model.specs.Operations.{Move, claims_moves, quiet_moves, releases_moves}
-use Rattle.pack_model.specs.Operations.Move.{commits, mends, quiet}
-use Rattle.pack_model.specs.Rooms.{find_room}
-use Rattle.pack_model.specs.Slots.{entry_length}
-use Rattle.pack_model.specs.Sound.{mark_open}
-use Rattle.pack_model.specs.Step.{Operation, step}
-use Rattle.pack_model.specs.Step.Operation.{cut, drop_file, enter, grow, leave, make, put, stamp, title, widen}
+use Rattle.pack_model.specs.operations.Committing.{length_of, line_moves, moves_of, moves_of_all, page_of_byte, pages_added, pages_cut, serial_moves, units, values_before}
+use Rattle.pack_model.specs.sessions.Meanings.{OperationCut, SessionCut, Views, meaning}
+use Rattle.pack_model.specs.reading.Model.{Model, dir_items}
+use Rattle.pack_model.specs.sessions.Moves.{steps}
+use Rattle.pack_model.specs.operations.Operations.{Move, claims_moves, quiet_moves, releases_moves}
+use Rattle.pack_model.specs.operations.Operations.Move.{commits, mends, quiet}
+use Rattle.pack_model.specs.operations.Rooms.{find_room}
+use Rattle.pack_model.specs.reading.Slots.{entry_length}
+use Rattle.pack_model.specs.states.Sound.{mark_open}
+use Rattle.pack_model.specs.operations.Step.{Operation, step}
+use Rattle.pack_model.specs.operations.Step.Operation.{cut, drop_file, enter, grow, leave, make, put, stamp, title, widen}
 use Rattle.pack_laws.proofs.Moving.{steps-append}
 use Rattle.laws_line.specs.Ready.{steps_of}
 use Rattle.laws_line.specs.PartLaws.{LineMovesLeadToTheModel}

@@ -3,9 +3,9 @@ use Rattle.std.proofs.Common.{List, [], ap, subst, suc, sym, zero, ℕ, ◌++◌
 use Rattle.disk_records.specs.Events.{IsFirstOf}
 use Rattle.disk_records.specs.Packs.{Pack, after, cut}
 use Rattle.disk_records.specs.declared.records.Event.{Event}
-use Rattle.pack_model.specs.Moves.{rest, write}
-use Rattle.pack_model.specs.Scavenging.{Throughout}
-use Rattle.pack_model.specs.Settling.{settle}
+use Rattle.pack_model.specs.sessions.Moves.{rest, write}
+use Rattle.pack_model.specs.scavenger.Scavenging.{Throughout}
+use Rattle.pack_model.specs.showing.Settling.{settle}
 use Rattle.laws_record.proofs.Chaining.{at_cut}
 use Rattle.laws_line.specs.PartLaws.{CrashByCrash, CrashesOfBothParts, CrashesOfParts, ViewedAndMendableInSession, ViewedAndMendableOperates}
 

@@ -7,16 +7,16 @@ use Rattle.alto_words.specs.declared.fid.Fid.{Fid}
 use Rattle.disk_records.specs.Packs.{Pack, after}
 use Rattle.disk_records.specs.declared.records.Event.{Event}
 use Rattle.disk_records.specs.declared.shape.Shape.{Shape}
-use Rattle.pack_model.specs.Bodies.{File, described, found, is_described}
-use Rattle.pack_model.specs.Committing.{pages_for_operations}
-use Rattle.pack_model.specs.Files.{file_bytes, leader, lives}
-use Rattle.pack_model.specs.Leaders.{Leader}
-use Rattle.pack_model.specs.Model.{IsNamed, Model, read_pack, read_sights, room}
-use Rattle.pack_model.specs.Operations.{Move}
-use Rattle.pack_model.specs.Sights.{Sight, sights}
-use Rattle.pack_model.specs.Sound.{Sound}
-use Rattle.pack_model.specs.Step.{Operation}
-use Rattle.pack_model.specs.View.{seen_of}
+use Rattle.pack_model.specs.reading.Bodies.{File, described, found, is_described}
+use Rattle.pack_model.specs.operations.Committing.{pages_for_operations}
+use Rattle.pack_model.specs.reading.Files.{file_bytes, leader, lives}
+use Rattle.pack_model.specs.reading.Leaders.{Leader}
+use Rattle.pack_model.specs.reading.Model.{IsNamed, Model, read_pack, read_sights, room}
+use Rattle.pack_model.specs.operations.Operations.{Move}
+use Rattle.pack_model.specs.reading.Sights.{Sight, sights}
+use Rattle.pack_model.specs.states.Sound.{Sound}
+use Rattle.pack_model.specs.operations.Step.{Operation}
+use Rattle.pack_model.specs.showing.View.{seen_of}
 use Rattle.pack_laws.proofs.Keys.{same_fid}
 use Rattle.laws_record.proofs.Keeping.{get-where}
 use Rattle.laws_record.proofs.Mending.{get-seen}

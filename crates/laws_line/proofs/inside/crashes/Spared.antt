@@ -10,18 +10,18 @@ use Rattle.disk_records.specs.Labels.{Tag, in_range, page_of, tag}
 use Rattle.disk_records.specs.Packs.{Pack, sector_at}
 use Rattle.disk_records.specs.Words.{word}
 use Rattle.disk_records.specs.declared.records.Page.{Page}
-use Rattle.pack_model.specs.Bytes.{bytes_of, put_at}
-use Rattle.pack_model.specs.Commands.{Claim, Claimable, claims_writes, releases_writes, values_writes}
-use Rattle.pack_model.specs.Committing.{page_of_byte, page_of_word}
-use Rattle.pack_model.specs.Entering.{EntryRoom, entry_value, joined, joining, overlapping}
-use Rattle.pack_model.specs.Files.{file_bytes, place}
-use Rattle.pack_model.specs.Model.{good_one}
-use Rattle.pack_model.specs.Operations.{go_writes}
-use Rattle.pack_model.specs.PageWords.{freed_value, in_page, later, page_number}
-use Rattle.pack_model.specs.Sights.{Sight, sights}
-use Rattle.pack_model.specs.Sights.Sight.{free, hidden, holds}
-use Rattle.pack_model.specs.Slots.{all_words}
-use Rattle.pack_model.specs.Whole.{Whole}
+use Rattle.pack_model.specs.reading.Bytes.{bytes_of, put_at}
+use Rattle.pack_model.specs.operations.Commands.{Claim, Claimable, claims_writes, releases_writes, values_writes}
+use Rattle.pack_model.specs.operations.Committing.{page_of_byte, page_of_word}
+use Rattle.pack_model.specs.operations.Entering.{EntryRoom, entry_value, joined, joining, overlapping}
+use Rattle.pack_model.specs.reading.Files.{file_bytes, place}
+use Rattle.pack_model.specs.reading.Model.{good_one}
+use Rattle.pack_model.specs.operations.Operations.{go_writes}
+use Rattle.pack_model.specs.operations.PageWords.{freed_value, in_page, later, page_number}
+use Rattle.pack_model.specs.reading.Sights.{Sight, sights}
+use Rattle.pack_model.specs.reading.Sights.Sight.{free, hidden, holds}
+use Rattle.pack_model.specs.reading.Slots.{all_words}
+use Rattle.pack_model.specs.states.Whole.{Whole}
 use Rattle.pack_laws.proofs.Keys.{same_fid}
 use Rattle.laws_record.proofs.Copying.{place_carried}
 use Rattle.laws_record.proofs.DirReads.{not_descriptor}

@@ -8,13 +8,13 @@ use Rattle.disk_records.specs.Labels.{is_free, page_of, tag}
 use Rattle.disk_records.specs.Packs.{Pack, carried, is_free_at, sector_at}
 use Rattle.disk_records.specs.declared.records.Event.TheVariants.{Wrote}
 use Rattle.disk_records.specs.declared.records.Page.{Page}
-use Rattle.pack_model.specs.Files.{carries_page}
-use Rattle.pack_model.specs.Leaders.{Leader}
-use Rattle.pack_model.specs.Model.{good_one}
-use Rattle.pack_model.specs.PageWords.{page_number}
-use Rattle.pack_model.specs.Sights.{sights}
-use Rattle.pack_model.specs.Sights.Sight.{free, hidden, leads}
-use Rattle.pack_model.specs.Commands.{releases_writes}
+use Rattle.pack_model.specs.reading.Files.{carries_page}
+use Rattle.pack_model.specs.reading.Leaders.{Leader}
+use Rattle.pack_model.specs.reading.Model.{good_one}
+use Rattle.pack_model.specs.operations.PageWords.{page_number}
+use Rattle.pack_model.specs.reading.Sights.{sights}
+use Rattle.pack_model.specs.reading.Sights.Sight.{free, hidden, leads}
+use Rattle.pack_model.specs.operations.Commands.{releases_writes}
 use Rattle.pack_laws.proofs.Carrying.{carried_shown}
 use Rattle.pack_laws.proofs.Guarding.{carried_parts, free_parts, free_unnamed}
 use Rattle.pack_laws.proofs.Keys.{is_fid-itself}

@@ -2,11 +2,11 @@
 use Rattle.std.proofs.Common.{[], ◌∷◌}
 use Rattle.disk_records.specs.Commands.{value_writes}
 use Rattle.disk_records.specs.Packs.{sector_at}
-use Rattle.pack_model.specs.Operations.{cut_writes, drop_writes, grow_writes, make_writes}
-use Rattle.pack_model.specs.PageWords.{freed_value}
-use Rattle.pack_model.specs.Slots.{all_words, item_words}
-use Rattle.pack_model.specs.Slots.Item.{entry}
-use Rattle.pack_model.specs.Step.Operation.{cut, drop_file, grow, leave, make, put, stamp, title, widen}
+use Rattle.pack_model.specs.operations.Operations.{cut_writes, drop_writes, grow_writes, make_writes}
+use Rattle.pack_model.specs.operations.PageWords.{freed_value}
+use Rattle.pack_model.specs.reading.Slots.{all_words, item_words}
+use Rattle.pack_model.specs.reading.Slots.Item.{entry}
+use Rattle.pack_model.specs.operations.Step.Operation.{cut, drop_file, grow, leave, make, put, stamp, title, widen}
 use Rattle.laws_operation.proofs.Cutting.{cut_law}
 use Rattle.laws_operation.proofs.Grown.{grow_law}
 use Rattle.laws_operation.proofs.Leaving.{leave_law}

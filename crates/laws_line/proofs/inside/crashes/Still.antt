@@ -11,12 +11,12 @@ use Rattle.disk_records.specs.Words.{word}
 use Rattle.disk_records.specs.declared.records.Event.{Event}
 use Rattle.disk_records.specs.declared.records.Event.TheVariants.{Shown, Wrote}
 use Rattle.disk_records.specs.declared.records.Page.{Page}
-use Rattle.pack_model.specs.Files.{leader, place}
-use Rattle.pack_model.specs.Leaders.{Leader, is_readable, leader_of, leader_words}
-use Rattle.pack_model.specs.PageWords.{page_number}
-use Rattle.pack_model.specs.Scavenging.{Throughout, Unmarked}
-use Rattle.pack_model.specs.Sights.{sights}
-use Rattle.pack_model.specs.Whole.{Whole}
+use Rattle.pack_model.specs.reading.Files.{leader, place}
+use Rattle.pack_model.specs.reading.Leaders.{Leader, is_readable, leader_of, leader_words}
+use Rattle.pack_model.specs.operations.PageWords.{page_number}
+use Rattle.pack_model.specs.scavenger.Scavenging.{Throughout, Unmarked}
+use Rattle.pack_model.specs.reading.Sights.{sights}
+use Rattle.pack_model.specs.states.Whole.{Whole}
 use Rattle.laws_room.specs.MarkLaws.{mark_page}
 use Rattle.pack_laws.proofs.Guarding.{carried_parts, here_written, other_kept, usable_within, value_page}
 use Rattle.pack_laws.proofs.Placing.{leader_of_place, place_of_leader}

@@ -4,14 +4,14 @@ use Rattle.std.proofs.lemmas.List.Elements.{All-cons, All-head, All-nil, All-tai
 use Rattle.alto_words.specs.Fid.{is_fid}
 use Rattle.alto_words.specs.declared.fid.Fid.{Fid}
 use Rattle.disk_records.specs.Words.{word}
-use Rattle.pack_model.specs.Files.{place}
-use Rattle.pack_model.specs.Links.{IsTrueAddress}
-use Rattle.pack_model.specs.Rooms.{left_over}
-use Rattle.pack_model.specs.Sights.{Sight}
-use Rattle.pack_model.specs.SlotWords.{SlotAt, address_at, slots_at}
-use Rattle.pack_model.specs.Slots.{Item, all_words, item_words}
-use Rattle.pack_model.specs.Slots.Item.{entry, space}
-use Rattle.pack_model.specs.Step.{items_without}
+use Rattle.pack_model.specs.reading.Files.{place}
+use Rattle.pack_model.specs.hints.Links.{IsTrueAddress}
+use Rattle.pack_model.specs.operations.Rooms.{left_over}
+use Rattle.pack_model.specs.reading.Sights.{Sight}
+use Rattle.pack_model.specs.reading.SlotWords.{SlotAt, address_at, slots_at}
+use Rattle.pack_model.specs.reading.Slots.{Item, all_words, item_words}
+use Rattle.pack_model.specs.reading.Slots.Item.{entry, space}
+use Rattle.pack_model.specs.operations.Step.{items_without}
 use Rattle.laws_record.proofs.Addressing.{entry_words_many}
 
 -- the addresses of these slots, which begin with this word, are true

@@ -8,9 +8,9 @@ use Rattle.disk_records.specs.Labels.{page_of}
 use Rattle.disk_records.specs.Packs.{Pack, after, carried, is_usable, sector_at}
 use Rattle.disk_records.specs.declared.records.Event.TheVariants.{Wrote}
 use Rattle.disk_records.specs.declared.records.Page.{Page}
-use Rattle.pack_model.specs.Files.{carries_page}
-use Rattle.pack_model.specs.Sights.{sights}
-use Rattle.pack_model.specs.Sights.Sight.{free, hidden}
+use Rattle.pack_model.specs.reading.Files.{carries_page}
+use Rattle.pack_model.specs.reading.Sights.{sights}
+use Rattle.pack_model.specs.reading.Sights.Sight.{free, hidden}
 use Rattle.pack_laws.proofs.Guarding.{front_from, usable_within, value_page}
 use Rattle.laws_record.proofs.Carried.{carried_shows}
 use Rattle.laws_operation.proofs.inside.links.Framing.{AllConcern, OfOne}

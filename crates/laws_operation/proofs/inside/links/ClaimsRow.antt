@@ -7,12 +7,12 @@ use Rattle.disk_records.specs.Labels.{page_of, tag}
 use Rattle.disk_records.specs.Packs.{Pack, after, carried, is_usable, sector_at}
 use Rattle.disk_records.specs.Words.{word}
 use Rattle.disk_records.specs.declared.records.Page.{Page}
-use Rattle.pack_model.specs.Bytes.{bytes_of}
-use Rattle.pack_model.specs.Commands.{Claim, Claimable, claims_writes}
-use Rattle.pack_model.specs.Model.{good_one}
-use Rattle.pack_model.specs.PageWords.{page_number}
-use Rattle.pack_model.specs.Sights.{Sight, sights}
-use Rattle.pack_model.specs.Sights.Sight.{free, hidden, holds}
+use Rattle.pack_model.specs.reading.Bytes.{bytes_of}
+use Rattle.pack_model.specs.operations.Commands.{Claim, Claimable, claims_writes}
+use Rattle.pack_model.specs.reading.Model.{good_one}
+use Rattle.pack_model.specs.operations.PageWords.{page_number}
+use Rattle.pack_model.specs.reading.Sights.{Sight, sights}
+use Rattle.pack_model.specs.reading.Sights.Sight.{free, hidden, holds}
 use Rattle.laws_operation.proofs.Commanding.{claim_apart, claim_shows}
 use Rattle.laws_operation.proofs.Lying.{within}
 use Rattle.laws_operation.proofs.Showing.{page_label, usable_is}

@@ -9,16 +9,16 @@ use Rattle.disk_records.specs.Packs.{Pack, after, carried, sector_at}
 use Rattle.disk_records.specs.Words.{word}
 use Rattle.disk_records.specs.declared.records.Event.{Event}
 use Rattle.disk_records.specs.declared.records.Page.{Page}
-use Rattle.pack_model.specs.Bytes.{bytes_of}
-use Rattle.pack_model.specs.Commands.{cut_label, releases_writes}
-use Rattle.pack_model.specs.Committing.{page_of_byte}
-use Rattle.pack_model.specs.Files.{place}
-use Rattle.pack_model.specs.Links.{LinksTrue, link_to, no_link}
-use Rattle.pack_model.specs.Operations.{cut_writes}
-use Rattle.pack_model.specs.PageWords.{page_number}
-use Rattle.pack_model.specs.Sights.{Sight, sights}
-use Rattle.pack_model.specs.Sights.Sight.{hidden, holds}
-use Rattle.pack_model.specs.Whole.{Tidy, Whole}
+use Rattle.pack_model.specs.reading.Bytes.{bytes_of}
+use Rattle.pack_model.specs.operations.Commands.{cut_label, releases_writes}
+use Rattle.pack_model.specs.operations.Committing.{page_of_byte}
+use Rattle.pack_model.specs.reading.Files.{place}
+use Rattle.pack_model.specs.hints.Links.{LinksTrue, link_to, no_link}
+use Rattle.pack_model.specs.operations.Operations.{cut_writes}
+use Rattle.pack_model.specs.operations.PageWords.{page_number}
+use Rattle.pack_model.specs.reading.Sights.{Sight, sights}
+use Rattle.pack_model.specs.reading.Sights.Sight.{hidden, holds}
+use Rattle.pack_model.specs.states.Whole.{Tidy, Whole}
 use Rattle.pack_laws.proofs.Guarding.{carried_parts}
 use Rattle.pack_laws.proofs.Placing.{one_page}
 use Rattle.pack_laws.proofs.Sighted.{length-sights}

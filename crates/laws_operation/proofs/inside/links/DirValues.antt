@@ -5,19 +5,19 @@ use Rattle.alto_words.specs.Fid.{is_directory, is_fid}
 use Rattle.alto_words.specs.declared.fid.Fid.{Fid}
 use Rattle.disk_records.specs.Commands.{value_writes}
 use Rattle.disk_records.specs.Packs.{Pack, after, sector_at}
-use Rattle.pack_model.specs.Bytes.{put_at}
-use Rattle.pack_model.specs.Commands.{values_writes}
-use Rattle.pack_model.specs.Files.{lives}
-use Rattle.pack_model.specs.Links.{LinksTrue, dir_words}
-use Rattle.pack_model.specs.Model.{dir_items, read_pack}
-use Rattle.pack_model.specs.PageWords.{in_page, page_number}
-use Rattle.pack_model.specs.Sights.{sights}
-use Rattle.pack_model.specs.Slots.{Item, all_words, slots}
-use Rattle.pack_model.specs.Slots.Item.{entry, space}
-use Rattle.pack_model.specs.Whole.{Tidy, Whole}
+use Rattle.pack_model.specs.reading.Bytes.{put_at}
+use Rattle.pack_model.specs.operations.Commands.{values_writes}
+use Rattle.pack_model.specs.reading.Files.{lives}
+use Rattle.pack_model.specs.hints.Links.{LinksTrue, dir_words}
+use Rattle.pack_model.specs.reading.Model.{dir_items, read_pack}
+use Rattle.pack_model.specs.operations.PageWords.{in_page, page_number}
+use Rattle.pack_model.specs.reading.Sights.{sights}
+use Rattle.pack_model.specs.reading.Slots.{Item, all_words, slots}
+use Rattle.pack_model.specs.reading.Slots.Item.{entry, space}
+use Rattle.pack_model.specs.states.Whole.{Tidy, Whole}
 use Rattle.pack_laws.proofs.Keys.{same_fid}
 use Rattle.pack_laws.proofs.Moving.{stands_last}
-use Rattle.pack_model.specs.Meanings.{reading}
+use Rattle.pack_model.specs.sessions.Meanings.{reading}
 use Rattle.laws_record.proofs.Addressing.{LooseIn}
 use Rattle.laws_record.proofs.Copying.{place_carried}
 use Rattle.laws_record.proofs.DirWords.{dir_change}

@@ -7,17 +7,17 @@ use Rattle.disk_records.proofs.Growing.{after-append}
 use Rattle.disk_records.specs.Commands.{value_writes}
 use Rattle.disk_records.specs.Packs.{Pack, after, sector_at}
 use Rattle.disk_records.specs.declared.records.Event.{Event}
-use Rattle.pack_model.specs.Bytes.{words_of}
-use Rattle.pack_model.specs.Files.{lives}
-use Rattle.pack_model.specs.Links.{LinksTrue, dir_words}
-use Rattle.pack_model.specs.Model.{dir_items, read_pack}
-use Rattle.pack_model.specs.Namings.{namings_in}
-use Rattle.pack_model.specs.Operations.{go_writes}
-use Rattle.pack_model.specs.PageWords.{freed_value, page_number}
-use Rattle.pack_model.specs.Sights.{sights}
-use Rattle.pack_model.specs.Slots.{Item, all_words, item_words, slots}
-use Rattle.pack_model.specs.Slots.Item.{entry}
-use Rattle.pack_model.specs.Whole.{Whole}
+use Rattle.pack_model.specs.reading.Bytes.{words_of}
+use Rattle.pack_model.specs.reading.Files.{lives}
+use Rattle.pack_model.specs.hints.Links.{LinksTrue, dir_words}
+use Rattle.pack_model.specs.reading.Model.{dir_items, read_pack}
+use Rattle.pack_model.specs.reading.Namings.{namings_in}
+use Rattle.pack_model.specs.operations.Operations.{go_writes}
+use Rattle.pack_model.specs.operations.PageWords.{freed_value, page_number}
+use Rattle.pack_model.specs.reading.Sights.{sights}
+use Rattle.pack_model.specs.reading.Slots.{Item, all_words, item_words, slots}
+use Rattle.pack_model.specs.reading.Slots.Item.{entry}
+use Rattle.pack_model.specs.states.Whole.{Whole}
 use Rattle.pack_laws.proofs.Keys.{same_fid}
 use Rattle.laws_record.proofs.Copying.{place_carried}
 use Rattle.laws_record.proofs.Entered.{namings_in-append}

@@ -2,10 +2,10 @@
 use Rattle.std.proofs.Common.{List, Some, [], ap, arith, get_or, inl, inr, length, suc, true, ℕ, ◌++◌, ◌<◌, ◌∙◌, ◌∷◌, ◌≡◌}
 use Rattle.std.specs.Prelude.{nat_lt}
 use Rattle.alto_words.specs.declared.fid.Fid.{Fid}
-use Rattle.pack_model.specs.Files.{place}
-use Rattle.pack_model.specs.Sights.{Sight}
-use Rattle.pack_model.specs.Sights.Sight.{hidden, holds}
-use Rattle.pack_model.specs.Whole.{FileWhole}
+use Rattle.pack_model.specs.reading.Files.{place}
+use Rattle.pack_model.specs.reading.Sights.{Sight}
+use Rattle.pack_model.specs.reading.Sights.Sight.{hidden, holds}
+use Rattle.pack_model.specs.states.Whole.{FileWhole}
 use Rattle.pack_laws.proofs.Placing.{page_of_place}
 use Rattle.laws_operation.proofs.Changing.{length-one, seat_of}
 use Rattle.laws_record.proofs.Seats.{seat_range}

@@ -6,13 +6,13 @@ use Rattle.alto_words.specs.Fid.{is_directory}
 use Rattle.alto_words.specs.declared.fid.Fid.{Fid}
 use Rattle.disk_records.specs.Packs.{Pack, after, sector_at}
 use Rattle.disk_records.specs.Words.{word}
-use Rattle.pack_model.specs.Bytes.{put_at}
-use Rattle.pack_model.specs.Commands.{values_writes}
-use Rattle.pack_model.specs.Committing.{page_of_word}
-use Rattle.pack_model.specs.Files.{lives, place}
-use Rattle.pack_model.specs.Links.{dir_words}
-use Rattle.pack_model.specs.PageWords.{freed_value, in_page, later, near}
-use Rattle.pack_model.specs.Sights.{sights}
+use Rattle.pack_model.specs.reading.Bytes.{put_at}
+use Rattle.pack_model.specs.operations.Commands.{values_writes}
+use Rattle.pack_model.specs.operations.Committing.{page_of_word}
+use Rattle.pack_model.specs.reading.Files.{lives, place}
+use Rattle.pack_model.specs.hints.Links.{dir_words}
+use Rattle.pack_model.specs.operations.PageWords.{freed_value, in_page, later, near}
+use Rattle.pack_model.specs.reading.Sights.{sights}
 use Rattle.pack_laws.proofs.Bytes.{length-put_at}
 use Rattle.laws_record.proofs.DirWords.{dir_change}
 use Rattle.laws_record.proofs.Slotwise.{put_before, put_behind, put_here}

@@ -6,26 +6,26 @@ use Rattle.disk_records.proofs.Growing.{after-append}
 use Rattle.disk_records.specs.Commands.{value_writes}
 use Rattle.disk_records.specs.Packs.{Pack, after, sector_at}
 use Rattle.disk_records.specs.Words.{word}
-use Rattle.pack_model.specs.Bodies.{items_in}
-use Rattle.pack_model.specs.Bodies.Body.{data_of, items_of}
-use Rattle.pack_model.specs.Bytes.{put_at}
-use Rattle.pack_model.specs.Commands.{values_writes}
-use Rattle.pack_model.specs.Committing.{page_of_word}
-use Rattle.pack_model.specs.Entering.{EntryRoom, entry_value, joined, joining, overlapping, values_first}
-use Rattle.pack_model.specs.Files.{file_bytes, place}
-use Rattle.pack_model.specs.Leaders.{Leader}
-use Rattle.pack_model.specs.Links.{LinksTrue, dir_words}
-use Rattle.pack_model.specs.Model.{Model, dir_items, read_pack}
-use Rattle.pack_model.specs.Operations.{enter_writes}
-use Rattle.pack_model.specs.PageWords.{freed_value, in_page, later, near, page_number}
-use Rattle.pack_model.specs.Rooms.{items_entered, left_over}
-use Rattle.pack_model.specs.Sights.{sights}
-use Rattle.pack_model.specs.SlotWords.{address_at, address_word}
-use Rattle.pack_model.specs.Slots.{Item, all_words, entry_length, item_words, slots}
-use Rattle.pack_model.specs.Slots.Item.{entry, space}
-use Rattle.pack_model.specs.Step.{step}
-use Rattle.pack_model.specs.Step.Operation.{enter}
-use Rattle.pack_model.specs.Whole.{Tidy, Whole}
+use Rattle.pack_model.specs.reading.Bodies.{items_in}
+use Rattle.pack_model.specs.reading.Bodies.Body.{data_of, items_of}
+use Rattle.pack_model.specs.reading.Bytes.{put_at}
+use Rattle.pack_model.specs.operations.Commands.{values_writes}
+use Rattle.pack_model.specs.operations.Committing.{page_of_word}
+use Rattle.pack_model.specs.operations.Entering.{EntryRoom, entry_value, joined, joining, overlapping, values_first}
+use Rattle.pack_model.specs.reading.Files.{file_bytes, place}
+use Rattle.pack_model.specs.reading.Leaders.{Leader}
+use Rattle.pack_model.specs.hints.Links.{LinksTrue, dir_words}
+use Rattle.pack_model.specs.reading.Model.{Model, dir_items, read_pack}
+use Rattle.pack_model.specs.operations.Operations.{enter_writes}
+use Rattle.pack_model.specs.operations.PageWords.{freed_value, in_page, later, near, page_number}
+use Rattle.pack_model.specs.operations.Rooms.{items_entered, left_over}
+use Rattle.pack_model.specs.reading.Sights.{sights}
+use Rattle.pack_model.specs.reading.SlotWords.{address_at, address_word}
+use Rattle.pack_model.specs.reading.Slots.{Item, all_words, entry_length, item_words, slots}
+use Rattle.pack_model.specs.reading.Slots.Item.{entry, space}
+use Rattle.pack_model.specs.operations.Step.{step}
+use Rattle.pack_model.specs.operations.Step.Operation.{enter}
+use Rattle.pack_model.specs.states.Whole.{Tidy, Whole}
 use Rattle.pack_laws.proofs.Keys.{fid_total, is_fid-itself}
 use Rattle.laws_record.proofs.Addressing.{entry_words_many}
 use Rattle.laws_record.proofs.Copying.{place_carried}

@@ -9,13 +9,13 @@ use Rattle.disk_records.specs.Packs.{Pack, after, carried, is_usable, sector_at}
 use Rattle.disk_records.specs.Words.{word}
 use Rattle.disk_records.specs.declared.records.Page.{Page}
 use Rattle.disk_records.specs.declared.shape.Shape.{Shape}
-use Rattle.pack_model.specs.Commands.{Claim, Claimable, claims_of, claims_writes}
-use Rattle.pack_model.specs.Files.{place}
-use Rattle.pack_model.specs.Links.{link_to}
-use Rattle.pack_model.specs.Operations.{grow_writes}
-use Rattle.pack_model.specs.PageWords.{link_to_first, page_number}
-use Rattle.pack_model.specs.Sights.{sights}
-use Rattle.pack_model.specs.Whole.{Whole}
+use Rattle.pack_model.specs.operations.Commands.{Claim, Claimable, claims_of, claims_writes}
+use Rattle.pack_model.specs.reading.Files.{place}
+use Rattle.pack_model.specs.hints.Links.{link_to}
+use Rattle.pack_model.specs.operations.Operations.{grow_writes}
+use Rattle.pack_model.specs.operations.PageWords.{link_to_first, page_number}
+use Rattle.pack_model.specs.reading.Sights.{sights}
+use Rattle.pack_model.specs.states.Whole.{Whole}
 use Rattle.pack_laws.proofs.Guarding.{carried_parts}
 use Rattle.pack_laws.proofs.Placing.{one_page}
 use Rattle.laws_record.proofs.Copying.{place_carried}

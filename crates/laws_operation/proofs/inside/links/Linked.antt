@@ -5,12 +5,12 @@ use Rattle.alto_words.specs.declared.fid.Fid.{Fid}
 use Rattle.disk_records.specs.Packs.{Pack, sector_at}
 use Rattle.disk_records.specs.Words.{word}
 use Rattle.disk_records.specs.declared.shape.Shape.{Shape}
-use Rattle.pack_model.specs.Files.{carries_page, place}
-use Rattle.pack_model.specs.InUse.{counts, in_use, is_place}
-use Rattle.pack_model.specs.Links.{HasLinks, PageLinks, link_to, next_link, no_link, previous_link}
-use Rattle.pack_model.specs.Sights.{Sight, sights}
-use Rattle.pack_model.specs.Sights.Sight.{free, hidden, holds, leads, stray}
-use Rattle.pack_model.specs.Whole.{Whole}
+use Rattle.pack_model.specs.reading.Files.{carries_page, place}
+use Rattle.pack_model.specs.states.InUse.{counts, in_use, is_place}
+use Rattle.pack_model.specs.hints.Links.{HasLinks, PageLinks, link_to, next_link, no_link, previous_link}
+use Rattle.pack_model.specs.reading.Sights.{Sight, sights}
+use Rattle.pack_model.specs.reading.Sights.Sight.{free, hidden, holds, leads, stray}
+use Rattle.pack_model.specs.states.Whole.{Whole}
 use Rattle.pack_laws.proofs.Keys.{is_fid-itself}
 use Rattle.pack_laws.proofs.Placing.{carries-holds, leader_of_place, page_of_place}
 use Rattle.laws_record.proofs.Heads.{and_right}

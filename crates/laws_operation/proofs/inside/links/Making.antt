@@ -10,19 +10,19 @@ use Rattle.disk_records.specs.Packs.{Pack, after, carried, is_usable, sector_at}
 use Rattle.disk_records.specs.Words.{word}
 use Rattle.disk_records.specs.declared.records.Event.{Event}
 use Rattle.disk_records.specs.declared.records.Page.{Page}
-use Rattle.pack_model.specs.Bodies.{body_items, items_in}
-use Rattle.pack_model.specs.Bodies.Body.{data_of, items_of}
-use Rattle.pack_model.specs.Commands.{Claim, first_page_claim, leader_claim}
-use Rattle.pack_model.specs.Files.{leader, lives, place}
-use Rattle.pack_model.specs.Links.{LinksTrue, dir_words, link_to, no_link}
-use Rattle.pack_model.specs.Model.{dir_items, read_pack}
-use Rattle.pack_model.specs.Operations.{make_writes}
-use Rattle.pack_model.specs.PageWords.{page_number}
-use Rattle.pack_model.specs.Sights.{sights}
-use Rattle.pack_model.specs.Slots.Item.{space}
-use Rattle.pack_model.specs.Step.{new_file, step}
-use Rattle.pack_model.specs.Step.Operation.{make}
-use Rattle.pack_model.specs.Whole.{Tidy, Whole}
+use Rattle.pack_model.specs.reading.Bodies.{body_items, items_in}
+use Rattle.pack_model.specs.reading.Bodies.Body.{data_of, items_of}
+use Rattle.pack_model.specs.operations.Commands.{Claim, first_page_claim, leader_claim}
+use Rattle.pack_model.specs.reading.Files.{leader, lives, place}
+use Rattle.pack_model.specs.hints.Links.{LinksTrue, dir_words, link_to, no_link}
+use Rattle.pack_model.specs.reading.Model.{dir_items, read_pack}
+use Rattle.pack_model.specs.operations.Operations.{make_writes}
+use Rattle.pack_model.specs.operations.PageWords.{page_number}
+use Rattle.pack_model.specs.reading.Sights.{sights}
+use Rattle.pack_model.specs.reading.Slots.Item.{space}
+use Rattle.pack_model.specs.operations.Step.{new_file, step}
+use Rattle.pack_model.specs.operations.Step.Operation.{make}
+use Rattle.pack_model.specs.states.Whole.{Tidy, Whole}
 use Rattle.pack_laws.proofs.Guarding.{free_parts}
 use Rattle.pack_laws.proofs.Keys.{fid_total, is_fid-itself, same_fid}
 use Rattle.pack_laws.proofs.Placing.{none_of_false}

@@ -6,8 +6,8 @@ use Rattle.disk_records.specs.Packs.{Pack, after, carried}
 use Rattle.disk_records.specs.declared.records.Event.{Event}
 use Rattle.disk_records.specs.declared.records.Event.TheVariants.{Shown, Wrote}
 use Rattle.disk_records.specs.declared.records.Page.{Page}
-use Rattle.pack_model.specs.Commands.{releases_writes, values_writes}
-use Rattle.pack_model.specs.Scavenging.{Throughout}
+use Rattle.pack_model.specs.operations.Commands.{releases_writes, values_writes}
+use Rattle.pack_model.specs.scavenger.Scavenging.{Throughout}
 use Rattle.laws_operation.proofs.inside.links.Records.{label_carried}
 use Rattle.laws_operation.proofs.inside.links.Releases.{ones_not}
 use Rattle.laws_operation.specs.OnceLaws.{CarriedOnce}

@@ -5,13 +5,13 @@ use Rattle.disk_records.specs.Commands.{claim_writes}
 use Rattle.disk_records.specs.Labels.{page_of}
 use Rattle.disk_records.specs.Packs.{Pack, after, carried}
 use Rattle.disk_records.specs.declared.records.Page.{Page}
-use Rattle.pack_model.specs.Commands.{Claim, Claimable, claims_writes}
-use Rattle.pack_model.specs.Committing.{page_of_byte}
-use Rattle.pack_model.specs.Files.{file_bytes, place}
-use Rattle.pack_model.specs.Operations.{grow_writes}
-use Rattle.pack_model.specs.PageWords.{page_number}
-use Rattle.pack_model.specs.Sights.{sights}
-use Rattle.pack_model.specs.Whole.{Whole}
+use Rattle.pack_model.specs.operations.Commands.{Claim, Claimable, claims_writes}
+use Rattle.pack_model.specs.operations.Committing.{page_of_byte}
+use Rattle.pack_model.specs.reading.Files.{file_bytes, place}
+use Rattle.pack_model.specs.operations.Operations.{grow_writes}
+use Rattle.pack_model.specs.operations.PageWords.{page_number}
+use Rattle.pack_model.specs.reading.Sights.{sights}
+use Rattle.pack_model.specs.states.Whole.{Whole}
 use Rattle.laws_record.proofs.Copying.{place_carried}
 use Rattle.laws_record.proofs.Carried.{carried_place, whole_once}
 use Rattle.laws_operation.proofs.inside.links.Claims.{claim_carried}

@@ -5,12 +5,12 @@ use Rattle.disk_records.specs.Commands.{claim_writes, relabel_writes, value_writ
 use Rattle.disk_records.specs.Labels.{page_of}
 use Rattle.disk_records.specs.Packs.{Pack, after, carried}
 use Rattle.disk_records.specs.declared.records.Page.{Page}
-use Rattle.pack_model.specs.Commands.{releases_writes, values_writes}
-use Rattle.pack_model.specs.Committing.{page_of_byte}
-use Rattle.pack_model.specs.Descriptor.{closed_values, opened_value}
-use Rattle.pack_model.specs.Operations.{cut_writes, drop_writes, enter_writes, go_writes, make_writes}
-use Rattle.pack_model.specs.PageWords.{page_number}
-use Rattle.pack_model.specs.Sound.{mark_clean, mark_open}
+use Rattle.pack_model.specs.operations.Commands.{releases_writes, values_writes}
+use Rattle.pack_model.specs.operations.Committing.{page_of_byte}
+use Rattle.pack_model.specs.sessions.Descriptor.{closed_values, opened_value}
+use Rattle.pack_model.specs.operations.Operations.{cut_writes, drop_writes, enter_writes, go_writes, make_writes}
+use Rattle.pack_model.specs.operations.PageWords.{page_number}
+use Rattle.pack_model.specs.states.Sound.{mark_clean, mark_open}
 use Rattle.laws_record.proofs.Copying.{place_carried}
 use Rattle.laws_record.proofs.Carried.{whole_once}
 use Rattle.laws_operation.proofs.inside.links.Claims.{claim_carried}

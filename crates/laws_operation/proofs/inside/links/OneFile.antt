@@ -6,10 +6,10 @@ use Rattle.alto_words.specs.declared.fid.Fid.{Fid}
 use Rattle.disk_records.specs.Packs.{Pack, after, sector_at}
 use Rattle.disk_records.specs.Words.{word}
 use Rattle.disk_records.specs.declared.records.Event.{Event}
-use Rattle.pack_model.specs.Files.{place}
-use Rattle.pack_model.specs.Links.{LinksTrue, PageLinks, link_to}
-use Rattle.pack_model.specs.Sights.{sights}
-use Rattle.pack_model.specs.Whole.{Tidy, Whole}
+use Rattle.pack_model.specs.reading.Files.{place}
+use Rattle.pack_model.specs.hints.Links.{LinksTrue, PageLinks, link_to}
+use Rattle.pack_model.specs.reading.Sights.{sights}
+use Rattle.pack_model.specs.states.Whole.{Tidy, Whole}
 use Rattle.pack_laws.proofs.Keys.{same_fid}
 use Rattle.laws_operation.proofs.inside.links.Directories.{all_dirs, dirs_true, other_dir, other_lives}
 use Rattle.laws_operation.proofs.inside.links.Framing.{AllConcern, other_links}

@@ -7,7 +7,7 @@ use Rattle.disk_records.specs.Packs.{Pack, after, carried, no_sector, sector_at,
 use Rattle.disk_records.specs.declared.records.Event.TheVariants.{Wrote}
 use Rattle.disk_records.specs.declared.records.Page.{Page}
 use Rattle.disk_records.specs.declared.records.Sector.{Sector}
-use Rattle.pack_model.specs.PageWords.{page_number}
+use Rattle.pack_model.specs.operations.PageWords.{page_number}
 use Rattle.pack_laws.proofs.Guarding.{carried_parts, front_from, other_kept, page_on}
 
 -- ---- one record

@@ -6,9 +6,9 @@ use Rattle.disk_records.specs.Labels.{page_of}
 use Rattle.disk_records.specs.Packs.{Pack, after, carried, sector_at}
 use Rattle.disk_records.specs.declared.records.Event.TheVariants.{Wrote}
 use Rattle.disk_records.specs.declared.records.Page.{Page}
-use Rattle.pack_model.specs.Commands.{releases_writes}
-use Rattle.pack_model.specs.PageWords.{page_number}
-use Rattle.pack_model.specs.Sights.{sights}
+use Rattle.pack_model.specs.operations.Commands.{releases_writes}
+use Rattle.pack_model.specs.operations.PageWords.{page_number}
+use Rattle.pack_model.specs.reading.Sights.{sights}
 use Rattle.pack_laws.proofs.Guarding.{carried_parts, here_written, value_page}
 use Rattle.pack_laws.proofs.Sighted.{length-sights}
 use Rattle.laws_record.proofs.Copying.{place_carried}

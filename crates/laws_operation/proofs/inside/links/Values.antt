@@ -4,12 +4,12 @@ use Rattle.alto_words.specs.declared.fid.Fid.{Fid}
 use Rattle.disk_records.specs.Packs.{Pack, after, carried, sector_at}
 use Rattle.disk_records.specs.Words.{word}
 use Rattle.disk_records.specs.declared.records.Event.TheVariants.{Wrote}
-use Rattle.pack_model.specs.Commands.{values_writes}
-use Rattle.pack_model.specs.Files.{place}
-use Rattle.pack_model.specs.Links.{PageLinks, link_to}
-use Rattle.pack_model.specs.PageWords.{page_number}
-use Rattle.pack_model.specs.Sights.{sights}
-use Rattle.pack_model.specs.Whole.{Whole}
+use Rattle.pack_model.specs.operations.Commands.{values_writes}
+use Rattle.pack_model.specs.reading.Files.{place}
+use Rattle.pack_model.specs.hints.Links.{PageLinks, link_to}
+use Rattle.pack_model.specs.operations.PageWords.{page_number}
+use Rattle.pack_model.specs.reading.Sights.{sights}
+use Rattle.pack_model.specs.states.Whole.{Whole}
 use Rattle.laws_record.proofs.Carried.{values_carried}
 use Rattle.laws_operation.proofs.inside.links.Framing.{AllConcern, OfOne, places_alike}
 use Rattle.laws_operation.proofs.inside.links.Linked.{FileLinks, file_links, link_before, page_links}

@@ -9,11 +9,11 @@ use Rattle.std.specs.declared.cmp.Ordering.{Ordering}
 use Rattle.alto_words.specs.Fid.{fid_cmp, is_fid}
 use Rattle.alto_words.specs.Names.{is_same_name}
 use Rattle.alto_words.specs.declared.fid.Fid.{Fid}
-use Rattle.pack_model.specs.Bodies.{Body, File, body_items, items_in}
-use Rattle.pack_model.specs.Bodies.Body.{data_of, items_of}
-use Rattle.pack_model.specs.Namings.{Naming, body_namings, clashes, namings, namings_in}
-use Rattle.pack_model.specs.Slots.{Item}
-use Rattle.pack_model.specs.Slots.Item.{entry, space}
+use Rattle.pack_model.specs.reading.Bodies.{Body, File, body_items, items_in}
+use Rattle.pack_model.specs.reading.Bodies.Body.{data_of, items_of}
+use Rattle.pack_model.specs.reading.Namings.{Naming, body_namings, clashes, namings, namings_in}
+use Rattle.pack_model.specs.reading.Slots.{Item}
+use Rattle.pack_model.specs.reading.Slots.Item.{entry, space}
 use Rattle.pack_laws.proofs.Keys.{fid_same, is_fid-sym}
 use Rattle.laws_record.proofs.Around.{first_part, is_less, second_part}
 use Rattle.laws_record.proofs.Beside.{any_first, any_second}

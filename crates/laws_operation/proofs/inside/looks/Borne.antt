@@ -5,11 +5,11 @@ use Rattle.alto_words.specs.Fid.{serial_of}
 use Rattle.disk_records.specs.Addresses.{pages_of}
 use Rattle.disk_records.specs.Packs.{Pack, after, carried, is_usable, sector_at}
 use Rattle.disk_records.specs.declared.records.Page.{Page}
-use Rattle.pack_model.specs.Commands.{values_writes}
-use Rattle.pack_model.specs.Descriptor.{serial_value}
-use Rattle.pack_model.specs.Files.{lives, place}
-use Rattle.pack_model.specs.PageWords.{page_number}
-use Rattle.pack_model.specs.Sights.{sights}
+use Rattle.pack_model.specs.operations.Commands.{values_writes}
+use Rattle.pack_model.specs.sessions.Descriptor.{serial_value}
+use Rattle.pack_model.specs.reading.Files.{lives, place}
+use Rattle.pack_model.specs.operations.PageWords.{page_number}
+use Rattle.pack_model.specs.reading.Sights.{sights}
 use Rattle.pack_laws.proofs.Guarding.{carried_parts}
 use Rattle.pack_laws.proofs.Placing.{leader_of_place, no_leader}
 use Rattle.laws_record.proofs.Copying.{place_carried}

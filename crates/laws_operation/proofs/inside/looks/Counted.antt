@@ -8,13 +8,13 @@ use Rattle.disk_records.specs.Labels.{tag}
 use Rattle.disk_records.specs.Packs.{Pack, sector_at}
 use Rattle.disk_records.specs.declared.records.Sector.{Sector}
 use Rattle.disk_records.specs.declared.shape.Shape.{Shape}
-use Rattle.pack_model.specs.Bytes.{bytes_of}
-use Rattle.pack_model.specs.Committing.{page_of_byte}
-use Rattle.pack_model.specs.Files.{carries_page, file_bytes, lives, place}
-use Rattle.pack_model.specs.Model.{good_one}
-use Rattle.pack_model.specs.Sights.{Sight, sight, sights}
-use Rattle.pack_model.specs.Sights.Sight.{hidden, holds}
-use Rattle.pack_model.specs.Whole.{Carries, FileWhole, IsLaid, PageAt, Whole, absent, present}
+use Rattle.pack_model.specs.reading.Bytes.{bytes_of}
+use Rattle.pack_model.specs.operations.Committing.{page_of_byte}
+use Rattle.pack_model.specs.reading.Files.{carries_page, file_bytes, lives, place}
+use Rattle.pack_model.specs.reading.Model.{good_one}
+use Rattle.pack_model.specs.reading.Sights.{Sight, sight, sights}
+use Rattle.pack_model.specs.reading.Sights.Sight.{hidden, holds}
+use Rattle.pack_model.specs.states.Whole.{Carries, FileWhole, IsLaid, PageAt, Whole, absent, present}
 use Rattle.pack_laws.proofs.Bytes.{length-bytes_of}
 use Rattle.pack_laws.proofs.Placing.{carries-holds, page_of_place, place_none}
 use Rattle.pack_laws.proofs.Sighted.{counted, shows_page}

@@ -12,11 +12,11 @@ use Rattle.disk_records.specs.declared.records.Event.{Event}
 use Rattle.disk_records.specs.declared.records.Event.TheVariants.{Wrote}
 use Rattle.disk_records.specs.declared.records.Sector.{Sector}
 use Rattle.disk_records.proofs.Growing.{after-append}
-use Rattle.pack_model.specs.Commands.{Claim, all_claimed, claims_writes, releases_writes, sectors_of, values_writes}
-use Rattle.pack_model.specs.Files.{place}
-use Rattle.pack_model.specs.Operations.{go_writes}
-use Rattle.pack_model.specs.PageWords.{page_number}
-use Rattle.pack_model.specs.Sights.{sights}
+use Rattle.pack_model.specs.operations.Commands.{Claim, all_claimed, claims_writes, releases_writes, sectors_of, values_writes}
+use Rattle.pack_model.specs.reading.Files.{place}
+use Rattle.pack_model.specs.operations.Operations.{go_writes}
+use Rattle.pack_model.specs.operations.PageWords.{page_number}
+use Rattle.pack_model.specs.reading.Sights.{sights}
 use Rattle.pack_laws.proofs.Guarding.{carried_parts, free_parts, front_from, here_written, in_range_taken, ones_free, other_kept, usable_within}
 use Rattle.laws_record.proofs.Copying.{place_carried}
 use Rattle.laws_operation.specs.ByteLaws.{Bear}

@@ -2,11 +2,11 @@
 use Rattle.std.proofs.Common.{Bool, List, [], cond, false, refl, subst, sym, true, ◌∷◌, ◌≡◌}
 use Rattle.std.specs.FinMap.{entries}
 use Rattle.alto_words.specs.declared.fid.Fid.{Fid}
-use Rattle.pack_model.specs.Bodies.{Body, File, Files}
-use Rattle.pack_model.specs.Bodies.Body.{data_of, items_of}
-use Rattle.pack_model.specs.Namings.{AllKept, IsTidy, Naming, body_kept, body_namings, files_kept, is_kept, items_kept, kept_after, kept_after_body, namings, namings_in, tidied}
-use Rattle.pack_model.specs.Slots.{Item, item_words}
-use Rattle.pack_model.specs.Slots.Item.{entry, space}
+use Rattle.pack_model.specs.reading.Bodies.{Body, File, Files}
+use Rattle.pack_model.specs.reading.Bodies.Body.{data_of, items_of}
+use Rattle.pack_model.specs.reading.Namings.{AllKept, IsTidy, Naming, body_kept, body_namings, files_kept, is_kept, items_kept, kept_after, kept_after_body, namings, namings_in, tidied}
+use Rattle.pack_model.specs.reading.Slots.{Item, item_words}
+use Rattle.pack_model.specs.reading.Slots.Item.{entry, space}
 use Rattle.laws_record.proofs.DropSteps.{join_kept}
 use Rattle.laws_record.proofs.Mending.{entries-tidied}
 use Rattle.laws_record.proofs.Tidying.{onto}

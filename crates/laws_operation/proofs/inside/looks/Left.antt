@@ -5,17 +5,17 @@ use Rattle.std.specs.List.{list_any}
 use Rattle.alto_words.specs.Fid.{is_fid}
 use Rattle.alto_words.specs.declared.fid.Fid.{Fid}
 use Rattle.disk_records.specs.Packs.{Pack}
-use Rattle.pack_model.specs.Bodies.{Body, File, items_in}
-use Rattle.pack_model.specs.Bodies.Body.{data_of, items_of}
-use Rattle.pack_model.specs.Files.{lives}
-use Rattle.pack_model.specs.Leaders.{Leader}
-use Rattle.pack_model.specs.Model.{Model, dir_items, is_named, read_pack}
-use Rattle.pack_model.specs.Namings.{AllKept, Naming, clashes, is_kept, may_stand, namings}
-use Rattle.pack_model.specs.Sights.{sights}
-use Rattle.pack_model.specs.Slots.{Item, item_words}
-use Rattle.pack_model.specs.Slots.Item.{entry, space}
-use Rattle.pack_model.specs.Step.{items_left, step}
-use Rattle.pack_model.specs.Step.Operation.{leave}
+use Rattle.pack_model.specs.reading.Bodies.{Body, File, items_in}
+use Rattle.pack_model.specs.reading.Bodies.Body.{data_of, items_of}
+use Rattle.pack_model.specs.reading.Files.{lives}
+use Rattle.pack_model.specs.reading.Leaders.{Leader}
+use Rattle.pack_model.specs.reading.Model.{Model, dir_items, is_named, read_pack}
+use Rattle.pack_model.specs.reading.Namings.{AllKept, Naming, clashes, is_kept, may_stand, namings}
+use Rattle.pack_model.specs.reading.Sights.{sights}
+use Rattle.pack_model.specs.reading.Slots.{Item, item_words}
+use Rattle.pack_model.specs.reading.Slots.Item.{entry, space}
+use Rattle.pack_model.specs.operations.Step.{items_left, step}
+use Rattle.pack_model.specs.operations.Step.Operation.{leave}
 use Rattle.pack_laws.proofs.Keys.{fid_total, is_fid-sym, same_fid}
 use Rattle.laws_record.proofs.DirReads.{insert_same}
 use Rattle.laws_record.proofs.DirSteps.{apart_before, onto_none}

@@ -4,15 +4,15 @@ use Rattle.std.specs.FinMap.{entries, get, get-insert}
 use Rattle.std.specs.List.{list_any}
 use Rattle.alto_words.specs.Fid.{is_directory, is_fid}
 use Rattle.alto_words.specs.declared.fid.Fid.{Fid}
-use Rattle.pack_model.specs.Bodies.{body_items, items_in}
-use Rattle.pack_model.specs.Bodies.Body.{data_of, items_of}
-use Rattle.pack_model.specs.Files.{lives}
-use Rattle.pack_model.specs.Model.{read_pack}
-use Rattle.pack_model.specs.Namings.{AllKept, Naming, clashes, fits, is_kept, may_stand, namings}
-use Rattle.pack_model.specs.Sights.{sights}
-use Rattle.pack_model.specs.Slots.Item.{space}
-use Rattle.pack_model.specs.Step.{new_body, new_file, step}
-use Rattle.pack_model.specs.Step.Operation.{make}
+use Rattle.pack_model.specs.reading.Bodies.{body_items, items_in}
+use Rattle.pack_model.specs.reading.Bodies.Body.{data_of, items_of}
+use Rattle.pack_model.specs.reading.Files.{lives}
+use Rattle.pack_model.specs.reading.Model.{read_pack}
+use Rattle.pack_model.specs.reading.Namings.{AllKept, Naming, clashes, fits, is_kept, may_stand, namings}
+use Rattle.pack_model.specs.reading.Sights.{sights}
+use Rattle.pack_model.specs.reading.Slots.Item.{space}
+use Rattle.pack_model.specs.operations.Step.{new_body, new_file, step}
+use Rattle.pack_model.specs.operations.Step.Operation.{make}
 use Rattle.pack_laws.proofs.Keys.{fid_total, same_fid}
 use Rattle.laws_record.proofs.Heads.{and_left}
 use Rattle.laws_record.proofs.Tidying.{or_false}

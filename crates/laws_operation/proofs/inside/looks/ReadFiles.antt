@@ -4,12 +4,12 @@ use Rattle.std.specs.FinMap.{get}
 use Rattle.std.specs.Option.{is_some, option_map}
 use Rattle.alto_words.specs.declared.fid.Fid.{Fid}
 use Rattle.disk_records.specs.Packs.{Pack}
-use Rattle.pack_model.specs.Bodies.{File, described, found, is_described}
-use Rattle.pack_model.specs.Files.{file_bytes, leader, lives}
-use Rattle.pack_model.specs.Model.{read_pack, read_sights}
-use Rattle.pack_model.specs.Namings.{IsTidy}
-use Rattle.pack_model.specs.Sights.{sights}
-use Rattle.pack_model.specs.View.{seen_of}
+use Rattle.pack_model.specs.reading.Bodies.{File, described, found, is_described}
+use Rattle.pack_model.specs.reading.Files.{file_bytes, leader, lives}
+use Rattle.pack_model.specs.reading.Model.{read_pack, read_sights}
+use Rattle.pack_model.specs.reading.Namings.{IsTidy}
+use Rattle.pack_model.specs.reading.Sights.{sights}
+use Rattle.pack_model.specs.showing.View.{seen_of}
 use Rattle.pack_laws.proofs.Placing.{none_of_false}
 use Rattle.laws_record.proofs.Keeping.{get-where}
 use Rattle.laws_record.proofs.Mending.{get-seen}

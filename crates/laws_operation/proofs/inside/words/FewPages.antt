@@ -12,13 +12,13 @@ use Rattle.std.specs.Prelude.{All, nat_lt, ◌||◌}
 use Rattle.alto_words.specs.declared.fid.Fid.{Fid}
 use Rattle.disk_records.specs.Addresses.{pages_of}
 use Rattle.disk_records.specs.Packs.{Pack, is_usable, sector_at}
-use Rattle.pack_model.specs.Commands.{sectors_of}
-use Rattle.pack_model.specs.Committing.{page_of_byte}
-use Rattle.pack_model.specs.Files.{file_bytes, place}
-use Rattle.pack_model.specs.Model.{good_one}
-use Rattle.pack_model.specs.Sights.{Sight, sights}
-use Rattle.pack_model.specs.Sights.Sight.{free, hidden, holds}
-use Rattle.pack_model.specs.Whole.{PageAt, Seated, Whole}
+use Rattle.pack_model.specs.operations.Commands.{sectors_of}
+use Rattle.pack_model.specs.operations.Committing.{page_of_byte}
+use Rattle.pack_model.specs.reading.Files.{file_bytes, place}
+use Rattle.pack_model.specs.reading.Model.{good_one}
+use Rattle.pack_model.specs.reading.Sights.{Sight, sights}
+use Rattle.pack_model.specs.reading.Sights.Sight.{free, hidden, holds}
+use Rattle.pack_model.specs.states.Whole.{PageAt, Seated, Whole}
 use Rattle.laws_record.proofs.Heads.{and_left, and_right}
 use Rattle.laws_operation.proofs.Grown.{last_page}
 use Rattle.laws_operation.proofs.Lying.{bytes_laid, same_number}

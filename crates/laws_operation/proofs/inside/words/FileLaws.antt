@@ -6,18 +6,18 @@ use Rattle.alto_words.specs.declared.fid.Fid.{Fid}
 use Rattle.disk_records.specs.Addresses.{real_of}
 use Rattle.disk_records.specs.Labels.{tag}
 use Rattle.disk_records.specs.Packs.{Pack, sector_at}
-use Rattle.pack_model.specs.Bytes.{bytes_of}
-use Rattle.pack_model.specs.Committing.{page_of_byte}
-use Rattle.pack_model.specs.Files.{file_bytes, place}
-use Rattle.pack_model.specs.Leaders.{Leader, is_readable, leader_of, leader_words}
-use Rattle.pack_model.specs.Links.{no_link}
-use Rattle.pack_model.specs.Model.{good_one}
-use Rattle.pack_model.specs.PageWords.{filled, first_page_value, last_page_hints, new_bytes, page_number}
-use Rattle.pack_model.specs.Sights.{Sight, sights, tag_sight}
-use Rattle.pack_model.specs.Sights.Sight.{hidden, holds, leads}
-use Rattle.pack_model.specs.SlotWords.{space_words}
-use Rattle.pack_model.specs.Step.{new_leader}
-use Rattle.pack_model.specs.Whole.{PageAt, Whole}
+use Rattle.pack_model.specs.reading.Bytes.{bytes_of}
+use Rattle.pack_model.specs.operations.Committing.{page_of_byte}
+use Rattle.pack_model.specs.reading.Files.{file_bytes, place}
+use Rattle.pack_model.specs.reading.Leaders.{Leader, is_readable, leader_of, leader_words}
+use Rattle.pack_model.specs.hints.Links.{no_link}
+use Rattle.pack_model.specs.reading.Model.{good_one}
+use Rattle.pack_model.specs.operations.PageWords.{filled, first_page_value, last_page_hints, new_bytes, page_number}
+use Rattle.pack_model.specs.reading.Sights.{Sight, sights, tag_sight}
+use Rattle.pack_model.specs.reading.Sights.Sight.{hidden, holds, leads}
+use Rattle.pack_model.specs.reading.SlotWords.{space_words}
+use Rattle.pack_model.specs.operations.Step.{new_leader}
+use Rattle.pack_model.specs.states.Whole.{PageAt, Whole}
 use Rattle.pack_laws.proofs.Placing.{leader_of_place, page_of_place}
 use Rattle.laws_record.specs.QuietLaws.{counted_of}
 use Rattle.laws_operation.proofs.Changing.{headed, seat_of}

@@ -10,12 +10,12 @@ use Rattle.alto_words.specs.declared.fid.Fid.{Fid}
 use Rattle.disk_records.specs.Addresses.{real_of}
 use Rattle.disk_records.specs.Packs.{Pack, is_free_at}
 use Rattle.disk_records.specs.declared.shape.Shape.{Shape}
-use Rattle.pack_model.specs.Bytes.{bytes_of}
-use Rattle.pack_model.specs.Commands.{Claimable, all_claimed, claims_of, past_last}
-use Rattle.pack_model.specs.PageWords.{link_to_first, page_value}
-use Rattle.pack_model.specs.Sights.{Sight, sights}
-use Rattle.pack_model.specs.Sights.Sight.{free, hidden}
-use Rattle.pack_model.specs.Whole.{IsLaid, PageAt}
+use Rattle.pack_model.specs.reading.Bytes.{bytes_of}
+use Rattle.pack_model.specs.operations.Commands.{Claimable, all_claimed, claims_of, past_last}
+use Rattle.pack_model.specs.operations.PageWords.{link_to_first, page_value}
+use Rattle.pack_model.specs.reading.Sights.{Sight, sights}
+use Rattle.pack_model.specs.reading.Sights.Sight.{free, hidden}
+use Rattle.pack_model.specs.states.Whole.{IsLaid, PageAt}
 use Rattle.laws_operation.specs.ByteLaws.{together}
 use Rattle.laws_operation.proofs.inside.words.Filled.{page_counted}
 use Rattle.laws_operation.proofs.inside.words.Labels.{label_range}

@@ -7,13 +7,13 @@ use Rattle.alto_words.specs.declared.fid.Fid.{Fid}
 use Rattle.disk_records.specs.Addresses.{pages_of}
 use Rattle.disk_records.specs.Labels.{page_of, tag}
 use Rattle.disk_records.specs.Packs.{Pack, sector_at}
-use Rattle.pack_model.specs.Bytes.{bytes_of, put_at}
-use Rattle.pack_model.specs.Commands.{Claimable, all_claimed, claims_of, grown_claims, grown_label, grown_value, last_room, past_last}
-use Rattle.pack_model.specs.Committing.{page_of_byte}
-use Rattle.pack_model.specs.Files.{file_bytes, place}
-use Rattle.pack_model.specs.PageWords.{link_to_first, page_number}
-use Rattle.pack_model.specs.Sights.{Sight, sights}
-use Rattle.pack_model.specs.Whole.{IsLaid, PageAt, Whole}
+use Rattle.pack_model.specs.reading.Bytes.{bytes_of, put_at}
+use Rattle.pack_model.specs.operations.Commands.{Claimable, all_claimed, claims_of, grown_claims, grown_label, grown_value, last_room, past_last}
+use Rattle.pack_model.specs.operations.Committing.{page_of_byte}
+use Rattle.pack_model.specs.reading.Files.{file_bytes, place}
+use Rattle.pack_model.specs.operations.PageWords.{link_to_first, page_number}
+use Rattle.pack_model.specs.reading.Sights.{Sight, sights}
+use Rattle.pack_model.specs.states.Whole.{IsLaid, PageAt, Whole}
 use Rattle.pack_laws.proofs.Bytes.{bytes_below, bytes_of-put, length-bytes_of}
 use Rattle.laws_record.specs.QuietLaws.{counted_of}
 use Rattle.laws_operation.proofs.Changing.{length-together}

@@ -6,9 +6,9 @@ use Rattle.alto_words.specs.Fid.{is_full_name, serial_of}
 use Rattle.alto_words.specs.declared.fid.Fid.{Fid}
 use Rattle.disk_records.specs.Labels.{in_range, label_of, page_of, tag}
 use Rattle.disk_records.specs.Packs.{Pack, sector_at}
-use Rattle.pack_model.specs.Files.{lives, place}
-use Rattle.pack_model.specs.PageWords.{page_number}
-use Rattle.pack_model.specs.Sights.{sights}
+use Rattle.pack_model.specs.reading.Files.{lives, place}
+use Rattle.pack_model.specs.operations.PageWords.{page_number}
+use Rattle.pack_model.specs.reading.Sights.{sights}
 use Rattle.pack_laws.proofs.Guarding.{carried_parts}
 use Rattle.pack_laws.proofs.Placing.{place_of_leader}
 use Rattle.laws_record.proofs.Copying.{place_carried}

@@ -5,9 +5,9 @@ use Rattle.alto_words.specs.Fid.{serial_of}
 use Rattle.alto_words.specs.Names.{is_stored_name, lost}
 use Rattle.alto_words.specs.declared.fid.Fid.{Fid}
 use Rattle.disk_records.specs.Words.{double, word}
-use Rattle.pack_model.specs.Bytes.{bytes_of, put_at}
-use Rattle.pack_model.specs.Leaders.{Leader, is_readable, leader_name, leader_of, leader_words, name_bytes}
-use Rattle.pack_model.specs.PageWords.{halves, leader_value, name_words, stamped_value, titled_value}
+use Rattle.pack_model.specs.reading.Bytes.{bytes_of, put_at}
+use Rattle.pack_model.specs.reading.Leaders.{Leader, is_readable, leader_name, leader_of, leader_words, name_bytes}
+use Rattle.pack_model.specs.operations.PageWords.{halves, leader_value, name_words, stamped_value, titled_value}
 use Rattle.pack_laws.proofs.Bytes.{length-put_at, take-put_at}
 use Rattle.laws_record.proofs.Slotwise.{put_before, put_behind, put_here}
 use Rattle.laws_operation.specs.LeaderLaws.{stamped, titled}

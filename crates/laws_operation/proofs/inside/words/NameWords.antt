@@ -11,9 +11,9 @@ use Rattle.alto_words.proofs.Versions.{is_stored_character, is_stored_name-fits,
 use Rattle.alto_words.specs.Names.{is_stored_name, lost}
 use Rattle.alto_words.specs.declared.fid.Fid.{Fid}
 use Rattle.disk_records.specs.Words.{word}
-use Rattle.pack_model.specs.Bytes.{bytes_of, words_of}
-use Rattle.pack_model.specs.Leaders.{is_readable, leader_name, name_bytes, spelled_name}
-use Rattle.pack_model.specs.PageWords.{filled, name_words}
+use Rattle.pack_model.specs.reading.Bytes.{bytes_of, words_of}
+use Rattle.pack_model.specs.reading.Leaders.{is_readable, leader_name, name_bytes, spelled_name}
+use Rattle.pack_model.specs.operations.PageWords.{filled, name_words}
 use Rattle.pack_laws.proofs.Bytes.{length-words_of}
 use Rattle.laws_operation.proofs.inside.words.Filled.{filled_back, length-filled}
 

@@ -1,14 +1,14 @@
 -- The room that was found for an entry, among the slots of its directory.
 use Rattle.std.proofs.Common.{Bool, List, None, Option, Some, [], ap, arith, cond, false, get_or, leb-true, length, nat_le, refl, subst, suc, sym, true, ℕ, ◌++◌, ◌+◌, ◌<◌, ◌∙◌, ◌∷◌, ◌≡◌, ◌≤◌}
 use Rattle.std.specs.Option.{option_or}
-use Rattle.pack_model.specs.Committing.{page_of_word}
-use Rattle.pack_model.specs.Files.{place}
-use Rattle.pack_model.specs.Model.{dir_items, read_pack}
-use Rattle.pack_model.specs.PageWords.{entered_words, later}
-use Rattle.pack_model.specs.Rooms.{Room, most_free, room_from, room_here, run}
-use Rattle.pack_model.specs.Sights.{sights}
-use Rattle.pack_model.specs.Slots.{Item, all_words, entry_length, item_words}
-use Rattle.pack_model.specs.Slots.Item.{space}
+use Rattle.pack_model.specs.operations.Committing.{page_of_word}
+use Rattle.pack_model.specs.reading.Files.{place}
+use Rattle.pack_model.specs.reading.Model.{dir_items, read_pack}
+use Rattle.pack_model.specs.operations.PageWords.{entered_words, later}
+use Rattle.pack_model.specs.operations.Rooms.{Room, most_free, room_from, room_here, run}
+use Rattle.pack_model.specs.reading.Sights.{sights}
+use Rattle.pack_model.specs.reading.Slots.{Item, all_words, entry_length, item_words}
+use Rattle.pack_model.specs.reading.Slots.Item.{space}
 use Rattle.laws_record.proofs.RoomPlaced.{run_is}
 use Rattle.laws_record.proofs.Roomy.{run_enough}
 use Rattle.laws_operation.proofs.inside.words.EntryBytes.{entry_words_fit}

@@ -1,5 +1,5 @@
 use Rattle.std.proofs.Common.{◌∙◌, ap, arith}
-use Rattle.pack_model.specs.Bytes.{words_of}
+use Rattle.pack_model.specs.reading.Bytes.{words_of}
 use Rattle.leader_page.proofs.Bytes.{words_of-read}
 use Rattle.leader_page.proofs.leader.name_words.Goals as goal
 

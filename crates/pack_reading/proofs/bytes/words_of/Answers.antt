@@ -2,7 +2,7 @@ use Rattle.std.proofs.Common.{◌≡◌, ◌<◌, ◌+◌, ◌-◌, ◌*◌, [],
 use Rattle.std.proofs.lemmas.Grind.{common_steps}
 use Rattle.std.proofs.lemmas.List.{append-nil, length-drop, take_all}
 use Rattle.byteorder.specs.Endian.{big_number}
-use Rattle.pack_model.specs.Bytes.{words_of}
+use Rattle.pack_model.specs.reading.Bytes.{words_of}
 use Rattle.pack_reading.proofs.Words.{words_more, no_words}
 use Rattle.pack_reading.proofs.bytes.words_of.Goals as goal
 

@@ -1,5 +1,5 @@
 use Rattle.std.proofs.Common.{◌≡◌, ◌++◌, ◌*◌, ◌/◌, length, drop}
-use Rattle.pack_model.specs.Bytes.{words_of}
+use Rattle.pack_model.specs.reading.Bytes.{words_of}
 use Rattle.pack_reading.proofs.bytes.words_of.Given as goal
 
 abbrev pub invariant-loop-k : goal.invariant-loop-k

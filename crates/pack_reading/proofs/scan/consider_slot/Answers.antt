@@ -1,7 +1,7 @@
 use Rattle.std.proofs.Common.{[], ◌∷◌, sym, subst}
 use Rattle.std.specs.Prelude.{OnOk, fold}
 use Rattle.dir_slots.specs.Items.{item_of}
-use Rattle.pack_model.specs.Namings.{namings_in}
+use Rattle.pack_model.specs.reading.Namings.{namings_in}
 use Rattle.pack_reading.specs.Kept.{lives_kept}
 use Rattle.pack_reading.specs.Homes.{StandsFor, considered}
 use Rattle.pack_reading.proofs.scan.consider_slot.Goals as goal

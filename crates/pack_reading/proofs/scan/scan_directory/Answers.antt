@@ -2,9 +2,9 @@ use Rattle.std.proofs.Common.{◌≡◌, [], ◌∷◌, Some, None, sym, ap, ◌
 use Rattle.std.proofs.lemmas.List.{take_rest}
 use Rattle.std.specs.Prelude.{fold}
 use Rattle.dir_slots.specs.Items.{item_of}
-use Rattle.pack_model.specs.Bytes.{words_of}
-use Rattle.pack_model.specs.Slots.{slots, slot_at}
-use Rattle.pack_model.specs.Namings.{namings_in}
+use Rattle.pack_model.specs.reading.Bytes.{words_of}
+use Rattle.pack_model.specs.reading.Slots.{slots, slot_at}
+use Rattle.pack_model.specs.reading.Namings.{namings_in}
 use Rattle.pack_reading.specs.Kept.{lives_kept}
 use Rattle.pack_reading.specs.Homes.{considered, namings_of}
 use Rattle.pack_reading.proofs.Scanning.{directory_namings, slot_considered, none_left}

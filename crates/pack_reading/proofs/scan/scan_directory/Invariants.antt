@@ -2,7 +2,7 @@ use Rattle.std.proofs.Common.{length}
 use Rattle.std.specs.Prelude.{fold}
 use Rattle.std.specs.FinMap.{FinMap}
 use Rattle.alto_words.specs.Fid.{fid_cmp}
-use Rattle.pack_model.specs.View.{Home}
+use Rattle.pack_model.specs.showing.View.{Home}
 use Rattle.pack_reading.specs.Kept.{lives_kept}
 use Rattle.pack_reading.specs.Homes.{StandsFor, considered, namings_of}
 use Rattle.pack_reading.proofs.Scanning.{ComesTo}

@@ -1,6 +1,6 @@
 use Rattle.std.specs.FinMap.{FinMap}
 use Rattle.alto_words.specs.Fid.{fid_cmp}
-use Rattle.pack_model.specs.View.{Home}
+use Rattle.pack_model.specs.showing.View.{Home}
 use Rattle.pack_reading.specs.Homes.{StandsFor}
 use Rattle.pack_reading.specs.Passed.{IsPassed}
 use Rattle.pack_reading.proofs.Grouping.{AreBehind}

@@ -1,7 +1,7 @@
 use Rattle.std.proofs.Common.{◌+◌}
 use Rattle.std.specs.FinMap.{FinMap}
 use Rattle.alto_words.specs.Fid.{fid_cmp}
-use Rattle.pack_model.specs.View.{Home}
+use Rattle.pack_model.specs.showing.View.{Home}
 use Rattle.pack_reading.specs.Homes.{StandsFor}
 use Rattle.pack_reading.specs.Passed.{AreTaken, IsPassed}
 use Rattle.pack_reading.proofs.settle.next_in_group.Given as goal

@@ -1,8 +1,8 @@
 use Rattle.std.proofs.Common.{map, take, subst}
 use Rattle.std.specs.FinMap.{FinMap}
 use Rattle.alto_words.specs.Fid.{fid_cmp}
-use Rattle.pack_model.specs.View.{Home}
-use Rattle.pack_model.specs.Settling.{settled}
+use Rattle.pack_model.specs.showing.View.{Home}
+use Rattle.pack_model.specs.showing.Settling.{settled}
 use Rattle.pack_reading.specs.Homes.{StandsFor}
 use Rattle.pack_reading.specs.Passed.{IsPassed}
 use Rattle.pack_reading.specs.Shows.{seen_file}

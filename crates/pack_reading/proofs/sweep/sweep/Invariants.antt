@@ -1,7 +1,7 @@
 use Rattle.std.proofs.Common.{◌≡◌, ◌+◌, ◌≤◌, [], take, IsTrue}
 use Rattle.disk_records.specs.Addresses.{pages_of}
 use Rattle.disk_records.specs.Tapes.{DiskAlone, pack, added}
-use Rattle.pack_model.specs.Sights.{sights}
+use Rattle.pack_model.specs.reading.Sights.{sights}
 use Rattle.pack_reading.specs.Kept.{HoldsSights}
 use Rattle.pack_reading.proofs.sweep.sweep.Given as goal
 

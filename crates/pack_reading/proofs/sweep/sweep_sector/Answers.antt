@@ -1,5 +1,5 @@
 use Rattle.std.proofs.Common.{sym, ◌∙◌, ap, subst}
-use Rattle.pack_model.specs.Sights.{sight}
+use Rattle.pack_model.specs.reading.Sights.{sight}
 use Rattle.pack_reading.specs.Kept.{KeepsSight}
 use Rattle.pack_reading.proofs.Keeping.{sees, sees_nothing, hidden_keeps}
 use Rattle.pack_reading.proofs.sweep.sweep_sector.Goals as goal

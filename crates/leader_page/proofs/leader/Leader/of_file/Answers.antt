@@ -3,7 +3,7 @@ use Rattle.std.specs.Option.{MatchOption}
 use Rattle.alto_words.specs.declared.fid.Fid.{Fid}
 use Rattle.alto_words.specs.Fid.{serial_of}
 use Rattle.alto_words.specs.Names.{lost}
-use Rattle.pack_model.specs.Leaders.{leader_of, leader_words}
+use Rattle.pack_model.specs.reading.Leaders.{leader_of, leader_words}
 use Rattle.leader_page.proofs.Spelling.{spelled}
 use Rattle.leader_page.proofs.Decoding.{of_file_named, of_file_lost}
 use Rattle.leader_page.proofs.leader.Leader.of_file.Goals as goal

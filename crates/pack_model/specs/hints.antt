@@ -1,0 +1,5 @@
+pub mod Links
+pub mod Tables
+pub mod Handy
+pub mod HintWords
+pub mod Misled

@@ -1,0 +1,12 @@
+pub mod Bytes
+pub mod Leaders
+pub mod Sights
+pub mod Files
+pub mod Stored
+pub mod Slots
+pub mod SlotWords
+pub mod Bodies
+pub mod Namings
+pub mod Model
+pub mod Versions
+pub mod OtherNames

@@ -1,0 +1,4 @@
+pub mod Mended
+pub mod Needed
+pub mod Scavenging
+pub mod Reports

@@ -1,0 +1,7 @@
+pub mod Lines
+pub mod Moves
+pub mod Turns
+pub mod Meanings
+pub mod Maps
+pub mod Descriptor
+pub mod Format

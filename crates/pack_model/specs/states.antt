@@ -1,0 +1,4 @@
+pub mod Whole
+pub mod Sentences
+pub mod Sound
+pub mod InUse
