@@ -1,6 +1,0 @@
-use Rattle.std.proofs.Common.{◌≡◌}
-use Rattle.sample_packs.specs.Samples.{free_sectors}
-use Rattle.sample_packs.proofs.sectors.free_sectors.Given as goal
-
-abbrev pub invariant-loop-at : goal.invariant-loop-at
-invariant-loop-at l = l.sectors.items ≡ free_sectors l.at
