@@ -37,9 +37,9 @@ after_all (e ∷ events) sectors = after_all events (after_one e sectors)
 abbrev pub after : Pack → List Event → Pack
 after p events = record { shape = p.shape; sectors = after_all events p.sectors }
 
--- the pack where the events are cut after k of them
-abbrev pub cut : Pack → List Event → ℕ → Pack
-cut p events k = after p (take k events)
+-- the pack where the machine stopped after k of the events
+abbrev pub crash : Pack → List Event → ℕ → Pack
+crash p events k = after p (take k events)
 
 -- ---- what a sector carries
 -- sector 0 isn't used, and a sector with a wrong header isn't either

@@ -4,7 +4,7 @@ use Rattle.disk_records.specs.Packs.{Pack, after}
 use Rattle.disk_records.specs.declared.records.Event.{Event}
 use Rattle.pack_model.specs.sessions.Descriptor.{close_writes}
 use Rattle.pack_model.specs.hints.Links.{LinksTrue}
-use Rattle.pack_model.specs.reading.Model.{read_pack}
+use Rattle.pack_model.specs.reading.Model.{read_as}
 use Rattle.pack_model.specs.reading.Sights.{sights}
 use Rattle.pack_model.specs.states.Sound.{Clean, Sound, mark_clean, mark_of}
 use Rattle.pack_model.specs.hints.Tables.{HintsTrue, TableTrue}
@@ -13,7 +13,7 @@ use Rattle.laws_operation.specs.DescriptorLaws.{MayClose}
 
 -- the record writes by which this pack is closed, with this map, in these sectors of DiskDescriptor's data pages
 abbrev pub closing_writes : Pack → List Bool → List ℕ → List Event
-closing_writes p busy pages = close_writes (mark_of (sights p)) p.shape (read_pack p).last busy pages
+closing_writes p busy pages = close_writes (mark_of (sights p)) p.shape (read_as p).last busy pages
 
 -- Of q, which closing leaves of p, all hints are true; it is clean, and sound where p was.
 pub record ClosedTrue (p q : Pack) : Type 0 where

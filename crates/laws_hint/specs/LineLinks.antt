@@ -12,20 +12,20 @@ use Rattle.pack_model.specs.operations.Step.{Operation}
 use Rattle.pack_model.specs.hints.Tables.{TableTrue}
 use Rattle.pack_model.specs.states.Whole.{Tidy, Whole}
 use Rattle.laws_operation.specs.DescriptorLaws.{MayClose}
-use Rattle.laws_line.specs.CutLaws.{Line, does, makes, over, with_serial}
+use Rattle.laws_line.specs.CutLaws.{Batch, does, makes, over, with_serial}
 use Rattle.laws_operation.specs.LinkLaws.{KeepsLinks}
 use Rattle.laws_hint.specs.ClosingLaws.{ClosedTrue, closing_writes}
 
 -- ---- a line
 -- each operation's record writes leave all links true where they were, on the pack that those before them leave
-abbrev pub EachKeepsLinks : {p : Pack} {events : List Event} {ops : List Operation} → Line p events ops → Type 0
+abbrev pub EachKeepsLinks : {p : Pack} {events : List Event} {ops : List Operation} → Batch p events ops → Type 0
 EachKeepsLinks over = Unit {0}
 EachKeepsLinks (does {p = p} {events = events} other stays line) = KeepsLinks p events × EachKeepsLinks line
 EachKeepsLinks (makes {p = p} {at = at} {last = last} {events = events} placed above stays line) = KeepsLinks (with_serial p at last) events × EachKeepsLinks line
 
 -- then so does the line, with its new serials
 abbrev pub LineKeepsLinks : Type 0
-LineKeepsLinks = (p : Pack) (events : List Event) (ops : List Operation) (line : Line p events ops) → Whole p → Tidy p → EachKeepsLinks line → KeepsLinks p events
+LineKeepsLinks = (p : Pack) (events : List Event) (ops : List Operation) (line : Batch p events ops) → Whole p → Tidy p → EachKeepsLinks line → KeepsLinks p events
 
 -- record writes that keep links, and then others on the pack that they leave, keep them together
 abbrev pub LinksJoin : Type 0
@@ -38,10 +38,10 @@ opening_writes p at = open_writes (mark_of (sights p)) at (sector_at p at).value
 
 -- the opening of the mark and then such a line keep links
 abbrev pub OpenedLineKeepsLinks : Type 0
-OpenedLineKeepsLinks = (p : Pack) (at : ℕ) (events : List Event) (ops : List Operation) (line : Line (after p (opening_writes p at)) events ops) → Whole p → Tidy p → place (sights p) disk_descriptor 1 ≡ Some at
+OpenedLineKeepsLinks = (p : Pack) (at : ℕ) (events : List Event) (ops : List Operation) (line : Batch (after p (opening_writes p at)) events ops) → Whole p → Tidy p → place (sights p) disk_descriptor 1 ≡ Some at
     → EachKeepsLinks line → KeepsLinks p (opening_writes p at ++ events)
 
 -- where links were true before both, closing the pack behind them with its true map leaves all hints true
 abbrev pub LineClosesWithTrueHints : Type 0
-LineClosesWithTrueHints = (p : Pack) (at : ℕ) (events : List Event) (ops : List Operation) (line : Line (after p (opening_writes p at)) events ops) (busy : List Bool) (pages : List ℕ) → let q : Pack = after p (opening_writes p at ++ events) in
+LineClosesWithTrueHints = (p : Pack) (at : ℕ) (events : List Event) (ops : List Operation) (line : Batch (after p (opening_writes p at)) events ops) (busy : List Bool) (pages : List ℕ) → let q : Pack = after p (opening_writes p at ++ events) in
     Whole p → Tidy p → place (sights p) disk_descriptor 1 ≡ Some at → EachKeepsLinks line → LinksTrue p → MayClose q pages → TableTrue q busy → ClosedTrue q (after q (closing_writes q busy pages))

@@ -14,7 +14,7 @@ use Rattle.pack_model.specs.operations.Commands.{Claim, all_claimed, sectors_of}
 use Rattle.pack_model.specs.sessions.Descriptor.{close_writes, open_writes, serial_writes}
 use Rattle.pack_model.specs.operations.Entering.{entry_value, values_first}
 use Rattle.pack_model.specs.reading.Files.{place}
-use Rattle.pack_model.specs.reading.Model.{read_pack}
+use Rattle.pack_model.specs.reading.Model.{read_as}
 use Rattle.pack_model.specs.operations.Operations.{cut_writes, drop_writes, enter_writes, go_writes, grow_writes, make_writes}
 use Rattle.pack_model.specs.operations.PageWords.{freed_value}
 use Rattle.pack_model.specs.reading.Sights.{sights}
@@ -96,8 +96,8 @@ ValuesLeaveTheMap = (p : Pack) → Whole p → Tidy p → ValuesLeave p
 -- The opening of the mark, a new serial, and closing with any map.
 pub record DescriptorLeaves (p : Pack) : Type 0 where
   pub opens : (at : ℕ) → place (sights p) disk_descriptor 1 ≡ Some at → LeavesMap p (open_writes (mark_of (sights p)) at (sector_at p at).value)
-  pub serials : (at last : ℕ) → place (sights p) disk_descriptor 1 ≡ Some at → (read_pack p).last ≤ last → LeavesMap p (serial_writes at last (sector_at p at).value)
-  pub closes : (busy : List Bool) (pages : List ℕ) → MayClose p pages → LeavesMap p (close_writes (mark_of (sights p)) p.shape (read_pack p).last busy pages)
+  pub serials : (at last : ℕ) → place (sights p) disk_descriptor 1 ≡ Some at → (read_as p).last ≤ last → LeavesMap p (serial_writes at last (sector_at p at).value)
+  pub closes : (busy : List Bool) (pages : List ℕ) → MayClose p pages → LeavesMap p (close_writes (mark_of (sights p)) p.shape (read_as p).last busy pages)
 
 abbrev pub DescriptorWritesLeaveTheMap : Type 0
 DescriptorWritesLeaveTheMap = (p : Pack) → Whole p → Tidy p → DescriptorLeaves p

@@ -4,7 +4,7 @@ use Rattle.disk_records.specs.Addresses.{pages_of, table_words}
 use Rattle.disk_records.specs.Packs.{Pack, after}
 use Rattle.pack_model.specs.sessions.Descriptor.{descriptor_text}
 use Rattle.pack_model.specs.states.InUse.{how_many}
-use Rattle.pack_model.specs.reading.Model.{descriptor_words, read_pack}
+use Rattle.pack_model.specs.reading.Model.{descriptor_words, read_as}
 use Rattle.pack_model.specs.reading.Sights.{sights}
 use Rattle.pack_model.specs.states.Sound.{mark_clean, mark_of}
 use Rattle.pack_model.specs.hints.Tables.{TableTrue, WordsTrue, described_free, described_table, table_in, words_of_bits}
@@ -16,7 +16,7 @@ use Rattle.laws_hint.specs.MapMeanings.{HasEachSector}
 -- The words of DiskDescriptor in q, which closing leaves of p, are those of this map, with the last serial and the clean mark; so are
 -- the words of its map; and the number of free sectors that it states is that of the bits that aren't busy.
 pub record Describes (p q : Pack) (busy : List Bool) : Type 0 where
-  pub text : descriptor_words (sights q) ≡ descriptor_text p.shape (read_pack p).last mark_clean busy
+  pub text : descriptor_words (sights q) ≡ descriptor_text p.shape (read_as p).last mark_clean busy
   pub words : table_in q ≡ words_of_bits (table_words q.shape) busy
   pub free : described_free q ≡ how_many not busy
 

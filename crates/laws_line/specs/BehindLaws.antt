@@ -7,7 +7,7 @@ use Rattle.disk_records.specs.Packs.{Pack}
 use Rattle.pack_model.specs.reading.Bodies.Body.{items_of}
 use Rattle.pack_model.specs.operations.Committing.{pages_for_operations}
 use Rattle.pack_model.specs.reading.Leaders.{Leader}
-use Rattle.pack_model.specs.reading.Model.{Model, read_pack, room}
+use Rattle.pack_model.specs.reading.Model.{Model, read_as, room}
 use Rattle.pack_model.specs.operations.Rooms.{most_free}
 use Rattle.pack_model.specs.reading.Slots.{Item, item_words}
 use Rattle.pack_model.specs.operations.Step.{Operation}
@@ -52,7 +52,7 @@ SettledAfterRename = (m : Model) (d : Fid) (old : List ℕ) (to : Fid) (name : L
 -- ---- directories
 -- a pack's directories are such, as the pack is read
 abbrev pub DirectoriesAreRead : Type 0
-DirectoriesAreRead = (p : Pack) (d : Fid) → is_directory d ≡ true → contains_key (read_pack p).files d ≡ true → IsDirectory (read_pack p) d
+DirectoriesAreRead = (p : Pack) (d : Fid) → is_directory d ≡ true → contains_key (read_as p).files d ≡ true → IsDirectory (read_as p) d
 
 -- SysDir is one where every file has a name
 abbrev pub RootIsDirectory : Type 0

@@ -8,12 +8,12 @@ use Rattle.alto_words.specs.declared.fid.Fid.{Fid}
 use Rattle.disk_records.specs.Packs.{Pack}
 use Rattle.pack_model.specs.operations.Committing.{length_of, pages_for_operations}
 use Rattle.pack_model.specs.scavenger.Mended.{HasRoom}
-use Rattle.pack_model.specs.reading.Model.{Model, dir_items, read_pack, room}
+use Rattle.pack_model.specs.reading.Model.{Model, dir_items, read_as, room}
 use Rattle.pack_model.specs.reading.Namings.{namings_in}
 use Rattle.pack_model.specs.reading.Slots.{Item}
 use Rattle.pack_model.specs.reading.Slots.Item.{entry}
 use Rattle.pack_model.specs.states.Sound.{Sound}
-use Rattle.pack_model.specs.operations.Step.{Operation, room_in, spare, step}
+use Rattle.pack_model.specs.operations.Step.{Operation, room_widening, spare_widening, step}
 use Rattle.pack_model.specs.operations.Step.Operation.{cut, drop_file, enter, grow, leave, make, put, stamp, title, widen}
 use Rattle.laws_line.specs.Ready.{Ready, ReadyThroughout, Settled, steps_of}
 
@@ -24,7 +24,7 @@ ReadyHasRoom = (m : Model) → Ready m → HasRoom m
 
 -- a sound pack is read as such a model, in which every file has a name
 abbrev pub SoundIsSettled : Type 0
-SoundIsSettled = (p : Pack) → Sound p → Settled (read_pack p)
+SoundIsSettled = (p : Pack) → Sound p → Settled (read_as p)
 
 -- ---- operations that leave names as they are
 -- bytes are put in the place of others alone; a name has at most 39 characters
@@ -63,7 +63,7 @@ DropLeavesRoom = (m : Model) (f : Fid) → Settled m → MayGo m f → ReadyThro
 -- SysDir gets a page where it has no run of free words for the longest entry, another directory where it has none for this one; then
 -- the file is made and entered; and then come operations that leave names as they are
 abbrev pub new_file_line : Model → Fid → List ℕ → Fid → ℕ → List Operation → List Operation
-new_file_line m d name f moment rest = spare m ++ room_in m d name ++ make f name moment ∷ enter d name f ∷ rest
+new_file_line m d name f moment rest = spare_widening m ++ room_widening m d name ++ make f name moment ∷ enter d name f ∷ rest
 
 -- the model behind the entering
 abbrev pub with_new_file : Model → Fid → List ℕ → Fid → ℕ → Model
@@ -89,7 +89,7 @@ pub record IsEntered (m : Model) (d : Fid) (name : List ℕ) (f : Fid) : Type 0 
 
 -- the same room, then the name in the leader, the entry that goes, and the one that comes
 abbrev pub rename_line : Model → Fid → List ℕ → Fid → List ℕ → Fid → List Operation
-rename_line m d old to name f = spare m ++ room_in m to name ++ title f name ∷ leave d old ∷ enter to name f ∷ []
+rename_line m d old to name f = spare_widening m ++ room_widening m to name ++ title f name ∷ leave d old ∷ enter to name f ∷ []
 
 abbrev pub RenameLeavesRoom : Type 0
 RenameLeavesRoom = (m : Model) (d : Fid) (old : List ℕ) (to : Fid) (name : List ℕ) (f : Fid)

@@ -1,8 +1,8 @@
--- What holds of the pack at each cut of some events: of first ones of them, of more behind them, and cut by cut. And moves whose cuts are
+-- What holds of the pack at each crash of some events: of first ones of them, of more behind them, and crash by crash. And moves whose cuts are
 -- viewed as their models and can be scavenged.
 use Rattle.std.specs.Prelude.{List, ℕ, ◌++◌, ◌↔◌, ◌≡◌}
 use Rattle.disk_records.specs.Events.{IsFirstOf}
-use Rattle.disk_records.specs.Packs.{Pack, after, cut}
+use Rattle.disk_records.specs.Packs.{Pack, after, crash}
 use Rattle.disk_records.specs.declared.records.Event.{Event}
 use Rattle.pack_model.specs.operations.Committing.{line_moves}
 use Rattle.pack_model.specs.sessions.Meanings.{Mendable, operating, session, viewing}
@@ -14,20 +14,20 @@ use Rattle.pack_model.specs.operations.Step.{Operation}
 use Rattle.laws_line.specs.Ready.{steps_of}
 
 -- ---- a property of packs
--- What holds at each cut of some events holds at each cut of first ones of them, as where a call was broken off; and from these on at
--- each cut of the others.
+-- What holds at each crash of some events holds at each crash of first ones of them, as where a call was broken off; and from these on at
+-- each crash of the others.
 pub record CrashesOfParts (P : Pack → Type 0) : Type 0 where
   pub first : (p : Pack) (a b : List Event) → Throughout P p (a ++ b) → Throughout P p a
   pub broken : (p : Pack) (wanted events : List Event) → IsFirstOf wanted events → Throughout P p wanted → Throughout P p events
   pub later : (p : Pack) (a b : List Event) → Throughout P p (a ++ b) → Throughout P (after p a) b
 
--- what holds at each cut of some events, and from these on at each cut of others, holds at each cut of both
+-- what holds at each crash of some events, and from these on at each crash of others, holds at each crash of both
 abbrev pub CrashesOfBothParts : (Pack → Type 0) → Type 0
 CrashesOfBothParts P = (p : Pack) (a b : List Event) → Throughout P p a → Throughout P (after p a) b → Throughout P p (a ++ b)
 
--- throughout is at each cut, by its number of events
+-- throughout is at each crash, by its number of events
 abbrev pub CrashByCrash : (Pack → Type 0) → Type 0
-CrashByCrash P = (p : Pack) (events : List Event) → Throughout P p events ↔ ((k : ℕ) → P (cut p events k))
+CrashByCrash P = (p : Pack) (events : List Event) → Throughout P p events ↔ ((k : ℕ) → P (crash p events k))
 
 -- ---- moves
 -- Record writes whose cuts are viewed as the models of their moves and can be scavenged are those of operations,
@@ -38,7 +38,7 @@ ViewedAndMendableOperates = (m : Model) (p : Pack) (events : List Event) (moves 
 abbrev pub ViewedAndMendableInSession : Type 0
 ViewedAndMendableInSession = (m : Model) (p : Pack) (events : List Event) (moves : List Move) → Obeys viewing m p events moves → Throughout Mendable p events → Obeys session m p events moves
 
--- Whatever a cut stands for, the moves of a line lead to the model behind its operations, from which the next line goes on.
+-- Whatever a crash stands for, the moves of a line lead to the model behind its operations, from which the next line goes on.
 pub record LeadsOn (mark : ℕ) (m : Model) (ops : List Operation) : Type 0 where
   pub in_views : steps viewing m (line_moves mark m ops) ≡ steps_of m ops
   pub in_operations : steps operating m (line_moves mark m ops) ≡ steps_of m ops

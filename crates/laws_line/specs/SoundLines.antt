@@ -8,9 +8,9 @@ use Rattle.disk_records.specs.declared.records.Event.{Event}
 use Rattle.pack_model.specs.operations.Committing.{line_moves, pages_for_operations}
 use Rattle.pack_model.specs.sessions.Descriptor.{open_writes}
 use Rattle.pack_model.specs.reading.Files.{place}
-use Rattle.pack_model.specs.states.InUse.{free_sectors}
+use Rattle.pack_model.specs.states.InUse.{free_sector_count}
 use Rattle.pack_model.specs.sessions.Meanings.{Mendable, operating, session}
-use Rattle.pack_model.specs.reading.Model.{Model, read_pack}
+use Rattle.pack_model.specs.reading.Model.{Model, read_as}
 use Rattle.pack_model.specs.sessions.Moves.{Obeys}
 use Rattle.pack_model.specs.scavenger.Scavenging.{Throughout, Unmarked}
 use Rattle.pack_model.specs.reading.Sights.{sights}
@@ -20,7 +20,7 @@ use Rattle.pack_model.specs.operations.Step.Operation.{drop_file}
 use Rattle.laws_line.specs.BehindLaws.{IsDirectory}
 use Rattle.laws_line.specs.LineLaws.{IsEntered, LeaveNames, MayGo, new_file_line, rename_line, with_new_file}
 use Rattle.laws_line.specs.Ready.{steps_of}
-use Rattle.laws_line.specs.CutLaws.{Line}
+use Rattle.laws_line.specs.CutLaws.{Batch}
 
 -- What the operations of a line are: changes that leave names as they are; a file that goes; one that is made and entered in a directory of
 -- the model, and then changed; one that is renamed, into such a directory.
@@ -35,14 +35,14 @@ pub data IsLine (m : Model) : List Operation → Type 0 where
 -- model there, and shows what it shows. Behind it the pack is read as the last model, and is sound again.
 pub record LineOnSound (p : Pack) (events : List Event) (ops : List Operation) : Type 0 where
   pub cuts : Throughout Mendable p events
-  pub operating : Obeys operating (read_pack p) p events (line_moves (mark_of (sights p)) (read_pack p) ops)
-  pub session : Obeys session (read_pack p) p events (line_moves (mark_of (sights p)) (read_pack p) ops)
-  pub reads : read_pack (after p events) ≡ steps_of (read_pack p) ops
+  pub operating : Obeys operating (read_as p) p events (line_moves (mark_of (sights p)) (read_as p) ops)
+  pub session : Obeys session (read_as p) p events (line_moves (mark_of (sights p)) (read_as p) ops)
+  pub reads : read_as (after p events) ≡ steps_of (read_as p) ops
   pub unmarked : Unmarked (after p events)
   pub sound : Sound (after p events)
 
 -- So it is where there are at least as many free sectors as the line adds pages.
 abbrev pub CrashesOfALineOnASoundPack : Type 0
 CrashesOfALineOnASoundPack = (p : Pack) (at : ℕ) (events : List Event) (ops : List Operation) → let all : List Event = open_writes (mark_of (sights p)) at (sector_at p at).value ++ events in
-    Sound p → place (sights p) disk_descriptor 1 ≡ Some at → 0 < length ops → IsLine (read_pack p) ops → pages_for_operations (read_pack p) ops ≤ free_sectors (sights p)
-    → Line (after p (open_writes (mark_of (sights p)) at (sector_at p at).value)) events ops → LineOnSound p all ops
+    Sound p → place (sights p) disk_descriptor 1 ≡ Some at → 0 < length ops → IsLine (read_as p) ops → pages_for_operations (read_as p) ops ≤ free_sector_count (sights p)
+    → Batch (after p (open_writes (mark_of (sights p)) at (sector_at p at).value)) events ops → LineOnSound p all ops

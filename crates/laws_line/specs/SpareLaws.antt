@@ -22,57 +22,57 @@ use Rattle.laws_operation.specs.NameLaws.{MayEnterAt, MayWiden, entry_room}
 
 -- The sector is another one than the first usable one, and no page of DiskDescriptor's; the record is a value, or a label of another
 -- file's page or of none.
-pub record SparesAt (p : Pack) (at part : ℕ) (words : List ℕ) : Type 0 where
+pub record RecordLeavesSystem (p : Pack) (at part : ℕ) (words : List ℕ) : Type 0 where
   pub not_root : at ≢ 1
   pub not_descriptor : (page : Page) → carried p at ≡ Some page → is_fid page.fid disk_descriptor ≡ false
   pub record_is : (part ≡ 2) ⊎ ((part ≡ 1) × ((page : Page) → page_of words ≡ Some page → is_fid page.fid disk_descriptor ≡ false))
 
-abbrev pub SparesSystem : Pack → Event → Type 0
-SparesSystem p (Wrote at part words) = SparesAt p at part words
-SparesSystem p (Shown byte) = Unit {0}
+abbrev pub LeavesSystemAt : Pack → Event → Type 0
+LeavesSystemAt p (Wrote at part words) = RecordLeavesSystem p at part words
+LeavesSystemAt p (Shown byte) = Unit {0}
 
 -- each of these record writes does so, by the sectors of the pack before the first of them
-abbrev pub Spares : Pack → List Event → Type 0
-Spares p events = All (SparesSystem p) events
+abbrev pub LeavesSystem : Pack → List Event → Type 0
+LeavesSystem p events = All (LeavesSystemAt p) events
 
 -- ---- each operation does so
 -- bytes put in the place of others
 abbrev pub PutLeavesTheSystem : Type 0
-PutLeavesTheSystem = (p : Pack) (f : Fid) (offset : ℕ) (new : List ℕ) (at : ℕ) (value : List ℕ) → Whole p → MayPut p f offset new at value → Spares p (value_writes at value)
+PutLeavesTheSystem = (p : Pack) (f : Fid) (offset : ℕ) (new : List ℕ) (at : ℕ) (value : List ℕ) → Whole p → MayPut p f offset new at value → LeavesSystem p (value_writes at value)
 
 -- bytes appended
 abbrev pub GrowLeavesTheSystem : Type 0
-GrowLeavesTheSystem = (p : Pack) (f : Fid) (new : List ℕ) (claims : List Claim) (at : ℕ) (label value : List ℕ) → Whole p → MayGrow p f new claims at label value → Spares p (grow_writes claims at label value)
+GrowLeavesTheSystem = (p : Pack) (f : Fid) (new : List ℕ) (claims : List Claim) (at : ℕ) (label value : List ℕ) → Whole p → MayGrow p f new claims at label value → LeavesSystem p (grow_writes claims at label value)
 
 -- the first bytes kept
 abbrev pub CutLeavesTheSystem : Type 0
-CutLeavesTheSystem = (p : Pack) (f : Fid) (n at : ℕ) (label later : List ℕ) → Whole p → MayCut p f n at label later → Spares p (cut_writes at label (sector_at p at).value later)
+CutLeavesTheSystem = (p : Pack) (f : Fid) (n at : ℕ) (label later : List ℕ) → Whole p → MayCut p f n at label later → LeavesSystem p (cut_writes at label (sector_at p at).value later)
 
 -- another name or date in a leader
 abbrev pub LeaderLeavesTheSystem : Type 0
-LeaderLeavesTheSystem = (p : Pack) (f : Fid) (change : Leader → Leader) (at : ℕ) (value : List ℕ) → Whole p → MayWriteLeader p f change at value → Spares p (value_writes at value)
+LeaderLeavesTheSystem = (p : Pack) (f : Fid) (change : Leader → Leader) (at : ℕ) (value : List ℕ) → Whole p → MayWriteLeader p f change at value → LeavesSystem p (value_writes at value)
 
 -- a new file
 abbrev pub MakeLeavesTheSystem : Type 0
-MakeLeavesTheSystem = (p : Pack) (f : Fid) (name : List ℕ) (moment : ℕ) (page leader : Claim) → Whole p → MayMake p f name moment page leader → Spares p (make_writes page leader)
+MakeLeavesTheSystem = (p : Pack) (f : Fid) (name : List ℕ) (moment : ℕ) (page leader : Claim) → Whole p → MayMake p f name moment page leader → LeavesSystem p (make_writes page leader)
 
 -- a file that goes, but for the slot of its entry
 abbrev pub ReleaseLeavesTheSystem : Type 0
-ReleaseLeavesTheSystem = (p : Pack) (f : Fid) (at : ℕ) (pages : List ℕ) → Whole p → MayDrop p f at pages → Spares p (go_writes at pages)
+ReleaseLeavesTheSystem = (p : Pack) (f : Fid) (at : ℕ) (pages : List ℕ) → Whole p → MayDrop p f at pages → LeavesSystem p (go_writes at pages)
 
 -- an entry's slot that becomes a free one, where an entry leaves or its file is gone
 abbrev pub SlotLeavesTheSystem : Type 0
-SlotLeavesTheSystem = (p : Pack) (d : Fid) (at : ℕ) (a old b : List Item) (value : List ℕ) → Whole p → Frees p d at a old b → Spares p (value_writes at value)
+SlotLeavesTheSystem = (p : Pack) (d : Fid) (at : ℕ) (a old b : List Item) (value : List ℕ) → Whole p → Frees p d at a old b → LeavesSystem p (value_writes at value)
 
 -- both together
 abbrev pub DropLeavesTheSystem : Type 0
-DropLeavesTheSystem = (p : Pack) (f : Fid) (at : ℕ) (pages : List ℕ) (d : Fid) (slot_at : ℕ) (a old b : List Item) (value : List ℕ) → Whole p → MayDrop p f at pages → Frees p d slot_at a old b → Spares p (drop_writes at pages slot_at value)
+DropLeavesTheSystem = (p : Pack) (f : Fid) (at : ℕ) (pages : List ℕ) (d : Fid) (slot_at : ℕ) (a old b : List Item) (value : List ℕ) → Whole p → MayDrop p f at pages → Frees p d slot_at a old b → LeavesSystem p (drop_writes at pages slot_at value)
 
 -- a page more for a directory
 abbrev pub WidenLeavesTheSystem : Type 0
-WidenLeavesTheSystem = (p : Pack) (d : Fid) (added : List ℕ) (claims : List Claim) (at : ℕ) (label value : List ℕ) → Whole p → MayWiden p d added claims at label value → Spares p (grow_writes claims at label value)
+WidenLeavesTheSystem = (p : Pack) (d : Fid) (added : List ℕ) (claims : List Claim) (at : ℕ) (label value : List ℕ) → Whole p → MayWiden p d added claims at label value → LeavesSystem p (grow_writes claims at label value)
 
 -- an entry that comes
 abbrev pub EnterLeavesTheSystem : Type 0
 EnterLeavesTheSystem = (p : Pack) (d : Fid) (name : List ℕ) (f : Fid) (a old b : List Item) (left : ℕ) (words : List ℕ) (at next_at : ℕ) → Whole p → MayEnterAt p d name f a old b left words at next_at
-    → Spares p (enter_writes (values_first p (entry_room a old at next_at) words) at (entry_value p (entry_room a old at next_at) words))
+    → LeavesSystem p (enter_writes (values_first p (entry_room a old at next_at) words) at (entry_value p (entry_room a old at next_at) words))

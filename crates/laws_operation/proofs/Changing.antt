@@ -11,7 +11,7 @@ use Rattle.pack_model.specs.reading.Model.{good_one, read_sights}
 use Rattle.pack_model.specs.reading.Sights.{Sight}
 use Rattle.pack_model.specs.reading.Sights.Sight.{hidden, holds, leads}
 use Rattle.pack_model.specs.operations.Step.{update_file}
-use Rattle.pack_model.specs.states.Whole.{Carries, FileWhole, IsLaid, IsSeat, Leads, PageAt, TidySights, WholeSights, absent, present}
+use Rattle.pack_model.specs.states.Whole.{HasPages, FileWhole, IsLaid, IsSeat, Leads, PageAt, TidySights, WholeSights, absent, present}
 use Rattle.laws_record.proofs.Keeping.{plain}
 use Rattle.laws_operation.proofs.inside.Elsewhere.{MayBe, SameBut, same_set}
 use Rattle.laws_operation.proofs.Lying.{bytes_laid, seated_right, shows_set, within}
@@ -44,14 +44,14 @@ pub record Placed (ss : List Sight) (f : Fid) (k i : ℕ) (old : List ℕ) : Typ
   pub later : List PageAt
   pub number : length front ≡ k
   pub leads_it : Leads ss f at true lead
-  pub carries : Carries ss f (front ++ (i, old) ∷ later) 0 []
+  pub carries : HasPages ss f (front ++ (i, old) ∷ later) 0 []
   pub laid : IsLaid (front ++ (i, old) ∷ later)
   pub few : length (front ++ (i, old) ∷ later) ≤ most_pages
 
 -- in a whole file
-placed_in : (ss : List Sight) (f : Fid) (k i : ℕ) (old : List ℕ) (at : ℕ) (l : Leader) (pages : List PageAt) → get_or ss i hidden ≡ holds f k old → Leads ss f at true l → Carries ss f pages 0 [] → IsLaid pages → length pages ≤ most_pages → SeatIn 0 pages k i → Placed ss f k i old
+placed_in : (ss : List Sight) (f : Fid) (k i : ℕ) (old : List ℕ) (at : ℕ) (l : Leader) (pages : List PageAt) → get_or ss i hidden ≡ holds f k old → Leads ss f at true l → HasPages ss f pages 0 [] → IsLaid pages → length pages ≤ most_pages → SeatIn 0 pages k i → Placed ss f k i old
 placed_in ss f k i old at l pages is h c laid few r =
-    let c2 : Carries ss f (r.front ++ (i, r.bytes) ∷ r.later) 0 [] = subst (λ x. Carries ss f x 0 []) r.is c in
+    let c2 : HasPages ss f (r.front ++ (i, r.bytes) ∷ r.later) 0 [] = subst (λ x. HasPages ss f x 0 []) r.is c in
     let here : get_or ss i hidden ≡ holds f (0 + length r.front) r.bytes = (seated_right ss f 0 r.front ((i, r.bytes) ∷ r.later) c2.seated).0 in
     let both : holds f (0 + length r.front) r.bytes ≡ holds f k old = sym here ∙ is in
     let b : r.bytes ≡ old = cc in
@@ -64,7 +64,7 @@ placed_in ss f k i old at l pages is h c laid few r =
       later = r.later;
       number = omega arith;
       leads_it = h;
-      carries = subst (λ x. Carries ss f x 0 []) e c;
+      carries = subst (λ x. HasPages ss f x 0 []) e c;
       laid = subst IsLaid e laid;
       few = subst (λ x. length x ≤ most_pages) e few;
     }
@@ -79,7 +79,7 @@ seat_of ss f k i old (present at l pages h c laid few) is =
 pub record Headed (ss : List Sight) (f : Fid) (i : ℕ) (l : Leader) : Type 0 where
   pub pages : List PageAt
   pub leads_it : Leads ss f i true l
-  pub carries : Carries ss f pages 0 []
+  pub carries : HasPages ss f pages 0 []
   pub laid : IsLaid pages
   pub few : length pages ≤ most_pages
 
@@ -132,7 +132,7 @@ page_changed ss f k i old new h is e =
     let us : List Sight = set ss i (holds f k new) in
     let l : i < length ss = within ss i (ap good_one is) in
     let leads_us : Leads us f h.at true h.lead = leads_set ss f h.at true h.lead i (holds f k new) h.leads_it l (λ r x z. let y : holds f k old ≡ leads f r x = sym is ∙ z in absurd cc) (λ r x z. absurd cc) in
-    let c : Carries us f (h.front ++ (i, new) ∷ h.later) 0 [] = subst (λ n. Carries (set ss i (holds f n new)) f (h.front ++ (i, new) ∷ h.later) 0 []) h.number (carries_write ss f h.front i old h.later 0 [] new h.carries (inr refl)) in
+    let c : HasPages us f (h.front ++ (i, new) ∷ h.later) 0 [] = subst (λ n. HasPages (set ss i (holds f n new)) f (h.front ++ (i, new) ∷ h.later) 0 []) h.number (carries_write ss f h.front i old h.later 0 [] new h.carries (inr refl)) in
     let laid : IsLaid (h.front ++ (i, new) ∷ h.later) = laid_join h.front (i, new) h.later (laid_front h.front (i, old) h.later h.laid) (laid_alike i old new h.later e (laid_back h.front (i, old) h.later h.laid)) in
     let size : length (h.front ++ (i, new) ∷ h.later) ≡ length (h.front ++ (i, old) ∷ h.later) = length-append h.front ((i, new) ∷ h.later) ∙ sym (length-append h.front ((i, old) ∷ h.later)) in
     let few : length (h.front ++ (i, new) ∷ h.later) ≤ most_pages = subst (λ n. n ≤ most_pages) (sym size) h.few in
@@ -155,7 +155,7 @@ leader_changed ss f i l k h =
       shows = get_or-set_same ss i (leads f true k) hidden n;
       only = λ j r x e. elim (shows_set ss i (leads f true k) j (leads f r x) n e) [ inl p ↦ p.0 | inr q ↦ h.leads_it.only j r x q.1 ];
     } in
-    let c : Carries us f h.pages 0 [] = carries_set ss f h.pages 0 [] h.carries i (leads f true k) n (λ m b z. let y : leads f true l ≡ holds f m b = sym is ∙ z in absurd cc) (λ m b z. absurd cc) in
+    let c : HasPages us f h.pages 0 [] = carries_set ss f h.pages 0 [] h.carries i (leads f true k) n (λ m b z. let y : leads f true l ≡ holds f m b = sym is ∙ z in absurd cc) (λ m b z. absurd cc) in
     record {
       same = same_set f ss i (leads f true k) (subst (MayBe f) (sym is) refl) refl;
       was = leader_is ss f i true l h.leads_it;

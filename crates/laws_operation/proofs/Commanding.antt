@@ -7,7 +7,7 @@ use Rattle.disk_records.specs.Packs.{Pack, after, is_usable, no_sector, sector_a
 use Rattle.disk_records.specs.declared.records.Event.TheVariants.{Wrote}
 use Rattle.pack_model.specs.operations.Committing.{MakesMove}
 use Rattle.pack_model.specs.sessions.Meanings.{reading}
-use Rattle.pack_model.specs.reading.Model.{Model, good_one, read_pack, read_sights}
+use Rattle.pack_model.specs.reading.Model.{Model, good_one, read_as, read_sights}
 use Rattle.pack_model.specs.sessions.Moves.{Obeys, rest, write}
 use Rattle.pack_model.specs.operations.Operations.{Move, moved}
 use Rattle.pack_model.specs.operations.Operations.Move.{quiet}
@@ -48,7 +48,7 @@ module _ (p : Pack) (at : ℕ) (good : good_one (get_or (sights p) at hidden) �
   value_shows value s e = sets 2 value (usable_is p at good) ∙ ap (set (sights p) at) e
 
   -- VALUE: one move
-  pub value_obeys : (m : Model) (o : Move) (value : List ℕ) (s : Sight) → tag_sight (tag (sector_at p at).label) value ≡ s → read_pack p ≡ m → MakesMove p (Wrote at 2 value) o → read_sights p.shape (set (sights p) at s) ≡ moved m o
+  pub value_obeys : (m : Model) (o : Move) (value : List ℕ) (s : Sight) → tag_sight (tag (sector_at p at).label) value ≡ s → read_as p ≡ m → MakesMove p (Wrote at 2 value) o → read_sights p.shape (set (sights p) at s) ≡ moved m o
       → Obeys reading m p (value_writes at value) (o ∷ [])
   value_obeys m o value s e was makes now = write was makes (rest (ap (read_sights p.shape) (value_shows value s e) ∙ now))
 
@@ -62,7 +62,7 @@ module _ (p : Pack) (at : ℕ) (good : good_one (get_or (sights p) at hidden) �
   relabel_shows label value s v e = ap (λ x. sights (after p (relabel_writes at label x))) v ∙ ap sights (same_value label) ∙ label_shows label s e
 
   -- cut by cut
-  pub relabel_obeys : (m : Model) (o : Move) (label value : List ℕ) (s : Sight) → value ≡ (sector_at p at).value → tag_sight (tag label) (sector_at p at).value ≡ s → read_pack p ≡ m → MakesMove p (Wrote at 1 label) o → read_sights p.shape (set (sights p) at s) ≡ moved m o
+  pub relabel_obeys : (m : Model) (o : Move) (label value : List ℕ) (s : Sight) → value ≡ (sector_at p at).value → tag_sight (tag label) (sector_at p at).value ≡ s → read_as p ≡ m → MakesMove p (Wrote at 1 label) o → read_sights p.shape (set (sights p) at s) ≡ moved m o
       → Obeys reading m p (relabel_writes at label value) (o ∷ quiet ∷ [])
   relabel_obeys m o label value s v e was makes now =
       write was makes (write (ap (read_sights p.shape) (label_shows label s e) ∙ now) tt (rest (ap (read_sights p.shape) (relabel_shows label value s v e) ∙ now)))
@@ -75,7 +75,7 @@ module _ (p : Pack) (at : ℕ) (good : good_one (get_or (sights p) at hidden) �
       ∙ label_shows label free (free_shown (tag label) (sector_at p at).value blank)
 
   -- cut by cut
-  pub release_obeys : (m : Model) (o : Move) (label value : List ℕ) → is_free (tag label) ≡ true → read_pack p ≡ m → MakesMove p (Wrote at 1 label) o → read_sights p.shape (set (sights p) at free) ≡ moved m o
+  pub release_obeys : (m : Model) (o : Move) (label value : List ℕ) → is_free (tag label) ≡ true → read_as p ≡ m → MakesMove p (Wrote at 1 label) o → read_sights p.shape (set (sights p) at free) ≡ moved m o
       → Obeys reading m p (relabel_writes at label value) (o ∷ quiet ∷ [])
   release_obeys m o label value blank was makes now =
       write was makes (write (ap (read_sights p.shape) (label_shows label free (free_shown (tag label) (sector_at p at).value blank)) ∙ now)
@@ -108,7 +108,7 @@ module _ (p : Pack) (at : ℕ) (is : get_or (sights p) at hidden ≡ free) (labe
   claim_label = label_shows (after p (Wrote at 2 value ∷ [])) at still_good label s its_sight ∙ ap (λ ss. set ss at s) same_sights
 
   -- cut by cut
-  pub claim_obeys : (m : Model) (o : Move) → read_pack p ≡ m → MakesMove (after p (Wrote at 2 value ∷ [])) (Wrote at 1 label) o → read_sights p.shape (set (sights p) at s) ≡ moved m o → Obeys reading m p (claim_writes at label value) (quiet ∷ o ∷ quiet ∷ [])
+  pub claim_obeys : (m : Model) (o : Move) → read_as p ≡ m → MakesMove (after p (Wrote at 2 value ∷ [])) (Wrote at 1 label) o → read_sights p.shape (set (sights p) at s) ≡ moved m o → Obeys reading m p (claim_writes at label value) (quiet ∷ o ∷ quiet ∷ [])
   claim_obeys m o was makes now = write was tt (relabel_obeys (after p (Wrote at 2 value ∷ [])) at still_good m o label value s its_value its_sight
       (ap (read_sights p.shape) same_sights ∙ was) makes (ap (λ ss. read_sights p.shape (set ss at s)) same_sights ∙ now))
 

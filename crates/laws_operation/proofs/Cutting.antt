@@ -13,7 +13,7 @@ use Rattle.pack_model.specs.operations.Commands.{releases_writes, sectors_of}
 use Rattle.pack_model.specs.operations.Committing.{length_of, moves_of, pages_cut}
 use Rattle.pack_model.specs.reading.Files.{file_bytes, most_pages}
 use Rattle.pack_model.specs.sessions.Meanings.{reading}
-use Rattle.pack_model.specs.reading.Model.{Model, good_one, read_pack, read_sights}
+use Rattle.pack_model.specs.reading.Model.{Model, good_one, read_as, read_sights}
 use Rattle.pack_model.specs.sessions.Moves.{Obeys, steps}
 use Rattle.pack_model.specs.operations.Operations.{cut_moves, cut_writes}
 use Rattle.pack_model.specs.operations.Operations.Move.{commits, quiet}
@@ -22,7 +22,7 @@ use Rattle.pack_model.specs.reading.Sights.{Sight, sights, tag_sight}
 use Rattle.pack_model.specs.reading.Sights.Sight.{hidden, holds, leads}
 use Rattle.pack_model.specs.operations.Step.{Operation, on_bytes, step}
 use Rattle.pack_model.specs.operations.Step.Operation.{cut}
-use Rattle.pack_model.specs.states.Whole.{Carries, IsLaid, Leads, PageAt, Seated, Tidy, Whole, present}
+use Rattle.pack_model.specs.states.Whole.{HasPages, IsLaid, Leads, PageAt, Seated, Tidy, Whole, present}
 use Rattle.pack_laws.proofs.Guarding.{named_shown}
 use Rattle.pack_laws.proofs.Moving.{obeys_then}
 use Rattle.pack_laws.proofs.Placing.{page_of_place}
@@ -64,11 +64,11 @@ module _ (ss : List Sight) (f : Fid) (k i : ℕ) (old : List ℕ) (h : Placed ss
   leads_cut = leads_set ss f h.at true h.lead i (holds f k (take b old)) h.leads_it (within ss i (ap good_one is)) (λ r x z. let y : holds f k old ≡ leads f r x = sym is ∙ z in absurd cc) (λ r x z. absurd cc)
 
   -- the later pages are loose
-  carries_cut : Carries (set ss i (holds f k (take b old))) f (h.front ++ (i, take b old) ∷ []) (suc k) h.later
+  carries_cut : HasPages (set ss i (holds f k (take b old))) f (h.front ++ (i, take b old) ∷ []) (suc k) h.later
   carries_cut =
       let lo : suc k ≡ length (h.front ++ (i, old) ∷ []) = let n = length-one h.front (i, old) in let e = h.number in omega arith in
-      let c = carries_split ss f (h.front ++ (i, old) ∷ []) h.later (suc k) lo (subst (λ x. Carries ss f x 0 []) (sym (append_assoc h.front ((i, old) ∷ []) h.later)) h.carries) in
-      subst (λ n. Carries (set ss i (holds f n (take b old))) f (h.front ++ (i, take b old) ∷ []) (suc k) h.later) h.number
+      let c = carries_split ss f (h.front ++ (i, old) ∷ []) h.later (suc k) lo (subst (λ x. HasPages ss f x 0 []) (sym (append_assoc h.front ((i, old) ∷ []) h.later)) h.carries) in
+      subst (λ n. HasPages (set ss i (holds f n (take b old))) f (h.front ++ (i, take b old) ∷ []) (suc k) h.later) h.number
       (carries_write ss f h.front i old [] (suc k) h.later (take b old) c (inl (omega arith)))
 
   -- they come behind
@@ -120,7 +120,7 @@ module _ (p : Pack) (w : Whole p) (t : Tidy p) (f : Fid) (file : IsOrdinary f) w
       let few_bytes : b < 512 = omega arith in
       let less : b ≤ length old = let x = fits_page h.front i k old h.later b 0 h.laid h.number (omega arith) (let y = hyp.within in omega (arith, z, size)) in omega (arith, x) in
       let o : Operation = cut f n in
-      let m : Model = step (read_pack p) o in
+      let m : Model = step (read_as p) o in
       let us : List Sight = set ss i (holds f k (take b old)) in
       let counted : take b (bytes_of value) ≡ take b old = first_counted b t0.bytes (bytes_of value) (subst (λ x. b ≤ length x) old_is less) ∙ ap (take b) (sym old_is) in
       let s : tag_sight (tag label) value ≡ holds f k (take b old) = named_shown label value (page_number f (suc k)) hyp.page ∙ ap (λ c. holds f k (take c (bytes_of value))) hyp.count ∙ ap (holds f k) counted in
@@ -135,7 +135,7 @@ module _ (p : Pack) (w : Whole p) (t : Tidy p) (f : Fid) (file : IsOrdinary f) w
       let pages : List PageAt = h.front ++ (i, take b old) ∷ [] in
       let r = releases_go h.later p1 f pages (Some (h.at, h.lead)) (suc k) m (apart_cut ss f k i old h is b less few_bytes)
       (subst (λ x. FileStands x f pages (Some (h.at, h.lead))) (sym shows) (leads_cut ss f k i old h is b less few_bytes, laid_cut ss f k i old h is b less few_bytes, few_cut ss f k i old h is b less few_bytes))
-      (subst (λ x. Carries x f pages (suc k) h.later) (sym shows) (carries_cut ss f k i old h is b less few_bytes)) (ap (read_sights p.shape) shows ∙ reads) in
+      (subst (λ x. HasPages x f pages (suc k) h.later) (sym shows) (carries_cut ss f k i old h is b less few_bytes)) (ap (read_sights p.shape) shows ∙ reads) in
       let q : Pack = after p1 (releases_writes (sectors_of h.later)) in
       let ch : Changed ss (sights q) f h.lead h.lead (together (h.front ++ (i, old) ∷ h.later)) (together pages) = record {
         same = but_trans f ss (sights p1) (sights q) (subst (SameBut f ss) (sym shows) same) r.same;
@@ -153,11 +153,11 @@ module _ (p : Pack) (w : Whole p) (t : Tidy p) (f : Fid) (file : IsOrdinary f) w
       let later_is : later ≡ sectors_of h.later = row_is ss f (h.front ++ (i, old) ∷ h.later) h.carries later h.later (suc k) (hyp.number ∙ sym long) hyp.later_are behind in
       let events_are : cut_writes i label value later ≡ cut_writes i label value (sectors_of h.later) = ap (cut_writes i label value) later_is in
       let e : after p (cut_writes i label value later) ≡ q = ap (after p) events_are ∙ after-append p (relabel_writes i label value) (releases_writes (sectors_of h.later)) in
-      let long_in : length h.later ≡ pages_cut (length_of (read_pack p) f) n = long ∙ ap (λ x. pages_cut x n) (sym (ordinary_length p.shape ss f h.lead was file)) in
-      let moves : moves_of (read_pack p) o ≡ cut_moves o h.later = ap (λ x. commits o ∷ quiet ∷ x) (releases_units h.later (pages_cut (length_of (read_pack p) f) n) long_in) in
-      carries_out p (cut_writes i label value later) o f (ap (steps reading (read_pack p)) moves ∙ r.still) (subst (λ x. SameBut f ss (sights x)) (sym e) ch.same) file.no_descriptor (record {
-        obeys = subst (λ x. Obeys reading (read_pack p) p x (moves_of (read_pack p) o)) (sym events_are) (subst (Obeys reading (read_pack p) p (cut_writes i label value (sectors_of h.later))) (sym moves)
-            (obeys_then reading (relabel_obeys p i good (read_pack p) (commits o) label value (holds f k (take b old)) refl s refl (record { part_is = refl; bears = hyp.sector }) reads) r.obeys));
+      let long_in : length h.later ≡ pages_cut (length_of (read_as p) f) n = long ∙ ap (λ x. pages_cut x n) (sym (ordinary_length p.shape ss f h.lead was file)) in
+      let moves : moves_of (read_as p) o ≡ cut_moves o h.later = ap (λ x. commits o ∷ quiet ∷ x) (releases_units h.later (pages_cut (length_of (read_as p) f) n) long_in) in
+      carries_out p (cut_writes i label value later) o f (ap (steps reading (read_as p)) moves ∙ r.still) (subst (λ x. SameBut f ss (sights x)) (sym e) ch.same) file.no_descriptor (record {
+        obeys = subst (λ x. Obeys reading (read_as p) p x (moves_of (read_as p) o)) (sym events_are) (subst (Obeys reading (read_as p) p (cut_writes i label value (sectors_of h.later))) (sym moves)
+            (obeys_then reading (relabel_obeys p i good (read_as p) (commits o) label value (holds f k (take b old)) refl s refl (record { part_is = refl; bears = hyp.sector }) reads) r.obeys));
         whole = subst Whole (sym e) lv.whole;
         tidy = subst Tidy (sym e) lv.tidy;
       })

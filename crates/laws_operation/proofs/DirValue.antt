@@ -11,7 +11,7 @@ use Rattle.pack_model.specs.reading.Bytes.{put_at, words_of}
 use Rattle.pack_model.specs.reading.Files.{file_bytes, lives}
 use Rattle.pack_model.specs.reading.Leaders.{Leader}
 use Rattle.pack_model.specs.hints.Links.{dir_words}
-use Rattle.pack_model.specs.reading.Model.{IsNamed, read_pack, read_sights}
+use Rattle.pack_model.specs.reading.Model.{IsNamed, read_as, read_sights}
 use Rattle.pack_model.specs.reading.Namings.{IsTidy, namings}
 use Rattle.pack_model.specs.reading.Sights.{sights}
 use Rattle.pack_model.specs.reading.Sights.Sight.{hidden, holds, leads}
@@ -100,7 +100,7 @@ module _ (p : Pack) (w : Whole p) (d : Fid) (word_at at : ℕ) (new : List ℕ) 
     lives_then = ap lives (written_sights p d word_at at new h) ∙ lives_as p.shape (sights p) (set (sights p) at (holds d (2 * word_at / 512) (new_bytes p d word_at at new h))) d dir_lead value_change.same value_change.was value_change.now h.directory
 
     -- whole again, where the system files are named
-    pub value_whole_by : IsNamed (read_pack (dir_written p word_at at new)) sys_dir → IsNamed (read_pack (dir_written p word_at at new)) disk_descriptor → Whole (dir_written p word_at at new)
+    pub value_whole_by : IsNamed (read_as (dir_written p word_at at new)) sys_dir → IsNamed (read_as (dir_written p word_at at new)) disk_descriptor → Whole (dir_written p word_at at new)
     value_whole_by one two =
         let shown = written_sights p d word_at at new h in
         subst (WholeSights p.shape) (sym shown) (whole_by p.shape (sights p) (set (sights p) at (holds d (2 * word_at / 512) (new_bytes p d word_at at new h))) d dir_lead value_change.same value_change.was value_change.now h.directory w value_change.whole reach stays
@@ -116,5 +116,5 @@ module _ (p : Pack) (w : Whole p) (d : Fid) (word_at at : ℕ) (new : List ℕ) 
       value_whole named = subst (WholeSights p.shape) (sym (written_sights p d word_at at new h)) (dir_whole p.shape (sights p) (set (sights p) at (holds d (2 * word_at / 512) (new_bytes p d word_at at new h))) d dir_lead value_change.same value_change.was value_change.now h.directory (slots (dir_words p d)) js refl slots_then t still w value_change.whole reach stays named)
 
       -- the directory as it is read
-      pub dir_read : get (read_pack p).files d ≡ Some (directory dir_lead (slots (dir_words p d)))
+      pub dir_read : get (read_as p).files d ≡ Some (directory dir_lead (slots (dir_words p d)))
       dir_read = dir_get p.shape (sights p) (set (sights p) at (holds d (2 * word_at / 512) (new_bytes p d word_at at new h))) d dir_lead value_change.same value_change.was value_change.now h.directory (slots (dir_words p d)) js refl slots_then t still

@@ -15,7 +15,7 @@ use Rattle.pack_model.specs.operations.Committing.{length_in, length_of, page_of
 use Rattle.pack_model.specs.reading.Files.{file_bytes, leader, lives}
 use Rattle.pack_model.specs.reading.Leaders.{Leader}
 use Rattle.pack_model.specs.sessions.Meanings.{reading}
-use Rattle.pack_model.specs.reading.Model.{Model, good_one, read_pack, read_sights}
+use Rattle.pack_model.specs.reading.Model.{Model, good_one, read_as, read_sights}
 use Rattle.pack_model.specs.sessions.Moves.{Obeys, steps}
 use Rattle.pack_model.specs.reading.Namings.{body_namings, namings_in}
 use Rattle.pack_model.specs.operations.Operations.{go_moves, go_writes}
@@ -25,7 +25,7 @@ use Rattle.pack_model.specs.reading.Sights.Sight.{free, hidden, holds, leads}
 use Rattle.pack_model.specs.reading.Slots.{all_words, slots}
 use Rattle.pack_model.specs.operations.Step.{Operation, step}
 use Rattle.pack_model.specs.operations.Step.Operation.{drop_file}
-use Rattle.pack_model.specs.states.Whole.{Carries, Headless, PageAt, Tidy, TidyBut, Whole, absent}
+use Rattle.pack_model.specs.states.Whole.{HasPages, Headless, PageAt, Tidy, TidyBut, Whole, absent}
 use Rattle.pack_laws.proofs.Guarding.{ones_free}
 use Rattle.pack_laws.proofs.Moving.{obeys_then, stands_last}
 use Rattle.pack_laws.proofs.Placing.{leader_of_place}
@@ -52,12 +52,12 @@ pub read_get : (p : Pack) (f : Fid) (l : Leader) → Tidy p → is_fid f disk_de
 read_get p f l t other is = get-where (found (sights p)) is_described f ∙ ap (λ b. cond b (get (found (sights p)) f) None) (ap not other) ∙ get_by (sights p) f l (file_bytes (sights p) f) is refl
 
 -- and in the model
-pub read_there : (p : Pack) (f : Fid) (l : Leader) → Tidy p → is_fid f disk_descriptor ≡ false → leader (sights p) f ≡ Some l → get (read_pack p).files f ≡ Some (read_file f (file_bytes (sights p) f) l)
+pub read_there : (p : Pack) (f : Fid) (l : Leader) → Tidy p → is_fid f disk_descriptor ≡ false → leader (sights p) f ≡ Some l → get (read_as p).files f ≡ Some (read_file f (file_bytes (sights p) f) l)
 unfolding read_sights
 read_there p f l t other is = ap (λ m. get m f) (tidy_same (lives (sights p)) (described (sights p)) t) ∙ read_get p f l t other is
 
 -- its length is that of its bytes
-length_there : (p : Pack) (f : Fid) (l : Leader) → Whole p → Tidy p → is_fid f disk_descriptor ≡ false → leader (sights p) f ≡ Some l → length_of (read_pack p) f ≡ length (file_bytes (sights p) f)
+length_there : (p : Pack) (f : Fid) (l : Leader) → Whole p → Tidy p → is_fid f disk_descriptor ≡ false → leader (sights p) f ≡ Some l → length_of (read_as p) f ≡ length (file_bytes (sights p) f)
 length_there p f l w t other is = ap length_in (read_there p f l t other is) ∙ by (is_directory f) refl
   where
     by : (b : Bool) → is_directory f ≡ b → body_length (cond b (items_of (slots (words_of (file_bytes (sights p) f)))) (data_of (file_bytes (sights p) f))) ≡ length (file_bytes (sights p) f)
@@ -91,17 +91,17 @@ module _ (p : Pack) (w : Whole p) (t : Tidy p) (f : Fid) where
       let good : good_one (get_or ss i hidden) ≡ 1 = ap good_one is in
       let n : i < length ss = within ss i good in
       let o : Operation = drop_file f in
-      let m : Model = step (read_pack p) o in
+      let m : Model = step (read_as p) o in
       let p1 : Pack = after p (release_writes i) in
       let shows : sights p1 ≡ us = release_shows p i good (ones 8) (ones 256) ones_free in
       let headless : Headless us f = λ j r k e. elim (shows_set ss i free j (leads f r k) n e) [ inl a ↦ (let z = a.1 in absurd cc) | inr a ↦ a.0 (h.leads_it.only j r k a.1) ] in
-      let c : Carries us f h.pages 0 [] = carries_set ss f h.pages 0 [] h.carries i free n (λ k b e. let z : leads f true l ≡ holds f k b = sym is ∙ e in absurd cc) (λ k b e. absurd cc) in
-      let loose : Carries us f [] 0 h.pages = carries_split us f [] h.pages 0 refl c in
+      let c : HasPages us f h.pages 0 [] = carries_set ss f h.pages 0 [] h.carries i free n (λ k b e. let z : leads f true l ≡ holds f k b = sym is ∙ e in absurd cc) (λ k b e. absurd cc) in
+      let loose : HasPages us f [] 0 h.pages = carries_split us f [] h.pages 0 refl c in
       let same : SameBut f ss us = same_set f ss i free (subst (MayBe f) (sym is) refl) tt in
       let dead : f ≡ disk_descriptor → ⊥ = not_same f disk_descriptor apart in
       let reads : read_sights p.shape us ≡ m = drop_reads p.shape ss us f x same (leader_none_is us f headless) other t was bare in
       let no_pages : length {A = PageAt} [] ≤ 0 = omega arith in
-      let r = releases_go h.pages p1 f [] None 0 m no_pages (subst (λ y. FileStands y f [] None) (sym shows) (headless, dead)) (subst (λ y. Carries y f [] 0 h.pages) (sym shows) loose) (ap (read_sights p.shape) shows ∙ reads) in
+      let r = releases_go h.pages p1 f [] None 0 m no_pages (subst (λ y. FileStands y f [] None) (sym shows) (headless, dead)) (subst (λ y. HasPages y f [] 0 h.pages) (sym shows) loose) (ap (read_sights p.shape) shows ∙ reads) in
       let q : Pack = after p1 (releases_writes (sectors_of h.pages)) in
       let all : SameBut f ss (sights q) = but_trans f ss (sights p1) (sights q) (subst (SameBut f ss) (sym shows) same) r.same in
       let now : leader (sights q) f ≡ None = leader_none_is (sights q) f r.stands.0 in
@@ -110,10 +110,10 @@ module _ (p : Pack) (w : Whole p) (t : Tidy p) (f : Fid) where
       let ats_are : ats ≡ sectors_of h.pages = row_is ss f h.pages h.carries ats h.pages 0 (hyp.number ∙ sym many) hyp.pages_are h.carries.seated in
       let events_are : go_writes i ats ≡ go_writes i (sectors_of h.pages) = ap (go_writes i) ats_are in
       let e : after p (go_writes i ats) ≡ q = ap (after p) events_are ∙ after-append p (release_writes i) (releases_writes (sectors_of h.pages)) in
-      let long : length h.pages ≡ page_of_byte (length_of (read_pack p) f) = many ∙ ap page_of_byte (sym (length_there p f l w t apart was_leader)) in
-      let moves : first_moves p f ≡ go_moves o h.pages = ap (λ y. commits o ∷ quiet ∷ y) (releases_units h.pages (page_of_byte (length_of (read_pack p) f)) long) in
-      let obeys : Obeys reading (read_pack p) p (go_writes i ats) (first_moves p f) = subst (λ y. Obeys reading (read_pack p) p y (first_moves p f)) (sym events_are) (subst (Obeys reading (read_pack p) p (go_writes i (sectors_of h.pages))) (sym moves)
-      (obeys_then reading (release_obeys p i good (read_pack p) (commits o) (ones 8) (ones 256) ones_free refl (record { part_is = refl; bears = hyp.sector }) reads) r.obeys)) in
+      let long : length h.pages ≡ page_of_byte (length_of (read_as p) f) = many ∙ ap page_of_byte (sym (length_there p f l w t apart was_leader)) in
+      let moves : first_moves p f ≡ go_moves o h.pages = ap (λ y. commits o ∷ quiet ∷ y) (releases_units h.pages (page_of_byte (length_of (read_as p) f)) long) in
+      let obeys : Obeys reading (read_as p) p (go_writes i ats) (first_moves p f) = subst (λ y. Obeys reading (read_as p) p y (first_moves p f)) (sym events_are) (subst (Obeys reading (read_as p) p (go_writes i (sectors_of h.pages))) (sym moves)
+      (obeys_then reading (release_obeys p i good (read_as p) (commits o) (ones 8) (ones 256) ones_free refl (record { part_is = refl; bears = hyp.sector }) reads) r.obeys)) in
       let all_q : SameBut f ss (sights (after p (go_writes i ats))) = subst (λ y. SameBut f ss (sights y)) (sym e) all in (
         record {
           drops = record {
@@ -123,7 +123,7 @@ module _ (p : Pack) (w : Whole p) (t : Tidy p) (f : Fid) where
             tidy_but = subst (λ y. TidyBut f (sights y)) (sym e) (tidy_but p.shape ss (sights q) f x all now other t was bare (ap is_some was_leader));
           };
           cuts = cuts_read p (go_writes i ats) (first_moves p f) obeys;
-          ends = stands_last reading obeys ∙ ap (steps reading (read_pack p)) moves ∙ r.still;
+          ends = stands_last reading obeys ∙ ap (steps reading (read_as p)) moves ∙ r.still;
           descriptor = descriptor_kept p (after p (go_writes i ats)) f all_q apart;
           fits = fits_still p (after p (go_writes i ats)) f all_q apart refl;
         },

@@ -17,7 +17,7 @@ use Rattle.pack_model.specs.operations.Entering.{overlapping}
 use Rattle.pack_model.specs.reading.Files.{file_bytes, lives, place}
 use Rattle.pack_model.specs.reading.Leaders.{Leader}
 use Rattle.pack_model.specs.hints.Links.{dir_words}
-use Rattle.pack_model.specs.reading.Model.{Model, dir_items, read_pack}
+use Rattle.pack_model.specs.reading.Model.{Model, dir_items, read_as}
 use Rattle.pack_model.specs.reading.Namings.{clashes, namings, namings_in}
 use Rattle.pack_model.specs.operations.PageWords.{freed_value, in_page, near}
 use Rattle.pack_model.specs.operations.Rooms.{find_room, items_entered, left_over, run}
@@ -50,7 +50,7 @@ abbrev pub all_ticks : Bool → Bool → List (Unit {0})
 all_ticks one same = cond one (ticks same) (tt ∷ ticks same)
 
 -- a tidy pack's directory is read as its words are
-pub items_are : (p : Pack) → Tidy p → (d : Fid) → lives (sights p) d ≡ true → is_directory d ≡ true → dir_items (read_pack p) d ≡ slots (dir_words p d)
+pub items_are : (p : Pack) → Tidy p → (d : Fid) → lives (sights p) d ≡ true → is_directory d ≡ true → dir_items (read_as p) d ≡ slots (dir_words p d)
 items_are p t d live dir =
     let l = has_leader (sights p) d live in
     ap items_in (read_there p d l.0 t (not_descriptor d dir) l.1) ∙ ap (λ c. body_items (cond c (items_of (slots (dir_words p d))) (data_of (file_bytes (sights p) d)))) dir
@@ -89,7 +89,7 @@ module _ (p : Pack) (w : Whole p) (t : Tidy p) (d : Fid) (name : List ℕ) (f : 
   -- several slots: the value that makes them one
   pub frees : Frees p d at a old b
   frees =
-      let l = enough_words (entry_length (length name)) (dir_items (read_pack p) d) a old b h.room in
+      let l = enough_words (entry_length (length name)) (dir_items (read_as p) d) a old b h.room in
       let m = entry_words_many (length name) in
       let all = all_within (a ++ (old ++ b)) (dir_words p d) slots_are in
       let x = words-append a (old ++ b) in
@@ -117,26 +117,26 @@ module _ (p : Pack) (w : Whole p) (t : Tidy p) (d : Fid) (name : List ℕ) (f : 
   -- the entry comes into the same place before and after
   same_place : items_entered (entry f name) (a ++ space (all_words old) ∷ b) ≡ items_entered (entry f name) (a ++ (old ++ b))
   same_place =
-      let again = room_again (entry_length (length name)) (dir_items (read_pack p) d) a old b h.room in
+      let again = room_again (entry_length (length name)) (dir_items (read_as p) d) a old b h.room in
       let z : all_words (space (all_words old) ∷ []) ≡ all_words old = omega arith in
       entered_there (entry f name) (a ++ space (all_words old) ∷ b) a (space (all_words old) ∷ []) b again ∙ ap (λ k. a ++ entry f name ∷ left_over (k - entry_length (length name)) b) z
-      ∙ sym (entered_there (entry f name) (dir_items (read_pack p) d) a old b h.room) ∙ ap (items_entered (entry f name)) h.room.split
+      ∙ sym (entered_there (entry f name) (dir_items (read_as p) d) a old b h.room) ∙ ap (items_entered (entry f name)) h.room.split
 
-  pub same_step : step (read_pack (freed p at a old)) (enter d name f) ≡ step (read_pack p) (enter d name f)
-  same_step = ap (λ m. step m (enter d name f)) stage.reads ∙ alike_slots (read_pack p) d (dir_lead p w d (all_words a) at (all_words old ∷ []) frees.write) (a ++ (old ++ b)) (a ++ space (all_words old) ∷ b) (items_entered (entry f name)) stage.was same_place
+  pub same_step : step (read_as (freed p at a old)) (enter d name f) ≡ step (read_as p) (enter d name f)
+  same_step = ap (λ m. step m (enter d name f)) stage.reads ∙ alike_slots (read_as p) d (dir_lead p w d (all_words a) at (all_words old ∷ []) frees.write) (a ++ (old ++ b)) (a ++ space (all_words old) ∷ b) (items_entered (entry f name)) stage.was same_place
 
   -- the directory's entries are the same
-  same_names : namings (entries (read_pack (freed p at a old)).files) ≡ namings (entries (read_pack p).files)
-  same_names = ap (λ m. namings (entries m.files)) stage.reads ∙ slots_namings (read_pack p).files d (dir_lead p w d (all_words a) at (all_words old ∷ []) frees.write) (a ++ (old ++ b)) (a ++ space (all_words old) ∷ b) stage.was
+  same_names : namings (entries (read_as (freed p at a old)).files) ≡ namings (entries (read_as p).files)
+  same_names = ap (λ m. namings (entries m.files)) stage.reads ∙ slots_namings (read_as p).files d (dir_lead p w d (all_words a) at (all_words old ∷ []) frees.write) (a ++ (old ++ b)) (a ++ space (all_words old) ∷ b) stage.was
       (namings_in-append d a (space (all_words old) ∷ b) ∙ ap (λ x. namings_in d a ++ x) (sym (namings_in-append d old b ∙ ap (λ x. x ++ namings_in d b) bare)) ∙ sym (namings_in-append d a (old ++ b)))
 
   pub ready_joined : Ready (freed p at a old) d name f a b left words at next_at
   ready_joined =
       let q : Pack = freed p at a old in
       let c = dir_change p d (all_words a) at (all_words old ∷ []) frees.write in
-      let again = room_again (entry_length (length name)) (dir_items (read_pack p) d) a old b h.room in
+      let again = room_again (entry_length (length name)) (dir_items (read_as p) d) a old b h.room in
       let z : all_words (space (all_words old) ∷ []) ≡ all_words old = omega arith in
-      let gone : dir_items (read_pack q) d ≡ a ++ space (all_words old) ∷ b = read_now (dir_lead p w d (all_words a) at (all_words old ∷ []) frees.write) stage.reads in
+      let gone : dir_items (read_as q) d ≡ a ++ space (all_words old) ∷ b = read_now (dir_lead p w d (all_words a) at (all_words old ∷ []) frees.write) stage.reads in
       record {
         directory = h.directory;
         living = ap is_some (c.leaders d) ∙ h.living;
@@ -149,8 +149,8 @@ module _ (p : Pack) (w : Whole p) (t : Tidy p) (d : Fid) (name : List ℕ) (f : 
         next_sector = λ some. sector_still p d (all_words a) at (all_words old ∷ []) frees.write (suc (page_of_word (all_words a))) ∙ h.next_sector some;
       }
     where
-      read_now : (l : Leader) {m : Model} → m ≡ record (read_pack p) { files = insert (read_pack p).files d (directory l (a ++ space (all_words old) ∷ b)) } → dir_items m d ≡ a ++ space (all_words old) ∷ b
-      read_now l e = ap (λ m. dir_items m d) e ∙ ap items_in (get-insert fid_total (read_pack p).files d (directory l (a ++ space (all_words old) ∷ b)) d ∙ ap (λ c. cond c (Some (directory l (a ++ space (all_words old) ∷ b))) (get (read_pack p).files d)) (is_fid-itself d))
+      read_now : (l : Leader) {m : Model} → m ≡ record (read_as p) { files = insert (read_as p).files d (directory l (a ++ space (all_words old) ∷ b)) } → dir_items m d ≡ a ++ space (all_words old) ∷ b
+      read_now l e = ap (λ m. dir_items m d) e ∙ ap items_in (get-insert fid_total (read_as p).files d (directory l (a ++ space (all_words old) ∷ b)) d ∙ ap (λ c. cond c (Some (directory l (a ++ space (all_words old) ∷ b))) (get (read_as p).files d)) (is_fid-itself d))
 
   -- all of it, by whether the room is one slot
   pub all_stages : (one : Bool) → (item_words (get_or old 0 (space 0)) == all_words old) ≡ one

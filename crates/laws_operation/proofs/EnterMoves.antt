@@ -12,7 +12,7 @@ use Rattle.pack_model.specs.operations.Committing.{moves_of, page_of_word, units
 use Rattle.pack_model.specs.operations.Entering.{EntryRoom, entry_value, joined, joining, overlapping, values_first}
 use Rattle.pack_model.specs.states.InUse.{one_if}
 use Rattle.pack_model.specs.sessions.Meanings.{viewing}
-use Rattle.pack_model.specs.reading.Model.{Model, dir_items, read_pack}
+use Rattle.pack_model.specs.reading.Model.{Model, dir_items, read_as}
 use Rattle.pack_model.specs.sessions.Moves.{Obeys, steps}
 use Rattle.pack_model.specs.operations.Operations.{enter_moves, enter_writes}
 use Rattle.pack_model.specs.operations.PageWords.{in_page, near}
@@ -65,7 +65,7 @@ enter_carries_out p d name f a old b left words at next_at w t h =
     let same : Bool = page_of_word (all_words a + length words - 1) == page_of_word (all_words a) in
     let n : ℕ = entry_length (length name) in
     let o : Operation = enter d name f in
-    let m : Model = read_pack p in
+    let m : Model = read_as p in
     let r : EntryRoom = entry_room a old at next_at in
     let x : List (ℕ × List ℕ) = joining p r in
     let y : List (ℕ × List ℕ) = overlapping (joined p r) (all_words a) words next_at in

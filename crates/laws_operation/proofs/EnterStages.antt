@@ -16,7 +16,7 @@ use Rattle.pack_model.specs.reading.Leaders.{Leader}
 use Rattle.pack_model.specs.hints.Links.{dir_words}
 use Rattle.pack_model.specs.sessions.Maps.{update_found}
 use Rattle.pack_model.specs.sessions.Meanings.{reading, viewing}
-use Rattle.pack_model.specs.reading.Model.{Model, read_pack, read_sights}
+use Rattle.pack_model.specs.reading.Model.{Model, read_as, read_sights}
 use Rattle.pack_model.specs.sessions.Moves.{Obeys, rest, write}
 use Rattle.pack_model.specs.reading.Namings.{AllKept, IsTidy, is_kept, namings, namings_in, tidied}
 use Rattle.pack_model.specs.operations.Operations.{Move, enter_moves}
@@ -71,19 +71,19 @@ views_of (write here makes later) = write (ap view here) makes (views_of later)
 
 -- ---- what a stage owes
 pub record EntersBy (p : Pack) (d : Fid) (events : List Event) (before : List (Unit {0})) (o : Operation) : Type 0 where
-  pub obeys : Obeys viewing (read_pack p) p events (enter_moves before o)
-  pub ends : read_pack (after p events) ≡ step (read_pack p) o
+  pub obeys : Obeys viewing (read_as p) p events (enter_moves before o)
+  pub ends : read_as (after p events) ≡ step (read_as p) o
   pub whole : Whole (after p events)
   pub tidy : Tidy (after p events)
   pub same : SameBut d (sights p) (sights (after p events))
 
 -- a record write that isn't viewed, and then the rest
 pub quiet_first : (p : Pack) (d : Fid) (at : ℕ) (value : List ℕ) (events : List Event) (before : List (Unit {0})) (o : Operation) → let q = after p (value_writes at value) in
-    view (read_pack q) ≡ view (read_pack p) → step (read_pack q) o ≡ step (read_pack p) o → SameBut d (sights p) (sights q) → EntersBy q d events before o → EntersBy p d (value_writes at value ++ events) (tt ∷ before) o
+    view (read_as q) ≡ view (read_as p) → step (read_as q) o ≡ step (read_as p) o → SameBut d (sights p) (sights q) → EntersBy q d events before o → EntersBy p d (value_writes at value ++ events) (tt ∷ before) o
 quiet_first p d at value events before o v e same s =
     let q : Pack = after p (value_writes at value) in
     record {
-      obeys = write refl tt (obeys_from s.obeys (read_pack p) v (comes_enter before o (read_pack q) (read_pack p) e));
+      obeys = write refl tt (obeys_from s.obeys (read_as p) v (comes_enter before o (read_as q) (read_as p) e));
       ends = s.ends ∙ e;
       whole = s.whole;
       tidy = s.tidy;
@@ -92,7 +92,7 @@ quiet_first p d at value events before o v e same s =
 
 -- ---- words inside a free slot
 pub record StaysRead (p q : Pack) (d : Fid) : Type 0 where
-  pub read : read_pack q ≡ read_pack p
+  pub read : read_as q ≡ read_as p
   pub whole : Whole q
   pub tidy : Tidy q
   pub same : SameBut d (sights p) (sights q)
@@ -132,16 +132,16 @@ later_first p whole tidy d w at new h loose events before o s =
 
 -- ---- free slots made one
 pub record Joined (p q : Pack) (d : Fid) (l : Leader) (a old b : List Item) : Type 0 where
-  pub views : view (read_pack q) ≡ view (read_pack p)
-  pub reads : read_pack q ≡ record (read_pack p) { files = insert (read_pack p).files d (directory l (a ++ space (all_words old) ∷ b)) }
-  pub was : get (read_pack p).files d ≡ Some (directory l (a ++ (old ++ b)))
+  pub views : view (read_as q) ≡ view (read_as p)
+  pub reads : read_as q ≡ record (read_as p) { files = insert (read_as p).files d (directory l (a ++ space (all_words old) ∷ b)) }
+  pub was : get (read_as p).files d ≡ Some (directory l (a ++ (old ++ b)))
   pub whole : Whole q
   pub tidy : Tidy q
   pub same : SameBut d (sights p) (sights q)
   pub slots_now : slots (dir_words q d) ≡ a ++ space (all_words old) ∷ b
 
 -- the files of a tidy pack with another directory
-joined_files : (p : Pack) (d : Fid) (l : Leader) (js : List Item) {x : Files} → Tidy p → x ≡ insert (described (sights p)) d (directory l js) → IsTidy (lives (sights p)) (insert (described (sights p)) d (directory l js)) → tidied (lives (sights p)) x ≡ insert (read_pack p).files d (directory l js)
+joined_files : (p : Pack) (d : Fid) (l : Leader) (js : List Item) {x : Files} → Tidy p → x ≡ insert (described (sights p)) d (directory l js) → IsTidy (lives (sights p)) (insert (described (sights p)) d (directory l js)) → tidied (lives (sights p)) x ≡ insert (read_as p).files d (directory l js)
 unfolding read_sights
 joined_files p d l js t e still = ap (tidied (lives (sights p))) e ∙ tidy_same (lives (sights p)) (insert (described (sights p)) d (directory l js)) still ∙ ap (λ m. insert m d (directory l js)) (sym (tidy_same (lives (sights p)) (described (sights p)) t))
 
@@ -164,11 +164,11 @@ join_stage p w t d at a old b fr bare =
     namings_in-append d a (space n ∷ b) ∙ ap (λ x. namings_in d a ++ x) (sym (namings_in-append d old b ∙ ap (λ x. x ++ namings_in d b) bare)) ∙ sym (namings_in-append d a (old ++ b)) in
     let names = slots_namings (described ss) d l (a ++ (old ++ b)) js here alike in
     let still : IsTidy (lives ss) (insert (described ss) d (directory l js)) = subst (AllKept (is_kept (lives ss)) []) (sym names) t in
-    let was : get (read_pack p).files d ≡ Some (directory l (a ++ (old ++ b))) = dir_read p w d (all_words a) at new h js now sum t still ∙ ap (λ x. Some (directory l x)) fr.slots_are in
+    let was : get (read_as p).files d ≡ Some (directory l (a ++ (old ++ b))) = dir_read p w d (all_words a) at new h js now sum t still ∙ ap (λ x. Some (directory l x)) fr.slots_are in
     let lead : leader ss d ≡ Some l = (value_change p w d (all_words a) at new h).was in
     record {
       views = free_slots_made_one p d at a old b fr bare;
-      reads = dir_reads p q d (put_at (all_words a) new (dir_words p d)) c h.directory l lead (insert (read_pack p).files d (directory l js)) (joined_files p d l js t (ap (λ x. insert (described ss) d (directory l x)) now) still);
+      reads = dir_reads p q d (put_at (all_words a) new (dir_words p d)) c h.directory l lead (insert (read_as p).files d (directory l js)) (joined_files p d l js t (ap (λ x. insert (described ss) d (directory l x)) now) still);
       was = was;
       whole = value_whole p w d (all_words a) at new h js now sum t still (λ g system. ap (list_any (λ n. is_fid n.fid g)) names);
       tidy = value_tidy p w d (all_words a) at new h js now sum t still;

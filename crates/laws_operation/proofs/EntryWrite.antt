@@ -16,7 +16,7 @@ use Rattle.pack_model.specs.reading.Files.{lives, place}
 use Rattle.pack_model.specs.reading.Leaders.{Leader}
 use Rattle.pack_model.specs.hints.Links.{dir_words}
 use Rattle.pack_model.specs.sessions.Meanings.{reading}
-use Rattle.pack_model.specs.reading.Model.{dir_items, read_pack, read_sights}
+use Rattle.pack_model.specs.reading.Model.{dir_items, read_as, read_sights}
 use Rattle.pack_model.specs.sessions.Moves.{Obeys, rest, write}
 use Rattle.pack_model.specs.reading.Namings.{IsTidy, Naming, clashes, may_stand, namings}
 use Rattle.pack_model.specs.operations.Operations.{one_move}
@@ -45,13 +45,13 @@ use Rattle.laws_operation.specs.NameLaws.{EntryWords}
 use Rattle.laws_record.proofs.entries.Laws.{entry_is_the_step}
 
 -- a tidy pack is read as it stands
-pub read_files : (p : Pack) → Tidy p → (read_pack p).files ≡ described (sights p)
+pub read_files : (p : Pack) → Tidy p → (read_as p).files ≡ described (sights p)
 unfolding read_sights
 read_files p t = tidy_same (lives (sights p)) (described (sights p)) t
 
 -- what the last record write does
 pub record EntersLast (p : Pack) (d : Fid) (events : List Event) (o : Operation) : Type 0 where
-  pub obeys : Obeys reading (read_pack p) p events (one_move o)
+  pub obeys : Obeys reading (read_as p) p events (one_move o)
   pub whole : Whole (after p events)
   pub tidy : Tidy (after p events)
   pub same : SameBut d (sights p) (sights (after p events))
@@ -79,7 +79,7 @@ last_stage p w t d at new a b f name left h may room other =
     let stands : may_stand (lives ss) e ≡ true = λ i. may.lives i && may.fits i in
     let still : IsTidy (lives ss) (insert files d (directory l js)) = entry_tidy (lives ss) files d l a b k left here f name t stands clear in
     let step_is = entry_is_the_step p d at new a b f name left h may room in
-    let sector : place ss d (page_of_word (room_place (find_room n (dir_items (read_pack p) d)))) ≡ Some at = ap (λ r. place ss d (page_of_word (room_place r))) room ∙ ap (place ss d) (sym (add-one (all_words a / 256))) ∙ h.write.sector in
+    let sector : place ss d (page_of_word (room_place (find_room n (dir_items (read_as p) d)))) ≡ Some at = ap (λ r. place ss d (page_of_word (room_place r))) room ∙ ap (place ss d) (sym (add-one (all_words a / 256))) ∙ h.write.sector in
     record {
       obeys = write refl (record { part_is = refl; bears = sector }) (rest step_is);
       whole = value_whole p w d (all_words a) at new h.write js now sum t still (λ g system. entry_names (lives ss) files d l a b k left here f name g system other);

@@ -7,7 +7,7 @@ use Rattle.disk_records.specs.Labels.{tag}
 use Rattle.disk_records.specs.Packs.{Pack, after, sector_at}
 use Rattle.pack_model.specs.reading.Bytes.{bytes_of, put_at, words_of}
 use Rattle.pack_model.specs.reading.Files.{file_bytes, lives, place}
-use Rattle.pack_model.specs.reading.Model.{descriptor_words, is_named, last_serial, read_pack, read_sights}
+use Rattle.pack_model.specs.reading.Model.{descriptor_words, is_named, last_serial, read_as, read_sights}
 use Rattle.pack_model.specs.reading.Sights.{Sight, sights}
 use Rattle.pack_model.specs.reading.Sights.Sight.{hidden, holds}
 use Rattle.pack_model.specs.states.Whole.{PageAt, SaysShape, Tidy, TidySights, Whole, WholeSights}
@@ -78,7 +78,7 @@ words_written p w at word_at new sector few =
     }
 
 -- what stays of a whole and tidy pack, where the words say the shape as before
-pub kept_sound : (p : Pack) (w : Whole p) → Tidy p → (at word_at : ℕ) (new : List ℕ) (h : WordsWritten p at word_at new) → SaysShape p.shape (put_at word_at new (descriptor_words (sights p))) → (read_pack p).last ≤ last_serial (put_at word_at new (descriptor_words (sights p)))
+pub kept_sound : (p : Pack) (w : Whole p) → Tidy p → (at word_at : ℕ) (new : List ℕ) (h : WordsWritten p at word_at new) → SaysShape p.shape (put_at word_at new (descriptor_words (sights p))) → (read_as p).last ≤ last_serial (put_at word_at new (descriptor_words (sights p)))
     → KeepsSound p (after p (value_writes at (put_at word_at new (sector_at p at).value)))
 kept_sound p w t at word_at new h says grows =
     let value : List ℕ = put_at word_at new (sector_at p at).value in
@@ -86,10 +86,10 @@ kept_sound p w t at word_at new h says grows =
     let o = h.page in
     let us : List Sight = set (sights p) at (holds disk_descriptor 0 (counted_of p at value)) in
     let words : descriptor_words us ≡ put_at word_at new (descriptor_words (sights p)) = ap descriptor_words (sym o.sights_are) ∙ h.words in
-    let whole : Whole q = subst (WholeSights p.shape) (sym o.sights_are) (descriptor_whole p.shape (sights p) us o.spot.lead _ _ o.change w (subst (SaysShape p.shape) (sym words) says) h.size (subst (λ x. (read_pack p).last ≤ last_serial x) (sym words) grows)) in
+    let whole : Whole q = subst (WholeSights p.shape) (sym o.sights_are) (descriptor_whole p.shape (sights p) us o.spot.lead _ _ o.change w (subst (SaysShape p.shape) (sym words) says) h.size (subst (λ x. (read_as p).last ≤ last_serial x) (sym words) grows)) in
     let tidy : Tidy q = subst TidySights (sym o.sights_are) (descriptor_tidy p.shape (sights p) us o.spot.lead _ _ o.change t) in
     let live : lives (sights q) ≡ lives (sights p) = ap lives o.sights_are ∙ lives_still p.shape (sights p) us o.spot.lead _ _ o.change in
-    let reads : read_pack q ≡ record (read_pack p) { last = last_serial (descriptor_words us) } = ap (read_sights p.shape) o.sights_are ∙ descriptor_reads p.shape (sights p) us o.spot.lead _ _ o.change in
+    let reads : read_as q ≡ record (read_as p) { last = last_serial (descriptor_words us) } = ap (read_sights p.shape) o.sights_are ∙ descriptor_reads p.shape (sights p) us o.spot.lead _ _ o.change in
     record {
       whole = whole;
       tidy = tidy;
@@ -98,9 +98,9 @@ kept_sound p w t at word_at new h says grows =
     }
 
 -- what is read then
-pub words_read : (p : Pack) (at word_at : ℕ) (new : List ℕ) → WordsWritten p at word_at new → read_pack (after p (value_writes at (put_at word_at new (sector_at p at).value))) ≡ record (read_pack p) { last = last_serial (put_at word_at new (descriptor_words (sights p))) }
+pub words_read : (p : Pack) (at word_at : ℕ) (new : List ℕ) → WordsWritten p at word_at new → read_as (after p (value_writes at (put_at word_at new (sector_at p at).value))) ≡ record (read_as p) { last = last_serial (put_at word_at new (descriptor_words (sights p))) }
 words_read p at word_at new h =
     let value : List ℕ = put_at word_at new (sector_at p at).value in
     let o = h.page in
     let us : List Sight = set (sights p) at (holds disk_descriptor 0 (counted_of p at value)) in
-    ap (read_sights p.shape) o.sights_are ∙ descriptor_reads p.shape (sights p) us o.spot.lead _ _ o.change ∙ ap (λ x. record (read_pack p) { last = last_serial x }) (ap descriptor_words (sym o.sights_are) ∙ h.words)
+    ap (read_sights p.shape) o.sights_are ∙ descriptor_reads p.shape (sights p) us o.spot.lead _ _ o.change ∙ ap (λ x. record (read_as p) { last = last_serial x }) (ap descriptor_words (sym o.sights_are) ∙ h.words)

@@ -12,7 +12,7 @@ use Rattle.pack_model.specs.operations.Commands.{Claim, Claimable, all_claimed, 
 use Rattle.pack_model.specs.operations.Committing.{MakesMove, length_of, moves_of, page_of_byte, pages_added}
 use Rattle.pack_model.specs.reading.Files.{file_bytes, most_pages, place}
 use Rattle.pack_model.specs.sessions.Meanings.{reading}
-use Rattle.pack_model.specs.reading.Model.{good_one, read_pack}
+use Rattle.pack_model.specs.reading.Model.{good_one, read_as}
 use Rattle.pack_model.specs.sessions.Moves.{Obeys, steps}
 use Rattle.pack_model.specs.operations.Operations.{grow_moves, grow_writes}
 use Rattle.pack_model.specs.operations.Operations.Move.{commits, quiet}
@@ -105,28 +105,28 @@ module _ (p : Pack) (w : Whole p) (t : Tidy p) (f : Fid) (file : IsOrdinary f) w
       let past : counted_of p i v ≡ old = hyp.kept ∙ sym old_is in
       let n : length (h.front ++ (i, old) ∷ h.later) ≡ length h.front + suc (length h.later) = length-append h.front ((i, old) ∷ h.later) in
       let few : suc k + length (all_claimed cs) ≤ most_pages = few_pages ss f (suc k) cs (let e = h.number in let l = h.few in omega arith) hyp.claimable in
-      let ch = grow_changed p f k i old h is last.short cs hyp.claimable (read_pack p) refl label v c0 past hyp.page refl hyp.laid few in
+      let ch = grow_changed p f k i old h is last.short cs hyp.claimable (read_as p) refl label v c0 past hyp.page refl hyp.laid few in
       let us : List Sight = set (sights (after p (claims_writes cs))) i (holds f k c0) in
       let more : c0 ++ together (all_claimed cs) ≡ old ++ new = hyp.bytes ∙ ap (λ x. x ++ new) (sym old_is) in
       let e : together (h.front ++ (i, old) ∷ []) ++ new ≡ together (h.front ++ (i, c0) ∷ all_claimed cs) =
       ap (λ x. x ++ new) (together-append h.front ((i, old) ∷ []) ∙ ap (λ x. together h.front ++ x) (append-nil old)) ∙ append_assoc (together h.front) old new
       ∙ ap (λ x. together h.front ++ x) (sym more) ∙ sym (together-append h.front ((i, c0) ∷ all_claimed cs)) in
       let lv = leaves p.shape ss us f h.lead h.lead _ _ (on_bytes (λ b. b ++ new)) ch file.no_directory file.no_descriptor (ap (plain h.lead) e) w t in
-      let shows = grow_shows p f k i old h is last.short cs hyp.claimable (read_pack p) refl label v c0 past hyp.page refl hyp.laid few in
+      let shows = grow_shows p f k i old h is last.short cs hyp.claimable (read_as p) refl label v c0 past hyp.page refl hyp.laid few in
       let o : Operation = grow f new in
-      let size_in : length_of (read_pack p) f ≡ length (file_bytes ss f) = ordinary_length p.shape ss f h.lead ch.was file in
+      let size_in : length_of (read_as p) f ≡ length (file_bytes ss f) = ordinary_length p.shape ss f h.lead ch.was file in
       let q1 : Pack = after (after p (claims_writes cs)) (Wrote i 2 v ∷ []) in
-      let same_model : read_pack q1 ≡ read_pack p = read_before p f k i old h is last.short cs hyp.claimable (read_pack p) refl label v c0 past hyp.page refl hyp.laid few in
-      let number : page_of_byte (length_of (read_pack q1) f) ≡ suc k = ap (λ m. page_of_byte (length_of m f)) same_model ∙ ap page_of_byte size_in in
-      let makes : MakesMove q1 (Wrote i 1 label) (commits o) = record { part_is = refl; bears = ap (place (sights q1) f) number ∙ old_place p f k i old h is last.short cs hyp.claimable (read_pack p) refl label v c0 past hyp.page refl hyp.laid few } in
+      let same_model : read_as q1 ≡ read_as p = read_before p f k i old h is last.short cs hyp.claimable (read_as p) refl label v c0 past hyp.page refl hyp.laid few in
+      let number : page_of_byte (length_of (read_as q1) f) ≡ suc k = ap (λ m. page_of_byte (length_of m f)) same_model ∙ ap page_of_byte size_in in
+      let makes : MakesMove q1 (Wrote i 1 label) (commits o) = record { part_is = refl; bears = ap (place (sights q1) f) number ∙ old_place p f k i old h is last.short cs hyp.claimable (read_as p) refl label v c0 past hyp.page refl hyp.laid few } in
       let before : length (together (h.front ++ (i, old) ∷ [])) ≡ length (file_bytes ss f) = ap length (sym ch.before) in
       let now : length (together (h.front ++ (i, c0) ∷ all_claimed cs)) ≡ length (file_bytes ss f) + length new = ap length (sym e) ∙ length-append (together (h.front ++ (i, old) ∷ [])) new ∙ ap (λ x. x + length new) before in
       let all : length (h.front ++ (i, c0) ∷ all_claimed cs) ≡ suc (length (together (h.front ++ (i, c0) ∷ all_claimed cs)) / 512) = pages_by_bytes (h.front ++ (i, c0) ∷ all_claimed cs) (laid_join h.front (i, c0) (all_claimed cs) (laid_front h.front (i, old) h.later h.laid) hyp.laid) in
       let parts : length (h.front ++ (i, c0) ∷ all_claimed cs) ≡ length h.front + suc (length (all_claimed cs)) = length-append h.front ((i, c0) ∷ all_claimed cs) in
       let many : length cs ≡ pages_added (length (file_bytes ss f)) (length new) = let a = all_claimed_many cs in let x = h.number in omega (arith, now, all, parts) in
-      let moves : moves_of (read_pack p) o ≡ grow_moves cs o = ap (λ x. x ++ (quiet ∷ commits o ∷ quiet ∷ [])) (claims_units cs (pages_added (length_of (read_pack p) f) (length new)) (many ∙ ap (λ x. pages_added x (length new)) (sym size_in))) in
-      carries_out p (grow_writes cs i label v) o f (ap (steps reading (read_pack p)) moves ∙ claims_still cs (read_pack p) (quiet ∷ commits o ∷ quiet ∷ [])) (subst (SameBut f ss) (sym shows) ch.same) file.no_descriptor (record {
-        obeys = subst (Obeys reading (read_pack p) p (grow_writes cs i label v)) (sym moves) (grow_obeys p f k i old h is last.short cs hyp.claimable (read_pack p) refl label v c0 past hyp.page refl hyp.laid few o makes lv.reads);
+      let moves : moves_of (read_as p) o ≡ grow_moves cs o = ap (λ x. x ++ (quiet ∷ commits o ∷ quiet ∷ [])) (claims_units cs (pages_added (length_of (read_as p) f) (length new)) (many ∙ ap (λ x. pages_added x (length new)) (sym size_in))) in
+      carries_out p (grow_writes cs i label v) o f (ap (steps reading (read_as p)) moves ∙ claims_still cs (read_as p) (quiet ∷ commits o ∷ quiet ∷ [])) (subst (SameBut f ss) (sym shows) ch.same) file.no_descriptor (record {
+        obeys = subst (Obeys reading (read_as p) p (grow_writes cs i label v)) (sym moves) (grow_obeys p f k i old h is last.short cs hyp.claimable (read_as p) refl label v c0 past hyp.page refl hyp.laid few o makes lv.reads);
         whole = subst (WholeSights p.shape) (sym shows) lv.whole;
         tidy = subst TidySights (sym shows) lv.tidy;
       })

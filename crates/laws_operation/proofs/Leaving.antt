@@ -13,7 +13,7 @@ use Rattle.pack_model.specs.operations.Committing.{entry_place, page_of_word}
 use Rattle.pack_model.specs.reading.Files.{lives, place}
 use Rattle.pack_model.specs.reading.Leaders.{Leader}
 use Rattle.pack_model.specs.hints.Links.{dir_words}
-use Rattle.pack_model.specs.reading.Model.{dir_items, read_pack}
+use Rattle.pack_model.specs.reading.Model.{dir_items, read_as}
 use Rattle.pack_model.specs.sessions.Moves.{rest, write}
 use Rattle.pack_model.specs.reading.Namings.{IsTidy, clashes, namings, namings_in}
 use Rattle.pack_model.specs.operations.PageWords.{freed_value, in_page}
@@ -108,14 +108,14 @@ module _ (p : Pack) (w : Whole p) (t : Tidy p) (d : Fid) where
       let clear : list_any (clashes (record { dir = d; name = own; fid = f })) (namings_in d a) ≡ false = apart_before (lives ss) files d l a b f own t here in
       let same_files : insert files d (directory l (a ++ entry f own ∷ b)) ≡ files = insert_same files d (directory l (a ++ entry f own ∷ b)) here in
       let still : IsTidy (lives ss) (insert files d (directory l js)) = leave_tidy (lives ss) files d l (a ++ entry f own ∷ b) a b here f own n (subst (IsTidy (lives ss)) (sym same_files) t) in
-      let gets : get (read_pack p).files d ≡ Some (directory l (a ++ entry f own ∷ b)) = dir_read p w d (all_words a) at new h js now sum t still ∙ ap (λ x. Some (directory l x)) hyp.frees.slots_are in
+      let gets : get (read_as p).files d ≡ Some (directory l (a ++ entry f own ∷ b)) = dir_read p w d (all_words a) at new h js now sum t still ∙ ap (λ x. Some (directory l x)) hyp.frees.slots_are in
       let q : Pack = dir_written p (all_words a) at new in
-      let step_own : read_pack q ≡ step (read_pack p) (leave d own) = leave_is_the_step p d at a b f own t hyp.frees in
+      let step_own : read_as q ≡ step (read_as p) (leave d own) = leave_is_the_step p d at a b f own t hyp.frees in
       let self : is_same_name own own ≡ true = same_equiv.refl (map fold_case own) in
-      let alike : step (read_pack p) (leave d own) ≡ step (read_pack p) (leave d name) =
-      sym (on_slots (read_pack p) d l (a ++ entry f own ∷ b) js (items_left own) gets (left_here d f own own self a b clear)) ∙ on_slots (read_pack p) d l (a ++ entry f own ∷ b) js (items_left name) gets (left_here d f own name hyp.same a b clear) in
-      let place_is : entry_place name 0 (dir_items (read_pack p) d) ≡ all_words a = ap (λ r. entry_place name 0 (items_in r)) gets ∙ entry_here d f own name hyp.same a b 0 clear ∙ (let z : 0 + all_words a ≡ all_words a = omega arith in z) in
-      let sector : place ss d (page_of_word (entry_place name 0 (dir_items (read_pack p) d))) ≡ Some at = ap (λ k. place ss d (page_of_word k)) place_is ∙ ap (place ss d) (sym (add-one (all_words a / 256))) ∙ h.sector in
+      let alike : step (read_as p) (leave d own) ≡ step (read_as p) (leave d name) =
+      sym (on_slots (read_as p) d l (a ++ entry f own ∷ b) js (items_left own) gets (left_here d f own own self a b clear)) ∙ on_slots (read_as p) d l (a ++ entry f own ∷ b) js (items_left name) gets (left_here d f own name hyp.same a b clear) in
+      let place_is : entry_place name 0 (dir_items (read_as p) d) ≡ all_words a = ap (λ r. entry_place name 0 (items_in r)) gets ∙ entry_here d f own name hyp.same a b 0 clear ∙ (let z : 0 + all_words a ≡ all_words a = omega arith in z) in
+      let sector : place ss d (page_of_word (entry_place name 0 (dir_items (read_as p) d))) ≡ Some at = ap (λ k. place ss d (page_of_word k)) place_is ∙ ap (place ss d) (sym (add-one (all_words a / 256))) ∙ h.sector in
       let out : CarriesOut p (value_writes at (put_at (in_page (all_words a)) new (sector_at p at).value)) (leave d name) =
       carries_out p (value_writes at (put_at (in_page (all_words a)) new (sector_at p at).value)) (leave d name) d refl (value_same p w d (all_words a) at new h) (not_descriptor d h.directory) (record {
         obeys = write refl (record { part_is = refl; bears = sector }) (rest (step_own ∙ alike));

@@ -9,7 +9,7 @@ use Rattle.pack_model.specs.reading.Files.{file_bytes, first, joined, most_pages
 use Rattle.pack_model.specs.reading.Model.{good_one}
 use Rattle.pack_model.specs.reading.Sights.{Sight}
 use Rattle.pack_model.specs.reading.Sights.Sight.{free, hidden, holds, leads, stray}
-use Rattle.pack_model.specs.states.Whole.{Carries, IsLaid, IsSeat, PageAt, Seated}
+use Rattle.pack_model.specs.states.Whole.{HasPages, IsLaid, IsSeat, PageAt, Seated}
 use Rattle.pack_laws.proofs.Firsts.{first_alone}
 use Rattle.pack_laws.proofs.Joining.{continue, joined-suc}
 use Rattle.pack_laws.proofs.Keys.{is_fid-itself, same_fid}
@@ -132,7 +132,7 @@ seat_here ss f k (c ∷ cs) (suc j) l h =
     (r.0 ∙ ap (λ n. holds f n (get_or cs j (0, [])).1) z, inr (subst (λ n. IsSeat (suc k) cs n (get_or cs j (0, [])).0) z r.1))
 
 -- the bytes of a file that is laid, whatever loose pages there are
-pub bytes_laid : (ss : List Sight) (f : Fid) (pages : List PageAt) (lo : ℕ) (loose : List PageAt) → Carries ss f pages lo loose → length pages ≤ lo → IsLaid pages → length pages ≤ most_pages → file_bytes ss f ≡ together pages
+pub bytes_laid : (ss : List Sight) (f : Fid) (pages : List PageAt) (lo : ℕ) (loose : List PageAt) → HasPages ss f pages lo loose → length pages ≤ lo → IsLaid pages → length pages ≤ most_pages → file_bytes ss f ≡ together pages
 unfolding file_bytes
 bytes_laid ss f pages lo loose c apart laid few = joined_laid pages most_pages (page ss f) few laid (λ j l.
     let z : 0 + j ≡ j = omega arith in

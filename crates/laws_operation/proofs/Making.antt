@@ -18,7 +18,7 @@ use Rattle.pack_model.specs.operations.Committing.{MakesMove}
 use Rattle.pack_model.specs.reading.Files.{file_bytes, leader, most_pages, place}
 use Rattle.pack_model.specs.reading.Leaders.{Leader}
 use Rattle.pack_model.specs.sessions.Meanings.{reading}
-use Rattle.pack_model.specs.reading.Model.{Model, good_one, read_pack, read_sights}
+use Rattle.pack_model.specs.reading.Model.{Model, good_one, read_as, read_sights}
 use Rattle.pack_model.specs.reading.Namings.{body_namings}
 use Rattle.pack_model.specs.operations.Operations.{make_writes}
 use Rattle.pack_model.specs.operations.Operations.Move.{commits}
@@ -31,7 +31,7 @@ use Rattle.pack_model.specs.reading.Slots.Item.{entry, space}
 use Rattle.pack_model.specs.reading.Slots.Reads.{next, none}
 use Rattle.pack_model.specs.operations.Step.{new_body, new_file, new_leader, step}
 use Rattle.pack_model.specs.operations.Step.Operation.{make}
-use Rattle.pack_model.specs.states.Whole.{Carries, FileWhole, Headless, IsLaid, Leads, PageAt, Tidy, TidySights, Whole, WholeSights, absent, present}
+use Rattle.pack_model.specs.states.Whole.{HasPages, FileWhole, Headless, IsLaid, Leads, PageAt, Tidy, TidySights, Whole, WholeSights, absent, present}
 use Rattle.pack_laws.proofs.Bytes.{length-bytes_of, words_of-bytes_of}
 use Rattle.pack_laws.proofs.Guarding.{named_shown}
 use Rattle.pack_laws.proofs.Joining.{most_is}
@@ -54,7 +54,7 @@ use Rattle.laws_record.proofs.Recording.{free_sight}
 -- what isn't there
 pub record Missing (ss : List Sight) (f : Fid) : Type 0 where
   pub headless : Headless ss f
-  pub carries : Carries ss f [] 0 []
+  pub carries : HasPages ss f [] 0 []
 
 -- where no leader is there is no page
 pub missing : (ss : List Sight) (f : Fid) → FileWhole ss f → leader ss f ≡ None → Missing ss f
@@ -128,7 +128,7 @@ module _ (p : Pack) (w : Whole p) (t : Tidy p) where
       let k : Leader = new_leader name moment in
       let none_there : leader ss f ≡ None = none_of_false (leader ss f) hyp.not_there in
       let gap = missing ss f (w.files f) none_there in
-      let m : Model = read_pack p in
+      let m : Model = read_as p in
       let other = hyp.no_descriptor in
       let not_dd : f ≡ disk_descriptor → ⊥ = not_same f disk_descriptor other in
       let page_named = named_page page.label (page_number f 1) hyp.page_is in
@@ -148,7 +148,7 @@ module _ (p : Pack) (w : Whole p) (t : Tidy p) where
       } in
       let pages : List PageAt = claimed page ∷ [] in
       let laid : IsLaid pages = ap (λ x. nat_lt (length x) 512) hyp.bytes ∙ first_short f in
-      let c : Carries us f pages 0 [] = carries_join us f [] pages (carries_set (sights q) f [] 0 pages r.carries head.at s l (λ n d e. let z : free ≡ holds f n d = sym free_q ∙ e in absurd cc) (λ n d e. absurd cc)) in
+      let c : HasPages us f pages 0 [] = carries_join us f [] pages (carries_set (sights q) f [] 0 pages r.carries head.at s l (λ n d e. let z : free ≡ holds f n d = sym free_q ∙ e in absurd cc) (λ n d e. absurd cc)) in
       let same : SameBut f ss us = but_trans f ss (sights q) us r.same (same_set f (sights q) head.at s (subst (MayBe f) (sym free_q) tt) refl) in
       let now : leader us f ≡ Some k = leader_is us f head.at true k heads in
       let bytes : file_bytes us f ≡ first_bytes f = bytes_laid us f pages 1 [] (carries_none us f pages 0 1 c) (omega arith) laid few ∙ append-nil b ∙ hyp.bytes in

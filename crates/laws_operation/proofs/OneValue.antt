@@ -11,7 +11,7 @@ use Rattle.pack_model.specs.operations.Committing.{MakesMove, moves_of}
 use Rattle.pack_model.specs.reading.Files.{file_bytes}
 use Rattle.pack_model.specs.reading.Leaders.{Leader, is_readable, leader_of, leader_words}
 use Rattle.pack_model.specs.sessions.Meanings.{reading}
-use Rattle.pack_model.specs.reading.Model.{Model, good_one, read_pack}
+use Rattle.pack_model.specs.reading.Model.{Model, good_one, read_as}
 use Rattle.pack_model.specs.sessions.Moves.{Obeys, steps}
 use Rattle.pack_model.specs.operations.Operations.{one_move}
 use Rattle.pack_model.specs.operations.Operations.Move.{commits}
@@ -87,13 +87,13 @@ module _ (p : Pack) (w : Whole p) (t : Tidy p) (f : Fid) (file : IsOrdinary f) w
       (ap (plain pl.lead) (ap (λ x. put_at x new (together (pl.front ++ (at, old) ∷ pl.later))) (sym z) ∙ put_there pl.front at k old pl.later off new (laid_front pl.front (at, old) pl.later pl.laid) pl.number fits)) w t in
       let shows : sights (after p (value_writes at value)) ≡ us = value_shows p at good value (holds f k fresh) s in
       carries_out p (value_writes at value) (put f offset new) f refl (subst (SameBut f ss) (sym shows) ch.same) file.no_descriptor (record {
-        obeys = value_obeys p at good (read_pack p) (commits (put f offset new)) value (holds f k fresh) s refl (record { part_is = refl; bears = h.sector }) lv.reads;
+        obeys = value_obeys p at good (read_as p) (commits (put f offset new)) value (holds f k fresh) s refl (record { part_is = refl; bears = h.sector }) lv.reads;
         whole = subst (WholeSights p.shape) (sym shows) lv.whole;
         tidy = subst TidySights (sym shows) lv.tidy;
       })
 
   -- title and stamp: one value of the leader
-  leader_meets : (change : Leader → Leader) (o : Operation) (at : ℕ) (value : List ℕ) → MayWriteLeader p f change at value → ((m : Model) → step m o ≡ update_file m f (on_leader change)) → moves_of (read_pack p) o ≡ one_move o → MakesMove p (Wrote at 2 value) (commits o) → CarriesOut p (value_writes at value) o
+  leader_meets : (change : Leader → Leader) (o : Operation) (at : ℕ) (value : List ℕ) → MayWriteLeader p f change at value → ((m : Model) → step m o ≡ update_file m f (on_leader change)) → moves_of (read_as p) o ≡ one_move o → MakesMove p (Wrote at 2 value) (commits o) → CarriesOut p (value_writes at value) o
   leader_meets change o at value h does moves makes =
       let ss : List Sight = sights p in
       let here = leader_of_place ss f at h.sector in
@@ -110,8 +110,8 @@ module _ (p : Pack) (w : Whole p) (t : Tidy p) (f : Fid) (file : IsOrdinary f) w
       let us : List Sight = set ss at (leads f true (change l)) in
       let lv = leaves p.shape ss us f l (change l) (together hd.pages) (together hd.pages) (on_leader change) ch file.no_directory file.no_descriptor refl w t in
       let shows : sights (after p (value_writes at value)) ≡ us = value_shows p at good value (leads f true (change l)) s in
-      carries_out p (value_writes at value) o f (ap (steps reading (read_pack p)) moves) (subst (SameBut f ss) (sym shows) ch.same) file.no_descriptor (record {
-        obeys = subst (Obeys reading (read_pack p) p (value_writes at value)) (sym moves) (value_obeys p at good (read_pack p) (commits o) value (leads f true (change l)) s refl makes (lv.reads ∙ sym (does (read_pack p))));
+      carries_out p (value_writes at value) o f (ap (steps reading (read_as p)) moves) (subst (SameBut f ss) (sym shows) ch.same) file.no_descriptor (record {
+        obeys = subst (Obeys reading (read_as p) p (value_writes at value)) (sym moves) (value_obeys p at good (read_as p) (commits o) value (leads f true (change l)) s refl makes (lv.reads ∙ sym (does (read_as p))));
         whole = subst (WholeSights p.shape) (sym shows) lv.whole;
         tidy = subst TidySights (sym shows) lv.tidy;
       })

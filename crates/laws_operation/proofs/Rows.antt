@@ -15,7 +15,7 @@ use Rattle.pack_model.specs.operations.Operations.{Move, claims_moves, releases_
 use Rattle.pack_model.specs.operations.Operations.Move.{quiet}
 use Rattle.pack_model.specs.reading.Sights.{Sight}
 use Rattle.pack_model.specs.reading.Sights.Sight.{hidden, holds}
-use Rattle.pack_model.specs.states.Whole.{Carries, IsLaid, IsSeat, PageAt, Seated}
+use Rattle.pack_model.specs.states.Whole.{HasPages, IsLaid, IsSeat, PageAt, Seated}
 use Rattle.pack_laws.proofs.Placing.{page_of_place, place_of_page}
 use Rattle.laws_record.proofs.Keeping.{get-tidied_plain, plain}
 use Rattle.laws_record.proofs.Seats.{seat_once}
@@ -33,14 +33,14 @@ place_alone ss f m i b e once =
     r.1 ∙ ap Some (once r.0 here.bytes (here.shows hidden))
 
 -- each page of a file that carries these is where it is
-seat_is_place : (ss : List Sight) (f : Fid) (pages : List PageAt) → Carries ss f pages 0 [] → (m i : ℕ) (b : List ℕ) → get_or ss i hidden ≡ holds f m b → place ss f (suc m) ≡ Some i
+seat_is_place : (ss : List Sight) (f : Fid) (pages : List PageAt) → HasPages ss f pages 0 [] → (m i : ℕ) (b : List ℕ) → get_or ss i hidden ≡ holds f m b → place ss f (suc m) ≡ Some i
 seat_is_place ss f pages c m i b e = place_alone ss f m i b e (λ j d x. seat_once 0 pages m j i (seat j d x) (seat i b e))
   where
     seat : (j : ℕ) (d : List ℕ) → get_or ss j hidden ≡ holds f m d → IsSeat 0 pages m j
     seat j d x = elim (c.only j m d x) [ inl s ↦ s | inr s ↦ absurd s ]
 
 -- the sectors that bear pages in a row are those that hold them
-pub row_is : (ss : List Sight) (f : Fid) (pages : List PageAt) → Carries ss f pages 0 [] → (ats : List ℕ) (cs : List PageAt) (k : ℕ) → length ats ≡ length cs → Bear ss f (suc k) ats → Seated ss f k cs → ats ≡ sectors_of cs
+pub row_is : (ss : List Sight) (f : Fid) (pages : List PageAt) → HasPages ss f pages 0 [] → (ats : List ℕ) (cs : List PageAt) (k : ℕ) → length ats ≡ length cs → Bear ss f (suc k) ats → Seated ss f k cs → ats ≡ sectors_of cs
 row_is ss f pages c [] [] k size bear seated = refl
 row_is ss f pages c [] (d ∷ cs) k size bear seated = absurd (omega (arith, size))
 row_is ss f pages c (a ∷ ats) [] k size bear seated = absurd (omega (arith, size))

@@ -8,14 +8,14 @@ use Rattle.pack_model.specs.reading.Leaders.{Leader}
 use Rattle.pack_model.specs.reading.Model.{good_one}
 use Rattle.pack_model.specs.reading.Sights.{Sight}
 use Rattle.pack_model.specs.reading.Sights.Sight.{free, hidden, holds, leads, stray}
-use Rattle.pack_model.specs.states.Whole.{Carries, Headless, IsLaid, IsSeat, Leads, PageAt, Seated}
+use Rattle.pack_model.specs.states.Whole.{HasPages, Headless, IsLaid, IsSeat, Leads, PageAt, Seated}
 use Rattle.pack_laws.proofs.Firsts.{first_alone, first_none}
 use Rattle.pack_laws.proofs.Keys.{is_fid-itself, same_fid}
 use Rattle.laws_operation.proofs.Lying.{same_number, seat_left, seat_right, seat_split, seated_join, seated_left, seated_right, seated_set, shows_set, within}
 
-module _ (ss : List Sight) (f : Fid) (pages : List PageAt) (lo : ℕ) (loose : List PageAt) (c : Carries ss f pages lo loose) where
+module _ (ss : List Sight) (f : Fid) (pages : List PageAt) (lo : ℕ) (loose : List PageAt) (c : HasPages ss f pages lo loose) where
   -- the next loose page is claimed
-  pub carries_claim : (a n : ℕ) (b : List ℕ) → get_or ss a hidden ≡ free → n ≡ lo + length loose → Carries (set ss a (holds f n b)) f pages lo (loose ++ (a, b) ∷ [])
+  pub carries_claim : (a n : ℕ) (b : List ℕ) → get_or ss a hidden ≡ free → n ≡ lo + length loose → HasPages (set ss a (holds f n b)) f pages lo (loose ++ (a, b) ∷ [])
   carries_claim a n b is number =
       let l : a < length ss = within ss a (ap good_one is) in
       let here : get_or (set ss a (holds f n b)) a hidden ≡ holds f (lo + length loose) b = get_or-set_same ss a (holds f n b) hidden l ∙ ap (λ n. holds f n b) number in
@@ -32,7 +32,7 @@ module _ (ss : List Sight) (f : Fid) (pages : List PageAt) (lo : ℕ) (loose : L
       not_page m d x y e = let z : free ≡ holds f m d = sym is ∙ e in absurd cc
 
   -- a sector that neither was nor becomes a page of f
-  pub carries_set : (i : ℕ) (s : Sight) → i < length ss → ((m : ℕ) (b : List ℕ) → get_or ss i hidden ≡ holds f m b → ⊥) → ((m : ℕ) (b : List ℕ) → s ≡ holds f m b → ⊥) → Carries (set ss i s) f pages lo loose
+  pub carries_set : (i : ℕ) (s : Sight) → i < length ss → ((m : ℕ) (b : List ℕ) → get_or ss i hidden ≡ holds f m b → ⊥) → ((m : ℕ) (b : List ℕ) → s ≡ holds f m b → ⊥) → HasPages (set ss i s) f pages lo loose
   carries_set i s l was becomes = record {
     seated = seated_set ss i s f 0 pages (λ m b x y e. was m b e) c.seated;
     waiting = seated_set ss i s f lo loose (λ m b x y e. was m b e) c.waiting;
@@ -40,7 +40,7 @@ module _ (ss : List Sight) (f : Fid) (pages : List PageAt) (lo : ℕ) (loose : L
   }
 
 -- the first loose page is released
-pub carries_release : (ss : List Sight) (f : Fid) (pages : List PageAt) (lo : ℕ) (d : PageAt) (loose : List PageAt) → Carries ss f pages lo (d ∷ loose) → length pages ≤ lo → Carries (set ss d.0 free) f pages (suc lo) loose
+pub carries_release : (ss : List Sight) (f : Fid) (pages : List PageAt) (lo : ℕ) (d : PageAt) (loose : List PageAt) → HasPages ss f pages lo (d ∷ loose) → length pages ≤ lo → HasPages (set ss d.0 free) f pages (suc lo) loose
 carries_release ss f pages lo d loose c apart =
     let is = c.waiting.0 in
     let l : d.0 < length ss = within ss d.0 (ap good_one is) in
@@ -55,7 +55,7 @@ carries_release ss f pages lo d loose c apart =
 
 -- a page holds other bytes
 pub carries_write : (ss : List Sight) (f : Fid) (front : List PageAt) (i : ℕ) (old : List ℕ) (later : List PageAt) (lo : ℕ) (loose : List PageAt) (new : List ℕ)
-    → Carries ss f (front ++ (i, old) ∷ later) lo loose → length (front ++ (i, old) ∷ later) ≤ lo ⊎ (loose ≡ []) → Carries (set ss i (holds f (length front) new)) f (front ++ (i, new) ∷ later) lo loose
+    → HasPages ss f (front ++ (i, old) ∷ later) lo loose → length (front ++ (i, old) ∷ later) ≤ lo ⊎ (loose ≡ []) → HasPages (set ss i (holds f (length front) new)) f (front ++ (i, new) ∷ later) lo loose
 carries_write ss f front i old later lo loose new c apart =
     let s : Sight = holds f (length front) new in
     let z : 0 + length front ≡ length front = omega arith in
@@ -82,7 +82,7 @@ carries_write ss f front i old later lo loose new c apart =
     }
 
 -- loose pages that follow become pages, and the other way round
-pub carries_join : (ss : List Sight) (f : Fid) (a b : List PageAt) → Carries ss f a (length a) b → Carries ss f (a ++ b) 0 []
+pub carries_join : (ss : List Sight) (f : Fid) (a b : List PageAt) → HasPages ss f a (length a) b → HasPages ss f (a ++ b) 0 []
 carries_join ss f a b c =
     let z : length a ≡ 0 + length a = omega arith in
     record {
@@ -92,7 +92,7 @@ carries_join ss f a b c =
     }
 
 -- some first pages, and the others as loose ones
-pub carries_split : (ss : List Sight) (f : Fid) (a b : List PageAt) (lo : ℕ) → lo ≡ length a → Carries ss f (a ++ b) 0 [] → Carries ss f a lo b
+pub carries_split : (ss : List Sight) (f : Fid) (a b : List PageAt) (lo : ℕ) → lo ≡ length a → HasPages ss f (a ++ b) 0 [] → HasPages ss f a lo b
 carries_split ss f a b lo is c =
     let z : 0 + length a ≡ lo = omega (arith, is) in
     record {
@@ -105,7 +105,7 @@ carries_split ss f a b lo is c =
     }
 
 -- no loose pages, from wherever they are counted
-pub carries_none : (ss : List Sight) (f : Fid) (pages : List PageAt) (lo hi : ℕ) → Carries ss f pages lo [] → Carries ss f pages hi []
+pub carries_none : (ss : List Sight) (f : Fid) (pages : List PageAt) (lo hi : ℕ) → HasPages ss f pages lo [] → HasPages ss f pages hi []
 carries_none ss f pages lo hi c = record { seated = c.seated; waiting = tt; only = λ i m d e. elim (c.only i m d e) [ inl s ↦ inl s | inr s ↦ absurd s ] }
 
 -- ---- leaders

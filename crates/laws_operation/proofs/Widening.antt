@@ -17,7 +17,7 @@ use Rattle.pack_model.specs.operations.Committing.{MakesMove, length_in, length_
 use Rattle.pack_model.specs.reading.Files.{file_bytes, lives, most_pages, place}
 use Rattle.pack_model.specs.reading.Leaders.{Leader}
 use Rattle.pack_model.specs.sessions.Meanings.{reading}
-use Rattle.pack_model.specs.reading.Model.{read_pack, read_sights}
+use Rattle.pack_model.specs.reading.Model.{read_as, read_sights}
 use Rattle.pack_model.specs.sessions.Moves.{Obeys, steps}
 use Rattle.pack_model.specs.reading.Namings.{AllKept, IsTidy, is_kept, namings_in}
 use Rattle.pack_model.specs.operations.Operations.{grow_moves, grow_writes}
@@ -71,7 +71,7 @@ module _ (p : Pack) (w : Whole p) (t : Tidy p) (d : Fid) where
       let few : suc k + length (all_claimed cs) ≤ most_pages = few_pages ss d (suc k) cs (let e = h.number in let l = h.few in omega arith) hyp.claimable in
       let q : Pack = after p (claims_writes cs) in
       let us : List Sight = set (sights q) i (holds d k c0) in
-      let ch = grow_changed p d k i old h is last.short cs hyp.claimable (read_pack p) refl label v c0 past hyp.page refl hyp.laid few in
+      let ch = grow_changed p d k i old h is last.short cs hyp.claimable (read_as p) refl label v c0 past hyp.page refl hyp.laid few in
       let more_bytes : c0 ++ together (all_claimed cs) ≡ old ++ bytes_of added = hyp.bytes ∙ ap (λ x. x ++ bytes_of added) (sym old_is) in
       let old_bytes : file_bytes ss d ≡ together h.front ++ old = ch.before ∙ together-append h.front ((i, old) ∷ []) ∙ ap (λ x. together h.front ++ x) (append-nil old) in
       let new_bytes : file_bytes us d ≡ file_bytes ss d ++ bytes_of added =
@@ -93,26 +93,26 @@ module _ (p : Pack) (w : Whole p) (t : Tidy p) (d : Fid) where
       let names = slots_namings (described ss) d h.lead items more in_files alike in
       let still : IsTidy (lives ss) (insert (described ss) d (directory h.lead more)) = subst (AllKept (is_kept (lives ss)) []) (sym names) t in
       let gets = dir_get p.shape ss us d h.lead ch.same ch.was ch.now dir items more old_slots new_slots t still in
-      let does : read_sights p.shape us ≡ step (read_pack p) (widen d) =
-      dir_step p.shape ss us d h.lead ch.same ch.was ch.now dir items more old_slots new_slots t still ∙ on_slots (read_pack p) d h.lead items more (λ is. is ++ space 256 ∷ []) gets refl in
+      let does : read_sights p.shape us ≡ step (read_as p) (widen d) =
+      dir_step p.shape ss us d h.lead ch.same ch.was ch.now dir items more old_slots new_slots t still ∙ on_slots (read_as p) d h.lead items more (λ is. is ++ space 256 ∷ []) gets refl in
       let root : (l : Leader) → get_or ss 1 hidden ≡ leads sys_dir true l → get_or us 1 hidden ≡ leads sys_dir true l = λ l e.
-      let there : get_or (sights q) 1 hidden ≡ leads sys_dir true l = ((all_claims p d k i old h is last.short cs hyp.claimable (read_pack p) refl).apart 1 (λ z. let c : free ≡ leads sys_dir true l = sym z ∙ e in absurd cc)).1 ∙ e in
-      get_or-set_other (sights q) i 1 (holds d k c0) hidden (λ z. let c : holds d k old ≡ leads sys_dir true l = sym (still_here p d k i old h is last.short cs hyp.claimable (read_pack p) refl) ∙ ap (λ n. get_or (sights q) n hidden) (sym z) ∙ there in absurd cc) ∙ there in
-      let shows = grow_shows p d k i old h is last.short cs hyp.claimable (read_pack p) refl label v c0 past hyp.page refl hyp.laid few in
+      let there : get_or (sights q) 1 hidden ≡ leads sys_dir true l = ((all_claims p d k i old h is last.short cs hyp.claimable (read_as p) refl).apart 1 (λ z. let c : free ≡ leads sys_dir true l = sym z ∙ e in absurd cc)).1 ∙ e in
+      get_or-set_other (sights q) i 1 (holds d k c0) hidden (λ z. let c : holds d k old ≡ leads sys_dir true l = sym (still_here p d k i old h is last.short cs hyp.claimable (read_as p) refl) ∙ ap (λ n. get_or (sights q) n hidden) (sym z) ∙ there in absurd cc) ∙ there in
+      let shows = grow_shows p d k i old h is last.short cs hyp.claimable (read_as p) refl label v c0 past hyp.page refl hyp.laid few in
       let o : Operation = widen d in
-      let size_in : length_of (read_pack p) d ≡ length (file_bytes ss d) = ap length_in gets ∙ directory_length items (file_bytes ss d) ends.even old_read.1 in
+      let size_in : length_of (read_as p) d ≡ length (file_bytes ss d) = ap length_in gets ∙ directory_length items (file_bytes ss d) ends.even old_read.1 in
       let q1 : Pack = after q (Wrote i 2 v ∷ []) in
-      let same_model : read_pack q1 ≡ read_pack p = read_before p d k i old h is last.short cs hyp.claimable (read_pack p) refl label v c0 past hyp.page refl hyp.laid few in
-      let number : page_of_byte (length_of (read_pack q1) d) ≡ suc k = ap (λ m. page_of_byte (length_of m d)) same_model ∙ ap page_of_byte size_in in
-      let makes : MakesMove q1 (Wrote i 1 label) (commits o) = record { part_is = refl; bears = ap (place (sights q1) d) number ∙ old_place p d k i old h is last.short cs hyp.claimable (read_pack p) refl label v c0 past hyp.page refl hyp.laid few } in
+      let same_model : read_as q1 ≡ read_as p = read_before p d k i old h is last.short cs hyp.claimable (read_as p) refl label v c0 past hyp.page refl hyp.laid few in
+      let number : page_of_byte (length_of (read_as q1) d) ≡ suc k = ap (λ m. page_of_byte (length_of m d)) same_model ∙ ap page_of_byte size_in in
+      let makes : MakesMove q1 (Wrote i 1 label) (commits o) = record { part_is = refl; bears = ap (place (sights q1) d) number ∙ old_place p d k i old h is last.short cs hyp.claimable (read_as p) refl label v c0 past hyp.page refl hyp.laid few } in
       let slot_size : length added ≡ 256 = sym hyp.slot.size in
       let now : length (together (h.front ++ (i, c0) ∷ all_claimed cs)) ≡ length (file_bytes ss d) + 512 = ap length (sym ch.since) ∙ (omega (arith, grown, twice, slot_size)) in
       let all : length (h.front ++ (i, c0) ∷ all_claimed cs) ≡ suc (length (together (h.front ++ (i, c0) ∷ all_claimed cs)) / 512) = pages_by_bytes (h.front ++ (i, c0) ∷ all_claimed cs) (laid_join h.front (i, c0) (all_claimed cs) (laid_front h.front (i, old) h.later h.laid) hyp.laid) in
       let parts : length (h.front ++ (i, c0) ∷ all_claimed cs) ≡ length h.front + suc (length (all_claimed cs)) = length-append h.front ((i, c0) ∷ all_claimed cs) in
       let many : length cs ≡ pages_added (length (file_bytes ss d)) 512 = let a = all_claimed_many cs in let x = h.number in omega (arith, now, all, parts) in
-      let moves : moves_of (read_pack p) o ≡ grow_moves cs o = ap (λ x. x ++ (quiet ∷ commits o ∷ quiet ∷ [])) (claims_units cs (pages_added (length_of (read_pack p) d) 512) (many ∙ ap (λ x. pages_added x 512) (sym size_in))) in
-      carries_out p (grow_writes cs i label v) o d (ap (steps reading (read_pack p)) moves ∙ claims_still cs (read_pack p) (quiet ∷ commits o ∷ quiet ∷ [])) (subst (SameBut d ss) (sym shows) ch.same) (not_descriptor d dir) (record {
-        obeys = subst (Obeys reading (read_pack p) p (grow_writes cs i label v)) (sym moves) (grow_obeys p d k i old h is last.short cs hyp.claimable (read_pack p) refl label v c0 past hyp.page refl hyp.laid few o makes does);
+      let moves : moves_of (read_as p) o ≡ grow_moves cs o = ap (λ x. x ++ (quiet ∷ commits o ∷ quiet ∷ [])) (claims_units cs (pages_added (length_of (read_as p) d) 512) (many ∙ ap (λ x. pages_added x 512) (sym size_in))) in
+      carries_out p (grow_writes cs i label v) o d (ap (steps reading (read_as p)) moves ∙ claims_still cs (read_as p) (quiet ∷ commits o ∷ quiet ∷ [])) (subst (SameBut d ss) (sym shows) ch.same) (not_descriptor d dir) (record {
+        obeys = subst (Obeys reading (read_as p) p (grow_writes cs i label v)) (sym moves) (grow_obeys p d k i old h is last.short cs hyp.claimable (read_as p) refl label v c0 past hyp.page refl hyp.laid few o makes does);
         whole = subst (WholeSights p.shape) (sym shows) (dir_whole p.shape ss us d h.lead ch.same ch.was ch.now dir items more old_slots new_slots t still w ch.whole
             (record { even = even_by (half.0 + length added) (file_bytes us d) size; items = more; reads = reads }) root
             (λ g system. ap (list_any (λ n. is_fid n.fid g)) names));

@@ -1,11 +1,11 @@
--- Links that were true are true at every cut of the values of DiskDescriptor.
+-- Links that were true are true at every crash of the values of DiskDescriptor.
 use Rattle.std.specs.Prelude.{Bool, List, Some, ℕ, ◌≡◌, ◌≤◌}
 use Rattle.alto_words.specs.Fid.{disk_descriptor}
-use Rattle.disk_records.specs.Packs.{Pack, cut, sector_at}
+use Rattle.disk_records.specs.Packs.{Pack, crash, sector_at}
 use Rattle.pack_model.specs.sessions.Descriptor.{close_writes, open_writes, serial_writes}
 use Rattle.pack_model.specs.reading.Files.{place}
 use Rattle.pack_model.specs.hints.Links.{LinksTrue}
-use Rattle.pack_model.specs.reading.Model.{read_pack}
+use Rattle.pack_model.specs.reading.Model.{read_as}
 use Rattle.pack_model.specs.reading.Sights.{sights}
 use Rattle.pack_model.specs.states.Sound.{mark_of}
 use Rattle.pack_model.specs.states.Whole.{Tidy, Whole}
@@ -18,8 +18,8 @@ OpenKeepsLinks = (p : Pack) (at : ℕ) → Whole p → Tidy p → place (sights 
 
 -- a new serial
 abbrev pub SerialKeepsLinks : Type 0
-SerialKeepsLinks = (p : Pack) (at last : ℕ) → Whole p → Tidy p → place (sights p) disk_descriptor 1 ≡ Some at → (read_pack p).last ≤ last → KeepsLinks p (serial_writes at last (sector_at p at).value)
+SerialKeepsLinks = (p : Pack) (at last : ℕ) → Whole p → Tidy p → place (sights p) disk_descriptor 1 ≡ Some at → (read_as p).last ≤ last → KeepsLinks p (serial_writes at last (sector_at p at).value)
 
--- closing, at every cut
+-- closing, at every crash
 abbrev pub CloseKeepsLinks : Type 0
-CloseKeepsLinks = (p : Pack) (busy : List Bool) (pages : List ℕ) (k : ℕ) → Whole p → Tidy p → MayClose p pages → LinksTrue p → LinksTrue (cut p (close_writes (mark_of (sights p)) p.shape (read_pack p).last busy pages) k)
+CloseKeepsLinks = (p : Pack) (busy : List Bool) (pages : List ℕ) (k : ℕ) → Whole p → Tidy p → MayClose p pages → LinksTrue p → LinksTrue (crash p (close_writes (mark_of (sights p)) p.shape (read_as p).last busy pages) k)

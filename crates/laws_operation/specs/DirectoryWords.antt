@@ -9,7 +9,7 @@ use Rattle.pack_model.specs.operations.Committing.{page_of_word}
 use Rattle.pack_model.specs.operations.Entering.{found_room}
 use Rattle.pack_model.specs.reading.Files.{lives, place}
 use Rattle.pack_model.specs.hints.Links.{dir_words}
-use Rattle.pack_model.specs.reading.Model.{dir_items, read_pack}
+use Rattle.pack_model.specs.reading.Model.{dir_items, read_as}
 use Rattle.pack_model.specs.operations.PageWords.{entered_words, later, widening_bytes}
 use Rattle.pack_model.specs.operations.Rooms.{Room, find_room}
 use Rattle.pack_model.specs.reading.Sights.{sights}
@@ -39,7 +39,7 @@ pub record CanEnter (p : Pack) (d : Fid) (name : List ℕ) (f : Fid) (r : Room) 
   pub no_system : is_system f ≡ false
   pub entry_is : MayEnter p d f name
   pub stored : is_stored_name name ≡ true
-  pub found : find_room (entry_length (length name)) (dir_items (read_pack p) d) ≡ Some r
+  pub found : find_room (entry_length (length name)) (dir_items (read_as p) d) ≡ Some r
   pub sector : place (sights p) d (page_of_word r.place) ≡ Some at
   pub next_sector : 0 < length (later r.place words) → place (sights p) d (suc (page_of_word r.place)) ≡ Some next_at
 
@@ -49,7 +49,7 @@ pub record EntersThere (p : Pack) (d : Fid) (name : List ℕ) (f : Fid) (r : Roo
   pub old : List Item
   pub behind : List Item
   pub may : MayEnterAt p d name f before old behind (left_in r name) words at next_at
-  pub room : entry_room before old at next_at ≡ found_room r (dir_items (read_pack p) d) at next_at
+  pub room : entry_room before old at next_at ≡ found_room r (dir_items (read_as p) d) at next_at
 
 -- the words of the entry, with any address, and of a free slot for those left over may be entered in the room that was found
 abbrev pub EnterWordsFit : Type 0

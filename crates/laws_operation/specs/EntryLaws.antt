@@ -8,7 +8,7 @@ use Rattle.alto_words.specs.declared.fid.Fid.{Fid}
 use Rattle.disk_records.specs.Packs.{Pack}
 use Rattle.pack_model.specs.reading.Files.{lives}
 use Rattle.pack_model.specs.hints.Links.{dir_words}
-use Rattle.pack_model.specs.reading.Model.{Model, dir_items, is_named, read_pack}
+use Rattle.pack_model.specs.reading.Model.{Model, dir_items, is_named, read_as}
 use Rattle.pack_model.specs.reading.Namings.{clashes, namings}
 use Rattle.pack_model.specs.reading.Sights.{sights}
 use Rattle.pack_model.specs.reading.Slots.{Item, slots}
@@ -20,7 +20,7 @@ use Rattle.pack_model.specs.states.Whole.{Tidy}
 -- ---- slots
 -- on a tidy pack the slots of a living directory in the model are those that stand there
 abbrev pub ItemsAreSlots : Type 0
-ItemsAreSlots = (p : Pack) (d : Fid) → Tidy p → lives (sights p) d ≡ true → is_directory d ≡ true → dir_items (read_pack p) d ≡ slots (dir_words p d)
+ItemsAreSlots = (p : Pack) (d : Fid) → Tidy p → lives (sights p) d ≡ true → is_directory d ≡ true → dir_items (read_as p) d ≡ slots (dir_words p d)
 
 -- ---- names that are free
 -- an entry of another file under this name, in whatever case
@@ -43,11 +43,11 @@ FreeNameIsApartForANamelessFile = (m : Model) (d f : Fid) (name : List ℕ) → 
 -- ---- files without an entry
 -- no entry of what any pack is read as has a file that doesn't live
 abbrev pub EntriesNameLivingFiles : Type 0
-EntriesNameLivingFiles = (p : Pack) (f : Fid) → lives (sights p) f ≡ false → is_named (read_pack p) f ≡ false
+EntriesNameLivingFiles = (p : Pack) (f : Fid) → lives (sights p) f ≡ false → is_named (read_as p) f ≡ false
 
 -- behind the make of a file that didn't live no entry has it, on any pack
 abbrev pub MakeLeavesNoName : Type 0
-MakeLeavesNoName = (p : Pack) (f : Fid) (own : List ℕ) (moment : ℕ) → lives (sights p) f ≡ false → is_named (step (read_pack p) (make f own moment)) f ≡ false
+MakeLeavesNoName = (p : Pack) (f : Fid) (own : List ℕ) (moment : ℕ) → lives (sights p) f ≡ false → is_named (step (read_as p) (make f own moment)) f ≡ false
 
 -- An entry of this file in a directory of the model, under this name in whatever case. Of what a pack is read as it is the only one
 -- there under this name, so that it is the one that leaves by it; of other models the first one with the name leaves.
@@ -60,16 +60,16 @@ pub record HasName (m : Model) (d : Fid) (old : List ℕ) (f : Fid) : Type 0 whe
 
 -- behind the leaving of a file's entry no other has the file, on any pack
 abbrev pub LeaveTakesTheOnlyEntry : Type 0
-LeaveTakesTheOnlyEntry = (p : Pack) (d f : Fid) (old : List ℕ) → HasName (read_pack p) d old f → is_named (step (read_pack p) (leave d old)) f ≡ false
+LeaveTakesTheOnlyEntry = (p : Pack) (d f : Fid) (old : List ℕ) → HasName (read_as p) d old f → is_named (step (read_as p) (leave d old)) f ≡ false
 
 -- ---- names that are free behind a make and behind a leaving, by the directories as they were before
 -- behind the make of a file that didn't live an entry of it clashes with none, under a name that no entry of its directory had, on any pack
 abbrev pub FreeNameIsApartAfterMake : Type 0
-FreeNameIsApartAfterMake = (p : Pack) (d f : Fid) (name own : List ℕ) (moment : ℕ) → lives (sights p) f ≡ false → IsOpenTo (read_pack p) d f name → IsApart (step (read_pack p) (make f own moment)) d f name
+FreeNameIsApartAfterMake = (p : Pack) (d f : Fid) (name own : List ℕ) (moment : ℕ) → lives (sights p) f ≡ false → IsOpenTo (read_as p) d f name → IsApart (step (read_as p) (make f own moment)) d f name
 
 -- behind the leaving of a file's entry another one of it clashes with none, in any directory where no other file had its name, on any pack
 abbrev pub FreeNameIsApartAfterLeave : Type 0
-FreeNameIsApartAfterLeave = (p : Pack) (d e f : Fid) (name old : List ℕ) → HasName (read_pack p) d old f → IsOpenTo (read_pack p) e f name → IsApart (step (read_pack p) (leave d old)) e f name
+FreeNameIsApartAfterLeave = (p : Pack) (d e f : Fid) (name old : List ℕ) → HasName (read_as p) d old f → IsOpenTo (read_as p) e f name → IsApart (step (read_as p) (leave d old)) e f name
 
 -- ---- other operations
 -- an operation on a file's bytes or leader, or a widening: not a make, a drop, a leaving or an entering

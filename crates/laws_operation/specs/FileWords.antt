@@ -9,7 +9,7 @@ use Rattle.pack_model.specs.reading.Bytes.{bytes_of}
 use Rattle.pack_model.specs.operations.Commands.{cut_label, first_page_claim, grown_claims, grown_label, grown_value, leader_claim}
 use Rattle.pack_model.specs.operations.Committing.{page_of_byte, pages_added, pages_cut}
 use Rattle.pack_model.specs.reading.Files.{file_bytes, lives, place}
-use Rattle.pack_model.specs.reading.Model.{read_pack}
+use Rattle.pack_model.specs.reading.Model.{read_as}
 use Rattle.pack_model.specs.operations.PageWords.{put_value, stamped_value, titled_value}
 use Rattle.pack_model.specs.reading.Sights.{sights}
 use Rattle.pack_model.specs.states.Whole.{Whole}
@@ -23,7 +23,7 @@ pub record CanMake (p : Pack) (f : Fid) (name : List ℕ) (leader_at page_at : �
   pub no_descriptor : is_fid f disk_descriptor ≡ false
   pub full_name : is_full_name f ≡ true
   pub not_there : lives (sights p) f ≡ false
-  pub last : (read_pack p).last ≡ serial_of f
+  pub last : (read_as p).last ≡ serial_of f
   pub stored : is_stored_name name ≡ true
   pub leader_free : is_free_at p leader_at ≡ true
   pub page_free : is_free_at p page_at ≡ true

@@ -12,7 +12,7 @@ use Rattle.pack_model.specs.operations.Committing.{length_of, page_of_byte, unit
 use Rattle.pack_model.specs.reading.Files.{file_bytes, lives, place}
 use Rattle.pack_model.specs.reading.Leaders.{is_readable, leader_of, leader_words}
 use Rattle.pack_model.specs.sessions.Meanings.{Drops, Meets}
-use Rattle.pack_model.specs.reading.Model.{dir_items, read_pack}
+use Rattle.pack_model.specs.reading.Model.{dir_items, read_as}
 use Rattle.pack_model.specs.reading.Namings.{namings_in}
 use Rattle.pack_model.specs.operations.Operations.{Move, drop_writes, go_moves, go_writes, make_writes}
 use Rattle.pack_model.specs.operations.Operations.Move.{quiet}
@@ -38,7 +38,7 @@ first_bytes f = cond (is_directory f) (bytes_of (space_words 255)) []
 pub record MayMake (p : Pack) (f : Fid) (name : List ℕ) (moment : ℕ) (page leader : Claim) : Type 0 where
   pub no_descriptor : is_fid f disk_descriptor ≡ false
   pub not_there : lives (sights p) f ≡ false
-  pub last : (read_pack p).last ≡ serial_of f
+  pub last : (read_as p).last ≡ serial_of f
   pub page_free : is_free_at p page.at ≡ true
   pub leader_free : is_free_at p leader.at ≡ true
   pub two : leader.at ≢ page.at
@@ -57,19 +57,19 @@ MakeCarriesOut = (p : Pack) (f : Fid) (name : List ℕ) (moment : ℕ) (page lea
 pub record MayDrop (p : Pack) (f : Fid) (at : ℕ) (pages : List ℕ) : Type 0 where
   pub no_system : is_system f ≡ false
   pub sector : place (sights p) f 0 ≡ Some at
-  pub bare : namings_in f (dir_items (read_pack p) f) ≡ []
+  pub bare : namings_in f (dir_items (read_as p) f) ≡ []
   pub number : length pages ≡ page_of_byte (length (file_bytes (sights p) f))
   pub pages_are : Bear (sights p) f 1 pages
 
 -- the moves of a drop but for the last one
 abbrev pub first_moves : Pack → Fid → List Move
-first_moves p f = go_moves (drop_file f) (units (page_of_byte (length_of (read_pack p) f)))
+first_moves p f = go_moves (drop_file f) (units (page_of_byte (length_of (read_as p) f)))
 
 -- All record writes but the last: the file is gone, its entry's slot is left, and the pack is tidy but for this one.
 pub record GoesOut (p : Pack) (f : Fid) (events : List Event) : Type 0 where
   pub drops : Drops p f events (first_moves p f)
   pub cuts : CutsAreViewed p events (first_moves p f)
-  pub ends : read_pack (after p events) ≡ step (read_pack p) (drop_file f)
+  pub ends : read_as (after p events) ≡ step (read_as p) (drop_file f)
   pub descriptor : KeepsDescriptor p (after p events)
   pub fits : StillFits p (after p events)
 

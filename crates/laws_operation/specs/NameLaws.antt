@@ -12,7 +12,7 @@ use Rattle.pack_model.specs.operations.Commands.{Claim, Claimable, all_claimed}
 use Rattle.pack_model.specs.operations.Committing.{page_of_byte, page_of_word}
 use Rattle.pack_model.specs.operations.Entering.{EntryRoom, entry_value, values_first}
 use Rattle.pack_model.specs.reading.Files.{file_bytes, lives, place}
-use Rattle.pack_model.specs.reading.Model.{dir_items, read_pack}
+use Rattle.pack_model.specs.reading.Model.{dir_items, read_as}
 use Rattle.pack_model.specs.operations.Operations.{enter_writes, grow_writes}
 use Rattle.pack_model.specs.operations.PageWords.{freed_value, later, page_number}
 use Rattle.pack_model.specs.operations.Rooms.{find_room, run}
@@ -78,7 +78,7 @@ pub record MayEnterAt (p : Pack) (d : Fid) (name : List ℕ) (f : Fid) (a old b 
   pub living : lives (sights p) d ≡ true
   pub no_system : is_system f ≡ false
   pub entry_is : MayEnter p d f name
-  pub room : IsRoom (entry_length (length name)) (dir_items (read_pack p) d) a old b
+  pub room : IsRoom (entry_length (length name)) (dir_items (read_as p) d) a old b
   pub total : all_words old ≡ entry_length (length name) + left
   pub words_are : EntryWords f name left words
   pub sector : place (sights p) d (page_of_word (all_words a)) ≡ Some at

@@ -1,14 +1,14 @@
 -- What the record writes of a whole operation do to a whole and tidy pack.
 use Rattle.std.specs.Prelude.{◌≡◌, ◌↔◌, List, take, ℕ}
 use Rattle.alto_words.specs.Fid.{disk_descriptor}
-use Rattle.disk_records.specs.Packs.{Pack, after, cut}
+use Rattle.disk_records.specs.Packs.{Pack, after, crash}
 use Rattle.disk_records.specs.declared.records.Event.{Event}
 use Rattle.disk_records.specs.declared.shape.Shape.{Shape}
 use Rattle.pack_model.specs.operations.Committing.{moves_of}
 use Rattle.pack_model.specs.sessions.Descriptor.{DescriptorFits}
 use Rattle.pack_model.specs.reading.Files.{file_bytes, place}
 use Rattle.pack_model.specs.sessions.Meanings.{Meets, Sees, Views, viewing}
-use Rattle.pack_model.specs.reading.Model.{read_pack}
+use Rattle.pack_model.specs.reading.Model.{read_as}
 use Rattle.pack_model.specs.sessions.Moves.{steps}
 use Rattle.pack_model.specs.operations.Operations.{Move}
 use Rattle.pack_model.specs.reading.Sights.{sights}
@@ -27,25 +27,25 @@ abbrev pub StillFits : Pack → Pack → Type 0
 StillFits p q = (shape : Shape) (last mark : ℕ) (pages : List ℕ) → DescriptorFits p shape last mark pages → DescriptorFits q shape last mark pages
 
 -- ---- views
--- each cut is viewed as the model after as many moves as it has record writes: the old one before the committing record, and the
+-- each crash is viewed as the model after as many moves as it has record writes: the old one before the committing record, and the
 -- stepped one from it on
 abbrev pub CutsAreViewed : Pack → List Event → List Move → Type 0
-CutsAreViewed p events moves = (k : ℕ) → Views (steps viewing (read_pack p) (take k moves)) (cut p events k)
+CutsAreViewed p events moves = (k : ℕ) → Views (steps viewing (read_as p) (take k moves)) (crash p events k)
 
 -- ---- operations
--- These record writes, in order, are the operation: each makes its move and each cut is read as the model there, so one of them
+-- These record writes, in order, are the operation: each makes its move and each crash is read as the model there, so one of them
 -- commits it and the others are quiet; afterwards the pack is read as the stepped model, and is whole and tidy again.
 pub record CarriesOut (p : Pack) (events : List Event) (o : Operation) : Type 0 where
-  pub meets : Meets p events (moves_of (read_pack p) o)
-  pub cuts : CutsAreViewed p events (moves_of (read_pack p) o)
-  pub ends : read_pack (after p events) ≡ step (read_pack p) o
+  pub meets : Meets p events (moves_of (read_as p) o)
+  pub cuts : CutsAreViewed p events (moves_of (read_as p) o)
+  pub ends : read_as (after p events) ≡ step (read_as p) o
   pub descriptor : KeepsDescriptor p (after p events)
   pub fits : StillFits p (after p events)
 
 -- The same where a quiet record write changes what is read and not what is viewed.
 pub record IsSeenAs (p : Pack) (events : List Event) (o : Operation) : Type 0 where
-  pub sees : Sees p events (moves_of (read_pack p) o)
-  pub cuts : CutsAreViewed p events (moves_of (read_pack p) o)
-  pub ends : read_pack (after p events) ≡ step (read_pack p) o
+  pub sees : Sees p events (moves_of (read_as p) o)
+  pub cuts : CutsAreViewed p events (moves_of (read_as p) o)
+  pub ends : read_as (after p events) ≡ step (read_as p) o
   pub descriptor : KeepsDescriptor p (after p events)
   pub fits : StillFits p (after p events)

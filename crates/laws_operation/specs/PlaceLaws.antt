@@ -10,7 +10,7 @@ use Rattle.disk_records.specs.declared.records.Page.{Page}
 use Rattle.pack_model.specs.operations.Commands.{values_writes}
 use Rattle.pack_model.specs.sessions.Descriptor.{serial_writes}
 use Rattle.pack_model.specs.reading.Files.{lives, place}
-use Rattle.pack_model.specs.reading.Model.{read_pack}
+use Rattle.pack_model.specs.reading.Model.{read_as}
 use Rattle.pack_model.specs.reading.Sights.{sights}
 use Rattle.pack_model.specs.states.Whole.{Whole}
 
@@ -25,7 +25,7 @@ UncarriedPageHasNoPlace = (p : Pack) (page : Page) → ((at : ℕ) → at < page
 
 -- of the files but DiskDescriptor the model has exactly those that live
 abbrev pub ModelHasTheLiving : Type 0
-ModelHasTheLiving = (p : Pack) (f : Fid) → is_fid f disk_descriptor ≡ false → is_some (get (read_pack p).files f) ≡ lives (sights p) f
+ModelHasTheLiving = (p : Pack) (f : Fid) → is_fid f disk_descriptor ≡ false → is_some (get (read_as p).files f) ≡ lives (sights p) f
 
 -- ---- on a whole pack
 -- on a whole pack whichever sector carries a page is its place
@@ -34,7 +34,7 @@ CarriedInPlace = (p : Pack) (page : Page) (at : ℕ) → Whole p → carried p a
 
 -- on a whole pack no file with a serial above the last one given out lives
 abbrev pub NoneAboveTheLastSerial : Type 0
-NoneAboveTheLastSerial = (p : Pack) (f : Fid) → Whole p → (read_pack p).last < serial_of f → lives (sights p) f ≡ false
+NoneAboveTheLastSerial = (p : Pack) (f : Fid) → Whole p → (read_as p).last < serial_of f → lives (sights p) f ≡ false
 
 -- ---- behind values
 -- The same files live, and each page has the same place.
@@ -52,4 +52,4 @@ SerialKeepsPlaces = (p : Pack) (at last : ℕ) (value : List ℕ) → SamePlaces
 
 -- behind a new serial above the last one given out no file with it lives, on a whole pack
 abbrev pub NewSerialNamesNoLivingFile : Type 0
-NewSerialNamesNoLivingFile = (p : Pack) (f : Fid) (at : ℕ) (value : List ℕ) → Whole p → (read_pack p).last < serial_of f → lives (sights (after p (serial_writes at (serial_of f) value))) f ≡ false
+NewSerialNamesNoLivingFile = (p : Pack) (f : Fid) (at : ℕ) (value : List ℕ) → Whole p → (read_as p).last < serial_of f → lives (sights (after p (serial_writes at (serial_of f) value))) f ≡ false

@@ -9,7 +9,7 @@ use Rattle.pack_model.specs.reading.Leaders.{Leader}
 use Rattle.pack_model.specs.states.Sentences.{HasLastPage, HasReadableName, IsWholeBySentences}
 use Rattle.pack_model.specs.reading.Sights.{Sight, sights}
 use Rattle.pack_model.specs.reading.Sights.Sight.{free, hidden, holds, leads, stray}
-use Rattle.pack_model.specs.states.Whole.{Carries, FileWhole, Headless, IsLaid, Leads, PageAt, Whole, absent, present}
+use Rattle.pack_model.specs.states.Whole.{HasPages, FileWhole, Headless, IsLaid, Leads, PageAt, Whole, absent, present}
 use Rattle.pack_laws.proofs.Joining.{Reaches, is_full, length-joined}
 use Rattle.pack_laws.proofs.Keys.{is_fid-itself}
 use Rattle.pack_laws.proofs.Placing.{carries-holds, leader_of_place, page_of_place, place_of_leader, short_pages, shows_carried, shows_led}
@@ -18,7 +18,7 @@ use Rattle.laws_record.proofs.Ends.{EndsFit, counts_is}
 use Rattle.laws_record.proofs.inside.Seats.{laid_full, laid_last, laid_some, seat, seat_number, seat_shows}
 
 -- ---- a file that lies as a whole one
-module _ (p : Pack) (f : Fid) (at : ℕ) (l : Leader) (pages : List PageAt) (h : Leads (sights p) f at true l) (c : Carries (sights p) f pages 0 []) (laid : IsLaid pages) (few : length pages ≤ most_pages) where
+module _ (p : Pack) (f : Fid) (at : ℕ) (l : Leader) (pages : List PageAt) (h : Leads (sights p) f at true l) (c : HasPages (sights p) f pages 0 []) (laid : IsLaid pages) (few : length pages ≤ most_pages) where
   abbrev ss : List Sight
   ss = sights p
 

@@ -11,7 +11,7 @@ use Rattle.pack_model.specs.reading.Files.{carries_page, place}
 use Rattle.pack_model.specs.states.InUse.{is_place}
 use Rattle.pack_model.specs.reading.Sights.{Sight, sights}
 use Rattle.pack_model.specs.reading.Sights.Sight.{hidden, holds}
-use Rattle.pack_model.specs.states.Whole.{Carries, FileWhole, IsSeat, PageAt, Whole, absent, present}
+use Rattle.pack_model.specs.states.Whole.{HasPages, FileWhole, IsSeat, PageAt, Whole, absent, present}
 use Rattle.pack_laws.proofs.Carrying.{sight_carries}
 use Rattle.pack_laws.proofs.Guarding.{carried_parts, usable_within, value_page}
 use Rattle.pack_laws.proofs.Placing.{place_from, shows_carried, shows_led}
@@ -31,7 +31,7 @@ carries_within (s ∷ ss) f n (suc i) e = let l = carries_within ss f n i e in o
 
 module _ (ss : List Sight) (f : Fid) where
   -- a page is among those that carry the file
-  pub seat_in : (pages : List PageAt) → Carries ss f pages 0 [] → (n i : ℕ) (b : List ℕ) → get_or ss i hidden ≡ holds f n b → IsSeat 0 pages n i
+  pub seat_in : (pages : List PageAt) → HasPages ss f pages 0 [] → (n i : ℕ) (b : List ℕ) → get_or ss i hidden ≡ holds f n b → IsSeat 0 pages n i
   seat_in pages c n i b e = elim (c.only i n b e) [ inl s ↦ s | inr s ↦ absurd s ]
 
   -- one sector carries a page of a whole file

@@ -1,7 +1,7 @@
 -- Runs of record writes, one after another.
 use Rattle.std.proofs.Common.{◌++◌, ◌∙◌, ◌∷◌, List, [], ap, arith, subst, suc, sym, zero, ℕ}
 use Rattle.disk_records.proofs.Growing.{after-append}
-use Rattle.disk_records.specs.Packs.{Pack, after, cut}
+use Rattle.disk_records.specs.Packs.{Pack, after, crash}
 use Rattle.disk_records.specs.declared.records.Event.{Event}
 use Rattle.pack_model.specs.sessions.Moves.{Meaning, Obeys, steps}
 use Rattle.pack_model.specs.scavenger.Scavenging.{Keeps, Mends, Throughout}
@@ -24,15 +24,15 @@ module _ {M O : Type 0} (means : Meaning M O) where
     broken = λ p a b ops more f o. obeys_then means f.each (from_there f o);
   }
 
--- ---- properties of each cut
+-- ---- properties of each crash
 module _ (P : Pack → Type 0) where
   -- one after another
   run_on : (p : Pack) (a b : List Event) → Throughout P p a → Throughout P (after p a) b → Throughout P p (a ++ b)
   run_on p [] b r s = s
   run_on p (e ∷ a) b r s = (r.0, run_on (after p (e ∷ [])) a b r.1 s)
 
-  -- each cut
-  pub at_cut : (p : Pack) (events : List Event) → Throughout P p events → (k : ℕ) → P (cut p events k)
+  -- each crash
+  pub at_cut : (p : Pack) (events : List Event) → Throughout P p events → (k : ℕ) → P (crash p events k)
   at_cut p [] r zero = r
   at_cut p [] r (suc k) = r
   at_cut p (e ∷ events) r zero = r.0

@@ -11,7 +11,7 @@ use Rattle.pack_model.specs.reading.Bytes.{put_at}
 use Rattle.pack_model.specs.reading.Files.{leader, lives}
 use Rattle.pack_model.specs.reading.Leaders.{Leader}
 use Rattle.pack_model.specs.hints.Links.{dir_words}
-use Rattle.pack_model.specs.reading.Model.{dir_items, read_pack, read_sights}
+use Rattle.pack_model.specs.reading.Model.{dir_items, read_as, read_sights}
 use Rattle.pack_model.specs.reading.Namings.{Naming, is_kept, item_kept, items_kept, kept_after, kept_by, namings_in, tidied}
 use Rattle.pack_model.specs.reading.Sights.{sights}
 use Rattle.pack_model.specs.reading.Slots.{Item, all_words, item_words, slots}
@@ -120,7 +120,7 @@ free_slots_made_one p d at a old b h bare =
 
 -- ---- a slot that isn't kept is made free
 -- the slots of a directory in the model
-model_items : (p : Pack) (d : Fid) (l : Leader) (is : List Item) (here : get (described (sights p)) d ≡ Some (directory l is)) → dir_items (read_pack p) d ≡ items_kept (is_kept (lives (sights p))) d (kept_before (lives (sights p)) (described (sights p)) d l is here) is
+model_items : (p : Pack) (d : Fid) (l : Leader) (is : List Item) (here : get (described (sights p)) d ≡ Some (directory l is)) → dir_items (read_as p) d ≡ items_kept (is_kept (lives (sights p))) d (kept_before (lives (sights p)) (described (sights p)) d l is here) is
 unfolding read_sights
 model_items p d l is here = ap items_in (tidied_items (lives (sights p)) (described (sights p)) d l is here)
 
@@ -141,7 +141,7 @@ slot_that_is_not_kept p d at a b f name h unkept =
     let e = not_kept (is_kept v) d before a b f name
     (ap (λ is. get_or (items_kept (is_kept v) d before is) (length a) (entry f name)) (sym h.slots_are) ∙ ap (λ is. get_or is (length a) (entry f name)) (sym (model_items p d l.0 (slots (dir_words p d)) was)) ∙ unkept) in
     let s = unkept_items (is_kept v) d before a b f name e in
-    dir_reads p (freed p at a old) d words c h.write.directory l.0 l.1 (read_pack p).files
+    dir_reads p (freed p at a old) d words c h.write.directory l.0 l.1 (read_as p).files
     (scan_tidied v (described (sights p)) d l.0 (slots (dir_words p d)) (slots words) was (
       ap (items_kept (is_kept v) d before) now ∙ sym s.0 ∙ ap (items_kept (is_kept v) d before) (sym h.slots_are),
       ap (kept_after (is_kept v) d before) now ∙ sym s.1 ∙ ap (kept_after (is_kept v) d before) (sym h.slots_are),

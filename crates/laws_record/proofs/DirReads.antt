@@ -11,7 +11,7 @@ use Rattle.pack_model.specs.reading.Bytes.{words_of}
 use Rattle.pack_model.specs.reading.Files.{file_bytes, leader, lives}
 use Rattle.pack_model.specs.reading.Leaders.{Leader}
 use Rattle.pack_model.specs.hints.Links.{dir_words}
-use Rattle.pack_model.specs.reading.Model.{last_serial, read_pack, read_sights}
+use Rattle.pack_model.specs.reading.Model.{last_serial, read_as, read_sights}
 use Rattle.pack_model.specs.reading.Namings.{tidied}
 use Rattle.pack_model.specs.reading.Sights.{Sight, sights}
 use Rattle.pack_model.specs.reading.Slots.{slots}
@@ -72,7 +72,7 @@ module _ (p q : Pack) (d : Fid) (words : List ℕ) (c : DirChange p q d words) (
       ∙ kept_insert (found (sights p)) is_described d (directory l (slots words)) (ap not (not_descriptor d dir))
 
   -- so the model is that of these files
-  pub dir_reads : (files : Files) → tidied (lives (sights p)) (insert (described (sights p)) d (directory l (slots words))) ≡ files → read_pack q ≡ record (read_pack p) { files = files }
+  pub dir_reads : (files : Files) → tidied (lives (sights p)) (insert (described (sights p)) d (directory l (slots words))) ≡ files → read_as q ≡ record (read_as p) { files = files }
   unfolding read_sights
   dir_reads files e =
       ap (λ shape. read_sights shape (sights q)) c.shape
@@ -80,7 +80,7 @@ module _ (p q : Pack) (d : Fid) (words : List ℕ) (c : DirChange p q d words) (
       (ap (λ v. tidied v (described (sights q))) dir_lives ∙ ap (tidied (lives (sights p))) dir_files ∙ e)
 
   -- with the same slots it is the same
-  dir_read : slots words ≡ slots (dir_words p d) → read_pack q ≡ read_pack p
+  dir_read : slots words ≡ slots (dir_words p d) → read_as q ≡ read_as p
   unfolding read_sights
   dir_read e =
       ap (λ shape. read_sights shape (sights q)) c.shape

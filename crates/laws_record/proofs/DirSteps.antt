@@ -13,7 +13,7 @@ use Rattle.pack_model.specs.reading.Bytes.{bytes_of, put_at}
 use Rattle.pack_model.specs.reading.Files.{file_bytes, leader, lives, place}
 use Rattle.pack_model.specs.reading.Leaders.{Leader}
 use Rattle.pack_model.specs.hints.Links.{dir_words}
-use Rattle.pack_model.specs.reading.Model.{read_pack, read_sights}
+use Rattle.pack_model.specs.reading.Model.{read_as, read_sights}
 use Rattle.pack_model.specs.reading.Namings.{AllKept, IsTidy, Naming, clashes, files_kept, is_kept, items_kept, kept_after, may_stand, namings, namings_in, tidied}
 use Rattle.pack_model.specs.reading.Sights.{sights}
 use Rattle.pack_model.specs.reading.Slots.{Item, SlotsReachEnd, all_words, item_words, slots}
@@ -74,14 +74,14 @@ scan_more v files d l is js here bare =
     bare_same ok d before (entry f name ∷ js) e = absurd (let clash : record { dir = d; name = name; fid = f } ∷ namings_in d js ≡ [] = e in cc)
 
 -- a directory with a free slot behind its others
-widened : (p q : Pack) (d : Fid) (words : List ℕ) → DirChange p q d words → is_directory d ≡ true → (l : Leader) → leader (sights p) d ≡ Some l → slots words ≡ slots (dir_words p d) ++ space 256 ∷ [] → read_pack q ≡ step (read_pack p) (widen d)
+widened : (p q : Pack) (d : Fid) (words : List ℕ) → DirChange p q d words → is_directory d ≡ true → (l : Leader) → leader (sights p) d ≡ Some l → slots words ≡ slots (dir_words p d) ++ space 256 ∷ [] → read_as q ≡ step (read_as p) (widen d)
 unfolding read_sights
 widened p q d words c dir l lead all =
     let v : Fid → Bool = lives (sights p) in
     let here = dir_was p q d words c dir l lead in
     dir_reads p q d words c dir l lead (insert (tidied v (described (sights p))) d (directory l (items_kept (is_kept v) d (kept_before v (described (sights p)) d l (slots (dir_words p d)) here) (slots (dir_words p d)) ++ space 256 ∷ [])))
     (ap (λ js. tidied v (insert (described (sights p)) d (directory l js))) all ∙ scan_more v (described (sights p)) d l (slots (dir_words p d)) (space 256 ∷ []) here refl)
-    ∙ on_slots (read_pack p) d l _ _ (λ js. js ++ space 256 ∷ []) (tidied_items v (described (sights p)) d l (slots (dir_words p d)) here) refl
+    ∙ on_slots (read_as p) d l _ _ (λ js. js ++ space 256 ∷ []) (tidied_items v (described (sights p)) d l (slots (dir_words p d)) here) refl
 
 -- the label of the last page, behind which a free slot comes: the words of the directory
 pub widen_change : (p : Pack) (at : ℕ) (d : Fid) (label fresh : List ℕ) → let b : ℕ = length (file_bytes (sights p) d) in let q : Pack = with_label p at label in
@@ -156,4 +156,4 @@ leave_is_the_step p d at a b f name tidy h =
     leave_tidy v files d l.0 (a ++ entry f name ∷ b) a b here f name (item_words (entry f name)) (subst (IsTidy v) (sym (insert_same files d (directory l.0 (a ++ entry f name ∷ b)) here)) tidy) in
     dir_reads p (freed p at a old) d words c h.write.directory l.0 l.1 (insert (tidied v files) d (directory l.0 js))
     (ap (λ is. tidied v (insert files d (directory l.0 is))) now ∙ tidy_same v (insert files d (directory l.0 js)) still ∙ ap (λ m. insert m d (directory l.0 js)) (sym same))
-    ∙ on_slots (read_pack p) d l.0 (a ++ entry f name ∷ b) js (items_left name) (ap (λ m. get m d) same ∙ here) (left_first d f name a b (apart_before v files d l.0 a b f name tidy here))
+    ∙ on_slots (read_as p) d l.0 (a ++ entry f name ∷ b) js (items_left name) (ap (λ m. get m d) same ∙ here) (left_first d f name a b (apart_before v files d l.0 a b f name tidy here))

@@ -11,7 +11,7 @@ use Rattle.pack_model.specs.reading.Files.{leader, lives}
 use Rattle.pack_model.specs.reading.Leaders.{Leader}
 use Rattle.pack_model.specs.hints.Links.{dir_words}
 use Rattle.pack_model.specs.sessions.Maps.{update_found}
-use Rattle.pack_model.specs.reading.Model.{Model, read_pack, read_sights}
+use Rattle.pack_model.specs.reading.Model.{Model, read_as, read_sights}
 use Rattle.pack_model.specs.reading.Namings.{clashes, files_kept, is_kept, may_stand, namings, tidied}
 use Rattle.pack_model.specs.operations.Rooms.{find_room, items_entered, left_over, placed}
 use Rattle.pack_model.specs.reading.Sights.{sights}
@@ -80,7 +80,7 @@ module _ (p : Pack) (d : Fid) (at : ℕ) (new : List ℕ) (a b : List Item) (f :
   back_slots = back_items v files d dir_leader a b total f name left here stands apart
 
   -- the directory in the model
-  pub model_dir : get (read_pack p).files d ≡ Some (directory dir_leader (front_slots ++ space total ∷ back_slots))
+  pub model_dir : get (read_as p).files d ≡ Some (directory dir_leader (front_slots ++ space total ∷ back_slots))
   unfolding read_sights
   model_dir = tidied_items v files d dir_leader (a ++ space total ∷ b) here ∙ ap (λ is. Some (directory dir_leader is)) (kept_was v files d dir_leader a b total f name left here stands apart)
 
@@ -89,7 +89,7 @@ module _ (p : Pack) (d : Fid) (at : ℕ) (new : List ℕ) (a b : List Item) (f :
   front_length = length-items_kept (is_kept v) d (kept_before v files d dir_leader (a ++ space total ∷ b) here) a
 
   -- the model then
-  pub enter_reads : read_pack (entered p at a new) ≡ record (read_pack p) { files = insert (read_pack p).files d (directory dir_leader (front_slots ++ entry f name ∷ left_over left back_slots)) }
+  pub enter_reads : read_as (entered p at a new) ≡ record (read_as p) { files = insert (read_as p).files d (directory dir_leader (front_slots ++ entry f name ∷ left_over left back_slots)) }
   unfolding read_sights
   enter_reads = dir_reads p (entered p at a new) d words change h.write.directory dir_leader lead (insert (tidied v files) d (directory dir_leader (front_slots ++ entry f name ∷ left_over left back_slots)))
       (ap (λ is. tidied v (insert files d (directory dir_leader is))) (slots_entered p d at new a b f name left h) ∙ enter_scan v files d dir_leader a b total f name left here stands apart)
@@ -112,5 +112,5 @@ entry_is_the_step p d at new a b f name left h may room =
     placed_there (entry f name) 0 0 k q (n + left) (record { first = length a; place = all_words a; total = n + left }) found (let z = front_length p d at new a b f name left h may in omega arith) refl in
     let z : n + left - n ≡ left = omega arith in
     enter_reads p d at new a b f name left h may
-    ∙ on_slots (read_pack p) d lead is (k ++ entry f name ∷ left_over left q) (items_entered (entry f name)) dir
+    ∙ on_slots (read_as p) d lead is (k ++ entry f name ∷ left_over left q) (items_entered (entry f name)) dir
     (ap (λ r. unwrap_or r is) there ∙ ap (λ m. k ++ entry f name ∷ left_over m q) z)

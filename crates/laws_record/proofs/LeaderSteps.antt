@@ -13,7 +13,7 @@ use Rattle.pack_model.specs.reading.Bytes.{words_of}
 use Rattle.pack_model.specs.reading.Files.{file_bytes, leader, leader_at, lives, page_at, place}
 use Rattle.pack_model.specs.reading.Leaders.{Leader, is_readable, leader_of, leader_words}
 use Rattle.pack_model.specs.sessions.Maps.{update_found}
-use Rattle.pack_model.specs.reading.Model.{good_one, last_serial, read_pack, read_sights}
+use Rattle.pack_model.specs.reading.Model.{good_one, last_serial, read_as, read_sights}
 use Rattle.pack_model.specs.reading.Namings.{Naming, body_kept, files_kept, is_kept, kept_after_body, tidied}
 use Rattle.pack_model.specs.reading.Sights.{Sight, page_sight, sights}
 use Rattle.pack_model.specs.reading.Sights.Sight.{hidden, leads}
@@ -160,7 +160,7 @@ module _ (p : Pack) (at : ℕ) (f : Fid) (value : List ℕ) (bears : place (sigh
       ∙ kept_insert (found ss) is_described f (read_file f (file_bytes ss f) new) (ap not other)
 
   -- the model, where the leader is changed so
-  pub leader_changes : (g : Leader → Leader) → g old ≡ new → read_pack (with_value p at value) ≡ update_file (read_pack p) f (on_leader g)
+  pub leader_changes : (g : Leader → Leader) → g old ≡ new → read_as (with_value p at value) ≡ update_file (read_as p) f (on_leader g)
   unfolding read_sights
   leader_changes g e =
       ap (read_sights p.shape) shown

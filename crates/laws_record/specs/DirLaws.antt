@@ -11,7 +11,7 @@ use Rattle.pack_model.specs.reading.Files.{lives, place}
 use Rattle.pack_model.specs.hints.HintWords.{IsAddressWord}
 use Rattle.pack_model.specs.states.InUse.{in_use}
 use Rattle.pack_model.specs.hints.Links.{dir_slots, dir_words}
-use Rattle.pack_model.specs.reading.Model.{dir_items, read_pack}
+use Rattle.pack_model.specs.reading.Model.{dir_items, read_as}
 use Rattle.pack_model.specs.reading.Namings.{namings_in}
 use Rattle.pack_model.specs.operations.PageWords.{in_page}
 use Rattle.pack_model.specs.operations.Rooms.{most_free}
@@ -64,7 +64,7 @@ FreeSlotsMadeOne = (p : Pack) (d : Fid) (at : ℕ) (a old b : List Item) → Fre
 
 -- an entry that isn't kept: in the model its slot is a free one
 abbrev pub IsUnkept : Pack → Fid → ℕ → Item → Type 0
-IsUnkept p d k i = get_or (dir_items (read_pack p) d) k i ≡ space (item_words i)
+IsUnkept p d k i = get_or (dir_items (read_as p) d) k i ≡ space (item_words i)
 
 -- its slot is made free
 abbrev pub SlotThatIsNotKept : Type 0

@@ -6,7 +6,7 @@ use Rattle.alto_words.specs.Fid.{fid_cmp, is_system, sys_dir}
 use Rattle.alto_words.specs.declared.fid.Fid.{Fid}
 use Rattle.disk_records.specs.Packs.{Pack}
 use Rattle.pack_model.specs.reading.Files.{lives}
-use Rattle.pack_model.specs.reading.Model.{dir_items, read_pack}
+use Rattle.pack_model.specs.reading.Model.{dir_items, read_as}
 use Rattle.pack_model.specs.reading.Namings.{clashes, fits, namings}
 use Rattle.pack_model.specs.operations.Rooms.{find_room}
 use Rattle.pack_model.specs.showing.Settling.{chosen}
@@ -23,15 +23,15 @@ use Rattle.laws_record.specs.DirLaws.{Enters, entered}
 pub record MayEnter (p : Pack) (d f : Fid) (name : List ℕ) : Type 0 where
   pub lives : lives (sights p) f ≡ true
   pub fits : fits (record { dir = d; name = name; fid = f }) ≡ true
-  pub apart : list_any (clashes (record { dir = d; name = name; fid = f })) (namings (entries (read_pack p).files)) ≡ false
+  pub apart : list_any (clashes (record { dir = d; name = name; fid = f })) (namings (entries (read_as p).files)) ≡ false
 
 -- Its room in the model is the free slot where it is written.
 abbrev pub IsItsRoom : Pack → Fid → List Item → List ℕ → ℕ → Type 0
-IsItsRoom p d a name left = find_room (entry_length (length name)) (dir_items (read_pack p) d) ≡ Some (record { first = length a; place = all_words a; total = entry_length (length name) + left })
+IsItsRoom p d a name left = find_room (entry_length (length name)) (dir_items (read_as p) d) ≡ Some (record { first = length a; place = all_words a; total = entry_length (length name) + left })
 
 -- the record write of its first words is the operation
 abbrev pub EntryIsTheStep : Type 0
-EntryIsTheStep = (p : Pack) (d : Fid) (at : ℕ) (new : List ℕ) (a b : List Item) (f : Fid) (name : List ℕ) (left : ℕ) → Enters p d at new a b f name left → MayEnter p d f name → IsItsRoom p d a name left → read_pack (entered p at a new) ≡ step (read_pack p) (enter d name f)
+EntryIsTheStep = (p : Pack) (d : Fid) (at : ℕ) (new : List ℕ) (a b : List Item) (f : Fid) (name : List ℕ) (left : ℕ) → Enters p d at new a b f name left → MayEnter p d f name → IsItsRoom p d a name left → read_as (entered p at a new) ≡ step (read_as p) (enter d name f)
 
 -- ---- the next name that settling adds
 -- all of these have names
@@ -49,5 +49,5 @@ pub record IsNext (v : View) (f : Fid) (x : Seen) : Type 0 where
 
 -- the entry that gives it this name in SysDir, wherever its room is
 abbrev pub NextNameThatSettlingGives : Type 0
-NextNameThatSettlingGives = (p : Pack) (at : ℕ) (new : List ℕ) (a b : List Item) (f : Fid) (x : Seen) (left : ℕ) → let name : List ℕ = chosen (view (read_pack p)).names x.leader.name in
-    IsNext (view (read_pack p)) f x → is_system f ≡ false → Enters p sys_dir at new a b f name left → MayEnter p sys_dir f name → ShowsSame p (entered p at a new)
+NextNameThatSettlingGives = (p : Pack) (at : ℕ) (new : List ℕ) (a b : List Item) (f : Fid) (x : Seen) (left : ℕ) → let name : List ℕ = chosen (view (read_as p)).names x.leader.name in
+    IsNext (view (read_as p)) f x → is_system f ≡ false → Enters p sys_dir at new a b f name left → MayEnter p sys_dir f name → ShowsSame p (entered p at a new)

@@ -3,13 +3,13 @@ use Rattle.std.specs.Prelude.{List, get_or, length, ℕ, ◌↔◌, ◌≡◌, �
 use Rattle.disk_records.specs.Packs.{Pack, sector_at}
 use Rattle.pack_model.specs.reading.Bytes.{bytes_of}
 use Rattle.pack_model.specs.hints.HintWords.{IsHintByte, SameButHints, byte_at}
-use Rattle.pack_model.specs.reading.Model.{read_pack}
+use Rattle.pack_model.specs.reading.Model.{read_as}
 use Rattle.pack_model.specs.states.Sound.{Clean, Sound}
 use Rattle.laws_record.specs.QuietLaws.{with_value}
 
 -- They are read the same, and one is sound or clean exactly where the other is.
 pub record MeansSame (p q : Pack) : Type 0 where
-  pub read : read_pack q ≡ read_pack p
+  pub read : read_as q ≡ read_as p
   pub sound : Sound p ↔ Sound q
   pub clean : Clean p ↔ Clean q
 

@@ -9,7 +9,7 @@ use Rattle.disk_records.specs.declared.records.Page.{Page}
 use Rattle.pack_model.specs.reading.Bytes.{bytes_of}
 use Rattle.pack_model.specs.reading.Files.{file_bytes, leader, place}
 use Rattle.pack_model.specs.reading.Leaders.{leader_of, leader_words}
-use Rattle.pack_model.specs.reading.Model.{read_pack}
+use Rattle.pack_model.specs.reading.Model.{read_as}
 use Rattle.pack_model.specs.reading.Sights.{Sight, sights}
 
 -- ---- one record write
@@ -26,7 +26,7 @@ Relation = Pack → Pack → Type 0
 
 -- the second pack is read as the first
 abbrev pub ReadsSame : Relation
-ReadsSame p q = read_pack q ≡ read_pack p
+ReadsSame p q = read_as q ≡ read_as p
 
 -- ---- what isn't read
 -- any value of a free sector

@@ -7,7 +7,7 @@ use Rattle.disk_records.specs.Packs.{Pack, after, carried, is_free_at}
 use Rattle.disk_records.specs.declared.records.Event.TheVariants.{Wrote}
 use Rattle.pack_model.specs.reading.Files.{leader}
 use Rattle.pack_model.specs.hints.Links.{dir_words}
-use Rattle.pack_model.specs.reading.Model.{read_pack}
+use Rattle.pack_model.specs.reading.Model.{read_as}
 use Rattle.pack_model.specs.reading.Namings.{namings_in}
 use Rattle.pack_model.specs.reading.Sights.{sights}
 use Rattle.pack_model.specs.reading.Slots.{slots}
@@ -16,7 +16,7 @@ use Rattle.laws_record.specs.QuietLaws.{Relation, with_label, with_value}
 
 -- the second pack is viewed as the first
 abbrev pub ViewsSame : Relation
-ViewsSame p q = view (read_pack q) ≡ view (read_pack p)
+ViewsSame p q = view (read_as q) ≡ view (read_as p)
 
 -- ---- DiskDescriptor
 -- The sector is free, or it carries a data page of DiskDescriptor.

@@ -5,9 +5,9 @@ use Rattle.alto_words.specs.Fid.{disk_descriptor, sys_dir}
 use Rattle.disk_records.specs.Packs.{Pack}
 use Rattle.disk_records.specs.declared.shape.Shape.{Shape}
 use Rattle.pack_model.specs.reading.Files.{lives, numbered}
-use Rattle.pack_model.specs.states.InUse.{free_sectors, how_many, in_use}
+use Rattle.pack_model.specs.states.InUse.{free_sector_count, how_many, in_use}
 use Rattle.pack_model.specs.scavenger.Mended.{needs}
-use Rattle.pack_model.specs.reading.Model.{descriptor_pages, files_pages, good_sectors, read_pack, read_sights}
+use Rattle.pack_model.specs.reading.Model.{descriptor_pages, files_pages, good_sectors, read_as, read_sights}
 use Rattle.pack_model.specs.scavenger.Needed.{needed}
 use Rattle.pack_model.specs.reading.Sights.{Sight, sights}
 use Rattle.pack_model.specs.states.Whole.{Whole, WholeSights}
@@ -22,7 +22,7 @@ pub root_lives : (shape : Shape) (ss : List Sight) → WholeSights shape ss → 
 root_lives shape ss w = leader_shown ss sys_dir 1 true w.root.0 w.root.1
 
 -- the pages of all files, and the free sectors, are the good ones
-pub pages_and_free : (p : Pack) → Whole p → files_pages (entries (read_pack p).files) + descriptor_pages p.shape + free_sectors (sights p) ≡ good_sectors (sights p)
+pub pages_and_free : (p : Pack) → Whole p → files_pages (entries (read_as p).files) + descriptor_pages p.shape + free_sector_count (sights p) ≡ good_sectors (sights p)
 unfolding needs needed
 pages_and_free p w =
     let ss : List Sight = sights p in
@@ -36,7 +36,7 @@ pages_and_free p w =
     omega arith
 
 -- those in use are these pages
-pub in_use_pages : (p : Pack) → Whole p → how_many (in_use p.shape (sights p)) (numbered 0 (sights p)) ≡ files_pages (entries (read_pack p).files) + descriptor_pages p.shape
+pub in_use_pages : (p : Pack) → Whole p → how_many (in_use p.shape (sights p)) (numbered 0 (sights p)) ≡ files_pages (entries (read_as p).files) + descriptor_pages p.shape
 in_use_pages p w =
     let count = counting_theorem p in
     let used = count.in_use in

@@ -12,7 +12,7 @@ use Rattle.pack_model.specs.reading.Files.{file_bytes, leader, lives}
 use Rattle.pack_model.specs.reading.Leaders.{Leader}
 use Rattle.pack_model.specs.sessions.Maps.{map_values}
 use Rattle.pack_model.specs.scavenger.Mended.{lacking, mended, widens}
-use Rattle.pack_model.specs.reading.Model.{IsNamed, Model, descriptor_pages, read_pack, read_sights, root_items}
+use Rattle.pack_model.specs.reading.Model.{IsNamed, Model, descriptor_pages, read_as, read_sights, root_items}
 use Rattle.pack_model.specs.reading.Namings.{Naming, descriptor_name, namings, sys_dir_name}
 use Rattle.pack_model.specs.scavenger.Needed.{needed}
 use Rattle.pack_model.specs.scavenger.Scavenging.{root_stands}
@@ -103,7 +103,7 @@ unfolding widens
 no_widening is = refl
 
 -- ---- the law
-pub needs_nothing : (p : Pack) → Whole p → ((f : Fid) → lives (sights p) f ≡ true → IsNamed (read_pack p) f) → needed p.shape (sights p) ≡ 0
+pub needs_nothing : (p : Pack) → Whole p → ((f : Fid) → lives (sights p) f ≡ true → IsNamed (read_as p) f) → needed p.shape (sights p) ≡ 0
 unfolding needed
 needs_nothing p w named =
     let shape : Shape = p.shape in

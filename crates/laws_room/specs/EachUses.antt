@@ -7,7 +7,7 @@ use Rattle.disk_records.specs.declared.records.Event.{Event}
 use Rattle.pack_model.specs.operations.Commands.{Claim}
 use Rattle.pack_model.specs.operations.Committing.{pages_for_operation}
 use Rattle.pack_model.specs.operations.Entering.{entry_value, values_first}
-use Rattle.pack_model.specs.reading.Model.{read_pack}
+use Rattle.pack_model.specs.reading.Model.{read_as}
 use Rattle.pack_model.specs.operations.Operations.{cut_writes, drop_writes, enter_writes, go_writes, grow_writes, make_writes}
 use Rattle.pack_model.specs.operations.PageWords.{freed_value}
 use Rattle.pack_model.specs.reading.Slots.{Item, all_words, item_words}
@@ -25,8 +25,8 @@ use Rattle.laws_room.specs.UseLaws.{MayBeDone, pages_freed, sectors_in_use}
 -- It may be done on what p is read as, and behind these record writes the sectors in use are more by the pages that it adds and fewer
 -- by those that it frees.
 pub record TakesIntoUse (p : Pack) (events : List Event) (o : Operation) : Type 0 where
-  pub may : MayBeDone (read_pack p) o
-  pub in_use : sectors_in_use (after p events) + pages_freed (read_pack p) o ≡ sectors_in_use p + pages_for_operation (read_pack p) o
+  pub may : MayBeDone (read_as p) o
+  pub in_use : sectors_in_use (after p events) + pages_freed (read_as p) o ≡ sectors_in_use p + pages_for_operation (read_as p) o
 
 -- The bytes of a file, its leader, a file that comes or goes, the entries of a directory, and a wider one. A file has gone before the
 -- slot of its entry is a free one.

@@ -4,11 +4,11 @@ use Rattle.std.specs.Prelude.{Bool, List, get_or, length, not, true, ℕ, ◌&&�
 use Rattle.alto_words.specs.Fid.{disk_descriptor, sys_dir}
 use Rattle.disk_records.specs.Packs.{Pack}
 use Rattle.pack_model.specs.reading.Files.{lives, numbered}
-use Rattle.page_alloc.specs.Free.{free_sectors as sectors_found}
-use Rattle.pack_model.specs.states.InUse.{available, free_sectors, how_many, in_use, is_available, is_free_sight, is_good}
+use Rattle.page_alloc.specs.Free.{free_addresses as sectors_found}
+use Rattle.pack_model.specs.states.InUse.{available, free_sector_count, how_many, in_use, is_available, is_free_sight, is_good}
 use Rattle.pack_model.specs.reading.Leaders.{Leader}
 use Rattle.pack_model.specs.scavenger.Mended.{HasRoom}
-use Rattle.pack_model.specs.reading.Model.{descriptor_pages, files_pages, read_pack, room}
+use Rattle.pack_model.specs.reading.Model.{descriptor_pages, files_pages, read_as, room}
 use Rattle.pack_model.specs.scavenger.Needed.{needed}
 use Rattle.pack_model.specs.scavenger.Scavenging.{Scavengeable}
 use Rattle.pack_model.specs.reading.Sights.{Sight, sights}
@@ -23,15 +23,15 @@ pub record SystemStands (ss : List Sight) : Type 0 where
 
 -- such a pack is scavengeable exactly where the files that it is read as have room
 abbrev pub ScavengeableByModel : Type 0
-ScavengeableByModel = (p : Pack) → SystemStands (sights p) → Scavengeable p ↔ HasRoom (read_pack p)
+ScavengeableByModel = (p : Pack) → SystemStands (sights p) → Scavengeable p ↔ HasRoom (read_as p)
 
 -- On a whole pack the available sectors are the free ones, those in use are the pages of all files, and the free ones are as many as
 -- the model has room.
 pub record FreeIsRoom (p : Pack) : Type 0 where
-  pub available_is : available p.shape (sights p) ≡ free_sectors (sights p)
-  pub in_use : how_many (in_use p.shape (sights p)) (numbered 0 (sights p)) ≡ files_pages (entries (read_pack p).files) + descriptor_pages p.shape
-  pub pages : files_pages (entries (read_pack p).files) + descriptor_pages p.shape + free_sectors (sights p) ≡ (read_pack p).good
-  pub room_is : room (read_pack p) ≡ free_sectors (sights p)
+  pub available_is : available p.shape (sights p) ≡ free_sector_count (sights p)
+  pub in_use : how_many (in_use p.shape (sights p)) (numbered 0 (sights p)) ≡ files_pages (entries (read_as p).files) + descriptor_pages p.shape
+  pub pages : files_pages (entries (read_as p).files) + descriptor_pages p.shape + free_sector_count (sights p) ≡ (read_as p).good
+  pub room_is : room (read_as p) ≡ free_sector_count (sights p)
 
 abbrev pub FreeIsTheRoom : Type 0
 FreeIsTheRoom = (p : Pack) → Whole p → FreeIsRoom p
@@ -46,7 +46,7 @@ EachSectorIsUsedOrFree = (p : Pack) (at : ℕ) → Whole p → SectorIsUsed p at
 
 -- on any pack the sectors that are found free by their labels, one by one, are as many as those that show it
 abbrev pub FreeSectorsAreThoseFound : Type 0
-FreeSectorsAreThoseFound = (p : Pack) → length (sectors_found p) ≡ free_sectors (sights p)
+FreeSectorsAreThoseFound = (p : Pack) → length (sectors_found p) ≡ free_sector_count (sights p)
 
 -- a sound pack needs nothing, and so it is scavengeable
 abbrev pub SoundNeedsNothing : Type 0

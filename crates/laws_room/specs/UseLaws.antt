@@ -8,7 +8,7 @@ use Rattle.disk_records.specs.declared.records.Page.{Page}
 use Rattle.pack_model.specs.operations.Committing.{length_of, pages_cut, pages_for_operation}
 use Rattle.pack_model.specs.reading.Files.{file_bytes, numbered, place}
 use Rattle.pack_model.specs.states.InUse.{available, counts, how_many, in_use}
-use Rattle.pack_model.specs.reading.Model.{Model, read_pack}
+use Rattle.pack_model.specs.reading.Model.{Model, read_as}
 use Rattle.pack_model.specs.scavenger.Needed.{needed}
 use Rattle.pack_model.specs.reading.Bodies.{pages_for}
 use Rattle.pack_model.specs.reading.Sights.{sights}
@@ -49,8 +49,8 @@ MayBeDone m (widen d) = (is_directory d ≡ true) × (contains_key m.files d ≡
 
 -- Between whole packs of which one is read as the other with an operation done, the sectors in use are more by the pages that it adds and fewer by those that it frees.
 abbrev pub UseFollowsTheOperation : Type 0
-UseFollowsTheOperation = (p q : Pack) (o : Operation) → Whole p → Whole q → q.shape ≡ p.shape → MayBeDone (read_pack p) o → read_pack q ≡ step (read_pack p) o
-    → sectors_in_use q + pages_freed (read_pack p) o ≡ sectors_in_use p + pages_for_operation (read_pack p) o
+UseFollowsTheOperation = (p q : Pack) (o : Operation) → Whole p → Whole q → q.shape ≡ p.shape → MayBeDone (read_as p) o → read_as q ≡ step (read_as p) o
+    → sectors_in_use q + pages_freed (read_as p) o ≡ sectors_in_use p + pages_for_operation (read_as p) o
 
 -- ---- a claim that a scavenge makes
 -- one sector more is in use, one fewer is available, and one fewer needed

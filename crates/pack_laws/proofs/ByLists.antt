@@ -18,7 +18,7 @@ use Rattle.pack_model.specs.sessions.Maps.{map_entries}
 use Rattle.pack_model.specs.reading.Stored.{leader_entries, stored_file, files_shown}
 use Rattle.pack_model.specs.reading.Bodies.{File, Files, found, file_of, described, is_described}
 use Rattle.pack_model.specs.reading.Namings.{tidied, files_kept, is_kept, namings, sys_dir_name, descriptor_name}
-use Rattle.pack_model.specs.reading.Model.{Model, read_sights, read_pack, room, descriptor_pages, files_pages, good_sectors}
+use Rattle.pack_model.specs.reading.Model.{Model, read_sights, read_as, room, descriptor_pages, files_pages, good_sectors}
 use Rattle.pack_model.specs.showing.View.{Home, Seen, view, seen_of, homes}
 use Rattle.pack_model.specs.showing.Settling.{chosen, chosen_from, most_suffixes, given, adopted, settled, settle, show, unless, given_names}
 use Rattle.pack_laws.proofs.Keys.{fid_total, fid_same}
@@ -74,7 +74,7 @@ unfolding read_sights
 read_list shape ss = tidied_list (lives ss) (described ss) ∙ ap (tidied_by (lives ss)) (described_list ss)
 
 -- the sectors that it has left
-pub room_is : (p : Pack) → room (read_pack p) ≡ good_sectors (sights p) - descriptor_pages p.shape - files_pages (read_by (sights p))
+pub room_is : (p : Pack) → room (read_as p) ≡ good_sectors (sights p) - descriptor_pages p.shape - files_pages (read_by (sights p))
 unfolding read_sights
 room_is p = ap (λ es. good_sectors (sights p) - descriptor_pages p.shape - files_pages es) (read_list p.shape (sights p))
 
@@ -149,6 +149,6 @@ adopts_list m = given_list (view m).names (entries (view m).files) ∙ (λ i. gi
 pub shown_list : (p : Pack) → entries (show p).names ≡ shown_by (sights p)
 unfolding settle
 shown_list p =
-    settled_list (view (read_pack p)).names (entries (view (read_pack p)).files)
-    ∙ (λ i. settled_by (names_list (read_pack p) i) (seen_list (read_pack p) i))
+    settled_list (view (read_as p)).names (entries (view (read_as p)).files)
+    ∙ (λ i. settled_by (names_list (read_as p) i) (seen_list (read_as p) i))
     ∙ ap (λ es. settled_by (names_by es) (seen_by es)) (read_list p.shape (sights p))

@@ -13,7 +13,7 @@ use Rattle.pack_model.specs.reading.Sights.Sight.{hidden, free, stray, leads, ho
 use Rattle.pack_model.specs.reading.Files.{lives, file_bytes, numbered}
 use Rattle.pack_model.specs.reading.Bodies.{File, described, items_in}
 use Rattle.pack_model.specs.reading.Namings.{namings, sys_dir_name, descriptor_name}
-use Rattle.pack_model.specs.reading.Model.{read_pack, files_pages, descriptor_words}
+use Rattle.pack_model.specs.reading.Model.{read_as, files_pages, descriptor_words}
 use Rattle.pack_model.specs.showing.Settling.{settle, unless}
 use Rattle.pack_model.specs.scavenger.Mended.{mended, with_system, rooted, root_body, root_file, lacking, widens, needs}
 use Rattle.pack_model.specs.scavenger.Needed.{needed, files_lack, root_lacks, descriptor_lacks}
@@ -123,8 +123,8 @@ report_by shape ss = record {
 pub report_is : (p : Pack) → report_of p ≡ report_by p.shape (sights p)
 unfolding settle
 report_is p = λ i. record {
-  files = length ((seen_list (read_pack p) ∙ ap seen_by (read_list p.shape (sights p))) i) + 2;
+  files = length ((seen_list (read_as p) ∙ ap seen_by (read_list p.shape (sights p))) i) + 2;
   freed = freed_is p.shape (sights p) i;
   bad = bad_sectors (sights p);
-  adopted = length ((adopts_list (read_pack p) ∙ ap adopts_by (read_list p.shape (sights p))) i);
+  adopted = length ((adopts_list (read_as p) ∙ ap adopts_by (read_list p.shape (sights p))) i);
 }

@@ -7,7 +7,7 @@ use Rattle.std.proofs.Math.Seq.{take-append-add}
 use Rattle.disk_records.specs.declared.records.Event.{Event}
 use Rattle.disk_records.specs.declared.records.Event.TheVariants.{Wrote, Shown}
 use Rattle.disk_records.specs.Events.{shown_events, shown_bytes, writes_in}
-use Rattle.disk_records.specs.Packs.{Pack, after, cut}
+use Rattle.disk_records.specs.Packs.{Pack, after, crash}
 use Rattle.disk_records.specs.Tapes.{Taped, Grown, pack, added}
 use Rattle.disk_records.proofs.Growing.{after-append, after-shown, shown-append, shown-events, writes-append, writes-shown, added-twice, nothing_added, pack-after}
 use Rattle.pack_model.specs.sessions.Moves.{Meaning, steps, Obeys, rest, write, IsStartOf}
@@ -17,20 +17,20 @@ use Rattle.pack_laws.proofs.Moving.{stands_last, obeys_cut, steps-append, start_
 use Rattle.pack_laws.proofs.inside.Acknowledging.{acknowledged-moves, acknowledged_at_most, acknowledged_short, acknowledged_start, ops-append, ops-push, sum_of_ones, texts-push}
 
 -- ---- events
--- a cut shows no more bytes than all events
+-- a crash shows no more bytes than all events
 pub shown_short : (k : ℕ) (a : List Event) → length (shown_bytes (take k a)) ≤ length (shown_bytes a)
 shown_short zero a = omega arith
 shown_short (suc k) [] = omega arith
 shown_short (suc k) (Wrote at part words ∷ a) = shown_short k a
 shown_short (suc k) (Shown byte ∷ a) = let h = shown_short k a in omega arith
 
--- a cut within a text
+-- a crash within a text
 pub take-shown : (k : ℕ) (text : List ℕ) → take k (shown_events text) ≡ shown_events (take k text)
 take-shown zero text = refl
 take-shown (suc k) [] = refl
 take-shown (suc k) (b ∷ text) = ap (λ l. Shown b ∷ l) (take-shown k text)
 
--- a cut has no more record writes than all events
+-- a crash has no more record writes than all events
 pub writes_at_most : (k : ℕ) (a : List Event) → writes_in (take k a) ≤ writes_in a
 writes_at_most zero a = omega arith
 writes_at_most (suc k) [] = omega arith
@@ -91,19 +91,19 @@ module _ {M O : Type 0} (means : Meaning M O) where
         rw (ops-push turns turn, length-append (ops_of turns) turn.ops, writes-append events (wrote ++ shown_events turn.text), writes-append wrote (shown_events turn.text)) (omega (arith, a, b, c))
 
     module _ (weight : O → ℕ) where
-      -- a cut before the last turn
+      -- a crash before the last turn
       cut_before : (events more : List Event) (turns : List (Turn O)) (t : Turn O) (k : ℕ) → k < length events → shown_bytes events ≡ texts_of turns → writes_in events ≡ length (ops_of turns) → CutAt weight means m p events turns k → CutAt weight means m p (events ++ more) (turns ++ t ∷ []) k
-      cut_before events more turns t k before shown writes cut =
+      cut_before events more turns t k before shown writes crash =
           let same : take k (events ++ more) ≡ take k events = take-append-le k events more (omega arith) in
           let short : length (shown_bytes (take k events)) ≤ length (texts_of turns) = subst (λ l. length (shown_bytes (take k events)) ≤ length l) shown (shown_short k events) in
           let few = writes_at_most k events in
           let moves : take (writes_in (take k events)) (ops_of (turns ++ t ∷ [])) ≡ take (writes_in (take k events)) (ops_of turns) = ap (take (writes_in (take k events))) (ops-append turns (t ∷ [])) ∙ take-append-le (writes_in (take k events)) (ops_of turns) (ops_of (t ∷ [])) (omega (arith, few, writes)) in
           record {
-            none_missing = rw (same, moves) (le_trans (acknowledged_short weight turns t (shown_bytes (take k events)) short) cut.none_missing);
-            stands = rw (same, moves) cut.stands;
+            none_missing = rw (same, moves) (le_trans (acknowledged_short weight turns t (shown_bytes (take k events)) short) crash.none_missing);
+            stands = rw (same, moves) crash.stands;
           }
 
-      -- a cut within the writes of the last turn
+      -- a crash within the writes of the last turn
       cut_in_writes : (events wrote : List Event) (turns : List (Turn O)) (turn : Turn O) (n : M) (i : ℕ) → i ≤ length wrote → shown_bytes events ≡ texts_of turns → writes_in events ≡ length (ops_of turns) → n ≡ steps means m (ops_of turns) → Obeys means n (after p events) wrote turn.ops
           → CutAt weight means m p (events ++ (wrote ++ shown_events turn.text)) (turns ++ turn ∷ []) (length events + i)
       cut_in_writes events wrote turns turn n i among shown writes model o =
@@ -116,7 +116,7 @@ module _ {M O : Type 0} (means : Meaning M O) where
             stands = rw (whole, moves, steps-append means m (ops_of turns) (take i turn.ops), ← model, after-append p events (take i wrote)) (obeys_cut means o i);
           }
 
-      -- a cut within its text
+      -- a crash within its text
       cut_in_text : (events wrote : List Event) (turns : List (Turn O)) (turn : Turn O) (n : M) (i : ℕ) → writes_in events ≡ length (ops_of turns) → n ≡ steps means m (ops_of turns) → Obeys means n (after p events) wrote turn.ops
           → CutAt weight means m p (events ++ (wrote ++ shown_events turn.text)) (turns ++ turn ∷ []) (length events + (length wrote + i))
       cut_in_text events wrote turns turn n i writes model o =
@@ -130,7 +130,7 @@ module _ {M O : Type 0} (means : Meaning M O) where
             stands = rw (whole, moves, sectors, model_after m turns turn n model) (stands_last means o);
           }
 
-      -- a cut anywhere in the last turn
+      -- a crash anywhere in the last turn
       cut_after : (events wrote : List Event) (turns : List (Turn O)) (turn : Turn O) (n : M) (i : ℕ) → shown_bytes events ≡ texts_of turns → writes_in events ≡ length (ops_of turns) → n ≡ steps means m (ops_of turns) → Obeys means n (after p events) wrote turn.ops
           → CutAt weight means m p (events ++ (wrote ++ shown_events turn.text)) (turns ++ turn ∷ []) (length events + i)
       cut_after events wrote turns turn n i shown writes model o = elim (cases_lt i (length wrote)) [
@@ -140,7 +140,7 @@ module _ {M O : Type 0} (means : Meaning M O) where
             rw split (cut_in_text events wrote turns turn n (i - length wrote) writes model o)
       ]
 
-      -- each cut stands for the model after its moves, and holds each operation that was acknowledged
+      -- each crash stands for the model after its moves, and holds each operation that was acknowledged
       pub talks_cut : {events : List Event} {turns : List (Turn O)} {n : M} → Talks means m p events turns n → (k : ℕ) → CutAt weight means m p events turns k
       talks_cut (begun here) zero = record { none_missing = omega arith; stands = here }
       talks_cut (begun here) (suc k) = record { none_missing = omega arith; stands = here }
@@ -154,8 +154,8 @@ module _ {M O : Type 0} (means : Meaning M O) where
     -- the moves that a cut's shown bytes acknowledge are the first of those that it has made
     pub talks_acknowledged : {events : List Event} {turns : List (Turn O)} {n : M} → Talks means m p events turns n → (k : ℕ) → IsStartOf (acknowledged_moves turns (shown_bytes (take k events))) (moves_at turns events k)
     talks_acknowledged {events} {turns} {n} talks k =
-        let cut : CutAt (λ o. 1) means m p events turns k = talks_cut (λ o. 1) talks k in
-        let most : acknowledged (λ o. 1) turns (shown_bytes (take k events)) ≤ sum_by (λ o. 1) (moves_at turns events k) = cut.none_missing in
+        let crash : CutAt (λ o. 1) means m p events turns k = talks_cut (λ o. 1) talks k in
+        let most : acknowledged (λ o. 1) turns (shown_bytes (take k events)) ≤ sum_by (λ o. 1) (moves_at turns events k) = crash.none_missing in
         let weighs = acknowledged-moves (λ (o : O). 1) turns (shown_bytes (take k events)) in
         let one = sum_of_ones (acknowledged_moves turns (shown_bytes (take k events))) in
         let two = sum_of_ones (moves_at turns events k) in

@@ -1,12 +1,12 @@
--- What the record writes of the guarded sector commands mean, at each place where they may be cut: who carries which page, what is
--- free, what the sectors show, and which words they hold, links and bytes behind the count among them. The cut before the first
+-- What the record writes of the guarded sector commands mean, at each place where they may be crash: who carries which page, what is
+-- free, what the sectors show, and which words they hold, links and bytes behind the count among them. The crash before the first
 -- write is the pack itself.
 use Rattle.std.specs.Prelude.{◌≡◌, ◌≢◌, ℕ, ◌<◌, ◌≤◌, Bool, true, false, cond, nat_lt, List, set, Option, Some, None}
 use Rattle.disk_records.specs.declared.records.Page.{Page}
 use Rattle.disk_records.specs.declared.records.Sector.{Sector}
 use Rattle.disk_records.specs.Commands.{value_writes, relabel_writes, claim_writes, release_writes, ones}
 use Rattle.disk_records.specs.Labels.{tag, page_of}
-use Rattle.disk_records.specs.Packs.{Pack, cut, sector_at, carried, is_free_at}
+use Rattle.disk_records.specs.Packs.{Pack, crash, sector_at, carried, is_free_at}
 use Rattle.pack_model.specs.reading.Sights.{Sight, page_sight, sights}
 use Rattle.pack_model.specs.reading.Sights.Sight.{free}
 
@@ -39,18 +39,18 @@ HoldsPage at page label value p q = ChangesOne at (Some page) false (page_sight 
 
 -- A value write: the same page, and other bytes.
 abbrev pub ValueWritesKeepThePage : Type 0
-ValueWritesKeepThePage = (p : Pack) (at : ℕ) (page : Page) (value : List ℕ) (k : ℕ) → carried p at ≡ Some page → 0 < k → HoldsPage at page (sector_at p at).label value p (cut p (value_writes at value) k)
+ValueWritesKeepThePage = (p : Pack) (at : ℕ) (page : Page) (value : List ℕ) (k : ℕ) → carried p at ≡ Some page → 0 < k → HoldsPage at page (sector_at p at).label value p (crash p (value_writes at value) k)
 
 -- Another label for the same page, and the value that stands there: the same page at both cuts, with as many bytes as the label says.
 abbrev pub RelabelKeepsThePage : Type 0
-RelabelKeepsThePage = (p : Pack) (at : ℕ) (page : Page) (label : List ℕ) (k : ℕ) → carried p at ≡ Some page → page_of label ≡ Some page → 0 < k → HoldsPage at page label (sector_at p at).value p (cut p (relabel_writes at label (sector_at p at).value) k)
+RelabelKeepsThePage = (p : Pack) (at : ℕ) (page : Page) (label : List ℕ) (k : ℕ) → carried p at ≡ Some page → page_of label ≡ Some page → 0 < k → HoldsPage at page label (sector_at p at).value p (crash p (relabel_writes at label (sector_at p at).value) k)
 
 -- Taking a free sector: nothing looks different until the label is written, though the value stands there before, and from then
 -- on the sector carries the page.
 pub record TakesAtTheLabel (p : Pack) (at : ℕ) (page : Page) (label value : List ℕ) (k : ℕ) : Type 0 where
-  pub before : k ≤ 1 → LooksSame at p (cut p (claim_writes at label value) k)
-  pub filled : k ≡ 1 → sector_at (cut p (claim_writes at label value) k) at ≡ with_words (sector_at p at) (sector_at p at).label value
-  pub taken : 2 ≤ k → HoldsPage at page label value p (cut p (claim_writes at label value) k)
+  pub before : k ≤ 1 → LooksSame at p (crash p (claim_writes at label value) k)
+  pub filled : k ≡ 1 → sector_at (crash p (claim_writes at label value) k) at ≡ with_words (sector_at p at) (sector_at p at).label value
+  pub taken : 2 ≤ k → HoldsPage at page label value p (crash p (claim_writes at label value) k)
 
 abbrev pub ClaimTakesAtTheLabel : Type 0
 ClaimTakesAtTheLabel = (p : Pack) (at : ℕ) (page : Page) (label value : List ℕ) (k : ℕ) → is_free_at p at ≡ true → page_of label ≡ Some page → TakesAtTheLabel p at page label value k
@@ -61,4 +61,4 @@ released s k = with_words s (ones 8) (cond (nat_lt k 2) s.value (ones 256))
 
 -- Making a sector free: it is free from the label on.
 abbrev pub ReleaseFreesAtTheLabel : Type 0
-ReleaseFreesAtTheLabel = (p : Pack) (at : ℕ) (page : Page) (k : ℕ) → carried p at ≡ Some page → 0 < k → ChangesOne at None true free (released (sector_at p at) k) p (cut p (release_writes at) k)
+ReleaseFreesAtTheLabel = (p : Pack) (at : ℕ) (page : Page) (k : ℕ) → carried p at ≡ Some page → 0 < k → ChangesOne at None true free (released (sector_at p at) k) p (crash p (release_writes at) k)

@@ -3,7 +3,7 @@ use Rattle.std.specs.Prelude.{List, Ok, OnOk, Result, Some, [], cond, drop, leng
 use Rattle.disk_records.specs.declared.records.Event.{Event}
 use Rattle.disk_records.specs.declared.records.Event.TheVariants.{Shown, Wrote}
 use Rattle.disk_records.specs.Events.{IsFirstOf, shown_bytes, writes_in}
-use Rattle.disk_records.specs.Packs.{Pack, after, cut}
+use Rattle.disk_records.specs.Packs.{Pack, after, crash}
 use Rattle.pack_model.specs.sessions.Moves.{Does, IsStartOf, Meaning, Obeys, steps}
 use Rattle.pack_model.specs.sessions.Turns.{CutAt, Talks, Turn, is_whole, moves_at, ops_of, ruler}
 use Rattle.pack_laws.specs.Made.{AllMade}
@@ -13,9 +13,9 @@ use Rattle.pack_laws.specs.Made.{AllMade}
 abbrev pub RunsJoin : {M O : Type 0} → Meaning M O → Type 0
 RunsJoin {M} {O} means = (m : M) (p : Pack) (a b : List Event) (ops more : List O) → Obeys means m p a ops → Obeys means (steps means m ops) (after p a) b more → Obeys means m p (a ++ b) (ops ++ more)
 
--- The pack cut after k writes of a run stands for the model after its first k moves.
+-- The pack crash after k writes of a run stands for the model after its first k moves.
 abbrev pub CutOfRun : {M O : Type 0} → Meaning M O → Type 0
-CutOfRun {M} {O} means = (m : M) (p : Pack) (events : List Event) (ops : List O) → Obeys means m p events ops → (k : ℕ) → means.Stands (steps means m (take k ops)) (cut p events k)
+CutOfRun {M} {O} means = (m : M) (p : Pack) (events : List Event) (ops : List O) → Obeys means m p events ops → (k : ℕ) → means.Stands (steps means m (take k ops)) (crash p events k)
 
 -- ---- calls
 -- Where a call has made all its moves, it and the next one are a call that is to make the moves of both.
@@ -23,7 +23,7 @@ abbrev pub CallsJoin : {M O : Type 0} → Type 0 → Type 0 → Type 0 → Type 
 CallsJoin {M} {O} T U E F means = (p : Pack) (a b : List Event) (wanted more : List O) (x : U) (result : Result T E) → Does {E = F} means p a wanted (Ok x) → Does means (after p a) b more result → Does means p (a ++ b) (wanted ++ more) result
 
 -- A call that names its record writes, which make the moves that are wanted, may do some first ones of them at an error: then it
--- has made some first ones of the moves, and each cut stands for a model on the way.
+-- has made some first ones of the moves, and each crash stands for a model on the way.
 abbrev pub FaultsLeaveAFirstPart : {M O : Type 0} → Type 0 → Type 0 → Meaning M O → Type 0
 FaultsLeaveAFirstPart {M} {O} T E means =
     (p : Pack) (writes events : List Event) (wanted : List O) (result : Result T E) → Obeys means (means.read p) p writes wanted → means.read (after p writes) ≡ steps means (means.read p) wanted → IsFirstOf writes events → OnOk result (events ≡ writes) → Does means p events wanted result
@@ -33,7 +33,7 @@ FaultsLeaveAFirstPart {M} {O} T E means =
 abbrev pub TurnsJoin : {M O : Type 0} → Meaning M O → Type 0
 TurnsJoin {M} {O} means = (m n l : M) (p : Pack) (a b : List Event) (turns more : List (Turn O)) → Talks means m p a turns n → Talks means n (after p a) b more l → Talks means m p (a ++ b) (turns ++ more) l
 
--- Each cut stands for the model after the moves so far, and no operation that was acknowledged is missing.
+-- Each crash stands for the model after the moves so far, and no operation that was acknowledged is missing.
 abbrev pub CutOfTurns : {M O : Type 0} → (O → ℕ) → Meaning M O → Type 0
 CutOfTurns {M} {O} weight means = (m n : M) (p : Pack) (events : List Event) (turns : List (Turn O)) → Talks means m p events turns n → (k : ℕ) → CutAt weight means m p events turns k
 
@@ -42,7 +42,7 @@ abbrev pub acknowledged_moves : {O : Type 0} → List (Turn O) → List ℕ → 
 acknowledged_moves [] bytes = []
 acknowledged_moves (t ∷ turns) bytes = cond (t.counts && is_whole t.text bytes) (t.ops ++ acknowledged_moves turns (drop (length t.text) bytes)) []
 
--- The moves that the shown bytes of a cut acknowledge are the first of those that the cut has made.
+-- The moves that the shown bytes of a crash acknowledge are the first of those that the crash has made.
 abbrev pub AcknowledgedAreDone : {M O : Type 0} → Meaning M O → Type 0
 AcknowledgedAreDone {M} {O} means = (m n : M) (p : Pack) (events : List Event) (turns : List (Turn O)) → Talks means m p events turns n → (k : ℕ) → IsStartOf (acknowledged_moves turns (shown_bytes (take k events))) (moves_at turns events k)
 
@@ -56,7 +56,7 @@ WritesAreMade {M} {O} means = (m n : M) (p : Pack) (events : List Event) (turns 
 pub record RisesByMove {M O : Type 0} (weight : O → ℕ) (means : Meaning M O) (p : Pack) (events : List Event) (turns : List (Turn O)) (k at part : ℕ) (words : List ℕ) : Type 0 where
   pub move : O
   pub next : slice_get (ops_of turns) (writes_in (take k events)) ≡ Some move
-  pub made : means.Makes (cut p events k) (Wrote at part words) move
+  pub made : means.Makes (crash p events k) (Wrote at part words) move
   pub risen : ruler weight turns events (k + 1) ≡ ruler weight turns events k + weight move
 
 -- The ruler starts at 0 and never falls; an event more adds at most the weight of one move, a shown byte adds nothing, and a

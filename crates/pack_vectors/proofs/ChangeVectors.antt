@@ -13,7 +13,7 @@ use Rattle.pack_model.specs.reading.Bodies.Body.{items_of}
 use Rattle.pack_model.specs.reading.Namings.{sys_dir_name}
 use Rattle.pack_model.specs.reading.Model.{Model, dir_items}
 use Rattle.pack_model.specs.operations.Rooms.{placed, largest_run}
-use Rattle.pack_model.specs.operations.Step.{step, new_leader, spare, room_in}
+use Rattle.pack_model.specs.operations.Step.{step, new_leader, spare_widening, room_widening}
 use Rattle.pack_model.specs.operations.Step.Operation.{put, grow, cut, title, leave, enter, widen}
 use Rattle.pack_laws.proofs.Keys.{fid_total, fid_same}
 use Rattle.pack_laws.proofs.Mapping.{get-update}
@@ -62,22 +62,22 @@ one_dir d is = model_by ((d, directory_of is) ∷ [])
 
 -- SysDir keeps 26 free words in a row, whatever the name
 spares :
-    (spare (one_dir sys_dir (space 26 ∷ [])) ≡ [])
-    × (spare (one_dir sys_dir (space 25 ∷ [])) ≡ widen sys_dir ∷ [])
-    × (spare (one_dir sys_dir (space 13 ∷ space 13 ∷ [])) ≡ [])
-    × (spare (one_dir sys_dir (space 13 ∷ entry file_3 (codes "A.") ∷ space 13 ∷ [])) ≡ widen sys_dir ∷ [])
+    (spare_widening (one_dir sys_dir (space 26 ∷ [])) ≡ [])
+    × (spare_widening (one_dir sys_dir (space 25 ∷ [])) ≡ widen sys_dir ∷ [])
+    × (spare_widening (one_dir sys_dir (space 13 ∷ space 13 ∷ [])) ≡ [])
+    × (spare_widening (one_dir sys_dir (space 13 ∷ entry file_3 (codes "A.") ∷ space 13 ∷ [])) ≡ widen sys_dir ∷ [])
 spares = (by (space 26 ∷ []), by (space 25 ∷ []), by (space 13 ∷ space 13 ∷ []), by (space 13 ∷ entry file_3 (codes "A.") ∷ space 13 ∷ []))
   where
-    by : (is : List Item) → spare (one_dir sys_dir is) ≡ cond (nat_le 26 (largest_run is)) [] (widen sys_dir ∷ [])
+    by : (is : List Item) → spare_widening (one_dir sys_dir is) ≡ cond (nat_le 26 (largest_run is)) [] (widen sys_dir ∷ [])
     by is = ap (λ r. cond (nat_le 26 (largest_run (items_in r))) [] (widen sys_dir ∷ [])) (get-from_entries fid_total ((sys_dir, directory_of is) ∷ []) sys_dir)
 
 -- another directory has the words of the entry; SysDir isn't widened twice
 rooms_in :
-    (room_in (one_dir dir_4 (space 8 ∷ [])) dir_4 (codes "A.") ≡ [])
-    × (room_in (one_dir dir_4 (space 7 ∷ [])) dir_4 (codes "A.") ≡ widen dir_4 ∷ [])
-    × (room_in (one_dir dir_4 (space 8 ∷ [])) dir_4 (codes "AB.") ≡ [])
-    × (room_in (one_dir dir_4 (space 8 ∷ [])) dir_4 (codes "ABC.") ≡ widen dir_4 ∷ [])
-    × (room_in (one_dir sys_dir (space 7 ∷ [])) sys_dir (codes "A.") ≡ [])
+    (room_widening (one_dir dir_4 (space 8 ∷ [])) dir_4 (codes "A.") ≡ [])
+    × (room_widening (one_dir dir_4 (space 7 ∷ [])) dir_4 (codes "A.") ≡ widen dir_4 ∷ [])
+    × (room_widening (one_dir dir_4 (space 8 ∷ [])) dir_4 (codes "AB.") ≡ [])
+    × (room_widening (one_dir dir_4 (space 8 ∷ [])) dir_4 (codes "ABC.") ≡ widen dir_4 ∷ [])
+    × (room_widening (one_dir sys_dir (space 7 ∷ [])) sys_dir (codes "A.") ≡ [])
 rooms_in = (by (space 8 ∷ []) 8, by (space 7 ∷ []) 8, by (space 8 ∷ []) 8, by (space 8 ∷ []) 9, refl)
   where
     by : (is : List Item) (n : ℕ) → cond (nat_le n (largest_run (dir_items (one_dir dir_4 is) dir_4))) [] (widen dir_4 ∷ []) ≡ cond (nat_le n (largest_run is)) [] (widen dir_4 ∷ [])

@@ -18,7 +18,7 @@ use Rattle.pack_model.specs.reading.Files.{first, joined, most_pages, file_bytes
 use Rattle.pack_model.specs.reading.Slots.{slots_after, slot_at, is_entry}
 use Rattle.pack_model.specs.reading.Namings.{keeps_system}
 use Rattle.pack_model.specs.operations.PageWords.{page_value}
-use Rattle.pack_model.specs.reading.Model.{Model, read_sights, read_pack}
+use Rattle.pack_model.specs.reading.Model.{Model, read_sights, read_as}
 use Rattle.pack_model.specs.showing.View.{view}
 use Rattle.pack_model.specs.showing.Settling.{most_suffixes, settle, settled, show}
 use Rattle.pack_model.specs.states.Sound.{Sound, Clean, mark_of}
@@ -37,11 +37,11 @@ same_model : (m n : Model) → m.shape ≡ n.shape → m.good ≡ n.good → m.l
 same_model m n shape good last files = λ i. record { shape = shape i; good = good i; last = last i; files = same_entries_map m.files n.files files i }
 
 -- a pack on which nothing but system files lives: none lacks a name
-all_named : (p : Pack) → seen_by (read_by (sights p)) ≡ [] → show p ≡ view (read_pack p)
+all_named : (p : Pack) → seen_by (read_by (sights p)) ≡ [] → show p ≡ view (read_as p)
 unfolding settle
 all_named p none = λ i. record {
-  files = (view (read_pack p)).files;
-  names = settled (view (read_pack p)).names ((seen_list (read_pack p) ∙ ap seen_by (read_list p.shape (sights p)) ∙ none) i);
+  files = (view (read_as p)).files;
+  names = settled (view (read_as p)).names ((seen_list (read_as p) ∙ ap seen_by (read_list p.shape (sights p)) ∙ none) i);
 }
 
 -- ---- the one that ends it: DiskDescriptor's page, with a clean mark
@@ -63,24 +63,24 @@ unfolding real_of
 ended_is = refl
 
 abbrev closed_model : Model
-closed_model = read_pack closed
+closed_model = read_as closed
 
 opened_files : (read_by (sights opened) ≡ read_by (sights closed)) × (seen_by (read_by (sights opened)) ≡ [])
 unfolding sights_from sight real_of in_range is_free leader_of leader_name is_readable is_stored_name first joined most_pages file_bytes slots_after slot_at is_entry keeps_system
 opened_files = (refl, refl)
 
-opened_numbers : ((read_pack opened).good ≡ closed_model.good) × ((read_pack opened).last ≡ closed_model.last) × (closed_model.last ≡ 2)
+opened_numbers : ((read_as opened).good ≡ closed_model.good) × ((read_as opened).last ≡ closed_model.last) × (closed_model.last ≡ 2)
 unfolding read_sights sights_from sight real_of in_range is_free leader_of leader_name is_readable is_stored_name first joined most_pages file_bytes
 opened_numbers = (refl, refl, refl)
 
 -- the mark is no part of a model
-opened_reads : read_pack opened ≡ closed_model
+opened_reads : read_as opened ≡ closed_model
 unfolding read_sights
-opened_reads = same_model (read_pack opened) closed_model refl opened_numbers.0 (opened_numbers.1) (read_list small (sights opened) ∙ opened_files.0 ∙ sym (read_list small (sights closed)))
+opened_reads = same_model (read_as opened) closed_model refl opened_numbers.0 (opened_numbers.1) (read_list small (sights opened) ∙ opened_files.0 ∙ sym (read_list small (sights closed)))
 
 ends_scavenge : MakesMove opened (marked 1) (mends closed_model)
 ends_scavenge = record {
-  reads = ap read_pack ended_is;
+  reads = ap read_as ended_is;
   views = sym (all_named opened opened_files.1 ∙ ap view opened_reads);
   sound = subst Sound (sym ended_is) sound_fresh;
   clean = subst Clean (sym ended_is) clean_fresh;
@@ -89,7 +89,7 @@ ends_scavenge = record {
 -- read as another model, it isn't the last one of a scavenge
 reads_otherwise : MakesMove opened (marked 1) (mends (record closed_model { last = 9 })) → ⊥
 reads_otherwise ends =
-    let other : closed_model.last ≡ 9 = ap (λ m. m.last) (sym (ap read_pack ended_is) ∙ ends.reads) in
+    let other : closed_model.last ≡ 9 = ap (λ m. m.last) (sym (ap read_as ended_is) ∙ ends.reads) in
     let last = opened_numbers.2 in
     omega arith
 
@@ -99,7 +99,7 @@ open_mark : mark_of (sights opened) ≡ 2
 unfolding sights_from sight real_of in_range is_free leader_of leader_name is_readable is_stored_name first joined most_pages file_bytes
 open_mark = refl
 
-opened_but_mark : (read_pack opened ≡ closed_model) × (view closed_model ≡ show closed)
+opened_but_mark : (read_as opened ≡ closed_model) × (view closed_model ≡ show closed)
 opened_but_mark = (opened_reads, sym (all_named closed (ap seen_by (sym opened_files.0) ∙ opened_files.1)))
 
 marks_otherwise : MakesMove closed (marked 2) (mends closed_model) → ⊥
@@ -120,15 +120,15 @@ stray_files : (read_by (sights stray_left) ≡ read_by (sights closed)) × (read
 unfolding sights_from sight real_of in_range is_free leader_of leader_name is_readable is_stored_name first joined most_pages file_bytes slots_after slot_at is_entry keeps_system
 stray_files = (refl, refl)
 
-stray_numbers : ((read_pack stray_left).good ≡ closed_model.good) × ((read_pack stray_left).last ≡ closed_model.last) × ((read_pack strayed).good ≡ closed_model.good) × ((read_pack strayed).last ≡ closed_model.last)
+stray_numbers : ((read_as stray_left).good ≡ closed_model.good) × ((read_as stray_left).last ≡ closed_model.last) × ((read_as strayed).good ≡ closed_model.good) × ((read_as strayed).last ≡ closed_model.last)
 unfolding read_sights sights_from sight real_of in_range is_free leader_of leader_name is_readable is_stored_name first joined most_pages file_bytes
 stray_numbers = (refl, refl, refl, refl)
 
-stray_reads : (read_pack stray_left ≡ closed_model) × (read_pack strayed ≡ closed_model)
+stray_reads : (read_as stray_left ≡ closed_model) × (read_as strayed ≡ closed_model)
 unfolding read_sights
 stray_reads = (
-  same_model (read_pack stray_left) closed_model refl stray_numbers.0 stray_numbers.1 (read_list small (sights stray_left) ∙ stray_files.0 ∙ sym (read_list small (sights closed))),
-  same_model (read_pack strayed) closed_model refl stray_numbers.2 stray_numbers.3 (read_list small (sights strayed) ∙ stray_files.1 ∙ sym (read_list small (sights closed))),
+  same_model (read_as stray_left) closed_model refl stray_numbers.0 stray_numbers.1 (read_list small (sights stray_left) ∙ stray_files.0 ∙ sym (read_list small (sights closed))),
+  same_model (read_as strayed) closed_model refl stray_numbers.2 stray_numbers.3 (read_list small (sights strayed) ∙ stray_files.1 ∙ sym (read_list small (sights closed))),
 )
 
 stray_but_sound : (view closed_model ≡ show strayed) × Clean stray_left
@@ -147,28 +147,28 @@ clean_mark = Wrote 4 2 (page_value (bytes_of (its_words 3 1)) [])
 abbrev cleaned : Pack
 cleaned = after made_7 (clean_mark ∷ [])
 
-names_shown : (length (entries (show made_7).names) ≡ 1) × (length (entries (view (read_pack cleaned)).names) ≡ 0)
+names_shown : (length (entries (show made_7).names) ≡ 1) × (length (entries (view (read_as cleaned)).names) ≡ 0)
 unfolding sights_from sight real_of in_range is_free leader_of leader_name is_readable is_stored_name first joined most_pages file_bytes slots_after slot_at is_entry keeps_system most_suffixes suffixed digits
 names_shown = (
   ap length (shown_list made_7),
-  ap length (names_list (read_pack cleaned) ∙ ap names_by (read_list small (sights cleaned))),
+  ap length (names_list (read_as cleaned) ∙ ap names_by (read_list small (sights cleaned))),
 )
 
 same_files : read_by (sights cleaned) ≡ read_by (sights made_7)
 unfolding sights_from sight real_of in_range is_free leader_of leader_name is_readable is_stored_name first joined most_pages file_bytes slots_after slot_at is_entry keeps_system
 same_files = refl
 
-same_numbers : ((read_pack cleaned).good ≡ (read_pack made_7).good) × ((read_pack cleaned).last ≡ (read_pack made_7).last)
+same_numbers : ((read_as cleaned).good ≡ (read_as made_7).good) × ((read_as cleaned).last ≡ (read_as made_7).last)
 unfolding read_sights sights_from sight real_of in_range is_free leader_of leader_name is_readable is_stored_name first joined most_pages file_bytes
 same_numbers = (refl, refl)
 
 shows_the_same : show cleaned ≡ show made_7
 unfolding read_sights
-shows_the_same = ap (λ m. settle (view m)) (same_model (read_pack cleaned) (read_pack made_7) refl same_numbers.0 same_numbers.1 (read_list small (sights cleaned) ∙ same_files ∙ sym (read_list small (sights made_7))))
+shows_the_same = ap (λ m. settle (view m)) (same_model (read_as cleaned) (read_as made_7) refl same_numbers.0 same_numbers.1 (read_list small (sights cleaned) ∙ same_files ∙ sym (read_list small (sights made_7))))
 
-shows_otherwise : MakesMove made_7 clean_mark (mends (read_pack cleaned)) → ⊥
+shows_otherwise : MakesMove made_7 clean_mark (mends (read_as cleaned)) → ⊥
 shows_otherwise ends =
-    let counts : length (entries (view (read_pack cleaned)).names) ≡ length (entries (show made_7).names) = ap (λ v. length (entries v.names)) ends.views in
+    let counts : length (entries (view (read_as cleaned)).names) ≡ length (entries (show made_7).names) = ap (λ v. length (entries v.names)) ends.views in
     let shown = names_shown.0 in
     let entered = names_shown.1 in
     omega arith

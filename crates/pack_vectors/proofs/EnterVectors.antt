@@ -6,7 +6,7 @@ use Rattle.alto_words.specs.Fid.{sys_dir, disk_descriptor, ordinary_fid}
 use Rattle.alto_words.specs.Names.{is_stored_name}
 use Rattle.disk_records.specs.declared.records.Event.TheVariants.{Wrote}
 use Rattle.disk_records.specs.Addresses.{real_of}
-use Rattle.disk_records.specs.Packs.{Pack, sector_at, cut}
+use Rattle.disk_records.specs.Packs.{Pack, sector_at, crash}
 use Rattle.pack_model.specs.reading.Slots.{Item, slots, slots_after, slot_at, is_entry}
 use Rattle.pack_model.specs.reading.Slots.Item.{space, entry}
 use Rattle.pack_model.specs.reading.SlotWords.{entry_words, space_words}
@@ -81,10 +81,10 @@ three_values : entered_values widened two_slots new_words
 unfolding real_of
 three_values = refl
 
--- the slots at each cut: one free slot, the same with other words inside it, and last the entry
+-- the slots at each crash: one free slot, the same with other words inside it, and last the entry
 abbrev slots_at_cut : ℕ → List Item
 slots_at_cut k =
-    let q : Pack = cut widened (values_writes (entered_values widened two_slots new_words)) k in
+    let q : Pack = crash widened (values_writes (entered_values widened two_slots new_words)) k in
     slots (take 511 ((sector_at q 2).value ++ (sector_at q 21).value))
 
 slots_between :

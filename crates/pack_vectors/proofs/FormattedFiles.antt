@@ -11,7 +11,7 @@ use Rattle.pack_model.specs.reading.Sights.Sight.{hidden, free, stray, leads, ho
 use Rattle.pack_model.specs.reading.Files.{first, most_pages, leader, lives}
 use Rattle.pack_model.specs.reading.Namings.{sys_dir_name, descriptor_name}
 use Rattle.pack_model.specs.operations.Step.{new_leader}
-use Rattle.pack_model.specs.states.Whole.{Leads, Headless, Carries, IsSeat, FileWhole}
+use Rattle.pack_model.specs.states.Whole.{Leads, Headless, HasPages, IsSeat, FileWhole}
 use Rattle.pack_model.specs.states.Whole.FileWhole.{absent, present}
 use Rattle.pack_model.specs.sessions.Descriptor.{descriptor_text}
 use Rattle.pack_model.specs.sessions.Format.{format_slots, format_table}
@@ -88,7 +88,7 @@ root_leads = record {
       (λ i r k e. absurd cc);
 }
 
-root_carries : Carries fresh sys_dir ((2, root_bytes) ∷ []) 0 []
+root_carries : HasPages fresh sys_dir ((2, root_bytes) ∷ []) 0 []
 root_carries = record {
   seated = (refl, tt);
   waiting = tt;
@@ -115,7 +115,7 @@ its_leads = record {
       (λ i r k e. absurd cc);
 }
 
-its_carries : Carries fresh disk_descriptor ((4, its_bytes) ∷ []) 0 []
+its_carries : HasPages fresh disk_descriptor ((4, its_bytes) ∷ []) 0 []
 its_carries = record {
   seated = (refl, tt);
   waiting = tt;
@@ -139,7 +139,7 @@ none_leads f a b = each (λ i s. (r : Bool) (k : Leader) → s ≡ leads f r k �
     (λ i r k e. cc)
     (λ i r k e. cc)
 
-none_carries : (f : Fid) → is_fid f sys_dir ≡ false → is_fid f disk_descriptor ≡ false → Carries fresh f [] 0 []
+none_carries : (f : Fid) → is_fid f sys_dir ≡ false → is_fid f disk_descriptor ≡ false → HasPages fresh f [] 0 []
 none_carries f a b = record {
   seated = tt;
   waiting = tt;

@@ -6,7 +6,7 @@ use Rattle.alto_words.specs.Fid.{sys_dir, disk_descriptor, directory_fid}
 use Rattle.disk_records.specs.declared.shape.Shape.{Shape}
 use Rattle.disk_records.specs.declared.records.Event.TheVariants.{Wrote}
 use Rattle.disk_records.specs.Addresses.{real_of}
-use Rattle.disk_records.specs.Packs.{Pack, sector_at, after, cut}
+use Rattle.disk_records.specs.Packs.{Pack, sector_at, after, crash}
 use Rattle.pack_model.specs.reading.Bytes.{put_at}
 use Rattle.pack_model.specs.reading.SlotWords.{entry_words, space_words}
 use Rattle.pack_model.specs.reading.Namings.{sys_dir_name, descriptor_name}
@@ -48,7 +48,7 @@ writes_of_claims shape f name moment leader_at page_at = refl
 abbrev unmade : Pack
 unmade = pack_of 43 (system (space_words 231) (its_words 3 2) [])
 
-makes : (cut unmade (claims_writes claims_a) 4 ≡ made_6) × (cut unmade (claims_writes claims_a) 5 ≡ made_7) × (after unmade (claims_writes claims_a) ≡ made_7)
+makes : (crash unmade (claims_writes claims_a) 4 ≡ made_6) × (crash unmade (claims_writes claims_a) 5 ≡ made_7) × (after unmade (claims_writes claims_a) ≡ made_7)
 unfolding real_of
 makes = (refl, refl, refl)
 
@@ -74,7 +74,7 @@ drop_in_order = refl
 -- as many as the moves; they leave a pack whose sectors behind the system files are free; before the last one the slot is still there
 drop_leaves :
     (length (drop_writes 5 (6 ∷ 7 ∷ 8 ∷ []) 2 freed) ≡ length (drop_moves (drop_file file_3) (units 3)))
-    × (cut appended_9 (drop_writes 5 (6 ∷ 7 ∷ 8 ∷ []) 2 freed) 8 ≡ pack_of 43 (system words_a (its_words 3 2) []))
+    × (crash appended_9 (drop_writes 5 (6 ∷ 7 ∷ 8 ∷ []) 2 freed) 8 ≡ pack_of 43 (system words_a (its_words 3 2) []))
     × (after appended_9 (drop_writes 5 (6 ∷ 7 ∷ 8 ∷ []) 2 freed) ≡ pack_of 43 (system (put_at 0 (8 ∷ []) words_a) (its_words 3 2) []))
 unfolding real_of
 drop_leaves = (refl, refl, refl)

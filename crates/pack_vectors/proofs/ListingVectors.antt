@@ -17,7 +17,7 @@ use Rattle.pack_model.specs.reading.Sights.{sight, sights, sights_from}
 use Rattle.pack_model.specs.reading.Files.{first, joined, most_pages, file_bytes}
 use Rattle.pack_model.specs.reading.Slots.{slots_after, slot_at, is_entry}
 use Rattle.pack_model.specs.reading.Namings.{Naming, keeps_system}
-use Rattle.pack_model.specs.reading.Model.{read_pack}
+use Rattle.pack_model.specs.reading.Model.{read_as}
 use Rattle.pack_model.specs.showing.View.{Home, Seen, View}
 use Rattle.pack_model.specs.showing.Settling.{most_suffixes, settle, show}
 use Rattle.pack_model.specs.showing.Listing.{Listed, in_order, naming_of, naming_cmp, listed_cmp, size_of, line_of, shown_names, listing}
@@ -45,7 +45,7 @@ listing_list v =
 
 listing_is : (p : Pack) → listing (show p) ≡ listing_by (shown_by (sights p)) (seen_by (read_by (sights p)))
 unfolding settle
-listing_is p = listing_list (show p) ∙ (λ i. listing_by (shown_list p i) ((seen_list (read_pack p) ∙ ap seen_by (read_list p.shape (sights p))) i))
+listing_is p = listing_list (show p) ∙ (λ i. listing_by (shown_list p i) ((seen_list (read_as p) ∙ ap seen_by (read_list p.shape (sights p))) i))
 
 -- ---- listings
 abbrev line : Option (List ℕ) → Fid → List ℕ → Fid → Option ℕ → Listed

@@ -16,7 +16,7 @@ use Rattle.pack_model.specs.reading.Slots.{slots_after, slot_at, is_entry}
 use Rattle.pack_model.specs.reading.Slots.Item.{space, entry}
 use Rattle.pack_model.specs.reading.Namings.{sys_dir_name, descriptor_name}
 use Rattle.pack_model.specs.reading.Model.{good_sectors, descriptor_pages, descriptor_words, last_serial}
-use Rattle.pack_model.specs.states.InUse.{free_sectors, bad_sectors}
+use Rattle.pack_model.specs.states.InUse.{free_sector_count, bad_sectors}
 use Rattle.pack_model.specs.reading.SlotWords.{slots_at}
 use Rattle.pack_model.specs.hints.Links.{HasLinks, dir_slots, next_link, previous_link}
 use Rattle.pack_model.specs.states.Sound.{mark_of}
@@ -166,7 +166,7 @@ formatted_words :
     (mark_of (sights (formatted small 1 1000)) ≡ 1)
     × (last_serial (descriptor_words (sights (formatted small 1 1000))) ≡ 2)
     × (described_table (formatted small 1 1000) ≡ replicate 5 true ++ replicate 43 false)
-    × (described_free (formatted small 1 1000) ≡ free_sectors (sights (formatted small 1 1000)))
+    × (described_free (formatted small 1 1000) ≡ free_sector_count (sights (formatted small 1 1000)))
     × (good_sectors (sights (formatted small 1 1000)) ≡ 47)
     × (bad_sectors (sights (formatted small 1 1000)) ≡ 0)
 unfolding sights_from sight real_of in_range is_free leader_of leader_name is_readable is_stored_name file_bytes joined most_pages first

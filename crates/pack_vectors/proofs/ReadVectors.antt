@@ -18,7 +18,7 @@ use Rattle.pack_model.specs.reading.Stored.{StoredFile, file_of_serial}
 use Rattle.pack_model.specs.reading.Bodies.{File}
 use Rattle.pack_model.specs.reading.Bodies.Body.{items_of}
 use Rattle.pack_model.specs.reading.Namings.{sys_dir_name, descriptor_name, keeps_system}
-use Rattle.pack_model.specs.reading.Model.{read_sights, read_pack, room}
+use Rattle.pack_model.specs.reading.Model.{read_sights, read_as, room}
 use Rattle.pack_model.specs.showing.View.{Home, view}
 use Rattle.pack_model.specs.showing.Settling.{most_suffixes, show}
 use Rattle.pack_model.specs.operations.Step.{new_leader}
@@ -35,7 +35,7 @@ abbrev root_with : List Item → Fid × File
 root_with is = (sys_dir, directory sys_dir_name (entry sys_dir sys_dir_name ∷ entry disk_descriptor descriptor_name ∷ is))
 
 abbrev files_of : Pack → List (Fid × File)
-files_of p = entries (read_pack p).files
+files_of p = entries (read_as p).files
 
 -- ---- files, by rising full name: DiskDescriptor isn't among them
 -- the lower of two copies counts
@@ -84,13 +84,13 @@ no_files = read_list small (sights all_free)
 -- ---- numbers
 -- the last serial, 0 where DiskDescriptor has no words; the good sectors
 numbers :
-    ((read_pack copied).last ≡ 3) × ((read_pack three_x).last ≡ 7) × ((read_pack made_6).last ≡ 3) × ((read_pack all_free).last ≡ 0)
-    × ((read_pack copied).good ≡ 47) × ((read_pack all_free).good ≡ 47) × ((read_pack (good_up_to 7 copied)).good ≡ 6)
+    ((read_as copied).last ≡ 3) × ((read_as three_x).last ≡ 7) × ((read_as made_6).last ≡ 3) × ((read_as all_free).last ≡ 0)
+    × ((read_as copied).good ≡ 47) × ((read_as all_free).good ≡ 47) × ((read_as (good_up_to 7 copied)).good ≡ 6)
 unfolding read_sights sights_from sight real_of in_range is_free leader_of leader_name is_readable is_stored_name first joined most_pages file_bytes
 numbers = (refl, refl, refl, refl, refl, refl, refl)
 
 -- the room: with a file of five bytes 41 sectors, with one of 1,200 bytes 39; where nothing lives, all but two for DiskDescriptor
-rooms : (room (read_pack copied) ≡ 41) × (room (read_pack appended_9) ≡ 39) × (room (read_pack all_free) ≡ 45)
+rooms : (room (read_as copied) ≡ 41) × (room (read_as appended_9) ≡ 39) × (room (read_as all_free) ≡ 45)
 unfolding sights_from sight real_of in_range is_free leader_of leader_name is_readable is_stored_name first joined most_pages file_bytes slots_after slot_at is_entry keeps_system
 rooms = (room_is copied, room_is appended_9, room_is all_free)
 
@@ -125,12 +125,12 @@ unfolding sights_from sight real_of in_range is_free leader_of leader_name is_re
 shown_names = (shown_list unread, shown_list no_leader)
 
 -- files without the system's, and of a directory no bytes
-seen_files : entries (view (read_pack in_d)).files
+seen_files : entries (view (read_as in_d)).files
     ≡ (ordinary_fid 4, record { leader = new_leader (codes "A.") 1000; bytes = Some (codes "ABCDE") })
     ∷ (directory_fid 3, record { leader = new_leader (codes "D.") 1000; bytes = None })
     ∷ []
 unfolding sights_from sight real_of in_range is_free leader_of leader_name is_readable is_stored_name first joined most_pages file_bytes slots_after slot_at is_entry keeps_system
-seen_files = seen_list (read_pack in_d) ∙ ap seen_by (read_list small (sights in_d))
+seen_files = seen_list (read_as in_d) ∙ ap seen_by (read_list small (sights in_d))
 
 -- ---- a file by its serial
 -- of several with this serial the one of least full name: an ordinary file before a directory, a lower version before a higher one

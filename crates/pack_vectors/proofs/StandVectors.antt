@@ -13,7 +13,7 @@ use Rattle.pack_model.specs.reading.Sights.{Sight, sight, sights_from}
 use Rattle.pack_model.specs.reading.Sights.Sight.{hidden, free, stray, leads, holds}
 use Rattle.pack_model.specs.reading.Files.{first, joined, most_pages, file_bytes, carries_page, place}
 use Rattle.pack_model.specs.reading.Slots.{slots_after, slot_at, is_entry}
-use Rattle.pack_model.specs.reading.Model.{read_sights, read_pack}
+use Rattle.pack_model.specs.reading.Model.{read_sights, read_as}
 use Rattle.pack_model.specs.states.InUse.{in_use, is_good}
 use Rattle.pack_model.specs.states.Sentences.{IsUsed, EachOnce, HasLastPage, WholeBySentences, IsWholeBySentences}
 use Rattle.pack_model.specs.states.Sound.{mark_of}
@@ -38,10 +38,10 @@ use Rattle.pack_vectors.proofs.SmallPacks.{made_6, made_7, file_3, formatted_pac
 mendable_fresh : Mendable formatted_pack
 mendable_fresh = record { scavengeable = scavengeable_fresh; clean_is_sound = λ clean. sound_fresh }
 
-operation_fresh : OperationCut (read_pack formatted_pack) formatted_pack
+operation_fresh : OperationCut (read_as formatted_pack) formatted_pack
 operation_fresh = record { views = refl; mendable = mendable_fresh }
 
-session_fresh : SessionCut (read_pack formatted_pack) formatted_pack
+session_fresh : SessionCut (read_as formatted_pack) formatted_pack
 session_fresh = record { shows = refl; mendable = mendable_fresh }
 
 -- ---- what a session keeps of DiskDescriptor: last serial 2, the clean mark, and its one data page in sector 4

@@ -17,7 +17,7 @@ use Rattle.pack_model.specs.reading.SlotWords.{SlotAt, slots_at}
 use Rattle.pack_model.specs.reading.Bodies.{items_in}
 use Rattle.pack_model.specs.reading.Namings.{sys_dir_name, descriptor_name}
 use Rattle.pack_model.specs.reading.Model.{IsNamed, read_sights, descriptor_words}
-use Rattle.pack_model.specs.states.InUse.{in_use, is_good, is_available, free_sectors}
+use Rattle.pack_model.specs.states.InUse.{in_use, is_good, is_available, free_sector_count}
 use Rattle.pack_model.specs.hints.Links.{HasLinks, IsTrueAddress}
 use Rattle.pack_model.specs.hints.Tables.{words_of_bits, HintsTrue}
 use Rattle.pack_model.specs.states.Whole.{WholeSights, TidySights}
@@ -123,7 +123,7 @@ table_true : take 3 (drop 16 (descriptor_words fresh)) ≡ words_of_bits 3 (map 
 unfolding first joined most_pages file_bytes slots_after slot_at is_entry is_stored_name
 table_true = sym (λ i. words_of_bits 3 (map (λ e. not (is_good e.1 && not (used_is small fresh e i))) (numbered 0 fresh)))
 
-free_true : word (descriptor_words fresh) 7 ≡ free_sectors fresh
+free_true : word (descriptor_words fresh) 7 ≡ free_sector_count fresh
 unfolding first joined most_pages file_bytes
 free_true = refl
 
@@ -134,5 +134,5 @@ hints_fresh = record {
     entries = subst (λ ss. (d : Fid) → lives ss d ≡ true → is_directory d ≡ true → addresses ss d) (sym formatted_sights) entry_hints;
   };
   table = subst (λ ss. take 3 (drop 16 (descriptor_words ss)) ≡ words_of_bits 3 (map (λ e. not (is_available small ss e)) (numbered 0 ss))) (sym formatted_sights) table_true;
-  free = subst (λ ss. word (descriptor_words ss) 7 ≡ free_sectors ss) (sym formatted_sights) free_true;
+  free = subst (λ ss. word (descriptor_words ss) 7 ≡ free_sector_count ss) (sym formatted_sights) free_true;
 }

@@ -13,8 +13,8 @@ abbrev pub below : (ℕ → Bool) → ℕ → List ℕ
 below test end = filter test (range_with_len 0 end)
 
 -- the free sectors of a pack
-abbrev pub free_sectors : Pack → List ℕ
-free_sectors p = below (is_free_at p) (pages_of p.shape)
+abbrev pub free_addresses : Pack → List ℕ
+free_addresses p = below (is_free_at p) (pages_of p.shape)
 
 -- the sectors that a table offers: it has them as free, and they can carry a page, as all but the first can
 abbrev pub is_offered : List Bool → ℕ → Bool

@@ -3,7 +3,7 @@ ghost use Rattle.std.specs.Prelude.{◌≡◌, ◌+◌, ◌<◌, ◌≤◌, cond
 ghost use Rattle.disk_records.specs.Addresses.{pages_of};
 ghost use Rattle.disk_records.specs.Packs.{is_free_at};
 ghost use Rattle.disk_records.specs.Tapes.{DiskAlone, Rose, pack, added};
-ghost use Rattle.page_alloc.specs.Free.{free_sectors};
+ghost use Rattle.page_alloc.specs.Free.{free_addresses};
 ghost use Rattle.page_alloc.specs.Inside.{Looked};
 
 use disk_records::{Disk, Sector, is_free_label};
@@ -39,7 +39,7 @@ pub fn count_free<D: Disk>(disk: &mut D, buf: &mut Sector) -> Result<u16, LookEr
     ensures alone { DiskAlone (D.tape disk.old) (D.tape disk.new) }
     ensures fault { IsErrOf result LookError.DiskFault → Rose (D.tape disk.old).disk_faults (D.tape disk.new).disk_faults }
     ensures silent { IsTrue D.told → added (D.tape disk.old) (D.tape disk.new) ≡ [] }
-    ensures counted { IsTrue D.told → IfOk result (λ free. free ≡ length (free_sectors (pack (D.tape disk.old)))) }
+    ensures counted { IsTrue D.told → IfOk result (λ free. free ≡ length (free_addresses (pack (D.tape disk.old)))) }
     ensures few { IfOk result (λ free. free < pages_of (D.tape disk.old).form) }
     ensures runs { IsTrue D.told → (D.tape disk.new).runs + 1 ≤ (D.tape disk.old).runs + pages_of (D.tape disk.old).form }
     ensures want { IsTrue D.told → IsErrOf result LookError.Memory → ⊥ }

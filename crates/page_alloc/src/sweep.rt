@@ -4,7 +4,7 @@ ghost use Rattle.disk_records.specs.Addresses.{pages_of};
 ghost use Rattle.disk_records.specs.Packs.{is_free_at};
 ghost use Rattle.disk_records.specs.Tapes.{pack};
 ghost use Rattle.hint_cache.specs.Bits.{busy_at};
-ghost use Rattle.page_alloc.specs.Free.{below, free_sectors, IsCorrected, IsRising};
+ghost use Rattle.page_alloc.specs.Free.{below, free_addresses, IsCorrected, IsRising};
 ghost use Rattle.page_alloc.specs.Inside.{Looked, IsFault, IsCheckedAt, AreChecked, is_left};
 
 use crate::AllocError;
@@ -69,8 +69,8 @@ pub(crate) fn sweep<D: Disk>(
     ensures corrected { IsTrue D.told → IsCorrected (pack (D.tape disk.old)) table.old table.new }
     ensures rising { IfOk result (λ swept. IsRising (pages_of (D.tape disk.old).form) swept.lowest.items) }
     ensures count { IfOk result (λ swept. length swept.lowest.items ≡ min wanted swept.free) }
-    ensures free { IsTrue D.told → IfOk result (λ swept. swept.free ≡ length (free_sectors (pack (D.tape disk.old)))) }
-    ensures lowest { IsTrue D.told → IfOk result (λ swept. swept.lowest.items ≡ take wanted (free_sectors (pack (D.tape disk.old)))) }
+    ensures free { IsTrue D.told → IfOk result (λ swept. swept.free ≡ length (free_addresses (pack (D.tape disk.old)))) }
+    ensures lowest { IsTrue D.told → IfOk result (λ swept. swept.lowest.items ≡ take wanted (free_addresses (pack (D.tape disk.old)))) }
 {
     let end = disk.shape().pages();
     let mut lowest = Vec::with_capacity(alloc, wanted.min(end) as usize)?;

@@ -4,7 +4,7 @@ ghost use Rattle.disk_records.specs.Addresses.{pages_of};
 ghost use Rattle.disk_records.specs.Packs.{is_free_at};
 ghost use Rattle.disk_records.specs.Tapes.{DiskAlone, Rose, pack, added};
 ghost use Rattle.hint_cache.specs.Bits.{busy_at};
-ghost use Rattle.page_alloc.specs.Free.{free_sectors, offered_sectors, offered_free, IsTrueTable, IsCorrected, IsCorrectedBut, IsRising, IfFull};
+ghost use Rattle.page_alloc.specs.Free.{free_addresses, offered_sectors, offered_free, IsTrueTable, IsCorrected, IsCorrectedBut, IsRising, IfFull};
 ghost use Rattle.page_alloc.specs.Inside.{Looked};
 
 use crate::AllocError;
@@ -31,9 +31,9 @@ fn find_free<D: Disk>(
     ensures count { IfOk result (λ found. length found.items ≡ wanted) }
     ensures full { IfFull result (λ needed free. (needed ≡ wanted) × (free < wanted)) }
     ensures free { IsTrue D.told → IfOk result (λ found. All (λ at. is_free_at (pack (D.tape disk.old)) at ≡ true) found.items) }
-    ensures few { IsTrue D.told → length (free_sectors (pack (D.tape disk.old))) < wanted → OnOk result ⊥ }
-    ensures counted { IsTrue D.told → IfFull result (λ needed free. free ≡ length (free_sectors (pack (D.tape disk.old)))) }
-    ensures lowest { IsTrue D.told → IsTrueTable (pack (D.tape disk.old)) table.old → IfOk result (λ found. found.items ≡ take wanted (free_sectors (pack (D.tape disk.old)))) }
+    ensures few { IsTrue D.told → length (free_addresses (pack (D.tape disk.old))) < wanted → OnOk result ⊥ }
+    ensures counted { IsTrue D.told → IfFull result (λ needed free. free ≡ length (free_addresses (pack (D.tape disk.old)))) }
+    ensures lowest { IsTrue D.told → IsTrueTable (pack (D.tape disk.old)) table.old → IfOk result (λ found. found.items ≡ take wanted (free_addresses (pack (D.tape disk.old)))) }
     ensures soon { IsTrue D.told → IsTrueTable (pack (D.tape disk.old)) table.old → OnOk result ((D.tape disk.new).runs ≤ (D.tape disk.old).runs + wanted) }
     ensures offered { IsTrue D.told → wanted ≤ length (offered_free (pack (D.tape disk.old)) table.old) → (D.tape disk.new).runs ≤ (D.tape disk.old).runs + length (offered_sectors table.old) }
 {
@@ -89,14 +89,14 @@ pub fn reserve<D: Disk>(
 
     // With a true table they are the lowest, each found at once. With any table whose offers are enough, there are no more sector
     // commands than offers.
-    ensures lowest { IsTrue D.told → IsTrueTable (pack (D.tape disk.old)) table.old → IfOk result (λ taken. taken.items ≡ take n (free_sectors (pack (D.tape disk.old)))) }
+    ensures lowest { IsTrue D.told → IsTrueTable (pack (D.tape disk.old)) table.old → IfOk result (λ taken. taken.items ≡ take n (free_addresses (pack (D.tape disk.old)))) }
     ensures soon { IsTrue D.told → IsTrueTable (pack (D.tape disk.old)) table.old → OnOk result ((D.tape disk.new).runs ≤ (D.tape disk.old).runs + n) }
     ensures offered { IsTrue D.told → n ≤ length (offered_free (pack (D.tape disk.old)) table.old) → (D.tape disk.new).runs ≤ (D.tape disk.old).runs + length (offered_sectors table.old) }
 
     // Full comes exactly where fewer are free, and has both numbers.
-    ensures few { IsTrue D.told → length (free_sectors (pack (D.tape disk.old))) < n → OnOk result ⊥ }
+    ensures few { IsTrue D.told → length (free_addresses (pack (D.tape disk.old))) < n → OnOk result ⊥ }
     ensures full { IfFull result (λ needed free. (needed ≡ n) × (free < n)) }
-    ensures counted { IsTrue D.told → IfFull result (λ needed free. free ≡ length (free_sectors (pack (D.tape disk.old)))) }
+    ensures counted { IsTrue D.told → IfFull result (λ needed free. free ≡ length (free_addresses (pack (D.tape disk.old)))) }
     ensures fault { IsErrOf result AllocError.DiskFault → Rose (D.tape disk.old).disk_faults (D.tape disk.new).disk_faults }
 
     // What else changes. With any table, and for every answer, there are fewer sector commands than sectors.

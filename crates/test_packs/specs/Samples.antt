@@ -22,9 +22,9 @@ free_sector at = record {
 }
 
 -- the first ones of these
-abbrev pub free_sectors : ℕ → List Sector
-free_sectors zero = []
-free_sectors (suc count) = free_sectors count ++ (free_sector count ∷ [])
+abbrev pub blank_sectors : ℕ → List Sector
+blank_sectors zero = []
+blank_sectors (suc count) = blank_sectors count ++ (free_sector count ∷ [])
 
 -- the sectors with a page on one of them, and with each of these pages in turn
 abbrev pub placed_on : Placed → List Sector → List Sector

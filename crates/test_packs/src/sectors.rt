@@ -1,6 +1,6 @@
 // The sectors of a pack of two cylinders, and pages placed on them.
 ghost use Rattle.std.specs.Prelude.{◌≡◌, IfOk};
-ghost use Rattle.test_packs.specs.Samples.{free_sectors, placed_all, placed_on, value_of};
+ghost use Rattle.test_packs.specs.Samples.{blank_sectors, placed_all, placed_on, value_of};
 
 use crate::machines::small_shape;
 use disk_records::Sector;
@@ -57,7 +57,7 @@ pub fn set_page(sectors: &mut [Sector], page: &Placed)
 #[tactic(auto, unfolding(disk_records::specs::Addresses::real_of))]
 /// The 48 sectors of two cylinders, all free: right headers with the pack number 1, and ones in labels and values.
 fn free_sectors(alloc: Global) -> Result<Vec<Sector>, AllocError>
-    ensures { IfOk result (λ sectors. sectors.items ≡ free_sectors 48) }
+    ensures { IfOk result (λ sectors. sectors.items ≡ blank_sectors 48) }
 {
     let shape = small_shape();
     let mut sectors = Vec::new(alloc);
@@ -74,7 +74,7 @@ fn free_sectors(alloc: Global) -> Result<Vec<Sector>, AllocError>
 /// The 48 sectors of two cylinders, in order of their virtual addresses: these pages, placed in turn, and free sectors with ones
 /// in their values. Memory: none was left for them.
 pub fn sectors_of(alloc: Global, placed: &[Placed]) -> Result<Vec<Sector>, AllocError>
-    ensures { IfOk result (λ sectors. sectors.items ≡ placed_all placed.now (free_sectors 48)) }
+    ensures { IfOk result (λ sectors. sectors.items ≡ placed_all placed.now (blank_sectors 48)) }
 {
     let mut sectors = free_sectors(alloc)?;
     for page in placed {

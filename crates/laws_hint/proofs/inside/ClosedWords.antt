@@ -16,7 +16,7 @@ use Rattle.pack_model.specs.reading.Sights.{sights}
 use Rattle.pack_model.specs.reading.Sights.Sight.{hidden, holds}
 use Rattle.pack_model.specs.states.Sound.{mark_clean}
 use Rattle.pack_model.specs.hints.Tables.{words_of_bits}
-use Rattle.pack_model.specs.states.Whole.{Carries, IsSeat, PageAt, Seated, Whole}
+use Rattle.pack_model.specs.states.Whole.{HasPages, IsSeat, PageAt, Seated, Whole}
 use Rattle.laws_record.proofs.DirReads.{has_leader}
 use Rattle.laws_record.proofs.Seats.{seat_once}
 use Rattle.laws_operation.proofs.Changing.{headed}
@@ -38,7 +38,7 @@ text_many shape last mark busy = let map = words_many (table_words shape) busy i
 
 module _ (q : Pack) (w : Whole q) (last : ℕ) (busy : List Bool) (values : (k at : ℕ) → k < data_pages q.shape → place (sights q) disk_descriptor (suc k) ≡ Some at → (sector_at q at).value ≡ descriptor_value q.shape last mark_clean busy k) where
   -- a page that is carried has its value
-  one_shown : (pages : List PageAt) → Carries (sights q) disk_descriptor pages 0 [] → (c : PageAt) (k : ℕ) → k < data_pages q.shape → get_or (sights q) c.0 hidden ≡ holds disk_descriptor k c.1
+  one_shown : (pages : List PageAt) → HasPages (sights q) disk_descriptor pages 0 [] → (c : PageAt) (k : ℕ) → k < data_pages q.shape → get_or (sights q) c.0 hidden ≡ holds disk_descriptor k c.1
       → (count : ℕ) × (c.1 ≡ take count (bytes_of (descriptor_value q.shape last mark_clean busy k)))
   one_shown pages carries c k low is =
       let seat : (j : ℕ) (d : List ℕ) → get_or (sights q) j hidden ≡ holds disk_descriptor k d → IsSeat 0 pages k j = λ j d x. elim (carries.only j k d x) [ inl s ↦ s | inr s ↦ absurd s ] in
@@ -47,7 +47,7 @@ module _ (q : Pack) (w : Whole q) (last : ℕ) (busy : List Bool) (values : (k a
       (count, old_counted q disk_descriptor k c.0 c.1 is ∙ ap (λ v. take count (bytes_of v)) (values k c.0 low here))
 
   -- and so have pages in a row
-  all_shown : (pages : List PageAt) → Carries (sights q) disk_descriptor pages 0 [] → (cs : List PageAt) (k : ℕ) → k + length cs ≤ data_pages q.shape → Seated (sights q) disk_descriptor k cs
+  all_shown : (pages : List PageAt) → HasPages (sights q) disk_descriptor pages 0 [] → (cs : List PageAt) (k : ℕ) → k + length cs ≤ data_pages q.shape → Seated (sights q) disk_descriptor k cs
       → Shows (descriptor_text q.shape last mark_clean busy) k cs
   all_shown pages carries [] k few seated = tt
   all_shown pages carries (c ∷ cs) k few seated = (one_shown pages carries c k (omega arith) seated.0, all_shown pages carries cs (suc k) (omega arith) seated.1)

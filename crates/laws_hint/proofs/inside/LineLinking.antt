@@ -8,7 +8,7 @@ use Rattle.pack_model.specs.operations.Committing.{moves_of_all}
 use Rattle.pack_model.specs.sessions.Descriptor.{serial_writes}
 use Rattle.pack_model.specs.reading.Files.{place}
 use Rattle.pack_model.specs.hints.Links.{LinksTrue}
-use Rattle.pack_model.specs.reading.Model.{read_pack}
+use Rattle.pack_model.specs.reading.Model.{read_as}
 use Rattle.pack_model.specs.scavenger.Scavenging.{Unmarked}
 use Rattle.pack_model.specs.reading.Sights.{sights}
 use Rattle.pack_model.specs.operations.Step.{Operation}
@@ -16,7 +16,7 @@ use Rattle.pack_model.specs.operations.Step.Operation.{drop_file}
 use Rattle.pack_model.specs.states.Whole.{Tidy, Whole}
 use Rattle.laws_operation.specs.DescriptorLaws.{KeepsSound}
 use Rattle.laws_operation.specs.LinkLaws.{KeepsLinks}
-use Rattle.laws_line.specs.CutLaws.{Line, LineStays, does, makes, over, with_serial}
+use Rattle.laws_line.specs.CutLaws.{Batch, LineStays, does, makes, over, with_serial}
 use Rattle.laws_hint.proofs.inside.ClosedHints.{closing_leaves_hints_true}
 use Rattle.laws_hint.specs.LineLinks.{EachKeepsLinks, LineClosesWithTrueHints, LineKeepsLinks, LinksJoin, OpenedLineKeepsLinks, opening_writes}
 use Rattle.laws_line.proofs.cuts.Laws.{crashes_of_an_unmarked_line, open_pack_is_unmarked}
@@ -29,7 +29,7 @@ pub links_join : LinksJoin
 links_join p a b first then links = subst LinksTrue (sym (after-append p a b)) (then (first links))
 
 -- along a line
-along : {p : Pack} {events : List Event} {ops : List Operation} (line : Line p events ops) → Whole p → Tidy p → EachKeepsLinks line → KeepsLinks p events
+along : {p : Pack} {events : List Event} {ops : List Operation} (line : Batch p events ops) → Whole p → Tidy p → EachKeepsLinks line → KeepsLinks p events
 along over w t each = λ links. links
 along (does {p = p} {events = events} {later = later} other s line) w t each = links_join p events later each.0 (along line s.whole s.tidy each.1)
 along (makes {p = p} {at = at} {last = last} {events = events} {later = later} placed above s line) w t each =
@@ -54,8 +54,8 @@ opened_line_keeps_links p at events ops line w t placed each =
     links_join p (opening_writes p at) events (open_keeps_links p at w t placed) (along line h.0.whole h.0.tidy each)
 
 -- what the line leaves
-stays : (p : Pack) (at : ℕ) (events : List Event) (ops : List Operation) → Line (after p (opening_writes p at)) events ops → Whole p → Tidy p → place (sights p) disk_descriptor 1 ≡ Some at
-    → LineStays (after p (opening_writes p at)) events ops (moves_of_all (read_pack (after p (opening_writes p at))) ops)
+stays : (p : Pack) (at : ℕ) (events : List Event) (ops : List Operation) → Batch (after p (opening_writes p at)) events ops → Whole p → Tidy p → place (sights p) disk_descriptor 1 ≡ Some at
+    → LineStays (after p (opening_writes p at)) events ops (moves_of_all (read_as (after p (opening_writes p at))) ops)
 stays p at events ops line w t placed = let h = opened p at w t placed in crashes_of_an_unmarked_line (after p (opening_writes p at)) events ops h.0.whole h.0.tidy h.1 line
 
 -- and closing behind it

@@ -20,7 +20,7 @@ use Rattle.pack_model.specs.sessions.Descriptor.{close_writes, closed_values, op
 use Rattle.pack_model.specs.operations.Entering.{EntryRoom, entry_value, values_first}
 use Rattle.pack_model.specs.reading.Files.{file_bytes, place}
 use Rattle.pack_model.specs.states.InUse.{is_free_sight}
-use Rattle.pack_model.specs.reading.Model.{good_one, read_pack}
+use Rattle.pack_model.specs.reading.Model.{good_one, read_as}
 use Rattle.pack_model.specs.operations.Operations.{cut_writes, enter_writes, go_writes, grow_writes}
 use Rattle.pack_model.specs.reading.Sights.{Sight, sights}
 use Rattle.pack_model.specs.operations.PageWords.{freed_value, page_number}
@@ -169,7 +169,7 @@ descriptor_writes_leave_the_map p w t = record {
       (unless_free p w t (mark_of (sights p) == mark_open) ((at, opened_value (sector_at p at).value) ∷ []));
   serials = λ at last placed above. leaves p w t (serial_writes at last (sector_at p at).value) (serial_carries_out p at last w t placed above).keeps.whole (value_bit p at (serial_value last (sector_at p at).value));
   closes = λ busy pages h.
-      let events : List Event = close_writes (mark_of (sights p)) p.shape (read_pack p).last busy pages in
+      let events : List Event = close_writes (mark_of (sights p)) p.shape (read_as p).last busy pages in
       leaves p w t events (at_end (KeepsSound p) p events (close_carries_out p busy pages w t h).keeps).whole
-      (unless_free p w t (mark_of (sights p) == mark_clean) (reverse (closed_values p.shape (read_pack p).last busy 0 pages)));
+      (unless_free p w t (mark_of (sights p) == mark_clean) (reverse (closed_values p.shape (read_as p).last busy 0 pages)));
 }

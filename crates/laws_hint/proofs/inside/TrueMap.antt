@@ -8,7 +8,7 @@ use Rattle.disk_records.specs.declared.records.Sector.{Sector}
 use Rattle.disk_records.specs.declared.shape.Shape.{Shape}
 use Rattle.pack_model.specs.operations.Commands.{values_writes}
 use Rattle.pack_model.specs.reading.Files.{numbered}
-use Rattle.pack_model.specs.states.InUse.{free_sectors, how_many, is_available, is_free_sight, one_if}
+use Rattle.pack_model.specs.states.InUse.{free_sector_count, how_many, is_available, is_free_sight, one_if}
 use Rattle.pack_model.specs.reading.Sights.{Sight, page_sight, sight, sights, sights_from}
 use Rattle.pack_model.specs.reading.Sights.Sight.{free, hidden, stray}
 use Rattle.pack_model.specs.hints.Tables.{free_table, true_table}
@@ -71,5 +71,5 @@ free_many (s ∷ ss) = λ i. one_if (twice (is_free_sight s) i) + free_many ss i
     twice false = refl
 
 -- so they are in the true map of a whole pack
-pub true_many : (p : Pack) → Whole p → how_many not (true_table p) ≡ free_sectors (sights p)
+pub true_many : (p : Pack) → Whole p → how_many not (true_table p) ≡ free_sector_count (sights p)
 true_many p w = ap (how_many not) (true_is_free p w) ∙ free_many (sights p)

@@ -20,7 +20,7 @@ use Rattle.pack_model.specs.scavenger.Mended.{HasRoom, needs, widens}
 use Rattle.pack_model.specs.reading.Model.{Model, descriptor_pages, files_pages, room}
 use Rattle.pack_model.specs.operations.Rooms.{placed}
 use Rattle.pack_model.specs.reading.Slots.Item.{entry, space}
-use Rattle.pack_model.specs.operations.Step.{Operation, new_file, new_leader, room_in, step}
+use Rattle.pack_model.specs.operations.Step.{Operation, new_file, new_leader, room_widening, step}
 use Rattle.pack_model.specs.operations.Step.Operation.{enter, leave, make, title}
 
 -- ---- a file is made
@@ -30,7 +30,7 @@ full shape = record { shape = shape; good = 4 + descriptor_pages shape; last = 2
 
 -- the line that makes a file without its first part
 abbrev pub made_at_once : Shape → List Operation
-made_at_once shape = room_in (full shape) sys_dir long_name ++ make file_3 long_name 0 ∷ enter sys_dir long_name file_3 ∷ []
+made_at_once shape = room_widening (full shape) sys_dir long_name ++ make file_3 long_name 0 ∷ enter sys_dir long_name file_3 ∷ []
 
 -- The model is settled, the line has its pages, and behind the making there is no room.
 pub make_without_spare : (shape : Shape) → Settled (full shape) × (pages_for_operations (full shape) (made_at_once shape) ≤ room (full shape)) × (HasRoom (step (full shape) (make file_3 long_name 0)) → ⊥)
@@ -57,7 +57,7 @@ abbrev pub filled : Shape → Model
 filled shape = record { shape = shape; good = 4 + descriptor_pages shape; last = 3; files = from_entries filled_list }
 
 abbrev pub renamed_at_once : Shape → List Operation
-renamed_at_once shape = room_in (filled shape) sys_dir long_name ++ title file_3 long_name ∷ leave sys_dir (codes "A.") ∷ enter sys_dir long_name file_3 ∷ []
+renamed_at_once shape = room_widening (filled shape) sys_dir long_name ++ title file_3 long_name ∷ leave sys_dir (codes "A.") ∷ enter sys_dir long_name file_3 ∷ []
 
 -- the models behind the title and the entry that goes
 abbrev pub titled : Shape → Model

@@ -15,7 +15,7 @@ use Rattle.pack_model.specs.reading.Bodies.Body.{data_of, items_of}
 use Rattle.pack_model.specs.reading.Bytes.{words_of}
 use Rattle.pack_model.specs.reading.Files.{file_bytes, leader, lives}
 use Rattle.pack_model.specs.reading.Leaders.{Leader}
-use Rattle.pack_model.specs.reading.Model.{read_pack, read_sights}
+use Rattle.pack_model.specs.reading.Model.{read_as, read_sights}
 use Rattle.pack_model.specs.reading.Namings.{Naming, body_kept, is_kept, items_kept}
 use Rattle.pack_model.specs.reading.Sights.{Sight, sights}
 use Rattle.pack_model.specs.reading.Slots.{Item, slots}
@@ -61,7 +61,7 @@ module _ (p : Pack) (d : Fid) (kind : is_directory d ≡ true) where
   left x e = slots_kept (is_kept (lives shown)) d (after_files (is_kept (lives shown)) [] (around fid_total fid_same (described shown) d x e).front) x.body (found_slots shown d kind x e)
 
   -- so it is in the model
-  directory : (r : Option File) → get (described shown) d ≡ r → (t : Option File) → get (read_pack p).files d ≡ t → is_some t ≡ true → IsDirectory (read_pack p) d
+  directory : (r : Option File) → get (described shown) d ≡ r → (t : Option File) → get (read_as p).files d ≡ t → is_some t ≡ true → IsDirectory (read_as p) d
   unfolding read_sights
   directory r e None q there = absurd cc
   directory None e (Some y) q there = absurd (let n : Some (seen_of d y) ≡ None = ap (option_map (seen_of d)) (sym q) ∙ get-seen (lives shown) (described shown) d ∙ ap (option_map (seen_of d)) e in cc)
@@ -70,4 +70,4 @@ module _ (p : Pack) (d : Fid) (kind : is_directory d ≡ true) where
       record { lead = x.leader; slots = s.items; there = tidied_file (lives shown) (described shown) d x e ∙ ap (λ b. Some (record { leader = x.leader; body = b })) s.is; short = s.short }
 
 pub directories_are_read : DirectoriesAreRead
-directories_are_read p d kind there = directory p d kind (get (described (sights p)) d) refl (get (read_pack p).files d) refl there
+directories_are_read p d kind there = directory p d kind (get (described (sights p)) d) refl (get (read_as p).files d) refl there

@@ -12,7 +12,7 @@ use Rattle.laws_line.specs.Ready.{ReadyThroughout, Settled, steps_of}
 use Rattle.pack_model.specs.reading.Model.{Model, dir_items, root_items}
 use Rattle.pack_model.specs.operations.Rooms.{largest_run}
 use Rattle.pack_model.specs.reading.Slots.{entry_length}
-use Rattle.pack_model.specs.operations.Step.{Operation, longest_entry, room_in, spare, step}
+use Rattle.pack_model.specs.operations.Step.{Operation, longest_entry, room_widening, spare_widening, step}
 use Rattle.pack_model.specs.operations.Step.Operation.{enter, leave, title, widen}
 
 -- the entry is still there where a directory gets a page, or none
@@ -33,8 +33,8 @@ module _ (m : Model) (d : Fid) (old : List ℕ) (to : Fid) (name : List ℕ) (f 
 
   -- the entry behind the front of the line
   enters_behind : EntersIn d old f (dir_items (behind m to name s) d)
-  enters_behind = subst (λ n. EntersIn d old f (dir_items n d)) (sym (steps_both m (spare m) (room_in m to name)))
-      (enters_page (steps_of m (spare m)) d to old f (is_fid to sys_dir || nat_le (entry_length (length name)) (largest_run (dir_items m to)))
+  enters_behind = subst (λ n. EntersIn d old f (dir_items n d)) (sym (steps_both m (spare_widening m) (room_widening m to name)))
+      (enters_page (steps_of m (spare_widening m)) d to old f (is_fid to sys_dir || nat_le (entry_length (length name)) (largest_run (dir_items m to)))
       (enters_page m d sys_dir old f (nat_le longest_entry (largest_run (root_items m))) (enters_in m d old f h)))
 
   -- behind the title, and behind the entry that goes, the file alone may have no name

@@ -19,7 +19,7 @@ use Rattle.pack_model.specs.reading.Model.{IsNamed, Model, dir_items, root_items
 use Rattle.pack_model.specs.operations.Rooms.{items_entered, largest_run, placed}
 use Rattle.pack_model.specs.reading.Slots.{Item, entry_length}
 use Rattle.pack_model.specs.reading.Slots.Item.{entry}
-use Rattle.pack_model.specs.operations.Step.{longest_entry, on_items, room_in, spare, step}
+use Rattle.pack_model.specs.operations.Step.{longest_entry, on_items, room_widening, spare_widening, step}
 use Rattle.pack_model.specs.operations.Step.Operation.{enter, widen}
 
 -- ---- the front of a line
@@ -28,8 +28,8 @@ module _ (m : Model) (d : Fid) (name : List ℕ) (s : Settled m) (short : length
   words = entry_length (length name)
 
   -- a page more for the directory
-  with_page : Roomy words (step (steps_of m (spare m)) (widen d)) d
-  with_page = roomy_widened 0 words (steps_of m (spare m)) d (omega arith) (roomy_steps 0 m (spare m) d (page_leaves m sys_dir (nat_le longest_entry (largest_run (root_items m)))) h)
+  with_page : Roomy words (step (steps_of m (spare_widening m)) (widen d)) d
+  with_page = roomy_widened 0 words (steps_of m (spare_widening m)) d (omega arith) (roomy_steps 0 m (spare_widening m) d (page_leaves m sys_dir (nat_le longest_entry (largest_run (root_items m)))) h)
 
   -- the words for the entry are free in a row behind it
   pub roomy_behind : Roomy words (behind m d name s) d
@@ -42,8 +42,8 @@ module _ (m : Model) (d : Fid) (name : List ℕ) (s : Settled m) (short : length
           roomy_more 0 words (behind m d name s) d (roomy_steps 0 m (front m d name s) d (leaves_front m d name s) h) (omega arith)
       by false e true k = roomy_steps words m (front m d name s) d (leaves_front m d name s) (roomy_more 0 words m d h (leb-true words (largest_run (dir_items m d)) k))
       by false e false k =
-          subst (λ n. Roomy words n d) (sym (steps_both m (spare m) (room_in m d name)))
-          (subst (λ t. Roomy words (steps_of (steps_of m (spare m)) (cond t [] (widen d ∷ []))) d) (sym (ap (λ b. b || nat_le words (largest_run (dir_items m d))) e ∙ k)) with_page)
+          subst (λ n. Roomy words n d) (sym (steps_both m (spare_widening m) (room_widening m d name)))
+          (subst (λ t. Roomy words (steps_of (steps_of m (spare_widening m)) (cond t [] (widen d ∷ []))) d) (sym (ap (λ b. b || nat_le words (largest_run (dir_items m d))) e ∙ k)) with_page)
 
 -- ---- the entering
 module _ (n : Model) (d : Fid) (name : List ℕ) (f : Fid) (short : length name ≤ 39) (h : Roomy (entry_length (length name)) n d) where

@@ -24,7 +24,7 @@ use Rattle.pack_model.specs.reading.Bodies.Body.{items_of}
 use Rattle.pack_model.specs.reading.Bytes.{words_of}
 use Rattle.pack_model.specs.reading.Files.{file_bytes, leader, lives}
 use Rattle.pack_model.specs.reading.Leaders.{Leader, is_readable, leader_name, leader_of, leader_words, name_bytes, spelled_name}
-use Rattle.pack_model.specs.reading.Model.{read_pack, read_sights}
+use Rattle.pack_model.specs.reading.Model.{read_as, read_sights}
 use Rattle.pack_model.specs.reading.Namings.{Naming, is_kept, items_kept, kept_by}
 use Rattle.pack_model.specs.reading.Sights.{Sight, page_sight, sight, sights}
 use Rattle.pack_model.specs.reading.Sights.Sight.{free, hidden, leads, stray}
@@ -103,7 +103,7 @@ module _ (p : Pack) (s : Sound p) where
       subst (λ k. length k.name ≤ 39) same (leader_fits p.shape q.0 (sector_at p q.0) g here.lead (sym (sights-get p q.0 hidden within) ∙ h.leads_it.shows))
 
   -- a file of the model has its leader
-  model_leader : (g : Fid) (x : File) → get (read_pack p).files g ≡ Some x → leader ss g ≡ Some x.leader
+  model_leader : (g : Fid) (x : File) → get (read_as p).files g ≡ Some x → leader ss g ≡ Some x.leader
   unfolding read_sights
   model_leader g x is = by (is_described g) (leader ss g) refl (ap (option_map (seen_of g)) (sym is) ∙ get-seen (lives ss) (described ss) g ∙ ap (option_map (seen_of g)) (get-where (found ss) is_described g ∙ ap (λ r. cond (is_described g) r None) (get-found ss g)))
     where
@@ -115,7 +115,7 @@ module _ (p : Pack) (s : Sound p) where
           e ∙ ap (λ s. Some s.leader) (sym same)
 
   -- so it lives
-  model_lives : (g : Fid) (r : Option File) → get (read_pack p).files g ≡ r → is_some r ≡ true → lives ss g ≡ true
+  model_lives : (g : Fid) (r : Option File) → get (read_as p).files g ≡ r → is_some r ≡ true → lives ss g ≡ true
   model_lives g None e t = cc
   model_lives g (Some x) e t = ap is_some (model_leader g x e)
 
@@ -133,7 +133,7 @@ module _ (p : Pack) (s : Sound p) where
   abbrev items : List Item
   items = body_items (body_left (lives ss) (described ss) sys_dir root here)
 
-  root_is : get (read_pack p).files sys_dir ≡ Some (record { leader = lead.0; body = items_of items })
+  root_is : get (read_as p).files sys_dir ≡ Some (record { leader = lead.0; body = items_of items })
   unfolding read_sights
   root_is = tidied_file (lives ss) (described ss) sys_dir root here
 
@@ -141,7 +141,7 @@ module _ (p : Pack) (s : Sound p) where
   items_short = kept_short (is_kept (lives ss)) sys_dir _ (slots (words_of (file_bytes ss sys_dir))) (slots_short (slots (words_of (file_bytes ss sys_dir))) (words_of (file_bytes ss sys_dir)) refl)
 
   -- together
-  settled : Settled (read_pack p)
+  settled : Settled (read_as p)
   unfolding read_sights
   settled =
       let pages = (free_is_the_room p s.whole).pages in
@@ -154,7 +154,7 @@ module _ (p : Pack) (s : Sound p) where
         root = (lead.0, items, root_is);
         main = s.whole.root_named;
         descriptor = s.whole.descriptor_named;
-        all = λ g there. s.named g (model_lives g (get (read_pack p).files g) refl there);
+        all = λ g there. s.named g (model_lives g (get (read_as p).files g) refl there);
       }
 
 pub sound_is_settled : SoundIsSettled

@@ -16,7 +16,7 @@ use Rattle.pack_model.specs.reading.Model.{Model, dir_items, root_items, room}
 use Rattle.pack_model.specs.operations.Rooms.{largest_run}
 use Rattle.pack_model.specs.reading.Slots.{Item, entry_length}
 use Rattle.pack_model.specs.reading.Slots.Item.{space}
-use Rattle.pack_model.specs.operations.Step.{Operation, longest_entry, on_items, room_in, spare, step}
+use Rattle.pack_model.specs.operations.Step.{Operation, longest_entry, on_items, room_widening, spare_widening, step}
 use Rattle.pack_model.specs.operations.Step.Operation.{widen}
 
 -- Each file but this one has a name, and SysDir has a run of free words for it.
@@ -48,7 +48,7 @@ leave_both m [] b h k = k
 leave_both m (o ∷ a) b h k = (h.0, leave_both (step m o) a b h.1 k)
 
 -- SysDir has a run of free words for the longest entry
-run_there : (m : Model) → Settled m → longest_entry ≤ largest_run (root_items (steps_of m (spare m)))
+run_there : (m : Model) → Settled m → longest_entry ≤ largest_run (root_items (steps_of m (spare_widening m)))
 run_there m s = by (nat_le longest_entry (largest_run (root_items m))) refl
   where
     by : (b : Bool) → nat_le longest_entry (largest_run (root_items m)) ≡ b → longest_entry ≤ largest_run (root_items (steps_of m (cond b [] (widen sys_dir ∷ []))))
@@ -64,16 +64,16 @@ run_there m s = by (nat_le longest_entry (largest_run (root_items m))) refl
 module _ (m : Model) (d : Fid) (name : List ℕ) (s : Settled m) where
   -- the pages that directories get, and the model behind them
   abbrev pub front : List Operation
-  front = spare m ++ room_in m d name
+  front = spare_widening m ++ room_widening m d name
 
   abbrev pub behind : Model
   behind = steps_of m front
 
-  pub leaves_second : LeaveNames (steps_of m (spare m)) (room_in m d name)
-  leaves_second = page_leaves (steps_of m (spare m)) d (is_fid d sys_dir || nat_le (entry_length (length name)) (largest_run (dir_items m d)))
+  pub leaves_second : LeaveNames (steps_of m (spare_widening m)) (room_widening m d name)
+  leaves_second = page_leaves (steps_of m (spare_widening m)) d (is_fid d sys_dir || nat_le (entry_length (length name)) (largest_run (dir_items m d)))
 
   pub leaves_front : LeaveNames m front
-  leaves_front = leave_both m (spare m) (room_in m d name) (page_leaves m sys_dir (nat_le longest_entry (largest_run (root_items m)))) leaves_second
+  leaves_front = leave_both m (spare_widening m) (room_widening m d name) (page_leaves m sys_dir (nat_le longest_entry (largest_run (root_items m)))) leaves_second
 
   keeps_front : Keeps m behind (pages_for_operations m front)
   keeps_front = keeps_all m front leaves_front
@@ -85,9 +85,9 @@ module _ (m : Model) (d : Fid) (name : List ℕ) (s : Settled m) where
   -- SysDir keeps its run
   pub run_behind : longest_entry ≤ largest_run (root_items behind)
   run_behind =
-      let r = (keeps_all (steps_of m (spare m)) (room_in m d name) leaves_second).row in
+      let r = (keeps_all (steps_of m (spare_widening m)) (room_widening m d name) leaves_second).row in
       let h = run_there m s in
-      let e = ap (λ n. largest_run (root_items n)) (steps_both m (spare m) (room_in m d name)) in
+      let e = ap (λ n. largest_run (root_items n)) (steps_both m (spare_widening m) (room_widening m d name)) in
       omega arith
 
   -- What the rest of the line finds.

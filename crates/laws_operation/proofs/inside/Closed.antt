@@ -12,7 +12,7 @@ use Rattle.disk_records.specs.declared.shape.Shape.{Shape}
 use Rattle.pack_model.specs.reading.Bytes.{bytes_of, words_of}
 use Rattle.pack_model.specs.sessions.Descriptor.{descriptor_text, descriptor_value}
 use Rattle.pack_model.specs.reading.Files.{file_bytes, lives, place}
-use Rattle.pack_model.specs.reading.Model.{descriptor_words, is_named, last_serial, read_pack, read_sights}
+use Rattle.pack_model.specs.reading.Model.{descriptor_words, is_named, last_serial, read_as, read_sights}
 use Rattle.pack_model.specs.operations.PageWords.{filled}
 use Rattle.pack_model.specs.reading.Sights.{Sight, sights}
 use Rattle.pack_model.specs.reading.Sights.Sight.{holds}
@@ -58,14 +58,14 @@ none_before (c ∷ front) at x later n = absurd (omega (arith, n))
 
 -- What the last record write leaves.
 pub record Marks (p q : Pack) : Type 0 where
-  pub read : read_pack q ≡ read_pack p
+  pub read : read_as q ≡ read_as p
   pub keeps : KeepsSound p q
   pub marked : mark_of (sights q) ≡ mark_clean
 
 -- so it is
-pub first_page : (p : Pack) → Whole p → Tidy p → (at : ℕ) (busy : List Bool) → place (sights p) disk_descriptor 1 ≡ Some at → length (sector_at p at).value ≡ 256 → Marks p (after p (value_writes at (descriptor_value p.shape (read_pack p).last mark_clean busy 0)))
+pub first_page : (p : Pack) → Whole p → Tidy p → (at : ℕ) (busy : List Bool) → place (sights p) disk_descriptor 1 ≡ Some at → length (sector_at p at).value ≡ 256 → Marks p (after p (value_writes at (descriptor_value p.shape (read_as p).last mark_clean busy 0)))
 first_page p w t at busy sector was =
-    let last : ℕ = (read_pack p).last in
+    let last : ℕ = (read_as p).last in
     let value : List ℕ = descriptor_value p.shape last mark_clean busy 0 in
     let size : length value ≡ 256 = close_value_size p.shape last mark_clean busy 0 in
     let q : Pack = after p (value_writes at value) in
@@ -88,7 +88,7 @@ first_page p w t at busy sector was =
     let says : SaysShape p.shape (descriptor_words us) = record { disks = words 0 (omega arith); cylinders = words 1 (omega arith); heads = words 2 (omega arith); sectors = words 3 (omega arith); table = words 8 (omega arith) } in
     let whole : Whole q = subst (WholeSights p.shape) (sym o.sights_are) (descriptor_whole p.shape (sights p) us pl.lead _ _ o.change w says total (omega (arith, serial))) in
     let tidy : Tidy q = subst TidySights (sym o.sights_are) (descriptor_tidy p.shape (sights p) us pl.lead _ _ o.change t) in
-    let read : read_pack q ≡ read_pack p = ap (read_sights p.shape) o.sights_are ∙ descriptor_reads p.shape (sights p) us pl.lead _ _ o.change ∙ ap (λ n. record (read_pack p) { last = n }) serial in
+    let read : read_as q ≡ read_as p = ap (read_sights p.shape) o.sights_are ∙ descriptor_reads p.shape (sights p) us pl.lead _ _ o.change ∙ ap (λ n. record (read_as p) { last = n }) serial in
     let live : lives (sights q) ≡ lives (sights p) = ap lives o.sights_are ∙ lives_still p.shape (sights p) us pl.lead _ _ o.change in
     record {
       read = read;

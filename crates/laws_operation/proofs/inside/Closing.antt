@@ -10,7 +10,7 @@ use Rattle.disk_records.specs.Packs.{Pack, after, no_sector, sector_at, with_par
 use Rattle.disk_records.specs.Words.{word}
 use Rattle.pack_model.specs.reading.Bytes.{bytes_of, words_of}
 use Rattle.pack_model.specs.reading.Files.{file_bytes, lives, place}
-use Rattle.pack_model.specs.reading.Model.{descriptor_words, is_named, last_serial, read_pack, read_sights}
+use Rattle.pack_model.specs.reading.Model.{descriptor_words, is_named, last_serial, read_as, read_sights}
 use Rattle.pack_model.specs.reading.Sights.{Sight, sights}
 use Rattle.pack_model.specs.reading.Sights.Sight.{holds}
 use Rattle.pack_model.specs.states.Whole.{PageAt, SaysShape, Tidy, TidySights, Whole, WholeSights}
@@ -29,7 +29,7 @@ use Rattle.pack_laws.proofs.Guarding.{here_written, other_kept}
 -- What is read, what is whole and sound, the words before the map, and how long the values are.
 pub record Mid (p q : Pack) : Type 0 where
   pub shape : q.shape ≡ p.shape
-  pub read : read_pack q ≡ read_pack p
+  pub read : read_as q ≡ read_as p
   pub keeps : KeepsSound p q
   pub words : (j : ℕ) → j < 9 → word (descriptor_words (sights q)) j ≡ word (descriptor_words (sights p)) j
   pub sized : (i : ℕ) → length (sector_at p i).value ≡ 256 → length (sector_at q i).value ≡ 256
@@ -121,7 +121,7 @@ later_page p w t k at value sector was size =
     let x = last_read p in
     let whole : Whole q = subst (WholeSights p.shape) (sym o.sights_are) (descriptor_whole p.shape (sights p) us pl.lead _ _ o.change w says total (omega (arith, x, serial))) in
     let tidy : Tidy q = subst TidySights (sym o.sights_are) (descriptor_tidy p.shape (sights p) us pl.lead _ _ o.change t) in
-    let read : read_pack q ≡ read_pack p = ap (read_sights p.shape) o.sights_are ∙ descriptor_reads p.shape (sights p) us pl.lead _ _ o.change ∙ ap (λ n. record (read_pack p) { last = n }) (serial ∙ sym x) in
+    let read : read_as q ≡ read_as p = ap (read_sights p.shape) o.sights_are ∙ descriptor_reads p.shape (sights p) us pl.lead _ _ o.change ∙ ap (λ n. record (read_as p) { last = n }) (serial ∙ sym x) in
     let live : lives (sights q) ≡ lives (sights p) = ap lives o.sights_are ∙ lives_still p.shape (sights p) us pl.lead _ _ o.change in
     record {
       shape = refl;

@@ -3,13 +3,13 @@ use Rattle.std.proofs.Common.{Bool, List, Some, [], ap, cond, false, refl, rever
 use Rattle.std.specs.Prelude.{◌==◌}
 use mathlib.Core.List.{reverse-cons}
 use Rattle.alto_words.specs.Fid.{disk_descriptor}
-use Rattle.disk_records.specs.Packs.{Pack, after, cut, sector_at}
+use Rattle.disk_records.specs.Packs.{Pack, after, crash, sector_at}
 use Rattle.disk_records.specs.declared.records.Event.TheVariants.{Wrote}
 use Rattle.pack_model.specs.operations.Commands.{values_writes}
 use Rattle.pack_model.specs.sessions.Descriptor.{closed_values, descriptor_value, opened_value, serial_value}
 use Rattle.pack_model.specs.reading.Files.{place}
 use Rattle.pack_model.specs.hints.Links.{LinksTrue}
-use Rattle.pack_model.specs.reading.Model.{read_pack}
+use Rattle.pack_model.specs.reading.Model.{read_as}
 use Rattle.pack_model.specs.operations.PageWords.{page_number}
 use Rattle.pack_model.specs.reading.Sights.{sights}
 use Rattle.pack_model.specs.states.Sound.{mark_clean, mark_of, mark_open}
@@ -66,17 +66,17 @@ of_pages p last busy n (at ∷ pages) h =
     let vs : List (ℕ × List ℕ) = closed_values p.shape last busy (suc n) pages in
     subst (AllOf disk_descriptor p) (sym (reverse-cons v vs)) (of_join disk_descriptor p (reverse vs) (v ∷ []) (of_pages p last busy (suc n) pages h.1) (of_carried disk_descriptor (suc n) p at (place_carried p (page_number disk_descriptor (suc n)) at h.0), tt))
 
--- each cut of closing
+-- each crash of closing
 pub close_keeps_links : CloseKeepsLinks
 close_keeps_links p busy pages k w t h links = by (mark_of (sights p) == mark_clean) ((close_carries_out p busy pages w t h).keeps k)
   where
-    by : (c : Bool) → KeepsSound p (cut p (cond c [] (values_writes (reverse (closed_values p.shape (read_pack p).last busy 0 pages)))) k) → LinksTrue (cut p (cond c [] (values_writes (reverse (closed_values p.shape (read_pack p).last busy 0 pages)))) k)
+    by : (c : Bool) → KeepsSound p (crash p (cond c [] (values_writes (reverse (closed_values p.shape (read_as p).last busy 0 pages)))) k) → LinksTrue (crash p (cond c [] (values_writes (reverse (closed_values p.shape (read_as p).last busy 0 pages)))) k)
     by true keeps = nothing k
       where
-        nothing : (k : ℕ) → LinksTrue (cut p [] k)
+        nothing : (k : ℕ) → LinksTrue (crash p [] k)
         nothing zero = links
         nothing (suc k) = links
     by false keeps =
-        let some : List (ℕ × List ℕ) = take k (reverse (closed_values p.shape (read_pack p).last busy 0 pages)) in
-        let e : cut p (values_writes (reverse (closed_values p.shape (read_pack p).last busy 0 pages))) k ≡ after p (values_writes some) = ap (after p) (take_values k (reverse (closed_values p.shape (read_pack p).last busy 0 pages))) in
-        subst LinksTrue (sym e) (descriptor_values some p w t (subst (KeepsSound p) e keeps) (of_take k (reverse (closed_values p.shape (read_pack p).last busy 0 pages)) p (of_pages p (read_pack p).last busy 0 pages h.pages_are)) links)
+        let some : List (ℕ × List ℕ) = take k (reverse (closed_values p.shape (read_as p).last busy 0 pages)) in
+        let e : crash p (values_writes (reverse (closed_values p.shape (read_as p).last busy 0 pages))) k ≡ after p (values_writes some) = ap (after p) (take_values k (reverse (closed_values p.shape (read_as p).last busy 0 pages))) in
+        subst LinksTrue (sym e) (descriptor_values some p w t (subst (KeepsSound p) e keeps) (of_take k (reverse (closed_values p.shape (read_as p).last busy 0 pages)) p (of_pages p (read_as p).last busy 0 pages h.pages_are)) links)

@@ -14,7 +14,7 @@ use Rattle.pack_model.specs.sessions.Descriptor.{DescriptorFits}
 use Rattle.pack_model.specs.reading.Files.{file_bytes, lives}
 use Rattle.pack_model.specs.hints.Links.{dir_words}
 use Rattle.pack_model.specs.sessions.Meanings.{reading}
-use Rattle.pack_model.specs.reading.Model.{dir_items, read_pack}
+use Rattle.pack_model.specs.reading.Model.{dir_items, read_as}
 use Rattle.pack_model.specs.sessions.Moves.{Obeys, steps}
 use Rattle.pack_model.specs.reading.Namings.{Naming, namings_in}
 use Rattle.pack_model.specs.operations.Operations.{go_writes}
@@ -62,10 +62,10 @@ drop_carries_out p f at pages d slot_at a b own w t hyp fr =
     let p1 : Pack = after p (go_writes at pages) in
     let h = fr.write in
     let dir_leader = has_leader ss d h.lives in
-    let items_are : dir_items (read_pack p) d ≡ a ++ entry f own ∷ b =
+    let items_are : dir_items (read_as p) d ≡ a ++ entry f own ∷ b =
     ap items_in (read_there p d dir_leader.0 t (not_descriptor d h.directory) dir_leader.1) ∙ ap (λ c. body_items (cond c (items_of (slots (dir_words p d))) (data_of (file_bytes ss d)))) h.directory ∙ fr.slots_are in
     let apart : is_fid d f ≡ false = elim (is_fid d f) as (λ c. is_fid d f ≡ c → c ≡ false) [
-      | true ↦ λ e. absurd (not_none (namings_in d a) (record { dir = d; name = own; fid = f }) (namings_in d b) (sym (namings_in-append d a (entry f own ∷ b)) ∙ sym (ap (namings_in d) items_are) ∙ subst (λ g. namings_in g (dir_items (read_pack p) g) ≡ []) (sym (same_fid d f e)) hyp.bare))
+      | true ↦ λ e. absurd (not_none (namings_in d a) (record { dir = d; name = own; fid = f }) (namings_in d b) (sym (namings_in-append d a (entry f own ∷ b)) ∙ sym (ap (namings_in d) items_are) ∙ subst (λ g. namings_in g (dir_items (read_as p) g) ≡ []) (sym (same_fid d f e)) hyp.bare))
       | false ↦ λ e. refl
     ] refl in
     let bytes : file_bytes (sights p1) d ≡ file_bytes ss d = other_bytes f ss (sights p1) go.1 d apart in
@@ -90,12 +90,12 @@ drop_carries_out p f at pages d slot_at a b own w t hyp fr =
     let last2 : SlotFreed p1 events2 = subst (SlotFreed p1) events_are last in
     let o : Operation = drop_file f in
     let e : after p (go_writes at pages ++ events2) ≡ after p1 events2 = after-append p (go_writes at pages) events2 in
-    let model : read_pack p1 ≡ steps reading (read_pack p) (first_moves p f) = stands_last reading (go.0).drops.obeys in
-    let obeys : Obeys reading (read_pack p) p (go_writes at pages ++ events2) (moves_of (read_pack p) o) = obeys_then reading (go.0).drops.obeys (subst (λ m. Obeys reading m p1 events2 (quiet ∷ [])) model last2.meets.obeys) in
+    let model : read_as p1 ≡ steps reading (read_as p) (first_moves p f) = stands_last reading (go.0).drops.obeys in
+    let obeys : Obeys reading (read_as p) p (go_writes at pages ++ events2) (moves_of (read_as p) o) = obeys_then reading (go.0).drops.obeys (subst (λ m. Obeys reading m p1 events2 (quiet ∷ [])) model last2.meets.obeys) in
     record {
       meets = record { obeys = obeys; whole = subst Whole (sym e) last2.meets.whole; tidy = subst Tidy (sym e) last2.meets.tidy };
-      cuts = cuts_read p (go_writes at pages ++ events2) (moves_of (read_pack p) o) obeys;
-      ends = ap read_pack e ∙ stands_last reading last2.meets.obeys ∙ (go.0).ends;
+      cuts = cuts_read p (go_writes at pages ++ events2) (moves_of (read_as p) o) obeys;
+      ends = ap read_as e ∙ stands_last reading last2.meets.obeys ∙ (go.0).ends;
       descriptor = subst (KeepsDescriptor p) (sym e) (kept_twice p p1 (after p1 events2) (go.0).descriptor last2.descriptor);
       fits = λ shape s mark ps x. subst (λ r. DescriptorFits r shape s mark ps) (sym e) (last2.fits shape s mark ps ((go.0).fits shape s mark ps x));
     }

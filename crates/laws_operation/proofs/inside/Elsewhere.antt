@@ -9,7 +9,7 @@ use Rattle.pack_model.specs.reading.Files.{file_bytes, first, joined, leader, le
 use Rattle.pack_model.specs.reading.Model.{good_one, good_sectors}
 use Rattle.pack_model.specs.reading.Sights.{Sight}
 use Rattle.pack_model.specs.reading.Sights.Sight.{free, hidden, holds, leads, stray}
-use Rattle.pack_model.specs.states.Whole.{Carries, FileWhole, PageAt, Seated, absent, present}
+use Rattle.pack_model.specs.states.Whole.{HasPages, FileWhole, PageAt, Seated, absent, present}
 use Rattle.pack_laws.proofs.Keys.{is_fid-itself}
 
 -- free, or of f
@@ -140,7 +140,7 @@ module _ (f : Fid) (ss us : List Sight) (same : SameBut f ss us) where
     seated_other k (c ∷ cs) h = (there c.0 (holds g k c.1) ne h.0, seated_other (suc k) cs h.1)
 
     -- its pages
-    carries_other : (pages : List PageAt) → Carries ss g pages 0 [] → Carries us g pages 0 []
+    carries_other : (pages : List PageAt) → HasPages ss g pages 0 [] → HasPages us g pages 0 []
     carries_other pages c = record { seated = seated_other 0 pages c.seated; waiting = tt; only = λ i m b e. c.only i m b (back i (holds g m b) ne e) }
 
     -- it is whole as before

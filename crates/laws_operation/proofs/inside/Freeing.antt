@@ -12,7 +12,7 @@ use Rattle.pack_model.specs.reading.Bytes.{put_at}
 use Rattle.pack_model.specs.reading.Files.{leader, lives}
 use Rattle.pack_model.specs.reading.Leaders.{Leader}
 use Rattle.pack_model.specs.hints.Links.{dir_words}
-use Rattle.pack_model.specs.reading.Model.{is_named, read_pack, read_sights}
+use Rattle.pack_model.specs.reading.Model.{is_named, read_as, read_sights}
 use Rattle.pack_model.specs.sessions.Moves.{rest, write}
 use Rattle.pack_model.specs.reading.Namings.{AllKept, IsTidy, Naming, clashes, fits, is_kept, kept_after, may_stand, tidied}
 use Rattle.pack_model.specs.operations.PageWords.{in_page}
@@ -78,7 +78,7 @@ left_kept f v e a b is kept =
 -- ---- the record write
 -- what is read stays
 free_reads : (p : Pack) (d : Fid) (at : ℕ) (a b : List Item) (f : Fid) (own : List ℕ) (l : Leader) (fr : Frees p d at a (entry f own ∷ []) b) → leader (sights p) d ≡ Some l → (here : get (described (sights p)) d ≡ Some (directory l (a ++ entry f own ∷ b)))
-    → slots (put_at (all_words a) (all_words (entry f own ∷ []) ∷ []) (dir_words p d)) ≡ a ++ space (item_words (entry f own)) ∷ b → lives (sights p) f ≡ false → read_pack (dir_written p (all_words a) at (all_words (entry f own ∷ []) ∷ [])) ≡ read_pack p
+    → slots (put_at (all_words a) (all_words (entry f own ∷ []) ∷ []) (dir_words p d)) ≡ a ++ space (item_words (entry f own)) ∷ b → lives (sights p) f ≡ false → read_as (dir_written p (all_words a) at (all_words (entry f own ∷ []) ∷ [])) ≡ read_as p
 unfolding read_sights
 free_reads p d at a b f own l fr lead here now dead =
     let v : Fid → Bool = lives (sights p) in
@@ -108,7 +108,7 @@ slot_carries_out p f d at a b own w t dead fr =
     let here : get files d ≡ Some (directory l (a ++ entry f own ∷ b)) = dir_before p w d (all_words a) at new h js now sum ∙ ap (λ x. Some (directory l x)) fr.slots_are in
     let same_files : insert files d (directory l (a ++ entry f own ∷ b)) ≡ files = insert_same files d (directory l (a ++ entry f own ∷ b)) here in
     let q : Pack = dir_written p (all_words a) at new in
-    let reads : read_pack q ≡ read_pack p = free_reads p d at a b f own l fr lead here now dead in
+    let reads : read_as q ≡ read_as p = free_reads p d at a b f own l fr lead here now dead in
     let pl = spot files d l (a ++ entry f own ∷ b) a b here in
     let kept : AllKept (is_kept (living_too f (lives ss))) [] (pl.before ++ e ∷ pl.later) = subst (AllKept (is_kept (living_too f (lives ss))) []) (pl.with f own) (subst (IsTidy (living_too f (lives ss))) (sym same_files) t) in
     let left : AllKept (is_kept (lives ss)) [] (pl.before ++ pl.later) = left_kept f (lives ss) e pl.before pl.later refl kept in

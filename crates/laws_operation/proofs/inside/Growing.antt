@@ -13,7 +13,7 @@ use Rattle.pack_model.specs.operations.Commands.{Claim, Claimable, all_claimed, 
 use Rattle.pack_model.specs.operations.Committing.{MakesMove}
 use Rattle.pack_model.specs.reading.Files.{most_pages, place}
 use Rattle.pack_model.specs.sessions.Meanings.{reading}
-use Rattle.pack_model.specs.reading.Model.{Model, good_one, read_pack, read_sights}
+use Rattle.pack_model.specs.reading.Model.{Model, good_one, read_as, read_sights}
 use Rattle.pack_model.specs.sessions.Moves.{Obeys, write}
 use Rattle.pack_model.specs.operations.Operations.{claims_moves, grow_moves, grow_writes, moved}
 use Rattle.pack_model.specs.operations.Operations.Move.{commits, quiet}
@@ -21,7 +21,7 @@ use Rattle.pack_model.specs.operations.PageWords.{page_number}
 use Rattle.pack_model.specs.reading.Sights.{sights, tag_sight}
 use Rattle.pack_model.specs.reading.Sights.Sight.{free, hidden, holds, leads}
 use Rattle.pack_model.specs.operations.Step.{Operation}
-use Rattle.pack_model.specs.states.Whole.{Carries, IsLaid, IsSeat, Leads, PageAt, present}
+use Rattle.pack_model.specs.states.Whole.{HasPages, IsLaid, IsSeat, Leads, PageAt, present}
 use Rattle.pack_laws.proofs.Guarding.{named_shown, here_written}
 use Rattle.pack_laws.proofs.Moving.{obeys_then, stands_last}
 use Rattle.laws_record.proofs.Seats.{seat_once, seat_range}
@@ -42,7 +42,7 @@ laid_last i old (d ∷ later) h e = let x : nat_lt 512 512 ≡ true = ap (λ n. 
 
 -- ---- new pages, and then the old last one
 module _ (p : Pack) (f : Fid) (k i : ℕ) (old : List ℕ) (h : Placed (sights p) f k i old) (is : get_or (sights p) i hidden ≡ holds f k old) (short : nat_lt (length old) 512 ≡ true)
-    (cs : List Claim) (able : Claimable (sights p) f (suc k) cs) (m : Model) (was : read_pack p ≡ m) where
+    (cs : List Claim) (able : Claimable (sights p) f (suc k) cs) (m : Model) (was : read_as p ≡ m) where
   -- no page comes behind it
   ends : h.later ≡ []
   ends = laid_last i old h.later (laid_back h.front (i, old) h.later h.laid) short
@@ -52,8 +52,8 @@ module _ (p : Pack) (f : Fid) (k i : ℕ) (old : List ℕ) (h : Placed (sights p
   all_pages = ap (λ x. h.front ++ (i, old) ∷ x) ends
 
   -- where they are at first
-  at_first : Carries (sights p) f (h.front ++ (i, old) ∷ []) (length (h.front ++ (i, old) ∷ [])) []
-  at_first = carries_none (sights p) f (h.front ++ (i, old) ∷ []) 0 (length (h.front ++ (i, old) ∷ [])) (subst (λ x. Carries (sights p) f x 0 []) all_pages h.carries)
+  at_first : HasPages (sights p) f (h.front ++ (i, old) ∷ []) (length (h.front ++ (i, old) ∷ [])) []
+  at_first = carries_none (sights p) f (h.front ++ (i, old) ∷ []) 0 (length (h.front ++ (i, old) ∷ [])) (subst (λ x. HasPages (sights p) f x 0 []) all_pages h.carries)
 
   -- they are laid
   laid_first : IsLaid (h.front ++ (i, old) ∷ [])
@@ -82,15 +82,15 @@ module _ (p : Pack) (f : Fid) (k i : ℕ) (old : List ℕ) (h : Placed (sights p
   module _ (label v c0 : List ℕ) (past : take (tag (sector_at p i).label).bytes (bytes_of v) ≡ old) (page_is : page_of label ≡ Some (page_number f (suc k)))
       (counted : take (tag label).bytes (bytes_of v) ≡ c0) (laid : IsLaid ((i, c0) ∷ all_claimed cs)) (few : suc k + length (all_claimed cs) ≤ most_pages) where
     -- all pages, once its label is written
-    written : Carries (set (sights (after p (claims_writes cs))) i (holds f k c0)) f (h.front ++ (i, c0) ∷ all_claimed cs) 0 []
+    written : HasPages (set (sights (after p (claims_writes cs))) i (holds f k c0)) f (h.front ++ (i, c0) ∷ all_claimed cs) 0 []
     written =
         let n = length-one h.front (i, old) in
         let o = length-one h.front (i, c0) in
         let lo : length (h.front ++ (i, old) ∷ []) ≡ length (h.front ++ (i, c0) ∷ []) = n ∙ sym o in
         let c = carries_write (sights (after p (claims_writes cs))) f h.front i old [] (length (h.front ++ (i, old) ∷ [])) (all_claimed cs) c0 all_claims.carries (inl (omega arith)) in
-        let d = subst (λ x. Carries (set (sights (after p (claims_writes cs))) i (holds f x c0)) f (h.front ++ (i, c0) ∷ []) (length (h.front ++ (i, old) ∷ [])) (all_claimed cs)) h.number c in
-        let e = subst (λ x. Carries (set (sights (after p (claims_writes cs))) i (holds f k c0)) f (h.front ++ (i, c0) ∷ []) x (all_claimed cs)) lo d in
-        subst (λ x. Carries (set (sights (after p (claims_writes cs))) i (holds f k c0)) f x 0 []) (append_assoc h.front ((i, c0) ∷ []) (all_claimed cs))
+        let d = subst (λ x. HasPages (set (sights (after p (claims_writes cs))) i (holds f x c0)) f (h.front ++ (i, c0) ∷ []) (length (h.front ++ (i, old) ∷ [])) (all_claimed cs)) h.number c in
+        let e = subst (λ x. HasPages (set (sights (after p (claims_writes cs))) i (holds f k c0)) f (h.front ++ (i, c0) ∷ []) x (all_claimed cs)) lo d in
+        subst (λ x. HasPages (set (sights (after p (claims_writes cs))) i (holds f k c0)) f x 0 []) (append_assoc h.front ((i, c0) ∷ []) (all_claimed cs))
         (carries_join (set (sights (after p (claims_writes cs))) i (holds f k c0)) f (h.front ++ (i, c0) ∷ []) (all_claimed cs) e)
 
     -- the leader stays
@@ -161,8 +161,8 @@ module _ (p : Pack) (f : Fid) (k i : ℕ) (old : List ℕ) (h : Placed (sights p
         once j e = elim e [ inl s ↦ seat_once 0 (h.front ++ (i, old) ∷ []) k j i s mine | inr s ↦ absurd (let r = (seat_range (length (h.front ++ (i, old) ∷ [])) (all_claimed cs) k j s).0 in omega (arith, long, r)) ]
 
     -- what is read before the label
-    pub read_before : read_pack (after (after p (claims_writes cs)) (Wrote i 2 v ∷ [])) ≡ m
-    read_before = ap (read_sights p.shape) valued ∙ subst (λ x. read_pack (after p (claims_writes cs)) ≡ x) all_claims.still (stands_last reading all_claims.obeys)
+    pub read_before : read_as (after (after p (claims_writes cs)) (Wrote i 2 v ∷ [])) ≡ m
+    read_before = ap (read_sights p.shape) valued ∙ subst (λ x. read_as (after p (claims_writes cs)) ≡ x) all_claims.still (stands_last reading all_claims.obeys)
 
     -- cut by cut
     pub grow_obeys : (o : Operation) → MakesMove (after (after p (claims_writes cs)) (Wrote i 2 v ∷ [])) (Wrote i 1 label) (commits o) → read_sights p.shape (set (sights (after p (claims_writes cs))) i (holds f k c0)) ≡ moved m (commits o) → Obeys reading m p (grow_writes cs i label v) (grow_moves cs o)
@@ -170,5 +170,5 @@ module _ (p : Pack) (f : Fid) (k i : ℕ) (old : List ℕ) (h : Placed (sights p
         (write read_q tt (relabel_obeys (after (after p (claims_writes cs)) (Wrote i 2 v ∷ [])) i good1 m (commits o) label v (holds f k c0) its_value its_label
         (ap (read_sights p.shape) valued ∙ read_q) makes (ap (λ x. read_sights p.shape (set x i (holds f k c0))) valued ∙ now))))
       where
-        read_q : read_pack (after p (claims_writes cs)) ≡ m
-        read_q = subst (λ x. read_pack (after p (claims_writes cs)) ≡ x) all_claims.still (stands_last reading all_claims.obeys)
+        read_q : read_as (after p (claims_writes cs)) ≡ m
+        read_q = subst (λ x. read_as (after p (claims_writes cs)) ≡ x) all_claims.still (stands_last reading all_claims.obeys)

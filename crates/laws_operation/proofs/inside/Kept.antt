@@ -11,7 +11,7 @@ use Rattle.pack_model.specs.reading.Bytes.{words_of}
 use Rattle.pack_model.specs.operations.Committing.{moves_of}
 use Rattle.pack_model.specs.reading.Files.{carries_page, file_bytes, first, lives, numbered, place, place_at}
 use Rattle.pack_model.specs.sessions.Meanings.{Meets, reading, viewing}
-use Rattle.pack_model.specs.reading.Model.{Model, last_serial, read_pack, read_sights}
+use Rattle.pack_model.specs.reading.Model.{Model, last_serial, read_as, read_sights}
 use Rattle.pack_model.specs.sessions.Moves.{Obeys, steps}
 use Rattle.pack_model.specs.operations.Operations.{Move, moved}
 use Rattle.pack_model.specs.reading.Sights.{Sight, sights}
@@ -91,15 +91,15 @@ steps_alike m [] = refl
 steps_alike m (o ∷ moves) = steps_alike (moved m o) moves
 
 -- so cuts that are read as models are viewed as them
-pub cuts_read : (p : Pack) (events : List Event) (moves : List Move) → Obeys reading (read_pack p) p events moves → CutsAreViewed p events moves
-cuts_read p events moves obeys k = ap view (obeys_cut reading obeys k ∙ sym (steps_alike (read_pack p) (take k moves)))
+pub cuts_read : (p : Pack) (events : List Event) (moves : List Move) → Obeys reading (read_as p) p events moves → CutsAreViewed p events moves
+cuts_read p events moves obeys k = ap view (obeys_cut reading obeys k ∙ sym (steps_alike (read_as p) (take k moves)))
 
 -- an operation whose record writes concern one file alone
-pub carries_out : (p : Pack) (events : List Event) (o : Operation) (f : Fid) → steps reading (read_pack p) (moves_of (read_pack p) o) ≡ step (read_pack p) o → SameBut f (sights p) (sights (after p events)) → is_fid f disk_descriptor ≡ false
-    → Meets p events (moves_of (read_pack p) o) → CarriesOut p events o
+pub carries_out : (p : Pack) (events : List Event) (o : Operation) (f : Fid) → steps reading (read_as p) (moves_of (read_as p) o) ≡ step (read_as p) o → SameBut f (sights p) (sights (after p events)) → is_fid f disk_descriptor ≡ false
+    → Meets p events (moves_of (read_as p) o) → CarriesOut p events o
 carries_out p events o f all same other meets = record {
   meets = meets;
-  cuts = cuts_read p events (moves_of (read_pack p) o) meets.obeys;
+  cuts = cuts_read p events (moves_of (read_as p) o) meets.obeys;
   ends = stands_last reading meets.obeys ∙ all;
   descriptor = descriptor_kept p (after p events) f same other;
   fits = fits_still p (after p events) f same other refl;

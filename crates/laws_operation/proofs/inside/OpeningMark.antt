@@ -8,7 +8,7 @@ use Rattle.disk_records.specs.Words.{double, word}
 use Rattle.disk_records.specs.declared.shape.Shape.{Shape}
 use Rattle.pack_model.specs.reading.Bytes.{put_at}
 use Rattle.pack_model.specs.sessions.Descriptor.{opened_value, serial_writes}
-use Rattle.pack_model.specs.reading.Model.{descriptor_words, last_serial, read_pack, read_sights}
+use Rattle.pack_model.specs.reading.Model.{descriptor_words, last_serial, read_as, read_sights}
 use Rattle.pack_model.specs.sessions.Moves.{rest, write}
 use Rattle.pack_model.specs.operations.Operations.Move.{quiet}
 use Rattle.pack_model.specs.operations.PageWords.{halves}
@@ -39,7 +39,7 @@ pub last_there : (words : List ℕ) → 16 ≤ length words → last_serial word
 last_there words long = ap (λ c. cond c (double words 4) 0) (le-leb 6 (length words) (omega arith))
 
 -- the last serial in the model
-pub last_read : (p : Pack) → (read_pack p).last ≡ last_serial (descriptor_words (sights p))
+pub last_read : (p : Pack) → (read_as p).last ≡ last_serial (descriptor_words (sights p))
 unfolding read_sights
 last_read p = refl
 
@@ -69,7 +69,7 @@ open_carries_out p at o ops w t sector = by (mark_of (sights p) == mark_open) re
         let long = h.long in
         let fits : 6 + length new ≤ length words = omega arith in
         let same_last = mark_last words long in
-        let reads : read_pack (after p (value_writes at (opened_value (sector_at p at).value))) ≡ read_pack p = words_read p at 6 new h ∙ ap (λ x. record (read_pack p) { last = x }) (same_last ∙ sym (last_read p)) in
+        let reads : read_as (after p (value_writes at (opened_value (sector_at p at).value))) ≡ read_as p = words_read p at 6 new h ∙ ap (λ x. record (read_as p) { last = x }) (same_last ∙ sym (last_read p)) in
         let z : 6 + 0 ≡ 6 = omega arith in
         record {
           obeys = write refl tt (rest reads);
@@ -90,9 +90,9 @@ serial_carries_out p at last w t sector more =
     let size = length-put_at 4 new words fits in
     let halves_are : last / 65536 * 65536 + last % 65536 ≡ last = omega arith in
     let last_is : last_serial (put_at 4 new words) ≡ last = last_there (put_at 4 new words) (omega arith) ∙ (λ i. put_here 4 new words 0 fits (omega arith) i * 65536 + put_here 4 new words 1 fits (omega arith) i) ∙ halves_are in
-    let reads : read_pack (after p (serial_writes at last (sector_at p at).value)) ≡ record (read_pack p) { last = last } = words_read p at 4 new h ∙ ap (λ x. record (read_pack p) { last = x }) last_is in
+    let reads : read_as (after p (serial_writes at last (sector_at p at).value)) ≡ record (read_as p) { last = last } = words_read p at 4 new h ∙ ap (λ x. record (read_as p) { last = x }) last_is in
     record {
-      obeys = write refl tt (rest (ap view reads ∙ view_files (record (read_pack p) { last = last }) (read_pack p) refl));
+      obeys = write refl tt (rest (ap view reads ∙ view_files (record (read_as p) { last = last }) (read_as p) refl));
       reads = reads;
       keeps = kept_sound p w t at 4 new h (says_still p.shape words 4 new (omega arith) (omega arith) long w.descriptor_fits.says) (omega (arith, more, last_is));
       mark = ap (λ ws. word ws 6) h.words ∙ put_behind 4 new words 6 fits (omega arith);

@@ -8,14 +8,14 @@ use Rattle.pack_model.specs.reading.Bodies.{described}
 use Rattle.pack_model.specs.reading.Bytes.{words_of}
 use Rattle.pack_model.specs.reading.Files.{file_bytes, lives, most_pages}
 use Rattle.pack_model.specs.reading.Leaders.{Leader}
-use Rattle.pack_model.specs.reading.Model.{is_named, read_pack, read_sights}
+use Rattle.pack_model.specs.reading.Model.{is_named, read_as, read_sights}
 use Rattle.pack_model.specs.reading.Namings.{IsTidy}
 use Rattle.pack_model.specs.reading.Sights.{Sight, sights}
 use Rattle.pack_model.specs.reading.Sights.Sight.{free, hidden, holds, leads, stray}
 use Rattle.pack_model.specs.reading.Slots.{IsEven, SlotsReachEnd, slots}
 use Rattle.pack_model.specs.reading.Slots.IsEven.{none, two}
 use Rattle.pack_model.specs.states.Sound.{Clean, Sound}
-use Rattle.pack_model.specs.states.Whole.{Carries, FileWhole, IsLaid, IsSeat, Leads, PageAt, Seated, TidySights, WholeSights}
+use Rattle.pack_model.specs.states.Whole.{HasPages, FileWhole, IsLaid, IsSeat, Leads, PageAt, Seated, TidySights, WholeSights}
 use Rattle.pack_model.specs.states.Whole.FileWhole.{absent, present}
 use Rattle.laws_record.proofs.inside.Alike.{Alike, OneAlike, described_alike, holds_alike, leads_alike, live_alike, mark_alike, one_sym, read_alike, stray_alike}
 use Rattle.pack_laws.proofs.Bytes.{length-words_of}
@@ -70,7 +70,7 @@ module _ (ss tt : List Sight) (each : (i : ℕ) → OneAlike (get_or ss i hidden
   seated_now f k (c ∷ cs) h = ((now_holds ss tt f k c (each c.0) h.0).shows, seated_now f (suc k) cs h.1)
 
   -- and no others
-  carries_now : (f : Fid) (cs : List PageAt) → Carries ss f cs 0 [] → Carries tt f (pages_now tt cs) 0 []
+  carries_now : (f : Fid) (cs : List PageAt) → HasPages ss f cs 0 [] → HasPages tt f (pages_now tt cs) 0 []
   carries_now f cs h = record {
     seated = seated_now f 0 cs h.seated;
     waiting = Prim.tt;
@@ -159,7 +159,7 @@ alike_sym ss tt a = record {
 -- one is sound where the other is
 pub sound_alike : (p q : Pack) → q.shape ≡ p.shape → Alike (sights p) (sights q) → Sound p → Sound q
 sound_alike p q shape a s =
-    let read : read_pack q ≡ read_pack p = ap (λ h. read_sights h (sights q)) shape ∙ read_alike (sights p) (sights q) a p.shape in
+    let read : read_as q ≡ read_as p = ap (λ h. read_sights h (sights q)) shape ∙ read_alike (sights p) (sights q) a p.shape in
     record {
       whole = subst (λ h. WholeSights h (sights q)) (sym shape) (whole_alike p.shape (sights p) (sights q) a s.whole);
       tidy = tidy_alike (sights p) (sights q) a s.tidy;

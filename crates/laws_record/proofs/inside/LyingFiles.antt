@@ -12,7 +12,7 @@ use Rattle.pack_model.specs.reading.Leaders.{Leader}
 use Rattle.pack_model.specs.states.Sentences.{IsWholeBySentences}
 use Rattle.pack_model.specs.reading.Sights.{Sight, sights}
 use Rattle.pack_model.specs.reading.Sights.Sight.{free, hidden, holds, leads, stray}
-use Rattle.pack_model.specs.states.Whole.{Carries, FileWhole, IsLaid, Whole, absent, present}
+use Rattle.pack_model.specs.states.Whole.{HasPages, FileWhole, IsLaid, Whole, absent, present}
 use Rattle.pack_laws.proofs.Joining.{Reaches, content, is_full, length-joined}
 use Rattle.pack_laws.proofs.Placing.{leader_of_place, page_of_place, place_of_leader, place_of_page, short_pages}
 use Rattle.laws_record.proofs.Heads.{and_left, and_right}
@@ -131,7 +131,7 @@ module _ (p : Pack) (w : IsWholeBySentences p) where
         (subst (λ n. length (page_in ss f n).1 < 512) z last_short)
 
     -- and no other sector has a page of it
-    carries : Carries ss f (row ss f 0 (suc last)) 0 []
+    carries : HasPages ss f (row ss f 0 (suc last)) 0 []
     carries = record {
       seated = row_seated ss f 0 (suc last) (λ m low. standing m (omega arith));
       waiting = tt;

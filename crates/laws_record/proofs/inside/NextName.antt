@@ -4,7 +4,7 @@ use Rattle.std.specs.FinMap.{get, insert}
 use Rattle.alto_words.specs.Fid.{is_system, sys_dir}
 use Rattle.alto_words.specs.declared.fid.Fid.{Fid}
 use Rattle.pack_model.specs.reading.Leaders.{Leader}
-use Rattle.pack_model.specs.reading.Model.{Model, read_pack}
+use Rattle.pack_model.specs.reading.Model.{Model, read_as}
 use Rattle.pack_model.specs.reading.Namings.{namings_in}
 use Rattle.pack_model.specs.operations.Rooms.{left_over}
 use Rattle.pack_model.specs.showing.Settling.{chosen, settle}
@@ -47,7 +47,7 @@ next_model m l a b total left f x here next ordinary =
 -- the next entry that settling adds
 pub next_name_that_settling_gives : NextNameThatSettlingGives
 next_name_that_settling_gives p at new a b f x left next ordinary h may =
-    let name : List ℕ = chosen (view (read_pack p)).names x.leader.name in
+    let name : List ℕ = chosen (view (read_as p)).names x.leader.name in
     ap (λ m. settle (view m)) (enter_reads p sys_dir at new a b f name left h may)
-    ∙ next_model (read_pack p) (dir_leader p sys_dir at new a b f name left h may) (front_slots p sys_dir at new a b f name left h may) (back_slots p sys_dir at new a b f name left h may) (entry_length (length name) + left) left f x
+    ∙ next_model (read_as p) (dir_leader p sys_dir at new a b f name left h may) (front_slots p sys_dir at new a b f name left h may) (back_slots p sys_dir at new a b f name left h may) (entry_length (length name) + left) left f x
     (model_dir p sys_dir at new a b f name left h may) next ordinary

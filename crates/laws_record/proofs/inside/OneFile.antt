@@ -10,7 +10,7 @@ use Rattle.pack_model.specs.reading.Bytes.{words_of}
 use Rattle.pack_model.specs.reading.Files.{file_bytes, leader, lives}
 use Rattle.pack_model.specs.reading.Leaders.{Leader}
 use Rattle.pack_model.specs.sessions.Maps.{update_found}
-use Rattle.pack_model.specs.reading.Model.{good_one, good_sectors, last_serial, read_pack, read_sights}
+use Rattle.pack_model.specs.reading.Model.{good_one, good_sectors, last_serial, read_as, read_sights}
 use Rattle.pack_model.specs.reading.Namings.{tidied}
 use Rattle.pack_model.specs.reading.Sights.{sights}
 use Rattle.pack_model.specs.reading.Sights.Sight.{hidden, holds}
@@ -71,7 +71,7 @@ module _ (p q : Pack) (f : Fid) (bytes : List ℕ) (c : FileChange p q f bytes) 
       ∙ kept_insert (found (sights p)) is_described f (plain l bytes) (ap not o.described)
 
   -- the model, where the file's bytes are changed so
-  pub bytes_step : (g : List ℕ → List ℕ) → g (file_bytes (sights p) f) ≡ bytes → read_pack q ≡ update_file (read_pack p) f (on_bytes g)
+  pub bytes_step : (g : List ℕ → List ℕ) → g (file_bytes (sights p) f) ≡ bytes → read_as q ≡ update_file (read_as p) f (on_bytes g)
   unfolding read_sights
   bytes_step g e =
       ap (λ shape. read_sights shape (sights q)) c.shape

@@ -10,7 +10,7 @@ use Rattle.pack_model.specs.reading.Bodies.{File, described, found, is_described
 use Rattle.pack_model.specs.operations.Committing.{length_of}
 use Rattle.pack_model.specs.reading.Files.{file_bytes, leader, lives, place}
 use Rattle.pack_model.specs.reading.Leaders.{Leader}
-use Rattle.pack_model.specs.reading.Model.{read_pack, read_sights}
+use Rattle.pack_model.specs.reading.Model.{read_as, read_sights}
 use Rattle.pack_model.specs.reading.Sights.{sights}
 use Rattle.pack_model.specs.reading.Sights.Sight.{hidden}
 use Rattle.pack_model.specs.operations.Step.{Operation, step}
@@ -42,9 +42,9 @@ use Rattle.laws_operation.proofs.enter.Laws.{enter_carries_out}
 
 -- ---- files in the model
 -- one that doesn't live isn't there
-unread : (p : Pack) (f : Fid) → lives (sights p) f ≡ false → contains_key (read_pack p).files f ≡ false
+unread : (p : Pack) (f : Fid) → lives (sights p) f ≡ false → contains_key (read_as p).files f ≡ false
 unfolding read_sights
-unread p f none = by (get (read_pack p).files f) (leader (sights p) f) none (get-seen (lives (sights p)) (described (sights p)) f ∙ ap (option_map (seen_of f)) (get-where (found (sights p)) is_described f ∙ ap (λ r. cond (is_described f) r None) (get-found (sights p) f)))
+unread p f none = by (get (read_as p).files f) (leader (sights p) f) none (get-seen (lives (sights p)) (described (sights p)) f ∙ ap (option_map (seen_of f)) (get-where (found (sights p)) is_described f ∙ ap (λ r. cond (is_described f) r None) (get-found (sights p) f)))
   where
     empty : (b : Bool) → option_map (seen_of f) (cond b (option_map (read_file f (file_bytes (sights p) f)) None) None) ≡ None
     empty true = refl
@@ -64,19 +64,19 @@ module _ (p : Pack) (w : Whole p) (t : Tidy p) where
       (h.lead, leader_is (sights p) f h.at true h.lead h.leads_it)
 
   -- an ordinary one is as long as its bytes
-  long : (f : Fid) (n at : ℕ) → IsOrdinary f → place (sights p) f (suc n) ≡ Some at → length_of (read_pack p) f ≡ length (file_bytes (sights p) f)
+  long : (f : Fid) (n at : ℕ) → IsOrdinary f → place (sights p) f (suc n) ≡ Some at → length_of (read_as p) f ≡ length (file_bytes (sights p) f)
   long f n at file is = let l = lead_of f n at is in ordinary_length p.shape (sights p) f l.0 l.1 file
 
   -- one that lives is there
-  there : (f : Fid) (l : Leader) → is_fid f disk_descriptor ≡ false → leader (sights p) f ≡ Some l → contains_key (read_pack p).files f ≡ true
+  there : (f : Fid) (l : Leader) → is_fid f disk_descriptor ≡ false → leader (sights p) f ≡ Some l → contains_key (read_as p).files f ≡ true
   there f l other lead = ap is_some (read_there p f l t other lead)
 
   -- ---- operations
   -- one that may be done, behind which the pack is whole and is read as the model is then
-  takes : (events : List Event) (o : Operation) → Whole (after p events) → read_pack (after p events) ≡ step (read_pack p) o → MayBeDone (read_pack p) o → TakesIntoUse p events o
+  takes : (events : List Event) (o : Operation) → Whole (after p events) → read_as (after p events) ≡ step (read_as p) o → MayBeDone (read_as p) o → TakesIntoUse p events o
   takes events o behind reads may = record { may = may; in_use = use_follows_the_operation p (after p events) o w behind refl may reads }
 
-  carried : {events : List Event} {o : Operation} → CarriesOut p events o → MayBeDone (read_pack p) o → TakesIntoUse p events o
+  carried : {events : List Event} {o : Operation} → CarriesOut p events o → MayBeDone (read_as p) o → TakesIntoUse p events o
   carried {events} {o} h may = takes events o h.meets.whole h.ends may
 
   -- each
@@ -95,7 +95,7 @@ module _ (p : Pack) (w : Whole p) (t : Tidy p) where
     widens = λ d added claims at label value h. let l = lead_of d (length (file_bytes (sights p) d) / 512) at h.sector in carried (widen_law p w t d added claims at label value h) (h.directory, there d l.0 (not_descriptor d h.directory) l.1);
   }
     where
-      gone : (f : Fid) (at : ℕ) → is_system f ≡ false → place (sights p) f 0 ≡ Some at → contains_key (read_pack p).files f ≡ true
+      gone : (f : Fid) (at : ℕ) → is_system f ≡ false → place (sights p) f 0 ≡ Some at → contains_key (read_as p).files f ≡ true
       gone f at ordinary is = let l = leader_of_place (sights p) f at is in there f l.lead (system_apart disk_descriptor f refl ordinary) l.leader_is
 
 -- the law

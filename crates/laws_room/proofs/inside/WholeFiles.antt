@@ -7,7 +7,7 @@ use Rattle.alto_words.specs.declared.fid.Fid.{Fid}
 use Rattle.disk_records.specs.Packs.{Pack}
 use Rattle.pack_model.specs.reading.Bodies.{File, found}
 use Rattle.pack_model.specs.reading.Files.{carries_page, file_bytes, leader, numbered}
-use Rattle.pack_model.specs.states.InUse.{available, free_sectors, how_many, in_use, is_available, is_free_sight, is_good, one_if}
+use Rattle.pack_model.specs.states.InUse.{available, free_sector_count, how_many, in_use, is_available, is_free_sight, is_good, one_if}
 use Rattle.pack_model.specs.reading.Leaders.{Leader}
 use Rattle.pack_model.specs.scavenger.Needed.{file_lacks, files_lack, missing, page_lacks}
 use Rattle.pack_model.specs.reading.Sights.{Sight, sights}
@@ -51,7 +51,7 @@ module _ (p : Pack) (w : Whole p) where
       by (holds f n b) e = ap not e
 
   -- the available sectors are the free ones
-  pub available_free : available p.shape (sights p) ≡ free_sectors (sights p)
+  pub available_free : available p.shape (sights p) ≡ free_sector_count (sights p)
   unfolding available
   available_free = many_alike (is_available p.shape (sights p)) is_free_sight 0 (sights p) (λ k. let z : 0 + k ≡ k = omega arith in ap (λ n. is_available p.shape (sights p) (n, get_or (sights p) k hidden)) z ∙ sector_free k (get_or (sights p) k hidden) refl)
 

@@ -6,7 +6,7 @@ use Rattle.disk_records.specs.declared.records.Sector.{Sector}
 use Rattle.disk_records.specs.declared.records.Event.TheVariants.{Wrote}
 use Rattle.disk_records.specs.Commands.{ones, relabel_writes, release_writes, value_writes}
 use Rattle.disk_records.specs.Labels.{Tag, is_free, page_of, tag}
-use Rattle.disk_records.specs.Packs.{Pack, after, carried, cut, is_free_at, is_usable, sector_at, with_part}
+use Rattle.disk_records.specs.Packs.{Pack, after, carried, crash, is_free_at, is_usable, sector_at, with_part}
 use Rattle.pack_model.specs.reading.Sights.{Sight, sights, tag_sight}
 use Rattle.pack_model.specs.reading.Sights.Sight.{free}
 use Rattle.pack_laws.specs.GuardLaws.{ChangesOne, HoldsPage, LooksSame, TakesAtTheLabel, released, with_words}
@@ -102,7 +102,7 @@ value_keeps p at page value is =
       others = other_kept p at 2 value;
     }
 
-pub value_writes_keep_the_page : (p : Pack) (at : ℕ) (page : Page) (value : List ℕ) (k : ℕ) → carried p at ≡ Some page → 0 < k → HoldsPage at page (sector_at p at).label value p (cut p (value_writes at value) k)
+pub value_writes_keep_the_page : (p : Pack) (at : ℕ) (page : Page) (value : List ℕ) (k : ℕ) → carried p at ≡ Some page → 0 < k → HoldsPage at page (sector_at p at).label value p (crash p (value_writes at value) k)
 value_writes_keep_the_page p at page value zero is some = absurd (omega arith)
 value_writes_keep_the_page p at page value (suc zero) is some = value_keeps p at page value is
 value_writes_keep_the_page p at page value (suc (suc k)) is some = value_keeps p at page value is
@@ -125,7 +125,7 @@ both_written p at label value usable =
 
 -- a usable sector gets a label and then a value
 relabelled : (p : Pack) (at : ℕ) (label value : List ℕ) (k : ℕ) → is_usable p.shape at (sector_at p at) ≡ true → tag_sight (tag label) value ≡ tag_sight (tag label) (sector_at p at).value → 0 < k
-    → ChangesOne at (page_of label) (is_free (tag label)) (tag_sight (tag label) (sector_at p at).value) (with_words (sector_at p at) label (cond (nat_lt k 2) (sector_at p at).value value)) p (cut p (relabel_writes at label value) k)
+    → ChangesOne at (page_of label) (is_free (tag label)) (tag_sight (tag label) (sector_at p at).value) (with_words (sector_at p at) label (cond (nat_lt k 2) (sector_at p at).value value)) p (crash p (relabel_writes at label value) k)
 relabelled p at label value zero usable same some = absurd (omega arith)
 relabelled p at label value (suc zero) usable same some = label_changes p at label usable
 relabelled p at label value (suc (suc zero)) usable same some = changes_before (label_changes p at label usable) (value_follows p at label value usable same) (both_written p at label value usable)
@@ -138,12 +138,12 @@ either_same : (b : Bool) (words : List ℕ) → cond b words words ≡ words
 either_same true words = refl
 either_same false words = refl
 
-pub relabel_keeps_the_page : (p : Pack) (at : ℕ) (page : Page) (label : List ℕ) (k : ℕ) → carried p at ≡ Some page → page_of label ≡ Some page → 0 < k → HoldsPage at page label (sector_at p at).value p (cut p (relabel_writes at label (sector_at p at).value) k)
+pub relabel_keeps_the_page : (p : Pack) (at : ℕ) (page : Page) (label : List ℕ) (k : ℕ) → carried p at ≡ Some page → page_of label ≡ Some page → 0 < k → HoldsPage at page label (sector_at p at).value p (crash p (relabel_writes at label (sector_at p at).value) k)
 relabel_keeps_the_page p at page label k is names some =
     changes_as names (named_taken label page names) (named_shown label (sector_at p at).value page names) (ap (with_words (sector_at p at) label) (either_same (nat_lt k 2) (sector_at p at).value))
     (relabelled p at label (sector_at p at).value k (carried_parts p at page is).0 refl some)
 
-pub release_frees_at_the_label : (p : Pack) (at : ℕ) (page : Page) (k : ℕ) → carried p at ≡ Some page → 0 < k → ChangesOne at None true free (released (sector_at p at) k) p (cut p (release_writes at) k)
+pub release_frees_at_the_label : (p : Pack) (at : ℕ) (page : Page) (k : ℕ) → carried p at ≡ Some page → 0 < k → ChangesOne at None true free (released (sector_at p at) k) p (crash p (release_writes at) k)
 release_frees_at_the_label p at page k is some =
     let none : is_free (tag (ones 8)) ≡ true = ones_free in
     let v : List ℕ = (sector_at p at).value in
@@ -158,7 +158,7 @@ free_filled p at value is =
     same_value p at value parts.0 (free_shown t value parts.1 ∙ sym (free_shown t (sector_at p at).value parts.1))
 
 claim_relabelled : (p : Pack) (at : ℕ) (page : Page) (label value : List ℕ) (k : ℕ) → is_free_at p at ≡ true → page_of label ≡ Some page → 0 < k
-    → HoldsPage at page label value p (cut (after p (Wrote at 2 value ∷ [])) (relabel_writes at label value) k)
+    → HoldsPage at page label value p (crash (after p (Wrote at 2 value ∷ [])) (relabel_writes at label value) k)
 claim_relabelled p at page label value k is names some =
     let parts = free_parts p at is in
     let q : Pack = after p (Wrote at 2 value ∷ []) in

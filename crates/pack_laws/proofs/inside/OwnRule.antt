@@ -19,7 +19,7 @@ use Rattle.pack_model.specs.reading.Stored.{StoredFile, files_shown}
 use Rattle.pack_model.specs.sessions.Maps.{map_values}
 use Rattle.pack_model.specs.reading.Bodies.{file_of, found, described, is_described}
 use Rattle.pack_model.specs.reading.Bodies.Body.{data_of, items_of}
-use Rattle.pack_model.specs.reading.Model.{IsNamed, good_sectors, last_serial, descriptor_words, read_sights, read_pack}
+use Rattle.pack_model.specs.reading.Model.{IsNamed, good_sectors, last_serial, descriptor_words, read_sights, read_as}
 use Rattle.pack_model.specs.reading.Namings.{IsTidy, tidied}
 use Rattle.pack_model.specs.states.Whole.{WholeSights, TidySights}
 use Rattle.pack_model.specs.states.Sound.{Sound}
@@ -86,7 +86,7 @@ own_model : (shape : Shape) (ss : List Sight) → read_sights_by is_stored_name 
 unfolding read_sights
 own_model shape ss = λ i. record { shape = shape; good = good_sectors ss; last = last_serial (descriptor_words ss); files = tidied (lives ss) (own_described ss i) }
 
-pub own_read : (p : Pack) → read_by is_stored_name p ≡ read_pack p
+pub own_read : (p : Pack) → read_by is_stored_name p ≡ read_as p
 own_read p = own_model p.shape (sights_by is_stored_name p) ∙ ap (read_sights p.shape) (own_sights p)
 
 -- ---- sound packs

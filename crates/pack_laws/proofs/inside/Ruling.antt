@@ -1,4 +1,4 @@
--- Which record write makes which move, and the ruler that counts operations at a cut.
+-- Which record write makes which move, and the ruler that counts operations at a crash.
 use Rattle.std.proofs.Common.{◌≡◌, ℕ, ◌+◌, ◌<◌, ◌≤◌, zero, suc, List, [], ◌∷◌, ◌++◌, length, take, refl, subst, ◌∙◌, ap, inl, inr, arith, add-one, sum_by, ◌⊎◌, Some, slice_get}
 use Rattle.std.proofs.lemmas.Option.{same_Some}
 use Rattle.std.proofs.lemmas.List.{take_all}
@@ -6,7 +6,7 @@ use Rattle.std.proofs.lemmas.List.Sums.{sum_by-cons}
 use Rattle.disk_records.specs.declared.records.Event.{Event}
 use Rattle.disk_records.specs.declared.records.Event.TheVariants.{Wrote, Shown}
 use Rattle.disk_records.specs.Events.{shown_events, writes_in}
-use Rattle.disk_records.specs.Packs.{Pack, after, cut}
+use Rattle.disk_records.specs.Packs.{Pack, after, crash}
 use Rattle.pack_model.specs.sessions.Moves.{Meaning, Obeys, rest, write}
 use Rattle.pack_model.specs.sessions.Turns.{Turn, ops_of, Talks, begun, spoken, ruler}
 use Rattle.pack_laws.specs.Made.{AllMade}
@@ -132,7 +132,7 @@ module _ {M O : Type 0} (means : Meaning M O) where
       rw ops-append (made_then p events (wrote ++ shown_events turn.text) (ops_of turns) (turn.ops ++ []) (talks_makes so_far) whole)
 
   -- the move that a write makes
-  made_at : (p : Pack) (events : List Event) (ops : List O) (k at part : ℕ) (words : List ℕ) (o : O) → AllMade means p events ops → slice_get events k ≡ Some (Wrote at part words) → slice_get ops (writes_in (take k events)) ≡ Some o → means.Makes (cut p events k) (Wrote at part words) o
+  made_at : (p : Pack) (events : List Event) (ops : List O) (k at part : ℕ) (words : List ℕ) (o : O) → AllMade means p events ops → slice_get events k ≡ Some (Wrote at part words) → slice_get ops (writes_in (take k events)) ≡ Some o → means.Makes (crash p events k) (Wrote at part words) o
   made_at p [] ops k at part words o all is next = cc
   made_at p (Wrote place half new ∷ events) [] k at part words o all is next = elim all [ ]
   made_at p (Wrote place half new ∷ events) (x ∷ ops) zero at part words o all is next =

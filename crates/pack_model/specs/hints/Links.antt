@@ -15,7 +15,7 @@ use Rattle.pack_model.specs.reading.Files.{lives, file_bytes, place}
 use Rattle.pack_model.specs.reading.Slots.{Item, slots}
 use Rattle.pack_model.specs.reading.Slots.Item.{space, entry}
 use Rattle.pack_model.specs.reading.SlotWords.{SlotAt, slots_at}
-use Rattle.pack_model.specs.reading.Model.{dir_items, read_pack}
+use Rattle.pack_model.specs.reading.Model.{dir_items, read_as}
 use Rattle.pack_model.specs.states.InUse.{in_use}
 
 -- ---- links of pages: real addresses
@@ -62,7 +62,7 @@ abbrev pub dir_slots : Pack → Fid → List SlotAt
 dir_slots p d = slots_at (dir_words p d) 0 (slots (dir_words p d))
 
 abbrev pub kept_slots : Pack → Fid → List SlotAt
-kept_slots p d = slots_at (dir_words p d) 0 (dir_items (read_pack p) d)
+kept_slots p d = slots_at (dir_words p d) 0 (dir_items (read_as p) d)
 
 -- an entry's address names the sector that bears its file's leader
 abbrev pub IsTrueAddress : List Sight → Item → ℕ → Type 0

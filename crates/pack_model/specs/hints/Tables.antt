@@ -7,7 +7,7 @@ use Rattle.disk_records.specs.Packs.{Pack}
 use Rattle.pack_model.specs.reading.Sights.{sights}
 use Rattle.pack_model.specs.reading.Files.{numbered}
 use Rattle.pack_model.specs.reading.Model.{descriptor_words}
-use Rattle.pack_model.specs.states.InUse.{is_available, is_free_sight, free_sectors, one_if}
+use Rattle.pack_model.specs.states.InUse.{is_available, is_free_sight, free_sector_count, one_if}
 use Rattle.pack_model.specs.hints.Links.{LinksTrue}
 
 -- ---- maps as words
@@ -61,4 +61,4 @@ free_table p = map (λ s. not (is_free_sight s)) (sights p)
 pub record HintsTrue (p : Pack) : Type 0 where
   pub links : LinksTrue p
   pub table : WordsTrue p
-  pub free : described_free p ≡ free_sectors (sights p)
+  pub free : described_free p ≡ free_sector_count (sights p)

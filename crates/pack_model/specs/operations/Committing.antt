@@ -12,7 +12,7 @@ use Rattle.pack_model.specs.reading.Files.{place}
 use Rattle.pack_model.specs.reading.Slots.{Item, item_words, entry_length}
 use Rattle.pack_model.specs.reading.Slots.Item.{space, entry}
 use Rattle.pack_model.specs.reading.Bodies.{File, body_length}
-use Rattle.pack_model.specs.reading.Model.{Model, dir_items, read_pack}
+use Rattle.pack_model.specs.reading.Model.{Model, dir_items, read_as}
 use Rattle.pack_model.specs.showing.View.{view}
 use Rattle.pack_model.specs.showing.Settling.{show}
 use Rattle.pack_model.specs.operations.Rooms.{Room, find_room}
@@ -181,7 +181,7 @@ pub record IsCommitting (o : Operation) (c : CommitRecord) (p q : Pack) (at part
 -- The last record write of a scavenge: q, which it leaves of p, is sound and clean and read as the model, whose files have the names
 -- under which p shows them, each of them as an entry.
 pub record EndsScavenge (p q : Pack) (n : Model) : Type 0 where
-  pub reads : read_pack q ≡ n
+  pub reads : read_as q ≡ n
   pub views : view n ≡ show p
   pub sound : Sound q
   pub clean : Clean q
@@ -190,5 +190,5 @@ pub record EndsScavenge (p q : Pack) (n : Model) : Type 0 where
 abbrev pub MakesMove : Pack → Event → Move → Type 0
 MakesMove p (Shown byte) o = ⊥
 MakesMove p (Wrote at part words) quiet = Unit {0}
-MakesMove p (Wrote at part words) (commits o) = IsCommitting o (commit_of (read_pack p) o) p (after p (Wrote at part words ∷ [])) at part
+MakesMove p (Wrote at part words) (commits o) = IsCommitting o (commit_of (read_as p) o) p (after p (Wrote at part words ∷ [])) at part
 MakesMove p (Wrote at part words) (mends n) = EndsScavenge p (after p (Wrote at part words ∷ [])) n

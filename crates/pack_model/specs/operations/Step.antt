@@ -102,9 +102,9 @@ step m (widen d) = update_file m d (on_items (λ is. is ++ space 256 ∷ []))
 abbrev pub longest_entry : ℕ
 longest_entry = 26
 
-abbrev pub spare : Model → List Operation
-spare m = cond (nat_le longest_entry (largest_run (root_items m))) [] (widen sys_dir ∷ [])
+abbrev pub spare_widening : Model → List Operation
+spare_widening m = cond (nat_le longest_entry (largest_run (root_items m))) [] (widen sys_dir ∷ [])
 
 -- another directory that has no run for an entry of this name gets a page more
-abbrev pub room_in : Model → Fid → List ℕ → List Operation
-room_in m d name = cond (is_fid d sys_dir || nat_le (entry_length (length name)) (largest_run (dir_items m d))) [] (widen d ∷ [])
+abbrev pub room_widening : Model → Fid → List ℕ → List Operation
+room_widening m d name = cond (is_fid d sys_dir || nat_le (entry_length (length name)) (largest_run (dir_items m d))) [] (widen d ∷ [])

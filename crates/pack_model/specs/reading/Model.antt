@@ -55,8 +55,8 @@ read_sights shape ss = record {
 }
 
 -- the model of any pack
-abbrev pub read_pack : Pack → Model
-read_pack p = read_sights p.shape (sights p)
+abbrev pub read_as : Pack → Model
+read_as p = read_sights p.shape (sights p)
 
 -- ---- of a model
 -- the slots of a directory

@@ -11,13 +11,13 @@ use Rattle.disk_records.specs.Packs.{Pack}
 use Rattle.pack_model.specs.reading.Sights.{Sight, sights}
 use Rattle.pack_model.specs.reading.Files.{numbered, lives, file_bytes}
 use Rattle.pack_model.specs.reading.Bodies.{File, found}
-use Rattle.pack_model.specs.reading.Model.{IsNamed, read_pack, descriptor_words, last_serial}
+use Rattle.pack_model.specs.reading.Model.{IsNamed, read_as, descriptor_words, last_serial}
 use Rattle.pack_model.specs.showing.View.{view}
 use Rattle.pack_model.specs.showing.Settling.{show, given_names}
 use Rattle.pack_model.specs.states.Whole.{Tidy}
 use Rattle.pack_model.specs.states.Sentences.{PagesWhole}
 use Rattle.pack_model.specs.states.Sound.{Sound, Clean}
-use Rattle.pack_model.specs.states.InUse.{available, is_available, is_free_sight, free_sectors, bad_sectors, how_many}
+use Rattle.pack_model.specs.states.InUse.{available, is_available, is_free_sight, free_sector_count, bad_sectors, how_many}
 use Rattle.pack_model.specs.hints.Links.{PageLinks, LinksTrue}
 use Rattle.pack_model.specs.hints.Tables.{HintsTrue}
 use Rattle.pack_model.specs.scavenger.Needed.{needed}
@@ -35,7 +35,7 @@ abbrev pub freed_sectors : Shape → List Sight → ℕ
 freed_sectors shape ss = how_many (λ e. is_available shape ss e && not (is_free_sight e.1)) (numbered 0 ss)
 
 abbrev pub adopted_files : Pack → ℕ
-adopted_files p = length (given_names (view (read_pack p)).names (entries (view (read_pack p)).files))
+adopted_files p = length (given_names (view (read_as p)).names (entries (view (read_as p)).files))
 
 -- the files that it shows, and the two system files
 abbrev pub report_of : Pack → Report
@@ -84,7 +84,7 @@ pub record NamesMended (p : Pack) : Type 0 where
   pub pages : PagesWhole p.shape (sights p)
   pub links : LinksTrue p
   pub tidy : Tidy p
-  pub named : (f : Fid) → lives (sights p) f ≡ true → IsNamed (read_pack p) f
+  pub named : (f : Fid) → lives (sights p) f ≡ true → IsNamed (read_as p) f
 
 -- A scavenge of p is done and has left q.
 pub record Scavenged (p q : Pack) : Type 0 where
@@ -92,5 +92,5 @@ pub record Scavenged (p q : Pack) : Type 0 where
   pub clean : Clean q
   pub hints : HintsTrue q
   pub shown : show q ≡ show p
-  pub last : (read_pack q).last ≡ mended_serial p
-  pub free : free_sectors (sights q) + needed p.shape (sights p) ≡ available p.shape (sights p)
+  pub last : (read_as q).last ≡ mended_serial p
+  pub free : free_sector_count (sights q) + needed p.shape (sights p) ≡ available p.shape (sights p)

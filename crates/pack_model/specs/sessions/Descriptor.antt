@@ -11,7 +11,7 @@ use Rattle.disk_records.specs.Packs.{Pack}
 use Rattle.pack_model.specs.reading.Bytes.{put_at}
 use Rattle.pack_model.specs.reading.Sights.{sights}
 use Rattle.pack_model.specs.reading.Files.{place}
-use Rattle.pack_model.specs.reading.Model.{Model, read_pack}
+use Rattle.pack_model.specs.reading.Model.{Model, read_as}
 use Rattle.pack_model.specs.states.InUse.{how_many}
 use Rattle.pack_model.specs.hints.Tables.{words_of_bits}
 use Rattle.pack_model.specs.states.Sound.{mark_clean, mark_open, mark_of}
@@ -83,7 +83,7 @@ ending_moves false mark m ops = line_moves mark m ops ++ close_moves (mark_after
 -- It is so on the pack: the shape, the last serial, the mark, and the sectors that bear its data pages, in order.
 pub record DescriptorFits (p : Pack) (shape : Shape) (last mark : ℕ) (pages : List ℕ) : Type 0 where
   pub shape_is : p.shape ≡ shape
-  pub last_is : (read_pack p).last ≡ last
+  pub last_is : (read_as p).last ≡ last
   pub mark_is : mark_of (sights p) ≡ mark
   pub size : length pages ≡ data_pages shape
   pub bears : (n : ℕ) → n < length pages → place (sights p) disk_descriptor (n + 1) ≡ slice_get pages n

@@ -5,7 +5,7 @@ use Rattle.disk_records.specs.declared.records.Event.{Event}
 use Rattle.disk_records.specs.Packs.{Pack, after}
 use Rattle.alto_words.specs.declared.fid.Fid.{Fid}
 use Rattle.pack_model.specs.reading.Sights.{sights}
-use Rattle.pack_model.specs.reading.Model.{Model, read_pack}
+use Rattle.pack_model.specs.reading.Model.{Model, read_as}
 use Rattle.pack_model.specs.showing.View.{view}
 use Rattle.pack_model.specs.showing.Settling.{settle, show}
 use Rattle.pack_model.specs.states.Whole.{Whole, Tidy, TidyBut, Headless}
@@ -18,11 +18,11 @@ use Rattle.pack_model.specs.operations.Committing.{MakesMove}
 -- ---- what a pack stands for
 -- it is read as the model
 abbrev pub IsReadAs : Model → Pack → Type 0
-IsReadAs m p = read_pack p ≡ m
+IsReadAs m p = read_as p ≡ m
 
 -- it is viewed as the model
 abbrev pub Views : Model → Pack → Type 0
-Views m p = view (read_pack p) ≡ view m
+Views m p = view (read_as p) ≡ view m
 
 -- it shows what the model shows once its nameless files have names
 abbrev pub Shows : Model → Pack → Type 0
@@ -45,7 +45,7 @@ pub record SessionCut (m : Model) (p : Pack) : Type 0 where
 
 -- ---- moves with these meanings
 abbrev pub meaning : (Model → Pack → Type 0) → Meaning Model Move
-meaning stands = record { step = moved; read = read_pack; Stands = stands; Makes = MakesMove }
+meaning stands = record { step = moved; read = read_as; Stands = stands; Makes = MakesMove }
 
 abbrev pub reading : Meaning Model Move
 reading = meaning IsReadAs
@@ -65,21 +65,21 @@ session = meaning SessionCut
 -- ---- what the record writes of a whole operation do to a whole and tidy pack
 -- They make these moves; each cut is read as the model there; the pack is whole and tidy again.
 pub record Meets (p : Pack) (events : List Event) (moves : List Move) : Type 0 where
-  pub obeys : Obeys reading (read_pack p) p events moves
+  pub obeys : Obeys reading (read_as p) p events moves
   pub whole : Whole (after p events)
   pub tidy : Tidy (after p events)
 
 -- The same where a quiet write may change what isn't viewed, as the joining of free slots; at the end the pack is read as the
 -- model there.
 pub record Sees (p : Pack) (events : List Event) (moves : List Move) : Type 0 where
-  pub obeys : Obeys viewing (read_pack p) p events moves
-  pub ends : read_pack (after p events) ≡ steps viewing (read_pack p) moves
+  pub obeys : Obeys viewing (read_as p) p events moves
+  pub ends : read_as (after p events) ≡ steps viewing (read_as p) moves
   pub whole : Whole (after p events)
   pub tidy : Tidy (after p events)
 
 -- The record writes of a drop but for its last one: the file is gone, and its entry's slot is left.
 pub record Drops (p : Pack) (f : Fid) (events : List Event) (moves : List Move) : Type 0 where
-  pub obeys : Obeys reading (read_pack p) p events moves
+  pub obeys : Obeys reading (read_as p) p events moves
   pub whole : Whole (after p events)
   pub gone : Headless (sights (after p events)) f
   pub tidy_but : TidyBut f (sights (after p events))

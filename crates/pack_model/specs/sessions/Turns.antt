@@ -2,7 +2,7 @@
 -- How a session, its texts and its cuts are stated is this project's choice.
 use Rattle.std.specs.Prelude.{◌≡◌, ◌≢◌, ℕ, ◌+◌, ◌≤◌, ◌&&◌, ◌==◌, Bool, true, false, cond, List, [], ◌∷◌, ◌++◌, length, take, drop, sum_by, Result, Ok, Err}
 use Rattle.disk_records.specs.declared.records.Event.{Event}
-use Rattle.disk_records.specs.Packs.{Pack, after, cut}
+use Rattle.disk_records.specs.Packs.{Pack, after, crash}
 use Rattle.disk_records.specs.Events.{shown_events, shown_bytes, writes_in}
 use Rattle.pack_model.specs.sessions.Moves.{Meaning, Obeys, steps, IsStartOf}
 
@@ -63,15 +63,15 @@ abbrev pub acknowledged : {O : Type 0} → (O → ℕ) → List (Turn O) → Lis
 acknowledged weight [] bytes = 0
 acknowledged weight (t ∷ turns) bytes = cond (t.counts && is_whole t.text bytes) (sum_by weight t.ops + acknowledged weight turns (drop (length t.text) bytes)) 0
 
--- the moves that a cut has made: as many as it has record writes
+-- the moves that a crash has made: as many as it has record writes
 abbrev pub moves_at : {O : Type 0} → List (Turn O) → List Event → ℕ → List O
 moves_at turns events k = take (writes_in (take k events)) (ops_of turns)
 
--- The ruler: the number of operations that the cut after k events has done. It starts at 0, never falls, and rises at record writes alone.
+-- The ruler: the number of operations that the crash after k events has done. It starts at 0, never falls, and rises at record writes alone.
 abbrev pub ruler : {O : Type 0} → (O → ℕ) → List (Turn O) → List Event → ℕ → ℕ
 ruler weight turns events k = sum_by weight (moves_at turns events k)
 
--- The events cut after k of them stand for the model after the moves so far, and no operation that was acknowledged is missing.
+-- The events crash after k of them stand for the model after the moves so far, and no operation that was acknowledged is missing.
 pub record CutAt {M O : Type 0} (weight : O → ℕ) (means : Meaning M O) (m : M) (p : Pack) (events : List Event) (turns : List (Turn O)) (k : ℕ) : Type 0 where
   pub none_missing : acknowledged weight turns (shown_bytes (take k events)) ≤ ruler weight turns events k
-  pub stands : means.Stands (steps means m (moves_at turns events k)) (cut p events k)
+  pub stands : means.Stands (steps means m (moves_at turns events k)) (crash p events k)

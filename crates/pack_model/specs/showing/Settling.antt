@@ -9,7 +9,7 @@ use Rattle.alto_words.specs.Fid.{fid_cmp, is_fid, sys_dir}
 use Rattle.alto_words.specs.Names.{is_same_name, suffixed}
 use Rattle.disk_records.specs.Packs.{Pack}
 use Rattle.pack_model.specs.reading.Namings.{sys_dir_name, descriptor_name}
-use Rattle.pack_model.specs.reading.Model.{read_pack}
+use Rattle.pack_model.specs.reading.Model.{read_as}
 use Rattle.pack_model.specs.showing.View.{Home, Seen, View, view}
 
 -- a name stands in SysDir, or is that of a system file
@@ -53,7 +53,7 @@ settle v = record { files = v.files; names = settled v.names (entries v.files) }
 
 -- what any pack shows
 abbrev pub show : Pack → View
-show p = settle (view (read_pack p))
+show p = settle (view (read_as p))
 
 -- ---- the names that settling gives
 -- an item in front of others, unless the test holds

@@ -76,8 +76,8 @@ how_many test (x ∷ xs) = one_if (test x) + how_many test xs
 unfoldable pub available : Shape → List Sight → ℕ
 available shape ss = how_many (is_available shape ss) (numbered 0 ss)
 
-abbrev pub free_sectors : List Sight → ℕ
-free_sectors ss = how_many is_free_sight ss
+abbrev pub free_sector_count : List Sight → ℕ
+free_sector_count ss = how_many is_free_sight ss
 
 -- bad: a wrong header, from sector 1 up
 abbrev pub bad_sectors : List Sight → ℕ

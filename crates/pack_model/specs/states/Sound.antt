@@ -7,14 +7,14 @@ use Rattle.disk_records.specs.Words.{word}
 use Rattle.disk_records.specs.Packs.{Pack}
 use Rattle.pack_model.specs.reading.Sights.{Sight, sights}
 use Rattle.pack_model.specs.reading.Files.{lives}
-use Rattle.pack_model.specs.reading.Model.{IsNamed, descriptor_words, read_pack}
+use Rattle.pack_model.specs.reading.Model.{IsNamed, descriptor_words, read_as}
 use Rattle.pack_model.specs.states.Whole.{Whole, Tidy}
 
 -- Whole and tidy, and every living file has an entry. Nothing is said of a hint.
 pub record Sound (p : Pack) : Type 0 where
   pub whole : Whole p
   pub tidy : Tidy p
-  pub named : (f : Fid) → lives (sights p) f ≡ true → IsNamed (read_pack p) f
+  pub named : (f : Fid) → lives (sights p) f ≡ true → IsNamed (read_as p) f
 
 -- the mark: 1 is clean, 2 is open
 abbrev pub mark_clean : ℕ

@@ -33,7 +33,7 @@ IsSeat k [] m i = ⊥
 IsSeat k (c ∷ cs) m i = ((m ≡ k) × (i ≡ c.0)) ⊎ IsSeat (suc k) cs m i
 
 -- The data pages of f are these from page 0 on, and loose ones from page lo on, and no other sector has any.
-pub record Carries (ss : List Sight) (f : Fid) (pages : List PageAt) (lo : ℕ) (loose : List PageAt) : Type 0 where
+pub record HasPages (ss : List Sight) (f : Fid) (pages : List PageAt) (lo : ℕ) (loose : List PageAt) : Type 0 where
   pub seated : Seated ss f 0 pages
   pub waiting : Seated ss f lo loose
   pub only : (i m : ℕ) (bytes : List ℕ) → get_or ss i hidden ≡ holds f m bytes → IsSeat 0 pages m i ⊎ IsSeat lo loose m i
@@ -54,8 +54,8 @@ IsLaid (c ∷ d ∷ cs) = (length c.1 ≡ 512) × IsLaid (d ∷ cs)
 
 -- A living file has one leader, whose name can be read, and its pages with the last, each once; of any other nothing is carried.
 pub data FileWhole (ss : List Sight) (f : Fid) : Type 0 where
-  absent : Headless ss f → Carries ss f [] 0 [] → FileWhole ss f
-  present : (at : ℕ) (l : Leader) (pages : List PageAt) → Leads ss f at true l → Carries ss f pages 0 [] → IsLaid pages → length pages ≤ most_pages → FileWhole ss f
+  absent : Headless ss f → HasPages ss f [] 0 [] → FileWhole ss f
+  present : (at : ℕ) (l : Leader) (pages : List PageAt) → Leads ss f at true l → HasPages ss f pages 0 [] → IsLaid pages → length pages ≤ most_pages → FileWhole ss f
 
 -- ---- the pack
 -- DiskDescriptor's words 0 to 3 and 8 say the shape.

@@ -5,7 +5,7 @@ use Rattle.disk_records.specs.declared.records.Event.{Event}
 use Rattle.disk_records.specs.declared.records.Event.TheVariants.{Wrote}
 use Rattle.pack_model.specs.operations.Entering.{entry_value, values_first}
 use Rattle.pack_model.specs.sessions.Meanings.{Mendable, reading}
-use Rattle.pack_model.specs.reading.Model.{Model, read_pack}
+use Rattle.pack_model.specs.reading.Model.{Model, read_as}
 use Rattle.pack_model.specs.sessions.Moves.{Obeys, rest, write}
 use Rattle.pack_model.specs.operations.Operations.{Move, enter_writes}
 use Rattle.pack_model.specs.operations.Operations.Move.{commits, mends, quiet}
@@ -21,7 +21,7 @@ use Rattle.laws_line.proofs.inside.crashes.OneCommit.{Once, Quiets, moves_once}
 use Rattle.laws_line.proofs.inside.crashes.Spared.{enter_leaves_the_system}
 use Rattle.laws_line.proofs.inside.crashes.Still.{Still, still_after, still_throughout, system_still, unmarked_still}
 use Rattle.laws_line.specs.CutLaws.{CrashesOfAnOperation, CrashesOfEnter}
-use Rattle.laws_line.specs.SpareLaws.{Spares}
+use Rattle.laws_line.specs.SpareLaws.{LeavesSystem}
 use Rattle.laws_operation.proofs.enter.Laws.{enter_carries_out}
 use Rattle.laws_room.proofs.marks.Laws.{unmarked_is_unclean}
 use Rattle.laws_room.proofs.rooms.Laws.{scavengeable_by_model}
@@ -29,7 +29,7 @@ use Rattle.laws_room.proofs.rooms.Laws.{scavengeable_by_model}
 -- ---- what cuts are read as
 -- one model or another
 abbrev pub IsEither : Model → Model → Pack → Type 0
-IsEither m n q = (read_pack q ≡ m) ⊎ (read_pack q ≡ n)
+IsEither m n q = (read_as q ≡ m) ⊎ (read_as q ≡ n)
 
 behind : (m : Model) {n : Model} {p : Pack} {events : List Event} {os : List Move} → Obeys reading n p events os → Quiets os → Throughout (IsEither m n) p events
 behind m (rest here) h = inr here
@@ -50,9 +50,9 @@ both_throughout P Q R f p [] h k = f p h k
 both_throughout P Q R f p (e ∷ events) h k = (f p h.0 k.0, both_throughout P Q R f (after p (e ∷ [])) events h.1 k.1)
 
 -- a pack on which the system stands, without the clean mark, that is read as a ready model
-pub mendable_still : (p q : Pack) → Whole p → Unmarked p → Still p q → Ready (read_pack q) → Mendable q
+pub mendable_still : (p q : Pack) → Whole p → Unmarked p → Still p q → Ready (read_as q) → Mendable q
 mendable_still p q w unmarked s ready = record {
-  scavengeable = (scavengeable_by_model q (system_still p q s w)).1 (ready_has_room (read_pack q) ready);
+  scavengeable = (scavengeable_by_model q (system_still p q s w)).1 (ready_has_room (read_as q) ready);
   clean_is_sound = λ clean. absurd (unmarked_is_unclean q (unmarked_still p q s unmarked) clean);
 }
 
@@ -64,8 +64,8 @@ mendable_either p q m n w unmarked first last s h = mendable_still p q w unmarke
 pub crashes_of_an_operation : CrashesOfAnOperation
 crashes_of_an_operation p events o w c spares = record {
   obeys = views_of c.meets.obeys;
-  cuts = λ unmarked first last. both_throughout (Still p) (IsEither (read_pack p) (step (read_pack p) o)) Mendable (λ q. mendable_either p q (read_pack p) (step (read_pack p) o) w unmarked first last) p events (still_throughout p events spares)
-      (either o c.meets.obeys (moves_once (read_pack p) o));
+  cuts = λ unmarked first last. both_throughout (Still p) (IsEither (read_as p) (step (read_as p) o)) Mendable (λ q. mendable_either p q (read_as p) (step (read_as p) o) w unmarked first last) p events (still_throughout p events spares)
+      (either o c.meets.obeys (moves_once (read_as p) o));
   unmarked = unmarked_still p (after p events) (still_after p events spares);
   reads = c.ends;
   whole = c.meets.whole;
@@ -76,7 +76,7 @@ crashes_of_an_operation p events o w c spares = record {
 pub crashes_of_enter : CrashesOfEnter
 crashes_of_enter p d name f a old b left words at next_at w t h =
     let events : List Event = enter_writes (values_first p (entry_room a old at next_at) words) at (entry_value p (entry_room a old at next_at) words) in
-    let spares : Spares p events = enter_leaves_the_system p d name f a old b left words at next_at w h in
+    let spares : LeavesSystem p events = enter_leaves_the_system p d name f a old b left words at next_at w h in
     let s = enter_carries_out p d name f a old b left words at next_at w t h in
     record {
       obeys = s.sees.obeys;

@@ -13,7 +13,7 @@ use Rattle.pack_model.specs.operations.Committing.{page_of_word}
 use Rattle.pack_model.specs.operations.Entering.{entry_value, joined, joining, overlapping, values_first}
 use Rattle.pack_model.specs.reading.Files.{place}
 use Rattle.pack_model.specs.hints.Links.{dir_words}
-use Rattle.pack_model.specs.reading.Model.{read_pack}
+use Rattle.pack_model.specs.reading.Model.{read_as}
 use Rattle.pack_model.specs.operations.Operations.{enter_writes}
 use Rattle.pack_model.specs.operations.PageWords.{freed_value, in_page, later, near}
 use Rattle.pack_model.specs.scavenger.Scavenging.{Throughout}
@@ -37,12 +37,12 @@ use Rattle.laws_line.proofs.inside.crashes.Rejoined.{ready_joined}
 
 -- a pack that is read as a ready model
 abbrev pub ReadsReady : Pack → Type 0
-ReadsReady q = Ready (read_pack q)
+ReadsReady q = Ready (read_as q)
 
 -- ---- one free slot is the room
 module _ (p : Pack) (w : Whole p) (t : Tidy p) (d : Fid) (name : List ℕ) (f : Fid) (a b : List Item) (left : ℕ) (words : List ℕ) (at next_at : ℕ) (r : MayWrite p d name f a b left words at next_at) where
   -- words over the page's end are in the free slot, and aren't read
-  over_reads : (page_of_word (all_words a + length words - 1) == page_of_word (all_words a)) ≡ false → read_pack (after p (value_writes next_at (put_at 0 (later (all_words a) words) (sector_at p next_at).value))) ≡ read_pack p
+  over_reads : (page_of_word (all_words a + length words - 1) == page_of_word (all_words a)) ≡ false → read_as (after p (value_writes next_at (put_at 0 (later (all_words a) words) (sector_at p next_at).value))) ≡ read_as p
   over_reads e =
       let apart : page_of_word (all_words a + length words - 1) ≢ page_of_word (all_words a) = λ z. (let x : true ≡ false = sym (eq-eqb (page_of_word (all_words a + length words - 1)) (page_of_word (all_words a)) z) ∙ e in cc) in
       let s : length (near (all_words a) words) ≡ min (256 - in_page (all_words a)) (length words) = length-take (256 - in_page (all_words a)) words in
@@ -65,15 +65,15 @@ module _ (p : Pack) (w : Whole p) (t : Tidy p) (d : Fid) (name : List ℕ) (f : 
       } in
       let loose : (k : ℕ) → w2 ≤ k → k < w2 + length (later (all_words a) words) → LooseIn 0 (slots (dir_words p d)) k = λ k low high.
       subst (λ is. LooseIn 0 is k) (sym r.slots_are) (loose_in 0 a b (entry_length (length name) + left) k (omega arith) (omega arith)) in
-      ap (λ k. read_pack (after p (value_writes next_at (put_at k (later (all_words a) words) (sector_at p next_at).value)))) (sym z) ∙ (loose_stage p w t d w2 next_at (later (all_words a) words) h loose).read
+      ap (λ k. read_as (after p (value_writes next_at (put_at k (later (all_words a) words) (sector_at p next_at).value)))) (sym z) ∙ (loose_stage p w t d w2 next_at (later (all_words a) words) h loose).read
 
   -- each cut of the values that write the words
-  words_ready : Ready (read_pack p) → Ready (step (read_pack p) (enter d name f))
+  words_ready : Ready (read_as p) → Ready (step (read_as p) (enter d name f))
       → Throughout ReadsReady p (values_writes (overlapping p (all_words a) words next_at) ++ value_writes at (put_at (in_page (all_words a)) (near (all_words a) words) (sector_at (after p (values_writes (overlapping p (all_words a) words next_at))) at).value))
   words_ready first last = by (page_of_word (all_words a + length words - 1) == page_of_word (all_words a)) refl (second_stage p w t d name f a b left words at next_at r).ends
     where
       by : (c : Bool) → (page_of_word (all_words a + length words - 1) == page_of_word (all_words a)) ≡ c
-          → read_pack (after p (values_writes (cond c [] ((next_at, put_at 0 (later (all_words a) words) (sector_at p next_at).value) ∷ [])) ++ value_writes at (put_at (in_page (all_words a)) (near (all_words a) words) (sector_at (after p (values_writes (cond c [] ((next_at, put_at 0 (later (all_words a) words) (sector_at p next_at).value) ∷ [])))) at).value))) ≡ step (read_pack p) (enter d name f)
+          → read_as (after p (values_writes (cond c [] ((next_at, put_at 0 (later (all_words a) words) (sector_at p next_at).value) ∷ [])) ++ value_writes at (put_at (in_page (all_words a)) (near (all_words a) words) (sector_at (after p (values_writes (cond c [] ((next_at, put_at 0 (later (all_words a) words) (sector_at p next_at).value) ∷ [])))) at).value))) ≡ step (read_as p) (enter d name f)
           → Throughout ReadsReady p (values_writes (cond c [] ((next_at, put_at 0 (later (all_words a) words) (sector_at p next_at).value) ∷ [])) ++ value_writes at (put_at (in_page (all_words a)) (near (all_words a) words) (sector_at (after p (values_writes (cond c [] ((next_at, put_at 0 (later (all_words a) words) (sector_at p next_at).value) ∷ [])))) at).value))
       by true e ends = (first, subst Ready (sym ends) last)
       by false e ends = (first, (subst Ready (sym (over_reads e)) first, subst Ready (sym ends) last))
@@ -81,7 +81,7 @@ module _ (p : Pack) (w : Whole p) (t : Tidy p) (d : Fid) (name : List ℕ) (f : 
 -- ---- any room
 module _ (p : Pack) (w : Whole p) (t : Tidy p) (d : Fid) (name : List ℕ) (f : Fid) (a old b : List Item) (left : ℕ) (words : List ℕ) (at next_at : ℕ) (h : MayEnterAt p d name f a old b left words at next_at) where
   -- by whether the room is one slot
-  stages_ready : Ready (read_pack p) → Ready (step (read_pack p) (enter d name f)) → (one : Bool) → (item_words (get_or old 0 (space 0)) == all_words old) ≡ one
+  stages_ready : Ready (read_as p) → Ready (step (read_as p) (enter d name f)) → (one : Bool) → (item_words (get_or old 0 (space 0)) == all_words old) ≡ one
       → Throughout ReadsReady p (values_writes (cond one [] ((at, freed_value (all_words a) (all_words old) (sector_at p at).value) ∷ []))
       ++ (values_writes (overlapping (after p (values_writes (cond one [] ((at, freed_value (all_words a) (all_words old) (sector_at p at).value) ∷ [])))) (all_words a) words next_at)
       ++ value_writes at (put_at (in_page (all_words a)) (near (all_words a) words) (sector_at (after (after p (values_writes (cond one [] ((at, freed_value (all_words a) (all_words old) (sector_at p at).value) ∷ [])))) (values_writes (overlapping (after p (values_writes (cond one [] ((at, freed_value (all_words a) (all_words old) (sector_at p at).value) ∷ [])))) (all_words a) words next_at))) at).value)))
@@ -90,11 +90,11 @@ module _ (p : Pack) (w : Whole p) (t : Tidy p) (d : Fid) (name : List ℕ) (f : 
       let q : Pack = freed p at a old in
       let s = stage p w t d name f a old b left words at next_at h in
       let fr = frees p w t d name f a old b left words at next_at h in
-      let joined_ready : Ready (read_pack q) = subst Ready (sym s.reads) (ready_joined (read_pack p) d (dir_lead p w d (all_words a) at (all_words old ∷ []) fr.write) a old b s.was (bare p w t d name f a old b left words at next_at h) fr.most first) in
+      let joined_ready : Ready (read_as q) = subst Ready (sym s.reads) (ready_joined (read_as p) d (dir_lead p w d (all_words a) at (all_words old ∷ []) fr.write) a old b s.was (bare p w t d name f a old b left words at next_at h) fr.most first) in
       (first, words_ready q s.whole s.tidy d name f a b left words at next_at (may_joined p w t d name f a old b left words at next_at h) joined_ready (subst Ready (sym (same_step p w t d name f a old b left words at next_at h)) last))
 
   -- all of it
-  pub enter_ready : Ready (read_pack p) → Ready (step (read_pack p) (enter d name f)) → Throughout ReadsReady p (enter_writes (values_first p (entry_room a old at next_at) words) at (entry_value p (entry_room a old at next_at) words))
+  pub enter_ready : Ready (read_as p) → Ready (step (read_as p) (enter d name f)) → Throughout ReadsReady p (enter_writes (values_first p (entry_room a old at next_at) words) at (entry_value p (entry_room a old at next_at) words))
   enter_ready first last =
       let x : List (ℕ × List ℕ) = joining p (entry_room a old at next_at) in
       let q : Pack = joined p (entry_room a old at next_at) in

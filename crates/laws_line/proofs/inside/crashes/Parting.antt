@@ -1,7 +1,7 @@
--- Properties of each cut, by parts of the events; and moves whose cuts can be scavenged.
+-- Properties of each crash, by parts of the events; and moves whose cuts can be scavenged.
 use Rattle.std.proofs.Common.{List, [], ap, subst, suc, sym, zero, ℕ, ◌++◌, ◌∷◌}
 use Rattle.disk_records.specs.Events.{IsFirstOf}
-use Rattle.disk_records.specs.Packs.{Pack, after, cut}
+use Rattle.disk_records.specs.Packs.{Pack, after, crash}
 use Rattle.disk_records.specs.declared.records.Event.{Event}
 use Rattle.pack_model.specs.sessions.Moves.{rest, write}
 use Rattle.pack_model.specs.scavenger.Scavenging.{Throughout}
@@ -11,7 +11,7 @@ use Rattle.laws_line.specs.PartLaws.{CrashByCrash, CrashesOfBothParts, CrashesOf
 
 -- ---- a property of packs
 module _ (P : Pack → Type 0) where
-  -- the first cut
+  -- the first crash
   first_cut : (p : Pack) (events : List Event) → Throughout P p events → P p
   first_cut p [] r = r
   first_cut p (e ∷ events) r = r.0
@@ -36,7 +36,7 @@ module _ (P : Pack → Type 0) where
   crashes_of_both_parts p [] b r s = s
   crashes_of_both_parts p (e ∷ a) b r s = (r.0, crashes_of_both_parts (after p (e ∷ [])) a b r.1 s)
 
-  from_cuts : (p : Pack) (events : List Event) → ((k : ℕ) → P (cut p events k)) → Throughout P p events
+  from_cuts : (p : Pack) (events : List Event) → ((k : ℕ) → P (crash p events k)) → Throughout P p events
   from_cuts p [] h = h zero
   from_cuts p (e ∷ events) h = (h zero, from_cuts (after p (e ∷ [])) events (λ k. h (suc k)))
 

@@ -11,7 +11,7 @@ use Rattle.pack_model.specs.reading.Bodies.{File, described, found, is_described
 use Rattle.pack_model.specs.operations.Committing.{pages_for_operations}
 use Rattle.pack_model.specs.reading.Files.{file_bytes, leader, lives}
 use Rattle.pack_model.specs.reading.Leaders.{Leader}
-use Rattle.pack_model.specs.reading.Model.{IsNamed, Model, read_pack, read_sights, room}
+use Rattle.pack_model.specs.reading.Model.{IsNamed, Model, read_as, read_sights, room}
 use Rattle.pack_model.specs.operations.Operations.{Move}
 use Rattle.pack_model.specs.reading.Sights.{Sight, sights}
 use Rattle.pack_model.specs.states.Sound.{Sound}
@@ -62,17 +62,17 @@ living_read shape ss f other alive = same _ _ (get-seen (lives ss) (described ss
     by (Some l) e = refl
 
 -- what the line leaves is sound where its last model is settled
-sound_behind : (p : Pack) (events : List Event) (ops : List Operation) {moves : List Move} → LineStays p events ops moves → Settled (steps_of (read_pack p) ops) → Sound (after p events)
+sound_behind : (p : Pack) (events : List Event) (ops : List Operation) {moves : List Move} → LineStays p events ops moves → Settled (steps_of (read_as p) ops) → Sound (after p events)
 sound_behind p events ops h settled = record { whole = h.whole; tidy = h.tidy; named = λ f alive. by f alive (is_fid f disk_descriptor) refl }
   where
     q : Pack
     q = after p events
 
-    again : Settled (read_pack q)
+    again : Settled (read_as q)
     again = subst Settled (sym h.reads) settled
 
-    by : (f : Fid) → lives (sights q) f ≡ true → (b : Bool) → is_fid f disk_descriptor ≡ b → IsNamed (read_pack q) f
-    by f alive true e = subst (IsNamed (read_pack q)) (sym (same_fid f disk_descriptor e)) h.whole.descriptor_named
+    by : (f : Fid) → lives (sights q) f ≡ true → (b : Bool) → is_fid f disk_descriptor ≡ b → IsNamed (read_as q) f
+    by f alive true e = subst (IsNamed (read_as q)) (sym (same_fid f disk_descriptor e)) h.whole.descriptor_named
     by f alive false e = again.all f (living_read q.shape (sights q) f e alive)
 
 -- ---- the law
@@ -80,12 +80,12 @@ pub crashes_of_a_line_on_a_sound_pack : CrashesOfALineOnASoundPack
 crashes_of_a_line_on_a_sound_pack p at events ops sound placed some is few line =
     let h = crashes_of_a_line p at events ops sound placed some line in
     let free = (free_is_the_room p sound.whole).room_is in
-    let behind = line_behind (read_pack p) ops (sound_is_settled p sound) is (omega arith) in
+    let behind = line_behind (read_as p) ops (sound_is_settled p sound) is (omega arith) in
     let cuts = h.cuts behind.ready in
     record {
       cuts = cuts;
-      operating = viewed_and_mendable_operates (read_pack p) p _ _ h.obeys cuts;
-      session = viewed_and_mendable_in_session (read_pack p) p _ _ h.obeys cuts;
+      operating = viewed_and_mendable_operates (read_as p) p _ _ h.obeys cuts;
+      session = viewed_and_mendable_in_session (read_as p) p _ _ h.obeys cuts;
       reads = h.reads;
       unmarked = h.unmarked;
       sound = sound_behind p _ ops h behind.behind;

@@ -23,7 +23,7 @@ use Rattle.laws_record.proofs.Recording.{free_sight}
 use Rattle.laws_operation.proofs.Commanding.{ones_none}
 use Rattle.laws_operation.proofs.Showing.{free_is, is_here, usable_is}
 use Rattle.laws_operation.specs.ByteLaws.{Bear}
-use Rattle.laws_line.specs.SpareLaws.{Spares, SparesAt, SparesSystem}
+use Rattle.laws_line.specs.SpareLaws.{LeavesSystem, RecordLeavesSystem, LeavesSystemAt}
 
 -- a page of another file than DiskDescriptor, and not SysDir's leader
 pub record IsElse (x : Page) : Type 0 where
@@ -58,53 +58,53 @@ module _ (p : Pack) (l : Leader) (root : get_or (sights p) 1 hidden ≡ leads sy
 
   module _ (at : ℕ) where
     -- a value, and a label, of a sector with such a page
-    value_spares : (x : Page) (words : List ℕ) → carried p at ≡ Some x → IsElse x → SparesAt p at 2 words
+    value_spares : (x : Page) (words : List ℕ) → carried p at ≡ Some x → IsElse x → RecordLeavesSystem p at 2 words
     value_spares x words is other = record {
       not_root = apart_from_root at x is other;
       not_descriptor = λ page e. (let both : Some page ≡ Some x = sym e ∙ is in let same : page ≡ x = cc in ap (λ (y : Page). is_fid y.fid disk_descriptor) same ∙ other.no_descriptor);
       record_is = inl refl;
     }
 
-    label_spares : (x : Page) (words : List ℕ) → carried p at ≡ Some x → IsElse x → NamesElse words → SparesAt p at 1 words
+    label_spares : (x : Page) (words : List ℕ) → carried p at ≡ Some x → IsElse x → NamesElse words → RecordLeavesSystem p at 1 words
     label_spares x words is other names = let v = value_spares x words is other in record { not_root = v.not_root; not_descriptor = v.not_descriptor; record_is = inr (refl, names) }
 
     -- and of a free one
-    free_value_spares : (words : List ℕ) → is_free_at p at ≡ true → SparesAt p at 2 words
+    free_value_spares : (words : List ℕ) → is_free_at p at ≡ true → RecordLeavesSystem p at 2 words
     free_value_spares words is = record {
       not_root = λ z. (let both : free ≡ leads sys_dir true l = sym (free_sight p at is) ∙ ap (λ i. get_or (sights p) i hidden) z ∙ root in absurd cc);
       not_descriptor = λ page e. absurd (let both : None ≡ Some page = sym (free_unnamed (sector_at p at).label (free_parts p at is).1) ∙ (carried_parts p at page e).1 in cc);
       record_is = inl refl;
     }
 
-    free_label_spares : (words : List ℕ) → is_free_at p at ≡ true → NamesElse words → SparesAt p at 1 words
+    free_label_spares : (words : List ℕ) → is_free_at p at ≡ true → NamesElse words → RecordLeavesSystem p at 1 words
     free_label_spares words is names = let v = free_value_spares words is in record { not_root = v.not_root; not_descriptor = v.not_descriptor; record_is = inr (refl, names) }
 
     -- ---- the record writes of sector commands
-    pub value_alone : (x : Page) (value : List ℕ) → carried p at ≡ Some x → IsElse x → Spares p (value_writes at value)
-    value_alone x value is other = All-cons (SparesSystem p) (Wrote at 2 value) [] (value_spares x value is other) (All-nil (SparesSystem p))
+    pub value_alone : (x : Page) (value : List ℕ) → carried p at ≡ Some x → IsElse x → LeavesSystem p (value_writes at value)
+    value_alone x value is other = All-cons (LeavesSystemAt p) (Wrote at 2 value) [] (value_spares x value is other) (All-nil (LeavesSystemAt p))
 
-    pub relabel_spares : (x : Page) (label value : List ℕ) → carried p at ≡ Some x → IsElse x → NamesElse label → Spares p (relabel_writes at label value)
-    relabel_spares x label value is other names = All-cons (SparesSystem p) (Wrote at 1 label) (value_writes at value) (label_spares x label is other names) (value_alone x value is other)
+    pub relabel_spares : (x : Page) (label value : List ℕ) → carried p at ≡ Some x → IsElse x → NamesElse label → LeavesSystem p (relabel_writes at label value)
+    relabel_spares x label value is other names = All-cons (LeavesSystemAt p) (Wrote at 1 label) (value_writes at value) (label_spares x label is other names) (value_alone x value is other)
 
-    pub release_spares : (x : Page) → carried p at ≡ Some x → IsElse x → Spares p (release_writes at)
+    pub release_spares : (x : Page) → carried p at ≡ Some x → IsElse x → LeavesSystem p (release_writes at)
     release_spares x is other = relabel_spares x (ones 8) (ones 256) is other (names_none (ones 8) ones_none)
 
     -- of a page that is in use, its value, its label and its value again
-    pub reclaim_spares : (x : Page) (label value : List ℕ) → carried p at ≡ Some x → IsElse x → NamesElse label → Spares p (claim_writes at label value)
-    reclaim_spares x label value is other names = All-cons (SparesSystem p) (Wrote at 2 value) (relabel_writes at label value) (value_spares x value is other) (relabel_spares x label value is other names)
+    pub reclaim_spares : (x : Page) (label value : List ℕ) → carried p at ≡ Some x → IsElse x → NamesElse label → LeavesSystem p (claim_writes at label value)
+    reclaim_spares x label value is other names = All-cons (LeavesSystemAt p) (Wrote at 2 value) (relabel_writes at label value) (value_spares x value is other) (relabel_spares x label value is other names)
 
     -- of a free sector
-    pub claim_spares : (label value : List ℕ) → is_free_at p at ≡ true → NamesElse label → Spares p (claim_writes at label value)
+    pub claim_spares : (label value : List ℕ) → is_free_at p at ≡ true → NamesElse label → LeavesSystem p (claim_writes at label value)
     claim_spares label value is names =
-        All-cons (SparesSystem p) (Wrote at 2 value) (relabel_writes at label value) (free_value_spares value is)
-        (All-cons (SparesSystem p) (Wrote at 1 label) (value_writes at value) (free_label_spares label is names) (All-cons (SparesSystem p) (Wrote at 2 value) [] (free_value_spares value is) (All-nil (SparesSystem p))))
+        All-cons (LeavesSystemAt p) (Wrote at 2 value) (relabel_writes at label value) (free_value_spares value is)
+        (All-cons (LeavesSystemAt p) (Wrote at 1 label) (value_writes at value) (free_label_spares label is names) (All-cons (LeavesSystemAt p) (Wrote at 2 value) [] (free_value_spares value is) (All-nil (LeavesSystemAt p))))
 
   -- ---- and of several in a row
   -- pages of a file, from one that isn't the leader on
-  pub releases_spare : (f : Fid) (n : ℕ) (ats : List ℕ) → is_fid f disk_descriptor ≡ false → 0 < n → Bear (sights p) f n ats → Spares p (releases_writes ats)
-  releases_spare f n [] apart some h = All-nil (SparesSystem p)
+  pub releases_spare : (f : Fid) (n : ℕ) (ats : List ℕ) → is_fid f disk_descriptor ≡ false → 0 < n → Bear (sights p) f n ats → LeavesSystem p (releases_writes ats)
+  releases_spare f n [] apart some h = All-nil (LeavesSystemAt p)
   releases_spare f n (at ∷ ats) apart some h =
-      All-append (SparesSystem p) (release_writes at) (releases_writes ats) (release_spares at (page_number f n) (place_carried p (page_number f n) at h.0) (record { no_descriptor = apart; no_root = inl some }))
+      All-append (LeavesSystemAt p) (release_writes at) (releases_writes ats) (release_spares at (page_number f n) (place_carried p (page_number f n) at h.0) (record { no_descriptor = apart; no_root = inl some }))
       (releases_spare f (suc n) ats apart (omega arith) h.1)
 
 -- what is shown as free is free

@@ -24,7 +24,7 @@ use Rattle.laws_record.proofs.Copying.{place_carried}
 use Rattle.laws_record.proofs.Recording.{carried_sight}
 use Rattle.laws_room.specs.RoomLaws.{SystemStands}
 use Rattle.laws_line.proofs.inside.crashes.Sparing.{root_carried}
-use Rattle.laws_line.specs.SpareLaws.{Spares, SparesAt, SparesSystem}
+use Rattle.laws_line.specs.SpareLaws.{LeavesSystem, RecordLeavesSystem, LeavesSystemAt}
 use Rattle.pack_laws.proofs.files.Laws.{places_are_lowest}
 
 -- Sector 1 and each sector with a page of DiskDescriptor are as they were, and no other has one.
@@ -41,7 +41,7 @@ still_self p = record { shape = refl; root = refl; pages = λ i x c d. refl; non
 one_file : (x : Page) → is_fid x.fid disk_descriptor ≡ true → is_fid x.fid disk_descriptor ≡ false → ⊥
 one_file x a b = let t : true ≡ false = sym a ∙ b in cc
 
-module _ (p q : Pack) (at part : ℕ) (words : List ℕ) (s : Still p q) (h : SparesAt p at part words) where
+module _ (p q : Pack) (at part : ℕ) (words : List ℕ) (s : Still p q) (h : RecordLeavesSystem p at part words) where
   abbrev written : Pack
   written = after q (Wrote at part words ∷ [])
 
@@ -70,22 +70,22 @@ module _ (p q : Pack) (at part : ℕ) (words : List ℕ) (s : Still p q) (h : Sp
   }
 
 -- at each cut, and at the end
-still_on : (p q : Pack) (events : List Event) → Still p q → Spares p events → Throughout (Still p) q events
+still_on : (p q : Pack) (events : List Event) → Still p q → LeavesSystem p events → Throughout (Still p) q events
 still_on p q [] s h = s
 still_on p q (Wrote at part words ∷ events) s h =
-    (s, still_on p (after q (Wrote at part words ∷ [])) events (still_written p q at part words s (All-head (SparesSystem p) (Wrote at part words) events h)) (All-tail (SparesSystem p) (Wrote at part words) events h))
-still_on p q (Shown byte ∷ events) s h = (s, still_on p q events s (All-tail (SparesSystem p) (Shown byte) events h))
+    (s, still_on p (after q (Wrote at part words ∷ [])) events (still_written p q at part words s (All-head (LeavesSystemAt p) (Wrote at part words) events h)) (All-tail (LeavesSystemAt p) (Wrote at part words) events h))
+still_on p q (Shown byte ∷ events) s h = (s, still_on p q events s (All-tail (LeavesSystemAt p) (Shown byte) events h))
 
-still_end : (p q : Pack) (events : List Event) → Still p q → Spares p events → Still p (after q events)
+still_end : (p q : Pack) (events : List Event) → Still p q → LeavesSystem p events → Still p (after q events)
 still_end p q [] s h = s
 still_end p q (Wrote at part words ∷ events) s h =
-    still_end p (after q (Wrote at part words ∷ [])) events (still_written p q at part words s (All-head (SparesSystem p) (Wrote at part words) events h)) (All-tail (SparesSystem p) (Wrote at part words) events h)
-still_end p q (Shown byte ∷ events) s h = still_end p q events s (All-tail (SparesSystem p) (Shown byte) events h)
+    still_end p (after q (Wrote at part words ∷ [])) events (still_written p q at part words s (All-head (LeavesSystemAt p) (Wrote at part words) events h)) (All-tail (LeavesSystemAt p) (Wrote at part words) events h)
+still_end p q (Shown byte ∷ events) s h = still_end p q events s (All-tail (LeavesSystemAt p) (Shown byte) events h)
 
-pub still_throughout : (p : Pack) (events : List Event) → Spares p events → Throughout (Still p) p events
+pub still_throughout : (p : Pack) (events : List Event) → LeavesSystem p events → Throughout (Still p) p events
 still_throughout p events h = still_on p p events (still_self p) h
 
-pub still_after : (p : Pack) (events : List Event) → Spares p events → Still p (after p events)
+pub still_after : (p : Pack) (events : List Event) → LeavesSystem p events → Still p (after p events)
 still_after p events h = still_end p p events (still_self p) h
 
 -- ---- what stands so

@@ -9,7 +9,7 @@ use Rattle.pack_model.specs.reading.Bytes.{put_at}
 use Rattle.pack_model.specs.operations.Commands.{values_writes}
 use Rattle.pack_model.specs.reading.Files.{lives}
 use Rattle.pack_model.specs.hints.Links.{LinksTrue, dir_words}
-use Rattle.pack_model.specs.reading.Model.{dir_items, read_pack}
+use Rattle.pack_model.specs.reading.Model.{dir_items, read_as}
 use Rattle.pack_model.specs.operations.PageWords.{in_page, page_number}
 use Rattle.pack_model.specs.reading.Sights.{sights}
 use Rattle.pack_model.specs.reading.Slots.{Item, all_words, slots}
@@ -36,15 +36,15 @@ use Rattle.laws_operation.specs.NameLinkLaws.{JoinKeepsLinks, LeaveKeepsLinks, L
 
 -- values in sectors of a directory, where it and the others are read so
 pub dir_values : (vs : List (ℕ × List ℕ)) (p : Pack) (d : Fid) → Whole p → Whole (after p (values_writes vs)) → AllOf d p vs
-    → ((g : Fid) → is_fid g d ≡ false → lives (sights (after p (values_writes vs))) g ≡ true → is_directory g ≡ true → dir_items (read_pack (after p (values_writes vs))) g ≡ dir_items (read_pack p) g)
-    → AllTrue (sights p) (dir_words (after p (values_writes vs)) d) 0 (dir_items (read_pack (after p (values_writes vs))) d) → LinksTrue p → LinksTrue (after p (values_writes vs))
+    → ((g : Fid) → is_fid g d ≡ false → lives (sights (after p (values_writes vs))) g ≡ true → is_directory g ≡ true → dir_items (read_as (after p (values_writes vs))) g ≡ dir_items (read_as p) g)
+    → AllTrue (sights p) (dir_words (after p (values_writes vs)) d) 0 (dir_items (read_as (after p (values_writes vs))) d) → LinksTrue p → LinksTrue (after p (values_writes vs))
 dir_values vs p d wp wq of others own links =
     let q : Pack = after p (values_writes vs) in
     let all : AllConcern d p (values_writes vs) = values_concern d vs p of in
     record {
       pages = values_linked vs p wp wq links.pages;
       entries = all_dirs q (λ g live dir. elim (is_fid g d) as (λ b. is_fid g d ≡ b → DirTrue q g) [
-        | true ↦ λ e. subst (DirTrue q) (sym (same_fid g d e)) (true_more (sights p) (sights q) (dir_words q d) 0 (dir_items (read_pack q) d) (λ f a x. values_place vs p wp wq f 0 ∙ x) own)
+        | true ↦ λ e. subst (DirTrue q) (sym (same_fid g d e)) (true_more (sights p) (sights q) (dir_words q d) 0 (dir_items (read_as q) d) (λ f a x. values_place vs p wp wq f 0 ∙ x) own)
         | false ↦ λ e. other_dir_by p d (values_writes vs) wp wq all (λ a x. values_place vs p wp wq d 0 ∙ x) g e (others g e live dir)
             (dirs_true p links.entries g (other_lives p d (values_writes vs) wp wq all g e live) dir)
       ] refl);
@@ -81,12 +81,12 @@ module _ (p : Pack) (d : Fid) (at : ℕ) (a old b : List Item) (fr : Frees p d a
 
   module _ (wp : Whole p) (wq : Whole (dir_written p (all_words a) at (all_words old ∷ []))) (tq : Tidy (dir_written p (all_words a) at (all_words old ∷ []))) where
     -- the slots that are read
-    freed_items : dir_items (read_pack (dir_written p (all_words a) at (all_words old ∷ []))) d ≡ a ++ space (all_words old) ∷ b
+    freed_items : dir_items (read_as (dir_written p (all_words a) at (all_words old ∷ []))) d ≡ a ++ space (all_words old) ∷ b
     freed_items = items_are (dir_written p (all_words a) at (all_words old ∷ [])) tq d freed_lives fr.write.directory ∙ ap slots freed_words ∙ freed_slots
 
     -- so links are true again
-    freed_links : (mid : List Item) → all_words mid ≡ all_words old → dir_items (read_pack p) d ≡ a ++ (mid ++ b)
-        → ((g : Fid) → is_fid g d ≡ false → lives (sights (dir_written p (all_words a) at (all_words old ∷ []))) g ≡ true → is_directory g ≡ true → dir_items (read_pack (dir_written p (all_words a) at (all_words old ∷ []))) g ≡ dir_items (read_pack p) g)
+    freed_links : (mid : List Item) → all_words mid ≡ all_words old → dir_items (read_as p) d ≡ a ++ (mid ++ b)
+        → ((g : Fid) → is_fid g d ≡ false → lives (sights (dir_written p (all_words a) at (all_words old ∷ []))) g ≡ true → is_directory g ≡ true → dir_items (read_as (dir_written p (all_words a) at (all_words old ∷ []))) g ≡ dir_items (read_as p) g)
         → LinksTrue p → LinksTrue (dir_written p (all_words a) at (all_words old ∷ []))
     freed_links mid same items others links =
         let q : Pack = dir_written p (all_words a) at (all_words old ∷ []) in
@@ -123,8 +123,8 @@ slot_keeps_links p f d at a b own w t dead fr links =
     let out = slot_carries_out p f d at a b own w t dead fr in
     let wq : Whole (slot_of_words p at a n) = subst (λ k. Whole (slot_of_words p at a k)) (sym one) out.meets.whole in
     let tq : Tidy (slot_of_words p at a n) = subst (λ k. Tidy (slot_of_words p at a k)) (sym one) out.meets.tidy in
-    let reads : read_pack (slot_of_words p at a n) ≡ read_pack p = subst (λ k. read_pack (slot_of_words p at a k) ≡ read_pack p) (sym one) (stands_last reading out.meets.obeys) in
-    let items : dir_items (read_pack p) d ≡ a ++ space n ∷ b = ap (λ m. dir_items m d) (sym reads) ∙ freed_items p d at a old b fr w wq tq in
+    let reads : read_as (slot_of_words p at a n) ≡ read_as p = subst (λ k. read_as (slot_of_words p at a k) ≡ read_as p) (sym one) (stands_last reading out.meets.obeys) in
+    let items : dir_items (read_as p) d ≡ a ++ space n ∷ b = ap (λ m. dir_items m d) (sym reads) ∙ freed_items p d at a old b fr w wq tq in
     subst (λ k. LinksTrue (slot_of_words p at a k)) one (freed_links p d at a old b fr w wq tq (space n ∷ []) (omega arith) items (λ g ne live dir. ap (λ m. dir_items m g) reads) links)
 
 -- free slots are made one
@@ -141,11 +141,11 @@ loose_words_keep_links p d w at new a b n wp t h slots_are low high links =
     let words : dir_words q d ≡ put_at w new (dir_words p d) = (dir_change p d w at new h).words_are in
     let vs : List (ℕ × List ℕ) = (at, put_at (in_page w) new (sector_at p at).value) ∷ [] in
     let of : AllOf d p vs = (of_carried d (w / 256 + 1) p at (place_carried p (page_number d (w / 256 + 1)) at h.sector), tt) in
-    let items : dir_items (read_pack p) d ≡ is = items_are p t d h.lives h.directory ∙ slots_are in
+    let items : dir_items (read_as p) d ≡ is = items_are p t d h.lives h.directory ∙ slots_are in
     let was : AllTrue (sights p) (dir_words p d) 0 is = subst (AllTrue (sights p) (dir_words p d) 0) items (dirs_true p links.entries d h.lives h.directory) in
     let size : all_words (space n ∷ []) ≡ n = omega arith in
     let now : AllTrue (sights p) (put_at w new (dir_words p d)) 0 is =
     true_replaced (sights p) (dir_words p d) (put_at w new (dir_words p d)) a (space n ∷ []) (space n ∷ []) b (λ k l. put_before w new (dir_words p d) k h.within (omega arith)) (λ k l. put_behind w new (dir_words p d) k h.within (omega arith)) refl (tt, tt) was in
-    let items_now : dir_items (read_pack q) d ≡ is = ap (λ m. dir_items m d) st.read ∙ items in
+    let items_now : dir_items (read_as q) d ≡ is = ap (λ m. dir_items m d) st.read ∙ items in
     dir_values vs p d wp st.whole of (λ g ne live dir. ap (λ m. dir_items m g) st.read)
-    (subst (λ ws. AllTrue (sights p) ws 0 (dir_items (read_pack q) d)) (sym words) (subst (AllTrue (sights p) (put_at w new (dir_words p d)) 0) (sym items_now) now)) links
+    (subst (λ ws. AllTrue (sights p) ws 0 (dir_items (read_as q) d)) (sym words) (subst (AllTrue (sights p) (put_at w new (dir_words p d)) 0) (sym items_now) now)) links

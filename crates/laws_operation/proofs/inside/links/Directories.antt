@@ -11,7 +11,7 @@ use Rattle.disk_records.specs.declared.records.Page.{Page}
 use Rattle.pack_model.specs.reading.Bytes.{words_of}
 use Rattle.pack_model.specs.reading.Files.{file_bytes, joined, lives, most_pages, page, place}
 use Rattle.pack_model.specs.hints.Links.{EntryAddresses, dir_words}
-use Rattle.pack_model.specs.reading.Model.{dir_items, read_pack}
+use Rattle.pack_model.specs.reading.Model.{dir_items, read_as}
 use Rattle.pack_model.specs.operations.PageWords.{page_number}
 use Rattle.pack_model.specs.reading.Sights.{Sight, page_sight, sights}
 use Rattle.pack_model.specs.reading.Sights.Sight.{hidden, holds}
@@ -30,15 +30,15 @@ use Rattle.laws_operation.proofs.inside.links.Records.{carried_same}
 -- ---- one directory
 -- the addresses of the kept entries of d are true
 abbrev pub DirTrue : Pack → Fid → Type 0
-DirTrue p d = AllTrue (sights p) (dir_words p d) 0 (dir_items (read_pack p) d)
+DirTrue p d = AllTrue (sights p) (dir_words p d) 0 (dir_items (read_as p) d)
 
 -- so it is for all directories
 pub dirs_true : (p : Pack) → EntryAddresses p → (d : Fid) → lives (sights p) d ≡ true → is_directory d ≡ true → DirTrue p d
-dirs_true p h d live dir = from_slots (sights p) (dir_words p d) 0 (dir_items (read_pack p) d) (h d live dir)
+dirs_true p h d live dir = from_slots (sights p) (dir_words p d) 0 (dir_items (read_as p) d) (h d live dir)
 
 -- and the other way
 pub all_dirs : (p : Pack) → ((d : Fid) → lives (sights p) d ≡ true → is_directory d ≡ true → DirTrue p d) → EntryAddresses p
-all_dirs p h d live dir = to_slots (sights p) (dir_words p d) 0 (dir_items (read_pack p) d) (h d live dir)
+all_dirs p h d live dir = to_slots (sights p) (dir_words p d) 0 (dir_items (read_as p) d) (h d live dir)
 
 -- ---- sectors that stay
 -- a page in the same place, with the same words
@@ -91,15 +91,15 @@ module _ (p : Pack) (f : Fid) (events : List Event) (wp : Whole p) (wq : Whole (
       by false is = other_place p f events wp wq all g 0 is ∙ e
 
   -- a directory that is read as before keeps true addresses
-  pub other_dir_by : ((a : ℕ) → place (sights p) f 0 ≡ Some a → place (sights (after p events)) f 0 ≡ Some a) → (d : Fid) → is_fid d f ≡ false → dir_items (read_pack (after p events)) d ≡ dir_items (read_pack p) d → DirTrue p d → DirTrue (after p events) d
+  pub other_dir_by : ((a : ℕ) → place (sights p) f 0 ≡ Some a → place (sights (after p events)) f 0 ≡ Some a) → (d : Fid) → is_fid d f ≡ false → dir_items (read_as (after p events)) d ≡ dir_items (read_as p) d → DirTrue p d → DirTrue (after p events) d
   other_dir_by mine d ne items h =
       let q : Pack = after p events in
       let words : dir_words q d ≡ dir_words p d = ap words_of (other_bytes d ne) in
-      let moved : AllTrue (sights q) (dir_words p d) 0 (dir_items (read_pack p) d) = true_more (sights p) (sights q) (dir_words p d) 0 (dir_items (read_pack p) d) (leaders_stay mine) h in
-      subst (λ ws. AllTrue (sights q) ws 0 (dir_items (read_pack q) d)) (sym words) (subst (AllTrue (sights q) (dir_words p d) 0) (sym items) moved)
+      let moved : AllTrue (sights q) (dir_words p d) 0 (dir_items (read_as p) d) = true_more (sights p) (sights q) (dir_words p d) 0 (dir_items (read_as p) d) (leaders_stay mine) h in
+      subst (λ ws. AllTrue (sights q) ws 0 (dir_items (read_as q) d)) (sym words) (subst (AllTrue (sights q) (dir_words p d) 0) (sym items) moved)
 
   -- so are those of tidy packs
-  pub other_items : Tidy p → Tidy (after p events) → (d : Fid) → is_fid d f ≡ false → lives (sights (after p events)) d ≡ true → is_directory d ≡ true → dir_items (read_pack (after p events)) d ≡ dir_items (read_pack p) d
+  pub other_items : Tidy p → Tidy (after p events) → (d : Fid) → is_fid d f ≡ false → lives (sights (after p events)) d ≡ true → is_directory d ≡ true → dir_items (read_as (after p events)) d ≡ dir_items (read_as p) d
   other_items tp tq d ne live dir = items_are (after p events) tq d live dir ∙ ap slots (ap words_of (other_bytes d ne)) ∙ sym (items_are p tp d (other_lives d ne live) dir)
 
   -- which keep true addresses

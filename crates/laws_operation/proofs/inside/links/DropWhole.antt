@@ -10,7 +10,7 @@ use Rattle.disk_records.specs.declared.records.Event.{Event}
 use Rattle.pack_model.specs.reading.Bytes.{words_of}
 use Rattle.pack_model.specs.reading.Files.{lives}
 use Rattle.pack_model.specs.hints.Links.{LinksTrue, dir_words}
-use Rattle.pack_model.specs.reading.Model.{dir_items, read_pack}
+use Rattle.pack_model.specs.reading.Model.{dir_items, read_as}
 use Rattle.pack_model.specs.reading.Namings.{namings_in}
 use Rattle.pack_model.specs.operations.Operations.{go_writes}
 use Rattle.pack_model.specs.operations.PageWords.{freed_value, page_number}
@@ -33,13 +33,13 @@ use Rattle.laws_operation.proofs.inside.DropLaw.{not_none}
 use Rattle.laws_operation.proofs.EnterLaw.{items_are}
 
 -- a directory with entries isn't one without
-apart : (p : Pack) (f d : Fid) (a b : List Item) (g : Fid) (own : List ℕ) → dir_items (read_pack p) d ≡ a ++ entry g own ∷ b → namings_in f (dir_items (read_pack p) f) ≡ [] → is_fid d f ≡ false
+apart : (p : Pack) (f d : Fid) (a b : List Item) (g : Fid) (own : List ℕ) → dir_items (read_as p) d ≡ a ++ entry g own ∷ b → namings_in f (dir_items (read_as p) f) ≡ [] → is_fid d f ≡ false
 apart p f d a b g own items bare = by (is_fid d f) refl
   where
     by : (c : Bool) → is_fid d f ≡ c → c ≡ false
     by false e = refl
     by true e = absurd (not_none (namings_in d a) (record { dir = d; name = own; fid = g }) (namings_in d b)
-        (sym (namings_in-append d a (entry g own ∷ b)) ∙ sym (ap (namings_in d) items) ∙ subst (λ h. namings_in h (dir_items (read_pack p) h) ≡ []) (sym (same_fid d f e)) bare))
+        (sym (namings_in-append d a (entry g own ∷ b)) ∙ sym (ap (namings_in d) items) ∙ subst (λ h. namings_in h (dir_items (read_as p) h) ≡ []) (sym (same_fid d f e)) bare))
 
 -- all record writes
 pub drop_keeps_links : DropKeepsLinks
@@ -50,7 +50,7 @@ drop_keeps_links p f at pages d slot_at a b own w t h fr links =
     let wq : Whole q = out.drops.whole in
     let all : AllConcern f p events = go_concerns p f at pages h in
     let write = fr.write in
-    let items : dir_items (read_pack p) d ≡ a ++ entry f own ∷ b = items_are p t d write.lives write.directory ∙ fr.slots_are in
+    let items : dir_items (read_as p) d ≡ a ++ entry f own ∷ b = items_are p t d write.lives write.directory ∙ fr.slots_are in
     let ne : is_fid d f ≡ false = apart p f d a b f own items h.bare in
     let words : dir_words q d ≡ dir_words p d = ap words_of (other_bytes p f events w wq all d ne) in
     let write1 : DirWrite q d (all_words a) slot_at (all_words (entry f own ∷ []) ∷ []) = record {

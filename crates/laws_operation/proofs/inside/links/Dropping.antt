@@ -11,7 +11,7 @@ use Rattle.pack_model.specs.reading.Bodies.Body.{data_of, items_of}
 use Rattle.pack_model.specs.reading.Bytes.{words_of}
 use Rattle.pack_model.specs.reading.Files.{place}
 use Rattle.pack_model.specs.hints.Links.{dir_words}
-use Rattle.pack_model.specs.reading.Model.{Model, dir_items, read_pack}
+use Rattle.pack_model.specs.reading.Model.{Model, dir_items, read_as}
 use Rattle.pack_model.specs.operations.Operations.{go_writes}
 use Rattle.pack_model.specs.operations.PageWords.{page_number}
 use Rattle.pack_model.specs.reading.Sights.{Sight, sights}
@@ -74,9 +74,9 @@ release_keeps_links p f at pages w t h links =
         | true ↦ λ e. let l = has_leader (sights q) d live in let r = place_of_leader (sights q) d l.0 l.1 in absurd (none 0 r.0 (subst (λ k. place (sights q) k 0 ≡ Some r.0) (same_fid d f e) r.1))
         | false ↦ λ e.
             let words : dir_words q d ≡ dir_words p d = ap words_of (other_bytes p f events w wq all d e) in
-            let items : dir_items (read_pack q) d ≡ items_without f (dir_items (read_pack p) d) = ap (λ m. dir_items m d) out.ends ∙ items_gone (read_pack p) f d e in
+            let items : dir_items (read_as q) d ≡ items_without f (dir_items (read_as p) d) = ap (λ m. dir_items m d) out.ends ∙ items_gone (read_as p) f d e in
             let was : DirTrue p d = dirs_true p links.entries d (other_lives p f events w wq all d e live) dir in
-            let moved = true_without (sights p) (sights q) f (dir_words p d) 0 (dir_items (read_pack p) d) (λ g a ne x. other_place p f events w wq all g 0 ne ∙ x) was in
-            subst (λ ws. AllTrue (sights q) ws 0 (dir_items (read_pack q) d)) (sym words) (subst (AllTrue (sights q) (dir_words p d) 0) (sym items) moved)
+            let moved = true_without (sights p) (sights q) f (dir_words p d) 0 (dir_items (read_as p) d) (λ g a ne x. other_place p f events w wq all g 0 ne ∙ x) was in
+            subst (λ ws. AllTrue (sights q) ws 0 (dir_items (read_as q) d)) (sym words) (subst (AllTrue (sights q) (dir_words p d) 0) (sym items) moved)
       ] refl);
     }

@@ -15,7 +15,7 @@ use Rattle.pack_model.specs.operations.Entering.{EntryRoom, entry_value, joined,
 use Rattle.pack_model.specs.reading.Files.{file_bytes, place}
 use Rattle.pack_model.specs.reading.Leaders.{Leader}
 use Rattle.pack_model.specs.hints.Links.{LinksTrue, dir_words}
-use Rattle.pack_model.specs.reading.Model.{Model, dir_items, read_pack}
+use Rattle.pack_model.specs.reading.Model.{Model, dir_items, read_as}
 use Rattle.pack_model.specs.operations.Operations.{enter_writes}
 use Rattle.pack_model.specs.operations.PageWords.{freed_value, in_page, later, near, page_number}
 use Rattle.pack_model.specs.operations.Rooms.{items_entered, left_over}
@@ -65,7 +65,7 @@ module _ (p : Pack) (w : Whole p) (t : Tidy p) (d : Fid) (name : List ℕ) (f : 
   few = let s = h.words_are.short in omega arith
 
   -- the slots before
-  was : dir_items (read_pack p) d ≡ a ++ (old ++ b)
+  was : dir_items (read_as p) d ≡ a ++ (old ++ b)
   was = h.room.split
 
   -- where the words go
@@ -178,13 +178,13 @@ enter_keeps_links p d name f a old b left words at next_at w t h address links =
     let all : AllConcern d p (values_writes vs) = values_concern d vs p of in
     let k : ℕ = all_words old - item_words (entry f name) in
     let lead = has_leader (sights p) d h.living in
-    let gets : get (read_pack p).files d ≡ Some (directory lead.0 (dir_items (read_pack p) d)) =
+    let gets : get (read_as p).files d ≡ Some (directory lead.0 (dir_items (read_as p) d)) =
     read_there p d lead.0 t (not_descriptor d h.directory) lead.1 ∙ ap (λ c. Some (record { leader = lead.0; body = cond c (items_of (slots (dir_words p d))) (data_of (file_bytes (sights p) d)) })) h.directory
     ∙ ap (λ is. Some (directory lead.0 is)) (sym (items_are p t d h.living h.directory)) in
-    let reads : read_pack q ≡ step (read_pack p) (enter d name f) = ap (λ x. read_pack (after p x)) es ∙ out.ends in
-    let items : dir_items (read_pack q) d ≡ a ++ entry f name ∷ left_over k b =
-    ap (λ m. dir_items m d) reads ∙ entered_items (read_pack p) d f name lead.0 (dir_items (read_pack p) d) gets ∙ entered_there (entry f name) (dir_items (read_pack p) d) a old b h.room in
+    let reads : read_as q ≡ step (read_as p) (enter d name f) = ap (λ x. read_as (after p x)) es ∙ out.ends in
+    let items : dir_items (read_as q) d ≡ a ++ entry f name ∷ left_over k b =
+    ap (λ m. dir_items m d) reads ∙ entered_items (read_as p) d f name lead.0 (dir_items (read_as p) d) gets ∙ entered_there (entry f name) (dir_items (read_as p) d) a old b h.room in
     let words_are : dir_words q d ≡ _ = ap (λ x. dir_words x d) (end_is p w t d name f a old b left words at next_at h) in
-    let own : AllTrue (sights p) (dir_words q d) 0 (dir_items (read_pack q) d) =
-    subst (λ ws. AllTrue (sights p) ws 0 (dir_items (read_pack q) d)) (sym words_are) (subst (AllTrue (sights p) _ 0) (sym items) (own_true p w t d name f a old b left words at next_at h address links k refl)) in
+    let own : AllTrue (sights p) (dir_words q d) 0 (dir_items (read_as q) d) =
+    subst (λ ws. AllTrue (sights p) ws 0 (dir_items (read_as q) d)) (sym words_are) (subst (AllTrue (sights p) _ 0) (sym items) (own_true p w t d name f a old b left words at next_at h address links k refl)) in
     subst (λ x. LinksTrue (after p x)) es (dir_values vs p d w wq of (λ g ne live dir. other_items p d (values_writes vs) w wq all t tq g ne live dir) own links)

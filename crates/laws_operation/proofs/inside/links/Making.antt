@@ -15,7 +15,7 @@ use Rattle.pack_model.specs.reading.Bodies.Body.{data_of, items_of}
 use Rattle.pack_model.specs.operations.Commands.{Claim, first_page_claim, leader_claim}
 use Rattle.pack_model.specs.reading.Files.{leader, lives, place}
 use Rattle.pack_model.specs.hints.Links.{LinksTrue, dir_words, link_to, no_link}
-use Rattle.pack_model.specs.reading.Model.{dir_items, read_pack}
+use Rattle.pack_model.specs.reading.Model.{dir_items, read_as}
 use Rattle.pack_model.specs.operations.Operations.{make_writes}
 use Rattle.pack_model.specs.operations.PageWords.{page_number}
 use Rattle.pack_model.specs.reading.Sights.{sights}
@@ -133,10 +133,10 @@ module _ (p : Pack) (w : Whole p) (t : Tidy p) (f : Fid) (name : List ℕ) (mome
       none_of None never = refl
       none_of (Some j) never = absurd (never j refl)
 
-      new_dir : read_pack (after p (make_writes page head)) ≡ step (read_pack p) (make f name moment) → is_directory f ≡ true → DirTrue (after p (make_writes page head)) f
+      new_dir : read_as (after p (make_writes page head)) ≡ step (read_as p) (make f name moment) → is_directory f ≡ true → DirTrue (after p (make_writes page head)) f
       new_dir ends dir =
-          let items : dir_items (read_pack done) f ≡ space 255 ∷ [] =
-          ap (λ m. dir_items m f) ends ∙ ap items_in (get-insert fid_total (read_pack p).files f (new_file f name moment) f ∙ ap (λ b. cond b (Some (new_file f name moment)) (get (read_pack p).files f)) (is_fid-itself f))
+          let items : dir_items (read_as done) f ≡ space 255 ∷ [] =
+          ap (λ m. dir_items m f) ends ∙ ap items_in (get-insert fid_total (read_as p).files f (new_file f name moment) f ∙ ap (λ b. cond b (Some (new_file f name moment)) (get (read_as p).files f)) (is_fid-itself f))
           ∙ ap (λ b. body_items (cond b (items_of (space 255 ∷ [])) (data_of []))) dir in
           subst (AllTrue (sights done) (dir_words done f) 0) (sym items) (tt, tt)
 

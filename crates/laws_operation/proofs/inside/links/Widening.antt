@@ -12,7 +12,7 @@ use Rattle.pack_model.specs.operations.Commands.{Claim, all_claimed, claims_of, 
 use Rattle.pack_model.specs.operations.Committing.{page_of_byte}
 use Rattle.pack_model.specs.reading.Files.{file_bytes, lives, most_pages, place}
 use Rattle.pack_model.specs.hints.Links.{LinksTrue, dir_words}
-use Rattle.pack_model.specs.reading.Model.{dir_items, read_pack}
+use Rattle.pack_model.specs.reading.Model.{dir_items, read_as}
 use Rattle.pack_model.specs.operations.Operations.{grow_writes}
 use Rattle.pack_model.specs.reading.Sights.{Sight, sights}
 use Rattle.pack_model.specs.reading.Sights.Sight.{hidden, holds}
@@ -63,8 +63,8 @@ module _ (p : Pack) (w : Whole p) (t : Tidy p) (d : Fid) (added : List ℕ) (cs 
       let n : length (h.front ++ (i, old) ∷ h.later) ≡ length h.front + suc (length h.later) = length-append h.front ((i, old) ∷ h.later) in
       let few : suc k + length (all_claimed cs) ≤ most_pages = few_pages ss d (suc k) cs (let e = h.number in let l = h.few in omega arith) hyp.claimable in
       let us : List Sight = set (sights (after p (claims_writes cs))) i (holds d k c0) in
-      let ch = grow_changed p d k i old h is last.short cs hyp.claimable (read_pack p) refl label value c0 past hyp.page refl hyp.laid few in
-      let shows = grow_shows p d k i old h is last.short cs hyp.claimable (read_pack p) refl label value c0 past hyp.page refl hyp.laid few in
+      let ch = grow_changed p d k i old h is last.short cs hyp.claimable (read_as p) refl label value c0 past hyp.page refl hyp.laid few in
+      let shows = grow_shows p d k i old h is last.short cs hyp.claimable (read_as p) refl label value c0 past hyp.page refl hyp.laid few in
       let more_bytes : c0 ++ together (all_claimed cs) ≡ old ++ bytes_of added = hyp.bytes ∙ ap (λ x. x ++ bytes_of added) (sym old_is) in
       let old_bytes : file_bytes ss d ≡ together h.front ++ old = ch.before ∙ together-append h.front ((i, old) ∷ []) ∙ ap (λ x. together h.front ++ x) (append-nil old) in
       let new_bytes : file_bytes us d ≡ file_bytes ss d ++ bytes_of added =
@@ -80,7 +80,7 @@ module _ (p : Pack) (w : Whole p) (t : Tidy p) (d : Fid) (added : List ℕ) (cs 
       let full = read.1 in
       let one : slots added ≡ space 256 ∷ [] = (all_read added (space 256 ∷ []) (next (sym (append-nil added)) hyp.slot none)).0 in
       let now : slots (dir_words p d ++ added) ≡ r.items ++ space 256 ∷ [] = slots_reads (dir_words p d) added r.items r.reads ∙ ap (λ x. r.items ++ x) one in
-      let items : dir_items (read_pack p) d ≡ r.items = items_are p t d living hyp.directory ∙ read.0 in
+      let items : dir_items (read_as p) d ≡ r.items = items_are p t d living hyp.directory ∙ read.0 in
       let was : AllTrue (sights p) (dir_words p d) 0 r.items = subst (AllTrue (sights p) (dir_words p d) 0) items (dirs_true p links.entries d living hyp.directory) in
       let moved : AllTrue us (dir_words p d) 0 r.items = true_more (sights p) us (dir_words p d) 0 r.items stay was in
       let front : AllTrue us (dir_words p d ++ added) 0 r.items = true_words us (dir_words p d) (dir_words p d ++ added) 0 r.items (λ k l m. get_or_append_left (dir_words p d) added 0 k (omega (arith, full, m))) moved in
@@ -112,9 +112,9 @@ widen_keeps_links p d added past fresh at w t h links =
       entries = all_dirs q (λ g live dir. elim (is_fid g d) as (λ c. is_fid g d ≡ c → DirTrue q g) [
         | true ↦ λ e.
             let live_d : lives (sights q) d ≡ true = subst (λ x. lives (sights q) x ≡ true) (same_fid g d e) live in
-            let items : dir_items (read_pack q) d ≡ slots (dir_words p d ++ added) = items_are q tq d live_d h.directory ∙ ap slots words in
+            let items : dir_items (read_as q) d ≡ slots (dir_words p d ++ added) = items_are q tq d live_d h.directory ∙ ap slots words in
             let own : AllTrue (sights q) (dir_words p d ++ added) 0 (slots (dir_words p d ++ added)) = widened_true p w t d added cs at label value h (sights q) (leaders_stay p d events w wq all leader) links in
-            subst (DirTrue q) (sym (same_fid g d e)) (subst (λ ws. AllTrue (sights q) ws 0 (dir_items (read_pack q) d)) (sym words) (subst (AllTrue (sights q) (dir_words p d ++ added) 0) (sym items) own))
+            subst (DirTrue q) (sym (same_fid g d e)) (subst (λ ws. AllTrue (sights q) ws 0 (dir_items (read_as q) d)) (sym words) (subst (AllTrue (sights q) (dir_words p d ++ added) 0) (sym items) own))
         | false ↦ λ e. other_dir p d events w wq all t tq leader g e live dir (dirs_true p links.entries g (other_lives p d events w wq all g e live) dir)
       ] refl);
     }

@@ -14,7 +14,7 @@ use Rattle.pack_model.specs.reading.Files.{carries_page, file_bytes, lives, plac
 use Rattle.pack_model.specs.reading.Model.{good_one}
 use Rattle.pack_model.specs.reading.Sights.{Sight, sight, sights}
 use Rattle.pack_model.specs.reading.Sights.Sight.{hidden, holds}
-use Rattle.pack_model.specs.states.Whole.{Carries, FileWhole, IsLaid, PageAt, Whole, absent, present}
+use Rattle.pack_model.specs.states.Whole.{HasPages, FileWhole, IsLaid, PageAt, Whole, absent, present}
 use Rattle.pack_laws.proofs.Bytes.{length-bytes_of}
 use Rattle.pack_laws.proofs.Placing.{carries-holds, page_of_place, place_none}
 use Rattle.pack_laws.proofs.Sighted.{counted, shows_page}
@@ -110,7 +110,7 @@ full_page_is_not_the_last p f k at w h =
 
 -- ---- all pages
 -- which data pages of a file that carries these have a place
-placed_pages : (ss : List Sight) (f : Fid) (pages : List PageAt) → Carries ss f pages 0 [] → (m : ℕ) → is_some (place ss f (suc m)) ≡ nat_le (suc m) (length pages)
+placed_pages : (ss : List Sight) (f : Fid) (pages : List PageAt) → HasPages ss f pages 0 [] → (m : ℕ) → is_some (place ss f (suc m)) ≡ nat_le (suc m) (length pages)
 placed_pages ss f pages c m = by (place ss f (suc m)) refl (nat_le (suc m) (length pages)) refl
   where
     by : (r : Option ℕ) → place ss f (suc m) ≡ r → (t : Bool) → nat_le (suc m) (length pages) ≡ t → is_some (place ss f (suc m)) ≡ nat_le (suc m) (length pages)

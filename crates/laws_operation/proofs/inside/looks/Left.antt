@@ -9,7 +9,7 @@ use Rattle.pack_model.specs.reading.Bodies.{Body, File, items_in}
 use Rattle.pack_model.specs.reading.Bodies.Body.{data_of, items_of}
 use Rattle.pack_model.specs.reading.Files.{lives}
 use Rattle.pack_model.specs.reading.Leaders.{Leader}
-use Rattle.pack_model.specs.reading.Model.{Model, dir_items, is_named, read_pack}
+use Rattle.pack_model.specs.reading.Model.{Model, dir_items, is_named, read_as}
 use Rattle.pack_model.specs.reading.Namings.{AllKept, Naming, clashes, is_kept, may_stand, namings}
 use Rattle.pack_model.specs.reading.Sights.{sights}
 use Rattle.pack_model.specs.reading.Slots.{Item, item_words}
@@ -77,10 +77,10 @@ any_freed : (t : Item → Bool) (a b : List Item) (i j : Item) → t j ≡ false
 any_freed t [] b i j none h = or_false (t j) (list_any t b) none (or_false_right (t i) (list_any t b) h)
 any_freed t (x ∷ a) b i j none h = or_false (t x) (list_any t (a ++ j ∷ b)) (or_false_left (t x) (list_any t (a ++ i ∷ b)) h) (any_freed t a b i j none (or_false_right (t x) (list_any t (a ++ i ∷ b)) h))
 
-module _ (p : Pack) (d f : Fid) (old : List ℕ) (h : HasName (read_pack p) d old f) where
+module _ (p : Pack) (d f : Fid) (old : List ℕ) (h : HasName (read_as p) d old f) where
   -- the model and its files
   abbrev m : Model
-  m = read_pack p
+  m = read_as p
 
   -- the directory's slots then
   abbrev js : List Item
@@ -133,4 +133,4 @@ pub leave_takes_the_only_entry : LeaveTakesTheOnlyEntry
 leave_takes_the_only_entry p d f old h = nameless_then p d f old h
 
 pub free_name_is_apart_after_leave : FreeNameIsApartAfterLeave
-free_name_is_apart_after_leave p d e f name old h clear = free_name_is_apart_for_a_nameless_file (step (read_pack p) (leave d old)) e f name (nameless_then p d f old h) (still_open p d f old h e name clear)
+free_name_is_apart_after_leave p d e f name old h clear = free_name_is_apart_for_a_nameless_file (step (read_as p) (leave d old)) e f name (nameless_then p d f old h) (still_open p d f old h e name clear)

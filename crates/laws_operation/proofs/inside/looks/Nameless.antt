@@ -7,7 +7,7 @@ use Rattle.alto_words.specs.declared.fid.Fid.{Fid}
 use Rattle.pack_model.specs.reading.Bodies.{body_items, items_in}
 use Rattle.pack_model.specs.reading.Bodies.Body.{data_of, items_of}
 use Rattle.pack_model.specs.reading.Files.{lives}
-use Rattle.pack_model.specs.reading.Model.{read_pack}
+use Rattle.pack_model.specs.reading.Model.{read_as}
 use Rattle.pack_model.specs.reading.Namings.{AllKept, Naming, clashes, fits, is_kept, may_stand, namings}
 use Rattle.pack_model.specs.reading.Sights.{sights}
 use Rattle.pack_model.specs.reading.Slots.Item.{space}
@@ -40,7 +40,7 @@ module _ (v : Fid → Bool) (f : Fid) (dead : v f ≡ false) where
   none_kept before (e ∷ es) h = or_false (is_fid e.fid f) (list_any (λ n. is_fid n.fid f) es) (kept_other before e h.0) (none_kept (e ∷ before) es h.1)
 
 pub entries_name_living_files : EntriesNameLivingFiles
-entries_name_living_files p f dead = none_kept (lives (sights p)) f dead [] (namings (entries (read_pack p).files)) (read_tidy p)
+entries_name_living_files p f dead = none_kept (lives (sights p)) f dead [] (namings (entries (read_as p).files)) (read_tidy p)
 
 -- ---- a make
 -- nor one of another file
@@ -53,13 +53,13 @@ open_new f g name = by (is_directory f)
 
 pub make_leaves_no_name : MakeLeavesNoName
 make_leaves_no_name p f own moment dead =
-    ap (list_any (λ n. is_fid n.fid f)) (bare_namings (read_pack p).files f (new_file f own moment) (bare_first f) (not_read p f dead)) ∙ entries_name_living_files p f dead
+    ap (list_any (λ n. is_fid n.fid f)) (bare_namings (read_as p).files f (new_file f own moment) (bare_first f) (not_read p f dead)) ∙ entries_name_living_files p f dead
 
 pub free_name_is_apart_after_make : FreeNameIsApartAfterMake
 free_name_is_apart_after_make p d f name own moment dead clear =
-    free_name_is_apart_for_a_nameless_file (step (read_pack p) (make f own moment)) d f name (make_leaves_no_name p f own moment dead)
-    (ap (λ r. list_any (is_of_another f name) (items_in r)) (get-insert fid_total (read_pack p).files f (new_file f own moment) d) ∙ by (is_fid d f))
+    free_name_is_apart_for_a_nameless_file (step (read_as p) (make f own moment)) d f name (make_leaves_no_name p f own moment dead)
+    (ap (λ r. list_any (is_of_another f name) (items_in r)) (get-insert fid_total (read_as p).files f (new_file f own moment) d) ∙ by (is_fid d f))
   where
-    by : (b : Bool) → list_any (is_of_another f name) (items_in (cond b (Some (new_file f own moment)) (get (read_pack p).files d))) ≡ false
+    by : (b : Bool) → list_any (is_of_another f name) (items_in (cond b (Some (new_file f own moment)) (get (read_as p).files d))) ≡ false
     by true = open_new f f name
     by false = clear

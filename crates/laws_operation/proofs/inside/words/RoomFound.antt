@@ -3,7 +3,7 @@ use Rattle.std.proofs.Common.{Bool, List, None, Option, Some, [], ap, arith, con
 use Rattle.std.specs.Option.{option_or}
 use Rattle.pack_model.specs.operations.Committing.{page_of_word}
 use Rattle.pack_model.specs.reading.Files.{place}
-use Rattle.pack_model.specs.reading.Model.{dir_items, read_pack}
+use Rattle.pack_model.specs.reading.Model.{dir_items, read_as}
 use Rattle.pack_model.specs.operations.PageWords.{entered_words, later}
 use Rattle.pack_model.specs.operations.Rooms.{Room, most_free, room_from, room_here, run}
 use Rattle.pack_model.specs.reading.Sights.{sights}
@@ -69,7 +69,7 @@ parted n first place (i ∷ is) r e = by (run n (i ∷ is)) refl e (λ e. behind
 pub enter_words_fit : EnterWordsFit
 enter_words_fit p d name f address r at next_at h =
     let n : ℕ = entry_length (length name) in
-    let is : List Item = dir_items (read_pack p) d in
+    let is : List Item = dir_items (read_as p) d in
     let b = parted n 0 0 is r h.found in
     let first : r.first ≡ length b.before = b.first_is ∙ omega arith in
     let begin : r.place ≡ all_words b.before = b.place_is ∙ omega arith in

@@ -2,7 +2,7 @@ use Rattle.std.proofs.Common.{length, take, ◌∙◌, ap, arith}
 use Rattle.std.proofs.lemmas.List.{length-take}
 use Rattle.disk_records.specs.Addresses.{pages_of}
 use Rattle.disk_records.specs.Tapes.{pack}
-use Rattle.page_alloc.specs.Free.{free_sectors, offered_free}
+use Rattle.page_alloc.specs.Free.{free_addresses, offered_free}
 use Rattle.page_alloc.proofs.Silent.{looked_pack, looked_offered, looked_both}
 use Rattle.page_alloc.proofs.FreeLists.{taken_are_free, offers_are_free, offered_free-le, offers_of_true}
 use Rattle.page_alloc.proofs.take.find_free.Goals as goal
@@ -37,13 +37,13 @@ returns-clause-looked g c = looked_both c.args.table.now _ c.in_ok-offers.ensure
 pub returns-clause-free : goal.returns-clause-free
 returns-clause-free g c = λ told.
     let first = g.D.Tape.tape c.args.disk.now in
-    let lowest = c.in_ok-swept.ensures.lowest told ∙ ap (λ p. take c.args.wanted (free_sectors p)) (looked_pack c.in_ok-offered.ensures.looked told) in
+    let lowest = c.in_ok-swept.ensures.lowest told ∙ ap (λ p. take c.args.wanted (free_addresses p)) (looked_pack c.in_ok-offered.ensures.looked told) in
     taken_are_free (pack first) c.args.wanted (pages_of first.form) c.in_ok-swept.swept.lowest.items lowest
 
 pub returns-clause-soon : goal.returns-clause-soon
 returns-clause-soon g c = λ told is_true.
     let first = g.D.Tape.tape c.args.disk.now in
     let same = ap length (offers_of_true (pack first) c.args.table.now (pages_of first.form) (omega arith) is_true) in
-    let all = c.in_ok-swept.ensures.free told ∙ ap (λ p. length (free_sectors p)) (looked_pack c.in_ok-offered.ensures.looked told) in
+    let all = c.in_ok-swept.ensures.free told ∙ ap (λ p. length (free_addresses p)) (looked_pack c.in_ok-offered.ensures.looked told) in
     let long = ap length (c.in_ok-offered.ensures.found told) ∙ length-take c.args.wanted (offered_free (pack first) c.args.table.now) in
     absurd (omega (arith, same, all, long))
