@@ -1,5 +1,5 @@
 -- What a command line asks for.
-use Rattle.std.specs.Prelude.{◌≡◌, ℕ, ◌≤◌, Bool, true, false, nat_eq, List, [], ◌∷◌, drop, map, slice_index_or, string_bytes, Some, None, IfSome, codes}
+use Rattle.std.specs.Prelude.{◌≡◌, ℕ, ◌≤◌, Bool, true, false, nat_eq, List, [], ◌∷◌, drop, map, slice_index_or, string_bytes, Option, Some, None, IfSome, codes}
 use Rattle.std.specs.Option.{option_map}
 use Rattle.std.specs.Cmp.Lexicographic.{pointwise}
 use Rattle.disk_image.specs.declared.start.Start.{Start}
@@ -17,12 +17,16 @@ asks_help [] = false
 asks_help (word ∷ []) = is_help word
 asks_help (word ∷ other ∷ words) = false
 
+-- the path at an index among the words, where there is one
+abbrev pub path_at : List (List ℕ) → Option ℕ → Option (List ℕ)
+path_at words at = option_map (λ i. slice_index_or words i []) at
+
 -- a command line `[--cylinders C] [--second PACK2] PACK WORDS`
 pub record IsCall (words : List (List ℕ)) (call : Call) : Type 0 where
   pub start : Start
   pub starts : start_of words ≡ Some start
   pub cylinders : call.cylinders ≡ start.cylinders
-  pub second : option_map (λ path. path.now) call.second ≡ option_map (λ at. slice_index_or words at []) start.second
+  pub second : option_map (λ path. path.now) call.second ≡ path_at words start.second
   pub pack : call.path.now ≡ slice_index_or words start.pack []
   pub rest : map string_bytes call.words.now ≡ drop start.rest words
 

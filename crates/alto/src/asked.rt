@@ -1,6 +1,7 @@
 // What the words of a command line ask for.
-ghost use Rattle.std.specs.Prelude.{◌≡◌, drop, map, string_bytes};
-ghost use Rattle.alto.specs.Asking.{is_help, asks_help, IsAsked, InRange};
+ghost use Rattle.std.specs.Prelude.{◌≡◌, ◌<◌, length, drop, map, string_bytes, IfSome};
+ghost use Rattle.std.specs.Option.{option_map};
+ghost use Rattle.alto.specs.Asking.{is_help, asks_help, path_at, IsAsked, InRange};
 
 use disk_image::start_of;
 
@@ -28,7 +29,7 @@ pub struct Call<'a> {
     pub words: &'a [String],
 }
 
-/// The words behind the program's name, which comes first.
+/// The words after the program's name, which comes first.
 pub fn words_behind_name(args: &[String]) -> &[String]
     ensures words { result.now ≡ drop 1 args.now }
 {
@@ -55,7 +56,18 @@ fn asks_help(words: &[String]) -> bool
     }
 }
 
-/// What the words behind the program's name ask for. The `asked_of` of alto_top is given those after PACK alone.
+/// The path at an index among the words, where there is one.
+fn path_at(words: &[String], at: Option<usize>) -> Option<&str>
+    requires { IfSome at (λ at. at < length words.now) }
+    ensures { option_map (λ path. path.now) result ≡ path_at (map string_bytes words.now) at }
+{
+    match at {
+        Some(at) => Some(words[at].as_str()),
+        None => None,
+    }
+}
+
+/// What the words after the program's name ask for. The `asked_of` of alto_top is given those after PACK alone.
 pub fn asked_of(words: &[String]) -> Asked<'_>
     ensures asked { IsAsked (map string_bytes words.now) result }
     ensures range { InRange result }
@@ -66,7 +78,7 @@ pub fn asked_of(words: &[String]) -> Asked<'_>
     match start_of(words) {
         Some(start) => Asked::Machine(Call {
             cylinders: start.cylinders,
-            second: start.second.map(|at| words[at].as_str()),
+            second: path_at(words, start.second),
             path: words[start.pack].as_str(),
             words: &words[start.rest..],
         }),
