@@ -226,9 +226,23 @@ LEADER_NAMES = [
     ("a name that ends in no dot is lost", [leader(5, ordinary(9), b"AB")], ["SysDir>Lost11. length 0", "1 files"]),
     (
         "a name with a character that no stored name has is lost",
-        [leader(5, ordinary(9), b"A b."), leader(6, ordinary(10), b"A!2."), leader(7, ordinary(15), b"A_.")]
-        + [leader(8, ordinary(17), b"\xc1.")],
-        ["SysDir>Lost11. length 0", "SysDir>Lost12. length 0", "SysDir>Lost17. length 0", "SysDir>Lost21. length 0", "4 files"],
+        [leader(5, ordinary(9), b"A b."), leader(7, ordinary(15), b"A_."), leader(8, ordinary(17), b"\xc1.")],
+        ["SysDir>Lost11. length 0", "SysDir>Lost17. length 0", "SysDir>Lost21. length 0", "3 files"],
+    ),
+    *(
+        (f"a name is lost that spells a version as {text[1:-1].decode()}", [leader(5, ordinary(9), text)], ["SysDir>Lost11. length 0", "1 files"])
+        for text in (b"A!02.", b"A!0.", b"A!1.", b"A!65535.", b"A!.", b"A!2!3.", b"A!2..", b"A!+2.")
+    ),
+    ("a name of a version alone is lost", [leader(5, ordinary(9), b"!2.")], ["SysDir>Lost11. length 0", "1 files"]),
+    (
+        "a name with a version from 2 to 65534 is read",
+        [leader(5, A, b"A!2."), leader(6, B, b"A!65534.")],
+        ["SysDir>A!2. length 0", "SysDir>A!65534. length 0", "2 files"],
+    ),
+    (
+        "a name of 39 characters with its version is read, and one of 40 is lost",
+        [leader(5, A, b"N" * 36 + b"!2."), leader(6, ordinary(9), b"N" * 37 + b"!2.")],
+        ["SysDir>Lost11. length 0", f"SysDir>{'N' * 36}!2. length 0", "2 files"],
     ),
     ("a name of 39 characters is read", [leader(5, A, LONG[39])], [f"SysDir>{'N' * 38}. length 0", "1 files"]),
     (
@@ -338,6 +352,16 @@ SUFFIXES = [
         [f"SysDir>{'N' * 36}$1. length 3", f"SysDir>{'N' * 36}$2. length 4", "2 files"],
     ),
     (
+        "a suffix stands before the version, and no other version is taken",
+        numbered(b"X!2.", b"x!2.", b"X!3.", b"X."),
+        ["SysDir>X. length 6", "SysDir>X!2. length 3", "SysDir>X!3. length 5", "SysDir>x.$1!2. length 4", "4 files"],
+    ),
+    (
+        "a suffix and a version leave 34 characters of a long base",
+        copies(b"N" * 36 + b"!2.", 2),
+        [f"SysDir>{'N' * 34}$1!2. length 4", f"SysDir>{'N' * 36}!2. length 3", "2 files"],
+    ),
+    (
         "long names that are cut to the same characters share their suffixes",
         numbered(b"N" * 37 + b"A.", b"N" * 37 + b"A.", b"N" * 37 + b"B.", b"n" * 37 + b"b."),
         [f"SysDir>{'N' * 36}$1. length 4", f"SysDir>{'n' * 36}$2. length 6", f"SysDir>{'N' * 37}A. length 3"]
@@ -375,6 +399,11 @@ ENTRIES = [
         "of two entries for one name the first is kept, whatever the case of the letters",
         [sys_dir(slot(A, b"B."), slot(B, b"b.")), *numbered(b"X.", b"Y.")],
         ["SysDir>B. length 3", "SysDir>Y. length 4", "2 files"],
+    ),
+    (
+        "entries of two versions of a name are both kept, and of two with one version the first",
+        [sys_dir(slot(A, b"B."), slot(B, b"b!2."), slot(C, b"B!2.")), *numbered(b"X.", b"Y.", b"Z.")],
+        ["SysDir>B. length 3", "SysDir>b!2. length 4", "SysDir>Z. length 5", "3 files"],
     ),
     (
         "a file's second entry is kept where its first has a name that is taken",
@@ -451,6 +480,11 @@ SYSTEM_FILES = [
         ["SysDir>X. length 3", "SysDir>Y. length 4", "2 files"],
     ),
     (
+        "a version of a system file's name is a name as others are",
+        [sys_dir(slot(A, b"SysDir!2.")), *numbered(b"X.", b"DiskDescriptor!3.")],
+        ["SysDir>DiskDescriptor!3. length 4", "SysDir>SysDir!2. length 3", "2 files"],
+    ),
+    (
         "in another directory the names of the system files are names as others are",
         [whole(11, D, b"D.", slot(A, b"SysDir.") + slot(B, b"diskdescriptor.")), *numbered(b"X.", b"Y.")],
         ["SysDir>D. directory", "D>diskdescriptor. length 4", "D>SysDir. length 3", "3 files"],
@@ -499,7 +533,10 @@ BAD_SLOTS = [
     ("with a name of one character", slot(ordinary(8), b".")),
     ("with a name of forty characters", slot(ordinary(8), LONG[40])),
     ("with a name that ends in no dot", slot(ordinary(8), b"DD")),
-    ("with a name of a character that no stored name has", slot(ordinary(8), b"D!2.")),
+    ("with a name of a character that no stored name has", slot(ordinary(8), b"D_.")),
+    ("with a version that has a leading zero", slot(ordinary(8), b"D!02.")),
+    ("with the version 1 in its name", slot(ordinary(8), b"D!1.")),
+    ("with the version 65535 in its name", slot(ordinary(8), b"D!65535.")),
     ("of serial 0", slot((0, 0, 1), b"D.")),
     ("of serial 0 with the directory mark", slot((0x8000, 0, 1), b"D.")),
     ("of version 0", slot((0, 8, 0), b"D.")),
@@ -513,6 +550,7 @@ GOOD_SLOTS = [
     ("of a dead file", slot(ordinary(8), b"D.")),
     ("with a name of 39 characters", slot(ordinary(8), LONG[39])),
     ("with a name of two characters", slot(ordinary(8), b"..")),
+    ("with a version in its name", slot(ordinary(8), b"D!2.")),
     ("of version 65534", slot((0, 8, 0xFFFE), b"D.")),
     ("of the greatest serial", slot((ONES, ONES, 1), b"D.")),
     ("of the lowest serial", slot((0, 1, 1), b"D.")),
@@ -585,6 +623,16 @@ ORDER = [
         + ["SysDir>A0. length 8", "SysDir>Aa. length 6", "SysDir>AB. length 4", "8 files"],
     ),
     (
+        "names of one base are ordered by their versions, before a base that is longer",
+        numbered(b"A!10.", b"A.B.", b"A.", b"a!2."),
+        ["SysDir>A. length 5", "SysDir>a!2. length 6", "SysDir>A!10. length 3", "SysDir>A.B. length 4", "4 files"],
+    ),
+    (
+        "the digits of a version aren't characters of its base",
+        numbered(b"A9.", b"A!2.", b"A!65534.", b"A-."),
+        ["SysDir>A-. length 6", "SysDir>A!2. length 4", "SysDir>A!65534. length 5", "SysDir>A9. length 3", "4 files"],
+    ),
+    (
         "SysDir's lines come first, its directories among them by name",
         [whole(11, D, b"A.", slot(A, b"X.")), whole(13, E, b"Z.", slot(B, b"W.")), *numbered(b"T.", b"T.", b"T.")],
         ["SysDir>A. directory", "SysDir>T. length 5", "SysDir>Z. directory", "A>X. length 3", "Z>W. length 4", "5 files"],
@@ -609,6 +657,18 @@ ORDER = [
         + numbered(b"T.", b"T.", b"T."),
         ["SysDir>D. directory", "SysDir>D.$1. directory", "SysDir>D.. directory"]
         + ["D>X. length 3", "D.$1>Y. length 4", "D.>Z. length 5", "6 files"],
+    ),
+    (
+        "a directory may have a version in its name, and is listed by it",
+        [whole(11, D, b"D!2.", slot(A, b"X.")), whole(5, A, b"A.", 3)],
+        ["SysDir>D!2. directory", "D!2>X. length 3", "2 files"],
+    ),
+    (
+        "directories of one base are ordered by their versions",
+        [whole(11, D, b"D!10.", slot(A, b"X.")), whole(13, E, b"D.", slot(B, b"Y.")), whole(15, directory(8), b"D!2.", slot(C, b"Z."))]
+        + numbered(b"T.", b"T.", b"T."),
+        ["SysDir>D. directory", "SysDir>D!2. directory", "SysDir>D!10. directory"]
+        + ["D>Y. length 4", "D!2>Z. length 5", "D!10>X. length 3", "6 files"],
     ),
     (
         "a directory without files has its line alone",

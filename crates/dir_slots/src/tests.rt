@@ -8,7 +8,10 @@ use std::test::Fail;
 /// The words of the entry of `A.`, the ordinary file with serial 3, whose leader is at 5.
 const ENTRY_OF_A: [u16; 8] = [1032, 0, 3, 1, 0, 5, 577, 11776];
 
-/// That entry under another name.
+/// The words of the entry of `A!2.`, the same file otherwise.
+const ENTRY_WITH_A_VERSION: [u16; 9] = [1033, 0, 3, 1, 0, 5, 0x0441, 0x2132, 0x2E00];
+
+/// The entry of that file under another name.
 fn entry(name: Name) -> Slot {
     Slot::Entry {
         fid: Fid {
@@ -30,6 +33,20 @@ fn the_entry_of_a_has_eight_words(rt: HostRuntime) -> Result<(), Fail> {
     Ok(())
 }
 
+#[test]
+fn entries_under_names_with_versions(rt: HostRuntime) -> Result<(), Fail> {
+    let name = Name::parse(b"A!2").ok_or("a name")?;
+    assert_eq!(rt; slot_here(&ENTRY_WITH_A_VERSION, 9), Some(entry(name)));
+    let written = write_slots(rt.alloc(), &[entry(name)])?;
+    assert_eq!(rt; written.as_slice(), ENTRY_WITH_A_VERSION.as_slice());
+    // `A!02.`, and `A!1.`, whose version isn't spelled
+    let leading_zero = [1033, 0, 3, 1, 0, 5, 0x0541, 0x2130, 0x322E];
+    assert_eq!(rt; slot_here(&leading_zero, 9), None);
+    let version_one = [1033, 0, 3, 1, 0, 5, 0x0441, 0x2131, 0x2E00];
+    assert_eq!(rt; slot_here(&version_one, 9), None);
+    Ok(())
+}
+
 /// A slot is written and read back, and has so many words.
 fn goes_round(rt: &impl Abort, alloc: Global, text: &[u8], words: usize) -> Result<(), Fail> {
     let name = Name::parse(text).ok_or("a name")?;
@@ -45,8 +62,9 @@ fn goes_round(rt: &impl Abort, alloc: Global, text: &[u8], words: usize) -> Resu
 }
 
 #[test]
-fn names_of_2_and_39_characters_go_round(rt: HostRuntime) -> Result<(), Fail> {
+fn names_go_round(rt: HostRuntime) -> Result<(), Fail> {
     goes_round(&rt, rt.alloc(), b"Z", 8)?;
+    goes_round(&rt, rt.alloc(), b"Z!65534", 11)?;
     goes_round(
         &rt,
         rt.alloc(),

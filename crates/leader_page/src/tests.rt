@@ -25,6 +25,12 @@ fn words_of_names(rt: HostRuntime) -> Result<(), Fail> {
     assert_eq!(rt; short[1], 11776);
     assert_eq!(rt; short[2], 0);
     assert_eq!(rt; short[19], 0);
+    // `A!2.`, of four characters
+    let numbered = name_words(&Name::parse(b"A!2").ok_or("no name")?);
+    assert_eq!(rt; numbered[0], 0x0441);
+    assert_eq!(rt; numbered[1], 0x2132);
+    assert_eq!(rt; numbered[2], 0x2E00);
+    assert_eq!(rt; numbered[3], 0);
     // 39 characters: the length byte with `a`, .., `L` with the final `.`
     let long = name_words(&Name::parse(LETTERS.as_bytes()).ok_or("no name")?);
     assert_eq!(rt; long[0], 0x2761);
@@ -77,13 +83,25 @@ fn pages_that_spell_no_name(rt: HostRuntime) {
         [0x282E, 0x2E2E, 0x2E2E],
         // no final `.`, which isn't added here
         [0x0241, 0x4200, 0],
-        // `!`
+        // `!A.`, `A!02.` and `A!1.`: nothing before the mark, a leading zero, and a version that isn't spelled
         [0x0321, 0x412E, 0],
+        [0x0541, 0x2130, 0x322E],
+        [0x0441, 0x2131, 0x2E00],
     ];
     for row in rows {
         assert!(rt; Leader::decode(&page(&row)).is_none());
     }
     assert!(rt; Leader::decode(&page(&[0x032E, 0x412E, 0])).is_some());
+}
+
+#[test]
+fn a_name_with_a_version_in_a_page(rt: HostRuntime) -> Result<(), Fail> {
+    let value = page(&[0x0441, 0x2132, 0x2E00]);
+    let leader = Leader::decode(&value).ok_or("no leader")?;
+    assert_eq!(rt; leader.name.as_bytes(), b"A!2.".as_slice());
+    assert_eq!(rt; Leader::of_file(Fid::ordinary(9), &value), leader);
+    assert_eq!(rt; leader.encode()[6..9], [0x0441, 0x2132, 0x2E00]);
+    Ok(())
 }
 
 #[test]

@@ -31,9 +31,13 @@ use Rattle.pack_laws.proofs.Mapping.{get-map_values}
 use Rattle.pack_laws.proofs.SlotsByRule.{slots_of_reads, reads_too}
 use Rattle.pack_laws.proofs.Storing.{get-files_shown}
 
--- every leader page that is shown can be read
+-- a leader page that is shown can be read
+abbrev CanBeRead : Sight → Type 0
+CanBeRead x = (f : Fid) (readable : Bool) (l : Leader) → x ≡ leads f readable l → readable ≡ true
+
+-- and so can each of these
 abbrev AllReadable : List Sight → Type 0
-AllReadable ss = (i : ℕ) (f : Fid) (readable : Bool) (l : Leader) → get_or ss i hidden ≡ leads f readable l → readable ≡ true
+AllReadable ss = (i : ℕ) → CanBeRead (get_or ss i hidden)
 
 -- as those of whole files can
 all_readable : (ss : List Sight) → ((f : Fid) → FileWhole ss f) → AllReadable ss
@@ -47,6 +51,10 @@ all_readable ss files i f readable l shows = by (files f)
 -- living directories that are slots to their end
 abbrev Directories : Rule → List Sight → Type 0
 Directories rule ss = (d : Fid) → lives ss d ≡ true → is_directory d ≡ true → SlotsReachEndBy rule (file_bytes ss d)
+
+-- the body of a directory, or of another file
+abbrev body_by : Rule → Bool → List ℕ → Body
+body_by rule dir bytes = cond dir (items_of (slots_by rule (words_of bytes))) (data_of bytes)
 
 -- Sound, by what sectors show.
 record SoundSights (rule : Rule) (shape : Shape) (ss : List Sight) : Type 0 where
@@ -66,8 +74,7 @@ module _ (old new : Rule) (wider : (name : List ℕ) → old name ≡ true → n
       let parts = and_parts (length (spelled_name words) == word (name_bytes words) 0) (old (spelled_name words)) is in
       and_from (length (spelled_name words) == word (name_bytes words) 0) (new (spelled_name words)) parts.0 (wider (spelled_name words) parts.1)
 
-  same_page : (f : Fid) (n bytes : ℕ) (value : List ℕ) → ((g : Fid) (readable : Bool) (l : Leader) → page_sight_by old f n bytes value ≡ leads g readable l → readable ≡ true)
-      → page_sight_by old f n bytes value ≡ page_sight_by new f n bytes value
+  same_page : (f : Fid) (n bytes : ℕ) (value : List ℕ) → CanBeRead (page_sight_by old f n bytes value) → page_sight_by old f n bytes value ≡ page_sight_by new f n bytes value
   same_page f zero bytes value all =
       let words : List ℕ = leader_words value in
       let before : is_readable_by old words ≡ true = all f (is_readable_by old words) (leader_by old f value) refl in
@@ -82,13 +89,13 @@ module _ (old new : Rule) (wider : (name : List ℕ) → old name ≡ true → n
       })
   same_page f (suc n) bytes value all = refl
 
-  same_sight : (shape : Shape) (at : ℕ) (s : Sector) → ((f : Fid) (readable : Bool) (l : Leader) → sight_by old shape at s ≡ leads f readable l → readable ≡ true) → sight_by old shape at s ≡ sight_by new shape at s
+  same_sight : (shape : Shape) (at : ℕ) (s : Sector) → CanBeRead (sight_by old shape at s) → sight_by old shape at s ≡ sight_by new shape at s
   same_sight shape at s all = by (is_usable shape at s) (in_range (tag s.label)) all
     where
       shown : Rule → Bool → Bool → Sight
       shown rule u r = cond u (cond r (page_sight_by rule (tag s.label).fid (tag s.label).page (tag s.label).bytes s.value) (cond (is_free (tag s.label)) free stray)) hidden
 
-      by : (u r : Bool) → ((f : Fid) (readable : Bool) (l : Leader) → shown old u r ≡ leads f readable l → readable ≡ true) → shown old u r ≡ shown new u r
+      by : (u r : Bool) → CanBeRead (shown old u r) → shown old u r ≡ shown new u r
       by false r all = refl
       by true false all = refl
       by true true all = same_page (tag s.label).fid (tag s.label).page (tag s.label).bytes s.value all
@@ -105,7 +112,7 @@ module _ (old new : Rule) (wider : (name : List ℕ) → old name ≡ true → n
   same_slots bytes is = slots_of_reads old (words_of bytes) is.items is.reads ∙ sym (slots_of_reads new (words_of bytes) is.items (reads_too old new wider (words_of bytes) is.items is.reads))
 
   module _ (ss : List Sight) (directories : Directories old ss) where
-    same_body : (f : Fid) (d : Bool) → is_directory f ≡ d → lives ss f ≡ true → ◌≡◌ {A = Body} (cond d (items_of (slots_by old (words_of (file_bytes ss f)))) (data_of (file_bytes ss f))) (cond d (items_of (slots_by new (words_of (file_bytes ss f)))) (data_of (file_bytes ss f)))
+    same_body : (f : Fid) (d : Bool) → is_directory f ≡ d → lives ss f ≡ true → body_by old d (file_bytes ss f) ≡ body_by new d (file_bytes ss f)
     same_body f true is living = ap items_of (same_slots (file_bytes ss f) (directories f living is))
     same_body f false is living = refl
 

@@ -1,4 +1,5 @@
-// Names that the leaders give: those that can't be read, long ones and their suffixes, and one serial with two versions.
+// Names that the leaders give: those that can't be read, long ones and their suffixes, names with versions, and one serial with two
+// versions of files.
 use crate::expected::expect_listing;
 use crate::pages::{DIRECTORY_5, FILE_3, FILE_4, SYS_DIR, push_entry, put_directory, put_leader};
 use sample_packs::sectors_of;
@@ -20,6 +21,10 @@ fn leaders_without_a_readable_name(rt: HostRuntime) -> Result<(), Fail> {
         b"AB",
         b"A_.",
         b"A B.",
+        // a version with a leading zero, version 1 spelled out, and the one after the greatest
+        b"A!02.",
+        b"A!1.",
+        b"A!65535.",
     ];
     for name in rows {
         put_leader(alloc, &mut sectors, 5, FILE_3, name)?;
@@ -54,6 +59,25 @@ fn suffixes_of_a_long_name(rt: HostRuntime) -> Result<(), Fail> {
         SysDir>abcdefghijklmnopqrstuvwxyzabcdefghij$9. length 0\n\
         SysDir>abcdefghijklmnopqrstuvwxyzabcdefghijkl. length 0\n11 files\n";
     expect_listing(&rt, &sectors, listing)
+}
+
+#[test]
+fn names_with_versions(rt: HostRuntime) -> Result<(), Fail> {
+    let alloc = rt.alloc();
+    let mut sectors = sectors_of(alloc, &[])?;
+    // by the number of the version, and not by its characters
+    put_leader(alloc, &mut sectors, 5, FILE_3, b"A!10.")?;
+    put_leader(alloc, &mut sectors, 7, FILE_4, b"A.")?;
+    put_leader(alloc, &mut sectors, 9, FILE_8, b"A!2.")?;
+    let listing = b"SysDir>A. length 0\nSysDir>A!2. length 0\nSysDir>A!10. length 0\n3 files\n";
+    expect_listing(&rt, &sectors, listing.as_slice())?;
+    // of two files with one name and version one gets a suffix, before the version; another version is another name
+    put_leader(alloc, &mut sectors, 5, FILE_3, b"X!2.")?;
+    put_leader(alloc, &mut sectors, 7, FILE_4, b"X!2.")?;
+    put_leader(alloc, &mut sectors, 9, FILE_8, b"X!3.")?;
+    let listing =
+        b"SysDir>X!2. length 0\nSysDir>X!3. length 0\nSysDir>X.$1!2. length 0\n3 files\n";
+    expect_listing(&rt, &sectors, listing.as_slice())
 }
 
 #[test]

@@ -36,6 +36,14 @@ fn slots_that_do_not_end_a_directory(rt: HostRuntime) -> Result<(), Fail> {
     put_before_an_entry(alloc, &mut sectors, &[1032, 0, 4, 1, 0, 0, 0x0343, 0x442E])?;
     let listing = b"SysDir>B. length 0\nSysDir>CD. length 0\n2 files\n";
     expect_listing(&rt, &sectors, listing)?;
+    // a name with a version
+    put_before_an_entry(
+        alloc,
+        &mut sectors,
+        &[1033, 0, 4, 1, 0, 5, 0x0443, 0x2132, 0x2E00],
+    )?;
+    let listing = b"SysDir>B. length 0\nSysDir>C!2. length 0\n2 files\n";
+    expect_listing(&rt, &sectors, listing)?;
     // free slots of one word and of three, whatever stands in them
     put_before_an_entry(alloc, &mut sectors, &[1, 3, 0xFFFF, 0])?;
     let listing = b"SysDir>B. length 0\nSysDir>Y. length 0\n2 files\n";
@@ -69,6 +77,8 @@ fn slots_that_end_a_directory(rt: HostRuntime) -> Result<(), Fail> {
         &[1031, 0, 4, 1, 0, 5, 0x012E],
         &[1032, 0, 4, 1, 0, 5, 0x0243, 0x4400],
         &[1032, 0, 4, 1, 0, 5, 0x025F, 0x2E00],
+        // and a version with a leading zero
+        &[1033, 0, 4, 1, 0, 5, 0x0543, 0x2130, 0x322E],
         // serial 0, of a file and of a directory
         &[1032, 0, 0, 1, 0, 5, 0x0243, 0x2E00],
         &[1032, 0x8000, 0, 1, 0, 5, 0x0243, 0x2E00],
