@@ -113,16 +113,19 @@ fifth_page = (refl, refl)
 abbrev old_of : Shape → ℕ → ℕ → ℕ → ℕ → ℕ
 old_of shape bytes drives cylinders words = old_serial shape (replicate bytes 0) (drives ∷ cylinders ∷ 2 ∷ 12 ∷ 0 ∷ 9 ∷ 1 ∷ 0 ∷ words ∷ [])
 
--- its own shape, and one drive with as many cylinders; one drive of twice as many, which has as many sectors; the length of two drives
--- with the words of one, as a move that was cut leaves it, or the other way round; another number of map words
+-- its own shape, and one drive with as many cylinders; one drive of twice as many, which has as many sectors; the words of one drive in a
+-- file as long as for two, as a move that was cut leaves them; another number of drives, of cylinders, of map words or of bytes alone
 old_serials :
     (old_of two_31 1250 2 203 609 ≡ 9)
     × (old_of two_31 642 1 203 305 ≡ 9)
     × (old_of two_31 1250 1 406 609 ≡ 0)
     × (old_of two_31 1250 1 203 305 ≡ 0)
-    × (old_of two_31 642 2 203 609 ≡ 0)
+    × (old_of two_31 1250 1 203 609 ≡ 0)
+    × (old_of two_31 642 2 203 305 ≡ 0)
+    × (old_of two_31 642 1 204 305 ≡ 0)
     × (old_of two_31 642 1 203 306 ≡ 0)
-old_serials = (refl, refl, refl, refl, refl, refl)
+    × (old_of two_31 644 1 203 305 ≡ 0)
+old_serials = (refl, refl, refl, refl, refl, refl, refl, refl, refl)
 
 -- one drive takes none of two
 old_of_two : (old_of model_44 1250 1 406 609 ≡ 9) × (old_of model_44 1250 2 203 609 ≡ 0) × (old_of two_44 1250 1 406 609 ≡ 9) × (old_of two_44 1250 2 203 609 ≡ 0)

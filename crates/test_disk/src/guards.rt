@@ -173,6 +173,20 @@ fn headers_are_looked_at(rt: HostRuntime) -> Result<(), Fail> {
     Ok(())
 }
 
+/// Gives the page's sector another label for the same page, and sees that this is refused so.
+fn check_relabel<A: Abort>(
+    rt: &A,
+    machine: &mut SureMachine,
+    at: u16,
+    asked: Page,
+    wrong: GuardError,
+) {
+    assert!(rt; 1 <= at && at < machine.shape().pages());
+    let next = label(5, asked);
+    assert!(rt; page_of(&next) == Some(asked));
+    assert!(rt; relabel(machine, at, asked, next) == Err(wrong));
+}
+
 /// Asks for the page in each of the four ways, and sees that nothing was written.
 fn check_refused<R: Abort + AllocGlobal>(rt: &R, row: &Refused) -> Result<(), Fail> {
     let wrong = GuardError::Wrong { found: row.found };
@@ -183,9 +197,7 @@ fn check_refused<R: Abort + AllocGlobal>(rt: &R, row: &Refused) -> Result<(), Fa
     assert!(rt; read_page(&mut machine, at, row.asked, &mut buf) == Err(wrong));
     assert!(rt; write_value(&mut machine, at, row.asked, &[0; 256]) == Err(wrong));
     assert!(rt; release(&mut machine, at, row.asked) == Err(wrong));
-    let next = label(5, row.asked);
-    assert!(rt; page_of(&next) == Some(row.asked));
-    assert!(rt; relabel(&mut machine, at, row.asked, next) == Err(wrong));
+    check_relabel(rt, &mut machine, at, row.asked, wrong);
     assert!(rt; machine.event_count() == 0);
     Ok(())
 }

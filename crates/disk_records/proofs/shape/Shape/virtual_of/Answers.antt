@@ -1,4 +1,4 @@
-use Rattle.std.proofs.Common.{◌≡◌, ℕ, ap, Some, sym, ◌∙◌, arith}
+use Rattle.std.proofs.Common.{ℕ, ap, Some, arith}
 use Rattle.disk_records.proofs.Reals.{arm_of, parts_of, at_of-within, at_of-real, at_of-back}
 use Rattle.disk_records.proofs.shape.Shape.virtual_of.Goals as goal
 use Rattle.disk_records.proofs.shape.Shape.virtual_of.Goals.{else-sector-lt12-via-then-sector-lt12+then-cylinder-self+then-disk-self+else-real-eq0, else-sector-lt12-via-then-sector-lt12+then-cylinder-self+else-disk-self, else-sector-lt12-via-then-sector-lt12+else-cylinder-self, else-sector-lt12-via-else-sector-lt12}
