@@ -1,24 +1,16 @@
 -- Names that have a suffix in common, without regard to case.
 use Rattle.std.proofs.Common.{◌≡◌, ℕ, zero, suc, ◌+◌, ◌-◌, ◌^◌, ◌<◌, ◌≤◌, ◌/◌, ◌%◌, true, List, [], ◌∷◌, ◌++◌, length, take, map, None, refl, sym, ap, subst, ◌∙◌, inl, inr, arith, append_assoc, length-append}
-use Rattle.std.specs.Prelude.{nat_eq}
 use Rattle.std.specs.Fmt.{decimal}
 use Rattle.std.specs.Str.Parse.{AllDigits}
-use Rattle.std.specs.Cmp.Lexicographic.{same_text, nat_list_eq_equiv, pointwise}
 use Rattle.std.specs.Option.{option_map}
 use Rattle.std.specs.List.{take-map}
 use Rattle.std.proofs.lemmas.Bool.Decides.{leb_tells}
 use Rattle.std.proofs.lemmas.Fmt.{decimal_digit, decimal_step, decimal_by_steps, decimal_injective}
 use Rattle.std.proofs.lemmas.List.{append_cancel_right, map-append}
 use Rattle.alto_words.specs.Names.{fold_case, is_same_name, base_of, after_mark, version_of, version_text, suffix_of, after_kept, suffixed}
-use Rattle.alto_words.proofs.Folding.{fold_version, are_digits, fold_digits}
+use Rattle.alto_words.proofs.Folding.{folded, same_folded, fold_version, are_digits, fold_digits}
 use Rattle.alto_words.proofs.Marks.{after_fold, unmarked_after, unmarked_take, no_mark, characters-digits}
 use Rattle.alto_words.proofs.Versions.{unmarked_base, parts_alike, version_most}
-
-folded : (a b : List ℕ) → is_same_name a b ≡ true → map fold_case a ≡ map fold_case b
-folded a b same = same_text (map fold_case a) (map fold_case b) (sym same)
-
-same_folded : (a b : List ℕ) → map fold_case a ≡ map fold_case b → is_same_name a b ≡ true
-same_folded a b e = ap (λ l. pointwise nat_eq l (map fold_case b)) e ∙ nat_list_eq_equiv.refl (map fold_case b)
 
 -- ---- a suffix keeps no more of a name than those before it
 take_fewer : (xs : List ℕ) (n m : ℕ) → n ≤ m → take n (take m xs) ≡ take n xs

@@ -5,19 +5,17 @@ use Rattle.std.specs.Fmt.{decimal}
 use Rattle.std.specs.Str.Parse.{AllDigits}
 use Rattle.std.proofs.lemmas.Fmt.{decimal_is_IsNumeral}
 use Rattle.std.specs.Cmp.{IsTotalOrder}
-use Rattle.std.specs.Cmp.Lexicographic.{slice_cmp, pointwise, texts_ties, same_text}
-use Rattle.std.proofs.lemmas.Bool.{false≢true, and_from, and_parts, eqb-true}
-use Rattle.std.specs.List.{list_all}
-use Rattle.std.proofs.lemmas.List.Folds.{list_all-append}
+use Rattle.std.specs.Cmp.Lexicographic.{slice_cmp, pointwise, texts_ties, same_text, nat_list_eq_equiv}
+use Rattle.std.proofs.lemmas.Bool.{false≢true, and_parts, eqb-true}
 use Rattle.std.proofs.lemmas.Cmp.{on_total, nat_list_cmp_total, tied_itself, nat_cmp_total}
 use Rattle.std.specs.Cmp.{then_total}
 use Rattle.std.specs.Option.{option_map}
 use Rattle.std.proofs.lemmas.List.{map-append, length-map}
 use Rattle.std.specs.Ordering.{nat_cmp, is_eq, ordering_then}
 use Rattle.std.proofs.lemmas.Bool.Decides.{nat_tests}
-use Rattle.alto_words.specs.Names.{is_name_character, fold_case, folded_cmp, version_cmp, is_same_name, is_bare_name, base_of, base_by, version_of, version_text, after_mark}
-use Rattle.alto_words.proofs.Names.{stem_of}
-use Rattle.alto_words.proofs.Marks.{no_mark, after_fold}
+use Rattle.alto_words.specs.Names.{fold_case, folded_cmp, version_cmp, is_same_name, is_bare_name, base_of, base_by, version_of, version_text, after_mark}
+use Rattle.alto_words.proofs.Versions.{bare_unmarked}
+use Rattle.alto_words.proofs.Marks.{after_fold}
 
 -- std's lower case is the one of names
 fold_case-lowercase : (c : ℕ) → to_ascii_lowercase c ≡ fold_case c
@@ -45,6 +43,13 @@ fold_version n fits = by (n == 1)
     by true = refl
     by false = ap (λ l. 33 ∷ l) (fold_digits (decimal n) (are_digits n (omega arith)))
 
+-- names that are the same are one in lower case
+pub folded : (a b : List ℕ) → is_same_name a b ≡ true → map fold_case a ≡ map fold_case b
+folded a b same = same_text (map fold_case a) (map fold_case b) (sym same)
+
+pub same_folded : (a b : List ℕ) → map fold_case a ≡ map fold_case b → is_same_name a b ≡ true
+same_folded a b e = ap (λ l. pointwise nat_eq l (map fold_case b)) e ∙ nat_list_eq_equiv.refl (map fold_case b)
+
 -- the order is that of bases, versions and bytes, seen in lower case
 pub version_cmp-total : IsTotalOrder version_cmp
 version_cmp-total = then_total (on_total base_of nat_list_cmp_total) (then_total (on_total version_of nat_cmp_total) nat_list_cmp_total)
@@ -65,11 +70,6 @@ prefix_cmp (x ∷ a) (y ∷ b) rest same some =
 -- a bare name in lower case is its own base
 base_folded : (name : List ℕ) → after_mark name ≡ None → base_of (map fold_case name) ≡ map fold_case name
 base_folded name none = ap (base_by (map fold_case name)) (after_fold name ∙ ap (option_map (map fold_case)) none)
-
-bare_unmarked : (name : List ℕ) → is_bare_name name ≡ true → after_mark name ≡ None
-bare_unmarked name bare =
-    let s = stem_of name bare in
-    ap after_mark s.is ∙ no_mark (s.stem ++ 46 ∷ []) (list_all-append is_name_character s.stem (46 ∷ []) ∙ and_from (list_all is_name_character s.stem) true s.characters refl)
 
 -- a bare name comes before a longer one that begins with it
 pub folded_cmp-prefix : (name front rest : List ℕ) → is_bare_name name ≡ true → is_bare_name (front ++ rest) ≡ true → is_same_name name front ≡ true → 0 < length rest → folded_cmp name (front ++ rest) ≡ Less
@@ -100,5 +100,5 @@ last_ties Equal Equal c e = e
 pub folded_cmp-equal : (a b : List ℕ) → (folded_cmp a b ≡ Equal) ↔ (is_same_name a b ≡ true)
 folded_cmp-equal a b = (
   λ e. (tied (map fold_case a) (map fold_case b)).0 (last_ties _ _ _ e),
-  λ same. ap (version_cmp (map fold_case a)) (sym (same_text (map fold_case a) (map fold_case b) (sym same))) ∙ tied_itself version_cmp-total (map fold_case a),
+  λ same. ap (version_cmp (map fold_case a)) (sym (folded a b same)) ∙ tied_itself version_cmp-total (map fold_case a),
 )

@@ -1,6 +1,7 @@
 pub mod Alike
 pub mod Digits
 pub mod Folding
+pub mod Forms
 pub mod Hex
 pub mod Made
 pub mod Marked
@@ -8,6 +9,7 @@ pub mod Marks
 pub mod NameVectors
 pub mod Names
 pub mod Ordered
+pub mod Parsed
 pub mod Reading
 pub mod Stems
 pub mod Texts

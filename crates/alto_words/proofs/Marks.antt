@@ -1,7 +1,7 @@
 -- The mark of a version: where it stands in a text.
-use Rattle.std.proofs.Common.{◌≡◌, ◌≢◌, ℕ, zero, suc, ◌+◌, ◌-◌, ◌<◌, ◌≤◌, Bool, true, false, cond, ◌==◌, List, [], ◌∷◌, ◌++◌, length, take, drop, get_or, map, Some, None, refl, ap, sym, ◌∙◌, arith, append-nil, append_assoc, take-append-drop}
-use Rattle.std.specs.List.{list_all}
-use Rattle.std.specs.Option.{option_map}
+use Rattle.std.proofs.Common.{◌≡◌, ◌≢◌, ℕ, zero, suc, ◌+◌, ◌-◌, ◌<◌, ◌≤◌, Bool, true, false, cond, ◌==◌, List, [], ◌∷◌, ◌++◌, length, take, drop, get_or, map, Option, Some, None, refl, ap, sym, ◌∙◌, arith, append-nil, append_assoc, take-append-drop}
+use Rattle.std.specs.List.{list_all, AllWithin, HoldsAt}
+use Rattle.std.specs.Option.{option_map, MatchOption, IfSome, IfNone}
 use Rattle.std.specs.Str.Parse.{AllDigits}
 use Rattle.std.specs.Char.{digit_value}
 use Rattle.std.proofs.lemmas.Bool.{and_from, and_parts, cond-false, ne_eqb}
@@ -81,10 +81,24 @@ unmarked_without text none = by (last_byte text == 46)
     by false = none
 
 -- ---- the place of the first one
-pub mark_next : (text : List ℕ) (i : ℕ) → i < length text → after_mark (take i text) ≡ None → get_or text i 0 ≢ 33 → after_mark (take (i + 1) text) ≡ None
-mark_next text i within none other =
-    ap after_mark (take_at_read text i 0 within).1 ∙ unmarked_after (take i text) (get_or text i 0 ∷ []) none
-    ∙ cond-false (get_or text i 0 == 33) (Some []) None (ne_eqb (get_or text i 0) 33 other)
+unmarked_until : (n : ℕ) (text : List ℕ) → AllWithin (λ c. c ≢ 33) text 0 n → after_mark (take n text) ≡ None
+unmarked_until zero text others = refl
+unmarked_until (suc n) [] others = refl
+unmarked_until (suc n) (c ∷ text) others =
+    cond-false (c == 33) (Some (take n text)) (after_mark (take n text)) (ne_eqb c 33 (others 0 0 (omega arith) (omega arith)))
+    ∙ unmarked_until n text (λ k d least below. others (suc k) d (omega arith) (omega arith))
+
+-- what a search for it finds
+abbrev pub IsFound : List ℕ → Option ℕ → Type 0
+IsFound text found = MatchOption found (AllWithin (λ c. c ≢ 33) text 0 (length text)) (λ at. (at < length text) × HoldsAt (λ c. c ≡ 33) text at × AllWithin (λ c. c ≢ 33) text 0 at)
+
+pub mark_found : (text : List ℕ) (found : Option ℕ) → IsFound text found → IfSome found (λ at. IsFirstMark text at)
+mark_found text None h = tt
+mark_found text (Some at) h = record { within = h.0; here = h.1 0; first = unmarked_until at text h.2 }
+
+pub no_mark_found : (text : List ℕ) (found : Option ℕ) → IsFound text found → IfNone found (after_mark text ≡ None)
+no_mark_found text None h = ap after_mark (sym (take_all (length text) text (omega arith))) ∙ unmarked_until (length text) text h
+no_mark_found text (Some at) h = tt
 
 pub split_marked : (name : List ℕ) (at : ℕ) → at < length name → get_or name at 0 ≡ 33 → name ≡ take at name ++ 33 ∷ drop (at + 1) name
 split_marked name at within here =

@@ -1,13 +1,14 @@
 -- How stored names are ordered: by base and by version alone.
-use Rattle.std.proofs.Common.{◌≡◌, ℕ, Bool, true, false, cond, nat_lt, nat_eq, ◌==◌, List, [], ◌∷◌, ◌++◌, map, Option, Some, None, Less, Equal, Greater, Ordering, refl, ap, sym, ◌∙◌, arith}
+use Rattle.std.proofs.Common.{◌≡◌, ◌↔◌, ℕ, ◌<◌, Bool, true, false, cond, nat_lt, ◌==◌, List, [], ◌∷◌, ◌++◌, map, Option, Some, None, Less, Equal, Greater, Ordering, refl, ap, sym, ◌∙◌, arith}
 use Rattle.std.specs.Char.{to_ascii_lowercase}
-use Rattle.std.specs.Cmp.Lexicographic.{slice_cmp, pointwise, same_text, nat_list_eq_equiv}
+use Rattle.std.specs.Cmp.Lexicographic.{slice_cmp, same_text}
 use Rattle.std.specs.Option.{option_map}
 use Rattle.std.specs.Ordering.{nat_cmp, ordering_then}
+use Rattle.std.proofs.lemmas.Bool.{cond-true}
 use Rattle.std.proofs.lemmas.Bool.Decides.{nat_tests}
 use Rattle.std.proofs.lemmas.List.{map-append, append_cancel_right}
-use Rattle.alto_words.specs.Names.{fold_case, folded_cmp, is_stored_name, before_mark, after_mark, base_by, base_of, version_of, version_text}
-use Rattle.alto_words.proofs.Folding.{map-lowercase, fold_version, tied}
+use Rattle.alto_words.specs.Names.{fold_case, folded_cmp, is_same_name, is_stored_name, before_mark, after_mark, base_by, base_of, version_of, version_text}
+use Rattle.alto_words.proofs.Folding.{map-lowercase, fold_version, tied, folded, same_folded}
 use Rattle.alto_words.proofs.Marks.{no_mark, after_fold, before_fold}
 use Rattle.alto_words.proofs.Versions.{StoredParts, stored_parts, version_is}
 
@@ -75,7 +76,7 @@ folded_cmp-parts a b one other =
     all_tied e f =
         let bases = same_text (map fold_case (base_of a)) (map fold_case (base_of b)) (sym ((tied (map fold_case (base_of a)) (map fold_case (base_of b))).0 e)) in
         let whole = same_by_parts a b one other bases (nat_tied (version_of a) (version_of b) f) in
-        (tied (map fold_case a) (map fold_case b)).1 (ap (λ l. pointwise nat_eq l (map fold_case b)) whole ∙ nat_list_eq_equiv.refl (map fold_case b))
+        (tied (map fold_case a) (map fold_case b)).1 (same_folded a b whole)
 
 -- as a call finds them, in std's lower case
 pub folded_cmp-found : (a b : List ℕ) → is_stored_name a ≡ true → is_stored_name b ≡ true
@@ -83,3 +84,21 @@ pub folded_cmp-found : (a b : List ℕ) → is_stored_name a ≡ true → is_sto
 folded_cmp-found a b one other =
     (λ i. ordering_then (slice_cmp nat_cmp (map-lowercase (base_of a) i) (map-lowercase (base_of b) i)) (nat_cmp (version_of a) (version_of b)))
     ∙ sym (folded_cmp-parts a b one other)
+
+-- stored names are the same where their bases are and their versions are equal, and only there
+pub same_parts : (a b : List ℕ) → is_stored_name a ≡ true → is_stored_name b ≡ true → (is_same_name a b ≡ true) ↔ ((is_same_name (base_of a) (base_of b) ≡ true) × (version_of a ≡ version_of b))
+same_parts a b one other = (
+  λ same. let e = folded a b same in (
+    same_folded (base_of a) (base_of b) (sym (fold_base a) ∙ ap base_of e ∙ fold_base b),
+    sym (fold_version_of a one) ∙ ap version_of e ∙ fold_version_of b other,
+  ),
+  λ parts. same_folded a b (same_by_parts a b one other (folded (base_of a) (base_of b) parts.0) parts.1),
+)
+
+-- of one base the newer version comes later
+pub folded_cmp-newer : (a b : List ℕ) → is_stored_name a ≡ true → is_stored_name b ≡ true → is_same_name (base_of a) (base_of b) ≡ true → version_of a < version_of b → folded_cmp a b ≡ Less
+folded_cmp-newer a b one other same newer =
+    let lower : nat_lt (version_of a) (version_of b) ≡ true = grind (arith, nat_tests) in
+    folded_cmp-parts a b one other
+    ∙ ap (λ o. ordering_then o (nat_cmp (version_of a) (version_of b))) ((tied (map fold_case (base_of a)) (map fold_case (base_of b))).1 same)
+    ∙ cond-true (nat_lt (version_of a) (version_of b)) Less (cond (version_of a == version_of b) Equal Greater) lower

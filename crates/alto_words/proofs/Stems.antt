@@ -7,11 +7,11 @@ use Rattle.std.specs.Borrow.{Bor}
 use Rattle.std.specs.Option.{MatchOption, unwrap_or}
 use Rattle.std.proofs.lemmas.Bool.{and_parts, cond-true, cond-false, eq-eqb, eqb-true, false_from_ne_true}
 use Rattle.std.proofs.lemmas.Bool.Decides.{nat_tests}
-use Rattle.alto_words.specs.Names.{is_name_character, is_bare_name, is_stored_name, stored_in, after_mark, base_of, version_of, version_text, versioned, version_in, decimal_value, is_digit, last_byte, but_last, without_dot}
+use Rattle.alto_words.specs.Names.{is_name_character, is_bare_name, is_stored_name, stored_in, after_mark, base_of, version_of, version_text, versioned, version_in, decimal_value, is_digit, last_byte, but_last, with_dot, without_dot, with_version}
 use Rattle.alto_words.specs.Numbers.{number_in}
-use Rattle.alto_words.proofs.Names.{is_bare_name-stem, last_byte-front, last_byte-push}
+use Rattle.alto_words.proofs.Names.{is_bare_name-stem, last_byte-front, last_byte-push, last_byte-bare}
 use Rattle.alto_words.proofs.Reading.{number_in-decimal}
-use Rattle.alto_words.proofs.Marks.{but_last-push}
+use Rattle.alto_words.proofs.Marks.{no_mark, but_last-push}
 use Rattle.alto_words.proofs.Versions.{base_is, version_is}
 
 -- what is asked of a stem with a version
@@ -61,6 +61,21 @@ none_made stem n none least most fails = sym (cond-false (is_stored_name (stem +
 pub some_made : (stem : List ℕ) (n : ℕ) → after_mark stem ≡ None → 1 ≤ n → n ≤ 65534 → fits_stem stem n ≡ true → Some (stem ++ version_text n ++ (46 ∷ [])) ≡ stored_in (stem ++ version_text n ++ (46 ∷ []))
 some_made stem n none least most fits = sym (cond-true (is_stored_name (stem ++ version_text n ++ (46 ∷ []))) (Some (stem ++ version_text n ++ (46 ∷ []))) None (made_is stem n none least most ∙ fits))
 
+-- a version of a bare name
+pub with_version-stem : (base stem : List ℕ) (n : ℕ) → is_bare_name base ≡ true → 1 ≤ n → n ≤ 65534 → with_dot base ≡ stem ++ 46 ∷ []
+    → (after_mark stem ≡ None) × (stored_in (stem ++ version_text n ++ (46 ∷ [])) ≡ with_version base n)
+with_version-stem base stem n bare least most dotted =
+    let is : base ≡ stem ++ 46 ∷ [] = sym (cond-true (last_byte base == 46) base (base ++ 46 ∷ []) (eq-eqb (last_byte base) 46 (last_byte-bare base bare))) ∙ dotted in
+    let parts : (nat_le 1 (length stem) && nat_le (length stem) 38 && list_all is_name_character stem) ≡ true = sym (is_bare_name-stem stem) ∙ ap is_bare_name (sym is) ∙ bare in
+    let characters : list_all is_name_character stem ≡ true = (and_parts (nat_le 1 (length stem) && nat_le (length stem) 38) (list_all is_name_character stem) parts).1 in
+    let none = no_mark stem characters in
+    let name : List ℕ = stem ++ version_text n ++ (46 ∷ []) in
+    let same : versioned base n ≡ name = ap (λ s. s ++ version_text n ++ (46 ∷ [])) (ap but_last is ∙ but_last-push stem 46) in
+    let long = length-append (stem ++ version_text n) (46 ∷ []) in
+    let both = length-append stem (version_text n) in
+    let tests : is_stored_name name ≡ nat_le (length name) 39 = made_is stem n none least most ∙ grind (arith, nat_tests) in
+    (none, ap (λ b. cond b (Some name) None) tests ∙ (λ i. cond (nat_le (length (sym same i)) 39) (Some (sym same i)) None))
+
 -- ---- versions in digits
 abbrev pub states : List ℕ → ℕ → Bool
 states digits n = nat_le 1 n && nat_le n 65534 && pointwise nat_eq digits (decimal n)
@@ -108,3 +123,11 @@ stated_digits digits n is = by (states digits (decimal_value digits)) refl is
         let parts = and_parts (nat_le 1 (decimal_value digits) && nat_le (decimal_value digits) 65534) (pointwise nat_eq digits (decimal (decimal_value digits))) e in
         same_text digits (decimal (decimal_value digits)) (sym parts.1) ∙ ap decimal v
     by false e s = absurd cc
+
+-- and a version's digits state it
+pub version_in-decimal : (n : ℕ) → 1 ≤ n → n ≤ 65534 → version_in (decimal n) ≡ Some n
+version_in-decimal n least most =
+    let low : nat_le 1 n ≡ true = grind (arith, nat_tests) in
+    let high : nat_le n 65534 ≡ true = grind (arith, nat_tests) in
+    version_by_number (decimal n) n (number_in-decimal n (omega (arith, most)))
+    ∙ cond-true (states (decimal n) n) (Some n) None (λ i. low i && high i && nat_list_eq_equiv.refl (decimal n) i)

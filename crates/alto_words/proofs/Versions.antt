@@ -115,6 +115,12 @@ is_stored_name-bare name bare =
     let s = stem_of name bare in
     ap is_stored_name (s.is ∙ ap (λ l. l ++ 46 ∷ []) (sym (append-nil s.stem))) ∙ is_stored_name-made s.stem 1 s.characters (omega arith) (omega arith) s.least (let m = s.most in omega arith)
 
+-- it has no mark
+pub bare_unmarked : (name : List ℕ) → is_bare_name name ≡ true → after_mark name ≡ None
+bare_unmarked name bare =
+    let s = stem_of name bare in
+    ap after_mark s.is ∙ no_mark (s.stem ++ 46 ∷ []) (list_all-append is_name_character s.stem (46 ∷ []) ∙ and_from (list_all is_name_character s.stem) true s.characters refl)
+
 -- a version takes at most six characters
 pub version_short : (n : ℕ) → n ≤ 65534 → length (version_text n) ≤ 6
 version_short n fits = by (n == 1)

@@ -4,3 +4,4 @@ pub mod Lists
 pub mod Names
 pub mod Numbers
 pub mod Texts
+pub mod Wanted

@@ -3,6 +3,7 @@ use Rattle.std.specs.Prelude.{◌≡◌, ℕ, ◌+◌, ◌-◌, ◌*◌, ◌<◌
 use Rattle.std.specs.declared.cmp.Ordering.{Ordering}
 use Rattle.std.specs.Ordering.{nat_cmp, then_cmp, on}
 use Rattle.std.specs.List.{list_all}
+use Rattle.std.specs.Option.{is_none}
 use Rattle.std.specs.Cmp.Lexicographic.{pointwise, slice_cmp}
 use Rattle.std.specs.Fmt.{digits, decimal}
 
@@ -116,6 +117,14 @@ name_by text (Some after) = stored_with (with_dot (before_mark text)) (version_i
 -- TEXT may end with the `.` of its name
 abbrev pub name_in : List ℕ → Option (List ℕ)
 name_in text = name_by text (after_mark text)
+
+-- the bare name that a text without `!` stands for
+abbrev pub bare_in : List ℕ → Option (List ℕ)
+bare_in text = cond (is_none (after_mark text)) (name_in text) None
+
+-- the name of a bare name's version, where it has at most 39 characters
+abbrev pub with_version : List ℕ → ℕ → Option (List ℕ)
+with_version base n = cond (nat_le (length (versioned base n)) 39) (Some (versioned base n)) None
 
 -- a letter in lower case
 abbrev pub fold_case : ℕ → ℕ

@@ -1,6 +1,36 @@
 // What holds of names and of numbers in text: each law is what a function of its name ensures. The
 // functions do nothing.
-ghost use Rattle.alto_words.specs.Laws.{OrderIsTotal, PrefixComesFirst, OrderAgreesWithSame, SuffixedIsStored, LengthSuffixed, LostIsStored, LengthLost, NumberReadsBack, HexReadsBack};
+ghost use Rattle.alto_words.specs.Laws.{StoredByForm, BareIsStored, StoredIsMade, ParsedIsStored, StoredIsStated, NewestIsBare, OrderIsTotal, PrefixComesFirst, OrderAgreesWithSame, SameByBaseAndVersion, OrderByBaseAndVersion, NewerComesLater, SuffixedIsStored, LengthSuffixed, LostIsStored, LengthLost, NumberReadsBack, HexReadsBack};
+
+/// A stored name is a bare name, or a bare name's text with `!` and a version from 2 on.
+pub fn stored_by_form()
+    ensures { StoredByForm }
+{}
+
+/// A bare name is a stored name, its own base, and version 1 of it.
+pub fn bare_is_stored()
+    ensures { BareIsStored }
+{}
+
+/// A stored name is the version of its base that it says, and no other version of any bare name.
+pub fn stored_is_made()
+    ensures { StoredIsMade }
+{}
+
+/// What a text stands for is a stored name.
+pub fn parsed_is_stored()
+    ensures { ParsedIsStored }
+{}
+
+/// Each stored name is what its base, `!` and its version stand for.
+pub fn stored_is_stated()
+    ensures { StoredIsStated }
+{}
+
+/// What is wanted in its newest version is a bare name.
+pub fn newest_is_bare()
+    ensures { NewestIsBare }
+{}
 
 /// The order of names is total.
 pub fn order_is_total()
@@ -15,6 +45,21 @@ pub fn prefix_comes_first()
 /// Two names are tied in the order exactly where they are the same.
 pub fn order_agrees_with_same()
     ensures { OrderAgreesWithSame }
+{}
+
+/// Stored names are the same if and only if their bases are and their versions are equal.
+pub fn same_by_base_and_version()
+    ensures { SameByBaseAndVersion }
+{}
+
+/// Stored names are ordered by their bases in lower case, and then by their versions as numbers.
+pub fn order_by_base_and_version()
+    ensures { OrderByBaseAndVersion }
+{}
+
+/// Of one base, the newer version comes later.
+pub fn newer_comes_later()
+    ensures { NewerComesLater }
 {}
 
 /// A stored name with a number in it is a stored name.

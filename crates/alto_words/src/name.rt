@@ -3,19 +3,16 @@ ghost use Rattle.std.specs.Prelude.{◌≡◌, ◌≤◌, ◌++◌, ◌∷◌, [
 ghost use Rattle.std.specs.Cmp.{partial_equiv_from_equiv};
 ghost use Rattle.std.specs.Cmp.Lexicographic.{pointwise, nat_list_eq_equiv};
 ghost use Rattle.std.specs.List.{list_all};
-ghost use Rattle.alto_words.specs.Names.{is_name_character, is_stored_name, stored_in, name_in, with_dot, without_dot, is_same_name, folded_cmp, suffixed, lost, base_of, version_of, after_mark, IsFirstMark, version_text, version_in};
+ghost use Rattle.alto_words.specs.Names.{is_name_character, is_bare_name, is_stored_name, stored_in, name_in, bare_in, with_dot, without_dot, is_same_name, folded_cmp, suffixed, lost, base_of, version_of, with_version, after_mark, version_text};
 
-use crate::numbers::read_number;
 use crate::text::{MAX_LENGTH, ShortText};
+use crate::version::{mark_in, version_in, version_mark};
 use itoa::Buffer;
 use std::cmp::Ordering;
 use std::marker::Model;
 
 /// The most characters of a name before its final `.`.
 const MAX_STEM: usize = MAX_LENGTH - 1;
-
-/// The greatest version.
-const MAX_VERSION: u32 = 65_534;
 
 /// The name of a file as it is stored: 2 to 39 characters, the last a `.`. A bare name has ASCII
 /// letters, digits and `+ - . $` before that; it is version 1 of itself. `TEXT!n.` is version n of
@@ -63,6 +60,18 @@ impl Name {
         }
     }
 
+    /// The bare name that a text without `!` stands for: `TEXT.`, of `TEXT` and of `TEXT.`. None if
+    /// and only if the text has a `!` or that isn't a stored name.
+    pub fn parse_bare(text: &[u8]) -> Option<Name>
+        ensures value { result ≡ bare_in text.now }
+        ensures bare { IfSome result (λ name. is_bare_name name ≡ true) }
+    {
+        match mark_in(text) {
+            None => Name::parse(text),
+            Some(_) => None,
+        }
+    }
+
     /// The name that is stored as these bytes. None if and only if they aren't a stored name: no
     /// final `.` is added, and version 1 isn't written out.
     pub fn stored(bytes: &[u8]) -> Option<Name>
@@ -104,7 +113,8 @@ impl Name {
 
     /// The bare name of which this name is a version.
     pub fn base(&self) -> Name
-        ensures { result ≡ base_of self.now }
+        ensures value { result ≡ base_of self.now }
+        ensures bare { is_bare_name result ≡ true }
     {
         match mark_in(self.as_bytes()) {
             None => *self,
@@ -117,6 +127,13 @@ impl Name {
         }
     }
 
+    /// Whether this is a bare name. Then it is its own base, and its version is 1.
+    pub fn is_bare(&self) -> bool
+        ensures { result ≡ is_bare_name self.now }
+    {
+        mark_in(self.as_bytes()).is_none()
+    }
+
     /// The version of the name, 1 to 65,534: 1 where it states none.
     pub fn version(&self) -> u16
         ensures value { result ≡ version_of self.now }
@@ -125,16 +142,25 @@ impl Name {
         ensures most { result ≤ 65534 }
     {
         let bytes = self.as_bytes();
-        match mark_in(bytes) {
-            None => 1,
-            Some(at) => {
-                let after = &bytes[at + 1..];
-                match version_in(&after[..after.len() - 1]) {
-                    Some(version) => version,
-                    None => unreachable!(),
-                }
-            }
+        let Some(at) = mark_in(bytes) else {
+            return 1;
+        };
+        let after = &bytes[at + 1..];
+        match version_in(&after[..after.len() - 1]) {
+            Some(version) => version,
+            None => unreachable!(),
         }
+    }
+
+    /// The name of this version of a bare name. The version is 1 to 65,534; version 1 is the bare
+    /// name itself. None if and only if more than 39 characters come out.
+    pub fn with_version(&self, n: u16) -> Option<Name>
+        requires bare { is_bare_name self.now ≡ true }
+        requires least { 1 ≤ n }
+        requires most { n ≤ 65534 }
+        ensures { result ≡ with_version self.now n }
+    {
+        Name::with_stem(without_dot(self.as_bytes()), n)
     }
 
     /// Whether two names are equal without regard to the case of ASCII letters.
@@ -149,10 +175,10 @@ impl Name {
     pub fn folded_cmp(&self, other: &Name) -> Ordering
         ensures { result ≡ folded_cmp self.now other.now }
     {
-        let one = self.base();
-        let another = other.base();
-        let own = one.as_bytes().iter().map(|c| c.to_ascii_lowercase());
-        let others = another.as_bytes().iter().map(|c| c.to_ascii_lowercase());
+        let base = self.base();
+        let other_base = other.base();
+        let own = base.as_bytes().iter().map(|c| c.to_ascii_lowercase());
+        let others = other_base.as_bytes().iter().map(|c| c.to_ascii_lowercase());
         own.cmp(others).then(self.version().cmp(&other.version()))
     }
 
@@ -207,46 +233,6 @@ impl PartialEq for Name {
 
 impl Eq for Name {
     ghost laws = { nat_list_eq_equiv };
-}
-
-/// `!` and a version; nothing for version 1.
-fn version_mark(version: u16) -> ShortText
-    requires { version ≤ 65534 }
-    ensures { result ≡ version_text version }
-{
-    let mut text = ShortText::new();
-    if version != 1 {
-        let mut buffer = Buffer::new();
-        text.push(b"!");
-        text.push(buffer.format(version).as_bytes());
-    }
-    text
-}
-
-/// Where the first `!` of a text stands, if one does.
-fn mark_in(text: &[u8]) -> Option<usize>
-    ensures some { IfSome result (λ at. IsFirstMark text.now at) }
-    ensures none { IfNone result (after_mark text.now ≡ None) }
-{
-    for at in 0..text.len() {
-        if text[at] == b'!' {
-            return Some(at);
-        }
-    }
-    None
-}
-
-/// The version that these digits state: 1 to 65,534, without leading zeros.
-fn version_in(digits: &[u8]) -> Option<u16>
-    ensures value { result ≡ version_in digits.now }
-    ensures range { IfSome result (λ n. (1 ≤ n) × (n ≤ 65534)) }
-{
-    let n = read_number(digits)?;
-    let mut buffer = Buffer::new();
-    if n < 1 || n > MAX_VERSION || digits != buffer.format(n).as_bytes() {
-        return None;
-    }
-    Some(n as u16)
 }
 
 /// What stands before the final `.` of a text that is a name, once a `.` is added where it is

@@ -1,5 +1,5 @@
 // Worked rows of names and of numbers in text, and each call that takes memory once with enough of it.
-use crate::{Fid, HexError, List, Name, push_hex, push_number, read_hex, read_number};
+use crate::{Fid, HexError, List, Name, Wanted, push_hex, push_number, read_hex, read_number};
 use std::cmp::Ordering;
 use std::test::Fail;
 
@@ -36,6 +36,18 @@ fn texts_that_are_names(rt: HostRuntime) -> Result<(), Fail> {
             "abcdefghijklmnopqrstuvwxyzABCDEFGHIJKL.",
             "abcdefghijklmnopqrstuvwxyzABCDEFGHIJKL.",
         ),
+        ("A!2", "A!2."),
+        ("A!2.", "A!2."),
+        ("A!65534", "A!65534."),
+        ("A!1", "A."),
+        ("A!1.", "A."),
+        ("A.!2", "A!2."),
+        ("A..!2", "A.!2."),
+        ("..!2", ".!2."),
+        (
+            "abcdefghijklmnopqrstuvwxyzABCDEFGHIJ!2",
+            "abcdefghijklmnopqrstuvwxyzABCDEFGHIJ!2.",
+        ),
     ];
     for (text, stored) in rows {
         let name = Name::parse(text.as_bytes()).ok_or("no name")?;
@@ -54,9 +66,22 @@ fn texts_that_are_no_names(rt: HostRuntime) {
         "caf\u{e9}",
         "abcdefghijklmnopqrstuvwxyzABCDEFGHIJKLM",
         "abcdefghijklmnopqrstuvwxyzABCDEFGHIJKLM.",
+        "A!65535",
+        "A!0",
+        "A!01",
+        "A!",
+        "A!.",
+        "A!2..",
+        "A!2!3",
+        "A!2x",
+        "!2",
+        ".!2",
+        "abcdefghijklmnopqrstuvwxyzABCDEFGHIJKL!2",
+        "abcdefghijklmnopqrstuvwxyzABCDEFGHIJK!2",
     ];
     for text in rows {
-        assert!(rt; Name::parse(text.as_bytes()).is_none());
+        assert!(rt; Name::parse(text.as_bytes()).is_none(), "{text}");
+        assert!(rt; Wanted::parse(text.as_bytes()).is_none(), "{text}");
     }
 }
 
@@ -71,6 +96,20 @@ fn bytes_that_are_stored_names(rt: HostRuntime) {
         ("", false),
         ("a b.", false),
         ("abcdefghijklmnopqrstuvwxyzABCDEFGHIJKLM.", false),
+        ("A!2.", true),
+        ("A.!2.", true),
+        (".!2.", true),
+        ("A!65534.", true),
+        ("abcdefghijklmnopqrstuvwxyzABCDEFGHIJ!2.", true),
+        ("A!2", false),
+        ("A!1.", false),
+        ("A!02.", false),
+        ("A!65535.", false),
+        ("A!.", false),
+        ("A!2..", false),
+        ("A!2!3.", false),
+        ("!2.", false),
+        ("abcdefghijklmnopqrstuvwxyzABCDEFGHIJK!2.", false),
     ];
     for (text, is_stored) in rows {
         let name = Name::stored(text.as_bytes());
@@ -89,6 +128,11 @@ fn names_in_any_case(rt: HostRuntime) -> Result<(), Fail> {
         ("Z", "a", Ordering::Greater),
         ("ab", "aB.c", Ordering::Less),
         ("a-", "a", Ordering::Less),
+        ("A", "a!2", Ordering::Less),
+        ("a!2", "A!2", Ordering::Equal),
+        ("A!2", "A!10", Ordering::Less),
+        ("A!10", "A.B", Ordering::Less),
+        ("B", "A!9", Ordering::Greater),
     ];
     for (left, right, order) in rows {
         let left = Name::parse(left.as_bytes()).ok_or("no name")?;
@@ -125,11 +169,85 @@ fn names_with_a_number(rt: HostRuntime) -> Result<(), Fail> {
             1,
             "abcdefghijklmnopqrstuvwxyzABCDEFGHIJ$1.",
         ),
+        ("X!2", 1, "X.$1!2."),
+        (
+            "abcdefghijklmnopqrstuvwxyzABCDE!65534",
+            1,
+            "abcdefghijklmnopqrstuvwxyzABCD$1!65534.",
+        ),
+        (
+            "abcdefghijklmnopqrstuvwxyzABCDE!65534",
+            65_535,
+            "abcdefghijklmnopqrstuvwxyz$65535!65534.",
+        ),
     ];
     for (text, k, stored) in rows {
         assert!(rt; 1 <= k && k <= 65_535);
         let name = Name::parse(text.as_bytes()).ok_or("no name")?;
         assert_eq!(rt; name.suffixed(k).as_bytes(), stored.as_bytes());
+    }
+    Ok(())
+}
+
+#[test]
+fn names_by_base_and_version(rt: HostRuntime) -> Result<(), Fail> {
+    let rows = [
+        ("A", "A.", 1),
+        ("A!2", "A.", 2),
+        ("a.!65534", "a.", 65_534),
+        ("A..!10", "A..", 10),
+        (LETTERS, "abcdefghijklmnopqrstuvwxyzABCDEFGHIJKL.", 1),
+    ];
+    for (text, base, version) in rows {
+        let name = Name::parse(text.as_bytes()).ok_or("no name")?;
+        assert_eq!(rt; name.base().as_bytes(), base.as_bytes());
+        assert_eq!(rt; name.version(), version);
+        assert_eq!(rt; name.is_bare(), version == 1);
+        assert_eq!(rt; name.base().with_version(name.version()), Some(name));
+    }
+    Ok(())
+}
+
+#[test]
+fn versions_of_bare_names(rt: HostRuntime) -> Result<(), Fail> {
+    let rows = [
+        ("A", 1, "A."),
+        ("A", 2, "A!2."),
+        ("A", 65_534, "A!65534."),
+        (
+            "abcdefghijklmnopqrstuvwxyzABCDEFGHIJ",
+            9,
+            "abcdefghijklmnopqrstuvwxyzABCDEFGHIJ!9.",
+        ),
+        ("abcdefghijklmnopqrstuvwxyzABCDEFGHIJ", 10, ""),
+        (LETTERS, 1, "abcdefghijklmnopqrstuvwxyzABCDEFGHIJKL."),
+        (LETTERS, 2, ""),
+    ];
+    for (text, n, stored) in rows {
+        let base = Name::parse_bare(text.as_bytes()).ok_or("no name")?;
+        assert!(rt; 1 <= n && n <= 65_534);
+        assert_eq!(rt; base.with_version(n), Name::stored(stored.as_bytes()));
+    }
+    assert!(rt; Name::parse_bare(b"A!2").is_none());
+    assert!(rt; Name::parse_bare(b"A!1").is_none());
+    assert!(rt; Name::parse_bare(b"A b").is_none());
+    Ok(())
+}
+
+#[test]
+fn operands_that_want_a_file(rt: HostRuntime) -> Result<(), Fail> {
+    let bare = Name::stored(b"A.").ok_or("no name")?;
+    let numbered = Name::stored(b"A!2.").ok_or("no name")?;
+    let rows = [
+        ("A", Wanted::Newest { base: bare }),
+        ("A.", Wanted::Newest { base: bare }),
+        ("A!1", Wanted::Exact { name: bare }),
+        ("A!2", Wanted::Exact { name: numbered }),
+        ("A.!2.", Wanted::Exact { name: numbered }),
+    ];
+    for (text, wanted) in rows {
+        assert_eq!(rt; Wanted::parse(text.as_bytes()), Some(wanted), "{text}");
+        assert_eq!(rt; wanted.base(), bare);
     }
     Ok(())
 }

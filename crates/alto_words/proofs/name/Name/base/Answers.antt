@@ -1,6 +1,6 @@
 use Rattle.std.proofs.Common.{◌≡◌, ◌++◌, ◌∷◌, [], length, take, List, ℕ, ap, sym, ◌∙◌, arith, length-take}
-use Rattle.alto_words.specs.Names.{is_stored_name, base_of}
-use Rattle.alto_words.proofs.Marked.{base_marked, is_stored_name-base}
+use Rattle.alto_words.specs.Names.{is_bare_name, is_stored_name, base_of, after_mark}
+use Rattle.alto_words.proofs.Marked.{is_bare_name-base, is_bare_name-unmarked, base_marked, is_stored_name-base}
 use Rattle.alto_words.proofs.Versions.{is_stored_name-fits}
 use Rattle.alto_words.proofs.name.Name.base.Goals as goal
 
@@ -23,5 +23,11 @@ made c =
 pub invariant_of-result : goal.invariant_of-result
 invariant_of-result c = ap is_stored_name (made c) ∙ is_stored_name-base c.args.self.now c.as_bytes.ensures.stored
 
-pub returns-in-Some : goal.returns-in-Some
-returns-in-Some c = made c
+pub returns-in-Some-clause-value : goal.returns-in-Some-clause-value
+returns-in-Some-clause-value c = made c
+
+pub returns-in-Some-clause-bare : goal.returns-in-Some-clause-bare
+returns-in-Some-clause-bare c = ap is_bare_name (made c) ∙ is_bare_name-base c.args.self.now c.as_bytes.ensures.stored
+
+pub returns-in-None-clause-bare : goal.returns-in-None-clause-bare
+returns-in-None-clause-bare c = is_bare_name-unmarked c.args.self.now c.as_bytes.ensures.stored (ap after_mark (sym c.as_bytes.ensures.value) ∙ c.in-None.ensures.none)

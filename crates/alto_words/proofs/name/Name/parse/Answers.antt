@@ -1,7 +1,7 @@
 use Rattle.std.proofs.Common.{Some, None, take, ap, sym, ◌∙◌}
 use Rattle.alto_words.specs.Names.{after_mark, version_in}
 use Rattle.alto_words.proofs.Marks.{unmarked_without}
-use Rattle.alto_words.proofs.Marked.{name_in-marked, stored_with-stem}
+use Rattle.alto_words.proofs.Parsed.{name_in-marked, stored_with-stem}
 use Rattle.alto_words.proofs.name.Name.parse.Goals as goal
 
 pub with_stem-requires-clause-unmarked : goal.with_stem-requires-clause-unmarked

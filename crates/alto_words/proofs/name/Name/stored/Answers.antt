@@ -4,7 +4,8 @@ use Rattle.std.proofs.lemmas.Slice.Eq.{strip_suffix_is}
 use Rattle.std.specs.Fmt.{decimal}
 use Rattle.alto_words.specs.Names.{stored_in, version_of}
 use Rattle.alto_words.proofs.Marks.{after_here, unmarked_stem}
-use Rattle.alto_words.proofs.Marked.{not_stored, stored_ends, stated_after, digits_stated, bytes_marked}
+use Rattle.alto_words.proofs.Marked.{stated_after}
+use Rattle.alto_words.proofs.Parsed.{not_stored, stored_ends, digits_stated, bytes_marked}
 use Rattle.alto_words.proofs.name.Name.stored.Goals as goal
 
 -- without a mark

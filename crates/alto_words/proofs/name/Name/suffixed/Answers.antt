@@ -9,7 +9,7 @@ overflow_sub-digits c =
 
 pub push-requires-4 : goal.push-requires-4
 push-requires-4 c =
-    let base = c.as_bytes-name.ensures.value ∙ c.base-base.ensures in
+    let base = c.as_bytes-name.ensures.value ∙ c.base-base.ensures.value in
     let mark = c.as_bytes.ensures ∙ c.version_mark-mark.ensures ∙ ap version_text c.version.ensures.value in
     let again = c.as_bytes-2.ensures ∙ c.version_mark-mark.ensures ∙ ap version_text c.version.ensures.value in
     let front = suffixed-front c.new-text.result c.push.new.self c.push-2.new.self c.push-3.new.self c.args.self.now c.as_bytes-digits.result.now c.as_bytes.result.now c.min-kept.result c.args.k
@@ -19,7 +19,7 @@ push-requires-4 c =
 
 pub push-requires-5 : goal.push-requires-5
 push-requires-5 c =
-    let base = c.as_bytes-name.ensures.value ∙ c.base-base.ensures in
+    let base = c.as_bytes-name.ensures.value ∙ c.base-base.ensures.value in
     let mark = c.as_bytes.ensures ∙ c.version_mark-mark.ensures ∙ ap version_text c.version.ensures.value in
     let again = c.as_bytes-2.ensures ∙ c.version_mark-mark.ensures ∙ ap version_text c.version.ensures.value in
     let front = suffixed-front c.new-text.result c.push.new.self c.push-2.new.self c.push-3.new.self c.args.self.now c.as_bytes-digits.result.now c.as_bytes.result.now c.min-kept.result c.args.k
@@ -29,7 +29,7 @@ push-requires-5 c =
 
 made : (c : goal.After-push-5) → c.push-5.new.self ≡ suffixed c.args.self.now c.args.k
 made c =
-    let base = c.as_bytes-name.ensures.value ∙ c.base-base.ensures in
+    let base = c.as_bytes-name.ensures.value ∙ c.base-base.ensures.value in
     let mark = c.as_bytes.ensures ∙ c.version_mark-mark.ensures ∙ ap version_text c.version.ensures.value in
     let again = c.as_bytes-2.ensures ∙ c.version_mark-mark.ensures ∙ ap version_text c.version.ensures.value in
     let front = suffixed-front c.new-text.result c.push.new.self c.push-2.new.self c.push-3.new.self c.args.self.now c.as_bytes-digits.result.now c.as_bytes.result.now c.min-kept.result c.args.k

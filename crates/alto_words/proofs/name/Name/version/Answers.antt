@@ -16,11 +16,11 @@ pub unreachable-requires : goal.unreachable-requires
 unreachable-requires c =
     let name = c.as_bytes-bytes.result.now in
     let m = after_here name c.in-Some.at c.in-Some.ensures.some in
-    let z = c.in-None-version_in.ensures.value ∙ version_stated name _ (ap is_stored_name c.as_bytes-bytes.ensures.value ∙ c.as_bytes-bytes.ensures.stored) m in
+    let z = c.in-None.ensures.value ∙ version_stated name _ (ap is_stored_name c.as_bytes-bytes.ensures.value ∙ c.as_bytes-bytes.ensures.stored) m in
     absurd cc
 
-pub returns-in-Some-version_in-clause-value : goal.returns-in-Some-version_in-clause-value
-returns-in-Some-version_in-clause-value c =
+pub returns-clause-value : goal.returns-clause-value
+returns-clause-value c =
     let name = c.as_bytes-bytes.result.now in
     let m = after_here name c.in-Some.at c.in-Some.ensures.some in
     let z = c.in-Some-version_in.ensures.value ∙ version_stated name _ (ap is_stored_name c.as_bytes-bytes.ensures.value ∙ c.as_bytes-bytes.ensures.stored) m in

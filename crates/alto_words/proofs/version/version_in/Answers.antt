@@ -3,8 +3,8 @@ use Rattle.std.specs.Prelude.{nat_eq}
 use Rattle.std.specs.Cmp.Lexicographic.{pointwise}
 use Rattle.std.proofs.lemmas.Bool.Decides.{nat_tests}
 use Rattle.alto_words.proofs.Stems.{no_version, version_by_number}
-use Rattle.alto_words.proofs.name.version_in.Goals as goal
-use Rattle.alto_words.proofs.name.version_in.Goals.{then-n-lt1-via-then-n-lt1, then-n-lt1-via-else-n-lt1+then-n-gt-MAX_VERSION, then-n-lt1-via-else-n-lt1+else-n-gt-MAX_VERSION+then-ne}
+use Rattle.alto_words.proofs.version.version_in.Goals as goal
+use Rattle.alto_words.proofs.version.version_in.Goals.{then-n-lt1-via-then-n-lt1, then-n-lt1-via-else-n-lt1+then-n-gt-MAX_VERSION, then-n-lt1-via-else-n-lt1+else-n-gt-MAX_VERSION+then-ne}
 
 pub returns-in_err-n-clause-value : goal.returns-in_err-n-clause-value
 returns-in_err-n-clause-value c = c.from_residual.ensures ∙ no_version c.args.digits.now (sym c.in_err-n.ensures)
