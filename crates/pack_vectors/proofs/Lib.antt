@@ -14,6 +14,7 @@ pub mod LinkVectors
 pub mod ListingVectors
 pub mod MendVectors
 pub mod MisledVectors
+pub mod OldPackVectors
 pub mod PackVectors
 pub mod ReadVectors
 pub mod RoomVectors
