@@ -13,9 +13,6 @@ use Rattle.alto_words.proofs.Names.{is_bare_name-stem, stem_of}
 use Rattle.alto_words.proofs.Marks.{no_mark, unmarked_after, unmarked_before, before_unmarked, characters-digits, but_last-push}
 use Rattle.alto_words.proofs.Reading.{decimal_value-decimal}
 
-version_one : version_text 1 ≡ []
-version_one = refl
-
 pub version_more : (n : ℕ) → n ≢ 1 → version_text n ≡ 33 ∷ decimal n
 version_more n more = cond-false (n == 1) [] (33 ∷ decimal n) (ne_eqb n 1 more)
 

@@ -26,8 +26,12 @@ last_byte (b ∷ c ∷ bytes) = last_byte (c ∷ bytes)
 abbrev pub decimal_value : List ℕ → ℕ
 decimal_value text = fold (λ n digit. n * 10 + (digit - 48)) 0 text
 
--- ---- versions: a name is a bare name with a version
--- a bare name: 2 to 39 such characters, the last a `.`
+-- all but the last byte
+abbrev pub but_last : List ℕ → List ℕ
+but_last text = take (length text - 1) text
+
+-- ---- a stored name is a bare name with a version
+-- a bare name: 2 to 39 name characters, the last a `.`
 abbrev pub is_bare_name : List ℕ → Bool
 is_bare_name name = nat_le 2 (length name) && nat_le (length name) 39 && list_all is_name_character name && last_byte name == 46
 
@@ -51,10 +55,7 @@ pub record IsFirstMark (text : List ℕ) (at : ℕ) : Type 0 where
   pub here : get_or text at 0 ≡ 33
   pub first : after_mark (take at text) ≡ None
 
--- all but the last byte
-abbrev pub but_last : List ℕ → List ℕ
-but_last text = take (length text - 1) text
-
+-- the base of a name that has this after its first `!`, if it has one
 abbrev pub base_by : List ℕ → Option (List ℕ) → List ℕ
 base_by name None = name
 base_by name (Some after) = before_mark name ++ 46 ∷ []
@@ -63,6 +64,7 @@ base_by name (Some after) = before_mark name ++ 46 ∷ []
 abbrev pub base_of : List ℕ → List ℕ
 base_of name = base_by name (after_mark name)
 
+-- the version that is stated before the last of these bytes, which stand after a `!`; 1 where there is no `!`
 abbrev pub version_by : Option (List ℕ) → ℕ
 version_by None = 1
 version_by (Some after) = min most_version (decimal_value (but_last after))
@@ -90,6 +92,7 @@ is_stored_name name =
 abbrev pub stored_in : List ℕ → Option (List ℕ)
 stored_in bytes = cond (is_stored_name bytes) (Some bytes) None
 
+-- ---- what a text stands for
 -- a final `.` where it is missing
 abbrev pub with_dot : List ℕ → List ℕ
 with_dot text = cond (last_byte text == 46) text (text ++ 46 ∷ [])
@@ -109,6 +112,7 @@ abbrev pub stored_with : List ℕ → Option ℕ → Option (List ℕ)
 stored_with base None = None
 stored_with base (Some n) = stored_in (versioned base n)
 
+-- the name of a text that has this after its first `!`, if it has one
 abbrev pub name_by : List ℕ → Option (List ℕ) → Option (List ℕ)
 name_by text None = stored_in (with_dot text)
 name_by text (Some after) = stored_with (with_dot (before_mark text)) (version_in (without_dot after))
@@ -126,6 +130,7 @@ bare_in text = cond (is_none (after_mark text)) (name_in text) None
 abbrev pub with_version : List ℕ → ℕ → Option (List ℕ)
 with_version base n = cond (nat_le (length (versioned base n)) 39) (Some (versioned base n)) None
 
+-- ---- names in any case, and their order
 -- a letter in lower case
 abbrev pub fold_case : ℕ → ℕ
 fold_case c = cond (nat_le 65 c && nat_le c 90) (c + 32) c
@@ -146,7 +151,8 @@ version_cmp = then_cmp (on base_of bytes_cmp) (then_cmp (on version_of nat_cmp) 
 abbrev pub folded_cmp : List ℕ → List ℕ → Ordering
 folded_cmp a b = version_cmp (map fold_case a) (map fold_case b)
 
--- `$` and a number: what follows a taken name, before the final `.`
+-- ---- names that are made
+-- `$` and a number: what follows a taken name, before its version and the final `.`
 abbrev pub suffix_of : ℕ → List ℕ
 suffix_of k = 36 ∷ decimal k
 
