@@ -35,9 +35,10 @@ fn the_entry_of_a_has_eight_words(rt: HostRuntime) -> Result<(), Fail> {
 
 #[test]
 fn entries_under_names_with_versions(rt: HostRuntime) -> Result<(), Fail> {
-    let name = Name::parse(b"A!2").ok_or("a name")?;
-    assert_eq!(rt; slot_here(&ENTRY_WITH_A_VERSION, 9), Some(entry(name)));
-    let written = write_slots(rt.alloc(), &[entry(name)])?;
+    let slot = entry(Name::parse(b"A!2").ok_or("a name")?);
+    assert_eq!(rt; slot_here(&ENTRY_WITH_A_VERSION, 9), Some(slot));
+    assert!(rt; slot.is_in_range());
+    let written = write_slots(rt.alloc(), &[slot])?;
     assert_eq!(rt; written.as_slice(), ENTRY_WITH_A_VERSION.as_slice());
     // `A!02.`, and `A!1.`, whose version isn't spelled
     let leading_zero = [1033, 0, 3, 1, 0, 5, 0x0541, 0x2130, 0x322E];

@@ -100,7 +100,10 @@ fn a_name_with_a_version_in_a_page(rt: HostRuntime) -> Result<(), Fail> {
     let leader = Leader::decode(&value).ok_or("no leader")?;
     assert_eq!(rt; leader.name.as_bytes(), b"A!2.".as_slice());
     assert_eq!(rt; Leader::of_file(Fid::ordinary(9), &value), leader);
-    assert_eq!(rt; leader.encode()[6..9], [0x0441, 0x2132, 0x2E00]);
+    let written = leader.encode();
+    assert_eq!(rt; written[6], 0x0441);
+    assert_eq!(rt; written[7], 0x2132);
+    assert_eq!(rt; written[8], 0x2E00);
     Ok(())
 }
 

@@ -78,11 +78,11 @@ own_reads words is (one_more {w = w} {rest = rest} {i = i} {is = js} split slot 
 own_file : (f : Fid) (x : StoredFile) → file_by is_stored_name f x ≡ file_of f x
 own_file f x = ap (λ is. record { leader = x.leader; body = cond (is_directory f) (items_of is) (data_of x.bytes) }) (own_slots_after 0 (words_of x.bytes))
 
-own_described : (ss : List Sight) → described_by is_stored_name ss ≡ described ss
+pub own_described : (ss : List Sight) → described_by is_stored_name ss ≡ described ss
 unfolding found
 own_described ss = λ i. retain_keys (map_values (λ f x. own_file f x i) (files_shown ss)) is_described
 
-own_model : (shape : Shape) (ss : List Sight) → read_sights_by is_stored_name shape ss ≡ read_sights shape ss
+pub own_model : (shape : Shape) (ss : List Sight) → read_sights_by is_stored_name shape ss ≡ read_sights shape ss
 unfolding read_sights
 own_model shape ss = λ i. record { shape = shape; good = good_sectors ss; last = last_serial (descriptor_words ss); files = tidied (lives ss) (own_described ss i) }
 

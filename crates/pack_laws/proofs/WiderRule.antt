@@ -120,13 +120,13 @@ module _ (old new : Rule) (wider : (name : List ℕ) → old name ≡ true → n
     same_file f None is = refl
     same_file f (Some l) is = ap (λ b. Some (record { leader = l; body = b })) (same_body f (is_directory f) refl (ap is_some is))
 
-    same_described : described_by old ss ≡ described_by new ss
+    pub same_described : described_by old ss ≡ described_by new ss
     same_described = ap (λ m. retain_keys m is_described) (same_map fid_total fid_same _ _ (λ f. file_is old f ∙ same_file f (leader ss f) refl ∙ sym (file_is new f)))
       where
         file_is : (rule : Rule) (f : Fid) → get (map_values {R = fid_cmp} (file_by rule) (files_shown ss)) f ≡ option_map (file_by rule f) (option_map (stored_file ss f) (leader ss f))
         file_is rule f = get-map_values fid_total fid_same (file_by rule) (files_shown ss) f ∙ ap (option_map (file_by rule f)) (get-files_shown ss f)
 
-    same_model : (shape : Shape) → read_sights_by old shape ss ≡ read_sights_by new shape ss
+    pub same_model : (shape : Shape) → read_sights_by old shape ss ≡ read_sights_by new shape ss
     same_model shape = λ i. record { shape = shape; good = good_sectors ss; last = last_serial (descriptor_words ss); files = tidied (lives ss) (same_described i) }
 
   -- ---- sound packs

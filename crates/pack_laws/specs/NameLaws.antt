@@ -7,7 +7,7 @@ use Rattle.pack_model.specs.Model.{read_pack}
 use Rattle.pack_model.specs.Sound.{Sound}
 use Rattle.pack_model.specs.OtherNames.{sights_by, read_by, SoundBy}
 
--- By the rule of stored names a pack shows what it shows, is read as it is read, and is sound exactly where it is.
+-- By the rule of stored names a pack shows what it shows, is read as it is read, and is sound if and only if it is.
 pub record IsByOwnRule (p : Pack) : Type 0 where
   pub shown : sights_by is_stored_name p ≡ sights p
   pub read : read_by is_stored_name p ≡ read_pack p

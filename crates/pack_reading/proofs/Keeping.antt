@@ -1,7 +1,7 @@
 -- What one sector shows, and what is kept of it.
-use Rattle.std.proofs.Common.{◌≡◌, ℕ, zero, suc, ◌≤◌, Bool, true, false, cond, List, take, Option, Some, None, refl, sym, ◌∙◌, ap, subst, arith}
+use Rattle.std.proofs.Common.{◌≡◌, ℕ, zero, suc, ◌≤◌, Bool, true, false, cond, List, take, Some, None, refl, sym, ◌∙◌, arith}
 use Rattle.std.specs.Prelude.{nat_lt, ◌&&◌, ◌==◌}
-use Rattle.std.specs.Option.{option_map, option_or}
+use Rattle.std.specs.Option.{option_or}
 use Rattle.std.proofs.lemmas.Bool.Decides.{nat_tests}
 use Rattle.alto_words.specs.declared.fid.Fid.{Fid}
 use Rattle.alto_words.specs.Fid.{is_fid}
@@ -10,17 +10,14 @@ use Rattle.disk_records.specs.declared.records.Sector.{Sector}
 use Rattle.disk_records.specs.declared.shape.Shape.{Shape}
 use Rattle.disk_records.specs.Addresses.{is_right_header}
 use Rattle.disk_records.specs.Words.{word}
-use Rattle.disk_records.specs.Labels.{Tag, tag, in_range, is_free, page_of}
-use Rattle.leader_page.specs.declared.leader.Leader.{Leader}
-use Rattle.pack_model.specs.Leaders.{leader_of}
+use Rattle.disk_records.specs.Labels.{Tag, tag, in_range, page_of}
 use Rattle.pack_model.specs.Bytes.{bytes_of}
 use Rattle.pack_model.specs.Sights.{sight, tag_sight, page_sight}
-use Rattle.pack_model.specs.Sights.Sight.{hidden, free, stray}
+use Rattle.pack_model.specs.Sights.Sight.{hidden}
 use Rattle.pack_laws.proofs.Firsts.{or_none}
-use Rattle.pack_reading.specs.declared.swept.Leaders.{Leaders}
 use Rattle.pack_reading.specs.declared.swept.Pages.{Pages}
 use Rattle.pack_reading.specs.declared.swept.Swept.{Swept}
-use Rattle.pack_reading.specs.Kept.{plain_leader, leader_kept, page_kept, KeepsSight}
+use Rattle.pack_reading.specs.Kept.{leader_kept, page_kept, KeepsSight}
 
 -- ---- sights
 pub few_bytes : (t : Tag) → in_range t ≡ true → t.bytes ≤ 512

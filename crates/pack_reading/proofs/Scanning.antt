@@ -1,9 +1,7 @@
 -- The scan of all directories, entry by entry.
-use Rattle.std.proofs.Common.{◌≡◌, ℕ, ◌+◌, ◌<◌, ◌≤◌, Bool, true, false, cond, not, List, [], ◌∷◌, ◌++◌, length, take, drop, get_or, None, Some, Result, refl, sym, ap, subst, ◌∙◌}
-use Rattle.std.specs.Prelude.{◌&&◌, ◌||◌, OnOk, fold}
-use Rattle.std.specs.BTreeSet.{contains}
-use Rattle.std.specs.FinMap.{FinMap, get, insert, contains_key}
-use Rattle.std.proofs.lemmas.Result.{on_ok_weaker}
+use Rattle.std.proofs.Common.{◌≡◌, ℕ, ◌+◌, ◌<◌, ◌≤◌, Bool, true, false, cond, not, List, [], ◌∷◌, ◌++◌, length, take, drop, get_or, None, Some, refl, sym, ap, subst, ◌∙◌}
+use Rattle.std.specs.Prelude.{◌&&◌, ◌||◌, fold}
+use Rattle.std.specs.FinMap.{FinMap}
 use Rattle.std.proofs.lemmas.List.{append_assoc, append-nil, take_more}
 use Rattle.alto_words.specs.declared.fid.Fid.{Fid}
 use Rattle.alto_words.specs.Fid.{fid_cmp, is_fid, is_system, is_directory, sys_dir}
@@ -16,9 +14,8 @@ use Rattle.pack_model.specs.Namings.{Naming, namings_in, body_namings, sys_dir_n
 use Rattle.pack_model.specs.View.{Home}
 use Rattle.pack_reading.specs.declared.files.Found.{Found}
 use Rattle.pack_reading.specs.declared.names.Names.{Names}
-use Rattle.pack_reading.specs.declared.names.Entry.{Entry}
-use Rattle.pack_reading.specs.Homes.{qualified_cmp, home_at, naming_at, is_taken_in, may_show, considered, namings_of, all_namings, StandsFor}
-use Rattle.pack_reading.proofs.Tests.{may_show_is, none_of}
+use Rattle.pack_reading.specs.Homes.{may_show, considered, namings_of, all_namings, StandsFor}
+use Rattle.pack_reading.proofs.Tests.{may_show_is}
 use Rattle.pack_reading.proofs.Slots.{slots-none, slots-some}
 
 -- ---- which entries may stand

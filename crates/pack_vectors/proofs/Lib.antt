@@ -15,6 +15,7 @@ pub mod ListingVectors
 pub mod MendVectors
 pub mod MisledVectors
 pub mod NameVectors
+pub mod OldPackVectors
 pub mod PackVectors
 pub mod ReadVectors
 pub mod RoomVectors

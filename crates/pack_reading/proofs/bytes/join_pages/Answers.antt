@@ -1,4 +1,4 @@
-use Rattle.std.proofs.Common.{◌++◌, ◌<◌, ◌≤◌, ◌+◌, ◌≡◌, length, suc, Some, None, refl, sym, ◌∙◌, ap, subst, arith}
+use Rattle.std.proofs.Common.{◌++◌, ◌<◌, ◌≤◌, length, Some, None, refl, sym, ◌∙◌, ap, subst, arith}
 use Rattle.pack_reading.specs.Kept.{page_kept}
 use Rattle.pack_reading.proofs.Joins.{Joining, joining_none, joining_missing, joining_last, joining_more, joining_all, kept_here, kept_all, others_left, pages_ahead}
 use Rattle.pack_reading.proofs.bytes.join_pages.Goals as goal

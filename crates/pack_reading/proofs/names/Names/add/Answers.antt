@@ -1,7 +1,3 @@
-use Rattle.std.proofs.Common.{ap, ◌∙◌, cond, true}
-use Rattle.std.specs.Ordering.{is_eq}
-use Rattle.std.specs.BTreeSet.{contains}
-use Rattle.pack_reading.specs.Homes.{qualified_cmp}
 use Rattle.pack_reading.proofs.Homes.{entry_order, entry_stands}
 use Rattle.pack_reading.proofs.names.Names.add.Goals as goal
 
