@@ -20,7 +20,7 @@ use Rattle.pack_laws.proofs.WiderRule.{same_described, same_model}
 use Rattle.pack_vectors.proofs.FormattedFiles.{root_bytes, fresh, whole_file, by_living}
 use Rattle.pack_vectors.proofs.FormattedModel.{root_is_read, root_slots, tidy_fresh}
 use Rattle.pack_vectors.proofs.PackVectors.{formatted_sights}
-use Rattle.pack_vectors.proofs.SmallPacks.{small}
+use Rattle.pack_vectors.proofs.Shapes.{small}
 use Rattle.pack_vectors.proofs.StateVectors.{whole_fresh, sound_fresh}
 
 -- ---- SysDir
