@@ -13,6 +13,7 @@ pub mod Mapping
 pub mod MendedByLists
 pub mod Moving
 pub mod Orders
+pub mod OwnRule
 pub mod Paging
 pub mod Placing
 pub mod Putting
@@ -22,4 +23,5 @@ pub mod Storing
 pub mod Talking
 pub mod TurnCalls
 pub mod Uses
+pub mod WiderRule
 mod inside

@@ -3,8 +3,6 @@ pub mod Filing
 pub mod GuardedWrites
 pub mod LesserNames
 pub mod OldPacks
-pub mod OwnRule
 pub mod Places
 pub mod Ruling
 pub mod SlotsByRule
-pub mod WiderRule

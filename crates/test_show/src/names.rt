@@ -1,7 +1,9 @@
 // Names that the leaders give: those that can't be read, long ones and their suffixes, names with versions, and one serial with two
 // versions of files.
 use crate::expected::expect_listing;
-use crate::pages::{DIRECTORY_5, FILE_3, FILE_4, SYS_DIR, push_entry, put_directory, put_leader};
+use crate::pages::{
+    DIRECTORY_5, FILE_3, FILE_4, FILE_8, SYS_DIR, push_entry, put_directory, put_leader,
+};
 use test_packs::sectors_of;
 use std::test::Fail;
 
@@ -75,8 +77,7 @@ fn names_with_versions(rt: HostRuntime) -> Result<(), Fail> {
     put_leader(alloc, &mut sectors, 5, FILE_3, b"X!2.")?;
     put_leader(alloc, &mut sectors, 7, FILE_4, b"X!2.")?;
     put_leader(alloc, &mut sectors, 9, FILE_8, b"X!3.")?;
-    let listing =
-        b"SysDir>X!2. length 0\nSysDir>X!3. length 0\nSysDir>X.$1!2. length 0\n3 files\n";
+    let listing = b"SysDir>X!2. length 0\nSysDir>X!3. length 0\nSysDir>X.$1!2. length 0\n3 files\n";
     expect_listing(&rt, &sectors, listing.as_slice())
 }
 

@@ -3,8 +3,8 @@ use Rattle.std.proofs.Common.{◌∙◌, sym}
 use Rattle.alto_words.specs.Names.{is_bare_name, is_stored_name}
 use Rattle.alto_words.proofs.Versions.{is_stored_name-bare}
 use Rattle.pack_laws.specs.NameLaws.{OldPacks}
-use Rattle.pack_laws.proofs.inside.OwnRule.{own_read, sound_own}
-use Rattle.pack_laws.proofs.inside.WiderRule.{stays_sound}
+use Rattle.pack_laws.proofs.OwnRule.{own_read, sound_own}
+use Rattle.pack_laws.proofs.WiderRule.{stays_sound}
 
 -- a bare name is a stored one
 pub old_packs : OldPacks

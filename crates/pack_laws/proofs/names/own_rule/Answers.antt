@@ -1,4 +1,4 @@
-use Rattle.pack_laws.proofs.inside.OwnRule.{own_rule}
+use Rattle.pack_laws.proofs.OwnRule.{own_rule}
 use Rattle.pack_laws.proofs.names.own_rule.Goals as goal
 
 pub returns : goal.returns
