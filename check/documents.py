@@ -12,6 +12,7 @@ import subprocess
 import sys
 
 sys.dont_write_bytecode = True
+import laws
 import names
 
 TOP = names.TOP
@@ -88,14 +89,25 @@ def check_contracts(found):
 
 
 def check_paths(found):
-    """Each name with `::` that a document has in backquotes is there: from its crate on, or as the end of such a path."""
-    ends = {path[start:] for path in found for start in range(len(path) - 1)}
+    """Each name with `::` that a document has in backquotes is there: from its crate on, or as the end of such a path. Modules are, too."""
+    paths = {path[:length] for path in found for length in range(2, len(path) + 1)}
+    ends = {path[start:] for path in paths for start in range(len(path) - 1)}
     for document in DOCUMENTS:
         for place, line in lines_of(document):
             for path in PATH.findall(line):
                 parts = tuple(path.split("::"))
-                if parts not in (found if parts[0] in names.crates() else ends):
+                if parts not in (paths if parts[0] in names.crates() else ends):
                     yield f"{place}: names {path}, which isn't there"
+
+
+def check_laws():
+    """docs/laws.md has the table of laws as the law functions have it, and names each law by its module."""
+    if laws.parts()[1] != laws.table():
+        yield "docs/laws.md: its table isn't that of the law functions, which check/laws.py --write writes"
+    named = set(PATH.findall(laws.DOCUMENT.read_text()))
+    for crate, module, name in laws.all_laws():
+        if not named & {f"{module}::{name}", f"{crate}::{module}::{name}"}:
+            yield f"docs/laws.md: doesn't name the law {crate}::{module}::{name}"
 
 
 def check_readme():
@@ -138,6 +150,7 @@ def main():
         *check_edits(),
         *check_contracts(found),
         *check_paths(found),
+        *check_laws(),
         *check_readme(),
         *check_demos(),
         *check_citations(),
