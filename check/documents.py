@@ -18,6 +18,7 @@ import names
 TOP = names.TOP
 DOCUMENTS = [path for path in [TOP / "README.md", TOP / "CONTRIBUTING.md", *sorted((TOP / "docs").glob("*.md"))] if path.exists()]
 README_LINES = 110
+PROMISE_WORDS = 40
 # `crate/edit`, and `crate::module::item (clause, clause)`
 EDIT = re.compile(r"`([a-z_]+/[a-z0-9_]+)`")
 CONTRACT = re.compile(r"\b([a-z_]+(?:::\w+)+)`?(?: \(([a-z0-9_]+(?:, [a-z0-9_]+)*)\))?")
@@ -58,6 +59,16 @@ def check_edits():
     """docs/promises.md names each must-fail edit once."""
     named = EDIT.findall((TOP / "docs/promises.md").read_text())
     yield from differences("docs/promises.md", "edit", named, all_edits())
+
+
+def check_promises():
+    """Each row of docs/promises.md has four cells, of which the first is one promise in few words."""
+    for place, line in lines_of(TOP / "docs/promises.md"):
+        cells = line.split("|")[1:-1]
+        if cells and len(cells) != 4:
+            yield f"{place}: the row has {len(cells)} cells, and is to have 4"
+        elif cells and len(cells[0].split()) > PROMISE_WORDS:
+            yield f"{place}: the promise has {len(cells[0].split())} words, and may have {PROMISE_WORDS}"
 
 
 def differences(document, kind, named, there):
@@ -148,6 +159,7 @@ def main():
     complaints = [
         *check_map(),
         *check_edits(),
+        *check_promises(),
         *check_contracts(found),
         *check_paths(found),
         *check_laws(),
