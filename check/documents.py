@@ -17,7 +17,7 @@ import names
 
 TOP = names.TOP
 DOCUMENTS = [path for path in [TOP / "README.md", TOP / "CONTRIBUTING.md", *sorted((TOP / "docs").glob("*.md"))] if path.exists()]
-README_LINES = 110
+README_LINES = 80
 PROMISE_WORDS = 40
 # `crate/edit`, and `crate::module::item (clause, clause)`
 EDIT = re.compile(r"`([a-z_]+/[a-z0-9_]+)`")
