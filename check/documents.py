@@ -84,19 +84,22 @@ def differences(document, kind, named, there):
 
 
 def check_contracts(found):
-    """Each contract that docs/promises.md names is there, and so is each of its clauses."""
-    by_end = collections.defaultdict(list)
-    for path, items in found.items():
-        by_end[path[0], path[-1]].extend(items)
+    """Each contract that docs/promises.md names is there under its whole path, and so is each of its clauses."""
     for place, line in lines_of(TOP / "docs/promises.md"):
         for path, clauses in CONTRACT.findall(line):
-            parts = path.split("::")
-            items = by_end.get((parts[0], parts[-1]), [])
+            items = found.get(tuple(path.split("::")), [])
             if not items:
-                yield f"{place}: names {path}, which isn't there"
+                yield f"{place}: names {path}, which isn't there{likely(path, found)}"
             for clause in clauses.split(", ") if items and clauses else []:
                 if not any(re.search(rf"\b(ensures|ghost) {clause}\b", item.text()) for item in items):
                     yield f"{place}: names the clause {clause} of {path}, which isn't there"
+
+
+def likely(path, found):
+    """Where in its crate the last part of a path stands."""
+    crate, *_, last = path.split("::")
+    paths = ["::".join(it) for it in found if (it[0], it[-1]) == (crate, last) and it[1] not in ("specs", "proofs")]
+    return f", as {min(paths, key=len)} is" if paths else ""
 
 
 def check_paths(found):
