@@ -23,6 +23,9 @@ PROMISE_WORDS = 40
 EDIT = re.compile(r"`([a-z_]+/[a-z0-9_]+)`")
 CONTRACT = re.compile(r"\b([a-z_]+(?:::\w+)+)`?(?: \(([a-z0-9_]+(?:, [a-z0-9_]+)*)\))?")
 PATH = re.compile(r"`((?:\w+::)+\w+)`")
+FILE = re.compile(r"(?<![\w./-])(?:\.ci|bench|check|crates|demo|docs|tools)/[\w./-]*\w")
+# what stands for any name, and what is built
+NO_FILE = re.compile(r"\b(CRATE|MODULE|NAME|out)\b")
 CRATE_ROW = re.compile(r"\| `(\w+)` \|")
 DEMO_BLOCK = re.compile(r"^<!-- (demo/\S+) -->\n(?:```\w*\n(.*?)^```$)?", re.M | re.S)
 # a paper, a definition or an issue named by its number, and an address on the network
@@ -124,6 +127,15 @@ def check_laws():
             yield f"docs/laws.md: doesn't name the law {crate}::{module}::{name}"
 
 
+def check_files():
+    """Each file of the repository that a document names is there."""
+    for document in DOCUMENTS:
+        for place, line in lines_of(document):
+            for path in FILE.findall(line):
+                if not NO_FILE.search(path) and not (TOP / path).exists():
+                    yield f"{place}: names {path}, which isn't there"
+
+
 def check_readme():
     """README.md is short."""
     lines = len((TOP / "README.md").read_text().splitlines())
@@ -166,6 +178,7 @@ def main():
         *check_contracts(found),
         *check_paths(found),
         *check_laws(),
+        *check_files(),
         *check_readme(),
         *check_demos(),
         *check_citations(),
