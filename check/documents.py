@@ -27,6 +27,7 @@ FILE = re.compile(r"(?<![\w./-])(?:\.ci|bench|check|crates|demo|docs|tools)/[\w.
 # what stands for any name, and what is built
 NO_FILE = re.compile(r"\b(CRATE|MODULE|NAME|out)\b")
 CRATE_ROW = re.compile(r"\| `(\w+)` \|")
+NUMBER = re.compile(r"\b(\d[\d,]*) (crates|must-fail edits|edits)\b(?! a crate)")
 DEMO_BLOCK = re.compile(r"^<!-- (demo/\S+) -->\n(?:```\w*\n(.*?)^```$)?", re.M | re.S)
 # a paper, a definition or an issue named by its number, and an address on the network
 CITATION = (
@@ -143,6 +144,16 @@ def check_readme():
         yield f"README.md: has {lines} lines, and may have {README_LINES}"
 
 
+def check_numbers():
+    """Where a document tells how many crates or must-fail edits there are, they are as many."""
+    for document in DOCUMENTS:
+        for place, line in lines_of(document):
+            for number, kind in NUMBER.findall(line):
+                there = len(names.crates() if kind == "crates" else all_edits())
+                if int(number.replace(",", "")) != there:
+                    yield f"{place}: tells of {number} {kind}, and there are {there}"
+
+
 def check_demos():
     """A block after a line `<!-- demo/NAME.txt -->` is that transcript."""
     for document in DOCUMENTS:
@@ -180,6 +191,7 @@ def main():
         *check_laws(),
         *check_files(),
         *check_readme(),
+        *check_numbers(),
         *check_demos(),
         *check_citations(),
     ]
