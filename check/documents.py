@@ -53,10 +53,18 @@ def all_edits():
     return [f"{path.split('/')[1]}/{pathlib.Path(path).stem}" for path in tracked("crates/*/must-fail/*.edit")]
 
 
-def check_map():
-    """docs/map.md has a row for each crate of crates.txt, and for no other."""
+def map_rows():
+    """The crates of docs/map.md in their order."""
     rows = [CRATE_ROW.match(line) for _, line in lines_of(TOP / "docs/map.md")]
-    yield from differences("docs/map.md", "crate", [row[1] for row in rows if row], names.crates())
+    return [row[1] for row in rows if row]
+
+
+def check_map():
+    """docs/map.md has a row for each crate of crates.txt, and for no other; docs/promises.md has its sections in this order."""
+    yield from differences("docs/map.md", "crate", map_rows(), names.crates())
+    sections = re.findall(r"^## (\w+)$", (TOP / "docs/promises.md").read_text(), re.M)
+    if sections != [crate for crate in map_rows() if crate in sections]:
+        yield "docs/promises.md: its sections aren't crates in the order of docs/map.md"
 
 
 def check_edits():
