@@ -130,8 +130,11 @@ def check_laws():
     """docs/laws.md has the table of laws as the law functions have it, and names each law by its module."""
     if laws.parts()[1] != laws.table():
         yield "docs/laws.md: its table isn't that of the law functions, which check/laws.py --write writes"
+    there = laws.all_laws()
+    for name in sorted({law for _, law, _ in laws.SHARED} - {path[-1] for path in there}):
+        yield f"check/laws.py: names the law {name}, which isn't there"
     named = set(PATH.findall(laws.DOCUMENT.read_text()))
-    for crate, module, name in laws.all_laws():
+    for crate, module, name in there:
         if not named & {f"{module}::{name}", f"{crate}::{module}::{name}"}:
             yield f"docs/laws.md: doesn't name the law {crate}::{module}::{name}"
 

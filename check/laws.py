@@ -76,7 +76,7 @@ def laws_for(question, operation, laws):
     known = {path[2]: path for path in laws if path[0] == home.split("::")[0]}
     own = [path for name, path in known.items() if re.fullmatch(f"{operation}_({endings})", name)]
     shared = [law for it, law, operations in SHARED if it == heading and operation in operations.split()]
-    return [*own, *(known.get(name, ("", "no law is called", name)) for name in shared)]
+    return [*own, *(known[name] for name in shared if name in known)]
 
 
 def cell(question, operation, laws):
