@@ -12,16 +12,22 @@ import subprocess
 import sys
 
 sys.dont_write_bytecode = True
+import laws
 import names
 
 TOP = names.TOP
 DOCUMENTS = [path for path in [TOP / "README.md", TOP / "CONTRIBUTING.md", *sorted((TOP / "docs").glob("*.md"))] if path.exists()]
-README_LINES = 110
+README_LINES = 80
+PROMISE_WORDS = 40
 # `crate/edit`, and `crate::module::item (clause, clause)`
 EDIT = re.compile(r"`([a-z_]+/[a-z0-9_]+)`")
 CONTRACT = re.compile(r"\b([a-z_]+(?:::\w+)+)`?(?: \(([a-z0-9_]+(?:, [a-z0-9_]+)*)\))?")
 PATH = re.compile(r"`((?:\w+::)+\w+)`")
+FILE = re.compile(r"(?<![\w./-])(?:\.ci|bench|check|crates|demo|docs|tools)/[\w./-]*\w")
+# what stands for any name, and what is built
+NO_FILE = re.compile(r"\b(CRATE|MODULE|NAME|out)\b")
 CRATE_ROW = re.compile(r"\| `(\w+)` \|")
+NUMBER = re.compile(r"\b(\d[\d,]*) (crates|must-fail edits|edits)\b(?! a crate)")
 DEMO_BLOCK = re.compile(r"^<!-- (demo/\S+) -->\n(?:```\w*\n(.*?)^```$)?", re.M | re.S)
 # a paper, a definition or an issue named by its number, and an address on the network
 CITATION = (
@@ -47,16 +53,34 @@ def all_edits():
     return [f"{path.split('/')[1]}/{pathlib.Path(path).stem}" for path in tracked("crates/*/must-fail/*.edit")]
 
 
-def check_map():
-    """docs/map.md has a row for each crate of crates.txt, and for no other."""
+def map_rows():
+    """The crates of docs/map.md in their order."""
     rows = [CRATE_ROW.match(line) for _, line in lines_of(TOP / "docs/map.md")]
-    yield from differences("docs/map.md", "crate", [row[1] for row in rows if row], names.crates())
+    return [row[1] for row in rows if row]
+
+
+def check_map():
+    """docs/map.md has a row for each crate of crates.txt, and for no other; docs/promises.md has its sections in this order."""
+    yield from differences("docs/map.md", "crate", map_rows(), names.crates())
+    sections = re.findall(r"^## (\w+)$", (TOP / "docs/promises.md").read_text(), re.M)
+    if sections != [crate for crate in map_rows() if crate in sections]:
+        yield "docs/promises.md: its sections aren't crates in the order of docs/map.md"
 
 
 def check_edits():
     """docs/promises.md names each must-fail edit once."""
     named = EDIT.findall((TOP / "docs/promises.md").read_text())
     yield from differences("docs/promises.md", "edit", named, all_edits())
+
+
+def check_promises():
+    """Each row of docs/promises.md has four cells, of which the first is one promise in few words."""
+    for place, line in lines_of(TOP / "docs/promises.md"):
+        cells = line.split("|")[1:-1]
+        if cells and len(cells) != 4:
+            yield f"{place}: the row has {len(cells)} cells, and is to have 4"
+        elif cells and len(cells[0].split()) > PROMISE_WORDS:
+            yield f"{place}: the promise has {len(cells[0].split())} words, and may have {PROMISE_WORDS}"
 
 
 def differences(document, kind, named, there):
@@ -72,29 +96,55 @@ def differences(document, kind, named, there):
 
 
 def check_contracts(found):
-    """Each contract that docs/promises.md names is there, and so is each of its clauses."""
-    by_end = collections.defaultdict(list)
-    for path, items in found.items():
-        by_end[path[0], path[-1]].extend(items)
+    """Each contract that docs/promises.md names is there under its whole path, and so is each of its clauses."""
     for place, line in lines_of(TOP / "docs/promises.md"):
         for path, clauses in CONTRACT.findall(line):
-            parts = path.split("::")
-            items = by_end.get((parts[0], parts[-1]), [])
+            items = found.get(tuple(path.split("::")), [])
             if not items:
-                yield f"{place}: names {path}, which isn't there"
+                yield f"{place}: names {path}, which isn't there{likely(path, found)}"
             for clause in clauses.split(", ") if items and clauses else []:
                 if not any(re.search(rf"\b(ensures|ghost) {clause}\b", item.text()) for item in items):
                     yield f"{place}: names the clause {clause} of {path}, which isn't there"
 
 
+def likely(path, found):
+    """Where in its crate the last part of a path stands."""
+    crate, *_, last = path.split("::")
+    paths = ["::".join(it) for it in found if (it[0], it[-1]) == (crate, last) and it[1] not in ("specs", "proofs")]
+    return f", as {min(paths, key=len)} is" if paths else ""
+
+
 def check_paths(found):
-    """Each name with `::` that a document has in backquotes is there: from its crate on, or as the end of such a path."""
-    ends = {path[start:] for path in found for start in range(len(path) - 1)}
+    """Each name with `::` that a document has in backquotes is there: from its crate on, or as the end of such a path. Modules are, too."""
+    paths = {path[:length] for path in found for length in range(2, len(path) + 1)}
+    ends = {path[start:] for path in paths for start in range(len(path) - 1)}
     for document in DOCUMENTS:
         for place, line in lines_of(document):
             for path in PATH.findall(line):
                 parts = tuple(path.split("::"))
-                if parts not in (found if parts[0] in names.crates() else ends):
+                if parts not in (paths if parts[0] in names.crates() else ends):
+                    yield f"{place}: names {path}, which isn't there"
+
+
+def check_laws():
+    """docs/laws.md has the table of laws as the law functions have it, and names each law by its module."""
+    if laws.parts()[1] != laws.table():
+        yield "docs/laws.md: its table isn't that of the law functions, which check/laws.py --write writes"
+    there = laws.all_laws()
+    for name in sorted({law for _, law, _ in laws.SHARED} - {path[-1] for path in there}):
+        yield f"check/laws.py: names the law {name}, which isn't there"
+    named = set(PATH.findall(laws.DOCUMENT.read_text()))
+    for crate, module, name in there:
+        if not named & {f"{module}::{name}", f"{crate}::{module}::{name}"}:
+            yield f"docs/laws.md: doesn't name the law {crate}::{module}::{name}"
+
+
+def check_files():
+    """Each file of the repository that a document names is there."""
+    for document in DOCUMENTS:
+        for place, line in lines_of(document):
+            for path in FILE.findall(line):
+                if not NO_FILE.search(path) and not (TOP / path).exists():
                     yield f"{place}: names {path}, which isn't there"
 
 
@@ -103,6 +153,16 @@ def check_readme():
     lines = len((TOP / "README.md").read_text().splitlines())
     if lines > README_LINES:
         yield f"README.md: has {lines} lines, and may have {README_LINES}"
+
+
+def check_numbers():
+    """Where a document tells how many crates or must-fail edits there are, they are as many."""
+    for document in DOCUMENTS:
+        for place, line in lines_of(document):
+            for number, kind in NUMBER.findall(line):
+                there = len(names.crates() if kind == "crates" else all_edits())
+                if int(number.replace(",", "")) != there:
+                    yield f"{place}: tells of {number} {kind}, and there are {there}"
 
 
 def check_demos():
@@ -136,9 +196,13 @@ def main():
     complaints = [
         *check_map(),
         *check_edits(),
+        *check_promises(),
         *check_contracts(found),
         *check_paths(found),
+        *check_laws(),
+        *check_files(),
         *check_readme(),
+        *check_numbers(),
         *check_demos(),
         *check_citations(),
     ]
