@@ -16,8 +16,6 @@ SYS_DIR = (0x8000, 1, 1)
 DESCRIPTOR = (0, 2, 1)
 SERIAL = 3
 LEADER_AT = 5
-# more cylinders than a drive has
-ONE_DRIVE = 512
 
 
 def ordinary(serial):
@@ -30,8 +28,8 @@ def directory(serial):
     return 0x8000 | serial >> 16, serial & 0xFFFF, 1
 
 
-def real_of(at, cylinders=ONE_DRIVE):
-    """The real address of a sector of a pack of one drive, or of two drives with so many cylinders each."""
+def real_of(at, cylinders=512):
+    """The real address of a sector of a pack of two drives with so many cylinders each, or of one drive, which has fewer than 512."""
     return at % 12 << 12 | at // 24 % cylinders << 3 | at // 12 % 2 << 2 | at // 24 // cylinders << 1
 
 
@@ -91,16 +89,6 @@ def pack(cylinders, data):
     return b"".join(sectors)
 
 
-def pair(cylinders, data):
-    """The two files of a pack of two drives with so many cylinders each. Its one living file, with the serial 3 and no name, has these
-    bytes: its leader is the last sector of the first drive, and its pages are the first ones of the second. Its links are those of a
-    pack of one drive."""
-    sectors, half = free_sectors(2 * cylinders), cylinders * 24
-    put_file(sectors, half - 1, ordinary(SERIAL), b"", data)
-    files = [it[:2] + struct.pack(">H", real_of(at, cylinders)) + it[4:] for at, it in enumerate(sectors)]
-    return b"".join(files[:half]), b"".join(files[half:])
-
-
 def named_pack():
     """A pack of 48 sectors with a file `A.` of five bytes, a directory `D.`, and in it a file `X.` of 512 bytes."""
     sectors = free_sectors(2)
@@ -124,6 +112,16 @@ def full_pack(cylinders, files):
         at = put_file(sectors, at, ordinary(SERIAL + n), file_name(n), data)
     lines = [b"SysDir>" + file_name(n) + b" length %d\n" % len(data) for n in range(files)]
     return b"".join(sectors), b"".join(lines) + b"%d files\n" % files
+
+
+def pair(cylinders, data):
+    """The two files of a pack of two drives with so many cylinders each. Its one living file, with the serial 3 and no name, has these
+    bytes: its leader is the last sector of the first drive, and its pages are the first ones of the second. Its links are those of a
+    pack of one drive."""
+    sectors, half = free_sectors(2 * cylinders), cylinders * 24
+    put_file(sectors, half - 1, ordinary(SERIAL), b"", data)
+    files = [it[:2] + struct.pack(">H", real_of(at, cylinders)) + it[4:] for at, it in enumerate(sectors)]
+    return b"".join(files[:half]), b"".join(files[half:])
 
 
 def place(offset):
