@@ -3,12 +3,12 @@ use crate::outside::{Broken, FileCall, Log, Outside};
 use alto_top::{Status, boot, show_pack};
 use disk_image::{FileMachine, ReachError, encode_two};
 use disk_records::{Act, Disk, Plan, Sector, Shape};
-use test_packs::{Placed, set_page};
 use std::fs;
 use std::fs::{OpenFile, OpenOptions};
 use std::io::SeekFrom;
 use std::process::Abort;
 use std::test::Fail;
+use test_packs::{Placed, set_page};
 
 /// The file with serial 3: its leader on the first drive, at sector 5, and the page of its five bytes `ABCDE` on the second, at sector 50.
 const FRONT_LEADER: Placed = Placed {
