@@ -3,12 +3,12 @@ use crate::outside::{Broken, FileCall, Log, Outside};
 use alto_top::{Status, boot, show_pack};
 use disk_image::{FileMachine, ReachError, encode_two};
 use disk_records::{Act, Disk, Plan, Sector, Shape};
-use test_packs::{Placed, set_page};
 use std::fs;
 use std::fs::{OpenFile, OpenOptions};
 use std::io::SeekFrom;
 use std::process::Abort;
 use std::test::Fail;
+use test_packs::{Placed, set_page};
 
 /// The file with serial 3: its leader on the first drive, at sector 5, and the page of its five bytes `ABCDE` on the second, at sector 50.
 const FRONT_LEADER: Placed = Placed {
@@ -200,5 +200,31 @@ fn both_files_are_opened_and_made_or_none(rt: HostRuntime) -> Result<(), Fail> {
         assert!(rt; reached == wanted, "{failing}");
         assert!(rt; stood(&rt, &pair)?, "{failing}");
     }
+    Ok(())
+}
+
+#[test]
+fn a_file_of_two_that_cannot_be_filled_leaves_none(rt: HostRuntime) -> Result<(), Fail> {
+    let alloc = rt.alloc();
+    // two write calls fill the file of a drive of two cylinders: the third one is the first of the second file
+    for failing in 0u64..=4 {
+        let wanted = if failing < 4 {
+            Some(ReachError::NoFile)
+        } else {
+            None
+        };
+        let log = Log::new(alloc);
+        let outside = Outside::new(&rt, b"", Broken::WriteCall(failing), &log);
+        let made = FileMachine::create_two(&outside, alloc, "first", "second", 2).err();
+        assert!(rt; made == wanted, "{failing}");
+        for path in ["first", "second"] {
+            assert!(rt;
+                fs::metadata(&rt, path).is_ok() == (failing == 4),
+                "{failing}"
+            );
+        }
+    }
+    fs::remove_file(&rt, "first")?;
+    fs::remove_file(&rt, "second")?;
     Ok(())
 }
