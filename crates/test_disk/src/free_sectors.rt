@@ -2,10 +2,10 @@
 use disk_records::{Disk, Sector};
 use hint_cache::BitTable;
 use page_alloc::{AllocError, count_free, reserve};
-use test_packs::{Placed, failing_machine, sectors_of, set_page, sure_machine};
 use std::alloc::Global;
 use std::process::Abort;
 use std::test::Fail;
+use test_packs::{Placed, failing_machine, sectors_of, set_page, sure_machine};
 
 /// The bits of sectors 0 to 47: busy but for the free ones, all busy, and all free.
 const TRUE: [u16; 3] = [0xFFFF, 0xFFFF, 0xFFE0];

@@ -3,10 +3,10 @@ use alto_words::Fid;
 use disk_memory::SureMachine;
 use disk_records::{Disk, Page, Sector, page_of};
 use label_check::{GuardError, PageInfo, claim, look, read_page, relabel, release, write_value};
-use test_packs::{Placed, sectors_of, sure_machine, value_of};
 use std::alloc::Global;
 use std::process::Abort;
 use std::test::Fail;
+use test_packs::{Placed, sectors_of, sure_machine, value_of};
 
 /// A label with false links.
 const fn label(bytes: u16, page: Page) -> [u16; 8] {

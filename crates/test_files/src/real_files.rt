@@ -6,13 +6,13 @@ use crate::outside::{Broken, FileCall, Log, Outside};
 use alto_top::{Status, boot, show_pack};
 use disk_image::{FileMachine, ReachError, encode_pack};
 use disk_records::{Act, Disk, DiskError, Plan, Sector};
-use test_packs::{DATA, LEADER, Placed, sectors_of, small_shape};
 use std::fs;
 use std::fs::{OpenFile, OpenOptions};
 use std::io::SeekFrom;
 use std::process::Abort;
 use std::rt::Runtime;
 use std::test::Fail;
+use test_packs::{DATA, LEADER, Placed, sectors_of, small_shape};
 
 /// The five bytes `ABCDE` become these.
 const KEYS: &[u8] = b"patch #3 0 565758595A\n";

@@ -2,8 +2,8 @@
 use crate::sessions::obey;
 use alto_top::Status;
 use disk_records::Disk;
-use test_packs::{DATA, LEADER, PATCHED, Placed, sectors_of, set_page, sure_machine};
 use std::test::Fail;
+use test_packs::{DATA, LEADER, PATCHED, Placed, sectors_of, set_page, sure_machine};
 
 #[test]
 fn every_cut_of_a_patch_is_before_or_after_it(rt: HostRuntime) -> Result<(), Fail> {

@@ -2,9 +2,9 @@
 use crate::sessions::obey;
 use alto_top::Status;
 use disk_records::Sector;
-use test_packs::{DATA, LEADER, PATCHED, Placed, failing_machine, sectors_of, set_page};
 use std::alloc::Global;
 use std::test::Fail;
+use test_packs::{DATA, LEADER, PATCHED, Placed, failing_machine, sectors_of, set_page};
 
 /// Two lines of 16 keys.
 const KEYS: &[u8] = b"patch #3 1 4242\npatch #3 4 4242\n";

@@ -1,7 +1,7 @@
 // Files as their labels say: which sectors count, where a file ends, and which files aren't patched.
 use crate::sessions::expect_session;
-use test_packs::{DATA, LEADER, PATCHED, Placed};
 use std::test::Fail;
+use test_packs::{DATA, LEADER, PATCHED, Placed};
 
 /// A data page of the file with serial 3, with `ABCDE` and zeros.
 const fn data(at: u16, number: u16, bytes: u16) -> Placed {

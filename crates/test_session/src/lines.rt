@@ -2,8 +2,8 @@
 use crate::sessions::{expect_no_key_taken, expect_session, obey};
 use alto_top::{Fault, Status};
 use disk_records::Disk;
-use test_packs::{DATA, LEADER, PATCHED, Placed, failing_machine, sectors_of, sure_machine};
 use std::test::Fail;
+use test_packs::{DATA, LEADER, PATCHED, Placed, failing_machine, sectors_of, sure_machine};
 
 /// The pack with the one file.
 const SMALL: [Placed; 2] = [LEADER, DATA];

@@ -1,10 +1,10 @@
 // A session, by the words of a command line, and what is expected of it.
 use alto_top::{Status, alto};
 use disk_records::{Console, Disk, Machine};
-use test_packs::{Placed, sectors_of, set_page, sure_machine};
 use std::alloc::Global;
 use std::process::Abort;
 use std::test::Fail;
+use test_packs::{Placed, sectors_of, set_page, sure_machine};
 
 /// Does what these words ask for, at moment 1000.
 pub fn obey<M: Machine>(alloc: Global, words: &[&str], machine: &mut M) -> Result<Status, Fail> {

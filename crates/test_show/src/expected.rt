@@ -4,11 +4,11 @@ use alto_top::{Status, show_pack};
 use alto_words::push_number;
 use disk_records::{Console, Disk, Sector};
 use pack_reading::{Shown, read_pack};
-use test_packs::sure_machine;
 use std::alloc::Global;
 use std::process::Abort;
 use std::rt::Runtime;
 use std::test::Fail;
+use test_packs::sure_machine;
 
 /// Shows these sectors, and compares the listing. No key is taken and nothing is written.
 pub fn expect_listing<R: Abort + AllocGlobal>(

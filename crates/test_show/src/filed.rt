@@ -2,11 +2,11 @@
 use disk_image::{FileMachine, encode_pack};
 use disk_records::Sector;
 use pack_reading::{Shown, read_pack};
-use test_packs::small_shape;
 use std::fs;
 use std::process::Abort;
 use std::rt::Runtime;
 use std::test::Fail;
+use test_packs::small_shape;
 
 /// What a pack file of these sectors shows. It is made for this, read, not written, and removed.
 pub fn read_file<R: Runtime + Abort + AllocGlobal>(

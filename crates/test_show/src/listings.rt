@@ -8,8 +8,8 @@ use crate::pages::{
 use alto_top::{Status, boot, show_pack};
 use disk_records::Sector;
 use pack_reading::read_pack;
-use test_packs::{DATA, LEADER, failing_machine, sectors_of, sure_machine};
 use std::test::Fail;
+use test_packs::{DATA, LEADER, failing_machine, sectors_of, sure_machine};
 
 #[test]
 fn packs_without_files(rt: HostRuntime) -> Result<(), Fail> {

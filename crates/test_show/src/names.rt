@@ -4,8 +4,8 @@ use crate::expected::expect_listing;
 use crate::pages::{
     DIRECTORY_5, FILE_3, FILE_4, FILE_8, SYS_DIR, push_entry, put_directory, put_leader,
 };
-use test_packs::sectors_of;
 use std::test::Fail;
+use test_packs::sectors_of;
 
 /// 38 letters and the dot: as long as a name can be.
 const LONG: &[u8] = b"abcdefghijklmnopqrstuvwxyzabcdefghijkl.";

@@ -5,8 +5,8 @@ use crate::pages::{
     put_directory, put_leader, put_page,
 };
 use pack_reading::{ReadingError, read_pack};
-use test_packs::{failing_machine, sectors_of, sure_machine};
 use std::test::Fail;
+use test_packs::{failing_machine, sectors_of, sure_machine};
 
 #[test]
 fn files_and_names_with_their_full_names(rt: HostRuntime) -> Result<(), Fail> {

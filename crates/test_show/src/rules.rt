@@ -4,8 +4,8 @@ use crate::pages::{
     DIRECTORY_5, DIRECTORY_6, DISK_DESCRIPTOR, FILE_3, FILE_4, SYS_DIR, Written, push_entry,
     put_data, put_directory, put_leader, put_page,
 };
-use test_packs::sectors_of;
 use std::test::Fail;
+use test_packs::sectors_of;
 
 #[test]
 fn system_files_and_their_names(rt: HostRuntime) -> Result<(), Fail> {

@@ -2,9 +2,9 @@
 use crate::expected::expect_listing;
 use crate::pages::{FILE_3, FILE_4, SYS_DIR, push_entry, put_directory, put_leader};
 use disk_records::Sector;
-use test_packs::sectors_of;
 use std::alloc::Global;
 use std::test::Fail;
+use test_packs::sectors_of;
 
 /// The listing where no entry is read.
 const BY_LEADERS: &[u8] = b"SysDir>X. length 0\nSysDir>Y. length 0\n2 files\n";

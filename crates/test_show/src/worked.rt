@@ -7,11 +7,11 @@ use crate::pages::{
 };
 use disk_records::Sector;
 use pack_reading::read_pack;
-use test_packs::{sectors_of, sure_machine};
 use std::alloc::Global;
 use std::process::Abort;
 use std::rt::Runtime;
 use std::test::Fail;
+use test_packs::{sectors_of, sure_machine};
 
 const DIRECTORY_3: FullName = [0x8000, 3, 1];
 
