@@ -137,8 +137,10 @@ def check_pack_files(program):
 
 
 def check_cylinders(program):
-    """As many cylinders as a drive can have."""
+    """As many cylinders as a drive can have, of one drive and of two."""
     Run(program, ["--cylinders", "406", "new", "show"]).gives(DONE, NO_FILES, left={"new": bytes(LARGEST)})
+    both = {"one": bytes(LARGEST), "two": bytes(LARGEST)}
+    Run(program, ["--cylinders", "406", "--second", "two", "one", "show"]).gives(DONE, NO_FILES, left=both)
 
 
 def linked(target):

@@ -3,7 +3,7 @@
 
 Each pack is named by the sentence that it shows. The listings were worked out by hand from docs/model.md, docs/formats.md and
 docs/commands.md, and never taken from a run. Besides, `show` has to end with 0, to say nothing on the standard error, and to leave
-the pack file byte for byte as it was, with no other beside it.
+the pack file, or both files of two drives, byte for byte as they were, with no other beside them.
 """
 import pathlib
 import struct
@@ -724,10 +724,10 @@ DAMAGES = [
     ("all links of ones show nothing", small_pack(*(word(at, NEXT, ONES) for at in range(1, 7))), SMALL),
 ]
 
-# the last sectors of a pack of model 31: cylinder, head and sector of an address at their greatest
+# sectors past 255, and numbers past a byte and a word
 LARGE = [
     (
-        "a file may stand on the last sectors of the largest pack",
+        "a file may stand on the last sectors of a drive of model 31",
         [leader(4_871, A, b"A."), data(4_870, A, 1, PAGE), data(4_869, A, 2, 1)],
         ["SysDir>A. length 513", "1 files"],
     ),
@@ -738,37 +738,73 @@ LARGE = [
     ),
 ]
 
-PACKS = [(2, *row) for row in FILES + LEADER_NAMES + SUFFIXES + ENTRIES + SYSTEM_FILES + DIRECTORIES + ORDER + DAMAGES]
-PACKS += [(203, *row) for row in LARGE]
+# a drive of model 44 has the most sectors, so that cylinder, head and sector of an address are at their greatest
+LARGEST = [
+    (
+        "a file may stand on the last sectors of a drive of model 44",
+        [leader(9_743, A, b"A."), data(9_742, A, 1, PAGE), data(9_741, A, 2, 1)],
+        ["SysDir>A. length 513", "1 files"],
+    ),
+]
+
+# the last sector of the first drive, and the first and the last of the second
+TWO_SMALL = [
+    (
+        "a file may stand on the last sectors of both drives",
+        [leader(95, A, b"A."), data(47, A, 1, PAGE), data(48, A, 2, 1)],
+        ["SysDir>A. length 513", "1 files"],
+    ),
+]
+TWO_LARGEST = [
+    (
+        "a file may stand on the last sectors of two drives of model 44",
+        [leader(19_487, A, b"A."), data(9_743, A, 1, PAGE), data(9_744, A, 2, 1)],
+        ["SysDir>A. length 513", "1 files"],
+    ),
+]
+
+PACKS = [(1, 2, *row) for row in FILES + LEADER_NAMES + SUFFIXES + ENTRIES + SYSTEM_FILES + DIRECTORIES + ORDER + DAMAGES]
+PACKS += [(1, 203, *row) for row in LARGE] + [(1, 406, *row) for row in LARGEST]
+PACKS += [(2, 2, *row) for row in TWO_SMALL] + [(2, 406, *row) for row in TWO_LARGEST]
 
 
-def check(program, file, cylinders, sentence, changes, lines):
-    """Shows this pack, and compares all that can be seen from outside."""
-    sectors = packs.free_sectors(cylinders)
+def files_of(drives, cylinders, changes):
+    """The pack files of so many drives, by their names, after these changes of a pack without files."""
+    sectors = packs.free_sectors(drives * cylinders)
     for change in changes:
         change(sectors)
-    content, listing = b"".join(sectors), "".join(f"{line}\n" for line in lines).encode()
-    file.write_bytes(content)
+    if drives == 1:
+        return {"pack": b"".join(sectors)}
+    return dict(zip(("pack", "second"), packs.files_of_two(sectors, cylinders)))
+
+
+def check(program, folder, drives, cylinders, sentence, changes, lines):
+    """Shows this pack in an empty folder, which it leaves empty, and compares all that can be seen from outside."""
+    files, listing = files_of(drives, cylinders, changes), "".join(f"{line}\n" for line in lines).encode()
+    for name, content in files.items():
+        (folder / name).write_bytes(content)
+    words = ["pack", "show"] if drives == 1 else ["--second", "second", "pack", "show"]
     try:
-        ended = subprocess.run([program, file, "show"], stdin=subprocess.DEVNULL, capture_output=True, timeout=SECONDS)
+        ended = subprocess.run([program, *words], cwd=folder, stdin=subprocess.DEVNULL, capture_output=True, timeout=SECONDS)
+        found, wanted = (ended.returncode, ended.stdout, ended.stderr), (0, listing, b"")
+        for what, one, other in zip(("exit code", "listing", "standard error"), found, wanted):
+            if one != other:
+                failures.append(f"{sentence}: {what}: {one!r}, and not {other!r}")
     except subprocess.TimeoutExpired:
         failures.append(f"{sentence}: no end")
-        return
-    found, wanted = (ended.returncode, ended.stdout, ended.stderr), (0, listing, b"")
-    for what, one, other in zip(("exit code", "listing", "standard error"), found, wanted):
-        if one != other:
-            failures.append(f"{sentence}: {what}: {one!r}, and not {other!r}")
-    if file.read_bytes() != content or [it.name for it in file.parent.iterdir()] != [file.name]:
-        failures.append(f"{sentence}: the pack file isn't left alone as it was")
+    if {it.name: it.read_bytes() for it in folder.iterdir()} != files:
+        failures.append(f"{sentence}: the pack files aren't left alone as they were")
+    for it in folder.iterdir():
+        it.unlink()
 
 
 def main():
     program = arguments.read(arguments.parser(__doc__)).program
-    sentences = [row[1] for row in PACKS]
+    sentences = [row[2] for row in PACKS]
     assert len(set(sentences)) == len(sentences), "each sentence stands once"
     with tempfile.TemporaryDirectory() as folder:
         for row in PACKS:
-            check(program, pathlib.Path(folder) / "pack", *row)
+            check(program, pathlib.Path(folder), *row)
     for failure in failures:
         print(f"listings: {failure}")
     if not failures:

@@ -114,14 +114,20 @@ def full_pack(cylinders, files):
     return b"".join(sectors), b"".join(lines) + b"%d files\n" % files
 
 
+def files_of_two(sectors, cylinders):
+    """The two files of a pack of two drives with so many cylinders each. Its headers get the addresses of two drives; its links stay."""
+    half = cylinders * 24
+    files = [it[:2] + struct.pack(">H", real_of(at, cylinders)) + it[4:] for at, it in enumerate(sectors)]
+    return b"".join(files[:half]), b"".join(files[half:])
+
+
 def pair(cylinders, data):
     """The two files of a pack of two drives with so many cylinders each. Its one living file, with the serial 3 and no name, has these
     bytes: its leader is the last sector of the first drive, and its pages are the first ones of the second. Its links are those of a
     pack of one drive."""
-    sectors, half = free_sectors(2 * cylinders), cylinders * 24
-    put_file(sectors, half - 1, ordinary(SERIAL), b"", data)
-    files = [it[:2] + struct.pack(">H", real_of(at, cylinders)) + it[4:] for at, it in enumerate(sectors)]
-    return b"".join(files[:half]), b"".join(files[half:])
+    sectors = free_sectors(2 * cylinders)
+    put_file(sectors, cylinders * 24 - 1, ordinary(SERIAL), b"", data)
+    return files_of_two(sectors, cylinders)
 
 
 def place(offset):

@@ -36,7 +36,7 @@ abbrev pub IsHelpEnd : Result Status Stop → Type 0
 IsHelpEnd (Ok answer) = answer ≡ status.Done
 IsHelpEnd (Err stop) = IsHelpStop stop
 
--- what the words behind PACK let a session answer, on every machine
+-- what the words after PACK let a session answer, on every machine
 pub record AnswersTo (words : List (List ℕ)) (answer : Status) : Type 0 where
   pub usage : answer ≡ status.Usage → AsksNothing words
   pub done : answer ≡ status.Done → AsksBoot words ⊎ AsksShow words

@@ -7,7 +7,7 @@ use alto_top::{Status, alto};
 use disk_records::Machine;
 use std::alloc::Global;
 
-/// What does on a machine what the words behind PACK ask for. A run has one, so that a test can see at which moment it is called.
+/// What does on a machine what the words after PACK ask for. A run has one, so that a test can see at which moment it is called.
 pub trait Session {
     /// Does what these words ask for. `moment` is the time now, in seconds since the start of 1901.
     fn obey<M: Machine>(

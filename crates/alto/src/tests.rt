@@ -1,4 +1,5 @@
-// What no clause says: texts, the moments of worked times, and of what reading of the clock the moment of a session is.
+// What no clause says: texts, the moments of worked times, of what reading of the clock the moment of a session is, and which of two
+// pack files is that of the first drive.
 use crate::clock::moment_of;
 use crate::end::{Complaint, Stop, exit_code, exit_complaint};
 use crate::help::help_text;
@@ -6,7 +7,7 @@ use crate::run::run_words;
 use crate::session::Session;
 use alto_top::Status;
 use disk_image::ReachError;
-use disk_records::Machine;
+use disk_records::{Act, Machine, Plan, Sector};
 use std::alloc::{AllocError, Global};
 use std::cell::Cell;
 use std::io::ErrorKind;
@@ -168,5 +169,82 @@ fn moment_of_a_session(rt: HostRuntime) -> Result<(), Fail> {
         assert_eq!(rt; session.moment.get(), moment, "{line}");
     }
     fs::remove_file(&rt, "clocked")?;
+    Ok(())
+}
+
+const READ_ALL: Plan = Plan {
+    header: Act::Read,
+    label: Act::Read,
+    value: Act::Read,
+};
+
+const WRITE_ALL: Plan = Plan {
+    header: Act::Write,
+    label: Act::Write,
+    value: Act::Write,
+};
+
+/// A sector whose words are all one.
+fn filled(word: u16) -> Sector {
+    Sector {
+        header: [word; 2],
+        label: [word; 8],
+        value: [word; 256],
+    }
+}
+
+/// A session that notes the first word of the pack's first sector, and fills that sector with a word of its own.
+#[derive(Drop)]
+struct Marking {
+    mark: u16,
+    found: Cell<Option<u16>>,
+}
+
+impl Session for Marking {
+    fn obey<M: Machine>(&self, _: Global, _: &[String], _: u32, machine: &mut M) -> Status {
+        let mut memory = filled(9);
+        if machine.shape().pages() > 0 && machine.run(0, READ_ALL, &mut memory).is_ok() {
+            self.found.set(Some(memory.header[0]));
+            let _ = machine.run(0, WRITE_ALL, &mut filled(self.mark));
+        }
+        Status::Memory
+    }
+}
+
+/// Whether a pack file of two cylinders has words of two like bytes in its first sector, and zeros in all others.
+fn is_marked(rt: &HostRuntime, path: &str, byte: u8) -> Result<bool, Fail> {
+    let bytes = fs::read(rt, path)?;
+    let (first, others) = bytes.as_slice().split_at_checked(532).ok_or("a sector")?;
+    let is_first = first.iter().all(|it| *it == byte);
+    Ok(bytes.len() == 25_536 && is_first && others.iter().all(|it| *it == 0))
+}
+
+#[test]
+fn pack_is_the_first_drive(rt: HostRuntime) -> Result<(), Fail> {
+    let clock = Ticking {
+        readings: Cell::new(0),
+    };
+    // the first word that is found, the word that is written there, and then the bytes of the first sector of each file
+    let rows = [
+        ("--cylinders 2 --second back front boot", 0, 0x0101, 1, 0),
+        ("--second back front boot", 0x0101, 0x0202, 2, 0),
+        ("--second front back boot", 0, 0x0303, 2, 3),
+        ("--second back front show", 0x0202, 0x0404, 4, 3),
+        ("back boot", 0x0303, 0x0505, 4, 5),
+    ];
+    for (line, found, mark, front, back) in rows {
+        let session = Marking {
+            mark,
+            found: Cell::new(None),
+        };
+        let words = words_of(rt.alloc(), line)?;
+        let end = run_words(&rt, &clock, &session, &words);
+        assert!(rt; end == Ok(Status::Memory), "{line}");
+        assert!(rt; session.found.get() == Some(found), "{line}");
+        assert!(rt; is_marked(&rt, "front", front)?, "{line}");
+        assert!(rt; is_marked(&rt, "back", back)?, "{line}");
+    }
+    fs::remove_file(&rt, "front")?;
+    fs::remove_file(&rt, "back")?;
     Ok(())
 }

@@ -38,7 +38,7 @@ fn show_swept(alloc: Global, swept: Swept) -> Result<Shown, Memory>
 /// SysDir where no entry of it is kept. Nothing is written. Fewer sector commands than sectors.
 ///
 /// DiskFault: a sector wasn't read, and the count of disk faults rose. Memory: none was left. A pack full of ordinary files took 1.7
-/// times its bytes, one large directory 3.7 times, leader pages alone 4.8 times (docs/map.md): leaders are held as they were seen and
+/// times its bytes, one large directory 3.7 times, leader pages alone 4.8 times (docs/speed.md): leaders are held as they were seen and
 /// as they are shown, and the words of a directory while it is scanned.
 pub fn read_pack<D: Disk>(alloc: Global, disk: &mut D) -> Result<Shown, ReadingError>
     ensures alone { DiskAlone (D.tape disk.old) (D.tape disk.new) }

@@ -1,4 +1,5 @@
--- What a leader's sector shows of a label with another count; DiskDescriptor of several data pages, and of two drives; the old last serial.
+-- What a leader's sector shows of a label with another count; DiskDescriptor of several data pages, and of two drives; the old last serial,
+-- and that of a pack that became one of two drives.
 use Rattle.std.proofs.Common.{◌≡◌, ℕ, Bool, true, false, List, [], ◌∷◌, ◌++◌, refl, arith}
 use Rattle.std.specs.Prelude.{◌+◌, ◌*◌, ◌-◌, codes, replicate, length, take, drop, get_or}
 use Rattle.std.specs.Fmt.{digits}
@@ -7,15 +8,19 @@ use Rattle.disk_records.specs.declared.shape.Shape.{Shape}
 use Rattle.disk_records.specs.declared.records.Sector.{Sector}
 use Rattle.disk_records.specs.Addresses.{real_of, descriptor_length}
 use Rattle.disk_records.specs.Labels.{in_range, is_free}
-use Rattle.pack_model.specs.reading.Bytes.{words_of}
+use Rattle.disk_records.specs.Packs.{Pack}
+use Rattle.pack_model.specs.reading.Bytes.{words_of, put_at}
+use Rattle.pack_model.specs.reading.Files.{first, joined, most_pages, file_bytes}
 use Rattle.pack_model.specs.reading.Leaders.{Leader, leader_of, leader_name, is_readable}
-use Rattle.pack_model.specs.reading.Sights.{sight}
+use Rattle.pack_model.specs.reading.Sights.{sight, sights_from}
 use Rattle.pack_model.specs.reading.Sights.Sight.{leads}
+use Rattle.pack_model.specs.reading.Slots.{slots_after, slot_at, is_entry}
 use Rattle.pack_model.specs.sessions.Descriptor.{data_pages, descriptor_value}
-use Rattle.pack_model.specs.sessions.Format.{format_page, formatted_sectors, sectors_used, free_after_format}
-use Rattle.pack_model.specs.scavenger.Reports.{old_serial}
-use Rattle.pack_vectors.proofs.Shapes.{one_of, small, model_31, model_44, two_31, two_44}
-use Rattle.pack_vectors.proofs.SmallPacks.{file_3}
+use Rattle.pack_model.specs.sessions.Format.{format_page, formatted_sectors, sectors_used, free_after_format, with_headers}
+use Rattle.pack_model.specs.scavenger.Reports.{old_serial, mended_serial}
+use Rattle.pack_laws.proofs.MendedByLists.{serial_is}
+use Rattle.pack_vectors.proofs.Shapes.{one_of, two_of, small, model_31, model_44, two_31, two_44}
+use Rattle.pack_vectors.proofs.SmallPacks.{file_3, free_sector, described_by_words, words_of_9}
 
 -- ---- leader sectors
 -- page 0 of #3 in sector 1, whose label counts 7 bytes; the name's words begin with these bytes, and the dates are 1000
@@ -109,9 +114,13 @@ unfolding real_of
 fifth_page = (refl, refl)
 
 -- ---- the old last serial
--- that of a descriptor of so many bytes, with this number of drives, of cylinders and of map words
+-- that of a descriptor of so many bytes, with this number of drives, of cylinders, of heads, of sectors to a track and of map words
+abbrev old_by : Shape → ℕ → List ℕ → ℕ → ℕ
+old_by shape bytes form words = old_serial shape (replicate bytes 0) (form ++ 0 ∷ 9 ∷ 1 ∷ 0 ∷ words ∷ [])
+
+-- where it has 2 heads and 12 sectors to a track
 abbrev old_of : Shape → ℕ → ℕ → ℕ → ℕ → ℕ
-old_of shape bytes drives cylinders words = old_serial shape (replicate bytes 0) (drives ∷ cylinders ∷ 2 ∷ 12 ∷ 0 ∷ 9 ∷ 1 ∷ 0 ∷ words ∷ [])
+old_of shape bytes drives cylinders words = old_by shape bytes (drives ∷ cylinders ∷ 2 ∷ 12 ∷ []) words
 
 -- its own shape, and one drive with as many cylinders; one drive of twice as many, which has as many sectors; the words of one drive in a
 -- file as long as for two, as a move that was cut leaves them; another number of drives, of cylinders, of map words or of bytes alone
@@ -127,6 +136,27 @@ old_serials :
     × (old_of two_31 644 1 203 305 ≡ 0)
 old_serials = (refl, refl, refl, refl, refl, refl, refl, refl, refl)
 
+-- one more head or sector, or one less, of its own shape and of one drive
+old_of_other_tracks :
+    (old_by two_31 1250 (2 ∷ 203 ∷ 1 ∷ 12 ∷ []) 609 ≡ 0)
+    × (old_by two_31 1250 (2 ∷ 203 ∷ 2 ∷ 13 ∷ []) 609 ≡ 0)
+    × (old_by two_31 642 (1 ∷ 203 ∷ 3 ∷ 12 ∷ []) 305 ≡ 0)
+    × (old_by two_31 642 (1 ∷ 203 ∷ 2 ∷ 11 ∷ []) 305 ≡ 0)
+old_of_other_tracks = (refl, refl, refl, refl)
+
 -- one drive takes none of two
 old_of_two : (old_of model_44 1250 1 406 609 ≡ 9) × (old_of model_44 1250 2 203 609 ≡ 0) × (old_of two_44 1250 1 406 609 ≡ 9) × (old_of two_44 1250 2 203 609 ≡ 0)
 old_of_two = (refl, refl, refl, refl)
+
+-- ---- a second drive
+-- a pack of one drive of two cylinders with a file of serial 3, whose DiskDescriptor has the last serial 9, and a second drive that is free
+abbrev two_small : Shape
+two_small = two_of 2 (omega arith) (omega arith)
+
+abbrev widened : List ℕ → Pack
+widened its = record { shape = two_small; sectors = (described_by_words its).sectors ++ with_headers two_small 1 48 (replicate 48 free_sector) }
+
+-- its last serial counts, and not where it says one cylinder more
+serials_of_two : (mended_serial (widened words_of_9) ≡ 9) × (mended_serial (widened (put_at 1 (3 ∷ []) words_of_9)) ≡ 3)
+unfolding sights_from sight real_of in_range is_free leader_of leader_name is_readable is_stored_name first joined most_pages file_bytes slots_after slot_at is_entry
+serials_of_two = (serial_is (widened words_of_9), serial_is (widened (put_at 1 (3 ∷ []) words_of_9)))

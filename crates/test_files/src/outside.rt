@@ -21,7 +21,7 @@ pub enum Broken {
     Keyboard,
     /// Files may be read and not written, however they are opened.
     Writing,
-    /// Of each file that is opened one write call fails: that with this number, counted from 0.
+    /// One write call of files fails: that with this number, counted from 0 over all files.
     WriteCall(u64),
     /// One opening of a file fails: that with this number, counted from 0.
     Opening(u64),
@@ -94,6 +94,7 @@ pub struct Log {
     shows: Cell<u64>,
     key_reads: Cell<u64>,
     openings: Cell<u64>,
+    file_writes: Cell<u64>,
     file_calls: RefCell<Vec<FileCall>>,
 }
 
@@ -105,6 +106,7 @@ impl Log {
             shows: Cell::new(0),
             key_reads: Cell::new(0),
             openings: Cell::new(0),
+            file_writes: Cell::new(0),
             file_calls: RefCell::new(Vec::new(alloc)),
         }
     }
@@ -155,6 +157,13 @@ impl Log {
     fn note_opening(&self) -> u64 {
         let number = self.openings.get();
         self.openings.set(number.saturating_add(1));
+        number
+    }
+
+    /// Notes a write call of a file, and answers its number among those of all files.
+    fn note_file_write(&self) -> u64 {
+        let number = self.file_writes.get();
+        self.file_writes.set(number.saturating_add(1));
         number
     }
 
@@ -240,7 +249,6 @@ impl BufRead for Keys<'_> {
 #[derive(Drop)]
 pub struct Logged<'a> {
     file: File,
-    writes: u64,
     failing: Option<u64>,
     calls: Calls,
     log: &'a Log,
@@ -257,8 +265,7 @@ impl Read for Logged<'_> {
 impl Write for Logged<'_> {
     fn write(&mut self, buf: &[u8]) -> io::Result<usize> {
         self.log.note_file_call(FileCall::Write(buf.len()))?;
-        let number = self.writes;
-        self.writes = number.saturating_add(1);
+        let number = self.log.note_file_write();
         if self.failing == Some(number) {
             return Err(Error::from(ErrorKind::StorageFull));
         }
@@ -349,7 +356,6 @@ impl<'a> Files for Outside<'a> {
         };
         Ok(Logged {
             file: self.opened(how, path)?,
-            writes: 0,
             failing,
             calls: Calls::of(self.broken),
             log: self.log,

@@ -202,3 +202,29 @@ fn both_files_are_opened_and_made_or_none(rt: HostRuntime) -> Result<(), Fail> {
     }
     Ok(())
 }
+
+#[test]
+fn a_file_of_two_that_cannot_be_filled_leaves_none(rt: HostRuntime) -> Result<(), Fail> {
+    let alloc = rt.alloc();
+    // two write calls fill the file of a drive of two cylinders: the third one is the first of the second file
+    for failing in 0u64..=4 {
+        let wanted = if failing < 4 {
+            Some(ReachError::NoFile)
+        } else {
+            None
+        };
+        let log = Log::new(alloc);
+        let outside = Outside::new(&rt, b"", Broken::WriteCall(failing), &log);
+        let made = FileMachine::create_two(&outside, alloc, "first", "second", 2).err();
+        assert!(rt; made == wanted, "{failing}");
+        for path in ["first", "second"] {
+            assert!(rt;
+                fs::metadata(&rt, path).is_ok() == (failing == 4),
+                "{failing}"
+            );
+        }
+    }
+    fs::remove_file(&rt, "first")?;
+    fs::remove_file(&rt, "second")?;
+    Ok(())
+}
