@@ -214,6 +214,7 @@ fn every_byte_is_read_and_written_back(rt: HostRuntime) -> Result<(), Fail> {
         bytes.push((at as u64 * 11 / 5 % 256) as u8)?;
     }
     // of two drives, whose sectors follow each other
+    assert!(rt; bytes.len() == 51_072);
     let (front, back) = bytes.split_at(25_536);
     fs::write(&rt, "front", front)?;
     fs::write(&rt, "back", back)?;
