@@ -24,7 +24,7 @@ place_by i (Some j) e = ap Some (sym (eqb-true i j e))
 
 -- ---- one sector a page
 -- a sector that carries a page is one of the list
-carries_within : (ss : List Sight) (f : Fid) (n i : ℕ) → carries_page f n (get_or ss i hidden) ≡ true → i < length ss
+pub carries_within : (ss : List Sight) (f : Fid) (n i : ℕ) → carries_page f n (get_or ss i hidden) ≡ true → i < length ss
 carries_within [] f n i e = absurd cc
 carries_within (s ∷ ss) f n zero e = omega arith
 carries_within (s ∷ ss) f n (suc i) e = let l = carries_within ss f n i e in omega arith

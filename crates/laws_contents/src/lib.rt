@@ -1,0 +1,18 @@
+//! What a file holds, by the values of its pages.
+//!
+//! The laws that lead from sectors that were read to what a pack means: which of a sector's bytes count, where they stand in a file's
+//! bytes and words, where a file ends, and what the files of the model are. They hold on any pack unless they say more; on one that
+//! carries no page twice whichever sector carries a page is its place.
+//!
+//! Data pages are counted from 0 here, as in the definitions: data page k has the number k + 1 in its label.
+//!
+//! A law function is public, has an empty body and one clause, the law; its lemma has the same name, and its statement has it in
+//! capitals. To cite a law: `use Rattle.laws_contents.proofs.pages.Laws.{labels_count}`. Lemma files right in proofs/ are cited by
+//! other crates too; those in proofs/inside/ no other crate can name.
+#![tactic(auto)]
+
+pub mod bytes;
+pub mod ends;
+pub mod model;
+pub mod pages;
+pub mod words;
