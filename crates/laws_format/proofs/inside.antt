@@ -1,0 +1,13 @@
+pub mod Counting
+pub mod Describing
+pub mod Formats
+pub mod Freeing
+pub mod Linking
+pub mod Living
+pub mod Pages
+pub mod Reading
+pub mod Showing
+pub mod Shown
+pub mod Sighting
+pub mod Wholeness
+pub mod Writes
