@@ -9,7 +9,7 @@ use Rattle.disk_records.specs.Packs.{Pack}
 use Rattle.pack_model.specs.reading.Files.{lives}
 use Rattle.pack_model.specs.hints.Links.{dir_words}
 use Rattle.pack_model.specs.reading.Model.{Model, dir_items, is_named, read_as}
-use Rattle.pack_model.specs.reading.Namings.{clashes, namings}
+use Rattle.pack_model.specs.reading.Namings.{IsTidy, clashes, namings}
 use Rattle.pack_model.specs.reading.Sights.{sights}
 use Rattle.pack_model.specs.reading.Slots.{Item, slots}
 use Rattle.pack_model.specs.reading.Slots.Item.{entry, space}
@@ -21,6 +21,10 @@ use Rattle.pack_model.specs.states.Whole.{Tidy}
 -- on a tidy pack the slots of a living directory in the model are those that stand there
 abbrev pub ItemsAreSlots : Type 0
 ItemsAreSlots = (p : Pack) (d : Fid) → Tidy p → lives (sights p) d ≡ true → is_directory d ≡ true → dir_items (read_as p) d ≡ slots (dir_words p d)
+
+-- all entries of what any pack is read as are kept
+abbrev pub ReadEntriesAreKept : Type 0
+ReadEntriesAreKept = (p : Pack) → IsTidy (lives (sights p)) (read_as p).files
 
 -- ---- names that are free
 -- an entry of another file under this name, in whatever case

@@ -12,6 +12,8 @@ pub mod LinkLaws
 pub mod NameLaws
 pub mod NameLinkLaws
 pub mod OnceLaws
+pub mod OtherLaws
 pub mod Outcomes
+pub mod PageLinkLaws
 pub mod PlaceLaws
 pub mod WordLaws

@@ -10,3 +10,4 @@ pub mod Namings
 pub mod Model
 pub mod Versions
 pub mod OtherNames
+pub mod Lookup

@@ -12,6 +12,7 @@ pub mod LifeVectors
 pub mod LineVectors
 pub mod LinkVectors
 pub mod ListingVectors
+pub mod LookupVectors
 pub mod MendVectors
 pub mod MisledVectors
 pub mod NameVectors

@@ -13,12 +13,14 @@ pub mod FileGrowth
 pub mod FileValues
 pub mod Framing
 pub mod Growing
+pub mod LeftAlone
 pub mod Linked
 pub mod Making
 pub mod NamedAlone
 pub mod OnceGrowing
 pub mod OnceOthers
 pub mod OneFile
+pub mod PageAfter
 pub mod Records
 pub mod Relabelled
 pub mod Releases

@@ -117,7 +117,7 @@ module _ (p : Pack) (wp : Whole p) (tp : Tidy p) (f : Fid) (n at : ℕ) (label l
           ∙ relabel_apart p at label (sector_at p at).value i ne
 
   -- so they have the same places
-  same_places : (m : ℕ) → m ≤ page_of_byte n → place (sights (after p (cut_writes at label (sector_at p at).value later))) f m ≡ place (sights p) f m
+  pub same_places : (m : ℕ) → m ≤ page_of_byte n → place (sights (after p (cut_writes at label (sector_at p at).value later))) f m ≡ place (sights p) f m
   same_places m l = places_alike p (after p events) wp whole_then (page_number f m) (λ i is. forth m i l is) (back m)
 
   -- and those before the last their words

@@ -17,7 +17,7 @@ use Rattle.laws_record.proofs.Reading.{get-found, read_file}
 use Rattle.laws_record.proofs.Tidying.{some_map}
 use Rattle.laws_operation.proofs.EnterLaw.{items_are}
 use Rattle.laws_operation.proofs.inside.looks.Kept.{tidied_is_tidy}
-use Rattle.laws_operation.specs.EntryLaws.{ItemsAreSlots}
+use Rattle.laws_operation.specs.EntryLaws.{ItemsAreSlots, ReadEntriesAreKept}
 use Rattle.laws_operation.specs.PlaceLaws.{ModelHasTheLiving}
 
 -- ---- on any pack
@@ -51,6 +51,9 @@ model_has_the_living p f other =
     described_there p f
     ∙ ap is_some (file_read p f ∙ ap (λ b. cond (not b) (option_map (read_file f (file_bytes (sights p) f)) (leader (sights p) f)) None) other)
     ∙ some_map (read_file f (file_bytes (sights p) f)) (leader (sights p) f)
+
+pub read_entries_are_kept : ReadEntriesAreKept
+read_entries_are_kept = read_tidy
 
 -- ---- on a tidy pack
 pub items_are_slots : ItemsAreSlots

@@ -1,0 +1,9 @@
+pub mod Bare
+pub mod Fitting
+pub mod Found
+pub mod Misleading
+pub mod Open
+pub mod Staying
+pub mod TrueHints
+pub mod Walking
+pub mod Wanting
