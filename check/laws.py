@@ -27,7 +27,7 @@ QUESTIONS = [
     ("page once", BY_OPERATION, "carries_once"),
     ("free sectors", BY_OPERATION, "keeps_unclaimed_free|takes_no_sector|frees_its_pages|leaves_free_sectors"),
     ("names, places", BY_OPERATION, "leaves_no_name|takes_the_only_entry|keeps_places"),
-    ("other files", "laws_operation::others", "leaves_others"),
+    ("other files", "laws_lookup::others", "leaves_others"),
     ("system", "laws_line::spares", "leaves_the_system"),
     ("map", "laws_hint::changes", "marks_the_map|leaves_the_map"),
     ("room", "laws_line::lines", "leaves_room"),

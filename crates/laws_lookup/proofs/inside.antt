@@ -1,8 +1,15 @@
 pub mod Bare
+pub mod Before
+pub mod BeforeDirs
 pub mod Fitting
 pub mod Found
+pub mod LeftAlone
 pub mod Misleading
+pub mod Newer
+pub mod OneSlot
 pub mod Open
+pub mod Replacing
+pub mod Replacings
 pub mod Staying
 pub mod TrueHints
 pub mod Walking

@@ -46,6 +46,10 @@ NoSectorMisleads = (p : Pack) (events : List Event) (place : Place) (at : ℕ) (
 abbrev pub LinkMeansTheNextPage : Type 0
 LinkMeansTheNextPage = (p : Pack) (i : ℕ) (page : Page) → carried p i ≡ Some page → (page.number ≡ 0) ⊎ (word (sector_at p i).label 3 ≡ 512) → StandsAt p (Next i) (word (sector_at p i).label 0) (record { fid = page.fid; number = page.number + 1 })
 
+-- a hint word on the disk is one word, and means one page
+abbrev pub PlaceMeansOnePage : Type 0
+PlaceMeansOnePage = (p : Pack) (place : Place) (at bt : ℕ) (wanted other : Page) → IsOnDisk place → StandsAt p place at wanted → StandsAt p place bt other → (at ≡ bt) × (wanted ≡ other)
+
 -- ---- after some record writes
 -- a hint that stood before, of a page that each sector carries still which carried it, misled before where it misleads now
 abbrev pub HintMisledBefore : Type 0

@@ -1,6 +1,10 @@
+pub mod BeforeLaws
 pub mod DropLaws
 pub mod EnteringLaws
 pub mod HintLaws
 pub mod NameStayLaws
+pub mod NewNameLaws
+pub mod OtherLaws
+pub mod OwnLaws
 pub mod SlotLaws
 pub mod StayLaws

@@ -11,7 +11,7 @@ use Rattle.pack_model.specs.hints.Links.{dir_slots}
 use Rattle.pack_model.specs.hints.Misled.{IsOnDisk, Misled, StandsInEntry}
 use Rattle.pack_model.specs.operations.Commands.{values_writes}
 use Rattle.pack_model.specs.states.Whole.{Whole}
-use Rattle.laws_operation.specs.OtherLaws.{AreOfFile, KeepsPages, LeavesOthers}
+use Rattle.laws_lookup.specs.OtherLaws.{AreOfFile, KeepsPages, LeavesOthers}
 
 -- ---- entries of another directory
 -- its slots are the same, and so each entry that is looked up in it

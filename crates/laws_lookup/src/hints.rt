@@ -1,6 +1,6 @@
 //! Hints that mislead, and hints that never do.
 
-ghost use Rattle.laws_lookup.specs.HintLaws.{HeldAddressNeverMisleads, HintMisledBefore, HintNamesOneSector, LabelOfAnotherPageMisleads, LinkMeansTheNextPage, NoSectorMisleads, RootNeverMisleads, TrueHintsNeverMislead};
+ghost use Rattle.laws_lookup.specs.HintLaws.{HeldAddressNeverMisleads, HintMisledBefore, HintNamesOneSector, LabelOfAnotherPageMisleads, LinkMeansTheNextPage, NoSectorMisleads, PlaceMeansOnePage, RootNeverMisleads, TrueHintsNeverMislead};
 
 /// On a whole and tidy pack with true links no entry's address and no next link misleads.
 pub fn true_hints_never_mislead()
@@ -41,4 +41,9 @@ pub fn link_means_the_next_page()
 /// wanted carries it still.
 pub fn hint_misled_before()
     ensures { HintMisledBefore }
+{}
+
+/// A hint word on the disk is one word, and means one page.
+pub fn place_means_one_page()
+    ensures { PlaceMeansOnePage }
 {}

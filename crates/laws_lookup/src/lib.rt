@@ -9,9 +9,12 @@
 //! To cite a law: `use Rattle.laws_lookup.proofs.hints.Laws.{true_hints_never_mislead}`.
 #![tactic(auto)]
 
+pub mod before;
 pub mod dropping;
 pub mod entering;
 pub mod hints;
 pub mod names;
+pub mod others;
+pub mod own;
 pub mod slots;
 pub mod stays;

@@ -1,6 +1,7 @@
 pub mod Changing
 pub mod CloseLaw
 pub mod Commanding
+pub mod Concerning
 pub mod Cutting
 pub mod DirValue
 pub mod Dropped

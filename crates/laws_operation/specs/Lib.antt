@@ -12,7 +12,6 @@ pub mod LinkLaws
 pub mod NameLaws
 pub mod NameLinkLaws
 pub mod OnceLaws
-pub mod OtherLaws
 pub mod Outcomes
 pub mod PageLinkLaws
 pub mod PlaceLaws

@@ -29,7 +29,6 @@ pub mod leave;
 pub mod lengths;
 pub mod links;
 pub mod make;
-pub mod others;
 pub mod places;
 pub mod put;
 pub mod stamp;

@@ -25,9 +25,9 @@ use Rattle.pack_laws.proofs.Guarding.{front_from}
 use Rattle.pack_laws.proofs.Keys.{same_fid}
 use Rattle.laws_record.proofs.Carried.{values_carried}
 use Rattle.laws_record.proofs.Copying.{place_carried}
-use Rattle.laws_operation.proofs.others.Laws.{values_leave_others}
+use Rattle.laws_lookup.proofs.others.Laws.{values_leave_others}
 use Rattle.laws_operation.proofs.places.Laws.{carried_in_place, values_keep_places}
-use Rattle.laws_operation.specs.OtherLaws.{KeepsPages, LeavesOthers}
+use Rattle.laws_lookup.specs.OtherLaws.{KeepsPages, LeavesOthers}
 use Rattle.laws_lookup.specs.StayLaws.{AddressMisledBefore, EntriesOfAnotherDirectoryStand, LinkMisledBefore, PagesOfAnotherFileStay, SlotsOfAnotherDirectoryStay, ValuesLeaveNextLinks, ValuesMisledBefore}
 
 -- ---- another directory
@@ -132,7 +132,7 @@ values_leave_next_links p values i at wanted m =
     }
 
 -- a directory isn't a file that is none
-dir_apart : (d f : Fid) → is_directory d ≡ true → is_directory f ≡ false → is_fid d f ≡ false
+pub dir_apart : (d f : Fid) → is_directory d ≡ true → is_directory f ≡ false → is_fid d f ≡ false
 dir_apart d f dir ordinary = by (is_fid d f) refl
   where
     by : (b : Bool) → is_fid d f ≡ b → b ≡ false

@@ -37,7 +37,7 @@ use Rattle.laws_lookup.specs.HintLaws.{HasFullValues, HeldAddressNeverMisleads, 
 
 -- ---- a page that is carried
 -- its sector is a usable one
-within_pack : (p : Pack) (x : Page) (j : ℕ) → carried p j ≡ Some x → (0 < j) × (j < pages_of p.shape)
+pub within_pack : (p : Pack) (x : Page) (j : ℕ) → carried p j ≡ Some x → (0 < j) × (j < pages_of p.shape)
 within_pack p x j is =
     let usable : is_usable p.shape j (sector_at p j) ≡ true = (carried_parts p j x is).0 in (
       ltb-true 0 j (and_left (nat_lt 0 j) _ usable),
@@ -54,7 +54,7 @@ root_carried p whole =
     carried_shown p 1 (leader_page sys_dir) hidden (omega arith) (ap (carries_page sys_dir 0) shows ∙ is_fid-itself sys_dir)
 
 -- its file lives
-page_lives : (p : Pack) → Whole p → (x : Page) (i : ℕ) → carried p i ≡ Some x → lives (sights p) x.fid ≡ true
+pub page_lives : (p : Pack) → Whole p → (x : Page) (i : ℕ) → carried p i ≡ Some x → lives (sights p) x.fid ≡ true
 page_lives p whole x i is = by (whole.files x.fid) x.number (carried_shows p i x is)
   where
     by : FileWhole (sights p) x.fid → (n : ℕ) → carries_page x.fid n (get_or (sights p) i hidden) ≡ true → lives (sights p) x.fid ≡ true
@@ -93,7 +93,7 @@ next_there p whole sized x i is full = by x.number refl full
         let more = full_page_is_not_the_last p x.fid k i whole counts in
         rw e (omega (arith, more))
 
-some_of : {X : Type 0} (r : Option X) → is_some r ≡ true → (x : X) × (r ≡ Some x)
+pub some_of : {X : Type 0} (r : Option X) → is_some r ≡ true → (x : X) × (r ≡ Some x)
 some_of None e = cc
 some_of (Some x) e = (x, refl)
 

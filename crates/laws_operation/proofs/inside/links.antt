@@ -13,7 +13,6 @@ pub mod FileGrowth
 pub mod FileValues
 pub mod Framing
 pub mod Growing
-pub mod LeftAlone
 pub mod Linked
 pub mod Making
 pub mod NamedAlone

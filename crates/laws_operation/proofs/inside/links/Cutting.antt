@@ -86,7 +86,7 @@ module _ (p : Pack) (wp : Whole p) (tp : Tidy p) (f : Fid) (n at : ℕ) (label l
   none_at = bear_none (sights p) f (suc (page_of_byte n)) later h.later_are (page_of_byte n) at (omega arith) h.sector
 
   -- it has the label
-  label_is : (sector_at (after p (cut_writes at label (sector_at p at).value later)) at).label ≡ label
+  pub label_is : (sector_at (after p (cut_writes at label (sector_at p at).value later)) at).label ≡ label
   label_is = ap (λ s. s.label) (releases_apart later middle at none_at)
       ∙ relabel_label p at label (sector_at p at).value (subst (λ k. at < k) (length-sights p) (carried_within p at (page_number f (page_of_byte n)) was))
 
@@ -121,13 +121,13 @@ module _ (p : Pack) (wp : Whole p) (tp : Tidy p) (f : Fid) (n at : ℕ) (label l
   same_places m l = places_alike p (after p events) wp whole_then (page_number f m) (λ i is. forth m i l is) (back m)
 
   -- and those before the last their words
-  same_front : (m i : ℕ) → m < page_of_byte n → place (sights p) f m ≡ Some i → (sector_at (after p (cut_writes at label (sector_at p at).value later)) i).label ≡ (sector_at p i).label
+  pub same_front : (m i : ℕ) → m < page_of_byte n → place (sights p) f m ≡ Some i → (sector_at (after p (cut_writes at label (sector_at p at).value later)) i).label ≡ (sector_at p i).label
   same_front m i l e =
       let ne : i ≢ at = λ same. let one = (one_page (sights p) f f m (page_of_byte n) at (e ∙ ap Some same) h.sector).1 in omega arith in
       ap (λ s. s.label) (releases_apart later middle i (bear_none (sights p) f (suc (page_of_byte n)) later h.later_are m i (omega arith) e) ∙ relabel_apart p at label (sector_at p at).value i ne)
 
   -- no page comes behind the last
-  ends_there : (m j : ℕ) → page_of_byte n < m → place (sights (after p (cut_writes at label (sector_at p at).value later))) f m ≡ Some j → ⊥
+  pub ends_there : (m j : ℕ) → page_of_byte n < m → place (sights (after p (cut_writes at label (sector_at p at).value later))) f m ≡ Some j → ⊥
   ends_there zero j l e = omega arith
   ends_there (suc m) j l e =
       let s = sector_at (after p events) at in

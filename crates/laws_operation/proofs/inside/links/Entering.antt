@@ -121,11 +121,11 @@ module _ (p : Pack) (w : Whole p) (t : Tidy p) (d : Fid) (name : List ℕ) (f : 
   before_values = values_first p (entry_room a old at next_at) words
 
   -- they are all record writes
-  events_are : values_writes (values_first p (entry_room a old at next_at) words ++ (at, entry_value p (entry_room a old at next_at) words) ∷ []) ≡ enter_writes (values_first p (entry_room a old at next_at) words) at (entry_value p (entry_room a old at next_at) words)
+  pub events_are : values_writes (values_first p (entry_room a old at next_at) words ++ (at, entry_value p (entry_room a old at next_at) words) ∷ []) ≡ enter_writes (values_first p (entry_room a old at next_at) words) at (entry_value p (entry_room a old at next_at) words)
   events_are = values-append before_values ((at, entry_value p (entry_room a old at next_at) words) ∷ [])
 
   -- the pack at the end
-  end_is : after p (values_writes (values_first p (entry_room a old at next_at) words ++ (at, entry_value p (entry_room a old at next_at) words) ∷ []))
+  pub end_is : after p (values_writes (values_first p (entry_room a old at next_at) words ++ (at, entry_value p (entry_room a old at next_at) words) ∷ []))
       ≡ dir_written (after (joined p (entry_room a old at next_at)) (values_writes (overlapping (joined p (entry_room a old at next_at)) (all_words a) words next_at))) (all_words a) at (near (all_words a) words)
   end_is =
       let x : List (ℕ × List ℕ) = joining p (entry_room a old at next_at) in
@@ -133,6 +133,11 @@ module _ (p : Pack) (w : Whole p) (t : Tidy p) (d : Fid) (name : List ℕ) (f : 
       let twice : after first (values_writes y) ≡ after p (values_writes (x ++ y)) = sym (after-append p (values_writes x) (values_writes y)) ∙ ap (after p) (sym (values-append x y)) in
       ap (after p) events_are ∙ after-append p (values_writes before_values) (value_writes at (entry_value p (entry_room a old at next_at) words))
       ∙ ap (λ q. after q (value_writes at (put_at (in_page (all_words a)) (near (all_words a) words) (sector_at q at).value))) (sym twice)
+
+  -- the words around the room stand as they did, and in it the entry's
+  pub entered_words_apart : (q : Apart (dir_words p d) (dir_words (dir_written (after (joined p (entry_room a old at next_at)) (values_writes (overlapping (joined p (entry_room a old at next_at)) (all_words a) words next_at))) (all_words a) at (near (all_words a) words)) d) (all_words a) (all_words old))
+      × (word (dir_words (dir_written (after (joined p (entry_room a old at next_at)) (values_writes (overlapping (joined p (entry_room a old at next_at)) (all_words a) words next_at))) (all_words a) at (near (all_words a) words)) d) (all_words a + 5) ≡ word words 5)
+  entered_words_apart = let l = long in let s = h.words_are.size in (apart_twice (apart_twice stage1.apart stage2.0.apart) stage3.0.apart, stage3.1 5 (omega arith))
 
   -- the addresses of its slots are true
   own_true : place (sights p) f 0 ≡ Some (word words (address_word 0)) → LinksTrue p → (k : ℕ) → k ≡ all_words old - entry_length (length name)
@@ -153,7 +158,7 @@ module _ (p : Pack) (w : Whole p) (t : Tidy p) (d : Fid) (name : List ℕ) (f : 
       subst (λ x. AllTrue (sights p) (dir_words third d) 0 (a ++ entry f name ∷ x)) (sym (left_split k b)) all
 
   -- the sectors are of the directory
-  values_of : AllOf d p (values_first p (entry_room a old at next_at) words ++ (at, entry_value p (entry_room a old at next_at) words) ∷ [])
+  pub values_of : AllOf d p (values_first p (entry_room a old at next_at) words ++ (at, entry_value p (entry_room a old at next_at) words) ∷ [])
   values_of =
       let of_at : OfOne d p at = of_carried d (page_of_word (all_words a)) p at (place_carried p (page_number d (page_of_word (all_words a))) at h.sector) in
       let next : (page_of_word (all_words a + length words - 1) == page_of_word (all_words a)) ≡ false → OfOne d p next_at = λ e.
@@ -163,6 +168,17 @@ module _ (p : Pack) (w : Whole p) (t : Tidy p) (d : Fid) (name : List ℕ) (f : 
       (of_one d p (item_words (get_or old 0 (space 0)) == all_words old) (at, freed_value (all_words a) (all_words old) (sector_at p at).value) (λ e. of_at))
       (of_one d p (page_of_word (all_words a + length words - 1) == page_of_word (all_words a)) (next_at, put_at 0 (later (all_words a) words) (sector_at first next_at).value) next))
       (of_at, tt)
+
+-- the slots of its directory then
+pub entered_slots : (p : Pack) (d : Fid) (name : List ℕ) (f : Fid) (a old b : List Item) (left : ℕ) (words : List ℕ) (at next_at : ℕ) (w : Whole p) (t : Tidy p) (h : MayEnterAt p d name f a old b left words at next_at)
+    → dir_items (read_as (after p (enter_writes (values_first p (entry_room a old at next_at) words) at (entry_value p (entry_room a old at next_at) words)))) d ≡ a ++ entry f name ∷ left_over (all_words old - item_words (entry f name)) b
+entered_slots p d name f a old b left words at next_at w t h =
+    let out = enter_carries_out p d name f a old b left words at next_at w t h in
+    let lead = has_leader (sights p) d h.living in
+    let gets : get (read_as p).files d ≡ Some (directory lead.0 (dir_items (read_as p) d)) =
+    read_there p d lead.0 t (not_descriptor d h.directory) lead.1 ∙ ap (λ c. Some (record { leader = lead.0; body = cond c (items_of (slots (dir_words p d))) (data_of (file_bytes (sights p) d)) })) h.directory
+    ∙ ap (λ is. Some (directory lead.0 is)) (sym (items_are p t d h.living h.directory)) in
+    ap (λ m. dir_items m d) out.ends ∙ entered_items (read_as p) d f name lead.0 (dir_items (read_as p) d) gets ∙ entered_there (entry f name) (dir_items (read_as p) d) a old b h.room
 
 -- an entering
 pub enter_keeps_links : EnterKeepsLinks
@@ -177,13 +193,7 @@ enter_keeps_links p d name f a old b left words at next_at w t h address links =
     let of : AllOf d p vs = values_of p w t d name f a old b left words at next_at h in
     let all : AllConcern d p (values_writes vs) = values_concern d vs p of in
     let k : ℕ = all_words old - item_words (entry f name) in
-    let lead = has_leader (sights p) d h.living in
-    let gets : get (read_as p).files d ≡ Some (directory lead.0 (dir_items (read_as p) d)) =
-    read_there p d lead.0 t (not_descriptor d h.directory) lead.1 ∙ ap (λ c. Some (record { leader = lead.0; body = cond c (items_of (slots (dir_words p d))) (data_of (file_bytes (sights p) d)) })) h.directory
-    ∙ ap (λ is. Some (directory lead.0 is)) (sym (items_are p t d h.living h.directory)) in
-    let reads : read_as q ≡ step (read_as p) (enter d name f) = ap (λ x. read_as (after p x)) es ∙ out.ends in
-    let items : dir_items (read_as q) d ≡ a ++ entry f name ∷ left_over k b =
-    ap (λ m. dir_items m d) reads ∙ entered_items (read_as p) d f name lead.0 (dir_items (read_as p) d) gets ∙ entered_there (entry f name) (dir_items (read_as p) d) a old b h.room in
+    let items : dir_items (read_as q) d ≡ a ++ entry f name ∷ left_over k b = ap (λ x. dir_items (read_as (after p x)) d) es ∙ entered_slots p d name f a old b left words at next_at w t h in
     let words_are : dir_words q d ≡ _ = ap (λ x. dir_words x d) (end_is p w t d name f a old b left words at next_at h) in
     let own : AllTrue (sights p) (dir_words q d) 0 (dir_items (read_as q) d) =
     subst (λ ws. AllTrue (sights p) ws 0 (dir_items (read_as q) d)) (sym words_are) (subst (AllTrue (sights p) _ 0) (sym items) (own_true p w t d name f a old b left words at next_at h address links k refl)) in

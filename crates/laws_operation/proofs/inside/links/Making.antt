@@ -64,11 +64,11 @@ module _ (p : Pack) (w : Whole p) (t : Tidy p) (f : Fid) (name : List ℕ) (mome
   paged_is = claim_apart paged head.at page.at head.label head.value (λ e. h.two (sym e))
 
   -- its label stands
-  page_label : (sector_at (after p (make_writes page head)) page.at).label ≡ page.label
+  pub page_label : (sector_at (after p (make_writes page head)) page.at).label ≡ page.label
   page_label = ap (λ s. s.label) paged_is ∙ claim_label p page.at page.label page.value (free_parts p page.at h.page_free).0
 
   -- and it is carried
-  page_there : carried (after p (make_writes page head)) page.at ≡ Some (page_number f 1)
+  pub page_there : carried (after p (make_writes page head)) page.at ≡ Some (page_number f 1)
   page_there = carried_same paged done page.at refl paged_is ∙ claim_here p page.at page.label page.value (page_number f 1) (free_parts p page.at h.page_free).0 h.page_is
 
   -- and then the leader
@@ -76,7 +76,7 @@ module _ (p : Pack) (w : Whole p) (t : Tidy p) (f : Fid) (name : List ℕ) (mome
   usable_head = ap (is_usable p.shape head.at) (claim_apart p page.at head.at page.label page.value h.two) ∙ (free_parts p head.at h.leader_free).0
 
   -- its label stands too
-  head_label : (sector_at (after p (make_writes page head)) head.at).label ≡ head.label
+  pub head_label : (sector_at (after p (make_writes page head)) head.at).label ≡ head.label
   head_label = claim_label paged head.at head.label head.value usable_head
 
   -- and it is carried too
@@ -97,7 +97,7 @@ module _ (p : Pack) (w : Whole p) (t : Tidy p) (f : Fid) (name : List ℕ) (mome
   whole_then = (make_law p w t f name moment page head h).meets.whole
 
   -- no other page comes
-  only_two : (m i : ℕ) → place (sights (after p (make_writes page head))) f m ≡ Some i → ((m ≡ 0) × (i ≡ head.at)) ⊎ ((m ≡ 1) × (i ≡ page.at))
+  pub only_two : (m i : ℕ) → place (sights (after p (make_writes page head))) f m ≡ Some i → ((m ≡ 0) × (i ≡ head.at)) ⊎ ((m ≡ 1) × (i ≡ page.at))
   only_two m i e = elim (then_is i (page_number f m) (place_carried done (page_number f m) i e)) [
     | inl a ↦ inl (number_one f m 0 head.label h.leader_is a.1, a.0)
     | inr b ↦ elim b [

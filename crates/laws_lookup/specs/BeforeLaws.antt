@@ -1,0 +1,50 @@
+-- Hints that mislead after a whole operation misled before it.
+use Rattle.std.specs.Prelude.{List, Some, [], false, ℕ, ◌∷◌, ◌≡◌}
+use Rattle.alto_words.specs.Fid.{is_fid}
+use Rattle.alto_words.specs.declared.fid.Fid.{Fid}
+use Rattle.disk_records.specs.Commands.{value_writes}
+use Rattle.disk_records.specs.Packs.{Pack, after, sector_at}
+use Rattle.disk_records.specs.Words.{word}
+use Rattle.disk_records.specs.declared.records.Page.{Page}
+use Rattle.disk_records.specs.declared.records.Place.{Place}
+use Rattle.pack_model.specs.hints.Misled.{IsOnDisk, Misled}
+use Rattle.pack_model.specs.operations.Commands.{first_page_claim, leader_claim}
+use Rattle.pack_model.specs.operations.Entering.{entry_value, values_first}
+use Rattle.pack_model.specs.operations.Operations.{cut_writes, enter_writes, go_writes, make_writes}
+use Rattle.pack_model.specs.operations.PageWords.{freed_value}
+use Rattle.pack_model.specs.reading.Files.{place}
+use Rattle.pack_model.specs.reading.Sights.{sights}
+use Rattle.pack_model.specs.reading.SlotWords.{address_word}
+use Rattle.pack_model.specs.reading.Slots.{Item, all_words, item_words}
+use Rattle.pack_model.specs.reading.Slots.Item.{entry}
+use Rattle.pack_model.specs.states.Whole.{Tidy, Whole}
+use Rattle.laws_operation.specs.ByteLaws.{MayCut}
+use Rattle.laws_operation.specs.LifeLaws.{MayDrop, MayMake}
+use Rattle.laws_operation.specs.NameLaws.{MayEnterAt, entry_room}
+use Rattle.laws_record.specs.DirLaws.{Frees}
+use Rattle.laws_lookup.specs.StayLaws.{MisledBefore}
+
+-- a leaving, and the last value of a drop, after which the pack is whole
+abbrev pub LeaveMisledBefore : Type 0
+LeaveMisledBefore = (p : Pack) (d : Fid) (at : ℕ) (a b : List Item) (f : Fid) (own : List ℕ) → let value : List ℕ = freed_value (all_words a) (item_words (entry f own)) (sector_at p at).value in
+    Whole p → Whole (after p (value_writes at value)) → Frees p d at a (entry f own ∷ []) b → MisledBefore p (value_writes at value)
+
+-- an entering whose words name the sector of the file's leader
+abbrev pub EnterMisledBefore : Type 0
+EnterMisledBefore = (p : Pack) (d : Fid) (name : List ℕ) (f : Fid) (a old b : List Item) (left : ℕ) (words : List ℕ) (at next_at : ℕ) → Whole p → Tidy p → MayEnterAt p d name f a old b left words at next_at
+    → place (sights p) f 0 ≡ Some (word words (address_word 0))
+    → MisledBefore p (enter_writes (values_first p (entry_room a old at next_at) words) at (entry_value p (entry_room a old at next_at) words))
+
+-- a cut
+abbrev pub CutMisledBefore : Type 0
+CutMisledBefore = (p : Pack) (f : Fid) (n at : ℕ) (label later : List ℕ) → Whole p → Tidy p → MayCut p f n at label later → MisledBefore p (cut_writes at label (sector_at p at).value later)
+
+-- a make with the words that it writes
+abbrev pub MakeMisledBefore : Type 0
+MakeMisledBefore = (p : Pack) (f : Fid) (name : List ℕ) (moment leader_at page_at : ℕ) → let page = first_page_claim p.shape f leader_at page_at in let leader = leader_claim p.shape f name moment leader_at page_at in
+    Whole p → Tidy p → MayMake p f name moment page leader → MisledBefore p (make_writes page leader)
+
+-- the releases of a drop, of hints for other files: the file's entry is left, and its address misleads now
+abbrev pub ReleaseMisledBefore : Type 0
+ReleaseMisledBefore = (p : Pack) (f : Fid) (at : ℕ) (pages : List ℕ) (where_from : Place) (bt : ℕ) (wanted : Page) → Whole p → Tidy p → MayDrop p f at pages → IsOnDisk where_from → is_fid wanted.fid f ≡ false
+    → Misled (after p (go_writes at pages)) where_from bt wanted → Misled p where_from bt wanted

@@ -1,5 +1,0 @@
-use Rattle.laws_operation.proofs.inside.links.LeftAlone.{place_is_of_its_file}
-use Rattle.laws_operation.proofs.others.place_is_of_its_file.Goals as goal
-
-pub returns : goal.returns
-returns c = place_is_of_its_file
