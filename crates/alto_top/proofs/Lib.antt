@@ -4,7 +4,6 @@ pub mod Counting
 pub mod Ending
 pub mod Grammar
 pub mod Histories
-pub mod InPlace
 pub mod KeptLines
 pub mod KeptPages
 pub mod LineEnds

@@ -24,7 +24,7 @@ put_nothing at page offset bytes old new fault first =
     record { some = rw none tt; carries = λ some. absurd (some none); ok = tt }
 
 -- a read that wasn't done: nothing is written
-pub put_unread : (at : ℕ) (page : Page) (offset : ℕ) (bytes : List ℕ) (old new : Taped) (error : GuardError) → Guarded {T = PageInfo} (Carries at page) at [] 1 old new (Err error) → PutDone at page offset bytes old new (not_done error)
+pub put_unread : (at : ℕ) (page : Page) (offset : ℕ) (bytes : List ℕ) (old new : Taped) (error : GuardError) → Guarded {T = PageInfo} (Carries at page) at [] [] 1 old new (Err error) → PutDone at page offset bytes old new (not_done error)
 put_unread at page offset bytes old new (guard.Wrong found) guarded =
     let none = none_of_none (added old new) guarded.some in
     record { some = rw none tt; carries = λ some. absurd (some none); ok = guarded.wrong.failed }

@@ -1,6 +1,7 @@
--- Faults by their causes: each but want of memory has its own count risen.
-use Rattle.std.specs.Prelude.{Result, Ok, Err}
-use Rattle.disk_records.specs.Tapes.{Taped, Rose}
+-- Faults by their causes: each but out of memory has its own count risen.
+use Rattle.std.specs.Prelude.{Result}
+use Rattle.disk_records.specs.Causes.{Cause, disk, keyboard, display, other, IsCause, HasCause, of_disk, of_keyboard, of_display}
+use Rattle.disk_records.specs.Tapes.{Taped}
 use Rattle.label_check.specs.declared.errors.LookError.{LookError}
 use Rattle.label_check.specs.declared.errors.LookError.TheVariants as look
 use Rattle.pack_reading.specs.declared.error.ReadingError.{ReadingError}
@@ -10,56 +11,46 @@ use Rattle.alto_top.specs.declared.status.Fault.TheVariants.{Disk, Key, Display,
 use Rattle.alto_top.specs.declared.status.Status.{Status}
 use Rattle.alto_top.specs.declared.status.Status.TheVariants as status
 
-abbrev pub FaultCause : Taped → Taped → Fault → Type 0
-FaultCause old new Disk = Rose old.disk_faults new.disk_faults
-FaultCause old new Key = Rose old.key_faults new.key_faults
-FaultCause old new Display = Rose old.show_faults new.show_faults
-FaultCause old new Memory = Unit {0}
+abbrev pub cause_of_fault : Fault → Cause
+cause_of_fault Disk = disk
+cause_of_fault Key = keyboard
+cause_of_fault Display = display
+cause_of_fault Memory = other
 
-abbrev pub HasCause : {T : Type 0} → Taped → Taped → Result T Fault → Type 0
-HasCause old new (Ok x) = Unit {0}
-HasCause old new (Err fault) = FaultCause old new fault
+abbrev pub cause_of_status : Status → Cause
+cause_of_status status.Done = other
+cause_of_status status.Usage = other
+cause_of_status status.DiskFault = disk
+cause_of_status status.KeyFault = keyboard
+cause_of_status status.DisplayFault = display
+cause_of_status status.Memory = other
+
+abbrev pub FaultCause : Taped → Taped → Fault → Type 0
+FaultCause old new fault = IsCause old new (cause_of_fault fault)
+
+abbrev pub HasFaultCause : {T : Type 0} → Taped → Taped → Result T Fault → Type 0
+HasFaultCause old new result = HasCause cause_of_fault old new result
 
 -- a call that is given a disk and no console: the disk alone may fail
 abbrev pub DiskFaultCause : Taped → Taped → Fault → Type 0
-DiskFaultCause old new Disk = Rose old.disk_faults new.disk_faults
-DiskFaultCause old new Key = ⊥
-DiskFaultCause old new Display = ⊥
-DiskFaultCause old new Memory = Unit {0}
+DiskFaultCause old new fault = IsCause old new (of_disk (cause_of_fault fault))
 
 abbrev pub HasDiskCause : {T : Type 0} → Taped → Taped → Result T Fault → Type 0
-HasDiskCause old new (Ok x) = Unit {0}
-HasDiskCause old new (Err fault) = DiskFaultCause old new fault
+HasDiskCause old new result = HasCause (λ fault. of_disk (cause_of_fault fault)) old new result
 
 -- a call that reads keys
 abbrev pub KeyFaultCause : Taped → Taped → Fault → Type 0
-KeyFaultCause old new Disk = ⊥
-KeyFaultCause old new Key = Rose old.key_faults new.key_faults
-KeyFaultCause old new Display = ⊥
-KeyFaultCause old new Memory = Unit {0}
+KeyFaultCause old new fault = IsCause old new (of_keyboard (cause_of_fault fault))
 
 abbrev pub HasKeyCause : {T : Type 0} → Taped → Taped → Result T Fault → Type 0
-HasKeyCause old new (Ok x) = Unit {0}
-HasKeyCause old new (Err fault) = KeyFaultCause old new fault
+HasKeyCause old new result = HasCause (λ fault. of_keyboard (cause_of_fault fault)) old new result
 
 -- a call that shows bytes
-abbrev pub ShowFaultCause : Taped → Taped → Fault → Type 0
-ShowFaultCause old new Disk = ⊥
-ShowFaultCause old new Key = ⊥
-ShowFaultCause old new Display = Rose old.show_faults new.show_faults
-ShowFaultCause old new Memory = Unit {0}
-
 abbrev pub HasShowCause : {T : Type 0} → Taped → Taped → Result T Fault → Type 0
-HasShowCause old new (Ok x) = Unit {0}
-HasShowCause old new (Err fault) = ShowFaultCause old new fault
+HasShowCause old new result = HasCause (λ fault. of_display (cause_of_fault fault)) old new result
 
 abbrev pub HasStatusCause : Taped → Taped → Status → Type 0
-HasStatusCause old new status.Done = Unit {0}
-HasStatusCause old new status.Usage = Unit {0}
-HasStatusCause old new status.DiskFault = Rose old.disk_faults new.disk_faults
-HasStatusCause old new status.KeyFault = Rose old.key_faults new.key_faults
-HasStatusCause old new status.DisplayFault = Rose old.show_faults new.show_faults
-HasStatusCause old new status.Memory = Unit {0}
+HasStatusCause old new answer = IsCause old new (cause_of_status answer)
 
 abbrev pub status_of : Fault → Status
 status_of Disk = status.DiskFault

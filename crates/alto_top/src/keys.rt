@@ -18,9 +18,9 @@ const LINE_END: u8 = 10;
 
 /// Takes one key. None exactly at the end of input.
 fn next_key<C: Console>(console: &mut C) -> Result<Option<u8>, Fault>
-    ensures alone { KeysAlone (C.tape console.old) (C.tape console.new) }
-    ensures cause { HasKeyCause (C.tape console.old) (C.tape console.new) result }
     ensures key { IsTrue C.told → TookKey (C.tape console.old).keys (C.tape console.new).keys result }
+    ensures cause { HasKeyCause (C.tape console.old) (C.tape console.new) result }
+    ensures alone { KeysAlone (C.tape console.old) (C.tape console.new) }
 {
     let mut buf = [0u8; 1];
     match console.read(&mut buf) {
@@ -50,10 +50,10 @@ pub fn read_line<C: Console>(
     console: &mut C,
     left: &mut u32,
 ) -> Result<Option<Vec<u8>>, Fault>
-    ensures alone { KeysAlone (C.tape console.old) (C.tape console.new) }
-    ensures cause { HasKeyCause (C.tape console.old) (C.tape console.new) result }
     ensures left { left.new ≤ left.old }
     ensures line { IsTrue C.told → TookLine (C.tape console.old).keys (C.tape console.new).keys left.old left.new result }
+    ensures cause { HasKeyCause (C.tape console.old) (C.tape console.new) result }
+    ensures alone { KeysAlone (C.tape console.old) (C.tape console.new) }
 {
     let mut line = Vec::new(alloc);
     let before = *left;

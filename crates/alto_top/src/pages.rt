@@ -2,11 +2,9 @@
 ghost use Rattle.std.specs.Prelude.{◌≡◌, ◌≤◌};
 
 use crate::status::Fault;
+use disk_records::PAGE_BYTES;
 use std::alloc::Global;
 use std::collections::BTreeMap;
-
-/// A full page has 512 bytes.
-const PAGE_BYTES: u16 = 512;
 
 /// Where a page is, and how many of its bytes count.
 #[derive(Clone, Copy, Debug, PartialEq, Eq)]

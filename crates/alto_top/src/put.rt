@@ -2,29 +2,12 @@
 ghost use Rattle.std.specs.Prelude.{◌≡◌, ◌≤◌, ◌<◌, ◌+◌, ◌^◌, length, All, IsTrue, IsErrOf};
 ghost use Rattle.disk_records.specs.Addresses.{pages_of};
 ghost use Rattle.disk_records.specs.Tapes.{DiskAlone};
-ghost use Rattle.pack_model.specs.reading.Bytes.{bytes_of, words_of, put_at};
 ghost use Rattle.alto_top.specs.Faults.{HasDiskCause};
 ghost use Rattle.alto_top.specs.Putting.{PutDone, not_done};
 
 use crate::status::Fault;
-use disk_records::{Disk, Page, Sector};
+use disk_records::{Disk, Page, Sector, put_in_words};
 use label_check::{GuardError, read_page, write_value};
-
-/// Puts bytes into the words of a page, the high byte of a word first.
-fn put_in_words(value: &mut [u16; 256], offset: usize, bytes: &[u8])
-    requires { offset + length bytes.now ≤ 512 }
-    ensures { value.new ≡ words_of (put_at offset bytes.now (bytes_of value.old)) }
-{
-    for (i, byte) in bytes.iter().enumerate() {
-        let place = offset + i;
-        let word = value[place / 2];
-        value[place / 2] = if place % 2 == 0 {
-            *byte as u16 * 256 + word % 256
-        } else {
-            word / 256 * 256 + *byte as u16
-        };
-    }
-}
 
 /// What a guarded call that wasn't done answers: false where the sector doesn't carry the page.
 fn not_done(error: GuardError) -> Result<bool, Fault>
@@ -52,17 +35,17 @@ pub fn put_in_page<D: Disk>(
     requires first { 1 ≤ at }
     requires place { at < pages_of (D.tape disk.old).form }
     requires fits { offset + length bytes.now ≤ 512 }
-    ensures alone { DiskAlone (D.tape disk.old) (D.tape disk.new) }
-    ensures cause { HasDiskCause (D.tape disk.old) (D.tape disk.new) result }
     ensures done { IsTrue D.told → PutDone at page offset bytes.now (D.tape disk.old) (D.tape disk.new) result }
-    ensures runs { IsTrue D.told → (D.tape disk.new).runs ≤ (D.tape disk.old).runs + 3 }
+    ensures cause { HasDiskCause (D.tape disk.old) (D.tape disk.new) result }
     ensures want { IsTrue D.told → IsErrOf result Fault.Memory → (D.tape disk.old).spare < 1 }
+    ensures alone { DiskAlone (D.tape disk.old) (D.tape disk.new) }
+    ensures runs { IsTrue D.told → (D.tape disk.new).runs ≤ (D.tape disk.old).runs + 3 }
 {
     if let Err(error) = read_page(disk, at, page, buf) {
         return not_done(error);
     }
     let mut value = buf.value;
-    put_in_words(&mut value, offset, bytes);
+    put_in_words(&mut value, offset, bytes, &[]);
     match write_value(disk, at, page, &value) {
         Ok(()) => Ok(true),
         Err(error) => not_done(error),

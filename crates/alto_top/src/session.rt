@@ -7,7 +7,7 @@ ghost use Rattle.pack_model.specs.reading.Files.{file_bytes};
 ghost use Rattle.pack_model.specs.reading.Stored.{stored_files};
 ghost use Rattle.pack_model.specs.sessions.Moves.{Does};
 ghost use Rattle.pack_model.specs.operations.Puts.{putting};
-ghost use Rattle.alto_top.specs.Faults.{HasCause, HasDiskCause, HasShowCause, HasStatusCause};
+ghost use Rattle.alto_top.specs.Faults.{HasFaultCause, HasDiskCause, HasShowCause, HasStatusCause};
 ghost use Rattle.alto_top.specs.Patches.{put_of, puts_at, puts_of, puts_of_patch, reply_within, reply_to, reply_to_patch, text_of, is_patched, lie_in_one_page};
 ghost use Rattle.alto_top.specs.Keys.{ShownAll};
 ghost use Rattle.alto_top.specs.Sweeps.{HoldsPages, AreWithin, bytes_kept};
@@ -54,10 +54,10 @@ fn put_bytes<D: Disk>(
     requires within { AreWithin (pages_of (D.tape disk.old).form) pages.now }
     requires length { patch.now.offset + length patch.now.bytes ≤ bytes_kept pages.now }
     requires pages { IsTrue D.told → HoldsPages (sights (pack (D.tape disk.old))) fid pages.now }
-    ensures alone { DiskAlone (D.tape disk.old) (D.tape disk.new) }
-    ensures cause { HasDiskCause (D.tape disk.old) (D.tape disk.new) result }
     ensures does { IsTrue D.told → Does putting (pack (D.tape disk.old)) (added (D.tape disk.old) (D.tape disk.new)) (put_of patch.now fid patch.now.bytes) result }
     ensures reply { IsTrue D.told → IfOk result (λ reply. reply ≡ Done) }
+    ensures cause { HasDiskCause (D.tape disk.old) (D.tape disk.new) result }
+    ensures alone { DiskAlone (D.tape disk.old) (D.tape disk.new) }
     ensures runs { IsTrue D.told → (D.tape disk.new).runs ≤ (D.tape disk.old).runs + 3 }
 {
     let number = (patch.offset / 512 + 1) as u16;
@@ -86,10 +86,10 @@ fn patch_pages<D: Disk>(
     requires one_page { lie_in_one_page patch.now.offset patch.now.bytes ≡ true }
     requires within { AreWithin (pages_of (D.tape disk.old).form) pages.now }
     requires pages { IsTrue D.told → HoldsPages (sights (pack (D.tape disk.old))) fid pages.now }
-    ensures alone { DiskAlone (D.tape disk.old) (D.tape disk.new) }
-    ensures cause { HasDiskCause (D.tape disk.old) (D.tape disk.new) result }
     ensures does { IsTrue D.told → Does putting (pack (D.tape disk.old)) (added (D.tape disk.old) (D.tape disk.new)) (puts_at patch.now fid (reply_within patch.now (length (file_bytes (sights (pack (D.tape disk.old))) fid)))) result }
     ensures reply { IsTrue D.told → IfOk result (λ reply. reply ≡ reply_within patch.now (length (file_bytes (sights (pack (D.tape disk.old))) fid))) }
+    ensures cause { HasDiskCause (D.tape disk.old) (D.tape disk.new) result }
+    ensures alone { DiskAlone (D.tape disk.old) (D.tape disk.new) }
     ensures runs { IsTrue D.told → (D.tape disk.new).runs ≤ (D.tape disk.old).runs + 3 }
 {
     let length = pages.length();
@@ -105,10 +105,10 @@ fn patch_pages<D: Disk>(
 
 /// Obeys a patch: the file of least full name with the serial, its pages, the reply.
 fn obey_patch<D: Disk>(alloc: Global, disk: &mut D, patch: &Patch) -> Result<Reply, Fault>
-    ensures alone { DiskAlone (D.tape disk.old) (D.tape disk.new) }
-    ensures cause { HasDiskCause (D.tape disk.old) (D.tape disk.new) result }
     ensures does { IsTrue D.told → Does putting (pack (D.tape disk.old)) (added (D.tape disk.old) (D.tape disk.new)) (puts_of_patch (stored_files (pack (D.tape disk.old))) (Some patch.now)) result }
     ensures reply { IsTrue D.told → IfOk result (λ reply. reply ≡ reply_to_patch (stored_files (pack (D.tape disk.old))) (Some patch.now)) }
+    ensures cause { HasDiskCause (D.tape disk.old) (D.tape disk.new) result }
+    ensures alone { DiskAlone (D.tape disk.old) (D.tape disk.new) }
     ensures runs { IsTrue D.told → (D.tape disk.new).runs ≤ (D.tape disk.old).runs + runs_of_line (D.tape disk.old) }
 {
     let mut buf = Sector::ZEROS;
@@ -125,10 +125,10 @@ fn obey_patch<D: Disk>(alloc: Global, disk: &mut D, patch: &Patch) -> Result<Rep
 /// Does what a line asks for, and answers the reply that is to be shown.
 #[tactic(auto, using(crate::proofs::Obeying::does_none))]
 fn act<D: Disk>(alloc: Global, disk: &mut D, line: &[u8]) -> Result<Reply, Fault>
-    ensures alone { DiskAlone (D.tape disk.old) (D.tape disk.new) }
-    ensures cause { HasDiskCause (D.tape disk.old) (D.tape disk.new) result }
     ensures does { IsTrue D.told → Does putting (pack (D.tape disk.old)) (added (D.tape disk.old) (D.tape disk.new)) (puts_of (stored_files (pack (D.tape disk.old))) line.now) result }
     ensures reply { IsTrue D.told → IfOk result (λ reply. reply ≡ reply_to (stored_files (pack (D.tape disk.old))) line.now) }
+    ensures cause { HasDiskCause (D.tape disk.old) (D.tape disk.new) result }
+    ensures alone { DiskAlone (D.tape disk.old) (D.tape disk.new) }
     ensures runs { IsTrue D.told → (D.tape disk.new).runs ≤ (D.tape disk.old).runs + runs_of_line (D.tape disk.old) }
 {
     match read_patch(alloc, line)? {
@@ -139,9 +139,9 @@ fn act<D: Disk>(alloc: Global, disk: &mut D, line: &[u8]) -> Result<Reply, Fault
 
 /// Shows these bytes.
 pub fn show_all<C: Console>(console: &mut C, bytes: &[u8]) -> Result<(), Fault>
-    ensures alone { ShowAlone (C.tape console.old) (C.tape console.new) }
-    ensures cause { HasShowCause (C.tape console.old) (C.tape console.new) result }
     ensures shown { IsTrue C.told → ShownAll bytes.now (C.tape console.old) (C.tape console.new) result }
+    ensures cause { HasShowCause (C.tape console.old) (C.tape console.new) result }
+    ensures alone { ShowAlone (C.tape console.old) (C.tape console.new) }
 {
     match console.show(bytes) {
         Ok(()) => Ok(()),
@@ -152,9 +152,9 @@ pub fn show_all<C: Console>(console: &mut C, bytes: &[u8]) -> Result<(), Fault>
 
 /// Shows the reply to a line.
 fn show_reply<C: Console>(alloc: Global, console: &mut C, reply: Reply) -> Result<(), Fault>
-    ensures alone { ShowAlone (C.tape console.old) (C.tape console.new) }
-    ensures cause { HasShowCause (C.tape console.old) (C.tape console.new) result }
     ensures shown { IsTrue C.told → ShownAll (text_of reply) (C.tape console.old) (C.tape console.new) result }
+    ensures cause { HasShowCause (C.tape console.old) (C.tape console.new) result }
+    ensures alone { ShowAlone (C.tape console.old) (C.tape console.new) }
 {
     let text = reply.text(alloc)?;
     show_all(console, &text)
@@ -169,12 +169,12 @@ fn show_reply<C: Console>(alloc: Global, console: &mut C, reply: Reply) -> Resul
 /// record writes are done, and nothing is shown. Key is never answered: no key is taken. After each of them nothing follows.
 #[tactic(auto, using(crate::proofs::Turning::obeyed_part, crate::proofs::Turning::obeyed_shown))]
 pub fn obey<M: Machine>(alloc: Global, machine: &mut M, line: &[u8]) -> Result<(), Fault>
+    ensures obeyed { IsTrue M.told → Obeyed (M.tape machine.old) (M.tape machine.new) line.now result }
+    ensures cause { HasFaultCause (M.tape machine.old) (M.tape machine.new) result }
+    ensures no_key { IsErrOf result Fault.Key → ⊥ }
     ensures grown { Grown (M.tape machine.old) (M.tape machine.new) }
     ensures keys { (M.tape machine.new).keys ≡ (M.tape machine.old).keys }
     ensures key_faults { (M.tape machine.new).key_faults ≡ (M.tape machine.old).key_faults }
-    ensures cause { HasCause (M.tape machine.old) (M.tape machine.new) result }
-    ensures no_key { IsErrOf result Fault.Key → ⊥ }
-    ensures obeyed { IsTrue M.told → Obeyed (M.tape machine.old) (M.tape machine.new) line.now result }
     ensures runs { IsTrue M.told → (M.tape machine.new).runs ≤ (M.tape machine.old).runs + runs_of_line (M.tape machine.old) }
 {
     let reply = act(alloc, machine, line)?;
@@ -185,9 +185,9 @@ pub fn obey<M: Machine>(alloc: Global, machine: &mut M, line: &[u8]) -> Result<(
 /// the number of keys that still count.
 #[tactic(auto, using(crate::proofs::Turning::next_none, crate::proofs::Turning::next_missed, crate::proofs::Turning::next_obeyed, crate::proofs::Turning::next_broke))]
 fn obey_next<M: Machine>(alloc: Global, machine: &mut M, left: &mut u32) -> Result<bool, Fault>
-    ensures grown { Grown (M.tape machine.old) (M.tape machine.new) }
-    ensures cause { HasCause (M.tape machine.old) (M.tape machine.new) result }
     ensures next { IsTrue M.told → NextTurn (M.tape machine.old) (M.tape machine.new) left.old left.new result }
+    ensures cause { HasFaultCause (M.tape machine.old) (M.tape machine.new) result }
+    ensures grown { Grown (M.tape machine.old) (M.tape machine.new) }
     ensures runs { IsTrue M.told → (M.tape machine.new).runs ≤ (M.tape machine.old).runs + runs_of_line (M.tape machine.old) }
 {
     let Some(line) = read_line(alloc, machine, left)? else {
@@ -204,10 +204,10 @@ fn obey_next<M: Machine>(alloc: Global, machine: &mut M, left: &mut u32) -> Resu
 /// session stopped at once. Memory: none was left. After each of them the cuts of what happened stand for the puts so far.
 #[tactic(auto, using(crate::proofs::Booting::session_spent))]
 pub fn boot<M: Machine>(alloc: Global, moment: u32, machine: &mut M) -> Status
-    ensures grown { Grown (M.tape machine.old) (M.tape machine.new) }
-    ensures cause { HasStatusCause (M.tape machine.old) (M.tape machine.new) result }
     ensures no_usage { result ≢ Status.Usage }
     ensures booted { IsTrue M.told → Booted (M.tape machine.old) (M.tape machine.new) result }
+    ensures cause { HasStatusCause (M.tape machine.old) (M.tape machine.new) result }
+    ensures grown { Grown (M.tape machine.old) (M.tape machine.new) }
 {
     let _ = moment;
     let mut left = MOST_KEYS;

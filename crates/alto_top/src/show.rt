@@ -1,7 +1,7 @@
 // The word `show`: what the pack shows, as a listing.
-ghost use Rattle.std.specs.Prelude.{◌≡◌, ◌≤◌, ◌+◌, [], IsTrue, IfOk};
+ghost use Rattle.std.specs.Prelude.{◌≡◌, ◌-◌, IsTrue, IfOk};
 ghost use Rattle.disk_records.specs.Addresses.{pages_of};
-ghost use Rattle.disk_records.specs.Tapes.{Grown, DiskAlone, pack, added};
+ghost use Rattle.disk_records.specs.Tapes.{Looks, Grown, pack};
 ghost use Rattle.pack_model.specs.showing.Settling.{show};
 ghost use Rattle.alto_top.specs.Faults.{HasDiskCause, HasStatusCause};
 ghost use Rattle.alto_top.specs.Showing.{listing_text, AnswersShow, KeepsKeys, ShowsPack};
@@ -15,11 +15,9 @@ use std::alloc::Global;
 
 /// The listing of what the pack shows. Which pages count is told by headers and labels alone.
 fn list_pack<D: Disk>(alloc: Global, disk: &mut D) -> Result<Vec<u8>, Fault>
-    ensures alone { DiskAlone (D.tape disk.old) (D.tape disk.new) }
-    ensures cause { HasDiskCause (D.tape disk.old) (D.tape disk.new) result }
-    ensures silent { IsTrue D.told → added (D.tape disk.old) (D.tape disk.new) ≡ [] }
-    ensures runs { IsTrue D.told → (D.tape disk.new).runs + 1 ≤ (D.tape disk.old).runs + pages_of (D.tape disk.old).form }
     ensures listed { IsTrue D.told → IfOk result (λ text. text.items ≡ listing_text (show (pack (D.tape disk.old)))) }
+    ensures cause { HasDiskCause (D.tape disk.old) (D.tape disk.new) result }
+    ensures looks { Looks D.told (pages_of (D.tape disk.old).form - 1) (D.tape disk.old) (D.tape disk.new) }
 {
     let shown = read_pack(alloc, disk)?;
     Ok(listing_of(alloc, &shown)?)
@@ -31,11 +29,11 @@ fn list_pack<D: Disk>(alloc: Global, disk: &mut D) -> Result<Vec<u8>, Fault>
 /// DiskFault: a sector wasn't read; nothing is shown. DisplayFault: the display failed; some first bytes of the listing are shown.
 /// Memory: none was left; nothing is shown. Usage and KeyFault are never answered.
 pub fn show_pack<M: Machine>(alloc: Global, machine: &mut M) -> Status
-    ensures grown { Grown (M.tape machine.old) (M.tape machine.new) }
-    ensures keys { KeepsKeys (M.tape machine.old) (M.tape machine.new) }
-    ensures cause { HasStatusCause (M.tape machine.old) (M.tape machine.new) result }
     ensures answer { AnswersShow result }
     ensures shown { IsTrue M.told → ShowsPack (M.tape machine.old) (M.tape machine.new) result }
+    ensures cause { HasStatusCause (M.tape machine.old) (M.tape machine.new) result }
+    ensures grown { Grown (M.tape machine.old) (M.tape machine.new) }
+    ensures keys { KeepsKeys (M.tape machine.old) (M.tape machine.new) }
 {
     let text = match list_pack(alloc, machine) {
         Ok(text) => text,

@@ -1,9 +1,9 @@
 // Sweeps of all labels: a file by its serial, and the places of its pages. No link is followed.
-ghost use Rattle.std.specs.Prelude.{◌≡◌, ◌≢◌, ◌≤◌, ◌<◌, ◌+◌, [], ℕ, suc, length, IsTrue, IfOk, IfErr, OnOk};
+ghost use Rattle.std.specs.Prelude.{◌≡◌, ◌≢◌, ◌-◌, ◌≤◌, ◌<◌, ℕ, suc, length, IsTrue, IfOk, IfErr, OnOk};
 ghost use Rattle.std.specs.Option.{option_map, option_or};
 ghost use Rattle.disk_records.specs.Addresses.{pages_of};
 ghost use Rattle.disk_records.specs.Packs.{sector_at};
-ghost use Rattle.disk_records.specs.Tapes.{DiskAlone, pack, added};
+ghost use Rattle.disk_records.specs.Tapes.{Looks, pack};
 ghost use Rattle.pack_model.specs.reading.Sights.{sight, sights};
 ghost use Rattle.pack_model.specs.reading.Stored.{stored_files, file_of_serial};
 ghost use Rattle.pack_laws.specs.Least.{least, least_shown};
@@ -13,7 +13,7 @@ ghost use Rattle.alto_top.specs.Sweeps.{seen_in, seen_of, CountsFew, held_at, ke
 use crate::pages::{PagePlace, Pages};
 use crate::status::Fault;
 use alto_words::Fid;
-use disk_records::{Disk, Page, Sector, page_of};
+use disk_records::{Disk, Page, Sector, bytes_in, page_of};
 use label_check::look;
 use std::alloc::Global;
 
@@ -39,7 +39,7 @@ fn seen_in(sector: &Sector) -> LabelSight
         Some(Page { fid, number }) => LabelSight::Data {
             fid,
             number,
-            bytes: sector.label[3],
+            bytes: bytes_in(&sector.label),
         },
         None => LabelSight::Nothing,
     }
@@ -50,13 +50,11 @@ fn seen_in(sector: &Sector) -> LabelSight
 fn see<D: Disk>(disk: &mut D, at: u16, buf: &mut Sector) -> Result<LabelSight, Fault>
     requires place { at < pages_of (D.tape disk.old).form }
     requires first { 1 ≤ at }
-    ensures alone { DiskAlone (D.tape disk.old) (D.tape disk.new) }
-    ensures cause { HasDiskCause (D.tape disk.old) (D.tape disk.new) result }
-    ensures silent { IsTrue D.told → added (D.tape disk.old) (D.tape disk.new) ≡ [] }
-    ensures runs { IsTrue D.told → (D.tape disk.new).runs ≤ (D.tape disk.old).runs + 1 }
     ensures seen { IsTrue D.told → IfOk result (λ seen. seen ≡ seen_of (sight (D.tape disk.old).form at (sector_at (pack (D.tape disk.old)) at))) }
     ensures few { IfOk result CountsFew }
+    ensures cause { HasDiskCause (D.tape disk.old) (D.tape disk.new) result }
     ensures want { IsTrue D.told → IfErr result (λ fault. fault ≢ Fault.Memory) }
+    ensures looks { Looks D.told 1 (D.tape disk.old) (D.tape disk.new) }
 {
     Ok(if look(disk, at, buf)? {
         seen_in(buf)
@@ -85,12 +83,10 @@ fn find_leader<D: Disk>(
 ) -> Result<Option<Fid>, Fault>
     requires place { at < pages_of (D.tape disk.old).form }
     requires first { 1 ≤ at }
-    ensures runs { IsTrue D.told → (D.tape disk.new).runs ≤ (D.tape disk.old).runs + 1 }
-    ensures alone { DiskAlone (D.tape disk.old) (D.tape disk.new) }
-    ensures cause { HasDiskCause (D.tape disk.old) (D.tape disk.new) result }
-    ensures silent { IsTrue D.told → added (D.tape disk.old) (D.tape disk.new) ≡ [] }
     ensures found { IsTrue D.told → IfOk result (λ fid. fid ≡ least_shown serial found (sight (D.tape disk.old).form at (sector_at (pack (D.tape disk.old)) at))) }
+    ensures cause { HasDiskCause (D.tape disk.old) (D.tape disk.new) result }
     ensures want { IsTrue D.told → IfErr result (λ fault. fault ≢ Fault.Memory) }
+    ensures looks { Looks D.told 1 (D.tape disk.old) (D.tape disk.new) }
 {
     Ok(match see(disk, at, buf)? {
         LabelSight::Leader { fid } => if fid.serial() == serial {
@@ -108,12 +104,10 @@ fn find_leader<D: Disk>(
 /// Disk: the disk failed. Memory: no memory was left, which never comes on a told disk. There nothing is written, whatever the
 /// answer.
 pub fn find_file<D: Disk>(disk: &mut D, serial: u32, buf: &mut Sector) -> Result<Option<Fid>, Fault>
-    ensures alone { DiskAlone (D.tape disk.old) (D.tape disk.new) }
-    ensures cause { HasDiskCause (D.tape disk.old) (D.tape disk.new) result }
-    ensures silent { IsTrue D.told → added (D.tape disk.old) (D.tape disk.new) ≡ [] }
-    ensures runs { IsTrue D.told → (D.tape disk.new).runs + 1 ≤ (D.tape disk.old).runs + pages_of (D.tape disk.old).form }
     ensures found { IsTrue D.told → IfOk result (λ fid. fid ≡ option_map (λ e. e.0) (file_of_serial (stored_files (pack (D.tape disk.old))) serial)) }
+    ensures cause { HasDiskCause (D.tape disk.old) (D.tape disk.new) result }
     ensures want { IsTrue D.told → IfErr result (λ fault. fault ≢ Fault.Memory) }
+    ensures looks { Looks D.told (pages_of (D.tape disk.old).form - 1) (D.tape disk.old) (D.tape disk.new) }
 {
     let mut found = None;
     let end = disk.shape().pages();
@@ -133,12 +127,10 @@ fn keep_page<D: Disk>(
 ) -> Result<(), Fault>
     requires place { at < pages_of (D.tape disk.old).form }
     requires first { 1 ≤ at }
-    ensures alone { DiskAlone (D.tape disk.old) (D.tape disk.new) }
-    ensures cause { HasDiskCause (D.tape disk.old) (D.tape disk.new) result }
-    ensures silent { IsTrue D.told → added (D.tape disk.old) (D.tape disk.new) ≡ [] }
-    ensures runs { IsTrue D.told → (D.tape disk.new).runs ≤ (D.tape disk.old).runs + 1 }
     ensures within { (end : ℕ) → at < end → AreWithin end pages.old → OnOk result (AreWithin end pages.new) }
     ensures kept { IsTrue D.told → OnOk result ((n : ℕ) → kept_page pages.new (suc n) ≡ option_or (kept_page pages.old (suc n)) (held_at fid (suc n) (at, sight (D.tape disk.old).form at (sector_at (pack (D.tape disk.old)) at)))) }
+    ensures cause { HasDiskCause (D.tape disk.old) (D.tape disk.new) result }
+    ensures looks { Looks D.told 1 (D.tape disk.old) (D.tape disk.new) }
 {
     match see(disk, at, buf)? {
         LabelSight::Data {
@@ -164,12 +156,10 @@ pub fn find_pages<D: Disk>(
     fid: Fid,
     buf: &mut Sector,
 ) -> Result<Pages, Fault>
-    ensures alone { DiskAlone (D.tape disk.old) (D.tape disk.new) }
-    ensures cause { HasDiskCause (D.tape disk.old) (D.tape disk.new) result }
-    ensures silent { IsTrue D.told → added (D.tape disk.old) (D.tape disk.new) ≡ [] }
-    ensures runs { IsTrue D.told → (D.tape disk.new).runs + 1 ≤ (D.tape disk.old).runs + pages_of (D.tape disk.old).form }
     ensures pages { IsTrue D.told → IfOk result (HoldsPages (sights (pack (D.tape disk.old))) fid) }
     ensures within { IfOk result (AreWithin (pages_of (D.tape disk.old).form)) }
+    ensures cause { HasDiskCause (D.tape disk.old) (D.tape disk.new) result }
+    ensures looks { Looks D.told (pages_of (D.tape disk.old).form - 1) (D.tape disk.old) (D.tape disk.new) }
 {
     let mut pages = Pages::new(alloc);
     let end = disk.shape().pages();

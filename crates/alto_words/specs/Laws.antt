@@ -1,13 +1,23 @@
--- What holds of names and of numbers in text.
-use Rattle.std.specs.Prelude.{◌≡◌, ◌↔◌, ◌⊎◌, ℕ, ◌+◌, ◌^◌, ◌<◌, ◌≤◌, min, true, List, ◌++◌, length, map, codes, Some, decimal}
+-- What holds of full names, of names and of numbers in text.
+use Rattle.std.specs.Prelude.{◌≡◌, ◌↔◌, ◌⊎◌, ℕ, ◌+◌, ◌^◌, ◌<◌, ◌≤◌, min, true, false, List, ◌++◌, length, map, codes, Some, decimal}
 use Rattle.std.specs.Cmp.{IsTotalOrder}
 use Rattle.std.specs.List.{All, list_all}
 use Rattle.std.specs.Ordering.{nat_cmp, ordering_then}
 use Rattle.std.specs.declared.cmp.Ordering.TheVariants.{Less, Equal}
 use Rattle.alto_words.specs.declared.wanted.Wanted.TheVariants.{Newest}
+use Rattle.alto_words.specs.Fid.{serial_of, is_directory, ordinary_fid, directory_fid}
 use Rattle.alto_words.specs.Names.{is_name_character, is_bare_name, is_stored_name, is_same_name, name_in, fold_case, bytes_cmp, folded_cmp, base_of, version_of, versioned, after_kept, suffixed, lost}
 use Rattle.alto_words.specs.Numbers.{number_in, bytes_in_hex, hex_of}
 use Rattle.alto_words.specs.Wanted.{wanted_in}
+
+-- ---- full names
+-- the serial of the ordinary file and of the directory with a serial is that serial
+abbrev pub SerialReadsBack : Type 0
+SerialReadsBack = (serial : ℕ) → serial < 2 ^ 31 → (serial_of (ordinary_fid serial) ≡ serial) × (serial_of (directory_fid serial) ≡ serial)
+
+-- a directory has the mark, and an ordinary file hasn't
+abbrev pub MarkSaysDirectory : Type 0
+MarkSaysDirectory = (serial : ℕ) → serial < 2 ^ 31 → (is_directory (ordinary_fid serial) ≡ false) × (is_directory (directory_fid serial) ≡ true)
 
 -- ---- stored names
 -- A name that states its version: name characters, `!`, a number from 2 to 65,534 in decimal without leading zeros, `.`; 39 characters

@@ -1,6 +1,26 @@
-// What holds of names and of numbers in text: each law is what a function of its name ensures. The
+// What holds of full names, of names and of numbers in text: each law is what a function of its name ensures. The
 // functions do nothing.
-ghost use Rattle.alto_words.specs.Laws.{StoredByForm, BareIsStored, StoredIsMade, ParsedIsStored, StoredIsStated, NewestIsBare, OrderIsTotal, PrefixComesFirst, OrderAgreesWithSame, SameByBaseAndVersion, OrderByBaseAndVersion, NewerComesLater, SuffixedIsStored, LengthSuffixed, LostIsStored, LengthLost, NumberReadsBack, HexReadsBack};
+ghost use Rattle.std.specs.Prelude.{◌≡◌};
+ghost use Rattle.alto_words.specs.declared.fid.Fid.{Fid};
+ghost use Rattle.alto_words.specs.Fid.{fid_cmp};
+ghost use Rattle.alto_words.specs.Laws.{SerialReadsBack, MarkSaysDirectory, StoredByForm, BareIsStored, StoredIsMade, ParsedIsStored, StoredIsStated, NewestIsBare, OrderIsTotal, PrefixComesFirst, OrderAgreesWithSame, SameByBaseAndVersion, OrderByBaseAndVersion, NewerComesLater, SuffixedIsStored, LengthSuffixed, LostIsStored, LengthLost, NumberReadsBack, HexReadsBack};
+
+use crate::Fid;
+
+/// Full names that are compared, or kept in an ordered map, stand in the order of `fid_cmp`: by high word, low word and version.
+pub fn full_names_are_ordered()
+    ensures { (f : Fid) → (g : Fid) → ⟦<Fid as Ord>⟧.cmp f g ≡ fid_cmp f g }
+{}
+
+/// The serial of the ordinary file of a serial below 2^31 is that serial, and so is that of the directory.
+pub fn serial_reads_back()
+    ensures { SerialReadsBack }
+{}
+
+/// The directory of a serial has the directory mark, and the ordinary file of a serial below 2^31 hasn't.
+pub fn mark_says_directory()
+    ensures { MarkSaysDirectory }
+{}
 
 /// A stored name is a bare name, or a bare name's text with `!` and a version from 2 on.
 pub fn stored_by_form()

@@ -12,7 +12,7 @@ ghost use Rattle.dir_slots.specs.Laws.{HasStoredName};
 
 use crate::slot::{MAX_ENTRY_WORDS, Slot, entry_words};
 use alto_words::{Fid, Name};
-use leader_page::words_into_bytes;
+use disk_records::words_into_bytes;
 
 // The words of an entry, counted from its first.
 const TYPE: usize = 0;

@@ -8,11 +8,12 @@ use Rattle.disk_records.specs.declared.records.Act.TheVariants.{Read, Check, Wri
 use Rattle.disk_records.specs.declared.records.Plan.{Plan}
 use Rattle.disk_records.specs.declared.records.Sector.{Sector}
 use Rattle.disk_records.specs.Checks.{is_write, may_follow, is_legal}
-use Rattle.disk_image.specs.Images.{words_bytes, sector_bytes, IsWhole}
+use Rattle.disk_image.specs.Images.{sector_bytes, IsWhole}
 use Rattle.disk_image.specs.Records.{read_bytes, read_length, front_bytes, front_length}
-use Rattle.disk_image.proofs.Inverses.{length-words_bytes}
+use Rattle.disk_records.specs.Bytes.{bytes_of}
+use Rattle.disk_records.proofs.Bytes.{length-bytes_of}
 
-read_bytes-cond : (act : Act) (words : List ℕ) → read_bytes act words ≡ cond (is_write act) [] (words_bytes words)
+read_bytes-cond : (act : Act) (words : List ℕ) → read_bytes act words ≡ cond (is_write act) [] (bytes_of words)
 read_bytes-cond Read words = refl
 read_bytes-cond Check words = refl
 read_bytes-cond Write words = refl
@@ -46,15 +47,15 @@ front_bytes-taken plan s legal whole =
     let h = is_write plan.header in
     let l = is_write plan.label in
     let v = is_write plan.value in
-    let header : length (words_bytes s.header) ≡ 4 = omega (arith, length-words_bytes s.header, whole.header) in
-    let label : length (words_bytes s.label) ≡ 16 = omega (arith, length-words_bytes s.label, whole.label) in
-    let value : length (words_bytes s.value) ≡ 512 = omega (arith, length-words_bytes s.value, whole.value) in
-    let first : read_length plan.header 4 ≡ cond h 0 (length (words_bytes s.header)) = read_length-cond plan.header 4 ∙ ap (cond h 0) (sym header) in
-    let second : read_length plan.label 16 ≡ cond l 0 (length (words_bytes s.label)) = read_length-cond plan.label 16 ∙ ap (cond l 0) (sym label) in
-    let third : read_length plan.value 512 ≡ cond v 0 (length (words_bytes s.value)) = read_length-cond plan.value 512 ∙ ap (cond v 0) (sym value) in
+    let header : length (bytes_of s.header) ≡ 4 = omega (arith, length-bytes_of s.header, whole.header) in
+    let label : length (bytes_of s.label) ≡ 16 = omega (arith, length-bytes_of s.label, whole.label) in
+    let value : length (bytes_of s.value) ≡ 512 = omega (arith, length-bytes_of s.value, whole.value) in
+    let first : read_length plan.header 4 ≡ cond h 0 (length (bytes_of s.header)) = read_length-cond plan.header 4 ∙ ap (cond h 0) (sym header) in
+    let second : read_length plan.label 16 ≡ cond l 0 (length (bytes_of s.label)) = read_length-cond plan.label 16 ∙ ap (cond l 0) (sym label) in
+    let third : read_length plan.value 512 ≡ cond v 0 (length (bytes_of s.value)) = read_length-cond plan.value 512 ∙ ap (cond v 0) (sym value) in
     let follows : IsTrue (cond h l true && cond l v true) = sym (ap (λ (b : Bool). b && may_follow plan.label plan.value) (may_follow-cond plan.header plan.label) ∙ ap (λ (b : Bool). cond h l true && b) (may_follow-cond plan.label plan.value)) ∙ legal in
     rw (read_bytes-cond plan.header s.header, read_bytes-cond plan.label s.label, read_bytes-cond plan.value s.value, first, second, third)
-    (taken h l v (words_bytes s.header) (words_bytes s.label) (words_bytes s.value) follows)
+    (taken h l v (bytes_of s.header) (bytes_of s.label) (bytes_of s.value) follows)
 
 -- what was read of a file are the bytes of the records before the first Write
 pub front_read : (a b : Option (List ℕ)) (plan : Plan) (s : Sector) (front rest : List ℕ) → IsTrue (is_legal plan) → IsWhole s → length front ≡ front_length plan → sector_bytes s ≡ front ++ rest → Consumes a b front → Consumes a b (front_bytes plan s)

@@ -6,7 +6,9 @@ use Rattle.disk_records.specs.declared.records.Sector.{Sector}
 use Rattle.disk_records.specs.declared.shape.Shape.{Shape}
 use Rattle.disk_records.specs.Words.{word}
 use Rattle.disk_records.specs.Addresses.{pages_of}
-use Rattle.disk_image.specs.Images.{words_bytes, sector_bytes, pack_bytes, IsWhole, IsImage, IsPackLength}
+use Rattle.disk_records.specs.Bytes.{bytes_of}
+use Rattle.disk_records.proofs.Bytes.{length-bytes_of}
+use Rattle.disk_image.specs.Images.{sector_bytes, pack_bytes, IsWhole, IsImage, IsPackLength}
 use Rattle.disk_image.proofs.Shapes.{shape_same}
 
 -- two lists that are joined at the same place
@@ -16,17 +18,13 @@ fronts_same a b c d len same = sym (take-append_seam a b) ∙ ap (take (length a
 backs_same : {A : Type 0} (a b c d : List A) → length a ≡ length c → a ++ b ≡ c ++ d → b ≡ d
 backs_same a b c d len same = sym (drop-append_seam a b) ∙ ap (drop (length a)) same ∙ ap (λ n. drop n (c ++ d)) len ∙ drop-append_seam c d
 
-pub length-words_bytes : (words : List ℕ) → length (words_bytes words) ≡ 2 * length words
-length-words_bytes [] = refl
-length-words_bytes (w ∷ words) = let rest = length-words_bytes words in omega (arith, rest)
-
 length-sector_bytes : (s : Sector) → IsWhole s → length (sector_bytes s) ≡ 532
 length-sector_bytes s whole =
-    let header = length-words_bytes s.header in
-    let label = length-words_bytes s.label in
-    let value = length-words_bytes s.value in
-    let inner = length-append (words_bytes s.label) (words_bytes s.value) in
-    let outer = length-append (words_bytes s.header) (words_bytes s.label ++ words_bytes s.value) in
+    let header = length-bytes_of s.header in
+    let label = length-bytes_of s.label in
+    let value = length-bytes_of s.value in
+    let inner = length-append (bytes_of s.label) (bytes_of s.value) in
+    let outer = length-append (bytes_of s.header) (bytes_of s.label ++ bytes_of s.value) in
     omega (arith, header, label, value, inner, outer, whole.header, whole.label, whole.value)
 
 first_whole : (s : Sector) (sectors : List Sector) → All IsWhole (s ∷ sectors) → IsWhole s
@@ -44,10 +42,10 @@ length-pack_bytes (s ∷ sectors) all =
     omega (arith, first, rest, both)
 
 -- two words with the same bytes
-word_same : (v w : ℕ) → v < 65536 → w < 65536 → v / 256 % 256 ≡ w / 256 % 256 → v % 256 ≡ w % 256 → v ≡ w
+word_same : (v w : ℕ) → v < 65536 → w < 65536 → v / 256 ≡ w / 256 → v % 256 ≡ w % 256 → v ≡ w
 word_same v w fits also high low = omega arith
 
-words_same : (xs ys : List ℕ) → length xs ≡ length ys → ((k : ℕ) → word xs k < 65536) → ((k : ℕ) → word ys k < 65536) → words_bytes xs ≡ words_bytes ys → xs ≡ ys
+words_same : (xs ys : List ℕ) → length xs ≡ length ys → ((k : ℕ) → word xs k < 65536) → ((k : ℕ) → word ys k < 65536) → bytes_of xs ≡ bytes_of ys → xs ≡ ys
 words_same [] [] len fits also same = refl
 words_same [] (y ∷ ys) len fits also same = absurd (omega (arith, len))
 words_same (x ∷ xs) [] len fits also same = absurd (omega (arith, len))
@@ -58,12 +56,12 @@ words_same (x ∷ xs) (y ∷ ys) len fits also same =
 
 sector_same : (s t : Sector) → IsWhole s → IsWhole t → sector_bytes s ≡ sector_bytes t → s ≡ t
 sector_same s t whole also same =
-    let two : length (words_bytes s.header) ≡ length (words_bytes t.header) = omega (arith, length-words_bytes s.header, length-words_bytes t.header, whole.header, also.header) in
-    let eight : length (words_bytes s.label) ≡ length (words_bytes t.label) = omega (arith, length-words_bytes s.label, length-words_bytes t.label, whole.label, also.label) in
-    let front = fronts_same (words_bytes s.header) _ (words_bytes t.header) _ two same in
-    let back = backs_same (words_bytes s.header) _ (words_bytes t.header) _ two same in
-    let middle = fronts_same (words_bytes s.label) (words_bytes s.value) (words_bytes t.label) (words_bytes t.value) eight back in
-    let last = backs_same (words_bytes s.label) (words_bytes s.value) (words_bytes t.label) (words_bytes t.value) eight back in
+    let two : length (bytes_of s.header) ≡ length (bytes_of t.header) = omega (arith, length-bytes_of s.header, length-bytes_of t.header, whole.header, also.header) in
+    let eight : length (bytes_of s.label) ≡ length (bytes_of t.label) = omega (arith, length-bytes_of s.label, length-bytes_of t.label, whole.label, also.label) in
+    let front = fronts_same (bytes_of s.header) _ (bytes_of t.header) _ two same in
+    let back = backs_same (bytes_of s.header) _ (bytes_of t.header) _ two same in
+    let middle = fronts_same (bytes_of s.label) (bytes_of s.value) (bytes_of t.label) (bytes_of t.value) eight back in
+    let last = backs_same (bytes_of s.label) (bytes_of s.value) (bytes_of t.label) (bytes_of t.value) eight back in
     let header : s.header ≡ t.header = words_same s.header t.header (whole.header ∙ sym also.header) whole.header_words also.header_words front in
     let label : s.label ≡ t.label = words_same s.label t.label (whole.label ∙ sym also.label) whole.label_words also.label_words middle in
     let value : s.value ≡ t.value = words_same s.value t.value (whole.value ∙ sym also.value) whole.value_words also.value_words last in

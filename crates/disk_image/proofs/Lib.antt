@@ -1,4 +1,3 @@
-mod Words
 mod Packs
 mod Shapes
 mod Inverses

@@ -1,21 +1,17 @@
 -- What a caller sees of pack files.
 use Rattle.std.specs.Prelude.{◌≡◌, ◌≢◌, ◌⊎◌, ℕ, ◌*◌, ◌<◌, ◌≤◌, List, ◌++◌, length, take, drop, All}
 use Rattle.std.specs.List.{flat_map}
-use Rattle.byteorder.specs.Endian.{big_bytes}
 use Rattle.disk_records.specs.declared.records.Sector.{Sector}
 use Rattle.disk_records.specs.declared.shape.Shape.{Shape}
+use Rattle.disk_records.specs.Bytes.{bytes_of}
 use Rattle.disk_records.specs.Words.{word}
 use Rattle.disk_records.specs.Addresses.{disks_of, cylinders_of, pages_of}
 use Rattle.disk_image.specs.declared.error.ImageError.{ImageError}
 use Rattle.disk_image.specs.declared.error.ImageError.TheVariants.{BadLength, Unlike, Memory}
 
--- a word is two bytes, the high one first
-abbrev pub words_bytes : List ℕ → List ℕ
-words_bytes words = flat_map (big_bytes 2) words
-
 -- a sector is its header, its label and its value
 abbrev pub sector_bytes : Sector → List ℕ
-sector_bytes sector = words_bytes sector.header ++ (words_bytes sector.label ++ words_bytes sector.value)
+sector_bytes sector = bytes_of sector.header ++ (bytes_of sector.label ++ bytes_of sector.value)
 
 -- a pack is its sectors in the order of their virtual addresses
 abbrev pub pack_bytes : List Sector → List ℕ

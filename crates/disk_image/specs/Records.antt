@@ -5,18 +5,18 @@ use Rattle.disk_records.specs.declared.records.Act.TheVariants.{Read, Check, Wri
 use Rattle.disk_records.specs.declared.records.Plan.{Plan}
 use Rattle.disk_records.specs.declared.records.Sector.{Sector}
 use Rattle.disk_records.specs.Tapes.{capped}
-use Rattle.disk_image.specs.Images.{words_bytes}
+use Rattle.disk_records.specs.Bytes.{bytes_of}
 
 -- the bytes of a record that a command reads, and of one that it writes
 abbrev pub read_bytes : Act → List ℕ → List ℕ
-read_bytes Read words = words_bytes words
-read_bytes Check words = words_bytes words
+read_bytes Read words = bytes_of words
+read_bytes Check words = bytes_of words
 read_bytes Write words = []
 
 abbrev pub written_bytes : Act → List ℕ → List ℕ
 written_bytes Read words = []
 written_bytes Check words = []
-written_bytes Write words = words_bytes words
+written_bytes Write words = bytes_of words
 
 -- the same of a sector: since a Write is followed by Writes alone, what is read stands before what is written
 abbrev pub front_bytes : Plan → Sector → List ℕ

@@ -6,12 +6,11 @@
 ghost use Rattle.std.specs.Prelude.{◌≡◌, ℕ, ◌+◌, ◌*◌, ◌<◌, ◌≤◌, length, take, drop, All, IfSome, IfNone, IfOk, IfErr, OnOk, vec_len, vec_capacity};
 ghost use Rattle.disk_records.specs.Words.{word};
 ghost use Rattle.disk_records.specs.Addresses.{disks_of, cylinders_of, pages_of};
-ghost use Rattle.disk_image.specs.Images.{words_bytes, sector_bytes, pack_bytes, IsImage, IsWhole, IsPackLength, IsErrorAt};
+ghost use Rattle.disk_image.specs.Images.{sector_bytes, pack_bytes, IsImage, IsWhole, IsPackLength, IsErrorAt};
 
 use crate::error::ImageError;
 use alto_words::Memory;
-use byteorder::{BigEndian, ByteOrder};
-use disk_records::{Sector, Shape};
+use disk_records::{PAGE_BYTES, Sector, Shape, bytes_into_words, words_into_bytes};
 use std::alloc::Global;
 
 /// The bytes of one header.
@@ -21,7 +20,7 @@ pub(crate) const HEADER_BYTES: usize = 4;
 pub(crate) const LABEL_BYTES: usize = 16;
 
 /// The bytes of one value.
-pub(crate) const VALUE_BYTES: usize = 512;
+pub(crate) const VALUE_BYTES: usize = PAGE_BYTES as usize;
 
 /// The bytes of one sector.
 pub(crate) const SECTOR_BYTES: usize = 532;
@@ -45,24 +44,6 @@ pub(crate) fn shape_of_length(disks: u16, bytes: u64) -> Option<Shape>
     Shape::new(disks, cylinders)
 }
 
-/// Reads words from their bytes, two a word.
-fn read_words(bytes: &[u8], words: &mut [u16])
-    requires { length bytes.now ≡ 2 * length words.old }
-    ensures bytes { words_bytes words.new ≡ bytes.now }
-    ensures fit { (k : ℕ) → word words.new k < 65536 }
-{
-    BigEndian::read_u16_into(bytes, words);
-}
-
-/// Writes words as their bytes, two a word.
-pub(crate) fn write_words(words: &[u16], bytes: &mut [u8])
-    requires { length bytes.old ≡ 2 * length words.now }
-    ensures bytes { bytes.new ≡ words_bytes words.now }
-    ensures fit { (k : ℕ) → word words.now k < 65536 }
-{
-    BigEndian::write_u16_into(words, bytes);
-}
-
 /// The sector of these 532 bytes.
 pub(crate) fn read_sector(bytes: &[u8]) -> Sector
     requires { length bytes.now ≡ 532 }
@@ -72,9 +53,9 @@ pub(crate) fn read_sector(bytes: &[u8]) -> Sector
     let mut header = [0; 2];
     let mut label = [0; 8];
     let mut value = [0; 256];
-    read_words(&bytes[..HEADER_BYTES], &mut header);
-    read_words(&bytes[HEADER_BYTES..HEADER_BYTES + LABEL_BYTES], &mut label);
-    read_words(&bytes[HEADER_BYTES + LABEL_BYTES..], &mut value);
+    bytes_into_words(&bytes[..HEADER_BYTES], &mut header);
+    bytes_into_words(&bytes[HEADER_BYTES..HEADER_BYTES + LABEL_BYTES], &mut label);
+    bytes_into_words(&bytes[HEADER_BYTES + LABEL_BYTES..], &mut value);
     Sector {
         header,
         label,
@@ -90,9 +71,9 @@ fn write_sector(sector: &Sector, bytes: &mut [u8])
 {
     let (header, rest) = bytes.split_at_mut(HEADER_BYTES);
     let (label, value) = rest.split_at_mut(LABEL_BYTES);
-    write_words(&sector.header, header);
-    write_words(&sector.label, label);
-    write_words(&sector.value, value);
+    words_into_bytes(&sector.header, header);
+    words_into_bytes(&sector.label, label);
+    words_into_bytes(&sector.value, value);
 }
 
 /// Reads the sectors of `count` times 532 bytes into a list that has room for them, after those that are there. No memory is taken.

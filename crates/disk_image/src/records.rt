@@ -4,12 +4,12 @@ ghost use Rattle.std.specs.Io.KnownBytes.{Consumes, Appends};
 ghost use Rattle.std.specs.Io.Seek.{MovesTo};
 ghost use Rattle.disk_records.specs.Checks.{is_legal, is_checked};
 ghost use Rattle.disk_image.specs.Records.{read_length, front_length, front_bytes, back_bytes, written_bytes, counted, counted_all};
-ghost use Rattle.disk_image.specs.Images.{words_bytes};
+ghost use Rattle.disk_records.specs.Bytes.{bytes_of};
 
 use crate::codec::{
-    CYLINDER_BYTES, HEADER_BYTES, LABEL_BYTES, SECTOR_BYTES, VALUE_BYTES, read_sector, write_words,
+    CYLINDER_BYTES, HEADER_BYTES, LABEL_BYTES, SECTOR_BYTES, VALUE_BYTES, read_sector,
 };
-use disk_records::{Act, Plan, Sector, first_mismatch, update_memory};
+use disk_records::{Act, Plan, Sector, first_mismatch, update_memory, words_into_bytes};
 use std::fs::OpenFile;
 use std::io;
 use std::io::{Error, ErrorKind, Read, Seek, SeekFrom, Write};
@@ -134,11 +134,11 @@ fn write_record<F: Write>(file: &mut F, act: Act, words: &[u16], writes: &mut u6
 /// Writes the bytes of words by one write call.
 fn write_bytes<F: Write>(file: &mut F, words: &[u16]) -> io::Result<()>
     requires { length words.now ≤ 256 }
-    ensures { OnOk result (Appends (F.contents file.old) (F.contents file.new) (words_bytes words.now)) }
+    ensures { OnOk result (Appends (F.contents file.old) (F.contents file.new) (bytes_of words.now)) }
 {
     let mut bytes = [0; VALUE_BYTES];
     let record = &mut bytes[..2 * words.len()];
-    write_words(words, record);
+    words_into_bytes(words, record);
     file.write_all(record)
 }
 

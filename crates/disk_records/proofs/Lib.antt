@@ -1,4 +1,8 @@
+pub mod Bytes
 pub mod Checking
 pub mod FirstOnes
 pub mod Growing
+mod InPlace
+pub mod Looking
 pub mod Reals
+pub mod WordBytes

@@ -1,4 +1,5 @@
 pub mod Words
+pub mod Bytes
 pub mod Addresses
 pub mod Labels
 pub mod Packs
@@ -6,3 +7,5 @@ pub mod Checks
 pub mod Events
 pub mod Commands
 pub mod Tapes
+pub mod Causes
+pub mod Laws

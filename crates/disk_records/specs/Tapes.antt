@@ -1,5 +1,5 @@
 -- What a machine holds and what has happened to it.
-use Rattle.std.specs.Prelude.{◌≡◌, ◌≢◌, ℕ, ◌+◌, ◌-◌, ◌^◌, ◌<◌, ◌≤◌, ◌↔◌, min, List, [], ◌++◌, length, take, drop, Some, None, Result, Ok, Err, IsErrOf, OnOk, OnErr, IfOk}
+use Rattle.std.specs.Prelude.{◌≡◌, ◌≢◌, ℕ, ◌+◌, ◌-◌, ◌^◌, ◌<◌, ◌≤◌, ◌↔◌, min, Bool, IsTrue, List, [], ◌++◌, length, take, drop, Some, None, Result, Ok, Err, IsErrOf, OnOk, OnErr, IfOk}
 use Rattle.disk_records.specs.declared.records.Sector.{Sector}
 use Rattle.disk_records.specs.declared.records.Plan.{Plan}
 use Rattle.disk_records.specs.declared.records.Event.{Event}
@@ -66,6 +66,12 @@ pub record DiskAlone (old new : Taped) : Type 0 where
   pub key_faults : new.key_faults ≡ old.key_faults
   pub show_faults : new.show_faults ≡ old.show_faults
   pub shown : shown_bytes (added old new) ≡ []
+
+-- A call that only looks at a disk: where the machine is told nothing is written, in at most so many sector commands.
+pub record Looks (told : Bool) (most : ℕ) (old new : Taped) : Type 0 where
+  pub alone : DiskAlone old new
+  pub silent : IsTrue told → added old new ≡ []
+  pub runs : IsTrue told → new.runs ≤ old.runs + most
 
 -- reading keys
 pub record KeysAlone (old new : Taped) : Type 0 where

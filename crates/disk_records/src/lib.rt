@@ -16,12 +16,18 @@
 
 mod check;
 mod label;
+mod laws;
 mod records;
 mod shape;
 mod traits;
+mod words;
 
 pub use check::{first_mismatch, update_memory};
-pub use label::{is_free_label, label_of, page_of, right_header};
+pub use label::{
+    bytes_in, is_free_label, label_of, next_link, page_of, previous_link, right_header,
+};
+pub use laws::label_reads_back;
 pub use records::{Act, Event, Page, Place, Plan, Sector, Tally};
 pub use shape::Shape;
 pub use traits::{Console, ConsoleError, Disk, DiskError, Machine, Tape};
+pub use words::{PAGE_BYTES, bytes_into_words, put_in_words, words_into_bytes};

@@ -44,6 +44,36 @@ pub struct Plan {
     pub value: Act,
 }
 
+impl Plan {
+    /// Reads the whole sector.
+    pub const READ: Plan = Plan {
+        header: Act::Read,
+        label: Act::Read,
+        value: Act::Read,
+    };
+
+    /// Writes the value, where header and label are those of memory.
+    pub const WRITE_VALUE: Plan = Plan {
+        header: Act::Check,
+        label: Act::Check,
+        value: Act::Write,
+    };
+
+    /// Writes label and value, where the header is that of memory.
+    pub const WRITE_LABEL: Plan = Plan {
+        header: Act::Check,
+        label: Act::Write,
+        value: Act::Write,
+    };
+
+    /// Writes the whole sector.
+    pub const WRITE_ALL: Plan = Plan {
+        header: Act::Write,
+        label: Act::Write,
+        value: Act::Write,
+    };
+}
+
 /// A page of a file: page 0 is the leader page, data pages are numbered from 1.
 #[derive(Clone, Copy, Debug, PartialEq, Eq, PartialOrd, Ord)]
 pub struct Page {

@@ -110,22 +110,22 @@ requested at value memory same is = is ∙ ap (λ (s : Shape). request (real_of 
 
 -- the four ways in which the command on a sector that is to be free may end
 pub filled : {a b : Taped} {shape : Shape} {buffer : Sector} (at : ℕ) (value : List ℕ) (memory : Sector) → 1 ≤ at → at < pages_of a.form → shape ≡ a.form → memory ≡ request (real_of shape at) value
-    → Ran at check_and_write memory buffer a b (Ok tt) → Guarded {T = Unit {0}} (IsFree at) at (value_writes at value) 1 a b (Ok tt)
+    → Ran at check_and_write memory buffer a b (Ok tt) → Guarded {T = Unit {0}} (IsFree at) at [] (value_writes at value) 1 a b (Ok tt)
 filled {a} {b} {buffer = buffer} at value memory first within form is ran =
     guarded_whole (matched_is_free (pack a) at value first within) (subst (λ m. Ran at check_and_write m buffer a b (Ok tt)) (requested at value memory form is) ran)
 
 pub half_filled : {a b : Taped} {shape : Shape} {buffer : Sector} (at : ℕ) (value : List ℕ) (memory : Sector) → 1 ≤ at → at < pages_of a.form → shape ≡ a.form → memory ≡ request (real_of shape at) value
-    → Ran at check_and_write memory buffer a b (Err Failed) → Guarded {T = Unit {0}} (IsFree at) at (value_writes at value) 1 a b (Err DiskFault)
+    → Ran at check_and_write memory buffer a b (Err Failed) → Guarded {T = Unit {0}} (IsFree at) at [] (value_writes at value) 1 a b (Err DiskFault)
 half_filled {a} {b} {buffer = buffer} at value memory first within form is ran =
     guarded_broken (matched_is_free (pack a) at value first within) (subst (λ m. Ran at check_and_write m buffer a b (Err Failed)) (requested at value memory form is) ran)
 
 pub short_filled : {a b : Taped} {shape : Shape} {buffer : Sector} (at : ℕ) (value : List ℕ) (memory : Sector) → 1 ≤ at → at < pages_of a.form → shape ≡ a.form → memory ≡ request (real_of shape at) value
-    → Ran at check_and_write memory buffer a b (Err disk_error.Memory) → Guarded {T = Unit {0}} (IsFree at) at (value_writes at value) 1 a b (Err Memory)
+    → Ran at check_and_write memory buffer a b (Err disk_error.Memory) → Guarded {T = Unit {0}} (IsFree at) at [] (value_writes at value) 1 a b (Err Memory)
 short_filled {a} {b} {buffer = buffer} at value memory first within form is ran =
     guarded_short (matched_is_free (pack a) at value first within) (subst (λ m. Ran at check_and_write m buffer a b (Err disk_error.Memory)) (requested at value memory form is) ran)
 
 pub not_filled : {a b c : Taped} {shape : Shape} {buffer : Sector} {part word : ℕ} {error : GuardError} (at : ℕ) (value : List ℕ) (memory : Sector) → shape ≡ a.form → memory ≡ request (real_of shape at) value → DiskAlone a b → DiskAlone b c
-    → Ran at check_and_write memory buffer a b (Err (Mismatch part word)) → Refused at b c error → Guarded {T = Unit {0}} (IsFree at) at (value_writes at value) 1 a c (Err error)
+    → Ran at check_and_write memory buffer a b (Err (Mismatch part word)) → Refused at b c error → Guarded {T = Unit {0}} (IsFree at) at [] (value_writes at value) 1 a c (Err error)
 not_filled {a} {b} {buffer = buffer} {part = part} {word = word} {error = error} at value memory form is x y ran refused =
     guarded_refused error (free_is_matched (pack a) at value) x y (subst (λ m. Ran at check_and_write m buffer a b (Err (Mismatch part word))) (requested at value memory form is) ran) refused
 
@@ -138,7 +138,7 @@ header_kept (s ∷ sectors) (suc at) value = header_kept sectors at value
 -- so after its value was written the header of a free sector still matches, and its label can be
 pub claimed : {a b c : Taped} {shape : Shape} {result : Result (Unit {0}) GuardError} (at : ℕ) (label value : List ℕ) (memory : Sector) → DiskAlone a b → DiskAlone b c → shape ≡ b.form → memory ≡ record { header = header_of (real_of shape at); label = label; value = value }
     → DoneWhole (IsFree at) (value_writes at value) 1 a b → (mismatch check_and_relabel memory (sector_at (pack b) at) ≡ None → Finished (writes_of at check_and_relabel memory) b c result)
-    → Guarded (IsFree at) at (claim_writes at label value) 2 a c result
+    → Guarded (IsFree at) at (value_writes at value) (claim_writes at label value) 2 a c result
 claimed {a} {b} {c} {shape} {result} at label value memory x y form is done finish =
     let now : pack b ≡ after (pack a) (value_writes at value) = pack-after x.grown ∙ ap (after (pack a)) done.wrote in
     let kept : (sector_at (pack b) at).header ≡ (sector_at (pack a) at).header = ap (λ (p : Pack). (sector_at p at).header) now ∙ header_kept (pack a).sectors at value in

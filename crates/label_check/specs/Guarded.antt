@@ -39,19 +39,20 @@ pub record FoundWrong (guard : Pack → Type 0) (at : ℕ) (old new : Taped) (fo
   pub silent : added old new ≡ []
   pub label : found ≡ label_found (pack old) at
 
--- the guard held, and fewer events were kept ready than the record writes
-pub record WantsRoom (guard : Pack → Type 0) (writes : List Event) (old : Taped) : Type 0 where
+-- the guard held, fewer events were kept ready than the record writes, and the last sector command wrote nothing
+pub record WantsRoom (guard : Pack → Type 0) (early writes : List Event) (old new : Taped) : Type 0 where
   pub held : guard (pack old)
   pub less : old.spare < length writes
+  pub unwritten : IsFirstOf early (added old new)
 
--- A call on a told disk that does these record writes where its guard holds, in so many sector commands. For every answer it
--- has done some first ones of them, in two sector commands at most.
-pub record Guarded {T : Type 0} (guard : Pack → Type 0) (at : ℕ) (writes : List Event) (count : ℕ) (old new : Taped) (result : Result T GuardError) : Type 0 where
+-- A call on a told disk that does these record writes where its guard holds, in so many sector commands; `early` are those before the
+-- last command. For every answer a prefix of them was done, in two sector commands at most.
+pub record Guarded {T : Type 0} (guard : Pack → Type 0) (at : ℕ) (early writes : List Event) (count : ℕ) (old new : Taped) (result : Result T GuardError) : Type 0 where
   pub some : IsFirstOf writes (added old new)
   pub guarded : added old new ≢ [] → guard (pack old)
   pub ok : OnOk result (DoneWhole guard writes count old new)
   pub wrong : IfWrong result (FoundWrong guard at old new)
-  pub want : IsErrOf result Memory → WantsRoom guard writes old
+  pub want : IsErrOf result Memory → WantsRoom guard early writes old new
   pub runs : new.runs ≤ old.runs + 2
 
 -- what a page that was read tells: the buffer holds its sector, and the answer its label's words

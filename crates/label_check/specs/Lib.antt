@@ -1,2 +1,3 @@
+pub mod Causes
 pub mod Guarded
 pub mod Steps

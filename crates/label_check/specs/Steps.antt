@@ -10,12 +10,13 @@ use Rattle.label_check.specs.declared.errors.LookError.{LookError}
 use Rattle.label_check.specs.declared.errors.LookError.TheVariants as look
 use Rattle.label_check.specs.Guarded.{IfWrong}
 
--- a sector command that finds no mismatch and does these record writes, or some first ones of them
+-- a sector command that finds no mismatch and does these record writes, or a prefix of them, and none where no memory was left
 pub record Finished (writes : List Event) (old new : Taped) (result : Result (Unit {0}) GuardError) : Type 0 where
   pub some : IsFirstOf writes (added old new)
   pub ok : OnOk result (added old new ≡ writes)
   pub matched : IfWrong result (λ found. ⊥)
   pub want : IsErrOf result Memory → old.spare < length writes
+  pub none : IsErrOf result Memory → added old new ≡ []
   pub runs : new.runs ≡ capped (old.runs + 1)
 
 -- a sector command that reads the label of a sector whose guard failed

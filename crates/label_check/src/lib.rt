@@ -1,13 +1,17 @@
 //! One sector command, guarded by the label that stands there.
 //!
 //! A sector *carries* a page where its header is right and its label is in range and names that page. To the layers above, for
-//! every answer on a told disk:
-//! 1. What was written is a first part of the one list in the contract (`some`), all of it at Ok (`ok`).
+//! every answer on a machine that is modelled:
+//! 1. What was written is a prefix of the one list in the contract (`some`), all of it at Ok (`ok`).
 //! 2. No sector is written that didn't carry the page named, or, for `claim`, wasn't free (`guarded`).
 //! 3. Wrong comes only where that guard fails, and Ok only where it holds. At Wrong nothing was written, and `found` is the label that
 //!    stands there, None where its header is wrong (`wrong`).
-//! 4. With spare for the list, or where its guard fails, no call answers Memory, and none takes an allocator (`want`).
-//! On every disk, told or not, `look` and `read_page` answer what the buffer says (`right`, `page`, `tells`, `other`).
+//! 4. Where events are kept ready for the list, or its guard fails, no call answers Memory, and none takes an allocator. At Memory the
+//!    last sector command wrote nothing (`want`).
+//! 5. `look` and `read_page` write nothing, in one sector command (`looks`).
+//!
+//! On every machine `look` and `read_page` answer what the buffer says (`right`, `page`, `whole`, `tells`, `other`), and a fault comes
+//! only where its count rose (`cause`).
 //! Not promised: that no other sector carries the page. pack_model says which of two counts.
 #![tactic(auto)]
 

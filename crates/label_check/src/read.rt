@@ -1,17 +1,15 @@
 // Reading a sector and comparing its label.
-ghost use Rattle.std.specs.Prelude.{◌≡◌, ◌<◌, ◌≤◌, ◌+◌, IsTrue, IsErrOf, IfOk, OnOk, []};
+ghost use Rattle.std.specs.Prelude.{◌≡◌, ◌<◌, ◌≤◌, ◌+◌, IsTrue, IsErrOf, IfOk, OnOk, [], length};
 ghost use Rattle.disk_records.specs.Addresses.{pages_of, is_right_header};
+ghost use Rattle.disk_records.specs.Causes.{HasCause};
 ghost use Rattle.disk_records.specs.Packs.{sector_at};
-ghost use Rattle.disk_records.specs.Tapes.{DiskAlone, Rose, pack, added, capped};
+ghost use Rattle.disk_records.specs.Tapes.{Looks, pack, capped};
+ghost use Rattle.label_check.specs.Causes.{cause_of_guard, cause_of_look};
 ghost use Rattle.label_check.specs.Guarded.{Carries, Guarded, HoldsOther, HoldsPage, IfWrong, IsReadPage, info_of};
 
 use crate::{GuardError, LookError, PageInfo};
-use disk_records::{Act, Disk, DiskError, Page, Plan, Sector, page_of, right_header};
-
-const READ: Plan = Plan {
-    header: Act::Read,
-    label: Act::Read,
-    value: Act::Read,
+use disk_records::{
+    Disk, DiskError, Page, Plan, Sector, bytes_in, next_link, page_of, previous_link, right_header,
 };
 
 /// Reads the whole sector at the virtual address `at` to `buf`, and answers whether its header is right. One sector command.
@@ -19,16 +17,15 @@ const READ: Plan = Plan {
 #[tactic(auto, using(disk_records::proofs::FirstOnes::none_of_none))]
 pub fn look<D: Disk>(disk: &mut D, at: u16, buf: &mut Sector) -> Result<bool, LookError>
     requires place { at < pages_of (D.tape disk.old).form }
-    ensures alone { DiskAlone (D.tape disk.old) (D.tape disk.new) }
-    ensures fault { IsErrOf result LookError.DiskFault → Rose (D.tape disk.old).disk_faults (D.tape disk.new).disk_faults }
     ensures right { IfOk result (λ right. right ≡ is_right_header (D.tape disk.old).form at buf.new.header) }
-    ensures silent { IsTrue D.told → added (D.tape disk.old) (D.tape disk.new) ≡ [] }
-    ensures looked { IsTrue D.told → IfOk result (λ right. (buf.new ≡ sector_at (pack (D.tape disk.old)) at) × (right ≡ is_right_header (D.tape disk.old).form at buf.new.header)) }
-    ensures runs { IsTrue D.told → (D.tape disk.new).runs ≡ capped ((D.tape disk.old).runs + 1) }
+    ensures holds { IsTrue D.told → OnOk result (buf.new ≡ sector_at (pack (D.tape disk.old)) at) }
+    ensures cause { HasCause cause_of_look (D.tape disk.old) (D.tape disk.new) result }
     ensures want { IsTrue D.told → IsErrOf result LookError.Memory → ⊥ }
+    ensures looks { Looks D.told 1 (D.tape disk.old) (D.tape disk.new) }
+    ensures runs { IsTrue D.told → (D.tape disk.new).runs ≡ capped ((D.tape disk.old).runs + 1) }
 {
     let shape = disk.shape();
-    match disk.run(at, READ, buf) {
+    match disk.run(at, Plan::READ, buf) {
         Ok(()) => Ok(right_header(shape, at, &buf.header)),
         // nothing is checked
         Err(DiskError::Mismatch { .. }) => unreachable!(),
@@ -46,12 +43,12 @@ pub(crate) fn look_for<D: Disk>(
 ) -> Result<(), GuardError>
     requires first { 1 ≤ at }
     requires place { at < pages_of (D.tape disk.old).form }
-    ensures alone { DiskAlone (D.tape disk.old) (D.tape disk.new) }
-    ensures fault { IsErrOf result GuardError.DiskFault → Rose (D.tape disk.old).disk_faults (D.tape disk.new).disk_faults }
     ensures page { OnOk result (HoldsPage (D.tape disk.old).form at page buf.new) }
     ensures other { IfWrong result (HoldsOther (D.tape disk.old).form at page buf.new) }
-    ensures guarded { IsTrue D.told → Guarded (Carries at page) at [] 1 (D.tape disk.old) (D.tape disk.new) result }
     ensures holds { IsTrue D.told → OnOk result (buf.new ≡ sector_at (pack (D.tape disk.old)) at) }
+    ensures guarded { IsTrue D.told → Guarded (Carries at page) at [] [] 1 (D.tape disk.old) (D.tape disk.new) result }
+    ensures cause { HasCause cause_of_guard (D.tape disk.old) (D.tape disk.new) result }
+    ensures looks { Looks D.told 1 (D.tape disk.old) (D.tape disk.new) }
 {
     if !look(disk, at, buf)? {
         return Err(GuardError::Wrong { found: None });
@@ -62,6 +59,18 @@ pub(crate) fn look_for<D: Disk>(
         Err(GuardError::Wrong {
             found: Some(buf.label),
         })
+    }
+}
+
+/// What the label of a sector says beside its page.
+fn info_in(sector: &Sector) -> PageInfo
+    ensures tells { result ≡ info_of sector.now.label }
+    ensures whole { length sector.now.value ≡ 256 }
+{
+    PageInfo {
+        bytes: bytes_in(&sector.label),
+        next: next_link(&sector.label),
+        previous: previous_link(&sector.label),
     }
 }
 
@@ -76,18 +85,15 @@ pub fn read_page<D: Disk>(
 ) -> Result<PageInfo, GuardError>
     requires first { 1 ≤ at }
     requires place { at < pages_of (D.tape disk.old).form }
-    ensures alone { DiskAlone (D.tape disk.old) (D.tape disk.new) }
-    ensures fault { IsErrOf result GuardError.DiskFault → Rose (D.tape disk.old).disk_faults (D.tape disk.new).disk_faults }
     ensures page { OnOk result (HoldsPage (D.tape disk.old).form at page buf.new) }
+    ensures whole { OnOk result (length buf.new.value ≡ 256) }
     ensures tells { IfOk result (λ info. info ≡ info_of buf.new.label) }
-    ensures other { IfWrong result (HoldsOther (D.tape disk.old).form at page buf.new) }
-    ensures guarded { IsTrue D.told → Guarded (Carries at page) at [] 1 (D.tape disk.old) (D.tape disk.new) result }
     ensures read { IsTrue D.told → IfOk result (IsReadPage (pack (D.tape disk.old)) at buf.new) }
+    ensures other { IfWrong result (HoldsOther (D.tape disk.old).form at page buf.new) }
+    ensures guarded { IsTrue D.told → Guarded (Carries at page) at [] [] 1 (D.tape disk.old) (D.tape disk.new) result }
+    ensures cause { HasCause cause_of_guard (D.tape disk.old) (D.tape disk.new) result }
+    ensures looks { Looks D.told 1 (D.tape disk.old) (D.tape disk.new) }
 {
     look_for(disk, at, page, buf)?;
-    Ok(PageInfo {
-        bytes: buf.label[3],
-        next: buf.label[0],
-        previous: buf.label[1],
-    })
+    Ok(info_in(buf))
 }

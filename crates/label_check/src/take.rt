@@ -1,16 +1,18 @@
 // Taking a free sector.
-ghost use Rattle.std.specs.Prelude.{◌≡◌, ◌<◌, ◌≤◌, IsTrue, IsErrOf, true, [], ◌∷◌};
+ghost use Rattle.std.specs.Prelude.{◌≡◌, ◌<◌, ◌≤◌, IsTrue, true, [], ◌∷◌};
 ghost use Rattle.disk_records.specs.Addresses.{pages_of, real_of};
+ghost use Rattle.disk_records.specs.Causes.{HasCause, IsCause};
 ghost use Rattle.disk_records.specs.Commands.{claim_writes, value_writes};
 ghost use Rattle.disk_records.specs.Labels.{tag, in_range};
-ghost use Rattle.disk_records.specs.Tapes.{DiskAlone, Rose};
+ghost use Rattle.disk_records.specs.Tapes.{DiskAlone, Looks};
+ghost use Rattle.label_check.specs.Causes.{cause_of_guard};
 ghost use Rattle.label_check.specs.Guarded.{IsFree, Guarded};
 ghost use Rattle.label_check.specs.Steps.{Refused};
 
 use crate::GuardError;
 use crate::read::look;
-use crate::write::{WRITE_LABEL, WRITE_VALUE, finish};
-use disk_records::{Disk, DiskError, Sector, Shape};
+use crate::write::finish;
+use disk_records::{Disk, DiskError, Plan, Sector, Shape};
 
 /// What a free label is checked against. The three words that make a label free aren't 0, so the disk compares each of them;
 /// the others are 0 and match any word.
@@ -33,9 +35,9 @@ fn sector_for(shape: Shape, at: u16, label: [u16; 8], value: &[u16; 256]) -> Sec
 fn refusal<D: Disk>(disk: &mut D, at: u16, buf: &mut Sector) -> GuardError
     requires first { 1 ≤ at }
     requires place { at < pages_of (D.tape disk.old).form }
-    ensures alone { DiskAlone (D.tape disk.old) (D.tape disk.new) }
-    ensures fault { result ≡ GuardError.DiskFault → Rose (D.tape disk.old).disk_faults (D.tape disk.new).disk_faults }
     ensures refused { IsTrue D.told → Refused at (D.tape disk.old) (D.tape disk.new) result }
+    ensures cause { IsCause (D.tape disk.old) (D.tape disk.new) (cause_of_guard result) }
+    ensures looks { Looks D.told 1 (D.tape disk.old) (D.tape disk.new) }
 {
     match look(disk, at, buf) {
         Ok(true) => GuardError::Wrong {
@@ -50,12 +52,12 @@ fn refusal<D: Disk>(disk: &mut D, at: u16, buf: &mut Sector) -> GuardError
 fn fill<D: Disk>(disk: &mut D, at: u16, value: &[u16; 256]) -> Result<(), GuardError>
     requires first { 1 ≤ at }
     requires place { at < pages_of (D.tape disk.old).form }
+    ensures guarded { IsTrue D.told → Guarded (IsFree at) at [] (value_writes at value.now) 1 (D.tape disk.old) (D.tape disk.new) result }
+    ensures cause { HasCause cause_of_guard (D.tape disk.old) (D.tape disk.new) result }
     ensures alone { DiskAlone (D.tape disk.old) (D.tape disk.new) }
-    ensures fault { IsErrOf result GuardError.DiskFault → Rose (D.tape disk.old).disk_faults (D.tape disk.new).disk_faults }
-    ensures guarded { IsTrue D.told → Guarded (IsFree at) at (value_writes at value.now) 1 (D.tape disk.old) (D.tape disk.new) result }
 {
     let mut buf = sector_for(disk.shape(), at, FREE, value);
-    match disk.run(at, WRITE_VALUE, &mut buf) {
+    match disk.run(at, Plan::WRITE_VALUE, &mut buf) {
         Ok(()) => Ok(()),
         Err(DiskError::Mismatch { .. }) => Err(refusal(disk, at, &mut buf)),
         Err(DiskError::Failed) => Err(GuardError::DiskFault),
@@ -74,11 +76,11 @@ pub fn claim<D: Disk>(
     requires first { 1 ≤ at }
     requires place { at < pages_of (D.tape disk.old).form }
     requires label { in_range (tag label) ≡ true }
+    ensures guarded { IsTrue D.told → Guarded (IsFree at) at (value_writes at value.now) (claim_writes at label value.now) 2 (D.tape disk.old) (D.tape disk.new) result }
+    ensures cause { HasCause cause_of_guard (D.tape disk.old) (D.tape disk.new) result }
     ensures alone { DiskAlone (D.tape disk.old) (D.tape disk.new) }
-    ensures fault { IsErrOf result GuardError.DiskFault → Rose (D.tape disk.old).disk_faults (D.tape disk.new).disk_faults }
-    ensures guarded { IsTrue D.told → Guarded (IsFree at) at (claim_writes at label value.now) 2 (D.tape disk.old) (D.tape disk.new) result }
 {
     fill(disk, at, value)?;
     let mut buf = sector_for(disk.shape(), at, label, value);
-    finish(disk, at, WRITE_LABEL, &mut buf)
+    finish(disk, at, Plan::WRITE_LABEL, &mut buf)
 }

@@ -12,7 +12,7 @@ use Rattle.pack_model.specs.reading.Leaders.{name_bytes, spelled_name, is_readab
 use Rattle.pack_model.specs.operations.PageWords.{name_words, leader_value}
 use Rattle.leader_page.specs.declared.leader.Leader.{Leader}
 use Rattle.leader_page.specs.Pages.{said, Says, IsDecoded, IsPadded}
-use Rattle.leader_page.proofs.Bytes.{length-bytes_of, words_of-bytes_of}
+use Rattle.disk_records.proofs.Bytes.{length-bytes_of, words_of-bytes_of}
 use Rattle.leader_page.proofs.Names.{filled-name}
 use Rattle.leader_page.proofs.Values.{in_words, leader_of-in_words, leader_name-readable}
 

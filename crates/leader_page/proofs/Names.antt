@@ -12,7 +12,8 @@ use Rattle.disk_records.specs.Words.{word}
 use Rattle.pack_model.specs.reading.Bytes.{bytes_of, words_of}
 use Rattle.pack_model.specs.reading.Leaders.{name_bytes, spelled_name, is_readable}
 use Rattle.pack_model.specs.operations.PageWords.{filled, name_words}
-use Rattle.leader_page.proofs.Bytes.{length-words_of, bytes_of-words_of, AreBytes, AreBytes-append, AreBytes-zeros}
+use Rattle.disk_records.proofs.Bytes.{length-words_of}
+use Rattle.leader_page.proofs.Bytes.{bytes_of-words_of, AreBytes, AreBytes-append, AreBytes-zeros}
 
 -- ---- stored names
 character-below : (c : ℕ) → is_stored_character c ≡ true → c < 256

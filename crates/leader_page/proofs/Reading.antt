@@ -6,7 +6,7 @@ use Rattle.alto_words.specs.Names.{stored_in}
 use Rattle.disk_records.specs.Words.{word}
 use Rattle.pack_model.specs.reading.Bytes.{bytes_of}
 use Rattle.pack_model.specs.reading.Leaders.{name_bytes, spelled_name, leader_words}
-use Rattle.leader_page.proofs.Bytes.{length-bytes_of}
+use Rattle.disk_records.proofs.Bytes.{length-bytes_of}
 use Rattle.leader_page.proofs.Spelling.{spelled, spelled-too_long, spelled-whole}
 
 name_words-leader : (value : List ℕ) → take 20 (drop 6 (leader_words value)) ≡ take 20 (drop 6 value)

@@ -15,9 +15,8 @@ ghost use Rattle.pack_model.specs.reading.Bytes.{put_at};
 ghost use Rattle.pack_model.specs.reading.Leaders.{is_readable, spelled_name, leader_words, leader_of};
 ghost use Rattle.pack_model.specs.operations.PageWords.{filled, halves, name_words};
 
-use crate::words::words_into_bytes;
 use alto_words::{Fid, Name};
-use byteorder::{BigEndian, ByteOrder};
+use disk_records::{bytes_into_words, words_into_bytes};
 
 /// The first of the two words that say when the file was made.
 const CREATED: usize = 0;
@@ -103,7 +102,7 @@ pub fn name_words(name: &Name) -> [u16; 20]
 {
     let bytes = name_bytes(name);
     let mut words = [0; 20];
-    BigEndian::read_u16_into(&bytes, &mut words);
+    bytes_into_words(&bytes, &mut words);
     words
 }
 

@@ -8,7 +8,6 @@
 //!    pack_model), so that who reads packs needs no places of words.
 //! 3. `encode` gives the value of a leader, word for word (`value`), and that value says this leader with these hints (`says`).
 //! 4. `name_words` gives words 6 to 25 of the value of every leader with that name (`name`).
-//! 5. `words_into_bytes` gives the bytes of words, by which names are spelled.
 //! The `laws`: what was encoded is decoded as the same leader (`reads_back`), and what was decoded is encoded as the same words
 //! where the bytes behind the name are 0 (`writes_back`); a title changes the name alone, a stamp the written date alone.
 //! Not promised: that a hint is true.
@@ -16,14 +15,12 @@
 
 mod laws;
 mod leader;
-mod words;
 
 pub use laws::{
     length_value, reads_back, stamp_changes_the_written_date, title_changes_the_name,
     value_says_its_leader, writes_back,
 };
 pub use leader::{Leader, name_words};
-pub use words::words_into_bytes;
 
 #[cfg(test)]
 mod tests;

@@ -1,5 +1,5 @@
 // Rows by hand of the table in leader.rt, one at each end of what a name may be.
-use crate::{Leader, name_words, words_into_bytes};
+use crate::{Leader, name_words};
 use alto_words::{Fid, Name};
 use std::test::Fail;
 
@@ -37,13 +37,6 @@ fn words_of_names(rt: HostRuntime) -> Result<(), Fail> {
     assert_eq!(rt; long[1], 0x6263);
     assert_eq!(rt; long[19], 0x4C2E);
     Ok(())
-}
-
-#[test]
-fn bytes_of_words(rt: HostRuntime) {
-    let mut bytes = [7; 4];
-    words_into_bytes(&[0x0241, 0xFF00], &mut bytes);
-    assert_eq!(rt; bytes, [0x02, 0x41, 0xFF, 0x00]);
 }
 
 #[test]

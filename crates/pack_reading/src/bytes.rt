@@ -3,10 +3,9 @@ ghost use Rattle.std.specs.Prelude.{◌≡◌, IfOk};
 ghost use Rattle.pack_model.specs.reading.Bytes.{words_of};
 ghost use Rattle.pack_reading.specs.Kept.{bytes_kept, KeepsOthers};
 
-use crate::swept::{PAGE_BYTES, Pages};
+use crate::swept::Pages;
 use alto_words::{Fid, List, Memory};
-use byteorder::{BigEndian, ByteOrder};
-use disk_records::Page;
+use disk_records::{PAGE_BYTES, Page, bytes_into_words};
 use std::alloc::Global;
 
 /// The bytes of pages in order, up to and with the first that isn't full, or up to the first that is missing. Each page is taken
@@ -25,7 +24,7 @@ fn join_pages(alloc: Global, pages: &mut Pages, fid: Fid) -> Result<Vec<u8>, Mem
             return Ok(bytes);
         };
         bytes.extend_from_slice(held.as_slice())?;
-        if held.as_slice().len() < PAGE_BYTES {
+        if held.as_slice().len() < PAGE_BYTES as usize {
             return Ok(bytes);
         }
     }
@@ -47,9 +46,7 @@ pub(crate) fn words_of(alloc: Global, bytes: &[u8]) -> Result<List<u16>, Memory>
     ensures { IfOk result (λ words. words ≡ words_of bytes.now) }
 {
     let count = bytes.len() / 2;
-    let mut words = Vec::with_capacity(alloc, count)?;
-    for k in 0..count {
-        words.push(BigEndian::read_u16(&bytes[2 * k..]))?;
-    }
+    let mut words = vec![in alloc; 0; count]?;
+    bytes_into_words(&bytes[..2 * count], &mut words);
     Ok(List::from_vec(words))
 }

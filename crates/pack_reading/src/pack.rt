@@ -1,12 +1,14 @@
 // The whole reading of a pack.
-ghost use Rattle.std.specs.Prelude.{◌≡◌, ◌≤◌, ◌+◌, List, [], IsTrue, IsErrOf, IfOk};
+ghost use Rattle.std.specs.Prelude.{◌≡◌, ◌≤◌, ◌-◌, List, IsTrue, IfOk};
 ghost use Rattle.disk_records.specs.Addresses.{pages_of};
-ghost use Rattle.disk_records.specs.Tapes.{DiskAlone, Rose, pack, added};
+ghost use Rattle.disk_records.specs.Causes.{HasCause};
+ghost use Rattle.disk_records.specs.Tapes.{Looks, pack};
 ghost use Rattle.pack_model.specs.reading.Sights.{Sight};
 ghost use Rattle.pack_model.specs.showing.Settling.{show, settle};
 ghost use Rattle.pack_model.specs.showing.View.{view};
 ghost use Rattle.pack_model.specs.reading.Model.{read_sights};
 ghost use Rattle.disk_records.specs.declared.shape.Shape.{Shape as Form};
+ghost use Rattle.pack_reading.specs.Errors.{cause_of_reading};
 ghost use Rattle.pack_reading.specs.Kept.{HoldsSights};
 ghost use Rattle.pack_reading.specs.Shows.{ShowsView};
 
@@ -41,11 +43,9 @@ fn show_swept(alloc: Global, swept: Swept) -> Result<Shown, Memory>
 /// times its bytes, one large directory 3.7 times, leader pages alone 4.8 times (docs/speed.md): leaders are held as they were seen and
 /// as they are shown, and the words of a directory while it is scanned.
 pub fn read_pack<D: Disk>(alloc: Global, disk: &mut D) -> Result<Shown, ReadingError>
-    ensures alone { DiskAlone (D.tape disk.old) (D.tape disk.new) }
-    ensures fault { IsErrOf result ReadingError.DiskFault → Rose (D.tape disk.old).disk_faults (D.tape disk.new).disk_faults }
-    ensures silent { IsTrue D.told → added (D.tape disk.old) (D.tape disk.new) ≡ [] }
-    ensures runs { IsTrue D.told → (D.tape disk.new).runs + 1 ≤ (D.tape disk.old).runs + pages_of (D.tape disk.old).form }
     ensures read { IsTrue D.told → IfOk result (λ shown. ShowsView shown (show (pack (D.tape disk.old)))) }
+    ensures cause { HasCause cause_of_reading (D.tape disk.old) (D.tape disk.new) result }
+    ensures looks { Looks D.told (pages_of (D.tape disk.old).form - 1) (D.tape disk.old) (D.tape disk.new) }
 {
     let swept = sweep(alloc, disk)?;
     Ok(show_swept(alloc, swept)?)

@@ -1,9 +1,11 @@
 // The sweep of all sectors.
-ghost use Rattle.std.specs.Prelude.{◌≡◌, ◌≤◌, ◌<◌, ◌+◌, [], IsTrue, IsErrOf, IfOk, OnOk};
+ghost use Rattle.std.specs.Prelude.{◌≡◌, ◌≤◌, ◌<◌, ◌-◌, IsTrue, IfOk, OnOk};
 ghost use Rattle.disk_records.specs.Addresses.{pages_of};
+ghost use Rattle.disk_records.specs.Causes.{HasCause};
 ghost use Rattle.disk_records.specs.Packs.{sector_at};
-ghost use Rattle.disk_records.specs.Tapes.{DiskAlone, Rose, pack, added};
+ghost use Rattle.disk_records.specs.Tapes.{Looks, pack};
 ghost use Rattle.pack_model.specs.reading.Sights.{sight, sights};
+ghost use Rattle.pack_reading.specs.Errors.{cause_of_reading};
 ghost use Rattle.pack_reading.specs.Kept.{KeepsSight, HoldsSights};
 
 use crate::error::ReadingError;
@@ -22,11 +24,9 @@ fn sweep_sector<D: Disk>(
 ) -> Result<(), ReadingError>
     requires place { at < pages_of (D.tape disk.old).form }
     requires first { 1 ≤ at }
-    ensures alone { DiskAlone (D.tape disk.old) (D.tape disk.new) }
-    ensures fault { IsErrOf result ReadingError.DiskFault → Rose (D.tape disk.old).disk_faults (D.tape disk.new).disk_faults }
-    ensures silent { IsTrue D.told → added (D.tape disk.old) (D.tape disk.new) ≡ [] }
-    ensures runs { IsTrue D.told → (D.tape disk.new).runs ≤ (D.tape disk.old).runs + 1 }
     ensures kept { IsTrue D.told → OnOk result (KeepsSight (sight (D.tape disk.old).form at (sector_at (pack (D.tape disk.old)) at)) swept.old swept.new) }
+    ensures cause { HasCause cause_of_reading (D.tape disk.old) (D.tape disk.new) result }
+    ensures looks { Looks D.told 1 (D.tape disk.old) (D.tape disk.new) }
 {
     let right = look(disk, at, buf)?;
     if right {
@@ -37,11 +37,9 @@ fn sweep_sector<D: Disk>(
 
 /// What all sectors show, but for the first, which is never used. Fewer sector commands than sectors.
 pub(crate) fn sweep<D: Disk>(alloc: Global, disk: &mut D) -> Result<Swept, ReadingError>
-    ensures alone { DiskAlone (D.tape disk.old) (D.tape disk.new) }
-    ensures fault { IsErrOf result ReadingError.DiskFault → Rose (D.tape disk.old).disk_faults (D.tape disk.new).disk_faults }
-    ensures silent { IsTrue D.told → added (D.tape disk.old) (D.tape disk.new) ≡ [] }
-    ensures runs { IsTrue D.told → (D.tape disk.new).runs + 1 ≤ (D.tape disk.old).runs + pages_of (D.tape disk.old).form }
     ensures holds { IsTrue D.told → IfOk result (HoldsSights (sights (pack (D.tape disk.old)))) }
+    ensures cause { HasCause cause_of_reading (D.tape disk.old) (D.tape disk.new) result }
+    ensures looks { Looks D.told (pages_of (D.tape disk.old).form - 1) (D.tape disk.old) (D.tape disk.new) }
 {
     let mut swept = Swept {
         leaders: Leaders::new(alloc),

@@ -12,13 +12,10 @@ ghost use Rattle.pack_model.specs.reading.Sights.{page_sight, tag_sight};
 ghost use Rattle.pack_reading.specs.Kept.{plain_leader, leader_kept, lives_kept, page_kept, KeepsSight};
 
 use alto_words::{Fid, List, Memory};
-use disk_records::{Page, Sector, page_of};
-use leader_page::{Leader, words_into_bytes};
+use disk_records::{PAGE_BYTES, Page, Sector, bytes_in, page_of, words_into_bytes};
+use leader_page::Leader;
 use std::alloc::Global;
 use std::collections::BTreeMap;
-
-/// The bytes of a page: 512.
-pub(crate) const PAGE_BYTES: usize = 512;
 
 /// The leaders of files.
 #[derive(Drop)]
@@ -95,7 +92,7 @@ fn counted_bytes(alloc: Global, value: &[u16; 256], count: u16) -> Result<List<u
     requires { count ≤ 512 }
     ensures { IfOk result (λ bytes. bytes ≡ take count (bytes_of value.now)) }
 {
-    let mut bytes = [0; PAGE_BYTES];
+    let mut bytes = [0; PAGE_BYTES as usize];
     words_into_bytes(value, &mut bytes);
     Ok(List::from_vec(Vec::from_slice(alloc, &bytes[..count as usize])?))
 }
@@ -119,7 +116,7 @@ fn keep_page(alloc: Global, swept: &mut Swept, page: Page, sector: &Sector) -> R
         let leader = leader_in(page.fid, &sector.value);
         swept.leaders.keep(page.fid, leader)
     } else {
-        let bytes = counted_bytes(alloc, &sector.value, sector.label[3])?;
+        let bytes = counted_bytes(alloc, &sector.value, bytes_in(&sector.label))?;
         swept.pages.keep(page, bytes)
     }
 }

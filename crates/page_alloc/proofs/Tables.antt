@@ -3,11 +3,11 @@ use Rattle.std.proofs.Common.{◌≡◌, ℕ, zero, suc, ◌+◌, ◌<◌, ◌�
 use Rattle.std.specs.Prelude.{All, Contains, nat_lt}
 use Rattle.std.proofs.lemmas.List.Elements.{All-more, All-weaker, Contains-get_or}
 use Rattle.disk_records.specs.Packs.{Pack, is_free_at}
-use Rattle.disk_records.specs.Tapes.{Taped, pack}
+use Rattle.disk_records.specs.Tapes.{Looks, Taped, pack}
 use Rattle.hint_cache.specs.Bits.{busy_at}
 use Rattle.page_alloc.specs.Free.{is_offered_free, IsCorrected, IsCorrectedBut}
-use Rattle.page_alloc.specs.Inside.{Looked, IsCheckedAt, AreChecked}
-use Rattle.page_alloc.proofs.Silent.{looked_pack}
+use Rattle.page_alloc.specs.Inside.{IsCheckedAt, AreChecked}
+use Rattle.disk_records.proofs.Looking.{looks_pack}
 use Rattle.page_alloc.proofs.FreeLists.{lt-test, le-test}
 
 pub corrected_twice : (p : Pack) (a b c : List Bool) → IsCorrected p a b → IsCorrected p b c → IsCorrected p a c
@@ -59,13 +59,13 @@ corrected_but p taken a b c x y at =
     ]
 
 -- ---- after calls that write nothing
-pub corrected_then : {told : Bool} {most : ℕ} {x y : Taped} (a b c : List Bool) → Looked told most x y → IsTrue told → IsCorrected (pack x) a b → IsCorrected (pack y) b c → IsCorrected (pack x) a c
-corrected_then {told} {most} {x} {y} a b c looked t before now = corrected_twice (pack x) a b c before (subst (λ p. IsCorrected p b c) (looked_pack looked t) now)
+pub corrected_then : {told : Bool} {most : ℕ} {x y : Taped} (a b c : List Bool) → Looks told most x y → IsTrue told → IsCorrected (pack x) a b → IsCorrected (pack y) b c → IsCorrected (pack x) a c
+corrected_then {told} {most} {x} {y} a b c looks t before now = corrected_twice (pack x) a b c before (subst (λ p. IsCorrected p b c) (looks_pack looks t) now)
 
-pub free_then : {told : Bool} {most : ℕ} {x y : Taped} (at : ℕ) (free : Bool) → Looked told most x y → IsTrue told → free ≡ is_free_at (pack y) at → free ≡ is_free_at (pack x) at
-free_then at free looked t is = is ∙ ap (λ p. is_free_at p at) (looked_pack looked t)
+pub free_then : {told : Bool} {most : ℕ} {x y : Taped} (at : ℕ) (free : Bool) → Looks told most x y → IsTrue told → free ≡ is_free_at (pack y) at → free ≡ is_free_at (pack x) at
+free_then at free looks t is = is ∙ ap (λ p. is_free_at p at) (looks_pack looks t)
 
--- ---- offers whose labels have been looked at
+-- ---- offers whose labels have been looks at
 -- what is checked stays so
 pub checked_corrected : (p : Pack) (offers a b : List Bool) (end : ℕ) → AreChecked p offers a end → IsCorrected p a b → AreChecked p offers b end
 checked_corrected p offers a b end checked x at first low free = elim (x at) [ inl same ↦ same ∙ checked at first low free | inr told ↦ told ]
@@ -79,13 +79,13 @@ checked_more p offers now end checked here at first low free = by (nat_lt at end
     by false e = let high = le-test at end e in let same : end ≡ at = omega (arith, low, high) in subst (λ k. busy_at offers k ≡ false → busy_at now k ≡ not (is_free_at p k)) same here free
 
 -- after calls that write nothing
-pub checked_then : {told : Bool} {most : ℕ} {x y : Taped} (offers a b : List Bool) (end : ℕ) → Looked told most x y → IsTrue told → AreChecked (pack x) offers a end → IsCorrected (pack x) a b → AreChecked (pack y) offers b end
-checked_then {told} {most} {x} {y} offers a b end looked t checked corrected = subst (λ p. AreChecked p offers b end) (sym (looked_pack looked t)) (checked_corrected (pack x) offers a b end checked corrected)
+pub checked_then : {told : Bool} {most : ℕ} {x y : Taped} (offers a b : List Bool) (end : ℕ) → Looks told most x y → IsTrue told → AreChecked (pack x) offers a end → IsCorrected (pack x) a b → AreChecked (pack y) offers b end
+checked_then {told} {most} {x} {y} offers a b end looks t checked corrected = subst (λ p. AreChecked p offers b end) (sym (looks_pack looks t)) (checked_corrected (pack x) offers a b end checked corrected)
 
-pub checked_step : {told : Bool} {most : ℕ} {x y : Taped} (offers a b : List Bool) (at : ℕ) → Looked told most x y → IsTrue told → busy_at a at ≡ busy_at offers at → AreChecked (pack x) offers a at → IsCorrected (pack y) a b → IsCheckedAt (pack y) a b at → AreChecked (pack x) offers b (at + 1)
-checked_step {told} {most} {x} {y} offers a b at looked t same checked corrected here =
-    let here_too = subst (λ p. IsCheckedAt p a b at) (looked_pack looked t) here in
-    checked_more (pack x) offers b at (checked_corrected (pack x) offers a b at checked (subst (λ p. IsCorrected p a b) (looked_pack looked t) corrected)) (λ free. here_too (same ∙ free))
+pub checked_step : {told : Bool} {most : ℕ} {x y : Taped} (offers a b : List Bool) (at : ℕ) → Looks told most x y → IsTrue told → busy_at a at ≡ busy_at offers at → AreChecked (pack x) offers a at → IsCorrected (pack y) a b → IsCheckedAt (pack y) a b at → AreChecked (pack x) offers b (at + 1)
+checked_step {told} {most} {x} {y} offers a b at looks t same checked corrected here =
+    let here_too = subst (λ p. IsCheckedAt p a b at) (looks_pack looks t) here in
+    checked_more (pack x) offers b at (checked_corrected (pack x) offers a b at checked (subst (λ p. IsCorrected p a b) (looks_pack looks t) corrected)) (λ free. here_too (same ∙ free))
 
-pub offer_then : {told : Bool} {most : ℕ} {x y : Taped} (offers a : List Bool) (at : ℕ) (free : Bool) → Looked told most x y → IsTrue told → busy_at a at ≡ busy_at offers at → free ≡ is_offered_free (pack y) a at → free ≡ is_offered_free (pack x) offers at
-offer_then {told} {most} {x} {y} offers a at free looked t same is = is ∙ ap (λ p. is_offered_free p a at) (looked_pack looked t) ∙ ap (λ busy. is_free_at (pack x) at && not busy) same
+pub offer_then : {told : Bool} {most : ℕ} {x y : Taped} (offers a : List Bool) (at : ℕ) (free : Bool) → Looks told most x y → IsTrue told → busy_at a at ≡ busy_at offers at → free ≡ is_offered_free (pack y) a at → free ≡ is_offered_free (pack x) offers at
+offer_then {told} {most} {x} {y} offers a at free looks t same is = is ∙ ap (λ p. is_offered_free p a at) (looks_pack looks t) ∙ ap (λ busy. is_free_at (pack x) at && not busy) same

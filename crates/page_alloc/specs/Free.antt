@@ -1,5 +1,5 @@
 -- What a caller sees of taking free sectors: which are free, what a true table is, what changes in it, and what Full tells.
-use Rattle.std.specs.Prelude.{◌≡◌, ℕ, ◌<◌, ◌≤◌, ◌⊎◌, ◌&&◌, Bool, not, nat_lt, List, length, filter, All, Contains, Result, Ok, Err}
+use Rattle.std.specs.Prelude.{◌≡◌, ℕ, ◌<◌, ◌≤◌, ◌⊎◌, ◌&&◌, Bool, true, not, nat_lt, List, length, filter, All, Contains, Result, Ok, Err}
 use Rattle.std.specs.List.{range_with_len}
 use Rattle.std.specs.List.Sorted.{IsStrictlyIncreasing}
 use Rattle.disk_records.specs.Addresses.{pages_of}
@@ -50,7 +50,13 @@ pub record IsRising (end : ℕ) (addresses : List ℕ) : Type 0 where
   pub rising : IsStrictlyIncreasing addresses
   pub within : All (λ at. (1 ≤ at) × (at < end)) addresses
 
--- both numbers of a refusal for want of free sectors
+-- So many addresses of sectors that can carry a page, distinct and in rising order, and busy in the table.
+pub record IsReserved (end n : ℕ) (bits : List Bool) (taken : List ℕ) : Type 0 where
+  pub count : length taken ≡ n
+  pub rising : IsRising end taken
+  pub busy : All (λ at. busy_at bits at ≡ true) taken
+
+-- both numbers of a refusal that comes where too few sectors are free
 abbrev pub IfFull : {T : Type 0} → Result T AllocError → (ℕ → ℕ → Type 0) → Type 0
 IfFull (Ok x) P = Unit {0}
 IfFull (Err (Full needed free)) P = P needed free

@@ -1,25 +1,11 @@
--- What the private functions say: sector commands that read labels, how they fail, and the list that is gathered.
-use Rattle.std.specs.Prelude.{◌≡◌, ℕ, ◌+◌, ◌<◌, ◌≤◌, Bool, false, not, IsTrue, cond, nat_lt, ◌&&◌, List, [], ◌∷◌, ◌++◌, length, Result, Ok, Err}
+-- What the private functions say: errors of a look, the list that is gathered, and the bits that labels have corrected.
+use Rattle.std.specs.Prelude.{◌≡◌, ℕ, ◌<◌, ◌≤◌, Bool, false, not, cond, nat_lt, ◌&&◌, List, [], ◌∷◌, ◌++◌, length}
 use Rattle.disk_records.specs.Packs.{Pack, is_free_at}
-use Rattle.disk_records.specs.Tapes.{Taped, DiskAlone, Rose, added}
 use Rattle.hint_cache.specs.Bits.{busy_at}
 use Rattle.label_check.specs.declared.errors.LookError.{LookError}
 use Rattle.label_check.specs.declared.errors.LookError.TheVariants as look
 use Rattle.page_alloc.specs.declared.errors.AllocError.{AllocError}
-use Rattle.page_alloc.specs.declared.errors.AllocError.TheVariants.{Full, DiskFault, Memory}
-
--- at most so many sector commands, none of which writes
-pub record Looked (told : Bool) (most : ℕ) (old new : Taped) : Type 0 where
-  pub alone : DiskAlone old new
-  pub silent : IsTrue told → added old new ≡ []
-  pub runs : IsTrue told → new.runs ≤ old.runs + most
-
--- an error, if there is one, is a fault of the device, whose count rose, or want of memory
-abbrev pub IsFault : {T : Type 0} → Taped → Taped → Result T AllocError → Type 0
-IsFault old new (Ok x) = Unit {0}
-IsFault old new (Err (Full needed free)) = ⊥
-IsFault old new (Err DiskFault) = Rose old.disk_faults new.disk_faults
-IsFault old new (Err Memory) = Unit {0}
+use Rattle.page_alloc.specs.declared.errors.AllocError.TheVariants.{DiskFault, Memory}
 
 abbrev pub error_of_look : LookError → AllocError
 error_of_look look.DiskFault = DiskFault

@@ -1,11 +1,13 @@
 // A bit that is corrected by its sector's label, and the list of what is found.
 ghost use Rattle.std.specs.Prelude.{◌≡◌, ◌≢◌, ℕ, not, ◌+◌, ◌<◌, ◌≤◌, ◌++◌, ◌∷◌, ◌&&◌, Bool, cond, [], IsTrue, IfOk, OnOk, length, nat_lt};
 ghost use Rattle.disk_records.specs.Addresses.{pages_of};
+ghost use Rattle.disk_records.specs.Causes.{HasCause};
 ghost use Rattle.disk_records.specs.Packs.{is_free_at};
-ghost use Rattle.disk_records.specs.Tapes.{pack};
+ghost use Rattle.disk_records.specs.Tapes.{Looks, pack};
 ghost use Rattle.hint_cache.specs.Bits.{busy_at};
+ghost use Rattle.page_alloc.specs.Causes.{cause_of_finding};
 ghost use Rattle.page_alloc.specs.Free.{IsCorrected};
-ghost use Rattle.page_alloc.specs.Inside.{Looked, IsFault, listed};
+ghost use Rattle.page_alloc.specs.Inside.{listed};
 
 use crate::AllocError;
 use crate::count::is_free;
@@ -23,8 +25,8 @@ pub(crate) fn correct<D: Disk>(
     requires first { 1 ≤ at }
     requires place { at < pages_of (D.tape disk.old).form }
     requires sized { length table.old ≡ pages_of (D.tape disk.old).form }
-    ensures looked { Looked D.told 1 (D.tape disk.old) (D.tape disk.new) }
-    ensures fault { IsFault (D.tape disk.old) (D.tape disk.new) result }
+    ensures looks { Looks D.told 1 (D.tape disk.old) (D.tape disk.new) }
+    ensures cause { HasCause cause_of_finding (D.tape disk.old) (D.tape disk.new) result }
     ensures sized { length table.new ≡ length table.old }
     ensures others { (k : ℕ) → k ≢ at → busy_at table.new k ≡ busy_at table.old k }
     ensures corrected { IsTrue D.told → IsCorrected (pack (D.tape disk.old)) table.old table.new }

@@ -4,17 +4,16 @@
 //! busy bits is *true* where it is busy exactly at the sectors that aren't free; a table is a hint, and nothing but the choice
 //! of sectors and the number of sector commands rests on its being true. To the layers above, on every disk:
 //! 1. What `reserve` answers is as many addresses as were asked for, distinct and in rising order, of sectors that can carry a
-//!    page (`count`, `rising`), and busy in the table from then on (`busy`).
-//! 2. Full has the number that was asked for and a smaller one (`full`), and a fault comes only where its count rose (`fault`).
+//!    page, and busy in the table from then on (`reserved`).
+//! 2. Full has the number that was asked for and a smaller one (`full`), and a fault comes only where its count rose (`cause`).
 //!
-//! And where the disk is told:
+//! And where the machine is modelled:
 //! 3. Each sector that is taken is free (`free`). With a true table they are the lowest (`lowest`), found in as many sector
 //!    commands at most (`soon`).
-//! 4. With any table, where enough of the sectors that it has as free are free, there are at most as many sector commands as it
-//!    offers sectors (`offered`). For every answer there are fewer sector commands than sectors (`runs`).
-//! 5. Full comes exactly where fewer sectors are free than were asked for, with their number (`few`, `counted`).
-//! 6. Any other bit of the table stays, or becomes what its sector's label says, whatever the answer (`others`, `refused`).
-//! 7. Nothing is written, neither by `reserve` nor by `count_free` (`silent`).
+//! 4. Full comes if and only if fewer sectors are free than were asked for, with their number (`few`, `full`).
+//! 5. Any other bit of the table stays, or becomes what its sector's label says, whatever the answer (`others`, `refused`).
+//! 6. `reserve` and `count_free` write nothing, in fewer sector commands than sectors, whatever the answer (`looks`). With any table,
+//!    where enough of the sectors that it has as free are free, there are at most as many as it offers sectors (`offered`).
 //!
 //! Not promised: that a taken sector stays free. `claim` checks it again.
 #![tactic(auto)]

@@ -1,11 +1,13 @@
 // Free sectors among those that the table offers.
 ghost use Rattle.std.specs.Prelude.{◌≡◌, ◌≢◌, ℕ, not, ◌+◌, ◌<◌, ◌≤◌, ◌&&◌, Bool, cond, IsTrue, IfOk, OnOk, length, take};
 ghost use Rattle.disk_records.specs.Addresses.{pages_of};
+ghost use Rattle.disk_records.specs.Causes.{HasCause};
 ghost use Rattle.disk_records.specs.Packs.{is_free_at};
-ghost use Rattle.disk_records.specs.Tapes.{pack};
+ghost use Rattle.disk_records.specs.Tapes.{Looks, pack};
 ghost use Rattle.hint_cache.specs.Bits.{busy_at};
+ghost use Rattle.page_alloc.specs.Causes.{cause_of_finding};
 ghost use Rattle.page_alloc.specs.Free.{is_offered_free, offered_sectors, offered_free, IsTrueTable, IsCorrected, IsRising};
-ghost use Rattle.page_alloc.specs.Inside.{Looked, IsFault, IsCheckedAt, AreChecked};
+ghost use Rattle.page_alloc.specs.Inside.{IsCheckedAt, AreChecked};
 
 use crate::AllocError;
 use crate::bits::{correct, list_free};
@@ -23,8 +25,8 @@ fn is_offered_free<D: Disk>(
     requires first { 1 ≤ at }
     requires place { at < pages_of (D.tape disk.old).form }
     requires sized { length table.old ≡ pages_of (D.tape disk.old).form }
-    ensures looked { Looked D.told (cond (busy_at table.old at) 0 1) (D.tape disk.old) (D.tape disk.new) }
-    ensures fault { IsFault (D.tape disk.old) (D.tape disk.new) result }
+    ensures looks { Looks D.told (cond (busy_at table.old at) 0 1) (D.tape disk.old) (D.tape disk.new) }
+    ensures cause { HasCause cause_of_finding (D.tape disk.old) (D.tape disk.new) result }
     ensures sized { length table.new ≡ length table.old }
     ensures others { (k : ℕ) → k ≢ at → busy_at table.new k ≡ busy_at table.old k }
     ensures corrected { IsTrue D.told → IsCorrected (pack (D.tape disk.old)) table.old table.new }
@@ -48,8 +50,8 @@ pub(crate) fn gather_offered<D: Disk>(
     buf: &mut Sector,
 ) -> Result<Vec<u16>, AllocError>
     requires sized { length table.old ≡ pages_of (D.tape disk.old).form }
-    ensures looked { Looked D.told (length (offered_sectors table.old)) (D.tape disk.old) (D.tape disk.new) }
-    ensures fault { IsFault (D.tape disk.old) (D.tape disk.new) result }
+    ensures looks { Looks D.told (length (offered_sectors table.old)) (D.tape disk.old) (D.tape disk.new) }
+    ensures cause { HasCause cause_of_finding (D.tape disk.old) (D.tape disk.new) result }
     ensures sized { length table.new ≡ length table.old }
     ensures corrected { IsTrue D.told → IsCorrected (pack (D.tape disk.old)) table.old table.new }
     ensures rising { IfOk result (λ found. IsRising (pages_of (D.tape disk.old).form) found.items) }

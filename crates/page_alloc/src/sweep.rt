@@ -1,11 +1,13 @@
 // A sweep of all labels.
 ghost use Rattle.std.specs.Prelude.{◌≡◌, ℕ, not, ◌+◌, ◌<◌, ◌≤◌, Bool, cond, IsTrue, IfOk, length, take, min};
 ghost use Rattle.disk_records.specs.Addresses.{pages_of};
+ghost use Rattle.disk_records.specs.Causes.{HasCause};
 ghost use Rattle.disk_records.specs.Packs.{is_free_at};
-ghost use Rattle.disk_records.specs.Tapes.{pack};
+ghost use Rattle.disk_records.specs.Tapes.{Looks, pack};
 ghost use Rattle.hint_cache.specs.Bits.{busy_at};
+ghost use Rattle.page_alloc.specs.Causes.{cause_of_finding};
 ghost use Rattle.page_alloc.specs.Free.{below, free_addresses, IsCorrected, IsRising};
-ghost use Rattle.page_alloc.specs.Inside.{Looked, IsFault, IsCheckedAt, AreChecked, is_left};
+ghost use Rattle.page_alloc.specs.Inside.{IsCheckedAt, AreChecked, is_left};
 
 use crate::AllocError;
 use crate::bits::{correct, list_free};
@@ -28,8 +30,8 @@ fn is_free_by_now<D: Disk>(
     requires sized { length table.old ≡ pages_of (D.tape disk.old).form }
     requires offers { length offers.now ≡ pages_of (D.tape disk.old).form }
     requires checked { IsTrue D.told → IsCheckedAt (pack (D.tape disk.old)) offers.now table.old at }
-    ensures looked { Looked D.told (cond (busy_at offers.now at) 1 0) (D.tape disk.old) (D.tape disk.new) }
-    ensures fault { IsFault (D.tape disk.old) (D.tape disk.new) result }
+    ensures looks { Looks D.told (cond (busy_at offers.now at) 1 0) (D.tape disk.old) (D.tape disk.new) }
+    ensures cause { HasCause cause_of_finding (D.tape disk.old) (D.tape disk.new) result }
     ensures sized { length table.new ≡ length table.old }
     ensures corrected { IsTrue D.told → IsCorrected (pack (D.tape disk.old)) table.old table.new }
     ensures free { IsTrue D.told → IfOk result (λ free. free ≡ is_free_at (pack (D.tape disk.old)) at) }
@@ -63,8 +65,8 @@ pub(crate) fn sweep<D: Disk>(
     requires sized { length table.old ≡ pages_of (D.tape disk.old).form }
     requires offers { length offers.now ≡ pages_of (D.tape disk.old).form }
     requires checked { IsTrue D.told → AreChecked (pack (D.tape disk.old)) offers.now table.old (pages_of (D.tape disk.old).form) }
-    ensures looked { Looked D.told (length (below (is_left offers.now) (pages_of (D.tape disk.old).form))) (D.tape disk.old) (D.tape disk.new) }
-    ensures fault { IsFault (D.tape disk.old) (D.tape disk.new) result }
+    ensures looks { Looks D.told (length (below (is_left offers.now) (pages_of (D.tape disk.old).form))) (D.tape disk.old) (D.tape disk.new) }
+    ensures cause { HasCause cause_of_finding (D.tape disk.old) (D.tape disk.new) result }
     ensures sized { length table.new ≡ length table.old }
     ensures corrected { IsTrue D.told → IsCorrected (pack (D.tape disk.old)) table.old table.new }
     ensures rising { IfOk result (λ swept. IsRising (pages_of (D.tape disk.old).form) swept.lowest.items) }

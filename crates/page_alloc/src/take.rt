@@ -1,11 +1,12 @@
 // Taking free sectors.
 ghost use Rattle.std.specs.Prelude.{◌≡◌, ℕ, ◌+◌, ◌-◌, ◌*◌, ◌<◌, ◌≤◌, ◌⊎◌, true, [], IsTrue, IsErrOf, IfOk, OnOk, OnErr, length, take, All, Contains};
 ghost use Rattle.disk_records.specs.Addresses.{pages_of};
+ghost use Rattle.disk_records.specs.Causes.{HasCause};
 ghost use Rattle.disk_records.specs.Packs.{is_free_at};
-ghost use Rattle.disk_records.specs.Tapes.{DiskAlone, Rose, pack, added};
+ghost use Rattle.disk_records.specs.Tapes.{Looks, pack};
 ghost use Rattle.hint_cache.specs.Bits.{busy_at};
-ghost use Rattle.page_alloc.specs.Free.{free_addresses, offered_sectors, offered_free, IsTrueTable, IsCorrected, IsCorrectedBut, IsRising, IfFull};
-ghost use Rattle.page_alloc.specs.Inside.{Looked};
+ghost use Rattle.page_alloc.specs.Causes.{cause_of_alloc};
+ghost use Rattle.page_alloc.specs.Free.{IsReserved, free_addresses, offered_sectors, offered_free, IsTrueTable, IsCorrected, IsCorrectedBut, IsRising, IfFull};
 
 use crate::AllocError;
 use crate::offers::gather_offered;
@@ -23,8 +24,8 @@ fn find_free<D: Disk>(
     buf: &mut Sector,
 ) -> Result<Vec<u16>, AllocError>
     requires sized { length table.old ≡ pages_of (D.tape disk.old).form }
-    ensures looked { Looked D.told (pages_of (D.tape disk.old).form - 1) (D.tape disk.old) (D.tape disk.new) }
-    ensures fault { IsErrOf result AllocError.DiskFault → Rose (D.tape disk.old).disk_faults (D.tape disk.new).disk_faults }
+    ensures looks { Looks D.told (pages_of (D.tape disk.old).form - 1) (D.tape disk.old) (D.tape disk.new) }
+    ensures cause { HasCause cause_of_alloc (D.tape disk.old) (D.tape disk.new) result }
     ensures sized { length table.new ≡ length table.old }
     ensures corrected { IsTrue D.told → IsCorrected (pack (D.tape disk.old)) table.old table.new }
     ensures rising { IfOk result (λ found. IsRising (pages_of (D.tape disk.old).form) found.items) }
@@ -81,31 +82,25 @@ pub fn reserve<D: Disk>(
 ) -> Result<Vec<u16>, AllocError>
     requires sized { length table.old ≡ pages_of (D.tape disk.old).form }
 
-    // So many addresses of sectors that can carry a page, busy in the table from now on; where the disk is told, they are free.
-    ensures count { IfOk result (λ taken. length taken.items ≡ n) }
-    ensures rising { IfOk result (λ taken. IsRising (pages_of (D.tape disk.old).form) taken.items) }
-    ensures busy { IfOk result (λ taken. All (λ at. busy_at table.new at ≡ true) taken.items) }
+    // So many addresses, busy from now on; where the machine is modelled, of free sectors, and with a true table of the lowest.
+    ensures reserved { IfOk result (λ taken. IsReserved (pages_of (D.tape disk.old).form) n table.new taken.items) }
     ensures free { IsTrue D.told → IfOk result (λ taken. All (λ at. is_free_at (pack (D.tape disk.old)) at ≡ true) taken.items) }
-
-    // With a true table they are the lowest, each found at once. With any table whose offers are enough, there are no more sector
-    // commands than offers.
     ensures lowest { IsTrue D.told → IsTrueTable (pack (D.tape disk.old)) table.old → IfOk result (λ taken. taken.items ≡ take n (free_addresses (pack (D.tape disk.old)))) }
-    ensures soon { IsTrue D.told → IsTrueTable (pack (D.tape disk.old)) table.old → OnOk result ((D.tape disk.new).runs ≤ (D.tape disk.old).runs + n) }
-    ensures offered { IsTrue D.told → n ≤ length (offered_free (pack (D.tape disk.old)) table.old) → (D.tape disk.new).runs ≤ (D.tape disk.old).runs + length (offered_sectors table.old) }
 
-    // Full comes exactly where fewer are free, and has both numbers.
+    // Full comes if and only if fewer are free, with both numbers.
     ensures few { IsTrue D.told → length (free_addresses (pack (D.tape disk.old))) < n → OnOk result ⊥ }
-    ensures full { IfFull result (λ needed free. (needed ≡ n) × (free < n)) }
-    ensures counted { IsTrue D.told → IfFull result (λ needed free. free ≡ length (free_addresses (pack (D.tape disk.old)))) }
-    ensures fault { IsErrOf result AllocError.DiskFault → Rose (D.tape disk.old).disk_faults (D.tape disk.new).disk_faults }
+    ensures full { IfFull result (λ needed free. (needed ≡ n) × (free < n) × (IsTrue D.told → free ≡ length (free_addresses (pack (D.tape disk.old))))) }
+    ensures cause { HasCause cause_of_alloc (D.tape disk.old) (D.tape disk.new) result }
 
-    // What else changes. With any table, and for every answer, there are fewer sector commands than sectors.
-    ensures alone { DiskAlone (D.tape disk.old) (D.tape disk.new) }
-    ensures silent { IsTrue D.told → added (D.tape disk.old) (D.tape disk.new) ≡ [] }
-    ensures runs { IsTrue D.told → (D.tape disk.new).runs ≤ (D.tape disk.old).runs + (pages_of (D.tape disk.old).form - 1) }
+    // What changes: bits of the table, each to what its label says, and those of the addresses taken.
     ensures sized { length table.new ≡ length table.old }
     ensures others { IsTrue D.told → IfOk result (λ taken. IsCorrectedBut (pack (D.tape disk.old)) taken.items table.old table.new) }
     ensures refused { IsTrue D.told → OnErr result (IsCorrected (pack (D.tape disk.old)) table.old table.new) }
+    ensures looks { Looks D.told (pages_of (D.tape disk.old).form - 1) (D.tape disk.old) (D.tape disk.new) }
+
+    // With a true table each is found at once; with one whose offers are enough there are no more sector commands than offers.
+    ensures soon { IsTrue D.told → IsTrueTable (pack (D.tape disk.old)) table.old → OnOk result ((D.tape disk.new).runs ≤ (D.tape disk.old).runs + n) }
+    ensures offered { IsTrue D.told → n ≤ length (offered_free (pack (D.tape disk.old)) table.old) → (D.tape disk.new).runs ≤ (D.tape disk.old).runs + length (offered_sectors table.old) }
 {
     let mut buf = Sector::ZEROS;
     let taken = find_free(alloc, disk, table, n, &mut buf)?;

@@ -13,13 +13,13 @@ use Rattle.alto_top.proofs.session.obey_patch.Goals as goal
 use Rattle.alto_top.proofs.session.obey_patch.Goals.{then-not-is_patched-via-then-not-is_patched, then-not-is_patched-via-else-not-is_patched+then-not-lie_in_one_page}
 
 pub returns-in_err-fid-clause-does : goal.returns-in_err-fid-clause-does
-returns-in_err-fid-clause-does g c = λ told. gave_up (g.D.Tape.tape c.args.disk.now) (g.D.Tape.tape c.find_file.new.disk) _ _ (c.in_err-fid.ensures.silent told) (search rules)
+returns-in_err-fid-clause-does g c = λ told. gave_up (g.D.Tape.tape c.args.disk.now) (g.D.Tape.tape c.find_file.new.disk) _ _ (c.in_err-fid.ensures.looks.silent told) (search rules)
 
 pub returns-in_default-clause-does : goal.returns-in_default-clause-does
 returns-in_default-clause-does g c = λ told.
     let old = g.D.Tape.tape c.args.disk.now in
     let none = none_found (file_of_serial (stored_files (pack old)) c.args.patch.now.serial) (sym c.in_default.is ∙ c.in_ok-fid.ensures.found told) in
-    silent_does (g.D.Tape.tape c.args.disk.now) (g.D.Tape.tape c.find_file.new.disk) _ _ (c.in_ok-fid.ensures.silent told) (ap (puts_on c.args.patch.now) none)
+    silent_does (g.D.Tape.tape c.args.disk.now) (g.D.Tape.tape c.find_file.new.disk) _ _ (c.in_ok-fid.ensures.looks.silent told) (ap (puts_on c.args.patch.now) none)
 
 pub returns-then-not-is_patched-clause-does : goal.returns-then-not-is_patched-clause-does
 returns-then-not-is_patched-clause-does g c = λ told.
@@ -29,25 +29,25 @@ returns-then-not-is_patched-clause-does g c = λ told.
       | then-not-is_patched-via-then-not-is_patched w ↦ not_both (is_patched c.in-Some.fid) (lie_in_one_page c.args.patch.now.offset c.args.patch.now.bytes) (sym w.if-not-is_patched.ensures)
       | then-not-is_patched-via-else-not-is_patched+then-not-lie_in_one_page w ↦ not_other (is_patched c.in-Some.fid) (lie_in_one_page c.args.patch.now.offset c.args.patch.now.bytes) (ap (lie_in_one_page c.args.patch.now.offset) (sym w.as_slice.ensures) ∙ sym w.if-not-lie_in_one_page.ensures.one_page)
     ] in
-    silent_does (g.D.Tape.tape c.args.disk.now) (g.D.Tape.tape c.find_file.new.disk) _ _ (c.in_ok-fid.ensures.silent told) (no_puts (sights (pack old)) c.args.patch.now c.in-Some.fid found not)
+    silent_does (g.D.Tape.tape c.args.disk.now) (g.D.Tape.tape c.find_file.new.disk) _ _ (c.in_ok-fid.ensures.looks.silent told) (no_puts (sights (pack old)) c.args.patch.now c.in-Some.fid found not)
 
 pub returns-in_err-pages-clause-alone : goal.returns-in_err-pages-clause-alone
-returns-in_err-pages-clause-alone g c = alone_twice c.in_ok-fid.ensures.alone c.in_err-pages.ensures.alone
+returns-in_err-pages-clause-alone g c = alone_twice c.in_ok-fid.ensures.looks.alone c.in_err-pages.ensures.looks.alone
 
 pub returns-in_err-pages-clause-does : goal.returns-in_err-pages-clause-does
 returns-in_err-pages-clause-does g c = λ told.
-    gave_up (g.D.Tape.tape c.args.disk.now) (g.D.Tape.tape c.find_pages.new.disk) _ _ (silent_twice c.in_ok-fid.ensures.alone.grown c.in_err-pages.ensures.alone.grown (c.in_ok-fid.ensures.silent told) (c.in_err-pages.ensures.silent told)) (search rules)
+    gave_up (g.D.Tape.tape c.args.disk.now) (g.D.Tape.tape c.find_pages.new.disk) _ _ (silent_twice c.in_ok-fid.ensures.looks.alone.grown c.in_err-pages.ensures.looks.alone.grown (c.in_ok-fid.ensures.looks.silent told) (c.in_err-pages.ensures.looks.silent told)) (search rules)
 
 pub returns-clause-alone : goal.returns-clause-alone
-returns-clause-alone g c = alone_twice (alone_twice c.in_ok-fid.ensures.alone c.in_ok-pages.ensures.alone) c.patch_pages.ensures.alone
+returns-clause-alone g c = alone_twice (alone_twice c.in_ok-fid.ensures.looks.alone c.in_ok-pages.ensures.looks.alone) c.patch_pages.ensures.alone
 
 pub returns-clause-does : goal.returns-clause-does
 returns-clause-does g c = λ told.
     let old = g.D.Tape.tape c.args.disk.now in
     let mid = g.D.Tape.tape c.find_pages.new.disk in
     let new = g.D.Tape.tape c.patch_pages.new.disk in
-    let sweeps = alone_twice c.in_ok-fid.ensures.alone c.in_ok-pages.ensures.alone in
-    let silent = silent_twice c.in_ok-fid.ensures.alone.grown c.in_ok-pages.ensures.alone.grown (c.in_ok-fid.ensures.silent told) (c.in_ok-pages.ensures.silent told) in
+    let sweeps = alone_twice c.in_ok-fid.ensures.looks.alone c.in_ok-pages.ensures.looks.alone in
+    let silent = silent_twice c.in_ok-fid.ensures.looks.alone.grown c.in_ok-pages.ensures.looks.alone.grown (c.in_ok-fid.ensures.looks.silent told) (c.in_ok-pages.ensures.looks.silent told) in
     let found = file_found (sights (pack old)) c.args.patch.now.serial c.in-Some.fid (sym c.in-Some.is ∙ c.in_ok-fid.ensures.found told) in
     let patched : is_patched c.in-Some.fid ≡ true = sym c.if-not-is_patched.ensures in
     let one : lie_in_one_page c.args.patch.now.offset c.args.patch.now.bytes ≡ true = ap (lie_in_one_page c.args.patch.now.offset) (sym c.as_slice.ensures) ∙ sym c.if-not-lie_in_one_page.ensures.one_page in
@@ -59,8 +59,8 @@ returns-clause-does g c = λ told.
 pub returns-clause-reply : goal.returns-clause-reply
 returns-clause-reply g c = λ told.
     let old = g.D.Tape.tape c.args.disk.now in
-    let sweeps = alone_twice c.in_ok-fid.ensures.alone c.in_ok-pages.ensures.alone in
-    let silent = silent_twice c.in_ok-fid.ensures.alone.grown c.in_ok-pages.ensures.alone.grown (c.in_ok-fid.ensures.silent told) (c.in_ok-pages.ensures.silent told) in
+    let sweeps = alone_twice c.in_ok-fid.ensures.looks.alone c.in_ok-pages.ensures.looks.alone in
+    let silent = silent_twice c.in_ok-fid.ensures.looks.alone.grown c.in_ok-pages.ensures.looks.alone.grown (c.in_ok-fid.ensures.looks.silent told) (c.in_ok-pages.ensures.looks.silent told) in
     let found = file_found (sights (pack old)) c.args.patch.now.serial c.in-Some.fid (sym c.in-Some.is ∙ c.in_ok-fid.ensures.found told) in
     let patched : is_patched c.in-Some.fid ≡ true = sym c.if-not-is_patched.ensures in
     let one : lie_in_one_page c.args.patch.now.offset c.args.patch.now.bytes ≡ true = ap (lie_in_one_page c.args.patch.now.offset) (sym c.as_slice.ensures) ∙ sym c.if-not-lie_in_one_page.ensures.one_page in

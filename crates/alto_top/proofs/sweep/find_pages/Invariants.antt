@@ -1,6 +1,6 @@
-use Rattle.std.proofs.Common.{◌≡◌, ℕ, suc, ◌+◌, ◌≤◌, [], take, IsTrue}
+use Rattle.std.proofs.Common.{◌≡◌, ℕ, suc, ◌-◌, take, IsTrue}
 use Rattle.disk_records.specs.Addresses.{pages_of}
-use Rattle.disk_records.specs.Tapes.{DiskAlone, pack, added}
+use Rattle.disk_records.specs.Tapes.{Looks, pack}
 use Rattle.pack_model.specs.reading.Sights.{sights}
 use Rattle.pack_model.specs.reading.Files.{first, numbered}
 use Rattle.alto_top.specs.Sweeps.{held_at, kept_page, AreWithin}
@@ -11,10 +11,8 @@ invariant-loop-at g l =
     let old = g.D.Tape.tape l.fn.disk in
     let now = g.D.Tape.tape l.disk in
     record {
-      alone : DiskAlone old now;
       end : l.end ≡ pages_of old.form;
-      silent : IsTrue g.D.Tape.told → added old now ≡ [];
-      runs : IsTrue g.D.Tape.told → now.runs + 1 ≤ old.runs + l.at;
+      looks : Looks g.D.Tape.told (l.at - 1) old now;
       within : AreWithin (pages_of old.form) l.pages;
       pages : IsTrue g.D.Tape.told → (n : ℕ) → kept_page l.pages (suc n) ≡ first (held_at l.fid (suc n)) (take l.at (numbered 0 (sights (pack old))));
     }

@@ -7,6 +7,6 @@ pub returns-then-is_full_name : goal.returns-then-is_full_name
 unfolding in_range
 returns-then-is_full_name c = grind (arith, nat_tests)
 
-pub returns-else-label-le512 : goal.returns-else-label-le512
+pub returns-else-label-le-PAGE_BYTES : goal.returns-else-label-le-PAGE_BYTES
 unfolding in_range
-returns-else-label-le512 c = grind (arith, nat_tests)
+returns-else-label-le-PAGE_BYTES c = grind (arith, nat_tests)

@@ -12,13 +12,13 @@ returns-in_err-look_for-clause-guarded g c = λ told.
     guarded_less _ _ (search rules) (c.in_err-look_for.ensures.guarded told)
 
 pub returns-clause-alone : goal.returns-clause-alone
-returns-clause-alone g c = alone_twice c.in_ok-look_for.ensures.alone c.finish.ensures.alone
+returns-clause-alone g c = alone_twice c.in_ok-look_for.ensures.looks.alone c.finish.ensures.alone
 
 pub returns-clause-guarded : goal.returns-clause-guarded
 returns-clause-guarded g c = λ told.
     let looked = c.in_ok-look_for.ensures in
     let done = (looked.guarded told).ok in
     let found = c.look_for.new.buf in
-    let finished = c.finish.ensures.finished told (matches_header c.args.at (record { header = found.header; label = c.args.label; value = found.value }) found looked.alone done.wrote (looked.holds told) refl) in
-    guarded_then looked.alone c.finish.ensures.alone done
+    let finished = c.finish.ensures.finished told (matches_header c.args.at (record { header = found.header; label = c.args.label; value = found.value }) found looked.looks.alone done.wrote (looked.holds told) refl) in
+    guarded_then looked.looks.alone c.finish.ensures.alone done
     (subst (λ value. Finished (relabel_writes c.args.at c.args.label value) (g.D.Tape.tape c.look_for.new.disk) (g.D.Tape.tape c.finish.new.disk) c.finish.result) (ap (λ (s : Sector). s.value) (looked.holds told)) finished)

@@ -10,11 +10,11 @@ returns-in_err-look_for-clause-guarded g c = λ told.
     guarded_less _ _ (search rules) (c.in_err-look_for.ensures.guarded told)
 
 pub returns-clause-alone : goal.returns-clause-alone
-returns-clause-alone g c = alone_twice c.in_ok-look_for.ensures.alone c.finish.ensures.alone
+returns-clause-alone g c = alone_twice c.in_ok-look_for.ensures.looks.alone c.finish.ensures.alone
 
 pub returns-clause-guarded : goal.returns-clause-guarded
 returns-clause-guarded g c = λ told.
     let looked = c.in_ok-look_for.ensures in
     let done = (looked.guarded told).ok in
-    guarded_then looked.alone c.finish.ensures.alone done
-    (c.finish.ensures.finished told (matches_header c.args.at (record { header = c.look_for.new.buf.header; label = ones 8; value = ones 256 }) c.look_for.new.buf looked.alone done.wrote (looked.holds told) refl))
+    guarded_then looked.looks.alone c.finish.ensures.alone done
+    (c.finish.ensures.finished told (matches_header c.args.at (record { header = c.look_for.new.buf.header; label = ones 8; value = ones 256 }) c.look_for.new.buf looked.looks.alone done.wrote (looked.holds told) refl))

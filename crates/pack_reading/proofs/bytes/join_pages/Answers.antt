@@ -16,9 +16,9 @@ returns-in_default-clause-bytes c =
     (sym (c.loop-number.invariant.ahead c.loop-number.number (omega arith)) ∙ kept_here c.loop-number.pages c.args.fid c.loop-number.number None c.in_default.ensures.value)
     ∙ kept_all c.args.pages.now c.args.fid
 
-pub returns-then-as_slice-lt-PAGE_BYTES-clause-bytes : goal.returns-then-as_slice-lt-PAGE_BYTES-clause-bytes
-returns-then-as_slice-lt-PAGE_BYTES-clause-bytes c =
-    let less : length c.in-Some.held < 512 = omega (arith, ap length c.as_slice-in-loop-number.ensures, c.if-as_slice-lt-PAGE_BYTES.true) in
+pub returns-then-as_slice-clause-bytes : goal.returns-then-as_slice-clause-bytes
+returns-then-as_slice-clause-bytes c =
+    let less : length c.in-Some.held < 512 = omega (arith, ap length c.as_slice-in-loop-number.ensures, c.if-as_slice.true) in
     c.in_ok-extend_from_slice.ensures.items
     ∙ ap (λ l. c.loop-number.bytes.items ++ l) c.as_slice.ensures
     ∙ joining_last (page_kept c.args.pages.now c.args.fid) 65535 c.loop-number.number c.loop-number.bytes.items c.loop-number.invariant.joining c.in-Some.held c.loop-number-test.true
@@ -27,7 +27,7 @@ returns-then-as_slice-lt-PAGE_BYTES-clause-bytes c =
 
 pub loop-number-preserved : goal.loop-number-preserved
 loop-number-preserved c =
-    let full : 512 ≤ length c.in-Some.held = omega (arith, ap length c.as_slice-in-loop-number.ensures, c.if-as_slice-lt-PAGE_BYTES.false) in
+    let full : 512 ≤ length c.in-Some.held = omega (arith, ap length c.as_slice-in-loop-number.ensures, c.if-as_slice.false) in
     record {
       joining =
           subst (Joining (page_kept c.args.pages.now c.args.fid) 65535 _) (sym (c.in_ok-extend_from_slice.ensures.items ∙ ap (λ l. c.loop-number.bytes.items ++ l) c.as_slice.ensures))
@@ -45,5 +45,5 @@ returns-clause-bytes c =
 pub returns-in_err-extend_from_slice-clause-others : goal.returns-in_err-extend_from_slice-clause-others
 returns-in_err-extend_from_slice-clause-others c = λ f apart n. others_left c.loop-number.pages (record { kept = c.remove.new.self }) _ c.in-Some.ensures.updates.2 f apart n ∙ c.loop-number.invariant.others f apart n
 
-pub returns-then-as_slice-lt-PAGE_BYTES-clause-others : goal.returns-then-as_slice-lt-PAGE_BYTES-clause-others
-returns-then-as_slice-lt-PAGE_BYTES-clause-others c = λ f apart n. others_left c.loop-number.pages (record { kept = c.remove.new.self }) _ c.in-Some.ensures.updates.2 f apart n ∙ c.loop-number.invariant.others f apart n
+pub returns-then-as_slice-clause-others : goal.returns-then-as_slice-clause-others
+returns-then-as_slice-clause-others c = λ f apart n. others_left c.loop-number.pages (record { kept = c.remove.new.self }) _ c.in-Some.ensures.updates.2 f apart n ∙ c.loop-number.invariant.others f apart n

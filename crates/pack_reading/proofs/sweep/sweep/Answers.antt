@@ -1,6 +1,7 @@
 use Rattle.std.proofs.Common.{◌∙◌, ◌<◌, length, arith, rules}
 use Rattle.disk_records.specs.Tapes.{pack}
-use Rattle.disk_records.proofs.Growing.{alone_twice, alone_here, nothing_added, silent_twice, length-pack}
+use Rattle.disk_records.proofs.Growing.{length-pack}
+use Rattle.disk_records.proofs.Looking.{looks_none, looks_twice}
 use Rattle.pack_reading.proofs.Sweeping.{holds_none, holds_more, holds_all}
 use Rattle.pack_reading.proofs.sweep.sweep.Goals as goal
 
@@ -8,26 +9,22 @@ pub loop-at-init : goal.loop-at-init
 loop-at-init g c =
     let first = g.D.Tape.tape c.args.disk.now in
     record {
-      alone = alone_here first;
       end = search rules;
-      silent = λ told. nothing_added first.events;
-      runs = λ told. omega arith;
+      looks = looks_none _ first;
       holds = λ told. holds_none (pack first) _ c.new.ensures c.new-2.ensures;
     }
 
-pub returns-in_err-sweep_sector-clause-alone : goal.returns-in_err-sweep_sector-clause-alone
-returns-in_err-sweep_sector-clause-alone g c = alone_twice c.loop-at.invariant.alone c.in_err-sweep_sector.ensures.alone
+pub returns-in_err-sweep_sector-clause-looks : goal.returns-in_err-sweep_sector-clause-looks
+returns-in_err-sweep_sector-clause-looks g c = looks_twice _ c.loop-at.invariant.looks c.in_err-sweep_sector.ensures.looks (omega arith)
 
 pub loop-at-preserved : goal.loop-at-preserved
 loop-at-preserved g c =
     let first = g.D.Tape.tape c.args.disk.now in
     let end = c.loop-at.invariant.end in
     record {
-      alone = alone_twice c.loop-at.invariant.alone c.in_ok-sweep_sector.ensures.alone;
       end = end;
-      silent = λ told. silent_twice c.loop-at.invariant.alone.grown c.in_ok-sweep_sector.ensures.alone.grown (c.loop-at.invariant.silent told) (c.in_ok-sweep_sector.ensures.silent told);
-      runs = λ told. omega (arith, c.loop-at.invariant.runs told, c.in_ok-sweep_sector.ensures.runs told);
-      holds = λ told. let sized = g.met.D.Disk.sized c.args.disk.now told in let within : c.loop-at.at < length first.base = omega (arith, end, sized) in holds_more c.loop-at.at c.loop-at.swept c.sweep_sector.new.swept c.loop-at.invariant.alone.grown (c.loop-at.invariant.silent told) within (c.loop-at.invariant.holds told) (c.in_ok-sweep_sector.ensures.kept told);
+      looks = looks_twice _ c.loop-at.invariant.looks c.in_ok-sweep_sector.ensures.looks (omega arith);
+      holds = λ told. let sized = g.met.D.Disk.sized c.args.disk.now told in let within : c.loop-at.at < length first.base = omega (arith, end, sized) in holds_more c.loop-at.at c.loop-at.swept c.sweep_sector.new.swept c.loop-at.invariant.looks.alone.grown (c.loop-at.invariant.looks.silent told) within (c.loop-at.invariant.holds told) (c.in_ok-sweep_sector.ensures.kept told);
     }
 
 pub returns-clause-holds : goal.returns-clause-holds

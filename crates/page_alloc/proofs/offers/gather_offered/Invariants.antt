@@ -1,9 +1,9 @@
 use Rattle.std.proofs.Common.{◌≡◌, ℕ, ◌≤◌, IsTrue, length}
 use Rattle.disk_records.specs.Addresses.{pages_of}
-use Rattle.disk_records.specs.Tapes.{pack}
+use Rattle.disk_records.specs.Tapes.{Looks, pack}
 use Rattle.hint_cache.specs.Bits.{busy_at}
 use Rattle.page_alloc.specs.Free.{below, is_offered, is_offered_free, IsCorrected, IsRising}
-use Rattle.page_alloc.specs.Inside.{Looked, AreChecked}
+use Rattle.page_alloc.specs.Inside.{AreChecked}
 use Rattle.page_alloc.proofs.offers.gather_offered.Given as goal
 
 abbrev pub invariant-loop-at : goal.invariant-loop-at
@@ -11,7 +11,7 @@ invariant-loop-at g l =
     let old = g.D.Tape.tape l.fn.disk in
     let now = g.D.Tape.tape l.disk in
     record {
-      looked : Looked g.D.Tape.told (length (below (is_offered l.fn.table) l.at)) old now;
+      looks : Looks g.D.Tape.told (length (below (is_offered l.fn.table) l.at)) old now;
       end : l.end ≡ pages_of old.form;
       sized : length l.table ≡ length l.fn.table;
       rest : (k : ℕ) → l.at ≤ k → busy_at l.table k ≡ busy_at l.fn.table k;

@@ -1,7 +1,7 @@
 use Rattle.std.proofs.Common.{◌≤◌, ◌+◌, ◌*◌, length, arith}
-use Rattle.alto_top.proofs.InPlace.{next_high, next_low, put_whole}
-use Rattle.alto_top.proofs.put.put_in_words.Goals as goal
-use Rattle.alto_top.proofs.put.put_in_words.Goals.{then-place-eq0, else-place-eq0}
+use Rattle.disk_records.proofs.InPlace.{next_high, next_low, put_whole}
+use Rattle.disk_records.proofs.words.put_bytes.Goals as goal
+use Rattle.disk_records.proofs.words.put_bytes.Goals.{then-place-eq0, else-place-eq0}
 
 pub loop-i-preserved : goal.loop-i-preserved
 loop-i-preserved c =

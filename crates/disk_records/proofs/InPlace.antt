@@ -2,28 +2,30 @@
 use Rattle.std.proofs.Common.{◌≡◌, ℕ, zero, suc, ◌+◌, ◌*◌, ◌/◌, ◌%◌, ◌<◌, ◌≤◌, List, [], ◌∷◌, ◌++◌, length, take, drop, get_or, refl, sym, ◌∙◌, ap, arith, append_assoc}
 use Rattle.std.proofs.lemmas.List.{length-append, length-take, drop-drop, take_more, take_all}
 use Rattle.std.proofs.Math.ListN.{set}
-use Rattle.pack_model.specs.reading.Bytes.{bytes_of, words_of, put_at}
-use Rattle.pack_laws.proofs.Bytes.{put_at-nil, put_at-later, put_at-here, put_at-append_right, words_of-bytes_of, length-bytes_of, length-put_at}
+use Rattle.disk_records.specs.Bytes.{bytes_of, words_of, put_at}
+use Rattle.disk_records.proofs.Bytes.{put_at-nil, put_at-later, put_at-here, put_at-append_right, words_of-bytes_of, length-bytes_of, length-put_at}
 
--- ---- one byte more
-put_at-more : (at b : ℕ) (new old : List ℕ) → at ≤ length old → put_at at (new ++ b ∷ []) old ≡ put_at (at + length new) (b ∷ []) (put_at at new old)
-put_at-more at b new old within =
+-- ---- some bytes more
+put_at-joined : (at : ℕ) (new more old : List ℕ) → at ≤ length old → put_at at (new ++ more) old ≡ put_at (at + length new) more (put_at at new old)
+put_at-joined at new more old within =
     let front = take at old ++ new in
     let rest = drop (at + length new) old in
     let size : at + length new ≡ length (take at old ++ new) + 0 = omega (arith, length-append (take at old) new, length-take at old) in
-    let past : drop (at + length (new ++ b ∷ [])) old ≡ drop 1 rest = ap (λ n. drop n old) (omega (arith, length-append new (b ∷ []))) ∙ sym (drop-drop 1 (at + length new) old) in
-    ap (λ r. take at old ++ (new ++ b ∷ []) ++ r) past
-    ∙ ap (λ l. l ++ drop 1 rest) (sym (append_assoc (take at old) new (b ∷ [])))
-    ∙ append_assoc front (b ∷ []) (drop 1 rest)
-    ∙ sym (put_at-append_right 0 (b ∷ []) front rest)
-    ∙ ap (λ n. put_at n (b ∷ []) (front ++ rest)) (sym size)
+    let past : drop (at + length (new ++ more)) old ≡ drop (length more) rest = ap (λ n. drop n old) (omega (arith, length-append new more)) ∙ sym (drop-drop (length more) (at + length new) old) in
+    let none : length more ≡ 0 + length more = omega arith in
+    ap (λ r. take at old ++ (new ++ more) ++ r) past
+    ∙ ap (λ l. l ++ drop (length more) rest) (sym (append_assoc (take at old) new more))
+    ∙ append_assoc front more (drop (length more) rest)
+    ∙ ap (λ n. front ++ (more ++ drop n rest)) none
+    ∙ sym (put_at-append_right 0 more front rest)
+    ∙ ap (λ n. put_at n more (front ++ rest)) (sym size)
 
 -- the next of some bytes
 put_at-next : (at i : ℕ) (bytes old : List ℕ) → i < length bytes → at ≤ length old → put_at at (take (i + 1) bytes) old ≡ put_at (at + i) (get_or bytes i 0 ∷ []) (put_at at (take i bytes) old)
 put_at-next at i bytes old more within =
     let size : at + length (take i bytes) ≡ at + i = omega (arith, length-take i bytes) in
     ap (λ l. put_at at l old) (take_more bytes i 0 more)
-    ∙ put_at-more at (get_or bytes i 0) (take i bytes) old within
+    ∙ put_at-joined at (take i bytes) (get_or bytes i 0 ∷ []) old within
     ∙ ap (λ n. put_at n (get_or bytes i 0 ∷ []) (put_at at (take i bytes) old)) size
 
 -- ---- one byte in a word
@@ -98,5 +100,26 @@ module _ (at i : ℕ) (bytes words old : List ℕ) (put : bytes_of words ≡ put
         one_more (ap (λ v. bytes_of (set words ((at + i) / 2) v)) is ∙ put_low (at + i) (get_or bytes i 0) words odd (omega arith) below)
 
   -- all of them are
-  pub put_whole : length bytes ≤ i → words ≡ words_of (put_at at bytes (bytes_of old))
-  put_whole end = sym (words_of-bytes_of words) ∙ ap words_of (put ∙ ap (λ l. put_at at l (bytes_of old)) (take_all i bytes end))
+  pub put_whole : length bytes ≤ i → bytes_of words ≡ put_at at bytes (bytes_of old)
+  put_whole end = put ∙ ap (λ l. put_at at l (bytes_of old)) (take_all i bytes end)
+
+-- ---- words after bytes
+bytes_of-append : (a b : List ℕ) → bytes_of (a ++ b) ≡ bytes_of a ++ bytes_of b
+bytes_of-append [] b = refl
+bytes_of-append (w ∷ a) b = ap (λ l. w / 256 ∷ w % 256 ∷ l) (bytes_of-append a b)
+
+-- one word more
+pub next_word : (at i : ℕ) (bytes past words later old : List ℕ) → i < length past → at ≤ length old → bytes_of words ≡ put_at at (bytes ++ bytes_of (take i past)) old
+    → bytes_of later ≡ put_at (at + length bytes + 2 * i) (get_or past i 0 / 256 ∷ get_or past i 0 % 256 ∷ []) (bytes_of words)
+    → bytes_of later ≡ put_at at (bytes ++ bytes_of (take (i + 1) past)) old
+next_word at i bytes past words later old more within so_far next =
+    let pair = get_or past i 0 / 256 ∷ get_or past i 0 % 256 ∷ [] in
+    let front = bytes ++ bytes_of (take i past) in
+    let size : at + length bytes + 2 * i ≡ at + length (bytes ++ bytes_of (take i past)) = omega (arith, length-append bytes (bytes_of (take i past)), length-bytes_of (take i past), length-take i past) in
+    let all : bytes ++ bytes_of (take (i + 1) past) ≡ front ++ pair =
+    ap (λ l. bytes ++ bytes_of l) (take_more past i 0 more) ∙ ap (λ l. bytes ++ l) (bytes_of-append (take i past) (get_or past i 0 ∷ [])) ∙ sym (append_assoc bytes (bytes_of (take i past)) pair) in
+    next ∙ ap (λ n. put_at n pair (bytes_of words)) size ∙ ap (put_at (at + length front) pair) so_far ∙ sym (put_at-joined at front pair old within) ∙ ap (λ l. put_at at l old) (sym all)
+
+-- all words are put after the bytes
+pub put_all : (at i : ℕ) (bytes past words old : List ℕ) → length past ≤ i → bytes_of words ≡ put_at at (bytes ++ bytes_of (take i past)) (bytes_of old) → words ≡ words_of (put_at at (bytes ++ bytes_of past) (bytes_of old))
+put_all at i bytes past words old end put = sym (words_of-bytes_of words) ∙ ap words_of (put ∙ ap (λ l. put_at at (bytes ++ bytes_of l) (bytes_of old)) (take_all i past end))

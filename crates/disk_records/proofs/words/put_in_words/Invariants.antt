@@ -1,0 +1,6 @@
+use Rattle.std.proofs.Common.{◌≡◌, ◌++◌, take}
+use Rattle.disk_records.specs.Bytes.{bytes_of, put_at}
+use Rattle.disk_records.proofs.words.put_in_words.Given as goal
+
+abbrev pub invariant-loop-i : goal.invariant-loop-i
+invariant-loop-i l = bytes_of l.value ≡ put_at l.offset (l.bytes ++ bytes_of (take l.i l.past)) (bytes_of l.fn.value)
