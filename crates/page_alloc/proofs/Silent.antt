@@ -1,7 +1,7 @@
 -- Calls that write nothing, one after another.
-use Rattle.std.proofs.Common.{◌≡◌, ℕ, ◌+◌, ◌-◌, ◌≤◌, Bool, cond, IsTrue, List, length, sym, ◌∙◌, ap, arith}
+use Rattle.std.proofs.Common.{◌≡◌, ℕ, ◌+◌, ◌-◌, ◌≤◌, Bool, cond, List, length, sym, ◌∙◌, ap, arith}
 use Rattle.disk_records.specs.Addresses.{pages_of}
-use Rattle.disk_records.specs.Tapes.{Looks, Taped, pack}
+use Rattle.disk_records.specs.Tapes.{Looks, Taped}
 use Rattle.disk_records.proofs.Looking.{looks_twice, looks_within, looks_pages}
 use Rattle.page_alloc.specs.Free.{below, offered_sectors}
 use Rattle.page_alloc.specs.Inside.{is_left}
