@@ -1,0 +1,14 @@
+pub mod Changing
+pub mod FactsA
+pub mod FactsC
+pub mod FactsD
+pub mod FactsP
+pub mod LineA
+pub mod LineD
+pub mod Lines
+pub mod Meeting
+pub mod Meets
+pub mod More
+pub mod NewFile
+pub mod Operating
+pub mod Renaming

@@ -1,0 +1,2 @@
+pub mod Peopled
+pub mod Premises
