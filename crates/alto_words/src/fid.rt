@@ -8,7 +8,7 @@ const MAX_VERSION: u16 = 0xFFFE;
 /// The full name of a file: a serial number of 31 bits in two words, with the directory mark as the
 /// top bit of the high word, and a version. Full names are ordered by (high, low, version).
 /// Source: the full names of the SOSP 1979 paper; the words are those of the Alto's labels.
-#[derive(Clone, Copy, Debug, PartialEq, Eq, PartialOrd, Ord)]
+#[derive(Clone, Copy, Debug, PartialEq, Eq, PartialOrd, Ord, Hash)]
 pub struct Fid {
     /// The directory mark (0x8000) and the upper 15 bits of the serial.
     pub high: u16,

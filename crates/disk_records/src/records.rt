@@ -75,7 +75,7 @@ impl Plan {
 }
 
 /// A page of a file: page 0 is the leader page, data pages are numbered from 1.
-#[derive(Clone, Copy, Debug, PartialEq, Eq, PartialOrd, Ord)]
+#[derive(Clone, Copy, Debug, PartialEq, Eq, PartialOrd, Ord, Hash)]
 pub struct Page {
     /// The file's full name.
     pub fid: Fid,
