@@ -1,2 +1,4 @@
 pub mod Bits
 pub mod Caches
+pub mod Highest
+pub mod Words

@@ -1,14 +1,17 @@
 // Where pages were last seen.
-ghost use Rattle.std.specs.Prelude.{◌≡◌, IsOk, OnOk, OnErr, IsSome, vec_capacity};
-ghost use Rattle.hint_cache.specs.Caches.{address_in, without, noted};
+ghost use Rattle.std.specs.Prelude.{◌≡◌, fold, None};
+ghost use Rattle.hint_cache.specs.Caches.{entries_of};
+ghost use Rattle.hint_cache.specs.Highest.{highest_after};
 
-use alto_words::Memory;
+use alto_words::{Fid, Memory};
 use disk_records::Page;
+use lru::LruCache;
 use std::alloc::Global;
 use std::marker::Model;
+use std::num::NonZeroUsize;
 
 /// The most entries of a cache.
-const MAX_ENTRIES: usize = 48;
+pub(crate) const MAX_ENTRIES: usize = 48;
 
 /// A page, and the virtual address of the sector where it was last seen: a hint.
 #[derive(Clone, Copy, Debug, PartialEq, Eq, Drop)]
@@ -23,58 +26,44 @@ pub struct Entry {
 /// entries and the count of refusals.
 #[derive(Drop)]
 pub struct HintCache {
-    entries: Vec<Entry>,
+    pub(crate) pages: LruCache<Page, u16>,
     refused: u64,
 }
 
 impl Model for HintCache {
-    ghost use Rattle.hint_cache.specs.Caches.{Cached, IsCacheList};
+    ghost use Rattle.std.specs.Prelude.{◌≡◌};
+    ghost use Rattle.hint_cache.specs.Caches.{Cached, IsCacheList, entries_of};
 
     ghost Value = { Cached };
 
-    ghost view = { λ cache. record { entries = cache.entries.items; refused = cache.refused } };
+    ghost view = { λ cache. record { entries = entries_of cache.pages.entries; refused = cache.refused } };
 
-    ghost invariant = { λ cache. IsCacheList cache.entries.items };
+    ghost invariant = { λ cache. IsCacheList (entries_of cache.pages.entries) × (cache.pages.cap ≡ 48) };
 }
 
 impl HintCache {
-    ghost use Rattle.std.specs.Prelude.{◌≡◌, ◌+◌, ◌^◌, ◌-◌, min, [], IfOk, IsOk, OnOk, OnErr, IsSome, IfSome, IfNone};
-    ghost use Rattle.hint_cache.specs.Caches.{Cached, IsCacheList, address_in, without, noted};
+    ghost use Rattle.std.specs.Prelude.{◌≡◌, ◌+◌, ◌^◌, ◌-◌, ◌≤◌, min, [], IfOk, IsOk, OnOk, OnErr, IsSome, IfSome, IfNone};
+    ghost use Rattle.hint_cache.specs.Caches.{Cached, IsCacheList, address_in, without, noted, NoneListed, IsHighestBelow};
 
-    /// A cache without entries, with room for all that it may have. Memory: none was left for that.
+    /// A cache without entries. Memory: none was left for its map.
     pub fn new(alloc: Global) -> Result<HintCache, Memory>
         ensures { IfOk result (λ cache. cache ≡ record { entries = []; refused = 0 }) }
     {
+        let capacity = NonZeroUsize::new(MAX_ENTRIES).unwrap();
         Ok(HintCache {
-            entries: Vec::with_capacity(alloc, MAX_ENTRIES)?,
+            pages: LruCache::new(alloc, capacity)?,
             refused: 0,
         })
     }
 
-    /// The address that is listed for a page, whose entry comes to the front. None exactly where the page isn't listed.
+    /// The address that is listed for a page, whose entry comes to the front. None if and only if the page isn't listed.
     pub fn recall(&mut self, page: Page) -> Option<u16>
         ensures answer { result ≡ address_in self.old.entries page }
         ensures some { IfSome result (λ at. self.new ≡ record self.old { entries = noted page at self.old.entries }) }
         ensures none { IfNone result (self.new ≡ self.old) }
         ensures kept { IsCacheList self.new.entries }
     {
-        let at = self.address_of(page)?;
-        match self.note(page, at) {
-            Ok(()) => Some(at),
-            // a listed page finds room
-            Err(Memory) => unreachable!(),
-        }
-    }
-
-    /// The address that is listed for a page.
-    fn address_of(&self, page: Page) -> Option<u16>
-        ensures listed { result ≡ address_in self.now.entries page }
-        ensures kept { IsCacheList self.now.entries }
-    {
-        self.entries
-            .iter()
-            .find(|entry| entry.page == page)
-            .map(|entry| entry.at)
+        self.pages.get(&page).copied()
     }
 
     /// Puts this entry at the front, in place of another for its page; the last of 49 entries is dropped. On Memory the list
@@ -84,10 +73,11 @@ impl HintCache {
         ensures listed { IsSome (address_in self.old.entries page) → IsOk result }
         ensures err { OnErr result (self.new ≡ record self.old { refused = min (self.old.refused + 1) (2 ^ 64 - 1) }) }
         ensures kept { IsCacheList self.new.entries }
+        ensures grows { self.old.refused ≤ self.new.refused }
     {
-        match put_first(&mut self.entries, page, at) {
-            Ok(()) => Ok(()),
-            Err(Memory) => {
+        match self.pages.put(page, at) {
+            Ok(_) => Ok(()),
+            Err(_) => {
                 self.refused = self.refused.saturating_add(1);
                 Err(Memory)
             }
@@ -99,33 +89,49 @@ impl HintCache {
         ensures out { self.new ≡ record self.old { entries = without page self.old.entries } }
         ensures kept { IsCacheList self.new.entries }
     {
-        take_out(&mut self.entries, page);
+        self.pages.pop(&page);
     }
 
     /// How many calls of `note` on this cache answered Memory. It stands at 2^64 - 1 once there.
     pub fn refused(&self) -> u64
-        ensures { result ≡ self.now.refused }
+        ensures count { result ≡ self.now.refused }
+        ensures kept { IsCacheList self.now.entries }
     {
         self.refused
     }
+
+    /// The entry of the highest page of this file below this number that is listed; the order stays. None if and only if no
+    /// page of the file below the number is listed.
+    pub fn highest_below(&self, fid: Fid, number: u16) -> Option<Entry>
+        ensures some { IfSome result (IsHighestBelow self.now.entries fid number) }
+        ensures none { IfNone result (NoneListed self.now.entries fid 0 number) }
+        ensures kept { IsCacheList self.now.entries }
+    {
+        highest_of(&self.pages, fid, number)
+    }
 }
 
-/// Takes the entry of a page out of a list, if there is one.
-fn take_out(entries: &mut Vec<Entry>, page: Page)
-    ensures items { entries.new.items ≡ without page entries.old.items }
-    ensures capacity { vec_capacity entries.new ≡ vec_capacity entries.old }
+/// The entry of the highest page of a file below a number.
+fn highest_of(pages: &LruCache<Page, u16>, fid: Fid, number: u16) -> Option<Entry>
+    ensures { result ≡ fold (highest_after fid number) None (entries_of pages.now.entries) }
 {
-    entries.retain(|entry| entry.page != page);
+    pages
+        .iter()
+        .map(|(page, at)| Entry {
+            page: *page,
+            at: *at,
+        })
+        .fold(None, |best, entry| highest_after(best, entry, fid, number))
 }
 
-/// Puts an entry at the front of a list, in place of another for its page. Only a list that is the longer for it wants memory.
-fn put_first(entries: &mut Vec<Entry>, page: Page, at: u16) -> Result<(), Memory>
-    ensures ok { OnOk result (entries.new.items ≡ noted page at entries.old.items) }
-    ensures listed { IsSome (address_in entries.old.items page) → IsOk result }
-    ensures err { OnErr result (entries.new.items ≡ entries.old.items) }
+/// The entry with the highest page of a file below a number, after one entry more.
+fn highest_after(best: Option<Entry>, entry: Entry, fid: Fid, number: u16) -> Option<Entry>
+    ensures { result ≡ highest_after fid number best entry }
 {
-    take_out(entries, page);
-    entries.truncate(MAX_ENTRIES - 1);
-    entries.insert(0, Entry { page, at })?;
-    Ok(())
+    let is_below = entry.page.fid == fid && entry.page.number < number;
+    match best {
+        _ if !is_below => best,
+        Some(best) if best.page.number >= entry.page.number => Some(best),
+        _ => Some(entry),
+    }
 }

@@ -50,10 +50,10 @@ impl BitTable {
     }
 
     /// Another table with the same bits. Memory: none was left for them.
-    pub fn copied(&self) -> Result<BitTable, Memory>
+    pub fn copied(&self, alloc: Global) -> Result<BitTable, Memory>
         ensures { IfOk result (λ table. table ≡ self.now) }
     {
-        let bits = self.bits.clone()?;
+        let bits = self.bits.to_vec(alloc)?;
         Ok(BitTable { bits })
     }
 

@@ -1,4 +1,4 @@
-// Entries around the 48th, and each call that takes memory once with enough of it.
+// Entries around the 48th, words made by hand, and each call that takes memory once with enough of it.
 use crate::{BitTable, HintCache, Hints};
 use alto_words::{Fid, Memory};
 use disk_records::Page;
@@ -62,6 +62,56 @@ fn a_forgotten_page_makes_room(rt: HostRuntime) -> Result<(), Fail> {
 }
 
 #[test]
+fn the_highest_page_below_a_number(rt: HostRuntime) -> Result<(), Fail> {
+    let mut cache = HintCache::new(rt.alloc())?;
+    cache.note(page(5), 105)?;
+    cache.note(page(9), 109)?;
+    cache.note(page(3), 103)?;
+    let fid = Fid::ordinary(7);
+    assert_eq!(rt;
+        cache.highest_below(fid, 9).map(|entry| entry.at),
+        Some(105)
+    );
+    assert_eq!(rt;
+        cache.highest_below(fid, 10).map(|entry| entry.at),
+        Some(109)
+    );
+    assert!(rt; cache.highest_below(fid, 3).is_none());
+    assert!(rt; cache.highest_below(Fid::ordinary(8), 10).is_none());
+    Ok(())
+}
+
+#[test]
+fn a_cache_as_words(rt: HostRuntime) -> Result<(), Fail> {
+    let mut cache = HintCache::new(rt.alloc())?;
+    cache.note(page(1), 101)?;
+    cache.note(page(2), 102)?;
+    let words = cache.to_words();
+    // a count, and then serial high, serial low, version, page number and address, the most recently used first
+    assert!(rt; words[..12] == [2, 0, 7, 1, 2, 102, 0, 7, 1, 1, 101, 0]);
+    assert_eq!(rt; words[240], 0);
+    let mut again = HintCache::from_words(rt.alloc(), &words)?;
+    assert!(rt; again.to_words() == words);
+    assert_eq!(rt; again.recall(page(1)), Some(101));
+    Ok(())
+}
+
+#[test]
+fn a_cache_of_any_words(rt: HostRuntime) -> Result<(), Fail> {
+    let mut ones = HintCache::from_words(rt.alloc(), &[0xFFFF; 241])?;
+    assert_eq!(rt; ones.recall(page(1)), None);
+    assert_eq!(rt; ones.to_words()[0], 1);
+    assert_eq!(rt; ones.refused(), 0);
+    // of two entries for one page the first counts
+    let mut words = [0; 241];
+    words[..11].copy_from_slice(&[2, 0, 7, 1, 1, 101, 0, 7, 1, 1, 201]);
+    let mut twice = HintCache::from_words(rt.alloc(), &words)?;
+    assert_eq!(rt; twice.recall(page(1)), Some(101));
+    assert_eq!(rt; twice.to_words()[0], 1);
+    Ok(())
+}
+
+#[test]
 fn words_of_a_table(rt: HostRuntime) -> Result<(), Fail> {
     // the second word's first four bits are sectors 16 to 19; the rest and the third word are too many
     let table = BitTable::from_words(rt.alloc(), 20, &[0x8001, 0x5FFF, 7])?;
@@ -70,7 +120,7 @@ fn words_of_a_table(rt: HostRuntime) -> Result<(), Fail> {
     assert_eq!(rt; table.word(1), 0x5000);
     assert_eq!(rt; table.word(2), 0);
     // sectors without a word are busy
-    let short = BitTable::from_words(rt.alloc(), 20, &[0])?;
+    let short = BitTable::from_words(rt.alloc(), 20, &[0])?.copied(rt.alloc())?;
     assert_eq!(rt; short.word(0), 0);
     assert_eq!(rt; short.word(1), 0xF000);
     Ok(())

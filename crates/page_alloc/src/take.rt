@@ -39,7 +39,7 @@ fn find_free<D: Disk>(
     ensures offered { IsTrue D.told → wanted ≤ length (offered_free (pack (D.tape disk.old)) table.old) → (D.tape disk.new).runs ≤ (D.tape disk.old).runs + length (offered_sectors table.old) }
 {
     // Bits change as offers are looked at, and a sweep is to pass over each sector that was one.
-    let offers = table.copied()?;
+    let offers = table.copied(alloc)?;
     let offered = gather_offered(alloc, disk, table, wanted, buf)?;
     if offered.len() == wanted as usize {
         return Ok(offered);
