@@ -1,5 +1,5 @@
 -- Hints that mislead after a whole operation misled before it.
-use Rattle.std.specs.Prelude.{List, Some, [], false, ℕ, ◌∷◌, ◌≡◌}
+use Rattle.std.specs.Prelude.{List, Some, [], false, length, ℕ, ◌∷◌, ◌≡◌}
 use Rattle.alto_words.specs.Fid.{is_fid}
 use Rattle.alto_words.specs.declared.fid.Fid.{Fid}
 use Rattle.disk_records.specs.Commands.{value_writes}
@@ -8,19 +8,21 @@ use Rattle.disk_records.specs.Words.{word}
 use Rattle.disk_records.specs.declared.records.Page.{Page}
 use Rattle.disk_records.specs.declared.records.Place.{Place}
 use Rattle.pack_model.specs.hints.Misled.{IsOnDisk, Misled}
-use Rattle.pack_model.specs.operations.Commands.{first_page_claim, leader_claim}
+use Rattle.pack_model.specs.operations.Commands.{first_page_claim, grown_claims, grown_label, grown_value, leader_claim}
+use Rattle.pack_model.specs.operations.Committing.{pages_added}
 use Rattle.pack_model.specs.operations.Entering.{entry_value, values_first}
-use Rattle.pack_model.specs.operations.Operations.{cut_writes, enter_writes, go_writes, make_writes}
+use Rattle.pack_model.specs.operations.Operations.{cut_writes, enter_writes, go_writes, grow_writes, make_writes}
 use Rattle.pack_model.specs.operations.PageWords.{freed_value}
-use Rattle.pack_model.specs.reading.Files.{place}
+use Rattle.pack_model.specs.reading.Bytes.{bytes_of}
+use Rattle.pack_model.specs.reading.Files.{file_bytes, place}
 use Rattle.pack_model.specs.reading.Sights.{sights}
 use Rattle.pack_model.specs.reading.SlotWords.{address_word}
 use Rattle.pack_model.specs.reading.Slots.{Item, all_words, item_words}
 use Rattle.pack_model.specs.reading.Slots.Item.{entry}
 use Rattle.pack_model.specs.states.Whole.{Tidy, Whole}
-use Rattle.laws_operation.specs.ByteLaws.{MayCut}
+use Rattle.laws_operation.specs.ByteLaws.{MayCut, MayGrow}
 use Rattle.laws_operation.specs.LifeLaws.{MayDrop, MayMake}
-use Rattle.laws_operation.specs.NameLaws.{MayEnterAt, entry_room}
+use Rattle.laws_operation.specs.NameLaws.{MayEnterAt, MayWiden, entry_room}
 use Rattle.laws_record.specs.DirLaws.{Frees}
 use Rattle.laws_lookup.specs.StayLaws.{MisledBefore}
 
@@ -38,6 +40,19 @@ EnterMisledBefore = (p : Pack) (d : Fid) (name : List ℕ) (f : Fid) (a old b : 
 -- a cut
 abbrev pub CutMisledBefore : Type 0
 CutMisledBefore = (p : Pack) (f : Fid) (n at : ℕ) (label later : List ℕ) → Whole p → Tidy p → MayCut p f n at label later → MisledBefore p (cut_writes at label (sector_at p at).value later)
+
+-- a growth with the words that it writes, and as many claims as it adds pages
+abbrev pub GrowMisledBefore : Type 0
+GrowMisledBefore = (p : Pack) (f : Fid) (new past fresh : List ℕ) (at : ℕ) → let b : ℕ = length (file_bytes (sights p) f) in
+    let claims = grown_claims p.shape f b at new past fresh in let label : List ℕ = grown_label p.shape b new fresh (sector_at p at).label in let value : List ℕ = grown_value b new past fresh (sector_at p at).value in
+    Whole p → Tidy p → MayGrow p f new claims at label value → length fresh ≡ pages_added b (length new) → MisledBefore p (grow_writes claims at label value)
+
+-- a widening with the words that it writes
+abbrev pub WidenMisledBefore : Type 0
+WidenMisledBefore = (p : Pack) (d : Fid) (added past fresh : List ℕ) (at : ℕ) → let b : ℕ = length (file_bytes (sights p) d) in
+    let claims = grown_claims p.shape d b at (bytes_of added) past fresh in let label : List ℕ = grown_label p.shape b (bytes_of added) fresh (sector_at p at).label in
+    let value : List ℕ = grown_value b (bytes_of added) past fresh (sector_at p at).value in
+    Whole p → Tidy p → MayWiden p d added claims at label value → length fresh ≡ pages_added b (length (bytes_of added)) → MisledBefore p (grow_writes claims at label value)
 
 -- a make with the words that it writes
 abbrev pub MakeMisledBefore : Type 0

@@ -11,13 +11,13 @@ use Rattle.disk_records.specs.Words.{word}
 use Rattle.pack_model.specs.hints.Links.{dir_slots}
 use Rattle.pack_model.specs.hints.Misled.{StandsInEntry, leader_page}
 use Rattle.pack_model.specs.reading.Files.{lives}
-use Rattle.pack_model.specs.reading.Lookup.{EntryAt, entered, entry_at, holds_base, is_held_at, meant_by, slot_of_entry}
+use Rattle.pack_model.specs.reading.Lookup.{EntryAt, entered, entry_at, holds_base, is_held_at, meant_by, slot_of_entry, version_met}
 use Rattle.pack_model.specs.reading.Model.{Model, dir_items, read_as}
 use Rattle.pack_model.specs.reading.Sights.{sights}
 use Rattle.pack_model.specs.reading.SlotWords.{SlotAt, address_at, address_word, slots_at}
 use Rattle.pack_model.specs.reading.Slots.{Item, all_words, item_words, slot_at, slots}
 use Rattle.pack_model.specs.reading.Slots.Item.{entry}
-use Rattle.pack_model.specs.reading.Versions.{entry_wanted, exact, has_base, is_held}
+use Rattle.pack_model.specs.reading.Versions.{entry_wanted, exact, greatest_version, has_base, is_held}
 use Rattle.pack_model.specs.states.Whole.{Tidy}
 use Rattle.laws_operation.specs.EntryLaws.{IsOpenTo}
 
@@ -63,6 +63,13 @@ LookupIsTheModels = (p : Pack) (d : Fid) (w : Wanted) → Tidy p → lives (sigh
 
 abbrev pub HeldIsTheModels : Type 0
 HeldIsTheModels = (p : Pack) (d : Fid) (base : List ℕ) → Tidy p → lives (sights p) d ≡ true → is_directory d ≡ true → is_held_at base (dir_slots p d) ≡ is_held base (dir_items (read_as p) d)
+
+-- the version of the entry that is meant by a base is the greatest of the base, 0 where no entry has it; on a tidy pack in the model too
+abbrev pub VersionMetIsTheGreatest : Type 0
+VersionMetIsTheGreatest = (base words : List ℕ) (place : ℕ) (is : List Item) → version_met (entry_at (Newest base) (slots_at words place is)) ≡ greatest_version base is
+
+abbrev pub GreatestIsTheModels : Type 0
+GreatestIsTheModels = (p : Pack) (d : Fid) (base : List ℕ) → Tidy p → lives (sights p) d ≡ true → is_directory d ≡ true → version_met (entry_at (Newest base) (dir_slots p d)) ≡ greatest_version base (dir_items (read_as p) d)
 
 -- ---- what was found
 -- it stands in one of the slots

@@ -22,6 +22,10 @@ SlotsOfAnotherDirectoryStay = (f : Fid) (p q : Pack) (d : Fid) → LeavesOthers 
 abbrev pub EntriesOfAnotherDirectoryStand : Type 0
 EntriesOfAnotherDirectoryStand = (f : Fid) (p q : Pack) (d : Fid) (w at : ℕ) (wanted : Page) → LeavesOthers f p q → is_fid d f ≡ false → StandsInEntry p d w at wanted ↔ StandsInEntry q d w at wanted
 
+-- so it is of each entry, if the file isn't a directory: in a put, a growth, a cut, a title, a stamp, and with DiskDescriptor's record writes
+abbrev pub EntriesStandBesideAnOrdinaryFile : Type 0
+EntriesStandBesideAnOrdinaryFile = (f : Fid) (p q : Pack) (d : Fid) (w at : ℕ) (wanted : Page) → LeavesOthers f p q → is_directory f ≡ false → StandsInEntry p d w at wanted ↔ StandsInEntry q d w at wanted
+
 -- the pages of another file are carried by the same sectors
 abbrev pub PagesOfAnotherFileStay : Type 0
 PagesOfAnotherFileStay = (f : Fid) (p : Pack) (events : List Event) (i : ℕ) (page : Page) → Whole p → LeavesOthers f p (after p events) → is_fid page.fid f ≡ false → carried p i ≡ Some page → carried (after p events) i ≡ Some page

@@ -1,6 +1,6 @@
 //! Hints that mislead after a whole operation misled before it.
 
-ghost use Rattle.laws_lookup.specs.BeforeLaws.{CutMisledBefore, EnterMisledBefore, LeaveMisledBefore, MakeMisledBefore, ReleaseMisledBefore};
+ghost use Rattle.laws_lookup.specs.BeforeLaws.{CutMisledBefore, EnterMisledBefore, GrowMisledBefore, LeaveMisledBefore, MakeMisledBefore, ReleaseMisledBefore, WidenMisledBefore};
 
 /// A hint that misleads after a leaving, or after the last value of a drop, misled before it.
 pub fn leave_misled_before()
@@ -25,4 +25,14 @@ pub fn make_misled_before()
 /// A hint for another file that misleads after the releases of a drop misled before them.
 pub fn release_misled_before()
     ensures { ReleaseMisledBefore }
+{}
+
+/// A hint that misleads after a growth misled before it.
+pub fn grow_misled_before()
+    ensures { GrowMisledBefore }
+{}
+
+/// A hint that misleads after a widening misled before it.
+pub fn widen_misled_before()
+    ensures { WidenMisledBefore }
 {}

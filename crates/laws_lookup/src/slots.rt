@@ -1,6 +1,6 @@
 //! The entry that an operand means, by the slots of a directory that are met one at a time.
 
-ghost use Rattle.laws_lookup.specs.SlotLaws.{AbsentNameIsOpen, EntryAtIsASlot, EntryAtIsTheEntryWanted, FoundEntryHasTheName, FoundEntrySplitsTheSlots, FoundEntryStands, HeldAtIsHeld, HeldGoesOn, HeldIsTheModels, LookupGoesOn, LookupIsTheModels, WalkBegins, WalkEnds, WalkGoesOn};
+ghost use Rattle.laws_lookup.specs.SlotLaws.{AbsentNameIsOpen, EntryAtIsASlot, EntryAtIsTheEntryWanted, FoundEntryHasTheName, FoundEntrySplitsTheSlots, FoundEntryStands, GreatestIsTheModels, HeldAtIsHeld, HeldGoesOn, HeldIsTheModels, LookupGoesOn, LookupIsTheModels, VersionMetIsTheGreatest, WalkBegins, WalkEnds, WalkGoesOn};
 
 /// A walk that has met no slot begins at word 0.
 pub fn walk_begins()
@@ -45,6 +45,16 @@ pub fn lookup_is_the_models()
 /// On a tidy pack the bases that are held in a living directory are those that are held in the model.
 pub fn held_is_the_models()
     ensures { HeldIsTheModels }
+{}
+
+/// The version of the entry that is meant by a base is the greatest of the base among the items.
+pub fn version_met_is_the_greatest()
+    ensures { VersionMetIsTheGreatest }
+{}
+
+/// On a tidy pack it is the greatest of the base in the model.
+pub fn greatest_is_the_models()
+    ensures { GreatestIsTheModels }
 {}
 
 /// The entry that is meant stands in one of the slots.

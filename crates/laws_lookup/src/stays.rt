@@ -1,6 +1,6 @@
 //! What stays known of entries and of hints over an operation.
 
-ghost use Rattle.laws_lookup.specs.StayLaws.{AddressMisledBefore, EntriesOfAnotherDirectoryStand, LinkMisledBefore, PagesOfAnotherFileStay, SlotsOfAnotherDirectoryStay, ValuesLeaveNextLinks, ValuesMisledBefore};
+ghost use Rattle.laws_lookup.specs.StayLaws.{AddressMisledBefore, EntriesOfAnotherDirectoryStand, EntriesStandBesideAnOrdinaryFile, LinkMisledBefore, PagesOfAnotherFileStay, SlotsOfAnotherDirectoryStay, ValuesLeaveNextLinks, ValuesMisledBefore};
 
 /// An operation on one file leaves the slots of every other directory.
 pub fn slots_of_another_directory_stay()
@@ -10,6 +10,11 @@ pub fn slots_of_another_directory_stay()
 /// Before and after an operation on one file the same address words of another directory mean the same pages.
 pub fn entries_of_another_directory_stand()
     ensures { EntriesOfAnotherDirectoryStand }
+{}
+
+/// Before and after an operation on a file that is no directory the same address words mean the same pages.
+pub fn entries_stand_beside_an_ordinary_file()
+    ensures { EntriesStandBesideAnOrdinaryFile }
 {}
 
 /// After an operation on one file the pages of every other are carried by the same sectors.

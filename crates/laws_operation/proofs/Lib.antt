@@ -12,6 +12,7 @@ pub mod Entering
 pub mod EntryWrite
 pub mod FirstWords
 pub mod Grown
+pub mod GrownLinks
 pub mod Leaving
 pub mod Lying
 pub mod Making

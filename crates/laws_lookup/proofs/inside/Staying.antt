@@ -28,7 +28,7 @@ use Rattle.laws_record.proofs.Copying.{place_carried}
 use Rattle.laws_lookup.proofs.others.Laws.{values_leave_others}
 use Rattle.laws_operation.proofs.places.Laws.{carried_in_place, values_keep_places}
 use Rattle.laws_lookup.specs.OtherLaws.{KeepsPages, LeavesOthers}
-use Rattle.laws_lookup.specs.StayLaws.{AddressMisledBefore, EntriesOfAnotherDirectoryStand, LinkMisledBefore, PagesOfAnotherFileStay, SlotsOfAnotherDirectoryStay, ValuesLeaveNextLinks, ValuesMisledBefore}
+use Rattle.laws_lookup.specs.StayLaws.{AddressMisledBefore, EntriesOfAnotherDirectoryStand, EntriesStandBesideAnOrdinaryFile, LinkMisledBefore, PagesOfAnotherFileStay, SlotsOfAnotherDirectoryStay, ValuesLeaveNextLinks, ValuesMisledBefore}
 
 -- ---- another directory
 pub slots_of_another_directory_stay : SlotsOfAnotherDirectoryStay
@@ -66,13 +66,27 @@ entries_of_another_directory_stand f p q d w at wanted h other = (forth, back)
       address = s.address;
     }
 
+-- a directory isn't a file that is none
+pub dir_apart : (d f : Fid) → is_directory d ≡ true → is_directory f ≡ false → is_fid d f ≡ false
+dir_apart d f dir ordinary = by (is_fid d f) refl
+  where
+    by : (b : Bool) → is_fid d f ≡ b → b ≡ false
+    by false e = refl
+    by true e = let clash : true ≡ false = sym dir ∙ ap is_directory (same_fid d f e) ∙ ordinary in cc
+
+pub entries_stand_beside_an_ordinary_file : EntriesStandBesideAnOrdinaryFile
+entries_stand_beside_an_ordinary_file f p q d w at wanted h ordinary = (
+  λ s. (entries_of_another_directory_stand f p q d w at wanted h (dir_apart d f s.directory ordinary)).0 s,
+  λ s. (entries_of_another_directory_stand f p q d w at wanted h (dir_apart d f s.directory ordinary)).1 s,
+)
+
 -- ---- pages
 pub pages_of_another_file_stay : PagesOfAnotherFileStay
 pages_of_another_file_stay f p events i page wp h other is =
     ap (λ (s : Sector). cond (is_usable p.shape i s) (page_of s.label) None) (h.sectors page.fid page.number i other (carried_in_place p page i wp is)) ∙ is
 
 -- the leader of a file that keeps it, and those of the others
-leader_stays : (f : Fid) (p : Pack) (events : List Event) (i : ℕ) (wanted : Page) → Whole p → LeavesOthers f p (after p events) → wanted.number ≡ 0 → KeepsPages f 0 p (after p events) → carried p i ≡ Some wanted → carried (after p events) i ≡ Some wanted
+pub leader_stays : (f : Fid) (p : Pack) (events : List Event) (i : ℕ) (wanted : Page) → Whole p → LeavesOthers f p (after p events) → wanted.number ≡ 0 → KeepsPages f 0 p (after p events) → carried p i ≡ Some wanted → carried (after p events) i ≡ Some wanted
 leader_stays f p events i wanted wp h first keeps is = by (is_fid wanted.fid f) refl
   where
     by : (b : Bool) → is_fid wanted.fid f ≡ b → carried (after p events) i ≡ Some wanted
@@ -130,14 +144,6 @@ values_leave_next_links p values i at wanted m =
       };
       misses = λ j n is. m.misses j n (values_carried values p j ∙ is);
     }
-
--- a directory isn't a file that is none
-pub dir_apart : (d f : Fid) → is_directory d ≡ true → is_directory f ≡ false → is_fid d f ≡ false
-dir_apart d f dir ordinary = by (is_fid d f) refl
-  where
-    by : (b : Bool) → is_fid d f ≡ b → b ≡ false
-    by false e = refl
-    by true e = let clash : true ≡ false = sym dir ∙ ap is_directory (same_fid d f e) ∙ ordinary in cc
 
 pub values_misled_before : ValuesMisledBefore
 values_misled_before p f values wp wq ordinary of Root at wanted on m = absurd on

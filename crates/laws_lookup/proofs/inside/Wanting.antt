@@ -5,13 +5,13 @@ use Rattle.std.specs.Option.{option_map}
 use Rattle.alto_words.specs.Names.{is_same_name, version_of}
 use Rattle.alto_words.specs.declared.wanted.Wanted.TheVariants.{Exact, Newest}
 use Rattle.pack_model.specs.hints.Links.{dir_words}
-use Rattle.pack_model.specs.reading.Lookup.{EntryAt, entered, holds_base, meant_by, meant_item, version_met}
+use Rattle.pack_model.specs.reading.Lookup.{EntryAt, entered, entry_at, holds_base, meant_by, meant_item, version_met}
 use Rattle.pack_model.specs.reading.SlotWords.{SlotAt, address_at, slots_at}
 use Rattle.pack_model.specs.reading.Slots.{Item, entry_length, slots}
 use Rattle.pack_model.specs.reading.Slots.Item.{entry, space}
-use Rattle.pack_model.specs.reading.Versions.{entry_wanted, exact, has_base, is_held, newest_from, version_found}
+use Rattle.pack_model.specs.reading.Versions.{entry_wanted, exact, greatest_version, has_base, is_held, newest_from, version_found}
 use Rattle.laws_operation.proofs.entries.Laws.{items_are_slots}
-use Rattle.laws_lookup.specs.SlotLaws.{EntryAtIsTheEntryWanted, HeldAtIsHeld, HeldIsTheModels, LookupIsTheModels}
+use Rattle.laws_lookup.specs.SlotLaws.{EntryAtIsTheEntryWanted, GreatestIsTheModels, HeldAtIsHeld, HeldIsTheModels, LookupIsTheModels, VersionMetIsTheGreatest}
 
 -- ---- a base
 same_version : (best : Option EntryAt) → version_met best ≡ version_found (option_map entered best)
@@ -80,3 +80,10 @@ lookup_is_the_models p d w t live dir = entry_at_is_the_entry_wanted w (dir_word
 
 pub held_is_the_models : HeldIsTheModels
 held_is_the_models p d base t live dir = held_at_is_held base (dir_words p d) 0 (slots (dir_words p d)) ∙ ap (is_held base) (sym (items_are_slots p d t live dir))
+
+-- ---- the greatest version
+pub version_met_is_the_greatest : VersionMetIsTheGreatest
+version_met_is_the_greatest base words place is = same_version (entry_at (Newest base) (slots_at words place is)) ∙ ap version_found (entry_at_is_the_entry_wanted (Newest base) words place is)
+
+pub greatest_is_the_models : GreatestIsTheModels
+greatest_is_the_models p d base t live dir = version_met_is_the_greatest base (dir_words p d) 0 (slots (dir_words p d)) ∙ ap (greatest_version base) (sym (items_are_slots p d t live dir))

@@ -90,7 +90,7 @@ module _ (p : Pack) (wp : Whole p) (f : Fid) (last at : ℕ) (cs : List Claim) (
   usable = ap (is_usable p.shape at) (claimed_same at (page_number f last) was) ∙ (carried_parts p at (page_number f last) was).0
 
   -- the old last page has the label, and is carried still
-  label_is : (sector_at (after p (grow_writes cs at label value)) at).label ≡ label
+  pub label_is : (sector_at (after p (grow_writes cs at label value)) at).label ≡ label
   label_is = ap (λ x. (sector_at x at).label) done_is ∙ claim_label claimed_pack at label value usable
 
   -- and the page is carried
@@ -116,7 +116,7 @@ module _ (p : Pack) (wp : Whole p) (f : Fid) (last at : ℕ) (cs : List Claim) (
   ]
 
   -- the new pages are in a row
-  rows : Rowed (after p (grow_writes cs at label value)) f last cs
+  pub rows : Rowed (after p (grow_writes cs at label value)) f last cs
   rows = rowed_same cs claimed_pack done f last refl (λ i x is more. ap (λ y. sector_at y i) done_is ∙ claim_apart claimed_pack at i label value (λ e. other i x is more e)) (claims_rowed cs p f last able)
     where
       other : (i : ℕ) (x : Page) → carried (after p (claims_writes cs)) i ≡ Some x → last < x.number → i ≡ at → ⊥
@@ -138,12 +138,12 @@ module _ (p : Pack) (wp : Whole p) (f : Fid) (last at : ℕ) (cs : List Claim) (
     grown_place m l = places_alike p done wp wq (page_number f m) (forth m) (λ i is. elim (back m i is) [ inl old ↦ old | inr new ↦ absurd (let r = (claim_range f last cs i m new).0 in omega arith) ])
 
     -- and those before the last their labels
-    same_front : (m i : ℕ) → m < last → place (sights p) f m ≡ Some i → (sector_at (after p (grow_writes cs at label value)) i).label ≡ (sector_at p i).label
+    pub same_front : (m i : ℕ) → m < last → place (sights p) f m ≡ Some i → (sector_at (after p (grow_writes cs at label value)) i).label ≡ (sector_at p i).label
     same_front m i l e = ap (λ s. s.label) (stays i (page_number f m) (place_carried p (page_number f m) i e) (λ same. let one = (one_page (sights p) f f m last at (e ∙ ap Some same) sector).1 in omega arith))
 
     module _ (bytes past fresh : List ℕ) (row : cs ≡ claims_of p.shape f (suc last) at bytes past fresh) (ends : (m j : ℕ) → last < m → place (sights p) f m ≡ Some j → ⊥) where
       -- later pages are the new ones
-      later : (m i : ℕ) → last < m → place (sights (after p (grow_writes cs at label value))) f m ≡ Some i → IsClaim f last cs i (page_number f m)
+      pub later : (m i : ℕ) → last < m → place (sights (after p (grow_writes cs at label value))) f m ≡ Some i → IsClaim f last cs i (page_number f m)
       later m i l e = elim (back m i (place_carried done (page_number f m) i e)) [
         | inl old ↦ absurd (ends m i l (carried_place p wp i (page_number f m) old))
         | inr new ↦ new
