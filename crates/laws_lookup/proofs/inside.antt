@@ -1,6 +1,7 @@
 pub mod Bare
 pub mod Before
 pub mod BeforeDirs
+pub mod BeforeDrop
 pub mod BeforeGrown
 pub mod Fitting
 pub mod Found

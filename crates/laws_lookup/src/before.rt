@@ -1,6 +1,6 @@
 //! Hints that mislead after a whole operation misled before it.
 
-ghost use Rattle.laws_lookup.specs.BeforeLaws.{CutMisledBefore, EnterMisledBefore, GrowMisledBefore, LeaveMisledBefore, MakeMisledBefore, ReleaseMisledBefore, WidenMisledBefore};
+ghost use Rattle.laws_lookup.specs.BeforeLaws.{CutMisledBefore, DropMisledBefore, EnterMisledBefore, GrowMisledBefore, LeaveMisledBefore, MakeMisledBefore, ReleaseMisledBefore, WidenMisledBefore};
 
 /// A hint that misleads after a leaving, or after the last value of a drop, misled before it.
 pub fn leave_misled_before()
@@ -35,4 +35,9 @@ pub fn grow_misled_before()
 /// A hint that misleads after a widening misled before it.
 pub fn widen_misled_before()
     ensures { WidenMisledBefore }
+{}
+
+/// A hint that misleads after a whole drop misled before it.
+pub fn drop_misled_before()
+    ensures { DropMisledBefore }
 {}

@@ -87,14 +87,14 @@ found_entry_stands p d w e live dir h = record {
 }
 
 -- ---- the slots before it and after it
-record Parts (words : List ℕ) (begin : ℕ) (is : List Item) (s : SlotAt) : Type 0 where
-  before : List Item
-  later : List Item
-  items : is ≡ before ++ s.item ∷ later
-  place : begin + all_words before ≡ s.place
-  address : address_at words s.place s.item ≡ s.address
+pub record Parts (words : List ℕ) (begin : ℕ) (is : List Item) (s : SlotAt) : Type 0 where
+  pub before : List Item
+  pub later : List Item
+  pub items : is ≡ before ++ s.item ∷ later
+  pub place : begin + all_words before ≡ s.place
+  pub address : address_at words s.place s.item ≡ s.address
 
-parts : (words : List ℕ) (begin : ℕ) (is : List Item) (s : SlotAt) → Contains (slots_at words begin is) s → Parts words begin is s
+pub parts : (words : List ℕ) (begin : ℕ) (is : List Item) (s : SlotAt) → Contains (slots_at words begin is) s → Parts words begin is s
 unfolding slots_at
 parts words begin [] s h = absurd (none_in s h)
 parts words begin (i ∷ is) s h =
