@@ -15,6 +15,7 @@ pub mod OneFile
 pub mod OpeningMark
 pub mod Rejoining
 pub mod Rooming
+pub mod SlotBefore
 pub mod Standing
 pub mod Wording
 pub mod links

@@ -3,7 +3,7 @@ use Rattle.std.specs.Prelude.{All, List, Some, [], true, ℕ, ◌∷◌, ◌≡�
 use Rattle.alto_words.specs.declared.fid.Fid.{Fid}
 use Rattle.disk_records.specs.Packs.{Pack, after, is_free_at}
 use Rattle.disk_records.specs.declared.records.Event.{Event}
-use Rattle.pack_model.specs.operations.Commands.{Claim, all_claimed, releases_writes, sectors_of, values_writes}
+use Rattle.pack_model.specs.operations.Commands.{claims_writes, Claim, all_claimed, releases_writes, sectors_of, values_writes}
 use Rattle.pack_model.specs.reading.Files.{place}
 use Rattle.pack_model.specs.operations.Operations.{cut_writes, drop_writes, enter_writes, go_writes, grow_writes, make_writes}
 use Rattle.pack_model.specs.reading.Sights.{sights}
@@ -31,6 +31,10 @@ abbrev pub EnterLeavesFreeSectors : Type 0
 EnterLeavesFreeSectors = (p : Pack) (before : List (ℕ × List ℕ)) (at : ℕ) (value : List ℕ) → SameFree p (enter_writes before at value)
 
 -- ---- claims
+-- after claims, of whatever sectors, each sector that was free, except those that they claim, is free still: so between the claims of an operation
+abbrev pub ClaimsKeepUnclaimedFree : Type 0
+ClaimsKeepUnclaimedFree = (p : Pack) (claims : List Claim) → StayFreeBut (sectors_of (all_claimed claims)) p (claims_writes claims)
+
 -- behind a make each sector that was free, but the two that it claims, is free still
 abbrev pub MakeKeepsUnclaimedFree : Type 0
 MakeKeepsUnclaimedFree = (p : Pack) (page leader : Claim) → StayFreeBut (page.at ∷ leader.at ∷ []) p (make_writes page leader)

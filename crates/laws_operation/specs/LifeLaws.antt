@@ -89,6 +89,17 @@ abbrev pub SlotCarriesOut : Type 0
 SlotCarriesOut = (p : Pack) (f d : Fid) (at : ℕ) (a b : List Item) (own : List ℕ) → Whole p → TidyBut f (sights p) → lives (sights p) f ≡ false → Frees p d at a (entry f own ∷ []) b
     → SlotFreed p (value_writes at (freed_value (all_words a) (item_words (entry f own)) (sector_at p at).value))
 
+-- What is known of the slot of a file's entry once the file is gone was so before, and its sector has the words that it had: so a look-up
+-- between the two parts serves the whole drop.
+pub record StoodBefore (p q : Pack) (f d : Fid) (at : ℕ) (a b : List Item) (own : List ℕ) : Type 0 where
+  pub frees : Frees p d at a (entry f own ∷ []) b
+  pub sector : sector_at q at ≡ sector_at p at
+
+-- so it is after the releases of a drop
+abbrev pub SlotOfADropStoodBefore : Type 0
+SlotOfADropStoodBefore = (p : Pack) (f d : Fid) (at : ℕ) (pages : List ℕ) (slot_at : ℕ) (a b : List Item) (own : List ℕ) → Whole p → Tidy p → MayDrop p f at pages
+    → Frees (after p (go_writes at pages)) d slot_at a (entry f own ∷ []) b → StoodBefore p (after p (go_writes at pages)) f d slot_at a b own
+
 -- all of it, where the file has an entry
 abbrev pub DropCarriesOut : Type 0
 DropCarriesOut = (p : Pack) (f : Fid) (at : ℕ) (pages : List ℕ) (d : Fid) (slot_at : ℕ) (a b : List Item) (own : List ℕ) → Whole p → Tidy p → MayDrop p f at pages → Frees p d slot_at a (entry f own ∷ []) b

@@ -2,7 +2,7 @@
 
 ghost use Rattle.laws_operation.specs.DirectoryWords.{SlotWordsFit};
 ghost use Rattle.laws_operation.specs.FreeLaws.{DropFreesItsPages, DropTakesNoSector, ReleaseFreesItsPages, ReleaseTakesNoSector};
-ghost use Rattle.laws_operation.specs.LifeLaws.{DropCarriesOut, ReleaseCarriesOut, SlotCarriesOut};
+ghost use Rattle.laws_operation.specs.LifeLaws.{DropCarriesOut, ReleaseCarriesOut, SlotCarriesOut, SlotOfADropStoodBefore};
 ghost use Rattle.laws_operation.specs.LinkLaws.{ReleaseKeepsLinks};
 ghost use Rattle.laws_operation.specs.NameLinkLaws.{DropKeepsLinks, SlotKeepsLinks};
 ghost use Rattle.laws_operation.specs.OnceLaws.{DropCarriesOnce, ReleaseCarriesOnce};
@@ -71,4 +71,10 @@ pub fn release_frees_its_pages()
 /// The sectors of any pack that bear a file's leader and its first data pages are free behind a drop that releases them.
 pub fn drop_frees_its_pages()
     ensures { DropFreesItsPages }
+{}
+
+/// On a whole and tidy pack what is known of the slot of a file's entry once its sectors are free was so before, and the slot's sector
+/// has the words that it had.
+pub fn slot_of_a_drop_stood_before()
+    ensures { SlotOfADropStoodBefore }
 {}

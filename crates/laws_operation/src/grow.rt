@@ -2,9 +2,10 @@
 
 ghost use Rattle.laws_operation.specs.ByteLaws.{GrowCarriesOut};
 ghost use Rattle.laws_operation.specs.FileWords.{GrowWordsFit};
-ghost use Rattle.laws_operation.specs.FreeLaws.{GrowKeepsUnclaimedFree};
+ghost use Rattle.laws_operation.specs.FreeLaws.{ClaimsKeepUnclaimedFree, GrowKeepsUnclaimedFree};
 ghost use Rattle.laws_operation.specs.LinkLaws.{GrowKeepsLinks};
 ghost use Rattle.laws_operation.specs.OnceLaws.{GrowCarriesOnce};
+ghost use Rattle.laws_operation.specs.PlaceLaws.{GrowPlacesItsPages};
 
 /// The claims of a growth, and its label and value of the old last page, are such as its law asks for.
 pub fn grow_words_fit()
@@ -31,4 +32,14 @@ pub fn grow_carries_once()
 /// gets another label bore a page before it.
 pub fn grow_keeps_unclaimed_free()
     ensures { GrowKeepsUnclaimedFree }
+{}
+
+/// After claims, of whatever sectors, each sector of any pack that was free, except those that they claim, is free still.
+pub fn claims_keep_unclaimed_free()
+    ensures { ClaimsKeepUnclaimedFree }
+{}
+
+/// On a whole and tidy pack the pages that a growth brings are in the sectors that it claims, in order.
+pub fn grow_places_its_pages()
+    ensures { GrowPlacesItsPages }
 {}

@@ -6,6 +6,7 @@ ghost use Rattle.laws_operation.specs.FreeLaws.{MakeKeepsUnclaimedFree};
 ghost use Rattle.laws_operation.specs.LifeLaws.{MakeCarriesOut};
 ghost use Rattle.laws_operation.specs.LinkLaws.{MakeKeepsLinks};
 ghost use Rattle.laws_operation.specs.OnceLaws.{MakeCarriesOnce};
+ghost use Rattle.laws_operation.specs.PlaceLaws.{MakePlacesItsPages};
 
 /// The two claims of a make are such as its law asks for.
 pub fn make_words_fit()
@@ -42,4 +43,10 @@ pub fn make_keeps_unclaimed_free()
 /// On any pack no entry has a file behind its make, where the file didn't live before.
 pub fn make_leaves_no_name()
     ensures { MakeLeavesNoName }
+{}
+
+/// On a whole and tidy pack the leader and page 1 of a file are, after its make, in the sectors that it claims, and the file has no
+/// other page.
+pub fn make_places_its_pages()
+    ensures { MakePlacesItsPages }
 {}

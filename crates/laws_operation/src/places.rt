@@ -1,7 +1,7 @@
 //! Which files live, and where their pages are.
 
 ghost use Rattle.laws_operation.specs.OnceLaws.{WholePackCarriesOnce};
-ghost use Rattle.laws_operation.specs.PlaceLaws.{CarriedInPlace, FileLivesInAPlace, ModelHasTheLiving, NewSerialNamesNoLivingFile, NoneAboveTheLastSerial, SerialKeepsPlaces, UncarriedPageHasNoPlace, ValuesKeepPlaces};
+ghost use Rattle.laws_operation.specs.PlaceLaws.{CarriedInPlace, FileLivesInAPlace, FileThatDoesNotLiveHasNoPage, ModelHasTheLiving, NewSerialNamesNoLivingFile, NoneAboveTheLastSerial, SerialKeepsPlaces, UncarriedPageHasNoPlace, ValuesKeepPlaces};
 
 /// A whole pack carries each page once.
 pub fn whole_pack_carries_once()
@@ -46,4 +46,9 @@ pub fn serial_keeps_places()
 /// On a whole pack, behind a new serial above the last one given out, no file with this serial lives.
 pub fn new_serial_names_no_living_file()
     ensures { NewSerialNamesNoLivingFile }
+{}
+
+/// On a whole pack no page of a file that doesn't live has a place.
+pub fn file_that_does_not_live_has_no_page()
+    ensures { FileThatDoesNotLiveHasNoPage }
 {}

@@ -4,6 +4,7 @@ ghost use Rattle.laws_operation.specs.DirectoryWords.{WidenWordsFit};
 ghost use Rattle.laws_operation.specs.NameLaws.{WidenCarriesOut};
 ghost use Rattle.laws_operation.specs.NameLinkLaws.{WidenKeepsLinks};
 ghost use Rattle.laws_operation.specs.OnceLaws.{WidenCarriesOnce};
+ghost use Rattle.laws_operation.specs.PlaceLaws.{WidenPlacesItsPages};
 
 /// The claims of a widening, and its label and value of the old last page, are such as its law asks for.
 pub fn widen_words_fit()
@@ -23,4 +24,9 @@ pub fn widen_keeps_links()
 /// A widening.
 pub fn widen_carries_once()
     ensures { WidenCarriesOnce }
+{}
+
+/// On a whole and tidy pack the page that a widening brings is in the sector that it claims.
+pub fn widen_places_its_pages()
+    ensures { WidenPlacesItsPages }
 {}

@@ -1,6 +1,7 @@
 -- The laws of drop, as they are stated.
 pub use Rattle.laws_operation.proofs.inside.DropLaw.{drop_carries_out}
 pub use Rattle.laws_operation.proofs.inside.Freeing.{slot_carries_out}
+pub use Rattle.laws_operation.proofs.inside.SlotBefore.{slot_of_a_drop_stood_before}
 pub use Rattle.laws_operation.proofs.inside.links.DirValues.{slot_keeps_links}
 pub use Rattle.laws_operation.proofs.inside.links.DropWhole.{drop_keeps_links}
 pub use Rattle.laws_operation.proofs.inside.links.Dropping.{release_keeps_links}

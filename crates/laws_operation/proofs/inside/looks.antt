@@ -5,5 +5,6 @@ pub mod Freed
 pub mod Kept
 pub mod Left
 pub mod Nameless
+pub mod NewPages
 pub mod ReadFiles
 pub mod Unmoved

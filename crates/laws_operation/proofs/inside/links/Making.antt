@@ -80,7 +80,7 @@ module _ (p : Pack) (w : Whole p) (t : Tidy p) (f : Fid) (name : List ℕ) (mome
   head_label = claim_label paged head.at head.label head.value usable_head
 
   -- and it is carried too
-  head_there : carried (after p (make_writes page head)) head.at ≡ Some (page_number f 0)
+  pub head_there : carried (after p (make_writes page head)) head.at ≡ Some (page_number f 0)
   head_there = claim_here paged head.at head.label head.value (page_number f 0) usable_head h.leader_is
 
   -- they concern the file
@@ -93,7 +93,7 @@ module _ (p : Pack) (w : Whole p) (t : Tidy p) (f : Fid) (name : List ℕ) (mome
       (claim_concern paged head.at head.label head.value f (names_one f 0 head.label h.leader_is) (claim_of p page.at page.label page.value f (names_one f 1 page.label h.page_is) head.at of_head))
 
   -- the pack is whole at the end
-  whole_then : Whole (after p (make_writes page head))
+  pub whole_then : Whole (after p (make_writes page head))
   whole_then = (make_law p w t f name moment page head h).meets.whole
 
   -- no other page comes

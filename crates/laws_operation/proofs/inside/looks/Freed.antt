@@ -20,7 +20,7 @@ use Rattle.pack_model.specs.reading.Sights.{sights}
 use Rattle.pack_laws.proofs.Guarding.{carried_parts, free_parts, front_from, here_written, in_range_taken, ones_free, other_kept, usable_within}
 use Rattle.laws_record.proofs.Copying.{place_carried}
 use Rattle.laws_operation.specs.ByteLaws.{Bear}
-use Rattle.laws_operation.specs.FreeLaws.{CutFreesItsPages, CutTakesNoSector, DropFreesItsPages, DropTakesNoSector, EnterLeavesFreeSectors, GrowKeepsUnclaimedFree, MakeKeepsUnclaimedFree, ReleaseFreesItsPages, ReleaseTakesNoSector, SameFree, StayFree, StayFreeBut, ValuesLeaveFreeSectors}
+use Rattle.laws_operation.specs.FreeLaws.{ClaimsKeepUnclaimedFree, CutFreesItsPages, CutTakesNoSector, DropFreesItsPages, DropTakesNoSector, EnterLeavesFreeSectors, GrowKeepsUnclaimedFree, MakeKeepsUnclaimedFree, ReleaseFreesItsPages, ReleaseTakesNoSector, SameFree, StayFree, StayFreeBut, ValuesLeaveFreeSectors}
 
 -- ---- one record write
 -- a value leaves what is free
@@ -85,6 +85,9 @@ claims_free (c ∷ cs) p i is apart =
     let q : Pack = after p (claim_writes c.at c.label c.value) in
     let first : is_free_at q i ≡ true = claim_apart p c.at c.label c.value i (apart 0 0 (omega arith)) ∙ is in
     ap (λ r. is_free_at r i) (after-append p (claim_writes c.at c.label c.value) (claims_writes cs)) ∙ claims_free cs q i first (λ k d l. apart (suc k) d (omega arith))
+
+pub claims_keep_unclaimed_free : ClaimsKeepUnclaimedFree
+claims_keep_unclaimed_free p claims = claims_free claims p
 
 pub make_keeps_unclaimed_free : MakeKeepsUnclaimedFree
 make_keeps_unclaimed_free p page leader = claims_free (page ∷ leader ∷ []) p

@@ -1,5 +1,5 @@
 -- The words of a make, a put, a cut, a title and a stamp.
-use Rattle.std.proofs.Common.{Bool, List, Some, [], ap, arith, cond, false, get_or, length, refl, subst, sym, take, true, ℕ, ◌%◌, ◌*◌, ◌++◌, ◌+◌, ◌/◌, ◌∙◌, ◌∷◌, ◌≡◌, ◌≤◌}
+use Rattle.std.proofs.Common.{Bool, List, Some, [], ap, arith, cond, false, get_or, inl, inr, length, min, refl, subst, sym, take, true, ℕ, ◌%◌, ◌*◌, ◌++◌, ◌+◌, ◌-◌, ◌/◌, ◌<◌, ◌∙◌, ◌∷◌, ◌≡◌, ◌≤◌, ◌⊎◌}
 use Rattle.std.proofs.lemmas.List.{length-replicate}
 use Rattle.alto_words.specs.Fid.{is_directory}
 use Rattle.alto_words.specs.declared.fid.Fid.{Fid}
@@ -18,16 +18,14 @@ use Rattle.pack_model.specs.reading.Sights.Sight.{hidden, holds, leads}
 use Rattle.pack_model.specs.reading.SlotWords.{space_words}
 use Rattle.pack_model.specs.operations.Step.{new_leader}
 use Rattle.pack_model.specs.states.Whole.{PageAt, Whole}
-use Rattle.pack_laws.proofs.Placing.{leader_of_place, page_of_place}
+use Rattle.pack_laws.proofs.Bytes.{length-bytes_of}
+use Rattle.pack_laws.proofs.Placing.{leader_of_place}
 use Rattle.laws_record.specs.QuietLaws.{counted_of}
-use Rattle.laws_operation.proofs.Changing.{headed, seat_of}
-use Rattle.laws_operation.proofs.Grown.{old_counted}
-use Rattle.laws_operation.proofs.Lying.{bytes_laid}
-use Rattle.laws_operation.proofs.OneValue.{fits_page}
-use Rattle.laws_operation.proofs.Seating.{carries_none}
+use Rattle.laws_contents.proofs.bytes.Laws.{page_is_a_slice}
+use Rattle.laws_contents.proofs.pages.Laws.{full_before_each_of_a_whole_pack, labels_count}
+use Rattle.laws_operation.proofs.Changing.{headed}
 use Rattle.laws_operation.proofs.Showing.{other_leader_value, tag_is}
-use Rattle.laws_operation.proofs.inside.Wording.{bytes_in_a_value, label_with_another_count}
-use Rattle.laws_operation.specs.ByteLaws.{together}
+use Rattle.laws_operation.proofs.inside.Wording.{label_with_another_count, past_in_a_value}
 use Rattle.laws_operation.specs.LifeLaws.{first_bytes}
 use Rattle.laws_operation.proofs.inside.words.Labels.{label_page, placed_label}
 use Rattle.laws_operation.proofs.inside.words.LeaderWords.{new_says, stamp_says, title_says}
@@ -94,29 +92,27 @@ stamp_words_fit p f moment at last_at number bytes w h =
     record { file = h.file; sector = h.sector; readable = says.readable; says = says.says f }
 
 -- ---- put
--- bytes within a page and within the file are among those that the page's label counts
-fits_counted : (p : Pack) (f : Fid) (offset count at : ℕ) → Whole p → place (sights p) f (page_of_byte offset) ≡ Some at → offset % 512 + count ≤ 512 → offset + count ≤ length (file_bytes (sights p) f) → offset % 512 + count ≤ length (counted_of p at (sector_at p at).value)
-fits_counted p f offset count at w sector one_page within =
-    let ss : List Sight = sights p in
-    let k : ℕ = offset / 512 in
-    let here = page_of_place ss f k at sector in
-    let old : List ℕ = here.bytes in
-    let is : get_or ss at hidden ≡ holds f k old = here.shows hidden in
-    let pl = seat_of ss f k at old (w.files f) is in
-    let pages : List PageAt = pl.front ++ (at, old) ∷ pl.later in
-    let size : length (file_bytes ss f) ≡ length (together pages) = ap length (bytes_laid ss f pages (length pages) [] (carries_none ss f pages 0 (length pages) pl.carries) (omega arith) pl.laid pl.few) in
-    let z : 512 * k + offset % 512 ≡ offset = omega arith in
-    let l : offset % 512 + count ≤ length old = fits_page pl.front at k old pl.later (offset % 512) count pl.laid pl.number one_page (omega (arith, within, z, size)) in
-    subst (λ x. offset % 512 + count ≤ length x) (old_counted p f k at old is) l
+-- the offset's page comes after full ones, and counts 512 bytes, or those up to the file's end
+page_counts : (p : Pack) (f : Fid) (offset at : ℕ) → Whole p → place (sights p) f (page_of_byte offset) ≡ Some at → length (counted_of p at (sector_at p at).value) ≡ min 512 (length (file_bytes (sights p) f) - 512 * (offset / 512))
+page_counts p f offset at w sector = (page_is_a_slice p f (offset / 512) at (full_before_each_of_a_whole_pack p f (offset / 512) at w sector) sector).size
 
 pub put_words_fit : PutWordsFit
-put_words_fit p f offset new at w h = record {
-  file = h.file;
-  sector = h.sector;
-  one_page = h.one_page;
-  within = h.within;
-  counted = bytes_in_a_value p at (offset % 512) new h.bytes (fits_counted p f offset (length new) at w h.sector h.one_page h.within);
-}
+put_words_fit p f offset new past at w h b =
+    let size = page_counts p f offset at w h.sector in
+    let one_page = h.one_page in
+    let within = h.within in
+    let room = b.room in
+    let sized = b.sized in
+    let twice = length-bytes_of (sector_at p at).value in
+    let says = (labels_count p f (offset / 512) at h.sector).says sized in
+    let ends : (past ≡ []) ⊎ ((tag (sector_at p at).label).bytes ≡ offset % 512 + length new) = elim b.behind [ inl none ↦ inl none | inr end ↦ inr (omega arith) ] in
+    record {
+      file = h.file;
+      sector = h.sector;
+      one_page = h.one_page;
+      within = h.within;
+      counted = past_in_a_value p at (offset % 512) new past h.bytes b.words (omega arith) (omega arith) ends;
+    }
 
 -- ---- cut
 pub cut_words_fit : CutWordsFit
