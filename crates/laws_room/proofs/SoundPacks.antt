@@ -49,7 +49,7 @@ named_find f (n ∷ ns) e = by (named_find f ns) (is_fid n.fid f) refl e
     by again false q e = ap (λ c. is_some (cond c (Some (record { dir = n.dir; name = n.name })) (find fid_cmp f (homes ns)))) (is_fid-sym f n.fid ∙ q) ∙ again e
 
 -- a file of the model lives
-model_lives : (shape : Shape) (ss : List Sight) (f : Fid) → is_some (get (read_sights shape ss).files f) ≡ true → lives ss f ≡ true
+pub model_lives : (shape : Shape) (ss : List Sight) (f : Fid) → is_some (get (read_sights shape ss).files f) ≡ true → lives ss f ≡ true
 unfolding read_sights
 model_lives shape ss f there = by (leader ss f) refl
   where
@@ -74,19 +74,16 @@ map_some : {X Y : Type 0} (g : X → Y) (r : Option X) (y : Y) → option_map g 
 map_some g None y e = cc
 map_some g (Some x) y e = refl
 
--- where each living file has an entry, each that is shown has a name
-names_all : (shape : Shape) (ss : List Sight) → ((f : Fid) → lives ss f ≡ true → IsNamed (read_sights shape ss) f) → (f : Fid) (x : Seen) → get (view (read_sights shape ss)).files f ≡ Some x → contains_key (view (read_sights shape ss)).names f ≡ true
+-- where each file has an entry, each that is shown has a name
+pub names_all : (m : Model) → ((f : Fid) → is_some (get m.files f) ≡ true → IsNamed m f) → (f : Fid) (x : Seen) → get (view m).files f ≡ Some x → contains_key (view m).names f ≡ true
 unfolding view
-names_all shape ss named f x is = by (is_system f) refl (sym (get-where (map_values seen_of m.files) (λ f. not (is_system f)) f) ∙ is)
+names_all m named f x is = by (is_system f) refl (sym (get-where (map_values seen_of m.files) (λ f. not (is_system f)) f) ∙ is)
   where
-    m : Model
-    m = read_sights shape ss
-
     by : (b : Bool) → is_system f ≡ b → cond (not b) (get (map_values {R = fid_cmp} seen_of m.files) f) None ≡ Some x → is_some (get (retain_keys (names_of m.files) (λ f. not (is_system f))) f) ≡ true
     by true e q = absurd (let n : None ≡ Some x = q in cc)
     by false e q =
         ap is_some (get-where (names_of m.files) (λ f. not (is_system f)) f ∙ ap (λ b. cond (not b) (get (names_of m.files) f) None) e ∙ get-from_entries fid_total (homes (namings (entries m.files))) f)
-        ∙ named_find f (namings (entries m.files)) (named f (model_lives shape ss f (map_some (seen_of f) (get m.files f) x (sym (get-map_values fid_total fid_same seen_of m.files f) ∙ q))))
+        ∙ named_find f (namings (entries m.files)) (named f (map_some (seen_of f) (get m.files f) x (sym (get-map_values fid_total fid_same seen_of m.files f) ∙ q)))
 
 -- so nothing is lacking
 none_lacking : (shape : Shape) (ss : List Sight) → WholeSights shape ss → ((f : Fid) → lives ss f ≡ true → IsNamed (read_sights shape ss) f) → lacking (read_sights shape ss) ≡ []
@@ -95,7 +92,7 @@ none_lacking shape ss w named =
     let m : Model = read_sights shape ss in
     ap (λ b. unless b (sys_dir, sys_dir_name) (unless (list_any (λ n. is_fid n.fid disk_descriptor) (namings (entries m.files))) (disk_descriptor, descriptor_name) (given_names (view m).names (entries (view m).files)))) w.root_named
     ∙ ap (λ b. unless b (disk_descriptor, descriptor_name) (given_names (view m).names (entries (view m).files))) w.descriptor_named
-    ∙ none_given (view m).names (entries (view m).files) (each_entry (λ f x. contains_key (view m).names f ≡ true) (view m).files (names_all shape ss named))
+    ∙ none_given (view m).names (entries (view m).files) (each_entry (λ f x. contains_key (view m).names f ≡ true) (view m).files (names_all m (λ f there. named f (model_lives shape ss f there))))
 
 -- no entry needs no page
 pub no_widening : (is : List Item) → widens is [] ≡ 0

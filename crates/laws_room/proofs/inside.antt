@@ -20,6 +20,7 @@ pub mod RootStanding
 pub mod RootTurns
 pub mod RootedAt
 pub mod SectorsUsed
+pub mod Shown
 pub mod SystemFiles
 pub mod Totals
 pub mod WholeFiles

@@ -4,4 +4,5 @@ pub mod KeepLaws
 pub mod MarkLaws
 pub mod NextLaws
 pub mod RoomLaws
+pub mod ShownLaws
 pub mod UseLaws

@@ -15,4 +15,5 @@ pub mod keeping;
 pub mod marks;
 pub mod numbers;
 pub mod rooms;
+pub mod shown;
 pub mod uses;
