@@ -26,7 +26,7 @@ QUESTIONS = [
     ("links", BY_OPERATION, "keeps_links"),
     ("page once", BY_OPERATION, "carries_once"),
     ("free sectors", BY_OPERATION, "keeps_unclaimed_free|takes_no_sector|frees_its_pages|leaves_free_sectors"),
-    ("names, places", BY_OPERATION, "leaves_no_name|takes_the_only_entry|keeps_places"),
+    ("names, places", BY_OPERATION, "leaves_no_name|places_its_pages|takes_the_only_entry|keeps_places"),
     ("other files", "laws_lookup::others", "leaves_others"),
     ("misled before", "laws_lookup::before", "misled_before"),
     ("system", "laws_line::spares", "leaves_the_system"),

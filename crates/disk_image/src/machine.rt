@@ -101,6 +101,8 @@ impl<'a, R: Files + Input + Print> Disk for FileMachine<'a, R> {
     ghost counted = { λ m told. absurd (false≢true told) };
 
     ghost sized = { λ m told. absurd (false≢true told) };
+
+    ghost formed = { λ m told. absurd (false≢true told) };
 }
 
 impl<'a, R: Files + Input + Print> Console for FileMachine<'a, R> {

@@ -1,5 +1,6 @@
 mod Adding
 mod Counting
 mod Failing
+mod Forming
 mod Keeping
 mod Reading

@@ -29,9 +29,11 @@ impl Tape for MemMachine {
 }
 
 impl Disk for MemMachine {
-    ghost use Rattle.std.specs.Prelude.{◌≡◌, ◌<◌, IsTrue, IsErrOf, IfNone, IfSome};
+    ghost use Rattle.std.proofs.Common.{subst};
+    ghost use Rattle.std.specs.Prelude.{All, ◌≡◌, ◌<◌, IsTrue, IsErrOf, IfNone, IfSome};
     ghost use Rattle.disk_records.specs.Addresses.{pages_of};
     ghost use Rattle.disk_records.specs.Checks.{is_checked};
+    ghost use Rattle.disk_records.specs.Packs.{IsFormed};
     ghost use Rattle.disk_records.specs.Tapes.{DiskAlone, IfMismatch, Ran, Rose};
     ghost use Rattle.disk_memory.specs.Failing.{HasFailed, IsCalled, IsSure, next_failure};
 
@@ -66,6 +68,8 @@ impl Disk for MemMachine {
     ghost counted = { λ m told. m.machine.counted };
 
     ghost sized = { λ m told. m.machine.base_sized };
+
+    ghost formed = { λ m told. subst (All IsFormed) m.machine.right m.machine.formed };
 }
 
 impl Console for MemMachine {

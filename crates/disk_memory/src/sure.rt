@@ -1,10 +1,11 @@
 // A machine in memory that never fails.
-ghost use Rattle.std.specs.Prelude.{◌≡◌, ◌-◌, ◌<◌, ◌≤◌, min, true, [], length, drop, IsTrue};
+ghost use Rattle.std.specs.Prelude.{All, ◌≡◌, ◌-◌, ◌<◌, ◌≤◌, min, true, [], length, drop, IsTrue};
+ghost use Rattle.std.proofs.Common.{subst};
 ghost use Rattle.std.specs.List.{list_all};
 ghost use Rattle.std.specs.Vec.{vec_len, vec_capacity};
 ghost use Rattle.disk_records.specs.Addresses.{pages_of};
 ghost use Rattle.disk_records.specs.Events.{writes_in};
-ghost use Rattle.disk_records.specs.Packs.{after_all};
+ghost use Rattle.disk_records.specs.Packs.{IsFormed, after_all};
 ghost use Rattle.disk_records.specs.Tapes.{capped};
 ghost use Rattle.disk_memory.specs.Storing.{is_whole};
 
@@ -38,6 +39,7 @@ pub struct SureMachine {
     ghost right: { sectors.items ≡ after_all events.items base.items },
     ghost sized: { length sectors.items ≡ pages_of shape },
     ghost base_sized: { length base.items ≡ pages_of shape },
+    ghost formed: { All IsFormed sectors.items },
     ghost within: { taken ≤ length keys.items },
     ghost counted: { writes ≡ capped (writes_in events.items) },
     ghost whole: { IsTrue (list_all (is_whole shape) events.items) },
@@ -65,6 +67,8 @@ impl Disk for SureMachine {
     ghost counted = { λ m told. m.counted };
 
     ghost sized = { λ m told. m.base_sized };
+
+    ghost formed = { λ m told. subst (All IsFormed) m.right m.formed };
 }
 
 impl Console for SureMachine {
@@ -131,6 +135,31 @@ impl SureMachine {
         }
     }
 
+    /// A copy of this sector, which has records of 2, 8 and 256 words.
+    fn copy_of_one(sector: &Sector) -> Sector
+        ensures same { result ≡ sector.now }
+        ensures formed { IsFormed sector.now }
+    {
+        Sector {
+            header: sector.header,
+            label: sector.label,
+            value: sector.value,
+        }
+    }
+
+    /// A copy of these sectors, each of which has records of 2, 8 and 256 words.
+    fn copy_of(alloc: Global, sectors: &[Sector]) -> Result<Vec<Sector>, AllocError>
+        ensures same { IfOk result (λ copy. copy.items ≡ sectors.now) }
+        ensures formed { OnOk result (All IsFormed sectors.now) }
+    {
+        let mut copy = Vec::new(alloc);
+        copy.reserve(sectors.len())?;
+        for sector in sectors {
+            copy.push(SureMachine::copy_of_one(sector))?;
+        }
+        Ok(copy)
+    }
+
     /// A machine over as many sectors as the shape has.
     fn over(
         alloc: Global,
@@ -141,7 +170,7 @@ impl SureMachine {
         requires { length sectors.items ≡ pages_of shape }
         ensures { IfOk result (λ machine. ⟦<SureMachine as Tape>⟧.tape machine ≡ first_tape shape sectors.items keys.items) }
     {
-        let base = sectors.to_vec(alloc)?;
+        let base = SureMachine::copy_of(alloc, &sectors)?;
         Ok(SureMachine {
             alloc,
             shape,

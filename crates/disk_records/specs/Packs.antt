@@ -1,5 +1,5 @@
 -- A pack, and what events leave of it.
-use Rattle.std.specs.Prelude.{ℕ, zero, suc, ◌&&◌, Bool, false, cond, nat_lt, List, [], ◌∷◌, take, get_or, set, Option, Some, None}
+use Rattle.std.specs.Prelude.{◌≡◌, ℕ, zero, suc, ◌&&◌, All, Bool, false, cond, nat_lt, List, [], ◌∷◌, length, take, get_or, set, Option, Some, None}
 use Rattle.disk_records.specs.declared.shape.Shape.{Shape}
 use Rattle.disk_records.specs.declared.records.Sector.{Sector}
 use Rattle.disk_records.specs.declared.records.Page.{Page}
@@ -18,6 +18,16 @@ no_sector = record { header = []; label = []; value = [] }
 
 abbrev pub sector_at : Pack → ℕ → Sector
 sector_at p at = get_or p.sectors at no_sector
+
+-- A sector whose records have as many words as those of a disk.
+pub record IsFormed (s : Sector) : Type 0 where
+  pub header : length s.header ≡ 2
+  pub label : length s.label ≡ 8
+  pub value : length s.value ≡ 256
+
+-- each sector of a pack is such a one
+abbrev pub AreFormed : Pack → Type 0
+AreFormed p = All IsFormed p.sectors
 
 -- ---- what events leave: part 0 is the header, 1 the label, 2 the value
 abbrev pub with_part : ℕ → List ℕ → Sector → Sector

@@ -3,7 +3,8 @@ ghost use Rattle.std.specs.Prelude.{◌≡◌, ◌<◌, ◌≤◌, Bool, IsTrue,
 ghost use Rattle.disk_records.specs.Addresses.{pages_of};
 ghost use Rattle.disk_records.specs.Checks.{is_legal, is_checked};
 ghost use Rattle.disk_records.specs.Events.{writes_in};
-ghost use Rattle.disk_records.specs.Tapes.{Taped, DiskAlone, KeysAlone, ShowAlone, HasRead, HasShown, Rose, Ran, IfMismatch, capped};
+ghost use Rattle.disk_records.specs.Packs.{AreFormed};
+ghost use Rattle.disk_records.specs.Tapes.{Taped, DiskAlone, KeysAlone, ShowAlone, HasRead, HasShown, Rose, Ran, IfMismatch, capped, pack};
 
 use crate::{Plan, Sector, Shape};
 
@@ -62,6 +63,9 @@ pub trait Disk: Tape {
 
     /// Where the machine is told, it has as many sectors as its shape says.
     ghost sized: { (d : Self) → IsTrue Self.told → length (Self.tape d).base ≡ pages_of (Self.tape d).form };
+
+    /// Where the machine is told, each sector of its pack has records of 2, 8 and 256 words.
+    ghost formed: { (d : Self) → IsTrue Self.told → AreFormed (pack (Self.tape d)) };
 }
 
 /// A keyboard and a display.

@@ -1,7 +1,7 @@
 -- Where the pages of a file are, and which of a sector's bytes count.
 use Rattle.std.specs.Prelude.{List, None, Some, length, suc, ℕ, ◌<◌, ◌≡◌, ◌≤◌, ◌↔◌}
 use Rattle.alto_words.specs.declared.fid.Fid.{Fid}
-use Rattle.disk_records.specs.Packs.{Pack, carried, sector_at}
+use Rattle.disk_records.specs.Packs.{AreFormed, Pack, carried, sector_at}
 use Rattle.disk_records.specs.Words.{word}
 use Rattle.disk_records.specs.declared.records.Page.{Page}
 use Rattle.pack_model.specs.reading.Files.{page, place}
@@ -45,6 +45,10 @@ pub record CountsByLabel (p : Pack) (at : ℕ) : Type 0 where
 -- each data page of any pack does
 abbrev pub LabelsCount : Type 0
 LabelsCount = (p : Pack) (f : Fid) (k at : ℕ) → place (sights p) f (suc k) ≡ Some at → CountsByLabel p at
+
+-- if the records of all sectors have as many words as a disk's, so has the value of each sector that carries a page
+abbrev pub FormedPagesHave256Words : Type 0
+FormedPagesHave256Words = (p : Pack) (at : ℕ) (page : Page) → AreFormed p → carried p at ≡ Some page → length (sector_at p at).value ≡ 256
 
 -- ---- pages in front of a page
 -- A data page of a file, counted from 0, is there and full.

@@ -1,6 +1,6 @@
 //! Where the pages of a file are, and which of a sector's bytes count.
 
-ghost use Rattle.laws_contents.specs.PageLaws.{CarriedOnceIsInPlace, FullBeforeEachOfAWholePack, FullBeforeTheNext, LabelsCount, NoneBeforeTheFirst, OnceIsByLabels, PageNumbersAreWords, PagesAreTheirCountedBytes};
+ghost use Rattle.laws_contents.specs.PageLaws.{CarriedOnceIsInPlace, FormedPagesHave256Words, FullBeforeEachOfAWholePack, FullBeforeTheNext, LabelsCount, NoneBeforeTheFirst, OnceIsByLabels, PageNumbersAreWords, PagesAreTheirCountedBytes};
 
 /// On a pack that carries no page twice whichever sector carries a page is its place.
 pub fn carried_once_is_in_place()
@@ -25,6 +25,11 @@ pub fn pages_are_their_counted_bytes()
 /// On any pack a data page has at most 512 bytes, and of a value of 256 words as many as its label says.
 pub fn labels_count()
     ensures { LabelsCount }
+{}
+
+/// If the records of all sectors have as many words as a disk's, the value of each sector that carries a page has 256.
+pub fn formed_pages_have_256_words()
+    ensures { FormedPagesHave256Words }
 {}
 
 /// All data pages before the first one are full.

@@ -5,7 +5,7 @@ use Rattle.std.proofs.lemmas.List.{get_or_default, length-take}
 use Rattle.std.specs.Prelude.{nat_lt, get_or}
 use Rattle.alto_words.specs.declared.fid.Fid.{Fid}
 use Rattle.disk_records.specs.Labels.{Tag, in_range, tag}
-use Rattle.disk_records.specs.Packs.{Pack, carried, sector_at}
+use Rattle.disk_records.specs.Packs.{Pack, carried, no_sector, sector_at}
 use Rattle.pack_model.specs.operations.PageWords.{page_number}
 use Rattle.pack_model.specs.reading.Bytes.{bytes_of}
 use Rattle.pack_model.specs.reading.Files.{carries_page, page, place}
@@ -13,13 +13,13 @@ use Rattle.pack_model.specs.reading.Sights.{sights}
 use Rattle.pack_model.specs.reading.Sights.Sight.{hidden}
 use Rattle.pack_laws.proofs.Bytes.{length-bytes_of}
 use Rattle.pack_laws.proofs.Carrying.{carried_shown}
-use Rattle.pack_laws.proofs.Guarding.{carried_parts}
+use Rattle.pack_laws.proofs.Guarding.{carried_parts, usable_within}
 use Rattle.pack_laws.proofs.Placing.{no_page, page_of_place, place_from}
 use Rattle.pack_laws.proofs.Sighted.{ShowsPage, counted, length-sights, shows_page, sights-get}
 use Rattle.laws_record.proofs.Carried.{carried_shows, carries_within}
 use Rattle.laws_record.proofs.Copying.{place_carried}
 use Rattle.laws_record.proofs.Heads.{and_right}
-use Rattle.laws_contents.specs.PageLaws.{CarriedOnceIsInPlace, LabelsCount, OnceIsByLabels, PageNumbersAreWords, PagesAreTheirCountedBytes, bytes_at}
+use Rattle.laws_contents.specs.PageLaws.{CarriedOnceIsInPlace, FormedPagesHave256Words, LabelsCount, OnceIsByLabels, PageNumbersAreWords, PagesAreTheirCountedBytes, bytes_at}
 
 -- ---- where a page is
 pub carried_once_is_in_place : CarriedOnceIsInPlace
@@ -77,6 +77,9 @@ pages_are_their_counted_bytes p f k = record {
       h.page_is ∙ ap Some s.bytes_are;
   missing = no_page (sights p) f k;
 }
+
+pub formed_pages_have_256_words : FormedPagesHave256Words
+formed_pages_have_256_words p at page formed is = (formed at no_sector (usable_within p at (carried_parts p at page is).0)).value
 
 pub labels_count : LabelsCount
 labels_count p f k at e =

@@ -1,5 +1,6 @@
 use Rattle.std.proofs.Common.{rules, ◌∙◌}
 use Rattle.std.proofs.Math.ListN.{length-set}
+use Rattle.disk_memory.proofs.Forming.{formed_wrote}
 use Rattle.disk_memory.proofs.Keeping.{right_wrote, counted_wrote, whole_wrote}
 use Rattle.disk_memory.proofs.sure.SureMachine.write.Goals as goal
 
@@ -20,3 +21,8 @@ pub invariant_of-self-clause-whole : goal.invariant_of-self-clause-whole
 invariant_of-self-clause-whole c =
     let m = c.args.self.now in
     whole_wrote m.shape m.events.items c.push_ready.new.items.items c.args.at c.args.part c.args.words.now m.whole (search rules) c.requires.place c.requires.one c.requires.whole
+
+pub invariant_of-self-clause-formed : goal.invariant_of-self-clause-formed
+invariant_of-self-clause-formed c =
+    let m = c.args.self.now in
+    formed_wrote m.sectors.items c.args.at c.args.part c.args.words.now c.index_mut.result.now c.replace_record.new.sector m.formed (rw m.sized c.requires.place) c.index_mut.ensures.value c.requires.whole c.replace_record.ensures
