@@ -9,5 +9,6 @@ pub mod Reading
 pub mod Showing
 pub mod Shown
 pub mod Sighting
+pub mod Standing
 pub mod Wholeness
 pub mod Writes

@@ -1,7 +1,7 @@
 //! The pack that formatting writes, of any shape: where every session begins.
 
 ghost use Rattle.laws_format.specs.Formatted.{FormattedDescriptorFits, FormattedLeadersAreHandy, FormattedPackBeginsASession, FormattedPackHasFreeSectors, FormattedPackIsEmpty, FormattedPackShowsNothing};
-ghost use Rattle.laws_format.specs.Writing.{FormattingLeavesItsPack, SectorsComeInPlace};
+ghost use Rattle.laws_format.specs.Writing.{FormattedSectorsStand, FormattingGoesOn, FormattingLeavesItsPack, SectorsComeInPlace};
 
 /// The pack that formatting writes is sound and clean, all its hints are true, and it carries no page twice.
 pub fn formatted_pack_begins_a_session()
@@ -42,4 +42,14 @@ pub fn sectors_come_in_place()
 /// On any pack with a sector for each address the record writes of formatting leave the pack that formatting writes.
 pub fn formatting_leaves_its_pack()
     ensures { FormattingLeavesItsPack }
+{}
+
+/// The record writes of a prefix of the sectors that formatting writes and of the next one are those of the prefix with this one.
+pub fn formatting_goes_on()
+    ensures { FormattingGoesOn }
+{}
+
+/// Each sector of the pack that formatting writes, by its place.
+pub fn formatted_sectors_stand()
+    ensures { FormattedSectorsStand }
 {}

@@ -25,14 +25,15 @@ use Rattle.pack_model.specs.sessions.Descriptor.{data_pages}
 use Rattle.pack_model.specs.sessions.Format.{Written, format_next, format_page, format_pages, formatted, free_after_format, sectors_used, with_headers}
 use Rattle.pack_laws.proofs.Keys.{fid_total}
 use Rattle.laws_format.specs.Empty.{empty_root}
+use Rattle.laws_format.specs.Writing.{headed}
 use Rattle.laws_format.proofs.inside.Living.{by_living, its_place, root_read}
 use Rattle.laws_format.proofs.inside.Pages.{its_bytes, page_is_full, page_is_last, pages_laid}
 use Rattle.laws_format.proofs.inside.Reading.{files_are, root_entries}
 use Rattle.laws_format.proofs.inside.Shown.{each, root_bytes, sector_of, shown}
-use Rattle.laws_format.proofs.inside.Sighting.{formatted_sights, headed, pages_few}
+use Rattle.laws_format.proofs.inside.Sighting.{formatted_sights, pages_few}
 
 -- the sector of each of DiskDescriptor's pages
-page_headed : (shape : Shape) (number at n k : ℕ) (more : List Written) (j m a : ℕ) → m ≡ n + j → a ≡ at + j → j < k → get_or (with_headers shape number at (format_pages shape n k ++ more)) j no_sector ≡ headed shape number a (format_page shape m)
+pub page_headed : (shape : Shape) (number at n k : ℕ) (more : List Written) (j m a : ℕ) → m ≡ n + j → a ≡ at + j → j < k → get_or (with_headers shape number at (format_pages shape n k ++ more)) j no_sector ≡ headed shape number a (format_page shape m)
 page_headed shape number at n zero more j m a e i l = absurd (omega arith)
 page_headed shape number at n (suc k) more zero m a e i l = let x : n ≡ m = omega arith in let y : at ≡ a = omega arith in λ t. headed shape number (y t) (format_page shape (x t))
 page_headed shape number at n (suc k) more (suc j) m a e i l = page_headed shape number (suc at) (suc n) k more j m a (omega arith) (omega arith) (omega arith)
@@ -61,7 +62,7 @@ module _ (shape : Shape) (number moment : ℕ) where
   abbrev ss : List Sight
   ss = shown moment (its_bytes shape) (data_pages shape) (free_after_format shape)
 
-  its_sector : (j : ℕ) → j < data_pages shape → sector_at p (sector_of j) ≡ headed shape number (sector_of j) (format_page shape j)
+  pub its_sector : (j : ℕ) → j < data_pages shape → sector_at p (sector_of j) ≡ headed shape number (sector_of j) (format_page shape j)
   its_sector j low = page_headed shape number 4 0 (data_pages shape) (replicate (free_after_format shape) _) j j (sector_of j) (omega arith) (omega arith) low
 
   -- ---- where the pages are

@@ -6,7 +6,6 @@ use Rattle.std.proofs.lemmas.List.{length-append, length-replicate}
 use Rattle.alto_words.specs.Fid.{sys_dir, disk_descriptor}
 use Rattle.alto_words.specs.Names.{is_stored_name}
 use Rattle.disk_records.specs.declared.shape.Shape.{Shape}
-use Rattle.disk_records.specs.declared.records.Sector.{Sector}
 use Rattle.disk_records.specs.Addresses.{pages_of, real_of, descriptor_length}
 use Rattle.disk_records.specs.Commands.{ones}
 use Rattle.disk_records.specs.Labels.{tag, in_range, is_free}
@@ -17,14 +16,11 @@ use Rattle.pack_model.specs.reading.Sights.{Sight, sight, sights, sights_from, t
 use Rattle.pack_model.specs.reading.Sights.Sight.{hidden, free, stray, leads, holds}
 use Rattle.pack_model.specs.sessions.Descriptor.{data_pages}
 use Rattle.pack_model.specs.sessions.Format.{Written, format_leader, format_root, format_page, format_pages, formatted, free_after_format, sectors_used, with_headers}
+use Rattle.laws_format.specs.Writing.{headed}
 use Rattle.laws_format.proofs.inside.Pages.{its_bytes}
 use Rattle.laws_format.proofs.inside.Shown.{its_leader, later_shown, root_bytes, root_leader, shown}
 
 -- ---- one sector
--- a sector of the pack with its header, this label and this value
-abbrev pub headed : Shape → ℕ → ℕ → Written → Sector
-headed shape number at w = record { header = number ∷ real_of shape at ∷ []; label = w.0; value = w.1 }
-
 pub headed_usable : (shape : Shape) (number at : ℕ) (w : Written) → 0 < at → at < pages_of shape → is_usable shape at (headed shape number at w) ≡ true
 headed_usable shape number at w low l = λ i. lt-ltb 0 at low i && (lt-ltb at (pages_of shape) l i && eq-eqb (real_of shape at) (real_of shape at) refl i)
 

@@ -1,15 +1,14 @@
 -- Whole sectors that are written come in the place of others.
-use Rattle.std.proofs.Common.{◌≡◌, ℕ, zero, suc, ◌+◌, ◌<◌, ◌≤◌, List, [], ◌∷◌, ◌++◌, length, length-set, take, drop, set, refl, sym, ap, ◌∙◌, arith}
+use Rattle.std.proofs.Common.{◌≡◌, ℕ, zero, suc, ◌+◌, ◌<◌, ◌≤◌, List, [], ◌∷◌, ◌++◌, length, length-set, take, drop, set, refl, sym, ap, ◌∙◌, arith, get_or}
 use Rattle.std.proofs.lemmas.List.{take-append-drop, drop_all, append-nil}
-use Rattle.disk_records.specs.declared.records.Event.TheVariants.{Wrote}
 use Rattle.disk_records.specs.declared.records.Sector.{Sector}
-use Rattle.disk_records.specs.Packs.{after_all}
-use Rattle.pack_model.specs.sessions.Format.{formatted}
-use Rattle.laws_format.specs.Writing.{FormattingLeavesItsPack, SectorsComeInPlace, sectors_writes}
+use Rattle.disk_records.specs.Packs.{after_all, no_sector}
+use Rattle.pack_model.specs.sessions.Format.{formatted, sector_writes, sectors_writes}
+use Rattle.laws_format.specs.Writing.{FormattingGoesOn, FormattingLeavesItsPack, SectorsComeInPlace}
 use Rattle.laws_format.proofs.inside.Counting.{sectors_many}
 
 -- the three records of a sector are the sector
-three_parts : (old : List Sector) (at : ℕ) (s : Sector) → at < length old → after_all (Wrote at 0 s.header ∷ Wrote at 1 s.label ∷ Wrote at 2 s.value ∷ []) old ≡ set old at s
+three_parts : (old : List Sector) (at : ℕ) (s : Sector) → at < length old → after_all (sector_writes at s) old ≡ set old at s
 three_parts [] at s l = absurd (omega arith)
 three_parts (o ∷ old) zero s l = refl
 three_parts (o ∷ old) (suc at) s l = ap (λ r. o ∷ r) (three_parts old at s (omega arith))
@@ -43,3 +42,22 @@ pub formatting_leaves_its_pack : FormattingLeavesItsPack
 formatting_leaves_its_pack p number moment each =
     let same : length (formatted p.shape number moment).sectors ≡ length p.sectors = sectors_many p.shape number moment ∙ sym each in
     λ i. record { shape = p.shape; sectors = all_replaced p.sectors (formatted p.shape number moment).sectors same i }
+
+-- one sector more
+goes_on : (sectors : List Sector) (at k : ℕ) → k < length sectors → sectors_writes at (take (suc k) sectors) ≡ sectors_writes at (take k sectors) ++ sector_writes (at + k) (get_or sectors k no_sector)
+goes_on [] at k l = absurd (omega arith)
+goes_on (s ∷ sectors) at zero l = let z : at ≡ at + 0 = omega arith in ap (λ n. sector_writes n s) z
+goes_on (s ∷ sectors) at (suc k) l =
+    let z : suc at + k ≡ at + suc k = omega arith in
+    ap (λ es. sector_writes at s ++ es) (goes_on sectors (suc at) k (omega arith))
+    ∙ ap (λ n. sector_writes at s ++ (sectors_writes (suc at) (take k sectors) ++ sector_writes n (get_or sectors k no_sector))) z
+
+one_more : (sectors : List Sector) (at more : ℕ) → more ≡ suc at → at < length sectors → sectors_writes 0 (take more sectors) ≡ sectors_writes 0 (take at sectors) ++ sector_writes at (get_or sectors at no_sector)
+one_more sectors at more e l =
+    let z : 0 + at ≡ at = omega arith in
+    ap (λ n. sectors_writes 0 (take n sectors)) e ∙ goes_on sectors 0 at l ∙ ap (λ n. sectors_writes 0 (take at sectors) ++ sector_writes n (get_or sectors at no_sector)) z
+
+pub formatting_goes_on : FormattingGoesOn
+formatting_goes_on shape number moment at low =
+    let many = sectors_many shape number moment in
+    one_more (formatted shape number moment).sectors at (at + 1) (omega arith) (omega arith)

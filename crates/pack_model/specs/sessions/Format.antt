@@ -1,10 +1,12 @@
--- The pack that formatting writes.
+-- The pack that formatting writes, and its record writes.
 -- Where a formatted pack has its pages is this project's choice.
 use Rattle.std.specs.Prelude.{ℕ, zero, suc, ◌+◌, ◌-◌, ◌*◌, ◌%◌, true, false, Bool, List, [], ◌∷◌, ◌++◌, min, replicate, cond, nat_lt}
 use Rattle.alto_words.specs.declared.fid.Fid.{Fid}
 use Rattle.alto_words.specs.Fid.{sys_dir, disk_descriptor}
 use Rattle.disk_records.specs.declared.shape.Shape.{Shape}
 use Rattle.disk_records.specs.declared.records.Sector.{Sector}
+use Rattle.disk_records.specs.declared.records.Event.{Event}
+use Rattle.disk_records.specs.declared.records.Event.TheVariants.{Wrote}
 use Rattle.disk_records.specs.Addresses.{pages_of, real_of, descriptor_length}
 use Rattle.disk_records.specs.Labels.{label_of}
 use Rattle.disk_records.specs.Commands.{ones}
@@ -78,3 +80,17 @@ with_headers shape number at (w ∷ ws) =
 
 abbrev pub formatted : Shape → ℕ → ℕ → Pack
 formatted shape number moment = record { shape = shape; sectors = with_headers shape number 0 (formatted_sectors shape moment) }
+
+-- ---- the record writes of formatting
+-- a whole sector: its header, its label and its value, as one command writes them
+abbrev pub sector_writes : ℕ → Sector → List Event
+sector_writes at s = Wrote at 0 s.header ∷ Wrote at 1 s.label ∷ Wrote at 2 s.value ∷ []
+
+-- these sectors, from an address on
+abbrev pub sectors_writes : ℕ → List Sector → List Event
+sectors_writes at [] = []
+sectors_writes at (s ∷ sectors) = sector_writes at s ++ sectors_writes (suc at) sectors
+
+-- every sector of the pack, rising
+abbrev pub format_writes : Shape → ℕ → ℕ → List Event
+format_writes shape number moment = sectors_writes 0 (formatted shape number moment).sectors
