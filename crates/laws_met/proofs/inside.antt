@@ -2,6 +2,7 @@ pub mod Changing
 pub mod FactsA
 pub mod FactsC
 pub mod FactsD
+pub mod FactsE
 pub mod FactsP
 pub mod LineA
 pub mod LineD
@@ -12,3 +13,4 @@ pub mod More
 pub mod NewFile
 pub mod Operating
 pub mod Renaming
+pub mod RenamingInside

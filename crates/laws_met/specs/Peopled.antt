@@ -152,23 +152,23 @@ bytes_more = replicate 500 66
 abbrev pub name_z : List ℕ
 name_z = codes "Z."
 
-abbrev pub put_1 : Pack
-put_1 = after peopled (putting peopled 510 (1 ∷ 2 ∷ []) 6)
+abbrev pub after_put : Pack
+after_put = after peopled (putting peopled 510 (1 ∷ 2 ∷ []) 6)
 
-abbrev pub grown_2 : Pack
-grown_2 = after put_1 (growing put_1 file_a 600 bytes_more (12 ∷ []) 7)
+abbrev pub after_growth : Pack
+after_growth = after after_put (growing after_put file_a 600 bytes_more (12 ∷ []) 7)
 
-abbrev pub cut_3 : Pack
-cut_3 = after grown_2 (cutting grown_2 100 6 (7 ∷ 12 ∷ []))
+abbrev pub after_cut : Pack
+after_cut = after after_growth (cutting after_growth 100 6 (7 ∷ 12 ∷ []))
 
-abbrev pub titled_4 : Pack
-titled_4 = after cut_3 (titling cut_3 name_z 5)
+abbrev pub after_title : Pack
+after_title = after after_cut (titling after_cut name_z 5)
 
-abbrev pub stamped_5 : Pack
-stamped_5 = after titled_4 (stamping titled_4 2000 6 1 100 5)
+abbrev pub after_stamp : Pack
+after_stamp = after after_title (stamping after_title 2000 6 1 100 5)
 
-abbrev pub widened_6 : Pack
-widened_6 = after stamped_5 (growing stamped_5 dir_d 510 widening_bytes (7 ∷ []) 9)
+abbrev pub after_widening : Pack
+after_widening = after after_stamp (growing after_stamp dir_d 510 widening_bytes (7 ∷ []) 9)
 
 -- ---- a line by which a file goes, and one that renames it, into the directory
 abbrev pub name_c : List ℕ
@@ -182,3 +182,16 @@ retitled = after peopled (titling peopled name_c 5)
 
 abbrev pub left : Pack
 left = after retitled (leaving retitled 2 24 8)
+
+-- ---- one that renames the file within the directory: its old slot and the free one after it are joined for a longer entry
+abbrev pub name_e : List ℕ
+name_e = codes "BCD."
+
+abbrev pub room_e : EntryRoom
+room_e = record { place = 0; first_words = 8; total = 255; at = 9; next_at = 0 }
+
+abbrev pub retitled_b : Pack
+retitled_b = after peopled (titling peopled name_e 10)
+
+abbrev pub left_b : Pack
+left_b = after retitled_b (leaving retitled_b 9 0 8)

@@ -28,18 +28,21 @@ use Rattle.laws_line.specs.CutLaws.{Batch}
 use Rattle.laws_line.specs.SoundLines.{IsLine, LineOnSound}
 use Rattle.laws_hint.specs.ClosingLaws.{ClosedTrue, closing_writes}
 use Rattle.laws_hint.specs.LineLinks.{EachKeepsLinks}
-use Rattle.laws_met.specs.Peopled.{bytes_a, bytes_more, cut_3, cutting, dir_d, dropping, entered_a, entered_d, entering, file_a, file_b, formatted_pack, grown_2, grown_a, growing, leaving, left, made_a, made_b, made_d, making, name_a, name_b, name_c, name_d, name_z, numbered_a, numbered_b, numbered_d, opened, opening, peopled, put_1, putting, retitled, room_a, room_b, room_c, room_d, stamped_5, stamping, titled_4, titling}
+use Rattle.laws_met.specs.Peopled.{bytes_a, bytes_more, after_cut, cutting, dir_d, dropping, entered_a, entered_d, entering, file_a, file_b, formatted_pack, after_growth, grown_a, growing, leaving, left, left_b, made_a, made_b, made_d, making, name_a, name_b, name_c, name_d, name_e, name_z, numbered_a, numbered_b, numbered_d, opened, opening, peopled, after_put, putting, retitled, retitled_b, room_a, room_b, room_c, room_d, room_e, after_stamp, stamping, after_title, titling}
 
 -- ---- one pack
 abbrev pub found_b : Room
 found_b = record { first = 0; place = 0; total = 255 }
 
+abbrev pub found_c : Room
+found_c = record { first = 1; place = 8; total = 247 }
+
 -- the slots of SysDir before the first file's
 abbrev pub system_items : List Item
 system_items = entry sys_dir sys_dir_name ∷ entry disk_descriptor descriptor_name ∷ []
 
--- A sound pack with true links in a session, with an ordinary file of two pages and a directory with an entry, on which each operation can
--- be done, as a caller knows it; a file is entered once it is made.
+-- A sound pack with true links in a session, with an ordinary file of two pages and a directory with an entry, and what a caller knows
+-- before each operation on a file or a directory that is there.
 pub record MeetsPremises (p : Pack) : Type 0 where
   pub sound : Sound p
   pub links : LinksTrue p
@@ -60,9 +63,16 @@ pub record MeetsPremises (p : Pack) : Type 0 where
 abbrev pub PremisesAreMet : Type 0
 PremisesAreMet = MeetsPremises peopled
 
--- and on the packs within the line that made its second file a file can be made, and then entered
-abbrev pub NewFilePremisesAreMet : Type 0
-NewFilePremisesAreMet = CanMake numbered_b file_b name_b 10 11 × CanEnter made_b dir_d name_b file_b found_b (entered_words file_b 10 name_b (left_in found_b name_b)) 9 0
+-- What a caller knows within lines: before a make, after its new serial; before an entering, after the make, and after an entry that went,
+-- in another directory and in its own, where free slots are joined.
+pub record MeetsInLines : Type 0 where
+  pub can_make : CanMake numbered_b file_b name_b 10 11
+  pub can_enter : CanEnter made_b dir_d name_b file_b found_b (entered_words file_b 10 name_b (left_in found_b name_b)) 9 0
+  pub can_enter_elsewhere : CanEnter left dir_d name_c file_a found_c (entered_words file_a 5 name_c (left_in found_c name_c)) 9 0
+  pub can_enter_joined : CanEnter left_b dir_d name_e file_b found_b (entered_words file_b 10 name_e (left_in found_b name_e)) 9 0
+
+abbrev pub PremisesAreMetInLines : Type 0
+PremisesAreMetInLines = MeetsInLines
 
 -- ---- lines
 -- A line of the operating system on a sound pack with true links, with these record writes: those of its operations after the opening of
@@ -102,7 +112,7 @@ abbrev pub changing_line : List Operation
 changing_line = put file_a 510 (1 ∷ 2 ∷ []) ∷ grow file_a bytes_more ∷ cut file_a 100 ∷ title file_a name_z ∷ stamp file_a 2000 ∷ widen dir_d ∷ []
 
 abbrev pub changing_events : List Event
-changing_events = putting peopled 510 (1 ∷ 2 ∷ []) 6 ++ (growing put_1 file_a 600 bytes_more (12 ∷ []) 7 ++ (cutting grown_2 100 6 (7 ∷ 12 ∷ []) ++ (titling cut_3 name_z 5 ++ (stamping titled_4 2000 6 1 100 5 ++ (growing stamped_5 dir_d 510 widening_bytes (7 ∷ []) 9 ++ [])))))
+changing_events = putting peopled 510 (1 ∷ 2 ∷ []) 6 ++ (growing after_put file_a 600 bytes_more (12 ∷ []) 7 ++ (cutting after_growth 100 6 (7 ∷ 12 ∷ []) ++ (titling after_cut name_z 5 ++ (stamping after_title 2000 6 1 100 5 ++ (growing after_stamp dir_d 510 widening_bytes (7 ∷ []) 9 ++ [])))))
 
 abbrev pub drop_line : List Operation
 drop_line = drop_file file_a ∷ []
@@ -116,6 +126,12 @@ renaming_line = title file_a name_c ∷ leave sys_dir name_a ∷ enter dir_d nam
 abbrev pub renaming_events : List Event
 renaming_events = titling peopled name_c 5 ++ (leaving retitled 2 24 8 ++ (entering left room_c file_a 5 name_c ++ []))
 
+abbrev pub inner_renaming_line : List Operation
+inner_renaming_line = title file_b name_e ∷ leave dir_d name_b ∷ enter dir_d name_e file_b ∷ []
+
+abbrev pub inner_renaming_events : List Event
+inner_renaming_events = titling peopled name_e 10 ++ (leaving retitled_b 9 0 8 ++ (entering left_b room_e file_b 10 name_e ++ []))
+
 -- Each of these lines runs.
 pub record EachLineRuns : Type 0 where
   pub new_file : LineRuns formatted_pack file_events file_line
@@ -124,6 +140,7 @@ pub record EachLineRuns : Type 0 where
   pub changes : LineRuns peopled changing_events changing_line
   pub goes : LineRuns peopled drop_events drop_line
   pub renames : LineRuns peopled renaming_events renaming_line
+  pub renames_inside : LineRuns peopled inner_renaming_events inner_renaming_line
 
 abbrev pub LinesOfEachKindRun : Type 0
 LinesOfEachKindRun = EachLineRuns

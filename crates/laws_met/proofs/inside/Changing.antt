@@ -14,7 +14,7 @@ use Rattle.pack_model.specs.reading.Slots.Item.{entry, space}
 use Rattle.laws_operation.proofs.Rows.{ordinary_length}
 use Rattle.laws_operation.specs.DirectoryWords.{HasEntry}
 use Rattle.laws_line.specs.SoundLines.IsLine.{changes, goes}
-use Rattle.laws_met.specs.Peopled.{bytes_more, cut_3, cutting, dir_d, dropping, file_a, grown_2, growing, name_a, name_d, name_z, peopled, put_1, putting, stamped_5, stamping, titled_4, titling, widened_6}
+use Rattle.laws_met.specs.Peopled.{bytes_more, after_cut, cutting, dir_d, dropping, file_a, after_growth, growing, name_a, name_d, name_z, peopled, after_put, putting, after_stamp, stamping, after_title, titling, after_widening}
 use Rattle.laws_met.specs.Premises.{LineRuns, changing_events, changing_line, drop_events, drop_line, system_items}
 use Rattle.laws_met.proofs.inside.FactsC.{cut_facts, grown_facts, put_facts, stamped_facts, titled_facts}
 use Rattle.laws_met.proofs.inside.FactsP.{directory_lies, file_is, root_is, session}
@@ -28,11 +28,11 @@ use Rattle.laws_met.proofs.inside.Operating.{Done, LineDone, Stands, done_more, 
 put_done : Done peopled (putting peopled 510 (1 ∷ 2 ∷ []) 6) (put file_a 510 (1 ∷ 2 ∷ []))
 put_done = is_put peopled stands_b file_a 510 (1 ∷ 2 ∷ []) 6 can_put
 
-stands_1 : Stands put_1
+stands_1 : Stands after_put
 stands_1 = stands_after peopled (putting peopled 510 (1 ∷ 2 ∷ []) 6) (put file_a 510 (1 ∷ 2 ∷ [])) stands_b put_done
 
-grown_done : Done put_1 (growing put_1 file_a 600 bytes_more (12 ∷ []) 7) (grow file_a bytes_more)
-grown_done = grown put_1 stands_1 file_a 600 bytes_more (12 ∷ []) 7 ordinary_a (record {
+grown_done : Done after_put (growing after_put file_a 600 bytes_more (12 ∷ []) 7) (grow file_a bytes_more)
+grown_done = grown after_put stands_1 file_a 600 bytes_more (12 ∷ []) 7 ordinary_a (record {
   size = sym put_facts.size;
   sector = put_facts.page;
   sized = put_facts.sized;
@@ -40,15 +40,15 @@ grown_done = grown put_1 stands_1 file_a 600 bytes_more (12 ∷ []) 7 ordinary_a
   words = All-nil (λ w. w < 65536);
   room = omega arith;
   number = refl;
-  free = All-cons (λ i. is_free_at put_1 i ≡ true) 12 [] put_facts.free (All-nil (λ i. is_free_at put_1 i ≡ true));
+  free = All-cons (λ i. is_free_at after_put i ≡ true) 12 [] put_facts.free (All-nil (λ i. is_free_at after_put i ≡ true));
   distinct = one_distinct 12;
 })
 
-stands_2 : Stands grown_2
-stands_2 = stands_after put_1 (growing put_1 file_a 600 bytes_more (12 ∷ []) 7) (grow file_a bytes_more) stands_1 grown_done
+stands_2 : Stands after_growth
+stands_2 = stands_after after_put (growing after_put file_a 600 bytes_more (12 ∷ []) 7) (grow file_a bytes_more) stands_1 grown_done
 
-cut_done : Done grown_2 (cutting grown_2 100 6 (7 ∷ 12 ∷ [])) (cut file_a 100)
-cut_done = is_cut grown_2 stands_2 file_a 100 6 (7 ∷ 12 ∷ []) (record {
+cut_done : Done after_growth (cutting after_growth 100 6 (7 ∷ 12 ∷ [])) (cut file_a 100)
+cut_done = is_cut after_growth stands_2 file_a 100 6 (7 ∷ 12 ∷ []) (record {
   file = ordinary_a;
   sector = grown_facts.pages.0;
   within = let e = grown_facts.size in omega arith;
@@ -56,23 +56,23 @@ cut_done = is_cut grown_2 stands_2 file_a 100 6 (7 ∷ 12 ∷ []) (record {
   later_are = grown_facts.pages.1;
 })
 
-stands_3 : Stands cut_3
-stands_3 = stands_after grown_2 (cutting grown_2 100 6 (7 ∷ 12 ∷ [])) (cut file_a 100) stands_2 cut_done
+stands_3 : Stands after_cut
+stands_3 = stands_after after_growth (cutting after_growth 100 6 (7 ∷ 12 ∷ [])) (cut file_a 100) stands_2 cut_done
 
-titled_done : Done cut_3 (titling cut_3 name_z 5) (title file_a name_z)
-titled_done = is_titled cut_3 stands_3 file_a name_z 5 (record { file = ordinary_a; sector = cut_facts.0; sized = cut_facts.1 }) titled_facts.2
+titled_done : Done after_cut (titling after_cut name_z 5) (title file_a name_z)
+titled_done = is_titled after_cut stands_3 file_a name_z 5 (record { file = ordinary_a; sector = cut_facts.0; sized = cut_facts.1 }) titled_facts.2
 
-stands_4 : Stands titled_4
-stands_4 = stands_after cut_3 (titling cut_3 name_z 5) (title file_a name_z) stands_3 titled_done
+stands_4 : Stands after_title
+stands_4 = stands_after after_cut (titling after_cut name_z 5) (title file_a name_z) stands_3 titled_done
 
-stamped_done : Done titled_4 (stamping titled_4 2000 6 1 100 5) (stamp file_a 2000)
-stamped_done = is_stamped titled_4 stands_4 file_a 2000 5 6 1 100 (record { file = ordinary_a; sector = titled_facts.0; sized = titled_facts.1 })
+stamped_done : Done after_title (stamping after_title 2000 6 1 100 5) (stamp file_a 2000)
+stamped_done = is_stamped after_title stands_4 file_a 2000 5 6 1 100 (record { file = ordinary_a; sector = titled_facts.0; sized = titled_facts.1 })
 
-stands_5 : Stands stamped_5
-stands_5 = stands_after titled_4 (stamping titled_4 2000 6 1 100 5) (stamp file_a 2000) stands_4 stamped_done
+stands_5 : Stands after_stamp
+stands_5 = stands_after after_title (stamping after_title 2000 6 1 100 5) (stamp file_a 2000) stands_4 stamped_done
 
-widened_done : Done stamped_5 (growing stamped_5 dir_d 510 widening_bytes (7 ∷ []) 9) (widen dir_d)
-widened_done = is_widened stamped_5 stands_5 dir_d 510 (7 ∷ []) 9 refl (record {
+widened_done : Done after_stamp (growing after_stamp dir_d 510 widening_bytes (7 ∷ []) 9) (widen dir_d)
+widened_done = is_widened after_stamp stands_5 dir_d 510 (7 ∷ []) 9 refl (record {
   size = sym stamped_facts.size;
   sector = stamped_facts.page;
   sized = stamped_facts.sized;
@@ -80,7 +80,7 @@ widened_done = is_widened stamped_5 stands_5 dir_d 510 (7 ∷ []) 9 refl (record
   words = All-nil (λ w. w < 65536);
   room = omega arith;
   number = refl;
-  free = All-cons (λ i. is_free_at stamped_5 i ≡ true) 7 [] stamped_facts.free (All-nil (λ i. is_free_at stamped_5 i ≡ true));
+  free = All-cons (λ i. is_free_at after_stamp i ≡ true) 7 [] stamped_facts.free (All-nil (λ i. is_free_at after_stamp i ≡ true));
   distinct = one_distinct 7;
 })
 
@@ -88,12 +88,12 @@ widened_done = is_widened stamped_5 stands_5 dir_d 510 (7 ∷ []) 9 refl (record
 changing_done : LineDone peopled changing_events changing_line
 changing_done =
     done_more peopled (putting peopled 510 (1 ∷ 2 ∷ []) 6) _ (put file_a 510 (1 ∷ 2 ∷ [])) _ refl put_done
-    (done_more put_1 (growing put_1 file_a 600 bytes_more (12 ∷ []) 7) _ (grow file_a bytes_more) _ refl grown_done
-    (done_more grown_2 (cutting grown_2 100 6 (7 ∷ 12 ∷ [])) _ (cut file_a 100) _ refl cut_done
-    (done_more cut_3 (titling cut_3 name_z 5) _ (title file_a name_z) _ refl titled_done
-    (done_more titled_4 (stamping titled_4 2000 6 1 100 5) _ (stamp file_a 2000) _ refl stamped_done
-    (done_more stamped_5 (growing stamped_5 dir_d 510 widening_bytes (7 ∷ []) 9) [] (widen dir_d) [] refl widened_done
-    (done_none widened_6))))))
+    (done_more after_put (growing after_put file_a 600 bytes_more (12 ∷ []) 7) _ (grow file_a bytes_more) _ refl grown_done
+    (done_more after_growth (cutting after_growth 100 6 (7 ∷ 12 ∷ [])) _ (cut file_a 100) _ refl cut_done
+    (done_more after_cut (titling after_cut name_z 5) _ (title file_a name_z) _ refl titled_done
+    (done_more after_title (stamping after_title 2000 6 1 100 5) _ (stamp file_a 2000) _ refl stamped_done
+    (done_more after_stamp (growing after_stamp dir_d 510 widening_bytes (7 ∷ []) 9) [] (widen dir_d) [] refl widened_done
+    (done_none after_widening))))))
 
 length_a : length_of (read_as peopled) file_a ≡ 600
 length_a = ordinary_length peopled.shape (sights peopled) file_a (new_leader name_a 1000) file_is.lead ordinary_a ∙ ap length file_is.bytes

@@ -5,58 +5,55 @@ use Rattle.alto_words.specs.Names.{is_stored_name}
 use Rattle.disk_records.specs.Addresses.{real_of}
 use Rattle.disk_records.specs.Labels.{in_range, is_free}
 use Rattle.disk_records.specs.Packs.{is_free_at, sector_at}
-use Rattle.pack_model.specs.operations.Rooms.{Room}
 use Rattle.pack_model.specs.reading.Leaders.{leader_of, leader_name, is_readable}
 use Rattle.pack_model.specs.reading.Namings.{keeps_system}
 use Rattle.pack_model.specs.reading.Sights.{sight, sights, sights_from}
 use Rattle.pack_model.specs.reading.Slots.{is_entry, slot_at, slots_after}
 use Rattle.pack_model.specs.reading.Files.{first, joined, most_pages, file_bytes, place, lives}
 use Rattle.laws_operation.specs.ByteLaws.{Bear}
-use Rattle.laws_met.specs.Peopled.{cut_3, dir_d, file_a, grown_2, left, name_c, name_z, put_1, retitled, room_c, stamped_5, titled_4}
+use Rattle.laws_met.specs.Peopled.{after_cut, dir_d, file_a, after_growth, left, name_c, name_z, after_put, retitled, room_c, after_stamp, after_title}
+use Rattle.laws_met.specs.Premises.{found_c}
 use Rattle.laws_met.proofs.inside.FactsP.{inner_items, root_items}
 use Rattle.laws_met.proofs.inside.NewFile.{DirectoryIs, NamesFit}
 
 -- ---- changes
 pub record PutFacts : Type 0 where
-  pub size : length (file_bytes (sights put_1) file_a) ≡ 600
-  pub page : place (sights put_1) file_a 2 ≡ Some 7
-  pub sized : length (sector_at put_1 7).value ≡ 256
-  pub free : is_free_at put_1 12 ≡ true
+  pub size : length (file_bytes (sights after_put) file_a) ≡ 600
+  pub page : place (sights after_put) file_a 2 ≡ Some 7
+  pub sized : length (sector_at after_put 7).value ≡ 256
+  pub free : is_free_at after_put 12 ≡ true
 
 pub put_facts : PutFacts
 unfolding sights_from sight real_of in_range is_free leader_of leader_name is_readable is_stored_name first joined most_pages file_bytes
 put_facts = record { size = refl; page = refl; sized = refl; free = refl }
 
 pub record GrownFacts : Type 0 where
-  pub size : length (file_bytes (sights grown_2) file_a) ≡ 1100
-  pub pages : Bear (sights grown_2) file_a 1 (6 ∷ 7 ∷ 12 ∷ [])
+  pub size : length (file_bytes (sights after_growth) file_a) ≡ 1100
+  pub pages : Bear (sights after_growth) file_a 1 (6 ∷ 7 ∷ 12 ∷ [])
 
 pub grown_facts : GrownFacts
 unfolding sights_from sight real_of in_range is_free leader_of leader_name is_readable is_stored_name first joined most_pages file_bytes
 grown_facts = record { size = refl; pages = (refl, (refl, (refl, tt))) }
 
-pub cut_facts : (place (sights cut_3) file_a 0 ≡ Some 5) × (length (sector_at cut_3 5).value ≡ 256)
+pub cut_facts : (place (sights after_cut) file_a 0 ≡ Some 5) × (length (sector_at after_cut 5).value ≡ 256)
 unfolding sights_from sight real_of in_range is_free leader_of leader_name is_readable is_stored_name first joined most_pages file_bytes
 cut_facts = (refl, refl)
 
-pub titled_facts : (place (sights titled_4) file_a 0 ≡ Some 5) × (length (sector_at titled_4 5).value ≡ 256) × (is_stored_name name_z ≡ true)
+pub titled_facts : (place (sights after_title) file_a 0 ≡ Some 5) × (length (sector_at after_title 5).value ≡ 256) × (is_stored_name name_z ≡ true)
 unfolding sights_from sight real_of in_range is_free leader_of leader_name is_readable is_stored_name first joined most_pages file_bytes
 titled_facts = (refl, refl, refl)
 
 pub record StampedFacts : Type 0 where
-  pub size : length (file_bytes (sights stamped_5) dir_d) ≡ 510
-  pub page : place (sights stamped_5) dir_d 1 ≡ Some 9
-  pub sized : length (sector_at stamped_5 9).value ≡ 256
-  pub free : is_free_at stamped_5 7 ≡ true
+  pub size : length (file_bytes (sights after_stamp) dir_d) ≡ 510
+  pub page : place (sights after_stamp) dir_d 1 ≡ Some 9
+  pub sized : length (sector_at after_stamp 9).value ≡ 256
+  pub free : is_free_at after_stamp 7 ≡ true
 
 pub stamped_facts : StampedFacts
 unfolding sights_from sight real_of in_range is_free leader_of leader_name is_readable is_stored_name first joined most_pages file_bytes
 stamped_facts = record { size = refl; page = refl; sized = refl; free = refl }
 
 -- ---- the new name
-abbrev pub found_c : Room
-found_c = record { first = 1; place = 8; total = 247 }
-
 pub names_fit_c : NamesFit dir_d file_a name_c inner_items found_c room_c
 unfolding is_stored_name keeps_system
 names_fit_c = record {

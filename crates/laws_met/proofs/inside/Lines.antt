@@ -15,13 +15,16 @@ use Rattle.pack_model.specs.reading.Model.{Model, dir_items, read_as}
 use Rattle.pack_model.specs.reading.Namings.{clashes, fits, namings}
 use Rattle.pack_model.specs.reading.Sights.{sights}
 use Rattle.pack_model.specs.reading.Slots.{Item, entry_length, slots}
+use Rattle.pack_model.specs.reading.Slots.Item.{entry}
+use Rattle.alto_words.specs.Names.{is_same_name}
 use Rattle.laws_record.specs.EnterLaws.{MayEnter}
 use Rattle.laws_operation.specs.EntryLaws.{is_of_another}
 use Rattle.laws_operation.proofs.entries.Laws.{items_are_slots}
+use Rattle.laws_operation.proofs.leave.Laws.{free_name_is_apart_after_leave}
 use Rattle.laws_operation.proofs.make.Laws.{free_name_is_apart_after_make}
 use Rattle.laws_operation.proofs.places.Laws.{model_has_the_living}
 use Rattle.laws_line.specs.LineLaws.{new_file_line, rename_line}
-use Rattle.laws_met.specs.Peopled.{making}
+use Rattle.laws_met.specs.Peopled.{leaving, making}
 use Rattle.laws_met.proofs.inside.Operating.{Done, Stands}
 
 -- where SysDir has a run of free words for the longest entry, and the directory one for this entry, a line that makes a file has no widening
@@ -62,4 +65,15 @@ may_enter_made p d f name leader_at page_at items made dead same clear living fi
   fits = fitting;
   apart = ap (λ m. list_any (clashes (record { dir = d; name = name; fid = f })) (namings (entries m.files))) made.stays.reads
       ∙ free_name_is_apart_after_make p d f name name 1000 dead (ap (list_any (is_of_another f name)) same ∙ clear);
+}
+
+-- right after its entry went a file may be entered, where no other entry of the directory had its name
+pub may_enter_left : (p : Pack) (d to f : Fid) (old name : List ℕ) (at place words : ℕ) (before behind items : List Item) → Done p (leaving p at place words) (leave d old) → dir_items (read_as p) d ≡ before ++ entry f old ∷ behind → is_same_name old old ≡ true
+    → dir_items (read_as p) to ≡ items → list_any (is_of_another f name) items ≡ false → lives (sights (after p (leaving p at place words))) f ≡ true → fits (record { dir = to; name = name; fid = f }) ≡ true
+    → MayEnter (after p (leaving p at place words)) to f name
+may_enter_left p d to f old name at place words before behind items gone own same there clear living fitting = record {
+  lives = living;
+  fits = fitting;
+  apart = ap (λ m. list_any (clashes (record { dir = to; name = name; fid = f })) (namings (entries m.files))) gone.stays.reads
+      ∙ free_name_is_apart_after_leave p d to f name old (record { before = before; behind = behind; own = old; items = own; same = same }) (ap (list_any (is_of_another f name)) there ∙ clear);
 }

@@ -1,27 +1,22 @@
 -- The line that renames a file, from SysDir into the directory.
-use Rattle.std.proofs.Common.{◌≡◌, false, [], length, refl, ap, subst, ◌∙◌, arith}
-use Rattle.std.specs.List.{list_any}
+use Rattle.std.proofs.Common.{◌≡◌, [], length, refl, ap, subst, ◌∙◌, arith}
 use Rattle.alto_words.specs.Fid.{sys_dir}
 use Rattle.pack_model.specs.operations.Entering.{found_room}
 use Rattle.pack_model.specs.operations.PageWords.{entered_words, later}
 use Rattle.pack_model.specs.operations.Rooms.{find_room}
 use Rattle.pack_model.specs.operations.Step.Operation.{enter, leave, title}
 use Rattle.pack_model.specs.reading.Model.{dir_items, read_as}
-use Rattle.pack_model.specs.reading.Namings.{clashes, namings}
-use Rattle.std.specs.FinMap.{entries}
 use Rattle.laws_operation.specs.DirectoryWords.{CanEnter, HasEntry, left_in}
-use Rattle.laws_operation.specs.EntryLaws.{is_of_another}
-use Rattle.laws_operation.proofs.leave.Laws.{free_name_is_apart_after_leave}
 use Rattle.laws_line.specs.SoundLines.{IsLine}
 use Rattle.laws_line.specs.SoundLines.IsLine.{renamed}
 use Rattle.laws_line.proofs.behind.Laws.{directories_are_read}
 use Rattle.laws_met.specs.Peopled.{dir_d, entering, file_a, leaving, left, name_a, name_c, peopled, retitled, room_c, titling}
-use Rattle.laws_met.specs.Premises.{LineRuns, renaming_events, renaming_line, system_items}
+use Rattle.laws_met.specs.Premises.{LineRuns, found_c, renaming_events, renaming_line, system_items}
 use Rattle.laws_met.proofs.inside.Changing.{items_then}
-use Rattle.laws_met.proofs.inside.FactsC.{found_c, left_facts, left_inner, names_fit_c, retitled_inner, retitled_page, retitled_root}
+use Rattle.laws_met.proofs.inside.FactsC.{left_facts, left_inner, names_fit_c, retitled_inner, retitled_page, retitled_root}
 use Rattle.laws_met.proofs.inside.FactsP.{inner_is, inner_items, root_is, root_items, session}
 use Rattle.laws_met.proofs.inside.LineD.{links_b, sound_b}
-use Rattle.laws_met.proofs.inside.Lines.{is_in_model, items_of_words, plain_rename}
+use Rattle.laws_met.proofs.inside.Lines.{is_in_model, items_of_words, may_enter_left, plain_rename}
 use Rattle.laws_met.proofs.inside.Meeting.{can_write_leader, stands_b}
 use Rattle.laws_met.proofs.inside.More.{is_left, is_titled}
 use Rattle.laws_met.proofs.inside.Operating.{Done, LineDone, Stands, done_more, done_none, entered, ran_on, stands_after}
@@ -45,14 +40,6 @@ stands_2 = stands_after retitled (leaving retitled 2 24 8) (leave sys_dir name_a
 inner_left : dir_items (read_as left) dir_d ≡ inner_items
 inner_left = items_of_words left dir_d inner_items stands_2 left_inner.living refl left_inner.slots_are
 
--- its name clashes with none once the old entry is gone
-apart_then : list_any (clashes (record { dir = dir_d; name = name_c; fid = file_a })) (namings (entries (read_as left).files)) ≡ false
-apart_then =
-    ap (λ m. list_any (clashes (record { dir = dir_d; name = name_c; fid = file_a })) (namings (entries m.files))) left_done.stays.reads
-    ∙ free_name_is_apart_after_leave retitled sys_dir dir_d file_a name_c name_a
-    (record { before = system_items; behind = items_then; own = name_a; items = items_of_words retitled sys_dir root_items stands_1 retitled_root.living refl retitled_root.slots_are; same = refl })
-    (ap (list_any (is_of_another file_a name_c)) (items_of_words retitled dir_d inner_items stands_1 retitled_inner.living refl retitled_inner.slots_are) ∙ names_fit_c.clear)
-
 pub can_enter_c : CanEnter left dir_d name_c file_a found_c (entered_words file_a 5 name_c (left_in found_c name_c)) 9 0
 can_enter_c =
     let none : length (later found_c.place (entered_words file_a 5 name_c (left_in found_c name_c))) ≡ 0 = ap length (names_fit_c.in_page 5) in
@@ -60,7 +47,7 @@ can_enter_c =
       directory = refl;
       living = left_inner.living;
       no_system = refl;
-      entry_is = record { lives = left_facts.0; fits = names_fit_c.fitting; apart = apart_then };
+      entry_is = may_enter_left retitled sys_dir dir_d file_a name_a name_c 2 24 8 system_items items_then inner_items left_done (items_of_words retitled sys_dir root_items stands_1 retitled_root.living refl retitled_root.slots_are) refl (items_of_words retitled dir_d inner_items stands_1 retitled_inner.living refl retitled_inner.slots_are) names_fit_c.clear left_facts.0 names_fit_c.fitting;
       stored = names_fit_c.stored;
       found = ap (find_room 8) inner_left ∙ names_fit_c.found_is;
       sector = left_facts.2;
