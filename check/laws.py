@@ -21,7 +21,7 @@ BY_OPERATION = "laws_operation"
 # that of its operation.
 QUESTIONS = [
     ("one record", "laws_record::steps", "is_the_step"),
-    ("words fit", BY_OPERATION, "words_fit"),
+    ("words fit", BY_OPERATION, "words_fit|past_words_fit"),
     ("carries out", BY_OPERATION, "carries_out"),
     ("links", BY_OPERATION, "keeps_links"),
     ("page once", BY_OPERATION, "carries_once"),

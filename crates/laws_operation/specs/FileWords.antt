@@ -43,6 +43,10 @@ pub record CanPut (p : Pack) (f : Fid) (offset : ℕ) (new : List ℕ) (at : ℕ
   pub within : offset + length new ≤ length (file_bytes (sights p) f)
   pub bytes : All (λ b. b < 256) new
 
+-- the page's value with them in place
+abbrev pub PutWordsFit : Type 0
+PutWordsFit = (p : Pack) (f : Fid) (offset : ℕ) (new : List ℕ) (at : ℕ) → Whole p → CanPut p f offset new at → MayPut p f offset new at (put_value (offset % 512) new [] (sector_at p at).value)
+
 -- Words that are written in the page after these bytes, if with them the file ends; of a value of 256 words.
 pub record ArePastTheEnd (p : Pack) (f : Fid) (offset : ℕ) (new past : List ℕ) (at : ℕ) : Type 0 where
   pub words : All (λ w. w < 65536) past
@@ -51,8 +55,8 @@ pub record ArePastTheEnd (p : Pack) (f : Fid) (offset : ℕ) (new past : List �
   pub sized : length (sector_at p at).value ≡ 256
 
 -- the page's value with both in place
-abbrev pub PutWordsFit : Type 0
-PutWordsFit = (p : Pack) (f : Fid) (offset : ℕ) (new past : List ℕ) (at : ℕ) → Whole p → CanPut p f offset new at → ArePastTheEnd p f offset new past at → MayPut p f offset new at (put_value (offset % 512) new past (sector_at p at).value)
+abbrev pub PutPastWordsFit : Type 0
+PutPastWordsFit = (p : Pack) (f : Fid) (offset : ℕ) (new past : List ℕ) (at : ℕ) → Whole p → CanPut p f offset new at → ArePastTheEnd p f offset new past at → MayPut p f offset new at (put_value (offset % 512) new past (sector_at p at).value)
 
 -- ---- grow, and widen
 -- More bytes for a file of b bytes, and words behind them in the page that is the last one then; the sector of the page that is the

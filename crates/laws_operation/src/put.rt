@@ -1,13 +1,18 @@
 //! Putting bytes in the place of others, within one page.
 
 ghost use Rattle.laws_operation.specs.ByteLaws.{PutCarriesOut};
-ghost use Rattle.laws_operation.specs.FileWords.{PutWordsFit};
+ghost use Rattle.laws_operation.specs.FileWords.{PutPastWordsFit, PutWordsFit};
 ghost use Rattle.laws_operation.specs.LinkLaws.{PutKeepsLinks};
 ghost use Rattle.laws_operation.specs.WordLaws.{BytesInAValue};
 
 /// The value of a put is such as its law asks for.
 pub fn put_words_fit()
     ensures { PutWordsFit }
+{}
+
+/// So is the value of a put with which the file ends, if words past its end come with it.
+pub fn put_past_words_fit()
+    ensures { PutPastWordsFit }
 {}
 
 /// The value of a page with bytes in the place of others is the put of these bytes.

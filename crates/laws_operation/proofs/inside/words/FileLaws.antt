@@ -25,11 +25,11 @@ use Rattle.laws_contents.proofs.bytes.Laws.{page_is_a_slice}
 use Rattle.laws_contents.proofs.pages.Laws.{full_before_each_of_a_whole_pack, labels_count}
 use Rattle.laws_operation.proofs.Changing.{headed}
 use Rattle.laws_operation.proofs.Showing.{other_leader_value, tag_is}
-use Rattle.laws_operation.proofs.inside.Wording.{label_with_another_count, past_in_a_value}
+use Rattle.laws_operation.proofs.inside.Wording.{bytes_in_a_value, label_with_another_count, past_in_a_value}
 use Rattle.laws_operation.specs.LifeLaws.{first_bytes}
 use Rattle.laws_operation.proofs.inside.words.Labels.{label_page, placed_label}
 use Rattle.laws_operation.proofs.inside.words.LeaderWords.{new_says, stamp_says, title_says}
-use Rattle.laws_operation.specs.FileWords.{CutWordsFit, MakeWordsFit, PutWordsFit, StampWordsFit, TitleWordsFit}
+use Rattle.laws_operation.specs.FileWords.{CutWordsFit, MakeWordsFit, PutPastWordsFit, PutWordsFit, StampWordsFit, TitleWordsFit}
 
 -- ---- make
 -- page 1 of a new file has at most 510 bytes
@@ -97,7 +97,20 @@ page_counts : (p : Pack) (f : Fid) (offset at : ℕ) → Whole p → place (sigh
 page_counts p f offset at w sector = (page_is_a_slice p f (offset / 512) at (full_before_each_of_a_whole_pack p f (offset / 512) at w sector) sector).size
 
 pub put_words_fit : PutWordsFit
-put_words_fit p f offset new past at w h b =
+put_words_fit p f offset new at w h =
+    let size = page_counts p f offset at w h.sector in
+    let one_page = h.one_page in
+    let within = h.within in
+    record {
+      file = h.file;
+      sector = h.sector;
+      one_page = h.one_page;
+      within = h.within;
+      counted = bytes_in_a_value p at (offset % 512) new h.bytes (omega arith);
+    }
+
+pub put_past_words_fit : PutPastWordsFit
+put_past_words_fit p f offset new past at w h b =
     let size = page_counts p f offset at w h.sector in
     let one_page = h.one_page in
     let within = h.within in
