@@ -12,6 +12,7 @@ pub mod OneSlot
 pub mod Open
 pub mod Replacing
 pub mod Replacings
+pub mod Sourcing
 pub mod Staying
 pub mod TrueHints
 pub mod Walking

@@ -7,4 +7,5 @@ pub mod NewNameLaws
 pub mod OtherLaws
 pub mod OwnLaws
 pub mod SlotLaws
+pub mod SourceLaws
 pub mod StayLaws

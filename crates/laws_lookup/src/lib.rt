@@ -17,4 +17,5 @@ pub mod names;
 pub mod others;
 pub mod own;
 pub mod slots;
+pub mod sources;
 pub mod stays;

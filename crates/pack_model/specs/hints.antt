@@ -3,3 +3,4 @@ pub mod Tables
 pub mod Handy
 pub mod HintWords
 pub mod Misled
+pub mod Sources

@@ -23,6 +23,7 @@ pub mod RoomVectors
 pub mod Shapes
 pub mod ShownVectors
 pub mod SmallPacks
+pub mod SourceVectors
 pub mod StandVectors
 pub mod StateVectors
 pub mod StepVectors

@@ -40,7 +40,7 @@ wrong_sectors =
     ∷ (label_of (page_number file_3 1) 0 no_link (real_of small 5), replicate 256 0)
     ∷ replicate 41 (ones 8, ones 256)
 
-abbrev wrong : Pack
+abbrev pub wrong : Pack
 wrong = record { shape = small; sectors = with_headers small 1 0 wrong_sectors }
 
 abbrev wanted : Page
@@ -59,7 +59,7 @@ unfolding sights_from sight real_of in_range is_free leader_of leader_name is_re
 wrong_dir = refl
 
 -- the word misleads: sector 6 carries the file's page 1 and not its leader
-wrong_stands : StandsInEntry wrong sys_dir 29 6 wanted
+pub wrong_stands : StandsInEntry wrong sys_dir 29 6 wanted
 unfolding sights_from sight real_of in_range is_free leader_of leader_name is_readable is_stored_name joined most_pages first slots_after slot_at is_entry slots_at file_bytes
 wrong_stands = record {
   lives = refl;
