@@ -10,3 +10,7 @@ pub mod Rooms
 pub mod Runs
 pub mod Shortening
 pub mod Rows
+pub mod Hands
+pub mod Meeting
+pub mod Turns
+pub mod Stepping

@@ -40,7 +40,7 @@ take_sum a b words =
 reads_none : (words : List ℕ) → slot_at words ≡ None → Reads (take (all_words (slots words)) words) (slots words)
 reads_none words is = subst (λ l. Reads (take (all_words l) words) l) (sym (slots-none words is)) none
 
-reads_front : (n : ℕ) (words : List ℕ) → length words ≤ n → Reads (take (all_words (slots words)) words) (slots words)
+pub reads_front : (n : ℕ) (words : List ℕ) → length words ≤ n → Reads (take (all_words (slots words)) words) (slots words)
 reads_front zero words short = reads_none words (ap slot_at (nil_from_length words (omega arith)) ∙ slot_at-nil)
 reads_front (suc n) words short = elim (slot_at words) as (λ o. slot_at words ≡ o → Reads (take (all_words (slots words)) words) (slots words)) [
   | None ↦ λ is. reads_none words is
@@ -56,7 +56,7 @@ reads_front (suc n) words short = elim (slot_at words) as (λ o. slot_at words �
 ] refl
 
 -- they are as many
-length_front : (words : List ℕ) → length (take (all_words (slots words)) words) ≡ all_words (slots words)
+pub length_front : (words : List ℕ) → length (take (all_words (slots words)) words) ≡ all_words (slots words)
 length_front words = (reads-ahead _ [] (slots words) (reads_front (length words) words (omega arith))).1
 
 pub longest : (words : List ℕ) → ReadsLongest words (slots words)

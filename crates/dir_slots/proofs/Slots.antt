@@ -61,7 +61,7 @@ pub addresses_none : (words : List ℕ) (at : ℕ) → addresses_from words at [
 unfolding slots_at
 addresses_none words at = refl
 
-address_at-drop : (words : List ℕ) (at : ℕ) (i : Item) → address_at (drop at words) 0 i ≡ address_at words at i
+pub address_at-drop : (words : List ℕ) (at : ℕ) (i : Item) → address_at (drop at words) 0 i ≡ address_at words at i
 address_at-drop words at (space n) = refl
 address_at-drop words at (entry f name) = get_or-drop at words 5 0
 

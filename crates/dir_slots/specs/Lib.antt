@@ -1,3 +1,4 @@
 pub mod Inside
 pub mod Items
 pub mod Laws
+pub mod Walks

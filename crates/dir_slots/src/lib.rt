@@ -15,7 +15,9 @@
 //! 2. What `write_slots` wrote is read back whole (`back`, and the law `reads_back`).
 //! 3. `slot_here` reads one slot from 26 words at most, and so from a page at a time; `first_slot` reads that at the head of words
 //!    that are all there, so that slots are read one after another with none kept.
-//! 4. `find_room` answers the first room for an entry, and None exactly where no free slots in a row have so many words.
+//! 4. A `Walk` meets the slots of a directory whose words are given page by page: after each page exactly those that end in what was
+//!    given (`meets`, `walked`), each with its place. Over a page's end it keeps 26 words at most, and it takes no memory.
+//! 5. `find_room` answers the first room for an entry, and None if and only if no free slots in a row have so many words.
 //! Not promised: that an address is that of the leader. Who follows one checks it by the label that stands there.
 #![tactic(auto)]
 
@@ -24,6 +26,7 @@ mod laws;
 mod read;
 mod room;
 mod slot;
+mod walk;
 mod write;
 
 pub use codec::slot_here;
@@ -31,6 +34,7 @@ pub use laws::{longest_is_read, reads_back};
 pub use read::{first_slot, read_slots};
 pub use room::{Room, find_room, largest_run};
 pub use slot::{MAX_ENTRY_WORDS, MAX_FREE_WORDS, Slot, entry_words};
+pub use walk::{PlacedSlot, Walk};
 pub use write::write_slots;
 
 #[cfg(test)]

@@ -1,5 +1,8 @@
 // Rows of slots whose words and rooms are known, and each call that takes memory once with enough of it.
-use crate::{Room, Slot, entry_words, find_room, largest_run, read_slots, slot_here, write_slots};
+use crate::{
+    PlacedSlot, Room, Slot, Walk, entry_words, find_room, largest_run, read_slots, slot_here,
+    write_slots,
+};
 use alto_words::{Fid, Memory, Name};
 use std::alloc::Global;
 use std::process::Abort;
@@ -167,4 +170,69 @@ fn a_slot_is_read_from_its_first_words(rt: HostRuntime) {
     front[0] = 1000;
     assert_eq!(rt; slot_here(&front, 1000), Some(Slot::Free { words: 1000 }));
     assert_eq!(rt; slot_here(&front, 999), None);
+}
+
+#[test]
+fn a_walk_ends_at_a_slot_of_no_words(rt: HostRuntime) -> Result<(), Fail> {
+    let mut page = [0; 256];
+    page[..8].copy_from_slice(&ENTRY_OF_A);
+    page[8] = 3;
+    let (mut walk, mut from) = (Walk::new(), 0);
+    let slot = entry(Name::parse(b"A").ok_or("a name")?);
+    assert_eq!(rt;
+        walk.next(&page, &mut from),
+        Some(PlacedSlot { place: 0, slot })
+    );
+    assert_eq!(rt; from, 8);
+    let free = Slot::Free { words: 3 };
+    assert_eq!(rt;
+        walk.next(&page, &mut from),
+        Some(PlacedSlot {
+            place: 8,
+            slot: free
+        })
+    );
+    assert!(rt; !walk.has_ended());
+    assert_eq!(rt; walk.next(&page, &mut from), None);
+    assert!(rt; walk.has_ended());
+    // nothing is met after it
+    walk.feed(&ENTRY_OF_A);
+    assert_eq!(rt; walk.place(), 11);
+    Ok(())
+}
+
+#[test]
+fn a_walk_goes_over_the_end_of_a_page(rt: HostRuntime) -> Result<(), Fail> {
+    // a free slot of 252 words, and an entry of which four words stand in the next page
+    let mut page = [0; 256];
+    page[0] = 252;
+    page[252..].copy_from_slice(&ENTRY_OF_A[..4]);
+    let mut next_page = [0; 256];
+    next_page[..4].copy_from_slice(&ENTRY_OF_A[4..]);
+    // and then a free slot that ends in the page after that
+    next_page[4] = 300;
+    let (mut walk, mut from) = (Walk::new(), 0);
+    let free = Slot::Free { words: 252 };
+    assert_eq!(rt;
+        walk.next(&page, &mut from),
+        Some(PlacedSlot {
+            place: 0,
+            slot: free
+        })
+    );
+    assert_eq!(rt; walk.next(&page, &mut from), None);
+    assert_eq!(rt; from, 256);
+    assert_eq!(rt; walk.place(), 252);
+    from = 0;
+    let slot = entry(Name::parse(b"A").ok_or("a name")?);
+    assert_eq!(rt;
+        walk.next(&next_page, &mut from),
+        Some(PlacedSlot { place: 252, slot })
+    );
+    assert_eq!(rt; from, 4);
+    assert_eq!(rt; walk.next(&next_page, &mut from), None);
+    assert_eq!(rt; walk.place(), 260);
+    walk.feed(&[0; 48]);
+    assert_eq!(rt; walk.place(), 560);
+    Ok(())
 }

@@ -1,0 +1,148 @@
+// The slots of a directory one after another, out of pages that are lent.
+ghost use Rattle.std.specs.Prelude.{◌≡◌, ℕ, List, [], ◌∷◌, ◌++◌, ◌+◌, length, take};
+
+use crate::codec::{ENTRY_TYPE, slot_here};
+use crate::slot::{MAX_ENTRY_WORDS, Slot};
+use std::marker::Model;
+
+/// A slot, and the place of its first word among the words of its directory, counted from 0.
+#[derive(Clone, Copy, Debug, PartialEq, Eq)]
+pub struct PlacedSlot {
+    /// The place of its first word.
+    pub place: u32,
+    /// The slot.
+    pub slot: Slot,
+}
+
+/// A walk over the slots of a directory, whose words are given page by page, in order. Between two pages it keeps the first 26
+/// words at most of the slot in hand. It takes no memory.
+#[derive(Drop)]
+pub struct Walk {
+    /// The place of the slot in hand.
+    place: u32,
+    /// How many words of it have come.
+    held: usize,
+    /// The first of these.
+    front: [u16; MAX_ENTRY_WORDS],
+    /// Whether a slot was met that can't be read.
+    ended: bool,
+}
+
+impl Model for Walk {
+    ghost use Rattle.std.specs.Prelude.{take, ◌<◌};
+    ghost use Rattle.dir_slots.specs.Walks.{Walking};
+
+    ghost Value = { Walking };
+
+    ghost view = { λ walk. record { place = walk.place; held = walk.held; front = take walk.held walk.front; ended = walk.ended } };
+
+    ghost invariant = { λ walk. walk.held < 1023 };
+}
+
+impl Walk {
+    ghost use Rattle.std.specs.Prelude.{◌≡◌, ℕ, List, [], ◌∷◌, ◌++◌, ◌+◌, ◌<◌, ◌≤◌, ◌^◌, false, IsTrue, length, take, IfSome, IfNone};
+    ghost use Rattle.std.specs.Option.{MatchOption};
+    ghost use Rattle.pack_model.specs.reading.Slots.{slots, all_words};
+    ghost use Rattle.dir_slots.specs.Items.{IsInRange};
+    ghost use Rattle.dir_slots.specs.Laws.{HasStoredName};
+    ghost use Rattle.dir_slots.specs.Walks.{Walking, Walked, Meets};
+
+    /// A walk that stands before the first word of a directory.
+    pub fn new() -> Walk
+        ensures start { Walked [] result }
+        ensures place { result.place ≡ 0 }
+        ensures held { result.held ≡ 0 }
+    {
+        Walk {
+            place: 0,
+            held: 0,
+            front: [0; MAX_ENTRY_WORDS],
+            ended: false,
+        }
+    }
+
+    /// The next slot that ends in this page, of whose words those before `from` were taken already; `from` goes on to the word after it.
+    /// None if no slot ends in the rest of the page; then all of it is taken. The words of a page are those of the directory's bytes.
+    pub fn next(&mut self, page: &[u16], from: &mut usize) -> Option<PlacedSlot>
+        requires within { from.old ≤ length page.now }
+        requires fits { self.old.place + self.old.held + length page.now < 2 ^ 32 + from.old }
+        ensures meets { (given : List ℕ) → Walked (given ++ take from.old page.now) self.old → Meets (given ++ take from.old page.now) (given ++ take from.new page.now) self.new result }
+        ensures place { MatchOption result (self.new.place ≡ self.old.place) (λ met. met.place ≡ self.old.place) }
+        ensures some { IfSome result (λ met. from.old < from.new) }
+        ensures none { IfNone result (from.new ≡ length page.now) }
+        ensures within { from.new ≤ length page.now }
+        ensures in_range { IfSome result (λ met. IsInRange met.slot × HasStoredName met.slot) }
+        ensures taken { self.new.place + self.new.held + from.old ≤ self.old.place + self.old.held + from.new }
+    {
+        while *from < page.len() && !self.ended {
+            let word = page[*from];
+            *from += 1;
+            if let Some(met) = self.step(word) {
+                return Some(met);
+            }
+        }
+        // words after a slot that can't be read say nothing
+        *from = page.len();
+        None
+    }
+
+    /// Takes all words of a page, and passes over the slots that end in it.
+    pub fn feed(&mut self, page: &[u16])
+        requires fits { self.old.place + self.old.held + length page.now < 2 ^ 32 }
+        ensures walked { (given : List ℕ) → Walked given self.old → Walked (given ++ page.now) self.new }
+        ensures taken { self.new.place + self.new.held ≤ self.old.place + self.old.held + length page.now }
+    {
+        let mut from = 0;
+        while let Some(_) = self.next(page, &mut from) {}
+    }
+
+    /// The place of the slot in hand: how many words the slots have that were met.
+    pub fn place(&self) -> u32
+        ensures place { result ≡ self.now.place }
+        ensures words { (given : List ℕ) → Walked given self.now → result ≡ all_words (slots given) }
+    {
+        self.place
+    }
+
+    /// Whether a slot was met that can't be read, so that no words that follow make another slot.
+    pub fn has_ended(&self) -> bool
+        ensures ended { result ≡ self.now.ended }
+        ensures last { (given : List ℕ) → Walked given self.now → IsTrue result → (more : List ℕ) → slots (given ++ more) ≡ slots given }
+    {
+        self.ended
+    }
+
+    /// The slot that this word ends, if it does.
+    fn step(&mut self, word: u16) -> Option<PlacedSlot>
+        requires going { self.old.ended ≡ false }
+        requires fits { self.old.place + self.old.held + 1 < 2 ^ 32 }
+        ensures meets { (given : List ℕ) → Walked given self.old → Meets given (given ++ word ∷ []) self.new result }
+        ensures place { MatchOption result (self.new.place ≡ self.old.place) (λ met. met.place ≡ self.old.place) }
+        ensures in_range { IfSome result (λ met. IsInRange met.slot × HasStoredName met.slot) }
+        ensures taken { self.new.place + self.new.held ≤ self.old.place + self.old.held + 1 }
+    {
+        hold(&mut self.front, self.held, word);
+        self.held += 1;
+        if self.held < (self.front[0] % ENTRY_TYPE) as usize {
+            return None;
+        }
+        let words = self.held;
+        self.held = 0;
+        let Some(slot) = slot_here(&self.front[..words.min(MAX_ENTRY_WORDS)], words) else {
+            self.ended = true;
+            return None;
+        };
+        let place = self.place;
+        self.place += words as u32;
+        Some(PlacedSlot { place, slot })
+    }
+}
+
+/// Keeps a word of a slot, of which so many have come, if it is among the first 26.
+fn hold(front: &mut [u16; MAX_ENTRY_WORDS], held: usize, word: u16)
+    ensures { (hand : List ℕ) → held ≡ length hand → take held front.old ≡ take 26 hand → take (held + 1) front.new ≡ take 26 (hand ++ word ∷ []) }
+{
+    if held < MAX_ENTRY_WORDS {
+        front[held] = word;
+    }
+}
