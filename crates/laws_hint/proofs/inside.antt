@@ -3,9 +3,13 @@ pub mod ClosedHints
 pub mod ClosedMaps
 pub mod ClosedValues
 pub mod ClosedWords
+pub mod HandyOperations
+pub mod HandyStaying
 pub mod LineLinking
 pub mod MarkedOperations
 pub mod Marking
 pub mod Meaning
+pub mod Reserving
 pub mod TrueMap
+pub mod Truths
 pub mod Wording

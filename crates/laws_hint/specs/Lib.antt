@@ -1,6 +1,9 @@
 pub mod ClosingLaws
+pub mod HandyLaws
 pub mod LineLinks
 pub mod MapChanges
 pub mod MapClosing
 pub mod MapMeanings
 pub mod MapWords
+pub mod TableLaws
+pub mod TruthLaws

@@ -6,6 +6,9 @@
 //! The laws of the allocation map: what it is for a map to be true, its words, which of its bits an operation changes, and closing
 //! with any map.
 //!
+//! The laws of a session: the table in memory while sectors are reserved, claimed and released; true hints from opening to closing;
+//! and handy hints, which stay handy.
+//!
 //! A law function is public, has an empty body and one clause, the law; its lemma has the same name, and its statement has it in
 //! capitals. To cite a law: `use Rattle.laws_hint.proofs.changes.Laws.{claims_and_releases_mark_free_table}`. Lemma files right in
 //! proofs/ are cited by other crates too; those in proofs/inside/ no other crate can name.
@@ -13,6 +16,9 @@
 
 pub mod changes;
 pub mod closing;
+pub mod handy;
 pub mod lines;
 pub mod meanings;
+pub mod tables;
+pub mod truth;
 pub mod words;

@@ -1,7 +1,9 @@
 pub mod Changes
+pub mod Closing
 pub mod Coming
 pub mod Dropped
 pub mod EnteredSlots
+pub mod Fitting
 pub mod FreeWords
 pub mod FullModels
 pub mod GivenNames

@@ -1,8 +1,11 @@
 pub mod BehindLaws
 pub mod CutLaws
 pub mod EachLaws
+pub mod EndLaws
+pub mod FitLaws
 pub mod LineLaws
 pub mod PartLaws
 pub mod Ready
 pub mod SoundLines
+pub mod SoundParts
 pub mod SpareLaws

@@ -8,6 +8,9 @@
 //! The laws of cuts: every cut of a line from a sound pack with the free sectors for it is viewed as its model, can be scavenged,
 //! and is clean only where it is sound.
 //!
+//! The laws of parts and ends: a line that breaks off, closing, and the end of a session, from a sound pack; and what a session keeps
+//! of DiskDescriptor.
+//!
 //! A law function is public, has an empty body and one clause, the law; its lemma has the same name, and its statement has it in
 //! capitals. To cite a law: `use Rattle.laws_line.proofs.behind.Laws.{directories_are_read}`. Lemma files right in proofs/ are
 //! cited by other crates too; those in proofs/inside/ no other crate can name.
@@ -15,6 +18,8 @@
 
 pub mod behind;
 pub mod cuts;
+pub mod ending;
+pub mod fits;
 pub mod lines;
 pub mod parts;
 pub mod sound;

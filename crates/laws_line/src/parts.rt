@@ -2,7 +2,7 @@
 //!
 //! The first three laws hold of any property of packs. `CanBeMended` is one.
 
-ghost use Rattle.laws_line.specs.PartLaws.{CrashByCrash, CrashesOfBothParts, CrashesOfParts, LineMovesLeadToTheModel, ViewedAndMendableInSession, ViewedAndMendableOperates};
+ghost use Rattle.laws_line.specs.PartLaws.{CrashByCrash, CrashesOfBothParts, CrashesOfParts, LineMovesLeadToTheModel, MovesOfALineSplit, OperationsAreInSession, ReadAndMendableOperates, ViewedAndMendableInSession, ViewedAndMendableOperates};
 ghost use Rattle.disk_records.specs.Packs.{Pack};
 ghost use Rattle.pack_model.specs.sessions.Meanings.{Mendable};
 
@@ -42,6 +42,21 @@ pub fn viewed_and_mendable_operates()
 /// They are those of a session, too.
 pub fn viewed_and_mendable_in_session()
     ensures { ViewedAndMendableInSession }
+{}
+
+/// So what operates is in session.
+pub fn operations_are_in_session()
+    ensures { OperationsAreInSession }
+{}
+
+/// Record writes whose crash points are read as the models of their moves and can be scavenged are those of operations.
+pub fn read_and_mendable_operates()
+    ensures { ReadAndMendableOperates }
+{}
+
+/// The moves of a line's operations are those of the first ones, of the next one with its serial, and of the later ones.
+pub fn moves_of_a_line_split()
+    ensures { MovesOfALineSplit }
 {}
 
 /// The moves of a line lead to the model behind its operations, from which the next line goes on.

@@ -4,6 +4,7 @@ pub mod FactsC
 pub mod FactsD
 pub mod FactsE
 pub mod FactsP
+pub mod First
 pub mod LineA
 pub mod LineD
 pub mod Lines

@@ -11,3 +11,4 @@
 #![tactic(auto)]
 
 pub mod premises;
+pub mod sessions;

@@ -4,4 +4,5 @@ pub mod Least
 pub mod Made
 pub mod NameLaws
 pub mod PutLaws
+pub mod TallyLaws
 pub mod TurnLaws

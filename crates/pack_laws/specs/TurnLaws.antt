@@ -1,11 +1,12 @@
 -- The laws of moves and turns, of any meaning of moves.
-use Rattle.std.specs.Prelude.{List, Ok, OnOk, Result, Some, [], cond, drop, length, slice_get, sum_by, take, ℕ, ◌&&◌, ◌++◌, ◌+◌, ◌∷◌, ◌≡◌, ◌≤◌}
+use Rattle.std.specs.Prelude.{Bool, Err, List, Ok, OnOk, Result, Some, [], cond, drop, false, length, slice_get, sum_by, take, true, ℕ, ◌&&◌, ◌++◌, ◌+◌, ◌∷◌, ◌≡◌, ◌≤◌}
 use Rattle.disk_records.specs.declared.records.Event.{Event}
 use Rattle.disk_records.specs.declared.records.Event.TheVariants.{Shown, Wrote}
-use Rattle.disk_records.specs.Events.{IsFirstOf, shown_bytes, writes_in}
+use Rattle.disk_records.specs.Events.{IsFirstOf, shown_bytes, shown_events, writes_in}
 use Rattle.disk_records.specs.Packs.{Pack, after, crash}
+use Rattle.disk_records.specs.Tapes.{Grown, Taped, added, pack}
 use Rattle.pack_model.specs.sessions.Moves.{Does, IsStartOf, Meaning, Obeys, steps}
-use Rattle.pack_model.specs.sessions.Turns.{CutAt, Talks, Turn, is_whole, moves_at, ops_of, ruler}
+use Rattle.pack_model.specs.sessions.Turns.{BreaksAt, CutAt, IsTurn, Talks, Turn, is_whole, moves_at, ops_of, ruler, texts_of}
 use Rattle.pack_laws.specs.Made.{AllMade}
 
 -- ---- runs of writes
@@ -16,6 +17,15 @@ RunsJoin {M} {O} means = (m : M) (p : Pack) (a b : List Event) (ops more : List 
 -- The pack crash after k writes of a run stands for the model after its first k moves.
 abbrev pub CutOfRun : {M O : Type 0} → Meaning M O → Type 0
 CutOfRun {M} {O} means = (m : M) (p : Pack) (events : List Event) (ops : List O) → Obeys means m p events ops → (k : ℕ) → means.Stands (steps means m (take k ops)) (crash p events k)
+
+-- Some first ones of a run's writes make some first ones of its moves.
+pub record MakesFirst {M O : Type 0} (means : Meaning M O) (m : M) (p : Pack) (events : List Event) (wanted : List O) : Type 0 where
+  pub moves : List O
+  pub start : IsStartOf moves wanted
+  pub each : Obeys means m p events moves
+
+abbrev pub RunBreaksOff : {M O : Type 0} → Meaning M O → Type 0
+RunBreaksOff {M} {O} means = (m : M) (p : Pack) (writes events : List Event) (moves : List O) → Obeys means m p writes moves → IsFirstOf writes events → MakesFirst means m p events moves
 
 -- ---- calls
 -- Where a call has made all its moves, it and the next one are a call that is to make the moves of both.
@@ -33,6 +43,33 @@ FaultsLeaveAFirstPart {M} {O} T E means =
 abbrev pub TurnsJoin : {M O : Type 0} → Meaning M O → Type 0
 TurnsJoin {M} {O} means = (m n l : M) (p : Pack) (a b : List Event) (turns more : List (Turn O)) → Talks means m p a turns n → Talks means n (after p a) b more l → Talks means m p (a ++ b) (turns ++ more) l
 
+-- The shown bytes are the texts; there are as many record writes as moves; and the model left is the one after all of them.
+pub record SaysTurns {M O : Type 0} (means : Meaning M O) (m n : M) (events : List Event) (turns : List (Turn O)) : Type 0 where
+  pub shown : shown_bytes events ≡ texts_of turns
+  pub writes : writes_in events ≡ length (ops_of turns)
+  pub model : n ≡ steps means m (ops_of turns)
+
+abbrev pub TurnsAreShown : {M O : Type 0} → Meaning M O → Type 0
+TurnsAreShown {M} {O} means = (m n : M) (p : Pack) (events : List Event) (turns : List (Turn O)) → Talks means m p events turns n → SaysTurns means m n events turns
+
+-- ---- calls that are turns
+-- A call that is to be this turn broke off: what it made of it, and whether it was the display that failed.
+pub record BrokenTurn {M O T E : Type 0} (means : Meaning M O) (m : M) (p : Pack) (events : List Event) (wanted : Turn O) (result : Result T E) (display : Bool) : Type 0 where
+  pub turn : IsTurn means m p events wanted result
+  pub breaks : BreaksAt display turn.made wanted
+
+-- A call from x to y that makes the moves of a turn, and then its text, shown from y to z. All of both is the turn; where the display
+-- failed all moves are made and some first bytes are shown; where the moves broke off nothing is shown.
+pub record TurnOfCalls {M O : Type 0} (T E F : Type 0) (means : Meaning M O) (x y z : Taped) (t : Turn O) : Type 0 where
+  pub whole : (u : T) → Grown x y → Grown y z → Does {E = E} means (pack x) (added x y) t.ops (Ok u) → added y z ≡ shown_events t.text → IsTurn {T = Unit {0}} {E = F} means (means.read (pack x)) (pack x) (added x z) t (Ok tt)
+  pub shown : (u : T) (fault : F) → Grown x y → Grown y z → Does {E = E} means (pack x) (added x y) t.ops (Ok u) → IsFirstOf (shown_events t.text) (added y z)
+      → BrokenTurn {T = Unit {0}} means (means.read (pack x)) (pack x) (added x z) t (Err fault) true
+  pub broken : (e : E) (fault : F) → Does {T = T} means (pack x) (added x y) t.ops (Err e) → BrokenTurn {T = Unit {0}} means (means.read (pack x)) (pack x) (added x y) t (Err fault) false
+
+abbrev pub CallsAreTurns : {M O : Type 0} → Type 0 → Type 0 → Type 0 → Meaning M O → Type 0
+CallsAreTurns {M} {O} T E F means = (x y z : Taped) (t : Turn O) → TurnOfCalls T E F means x y z t
+
+-- ---- crash points
 -- Each crash stands for the model after the moves so far, and no operation that was acknowledged is missing.
 abbrev pub CutOfTurns : {M O : Type 0} → (O → ℕ) → Meaning M O → Type 0
 CutOfTurns {M} {O} weight means = (m n : M) (p : Pack) (events : List Event) (turns : List (Turn O)) → Talks means m p events turns n → (k : ℕ) → CutAt weight means m p events turns k

@@ -10,8 +10,10 @@
 
 pub mod files;
 pub mod guards;
+pub mod meanings;
 pub mod names;
 pub mod puts;
+pub mod tallies;
 pub mod turns;
 
 pub use puts::value_write_is_the_put;

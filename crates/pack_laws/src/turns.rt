@@ -2,7 +2,7 @@
 //!
 //! They hold of any meaning of moves. `Puts` is one: a move puts bytes in a stored file.
 
-ghost use Rattle.pack_laws.specs.TurnLaws.{AcknowledgedAreDone, CallsJoin, CutOfRun, CutOfTurns, FaultsLeaveAFirstPart, RulerLaws, RunsJoin, TurnsJoin, WritesAreMade};
+ghost use Rattle.pack_laws.specs.TurnLaws.{AcknowledgedAreDone, CallsAreTurns, CallsJoin, CutOfRun, CutOfTurns, FaultsLeaveAFirstPart, RulerLaws, RunBreaksOff, RunsJoin, TurnsAreShown, TurnsJoin, WritesAreMade};
 ghost use Rattle.pack_model.specs.sessions.Moves.{Meaning};
 ghost use Rattle.pack_model.specs.operations.Puts.{Put, putting};
 ghost use Rattle.pack_model.specs.reading.Stored.{StoredFiles};
@@ -46,6 +46,11 @@ pub fn cut_of_run<X: Moves>()
     ensures { CutOfRun X.means }
 {}
 
+/// Some first record writes of a run make some first ones of its moves.
+pub fn run_breaks_off<X: Moves>()
+    ensures { RunBreaksOff X.means }
+{}
+
 /// Where one call has made all its moves and the next goes on from there, the two are one call that is to make the moves of both.
 pub fn calls_join<X: Moves, T, U, E, F>()
     ensures { CallsJoin T U E F X.means }
@@ -59,6 +64,18 @@ pub fn faults_leave_a_first_part<X: Moves, T, E>()
 /// Two runs of turns, the second from where the first ends, are one run.
 pub fn turns_join<X: Moves>()
     ensures { TurnsJoin X.means }
+{}
+
+/// The shown bytes of some turns are their texts, there are as many record writes as moves, and the model left is the one after all
+/// of them.
+pub fn turns_are_shown<X: Moves>()
+    ensures { TurnsAreShown X.means }
+{}
+
+/// A call that makes a turn's moves and another that shows its text are the turn; where the display failed all moves are made and a
+/// prefix of the text is shown, and where the moves broke off nothing is.
+pub fn calls_are_turns<X: Moves, T, E, F>()
+    ensures { CallsAreTurns T E F X.means }
 {}
 
 /// Turns that are cut anywhere leave a pack that stands for the model after the moves so far, with every acknowledged operation in it.

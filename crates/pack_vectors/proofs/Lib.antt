@@ -27,6 +27,7 @@ pub mod SourceVectors
 pub mod StandVectors
 pub mod StateVectors
 pub mod StepVectors
+pub mod TallyVectors
 pub mod TurnVectors
 pub mod UseVectors
 pub mod Vectors

@@ -1,3 +1,4 @@
+pub mod Beginning
 pub mod Cutting
 pub mod EnterCuts
 pub mod OneCommit

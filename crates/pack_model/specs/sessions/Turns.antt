@@ -33,6 +33,12 @@ pub record BrokeOff {O : Type 0} (made wanted : Turn O) : Type 0 where
   pub later : made.text ≢ [] → made.ops ≡ wanted.ops
   pub uncounted : made.counts ≡ false
 
+-- The same by what stopped it: only where the display failed some first bytes of its text are shown, and then all its moves are made.
+pub record BreaksAt {O : Type 0} (display : Bool) (made wanted : Turn O) : Type 0 where
+  pub off : BrokeOff made wanted
+  pub shows : display ≡ true → made.ops ≡ wanted.ops
+  pub silent : display ≡ false → made.text ≡ []
+
 abbrev pub MadeBy : {O T E : Type 0} → Turn O → Turn O → Result T E → Type 0
 MadeBy made wanted (Ok x) = made ≡ wanted
 MadeBy made wanted (Err e) = BrokeOff made wanted

@@ -6,8 +6,9 @@ use Rattle.disk_records.specs.declared.records.Event.{Event}
 use Rattle.pack_model.specs.sessions.Moves.{rest, write}
 use Rattle.pack_model.specs.scavenger.Scavenging.{Throughout}
 use Rattle.pack_model.specs.showing.Settling.{settle}
+use Rattle.pack_model.specs.showing.View.{view}
 use Rattle.laws_record.proofs.Chaining.{at_cut}
-use Rattle.laws_line.specs.PartLaws.{CrashByCrash, CrashesOfBothParts, CrashesOfParts, ViewedAndMendableInSession, ViewedAndMendableOperates}
+use Rattle.laws_line.specs.PartLaws.{CrashByCrash, CrashesOfBothParts, CrashesOfParts, OperationsAreInSession, ReadAndMendableOperates, ViewedAndMendableInSession, ViewedAndMendableOperates}
 
 -- ---- a property of packs
 module _ (P : Pack → Type 0) where
@@ -51,3 +52,11 @@ viewed_and_mendable_operates m p _ _ (write {at = at} {part = part} {words = wor
 pub viewed_and_mendable_in_session : ViewedAndMendableInSession
 viewed_and_mendable_in_session m p _ _ (rest here) r = rest (record { shows = ap settle here; mendable = r })
 viewed_and_mendable_in_session m p _ _ (write {at = at} {part = part} {words = words} {events = events} {o = o} {ops = ops} here makes later) r = write (record { shows = ap settle here; mendable = r.0 }) makes (viewed_and_mendable_in_session _ _ events ops later r.1)
+
+pub operations_are_in_session : OperationsAreInSession
+operations_are_in_session m p _ _ (rest here) = rest (record { shows = ap settle here.views; mendable = here.mendable })
+operations_are_in_session m p _ _ (write {at = at} {part = part} {words = words} {events = events} {o = o} {ops = ops} here makes later) = write (record { shows = ap settle here.views; mendable = here.mendable }) makes (operations_are_in_session _ _ events ops later)
+
+pub read_and_mendable_operates : ReadAndMendableOperates
+read_and_mendable_operates m p _ _ (rest here) r = rest (record { views = ap view here; mendable = r })
+read_and_mendable_operates m p _ _ (write {at = at} {part = part} {words = words} {events = events} {o = o} {ops = ops} here makes later) r = write (record { views = ap view here; mendable = r.0 }) makes (read_and_mendable_operates _ _ events ops later r.1)

@@ -36,7 +36,7 @@ use Rattle.laws_room.proofs.rooms.Laws.{free_is_the_room}
 
 -- ---- the model
 -- each kind of line keeps a settled model ready where there is room for the pages that it adds, and leaves a settled one
-line_behind : (m : Model) (ops : List Operation) → Settled m → IsLine m ops → pages_for_operations m ops ≤ room m → SettledBehind m ops
+pub line_behind : (m : Model) (ops : List Operation) → Settled m → IsLine m ops → pages_for_operations m ops ≤ room m → SettledBehind m ops
 line_behind m _ s (changes ops leave) few = settled_after_changes m ops s leave few
 line_behind m _ s (goes f may) few = settled_after_drop m f s may
 line_behind m _ s (comes d name f moment rest dir short new leave) few = settled_after_new_file m d name f moment rest s dir short new leave few

@@ -1,0 +1,4 @@
+pub mod Acting
+pub mod Counting
+pub mod Going
+pub mod SoundCalls

@@ -1,0 +1,6 @@
+pub mod ActLaws
+pub mod Acting
+pub mod CountLaws
+pub mod Going
+pub mod GoingLaws
+pub mod SoundCalls

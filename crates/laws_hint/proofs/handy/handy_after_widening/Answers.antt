@@ -1,0 +1,5 @@
+use Rattle.laws_hint.proofs.inside.HandyOperations.{handy_after_widening}
+use Rattle.laws_hint.proofs.handy.handy_after_widening.Goals as goal
+
+pub returns : goal.returns
+returns c = handy_after_widening

@@ -1,0 +1,43 @@
+//! Handy hints stay handy over the operations of a session.
+
+ghost use Rattle.laws_hint.specs.HandyLaws.{HandyAfterCut, HandyAfterGrowth, HandyAfterLeaderValue, HandyAfterValues, HandyAfterWidening, HandyOfOthers, HandyWherePagesCome, HandyWherePagesStayOrGo};
+
+/// Hints of a file are handy still if each of its pages stays where it is or goes, and the words of its leader stay.
+pub fn handy_where_pages_stay_or_go()
+    ensures { HandyWherePagesStayOrGo }
+{}
+
+/// Values that aren't written into a file's leader leave its hints handy.
+pub fn handy_after_values()
+    ensures { HandyAfterValues }
+{}
+
+/// So does a value of the leader with the same flag, and last-page words that are right.
+pub fn handy_after_leader_value()
+    ensures { HandyAfterLeaderValue }
+{}
+
+/// Hints of a file that gets pages are handy still if they speak of none but old pages, or of new ones where these are.
+pub fn handy_where_pages_come()
+    ensures { HandyWherePagesCome }
+{}
+
+/// An operation on one file leaves the hints of all others handy.
+pub fn handy_of_others()
+    ensures { HandyOfOthers }
+{}
+
+/// A cut leaves those of its own file handy.
+pub fn handy_after_cut()
+    ensures { HandyAfterCut }
+{}
+
+/// A growth leaves those of its own file handy, if they speak of its old pages alone and the flag is 0.
+pub fn handy_after_growth()
+    ensures { HandyAfterGrowth }
+{}
+
+/// So does a widening those of its directory.
+pub fn handy_after_widening()
+    ensures { HandyAfterWidening }
+{}

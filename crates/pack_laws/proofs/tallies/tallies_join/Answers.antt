@@ -1,0 +1,5 @@
+use Rattle.pack_laws.proofs.Tallying.{tallies_join}
+use Rattle.pack_laws.proofs.tallies.tallies_join.Goals as goal
+
+pub returns : goal.returns
+returns c = tallies_join
