@@ -22,7 +22,7 @@ use Rattle.pack_model.specs.states.Sound.{Sound, mark_of, mark_open}
 use Rattle.laws_operation.specs.ByteLaws.{Bear}
 use Rattle.laws_operation.specs.DescriptorLaws.{MayClose}
 use Rattle.laws_operation.specs.DirectoryWords.{CanEnter, HasEntry, left_in}
-use Rattle.laws_operation.specs.FileWords.{CanCut, CanGrow, CanMake, CanPut, CanWriteLeader}
+use Rattle.laws_operation.specs.FileWords.{ArePastTheEnd, CanCut, CanGrow, CanMake, CanPut, CanWriteLeader}
 use Rattle.laws_operation.specs.LifeLaws.{MayDrop}
 use Rattle.laws_line.specs.CutLaws.{Batch}
 use Rattle.laws_line.specs.SoundLines.{IsLine, LineOnSound}
@@ -51,6 +51,8 @@ pub record MeetsPremises (p : Pack) : Type 0 where
   pub bytes : file_bytes (sights p) file_a ≡ bytes_a
   pub items : dir_items (read_as p) dir_d ≡ entry file_b name_b ∷ space 247 ∷ []
   pub can_put : CanPut p file_a 510 (1 ∷ 2 ∷ []) 6
+  pub can_put_last : CanPut p file_a 598 (1 ∷ 2 ∷ []) 7
+  pub past_the_end : ArePastTheEnd p file_a 598 (1 ∷ 2 ∷ []) (7 ∷ []) 7
   pub can_grow : CanGrow p file_a 600 bytes_more (7 ∷ []) (12 ∷ []) 7
   pub can_widen : CanGrow p dir_d 510 widening_bytes [] (12 ∷ []) 9
   pub can_cut : CanCut p file_a 100 6 (7 ∷ [])

@@ -1,5 +1,5 @@
 -- The pack with two files and a directory meets the premises of operations, and its session can be closed.
-use Rattle.std.proofs.Common.{◌≡◌, ◌≢◌, ℕ, ◌<◌, true, [], ◌∷◌, length, refl, sym, ap, arith, replicate}
+use Rattle.std.proofs.Common.{◌≡◌, ◌≢◌, ℕ, ◌<◌, true, [], ◌∷◌, length, refl, sym, ap, arith, replicate, inr}
 use Rattle.std.proofs.lemmas.List.Elements.{All-cons, All-nil}
 use Rattle.std.specs.Prelude.{All, AllPairs}
 use Rattle.disk_records.specs.Packs.{is_free_at, sector_at}
@@ -11,7 +11,7 @@ use Rattle.pack_model.specs.states.Sound.{mark_clean, mark_of}
 use Rattle.pack_laws.proofs.Bytes.{bytes_below}
 use Rattle.laws_operation.specs.ByteLaws.{IsOrdinary}
 use Rattle.laws_operation.specs.DescriptorLaws.{MayClose}
-use Rattle.laws_operation.specs.FileWords.{CanCut, CanGrow, CanPut, CanWriteLeader}
+use Rattle.laws_operation.specs.FileWords.{ArePastTheEnd, CanCut, CanGrow, CanPut, CanWriteLeader}
 use Rattle.laws_operation.specs.LifeLaws.{MayDrop}
 use Rattle.laws_hint.proofs.closing.Laws.{closing_leaves_hints_true}
 use Rattle.laws_met.specs.Peopled.{bytes_a, bytes_more, dir_d, file_a, name_a, peopled}
@@ -40,6 +40,24 @@ can_put = record {
   one_page = omega arith;
   within = let e = ap length file_is.bytes in let n = size_a in omega arith;
   bytes = All-cons (λ b. b < 256) 1 (2 ∷ []) (omega arith) (All-cons (λ b. b < 256) 2 [] (omega arith) (All-nil (λ b. b < 256)));
+}
+
+-- a word is written past them where the bytes reach the file's end
+pub can_put_last : CanPut peopled file_a 598 (1 ∷ 2 ∷ []) 7
+can_put_last = record {
+  file = ordinary_a;
+  sector = file_is.pages.1.1.0;
+  one_page = omega arith;
+  within = let e = ap length file_is.bytes in let n = size_a in omega arith;
+  bytes = can_put.bytes;
+}
+
+past_the_end : ArePastTheEnd peopled file_a 598 (1 ∷ 2 ∷ []) (7 ∷ []) 7
+past_the_end = record {
+  words = All-cons (λ w. w < 65536) 7 [] (omega arith) (All-nil (λ w. w < 65536));
+  room = omega arith;
+  behind = inr (let e = ap length file_is.bytes in let n = size_a in omega arith);
+  sized = file_is.sized;
 }
 
 -- one free sector
@@ -112,6 +130,8 @@ premises_are_met = record {
   bytes = file_is.bytes;
   items = items_of_words peopled dir_d inner_items stands_b inner_is.living refl inner_is.slots_are;
   can_put = can_put;
+  can_put_last = can_put_last;
+  past_the_end = past_the_end;
   can_grow = can_grow;
   can_widen = can_widen;
   can_cut = can_cut;
