@@ -13,8 +13,8 @@ pub fn premises_are_met_in_lines()
     ensures { PremisesAreMetInLines }
 {}
 
-/// Lines of each kind run: that make a file in SysDir, a directory, and a file in it; that change files; by which one goes; that rename one, into
-/// another directory and within its own.
+/// Lines of each kind run: that make a file in SysDir, a directory, and a file in it; that change files; by which one goes; that rename
+/// one, into another directory and within its own.
 pub fn lines_of_each_kind_run()
     ensures { LinesOfEachKindRun }
 {}
