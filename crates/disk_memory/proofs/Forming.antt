@@ -19,7 +19,7 @@ pub formed_wrote : (sectors : List Sector) (at part : ℕ) (words : List ℕ) (s
 formed_wrote sectors at part words sector next h l stands size is =
     All-set IsFormed sectors at next (subst IsFormed (sym is) (formed_part part words sector size (subst IsFormed (sym stands) (h at sector l)))) h
 
--- one sector more of the first ones
+-- the first sectors, and one more
 pub formed_more : (sectors : List Sector) (i : ℕ) (d : Sector) → i < length sectors → IsFormed (get_or sectors i d) → All IsFormed (take i sectors) → All IsFormed (take (i + 1) sectors)
 formed_more sectors i d l one h =
     subst (All IsFormed) (sym ((take_at_read sectors i d l).1)) (All-append IsFormed (take i sectors) (get_or sectors i d ∷ []) h (All-cons IsFormed (get_or sectors i d) [] one (All-nil IsFormed)))

@@ -51,7 +51,7 @@ PutWordsFit = (p : Pack) (f : Fid) (offset : ℕ) (new : List ℕ) (at : ℕ) �
 pub record ArePastTheEnd (p : Pack) (f : Fid) (offset : ℕ) (new past : List ℕ) (at : ℕ) : Type 0 where
   pub words : All (λ w. w < 65536) past
   pub room : offset % 512 + length new + length (bytes_of past) ≤ 512
-  pub behind : (past ≡ []) ⊎ (offset + length new ≡ length (file_bytes (sights p) f))
+  pub last : (past ≡ []) ⊎ (offset + length new ≡ length (file_bytes (sights p) f))
   pub sized : length (sector_at p at).value ≡ 256
 
 -- the page's value with both in place

@@ -56,7 +56,7 @@ past_the_end : ArePastTheEnd peopled file_a 598 (1 ∷ 2 ∷ []) (7 ∷ []) 7
 past_the_end = record {
   words = All-cons (λ w. w < 65536) 7 [] (omega arith) (All-nil (λ w. w < 65536));
   room = omega arith;
-  behind = inr (let e = ap length file_is.bytes in let n = size_a in omega arith);
+  last = inr (let e = ap length file_is.bytes in let n = size_a in omega arith);
   sized = file_is.sized;
 }
 

@@ -118,7 +118,7 @@ put_past_words_fit p f offset new past at w h b =
     let sized = b.sized in
     let twice = length-bytes_of (sector_at p at).value in
     let says = (labels_count p f (offset / 512) at h.sector).says sized in
-    let ends : (past ≡ []) ⊎ ((tag (sector_at p at).label).bytes ≡ offset % 512 + length new) = elim b.behind [ inl none ↦ inl none | inr end ↦ inr (omega arith) ] in
+    let ends : (past ≡ []) ⊎ ((tag (sector_at p at).label).bytes ≡ offset % 512 + length new) = elim b.last [ inl none ↦ inl none | inr end ↦ inr (omega arith) ] in
     record {
       file = h.file;
       sector = h.sector;
