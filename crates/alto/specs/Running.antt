@@ -1,9 +1,8 @@
 -- What stops a run that has no session, and how a run ends.
-use Rattle.std.specs.Prelude.{◌≡◌, ◌⊎◌, ℕ, List, drop, Bool, true, false, Option, Some, None, is_some, IfSome, Result, Ok, Err}
+use Rattle.std.specs.Prelude.{◌≡◌, ℕ, List, drop, Bool, true, false, Option, Some, None, is_some, IfSome, Result, Ok, Err}
 use Rattle.alto_top.specs.declared.status.Status.{Status}
 use Rattle.alto_top.specs.declared.status.Status.TheVariants as status
-use Rattle.alto_top.specs.Top.{AsksBoot, AsksShow, AsksNothing, AnswersOther}
-use Rattle.alto_top.specs.Showing.{AnswersShow}
+use Rattle.alto_top.specs.Top.{AnswersTo}
 use Rattle.disk_image.specs.declared.error.ReachError.{ReachError}
 use Rattle.disk_image.specs.Machines.{IsReaching, IsReachingTwo, IsMaking}
 use Rattle.disk_image.specs.Starts.{start_of}
@@ -35,13 +34,6 @@ IsHelpStop stop.Memory = Unit {0}
 abbrev pub IsHelpEnd : Result Status Stop → Type 0
 IsHelpEnd (Ok answer) = answer ≡ status.Done
 IsHelpEnd (Err stop) = IsHelpStop stop
-
--- what the words after PACK let a session answer, on every machine
-pub record AnswersTo (words : List (List ℕ)) (answer : Status) : Type 0 where
-  pub usage : answer ≡ status.Usage → AsksNothing words
-  pub done : answer ≡ status.Done → AsksBoot words ⊎ AsksShow words
-  pub show : AsksShow words → AnswersShow answer
-  pub other : AsksNothing words → AnswersOther answer
 
 -- how a command line with these words after PACK ends, with a PACK2 or without
 abbrev pub IsCallEnd : Option ℕ → Bool → List (List ℕ) → Result Status Stop → Type 0

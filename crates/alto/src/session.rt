@@ -1,7 +1,7 @@
 // What is done on the machine over a pack file, at a moment.
 ghost use Rattle.std.specs.Prelude.{map, string_bytes};
 ghost use Rattle.alto_top.specs.Faults.{HasStatusCause};
-ghost use Rattle.alto.specs.Running.{AnswersTo};
+ghost use Rattle.alto_top.specs.Top.{AnswersTo};
 
 use alto_top::{Status, alto};
 use disk_records::Machine;

@@ -5,6 +5,7 @@ pub mod Ending
 pub mod Grammar
 pub mod Histories
 pub mod KeptLines
+pub mod KeptPage
 pub mod KeptPages
 pub mod LineEnds
 pub mod Lined
@@ -13,7 +14,6 @@ pub mod Looking
 pub mod Obeying
 pub mod Patching
 pub mod Rows
-pub mod Seeing
 pub mod Sizes
 pub mod SoFar
 pub mod Statuses

@@ -1,38 +1,22 @@
 -- What sweeps of all sectors find, and what is kept of it.
 use Rattle.std.specs.Prelude.{◌≡◌, ℕ, zero, suc, ◌+◌, ◌≤◌, ◌<◌, true, false, cond, nat_lt, List, length, Option, Some, None}
-use Rattle.std.specs.Option.{option_map}
+use Rattle.std.specs.Option.{option_map, option_or}
 use Rattle.std.specs.BTreeMap.{get}
 use Rattle.std.specs.Ordering.{nat_cmp}
 use Rattle.alto_words.specs.declared.fid.Fid.{Fid}
-use Rattle.disk_records.specs.Labels.{tag, in_range}
 use Rattle.pack_model.specs.reading.Sights.{Sight}
 use Rattle.pack_model.specs.reading.Sights.Sight.{hidden, free, stray, leads, holds}
 use Rattle.pack_model.specs.reading.Files.{first, numbered, carries_page}
-use Rattle.alto_top.specs.declared.sweep.LabelSight.{LabelSight}
-use Rattle.alto_top.specs.declared.sweep.LabelSight.TheVariants.{Nothing, Leader, Data}
+use Rattle.pack_laws.specs.Least.{least_shown}
+use Rattle.alto_top.specs.declared.sweep.LeastFile.{LeastFile}
+use Rattle.alto_top.specs.declared.sweep.FilePages.{FilePages}
 use Rattle.alto_top.specs.declared.pages.PagePlace.{PagePlace}
 use Rattle.alto_top.specs.declared.pages.Pages.{Pages}
 
--- ---- what a sector's label names
-abbrev pub seen_page : Fid → ℕ → ℕ → LabelSight
-seen_page f zero bytes = Leader f
-seen_page f (suc n) bytes = Data f (suc n) bytes
-
-abbrev pub seen_in : List ℕ → LabelSight
-seen_in label = cond (in_range (tag label)) (seen_page (tag label).fid (tag label).page (tag label).bytes) Nothing
-
-abbrev pub seen_of : Sight → LabelSight
-seen_of hidden = Nothing
-seen_of free = Nothing
-seen_of stray = Nothing
-seen_of (leads f readable l) = Leader f
-seen_of (holds f n bytes) = Data f (suc n) (length bytes)
-
--- a page's count is at most 512
-abbrev pub CountsFew : LabelSight → Type 0
-CountsFew Nothing = Unit {0}
-CountsFew (Leader f) = Unit {0}
-CountsFew (Data f n bytes) = bytes ≤ 512
+-- ---- the first sweep
+-- one sector more is looked at for the least full name with a serial
+abbrev pub KeepsLeast : LeastFile → ℕ → Sight → LeastFile → Type 0
+KeepsLeast old at s new = (new.serial ≡ old.serial) × (new.found ≡ least_shown old.serial old.found s)
 
 -- ---- the second sweep
 -- how many bytes of a data page count
@@ -77,3 +61,9 @@ bytes_kept pages = bytes_counted 65535 (λ n. kept_page pages (suc n))
 -- each page that is kept is in a sector below `end` that isn't the first
 abbrev pub AreWithin : ℕ → Pages → Type 0
 AreWithin end pages = (n at bytes : ℕ) → kept_page pages n ≡ Some (at, bytes) → (1 ≤ at) × (at < end)
+
+-- one sector more: its page is kept, where it is a data page of the file and no lower sector carried it
+pub record KeepsPage (old : FilePages) (at : ℕ) (s : Sight) (new : FilePages) : Type 0 where
+  pub fid : new.fid ≡ old.fid
+  pub kept : (n : ℕ) → kept_page new.pages (suc n) ≡ option_or (kept_page old.pages (suc n)) (held_at old.fid (suc n) (at, s))
+  pub within : (end : ℕ) → 1 ≤ at → at < end → AreWithin end old.pages → AreWithin end new.pages

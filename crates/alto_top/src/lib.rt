@@ -10,8 +10,8 @@
 //! And of `show`: at Done the shown bytes are the listing of what the pack shows, for every answer a first part of it, and nothing is
 //! written (`shown` of `show_pack`).
 //! And for every machine: DiskFault, KeyFault and DisplayFault come only where their own count rose (`cause`).
-//! And for every machine: with words other than `boot` alone or `show` alone no record write is counted, and no fault but the display's
-//! (`alone`); told, no sector command is run, nothing is written and no key is taken (`shown` of `alto`).
+//! And for every machine: with words other than `boot` alone or `show` alone no record write is counted, and no fault except the
+//! display's (`touches`); where it is modelled, no sector command is run, nothing is written and no key is taken (`does` of `alto`).
 //! Not promised: that memory is left; how long anything takes, but for the number of sector commands (`runs`).
 #![tactic(auto)]
 

@@ -1,7 +1,7 @@
 // The data pages of one file, as a sweep of all labels finds them.
 ghost use Rattle.std.specs.Prelude.{◌≡◌, ◌≤◌};
 
-use crate::status::Fault;
+use alto_words::Memory;
 use disk_records::PAGE_BYTES;
 use std::alloc::Global;
 use std::collections::BTreeMap;
@@ -38,9 +38,8 @@ impl Pages {
     }
 
     /// Keeps a page, unless one of its number is kept. Memory: no memory was left.
-    pub fn keep(&mut self, number: u16, held: PagePlace) -> Result<(), Fault>
-        ensures kept { OnOk result ((n : ℕ) → kept_page self.new n ≡ option_or (kept_page self.old n) (cond (n == number) (Some (seen_held held)) None)) }
-        ensures want { IfErr result (λ fault. fault ≡ Fault.Memory) }
+    pub fn keep(&mut self, number: u16, held: PagePlace) -> Result<(), Memory>
+        ensures { OnOk result ((n : ℕ) → kept_page self.new n ≡ option_or (kept_page self.old n) (cond (n == number) (Some (seen_held held)) None)) }
     {
         self.held.entry(number)?.or_insert(held);
         Ok(())

@@ -111,14 +111,14 @@ fn obey_patch<D: Disk>(alloc: Global, disk: &mut D, patch: &Patch) -> Result<Rep
     ensures alone { DiskAlone (D.tape disk.old) (D.tape disk.new) }
     ensures runs { IsTrue D.told → (D.tape disk.new).runs ≤ (D.tape disk.old).runs + runs_of_line (D.tape disk.old) }
 {
-    let mut buf = Sector::ZEROS;
-    let Some(fid) = find_file(disk, patch.serial, &mut buf)? else {
+    let Some(fid) = find_file(disk, patch.serial)? else {
         return Ok(Reply::NoSuchName);
     };
     if !is_patched(fid) || !lie_in_one_page(patch.offset, patch.bytes.as_slice()) {
         return Ok(Reply::NotYet);
     }
-    let pages = find_pages(alloc, disk, fid, &mut buf)?;
+    let pages = find_pages(alloc, disk, fid)?;
+    let mut buf = Sector::ZEROS;
     patch_pages(disk, patch, fid, &pages, &mut buf)
 }
 

@@ -1,10 +1,8 @@
 // The command line.
-ghost use Rattle.std.specs.Prelude.{◌≡◌, ◌⊎◌, [], ◌∷◌, map, string_bytes, IsTrue};
-ghost use Rattle.disk_records.specs.Tapes.{Grown, ShowAlone};
+ghost use Rattle.std.specs.Prelude.{[], ◌∷◌, map, string_bytes, IsTrue};
+ghost use Rattle.disk_records.specs.Tapes.{ShowAlone};
 ghost use Rattle.alto_top.specs.Faults.{HasStatusCause};
-ghost use Rattle.alto_top.specs.Sessions.{Booted};
-ghost use Rattle.alto_top.specs.Showing.{AnswersShow, KeepsKeys, ShowsPack};
-ghost use Rattle.alto_top.specs.Top.{AsksBoot, AsksShow, AsksNothing, AsksFor, AnswersOther, ShowsUsage};
+ghost use Rattle.alto_top.specs.Top.{AsksFor, AnswersOther, ShowsUsage, AnswersTo, Touches, DoesAsAsked};
 
 use crate::session::{boot, show_all};
 use crate::show::show_pack;
@@ -48,11 +46,10 @@ fn asked_by(word: &[u8]) -> Asked
 
 /// Shows `usage`.
 fn show_usage<C: Console>(console: &mut C) -> Status
-    ensures grown { Grown (C.tape console.old) (C.tape console.new) }
-    ensures alone { ShowAlone (C.tape console.old) (C.tape console.new) }
-    ensures cause { HasStatusCause (C.tape console.old) (C.tape console.new) result }
-    ensures answer { AnswersOther result }
     ensures shown { IsTrue C.told → ShowsUsage (C.tape console.old) (C.tape console.new) result }
+    ensures answer { AnswersOther result }
+    ensures cause { HasStatusCause (C.tape console.old) (C.tape console.new) result }
+    ensures alone { ShowAlone (C.tape console.old) (C.tape console.new) }
 {
     match show_all(console, b"usage\n") {
         Ok(()) => Status::Usage,
@@ -67,17 +64,10 @@ fn show_usage<C: Console>(console: &mut C) -> Status
 /// DiskFault and KeyFault: that device failed, and the session or the listing stopped at once; a listing takes no key. DisplayFault:
 /// the display failed, with any words. Memory: none was left. After each of them what was acknowledged stands on the pack.
 pub fn alto<M: Machine>(alloc: Global, words: &[String], moment: u32, machine: &mut M) -> Status
-    ensures grown { Grown (M.tape machine.old) (M.tape machine.new) }
+    ensures does { IsTrue M.told → DoesAsAsked (map string_bytes words.now) (M.tape machine.old) (M.tape machine.new) result }
+    ensures answers { AnswersTo (map string_bytes words.now) result }
     ensures cause { HasStatusCause (M.tape machine.old) (M.tape machine.new) result }
-    ensures usage { result ≡ Status.Usage → AsksNothing (map string_bytes words.now) }
-    ensures done { result ≡ Status.Done → AsksBoot (map string_bytes words.now) ⊎ AsksShow (map string_bytes words.now) }
-    ensures alone { AsksNothing (map string_bytes words.now) → ShowAlone (M.tape machine.old) (M.tape machine.new) }
-    ensures other_words { AsksNothing (map string_bytes words.now) → AnswersOther result }
-    ensures show_words { AsksShow (map string_bytes words.now) → AnswersShow result }
-    ensures show_keys { AsksShow (map string_bytes words.now) → KeepsKeys (M.tape machine.old) (M.tape machine.new) }
-    ensures booted { IsTrue M.told → AsksBoot (map string_bytes words.now) → Booted (M.tape machine.old) (M.tape machine.new) result }
-    ensures listed { IsTrue M.told → AsksShow (map string_bytes words.now) → ShowsPack (M.tape machine.old) (M.tape machine.new) result }
-    ensures shown { IsTrue M.told → AsksNothing (map string_bytes words.now) → ShowsUsage (M.tape machine.old) (M.tape machine.new) result }
+    ensures touches { Touches (map string_bytes words.now) (M.tape machine.old) (M.tape machine.new) }
 {
     match asked_of(words) {
         Asked::Boot => boot(alloc, moment, machine),

@@ -1,11 +1,11 @@
 //! What any pack shows: its files and names, whatever stands on it.
 //!
-//! Below it stand alto_words, disk_records, label_check, leader_page, dir_slots and the definitions of pack_model. `read_pack` sweeps
-//! all labels once and follows no link. Then it works in memory: the bytes of each file by page numbers, the slots of each directory,
+//! Below it stand alto_words, disk_records, label_check, label_sweep, leader_page, dir_slots and the definitions of pack_model.
+//! `read_pack` sweeps all labels once and follows no link. Then it works in memory: the bytes of each file by page numbers, the slots of each directory,
 //! the one scan of all entries, and the names of nameless files.
-//! 1. At Ok the files and names are those of `show` of the pack, for every told pack (`read`).
-//! 2. Nothing is written (`silent`), and there are fewer sector commands than sectors (`runs`).
-//! 3. A fault of the disk is answered only where its count rose (`fault`).
+//! 1. At Ok the files and names are those of `show` of the pack, on every machine that is modelled (`read`).
+//! 2. A fault of the disk is answered only where its count rose (`cause`).
+//! 3. Nothing is written, in fewer sector commands than sectors (`looks`).
 #![tactic(auto)]
 
 mod bytes;

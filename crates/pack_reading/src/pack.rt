@@ -17,7 +17,7 @@ use crate::files::{find_files, show_files};
 use crate::scan::scan;
 use crate::settle::{list_names, settle};
 use crate::shown::Shown;
-use crate::sweep::sweep;
+use crate::sweep::sweep_all;
 use crate::swept::Swept;
 use alto_words::Memory;
 use disk_records::Disk;
@@ -47,6 +47,6 @@ pub fn read_pack<D: Disk>(alloc: Global, disk: &mut D) -> Result<Shown, ReadingE
     ensures cause { HasCause cause_of_reading (D.tape disk.old) (D.tape disk.new) result }
     ensures looks { Looks D.told (pages_of (D.tape disk.old).form - 1) (D.tape disk.old) (D.tape disk.new) }
 {
-    let swept = sweep(alloc, disk)?;
+    let swept = sweep_all(alloc, disk)?;
     Ok(show_swept(alloc, swept)?)
 }

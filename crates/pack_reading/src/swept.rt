@@ -4,15 +4,12 @@ ghost use Rattle.std.specs.Prelude.{◌≡◌, ◌+◌, ◌<◌, ◌≤◌, ℕ,
 ghost use Rattle.std.specs.Option.{option_or};
 ghost use Rattle.alto_words.specs.declared.fid.Fid.{Fid};
 ghost use Rattle.alto_words.specs.Fid.{is_fid};
-ghost use Rattle.disk_records.specs.Labels.{tag};
-ghost use Rattle.disk_records.specs.Words.{word};
 ghost use Rattle.pack_model.specs.reading.Bytes.{bytes_of};
 ghost use Rattle.pack_model.specs.reading.Leaders.{leader_of};
-ghost use Rattle.pack_model.specs.reading.Sights.{page_sight, tag_sight};
-ghost use Rattle.pack_reading.specs.Kept.{plain_leader, leader_kept, lives_kept, page_kept, KeepsSight};
+ghost use Rattle.pack_reading.specs.Kept.{plain_leader, leader_kept, lives_kept, page_kept};
 
 use alto_words::{Fid, List, Memory};
-use disk_records::{PAGE_BYTES, Page, Sector, bytes_in, page_of, words_into_bytes};
+use disk_records::{PAGE_BYTES, Page, words_into_bytes};
 use leader_page::Leader;
 use std::alloc::Global;
 use std::collections::BTreeMap;
@@ -88,7 +85,11 @@ impl Pages {
 }
 
 /// The first `count` bytes of the value of a sector.
-fn counted_bytes(alloc: Global, value: &[u16; 256], count: u16) -> Result<List<u8>, Memory>
+pub(crate) fn counted_bytes(
+    alloc: Global,
+    value: &[u16; 256],
+    count: u16,
+) -> Result<List<u8>, Memory>
     requires { count ≤ 512 }
     ensures { IfOk result (λ bytes. bytes ≡ take count (bytes_of value.now)) }
 {
@@ -98,35 +99,11 @@ fn counted_bytes(alloc: Global, value: &[u16; 256], count: u16) -> Result<List<u
 }
 
 /// What the leader page of a file says, its hints left out.
-fn leader_in(fid: Fid, value: &[u16; 256]) -> Leader
+pub(crate) fn leader_in(fid: Fid, value: &[u16; 256]) -> Leader
     ensures { result ≡ plain_leader (leader_of fid value.now) }
 {
     Leader {
         hints: [0; 10],
         ..Leader::of_file(fid, value)
-    }
-}
-
-/// Keeps a page that a sector carries.
-fn keep_page(alloc: Global, swept: &mut Swept, page: Page, sector: &Sector) -> Result<(), Memory>
-    requires { word sector.now.label 3 ≤ 512 }
-    ensures { OnOk result (KeepsSight (page_sight page.fid page.number (word sector.now.label 3) sector.now.value) swept.old swept.new) }
-{
-    if page.number == 0 {
-        let leader = leader_in(page.fid, &sector.value);
-        swept.leaders.keep(page.fid, leader)
-    } else {
-        let bytes = counted_bytes(alloc, &sector.value, bytes_in(&sector.label))?;
-        swept.pages.keep(page, bytes)
-    }
-}
-
-/// Keeps what this sector shows, whose header is right.
-pub(crate) fn keep_sector(alloc: Global, swept: &mut Swept, sector: &Sector) -> Result<(), Memory>
-    ensures { OnOk result (KeepsSight (tag_sight (tag sector.now.label) sector.now.value) swept.old swept.new) }
-{
-    match page_of(&sector.label) {
-        Some(page) => keep_page(alloc, swept, page, sector),
-        None => Ok(()),
     }
 }

@@ -1,0 +1,3 @@
+mod Showing
+mod Sweeping
+pub mod Visiting
