@@ -7,12 +7,6 @@ use disk_records::{Act, Console, ConsoleError, Disk, DiskError, Plan, Sector, Sh
 use std::alloc::{AllocError, Global};
 use std::test::Fail;
 
-const WRITE_ALL: Plan = Plan {
-    header: Act::Write,
-    label: Act::Write,
-    value: Act::Write,
-};
-
 fn blank_sectors(alloc: Global, count: u16) -> Result<Vec<Sector>, AllocError> {
     let mut sectors = Vec::new(alloc);
     for _ in 0..count {
@@ -61,7 +55,7 @@ fn too_few_sectors_make_no_machine(rt: HostRuntime) -> Result<(), Fail> {
 fn a_checked_zero_is_filled_from_the_disk(rt: HostRuntime) -> Result<(), Fail> {
     let mut machine = small_machine(rt.alloc())?;
     let mut written = filled(1, 2, 3);
-    machine.run(7, WRITE_ALL, &mut written)?;
+    machine.run(7, Plan::WRITE_ALL, &mut written)?;
 
     let mut memory = filled(0, 2, 8);
     memory.label[4] = 0;
@@ -84,7 +78,7 @@ fn a_cut_ends_between_two_records(rt: HostRuntime) -> Result<(), Fail> {
     let alloc = rt.alloc();
     let mut machine = small_machine(alloc)?;
     machine.show(b"a")?;
-    machine.run(7, WRITE_ALL, &mut filled(1, 2, 3))?;
+    machine.run(7, Plan::WRITE_ALL, &mut filled(1, 2, 3))?;
     machine.show(b"b")?;
     assert!(rt; machine.shown(alloc)?.as_slice() == b"ab".as_slice());
     assert!(rt; machine.event_count() == 5);
@@ -108,8 +102,8 @@ fn calls_fail_where_they_are_told_to(rt: HostRuntime) -> Result<(), Fail> {
     machine.fail_at(alloc, 1, 2)?;
     machine.fail_at(alloc, 2, 0)?;
     machine.fail_at(alloc, 4, 9)?;
-    machine.run(7, WRITE_ALL, &mut filled(1, 2, 3))?;
-    let failed = machine.run(8, WRITE_ALL, &mut filled(1, 2, 3));
+    machine.run(7, Plan::WRITE_ALL, &mut filled(1, 2, 3))?;
+    let failed = machine.run(8, Plan::WRITE_ALL, &mut filled(1, 2, 3));
     assert!(rt; failed == Err(DiskError::Failed));
     assert!(rt; *machine.sector(8) == filled(1, 2, 0));
 
@@ -128,7 +122,7 @@ fn memory_kept_ready_serves_a_command(rt: HostRuntime) -> Result<(), Fail> {
     let alloc = rt.alloc();
     let mut machine = small_machine(alloc)?;
     machine.reserve(alloc, 3)?;
-    machine.run(7, WRITE_ALL, &mut filled(1, 2, 3))?;
+    machine.run(7, Plan::WRITE_ALL, &mut filled(1, 2, 3))?;
     assert!(rt; machine.writes() == 3);
     let sectors = machine.into_sectors();
     assert!(rt; sectors.len() == 48);
