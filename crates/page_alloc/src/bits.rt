@@ -25,13 +25,13 @@ pub(crate) fn correct<D: Disk>(
     requires first { 1 ≤ at }
     requires place { at < pages_of (D.tape disk.old).form }
     requires sized { length table.old ≡ pages_of (D.tape disk.old).form }
-    ensures looks { Looks D.told 1 (D.tape disk.old) (D.tape disk.new) }
+    ensures free { IsTrue D.told → IfOk result (λ free. free ≡ is_free_at (pack (D.tape disk.old)) at) }
+    ensures here { IsTrue D.told → OnOk result (busy_at table.new at ≡ not (is_free_at (pack (D.tape disk.old)) at)) }
     ensures cause { HasCause cause_of_finding (D.tape disk.old) (D.tape disk.new) result }
     ensures sized { length table.new ≡ length table.old }
     ensures others { (k : ℕ) → k ≢ at → busy_at table.new k ≡ busy_at table.old k }
     ensures corrected { IsTrue D.told → IsCorrected (pack (D.tape disk.old)) table.old table.new }
-    ensures free { IsTrue D.told → IfOk result (λ free. free ≡ is_free_at (pack (D.tape disk.old)) at) }
-    ensures here { IsTrue D.told → OnOk result (busy_at table.new at ≡ not (is_free_at (pack (D.tape disk.old)) at)) }
+    ensures looks { Looks D.told 1 (D.tape disk.old) (D.tape disk.new) }
 {
     let free = is_free(disk, at, buf)?;
     table.set(at, !free);

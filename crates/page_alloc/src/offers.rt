@@ -25,13 +25,13 @@ fn is_offered_free<D: Disk>(
     requires first { 1 ≤ at }
     requires place { at < pages_of (D.tape disk.old).form }
     requires sized { length table.old ≡ pages_of (D.tape disk.old).form }
-    ensures looks { Looks D.told (cond (busy_at table.old at) 0 1) (D.tape disk.old) (D.tape disk.new) }
+    ensures free { IsTrue D.told → IfOk result (λ free. free ≡ is_offered_free (pack (D.tape disk.old)) table.old at) }
     ensures cause { HasCause cause_of_finding (D.tape disk.old) (D.tape disk.new) result }
     ensures sized { length table.new ≡ length table.old }
     ensures others { (k : ℕ) → k ≢ at → busy_at table.new k ≡ busy_at table.old k }
     ensures corrected { IsTrue D.told → IsCorrected (pack (D.tape disk.old)) table.old table.new }
-    ensures free { IsTrue D.told → IfOk result (λ free. free ≡ is_offered_free (pack (D.tape disk.old)) table.old at) }
     ensures checked { IsTrue D.told → OnOk result (IsCheckedAt (pack (D.tape disk.old)) table.old table.new at) }
+    ensures looks { Looks D.told (cond (busy_at table.old at) 0 1) (D.tape disk.old) (D.tape disk.new) }
 {
     if table.is_busy(at) {
         Ok(false)
@@ -50,14 +50,14 @@ pub(crate) fn gather_offered<D: Disk>(
     buf: &mut Sector,
 ) -> Result<Vec<u16>, AllocError>
     requires sized { length table.old ≡ pages_of (D.tape disk.old).form }
-    ensures looks { Looks D.told (length (offered_sectors table.old)) (D.tape disk.old) (D.tape disk.new) }
-    ensures cause { HasCause cause_of_finding (D.tape disk.old) (D.tape disk.new) result }
-    ensures sized { length table.new ≡ length table.old }
-    ensures corrected { IsTrue D.told → IsCorrected (pack (D.tape disk.old)) table.old table.new }
     ensures rising { IfOk result (λ found. IsRising (pages_of (D.tape disk.old).form) found.items) }
     ensures most { IfOk result (λ found. length found.items ≤ wanted) }
     ensures found { IsTrue D.told → IfOk result (λ found. found.items ≡ take wanted (offered_free (pack (D.tape disk.old)) table.old)) }
+    ensures cause { HasCause cause_of_finding (D.tape disk.old) (D.tape disk.new) result }
+    ensures sized { length table.new ≡ length table.old }
+    ensures corrected { IsTrue D.told → IsCorrected (pack (D.tape disk.old)) table.old table.new }
     ensures checked { IsTrue D.told → IfOk result (λ found. length found.items < wanted → AreChecked (pack (D.tape disk.old)) table.old table.new (pages_of (D.tape disk.old).form)) }
+    ensures looks { Looks D.told (length (offered_sectors table.old)) (D.tape disk.old) (D.tape disk.new) }
     ensures soon { IsTrue D.told → IsTrueTable (pack (D.tape disk.old)) table.old → IfOk result (λ found. (D.tape disk.new).runs ≤ (D.tape disk.old).runs + length found.items) }
 {
     let end = disk.shape().pages();

@@ -30,11 +30,11 @@ fn is_free_by_now<D: Disk>(
     requires sized { length table.old ≡ pages_of (D.tape disk.old).form }
     requires offers { length offers.now ≡ pages_of (D.tape disk.old).form }
     requires checked { IsTrue D.told → IsCheckedAt (pack (D.tape disk.old)) offers.now table.old at }
-    ensures looks { Looks D.told (cond (busy_at offers.now at) 1 0) (D.tape disk.old) (D.tape disk.new) }
+    ensures free { IsTrue D.told → IfOk result (λ free. free ≡ is_free_at (pack (D.tape disk.old)) at) }
     ensures cause { HasCause cause_of_finding (D.tape disk.old) (D.tape disk.new) result }
     ensures sized { length table.new ≡ length table.old }
     ensures corrected { IsTrue D.told → IsCorrected (pack (D.tape disk.old)) table.old table.new }
-    ensures free { IsTrue D.told → IfOk result (λ free. free ≡ is_free_at (pack (D.tape disk.old)) at) }
+    ensures looks { Looks D.told (cond (busy_at offers.now at) 1 0) (D.tape disk.old) (D.tape disk.new) }
 {
     if offers.is_busy(at) {
         correct(disk, table, at, buf)
@@ -65,14 +65,14 @@ pub(crate) fn sweep<D: Disk>(
     requires sized { length table.old ≡ pages_of (D.tape disk.old).form }
     requires offers { length offers.now ≡ pages_of (D.tape disk.old).form }
     requires checked { IsTrue D.told → AreChecked (pack (D.tape disk.old)) offers.now table.old (pages_of (D.tape disk.old).form) }
-    ensures looks { Looks D.told (length (below (is_left offers.now) (pages_of (D.tape disk.old).form))) (D.tape disk.old) (D.tape disk.new) }
-    ensures cause { HasCause cause_of_finding (D.tape disk.old) (D.tape disk.new) result }
-    ensures sized { length table.new ≡ length table.old }
-    ensures corrected { IsTrue D.told → IsCorrected (pack (D.tape disk.old)) table.old table.new }
     ensures rising { IfOk result (λ swept. IsRising (pages_of (D.tape disk.old).form) swept.lowest.items) }
     ensures count { IfOk result (λ swept. length swept.lowest.items ≡ min wanted swept.free) }
     ensures free { IsTrue D.told → IfOk result (λ swept. swept.free ≡ length (free_addresses (pack (D.tape disk.old)))) }
     ensures lowest { IsTrue D.told → IfOk result (λ swept. swept.lowest.items ≡ take wanted (free_addresses (pack (D.tape disk.old)))) }
+    ensures cause { HasCause cause_of_finding (D.tape disk.old) (D.tape disk.new) result }
+    ensures sized { length table.new ≡ length table.old }
+    ensures corrected { IsTrue D.told → IsCorrected (pack (D.tape disk.old)) table.old table.new }
+    ensures looks { Looks D.told (length (below (is_left offers.now) (pages_of (D.tape disk.old).form))) (D.tape disk.old) (D.tape disk.new) }
 {
     let end = disk.shape().pages();
     let mut lowest = Vec::with_capacity(alloc, wanted.min(end) as usize)?;

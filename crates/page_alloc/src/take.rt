@@ -24,17 +24,17 @@ fn find_free<D: Disk>(
     buf: &mut Sector,
 ) -> Result<Vec<u16>, AllocError>
     requires sized { length table.old ≡ pages_of (D.tape disk.old).form }
-    ensures looks { Looks D.told (pages_of (D.tape disk.old).form - 1) (D.tape disk.old) (D.tape disk.new) }
-    ensures cause { HasCause cause_of_alloc (D.tape disk.old) (D.tape disk.new) result }
-    ensures sized { length table.new ≡ length table.old }
-    ensures corrected { IsTrue D.told → IsCorrected (pack (D.tape disk.old)) table.old table.new }
     ensures rising { IfOk result (λ found. IsRising (pages_of (D.tape disk.old).form) found.items) }
     ensures count { IfOk result (λ found. length found.items ≡ wanted) }
-    ensures full { IfFull result (λ needed free. (needed ≡ wanted) × (free < wanted)) }
     ensures free { IsTrue D.told → IfOk result (λ found. All (λ at. is_free_at (pack (D.tape disk.old)) at ≡ true) found.items) }
+    ensures lowest { IsTrue D.told → IsTrueTable (pack (D.tape disk.old)) table.old → IfOk result (λ found. found.items ≡ take wanted (free_addresses (pack (D.tape disk.old)))) }
+    ensures cause { HasCause cause_of_alloc (D.tape disk.old) (D.tape disk.new) result }
+    ensures full { IfFull result (λ needed free. (needed ≡ wanted) × (free < wanted)) }
     ensures few { IsTrue D.told → length (free_addresses (pack (D.tape disk.old))) < wanted → OnOk result ⊥ }
     ensures counted { IsTrue D.told → IfFull result (λ needed free. free ≡ length (free_addresses (pack (D.tape disk.old)))) }
-    ensures lowest { IsTrue D.told → IsTrueTable (pack (D.tape disk.old)) table.old → IfOk result (λ found. found.items ≡ take wanted (free_addresses (pack (D.tape disk.old)))) }
+    ensures sized { length table.new ≡ length table.old }
+    ensures corrected { IsTrue D.told → IsCorrected (pack (D.tape disk.old)) table.old table.new }
+    ensures looks { Looks D.told (pages_of (D.tape disk.old).form - 1) (D.tape disk.old) (D.tape disk.new) }
     ensures soon { IsTrue D.told → IsTrueTable (pack (D.tape disk.old)) table.old → OnOk result ((D.tape disk.new).runs ≤ (D.tape disk.old).runs + wanted) }
     ensures offered { IsTrue D.told → wanted ≤ length (offered_free (pack (D.tape disk.old)) table.old) → (D.tape disk.new).runs ≤ (D.tape disk.old).runs + length (offered_sectors table.old) }
 {
@@ -57,8 +57,8 @@ fn find_free<D: Disk>(
 /// Marks these sectors as busy.
 fn mark_busy(table: &mut BitTable, taken: &[u16])
     requires { All (λ at. at < length table.old) taken.now }
-    ensures sized { length table.new ≡ length table.old }
     ensures busy { All (λ at. busy_at table.new at ≡ true) taken.now }
+    ensures sized { length table.new ≡ length table.old }
     ensures others { (at : ℕ) → (busy_at table.new at ≡ busy_at table.old at) ⊎ Contains taken.now at }
 {
     for at in taken {
