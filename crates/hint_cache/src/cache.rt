@@ -62,6 +62,7 @@ impl HintCache {
         ensures some { IfSome result (λ at. self.new ≡ record self.old { entries = noted page at self.old.entries }) }
         ensures none { IfNone result (self.new ≡ self.old) }
         ensures kept { IsCacheList self.new.entries }
+        ensures grows { self.old.refused ≤ self.new.refused }
     {
         self.pages.get(&page).copied()
     }
@@ -88,6 +89,7 @@ impl HintCache {
     pub fn forget(&mut self, page: Page)
         ensures out { self.new ≡ record self.old { entries = without page self.old.entries } }
         ensures kept { IsCacheList self.new.entries }
+        ensures grows { self.old.refused ≤ self.new.refused }
     {
         self.pages.pop(&page);
     }
