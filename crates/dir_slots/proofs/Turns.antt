@@ -3,6 +3,7 @@ use Rattle.std.proofs.Common.{◌≡◌, ℕ, ◌+◌, ◌<◌, ◌≤◌, true,
 use Rattle.std.specs.Option.{option_map, option_to_list}
 use Rattle.std.proofs.lemmas.List.{take_all, take-append-le, take-append-drop, take_more, take_more_set}
 use Rattle.pack_model.specs.reading.Slots.{all_words, slots}
+use Rattle.pack_model.specs.reading.SlotWords.{slots_at}
 use Rattle.dir_slots.specs.declared.walk.PlacedSlot.{PlacedSlot}
 use Rattle.dir_slots.specs.Walks.{Walking, IsHeld, Walked, Meets, placed_slots, slot_met}
 use Rattle.dir_slots.proofs.Heads.{slot_at-nil}
@@ -14,6 +15,11 @@ pub at_start : (walk : Walking) → walk.place ≡ 0 → IsHeld walk [] → walk
 at_start walk place held going =
     let none = slots-none [] slot_at-nil in
     walked_open [] walk [] (place ∙ ap all_words (sym none)) (ap (λ is. drop (all_words is) []) none) held (λ some. absurd (omega (arith, some))) going
+
+-- no slot stands in no words
+pub none_placed : placed_slots [] ≡ []
+unfolding slots_at
+none_placed = ap (slots_at [] 0) (slots-none [] slot_at-nil)
 
 -- ---- words that are kept
 pub word_kept : (front hand : List ℕ) (held w : ℕ) → length front ≡ 26 → held ≡ length hand → take held front ≡ take 26 hand → held < 26 → take (held + 1) (set front held w) ≡ take 26 (hand ++ w ∷ [])

@@ -45,11 +45,12 @@ impl Walk {
     ghost use Rattle.pack_model.specs.reading.Slots.{slots, all_words};
     ghost use Rattle.dir_slots.specs.Items.{IsInRange};
     ghost use Rattle.dir_slots.specs.Laws.{HasStoredName};
-    ghost use Rattle.dir_slots.specs.Walks.{Walking, Walked, Meets};
+    ghost use Rattle.dir_slots.specs.Walks.{Walking, Walked, Meets, placed_slots};
 
     /// A walk that stands before the first word of a directory.
     pub fn new() -> Walk
         ensures start { Walked [] result }
+        ensures none { placed_slots [] ≡ [] }
         ensures place { result.place ≡ 0 }
         ensures held { result.held ≡ 0 }
     {
