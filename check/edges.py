@@ -344,13 +344,17 @@ def within(size):
 
 def check_memory_limit(program):
     """Limits on memory from the least under which a small pack is shown, and a step more, up to 16 MiB more: a full pack is shown
-    whole, or the program ends with 6 and says nothing. The first limit is too small for the full pack, and the last one isn't."""
+    whole, or the program ends with 6 and says nothing. The first limit is too small for the full pack, and the last one isn't. Under
+    the first, which leaves no memory to keep what is read of a large pack, a session is the same."""
     show, (full, listing) = ["pack", "show"], packs.full_pack(203, 200)
     small = {"pack": abcde()}
     least = next((limit for limit in range(STEP, 64 * MIB, STEP) if Run(program, show, small, before=within(limit)).code == DONE), None)
     if least is None:
         failures.append("limits on memory: the program starts under none")
         return
+    large, patched = packs.pack(406, b"ABCDE"), packs.pack(406, b"ABBDE")
+    for before in [None, within(least + STEP)]:
+        Run(program, ["pack", "boot"], {"pack": large}, PATCHES, before=before).gives(DONE, REPLIES, left={"pack": patched})
     codes = []
     for limit in range(least + STEP, least + 16 * MIB, STEP):
         run = Run(program, show, {"pack": full}, before=within(limit))
@@ -361,21 +365,42 @@ def check_memory_limit(program):
         failures.append(f"limits on memory: the exit codes are {codes}, and not 6 at first and 0 at last")
 
 
+# a line that reads no sector, one that reads all labels and a page, and one that writes the page too
+READS_NOTHING = (b"bad\n", b"bad line\n")
+READS = (b"patch #3 0 -\n", b"done\n")
+WRITES = (b"patch #3 1 4242\n", b"done\n")
+
+
 def check_shrinking_file(program):
-    """The pack file becomes shorter during a session: the next line ends it, and the file stays as short."""
-    with tempfile.TemporaryDirectory() as folder:
-        file = pathlib.Path(folder) / "pack"
-        file.write_bytes(abcde())
-        with subprocess.Popen([program, file, "boot"], stdin=subprocess.PIPE, stdout=subprocess.PIPE, stderr=subprocess.PIPE) as process:
-            process.stdin.write(b"patch #3 0 -\n")
-            process.stdin.flush()
-            first = process.stdout.readline()
-            os.truncate(file, 3_300)
-            out, err = process.communicate(b"patch #3 1 4242\n", timeout=SECONDS)
-        if (process.returncode, first, out, err) != (DISK_FAILED, b"done\n", b"", b""):
-            failures.append(f"a file that shrinks: exit code {process.returncode}, {first!r}, {out!r}, {err!r}")
-        if file.read_bytes() != abcde()[:3_300]:
-            failures.append("a file that shrinks: it isn't left as it was")
+    """The pack file becomes shorter during a session, after the first line. Sectors that weren't read yet can't be read any more, nor can
+    any be written; those that were read are read from memory. The file stays as short."""
+    rows = [
+        (READS_NOTHING, 3_300, READS, DISK_FAILED),
+        (READS_NOTHING, 25_535, READS, DISK_FAILED),
+        (READS, 3_300, WRITES, DISK_FAILED),
+        (READS, 3_300, READS, DONE),
+        (READS, 0, READS, DONE),
+        # sector 6, which is written, ends at byte 3,724
+        (READS, 3_723, WRITES, DISK_FAILED),
+        (READS, 3_724, WRITES, DONE),
+    ]
+    for (first, shown), length, (second, reply), code in rows:
+        with tempfile.TemporaryDirectory() as folder:
+            file = pathlib.Path(folder) / "pack"
+            file.write_bytes(abcde())
+            with subprocess.Popen([program, file, "boot"], stdin=subprocess.PIPE, stdout=subprocess.PIPE, stderr=subprocess.PIPE) as process:
+                process.stdin.write(first)
+                process.stdin.flush()
+                replies = [process.stdout.readline()]
+                os.truncate(file, length)
+                out, err = process.communicate(second, timeout=SECONDS)
+            name = f"a file that shrinks to {length} bytes, {first!r} and {second!r}"
+            wanted = (code, [shown], reply if code == DONE else b"", b"")
+            if (process.returncode, replies, out, err) != wanted:
+                failures.append(f"{name}: exit code {process.returncode}, {replies!r}, {out!r}, {err!r}")
+            left = abcde(b"ABBDE") if (code, second) == (DONE, WRITES[0]) else abcde()
+            if file.read_bytes() != left[:length]:
+                failures.append(f"{name}: it isn't left as it should be")
 
 
 def check_closed_pipe(program):

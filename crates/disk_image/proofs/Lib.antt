@@ -4,3 +4,4 @@ mod Inverses
 mod Pairs
 mod Fronts
 mod Filling
+mod Keeping

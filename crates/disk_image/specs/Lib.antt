@@ -1,5 +1,6 @@
 pub mod Drives
 pub mod Images
+pub mod Kept
 pub mod Laws
 pub mod Machines
 pub mod Records

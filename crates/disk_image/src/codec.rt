@@ -50,17 +50,13 @@ pub(crate) fn read_sector(bytes: &[u8]) -> Sector
     ensures bytes { sector_bytes result ≡ bytes.now }
     ensures whole { IsWhole result }
 {
-    let mut header = [0; 2];
-    let mut label = [0; 8];
-    let mut value = [0; 256];
-    bytes_into_words(&bytes[..HEADER_BYTES], &mut header);
-    bytes_into_words(&bytes[HEADER_BYTES..HEADER_BYTES + LABEL_BYTES], &mut label);
-    bytes_into_words(&bytes[HEADER_BYTES + LABEL_BYTES..], &mut value);
-    Sector {
-        header,
-        label,
-        value,
-    }
+    let (header, rest) = bytes.split_at(HEADER_BYTES);
+    let (label, value) = rest.split_at(LABEL_BYTES);
+    let mut sector = Sector::ZEROS;
+    bytes_into_words(header, &mut sector.header);
+    bytes_into_words(label, &mut sector.label);
+    bytes_into_words(value, &mut sector.value);
+    sector
 }
 
 /// Writes a sector as its 532 bytes.

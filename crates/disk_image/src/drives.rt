@@ -4,10 +4,8 @@ ghost use Rattle.disk_records.specs.Addresses.{pages_of};
 ghost use Rattle.disk_image.specs.Images.{first_drive};
 ghost use Rattle.disk_image.specs.Drives.{IsOnDrive};
 
+use crate::spot::{CYLINDER_SECTORS, Spot};
 use disk_records::Shape;
-
-/// The sectors of a cylinder.
-const CYLINDER_SECTORS: u16 = 24;
 
 /// The number of sectors of each drive: all of the pack's, or half of them where it has two drives.
 pub(crate) fn drive_sectors(shape: Shape) -> u16
@@ -16,11 +14,11 @@ pub(crate) fn drive_sectors(shape: Shape) -> u16
     shape.cylinders() * CYLINDER_SECTORS
 }
 
-/// The drive on which a sector stands, and how many sectors of the drive's file are ahead of it.
+/// The drive on which a sector stands, and where.
 #[derive(Clone, Copy)]
 pub(crate) enum OnDrive {
-    First(u16),
-    Second(u16),
+    First(Spot),
+    Second(Spot),
 }
 
 /// Where the sector at this virtual address stands: those of the second drive begin at the start of its file.
@@ -30,8 +28,11 @@ pub(crate) fn drive_of(shape: Shape, at: u16) -> OnDrive
 {
     let sectors = drive_sectors(shape);
     if at < sectors {
-        OnDrive::First(at)
+        OnDrive::First(Spot { at, ahead: at })
     } else {
-        OnDrive::Second(at - sectors)
+        OnDrive::Second(Spot {
+            at,
+            ahead: at - sectors,
+        })
     }
 }

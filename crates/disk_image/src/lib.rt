@@ -12,19 +12,24 @@
 //!
 //! `FileMachine` is the edge to the outside. What a real file, terminal or pipe does is trusted and not proved, so it isn't told:
 //! no clause speaks of what it reads or shows. Proved are which drive's file a command goes to and where in it (`drive_of`), that the
-//! other drive's file isn't touched (`obey`), and of each step of a command by itself where it goes in the file, which bytes it asks for
-//! and which it hands on (`seek_to`, `read_front`, `write_back`), over any file whose position and bytes are known; that a command takes
-//! these steps in this order is tested.
+//! other drive's file isn't touched (`obey`), and of each step of a command by itself where it goes in the file, which bytes it asks for,
+//! keeps and hands on (`seek_to_cylinder`, `read_cylinder`, `seek_to`, `read_front`, `seek_to_back`, `write_back`), over any file whose
+//! position and bytes are known. Of the sectors that are kept in memory it is proved what a command reads of them, and that they are
+//! what memory holds after each command, also after one that writes (`ObeysKept`). That a command takes these steps in this order is
+//! tested.
 #![tactic(auto)]
 
 mod codec;
+mod command;
 mod drives;
 mod error;
+mod kept;
 pub mod laws;
 mod machine;
 mod pair;
 mod reach;
 mod records;
+mod spot;
 mod start;
 
 pub use codec::{decode_pack, encode_pack};
@@ -33,6 +38,8 @@ pub use machine::FileMachine;
 pub use pair::{decode_two, encode_two};
 pub use start::{Start, start_of};
 
+#[cfg(test)]
+mod kept_tests;
 #[cfg(test)]
 mod pair_tests;
 #[cfg(test)]

@@ -1,9 +1,12 @@
 // The machine over a pack file, or two of them for two drives, standard input and standard output: the edge to the outside.
 //
-// A sector command seeks to its sector once, in the file of its drive. It then makes one read call for the records before its first
-// Write, and one write call for each record that it writes, in their order and with no buffer between. That is said of calls that are
-// neither short nor interrupted by a signal, here and in records.rt: after a short one another does the rest, and an interrupted one is
-// made again.
+// What was read stays in memory (kept.rt), and a sector command on a sector that is kept makes no read call. Else it seeks to the
+// sector's cylinder, in the file of its drive, makes one read call for all of it, and keeps it. Where there is no memory for that, or
+// the cylinder can't be read whole, it seeks to the sector and makes one read call for the records before its first Write. A command
+// that begins with a Write reads nothing. Writes are never kept back: a command that writes seeks to its first Write and makes one write
+// call for each record that it writes, in their order. What is kept of the sector is changed after them, and after a fault it is kept no
+// longer. That is said of calls that are neither short nor interrupted by a signal, here and in records.rt: after a short one another
+// does the rest, and an interrupted one is made again.
 //
 // That a process which is stopped leaves a prefix of its record writes in the files, each of them whole, is a premise. It holds for one
 // that is stopped between two calls, of which the first wasn't short, and for one that a signal kills within a write call unless the
@@ -21,9 +24,11 @@ ghost use Rattle.std.specs.Io.KnownBytes.{Consumes, IsAtEnd, Keeps};
 ghost use Rattle.std.specs.IoError.{error_kind};
 ghost use Rattle.disk_records.specs.Addresses.{disks_of};
 
+use crate::command::obey_in_file;
 use crate::drives::{OnDrive, drive_of};
-use crate::records::obey_in_file;
+use crate::kept::KeptSectors;
 use disk_records::{Console, ConsoleError, Disk, DiskError, Machine, Plan, Sector, Shape, Tape};
+use std::alloc::Global;
 use std::io;
 use std::io::{BufReader, Error, ErrorKind, Input, Print, Read};
 use std::rt::Files;
@@ -33,7 +38,9 @@ const MOST_TRIES: u64 = u64::MAX;
 
 /// A machine over a pack file, or over two of them for two drives, standard input and standard output. It isn't told: contracts see its
 /// shape and its counts, and nothing of what the files, the keys and the display hold. Each fault of the outside, as a read past a file's
-/// end, raises the count of its device by one and is answered by Failed; a count stands at 2^64 - 1 once there. No call takes memory.
+/// end, raises the count of its device by one and is answered by Failed; a count stands at 2^64 - 1 once there. Each cylinder is read
+/// once, and kept in memory for all sectors of the pack that is taken as the machine is made; where that memory is refused, each sector
+/// is read from its file each time. No call takes memory, and a sector that is kept meets no fault of a read.
 #[derive(Drop)]
 pub struct FileMachine<'a, R: Files + Input + Print> {
     rt: &'a R,
@@ -41,6 +48,8 @@ pub struct FileMachine<'a, R: Files + Input + Print> {
     first: R::File,
     second: Option<R::File>,
     shape: Shape,
+    // what was read of the files and is read from memory from now on
+    kept: KeptSectors,
     // standard input, read ahead, so that a read of one key is cheap
     keys: BufReader<R::Reader>,
     // record writes that were done whole
@@ -159,12 +168,15 @@ impl<'a, R: Files + Input + Print> FileMachine<'a, R> {
     ghost use Rattle.disk_records.specs.Checks.{is_legal, is_checked};
     ghost use Rattle.disk_records.specs.Tapes.{DiskAlone};
     ghost use Rattle.disk_image.specs.Images.{first_drive};
+    ghost use Rattle.disk_image.specs.Kept.{ObeysKept};
     ghost use Rattle.disk_image.specs.Machines.{IsUntouched};
     ghost use Rattle.disk_image.specs.Records.{counted_all};
 
     /// A machine over the files of a pack of this shape, before its first call. Where the shape has two drives there is a second file.
+    /// Where no memory is left for the sectors of the pack, none will be kept.
     pub(crate) fn over(
         rt: &'a R,
+        alloc: Global,
         first: R::File,
         second: Option<R::File>,
         shape: Shape,
@@ -179,6 +191,7 @@ impl<'a, R: Files + Input + Print> FileMachine<'a, R> {
             first,
             second,
             shape,
+            kept: KeptSectors::none_of(alloc, shape),
             keys,
             writes: 0,
             disk_faults: 0,
@@ -187,8 +200,8 @@ impl<'a, R: Files + Input + Print> FileMachine<'a, R> {
         }
     }
 
-    /// Does one sector command in the file of the sector's drive, and answers the first word that differs, if one does. The other
-    /// drive's file isn't touched.
+    /// Does one sector command on a sector that is kept, or in the file of its drive, and answers the first word that differs, if one
+    /// does. The other drive's file isn't touched, and what is kept of other cylinders stays.
     fn obey(&mut self, at: u16, plan: Plan, buf: &mut Sector) -> io::Result<Option<(u8, u16)>>
         requires place { at < pages_of (⟦<FileMachine<'a, R> as Tape>⟧.tape self.old).form }
         requires legal { IsTrue (is_legal plan) }
@@ -198,11 +211,15 @@ impl<'a, R: Files + Input + Print> FileMachine<'a, R> {
         ensures wrote { IfOk result (λ found. IfNone found ((⟦<FileMachine<'a, R> as Tape>⟧.tape self.new).writes ≡ counted_all plan (⟦<FileMachine<'a, R> as Tape>⟧.tape self.old).writes)) }
         ensures first_kept { first_drive self.old.shape ≤ at → self.new.first ≡ self.old.first }
         ensures second_kept { at < first_drive self.old.shape → self.new.second ≡ self.old.second }
+        ensures kept { ObeysKept at plan buf.old buf.new self.old.kept self.new.kept result }
     {
         match drive_of(self.shape, at) {
-            OnDrive::First(at) => obey_in_file(&mut self.first, at, plan, buf, &mut self.writes),
-            OnDrive::Second(at) => match &mut self.second {
-                Some(second) => obey_in_file(second, at, plan, buf, &mut self.writes),
+            OnDrive::First(spot) => {
+                let file = &mut self.first;
+                obey_in_file(file, spot, plan, buf, &mut self.kept, &mut self.writes)
+            }
+            OnDrive::Second(spot) => match &mut self.second {
+                Some(file) => obey_in_file(file, spot, plan, buf, &mut self.kept, &mut self.writes),
                 None => unreachable!(),
             },
         }

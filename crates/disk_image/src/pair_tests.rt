@@ -1,8 +1,9 @@
 // What no clause says of two drives: rows from outside, that calls answer with ample memory, and what happens to real files.
 ghost use Rattle.std.specs.Prelude.{◌≡◌, IfOk};
 
+use crate::tests::{READ_ALL, WRITE_ALL, filled};
 use crate::{FileMachine, ImageError, ReachError, decode_two, encode_two};
-use disk_records::{Act, Disk, Plan, Sector};
+use disk_records::Disk;
 use std::alloc::{AllocError, Global};
 use std::fs;
 use std::test::Fail;
@@ -135,27 +136,6 @@ fn two_new_files_are_zeros(rt: HostRuntime) -> Result<(), Fail> {
     fs::remove_file(&rt, "second")?;
     Ok(())
 }
-
-/// A sector whose records hold one word each over and over.
-fn filled(header: u16, label: u16, value: u16) -> Sector {
-    Sector {
-        header: [header; 2],
-        label: [label; 8],
-        value: [value; 256],
-    }
-}
-
-const READ_ALL: Plan = Plan {
-    header: Act::Read,
-    label: Act::Read,
-    value: Act::Read,
-};
-
-const WRITE_ALL: Plan = Plan {
-    header: Act::Write,
-    label: Act::Write,
-    value: Act::Write,
-};
 
 #[test]
 fn sectors_of_the_second_drive_stand_in_its_file(rt: HostRuntime) -> Result<(), Fail> {

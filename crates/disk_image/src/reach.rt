@@ -33,7 +33,7 @@ impl<'a, R: Files + Input + Print> FileMachine<'a, R> {
         let (file, metadata) = open_pack(rt, path)?;
         let bytes = metadata.len();
         match shape_of_length(1, bytes) {
-            Some(shape) => Ok(FileMachine::over(rt, file, None, shape, keys)),
+            Some(shape) => Ok(FileMachine::over(rt, alloc, file, None, shape, keys)),
             None => Err(ReachError::BadLength { bytes }),
         }
     }
@@ -61,7 +61,7 @@ impl<'a, R: Files + Input + Print> FileMachine<'a, R> {
             return Err(ReachError::NoFile);
         }
         let shape = shape_of_lengths(of_one.len(), of_other.len())?;
-        Ok(FileMachine::over(rt, one, Some(other), shape, keys))
+        Ok(FileMachine::over(rt, alloc, one, Some(other), shape, keys))
     }
 
     /// A machine of one drive over a new pack file of zeros at this path. The number of cylinders is 2 to 406.
@@ -87,7 +87,7 @@ impl<'a, R: Files + Input + Print> FileMachine<'a, R> {
         };
         let keys = reader_of_keys(rt, alloc)?;
         let file = make_pack(rt, path, cylinders)?;
-        Ok(FileMachine::over(rt, file, None, shape, keys))
+        Ok(FileMachine::over(rt, alloc, file, None, shape, keys))
     }
 
     /// A machine of two drives over new pack files of zeros at these paths, that of the first drive first, with so many cylinders each,
@@ -116,7 +116,7 @@ impl<'a, R: Files + Input + Print> FileMachine<'a, R> {
         let keys = reader_of_keys(rt, alloc)?;
         let one = make_pack(rt, first, cylinders)?;
         match make_pack(rt, second, cylinders) {
-            Ok(other) => Ok(FileMachine::over(rt, one, Some(other), shape, keys)),
+            Ok(other) => Ok(FileMachine::over(rt, alloc, one, Some(other), shape, keys)),
             Err(error) => {
                 let _ = fs::remove_file(rt, first);
                 Err(error)

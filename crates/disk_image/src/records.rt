@@ -1,18 +1,20 @@
 // The records of one sector, read from a file and written to it where the file stands.
-ghost use Rattle.std.specs.Prelude.{◌≡◌, ◌↔◌, ◌+◌, ◌*◌, ◌≤◌, length, replicate, IfOk, IfSome, IfNone, OnOk, OnErr, IsTrue};
+ghost use Rattle.std.specs.Prelude.{◌≡◌, ◌+◌, ◌*◌, ◌/◌, ◌≤◌, length, replicate, IfOk, OnOk, OnErr, IsTrue};
 ghost use Rattle.std.specs.Io.KnownBytes.{Consumes, Appends};
 ghost use Rattle.std.specs.Io.Seek.{MovesTo};
-ghost use Rattle.disk_records.specs.Checks.{is_legal, is_checked};
+ghost use Rattle.disk_records.specs.Checks.{is_legal};
+ghost use Rattle.disk_image.specs.Kept.{HasRoom, ReadsCylinder};
 ghost use Rattle.disk_image.specs.Records.{read_length, front_length, front_bytes, back_bytes, written_bytes, counted, counted_all};
 ghost use Rattle.disk_records.specs.Bytes.{bytes_of};
 
 use crate::codec::{
     CYLINDER_BYTES, HEADER_BYTES, LABEL_BYTES, SECTOR_BYTES, VALUE_BYTES, read_sector,
 };
-use disk_records::{Act, Plan, Sector, first_mismatch, update_memory, words_into_bytes};
-use std::fs::OpenFile;
+use crate::kept::KeptSectors;
+use crate::spot::CYLINDER_SECTORS;
+use disk_records::{Act, Plan, Sector, words_into_bytes};
 use std::io;
-use std::io::{Error, ErrorKind, Read, Seek, SeekFrom, Write};
+use std::io::{Read, Seek, SeekFrom, Write};
 
 /// How many of a record's bytes an act reads.
 fn read_length(act: Act, bytes: usize) -> usize
@@ -34,12 +36,35 @@ fn front_length(plan: Plan) -> usize
         + (read_length(plan.label, LABEL_BYTES) + read_length(plan.value, VALUE_BYTES))
 }
 
-/// Brings a file to the first byte of the sector at this place, counted in sectors from the file's start, as at the calls below.
-pub(crate) fn seek_to<F: Seek>(file: &mut F, at: u16) -> io::Result<()>
-    ensures { MovesTo (F.stream_position file.old) (F.stream_position file.new) (at * 532) result }
+/// Brings a file to a byte of the sector that has so many sectors of the file ahead of it.
+fn seek_into<F: Seek>(file: &mut F, ahead: u16, bytes: usize) -> io::Result<()>
+    requires { bytes ≤ 532 }
+    ensures { MovesTo (F.stream_position file.old) (F.stream_position file.new) (ahead * 532 + bytes) result }
 {
-    file.seek(SeekFrom::Start(at as u64 * SECTOR_BYTES as u64))?;
+    let sector = ahead as u64 * SECTOR_BYTES as u64;
+    file.seek(SeekFrom::Start(sector + bytes as u64))?;
     Ok(())
+}
+
+/// Brings a file to the first byte of the sector with so many sectors of the file ahead of it, as at the calls below.
+pub(crate) fn seek_to<F: Seek>(file: &mut F, ahead: u16) -> io::Result<()>
+    ensures { MovesTo (F.stream_position file.old) (F.stream_position file.new) (ahead * 532) result }
+{
+    seek_into(file, ahead, 0)
+}
+
+/// Brings a file to the first byte of a sector's cylinder.
+pub(crate) fn seek_to_cylinder<F: Seek>(file: &mut F, ahead: u16) -> io::Result<()>
+    ensures { MovesTo (F.stream_position file.old) (F.stream_position file.new) (ahead / 24 * 12768) result }
+{
+    seek_into(file, ahead / CYLINDER_SECTORS * CYLINDER_SECTORS, 0)
+}
+
+/// Brings a file to the first byte of a sector that the command writes, past the records before its first Write.
+pub(crate) fn seek_to_back<F: Seek>(file: &mut F, ahead: u16, plan: Plan) -> io::Result<()>
+    ensures { MovesTo (F.stream_position file.old) (F.stream_position file.new) (ahead * 532 + front_length plan) result }
+{
+    seek_into(file, ahead, front_length(plan))
 }
 
 /// Reads the records before the first Write, by one read call, or by none where there are none. The other records are zeros.
@@ -52,48 +77,21 @@ pub(crate) fn read_front<F: Read>(file: &mut F, plan: Plan) -> io::Result<Sector
     Ok(read_sector(&bytes))
 }
 
-/// Whether a file of this many bytes has the whole of a sector.
-fn has_sector(bytes: u64, at: u16) -> bool
-    ensures { IsTrue result ↔ at * 532 + 532 ≤ bytes }
-{
-    (at as u64 + 1) * SECTOR_BYTES as u64 <= bytes
-}
-
-/// Checks that the sector of a command that writes lies in the file: an error where the file no longer has the whole of it. Records
-/// written there would make the file longer again, and those that were lost would be read as zeros. It holds for the moment of the
-/// question: another process can shorten the file after it. A command that only reads finds the end of the file by that. A Write
-/// is followed by Writes alone, so a command writes where it writes the value.
-pub(crate) fn check_in_file<F: OpenFile>(file: &F, at: u16, plan: Plan) -> io::Result<()> {
-    if plan.value != Act::Write || has_sector(file.metadata()?.len(), at) {
-        return Ok(());
-    }
-    Err(Error::from(ErrorKind::UnexpectedEof))
-}
-
-/// Does one sector command in the file of the sector's drive, and answers the first word that differs, if one does. Each record that is
-/// written raises the count of writes.
-pub(crate) fn obey_in_file<F: Read + Write + Seek + OpenFile>(
+/// Reads the cylinder that begins at the virtual address `first`, on whose first byte the file stands, by one read call, and keeps its
+/// sectors. Where that fails, or the file ends within the cylinder, all that is kept stays as it was.
+pub(crate) fn read_cylinder<F: Read>(
     file: &mut F,
-    at: u16,
-    plan: Plan,
-    buf: &mut Sector,
-    writes: &mut u64,
-) -> io::Result<Option<(u8, u16)>>
-    requires { IsTrue (is_legal plan) }
-    ensures checked { IfOk result (λ found. IfSome found (λ place. IsTrue (is_checked plan place.0))) }
-    ensures wrote { IfOk result (λ found. IfNone found (writes.new ≡ counted_all plan writes.old)) }
-    ensures rise { writes.old ≤ writes.new }
+    first: u16,
+    kept: &mut KeptSectors,
+) -> io::Result<()>
+    requires { HasRoom kept.old first }
+    ensures ok { OnOk result (ReadsCylinder first (F.remaining file.old) (F.remaining file.new) kept.old kept.new) }
+    ensures err { OnErr result (kept.new ≡ kept.old) }
 {
-    seek_to(file, at)?;
-    let disk = read_front(file, plan)?;
-    let found = first_mismatch(plan, buf, &disk);
-    if found.is_some() {
-        return Ok(found);
-    }
-    check_in_file(file, at, plan)?;
-    update_memory(plan, buf, &disk);
-    write_back(file, plan, buf, writes)?;
-    Ok(None)
+    let mut bytes = [0; CYLINDER_BYTES as usize];
+    file.read_exact(&mut bytes)?;
+    kept.keep_cylinder(first, &bytes);
+    Ok(())
 }
 
 /// Writes the records whose act is Write, in order, by one write call each, and counts those that were written.

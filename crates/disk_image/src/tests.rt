@@ -6,16 +6,15 @@ use crate::{FileMachine, ImageError, ReachError, Start, decode_pack, encode_pack
 use disk_records::{Act, Console, ConsoleError, Disk, DiskError, Plan, Sector, Tape};
 use std::alloc::{AllocError, Global};
 use std::fs;
-use std::fs::{OpenFile, OpenOptions};
 use std::test::Fail;
 
-const READ_ALL: Plan = Plan {
+pub(crate) const READ_ALL: Plan = Plan {
     header: Act::Read,
     label: Act::Read,
     value: Act::Read,
 };
 
-const WRITE_ALL: Plan = Plan {
+pub(crate) const WRITE_ALL: Plan = Plan {
     header: Act::Write,
     label: Act::Write,
     value: Act::Write,
@@ -190,7 +189,7 @@ fn a_new_file_is_zeros(rt: HostRuntime) -> Result<(), Fail> {
 }
 
 /// A sector whose records hold one word each over and over.
-fn filled(header: u16, label: u16, value: u16) -> Sector {
+pub(crate) fn filled(header: u16, label: u16, value: u16) -> Sector {
     Sector {
         header: [header; 2],
         label: [label; 8],
@@ -239,46 +238,6 @@ fn records_are_written_in_place(rt: HostRuntime) -> Result<(), Fail> {
     machine.run(47, READ_ALL, &mut memory)?;
     assert!(rt; memory == filled(0, 0, 0));
     fs::remove_file(&rt, "written")?;
-    Ok(())
-}
-
-#[test]
-fn a_file_that_shrinks_is_a_fault(rt: HostRuntime) -> Result<(), Fail> {
-    let mut machine = FileMachine::create(&rt, rt.alloc(), "shrinking", 2)?;
-    let file = OpenOptions::new().write(true).open(&rt, "shrinking")?;
-    file.set_len(25_535)?;
-    let mut memory = filled(1, 2, 3);
-    assert!(rt; machine.run(47, READ_ALL, &mut memory) == Err(DiskError::Failed));
-    machine.run(46, READ_ALL, &mut memory)?;
-    assert!(rt; memory == filled(0, 0, 0));
-    fs::remove_file(&rt, "shrinking")?;
-    Ok(())
-}
-
-#[test]
-fn a_write_at_a_lost_sector_is_a_fault(rt: HostRuntime) -> Result<(), Fail> {
-    let write_value = Plan {
-        header: Act::Check,
-        label: Act::Check,
-        value: Act::Write,
-    };
-    let mut machine = FileMachine::create(&rt, rt.alloc(), "cut", 2)?;
-    let file = OpenOptions::new().write(true).open(&rt, "cut")?;
-    // sector 2 ends at byte 1,596; sector 3 is cut short, and sector 4 lost
-    for length in [2_127u64, 1_700, 1_596] {
-        file.set_len(length)?;
-        for at in [3u16, 4, 47] {
-            for plan in [WRITE_ALL, write_value] {
-                let failed = machine.run(at, plan, &mut filled(0, 0, 7));
-                assert!(rt; failed == Err(DiskError::Failed), "{at} of {length}");
-            }
-        }
-        machine.run(2, WRITE_ALL, &mut filled(0, 0, 7))?;
-        machine.run(2, write_value, &mut filled(0, 0, 7))?;
-        assert!(rt; fs::read(&rt, "cut")?.len() as u64 == length);
-    }
-    assert_eq!(rt; machine.writes(), 12);
-    fs::remove_file(&rt, "cut")?;
     Ok(())
 }
 

@@ -245,8 +245,14 @@ const NUMBERED: Sector = Sector {
     value: [3; 256],
 };
 
-/// The calls of the file at one sector command on sector 7 of a new pack.
-fn calls_of(host: &HostRuntime, plan: Plan) -> Result<Vec<FileCall>, Fail>
+/// Whether one sector command on sector 31 of a new pack makes these calls of the file to read, and then these to write, and the same
+/// command once more makes those to write alone.
+fn makes_calls(
+    host: &HostRuntime,
+    plan: Plan,
+    read: &[FileCall],
+    written: &[FileCall],
+) -> Result<bool, Fail>
     requires { IsTrue (is_legal plan) }
 {
     let alloc = host.alloc();
@@ -254,24 +260,84 @@ fn calls_of(host: &HostRuntime, plan: Plan) -> Result<Vec<FileCall>, Fail>
     let outside = Outside::new(host, b"", Broken::Nothing, &log);
     let mut machine = FileMachine::create(&outside, alloc, "called", 2)?;
     drop(log.take_file_calls(alloc)?);
-    machine.run(7, plan, &mut ZEROS)?;
-    fs::remove_file(host, "called")?;
+    machine.run(31, plan, &mut ZEROS)?;
     let calls = log.take_file_calls(alloc)?;
-    Ok(calls)
+    machine.run(31, plan, &mut ZEROS)?;
+    let again = log.take_file_calls(alloc)?;
+    fs::remove_file(host, "called")?;
+    let mut wanted = read.to_vec(alloc)?;
+    wanted.extend_from_slice(written)?;
+    Ok(calls.as_slice() == wanted.as_slice() && again.as_slice() == written)
 }
 
 #[test]
 fn a_sector_command_is_few_calls(rt: HostRuntime) -> Result<(), Fail> {
-    let seek = FileCall::Seek(SeekFrom::Start(3_724));
+    // the second cylinder begins at byte 12,768, and its sector 7 is 3,724 bytes further on
+    let cylinder = [
+        FileCall::Seek(SeekFrom::Start(12_768)),
+        FileCall::Read(12_768),
+    ];
+    let seek = |byte| FileCall::Seek(SeekFrom::Start(byte));
     let four = FileCall::Write(4);
     let sixteen = FileCall::Write(16);
     let rest = FileCall::Write(512);
-    assert!(rt; calls_of(&rt, READ_ALL)?.as_slice() == [seek, FileCall::Read(532)].as_slice());
-    assert!(rt; calls_of(&rt, WRITE_ALL)?.as_slice() == [seek, four, sixteen, rest].as_slice());
-    let label = [seek, FileCall::Read(4), sixteen, rest];
-    assert!(rt; calls_of(&rt, WRITE_LABEL)?.as_slice() == label.as_slice());
-    let value = [seek, FileCall::Read(20), rest];
-    assert!(rt; calls_of(&rt, WRITE_VALUE)?.as_slice() == value.as_slice());
+    assert!(rt; makes_calls(&rt, READ_ALL, &cylinder, &[])?);
+    let all = [seek(16_492), four, sixteen, rest];
+    assert!(rt; makes_calls(&rt, WRITE_ALL, &[], &all)?);
+    let label = [seek(16_496), sixteen, rest];
+    assert!(rt; makes_calls(&rt, WRITE_LABEL, &cylinder, &label)?);
+    let value = [seek(16_512), rest];
+    assert!(rt; makes_calls(&rt, WRITE_VALUE, &cylinder, &value)?);
+    Ok(())
+}
+
+#[test]
+fn a_cylinder_is_read_once(rt: HostRuntime) -> Result<(), Fail> {
+    let alloc = rt.alloc();
+    let log = Log::new(alloc);
+    let outside = Outside::new(&rt, b"", Broken::Nothing, &log);
+    let mut machine = FileMachine::create(&outside, alloc, "once", 2)?;
+    drop(log.take_file_calls(alloc)?);
+    for _ in 0u8..2 {
+        for at in 0u16..48 {
+            assert!(rt; at < machine.shape().pages());
+            machine.run(at, READ_ALL, &mut ZEROS)?;
+        }
+    }
+    let calls = [
+        FileCall::Seek(SeekFrom::Start(0)),
+        FileCall::Read(12_768),
+        FileCall::Seek(SeekFrom::Start(12_768)),
+        FileCall::Read(12_768),
+    ];
+    assert!(rt; log.take_file_calls(alloc)?.as_slice() == calls.as_slice());
+    fs::remove_file(&rt, "once")?;
+    Ok(())
+}
+
+#[test]
+fn a_cylinder_that_is_cut_is_read_by_sectors(rt: HostRuntime) -> Result<(), Fail> {
+    let alloc = rt.alloc();
+    let log = Log::new(alloc);
+    let outside = Outside::new(&rt, b"", Broken::Nothing, &log);
+    let mut machine = machine_over(&rt, &outside, "cut")?;
+    let file = OpenOptions::new().write(true).open(&rt, "cut")?;
+    file.set_len(25_535)?;
+    for _ in 0u8..2 {
+        assert!(rt; 46 < machine.shape().pages());
+        drop(log.take_file_calls(alloc)?);
+        machine.run(46, READ_ALL, &mut ZEROS)?;
+        // of the cylinder a byte is missing, and none comes for it
+        let calls = [
+            FileCall::Seek(SeekFrom::Start(12_768)),
+            FileCall::Read(12_768),
+            FileCall::Read(1),
+            FileCall::Seek(SeekFrom::Start(24_472)),
+            FileCall::Read(532),
+        ];
+        assert!(rt; log.take_file_calls(alloc)?.as_slice() == calls.as_slice());
+    }
+    fs::remove_file(&rt, "cut")?;
     Ok(())
 }
 
@@ -289,6 +355,18 @@ fn first_records(at: usize, records: u64) -> u8 {
     }
 }
 
+/// The sector where so many of its records are those of `NUMBERED` and the others zeros.
+fn numbered_front(records: u64) -> Sector {
+    let mut sector = ZEROS;
+    if records > 0 {
+        sector.header = NUMBERED.header;
+    }
+    if records > 1 {
+        sector.label = NUMBERED.label;
+    }
+    sector
+}
+
 #[test]
 fn a_failing_write_leaves_the_records_ahead(rt: HostRuntime) -> Result<(), Fail> {
     let alloc = rt.alloc();
@@ -299,9 +377,16 @@ fn a_failing_write_leaves_the_records_ahead(rt: HostRuntime) -> Result<(), Fail>
         let outside = Outside::new(&rt, b"", Broken::WriteCall(failing), &log);
         let mut machine = FileMachine::reach(&outside, alloc, "failing")?;
         assert!(rt; 7 < machine.shape().pages());
+        let mut sector = NUMBERED;
+        machine.run(7, READ_ALL, &mut sector)?;
+        assert!(rt; sector == ZEROS, "{failing}");
         let failed = machine.run(7, WRITE_ALL, &mut NUMBERED);
         assert!(rt; failed == Err(DiskError::Failed), "{failing}");
         assert!(rt; machine.writes() == failing, "{failing}");
+        // the sector that was kept is read again
+        assert!(rt; 7 < machine.shape().pages());
+        machine.run(7, READ_ALL, &mut sector)?;
+        assert!(rt; sector == numbered_front(failing), "{failing}");
         let bytes = fs::read(&rt, "failing")?;
         assert!(rt; bytes.len() == 25_536, "{failing}");
         for (place, byte) in bytes.iter().enumerate() {

@@ -145,12 +145,44 @@ fn a_listing_of_two_real_files(rt: HostRuntime) -> Result<(), Fail> {
     assert!(rt; show_pack(alloc, &mut machine) == Status::Done);
     let listing = b"SysDir>Lost3. length 5\nSysDir>Lost4. length 5\n2 files\n";
     assert_eq!(rt; log.shown(alloc)?.as_slice(), listing.as_slice());
-    drop(log.take_file_calls(alloc)?);
-    // a command on the second drive goes to its place in the second file
-    assert!(rt; 50 < machine.shape().pages());
-    machine.run(50, READ_ALL, &mut ZEROS)?;
-    let calls = [FileCall::Seek(SeekFrom::Start(1_064)), FileCall::Read(532)];
-    assert!(rt; log.take_file_calls(alloc)?.as_slice() == calls.as_slice());
+    assert!(rt; stood(&rt, &pair)?);
+    Ok(())
+}
+
+#[test]
+fn a_command_on_the_second_drive_goes_to_its_file(rt: HostRuntime) -> Result<(), Fail> {
+    let alloc = rt.alloc();
+    let pair = old_pair(&rt)?;
+    place(&rt, &pair)?;
+    let log = Log::new(alloc);
+    let outside = Outside::new(&rt, b"", Broken::Nothing, &log);
+    let mut machine = FileMachine::reach_two(&outside, alloc, "first", "second")?;
+    // the leader at sector 70 stands on the first cylinder of the second file, the free sector 77 on the second, and the data page at
+    // sector 7 on the first cylinder of the first file
+    let rows = [
+        (70u16, Some(0u64), BACK_LEADER.label, [1, 0xA006]),
+        (77, Some(12_768), [0xFFFF; 8], [1, 0x500A]),
+        (7, Some(0), FRONT_DATA.label, [1, 0x7000]),
+        (50, None, BACK_DATA.label, [1, 0x2002]),
+    ];
+    for (at, seek, label, header) in rows {
+        let mut sector = ZEROS;
+        assert!(rt; at < machine.shape().pages());
+        machine.run(at, READ_ALL, &mut sector)?;
+        assert!(rt; sector.label == label, "{at}");
+        assert!(rt; sector.header == header, "{at}");
+        let calls = log.take_file_calls(alloc)?;
+        match seek {
+            Some(from) => {
+                let wanted = [
+                    FileCall::Seek(SeekFrom::Start(from)),
+                    FileCall::Read(12_768),
+                ];
+                assert!(rt; calls.as_slice() == wanted.as_slice(), "{at}");
+            }
+            None => assert!(rt; calls.is_empty(), "{at}"),
+        }
+    }
     assert!(rt; stood(&rt, &pair)?);
     Ok(())
 }

@@ -1,0 +1,148 @@
+// What no clause says of sectors that are kept: that real files are read once, and again where they have to be.
+ghost use Rattle.std.specs.Prelude.{◌≡◌, IfOk};
+
+use crate::FileMachine;
+use crate::tests::{READ_ALL, WRITE_ALL, filled};
+use disk_records::{Act, Disk, DiskError, Plan, Sector};
+use std::alloc::{AllocError, Global};
+use std::fs;
+use std::fs::{OpenFile, OpenOptions};
+use std::test::Fail;
+
+const WRITE_VALUE: Plan = Plan {
+    header: Act::Check,
+    label: Act::Check,
+    value: Act::Write,
+};
+
+/// The bytes of a file, all of them this one.
+fn bytes_of(alloc: Global, byte: u8, count: usize) -> Result<Vec<u8>, AllocError> {
+    vec![in alloc; byte; count]
+}
+
+/// What a command that reads all of a sector brings to memory.
+fn read_at<D: Disk>(machine: &mut D, at: u16) -> Result<Sector, DiskError> {
+    let mut memory = filled(9, 9, 9);
+    if at >= machine.shape().pages() {
+        return Err(DiskError::Failed);
+    }
+    machine.run(at, READ_ALL, &mut memory)?;
+    Ok(memory)
+}
+
+#[test]
+fn a_kept_sector_meets_no_fault(rt: HostRuntime) -> Result<(), Fail> {
+    let mut machine = FileMachine::create(&rt, rt.alloc(), "kept", 2)?;
+    machine.run(5, WRITE_ALL, &mut filled(1, 2, 3))?;
+    assert!(rt; read_at(&mut machine, 5) == Ok(filled(1, 2, 3)));
+    // the first cylinder was read, and the other one wasn't
+    let file = OpenOptions::new().write(true).open(&rt, "kept")?;
+    file.set_len(0)?;
+    for at in 0u16..24 {
+        let wanted = if at == 5 {
+            filled(1, 2, 3)
+        } else {
+            filled(0, 0, 0)
+        };
+        assert!(rt; read_at(&mut machine, at) == Ok(wanted), "{at}");
+    }
+    for at in 24u16..48 {
+        assert!(rt; read_at(&mut machine, at) == Err(DiskError::Failed), "{at}");
+    }
+    fs::remove_file(&rt, "kept")?;
+    Ok(())
+}
+
+#[test]
+fn a_sector_is_forgotten_after_a_fault(rt: HostRuntime) -> Result<(), Fail> {
+    let mut machine = FileMachine::create(&rt, rt.alloc(), "forgotten", 2)?;
+    machine.run(5, WRITE_ALL, &mut filled(1, 2, 3))?;
+    machine.run(6, WRITE_ALL, &mut filled(4, 5, 6))?;
+    assert!(rt; read_at(&mut machine, 5) == Ok(filled(1, 2, 3)));
+    let file = OpenOptions::new().write(true).open(&rt, "forgotten")?;
+    file.set_len(0)?;
+    let failed = machine.run(5, WRITE_VALUE, &mut filled(0, 0, 7));
+    assert!(rt; failed == Err(DiskError::Failed));
+    assert!(rt; read_at(&mut machine, 5) == Err(DiskError::Failed));
+    assert!(rt; read_at(&mut machine, 6) == Ok(filled(4, 5, 6)));
+    assert!(rt; fs::read(&rt, "forgotten")?.is_empty());
+    // now it is read again, with its cylinder
+    file.set_len(25_536)?;
+    assert!(rt; read_at(&mut machine, 5) == Ok(filled(0, 0, 0)));
+    assert!(rt; read_at(&mut machine, 6) == Ok(filled(0, 0, 0)));
+    assert_eq!(rt; machine.writes(), 6);
+    fs::remove_file(&rt, "forgotten")?;
+    Ok(())
+}
+
+#[test]
+fn a_cylinder_that_is_cut_is_not_kept(rt: HostRuntime) -> Result<(), Fail> {
+    let ones = filled(0x0101, 0x0101, 0x0101);
+    let twos = filled(0x0202, 0x0202, 0x0202);
+    let mut machine = FileMachine::create(&rt, rt.alloc(), "cut", 2)?;
+    for (byte, sector) in [(1u8, ones), (2, twos)] {
+        fs::write(&rt, "cut", bytes_of(rt.alloc(), byte, 25_535)?.as_slice())?;
+        assert!(rt; read_at(&mut machine, 47) == Err(DiskError::Failed));
+        assert!(rt; read_at(&mut machine, 46) == Ok(sector));
+        assert!(rt; read_at(&mut machine, 24) == Ok(sector));
+    }
+    // whole again it is kept
+    fs::write(&rt, "cut", bytes_of(rt.alloc(), 1, 25_536)?.as_slice())?;
+    assert!(rt; read_at(&mut machine, 47) == Ok(ones));
+    fs::write(&rt, "cut", bytes_of(rt.alloc(), 2, 25_536)?.as_slice())?;
+    assert!(rt; read_at(&mut machine, 46) == Ok(ones));
+    assert!(rt; read_at(&mut machine, 23) == Ok(twos));
+    fs::remove_file(&rt, "cut")?;
+    Ok(())
+}
+
+#[test]
+fn a_kept_sector_is_the_one_of_its_drive(rt: HostRuntime) -> Result<(), Fail> {
+    let mut machine = FileMachine::create_two(&rt, rt.alloc(), "here", "there", 2)?;
+    fs::write(&rt, "here", bytes_of(rt.alloc(), 1, 25_536)?.as_slice())?;
+    fs::write(&rt, "there", bytes_of(rt.alloc(), 2, 25_536)?.as_slice())?;
+    // both cylinders of the second drive, and then those of the first
+    for at in [95u16, 48, 0, 47] {
+        let wanted = if at < 48 { 0x0101 } else { 0x0202 };
+        let sector = filled(wanted, wanted, wanted);
+        assert!(rt; read_at(&mut machine, at) == Ok(sector), "{at}");
+    }
+    // of these one is written, and all are kept
+    machine.run(53, WRITE_ALL, &mut filled(3, 3, 3))?;
+    fs::write(&rt, "here", b"")?;
+    fs::write(&rt, "there", b"")?;
+    for at in 0u16..96 {
+        let wanted = match at {
+            0..48 => 0x0101,
+            53 => 3,
+            _ => 0x0202,
+        };
+        let sector = filled(wanted, wanted, wanted);
+        assert!(rt; read_at(&mut machine, at) == Ok(sector), "{at}");
+    }
+    fs::remove_file(&rt, "here")?;
+    fs::remove_file(&rt, "there")?;
+    Ok(())
+}
+
+#[test]
+fn a_write_at_a_lost_sector_is_a_fault(rt: HostRuntime) -> Result<(), Fail> {
+    let mut machine = FileMachine::create(&rt, rt.alloc(), "lost", 2)?;
+    let file = OpenOptions::new().write(true).open(&rt, "lost")?;
+    // sector 2 ends at byte 1,596; sector 3 is cut short, and sector 4 lost
+    for length in [2_127u64, 1_700, 1_596] {
+        file.set_len(length)?;
+        for at in [3u16, 4, 47] {
+            for plan in [WRITE_ALL, WRITE_VALUE] {
+                let failed = machine.run(at, plan, &mut filled(0, 0, 7));
+                assert!(rt; failed == Err(DiskError::Failed), "{at} of {length}");
+            }
+        }
+        machine.run(2, WRITE_ALL, &mut filled(0, 0, 7))?;
+        machine.run(2, WRITE_VALUE, &mut filled(0, 0, 7))?;
+        assert!(rt; fs::read(&rt, "lost")?.len() as u64 == length);
+    }
+    assert_eq!(rt; machine.writes(), 12);
+    fs::remove_file(&rt, "lost")?;
+    Ok(())
+}
