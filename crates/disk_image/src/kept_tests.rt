@@ -108,6 +108,7 @@ fn a_kept_sector_is_the_one_of_its_drive(rt: HostRuntime) -> Result<(), Fail> {
         assert!(rt; read_at(&mut machine, at) == Ok(sector), "{at}");
     }
     // of these one is written, and all are kept
+    assert!(rt; 53 < machine.shape().pages());
     machine.run(53, WRITE_ALL, &mut filled(3, 3, 3))?;
     fs::write(&rt, "here", b"")?;
     fs::write(&rt, "there", b"")?;

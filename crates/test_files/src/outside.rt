@@ -21,6 +21,10 @@ pub enum Broken {
     Keyboard,
     /// Files may be read and not written, however they are opened.
     Writing,
+    /// Files may be written and not read.
+    Reading,
+    /// One read call of files fails: that with this number, counted from 0 over all files.
+    ReadCall(u64),
     /// One write call of files fails: that with this number, counted from 0 over all files.
     WriteCall(u64),
     /// One opening of a file fails: that with this number, counted from 0.
@@ -94,6 +98,7 @@ pub struct Log {
     shows: Cell<u64>,
     key_reads: Cell<u64>,
     openings: Cell<u64>,
+    file_reads: Cell<u64>,
     file_writes: Cell<u64>,
     file_calls: RefCell<Vec<FileCall>>,
 }
@@ -106,6 +111,7 @@ impl Log {
             shows: Cell::new(0),
             key_reads: Cell::new(0),
             openings: Cell::new(0),
+            file_reads: Cell::new(0),
             file_writes: Cell::new(0),
             file_calls: RefCell::new(Vec::new(alloc)),
         }
@@ -157,6 +163,13 @@ impl Log {
     fn note_opening(&self) -> u64 {
         let number = self.openings.get();
         self.openings.set(number.saturating_add(1));
+        number
+    }
+
+    /// Notes a read call of a file, and answers its number among those of all files.
+    fn note_file_read(&self) -> u64 {
+        let number = self.file_reads.get();
+        self.file_reads.set(number.saturating_add(1));
         number
     }
 
@@ -249,7 +262,7 @@ impl BufRead for Keys<'_> {
 #[derive(Drop)]
 pub struct Logged<'a> {
     file: File,
-    failing: Option<u64>,
+    broken: Broken,
     calls: Calls,
     log: &'a Log,
 }
@@ -257,6 +270,10 @@ pub struct Logged<'a> {
 impl Read for Logged<'_> {
     fn read(&mut self, buf: &mut [u8]) -> io::Result<usize> {
         self.log.note_file_call(FileCall::Read(buf.len()))?;
+        let number = self.log.note_file_read();
+        if self.broken == Broken::Reading || self.broken == Broken::ReadCall(number) {
+            return Err(Error::from(ErrorKind::Other));
+        }
         let length = self.calls.next_length(buf.len())?;
         self.file.read(&mut buf[..length])
     }
@@ -266,7 +283,7 @@ impl Write for Logged<'_> {
     fn write(&mut self, buf: &[u8]) -> io::Result<usize> {
         self.log.note_file_call(FileCall::Write(buf.len()))?;
         let number = self.log.note_file_write();
-        if self.failing == Some(number) {
+        if self.broken == Broken::WriteCall(number) {
             return Err(Error::from(ErrorKind::StorageFull));
         }
         let length = self.calls.next_length(buf.len())?;
@@ -350,13 +367,9 @@ impl<'a> Files for Outside<'a> {
     type Dir = <HostRuntime as Files>::Dir;
 
     fn open_file(&self, how: &OpenOptions, path: &str) -> io::Result<Logged<'a>> {
-        let failing = match self.broken {
-            Broken::WriteCall(number) => Some(number),
-            _ => None,
-        };
         Ok(Logged {
             file: self.opened(how, path)?,
-            failing,
+            broken: self.broken,
             calls: Calls::of(self.broken),
             log: self.log,
         })

@@ -119,6 +119,9 @@ fn what_fails_and_what_stands_in_the_file(rt: HostRuntime) -> Result<(), Fail> {
         (Broken::Keyboard, Status::KeyFault, b"done\n", true, 1, 2),
         (Broken::Writing, Status::DiskFault, b"", false, 0, 1),
         (Broken::WriteCall(0), Status::DiskFault, b"", false, 0, 1),
+        (Broken::Reading, Status::DiskFault, b"", false, 0, 1),
+        // the cylinder can't be read, and its sectors can, one by one
+        (Broken::ReadCall(0), Status::Done, b"done\n", true, 1, 2),
     ];
     for (broken, ended, shown, is_written, shows, key_reads) in rows {
         let log = Log::new(alloc);
@@ -316,6 +319,32 @@ fn a_cylinder_is_read_once(rt: HostRuntime) -> Result<(), Fail> {
 }
 
 #[test]
+fn a_cylinder_that_fails_is_read_by_sectors(rt: HostRuntime) -> Result<(), Fail> {
+    let alloc = rt.alloc();
+    let log = Log::new(alloc);
+    let outside = Outside::new(&rt, b"", Broken::ReadCall(0), &log);
+    let mut machine = machine_over(&rt, &outside, "uneven")?;
+    let cylinder = [FileCall::Seek(SeekFrom::Start(0)), FileCall::Read(12_768)];
+    let sector = [FileCall::Seek(SeekFrom::Start(3_192)), FileCall::Read(532)];
+    for is_read in [false, true] {
+        assert!(rt; 6 < machine.shape().pages());
+        machine.run(6, READ_ALL, &mut ZEROS)?;
+        let calls = log.take_file_calls(alloc)?;
+        assert!(rt; calls.starts_with(&cylinder), "{is_read}");
+        // the second time all of it is read
+        let rest = if is_read { [].as_slice() } else { &sector };
+        assert!(rt; calls.ends_with(rest), "{is_read}");
+        assert!(rt; calls.len() == 2 + rest.len(), "{is_read}");
+    }
+    // and kept
+    assert!(rt; 6 < machine.shape().pages());
+    machine.run(6, READ_ALL, &mut ZEROS)?;
+    assert!(rt; log.take_file_calls(alloc)?.is_empty());
+    fs::remove_file(&rt, "uneven")?;
+    Ok(())
+}
+
+#[test]
 fn a_cylinder_that_is_cut_is_read_by_sectors(rt: HostRuntime) -> Result<(), Fail> {
     let alloc = rt.alloc();
     let log = Log::new(alloc);
@@ -357,14 +386,13 @@ fn first_records(at: usize, records: u64) -> u8 {
 
 /// The sector where so many of its records are those of `NUMBERED` and the others zeros.
 fn numbered_front(records: u64) -> Sector {
-    let mut sector = ZEROS;
-    if records > 0 {
-        sector.header = NUMBERED.header;
+    let header = if records > 0 { 1 } else { 0 };
+    let label = if records > 1 { 2 } else { 0 };
+    Sector {
+        header: [header; 2],
+        label: [label; 8],
+        value: [0; 256],
     }
-    if records > 1 {
-        sector.label = NUMBERED.label;
-    }
-    sector
 }
 
 #[test]
