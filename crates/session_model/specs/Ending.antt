@@ -1,0 +1,144 @@
+-- A whole session over typed bytes: which lines have turns, how it ends, and what it leaves.
+-- How a session ends is this project's choice.
+use Rattle.std.specs.Prelude.{◌≡◌, ◌≢◌, ◌⊎◌, ◌≤◌, ℕ, suc, Bool, true, false, map, List, [], ◌∷◌, ◌++◌, length, take, drop, Option, Some, None}
+use Rattle.disk_records.specs.declared.records.Event.{Event}
+use Rattle.disk_records.specs.declared.records.Page.{Page}
+use Rattle.disk_records.specs.declared.records.Place.{Place}
+use Rattle.disk_records.specs.declared.records.Tally.{Tally}
+use Rattle.disk_records.specs.Events.{IsFirstOf, shown_events, shown_bytes}
+use Rattle.disk_records.specs.Tapes.{Taped, pack, added}
+use Rattle.pack_model.specs.hints.Tables.{HintsTrue}
+use Rattle.pack_model.specs.operations.Operations.{Move, weight_of}
+use Rattle.pack_model.specs.reading.Model.{read_as}
+use Rattle.pack_model.specs.sessions.Lines.{lines, ended_lines, most_keys}
+use Rattle.pack_model.specs.sessions.Meanings.{session}
+use Rattle.pack_model.specs.sessions.Moves.{IsStartOf}
+use Rattle.pack_model.specs.sessions.Tallies.{no_tally, counted}
+use Rattle.pack_model.specs.sessions.Turns.{Turn, CutAt, ops_of, texts_of}
+use Rattle.pack_model.specs.states.Sound.{Sound, Clean}
+use Rattle.exec_words.specs.Built.{as_built}
+use Rattle.exec_words.specs.Grammar.{line_in}
+use Rattle.session_model.specs.Turning.{State, Cue, typed, ended, opening, HintFailing, hint_text}
+use Rattle.session_model.specs.Histories.{HistoryOf, aloud, broken_text, NoneFailedIn, ShowsRuled}
+use Rattle.session_model.specs.Answering.{count_end}
+use Rattle.session_model.specs.Opening.{system_files}
+
+-- ---- what is typed
+-- a text as a line of this program: a bad line if its verb isn't built yet
+abbrev pub cue_of : List ℕ → Cue
+cue_of text = typed (as_built (line_in text))
+
+-- each line in order, and then the end of the keys
+abbrev pub cues_of : List ℕ → List Cue
+cues_of keys = map cue_of (lines keys) ++ ended ∷ []
+
+abbrev pub typed_cues : List Cue → ℕ
+typed_cues [] = 0
+typed_cues (typed l ∷ cues) = suc (typed_cues cues)
+typed_cues (ended ∷ cues) = typed_cues cues
+
+-- ---- how a call that is a session ends
+-- The session is over and needs no scavenge, or one is needed; a device failed; out of memory.
+pub data Stop : Type 0 where
+  done : Stop
+  needs_scavenge : Stop
+  disk_failed : Stop
+  display_failed : Stop
+  keys_failed : Stop
+  no_memory : Stop
+
+-- ---- the keys that were taken
+-- the keys of these lines, each with the byte 10 that ends it
+abbrev pub keys_of : List (List ℕ) → List ℕ
+keys_of [] = []
+keys_of (line ∷ lines) = line ++ 10 ∷ keys_of lines
+
+-- those of so many lines from the first on, and none after them; or all keys that count
+abbrev pub TookLines : List ℕ → List ℕ → List ℕ → ℕ → Type 0
+TookLines old new taken count = (taken ≡ keys_of (take count (lines old))) ⊎ ((count ≡ length (lines old)) × (new ≡ drop most_keys old))
+
+-- Each line has its turn before the next one is taken to its end.
+pub record TookKeys (old new : Taped) (stop : Stop) (cues : List Cue) : Type 0 where
+  pub taken : List ℕ
+  pub split : old.keys ≡ taken ++ new.keys
+  pub none_passed : length (ended_lines taken) ≤ typed_cues cues
+  pub none_early : typed_cues cues ≤ length (lines taken)
+  pub exact : stop ≢ keys_failed → stop ≢ no_memory → TookLines old.keys new.keys taken (typed_cues cues)
+  pub at_fault : stop ≡ keys_failed → typed_cues cues ≡ length (ended_lines taken)
+  pub at_end : (cues ≡ cues_of old.keys) → new.keys ≡ drop most_keys old.keys
+
+-- ---- a session on a pack that opened
+-- Its history is over a prefix of what is typed, and shows its texts; of a turn that broke off some text is shown only where the display
+-- failed. Its tally counts the history from the limit that was given. Each crash point stands for the model, and shows it, as the
+-- ruler says.
+pub record SessionOf (moment : ℕ) (old new : Taped) (given tally : Tally) (stop : Stop) (end : Option State) : Type 0 where
+  pub cues : List Cue
+  pub turns : List (Turn Move)
+  pub history : HistoryOf aloud (pack old) (opening (pack old) moment) (added old new) cues turns end
+  pub first : IsStartOf cues (cues_of old.keys)
+  pub keys : TookKeys old new stop cues
+  pub silent : stop ≢ display_failed → broken_text history ≡ []
+  pub shown : shown_bytes (added old new) ≡ texts_of turns
+  pub tally_is : (stop ≡ disk_failed → suc new.writes ≤ count_end) → tally ≡ counted old.writes (ops_of turns) (no_tally given.limit)
+  pub cuts : (k : ℕ) → CutAt weight_of session (read_as (pack old)) (pack old) (added old new) turns k
+  pub states : (k : ℕ) → ShowsRuled (read_as (pack old)) (pack old) (added old new) turns k
+  pub unfailed : HintsTrue (pack old) → NoneFailedIn history
+
+-- ---- what it leaves
+pub record IsOver (need : Bool) (end : Option State) : Type 0 where
+  pub state : State
+  pub is : end ≡ Some state
+  pub over : state.over ≡ true
+  pub need_is : state.world.need ≡ need
+
+-- The pack is sound and clean, and read as the model of the state after the last turn; hints that were true are true.
+pub record LeavesDone (old new : Taped) (end : Option State) : Type 0 where
+  pub over : IsOver false end
+  pub sound : Sound (pack new)
+  pub clean : Clean (pack new)
+  pub reads : read_as (pack new) ≡ over.state.model
+  pub hints : HintsTrue (pack old) → HintsTrue (pack new)
+
+-- the keys failed between two turns
+pub record GoesOn (end : Option State) : Type 0 where
+  pub state : State
+  pub is : end ≡ Some state
+  pub over : state.over ≡ false
+
+abbrev pub EndsBy : Stop → Taped → Taped → Option State → Type 0
+EndsBy done old new end = LeavesDone old new end
+EndsBy needs_scavenge old new end = IsOver true end
+EndsBy disk_failed old new end = end ≡ None
+EndsBy display_failed old new end = end ≡ None
+EndsBy keys_failed old new end = GoesOn end
+EndsBy no_memory old new end = Unit {0}
+
+-- ---- on a sound and clean pack
+-- the whole text, or a prefix of it where the display failed
+abbrev pub ShowsWhy : Stop → List ℕ → List Event → Type 0
+ShowsWhy needs_scavenge text events = events ≡ shown_events text
+ShowsWhy display_failed text events = IsFirstOf (shown_events text) events
+ShowsWhy done text events = ⊥
+ShowsWhy disk_failed text events = ⊥
+ShowsWhy keys_failed text events = ⊥
+ShowsWhy no_memory text events = ⊥
+
+abbrev pub CanStop : Stop → Type 0
+CanStop disk_failed = Unit {0}
+CanStop no_memory = Unit {0}
+CanStop done = ⊥
+CanStop needs_scavenge = ⊥
+CanStop display_failed = ⊥
+CanStop keys_failed = ⊥
+
+-- no key is taken, and nothing is counted
+pub record NotBegun (old new : Taped) (given tally : Tally) : Type 0 where
+  pub keys : new.keys ≡ old.keys
+  pub tally_is : tally ≡ no_tally given.limit
+
+-- The pack opened, and this is the session. Or a hint misled on the way to a system file, and the one text says which. Or a fault or
+-- out of memory came before either, and nothing is shown or written.
+pub data BootOf (moment : ℕ) (old new : Taped) (given tally : Tally) (stop : Stop) : Type 0 where
+  opened : {end : Option State} → SessionOf moment old new given tally stop end → EndsBy stop old new end → BootOf moment old new given tally stop
+  unopened : {place : Place} {at : ℕ} {wanted : Page} {found : Option (List ℕ)} → HintFailing (pack old) [] system_files place at wanted found → ShowsWhy stop (hint_text place at wanted found) (added old new) → NotBegun old new given tally → BootOf moment old new given tally stop
+  stopped : CanStop stop → added old new ≡ [] → NotBegun old new given tally → BootOf moment old new given tally stop

@@ -1,0 +1,14 @@
+pub mod Finding
+pub mod Streams
+pub mod Worlds
+pub mod Operands
+pub mod Refusals
+pub mod Effects
+pub mod Replies
+pub mod Touched
+pub mod Turning
+pub mod Histories
+pub mod Keeping
+pub mod Answering
+pub mod Opening
+pub mod Ending

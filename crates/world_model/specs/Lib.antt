@@ -1,0 +1,4 @@
+pub mod Zones
+pub mod ZoneWords
+pub mod Levels
+pub mod StateFiles
