@@ -1,0 +1,4 @@
+mod Puts
+mod SystemWords
+mod Map
+mod Steps
