@@ -1,3 +1,3 @@
-pub mod Asking
+pub mod CommandLines
 pub mod Ends
 pub mod Running

@@ -6,7 +6,7 @@ use Rattle.alto_top.specs.Top.{AnswersTo}
 use Rattle.disk_image.specs.declared.error.ReachError.{ReachError}
 use Rattle.disk_image.specs.Machines.{IsReaching, IsReachingTwo, IsMaking}
 use Rattle.disk_image.specs.Starts.{start_of}
-use Rattle.alto.specs.Asking.{asks_help}
+use Rattle.alto.specs.CommandLines.{asks_help}
 use Rattle.alto.specs.declared.end.Stop.{Stop}
 use Rattle.alto.specs.declared.end.Stop.TheVariants as stop
 

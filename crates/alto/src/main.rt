@@ -1,20 +1,20 @@
 //! The program `alto`: boots a pack file and obeys what is typed, or lists what the pack shows.
 //!
 //! Below it stand alto_top, whose contract says what a session shows and leaves and what is listed, and disk_image, whose machine is
-//! over one or two pack files, standard input and standard output. Here are the program's edges: what its words ask for (`IsAsked`), the
-//! machine that they name (`machine_of`), the moment of a reading of the clock (`moment_of`; that it is read once is tested), how a
-//! run ends (`IsEnd`), the text of `--help` (tested), and the exit code with what is said on standard error (`end_code`,
-//! `end_complaint`).
+//! over one or two pack files, standard input and standard output. Here are the program's edges: what its words ask for
+//! (`IsCommandLine`), the machine that they name (`machine_of`), the moment of a reading of the clock (`moment_of`; that it is read
+//! once is tested), how a run ends (`IsEnd`), the text of `--help` (tested), and the exit code with what is said on standard error
+//! (`end_code`, `end_complaint`).
 #![tactic(auto)]
 
-mod asked;
 mod clock;
+mod command_line;
 mod end;
 mod help;
 mod run;
-mod session;
 #[cfg(test)]
 mod tests;
+mod top;
 
 use end::{exit_code, exit_complaint};
 use std::process::ExitCode;

@@ -1,15 +1,15 @@
-// One run of the program, over any runtime, clock and session.
+// One run of the program, over any runtime, clock and top call.
 ghost use Rattle.std.specs.Prelude.{◌≡◌, ◌↔◌, if◌then◌else◌, map, string_bytes, is_some, IfOk, IfErr, IfSome, IsErrOf};
 ghost use Rattle.disk_records.specs.Addresses.{disks_of, cylinders_of};
 ghost use Rattle.disk_image.specs.Machines.{IsUntouched};
-ghost use Rattle.alto.specs.Asking.{IsFaulty, HasRange};
+ghost use Rattle.alto.specs.CommandLines.{IsFaulty, HasRange};
 ghost use Rattle.alto.specs.Running.{IsRefusal, IsHelpStop, IsCallEnd, IsEnd};
 
-use crate::asked::{Asked, Call, asked_of, words_behind_name};
 use crate::clock::read_moment;
+use crate::command_line::{Call, CommandLine, read_command_line, words_after_name};
 use crate::end::Stop;
 use crate::help::help_text;
-use crate::session::{Alto, Session};
+use crate::top::{Alto, Runs};
 use alto_top::Status;
 use disk_image::{FileMachine, ReachError};
 use disk_records::Tape;
@@ -67,38 +67,38 @@ fn machine_of<'a, R: Files + Input + Print + AllocGlobal>(
 
 /// Does on its machine what a command line asks for, at the moment of a reading of the clock. Else only `run_words`, which hands the
 /// clock on, and `run`, which has the whole runtime, could read one here; that a run reads it once at most is tested.
-fn run_call<R: Files + Input + Print + AllocGlobal, C: Clock, S: Session>(
+fn run_call<R: Files + Input + Print + AllocGlobal, C: Clock, T: Runs>(
     rt: &R,
     clock: &C,
-    session: &S,
+    top: &T,
     call: Call<'_>,
 ) -> Result<Status, Stop>
     requires range { HasRange call }
     ensures end { IsCallEnd call.entry.cylinders (is_some call.entry.second) (map string_bytes call.entry.words.now) result }
 {
     let mut machine = machine_of(rt, call)?;
-    Ok(session.obey(rt.alloc(), call.words, read_moment(clock), &mut machine))
+    Ok(top.run(rt.alloc(), call.words, read_moment(clock), &mut machine))
 }
 
 /// Does what the words after the program's name ask for.
-pub fn run_words<R: Files + Input + Print + AllocGlobal, C: Clock, S: Session>(
+pub fn run_words<R: Files + Input + Print + AllocGlobal, C: Clock, T: Runs>(
     rt: &R,
     clock: &C,
-    session: &S,
+    top: &T,
     words: &[String],
 ) -> Result<Status, Stop>
     ensures faulty { IsErrOf result Stop.Words ↔ IsFaulty (map string_bytes words.now) }
     ensures end { IsEnd (map string_bytes words.now) result }
 {
-    match asked_of(words) {
-        Asked::Help => print_help(rt),
-        Asked::Machine(call) => run_call(rt, clock, session, call),
-        Asked::Nothing => Err(Stop::Words),
+    match read_command_line(words) {
+        CommandLine::Help => print_help(rt),
+        CommandLine::Machine(call) => run_call(rt, clock, top, call),
+        CommandLine::Nothing => Err(Stop::Words),
     }
 }
 
 /// Does what the words that the program was started with ask for.
 pub fn run<R: Runtime + AllocGlobal>(rt: &R) -> Result<Status, Stop> {
     let args = read_args(rt)?;
-    run_words(rt, rt, &Alto, words_behind_name(&args))
+    run_words(rt, rt, &Alto, words_after_name(&args))
 }

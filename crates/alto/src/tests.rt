@@ -1,10 +1,10 @@
-// What no clause says: texts, the moments of worked times, of what reading of the clock the moment of a session is, and which of two
+// What no clause says: texts, the moments of worked times, of what reading of the clock the moment of a run is, and which of two
 // pack files is that of the first drive.
 use crate::clock::moment_of;
 use crate::end::{Complaint, Stop, exit_code, exit_complaint};
 use crate::help::help_text;
 use crate::run::run_words;
-use crate::session::Session;
+use crate::top::Runs;
 use alto_top::Status;
 use disk_image::ReachError;
 use disk_records::{Act, Machine, Plan, Sector};
@@ -108,15 +108,15 @@ impl Clock for Ticking {
     }
 }
 
-/// A session that does nothing and notes its calls, with the last moment. Want of memory is what every session may answer.
+/// A top call that does nothing and notes its calls, with the last moment. Memory is what each top call may answer.
 #[derive(Drop)]
 struct Noting {
     calls: Cell<u64>,
     moment: Cell<u32>,
 }
 
-impl Session for Noting {
-    fn obey<M: Machine>(&self, _: Global, _: &[String], moment: u32, _: &mut M) -> Status {
+impl Runs for Noting {
+    fn run<M: Machine>(&self, _: Global, _: &[String], moment: u32, _: &mut M) -> Status {
         self.calls.set(self.calls.get().saturating_add(1));
         self.moment.set(moment);
         Status::Memory
@@ -133,15 +133,15 @@ fn words_of(alloc: Global, line: &str) -> Result<Vec<String>, AllocError> {
 }
 
 #[test]
-fn moment_of_a_session(rt: HostRuntime) -> Result<(), Fail> {
+fn moment_of_a_run(rt: HostRuntime) -> Result<(), Fail> {
     let clock = Ticking {
         readings: Cell::new(0),
     };
-    let session = Noting {
+    let top = Noting {
         calls: Cell::new(0),
         moment: Cell::new(0),
     };
-    // each line that has a machine reads the clock once, and the moment of its session is that of its reading
+    // each line that has a machine reads the clock once, and the moment that the top call is given is that of its reading
     let rows = [
         (
             "--cylinders 2 clocked boot",
@@ -163,10 +163,10 @@ fn moment_of_a_session(rt: HostRuntime) -> Result<(), Fail> {
     ];
     for (line, end, calls, moment) in rows {
         let words = words_of(rt.alloc(), line)?;
-        assert!(rt; run_words(&rt, &clock, &session, &words) == end, "{line}");
+        assert!(rt; run_words(&rt, &clock, &top, &words) == end, "{line}");
         assert_eq!(rt; clock.readings.get(), calls, "{line}");
-        assert_eq!(rt; session.calls.get(), calls, "{line}");
-        assert_eq!(rt; session.moment.get(), moment, "{line}");
+        assert_eq!(rt; top.calls.get(), calls, "{line}");
+        assert_eq!(rt; top.moment.get(), moment, "{line}");
     }
     fs::remove_file(&rt, "clocked")?;
     Ok(())
@@ -193,15 +193,15 @@ fn filled(word: u16) -> Sector {
     }
 }
 
-/// A session that notes the first word of the pack's first sector, and fills that sector with a word of its own.
+/// A top call that notes the first word of the pack's first sector, and fills that sector with a word of its own.
 #[derive(Drop)]
 struct Marking {
     mark: u16,
     found: Cell<Option<u16>>,
 }
 
-impl Session for Marking {
-    fn obey<M: Machine>(&self, _: Global, _: &[String], _: u32, machine: &mut M) -> Status {
+impl Runs for Marking {
+    fn run<M: Machine>(&self, _: Global, _: &[String], _: u32, machine: &mut M) -> Status {
         let mut memory = filled(9);
         if machine.shape().pages() > 0 && machine.run(0, READ_ALL, &mut memory).is_ok() {
             self.found.set(Some(memory.header[0]));
@@ -233,14 +233,14 @@ fn pack_is_the_first_drive(rt: HostRuntime) -> Result<(), Fail> {
         ("back boot", 0x0303, 0x0505, 4, 5),
     ];
     for (line, found, mark, front, back) in rows {
-        let session = Marking {
+        let top = Marking {
             mark,
             found: Cell::new(None),
         };
         let words = words_of(rt.alloc(), line)?;
-        let end = run_words(&rt, &clock, &session, &words);
+        let end = run_words(&rt, &clock, &top, &words);
         assert!(rt; end == Ok(Status::Memory), "{line}");
-        assert!(rt; session.found.get() == Some(found), "{line}");
+        assert!(rt; top.found.get() == Some(found), "{line}");
         assert!(rt; is_marked(&rt, "front", front)?, "{line}");
         assert!(rt; is_marked(&rt, "back", back)?, "{line}");
     }

@@ -1,4 +1,4 @@
-// What is done on the machine over a pack file, at a moment.
+// The top call on the machine over a pack file, at a moment.
 ghost use Rattle.std.specs.Prelude.{map, string_bytes};
 ghost use Rattle.alto_top.specs.Faults.{HasStatusCause};
 ghost use Rattle.alto_top.specs.Top.{AnswersTo};
@@ -7,10 +7,10 @@ use alto_top::{Status, alto};
 use disk_records::Machine;
 use std::alloc::Global;
 
-/// What does on a machine what the words after PACK ask for. A run has one, so that a test can see at which moment it is called.
-pub trait Session {
-    /// Does what these words ask for. `moment` is the time now, in seconds since the start of 1901.
-    fn obey<M: Machine>(
+/// Runs what the words after PACK ask for on a machine. The program's is `alto`; a test has its own, to see at which moment it is called.
+pub trait Runs {
+    /// Runs what these words ask for. `moment` is the time now, in seconds since the start of 1901.
+    fn run<M: Machine>(
         &self,
         alloc: Global,
         words: &[String],
@@ -21,11 +21,11 @@ pub trait Session {
         ensures answer { AnswersTo (map string_bytes words.now) result };
 }
 
-/// The session of the program: `alto`.
+/// The top call of the program: `alto`.
 pub struct Alto;
 
-impl Session for Alto {
-    fn obey<M: Machine>(
+impl Runs for Alto {
+    fn run<M: Machine>(
         &self,
         alloc: Global,
         words: &[String],

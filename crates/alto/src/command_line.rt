@@ -1,16 +1,16 @@
-// What the words of a command line ask for.
+// The command line that the program is started with.
 ghost use Rattle.std.specs.Prelude.{◌≡◌, ◌<◌, length, drop, map, string_bytes, IfSome};
 ghost use Rattle.std.specs.Option.{option_map};
-ghost use Rattle.alto.specs.Asking.{is_help, asks_help, path_at, IsAsked, InRange};
+ghost use Rattle.alto.specs.CommandLines.{is_help, asks_help, path_at, IsCommandLine, InRange};
 
 use disk_image::start_of;
 
-/// What all words of a command line ask of the program. The `Asked` of alto_top is what the words after PACK ask of a machine.
+/// What the words after the program's name ask of it. What those after PACK ask of a machine is for alto_top to say.
 #[derive(Clone, Copy)]
-pub enum Asked<'a> {
+pub enum CommandLine<'a> {
     /// The text of `--help`.
     Help,
-    /// A machine over a pack file, or two, and what the words after PACK ask of it.
+    /// A machine over a pack file, or two, and the words after PACK.
     Machine(Call<'a>),
     /// Nothing: they are no command line.
     Nothing,
@@ -30,7 +30,7 @@ pub struct Call<'a> {
 }
 
 /// The words after the program's name, which comes first.
-pub fn words_behind_name(args: &[String]) -> &[String]
+pub fn words_after_name(args: &[String]) -> &[String]
     ensures words { result.now ≡ drop 1 args.now }
 {
     match args {
@@ -67,21 +67,21 @@ fn path_at(words: &[String], at: Option<usize>) -> Option<&str>
     }
 }
 
-/// What the words after the program's name ask for. The `asked_of` of alto_top is given those after PACK alone.
-pub fn asked_of(words: &[String]) -> Asked<'_>
-    ensures asked { IsAsked (map string_bytes words.now) result }
+/// Reads the words after the program's name.
+pub fn read_command_line(words: &[String]) -> CommandLine<'_>
+    ensures reads { IsCommandLine (map string_bytes words.now) result }
     ensures range { InRange result }
 {
     if asks_help(words) {
-        return Asked::Help;
+        return CommandLine::Help;
     }
     match start_of(words) {
-        Some(start) => Asked::Machine(Call {
+        Some(start) => CommandLine::Machine(Call {
             cylinders: start.cylinders,
             second: path_at(words, start.second),
             path: words[start.pack].as_str(),
             words: &words[start.rest..],
         }),
-        None => Asked::Nothing,
+        None => CommandLine::Nothing,
     }
 }

@@ -4,10 +4,11 @@ use Rattle.std.specs.Option.{option_map}
 use Rattle.std.specs.Cmp.Lexicographic.{pointwise}
 use Rattle.disk_image.specs.declared.start.Start.{Start}
 use Rattle.disk_image.specs.Starts.{start_of}
-use Rattle.alto.specs.declared.asked.Asked.{Asked}
-use Rattle.alto.specs.declared.asked.Asked.TheVariants.{Help, Machine, Nothing}
-use Rattle.alto.specs.declared.asked.Call.{Call}
+use Rattle.alto.specs.declared.command_line.CommandLine.{CommandLine}
+use Rattle.alto.specs.declared.command_line.CommandLine.TheVariants.{Help, Machine, Nothing}
+use Rattle.alto.specs.declared.command_line.Call.{Call}
 
+-- the word `--help`
 abbrev pub is_help : List ℕ → Bool
 is_help word = pointwise nat_eq word (codes "--help")
 
@@ -34,16 +35,18 @@ pub record IsCall (words : List (List ℕ)) (call : Call) : Type 0 where
 abbrev pub IsFaulty : List (List ℕ) → Type 0
 IsFaulty words = (asks_help words ≡ false) × (start_of words ≡ None)
 
-abbrev pub IsAsked : List (List ℕ) → Asked → Type 0
-IsAsked words Help = asks_help words ≡ true
-IsAsked words (Machine call) = (asks_help words ≡ false) × IsCall words call
-IsAsked words Nothing = IsFaulty words
+-- what the words after the program's name ask for
+abbrev pub IsCommandLine : List (List ℕ) → CommandLine → Type 0
+IsCommandLine words Help = asks_help words ≡ true
+IsCommandLine words (Machine call) = (asks_help words ≡ false) × IsCall words call
+IsCommandLine words Nothing = IsFaulty words
 
 -- a new pack has 2 to 406 cylinders to a drive
 abbrev pub HasRange : Call → Type 0
 HasRange call = IfSome call.cylinders (λ cylinders. (2 ≤ cylinders) × (cylinders ≤ 406))
 
-abbrev pub InRange : Asked → Type 0
+-- a command line that has a machine has it in this range
+abbrev pub InRange : CommandLine → Type 0
 InRange Help = Unit {0}
 InRange (Machine call) = HasRange call
 InRange Nothing = Unit {0}
