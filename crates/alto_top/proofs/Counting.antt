@@ -7,7 +7,7 @@ use Rattle.std.specs.BTreeMap.{get}
 use Rattle.std.specs.Ordering.{nat_cmp}
 use Rattle.alto_top.specs.declared.pages.PagePlace.{PagePlace}
 use Rattle.alto_top.specs.declared.pages.Pages.{Pages}
-use Rattle.alto_top.specs.Sweeps.{kept_page, seen_held, bytes_counted, bytes_kept}
+use Rattle.alto_top.specs.Sweeps.{kept_page, seen_held, bytes_counted, length_kept}
 
 -- ---- the first of some pages
 pub counted_none : (k : ℕ) (pages : ℕ → Option (ℕ × ℕ)) → pages 0 ≡ None → bytes_counted (suc k) pages ≡ 0
@@ -106,7 +106,7 @@ held_few None = tt
 held_few (Some held) = held.most
 
 -- a byte within the pages that are kept
-pub byte_kept : (pages : Pages) (i : ℕ) → i < bytes_kept pages → (i / 512 < 65535) × IsSome (kept_page pages (i / 512 + 1))
+pub byte_kept : (pages : Pages) (i : ℕ) → i < length_kept pages → (i / 512 < 65535) × IsSome (kept_page pages (i / 512 + 1))
 byte_kept pages i within =
     let there = byte_counted 65535 (λ n. kept_page pages (suc n)) (λ n. held_few (get nat_cmp pages.held (suc n))) i within in
     (there.0, subst (λ n. IsSome (kept_page pages n)) (sym (add-one (i / 512))) there.1)

@@ -14,7 +14,7 @@ use Rattle.pack_laws.proofs.Joining.{most_is, continue, joined-zero, joined-suc}
 use Rattle.pack_laws.proofs.Paging.{file_bytes-joined}
 use Rattle.alto_top.proofs.Counting.{counted_none, counted_last, counted_more}
 use Rattle.alto_top.specs.declared.pages.Pages.{Pages}
-use Rattle.alto_top.specs.Sweeps.{held_at, count_of, kept_page, HoldsPages, bytes_counted, bytes_kept}
+use Rattle.alto_top.specs.Sweeps.{held_at, count_of, kept_page, HoldsPages, bytes_counted, length_kept}
 
 -- the place of a page that is held
 place_case : (b : Bool) (at count : ℕ) (h : Option (ℕ × ℕ)) (q : Option ℕ) → option_map (λ h. h.0) h ≡ q → option_map (λ h. h.0) (option_or (cond b (Some (at, count)) None) h) ≡ option_or (cond b (Some at) None) q
@@ -71,7 +71,7 @@ module _ (p : Pack) (f : Fid) (pages : Pages) (holds_pages : HoldsPages (sights 
   kept_place n = ap (option_map (λ h. h.0)) (holds_pages n) ∙ held_place f (suc n) (numbered 0 (sights p))
 
   -- the counted bytes are those of the file
-  pub kept_length : bytes_kept pages ≡ length (file_bytes (sights p) f)
+  pub kept_length : length_kept pages ≡ length (file_bytes (sights p) f)
   kept_length =
       counted-joined 65535 (λ n. kept_page pages (suc n)) (page (sights p) f) (λ n. ap (option_map (λ h. h.1)) (holds_pages n) ∙ held_count f n 0 (sights p))
       ∙ ap (λ k. length (joined k (page (sights p) f))) (sym most_is)

@@ -1,4 +1,4 @@
--- The size of a file, found among files that rise by full name.
+-- The length of a file, found among files that rise by full name.
 use Rattle.std.proofs.Common.{◌≡◌, ℕ, zero, suc, ◌<◌, ◌≤◌, cond, List, [], ◌∷◌, map, Option, Some, None, inl, inr, refl, sym, ap, ◌∙◌, subst, arith, get_or}
 use Rattle.std.specs.Prelude.{T, length}
 use Rattle.std.specs.declared.cmp.Ordering.{Ordering}
@@ -16,7 +16,7 @@ use Rattle.pack_model.specs.showing.Listing.{size_of}
 use Rattle.pack_laws.proofs.Keys.{fid_total, fid_same}
 use Rattle.pack_reading.specs.declared.shown.ShownFile.{ShownFile}
 use Rattle.pack_reading.specs.Shows.{shown_file}
-use Rattle.alto_top.specs.Looking.{file_size}
+use Rattle.alto_top.specs.Looking.{file_length}
 use Rattle.alto_top.proofs.Looking.{lower, sorted_parts}
 
 -- ---- the comparisons rise
@@ -66,16 +66,16 @@ past Greater x o p is apart = is
 record At (f : Fid) (es : List (Fid × Seen)) (file : ShownFile) : Type 0 where
   x : Seen
   found : find fid_cmp f es ≡ Some x
-  size : file_size file ≡ size_of (Some x)
+  length : file_length file ≡ size_of (Some x)
 
 found_at : (es : List (Fid × Seen)) → T (is_sorted fid_cmp es) → (f : Fid) (i : ℕ) (d : ShownFile) → i < length (map shown_file es) → fid_cmp (get_or (map shown_file es) i d).fid f ≡ Equal → At f es (get_or (map shown_file es) i d)
 found_at [] sorted f i d within same = absurd (omega (arith, within))
-found_at (e ∷ es) sorted f zero d within same = record { x = e.1; found = ap (λ r. cond (is_eq r) (Some e.1) (find fid_cmp f es)) (tie_back f e.0 same); size = refl }
+found_at (e ∷ es) sorted f zero d within same = record { x = e.1; found = ap (λ r. cond (is_eq r) (Some e.1) (find fid_cmp f es)) (tie_back f e.0 same); length = refl }
 found_at (e ∷ es) sorted f (suc i) d within same =
     let parts = sorted_parts (below_all fid_cmp e.0 es) (is_sorted fid_cmp es) sorted in
     let rest = found_at es parts.1 f i d (omega (arith, within)) same in
     let apart : fid_cmp f e.0 ≡ Equal → ⊥ = λ tie. let none : None ≡ Some rest.x = sym (lower e.0 es parts.0) ∙ ap (λ q. find fid_cmp q es) (sym (fid_same f e.0 tie)) ∙ rest.found in cc in
-    record { x = rest.x; found = past (fid_cmp f e.0) e.1 (find fid_cmp f es) (Some rest.x) rest.found apart; size = rest.size }
+    record { x = rest.x; found = past (fid_cmp f e.0) e.1 (find fid_cmp f es) (Some rest.x) rest.found apart; length = rest.length }
 
 none_at : (es : List (Fid × Seen)) (f : Fid) → ((i : ℕ) (d : ShownFile) → i < length (map shown_file es) → fid_cmp (get_or (map shown_file es) i d).fid f ≡ Equal → ⊥) → find fid_cmp f es ≡ None
 none_at [] f apart = refl
@@ -85,13 +85,13 @@ none_at (e ∷ es) f apart =
     (λ tie. apart 0 (shown_file e) (omega arith) (tie_back e.0 f tie))
 
 -- ---- the search
-pub size_at : (v : View) (f : Fid) (files : List ShownFile) (i : ℕ) → files ≡ map shown_file (entries v.files) → i < length files → HoldsAt (λ y. fid_cmp y.fid f ≡ Equal) files i → (d : ShownFile) → file_size (get_or files i d) ≡ size_of (get v.files f)
-size_at v f files i are within same d =
+pub length_at : (v : View) (f : Fid) (files : List ShownFile) (i : ℕ) → files ≡ map shown_file (entries v.files) → i < length files → HoldsAt (λ y. fid_cmp y.fid f ≡ Equal) files i → (d : ShownFile) → file_length (get_or files i d) ≡ size_of (get v.files f)
+length_at v f files i are within same d =
     let at = found_at (entries v.files) (entries_sorted v.files) f i d (subst (λ l. i < length l) are within) (subst (λ l. fid_cmp (get_or l i d).fid f ≡ Equal) are (same d)) in
-    ap (λ l. file_size (get_or l i d)) are ∙ at.size ∙ ap size_of (sym (get-entries v.files f ∙ at.found))
+    ap (λ l. file_length (get_or l i d)) are ∙ at.length ∙ ap size_of (sym (get-entries v.files f ∙ at.found))
 
-pub size_absent : (v : View) (f : Fid) (files : List ShownFile) (i : ℕ) → files ≡ map shown_file (entries v.files) → (IsNonDecreasingBy (λ y. ordering_index (fid_cmp y.fid f)) files → IsPartitionPoint (λ y. fid_cmp y.fid f ≡ Less) (λ y. fid_cmp y.fid f ≡ Greater) files i) → None ≡ size_of (get v.files f)
-size_absent v f files i are parted =
+pub length_absent : (v : View) (f : Fid) (files : List ShownFile) (i : ℕ) → files ≡ map shown_file (entries v.files) → (IsNonDecreasingBy (λ y. ordering_index (fid_cmp y.fid f)) files → IsPartitionPoint (λ y. fid_cmp y.fid f ≡ Less) (λ y. fid_cmp y.fid f ≡ Greater) files i) → None ≡ size_of (get v.files f)
+length_absent v f files i are parted =
     let parts = parted (subst (IsNonDecreasingBy (λ y. ordering_index (fid_cmp y.fid f))) (sym are) (comparisons_rise f (entries v.files) (entries_sorted v.files))) in
     let apart : (j : ℕ) (d : ShownFile) → j < length files → fid_cmp (get_or files j d).fid f ≡ Equal → ⊥ = λ j d within tie. elim (cases_lt j i) [
       | inl before ↦ let h : Equal ≡ Less = sym tie ∙ parts.0 j d (omega arith) before in cc

@@ -14,7 +14,7 @@ pub mod Looking
 pub mod Obeying
 pub mod Patching
 pub mod Rows
-pub mod Sizes
+pub mod Lengths
 pub mod SoFar
 pub mod Statuses
 pub mod Sweeping

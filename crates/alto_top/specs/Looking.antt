@@ -1,4 +1,4 @@
--- Lines of the listing, and what is looked up for them.
+-- Rows of the listing, and what is looked up for them.
 use Rattle.std.specs.Prelude.{◌≡◌, ℕ, length, map, List, [], ◌∷◌, Option, Some, None, cond}
 use Rattle.std.specs.Option.{option_map, option_or}
 use Rattle.alto_words.specs.declared.fid.Fid.{Fid}
@@ -7,7 +7,7 @@ use Rattle.pack_model.specs.showing.View.{View}
 use Rattle.pack_model.specs.showing.Listing.{Listed, home_name, shown_files}
 use Rattle.pack_reading.specs.declared.shown.ShownFile.{ShownFile}
 use Rattle.pack_reading.specs.Shows.{naming, shown_file}
-use Rattle.alto_top.specs.declared.line.Line.{Line}
+use Rattle.alto_top.specs.declared.row.Row.{Row}
 
 -- what the first item of a file says
 abbrev pub first_of : {X V : Type 0} → (X → Fid) → (X → V) → List X → Fid → Option V
@@ -15,13 +15,14 @@ first_of key value [] f = None
 first_of key value (x ∷ xs) f = option_or (cond (is_fid f (key x)) (Some (value x)) None) (first_of key value xs f)
 
 -- the length of a file, none of a directory
-abbrev pub file_size : ShownFile → Option ℕ
-file_size x = option_map (λ bytes. length bytes) x.bytes
+abbrev pub file_length : ShownFile → Option ℕ
+file_length x = option_map (λ bytes. length bytes) x.bytes
 
 -- the names of directories and the files, as a view has them
 pub record Knows (name : Fid → Option (List ℕ)) (files : List ShownFile) (v : View) : Type 0 where
   pub names : (f : Fid) → name f ≡ home_name v f
   pub files_are : files ≡ map shown_file (shown_files v)
 
-abbrev pub listed_in : Line → Listed
-listed_in l = record { dir_name = l.dir_name; naming = naming l.named; size = l.size }
+-- what the model has in a row
+abbrev pub listed_in : Row → Listed
+listed_in l = record { dir_name = l.dir_name; naming = naming l.named; size = l.length }

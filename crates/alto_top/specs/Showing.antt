@@ -16,18 +16,21 @@ use Rattle.alto_top.specs.declared.status.Status.TheVariants as status
 abbrev pub stem : List ℕ → List ℕ
 stem name = take (length name - 1) name
 
+-- the directory of a row; SysDir has no name there
 abbrev pub dir_text : Option (List ℕ) → List ℕ
 dir_text None = codes "SysDir"
 dir_text (Some name) = stem name
 
 -- a length in bytes; that of a directory isn't told
-abbrev pub size_text : Option ℕ → List ℕ
-size_text None = codes " directory"
-size_text (Some size) = codes " length " ++ decimal size
+abbrev pub length_text : Option ℕ → List ℕ
+length_text None = codes " directory"
+length_text (Some n) = codes " length " ++ decimal n
 
+-- one line
 abbrev pub line_text : Listed → List ℕ
-line_text l = dir_text l.dir_name ++ codes ">" ++ l.naming.name ++ size_text l.size ++ (10 ∷ [])
+line_text l = dir_text l.dir_name ++ codes ">" ++ l.naming.name ++ length_text l.size ++ (10 ∷ [])
 
+-- the last line
 abbrev pub count_text : ℕ → List ℕ
 count_text n = decimal n ++ codes " files\n"
 

@@ -55,8 +55,8 @@ bytes_counted (suc k) pages =
     ]
 
 -- the same of the pages that are kept
-abbrev pub bytes_kept : Pages → ℕ
-bytes_kept pages = bytes_counted 65535 (λ n. kept_page pages (suc n))
+abbrev pub length_kept : Pages → ℕ
+length_kept pages = bytes_counted 65535 (λ n. kept_page pages (suc n))
 
 -- each page that is kept is in a sector below `end` that isn't the first
 abbrev pub AreWithin : ℕ → Pages → Type 0

@@ -17,29 +17,30 @@ AsksBoot words = words ≡ codes "boot" ∷ []
 abbrev pub AsksShow : List (List ℕ) → Type 0
 AsksShow words = words ≡ codes "show" ∷ []
 
--- neither
-abbrev pub AsksNothing : List (List ℕ) → Type 0
-AsksNothing words = (AsksBoot words → ⊥) × (AsksShow words → ⊥)
+-- any other words: they ask for `usage`
+abbrev pub AsksUsage : List (List ℕ) → Type 0
+AsksUsage words = (AsksBoot words → ⊥) × (AsksShow words → ⊥)
 
+-- what the words ask for
 abbrev pub AsksFor : List (List ℕ) → Asked → Type 0
 AsksFor words Boot = AsksBoot words
 AsksFor words Show = AsksShow words
-AsksFor words Nothing = AsksNothing words
+AsksFor words Nothing = AsksUsage words
 
 abbrev pub usage_text : List ℕ
 usage_text = codes "usage\n"
 
--- the answers to words that ask for nothing
-abbrev pub AnswersOther : Status → Type 0
-AnswersOther status.Done = ⊥
-AnswersOther status.Usage = Unit {0}
-AnswersOther status.DiskFault = ⊥
-AnswersOther status.KeyFault = ⊥
-AnswersOther status.DisplayFault = Unit {0}
-AnswersOther status.Memory = Unit {0}
+-- the answers to words that ask for `usage`
+abbrev pub AnswersUsage : Status → Type 0
+AnswersUsage status.Done = ⊥
+AnswersUsage status.Usage = Unit {0}
+AnswersUsage status.DiskFault = ⊥
+AnswersUsage status.KeyFault = ⊥
+AnswersUsage status.DisplayFault = Unit {0}
+AnswersUsage status.Memory = Unit {0}
 
--- Words that ask for nothing: `usage` is shown, some first bytes of it where the display failed, none where memory was wanting,
--- and nothing else happens.
+-- Words that ask for `usage`: it is shown, a prefix of it if the display failed, nothing if no memory was left, and nothing
+-- else happens.
 pub record ShowsUsage (old new : Taped) (answer : Status) : Type 0 where
   pub some : IsFirstOf (shown_events usage_text) (added old new)
   pub usage : answer ≡ status.Usage → added old new ≡ shown_events usage_text
@@ -48,22 +49,22 @@ pub record ShowsUsage (old new : Taped) (answer : Status) : Type 0 where
   pub runs : new.runs ≡ old.runs
 
 -- ---- the top call, by the words
--- Usage is answered to words that ask for nothing alone, Done to `boot` and `show` alone; and what `show`, and words that ask for nothing,
--- can answer.
+-- Usage is answered only to words that ask for it, Done only to `boot` and `show`; and what `show`, and words that ask for `usage`, can
+-- answer.
 pub record AnswersTo (words : List (List ℕ)) (answer : Status) : Type 0 where
-  pub usage : answer ≡ status.Usage → AsksNothing words
+  pub usage : answer ≡ status.Usage → AsksUsage words
   pub done : answer ≡ status.Done → AsksBoot words ⊎ AsksShow words
   pub show : AsksShow words → AnswersShow answer
-  pub others : AsksNothing words → AnswersOther answer
+  pub others : AsksUsage words → AnswersUsage answer
 
--- no event is taken back; `show` takes no key, and words that ask for nothing touch the display alone
+-- no event is taken back; `show` takes no key, and words that ask for `usage` touch the display alone
 pub record Touches (words : List (List ℕ)) (old new : Taped) : Type 0 where
   pub grown : Grown old new
   pub show : AsksShow words → KeepsKeys old new
-  pub others : AsksNothing words → ShowAlone old new
+  pub others : AsksUsage words → ShowAlone old new
 
 -- On a machine that is modelled: `boot` is a session, `show` shows what the pack shows, and other words show `usage`.
 pub record DoesAsAsked (words : List (List ℕ)) (old new : Taped) (answer : Status) : Type 0 where
   pub boot : AsksBoot words → Booted old new answer
   pub show : AsksShow words → ShowsPack old new answer
-  pub others : AsksNothing words → ShowsUsage old new answer
+  pub others : AsksUsage words → ShowsUsage old new answer

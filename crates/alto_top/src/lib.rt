@@ -16,12 +16,12 @@
 #![tactic(auto)]
 
 mod keys;
-mod line;
 mod listing;
 mod pages;
 mod patch;
 mod put;
 mod reply;
+mod row;
 mod session;
 mod show;
 mod status;

@@ -1,4 +1,4 @@
-// The listing of what a pack shows: one line for each name, and then the number of files.
+// The listing of what a pack shows: one row for each name, and then the number of files.
 ghost use Rattle.std.specs.Prelude.{◌≡◌, ◌++◌, ℕ, cond, length, map, Some, None, IfOk, OnOk};
 ghost use Rattle.std.specs.List.{flat_map};
 ghost use Rattle.std.specs.Option.{option_or};
@@ -8,11 +8,11 @@ ghost use Rattle.alto_words.specs.Fid.{fid_cmp, is_fid};
 ghost use Rattle.pack_model.specs.showing.View.{View};
 ghost use Rattle.pack_model.specs.showing.Listing.{line_of, listed_cmp, in_order, size_of, shown_files};
 ghost use Rattle.pack_reading.specs.Shows.{naming, shown_file, ShowsView};
-ghost use Rattle.alto_top.specs.Looking.{first_of, file_size, Knows, listed_in};
+ghost use Rattle.alto_top.specs.Looking.{first_of, file_length, Knows, listed_in};
 ghost use Rattle.std.specs.FinMap.{get as look_up};
-ghost use Rattle.alto_top.specs.Showing.{stem, dir_text, size_text, line_text, count_text, listing_text};
+ghost use Rattle.alto_top.specs.Showing.{stem, dir_text, length_text, line_text, count_text, listing_text};
 
-use crate::line::Line;
+use crate::row::Row;
 use alto_words::{Fid, Memory, Name, push_number};
 use pack_reading::{Shown, ShownFile, ShownName};
 use std::alloc::Global;
@@ -41,7 +41,7 @@ fn names_by_file(alloc: Global, names: &[ShownName]) -> Result<BTreeMap<Fid, Nam
 
 /// The length of a file in bytes; None of a directory.
 fn length_of(file: &ShownFile) -> Option<u64>
-    ensures { result ≡ file_size file.now }
+    ensures { result ≡ file_length file.now }
 {
     file.bytes
         .as_ref()
@@ -50,7 +50,7 @@ fn length_of(file: &ShownFile) -> Option<u64>
 
 /// The length in bytes of the file of this full name among these, which rise by full name; None of a directory, and where it
 /// isn't there.
-fn size_of(files: &[ShownFile], fid: Fid) -> Option<u64>
+fn length_in(files: &[ShownFile], fid: Fid) -> Option<u64>
     ensures { (v : View) → files.now ≡ map shown_file (shown_files v) → result ≡ size_of (look_up v.files fid) }
 {
     match files.binary_search_by_key(&fid, |file| file.fid) {
@@ -59,45 +59,45 @@ fn size_of(files: &[ShownFile], fid: Fid) -> Option<u64>
     }
 }
 
-/// The line of a name.
-fn line_of(names: &BTreeMap<Fid, Name>, files: &[ShownFile], named: ShownName) -> Line
+/// The row of a name.
+fn row_of(names: &BTreeMap<Fid, Name>, files: &[ShownFile], named: ShownName) -> Row
     ensures { (v : View) → Knows (get fid_cmp names.now) files.now v → listed_in result ≡ line_of v (naming named) }
 {
-    Line {
+    Row {
         dir_name: names.get(&named.directory).copied(),
         named,
-        size: size_of(files, named.fid),
+        length: length_in(files, named.fid),
     }
 }
 
-/// The lines of these names in the order in which they are shown.
-fn lines_of(
+/// The rows of these names in the order in which they are shown.
+fn rows_of(
     alloc: Global,
     by_file: &BTreeMap<Fid, Name>,
     files: &[ShownFile],
     names: &[ShownName],
-) -> Result<BTreeSet<Line>, Memory>
-    ensures { (v : View) → Knows (get fid_cmp by_file.now) files.now v → IfOk result (λ lines. map listed_in lines.keys ≡ in_order listed_cmp (map (λ n. line_of v (naming n)) names.now)) }
+) -> Result<BTreeSet<Row>, Memory>
+    ensures { (v : View) → Knows (get fid_cmp by_file.now) files.now v → IfOk result (λ rows. map listed_in rows.keys ≡ in_order listed_cmp (map (λ n. line_of v (naming n)) names.now)) }
 {
-    let mut lines = BTreeSet::new(alloc);
+    let mut rows = BTreeSet::new(alloc);
     // from the last name to the first, as the model's `in_order` inserts them
     for named in names.iter().rev() {
-        lines.insert(line_of(by_file, files, *named))?;
+        rows.insert(row_of(by_file, files, *named))?;
     }
-    Ok(lines)
+    Ok(rows)
 }
 
-/// Appends a line to a text.
-fn push_line(alloc: Global, text: &mut Vec<u8>, line: &Line) -> Result<(), Memory>
-    ensures { OnOk result (text.new.items ≡ text.old.items ++ line_text (listed_in line.now)) }
+/// Appends a row to a text, as one line.
+fn push_row(alloc: Global, text: &mut Vec<u8>, row: &Row) -> Result<(), Memory>
+    ensures { OnOk result (text.new.items ≡ text.old.items ++ line_text (listed_in row.now)) }
 {
-    match &line.dir_name {
+    match &row.dir_name {
         Some(name) => text.extend_from_slice(without_dot(name))?,
         None => text.extend_from_slice(b"SysDir")?,
     }
     text.extend_from_slice(b">")?;
-    text.extend_from_slice(line.named.name.as_bytes())?;
-    push_size(alloc, text, line.size)?;
+    text.extend_from_slice(row.named.name.as_bytes())?;
+    push_length(alloc, text, row.length)?;
     text.extend_from_slice(b"\n")?;
     Ok(())
 }
@@ -111,26 +111,26 @@ fn without_dot(name: &Name) -> &[u8]
 }
 
 /// Appends the length of a file, or the word `directory`.
-fn push_size(alloc: Global, text: &mut Vec<u8>, size: Option<u64>) -> Result<(), Memory>
-    ensures { OnOk result (text.new.items ≡ text.old.items ++ size_text size) }
+fn push_length(alloc: Global, text: &mut Vec<u8>, length: Option<u64>) -> Result<(), Memory>
+    ensures { OnOk result (text.new.items ≡ text.old.items ++ length_text length) }
 {
-    match size {
-        Some(size) => {
+    match length {
+        Some(length) => {
             text.extend_from_slice(b" length ")?;
-            push_number(alloc, text, size)?;
+            push_number(alloc, text, length)?;
         }
         None => text.extend_from_slice(b" directory")?,
     }
     Ok(())
 }
 
-/// The lines as a text.
-fn text_of_lines(alloc: Global, lines: &BTreeSet<Line>) -> Result<Vec<u8>, Memory>
-    ensures { IfOk result (λ text. text.items ≡ flat_map (λ l. line_text (listed_in l)) lines.now.keys) }
+/// The rows as a text.
+fn text_of_rows(alloc: Global, rows: &BTreeSet<Row>) -> Result<Vec<u8>, Memory>
+    ensures { IfOk result (λ text. text.items ≡ flat_map (λ r. line_text (listed_in r)) rows.now.keys) }
 {
     let mut text = Vec::new(alloc);
-    for line in lines {
-        push_line(alloc, &mut text, line)?;
+    for row in rows {
+        push_row(alloc, &mut text, row)?;
     }
     Ok(text)
 }
@@ -144,18 +144,18 @@ fn push_count(alloc: Global, text: &mut Vec<u8>, count: usize) -> Result<(), Mem
     Ok(())
 }
 
-/// The listing of what is shown: a line for each name, SysDir's names first, and then the number of files.
+/// The listing of what is shown: a row for each name, SysDir's names first, and then the number of files.
 pub fn listing_of(alloc: Global, shown: &Shown) -> Result<Vec<u8>, Memory>
     ensures { (v : View) → ShowsView shown.now v → IfOk result (λ text. text.items ≡ listing_text v) }
 {
     let by_file = names_by_file(alloc, shown.names.as_slice())?;
-    let lines = lines_of(
+    let rows = rows_of(
         alloc,
         &by_file,
         shown.files.as_slice(),
         shown.names.as_slice(),
     )?;
-    let mut text = text_of_lines(alloc, &lines)?;
+    let mut text = text_of_rows(alloc, &rows)?;
     push_count(alloc, &mut text, shown.files.as_slice().len())?;
     Ok(text)
 }

@@ -26,7 +26,7 @@ impl Pages {
     ghost use Rattle.std.specs.Prelude.{ℕ, ◌+◌, ◌*◌, None, OnOk, IfErr, IsSome};
     ghost use Rattle.std.specs.Option.{option_map, option_or};
     ghost use Rattle.std.specs.Prelude.{◌==◌, cond, Some};
-    ghost use Rattle.alto_top.specs.Sweeps.{kept_page, seen_held, bytes_kept};
+    ghost use Rattle.alto_top.specs.Sweeps.{kept_page, seen_held, length_kept};
 
     /// No pages. It takes no memory.
     pub fn new(alloc: Global) -> Pages
@@ -56,7 +56,7 @@ impl Pages {
     /// The length of the file in bytes: those of its pages up to and with the first that isn't full, or up to the first that
     /// is missing.
     pub fn length(&self) -> u32
-        ensures counted { result ≡ bytes_kept self.now }
+        ensures counted { result ≡ length_kept self.now }
         ensures most { result ≤ 65535 * 512 }
     {
         let mut length = 0;

@@ -1,4 +1,4 @@
-// A line of the listing, and the order of lines.
+// A row of the listing, and the order of rows.
 ghost use Rattle.std.specs.Prelude.{◌≡◌};
 ghost use Rattle.std.specs.Option.{option_cmp};
 ghost use Rattle.std.specs.Ordering.{then_cmp, on, eq_by_cmp, as_partial_cmp};
@@ -7,57 +7,57 @@ ghost use Rattle.std.specs.Cmp.Rules.{comparing};
 ghost use Rattle.std.proofs.Common.{rules};
 ghost use Rattle.alto_words.specs.Fid.{fid_cmp};
 ghost use Rattle.alto_words.specs.Names.{folded_cmp};
-ghost use Rattle.alto_top.specs.Orders.{line_total};
+ghost use Rattle.alto_top.specs.Orders.{row_total};
 
 use alto_words::Name;
 use pack_reading::ShownName;
 use std::cmp::Ordering;
 
-/// A line of the listing.
+/// A row of the listing: what is shown of one name.
 #[derive(Drop)]
-pub struct Line {
+pub struct Row {
     /// The name in SysDir of the directory that has the name; None of SysDir itself.
     pub dir_name: Option<Name>,
     /// The name.
     pub named: ShownName,
     /// The file's length in bytes; None of a directory.
-    pub size: Option<u64>,
+    pub length: Option<u64>,
 }
 
-impl PartialEq for Line {
+impl PartialEq for Row {
     ghost eq = { eq_by_cmp (then_cmp (on (λ l. l.dir_name) (option_cmp folded_cmp)) (then_cmp (on (λ l. l.named.directory) fid_cmp) (then_cmp (on (λ l. l.named.name) folded_cmp) (on (λ l. l.named.fid) fid_cmp)))) };
 
-    ghost laws = { partial_equiv_from_equiv (eq_by_cmp_equiv line_total) };
+    ghost laws = { partial_equiv_from_equiv (eq_by_cmp_equiv row_total) };
 
-    fn eq(&self, other: &Line) -> bool {
+    fn eq(&self, other: &Row) -> bool {
         self.cmp(other).is_eq()
     }
 }
 
-impl Eq for Line {
-    ghost laws = { eq_by_cmp_equiv line_total };
+impl Eq for Row {
+    ghost laws = { eq_by_cmp_equiv row_total };
 }
 
-impl PartialOrd for Line {
+impl PartialOrd for Row {
     ghost partial_cmp = { as_partial_cmp (then_cmp (on (λ l. l.dir_name) (option_cmp folded_cmp)) (then_cmp (on (λ l. l.named.directory) fid_cmp) (then_cmp (on (λ l. l.named.name) folded_cmp) (on (λ l. l.named.fid) fid_cmp)))) };
 
-    ghost laws = { partial_order_from_total line_total };
+    ghost laws = { partial_order_from_total row_total };
 
-    fn partial_cmp(&self, other: &Line) -> Option<Ordering> {
+    fn partial_cmp(&self, other: &Row) -> Option<Ordering> {
         Some(self.cmp(other))
     }
 }
 
-impl Ord for Line {
+impl Ord for Row {
     ghost cmp = { then_cmp (on (λ l. l.dir_name) (option_cmp folded_cmp)) (then_cmp (on (λ l. l.named.directory) fid_cmp) (then_cmp (on (λ l. l.named.name) folded_cmp) (on (λ l. l.named.fid) fid_cmp))) };
 
-    ghost total = { line_total };
+    ghost total = { row_total };
 
     ghost matches_partial_cmp = { Prim.search (comparing, rules) };
 
     ghost matches_eq = { Prim.search (comparing, rules) };
 
-    fn cmp(&self, other: &Line) -> Ordering {
+    fn cmp(&self, other: &Row) -> Ordering {
         compare_dirs(self.dir_name, other.dir_name).then(compare_names(&self.named, &other.named))
     }
 }

@@ -10,7 +10,7 @@ ghost use Rattle.pack_model.specs.operations.Puts.{putting};
 ghost use Rattle.alto_top.specs.Faults.{HasFaultCause, HasDiskCause, HasShowCause, HasStatusCause};
 ghost use Rattle.alto_top.specs.Patches.{put_of, puts_at, puts_of, puts_of_patch, reply_within, reply_to, reply_to_patch, text_of, is_patched, lie_in_one_page};
 ghost use Rattle.alto_top.specs.Keys.{ShownAll};
-ghost use Rattle.alto_top.specs.Sweeps.{HoldsPages, AreWithin, bytes_kept};
+ghost use Rattle.alto_top.specs.Sweeps.{HoldsPages, AreWithin, length_kept};
 ghost use Rattle.alto_top.specs.Sessions.{Booted, NextTurn, Obeyed, runs_of_line};
 ghost use Rattle.alto_top.specs.declared.reply.Reply.TheVariants.{Done};
 
@@ -52,7 +52,7 @@ fn put_bytes<D: Disk>(
     requires are_bytes { All (λ byte. byte < 256) patch.now.bytes }
     requires one_page { lie_in_one_page patch.now.offset patch.now.bytes ≡ true }
     requires within { AreWithin (pages_of (D.tape disk.old).form) pages.now }
-    requires length { patch.now.offset + length patch.now.bytes ≤ bytes_kept pages.now }
+    requires length { patch.now.offset + length patch.now.bytes ≤ length_kept pages.now }
     requires pages { IsTrue D.told → HoldsPages (sights (pack (D.tape disk.old))) fid pages.now }
     ensures does { IsTrue D.told → Does putting (pack (D.tape disk.old)) (added (D.tape disk.old) (D.tape disk.new)) (put_of patch.now fid patch.now.bytes) result }
     ensures reply { IsTrue D.told → IfOk result (λ reply. reply ≡ Done) }

@@ -2,7 +2,7 @@
 ghost use Rattle.std.specs.Prelude.{[], ◌∷◌, map, string_bytes, IsTrue};
 ghost use Rattle.disk_records.specs.Tapes.{ShowAlone};
 ghost use Rattle.alto_top.specs.Faults.{HasStatusCause};
-ghost use Rattle.alto_top.specs.Top.{AsksFor, AnswersOther, ShowsUsage, AnswersTo, Touches, DoesAsAsked};
+ghost use Rattle.alto_top.specs.Top.{AsksFor, AnswersUsage, ShowsUsage, AnswersTo, Touches, DoesAsAsked};
 
 use crate::session::{boot, show_all};
 use crate::show::show_pack;
@@ -21,33 +21,24 @@ pub enum Asked {
     Nothing,
 }
 
-/// What the words ask for: each word alone.
+/// What the words ask for: `boot` alone, or `show` alone.
 fn asked_of(words: &[String]) -> Asked
     ensures { AsksFor (map string_bytes words.now) result }
 {
-    match words {
-        [word] => asked_by(word.as_bytes()),
+    let [word] = words else {
+        return Asked::Nothing;
+    };
+    match word.as_bytes() {
+        b"boot" => Asked::Boot,
+        b"show" => Asked::Show,
         _ => Asked::Nothing,
-    }
-}
-
-/// What one word asks for.
-fn asked_by(word: &[u8]) -> Asked
-    ensures { AsksFor (word.now ∷ []) result }
-{
-    if word == b"boot".as_slice() {
-        Asked::Boot
-    } else if word == b"show".as_slice() {
-        Asked::Show
-    } else {
-        Asked::Nothing
     }
 }
 
 /// Shows `usage`.
 fn show_usage<C: Console>(console: &mut C) -> Status
     ensures shown { IsTrue C.told → ShowsUsage (C.tape console.old) (C.tape console.new) result }
-    ensures answer { AnswersOther result }
+    ensures answer { AnswersUsage result }
     ensures cause { HasStatusCause (C.tape console.old) (C.tape console.new) result }
     ensures alone { ShowAlone (C.tape console.old) (C.tape console.new) }
 {
