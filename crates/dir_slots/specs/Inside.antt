@@ -8,15 +8,15 @@ use Rattle.pack_model.specs.reading.Slots.Item.{space, entry}
 use Rattle.dir_slots.specs.declared.room.Room.{Room}
 
 -- the characters that a byte with their number begins, and the bytes behind them
-abbrev pub counted : List ℕ → List ℕ
-counted bytes = take (word bytes 0) (drop 1 bytes)
+abbrev pub counted_name : List ℕ → List ℕ
+counted_name bytes = take (word bytes 0) (drop 1 bytes)
 
 abbrev pub behind : List ℕ → List ℕ
 behind bytes = drop (word bytes 0) (drop 1 bytes)
 
 -- the name of these bytes: so many characters, a stored name, and 0 alone behind it
 unfoldable pub name_of : List ℕ → Option (List ℕ)
-name_of bytes = cond (length (counted bytes) == word bytes 0 && is_stored_name (counted bytes) && list_all (λ b. b == 0) (behind bytes)) (Some (counted bytes)) None
+name_of bytes = cond (length (counted_name bytes) == word bytes 0 && is_stored_name (counted_name bytes) && list_all (λ b. b == 0) (behind bytes)) (Some (counted_name bytes)) None
 
 -- these words, and no more, as the entry of a file
 abbrev pub entry_of : List ℕ → Option Item

@@ -53,10 +53,10 @@ pub record IsPackLength (bytes : ℕ) : Type 0 where
   pub whole : bytes ≡ cylinders * 12768
 
 -- the error of a file of so many bytes: one file is never unlike another
-abbrev pub IsErrorAt : ℕ → ImageError → Type 0
-IsErrorAt length (BadLength bytes) = (bytes ≡ length) × (IsPackLength length → ⊥)
-IsErrorAt length (Unlike first second) = ⊥
-IsErrorAt length Memory = IsPackLength length
+abbrev pub IsImageErrorAt : ℕ → ImageError → Type 0
+IsImageErrorAt length (BadLength bytes) = (bytes ≡ length) × (IsPackLength length → ⊥)
+IsImageErrorAt length (Unlike first second) = ⊥
+IsImageErrorAt length Memory = IsPackLength length
 
 -- the error of two files of so many bytes: the bad length of the first one, that of the second one after a right first one, or two
 -- lengths that are right and differ

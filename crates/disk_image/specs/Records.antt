@@ -26,13 +26,13 @@ abbrev pub back_bytes : Plan → Sector → List ℕ
 back_bytes plan sector = written_bytes plan.header sector.header ++ (written_bytes plan.label sector.label ++ written_bytes plan.value sector.value)
 
 -- the count of record writes after an act; it stands at 2^64 - 1 once there
-abbrev pub counted : Act → ℕ → ℕ
-counted Read writes = writes
-counted Check writes = writes
-counted Write writes = capped (writes + 1)
+abbrev pub writes_after : Act → ℕ → ℕ
+writes_after Read writes = writes
+writes_after Check writes = writes
+writes_after Write writes = capped (writes + 1)
 
-abbrev pub counted_all : Plan → ℕ → ℕ
-counted_all plan writes = counted plan.value (counted plan.label (counted plan.header writes))
+abbrev pub writes_after_all : Plan → ℕ → ℕ
+writes_after_all plan writes = writes_after plan.value (writes_after plan.label (writes_after plan.header writes))
 
 -- how many bytes of a record an act reads, and a command of a sector
 abbrev pub read_length : Act → ℕ → ℕ

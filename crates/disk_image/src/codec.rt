@@ -6,7 +6,7 @@
 ghost use Rattle.std.specs.Prelude.{◌≡◌, ℕ, ◌+◌, ◌*◌, ◌<◌, ◌≤◌, length, take, drop, All, IfSome, IfNone, IfOk, IfErr, OnOk, vec_len, vec_capacity};
 ghost use Rattle.disk_records.specs.Words.{word};
 ghost use Rattle.disk_records.specs.Addresses.{disks_of, cylinders_of, pages_of};
-ghost use Rattle.disk_image.specs.Images.{sector_bytes, pack_bytes, IsImage, IsWhole, IsPackLength, IsErrorAt};
+ghost use Rattle.disk_image.specs.Images.{sector_bytes, pack_bytes, IsImage, IsWhole, IsPackLength, IsImageErrorAt};
 
 use crate::error::ImageError;
 use alto_words::Memory;
@@ -95,7 +95,7 @@ pub(crate) fn read_sectors(bytes: &[u8], count: usize, sectors: &mut Vec<Sector>
 pub fn decode_pack(alloc: Global, bytes: &[u8]) -> Result<(Shape, Vec<Sector>), ImageError>
     ensures ok { IfOk result (λ pack. IsImage pack.0 pack.1.items bytes.now) }
     ensures room { IfOk result (λ pack. vec_capacity pack.1 ≡ pages_of pack.0) }
-    ensures err { IfErr result (IsErrorAt (length bytes.now)) }
+    ensures err { IfErr result (IsImageErrorAt (length bytes.now)) }
 {
     let Some(shape) = shape_of_length(1, bytes.len() as u64) else {
         return Err(ImageError::BadLength {

@@ -5,7 +5,7 @@
 ghost use Rattle.std.specs.Prelude.{◌≡◌, ◌≢◌, ◌↔◌, ◌+◌, ◌*◌, ◌≤◌, None, IfOk, IfSome, IfNone, IsOk, OnOk, OnErr, IsTrue};
 ghost use Rattle.disk_records.specs.Checks.{is_legal, is_checked, mismatch, memory_after};
 ghost use Rattle.disk_image.specs.Kept.{kept_at, ReadsKept, ObeysKept, OthersStay};
-ghost use Rattle.disk_image.specs.Records.{counted_all};
+ghost use Rattle.disk_image.specs.Records.{writes_after_all};
 
 use crate::codec::SECTOR_BYTES;
 use crate::kept::KeptSectors;
@@ -30,7 +30,7 @@ pub(crate) fn obey_in_file<F: Read + Write + Seek + OpenFile>(
 ) -> io::Result<Option<(u8, u16)>>
     requires { IsTrue (is_legal plan) }
     ensures checked { IfOk result (λ found. IfSome found (λ place. IsTrue (is_checked plan place.0))) }
-    ensures wrote { IfOk result (λ found. IfNone found (writes.new ≡ counted_all plan writes.old)) }
+    ensures wrote { IfOk result (λ found. IfNone found (writes.new ≡ writes_after_all plan writes.old)) }
     ensures rise { writes.old ≤ writes.new }
     ensures kept { ObeysKept spot.at plan buf.old buf.new kept.old kept.new result }
 {
@@ -123,7 +123,7 @@ fn write_in_file<F: Write + Seek + OpenFile>(
     sector: &Sector,
     writes: &mut u64,
 ) -> io::Result<()>
-    ensures count { OnOk result (writes.new ≡ counted_all plan writes.old) }
+    ensures count { OnOk result (writes.new ≡ writes_after_all plan writes.old) }
     ensures rise { writes.old ≤ writes.new }
 {
     check_in_file(file, ahead)?;

@@ -73,7 +73,7 @@ impl<'a, R: Files + Input + Print> Disk for FileMachine<'a, R> {
     ghost use Rattle.disk_records.specs.Checks.{is_legal, is_checked};
     ghost use Rattle.disk_records.specs.Tapes.{DiskAlone, IfMismatch, Ran, Rose};
     ghost use Rattle.disk_image.specs.Machines.{CountsFault};
-    ghost use Rattle.disk_image.specs.Records.{counted_all};
+    ghost use Rattle.disk_image.specs.Records.{writes_after_all};
 
     fn shape(&self) -> Shape {
         self.shape
@@ -94,7 +94,7 @@ impl<'a, R: Files + Input + Print> Disk for FileMachine<'a, R> {
 
         // What is counted, and what never comes.
         ensures fault { CountsFault (IsErrOf result DiskError.Failed) (⟦<FileMachine<'a, R> as Tape>⟧.tape self.old).disk_faults (⟦<FileMachine<'a, R> as Tape>⟧.tape self.new).disk_faults }
-        ensures wrote { OnOk result ((⟦<FileMachine<'a, R> as Tape>⟧.tape self.new).writes ≡ counted_all plan (⟦<FileMachine<'a, R> as Tape>⟧.tape self.old).writes) }
+        ensures wrote { OnOk result ((⟦<FileMachine<'a, R> as Tape>⟧.tape self.new).writes ≡ writes_after_all plan (⟦<FileMachine<'a, R> as Tape>⟧.tape self.old).writes) }
         ensures no_want { IsErrOf result DiskError.Memory → ⊥ }
     {
         match self.obey(at, plan, buf) {
@@ -170,7 +170,7 @@ impl<'a, R: Files + Input + Print> FileMachine<'a, R> {
     ghost use Rattle.disk_image.specs.Images.{first_drive};
     ghost use Rattle.disk_image.specs.Kept.{ObeysKept};
     ghost use Rattle.disk_image.specs.Machines.{IsUntouched};
-    ghost use Rattle.disk_image.specs.Records.{counted_all};
+    ghost use Rattle.disk_image.specs.Records.{writes_after_all};
 
     /// A machine over the files of a pack of this shape, before its first call. Where the shape has two drives there is a second file.
     /// Where no memory is left for the sectors of the pack, none will be kept.
@@ -208,7 +208,7 @@ impl<'a, R: Files + Input + Print> FileMachine<'a, R> {
         ensures alone { DiskAlone (⟦<FileMachine<'a, R> as Tape>⟧.tape self.old) (⟦<FileMachine<'a, R> as Tape>⟧.tape self.new) }
         ensures same_faults { (⟦<FileMachine<'a, R> as Tape>⟧.tape self.new).disk_faults ≡ (⟦<FileMachine<'a, R> as Tape>⟧.tape self.old).disk_faults }
         ensures checked { IfOk result (λ found. IfSome found (λ place. IsTrue (is_checked plan place.0))) }
-        ensures wrote { IfOk result (λ found. IfNone found ((⟦<FileMachine<'a, R> as Tape>⟧.tape self.new).writes ≡ counted_all plan (⟦<FileMachine<'a, R> as Tape>⟧.tape self.old).writes)) }
+        ensures wrote { IfOk result (λ found. IfNone found ((⟦<FileMachine<'a, R> as Tape>⟧.tape self.new).writes ≡ writes_after_all plan (⟦<FileMachine<'a, R> as Tape>⟧.tape self.old).writes)) }
         ensures first_kept { first_drive self.old.shape ≤ at → self.new.first ≡ self.old.first }
         ensures second_kept { at < first_drive self.old.shape → self.new.second ≡ self.old.second }
         ensures kept { ObeysKept at plan buf.old buf.new self.old.kept self.new.kept result }

@@ -4,7 +4,7 @@ ghost use Rattle.std.specs.Io.KnownBytes.{Consumes, Appends};
 ghost use Rattle.std.specs.Io.Seek.{MovesTo};
 ghost use Rattle.disk_records.specs.Checks.{is_legal};
 ghost use Rattle.disk_image.specs.Kept.{HasRoom, ReadsCylinder};
-ghost use Rattle.disk_image.specs.Records.{read_length, front_length, front_bytes, back_bytes, written_bytes, counted, counted_all};
+ghost use Rattle.disk_image.specs.Records.{read_length, front_length, front_bytes, back_bytes, written_bytes, writes_after, writes_after_all};
 ghost use Rattle.disk_records.specs.Bytes.{bytes_of};
 
 use crate::codec::{
@@ -102,7 +102,7 @@ pub(crate) fn write_back<F: Write>(
     writes: &mut u64,
 ) -> io::Result<()>
     ensures bytes { OnOk result (Appends (F.contents file.old) (F.contents file.new) (back_bytes plan sector.now)) }
-    ensures count { OnOk result (writes.new ≡ counted_all plan writes.old) }
+    ensures count { OnOk result (writes.new ≡ writes_after_all plan writes.old) }
     ensures rise { writes.old ≤ writes.new }
 {
     write_record(file, plan.header, &sector.header, writes)?;
@@ -114,7 +114,7 @@ pub(crate) fn write_back<F: Write>(
 fn write_record<F: Write>(file: &mut F, act: Act, words: &[u16], writes: &mut u64) -> io::Result<()>
     requires { length words.now ≤ 256 }
     ensures bytes { OnOk result (Appends (F.contents file.old) (F.contents file.new) (written_bytes act words.now)) }
-    ensures count { OnOk result (writes.new ≡ counted act writes.old) }
+    ensures count { OnOk result (writes.new ≡ writes_after act writes.old) }
     ensures err { OnErr result (writes.new ≡ writes.old) }
     ensures rise { writes.old ≤ writes.new }
 {

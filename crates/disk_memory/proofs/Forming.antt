@@ -3,19 +3,19 @@ use Rattle.std.proofs.Common.{List, [], get_or, length, slice_set, subst, suc, s
 use Rattle.std.proofs.lemmas.List.Elements.{All-append, All-cons, All-nil, All-set}
 use Rattle.std.proofs.lemmas.Grind.{take_at_read}
 use Rattle.std.specs.Prelude.{All}
-use Rattle.disk_memory.specs.Storing.{words_in}
+use Rattle.disk_memory.specs.Storing.{record_words}
 use Rattle.disk_records.specs.Packs.{IsFormed, after_all, with_part}
 use Rattle.disk_records.specs.declared.records.Event.{Event}
 use Rattle.disk_records.specs.declared.records.Sector.{Sector}
 
 -- a sector of which one record is written
-pub formed_part : (part : ℕ) (words : List ℕ) (s : Sector) → length words ≡ words_in part → IsFormed s → IsFormed (with_part part words s)
+pub formed_part : (part : ℕ) (words : List ℕ) (s : Sector) → length words ≡ record_words part → IsFormed s → IsFormed (with_part part words s)
 formed_part zero words s size h = record { header = size; label = h.label; value = h.value }
 formed_part (suc zero) words s size h = record { header = h.header; label = size; value = h.value }
 formed_part (suc (suc part)) words s size h = record { header = h.header; label = h.label; value = size }
 
 -- and so are all sectors of which one is
-pub formed_wrote : (sectors : List Sector) (at part : ℕ) (words : List ℕ) (sector next : Sector) → All IsFormed sectors → at < length sectors → sector ≡ get_or sectors at sector → length words ≡ words_in part → next ≡ with_part part words sector → All IsFormed (slice_set sectors at next)
+pub formed_wrote : (sectors : List Sector) (at part : ℕ) (words : List ℕ) (sector next : Sector) → All IsFormed sectors → at < length sectors → sector ≡ get_or sectors at sector → length words ≡ record_words part → next ≡ with_part part words sector → All IsFormed (slice_set sectors at next)
 formed_wrote sectors at part words sector next h l stands size is =
     All-set IsFormed sectors at next (subst IsFormed (sym is) (formed_part part words sector size (subst IsFormed (sym stands) (h at sector l)))) h
 

@@ -14,7 +14,7 @@ use Rattle.disk_records.specs.Packs.{after_all, with_part, no_sector}
 use Rattle.disk_records.specs.Events.{writes_in, shown_events}
 use Rattle.disk_records.specs.Tapes.{capped}
 use Rattle.disk_records.proofs.Growing.{after-append, after-shown, writes-append, writes-shown}
-use Rattle.disk_memory.specs.Storing.{is_whole, words_in}
+use Rattle.disk_memory.specs.Storing.{is_formed_event, record_words}
 
 -- what the events of two lists leave
 after_all-append : (shape : Shape) (sectors : List Sector) (a b : List Event) → after_all (a ++ b) sectors ≡ after_all b (after_all a sectors)
@@ -41,12 +41,12 @@ counted_wrote events new at part writes after words counted grown is =
     omega (arith, more, counted, is)
 
 -- the events stay ones that can be done again
-pub whole_wrote : (shape : Shape) (events new : List Event) (at part : ℕ) (words : List ℕ) → IsTrue (list_all (is_whole shape) events) → new ≡ events ++ Wrote at part words ∷ [] → at < pages_of shape → part < 3 → length words ≡ words_in part → IsTrue (list_all (is_whole shape) new)
+pub whole_wrote : (shape : Shape) (events new : List Event) (at part : ℕ) (words : List ℕ) → IsTrue (list_all (is_formed_event shape) events) → new ≡ events ++ Wrote at part words ∷ [] → at < pages_of shape → part < 3 → length words ≡ record_words part → IsTrue (list_all (is_formed_event shape) new)
 whole_wrote shape events new at part words whole grown within one size =
-    let this : is_whole shape (Wrote at part words) ≡ true = grind (arith, nat_tests) in
-    ap (list_all (is_whole shape)) grown
-    ∙ list_all-append (is_whole shape) events (Wrote at part words ∷ [])
-    ∙ ap (λ b. b && (is_whole shape (Wrote at part words) && true)) whole
+    let this : is_formed_event shape (Wrote at part words) ≡ true = grind (arith, nat_tests) in
+    ap (list_all (is_formed_event shape)) grown
+    ∙ list_all-append (is_formed_event shape) events (Wrote at part words ∷ [])
+    ∙ ap (λ b. b && (is_formed_event shape (Wrote at part words) && true)) whole
     ∙ ap (λ b. b && true) this
 
 -- ---- shown bytes more
@@ -64,16 +64,16 @@ counted_shown events new bytes writes counted grown =
     omega (arith, same, counted)
 
 -- a shown byte can be shown again
-whole-shown : (shape : Shape) (bytes : List ℕ) → list_all (is_whole shape) (shown_events bytes) ≡ true
+whole-shown : (shape : Shape) (bytes : List ℕ) → list_all (is_formed_event shape) (shown_events bytes) ≡ true
 whole-shown shape [] = refl
 whole-shown shape (b ∷ bytes) = whole-shown shape bytes
 
 -- the events stay ones that can be done again
-pub whole_shown : (shape : Shape) (events new : List Event) (bytes : List ℕ) → IsTrue (list_all (is_whole shape) events) → new ≡ events ++ shown_events bytes → IsTrue (list_all (is_whole shape) new)
+pub whole_shown : (shape : Shape) (events new : List Event) (bytes : List ℕ) → IsTrue (list_all (is_formed_event shape) events) → new ≡ events ++ shown_events bytes → IsTrue (list_all (is_formed_event shape) new)
 whole_shown shape events new bytes whole grown =
-    ap (list_all (is_whole shape)) grown
-    ∙ list_all-append (is_whole shape) events (shown_events bytes)
-    ∙ ap (λ b. b && list_all (is_whole shape) (shown_events bytes)) whole
+    ap (list_all (is_formed_event shape)) grown
+    ∙ list_all-append (is_formed_event shape) events (shown_events bytes)
+    ∙ ap (λ b. b && list_all (is_formed_event shape) (shown_events bytes)) whole
     ∙ whole-shown shape bytes
 
 -- the sector at an address, as it was read
@@ -82,21 +82,21 @@ sector_here sectors base events at n sector right sized within stands =
     ap (λ s. get_or s at no_sector) (sym right) ∙ sym (get_or_read_under sectors at n sector no_sector stands within (sym sized))
 
 -- an event of a list of whole ones
-pub whole_at : (shape : Shape) (events : List Event) (i : ℕ) (event : Event) → IsTrue (list_all (is_whole shape) events) → i < length events → event ≡ get_or events i event → IsTrue (is_whole shape event)
+pub whole_at : (shape : Shape) (events : List Event) (i : ℕ) (event : Event) → IsTrue (list_all (is_formed_event shape) events) → i < length events → event ≡ get_or events i event → IsTrue (is_formed_event shape event)
 whole_at shape [] i event whole within is = absurd (omega arith)
-whole_at shape (e ∷ events) zero event whole within is = ap (is_whole shape) is ∙ (and_true (is_whole shape e) (list_all (is_whole shape) events) whole).0
-whole_at shape (e ∷ events) (suc i) event whole within is = whole_at shape events i event (and_true (is_whole shape e) (list_all (is_whole shape) events) whole).1 (omega arith) is
+whole_at shape (e ∷ events) zero event whole within is = ap (is_formed_event shape) is ∙ (and_true (is_formed_event shape e) (list_all (is_formed_event shape) events) whole).0
+whole_at shape (e ∷ events) (suc i) event whole within is = whole_at shape events i event (and_true (is_formed_event shape e) (list_all (is_formed_event shape) events) whole).1 (omega arith) is
 
 -- first ones of events that can be done again
-whole_take : (shape : Shape) (count : ℕ) (events : List Event) → IsTrue (list_all (is_whole shape) events) → IsTrue (list_all (is_whole shape) (take count events))
+whole_take : (shape : Shape) (count : ℕ) (events : List Event) → IsTrue (list_all (is_formed_event shape) events) → IsTrue (list_all (is_formed_event shape) (take count events))
 whole_take shape zero events whole = refl
 whole_take shape (suc count) [] whole = refl
 whole_take shape (suc count) (e ∷ events) whole =
-    let both = and_true (is_whole shape e) (list_all (is_whole shape) events) whole in
-    ap (λ b. b && list_all (is_whole shape) (take count events)) both.0 ∙ whole_take shape count events both.1
+    let both = and_true (is_formed_event shape e) (list_all (is_formed_event shape) events) whole in
+    ap (λ b. b && list_all (is_formed_event shape) (take count events)) both.0 ∙ whole_take shape count events both.1
 
 -- an event of the first ones, for another machine of the same shape
-pub whole_in : (shape other : Shape) (events items : List Event) (count i : ℕ) (event : Event) → other ≡ shape → items ≡ events → IsTrue (list_all (is_whole shape) events) → i < length (take count items) → event ≡ get_or (take count items) i event → IsTrue (is_whole other event)
+pub whole_in : (shape other : Shape) (events items : List Event) (count i : ℕ) (event : Event) → other ≡ shape → items ≡ events → IsTrue (list_all (is_formed_event shape) events) → i < length (take count items) → event ≡ get_or (take count items) i event → IsTrue (is_formed_event other event)
 whole_in shape other events items count i event alike same whole within is =
-    ap (λ s. is_whole s event) alike
-    ∙ whole_at shape (take count items) i event (whole_take shape count items (ap (list_all (is_whole shape)) same ∙ whole)) within is
+    ap (λ s. is_formed_event s event) alike
+    ∙ whole_at shape (take count items) i event (whole_take shape count items (ap (list_all (is_formed_event shape)) same ∙ whole)) within is

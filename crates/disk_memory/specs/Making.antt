@@ -8,9 +8,9 @@ use Rattle.disk_memory.specs.declared.error.NewError.{NewError}
 use Rattle.disk_memory.specs.declared.error.NewError.TheVariants.{WrongCount, Memory}
 
 -- the error of a shape of so many sectors and of so many that were given
-abbrev pub IsErrorAt : ℕ → ℕ → NewError → Type 0
-IsErrorAt wanted got (WrongCount w g) = (w ≡ wanted) × (g ≡ got) × (got ≢ wanted)
-IsErrorAt wanted got Memory = got ≡ wanted
+abbrev pub IsNewErrorAt : ℕ → ℕ → NewError → Type 0
+IsNewErrorAt wanted got (WrongCount w g) = (w ≡ wanted) × (g ≡ got) × (got ≢ wanted)
+IsNewErrorAt wanted got Memory = got ≡ wanted
 
 -- a machine before its first call
 abbrev pub first_tape : Shape → List Sector → List ℕ → Taped

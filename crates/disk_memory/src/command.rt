@@ -2,14 +2,14 @@
 ghost use Rattle.std.specs.Prelude.{◌≡◌, ◌+◌, ◌<◌, length};
 ghost use Rattle.disk_records.specs.Packs.{with_part};
 ghost use Rattle.disk_memory.specs.Adding.{writes_by, within, first_writes};
-ghost use Rattle.disk_memory.specs.Storing.{words_in};
+ghost use Rattle.disk_memory.specs.Storing.{record_words};
 
 use disk_records::{Act, Plan, Sector};
 
 /// Replaces one record of a sector.
 pub fn replace_record(sector: &mut Sector, part: u8, words: &[u16])
     requires one { part < 3 }
-    requires whole { length words.now ≡ words_in part }
+    requires whole { length words.now ≡ record_words part }
     ensures { sector.new ≡ with_part part words.now sector.old }
 {
     match part {

@@ -127,7 +127,7 @@ impl MemMachine {
     ghost use Rattle.disk_records.specs.Events.{place_of_write, shown_bytes};
     ghost use Rattle.disk_records.specs.Packs.{sector_at};
     ghost use Rattle.disk_records.specs.Tapes.{DiskAlone, Ran, capped, pack};
-    ghost use Rattle.disk_memory.specs.Making.{IsErrorAt, IsCut, first_tape};
+    ghost use Rattle.disk_memory.specs.Making.{IsNewErrorAt, IsCut, first_tape};
     ghost use Rattle.disk_memory.specs.Failing.{FailsAt, HasFailed, IsFresh, SameFailures, calls_of, next_failure};
 
     /// A machine over these sectors, in order of their virtual addresses, with these keys to be read. No call is to fail.
@@ -141,7 +141,7 @@ impl MemMachine {
         ensures ok { IfOk result (λ machine. ⟦<MemMachine as Tape>⟧.tape machine ≡ first_tape shape sectors.items keys.items) }
         ensures fresh { IfOk result IsFresh }
         ensures count { OnOk result (length sectors.items ≡ pages_of shape) }
-        ensures err { IfErr result (IsErrorAt (pages_of shape) (length sectors.items)) }
+        ensures err { IfErr result (IsNewErrorAt (pages_of shape) (length sectors.items)) }
     {
         match SureMachine::new(alloc, shape, sectors, keys) {
             Ok(machine) => Ok(MemMachine::over(alloc, machine)),

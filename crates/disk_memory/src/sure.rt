@@ -7,7 +7,7 @@ ghost use Rattle.disk_records.specs.Addresses.{pages_of};
 ghost use Rattle.disk_records.specs.Events.{writes_in};
 ghost use Rattle.disk_records.specs.Packs.{IsFormed, after_all};
 ghost use Rattle.disk_records.specs.Tapes.{capped};
-ghost use Rattle.disk_memory.specs.Storing.{is_whole};
+ghost use Rattle.disk_memory.specs.Storing.{is_formed_event};
 
 use crate::block::{Block, fill_up, push_ready};
 use crate::command::{replace_record, write_count};
@@ -42,7 +42,7 @@ pub struct SureMachine {
     ghost formed: { All IsFormed sectors.items },
     ghost within: { taken ≤ length keys.items },
     ghost counted: { writes ≡ capped (writes_in events.items) },
-    ghost whole: { IsTrue (list_all (is_whole shape) events.items) },
+    ghost whole: { IsTrue (list_all (is_formed_event shape) events.items) },
 }
 
 impl Tape for SureMachine {
@@ -108,8 +108,8 @@ impl SureMachine {
     ghost use Rattle.disk_records.specs.Packs.{sector_at};
     ghost use Rattle.disk_records.specs.Tapes.{DiskAlone, IfMismatch, Ran, Rose, pack};
     ghost use Rattle.disk_memory.specs.Adding.{Adds, writes_by};
-    ghost use Rattle.disk_memory.specs.Storing.{words_in};
-    ghost use Rattle.disk_memory.specs.Making.{IsErrorAt, IsCut, first_tape};
+    ghost use Rattle.disk_memory.specs.Storing.{record_words};
+    ghost use Rattle.disk_memory.specs.Making.{IsNewErrorAt, IsCut, first_tape};
 
     /// A machine over these sectors, in order of their virtual addresses, with these keys to be read. WrongCount comes
     /// exactly where there aren't as many sectors as the shape has.
@@ -121,7 +121,7 @@ impl SureMachine {
     ) -> Result<SureMachine, NewError>
         ensures ok { IfOk result (λ machine. ⟦<SureMachine as Tape>⟧.tape machine ≡ first_tape shape sectors.items keys.items) }
         ensures count { OnOk result (length sectors.items ≡ pages_of shape) }
-        ensures err { IfErr result (IsErrorAt (pages_of shape) (length sectors.items)) }
+        ensures err { IfErr result (IsNewErrorAt (pages_of shape) (length sectors.items)) }
     {
         if sectors.len() != shape.pages() as usize {
             return Err(NewError::WrongCount {
@@ -297,7 +297,7 @@ impl SureMachine {
     fn write_record(&mut self, at: u16, part: u8, act: Act, words: &[u16])
         requires place { at < pages_of (⟦<SureMachine as Tape>⟧.tape self.old).form }
         requires one { part < 3 }
-        requires whole { length words.now ≡ words_in part }
+        requires whole { length words.now ≡ record_words part }
         requires room { writes_by act ≤ (⟦<SureMachine as Tape>⟧.tape self.old).spare }
         ensures adds { Adds (⟦<SureMachine as Tape>⟧.tape self.old) (⟦<SureMachine as Tape>⟧.tape self.new) (write_of at part act words.now) }
         ensures room { (⟦<SureMachine as Tape>⟧.tape self.old).spare ≤ (⟦<SureMachine as Tape>⟧.tape self.new).spare + writes_by act }
@@ -313,7 +313,7 @@ impl SureMachine {
     fn write(&mut self, at: u16, part: u8, words: &[u16])
         requires place { at < pages_of (⟦<SureMachine as Tape>⟧.tape self.old).form }
         requires one { part < 3 }
-        requires whole { length words.now ≡ words_in part }
+        requires whole { length words.now ≡ record_words part }
         requires room { 0 < (⟦<SureMachine as Tape>⟧.tape self.old).spare }
         ensures { Adds (⟦<SureMachine as Tape>⟧.tape self.old) (⟦<SureMachine as Tape>⟧.tape self.new) (Event.Wrote at part words.now ∷ []) }
     {
@@ -344,7 +344,7 @@ impl SureMachine {
 
     /// Does one event of a machine of the same shape again.
     fn redo(&mut self, event: &Event) -> Result<(), AllocError>
-        requires { IsTrue (is_whole (⟦<SureMachine as Tape>⟧.tape self.old).form event.now) }
+        requires { IsTrue (is_formed_event (⟦<SureMachine as Tape>⟧.tape self.old).form event.now) }
         ensures { OnOk result (Adds (⟦<SureMachine as Tape>⟧.tape self.old) (⟦<SureMachine as Tape>⟧.tape self.new) (event.now ∷ [])) }
     {
         match event {

@@ -26,18 +26,18 @@ use Rattle.laws_record.specs.QuietLaws.{with_label, with_value}
 
 -- ---- ordinary files
 -- It lives, it is no directory, and it isn't DiskDescriptor.
-pub record IsOrdinary (p : Pack) (f : Fid) : Type 0 where
+pub record LivesOrdinary (p : Pack) (f : Fid) : Type 0 where
   pub lives : lives (sights p) f ≡ true
   pub ordinary : is_directory f ≡ false
   pub described : is_fid f disk_descriptor ≡ false
 
 -- a value within a page, and within the file's length
 abbrev pub PutIsTheStep : Type 0
-PutIsTheStep = (p : Pack) (at part : ℕ) (words : List ℕ) (write : Put) → IsOrdinary p write.fid → StaysWithin p write → WritesValue p at part words write → read_as (after p (Wrote at part words ∷ [])) ≡ step (read_as p) (put write.fid write.offset write.bytes)
+PutIsTheStep = (p : Pack) (at part : ℕ) (words : List ℕ) (write : Put) → LivesOrdinary p write.fid → StaysWithin p write → WritesValue p at part words write → read_as (after p (Wrote at part words ∷ [])) ≡ step (read_as p) (put write.fid write.offset write.bytes)
 
 -- the label of the page that becomes the last, where it counts no more bytes than the file has there
 abbrev pub CutIsTheStep : Type 0
-CutIsTheStep = (p : Pack) (at n : ℕ) (f : Fid) (label : List ℕ) → IsOrdinary p f → place (sights p) f (suc n) ≡ Some at → page_of label ≡ Some (record { fid = f; number = suc n }) → (tag label).bytes < 512 → 512 * n + (tag label).bytes ≤ length (file_bytes (sights p) f)
+CutIsTheStep = (p : Pack) (at n : ℕ) (f : Fid) (label : List ℕ) → LivesOrdinary p f → place (sights p) f (suc n) ≡ Some at → page_of label ≡ Some (record { fid = f; number = suc n }) → (tag label).bytes < 512 → 512 * n + (tag label).bytes ≤ length (file_bytes (sights p) f)
     → read_as (with_label p at label) ≡ step (read_as p) (cut f (512 * n + (tag label).bytes))
 
 -- the bytes that are behind those of a file before
@@ -48,7 +48,7 @@ more_bytes p q f = drop (length (file_bytes (sights p) f)) (file_bytes (sights q
 -- that are claimed behind it
 abbrev pub GrowIsTheStep : Type 0
 GrowIsTheStep = (p : Pack) (at : ℕ) (f : Fid) (label : List ℕ) → let b : ℕ = length (file_bytes (sights p) f) in let q : Pack = with_label p at label in
-    IsOrdinary p f → place (sights p) f (suc (b / 512)) ≡ Some at → page_of label ≡ Some (record { fid = f; number = suc (b / 512) }) → b % 512 ≤ (tag label).bytes → read_as q ≡ step (read_as p) (grow f (more_bytes p q f))
+    LivesOrdinary p f → place (sights p) f (suc (b / 512)) ≡ Some at → page_of label ≡ Some (record { fid = f; number = suc (b / 512) }) → b % 512 ≤ (tag label).bytes → read_as q ≡ step (read_as p) (grow f (more_bytes p q f))
 
 -- ---- leaders
 -- a leader's value with another name, of any file but DiskDescriptor

@@ -20,15 +20,15 @@ placed_pages ss f zero = one_if (is_some (place ss f 0))
 placed_pages ss f (suc n) = one_if (is_some (place ss f (suc n))) + placed_pages ss f n
 
 -- of these files, up to the end of each
-abbrev pub placed_all : Shape → List Sight → List (Fid × File) → ℕ
-placed_all shape ss [] = 0
-placed_all shape ss (e ∷ es) = placed_pages ss e.0 (last_page shape e.0 e.1.body) + placed_all shape ss es
+abbrev pub count_placed : Shape → List Sight → List (Fid × File) → ℕ
+count_placed shape ss [] = 0
+count_placed shape ss (e ∷ es) = placed_pages ss e.0 (last_page shape e.0 e.1.body) + count_placed shape ss es
 
 -- The sectors in use are these pages; they and the available ones are the good sectors. What is available, and what the mended files
 -- need, make up what is needed and the good sectors. So needed is at most the available exactly where the mended files have room.
 pub record Counts (shape : Shape) (ss : List Sight) : Type 0 where
-  pub in_use : how_many (in_use shape ss) (numbered 0 ss) ≡ placed_all shape ss (entries (found ss))
-  pub available_is : available shape ss + placed_all shape ss (entries (found ss)) ≡ good_sectors ss
+  pub in_use : how_many (in_use shape ss) (numbered 0 ss) ≡ count_placed shape ss (entries (found ss))
+  pub available_is : available shape ss + count_placed shape ss (entries (found ss)) ≡ good_sectors ss
   pub needed_is : available shape ss + (needs (mended shape ss) + descriptor_pages shape) ≡ needed shape ss + good_sectors ss
   pub room : HasRoom (mended shape ss) ↔ (needed shape ss ≤ available shape ss)
 

@@ -8,7 +8,7 @@ use Rattle.pack_model.specs.operations.Commands.{Claim}
 use Rattle.pack_model.specs.operations.Committing.{pages_for_operation}
 use Rattle.pack_model.specs.operations.Entering.{entry_value, values_first}
 use Rattle.pack_model.specs.reading.Model.{read_as}
-use Rattle.pack_model.specs.operations.Operations.{cut_writes, drop_writes, enter_writes, go_writes, grow_writes, make_writes}
+use Rattle.pack_model.specs.operations.Operations.{cut_writes, drop_writes, enter_writes, release_file_writes, grow_writes, make_writes}
 use Rattle.pack_model.specs.operations.PageWords.{freed_value}
 use Rattle.pack_model.specs.reading.Slots.{Item, all_words, item_words}
 use Rattle.pack_model.specs.reading.Slots.Item.{entry}
@@ -37,7 +37,7 @@ pub record EachTakes (p : Pack) : Type 0 where
   pub titles : (f : Fid) (name : List ℕ) (at : ℕ) (value : List ℕ) → MayWriteLeader p f (titled name) at value → TakesIntoUse p (value_writes at value) (title f name)
   pub stamps : (f : Fid) (moment : ℕ) (at : ℕ) (value : List ℕ) → MayWriteLeader p f (stamped moment) at value → TakesIntoUse p (value_writes at value) (stamp f moment)
   pub makes : (f : Fid) (name : List ℕ) (moment : ℕ) (page leader : Claim) → MayMake p f name moment page leader → TakesIntoUse p (make_writes page leader) (make f name moment)
-  pub goes : (f : Fid) (at : ℕ) (pages : List ℕ) → MayDrop p f at pages → TakesIntoUse p (go_writes at pages) (drop_file f)
+  pub goes : (f : Fid) (at : ℕ) (pages : List ℕ) → MayDrop p f at pages → TakesIntoUse p (release_file_writes at pages) (drop_file f)
   pub drops : (f : Fid) (at : ℕ) (pages : List ℕ) (d : Fid) (slot_at : ℕ) (a b : List Item) (own : List ℕ) → MayDrop p f at pages → Frees p d slot_at a (entry f own ∷ []) b
       → TakesIntoUse p (drop_writes at pages slot_at (freed_value (all_words a) (item_words (entry f own)) (sector_at p slot_at).value)) (drop_file f)
   pub leaves : (d : Fid) (name : List ℕ) (at : ℕ) (a b : List Item) (f : Fid) (own : List ℕ) → MayLeave p d name at a b f own

@@ -34,23 +34,23 @@ pub record ChangesOne (at : ℕ) (page : Option Page) (is_free : Bool) (sight : 
 
 -- One sector carries this page now, with the bytes that this label counts of this value: behind its header, which stays, it holds
 -- this label and this value.
-abbrev pub HoldsPage : ℕ → Page → List ℕ → List ℕ → Pack → Pack → Type 0
-HoldsPage at page label value p q = ChangesOne at (Some page) false (page_sight page.fid page.number (tag label).bytes value) (with_words (sector_at p at) label value) p q
+abbrev pub ComesToHold : ℕ → Page → List ℕ → List ℕ → Pack → Pack → Type 0
+ComesToHold at page label value p q = ChangesOne at (Some page) false (page_sight page.fid page.number (tag label).bytes value) (with_words (sector_at p at) label value) p q
 
 -- A value write: the same page, and other bytes.
 abbrev pub ValueWritesKeepThePage : Type 0
-ValueWritesKeepThePage = (p : Pack) (at : ℕ) (page : Page) (value : List ℕ) (k : ℕ) → carried p at ≡ Some page → 0 < k → HoldsPage at page (sector_at p at).label value p (crash p (value_writes at value) k)
+ValueWritesKeepThePage = (p : Pack) (at : ℕ) (page : Page) (value : List ℕ) (k : ℕ) → carried p at ≡ Some page → 0 < k → ComesToHold at page (sector_at p at).label value p (crash p (value_writes at value) k)
 
 -- Another label for the same page, and the value that stands there: the same page at both cuts, with as many bytes as the label says.
 abbrev pub RelabelKeepsThePage : Type 0
-RelabelKeepsThePage = (p : Pack) (at : ℕ) (page : Page) (label : List ℕ) (k : ℕ) → carried p at ≡ Some page → page_of label ≡ Some page → 0 < k → HoldsPage at page label (sector_at p at).value p (crash p (relabel_writes at label (sector_at p at).value) k)
+RelabelKeepsThePage = (p : Pack) (at : ℕ) (page : Page) (label : List ℕ) (k : ℕ) → carried p at ≡ Some page → page_of label ≡ Some page → 0 < k → ComesToHold at page label (sector_at p at).value p (crash p (relabel_writes at label (sector_at p at).value) k)
 
 -- Taking a free sector: nothing looks different until the label is written, though the value stands there before, and from then
 -- on the sector carries the page.
 pub record TakesAtTheLabel (p : Pack) (at : ℕ) (page : Page) (label value : List ℕ) (k : ℕ) : Type 0 where
   pub before : k ≤ 1 → LooksSame at p (crash p (claim_writes at label value) k)
   pub filled : k ≡ 1 → sector_at (crash p (claim_writes at label value) k) at ≡ with_words (sector_at p at) (sector_at p at).label value
-  pub taken : 2 ≤ k → HoldsPage at page label value p (crash p (claim_writes at label value) k)
+  pub taken : 2 ≤ k → ComesToHold at page label value p (crash p (claim_writes at label value) k)
 
 abbrev pub ClaimTakesAtTheLabel : Type 0
 ClaimTakesAtTheLabel = (p : Pack) (at : ℕ) (page : Page) (label value : List ℕ) (k : ℕ) → is_free_at p at ≡ true → page_of label ≡ Some page → TakesAtTheLabel p at page label value k

@@ -23,7 +23,7 @@ use Rattle.pack_laws.proofs.Keys.{is_fid-sym}
 use Rattle.pack_laws.proofs.Paging.{other_files, same_leaders}
 use Rattle.pack_laws.proofs.Placing.{IsPageAt}
 use Rattle.laws_record.proofs.Reading.{get_alike, get_by, insert_from_get, read_file}
-use Rattle.laws_record.specs.StepLaws.{IsOrdinary}
+use Rattle.laws_record.specs.StepLaws.{LivesOrdinary}
 
 -- ---- what changes
 -- One file has other bytes, and all else is as before.
@@ -44,7 +44,7 @@ page_change p q f n at new bytes h shape shown e = record {
   bytes_are = ap (λ us. file_bytes us f) shown ∙ e;
 }
 
-module _ (p q : Pack) (f : Fid) (bytes : List ℕ) (c : FileChange p q f bytes) (o : IsOrdinary p f) where
+module _ (p q : Pack) (f : Fid) (bytes : List ℕ) (c : FileChange p q f bytes) (o : LivesOrdinary p f) where
   -- its leader
   abbrev l : Leader
   l = (has_leader (sights p) f o.lives).0

@@ -12,7 +12,7 @@ use Rattle.pack_model.specs.reading.Model.{good_one, good_sectors}
 use Rattle.pack_model.specs.reading.Sights.{Sight}
 use Rattle.pack_model.specs.reading.Sights.Sight.{free, hidden, holds, leads, stray}
 use Rattle.laws_room.proofs.inside.Pages.{file_many, none_many, none_page, same_many, same_page, sum_many, sum_page, up_to}
-use Rattle.laws_room.specs.CountLaws.{placed_all}
+use Rattle.laws_room.specs.CountLaws.{count_placed}
 use Rattle.pack_laws.proofs.Keys.{same_fid}
 use Rattle.laws_record.proofs.Around.{first_part, not_below, second_part}
 
@@ -34,7 +34,7 @@ module _ (shape : Shape) (ss : List Sight) where
       by false e = omega arith
 
   -- sectors in use by these files are the carried pages up to the end of each
-  all_many : (es : List (Fid × File)) → T (is_sorted fid_cmp es) → how_many (used_by es) (numbered 0 ss) ≡ placed_all shape ss es
+  all_many : (es : List (Fid × File)) → T (is_sorted fid_cmp es) → how_many (used_by es) (numbered 0 ss) ≡ count_placed shape ss es
   all_many [] s = none_many (used_by []) (λ e. none_page e.1) (numbered 0 ss)
   all_many (e ∷ es) s =
       let below = first_part (below_all fid_cmp e.0 es) (is_sorted fid_cmp es) s in
@@ -46,7 +46,7 @@ module _ (shape : Shape) (ss : List Sight) where
       omega arith
 
   -- sectors in use are the pages within the ends of files that some sector carries
-  pub in_use_many : how_many (in_use shape ss) (numbered 0 ss) ≡ placed_all shape ss (entries (found ss))
+  pub in_use_many : how_many (in_use shape ss) (numbered 0 ss) ≡ count_placed shape ss (entries (found ss))
   in_use_many = same_many (in_use shape ss) (used_by (entries (found ss))) (λ e. same_page (λ f n. counts shape ss f n && is_place e.0 (place ss f n)) (λ f n. is_within shape f n (find fid_cmp f (entries (found ss))) && is_place e.0 (place ss f n)) (λ f n. ap (λ r. is_within shape f n r && is_place e.0 (place ss f n)) (get-entries (found ss) f)) e.1) (numbered 0 ss)
       ∙ all_many (entries (found ss)) (entries_sorted (found ss))
 
@@ -79,7 +79,7 @@ module _ (shape : Shape) (ss : List Sight) where
       one (holds f n bytes) = refl
 
   -- the available sectors are the good sectors but for these pages
-  pub available_is : available shape ss + placed_all shape ss (entries (found ss)) ≡ good_sectors ss
+  pub available_is : available shape ss + count_placed shape ss (entries (found ss)) ≡ good_sectors ss
   unfolding available
   available_is =
       let h = sum_many (λ e. is_good e.1) (λ e. is_good e.1 && not (in_use shape ss e)) (in_use shape ss) (λ e. use_is_good e.1 (λ f n. counts shape ss f n && is_place e.0 (place ss f n))) (numbered 0 ss) in

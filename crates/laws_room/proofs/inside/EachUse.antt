@@ -24,7 +24,7 @@ use Rattle.laws_record.proofs.Mending.{get-seen}
 use Rattle.laws_record.proofs.Reading.{get-found, read_file}
 use Rattle.laws_operation.proofs.Changing.{seat_of}
 use Rattle.laws_operation.proofs.Cutting.{cut_law}
-use Rattle.laws_operation.proofs.Dropped.{go_law, read_there}
+use Rattle.laws_operation.proofs.Dropped.{release_law, read_there}
 use Rattle.laws_operation.proofs.Grown.{grow_law}
 use Rattle.laws_operation.proofs.Leaving.{leave_law, system_apart}
 use Rattle.laws_operation.proofs.Making.{make_law}
@@ -88,7 +88,7 @@ module _ (p : Pack) (w : Whole p) (t : Tidy p) where
     titles = λ f name at value h. carried (title_law p w t f h.file name at value h) tt;
     stamps = λ f moment at value h. carried (stamp_law p w t f h.file moment at value h) tt;
     makes = λ f name moment page leader h. carried (make_law p w t f name moment page leader h) (unread p f h.not_there);
-    goes = λ f at pages h. let g = (go_law p w t f at pages h).0 in takes _ (drop_file f) g.drops.whole g.ends (gone f at h.no_system h.sector);
+    goes = λ f at pages h. let g = (release_law p w t f at pages h).0 in takes _ (drop_file f) g.drops.whole g.ends (gone f at h.no_system h.sector);
     drops = λ f at pages d slot_at a b own h frees. carried (drop_carries_out p f at pages d slot_at a b own w t h frees) (gone f at h.no_system h.sector);
     leaves = λ d name at a b f own h. carried (leave_law p w t d name at a b f own h) tt;
     enters = λ d name f a old b left words at next_at h. let g = enter_carries_out p d name f a old b left words at next_at w t h in takes _ (enter d name f) g.sees.whole g.ends tt;

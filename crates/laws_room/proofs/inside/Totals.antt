@@ -17,7 +17,7 @@ use Rattle.pack_model.specs.reading.Model.{descriptor_pages, files_pages}
 use Rattle.pack_model.specs.scavenger.Needed.{file_lacks, files_lack, missing}
 use Rattle.pack_model.specs.reading.Sights.{Sight}
 use Rattle.pack_model.specs.reading.Slots.{slots}
-use Rattle.laws_room.specs.CountLaws.{placed_all, placed_pages}
+use Rattle.laws_room.specs.CountLaws.{count_placed, placed_pages}
 use Rattle.pack_laws.proofs.Bytes.{length-words_of}
 use Rattle.pack_laws.proofs.Joining.{AreShort}
 use Rattle.pack_laws.proofs.ByteInPages.{has_byte}
@@ -109,7 +109,7 @@ module _ (shape : Shape) (ss : List Sight) (short : (f : Fid) → AreShort (page
   totals (e ∷ es) = total e.0 e.1.body + totals es
 
   -- these files, each with its carried and its lacking pages
-  sum_files : (es : List (Fid × File)) → T (is_sorted fid_cmp es) → ((f : Fid) (x : File) → find fid_cmp f es ≡ Some x → placed_pages ss f (last_page shape f x.body) + file_lacks shape ss f x.body ≡ total f x.body) → placed_all shape ss es + files_lack shape ss es ≡ totals es
+  sum_files : (es : List (Fid × File)) → T (is_sorted fid_cmp es) → ((f : Fid) (x : File) → find fid_cmp f es ≡ Some x → placed_pages ss f (last_page shape f x.body) + file_lacks shape ss f x.body ≡ total f x.body) → count_placed shape ss es + files_lack shape ss es ≡ totals es
   sum_files [] s h = omega arith
   sum_files (e ∷ es) s h =
       let here = h e.0 e.1 (ap (λ b. cond b (Some e.1) (find fid_cmp e.0 es)) (is_fid-itself e.0)) in
@@ -132,7 +132,7 @@ module _ (shape : Shape) (ss : List Sight) (short : (f : Fid) → AreShort (page
       by (Some l) e q = let y : read_file f (file_bytes ss f) l ≡ x = cc in subst (λ z. placed_pages ss f (last_page shape f z.body) + file_lacks shape ss f z.body ≡ total f z.body) y (file_total f (ap is_some e))
 
   -- all files that are found
-  pub all_files : placed_all shape ss (entries (found ss)) + files_lack shape ss (entries (found ss)) ≡ totals (entries (found ss))
+  pub all_files : count_placed shape ss (entries (found ss)) + files_lack shape ss (entries (found ss)) ≡ totals (entries (found ss))
   all_files = sum_files (entries (found ss)) (entries_sorted (found ss)) (λ f x is. found_good f x (get-entries (found ss) f ∙ is))
 
   -- DiskDescriptor's pages are counted apart

@@ -9,7 +9,7 @@ use Rattle.disk_records.specs.Labels.{Tag, is_free, page_of, tag}
 use Rattle.disk_records.specs.Packs.{Pack, after, carried, crash, is_free_at, is_usable, sector_at, with_part}
 use Rattle.pack_model.specs.reading.Sights.{Sight, sights, tag_sight}
 use Rattle.pack_model.specs.reading.Sights.Sight.{free}
-use Rattle.pack_laws.specs.GuardLaws.{ChangesOne, HoldsPage, LooksSame, TakesAtTheLabel, released, with_words}
+use Rattle.pack_laws.specs.GuardLaws.{ChangesOne, ComesToHold, LooksSame, TakesAtTheLabel, released, with_words}
 use Rattle.pack_laws.proofs.Sighted.{sights-write, sights_same}
 use Rattle.pack_laws.proofs.Guarding.{carried_parts, free_on, free_parts, free_shown, free_unnamed, front_from, here_written, named_shown, named_taken, ones_free, other_kept, page_on, usable_shown, usable_within, value_page}
 
@@ -88,7 +88,7 @@ same_self p at = record { pages = λ i. refl; frees = λ i. refl; shown = refl; 
 
 -- ---- the laws
 -- a sector that carries a page has other bytes of it
-pub value_keeps : (p : Pack) (at : ℕ) (page : Page) (value : List ℕ) → carried p at ≡ Some page → HoldsPage at page (sector_at p at).label value p (after p (Wrote at 2 value ∷ []))
+pub value_keeps : (p : Pack) (at : ℕ) (page : Page) (value : List ℕ) → carried p at ≡ Some page → ComesToHold at page (sector_at p at).label value p (after p (Wrote at 2 value ∷ []))
 value_keeps p at page value is =
     let s : Sector = sector_at p at in
     let parts = carried_parts p at page is in
@@ -102,7 +102,7 @@ value_keeps p at page value is =
       others = other_kept p at 2 value;
     }
 
-pub value_writes_keep_the_page : (p : Pack) (at : ℕ) (page : Page) (value : List ℕ) (k : ℕ) → carried p at ≡ Some page → 0 < k → HoldsPage at page (sector_at p at).label value p (crash p (value_writes at value) k)
+pub value_writes_keep_the_page : (p : Pack) (at : ℕ) (page : Page) (value : List ℕ) (k : ℕ) → carried p at ≡ Some page → 0 < k → ComesToHold at page (sector_at p at).label value p (crash p (value_writes at value) k)
 value_writes_keep_the_page p at page value zero is some = absurd (omega arith)
 value_writes_keep_the_page p at page value (suc zero) is some = value_keeps p at page value is
 value_writes_keep_the_page p at page value (suc (suc k)) is some = value_keeps p at page value is
@@ -138,7 +138,7 @@ either_same : (b : Bool) (words : List ℕ) → cond b words words ≡ words
 either_same true words = refl
 either_same false words = refl
 
-pub relabel_keeps_the_page : (p : Pack) (at : ℕ) (page : Page) (label : List ℕ) (k : ℕ) → carried p at ≡ Some page → page_of label ≡ Some page → 0 < k → HoldsPage at page label (sector_at p at).value p (crash p (relabel_writes at label (sector_at p at).value) k)
+pub relabel_keeps_the_page : (p : Pack) (at : ℕ) (page : Page) (label : List ℕ) (k : ℕ) → carried p at ≡ Some page → page_of label ≡ Some page → 0 < k → ComesToHold at page label (sector_at p at).value p (crash p (relabel_writes at label (sector_at p at).value) k)
 relabel_keeps_the_page p at page label k is names some =
     changes_as names (named_taken label page names) (named_shown label (sector_at p at).value page names) (ap (with_words (sector_at p at) label) (either_same (nat_lt k 2) (sector_at p at).value))
     (relabelled p at label (sector_at p at).value k (carried_parts p at page is).0 refl some)
@@ -158,7 +158,7 @@ free_filled p at value is =
     same_value p at value parts.0 (free_shown t value parts.1 ∙ sym (free_shown t (sector_at p at).value parts.1))
 
 claim_relabelled : (p : Pack) (at : ℕ) (page : Page) (label value : List ℕ) (k : ℕ) → is_free_at p at ≡ true → page_of label ≡ Some page → 0 < k
-    → HoldsPage at page label value p (crash (after p (Wrote at 2 value ∷ [])) (relabel_writes at label value) k)
+    → ComesToHold at page label value p (crash (after p (Wrote at 2 value ∷ [])) (relabel_writes at label value) k)
 claim_relabelled p at page label value k is names some =
     let parts = free_parts p at is in
     let q : Pack = after p (Wrote at 2 value ∷ []) in
