@@ -7,7 +7,7 @@ use Rattle.disk_records.specs.Tapes.{Taped, added, pack}
 use Rattle.disk_records.specs.declared.records.Event.{Event}
 use Rattle.disk_records.specs.declared.records.Tally.{Tally}
 use Rattle.pack_model.specs.operations.Committing.{moves_of}
-use Rattle.pack_model.specs.operations.Operations.{go_writes}
+use Rattle.pack_model.specs.operations.Operations.{release_file_writes}
 use Rattle.pack_model.specs.operations.Step.{Operation}
 use Rattle.pack_model.specs.reading.Model.{read_as}
 use Rattle.pack_model.specs.sessions.Tallies.{CountsMoves}
@@ -68,11 +68,11 @@ pub record Released {T E : Type 0} (fault memory : E) (f : Fid) (old new : Aroun
   pub at : ℕ
   pub pages : List ℕ
   pub may : MayDrop (pack old.tape) f at pages
-  pub some : IsFirstOf (go_writes at pages) (added old.tape new.tape)
-  pub all : OnOk result (added old.tape new.tape ≡ go_writes at pages)
+  pub some : IsFirstOf (release_file_writes at pages) (added old.tape new.tape)
+  pub all : OnOk result (added old.tape new.tape ≡ release_file_writes at pages)
   pub table : OnOk result (new.bits ≡ marked false (at ∷ pages) old.bits)
   pub counts : CountsMoves fault old.tape new.tape (take (length (added old.tape new.tape)) (first_moves (pack old.tape) f)) old.tally new.tally result
-  pub out_of_memory : IsErrOf result memory → old.tape.spare < length (go_writes at pages)
+  pub out_of_memory : IsErrOf result memory → old.tape.spare < length (release_file_writes at pages)
 
 pub data Releases {T E : Type 0} (fault memory : E) (f : Fid) (old new : Around) (result : Result T E) : Type 0 where
   unreleased : IsQuiet old new → OnOk result ⊥ → Releases fault memory f old new result

@@ -7,7 +7,7 @@ use Rattle.disk_records.specs.declared.shape.Shape.{Shape}
 use Rattle.disk_records.specs.Addresses.{pages_of}
 use Rattle.disk_records.specs.Packs.{Pack, is_free_at}
 use Rattle.page_alloc.specs.Free.{IsTrueTable, free_addresses}
-use Rattle.pack_model.specs.hints.Handy.{Cached, Handy, HandyCache}
+use Rattle.pack_model.specs.hints.Handy.{CachedAt, Handy, HandyCache}
 use Rattle.pack_model.specs.hints.Tables.{HintsTrue, TableTrue, described_table}
 use Rattle.pack_model.specs.reading.Model.{read_as, room}
 use Rattle.pack_model.specs.reading.Sights.{sights}
@@ -74,4 +74,4 @@ FormattedDescriptorFits = (shape : Shape) (number moment : ℕ) → DescribesIt 
 -- ---- hints that may be passed over
 -- those of its leader pages are handy, beside a cache that is
 abbrev pub FormattedLeadersAreHandy : Type 0
-FormattedLeadersAreHandy = (shape : Shape) (number moment : ℕ) (f : Fid) (cache : List Cached) → HandyCache (sights (formatted shape number moment)) f cache → Handy (formatted shape number moment) f cache
+FormattedLeadersAreHandy = (shape : Shape) (number moment : ℕ) (f : Fid) (cache : List CachedAt) → HandyCache (sights (formatted shape number moment)) f cache → Handy (formatted shape number moment) f cache

@@ -15,7 +15,7 @@ use Rattle.pack_model.specs.sessions.Descriptor.{close_writes, open_writes, seri
 use Rattle.pack_model.specs.operations.Entering.{entry_value, values_first}
 use Rattle.pack_model.specs.reading.Files.{place}
 use Rattle.pack_model.specs.reading.Model.{read_as}
-use Rattle.pack_model.specs.operations.Operations.{cut_writes, drop_writes, enter_writes, go_writes, grow_writes, make_writes}
+use Rattle.pack_model.specs.operations.Operations.{cut_writes, drop_writes, enter_writes, release_file_writes, grow_writes, make_writes}
 use Rattle.pack_model.specs.operations.PageWords.{freed_value}
 use Rattle.pack_model.specs.reading.Sights.{sights}
 use Rattle.pack_model.specs.reading.Slots.{Item, all_words, item_words}
@@ -72,7 +72,7 @@ ClaimsMarkTheMap = (p : Pack) → Whole p → Tidy p → ClaimsMark p
 -- The operations that release sectors: a cut, and a drop, without its entry's slot and with it.
 pub record ReleasesMark (p : Pack) : Type 0 where
   pub cuts : (f : Fid) (n at : ℕ) (label later : List ℕ) → MayCut p f n at label later → MarksMap p (cut_writes at label (sector_at p at).value later) [] later
-  pub goes : (f : Fid) (at : ℕ) (pages : List ℕ) → MayDrop p f at pages → MarksMap p (go_writes at pages) [] (at ∷ pages)
+  pub goes : (f : Fid) (at : ℕ) (pages : List ℕ) → MayDrop p f at pages → MarksMap p (release_file_writes at pages) [] (at ∷ pages)
   pub drops : (f : Fid) (at : ℕ) (pages : List ℕ) (d : Fid) (slot_at : ℕ) (a b : List Item) (own : List ℕ) → MayDrop p f at pages → Frees p d slot_at a (entry f own ∷ []) b
       → MarksMap p (drop_writes at pages slot_at (freed_value (all_words a) (item_words (entry f own)) (sector_at p slot_at).value)) [] (at ∷ pages)
 

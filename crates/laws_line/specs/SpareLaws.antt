@@ -11,7 +11,7 @@ use Rattle.disk_records.specs.Packs.{Pack, carried, sector_at}
 use Rattle.pack_model.specs.operations.Commands.{Claim}
 use Rattle.pack_model.specs.operations.Entering.{entry_value, values_first}
 use Rattle.pack_model.specs.reading.Leaders.{Leader}
-use Rattle.pack_model.specs.operations.Operations.{cut_writes, drop_writes, enter_writes, go_writes, grow_writes, make_writes}
+use Rattle.pack_model.specs.operations.Operations.{cut_writes, drop_writes, enter_writes, release_file_writes, grow_writes, make_writes}
 use Rattle.pack_model.specs.reading.Slots.{Item}
 use Rattle.pack_model.specs.states.Whole.{Whole}
 use Rattle.laws_record.specs.DirLaws.{Frees}
@@ -58,7 +58,7 @@ MakeLeavesTheSystem = (p : Pack) (f : Fid) (name : List ℕ) (moment : ℕ) (pag
 
 -- a file that goes, but for the slot of its entry
 abbrev pub ReleaseLeavesTheSystem : Type 0
-ReleaseLeavesTheSystem = (p : Pack) (f : Fid) (at : ℕ) (pages : List ℕ) → Whole p → MayDrop p f at pages → LeavesSystem p (go_writes at pages)
+ReleaseLeavesTheSystem = (p : Pack) (f : Fid) (at : ℕ) (pages : List ℕ) → Whole p → MayDrop p f at pages → LeavesSystem p (release_file_writes at pages)
 
 -- an entry's slot that becomes a free one, where an entry leaves or its file is gone
 abbrev pub SlotLeavesTheSystem : Type 0

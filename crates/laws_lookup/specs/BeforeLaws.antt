@@ -11,7 +11,7 @@ use Rattle.pack_model.specs.hints.Misled.{IsOnDisk, Misled}
 use Rattle.pack_model.specs.operations.Commands.{first_page_claim, grown_claims, grown_label, grown_value, leader_claim}
 use Rattle.pack_model.specs.operations.Committing.{pages_added}
 use Rattle.pack_model.specs.operations.Entering.{entry_value, values_first}
-use Rattle.pack_model.specs.operations.Operations.{cut_writes, drop_writes, enter_writes, go_writes, grow_writes, make_writes}
+use Rattle.pack_model.specs.operations.Operations.{cut_writes, drop_writes, enter_writes, release_file_writes, grow_writes, make_writes}
 use Rattle.pack_model.specs.operations.PageWords.{freed_value}
 use Rattle.pack_model.specs.reading.Bytes.{bytes_of}
 use Rattle.pack_model.specs.reading.Files.{file_bytes, place}
@@ -62,7 +62,7 @@ MakeMisledBefore = (p : Pack) (f : Fid) (name : List ℕ) (moment leader_at page
 -- the releases of a drop, of hints for other files: the file's entry is left, and its address misleads now
 abbrev pub ReleaseMisledBefore : Type 0
 ReleaseMisledBefore = (p : Pack) (f : Fid) (at : ℕ) (pages : List ℕ) (where_from : Place) (bt : ℕ) (wanted : Page) → Whole p → Tidy p → MayDrop p f at pages → IsOnDisk where_from → is_fid wanted.fid f ≡ false
-    → Misled (after p (go_writes at pages)) where_from bt wanted → Misled p where_from bt wanted
+    → Misled (after p (release_file_writes at pages)) where_from bt wanted → Misled p where_from bt wanted
 
 -- a whole drop, where the file has an entry
 abbrev pub DropMisledBefore : Type 0

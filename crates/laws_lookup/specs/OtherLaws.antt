@@ -6,7 +6,7 @@ use Rattle.disk_records.specs.Packs.{Pack, after, carried, sector_at}
 use Rattle.disk_records.specs.declared.records.Page.{Page}
 use Rattle.pack_model.specs.operations.Commands.{Claim, values_writes}
 use Rattle.pack_model.specs.operations.Committing.{page_of_byte}
-use Rattle.pack_model.specs.operations.Operations.{cut_writes, go_writes, grow_writes, make_writes}
+use Rattle.pack_model.specs.operations.Operations.{cut_writes, release_file_writes, grow_writes, make_writes}
 use Rattle.pack_model.specs.reading.Files.{file_bytes, lives, place}
 use Rattle.pack_model.specs.reading.Sights.{sights}
 use Rattle.pack_model.specs.states.Whole.{Tidy, Whole}
@@ -54,7 +54,7 @@ MakeLeavesOthers = (p : Pack) (f : Fid) (name : List ℕ) (moment : ℕ) (page l
 
 -- a drop except for its entry's slot, whose value leaves all files except the directory
 abbrev pub ReleaseLeavesOthers : Type 0
-ReleaseLeavesOthers = (p : Pack) (f : Fid) (at : ℕ) (pages : List ℕ) → Whole p → Tidy p → MayDrop p f at pages → LeavesOthers f p (after p (go_writes at pages))
+ReleaseLeavesOthers = (p : Pack) (f : Fid) (at : ℕ) (pages : List ℕ) → Whole p → Tidy p → MayDrop p f at pages → LeavesOthers f p (after p (release_file_writes at pages))
 
 -- ---- pages that are carried still
 -- each page of the file up to this number is carried by the sector that carried it

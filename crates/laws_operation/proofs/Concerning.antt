@@ -1,7 +1,7 @@
 -- Record writes that concern one file: the lemmas on them that laws of what stays take.
 pub use Rattle.laws_operation.proofs.inside.links.Cutting.{cut_concerns, ends_there, label_is, same_front, same_places}
 pub use Rattle.laws_operation.proofs.inside.links.Directories.{other_bytes}
-pub use Rattle.laws_operation.proofs.inside.links.Dropping.{go_concerns, none_there}
+pub use Rattle.laws_operation.proofs.inside.links.Dropping.{release_concerns, none_there}
 pub use Rattle.laws_operation.proofs.inside.links.Entering.{end_is, entered_slots, entered_words_apart, events_are, values_of}
 pub use Rattle.laws_operation.proofs.inside.links.EnterWords.{Apart}
 pub use Rattle.laws_operation.proofs.inside.links.Framing.{AllConcern, other_place, other_sector}

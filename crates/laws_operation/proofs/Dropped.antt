@@ -18,7 +18,7 @@ use Rattle.pack_model.specs.sessions.Meanings.{reading}
 use Rattle.pack_model.specs.reading.Model.{Model, good_one, read_as, read_sights}
 use Rattle.pack_model.specs.sessions.Moves.{Obeys, steps}
 use Rattle.pack_model.specs.reading.Namings.{body_namings, namings_in}
-use Rattle.pack_model.specs.operations.Operations.{go_moves, go_writes}
+use Rattle.pack_model.specs.operations.Operations.{release_file_moves, release_file_writes}
 use Rattle.pack_model.specs.operations.Operations.Move.{commits, quiet}
 use Rattle.pack_model.specs.reading.Sights.{Sight, sights}
 use Rattle.pack_model.specs.reading.Sights.Sight.{free, hidden, holds, leads}
@@ -74,8 +74,8 @@ bodies_bare f (items_of is) = refl
 
 module _ (p : Pack) (w : Whole p) (t : Tidy p) (f : Fid) where
   -- all record writes but the last
-  pub go_law : (at : ℕ) (pages : List ℕ) → MayDrop p f at pages → GoesOut p f (go_writes at pages) × SameBut f (sights p) (sights (after p (go_writes at pages))) × ((i : ℕ) → (MayBe f (get_or (sights p) i hidden) → ⊥) → sector_at (after p (go_writes at pages)) i ≡ sector_at p i)
-  go_law i ats hyp =
+  pub release_law : (at : ℕ) (pages : List ℕ) → MayDrop p f at pages → GoesOut p f (release_file_writes at pages) × SameBut f (sights p) (sights (after p (release_file_writes at pages))) × ((i : ℕ) → (MayBe f (get_or (sights p) i hidden) → ⊥) → sector_at (after p (release_file_writes at pages)) i ≡ sector_at p i)
+  release_law i ats hyp =
       let ss : List Sight = sights p in
       let us : List Sight = set ss i free in
       let here = leader_of_place ss f i hyp.sector in
@@ -108,13 +108,13 @@ module _ (p : Pack) (w : Whole p) (t : Tidy p) (f : Fid) where
       let size : length (file_bytes ss f) ≡ length (together h.pages) = ap length (bytes_laid ss f h.pages (length h.pages) [] (carries_none ss f h.pages 0 (length h.pages) h.carries) (omega arith) h.laid h.few) in
       let many : length h.pages ≡ page_of_byte (length (file_bytes ss f)) = pages_by_bytes h.pages h.laid ∙ ap page_of_byte (sym size) in
       let ats_are : ats ≡ sectors_of h.pages = row_is ss f h.pages h.carries ats h.pages 0 (hyp.number ∙ sym many) hyp.pages_are h.carries.seated in
-      let events_are : go_writes i ats ≡ go_writes i (sectors_of h.pages) = ap (go_writes i) ats_are in
-      let e : after p (go_writes i ats) ≡ q = ap (after p) events_are ∙ after-append p (release_writes i) (releases_writes (sectors_of h.pages)) in
+      let events_are : release_file_writes i ats ≡ release_file_writes i (sectors_of h.pages) = ap (release_file_writes i) ats_are in
+      let e : after p (release_file_writes i ats) ≡ q = ap (after p) events_are ∙ after-append p (release_writes i) (releases_writes (sectors_of h.pages)) in
       let long : length h.pages ≡ page_of_byte (length_of (read_as p) f) = many ∙ ap page_of_byte (sym (length_there p f l w t apart was_leader)) in
-      let moves : first_moves p f ≡ go_moves o h.pages = ap (λ y. commits o ∷ quiet ∷ y) (releases_units h.pages (page_of_byte (length_of (read_as p) f)) long) in
-      let obeys : Obeys reading (read_as p) p (go_writes i ats) (first_moves p f) = subst (λ y. Obeys reading (read_as p) p y (first_moves p f)) (sym events_are) (subst (Obeys reading (read_as p) p (go_writes i (sectors_of h.pages))) (sym moves)
+      let moves : first_moves p f ≡ release_file_moves o h.pages = ap (λ y. commits o ∷ quiet ∷ y) (releases_units h.pages (page_of_byte (length_of (read_as p) f)) long) in
+      let obeys : Obeys reading (read_as p) p (release_file_writes i ats) (first_moves p f) = subst (λ y. Obeys reading (read_as p) p y (first_moves p f)) (sym events_are) (subst (Obeys reading (read_as p) p (release_file_writes i (sectors_of h.pages))) (sym moves)
       (obeys_then reading (release_obeys p i good (read_as p) (commits o) (ones 8) (ones 256) ones_free refl (record { part_is = refl; bears = hyp.sector }) reads) r.obeys)) in
-      let all_q : SameBut f ss (sights (after p (go_writes i ats))) = subst (λ y. SameBut f ss (sights y)) (sym e) all in (
+      let all_q : SameBut f ss (sights (after p (release_file_writes i ats))) = subst (λ y. SameBut f ss (sights y)) (sym e) all in (
         record {
           drops = record {
             obeys = obeys;
@@ -122,10 +122,10 @@ module _ (p : Pack) (w : Whole p) (t : Tidy p) (f : Fid) where
             gone = subst (λ y. Headless (sights y) f) (sym e) r.stands.0;
             tidy_but = subst (λ y. TidyBut f (sights y)) (sym e) (tidy_but p.shape ss (sights q) f x all now other t was bare (ap is_some was_leader));
           };
-          cuts = cuts_read p (go_writes i ats) (first_moves p f) obeys;
+          cuts = cuts_read p (release_file_writes i ats) (first_moves p f) obeys;
           ends = stands_last reading obeys ∙ ap (steps reading (read_as p)) moves ∙ r.still;
-          descriptor = descriptor_kept p (after p (go_writes i ats)) f all_q apart;
-          fits = fits_still p (after p (go_writes i ats)) f all_q apart refl;
+          descriptor = descriptor_kept p (after p (release_file_writes i ats)) f all_q apart;
+          fits = fits_still p (after p (release_file_writes i ats)) f all_q apart refl;
         },
         all_q,
         λ j never. ap (λ y. sector_at y j) e ∙ r.apart j (λ z. never (elim (same_at f ss us j same) [

@@ -5,7 +5,7 @@ use Rattle.disk_records.specs.Packs.{Pack, after, is_free_at}
 use Rattle.disk_records.specs.declared.records.Event.{Event}
 use Rattle.pack_model.specs.operations.Commands.{claims_writes, Claim, all_claimed, releases_writes, sectors_of, values_writes}
 use Rattle.pack_model.specs.reading.Files.{place}
-use Rattle.pack_model.specs.operations.Operations.{cut_writes, drop_writes, enter_writes, go_writes, grow_writes, make_writes}
+use Rattle.pack_model.specs.operations.Operations.{cut_writes, drop_writes, enter_writes, release_file_writes, grow_writes, make_writes}
 use Rattle.pack_model.specs.reading.Sights.{sights}
 use Rattle.laws_operation.specs.ByteLaws.{Bear}
 
@@ -54,7 +54,7 @@ DropTakesNoSector = (p : Pack) (at : ℕ) (pages : List ℕ) (slot_at : ℕ) (va
 
 -- behind the releases of a drop, before the value in which its entry's slot is free, each sector that was free is free still
 abbrev pub ReleaseTakesNoSector : Type 0
-ReleaseTakesNoSector = (p : Pack) (at : ℕ) (pages : List ℕ) → StayFree p (go_writes at pages)
+ReleaseTakesNoSector = (p : Pack) (at : ℕ) (pages : List ℕ) → StayFree p (release_file_writes at pages)
 
 -- all of these sectors are free behind the record writes
 abbrev pub FreeThen : Pack → List Event → List ℕ → Type 0

@@ -14,7 +14,7 @@ use Rattle.pack_model.specs.reading.Leaders.{is_readable, leader_of, leader_word
 use Rattle.pack_model.specs.sessions.Meanings.{Drops, Meets}
 use Rattle.pack_model.specs.reading.Model.{dir_items, read_as}
 use Rattle.pack_model.specs.reading.Namings.{namings_in}
-use Rattle.pack_model.specs.operations.Operations.{Move, drop_writes, go_moves, go_writes, make_writes}
+use Rattle.pack_model.specs.operations.Operations.{Move, drop_writes, release_file_moves, release_file_writes, make_writes}
 use Rattle.pack_model.specs.operations.Operations.Move.{quiet}
 use Rattle.pack_model.specs.operations.PageWords.{freed_value, page_number}
 use Rattle.pack_model.specs.reading.Sights.{sights}
@@ -63,7 +63,7 @@ pub record MayDrop (p : Pack) (f : Fid) (at : ℕ) (pages : List ℕ) : Type 0 w
 
 -- the moves of a drop but for the last one
 abbrev pub first_moves : Pack → Fid → List Move
-first_moves p f = go_moves (drop_file f) (units (page_of_byte (length_of (read_as p) f)))
+first_moves p f = release_file_moves (drop_file f) (units (page_of_byte (length_of (read_as p) f)))
 
 -- All record writes but the last: the file is gone, its entry's slot is left, and the pack is tidy but for this one.
 pub record GoesOut (p : Pack) (f : Fid) (events : List Event) : Type 0 where
@@ -75,7 +75,7 @@ pub record GoesOut (p : Pack) (f : Fid) (events : List Event) : Type 0 where
 
 -- the releases are the drop but for its slot
 abbrev pub ReleaseCarriesOut : Type 0
-ReleaseCarriesOut = (p : Pack) (f : Fid) (at : ℕ) (pages : List ℕ) → Whole p → Tidy p → MayDrop p f at pages → GoesOut p f (go_writes at pages)
+ReleaseCarriesOut = (p : Pack) (f : Fid) (at : ℕ) (pages : List ℕ) → Whole p → Tidy p → MayDrop p f at pages → GoesOut p f (release_file_writes at pages)
 
 -- The last: on a whole pack that is tidy but for the entry of a file that doesn't live, the value in which its slot is a free one
 -- changes nothing that is read, and leaves a whole and tidy pack.
@@ -98,7 +98,7 @@ pub record StoodBefore (p q : Pack) (f d : Fid) (at : ℕ) (a b : List Item) (ow
 -- so it is after the releases of a drop
 abbrev pub SlotOfADropStoodBefore : Type 0
 SlotOfADropStoodBefore = (p : Pack) (f d : Fid) (at : ℕ) (pages : List ℕ) (slot_at : ℕ) (a b : List Item) (own : List ℕ) → Whole p → Tidy p → MayDrop p f at pages
-    → Frees (after p (go_writes at pages)) d slot_at a (entry f own ∷ []) b → StoodBefore p (after p (go_writes at pages)) f d slot_at a b own
+    → Frees (after p (release_file_writes at pages)) d slot_at a (entry f own ∷ []) b → StoodBefore p (after p (release_file_writes at pages)) f d slot_at a b own
 
 -- all of it, where the file has an entry
 abbrev pub DropCarriesOut : Type 0

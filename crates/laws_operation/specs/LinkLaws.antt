@@ -7,7 +7,7 @@ use Rattle.disk_records.specs.Packs.{Pack, after, sector_at}
 use Rattle.pack_model.specs.operations.Commands.{cut_label, first_page_claim, grown_claims, grown_label, grown_value, leader_claim}
 use Rattle.pack_model.specs.reading.Files.{file_bytes}
 use Rattle.pack_model.specs.hints.Links.{LinksTrue}
-use Rattle.pack_model.specs.operations.Operations.{cut_writes, go_writes, grow_writes, make_writes}
+use Rattle.pack_model.specs.operations.Operations.{cut_writes, release_file_writes, grow_writes, make_writes}
 use Rattle.pack_model.specs.reading.Sights.{sights}
 use Rattle.pack_model.specs.states.Whole.{Tidy, Whole}
 use Rattle.laws_operation.specs.ByteLaws.{MayCut, MayGrow, MayPut}
@@ -46,4 +46,4 @@ MakeKeepsLinks = (p : Pack) (f : Fid) (name : List ℕ) (moment leader_at page_a
 
 -- a drop but for its entry's slot
 abbrev pub ReleaseKeepsLinks : Type 0
-ReleaseKeepsLinks = (p : Pack) (f : Fid) (at : ℕ) (pages : List ℕ) → Whole p → Tidy p → MayDrop p f at pages → KeepsLinks p (go_writes at pages)
+ReleaseKeepsLinks = (p : Pack) (f : Fid) (at : ℕ) (pages : List ℕ) → Whole p → Tidy p → MayDrop p f at pages → KeepsLinks p (release_file_writes at pages)

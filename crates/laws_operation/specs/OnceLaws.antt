@@ -7,7 +7,7 @@ use Rattle.disk_records.specs.declared.records.Page.{Page}
 use Rattle.disk_records.specs.declared.shape.Shape.{Shape}
 use Rattle.pack_model.specs.operations.Commands.{Claim, values_writes}
 use Rattle.pack_model.specs.sessions.Descriptor.{close_writes, open_writes}
-use Rattle.pack_model.specs.operations.Operations.{cut_writes, drop_writes, enter_writes, go_writes, grow_writes, make_writes}
+use Rattle.pack_model.specs.operations.Operations.{cut_writes, drop_writes, enter_writes, release_file_writes, grow_writes, make_writes}
 use Rattle.pack_model.specs.scavenger.Scavenging.{Throughout}
 use Rattle.pack_model.specs.states.Whole.{Whole}
 use Rattle.laws_operation.specs.ByteLaws.{MayCut, MayGrow}
@@ -63,4 +63,4 @@ DropCarriesOnce = (p : Pack) (at : ℕ) (pages : List ℕ) (slot_at : ℕ) (valu
 
 -- but for its entry's slot
 abbrev pub ReleaseCarriesOnce : Type 0
-ReleaseCarriesOnce = (p : Pack) (at : ℕ) (pages : List ℕ) → Whole p → StaysOnce p (go_writes at pages)
+ReleaseCarriesOnce = (p : Pack) (at : ℕ) (pages : List ℕ) → Whole p → StaysOnce p (release_file_writes at pages)

@@ -17,12 +17,12 @@ use Rattle.pack_model.specs.operations.PageWords.{page_number, page_value, leade
 use Rattle.pack_model.specs.operations.Step.{new_leader}
 use Rattle.pack_model.specs.hints.Links.{no_link}
 use Rattle.pack_model.specs.sessions.Format.{Written, formatted}
-use Rattle.pack_model.specs.hints.Handy.{Handy, HandyCache, LiesInARow, NamesLastPage, IsRightOrIdle, Cached, leader_word, row_word, last_at_word, last_number_word}
+use Rattle.pack_model.specs.hints.Handy.{Handy, HandyCache, LiesInARow, NamesLastPage, IsRightOrIdle, CachedAt, leader_word, row_word, last_at_word, last_number_word}
 use Rattle.pack_vectors.proofs.Shapes.{small}
 use Rattle.pack_vectors.proofs.SmallPacks.{free_sector, pack_of, system, words_a, its_words, some_or, file_3}
 
 -- with the one sector that bears the leader
-handy_by : (p : Pack) (f : Fid) (at : ℕ) (cache : List Cached)
+handy_by : (p : Pack) (f : Fid) (at : ℕ) (cache : List CachedAt)
     → place (sights p) f 0 ≡ Some at
     → (leader_word p at row_word ≡ 0) ⊎ LiesInARow (sights p) f at
     → NamesLastPage (sights p) f (leader_word p at last_number_word) (leader_word p at last_at_word)
@@ -69,28 +69,28 @@ rows (suc n) at e = by (n == 0) (n == 1) refl refl e
 
 -- a flag of pages that are in a row, and a last page where it is; a leader and a page where they are, a page that no sector
 -- carries, and a page of another file, wherever that is said to be
-abbrev cached : Fid → ℕ → ℕ → Cached
+abbrev cached : Fid → ℕ → ℕ → CachedAt
 cached f n at = (record { fid = f; number = n }, at)
 
-abbrev c0 : Cached
+abbrev c0 : CachedAt
 c0 = cached file_3 0 5
 
-abbrev c2 : Cached
+abbrev c2 : CachedAt
 c2 = cached file_3 2 7
 
-abbrev c3 : Cached
+abbrev c3 : CachedAt
 c3 = cached file_3 3 40
 
-abbrev root_1 : Cached
+abbrev root_1 : CachedAt
 root_1 = cached sys_dir 1 47
 
-abbrev listed : List Cached
+abbrev listed : List CachedAt
 listed = c0 ∷ c2 ∷ c3 ∷ root_1 ∷ []
 
 another : sys_dir ≡ file_3 → ⊥
 another e = let low : ◌≡◌ {A = ℕ} 1 3 = ap (λ f. f.low) e in omega arith
 
-abbrev is_handy : Pack → Cached → Type 0
+abbrev is_handy : Pack → CachedAt → Type 0
 is_handy p c = c.0.fid ≡ file_3 → IsRightOrIdle (sights p) file_3 c.0.number c.1
 
 row_handy : Handy in_row file_3 listed

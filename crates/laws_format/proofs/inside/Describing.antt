@@ -13,7 +13,7 @@ use Rattle.disk_records.specs.Words.{word}
 use Rattle.pack_model.specs.reading.Files.{leader, place}
 use Rattle.pack_model.specs.reading.Model.{descriptor_words}
 use Rattle.pack_model.specs.reading.Sights.{Sight, sights}
-use Rattle.pack_model.specs.hints.Handy.{Cached, Handy, HandyCache, NamesLastPage, last_at_word, last_number_word, leader_word, row_word}
+use Rattle.pack_model.specs.hints.Handy.{CachedAt, Handy, HandyCache, NamesLastPage, last_at_word, last_number_word, leader_word, row_word}
 use Rattle.pack_model.specs.hints.Tables.{HintsTrue, bits_from, described_table, table_in, true_table, words_of_bits}
 use Rattle.pack_model.specs.sessions.Descriptor.{data_pages}
 use Rattle.pack_model.specs.sessions.Format.{format_table, formatted, free_after_format, sectors_used, with_headers, Written}
@@ -127,7 +127,7 @@ module _ (shape : Shape) (number moment : ℕ) where
       (λ e. let same : Some 3 ≡ Some at = sym (root_at shape number moment).2 ∙ ap (λ g. place ss g 0) (sym e) ∙ is in let three : 3 ≡ at = cc in subst (λ g. Led g at) (sym e) (subst (Led disk_descriptor) three its_led))
       (λ x y. let none : leader ss f ≡ None = no_leader moment (its_bytes shape) (data_pages shape) (free_after_format shape) f x y in let some = (leader_of_place ss f at is).leader_is in absurd cc)
 
-  pub leaders_are_handy : (f : Fid) (cache : List Cached) → HandyCache (sights p) f cache → Handy p f cache
+  pub leaders_are_handy : (f : Fid) (cache : List CachedAt) → HandyCache (sights p) f cache → Handy p f cache
   leaders_are_handy f cache right =
       let each : (at : ℕ) → place (sights p) f 0 ≡ Some at → (leader_word p at row_word ≡ 0) × NamesLastPage (sights p) f (leader_word p at last_number_word) (leader_word p at last_at_word) = subst (λ ss. (at : ℕ) → place ss f 0 ≡ Some at → (leader_word p at row_word ≡ 0) × NamesLastPage ss f (leader_word p at last_number_word) (leader_word p at last_at_word)) (sym (formatted_sights shape number moment)) (led f) in
       record { row = λ at is. inl (each at is).0; last = λ at is. (each at is).1; cached = right }

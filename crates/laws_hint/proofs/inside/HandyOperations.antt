@@ -10,7 +10,7 @@ use Rattle.disk_records.specs.Words.{word}
 use Rattle.disk_records.specs.declared.records.Event.TheVariants.{Shown, Wrote}
 use Rattle.disk_records.specs.declared.records.Event.{Event}
 use Rattle.disk_records.specs.declared.records.Page.{Page}
-use Rattle.pack_model.specs.hints.Handy.{Cached, Handy, last_at_word, last_number_word, row_word}
+use Rattle.pack_model.specs.hints.Handy.{CachedAt, Handy, last_at_word, last_number_word, row_word}
 use Rattle.pack_model.specs.operations.Commands.{Claim, Claimable, claims_writes, releases_writes}
 use Rattle.pack_model.specs.operations.Committing.{page_of_byte}
 use Rattle.pack_model.specs.operations.Operations.{cut_writes, grow_writes}
@@ -141,7 +141,7 @@ claims_apart (c ∷ cs) ss f k i h busy =
 not_free : (p : Pack) (f : Fid) (i : ℕ) → place (sights p) f 0 ≡ Some i → get_or (sights p) i hidden ≡ free → ⊥
 not_free p f i there e = let h = place_is (sights p) f 0 i there in let both : true ≡ false = sym (h.carries hidden) ∙ ap (carries_page f 0) e in cc
 
-module _ (p : Pack) (f : Fid) (claims : List Claim) (at n : ℕ) (label value : List ℕ) (cache : List Cached) (some : 0 < n) (sector : place (sights p) f n ≡ Some at) (claimable : Claimable (sights p) f n claims) (last : ℕ)
+module _ (p : Pack) (f : Fid) (claims : List Claim) (at n : ℕ) (label value : List ℕ) (cache : List CachedAt) (some : 0 < n) (sector : place (sights p) f n ≡ Some at) (claimable : Claimable (sights p) f n claims) (last : ℕ)
     (placed : (k : ℕ) → k ≤ last → place (sights p) f k ≢ None) (kept : (k i : ℕ) → k ≤ last → place (sights p) f k ≡ Some i → place (sights (after p (grow_writes claims at label value))) f k ≡ Some i) (speaks : SpeaksUpTo p f last cache) (h : Handy p f cache) where
   q : Pack
   q = after p (grow_writes claims at label value)

@@ -21,7 +21,7 @@ use Rattle.pack_model.specs.operations.Entering.{EntryRoom, entry_value, values_
 use Rattle.pack_model.specs.reading.Files.{file_bytes, place}
 use Rattle.pack_model.specs.states.InUse.{is_free_sight}
 use Rattle.pack_model.specs.reading.Model.{good_one, read_as}
-use Rattle.pack_model.specs.operations.Operations.{cut_writes, enter_writes, go_writes, grow_writes}
+use Rattle.pack_model.specs.operations.Operations.{cut_writes, enter_writes, release_file_writes, grow_writes}
 use Rattle.pack_model.specs.reading.Sights.{Sight, sights}
 use Rattle.pack_model.specs.operations.PageWords.{freed_value, page_number}
 use Rattle.pack_model.specs.reading.Sights.Sight.{hidden, holds}
@@ -34,7 +34,7 @@ use Rattle.pack_model.specs.hints.Tables.{free_table}
 use Rattle.pack_model.specs.states.Whole.{Tidy, Whole}
 use Rattle.pack_laws.proofs.Placing.{leader_of_place, page_of_place}
 use Rattle.laws_operation.proofs.Cutting.{cut_law}
-use Rattle.laws_operation.proofs.Dropped.{go_law}
+use Rattle.laws_operation.proofs.Dropped.{release_law}
 use Rattle.laws_operation.proofs.Grown.{grow_law}
 use Rattle.laws_operation.proofs.Leaving.{leave_law}
 use Rattle.laws_operation.proofs.Making.{make_law}
@@ -111,7 +111,7 @@ module _ (p : Pack) (w : Whole p) (t : Tidy p) where
       releases_bits (after p (relabel_writes at label value)) later usable
       ∙ ap (marked false later) (value_bit (after p (Wrote at 1 label ∷ [])) at value ∙ label_bit p at label ranged ∙ set_again [] (free_table p) at (borne_busy p f n at is))
 
-  gone : (f : Fid) (at : ℕ) (pages : List ℕ) → place (sights p) f 0 ≡ Some at → Bear (sights p) f 1 pages → free_table (after p (go_writes at pages)) ≡ marked false (at ∷ pages) (free_table p)
+  gone : (f : Fid) (at : ℕ) (pages : List ℕ) → place (sights p) f 0 ≡ Some at → Bear (sights p) f 1 pages → free_table (after p (release_file_writes at pages)) ≡ marked false (at ∷ pages) (free_table p)
   gone f at pages is bear = releases_bits p (at ∷ pages) (borne_usable p f 0 at is, all_usable p f 1 pages bear)
 
   -- a value behind others leaves the map that these leave
@@ -146,9 +146,9 @@ pub releases_mark_the_map : ReleasesMarkTheMap
 releases_mark_the_map p w t = record {
   cuts = λ f n at label later h. let k : ℕ = page_of_byte n in carried p w t (cut_law p w t f h.file n at label later h) [] later
       (shortened p w t f k (suc k) at label (sector_at p at).value later (named_ranged label (page_number f k) h.page) h.sector h.later_are);
-  goes = λ f at pages h. marks p w t (go_writes at pages) [] (at ∷ pages) (go_law p w t f at pages h).0.drops.whole (gone p w t f at pages h.sector h.pages_are);
+  goes = λ f at pages h. marks p w t (release_file_writes at pages) [] (at ∷ pages) (release_law p w t f at pages h).0.drops.whole (gone p w t f at pages h.sector h.pages_are);
   drops = λ f at pages d slot_at a b own h frees. carried p w t (drop_carries_out p f at pages d slot_at a b own w t h frees) [] (at ∷ pages)
-      (then_value p w t (go_writes at pages) slot_at (freed_value (all_words a) (item_words (entry f own)) (sector_at p slot_at).value) (marked false (at ∷ pages) (free_table p)) (gone p w t f at pages h.sector h.pages_are));
+      (then_value p w t (release_file_writes at pages) slot_at (freed_value (all_words a) (item_words (entry f own)) (sector_at p slot_at).value) (marked false (at ∷ pages) (free_table p)) (gone p w t f at pages h.sector h.pages_are));
 }
 
 pub values_leave_the_map : ValuesLeaveTheMap

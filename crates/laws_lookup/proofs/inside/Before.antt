@@ -13,7 +13,7 @@ use Rattle.pack_model.specs.hints.Links.{dir_words}
 use Rattle.pack_model.specs.hints.Misled.{Misled, StandsInEntry, StandsInLink}
 use Rattle.pack_model.specs.operations.Commands.{Claim, first_page_claim, leader_claim}
 use Rattle.pack_model.specs.operations.Committing.{page_of_byte}
-use Rattle.pack_model.specs.operations.Operations.{cut_writes, go_writes, make_writes}
+use Rattle.pack_model.specs.operations.Operations.{cut_writes, release_file_writes, make_writes}
 use Rattle.pack_model.specs.operations.PageWords.{new_bytes, page_number}
 use Rattle.pack_model.specs.operations.Step.{new_file}
 use Rattle.pack_model.specs.reading.Bodies.{body_items, items_in}
@@ -29,7 +29,7 @@ use Rattle.pack_laws.proofs.Keys.{fid_total, is_fid-itself, same_fid}
 use Rattle.laws_record.proofs.Copying.{place_carried}
 use Rattle.laws_operation.proofs.Concerning.{ends_there, head_label, label_is, never_carried, none_there, only_two, page_label, page_there, same_front, same_places}
 use Rattle.laws_operation.proofs.Cutting.{cut_law}
-use Rattle.laws_operation.proofs.Dropped.{go_law}
+use Rattle.laws_operation.proofs.Dropped.{release_law}
 use Rattle.laws_operation.proofs.Making.{make_law}
 use Rattle.laws_operation.proofs.entries.Laws.{items_are_slots}
 use Rattle.laws_operation.proofs.places.Laws.{carried_in_place, file_lives_in_a_place}
@@ -162,13 +162,13 @@ pub release_misled_before : ReleaseMisledBefore
 release_misled_before p f at pages Root bt wanted w t h on other m = absurd on
 release_misled_before p f at pages (Held i) bt wanted w t h on other m = absurd on
 release_misled_before p f at pages (Next i) bt wanted w t h on other m =
-    link_misled_before f p (go_writes at pages) i bt wanted w (go_law p w t f at pages h).0.drops.whole (release_leaves_others p f at pages w t h) other m
+    link_misled_before f p (release_file_writes at pages) i bt wanted w (release_law p w t f at pages h).0.drops.whole (release_leaves_others p f at pages w t h) other m
 release_misled_before p f at pages (Entry d k) bt wanted w t h on other m = by (is_fid d f) refl
   where
     by : (b : Bool) → is_fid d f ≡ b → Misled p (Entry d k) bt wanted
-    by false apart = address_misled_before f p (go_writes at pages) d k bt wanted w (release_leaves_others p f at pages w t h) apart (inl other) m
+    by false apart = address_misled_before f p (release_file_writes at pages) d k bt wanted w (release_leaves_others p f at pages w t h) apart (inl other) m
     by true same =
-        let q : Pack = after p (go_writes at pages) in
-        let out = (go_law p w t f at pages h).0 in
+        let q : Pack = after p (release_file_writes at pages) in
+        let out = (release_law p w t f at pages h).0 in
         let there = some_of (place (sights q) f 0) (sym (file_lives_in_a_place q f) ∙ ap (lives (sights q)) (sym (same_fid d f same)) ∙ m.stands.lives) in
         absurd (none_there (sights q) f (out.drops.whole.files f) out.drops.gone 0 there.0 there.1)

@@ -15,7 +15,7 @@ use Rattle.disk_records.specs.declared.records.Place.{Place}
 use Rattle.disk_records.specs.declared.records.Place.TheVariants.{Entry, Held, Next, Root}
 use Rattle.pack_model.specs.hints.Links.{dir_words}
 use Rattle.pack_model.specs.hints.Misled.{IsOnDisk, Misled, StandsInEntry, StandsInLink}
-use Rattle.pack_model.specs.operations.Operations.{drop_writes, go_writes}
+use Rattle.pack_model.specs.operations.Operations.{drop_writes, release_file_writes}
 use Rattle.pack_model.specs.operations.PageWords.{freed_value}
 use Rattle.pack_model.specs.operations.Step.{file_without, item_without, items_without, step}
 use Rattle.pack_model.specs.operations.Step.Operation.{drop_file}
@@ -102,7 +102,7 @@ apart p f d a b own items bare = by (is_fid d f) refl
 module _ (p : Pack) (f : Fid) (at : ℕ) (pages : List ℕ) (d : Fid) (slot_at : ℕ) (a b : List Item) (own : List ℕ) (w : Whole p) (t : Tidy p) (h : MayDrop p f at pages) (fr : Frees p d slot_at a (entry f own ∷ []) b) where
   -- after the releases, and at the end
   abbrev middle : Pack
-  middle = after p (go_writes at pages)
+  middle = after p (release_file_writes at pages)
 
   abbrev last_value : List Event
   last_value = value_writes slot_at (freed_value (all_words a) (item_words (entry f own)) (sector_at p slot_at).value)
@@ -110,14 +110,14 @@ module _ (p : Pack) (f : Fid) (at : ℕ) (pages : List ℕ) (d : Fid) (slot_at :
   abbrev done : Pack
   done = after p (drop_writes at pages slot_at (freed_value (all_words a) (item_words (entry f own)) (sector_at p slot_at).value))
 
-  others : LeavesOthers f p (after p (go_writes at pages))
+  others : LeavesOthers f p (after p (release_file_writes at pages))
   others = release_leaves_others p f at pages w t h
 
   ne : is_fid d f ≡ false
   ne = apart p f d a b own (items_are_slots p d t fr.write.lives fr.write.directory ∙ fr.slots_are) h.bare
 
   -- the slot is there still
-  frees : Frees (after p (go_writes at pages)) d slot_at a (entry f own ∷ []) b
+  frees : Frees (after p (release_file_writes at pages)) d slot_at a (entry f own ∷ []) b
   frees =
       let words : dir_words middle d ≡ dir_words p d = ap words_of (others.bytes d ne) in
       record {
@@ -135,8 +135,8 @@ module _ (p : Pack) (f : Fid) (at : ℕ) (pages : List ℕ) (d : Fid) (slot_at :
       }
 
   -- and the last value is written on it
-  end_is : after p (drop_writes at pages slot_at (freed_value (all_words a) (item_words (entry f own)) (sector_at p slot_at).value)) ≡ after (after p (go_writes at pages)) (value_writes slot_at (freed_value (all_words a) (item_words (entry f own)) (sector_at (after p (go_writes at pages)) slot_at).value))
-  end_is = after-append p (go_writes at pages) last_value
+  end_is : after p (drop_writes at pages slot_at (freed_value (all_words a) (item_words (entry f own)) (sector_at p slot_at).value)) ≡ after (after p (release_file_writes at pages)) (value_writes slot_at (freed_value (all_words a) (item_words (entry f own)) (sector_at (after p (release_file_writes at pages)) slot_at).value))
+  end_is = after-append p (release_file_writes at pages) last_value
       ∙ ap (λ s. after middle (value_writes slot_at (freed_value (all_words a) (item_words (entry f own)) s.value))) (sym (others.sectors d (all_words a / 256 + 1) slot_at ne fr.write.sector))
 
   -- the file doesn't live then

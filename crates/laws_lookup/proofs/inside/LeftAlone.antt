@@ -6,18 +6,18 @@ use Rattle.disk_records.specs.Packs.{Pack, after, sector_at}
 use Rattle.disk_records.specs.declared.records.Event.{Event}
 use Rattle.pack_model.specs.operations.Commands.{values_writes}
 use Rattle.pack_model.specs.operations.Committing.{page_of_byte}
-use Rattle.pack_model.specs.operations.Operations.{cut_writes, go_writes, grow_writes, make_writes}
+use Rattle.pack_model.specs.operations.Operations.{cut_writes, release_file_writes, grow_writes, make_writes}
 use Rattle.pack_model.specs.operations.PageWords.{page_number}
 use Rattle.pack_model.specs.reading.Files.{file_bytes}
 use Rattle.pack_model.specs.reading.Sights.{sights}
 use Rattle.pack_model.specs.states.Whole.{Whole}
 use Rattle.laws_record.proofs.Copying.{place_carried}
 use Rattle.laws_operation.proofs.Cutting.{cut_law}
-use Rattle.laws_operation.proofs.Dropped.{go_law}
+use Rattle.laws_operation.proofs.Dropped.{release_law}
 use Rattle.laws_operation.proofs.Grown.{grow_law}
 use Rattle.laws_operation.proofs.Making.{make_law}
 use Rattle.laws_operation.proofs.Widening.{widen_law}
-use Rattle.laws_operation.proofs.Concerning.{AllConcern, AllOf, cut_concerns, go_concerns, grow_concerns, grown_place, make_concerns, of_carried, other_bytes, other_place, other_sector, same_places, values_concern}
+use Rattle.laws_operation.proofs.Concerning.{AllConcern, AllOf, cut_concerns, release_concerns, grow_concerns, grown_place, make_concerns, of_carried, other_bytes, other_place, other_sector, same_places, values_concern}
 use Rattle.laws_operation.proofs.places.Laws.{file_lives_in_a_place}
 use Rattle.laws_lookup.specs.OtherLaws.{AreOfFile, CutKeepsPages, CutLeavesOthers, GrowKeepsPages, GrowLeavesOthers, LeavesOthers, MakeLeavesOthers, PlaceIsOfItsFile, ReleaseLeavesOthers, ValuesLeaveOthers, WidenKeepsPages, WidenLeavesOthers}
 
@@ -60,7 +60,7 @@ pub make_leaves_others : MakeLeavesOthers
 make_leaves_others p f name moment page leader w t h = left_alone p f (make_writes page leader) w (make_law p w t f name moment page leader h).meets.whole (make_concerns p w t f name moment page leader h)
 
 pub release_leaves_others : ReleaseLeavesOthers
-release_leaves_others p f at pages w t h = left_alone p f (go_writes at pages) w (go_law p w t f at pages h).0.drops.whole (go_concerns p f at pages h)
+release_leaves_others p f at pages w t h = left_alone p f (release_file_writes at pages) w (release_law p w t f at pages h).0.drops.whole (release_concerns p f at pages h)
 
 -- ---- its own pages
 pub grow_keeps_pages : GrowKeepsPages

@@ -17,7 +17,7 @@ use Rattle.pack_model.specs.sessions.Meanings.{reading}
 use Rattle.pack_model.specs.reading.Model.{dir_items, read_as}
 use Rattle.pack_model.specs.sessions.Moves.{Obeys, steps}
 use Rattle.pack_model.specs.reading.Namings.{Naming, namings_in}
-use Rattle.pack_model.specs.operations.Operations.{go_writes}
+use Rattle.pack_model.specs.operations.Operations.{release_file_writes}
 use Rattle.pack_model.specs.operations.Operations.Move.{quiet}
 use Rattle.pack_model.specs.operations.PageWords.{freed_value}
 use Rattle.pack_model.specs.reading.Sights.{Sight, sights}
@@ -33,7 +33,7 @@ use Rattle.laws_record.proofs.DirReads.{has_leader, not_descriptor}
 use Rattle.laws_record.proofs.DirWords.{dir_page}
 use Rattle.laws_record.proofs.Entered.{namings_in-append}
 use Rattle.laws_record.specs.DirLaws.{DirWrite, Frees}
-use Rattle.laws_operation.proofs.Dropped.{go_law, read_there}
+use Rattle.laws_operation.proofs.Dropped.{release_law, read_there}
 use Rattle.laws_operation.proofs.inside.Elsewhere.{MayBe, not_same, other_bytes, other_leader}
 use Rattle.laws_operation.proofs.inside.Freeing.{slot_carries_out}
 use Rattle.laws_operation.proofs.inside.Kept.{cuts_read, same_places}
@@ -58,8 +58,8 @@ not_none (n ∷ x) e y h = absurd cc
 pub drop_carries_out : DropCarriesOut
 drop_carries_out p f at pages d slot_at a b own w t hyp fr =
     let ss : List Sight = sights p in
-    let go = go_law p w t f at pages hyp in
-    let p1 : Pack = after p (go_writes at pages) in
+    let go = release_law p w t f at pages hyp in
+    let p1 : Pack = after p (release_file_writes at pages) in
     let h = fr.write in
     let dir_leader = has_leader ss d h.lives in
     let items_are : dir_items (read_as p) d ≡ a ++ entry f own ∷ b =
@@ -89,12 +89,12 @@ drop_carries_out p f at pages d slot_at a b own w t hyp fr =
     let events_are : events1 ≡ events2 = ap (λ s. value_writes slot_at (freed_value (all_words a) n s.value)) same_sector in
     let last2 : SlotFreed p1 events2 = subst (SlotFreed p1) events_are last in
     let o : Operation = drop_file f in
-    let e : after p (go_writes at pages ++ events2) ≡ after p1 events2 = after-append p (go_writes at pages) events2 in
+    let e : after p (release_file_writes at pages ++ events2) ≡ after p1 events2 = after-append p (release_file_writes at pages) events2 in
     let model : read_as p1 ≡ steps reading (read_as p) (first_moves p f) = stands_last reading (go.0).drops.obeys in
-    let obeys : Obeys reading (read_as p) p (go_writes at pages ++ events2) (moves_of (read_as p) o) = obeys_then reading (go.0).drops.obeys (subst (λ m. Obeys reading m p1 events2 (quiet ∷ [])) model last2.meets.obeys) in
+    let obeys : Obeys reading (read_as p) p (release_file_writes at pages ++ events2) (moves_of (read_as p) o) = obeys_then reading (go.0).drops.obeys (subst (λ m. Obeys reading m p1 events2 (quiet ∷ [])) model last2.meets.obeys) in
     record {
       meets = record { obeys = obeys; whole = subst Whole (sym e) last2.meets.whole; tidy = subst Tidy (sym e) last2.meets.tidy };
-      cuts = cuts_read p (go_writes at pages ++ events2) (moves_of (read_as p) o) obeys;
+      cuts = cuts_read p (release_file_writes at pages ++ events2) (moves_of (read_as p) o) obeys;
       ends = ap read_as e ∙ stands_last reading last2.meets.obeys ∙ (go.0).ends;
       descriptor = subst (KeepsDescriptor p) (sym e) (kept_twice p p1 (after p1 events2) (go.0).descriptor last2.descriptor);
       fits = λ shape s mark ps x. subst (λ r. DescriptorFits r shape s mark ps) (sym e) (last2.fits shape s mark ps ((go.0).fits shape s mark ps x));

@@ -5,7 +5,7 @@ use Rattle.alto_words.specs.Fid.{is_fid}
 use Rattle.alto_words.specs.declared.fid.Fid.{Fid}
 use Rattle.disk_records.specs.Packs.{Pack, after, sector_at}
 use Rattle.pack_model.specs.hints.Links.{dir_words}
-use Rattle.pack_model.specs.operations.Operations.{go_writes}
+use Rattle.pack_model.specs.operations.Operations.{release_file_writes}
 use Rattle.pack_model.specs.reading.Bytes.{words_of}
 use Rattle.pack_model.specs.reading.Files.{file_bytes, lives}
 use Rattle.pack_model.specs.reading.Sights.{Sight, sights}
@@ -15,7 +15,7 @@ use Rattle.pack_model.specs.reading.Slots.Item.{entry}
 use Rattle.pack_laws.proofs.Keys.{same_fid}
 use Rattle.laws_record.proofs.DirWords.{dir_page}
 use Rattle.laws_record.specs.DirLaws.{DirWrite}
-use Rattle.laws_operation.proofs.Dropped.{go_law}
+use Rattle.laws_operation.proofs.Dropped.{release_law}
 use Rattle.laws_operation.proofs.Seating.{leader_none_is}
 use Rattle.laws_operation.proofs.inside.Elsewhere.{MayBe, not_same, other_bytes, other_leader}
 use Rattle.laws_operation.proofs.inside.Kept.{same_places}
@@ -24,8 +24,8 @@ use Rattle.laws_operation.specs.LifeLaws.{SlotOfADropStoodBefore}
 pub slot_of_a_drop_stood_before : SlotOfADropStoodBefore
 slot_of_a_drop_stood_before p f d at pages slot_at a b own w t hyp fr =
     let ss : List Sight = sights p in
-    let q : Pack = after p (go_writes at pages) in
-    let go = go_law p w t f at pages hyp in
+    let q : Pack = after p (release_file_writes at pages) in
+    let go = release_law p w t f at pages hyp in
     let h = fr.write in
     let dead : lives (sights q) f ≡ false = ap is_some (leader_none_is (sights q) f (go.0).drops.gone) in
     let apart : is_fid d f ≡ false = elim (is_fid d f) as (λ c. is_fid d f ≡ c → c ≡ false) [

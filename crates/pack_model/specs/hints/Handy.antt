@@ -37,15 +37,15 @@ abbrev pub NamesLastPage : List Sight → Fid → ℕ → ℕ → Type 0
 NamesLastPage ss f number at = (number ≡ 0) ⊎ IsRightOrIdle ss f number at
 
 -- a listed page and its address
-abbrev pub Cached : Type 0
-Cached = Page × ℕ
+abbrev pub CachedAt : Type 0
+CachedAt = Page × ℕ
 
-abbrev pub HandyCache : List Sight → Fid → List Cached → Type 0
+abbrev pub HandyCache : List Sight → Fid → List CachedAt → Type 0
 HandyCache ss f cache = All (λ c. c.0.fid ≡ f → IsRightOrIdle ss f c.0.number c.1) cache
 
 -- The flag of f is 0 or right; its last-page words and each address for a page of it in the cache are right, or no sector bears that
 -- page. What isn't handy is passed over, and can't mislead.
-pub record Handy (p : Pack) (f : Fid) (cache : List Cached) : Type 0 where
+pub record Handy (p : Pack) (f : Fid) (cache : List CachedAt) : Type 0 where
   pub row : (at : ℕ) → place (sights p) f 0 ≡ Some at → (leader_word p at row_word ≡ 0) ⊎ LiesInARow (sights p) f at
   pub last : (at : ℕ) → place (sights p) f 0 ≡ Some at → NamesLastPage (sights p) f (leader_word p at last_number_word) (leader_word p at last_at_word)
   pub cached : HandyCache (sights p) f cache

@@ -68,17 +68,17 @@ cut_moves o later = commits o ∷ quiet ∷ releases_moves later
 
 -- ---- drop: ones in the leader's label are the operation; release the data pages, rising; and then one value, in which the
 -- slot of the file's entry becomes free: `freed_value` of `PageWords` is this value. The file is gone before it.
-abbrev pub go_writes : ℕ → List ℕ → List Event
-go_writes at pages = release_writes at ++ releases_writes pages
+abbrev pub release_file_writes : ℕ → List ℕ → List Event
+release_file_writes at pages = release_writes at ++ releases_writes pages
 
 abbrev pub drop_writes : ℕ → List ℕ → ℕ → List ℕ → List Event
-drop_writes at pages slot_at value = go_writes at pages ++ value_writes slot_at value
+drop_writes at pages slot_at value = release_file_writes at pages ++ value_writes slot_at value
 
-abbrev pub go_moves : {X : Type 0} → Operation → List X → List Move
-go_moves o pages = commits o ∷ quiet ∷ releases_moves pages
+abbrev pub release_file_moves : {X : Type 0} → Operation → List X → List Move
+release_file_moves o pages = commits o ∷ quiet ∷ releases_moves pages
 
 abbrev pub drop_moves : {X : Type 0} → Operation → List X → List Move
-drop_moves o pages = go_moves o pages ++ quiet ∷ []
+drop_moves o pages = release_file_moves o pages ++ quiet ∷ []
 
 -- ---- enter: the values before the one that commits, which join the room's free slots, where they are several, and put the words
 -- that lie over a page's end into the next page; and last the value of the page with the slot's first word, which is the operation.

@@ -16,7 +16,7 @@ use Rattle.pack_model.specs.operations.Committing.{page_of_byte, page_of_word}
 use Rattle.pack_model.specs.operations.Entering.{EntryRoom, entry_value, joined, joining, overlapping}
 use Rattle.pack_model.specs.reading.Files.{file_bytes, place}
 use Rattle.pack_model.specs.reading.Model.{good_one}
-use Rattle.pack_model.specs.operations.Operations.{go_writes}
+use Rattle.pack_model.specs.operations.Operations.{release_file_writes}
 use Rattle.pack_model.specs.operations.PageWords.{freed_value, in_page, later, page_number}
 use Rattle.pack_model.specs.reading.Sights.{Sight, sights}
 use Rattle.pack_model.specs.reading.Sights.Sight.{free, hidden, holds}
@@ -111,7 +111,7 @@ pub slot_leaves_the_system : SlotLeavesTheSystem
 slot_leaves_the_system p d at a old b value w h = dir_page p w d (all_words a / 256 + 1) at value h.write.directory (omega arith) h.write.sector
 
 pub drop_leaves_the_system : DropLeavesTheSystem
-drop_leaves_the_system p f at pages d slot_at a old b value w h frees = All-append (LeavesSystemAt p) (go_writes at pages) (value_writes slot_at value) (release_leaves_the_system p f at pages w h) (slot_leaves_the_system p d slot_at a old b value w frees)
+drop_leaves_the_system p f at pages d slot_at a old b value w h frees = All-append (LeavesSystemAt p) (release_file_writes at pages) (value_writes slot_at value) (release_leaves_the_system p f at pages w h) (slot_leaves_the_system p d slot_at a old b value w frees)
 
 pub widen_leaves_the_system : WidenLeavesTheSystem
 widen_leaves_the_system p d added claims at label value w h = grow_spares p w d (length (file_bytes (sights p) d)) claims at label value (not_descriptor d h.directory) h.sector h.claimable h.page

@@ -12,7 +12,7 @@ use Rattle.pack_model.specs.reading.Files.{lives}
 use Rattle.pack_model.specs.hints.Links.{LinksTrue, dir_words}
 use Rattle.pack_model.specs.reading.Model.{dir_items, read_as}
 use Rattle.pack_model.specs.reading.Namings.{namings_in}
-use Rattle.pack_model.specs.operations.Operations.{go_writes}
+use Rattle.pack_model.specs.operations.Operations.{release_file_writes}
 use Rattle.pack_model.specs.operations.PageWords.{freed_value, page_number}
 use Rattle.pack_model.specs.reading.Sights.{sights}
 use Rattle.pack_model.specs.reading.Slots.{Item, all_words, item_words, slots}
@@ -22,11 +22,11 @@ use Rattle.pack_laws.proofs.Keys.{same_fid}
 use Rattle.laws_record.proofs.Copying.{place_carried}
 use Rattle.laws_record.proofs.Entered.{namings_in-append}
 use Rattle.laws_record.specs.DirLaws.{DirWrite, Frees}
-use Rattle.laws_operation.proofs.Dropped.{go_law}
+use Rattle.laws_operation.proofs.Dropped.{release_law}
 use Rattle.laws_operation.proofs.Seating.{leader_none_is}
 use Rattle.laws_operation.proofs.inside.links.DirValues.{slot_keeps_links}
 use Rattle.laws_operation.proofs.inside.links.Directories.{lives_by, other_bytes}
-use Rattle.laws_operation.proofs.inside.links.Dropping.{go_concerns, release_keeps_links}
+use Rattle.laws_operation.proofs.inside.links.Dropping.{release_concerns, release_keeps_links}
 use Rattle.laws_operation.proofs.inside.links.Framing.{AllConcern, other_place, other_sector}
 use Rattle.laws_operation.specs.NameLinkLaws.{DropKeepsLinks}
 use Rattle.laws_operation.proofs.inside.DropLaw.{not_none}
@@ -44,11 +44,11 @@ apart p f d a b g own items bare = by (is_fid d f) refl
 -- all record writes
 pub drop_keeps_links : DropKeepsLinks
 drop_keeps_links p f at pages d slot_at a b own w t h fr links =
-    let events : List Event = go_writes at pages in
+    let events : List Event = release_file_writes at pages in
     let q : Pack = after p events in
-    let out = (go_law p w t f at pages h).0 in
+    let out = (release_law p w t f at pages h).0 in
     let wq : Whole q = out.drops.whole in
-    let all : AllConcern f p events = go_concerns p f at pages h in
+    let all : AllConcern f p events = release_concerns p f at pages h in
     let write = fr.write in
     let items : dir_items (read_as p) d ≡ a ++ entry f own ∷ b = items_are p t d write.lives write.directory ∙ fr.slots_are in
     let ne : is_fid d f ≡ false = apart p f d a b f own items h.bare in

@@ -12,7 +12,7 @@ use Rattle.pack_model.specs.reading.Bytes.{words_of}
 use Rattle.pack_model.specs.reading.Files.{place}
 use Rattle.pack_model.specs.hints.Links.{dir_words}
 use Rattle.pack_model.specs.reading.Model.{Model, dir_items, read_as}
-use Rattle.pack_model.specs.operations.Operations.{go_writes}
+use Rattle.pack_model.specs.operations.Operations.{release_file_writes}
 use Rattle.pack_model.specs.operations.PageWords.{page_number}
 use Rattle.pack_model.specs.reading.Sights.{Sight, sights}
 use Rattle.pack_model.specs.reading.Sights.Sight.{hidden}
@@ -24,7 +24,7 @@ use Rattle.pack_laws.proofs.Mapping.{get-map_values}
 use Rattle.pack_laws.proofs.Placing.{leader_of_place, page_of_place, place_of_leader}
 use Rattle.laws_record.proofs.Copying.{place_carried}
 use Rattle.laws_record.proofs.DirReads.{has_leader}
-use Rattle.laws_operation.proofs.Dropped.{go_law}
+use Rattle.laws_operation.proofs.Dropped.{release_law}
 use Rattle.laws_operation.specs.LifeLaws.{MayDrop}
 use Rattle.laws_operation.proofs.inside.links.Addresses.{AllTrue, true_without}
 use Rattle.laws_operation.proofs.inside.links.Directories.{DirTrue, all_dirs, dirs_true, other_bytes, other_lives}
@@ -56,17 +56,17 @@ items_gone m f d ne =
     by (Some x) = of_body x.body
 
 -- all record writes but the last concern the file
-pub go_concerns : (p : Pack) (f : Fid) (at : ℕ) (pages : List ℕ) → MayDrop p f at pages → AllConcern f p (go_writes at pages)
-go_concerns p f at pages h = releases_concern f (at ∷ pages) p (of_carried f 0 p at (place_carried p (page_number f 0) at h.sector), bear_of p f 1 pages h.pages_are)
+pub release_concerns : (p : Pack) (f : Fid) (at : ℕ) (pages : List ℕ) → MayDrop p f at pages → AllConcern f p (release_file_writes at pages)
+release_concerns p f at pages h = releases_concern f (at ∷ pages) p (of_carried f 0 p at (place_carried p (page_number f 0) at h.sector), bear_of p f 1 pages h.pages_are)
 
 -- they keep links true
 pub release_keeps_links : ReleaseKeepsLinks
 release_keeps_links p f at pages w t h links =
-    let events : List Event = go_writes at pages in
+    let events : List Event = release_file_writes at pages in
     let q : Pack = after p events in
-    let out = (go_law p w t f at pages h).0 in
+    let out = (release_law p w t f at pages h).0 in
     let wq : Whole q = out.drops.whole in
-    let all : AllConcern f p events = go_concerns p f at pages h in
+    let all : AllConcern f p events = release_concerns p f at pages h in
     let none : (n i : ℕ) → place (sights q) f n ≡ Some i → ⊥ = none_there (sights q) f (wq.files f) out.drops.gone in
     record {
       pages = pages_true p f events w wq all (λ n i there. absurd (none n i there)) links.pages;

@@ -8,7 +8,7 @@ use Rattle.disk_records.specs.declared.records.Page.{Page}
 use Rattle.pack_model.specs.operations.Commands.{releases_writes, values_writes}
 use Rattle.pack_model.specs.operations.Committing.{page_of_byte}
 use Rattle.pack_model.specs.sessions.Descriptor.{closed_values, opened_value}
-use Rattle.pack_model.specs.operations.Operations.{cut_writes, drop_writes, enter_writes, go_writes, make_writes}
+use Rattle.pack_model.specs.operations.Operations.{cut_writes, drop_writes, enter_writes, release_file_writes, make_writes}
 use Rattle.pack_model.specs.operations.PageWords.{page_number}
 use Rattle.pack_model.specs.states.Sound.{mark_clean, mark_open}
 use Rattle.laws_record.proofs.Copying.{place_carried}
@@ -73,9 +73,9 @@ make_carries_once p f name moment page head w h =
 
 -- a drop but for its entry's slot
 pub release_carries_once : ReleaseCarriesOnce
-release_carries_once p at pages w = all_once p (go_writes at pages) (whole_once p w) (releases_alone (at ∷ pages) p)
+release_carries_once p at pages w = all_once p (release_file_writes at pages) (whole_once p w) (releases_alone (at ∷ pages) p)
 
 -- with the value of its entry's slot
 pub drop_carries_once : DropCarriesOnce
 drop_carries_once p at pages slot_at value w =
-    all_once p (drop_writes at pages slot_at value) (whole_once p w) (alone_join p (go_writes at pages) (value_writes slot_at value) (releases_alone (at ∷ pages) p) (values_alone ((slot_at, value) ∷ []) (after p (go_writes at pages))))
+    all_once p (drop_writes at pages slot_at value) (whole_once p w) (alone_join p (release_file_writes at pages) (value_writes slot_at value) (releases_alone (at ∷ pages) p) (values_alone ((slot_at, value) ∷ []) (after p (release_file_writes at pages))))

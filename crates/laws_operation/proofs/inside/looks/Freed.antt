@@ -14,7 +14,7 @@ use Rattle.disk_records.specs.declared.records.Sector.{Sector}
 use Rattle.disk_records.proofs.Growing.{after-append}
 use Rattle.pack_model.specs.operations.Commands.{Claim, all_claimed, claims_writes, releases_writes, sectors_of, values_writes}
 use Rattle.pack_model.specs.reading.Files.{place}
-use Rattle.pack_model.specs.operations.Operations.{go_writes}
+use Rattle.pack_model.specs.operations.Operations.{release_file_writes}
 use Rattle.pack_model.specs.operations.PageWords.{page_number}
 use Rattle.pack_model.specs.reading.Sights.{sights}
 use Rattle.pack_laws.proofs.Guarding.{carried_parts, free_parts, front_from, here_written, in_range_taken, ones_free, other_kept, usable_within}
@@ -101,7 +101,7 @@ pub release_takes_no_sector : ReleaseTakesNoSector
 release_takes_no_sector p at pages = releases_free (at ∷ pages) p
 
 pub drop_takes_no_sector : DropTakesNoSector
-drop_takes_no_sector p at pages slot_at value i is = then_free p (go_writes at pages) (value_writes slot_at value) i (release_takes_no_sector p at pages i is) (λ j free. value_frees (after p (go_writes at pages)) slot_at value j ∙ free)
+drop_takes_no_sector p at pages slot_at value i is = then_free p (release_file_writes at pages) (value_writes slot_at value) i (release_takes_no_sector p at pages i is) (λ j free. value_frees (after p (release_file_writes at pages)) slot_at value j ∙ free)
 
 -- ---- a page gets another label
 -- a free sector isn't that of a page
@@ -144,7 +144,7 @@ release_frees_its_pages p f n pages bear = usable_released pages p (bear_usable 
 pub drop_frees_its_pages : DropFreesItsPages
 drop_frees_its_pages p f at pages slot_at value bear = λ i d l.
     let j : ℕ = get_or (at ∷ pages) i d in
-    ap (λ q. is_free_at q j) (after-append p (go_writes at pages) (value_writes slot_at value)) ∙ value_frees (after p (go_writes at pages)) slot_at value j ∙ release_frees_its_pages p f 0 (at ∷ pages) bear i d l
+    ap (λ q. is_free_at q j) (after-append p (release_file_writes at pages) (value_writes slot_at value)) ∙ value_frees (after p (release_file_writes at pages)) slot_at value j ∙ release_frees_its_pages p f 0 (at ∷ pages) bear i d l
 
 pub cut_frees_its_pages : CutFreesItsPages
 cut_frees_its_pages p f n at label value later bear =
