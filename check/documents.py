@@ -19,6 +19,7 @@ TOP = names.TOP
 DOCUMENTS = [path for path in [TOP / "README.md", TOP / "CONTRIBUTING.md", *sorted((TOP / "docs").glob("*.md"))] if path.exists()]
 README_LINES = 80
 PROMISE_WORDS = 40
+CRATE_EDITS = 12
 # `crate/edit`, and `crate::module::item (clause, clause)`
 EDIT = re.compile(r"`([a-z_]+/[a-z0-9_]+)`")
 CONTRACT = re.compile(r"\b([a-z_]+(?:::\w+)+)`?(?: \(([a-z0-9_]+(?:, [a-z0-9_]+)*)\))?")
@@ -71,6 +72,14 @@ def check_edits():
     """docs/promises.md names each must-fail edit once."""
     named = EDIT.findall((TOP / "docs/promises.md").read_text())
     yield from differences("docs/promises.md", "edit", named, all_edits())
+
+
+def check_few_edits():
+    """No crate has more must-fail edits than a gate has time for: those that tell most stand."""
+    counts = collections.Counter(edit.split("/")[0] for edit in all_edits())
+    for crate, number in sorted(counts.items()):
+        if number > CRATE_EDITS:
+            yield f"crates/{crate}/must-fail: has {number} edits, and may have {CRATE_EDITS}"
 
 
 def check_promises():
@@ -196,6 +205,7 @@ def main():
     complaints = [
         *check_map(),
         *check_edits(),
+        *check_few_edits(),
         *check_promises(),
         *check_contracts(found),
         *check_paths(found),
