@@ -12,7 +12,7 @@ pub fn handy_after_values()
     ensures { HandyAfterValues }
 {}
 
-/// So does a value of the leader with the same flag, and last-page words that are right.
+/// A value of a file's leader leaves the file's hints handy, if it has the same flag, and last-page words that are right.
 pub fn handy_after_leader_value()
     ensures { HandyAfterLeaderValue }
 {}
@@ -27,17 +27,17 @@ pub fn handy_of_others()
     ensures { HandyOfOthers }
 {}
 
-/// A cut leaves those of its own file handy.
+/// A cut of a file leaves the file's own hints handy.
 pub fn handy_after_cut()
     ensures { HandyAfterCut }
 {}
 
-/// A growth leaves those of its own file handy, if they speak of its old pages alone and the flag is 0.
+/// A growth of a file leaves the file's own hints handy, if they speak of its old pages alone and the flag is 0.
 pub fn handy_after_growth()
     ensures { HandyAfterGrowth }
 {}
 
-/// So does a widening those of its directory.
+/// A widening of a directory leaves the directory's own hints handy, if they speak of its old pages alone and the flag is 0.
 pub fn handy_after_widening()
     ensures { HandyAfterWidening }
 {}

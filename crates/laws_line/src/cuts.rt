@@ -3,27 +3,27 @@
 ghost use Rattle.laws_line.specs.CutLaws.{CrashesOfALine, CrashesOfAnOperation, CrashesOfAnUnmarkedLine, CrashesOfEnter, LinesJoin, OpenPackIsUnmarked};
 ghost use Rattle.laws_line.specs.EachLaws.{CrashesOfEachOperation};
 
-/// So it is for an operation that leaves SysDir's leader and DiskDescriptor alone, where its models are ready.
+/// An operation that leaves SysDir's leader and DiskDescriptor alone can be scavenged at every crash point, if its models are ready.
 pub fn crashes_of_an_operation()
     ensures { CrashesOfAnOperation }
 {}
 
-/// So it is for an entering, which may join free slots before the value that commits.
+/// An entering, which may join free slots before the value that commits, can be scavenged at every crash point, if its models are ready.
 pub fn crashes_of_enter()
     ensures { CrashesOfEnter }
 {}
 
-/// So it is for each other operation, by its own law.
+/// Each operation except an entering can be scavenged at every crash point by its own law, if its models are ready.
 pub fn crashes_of_each_operation()
     ensures { CrashesOfEachOperation }
 {}
 
-/// So it is for a line, on a pack whose mark is open.
+/// A line whose models are ready can be scavenged at every crash point, on a pack whose mark is open.
 pub fn crashes_of_an_unmarked_line()
     ensures { CrashesOfAnUnmarkedLine }
 {}
 
-/// So it is for a line, from a sound pack.
+/// A line whose models are ready can be scavenged at every crash point, from a sound pack.
 pub fn crashes_of_a_line()
     ensures { CrashesOfALine }
 {}

@@ -2,7 +2,8 @@
 
 ghost use Rattle.laws_line.specs.FitLaws.{DescriptorFitsOn, FittingDescriptorMayClose};
 
-/// It fits after the opening of the mark, with the open mark; after a new serial, with this one; after closing, with the clean mark.
+/// What a session keeps of DiskDescriptor fits the disk after the opening of the mark, with the open mark; after a new serial, with this
+/// one; after closing, with the clean mark.
 pub fn descriptor_fits_on()
     ensures { DescriptorFitsOn }
 {}

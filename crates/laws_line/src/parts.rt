@@ -39,12 +39,12 @@ pub fn viewed_and_mendable_operates()
     ensures { ViewedAndMendableOperates }
 {}
 
-/// They are those of a session, too.
+/// Record writes whose crash points are viewed as the models of their moves and can be scavenged are those of a session.
 pub fn viewed_and_mendable_in_session()
     ensures { ViewedAndMendableInSession }
 {}
 
-/// So what operates is in session.
+/// Record writes of operations are those of a session.
 pub fn operations_are_in_session()
     ensures { OperationsAreInSession }
 {}

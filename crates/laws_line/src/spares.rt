@@ -2,52 +2,52 @@
 
 ghost use Rattle.laws_line.specs.SpareLaws.{CutLeavesTheSystem, DropLeavesTheSystem, EnterLeavesTheSystem, GrowLeavesTheSystem, LeaderLeavesTheSystem, MakeLeavesTheSystem, PutLeavesTheSystem, ReleaseLeavesTheSystem, SlotLeavesTheSystem, WidenLeavesTheSystem};
 
-/// So does the value by which bytes are put in the place of others.
+/// The value by which bytes are put in the place of others leaves SysDir's leader and DiskDescriptor alone.
 pub fn put_leaves_the_system()
     ensures { PutLeavesTheSystem }
 {}
 
-/// So does a growth.
+/// A growth of a file leaves SysDir's leader and DiskDescriptor alone.
 pub fn grow_leaves_the_system()
     ensures { GrowLeavesTheSystem }
 {}
 
-/// So does a cut.
+/// A cut of a file leaves SysDir's leader and DiskDescriptor alone.
 pub fn cut_leaves_the_system()
     ensures { CutLeavesTheSystem }
 {}
 
-/// So does the value by which a leader says another name or date.
+/// The value by which a leader says another name or date leaves SysDir's leader and DiskDescriptor alone.
 pub fn leader_leaves_the_system()
     ensures { LeaderLeavesTheSystem }
 {}
 
-/// So does the making of a file.
+/// The making of a file leaves SysDir's leader and DiskDescriptor alone.
 pub fn make_leaves_the_system()
     ensures { MakeLeavesTheSystem }
 {}
 
-/// So do the releases of a file that is dropped.
+/// The releases of a file that is dropped leave SysDir's leader and DiskDescriptor alone.
 pub fn release_leaves_the_system()
     ensures { ReleaseLeavesTheSystem }
 {}
 
-/// So does the value in which an entry's slot becomes a free one.
+/// The value in which an entry's slot becomes a free one leaves SysDir's leader and DiskDescriptor alone.
 pub fn slot_leaves_the_system()
     ensures { SlotLeavesTheSystem }
 {}
 
-/// So does a whole drop.
+/// A whole drop of a file leaves SysDir's leader and DiskDescriptor alone.
 pub fn drop_leaves_the_system()
     ensures { DropLeavesTheSystem }
 {}
 
-/// So does a widening.
+/// A widening of a directory leaves SysDir's leader and DiskDescriptor alone.
 pub fn widen_leaves_the_system()
     ensures { WidenLeavesTheSystem }
 {}
 
-/// So does an entering.
+/// An entering in a directory leaves SysDir's leader and DiskDescriptor alone.
 pub fn enter_leaves_the_system()
     ensures { EnterLeavesTheSystem }
 {}

@@ -17,12 +17,12 @@ pub fn cut_carries_out()
     ensures { CutCarriesOut }
 {}
 
-/// A cut.
+/// A cut of a whole and tidy pack leaves all links true if they were true.
 pub fn cut_keeps_links()
     ensures { CutKeepsLinks }
 {}
 
-/// A cut.
+/// On a whole pack no two sectors carry one page at every crash point of a cut.
 pub fn cut_carries_once()
     ensures { CutCarriesOnce }
 {}

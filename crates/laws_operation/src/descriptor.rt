@@ -20,27 +20,27 @@ pub fn close_carries_out()
     ensures { CloseCarriesOut }
 {}
 
-/// The mark is opened.
+/// Opening the mark of a whole and tidy pack leaves all links true if they were true.
 pub fn open_keeps_links()
     ensures { OpenKeepsLinks }
 {}
 
-/// A new serial.
+/// A new serial on a whole and tidy pack leaves all links true if they were true.
 pub fn serial_keeps_links()
     ensures { SerialKeepsLinks }
 {}
 
-/// Closing, at every cut.
+/// Closing a whole and tidy pack leaves all links true at every crash point if they were true.
 pub fn close_keeps_links()
     ensures { CloseKeepsLinks }
 {}
 
-/// Opening the mark.
+/// On a whole pack no two sectors carry one page at every crash point of opening the mark.
 pub fn open_carries_once()
     ensures { OpenCarriesOnce }
 {}
 
-/// Closing.
+/// On a whole pack no two sectors carry one page at every crash point of closing.
 pub fn close_carries_once()
     ensures { CloseCarriesOnce }
 {}

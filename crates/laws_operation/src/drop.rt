@@ -23,32 +23,33 @@ pub fn slot_carries_out()
     ensures { SlotCarriesOut }
 {}
 
-/// These record writes, one after another, are the whole drop of a file that has an entry.
+/// On a whole and tidy pack the releases of a file that has an entry, and then the value that frees the entry's slot, are its whole drop.
 pub fn drop_carries_out()
     ensures { DropCarriesOut }
 {}
 
-/// A drop but for the slot of its entry.
+/// A drop without the slot of its entry, on a whole and tidy pack, leaves all links true if they were true.
 pub fn release_keeps_links()
     ensures { ReleaseKeepsLinks }
 {}
 
-/// The slot of a file that was dropped is made free.
+/// The value that makes the slot of a dropped file free, on a whole pack that is tidy except for this file, leaves all links true if they
+/// were true.
 pub fn slot_keeps_links()
     ensures { SlotKeepsLinks }
 {}
 
-/// A whole drop.
+/// A whole drop on a whole and tidy pack leaves all links true if they were true.
 pub fn drop_keeps_links()
     ensures { DropKeepsLinks }
 {}
 
-/// A drop.
+/// On a whole pack no two sectors carry one page at every crash point of a drop, of whatever sectors.
 pub fn drop_carries_once()
     ensures { DropCarriesOnce }
 {}
 
-/// A drop but for the slot of its entry.
+/// On a whole pack no two sectors carry one page at every crash point of a drop without the slot of its entry, of whatever sectors.
 pub fn release_carries_once()
     ensures { ReleaseCarriesOnce }
 {}

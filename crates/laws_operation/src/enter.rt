@@ -23,22 +23,22 @@ pub fn enter_carries_out()
     ensures { EnterCarriesOut }
 {}
 
-/// Free slots are made one.
+/// The value that makes free slots in a row one, on a whole and tidy pack, leaves all links true if they were true.
 pub fn join_keeps_links()
     ensures { JoinKeepsLinks }
 {}
 
-/// Words inside a free slot.
+/// Other words inside a free slot, on a whole and tidy pack, leave all links true if they were true.
 pub fn loose_words_keep_links()
     ensures { LooseWordsKeepLinks }
 {}
 
-/// An entry comes, with the address of its file's leader.
+/// An entering on a whole and tidy pack leaves all links true if they were true, as the entry has the address of its file's leader.
 pub fn enter_keeps_links()
     ensures { EnterKeepsLinks }
 {}
 
-/// An entering.
+/// On a whole pack no two sectors carry one page at every crash point of an entering.
 pub fn enter_carries_once()
     ensures { EnterCarriesOnce }
 {}

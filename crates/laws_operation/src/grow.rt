@@ -18,12 +18,12 @@ pub fn grow_carries_out()
     ensures { GrowCarriesOut }
 {}
 
-/// A growth, with the words that it writes.
+/// A growth of a whole and tidy pack, with the words that it writes, leaves all links true if they were true.
 pub fn grow_keeps_links()
     ensures { GrowKeepsLinks }
 {}
 
-/// A growth.
+/// On a whole pack no two sectors carry one page at every crash point of a growth.
 pub fn grow_carries_once()
     ensures { GrowCarriesOnce }
 {}

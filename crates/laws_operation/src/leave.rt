@@ -15,7 +15,7 @@ pub fn leave_carries_out()
     ensures { LeaveCarriesOut }
 {}
 
-/// An entry leaves.
+/// The leaving of an entry on a whole and tidy pack leaves all links true if they were true.
 pub fn leave_keeps_links()
     ensures { LeaveKeepsLinks }
 {}

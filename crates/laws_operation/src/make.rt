@@ -19,12 +19,12 @@ pub fn make_carries_out()
     ensures { MakeCarriesOut }
 {}
 
-/// A make.
+/// A make on a whole and tidy pack leaves all links true if they were true.
 pub fn make_keeps_links()
     ensures { MakeKeepsLinks }
 {}
 
-/// A make.
+/// On a whole pack no two sectors carry one page at every crash point of a make.
 pub fn make_carries_once()
     ensures { MakeCarriesOnce }
 {}

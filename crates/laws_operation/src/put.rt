@@ -10,7 +10,7 @@ pub fn put_words_fit()
     ensures { PutWordsFit }
 {}
 
-/// So is the value of a put with which the file ends, if words past its end come with it.
+/// The value of a put with which the file ends is such as its law asks for, also if words past its end come with it.
 pub fn put_past_words_fit()
     ensures { PutPastWordsFit }
 {}
@@ -25,7 +25,7 @@ pub fn bytes_in_a_value()
     ensures { BytesInAValue }
 {}
 
-/// A put.
+/// A put on a whole and tidy pack leaves all links true if they were true.
 pub fn put_keeps_links()
     ensures { PutKeepsLinks }
 {}

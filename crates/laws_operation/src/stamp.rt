@@ -14,7 +14,7 @@ pub fn stamp_carries_out()
     ensures { StampCarriesOut }
 {}
 
-/// A stamp.
+/// A stamp on a whole and tidy pack leaves all links true if they were true.
 pub fn stamp_keeps_links()
     ensures { StampKeepsLinks }
 {}

@@ -14,7 +14,7 @@ pub fn title_carries_out()
     ensures { TitleCarriesOut }
 {}
 
-/// A title.
+/// A title on a whole and tidy pack leaves all links true if they were true.
 pub fn title_keeps_links()
     ensures { TitleKeepsLinks }
 {}

@@ -9,7 +9,7 @@ pub fn label_with_another_count()
     ensures { LabelWithAnotherCount }
 {}
 
-/// Values, whatever they are.
+/// On a whole pack no two sectors carry one page at every crash point of any values.
 pub fn values_carry_once()
     ensures { ValuesCarryOnce }
 {}

@@ -16,12 +16,12 @@ pub fn widen_carries_out()
     ensures { WidenCarriesOut }
 {}
 
-/// A widening, with the words that it writes.
+/// A widening of a whole and tidy pack, with the words that it writes, leaves all links true if they were true.
 pub fn widen_keeps_links()
     ensures { WidenKeepsLinks }
 {}
 
-/// A widening.
+/// On a whole pack no two sectors carry one page at every crash point of a widening.
 pub fn widen_carries_once()
     ensures { WidenCarriesOnce }
 {}

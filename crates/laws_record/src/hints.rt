@@ -7,7 +7,8 @@ pub fn hints_mean_nothing()
     ensures { HintsMeanNothing }
 {}
 
-/// So it is where a record is written that changes hints of one value, as the address in an entry or the map of DiskDescriptor.
+/// A value that differs from the one before in its hints alone, as in the address of an entry or the map of DiskDescriptor, leaves what is
+/// read, whether the pack is sound, and whether it is clean.
 pub fn value_with_other_hints()
     ensures { ValueWithOtherHints }
 {}
