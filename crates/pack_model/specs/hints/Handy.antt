@@ -40,6 +40,7 @@ NamesLastPage ss f number at = (number ≡ 0) ⊎ IsRightOrIdle ss f number at
 abbrev pub CachedAt : Type 0
 CachedAt = Page × ℕ
 
+-- each address that the cache has for a page of f is right, or no sector bears the page
 abbrev pub HandyCache : List Sight → Fid → List CachedAt → Type 0
 HandyCache ss f cache = All (λ c. c.0.fid ≡ f → IsRightOrIdle ss f c.0.number c.1) cache
 

@@ -43,6 +43,7 @@ pub data IsHintByte (p : Pack) (at k : ℕ) : Type 0 where
   of_entry : (d : Fid) (w : ℕ) → IsAddressWord p d w → IsWordOf p d w at (k / 2) → IsHintByte p at k
   of_map : (w : ℕ) → IsMapWord p w → IsWordOf p disk_descriptor w at (k / 2) → IsHintByte p at k
 
+-- byte k of a sector's value
 abbrev pub byte_at : Pack → ℕ → ℕ → ℕ
 byte_at p at k = get_or (bytes_of (sector_at p at).value) k 0
 

@@ -23,6 +23,7 @@ use Rattle.pack_model.specs.states.InUse.{in_use}
 abbrev pub no_link : ℕ
 no_link = 65535
 
+-- the link to the sector at a virtual address; no link where there is none
 abbrev pub link_to : Shape → Option ℕ → ℕ
 link_to shape None = no_link
 link_to shape (Some at) = real_of shape at

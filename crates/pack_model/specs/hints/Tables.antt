@@ -34,9 +34,11 @@ words_of_bits (suc t) bits = bits_value 16 bits ∷ words_of_bits t (drop 16 bit
 abbrev pub table_in : Pack → List ℕ
 table_in p = take (table_words p.shape) (drop 16 (descriptor_words (sights p)))
 
+-- the table of busy sectors that DiskDescriptor's words hold
 abbrev pub described_table : Pack → List Bool
 described_table p = bits_from (table_in p) 0 (pages_of p.shape)
 
+-- the number of free sectors that DiskDescriptor's words tell
 abbrev pub described_free : Pack → ℕ
 described_free p = word (descriptor_words (sights p)) 7
 

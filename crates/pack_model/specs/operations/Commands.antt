@@ -23,6 +23,7 @@ pub record Claim : Type 0 where
   pub label : List ℕ
   pub value : List ℕ
 
+-- the record writes of claims, one after another
 abbrev pub claims_writes : List Claim → List Event
 claims_writes [] = []
 claims_writes (c ∷ cs) = claim_writes c.at c.label c.value ++ claims_writes cs

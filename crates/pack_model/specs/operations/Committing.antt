@@ -28,6 +28,7 @@ abbrev pub length_in : Option File → ℕ
 length_in None = 0
 length_in (Some x) = body_length x.body
 
+-- the length in bytes of a file of a model
 abbrev pub length_of : Model → Fid → ℕ
 length_of m f = length_in (get m.files f)
 
@@ -39,6 +40,7 @@ page_of_byte n = suc (n / 512)
 abbrev pub pages_added : ℕ → ℕ → ℕ
 pages_added b n = (b + n) / 512 - b / 512
 
+-- how many pages go where a file of b bytes is cut to n
 abbrev pub pages_cut : ℕ → ℕ → ℕ
 pages_cut b n = b / 512 - n / 512
 
@@ -91,6 +93,7 @@ values_before is n (Some r) =
 abbrev pub units : ℕ → List (Unit {0})
 units n = replicate n (tt {0})
 
+-- the moves of an operation on a model
 abbrev pub moves_of : Model → Operation → List Move
 moves_of m (make f name moment) = make_moves (make f name moment)
 moves_of m (put f offset new) = one_move (put f offset new)
@@ -142,12 +145,15 @@ pub record CommitRecord : Type 0 where
   pub fid : Fid
   pub page : ℕ
 
+-- the label of a file's page
 abbrev pub label_record : Fid → ℕ → CommitRecord
 label_record f n = record { part = 1; fid = f; page = n }
 
+-- the value of a file's page
 abbrev pub value_record : Fid → ℕ → CommitRecord
 value_record f n = record { part = 2; fid = f; page = n }
 
+-- the record whose write is the operation
 abbrev pub commit_of : Model → Operation → CommitRecord
 commit_of m (make f name moment) = label_record f 0
 commit_of m (put f offset new) = value_record f (page_of_byte offset)

@@ -16,6 +16,7 @@ pub data Move : Type 0 where
   commits : Operation → Move
   mends : Model → Move
 
+-- the model after a move
 abbrev pub moved : Model → Move → Model
 moved m quiet = m
 moved m (commits o) = step m o
@@ -27,14 +28,17 @@ weight_of quiet = 0
 weight_of (commits o) = 1
 weight_of (mends n) = 0
 
+-- a claim is three record writes, all quiet
 abbrev pub claims_moves : {X : Type 0} → List X → List Move
 claims_moves [] = []
 claims_moves (c ∷ cs) = quiet ∷ quiet ∷ quiet ∷ claims_moves cs
 
+-- a release is two record writes, both quiet
 abbrev pub releases_moves : {X : Type 0} → List X → List Move
 releases_moves [] = []
 releases_moves (c ∷ cs) = quiet ∷ quiet ∷ releases_moves cs
 
+-- as many quiet moves
 abbrev pub quiet_moves : {X : Type 0} → List X → List Move
 quiet_moves [] = []
 quiet_moves (v ∷ vs) = quiet ∷ quiet_moves vs
@@ -43,6 +47,7 @@ quiet_moves (v ∷ vs) = quiet ∷ quiet_moves vs
 abbrev pub make_writes : Claim → Claim → List Event
 make_writes page leader = claims_writes (page ∷ leader ∷ [])
 
+-- a make takes place at the leader's label
 abbrev pub make_moves : Operation → List Move
 make_moves o = quiet ∷ quiet ∷ quiet ∷ quiet ∷ commits o ∷ quiet ∷ []
 
@@ -55,6 +60,7 @@ one_move o = commits o ∷ []
 abbrev pub grow_writes : List Claim → ℕ → List ℕ → List ℕ → List Event
 grow_writes cs at label value = claims_writes cs ++ claim_writes at label value
 
+-- a growth takes place at the label of the old last page
 abbrev pub grow_moves : {X : Type 0} → List X → Operation → List Move
 grow_moves cs o = claims_moves cs ++ (quiet ∷ commits o ∷ quiet ∷ [])
 
@@ -63,6 +69,7 @@ grow_moves cs o = claims_moves cs ++ (quiet ∷ commits o ∷ quiet ∷ [])
 abbrev pub cut_writes : ℕ → List ℕ → List ℕ → List ℕ → List Event
 cut_writes at label value later = relabel_writes at label value ++ releases_writes later
 
+-- a cut takes place at its first record write
 abbrev pub cut_moves : {X : Type 0} → Operation → List X → List Move
 cut_moves o later = commits o ∷ quiet ∷ releases_moves later
 
@@ -74,6 +81,7 @@ release_file_writes at pages = release_writes at ++ releases_writes pages
 abbrev pub drop_writes : ℕ → List ℕ → ℕ → List ℕ → List Event
 drop_writes at pages slot_at value = release_file_writes at pages ++ value_writes slot_at value
 
+-- a drop takes place at the leader's label, its first record write
 abbrev pub release_file_moves : {X : Type 0} → Operation → List X → List Move
 release_file_moves o pages = commits o ∷ quiet ∷ releases_moves pages
 
@@ -86,5 +94,6 @@ drop_moves o pages = release_file_moves o pages ++ quiet ∷ []
 abbrev pub enter_writes : List (ℕ × List ℕ) → ℕ → List ℕ → List Event
 enter_writes before at value = values_writes before ++ value_writes at value
 
+-- an entering takes place at its last value
 abbrev pub enter_moves : {X : Type 0} → List X → Operation → List Move
 enter_moves before o = quiet_moves before ++ commits o ∷ []

@@ -39,6 +39,7 @@ name_words name = words_of (filled 40 (length name ∷ name))
 abbrev pub last_page_hints : ℕ → ℕ → ℕ → List ℕ
 last_page_hints at number bytes = replicate 7 0 ++ (at ∷ number ∷ bytes ∷ [])
 
+-- the 256 words of a leader page
 abbrev pub leader_value : Leader → List ℕ → List ℕ
 leader_value l hints = halves l.created ++ halves l.written ++ halves l.read ++ name_words l.name ++ l.rest ++ hints
 
@@ -86,6 +87,7 @@ link_to_first shape (at ∷ addresses) = real_of shape at
 abbrev pub relabelled : List ℕ → ℕ → ℕ → List ℕ
 relabelled label bytes next = next ∷ word label 1 ∷ 0 ∷ bytes ∷ drop 4 label
 
+-- the label of a file's leader, whose page 1 is at this address
 abbrev pub leader_label : Shape → Fid → ℕ → List ℕ
 leader_label shape f page_at = label_of (page_number f 0) 512 (real_of shape page_at) no_link
 
@@ -93,11 +95,14 @@ leader_label shape f page_at = label_of (page_number f 0) 512 (real_of shape pag
 abbrev pub new_bytes : Fid → ℕ
 new_bytes f = cond (is_directory f) 510 0
 
+-- the value of a file's first data page: a free slot in a directory, zeros in any other
 abbrev pub first_page_value : Fid → List ℕ
 first_page_value f = filled 256 (cond (is_directory f) (space_words 255) [])
 
+-- the label of a file's first data page, whose leader is at this address
 abbrev pub first_page_label : Shape → Fid → ℕ → List ℕ
 first_page_label shape f leader_at = label_of (page_number f 1) (new_bytes f) no_link (real_of shape leader_at)
 
+-- the value of a new file's leader, whose page 1 is at this address
 abbrev pub new_leader_value : Fid → List ℕ → ℕ → ℕ → List ℕ
 new_leader_value f name moment page_at = leader_value (new_leader name moment) (last_page_hints page_at 1 (new_bytes f))

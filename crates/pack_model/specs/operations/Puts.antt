@@ -11,6 +11,7 @@ use Rattle.pack_model.specs.reading.Files.{place}
 use Rattle.pack_model.specs.reading.Stored.{StoredFiles, stored_files, stored_put}
 use Rattle.pack_model.specs.sessions.Moves.{Meaning}
 
+-- bytes for a file, from an offset in it on
 pub record Put : Type 0 where
   pub fid : Fid
   pub offset : ℕ
@@ -22,10 +23,12 @@ pub record WritesValue (p : Pack) (at part : ℕ) (words : List ℕ) (put : Put)
   pub bears : place (sights p) put.fid (put.offset / 512 + 1) ≡ Some at
   pub value : words ≡ words_of (put_at (put.offset % 512) put.bytes (bytes_of (sector_at p at).value))
 
+-- this event is the put
 abbrev pub MakesPut : Pack → Event → Put → Type 0
 MakesPut p (Wrote at part words) put = WritesValue p at part words put
 MakesPut p (Shown byte) put = ⊥
 
+-- the pack holds these files
 abbrev pub IsStored : StoredFiles → Pack → Type 0
 IsStored files p = stored_files p ≡ files
 

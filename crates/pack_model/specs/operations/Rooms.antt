@@ -59,6 +59,7 @@ words_free [] = 0
 words_free (space n ∷ is) = n + words_free is
 words_free (entry f name ∷ is) = 0
 
+-- the most free words in a row
 abbrev pub largest_run : List Item → ℕ
 largest_run [] = 0
 largest_run (i ∷ is) = max (words_free (i ∷ is)) (largest_run is)

@@ -37,9 +37,11 @@ abbrev pub body_bytes : (List ℕ → List ℕ) → Body → Body
 body_bytes g (data_of bytes) = data_of (g bytes)
 body_bytes g (items_of is) = items_of is
 
+-- a file with other bytes; a directory stays as it is
 abbrev pub on_bytes : (List ℕ → List ℕ) → File → File
 on_bytes g x = record { leader = x.leader; body = body_bytes g x.body }
 
+-- a file with another leader
 abbrev pub on_leader : (Leader → Leader) → File → File
 on_leader g x = record { leader = g x.leader; body = x.body }
 
@@ -47,6 +49,7 @@ abbrev pub body_slots : (List Item → List Item) → Body → Body
 body_slots g (data_of bytes) = data_of bytes
 body_slots g (items_of is) = items_of (g is)
 
+-- a directory with other slots; any other file stays as it is
 abbrev pub on_items : (List Item → List Item) → File → File
 on_items g x = record { leader = x.leader; body = body_slots g x.body }
 
@@ -62,6 +65,7 @@ abbrev pub item_without : Fid → Item → Item
 item_without f (space n) = space n
 item_without f (entry g name) = cond (is_fid g f) (space (item_words (entry g name))) (entry g name)
 
+-- slots in which no entry of f stands any more
 abbrev pub items_without : Fid → List Item → List Item
 items_without f [] = []
 items_without f (i ∷ is) = item_without f i ∷ items_without f is
@@ -70,6 +74,7 @@ abbrev pub body_without : Fid → Body → Body
 body_without f (data_of bytes) = data_of bytes
 body_without f (items_of is) = items_of (items_without f is)
 
+-- file d without the entries of f
 abbrev pub file_without : Fid → Fid → File → File
 file_without f d x = record { leader = x.leader; body = body_without f x.body }
 
@@ -81,6 +86,7 @@ new_leader name moment = record { created = moment; written = moment; read = mom
 abbrev pub new_body : Fid → Body
 new_body f = cond (is_directory f) (items_of (space 255 ∷ [])) (data_of [])
 
+-- a file just made
 abbrev pub new_file : Fid → List ℕ → ℕ → File
 new_file f name moment = record { leader = new_leader name moment; body = new_body f }
 

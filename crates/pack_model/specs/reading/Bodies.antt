@@ -11,10 +11,12 @@ use Rattle.pack_model.specs.sessions.Maps.{map_values}
 use Rattle.pack_model.specs.reading.Stored.{StoredFile, files_shown}
 use Rattle.pack_model.specs.reading.Slots.{Item, all_words, slots}
 
+-- what a file holds: bytes, or the slots of a directory
 pub data Body : Type 0 where
   data_of : List ℕ → Body
   items_of : List Item → Body
 
+-- a file of a model
 pub record File : Type 0 where
   pub leader : Leader
   pub body : Body
@@ -27,6 +29,7 @@ Files = FinMap fid_cmp File
 abbrev pub body_of : Fid → List ℕ → Body
 body_of f bytes = cond (is_directory f) (items_of (slots (words_of bytes))) (data_of bytes)
 
+-- a stored file as a file of a model
 abbrev pub file_of : Fid → StoredFile → File
 file_of f x = record { leader = x.leader; body = body_of f x.bytes }
 
@@ -34,6 +37,7 @@ file_of f x = record { leader = x.leader; body = body_of f x.bytes }
 unfoldable pub found : List Sight → Files
 found ss = map_values file_of (files_shown ss)
 
+-- every file except DiskDescriptor is in models
 abbrev pub is_described : Fid → Bool
 is_described f = not (is_fid f disk_descriptor)
 
@@ -56,6 +60,7 @@ abbrev pub body_items : Body → List Item
 body_items (data_of bytes) = []
 body_items (items_of is) = is
 
+-- the slots of a file; none where it is no directory
 abbrev pub items_in : Option File → List Item
 items_in None = []
 items_in (Some x) = body_items x.body

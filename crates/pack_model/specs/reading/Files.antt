@@ -34,6 +34,7 @@ page_at f n (holds g k bytes) = cond (is_fid f g && n == k) (Some bytes) None
 abbrev pub leader : List Sight → Fid → Option Leader
 leader ss f = first (leader_at f) ss
 
+-- page n of f, from 0: the bytes of the lowest sector that shows it
 abbrev pub page : List Sight → Fid → ℕ → Option (List ℕ)
 page ss f n = first (page_at f n) ss
 
@@ -54,6 +55,7 @@ joined (suc k) pages =
 unfoldable pub most_pages : ℕ
 most_pages = 65535
 
+-- the bytes of a file: its pages up to the first that isn't full or is missing
 unfoldable pub file_bytes : List Sight → Fid → List ℕ
 file_bytes ss f = joined most_pages (page ss f)
 

@@ -35,6 +35,7 @@ leader_name f value = cond (is_readable value) (spelled_name value) (lost (seria
 abbrev pub leader_words : List ℕ → List ℕ
 leader_words value = take 246 value
 
+-- what the words of a leader page say
 unfoldable pub leader_of : Fid → List ℕ → Leader
 leader_of f value =
     let words = leader_words value in

@@ -63,6 +63,7 @@ read_as p = read_sights p.shape (sights p)
 abbrev pub dir_items : Model → Fid → List Item
 dir_items m d = items_in (get m.files d)
 
+-- SysDir's slots
 abbrev pub root_items : Model → List Item
 root_items m = dir_items m sys_dir
 

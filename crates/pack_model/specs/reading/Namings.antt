@@ -15,6 +15,7 @@ use Rattle.pack_model.specs.reading.Bodies.Body.{data_of, items_of}
 abbrev pub sys_dir_name : List ℕ
 sys_dir_name = codes "SysDir."
 
+-- DiskDescriptor's name
 abbrev pub descriptor_name : List ℕ
 descriptor_name = codes "DiskDescriptor."
 

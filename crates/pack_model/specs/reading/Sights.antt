@@ -21,6 +21,7 @@ pub data Sight : Type 0 where
   leads : Fid → Bool → Leader → Sight
   holds : Fid → ℕ → List ℕ → Sight
 
+-- page 0 of a label is a leader; data pages are counted from 0 here, and from 1 in labels
 abbrev pub page_sight : Fid → ℕ → ℕ → List ℕ → Sight
 page_sight f zero bytes value = leads f (is_readable (leader_words value)) (leader_of f value)
 page_sight f (suc n) bytes value = holds f n (take bytes (bytes_of value))
@@ -28,9 +29,11 @@ page_sight f (suc n) bytes value = holds f n (take bytes (bytes_of value))
 abbrev pub tag_sight : Tag → List ℕ → Sight
 tag_sight t value = cond (in_range t) (page_sight t.fid t.page t.bytes value) (cond (is_free t) free stray)
 
+-- what the sector at a virtual address shows
 unfoldable pub sight : Shape → ℕ → Sector → Sight
 sight shape at s = cond (is_usable shape at s) (tag_sight (tag s.label) s.value) hidden
 
+-- what sectors in a row show, the first of them at this address
 unfoldable pub sights_from : Shape → ℕ → List Sector → List Sight
 sights_from shape at [] = []
 sights_from shape at (s ∷ sectors) = sight shape at s ∷ sights_from shape (suc at) sectors

@@ -17,6 +17,7 @@ pub data Item : Type 0 where
 abbrev pub entry_length : ℕ → ℕ
 entry_length n = 6 + (n + 2) / 2
 
+-- the length of a slot in words
 abbrev pub item_words : Item → ℕ
 item_words (space n) = n
 item_words (entry f name) = entry_length (length name)
@@ -31,12 +32,15 @@ all_words (i ∷ is) = item_words i + all_words is
 abbrev pub slot_bytes : List ℕ → List ℕ
 slot_bytes words = bytes_of (drop 6 words)
 
+-- the name in an entry's words, without its count
 abbrev pub slot_name : List ℕ → List ℕ
 slot_name words = take (word (slot_bytes words) 0) (drop 1 (slot_bytes words))
 
+-- the bytes after that name
 abbrev pub slot_pad : List ℕ → List ℕ
 slot_pad words = drop (word (slot_bytes words) 0) (drop 1 (slot_bytes words))
 
+-- the full name in an entry's words
 abbrev pub slot_fid : List ℕ → Fid
 slot_fid words = record { high = word words 1; low = word words 2; version = word words 3 }
 

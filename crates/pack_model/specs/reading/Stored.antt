@@ -12,6 +12,7 @@ use Rattle.pack_model.specs.reading.Sights.Sight.{hidden, free, stray, leads, ho
 use Rattle.pack_model.specs.reading.Files.{file_bytes}
 use Rattle.pack_model.specs.sessions.Maps.{map_values, update}
 
+-- a living file of a pack
 pub record StoredFile : Type 0 where
   pub leader : Leader
   pub bytes : List ℕ
@@ -36,6 +37,7 @@ stored_file ss f l = record { leader = l; bytes = file_bytes ss f }
 unfoldable pub files_shown : List Sight → StoredFiles
 files_shown ss = map_values (stored_file ss) (from_entries (leader_entries ss))
 
+-- the living files of a pack
 abbrev pub stored_files : Pack → StoredFiles
 stored_files p = files_shown (sights p)
 

@@ -30,9 +30,11 @@ abbrev pub root_body : Option File → Body
 root_body None = items_of (space 255 ∷ [])
 root_body (Some x) = x.body
 
+-- SysDir is among the files, with its slots, or with one free slot if it was missing
 abbrev pub rooted : Files → Files
 rooted files = insert files sys_dir (root_file (root_body (get files sys_dir)))
 
+-- the model that a scavenge leaves
 unfoldable pub mended : Shape → List Sight → Model
 mended shape ss = record {
   shape = shape;

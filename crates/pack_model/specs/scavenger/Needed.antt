@@ -42,5 +42,6 @@ descriptor_lacks shape ss = cond (lives ss disk_descriptor) 0 (descriptor_pages 
 abbrev pub root_widens : Shape → List Sight → ℕ
 root_widens shape ss = widens (root_items (mended shape ss)) (lacking (mended shape ss))
 
+-- how many sectors a scavenge needs
 unfoldable pub needed : Shape → List Sight → ℕ
 needed shape ss = files_lack shape ss (entries (found ss)) + root_lacks ss + descriptor_lacks shape ss + root_widens shape ss

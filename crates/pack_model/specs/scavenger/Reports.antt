@@ -34,6 +34,7 @@ pub record Report : Type 0 where
 abbrev pub freed_sectors : Shape → List Sight → ℕ
 freed_sectors shape ss = how_many (λ e. is_available shape ss e && not (is_free_sight e.1)) (numbered 0 ss)
 
+-- how many nameless files get a name
 abbrev pub adopted_files : Pack → ℕ
 adopted_files p = length (given_names (view (read_as p)).names (entries (view (read_as p)).files))
 

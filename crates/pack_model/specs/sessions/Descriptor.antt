@@ -41,6 +41,7 @@ descriptor_value shape last mark busy n = filled 256 (take 256 (drop (256 * n) (
 abbrev pub opened_value : List ℕ → List ℕ
 opened_value value = put_at 6 (mark_open ∷ []) value
 
+-- the value of DiskDescriptor's first page with another last serial
 abbrev pub serial_value : ℕ → List ℕ → List ℕ
 serial_value last value = put_at 4 (halves last) value
 

@@ -23,6 +23,7 @@ use Rattle.pack_model.specs.sessions.Descriptor.{data_pages, descriptor_value}
 abbrev pub sectors_used : Shape → ℕ
 sectors_used shape = 4 + data_pages shape
 
+-- how many sectors are free after formatting
 abbrev pub free_after_format : Shape → ℕ
 free_after_format shape = pages_of shape - sectors_used shape
 
@@ -78,6 +79,7 @@ with_headers shape number at [] = []
 with_headers shape number at (w ∷ ws) =
     record { header = number ∷ real_of shape at ∷ []; label = w.0; value = w.1 } ∷ with_headers shape number (suc at) ws
 
+-- the pack that formatting writes, with the pack's number in each header
 abbrev pub formatted : Shape → ℕ → ℕ → Pack
 formatted shape number moment = record { shape = shape; sectors = with_headers shape number 0 (formatted_sectors shape moment) }
 

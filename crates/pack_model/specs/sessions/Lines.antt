@@ -17,6 +17,7 @@ lines_from [] [] = []
 lines_from (b ∷ line) [] = (b ∷ line) ∷ []
 lines_from line (key ∷ keys) = cond (key == 10) (line ∷ lines_from [] keys) (lines_from (line ++ key ∷ []) keys)
 
+-- the lines of the keys that count, the last of which needn't be ended
 abbrev pub lines : List ℕ → List (List ℕ)
 lines keys = lines_from [] (take most_keys keys)
 
@@ -25,8 +26,10 @@ abbrev pub ended_from : List ℕ → List ℕ → List (List ℕ)
 ended_from line [] = []
 ended_from line (key ∷ keys) = cond (key == 10) (line ∷ ended_from [] keys) (ended_from (line ++ key ∷ []) keys)
 
+-- those that are ended by a byte 10
 abbrev pub ended_lines : List ℕ → List (List ℕ)
 ended_lines keys = ended_from [] (take most_keys keys)
 
+-- a line of more bytes than a line may have
 abbrev pub is_too_long : List ℕ → Bool
 is_too_long line = nat_le (longest_line + 1) (length line)

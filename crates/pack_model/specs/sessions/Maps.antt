@@ -17,5 +17,6 @@ abbrev pub update_found : {K X : Type 0} {R : K → K → Ordering} → FinMap R
 update_found m k g None = m
 update_found m k g (Some x) = insert m k (g x)
 
+-- the value of a key is changed, where it has one
 abbrev pub update : {K X : Type 0} {R : K → K → Ordering} → FinMap R X → K → (X → X) → FinMap R X
 update m k g = update_found m k g (get m k)

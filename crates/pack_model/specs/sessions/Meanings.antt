@@ -47,18 +47,23 @@ pub record SessionCut (m : Model) (p : Pack) : Type 0 where
 abbrev pub meaning : (Model → Pack → Type 0) → Meaning Model Move
 meaning stands = record { step = moved; read = read_as; Stands = stands; Makes = MakesMove }
 
+-- at each crash point the pack is read as the model there
 abbrev pub reading : Meaning Model Move
 reading = meaning IsReadAs
 
+-- at each crash point the pack is viewed as the model there
 abbrev pub viewing : Meaning Model Move
 viewing = meaning Views
 
+-- at each crash point the pack shows what the model there shows
 abbrev pub showing : Meaning Model Move
 showing = meaning Shows
 
+-- at each crash point the pack is viewed as the model there, and mendable
 abbrev pub operating : Meaning Model Move
 operating = meaning OperationCut
 
+-- at each crash point the pack shows what the model there shows, and is mendable
 abbrev pub session : Meaning Model Move
 session = meaning SessionCut
 

@@ -6,6 +6,7 @@ use Rattle.disk_records.specs.Packs.{Pack, after, crash}
 use Rattle.disk_records.specs.Events.{shown_events, shown_bytes, writes_in}
 use Rattle.pack_model.specs.sessions.Moves.{Meaning, Obeys, steps, IsStartOf}
 
+-- a line's operations, its reply, and whether the reply acknowledges them
 pub record Turn (O : Type 0) : Type 0 where
   pub ops : List O
   pub text : List ℕ
@@ -17,6 +18,7 @@ abbrev pub ops_of : {O : Type 0} → List (Turn O) → List O
 ops_of [] = []
 ops_of (t ∷ turns) = t.ops ++ ops_of turns
 
+-- the bytes of all replies
 abbrev pub texts_of : {O : Type 0} → List (Turn O) → List ℕ
 texts_of [] = []
 texts_of (t ∷ turns) = t.text ++ texts_of turns

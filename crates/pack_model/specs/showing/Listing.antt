@@ -19,6 +19,7 @@ shown_files v = entries v.files
 abbrev pub naming_of : Fid × Home → Naming
 naming_of e = record { dir = e.1.dir; name = e.1.name; fid = e.0 }
 
+-- by directory, by name without regard to case, by file
 abbrev pub naming_cmp : Naming → Naming → Ordering
 naming_cmp = then_cmp (on (λ n. n.dir) fid_cmp) (then_cmp (on (λ n. n.name) folded_cmp) (on (λ n. n.fid) fid_cmp))
 
@@ -26,6 +27,7 @@ naming_cmp = then_cmp (on (λ n. n.dir) fid_cmp) (then_cmp (on (λ n. n.name) fo
 abbrev pub in_order : {X : Type 0} → (X → X → Ordering) → List X → List X
 in_order {X} cmp xs = keys (from_entries {X = Unit {0}} {R = cmp} (map (λ x. (x, tt {0})) xs))
 
+-- all names of a view in that order
 abbrev pub shown_names : View → List Naming
 shown_names v = in_order naming_cmp (map naming_of (entries v.names))
 
@@ -36,6 +38,7 @@ pub record Listed : Type 0 where
   pub naming : Naming
   pub size : Option ℕ
 
+-- the name under which a directory stands
 abbrev pub home_name : View → Fid → Option (List ℕ)
 home_name v d = option_map (λ h. h.name) (get v.names d)
 
@@ -43,6 +46,7 @@ abbrev pub size_of : Option Seen → Option ℕ
 size_of None = None
 size_of (Some x) = option_map (λ bytes. length bytes) x.bytes
 
+-- what is listed of a name
 abbrev pub line_of : View → Naming → Listed
 line_of v n = record { dir_name = home_name v n.dir; naming = n; size = size_of (get v.files n.fid) }
 
@@ -50,5 +54,6 @@ line_of v n = record { dir_name = home_name v n.dir; naming = n; size = size_of 
 abbrev pub listed_cmp : Listed → Listed → Ordering
 listed_cmp = then_cmp (on (λ l. l.dir_name) (option_cmp folded_cmp)) (on (λ l. l.naming) naming_cmp)
 
+-- all names as they are listed
 abbrev pub listing : View → List Listed
 listing v = in_order listed_cmp (map (line_of v) (shown_names v))

@@ -30,6 +30,7 @@ abbrev pub seen_body : Body → Option (List ℕ)
 seen_body (data_of bytes) = Some bytes
 seen_body (items_of is) = None
 
+-- what is seen of a file
 abbrev pub seen_of : Fid → File → Seen
 seen_of f x = record { leader = x.leader; bytes = seen_body x.body }
 
@@ -41,6 +42,7 @@ homes (n ∷ ns) = (n.fid, record { dir = n.dir; name = n.name }) ∷ homes ns
 abbrev pub names_of : Files → FinMap fid_cmp Home
 names_of files = from_entries (homes (namings (entries files)))
 
+-- what a model shows: its files except the system files, and the names of these
 unfoldable pub view : Model → View
 view m = record {
   files = retain_keys (map_values seen_of m.files) (λ f. not (is_system f));

@@ -69,13 +69,16 @@ abbrev pub one_if : Bool → ℕ
 one_if true = 1
 one_if false = 0
 
+-- how many pass a test
 abbrev pub how_many : {X : Type 0} → (X → Bool) → List X → ℕ
 how_many test [] = 0
 how_many test (x ∷ xs) = one_if (test x) + how_many test xs
 
+-- how many sectors a scavenge may take: the good ones that aren't in use
 unfoldable pub available : Shape → List Sight → ℕ
 available shape ss = how_many (is_available shape ss) (numbered 0 ss)
 
+-- how many sectors show that they are free
 abbrev pub free_sector_count : List Sight → ℕ
 free_sector_count ss = how_many is_free_sight ss
 

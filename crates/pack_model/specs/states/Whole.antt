@@ -43,6 +43,7 @@ pub record Leads (ss : List Sight) (f : Fid) (at : ℕ) (readable : Bool) (l : L
   pub shows : get_or ss at hidden ≡ leads f readable l
   pub only : (i : ℕ) (r : Bool) (k : Leader) → get_or ss i hidden ≡ leads f r k → i ≡ at
 
+-- no sector is a leader of f
 abbrev pub Headless : List Sight → Fid → Type 0
 Headless ss f = (i : ℕ) (r : Bool) (k : Leader) → get_or ss i hidden ≡ leads f r k → ⊥
 
