@@ -1,5 +1,5 @@
 -- One line as a turn: its puts, and then its reply.
-use Rattle.std.proofs.Common.{◌≡◌, ◌≢◌, inl, inr, ℕ, List, [], length, drop, Bool, true, false, Result, Ok, Err, sym, ◌∙◌, ap, subst}
+use Rattle.std.proofs.Common.{◌≡◌, ◌≢◌, inl, inr, ℕ, List, [], length, drop, Result, Ok, Err, sym, ◌∙◌, ap, subst}
 use Rattle.std.specs.Prelude.{IfErr, IsErrOf}
 use Rattle.disk_records.specs.declared.records.Event.{Event}
 use Rattle.disk_records.specs.Events.{IsFirstOf, shown_events}
@@ -14,6 +14,8 @@ use Rattle.alto_top.specs.Faults.{DiskFaultCause, KeyFaultCause, status_of}
 use Rattle.alto_top.specs.Keys.{ShownAll, TookWhole, TookRest, TookPart}
 use Rattle.alto_top.specs.Patches.{turn_of}
 use Rattle.alto_top.specs.Sessions.{BreaksBy, Obeyed, TurnTaken, NextTurn}
+use Rattle.alto_top.specs.declared.session.Next.{Next}
+use Rattle.alto_top.specs.declared.session.Next.TheVariants.{Line, End}
 use Rattle.alto_top.specs.declared.status.Fault.{Fault}
 use Rattle.alto_top.specs.declared.status.Fault.TheVariants.{Disk, Key, Display, Memory}
 use Rattle.alto_top.specs.declared.status.Status.TheVariants as status
@@ -60,11 +62,11 @@ obeyed_behind {x} {y} {z} {line} {result} keys obeyed =
     record { turn = here.0; breaks = here.1 }
 
 -- no key is left
-pub next_none : {x y : Taped} {before after : ℕ} → KeysAlone x y → TookRest x.keys y.keys before after [] → NextTurn x y before after (Ok false)
+pub next_none : {x y : Taped} {before after : ℕ} → KeysAlone x y → TookRest x.keys y.keys before after [] → NextTurn x y before after (Ok End)
 next_none keys rest = (keys, rest)
 
 -- no line was taken to its end
-pub next_missed : {x y : Taped} {before : ℕ} (after : ℕ) (result : Result Bool Fault) (fault : Fault) → KeysAlone x y → TookPart x.keys y.keys before → KeyFaultCause x y fault → result ≡ Err fault → NextTurn x y before after result
+pub next_missed : {x y : Taped} {before : ℕ} (after : ℕ) (result : Result Next Fault) (fault : Fault) → KeysAlone x y → TookPart x.keys y.keys before → KeyFaultCause x y fault → result ≡ Err fault → NextTurn x y before after result
 next_missed {x} {y} {before} after result fault keys part cause is =
     subst (NextTurn x y before after) (sym is) (inl (record { alone = keys; part = part; cause = cause }))
 
@@ -73,9 +75,9 @@ module _ {x y z : Taped} {before after : ℕ} (line : List ℕ) (keys : KeysAlon
   next_taken obeyed = record { line = line; took = subst (λ k. TookWhole x.keys k before after line) (sym same) took; obeyed = obeyed_behind keys obeyed }
 
   -- the line was obeyed
-  pub next_obeyed : {u : Unit {0}} → Obeyed y z line (Ok u) → NextTurn x z before after (Ok true)
+  pub next_obeyed : {u : Unit {0}} → Obeyed y z line (Ok u) → NextTurn x z before after (Ok Line)
   next_obeyed obeyed = next_taken obeyed
 
   -- it broke off
-  pub next_broke : (result : Result Bool Fault) (fault : Fault) → Obeyed y z line (Err fault) → (IsErrOf {T = Unit {0}} (Err fault) Key → ⊥) → result ≡ Err fault → NextTurn x z before after result
+  pub next_broke : (result : Result Next Fault) (fault : Fault) → Obeyed y z line (Err fault) → (IsErrOf {T = Unit {0}} (Err fault) Key → ⊥) → result ≡ Err fault → NextTurn x z before after result
   next_broke result fault obeyed other is = subst (NextTurn x z before after) (sym is) (inr (next_taken obeyed, λ key. other (ap (λ f. Err f) key)))

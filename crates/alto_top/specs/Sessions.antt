@@ -1,5 +1,5 @@
 -- A session: the turns of typed lines.
-use Rattle.std.specs.Prelude.{◌≡◌, ◌≢◌, ◌⊎◌, ◌≤◌, ℕ, ◌+◌, ◌*◌, List, [], ◌∷◌, ◌++◌, length, take, drop, Bool, true, false, Result, Ok, Err, IfErr}
+use Rattle.std.specs.Prelude.{◌≡◌, ◌≢◌, ◌⊎◌, ◌≤◌, ℕ, ◌+◌, ◌*◌, List, [], ◌∷◌, ◌++◌, length, take, drop, Result, Ok, Err, IfErr}
 use Rattle.disk_records.specs.Addresses.{pages_of}
 use Rattle.disk_records.specs.Events.{shown_bytes}
 use Rattle.disk_records.specs.Tapes.{Taped, KeysAlone, pack, added}
@@ -11,6 +11,8 @@ use Rattle.pack_model.specs.sessions.Turns.{Turn, Talks, IsTurn, BrokeOff, CutAt
 use Rattle.alto_top.specs.Patches.{turn_of, puts_of}
 use Rattle.alto_top.specs.Keys.{TookWhole, TookRest, TookPart}
 use Rattle.alto_top.specs.Faults.{KeyFaultCause, status_of}
+use Rattle.alto_top.specs.declared.session.Next.{Next}
+use Rattle.alto_top.specs.declared.session.Next.TheVariants.{Line, End}
 use Rattle.alto_top.specs.declared.status.Fault.{Fault}
 use Rattle.alto_top.specs.declared.status.Fault.TheVariants.{Key}
 use Rattle.alto_top.specs.declared.status.Status.{Status}
@@ -44,10 +46,10 @@ pub record TurnMissed (old new : Taped) (before : ℕ) (fault : Fault) : Type 0 
   pub part : TookPart old.keys new.keys before
   pub cause : KeyFaultCause old new fault
 
--- The next line, where `before` keys counted and `after` still do: Ok(true) where it was obeyed, Ok(false) where there is none.
-abbrev pub NextTurn : Taped → Taped → ℕ → ℕ → Result Bool Fault → Type 0
-NextTurn old new before after (Ok true) = TurnTaken old new before after (Ok tt)
-NextTurn old new before after (Ok false) = KeysAlone old new × TookRest old.keys new.keys before after []
+-- What comes next of the input, if `before` keys counted and `after` still do: a line, which was obeyed, or the end.
+abbrev pub NextTurn : Taped → Taped → ℕ → ℕ → Result Next Fault → Type 0
+NextTurn old new before after (Ok Line) = TurnTaken old new before after (Ok tt)
+NextTurn old new before after (Ok End) = KeysAlone old new × TookRest old.keys new.keys before after []
 NextTurn old new before after (Err fault) = TurnMissed old new before fault ⊎ (TurnTaken old new before after (Err fault) × (fault ≢ Key))
 
 -- The history is the turns of some first lines, and perhaps one of the next line that broke off. After a fault of the disk or of

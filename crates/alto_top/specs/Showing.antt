@@ -22,13 +22,13 @@ dir_text None = codes "SysDir"
 dir_text (Some name) = stem name
 
 -- a length in bytes; that of a directory isn't told
-abbrev pub length_text : Option ℕ → List ℕ
-length_text None = codes " directory"
-length_text (Some n) = codes " length " ++ decimal n
+abbrev pub listed_length : Option ℕ → List ℕ
+listed_length None = codes " directory"
+listed_length (Some n) = codes " length " ++ decimal n
 
 -- one line
 abbrev pub line_text : Listed → List ℕ
-line_text l = dir_text l.dir_name ++ codes ">" ++ l.naming.name ++ length_text l.size ++ (10 ∷ [])
+line_text l = dir_text l.dir_name ++ codes ">" ++ l.naming.name ++ listed_length l.size ++ (10 ∷ [])
 
 -- the last line
 abbrev pub count_text : ℕ → List ℕ

@@ -10,7 +10,7 @@ ghost use Rattle.pack_model.specs.showing.Listing.{line_of, listed_cmp, in_order
 ghost use Rattle.pack_reading.specs.Shows.{naming, shown_file, ShowsView};
 ghost use Rattle.alto_top.specs.Looking.{first_of, file_length, Knows, listed_in};
 ghost use Rattle.std.specs.FinMap.{get as look_up};
-ghost use Rattle.alto_top.specs.Showing.{stem, dir_text, length_text, line_text, count_text, listing_text};
+ghost use Rattle.alto_top.specs.Showing.{stem, dir_text, listed_length, line_text, count_text, listing_text};
 
 use crate::row::Row;
 use alto_words::{Fid, Memory, Name, push_number};
@@ -112,7 +112,7 @@ fn without_dot(name: &Name) -> &[u8]
 
 /// Appends the length of a file, or the word `directory`.
 fn push_length(alloc: Global, text: &mut Vec<u8>, length: Option<u64>) -> Result<(), Memory>
-    ensures { OnOk result (text.new.items ≡ text.old.items ++ length_text length) }
+    ensures { OnOk result (text.new.items ≡ text.old.items ++ listed_length length) }
 {
     match length {
         Some(length) => {

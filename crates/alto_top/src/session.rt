@@ -181,20 +181,29 @@ pub fn obey<M: Machine>(alloc: Global, machine: &mut M, line: &[u8]) -> Result<(
     show_reply(alloc, machine, reply)
 }
 
-/// Takes the keys of the next line and obeys it. False where no key is left that counts; then nothing else happens. `left` is
-/// the number of keys that still count.
+/// What comes next of the typed input.
+#[derive(Clone, Copy, Debug, PartialEq, Eq)]
+pub enum Next {
+    /// A line, which was obeyed.
+    Line,
+    /// Its end: no key is left that counts.
+    End,
+}
+
+/// Takes the keys of the next line and obeys it. At the end of the input nothing else happens. `left` is the number of keys that
+/// still count.
 #[tactic(auto, using(crate::proofs::Turning::next_none, crate::proofs::Turning::next_missed, crate::proofs::Turning::next_obeyed, crate::proofs::Turning::next_broke))]
-fn obey_next<M: Machine>(alloc: Global, machine: &mut M, left: &mut u32) -> Result<bool, Fault>
+fn obey_next<M: Machine>(alloc: Global, machine: &mut M, left: &mut u32) -> Result<Next, Fault>
     ensures next { IsTrue M.told → NextTurn (M.tape machine.old) (M.tape machine.new) left.old left.new result }
     ensures cause { HasFaultCause (M.tape machine.old) (M.tape machine.new) result }
     ensures grown { Grown (M.tape machine.old) (M.tape machine.new) }
     ensures runs { IsTrue M.told → (M.tape machine.new).runs ≤ (M.tape machine.old).runs + runs_of_line (M.tape machine.old) }
 {
     let Some(line) = read_line(alloc, machine, left)? else {
-        return Ok(false);
+        return Ok(Next::End);
     };
     obey(alloc, machine, &line)?;
-    Ok(true)
+    Ok(Next::Line)
 }
 
 /// Obeys the typed lines in order: `patch #NUM NUM HEX` alone is in the grammar. Each turn is a line, its record write and its reply.
@@ -213,8 +222,8 @@ pub fn boot<M: Machine>(alloc: Global, moment: u32, machine: &mut M) -> Status
     let mut left = MOST_KEYS;
     'lines: for _ in 0..MOST_KEYS {
         match obey_next(alloc, machine, &mut left) {
-            Ok(true) => {}
-            Ok(false) => return Status::Done,
+            Ok(Next::Line) => {}
+            Ok(Next::End) => return Status::Done,
             Err(fault) => return fault.status(),
         }
     }

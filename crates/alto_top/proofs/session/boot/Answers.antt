@@ -10,9 +10,9 @@ lines-init g c =
     let first = g.M.Tape.tape c.args.machine.now in
     record { grown = grown_here first; session = λ told. subst (λ n. Session first first n 0) most_keys-is (start first) }
 
-pub returns-in-Ok-false-clause-booted : goal.returns-in-Ok-false-clause-booted
-returns-in-Ok-false-clause-booted g c = λ told.
-    let next = rw c.in-Ok-false.field-0-test at (c.in-Ok-false.ensures.next told) in
+pub returns-in-Ok-End-clause-booted : goal.returns-in-Ok-End-clause-booted
+returns-in-Ok-End-clause-booted g c = λ told.
+    let next = rw c.in-Ok-End.field-0-is at (c.in-Ok-End.ensures.next told) in
     session_over (c.lines.invariant.session told) next.0 next.1
 
 pub returns-in-Err-clause-booted : goal.returns-in-Err-clause-booted
@@ -22,6 +22,6 @@ returns-in-Err-clause-booted g c = λ told.
 pub lines-preserved : goal.lines-preserved
 lines-preserved g c =
     record {
-      grown = grown_twice c.lines.invariant.grown c.in-Ok-true.ensures.grown;
-      session = λ told. session_more (c.lines.invariant.session told) c.lines.invariant.grown c.in-Ok-true.ensures.grown (c.in-Ok-true.ensures.runs told) (rw c.in-Ok-true.field-0-test at (c.in-Ok-true.ensures.next told));
+      grown = grown_twice c.lines.invariant.grown c.in-Ok-Line.ensures.grown;
+      session = λ told. session_more (c.lines.invariant.session told) c.lines.invariant.grown c.in-Ok-Line.ensures.grown (c.in-Ok-Line.ensures.runs told) (rw c.in-Ok-Line.field-0-is at (c.in-Ok-Line.ensures.next told));
     }
