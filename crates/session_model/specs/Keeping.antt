@@ -9,7 +9,7 @@ use Rattle.disk_records.specs.declared.records.Place.{Place}
 use Rattle.disk_records.specs.declared.records.Tally.{Tally}
 use Rattle.disk_records.specs.Addresses.{pages_of}
 use Rattle.disk_records.specs.Packs.{Pack}
-use Rattle.pack_model.specs.hints.Handy.{Cached}
+use Rattle.pack_model.specs.hints.Handy.{CachedAt}
 use Rattle.pack_model.specs.hints.Sources.{IsFrom}
 use Rattle.pack_model.specs.operations.Committing.{length_of}
 use Rattle.pack_model.specs.reading.Model.{Model}
@@ -45,7 +45,7 @@ pub record Kept : Type 0 where
   pub mark : ℕ
   pub pages : List ℕ
   pub busy : List Bool
-  pub cache : List Cached
+  pub cache : List CachedAt
   pub tally : Tally
   pub moment : ℕ
   pub level : ℕ

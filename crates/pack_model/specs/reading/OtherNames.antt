@@ -2,13 +2,13 @@
 -- It serves one law: that packs which were sound before names had versions are sound still, and are read as before.
 use Rattle.std.specs.Prelude.{◌≡◌, ℕ, zero, suc, ◌+◌, ◌-◌, ◌<◌, ◌≤◌, ◌==◌, ◌&&◌, Bool, true, cond, nat_le, List, [], ◌∷◌, ◌++◌, length, take, drop, get_or, Option, Some, None}
 use Rattle.std.specs.List.{list_all}
-use Rattle.std.specs.FinMap.{from_entries, retain_keys}
+use Rattle.std.specs.FinMap.{retain_keys}
 use Rattle.alto_words.specs.declared.fid.Fid.{Fid}
 use Rattle.alto_words.specs.Fid.{is_directory, is_full_name, serial_of, sys_dir, disk_descriptor}
 use Rattle.alto_words.specs.Names.{lost}
 use Rattle.disk_records.specs.declared.shape.Shape.{Shape}
 use Rattle.disk_records.specs.declared.records.Sector.{Sector}
-use Rattle.disk_records.specs.Labels.{Tag, tag, in_range, is_free}
+use Rattle.disk_records.specs.Labels.{tag, in_range, is_free}
 use Rattle.disk_records.specs.Packs.{Pack, is_usable}
 use Rattle.disk_records.specs.Words.{word, double}
 use Rattle.pack_model.specs.reading.Bytes.{bytes_of, words_of}
@@ -20,7 +20,7 @@ use Rattle.pack_model.specs.sessions.Maps.{map_values}
 use Rattle.pack_model.specs.reading.Stored.{StoredFile, files_shown}
 use Rattle.pack_model.specs.reading.Slots.{Item, item_words, entry_length, slot_bytes, slot_name, slot_pad, slot_fid, first_length, and_then, IsEven}
 use Rattle.pack_model.specs.reading.Slots.Item.{space, entry}
-use Rattle.pack_model.specs.reading.Bodies.{Body, File, Files, is_described}
+use Rattle.pack_model.specs.reading.Bodies.{File, Files, is_described}
 use Rattle.pack_model.specs.reading.Bodies.Body.{data_of, items_of}
 use Rattle.pack_model.specs.reading.Namings.{tidied, IsTidy}
 use Rattle.pack_model.specs.reading.Model.{Model, IsNamed, good_sectors, descriptor_words, last_serial}
