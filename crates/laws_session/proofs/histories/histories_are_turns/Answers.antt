@@ -1,0 +1,5 @@
+use Rattle.laws_session.proofs.inside.Talking.{histories_are_turns}
+use Rattle.laws_session.proofs.histories.histories_are_turns.Goals as goal
+
+pub returns : goal.returns
+returns c = histories_are_turns

@@ -1,0 +1,6 @@
+pub mod Answering
+pub mod Needing
+pub mod Ruling
+pub mod Scavenging
+pub mod Standing
+pub mod Talking

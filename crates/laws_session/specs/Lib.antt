@@ -1,0 +1,4 @@
+pub mod AnswerLaws
+pub mod EndLaws
+pub mod HistoryLaws
+pub mod ScavengeLaws

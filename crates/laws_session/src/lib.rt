@@ -1,0 +1,15 @@
+//! The laws of sessions: calls that answer as turns, turns as histories, and what each crash point and the end of a history is.
+//!
+//! Come here when you write a call on a session, or the loop that takes lines. A call that answers is a whole turn once its text is shown; one
+//! that doesn't, or whose text breaks off, is a turn that broke off; a scavenge is a turn, too. Turns one after another are a history, and
+//! each crash point of a history can be mended and shows the model after as many operations as the ruler says.
+//!
+//! A law function is public, has an empty body and one clause, the law; its lemma has the same name, and its statement has it in
+//! capitals. To cite a law: `use Rattle.laws_session.proofs.histories.Laws.{crashes_of_a_history}`. Lemma files in proofs/inside/ no other
+//! crate can name.
+#![tactic(auto)]
+
+pub mod answers;
+pub mod ends;
+pub mod histories;
+pub mod scavenges;
