@@ -1,0 +1,9 @@
+pub mod Noting
+pub mod Handing
+pub mod Seeking
+pub mod Misleading
+pub mod Erring
+pub mod Recalling
+pub mod Ending
+pub mod Easing
+pub mod Lasting

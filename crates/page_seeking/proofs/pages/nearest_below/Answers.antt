@@ -1,0 +1,66 @@
+use Rattle.std.proofs.Common.{ap, length, arith, ◌∙◌}
+use Rattle.disk_records.specs.Packs.{Pack, carried}
+use Rattle.disk_records.specs.Tapes.{pack}
+use Rattle.hint_cache.specs.Caches.{address_in}
+use Rattle.disk_records.proofs.Looking.{looks_pack}
+use Rattle.page_seeking.proofs.Easing.{listed_right}
+use Rattle.page_seeking.proofs.Recalling.{fewer_without, sought_forgotten}
+use Rattle.page_seeking.proofs.Seeking.{sought_here, sought_more, sought_twice, sought_within}
+use Rattle.page_seeking.proofs.pages.nearest_below.Goals as goal
+
+pub loop-entry-init : goal.loop-entry-init
+loop-entry-init g c =
+    let few = c.refused-refused.ensures.kept.few in
+    record { below = omega arith; sought = sought_more (omega arith) (sought_here (g.D.Tape.tape c.args.disk.now) c.args.cache.now); spent = λ told. omega (arith, few); quick = λ at told eases. omega arith }
+
+pub returns-in_err-found-clause-sought : goal.returns-in_err-found-clause-sought
+returns-in_err-found-clause-sought g c =
+    let inv = c.loop-entry.invariant in
+    let entry = c.in-Some.entry in
+    let one = fewer_without entry.page entry.at c.loop-entry.cache.entries c.in-Some.ensures.some.listed in
+    sought_within (sought_twice inv.sought c.try_at.ensures.sought) (λ told. omega (arith, one, inv.spent told, c.try_at.ensures.sought.looks.runs told))
+
+pub returns-in-Some-2-clause-sought : goal.returns-in-Some-2-clause-sought
+returns-in-Some-2-clause-sought g c =
+    let inv = c.loop-entry.invariant in
+    let entry = c.in-Some.entry in
+    let one = fewer_without entry.page entry.at c.loop-entry.cache.entries c.in-Some.ensures.some.listed in
+    sought_within (sought_twice inv.sought c.try_at.ensures.sought) (λ told. omega (arith, one, inv.spent told, c.try_at.ensures.sought.looks.runs told))
+
+pub returns-in-Some-2-clause-quick : goal.returns-in-Some-2-clause-quick
+returns-in-Some-2-clause-quick g c at told eases =
+    let none = c.loop-entry.invariant.quick at told eases in
+    let first = c.if-entry-eq0.false in
+    let below = c.in-Some.ensures.some.below in
+    let low = c.loop-entry.invariant.below in
+    omega (arith, none, first, below, low, c.try_at.ensures.sought.looks.runs told)
+
+pub loop-entry-preserved : goal.loop-entry-preserved
+loop-entry-preserved g c =
+    let inv = c.loop-entry.invariant in
+    let entry = c.in-Some.entry in
+    let some = c.in-Some.ensures.some in
+    let missed = rw c.in_default-2.is at c.in_ok-found.ensures.missed in
+    let gone = ap (λ x. length x.entries) c.forget.ensures.out in
+    let cut = fewer_without entry.page entry.at c.try_at.new.cache.entries (ap (λ x. address_in x.entries entry.page) missed ∙ some.listed) in
+    let same = ap (λ x. length x.entries) missed in
+    record {
+      below = let below = some.below in let low = inv.below in omega (arith, below, low);
+      sought = sought_within (sought_forgotten entry.page c.forget.ensures.out (sought_twice inv.sought c.try_at.ensures.sought)) (λ told. omega (arith, gone, cut, same, inv.spent told, c.try_at.ensures.sought.looks.runs told));
+      spent = λ told. omega (arith, gone, cut, same, inv.spent told, c.try_at.ensures.sought.looks.runs told);
+      quick = λ at told eases.
+          let old = pack (g.D.Tape.tape c.args.disk.now) in
+          let looks = inv.sought.looks in
+          let handy = inv.sought.handy told eases.whole eases.links c.args.page.fid eases.entries in
+          let first = c.if-entry-eq0.false in
+          let below = some.below in
+          let low = inv.below in
+          let right = listed_right old c.args.page.fid c.args.page.number at c.loop-entry.cache.entries entry eases.whole eases.placed handy some.file (omega (arith, first)) (omega (arith, below, low)) some.listed in
+          absurd (rw c.in_default-2.is at (c.in_ok-found.ensures.here told (ap (λ (p : Pack). carried p entry.at) (looks_pack looks told) ∙ right)));
+    }
+
+pub returns-then-entry-eq0-clause-quick : goal.returns-then-entry-eq0-clause-quick
+returns-then-entry-eq0-clause-quick g c at told eases = let none = c.loop-entry.invariant.quick at told eases in omega (arith, none)
+
+pub returns-in_default-clause-quick : goal.returns-in_default-clause-quick
+returns-in_default-clause-quick g c at told eases = let none = c.loop-entry.invariant.quick at told eases in omega (arith, none)

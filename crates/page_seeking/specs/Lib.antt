@@ -1,0 +1,4 @@
+pub mod Refs
+pub mod Inside
+pub mod Seeking
+pub mod Causes

@@ -1,0 +1,132 @@
+// The last page of a file, and so its length.
+ghost use Rattle.std.specs.Prelude.{◌≡◌, ◌≢◌, ◌⊎◌, ◌+◌, ◌-◌, ◌<◌, ◌≤◌, ℕ, Some, IsTrue, IsErrOf, IfOk, OnOk, []};
+ghost use Rattle.disk_records.specs.Causes.{HasCause};
+ghost use Rattle.disk_records.specs.Packs.{carried};
+ghost use Rattle.disk_records.specs.Tapes.{Looks, Rose, pack};
+ghost use Rattle.disk_records.specs.Words.{word};
+ghost use Rattle.pack_model.specs.states.Whole.{Whole};
+ghost use Rattle.page_seeking.specs.Causes.{cause_of_length};
+ghost use Rattle.page_seeking.specs.Refs.{FileStands, IfMisled, IfBeyond, MisledBy};
+ghost use Rattle.page_seeking.specs.Seeking.{KeepsHandy, LastNamed, Quick, file_length, page_number};
+ghost use Rattle.page_seeking.specs.Inside.{Ends, Known, NamesEnd, Sought};
+
+use crate::leader::{last_address, last_number, locate_leader};
+use crate::links::{Below, follow, goes_on, length_at};
+use crate::pages::nearest_below;
+use crate::seek::{Found, try_hint};
+use crate::{FileError, FileRef};
+use alto_words::Fid;
+use disk_records::{Disk, Page, Sector};
+use hint_cache::{HintCache, Hints};
+use label_check::LookError;
+
+/// Follows links from a page that is known up to the last one.
+fn climb_to_end<D: Disk>(
+    disk: &mut D,
+    cache: &mut HintCache,
+    fid: Fid,
+    below: Below,
+    buf: &mut Sector,
+) -> Result<Below, FileError>
+    ensures sought { Sought D.told (65535 - below.number) (D.tape disk.old) (D.tape disk.new) cache.old cache.new }
+    ensures first { IfOk result (λ last. 1 ≤ last.number) }
+    ensures ends { IfOk result (λ last. (last.found.info.bytes ≢ 512) ⊎ (last.number ≡ 65535)) }
+    ensures known { IsTrue D.told → Known D.told (pack (D.tape disk.old)) (D.tape disk.old).form (page_number fid below.number) below.found → IfOk result (λ last. Known D.told (pack (D.tape disk.old)) (D.tape disk.old).form (page_number fid last.number) last.found) }
+    ensures fault { IsErrOf result FileError.DiskFault → Rose (D.tape disk.old).disk_faults (D.tape disk.new).disk_faults }
+    ensures want { IsTrue D.told → IsErrOf result FileError.Memory → ⊥ }
+    ensures misled { IsTrue D.told → Known D.told (pack (D.tape disk.old)) (D.tape disk.old).form (page_number fid below.number) below.found → IfMisled result (MisledBy (pack (D.tape disk.old)) [] fid) }
+    ensures never_beyond { IfBeyond result (λ length. ⊥) }
+    ensures quick { IsTrue D.told → 1 ≤ below.number → below.found.info.bytes ≢ 512 → (D.tape disk.new).runs ≤ (D.tape disk.old).runs }
+{
+    let mut here = below.found;
+    for number in below.number..u16::MAX {
+        if !goes_on(number, here.info) {
+            return Ok(Below {
+                number,
+                found: here,
+            });
+        }
+        match follow(disk, cache, Page { fid, number }, here, buf) {
+            Ok(found) => here = found,
+            Err(error) => return Err(error),
+        }
+    }
+    Ok(Below {
+        number: u16::MAX,
+        found: here,
+    })
+}
+
+/// The page that the leader, which is in `buf`, names as the last, if it is there; else the nearest to the end that is known.
+fn near_end<D: Disk>(
+    disk: &mut D,
+    cache: &mut HintCache,
+    fid: Fid,
+    leader: Found,
+    buf: &mut Sector,
+) -> Result<Below, LookError>
+    ensures sought { Sought D.told 49 (D.tape disk.old) (D.tape disk.new) cache.old cache.new }
+    ensures known { IsTrue D.told → Known D.told (pack (D.tape disk.old)) (D.tape disk.old).form (page_number fid 0) leader → IfOk result (λ below. Known D.told (pack (D.tape disk.old)) (D.tape disk.old).form (page_number fid below.number) below.found) }
+    ensures fault { IsErrOf result LookError.DiskFault → Rose (D.tape disk.old).disk_faults (D.tape disk.new).disk_faults }
+    ensures want { IsTrue D.told → IsErrOf result LookError.Memory → ⊥ }
+    ensures quick { (n : ℕ) → IsTrue D.told → NamesEnd (pack (D.tape disk.old)) fid buf.old n → IfOk result (λ below. (below.number ≡ n) × ((D.tape disk.new).runs ≤ (D.tape disk.old).runs + 1)) }
+{
+    let number = last_number(buf);
+    let hint = last_address(buf, number);
+    let top = Page {
+        fid,
+        number: u16::MAX,
+    };
+    match try_hint(disk, cache, hint, Page { fid, number }, buf)? {
+        Some(found) => Ok(Below { number, found }),
+        None => nearest_below(disk, cache, top, leader, buf),
+    }
+}
+
+/// Locates the last page of a file.
+fn last_page<D: Disk>(
+    disk: &mut D,
+    cache: &mut HintCache,
+    file: &FileRef,
+    buf: &mut Sector,
+) -> Result<Below, FileError>
+    ensures sought { Sought D.told 65586 (D.tape disk.old) (D.tape disk.new) cache.old cache.new }
+    ensures first { IfOk result (λ last. 1 ≤ last.number) }
+    ensures ends { IsTrue D.told → IfOk result (λ last. Ends D.told (pack (D.tape disk.old)) (D.tape disk.old).form file.now.fid last.number last.found) }
+    ensures fault { IsErrOf result FileError.DiskFault → Rose (D.tape disk.old).disk_faults (D.tape disk.new).disk_faults }
+    ensures want { IsTrue D.told → IsErrOf result FileError.Memory → ⊥ }
+    ensures misled { IsTrue D.told → FileStands (pack (D.tape disk.old)) file.now → IfMisled result (MisledBy (pack (D.tape disk.old)) [] file.now.fid) }
+    ensures never_beyond { IfBeyond result (λ length. ⊥) }
+    ensures quick { IsTrue D.told → Quick (pack (D.tape disk.old)) file.now.fid cache.old → LastNamed (pack (D.tape disk.old)) file.now.fid → OnOk result ((D.tape disk.new).runs ≤ (D.tape disk.old).runs + 2) }
+{
+    let leader = locate_leader(disk, cache, file, buf)?;
+    let below = near_end(disk, cache, file.fid, leader, buf)?;
+    climb_to_end(disk, cache, file.fid, below, buf)
+}
+
+/// The length of a file in bytes, by the label of its last page. That page is sought at the address that the leader names as the last
+/// page's, and else by the next links from the nearest page that is known. Nothing is written.
+///
+/// Misled: the named address, or a next link of the file, names no usable sector, or one that doesn't carry the page. DiskFault: the device
+/// failed. Memory: no memory was left, which no disk that is modelled answers here. Beyond never comes.
+pub fn length<D: Disk>(
+    disk: &mut D,
+    hints: &mut Hints,
+    file: &FileRef,
+    buf: &mut Sector,
+) -> Result<u32, FileError>
+    ensures length { IsTrue D.told → Whole (pack (D.tape disk.old)) → IfOk result (λ n. n ≡ file_length (pack (D.tape disk.old)) file.now.fid) }
+    ensures misled { IsTrue D.told → FileStands (pack (D.tape disk.old)) file.now → IfMisled result (MisledBy (pack (D.tape disk.old)) [] file.now.fid) }
+    ensures cause { HasCause cause_of_length (D.tape disk.old) (D.tape disk.new) result }
+    ensures want { IsTrue D.told → IsErrOf result FileError.Memory → ⊥ }
+    ensures looks { Looks D.told 65586 (D.tape disk.old) (D.tape disk.new) }
+    ensures quick { IsTrue D.told → Quick (pack (D.tape disk.old)) file.now.fid hints.old.cache → LastNamed (pack (D.tape disk.old)) file.now.fid → OnOk result ((D.tape disk.new).runs ≤ (D.tape disk.old).runs + 2) }
+    ensures table { hints.new.table ≡ hints.old.table }
+    ensures refused { hints.old.cache.refused ≤ hints.new.cache.refused }
+    ensures handy { IsTrue D.told → KeepsHandy (pack (D.tape disk.old)) hints.old.cache hints.new.cache }
+{
+    match last_page(disk, &mut hints.cache, file, buf) {
+        Ok(last) => Ok(length_at(last.number, last.found.info.bytes)),
+        Err(error) => Err(error),
+    }
+}
