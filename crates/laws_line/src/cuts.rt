@@ -3,27 +3,30 @@
 ghost use Rattle.laws_line.specs.CutLaws.{CrashesOfALine, CrashesOfAnOperation, CrashesOfAnUnmarkedLine, CrashesOfEnter, LinesJoin, OpenPackIsUnmarked};
 ghost use Rattle.laws_line.specs.EachLaws.{CrashesOfEachOperation};
 
-/// An operation that leaves SysDir's leader and DiskDescriptor alone can be scavenged at every crash point, if its models are ready.
+/// On a whole pack whose mark is open, an operation that leaves SysDir's leader and DiskDescriptor alone can be scavenged at every crash
+/// point, if its models are ready.
 pub fn crashes_of_an_operation()
     ensures { CrashesOfAnOperation }
 {}
 
-/// An entering, which may join free slots before the value that commits, can be scavenged at every crash point, if its models are ready.
+/// On a whole and tidy pack whose mark is open, an entering, which may join free slots before the value that commits, can be scavenged at
+/// every crash point, if its models are ready.
 pub fn crashes_of_enter()
     ensures { CrashesOfEnter }
 {}
 
-/// Each operation except an entering can be scavenged at every crash point by its own law, if its models are ready.
+/// On a whole and tidy pack whose mark is open, each operation except an entering can be scavenged at every crash point by its own law, if
+/// its models are ready.
 pub fn crashes_of_each_operation()
     ensures { CrashesOfEachOperation }
 {}
 
-/// A line whose models are ready can be scavenged at every crash point, on a pack whose mark is open.
+/// On a whole and tidy pack whose mark is open, a line whose models are ready can be scavenged at every crash point.
 pub fn crashes_of_an_unmarked_line()
     ensures { CrashesOfAnUnmarkedLine }
 {}
 
-/// A line whose models are ready can be scavenged at every crash point, from a sound pack.
+/// From a sound pack, a line whose models are ready can be scavenged at every crash point, with the opening of the mark before it.
 pub fn crashes_of_a_line()
     ensures { CrashesOfALine }
 {}
