@@ -1,4 +1,5 @@
 pub mod Answering
+pub mod Lining
 pub mod Needing
 pub mod Ruling
 pub mod Scavenging

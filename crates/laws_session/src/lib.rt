@@ -12,4 +12,5 @@
 pub mod answers;
 pub mod ends;
 pub mod histories;
+pub mod lines;
 pub mod scavenges;

@@ -93,6 +93,10 @@ asked_none : (s : State) (cue : Cue) → asks_scavenge s cue ≡ true → cue_fi
 asked_none s (typed l) e = no_file l s.model s.world (refusal l s.model s.world) e
 asked_none s ended e = cc
 
+-- so no hint of it misleads
+pub none_touched : (s : State) (cue : Cue) → asks_scavenge s cue ≡ true → (f : Fid) → Contains (cue_files s cue) f → ⊥
+none_touched s cue is f there = none_in f (cue_files s cue) (asked_none s cue is) there
+
 -- its last record write has left the model of a pack that is viewed as what was shown
 viewed : (m : Model) (quiets : ℕ) (n : Model) (q : Pack) (events : List Event) → Obeys session m q events (scavenge_moves quiets n) → view n ≡ settle (view m)
 viewed m zero n q _ (write here makes later) = makes.views ∙ here.shows
@@ -101,12 +105,12 @@ viewed m (suc k) n q _ (write here makes later) = viewed m k n _ _ later
 module _ {p : Pack} {s : State} {cue : Cue} {wrote : List Event} where
   cured : {made : Turn Move} {world : World} {over : Bool} → TurnKind p s cue wrote made world over → asks_scavenge s cue ≡ true → world.need ≡ false
   cured (plain asks) is = cc
-  cured (failed {wanted = wanted} moves f start) is = absurd (none_in wanted.fid (cue_files s cue) (asked_none s cue is) f.file)
+  cured (failed {wanted = wanted} moves f start) is = absurd (none_touched s cue is wanted.fid f.file)
   cured (scavenged quiets n asks) is = refl
 
   seen : {made : Turn Move} {world : World} {over : Bool} → TurnKind p s cue wrote made world over → asks_scavenge s cue ≡ true → Obeys session s.model p wrote made.ops → view (steps session s.model made.ops) ≡ settle (view s.model)
   seen (plain asks) is each = cc
-  seen (failed {wanted = wanted} moves f start) is each = absurd (none_in wanted.fid (cue_files s cue) (asked_none s cue is) f.file)
+  seen (failed {wanted = wanted} moves f start) is each = absurd (none_touched s cue is wanted.fid f.file)
   seen (scavenged quiets n asks) is each = ap view (mended_model s.model n quiets) ∙ viewed s.model quiets n p wrote each
 
 pub scavenges_cure : ScavengesCure
