@@ -1,4 +1,5 @@
 pub mod Answering
+pub mod Beginning
 pub mod Lining
 pub mod Needing
 pub mod Ruling

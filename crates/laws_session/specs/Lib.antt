@@ -1,4 +1,5 @@
 pub mod AnswerLaws
+pub mod BeginLaws
 pub mod EndLaws
 pub mod HistoryLaws
 pub mod LineAnswers

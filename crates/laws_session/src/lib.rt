@@ -10,6 +10,7 @@
 #![tactic(auto)]
 
 pub mod answers;
+pub mod begins;
 pub mod ends;
 pub mod histories;
 pub mod lines;
