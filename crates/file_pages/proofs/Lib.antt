@@ -1,0 +1,5 @@
+mod ClaimedWords
+mod Counting
+mod Erring
+mod MakeMoves
+mod TwoClaims

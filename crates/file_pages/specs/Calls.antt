@@ -1,0 +1,25 @@
+-- What a caller of a call that writes sees.
+use Rattle.std.specs.Prelude.{Bool, List, ℕ}
+use Rattle.alto_words.specs.declared.fid.Fid.{Fid}
+use Rattle.disk_records.specs.Packs.{Pack}
+use Rattle.disk_records.specs.Tapes.{Taped}
+use Rattle.disk_records.specs.declared.records.Tally.{Tally}
+use Rattle.pack_model.specs.operations.Step.Operation.{make}
+use Rattle.pack_model.specs.operations.Step.{Operation}
+use Rattle.pack_model.specs.states.Whole.{Tidy, Whole}
+use Rattle.laws_call.specs.Acting.{Around}
+use Rattle.laws_operation.specs.FileWords.{CanMake}
+
+-- the machine, the bits of the table and the tally, before or after a call
+abbrev pub around : Taped → List Bool → Tally → Around
+around tape bits tally = record { tape = tape; bits = bits; tally = tally }
+
+-- ---- make
+abbrev pub to_make : Fid → List ℕ → ℕ → Operation
+to_make f name moment = make f name moment
+
+-- The pack is whole and tidy, and this file can be made in these sectors.
+pub record MayBeMade (p : Pack) (f : Fid) (name : List ℕ) (leader_at page_at : ℕ) : Type 0 where
+  pub whole : Whole p
+  pub tidy : Tidy p
+  pub can : CanMake p f name leader_at page_at

@@ -1,0 +1,23 @@
+//! Calls on files that write, each of them one operation.
+//!
+//! Below it stand label_check, hint_cache and leader_page, page_seeking with the names of files, and the laws of calls. Come here to make a
+//! file. To the layers above, on every machine:
+//! 1. A fault comes only where its count rose, and `make` never answers Beyond (`cause`). Nothing is shown, and no key is taken (`alone`).
+//! 2. The table of busy bits keeps its length (`sized`), and the count of notes that were refused never falls (`refused`): such a note is
+//!    passed over.
+//!
+//! And where the machine is modelled, and the pack and the arguments are as one record says (`MayBeMade`):
+//! 3. The call does one operation: at Ok all of its record writes, at every other answer a prefix of them, and the tally counts the
+//!    operation if and only if the record that commits it was written (`operates`).
+//! 4. A new file's pages are in the sectors that were given for them (`placed`), and nothing misleads (`misled`).
+//!
+//! Not promised: that the sectors are free where the machine isn't modelled. Such a call answers Misled.
+#![tactic(auto)]
+
+mod making;
+mod new_pages;
+mod refs;
+mod tallying;
+
+pub use making::make;
+pub use page_seeking::{FileError, FileRef};
