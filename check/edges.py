@@ -33,6 +33,7 @@ REPLIES = b"done\nbeyond length 5\n"
 # of the pack with the file `ABCDE`, which no directory names, and of a new pack
 LISTING = b"SysDir>Lost3. length 5\n1 files\n"
 NO_FILES = b"0 files\n"
+FORMATTED = b"formatted: 43 pages free\n"
 
 failures = []
 
@@ -243,6 +244,53 @@ def check_show(program):
     Run(program, ["--cylinders", "2", "pack", "show"], {"pack": pack}).gives(NO_SESSION, err=b"no pack\n", left={"pack": pack})
 
 
+def without_dates(run):
+    """The run with zeros for the three dates of both leaders in the files left: they are the time of the run."""
+    for name, content in run.left.items():
+        for at in (1, 3):
+            first = at * 532 + 20
+            content = content[:first] + bytes(12) + content[first + 12 :]
+        run.left[name] = content
+    return run
+
+
+def check_format(program):
+    pack, made, new = abcde(), bytes(SMALL), ["--cylinders", "2", "new", "format", "1"]
+    formatted = without_dates(Run(program, new)).left.get("new", b"")
+    # each sector's header has the pack's number and the sector's real address, which is 4,096 times its address on the first track
+    for at in range(12):
+        if formatted[at * 532 : at * 532 + 4] != bytes([0, 1, at * 16, 0]):
+            failures.append(f"format: sector {at} hasn't the header that it should")
+    without_dates(Run(program, new, typed=PATCHES)).gives(DONE, FORMATTED, left={"new": formatted})
+    # whatever stood there
+    format_1 = ["pack", "format", "1"]
+    without_dates(Run(program, format_1, {"pack": pack}, PATCHES)).gives(DONE, FORMATTED, left={"pack": formatted})
+    without_dates(Run(program, ["pack", "format", "00001"], {"pack": made})).gives(DONE, FORMATTED, left={"pack": formatted})
+    Run(program, ["pack", "show"], {"pack": formatted}).gives(DONE, NO_FILES, left={"pack": formatted})
+    # numbers that aren't one, and other words
+    for words in [["0"], ["65536"], ["-1"], ["+1"], ["1.0"], ["x"], [""], ["4294967297"], ["00000000001"], [], ["1", "1"]]:
+        Run(program, ["pack", "format", *words], {"pack": pack}).gives(USAGE, b"usage\n", left={"pack": pack})
+    Run(program, ["pack", "Format", "1"], {"pack": pack}).gives(USAGE, b"usage\n", left={"pack": pack})
+    # the display fails after the last record write; a closed keyboard is never asked
+    for redirect in [">&-", ">/dev/full"]:
+        without_dates(Run(program, format_1, {"pack": pack}, redirect=redirect)).gives(DISPLAY_FAILED, left={"pack": formatted})
+    without_dates(Run(program, format_1, {"pack": pack}, redirect="<&-")).gives(DONE, FORMATTED, left={"pack": formatted})
+    # the disk fails: a limit on the size of files stops the process, and the pack is formatted again
+    stopped = Run(program, format_1, {"pack": pack}, before=limited(1_000))
+    stopped.gives(-signal.SIGXFSZ, left=stopped.left)
+    without_dates(Run(program, format_1, stopped.left)).gives(DONE, FORMATTED, left={"pack": formatted})
+    # larger ones, and two drives
+    for cylinders, free in [(160, 3834), (203, 4866), (406, 9737)]:
+        run = Run(program, ["--cylinders", str(cylinders), "new", "format", "7"])
+        run.gives(DONE, b"formatted: %d pages free\n" % free, left=run.left)
+        if [len(it) for it in run.left.values()] != [cylinders * 12_768]:
+            failures.append(f"{run.name}: the file has another length")
+    for cylinders, free in [(203, 9737), (406, 19479)]:
+        run = Run(program, ["--cylinders", str(cylinders), "--second", "two", "one", "format", "7"])
+        run.gives(DONE, b"formatted: %d pages free\n" % free, left=run.left)
+        Run(program, ["--second", "two", "one", "show"], run.left).gives(DONE, NO_FILES, left=run.left)
+
+
 def may(act):
     """Whether a process may do this here."""
     try:
@@ -427,6 +475,7 @@ CHECKS = [
     check_second,
     check_sessions,
     check_show,
+    check_format,
     check_file_for_reading,
     check_without_null_device,
     check_size_limit,

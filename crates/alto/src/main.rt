@@ -1,4 +1,4 @@
-//! The program `alto`: boots a pack file and obeys what is typed, or lists what the pack shows.
+//! The program `alto`: boots a pack file and obeys what is typed, lists what the pack shows, or formats it.
 //!
 //! Below it stand alto_top, whose contract says what a session shows and leaves and what is listed, and disk_image, whose machine is
 //! over one or two pack files, standard input and standard output. Here are the program's edges: what its words ask for

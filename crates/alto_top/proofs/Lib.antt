@@ -23,3 +23,4 @@ pub mod Typing
 pub mod WithinLength
 pub mod Words
 pub mod Writing
+mod Formatted

@@ -4,6 +4,8 @@ use Rattle.disk_records.specs.Causes.{Cause, disk, keyboard, display, other, IsC
 use Rattle.disk_records.specs.Tapes.{Taped}
 use Rattle.label_check.specs.declared.errors.LookError.{LookError}
 use Rattle.label_check.specs.declared.errors.LookError.TheVariants as look
+use Rattle.disk_descriptor.specs.declared.errors.FormatError.{FormatError}
+use Rattle.disk_descriptor.specs.declared.errors.FormatError.TheVariants as formatting
 use Rattle.pack_reading.specs.declared.error.ReadingError.{ReadingError}
 use Rattle.pack_reading.specs.declared.error.ReadingError.TheVariants as reading
 use Rattle.alto_top.specs.declared.status.Fault.{Fault}
@@ -65,3 +67,7 @@ fault_of_look look.Memory = Memory
 abbrev pub fault_of_reading : ReadingError → Fault
 fault_of_reading reading.DiskFault = Disk
 fault_of_reading reading.Memory = Memory
+
+abbrev pub fault_of_format : FormatError → Fault
+fault_of_format formatting.DiskFault = Disk
+fault_of_format formatting.Memory = Memory

@@ -7,4 +7,5 @@ pub mod Sessions
 pub mod Orders
 pub mod Looking
 pub mod Showing
+pub mod Formats
 pub mod Top

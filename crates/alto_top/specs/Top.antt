@@ -1,11 +1,13 @@
 -- The command line: what its words ask for.
-use Rattle.std.specs.Prelude.{◌≡◌, ◌⊎◌, ℕ, List, [], ◌∷◌, codes}
+use Rattle.std.specs.Prelude.{◌≡◌, ◌⊎◌, ◌&&◌, ℕ, cond, nat_le, List, [], ◌∷◌, codes, Option, Some, None}
+use Rattle.alto_words.specs.Numbers.{number_in}
 use Rattle.disk_records.specs.Events.{IsFirstOf, shown_events}
 use Rattle.disk_records.specs.Tapes.{Taped, Grown, ShowAlone, added}
+use Rattle.alto_top.specs.Formats.{AnswersFormat, FormatsPack}
 use Rattle.alto_top.specs.Sessions.{Booted}
 use Rattle.alto_top.specs.Showing.{AnswersShow, KeepsKeys, ShowsPack}
 use Rattle.alto_top.specs.declared.top.Asked.{Asked}
-use Rattle.alto_top.specs.declared.top.Asked.TheVariants.{Boot, Show, Nothing}
+use Rattle.alto_top.specs.declared.top.Asked.TheVariants.{Boot, Show, Format, Nothing}
 use Rattle.alto_top.specs.declared.status.Status.{Status}
 use Rattle.alto_top.specs.declared.status.Status.TheVariants as status
 
@@ -17,14 +19,31 @@ AsksBoot words = words ≡ codes "boot" ∷ []
 abbrev pub AsksShow : List (List ℕ) → Type 0
 AsksShow words = words ≡ codes "show" ∷ []
 
+-- a pack's number: 1 to 65,535
+abbrev pub in_word : Option ℕ → Option ℕ
+in_word None = None
+in_word (Some n) = cond (nat_le 1 n && nat_le n 65535) (Some n) None
+
+abbrev pub pack_number : List ℕ → Option ℕ
+pack_number word = in_word (number_in word)
+
+-- the word `format`, and a pack's number
+pub record AsksFormat (words : List (List ℕ)) (n : ℕ) : Type 0 where
+  pub word : List ℕ
+  pub words_are : words ≡ codes "format" ∷ word ∷ []
+  pub number : pack_number word ≡ Some n
+
 -- any other words: they ask for `usage`
-abbrev pub AsksUsage : List (List ℕ) → Type 0
-AsksUsage words = (AsksBoot words → ⊥) × (AsksShow words → ⊥)
+pub record AsksUsage (words : List (List ℕ)) : Type 0 where
+  pub no_boot : AsksBoot words → ⊥
+  pub no_show : AsksShow words → ⊥
+  pub no_format : (n : ℕ) → AsksFormat words n → ⊥
 
 -- what the words ask for
 abbrev pub AsksFor : List (List ℕ) → Asked → Type 0
 AsksFor words Boot = AsksBoot words
 AsksFor words Show = AsksShow words
+AsksFor words (Format n) = AsksFormat words n
 AsksFor words Nothing = AsksUsage words
 
 abbrev pub usage_text : List ℕ
@@ -49,22 +68,26 @@ pub record ShowsUsage (old new : Taped) (answer : Status) : Type 0 where
   pub runs : new.runs ≡ old.runs
 
 -- ---- the top call, by the words
--- Usage is answered only to words that ask for it, Done only to `boot` and `show`; and what `show`, and words that ask for `usage`, can
--- answer.
+-- Usage is answered only to words that ask for it, Done only to `boot`, `show` and `format`; and what `show`, `format`, and words that ask
+-- for `usage`, can answer.
 pub record AnswersTo (words : List (List ℕ)) (answer : Status) : Type 0 where
   pub usage : answer ≡ status.Usage → AsksUsage words
-  pub done : answer ≡ status.Done → AsksBoot words ⊎ AsksShow words
+  pub done : answer ≡ status.Done → AsksBoot words ⊎ (AsksShow words ⊎ ((n : ℕ) × AsksFormat words n))
   pub show : AsksShow words → AnswersShow answer
+  pub format : (n : ℕ) → AsksFormat words n → AnswersFormat answer
   pub others : AsksUsage words → AnswersUsage answer
 
--- no event is taken back; `show` takes no key, and words that ask for `usage` touch the display alone
+-- no event is taken back; `show` and `format` take no key, and words that ask for `usage` touch the display alone
 pub record Touches (words : List (List ℕ)) (old new : Taped) : Type 0 where
   pub grown : Grown old new
   pub show : AsksShow words → KeepsKeys old new
+  pub format : (n : ℕ) → AsksFormat words n → KeepsKeys old new
   pub others : AsksUsage words → ShowAlone old new
 
--- On a machine that is modelled: `boot` is a session, `show` shows what the pack shows, and other words show `usage`.
-pub record DoesAsAsked (words : List (List ℕ)) (old new : Taped) (answer : Status) : Type 0 where
+-- On a machine that is modelled, at this moment: `boot` is a session, `show` shows what the pack shows, `format` formats it, and other
+-- words show `usage`.
+pub record DoesAsAsked (words : List (List ℕ)) (moment : ℕ) (old new : Taped) (answer : Status) : Type 0 where
   pub boot : AsksBoot words → Booted old new answer
   pub show : AsksShow words → ShowsPack old new answer
+  pub format : (n : ℕ) → AsksFormat words n → FormatsPack n moment old new answer
   pub others : AsksUsage words → ShowsUsage old new answer

@@ -1,4 +1,4 @@
-//! The top call: a pack is booted and typed lines are obeyed until the input ends, or what the pack shows is listed.
+//! The top call: a pack is booted and typed lines are obeyed until the input ends, or what the pack shows is listed, or it is formatted.
 //!
 //! To whoever starts it, for every machine that is told, whatever stands on its pack:
 //! 1. The events of `boot` are the turns of the typed lines: each line's record writes, and then its reply (`talks`, `history`).
@@ -9,12 +9,16 @@
 //! (`obeyed`, `runs`).
 //! And of `show`: at Done the shown bytes are the listing of what the pack shows, for every answer a first part of it, and nothing is
 //! written (`shown` of `show_pack`).
+//! And of `format`: at Done the pack is the one that formatting writes, whatever stood there, and the number of its free sectors is shown;
+//! for every answer a prefix of the record writes and of the text was done (`formats` of `format_pack`).
 //! And for every machine: DiskFault, KeyFault and DisplayFault come only where their own count rose (`cause`).
-//! And for every machine: with words other than `boot` alone or `show` alone no record write is counted, and no fault except the
-//! display's (`touches`); where it is modelled, no sector command is run, nothing is written and no key is taken (`does` of `alto`).
+//! And for every machine: with words other than `boot` alone, `show` alone or `format` with a number no record write is counted, and no
+//! fault except the display's (`touches`); where it is modelled, no sector command is run, nothing is written and no key is taken (`does`
+//! of `alto`).
 //! Not promised: that memory is left; how long anything takes, but for the number of sector commands (`runs`).
 #![tactic(auto)]
 
+mod formatting;
 mod keys;
 mod listing;
 mod pages;
@@ -28,6 +32,7 @@ mod status;
 mod sweep;
 mod top;
 
+pub use formatting::format_pack;
 pub use session::{boot, obey};
 pub use show::show_pack;
 pub use status::{Fault, Status};

@@ -3,10 +3,12 @@ ghost use Rattle.std.specs.Prelude.{◌≡◌, ◌≢◌};
 ghost use Rattle.disk_records.specs.Tapes.{Taped};
 ghost use Rattle.label_check.specs.declared.errors.LookError.{LookError};
 ghost use Rattle.pack_reading.specs.declared.error.ReadingError.{ReadingError};
-ghost use Rattle.alto_top.specs.Faults.{FaultCause, HasStatusCause, status_of, fault_of_look, fault_of_reading};
+ghost use Rattle.disk_descriptor.specs.declared.errors.FormatError.{FormatError};
+ghost use Rattle.alto_top.specs.Faults.{FaultCause, HasStatusCause, status_of, fault_of_format, fault_of_look, fault_of_reading};
 ghost use Rattle.alto_top.specs.declared.status.Fault.TheVariants.{Memory};
 
 use alto_words::Memory;
+use disk_descriptor::FormatError;
 use label_check::LookError;
 use pack_reading::ReadingError;
 use std::alloc::{AllocError, AllocFailed};
@@ -14,17 +16,18 @@ use std::alloc::{AllocError, AllocFailed};
 /// How a call of the program ended; its number is the exit code.
 #[derive(Clone, Copy, Debug, PartialEq, Eq)]
 pub enum Status {
-    /// The typed input was obeyed to its end, or the listing was shown.
+    /// The typed input was obeyed to its end, the listing was shown, or the pack was formatted.
     Done = 0,
     /// The words of the command line ask for nothing.
     Usage = 1,
-    /// The disk failed. The session or the listing stopped at once; what was acknowledged stands on the pack.
+    /// The disk failed. The session or the listing stopped at once; what was acknowledged stands on the pack. A pack that was being
+    /// formatted is to be formatted again.
     DiskFault = 3,
     /// The keyboard failed. The lines that ended before have their replies.
     KeyFault = 4,
     /// The display failed. No record write follows the first byte that wasn't shown.
     DisplayFault = 5,
-    /// No memory was left. What was acknowledged stands on the pack.
+    /// No memory was left. What was acknowledged stands on the pack. A pack that was being formatted is to be formatted again.
     Memory = 6,
 }
 
@@ -63,6 +66,17 @@ impl From<LookError> for Fault {
         match error {
             LookError::DiskFault => Fault::Disk,
             LookError::Memory => Fault::Memory,
+        }
+    }
+}
+
+impl From<FormatError> for Fault {
+    ghost from_gives = { λ error fault. fault ≡ fault_of_format error };
+
+    fn from(error: FormatError) -> Self {
+        match error {
+            FormatError::DiskFault => Fault::Disk,
+            FormatError::Memory => Fault::Memory,
         }
     }
 }

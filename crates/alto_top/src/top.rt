@@ -1,12 +1,14 @@
 // The command line.
-ghost use Rattle.std.specs.Prelude.{[], ◌∷◌, map, string_bytes, IsTrue};
+ghost use Rattle.std.specs.Prelude.{◌≡◌, [], ◌∷◌, codes, map, string_bytes, IsTrue};
 ghost use Rattle.disk_records.specs.Tapes.{ShowAlone};
 ghost use Rattle.alto_top.specs.Faults.{HasStatusCause};
-ghost use Rattle.alto_top.specs.Top.{AsksFor, AnswersUsage, ShowsUsage, AnswersTo, Touches, DoesAsAsked};
+ghost use Rattle.alto_top.specs.Top.{AsksFor, AnswersUsage, ShowsUsage, AnswersTo, Touches, DoesAsAsked, pack_number};
 
+use crate::formatting::format_pack;
 use crate::session::{boot, show_all};
 use crate::show::show_pack;
 use crate::status::Status;
+use alto_words::read_number;
 use disk_records::{Console, Machine};
 use std::alloc::Global;
 
@@ -17,21 +19,56 @@ pub enum Asked {
     Boot,
     /// What the pack shows is shown.
     Show,
+    /// The pack is formatted, with this number.
+    Format(u16),
     /// None of these.
     Nothing,
 }
 
-/// What the words ask for: `boot` alone, or `show` alone.
+/// What the words ask for: a word alone, or `format` with a number.
 fn asked_of(words: &[String]) -> Asked
     ensures { AsksFor (map string_bytes words.now) result }
 {
-    let [word] = words else {
-        return Asked::Nothing;
-    };
-    match word.as_bytes() {
+    match words {
+        [word] => asked_by(word.as_bytes()),
+        [verb, number] => asked_by_two(verb.as_bytes(), number.as_bytes()),
+        _ => Asked::Nothing,
+    }
+}
+
+/// What one word asks for.
+fn asked_by(word: &[u8]) -> Asked
+    ensures { AsksFor (word.now ∷ []) result }
+{
+    match word {
         b"boot" => Asked::Boot,
         b"show" => Asked::Show,
         _ => Asked::Nothing,
+    }
+}
+
+/// What two words ask for.
+fn asked_by_two(verb: &[u8], number: &[u8]) -> Asked
+    ensures { AsksFor (verb.now ∷ number.now ∷ []) result }
+{
+    if verb != b"format".as_slice() {
+        return Asked::Nothing;
+    }
+    match pack_number(number) {
+        Some(number) => Asked::Format(number),
+        None => Asked::Nothing,
+    }
+}
+
+/// The number of a pack that a word gives: 1 to 65,535.
+fn pack_number(word: &[u8]) -> Option<u16>
+    ensures { result ≡ pack_number word.now }
+{
+    let number = read_number(word)?;
+    if 1 <= number && number <= u32::from(u16::MAX) {
+        Some(number as u16)
+    } else {
+        None
     }
 }
 
@@ -48,14 +85,16 @@ fn show_usage<C: Console>(console: &mut C) -> Status
     }
 }
 
-/// Does what the words of a command line ask for on this machine. The words are `boot` alone or `show` alone; with any others
-/// `usage` is shown and nothing else happens. `moment` is the time now, in seconds since the start of 1901.
+/// Does what the words of a command line ask for on this machine. The words are `boot` alone, `show` alone, or `format` and the pack's
+/// number, 1 to 65,535; with any others `usage` is shown and nothing else happens. `moment` is the time now, in seconds since the start
+/// of 1901.
 ///
-/// Done: the typed input was obeyed to its end, or the listing was shown. Usage: the words are others, and `usage` was shown.
-/// DiskFault and KeyFault: that device failed, and the session or the listing stopped at once; a listing takes no key. DisplayFault:
-/// the display failed, with any words. Memory: none was left. After each of them what was acknowledged stands on the pack.
+/// Done: the typed input was obeyed to its end, the listing was shown, or the pack was formatted. Usage: the words are others, and `usage`
+/// was shown. DiskFault and KeyFault: that device failed, and what was asked for stopped at once; a listing and formatting take no key.
+/// DisplayFault: the display failed, with any words. Memory: none was left. After each of them what was acknowledged stands on the pack;
+/// a pack that was being formatted is to be formatted again.
 pub fn alto<M: Machine>(alloc: Global, words: &[String], moment: u32, machine: &mut M) -> Status
-    ensures does { IsTrue M.told → DoesAsAsked (map string_bytes words.now) (M.tape machine.old) (M.tape machine.new) result }
+    ensures does { IsTrue M.told → DoesAsAsked (map string_bytes words.now) moment (M.tape machine.old) (M.tape machine.new) result }
     ensures answers { AnswersTo (map string_bytes words.now) result }
     ensures cause { HasStatusCause (M.tape machine.old) (M.tape machine.new) result }
     ensures touches { Touches (map string_bytes words.now) (M.tape machine.old) (M.tape machine.new) }
@@ -63,6 +102,7 @@ pub fn alto<M: Machine>(alloc: Global, words: &[String], moment: u32, machine: &
     match asked_of(words) {
         Asked::Boot => boot(alloc, moment, machine),
         Asked::Show => show_pack(alloc, machine),
+        Asked::Format(number) => format_pack(alloc, number, moment, machine),
         Asked::Nothing => show_usage(machine),
     }
 }

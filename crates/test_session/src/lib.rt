@@ -1,4 +1,4 @@
-//! Tests of typed sessions over packs made by hand in memory: lines, files, faults and cuts.
+//! Tests of typed sessions over packs made by hand in memory: lines, files, faults and cuts; and of `format`.
 //!
 //! What is expected here was worked out by hand from the rules of commands and labels, and never taken from a run.
 //! There is nothing to call.
@@ -10,6 +10,8 @@ mod cuts;
 mod faults;
 #[cfg(test)]
 mod files;
+#[cfg(test)]
+mod formats;
 #[cfg(test)]
 mod lines;
 #[cfg(test)]
