@@ -43,7 +43,7 @@ names_end {p} {f} {la} {leader} whole stands named =
     }
 
 -- a known data page counts as many bytes as its label says
-counts_known : {told : Bool} {p : Pack} {form : Shape} {f : Fid} {n : ℕ} {found : Found} → Whole p → IsTrue told → 1 ≤ n → Known told p form (page_number f n) found → length (bytes_at p found.at) ≡ found.info.bytes
+pub counts_known : {told : Bool} {p : Pack} {form : Shape} {f : Fid} {n : ℕ} {found : Found} → Whole p → IsTrue told → 1 ≤ n → Known told p form (page_number f n) found → length (bytes_at p found.at) ≡ found.info.bytes
 counts_known {p = p} {f = f} {n} {found} whole told first known =
     let above : suc (n - 1) ≡ n = omega arith in
     let sector : place (sights p) f (suc (n - 1)) ≡ Some found.at = rw above (carried_place p whole found.at (page_number f n) (known.carries told)) in
@@ -89,3 +89,14 @@ ends_at {p = p} {f = f} {last} {found} whole told x = by (elim x.ends [ inl shor
   where
     by : found.info.bytes ≢ 512 → length_at last found.info.bytes ≡ file_length p f
     by short = (end_is_length p f (suc last) (length_at last found.info.bytes) whole (end_of x.known told x.first (omega arith) short refl)).is
+
+-- and has fewer than 65,535 full pages
+pub most_length : {told : Bool} {p : Pack} {form : Shape} {f : Fid} {last : ℕ} {found : Found} → Whole p → IsTrue told → Ends told p form f last found → file_length p f / 512 < 65535
+most_length {p = p} {f = f} {last} {found} whole told x =
+    let first = x.first in
+    let above : suc (last - 1) ≡ last = omega (arith, first) in
+    let sector : place (sights p) f (suc (last - 1)) ≡ Some found.at = rw above (carried_place p whole found.at (page_number f last) (x.known.carries told)) in
+    let low = leader_placed p f (last - 1) found.at whole sector in
+    let e = ending p f low.0 whole low.1 in
+    let most = page_numbers_are_words p f (page_of_byte (file_length p f)) e.at e.sector in
+    omega (arith, most)

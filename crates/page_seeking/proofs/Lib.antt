@@ -7,3 +7,4 @@ pub mod Recalling
 pub mod Ending
 pub mod Easing
 pub mod Lasting
+pub mod Parting

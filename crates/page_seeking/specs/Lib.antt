@@ -2,3 +2,4 @@ pub mod Refs
 pub mod Inside
 pub mod Seeking
 pub mod Causes
+pub mod Parts

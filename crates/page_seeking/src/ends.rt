@@ -84,7 +84,7 @@ fn near_end<D: Disk>(
 }
 
 /// Locates the last page of a file.
-fn last_page<D: Disk>(
+pub(crate) fn last_page<D: Disk>(
     disk: &mut D,
     cache: &mut HintCache,
     file: &FileRef,

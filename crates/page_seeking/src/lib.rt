@@ -13,7 +13,7 @@
 //! 4. No call that takes no allocator answers Memory (`want`).
 //!
 //! And where besides the pack is whole and tidy, and the file's address stands where it was taken from (`FileStands`):
-//! 5. A page that is answered is the file's (`stands`).
+//! 5. A page that is answered is the file's (`stands`), and so are the bytes (`read`) and the length (`length`).
 //! 6. Misled comes only where a hint of the file misleads (`misled`), and Beyond by the file's length (`beyond`).
 //! 7. With true links, hints that are handy stay handy (`handy`).
 //!
@@ -26,9 +26,11 @@ mod links;
 mod look;
 mod notes;
 mod pages;
+mod read;
 mod refs;
 mod seek;
 
 pub use ends::length;
 pub use pages::locate;
+pub use read::read_part;
 pub use refs::{FileError, FileRef};

@@ -1,0 +1,71 @@
+use Rattle.std.proofs.Common.{◌≡◌, ◌≢◌, ◌+◌, ◌%◌, ◌≤◌, ℕ, inl, refl, take, drop, subst, sym, ap, ◌∙◌, arith, IfOk}
+use Rattle.disk_records.specs.Packs.{Pack}
+use Rattle.disk_records.specs.Tapes.{pack}
+use Rattle.disk_records.proofs.Looking.{looks_pack}
+use Rattle.pack_model.specs.reading.Files.{file_bytes}
+use Rattle.pack_model.specs.reading.Sights.{sights}
+use Rattle.pack_model.specs.states.Whole.{Whole}
+use Rattle.page_seeking.specs.Parts.{IsReadTo, IsWithinPart}
+use Rattle.page_seeking.proofs.Easing.{eases_of}
+use Rattle.page_seeking.proofs.Erring.{if_ok_map}
+use Rattle.page_seeking.proofs.Lasting.{ends_at, most_length}
+use Rattle.page_seeking.proofs.Parting.{few_bytes, page_bytes, read_more}
+use Rattle.page_seeking.proofs.Seeking.{known_later, known_of, sought_more, sought_twice}
+use Rattle.page_seeking.proofs.read.read_pages.Goals as goal
+
+pub returns-in-Ok-clause-beyond : goal.returns-in-Ok-clause-beyond
+returns-in-Ok-clause-beyond g c told whole =
+    let ends = c.in-Ok.ensures.ends told in
+    let size = c.length_at.ensures ∙ ends_at whole told ends in
+    let most = most_length whole told ends in
+    let none = c.in_default.ensures.none in
+    record { is = size; past = omega (arith, size, most, none) }
+
+pub returns-then-from-found-clause-beyond : goal.returns-then-from-found-clause-beyond
+returns-then-from-found-clause-beyond g c told whole =
+    let over = c.if-from-found.true in
+    let some = c.in-Some.ensures.some.0 in
+    let short : c.in-Ok-seek_page.found.info.bytes ≢ 512 = λ full. omega (arith, full, over) in
+    let length = c.length_at-then-from-found.ensures in
+    record {
+      is = length ∙ ends_at whole told (record { first = omega (arith, some); known = known_of c.in-Ok-seek_page.ensures.found; ends = inl short });
+      past = omega (arith, length, some, over);
+    }
+
+pub put_part-front-requires-clause-page : goal.put_part-front-requires-clause-page
+put_part-front-requires-clause-page g c = let few = few_bytes c.in-Ok-seek_page.ensures.found.seen in omega (arith, c.from.ensures, few)
+
+pub returns-clause-sought : goal.returns-clause-sought
+returns-clause-sought g c = let most = c.in-Some.ensures.some.1 in sought_more (omega (arith, most)) (sought_twice c.seek_page.ensures.sought c.read_on.ensures.sought)
+
+pub returns-clause-quick : goal.returns-clause-quick
+returns-clause-quick g c told quick =
+    let sought = c.in-Ok-seek_page.ensures.quick c.in-Ok-seek_page.found.at told (eases_of quick (c.in-Ok-seek_page.ensures.found.stands told).carries) in
+    if_ok_map c.read_on.result (c.read_on.ensures.quick told) (λ n h. omega (arith, h, sought))
+
+pub returns-clause-read : goal.returns-clause-read
+returns-clause-read g c told whole =
+    let old = pack (g.D.Tape.tape c.args.disk.now) in
+    let f = c.args.file.now.fid in
+    let offset = c.args.offset in
+    let first = c.args.out.now in
+    let count = c.put_part-front.result in
+    let found = c.in-Ok-seek_page.ensures.found in
+    let looks = c.seek_page.ensures.sought.looks in
+    let same = looks_pack looks told in
+    let known = known_of found in
+    let some = c.in-Some.ensures.some.0 in
+    let under = c.if-from-found.false in
+    let many = c.put_part-front.ensures.count in
+    let word = c.from.ensures in
+    let part = page_bytes offset (offset % 512) count whole told (omega (arith, some)) known (found.stands told).holds (omega (arith, some)) (omega arith) (omega (arith, many, under, word)) in
+    let bytes = file_bytes (sights old) f in
+    let there = part.1 in
+    let start : IsReadTo bytes offset 0 first first = record { there = omega (arith, there); most = omega arith; read = refl } in
+    let on : offset ≡ offset + 0 = omega arith in
+    let none : 0 + count ≡ count = omega arith in
+    let more = read_more bytes first first _ offset 0 count start (part.0 ∙ ap (λ k. take count (drop k bytes)) on) (omega (arith, there)) (omega (arith, many)) in
+    let put : IsReadTo bytes offset (0 + count) first c.put_part-front.new.out = subst (IsReadTo bytes offset (0 + count) first) (sym c.put_part-front.ensures.put) more in
+    let front = subst (λ n. IsReadTo bytes offset n first c.put_part-front.new.out) none put in
+    subst (λ (p : Pack). IfOk c.read_on.result (IsWithinPart (file_bytes (sights p) f) offset first c.read_on.new.out)) same
+    (c.read_on.ensures.read first told (subst Whole (sym same) whole) (known_later looks known) (subst (λ (p : Pack). IsReadTo (file_bytes (sights p) f) offset count first c.put_part-front.new.out) (sym same) front))
