@@ -2,6 +2,7 @@ pub mod Answering
 pub mod Beginning
 pub mod Lining
 pub mod Needing
+pub mod Opening
 pub mod Ruling
 pub mod Scavenging
 pub mod Standing

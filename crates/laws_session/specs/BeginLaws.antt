@@ -1,10 +1,12 @@
 -- What a session keeps as it begins.
-use Rattle.std.specs.Prelude.{◌≡◌, ℕ, false, []}
+use Rattle.std.specs.Prelude.{◌≡◌, ◌==◌, ℕ, false, []}
 use Rattle.disk_records.specs.Packs.{Pack}
 use Rattle.pack_model.specs.sessions.Descriptor.{DescriptorFits}
-use Rattle.pack_model.specs.states.Sound.{Sound}
+use Rattle.pack_model.specs.reading.Sights.{sights}
+use Rattle.pack_model.specs.states.Sound.{Sound, mark_clean, mark_of}
 use Rattle.world_model.specs.Levels.{all_levels}
 use Rattle.session_model.specs.Keeping.{Kept, Keeping, world_of}
+use Rattle.session_model.specs.Opening.{unready, unless_so, not_clean}
 use Rattle.session_model.specs.Turning.{opening}
 use Rattle.session_model.specs.Worlds.{fresh_world, memory_words}
 
@@ -23,3 +25,8 @@ FreshMemoryIsKept = (k : Kept) (moment : ℕ) → KeepsFresh k moment → world_
 -- and with what DiskDescriptor says it is right for a sound pack
 abbrev pub SessionsBegin : Type 0
 SessionsBegin = (p : Pack) (k : Kept) (moment : ℕ) → Sound p → KeepsFresh k moment → DescriptorFits p k.shape k.last k.mark k.pages → Keeping p k (opening p moment)
+
+-- ---- opening
+-- a sound pack is ready to be entered if and only if its mark is clean
+abbrev pub SoundPacksAreReady : Type 0
+SoundPacksAreReady = (p : Pack) → Sound p → unready p ≡ unless_so (mark_of (sights p) == mark_clean) (not_clean (mark_of (sights p)))
