@@ -1,13 +1,17 @@
 -- What a caller of a call that writes sees.
-use Rattle.std.specs.Prelude.{Bool, List, ℕ}
+use Rattle.std.specs.Prelude.{Bool, List, [], ℕ, ◌≡◌}
+use Rattle.disk_records.specs.declared.records.Event.{Event}
 use Rattle.alto_words.specs.declared.fid.Fid.{Fid}
 use Rattle.disk_records.specs.Packs.{Pack}
 use Rattle.disk_records.specs.Tapes.{Taped}
 use Rattle.disk_records.specs.declared.records.Tally.{Tally}
-use Rattle.pack_model.specs.operations.Step.Operation.{make}
+use Rattle.pack_model.specs.operations.Committing.{moves_of}
+use Rattle.pack_model.specs.operations.Operations.{one_move}
+use Rattle.pack_model.specs.operations.Step.Operation.{make, title}
 use Rattle.pack_model.specs.operations.Step.{Operation}
+use Rattle.pack_model.specs.reading.Model.{read_as}
 use Rattle.pack_model.specs.states.Whole.{Tidy, Whole}
-use Rattle.laws_call.specs.Acting.{Around}
+use Rattle.laws_call.specs.Acting.{Acts, Around}
 use Rattle.laws_operation.specs.FileWords.{CanMake}
 
 -- the machine, the bits of the table and the tally, before or after a call
@@ -23,3 +27,12 @@ pub record MayBeMade (p : Pack) (f : Fid) (name : List ℕ) (leader_at page_at :
   pub whole : Whole p
   pub tidy : Tidy p
   pub can : CanMake p f name leader_at page_at
+
+-- ---- one value
+-- The operation is these record writes, of which there is one, which commits it; they claim and release nothing.
+pub record IsOneValue (p : Pack) (o : Operation) (writes : List Event) : Type 0 where
+  pub acts : Acts p o [] [] writes
+  pub moves : moves_of (read_as p) o ≡ one_move o
+
+abbrev pub to_title : Fid → List ℕ → Operation
+to_title f name = title f name

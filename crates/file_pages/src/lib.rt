@@ -1,23 +1,27 @@
 //! Calls on files that write, each of them one operation.
 //!
 //! Below it stand label_check, hint_cache and leader_page, page_seeking with the names of files, and the laws of calls. Come here to make a
-//! file. To the layers above, on every machine:
-//! 1. A fault comes only where its count rose, and `make` never answers Beyond (`cause`). Nothing is shown, and no key is taken (`alone`).
-//! 2. The table of busy bits keeps its length (`sized`), and the count of notes that were refused never falls (`refused`): such a note is
-//!    passed over.
+//! file or to title one. To the layers above, on every machine:
+//! 1. A fault comes only where its count rose (`cause`). Nothing is shown, and no key is taken (`alone`).
+//! 2. The table of busy bits keeps its length (`sized`), or is as it was (`table`), and the count of notes that were refused never falls
+//!    (`refused`): such a note is passed over.
 //!
-//! And where the machine is modelled, and the pack and the arguments are as one record says (`MayBeMade`):
+//! And where the machine is modelled, the pack is whole and tidy, and the arguments are as the contract's premises say:
 //! 3. The call does one operation: at Ok all of its record writes, at every other answer a prefix of them, and the tally counts the
 //!    operation if and only if the record that commits it was written (`operates`).
-//! 4. A new file's pages are in the sectors that were given for them (`placed`), and nothing misleads (`misled`).
+//! 4. A new file's pages are in the sectors that were given for them (`placed`).
+//! 5. Misled comes only where a hint of the file misleads, of a new file never (`misled`), and Beyond never (`cause`, `never_beyond`).
 //!
-//! Not promised: that the sectors are free where the machine isn't modelled. Such a call answers Misled.
+//! Not promised: that the sectors for a new file are free where the machine isn't modelled. Such a call answers Misled.
 #![tactic(auto)]
 
+mod leaders;
 mod making;
 mod new_pages;
+mod one_value;
 mod refs;
 mod tallying;
 
+pub use leaders::title;
 pub use making::make;
 pub use page_seeking::{FileError, FileRef};

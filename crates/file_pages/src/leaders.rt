@@ -1,0 +1,63 @@
+// Another name in a leader page.
+ghost use Rattle.std.specs.Prelude.{◌≡◌, ◌≤◌, IsTrue, [], true};
+ghost use Rattle.alto_words.specs.Names.{is_stored_name};
+ghost use Rattle.disk_records.specs.Causes.{HasCause};
+ghost use Rattle.disk_records.specs.Tapes.{DiskAlone, pack};
+ghost use Rattle.laws_call.specs.Acting.{Operates};
+ghost use Rattle.laws_operation.specs.ByteLaws.{IsOrdinary};
+ghost use Rattle.pack_model.specs.operations.PageWords.{titled_value};
+ghost use Rattle.page_seeking.specs.Causes.{cause_of_file};
+ghost use Rattle.page_seeking.specs.Refs.{FileStands, IfBeyond, IfMisled, MisledBy};
+ghost use Rattle.page_seeking.specs.declared.refs.FileError.TheVariants as error;
+ghost use Rattle.file_pages.specs.Calls.{around, to_title};
+
+use crate::one_value::write_page;
+use crate::refs::page_of_file;
+use crate::{FileError, FileRef};
+use alto_words::Name;
+use disk_records::{Disk, Sector, Tally};
+use hint_cache::Hints;
+use leader_page::name_words;
+use page_seeking::locate;
+
+/// The words of a leader page where its name is.
+const NAME: usize = 6;
+
+const REST: usize = 26;
+
+/// Puts another name in the value of a leader page.
+fn put_name(value: &mut [u16; 256], name: &Name)
+    ensures value { value.new ≡ titled_value name.now value.old }
+    ensures stored { is_stored_name name.now ≡ true }
+{
+    value[NAME..REST].copy_from_slice(&name_words(name));
+}
+
+/// Gives the leader of an ordinary file another name, by one value write. Its leader page is located first; `buf` holds it then.
+///
+/// Misled: the address that the file is named with misleads. DiskFault: the device failed. Memory: no memory was left for the record write.
+/// After each of these nothing was written, or after DiskFault all of it may be; what `buf` holds is open.
+pub fn title<D: Disk>(
+    disk: &mut D,
+    hints: &mut Hints,
+    tally: &mut Tally,
+    file: &FileRef,
+    name: &Name,
+    buf: &mut Sector,
+) -> Result<(), FileError>
+    ensures operates { IsTrue D.told → FileStands (pack (D.tape disk.old)) file.now → IsOrdinary file.now.fid → Operates error.DiskFault error.Memory (to_title file.now.fid name.now) [] (around (D.tape disk.old) hints.old.table tally.old) (around (D.tape disk.new) hints.new.table tally.new) result }
+    ensures misled { IsTrue D.told → FileStands (pack (D.tape disk.old)) file.now → IfMisled result (MisledBy (pack (D.tape disk.old)) [] file.now.fid) }
+    ensures never_beyond { IsTrue D.told → FileStands (pack (D.tape disk.old)) file.now → IfBeyond result (λ length. ⊥) }
+    ensures cause { HasCause cause_of_file (D.tape disk.old) (D.tape disk.new) result }
+    ensures alone { DiskAlone (D.tape disk.old) (D.tape disk.new) }
+    ensures table { hints.new.table ≡ hints.old.table }
+    ensures refused { hints.old.cache.refused ≤ hints.new.cache.refused }
+{
+    match locate(disk, hints, file, 0, buf) {
+        Ok((at, _)) => {
+            put_name(&mut buf.value, name);
+            write_page(disk, tally, at, page_of_file(file.fid, 0), &buf.value)
+        }
+        Err(error) => Err(error),
+    }
+}

@@ -1,0 +1,45 @@
+// An operation that is one value of a page.
+ghost use Rattle.std.specs.Prelude.{◌≡◌, ◌<◌, ◌≤◌, Bool, IsTrue, List, Some, []};
+ghost use Rattle.disk_records.specs.Addresses.{pages_of};
+ghost use Rattle.disk_records.specs.Causes.{HasCause};
+ghost use Rattle.disk_records.specs.Commands.{value_writes};
+ghost use Rattle.disk_records.specs.Packs.{carried};
+ghost use Rattle.disk_records.specs.Tapes.{DiskAlone, pack};
+ghost use Rattle.laws_call.specs.Acting.{Operates};
+ghost use Rattle.page_seeking.specs.Causes.{cause_of_length};
+ghost use Rattle.page_seeking.specs.Refs.{IfMisled};
+ghost use Rattle.page_seeking.specs.declared.refs.FileError.TheVariants as error;
+ghost use Rattle.pack_model.specs.operations.Step.{Operation};
+ghost use Rattle.file_pages.specs.Calls.{IsOneValue, around};
+
+use crate::FileError;
+use crate::refs::error_at;
+use crate::tallying::count_operation;
+use disk_records::{Disk, Page, Place, Tally};
+use label_check::write_value;
+
+/// Writes another value of the page in the sector at the virtual address `at`, which commits an operation, and counts it. Two sector
+/// commands, one record write.
+pub(crate) fn write_page<D: Disk>(
+    disk: &mut D,
+    tally: &mut Tally,
+    at: u16,
+    page: Page,
+    value: &[u16; 256],
+) -> Result<(), FileError>
+    requires first { 1 ≤ at }
+    requires place { at < pages_of (D.tape disk.old).form }
+    ensures operates { (o : Operation) (bits : List Bool) → IsTrue D.told → carried (pack (D.tape disk.old)) at ≡ Some page → IsOneValue (pack (D.tape disk.old)) o (value_writes at value.now) → Operates error.DiskFault error.Memory o [] (around (D.tape disk.old) bits tally.old) (around (D.tape disk.new) bits tally.new) result }
+    ensures misled { IsTrue D.told → carried (pack (D.tape disk.old)) at ≡ Some page → IfMisled result (λ place at wanted found. ⊥) }
+    ensures cause { HasCause cause_of_length (D.tape disk.old) (D.tape disk.new) result }
+    ensures alone { DiskAlone (D.tape disk.old) (D.tape disk.new) }
+{
+    let before = disk.writes();
+    let written = write_value(disk, at, page, value);
+    let now = disk.writes();
+    count_operation(tally, before, 1, now, &written);
+    match written {
+        Ok(()) => Ok(()),
+        Err(error) => Err(error_at(Place::Held { at }, at, page, error)),
+    }
+}
