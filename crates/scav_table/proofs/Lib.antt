@@ -1,0 +1,6 @@
+mod Filling
+mod Naming
+mod Padding
+mod Placing
+mod Reading
+mod Rising

@@ -1,0 +1,4 @@
+pub mod Causes
+pub mod Filled
+pub mod Rows
+pub mod Windows
