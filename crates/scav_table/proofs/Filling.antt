@@ -1,7 +1,7 @@
 -- A sweep of all labels, sector by sector.
 use Rattle.std.proofs.Common.{◌≡◌, ℕ, zero, suc, ◌+◌, ◌<◌, ◌≤◌, Bool, true, false, cond, not, nat_lt, IsTrue, List, [], ◌∷◌, ◌++◌, length, get_or, take, drop, replicate, Option, Some, None, refl, sym, ap, subst, ◌∙◌, arith}
 use Rattle.std.proofs.lemmas.Bool.Decides.{nat_tests}
-use Rattle.std.proofs.lemmas.List.{length-append, take_more, take_all, drop-append-le, length-take-le, length-replicate}
+use Rattle.std.proofs.lemmas.List.{length-append, take_more, take_all, drop-append-le, length-take-le}
 use Rattle.std.specs.List.Sorted.{IsNonDecreasingBy}
 use Rattle.disk_records.specs.declared.records.Sector.{Sector}
 use Rattle.disk_records.specs.declared.shape.Shape.{Shape}
@@ -17,7 +17,7 @@ use Rattle.pack_laws.proofs.Sighted.{sights-get, length-sights}
 use Rattle.scav_table.specs.declared.row.Row.{Row}
 use Rattle.scav_table.specs.Filled.{Filled, IsRowAt}
 use Rattle.scav_table.specs.Rows.{rank, is_above, above, Rises, placed, padded, no_row, AreLow, row_of, rows_from, sector_rows, in_order, rows, with_row}
-use Rattle.scav_table.proofs.Padding.{padded-placed, padded_rises}
+use Rattle.scav_table.proofs.Padding.{padded-placed, padded_rises, none_padded}
 use Rattle.scav_table.proofs.Rising.{above_rises, above_low, below_goes, above_comes, placed_rises, placed_low, low_more, in_order-push}
 
 -- ---- the rows of sectors, and how many are bad
@@ -57,10 +57,6 @@ pub record SeenTo (told : Bool) (t : Taped) (n : ℕ) (b : Option Row) (at count
   pub rises : Rises None (in_order [] seen)
   pub low : AreLow at (in_order [] seen)
   pub holds : list ≡ padded n (above b (in_order [] seen))
-
-none_padded : (n : ℕ) → replicate n no_row ≡ padded n []
-unfolding padded
-none_padded n = sym (take_all n (replicate n no_row) (omega (arith, length-replicate n no_row)))
 
 pub seen_none : {told : Bool} {t : Taped} (n : ℕ) (b : Option Row) (list : List Row) → (IsTrue told → length t.base ≡ pages_of t.form) → list ≡ replicate n no_row → SeenTo told t n b 1 0 list
 seen_none {told} {t} n b list sized e = record {

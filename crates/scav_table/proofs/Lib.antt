@@ -1,4 +1,5 @@
 mod Filling
+mod Given
 mod Naming
 mod Padding
 mod Placing

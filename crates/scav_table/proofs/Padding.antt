@@ -1,7 +1,7 @@
 -- A window of a fixed length: rows that rise, and no rows after them.
 use Rattle.std.proofs.Common.{◌≡◌, ℕ, zero, suc, ◌+◌, ◌<◌, ◌≤◌, Bool, true, false, cond, nat_lt, List, [], ◌∷◌, ◌++◌, length, get_or, take, replicate, Option, Some, None, refl, sym, ap, subst, ◌∙◌, arith}
 use Rattle.std.proofs.lemmas.Bool.Decides.{nat_tests}
-use Rattle.std.proofs.lemmas.List.{length-replicate, length-append, length-take-le}
+use Rattle.std.proofs.lemmas.List.{length-replicate, length-append, length-take-le, take_all}
 use Rattle.std.specs.List.Sorted.{IsNonDecreasingBy}
 use Rattle.std.proofs.lemmas.List.Sorted.{IsNonDecreasingBy-take}
 use Rattle.scav_table.specs.declared.row.Row.{Row}
@@ -11,6 +11,10 @@ use Rattle.scav_table.proofs.Placing.{least_suffice}
 pub length-padded : (n : ℕ) (xs : List Row) → length (padded n xs) ≡ n
 unfolding padded
 length-padded n xs = length-take-le n (xs ++ replicate n no_row) (omega (arith, length-append xs (replicate n no_row), length-replicate n no_row))
+
+pub none_padded : (n : ℕ) → replicate n no_row ≡ padded n []
+unfolding padded
+none_padded n = sym (take_all n (replicate n no_row) (omega (arith, length-replicate n no_row)))
 
 -- ---- one row more
 last_placed : (r : Row) (n : ℕ) → is_below no_row r ≡ false → placed r (replicate n no_row) ≡ r ∷ replicate n no_row

@@ -1,8 +1,8 @@
 -- Rows that rise: those above a bound, and one row more.
-use Rattle.std.proofs.Common.{◌≡◌, ◌≢◌, ℕ, zero, suc, ◌+◌, ◌*◌, ◌<◌, ◌≤◌, Bool, true, false, cond, nat_lt, List, [], ◌∷◌, ◌++◌, length, take, Option, Some, None, refl, sym, ap, subst, ◌∙◌, arith}
+use Rattle.std.proofs.Common.{◌≡◌, ◌≢◌, ℕ, zero, suc, ◌+◌, ◌-◌, ◌*◌, ◌<◌, ◌≤◌, Bool, true, false, cond, nat_lt, List, [], ◌∷◌, ◌++◌, length, get_or, take, Option, Some, None, refl, sym, ap, subst, ◌∙◌, arith}
 use Rattle.std.proofs.lemmas.Bool.Decides.{nat_tests}
 use Rattle.scav_table.specs.declared.row.Row.{Row}
-use Rattle.scav_table.specs.Rows.{rank, is_below, is_above, above, Rises, placed, with_row, in_order, no_row, IsLow, AreLow}
+use Rattle.scav_table.specs.Rows.{rank, is_below, is_above, above, Rises, placed, with_row, in_order, no_row, last_or, IsLow, AreLow}
 
 -- ---- above a bound
 pub further : (b : Option Row) (x y : Row) → is_above b x ≡ true → is_below x y ≡ true → is_above b y ≡ true
@@ -38,6 +38,14 @@ pub take_low : (n end : ℕ) (xs : List Row) → AreLow end xs → AreLow end (t
 take_low zero end xs l = tt
 take_low (suc n) end [] l = tt
 take_low (suc n) end (x ∷ xs) l = (l.0, take_low n end xs l.1)
+
+-- ---- the last row
+pub last_is : (b : Option Row) (xs : List Row) (d : Row) → 1 ≤ length xs → Some (get_or xs (length xs - 1) d) ≡ last_or b xs
+last_is b [] d l = absurd (omega arith)
+last_is b (x ∷ []) d l = refl
+last_is b (x ∷ y ∷ ys) d l =
+    let e : suc (suc (length ys)) - 1 ≡ suc (suc (length ys) - 1) = omega arith in
+    ap (λ k. Some (get_or (x ∷ y ∷ ys) k d)) e ∙ last_is (Some x) (y ∷ ys) d (omega arith)
 
 -- ---- one row more, by whether it is above
 pub below_goes : (b : Option Row) (row : Row) (xs : List Row) → is_above b row ≡ false → above b (placed row xs) ≡ above b xs
