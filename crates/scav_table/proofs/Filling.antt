@@ -18,7 +18,7 @@ use Rattle.scav_table.specs.declared.row.Row.{Row}
 use Rattle.scav_table.specs.Filled.{Filled, IsRowAt}
 use Rattle.scav_table.specs.Rows.{rank, is_above, above, Rises, placed, padded, no_row, AreLow, row_of, rows_from, sector_rows, in_order, rows, with_row}
 use Rattle.scav_table.proofs.Padding.{padded-placed, padded_rises, none_padded}
-use Rattle.scav_table.proofs.Rising.{above_rises, above_low, below_goes, above_comes, placed_rises, placed_low, low_more, in_order-push}
+use Rattle.scav_table.proofs.Rising.{above_rises, above_low, below_goes, above_comes, placed_rises, placed_low, low_more, low_before, in_order-push}
 
 -- ---- the rows of sectors, and how many are bad
 pub length-rows : (shape : Shape) (k : ℕ) (ss : List Sector) → length (rows_from shape k ss) ≡ length ss
@@ -86,7 +86,7 @@ taken n b (Some r) list = cond (is_above b r) (take n (placed r list)) list
 
 kept_rising : (at : ℕ) (s : Option Row) (xs : List Row) → IsFound at s → at < 65536 → AreLow at xs → Rises None xs → Rises None (with_row s xs)
 kept_rising at None xs f few low up = up
-kept_rising at (Some r) xs f few low up = placed_rises at None r xs f.here few low refl up
+kept_rising at (Some r) xs f few low up = placed_rises at None r xs f.here few (low_before at xs low) refl up
 
 kept_low : (at : ℕ) (s : Option Row) (xs : List Row) → IsFound at s → AreLow at xs → AreLow (at + 1) (with_row s xs)
 kept_low at None xs f low = low_more at (at + 1) xs (omega arith) low

@@ -2,6 +2,8 @@ mod Filling
 mod Given
 mod Naming
 mod Padding
+mod Passing
 mod Placing
 mod Reading
 mod Rising
+mod Standing

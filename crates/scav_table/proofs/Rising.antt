@@ -83,13 +83,34 @@ other_rank at x row l e few same = omega arith
 not_below : (at : ℕ) (x row : Row) → x.at < at → row.at ≡ at → at < 65536 → is_below x row ≡ false → is_below row x ≡ true
 not_below at x row l e few h = let n : rank x ≢ rank row = other_rank at x row l e few in grind (arith, nat_tests)
 
-pub placed_rises : (at : ℕ) (b : Option Row) (row : Row) (xs : List Row) → row.at ≡ at → at < 65536 → AreLow at xs → is_above b row ≡ true → Rises b xs → Rises b (placed row xs)
+-- rows of sectors below `at`
+abbrev pub AreBefore : ℕ → List Row → Type 0
+AreBefore at [] = Unit {0}
+AreBefore at (x ∷ xs) = (x.at < at) × AreBefore at xs
+
+pub low_before : (at : ℕ) (xs : List Row) → AreLow at xs → AreBefore at xs
+low_before at [] low = tt
+low_before at (x ∷ xs) low = (low.0.within, low_before at xs low.1)
+
+pub before_more : (few more : ℕ) (xs : List Row) → few ≤ more → AreBefore few xs → AreBefore more xs
+before_more few more [] l h = tt
+before_more few more (x ∷ xs) l h = ((let k = h.0 in omega arith), before_more few more xs l h.1)
+
+pub placed_before : (end : ℕ) (row : Row) (xs : List Row) → row.at < end → AreBefore end xs → AreBefore end (placed row xs)
+placed_before end row [] r h = (r, tt)
+placed_before end row (x ∷ xs) r h = by_test (placed_before end row xs r h.1) (is_below x row)
+  where
+    by_test : AreBefore end (placed row xs) → (t : Bool) → AreBefore end (cond t (x ∷ placed row xs) (row ∷ x ∷ xs))
+    by_test ih true = (h.0, ih)
+    by_test ih false = (r, h)
+
+pub placed_rises : (at : ℕ) (b : Option Row) (row : Row) (xs : List Row) → row.at ≡ at → at < 65536 → AreBefore at xs → is_above b row ≡ true → Rises b xs → Rises b (placed row xs)
 placed_rises at b row [] e few low a s = (a, tt)
 placed_rises at b row (x ∷ xs) e few low a s = by_test (λ l. placed_rises at (Some x) row xs e few low.1 l s.1) (is_below x row) refl
   where
     by_test : (is_below x row ≡ true → Rises (Some x) (placed row xs)) → (t : Bool) → is_below x row ≡ t → Rises b (cond t (x ∷ placed row xs) (row ∷ x ∷ xs))
     by_test ih true l = (s.0, ih l)
-    by_test ih false l = (a, (not_below at x row low.0.within e few l, s.1))
+    by_test ih false l = (a, (not_below at x row low.0 e few l, s.1))
 
 pub placed_low : (end : ℕ) (row : Row) (xs : List Row) → IsLow end row → AreLow end xs → AreLow end (placed row xs)
 placed_low end row [] r low = (r, tt)

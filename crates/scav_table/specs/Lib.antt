@@ -1,4 +1,5 @@
 pub mod Causes
 pub mod Filled
+pub mod Passes
 pub mod Rows
 pub mod Windows

@@ -22,11 +22,14 @@ mod errors;
 mod fill;
 mod insert;
 
+mod pass;
 mod row;
 mod table;
 
 
 pub use errors::SweepError;
 
+pub use pass::Pass;
 pub use row::Row;
+pub use table::{Table, sweep};
 
