@@ -1,18 +1,17 @@
 -- A sweep of all labels, sector by sector.
-use Rattle.std.proofs.Common.{◌≡◌, ℕ, zero, suc, ◌+◌, ◌<◌, ◌≤◌, Bool, true, false, cond, not, nat_lt, IsTrue, List, [], ◌∷◌, ◌++◌, length, get_or, take, drop, replicate, Option, Some, None, refl, sym, ap, subst, ◌∙◌, arith}
-use Rattle.std.proofs.lemmas.Bool.Decides.{nat_tests}
-use Rattle.std.proofs.lemmas.List.{length-append, take_more, take_all, drop-append-le, length-take-le}
+use Rattle.std.proofs.Common.{◌≡◌, ℕ, zero, suc, ◌+◌, ◌<◌, ◌≤◌, Bool, true, false, cond, not, IsTrue, List, [], ◌∷◌, ◌++◌, length, get_or, take, drop, replicate, Option, Some, None, refl, sym, ap, subst, ◌∙◌, arith}
+use Rattle.std.proofs.lemmas.List.{take_more, take_all, drop-append-le, length-take-le}
 use Rattle.std.specs.List.Sorted.{IsNonDecreasingBy}
 use Rattle.disk_records.specs.declared.records.Sector.{Sector}
 use Rattle.disk_records.specs.declared.shape.Shape.{Shape}
-use Rattle.disk_records.specs.Addresses.{pages_of, is_right_header}
-use Rattle.disk_records.specs.Packs.{Pack, sector_at, no_sector, is_usable}
+use Rattle.disk_records.specs.Addresses.{pages_of}
+use Rattle.disk_records.specs.Packs.{sector_at, no_sector}
 use Rattle.disk_records.specs.Tapes.{Taped, Looks, pack}
 use Rattle.disk_records.proofs.Growing.{length-pack}
 use Rattle.disk_records.proofs.Looking.{looks_pack}
 use Rattle.pack_model.specs.reading.Sights.{sight, sights}
 use Rattle.pack_model.specs.reading.Sights.Sight.{hidden}
-use Rattle.pack_model.specs.states.InUse.{is_good, one_if, how_many, bad_sectors}
+use Rattle.pack_model.specs.states.InUse.{is_good, one_if, how_many}
 use Rattle.pack_laws.proofs.Sighted.{sights-get, length-sights}
 use Rattle.scav_table.specs.declared.row.Row.{Row}
 use Rattle.scav_table.specs.Filled.{Filled, IsRowAt}
@@ -119,8 +118,8 @@ seen_more {told} {t} {now} {most} n b at count list s wrong looks first few with
           let here : x ≡ sight now.form at (sector_at (pack now) at) = sights-get (pack t) at hidden (omega (arith, within, length-pack t, sized h)) ∙ sym (ap (λ shape. sight shape at (sector_at (pack now) at)) looks.alone.grown.form ∙ ap (λ p. sight t.form at (sector_at p at)) (looks_pack looks h)) in
           let one : wrong ≡ one_if (not (is_good x)) = met.bad h ∙ ap (λ y. one_if (not (is_good y))) (sym here) in
           let tail : drop 1 (take (at + 1) (sights (pack t))) ≡ drop 1 (take at (sights (pack t))) ++ x ∷ [] =
-              ap (drop 1) (take_more (sights (pack t)) at hidden inside)
-              ∙ drop-append-le 1 (take at (sights (pack t))) (x ∷ []) (omega (arith, first, length-take-le at (sights (pack t)) (omega (arith, inside)))) in
+          ap (drop 1) (take_more (sights (pack t)) at hidden inside)
+          ∙ drop-append-le 1 (take at (sights (pack t))) (x ∷ []) (omega (arith, first, length-take-le at (sights (pack t)) (omega (arith, inside)))) in
           let all : how_many (λ y. not (is_good y)) (drop 1 (take at (sights (pack t))) ++ x ∷ []) ≡ how_many (λ y. not (is_good y)) (drop 1 (take at (sights (pack t)))) + one_if (not (is_good x)) = how_many-push (λ y. not (is_good y)) (drop 1 (take at (sights (pack t)))) x in
           ap (λ m. m + wrong) (so_far.wrong h) ∙ ap (λ m. how_many (λ y. not (is_good y)) (drop 1 (take at (sights (pack t)))) + m) one ∙ sym all ∙ ap (how_many (λ y. not (is_good y))) (sym tail);
       few = omega (arith, so_far.few, met.one);

@@ -1,11 +1,11 @@
 -- The rows of a window among its items.
-use Rattle.std.proofs.Common.{◌≡◌, ℕ, zero, suc, ◌+◌, ◌-◌, ◌<◌, ◌≤◌, ◌==◌, Bool, true, false, cond, not, nat_lt, IsTrue, List, [], ◌∷◌, ◌++◌, length, get_or, take, replicate, Option, Some, None, Result, Ok, Err, IfOk, OnErr, refl, sym, ap, subst, ◌∙◌, arith}
+use Rattle.std.proofs.Common.{◌≡◌, ℕ, zero, suc, ◌<◌, ◌≤◌, ◌==◌, Bool, true, false, cond, not, List, [], ◌∷◌, ◌++◌, length, get_or, take, replicate, Option, None, Result, Ok, Err, IfOk, OnErr, refl, sym, ap, subst, ◌∙◌, arith}
 use Rattle.std.proofs.lemmas.Bool.Decides.{nat_tests}
 use Rattle.std.specs.List.Sorted.{IsPartitionedBy}
-use Rattle.disk_records.specs.Tapes.{Taped, pack}
+use Rattle.disk_records.specs.Tapes.{Taped}
 use Rattle.scav_table.specs.declared.row.Row.{Row}
 use Rattle.scav_table.specs.Filled.{Filled}
-use Rattle.scav_table.specs.Rows.{Rises, AreLow, IsLow, above, no_row, padded, rows, rows_above, window}
+use Rattle.scav_table.specs.Rows.{Rises, AreLow, above, no_row, padded, rows_above}
 use Rattle.scav_table.specs.Windows.{given, IsWindow, IsFilled}
 use Rattle.scav_table.proofs.Padding.{length-padded, none_padded}
 use Rattle.scav_table.proofs.Rising.{above_rises, above_low, take_rises, take_low}
@@ -114,13 +114,15 @@ take_none (suc n) = refl
 pub window_cleared : (n : ℕ) (list : List Row) → list ≡ replicate n no_row → IsWindow n list × (given list ≡ [])
 window_cleared n list e =
     let is : list ≡ padded n [] = e ∙ none_padded n in
-    let rs : given list ≡ [] = ap given is ∙ given-padded n 65536 [] tt ∙ take_none n in
-    (record {
-      size = ap length is ∙ length-padded n [];
-      rises = subst (Rises None) (sym rs) tt;
-      low = subst (AreLow 65536) (sym rs) tt;
-      padded = is ∙ ap (padded n) (sym rs);
-    }, rs)
+    let rs : given list ≡ [] = ap given is ∙ given-padded n 65536 [] tt ∙ take_none n in (
+      record {
+        size = ap length is ∙ length-padded n [];
+        rises = subst (Rises None) (sym rs) tt;
+        low = subst (AreLow 65536) (sym rs) tt;
+        padded = is ∙ ap (padded n) (sym rs);
+      },
+      rs,
+    )
 
 pub is_filled : {told : Bool} {t : Taped} {b : Option Row} {bad : ℕ} {list : List Row} → length list ≡ 1024 → Filled told t b bad list → IsFilled told t b (given list) bad
 unfolding rows_above
@@ -141,6 +143,7 @@ is_filled {told} {t} {b} {bad} {list} size f =
     most_taken zero xs = omega arith
     most_taken (suc n) [] = omega arith
     most_taken (suc n) (x ∷ xs) = let h = most_taken n xs in omega (arith, h)
+
     few : (l : List Row) → given list ≡ l → length l ≤ 1024 → length (given list) ≤ 1024
     few l e h = subst (λ m. length m ≤ 1024) (sym e) h
 

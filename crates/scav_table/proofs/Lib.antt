@@ -2,8 +2,9 @@ mod Filling
 mod Given
 mod Naming
 mod Padding
-mod Passing
+pub mod Passing
 mod Placing
 mod Reading
 mod Rising
-mod Standing
+pub mod Standing
+pub mod Staying

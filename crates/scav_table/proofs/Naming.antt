@@ -1,12 +1,11 @@
 -- A label in range names a page below that of no row.
-use Rattle.std.proofs.Common.{◌≡◌, ℕ, ◌+◌, ◌*◌, ◌<◌, ◌≤◌, Bool, true, false, cond, nat_lt, List, get_or, Option, Some, None, refl, sym, ap, subst, ◌∙◌, arith}
+use Rattle.std.proofs.Common.{◌≡◌, ℕ, ◌+◌, ◌*◌, ◌<◌, ◌≤◌, Bool, true, false, cond, List, get_or, Some, None, refl, subst, arith}
 use Rattle.std.proofs.lemmas.Bool.Decides.{nat_tests}
-use Rattle.alto_words.specs.declared.fid.Fid.{Fid}
 use Rattle.disk_records.specs.declared.records.Page.{Page}
 use Rattle.disk_records.specs.Labels.{Tag, tag, in_range, page_of}
 use Rattle.scav_table.specs.declared.row.Row.{Row}
 use Rattle.scav_table.specs.Filled.{IsRowAt}
-use Rattle.scav_table.specs.Rows.{rank, is_below, no_row, IsLow}
+use Rattle.scav_table.specs.Rows.{rank, is_below, no_row}
 
 -- a version that can be given
 few_versions : (t : Tag) → in_range t ≡ true → t.fid.version ≤ 65534

@@ -1,11 +1,11 @@
 -- A window of a fixed length: rows that rise, and no rows after them.
-use Rattle.std.proofs.Common.{◌≡◌, ℕ, zero, suc, ◌+◌, ◌<◌, ◌≤◌, Bool, true, false, cond, nat_lt, List, [], ◌∷◌, ◌++◌, length, get_or, take, replicate, Option, Some, None, refl, sym, ap, subst, ◌∙◌, arith}
+use Rattle.std.proofs.Common.{◌≡◌, ℕ, zero, suc, ◌<◌, ◌≤◌, Bool, true, false, cond, List, [], ◌∷◌, ◌++◌, length, get_or, take, replicate, Option, Some, refl, sym, ap, ◌∙◌, arith}
 use Rattle.std.proofs.lemmas.Bool.Decides.{nat_tests}
 use Rattle.std.proofs.lemmas.List.{length-replicate, length-append, length-take-le, take_all}
 use Rattle.std.specs.List.Sorted.{IsNonDecreasingBy}
 use Rattle.std.proofs.lemmas.List.Sorted.{IsNonDecreasingBy-take}
 use Rattle.scav_table.specs.declared.row.Row.{Row}
-use Rattle.scav_table.specs.Rows.{rank, is_below, is_above, Rises, placed, no_row, padded, AreLow}
+use Rattle.scav_table.specs.Rows.{rank, is_below, Rises, placed, no_row, padded, AreLow}
 use Rattle.scav_table.proofs.Placing.{least_suffice}
 
 pub length-padded : (n : ℕ) (xs : List Row) → length (padded n xs) ≡ n

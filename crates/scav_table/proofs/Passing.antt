@@ -1,5 +1,5 @@
 -- The rows above the row in hand.
-use Rattle.std.proofs.Common.{◌≡◌, ℕ, zero, suc, ◌+◌, ◌<◌, ◌≤◌, ◌==◌, Bool, true, false, cond, nat_lt, IsTrue, List, [], ◌∷◌, ◌++◌, length, get_or, take, drop, Option, Some, None, refl, sym, ap, subst, ◌∙◌, arith}
+use Rattle.std.proofs.Common.{◌≡◌, ℕ, zero, suc, ◌+◌, ◌<◌, ◌≤◌, ◌==◌, Bool, true, false, cond, List, [], ◌∷◌, ◌++◌, length, take, drop, Option, Some, None, refl, sym, ap, subst, ◌∙◌, arith}
 use Rattle.std.proofs.lemmas.Bool.Decides.{nat_tests}
 use Rattle.std.proofs.lemmas.List.{append-nil, take-append-drop}
 use Rattle.disk_records.specs.declared.records.Page.{Page}
@@ -9,9 +9,9 @@ use Rattle.disk_records.specs.Labels.{page_of}
 use Rattle.disk_records.specs.Packs.{Pack, is_usable}
 use Rattle.disk_records.specs.Words.{word}
 use Rattle.scav_table.specs.declared.row.Row.{Row}
-use Rattle.scav_table.specs.Rows.{rank, is_below, is_above, above, Rises, last_or, row_in, row_of, rows_from, with_row, in_order, rows, rows_above, window}
+use Rattle.scav_table.specs.Rows.{is_below, is_above, above, Rises, last_or, row_in, row_of, rows_from, with_row, in_order, rows, rows_above, window}
 use Rattle.scav_table.specs.Passes.{after_window}
-use Rattle.scav_table.proofs.Rising.{AreBefore, before_more, placed_before, placed_rises, all_above, above_rises, further}
+use Rattle.scav_table.proofs.Rising.{AreBefore, before_more, placed_before, placed_rises, all_above, above_rises}
 
 -- ---- the rows of a pack rise
 abbrev IsHere : ℕ → Option Row → Type 0

@@ -1,6 +1,6 @@
 -- Where a row is placed among rows that rise, and what is left of a window when its greatest row goes.
 use Rattle.std.proofs.Common.{◌≡◌, ℕ, zero, suc, ◌+◌, ◌-◌, ◌<◌, ◌≤◌, Bool, true, false, cond, List, [], ◌∷◌, ◌++◌, length, get_or, set, take, drop, refl, sym, ap, subst, ◌∙◌, arith}
-use Rattle.std.proofs.lemmas.List.{take-take, take_all, drop_all, append-nil, length-append}
+use Rattle.std.proofs.lemmas.List.{take-take, take_all, drop_all, append-nil}
 use Rattle.scav_table.specs.declared.row.Row.{Row}
 use Rattle.scav_table.specs.Rows.{is_below, placed}
 

@@ -1,8 +1,8 @@
 -- Rows that rise: those above a bound, and one row more.
-use Rattle.std.proofs.Common.{◌≡◌, ◌≢◌, ℕ, zero, suc, ◌+◌, ◌-◌, ◌*◌, ◌<◌, ◌≤◌, Bool, true, false, cond, nat_lt, List, [], ◌∷◌, ◌++◌, length, get_or, take, Option, Some, None, refl, sym, ap, subst, ◌∙◌, arith}
+use Rattle.std.proofs.Common.{◌≡◌, ◌≢◌, ℕ, zero, suc, ◌-◌, ◌<◌, ◌≤◌, Bool, true, false, cond, List, [], ◌∷◌, ◌++◌, length, get_or, take, Option, Some, None, refl, sym, ap, subst, ◌∙◌, arith}
 use Rattle.std.proofs.lemmas.Bool.Decides.{nat_tests}
 use Rattle.scav_table.specs.declared.row.Row.{Row}
-use Rattle.scav_table.specs.Rows.{rank, is_below, is_above, above, Rises, placed, with_row, in_order, no_row, last_or, IsLow, AreLow}
+use Rattle.scav_table.specs.Rows.{rank, is_below, is_above, above, Rises, placed, with_row, in_order, last_or, IsLow, AreLow}
 
 -- ---- above a bound
 pub further : (b : Option Row) (x y : Row) → is_above b x ≡ true → is_below x y ≡ true → is_above b y ≡ true
@@ -67,6 +67,7 @@ above_comes b row (x ∷ xs) e = by_test (above_comes b row xs e) (is_below x ro
     behind_it : (t : Bool) → is_below x row ≡ true → above b (placed row xs) ≡ placed row (above b xs) → cond t (x ∷ above b (placed row xs)) (above b (placed row xs)) ≡ placed row (cond t (x ∷ above b xs) (above b xs))
     behind_it true l ih = ap (λ m. x ∷ m) ih ∙ sym (ap (λ t. cond t (x ∷ placed row (above b xs)) (row ∷ x ∷ above b xs)) l)
     behind_it false l ih = ih
+
     by_test : above b (placed row xs) ≡ placed row (above b xs) → (t : Bool) → is_below x row ≡ t → above b (cond t (x ∷ placed row xs) (row ∷ x ∷ xs)) ≡ placed row (above b (x ∷ xs))
     by_test ih true l = behind_it (is_above b x) l ih
     by_test ih false l =

@@ -1,5 +1,5 @@
 -- A pass in its table: at a new window, at the next row, and over a pack that changes at or below the row in hand.
-use Rattle.std.proofs.Common.{◌≡◌, ℕ, zero, suc, ◌+◌, ◌<◌, ◌≤◌, ◌==◌, Bool, true, false, cond, nat_lt, Bor, IfSome, IsTrue, List, [], ◌∷◌, ◌++◌, length, get_or, take, drop, Option, Some, None, refl, sym, ap, subst, ◌∙◌, arith}
+use Rattle.std.proofs.Common.{◌≡◌, ℕ, zero, suc, ◌+◌, ◌<◌, ◌≤◌, ◌==◌, Bool, true, nat_lt, Bor, IfSome, IsTrue, List, [], ◌∷◌, ◌++◌, length, get_or, drop, Option, Some, None, sym, ap, subst, ◌∙◌, arith}
 use Rattle.std.proofs.lemmas.Bool.Decides.{nat_tests}
 use Rattle.std.proofs.lemmas.List.{drop_more, drop_all}
 use Rattle.std.specs.Option.{is_some, option_copied}
@@ -11,7 +11,7 @@ use Rattle.disk_records.proofs.Looking.{looks_pack}
 use Rattle.scav_table.specs.declared.pass.Pass.{Pass as RowPass}
 use Rattle.scav_table.specs.declared.row.Row.{Row}
 use Rattle.scav_table.specs.Passes.{Stands, after_window}
-use Rattle.scav_table.specs.Rows.{is_below, is_above, no_row, Rises, AreLow, last_or, rows_above, window}
+use Rattle.scav_table.specs.Rows.{is_below, is_above, no_row, Rises, AreLow, last_or, rows_above}
 use Rattle.scav_table.specs.Windows.{Window, IsFilled}
 use Rattle.scav_table.proofs.Passing.{window_joined, next_above}
 use Rattle.scav_table.proofs.Rising.{further}
@@ -44,9 +44,9 @@ stands_filled {told} {t} {now} {most} b last w sized looks f bound h same = reco
   left = λ k.
       let p = pack t in
       let joined : rows_above p b ≡ w.rows ++ after_window (length w.rows == 1024) p w.bound =
-          window_joined p b (few_sectors t (sized k))
-          ∙ ap (λ l. l ++ after_window (length l == 1024) p (last_or b l)) (sym (f.rows k))
-          ∙ ap (λ c. w.rows ++ after_window (length w.rows == 1024) p c) (sym bound) in
+      window_joined p b (few_sectors t (sized k))
+      ∙ ap (λ l. l ++ after_window (length l == 1024) p (last_or b l)) (sym (f.rows k))
+      ∙ ap (λ c. w.rows ++ after_window (length w.rows == 1024) p c) (sym bound) in
       subst (λ q. rows_above q last ≡ w.rows ++ after_window (length w.rows == 1024) q w.bound) (sym (looks_pack looks k)) (same k ∙ joined);
 }
 

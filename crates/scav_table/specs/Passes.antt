@@ -1,5 +1,5 @@
 -- A pass along all rows, window by window.
-use Rattle.std.specs.Prelude.{◌≡◌, ℕ, ◌≤◌, ◌<◌, ◌==◌, Bool, true, false, cond, IsTrue, List, [], ◌∷◌, ◌++◌, length, drop, Option, Some, None}
+use Rattle.std.specs.Prelude.{◌≡◌, ◌≤◌, ◌==◌, Bool, true, false, cond, IsTrue, List, [], ◌∷◌, ◌++◌, length, drop, Option, Some, None}
 use Rattle.disk_records.specs.Packs.{Pack}
 use Rattle.scav_table.specs.declared.pass.Pass.{Pass as RowPass}
 use Rattle.scav_table.specs.declared.row.Row.{Row}

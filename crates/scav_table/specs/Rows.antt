@@ -1,10 +1,10 @@
 -- The rows of a pack: its sectors that carry pages, in the order of files, pages and addresses.
-use Rattle.std.specs.Prelude.{◌≡◌, ℕ, zero, suc, ◌+◌, ◌*◌, ◌<◌, ◌≤◌, Bool, true, cond, nat_lt, List, [], ◌∷◌, ◌++◌, take, replicate, Option, Some, None}
+use Rattle.std.specs.Prelude.{◌≡◌, ℕ, suc, ◌+◌, ◌*◌, ◌<◌, ◌≤◌, Bool, true, cond, nat_lt, List, [], ◌∷◌, ◌++◌, take, replicate, Option, Some, None}
 use Rattle.disk_records.specs.declared.records.Page.{Page}
 use Rattle.disk_records.specs.declared.records.Sector.{Sector}
 use Rattle.disk_records.specs.declared.shape.Shape.{Shape}
 use Rattle.disk_records.specs.Labels.{page_of}
-use Rattle.disk_records.specs.Packs.{Pack, is_usable}
+use Rattle.disk_records.specs.Packs.{Pack, is_usable, sector_at}
 use Rattle.disk_records.specs.Words.{word}
 use Rattle.scav_table.specs.declared.row.Row.{Row}
 
@@ -67,6 +67,9 @@ row_in at bytes (Some page) = Some (record { page = page; at = at; bytes = bytes
 -- the row of a sector, where its header is right and its label in range
 unfoldable pub row_of : Shape → ℕ → Sector → Option Row
 row_of shape at s = cond (is_usable shape at s) (row_in at (word s.label 3) (page_of s.label)) None
+
+abbrev pub row_at : Pack → ℕ → Option Row
+row_at p at = row_of p.shape at (sector_at p at)
 
 unfoldable pub rows_from : Shape → ℕ → List Sector → List (Option Row)
 rows_from shape at [] = []

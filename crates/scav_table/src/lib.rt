@@ -18,18 +18,14 @@
 #![tactic(auto)]
 
 mod errors;
-
 mod fill;
 mod insert;
-
+pub mod laws;
 mod pass;
 mod row;
 mod table;
 
-
 pub use errors::SweepError;
-
 pub use pass::Pass;
 pub use row::Row;
 pub use table::{Table, sweep};
-

@@ -1,4 +1,4 @@
-use Rattle.std.proofs.Common.{◌≡◌, ◌+◌, ◌≤◌, length, replicate, Some, None, arith, rules, refl, sym, ap, ◌∙◌}
+use Rattle.std.proofs.Common.{◌≡◌, ◌+◌, ◌≤◌, length, replicate, Some, None, arith, rules, sym, ap, ◌∙◌}
 use Rattle.disk_records.proofs.Looking.{looks_none, looks_twice}
 use Rattle.scav_table.proofs.Filling.{seen_none, seen_more, seen_rises, seen_all, seen_as}
 use Rattle.scav_table.proofs.Reading.{met_row, met_bad}
@@ -40,14 +40,14 @@ loop-at-preserved g c =
       looks = looks_twice _ inv.looks read.looks (omega arith);
       seen = elim c.if-branch.branch [
         | then-branch+in-Some w ↦ seen_as c.if-branch.auto.window (w.bad-is ∙ none_more) (w.window-is ∙ w.offer.ensures)
-        (step (Some w.in-Some.row) 0 inv.looks first (omega arith) (omega (arith, end)) sized inv.seen w.in-Some.ensures.low
-        (met_row at c.look.new.buf (Some w.in-Some.row) first (sym read.right ∙ w.if-branch.true) read.holds w.in-Some.ensures.row))
+            (step (Some w.in-Some.row) 0 inv.looks first (omega arith) (omega (arith, end)) sized inv.seen w.in-Some.ensures.low
+            (met_row at c.look.new.buf (Some w.in-Some.row) first (sym read.right ∙ w.if-branch.true) read.holds w.in-Some.ensures.row))
         | then-branch+in_default w ↦ seen_as c.if-branch.auto.window (w.bad-is ∙ none_more) w.window-is
-        (step None 0 inv.looks first (omega arith) (omega (arith, end)) sized inv.seen tt
-        (met_row at c.look.new.buf None first (sym read.right ∙ w.if-branch.true) read.holds w.in_default.ensures.row))
+            (step None 0 inv.looks first (omega arith) (omega (arith, end)) sized inv.seen tt
+            (met_row at c.look.new.buf None first (sym read.right ∙ w.if-branch.true) read.holds w.in_default.ensures.row))
         | else-branch w ↦ seen_as c.if-branch.auto.window w.bad-is w.window-is
-        (step None 1 inv.looks first (omega arith) (omega (arith, end)) sized inv.seen tt
-        (met_bad at c.look.new.buf first (sym read.right ∙ w.if-branch.false) read.holds))
+            (step None 1 inv.looks first (omega arith) (omega (arith, end)) sized inv.seen tt
+            (met_bad at c.look.new.buf first (sym read.right ∙ w.if-branch.false) read.holds))
       ];
     }
 

@@ -1,7 +1,7 @@
-use Rattle.std.proofs.Common.{rules, ◌≡◌, ◌<◌, ◌≤◌, length, take, drop, List, ℕ, suc, ◌+◌, ◌-◌, Bool, [], ◌∷◌, ◌++◌, slice_set, refl, sym, ap, subst, ◌∙◌, arith}
+use Rattle.std.proofs.Common.{rules, ◌≡◌, ◌<◌, ◌≤◌, length, take, drop, ℕ, suc, ◌-◌, ◌∷◌, ◌++◌, slice_set, refl, sym, ap, ◌∙◌, arith}
 use Rattle.std.proofs.lemmas.List.{take_all}
 use Rattle.std.proofs.lemmas.List.Sorted.{IsPartitionPoint-from_clause, IsPartitionedBy-ltb}
-use Rattle.scav_table.specs.Rows.{rank, is_below, placed}
+use Rattle.scav_table.specs.Rows.{rank, is_below}
 use Rattle.scav_table.proofs.Placing.{placed_at, in_place, front_stays, length_from}
 use Rattle.scav_table.proofs.insert.insert.Goals as goal
 

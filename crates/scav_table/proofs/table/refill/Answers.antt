@@ -1,4 +1,4 @@
-use Rattle.std.proofs.Common.{◌≡◌, length, replicate, OnErr, ap, subst, ◌∙◌}
+use Rattle.std.proofs.Common.{◌≡◌, replicate, OnErr, subst, ◌∙◌}
 use Rattle.scav_table.specs.Rows.{no_row}
 use Rattle.scav_table.proofs.Given.{window_of, none_of, filled_of}
 use Rattle.scav_table.proofs.table.refill.Goals as goal

@@ -1,6 +1,5 @@
-use Rattle.std.proofs.Common.{◌≡◌, ◌<◌, length, get_or, Some, sym, ap, subst, ◌∙◌}
+use Rattle.std.proofs.Common.{◌≡◌, ◌<◌, length, get_or, Some, subst}
 use Rattle.scav_table.specs.Passes.{IsNext}
-use Rattle.scav_table.specs.Rows.{is_above, is_below, no_row}
 use Rattle.scav_table.proofs.Standing.{few_sectors, next_rises, stands_next, got_row}
 use Rattle.scav_table.proofs.pass.Pass.next.Goals as goal
 
