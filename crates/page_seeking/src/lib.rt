@@ -32,5 +32,5 @@ mod seek;
 
 pub use ends::length;
 pub use pages::locate;
-pub use read::read_part;
+pub use read::{read_all, read_part};
 pub use refs::{FileError, FileRef};

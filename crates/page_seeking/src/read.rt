@@ -15,13 +15,14 @@ ghost use Rattle.page_seeking.specs.Refs.{FileStands, IfMisled, IfBeyond, Misled
 ghost use Rattle.page_seeking.specs.Seeking.{KeepsHandy, Quick, file_length, page_number};
 ghost use Rattle.page_seeking.specs.Inside.{Known, Sought};
 
-use crate::ends::last_page;
+use crate::ends::{last_page, length};
 use crate::links::{Below, follow, length_at};
 use crate::pages::seek_page;
 use crate::{FileError, FileRef};
 use alto_words::Fid;
 use disk_records::{Disk, PAGE_BYTES, Page, Sector, words_into_bytes};
 use hint_cache::{HintCache, Hints};
+use std::alloc::Global;
 
 /// The number of the page that the byte at this offset is in. None: no page can have it.
 fn page_number_of(offset: u32) -> Option<u16>
@@ -177,6 +178,39 @@ pub fn read_part<D: Disk>(
 {
     match read_pages(disk, &mut hints.cache, file, offset, out, buf) {
         Ok(n) => Ok(n),
+        Err(error) => Err(error),
+    }
+}
+
+/// Reads all bytes of a file. Nothing is written.
+///
+/// Misled and DiskFault come as from `locate`. Memory: none was left for the bytes. Beyond never comes of a whole pack.
+pub fn read_all<D: Disk>(
+    alloc: Global,
+    disk: &mut D,
+    hints: &mut Hints,
+    file: &FileRef,
+) -> Result<Vec<u8>, FileError>
+    ensures read { IsTrue D.told → Whole (pack (D.tape disk.old)) → IfOk result (λ bytes. bytes.items ≡ file_bytes (sights (pack (D.tape disk.old))) file.now.fid) }
+    ensures beyond { IsTrue D.told → Whole (pack (D.tape disk.old)) → IfBeyond result (λ n. ⊥) }
+    ensures misled { IsTrue D.told → FileStands (pack (D.tape disk.old)) file.now → IfMisled result (MisledBy (pack (D.tape disk.old)) [] file.now.fid) }
+    ensures cause { HasCause cause_of_file (D.tape disk.old) (D.tape disk.new) result }
+    ensures looks { Looks D.told 131174 (D.tape disk.old) (D.tape disk.new) }
+    ensures table { hints.new.table ≡ hints.old.table }
+    ensures refused { hints.old.cache.refused ≤ hints.new.cache.refused }
+    ensures handy { IsTrue D.told → KeepsHandy (pack (D.tape disk.old)) hints.old.cache hints.new.cache }
+{
+    let mut buf = Sector::ZEROS;
+    let size = match length(disk, hints, file, &mut buf) {
+        Ok(size) => size,
+        Err(error) => return Err(error),
+    };
+    let mut bytes = vec![in alloc; 0; size as usize]?;
+    match read_part(disk, hints, file, 0, &mut bytes, &mut buf) {
+        Ok(n) => {
+            bytes.truncate(n);
+            Ok(bytes)
+        }
         Err(error) => Err(error),
     }
 }
