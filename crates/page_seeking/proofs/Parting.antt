@@ -1,5 +1,5 @@
 -- Bytes that are read page by page.
-use Rattle.std.proofs.Common.{◌≡◌, ◌≢◌, ℕ, suc, min, nat_lt, ◌+◌, ◌-◌, ◌*◌, ◌/◌, ◌%◌, ◌<◌, ◌≤◌, Bool, true, false, cond, List, ◌++◌, length, take, drop, Option, Some, None, IsTrue, ◌⊎◌, inl, inr, refl, sym, ◌∙◌, ap, subst, length-append, arith}
+use Rattle.std.proofs.Common.{◌≡◌, ◌≢◌, ℕ, suc, min, nat_lt, ◌+◌, ◌-◌, ◌*◌, ◌/◌, ◌%◌, ◌<◌, ◌≤◌, Bool, true, false, cond, List, ◌++◌, length, take, drop, Some, None, IsTrue, ◌⊎◌, inl, inr, refl, sym, ◌∙◌, ap, subst, length-append, arith}
 use Rattle.std.proofs.lemmas.Bool.Decides.{nat_tests}
 use Rattle.std.proofs.lemmas.List.{drop-drop, length-drop, length-take-le}
 use Rattle.std.proofs.lemmas.Slice.{drop-append-drop}

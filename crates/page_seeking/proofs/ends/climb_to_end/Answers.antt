@@ -1,5 +1,4 @@
 use Rattle.std.proofs.Common.{Err, arith, ap, sym, refl, ◌∙◌, inl, inr}
-use Rattle.disk_records.specs.Tapes.{pack}
 use Rattle.page_seeking.specs.declared.links.Below.{Below}
 use Rattle.page_seeking.specs.declared.seek.Found.{Found}
 use Rattle.page_seeking.proofs.Ending.{same_or_less}

@@ -1,4 +1,4 @@
-use Rattle.std.proofs.Common.{ℕ, ◌-◌, ◌<◌, ◌≤◌, ◌≡◌, IsTrue}
+use Rattle.std.proofs.Common.{◌-◌, ◌<◌, ◌≤◌, ◌≡◌, IsTrue}
 use Rattle.disk_records.specs.Tapes.{pack}
 use Rattle.page_seeking.specs.Seeking.{page_number}
 use Rattle.page_seeking.specs.Inside.{Known, Sought}

@@ -1,4 +1,4 @@
-use Rattle.std.proofs.Common.{◌≡◌, ◌≢◌, ◌+◌, ◌%◌, ◌≤◌, ℕ, inl, refl, take, drop, subst, sym, ap, ◌∙◌, arith, IfOk}
+use Rattle.std.proofs.Common.{◌≡◌, ◌≢◌, ◌+◌, ◌%◌, inl, refl, take, drop, subst, sym, ap, ◌∙◌, arith, IfOk}
 use Rattle.disk_records.specs.Packs.{Pack}
 use Rattle.disk_records.specs.Tapes.{pack}
 use Rattle.disk_records.proofs.Looking.{looks_pack}
