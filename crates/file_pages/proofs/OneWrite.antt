@@ -54,6 +54,7 @@ module _ (a b : Taped) (at : ℕ) (page : Page) (value : List ℕ) (o : Operatio
     value_failed error place held wanted e same guarded counts = begun (record {
       writes = value_writes at value;
       released = [];
+      exact = is.exact;
       acts = is.acts;
       some = guarded.some;
       all = tt;
@@ -70,6 +71,7 @@ module _ (a b : Taped) (at : ℕ) (page : Page) (value : List ℕ) (o : Operatio
         begun (record {
           writes = value_writes at value;
           released = [];
+          exact = is.exact;
           acts = is.acts;
           some = guarded.some;
           all = guarded.ok.wrote;

@@ -12,6 +12,7 @@ use Rattle.pack_model.specs.operations.Step.{Operation}
 use Rattle.pack_model.specs.reading.Model.{read_as}
 use Rattle.pack_model.specs.sessions.Tallies.{counted}
 use Rattle.laws_call.specs.Acting.{Acts, Operates, begun, refused}
+use Rattle.laws_call.specs.Writing.{Written}
 use Rattle.file_pages.specs.Calls.{around}
 
 module _ (T E : Type 0) (fault memory : E) (o : Operation) (claimed : List ℕ) (a b c : Taped) (one : DiskAlone a b) (two : DiskAlone b c) (silent : added a b ≡ []) (first : a.writes ≡ capped (writes_in a.events)) (mid : b.writes ≡ capped (writes_in b.events)) where
@@ -23,7 +24,7 @@ module _ (T E : Type 0) (fault memory : E) (o : Operation) (claimed : List ℕ) 
 
   -- it is to do the operation from the first call on
   pub silent_before : (bits now : List Bool) (t u : Tally) (result : Result T E) → Operates fault memory o claimed (around b bits t) (around c now u) result → Operates fault memory o claimed (around a bits t) (around c now u) result
-  silent_before bits now t u result (refused calm bad) = refused (record { silent = same ∙ calm.silent; bits = calm.bits; tally = calm.tally }) bad
+  silent_before bits now t u result (refused calm bad rich) = refused (record { silent = same ∙ calm.silent; bits = calm.bits; tally = calm.tally }) bad rich
   silent_before bits now t u result (begun x) =
       let packs : pack b ≡ pack a = pack-silent one.grown silent in
       let spare = one.grown.spare in
@@ -31,6 +32,7 @@ module _ (T E : Type 0) (fault memory : E) (o : Operation) (claimed : List ℕ) 
       begun (record {
         writes = x.writes;
         released = x.released;
+        exact = subst (λ p. Written p o claimed x.released x.writes) packs x.exact;
         acts = subst (λ p. Acts p o claimed x.released x.writes) packs x.acts;
         some = subst (IsFirstOf x.writes) (sym same) x.some;
         all = subst (λ l. OnOk result (l ≡ x.writes)) (sym same) x.all;

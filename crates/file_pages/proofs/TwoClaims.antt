@@ -22,6 +22,7 @@ use Rattle.pack_model.specs.operations.Step.Operation.{make}
 use Rattle.pack_model.specs.sessions.Tallies.{counted, took_effect}
 use Rattle.laws_call.proofs.acting.Laws.{acts_of_each_operation}
 use Rattle.laws_call.specs.Acting.{Operates, begun}
+use Rattle.laws_call.specs.Writing.{makes}
 use Rattle.laws_hint.specs.MapChanges.{marked}
 use Rattle.laws_operation.proofs.grow.Laws.{claims_keep_unclaimed_free}
 use Rattle.laws_operation.proofs.make.Laws.{make_places_its_pages, make_words_fit}
@@ -51,6 +52,7 @@ module _ (a b : Taped) (bits : List Bool) (f : Fid) (name : List ℕ) (moment le
       begun (record {
         writes = make_writes page leader;
         released = [];
+        exact = makes may.can;
         acts = (acts_of_each_operation (pack a) may.whole may.tidy).makes f name moment leader_at page_at may.can;
         some = first_front (claim_writes page_at page.label page.value) (claim_writes leader_at leader.label leader.value ++ []) (added a b) guarded.some;
         all = tt;
@@ -133,6 +135,7 @@ module _ (a b : Taped) (bits : List Bool) (f : Fid) (name : List ℕ) (moment le
           begun (record {
             writes = make_writes page leader;
             released = [];
+            exact = makes may.can;
             acts = (acts_of_each_operation (pack a) may.whole may.tidy).makes f name moment leader_at page_at may.can;
             some = some_first guarded.some;
             all = tt;
@@ -152,6 +155,7 @@ module _ (a b : Taped) (bits : List Bool) (f : Fid) (name : List ℕ) (moment le
           begun (record {
             writes = make_writes page leader;
             released = [];
+            exact = makes may.can;
             acts = (acts_of_each_operation (pack a) may.whole may.tidy).makes f name moment leader_at page_at may.can;
             some = some_first guarded.some;
             all = all;

@@ -12,6 +12,7 @@ use Rattle.pack_model.specs.operations.Step.{Operation}
 use Rattle.pack_model.specs.reading.Model.{read_as}
 use Rattle.pack_model.specs.states.Whole.{Tidy, Whole}
 use Rattle.laws_call.specs.Acting.{Acts, Around}
+use Rattle.laws_call.specs.Writing.{Written}
 use Rattle.laws_operation.specs.FileWords.{CanMake}
 
 -- the machine, the bits of the table and the tally, before or after a call
@@ -31,6 +32,7 @@ pub record MayBeMade (p : Pack) (f : Fid) (name : List ℕ) (leader_at page_at :
 -- ---- one value
 -- The operation is these record writes, of which there is one, which commits it; they claim and release nothing.
 pub record IsOneValue (p : Pack) (o : Operation) (writes : List Event) : Type 0 where
+  pub exact : Written p o [] [] writes
   pub acts : Acts p o [] [] writes
   pub moves : moves_of (read_as p) o ≡ one_move o
 

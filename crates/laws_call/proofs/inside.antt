@@ -1,4 +1,6 @@
 pub mod Acting
 pub mod Counting
 pub mod Going
+pub mod Knowing
 pub mod SoundCalls
+pub mod Writing

@@ -11,6 +11,7 @@ use Rattle.pack_model.specs.operations.Operations.{release_file_writes}
 use Rattle.pack_model.specs.operations.Step.{Operation}
 use Rattle.pack_model.specs.reading.Model.{read_as}
 use Rattle.pack_model.specs.sessions.Tallies.{CountsMoves}
+use Rattle.laws_call.specs.Writing.{Written}
 use Rattle.laws_hint.specs.MapChanges.{MarksMap, marked}
 use Rattle.laws_line.specs.CutLaws.{StaysMendable}
 use Rattle.laws_operation.specs.FreeLaws.{StayFreeBut}
@@ -43,12 +44,13 @@ pub record IsQuiet (old new : Around) : Type 0 where
   pub bits : new.bits ≡ old.bits
   pub tally : new.tally ≡ old.tally
 
--- The call began to write. For every answer its record writes are some first ones of the operation's, and those that were made are counted.
--- At Ok they are all of them, and the table has the sectors that were claimed as busy, and those that were released as free. Out of memory
+-- The call began to write, with these record writes of the operation, in the words of `pack_model`. For every answer those that it made are
+-- some first ones of them, and are counted. At Ok they are all of them, and the table has the sectors that were claimed as busy, and those that were released as free. Out of memory
 -- comes only if fewer events were kept ready than the operation has record writes.
 pub record Begun {T E : Type 0} (fault memory : E) (o : Operation) (claimed : List ℕ) (old new : Around) (result : Result T E) : Type 0 where
   pub writes : List Event
   pub released : List ℕ
+  pub exact : Written (pack old.tape) o claimed released writes
   pub acts : Acts (pack old.tape) o claimed released writes
   pub some : IsFirstOf writes (added old.tape new.tape)
   pub all : OnOk result (added old.tape new.tape ≡ writes)
@@ -56,9 +58,9 @@ pub record Begun {T E : Type 0} (fault memory : E) (o : Operation) (claimed : Li
   pub counts : CountsMoves fault old.tape new.tape (take (length (added old.tape new.tape)) (moves_of (read_as (pack old.tape)) o)) old.tally new.tally result
   pub out_of_memory : IsErrOf result memory → old.tape.spare < length writes
 
--- For every answer: it wrote nothing, counted nothing and isn't Ok; or it began.
+-- For every answer: it wrote nothing, counted nothing, and is neither Ok nor out of memory; or it began.
 pub data Operates {T E : Type 0} (fault memory : E) (o : Operation) (claimed : List ℕ) (old new : Around) (result : Result T E) : Type 0 where
-  refused : IsQuiet old new → OnOk result ⊥ → Operates fault memory o claimed old new result
+  refused : IsQuiet old new → OnOk result ⊥ → (IsErrOf result memory → ⊥) → Operates fault memory o claimed old new result
   begun : Begun fault memory o claimed old new result → Operates fault memory o claimed old new result
 
 -- ---- a drop without the slot of its entry
@@ -75,5 +77,5 @@ pub record Released {T E : Type 0} (fault memory : E) (f : Fid) (old new : Aroun
   pub out_of_memory : IsErrOf result memory → old.tape.spare < length (release_file_writes at pages)
 
 pub data Releases {T E : Type 0} (fault memory : E) (f : Fid) (old new : Around) (result : Result T E) : Type 0 where
-  unreleased : IsQuiet old new → OnOk result ⊥ → Releases fault memory f old new result
+  unreleased : IsQuiet old new → OnOk result ⊥ → (IsErrOf result memory → ⊥) → Releases fault memory f old new result
   releasing : Released fault memory f old new result → Releases fault memory f old new result

@@ -4,3 +4,5 @@ pub mod CountLaws
 pub mod Going
 pub mod GoingLaws
 pub mod SoundCalls
+pub mod Writing
+pub mod WritingLaws

@@ -12,3 +12,4 @@ pub mod acting;
 pub mod counts;
 pub mod going;
 pub mod sound;
+pub mod writing;

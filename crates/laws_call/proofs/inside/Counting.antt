@@ -20,7 +20,7 @@ limit_stays w (commits o ∷ moves) t = limit_stays (suc w) moves (took_effect (
 limit_stays w (mends m ∷ moves) t = limit_stays (suc w) moves t
 
 pub call_is_counted : (T E : Type 0) → CallIsCounted T E
-call_is_counted T E w t moves fault memory o claimed old new result low so_far (refused calm bad) tells =
+call_is_counted T E w t moves fault memory o claimed old new result low so_far (refused calm bad rich) tells =
     calm.tally ∙ so_far.tally
     ∙ ap (λ l. counted w l t) (sym (append-nil moves) ∙ ap (λ events. moves ++ take (length events) (moves_of (read_as (pack old.tape)) o)) (sym calm.silent))
 call_is_counted T E w t moves fault memory o claimed old new result low so_far (begun b) tells =

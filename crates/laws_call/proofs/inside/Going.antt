@@ -78,7 +78,7 @@ pub operation_joins : (T U E F : Type 0) → OperationJoins T U E F
 operation_joins T U E F p ops events x o writes some result first none stays prefix all = then_one first o writes some result (alone none stays) prefix all
 
 pub call_joins : (T U E F : Type 0) → CallJoins T U E F
-call_joins T U E F p ops events x fault memory o claimed old new result first same none (refused quiet bad) = record {
+call_joins T U E F p ops events x fault memory o claimed old new result first same none (refused quiet bad rich) = record {
   begun = ops;
   start = start_front ops (o ∷ []);
   writes = events;
@@ -104,7 +104,7 @@ serial_and_make_join T U E F p ops events x f name moment at last writes first p
   where
     by : {fault memory : E} {claimed : List ℕ} (old new : Around) (result : Result T E) → pack old.tape ≡ with_serial (after p events) at last → Operates fault memory (make f name moment) claimed old new result
         → Goes p (ops ++ make f name moment ∷ []) (events ++ (serial_writes at last (sector_at (after p events) at).value ++ added old.tape new.tape)) result
-    by old new result same (refused quiet bad) =
+    by old new result same (refused quiet bad rich) =
         then_one first (make f name moment) (serial_writes at last (sector_at (after p events) at).value ++ writes) _ result (made placed above stays)
         (first_then (serial_writes at last (sector_at (after p events) at).value) writes (serial_writes at last (sector_at (after p events) at).value) (added old.tape new.tape) refl (subst (IsFirstOf writes) (sym quiet.silent) tt))
         (never_ok (serial_writes at last (sector_at (after p events) at).value ++ added old.tape new.tape ≡ serial_writes at last (sector_at (after p events) at).value ++ writes) result bad)

@@ -1,0 +1,13 @@
+//! The record writes of an operation as `pack_model` has them: that they act as it, and what stays known over them.
+
+ghost use Rattle.laws_call.specs.WritingLaws.{WrittenActs, WrittenStaysKnown};
+
+/// On a whole and tidy pack all record writes of an operation act as it.
+pub fn written_acts()
+    ensures { WrittenActs }
+{}
+
+/// They leave all other files and the leader of the file that is written, mislead no hint that didn't mislead, and release no free sector.
+pub fn written_stays_known()
+    ensures { WrittenStaysKnown }
+{}
