@@ -1,0 +1,2 @@
+pub mod Guards
+mod inside
