@@ -1,0 +1,5 @@
+pub mod CutLaws
+pub mod FoundLaws
+pub mod LineHintLaws
+pub mod LoopLaws
+pub mod RoomLaws

@@ -1,0 +1,36 @@
+-- What stays known of the sectors to come midway in a call's own loop.
+use Rattle.std.specs.Prelude.{All, List, drop, length, take, ℕ, ◌+◌, ◌≡◌, ◌≢◌, ◌≤◌}
+use Rattle.alto_words.specs.declared.fid.Fid.{Fid}
+use Rattle.disk_records.specs.Commands.{relabel_writes}
+use Rattle.disk_records.specs.Packs.{Pack, after, sector_at}
+use Rattle.disk_records.specs.declared.records.Event.{Event}
+use Rattle.laws_hint.specs.MapMeanings.{HasEachSector}
+use Rattle.laws_operation.specs.ByteLaws.{Bear}
+use Rattle.pack_model.specs.operations.Commands.{Claim, all_claimed, claims_writes, releases_writes, sectors_of}
+use Rattle.pack_model.specs.reading.Sights.{sights}
+
+-- ---- releases, and claims
+-- the sector is none of these
+abbrev pub IsApart : ℕ → List ℕ → Type 0
+IsApart i ats = All (λ at. i ≢ at) ats
+
+-- on any pack releases leave each sector that isn't one of theirs
+abbrev pub ReleasesLeaveOtherSectors : Type 0
+ReleasesLeaveOtherSectors = (p : Pack) (ats : List ℕ) (i : ℕ) → IsApart i ats → sector_at (after p (releases_writes ats)) i ≡ sector_at p i
+
+-- on any pack, once the first k pages of a row that begins with page n are released, the rest bear theirs still
+abbrev pub ReleasesLeaveTheRest : Type 0
+ReleasesLeaveTheRest = (p : Pack) (f : Fid) (n k : ℕ) (pages : List ℕ) → Bear (sights p) f n pages → k ≤ length pages → Bear (sights (after p (releases_writes (take k pages)))) f (n + k) (drop k pages)
+
+-- on any pack claims leave each sector that isn't one of theirs
+abbrev pub ClaimsLeaveOtherSectors : Type 0
+ClaimsLeaveOtherSectors = (p : Pack) (claims : List Claim) (i : ℕ) → IsApart i (sectors_of (all_claimed claims)) → sector_at (after p (claims_writes claims)) i ≡ sector_at p i
+
+-- and another label with a value leaves each other sector
+abbrev pub RelabelLeavesOtherSectors : Type 0
+RelabelLeavesOtherSectors = (p : Pack) (at i : ℕ) (label value : List ℕ) → i ≢ at → sector_at (after p (relabel_writes at label value)) i ≡ sector_at p i
+
+-- ---- any events
+-- a pack with a sector for each address of its shape has one after them
+abbrev pub EachSectorStays : Type 0
+EachSectorStays = (p : Pack) (events : List Event) → HasEachSector p → HasEachSector (after p events)

@@ -1,0 +1,16 @@
+//! Midway in a call: what it knows of sectors, slots, files and hints while it works, before its next step.
+//!
+//! The laws of loops: releases, claims and a relabelling leave the sectors that come later, and a pack keeps a sector for each address;
+//! what a cut wants is there. The laws of a walk over a directory: room and the most free words, slot by slot.
+//!
+//! The laws of what was found: its file lives, its entry is the first with its name and may go, and two entries stand apart. The laws of a
+//! line: a hint that misleads in the middle of it misled as it began.
+//!
+//! To cite a law: `use Rattle.laws_midway.proofs.found.Laws.{found_file_lives}`.
+#![tactic(auto)]
+
+pub mod cutting;
+pub mod found;
+pub mod lines;
+pub mod loops;
+pub mod rooms;

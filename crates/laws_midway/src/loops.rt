@@ -1,0 +1,28 @@
+//! What stays known of the sectors to come midway in a call's own loop.
+
+ghost use Rattle.laws_midway.specs.LoopLaws.{ClaimsLeaveOtherSectors, EachSectorStays, RelabelLeavesOtherSectors, ReleasesLeaveOtherSectors, ReleasesLeaveTheRest};
+
+/// Releases leave each sector that isn't one of theirs.
+pub fn releases_leave_other_sectors()
+    ensures { ReleasesLeaveOtherSectors }
+{}
+
+/// Once the first pages of a row are released, the rest bear theirs still.
+pub fn releases_leave_the_rest()
+    ensures { ReleasesLeaveTheRest }
+{}
+
+/// Claims leave each sector that isn't one of theirs.
+pub fn claims_leave_other_sectors()
+    ensures { ClaimsLeaveOtherSectors }
+{}
+
+/// Another label and a value leave each other sector.
+pub fn relabel_leaves_other_sectors()
+    ensures { RelabelLeavesOtherSectors }
+{}
+
+/// A pack with a sector for each address has one after any events.
+pub fn each_sector_stays()
+    ensures { EachSectorStays }
+{}
