@@ -5,4 +5,5 @@ pub mod Founding
 pub mod FreeRuns
 pub mod Lining
 pub mod Looping
+pub mod Made
 pub mod MostWords

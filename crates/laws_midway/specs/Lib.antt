@@ -2,4 +2,5 @@ pub mod CutLaws
 pub mod FoundLaws
 pub mod LineHintLaws
 pub mod LoopLaws
+pub mod MadeLaws
 pub mod RoomLaws

@@ -3,8 +3,8 @@
 //! The laws of loops: releases, claims and a relabelling leave the sectors that come later, and a pack keeps a sector for each address;
 //! what a cut wants is there. The laws of a walk over a directory: room and the most free words, slot by slot.
 //!
-//! The laws of what was found: its file lives, its entry is the first with its name and may go, and two entries stand apart. The laws of a
-//! line: a hint that misleads in the middle of it misled as it began.
+//! The laws of what was found: its file lives, its entry is the first with its name and may go, and two entries stand apart. The laws of
+//! hints: one that misleads in the middle of a line misled as it began, and those of a new file are handy.
 //!
 //! To cite a law: `use Rattle.laws_midway.proofs.found.Laws.{found_file_lives}`.
 #![tactic(auto)]
@@ -13,4 +13,5 @@ pub mod cutting;
 pub mod found;
 pub mod lines;
 pub mod loops;
+pub mod made;
 pub mod rooms;
