@@ -24,9 +24,14 @@ pub record BreaksOff (p : Pack) (s : State) (cue : Cue) (events : List Event) : 
   pub made : Turn Move
   pub turn : BrokenTurn aloud p s cue events made
 
+-- One whose text broke off has made all its moves.
+pub record TextBreaks (p : Pack) (s : State) (cue : Cue) (events : List Event) : Type 0 where
+  pub broke : BreaksOff p s cue events
+  pub all : broke.made.ops ≡ broke.turn.wanted.ops
+
 -- a prefix of it is
 abbrev pub TextBreaksOff : Type 0
-TextBreaksOff = (p : Pack) (s : State) (cue : Cue) (wrote shown : List Event) (made : Turn Move) (u : State) → s.over ≡ false → Obeys session s.model p wrote made.ops → TurnMade p s cue wrote made u → IsFirstOf (shown_events made.text) shown → BreaksOff p s cue (wrote ++ shown)
+TextBreaksOff = (p : Pack) (s : State) (cue : Cue) (wrote shown : List Event) (made : Turn Move) (u : State) → s.over ≡ false → Obeys session s.model p wrote made.ops → TurnMade p s cue wrote made u → IsFirstOf (shown_events made.text) shown → TextBreaks p s cue (wrote ++ shown)
 
 -- a fault, or out of memory, before there is a text
 abbrev pub CallBreaksOff : Type 0
@@ -42,11 +47,11 @@ HasText reply.Scavenge = ⊥
 HasText reply.DiskFault = ⊥
 HasText reply.Memory = ⊥
 
--- What comes of an answer: with a text, a whole turn once all of it is shown, and one that broke off where a prefix is; with a fault or out
--- of memory, one that broke off.
+-- What comes of an answer: with a text, a whole turn once all of it is shown, and one that broke off after all its moves where a prefix is;
+-- with a fault or out of memory, one that broke off.
 pub record AnswerTurns (p : Pack) (s : State) (cue : Cue) (wrote : List Event) (r : Reply) (u : State) (moves : List Move) : Type 0 where
   pub whole : HasText r → WholeTurn aloud p s cue (wrote ++ shown_events (reply_text r)) (turn_of moves (reply_text r)) u
-  pub cut_short : HasText r → (shown : List Event) → IsFirstOf (shown_events (reply_text r)) shown → BreaksOff p s cue (wrote ++ shown)
+  pub cut_short : HasText r → (shown : List Event) → IsFirstOf (shown_events (reply_text r)) shown → TextBreaks p s cue (wrote ++ shown)
   pub fault : r ≡ reply.DiskFault → BreaksOff p s cue wrote
   pub memory : r ≡ reply.Memory → BreaksOff p s cue wrote
 

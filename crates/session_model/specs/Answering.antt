@@ -27,8 +27,9 @@ use Rattle.session_model.specs.Finding.{the_file}
 use Rattle.session_model.specs.Streams.{bytes_in}
 use Rattle.session_model.specs.Worlds.{World}
 use Rattle.session_model.specs.Replies.{refusal as refusal_to, reply_to}
-use Rattle.session_model.specs.Turning.{State, Cue, typed, ended, TurnKind, plain, failed, scavenged, TurnMade, turn_of, cue_moves, asks_scavenge, is_quit}
+use Rattle.session_model.specs.Turning.{State, Cue, typed, ended, TurnKind, plain, failed, scavenged, TurnMade, turn_of, cue_line, cue_moves, cue_files, asks_scavenge, is_quit}
 use Rattle.session_model.specs.Keeping.{Kept, Keeping}
+use Rattle.session_model.specs.Bounds.{AllHandy, RunsWithin}
 
 -- ---- the reply is that of the kind of turn
 abbrev pub reply_unless : Option Refusal → Reply → Reply
@@ -85,15 +86,20 @@ IsAnswer reply.Scavenge = Unit {0}
 IsAnswer reply.DiskFault = ⊥
 IsAnswer reply.Memory = ⊥
 
--- a machine's count of record writes at its end tells no more which of a failed command's were made
+-- a count at its end rises no more: that of record writes no longer tells which of a failed command's were made
 abbrev pub count_end : ℕ
 count_end = 2 ^ 64 - 1
 
 abbrev pub TellsWrites : Reply → Taped → Type 0
 TellsWrites r new = r ≡ reply.DiskFault → new.writes < count_end
 
+-- the cache refused no address in the call
+abbrev pub NoneRefused : Kept → Kept → Type 0
+NoneRefused one two = (two.refused ≡ one.refused) × (one.refused < count_end)
+
 -- The call takes one turn, from a state for which what is kept was right, to one for which it is right again. The tally counts its
--- moves. Hints that were true stay true; and all are true where the session is over and needs no scavenge.
+-- moves. Hints that were true stay true; and all are true where the session is over and needs no scavenge. With handy hints it takes few
+-- sector commands, unless the cache refused an address.
 pub record TakesTurn (old new : Taped) (one two : Kept) (s : State) (cue : Cue) (r : Reply) : Type 0 where
   pub state : State
   pub answered : Answered (pack old) s cue (added old new) r state
@@ -102,6 +108,7 @@ pub record TakesTurn (old new : Taped) (one two : Kept) (s : State) (cue : Cue) 
   pub tally : TellsWrites r new → two.tally ≡ counted old.writes answered.moves one.tally
   pub truthful : Truthful (pack old) one.busy → IsAnswer r → state.over ≡ false → Truthful (pack new) two.busy
   pub closed : Truthful (pack old) one.busy → IsAnswer r → state.over ≡ true → state.world.need ≡ false → HintsTrue (pack new)
+  pub quick : AllHandy (pack old) one.busy one.cache (cue_files s cue) → NoneRefused one two → RunsWithin (pack old) s.model (cue_line cue) r (new.runs - old.runs)
 
 -- from every state for which what is kept is right
 abbrev pub TakesTurns : Taped → Taped → Kept → Kept → Cue → Reply → Type 0
@@ -123,11 +130,13 @@ IsNoText reply.Scavenge = ⊥
 IsNoText reply.DiskFault = Unit {0}
 IsNoText reply.Memory = Unit {0}
 
--- The line isn't refused, nothing is written, and the session stands as it did.
-pub record ReadsOnly (old new : Taped) (two : Kept) (s : State) (l : Line) : Type 0 where
+-- The line isn't refused, nothing is written or counted, and the session stands as it did; hints that were true stay true.
+pub record ReadsOnly (old new : Taped) (one two : Kept) (s : State) (l : Line) : Type 0 where
   pub unrefused : refusal_to l s.model s.world ≡ None
   pub unwritten : added old new ≡ []
   pub keeping : Keeping (pack new) two s
+  pub tally : two.tally ≡ one.tally
+  pub truthful : Truthful (pack old) one.busy → Truthful (pack new) two.busy
 
 -- the file that a line reads whole: `inload` that of a world, `type` any
 abbrev pub file_read : Model → Line → Fid
@@ -140,10 +149,10 @@ bytes_read s l = bytes_in s.model (file_read s.model l)
 
 -- the level and the memory of a world's file
 abbrev pub SavedBy : Taped → Taped → Kept → Kept → State → Line → Result (ℕ × List ℕ) Reply → Type 0
-SavedBy old new one two s l (Ok saved) = ReadsOnly old new two s l × (saved.0 ∷ saved.1 ≡ drop 1 (words_of (bytes_read s l)))
+SavedBy old new one two s l (Ok saved) = ReadsOnly old new one two s l × (saved.0 ∷ saved.1 ≡ drop 1 (words_of (bytes_read s l)))
 SavedBy old new one two s l (Err r) = IsNoText r × TakesTurn old new one two s (typed l) r
 
 -- the bytes of a file
 abbrev pub ContentsBy : Taped → Taped → Kept → Kept → State → Line → Result (List ℕ) Reply → Type 0
-ContentsBy old new one two s l (Ok bytes) = ReadsOnly old new two s l × (bytes ≡ bytes_read s l)
+ContentsBy old new one two s l (Ok bytes) = ReadsOnly old new one two s l × (bytes ≡ bytes_read s l)
 ContentsBy old new one two s l (Err r) = IsNoText r × TakesTurn old new one two s (typed l) r

@@ -24,7 +24,7 @@ use Rattle.world_model.specs.Levels.{all_levels, level_kept}
 use Rattle.world_model.specs.StateFiles.{mark_whole, mark_begun, message_bytes}
 use Rattle.session_model.specs.Finding.{entries_of, the_file, the_dir, dir_of, is_there, own_name, name_given}
 use Rattle.session_model.specs.Streams.{Stream, new_stream, bytes_in, puts, grows, stream_length, next_bytes, flush_ops, flushed_at, put_ops, put_stream, close_ops, closing_ops, free_number}
-use Rattle.session_model.specs.Worlds.{World, memory_word, with_zone, with_word, junta_world, full_world, world_bytes, loaded_world, the_stream, stream_to, stream_gone}
+use Rattle.session_model.specs.Worlds.{World, memory_word, world_with_zone, with_word, junta_world, full_world, world_bytes, loaded_world, the_stream, stream_to, stream_gone}
 
 pub record Effect : Type 0 where
   pub ops : List Operation
@@ -130,7 +130,7 @@ close_effect m w s = does (stream_gone w s) (close_ops w.moment m s) (length_tex
 -- ---- the memory; a line without its block, or its word, is refused
 abbrev pub block_effect : World → Option Taken → Effect
 block_effect w None = says w []
-block_effect w (Some t) = says (with_zone w t.blocks) (at_text t.at)
+block_effect w (Some t) = says (world_with_zone w t.blocks) (at_text t.at)
 
 -- ---- the end of a session closes its streams, and does nothing if a scavenge is needed
 abbrev pub ending_ops : Model → World → List Operation
@@ -163,7 +163,7 @@ effect (line.Close stream) m w = close_effect m w (the_stream stream w)
 effect (line.Store at word) m w = says (with_word w at word) done_text
 effect (line.Fetch at) m w = says w (word_text (unwrap_or (memory_word w at) 0))
 effect (line.Block n) m w = block_effect w (taken zone_start (size_for n) w.zone)
-effect (line.Unblock at) m w = says (with_zone w (unwrap_or (given_back zone_start at w.zone) [])) done_text
+effect (line.Unblock at) m w = says (world_with_zone w (unwrap_or (given_back zone_start at w.zone) [])) done_text
 effect (line.Junta level) m w = says (junta_world w level) (level_text (level_kept w.level level))
 effect line.CounterJunta m w = says (full_world w) (level_text all_levels)
 effect (line.OutLoad path) m w = does w (outload_ops m w path) written_text

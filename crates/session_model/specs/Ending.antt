@@ -16,17 +16,16 @@ use Rattle.pack_model.specs.sessions.Moves.{IsStartOf}
 use Rattle.pack_model.specs.sessions.Tallies.{no_tally, counted}
 use Rattle.pack_model.specs.sessions.Turns.{Turn, CutAt, ops_of, texts_of}
 use Rattle.pack_model.specs.states.Sound.{Sound, Clean}
-use Rattle.exec_words.specs.Built.{as_built}
 use Rattle.exec_words.specs.Grammar.{line_in}
-use Rattle.session_model.specs.Turning.{State, Cue, typed, ended, opening, HintFailing, hint_text}
-use Rattle.session_model.specs.Histories.{HistoryOf, aloud, broken_text, NoneFailedIn, ShowsRuled}
+use Rattle.session_model.specs.Turning.{State, Cue, typed, ended, cue_for, opening, HintFailing, hint_text}
+use Rattle.session_model.specs.Histories.{HistoryOf, aloud, broken_text, MadeAll, NoneFailedIn, ShowsRuled}
 use Rattle.session_model.specs.Answering.{count_end}
-use Rattle.session_model.specs.Opening.{system_files}
+use Rattle.session_model.specs.Opening.{Unready, no_root, no_descriptor, wrong_length, bad_descriptor, not_clean, unready, unready_text, system_files}
 
 -- ---- what is typed
--- a text as a line of this program: a bad line if its verb isn't built yet
+-- a text as a line of this program
 abbrev pub cue_of : List ℕ → Cue
-cue_of text = typed (as_built (line_in text))
+cue_of text = cue_for (line_in text)
 
 -- each line in order, and then the end of the keys
 abbrev pub cues_of : List ℕ → List Cue
@@ -69,7 +68,7 @@ pub record TookKeys (old new : Taped) (stop : Stop) (cues : List Cue) : Type 0 w
 
 -- ---- a session on a pack that opened
 -- Its history is over a prefix of what is typed, and shows its texts; of a turn that broke off some text is shown only where the display
--- failed. Its tally counts the history from the limit that was given. Each crash point stands for the model, and shows it, as the
+-- failed, and all moves are made there. Its tally counts the history from the limit that was given. Each crash point stands for the model, and shows it, as the
 -- ruler says.
 pub record SessionOf (moment : ℕ) (old new : Taped) (given tally : Tally) (stop : Stop) (end : Option State) : Type 0 where
   pub cues : List Cue
@@ -78,6 +77,7 @@ pub record SessionOf (moment : ℕ) (old new : Taped) (given tally : Tally) (sto
   pub first : IsStartOf cues (cues_of old.keys)
   pub keys : TookKeys old new stop cues
   pub silent : stop ≢ display_failed → broken_text history ≡ []
+  pub shows : stop ≡ display_failed → MadeAll history
   pub shown : shown_bytes (added old new) ≡ texts_of turns
   pub tally_is : (stop ≡ disk_failed → suc new.writes ≤ count_end) → tally ≡ counted old.writes (ops_of turns) (no_tally given.limit)
   pub cuts : (k : ℕ) → CutAt weight_of session (read_as (pack old)) (pack old) (added old new) turns k
@@ -113,8 +113,8 @@ EndsBy display_failed old new end = end ≡ None
 EndsBy keys_failed old new end = GoesOn end
 EndsBy no_memory old new end = Unit {0}
 
--- ---- on a sound and clean pack
--- the whole text, or a prefix of it where the display failed
+-- ---- one text instead of a session
+-- all of it, or a prefix of it where the display failed
 abbrev pub ShowsWhy : Stop → List ℕ → List Event → Type 0
 ShowsWhy needs_scavenge text events = events ≡ shown_events text
 ShowsWhy display_failed text events = IsFirstOf (shown_events text) events
@@ -135,6 +135,25 @@ CanStop keys_failed = ⊥
 pub record NotBegun (old new : Taped) (given tally : Tally) : Type 0 where
   pub keys : new.keys ≡ old.keys
   pub tally_is : tally ≡ no_tally given.limit
+
+-- past the label in sector 1 a hint may mislead before a reason is found
+abbrev pub IsPastRoot : Unready → Type 0
+IsPastRoot (no_root found) = ⊥
+IsPastRoot no_descriptor = Unit {0}
+IsPastRoot (wrong_length size) = Unit {0}
+IsPastRoot (bad_descriptor n found) = Unit {0}
+IsPastRoot (not_clean mark) = Unit {0}
+
+-- A pack that isn't ready: the one text says why, or which hint misled on the way. Or a fault or out of memory came before either, and
+-- nothing is shown or written.
+pub data Unentered (old new : Taped) (stop : Stop) (u : Unready) : Type 0 where
+  told : ShowsWhy stop (unready_text u) (added old new) → Unentered old new stop u
+  misled : {place : Place} {at : ℕ} {wanted : Page} {found : Option (List ℕ)} → IsPastRoot u → HintFailing (pack old) [] system_files place at wanted found → ShowsWhy stop (hint_text place at wanted found) (added old new) → Unentered old new stop u
+  stopped : CanStop stop → added old new ≡ [] → Unentered old new stop u
+
+-- of a pack that carries no page twice, whether it is sound or not
+abbrev pub NotEntered : Taped → Taped → Tally → Tally → Stop → Type 0
+NotEntered old new given tally stop = (u : Unready) → unready (pack old) ≡ Some u → Unentered old new stop u × NotBegun old new given tally
 
 -- The pack opened, and this is the session. Or a hint misled on the way to a system file, and the one text says which. Or a fault or
 -- out of memory came before either, and nothing is shown or written.

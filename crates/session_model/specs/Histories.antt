@@ -60,7 +60,12 @@ silently text = []
 -- what a turn that broke off has shown; nothing where none did
 abbrev pub broken_text : {says : List ℕ → List ℕ} {p : Pack} {s : State} {events : List Event} {cues : List Cue} {turns : List (Turn Move)} {end : Option State} → HistoryOf says p s events cues turns end → List ℕ
 broken_text (whole h) = []
-broken_text (broken {made = made} h turn) = made.text
+broken_text {says = says} (broken {made = made} h turn) = says made.text
+
+-- the turn that broke off has made all its moves, if one did
+abbrev pub MadeAll : {says : List ℕ → List ℕ} {p : Pack} {s : State} {events : List Event} {cues : List Cue} {turns : List (Turn Move)} {end : Option State} → HistoryOf says p s events cues turns end → Type 0
+MadeAll (whole h) = Unit {0}
+MadeAll (broken {made = made} h turn) = made.ops ≡ turn.wanted.ops
 
 -- ---- the model after so many operations
 -- the moves before operation j + 1, with the ends of scavenges that stand there

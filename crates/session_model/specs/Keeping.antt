@@ -37,8 +37,8 @@ pub record OpenFile : Type 0 where
   pub pending : List ℕ
   pub put : Bool
 
--- DiskDescriptor's shape, last serial, mark and sectors; the table of busy bits and the cache of addresses; the tally; the moment, the
--- level and the memory; the open streams; whether a scavenge is needed.
+-- DiskDescriptor's shape, last serial, mark and sectors; the table of busy bits and the cache of addresses, and how many addresses it
+-- refused; the tally; the moment, the level and the memory; the open streams; whether a scavenge is needed.
 pub record Kept : Type 0 where
   pub shape : Shape
   pub last : ℕ
@@ -46,6 +46,7 @@ pub record Kept : Type 0 where
   pub pages : List ℕ
   pub busy : List Bool
   pub cache : List CachedAt
+  pub refused : ℕ
   pub tally : Tally
   pub moment : ℕ
   pub level : ℕ

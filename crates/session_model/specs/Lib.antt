@@ -9,6 +9,7 @@ pub mod Touched
 pub mod Turning
 pub mod Histories
 pub mod Keeping
+pub mod Bounds
 pub mod Answering
 pub mod Opening
 pub mod Ending

@@ -56,8 +56,8 @@ abbrev pub descriptor_bytes : Pack → List ℕ
 descriptor_bytes p = file_bytes (sights p) disk_descriptor
 
 -- a word of DiskDescriptor, and what the shape says it is
-abbrev pub says : Pack → ℕ → ℕ → Option Unready
-says p n expected = unless_so (word (descriptor_words (sights p)) n == expected) (bad_descriptor n (word (descriptor_words (sights p)) n))
+abbrev pub shape_word : Pack → ℕ → ℕ → Option Unready
+shape_word p n expected = unless_so (word (descriptor_words (sights p)) n == expected) (bad_descriptor n (word (descriptor_words (sights p)) n))
 
 -- in the order in which they are made
 abbrev pub unready_tests : Pack → List (Option Unready)
@@ -65,11 +65,11 @@ unready_tests p =
     unless_so (is_root (carried p 1)) (no_root (label_found p 1))
     ∷ unless_so (is_descriptor (descriptor_entry p)) no_descriptor
     ∷ unless_so (length (descriptor_bytes p) == descriptor_length p.shape) (wrong_length (length (descriptor_bytes p)))
-    ∷ says p 0 (disks_of p.shape)
-    ∷ says p 1 (cylinders_of p.shape)
-    ∷ says p 2 2
-    ∷ says p 3 12
-    ∷ says p 8 (table_words p.shape)
+    ∷ shape_word p 0 (disks_of p.shape)
+    ∷ shape_word p 1 (cylinders_of p.shape)
+    ∷ shape_word p 2 2
+    ∷ shape_word p 3 12
+    ∷ shape_word p 8 (table_words p.shape)
     ∷ unless_so (mark_of (sights p) == mark_clean) (not_clean (mark_of (sights p)))
     ∷ []
 
@@ -100,8 +100,9 @@ pub record Begun (p : Pack) (k : Kept) (moment limit : ℕ) : Type 0 where
 abbrev pub goes_on : Pack → State → State
 goes_on p s = record { model = read_as p; world = mended_world s.world; over = false }
 
--- After a scavenge that a session asked for: the world stays, the tally too, and every hint is true.
+-- After a scavenge that a session asked for: the world stays, the tally too, every hint is true, and no address is kept.
 pub record Renewed (p : Pack) (one two : Kept) : Type 0 where
   pub keeping : (s : State) → s.world ≡ world_of one → s.world.streams ≡ [] → Keeping p two (goes_on p s)
   pub tally : two.tally ≡ one.tally
   pub truthful : Truthful p two.busy
+  pub cache : two.cache ≡ []

@@ -19,6 +19,7 @@ use Rattle.pack_model.specs.sessions.Descriptor.{ending_moves}
 use Rattle.pack_model.specs.sessions.Meanings.{session}
 use Rattle.pack_model.specs.sessions.Moves.{IsStartOf, steps}
 use Rattle.pack_model.specs.sessions.Turns.{Turn}
+use Rattle.exec_words.specs.Built.{as_built}
 use Rattle.exec_words.specs.declared.line.Line.{Line}
 use Rattle.exec_words.specs.declared.line.Line.TheVariants as line
 use Rattle.exec_words.specs.declared.reply.Refusal.TheVariants as refusal
@@ -47,6 +48,10 @@ pub record StandsOn (p : Pack) (s : State) : Type 0 where
 pub data Cue : Type 0 where
   typed : Line → Cue
   ended : Cue
+
+-- what a line is to a session of this program: a bad line if its verb isn't built yet
+abbrev pub cue_for : Line → Cue
+cue_for l = typed (as_built l)
 
 abbrev pub cue_line : Cue → Line
 cue_line (typed l) = l

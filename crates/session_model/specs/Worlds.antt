@@ -39,11 +39,11 @@ memory_words w = memory_of (level_base w.level) w.user w.zone
 abbrev pub memory_word : World → ℕ → Option ℕ
 memory_word w at = cond (nat_lt at zone_start) (Some (word w.user at)) (zone_word zone_start at w.zone)
 
-abbrev pub with_zone : World → List Block → World
-with_zone w zone = record w { zone = zone }
+abbrev pub world_with_zone : World → List Block → World
+world_with_zone w zone = record w { zone = zone }
 
 abbrev pub with_word : World → ℕ → ℕ → World
-with_word w at x = cond (nat_le zone_start at) (with_zone w (zone_set zone_start at x w.zone)) (record w { user = set w.user at x })
+with_word w at x = cond (nat_le zone_start at) (world_with_zone w (zone_set zone_start at x w.zone)) (record w { user = set w.user at x })
 
 -- ---- levels
 abbrev pub junta_world : World → ℕ → World

@@ -12,7 +12,7 @@ use Rattle.world_model.specs.Zones.{Block, gap, live}
 use Rattle.exec_words.specs.declared.reply.Refusal.TheVariants as refusal
 use Rattle.session_model.specs.Refusals.{by_world}
 use Rattle.session_model.specs.Replies.{reply_to, ops, next}
-use Rattle.session_model.specs.Worlds.{World, with_zone, failed_world}
+use Rattle.session_model.specs.Worlds.{World, world_with_zone, failed_world}
 use Rattle.session_vectors.proofs.Models.{m0, all_0, ma, root_is, a_is, all_is, w, w_with, stream, a_path, a_file, abc, five}
 
 -- ---- blocks
@@ -20,10 +20,10 @@ abbrev one_block : List ℕ → List Block
 one_block words = live words ∷ gap 39834 ∷ []
 
 abbrev w1 : World
-w1 = with_zone w (one_block (replicate 101 0))
+w1 = world_with_zone w (one_block (replicate 101 0))
 
 abbrev w2 : World
-w2 = with_zone w (one_block (7 ∷ replicate 100 0))
+w2 = world_with_zone w (one_block (7 ∷ replicate 100 0))
 
 block_100 : reply_to (line.Block 100) m0 w ≡ codes "at 1025\n"
 unfolding first digits level_base

@@ -30,15 +30,18 @@ pub text_breaks_off : TextBreaksOff
 text_breaks_off p s cue wrote shown made u goes_on each finished first =
     let l = shown_first made.text shown first in
     record {
-      made = record { ops = made.ops; text = l.some; counts = false };
-      turn = record {
-        run = record { goes_on = goes_on; wrote = wrote; each = each; split = ap (λ e. wrote ++ e) l.are };
-        wanted = made;
-        world = u.world;
-        over = u.over;
-        kind = finished.kind;
-        off = record { start = start_self made.ops; text = l.start; later = λ h. refl; uncounted = refl };
+      broke = record {
+        made = record { ops = made.ops; text = l.some; counts = false };
+        turn = record {
+          run = record { goes_on = goes_on; wrote = wrote; each = each; split = ap (λ e. wrote ++ e) l.are };
+          wanted = made;
+          world = u.world;
+          over = u.over;
+          kind = finished.kind;
+          off = record { start = start_self made.ops; text = l.start; later = λ h. refl; uncounted = refl };
+        };
       };
+      all = refl;
     }
 
 -- ---- a fault, or out of memory, before there is a text

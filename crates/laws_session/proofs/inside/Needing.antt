@@ -19,7 +19,7 @@ use Rattle.session_model.specs.Effects.{effect, block_effect}
 use Rattle.session_model.specs.Histories.{IsUnfailed, LinksTrueThroughout, NoneFailed, TurnsOf, begun, then}
 use Rattle.session_model.specs.Replies.{unless_refused, refusal}
 use Rattle.session_model.specs.Turning.{State, Cue, cue_line, TurnKind, plain, failed, scavenged}
-use Rattle.session_model.specs.Worlds.{World, with_zone}
+use Rattle.session_model.specs.Worlds.{World, world_with_zone}
 use Rattle.laws_session.specs.EndLaws.{FullThroughout, LinesKeepNeed, NoneFailsWithTrueLinks}
 use Rattle.laws_session.proofs.inside.Standing.{turns_stand}
 
@@ -52,7 +52,7 @@ effect_need (line.Get stream count) m w = refl
 effect_need (line.PutBytes stream bytes) m w = refl
 effect_need (line.Seek stream to) m w = refl
 effect_need (line.Close stream) m w = refl
-effect_need (line.Store at word) m w = either_need w (with_zone w (zone_set zone_start at word w.zone)) (record w { user = set w.user at word }) (nat_le zone_start at) refl refl
+effect_need (line.Store at word) m w = either_need w (world_with_zone w (zone_set zone_start at word w.zone)) (record w { user = set w.user at word }) (nat_le zone_start at) refl refl
 effect_need (line.Fetch at) m w = refl
 effect_need (line.Block n) m w = block_need w (taken zone_start (size_for n) w.zone)
 effect_need (line.Unblock at) m w = refl
