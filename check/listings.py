@@ -239,6 +239,11 @@ LEADER_NAMES = [
         ["SysDir>A!2. length 0", "SysDir>A!65534. length 0", "2 files"],
     ),
     (
+        "versions of a name rise by their number, the bare name first",
+        [leader(5, A, b"A!10."), leader(6, B, b"A."), leader(7, C, b"A!2.")],
+        ["SysDir>A. length 0", "SysDir>A!2. length 0", "SysDir>A!10. length 0", "3 files"],
+    ),
+    (
         "a name of 39 characters with its version is read, and one of 40 is lost",
         [leader(5, A, b"N" * 36 + b"!2."), leader(6, ordinary(9), b"N" * 37 + b"!2.")],
         ["SysDir>Lost11. length 0", f"SysDir>{'N' * 36}!2. length 0", "2 files"],
