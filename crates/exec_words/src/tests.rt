@@ -210,6 +210,7 @@ fn lines_of_the_table(rt: HostRuntime) -> Result<(), Fail> {
         ("type A", "TypeOut newest A."),
         ("type A!1", "TypeOut exact A."),
         ("type #3", "TypeOut serial 3"),
+        ("type #0", "TypeOut serial 0"),
         ("stat D>A!2", "Stat in D. exact A!2."),
         ("stat #4294967295", "Stat serial 4294967295"),
         ("make A", "Make newest A."),
@@ -220,6 +221,7 @@ fn lines_of_the_table(rt: HostRuntime) -> Result<(), Fail> {
         ("patch #3 4294967295 -", "Patch serial 3 4294967295 -"),
         ("cut A 1000", "Cut newest A. 1000"),
         ("cut #3 0000000000", "Cut serial 3 0"),
+        ("cut A 4294967295", "Cut newest A. 4294967295"),
         ("copy #3 D>B", "Copy serial 3 in D. newest B."),
         ("copy A..!2 B", "Copy exact A.!2. newest B."),
         ("rename D>A D>B", "Rename in D. newest A. in D. newest B."),
@@ -227,19 +229,24 @@ fn lines_of_the_table(rt: HostRuntime) -> Result<(), Fail> {
         ("mkdir D", "MakeDir D."),
         ("rmdir SysDir.", "RemoveDir SysDir."),
         ("free", "Free"),
+        ("settime 0", "SetTime 0"),
         ("settime 4294967295", "SetTime 4294967295"),
         ("open A", "OpenStream newest A."),
         ("get 0 1", "Get 0 1"),
         ("get 7 1024", "Get 7 1024"),
         ("putb 0 414243", "PutBytes 0 414243"),
         ("putb 7 -", "PutBytes 7 -"),
+        ("seek 0 0", "Seek 0 0"),
         ("seek 7 4294967295", "Seek 7 4294967295"),
         ("close 0", "Close 0"),
+        ("close 7", "Close 7"),
         ("store 0 65535", "Store 0 65535"),
         ("store 65535 0", "Store 65535 0"),
+        ("fetch 0", "Fetch 0"),
         ("fetch 65535", "Fetch 65535"),
         ("block 1", "Block 1"),
         ("block 65535", "Block 65535"),
+        ("unblock 0", "Unblock 0"),
         ("unblock 65535", "Unblock 65535"),
         ("junta 1", "Junta 1"),
         ("junta 8", "Junta 8"),
@@ -297,6 +304,8 @@ fn lines_that_are_bad(rt: HostRuntime) -> Result<(), Fail> {
         "type A!0",
         "type A!02",
         "type A!65535",
+        "type A_B",
+        "type aaaaaaaaaaaaaaaaaaaaaaaaaaaaaaaaaaaaaaa",
         "make #3",
         "make",
         "make A B",
@@ -315,6 +324,7 @@ fn lines_that_are_bad(rt: HostRuntime) -> Result<(), Fail> {
         "cut A",
         "cut A x",
         "cut A 00000000001",
+        "cut A 4294967296",
         "copy A #3",
         "copy A",
         "rename A",
@@ -366,43 +376,54 @@ fn lines_that_are_bad(rt: HostRuntime) -> Result<(), Fail> {
 
 #[test]
 fn lines_of_many_bytes(rt: HostRuntime) -> Result<(), Fail> {
-    // The longest names: 38 letters and a `.`, which may be left out.
+    // What is written of the line before its bytes; nothing where it is bad. The longest names: 38 letters and a `.`, which may be left
+    // out.
     let rows = [
-        ("append A ", 2000, 4009, false),
-        ("append A ", 2001, 4011, true),
-        ("patch #3 0 ", 2000, 4011, false),
-        ("patch #3 0 ", 2001, 4013, true),
-        ("putb 0 ", 2000, 4007, false),
-        ("putb 0 ", 2001, 4009, true),
-        ("inload W ", 40, 89, false),
-        ("inload W ", 41, 91, true),
+        ("append A ", 2000, 4009, "Append newest A. "),
+        ("append A ", 2001, 4011, ""),
+        ("patch #3 0 ", 2000, 4011, "Patch serial 3 0 "),
+        ("patch #3 0 ", 2001, 4013, ""),
+        ("putb 0 ", 2000, 4007, "PutBytes 0 "),
+        ("putb 0 ", 2001, 4009, ""),
+        ("inload W ", 40, 89, "InLoad newest W. "),
+        ("inload W ", 41, 91, ""),
         (
             "patch aaaaaaaaaaaaaaaaaaaaaaaaaaaaaaaaaaaaaa>bbbbbbbbbbbbbbbbbbbbbbbbbbbbbbbbbbbbbb 4294967295 ",
             2000,
             4095,
-            false,
+            "Patch in aaaaaaaaaaaaaaaaaaaaaaaaaaaaaaaaaaaaaa. newest bbbbbbbbbbbbbbbbbbbbbbbbbbbbbbbbbbbbbb. 4294967295 ",
         ),
         (
             "patch aaaaaaaaaaaaaaaaaaaaaaaaaaaaaaaaaaaaaa.>bbbbbbbbbbbbbbbbbbbbbbbbbbbbbbbbbbbbbb 4294967295 ",
             2000,
             4096,
-            false,
+            "Patch in aaaaaaaaaaaaaaaaaaaaaaaaaaaaaaaaaaaaaa. newest bbbbbbbbbbbbbbbbbbbbbbbbbbbbbbbbbbbbbb. 4294967295 ",
         ),
         (
             "patch aaaaaaaaaaaaaaaaaaaaaaaaaaaaaaaaaaaaaa.>bbbbbbbbbbbbbbbbbbbbbbbbbbbbbbbbbbbbbb. 4294967295 ",
             2000,
             4097,
-            true,
+            "",
         ),
     ];
-    for (front, count, length, is_bad) in rows {
+    for (front, count, length, line) in rows {
         let mut text = Vec::from_slice(rt.alloc(), front.as_bytes())?;
+        let mut wanted = Vec::from_slice(rt.alloc(), line.as_bytes())?;
         for _ in 0..count {
             text.extend_from_slice(b"41")?;
+            wanted.extend_from_slice(b"41")?;
         }
         assert_eq!(rt; text.len(), length, "{front}{count}");
         let read = read_line(rt.alloc(), text.as_slice())?;
-        assert_eq!(rt; matches!(read, Line::Bad), is_bad, "{front}{count}");
+        if line.is_empty() {
+            assert!(rt; matches!(read, Line::Bad), "{front}{count}");
+        } else {
+            assert_eq!(rt;
+                written(rt.alloc(), &read)?.as_slice(),
+                wanted.as_slice(),
+                "{front}{count}"
+            );
+        }
     }
     Ok(())
 }
@@ -498,9 +519,9 @@ fn texts_of_refusals(rt: HostRuntime) -> Result<(), Fail> {
                     number: 1,
                     ..leader_of(3)
                 },
-                found: None,
+                found: Some(label),
             },
-            "hint failed: next of 5 at 65535 wanted #3 v 1 page 1 found none\n",
+            "hint failed: next of 5 at 65535 wanted #3 v 1 page 1 found 65535 20480 0 0 1 1 0 3\n",
         ),
         (
             Refusal::HintFailed {
@@ -510,9 +531,18 @@ fn texts_of_refusals(rt: HostRuntime) -> Result<(), Fail> {
                     fid: Fid::SYS_DIR,
                     number: 0,
                 },
-                found: None,
+                found: Some(label),
             },
-            "hint failed: root at 1 wanted #1 v 1 page 0 found none\n",
+            "hint failed: root at 1 wanted #1 v 1 page 0 found 65535 20480 0 0 1 1 0 3\n",
+        ),
+        (
+            Refusal::HintFailed {
+                place: Place::Held { at: 7 },
+                at: 7,
+                wanted: leader_of(4),
+                found: Some(label),
+            },
+            "hint failed: held 7 at 7 wanted #4 v 1 page 0 found 65535 20480 0 0 1 1 0 3\n",
         ),
         (
             Refusal::HintFailed {
