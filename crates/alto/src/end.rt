@@ -52,7 +52,7 @@ impl Stop {
         }
     }
 
-    /// What is said of it on standard error. Nothing is said of a want of memory, nor of a display that fails.
+    /// What is said of it on standard error. Nothing is said where memory ran out or the display failed.
     pub fn complaint(self) -> Option<Complaint>
         ensures { result ≡ complaint_of self }
     {

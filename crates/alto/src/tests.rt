@@ -72,7 +72,7 @@ fn exit_codes_and_texts(rt: HostRuntime) -> Result<(), Fail> {
 
 #[test]
 fn moments(rt: HostRuntime) -> Result<(), Fail> {
-    // 1970, 2000, the last second that a moment has, and the first one behind it
+    // 1970, 2000, the last second that a moment has, and the first one after it
     let rows = [
         (0, 2_177_452_800),
         (946_684_800, 3_124_137_600),

@@ -1,4 +1,4 @@
--- The statuses of faults: none is Done, and a fault of the keyboard or want of memory comes between turns.
+-- The statuses of faults: none is Done, and a fault of the keyboard or out of memory comes between turns.
 use Rattle.std.proofs.Common.{◌≢◌, refl}
 use Rattle.disk_records.specs.Tapes.{Taped}
 use Rattle.alto_top.specs.declared.status.Fault.{Fault}
@@ -43,6 +43,6 @@ no_display x y Key cause is = cc
 no_display x y Display cause is = absurd cause
 no_display x y Memory cause is = cc
 
--- a fault of the keyboard, or want of memory, comes between turns
+-- a fault of the keyboard, or out of memory, comes between turns
 pub key_is_whole : (x y : Taped) (fault : Fault) → KeyFaultCause x y fault → IsWhole (status_of fault)
 key_is_whole x y fault cause = (no_disk x y fault cause, no_display x y fault cause)

@@ -15,7 +15,7 @@ take_room n line key room = sym (take_all n (line ++ key ∷ []) (omega (arith, 
 pub take_full : (n : ℕ) (line : List ℕ) (key : ℕ) → length line ≡ n → line ≡ take n (line ++ key ∷ [])
 take_full n line key full = sym (take_at line (key ∷ []) n full)
 
--- a key behind the first n of some is dropped, or all of them are there
+-- a key after the first n of some is dropped, or all of them are there
 pub take_again : (n : ℕ) (keys : List ℕ) (key : ℕ) → take n (take n keys ++ key ∷ []) ≡ take n (keys ++ key ∷ [])
 take_again n keys key =
     elim (cases_lt (length keys) n) [
@@ -83,7 +83,7 @@ taking_rest {old} {now} before t end count =
 pub taking_last : {old now : List ℕ} {taken : ℕ} {line : List ℕ} (before : ℕ) → Taking old now taken line → (now ≡ []) ⊎ (taken ≡ before) → taken ≤ before → line ≢ [] → TookLast old now before 0 line
 taking_last before t end count some = record { whole = t.whole; some = λ none. some (t.kept ∙ ap kept_of none); took = taking_rest before t end count; kept = t.kept }
 
--- the line breaks off before a key, and behind one
+-- the line breaks off before a key, and after one
 pub taking_part : {old now : List ℕ} {taken : ℕ} {line : List ℕ} (before : ℕ) → Taking old now taken line → taken ≤ before → 0 < before → TookPart old now before
 taking_part before t count some = record { part = t.whole; unbroken = t.unbroken; split = t.split; counted = omega (arith, t.counted); some = some }
 

@@ -22,7 +22,7 @@ module _ {X : Type 0} (p : X → Bool) (xs : List X) where
   no_place : position p xs ≡ None → length xs ≤ position_or_len p xs
   no_place e = ltb-false (position_or_len p xs) (length xs) (none_cases (nat_lt (position_or_len p xs) (length xs)) (position_or_len p xs) e)
 
-  -- the text before the place that is found, and behind it
+  -- the text before the place that is found, and after it
   pub before_place : (i : ℕ) → position p xs ≡ Some i → take i xs ≡ before_first p xs
   before_place i e = ap (λ n. take n xs) (sym (found_place i e))
 

@@ -1,4 +1,4 @@
--- One value write behind one read.
+-- One value write after one read.
 use Rattle.std.proofs.Common.{◌≡◌, ℕ, List, [], ◌++◌, Ok, Err, true, ◌∙◌, ap}
 use Rattle.disk_records.specs.declared.records.Page.{Page}
 use Rattle.disk_records.specs.declared.records.Sector.{Sector}

@@ -58,7 +58,7 @@ TookLine old new before after (Ok (Some line)) = TookWhole old new before after 
 TookLine old new before after (Ok None) = TookRest old new before after []
 TookLine old new before after (Err e) = TookPart old new before
 
--- bytes that are shown: all of them at Ok, some first ones where the display failed, else none
+-- bytes that are shown: all of them at Ok, a prefix where the display failed, else none
 pub record ShownAll (bytes : List ℕ) (old new : Taped) (result : Result (Unit {0}) Fault) : Type 0 where
   pub some : IsFirstOf (shown_events bytes) (added old new)
   pub ok : OnOk result (added old new ≡ shown_events bytes)

@@ -66,7 +66,7 @@ abbrev pub keys_of : List (List ℕ) → List ℕ
 keys_of [] = []
 keys_of (line ∷ lines) = line ++ 10 ∷ keys_of lines
 
--- The keys taken are those of so many first lines, and no key behind them. Where the last line isn't ended by a byte 10, they
+-- The keys taken are those of so many first lines, and no key after them. Where the last line isn't ended by a byte 10, they
 -- are all keys that count, and these are all their lines.
 abbrev pub TookLines : List ℕ → List ℕ → List ℕ → ℕ → Type 0
 TookLines old new taken count = (taken ≡ keys_of (take count (lines old))) ⊎ ((count ≡ length (lines old)) × (new ≡ drop most_keys old))
@@ -79,8 +79,8 @@ one_each put = 1
 abbrev pub runs_of_line : Taped → ℕ
 runs_of_line t = 2 * pages_of t.form + 1
 
--- A whole session from old to new, on a machine that is told. For every answer it is a history whose events are its turns, and
--- at each cut the files are those after some of its puts, with every acknowledged one among them.
+-- A whole session from old to new, on a machine that is modelled. For every answer it is a history whose events are its turns, and
+-- at each crash point the files are those after some of its puts, with every acknowledged one among them.
 pub record Booted (old new : Taped) (answer : Status) : Type 0 where
   pub turns : List (Turn Put)
   pub history : IsHistory answer (stored_files (pack old)) (lines old.keys) turns
@@ -89,7 +89,7 @@ pub record Booted (old new : Taped) (answer : Status) : Type 0 where
   pub cuts : (k : ℕ) → CutAt one_each putting (stored_files (pack old)) (pack old) (added old new) turns k
   pub done : answer ≡ status.Done → (turns ≡ turns_of (stored_files (pack old)) (lines old.keys)) × (new.keys ≡ drop most_keys old.keys)
   -- the keys that were taken: no line is taken to its end before those ahead of it have their turns, and each line with a turn
-  -- is taken; where the disk or the display failed these lines are taken whole, and no key behind them
+  -- is taken; where the disk or the display failed these lines are taken whole, and no key after them
   pub taken : List ℕ
   pub split : old.keys ≡ taken ++ new.keys
   pub ahead : length (ended_lines taken) ≤ length turns

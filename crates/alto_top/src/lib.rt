@@ -1,13 +1,13 @@
 //! The top call: a pack is booted and typed lines are obeyed until the input ends, or what the pack shows is listed, or it is formatted.
 //!
-//! To whoever starts it, for every machine that is told, whatever stands on its pack:
+//! To whoever starts it, for every machine that is modelled (`told`), whatever stands on its pack:
 //! 1. The events of `boot` are the turns of the typed lines: each line's record writes, and then its reply (`talks`, `history`).
 //! 2. A reply is that of the files as the earlier lines left them, by labels alone; a `done` stands for its put (`history`).
-//! 3. At each cut the living files are those after some of the puts, and no put whose whole `done` was shown is missing (`cuts`).
+//! 3. At each crash point the living files are those after some of the puts, and no put whose whole `done` was shown is missing (`cuts`).
 //! 4. At Done the keys were read to their end, or to 2^31 bytes, and each line has its turn (`done`).
 //! And of one line: `obey` makes its turn, or breaks it off, in at most as many sector commands as two sweeps and three more take
 //! (`obeyed`, `runs`).
-//! And of `show`: at Done the shown bytes are the listing of what the pack shows, for every answer a first part of it, and nothing is
+//! And of `show`: at Done the shown bytes are the listing of what the pack shows, for every answer a prefix of it, and nothing is
 //! written (`shown` of `show_pack`).
 //! And of `format`: at Done the pack is the one that formatting writes, whatever stood there, and the number of its free sectors is shown;
 //! for every answer a prefix of the record writes and of the text was done (`formats` of `format_pack`).
@@ -15,7 +15,7 @@
 //! And for every machine: with words other than `boot` alone, `show` alone or `format` with a number no record write is counted, and no
 //! fault except the display's (`touches`); where it is modelled, no sector command is run, nothing is written and no key is taken (`does`
 //! of `alto`).
-//! Not promised: that memory is left; how long anything takes, but for the number of sector commands (`runs`).
+//! Not promised: that memory is left; how long anything takes, except the number of sector commands (`runs`).
 #![tactic(auto)]
 
 mod formatting;

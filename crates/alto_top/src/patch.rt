@@ -43,7 +43,7 @@ fn split_word(text: &[u8]) -> (&[u8], &[u8])
     }
 }
 
-/// The operands behind `patch #`, parted by single spaces. None where they aren't in the grammar.
+/// The operands after `patch #`, parted by single spaces. None where they aren't in the grammar.
 fn read_operands(alloc: Global, text: &[u8]) -> Result<Option<Patch>, Memory>
     ensures { IfOk result (λ patch. patch ≡ operands_in text.now) }
 {

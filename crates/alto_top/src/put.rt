@@ -23,7 +23,7 @@ fn not_done(error: GuardError) -> Result<bool, Fault>
 /// Puts bytes into a page that a sector carries, from this byte of the page on: one value write, which leaves the page's other
 /// bytes. False where the sector doesn't carry the page; then nothing is written. Three sector commands at most.
 ///
-/// Disk: the disk failed. Memory: no memory was left. On a told disk the value is written or nothing is, whatever the answer.
+/// Disk: the disk failed. Memory: no memory was left. On a modelled disk the value is written or nothing is, whatever the answer.
 pub fn put_in_page<D: Disk>(
     disk: &mut D,
     at: u16,

@@ -11,7 +11,7 @@ pub enum Reply {
     /// The line isn't in the grammar.
     BadLine,
     /// No living file has this serial. This reply comes too where the sector of the page that is to be written carried it at
-    /// the sweep and doesn't carry it any more, which no machine does that is told.
+    /// the sweep and doesn't carry it any more, which no machine does that is modelled.
     NoSuchName,
     /// The file is a directory or DiskDescriptor, or the bytes don't lie in one page.
     NotYet,

@@ -164,9 +164,9 @@ fn show_reply<C: Console>(alloc: Global, console: &mut C, reply: Reply) -> Resul
 /// `patch #NUM NUM HEX` alone is in the grammar; any other line, or one of more than 4,096 bytes, is answered by `bad line` and
 /// nothing is written. A line takes at most as many sector commands as two sweeps of all sectors but the first, and three more.
 ///
-/// Disk: the disk failed; of the line's record writes some first ones are done, and nothing is shown. Display: the display
-/// failed; the record writes are all done, and some first bytes of the reply are shown. Memory: none was left; some first
-/// record writes are done, and nothing is shown. Key is never answered: no key is taken. After each of them nothing follows.
+/// Disk: the disk failed; a prefix of the line's record writes is done, and nothing is shown. Display: the display
+/// failed; the record writes are all done, and a prefix of the reply is shown. Memory: none was left; a prefix of
+/// the record writes is done, and nothing is shown. Key is never answered: no key is taken. After each of them nothing follows.
 #[tactic(auto, using(crate::proofs::Turning::obeyed_part, crate::proofs::Turning::obeyed_shown))]
 pub fn obey<M: Machine>(alloc: Global, machine: &mut M, line: &[u8]) -> Result<(), Fault>
     ensures obeyed { IsTrue M.told → Obeyed (M.tape machine.old) (M.tape machine.new) line.now result }
@@ -210,7 +210,7 @@ fn obey_next<M: Machine>(alloc: Global, machine: &mut M, left: &mut u32) -> Resu
 /// `moment` is the time of what the lines do, in seconds since the start of 1901; no line keeps it.
 ///
 /// Done: the keys were read to their end or to 2^31 bytes. DiskFault, KeyFault, DisplayFault: that device failed, and the
-/// session stopped at once. Memory: none was left. After each of them the cuts of what happened stand for the puts so far.
+/// session stopped at once. Memory: none was left. After each of them what a crash point shows are the puts so far.
 #[tactic(auto, using(crate::proofs::Booting::session_spent))]
 pub fn boot<M: Machine>(alloc: Global, moment: u32, machine: &mut M) -> Status
     ensures no_usage { result ≢ Status.Usage }

@@ -17,7 +17,7 @@ append_cases : (t : Bool) (d : ℕ) (more once acc rest : List ℕ) → more ≡
 append_cases true d more once acc rest e f = refl
 append_cases false d more once acc rest e f = e ∙ sym (append_assoc rest (d ∷ []) acc) ∙ ap (λ x. x ++ acc) (sym f)
 
--- what stands behind the digits stays
+-- what stands after the digits stays
 onto-append : (k n : ℕ) (acc : List ℕ) → onto k n acc ≡ onto k n [] ++ acc
 onto-append zero n acc = refl
 onto-append (suc k) n acc =

@@ -56,7 +56,7 @@ decoded : (text : List ℕ) (odd : Bool) → (length text % 2 == 1) ≡ odd
 decoded text true odd = sym (hex_pairs-odd text (grind (arith, nat_tests)))
 decoded text false odd = hex_pairs-result 0 text
 
--- what `decode` answers is the bytes, but for memory
+-- what `decode` answers is the bytes, except memory
 pub hex_pairs-decode : (text : List ℕ) → result_ok (decode_of text) ≡ hex_pairs text
 hex_pairs-decode text = decoded text (length text % 2 == 1) refl
 

@@ -5,7 +5,7 @@ use Rattle.std.proofs.lemmas.Slice.{drop-put_mid}
 use borrow.Rule.Slice.PartMut.{put_mid}
 use Rattle.alto_words.specs.Texts.{HoldsText, HoldsText-length}
 
--- a part with room, written behind the text, leaves a text
+-- a part with room, written after the text, leaves a text
 pub HoldsText-push : {n : ℕ} {bytes : List ℕ} (old part written : List ℕ) → HoldsText n bytes → take n bytes ≡ old → length old + length part ≤ 39 → written ≡ part
     → HoldsText (n + length part) (put_mid n (n + length part - n) bytes written)
 HoldsText-push {n} {bytes} old part written h is fits wrote =

@@ -10,6 +10,6 @@ use Rattle.alto_words.specs.contracts.list.List.{the_row}
 abbrev pub vec_row : RattleType → RattleType
 vec_row T = vec.the_row T global.the_row ghosts
 
--- once the borrow r ends, the list has the items that stand behind r last
+-- once the borrow r ends, the list has the items that r refers to last
 abbrev pub LendsItems : (T : RattleType) → MutBor (List T.Denot) → MutBor (vec_row T).Denot → Fml
 LendsItems T list r = Lends (the_row T) (vec_row T) list r (λ v. v.items)

@@ -3,7 +3,7 @@ use Rattle.std.specs.Prelude.{◌≡◌, ℕ, ◌-◌, ◌≤◌, List, ◌++◌
 use Rattle.std.proofs.Common.{ap, sym, ◌∙◌, subst, take-append-drop}
 use Rattle.std.proofs.lemmas.List.{length-take-le}
 
--- n bytes of text stand in front, zeros behind
+-- n bytes of text stand in front, zeros after
 pub record HoldsText (n : ℕ) (bytes : List ℕ) : Type 0 where
   pub room : length bytes ≡ 39
   pub fits : n ≤ 39

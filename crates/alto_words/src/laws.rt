@@ -97,7 +97,7 @@ pub fn lost_is_stored()
     ensures { LostIsStored }
 {}
 
-/// It has 6 to 16 characters.
+/// A name that stands for one that can't be read has 6 to 16 characters.
 pub fn length_lost()
     ensures { LengthLost }
 {}

@@ -36,7 +36,7 @@ impl<T> List<T> {
         self.items.as_slice()
     }
 
-    /// The items, to be changed in place: the list is what is left behind the reference.
+    /// The items, to be changed in place: the list is what the reference leaves.
     pub fn as_vec(&mut self) -> &mut Vec<T>
         ensures* writes_back { sem 𝓛 (LendsItems T.row self.entry result) }
         ensures value { result.now.items ≡ self.old }

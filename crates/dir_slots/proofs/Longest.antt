@@ -1,4 +1,4 @@
--- The slots of words are those of the longest first part that slots fill to its end.
+-- The slots of words are those of the longest prefix that slots fill to its end.
 use Rattle.std.proofs.Common.{◌≡◌, ℕ, zero, suc, ◌+◌, ◌%◌, ◌≤◌, List, [], ◌∷◌, ◌++◌, length, take, drop, Some, None, refl, sym, ap, ◌∙◌, subst, arith, append_assoc, append-nil}
 use Rattle.std.proofs.lemmas.List.{length-append, length-drop, take-append-drop, take-take, drop-take, take_at, drop_at, get_or_append_left, nil_from_length}
 use Rattle.pack_model.specs.reading.Slots.{Item, item_words, all_words, first_length, slot_of, slot_at, slots, IsSlot, Reads, ReadsLongest}
@@ -29,7 +29,7 @@ reads-ahead words rest is (next {w = w} {rest = more} {i = i} {is = js} split sl
       let e = later.1 in omega arith,
     )
 
--- ---- the first part that slots fill
+-- ---- the prefix that slots fill
 take_sum : (a b : ℕ) (words : List ℕ) → take (a + b) words ≡ take a words ++ take b (drop a words)
 take_sum a b words =
     sym (take-append-drop a (take (a + b) words))

@@ -26,7 +26,7 @@ characters_below : (name rest : List ℕ) → list_all is_stored_character name 
 characters_below [] rest h bytes = bytes
 characters_below (c ∷ name) rest h bytes = let parts = and_parts (is_stored_character c) (list_all is_stored_character name) h in (character_below c parts.0, characters_below name rest parts.1 bytes)
 
--- bytes survive as words, but for a last odd one
+-- bytes survive as words, except a last odd one
 bytes_of-pairs : (bytes : List ℕ) → AreBytes bytes → bytes_of (words_of bytes) ≡ take (2 * (length bytes / 2)) bytes
 bytes_of-pairs [] h = refl
 bytes_of-pairs (a ∷ []) h = refl
@@ -43,7 +43,7 @@ length-words_of (a ∷ []) = refl
 length-words_of (a ∷ b ∷ bytes) = let e = length-words_of bytes in omega arith
 
 -- ---- a name
--- the bytes of a name with its length, and a 0 behind it
+-- the bytes of a name with its length, and a 0 after it
 abbrev pub short_bytes : List ℕ → List ℕ
 short_bytes name = length name ∷ (name ++ 0 ∷ [])
 
@@ -99,7 +99,7 @@ take-words_of (suc k) (a ∷ b ∷ bytes) =
     let n : 2 * suc k ≡ suc (suc (2 * k)) = omega arith in
     ap (λ l. (a * 256 + b) ∷ l) (take-words_of k bytes) ∙ ap (λ m. words_of (take m (a ∷ b ∷ bytes))) (sym n)
 
--- a zero behind the name, and more zeros
+-- a zero after the name, and more zeros
 one_zero : (name : List ℕ) (m k : ℕ) → 1 ≤ m → k ≤ suc (suc (length name)) → take k (length name ∷ (name ++ replicate m 0)) ≡ take k (short_bytes name)
 one_zero name zero k some within = absurd (omega arith)
 one_zero name (suc m) k some within =

@@ -61,7 +61,7 @@ run-row n last row rest free few many =
     run-short n row (space last ∷ rest) free few
     ∙ ap (option_map (longer (all_words row))) (cond-true _ (Some (last, rest)) _ (le-leb (n - all_words row) last (omega arith)))
 
--- free slots that are too few, and no others behind them
+-- free slots that are too few, and no others after them
 pub room_from-none : (n first place : ℕ) (row tail : List Item) → AreFree row → all_words row < n → ((m : ℕ) → run m tail ≡ None)
     → room_from n first place (row ++ tail) ≡ room_from n (first + length row) (place + all_words row) tail
 room_from-none n first place [] tail free few none =

@@ -73,7 +73,7 @@ searching_none n slots some = record {
   same = refl;
 }
 
--- behind the row, and behind slots with no row at their head
+-- after the row, and after slots with no row at their head
 behind_row : (n : ℕ) (slots : List Slot) (row : Room) (at : ℕ) → at ≤ length slots → ((m : ℕ) → run m (items_of (drop at slots)) ≡ None) → Searching n slots row at
     → room_from n (row.first + (at - row.first)) (row.place + row.total) (items_of (drop at slots)) ≡ find_room n (items_of slots)
 behind_row n slots row at within none r =

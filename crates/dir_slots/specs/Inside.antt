@@ -7,14 +7,14 @@ use Rattle.pack_model.specs.reading.Slots.{Item, entry_length, is_entry, slot_fi
 use Rattle.pack_model.specs.reading.Slots.Item.{space, entry}
 use Rattle.dir_slots.specs.declared.room.Room.{Room}
 
--- the characters that a byte with their number begins, and the bytes behind them
+-- the characters that a byte with their number begins, and the bytes after them
 abbrev pub counted_name : List ℕ → List ℕ
 counted_name bytes = take (word bytes 0) (drop 1 bytes)
 
 abbrev pub behind : List ℕ → List ℕ
 behind bytes = drop (word bytes 0) (drop 1 bytes)
 
--- the name of these bytes: so many characters, a stored name, and 0 alone behind it
+-- the name of these bytes: so many characters, a stored name, and 0 alone after it
 unfoldable pub name_of : List ℕ → Option (List ℕ)
 name_of bytes = cond (length (counted_name bytes) == word bytes 0 && is_stored_name (counted_name bytes) && list_all (λ b. b == 0) (behind bytes)) (Some (counted_name bytes)) None
 

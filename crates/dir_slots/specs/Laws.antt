@@ -15,6 +15,6 @@ HasStoredName (Entry f address name) = is_stored_name name ≡ true
 abbrev pub ReadsBack : Type 0
 ReadsBack = (ss : List Slot) → All IsInRange ss → All HasStoredName ss → (slots (slots_words ss) ≡ items_of ss) × (addresses_in (slots_words ss) ≡ map address_of ss) × (all_words (items_of ss) ≡ length (slots_words ss))
 
--- the slots of words are those of their longest first part that slots fill to its end, and no others are
+-- the slots of words are those of their longest prefix that slots fill to its end, and no others are
 abbrev pub LongestIsRead : Type 0
 LongestIsRead = (words : List ℕ) (is : List Item) → ReadsLongest words is ↔ (is ≡ slots words)

@@ -35,7 +35,7 @@ pub(crate) const ENTRY_TYPE: u16 = 1024;
 /// The fewest words of an entry: those of one whose name has 2 characters.
 const MIN_ENTRY_WORDS: usize = 8;
 
-/// The most bytes of a name with its length: those of the words behind word 5.
+/// The most bytes of a name with its length: those of the words after word 5.
 const MAX_NAME_BYTES: usize = 40;
 
 /// The slot at the head of `left` words, of which `front` has the first 26, or all where they are fewer. None exactly where they
@@ -72,7 +72,7 @@ pub fn slot_here(front: &[u16], left: usize) -> Option<Slot>
 }
 
 /// The entry that these words are. None where they are none: too few or too many for the name, another type or length in word 0,
-/// a word 4 or a byte behind the name that isn't 0, a serial or version out of range, or no stored name.
+/// a word 4 or a byte after the name that isn't 0, a serial or version out of range, or no stored name.
 fn read_entry(words: &[u16]) -> Option<Slot>
     requires { length words.now ≤ 26 }
     ensures item { option_map item_of result ≡ entry_of words.now }
@@ -115,7 +115,7 @@ fn is_entry_head(words: &[u16]) -> bool
 }
 
 /// The name in these words, whose first byte is its length. None where that goes past them, the characters form no stored name, or
-/// a byte behind them isn't 0.
+/// a byte after them isn't 0.
 fn read_name(words: &[u16]) -> Option<Name>
     requires { length words.now ≤ 20 }
     ensures { result ≡ name_of (bytes_of words.now) }

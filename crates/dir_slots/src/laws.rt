@@ -6,7 +6,7 @@ pub fn reads_back()
     ensures { ReadsBack }
 {}
 
-/// The slots that `read_slots` gives are those of the longest first part of the words that slots fill to its end. No others are.
+/// The slots that `read_slots` gives are those of the longest prefix of the words that slots fill to its end. No others are.
 pub fn longest_is_read()
     ensures { LongestIsRead }
 {}

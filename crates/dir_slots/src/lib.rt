@@ -11,7 +11,7 @@
 //!   word 5: the virtual address of the file's leader: a hint
 //!   from word 6 on: a byte with n, the characters, and a byte 0 where these n + 1 bytes are odd in number
 //! Contracts see a slot as an item of pack_model, and its address apart. To the layers above:
-//! 1. `read_slots` gives exactly the slots of the longest first part that can be read (`items`, and the law `longest_is_read`).
+//! 1. `read_slots` gives exactly the slots of the longest prefix that can be read (`items`, and the law `longest_is_read`).
 //! 2. What `write_slots` wrote is read back whole (`back`, and the law `reads_back`).
 //! 3. `slot_here` reads one slot from 26 words at most, and so from a page at a time; `first_slot` reads that at the head of words
 //!    that are all there, so that slots are read one after another with none kept.

@@ -12,7 +12,7 @@ use crate::slot::{MAX_ENTRY_WORDS, Slot};
 use alto_words::{List, Memory};
 use std::alloc::Global;
 
-/// The slots of the longest first part of these words that can be read, and its length in words. The first slot that can't be read
+/// The slots of the longest prefix of these words that can be read, and its length in words. The first slot that can't be read
 /// ends it: one of length 0, one that goes past the end, one of another type, or an entry that isn't one.
 ///
 /// Memory: none was left for the slots.
@@ -36,7 +36,7 @@ pub fn read_slots(alloc: Global, words: &[u16]) -> Result<(List<Slot>, usize), M
 
 /// The slot at the head of these words, those of a directory from its first word or from the end of a slot on. None exactly where
 /// they begin with no slot that can be read, so also where there are none. It looks at 26 words at most and takes no memory. The
-/// slot's length is its `words`: those behind it are the ones to read on from.
+/// slot's length is its `words`: those after it are the ones to read on from.
 pub fn first_slot(words: &[u16]) -> Option<Slot>
     ensures item { option_map item_of result ≡ slot_at words.now }
     ensures address { IfSome result (λ slot. address_of slot ≡ address_at words.now 0 (item_of slot)) }

@@ -47,7 +47,7 @@ pub fn find_room(slots: &[Slot], n: u16) -> Option<Room>
 }
 
 /// The free slots in a row that end with this slot, the one numbered `at`, where `row` has those that end before it. There are none
-/// where it is an entry; the row then begins behind it.
+/// where it is an entry; the row then begins after it.
 fn row_with(row: &Room, at: u32, slot: &Slot) -> Room
     requires slots { at + 1 < 2 ^ 32 }
     requires place { row.now.place + row.now.total + item_words (item_of slot.now) < 2 ^ 32 }

@@ -68,7 +68,7 @@ fn push_entry(words: &mut Vec<u16>, fid: &Fid, leader_at: u16, name: &Name) -> R
     push_name(words, name)
 }
 
-/// Appends the words of a name: those that a leader page has of it, without the words of zeros behind them.
+/// Appends the words of a name: those that a leader page has of it, without the words of zeros after them.
 fn push_name(words: &mut Vec<u16>, name: &Name) -> Result<(), Memory>
     ensures words { OnOk result (words.new.items ≡ words.old.items ++ short_name_words name.now) }
     ensures stored { OnOk result (is_stored_name name.now ≡ true) }

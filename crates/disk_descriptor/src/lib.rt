@@ -4,8 +4,8 @@
 //! formatting writes (laws_format). To the layers above, on a machine that is modelled:
 //! 1. At Ok of `format` the pack is the one that formatting writes, whatever stood there (`leaves`): sound and clean, all its hints true,
 //!    read as the model without files, and free are all sectors after those of the system files.
-//! 2. For every answer the record writes are a prefix of the one list (`formats`), in one sector command a sector at most.
-//! 3. Where events are kept ready for the list, it is never out of memory; it takes none of its own (`formats`).
+//! 2. For every answer the record writes are a prefix of the one list (`writes`), in one sector command a sector at most.
+//! 3. Where events are kept ready for the list, it is never out of memory; it takes none of its own (`writes`).
 //!
 //! And on every machine: the answer is the number of free sectors (`free`), a fault comes only where its count rose (`cause`), no key is
 //! taken and nothing is shown (`alone`).

@@ -10,7 +10,7 @@
 //! 4. `FileMachine` meets what disk_records asks of every machine: a fault is answered only where the count of its own device rose,
 //!    and a mismatch only for a record that was to be checked.
 //!
-//! `FileMachine` is the edge to the outside. What a real file, terminal or pipe does is trusted and not proved, so it isn't told:
+//! `FileMachine` is the edge to the outside. What a real file, terminal or pipe does is trusted and not proved, so it isn't modelled:
 //! no clause speaks of what it reads or shows. Proved are which drive's file a command goes to and where in it (`drive_of`), that the
 //! other drive's file isn't touched (`obey`), and of each step of a command by itself where it goes in the file, which bytes it asks for,
 //! keeps and hands on (`seek_to_cylinder`, `read_cylinder`, `seek_to`, `read_front`, `seek_to_back`, `write_back`), over any file whose

@@ -36,7 +36,7 @@ use std::rt::Files;
 /// How often at most a read of keys is tried that a signal interrupts each time.
 const MOST_TRIES: u64 = u64::MAX;
 
-/// A machine over a pack file, or over two of them for two drives, standard input and standard output. It isn't told: contracts see its
+/// A machine over a pack file, or over two of them for two drives, standard input and standard output. It isn't modelled: contracts see its
 /// shape and its counts, and nothing of what the files, the keys and the display hold. Each fault of the outside, as a read past a file's
 /// end, raises the count of its device by one and is answered by Failed; a count stands at 2^64 - 1 once there. Each cylinder is read
 /// once, and kept in memory for all sectors of the pack that is taken as the machine is made; where that memory is refused, each sector

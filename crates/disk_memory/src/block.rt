@@ -46,7 +46,7 @@ pub fn fill_up(blocks: &mut Vec<Block>, alloc: Global, count: usize) -> Result<(
     Ok(())
 }
 
-/// Puts an item behind the others, where there is room for it.
+/// Puts an item after the others, where there is room for it.
 pub fn push_ready<T: Drop>(items: &mut Vec<T>, item: T)
     requires { vec_len items.old < vec_capacity items.old }
     ensures items { items.new.items ≡ items.old.items ++ item ∷ [] }

@@ -17,7 +17,7 @@ pub fn writes_of_event(event: &Event) -> u64
     }
 }
 
-/// Puts the byte that an event shows, if it shows one, behind the others.
+/// Puts the byte that an event shows, if it shows one, after the others.
 pub fn add_shown_byte(bytes: &mut Vec<u8>, event: &Event) -> Result<(), AllocError>
     ensures { OnOk result (bytes.new.items ≡ bytes.old.items ++ shown_bytes (event.now ∷ [])) }
 {
@@ -30,7 +30,7 @@ pub fn add_shown_byte(bytes: &mut Vec<u8>, event: &Event) -> Result<(), AllocErr
     }
 }
 
-/// Puts these bytes behind the events as shown, where there is room for them.
+/// Puts these bytes after the events as shown, where there is room for them.
 pub fn push_shown(events: &mut Vec<Event>, bytes: &[u8])
     requires { vec_len events.old + length bytes.now ≤ vec_capacity events.old }
     ensures items { events.new.items ≡ events.old.items ++ shown_events bytes.now }

@@ -1,4 +1,4 @@
-// A machine in memory whose calls fail where they are told to.
+// A machine in memory whose calls fail where they are set to.
 ghost use Rattle.std.specs.Prelude.{true};
 
 use crate::command::first_writes;
@@ -183,7 +183,7 @@ impl MemMachine {
         self.machine.event_count()
     }
 
-    /// The length of the shortest first part of the events that has `k` record writes, or of all events if there are fewer.
+    /// The length of the shortest prefix of the events that has `k` record writes, or of all events if there are fewer.
     pub fn place_of_write(&self, k: u64) -> usize
         ensures { result ≡ place_of_write (⟦<MemMachine as Tape>⟧.tape self.now).events k }
     {

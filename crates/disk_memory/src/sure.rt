@@ -192,7 +192,7 @@ impl SureMachine {
         self.events.len()
     }
 
-    /// The length of the shortest first part of the events that has `k` record writes, or of all events if there are fewer.
+    /// The length of the shortest prefix of the events that has `k` record writes, or of all events if there are fewer.
     pub fn place_of_write(&self, k: u64) -> usize
         ensures { result ≡ place_of_write (⟦<SureMachine as Tape>⟧.tape self.now).events k }
     {

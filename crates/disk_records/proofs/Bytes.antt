@@ -74,13 +74,13 @@ put_at-later at x new old = let z : suc at + length new ≡ suc (at + length new
 pub put_at-here : (x b : ℕ) (new old : List ℕ) → put_at 0 (b ∷ new) (x ∷ old) ≡ b ∷ put_at 0 new old
 put_at-here x b new old = let z : 0 + suc (length new) ≡ suc (0 + length new) = omega arith in rw z refl
 
--- bytes in place of the front's, and of those behind it
+-- bytes in place of the front's, and of those after it
 pub put_at-append_left : (at : ℕ) (new a b : List ℕ) → at + length new ≤ length a → put_at at new (a ++ b) ≡ put_at at new a ++ b
 put_at-append_left at new a b fits =
     let below : at ≤ length a = omega arith in
     rw (take-append-le at a b below, drop-append-le (at + length new) a b fits) (sym (append_assoc (take at a ++ new) (drop (at + length new) a) b))
 
--- bytes in place behind the front
+-- bytes in place after the front
 pub put_at-append_right : (at : ℕ) (new a b : List ℕ) → put_at (length a + at) new (a ++ b) ≡ a ++ put_at at new b
 put_at-append_right at new [] b = let z : 0 + at ≡ at = omega arith in rw z refl
 put_at-append_right at new (x ∷ a) b =

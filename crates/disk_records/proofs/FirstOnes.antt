@@ -13,7 +13,7 @@ first_front ws vs [] h = tt
 first_front [] vs (x ∷ a) h = elim h [ ]
 first_front (w ∷ ws) vs (x ∷ a) h = (h.0, first_front ws vs a h.1)
 
--- all that was wanted, and then some first ones of what is wanted next
+-- all that was wanted, and then a prefix of what is wanted next
 pub first_then : (ws vs a b : List Event) → a ≡ ws → IsFirstOf vs b → IsFirstOf (ws ++ vs) (a ++ b)
 first_then ws vs a b e h = rw e (along ws h)
   where

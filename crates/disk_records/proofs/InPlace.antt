@@ -74,7 +74,7 @@ put_low place b words odd within below =
     let is : suc (twice (place / 2)) ≡ place = omega (arith, twice-is (place / 2)) in
     low_at (place / 2) b words (omega arith) below ∙ ap (λ n. put_at n (b ∷ []) (bytes_of words)) is
 
--- ---- some first ones of the bytes are put
+-- ---- a prefix of the bytes are put
 module _ (at i : ℕ) (bytes words old : List ℕ) (put : bytes_of words ≡ put_at at (take i bytes) (bytes_of old)) where
   -- there are as many words as before
   same_words : i < length bytes → at + length bytes ≤ 2 * length old → length words ≡ length old

@@ -19,14 +19,14 @@ writes_in [] = 0
 writes_in (Wrote at part words ∷ events) = 1 + writes_in events
 writes_in (Shown byte ∷ events) = writes_in events
 
--- the length of the shortest first part with k record writes, or of all events if there are fewer
+-- the length of the shortest prefix with k record writes, or of all events if there are fewer
 abbrev pub place_of_write : List Event → ℕ → ℕ
 place_of_write events zero = 0
 place_of_write [] (suc k) = 0
 place_of_write (Wrote at part words ∷ events) (suc k) = suc (place_of_write events k)
 place_of_write (Shown byte ∷ events) (suc k) = suc (place_of_write events (suc k))
 
--- these events are some first ones of the wanted, and no others
+-- these events are a prefix of the wanted, and no others
 abbrev pub IsFirstOf : List Event → List Event → Type 0
 IsFirstOf wanted [] = Unit {0}
 IsFirstOf [] (e ∷ events) = ⊥

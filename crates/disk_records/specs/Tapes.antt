@@ -67,7 +67,7 @@ pub record DiskAlone (old new : Taped) : Type 0 where
   pub show_faults : new.show_faults ≡ old.show_faults
   pub shown : shown_bytes (added old new) ≡ []
 
--- A call that only looks at a disk: where the machine is told nothing is written, in at most so many sector commands.
+-- A call that only looks at a disk: where the machine is modelled nothing is written, in at most so many sector commands.
 pub record Looks (told : Bool) (most : ℕ) (old new : Taped) : Type 0 where
   pub alone : DiskAlone old new
   pub silent : IsTrue told → added old new ≡ []
@@ -91,7 +91,7 @@ pub record ShowAlone (old new : Taped) : Type 0 where
   pub runs : new.runs ≡ old.runs
   pub writes : new.writes ≡ old.writes
 
--- ---- what a told machine says of its calls
+-- ---- what a modelled machine says of its calls
 -- the sector stood as checked, the buffer has it, and all record writes are done
 pub record RanWhole (at : ℕ) (plan : Plan) (memory buffer : Sector) (p : Pack) (events : List Event) : Type 0 where
   pub matches : first_mismatch plan memory (sector_at p at) ≡ None
@@ -116,7 +116,7 @@ IfMismatch (Err (Mismatch part word)) P = P part word
 IfMismatch (Err Failed) P = Unit {0}
 IfMismatch (Err Memory) P = Unit {0}
 
--- one sector command: for every answer its record writes are some first ones of the plan's, and none where a checked word differs
+-- one sector command: for every answer its record writes are a prefix of the plan's, and none where a checked word differs
 pub record Ran (at : ℕ) (plan : Plan) (memory buffer : Sector) (old new : Taped) (result : Result (Unit {0}) DiskError) : Type 0 where
   pub some : IsFirstOf (writes_of at plan memory) (added old new)
   pub checked : added old new ≢ [] → first_mismatch plan memory (sector_at (pack old) at) ≡ None

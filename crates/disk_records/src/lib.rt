@@ -2,15 +2,15 @@
 //!
 //! Below it stands alto_words. A pack is a shape and a list of sectors. A machine is seen as one record, its
 //! *tape*: the sectors that it began with, the events since then (record writes and shown bytes), the keys left, and
-//! counts. Where the machine is *told*, its pack is the first one with the record writes of the events done in order.
-//! To all layers above, for every machine, by its tape (of one that isn't told this speaks of its shape, its record writes and its
+//! counts. Where the machine is *modelled* (`told`), its pack is the first one with the record writes of the events done in order.
+//! To all layers above, for every machine, by its tape (of one that isn't modelled this speaks of its shape, its record writes and its
 //! faults alone):
 //! 1. No call takes an event back or changes the shape (`Grown`).
 //! 2. A call that is given a disk shows nothing and takes no key; one that is given keys or the display touches no
 //!    sector (`DiskAlone`, `KeysAlone`, `ShowAlone`).
 //! 3. A device's fault is answered only where its own count rose (`failed`). Here and above a count *rose* too where it stands at
 //!    2^64 - 1, its type's end, and stays there (`Rose`).
-//! 4. On a told machine a sector command's record writes are a first part of its plan's for every answer, all of it at
+//! 4. On a modelled machine a sector command's record writes are a prefix of its plan's for every answer, all of it at
 //!    Ok, and none where a checked word differs (`Ran`).
 #![tactic(auto)]
 

@@ -13,7 +13,7 @@ use crate::{Plan, Sector, Shape};
 pub enum DiskError {
     /// A checked word that isn't 0 differs, first at this record (0 header, 1 label, 2 value) and word. Nothing was written.
     Mismatch { part: u8, word: u16 },
-    /// The device failed, and the count of disk faults rose. The record writes done are a first part of the command's.
+    /// The device failed, and the count of disk faults rose. The record writes done are a prefix of the command's.
     Failed,
     /// No memory was left for the record writes of a sector that matched. Nothing was written.
     Memory,
@@ -22,8 +22,8 @@ pub enum DiskError {
 /// Why keys weren't read or bytes not all shown.
 #[derive(Clone, Copy, Debug, PartialEq, Eq, Drop)]
 pub enum ConsoleError {
-    /// The device failed, and its own count of faults rose. A failed `read` took no key; a failed `show` has shown a first
-    /// part of its bytes.
+    /// The device failed, and its own count of faults rose. A failed `read` took no key; a failed `show` has shown a
+    /// prefix of its bytes.
     Failed,
     /// No memory was left. No key was taken and nothing shown.
     Memory,
@@ -31,7 +31,8 @@ pub enum ConsoleError {
 
 /// What a machine holds and what has happened to it, for contracts alone.
 pub trait Tape {
-    /// Whether the machine tells what it holds: a constant of the type.
+    /// Whether the machine is modelled: its contract says what stands on its pack, which keys are left and what was shown. A constant
+    /// of the type.
     ghost told: { Bool };
 
     /// What it holds and what has happened to it.
@@ -58,13 +59,13 @@ pub trait Disk: Tape {
         ensures checked { IfMismatch result (λ part word. IsTrue (is_checked plan part)) }
         ensures ran { IsTrue Self.told → Ran at plan buf.old buf.new (Self.tape self.old) (Self.tape self.new) result };
 
-    /// Where the machine is told, the count is that of its events.
+    /// Where the machine is modelled, the count is that of its events.
     ghost counted: { (d : Self) → IsTrue Self.told → (Self.tape d).writes ≡ capped (writes_in (Self.tape d).events) };
 
-    /// Where the machine is told, it has as many sectors as its shape says.
+    /// Where the machine is modelled, it has as many sectors as its shape says.
     ghost sized: { (d : Self) → IsTrue Self.told → length (Self.tape d).base ≡ pages_of (Self.tape d).form };
 
-    /// Where the machine is told, each sector of its pack has records of 2, 8 and 256 words.
+    /// Where the machine is modelled, each sector of its pack has records of 2, 8 and 256 words.
     ghost formed: { (d : Self) → IsTrue Self.told → AreFormed (pack (Self.tape d)) };
 }
 

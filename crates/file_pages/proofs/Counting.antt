@@ -28,7 +28,7 @@ pub effect_by_the_count : (b a x y more nth : ℕ) (t : Tally) → b ≡ capped 
 effect_by_the_count b a x y more nth t bx ay next small some =
     ap (λ (k : Bool). record { limit = t.limit; passed = cond k (capped (t.passed + 1)) t.passed; all = capped (t.all + 1) }) (same_among b a x y more nth t.limit bx ay next small some)
 
--- some first ones of a list are no more than it has
+-- a prefix of a list are no more than it has
 pub first_length : (ws events : List Event) → IsFirstOf ws events → length events ≤ length ws
 first_length ws [] h = omega arith
 first_length [] (x ∷ events) h = elim h [ ]

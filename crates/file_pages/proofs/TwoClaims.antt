@@ -76,7 +76,7 @@ module _ (a b : Taped) (bits : List Bool) (f : Fid) (name : List ℕ) (moment le
     ab : writes_in b.events ≡ writes_in a.events + 3
     ab = let three : writes_in (added a b) ≡ 3 = ap writes_in done.wrote in let sum : writes_in b.events ≡ writes_in a.events + writes_in (added a b) = ap writes_in one.grown.events ∙ writes-append a.events (added a b) in omega (arith, sum, three)
 
-    -- some first ones of the make's record writes
+    -- a prefix of the make's record writes
     some_first : IsFirstOf (claim_writes leader_at leader.label leader.value) (added b c) → IsFirstOf (make_writes page leader) (added a c)
     some_first some = subst (IsFirstOf (make_writes page leader)) (sym both) (first_then (claim_writes page_at page.label page.value) (claim_writes leader_at leader.label leader.value ++ []) (added a b) (added b c) done.wrote (first_front (claim_writes leader_at leader.label leader.value) [] (added b c) some))
 

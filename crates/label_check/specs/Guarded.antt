@@ -45,7 +45,7 @@ pub record WantsRoom (guard : Pack → Type 0) (early writes : List Event) (old 
   pub less : old.spare < length writes
   pub unwritten : IsFirstOf early (added old new)
 
--- A call on a told disk that does these record writes where its guard holds, in so many sector commands; `early` are those before the
+-- A call on a modelled disk that does these record writes where its guard holds, in so many sector commands; `early` are those before the
 -- last command. For every answer a prefix of them was done, in two sector commands at most.
 pub record Guarded {T : Type 0} (guard : Pack → Type 0) (at : ℕ) (early writes : List Event) (count : ℕ) (old new : Taped) (result : Result T GuardError) : Type 0 where
   pub some : IsFirstOf writes (added old new)

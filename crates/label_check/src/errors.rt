@@ -18,14 +18,14 @@ pub struct PageInfo {
 /// Why a guarded command wasn't done.
 #[derive(Clone, Copy, Debug, PartialEq, Eq, Drop)]
 pub enum GuardError {
-    /// The sector doesn't carry the page, or, for `claim`, isn't free. On a told disk nothing was written, and `found` is the
-    /// label that stands there, None where its header is wrong. On a disk that isn't told this answer may also come of the
+    /// The sector doesn't carry the page, or, for `claim`, isn't free. On a modelled disk nothing was written, and `found` is the
+    /// label that stands there, None where its header is wrong. On a disk that isn't modelled this answer may also come of the
     /// second sector command of `claim`, `write_value`, `relabel` or `release`, as where the sector changed since the first:
     /// `found` is then None whatever the header says, and `claim` has written its value.
     Wrong { found: Option<[u16; 8]> },
-    /// The device failed, and its count of faults rose. A first part of the record writes was done.
+    /// The device failed, and its count of faults rose. A prefix of the record writes was done.
     DiskFault,
-    /// No memory was left for the record writes of a sector whose guard held. A first part of them was done.
+    /// No memory was left for the record writes of a sector whose guard held. A prefix of them was done.
     Memory,
 }
 

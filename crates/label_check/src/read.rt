@@ -76,7 +76,7 @@ fn info_in(sector: &Sector) -> PageInfo
 
 /// Reads the sector at the virtual address `at`, which is to carry this page, to `buf`, and compares its label in software: a
 /// check by the disk would pass over each word that is 0. One sector command. At Wrong `buf` holds what was read; after any
-/// other error what it holds is open. On every disk, told or not, the answer and `found` are words of `buf`.
+/// other error what it holds is open. On every disk, modelled or not, the answer and `found` are words of `buf`.
 pub fn read_page<D: Disk>(
     disk: &mut D,
     at: u16,

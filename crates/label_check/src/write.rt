@@ -15,7 +15,7 @@ use crate::GuardError;
 use crate::read::look_for;
 use disk_records::{Disk, DiskError, Page, Plan, Sector};
 
-/// The second sector command of a guarded call, on a sector that matches. Wrong comes where the disk isn't told and answers
+/// The second sector command of a guarded call, on a sector that matches. Wrong comes where the disk isn't modelled and answers
 /// that it doesn't.
 pub(crate) fn finish<D: Disk>(
     disk: &mut D,

@@ -24,14 +24,14 @@ names_few label page is = by_case (in_range (tag label)) refl is
     by_case false range e = cc
 
 module _ (shape : Shape) (at : ℕ) (s : Sector) (first : 1 ≤ at) where
-  -- behind a right header the label says what the sector shows
+  -- after a right header the label says what the sector shows
   pub sees : is_right_header shape at s.header ≡ true → tag_sight (tag s.label) s.value ≡ sight shape at s
   unfolding sight
   sees right =
       let above : nat_lt 0 at ≡ true = grind (arith, nat_tests) in
       rw (above, right) refl
 
-  -- behind a wrong one is nothing
+  -- after a wrong one is nothing
   pub sees_nothing : is_right_header shape at s.header ≡ false → hidden ≡ sight shape at s
   unfolding sight
   sees_nothing wrong =

@@ -45,8 +45,8 @@ pub record IsQuiet (old new : Around) : Type 0 where
   pub tally : new.tally ≡ old.tally
 
 -- The call began to write, with these record writes of the operation, in the words of `pack_model`. For every answer those that it made are
--- some first ones of them, and are counted. At Ok they are all of them, and the table has the sectors that were claimed as busy, and those that were released as free. Out of memory
--- comes only if fewer events were kept ready than the operation has record writes.
+-- a prefix of them, and are counted. At Ok they are all of them, and the table has the sectors that were claimed as busy, and those that were
+-- released as free. Out of memory comes only if fewer events were kept ready than the operation has record writes.
 pub record Begun {T E : Type 0} (fault memory : E) (o : Operation) (claimed : List ℕ) (old new : Around) (result : Result T E) : Type 0 where
   pub writes : List Event
   pub released : List ℕ

@@ -7,7 +7,7 @@ use Rattle.pack_model.specs.operations.Step.{Operation}
 use Rattle.pack_model.specs.sessions.Moves.{IsStartOf}
 use Rattle.laws_line.specs.CutLaws.{Batch}
 
--- Calls on the pack p that are to do these operations. For every answer their record writes are some first ones of those of a prefix of the
+-- Calls on the pack p that are to do these operations. For every answer their record writes are a prefix of those of a prefix of the
 -- operations, each make with its new serial; at Ok they are all of those of all.
 pub record Goes {T E : Type 0} (p : Pack) (ops : List Operation) (events : List Event) (result : Result T E) : Type 0 where
   pub begun : List Operation

@@ -42,7 +42,7 @@ abbrev pub LineStops : Type 0 → Type 0 → Type 0 → Type 0 → Type 0
 LineStops T U E F = (p : Pack) (ops more : List Operation) (events : List Event) (before : Result U F) (error : E) → Goes p ops events before → Goes {T = T} p (ops ++ more) events (Err error)
 
 -- ---- a serial and its make are one step
--- Such calls, then a new serial, and record writes of a make on the pack with it: some first ones of the serial's; and then a call that is to
+-- Such calls, then a new serial, and record writes of a make on the pack with it: a prefix of the serial's; and then a call that is to
 -- do the make, which may write nothing.
 pub record MakeJoins (T E : Type 0) (p : Pack) (ops : List Operation) (events : List Event) (f : Fid) (name : List ℕ) (moment at last : ℕ) : Type 0 where
   pub serial_breaks : (some : List Event) (error : E) → IsFirstOf (serial_writes at last (sector_at (after p events) at).value) some → Goes {T = T} p (ops ++ make f name moment ∷ []) (events ++ some) (Err error)

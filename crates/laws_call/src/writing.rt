@@ -7,7 +7,8 @@ pub fn written_acts()
     ensures { WrittenActs }
 {}
 
-/// They leave all other files and the leader of the file that is written, mislead no hint that didn't mislead, and release no free sector.
+/// All record writes of an operation leave all other files and the leader of the file that is written, mislead no hint that didn't mislead,
+/// and release no free sector.
 pub fn written_stays_known()
     ensures { WrittenStaysKnown }
 {}

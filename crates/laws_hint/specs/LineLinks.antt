@@ -1,4 +1,4 @@
--- The links of a line as a whole, and of a line and the closing behind it.
+-- The links of a line as a whole, and of a line and the closing after it.
 use Rattle.std.specs.Prelude.{Bool, List, Some, ℕ, ◌++◌, ◌≡◌}
 use Rattle.alto_words.specs.Fid.{disk_descriptor}
 use Rattle.disk_records.specs.Packs.{Pack, after, sector_at}
@@ -41,7 +41,7 @@ abbrev pub OpenedLineKeepsLinks : Type 0
 OpenedLineKeepsLinks = (p : Pack) (at : ℕ) (events : List Event) (ops : List Operation) (line : Batch (after p (opening_writes p at)) events ops) → Whole p → Tidy p → place (sights p) disk_descriptor 1 ≡ Some at
     → EachKeepsLinks line → KeepsLinks p (opening_writes p at ++ events)
 
--- where links were true before both, closing the pack behind them with its true map leaves all hints true
+-- where links were true before both, closing the pack after them with its true map leaves all hints true
 abbrev pub LineClosesWithTrueHints : Type 0
 LineClosesWithTrueHints = (p : Pack) (at : ℕ) (events : List Event) (ops : List Operation) (line : Batch (after p (opening_writes p at)) events ops) (busy : List Bool) (pages : List ℕ) → let q : Pack = after p (opening_writes p at ++ events) in
     Whole p → Tidy p → place (sights p) disk_descriptor 1 ≡ Some at → EachKeepsLinks line → LinksTrue p → MayClose q pages → TableTrue q busy → ClosedTrue q (after q (closing_writes q busy pages))

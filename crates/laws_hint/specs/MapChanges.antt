@@ -40,11 +40,11 @@ marked busy (at ∷ ats) table = marked busy ats (set table at busy)
 abbrev pub MarkingSetsListedBitsAlone : Type 0
 MarkingSetsListedBitsAlone = (busy : Bool) (ats : List ℕ) (table : List Bool) (at : ℕ) → at < length table → busy_at (marked busy ats table) at ≡ cond (list_any (λ i. at == i) ats) busy (busy_at table at)
 
--- the true map behind these record writes is the one before them, with the claimed sectors busy and the released ones free
+-- the true map after these record writes is the one before them, with the claimed sectors busy and the released ones free
 abbrev pub MarksMap : Pack → List Event → List ℕ → List ℕ → Type 0
 MarksMap p events claimed released = true_table (after p events) ≡ marked false released (marked true claimed (true_table p))
 
--- the true map behind these record writes is the one before them
+-- the true map after these record writes is the one before them
 abbrev pub LeavesMap : Pack → List Event → Type 0
 LeavesMap p events = true_table (after p events) ≡ true_table p
 

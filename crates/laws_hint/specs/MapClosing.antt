@@ -1,4 +1,4 @@
--- Closing with any map: what DiskDescriptor says behind it.
+-- Closing with any map: what DiskDescriptor says after it.
 use Rattle.std.specs.Prelude.{Bool, List, length, not, ℕ, ◌↔◌, ◌≡◌, ◌≢◌}
 use Rattle.disk_records.specs.Addresses.{pages_of, table_words}
 use Rattle.disk_records.specs.Packs.{Pack, after}
@@ -29,7 +29,7 @@ abbrev pub ClosedMapIsReadBack : Type 0
 ClosedMapIsReadBack = (p : Pack) (busy : List Bool) (pages : List ℕ) → Whole p → Tidy p → MayClose p pages → mark_of (sights p) ≢ mark_clean → length busy ≡ pages_of p.shape
     → described_table (after p (closing_writes p busy pages)) ≡ busy
 
--- behind closing a whole and tidy pack whose mark isn't clean and that has a sector for each address, with a map that has a bit for each
+-- after closing a whole and tidy pack whose mark isn't clean and that has a sector for each address, with a map that has a bit for each
 -- sector, the words of DiskDescriptor's map are true exactly where that map was the true one before
 abbrev pub ClosedMapIsTrueWhereItWas : Type 0
 ClosedMapIsTrueWhereItWas = (p : Pack) (busy : List Bool) (pages : List ℕ) → Whole p → Tidy p → MayClose p pages → mark_of (sights p) ≢ mark_clean → HasEachSector p → length busy ≡ pages_of p.shape

@@ -37,7 +37,7 @@ TableReadIsDescribed = (p : Pack) → 16 + table_words p.shape ≤ length (descr
 abbrev pub WholePackDescribesTheTableRead : Type 0
 WholePackDescribesTheTableRead = (p : Pack) → Whole p → bits_in (pages_of p.shape) (table_in p) ≡ described_table p
 
--- the words that a table gives are those behind the first 16 of the words that are written into DiskDescriptor for it
+-- the words that a table gives are those after the first 16 of the words that are written into DiskDescriptor for it
 abbrev pub TableIsWritten : Type 0
 TableIsWritten = (shape : Shape) (last mark : ℕ) (bits : List Bool) → drop 16 (descriptor_text shape last mark bits) ≡ words_given (table_words shape) bits
 

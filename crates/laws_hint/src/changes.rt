@@ -13,23 +13,23 @@ pub fn claims_and_releases_mark_free_table()
     ensures { ClaimsAndReleasesMarkFreeTable }
 {}
 
-/// On a whole and tidy pack the true map behind a make, a growth and a widening is the one before with the claimed sectors busy.
+/// On a whole and tidy pack the true map after a make, a growth and a widening is the one before with the claimed sectors busy.
 pub fn claims_mark_the_map()
     ensures { ClaimsMarkTheMap }
 {}
 
-/// On a whole and tidy pack the true map behind a cut, and behind a drop with or without the value that frees its entry's slot, is the
+/// On a whole and tidy pack the true map after a cut, and after a drop with or without the value that frees its entry's slot, is the
 /// one before with the released sectors free.
 pub fn releases_mark_the_map()
     ensures { ReleasesMarkTheMap }
 {}
 
-/// On a whole and tidy pack the true map behind a put, a title, a stamp, a leaving and an entering is the one before.
+/// On a whole and tidy pack the true map after a put, a title, a stamp, a leaving and an entering is the one before.
 pub fn values_leave_the_map()
     ensures { ValuesLeaveTheMap }
 {}
 
-/// On a whole and tidy pack the true map behind the opening of the mark, a new serial and closing with any map is the one before.
+/// On a whole and tidy pack the true map after the opening of the mark, a new serial and closing with any map is the one before.
 pub fn descriptor_writes_leave_the_map()
     ensures { DescriptorWritesLeaveTheMap }
 {}

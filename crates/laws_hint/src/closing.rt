@@ -1,4 +1,4 @@
-//! Closing, and the hints behind it.
+//! Closing, and the hints after it.
 //!
 //! Closing with any map, true or not.
 
@@ -21,13 +21,13 @@ pub fn closing_describes_its_map()
     ensures { ClosingDescribesItsMap }
 {}
 
-/// Behind closing a whole and tidy pack whose mark isn't clean, with a map that has a bit for each sector, the map that DiskDescriptor
+/// After closing a whole and tidy pack whose mark isn't clean, with a map that has a bit for each sector, the map that DiskDescriptor
 /// says is that one.
 pub fn closed_map_is_read_back()
     ensures { ClosedMapIsReadBack }
 {}
 
-/// Behind closing a whole and tidy pack whose mark isn't clean and that has a sector for each address, with a map that has a bit for
+/// After closing a whole and tidy pack whose mark isn't clean and that has a sector for each address, with a map that has a bit for
 /// each sector, the words of DiskDescriptor's map are true exactly where that map was the true one before.
 pub fn closed_map_is_true_where_it_was()
     ensures { ClosedMapIsTrueWhereItWas }

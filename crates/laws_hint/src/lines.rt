@@ -1,4 +1,4 @@
-//! The links of a line as a whole, and of a line and the closing behind it.
+//! The links of a line as a whole, and of a line and the closing after it.
 
 ghost use Rattle.laws_hint.specs.LineLinks.{LineClosesWithTrueHints, LineKeepsLinks, LinksJoin, OpenedLineKeepsLinks};
 
@@ -17,7 +17,7 @@ pub fn opened_line_keeps_links()
     ensures { OpenedLineKeepsLinks }
 {}
 
-/// Closing with the true map, behind the opening of the mark and a line whose operations each leave true links true, leaves all hints
+/// Closing with the true map, after the opening of the mark and a line whose operations each leave true links true, leaves all hints
 /// true where the links were at the start.
 pub fn line_closes_with_true_hints()
     ensures { LineClosesWithTrueHints }

@@ -33,7 +33,7 @@ pub fn absent_map_is_read_busy_and_described_free()
     ensures { AbsentMapIsReadBusyAndDescribedFree }
 {}
 
-/// The words that a table gives are those that are written into DiskDescriptor for it, behind the first 16.
+/// The words that a table gives are those that are written into DiskDescriptor for it, after the first 16.
 pub fn table_is_written()
     ensures { TableIsWritten }
 {}

@@ -1,4 +1,4 @@
--- What is so behind a line: every file has a name again, as the next line needs it, and directories are still there with their slots.
+-- What is so after a line: every file has a name again, as the next line needs it, and directories are still there with their slots.
 use Rattle.std.specs.FinMap.{contains_key, get}
 use Rattle.std.specs.Prelude.{All, List, Some, [], false, length, true, ℕ, ◌++◌, ◌∷◌, ◌≡◌, ◌≤◌}
 use Rattle.alto_words.specs.Fid.{is_directory, is_system, sys_dir}
@@ -22,7 +22,7 @@ pub record IsDirectory (m : Model) (d : Fid) : Type 0 where
   pub there : get m.files d ≡ Some (record { leader = lead; body = items_of slots })
   pub short : All (λ i. item_words i ≤ most_free) slots
 
--- The model is ready throughout the line and settled behind it, and a directory that is still there is one.
+-- The model is ready throughout the line and settled after it, and a directory that is still there is one.
 pub record SettledBehind (m : Model) (ops : List Operation) : Type 0 where
   pub ready : ReadyThroughout m ops
   pub behind : Settled (steps_of m ops)
@@ -58,13 +58,13 @@ DirectoriesAreRead = (p : Pack) (d : Fid) → is_directory d ≡ true → contai
 abbrev pub RootIsDirectory : Type 0
 RootIsDirectory = (m : Model) → Settled m → IsDirectory m sys_dir
 
--- and so is a new file with a directory's full name, behind its line
+-- and so is a new file with a directory's full name, after its line
 abbrev pub NewDirectory : Type 0
 NewDirectory = (m : Model) (d : Fid) (name : List ℕ) (f : Fid) (moment : ℕ) (rest : List Operation)
     → Settled m → is_directory f ≡ true → length name ≤ 39 → contains_key m.files f ≡ false → LeaveNames (with_new_file m d name f moment) rest
     → IsDirectory (steps_of m (new_file_line m d name f moment rest)) f
 
--- ---- the first part of a line
--- where all of it is ready throughout, so is a first part
+-- ---- the prefix of a line
+-- where all of it is ready throughout, so is a prefix
 abbrev pub FirstPartReady : Type 0
 FirstPartReady = (m : Model) (ops more : List Operation) → ReadyThroughout m (ops ++ more) → ReadyThroughout m ops

@@ -65,7 +65,7 @@ DropLeavesRoom = (m : Model) (f : Fid) → Settled m → MayGo m f → ReadyThro
 abbrev pub new_file_line : Model → Fid → List ℕ → Fid → ℕ → List Operation → List Operation
 new_file_line m d name f moment rest = spare_widening m ++ room_widening m d name ++ make f name moment ∷ enter d name f ∷ rest
 
--- the model behind the entering
+-- the model after the entering
 abbrev pub with_new_file : Model → Fid → List ℕ → Fid → ℕ → Model
 with_new_file m d name f moment = steps_of m (new_file_line m d name f moment [])
 

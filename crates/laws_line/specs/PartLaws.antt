@@ -1,4 +1,4 @@
--- What holds of the pack at each crash of some events: of first ones of them, of more behind them, and crash by crash. And moves whose cuts are
+-- What holds of the pack at each crash of some events: of first ones of them, of more after them, and crash by crash. And moves whose cuts are
 -- viewed as their models and can be scavenged.
 use Rattle.std.specs.Prelude.{List, ℕ, ◌++◌, ◌∷◌, ◌↔◌, ◌≡◌}
 use Rattle.disk_records.specs.Events.{IsFirstOf}
@@ -52,7 +52,7 @@ abbrev pub MovesOfALineSplit : Type 0
 MovesOfALineSplit = (m : Model) (ops : List Operation) (o : Operation) (more : List Operation)
     → moves_of_all m (ops ++ o ∷ more) ≡ moves_of_all m ops ++ ((serial_moves o ++ moves_of (steps_of m ops) o) ++ moves_of_all (step (steps_of m ops) o) more)
 
--- Whatever a crash stands for, the moves of a line lead to the model behind its operations, from which the next line goes on.
+-- Whatever a crash stands for, the moves of a line lead to the model after its operations, from which the next line goes on.
 pub record LeadsOn (mark : ℕ) (m : Model) (ops : List Operation) : Type 0 where
   pub in_views : steps viewing m (line_moves mark m ops) ≡ steps_of m ops
   pub in_operations : steps operating m (line_moves mark m ops) ≡ steps_of m ops

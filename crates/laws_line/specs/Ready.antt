@@ -1,4 +1,4 @@
--- Models that a pack can be read as at the cuts of a line, and be scavenged: the files have room, and so have the names that lack.
+-- Models that a pack can be read as at the crash points of a line, and be scavenged: the files have room, and so have the names that lack.
 use Rattle.std.specs.FinMap.{contains_key, entries, get}
 use Rattle.std.specs.Prelude.{◌+◌, ◌≡◌, ◌⊎◌, ◌≤◌, All, List, Some, [], ◌∷◌, false, length, true}
 use Rattle.alto_words.specs.Fid.{disk_descriptor, is_fid, sys_dir}
@@ -32,7 +32,7 @@ pub record Ready (m : Model) : Type 0 where
   pub room : IsNamed m nameless ⊎ (longest_entry ≤ largest_run (root_items m))
 
 -- ---- a line
--- the model behind these operations
+-- the model after these operations
 abbrev pub steps_of : Model → List Operation → Model
 steps_of m [] = m
 steps_of m (o ∷ ops) = steps_of (step m o) ops

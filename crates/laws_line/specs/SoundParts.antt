@@ -43,7 +43,7 @@ PartOfALineOnASoundPack = (p : Pack) (at : ℕ) (events : List Event) (ops more 
     Sound p → place (sights p) disk_descriptor 1 ≡ Some at → 0 < length (ops ++ more) → IsLine (read_as p) (ops ++ more) → pages_for_operations (read_as p) (ops ++ more) ≤ free_sector_count (sights p)
     → Batch (after p (open_writes (mark_of (sights p)) at (sector_at p at).value)) events ops → PartOnSound p all ops (ops ++ more)
 
--- The line broke off within them: some first ones of their record writes make a prefix of the line's moves, and so of the moves of an end
+-- The line broke off within them: a prefix of their record writes make a prefix of the line's moves, and so of the moves of an end
 -- of a session with these as its last operations.
 pub record BreaksOnSound (p : Pack) (wrote : List Event) (all : List Operation) : Type 0 where
   pub moves : List Move

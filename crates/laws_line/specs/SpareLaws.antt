@@ -56,7 +56,7 @@ LeaderLeavesTheSystem = (p : Pack) (f : Fid) (change : Leader → Leader) (at : 
 abbrev pub MakeLeavesTheSystem : Type 0
 MakeLeavesTheSystem = (p : Pack) (f : Fid) (name : List ℕ) (moment : ℕ) (page leader : Claim) → Whole p → MayMake p f name moment page leader → LeavesSystem p (make_writes page leader)
 
--- a file that goes, but for the slot of its entry
+-- a file that goes, except the slot of its entry
 abbrev pub ReleaseLeavesTheSystem : Type 0
 ReleaseLeavesTheSystem = (p : Pack) (f : Fid) (at : ℕ) (pages : List ℕ) → Whole p → MayDrop p f at pages → LeavesSystem p (release_file_writes at pages)
 

@@ -1,4 +1,4 @@
-//! What is so behind a line, as the next line needs it: every file has a name, and directories have their slots.
+//! What is so after a line, as the next line needs it: every file has a name, and directories have their slots.
 
 ghost use Rattle.laws_line.specs.BehindLaws.{DirectoriesAreRead, FirstPartReady, NewDirectory, RootIsDirectory, SettledAfterChanges, SettledAfterDrop, SettledAfterNewFile, SettledAfterRename};
 
@@ -32,12 +32,12 @@ pub fn root_is_directory()
     ensures { RootIsDirectory }
 {}
 
-/// A new file with a directory's full name is a directory behind its line.
+/// A new file with a directory's full name is a directory after its line.
 pub fn new_directory()
     ensures { NewDirectory }
 {}
 
-/// A line that keeps the model ready does so in each first part.
+/// A line that keeps the model ready does so in each prefix.
 pub fn first_part_ready()
     ensures { FirstPartReady }
 {}

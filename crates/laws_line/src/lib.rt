@@ -1,6 +1,6 @@
 //! A whole line: every crash point within it can be mended.
 //!
-//! The laws of lines, on models: after each operation of a line the files have room, as the Scavenger will find them, and behind it
+//! The laws of lines, on models: after each operation of a line the files have room, as the Scavenger will find them, and after it
 //! every file has a name again.
 //!
 //! FullModels has the models in which a line that gives SysDir no room first, or puts bytes past a file's end, leaves no room.

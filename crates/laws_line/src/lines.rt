@@ -28,7 +28,7 @@ pub fn new_file_leaves_room()
     ensures { NewFileLeavesRoom }
 {}
 
-/// A file that is renamed needs the same.
+/// A file that is renamed needs the pages that the line adds, with one for SysDir where it has no run of free words for the longest entry.
 pub fn rename_leaves_room()
     ensures { RenameLeavesRoom }
 {}

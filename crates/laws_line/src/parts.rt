@@ -1,4 +1,4 @@
-//! What holds of the pack at each cut, by parts of the events and cut by cut; and moves whose cuts can be scavenged.
+//! What holds of the pack at each crash point, by parts of the events and at each of them; and moves whose crash points can be scavenged.
 //!
 //! The first three laws hold of any property of packs. `CanBeMended` is one.
 
@@ -19,17 +19,17 @@ impl Property for CanBeMended {
     ghost holds = { Mendable };
 }
 
-/// What holds at each cut holds at each cut of first events, as where a call was broken off, and of the others from there on.
+/// What holds at each crash point holds at each crash point of first events, as where a call was broken off, and of the others from there on.
 pub fn crashes_of_parts<X: Property>()
     ensures { CrashesOfParts X.holds }
 {}
 
-/// What holds at each cut of some events, and of others from there on, holds at each cut of both.
+/// What holds at each crash point of some events, and of others from there on, holds at each crash point of both.
 pub fn crashes_of_both_parts<X: Property>()
     ensures { CrashesOfBothParts X.holds }
 {}
 
-/// What holds throughout some events holds at each cut by its number of events, and the other way round.
+/// What holds throughout some events holds at each crash point by its number of events, and the other way round.
 pub fn crash_by_crash<X: Property>()
     ensures { CrashByCrash X.holds }
 {}
@@ -59,7 +59,7 @@ pub fn moves_of_a_line_split()
     ensures { MovesOfALineSplit }
 {}
 
-/// The moves of a line lead to the model behind its operations, from which the next line goes on.
+/// The moves of a line lead to the model after its operations, from which the next line goes on.
 pub fn line_moves_lead_to_the_model()
     ensures { LineMovesLeadToTheModel }
 {}

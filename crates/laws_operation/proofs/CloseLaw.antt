@@ -56,7 +56,7 @@ sized_all : (p : Pack) (pages : List ℕ) → All (λ at. length (sector_at p at
 sized_all p [] h = tt
 sized_all p (at ∷ pages) h = (h 0 0 (omega arith), sized_all p pages (λ k d l. h (suc k) d (omega arith)))
 
--- all pages behind the first one
+-- all pages after the first one
 later_pages : (shape : Shape) (last : ℕ) (busy : List Bool) (pages : List ℕ) (k : ℕ) (p : Pack) → Whole p → Tidy p → Bear (sights p) disk_descriptor (suc (suc k)) pages → Sized p pages
     → Obeys (closing p) (read_as p) p (values_writes (reverse (closed_values shape last busy (suc k) pages))) (quiet_moves pages)
 later_pages shape last busy [] k p w t bear sized = rest (refl, mid_itself p w t)

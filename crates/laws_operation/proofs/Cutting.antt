@@ -71,7 +71,7 @@ module _ (ss : List Sight) (f : Fid) (k i : ℕ) (old : List ℕ) (h : Placed ss
       subst (λ n. HasPages (set ss i (holds f n (take b old))) f (h.front ++ (i, take b old) ∷ []) (suc k) h.later) h.number
       (carries_write ss f h.front i old [] (suc k) h.later (take b old) c (inl (omega arith)))
 
-  -- they come behind
+  -- they come after
   apart_cut : length (h.front ++ (i, take b old) ∷ []) ≤ suc k
   apart_cut = let n = length-one h.front (i, take b old) in let e = h.number in omega arith
 

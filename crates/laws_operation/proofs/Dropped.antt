@@ -1,4 +1,4 @@
--- Drop, but for its last record write: the leader is released, and then the data pages.
+-- Drop, except its last record write: the leader is released, and then the data pages.
 use Rattle.std.proofs.Common.{Bool, List, None, Some, [], ap, arith, cond, false, get_or, inl, inr, length, not, refl, set, subst, sym, true, ℕ, ◌<◌, ◌∙◌, ◌∷◌, ◌≡◌, ◌≤◌}
 use Rattle.std.specs.FinMap.{get}
 use Rattle.std.specs.Option.{is_some}

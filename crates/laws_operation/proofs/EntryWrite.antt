@@ -119,7 +119,7 @@ enters_of p d at new over words a b f name left es split slots_are h stands =
       left_is = λ some. let z : n < length words = omega arith in sym (get_or-drop begin ys n 0) ∙ ap (λ x. word x n) shape ∙ get_or_append_left words tail 0 n z ∙ es.left_is some;
     }
 
--- words of a free slot behind its first one
+-- words of a free slot after its first one
 pub loose_in : (from : ℕ) (a b : List Item) (t k : ℕ) → from + all_words a < k → k < from + all_words a + t → LooseIn from (a ++ space t ∷ b) k
 loose_in from [] b t k low high = inl (omega arith, (omega arith, omega arith))
 loose_in from (i ∷ a) b t k low high = inr (loose_in (from + item_words i) a b t k (omega arith) (omega arith))

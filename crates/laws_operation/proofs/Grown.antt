@@ -1,4 +1,4 @@
--- Grow: new pages come behind the last page of an ordinary file.
+-- Grow: new pages come after the last page of an ordinary file.
 use Rattle.std.proofs.Common.{List, None, Some, [], ap, append_assoc, arith, cond, get_or, length, refl, set, subst, suc, sym, take, true, ℕ, ◌++◌, ◌+◌, ◌/◌, ◌<◌, ◌∙◌, ◌∷◌, ◌≡◌, ◌≤◌}
 use Rattle.std.proofs.lemmas.List.{append-nil, length-append, nil_from_length}
 use Rattle.std.specs.Prelude.{nat_lt}

@@ -60,7 +60,7 @@ module _ (d f : Fid) (own name : List ℕ) (same : is_same_name own name ≡ tru
       ap (λ c. cond c (space (item_words (entry g nm)) ∷ (a ++ entry f own ∷ b)) (entry g nm ∷ items_left name (a ++ entry f own ∷ b))) o.0
       ∙ ap (λ r. entry g nm ∷ r) (left_here a b o.1)
 
-  -- and its place is behind the words of those before it
+  -- and its place is after the words of those before it
   pub entry_here : (a b : List Item) (from : ℕ) → list_any (clashes (record { dir = d; name = own; fid = f })) (namings_in d a) ≡ false → entry_place name from (a ++ entry f own ∷ b) ≡ from + all_words a
   entry_here [] b from none = ap (λ c. cond c from (entry_place name (from + item_words (entry f own)) b)) same ∙ (let z : from ≡ from + 0 = omega arith in z)
   entry_here (space n ∷ a) b from none = let r = entry_here a b (from + n) none in omega (arith, r)

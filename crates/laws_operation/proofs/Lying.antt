@@ -32,7 +32,7 @@ pub seat_left : (k : ℕ) (a b : List PageAt) (m i : ℕ) → IsSeat k a m i →
 seat_left k [] b m i h = absurd h
 seat_left k (c ∷ a) b m i h = elim h [ inl p ↦ inl p | inr q ↦ inr (seat_left (suc k) a b m i q) ]
 
--- or among those behind them
+-- or among those after them
 pub seat_right : (k : ℕ) (a b : List PageAt) (m i : ℕ) → IsSeat (k + length a) b m i → IsSeat k (a ++ b) m i
 seat_right k [] b m i h = let z : k + 0 ≡ k = omega arith in subst (λ n. IsSeat n b m i) z h
 seat_right k (c ∷ a) b m i h = let z : k + suc (length a) ≡ suc k + length a = omega arith in inr (seat_right (suc k) a b m i (subst (λ n. IsSeat n b m i) z h))
@@ -50,7 +50,7 @@ pub seated_left : (ss : List Sight) (f : Fid) (k : ℕ) (a b : List PageAt) → 
 seated_left ss f k [] b h = tt
 seated_left ss f k (c ∷ a) b h = (h.0, seated_left ss f (suc k) a b h.1)
 
--- and those behind them
+-- and those after them
 pub seated_right : (ss : List Sight) (f : Fid) (k : ℕ) (a b : List PageAt) → Seated ss f k (a ++ b) → Seated ss f (k + length a) b
 seated_right ss f k [] b h = let z : k ≡ k + 0 = omega arith in subst (λ n. Seated ss f n b) z h
 seated_right ss f k (c ∷ a) b h = let z : suc k + length a ≡ k + suc (length a) = omega arith in subst (λ n. Seated ss f n b) z (seated_right ss f (suc k) a b h.1)
@@ -76,7 +76,7 @@ shows_set ss a s i t l h = elim (cases_eq i a) [
 ]
 
 -- ---- bytes
--- of two lists, one behind the other
+-- of two lists, one after the other
 pub together-append : (a b : List PageAt) → together (a ++ b) ≡ together a ++ together b
 together-append [] b = refl
 together-append (c ∷ a) b = ap (λ r. c.1 ++ r) (together-append a b) ∙ sym (append_assoc c.1 (together a) (together b))

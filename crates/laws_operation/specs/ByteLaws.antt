@@ -64,7 +64,7 @@ abbrev pub together : List PageAt → List ℕ
 together [] = []
 together (c ∷ cs) = c.1 ++ together cs
 
--- More bytes behind those of a file: the sector of its last page; the claims of the pages that come behind it; a value with the old
+-- More bytes after those of a file: the sector of its last page; the claims of the pages that come after it; a value with the old
 -- counted bytes where they were; and a label for the page, under which the value and the new pages are laid as a file's pages are,
 -- and hold the rest of the old bytes and the new ones.
 pub record MayGrow (p : Pack) (f : Fid) (new : List ℕ) (claims : List Claim) (at : ℕ) (label value : List ℕ) : Type 0 where

@@ -25,7 +25,7 @@ pub record KeepsSound (p q : Pack) : Type 0 where
   pub sound : Sound p → Sound q
   pub places : (n : ℕ) → place (sights q) disk_descriptor n ≡ place (sights p) disk_descriptor n
 
--- The mark is open behind these record writes, so the pack isn't clean; each crash is read as before.
+-- The mark is open after these record writes, so the pack isn't clean; each crash is read as before.
 pub record Opens (p : Pack) (events : List Event) (moves : List Move) : Type 0 where
   pub obeys : Obeys reading (read_as p) p events moves
   pub keeps : KeepsSound p (after p events)
@@ -36,7 +36,7 @@ abbrev pub OpenCarriesOut : Type 0
 OpenCarriesOut = (p : Pack) (at : ℕ) (o : Operation) (ops : List Operation) → Whole p → Tidy p → place (sights p) disk_descriptor 1 ≡ Some at
     → Opens p (open_writes (mark_of (sights p)) at (sector_at p at).value) (open_moves (mark_of (sights p)) (o ∷ ops))
 
--- Each crash is viewed as before; read as a model the pack has the new last serial behind the record write, and the mark that it had.
+-- Each crash is viewed as before; read as a model the pack has the new last serial after the record write, and the mark that it had.
 pub record GivesSerial (p : Pack) (last : ℕ) (events : List Event) : Type 0 where
   pub obeys : Obeys viewing (read_as p) p events (quiet ∷ [])
   pub reads : read_as (after p events) ≡ record (read_as p) { last = last }
@@ -55,7 +55,7 @@ pub record MayClose (p : Pack) (pages : List ℕ) : Type 0 where
   pub sized : All (λ at. length (sector_at p at).value ≡ 256) pages
 
 -- Each crash is read as before, and is whole, tidy, and sound where the pack was; the mark stays what it was until the last record
--- write, and is clean behind it.
+-- write, and is clean after it.
 pub record Closes (p : Pack) (events : List Event) (moves : List Move) : Type 0 where
   pub obeys : Obeys reading (read_as p) p events moves
   pub keeps : (k : ℕ) → KeepsSound p (crash p events k)

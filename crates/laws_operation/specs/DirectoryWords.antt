@@ -43,7 +43,7 @@ pub record CanEnter (p : Pack) (d : Fid) (name : List ℕ) (f : Fid) (r : Room) 
   pub sector : place (sights p) d (page_of_word r.place) ≡ Some at
   pub next_sector : 0 < length (later r.place words) → place (sights p) d (suc (page_of_word r.place)) ≡ Some next_at
 
--- The directory's slots by that room: those before it, its own and those behind it.
+-- The directory's slots by that room: those before it, its own and those after it.
 pub record EntersThere (p : Pack) (d : Fid) (name : List ℕ) (f : Fid) (r : Room) (words : List ℕ) (at next_at : ℕ) : Type 0 where
   pub before : List Item
   pub old : List Item

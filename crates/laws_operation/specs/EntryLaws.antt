@@ -49,7 +49,7 @@ FreeNameIsApartForANamelessFile = (m : Model) (d f : Fid) (name : List ℕ) → 
 abbrev pub EntriesNameLivingFiles : Type 0
 EntriesNameLivingFiles = (p : Pack) (f : Fid) → lives (sights p) f ≡ false → is_named (read_as p) f ≡ false
 
--- behind the make of a file that didn't live no entry has it, on any pack
+-- after the make of a file that didn't live no entry has it, on any pack
 abbrev pub MakeLeavesNoName : Type 0
 MakeLeavesNoName = (p : Pack) (f : Fid) (own : List ℕ) (moment : ℕ) → lives (sights p) f ≡ false → is_named (step (read_as p) (make f own moment)) f ≡ false
 
@@ -62,16 +62,16 @@ pub record HasName (m : Model) (d : Fid) (old : List ℕ) (f : Fid) : Type 0 whe
   pub items : dir_items m d ≡ before ++ entry f own ∷ behind
   pub same : is_same_name own old ≡ true
 
--- behind the leaving of a file's entry no other has the file, on any pack
+-- after the leaving of a file's entry no other has the file, on any pack
 abbrev pub LeaveTakesTheOnlyEntry : Type 0
 LeaveTakesTheOnlyEntry = (p : Pack) (d f : Fid) (old : List ℕ) → HasName (read_as p) d old f → is_named (step (read_as p) (leave d old)) f ≡ false
 
--- ---- names that are free behind a make and behind a leaving, by the directories as they were before
--- behind the make of a file that didn't live an entry of it clashes with none, under a name that no entry of its directory had, on any pack
+-- ---- names that are free after a make and after a leaving, by the directories as they were before
+-- after the make of a file that didn't live an entry of it clashes with none, under a name that no entry of its directory had, on any pack
 abbrev pub FreeNameIsApartAfterMake : Type 0
 FreeNameIsApartAfterMake = (p : Pack) (d f : Fid) (name own : List ℕ) (moment : ℕ) → lives (sights p) f ≡ false → IsOpenTo (read_as p) d f name → IsApart (step (read_as p) (make f own moment)) d f name
 
--- behind the leaving of a file's entry another one of it clashes with none, in any directory where no other file had its name, on any pack
+-- after the leaving of a file's entry another one of it clashes with none, in any directory where no other file had its name, on any pack
 abbrev pub FreeNameIsApartAfterLeave : Type 0
 FreeNameIsApartAfterLeave = (p : Pack) (d e f : Fid) (name old : List ℕ) → HasName (read_as p) d old f → IsOpenTo (read_as p) e f name → IsApart (step (read_as p) (leave d old)) e f name
 
@@ -89,6 +89,6 @@ keeps_entries (leave d name) = false
 keeps_entries (enter d name f) = false
 keeps_entries (widen d) = true
 
--- behind such an operation the entries of any model are the same, so that what clashed with none of them clashes with none still
+-- after such an operation the entries of any model are the same, so that what clashed with none of them clashes with none still
 abbrev pub BytesLeadersAndWideningsKeepEntries : Type 0
 BytesLeadersAndWideningsKeepEntries = (m : Model) (o : Operation) → keeps_entries o ≡ true → namings (entries (step m o).files) ≡ namings (entries m.files)

@@ -59,7 +59,7 @@ abbrev pub PutPastWordsFit : Type 0
 PutPastWordsFit = (p : Pack) (f : Fid) (offset : ℕ) (new past : List ℕ) (at : ℕ) → Whole p → CanPut p f offset new at → ArePastTheEnd p f offset new past at → MayPut p f offset new at (put_value (offset % 512) new past (sector_at p at).value)
 
 -- ---- grow, and widen
--- More bytes for a file of b bytes, and words behind them in the page that is the last one then; the sector of the page that is the
+-- More bytes for a file of b bytes, and words after them in the page that is the last one then; the sector of the page that is the
 -- last one before, with a value of 256 words; and as many free sectors as there come pages, each of them once.
 pub record CanGrow (p : Pack) (f : Fid) (b : ℕ) (new past fresh : List ℕ) (at : ℕ) : Type 0 where
   pub size : b ≡ length (file_bytes (sights p) f)

@@ -11,7 +11,7 @@ use Rattle.pack_model.specs.states.Whole.{Tidy, Whole}
 use Rattle.laws_operation.specs.ByteLaws.{IsOrdinary}
 use Rattle.laws_operation.specs.Outcomes.{CarriesOut}
 
--- The sector of the file's leader, and a value whose name can be read and which says what the old one says, but for a change.
+-- The sector of the file's leader, and a value whose name can be read and which says what the old one says, except a change.
 pub record MayWriteLeader (p : Pack) (f : Fid) (change : Leader → Leader) (at : ℕ) (value : List ℕ) : Type 0 where
   pub file : IsOrdinary f
   pub sector : place (sights p) f 0 ≡ Some at

@@ -61,11 +61,11 @@ pub record MayDrop (p : Pack) (f : Fid) (at : ℕ) (pages : List ℕ) : Type 0 w
   pub number : length pages ≡ page_of_byte (length (file_bytes (sights p) f))
   pub pages_are : Bear (sights p) f 1 pages
 
--- the moves of a drop but for the last one
+-- the moves of a drop except the last one
 abbrev pub first_moves : Pack → Fid → List Move
 first_moves p f = release_file_moves (drop_file f) (units (page_of_byte (length_of (read_as p) f)))
 
--- All record writes but the last: the file is gone, its entry's slot is left, and the pack is tidy but for this one.
+-- All record writes but the last: the file is gone, its entry's slot is left, and the pack is tidy except this one.
 pub record GoesOut (p : Pack) (f : Fid) (events : List Event) : Type 0 where
   pub drops : Drops p f events (first_moves p f)
   pub cuts : CutsAreViewed p events (first_moves p f)
@@ -73,11 +73,11 @@ pub record GoesOut (p : Pack) (f : Fid) (events : List Event) : Type 0 where
   pub descriptor : KeepsDescriptor p (after p events)
   pub fits : StillFits p (after p events)
 
--- the releases are the drop but for its slot
+-- the releases are the drop except its slot
 abbrev pub ReleaseCarriesOut : Type 0
 ReleaseCarriesOut = (p : Pack) (f : Fid) (at : ℕ) (pages : List ℕ) → Whole p → Tidy p → MayDrop p f at pages → GoesOut p f (release_file_writes at pages)
 
--- The last: on a whole pack that is tidy but for the entry of a file that doesn't live, the value in which its slot is a free one
+-- The last: on a whole pack that is tidy except the entry of a file that doesn't live, the value in which its slot is a free one
 -- changes nothing that is read, and leaves a whole and tidy pack.
 pub record SlotFreed (p : Pack) (events : List Event) : Type 0 where
   pub meets : Meets p events (quiet ∷ [])

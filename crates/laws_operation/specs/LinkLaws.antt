@@ -44,6 +44,6 @@ abbrev pub MakeKeepsLinks : Type 0
 MakeKeepsLinks = (p : Pack) (f : Fid) (name : List ℕ) (moment leader_at page_at : ℕ) → let page = first_page_claim p.shape f leader_at page_at in let leader = leader_claim p.shape f name moment leader_at page_at in
     Whole p → Tidy p → MayMake p f name moment page leader → KeepsLinks p (make_writes page leader)
 
--- a drop but for its entry's slot
+-- a drop except its entry's slot
 abbrev pub ReleaseKeepsLinks : Type 0
 ReleaseKeepsLinks = (p : Pack) (f : Fid) (at : ℕ) (pages : List ℕ) → Whole p → Tidy p → MayDrop p f at pages → KeepsLinks p (release_file_writes at pages)

@@ -41,7 +41,7 @@ DropKeepsLinks = (p : Pack) (f : Fid) (at : ℕ) (pages : List ℕ) (d : Fid) (s
 abbrev pub JoinKeepsLinks : Type 0
 JoinKeepsLinks = (p : Pack) (d : Fid) (at : ℕ) (a old b : List Item) → Whole p → Tidy p → Frees p d at a old b → namings_in d old ≡ [] → KeepsLinks p (value_writes at (freed_value (all_words a) (all_words old) (sector_at p at).value))
 
--- words inside a free slot, behind its first one
+-- words inside a free slot, after its first one
 abbrev pub LooseWordsKeepLinks : Type 0
 LooseWordsKeepLinks = (p : Pack) (d : Fid) (w at : ℕ) (new : List ℕ) (a b : List Item) (n : ℕ) → Whole p → Tidy p → DirWrite p d w at new → slots (dir_words p d) ≡ a ++ space n ∷ b → all_words a < w → w + length new ≤ all_words a + n
     → KeepsLinks p (value_writes at (put_at (in_page w) new (sector_at p at).value))

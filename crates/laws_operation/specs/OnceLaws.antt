@@ -18,7 +18,7 @@ use Rattle.laws_operation.specs.NameLaws.{MayWiden}
 abbrev pub CarriedOnce : Pack → Type 0
 CarriedOnce p = (i j : ℕ) (page : Page) → carried p i ≡ Some page → carried p j ≡ Some page → i ≡ j
 
--- at each cut of these record writes
+-- at each crash point of these record writes
 abbrev pub StaysOnce : Pack → List Event → Type 0
 StaysOnce p events = Throughout CarriedOnce p events
 
@@ -61,6 +61,6 @@ MakeCarriesOnce = (p : Pack) (f : Fid) (name : List ℕ) (moment : ℕ) (page le
 abbrev pub DropCarriesOnce : Type 0
 DropCarriesOnce = (p : Pack) (at : ℕ) (pages : List ℕ) (slot_at : ℕ) (value : List ℕ) → Whole p → StaysOnce p (drop_writes at pages slot_at value)
 
--- but for its entry's slot
+-- except its entry's slot
 abbrev pub ReleaseCarriesOnce : Type 0
 ReleaseCarriesOnce = (p : Pack) (at : ℕ) (pages : List ℕ) → Whole p → StaysOnce p (release_file_writes at pages)

@@ -45,21 +45,21 @@ FileThatDoesNotLiveHasNoPage = (p : Pack) (f : Fid) (n : ℕ) → Whole p → li
 abbrev pub NoneAboveTheLastSerial : Type 0
 NoneAboveTheLastSerial = (p : Pack) (f : Fid) → Whole p → (read_as p).last < serial_of f → lives (sights p) f ≡ false
 
--- ---- behind values
+-- ---- after values
 -- The same files live, and each page has the same place.
 pub record SamePlaces (p q : Pack) : Type 0 where
   pub living : (f : Fid) → lives (sights q) f ≡ lives (sights p) f
   pub places : (f : Fid) (n : ℕ) → place (sights q) f n ≡ place (sights p) f n
 
--- behind values, wherever they are written, the same files of any pack live and each page has the same place
+-- after values, wherever they are written, the same files of any pack live and each page has the same place
 abbrev pub ValuesKeepPlaces : Type 0
 ValuesKeepPlaces = (p : Pack) (values : List (ℕ × List ℕ)) → SamePlaces p (after p (values_writes values))
 
--- behind a new serial the same files of any pack live and each page has the same place
+-- after a new serial the same files of any pack live and each page has the same place
 abbrev pub SerialKeepsPlaces : Type 0
 SerialKeepsPlaces = (p : Pack) (at last : ℕ) (value : List ℕ) → SamePlaces p (after p (serial_writes at last value))
 
--- behind a new serial above the last one given out no file with it lives, on a whole pack
+-- after a new serial above the last one given out no file with it lives, on a whole pack
 abbrev pub NewSerialNamesNoLivingFile : Type 0
 NewSerialNamesNoLivingFile = (p : Pack) (f : Fid) (at : ℕ) (value : List ℕ) → Whole p → (read_as p).last < serial_of f → lives (sights (after p (serial_writes at (serial_of f) value))) f ≡ false
 

@@ -27,12 +27,12 @@ pub fn cut_carries_once()
     ensures { CutCarriesOnce }
 {}
 
-/// Behind a cut each sector of any pack that was free is free still, where the sector that gets another label bore a page before it.
+/// After a cut each sector of any pack that was free is free still, where the sector that gets another label bore a page before it.
 pub fn cut_takes_no_sector()
     ensures { CutTakesNoSector }
 {}
 
-/// The sectors of any pack that bear pages of a file in a row are free behind a cut that releases them.
+/// The sectors of any pack that bear pages of a file in a row are free after a cut that releases them.
 pub fn cut_frees_its_pages()
     ensures { CutFreesItsPages }
 {}

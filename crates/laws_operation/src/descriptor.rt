@@ -14,8 +14,8 @@ pub fn serial_carries_out()
     ensures { SerialCarriesOut }
 {}
 
-/// Closing leaves what is read at each cut, and a sound pack sound; the mark is what it was until the last record write, and clean
-/// behind it.
+/// Closing leaves what is read at each crash point, and a sound pack sound; the mark is what it was until the last record write, and clean
+/// after it.
 pub fn close_carries_out()
     ensures { CloseCarriesOut }
 {}

@@ -12,7 +12,7 @@ pub fn slot_words_fit()
     ensures { SlotWordsFit }
 {}
 
-/// The release of a file's leader, and then those of its data pages, are its drop but for the slot of its entry: it takes place at
+/// The release of a file's leader, and then those of its data pages, are its drop except the slot of its entry: it takes place at
 /// the leader's label.
 pub fn release_carries_out()
     ensures { ReleaseCarriesOut }
@@ -54,12 +54,12 @@ pub fn release_carries_once()
     ensures { ReleaseCarriesOnce }
 {}
 
-/// Behind a drop each sector of any pack that was free is free still.
+/// After a drop each sector of any pack that was free is free still.
 pub fn drop_takes_no_sector()
     ensures { DropTakesNoSector }
 {}
 
-/// Behind the releases of a drop, before the value that frees its entry's slot, each sector of any pack that was free is free still.
+/// After the releases of a drop, before the value that frees its entry's slot, each sector of any pack that was free is free still.
 pub fn release_takes_no_sector()
     ensures { ReleaseTakesNoSector }
 {}
@@ -69,7 +69,7 @@ pub fn release_frees_its_pages()
     ensures { ReleaseFreesItsPages }
 {}
 
-/// The sectors of any pack that bear a file's leader and its first data pages are free behind a drop that releases them.
+/// The sectors of any pack that bear a file's leader and its first data pages are free after a drop that releases them.
 pub fn drop_frees_its_pages()
     ensures { DropFreesItsPages }
 {}

@@ -48,7 +48,7 @@ pub fn free_name_is_apart_for_a_nameless_file()
     ensures { FreeNameIsApartForANamelessFile }
 {}
 
-/// Behind the values of an entering the same sectors of any pack are free.
+/// After the values of an entering the same sectors of any pack are free.
 pub fn enter_leaves_free_sectors()
     ensures { EnterLeavesFreeSectors }
 {}

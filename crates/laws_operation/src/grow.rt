@@ -18,7 +18,7 @@ pub fn grow_carries_out()
     ensures { GrowCarriesOut }
 {}
 
-/// A growth of a whole and tidy pack, with the words that it writes, leaves all links true if they were true.
+/// On a whole and tidy pack the growth of a file, with the words that `pack_model` has for it, leaves all links true if they were.
 pub fn grow_keeps_links()
     ensures { GrowKeepsLinks }
 {}
@@ -28,7 +28,7 @@ pub fn grow_carries_once()
     ensures { GrowCarriesOnce }
 {}
 
-/// Behind a growth or a widening each sector of any pack that was free, but for those of its claims, is free still, where the sector that
+/// After a growth or a widening each sector of any pack that was free, except those of its claims, is free still, where the sector that
 /// gets another label bore a page before it.
 pub fn grow_keeps_unclaimed_free()
     ensures { GrowKeepsUnclaimedFree }

@@ -20,13 +20,13 @@ pub fn leave_keeps_links()
     ensures { LeaveKeepsLinks }
 {}
 
-/// On any pack, behind the leaving of an entry of a file, another entry of the file clashes with none, in whichever directory, under a
+/// On any pack, after the leaving of an entry of a file, another entry of the file clashes with none, in whichever directory, under a
 /// name that no entry there gave another file before.
 pub fn free_name_is_apart_after_leave()
     ensures { FreeNameIsApartAfterLeave }
 {}
 
-/// On any pack no entry has a file behind the leaving of an entry of it.
+/// On any pack no entry has a file after the leaving of an entry of it.
 pub fn leave_takes_the_only_entry()
     ensures { LeaveTakesTheOnlyEntry }
 {}

@@ -1,6 +1,6 @@
 //! Each operation: what to know, what to write, what is true at each crash point and afterwards.
 //!
-//! The laws of operations: what the whole list of record writes of an operation does to a whole and tidy pack, at every cut.
+//! The laws of operations: what the whole list of record writes of an operation does to a whole and tidy pack, at every crash point.
 //!
 //! The laws of written words: those that each operation writes, as pack_model defines them, are such as the laws of operations ask
 //! for, by what a calling program is to know.

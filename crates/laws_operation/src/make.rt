@@ -29,18 +29,18 @@ pub fn make_carries_once()
     ensures { MakeCarriesOnce }
 {}
 
-/// On any pack, behind the make of a file that didn't live, an entry of it clashes with none, under a name that no entry of its
+/// On any pack, after the make of a file that didn't live, an entry of it clashes with none, under a name that no entry of its
 /// directory had before.
 pub fn free_name_is_apart_after_make()
     ensures { FreeNameIsApartAfterMake }
 {}
 
-/// Behind a make each sector of any pack that was free, but for the two that it claims, is free still.
+/// After a make each sector of any pack that was free, except the two that it claims, is free still.
 pub fn make_keeps_unclaimed_free()
     ensures { MakeKeepsUnclaimedFree }
 {}
 
-/// On any pack no entry has a file behind its make, where the file didn't live before.
+/// On any pack no entry has a file after its make, where the file didn't live before.
 pub fn make_leaves_no_name()
     ensures { MakeLeavesNoName }
 {}

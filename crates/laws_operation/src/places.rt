@@ -33,17 +33,17 @@ pub fn model_has_the_living()
     ensures { ModelHasTheLiving }
 {}
 
-/// Behind values, wherever they are written, the same files of any pack live and each page has the same place.
+/// After values, wherever they are written, the same files of any pack live and each page has the same place.
 pub fn values_keep_places()
     ensures { ValuesKeepPlaces }
 {}
 
-/// Behind a new serial the same files of any pack live and each page has the same place.
+/// After a new serial the same files of any pack live and each page has the same place.
 pub fn serial_keeps_places()
     ensures { SerialKeepsPlaces }
 {}
 
-/// On a whole pack, behind a new serial above the last one given out, no file with this serial lives.
+/// On a whole pack, after a new serial above the last one given out, no file with this serial lives.
 pub fn new_serial_names_no_living_file()
     ensures { NewSerialNamesNoLivingFile }
 {}

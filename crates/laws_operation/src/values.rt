@@ -14,7 +14,7 @@ pub fn values_carry_once()
     ensures { ValuesCarryOnce }
 {}
 
-/// Behind values, wherever they are written, the same sectors of any pack are free.
+/// After values, wherever they are written, the same sectors of any pack are free.
 pub fn values_leave_free_sectors()
     ensures { ValuesLeaveFreeSectors }
 {}

@@ -21,7 +21,7 @@ drop_same xs ys n size e = same_number_lists (drop n ys) (drop n xs) (length-dro
     (λ k l. let m : k < length ys - n = subst (λ j. k < j) (length-drop n ys) l in
     get_or-drop n ys k 0 ∙ e (n + k) (omega arith) (omega (arith, size)) ∙ sym (get_or-drop n xs k 0))
 
--- the same but for one word
+-- the same except one word
 set_same : (xs ys : List ℕ) (at : ℕ) → length ys ≡ length xs → ((k : ℕ) → k < length xs → k ≢ at → get_or ys k 0 ≡ get_or xs k 0) → ys ≡ set xs at (get_or ys at 0)
 set_same xs ys at size e = same_number_lists ys (set xs at (get_or ys at 0)) (size ∙ sym (length-set xs at (get_or ys at 0)))
     (λ k l. elim (nat_eq k at) as (λ b. (k == at) ≡ b → get_or ys k 0 ≡ get_or (set xs at (get_or ys at 0)) k 0) [
@@ -30,7 +30,7 @@ set_same xs ys at size e = same_number_lists ys (set xs at (get_or ys at 0)) (si
     ] refl)
 
 -- ---- one slot
--- a slot doesn't depend on its word 5 where it has words behind that
+-- a slot doesn't depend on its word 5 where it has words after that
 slot_of-set : (words : List ℕ) (v : ℕ) → 6 ≤ length words → slot_of (set words 5 v) ≡ slot_of words
 unfolding is_entry
 slot_of-set (a ∷ b ∷ c ∷ d ∷ e ∷ g ∷ words) v l = refl
@@ -98,7 +98,7 @@ abbrev pub LooseIn : ℕ → List Item → ℕ → Type 0
 LooseIn place [] w = ⊥
 LooseIn place (i ∷ is) w = ((place ≤ w) × IsLoose i (w - place)) ⊎ LooseIn (place + item_words i) is w
 
--- loose words stand behind the first one
+-- loose words stand after the first one
 loose_behind : (place : ℕ) (is : List Item) (w : ℕ) → LooseIn place is w → place ≤ w
 loose_behind place [] w h = absurd h
 loose_behind place (i ∷ is) w (inl here) = here.0

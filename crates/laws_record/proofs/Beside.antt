@@ -77,7 +77,7 @@ module _ (v : Fid → Bool) (e : Naming) where
   none_second [] b h = h
   none_second (x ∷ a) b h = none_second a b h.1
 
-  -- one body, and those behind it
+  -- one body, and those after it
   pub files_beside : (es : List (Fid × File)) (s r : List Naming) → NoneClashes e (namings (files_kept (is_kept v) (s ++ r) es)) → files_kept (is_kept v) (s ++ e ∷ r) es ≡ files_kept (is_kept v) (s ++ r) es
   files_beside [] s r none = refl
   files_beside (x ∷ es) s r none = by (files_beside es) x.1.body none

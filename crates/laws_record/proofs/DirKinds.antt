@@ -86,7 +86,7 @@ spaces_pass ok d before [] n b e = (refl, refl)
 spaces_pass ok d before (space k ∷ old) n b e = spaces_pass ok d before old n b e
 spaces_pass ok d before (entry f name ∷ old) n b e = absurd (let clash : record { dir = d; name = name; fid = f } ∷ namings_in d old ≡ [] = e in cc)
 
--- also behind others
+-- also after others
 pub spaces_in : (ok : List Naming → Naming → Bool) (d : Fid) (before : List Naming) (a old : List Item) (n : ℕ) (b : List Item) → namings_in d old ≡ []
     → (namings_in d (items_kept ok d before (a ++ space n ∷ b)) ≡ namings_in d (items_kept ok d before (a ++ (old ++ b)))) × (kept_after ok d before (a ++ space n ∷ b) ≡ kept_after ok d before (a ++ (old ++ b)))
 spaces_in ok d before [] old n b e = spaces_pass ok d before old n b e

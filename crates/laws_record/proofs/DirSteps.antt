@@ -42,7 +42,7 @@ use Rattle.laws_record.specs.QuietLaws.{with_label}
 use Rattle.laws_record.specs.StepLaws.{LeaveIsTheStep, WidenIsTheStep}
 
 -- ---- widen
--- other slots behind the last, of which the scan keeps no entry
+-- other slots after the last, of which the scan keeps no entry
 pub scan_more : (v : Fid → Bool) (files : Files) (d : Fid) (l : Leader) (is js : List Item) (here : get files d ≡ Some (directory l is)) → namings_in d js ≡ [] → tidied v (insert files d (directory l (is ++ js))) ≡ insert (tidied v files) d (directory l (items_kept (is_kept v) d (kept_before v files d l is here) is ++ js))
 unfolding tidied
 scan_more v files d l is js here bare =
@@ -73,7 +73,7 @@ scan_more v files d l is js here bare =
     bare_same ok d before (space n ∷ js) e = let r = bare_same ok d before js e in (ap (λ q. space n ∷ q) r.0, r.1)
     bare_same ok d before (entry f name ∷ js) e = absurd (let clash : record { dir = d; name = name; fid = f } ∷ namings_in d js ≡ [] = e in cc)
 
--- a directory with a free slot behind its others
+-- a directory with a free slot after its others
 widened : (p q : Pack) (d : Fid) (words : List ℕ) → DirChange p q d words → is_directory d ≡ true → (l : Leader) → leader (sights p) d ≡ Some l → slots words ≡ slots (dir_words p d) ++ space 256 ∷ [] → read_as q ≡ step (read_as p) (widen d)
 unfolding read_sights
 widened p q d words c dir l lead all =
@@ -83,7 +83,7 @@ widened p q d words c dir l lead all =
     (ap (λ js. tidied v (insert (described (sights p)) d (directory l js))) all ∙ scan_more v (described (sights p)) d l (slots (dir_words p d)) (space 256 ∷ []) here refl)
     ∙ on_slots (read_as p) d l _ _ (λ js. js ++ space 256 ∷ []) (tidied_items v (described (sights p)) d l (slots (dir_words p d)) here) refl
 
--- the label of the last page, behind which a free slot comes: the words of the directory
+-- the label of the last page, after which a free slot comes: the words of the directory
 pub widen_change : (p : Pack) (at : ℕ) (d : Fid) (label fresh : List ℕ) → let b : ℕ = length (file_bytes (sights p) d) in let q : Pack = with_label p at label in
     place (sights p) d (suc (b / 512)) ≡ Some at → page_of label ≡ Some (record { fid = d; number = suc (b / 512) }) → dir_words q d ≡ dir_words p d ++ fresh → DirChange p q d (dir_words p d ++ fresh)
 widen_change p at d label fresh bears names more =

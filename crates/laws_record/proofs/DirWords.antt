@@ -30,7 +30,7 @@ take-bytes zero words = refl
 take-bytes (suc n) [] = let z : suc (suc (2 * n)) ≡ 2 * suc n = omega arith in ap (λ k. take k []) z
 take-bytes (suc n) (w ∷ words) = let z : suc (suc (2 * n)) ≡ 2 * suc n = omega arith in ap (λ r. (w / 256) ∷ (w % 256) ∷ r) (take-bytes n words) ∙ ap (λ k. take k (bytes_of (w ∷ words))) z
 
--- the words behind them
+-- the words after them
 drop-bytes : (n : ℕ) (words : List ℕ) → bytes_of (drop n words) ≡ drop (2 * n) (bytes_of words)
 drop-bytes zero words = refl
 drop-bytes (suc n) [] = let z : suc (suc (2 * n)) ≡ 2 * suc n = omega arith in ap (λ k. drop k []) z

@@ -38,7 +38,7 @@ use Rattle.laws_record.proofs.Tidying.{onto, split_kept, still_kept, tidy_same}
 use Rattle.laws_record.specs.QuietLaws.{with_label}
 use Rattle.laws_record.specs.StepLaws.{DropIsTheStep}
 
--- entries that are kept, and others that are kept behind them
+-- entries that are kept, and others that are kept after them
 pub join_kept : (ok : List Naming → Naming → Bool) (b x y : List Naming) → AllKept ok b x → AllKept ok (onto x b) y → AllKept ok b (x ++ y)
 join_kept ok b [] y h g = g
 join_kept ok b (e ∷ x) y h g = (h.0, join_kept ok (e ∷ b) x y h.1 g)

@@ -64,7 +64,7 @@ module _ (v : Fid → Bool) (files : Files) (d : Fid) (l : Leader) (a b : List I
   abbrev e : Naming
   e = record { dir = d; name = name; fid = f }
 
-  -- the slots before and behind, as the scan leaves them
+  -- the slots before and after, as the scan leaves them
   abbrev pub before : List Naming
   before = kept_before v files d l (a ++ space total ∷ b) here
 
@@ -76,7 +76,7 @@ module _ (v : Fid → Bool) (files : Files) (d : Fid) (l : Leader) (a b : List I
   abbrev state : List Naming
   state = kept_after (is_kept v) d before a
 
-  -- the slots behind
+  -- the slots after
   abbrev pub back_items : List Item
   back_items = items_kept (is_kept v) d state b
 
@@ -84,7 +84,7 @@ module _ (v : Fid → Bool) (files : Files) (d : Fid) (l : Leader) (a b : List I
   abbrev front : List (Fid × File)
   front = (around fid_total fid_same files d (directory l (a ++ space total ∷ b)) here).front
 
-  -- and those behind
+  -- and those after
   abbrev back : List (Fid × File)
   back = (around fid_total fid_same files d (directory l (a ++ space total ∷ b)) here).back
 
@@ -108,11 +108,11 @@ module _ (v : Fid → Bool) (files : Files) (d : Fid) (l : Leader) (a b : List I
   dir_clear : list_any (clashes e) (namings_in d (front_items ++ space total ∷ back_items)) ≡ false
   dir_clear = any_first (clashes e) (namings_in d (front_items ++ space total ∷ back_items)) _ (any_second (clashes e) (namings (files_kept (is_kept v) [] front)) _ (sym (ap (list_any (clashes e)) namings_split) ∙ apart))
 
-  -- nor of those behind
+  -- nor of those after
   back_clear : list_any (clashes e) (namings (files_kept (is_kept v) (kept_after (is_kept v) d state b) back)) ≡ false
   back_clear = any_second (clashes e) (namings_in d (front_items ++ space total ∷ back_items)) _ (any_second (clashes e) (namings (files_kept (is_kept v) [] front)) _ (sym (ap (list_any (clashes e)) namings_split) ∙ apart))
 
-  -- the entries of the directory, before and behind
+  -- the entries of the directory, before and after
   items_split : namings_in d (front_items ++ space total ∷ back_items) ≡ namings_in d front_items ++ namings_in d back_items
   items_split = namings_in-append d front_items (space total ∷ back_items)
 
@@ -124,11 +124,11 @@ module _ (v : Fid → Bool) (files : Files) (d : Fid) (l : Leader) (a b : List I
   e_kept : is_kept v state e ≡ true
   e_kept = λ i. may i && not (state_clear i)
 
-  -- the slots behind it, and the files behind the directory, are left as before
+  -- the slots after it, and the files after the directory, are left as before
   behind : Beside v e state (items_kept (is_kept v) d state b) (items_kept (is_kept v) d (e ∷ state) b) (kept_after (is_kept v) d state b) (kept_after (is_kept v) d (e ∷ state) b)
   behind = items_beside v e d b [] state (none_of_any e (namings_in d back_items) (any_second (clashes e) (namings_in d front_items) (namings_in d back_items) (sym (ap (list_any (clashes e)) items_split) ∙ dir_clear)))
 
-  -- so are the files behind
+  -- so are the files after
   files_behind : files_kept (is_kept v) (kept_after (is_kept v) d (e ∷ state) b) back ≡ files_kept (is_kept v) (kept_after (is_kept v) d state b) back
   files_behind =
       ap (λ k. files_kept (is_kept v) k back) behind.now

@@ -71,11 +71,11 @@ module _ (p : Pack) (d : Fid) (at : ℕ) (new : List ℕ) (a b : List Item) (f :
   unfolding read_sights
   apart = sym (ap (λ es. list_any (clashes (record { dir = d; name = name; fid = f })) (namings es)) (entries-tidied v files)) ∙ may.apart
 
-  -- the slots before and behind, as the model has them
+  -- the slots before and after, as the model has them
   abbrev pub front_slots : List Item
   front_slots = front_items v files d dir_leader a b total f name left here stands apart
 
-  -- the slots behind, as the model has them
+  -- the slots after, as the model has them
   abbrev pub back_slots : List Item
   back_slots = back_items v files d dir_leader a b total f name left here stands apart
 

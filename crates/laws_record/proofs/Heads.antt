@@ -1,4 +1,4 @@
--- The slots of words, one after another: the first slot, and those behind it.
+-- The slots of words, one after another: the first slot, and those after it.
 use Rattle.std.proofs.Common.{◌%◌, ◌&&◌, ◌++◌, ◌+◌, ◌-◌, ◌<◌, ◌==◌, ◌∙◌, ◌∷◌, ◌≡◌, ◌≤◌, Bool, List, None, Option, Some, [], ap, append-nil, arith, cond, drop, eqb-true, false, le-leb, leb-true, length, length-append, length-drop, nat_le, refl, suc, sym, take, take-append-drop, true, zero, ℕ}
 use Rattle.std.proofs.lemmas.List.{get_or-take, length-take-le}
 use Rattle.std.specs.Prelude.{is_none}
@@ -84,7 +84,7 @@ unfolding slots_after
 slots_none [] e = refl
 slots_none (w ∷ words) e = ap (λ r. and_then r (λ n. slots_after (n - 1) words)) e
 
--- a slot, and those behind it
+-- a slot, and those after it
 pub slots_some : (words : List ℕ) (i : Item) → slot_at words ≡ Some i → slots words ≡ i ∷ slots (drop (item_words i) words)
 unfolding slots_after
 slots_some [] i e = absurd (let n : None ≡ Some i = sym no_words ∙ e in cc)

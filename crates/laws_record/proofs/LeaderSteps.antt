@@ -41,7 +41,7 @@ module _ (v : Fid → Bool) (files : Files) (f : Fid) (x : File) (here : get fil
   abbrev front : List (Fid × File)
   front = (around fid_total fid_same files f x here).front
 
-  -- and behind it
+  -- and after it
   abbrev back : List (Fid × File)
   back = (around fid_total fid_same files f x here).back
 

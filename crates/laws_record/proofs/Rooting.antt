@@ -49,7 +49,7 @@ insert_twice m f x y = same_map fid_total fid_same _ _ (λ g. get-insert fid_tot
 -- ---- SysDir comes alive
 module _ (shape : Shape) (ss tt : List Sight) (is : List Item) (l : Leader) (v : Fid → Bool) (none : get (described ss) sys_dir ≡ None) (here : get (described tt) sys_dir ≡ Some (record { leader = l; body = items_of is }))
     (others : (g : Fid) → is_fid g sys_dir ≡ false → get (described tt) g ≡ get (described ss) g) (bare : namings_in sys_dir is ≡ []) where
-  -- the files as the Scavenger will find them, but for the slots of SysDir
+  -- the files as the Scavenger will find them, except the slots of SysDir
   root_now : (g : Fid) → is_system g ≡ false → get (rooted (described tt)) g ≡ get (rooted (described ss)) g
   root_now g e =
       let other : is_fid g sys_dir ≡ false = or_false_left (is_fid g sys_dir) (is_fid g disk_descriptor) e in

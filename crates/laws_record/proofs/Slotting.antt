@@ -23,7 +23,7 @@ slot_at-append (x ∷ w) rest i s =
     ∙ ap (λ b. cond b (slot_of (take (length (x ∷ w)) all)) None) (le-leb (length (x ∷ w)) (length all) le)
     ∙ ap slot_of (take_at (x ∷ w) rest (length (x ∷ w)) refl) ∙ s.reads
 
--- and the slots behind it
+-- and the slots after it
 slots-append : (w rest : List ℕ) (i : Item) → IsSlot w i → slots (w ++ rest) ≡ i ∷ slots rest
 unfolding slots_after
 slots-append [] rest i s = let n = s.some in absurd (omega arith)

@@ -1,4 +1,4 @@
--- Slots in the place of slots: those before and behind stay.
+-- Slots in the place of slots: those before and after stay.
 use Rattle.std.proofs.Common.{◌%◌, ◌++◌, ◌+◌, ◌-◌, ◌<◌, ◌∙◌, ◌∷◌, ◌≡◌, ◌≤◌, List, None, Some, [], ap, append_assoc, arith, cond, drop, eq-eqb, get_or-drop, inl, length, length-append, length-drop, refl, sym, take, ℕ}
 use Rattle.std.proofs.lemmas.List.{drop-drop, get_or-append_right, get_or-take, get_or_append_left, length-take-le}
 use Rattle.alto_words.specs.declared.fid.Fid.{Fid}
@@ -28,7 +28,7 @@ put_here at new old k fits l =
     ∙ get_or-append_right (take at old) new at (at + k) 0 size (omega arith)
     ∙ ap (word new) z
 
--- the words behind
+-- the words after
 pub put_behind : (at : ℕ) (new old : List ℕ) (k : ℕ) → at + length new ≤ length old → at + length new ≤ k → word (put_at at new old) k ≡ word old k
 put_behind at new old k fits l =
     let size = length-take-le at old (omega arith) in
@@ -38,7 +38,7 @@ put_behind at new old k fits l =
     ∙ get_or-drop (at + length new) old (k - (at + length new)) 0
     ∙ ap (word old) z
 
--- ---- slots before and behind
+-- ---- slots before and after
 -- the words of slots in a row
 pub words-append : (a b : List Item) → all_words (a ++ b) ≡ all_words a + all_words b
 words-append [] b = omega arith
@@ -70,7 +70,7 @@ slots_before place xs ys (i ∷ a) b size e same =
     slots_some (drop place ys) i here ∙ ap (λ r. i ∷ r) (ap slots (drop-drop (item_words i) place ys) ∙ rest ∙ ap (λ k. a ++ slots (drop k ys)) z)
 
 -- ---- one slot in the place of others
--- Slots with others in the place of some: the words before and behind are the same, and the new ones are a slot.
+-- Slots with others in the place of some: the words before and after are the same, and the new ones are a slot.
 pub record Replaced (xs ys : List ℕ) (a : List Item) (i : Item) (total : ℕ) : Type 0 where
   pub size : length ys ≡ length xs
   pub before : (k : ℕ) → k < all_words a → word ys k ≡ word xs k

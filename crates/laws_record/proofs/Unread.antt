@@ -31,7 +31,7 @@ reached_length fuel pages k short l r =
     let size = length-front k pages short r in
     omega arith
 
--- so a page behind the last one isn't reached
+-- so a page after the last one isn't reached
 past_reached : (p : Pack) (f : Fid) (n : ℕ) → n < most_pages → Reaches (page (sights p) f) n → 512 * n ≤ length (file_bytes (sights p) f)
 unfolding file_bytes
 past_reached p f n l r = reached_length most_pages (page (sights p) f) n (short_pages p f) l r

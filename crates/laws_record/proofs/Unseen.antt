@@ -55,11 +55,11 @@ free_value p at value e =
 pub equal_value : EqualValue Stays
 equal_value p at = equal_part p at
 
--- a word of a label is one of those behind its first three
+-- a word of a label is one of those after its first three
 word_behind : (label : List ℕ) (k : ℕ) → word label (3 + k) ≡ word (drop 3 label) k
 word_behind label k = sym (get_or-drop 3 label k 0)
 
--- the same words behind the first three say the same
+-- the same words after the first three say the same
 pub tag_behind : (a b : List ℕ) → drop 3 b ≡ drop 3 a → tag b ≡ tag a
 tag_behind a b e =
     let same : (k : ℕ) → word b (3 + k) ≡ word a (3 + k) = λ k. word_behind b k ∙ ap (λ x. word x k) e ∙ sym (word_behind a k) in

@@ -58,7 +58,7 @@ abbrev pub SameLeader : Relation → Type 0
 SameLeader Kept = (p : Pack) (at : ℕ) (page : Page) (value : List ℕ) → carried p at ≡ Some page → page.number ≡ 0 → leader_of page.fid value ≡ leader_of page.fid (sector_at p at).value → Kept p (with_value p at value)
 
 -- ---- pages that aren't read, by the number in their label
--- A data page of a file without a leader, DiskDescriptor's aside; a page behind the one that the end of the file's bytes is in.
+-- A data page of a file without a leader, DiskDescriptor's aside; a page after the one that the end of the file's bytes is in.
 pub data IsUnread (ss : List Sight) (f : Fid) (n : ℕ) : Type 0 where
   leaderless : leader ss f ≡ None → is_fid f disk_descriptor ≡ false → 0 < n → IsUnread ss f n
   past_end : suc (length (file_bytes ss f) / 512) < n → IsUnread ss f n

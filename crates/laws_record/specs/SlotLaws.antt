@@ -9,7 +9,7 @@ use Rattle.pack_model.specs.reading.Slots.{Item, Reads, ReadsLongest, all_words,
 use Rattle.pack_model.specs.reading.Slots.Item.{entry, space}
 
 -- ---- how far words are slots
--- the longest first part that slots fill is as long as they are
+-- the longest prefix that slots fill is as long as they are
 abbrev pub LengthIsRead : Type 0
 LengthIsRead = (words : List ℕ) (is : List Item) (r : ReadsLongest words is) → length r.front ≡ all_words is
 
@@ -31,11 +31,11 @@ MoreBehind = (words more : List ℕ) (i : Item) → slot_at words ≡ Some i →
 abbrev pub NotYet : Type 0
 NotYet = (words more : List ℕ) (i : Item) → slot_at words ≡ None → slot_at (words ++ more) ≡ Some i → length words < item_words i
 
--- the slots are the first one and those behind it
+-- the slots are the first one and those after it
 abbrev pub OneByOne : Type 0
 OneByOne = (words : List ℕ) → slots words ≡ and_then (slot_at words) (λ n. slots (drop n words))
 
--- behind words that are slots to their end come the slots of the others
+-- after words that are slots to their end come the slots of the others
 abbrev pub ReadsOn : Type 0
 ReadsOn = (front rest : List ℕ) (is : List Item) → Reads front is → slots (front ++ rest) ≡ is ++ slots rest
 
@@ -44,7 +44,7 @@ abbrev pub IsSpace : Item → Type 0
 IsSpace (space n) = Unit {0}
 IsSpace (entry f name) = ⊥
 
--- An item in a room: the slots before it, the free ones in it, and those behind it; then the item stands between, and a free slot
+-- An item in a room: the slots before it, the free ones in it, and those after it; then the item stands between, and a free slot
 -- of the words left over.
 pub record IsPlacedIn (r : Room) (i : Item) (old new : List Item) : Type 0 where
   pub before : List Item

@@ -40,12 +40,12 @@ abbrev pub CutIsTheStep : Type 0
 CutIsTheStep = (p : Pack) (at n : ℕ) (f : Fid) (label : List ℕ) → LivesOrdinary p f → place (sights p) f (suc n) ≡ Some at → page_of label ≡ Some (record { fid = f; number = suc n }) → (tag label).bytes < 512 → 512 * n + (tag label).bytes ≤ length (file_bytes (sights p) f)
     → read_as (with_label p at label) ≡ step (read_as p) (cut f (512 * n + (tag label).bytes))
 
--- the bytes that are behind those of a file before
+-- the bytes that are after those of a file before
 abbrev pub more_bytes : Pack → Pack → Fid → List ℕ
 more_bytes p q f = drop (length (file_bytes (sights p) f)) (file_bytes (sights q) f)
 
 -- the label of the last page, where it counts no fewer bytes than before: those that come are its new ones, and those of the pages
--- that are claimed behind it
+-- that are claimed after it
 abbrev pub GrowIsTheStep : Type 0
 GrowIsTheStep = (p : Pack) (at : ℕ) (f : Fid) (label : List ℕ) → let b : ℕ = length (file_bytes (sights p) f) in let q : Pack = with_label p at label in
     LivesOrdinary p f → place (sights p) f (suc (b / 512)) ≡ Some at → page_of label ≡ Some (record { fid = f; number = suc (b / 512) }) → b % 512 ≤ (tag label).bytes → read_as q ≡ step (read_as p) (grow f (more_bytes p q f))
@@ -60,7 +60,7 @@ abbrev pub StampIsTheStep : Type 0
 StampIsTheStep = (p : Pack) (at : ℕ) (f : Fid) (moment : ℕ) (value : List ℕ) → place (sights p) f 0 ≡ Some at → is_fid f disk_descriptor ≡ false → leader_of f value ≡ record (leader_of f (sector_at p at).value) { written = moment } → read_as (with_value p at value) ≡ step (read_as p) (stamp f moment)
 
 -- ---- directories
--- the label of its last page, behind which the words of the directory have a free slot of 256 words more, whatever stands in it; its
+-- the label of its last page, after which the words of the directory have a free slot of 256 words more, whatever stands in it; its
 -- slots reached its end
 abbrev pub WidenIsTheStep : Type 0
 WidenIsTheStep = (p : Pack) (at : ℕ) (d : Fid) (label fresh : List ℕ) → let b : ℕ = length (file_bytes (sights p) d) in let q : Pack = with_label p at label in

@@ -9,7 +9,7 @@ pub fn runs_chain<X: Moves>()
     ensures { RunsChain X.means }
 {}
 
-/// Runs that keep at each cut what is shown, or all that a scavenge keeps, do so together.
+/// Runs that keep at each crash point what is shown, or all that a scavenge keeps, do so together.
 pub fn scavenges_join()
     ensures { ScavengesJoin }
 {}

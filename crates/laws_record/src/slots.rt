@@ -2,7 +2,7 @@
 
 ghost use Rattle.laws_record.specs.SlotLaws.{LengthIsRead, ReadsToTheEnd, EntryWritesBack, MoreBehind, NotYet, OneByOne, ReadsOn, FoundIsPlaced};
 
-/// The longest first part of words that slots fill to its end has as many words as they have together.
+/// The longest prefix of words that slots fill to its end has as many words as they have together.
 pub fn length_is_read()
     ensures { LengthIsRead }
 {}
@@ -22,23 +22,23 @@ pub fn more_behind()
     ensures { MoreBehind }
 {}
 
-/// Where no slot can be read at the head of words, one that can be with more words behind them is longer than they are.
+/// Where no slot can be read at the head of words, one that can be with more words after them is longer than they are.
 pub fn not_yet()
     ensures { NotYet }
 {}
 
-/// The slots of words are the first one, if it can be read, and the slots of the words behind it.
+/// The slots of words are the first one, if it can be read, and the slots of the words after it.
 pub fn one_by_one()
     ensures { OneByOne }
 {}
 
-/// The slots of words that begin with some to whose end slots reach: these slots, and those of the words behind.
+/// The slots of words that begin with some to whose end slots reach: these slots, and those of the words after.
 pub fn reads_on()
     ensures { ReadsOn }
 {}
 
 /// An item is placed among slots exactly where a room for its words is found, and where this room is: between the slots before it
-/// and those behind it, with a free slot of the words left over.
+/// and those after it, with a free slot of the words left over.
 pub fn found_is_placed()
     ensures { FoundIsPlaced }
 {}

@@ -12,7 +12,8 @@ pub fn cut_is_the_step()
     ensures { CutIsTheStep }
 {}
 
-/// A label that counts no fewer bytes of the last page of an ordinary file is the growth by its new bytes and those of the pages claimed behind it.
+/// A label that counts no fewer bytes of the last page of an ordinary file is the growth by its new bytes and those of the pages claimed
+/// after it.
 pub fn grow_is_the_step()
     ensures { GrowIsTheStep }
 {}

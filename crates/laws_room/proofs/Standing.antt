@@ -19,7 +19,7 @@ pub record Stands (d f : Fid) (name : List ℕ) (is js : List Item) : Type 0 whe
   pub now : js ≡ front ++ entry f name ∷ back
   pub was : namings_in d is ≡ namings_in d front ++ namings_in d back
 
--- the entries behind a run are those of all
+-- the entries after a run are those of all
 run_names : (d : Fid) (n : ℕ) (is : List Item) (r : ℕ × List Item) → run n is ≡ Some r → namings_in d is ≡ namings_in d r.1
 run_names d n [] r e = absurd (let x : None ≡ Some r = e in cc)
 run_names d n (entry f name ∷ is) r e = absurd (let x : None ≡ Some r = e in cc)
@@ -70,7 +70,7 @@ placed_stands d f name (k ∷ is) js e = by (λ ks e. placed_stands d f name is 
             subst (Stands d f name (k ∷ is)) x (record { front = k ∷ s.front; back = s.back; now = ap (λ r. k ∷ r) s.now; was = one_more d k is s.front s.back s.was })
 
 -- ---- an item in a run of free slots keeps the words
--- a run's words, and those behind it
+-- a run's words, and those after it
 run_words : (n : ℕ) (is : List Item) (r : ℕ × List Item) → run n is ≡ Some r → all_words is ≡ r.0 + all_words r.1
 run_words n [] r e = absurd (let x : None ≡ Some r = e in cc)
 run_words n (entry f name ∷ is) r e = absurd (let x : None ≡ Some r = e in cc)

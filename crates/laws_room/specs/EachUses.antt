@@ -22,7 +22,7 @@ use Rattle.laws_operation.specs.LifeLaws.{MayDrop, MayMake}
 use Rattle.laws_operation.specs.NameLaws.{MayEnterAt, MayLeave, MayWiden, entry_room}
 use Rattle.laws_room.specs.UseLaws.{MayBeDone, pages_freed, sectors_in_use}
 
--- It may be done on what p is read as, and behind these record writes the sectors in use are more by the pages that it adds and fewer
+-- It may be done on what p is read as, and after these record writes the sectors in use are more by the pages that it adds and fewer
 -- by those that it frees.
 pub record TakesIntoUse (p : Pack) (events : List Event) (o : Operation) : Type 0 where
   pub may : MayBeDone (read_as p) o

@@ -17,7 +17,7 @@ pub fn prefixes_answer()
     ensures { PrefixesAnswer }
 {}
 
-/// A line that broke off on a sound pack has made such a prefix.
+/// A line that broke off on a sound pack has made a prefix of a turn's record writes, which a fault, out of memory or a hint may answer.
 pub fn broken_lines_answer()
     ensures { BrokenLinesAnswer }
 {}

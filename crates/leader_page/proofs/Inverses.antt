@@ -33,7 +33,7 @@ spelled_length : (words : List ℕ) → is_readable words ≡ true → length (s
 unfolding is_readable
 spelled_length words readable = grind (arith, nat_tests)
 
--- the words of a name, where zeros are behind it
+-- the words of a name, where zeros are after it
 name_words-back : (words : List ℕ) → 0 < length (name_bytes words) → is_readable words ≡ true → IsPadded words → name_words (spelled_name words) ≡ take 20 (drop 6 words)
 name_words-back words some readable padded =
     let n = spelled_length words readable in

@@ -35,7 +35,7 @@ filled-name name =
     let zeros : 40 - suc (length name) ≡ 39 - length name = omega arith in
     ap (λ (n : ℕ). length name ∷ (name ++ replicate n 0)) zeros
 
--- a length, the characters copied behind it, and the zeros that stood there
+-- a length, the characters copied after it, and the zeros that stood there
 pub spelled_bytes-copied : (text copy name : List ℕ) → text ≡ name → copy ≡ text → length text ≤ 39 → length text ∷ (copy ++ post_of 1 (1 + length text - 1) (length text ∷ replicate 39 0)) ≡ filled 40 (length name ∷ name)
 spelled_bytes-copied text copy name same copied fits =
     let from : 1 + length text - 1 ≡ length text = omega arith in

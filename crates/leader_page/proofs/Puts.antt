@@ -1,9 +1,9 @@
--- Words that are put one part behind the other.
+-- Words that are put one part after the other.
 use Rattle.std.proofs.Common.{◌≡◌, ℕ, ◌+◌, ◌-◌, List, [], ◌++◌, length, take, drop, replicate, refl, sym, ap, ◌∙◌, arith, append-nil}
 use Rattle.std.proofs.lemmas.List.{length-append, take_at, drop_at, drop-replicate, drop-drop}
 use Rattle.pack_model.specs.reading.Bytes.{put_at}
 
--- a part goes behind those in front, in the place of zeros
+-- a part goes after those in front, in the place of zeros
 pub put_behind : (at m n : ℕ) (front new : List ℕ) → length front ≡ at → m ≡ length new + n → put_at at new (front ++ replicate m 0) ≡ (front ++ new) ++ replicate n 0
 put_behind at m n front new len more =
     let zeros : List ℕ = replicate m 0 in
@@ -15,7 +15,7 @@ put_behind at m n front new len more =
     let tail : drop (at + length new) (front ++ zeros) ≡ replicate n 0 = seam ∙ ap (drop (length new)) back ∙ rest ∙ ap (λ (k : ℕ). replicate k 0) left in
     λ i. (first i ++ new) ++ tail i
 
--- six parts, one behind the other, in the place of 256 zeros
+-- six parts, one after the other, in the place of 256 zeros
 module _ (a b c d e g v₁ v₂ v₃ v₄ v₅ v₆ : List ℕ) (la : length a ≡ 2) (lb : length b ≡ 2) (lc : length c ≡ 2) (ld : length d ≡ 20) (le : length e ≡ 220) (lg : length g ≡ 10) (p₁ : v₁ ≡ put_at 0 a (replicate 256 0)) (p₂ : v₂ ≡ put_at 2 b v₁) (p₃ : v₃ ≡ put_at 4 c v₂) (p₄ : v₄ ≡ put_at 6 d v₃) (p₅ : v₅ ≡ put_at 26 e v₄) (p₆ : v₆ ≡ put_at 246 g v₅) where
   e₁ : v₁ ≡ a ++ replicate 254 0
   e₁ = p₁ ∙ put_behind 0 256 254 [] a refl (omega (arith, la))

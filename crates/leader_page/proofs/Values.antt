@@ -39,7 +39,7 @@ module _ (l : Leader) (hints : List ℕ) (stored : is_stored_name l.name ≡ tru
   both : length (name_words l.name ++ l.rest) ≡ 240
   both = length-append (name_words l.name) l.rest ∙ omega (arith, size, whole)
 
-  -- the dates, and words behind them
+  -- the dates, and words after them
   abbrev dated : List ℕ → List ℕ
   dated words = l.created / 65536 ∷ l.created % 65536 ∷ l.written / 65536 ∷ l.written % 65536 ∷ l.read / 65536 ∷ l.read % 65536 ∷ words
 

@@ -12,7 +12,7 @@ use Rattle.leader_page.specs.Pages.{said, Says, IsDecoded, IsPadded}
 abbrev pub ReadsBack : Type 0
 ReadsBack = (value : List ℕ) (l : Leader) (answer : Option Leader) → Says value (said l) l.hints → IsDecoded value answer → answer ≡ Some l
 
--- a value with no bytes but 0 behind the name is that of the leader that it says
+-- a value with no bytes but 0 after the name is that of the leader that it says
 abbrev pub WritesBack : Type 0
 WritesBack =
     (value : List ℕ) (leader : model.Leader) (hints : List ℕ) → length value ≡ 256 → All (λ w. w < 65536) value → IsPadded value

@@ -20,6 +20,6 @@ pub record Says (value : List ℕ) (leader : model.Leader) (hints : List ℕ) : 
 abbrev pub IsDecoded : List ℕ → Option Leader → Type 0
 IsDecoded value answer = MatchOption answer (is_readable (leader_words value) ≡ false) (λ l. Says value (said l) l.hints)
 
--- the bytes behind the name are 0
+-- the bytes after the name are 0
 abbrev pub IsPadded : List ℕ → Type 0
 IsPadded value = let length_byte = word (name_bytes value) 0 in drop length_byte (drop 1 (name_bytes value)) ≡ replicate (39 - length_byte) 0

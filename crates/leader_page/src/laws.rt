@@ -6,7 +6,7 @@ pub fn reads_back()
     ensures { ReadsBack }
 {}
 
-/// What `decode` answers of a value, `encode` gives as that value, where the bytes behind the name are 0.
+/// What `decode` answers of a value, `encode` gives as that value, where the bytes after the name are 0.
 pub fn writes_back()
     ensures { WritesBack }
 {}

@@ -60,7 +60,7 @@ impl Leader {
     ghost use Rattle.pack_model.specs.operations.PageWords.{leader_value};
 
     /// The leader that the value of a leader page says. None exactly where words 6 to 25 spell no stored name: the length byte
-    /// isn't 2 to 39, or so many characters don't form one. Bytes behind the name are ignored.
+    /// isn't 2 to 39, or so many characters don't form one. Bytes after the name are ignored.
     pub fn decode(value: &[u16; 256]) -> Option<Leader>
         ensures { IsDecoded value.now result }
     {
@@ -78,7 +78,7 @@ impl Leader {
         under(name, value)
     }
 
-    /// The value of the leader page that says this leader. The bytes behind the name are 0.
+    /// The value of the leader page that says this leader. The bytes after the name are 0.
     pub fn encode(&self) -> [u16; 256]
         ensures value { result ≡ leader_value (said self.now) self.now.hints }
         ensures says { Says result (said self.now) self.now.hints }
@@ -129,7 +129,7 @@ fn read_name(value: &[u16; 256]) -> Option<Name>
     Name::stored(text)
 }
 
-/// What a value says but for its name, under this name.
+/// What a value says except its name, under this name.
 fn under(name: Name, value: &[u16; 256]) -> Leader
     ensures leader { (f : Fid) → said result ≡ record (leader_of f value.now) { name = name } }
     ensures hints { result.hints ≡ drop 246 value.now }

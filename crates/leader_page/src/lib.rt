@@ -9,7 +9,7 @@
 //! 3. `encode` gives the value of a leader, word for word (`value`), and that value says this leader with these hints (`says`).
 //! 4. `name_words` gives words 6 to 25 of the value of every leader with that name (`name`).
 //! The `laws`: what was encoded is decoded as the same leader (`reads_back`), and what was decoded is encoded as the same words
-//! where the bytes behind the name are 0 (`writes_back`); a title changes the name alone, a stamp the written date alone.
+//! where the bytes after the name are 0 (`writes_back`); a title changes the name alone, a stamp the written date alone.
 //! Not promised: that a hint is true.
 #![tactic(auto)]
 

@@ -41,7 +41,7 @@ fn words_of_names(rt: HostRuntime) -> Result<(), Fail> {
 
 #[test]
 fn words_of_a_page(rt: HostRuntime) -> Result<(), Fail> {
-    // `A.` and a byte behind it
+    // `A.` and a byte after it
     let leader = Leader::decode(&page(&[577, 11864, 0x5858])).ok_or("no leader")?;
     assert_eq!(rt; leader.name.as_bytes(), b"A.".as_slice());
     assert_eq!(rt; leader.created, 65_537_001);
@@ -51,7 +51,7 @@ fn words_of_a_page(rt: HostRuntime) -> Result<(), Fail> {
     assert_eq!(rt; leader.rest[219], 1245);
     assert_eq!(rt; leader.hints[0], 1246);
     assert_eq!(rt; leader.hints[9], 1255);
-    // the bytes behind the name are written 0, all else as it was
+    // the bytes after the name are written 0, all else as it was
     let value = leader.encode();
     assert_eq!(rt; value[7], 11776);
     for at in 8..26 {

@@ -15,7 +15,7 @@ none_right : {X : Type 0} (r q : Option X) → option_or r q ≡ None → q ≡ 
 none_right None q e = e
 none_right (Some x) q e = cc
 
--- what stands behind an answer doesn't count
+-- what stands after an answer doesn't count
 answered : {X : Type 0} (r p q : Option X) → (r ≡ None → ⊥) → option_or r p ≡ option_or r q
 answered None p q some = absurd (some refl)
 answered (Some x) p q some = refl
@@ -25,7 +25,7 @@ same_twice : {X : Type 0} (r : Option X) → option_or r r ≡ r
 same_twice None = refl
 same_twice (Some x) = refl
 
--- nothing behind an answer
+-- nothing after an answer
 pub or_none : {X : Type 0} (r : Option X) → option_or r None ≡ r
 or_none None = refl
 or_none (Some x) = refl
@@ -104,7 +104,7 @@ module _ {S X : Type 0} (answer : S → Option X) where
   first_append [] tt = refl
   first_append (x ∷ ss) tt = ap (option_or (answer x)) (first_append ss tt) ∙ sym (or_assoc (answer x) (first answer ss) (first answer tt))
 
-  -- one more entry behind them
+  -- one more entry after them
   pub first_more : (ss : List S) (s : S) → first answer (ss ++ s ∷ []) ≡ option_or (first answer ss) (answer s)
   unfolding first
   first_more ss s = first_append ss (s ∷ []) ∙ ap (option_or (first answer ss)) (or_none (answer s))

@@ -23,7 +23,7 @@ abbrev pub continue : Option (List ℕ) → List ℕ → List ℕ
 continue None rest = []
 continue (Some bytes) rest = cond (nat_lt (length bytes) 512) bytes (bytes ++ rest)
 
--- behind a full page comes the rest
+-- after a full page comes the rest
 continue_full : (r : Option (List ℕ)) (rest : List ℕ) → is_full r ≡ true → continue r rest ≡ content r ++ rest
 continue_full None rest e = cc
 continue_full (Some bytes) rest e =
@@ -53,7 +53,7 @@ most_is = refl
 pub record Reaches (pages : ℕ → Option (List ℕ)) (k : ℕ) : Type 0 where
   pub full : (j : ℕ) → j < k → is_full (pages j) ≡ true
 
--- the rest counts only behind a full page
+-- the rest counts only after a full page
 continue_same : (r : Option (List ℕ)) (x y : List ℕ) → (is_full r ≡ true → x ≡ y) → continue r x ≡ continue r y
 continue_same None x y e = refl
 continue_same (Some bytes) x y e =

@@ -7,8 +7,8 @@ use Rattle.disk_records.specs.Tapes.{Taped, pack, added}
 use Rattle.disk_records.proofs.Growing.{after-append, nothing_added}
 use Rattle.pack_model.specs.sessions.Moves.{Meaning, steps, Obeys, rest, write, IsStartOf, Does}
 
--- ---- first parts of lists
--- all of a list is a first part of it
+-- ---- prefixes of lists
+-- all of a list is a prefix of it
 pub start_self : {X : Type 0} (ops : List X) → IsStartOf ops ops
 start_self [] = tt
 start_self (o ∷ ops) = (refl, start_self ops)
@@ -18,7 +18,7 @@ pub start_after : {X : Type 0} (done ops wanted : List X) → IsStartOf ops want
 start_after [] ops wanted h = h
 start_after (d ∷ done) ops wanted h = (refl, start_after done ops wanted h)
 
--- a first part that is no longer than so many first ones is a first part of these
+-- a prefix that is no longer than so many first ones is a prefix of these
 pub start_within : {X : Type 0} (a all : List X) (k : ℕ) → IsStartOf a all → length a ≤ length (take k all) → IsStartOf a (take k all)
 start_within [] all k h few = tt
 start_within (x ∷ a) [] k h few = elim h [ ]
@@ -26,7 +26,7 @@ start_within (x ∷ a) (y ∷ all) zero h few = absurd (omega arith)
 start_within (x ∷ a) (y ∷ all) (suc k) h few = (h.0, start_within a all k h.1 (omega arith))
 
 -- ---- runs of writes
--- the events make some first ones of the wanted moves
+-- the events make a prefix of the wanted moves
 pub record MadeFirst {M O : Type 0} (means : Meaning M O) (m : M) (p : Pack) (events : List Event) (wanted : List O) : Type 0 where
   pub ops : List O
   pub start : IsStartOf ops wanted
@@ -55,7 +55,7 @@ module _ {M O : Type 0} (means : Meaning M O) where
   obeys_cut (write here makes later) zero = here
   obeys_cut (write here makes later) (suc k) = obeys_cut later k
 
-  -- some first ones of the writes make some first ones of the moves
+  -- a prefix of the writes make a prefix of the moves
   pub obeys_first : {m : M} {p : Pack} {writes : List Event} {wanted : List O} → Obeys means m p writes wanted → (events : List Event) → IsFirstOf writes events → MadeFirst means m p events wanted
   obeys_first (rest here) [] first = record { ops = []; start = tt; each = rest here }
   obeys_first (rest here) (x ∷ events) first = elim first [ ]
@@ -81,7 +81,7 @@ module _ {M O : Type 0} (means : Meaning M O) where
   pub does_start : {T E : Type 0} (x : Taped) (result : Result T E) → means.Stands (means.read (pack x)) (pack x) → Does means (pack x) (added x x) [] result
   does_start {T} {E} x result here = let none : added x x ≡ [] = nothing_added x.events in rw none (does_nothing (pack x) result here)
 
-  -- a call that says which writes it does makes their moves, and at every answer some first ones of them
+  -- a call that says which writes it does makes their moves, and at every answer a prefix of them
   pub does_first : {T E : Type 0} {p : Pack} {writes : List Event} {wanted : List O} (events : List Event) (result : Result T E) → Obeys means (means.read p) p writes wanted → means.read (after p writes) ≡ steps means (means.read p) wanted → IsFirstOf writes events → OnOk result (events ≡ writes) → Does means p events wanted result
   does_first {T} {E} {p} {writes} {wanted} events (Ok x) all ends first ok =
       record { ops = wanted; start = start_self wanted; each = subst (λ l. Obeys means (means.read p) p l wanted) (sym ok) all; all = refl; ends = ap (λ l. means.read (after p l)) ok ∙ ends }

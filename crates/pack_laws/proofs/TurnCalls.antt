@@ -12,13 +12,13 @@ use Rattle.pack_model.specs.sessions.Turns.{Turn, IsTurn}
 use Rattle.pack_laws.proofs.Moving.{start_self}
 
 -- ---- calls that are turns
--- some first ones of shown bytes are the shown bytes of some first bytes
+-- a prefix of shown bytes are the shown bytes of some first bytes
 pub record ShownFirst (text : List ℕ) (shown : List Event) : Type 0 where
   pub some : List ℕ
   pub start : IsStartOf some text
   pub are : shown ≡ shown_events some
 
--- bytes that are shown of a text are some first ones of it
+-- bytes that are shown of a text are a prefix of it
 pub shown_first : (text : List ℕ) (shown : List Event) → IsFirstOf (shown_events text) shown → ShownFirst text shown
 shown_first text [] h = record { some = []; start = tt; are = refl }
 shown_first [] (x ∷ shown) h = elim h [ ]

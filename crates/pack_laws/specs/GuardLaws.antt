@@ -1,5 +1,5 @@
 -- What the record writes of the guarded sector commands mean, at each place where they may be crash: who carries which page, what is
--- free, what the sectors show, and which words they hold, links and bytes behind the count among them. The crash before the first
+-- free, what the sectors show, and which words they hold, links and bytes after the count among them. The crash before the first
 -- write is the pack itself.
 use Rattle.std.specs.Prelude.{◌≡◌, ◌≢◌, ℕ, ◌<◌, ◌≤◌, Bool, true, false, cond, nat_lt, List, set, Option, Some, None}
 use Rattle.disk_records.specs.declared.records.Page.{Page}
@@ -10,7 +10,7 @@ use Rattle.disk_records.specs.Packs.{Pack, crash, sector_at, carried, is_free_at
 use Rattle.pack_model.specs.reading.Sights.{Sight, page_sight, sights}
 use Rattle.pack_model.specs.reading.Sights.Sight.{free}
 
--- a sector with another label and another value behind its header
+-- a sector with another label and another value after its header
 abbrev pub with_words : Sector → List ℕ → List ℕ → Sector
 with_words s label value = record s { label = label; value = value }
 
@@ -32,7 +32,7 @@ pub record ChangesOne (at : ℕ) (page : Option Page) (is_free : Bool) (sight : 
   pub here : sector_at q at ≡ sector
   pub others : (i : ℕ) → i ≢ at → sector_at q i ≡ sector_at p i
 
--- One sector carries this page now, with the bytes that this label counts of this value: behind its header, which stays, it holds
+-- One sector carries this page now, with the bytes that this label counts of this value: after its header, which stays, it holds
 -- this label and this value.
 abbrev pub ComesToHold : ℕ → Page → List ℕ → List ℕ → Pack → Pack → Type 0
 ComesToHold at page label value p q = ChangesOne at (Some page) false (page_sight page.fid page.number (tag label).bytes value) (with_words (sector_at p at) label value) p q
@@ -41,7 +41,7 @@ ComesToHold at page label value p q = ChangesOne at (Some page) false (page_sigh
 abbrev pub ValueWritesKeepThePage : Type 0
 ValueWritesKeepThePage = (p : Pack) (at : ℕ) (page : Page) (value : List ℕ) (k : ℕ) → carried p at ≡ Some page → 0 < k → ComesToHold at page (sector_at p at).label value p (crash p (value_writes at value) k)
 
--- Another label for the same page, and the value that stands there: the same page at both cuts, with as many bytes as the label says.
+-- Another label for the same page, and the value that stands there: the same page at both crash points, with as many bytes as the label says.
 abbrev pub RelabelKeepsThePage : Type 0
 RelabelKeepsThePage = (p : Pack) (at : ℕ) (page : Page) (label : List ℕ) (k : ℕ) → carried p at ≡ Some page → page_of label ≡ Some page → 0 < k → ComesToHold at page label (sector_at p at).value p (crash p (relabel_writes at label (sector_at p at).value) k)
 

@@ -55,7 +55,7 @@ TallyInNumbers = (w : ℕ) (moves : List Move) (t : Tally) → t.all < 2 ^ 64 �
 abbrev pub TallyByTheCount : Type 0
 TallyByTheCount = (w : ℕ) (moves : List Move) (t : Tally) → t.limit < 2 ^ 64 → counted (capped w) moves t ≡ counted w moves t
 
--- where a told machine's count doesn't stand at its end, it says whether the nth record write of a call was made
+-- where a modelled machine's count doesn't stand at its end, it says whether the nth record write of a call was made
 abbrev pub CountTellsWhatWasWritten : Type 0
 CountTellsWhatWasWritten = (a b : Taped) (nth : ℕ) → Grown a b → a.writes ≡ capped (writes_in a.events) → b.writes ≡ capped (writes_in b.events) → b.writes < 2 ^ 64 - 1
     → is_among a.writes nth b.writes ≡ nat_le nth (writes_in (added a b))

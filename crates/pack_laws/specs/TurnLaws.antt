@@ -18,7 +18,7 @@ RunsJoin {M} {O} means = (m : M) (p : Pack) (a b : List Event) (ops more : List 
 abbrev pub CutOfRun : {M O : Type 0} → Meaning M O → Type 0
 CutOfRun {M} {O} means = (m : M) (p : Pack) (events : List Event) (ops : List O) → Obeys means m p events ops → (k : ℕ) → means.Stands (steps means m (take k ops)) (crash p events k)
 
--- Some first ones of a run's writes make some first ones of its moves.
+-- Some first ones of a run's writes make a prefix of its moves.
 pub record MakesFirst {M O : Type 0} (means : Meaning M O) (m : M) (p : Pack) (events : List Event) (wanted : List O) : Type 0 where
   pub moves : List O
   pub start : IsStartOf moves wanted
@@ -32,8 +32,8 @@ RunBreaksOff {M} {O} means = (m : M) (p : Pack) (writes events : List Event) (mo
 abbrev pub CallsJoin : {M O : Type 0} → Type 0 → Type 0 → Type 0 → Type 0 → Meaning M O → Type 0
 CallsJoin {M} {O} T U E F means = (p : Pack) (a b : List Event) (wanted more : List O) (x : U) (result : Result T E) → Does {E = F} means p a wanted (Ok x) → Does means (after p a) b more result → Does means p (a ++ b) (wanted ++ more) result
 
--- A call that names its record writes, which make the moves that are wanted, may do some first ones of them at an error: then it
--- has made some first ones of the moves, and each crash stands for a model on the way.
+-- A call that names its record writes, which make the moves that are wanted, may do a prefix of them at an error: then it
+-- has made a prefix of the moves, and each crash stands for a model on the way.
 abbrev pub FaultsLeaveAFirstPart : {M O : Type 0} → Type 0 → Type 0 → Meaning M O → Type 0
 FaultsLeaveAFirstPart {M} {O} T E means =
     (p : Pack) (writes events : List Event) (wanted : List O) (result : Result T E) → Obeys means (means.read p) p writes wanted → means.read (after p writes) ≡ steps means (means.read p) wanted → IsFirstOf writes events → OnOk result (events ≡ writes) → Does means p events wanted result

@@ -7,7 +7,7 @@ pub fn value_writes_keep_the_page()
     ensures { ValueWritesKeepThePage }
 {}
 
-/// Another label for the same page, with the value that stands there, leaves the page where it is at each cut: the sector holds
+/// Another label for the same page, with the value that stands there, leaves the page where it is at each crash point: the sector holds
 /// its old header, the new label and its old value.
 pub fn relabel_keeps_the_page()
     ensures { RelabelKeepsThePage }

@@ -3,7 +3,7 @@
 ghost use Rattle.pack_laws.specs.TallyLaws.{CountTellsWhatWasWritten, OneCommitIsCounted, QuietMovesAreNotCounted, TalliesJoin, TalliesOfTurnsJoin, TallyByTheCount, TallyInNumbers, TallyIsTheRuler};
 ghost use Rattle.pack_model.specs.sessions.Meanings.{session};
 
-/// Moves and then more of them are counted one after another, also where only some first ones of the later were made.
+/// Moves and then more of them are counted one after another, also where only a prefix of the later was made.
 pub fn tallies_join()
     ensures { TalliesJoin }
 {}
@@ -33,7 +33,7 @@ pub fn tally_by_the_count()
     ensures { TallyByTheCount }
 {}
 
-/// A told machine's count says whether the nth record write of a call was made, unless it stands at its end.
+/// A modelled machine's count says whether the nth record write of a call was made, unless it stands at its end.
 pub fn count_tells_what_was_written()
     ensures { CountTellsWhatWasWritten }
 {}

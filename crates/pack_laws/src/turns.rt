@@ -46,7 +46,7 @@ pub fn cut_of_run<X: Moves>()
     ensures { CutOfRun X.means }
 {}
 
-/// Some first record writes of a run make some first ones of its moves.
+/// A prefix of the record writes of a run makes a prefix of its moves.
 pub fn run_breaks_off<X: Moves>()
     ensures { RunBreaksOff X.means }
 {}
@@ -56,7 +56,7 @@ pub fn calls_join<X: Moves, T, U, E, F>()
     ensures { CallsJoin T U E F X.means }
 {}
 
-/// A call that names its record writes leaves, at every error and every cut, what some first ones of its moves make.
+/// A call that names its record writes leaves, at every error and every cut, what a prefix of its moves makes.
 pub fn faults_leave_a_first_part<X: Moves, T, E>()
     ensures { FaultsLeaveAFirstPart T E X.means }
 {}
@@ -83,7 +83,7 @@ pub fn cut_of_turns<X: Moves>()
     ensures { CutOfTurns X.weight X.means }
 {}
 
-/// The moves that the shown bytes acknowledge are the first ones of those that have been made, at every cut.
+/// The moves that the shown bytes acknowledge are the first ones of those that have been made, at every crash point.
 pub fn acknowledged_are_done<X: Moves>()
     ensures { AcknowledgedAreDone X.means }
 {}

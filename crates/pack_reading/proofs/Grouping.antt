@@ -1,4 +1,4 @@
--- Groups of suffixes that are taken, one behind another.
+-- Groups of suffixes that are taken, one after another.
 use Rattle.std.proofs.Common.{◌≡◌, ℕ, ◌+◌, ◌-◌, ◌<◌, ◌≤◌, true, List, [], ◌∷◌, ◌++◌, length, get_or, map, Option, Some, None, sym, ap, subst, ◌∙◌, arith, add-one}
 use Rattle.std.specs.Prelude.{IfSome}
 use Rattle.std.specs.FinMap.{FinMap}
@@ -27,7 +27,7 @@ pub record AreBehind (groups : List Group) (homes : FinMap fid_cmp Home) (name :
   pub taken : AreTaken homes name 1 (get_or (1 ∷ ends groups) count 0)
 
 module _ {groups : List Group} {homes : FinMap fid_cmp Home} {name : List ℕ} {count : ℕ} (behind : AreBehind groups homes name count) where
-  -- the next group begins behind them
+  -- the next group begins after them
   behind_here : (group : Group) → count < length groups → AreTaken homes name 1 (get_or groups count group).first
   behind_here group more =
       let few = length-map {A = Group} groups (λ g. g.first) in

@@ -139,7 +139,7 @@ left_behind old now next k (f ∷ ks) others above left = (λ n. others f (below
 pub bytes_left : {X : Type 0} (old now : Pages) (e : Fid × X) (es : List (Fid × X)) → AreLeft old now (e ∷ es) → bytes_kept now e.0 ≡ bytes_kept old e.0
 bytes_left old now e es left = ap (joined most_pages) (λ i n. left.pages.0 n i)
 
--- and then those behind it are left
+-- and then those after it are left
 pub left_more : {X : Type 0} (old now next : Pages) (e : Fid × X) (es : List (Fid × X)) → AreLeft old now (e ∷ es) → KeepsOthers e.0 now next → AreLeft old next es
 unfolding IsStrictlySortedBy
 left_more old now next e es left others = record {

@@ -81,7 +81,7 @@ passed_kept homes old new name first count is most fits taken updates other star
         is other start few k from (omega (arith, less, counted))
 
 -- ---- suffixes that are taken, one after another
--- more of them, behind those
+-- more of them, after those
 pub taken_on : (homes : FinMap fid_cmp Home) (name : List ℕ) (first next end : ℕ) → AreTaken homes name first next → AreTaken homes name next end → AreTaken homes name first end
 taken_on homes name first next end before behind k from less = elim (leb_tells next k) as (λ _. is_taken homes (suffixed name k) ≡ true) [
   | inl later ↦ behind k later.1 less
@@ -92,7 +92,7 @@ taken_on homes name first next end before behind k from less = elim (leb_tells n
 pub taken_by_count : (homes : FinMap fid_cmp Home) (name : List ℕ) (first end : ℕ) → AreTaken homes name first end → AreTaken homes name first (first + (end - first))
 taken_by_count homes name first end taken k from less = taken k from (omega (arith, from, less))
 
--- ---- the choice behind them
+-- ---- the choice after them
 -- so many choices are taken
 choosing_taken : (taken : List ℕ → Bool) (name : List ℕ) (all k : ℕ) → k ≤ all → ((j : ℕ) → j < k → taken (choice name j) ≡ true) → Choosing taken name all k
 choosing_taken taken name all zero within each = choosing_none taken name all

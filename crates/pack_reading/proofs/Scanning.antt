@@ -58,7 +58,7 @@ pub record ComesTo (lives : Fid → Bool) (d : Fid) (names : Names) (rest : List
   pub ahead : fold (considered lives) homes (namings_in d (slots rest)) ≡ all
 
 module _ (lives : Fid → Bool) (d : Fid) where
-  -- the first slot of these words, and then those behind it
+  -- the first slot of these words, and then those after it
   pub slot_considered : (words : List ℕ) (i : Item) (homes : FinMap fid_cmp Home) → slot_at words ≡ Some i → 1 ≤ item_words i → item_words i ≤ length words
       → fold (considered lives) (fold (considered lives) homes (namings_in d (i ∷ []))) (namings_in d (slots (drop (item_words i) words))) ≡ fold (considered lives) homes (namings_in d (slots words))
   slot_considered words i homes some least most =

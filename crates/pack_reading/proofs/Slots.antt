@@ -1,4 +1,4 @@
--- The slots of words: the first one, and those of the words behind it.
+-- The slots of words: the first one, and those of the words after it.
 use Rattle.std.proofs.Common.{◌≡◌, ◌≤◌, ◌-◌, ℕ, zero, suc, List, [], ◌∷◌, length, drop, None, Some, refl, ap, ◌∙◌, arith}
 use Rattle.pack_model.specs.reading.Slots.{Item, item_words, and_then, slot_at, slots_after, slots}
 

@@ -31,7 +31,7 @@ fn join_pages(alloc: Global, pages: &mut Pages, fid: Fid) -> Result<Vec<u8>, Mem
     Ok(bytes)
 }
 
-/// The bytes of a file, with no room behind them. Its pages are let go.
+/// The bytes of a file, with no room after them. Its pages are let go.
 pub(crate) fn file_bytes(alloc: Global, pages: &mut Pages, fid: Fid) -> Result<List<u8>, Memory>
     ensures bytes { IfOk result (λ bytes. bytes ≡ bytes_kept pages.old fid) }
     ensures others { KeepsOthers fid pages.old pages.new }

@@ -9,7 +9,7 @@ pub(crate) const MOST_SUFFIXES: u32 = 65535;
 #[derive(Clone, Copy)]
 pub(crate) struct Group {
     pub(crate) first: u32,
-    /// The number behind the last one.
+    /// The number after the last one.
     pub(crate) end: u32,
     ghost least: { 1 ≤ first },
     ghost ordered: { first ≤ end },

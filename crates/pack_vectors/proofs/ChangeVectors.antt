@@ -40,7 +40,7 @@ changed g = get-update fid_total fid_same m.files file_3 g file_3 ∙ ap (option
 changed_root : (g : File → File) → get (update m.files sys_dir g) sys_dir ≡ Some (g (directory_of (entry file_3 (codes "A.") ∷ space 10 ∷ [])))
 changed_root g = get-update fid_total fid_same m.files sys_dir g sys_dir ∙ ap (option_map g) (get-from_entries fid_total two_files sys_dir)
 
--- bytes in the place of others; behind the last; the first ones kept; another name, and nothing else
+-- bytes in the place of others; after the last; the first ones kept; another name, and nothing else
 file_changes :
     (get (step m (put file_3 1 (codes "BB"))).files file_3 ≡ Some (file_of_bytes (codes "A.") (codes "ABBDE")))
     × (get (step m (grow file_3 (codes "FG"))).files file_3 ≡ Some (file_of_bytes (codes "A.") (codes "ABCDEFG")))

@@ -21,7 +21,7 @@ use Rattle.pack_model.specs.sessions.Format.{Written}
 use Rattle.pack_vectors.proofs.SmallPacks.{pack_of, system, root_words, its_words, file_in, page_in}
 
 -- ---- a SysDir that was widened
--- Eight files, whose names are 38 letters a, 38 letters b and so on, have their entries of 26 words behind the system files'; 23 words
+-- Eight files, whose names are 38 letters a, 38 letters b and so on, have their entries of 26 words after the system files'; 23 words
 -- are left in page 1, and the slot of 256 words begins with its last word. Page 2 is in sector 21.
 abbrev letters : ℕ → List ℕ
 letters c = replicate 38 c ++ codes "."
@@ -38,7 +38,7 @@ abbrev eight_items : ℕ → ℕ → ℕ → List Item
 eight_items zero serial c = []
 eight_items (suc n) serial c = entry (ordinary_fid serial) (letters c) ∷ eight_items n (suc serial) (suc c)
 
--- the words of page 1 before its last 24; the pack with these behind them
+-- the words of page 1 before its last 24; the pack with these after them
 abbrev front : List ℕ
 front = root_words (eight_words 8 3 5 97)
 
@@ -51,7 +51,7 @@ widened = crowd (space_words 23 ++ 256 ∷ [])
 abbrev items_with : List Item → List Item
 items_with is = entry sys_dir sys_dir_name ∷ entry disk_descriptor descriptor_name ∷ (eight_items 8 3 97 ++ is)
 
--- an entry of 26 words for a ninth file finds its room there: 23 words, and the 256 behind them
+-- an entry of 26 words for a ninth file finds its room there: 23 words, and the 256 after them
 abbrev new_words : List ℕ
 new_words = entered_words (ordinary_fid 11) 22 (letters 105) 253
 

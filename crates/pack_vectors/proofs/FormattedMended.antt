@@ -35,7 +35,7 @@ available_fresh : available small fresh ≡ 43
 unfolding first joined most_pages file_bytes slots_after slot_at is_entry is_stored_name
 available_fresh = available_is small fresh
 
--- the model that it would mend is the one that is read, but for SysDir's leader
+-- the model that it would mend is the one that is read, except SysDir's leader
 abbrev mended_entries : List (Fid × File)
 mended_entries = (sys_dir, root_file_of root_file.body) ∷ []
 

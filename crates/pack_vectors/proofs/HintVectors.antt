@@ -24,7 +24,7 @@ use Rattle.pack_laws.proofs.Placing.{both_test}
 use Rattle.pack_vectors.proofs.ChangedHints.{with_sector, with_word, with_links, changed, linked, itself}
 use Rattle.pack_vectors.proofs.SmallPacks.{formatted_pack, some_or}
 
--- ---- the formatted pack, with one word of each kind changed: of a free sector; of SysDir's leader from word 246 on; behind the
+-- ---- the formatted pack, with one word of each kind changed: of a free sector; of SysDir's leader from word 246 on; after the
 -- 510 bytes of its page; the address in its first entry; DiskDescriptor's number of free sectors, and the map; a label's links
 -- and blank word
 hint_free : (k : ℕ) → IsHintByte formatted_pack 10 k

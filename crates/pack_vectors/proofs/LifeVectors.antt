@@ -71,7 +71,7 @@ drop_in_order : drop_writes 5 (6 ∷ 7 ∷ 8 ∷ []) 2 freed
 unfolding real_of
 drop_in_order = refl
 
--- as many as the moves; they leave a pack whose sectors behind the system files are free; before the last one the slot is still there
+-- as many as the moves; they leave a pack whose sectors after the system files are free; before the last one the slot is still there
 drop_leaves :
     (length (drop_writes 5 (6 ∷ 7 ∷ 8 ∷ []) 2 freed) ≡ length (drop_moves (drop_file file_3) (units 3)))
     × (crash appended_9 (drop_writes 5 (6 ∷ 7 ∷ 8 ∷ []) 2 freed) 8 ≡ pack_of 43 (system words_a (its_words 3 2) []))

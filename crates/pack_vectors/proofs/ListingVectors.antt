@@ -71,7 +71,7 @@ versions_listed : listing (show versions)
 unfolding sights_from sight real_of in_range is_free leader_of leader_name is_readable is_stored_name first joined most_pages file_bytes slots_after slot_at is_entry keeps_system most_suffixes suffixed digits
 versions_listed = listing_is versions
 
--- a directory's names come behind SysDir's, under its own name there
+-- a directory's names come after SysDir's, under its own name there
 in_d_listed : listing (show in_d) ≡ line None sys_dir (codes "D.") (directory_fid 3) None ∷ line (Some (codes "D.")) (directory_fid 3) (codes "A.") (ordinary_fid 4) (Some 5) ∷ []
 unfolding sights_from sight real_of in_range is_free leader_of leader_name is_readable is_stored_name first joined most_pages file_bytes slots_after slot_at is_entry keeps_system most_suffixes suffixed digits
 in_d_listed = listing_is in_d

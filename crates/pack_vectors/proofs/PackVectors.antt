@@ -34,7 +34,7 @@ leader_read : leader_of file_3 (leader_value leader_a (replicate 10 7)) ≡ lead
 unfolding leader_of leader_name is_readable is_stored_name
 leader_read = refl
 
--- bytes behind the name are ignored; a length byte of 1 or 40, or a version that isn't one or isn't spelled so, make it unreadable, and
+-- bytes after the name are ignored; a length byte of 1 or 40, or a version that isn't one or isn't spelled so, make it unreadable, and
 -- the serial stands for it
 abbrev with_name : List ℕ → List ℕ
 with_name bytes = replicate 6 0 ++ words_of (bytes ++ replicate (40 - length bytes) 0) ++ replicate 230 0

@@ -30,7 +30,7 @@ use Rattle.pack_vectors.proofs.SmallPacks.{copied, unread, three_x, in_d, made_6
 abbrev directory : List ℕ → List Item → File
 directory name is = record { leader = new_leader name 1000; body = items_of is }
 
--- SysDir with these slots behind the entries of the two system files
+-- SysDir with these slots after the entries of the two system files
 abbrev root_with : List Item → Fid × File
 root_with is = (sys_dir, directory sys_dir_name (entry sys_dir sys_dir_name ∷ entry disk_descriptor descriptor_name ∷ is))
 

@@ -56,7 +56,7 @@ unfolding widens placed
 root_widens = (refl, refl, refl, refl)
 
 -- ---- record writes
--- 10 free words and 20 behind them are joined; words over the end of page 1 take a value of page 2; 23 words that end page 1 and
+-- 10 free words and 20 after them are joined; words over the end of page 1 take a value of page 2; 23 words that end page 1 and
 -- a page of 256 take both
 values : (values_before (space 248 ∷ []) 26 (Some (record { first = 0; place = 0; total = 248 })) ≡ 0)
     × (values_before (space 10 ∷ space 20 ∷ []) 26 (Some (record { first = 0; place = 0; total = 30 })) ≡ 1)

@@ -66,7 +66,7 @@ pack_of frees others = record { shape = small; sectors = with_headers small 1 0 
 abbrev pub its_words : ℕ → ℕ → List ℕ
 its_words last mark = descriptor_text small last mark []
 
--- SysDir with these entries behind those of the two system files, DiskDescriptor with these words, and others
+-- SysDir with these entries after those of the two system files, DiskDescriptor with these words, and others
 abbrev pub root_words : List ℕ → List ℕ
 root_words words = entry_words sys_dir 1 sys_dir_name ++ entry_words disk_descriptor 3 descriptor_name ++ words
 
@@ -119,14 +119,14 @@ in_d = pack_of 39 (system (entry_words (directory_fid 3) 5 (codes "D.") ++ space
     ++ file_in 7 (ordinary_fid 4) (codes "A.") (codes "ABCDE")
     ))
 
--- a make that was cut behind the leader's value, and behind its label
+-- a make that was cut after the leader's value, and after its label
 abbrev pub made_6 : Pack
 made_6 = pack_of 41 (system (space_words 231) (its_words 3 2) ((ones 8, new_leader_value (ordinary_fid 3) (codes "A.") 1000 6) ∷ page_in 5 (ordinary_fid 3) 1 [] ∷ []))
 
 abbrev pub made_7 : Pack
 made_7 = pack_of 41 (system (space_words 231) (its_words 3 2) (file_a []))
 
--- 1,200 bytes that are appended: cut behind the value of the old last page, and behind its label
+-- 1,200 bytes that are appended: cut after the value of the old last page, and after its label
 abbrev later_pages : List Written
 later_pages = page_in 6 (ordinary_fid 3) 2 (replicate 512 65) ∷ page_in 7 (ordinary_fid 3) 3 (replicate 176 65) ∷ []
 
@@ -143,7 +143,7 @@ no_end = pack_of 41 (system words_a (its_words 3 1) (file_a (replicate 512 17)))
 abbrev pub no_leader : Pack
 no_leader = pack_of 40 (system words_a (its_words 3 1) (free_sector ∷ page_in 5 (ordinary_fid 3) 1 (replicate 512 17) ∷ page_in 6 (ordinary_fid 3) 2 (replicate 88 17) ∷ []))
 
--- an entry behind a free slot of 20 words, that of DiskDescriptor, which has no leader; a nameless file whose entry has 20 words
+-- an entry after a free slot of 20 words, that of DiskDescriptor, which has no leader; a nameless file whose entry has 20 words
 abbrev crowded_words : List ℕ
 crowded_words = entry_words sys_dir 1 sys_dir_name ++ space_words 20 ++ entry_words (ordinary_fid 3) 5 (codes "A.") ++ entry_words disk_descriptor 3 descriptor_name
 
@@ -178,7 +178,7 @@ nameless_alone n = pack_of 0 (free_sector ∷ leaders_from 3 n)
 abbrev pub all_free : Pack
 all_free = pack_of 47 []
 
--- the sectors behind the first so many have wrong headers
+-- the sectors after the first so many have wrong headers
 abbrev bad_sector : Sector
 bad_sector = record { header = 1 ∷ 65535 ∷ []; label = ones 8; value = ones 256 }
 

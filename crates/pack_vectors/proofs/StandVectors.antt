@@ -71,7 +71,7 @@ used_fresh = each (λ i s. is_good s ≡ true → (s ≡ free) ⊎ (in_use small
     (λ i good. inl refl)
     (λ i good. absurd cc)
 
--- a page of SysDir is as many sectors behind sector 1 as its number says, and one of DiskDescriptor behind sector 3
+-- a page of SysDir is as many sectors after sector 1 as its number says, and one of DiskDescriptor after sector 3
 page_is : (f : Fid) (n i : ℕ) → carries_page f n (get_or fresh i hidden) ≡ true → i ≡ cond (is_fid f sys_dir) 1 3 + n
 page_is f n = each (λ i s. carries_page f n s ≡ true → i ≡ cond (is_fid f sys_dir) 1 3 + n)
     (λ e. absurd cc)

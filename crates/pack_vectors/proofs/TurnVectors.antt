@@ -124,7 +124,7 @@ commits_entries = (
   ap (λ r. label_record sys_dir (page_of_byte (length_in r))) root_is,
 )
 
--- two for a new file, those behind the last one for appended bytes, one for a widening, none for a cut
+-- two for a new file, those after the last one for appended bytes, one for a widening, none for a cut
 pages_come :
     (pages_for_operation m (make (ordinary_fid 5) (codes "C.") 1000) ≡ 2)
     × (pages_for_operation m (grow file_3 (replicate 424 7)) ≡ 1)

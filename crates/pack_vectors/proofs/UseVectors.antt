@@ -15,7 +15,7 @@ use Rattle.pack_laws.proofs.Uses.{available_is}
 use Rattle.pack_vectors.proofs.Shapes.{model_31, small}
 use Rattle.pack_vectors.proofs.SmallPacks.{dir_4, file_3, leader_a}
 
--- the leader and both pages are in use; a second copy, a page behind the last one, a page of a file that doesn't live, a free
+-- the leader and both pages are in use; a second copy, a page after the last one, a page of a file that doesn't live, a free
 -- sector and a stray label are available
 abbrev some : List Sight
 some = hidden ∷ leads file_3 true leader_a ∷ holds file_3 0 (replicate 512 7) ∷ holds file_3 1 (codes "B") ∷ holds file_3 1 (codes "C") ∷ holds file_3 2 (codes "D") ∷ holds (ordinary_fid 4) 0 [] ∷ free ∷ stray ∷ hidden ∷ []

@@ -67,7 +67,7 @@ entry_read : slots (1032 ∷ 0 ∷ 3 ∷ 1 ∷ 0 ∷ 5 ∷ 577 ∷ 11776 ∷ [])
 unfolding slots_after slot_at is_entry is_stored_name
 entry_read = refl
 
--- an odd number of characters has no byte behind it
+-- an odd number of characters has no byte after it
 odd_name : slots (entry_words sys_dir 1 sys_dir_name ++ space_words 3) ≡ entry sys_dir sys_dir_name ∷ space 3 ∷ []
 unfolding slots_after slot_at is_entry is_stored_name
 odd_name = refl
@@ -83,7 +83,7 @@ version_read : slots (entry_words file_3 5 (codes "A!2.") ++ entry_words dir_4 7
 unfolding slots_after slot_at is_entry is_stored_name digits
 version_read = refl
 
--- what can't be read ends the slots: no words; words past the end; another type; word 4 not 0; the byte behind an even number of
+-- what can't be read ends the slots: no words; words past the end; another type; word 4 not 0; the byte after an even number of
 -- characters not 0; serial 0; versions 0 and 65,535; no stored name; names with a version 1, with a leading zero, or with no number; a
 -- word too many
 abbrev NoSlot : List ℕ → Type 0

@@ -60,11 +60,11 @@ over_the_end : (near 254 (1 ∷ 2 ∷ 3 ∷ []) ≡ 1 ∷ 2 ∷ []) × (later 25
 over_the_end = (refl, refl, refl)
 
 -- ---- data pages
--- bytes in place, and words behind them
+-- bytes in place, and words after them
 bytes_put : put_value 1 (codes "BBB") (9 ∷ []) (16706 ∷ 17220 ∷ 17734 ∷ 1 ∷ []) ≡ 16706 ∷ 16962 ∷ 9 ∷ 1 ∷ []
 bytes_put = refl
 
--- 688 bytes behind page 1 in sector 6, on sectors 7 and 9: a full page and 176 bytes, each linked to its neighbours
+-- 688 bytes after page 1 in sector 6, on sectors 7 and 9: a full page and 176 bytes, each linked to its neighbours
 grown : claims_of small file_3 2 6 (replicate 688 17) [] (7 ∷ 9 ∷ [])
     ≡ record { at = 7; label = 36864 ∷ 24576 ∷ 0 ∷ 512 ∷ 2 ∷ 1 ∷ 0 ∷ 3 ∷ []; value = replicate 256 4369 }
     ∷ record { at = 9; label = 65535 ∷ 28672 ∷ 0 ∷ 176 ∷ 3 ∷ 1 ∷ 0 ∷ 3 ∷ []; value = replicate 88 4369 ++ replicate 168 0 }
@@ -76,7 +76,7 @@ grown_bytes : all_claimed (claims_of small file_3 2 6 (replicate 688 17) (5 ∷ 
 unfolding real_of
 grown_bytes = refl
 
--- 100 bytes behind 500 of a file whose last page, page 1, is in sector 6: twelve in place, the others in a new page; the label has
+-- 100 bytes after 500 of a file whose last page, page 1, is in sector 6: twelve in place, the others in a new page; the label has
 -- its previous link, a blank word of 0, 512 bytes, and a next link to the new page
 abbrev old_label : List ℕ
 old_label = 65535 ∷ 20480 ∷ 9 ∷ 500 ∷ 1 ∷ 1 ∷ 0 ∷ 3 ∷ []

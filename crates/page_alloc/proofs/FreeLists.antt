@@ -19,7 +19,7 @@ range_with_len-add a (suc n) m =
     let same : a + 1 + n ≡ a + suc n = omega arith in
     ap (range_with_len a) more ∙ ap (λ l. a ∷ l) (range_with_len-add (a + 1) n m ∙ ap (λ (b : ℕ). range_with_len (a + 1) n ++ range_with_len b m) same)
 
--- those from there on come behind them
+-- those from there on come after them
 below-add : (test : ℕ → Bool) (at m : ℕ) → below test (at + m) ≡ below test at ++ filter test (range_with_len (0 + at) m)
 below-add test at m = ap (filter test) (range_with_len-add 0 at m) ∙ filter-append test (range_with_len 0 at) (range_with_len (0 + at) m)
 

@@ -41,7 +41,7 @@ IsCorrectedAt p old new at = (busy_at new at ≡ busy_at old at) ⊎ (busy_at ne
 abbrev pub IsCorrected : Pack → List Bool → List Bool → Type 0
 IsCorrected p old new = (at : ℕ) → IsCorrectedAt p old new at
 
--- the same but for these addresses
+-- the same except these addresses
 abbrev pub IsCorrectedBut : Pack → List ℕ → List Bool → List Bool → Type 0
 IsCorrectedBut p taken old new = (at : ℕ) → IsCorrectedAt p old new at ⊎ Contains taken at
 

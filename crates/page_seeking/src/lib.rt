@@ -8,7 +8,7 @@
 //!    notes that were refused never falls (`refused`): such a note is passed over.
 //!
 //! And where the machine is modelled, with any words in hints:
-//! 3. Nothing is written, and `locate` takes no more sector commands than the page's number and 110 (`looks`); one, where the cache has the
+//! 3. Nothing is written, and `locate` takes no more sector commands than the page's number and 53 (`looks`); one, where the cache has the
 //!    page (`soon`).
 //! 4. No call that takes no allocator answers Memory (`want`).
 //!

@@ -7,7 +7,7 @@ use std::process::Abort;
 use std::test::Fail;
 use test_packs::{Placed, failing_machine, sectors_of, set_page, sure_machine};
 
-/// The bits of sectors 0 to 47: busy but for the free ones, all busy, and all free.
+/// The bits of sectors 0 to 47: busy except the free ones, all busy, and all free.
 const TRUE: [u16; 3] = [0xFFFF, 0xFFFF, 0xFFE0];
 
 const BUSY: [u16; 3] = [0xFFFF; 3];
@@ -30,7 +30,7 @@ fn is_busy(words: &[u16; 3], at: u16) -> bool {
     }
 }
 
-/// Sectors of which each below 43 carries a page, but for two: sector 0 has a free label, and sector 20 has one behind the
+/// Sectors of which each below 43 carries a page, except two: sector 0 has a free label, and sector 20 has one after the
 /// header of another sector.
 fn sectors(alloc: Global) -> Result<Vec<Sector>, Fail> {
     let mut sectors = sectors_of(alloc, &[])?;
@@ -122,7 +122,7 @@ fn six_are_too_many(rt: HostRuntime) -> Result<(), Fail> {
     for words in [TRUE, BUSY, FREE, SOME] {
         let answer = ask(rt.alloc(), words, 6)?;
         expect_full(&rt, &answer.taken);
-        // none is taken, and the swept table is true but for sector 0, whose bit stays
+        // none is taken, and the swept table is true except sector 0, whose bit stays
         assert_eq!(rt; is_busy(&answer.words, 0), is_busy(&words, 0));
         for at in 1..48 {
             assert_eq!(rt; is_busy(&answer.words, at), !is_free(at));

@@ -17,7 +17,7 @@ pub enum Broken {
     Nothing,
     /// Nothing can be shown.
     Display,
-    /// The keyboard fails behind its last key, where it would end.
+    /// The keyboard fails after its last key, where it would end.
     Keyboard,
     /// Files may be read and not written, however they are opened.
     Writing,

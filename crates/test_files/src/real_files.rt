@@ -19,7 +19,7 @@ const KEYS: &[u8] = b"patch #3 0 565758595A\n";
 
 const PLACED: &[u8] = b"VWXYZ";
 
-/// Where the file's bytes stand in the pack file: behind the six sectors ahead, a header and a label.
+/// Where the file's bytes stand in the pack file: after the six sectors ahead, a header and a label.
 const BYTES_AT: usize = 6 * 532 + 20;
 
 /// The directory with serial 5 and the name `D.`: its leader page on sector 11, its data page on sector 12. There one entry

@@ -13,7 +13,7 @@ use Rattle.test_packs.specs.declared.sectors.Placed.{Placed}
 abbrev pub value_of : List ℕ → List ℕ
 value_of front = front ++ replicate 253 0
 
--- a free sector behind its right header: that of pack number 1 and of its real address among two cylinders
+-- a free sector after its right header: that of pack number 1 and of its real address among two cylinders
 abbrev pub free_sector : ℕ → Sector
 free_sector at = record {
   header = 1 ∷ (at % 12 * 4096 + at / 24 % 2 * 8 + at / 12 % 2 * 4 + at / 24 / 2 * 2) ∷ [];
@@ -40,7 +40,7 @@ pub record IsOver (sectors : List Sector) (keys : List ℕ) (t : Taped) : Type 0
   pub cylinders : cylinders_of t.form ≡ 2
   pub tape : t ≡ first_tape t.form sectors keys
 
--- why there is none over so many sectors; want of memory may always come
+-- why there is none over so many sectors; out of memory may always come
 abbrev pub IsErrorOf : ℕ → NewError → Type 0
 IsErrorOf count (WrongCount wanted got) = (wanted ≡ 48) × (got ≡ count) × (count ≢ 48)
 IsErrorOf count Memory = ⊤

@@ -1,7 +1,7 @@
 //! Packs of two cylinders made by hand in memory, for the tests of the crates above.
 //!
 //! Below it stand disk_records and disk_memory. A pack is made of its pages: each has its sector, its label and
-//! the first words of its value. All other sectors are free, behind right headers.
+//! the first words of its value. All other sectors are free, after right headers.
 #![tactic(auto)]
 
 mod machines;

@@ -35,7 +35,7 @@ pub fn sure_machine(
     SureMachine::new(alloc, small_shape(), sectors, keys)
 }
 
-/// A machine that fails where it is told to, and is told of nothing yet, over these sectors, with these keys to be read. WrongCount: there
+/// A machine that fails where it is set to, and is set to nothing yet, over these sectors, with these keys to be read. WrongCount: there
 /// aren't 48. Memory: none was left for the keys or for a copy of the sectors.
 pub fn failing_machine(
     alloc: Global,

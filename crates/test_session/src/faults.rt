@@ -49,7 +49,7 @@ fn ended_at(alloc: Global, call: u64, after: u8) -> Result<Ended, Fail> {
 }
 
 /// The number of calls from `first` on that end the session as this part says. The pack holds the old bytes or the new ones,
-/// whole: the old ones before the first reply was begun, but for the write itself, and the new ones from then on.
+/// whole: the old ones before the first reply was begun, except the write itself, and the new ones from then on.
 fn count_calls(alloc: Global, first: u64, after: u8, part: &Part) -> Result<u64, Fail> {
     let old = sectors_of(alloc, &[LEADER, DATA])?;
     let mut new = sectors_of(alloc, &[LEADER, DATA])?;
@@ -113,7 +113,7 @@ fn a_failing_write_is_done_or_not(rt: HostRuntime) -> Result<(), Fail> {
         },
     );
     for after in [0, 1] {
-        // the sector commands of the first line come behind its 16 keys
+        // the sector commands of the first line come after its 16 keys
         let mut written = 0u8;
         for call in 16u64..200 {
             let ended = ended_at(rt.alloc(), call, after)?;

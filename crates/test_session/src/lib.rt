@@ -1,4 +1,4 @@
-//! Tests of typed sessions over packs made by hand in memory: lines, files, faults and cuts; and of `format`.
+//! Tests of typed sessions over packs made by hand in memory: lines, files, faults and crash points; and of `format`.
 //!
 //! What is expected here was worked out by hand from the rules of commands and labels, and never taken from a run.
 //! There is nothing to call.

@@ -141,7 +141,7 @@ fn one_line_takes_two_sweeps_at_most(rt: HostRuntime) -> Result<(), Fail> {
         one_line(b"Patch", b"bad line\n", 0),
     ];
     for one in lines {
-        // the call behind them shows the reply: where it fails nothing is shown, and no other call is made
+        // the call after them shows the reply: where it fails nothing is shown, and no other call is made
         for (failing, shown) in [
             (one.commands, b"".as_slice()),
             (one.commands.saturating_add(1), one.shown),

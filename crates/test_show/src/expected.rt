@@ -28,7 +28,7 @@ pub fn expect_listing<R: Abort + AllocGlobal>(
 }
 
 /// A line for each file, with its serial, the moment when it was made and its length, and one for each name, with the serial of
-/// its directory before it and that of its file behind it.
+/// its directory before it and that of its file after it.
 pub fn lines_of(alloc: Global, shown: &Shown) -> Result<Vec<u8>, Fail> {
     let mut out = Vec::new(alloc);
     for file in shown.files.as_slice() {

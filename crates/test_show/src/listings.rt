@@ -112,7 +112,7 @@ fn entries_that_are_kept(rt: HostRuntime) -> Result<(), Fail> {
         &sectors,
         b"SysDir>B. length 0\nSysDir>Y. length 0\n2 files\n",
     )?;
-    // the second slot has length 0: the one behind it isn't read
+    // the second slot has length 0: the one after it isn't read
     let mut slots = Vec::new(alloc);
     push_entry(&mut slots, FILE_3, b"B.")?;
     slots.push(0)?;

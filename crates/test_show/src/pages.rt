@@ -30,7 +30,7 @@ pub struct Written<'a> {
     pub words: &'a [u16],
 }
 
-/// The first words of a leader's value: three dates, all moment 1000, and then its name behind the name's length. Fail: the
+/// The first words of a leader's value: three dates, all moment 1000, and then its name after the name's length. Fail: the
 /// name has more than 255 bytes, or no memory was left.
 pub fn leader_words(alloc: Global, name: &[u8]) -> Result<Vec<u16>, Fail> {
     let mut words = Vec::new(alloc);
@@ -39,7 +39,7 @@ pub fn leader_words(alloc: Global, name: &[u8]) -> Result<Vec<u16>, Fail> {
     Ok(words)
 }
 
-/// Appends a name behind its length, two bytes a word; an odd byte has a 0 beside it. Fail: the name has more than 255 bytes, or
+/// Appends a name after its length, two bytes a word; an odd byte has a 0 beside it. Fail: the name has more than 255 bytes, or
 /// no memory was left.
 pub fn push_name(words: &mut Vec<u16>, name: &[u8]) -> Result<(), Fail> {
     let mut high = Some(u8::try_from(name.len())?);
@@ -58,7 +58,7 @@ pub fn push_name(words: &mut Vec<u16>, name: &[u8]) -> Result<(), Fail> {
     Ok(())
 }
 
-/// The slot of an entry: its kind and its length, the full name, a 0, the leader's address, and the name behind its length. Fail:
+/// The slot of an entry: its kind and its length, the full name, a 0, the leader's address, and the name after its length. Fail:
 /// the name has more than 255 bytes, or no memory was left.
 pub fn push_entry(words: &mut Vec<u16>, fid: FullName, name: &[u8]) -> Result<(), Fail> {
     let length = u8::try_from(name.len())?;

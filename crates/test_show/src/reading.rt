@@ -54,7 +54,7 @@ fn files_and_names_with_their_full_names(rt: HostRuntime) -> Result<(), Fail> {
 fn all_that_a_file_shows(rt: HostRuntime) -> Result<(), Fail> {
     let alloc = rt.alloc();
     let mut sectors = sectors_of(alloc, &[])?;
-    // three dates, each with its high word first, and then the name, the rest and the hints; what stands behind the name doesn't count
+    // three dates, each with its high word first, and then the name, the rest and the hints; what stands after the name doesn't count
     let mut leader = [1, 30, 2, 31, 3, 32].to_vec(alloc)?;
     push_name(&mut leader, b"A.")?;
     leader.resize(256, 7)?;

@@ -1,4 +1,4 @@
-// Where the slots of a directory end: the first words that are no slot, and what stands behind them isn't read.
+// Where the slots of a directory end: the first words that are no slot, and what stands after them isn't read.
 use crate::expected::expect_listing;
 use crate::pages::{FILE_3, FILE_4, SYS_DIR, push_entry, put_directory, put_leader};
 use disk_records::Sector;
@@ -17,7 +17,7 @@ fn two_files(alloc: Global) -> Result<Vec<Sector>, Fail> {
     Ok(sectors)
 }
 
-/// SysDir with these words, and behind them the entry `B.` of file 3.
+/// SysDir with these words, and after them the entry `B.` of file 3.
 fn put_before_an_entry(alloc: Global, sectors: &mut [Sector], first: &[u16]) -> Result<(), Fail> {
     let mut words = first.to_vec(alloc)?;
     push_entry(&mut words, FILE_3, b"B.")?;
@@ -65,7 +65,7 @@ fn slots_that_end_a_directory(rt: HostRuntime) -> Result<(), Fail> {
         &[10],
         // word 4 isn't 0
         &[1032, 0, 4, 1, 1, 5, 0x0243, 0x2E00],
-        // the byte behind the letters isn't 0
+        // the byte after the letters isn't 0
         &[1032, 0, 4, 1, 0, 5, 0x0243, 0x2E01],
         // a word more than the name has, and one less
         &[1033, 0, 4, 1, 0, 5, 0x0243, 0x2E00, 0],

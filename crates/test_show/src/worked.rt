@@ -36,7 +36,7 @@ fn put_slots(
     put_directory(alloc, sectors, at, name.0, name.1, &slots)
 }
 
-/// The sectors of a formatted pack, with these entries in SysDir behind those of the two system files.
+/// The sectors of a formatted pack, with these entries in SysDir after those of the two system files.
 fn formatted(alloc: Global, entries: &[Entry]) -> Result<Vec<Sector>, Fail> {
     let mut sectors = sectors_of(alloc, &[])?;
     let mut slots = Vec::new(alloc);

@@ -63,7 +63,7 @@ last_bytes ws bytes count is short within =
     ∙ sym (take-append-le (length bytes) (bytes_of front) (bytes_of (drop 256 ws)) low)
     ∙ ap (take (length bytes)) (sym (bytes_split ws))
 
--- the bytes of such pages are some first ones of the words'
+-- the bytes of such pages are a prefix of the words'
 pub shown_bytes : (text : List ℕ) (n : ℕ) (cs : List PageAt) → Shows text n cs → IsLaid cs → length (together cs) ≤ 2 * length (drop (256 * n) text) → together cs ≡ take (length (together cs)) (bytes_of (drop (256 * n) text))
 shown_bytes text n [] shows laid within = absurd laid
 shown_bytes text n (c ∷ []) shows laid within =

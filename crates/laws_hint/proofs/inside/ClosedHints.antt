@@ -24,7 +24,7 @@ use Rattle.laws_hint.proofs.inside.TrueMap.{true_is_free, true_many, values_free
 use Rattle.laws_hint.specs.ClosingLaws.{ClosedTrue, ClosingLeavesACleanPack, ClosingLeavesHintsTrue, closing_writes}
 use Rattle.laws_operation.proofs.descriptor.Laws.{close_carries_out, close_keeps_links}
 
--- what holds at each crash holds behind all record writes
+-- what holds at each crash holds after all record writes
 pub at_end : (P : Pack → Type 0) (p : Pack) (events : List Event) → ((k : ℕ) → P (crash p events k)) → P (after p events)
 at_end P p events h = subst (λ es. P (after p es)) (take_all (length events) events (omega arith)) (h (length events))
 
@@ -48,7 +48,7 @@ module _ (p q : Pack) (busy : List Bool) (shape : q.shape ≡ p.shape) (words : 
   number_true w = ap (λ ws. word ws 7) words ∙ ap (how_many not) same ∙ true_many q w
 
 -- ---- closing
--- the words of DiskDescriptor behind the record writes, where the mark isn't clean
+-- the words of DiskDescriptor after the record writes, where the mark isn't clean
 values_text : (p : Pack) (busy : List Bool) (pages : List ℕ) → MayClose p pages → let q : Pack = after p (values_writes (reverse (closed_values p.shape (read_as p).last busy 0 pages))) in
     KeepsSound p q → descriptor_words (sights q) ≡ descriptor_text p.shape (read_as p).last mark_clean busy
 values_text p busy pages h keeps =
@@ -74,7 +74,7 @@ closed_true p busy pages w h true_map links keeps marked =
       sound = keeps.sound;
     }
 
--- the words behind closing
+-- the words after closing
 pub closing_text : (p : Pack) (busy : List Bool) (pages : List ℕ) → Whole p → Tidy p → MayClose p pages → mark_of (sights p) ≢ mark_clean → descriptor_words (sights (after p (closing_writes p busy pages))) ≡ descriptor_text p.shape (read_as p).last mark_clean busy
 closing_text p busy pages w t h unclean = by (mark_of (sights p) == mark_clean) refl (at_end (KeepsSound p) p (closing_writes p busy pages) (close_carries_out p busy pages w t h).keeps)
   where

@@ -1,4 +1,4 @@
--- What DiskDescriptor says behind closing with any map.
+-- What DiskDescriptor says after closing with any map.
 use Rattle.std.proofs.Common.{Bool, List, ap, arith, drop, length, sym, take, ◌*◌, ◌∙◌, ◌≡◌, ◌≤◌}
 use Rattle.std.proofs.lemmas.List.{take_all}
 use Rattle.disk_records.specs.Addresses.{pages_of, table_words}

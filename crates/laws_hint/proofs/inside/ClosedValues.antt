@@ -1,4 +1,4 @@
--- Behind closing each data page of DiskDescriptor has its value.
+-- After closing each data page of DiskDescriptor has its value.
 use Rattle.std.proofs.Common.{Bool, List, Some, [], ap, arith, length, length-set, refl, reverse, suc, sym, zero, ℕ, ◌+◌, ◌<◌, ◌∙◌, ◌∷◌, ◌≡◌}
 use Rattle.alto_words.specs.Fid.{disk_descriptor}
 use Rattle.disk_records.proofs.Growing.{after-append}
@@ -36,7 +36,7 @@ closed_value p last busy (first ∷ pages) n bear k at l e =
     vs : List (ℕ × List ℕ)
     vs = reverse (closed_values p.shape last busy (suc n) pages)
 
-    -- of the pages behind the first one
+    -- of the pages after the first one
     Later : Type 0
     Later = (j : ℕ) → j < length pages → place (sights p) disk_descriptor (suc (suc n + j)) ≡ Some at → (sector_at (after p (values_writes vs)) at).value ≡ descriptor_value p.shape last mark_clean busy (suc n + j)
 

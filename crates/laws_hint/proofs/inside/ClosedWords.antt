@@ -1,4 +1,4 @@
--- The words of DiskDescriptor behind closing.
+-- The words of DiskDescriptor after closing.
 use Rattle.std.proofs.Common.{Bool, List, Some, [], ap, arith, drop, get_or, inl, inr, length, refl, suc, sym, take, zero, ℕ, ◌*◌, ◌+◌, ◌/◌, ◌<◌, ◌∙◌, ◌∷◌, ◌≡◌, ◌≤◌}
 use Rattle.std.proofs.lemmas.List.{take_all}
 use Rattle.alto_words.specs.Fid.{disk_descriptor}

@@ -1,4 +1,4 @@
--- A line keeps links where its operations do, and closing behind it leaves all hints true.
+-- A line keeps links where its operations do, and closing after it leaves all hints true.
 use Rattle.std.proofs.Common.{List, Some, [], subst, sym, ℕ, ◌++◌, ◌≡◌}
 use Rattle.alto_words.specs.Fid.{disk_descriptor}
 use Rattle.disk_records.proofs.Growing.{after-append}
@@ -41,7 +41,7 @@ pub line_keeps_links : LineKeepsLinks
 line_keeps_links p events ops line w t each = along line w t each
 
 -- ---- from the opening of the mark on
--- what the opening keeps, and the mark behind it
+-- what the opening keeps, and the mark after it
 opened : (p : Pack) (at : ℕ) → Whole p → Tidy p → place (sights p) disk_descriptor 1 ≡ Some at → KeepsSound p (after p (opening_writes p at)) × Unmarked (after p (opening_writes p at))
 opened p at w t placed =
     let h = open_carries_out p at (drop_file disk_descriptor) [] w t placed in
@@ -58,7 +58,7 @@ stays : (p : Pack) (at : ℕ) (events : List Event) (ops : List Operation) → B
     → LineStays (after p (opening_writes p at)) events ops (moves_of_all (read_as (after p (opening_writes p at))) ops)
 stays p at events ops line w t placed = let h = opened p at w t placed in crashes_of_an_unmarked_line (after p (opening_writes p at)) events ops h.0.whole h.0.tidy h.1 line
 
--- and closing behind it
+-- and closing after it
 pub line_closes_with_true_hints : LineClosesWithTrueHints
 line_closes_with_true_hints p at events ops line busy pages w t placed each links may map =
     let q : Pack = after p (opening_writes p at ++ events) in

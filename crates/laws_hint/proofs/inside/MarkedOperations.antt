@@ -1,4 +1,4 @@
--- The true map behind the record writes of operations, and behind those of DiskDescriptor's own words.
+-- The true map after the record writes of operations, and after those of DiskDescriptor's own words.
 use Rattle.std.proofs.Common.{Bool, List, Some, [], ap, cond, false, get_or, length, not, refl, reverse, set, suc, sym, take, true, zero, ℕ, ◌++◌, ◌∙◌, ◌∷◌, ◌≡◌}
 use Rattle.std.specs.Prelude.{◌==◌}
 use Rattle.std.proofs.lemmas.Option.{cond_some}
@@ -114,7 +114,7 @@ module _ (p : Pack) (w : Whole p) (t : Tidy p) where
   gone : (f : Fid) (at : ℕ) (pages : List ℕ) → place (sights p) f 0 ≡ Some at → Bear (sights p) f 1 pages → free_table (after p (release_file_writes at pages)) ≡ marked false (at ∷ pages) (free_table p)
   gone f at pages is bear = releases_bits p (at ∷ pages) (borne_usable p f 0 at is, all_usable p f 1 pages bear)
 
-  -- a value behind others leaves the map that these leave
+  -- a value after others leaves the map that these leave
   then_value : (events : List Event) (at : ℕ) (value : List ℕ) (m : List Bool) → free_table (after p events) ≡ m → free_table (after p (events ++ value_writes at value)) ≡ m
   then_value events at value m same = ap free_table (after-append p events (value_writes at value)) ∙ value_bit (after p events) at value ∙ same
 

@@ -1,4 +1,4 @@
--- The bits of the map of free sectors behind the record writes of a sector command.
+-- The bits of the map of free sectors after the record writes of a sector command.
 use Rattle.std.proofs.Common.{Bool, List, [], ap, cond, eq-eqb, eqb-true, false, get_or, length, length-set, map, not, refl, set, subst, suc, sym, true, zero, ℕ, ◌<◌, ◌∙◌, ◌∷◌, ◌≡◌}
 use Rattle.std.specs.List.{list_any}
 use Rattle.std.specs.Prelude.{◌==◌, ◌||◌}

@@ -1,4 +1,4 @@
--- The laws of behind: what other crates cite.
+-- The laws of what is so after a line: what other crates cite.
 pub use Rattle.laws_line.proofs.inside.ReadDirectories.{directories_are_read}
 pub use Rattle.laws_line.proofs.inside.Roomy.{root_is_directory}
 pub use Rattle.laws_line.proofs.inside.SettledAgain.{first_part_ready, settled_after_changes}

@@ -8,7 +8,7 @@ use Rattle.pack_model.specs.operations.Rooms.{in_run, left_over, placed, run}
 use Rattle.pack_model.specs.reading.Slots.{Item, item_words}
 use Rattle.pack_model.specs.reading.Slots.Item.{entry, space}
 
--- what is behind a run are some of the slots
+-- what is after a run are some of the slots
 behind_short : (n : ℕ) (is : List Item) (r : ℕ × List Item) → All IsShort is → run n is ≡ Some r → All IsShort r.1
 behind_short n [] r h e = absurd cc
 behind_short n (entry f name ∷ is) r h e = absurd cc

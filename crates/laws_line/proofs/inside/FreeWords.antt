@@ -10,13 +10,13 @@ pub record MoreFree (a b : List Item) : Type 0 where
   pub front : words_free a ≤ words_free b
   pub row : largest_run a ≤ largest_run b
 
--- the same behind others
+-- the same after others
 pub more_behind : (c a b : List Item) → MoreFree a b → MoreFree (c ++ a) (c ++ b)
 more_behind [] a b h = h
 more_behind (space k ∷ c) a b h = let r = more_behind c a b h in let f = r.front in let g = r.row in record { front = omega arith; row = omega arith }
 more_behind (entry f name ∷ c) a b h = let r = more_behind c a b h in let g = r.row in record { front = omega arith; row = omega arith }
 
--- slots behind others have no longer row than all
+-- slots after others have no longer row than all
 pub row_behind : (a b : List Item) → largest_run b ≤ largest_run (a ++ b)
 row_behind [] b = omega arith
 row_behind (i ∷ a) b = let r = row_behind a b in omega arith

@@ -28,11 +28,11 @@ use Rattle.pack_model.specs.operations.Step.Operation.{enter, leave, make, title
 abbrev pub full : Shape → Model
 full shape = record { shape = shape; good = 4 + descriptor_pages shape; last = 2; files = from_entries ((sys_dir, root_with (space 25 ∷ [])) ∷ []) }
 
--- the line that makes a file without its first part
+-- the line that makes a file without its first operation
 abbrev pub made_at_once : Shape → List Operation
 made_at_once shape = room_widening (full shape) sys_dir long_name ++ make file_3 long_name 0 ∷ enter sys_dir long_name file_3 ∷ []
 
--- The model is settled, the line has its pages, and behind the making there is no room.
+-- The model is settled, the line has its pages, and after the making there is no room.
 pub make_without_spare : (shape : Shape) → Settled (full shape) × (pages_for_operations (full shape) (made_at_once shape) ≤ room (full shape)) × (HasRoom (step (full shape) (make file_3 long_name 0)) → ⊥)
 unfolding widens placed
 make_without_spare shape = (
@@ -59,7 +59,7 @@ filled shape = record { shape = shape; good = 4 + descriptor_pages shape; last =
 abbrev pub renamed_at_once : Shape → List Operation
 renamed_at_once shape = room_widening (filled shape) sys_dir long_name ++ title file_3 long_name ∷ leave sys_dir (codes "A.") ∷ enter sys_dir long_name file_3 ∷ []
 
--- the models behind the title and the entry that goes
+-- the models after the title and the entry that goes
 abbrev pub titled : Shape → Model
 titled shape = step (filled shape) (title file_3 long_name)
 
@@ -83,7 +83,7 @@ left_are shape =
     entries_update (titled shape).files sys_dir _ (root_with (entry file_3 (codes "A.") ∷ [])) (get-entries (titled shape).files sys_dir ∙ ap (find fid_cmp sys_dir) (titled_are shape))
     ∙ ap (put fid_cmp sys_dir (root_with (space 8 ∷ []))) (titled_are shape)
 
--- The model is settled, the file entered, and the line adds no page; behind the entry that goes there is no room.
+-- The model is settled, the file entered, and the line adds no page; after the entry that goes there is no room.
 pub rename_without_spare : (shape : Shape) → Settled (filled shape) × IsEntered (filled shape) sys_dir (codes "A.") file_3 × (pages_for_operations (filled shape) (renamed_at_once shape) ≤ room (filled shape)) × (HasRoom (left shape) → ⊥)
 unfolding widens placed
 rename_without_spare shape = (
@@ -110,7 +110,7 @@ put_are shape =
     entries_update (filled shape).files file_3 _ (record { leader = new_leader (codes "A.") 0; body = data_of [] }) (get-entries (filled shape).files file_3 ∙ ap (find fid_cmp file_3) (filled_are shape))
     ∙ ap (put fid_cmp file_3 (record { leader = new_leader (codes "A.") 0; body = data_of (replicate 512 0) })) (filled_are shape)
 
--- The line adds no page by its number, and there is no room behind it.
+-- The line adds no page by its number, and there is no room after it.
 pub put_past_its_end : (shape : Shape) → (pages_for_operations (filled shape) (Operation.put file_3 0 (replicate 512 0) ∷ []) ≤ room (filled shape)) × (HasRoom (put_past shape) → ⊥)
 unfolding needs
 put_past_its_end shape = ((let p = ap files_pages (filled_are shape) in omega arith), λ h. (let p = ap files_pages (put_are shape) in omega arith))

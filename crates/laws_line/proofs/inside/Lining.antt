@@ -54,7 +54,7 @@ make_from (write h1 m1 (write h2 m2 (write h3 m3 (write h4 m4 (write {p = p} {at
 mendable_now : (p : Pack) → Whole p → Unmarked p → Ready (read_as p) → Mendable p
 mendable_now p w unmarked ready = mendable_still p p w unmarked (still_self p) ready
 
--- the rest of a line, from the model behind its first operation
+-- the rest of a line, from the model after its first operation
 later_obeys : (q : Pack) (m : Model) (later : List Event) (ops : List Operation) → read_as q ≡ m → Obeys viewing (read_as q) q later (moves_of_all (read_as q) ops) → Obeys viewing m q later (moves_of_all m ops)
 later_obeys q m later ops e h = subst (λ x. Obeys viewing x q later (moves_of_all x ops)) e h
 

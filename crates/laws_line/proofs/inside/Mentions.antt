@@ -92,7 +92,7 @@ named_there files q h =
     ∙ any_second t (namings r.front) (body_namings h.dir h.own.body ++ namings r.back) (any_first t (body_namings h.dir h.own.body) (namings r.back) (ap (list_any t) (bodies_bare h.dir h.own.body) ∙ h.says))
 
 -- ---- slots that change
--- a slot between others, by the entries before and behind it
+-- a slot between others, by the entries before and after it
 pub mentions_more : (q d : Fid) (a b : List Item) (f : Fid) (name : List ℕ) → list_any (λ n. is_fid n.fid q) (namings_in d a ++ namings_in d b) ≡ true → mentions q d (a ++ entry f name ∷ b) ≡ true
 mentions_more q d a b f name h = ap (list_any (λ n. is_fid n.fid q)) (namings_in-append d a (entry f name ∷ b)) ∙ any_between (λ n. is_fid n.fid q) (namings_in d a) (namings_in d b) (record { dir = d; name = name; fid = f }) h
 

@@ -13,7 +13,7 @@ use Rattle.pack_model.specs.operations.Step.{Operation, step}
 use Rattle.pack_model.specs.operations.Step.Operation.{enter, make}
 
 module _ (m : Model) (d : Fid) (name : List ℕ) (f : Fid) (moment : ℕ) (rest : List Operation) (s : Settled m) (short : length name ≤ 39) (fresh : contains_key m.files f ≡ false) where
-  -- the models behind the making and the entering
+  -- the models after the making and the entering
   abbrev pub made : Model
   made = step (behind m d name s) (make f name moment)
 
@@ -23,7 +23,7 @@ module _ (m : Model) (d : Fid) (name : List ℕ) (f : Fid) (moment : ℕ) (rest 
   pub fresh_behind : contains_key (behind m d name s).files f ≡ false
   fresh_behind = there_behind m d name s f ∙ fresh
 
-  -- behind the making the file alone has no name
+  -- after the making the file alone has no name
   pub made_behind : Prepared m d name s (make f name moment ∷ enter d name f ∷ rest) → Spared made f
   made_behind p = let enough = p.pages in made_spared (behind m d name s) f name moment (p.spared f) short fresh_behind (omega arith)
 
@@ -37,7 +37,7 @@ module _ (m : Model) (d : Fid) (name : List ℕ) (f : Fid) (moment : ℕ) (rest 
       let same = entered_pages d f name short made in
       (spared_ready (behind m d name s) f h, (spared_ready made f a, ready_changes entered rest (entered_ready d f name short made a) leaves (omega arith)))
 
-  -- what comes then leaves names as they are, on the model behind the entering
+  -- what comes then leaves names as they are, on the model after the entering
   pub leaves_entered : LeaveNames (with_new_file m d name f moment) rest → LeaveNames entered rest
   leaves_entered leaves = subst (λ n. LeaveNames n rest) (steps_both m (front m d name s) (make f name moment ∷ enter d name f ∷ [])) leaves
 

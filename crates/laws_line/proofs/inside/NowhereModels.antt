@@ -1,4 +1,4 @@
--- Why a new file's directory is one of the model: where it isn't there the line still leaves room, and the file has no name behind it.
+-- Why a new file's directory is one of the model: where it isn't there the line still leaves room, and the file has no name after it.
 use Rattle.std.proofs.Common.{◌++◌, ◌+◌, ◌∙◌, ◌∷◌, ◌≡◌, ◌≤◌, List, [], ap, arith, cond, false, nat_le, refl, subst, sym, true}
 use Rattle.std.specs.FinMap.{contains_key, entries, entries-insert, find, from_entries, get, get-entries}
 use Rattle.std.specs.FinMap.Entries.{put}
@@ -49,7 +49,7 @@ line_is shape =
     ap (λ r. cond (nat_le 26 (largest_run (items_in r))) [] (widen sys_dir ∷ []) ++ cond (nat_le 8 (largest_run (dir_items (lone shape) absent))) [] (widen absent ∷ []) ++ make file_3 (codes "A.") 0 ∷ enter absent (codes "A.") file_3 ∷ []) (look shape sys_dir)
     ∙ ap (λ r. cond (nat_le 8 (largest_run (items_in r))) [] (widen absent ∷ []) ++ make file_3 (codes "A.") 0 ∷ enter absent (codes "A.") file_3 ∷ []) (look shape absent)
 
--- the models behind them
+-- the models after them
 abbrev wide : Shape → Model
 wide shape = step (lone shape) (widen absent)
 
@@ -71,7 +71,7 @@ made_are shape = entries-insert fid_total (wide shape).files file_3 (new_file fi
 entered_are : (shape : Shape) → entries (entered shape).files ≡ made_list
 entered_are shape = ap (λ r. entries (update_found (made shape).files absent (on_items (items_entered (entry file_3 (codes "A.")))) r)) (get-entries (made shape).files absent ∙ ap (find fid_cmp absent) (made_are shape)) ∙ made_are shape
 
--- The model is settled, the file isn't there, the line has its pages, and behind it the file has no name.
+-- The model is settled, the file isn't there, the line has its pages, and after it the file has no name.
 pub enter_nowhere : (shape : Shape) → Settled (lone shape) × (contains_key (lone shape).files file_3 ≡ false) × (pages_for_operations (lone shape) (line shape) ≤ room (lone shape)) × (Settled (steps_of (lone shape) (line shape)) → ⊥)
 enter_nowhere shape = (
   settled_by (lone shape) lone_list (space 26 ∷ []) (lone_are shape) refl (omega arith) (omega arith, tt) (short_with (space 26) (omega arith)) refl refl (refl, tt),

@@ -56,7 +56,7 @@ module _ (p : Pack) (d : Fid) (kind : is_directory d ≡ true) where
   abbrev shown : List Sight
   shown = sights p
 
-  -- behind the scan it has one
+  -- after the scan it has one
   left : (x : File) (e : get (described shown) d ≡ Some x) → Slots (body_left (lives shown) (described shown) d x e)
   left x e = slots_kept (is_kept (lives shown)) d (after_files (is_kept (lives shown)) [] (around fid_total fid_same (described shown) d x e).front) x.body (found_slots shown d kind x e)
 

@@ -24,20 +24,20 @@ module _ (m : Model) (d : Fid) (old : List ℕ) (to : Fid) (name : List ℕ) (f 
   abbrev pub rest : List Operation
   rest = title f name ∷ leave d old ∷ enter to name f ∷ []
 
-  -- the models behind the title and behind the entry that goes
+  -- the models after the title and after the entry that goes
   abbrev pub titled : Model
   titled = step (behind m to name s) (title f name)
 
   abbrev pub left : Model
   left = step titled (leave d old)
 
-  -- the entry behind the front of the line
+  -- the entry after the front of the line
   enters_behind : EntersIn d old f (dir_items (behind m to name s) d)
   enters_behind = subst (λ n. EntersIn d old f (dir_items n d)) (sym (steps_both m (spare_widening m) (room_widening m to name)))
       (enters_page (steps_of m (spare_widening m)) d to old f (is_fid to sys_dir || nat_le (entry_length (length name)) (largest_run (dir_items m to)))
       (enters_page m d sys_dir old f (nat_le longest_entry (largest_run (root_items m))) (enters_in m d old f h)))
 
-  -- behind the title, and behind the entry that goes, the file alone may have no name
+  -- after the title, and after the entry that goes, the file alone may have no name
   titled_behind : Prepared m to name s rest → Spared titled f
   titled_behind p = let enough = p.pages in spared_kept (behind m to name s) titled 0 f (keeps_step (behind m to name s) (title f name) short) (omega arith) (p.spared f)
 

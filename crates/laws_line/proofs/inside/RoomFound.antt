@@ -1,4 +1,4 @@
--- Behind the front of a line the directory has room for the entry, so the file has its name where that comes.
+-- After the front of a line the directory has room for the entry, so the file has its name where that comes.
 use Rattle.std.proofs.Common.{◌∙◌, ◌∷◌, ◌≡◌, ◌≤◌, ◌||◌, Bool, List, None, Option, Some, [], ap, arith, cond, false, leb-true, length, nat_le, refl, subst, sym, true, ℕ}
 use Rattle.std.specs.FinMap.{contains_key, get}
 use Rattle.std.specs.Option.{is_some, option_map, unwrap_or}
@@ -31,7 +31,7 @@ module _ (m : Model) (d : Fid) (name : List ℕ) (s : Settled m) (short : length
   with_page : Roomy words (step (steps_of m (spare_widening m)) (widen d)) d
   with_page = roomy_widened 0 words (steps_of m (spare_widening m)) d (omega arith) (roomy_steps 0 m (spare_widening m) d (page_leaves m sys_dir (nat_le longest_entry (largest_run (root_items m)))) h)
 
-  -- the words for the entry are free in a row behind it
+  -- the words for the entry are free in a row after it
   pub roomy_behind : Roomy words (behind m d name s) d
   roomy_behind = by (is_fid d sys_dir) refl (nat_le words (largest_run (dir_items m d))) refl
     where

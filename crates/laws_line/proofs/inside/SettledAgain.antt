@@ -1,4 +1,4 @@
--- Models behind a line in which every file has a name.
+-- Models after a line in which every file has a name.
 use Rattle.std.proofs.Common.{List, [], ap, refl, subst, sym, true, ◌∙◌, ◌∷◌, ◌≡◌}
 use Rattle.std.specs.FinMap.{contains_key}
 use Rattle.std.specs.Option.{is_some}
@@ -31,7 +31,7 @@ settled_last n r root all = record {
   all = all;
 }
 
--- so behind a line, whose last model this is
+-- so after a line, whose last model this is
 pub behind_line : (m : Model) (ops : List Operation) (n : Model) → steps_of m ops ≡ n → Settled m → ReadyThroughout m ops
     → ((g : Fid) → contains_key n.files g ≡ true → IsNamed n g)
     → ((d : Fid) → contains_key n.files d ≡ true → Roomy 0 m d → Roomy 0 n d) → contains_key n.files sys_dir ≡ true → SettledBehind m ops

@@ -1,4 +1,4 @@
--- Behind a file that goes the others have their names, and directories their slots.
+-- After a file that goes the others have their names, and directories their slots.
 use Rattle.std.proofs.Common.{None, Option, Some, [], ap, arith, refl, true, ◌∙◌, ◌∷◌, ◌≡◌}
 use Rattle.std.specs.FinMap.{contains_key, get}
 use Rattle.std.specs.Option.{is_some, option_map}

@@ -1,4 +1,4 @@
--- Behind the line that makes a file every file has a name, and a new directory has its slots.
+-- After the line that makes a file every file has a name, and a new directory has its slots.
 use Rattle.std.proofs.Common.{List, Some, [], ap, arith, cond, false, length, subst, sym, true, ℕ, ◌∙◌, ◌∷◌, ◌≡◌, ◌≤◌}
 use Rattle.std.proofs.lemmas.List.Elements.{All-cons, All-nil}
 use Rattle.std.specs.FinMap.{contains_key, get, get-insert}
@@ -28,7 +28,7 @@ module _ (m : Model) (d : Fid) (name : List ℕ) (f : Fid) (moment : ℕ) (rest 
   abbrev line : List Operation
   line = make f name moment ∷ enter d name f ∷ rest
 
-  -- the models behind the making and the entering, and the last one
+  -- the models after the making and the entering, and the last one
   abbrev new_made : Model
   new_made = made m d name f moment rest s short fresh
 

@@ -1,4 +1,4 @@
--- Behind the line that renames a file every file has a name.
+-- After the line that renames a file every file has a name.
 use Rattle.std.proofs.Common.{List, ap, false, length, true, ℕ, ◌≡◌, ◌≤◌}
 use Rattle.std.specs.FinMap.{contains_key}
 use Rattle.std.specs.Option.{is_some}
@@ -20,7 +20,7 @@ use Rattle.pack_model.specs.operations.Step.{step}
 use Rattle.pack_model.specs.operations.Step.Operation.{enter, title}
 
 module _ (m : Model) (d : Fid) (old : List ℕ) (to : Fid) (name : List ℕ) (f : Fid) (s : Settled m) (h : IsEntered m d old f) (short : length name ≤ 39) (ordinary : is_system f ≡ false) where
-  -- the model behind the entry that goes, and the last one
+  -- the model after the entry that goes, and the last one
   abbrev before : Model
   before = left m d old to name f s h short ordinary
 

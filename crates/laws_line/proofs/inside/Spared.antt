@@ -62,7 +62,7 @@ run_there m s = by (nat_le longest_entry (largest_run (root_items m))) refl
 
 -- ---- the front of a line
 module _ (m : Model) (d : Fid) (name : List ℕ) (s : Settled m) where
-  -- the pages that directories get, and the model behind them
+  -- the pages that directories get, and the model after them
   abbrev pub front : List Operation
   front = spare_widening m ++ room_widening m d name
 

@@ -25,7 +25,7 @@ onto_any t [] b h g = g
 onto_any t (e ∷ a) b h g = onto_any t a (e ∷ b) (or_false_right (t e) (list_any t a) h) (or_false (t e) (list_any t b) (or_false_left (t e) (list_any t a) h) g)
 
 module _ (live : Fid → Bool) where
-  -- those behind it are kept beside it
+  -- those after it are kept beside it
   also_kept : (s : List Naming) (e : Naming) (r es : List Naming) → NoneClashes e es → AllKept (is_kept live) (s ++ r) es → AllKept (is_kept live) (s ++ e ∷ r) es
   also_kept s e r [] n h = tt
   also_kept s e r (x ∷ es) n h = (and_not (may_stand live x) (list_any (clashes x) (s ++ r)) (list_any (clashes x) (s ++ e ∷ r)) h.0 (any_more (clashes x) s e r n.0), also_kept (x ∷ s) e r es n.1 h.1)
@@ -37,7 +37,7 @@ module _ (live : Fid → Bool) where
 
 -- ---- slots
 module _ (lives : Fid → Bool) (files : Files) (d : Fid) (l : Leader) (a b : List Item) (k left : ℕ) (here : get files d ≡ Some (directory l (a ++ space k ∷ b))) (f : Fid) (name : List ℕ) where
-  -- the entries, with the free slot and the words left over behind it
+  -- the entries, with the free slot and the words left over after it
   spaced : namings (entries (insert files d (directory l (a ++ space k ∷ left_over left b)))) ≡ namings (entries files)
   spaced = slots_namings files d l (a ++ space k ∷ b) (a ++ space k ∷ left_over left b) here
       (namings_in-append d a (space k ∷ left_over left b) ∙ ap (λ x. namings_in d a ++ x) (left_names d left b) ∙ sym (namings_in-append d a (space k ∷ b)))

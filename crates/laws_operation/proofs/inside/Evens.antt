@@ -22,7 +22,7 @@ pub even_half : (bs : List ℕ) → IsEven bs → (n : ℕ) × (length bs ≡ n 
 even_half [] none = (0, refl)
 even_half _ (two {bytes = bs} e) = let r = even_half bs e in let h = r.1 in (suc r.0, omega arith)
 
--- the words of bytes behind others
+-- the words of bytes after others
 pub words_of-append : (a b : List ℕ) → IsEven a → words_of (a ++ b) ≡ words_of a ++ words_of b
 words_of-append [] b none = refl
 words_of-append _ b (two {a = x} {b = y} {bytes = a} e) = ap (λ r. (x * 256 + y) ∷ r) (words_of-append a b e)

@@ -54,7 +54,7 @@ before_clear : (e : Naming) (xs : List Naming) → list_any (clashes e) xs ≡ f
 before_clear e [] h = tt
 before_clear e (x ∷ xs) h = (is_fid-sym x.fid e.fid ∙ or_false_left (is_fid e.fid x.fid) (is_fid e.dir x.dir && is_same_name e.name x.name) (or_false_left (clashes e x) (list_any (clashes e) xs) h), before_clear e xs (or_false_right (clashes e x) (list_any (clashes e) xs) h))
 
--- and those behind it
+-- and those after it
 later_clear : (v : Fid → Bool) (e : Naming) (pre post xs : List Naming) → AllKept (is_kept v) (pre ++ e ∷ post) xs → NoneOf e.fid xs
 later_clear v e pre post [] h = tt
 later_clear v e pre post (x ∷ xs) h =

@@ -113,7 +113,7 @@ module _ (shape : Shape) (ss us : List Sight) (f : Fid) (x : File) (same : SameB
   pub tidy_without : IsTidy (lives ss) (remove (described ss) f)
   tidy_without = subst (AllKept (is_kept (lives ss)) []) (sym (bare_removed (described ss) f x bare was)) t
 
-  -- tidy but for the slot
+  -- tidy except the slot
   pub tidy_but : lives ss f ≡ true → TidyBut f us
   tidy_but alive = subst (λ m. IsTidy (living_too f (lives us)) m) (sym described_gone) (subst (λ v. IsTidy v (remove (described ss) f)) (fun_ext same_lives) tidy_without)
     where

@@ -1,4 +1,4 @@
--- Pages come behind a last page.
+-- Pages come after a last page.
 use Rattle.std.proofs.Common.{List, Some, [], ap, append_assoc, arith, get_or, inl, inr, length, refl, set, subst, suc, sym, take, true, ℕ, ◌++◌, ◌+◌, ◌<◌, ◌∙◌, ◌∷◌, ◌≡◌, ◌≤◌, ◌⊎◌}
 use Rattle.std.proofs.lemmas.List.{length-append, set-get_or}
 use Rattle.std.specs.Prelude.{nat_lt}
@@ -43,7 +43,7 @@ laid_last i old (d ∷ later) h e = let x : nat_lt 512 512 ≡ true = ap (λ n. 
 -- ---- new pages, and then the old last one
 module _ (p : Pack) (f : Fid) (k i : ℕ) (old : List ℕ) (h : Placed (sights p) f k i old) (is : get_or (sights p) i hidden ≡ holds f k old) (short : nat_lt (length old) 512 ≡ true)
     (cs : List Claim) (able : Claimable (sights p) f (suc k) cs) (m : Model) (was : read_as p ≡ m) where
-  -- no page comes behind it
+  -- no page comes after it
   ends : h.later ≡ []
   ends = laid_last i old h.later (laid_back h.front (i, old) h.later h.laid) short
 

@@ -66,7 +66,7 @@ abbrev pub FailsAll : ℕ → List Item → List Item → Type 0
 FailsAll n [] tail = Unit {0}
 FailsAll n (i ∷ a) tail = Fails n (i ∷ (a ++ tail)) × FailsAll n a tail
 
--- the first room stands behind starts that fail
+-- the first room stands after starts that fail
 pub room_behind : (n first place : ℕ) (a tail : List Item) (r : Room) → room_from n first place (a ++ tail) ≡ Some r → r.first ≡ first + length a → FailsAll n a tail × (room_from n (first + length a) (place + all_words a) tail ≡ Some r)
 room_behind n first place [] tail r e at = (tt, (let x : first + 0 ≡ first = omega arith in let y : place + 0 ≡ place = omega arith in (λ i. room_from n (x i) (y i) tail) ∙ e))
 room_behind n first place (j ∷ a) tail r e at = by (run n (j ∷ (a ++ tail))) refl e (λ e. room_behind n (suc first) (place + item_words j) a tail r e (omega (arith, at)))
@@ -87,7 +87,7 @@ room_behind n first place (j ∷ a) tail r e at = by (run n (j ∷ (a ++ tail)))
     by None is e again = later (again e) (λ s z. let both : None ≡ Some s = sym is ∙ z in absurd cc)
     by (Some q) is e again = tried (nat_le q.0 most_free) q is refl e again
 
--- and behind them it is found, and an entry is placed
+-- and after them it is found, and an entry is placed
 pub room_past : (n first place : ℕ) (a tail : List Item) → FailsAll n a tail → room_from n first place (a ++ tail) ≡ room_from n (first + length a) (place + all_words a) tail
 room_past n first place [] tail h = let x : first ≡ first + 0 = omega arith in let y : place ≡ place + 0 = omega arith in (λ i. room_from n (x i) (y i) tail)
 room_past n first place (j ∷ a) tail h =

@@ -87,7 +87,7 @@ holds_alike s t f n bytes (inr h) is =
     record { old = h.old; was = h.was ∙ (λ i. holds (a i) (b i) h.old); size = sym (ap length c) ∙ h.size }
 
 -- ---- all sectors
--- What differs is never read: the same leaders and bytes, the slots of directories, the words of DiskDescriptor but for 7 and from 16 on.
+-- What differs is never read: the same leaders and bytes, the slots of directories, the words of DiskDescriptor except 7 and from 16 on.
 pub record Alike (ss tt : List Sight) : Type 0 where
   pub size : length tt ≡ length ss
   pub each : (i : ℕ) → OneAlike (get_or ss i hidden) (get_or tt i hidden)

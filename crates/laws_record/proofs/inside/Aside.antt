@@ -74,7 +74,7 @@ module _ (sf : Fid) (sname : List ℕ) (own_name : (e : Naming) → fits e ≡ t
       by true own = drops (is_kept v b e) x own ∙ same ∙ sym (drops (is_kept v c e) y own)
       by false other = both (is_kept v b e) ∙ ap (λ t. others sf (cond t (e ∷ y) y)) (kept_aside b c e s other)
 
-  -- the entries that are left of a slot, and those behind it
+  -- the entries that are left of a slot, and those after it
   left_item : (t : Bool) (d f : Fid) (name : List ℕ) (is : List Item) → namings_in d (cond t (entry f name) (space (item_words (entry f name))) ∷ is) ≡ cond t (record { dir = d; name = name; fid = f } ∷ namings_in d is) (namings_in d is)
   left_item true d f name is = refl
   left_item false d f name is = refl

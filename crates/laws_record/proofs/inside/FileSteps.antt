@@ -76,11 +76,11 @@ cut_is_the_step p at n f label o bears names low fits =
     o (take (512 * n + b)) refl
 
 -- ---- more bytes
--- bytes behind others are what is left when these are dropped
+-- bytes after others are what is left when these are dropped
 behind_are : (a b all : List ℕ) → all ≡ a ++ b → a ++ drop (length a) all ≡ all
 behind_are a b all e = ap (λ x. a ++ drop (length a) x) e ∙ ap (λ x. a ++ x) (drop_at a b (length a) refl) ∙ sym e
 
--- a page that begins as before, and what comes behind it
+-- a page that begins as before, and what comes after it
 page_more : (front old new rest : List ℕ) → take (length old) new ≡ old → (x : List ℕ) × (front ++ continue (Some new) rest ≡ (front ++ old) ++ x)
 page_more front old new rest begins = by (nat_lt (length new) 512)
   where

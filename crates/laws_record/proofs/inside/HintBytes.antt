@@ -139,7 +139,7 @@ module _ (p q : Pack) (h : SameButHints p q) where
         ]
       ])
 
-  -- the same words of DiskDescriptor, but for its map
+  -- the same words of DiskDescriptor, except its map
   map_words : (k : ℕ) → k < 16 → k ≢ 7 → word (descriptor_words (sights q)) k ≡ word (descriptor_words (sights p)) k
   map_words k low other =
       let size : length (descriptor_words (sights q)) ≡ length (descriptor_words (sights p)) =

@@ -41,7 +41,7 @@ module _ (ss : List Sight) (f : Fid) where
     | inr other ↦ inr (row_seat (suc k) c m i (omega arith) (omega arith) e)
   ]
 
-  -- full pages with a short one behind them are laid
+  -- full pages with a short one after them are laid
   pub row_laid : (k c : ℕ) → ((m : ℕ) → m < k + c → length (page_in m).1 ≡ 512) → length (page_in (k + c)).1 < 512 → IsLaid (row k (suc c))
   row_laid k zero full short = let z : k + 0 ≡ k = omega arith in lt-ltb (length (page_in k).1) 512 (subst (λ n. length (page_in n).1 < 512) z short)
   row_laid k (suc c) full short =

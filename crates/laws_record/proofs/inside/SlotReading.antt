@@ -14,7 +14,7 @@ length_is_read = λ words is r. sym (all_read r.front is r.reads).1
 pub reads_to_the_end : ReadsToTheEnd
 reads_to_the_end = λ words. (λ reads. (all_read words (slots words) reads).1, λ all. reads_all (slots words) words refl all)
 
--- ---- with more words behind them
+-- ---- with more words after them
 pub more_behind : MoreBehind
 more_behind = λ words more i e.
     let h = head_of words i e in

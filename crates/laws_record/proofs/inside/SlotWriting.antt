@@ -26,7 +26,7 @@ padded n name [] size blank = let s = length-append name [] in odd_end (n ∷ na
 padded n name (b ∷ []) size blank = let zero : b ≡ 0 = eqb-true b 0 (and_parts (b == 0) _ blank).0 in ap (λ c. words_of (n ∷ (name ++ c ∷ []))) (sym zero)
 padded n name (b ∷ c ∷ pad) size blank = absurd (let s = length-append name (b ∷ c ∷ pad) in omega arith)
 
--- bytes are the first, as many as this says, and those behind
+-- bytes are the first, as many as this says, and those after
 parted : (bytes : List ℕ) → 0 < length bytes → bytes ≡ word bytes 0 ∷ (take (word bytes 0) (drop 1 bytes) ++ drop (word bytes 0) (drop 1 bytes))
 parted [] some = absurd (omega arith)
 parted (b ∷ bytes) some = ap (λ l. b ∷ l) (sym (take-append-drop b bytes))

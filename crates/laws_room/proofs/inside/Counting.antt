@@ -78,7 +78,7 @@ module _ (shape : Shape) (ss : List Sight) where
       one (leads f r l) = refl
       one (holds f n bytes) = refl
 
-  -- the available sectors are the good sectors but for these pages
+  -- the available sectors are the good sectors except these pages
   pub available_is : available shape ss + count_placed shape ss (entries (found ss)) ≡ good_sectors ss
   unfolding available
   available_is =

@@ -72,7 +72,7 @@ module _ (p : Pack) (w : Whole p) (t : Tidy p) where
   there f l other lead = ap is_some (read_there p f l t other lead)
 
   -- ---- operations
-  -- one that may be done, behind which the pack is whole and is read as the model is then
+  -- one that may be done, after which the pack is whole and is read as the model is then
   takes : (events : List Event) (o : Operation) → Whole (after p events) → read_as (after p events) ≡ step (read_as p) o → MayBeDone (read_as p) o → TakesIntoUse p events o
   takes events o behind reads may = record { may = may; in_use = use_follows_the_operation p (after p events) o w behind refl may reads }
 

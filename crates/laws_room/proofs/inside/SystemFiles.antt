@@ -74,7 +74,7 @@ module _ (shape : Shape) (ss : List Sight) (l : Leader) (lead : leader ss sys_di
   here : get (described ss) sys_dir ≡ Some root
   here = described_get ss sys_dir refl ∙ get_by ss sys_dir l (file_bytes ss sys_dir) lead refl
 
-  -- the mended files are those of the model, but for SysDir's leader
+  -- the mended files are those of the model, except SysDir's leader
   mended_is : mended_files ss ≡ insert (tidied (lives ss) (described ss)) sys_dir (record { leader = zeros; body = body_left (lives ss) (described ss) sys_dir root here })
   mended_is =
       ap (λ v. tidied v (rooted (described ss))) alive

@@ -24,7 +24,7 @@ abbrev pub leader_word : Pack → ℕ → ℕ → ℕ
 leader_word p at n = word (sector_at p at).value n
 
 -- ---- what makes them handy
--- each data page of f is as many sectors behind the leader as its number says
+-- each data page of f is as many sectors after the leader as its number says
 abbrev pub LiesInARow : List Sight → Fid → ℕ → Type 0
 LiesInARow ss f leader_at = (n at : ℕ) → place ss f n ≡ Some at → at ≡ leader_at + n
 

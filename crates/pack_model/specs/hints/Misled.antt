@@ -82,7 +82,7 @@ IsOnDisk (Held i) = ⊥
 
 -- A call on p, or a line, answers that a hint misled, and made these events: the hint did so as the call began. What was found is
 -- the label there when the call looked: that of p, unless the call itself wrote it before. No call writes a label of that sector after
--- such a look, so it is the label behind all of its events. Which pages may be wanted is said by each call: those of its own file or
+-- such a look, so it is the label after all of its events. Which pages may be wanted is said by each call: those of its own file or
 -- directory.
 pub record AnswersMisled (p : Pack) (events : List Event) (place : Place) (at : ℕ) (wanted : Page) (found : Option (List ℕ)) : Type 0 where
   pub misled : Misled p place at wanted

@@ -45,12 +45,12 @@ Claimable ss f k (c ∷ cs) =
     × (in_range (tag c.label) ≡ true)
     × Claimable (set ss c.at (holds f k (take (word c.label 3) (bytes_of c.value)))) f (suc k) cs
 
--- words behind the bytes of the last page, and of no other
+-- words after the bytes of the last page, and of no other
 abbrev pub past_last : List ℕ → List ℕ → List ℕ
 past_last past [] = past
 past_last past (at ∷ fresh) = []
 
--- the claims of these bytes as pages of f from this number on, behind a page in the sector `previous`; the last page has also
+-- the claims of these bytes as pages of f from this number on, after a page in the sector `previous`; the last page has also
 -- these words past its count
 abbrev pub claims_of : Shape → Fid → ℕ → ℕ → List ℕ → List ℕ → List ℕ → List Claim
 claims_of shape f number previous bytes past [] = []
@@ -72,16 +72,16 @@ leader_claim shape f name moment leader_at page_at = record { at = leader_at; la
 abbrev pub make_claims : Shape → Fid → List ℕ → ℕ → ℕ → ℕ → List Claim
 make_claims shape f name moment leader_at page_at = first_page_claim shape f leader_at page_at ∷ leader_claim shape f name moment leader_at page_at ∷ []
 
--- ---- grow, and widen: new bytes behind the b bytes of a file, whose last page is in the sector `at`
+-- ---- grow, and widen: new bytes after the b bytes of a file, whose last page is in the sector `at`
 -- the bytes that the last page still takes
 abbrev pub last_room : ℕ → ℕ
 last_room b = 512 - b % 512
 
--- the claims of the pages behind it
+-- the claims of the pages after it
 abbrev pub grown_claims : Shape → Fid → ℕ → ℕ → List ℕ → List ℕ → List ℕ → List Claim
 grown_claims shape f b at new past fresh = claims_of shape f (b / 512 + 2) at (drop (last_room b) new) past fresh
 
--- the old last page's value: its bytes, the new ones behind them, and the rest as it was
+-- the old last page's value: its bytes, the new ones after them, and the rest as it was
 abbrev pub grown_value : ℕ → List ℕ → List ℕ → List ℕ → List ℕ → List ℕ
 grown_value b new past fresh value = put_value (b % 512) (take (last_room b) new) (past_last past fresh) value
 

@@ -111,7 +111,7 @@ abbrev pub writes_of_operation : Model → Operation → ℕ
 writes_of_operation m o = length (moves_of m o)
 
 -- ---- the record writes of a line, as moves
--- a new file's serial is on the disk before any of its pages: one record write, behind the widenings of the line
+-- a new file's serial is on the disk before any of its pages: one record write, after the widenings of the line
 abbrev pub serial_moves : Operation → List Move
 serial_moves (make f name moment) = quiet ∷ []
 serial_moves (put f offset new) = []

@@ -18,15 +18,15 @@ use Rattle.pack_model.specs.hints.Links.{no_link}
 abbrev pub halves : ℕ → List ℕ
 halves n = n / 65536 ∷ n % 65536 ∷ []
 
--- n items, zeros behind those that are there
+-- n items, zeros after those that are there
 abbrev pub filled : ℕ → List ℕ → List ℕ
 filled n items = items ++ replicate (n - length items) 0
 
--- the value of a new data page: its bytes; behind them words that don't count, where the bytes are even; zeros
+-- the value of a new data page: its bytes; after them words that don't count, where the bytes are even; zeros
 abbrev pub page_value : List ℕ → List ℕ → List ℕ
 page_value bytes past = words_of (filled 512 (bytes ++ bytes_of past))
 
--- a value with bytes in the place of others from `at` on, and behind them these words that don't count; what follows stays
+-- a value with bytes in the place of others from `at` on, and after them these words that don't count; what follows stays
 abbrev pub put_value : ℕ → List ℕ → List ℕ → List ℕ → List ℕ
 put_value at bytes past value = words_of (put_at at (bytes ++ bytes_of past) (bytes_of value))
 

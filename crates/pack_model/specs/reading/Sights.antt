@@ -11,7 +11,7 @@ use Rattle.disk_records.specs.Packs.{Pack, is_usable}
 use Rattle.pack_model.specs.reading.Bytes.{bytes_of}
 use Rattle.pack_model.specs.reading.Leaders.{Leader, leader_of, leader_words, is_readable}
 
--- Nothing at all, in sector 0 or behind a wrong header; a free sector; a label that is neither free nor in range; a
+-- Nothing at all, in sector 0 or after a wrong header; a free sector; a label that is neither free nor in range; a
 -- leader page, with whether its name can be read; the counted bytes of a data page, whose number is counted from 0 here
 -- (data page 1 of a file is `holds f 0 ..`).
 pub data Sight : Type 0 where

@@ -83,7 +83,7 @@ slots_after skip [] = []
 slots_after zero (w ∷ words) = and_then (slot_at (w ∷ words)) (λ n. slots_after (n - 1) words)
 slots_after (suc k) (w ∷ words) = slots_after k words
 
--- the slots of the longest readable first part of these words
+-- the slots of the longest readable prefix of these words
 abbrev pub slots : List ℕ → List Item
 slots = slots_after 0
 
@@ -101,7 +101,7 @@ pub data Reads : List ℕ → List Item → Type 0 where
   none : Reads [] []
   next : {words w rest : List ℕ} {i : Item} {is : List Item} → words ≡ w ++ rest → IsSlot w i → Reads rest is → Reads words (i ∷ is)
 
--- These are the slots of the longest first part of the words that slots fill to its end. A relation, to be read; the function
+-- These are the slots of the longest prefix of the words that slots fill to its end. A relation, to be read; the function
 -- `slots` is to give them, as is shown where directories are read.
 pub record ReadsLongest (words : List ℕ) (is : List Item) : Type 0 where
   pub front : List ℕ

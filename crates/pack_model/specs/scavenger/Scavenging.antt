@@ -1,5 +1,5 @@
--- Which packs the Scavenger takes, what it refuses, and what it keeps at every cut.
--- The Scavenger is that of the SOSP 1979 paper; what it refuses, and what it keeps at each cut, are this project's choice.
+-- Which packs the Scavenger takes, what it refuses, and what it keeps at every crash point.
+-- The Scavenger is that of the SOSP 1979 paper; what it refuses, and what it keeps at each crash point, are this project's choice.
 use Rattle.std.specs.Prelude.{◌≡◌, ℕ, ◌+◌, ◌≤◌, suc, Bool, true, false, cond, not, nat_le, List, [], ◌∷◌, get_or, Option, Some, None}
 use Rattle.alto_words.specs.Fid.{is_fid, sys_dir, disk_descriptor}
 use Rattle.disk_records.specs.declared.shape.Shape.{Shape}
@@ -58,12 +58,12 @@ pub record Keeps (p q : Pack) : Type 0 where
   pub balance : available q.shape (sights q) + needed p.shape (sights p) ≡ available p.shape (sights p) + needed q.shape (sights q)
   pub scavengeable : Scavengeable p → Scavengeable q
 
--- and its mark isn't clean: so at each cut with a record write, but for the last one
+-- and its mark isn't clean: so at each crash point with a record write, except the last one
 pub record Mends (p q : Pack) : Type 0 where
   pub keeps : Keeps p q
   pub unclean : Clean q → ⊥
 
--- P holds of the pack at each cut of these events
+-- P holds of the pack at each crash point of these events
 abbrev pub Throughout : (Pack → Type 0) → Pack → List Event → Type 0
 Throughout P p [] = P p
 Throughout P p (e ∷ events) = P p × Throughout P (after p (e ∷ [])) events

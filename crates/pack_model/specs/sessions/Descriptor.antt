@@ -51,7 +51,7 @@ abbrev pub open_writes : ℕ → ℕ → List ℕ → List Event
 open_writes mark at value = cond (mark == mark_open) [] (value_writes at (opened_value value))
 
 -- a serial is on the disk before a label bears it; this write changes nothing that is viewed or shown, and so it is quiet there;
--- read as a model, the pack has a greater last serial behind it
+-- read as a model, the pack has a greater last serial after it
 abbrev pub serial_writes : ℕ → ℕ → List ℕ → List Event
 serial_writes at last value = value_writes at (serial_value last value)
 

@@ -2,7 +2,7 @@
 -- The rules of lines are this project's choice.
 use Rattle.std.specs.Prelude.{ℕ, ◌+◌, ◌==◌, ◌^◌, Bool, cond, nat_le, List, [], ◌∷◌, ◌++◌, length, take}
 
--- so many typed bytes are obeyed in one session; those behind them don't count
+-- so many typed bytes are obeyed in one session; those after them don't count
 unfoldable pub most_keys : ℕ
 most_keys = 2 ^ 31
 
@@ -10,7 +10,7 @@ most_keys = 2 ^ 31
 unfoldable pub longest_line : ℕ
 longest_line = 4096
 
--- the lines of the keys, where these bytes of the first one have come already: each ends with a byte 10, but for a last
+-- the lines of the keys, where these bytes of the first one have come already: each ends with a byte 10, except a last
 -- one that isn't empty
 abbrev pub lines_from : List ℕ → List ℕ → List (List ℕ)
 lines_from [] [] = []

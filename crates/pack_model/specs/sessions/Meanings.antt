@@ -1,4 +1,4 @@
--- Packs that carry out operations: what each cut stands for.
+-- Packs that carry out operations: what each crash point stands for.
 -- What a cut has to stand for is this project's choice.
 use Rattle.std.specs.Prelude.{◌≡◌, List}
 use Rattle.disk_records.specs.declared.records.Event.{Event}
@@ -33,12 +33,12 @@ pub record Mendable (p : Pack) : Type 0 where
   pub scavengeable : Scavengeable p
   pub clean_is_sound : Clean p → Sound p
 
--- At each cut of an operation in a session: it is viewed as the model, and mendable.
+-- At each crash point of an operation in a session: it is viewed as the model, and mendable.
 pub record OperationCut (m : Model) (p : Pack) : Type 0 where
   pub views : Views m p
   pub mendable : Mendable p
 
--- At each cut of a whole session, also within a scavenge: it shows what the model shows, and is mendable.
+-- At each crash point of a whole session, also within a scavenge: it shows what the model shows, and is mendable.
 pub record SessionCut (m : Model) (p : Pack) : Type 0 where
   pub shows : Shows m p
   pub mendable : Mendable p
@@ -68,7 +68,7 @@ abbrev pub session : Meaning Model Move
 session = meaning SessionCut
 
 -- ---- what the record writes of a whole operation do to a whole and tidy pack
--- They make these moves; each cut is read as the model there; the pack is whole and tidy again.
+-- They make these moves; each crash point is read as the model there; the pack is whole and tidy again.
 pub record Meets (p : Pack) (events : List Event) (moves : List Move) : Type 0 where
   pub obeys : Obeys reading (read_as p) p events moves
   pub whole : Whole (after p events)
@@ -82,7 +82,7 @@ pub record Sees (p : Pack) (events : List Event) (moves : List Move) : Type 0 wh
   pub whole : Whole (after p events)
   pub tidy : Tidy (after p events)
 
--- The record writes of a drop but for its last one: the file is gone, and its entry's slot is left.
+-- The record writes of a drop except its last one: the file is gone, and its entry's slot is left.
 pub record Drops (p : Pack) (f : Fid) (events : List Event) (moves : List Move) : Type 0 where
   pub obeys : Obeys reading (read_as p) p events moves
   pub whole : Whole (after p events)

@@ -95,7 +95,7 @@ TidySights ss = IsTidy (lives ss) (described ss)
 abbrev pub Tidy : Pack → Type 0
 Tidy p = TidySights (sights p)
 
--- Tidy if f lived: but for the entry of a file that was dropped.
+-- Tidy if f lived: except the entry of a file that was dropped.
 abbrev pub living_too : Fid → (Fid → Bool) → Fid → Bool
 living_too f lives g = cond (is_fid g f) true (lives g)
 

@@ -32,7 +32,7 @@ use Rattle.laws_line.specs.PartLaws.{MovesOfALineSplit}
 use Rattle.laws_line.specs.Ready.{ReadyThroughout, steps_of}
 use Rattle.laws_line.specs.SoundParts.{BrokenLineOnASoundPack, PartOfALineOnASoundPack, begun_moves}
 
--- ---- moves of a first part
+-- ---- moves of a prefix
 pub start_front : {X : Type 0} (a b c : List X) → IsStartOf a b → IsStartOf a (b ++ c)
 start_front [] b c h = tt
 start_front (x ∷ a) [] c h = elim h [ ]

@@ -1,4 +1,4 @@
--- Each cut of an operation is read as the model before it or behind it, and is mendable where both are ready.
+-- Each cut of an operation is read as the model before it or after it, and is mendable where both are ready.
 use Rattle.std.proofs.Common.{List, [], inl, inr, subst, sym, ◌∷◌, ◌≡◌, ◌⊎◌}
 use Rattle.disk_records.specs.Packs.{Pack, after}
 use Rattle.disk_records.specs.declared.records.Event.{Event}

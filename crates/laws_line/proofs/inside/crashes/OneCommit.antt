@@ -91,7 +91,7 @@ module _ (stands : Model → Pack → Type 0) where
   pub moves_step : (m : Model) (o : Operation) → steps (meaning stands) m (moves_of m o) ≡ step m o
   moves_step m o = once_steps m o (moves_of m o) (moves_once m o)
 
-  -- and those of a line come to the model behind its operations
+  -- and those of a line come to the model after its operations
   all_lead : (m : Model) (ops : List Operation) → steps (meaning stands) m (moves_of_all m ops) ≡ steps_of m ops
   all_lead m [] = refl
   all_lead m (o ∷ ops) =

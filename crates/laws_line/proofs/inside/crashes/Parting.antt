@@ -1,4 +1,4 @@
--- Properties of each crash, by parts of the events; and moves whose cuts can be scavenged.
+-- Properties of each crash, by parts of the events; and moves whose crash points can be scavenged.
 use Rattle.std.proofs.Common.{List, [], ap, subst, suc, sym, zero, ℕ, ◌++◌, ◌∷◌}
 use Rattle.disk_records.specs.Events.{IsFirstOf}
 use Rattle.disk_records.specs.Packs.{Pack, after, crash}

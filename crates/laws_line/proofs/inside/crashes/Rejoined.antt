@@ -34,7 +34,7 @@ module _ (d : Fid) where
   free_front (entry f name ∷ old) b bare = absurd cc
   free_front (space k ∷ old) b bare = let h = free_front old b bare in omega (arith, h)
 
-  -- no run is longer than all of them and those behind
+  -- no run is longer than all of them and those after
   run_front : (old b : List Item) → namings_in d old ≡ [] → largest_run (old ++ b) ≤ max (all_words old + words_free b) (largest_run b)
   run_front [] b bare = omega arith
   run_front (entry f name ∷ old) b bare = absurd cc
@@ -52,7 +52,7 @@ module _ (d : Fid) where
     run_joined [] = run_front old b bare
     run_joined (i ∷ a) = let h = run_joined a in let e = free_joined (i ∷ a) in omega (arith, h, e)
 
--- slots behind others
+-- slots after others
 all_behind : (P : Item → Type 0) (old b : List Item) → All P (old ++ b) → All P b
 all_behind P [] b h = h
 all_behind P (i ∷ old) b h = all_behind P old b (All-tail P i (old ++ b) h)

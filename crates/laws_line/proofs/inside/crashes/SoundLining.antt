@@ -1,4 +1,4 @@
--- Each cut of a line of the operating system can be scavenged, and behind it the pack is sound again.
+-- Each cut of a line of the operating system can be scavenged, and after it the pack is sound again.
 use Rattle.std.proofs.Common.{Bool, List, None, Option, Some, ap, arith, cond, false, not, refl, subst, sym, true, ◌∙◌, ◌≡◌, ◌≤◌}
 use Rattle.std.specs.FinMap.{contains_key, get}
 use Rattle.std.specs.Option.{is_some, option_map}

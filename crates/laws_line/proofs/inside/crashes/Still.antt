@@ -1,4 +1,4 @@
--- Packs on which sector 1 and DiskDescriptor stand as they stood, at each cut of record writes that leave them alone.
+-- Packs on which sector 1 and DiskDescriptor stand as they stood, at each crash point of record writes that leave them alone.
 use Rattle.std.proofs.Common.{List, None, Option, Some, [], ap, cond, eqb-true, false, inl, inr, length, refl, subst, sym, true, ℕ, ◌<◌, ◌==◌, ◌∙◌, ◌∷◌, ◌≡◌}
 use Rattle.std.proofs.Math.ListN.{length-set}
 use Rattle.std.proofs.lemmas.Bool.{eqb-false}
@@ -57,7 +57,7 @@ module _ (p q : Pack) (at part : ℕ) (words : List ℕ) (s : Still p q) (h : Re
         )
   ]
 
-  -- it stands so behind the record write
+  -- it stands so after the record write
   still_written : Still p written
   still_written = record {
     shape = s.shape;
@@ -69,7 +69,7 @@ module _ (p q : Pack) (at part : ℕ) (words : List ℕ) (s : Still p q) (h : Re
     ] refl;
   }
 
--- at each cut, and at the end
+-- at each crash point, and at the end
 still_on : (p q : Pack) (events : List Event) → Still p q → LeavesSystem p events → Throughout (Still p) q events
 still_on p q [] s h = s
 still_on p q (Wrote at part words ∷ events) s h =

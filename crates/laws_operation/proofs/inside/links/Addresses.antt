@@ -74,7 +74,7 @@ true_more ss us words at [] stay h = tt
 true_more ss us words at (space n ∷ is) stay h = (tt, true_more ss us words (at + n) is stay h.1)
 true_more ss us words at (entry f name ∷ is) stay h = (stay f (address_at words at (entry f name)) h.0, true_more ss us words (at + item_words (entry f name)) is stay h.1)
 
--- where they do but for one file, without its entries
+-- where they do except one file, without its entries
 pub true_without : (ss us : List Sight) (f : Fid) (words : List ℕ) (at : ℕ) (is : List Item) → ((g : Fid) (a : ℕ) → is_fid g f ≡ false → place ss g 0 ≡ Some a → place us g 0 ≡ Some a) → AllTrue ss words at is → AllTrue us words at (items_without f is)
 true_without ss us f words at [] stay h = tt
 true_without ss us f words at (space n ∷ is) stay h = (tt, true_without ss us f words (at + n) is stay h.1)

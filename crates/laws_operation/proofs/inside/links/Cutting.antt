@@ -126,7 +126,7 @@ module _ (p : Pack) (wp : Whole p) (tp : Tidy p) (f : Fid) (n at : ℕ) (label l
       let ne : i ≢ at = λ same. let one = (one_page (sights p) f f m (page_of_byte n) at (e ∙ ap Some same) h.sector).1 in omega arith in
       ap (λ s. s.label) (releases_apart later middle i (bear_none (sights p) f (suc (page_of_byte n)) later h.later_are m i (omega arith) e) ∙ relabel_apart p at label (sector_at p at).value i ne)
 
-  -- no page comes behind the last
+  -- no page comes after the last
   pub ends_there : (m j : ℕ) → page_of_byte n < m → place (sights (after p (cut_writes at label (sector_at p at).value later))) f m ≡ Some j → ⊥
   ends_there zero j l e = omega arith
   ends_there (suc m) j l e =

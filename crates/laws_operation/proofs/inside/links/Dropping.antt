@@ -1,4 +1,4 @@
--- A drop but for its entry's slot.
+-- A drop except its entry's slot.
 use Rattle.std.proofs.Common.{List, None, Option, Some, ap, cond, false, inl, inr, refl, subst, suc, sym, true, zero, ℕ, ◌∙◌, ◌∷◌, ◌≡◌}
 use Rattle.std.specs.FinMap.{get, get-remove, remove}
 use Rattle.std.specs.Option.{option_map}

@@ -27,7 +27,7 @@ pub record Spot (p : Pack) (d : Fid) (begin total : ℕ) (words : List ℕ) (at 
   pub next_sector : 0 < length (later begin words) → place (sights p) d (suc (page_of_word begin)) ≡ Some next_at
   pub within : begin + total ≤ length (dir_words p d)
 
--- Words that stand as before but for those.
+-- Words that stand as before except those.
 pub record Apart (xs ys : List ℕ) (begin total : ℕ) : Type 0 where
   pub before : (k : ℕ) → k < begin → word ys k ≡ word xs k
   pub behind : (k : ℕ) → begin + total ≤ k → word ys k ≡ word xs k

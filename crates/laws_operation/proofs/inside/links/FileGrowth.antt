@@ -15,7 +15,7 @@ use Rattle.laws_operation.proofs.inside.links.Linked.{FileLinks, file_links}
 use Rattle.laws_operation.proofs.inside.links.OneFile.{ordinary_true}
 use Rattle.laws_operation.specs.LinkLaws.{GrowKeepsLinks}
 
--- no page comes behind the one that the end of a file's bytes is in
+-- no page comes after the one that the end of a file's bytes is in
 pub none_behind : (p : Pack) → Whole p → (f : Fid) (at : ℕ) → place (sights p) f (page_of_byte (length (file_bytes (sights p) f))) ≡ Some at → (m j : ℕ) → page_of_byte (length (file_bytes (sights p) f)) < m → place (sights p) f m ≡ Some j → ⊥
 none_behind p w f at e zero j l there = omega arith
 none_behind p w f at e (suc m) j l there =

@@ -1,4 +1,4 @@
--- Pages come behind the last page of a file.
+-- Pages come after the last page of a file.
 use Rattle.std.proofs.Common.{List, None, Option, Some, [], ap, arith, drop, inl, inr, length, refl, subst, suc, sym, true, ℕ, ◌+◌, ◌<◌, ◌∙◌, ◌∷◌, ◌≡◌, ◌≢◌, ◌≤◌, ◌⊎◌}
 use Rattle.std.proofs.lemmas.Bool.{cases_eq, cases_lt}
 use Rattle.alto_words.specs.declared.fid.Fid.{Fid}

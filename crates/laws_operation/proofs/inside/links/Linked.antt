@@ -34,7 +34,7 @@ abbrev pub FileLinks : Pack → Fid → Type 0
 FileLinks p f = (n i : ℕ) → place (sights p) f n ≡ Some i → Linked p f n i
 
 -- ---- between both forms
--- the link behind a page, also where the page isn't full
+-- the link after a page, also where the page isn't full
 next_either : (p : Pack) → Whole p → (f : Fid) (n i : ℕ) (b : List ℕ) → get_or (sights p) i hidden ≡ holds f n b → next_link p.shape (sights p) (holds f n b) ≡ link_to p.shape (place (sights p) f (suc (suc n)))
 next_either p w f n i b is = by (nat_lt (length b) 512) (place (sights p) f (suc (suc n))) refl refl
   where

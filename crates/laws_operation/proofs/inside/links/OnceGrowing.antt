@@ -1,4 +1,4 @@
--- No page is carried twice where pages come behind the last page of a file.
+-- No page is carried twice where pages come after the last page of a file.
 use Rattle.std.proofs.Common.{List, Some, [], ap, arith, inl, inr, length, subst, suc, ℕ, ◌<◌, ◌∙◌, ◌∷◌, ◌≡◌, ◌⊎◌}
 use Rattle.alto_words.specs.declared.fid.Fid.{Fid}
 use Rattle.disk_records.specs.Commands.{claim_writes}

@@ -71,7 +71,7 @@ make_carries_once p f name moment page head w h =
           | inr old ↦ never_carried p w f h.not_there 0 i old
         ]
 
--- a drop but for its entry's slot
+-- a drop except its entry's slot
 pub release_carries_once : ReleaseCarriesOnce
 release_carries_once p at pages w = all_once p (release_file_writes at pages) (whole_once p w) (releases_alone (at ∷ pages) p)
 

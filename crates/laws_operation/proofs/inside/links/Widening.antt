@@ -48,7 +48,7 @@ module _ (p : Pack) (w : Whole p) (t : Tidy p) (d : Fid) (added : List ℕ) (cs 
   living : lives (sights p) d ≡ true
   living = ap is_some (leader_is (sights p) d (last_page (sights p) d i (w.files d) hyp.sector).spot.at true (last_page (sights p) d i (w.files d) hyp.sector).spot.lead (last_page (sights p) d i (w.files d) hyp.sector).spot.leads_it)
 
-  -- the words come behind those of the directory
+  -- the words come after those of the directory
   pub widened_words : dir_words (after p (grow_writes cs i label value)) d ≡ dir_words p d ++ added
   widened_words =
       let ss : List Sight = sights p in

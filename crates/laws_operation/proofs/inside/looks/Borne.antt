@@ -1,4 +1,4 @@
--- Places by labels, and places behind values.
+-- Places by labels, and places after values.
 use Rattle.std.proofs.Common.{None, Option, Some, [], ap, arith, ltb-true, nat_lt, refl, sym, true, ℕ, ◌<◌, ◌∙◌, ◌∷◌, ◌≡◌}
 use Rattle.std.specs.Option.{is_some}
 use Rattle.alto_words.specs.Fid.{serial_of}

@@ -38,12 +38,12 @@ page_count shape at s f n bytes long e =
     let twice = length-bytes_of s.value in
     omega arith
 
--- pages behind one that isn't full are none
+-- pages after one that isn't full are none
 none_behind : (c : PageAt) (later : List PageAt) → IsLaid (c ∷ later) → length c.1 < 512 → later ≡ []
 none_behind c [] l short = refl
 none_behind c (d ∷ later) l short = absurd (let e = l.0 in omega arith)
 
--- and one behind which there are some is full
+-- and one after which there are some is full
 full_before : (c : PageAt) (later : List PageAt) → IsLaid (c ∷ later) → 0 < length later → length c.1 ≡ 512
 full_before c [] l some = absurd (omega arith)
 full_before c (d ∷ later) l some = l.0

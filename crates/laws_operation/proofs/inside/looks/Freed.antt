@@ -67,7 +67,7 @@ release_free p at i is = value_frees (after p (Wrote at 1 (ones 8) ∷ [])) at (
 ]
 
 -- ---- several
--- record writes behind others
+-- record writes after others
 then_free : (p : Pack) (a b : List Event) (i : ℕ) → is_free_at (after p a) i ≡ true → StayFree (after p a) b → is_free_at (after p (a ++ b)) i ≡ true
 then_free p a b i is stay = ap (λ q. is_free_at q i) (after-append p a b) ∙ stay i is
 

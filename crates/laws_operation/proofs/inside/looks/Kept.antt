@@ -12,7 +12,7 @@ use Rattle.laws_record.proofs.Mending.{entries-tidied}
 use Rattle.laws_record.proofs.Tidying.{onto}
 
 module _ (ok : List Naming → Naming → Bool) where
-  -- the slots of a directory as they are left, and what is kept behind them
+  -- the slots of a directory as they are left, and what is kept after them
   items_left_kept : (d : Fid) (before : List Naming) (is : List Item) → AllKept ok before (namings_in d (items_kept ok d before is)) × (kept_after ok d before is ≡ onto (namings_in d (items_kept ok d before is)) before)
   items_left_kept d before [] = (tt, refl)
   items_left_kept d before (space n ∷ is) = items_left_kept d before is

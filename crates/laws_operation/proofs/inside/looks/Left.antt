@@ -38,7 +38,7 @@ clash_fid e (n ∷ ns) h = or_false (is_fid n.fid e.fid) (list_any (λ n. is_fid
     (clash_fid e ns (or_false_right (clashes e n) (list_any (clashes e) ns) h))
 
 module _ (v : Fid → Bool) (e : Naming) where
-  -- those kept behind it have another file
+  -- those kept after it have another file
   behind_other : (s r es : List Naming) → AllKept (is_kept v) (s ++ e ∷ r) es → list_any (λ n. is_fid n.fid e.fid) es ≡ false
   behind_other s r [] h = refl
   behind_other s r (x ∷ es) h =

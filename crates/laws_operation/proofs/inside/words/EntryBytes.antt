@@ -17,7 +17,7 @@ use Rattle.pack_laws.proofs.Bytes.{length-words_of}
 use Rattle.laws_operation.proofs.inside.words.NameWords.{spelled_below, stored_short}
 use Rattle.laws_operation.specs.DirectoryWords.{EntryWordsFit}
 
--- bytes survive as words, but for a last odd one
+-- bytes survive as words, except a last odd one
 whole_bytes : (bytes : List ℕ) → All (λ b. b < 256) bytes → bytes_of (words_of bytes) ≡ take (2 * (length bytes / 2)) bytes
 whole_bytes [] below = refl
 whole_bytes (a ∷ []) below = refl

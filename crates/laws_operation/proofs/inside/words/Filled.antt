@@ -1,4 +1,4 @@
--- Bytes with zeros behind them, as words and back.
+-- Bytes with zeros after them, as words and back.
 use Rattle.std.proofs.Common.{List, ap, append_assoc, arith, drop, drop-drop, length, refl, sym, take, ℕ, ◌*◌, ◌++◌, ◌+◌, ◌-◌, ◌<◌, ◌∙◌, ◌≡◌, ◌≤◌}
 use Rattle.std.proofs.lemmas.List.{drop_at, length-append, length-replicate, length-take-le, take_at}
 use Rattle.std.proofs.lemmas.List.Elements.{All-append, All-replicate}
@@ -34,7 +34,7 @@ page_counted bytes past few below words =
     ∙ take_at bytes (bytes_of past ++ zeros) (length bytes) refl
 
 -- ---- items in the place of others
--- those behind them stay
+-- those after them stay
 pub drop-put_at : (n at : ℕ) (new old : List ℕ) → at ≤ length old → at + length new ≤ n → drop n (put_at at new old) ≡ drop n old
 drop-put_at n at new old within behind =
     let m : ℕ = at + length new in

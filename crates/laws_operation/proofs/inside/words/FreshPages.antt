@@ -56,7 +56,7 @@ in_pages bytes (at ∷ fresh) = (at, take 512 bytes) ∷ in_pages (drop 512 byte
 abbrev pub Hold : List ℕ → List ℕ → Type 0
 Hold bytes fresh = length fresh ≡ suc (length bytes / 512)
 
--- the words behind the last page are words, also where there are none
+-- the words after the last page are words, also where there are none
 pub behind_below : (past fresh : List ℕ) → All (λ w. w < 65536) past → All (λ w. w < 65536) (past_last past fresh)
 behind_below past [] words = words
 behind_below past (next ∷ fresh) words = λ k d l. absurd (omega arith)

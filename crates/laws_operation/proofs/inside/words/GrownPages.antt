@@ -28,7 +28,7 @@ use Rattle.laws_operation.proofs.inside.words.FreshPages.{Hold, behind_below, cl
 use Rattle.laws_operation.proofs.inside.words.Labels.{placed_label, placed_name}
 use Rattle.laws_operation.specs.FileWords.{CanGrow, GrowWordsFit}
 
--- the last page of a whole file counts what its bytes have behind full pages
+-- the last page of a whole file counts what its bytes have after full pages
 last_count : (p : Pack) (f : Fid) (at : ℕ) → Whole p → place (sights p) f (page_of_byte (length (file_bytes (sights p) f))) ≡ Some at → length (counted_of p at (sector_at p at).value) ≡ length (file_bytes (sights p) f) % 512
 last_count p f at w sector =
     let ss : List Sight = sights p in

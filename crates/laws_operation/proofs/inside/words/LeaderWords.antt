@@ -74,7 +74,7 @@ module _ (value : List ℕ) (sized : length value ≡ 256) where
     titled_words : leader_words (titled_value name value) ≡ put_at 6 (name_words name) (leader_words value)
     titled_words = take-put_at 246 6 (name_words name) value (omega (arith, front_size, name_size))
 
-    -- its words before and behind the name
+    -- its words before and after the name
     before : (k : ℕ) → k < 6 → word (put_at 6 (name_words name) (take 246 value)) k ≡ word (take 246 value) k
     before k l = put_before 6 (name_words name) (take 246 value) k (omega (arith, front_size, name_size)) l
 
@@ -119,7 +119,7 @@ module _ (value : List ℕ) (sized : length value ≡ 256) where
         ∙ take-take 246 253 with_date (omega arith)
         ∙ take-put_at 246 2 (halves moment) value (omega (arith, front_size))
 
-    -- its words before the date and behind it
+    -- its words before the date and after it
     ahead : (k : ℕ) → k < 2 → word (put_at 2 (halves moment) (take 246 value)) k ≡ word (take 246 value) k
     ahead k l = put_before 2 (halves moment) (take 246 value) k (omega (arith, front_size)) l
 

@@ -17,7 +17,7 @@ use Rattle.laws_operation.specs.DirectoryWords.{EnterWordsFit, left_in}
 use Rattle.laws_operation.proofs.EnterMoves.{first_slot}
 
 -- ---- a room
--- the slots before it, its own and those behind it, where the search begins with a slot of this number and at this word
+-- the slots before it, its own and those after it, where the search begins with a slot of this number and at this word
 record Parted (n first place : ℕ) (is : List Item) (r : Room) : Type 0 where
   before : List Item
   old : List Item
