@@ -9,6 +9,7 @@ import re
 import resource
 import shutil
 import signal
+import socket
 import subprocess
 import sys
 import tempfile
@@ -20,6 +21,7 @@ import packs
 SECONDS = 10
 DONE, USAGE, DISK_FAILED, KEYS_FAILED, DISPLAY_FAILED, NO_MEMORY, NO_SESSION = 0, 1, 3, 4, 5, 6, 8
 SMALL = 25_536
+THREE = 38_304
 LARGEST = 5_183_808
 MIB = 2**20
 # limits on memory, each greater than the one before it by half a MiB
@@ -82,7 +84,10 @@ FAULTY = [
     ["--cylinders", "2"],
     ["--cylinders", "1", "new", "boot"],
     ["--cylinders", "407", "new", "boot"],
+    ["--cylinders", "65538", "new", "boot"],
+    ["--cylinders", "-2", "new", "boot"],
     ["--cylinders", "x", "new", "boot"],
+    ["--cylinders", "new", "boot"],
     ["--second"],
     ["--second", "pack"],
     ["--cylinders", "2", "--second"],
@@ -108,6 +113,14 @@ def check_words(program):
         Run(program, words).gives(USAGE, b"usage\n", left={"new": made})
     # `--help` with another word is the path of a pack file
     Run(program, ["--help", "boot"]).gives(NO_SESSION, err=b"no pack\n")
+    # and so is each option where another word is wanted
+    Run(program, ["--cylinders", "2", "--cylinders"]).gives(USAGE, b"usage\n", left={"--cylinders": made})
+    Run(program, ["--cylinders", "2", "new", "--second", "pack"]).gives(USAGE, b"usage\n", left={"new": made})
+    (one, two), twice = packs.pair(2, b"ABCDE"), ["--second", "--second", "--second"]
+    Run(program, ["--second", "two", "one"], {"one": one, "two": two}).gives(USAGE, b"usage\n", left={"one": one, "two": two})
+    after = {"--cylinders": one, "two": two}
+    Run(program, ["--second", "two", "--cylinders", "2", "new"], after).gives(USAGE, b"usage\n", left=after)
+    Run(program, twice, {"--second": one}).gives(NO_SESSION, err=b"no pack\n", left={"--second": one})
 
 
 def check_help(program):
@@ -125,7 +138,7 @@ def check_pack_files(program):
     for words in [["missing", "boot"], [".", "boot"], ["", "boot"], ["missing/new", "boot"], ["--cylinders", "2", "missing/new", "boot"]]:
         Run(program, words).gives(NO_SESSION, err=b"no pack\n")
     Run(program, ["--cylinders", "2", "pack", "boot"], {"pack": pack}, PATCHES).gives(NO_SESSION, err=b"no pack\n", left={"pack": pack})
-    for length in [0, 532, 25_535, 25_537, 12_768, LARGEST + 12_768]:
+    for length in [0, 532, 25_535, 25_537, 12_768, 26_068, LARGEST + 12_768]:
         file = bytes(length)
         Run(program, ["pack", "boot"], {"pack": file}).gives(NO_SESSION, err=b"bad length %d\n" % length, left={"pack": file})
     # a pipe with a name, and devices: nobody writes to the pipe, and nothing is waited for
@@ -138,10 +151,11 @@ def check_pack_files(program):
 
 
 def check_cylinders(program):
-    """As many cylinders as a drive can have, of one drive and of two."""
-    Run(program, ["--cylinders", "406", "new", "show"]).gives(DONE, NO_FILES, left={"new": bytes(LARGEST)})
-    both = {"one": bytes(LARGEST), "two": bytes(LARGEST)}
-    Run(program, ["--cylinders", "406", "--second", "two", "one", "show"]).gives(DONE, NO_FILES, left=both)
+    """New files of three cylinders, and of as many as a drive can have, of one drive and of two: they are zeros."""
+    for cylinders, length in [("3", THREE), ("406", LARGEST), ("0406", LARGEST)]:
+        Run(program, ["--cylinders", cylinders, "new", "show"]).gives(DONE, NO_FILES, left={"new": bytes(length)})
+        both = {"one": bytes(length), "two": bytes(length)}
+        Run(program, ["--cylinders", cylinders, "--second", "two", "one", "show"]).gives(DONE, NO_FILES, left=both)
 
 
 def linked(target):
@@ -154,9 +168,19 @@ def pointing(target):
     return lambda path: path.symlink_to(target)
 
 
+def crossed(third=b"ABCDE", fourth=b"ABCDE"):
+    """The two files of a pack of two drives of two cylinders, with these bytes of the files 3 and 4. The leader of the one is on the
+    first drive and its page on the second, and of the other it is the other way round."""
+    sectors = packs.free_sectors(4)
+    for serial, leader_at, page_at, content in [(3, 5, 50, third), (4, 70, 7, fourth)]:
+        packs.put_page(sectors, leader_at, packs.ordinary(serial), 0, packs.leader(b""))
+        packs.put_page(sectors, page_at, packs.ordinary(serial), 1, content, len(content))
+    return dict(zip(("one", "two"), packs.files_of_two(sectors, 2)))
+
+
 def check_second(program):
     """Packs of two drives: a session, files that are refused, and files that are made."""
-    (one, two), three = packs.pair(2, b"ABCDE"), bytes(38_304)
+    (one, two), three = packs.pair(2, b"ABCDE"), bytes(THREE)
     both, patched = {"one": one, "two": two}, {"one": one, "two": packs.pair(2, b"ABBDE")[1]}
     boot = ["--second", "two", "one", "boot"]
     Run(program, boot, both, PATCHES).gives(DONE, REPLIES, left=patched)
@@ -164,6 +188,9 @@ def check_second(program):
     Run(program, boot, both, redirect="<&- >&- 2>&-").gives(KEYS_FAILED, left=both)
     Run(program, ["--second", "two", "one", "show"], both, PATCHES).gives(DONE, LISTING, left=both)
     Run(program, ["--second", "two", "one", "halt"], both, PATCHES).gives(USAGE, b"usage\n", left=both)
+    # a patch stands in the file of its page's drive
+    for line, left in [(b"patch #3 0 565758595A\n", crossed(third=b"VWXYZ")), (b"patch #4 0 565758595A\n", crossed(fourth=b"VWXYZ"))]:
+        Run(program, boot, crossed(), line).gives(DONE, b"done\n", left=left)
     # each file is that of its drive: the other way round all headers are wrong
     Run(program, ["--second", "one", "two", "boot"], both, PATCHES).gives(DONE, b"no such name\n" * 2, left=both)
     # one that isn't there, or no file
@@ -173,6 +200,10 @@ def check_second(program):
     short, long = bytes(25_535), bytes(25_537)
     rows = [
         (short, long, b"bad length 25535\n"),
+        (short, short, b"bad length 25535\n"),
+        (one, short, b"bad length 25535\n"),
+        (b"", long, b"bad length 0\n"),
+        (bytes(12_768), two, b"bad length 12768\n"),
         (one, long, b"bad length 25537\n"),
         (short, three, b"bad length 25535\n"),
         (one, three, b"unlike packs 25536 38304\n"),
@@ -182,11 +213,14 @@ def check_second(program):
         for word in ["boot", "show", "halt"]:
             files = {"one": first, "two": second}
             Run(program, ["--second", "two", "one", word], files, PATCHES).gives(NO_SESSION, err=err, left=files)
+    Run(program, ["--second", "missing", "one", "boot"], {"one": short}).gives(NO_SESSION, err=b"no pack\n", left={"one": short})
     # one file, by one path, by two, and by two names; also where its length is bad
     for path in ["one", "./one"]:
         for file in [one, short]:
             Run(program, ["--second", path, "one", "boot"], {"one": file}, PATCHES).gives(NO_SESSION, err=b"no pack\n", left={"one": file})
-    Run(program, boot, {"one": one, "two": linked("one")}, PATCHES).gives(NO_SESSION, err=b"no pack\n", left={"one": one, "two": one})
+    for words in [boot, ["--second", "one", "two", "boot"]]:
+        files = {"one": one, "two": linked("one")}
+        Run(program, words, files, PATCHES).gives(NO_SESSION, err=b"no pack\n", left={"one": one, "two": one})
     Run(program, boot, {"one": one, "two": pointing("one")}, PATCHES).gives(NO_SESSION, err=b"no pack\n", left={"one": one})
     # new files: both, or none
     made = bytes(SMALL)
@@ -343,7 +377,10 @@ def check_without_null_device(program):
             os.chdir("/")
             os.close(1)
 
-        pack, device = folder / "pack", folder / "dev" / "null"
+        pack, new, device = folder / "pack", ["--cylinders", "2", "new", "show"], folder / "dev" / "null"
+        ended = subprocess.run([program, *new], input=b"", capture_output=True, timeout=SECONDS, preexec_fn=enter)
+        if (ended.returncode, ended.stderr, (folder / "new").exists()) != (NO_SESSION, b"no pack\n", False):
+            failures.append(f"/dev/null: a new file: exit code {ended.returncode}, {ended.stderr!r}, or it is made")
         # at last a file stands there, and holds the place of a stream as well
         rows = [(False, "boot", NO_SESSION, b"no pack\n", b"ABCDE"), (False, "show", NO_SESSION, b"no pack\n", b"ABCDE")]
         for is_there, word, code, err, left in [*rows, (True, "boot", DISPLAY_FAILED, b"", b"ABBDE")]:
@@ -366,6 +403,55 @@ def limited(size):
         resource.setrlimit(resource.RLIMIT_FSIZE, (size, size))
 
     return limit
+
+
+def refused_past(size):
+    """Sets a limit on the size of files, past which a write is refused and doesn't stop the process."""
+
+    def limit():
+        signal.signal(signal.SIGXFSZ, signal.SIG_IGN)
+        resource.setrlimit(resource.RLIMIT_FSIZE, (size, size))
+
+    return limit
+
+
+def check_refused_writes(program):
+    """Writes that fail. A new file that can't be filled is removed, and a line whose write fails ends the session without a reply."""
+    new, two = ["--cylinders", "2", "new", "show"], ["--cylinders", "2", "--second", "two", "one", "show"]
+    # the first call that fills the file fails, and later ones
+    for size in [0, 12_768, 20_480, SMALL - 1]:
+        for words in [new, two]:
+            Run(program, words, before=refused_past(size)).gives(NO_SESSION, err=b"no pack\n")
+    Run(program, new, before=refused_past(SMALL)).gives(DONE, NO_FILES, left={"new": bytes(SMALL)})
+    Run(program, two, before=refused_past(SMALL)).gives(DONE, NO_FILES, left={"one": bytes(SMALL), "two": bytes(SMALL)})
+    pack = {"pack": abcde()}
+    Run(program, ["pack", "boot"], pack, PATCHES, before=refused_past(1_000)).gives(DISK_FAILED, left=pack)
+    both = crossed()
+    Run(program, ["--second", "two", "one", "boot"], both, b"patch #4 0 56\n", before=refused_past(1_000)).gives(DISK_FAILED, left=both)
+
+
+def open_files(number):
+    """Sets a limit on the number of files that are open at once, standard streams among them."""
+    return lambda: resource.setrlimit(resource.RLIMIT_NOFILE, (number, number))
+
+
+def check_openings(program):
+    """Files that can't be opened. Each pack file is opened above three others, which hold the places of the standard streams and are closed
+    then; if any of these can't be opened there is no session, no file is made, and none is changed."""
+    pack, made, both = {"pack": abcde()}, {"new": bytes(SMALL)}, crossed()
+    zeros = {"one": bytes(SMALL), "two": bytes(SMALL)}
+    rows = [
+        (7, ["pack", "boot"], pack, {"pack": abcde(b"ABBDE")}, REPLIES),
+        (7, ["--cylinders", "2", "new", "show"], {}, made, NO_FILES),
+        (8, ["--second", "two", "one", "boot"], both, crossed(third=b"ABBDE"), REPLIES),
+        (8, ["--cylinders", "2", "--second", "two", "one", "show"], {}, zeros, NO_FILES),
+    ]
+    for enough, words, files, left, out in rows:
+        for number in range(4, enough):
+            run = Run(program, words, files, PATCHES, before=open_files(number))
+            run.name += f"with {number} open files"
+            run.gives(NO_SESSION, err=b"no pack\n", left=files)
+        Run(program, words, files, PATCHES, before=open_files(enough)).gives(DONE, out, left=left)
 
 
 def check_size_limit(program):
@@ -419,12 +505,30 @@ READS = (b"patch #3 0 -\n", b"done\n")
 WRITES = (b"patch #3 1 4242\n", b"done\n")
 
 
+def shrunk(program, words, files, name, length, first, second):
+    """A session in which the file with this name becomes so short after the first line: its exit code, what was shown of the first line
+    and what of the second, what was said on standard error, and the files left."""
+    with tempfile.TemporaryDirectory() as folder:
+        folder = pathlib.Path(folder)
+        for path, content in files.items():
+            (folder / path).write_bytes(content)
+        streams = {"stdin": subprocess.PIPE, "stdout": subprocess.PIPE, "stderr": subprocess.PIPE}
+        with subprocess.Popen([program, *words], cwd=folder, **streams) as process:
+            process.stdin.write(first)
+            process.stdin.flush()
+            reply = process.stdout.readline()
+            os.truncate(folder / name, length)
+            out, err = process.communicate(second, timeout=SECONDS)
+        return process.returncode, reply, out, err, {path: (folder / path).read_bytes() for path in files}
+
+
 def check_shrinking_file(program):
     """The pack file becomes shorter during a session, after the first line. Sectors that weren't read yet can't be read any more, nor can
     any be written; those that were read are read from memory. The file stays as short."""
     rows = [
         (READS_NOTHING, 3_300, READS, DISK_FAILED),
         (READS_NOTHING, 25_535, READS, DISK_FAILED),
+        *((READS_NOTHING, length, WRITES, DISK_FAILED) for length in (25_535, 3_300, 0)),
         (READS, 3_300, WRITES, DISK_FAILED),
         (READS, 3_300, READS, DONE),
         (READS, 0, READS, DONE),
@@ -433,22 +537,39 @@ def check_shrinking_file(program):
         (READS, 3_724, WRITES, DONE),
     ]
     for (first, shown), length, (second, reply), code in rows:
+        found = shrunk(program, ["pack", "boot"], {"pack": abcde()}, "pack", length, first, second)
+        left = abcde(b"ABBDE") if (code, second) == (DONE, WRITES[0]) else abcde()
+        if found != (code, shown, reply if code == DONE else b"", b"", {"pack": left[:length]}):
+            failures.append(f"a file that shrinks to {length} bytes, {first!r} and {second!r}: {found[:4]}, or it is left otherwise")
+
+
+def check_shrinking_second(program):
+    """And the second of two, though the leader alone of the file that is patched stands there."""
+    both, (first, shown) = crossed(), READS_NOTHING
+    found = shrunk(program, ["--second", "two", "one", "boot"], both, "two", 25_535, first, b"patch #4 0 56\n")
+    if found != (DISK_FAILED, shown, b"", b"", {"one": both["one"], "two": both["two"][:25_535]}):
+        failures.append(f"a second file that shrinks: {found[:4]}, or the files are left otherwise")
+
+
+def check_whole_writes(program):
+    """A reply, a listing and each other text is shown by one write call: a socket of packets keeps them apart."""
+    rows = [
+        (["boot"], [b"done\n", b"beyond length 5\n"]),
+        (["show"], [LISTING]),
+        (["format", "1"], [FORMATTED]),
+        (["halt"], [b"usage\n"]),
+    ]
+    for words, texts in rows:
         with tempfile.TemporaryDirectory() as folder:
             file = pathlib.Path(folder) / "pack"
             file.write_bytes(abcde())
-            with subprocess.Popen([program, file, "boot"], stdin=subprocess.PIPE, stdout=subprocess.PIPE, stderr=subprocess.PIPE) as process:
-                process.stdin.write(first)
-                process.stdin.flush()
-                replies = [process.stdout.readline()]
-                os.truncate(file, length)
-                out, err = process.communicate(second, timeout=SECONDS)
-            name = f"a file that shrinks to {length} bytes, {first!r} and {second!r}"
-            wanted = (code, [shown], reply if code == DONE else b"", b"")
-            if (process.returncode, replies, out, err) != wanted:
-                failures.append(f"{name}: exit code {process.returncode}, {replies!r}, {out!r}, {err!r}")
-            left = abcde(b"ABBDE") if (code, second) == (DONE, WRITES[0]) else abcde()
-            if file.read_bytes() != left[:length]:
-                failures.append(f"{name}: it isn't left as it should be")
+            reader, writer = socket.socketpair(socket.AF_UNIX, socket.SOCK_SEQPACKET)
+            with reader:
+                subprocess.run([program, file, *words], input=PATCHES, stdout=writer, timeout=SECONDS)
+                writer.close()
+                shown = list(iter(lambda: reader.recv(MIB), b""))
+            if shown != texts:
+                failures.append(f"{words}: the write calls show {shown}, and not {texts}")
 
 
 def check_closed_pipe(program):
@@ -479,8 +600,12 @@ CHECKS = [
     check_file_for_reading,
     check_without_null_device,
     check_size_limit,
+    check_refused_writes,
+    check_openings,
     check_memory_limit,
     check_shrinking_file,
+    check_shrinking_second,
+    check_whole_writes,
     check_closed_pipe,
 ]
 

@@ -88,9 +88,9 @@ def two_files(slots):
     return [sys_dir(slots), whole(5, ordinary(3), b"X.", 3), whole(8, ordinary(4), b"Y.", 4)]
 
 
-def changed_slot(index, to, text=b"D."):
-    """The entry of file 8 with another word at an index."""
-    entry = slot(ordinary(8), text)
+def changed_slot(file, index, to, text=b"D."):
+    """The entry of a file with another word at an index."""
+    entry = slot(file, text)
     return entry[: 2 * index] + struct.pack(">H", to) + entry[2 * index + 2 :]
 
 
@@ -121,6 +121,7 @@ FILES = [
     ("the restore bit makes a header wrong", [whole(5, A, b"A.", 5), word(5, HEADER, packs.real_of(5) | 1)], NO_FILES),
     ("the disk bit makes a header wrong", [whole(5, A, b"A.", 5), word(5, HEADER, packs.real_of(5) | 2)], NO_FILES),
     ("another sector's address makes a header wrong", [whole(5, A, b"A.", 5), word(5, HEADER, packs.real_of(17))], NO_FILES),
+    ("the next sector's address makes a header wrong", [whole(5, A, b"A.", 5), word(5, HEADER, packs.real_of(6))], NO_FILES),
     ("an address of no sector makes a header wrong", [whole(5, A, b"A.", 5), word(5, HEADER, 0xC000)], NO_FILES),
     (
         "a page behind a wrong header ends the file",
@@ -152,6 +153,12 @@ FILES = [
         [leader(5, A, b"A."), data(6, A, 1, PAGE), data(8, A, 3, 5)],
         ["SysDir>A. length 512", "1 files"],
     ),
+    (
+        "copies below and above, a page after a gap and links that lie change nothing of three full pages",
+        [leader(5, A, b"A."), data(6, A, 1, 5), data(20, A, 1, PAGE), leader(21, A, b"B."), data(2, A, 1, PAGE), data(30, A, 3, PAGE)]
+        + [data(40, A, 2, PAGE), word(2, NEXT, packs.real_of(30)), word(30, NEXT, packs.real_of(2))],
+        ["SysDir>A. length 1536", "1 files"],
+    ),
     ("without page 1 there are no bytes", [leader(5, A, b"A."), data(7, A, 2, 5)], ["SysDir>A. length 0", "1 files"]),
     (
         "full pages count where the last page is missing",
@@ -177,6 +184,16 @@ FILES = [
         "a data page of 513 bytes hides no copy above",
         [leader(5, A, b"A."), data(6, A, 1, 513), data(20, A, 1, 5)],
         ["SysDir>A. length 5", "1 files"],
+    ),
+    (
+        "a data page of 65535 bytes behind a full page ends the file",
+        [leader(5, A, b"A."), data(6, A, 1, 513), data(8, A, 1, PAGE), data(7, A, 2, ONES)],
+        ["SysDir>A. length 512", "1 files"],
+    ),
+    (
+        "and hides no copy above",
+        [leader(5, A, b"A."), data(6, A, 1, 513), data(8, A, 1, PAGE), data(7, A, 2, ONES), data(9, A, 2, 5)],
+        ["SysDir>A. length 517", "1 files"],
     ),
     # full names
     ("a label of serial 0 names no file", [leader(5, (0, 0, 1), b"A."), leader(6, (0x8000, 0, 1), b"B.")], NO_FILES),
@@ -222,6 +239,11 @@ LEADER_NAMES = [
     ("a name of no characters is lost", [leader(5, ordinary(9), b"")], ["SysDir>Lost11. length 0", "1 files"]),
     ("a name of one character is lost", [leader(5, ordinary(9), b".")], ["SysDir>Lost11. length 0", "1 files"]),
     ("a name of forty characters is lost", [leader(5, ordinary(9), LONG[40])], ["SysDir>Lost11. length 0", "1 files"]),
+    (
+        "a name of forty characters is lost, of which the first 39 are a name",
+        [leader(5, ordinary(9), b"N" * 38 + b"..")],
+        ["SysDir>Lost11. length 0", "1 files"],
+    ),
     ("a name that ends in no dot is lost", [leader(5, ordinary(9), b"AB")], ["SysDir>Lost11. length 0", "1 files"]),
     (
         "a name with a character that no stored name has is lost",
@@ -265,6 +287,17 @@ LEADER_NAMES = [
         + [leader(9, ordinary(2_147_483_647), b"")],
         ["SysDir>Lost10. length 0", "SysDir>Lost100. directory", "SysDir>Lost17777777777. length 0", "SysDir>Lost200000. length 0"]
         + ["SysDir>Lost7. length 0", "5 files"],
+    ),
+    ("two words are no name", [leader(9, ordinary(8), b"no name")], ["SysDir>Lost10. length 0", "1 files"]),
+    (
+        "a lost name stands by case among the names that two files share",
+        [leader(9, ordinary(8), b"no name"), leader(5, B, b"a."), leader(7, A, b"A.")],
+        ["SysDir>A. length 0", "SysDir>a.$1. length 0", "SysDir>Lost10. length 0", "3 files"],
+    ),
+    (
+        "and before the name of SysDir in small letters with its suffix",
+        [leader(9, ordinary(8), b"no name"), leader(5, B, b"a."), leader(7, A, b"sysdir.")],
+        ["SysDir>a. length 0", "SysDir>Lost10. length 0", "SysDir>sysdir.$1. length 0", "3 files"],
     ),
     (
         "a lost name that is taken has a suffix",
@@ -351,6 +384,13 @@ SUFFIXES = [
         + ["11 files"],
     ),
     (
+        "of a name of 39 characters 36 are kept before the first nine suffixes, and 35 before the tenth",
+        copies(LONG[39], 11),
+        [f"SysDir>{'N' * 35}$10. length 13"]
+        + [f"SysDir>{'N' * 36}${k}. length {3 + k}" for k in range(1, 10)]
+        + [f"SysDir>{'N' * 38}. length 3", "11 files"],
+    ),
+    (
         "a long name may be its own first suffix",
         copies(b"N" * 36 + b"$1.", 2),
         [f"SysDir>{'N' * 36}$1. length 3", f"SysDir>{'N' * 36}$2. length 4", "2 files"],
@@ -420,6 +460,31 @@ ENTRIES = [
         ["SysDir>A. length 3", "1 files"],
     ),
     (
+        "of a dead file's entry and two of one that lives the first of these is kept",
+        [sys_dir(slot(ordinary(8), b"H."), slot(A, b"B."), slot(A, b"A.")), *numbered(b"X.", b"Y.")],
+        ["SysDir>B. length 3", "SysDir>Y. length 4", "2 files"],
+    ),
+    (
+        "an entry's name of 39 characters is its file's, and one of 40 ends the directory",
+        [sys_dir(slot(A, LONG[39]), slot(B, LONG[40]), slot(B, b"B.")), *numbered(b"X.", b"Y.")],
+        [f"SysDir>{'N' * 38}. length 3", "SysDir>Y. length 4", "2 files"],
+    ),
+    (
+        "an entry's name may fill whole words with its length, and its address be 0",
+        [sys_dir(slot(B, b"CD.", 0), slot(A, b"B.")), *numbered(b"X.", b"Y.")],
+        ["SysDir>B. length 3", "SysDir>CD. length 4", "2 files"],
+    ),
+    (
+        "an entry may have a version in its name",
+        [sys_dir(slot(B, b"C!2."), slot(A, b"B.")), *numbered(b"X.", b"Y.")],
+        ["SysDir>B. length 3", "SysDir>C!2. length 4", "2 files"],
+    ),
+    (
+        "an entry gives a name to a file whose leader has none",
+        [whole(5, A, b"", 5), whole(11, D, b"D.", slot(A, b"X."))],
+        ["SysDir>D. directory", "D>X. length 5", "2 files"],
+    ),
+    (
         "an entry of another version is of another file",
         [sys_dir(slot((0, 3, 2), b"B."), slot((0x8000, 3, 1), b"C.")), whole(5, A, b"A.", 3)],
         ["SysDir>A. length 3", "1 files"],
@@ -433,6 +498,12 @@ ENTRIES = [
         "of two directories the lower full name comes first, whichever sector is the lower",
         [whole(11, E, b"A.", slot(A, b"B.")), whole(13, D, b"Z.", slot(A, b"C.")), whole(5, A, b"X.", 3)],
         ["SysDir>A. directory", "SysDir>Z. directory", "Z>C. length 3", "3 files"],
+    ),
+    (
+        "and SysDir before both",
+        [sys_dir(slot(A, b"root.")), whole(11, E, b"six.", slot(A, b"in6.")), whole(13, D, b"five.", slot(A, b"in5."))]
+        + [whole(5, A, b"X.", 3)],
+        ["SysDir>five. directory", "SysDir>root. length 3", "SysDir>six. directory", "3 files"],
     ),
     (
         "one name may stand in each directory",
@@ -484,6 +555,17 @@ SYSTEM_FILES = [
         ["SysDir>X. length 3", "SysDir>Y. length 4", "2 files"],
     ),
     (
+        "nor under the other's where its leader has that name",
+        [sys_dir(slot(A, b"SYSDIR.")), leader(3, DESCRIPTOR, b"DiskDescriptor."), whole(5, A, b"diskdescriptor.", 3)],
+        ["SysDir>diskdescriptor.$1. length 3", "1 files"],
+    ),
+    (
+        "but it is in another directory, which names no system file",
+        [sys_dir(slot(A, b"SYSDIR.")), leader(3, DESCRIPTOR, b"DiskDescriptor."), whole(5, A, b"diskdescriptor.", 3)]
+        + [whole(11, D, b"D.", slot(DESCRIPTOR, b"Z.") + slot(A, b"SysDir."))],
+        ["SysDir>D. directory", "D>SysDir. length 3", "2 files"],
+    ),
+    (
         "a version of a system file's name is a name as others are",
         [sys_dir(slot(A, b"SysDir!2.")), *numbered(b"X.", b"DiskDescriptor!3.")],
         ["SysDir>DiskDescriptor!3. length 4", "SysDir>SysDir!2. length 3", "2 files"],
@@ -519,37 +601,49 @@ SYSTEM_FILES = [
         [whole(11, (0x8000, 2, 1), b"D.", slot((0, 1, 1), b"B.")), whole(5, (0, 1, 1), b"A.", 3)],
         ["SysDir>D. directory", "D>B. length 3", "2 files"],
     ),
+    (
+        "files and a directory of the serials of system files stand beside others, and the directory is the first of two that names a file",
+        [leader(5, (0, 1, 1), b"A."), leader(6, (0, 2, 2), b"B."), leader(9, A, b"X.")]
+        + [whole(7, (0x8000, 1, 2), b"C.", slot(A, b"in.")), whole(11, D, b"D.", slot(A, b"in."))],
+        ["SysDir>A. length 0", "SysDir>B. length 0", "SysDir>C. directory", "SysDir>D. directory", "C>in. length 0", "5 files"],
+    ),
 ]
 
-# slots that end what is read of a directory, behind the one of file 3
-BAD_SLOTS = [
-    ("of length 0", b"\0\0"),
-    ("of type 1 and length 0", b"\x04\x00"),
-    ("of type 1 and length 1", b"\x04\x01"),
-    ("of type 2", struct.pack(">H", 0x0800 | 1)),
-    ("of type 2 that is an entry otherwise", changed_slot(0, 0x0800 | 8)),
-    ("of type 63", struct.pack(">H", 0xFC00 | 1)),
-    ("of an entry that is a word longer than its name asks for", changed_slot(0, 0x0400 | 9) + b"\0\0"),
-    ("of an entry that is a word shorter than its name asks for", changed_slot(0, 0x0400 | 7)[:-2]),
-    ("whose word 4 isn't 0", changed_slot(4, 1)),
-    ("whose byte behind the name isn't 0", slot(ordinary(8), b"D.")[:-1] + b"\1"),
-    ("with a name of no characters", slot(ordinary(8), b"")),
-    ("with a name of one character", slot(ordinary(8), b".")),
-    ("with a name of forty characters", slot(ordinary(8), LONG[40])),
-    ("with a name that ends in no dot", slot(ordinary(8), b"DD")),
-    ("with a name of a character that no stored name has", slot(ordinary(8), b"D_.")),
-    ("with a version that has a leading zero", slot(ordinary(8), b"D!02.")),
-    ("with the version 1 in its name", slot(ordinary(8), b"D!1.")),
-    ("with the version 65535 in its name", slot(ordinary(8), b"D!65535.")),
-    ("of serial 0", slot((0, 0, 1), b"D.")),
-    ("of serial 0 with the directory mark", slot((0x8000, 0, 1), b"D.")),
-    ("of version 0", slot((0, 8, 0), b"D.")),
-    ("of version 65535", slot((0, 8, ONES), b"D.")),
-    ("of free words past the end", free_slot(10)[:2]),
-]
+
+def bad_slots(file):
+    """Slots that end what is read of a directory. What would be an entry otherwise is that of this file."""
+    return [
+        ("of length 0", b"\0\0"),
+        ("of type 1 and length 0", b"\x04\x00"),
+        ("of type 1 and length 1", b"\x04\x01"),
+        ("of type 2", struct.pack(">H", 0x0800 | 1)),
+        ("of type 2 that is an entry otherwise", changed_slot(file, 0, 0x0800 | 8)),
+        ("of type 63", struct.pack(">H", 0xFC00 | 1)),
+        ("of type 63 that is an entry otherwise", changed_slot(file, 0, 0xFC00 | 8)),
+        ("of an entry that is a word longer than its name asks for", changed_slot(file, 0, 0x0400 | 9) + b"\0\0"),
+        ("of an entry that is a word shorter than its name asks for", changed_slot(file, 0, 0x0400 | 7)[:-2]),
+        ("whose word 4 isn't 0", changed_slot(file, 4, 1)),
+        ("whose byte behind the name isn't 0", slot(file, b"D.")[:-1] + b"\1"),
+        ("with a name of no characters", slot(file, b"")),
+        ("with a name of one character", slot(file, b".")),
+        ("with a name of forty characters", slot(file, LONG[40])),
+        ("with a name that ends in no dot", slot(file, b"DD")),
+        ("with a name of a character that no stored name has", slot(file, b"D_.")),
+        ("with a version that has a leading zero", slot(file, b"D!02.")),
+        ("with the version 1 in its name", slot(file, b"D!1.")),
+        ("with the version 65535 in its name", slot(file, b"D!65535.")),
+        ("of serial 0", slot((0, 0, 1), b"D.")),
+        ("of serial 0 with the directory mark", slot((0x8000, 0, 1), b"D.")),
+        ("of version 0", slot((0, 8, 0), b"D.")),
+        ("of version 65535", slot((0, 8, ONES), b"D.")),
+        ("of free words past the end", free_slot(10)[:2]),
+    ]
+
+
 # slots that don't: the file has no leader page
 GOOD_SLOTS = [
     ("of one free word", free_slot(1)),
+    ("of one free word and one of three, whatever stands in them,", struct.pack(">4H", 1, 3, ONES, 0)),
     ("of 150 free words that spell entries", struct.pack(">H", 150) + slot(B, b"E.") * 18 + bytes(10)),
     ("of a dead file", slot(ordinary(8), b"D.")),
     ("with a name of 39 characters", slot(ordinary(8), LONG[39])),
@@ -561,12 +655,14 @@ GOOD_SLOTS = [
 ]
 
 FIRST, SECOND = slot(A, b"B."), slot(B, b"C.")
+BY_LEADERS = ["SysDir>X. length 3", "SysDir>Y. length 4", "2 files"]
 B_ALONE = ["SysDir>B. length 3", "SysDir>Y. length 4", "2 files"]
 B_AND_C = ["SysDir>B. length 3", "SysDir>C. length 4", "2 files"]
 
 DIRECTORIES = [
     ("without another slot both entries are read", two_files(FIRST + SECOND), B_AND_C),
-    *((f"a slot {what} ends a directory", two_files(FIRST + bad + SECOND), B_ALONE) for what, bad in BAD_SLOTS),
+    *((f"a slot {what} ends a directory", two_files(FIRST + bad + SECOND), B_ALONE) for what, bad in bad_slots(ordinary(8))),
+    *((f"a slot {what} names no file", two_files(bad + FIRST), BY_LEADERS) for what, bad in bad_slots(B)),
     *((f"a slot {what} doesn't end a directory", two_files(FIRST + good + SECOND), B_AND_C) for what, good in GOOD_SLOTS),
     (
         "a free slot of 1023 words doesn't end a directory",
@@ -582,6 +678,11 @@ DIRECTORIES = [
         "an entry may lie over the end of a page",
         [sys_dir(free_slot(250), slot(A, b"B.")), whole(5, A, b"A.", 3)],
         ["SysDir>B. length 3", "1 files"],
+    ),
+    (
+        "and behind it an entry without its last byte ends the directory",
+        two_files((free_slot(250) + FIRST + SECOND)[:-1]),
+        B_ALONE,
     ),
     (
         "a directory's pages may stand on any sectors",
@@ -613,6 +714,18 @@ DIRECTORIES = [
         B_ALONE,
     ),
 ]
+
+
+def two_directories():
+    """D and E, whose leaders say b and C: D names two files, and E names D and a third file."""
+    return [
+        whole(5, A, b"X.", 5),
+        leader(7, B, b"Y."),
+        leader(9, C, b"Z."),
+        whole(11, D, b"b.", slot(A, b"a.") + slot(B, b"Q.")),
+        whole(13, E, b"C.", slot(D, b"inner.") + slot(C, b"r.")),
+    ]
+
 
 ORDER = [
     (
@@ -675,6 +788,16 @@ ORDER = [
         + ["D>Y. length 4", "D!2>Z. length 5", "D!10>X. length 3", "6 files"],
     ),
     (
+        "files of directories are ordered without regard to case, and a directory among them stands in SysDir",
+        two_directories(),
+        ["SysDir>b. directory", "SysDir>C. directory", "b>a. length 5", "b>Q. length 0", "C>r. length 0", "5 files"],
+    ),
+    (
+        "directories are ordered by the names of their entries in SysDir, and not of their leaders",
+        [sys_dir(slot(D, b"d.")), *two_directories()],
+        ["SysDir>C. directory", "SysDir>d. directory", "C>r. length 0", "d>a. length 5", "d>Q. length 0", "5 files"],
+    ),
+    (
         "a directory without files has its line alone",
         [whole(11, D, b"D.", free_slot(255))],
         ["SysDir>D. directory", "1 files"],
@@ -682,13 +805,14 @@ ORDER = [
 ]
 
 
-def directories_and_names(lengths):
-    """D and E with a freed slot of X each, and three files with that name in their leaders, the last of them in SysDir."""
+def directories_and_names(lengths, *more):
+    """D and E with a freed slot of X each, and three files with that name in their leaders, the last of them in SysDir, and these slots
+    after its own."""
     first, second, third = lengths
     freed = free_slot(8) + free_slot(247)
     root = [slot(directory(3), b"D.", 5), slot(directory(5), b"E.", 9), slot(ordinary(7), b"X.", 13)]
     return [
-        *formatted(*root),
+        *formatted(*root, *more),
         whole(5, directory(3), b"D.", freed),
         whole(7, ordinary(4), b"X.", first),
         whole(9, directory(5), b"E.", freed),
@@ -715,10 +839,25 @@ DAMAGES = [
         directories_and_names((4, 6, 7)),
         ["SysDir>D. directory", "SysDir>E. directory", "SysDir>X. length 7", "SysDir>X.$1. length 4", "SysDir>X.$2. length 6", "5 files"],
     ),
+    *(
+        (
+            f"and the same where it has an entry with that suffix already, {sentence}",
+            directories_and_names(lengths, slot(ordinary(4), b"X.$1.", 7)),
+            ["SysDir>D. directory", "SysDir>E. directory"]
+            + [f"SysDir>X. length {lengths[2]}", f"SysDir>X.$1. length {lengths[0]}", f"SysDir>X.$2. length {lengths[1]}", "5 files"],
+        )
+        for sentence, lengths in [("without bytes", (0, 0, 0)), ("by their lengths", (4, 6, 7))]
+    ),
     ("a small pack shows its file", small_pack(), SMALL),
     ("a copy of a page on a free sector shows nothing", small_pack(data(20, A, 1, 5, b"XXXXX")), SMALL),
     ("a copy with another count on a free sector shows nothing", small_pack(data(20, A, 1, 3, b"XXX")), SMALL),
     ("a next link that points at its own sector shows nothing", small_pack(word(5, NEXT, packs.real_of(5))), SMALL),
+    ("a next link of a data page that points at its own sector shows nothing", small_pack(word(6, NEXT, packs.real_of(6))), SMALL),
+    (
+        "nor does it with a slot of no words in place of the entry",
+        small_pack(word(6, NEXT, packs.real_of(6)), word(2, VALUE + 24, 0)),
+        SMALL,
+    ),
     ("a slot of no words in place of an entry leaves the file its leader's name", small_pack(word(2, VALUE + 24, 0)), SMALL),
     (
         "and that name is the leader's own",
@@ -758,6 +897,11 @@ TWO_SMALL = [
         "a file may stand on the last sectors of both drives",
         [leader(95, A, b"A."), data(47, A, 1, PAGE), data(48, A, 2, 1)],
         ["SysDir>A. length 513", "1 files"],
+    ),
+    (
+        "a file's leader and its pages may stand on two drives, either way round",
+        [leader(5, A, b""), data(50, A, 1, 5, b"ABCDE"), leader(70, B, b""), data(7, B, 1, 5, b"ABCDE")],
+        ["SysDir>Lost3. length 5", "SysDir>Lost4. length 5", "2 files"],
     ),
 ]
 TWO_LARGEST = [
