@@ -37,10 +37,3 @@ pub use error::{ImageError, ReachError};
 pub use machine::FileMachine;
 pub use pair::{decode_two, encode_two};
 pub use start::{Start, start_of};
-
-#[cfg(test)]
-mod kept_tests;
-#[cfg(test)]
-mod pair_tests;
-#[cfg(test)]
-mod tests;

@@ -89,7 +89,7 @@ pub enum FileCall {
 }
 
 /// How many calls of files are kept.
-const MOST_CALLS: usize = 8;
+const MOST_CALLS: usize = 12;
 
 /// What an outside was asked to do.
 #[derive(Drop)]
@@ -135,7 +135,7 @@ impl Log {
         self.key_reads.get()
     }
 
-    /// The first 8 calls of files since they were last taken.
+    /// The first 12 calls of files since they were last taken.
     pub fn take_file_calls(&self, alloc: Global) -> Result<Vec<FileCall>, AllocError> {
         match self.file_calls.try_borrow_mut() {
             Ok(mut calls) => {

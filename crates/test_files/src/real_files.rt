@@ -3,16 +3,17 @@ ghost use Rattle.std.specs.Prelude.{IsTrue};
 ghost use Rattle.disk_records.specs.Checks.{is_legal};
 
 use crate::outside::{Broken, FileCall, Log, Outside};
-use alto_top::{Status, boot, show_pack};
-use disk_image::{FileMachine, ReachError, encode_pack};
-use disk_records::{Act, Disk, DiskError, Plan, Sector};
+use crate::samples::{READ_ALL, WRITE_ALL, WRITE_LABEL, WRITE_VALUE, ZEROS};
+use alto_top::{Status, boot};
+use disk_image::{FileMachine, encode_pack};
+use disk_records::{Disk, DiskError, Plan, Sector};
 use std::fs;
 use std::fs::{OpenFile, OpenOptions};
 use std::io::SeekFrom;
 use std::process::Abort;
 use std::rt::Runtime;
 use std::test::Fail;
-use test_packs::{DATA, LEADER, Placed, sectors_of, small_shape};
+use test_packs::{DATA, LEADER, sectors_of, small_shape};
 
 /// The five bytes `ABCDE` become these.
 const KEYS: &[u8] = b"patch #3 0 565758595A\n";
@@ -21,54 +22,6 @@ const PLACED: &[u8] = b"VWXYZ";
 
 /// Where the file's bytes stand in the pack file: after the six sectors ahead, a header and a label.
 const BYTES_AT: usize = 6 * 532 + 20;
-
-/// The directory with serial 5 and the name `D.`: its leader page on sector 11, its data page on sector 12. There one entry
-/// gives the file with serial 3 the name `X.`.
-const DIRECTORY: Placed = Placed {
-    at: 11,
-    label: [0xFFFF, 0xFFFF, 0, 512, 0, 1, 0x8000, 5],
-    front: [0; 3],
-};
-
-const ENTRIES: Placed = Placed {
-    at: 12,
-    label: [0xFFFF, 0xFFFF, 0, 16, 1, 1, 0x8000, 5],
-    front: [0; 3],
-};
-
-const NAME: [u16; 2] = [0x0244, 0x2E00];
-
-const ENTRY: [u16; 8] = [0x0408, 0, 3, 1, 0, 5, 0x0258, 0x2E00];
-
-const ZEROS: Sector = Sector {
-    header: [0; 2],
-    label: [0; 8],
-    value: [0; 256],
-};
-
-const READ_ALL: Plan = Plan {
-    header: Act::Read,
-    label: Act::Read,
-    value: Act::Read,
-};
-
-const WRITE_ALL: Plan = Plan {
-    header: Act::Write,
-    label: Act::Write,
-    value: Act::Write,
-};
-
-const WRITE_LABEL: Plan = Plan {
-    header: Act::Check,
-    label: Act::Write,
-    value: Act::Write,
-};
-
-const WRITE_VALUE: Plan = Plan {
-    header: Act::Check,
-    label: Act::Check,
-    value: Act::Write,
-};
 
 /// The bytes of the pack file with the one file.
 fn old_bytes<R: Abort + AllocGlobal>(rt: &R) -> Result<Vec<u8>, Fail> {
@@ -122,6 +75,9 @@ fn what_fails_and_what_stands_in_the_file(rt: HostRuntime) -> Result<(), Fail> {
         (Broken::Reading, Status::DiskFault, b"", false, 0, 1),
         // the cylinder can't be read, and its sectors can, one by one
         (Broken::ReadCall(0), Status::Done, b"done\n", true, 1, 2),
+        // of the 22 keys a short read takes 5, and the last one finds the end
+        (Broken::Short, Status::Done, b"done\n", true, 1, 6),
+        (Broken::Interrupted, Status::Done, b"done\n", true, 1, 4),
     ];
     for (broken, ended, shown, is_written, shows, key_reads) in rows {
         let log = Log::new(alloc);
@@ -147,17 +103,11 @@ fn what_fails_and_what_stands_in_the_file(rt: HostRuntime) -> Result<(), Fail> {
 }
 
 #[test]
-fn short_and_interrupted_calls_change_nothing(rt: HostRuntime) -> Result<(), Fail> {
+fn short_and_interrupted_calls_fill_a_new_file(rt: HostRuntime) -> Result<(), Fail> {
     let alloc = rt.alloc();
-    // of the 22 keys a short read takes 5, and the last one finds the end
-    let rows = [
-        (Broken::Nothing, 2u64),
-        (Broken::Short, 6),
-        (Broken::Interrupted, 4),
-    ];
-    for (broken, key_reads) in rows {
+    for broken in [Broken::Short, Broken::Interrupted] {
         let log = Log::new(alloc);
-        let outside = Outside::new(&rt, KEYS, broken, &log);
+        let outside = Outside::new(&rt, b"", broken, &log);
         let made = FileMachine::create(&outside, alloc, "rough", 2)?;
         drop(made);
         let zeros = vec![in alloc; 0u8; 25_536]?;
@@ -165,78 +115,7 @@ fn short_and_interrupted_calls_change_nothing(rt: HostRuntime) -> Result<(), Fai
             fs::read(&rt, "rough")?.as_slice() == zeros.as_slice(),
             "{broken:?}"
         );
-        fs::write(&rt, "rough", old_bytes(&rt)?.as_slice())?;
-        let mut machine = FileMachine::reach(&outside, alloc, "rough")?;
-        assert!(rt;
-            boot(alloc, 1000, &mut machine) == Status::Done,
-            "{broken:?}"
-        );
-        assert_eq!(rt;
-            log.shown(alloc)?.as_slice(),
-            b"done\n".as_slice(),
-            "{broken:?}"
-        );
-        assert_eq!(rt; log.key_reads(), key_reads, "{broken:?}");
-        assert!(rt;
-            fs::read(&rt, "rough")?.as_slice() == new_bytes(&rt)?.as_slice(),
-            "{broken:?}"
-        );
         fs::remove_file(&rt, "rough")?;
-    }
-    Ok(())
-}
-
-#[test]
-fn a_file_that_shrinks_ends_the_session(rt: HostRuntime) -> Result<(), Fail> {
-    let alloc = rt.alloc();
-    for length in [25_535usize, 3_300, 0] {
-        let log = Log::new(alloc);
-        let outside = Outside::new(&rt, KEYS, Broken::Nothing, &log);
-        let mut machine = machine_over(&rt, &outside, "shrinking")?;
-        let file = OpenOptions::new().write(true).open(&rt, "shrinking")?;
-        file.set_len(length as u64)?;
-        let status = boot(alloc, 1000, &mut machine);
-        assert!(rt; status == Status::DiskFault, "{length}");
-        assert!(rt; log.shown(alloc)?.is_empty(), "{length}");
-        let mut bytes = old_bytes(&rt)?;
-        bytes.truncate(length);
-        assert!(rt;
-            fs::read(&rt, "shrinking")?.as_slice() == bytes.as_slice(),
-            "{length}"
-        );
-        fs::remove_file(&rt, "shrinking")?;
-    }
-    Ok(())
-}
-
-#[test]
-fn every_byte_is_read_and_written_back(rt: HostRuntime) -> Result<(), Fail> {
-    let alloc = rt.alloc();
-    let mut bytes = Vec::new(alloc);
-    for at in 0..51_072u32 {
-        bytes.push((at as u64 * 11 / 5 % 256) as u8)?;
-    }
-    // of two drives, whose sectors follow each other
-    assert!(rt; bytes.len() == 51_072);
-    let (front, back) = bytes.split_at(25_536);
-    fs::write(&rt, "front", front)?;
-    fs::write(&rt, "back", back)?;
-    let mut every = FileMachine::reach_two(&rt, alloc, "front", "back")?;
-    let mut again = FileMachine::create_two(&rt, alloc, "again", "also", 2)?;
-    let mut sector = ZEROS;
-    for at in 0u16..96 {
-        assert!(rt; at < every.shape().pages() && at < again.shape().pages());
-        every.run(at, READ_ALL, &mut sector)?;
-        again.run(at, WRITE_ALL, &mut sector)?;
-    }
-    for (path, wanted) in [
-        ("front", front),
-        ("back", back),
-        ("again", front),
-        ("also", back),
-    ] {
-        assert!(rt; fs::read(&rt, path)?.as_slice() == wanted, "{path}");
-        fs::remove_file(&rt, path)?;
     }
     Ok(())
 }
@@ -295,78 +174,52 @@ fn a_sector_command_is_few_calls(rt: HostRuntime) -> Result<(), Fail> {
 }
 
 #[test]
-fn a_cylinder_is_read_once(rt: HostRuntime) -> Result<(), Fail> {
+fn a_cylinder_is_read_once_and_else_by_sectors(rt: HostRuntime) -> Result<(), Fail> {
     let alloc = rt.alloc();
-    let log = Log::new(alloc);
-    let outside = Outside::new(&rt, b"", Broken::Nothing, &log);
-    let mut machine = FileMachine::create(&outside, alloc, "once", 2)?;
-    drop(log.take_file_calls(alloc)?);
-    for _ in 0u8..2 {
-        for at in 0u16..48 {
-            assert!(rt; at < machine.shape().pages());
-            machine.run(at, READ_ALL, &mut ZEROS)?;
-        }
-    }
-    let calls = [
-        FileCall::Seek(SeekFrom::Start(0)),
-        FileCall::Read(12_768),
-        FileCall::Seek(SeekFrom::Start(12_768)),
-        FileCall::Read(12_768),
+    let seek = |byte| FileCall::Seek(SeekFrom::Start(byte));
+    let cylinder = FileCall::Read(12_768);
+    let sector = FileCall::Read(532);
+    let each_once = [seek(0), cylinder, seek(12_768), cylinder];
+    // the second time the cylinder can be read, and is kept
+    let one_by_one = [seek(0), cylinder, seek(3_192), sector, seek(0), cylinder];
+    // of the cylinder a byte is missing, and none comes for it
+    let rest = FileCall::Read(1);
+    let cut_short = [
+        seek(12_768),
+        cylinder,
+        rest,
+        seek(24_472),
+        sector,
+        seek(12_768),
+        cylinder,
+        rest,
+        seek(24_472),
+        sector,
     ];
-    assert!(rt; log.take_file_calls(alloc)?.as_slice() == calls.as_slice());
-    fs::remove_file(&rt, "once")?;
-    Ok(())
-}
-
-#[test]
-fn a_cylinder_that_fails_is_read_by_sectors(rt: HostRuntime) -> Result<(), Fail> {
-    let alloc = rt.alloc();
-    let log = Log::new(alloc);
-    let outside = Outside::new(&rt, b"", Broken::ReadCall(0), &log);
-    let mut machine = machine_over(&rt, &outside, "uneven")?;
-    let cylinder = [FileCall::Seek(SeekFrom::Start(0)), FileCall::Read(12_768)];
-    let sector = [FileCall::Seek(SeekFrom::Start(3_192)), FileCall::Read(532)];
-    for is_read in [false, true] {
-        assert!(rt; 6 < machine.shape().pages());
-        machine.run(6, READ_ALL, &mut ZEROS)?;
-        let calls = log.take_file_calls(alloc)?;
-        assert!(rt; calls.starts_with(&cylinder), "{is_read}");
-        // the second time all of it is read
-        let rest = if is_read { [].as_slice() } else { &sector };
-        assert!(rt; calls.ends_with(rest), "{is_read}");
-        assert!(rt; calls.len() == 2 + rest.len(), "{is_read}");
+    // the first sector that is read in turn, the one after the last, how often, and the calls for it
+    let rows = [
+        (Broken::Nothing, 25_536, 0u16, 48, 2, each_once.as_slice()),
+        (Broken::ReadCall(0), 25_536, 6, 7, 3, &one_by_one),
+        (Broken::Nothing, 25_535, 46, 47, 2, &cut_short),
+    ];
+    for (broken, length, first, end, times, calls) in rows {
+        let log = Log::new(alloc);
+        let outside = Outside::new(&rt, b"", broken, &log);
+        let mut machine = machine_over(&rt, &outside, "read")?;
+        let file = OpenOptions::new().write(true).open(&rt, "read")?;
+        file.set_len(length)?;
+        for _ in 0u8..times {
+            for at in first..end {
+                assert!(rt; at < machine.shape().pages());
+                machine.run(at, READ_ALL, &mut ZEROS)?;
+            }
+        }
+        assert!(rt;
+            log.take_file_calls(alloc)?.as_slice() == calls,
+            "{length} and {broken:?}"
+        );
+        fs::remove_file(&rt, "read")?;
     }
-    // and kept
-    assert!(rt; 6 < machine.shape().pages());
-    machine.run(6, READ_ALL, &mut ZEROS)?;
-    assert!(rt; log.take_file_calls(alloc)?.is_empty());
-    fs::remove_file(&rt, "uneven")?;
-    Ok(())
-}
-
-#[test]
-fn a_cylinder_that_is_cut_is_read_by_sectors(rt: HostRuntime) -> Result<(), Fail> {
-    let alloc = rt.alloc();
-    let log = Log::new(alloc);
-    let outside = Outside::new(&rt, b"", Broken::Nothing, &log);
-    let mut machine = machine_over(&rt, &outside, "cut")?;
-    let file = OpenOptions::new().write(true).open(&rt, "cut")?;
-    file.set_len(25_535)?;
-    for _ in 0u8..2 {
-        assert!(rt; 46 < machine.shape().pages());
-        drop(log.take_file_calls(alloc)?);
-        machine.run(46, READ_ALL, &mut ZEROS)?;
-        // of the cylinder a byte is missing, and none comes for it
-        let calls = [
-            FileCall::Seek(SeekFrom::Start(12_768)),
-            FileCall::Read(12_768),
-            FileCall::Read(1),
-            FileCall::Seek(SeekFrom::Start(24_472)),
-            FileCall::Read(532),
-        ];
-        assert!(rt; log.take_file_calls(alloc)?.as_slice() == calls.as_slice());
-    }
-    fs::remove_file(&rt, "cut")?;
     Ok(())
 }
 
@@ -430,51 +283,6 @@ fn a_failing_write_leaves_the_records_ahead(rt: HostRuntime) -> Result<(), Fail>
 }
 
 #[test]
-fn a_file_that_cannot_be_filled_is_removed(rt: HostRuntime) -> Result<(), Fail> {
-    let alloc = rt.alloc();
-    for failing in 0u64..2 {
-        let log = Log::new(alloc);
-        let outside = Outside::new(&rt, b"", Broken::WriteCall(failing), &log);
-        let made = FileMachine::create(&outside, alloc, "filling", 2);
-        assert!(rt; made.err() == Some(ReachError::NoFile), "{failing}");
-        assert!(rt; fs::metadata(&rt, "filling").is_err(), "{failing}");
-    }
-    Ok(())
-}
-
-#[test]
-fn no_pack_file_is_opened_where_a_stream_may_be_closed(rt: HostRuntime) -> Result<(), Fail> {
-    let alloc = rt.alloc();
-    // three openings hold the places of the standard streams, and the fourth is that of the pack file
-    for failing in 0u64..=4 {
-        let wanted = if failing < 4 {
-            Some(ReachError::NoFile)
-        } else {
-            None
-        };
-        let log = Log::new(alloc);
-        let outside = Outside::new(&rt, b"", Broken::Opening(failing), &log);
-        let made = FileMachine::create(&outside, alloc, "opening", 2).err();
-        assert!(rt; made == wanted, "{failing}");
-        assert!(rt;
-            fs::metadata(&rt, "opening").is_ok() == (failing == 4),
-            "{failing}"
-        );
-        fs::write(&rt, "opening", old_bytes(&rt)?.as_slice())?;
-        let log = Log::new(alloc);
-        let outside = Outside::new(&rt, b"", Broken::Opening(failing), &log);
-        let reached = FileMachine::reach(&outside, alloc, "opening").err();
-        assert!(rt; reached == wanted, "{failing}");
-        assert!(rt;
-            fs::read(&rt, "opening")?.as_slice() == old_bytes(&rt)?.as_slice(),
-            "{failing}"
-        );
-        fs::remove_file(&rt, "opening")?;
-    }
-    Ok(())
-}
-
-#[test]
 fn keys_are_read_ahead_and_replies_shown_whole(rt: HostRuntime) -> Result<(), Fail> {
     let alloc = rt.alloc();
     // a pair of lines has 1,017 keys: 19,323 of them in three reads and one that finds the end, and 67,122 in nine and one
@@ -499,46 +307,5 @@ fn keys_are_read_ahead_and_replies_shown_whole(rt: HostRuntime) -> Result<(), Fa
         assert!(rt; log.key_reads() <= most_reads, "{pairs}");
         fs::remove_file(&rt, "typed")?;
     }
-    Ok(())
-}
-
-#[test]
-fn a_listing_of_a_real_pack_file(rt: HostRuntime) -> Result<(), Fail> {
-    let alloc = rt.alloc();
-    let made = FileMachine::create(&rt, alloc, "shown", 2)?;
-    drop(made);
-    let shape = small_shape();
-    let mut sectors = sectors_of(alloc, &[LEADER, DATA, DIRECTORY, ENTRIES])?;
-    if let Some(sector) = sectors.get_mut(11) {
-        sector.value[6..8].copy_from_slice(&NAME);
-    }
-    if let Some(sector) = sectors.get_mut(12) {
-        sector.value[..8].copy_from_slice(&ENTRY);
-    }
-    assert!(rt; sectors.len() == shape.pages() as usize);
-    let bytes = encode_pack(alloc, shape, &sectors)?;
-    let rows = [
-        (
-            Broken::Nothing,
-            Status::Done,
-            b"SysDir>D. directory\nD>X. length 5\n2 files\n".as_slice(),
-        ),
-        (Broken::Display, Status::DisplayFault, b""),
-    ];
-    for (broken, ended, shown) in rows {
-        fs::write(&rt, "shown", bytes.as_slice())?;
-        let log = Log::new(alloc);
-        let outside = Outside::new(&rt, b"", broken, &log);
-        let mut machine = FileMachine::reach(&outside, alloc, "shown")?;
-        let status = show_pack(alloc, &mut machine);
-        assert!(rt; status == ended, "{broken:?}");
-        assert_eq!(rt; log.shows(), 1, "{broken:?}");
-        assert_eq!(rt; log.shown(alloc)?.as_slice(), shown, "{broken:?}");
-        assert!(rt;
-            fs::read(&rt, "shown")?.as_slice() == bytes.as_slice(),
-            "{broken:?}"
-        );
-    }
-    fs::remove_file(&rt, "shown")?;
     Ok(())
 }

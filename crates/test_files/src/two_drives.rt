@@ -1,10 +1,10 @@
-// Sessions over the real files of two drives of two cylinders each: in which file a patch stands afterwards, and what ends a session.
+// Two drives of two cylinders each over real files: which file a command goes to, and what stands where calls fail or are short.
 use crate::outside::{Broken, FileCall, Log, Outside};
-use alto_top::{Status, boot, show_pack};
+use crate::samples::{READ_ALL, ZEROS};
+use alto_top::{Status, boot};
 use disk_image::{FileMachine, ReachError, encode_two};
-use disk_records::{Act, Disk, Plan, Sector, Shape};
+use disk_records::{Disk, Sector, Shape};
 use std::fs;
-use std::fs::{OpenFile, OpenOptions};
 use std::io::SeekFrom;
 use std::process::Abort;
 use std::test::Fail;
@@ -39,21 +39,6 @@ const FRONT_DATA: Placed = Placed {
 /// Where the bytes of the file with serial 3 stand in the second file: after two sectors, a header and a label.
 const IN_SECOND: usize = 2 * 532 + 20;
 
-/// Where those of the file with serial 4 stand in the first file: after seven sectors, a header and a label.
-const IN_FIRST: usize = 7 * 532 + 20;
-
-const READ_ALL: Plan = Plan {
-    header: Act::Read,
-    label: Act::Read,
-    value: Act::Read,
-};
-
-const ZEROS: Sector = Sector {
-    header: [0; 2],
-    label: [0; 8],
-    value: [0; 256],
-};
-
 /// The bytes of the two files of a pack.
 #[derive(Drop)]
 struct Pair {
@@ -80,15 +65,6 @@ fn old_pair<R: Abort + AllocGlobal>(rt: &R) -> Result<Pair, Fail> {
     Ok(Pair { first, second })
 }
 
-/// Puts the five bytes `VWXYZ` at a place of one file, where there is one.
-fn put(bytes: &mut [u8], at: Option<usize>) {
-    if let Some(at) = at {
-        for (byte, placed) in bytes.iter_mut().skip(at).zip(b"VWXYZ") {
-            *byte = *placed;
-        }
-    }
-}
-
 /// Writes the two files.
 fn place(rt: &HostRuntime, pair: &Pair) -> Result<(), Fail> {
     fs::write(rt, "first", pair.first.as_slice())?;
@@ -106,20 +82,14 @@ fn stood(rt: &HostRuntime, pair: &Pair) -> Result<bool, Fail> {
 }
 
 #[test]
-fn a_patch_stands_in_the_file_of_its_drive(rt: HostRuntime) -> Result<(), Fail> {
+fn short_and_refused_writes_of_the_second_drive(rt: HostRuntime) -> Result<(), Fail> {
     let alloc = rt.alloc();
-    let third = b"patch #3 0 565758595A\n".as_slice();
-    let fourth = b"patch #4 0 565758595A\n".as_slice();
-    let done = b"done\n".as_slice();
-    let in_first = Some(IN_FIRST);
-    let in_second = Some(IN_SECOND);
+    let keys = b"patch #3 0 565758595A\n".as_slice();
     let rows = [
-        (third, Broken::Nothing, Status::Done, done, None, in_second),
-        (fourth, Broken::Nothing, Status::Done, done, in_first, None),
-        (third, Broken::Short, Status::Done, done, None, in_second),
-        (third, Broken::Writing, Status::DiskFault, b"", None, None),
+        (Broken::Short, Status::Done, b"done\n".as_slice(), b"VWXYZ"),
+        (Broken::Writing, Status::DiskFault, b"", b"ABCDE"),
     ];
-    for (keys, broken, ended, shown, first_at, second_at) in rows {
+    for (broken, ended, shown, bytes) in rows {
         let mut pair = old_pair(&rt)?;
         place(&rt, &pair)?;
         let log = Log::new(alloc);
@@ -127,25 +97,11 @@ fn a_patch_stands_in_the_file_of_its_drive(rt: HostRuntime) -> Result<(), Fail> 
         let mut machine = FileMachine::reach_two(&outside, alloc, "first", "second")?;
         assert!(rt; boot(alloc, 1000, &mut machine) == ended, "{broken:?}");
         assert_eq!(rt; log.shown(alloc)?.as_slice(), shown, "{broken:?}");
-        put(&mut pair.first, first_at);
-        put(&mut pair.second, second_at);
+        for (byte, placed) in pair.second.iter_mut().skip(IN_SECOND).zip(bytes) {
+            *byte = *placed;
+        }
         assert!(rt; stood(&rt, &pair)?, "{broken:?}");
     }
-    Ok(())
-}
-
-#[test]
-fn a_listing_of_two_real_files(rt: HostRuntime) -> Result<(), Fail> {
-    let alloc = rt.alloc();
-    let pair = old_pair(&rt)?;
-    place(&rt, &pair)?;
-    let log = Log::new(alloc);
-    let outside = Outside::new(&rt, b"", Broken::Nothing, &log);
-    let mut machine = FileMachine::reach_two(&outside, alloc, "first", "second")?;
-    assert!(rt; show_pack(alloc, &mut machine) == Status::Done);
-    let listing = b"SysDir>Lost3. length 5\nSysDir>Lost4. length 5\n2 files\n";
-    assert_eq!(rt; log.shown(alloc)?.as_slice(), listing.as_slice());
-    assert!(rt; stood(&rt, &pair)?);
     Ok(())
 }
 
@@ -188,75 +144,39 @@ fn a_command_on_the_second_drive_goes_to_its_file(rt: HostRuntime) -> Result<(),
 }
 
 #[test]
-fn a_second_file_that_shrinks_ends_the_session(rt: HostRuntime) -> Result<(), Fail> {
-    let alloc = rt.alloc();
-    let mut pair = old_pair(&rt)?;
-    place(&rt, &pair)?;
-    let log = Log::new(alloc);
-    let outside = Outside::new(&rt, b"patch #4 0 56\n", Broken::Nothing, &log);
-    let mut machine = FileMachine::reach_two(&outside, alloc, "first", "second")?;
-    let file = OpenOptions::new().write(true).open(&rt, "second")?;
-    file.set_len(25_535)?;
-    assert!(rt; boot(alloc, 1000, &mut machine) == Status::DiskFault);
-    assert!(rt; log.shown(alloc)?.is_empty());
-    pair.second.truncate(25_535);
-    assert!(rt; stood(&rt, &pair)?);
-    Ok(())
-}
-
-#[test]
 fn both_files_are_opened_and_made_or_none(rt: HostRuntime) -> Result<(), Fail> {
     let alloc = rt.alloc();
     let pair = old_pair(&rt)?;
-    // of each file three openings hold the places of the standard streams, and the fourth is its own
-    for failing in 0u64..=8 {
-        let wanted = if failing < 8 {
-            Some(ReachError::NoFile)
+    // of each file three openings hold the places of the standard streams, and the fourth is its own; two write calls fill a file
+    for failing in 0u64..=13 {
+        let broken = if failing <= 8 {
+            Broken::Opening(failing)
         } else {
-            None
+            Broken::WriteCall(failing - 9)
         };
+        let is_made = failing == 8 || failing == 13;
         let log = Log::new(alloc);
-        let outside = Outside::new(&rt, b"", Broken::Opening(failing), &log);
+        let outside = Outside::new(&rt, b"", broken, &log);
         let made = FileMachine::create_two(&outside, alloc, "first", "second", 2).err();
-        assert!(rt; made == wanted, "{failing}");
+        assert!(rt; made == refusal_unless(is_made), "{broken:?}");
         for path in ["first", "second"] {
-            assert!(rt;
-                fs::metadata(&rt, path).is_ok() == (failing == 8),
-                "{failing}"
-            );
+            assert!(rt; fs::metadata(&rt, path).is_ok() == is_made, "{broken:?}");
         }
         place(&rt, &pair)?;
         let log = Log::new(alloc);
-        let outside = Outside::new(&rt, b"", Broken::Opening(failing), &log);
+        let outside = Outside::new(&rt, b"", broken, &log);
         let reached = FileMachine::reach_two(&outside, alloc, "first", "second").err();
-        assert!(rt; reached == wanted, "{failing}");
-        assert!(rt; stood(&rt, &pair)?, "{failing}");
+        assert!(rt; reached == refusal_unless(failing >= 8), "{broken:?}");
+        assert!(rt; stood(&rt, &pair)?, "{broken:?}");
     }
     Ok(())
 }
 
-#[test]
-fn a_file_of_two_that_cannot_be_filled_leaves_none(rt: HostRuntime) -> Result<(), Fail> {
-    let alloc = rt.alloc();
-    // two write calls fill the file of a drive of two cylinders: the third one is the first of the second file
-    for failing in 0u64..=4 {
-        let wanted = if failing < 4 {
-            Some(ReachError::NoFile)
-        } else {
-            None
-        };
-        let log = Log::new(alloc);
-        let outside = Outside::new(&rt, b"", Broken::WriteCall(failing), &log);
-        let made = FileMachine::create_two(&outside, alloc, "first", "second", 2).err();
-        assert!(rt; made == wanted, "{failing}");
-        for path in ["first", "second"] {
-            assert!(rt;
-                fs::metadata(&rt, path).is_ok() == (failing == 4),
-                "{failing}"
-            );
-        }
+/// What reaching two files answers where it can, and where it can't.
+fn refusal_unless(is_possible: bool) -> Option<ReachError> {
+    if is_possible {
+        None
+    } else {
+        Some(ReachError::NoFile)
     }
-    fs::remove_file(&rt, "first")?;
-    fs::remove_file(&rt, "second")?;
-    Ok(())
 }

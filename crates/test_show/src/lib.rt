@@ -1,4 +1,5 @@
-//! Tests of what packs made by hand show, as values and as the listing: in memory, and some through real pack files.
+//! Tests of packs made by hand in memory: what they show that no listing tells, what a listing is at each crash point of a session, and
+//! what faults leave of it. Which listing a pack has is a table of check/listings.py.
 //!
 //! What is expected here was worked out by hand from the rules of files, directories and names, and never taken from a run.
 //! There is nothing to call.
@@ -7,18 +8,8 @@
 #[cfg(test)]
 mod expected;
 #[cfg(test)]
-mod filed;
-#[cfg(test)]
 mod listings;
-#[cfg(test)]
-mod names;
 #[cfg(test)]
 mod pages;
 #[cfg(test)]
 mod reading;
-#[cfg(test)]
-mod rules;
-#[cfg(test)]
-mod slots;
-#[cfg(test)]
-mod worked;

@@ -14,10 +14,6 @@ pub const FILE_8: FullName = [0, 8, 1];
 
 pub const SYS_DIR: FullName = [0x8000, 1, 1];
 
-pub const DISK_DESCRIPTOR: FullName = [0, 2, 1];
-
-pub const DIRECTORY_5: FullName = [0x8000, 5, 1];
-
 pub const DIRECTORY_6: FullName = [0x8000, 6, 1];
 
 /// One page of a file: its sector, its number, how many of its bytes count, and the words of its value.

@@ -1,5 +1,5 @@
 // What packs made by hand show, as values: files with their dates, rest and bytes, and the files of the names.
-use crate::expected::{expect_files, expect_first_bytes, lines_of};
+use crate::expected::{expect_first_bytes, lines_of};
 use crate::pages::{
     DIRECTORY_6, FILE_3, FILE_4, FILE_8, SYS_DIR, Written, push_entry, push_name, put_data,
     put_directory, put_leader, put_page,
@@ -47,7 +47,10 @@ fn files_and_names_with_their_full_names(rt: HostRuntime) -> Result<(), Fail> {
     }
     let lines = b"3 1000 5\n4 1000 0\n5 1000 0\n8 1000 0\n6 1000 directory\n7 1000 directory\n\
         1>A. 3\n1>a.$1. 4\n1>D. 6\n1>Lost5. 5\n1>Y. 7\n6>C. 8\n";
-    expect_files(&rt, "full_names", &sectors, lines)
+    let mut machine = sure_machine(alloc, sectors, b"")?;
+    let shown = read_pack(alloc, &mut machine)?;
+    assert_eq!(rt; lines_of(alloc, &shown)?.as_slice(), lines.as_slice());
+    Ok(())
 }
 
 #[test]
@@ -79,6 +82,11 @@ fn all_that_a_file_shows(rt: HostRuntime) -> Result<(), Fail> {
                 words,
             },
         );
+    }
+    // a copy of the first page on a higher sector, and a next link of that page to its own sector
+    put_data(&mut sectors, 20, FILE_3, 1, 512);
+    if let Some(sector) = sectors.get_mut(6) {
+        sector.label[0] = 0x6000;
     }
     let mut machine = sure_machine(alloc, sectors, b"")?;
     let shown = read_pack(alloc, &mut machine)?;

@@ -1,19 +1,11 @@
-// What no clause says of sectors that are kept: that real files are read once, and again where they have to be.
-ghost use Rattle.std.specs.Prelude.{◌≡◌, IfOk};
-
-use crate::FileMachine;
-use crate::tests::{READ_ALL, WRITE_ALL, filled};
-use disk_records::{Act, Disk, DiskError, Plan, Sector};
+// Sectors that are kept: that real files are read once, and again where they have to be.
+use crate::samples::{READ_ALL, WRITE_ALL, WRITE_VALUE, filled};
+use disk_image::FileMachine;
+use disk_records::{Disk, DiskError, Sector};
 use std::alloc::{AllocError, Global};
 use std::fs;
 use std::fs::{OpenFile, OpenOptions};
 use std::test::Fail;
-
-const WRITE_VALUE: Plan = Plan {
-    header: Act::Check,
-    label: Act::Check,
-    value: Act::Write,
-};
 
 /// The bytes of a file, all of them this one.
 fn bytes_of(alloc: Global, byte: u8, count: usize) -> Result<Vec<u8>, AllocError> {
