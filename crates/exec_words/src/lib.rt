@@ -32,6 +32,3 @@ pub use texts::{
     at_text, done_text, free_text, got_text, length_text, level_text, made_text, names_text,
     not_written_text, report_text, stat_text, stream_text, type_text, word_text, written_text,
 };
-
-#[cfg(test)]
-mod tests;
