@@ -3,5 +3,8 @@ pub mod KeyRows
 pub mod MemoryRows
 pub mod Models
 pub mod NameRows
+pub mod OpeningRows
 pub mod StreamRows
+pub mod VersionRows
+pub mod WideningRows
 pub mod ZoneVectors

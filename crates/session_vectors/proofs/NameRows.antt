@@ -13,6 +13,7 @@ use Rattle.session_model.specs.Effects.{effect}
 use Rattle.session_model.specs.Refusals.{most_serials}
 use Rattle.session_model.specs.Replies.{reply_to, ops}
 use Rattle.session_model.specs.Touched.{touched}
+use Rattle.session_model.specs.Worlds.{failed_world}
 use Rattle.session_vectors.proofs.Models.{f3, f4, ma, root_is, a_is, all_is, d3, md, root_d, d_is, all_d, w, of_base, of_exact, in_dir, a_path, a_file, five, abc, two_bytes}
 
 -- ---- a name in another case is the next version of the same base
@@ -138,3 +139,12 @@ touched_type = rw (root_is abc) refl
 touched_free : touched line.Free (ma abc) w ≡ []
 unfolding is_stored_name first digits most_serials longest_line
 touched_free = refl
+
+-- both names of a rename: their directories, and the file that is there
+touched_rename : touched (line.Rename (in_dir (codes "D.") (codes "A.")) (of_base (codes "B."))) md w ≡ sys_dir ∷ d3 ∷ f4 ∷ sys_dir ∷ []
+unfolding is_stored_name first digits most_serials longest_line
+touched_rename = rw (root_d, d_is) refl
+
+touched_in_need : touched (line.TypeOut a_file) (ma abc) (failed_world w) ≡ []
+unfolding is_stored_name first digits most_serials longest_line
+touched_in_need = refl

@@ -10,7 +10,8 @@ use Rattle.exec_words.specs.declared.line.Line.TheVariants as line
 use Rattle.session_model.specs.Effects.{ending_ops}
 use Rattle.session_model.specs.Refusals.{most_serials}
 use Rattle.session_model.specs.Replies.{reply_to, ops, next}
-use Rattle.session_model.specs.Streams.{Stream, new_stream, flush_ops, put_ops, put_stream, stream_length}
+use Rattle.session_model.specs.Streams.{Stream, new_stream, flush_ops, put_ops, put_stream, stream_length, free_number}
+use Rattle.session_model.specs.Touched.{touched}
 use Rattle.session_vectors.proofs.Models.{f3, ma, root_is, a_is, all_is, w, w_with, stream, a_path, a_file, abc}
 
 -- ---- a stream of A, its bytes pending until it is closed
@@ -128,3 +129,35 @@ any_base_does = rw (a_is (replicate 600 0)) refl
 
 any_base_length : stream_length (ma (replicate 600 0)) (stream 5 1000 []) ≡ 600
 any_base_length = rw (a_is (replicate 600 0)) refl
+
+-- ---- eight streams at most; a ninth is refused before its file is found to have one
+abbrev of_number : ℕ → Stream
+of_number n = new_stream n f3
+
+abbrev seven : List Stream
+seven = of_number 0 ∷ of_number 1 ∷ of_number 2 ∷ of_number 4 ∷ of_number 5 ∷ of_number 6 ∷ of_number 7 ∷ []
+
+ninth : reply_to (line.OpenStream a_file) (ma []) (w_with (of_number 3 ∷ seven)) ≡ codes "too many streams\n"
+unfolding is_stored_name first digits most_serials longest_line
+ninth = rw (root_is []) refl
+
+eighth : reply_to (line.OpenStream a_file) (ma []) (w_with seven) ≡ codes "streams open\n"
+unfolding is_stored_name first digits most_serials longest_line
+eighth = rw (root_is []) refl
+
+-- the lowest number that no stream has
+free_number_3 : free_number 0 seven ≡ 3
+free_number_3 = refl
+
+-- ---- the files that lines on streams touch
+touched_get : touched (line.Get 0 1) (ma abc) (w_with (opened ∷ [])) ≡ f3 ∷ []
+unfolding is_stored_name first digits most_serials longest_line
+touched_get = refl
+
+touched_close : touched (line.Close 1) (ma abc) (w_with (opened ∷ [])) ≡ []
+unfolding is_stored_name first digits most_serials longest_line
+touched_close = refl
+
+touched_quit : touched line.Quit (ma abc) (w_with (of_number 0 ∷ of_number 1 ∷ [])) ≡ f3 ∷ f3 ∷ []
+unfolding is_stored_name first digits most_serials longest_line
+touched_quit = refl
