@@ -25,6 +25,10 @@ pub if_ok_map : {T E : Type 0} {P Q : T → Type 0} (result : Result T E) → If
 if_ok_map (Ok x) p f = f x p
 if_ok_map (Err e) p f = tt
 
+pub if_ok_both : {T E : Type 0} {P Q R : T → Type 0} (result : Result T E) → IfOk result P → IfOk result Q → ((x : T) → P x → Q x → R x) → IfOk result R
+if_ok_both (Ok x) p q f = f x p q
+if_ok_both (Err e) p q f = tt
+
 pub if_misled_map : {T : Type 0} {P Q : Place → ℕ → Page → Option (List ℕ) → Type 0} (result : Result T FileError) → IfMisled result P → ((place : Place) (at : ℕ) (wanted : Page) (found : Option (List ℕ)) → P place at wanted found → Q place at wanted found) → IfMisled result Q
 if_misled_map (Ok x) p f = tt
 if_misled_map (Err (Misled place at wanted found)) p f = f place at wanted found p

@@ -18,7 +18,7 @@ use Rattle.pack_model.specs.reading.Files.{place}
 use Rattle.pack_model.specs.reading.Sights.{sights}
 use Rattle.pack_model.specs.states.Whole.{Whole}
 use Rattle.page_seeking.specs.declared.seek.Found.{Found}
-use Rattle.page_seeking.specs.Seeking.{LastNamed, Stands, file_length, length_at, page_number}
+use Rattle.page_seeking.specs.Seeking.{IsLast, LastNamed, Stands, file_length, length_at, page_number}
 use Rattle.page_seeking.specs.Inside.{Ends, Known, NamesEnd}
 use Rattle.page_seeking.proofs.Easing.{leader_placed}
 use Rattle.page_seeking.proofs.Ending.{end_is_length, end_of, same_or_less}
@@ -89,6 +89,19 @@ ends_at {p = p} {f = f} {last} {found} whole told x = by (elim x.ends [ inl shor
   where
     by : found.info.bytes ≢ 512 → length_at last found.info.bytes ≡ file_length p f
     by short = (end_is_length p f (suc last) (length_at last found.info.bytes) whole (end_of x.known told x.first (omega arith) short refl)).is
+
+-- the page has the number and the count that the length says, and its place
+pub is_last : {told : Bool} {p : Pack} {form : Shape} {f : Fid} {n : ℕ} {found : Found} → Whole p → IsTrue told → Ends told p form f n found → IsLast p f (record { number = n; at = found.at; info = found.info })
+is_last {p = p} {f = f} {n} {found} whole told x =
+    let first = x.first in
+    let size = ends_at whole told x in
+    let above : suc (n - 1) ≡ n = omega (arith, first) in
+    let sector = carried_place p whole found.at (page_number f n) (x.known.carries told) in
+    let most = (labels_count p f (n - 1) found.at (rw above sector)).most in
+    let counts = counts_known whole told first x.known in
+    let short : found.info.bytes ≢ 512 = elim x.ends [ inl short ↦ short | inr top ↦ top_short whole told x.known top ] in
+    let few : found.info.bytes < 512 = omega (arith, most, counts, short) in
+    record { number = omega (arith, size, first, few); bytes = omega (arith, size, first, few); placed = sector }
 
 -- and has fewer than 65,535 full pages
 pub most_length : {told : Bool} {p : Pack} {form : Shape} {f : Fid} {last : ℕ} {found : Found} → Whole p → IsTrue told → Ends told p form f last found → file_length p f / 512 < 65535

@@ -1,5 +1,5 @@
 -- Calls that seek pages, one after another.
-use Rattle.std.proofs.Common.{◌≡◌, ℕ, ◌+◌, ◌≤◌, Bool, IsTrue, List, [], length, Option, inl, inr, sym, ◌∙◌, ap, subst, arith}
+use Rattle.std.proofs.Common.{◌≡◌, ◌⊎◌, ℕ, ◌+◌, ◌≤◌, Bool, IsTrue, List, [], length, Option, inl, inr, sym, ◌∙◌, ap, subst, arith}
 use Rattle.alto_words.specs.declared.fid.Fid.{Fid}
 use Rattle.disk_records.specs.declared.records.Page.{Page}
 use Rattle.disk_records.specs.declared.records.Sector.{Sector}
@@ -14,11 +14,12 @@ use Rattle.label_check.specs.Guarded.{info_of}
 use Rattle.pack_model.specs.hints.Links.{LinksTrue}
 use Rattle.pack_model.specs.states.Whole.{Whole}
 use Rattle.disk_records.specs.declared.records.Place.{Place}
+use Rattle.page_seeking.specs.declared.links.Below.{Below}
 use Rattle.page_seeking.specs.declared.seek.Found.{Found}
 use Rattle.page_seeking.specs.Refs.{MisledBy}
-use Rattle.page_seeking.specs.Seeking.{IsEnd, Links, Seen, Stands}
+use Rattle.page_seeking.specs.Seeking.{EndsAtPage, IsEnd, Links, Seen, Stands, page_number}
 use Rattle.page_seeking.proofs.Handing.{handy_noted}
-use Rattle.page_seeking.specs.Inside.{AreNoted, Confirmed, HandyEntries, KeepsEntriesHandy, Known, Sought}
+use Rattle.page_seeking.specs.Inside.{AreNoted, Confirmed, Ends, HandyEntries, KeepsEntriesHandy, Known, Sought, StaysAt}
 
 -- ---- caches
 pub handy_here : {told : Bool} (a : Taped) (c : Cached) → KeepsEntriesHandy told a c c
@@ -68,6 +69,10 @@ known_of {a = a} x =
       sized = λ is. ap (λ (s : Sector). length s.value) (sym (x.stands is).holds) ∙ x.seen.sized;
     }
 
+-- and ends its file
+pub ends_of : {told : Bool} {f : Fid} {n : ℕ} {a : Taped} {c d : Cached} {buffer : Sector} {found : Found} → EndsAtPage n found.info.bytes → Confirmed told (page_number f n) a c d buffer found → Ends told (pack a) a.form f n found
+ends_of ends x = record { first = ends.first; known = known_of x; ends = ends.ends }
+
 -- so it is on the machine that other calls left before
 pub known_later : {told : Bool} {n : ℕ} {a b : Taped} {page : Page} {f : Found} → Looks told n a b → Known told (pack a) a.form page f → Known told (pack b) b.form page f
 known_later {a = a} {b} {page} {f} looks x =
@@ -101,6 +106,17 @@ confirmed_before {told} {n} {a} {b} {page} {c} {d} {e} {buffer} {f} looks grows 
         next = λ i goes links. elim (x.lists.next i goes (subst (λ (s : Shape). Links s f.info.next i) (sym form) links)) [ inl is ↦ inl is | inr rose ↦ inr (omega (arith, grows, rose)) ];
       };
     }
+
+-- a page that a climb answers is confirmed over the calls before it too, which found the page that it began at
+pub confirmed_reached : {told : Bool} {n : ℕ} {a b : Taped} {f : Fid} {c d e : Cached} {below last : Below} {buffer now : Sector} → Looks told n a b → c.refused ≤ d.refused → (1 ≤ below.number → Confirmed told (page_number f below.number) a c d buffer below.found) → 1 ≤ last.number
+    → StaysAt below buffer d last now e ⊎ Confirmed told (page_number f last.number) b d e now last.found → Confirmed told (page_number f last.number) a c e now last.found
+confirmed_reached {told} {a = a} {f = f} {c} {d} {e} {below} {last} {buffer} {now} looks grows near first (inl stays) =
+    let number = ap (λ (x : Below). x.number) stays.answer in
+    let here = near (omega (arith, first, number)) in
+    let cached = subst (λ (x : Cached). Confirmed told (page_number f below.number) a c x buffer below.found) (sym stays.cache_is) here in
+    let buffered = subst (λ (x : Sector). Confirmed told (page_number f below.number) a c e x below.found) (sym stays.buffer_is) cached in
+    subst (λ (x : Below). Confirmed told (page_number f x.number) a c e now x.found) (sym stays.answer) buffered
+confirmed_reached looks grows near first (inr x) = confirmed_before looks grows x
 
 -- a hint that misled after calls that wrote nothing misled as they began
 pub misled_before : {told : Bool} {n : ℕ} {a b : Taped} {f : Fid} {place : Place} {at : ℕ} {wanted : Page} {found : Option (List ℕ)} → Looks told n a b → IsTrue told → MisledBy (pack b) [] f place at wanted found → MisledBy (pack a) [] f place at wanted found

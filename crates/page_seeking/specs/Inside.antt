@@ -24,6 +24,7 @@ use Rattle.pack_model.specs.reading.Sights.{Sight, sights}
 use Rattle.pack_model.specs.states.Whole.{Whole}
 use Rattle.page_seeking.specs.declared.refs.FileError.{FileError}
 use Rattle.page_seeking.specs.declared.refs.FileError.TheVariants.{Misled, DiskFault, Memory}
+use Rattle.page_seeking.specs.declared.links.Below.{Below}
 use Rattle.page_seeking.specs.declared.seek.Found.{Found}
 use Rattle.page_seeking.specs.Seeking.{GoesOn, Links, page_after, page_number, Seen, Stands, Lists, Refused}
 
@@ -77,6 +78,12 @@ pub record Ends (told : Bool) (p : Pack) (form : Shape) (f : Fid) (last : ℕ) (
   pub first : 1 ≤ last
   pub known : Known told p form (page_number f last) found
   pub ends : (found.info.bytes ≢ 512) ⊎ (last ≡ 65535)
+
+-- No link was followed from a page that is known: it is the answer, and buffer and cache are as they were.
+pub record StaysAt (below : Below) (buffer : Sector) (cache : Cached) (last : Below) (after_buffer : Sector) (after_cache : Cached) : Type 0 where
+  pub answer : last ≡ below
+  pub buffer_is : after_buffer ≡ buffer
+  pub cache_is : after_cache ≡ cache
 
 -- an entry for a page of this file names its sector, or no sector bears the page
 abbrev pub IsHandyEntry : List Sight → Fid → Entry → Type 0

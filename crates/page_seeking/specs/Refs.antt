@@ -13,11 +13,15 @@ use Rattle.page_seeking.specs.declared.refs.FileError.{FileError}
 use Rattle.page_seeking.specs.declared.refs.FileError.TheVariants.{Misled, Beyond, DiskFault, Memory}
 
 -- ---- what is asked of a pack and a file, once for all calls
+-- the file's address stands where it was taken from
+abbrev pub FileIsFrom : Pack → FileRef → Type 0
+FileIsFrom p file = IsFrom p file.fid file.leader_at file.from
+
 -- The pack is whole and tidy, and the file's address stands where it was taken from.
 pub record FileStands (p : Pack) (file : FileRef) : Type 0 where
   pub whole : Whole p
   pub tidy : Tidy p
-  pub from : IsFrom p file.fid file.leader_at file.from
+  pub from : FileIsFrom p file
 
 -- ---- answers
 abbrev pub IfMisled : {T : Type 0} → Result T FileError → (Place → ℕ → Page → Option (List ℕ) → Type 0) → Type 0

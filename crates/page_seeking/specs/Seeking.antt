@@ -1,5 +1,5 @@
 -- What a caller sees of pages that are sought: the page in the buffer, the end of a file, the cache, and few sector commands.
-use Rattle.std.specs.Prelude.{◌≡◌, ◌⊎◌, ℕ, ◌+◌, ◌-◌, ◌*◌, ◌<◌, ◌≤◌, List, length, map, Some}
+use Rattle.std.specs.Prelude.{◌≡◌, ◌≢◌, ◌⊎◌, ℕ, ◌+◌, ◌-◌, ◌*◌, ◌%◌, ◌<◌, ◌≤◌, List, length, map, Some}
 use Rattle.alto_words.specs.declared.fid.Fid.{Fid}
 use Rattle.disk_records.specs.declared.records.Page.{Page}
 use Rattle.disk_records.specs.declared.records.Sector.{Sector}
@@ -18,6 +18,7 @@ use Rattle.pack_model.specs.hints.Handy.{Handy, HandyCache, last_at_word, last_n
 use Rattle.pack_model.specs.hints.Links.{LinksTrue}
 use Rattle.pack_model.specs.reading.Sights.{sights}
 use Rattle.pack_model.specs.states.Whole.{Whole}
+use Rattle.page_seeking.specs.declared.ends.LastPage.{LastPage}
 
 -- ---- a page that was found
 abbrev pub page_number : Fid → ℕ → Page
@@ -64,6 +65,17 @@ pub record IsEnd (p : Pack) (f : Fid) (number n : ℕ) : Type 0 where
 pub record IsLengthBelow (p : Pack) (f : Fid) (number n : ℕ) : Type 0 where
   pub is : n ≡ file_length p f
   pub below : page_of_byte n < number
+
+-- A data page with this number that counts so many bytes ends a file: it isn't full, or its number is the greatest.
+pub record EndsAtPage (number bytes : ℕ) : Type 0 where
+  pub first : 1 ≤ number
+  pub ends : (bytes ≢ 512) ⊎ (number ≡ 65535)
+
+-- The last page of a file: by its length, and where it is.
+pub record IsLast (p : Pack) (f : Fid) (last : LastPage) : Type 0 where
+  pub number : last.number ≡ page_of_byte (file_length p f)
+  pub bytes : last.info.bytes ≡ file_length p f % 512
+  pub placed : place (sights p) f last.number ≡ Some last.at
 
 -- ---- the cache
 -- a call of `note` was refused

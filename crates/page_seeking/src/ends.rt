@@ -6,9 +6,9 @@ ghost use Rattle.disk_records.specs.Tapes.{Looks, Rose, pack};
 ghost use Rattle.disk_records.specs.Words.{word};
 ghost use Rattle.pack_model.specs.states.Whole.{Whole};
 ghost use Rattle.page_seeking.specs.Causes.{cause_of_length};
-ghost use Rattle.page_seeking.specs.Refs.{FileStands, IfMisled, IfBeyond, MisledBy};
-ghost use Rattle.page_seeking.specs.Seeking.{KeepsHandy, LastNamed, Quick, file_length, page_number};
-ghost use Rattle.page_seeking.specs.Inside.{Ends, Known, NamesEnd, Sought};
+ghost use Rattle.page_seeking.specs.Refs.{FileIsFrom, IfMisled, IfBeyond, MisledBy};
+ghost use Rattle.page_seeking.specs.Seeking.{EndsAtPage, IsLast, KeepsHandy, LastNamed, Lists, Quick, Seen, Stands, file_length, page_number};
+ghost use Rattle.page_seeking.specs.Inside.{Confirmed, Known, NamesEnd, Sought, StaysAt};
 
 use crate::leader::{last_address, last_number, locate_leader};
 use crate::links::{Below, follow, goes_on, length_at};
@@ -18,9 +18,20 @@ use crate::{FileError, FileRef};
 use alto_words::Fid;
 use disk_records::{Disk, Page, Sector};
 use hint_cache::{HintCache, Hints};
-use label_check::LookError;
+use label_check::{LookError, PageInfo};
 
-/// Follows links from a page that is known up to the last one.
+/// The last page of a file.
+#[derive(Clone, Copy, Debug, PartialEq, Eq)]
+pub struct LastPage {
+    /// Its number, from 1.
+    pub number: u16,
+    /// The virtual address of its sector.
+    pub at: u16,
+    /// What its label says: the bytes that count, and its links.
+    pub info: PageInfo,
+}
+
+/// Follows links from a page that is known up to the last one. `buf` holds it, if a link was followed.
 fn climb_to_end<D: Disk>(
     disk: &mut D,
     cache: &mut HintCache,
@@ -29,8 +40,8 @@ fn climb_to_end<D: Disk>(
     buf: &mut Sector,
 ) -> Result<Below, FileError>
     ensures sought { Sought D.told (65535 - below.number) (D.tape disk.old) (D.tape disk.new) cache.old cache.new }
-    ensures first { IfOk result (λ last. 1 ≤ last.number) }
-    ensures ends { IfOk result (λ last. (last.found.info.bytes ≢ 512) ⊎ (last.number ≡ 65535)) }
+    ensures ends { IfOk result (λ last. EndsAtPage last.number last.found.info.bytes) }
+    ensures found { IfOk result (λ last. StaysAt below buf.old cache.old last buf.new cache.new ⊎ Confirmed D.told (page_number fid last.number) (D.tape disk.old) cache.old cache.new buf.new last.found) }
     ensures known { IsTrue D.told → Known D.told (pack (D.tape disk.old)) (D.tape disk.old).form (page_number fid below.number) below.found → IfOk result (λ last. Known D.told (pack (D.tape disk.old)) (D.tape disk.old).form (page_number fid last.number) last.found) }
     ensures fault { IsErrOf result FileError.DiskFault → Rose (D.tape disk.old).disk_faults (D.tape disk.new).disk_faults }
     ensures want { IsTrue D.told → IsErrOf result FileError.Memory → ⊥ }
@@ -57,7 +68,8 @@ fn climb_to_end<D: Disk>(
     })
 }
 
-/// The page that the leader, which is in `buf`, names as the last, if it is there; else the nearest to the end that is known.
+/// The page that the leader, which is in `buf`, names as the last, if it is there; else the nearest to the end that is known. `buf` holds
+/// it, if it isn't the leader.
 fn near_end<D: Disk>(
     disk: &mut D,
     cache: &mut HintCache,
@@ -66,6 +78,7 @@ fn near_end<D: Disk>(
     buf: &mut Sector,
 ) -> Result<Below, LookError>
     ensures sought { Sought D.told 49 (D.tape disk.old) (D.tape disk.new) cache.old cache.new }
+    ensures found { IfOk result (λ below. 1 ≤ below.number → Confirmed D.told (page_number fid below.number) (D.tape disk.old) cache.old cache.new buf.new below.found) }
     ensures known { IsTrue D.told → Known D.told (pack (D.tape disk.old)) (D.tape disk.old).form (page_number fid 0) leader → IfOk result (λ below. Known D.told (pack (D.tape disk.old)) (D.tape disk.old).form (page_number fid below.number) below.found) }
     ensures fault { IsErrOf result LookError.DiskFault → Rose (D.tape disk.old).disk_faults (D.tape disk.new).disk_faults }
     ensures want { IsTrue D.told → IsErrOf result LookError.Memory → ⊥ }
@@ -83,19 +96,19 @@ fn near_end<D: Disk>(
     }
 }
 
-/// Locates the last page of a file.
-pub(crate) fn last_page<D: Disk>(
+/// Locates the last page of a file, as `last_page` says.
+pub(crate) fn seek_last<D: Disk>(
     disk: &mut D,
     cache: &mut HintCache,
     file: &FileRef,
     buf: &mut Sector,
 ) -> Result<Below, FileError>
     ensures sought { Sought D.told 65586 (D.tape disk.old) (D.tape disk.new) cache.old cache.new }
-    ensures first { IfOk result (λ last. 1 ≤ last.number) }
-    ensures ends { IsTrue D.told → IfOk result (λ last. Ends D.told (pack (D.tape disk.old)) (D.tape disk.old).form file.now.fid last.number last.found) }
+    ensures ends { IfOk result (λ last. EndsAtPage last.number last.found.info.bytes) }
+    ensures found { IfOk result (λ last. Confirmed D.told (page_number file.now.fid last.number) (D.tape disk.old) cache.old cache.new buf.new last.found) }
     ensures fault { IsErrOf result FileError.DiskFault → Rose (D.tape disk.old).disk_faults (D.tape disk.new).disk_faults }
     ensures want { IsTrue D.told → IsErrOf result FileError.Memory → ⊥ }
-    ensures misled { IsTrue D.told → FileStands (pack (D.tape disk.old)) file.now → IfMisled result (MisledBy (pack (D.tape disk.old)) [] file.now.fid) }
+    ensures misled { IsTrue D.told → FileIsFrom (pack (D.tape disk.old)) file.now → IfMisled result (MisledBy (pack (D.tape disk.old)) [] file.now.fid) }
     ensures never_beyond { IfBeyond result (λ length. ⊥) }
     ensures quick { IsTrue D.told → Quick (pack (D.tape disk.old)) file.now.fid cache.old → LastNamed (pack (D.tape disk.old)) file.now.fid → OnOk result ((D.tape disk.new).runs ≤ (D.tape disk.old).runs + 2) }
 {
@@ -104,11 +117,53 @@ pub(crate) fn last_page<D: Disk>(
     climb_to_end(disk, cache, file.fid, below, buf)
 }
 
-/// The length of a file in bytes, by the label of its last page. That page is sought at the address that the leader names as the last
-/// page's, and else by the next links from the nearest page that is known. Nothing is written.
+/// Locates the last page of a file. It is sought at the address that the leader names as the last page's, and else by the next links from
+/// the nearest page that is known. `buf` holds the page then. The cache lists it from then on. Nothing is written.
 ///
 /// Misled: the named address, or a next link of the file, names no usable sector, or one that doesn't carry the page. DiskFault: the device
-/// failed. Memory: no memory was left, which no disk that is modelled answers here. Beyond never comes.
+/// failed. Memory: no memory was left, which no disk that is modelled answers here. Beyond never comes. After each of these what `buf` holds
+/// is open.
+pub fn last_page<D: Disk>(
+    disk: &mut D,
+    hints: &mut Hints,
+    file: &FileRef,
+    buf: &mut Sector,
+) -> Result<LastPage, FileError>
+    // What is answered: on every disk, where the machine is modelled, and of a whole pack.
+    ensures seen { IfOk result (λ last. Seen (D.tape disk.old).form (page_number file.now.fid last.number) last.at last.info buf.new) }
+    ensures ends { IfOk result (λ last. EndsAtPage last.number last.info.bytes) }
+    ensures stands { IsTrue D.told → IfOk result (λ last. Stands (pack (D.tape disk.old)) (page_number file.now.fid last.number) last.at buf.new) }
+    ensures last { IsTrue D.told → Whole (pack (D.tape disk.old)) → IfOk result (IsLast (pack (D.tape disk.old)) file.now.fid) }
+
+    // Which error comes when.
+    ensures misled { IsTrue D.told → FileIsFrom (pack (D.tape disk.old)) file.now → IfMisled result (MisledBy (pack (D.tape disk.old)) [] file.now.fid) }
+    ensures cause { HasCause cause_of_length (D.tape disk.old) (D.tape disk.new) result }
+    ensures want { IsTrue D.told → IsErrOf result FileError.Memory → ⊥ }
+
+    // Nothing is written. With any hints there are so many sector commands at most; and two with true links, handy hints, and a leader that
+    // names the last page.
+    ensures looks { Looks D.told 65586 (D.tape disk.old) (D.tape disk.new) }
+    ensures quick { IsTrue D.told → Quick (pack (D.tape disk.old)) file.now.fid hints.old.cache → LastNamed (pack (D.tape disk.old)) file.now.fid → OnOk result ((D.tape disk.new).runs ≤ (D.tape disk.old).runs + 2) }
+
+    // What becomes of the hints.
+    ensures table { hints.new.table ≡ hints.old.table }
+    ensures listed { IfOk result (λ last. Lists (D.tape disk.old).form (page_number file.now.fid last.number) last.at last.info hints.old.cache hints.new.cache) }
+    ensures refused { hints.old.cache.refused ≤ hints.new.cache.refused }
+    ensures handy { IsTrue D.told → KeepsHandy (pack (D.tape disk.old)) hints.old.cache hints.new.cache }
+{
+    match seek_last(disk, &mut hints.cache, file, buf) {
+        Ok(last) => Ok(LastPage {
+            number: last.number,
+            at: last.found.at,
+            info: last.found.info,
+        }),
+        Err(error) => Err(error),
+    }
+}
+
+/// The length of a file in bytes, by the label of its last page, which is located as by `last_page`. Nothing is written.
+///
+/// Misled, DiskFault and Memory come as from `last_page`, and Beyond never comes.
 pub fn length<D: Disk>(
     disk: &mut D,
     hints: &mut Hints,
@@ -116,7 +171,7 @@ pub fn length<D: Disk>(
     buf: &mut Sector,
 ) -> Result<u32, FileError>
     ensures length { IsTrue D.told → Whole (pack (D.tape disk.old)) → IfOk result (λ n. n ≡ file_length (pack (D.tape disk.old)) file.now.fid) }
-    ensures misled { IsTrue D.told → FileStands (pack (D.tape disk.old)) file.now → IfMisled result (MisledBy (pack (D.tape disk.old)) [] file.now.fid) }
+    ensures misled { IsTrue D.told → FileIsFrom (pack (D.tape disk.old)) file.now → IfMisled result (MisledBy (pack (D.tape disk.old)) [] file.now.fid) }
     ensures cause { HasCause cause_of_length (D.tape disk.old) (D.tape disk.new) result }
     ensures want { IsTrue D.told → IsErrOf result FileError.Memory → ⊥ }
     ensures looks { Looks D.told 65586 (D.tape disk.old) (D.tape disk.new) }
@@ -125,7 +180,7 @@ pub fn length<D: Disk>(
     ensures refused { hints.old.cache.refused ≤ hints.new.cache.refused }
     ensures handy { IsTrue D.told → KeepsHandy (pack (D.tape disk.old)) hints.old.cache hints.new.cache }
 {
-    match last_page(disk, &mut hints.cache, file, buf) {
+    match seek_last(disk, &mut hints.cache, file, buf) {
         Ok(last) => Ok(length_at(last.number, last.found.info.bytes)),
         Err(error) => Err(error),
     }

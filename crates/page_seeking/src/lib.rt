@@ -9,13 +9,15 @@
 //!
 //! And where the machine is modelled, with any words in hints:
 //! 3. Nothing is written, and `locate` takes no more sector commands than the page's number and 53 (`looks`); one, where the cache has the
-//!    page (`soon`).
+//!    page (`soon`), whatever notes were refused before.
 //! 4. No call that takes no allocator answers Memory (`want`).
+//! 5. A sector that is answered carries the page (`stands`), and Beyond comes only after a page that isn't full (`ends`).
+//! 6. Misled comes only where a hint of the file misleads (`misled`), if the file's address stands where it was taken from (`FileIsFrom`):
+//!    so on packs that are being opened too.
 //!
-//! And where besides the pack is whole and tidy, and the file's address stands where it was taken from (`FileStands`):
-//! 5. A page that is answered is the file's (`stands`), and so are the bytes (`read`) and the length (`length`).
-//! 6. Misled comes only where a hint of the file misleads (`misled`), and Beyond by the file's length (`beyond`).
-//! 7. With true links, hints that are handy stay handy (`handy`).
+//! And where besides the pack is whole:
+//! 7. The bytes (`read`), the length (`length`) and the last page (`last`) are the file's, and Beyond comes by its length (`beyond`).
+//! 8. With true links, hints that are handy stay handy (`handy`).
 //!
 //! Not promised: that hints are true. True ones never mislead; that is a law of laws_lookup.
 #![tactic(auto)]
@@ -30,7 +32,7 @@ mod read;
 mod refs;
 mod seek;
 
-pub use ends::length;
+pub use ends::{LastPage, last_page, length};
 pub use pages::locate;
 pub use read::{read_all, read_part};
 pub use refs::{FileError, FileRef};

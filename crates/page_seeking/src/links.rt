@@ -85,7 +85,8 @@ pub(crate) fn climb<D: Disk>(
     ensures fault { IsErrOf result FileError.DiskFault → Rose (D.tape disk.old).disk_faults (D.tape disk.new).disk_faults }
     ensures want { IsTrue D.told → IsErrOf result FileError.Memory → ⊥ }
     ensures misled { IsTrue D.told → Known D.told (pack (D.tape disk.old)) (D.tape disk.old).form (page_number fid below.number) below.found → IfMisled result (MisledBy (pack (D.tape disk.old)) [] fid) }
-    ensures beyond { IsTrue D.told → Known D.told (pack (D.tape disk.old)) (D.tape disk.old).form (page_number fid below.number) below.found → IfBeyond result (IsEnd (pack (D.tape disk.old)) fid number) }
+    ensures ends { IsTrue D.told → Known D.told (pack (D.tape disk.old)) (D.tape disk.old).form (page_number fid below.number) below.found → IfBeyond result (IsEnd (pack (D.tape disk.old)) fid number) }
+    ensures never_beyond { number ≤ 1 → IfBeyond result (λ length. ⊥) }
 {
     let mut here = below.found;
     for lower in below.number..number {

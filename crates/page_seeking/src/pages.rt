@@ -6,7 +6,7 @@ ghost use Rattle.disk_records.specs.Tapes.{Looks, Rose, pack};
 ghost use Rattle.hint_cache.specs.Caches.{address_in};
 ghost use Rattle.pack_model.specs.states.Whole.{Whole};
 ghost use Rattle.page_seeking.specs.Causes.{cause_of_file};
-ghost use Rattle.page_seeking.specs.Refs.{FileStands, IfMisled, IfBeyond, MisledBy};
+ghost use Rattle.page_seeking.specs.Refs.{FileIsFrom, IfMisled, IfBeyond, MisledBy};
 ghost use Rattle.page_seeking.specs.Seeking.{Seen, Stands, Lists, KeepsHandy, Quick, IsEnd, IsLengthBelow, page_number};
 ghost use Rattle.page_seeking.specs.Inside.{Sought, Confirmed, Known, Eases};
 
@@ -18,8 +18,8 @@ use disk_records::{Disk, Page, Sector};
 use hint_cache::{HintCache, Hints};
 use label_check::{LookError, PageInfo};
 
-/// The nearest page below one that the cache knows and that is there; the leader, if there is no other. An entry that is wrong is taken
-/// out. At most 48 sector commands, and one if the cache is handy.
+/// The nearest page below one that the cache knows and that is there; the leader, if there is no other. `buf` holds it, if it isn't the
+/// leader. An entry that is wrong is taken out. At most 48 sector commands, and one if the cache is handy.
 pub(crate) fn nearest_below<D: Disk>(
     disk: &mut D,
     cache: &mut HintCache,
@@ -30,6 +30,7 @@ pub(crate) fn nearest_below<D: Disk>(
     requires above { 1 ≤ page.number }
     ensures sought { Sought D.told 48 (D.tape disk.old) (D.tape disk.new) cache.old cache.new }
     ensures lower { IfOk result (λ below. below.number < page.number) }
+    ensures found { IfOk result (λ below. 1 ≤ below.number → Confirmed D.told (page_number page.fid below.number) (D.tape disk.old) cache.old cache.new buf.new below.found) }
     ensures known { IsTrue D.told → Known D.told (pack (D.tape disk.old)) (D.tape disk.old).form (page_number page.fid 0) leader → IfOk result (λ below. Known D.told (pack (D.tape disk.old)) (D.tape disk.old).form (page_number page.fid below.number) below.found) }
     ensures fault { IsErrOf result LookError.DiskFault → Rose (D.tape disk.old).disk_faults (D.tape disk.new).disk_faults }
     ensures want { IsTrue D.told → IsErrOf result LookError.Memory → ⊥ }
@@ -70,8 +71,9 @@ fn seek_from_leader<D: Disk>(
     ensures found { IfOk result (Confirmed D.told (page_number file.now.fid number) (D.tape disk.old) cache.old cache.new buf.new) }
     ensures fault { IsErrOf result FileError.DiskFault → Rose (D.tape disk.old).disk_faults (D.tape disk.new).disk_faults }
     ensures want { IsTrue D.told → IsErrOf result FileError.Memory → ⊥ }
-    ensures misled { IsTrue D.told → FileStands (pack (D.tape disk.old)) file.now → IfMisled result (MisledBy (pack (D.tape disk.old)) [] file.now.fid) }
-    ensures beyond { IsTrue D.told → IfBeyond result (IsEnd (pack (D.tape disk.old)) file.now.fid number) }
+    ensures misled { IsTrue D.told → FileIsFrom (pack (D.tape disk.old)) file.now → IfMisled result (MisledBy (pack (D.tape disk.old)) [] file.now.fid) }
+    ensures ends { IsTrue D.told → IfBeyond result (IsEnd (pack (D.tape disk.old)) file.now.fid number) }
+    ensures never_beyond { number ≤ 1 → IfBeyond result (λ length. ⊥) }
     ensures quick { (at : ℕ) → IsTrue D.told → Eases (pack (D.tape disk.old)) file.now.fid number at cache.old → OnOk result ((D.tape disk.new).runs ≤ (D.tape disk.old).runs + (number + 1)) }
 {
     let page = Page {
@@ -100,8 +102,9 @@ pub(crate) fn seek_page<D: Disk>(
     ensures found { IfOk result (Confirmed D.told (page_number file.now.fid number) (D.tape disk.old) cache.old cache.new buf.new) }
     ensures fault { IsErrOf result FileError.DiskFault → Rose (D.tape disk.old).disk_faults (D.tape disk.new).disk_faults }
     ensures want { IsTrue D.told → IsErrOf result FileError.Memory → ⊥ }
-    ensures misled { IsTrue D.told → FileStands (pack (D.tape disk.old)) file.now → IfMisled result (MisledBy (pack (D.tape disk.old)) [] file.now.fid) }
-    ensures beyond { IsTrue D.told → Whole (pack (D.tape disk.old)) → IfBeyond result (IsLengthBelow (pack (D.tape disk.old)) file.now.fid number) }
+    ensures misled { IsTrue D.told → FileIsFrom (pack (D.tape disk.old)) file.now → IfMisled result (MisledBy (pack (D.tape disk.old)) [] file.now.fid) }
+    ensures ends { IsTrue D.told → IfBeyond result (IsEnd (pack (D.tape disk.old)) file.now.fid number) }
+    ensures never_beyond { number ≤ 1 → IfBeyond result (λ length. ⊥) }
     ensures soon { (at : ℕ) → IsTrue D.told → address_in cache.old.entries (page_number file.now.fid number) ≡ Some at → carried (pack (D.tape disk.old)) at ≡ Some (page_number file.now.fid number) → (D.tape disk.new).runs ≤ (D.tape disk.old).runs + 1 }
     ensures quick { (at : ℕ) → IsTrue D.told → Eases (pack (D.tape disk.old)) file.now.fid number at cache.old → OnOk result ((D.tape disk.new).runs ≤ (D.tape disk.old).runs + (number + 1)) }
 {
@@ -125,7 +128,7 @@ pub(crate) fn seek_page<D: Disk>(
 /// is written.
 ///
 /// Misled: the named address, or a next link of the file, names no usable sector, or one that doesn't carry the page. Beyond: the file has
-/// no page with this number. DiskFault: the device failed. Memory: no memory was left, which no disk that is modelled answers here. After
+/// no page with this number, since a page before it isn't full; it never comes of pages 0 and 1. DiskFault: the device failed. Memory: no memory was left, which no disk that is modelled answers here. After
 /// each of these what `buf` holds is open.
 pub fn locate<D: Disk>(
     disk: &mut D,
@@ -139,8 +142,10 @@ pub fn locate<D: Disk>(
     ensures stands { IsTrue D.told → IfOk result (λ found. Stands (pack (D.tape disk.old)) (page_number file.now.fid number) found.0 buf.new) }
 
     // Which error comes when.
-    ensures misled { IsTrue D.told → FileStands (pack (D.tape disk.old)) file.now → IfMisled result (MisledBy (pack (D.tape disk.old)) [] file.now.fid) }
+    ensures misled { IsTrue D.told → FileIsFrom (pack (D.tape disk.old)) file.now → IfMisled result (MisledBy (pack (D.tape disk.old)) [] file.now.fid) }
     ensures beyond { IsTrue D.told → Whole (pack (D.tape disk.old)) → IfBeyond result (IsLengthBelow (pack (D.tape disk.old)) file.now.fid number) }
+    ensures ends { IsTrue D.told → IfBeyond result (IsEnd (pack (D.tape disk.old)) file.now.fid number) }
+    ensures never_beyond { number ≤ 1 → IfBeyond result (λ length. ⊥) }
     ensures cause { HasCause cause_of_file (D.tape disk.old) (D.tape disk.new) result }
     ensures want { IsTrue D.told → IsErrOf result FileError.Memory → ⊥ }
 

@@ -11,11 +11,11 @@ ghost use Rattle.pack_model.specs.reading.Sights.{sights};
 ghost use Rattle.pack_model.specs.states.Whole.{Whole};
 ghost use Rattle.page_seeking.specs.Causes.{cause_of_file};
 ghost use Rattle.page_seeking.specs.Parts.{IsPart, IsPast, IsReadTo, IsWithinPart};
-ghost use Rattle.page_seeking.specs.Refs.{FileStands, IfMisled, IfBeyond, MisledBy};
+ghost use Rattle.page_seeking.specs.Refs.{FileIsFrom, IfMisled, IfBeyond, MisledBy};
 ghost use Rattle.page_seeking.specs.Seeking.{KeepsHandy, Quick, file_length, page_number};
 ghost use Rattle.page_seeking.specs.Inside.{Known, Sought};
 
-use crate::ends::{last_page, length};
+use crate::ends::{length, seek_last};
 use crate::links::{Below, follow, length_at};
 use crate::pages::seek_page;
 use crate::{FileError, FileRef};
@@ -107,7 +107,7 @@ fn read_pages<D: Disk>(
     ensures sought { Sought D.told 65588 (D.tape disk.old) (D.tape disk.new) cache.old cache.new }
     ensures fault { IsErrOf result FileError.DiskFault → Rose (D.tape disk.old).disk_faults (D.tape disk.new).disk_faults }
     ensures want { IsTrue D.told → IsErrOf result FileError.Memory → ⊥ }
-    ensures misled { IsTrue D.told → FileStands (pack (D.tape disk.old)) file.now → IfMisled result (MisledBy (pack (D.tape disk.old)) [] file.now.fid) }
+    ensures misled { IsTrue D.told → FileIsFrom (pack (D.tape disk.old)) file.now → IfMisled result (MisledBy (pack (D.tape disk.old)) [] file.now.fid) }
     ensures beyond { IsTrue D.told → Whole (pack (D.tape disk.old)) → IfBeyond result (IsPast (pack (D.tape disk.old)) file.now.fid offset) }
     ensures fits { IfOk result (λ n. n ≤ length out.old) }
     ensures read { IsTrue D.told → Whole (pack (D.tape disk.old)) → IfOk result (IsWithinPart (file_bytes (sights (pack (D.tape disk.old))) file.now.fid) offset out.old out.new) }
@@ -115,7 +115,7 @@ fn read_pages<D: Disk>(
     ensures quick { IsTrue D.told → Quick (pack (D.tape disk.old)) file.now.fid cache.old → IfOk result (λ n. (D.tape disk.new).runs ≤ (D.tape disk.old).runs + page_of_byte (offset + n) + 1) }
 {
     let Some(number) = page_number_of(offset) else {
-        return match last_page(disk, cache, file, buf) {
+        return match seek_last(disk, cache, file, buf) {
             Ok(last) => Err(FileError::Beyond {
                 length: length_at(last.number, last.found.info.bytes),
             }),
@@ -161,7 +161,7 @@ pub fn read_part<D: Disk>(
 
     // Which error comes when.
     ensures beyond { IsTrue D.told → Whole (pack (D.tape disk.old)) → IfBeyond result (IsPast (pack (D.tape disk.old)) file.now.fid offset) }
-    ensures misled { IsTrue D.told → FileStands (pack (D.tape disk.old)) file.now → IfMisled result (MisledBy (pack (D.tape disk.old)) [] file.now.fid) }
+    ensures misled { IsTrue D.told → FileIsFrom (pack (D.tape disk.old)) file.now → IfMisled result (MisledBy (pack (D.tape disk.old)) [] file.now.fid) }
     ensures cause { HasCause cause_of_file (D.tape disk.old) (D.tape disk.new) result }
     ensures want { IsTrue D.told → IsErrOf result FileError.Memory → ⊥ }
 
@@ -193,7 +193,7 @@ pub fn read_all<D: Disk>(
 ) -> Result<Vec<u8>, FileError>
     ensures read { IsTrue D.told → Whole (pack (D.tape disk.old)) → IfOk result (λ bytes. bytes.items ≡ file_bytes (sights (pack (D.tape disk.old))) file.now.fid) }
     ensures beyond { IsTrue D.told → Whole (pack (D.tape disk.old)) → IfBeyond result (λ n. ⊥) }
-    ensures misled { IsTrue D.told → FileStands (pack (D.tape disk.old)) file.now → IfMisled result (MisledBy (pack (D.tape disk.old)) [] file.now.fid) }
+    ensures misled { IsTrue D.told → FileIsFrom (pack (D.tape disk.old)) file.now → IfMisled result (MisledBy (pack (D.tape disk.old)) [] file.now.fid) }
     ensures cause { HasCause cause_of_file (D.tape disk.old) (D.tape disk.new) result }
     ensures looks { Looks D.told 131174 (D.tape disk.old) (D.tape disk.new) }
     ensures table { hints.new.table ≡ hints.old.table }

@@ -1,31 +1,18 @@
-use Rattle.std.proofs.Common.{arith, subst, sym}
-use Rattle.disk_records.specs.Packs.{Pack}
-use Rattle.disk_records.specs.Tapes.{pack}
-use Rattle.disk_records.proofs.Looking.{looks_pack}
-use Rattle.page_seeking.specs.Seeking.{file_length}
-use Rattle.page_seeking.specs.Inside.{NamesEnd}
-use Rattle.pack_model.specs.operations.Committing.{page_of_byte}
-use Rattle.page_seeking.proofs.Easing.{eases_of}
-use Rattle.page_seeking.proofs.Lasting.{last_counts, names_end}
-use Rattle.page_seeking.proofs.Erring.{on_ok}
-use Rattle.page_seeking.proofs.Seeking.{known_before, known_later, known_of, sought_more, sought_twice}
+use Rattle.page_seeking.specs.declared.links.Below.{Below}
+use Rattle.page_seeking.proofs.Easing.{keeps_handy}
+use Rattle.page_seeking.proofs.Erring.{caused_length}
+use Rattle.page_seeking.proofs.Lasting.{is_last}
+use Rattle.page_seeking.proofs.Seeking.{ends_of}
 use Rattle.page_seeking.proofs.ends.last_page.Goals as goal
 
-pub returns-in_err-below-clause-sought : goal.returns-in_err-below-clause-sought
-returns-in_err-below-clause-sought g c = sought_more (omega arith) (sought_twice c.locate_leader.ensures.sought c.near_end.ensures.sought)
+pub returns-in-Ok-clause-last : goal.returns-in-Ok-clause-last
+returns-in-Ok-clause-last g c told whole = is_last whole told (ends_of c.in-Ok.ensures.ends c.in-Ok.ensures.found)
 
-pub returns-clause-sought : goal.returns-clause-sought
-returns-clause-sought g c = sought_more (omega arith) (sought_twice (sought_twice c.locate_leader.ensures.sought c.near_end.ensures.sought) c.climb_to_end.ensures.sought)
+pub returns-in-Err-clause-cause : goal.returns-in-Err-clause-cause
+returns-in-Err-clause-cause g c = caused_length Below (g.D.Tape.tape c.args.disk.now) (g.D.Tape.tape c.seek_last.new.disk) c.in-Err.error c.in-Err.ensures.fault c.in-Err.ensures.never_beyond
 
-pub returns-clause-quick : goal.returns-clause-quick
-returns-clause-quick g c told quick named =
-    let old = pack (g.D.Tape.tape c.args.disk.now) in
-    let f = c.args.file.now.fid in
-    let confirmed = c.in_ok-leader.ensures.found in
-    let leader = c.locate_leader.ensures.quick c.in_ok-leader.leader.at told (eases_of quick (confirmed.stands told).carries) in
-    let looks = c.locate_leader.ensures.sought.looks in
-    let ends = names_end quick.whole (confirmed.stands told) named in
-    let near = c.in_ok-below.ensures.quick (page_of_byte (file_length old f)) told (subst (λ (p : Pack). NamesEnd p f c.locate_leader.new.buf (page_of_byte (file_length old f))) (sym (looks_pack looks told)) ends) in
-    let known = c.in_ok-below.ensures.known told (known_later looks (known_of confirmed)) in
-    let short = last_counts quick.whole named (known_before looks known) told near.0 in
-    on_ok c.climb_to_end.result (omega (arith, leader, near.1, c.climb_to_end.ensures.quick told (omega (arith, near.0)) short))
+pub returns-in-Ok-clause-handy : goal.returns-in-Ok-clause-handy
+returns-in-Ok-clause-handy g c told = keeps_handy c.seek_last.ensures.sought told
+
+pub returns-in-Err-clause-handy : goal.returns-in-Err-clause-handy
+returns-in-Err-clause-handy g c told = keeps_handy c.seek_last.ensures.sought told

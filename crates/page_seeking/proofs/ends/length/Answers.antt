@@ -3,16 +3,17 @@ use Rattle.page_seeking.specs.declared.links.Below.{Below}
 use Rattle.page_seeking.proofs.Easing.{keeps_handy}
 use Rattle.page_seeking.proofs.Erring.{caused_length}
 use Rattle.page_seeking.proofs.Lasting.{ends_at}
+use Rattle.page_seeking.proofs.Seeking.{ends_of}
 use Rattle.page_seeking.proofs.ends.length.Goals as goal
 
 pub returns-in-Ok-clause-length : goal.returns-in-Ok-clause-length
-returns-in-Ok-clause-length g c told whole = c.length_at.ensures ∙ ends_at whole told (c.in-Ok.ensures.ends told)
+returns-in-Ok-clause-length g c told whole = c.length_at.ensures ∙ ends_at whole told (ends_of c.in-Ok.ensures.ends c.in-Ok.ensures.found)
 
 pub returns-in-Err-clause-cause : goal.returns-in-Err-clause-cause
-returns-in-Err-clause-cause g c = caused_length Below (g.D.Tape.tape c.args.disk.now) (g.D.Tape.tape c.last_page.new.disk) c.in-Err.error c.in-Err.ensures.fault c.in-Err.ensures.never_beyond
+returns-in-Err-clause-cause g c = caused_length Below (g.D.Tape.tape c.args.disk.now) (g.D.Tape.tape c.seek_last.new.disk) c.in-Err.error c.in-Err.ensures.fault c.in-Err.ensures.never_beyond
 
 pub returns-in-Ok-clause-handy : goal.returns-in-Ok-clause-handy
-returns-in-Ok-clause-handy g c told = keeps_handy c.last_page.ensures.sought told
+returns-in-Ok-clause-handy g c told = keeps_handy c.seek_last.ensures.sought told
 
 pub returns-in-Err-clause-handy : goal.returns-in-Err-clause-handy
-returns-in-Err-clause-handy g c told = keeps_handy c.last_page.ensures.sought told
+returns-in-Err-clause-handy g c told = keeps_handy c.seek_last.ensures.sought told

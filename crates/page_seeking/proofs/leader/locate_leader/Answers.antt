@@ -2,7 +2,7 @@ use Rattle.std.proofs.Common.{arith, sym, subst}
 use Rattle.disk_records.specs.Packs.{Pack}
 use Rattle.disk_records.specs.Tapes.{pack}
 use Rattle.disk_records.proofs.Looking.{looks_pack}
-use Rattle.page_seeking.specs.Refs.{FileStands}
+use Rattle.page_seeking.specs.Refs.{FileIsFrom}
 use Rattle.page_seeking.proofs.Easing.{passed_free}
 use Rattle.page_seeking.proofs.Erring.{if_ok_map, if_misled_map}
 use Rattle.page_seeking.proofs.Seeking.{confirmed_before, misled_before, sought_twice}
@@ -17,7 +17,7 @@ returns-in-None-clause-found g c = let first = c.try_cached.ensures.sought in if
 pub returns-in-None-clause-misled : goal.returns-in-None-clause-misled
 returns-in-None-clause-misled g c told stands =
     let looks = c.try_cached.ensures.sought.looks in
-    if_misled_map c.look_at_leader.result (c.look_at_leader.ensures.misled told (subst (λ (p : Pack). FileStands p c.args.file.now) (sym (looks_pack looks told)) stands)) (λ place at wanted found x. misled_before looks told x)
+    if_misled_map c.look_at_leader.result (c.look_at_leader.ensures.misled told (subst (λ (p : Pack). FileIsFrom p c.args.file.now) (sym (looks_pack looks told)) stands)) (λ place at wanted found x. misled_before looks told x)
 
 pub returns-in-None-clause-quick : goal.returns-in-None-clause-quick
 returns-in-None-clause-quick g c at told eases =

@@ -21,4 +21,4 @@ returns-in-Err-clause-misled g c told stands =
     let old = g.D.Tape.tape c.args.disk.now in
     let file = c.args.file.now in
     at_wrong Found PageInfo (MisledBy (pack old) [] file.fid) (FoundWrong (Carries file.leader_at (leader_page file.fid)) file.leader_at old (g.D.Tape.tape c.look_at.new.disk)) c.in-Err.error c.error_at.ensures (c.in-Err.ensures.wrong told)
-    (λ found wrong. leader_misled (pack old) file.fid file.leader_at file.from found stands.from wrong.failed wrong.label)
+    (λ found wrong. leader_misled (pack old) file.fid file.leader_at file.from found stands wrong.failed wrong.label)

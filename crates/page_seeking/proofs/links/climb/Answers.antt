@@ -13,10 +13,13 @@ loop-lower-init g c = record { sought = sought_more (omega arith) (sought_here (
 pub returns-then-not-goes_on-clause-sought : goal.returns-then-not-goes_on-clause-sought
 returns-then-not-goes_on-clause-sought g c = sought_more (omega arith) c.loop-lower.invariant.sought
 
-pub returns-then-not-goes_on-clause-beyond : goal.returns-then-not-goes_on-clause-beyond
-returns-then-not-goes_on-clause-beyond g c = λ told known.
+pub returns-then-not-goes_on-clause-ends : goal.returns-then-not-goes_on-clause-ends
+returns-then-not-goes_on-clause-ends g c = λ told known.
     let short = c.goes_on.ensures.short c.if-not-goes_on.true in
     end_of (c.loop-lower.invariant.known known) told short.0 (omega arith) short.1 c.length_at.ensures
+
+pub returns-then-not-goes_on-clause-never_beyond : goal.returns-then-not-goes_on-clause-never_beyond
+returns-then-not-goes_on-clause-never_beyond g c few = let first = (c.goes_on.ensures.short c.if-not-goes_on.true).0 in absurd (omega (arith, few, first))
 
 pub returns-in-Err-clause-sought : goal.returns-in-Err-clause-sought
 returns-in-Err-clause-sought g c = sought_more (omega arith) (sought_twice c.loop-lower.invariant.sought c.follow.ensures.sought)

@@ -1,11 +1,14 @@
-use Rattle.std.proofs.Common.{ap, length, arith, ◌∙◌}
+use Rattle.std.proofs.Common.{◌≡◌, ap, length, arith, subst, ◌∙◌}
+use Rattle.disk_records.specs.declared.records.Page.{Page}
 use Rattle.disk_records.specs.Packs.{Pack, carried}
 use Rattle.disk_records.specs.Tapes.{pack}
 use Rattle.hint_cache.specs.Caches.{address_in}
 use Rattle.disk_records.proofs.Looking.{looks_pack}
 use Rattle.page_seeking.proofs.Easing.{listed_right}
 use Rattle.page_seeking.proofs.Recalling.{fewer_without, sought_forgotten}
-use Rattle.page_seeking.proofs.Seeking.{sought_here, sought_more, sought_twice, sought_within}
+use Rattle.page_seeking.specs.Seeking.{page_number}
+use Rattle.page_seeking.specs.Inside.{Confirmed}
+use Rattle.page_seeking.proofs.Seeking.{confirmed_before, sought_here, sought_more, sought_twice, sought_within}
 use Rattle.page_seeking.proofs.pages.nearest_below.Goals as goal
 
 pub loop-entry-init : goal.loop-entry-init
@@ -26,6 +29,15 @@ returns-in-Some-2-clause-sought g c =
     let entry = c.in-Some.entry in
     let one = fewer_without entry.page entry.at c.loop-entry.cache.entries c.in-Some.ensures.some.listed in
     sought_within (sought_twice inv.sought c.try_at.ensures.sought) (λ told. omega (arith, one, inv.spent told, c.try_at.ensures.sought.looks.runs told))
+
+pub returns-in-Some-2-clause-found : goal.returns-in-Some-2-clause-found
+returns-in-Some-2-clause-found g c first =
+    let sought = c.loop-entry.invariant.sought in
+    let entry = c.in-Some.entry in
+    let own = c.in-Some.ensures.some.file in
+    let page : entry.page ≡ page_number c.args.page.fid entry.page.number = λ i. record { fid = own i; number = entry.page.number } in
+    let found = rw c.in-Some-2.is at c.in_ok-found.ensures.found in
+    confirmed_before sought.looks sought.refused (subst (λ (x : Page). Confirmed g.D.Tape.told x (g.D.Tape.tape c.loop-entry.disk) c.loop-entry.cache c.try_at.new.cache c.try_at.new.buf c.in-Some-2.found) page found)
 
 pub returns-in-Some-2-clause-quick : goal.returns-in-Some-2-clause-quick
 returns-in-Some-2-clause-quick g c at told eases =

@@ -35,14 +35,14 @@ returns-in_ok-below-in-None-clause-misled g c = λ told stands.
     let known = known_later below.sought.looks (below.known told (known_later (sought_twice leader.sought hints.sought).looks (known_of leader.found))) in
     if_misled_map c.climb.result (c.climb.ensures.misled told known) (λ place at wanted found x. misled_before first.looks told x)
 
-pub returns-in_ok-below-in-None-clause-beyond : goal.returns-in_ok-below-in-None-clause-beyond
-returns-in_ok-below-in-None-clause-beyond g c = λ told.
+pub returns-in_ok-below-in-None-clause-ends : goal.returns-in_ok-below-in-None-clause-ends
+returns-in_ok-below-in-None-clause-ends g c = λ told.
     let leader = c.in_ok-leader.ensures in
     let hints = c.try_leader_hints.ensures in
     let below = c.in_ok-below-in-None.ensures in
     let first = sought_twice (sought_twice leader.sought hints.sought) below.sought in
     let known = known_later below.sought.looks (below.known told (known_later (sought_twice leader.sought hints.sought).looks (known_of leader.found))) in
-    if_beyond_map c.climb.result (c.climb.ensures.beyond told known) (λ n x. end_before first.looks told x)
+    if_beyond_map c.climb.result (c.climb.ensures.ends told known) (λ n x. end_before first.looks told x)
 
 pub returns-in-Some-clause-found : goal.returns-in-Some-clause-found
 returns-in-Some-clause-found g c =

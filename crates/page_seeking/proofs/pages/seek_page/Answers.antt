@@ -1,8 +1,7 @@
 use Rattle.std.proofs.Common.{arith, sym, subst}
 use Rattle.disk_records.specs.Packs.{Pack}
-use Rattle.page_seeking.specs.Refs.{FileStands}
+use Rattle.page_seeking.specs.Refs.{FileIsFrom}
 use Rattle.disk_records.specs.Tapes.{pack}
-use Rattle.page_seeking.proofs.Ending.{end_is_length}
 use Rattle.page_seeking.proofs.Erring.{if_ok_map, if_misled_map, if_beyond_map, on_ok, on_ok_map}
 use Rattle.disk_records.proofs.Looking.{looks_pack}
 use Rattle.page_seeking.proofs.Easing.{eases_later, passed_free}
@@ -19,12 +18,12 @@ returns-in-None-clause-found g c = let first = c.try_cached.ensures.sought in if
 pub returns-in-None-clause-misled : goal.returns-in-None-clause-misled
 returns-in-None-clause-misled g c = λ told stands.
     let looks = c.try_cached.ensures.sought.looks in
-    if_misled_map c.seek_from_leader.result (c.seek_from_leader.ensures.misled told (subst (λ (p : Pack). FileStands p c.args.file.now) (sym (looks_pack looks told)) stands)) (λ place at wanted found x. misled_before looks told x)
+    if_misled_map c.seek_from_leader.result (c.seek_from_leader.ensures.misled told (subst (λ (p : Pack). FileIsFrom p c.args.file.now) (sym (looks_pack looks told)) stands)) (λ place at wanted found x. misled_before looks told x)
 
-pub returns-in-None-clause-beyond : goal.returns-in-None-clause-beyond
-returns-in-None-clause-beyond g c = λ told whole.
+pub returns-in-None-clause-ends : goal.returns-in-None-clause-ends
+returns-in-None-clause-ends g c = λ told.
     let looks = c.try_cached.ensures.sought.looks in
-    if_beyond_map c.seek_from_leader.result (c.seek_from_leader.ensures.beyond told) (λ n x. end_is_length (pack (g.D.Tape.tape c.args.disk.now)) c.args.file.now.fid c.args.number n whole (end_before looks told x))
+    if_beyond_map c.seek_from_leader.result (c.seek_from_leader.ensures.ends told) (λ n x. end_before looks told x)
 
 pub returns-in-None-clause-quick : goal.returns-in-None-clause-quick
 returns-in-None-clause-quick g c at told eases =

@@ -1,4 +1,4 @@
-use Rattle.std.proofs.Common.{◌≡◌, ◌≢◌, ◌+◌, ◌%◌, inl, refl, take, drop, subst, sym, ap, ◌∙◌, arith, IfOk}
+use Rattle.std.proofs.Common.{◌≡◌, ◌≢◌, ℕ, Err, ◌+◌, ◌%◌, inl, refl, take, drop, subst, sym, ap, ◌∙◌, arith, IfOk}
 use Rattle.disk_records.specs.Packs.{Pack}
 use Rattle.disk_records.specs.Tapes.{pack}
 use Rattle.disk_records.proofs.Looking.{looks_pack}
@@ -7,15 +7,16 @@ use Rattle.pack_model.specs.reading.Sights.{sights}
 use Rattle.pack_model.specs.states.Whole.{Whole}
 use Rattle.page_seeking.specs.Parts.{IsReadTo, IsWithinPart}
 use Rattle.page_seeking.proofs.Easing.{eases_of}
-use Rattle.page_seeking.proofs.Erring.{if_ok_map}
+use Rattle.page_seeking.proofs.Erring.{if_beyond_map, if_ok_map}
+use Rattle.page_seeking.proofs.Ending.{end_is_length}
 use Rattle.page_seeking.proofs.Lasting.{ends_at, most_length}
 use Rattle.page_seeking.proofs.Parting.{few_bytes, page_bytes, read_more}
-use Rattle.page_seeking.proofs.Seeking.{known_later, known_of, sought_more, sought_twice}
+use Rattle.page_seeking.proofs.Seeking.{ends_of, known_later, known_of, sought_more, sought_twice}
 use Rattle.page_seeking.proofs.read.read_pages.Goals as goal
 
 pub returns-in-Ok-clause-beyond : goal.returns-in-Ok-clause-beyond
 returns-in-Ok-clause-beyond g c told whole =
-    let ends = c.in-Ok.ensures.ends told in
+    let ends = ends_of c.in-Ok.ensures.ends c.in-Ok.ensures.found in
     let size = c.length_at.ensures ∙ ends_at whole told ends in
     let most = most_length whole told ends in
     let none = c.in_default.ensures.none in
@@ -31,6 +32,14 @@ returns-then-from-found-clause-beyond g c told whole =
       is = length ∙ ends_at whole told (record { first = omega (arith, some); known = known_of c.in-Ok-seek_page.ensures.found; ends = inl short });
       past = omega (arith, length, some, over);
     }
+
+pub returns-in-Err-seek_page-clause-beyond : goal.returns-in-Err-seek_page-clause-beyond
+returns-in-Err-seek_page-clause-beyond g c told whole =
+    let some = c.in-Some.ensures.some.0 in
+    if_beyond_map {T = ℕ} (Err c.in-Err-seek_page.error) (c.in-Err-seek_page.ensures.ends told) (λ n x.
+    let end = end_is_length (pack (g.D.Tape.tape c.args.disk.now)) c.args.file.now.fid c.in-Some.number n whole x in
+    let below = end.below in
+    record { is = end.is; past = omega (arith, below, some) })
 
 pub put_part-front-requires-clause-page : goal.put_part-front-requires-clause-page
 put_part-front-requires-clause-page g c = let few = few_bytes c.in-Ok-seek_page.ensures.found.seen in omega (arith, c.from.ensures, few)
