@@ -18,12 +18,13 @@ use Rattle.laws_record.proofs.Copying.{place_carried}
 use Rattle.pack_laws.proofs.Keys.{is_fid-itself}
 use Rattle.pack_laws.proofs.Placing.{page_of_place}
 use Rattle.pack_model.specs.hints.Handy.{HandyCache, IsRightOrIdle, NamesLastPage, last_at_word, last_number_word, leader_word, row_word}
+use Rattle.pack_model.specs.hints.Links.{LinksTrue}
 use Rattle.pack_model.specs.reading.Files.{carries_page, place}
 use Rattle.pack_model.specs.reading.Sights.{Sight, sights}
 use Rattle.pack_model.specs.reading.Sights.Sight.{hidden, holds}
 use Rattle.pack_model.specs.states.Whole.{FileWhole, Whole, absent, present}
 use Rattle.page_seeking.specs.declared.seek.Found.{Found}
-use Rattle.page_seeking.specs.Seeking.{KeepsHandy, Quick, Stands, as_listed, page_number}
+use Rattle.page_seeking.specs.Seeking.{KeepsHandy, Quick, Stands, all_listed, as_listed, page_number}
 use Rattle.page_seeking.specs.Inside.{Eases, HandyEntries, IfMissed, IsHandyEntry, IsNoneOr, LeadsTo, Sought}
 use Rattle.page_seeking.proofs.Handing.{placed_within}
 use Rattle.page_seeking.proofs.Recalling.{of_listed}
@@ -127,6 +128,11 @@ keeps_handy {a = a} {c = c} {d} x told whole links f h = All-map (IsRightPair (s
   where
     IsRightPair : List Sight → Fid → Page × ℕ → Type 0
     IsRightPair ss f e = e.0.fid ≡ f → IsRightOrIdle ss f e.0.number e.1
+
+pub keeps_handy_twice : (p q : Pack) (c d e : Cached) → q ≡ p → KeepsHandy p c d → KeepsHandy q d e → KeepsHandy p c e
+keeps_handy_twice p q c d e same one two whole links f handy =
+    let mid = subst (λ (x : Pack). HandyCache (sights x) f (all_listed d)) (sym same) (one whole links f handy) in
+    subst (λ (x : Pack). HandyCache (sights x) f (all_listed e)) same (two (subst Whole (sym same) whole) (subst LinksTrue (sym same) links) f mid)
 
 -- the hints of a page that is carried are handy
 pub eases_of : {p : Pack} {f : Fid} {n at : ℕ} {c : Cached} → Quick p f c → carried p at ≡ Some (page_number f n) → Eases p f n at c

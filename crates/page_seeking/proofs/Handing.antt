@@ -31,6 +31,9 @@ real_once shape i j a b e = sym (at_of-back shape i (real_of shape j) a e) ∙ a
 usable_within : (shape : Shape) (at : ℕ) (right : Bool) → (nat_lt 0 at && (nat_lt at (pages_of shape) && right)) ≡ true → at < pages_of shape
 usable_within shape at right e = grind (arith, nat_tests)
 
+usable_above : (shape : Shape) (at : ℕ) (right : Bool) → (nat_lt 0 at && (nat_lt at (pages_of shape) && right)) ≡ true → 0 < at
+usable_above shape at right e = grind (arith, nat_tests)
+
 -- the place of a data page is a sector
 pub placed_within : (p : Pack) (f : Fid) (n at : ℕ) → place (sights p) f (suc n) ≡ Some at → at < pages_of p.shape
 placed_within p f n at e =
@@ -39,6 +42,15 @@ placed_within p f n at e =
     let inside = h.within in
     let shows = shows_page p.shape at (sector_at p at) f n h.bytes (sym (sights-get p at hidden (omega arith)) ∙ h.shows hidden) in
     usable_within p.shape at (word (sector_at p at).header 1 == real_of p.shape at) shows.usable
+
+-- and never sector 0
+pub placed_first : (p : Pack) (f : Fid) (n at : ℕ) → place (sights p) f (suc n) ≡ Some at → 0 < at
+placed_first p f n at e =
+    let h = page_of_place (sights p) f n at e in
+    let long = length-sights p in
+    let inside = h.within in
+    let shows = shows_page p.shape at (sector_at p at) f n h.bytes (sym (sights-get p at hidden (omega arith)) ∙ h.shows hidden) in
+    usable_above p.shape at (word (sector_at p at).header 1 == real_of p.shape at) shows.usable
 
 -- the true link of a page names the place of the page after it, or that page has none
 pub place_after : (p : Pack) (f : Fid) (n i j : ℕ) → Whole p → LinksTrue p → place (sights p) f n ≡ Some i → Links p.shape (word (sector_at p i).label 0) j → (place (sights p) f (suc n) ≡ Some j) ⊎ (place (sights p) f (suc n) ≡ None)

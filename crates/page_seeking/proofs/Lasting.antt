@@ -28,7 +28,7 @@ one e = cc
 
 -- ---- the last page
 -- the last page of a file whose leader has a place
-ending : (p : Pack) (f : Fid) (at : ℕ) → Whole p → place (sights p) f 0 ≡ Some at → EndsInAPage p f
+pub ending : (p : Pack) (f : Fid) (at : ℕ) → Whole p → place (sights p) f 0 ≡ Some at → EndsInAPage p f
 ending p f at whole placed = whole_file_ends_in_a_page p f whole (leader_is_its_value p f at placed).living
 
 -- a leader that names it does so by its words

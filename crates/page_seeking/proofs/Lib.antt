@@ -7,4 +7,6 @@ pub mod Recalling
 pub mod Ending
 pub mod Easing
 pub mod Lasting
+pub mod Once
 pub mod Parting
+pub mod Stopping

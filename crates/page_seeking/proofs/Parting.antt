@@ -14,18 +14,16 @@ use Rattle.disk_records.specs.Packs.{Pack, sector_at}
 use Rattle.disk_records.specs.Words.{word}
 use Rattle.label_check.specs.declared.errors.PageInfo.{PageInfo}
 use Rattle.laws_contents.proofs.bytes.Laws.{bytes_stand_in_their_page, page_is_a_slice}
-use Rattle.laws_contents.proofs.pages.Laws.{full_before_each_of_a_whole_pack}
 use Rattle.laws_contents.specs.PageLaws.{FullBefore}
-use Rattle.laws_record.proofs.Carried.{carried_place}
 use Rattle.pack_laws.proofs.Sighted.{counted}
 use Rattle.pack_model.specs.reading.Files.{file_bytes, place}
 use Rattle.pack_model.specs.reading.Sights.{sights}
-use Rattle.pack_model.specs.states.Whole.{Whole}
+use Rattle.pack_model.specs.states.Sentences.{EachOnce}
 use Rattle.page_seeking.specs.declared.seek.Found.{Found}
 use Rattle.page_seeking.specs.Seeking.{Seen, file_length, page_number}
 use Rattle.page_seeking.specs.Parts.{IsReadTo, IsWithinPart}
 use Rattle.page_seeking.specs.Inside.{Known}
-use Rattle.page_seeking.proofs.Lasting.{counts_known, ends_at}
+use Rattle.page_seeking.proofs.Once.{counts_once, length_once, placed_once}
 
 -- ---- a page more
 -- what stands in front is as long as it was
@@ -59,16 +57,14 @@ read_more bytes old now new offset done count x is there most =
     }
 
 -- bytes of a known page are those of the file
-pub page_bytes : {told : Bool} {p : Pack} {form : Shape} {f : Fid} {n : ℕ} {found : Found} {buffer : Sector} (place_in from count : ℕ) → Whole p → IsTrue told → 1 ≤ n → Known told p form (page_number f n) found → buffer ≡ sector_at p found.at
+pub page_bytes : {told : Bool} {p : Pack} {form : Shape} {f : Fid} {n : ℕ} {found : Found} {buffer : Sector} (place_in from count : ℕ) → EachOnce (sights p) → FullBefore p f (n - 1) → IsTrue told → 1 ≤ n → Known told p form (page_number f n) found → buffer ≡ sector_at p found.at
     → place_in ≡ 512 * (n - 1) + from → from < 512 → from + count ≤ found.info.bytes
     → (take count (drop from (bytes_of buffer.value)) ≡ take count (drop place_in (file_bytes (sights p) f))) × (place_in + count ≤ file_length p f)
-page_bytes {p = p} {f = f} {n} {found} {buffer} place_in from count whole told first known holds is small few =
-    let above : suc (n - 1) ≡ n = omega arith in
+page_bytes {p = p} {f = f} {n} {found} {buffer} place_in from count once before told first known holds is small few =
     let page : place_in / 512 ≡ n - 1 = omega (arith, is, small) in
     let rest : place_in % 512 ≡ from = omega (arith, is, small) in
-    let sector : place (sights p) f (suc (n - 1)) ≡ Some found.at = rw above (carried_place p whole found.at (page_number f n) (known.carries told)) in
-    let before = full_before_each_of_a_whole_pack p f (n - 1) found.at whole sector in
-    let counts = counts_known whole told first known in
+    let sector = placed_once once told first known in
+    let counts = counts_once once told first known in
     let slice = (page_is_a_slice p f (n - 1) found.at before sector).within in
     let stand = bytes_stand_in_their_page p f place_in count found.at (subst (FullBefore p f) (sym page) before) (ap (λ k. place (sights p) f (suc k)) page ∙ sector) (omega (arith, rest, counts, few)) in (
       ap (λ (s : Sector). take count (drop from (bytes_of s.value))) holds ∙ ap (λ k. take count (drop k (bytes_of (sector_at p found.at).value))) (sym rest) ∙ sym stand,
@@ -106,8 +102,8 @@ put_all done count room bytes is most = by (nat_lt bytes (room - done)) refl
     by false e = let more : room - done ≤ bytes = grind (arith, nat_tests) in inl (omega (arith, is, more, most))
 
 -- reading ends with the last page
-pub read_ended : {told : Bool} {p : Pack} {form : Shape} {f : Fid} {n : ℕ} {found : Found} (offset done : ℕ) (old now : List ℕ) → Whole p → IsTrue told → 1 ≤ n → Known told p form (page_number f n) found → IsReadTo (file_bytes (sights p) f) offset done old now
+pub read_ended : {told : Bool} {p : Pack} {form : Shape} {f : Fid} {n : ℕ} {found : Found} (offset done : ℕ) (old now : List ℕ) → EachOnce (sights p) → FullBefore p f (n - 1) → IsTrue told → 1 ≤ n → Known told p form (page_number f n) found → IsReadTo (file_bytes (sights p) f) offset done old now
     → (done ≡ length now) ⊎ (offset + done ≡ 512 * (n - 1) + found.info.bytes) → (found.info.bytes ≢ 512) ⊎ (n ≡ 65535) → IsWithinPart (file_bytes (sights p) f) offset old now done
-read_ended {p = p} {f = f} {n} {found} offset done old now whole told first known x placed ends =
-    let size = ends_at whole told (record { first = first; known = known; ends = ends }) in
+read_ended {p = p} {f = f} {n} {found} offset done old now once before told first known x placed ends =
+    let size = length_once once told before (record { first = first; known = known; ends = ends }) in
     read_whole (file_bytes (sights p) f) old now offset done x (elim placed [ inl all ↦ inl (all ∙ read_length (file_bytes (sights p) f) old now offset done x) | inr last ↦ inr (omega (arith, last, size)) ])

@@ -1,5 +1,5 @@
 -- What the private functions say.
-use Rattle.std.specs.Prelude.{◌≡◌, ◌≢◌, ◌⊎◌, ℕ, ◌+◌, ◌<◌, ◌≤◌, Bool, IsTrue, List, [], length, All, Contains, Option, Some, None, Result, Ok, Err}
+use Rattle.std.specs.Prelude.{◌≡◌, ◌≢◌, ◌⊎◌, ℕ, ◌+◌, ◌-◌, ◌*◌, ◌<◌, ◌≤◌, Bool, IsTrue, List, [], length, All, Contains, Option, Some, None, Result, Ok, Err}
 use Rattle.alto_words.specs.declared.fid.Fid.{Fid}
 use Rattle.disk_records.specs.declared.records.Page.{Page}
 use Rattle.disk_records.specs.declared.records.Place.{Place}
@@ -84,6 +84,22 @@ pub record StaysAt (below : Below) (buffer : Sector) (cache : Cached) (last : Be
   pub answer : last ≡ below
   pub buffer_is : after_buffer ≡ buffer
   pub cache_is : after_cache ≡ cache
+
+-- Reading ended in the page that it began at, or with it, and the cache is as it was.
+pub record StopsAt (below : Below) (end : ℕ) (cache after_cache : Cached) : Type 0 where
+  pub from : 512 * (below.number - 1) ≤ end
+  pub upto : end ≤ 512 * (below.number - 1) + below.found.info.bytes
+  pub cache_is : after_cache ≡ cache
+
+-- Reading ended in a page that was seen, or with it.
+pub record Stops (told : Bool) (old : Taped) (f : Fid) (end : ℕ) (before now : Cached) : Type 0 where
+  pub number : ℕ
+  pub here : Found
+  pub buffer : Sector
+  pub first : 1 ≤ number
+  pub from : 512 * (number - 1) ≤ end
+  pub upto : end ≤ 512 * (number - 1) + here.info.bytes
+  pub confirmed : Confirmed told (page_number f number) old before now buffer here
 
 -- an entry for a page of this file names its sector, or no sector bears the page
 abbrev pub IsHandyEntry : List Sight → Fid → Entry → Type 0

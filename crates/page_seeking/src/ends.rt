@@ -4,6 +4,8 @@ ghost use Rattle.disk_records.specs.Causes.{HasCause};
 ghost use Rattle.disk_records.specs.Packs.{carried};
 ghost use Rattle.disk_records.specs.Tapes.{Looks, Rose, pack};
 ghost use Rattle.disk_records.specs.Words.{word};
+ghost use Rattle.pack_model.specs.reading.Sights.{sights};
+ghost use Rattle.pack_model.specs.states.Sentences.{EachOnce};
 ghost use Rattle.pack_model.specs.states.Whole.{Whole};
 ghost use Rattle.page_seeking.specs.Causes.{cause_of_length};
 ghost use Rattle.page_seeking.specs.Refs.{FileIsFrom, IfMisled, IfBeyond, MisledBy};
@@ -161,7 +163,8 @@ pub fn last_page<D: Disk>(
     }
 }
 
-/// The length of a file in bytes, by the label of its last page, which is located as by `last_page`. Nothing is written.
+/// The length of a file in bytes, by the label of its last page, which is located as by `last_page`. On a pack that isn't whole pages before
+/// it may be missing: the file ends there then, and has fewer bytes. Nothing is written.
 ///
 /// Misled, DiskFault and Memory come as from `last_page`, and Beyond never comes.
 pub fn length<D: Disk>(
@@ -171,6 +174,7 @@ pub fn length<D: Disk>(
     buf: &mut Sector,
 ) -> Result<u32, FileError>
     ensures length { IsTrue D.told → Whole (pack (D.tape disk.old)) → IfOk result (λ n. n ≡ file_length (pack (D.tape disk.old)) file.now.fid) }
+    ensures most { IsTrue D.told → EachOnce (sights (pack (D.tape disk.old))) → IfOk result (λ n. file_length (pack (D.tape disk.old)) file.now.fid ≤ n) }
     ensures misled { IsTrue D.told → FileIsFrom (pack (D.tape disk.old)) file.now → IfMisled result (MisledBy (pack (D.tape disk.old)) [] file.now.fid) }
     ensures cause { HasCause cause_of_length (D.tape disk.old) (D.tape disk.new) result }
     ensures want { IsTrue D.told → IsErrOf result FileError.Memory → ⊥ }

@@ -5,15 +5,18 @@ ghost use Rattle.disk_records.specs.Causes.{HasCause};
 ghost use Rattle.disk_records.specs.Packs.{carried};
 ghost use Rattle.disk_records.specs.Tapes.{Looks, Rose, pack};
 ghost use Rattle.hint_cache.specs.Caches.{address_in};
+ghost use Rattle.laws_contents.specs.PageLaws.{FullBefore};
+ghost use Rattle.pack_model.specs.hints.Links.{LinksTrue};
 ghost use Rattle.pack_model.specs.operations.Committing.{page_of_byte};
 ghost use Rattle.pack_model.specs.reading.Files.{file_bytes};
 ghost use Rattle.pack_model.specs.reading.Sights.{sights};
+ghost use Rattle.pack_model.specs.states.Sentences.{EachOnce};
 ghost use Rattle.pack_model.specs.states.Whole.{Whole};
 ghost use Rattle.page_seeking.specs.Causes.{cause_of_file};
-ghost use Rattle.page_seeking.specs.Parts.{IsPart, IsPast, IsReadTo, IsWithinPart};
+ghost use Rattle.page_seeking.specs.Parts.{IsPart, IsPast, IsReadTo, IsWithinPart, ListsEnd, ListsNext};
 ghost use Rattle.page_seeking.specs.Refs.{FileIsFrom, IfMisled, IfBeyond, MisledBy};
 ghost use Rattle.page_seeking.specs.Seeking.{KeepsHandy, Quick, file_length, page_number};
-ghost use Rattle.page_seeking.specs.Inside.{Known, Sought};
+ghost use Rattle.page_seeking.specs.Inside.{Known, Sought, Stops, StopsAt};
 
 use crate::ends::{length, seek_last};
 use crate::links::{Below, follow, length_at};
@@ -68,14 +71,17 @@ fn read_on<D: Disk>(
     requires low { 512 * (below.number - 1) ≤ offset + front }
     requires most { front ≤ length out.old }
     requires placed { (front ≡ length out.old) ⊎ (offset + front ≡ 512 * (below.number - 1) + below.found.info.bytes) }
+    requires upto { offset + front ≤ 512 * (below.number - 1) + below.found.info.bytes }
     ensures sought { Sought D.told (65535 - below.number) (D.tape disk.old) (D.tape disk.new) cache.old cache.new }
     ensures fault { IsErrOf result FileError.DiskFault → Rose (D.tape disk.old).disk_faults (D.tape disk.new).disk_faults }
     ensures want { IsTrue D.told → IsErrOf result FileError.Memory → ⊥ }
     ensures misled { IsTrue D.told → Known D.told (pack (D.tape disk.old)) (D.tape disk.old).form (page_number fid below.number) below.found → IfMisled result (MisledBy (pack (D.tape disk.old)) [] fid) }
     ensures never_beyond { IfBeyond result (λ length. ⊥) }
     ensures fits { IfOk result (λ n. n ≤ length out.old) }
+    ensures stops { IfOk result (λ n. StopsAt below (offset + n) cache.old cache.new ⊎ Stops D.told (D.tape disk.old) fid (offset + n) cache.old cache.new) }
+    ensures filled { IsTrue D.told → 512 * (below.number - 1) ≤ offset → IfOk result (λ n. 1 ≤ n → n ≡ length out.old → (D.tape disk.new).runs + below.number ≤ (D.tape disk.old).runs + page_of_byte (offset + n - 1)) }
     ensures quick { IsTrue D.told → IfOk result (λ n. (D.tape disk.new).runs + below.number ≤ (D.tape disk.old).runs + page_of_byte (offset + n)) }
-    ensures read { (old : List ℕ) → IsTrue D.told → Whole (pack (D.tape disk.old)) → Known D.told (pack (D.tape disk.old)) (D.tape disk.old).form (page_number fid below.number) below.found → IsReadTo (file_bytes (sights (pack (D.tape disk.old))) fid) offset front old out.old → IfOk result (IsWithinPart (file_bytes (sights (pack (D.tape disk.old))) fid) offset old out.new) }
+    ensures read { (old : List ℕ) → IsTrue D.told → EachOnce (sights (pack (D.tape disk.old))) → FullBefore (pack (D.tape disk.old)) fid (below.number - 1) → Known D.told (pack (D.tape disk.old)) (D.tape disk.old).form (page_number fid below.number) below.found → IsReadTo (file_bytes (sights (pack (D.tape disk.old))) fid) offset front old out.old → IfOk result (IsWithinPart (file_bytes (sights (pack (D.tape disk.old))) fid) offset old out.new) }
 {
     let mut here = below.found;
     let mut done = front;
@@ -109,8 +115,13 @@ fn read_pages<D: Disk>(
     ensures want { IsTrue D.told → IsErrOf result FileError.Memory → ⊥ }
     ensures misled { IsTrue D.told → FileIsFrom (pack (D.tape disk.old)) file.now → IfMisled result (MisledBy (pack (D.tape disk.old)) [] file.now.fid) }
     ensures beyond { IsTrue D.told → Whole (pack (D.tape disk.old)) → IfBeyond result (IsPast (pack (D.tape disk.old)) file.now.fid offset) }
+    ensures beyond_once { IsTrue D.told → EachOnce (sights (pack (D.tape disk.old))) → FullBefore (pack (D.tape disk.old)) file.now.fid (offset / 512) → IfBeyond result (λ n. n ≡ file_length (pack (D.tape disk.old)) file.now.fid) }
+    ensures never_beyond { offset ≡ 0 → IfBeyond result (λ length. ⊥) }
     ensures fits { IfOk result (λ n. n ≤ length out.old) }
-    ensures read { IsTrue D.told → Whole (pack (D.tape disk.old)) → IfOk result (IsWithinPart (file_bytes (sights (pack (D.tape disk.old))) file.now.fid) offset out.old out.new) }
+    ensures reached { IsTrue D.told → Whole (pack (D.tape disk.old)) → OnOk result (FullBefore (pack (D.tape disk.old)) file.now.fid (offset / 512)) }
+    ensures read { IsTrue D.told → EachOnce (sights (pack (D.tape disk.old))) → FullBefore (pack (D.tape disk.old)) file.now.fid (offset / 512) → IfOk result (IsWithinPart (file_bytes (sights (pack (D.tape disk.old))) file.now.fid) offset out.old out.new) }
+    ensures stops { IfOk result (λ n. Stops D.told (D.tape disk.old) file.now.fid (offset + n) cache.old cache.new) }
+    ensures filled { (at : ℕ) → IsTrue D.told → address_in cache.old.entries (page_number file.now.fid (page_of_byte offset)) ≡ Some at → carried (pack (D.tape disk.old)) at ≡ Some (page_number file.now.fid (page_of_byte offset)) → IfOk result (λ n. 1 ≤ n → n ≡ length out.old → (D.tape disk.new).runs + page_of_byte offset ≤ (D.tape disk.old).runs + page_of_byte (offset + n - 1) + 1) }
     ensures soon { (at : ℕ) → IsTrue D.told → address_in cache.old.entries (page_number file.now.fid (page_of_byte offset)) ≡ Some at → carried (pack (D.tape disk.old)) at ≡ Some (page_number file.now.fid (page_of_byte offset)) → IfOk result (λ n. (D.tape disk.new).runs + page_of_byte offset ≤ (D.tape disk.old).runs + page_of_byte (offset + n) + 1) }
     ensures quick { IsTrue D.told → Quick (pack (D.tape disk.old)) file.now.fid cache.old → IfOk result (λ n. (D.tape disk.new).runs ≤ (D.tape disk.old).runs + page_of_byte (offset + n) + 1) }
 {
@@ -146,7 +157,8 @@ fn read_pages<D: Disk>(
 /// Reads bytes of a file from the byte `offset` on to the front of `out`: as many as there are and fit, and answers how many. The rest of
 /// `out` stays. The first page is located as by `locate`, and each one after it by the next link of the page before. Nothing is written.
 ///
-/// Beyond: `offset` is past the file's length. Misled, DiskFault and Memory come as from `locate`. After an error what `out` holds is open.
+/// Beyond: `offset` is past the file's length; it never comes of offset 0. Misled, DiskFault and Memory come as from `locate`. After an error
+/// what `out` holds is open.
 pub fn read_part<D: Disk>(
     disk: &mut D,
     hints: &mut Hints,
@@ -155,24 +167,32 @@ pub fn read_part<D: Disk>(
     out: &mut [u8],
     buf: &mut Sector,
 ) -> Result<usize, FileError>
-    // The bytes are the file's, as many as fit, and the offset isn't past its end.
+    // The bytes are the file's, as many as fit, and the offset isn't past its end: on a whole pack, and on any that carries no page twice, if
+    // the offset isn't past the end there.
     ensures read { IsTrue D.told → Whole (pack (D.tape disk.old)) → IfOk result (IsWithinPart (file_bytes (sights (pack (D.tape disk.old))) file.now.fid) offset out.old out.new) }
+    ensures read_once { IsTrue D.told → EachOnce (sights (pack (D.tape disk.old))) → offset ≤ file_length (pack (D.tape disk.old)) file.now.fid → IfOk result (IsWithinPart (file_bytes (sights (pack (D.tape disk.old))) file.now.fid) offset out.old out.new) }
     ensures fits { IfOk result (λ n. n ≤ length out.old) }
 
     // Which error comes when.
     ensures beyond { IsTrue D.told → Whole (pack (D.tape disk.old)) → IfBeyond result (IsPast (pack (D.tape disk.old)) file.now.fid offset) }
+    ensures beyond_once { IsTrue D.told → EachOnce (sights (pack (D.tape disk.old))) → offset ≤ file_length (pack (D.tape disk.old)) file.now.fid → IfBeyond result (λ n. n ≡ file_length (pack (D.tape disk.old)) file.now.fid) }
+    ensures never_beyond { offset ≡ 0 → IfBeyond result (λ length. ⊥) }
     ensures misled { IsTrue D.told → FileIsFrom (pack (D.tape disk.old)) file.now → IfMisled result (MisledBy (pack (D.tape disk.old)) [] file.now.fid) }
     ensures cause { HasCause cause_of_file (D.tape disk.old) (D.tape disk.new) result }
     ensures want { IsTrue D.told → IsErrOf result FileError.Memory → ⊥ }
 
-    // Sector commands: one a page, if the cache has the first page's sector; and with true links and handy hints one more than the number of
-    // the page that the end of what was read is in.
+    // Sector commands: one a page, if the cache has the first page's sector, up to the page of the last byte, if no more fit. With true links
+    // and handy hints one more than the number of the page that the end of what was read is in.
     ensures looks { Looks D.told 65588 (D.tape disk.old) (D.tape disk.new) }
     ensures soon { (at : ℕ) → IsTrue D.told → address_in hints.old.cache.entries (page_number file.now.fid (page_of_byte offset)) ≡ Some at → carried (pack (D.tape disk.old)) at ≡ Some (page_number file.now.fid (page_of_byte offset)) → IfOk result (λ n. (D.tape disk.new).runs + page_of_byte offset ≤ (D.tape disk.old).runs + page_of_byte (offset + n) + 1) }
+    ensures filled { (at : ℕ) → IsTrue D.told → address_in hints.old.cache.entries (page_number file.now.fid (page_of_byte offset)) ≡ Some at → carried (pack (D.tape disk.old)) at ≡ Some (page_number file.now.fid (page_of_byte offset)) → IfOk result (λ n. 1 ≤ n → n ≡ length out.old → (D.tape disk.new).runs + page_of_byte offset ≤ (D.tape disk.old).runs + page_of_byte (offset + n - 1) + 1) }
     ensures quick { IsTrue D.told → Quick (pack (D.tape disk.old)) file.now.fid hints.old.cache → IfOk result (λ n. (D.tape disk.new).runs ≤ (D.tape disk.old).runs + page_of_byte (offset + n) + 1) }
 
-    // What becomes of the hints.
+    // What becomes of the hints. The cache lists the page that reading ended in; and with true links the one to go on from, so that a file
+    // that is read in parts takes one sector command a page.
     ensures table { hints.new.table ≡ hints.old.table }
+    ensures listed { IfOk result (λ n. ListsEnd D.told (pack (D.tape disk.old)) file.now.fid (offset + n) hints.old.cache hints.new.cache) }
+    ensures next { IsTrue D.told → Whole (pack (D.tape disk.old)) → LinksTrue (pack (D.tape disk.old)) → IfOk result (λ n. ListsNext D.told (pack (D.tape disk.old)) file.now.fid (offset + n) hints.old.cache hints.new.cache) }
     ensures refused { hints.old.cache.refused ≤ hints.new.cache.refused }
     ensures handy { IsTrue D.told → KeepsHandy (pack (D.tape disk.old)) hints.old.cache hints.new.cache }
 {
@@ -184,15 +204,15 @@ pub fn read_part<D: Disk>(
 
 /// Reads all bytes of a file. Nothing is written.
 ///
-/// Misled and DiskFault come as from `locate`. Memory: none was left for the bytes. Beyond never comes of a whole pack.
+/// Misled and DiskFault come as from `locate`. Memory: none was left for the bytes. Beyond never comes.
 pub fn read_all<D: Disk>(
     alloc: Global,
     disk: &mut D,
     hints: &mut Hints,
     file: &FileRef,
 ) -> Result<Vec<u8>, FileError>
-    ensures read { IsTrue D.told → Whole (pack (D.tape disk.old)) → IfOk result (λ bytes. bytes.items ≡ file_bytes (sights (pack (D.tape disk.old))) file.now.fid) }
-    ensures beyond { IsTrue D.told → Whole (pack (D.tape disk.old)) → IfBeyond result (λ n. ⊥) }
+    ensures read { IsTrue D.told → EachOnce (sights (pack (D.tape disk.old))) → IfOk result (λ bytes. bytes.items ≡ file_bytes (sights (pack (D.tape disk.old))) file.now.fid) }
+    ensures never_beyond { IfBeyond result (λ length. ⊥) }
     ensures misled { IsTrue D.told → FileIsFrom (pack (D.tape disk.old)) file.now → IfMisled result (MisledBy (pack (D.tape disk.old)) [] file.now.fid) }
     ensures cause { HasCause cause_of_file (D.tape disk.old) (D.tape disk.new) result }
     ensures looks { Looks D.told 131174 (D.tape disk.old) (D.tape disk.new) }

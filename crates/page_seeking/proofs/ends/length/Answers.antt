@@ -1,13 +1,20 @@
-use Rattle.std.proofs.Common.{◌∙◌}
+use Rattle.std.proofs.Common.{◌∙◌, arith}
 use Rattle.page_seeking.specs.declared.links.Below.{Below}
 use Rattle.page_seeking.proofs.Easing.{keeps_handy}
 use Rattle.page_seeking.proofs.Erring.{caused_length}
 use Rattle.page_seeking.proofs.Lasting.{ends_at}
+use Rattle.page_seeking.proofs.Once.{most_once}
 use Rattle.page_seeking.proofs.Seeking.{ends_of}
 use Rattle.page_seeking.proofs.ends.length.Goals as goal
 
 pub returns-in-Ok-clause-length : goal.returns-in-Ok-clause-length
 returns-in-Ok-clause-length g c told whole = c.length_at.ensures ∙ ends_at whole told (ends_of c.in-Ok.ensures.ends c.in-Ok.ensures.found)
+
+pub returns-in-Ok-clause-most : goal.returns-in-Ok-clause-most
+returns-in-Ok-clause-most g c told once =
+    let most = most_once once told (ends_of c.in-Ok.ensures.ends c.in-Ok.ensures.found) in
+    let is = c.length_at.ensures in
+    omega (arith, most, is)
 
 pub returns-in-Err-clause-cause : goal.returns-in-Err-clause-cause
 returns-in-Err-clause-cause g c = caused_length Below (g.D.Tape.tape c.args.disk.now) (g.D.Tape.tape c.seek_last.new.disk) c.in-Err.error c.in-Err.ensures.fault c.in-Err.ensures.never_beyond
