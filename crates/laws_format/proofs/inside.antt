@@ -5,6 +5,7 @@ pub mod Freeing
 pub mod Linking
 pub mod Living
 pub mod Pages
+pub mod Preparing
 pub mod Reading
 pub mod Showing
 pub mod Shown

@@ -1,3 +1,4 @@
 pub mod Empty
 pub mod Formatted
+pub mod Preparing
 pub mod Writing

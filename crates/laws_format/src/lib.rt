@@ -10,3 +10,4 @@
 #![tactic(auto)]
 
 pub mod formatted;
+pub mod preparing;
