@@ -1,4 +1,8 @@
-mod Puts
-mod SystemWords
+mod Closings
+mod Keeping
 mod Map
+mod Puts
 mod Steps
+mod SystemWords
+mod Texts
+mod Writings

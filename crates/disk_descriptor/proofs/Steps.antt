@@ -13,7 +13,8 @@ use Rattle.pack_model.specs.sessions.Format.{format_writes, formatted, sector_wr
 use Rattle.laws_format.proofs.formatted.Laws.{formatted_descriptor_fits, formatted_pack_begins_a_session, formatted_pack_has_free_sectors, formatted_pack_is_empty, formatted_pack_shows_nothing, formatting_goes_on, formatting_leaves_its_pack}
 use Rattle.disk_descriptor.specs.declared.errors.FormatError.{FormatError}
 use Rattle.disk_descriptor.specs.declared.errors.FormatError.TheVariants.{Memory}
-use Rattle.disk_descriptor.specs.Formatting.{IsFormatted, Writes}
+use Rattle.disk_descriptor.specs.Formatting.{IsFormatted}
+use Rattle.disk_descriptor.specs.Writing.{Writes}
 
 -- ---- record writes of whole sectors
 -- three each
@@ -46,13 +47,13 @@ module _ {x y z : Taped} (number moment at : ℕ) (s : Sector) (first : DiskAlon
       both ∙ (λ i. wrote i ++ now i) ∙ ap (λ t. sectors_writes 0 (take at p.sectors) ++ sector_writes at t) is ∙ sym (formatting_goes_on x.form number moment at low)
 
   -- it broke off at this sector
-  pub broke_off : {T U : Type 0} (error : FormatError) (result : Result U FormatError) → result ≡ Err error → y.runs ≤ x.runs + at → Writes {T = T} (sector_writes at s) 1 y z (Err error) → Writes {T = U} (format_writes x.form number moment) (pages_of x.form) x z result
+  pub broke_off : {T U : Type 0} (error : FormatError) (result : Result U FormatError) → result ≡ Err error → y.runs ≤ x.runs + at → Writes {T = T} Memory (sector_writes at s) 1 y z (Err error) → Writes {T = U} Memory (format_writes x.form number moment) (pages_of x.form) x z result
   broke_off {U} error result is_err ran broken =
       let rest : List Event = sectors_writes (0 + (at + 1)) (drop (at + 1) p.sectors) in
       let front : IsFirstOf (sectors_writes 0 (take at p.sectors) ++ sector_writes at s) (added x y ++ added y z) = first_then (sectors_writes 0 (take at p.sectors)) (sector_writes at s) (added x y) (added y z) wrote broken.some in
       let goes : sectors_writes 0 (take at p.sectors) ++ sector_writes at s ≡ sectors_writes 0 (take (at + 1) p.sectors) = ap (λ t. sectors_writes 0 (take at p.sectors) ++ sector_writes at t) is ∙ sym (formatting_goes_on x.form number moment at low) in
       let all : sectors_writes 0 (take (at + 1) p.sectors) ++ rest ≡ format_writes x.form number moment = sym (writes_split 0 (at + 1) p.sectors) in
-      subst (Writes {T = U} (format_writes x.form number moment) (pages_of x.form) x z) (sym is_err) (record {
+      subst (Writes {T = U} Memory (format_writes x.form number moment) (pages_of x.form) x z) (sym is_err) (record {
         some = subst (λ ws. IsFirstOf ws (added x z)) all (first_front (sectors_writes 0 (take (at + 1) p.sectors)) rest (added x z) (subst (λ ws. IsFirstOf ws (added x z)) goes (subst (IsFirstOf (sectors_writes 0 (take at p.sectors) ++ sector_writes at s)) (sym both) front)));
         ok = tt;
         want = λ memory.
@@ -76,7 +77,7 @@ module _ {x y : Taped} (number moment : ℕ) (alone : DiskAlone x y) (ran : y.ru
       let many = (formatted_pack_has_free_sectors x.form number moment).each_sector in
       wrote ∙ ap (sectors_writes 0) (take_all (pages_of x.form) q.sectors (omega (arith, many)))
 
-  pub done_whole : (free : ℕ) → Writes (format_writes x.form number moment) (pages_of x.form) x y (Ok free)
+  pub done_whole : (free : ℕ) → Writes Memory (format_writes x.form number moment) (pages_of x.form) x y (Ok free)
   done_whole free = record {
     some = subst (IsFirstOf (format_writes x.form number moment)) (sym all_written) (first_all (format_writes x.form number moment));
     ok = all_written;

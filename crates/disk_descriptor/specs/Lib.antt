@@ -1,2 +1,5 @@
+pub mod Answers
 pub mod Causes
 pub mod Formatting
+pub mod Kept
+pub mod Writing

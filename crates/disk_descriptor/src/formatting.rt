@@ -5,7 +5,8 @@ ghost use Rattle.disk_records.specs.Causes.{HasCause};
 ghost use Rattle.disk_records.specs.Tapes.{DiskAlone, pack};
 ghost use Rattle.pack_model.specs.sessions.Format.{format_writes, free_after_format, sector_writes};
 ghost use Rattle.disk_descriptor.specs.Causes.{cause_of_format};
-ghost use Rattle.disk_descriptor.specs.Formatting.{IsFormatted, Writes};
+ghost use Rattle.disk_descriptor.specs.Formatting.{IsFormatted};
+ghost use Rattle.disk_descriptor.specs.Writing.{Writes};
 
 use crate::FormatError;
 use crate::fresh::{Fresh, sectors_used};
@@ -14,7 +15,7 @@ use disk_records::{Disk, DiskError, Plan, Sector};
 /// Writes a whole sector. One sector command.
 fn write_sector<D: Disk>(disk: &mut D, at: u16, sector: &Sector) -> Result<(), FormatError>
     requires { at < pages_of (D.tape disk.old).form }
-    ensures writes { IsTrue D.told → Writes (sector_writes at sector.now) 1 (D.tape disk.old) (D.tape disk.new) result }
+    ensures writes { IsTrue D.told → Writes FormatError.Memory (sector_writes at sector.now) 1 (D.tape disk.old) (D.tape disk.new) result }
     ensures cause { HasCause cause_of_format (D.tape disk.old) (D.tape disk.new) result }
     ensures alone { DiskAlone (D.tape disk.old) (D.tape disk.new) }
 {
@@ -37,7 +38,7 @@ fn write_sector<D: Disk>(disk: &mut D, at: u16, sector: &Sector) -> Result<(), F
 pub fn format<D: Disk>(disk: &mut D, number: u16, moment: u32) -> Result<u16, FormatError>
     ensures leaves { IsTrue D.told → OnOk result (IsFormatted (D.tape disk.old).form number moment (pack (D.tape disk.new))) }
     ensures free { IfOk result (λ free. free ≡ free_after_format (D.tape disk.old).form) }
-    ensures writes { IsTrue D.told → Writes (format_writes (D.tape disk.old).form number moment) (pages_of (D.tape disk.old).form) (D.tape disk.old) (D.tape disk.new) result }
+    ensures writes { IsTrue D.told → Writes FormatError.Memory (format_writes (D.tape disk.old).form number moment) (pages_of (D.tape disk.old).form) (D.tape disk.old) (D.tape disk.new) result }
     ensures cause { HasCause cause_of_format (D.tape disk.old) (D.tape disk.new) result }
     ensures alone { DiskAlone (D.tape disk.old) (D.tape disk.new) }
 {

@@ -12,12 +12,18 @@
 //! Not promised: what a pack means whose formatting was broken off. It is formatted again.
 #![tactic(auto)]
 
+mod closing;
+mod descriptor;
 mod errors;
 mod formatting;
 mod fresh;
 mod pages;
 mod root;
+mod values;
 mod words;
+mod writing;
 
-pub use errors::FormatError;
+pub use descriptor::Descriptor;
+pub use errors::{DescError, FormatError};
 pub use formatting::format;
+pub use values::descriptor_page;

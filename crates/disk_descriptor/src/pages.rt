@@ -45,7 +45,7 @@ pub(crate) fn page_bytes(shape: Shape, n: u16) -> u16
 }
 
 /// The words before the allocation map, of a pack of this shape with this last serial, this mark and so many free sectors.
-fn heading(shape: Shape, last: u32, mark: u16, free: u16) -> [u16; 16]
+pub(crate) fn heading(shape: Shape, last: u32, mark: u16, free: u16) -> [u16; 16]
     ensures { result ≡ (disks_of shape ∷ cylinders_of shape ∷ 2 ∷ 12 ∷ []) ++ halves last ++ (mark ∷ free ∷ table_words shape ∷ replicate 7 0) }
 {
     let high = (last / 65536) as u16;

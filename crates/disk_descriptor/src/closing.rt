@@ -1,0 +1,47 @@
+// The pages of DiskDescriptor as a pack is closed.
+ghost use Rattle.std.specs.Prelude.{◌≡◌, ◌+◌, ◌*◌, ◌≤◌, IsTrue, length, reverse};
+ghost use Rattle.disk_records.specs.Addresses.{pages_of};
+ghost use Rattle.disk_records.specs.Causes.{HasCause};
+ghost use Rattle.disk_records.specs.Causes.Cause.{never};
+ghost use Rattle.disk_records.specs.Tapes.{DiskAlone, pack};
+ghost use Rattle.pack_model.specs.operations.Commands.{values_writes};
+ghost use Rattle.pack_model.specs.sessions.Descriptor.{closed_values, data_pages};
+ghost use Rattle.disk_descriptor.specs.Answers.{IfHeld, cause_of};
+ghost use Rattle.disk_descriptor.specs.Kept.{AreSectors};
+ghost use Rattle.disk_descriptor.specs.Writing.{AreCarried, Writes};
+
+use crate::DescError;
+use crate::values::descriptor_page;
+use crate::writing::write_page;
+use disk_records::Disk;
+use hint_cache::BitTable;
+
+/// The mark of a pack that was closed.
+pub(crate) const CLEAN: u16 = 1;
+
+/// Writes DiskDescriptor's data pages, which these sectors are to carry, with the clean mark: from the last to the first, so that the mark
+/// comes last. Two sector commands and one record write a page.
+pub(crate) fn write_pages<D: Disk>(
+    disk: &mut D,
+    last: u32,
+    pages: &[u16],
+    table: &BitTable,
+) -> Result<(), DescError>
+    requires sized { length table.now ≡ pages_of (D.tape disk.old).form }
+    requires many { length pages.now ≤ data_pages (D.tape disk.old).form }
+    requires sectors { AreSectors (D.tape disk.old).form pages.now }
+    ensures writes { IsTrue D.told → AreCarried (pack (D.tape disk.old)) pages.now → Writes DescError.Memory (values_writes (reverse (closed_values (D.tape disk.old).form last table.now 0 pages.now))) (2 * length pages.now) (D.tape disk.old) (D.tape disk.new) result }
+    ensures held { IsTrue D.told → AreCarried (pack (D.tape disk.old)) pages.now → IfHeld result (λ at found. ⊥) }
+    ensures cause { HasCause (cause_of never) (D.tape disk.old) (D.tape disk.new) result }
+    ensures alone { DiskAlone (D.tape disk.old) (D.tape disk.new) }
+{
+    let shape = disk.shape();
+    let mut left = pages.len();
+    while left > 0 {
+        let number = left as u16;
+        left -= 1;
+        let value = descriptor_page(shape, last, CLEAN, table, number);
+        write_page(disk, pages[left], number, &value)?;
+    }
+    Ok(())
+}
