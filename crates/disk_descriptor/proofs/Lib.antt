@@ -1,6 +1,7 @@
 mod Closings
 mod Keeping
 mod Map
+mod Preparings
 mod Puts
 mod Steps
 mod SystemWords

@@ -43,7 +43,7 @@ impl Model for Descriptor {
 }
 
 impl Descriptor {
-    ghost use Rattle.std.specs.Prelude.{◌≡◌, ◌+◌, ◌*◌, ◌≤◌, [], IfOk, IsTrue, OnErr, OnOk, length};
+    ghost use Rattle.std.specs.Prelude.{◌≡◌, ◌+◌, ◌*◌, ◌≤◌, [], Err, IfOk, IsTrue, OnErr, OnOk, length};
     ghost use Rattle.disk_records.specs.Addresses.{pages_of};
     ghost use Rattle.disk_records.specs.Causes.{HasCause};
     ghost use Rattle.disk_records.specs.Causes.Cause.{never, other};
@@ -104,6 +104,7 @@ impl Descriptor {
         ensures kept { IfOk result (λ serial. self.new ≡ with_last serial self.old) }
         ensures left { OnErr result (self.new ≡ self.old) }
         ensures spent { IfSpent result (λ last. (last ≡ self.old.last) × (most_last ≤ last)) }
+        ensures exact { most_last ≤ self.old.last → result ≡ Err (DescError.Spent self.old.last) }
         ensures refused { IsTrue D.told → IfSpent result (λ last. added (D.tape disk.old) (D.tape disk.new) ≡ []) }
         ensures held { IsTrue D.told → Fits (pack (D.tape disk.old)) self.old → IfHeld result (λ at found. ⊥) }
         ensures cause { HasCause (cause_of other) (D.tape disk.old) (D.tape disk.new) result }
@@ -125,11 +126,7 @@ impl Descriptor {
     ///
     /// Held: a sector that is kept doesn't carry its page. DiskFault: the device failed. Memory: it wanted some for a record write, and had
     /// none. After each of them a prefix of the record writes was done, and what is kept is as before.
-    pub fn close_pack<D: Disk>(
-        &mut self,
-        disk: &mut D,
-        table: &BitTable,
-    ) -> Result<(), DescError>
+    pub fn close_pack<D: Disk>(&mut self, disk: &mut D, table: &BitTable) -> Result<(), DescError>
         requires shape { self.old.shape ≡ (D.tape disk.old).form }
         requires sized { length table.now ≡ pages_of (D.tape disk.old).form }
         ensures writes { IsTrue D.told → Fits (pack (D.tape disk.old)) self.old → Writes DescError.Memory (closes (pack (D.tape disk.old)) table.now self.old) (2 * length self.old.pages) (D.tape disk.old) (D.tape disk.new) result }

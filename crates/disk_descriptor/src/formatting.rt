@@ -13,7 +13,11 @@ use crate::fresh::{Fresh, sectors_used};
 use disk_records::{Disk, DiskError, Plan, Sector};
 
 /// Writes a whole sector. One sector command.
-fn write_sector<D: Disk>(disk: &mut D, at: u16, sector: &Sector) -> Result<(), FormatError>
+pub(crate) fn write_sector<D: Disk>(
+    disk: &mut D,
+    at: u16,
+    sector: &Sector,
+) -> Result<(), FormatError>
     requires { at < pages_of (D.tape disk.old).form }
     ensures writes { IsTrue D.told → Writes FormatError.Memory (sector_writes at sector.now) 1 (D.tape disk.old) (D.tape disk.new) result }
     ensures cause { HasCause cause_of_format (D.tape disk.old) (D.tape disk.new) result }

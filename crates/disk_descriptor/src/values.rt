@@ -54,7 +54,11 @@ fn first_page(shape: Shape, last: u32, mark: u16, table: &BitTable) -> [u16; 256
 {
     let map_words = shape.pages().div_ceil(16);
     let mut value = [0; 256];
-    put(&mut value, 0, &heading(shape, last, mark, free_sectors(table)));
+    put(
+        &mut value,
+        0,
+        &heading(shape, last, mark, free_sectors(table)),
+    );
     put_map(&mut value, 16, table, 0, map_words.min(FIRST_MAP_WORDS));
     value
 }
@@ -68,7 +72,13 @@ fn later_page(shape: Shape, table: &BitTable, n: u16) -> [u16; 256]
     let map_words = shape.pages().div_ceil(16);
     let first = PAGE_WORDS * n - 16;
     let mut value = [0; 256];
-    put_map(&mut value, 0, table, first, (map_words - first).min(PAGE_WORDS));
+    put_map(
+        &mut value,
+        0,
+        table,
+        first,
+        (map_words - first).min(PAGE_WORDS),
+    );
     value
 }
 
