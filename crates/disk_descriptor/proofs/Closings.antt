@@ -1,11 +1,11 @@
 -- The record writes of closing, from the last page to the first.
-use Rattle.std.proofs.Common.{Bool, Err, List, Ok, Some, [], ap, append_assoc, arith, get_or, length, drop, refl, suc, sym, zero, ℕ, ◌++◌, ◌+◌, ◌-◌, ◌*◌, ◌<◌, ◌∙◌, ◌∷◌, ◌≡◌, ◌≤◌}
+use Rattle.std.proofs.Common.{Bool, Err, List, Some, [], ap, append_assoc, arith, get_or, length, drop, suc, sym, zero, ℕ, ◌++◌, ◌+◌, ◌*◌, ◌<◌, ◌∙◌, ◌≡◌, ◌≤◌}
 use Rattle.std.proofs.Math.Seq.{drop-cons}
 use Rattle.std.proofs.lemmas.List.{append-nil}
 use Rattle.std.specs.Prelude.{reverse}
 use Rattle.disk_records.proofs.Growing.{pack-after}
 use Rattle.disk_records.specs.Commands.{value_writes}
-use Rattle.disk_records.specs.Packs.{Pack, after, carried}
+use Rattle.disk_records.specs.Packs.{after, carried}
 use Rattle.disk_records.specs.Tapes.{DiskAlone, Grown, Taped, added, pack}
 use Rattle.disk_records.specs.declared.records.Event.{Event}
 use Rattle.disk_records.specs.declared.shape.Shape.{Shape}
@@ -14,7 +14,7 @@ use Rattle.laws_record.proofs.Carried.{values_carried}
 use Rattle.pack_model.specs.operations.Commands.{values_writes}
 use Rattle.pack_model.specs.sessions.Descriptor.{closed_values, descriptor_value}
 use Rattle.pack_model.specs.states.Sound.{mark_clean}
-use Rattle.disk_descriptor.proofs.Writings.{writes_all, writes_stop, writes_then}
+use Rattle.disk_descriptor.proofs.Writings.{writes_stop, writes_then}
 use Rattle.disk_descriptor.specs.Writing.{AreCarried, Writes, data_page}
 use Rattle.disk_descriptor.specs.declared.errors.DescError.TheVariants.{Memory}
 use Rattle.disk_descriptor.specs.declared.errors.DescError.{DescError}

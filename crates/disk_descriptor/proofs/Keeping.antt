@@ -1,5 +1,5 @@
 -- What is kept of DiskDescriptor fits the disk, before a call and after it.
-use Rattle.std.proofs.Common.{All, Bool, Err, List, Ok, Result, Some, [], ap, arith, cond, eq-eqb, eqb-true, false, get_or, length, refl, subst, suc, sym, take, true, ℕ, ◌+◌, ◌<◌, ◌∙◌, ◌∷◌, ◌≡◌, ◌≢◌, ◌≤◌, slice_get}
+use Rattle.std.proofs.Common.{All, Bool, List, Ok, Result, Some, [], ap, arith, cond, eq-eqb, eqb-true, get_or, length, refl, subst, sym, take, ℕ, ◌+◌, ◌<◌, ◌∙◌, ◌≡◌, ◌≢◌}
 use Rattle.std.proofs.lemmas.List.Elements.{All-from_get_or, All-get_or}
 use Rattle.std.proofs.lemmas.Bool.{false_from_ne_true}
 use Rattle.std.proofs.lemmas.List.{get_or-take, take_all}
@@ -12,7 +12,6 @@ use Rattle.disk_records.specs.Packs.{AreFormed, IsFormed, Pack, after, carried, 
 use Rattle.disk_records.specs.Tapes.{Grown, Taped, added, pack}
 use Rattle.disk_records.specs.declared.records.Event.{Event}
 use Rattle.disk_records.specs.declared.shape.Shape.{Shape}
-use Rattle.laws_hint.specs.ClosingLaws.{closing_writes}
 use Rattle.laws_hint.specs.LineLinks.{opening_writes}
 use Rattle.laws_line.proofs.fits.Laws.{descriptor_fits_on, fitting_descriptor_may_close}
 use Rattle.laws_operation.proofs.descriptor.Laws.{close_carries_out, open_carries_out, serial_carries_out}
@@ -22,10 +21,9 @@ use Rattle.pack_laws.proofs.files.Laws.{places_are_lowest}
 use Rattle.pack_model.specs.operations.Commands.{values_writes}
 use Rattle.pack_model.specs.operations.Step.Operation.{drop_file}
 use Rattle.pack_model.specs.reading.Files.{place}
-use Rattle.pack_model.specs.reading.Model.{read_as}
 use Rattle.pack_model.specs.reading.Sights.{sights}
 use Rattle.pack_model.specs.sessions.Descriptor.{DescriptorFits, close_writes, closed_values, data_pages, open_writes, opened_value, serial_writes}
-use Rattle.pack_model.specs.states.Sound.{mark_clean, mark_of, mark_open}
+use Rattle.pack_model.specs.states.Sound.{mark_clean, mark_open}
 use Rattle.pack_model.specs.states.Whole.{Tidy, Whole}
 use Rattle.disk_descriptor.proofs.Writings.{writes_all}
 use Rattle.disk_descriptor.specs.Kept.GivesOne.{given}

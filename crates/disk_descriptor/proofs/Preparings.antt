@@ -1,16 +1,16 @@
 -- One sector more that preparing has written, and what is so at its end.
-use Rattle.std.proofs.Common.{Err, List, Ok, OnOk, Result, [], ap, append_assoc, arith, length, min, refl, subst, suc, sym, take, zero, ℕ, ◌++◌, ◌*◌, ◌+◌, ◌-◌, ◌<◌, ◌∙◌, ◌∷◌, ◌≡◌, ◌≤◌}
+use Rattle.std.proofs.Common.{Err, List, [], ap, append_assoc, arith, length, min, refl, subst, suc, sym, take, zero, ℕ, ◌++◌, ◌*◌, ◌+◌, ◌-◌, ◌∙◌, ◌∷◌, ◌≡◌, ◌≤◌}
 use Rattle.disk_records.proofs.Growing.{added-twice, length-pack, pack-after}
 use Rattle.disk_records.specs.Addresses.{pages_of}
 use Rattle.disk_records.specs.Events.{IsFirstOf}
-use Rattle.disk_records.specs.Packs.{Pack, after, crash}
+use Rattle.disk_records.specs.Packs.{after, crash}
 use Rattle.disk_records.specs.Tapes.{DiskAlone, Grown, Taped, added, pack}
 use Rattle.disk_records.specs.declared.records.Event.{Event}
 use Rattle.disk_records.specs.declared.shape.Shape.{Shape}
 use Rattle.laws_format.proofs.preparing.Laws.{preparing_frees_the_drive, preparing_goes_on, preparing_shows_same}
 use Rattle.laws_format.specs.Preparing.{HasUnusedDrive, IsPrepared, drive_pages, prepare_writes, prepared_writes, preparing_writes}
 use Rattle.pack_model.specs.showing.Settling.{show}
-use Rattle.disk_descriptor.proofs.Writings.{writes_all, writes_stop, writes_then}
+use Rattle.disk_descriptor.proofs.Writings.{writes_stop, writes_then}
 use Rattle.disk_descriptor.specs.Writing.{Writes}
 use Rattle.disk_descriptor.specs.declared.errors.FormatError.TheVariants.{Memory}
 use Rattle.disk_descriptor.specs.declared.errors.FormatError.{FormatError}

@@ -1,14 +1,13 @@
 -- DiskDescriptor's words with any table: those before the map, and those of the map page by page.
-use Rattle.std.proofs.Common.{Bool, List, [], ap, arith, false, true, length, min, not, refl, replicate, suc, sym, take, drop, map, zero, ℕ, ◌*◌, ◌++◌, ◌+◌, ◌-◌, ◌<◌, ◌∙◌, ◌∷◌, ◌≡◌, ◌≤◌}
-use Rattle.std.proofs.Math.Seq.{drop-append-add, take-append-add}
+use Rattle.std.proofs.Common.{Bool, List, [], ap, arith, false, true, length, min, not, refl, replicate, suc, sym, take, drop, map, zero, ℕ, ◌*◌, ◌++◌, ◌+◌, ◌-◌, ◌∙◌, ◌∷◌, ◌≡◌, ◌≤◌}
+use Rattle.std.proofs.Math.Seq.{drop-append-add}
 use Rattle.std.proofs.lemmas.List.FromFn.{length-map-range_with_len, map-range_with_len_more}
-use Rattle.std.proofs.lemmas.List.{drop-replicate, take_all}
+use Rattle.std.proofs.lemmas.List.{drop-replicate}
 use Rattle.std.specs.List.{range_with_len}
 use Rattle.disk_records.specs.Addresses.{cylinders_of, disks_of, table_words}
 use Rattle.disk_records.specs.declared.shape.Shape.{Shape}
 use Rattle.hint_cache.specs.Bits.{word_of}
 use Rattle.laws_hint.proofs.words.Laws.{table_gives_the_words_of_its_bits}
-use Rattle.pack_model.specs.hints.Tables.{words_of_bits}
 use Rattle.pack_model.specs.operations.PageWords.{filled, halves}
 use Rattle.pack_model.specs.reading.Bytes.{put_at}
 use Rattle.pack_model.specs.sessions.Descriptor.{descriptor_text, descriptor_value}

@@ -1,6 +1,6 @@
 -- Calls that do lists of record writes, one after another.
-use Rattle.std.proofs.Common.{Err, IsErrOf, List, Ok, OnOk, Result, [], ap, arith, length, refl, subst, sym, ℕ, ◌++◌, ◌+◌, ◌<◌, ◌≡◌, ◌≤◌, ◌∙◌, IsTrue, Bool}
-use Rattle.std.proofs.lemmas.List.{append-nil, length-append}
+use Rattle.std.proofs.Common.{Err, List, Ok, OnOk, Result, [], ap, arith, length, subst, sym, ℕ, ◌++◌, ◌+◌, ◌≡◌, ◌≤◌, ◌∙◌, IsTrue, Bool}
+use Rattle.std.proofs.lemmas.List.{length-append}
 use Rattle.disk_records.proofs.FirstOnes.{first_all, first_front, first_then}
 use Rattle.disk_records.proofs.Growing.{added-twice}
 use Rattle.disk_records.specs.Events.{IsFirstOf}

@@ -1,5 +1,5 @@
 -- What is kept of DiskDescriptor, and the record writes of the calls that open the mark, give a serial and close.
-use Rattle.std.specs.Prelude.{All, Bool, List, OnOk, Result, Some, ℕ, ◌*◌, ◌+◌, ◌<◌, ◌≡◌, ◌≤◌, [], length}
+use Rattle.std.specs.Prelude.{All, Bool, List, OnOk, Result, Some, ℕ, ◌+◌, ◌<◌, ◌≡◌, ◌≤◌, []}
 use Rattle.alto_words.specs.Fid.{disk_descriptor}
 use Rattle.disk_records.specs.Addresses.{pages_of}
 use Rattle.disk_records.specs.Packs.{Pack, sector_at}

@@ -9,9 +9,7 @@ use Rattle.disk_records.specs.declared.records.Event.{Event}
 use Rattle.disk_records.specs.declared.records.Sector.{Sector}
 use Rattle.disk_records.specs.declared.shape.Shape.{Shape}
 use Rattle.laws_format.specs.Writing.{headed}
-use Rattle.laws_record.specs.QuietLaws.{ReadsSame, Relation, with_value}
-use Rattle.laws_record.specs.ViewLaws.{ViewsSame}
-use Rattle.pack_model.specs.reading.Model.{read_as}
+use Rattle.laws_record.specs.QuietLaws.{Relation, with_value}
 use Rattle.pack_model.specs.sessions.Format.{sector_writes}
 use Rattle.pack_model.specs.showing.Settling.{show}
 

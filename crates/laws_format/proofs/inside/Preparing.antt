@@ -8,19 +8,17 @@ use Rattle.alto_words.specs.declared.fid.Fid.{Fid}
 use Rattle.disk_records.specs.Addresses.{cylinders_of, pages_of}
 use Rattle.disk_records.specs.Commands.{ones}
 use Rattle.disk_records.specs.Labels.{in_range, is_free, page_of, tag}
-use Rattle.disk_records.specs.Packs.{Pack, after, carried, crash, is_free_at, is_usable, sector_at, with_part}
-use Rattle.disk_records.specs.declared.records.Event.TheVariants.{Wrote}
-use Rattle.disk_records.specs.declared.records.Event.{Event}
+use Rattle.disk_records.specs.Packs.{Pack, after, carried, crash, is_usable, sector_at, with_part}
 use Rattle.disk_records.specs.declared.records.Page.{Page}
 use Rattle.disk_records.specs.declared.records.Sector.{Sector}
 use Rattle.disk_records.specs.declared.shape.Shape.{Shape}
 use Rattle.pack_model.specs.reading.Bodies.{Files, described, is_described}
 use Rattle.pack_model.specs.reading.Files.{file_bytes, leader, leader_at, lives, page_at}
-use Rattle.pack_model.specs.reading.Model.{read_as, read_sights}
+use Rattle.pack_model.specs.reading.Model.{read_sights}
 use Rattle.pack_model.specs.reading.Namings.{tidied}
 use Rattle.pack_model.specs.reading.Sights.{Sight, page_sight, sight, sights, tag_sight}
 use Rattle.pack_model.specs.reading.Sights.Sight.{free, hidden, stray}
-use Rattle.pack_model.specs.showing.Settling.{settle, show}
+use Rattle.pack_model.specs.showing.Settling.{settle}
 use Rattle.pack_model.specs.showing.View.{view}
 use Rattle.pack_laws.proofs.Firsts.{first_same}
 use Rattle.pack_laws.proofs.Guarding.{free_shown, free_unnamed, here_written, ones_free, other_kept}
@@ -32,7 +30,7 @@ use Rattle.laws_record.proofs.Unseen.{sights_kept}
 use Rattle.laws_record.specs.QuietLaws.{ReadsSame, with_label, with_value}
 use Rattle.laws_record.specs.ViewLaws.{ViewsSame}
 use Rattle.laws_format.proofs.inside.Sighting.{headed_usable}
-use Rattle.laws_format.specs.Preparing.{FreeHeader, HasUnusedDrive, IsPrepared, PreparingFreesTheDrive, PreparingGoesOn, PreparingShowsSame, UnusedValue, drive_pages, prepared_sector, prepared_writes, preparing_writes, prepare_writes, with_header}
+use Rattle.laws_format.specs.Preparing.{FreeHeader, PreparingFreesTheDrive, PreparingGoesOn, PreparingShowsSame, UnusedValue, drive_pages, prepared_sector, prepared_writes, preparing_writes, with_header}
 
 -- ---- a value of a sector that carries no page
 -- it shows nothing of its value

@@ -1,6 +1,6 @@
-use Rattle.std.proofs.Common.{Err, ap, arith, get_or, length, refl, rules, subst, sym, ◌*◌, ◌+◌, ◌-◌, ◌<◌, ◌∙◌, ◌≡◌, ◌≤◌}
+use Rattle.std.proofs.Common.{Err, ap, arith, length, rules, subst, sym, ◌*◌, ◌+◌, ◌-◌, ◌<◌, ◌∙◌, ◌≡◌}
 use Rattle.disk_records.proofs.Growing.{added-twice, alone_twice}
-use Rattle.disk_records.specs.Tapes.{added, pack}
+use Rattle.disk_records.specs.Tapes.{added}
 use Rattle.disk_records.specs.declared.shape.Shape.{Shape}
 use Rattle.pack_model.specs.sessions.Descriptor.{descriptor_value}
 use Rattle.disk_descriptor.proofs.Closings.{done, page_done, page_failed, still_carried}

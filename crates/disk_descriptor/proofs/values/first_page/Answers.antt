@@ -1,4 +1,4 @@
-use Rattle.std.proofs.Common.{[], arith, min, not, replicate, ◌++◌, ◌∙◌, ◌∷◌, ◌≡◌}
+use Rattle.std.proofs.Common.{[], arith, min, replicate, ◌++◌, ◌∙◌, ◌∷◌, ◌≡◌}
 use Rattle.disk_records.specs.Addresses.{cylinders_of, disks_of, table_words}
 use Rattle.pack_model.specs.operations.PageWords.{halves}
 use Rattle.pack_model.specs.reading.Bytes.{put_at}
