@@ -31,3 +31,6 @@ returns-in-Ok-clause-operates g c told stands ordinary =
     let operates = c.write_page.ensures.operates (title fid c.args.name.now) c.locate.new.hints.table told (subst (λ (p : Pack). carried p c.in-Ok.at ≡ Some (page_number fid 0)) (sym packs) there.carries ∙ ap (λ (x : Page). Some x) (sym c.page_of_file.ensures)) (subst (λ (p : Pack). IsOneValue p (title fid c.args.name.now) (value_writes c.in-Ok.at c.put_name.new.value)) (sym packs) is) in
     subst (λ (l : List Bool). Operates {T = Unit {0}} error.DiskFault error.Memory (title fid c.args.name.now) [] (around a l c.args.tally.now) (around d c.locate.new.hints.table c.write_page.new.tally) c.write_page.result) c.locate.ensures.table
     (silent_before _ _ _ _ _ _ a b d looks.alone c.write_page.ensures.alone silent (g.met.D.Disk.counted c.args.disk.now told) (g.met.D.Disk.counted c.locate.new.disk told) c.locate.new.hints.table c.locate.new.hints.table c.args.tally.now c.write_page.new.tally c.write_page.result operates)
+
+pub returns-in-Err-clause-misled : goal.returns-in-Err-clause-misled
+returns-in-Err-clause-misled g c told stands = c.in-Err.ensures.misled told stands.from
