@@ -1,5 +1,6 @@
 pub mod Beside
 pub mod Cutting
+pub mod Dropped
 pub mod FoundRoom
 pub mod Founding
 pub mod FreeRuns

@@ -1,4 +1,5 @@
 pub mod CutLaws
+pub mod DroppedLaws
 pub mod FoundLaws
 pub mod LineHintLaws
 pub mod LoopLaws
