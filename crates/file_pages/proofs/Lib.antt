@@ -1,8 +1,15 @@
 mod ClaimedWords
+mod CommitFirst
 mod Counting
+mod CutFiles
+mod DroppedFiles
 mod Erring
+mod Following
+mod Going
 mod MakeMoves
 mod OneWrite
+mod ReleaseLoop
+mod Remaining
 mod Sequel
 mod Titling
 mod TwoClaims

@@ -1,27 +1,34 @@
 //! Calls on files that write, each of them one operation.
 //!
 //! Below it stand label_check, hint_cache and leader_page, page_seeking with the names of files, and the laws of calls. Come here to make a
-//! file or to title one. To the layers above, on every machine:
+//! file, to title one, to cut one or to drop one. To the layers above, on every machine:
 //! 1. A fault comes only where its count rose (`cause`). Nothing is shown, and no key is taken (`alone`).
 //! 2. The table of busy bits keeps its length (`sized`), or is as it was (`table`), and the count of notes that were refused never falls
 //!    (`refused`): such a note is passed over.
 //!
 //! And where the machine is modelled, the pack is whole and tidy, and the arguments are as the contract's premises say:
 //! 3. The call does one operation: at Ok all of its record writes, at every other answer a prefix of them, and the tally counts the
-//!    operation if and only if the record that commits it was written (`operates`).
+//!    operation if and only if the record that commits it was written (`operates`). A drop is so except for the slot of its entry (`releases`).
 //! 4. A new file's pages are in the sectors that were given for them (`placed`).
-//! 5. Misled comes only where a hint of the file misleads, of a new file never (`misled`), and Beyond never (`cause`, `never_beyond`).
+//! 5. Misled comes only where a hint of the file misled as the call began, of a new file never (`misled`), and Beyond of a cut past the end
+//!    (`beyond`), else never (`cause`, `never_beyond`).
+//! 6. With true links a cache that is handy for a file is so after a cut and a drop (`handy`).
 //!
 //! Not promised: that the sectors for a new file are free where the machine isn't modelled. Such a call answers Misled.
 #![tactic(auto)]
 
+mod cutting;
+mod dropping;
 mod leaders;
 mod making;
 mod new_pages;
 mod one_value;
 mod refs;
+mod releasing;
 mod tallying;
 
+pub use cutting::cut;
+pub use dropping::drop_file;
 pub use leaders::title;
 pub use making::make;
 pub use page_seeking::{FileError, FileRef};

@@ -1,0 +1,92 @@
+use Rattle.std.proofs.Common.{Bool, List, OnOk, arith, false, refl, subst, ◌≡◌, ◌≤◌}
+use Rattle.disk_records.proofs.Growing.{alone_twice, grown_twice}
+use Rattle.disk_records.proofs.Looking.{looks_pack}
+use Rattle.disk_records.specs.Tapes.{pack}
+use Rattle.laws_hint.specs.MapChanges.{marked}
+use Rattle.page_seeking.proofs.Erring.{if_misled_map, on_ok, on_ok_map}
+use Rattle.page_seeking.specs.Seeking.{file_length, page_number}
+use Rattle.pack_model.specs.reading.Sights.{sights}
+use Rattle.file_pages.proofs.CommitFirst.{look_before}
+use Rattle.file_pages.proofs.CutFiles.{cut_begun, cut_here, cut_is_at_the_end, cut_is_past, cut_is_within, far_past, known_read}
+use Rattle.file_pages.proofs.Going.{handy_still, misled_by}
+use Rattle.file_pages.specs.Cutting.{IsRead}
+use Rattle.file_pages.proofs.cutting.cut.Goals as goal
+
+pub returns-in-Ok-clause-beyond : goal.returns-in-Ok-clause-beyond
+returns-in-Ok-clause-beyond g c told stands = far_past (pack (g.D.Tape.tape c.args.disk.now)) c.args.file.now c.args.length _ stands c.in_default.ensures.none (c.in-Ok.ensures.length told stands.whole)
+
+pub returns-then-info-bytes-clause-beyond : goal.returns-then-info-bytes-clause-beyond
+returns-then-info-bytes-clause-beyond g c told stands =
+    let a = pack (g.D.Tape.tape c.args.disk.now) in
+    let read : IsRead a (page_number c.args.file.now.fid c.in-Some.number) c.in-Ok-locate.at c.in-Ok-locate.info c.locate.new.buf = record { seen = c.in-Ok-locate.ensures.seen; stands = c.in-Ok-locate.ensures.stands told } in
+    cut_is_past a c.args.file.now.fid c.args.length c.in-Some.number c.in-Ok-locate.at c.in-Ok-locate.info stands.whole (known_read read) c.in-Some.ensures.some (omega (arith, c.if-info-bytes.true)) _ c.length_at.ensures
+
+pub returns-else-info-bytes-2-clause-operates : goal.returns-else-info-bytes-2-clause-operates
+returns-else-info-bytes-2-clause-operates g c told stands ordinary other =
+    let a = g.D.Tape.tape c.args.disk.now in
+    let looks = c.locate.ensures.looks in
+    let at = c.in-Ok-locate.at in
+    let read : IsRead (pack a) (page_number c.args.file.now.fid c.in-Some.number) at c.in-Ok-locate.info c.locate.new.buf = record { seen = c.in-Ok-locate.ensures.seen; stands = c.in-Ok-locate.ensures.stands told } in
+    let known = known_read read in
+    let is = c.in-Some.ensures.some in
+    let not_less = c.if-info-bytes.false in
+    let not_same = c.if-info-bytes-2.false in
+    let within = cut_is_within (pack a) c.args.file.now.fid c.args.length c.in-Some.number at c.in-Ok-locate.info stands.whole known is (omega (arith, not_less, not_same)) in
+    let here = cut_here (pack a) c.args.file.now c.args.length c.in-Some.number at c.in-Ok-locate.info stands ordinary known is (omega (arith, within)) in
+    let same = looks_pack looks told in
+    let writes = c.end_in_page.ensures.cuts (pack a) here.later told same read here.left in
+    let table = subst (λ (l : List Bool). OnOk c.end_in_page.result (c.end_in_page.new.hints.table ≡ marked false here.later l)) c.locate.ensures.table (c.end_in_page.ensures.table (pack a) here.later told same read here.left) in
+    cut_begun c.args.file.now.fid c.args.length _ at here.later c.end_in_page.result stands.whole stands.tidy here.can refl
+    (look_before looks.alone.grown c.end_in_page.ensures.alone.grown (looks.silent told) (g.met.D.Disk.counted c.args.disk.now told) (g.met.D.Disk.counted c.locate.new.disk told) writes) table
+
+pub returns-else-info-bytes-2-clause-own_length : goal.returns-else-info-bytes-2-clause-own_length
+returns-else-info-bytes-2-clause-own_length g c told stands own =
+    let a = pack (g.D.Tape.tape c.args.disk.now) in
+    let read : IsRead a (page_number c.args.file.now.fid c.in-Some.number) c.in-Ok-locate.at c.in-Ok-locate.info c.locate.new.buf = record { seen = c.in-Ok-locate.ensures.seen; stands = c.in-Ok-locate.ensures.stands told } in
+    let not_less = c.if-info-bytes.false in
+    let not_same = c.if-info-bytes-2.false in
+    let within = cut_is_within a c.args.file.now.fid c.args.length c.in-Some.number c.in-Ok-locate.at c.in-Ok-locate.info stands.whole (known_read read) c.in-Some.ensures.some (omega (arith, not_less, not_same)) in
+    absurd (omega (arith, within, own))
+
+pub returns-then-info-bytes-2-clause-operates : goal.returns-then-info-bytes-2-clause-operates
+returns-then-info-bytes-2-clause-operates g c told stands ordinary other =
+    let a = pack (g.D.Tape.tape c.args.disk.now) in
+    let read : IsRead a (page_number c.args.file.now.fid c.in-Some.number) c.in-Ok-locate.at c.in-Ok-locate.info c.locate.new.buf = record { seen = c.in-Ok-locate.ensures.seen; stands = c.in-Ok-locate.ensures.stands told } in
+    let same = c.if-info-bytes-2.true in
+    absurd (other (cut_is_at_the_end a c.args.file.now.fid c.args.length c.in-Some.number c.in-Ok-locate.at c.in-Ok-locate.info stands.whole (known_read read) c.in-Some.ensures.some (omega (arith, same))))
+
+pub returns-then-info-bytes-2-clause-within : goal.returns-then-info-bytes-2-clause-within
+returns-then-info-bytes-2-clause-within g c told stands =
+    let a = pack (g.D.Tape.tape c.args.disk.now) in
+    let read : IsRead a (page_number c.args.file.now.fid c.in-Some.number) c.in-Ok-locate.at c.in-Ok-locate.info c.locate.new.buf = record { seen = c.in-Ok-locate.ensures.seen; stands = c.in-Ok-locate.ensures.stands told } in
+    let same = c.if-info-bytes-2.true in
+    let end = cut_is_at_the_end a c.args.file.now.fid c.args.length c.in-Some.number c.in-Ok-locate.at c.in-Ok-locate.info stands.whole (known_read read) c.in-Some.ensures.some (omega (arith, same)) in
+    omega (arith, end)
+
+pub returns-else-info-bytes-2-clause-within : goal.returns-else-info-bytes-2-clause-within
+returns-else-info-bytes-2-clause-within g c told stands =
+    let a = pack (g.D.Tape.tape c.args.disk.now) in
+    let read : IsRead a (page_number c.args.file.now.fid c.in-Some.number) c.in-Ok-locate.at c.in-Ok-locate.info c.locate.new.buf = record { seen = c.in-Ok-locate.ensures.seen; stands = c.in-Ok-locate.ensures.stands told } in
+    let not_less = c.if-info-bytes.false in
+    let not_same = c.if-info-bytes-2.false in
+    let less = cut_is_within a c.args.file.now.fid c.args.length c.in-Some.number c.in-Ok-locate.at c.in-Ok-locate.info stands.whole (known_read read) c.in-Some.ensures.some (omega (arith, not_less, not_same)) in
+    let most : c.args.length ≤ file_length a c.args.file.now.fid = omega (arith, less) in
+    on_ok c.end_in_page.result most
+
+pub returns-else-info-bytes-2-clause-misled : goal.returns-else-info-bytes-2-clause-misled
+returns-else-info-bytes-2-clause-misled g c told stands =
+    let a = g.D.Tape.tape c.args.disk.now in
+    let looks = c.locate.ensures.looks in
+    let read : IsRead (pack a) (page_number c.args.file.now.fid c.in-Some.number) c.in-Ok-locate.at c.in-Ok-locate.info c.locate.new.buf = record { seen = c.in-Ok-locate.ensures.seen; stands = c.in-Ok-locate.ensures.stands told } in
+    if_misled_map c.end_in_page.result (c.end_in_page.ensures.misled (pack a) told (looks_pack looks told) read) (λ place at wanted found x. misled_by c.args.file.now.fid place at wanted found (grown_twice looks.alone.grown c.end_in_page.ensures.alone.grown) x)
+
+pub returns-else-info-bytes-2-clause-handy : goal.returns-else-info-bytes-2-clause-handy
+returns-else-info-bytes-2-clause-handy g c told stands =
+    let a = g.D.Tape.tape c.args.disk.now in
+    let d = g.D.Tape.tape c.end_in_page.new.disk in
+    let looks = c.locate.ensures.looks in
+    let read : IsRead (pack a) (page_number c.args.file.now.fid c.in-Some.number) c.in-Ok-locate.at c.in-Ok-locate.info c.locate.new.buf = record { seen = c.in-Ok-locate.ensures.seen; stands = c.in-Ok-locate.ensures.stands told } in
+    on_ok_map c.end_in_page.result (λ only whole links f handy. handy_still (pack a) (pack d) f _ whole only (c.end_in_page.ensures.handy (sights (pack a)) f (c.locate.ensures.handy told whole links f handy))) (c.end_in_page.ensures.only (pack a) told (looks_pack looks told) read)
+
+pub returns-else-info-bytes-2-clause-alone : goal.returns-else-info-bytes-2-clause-alone
+returns-else-info-bytes-2-clause-alone g c = alone_twice c.locate.ensures.looks.alone c.end_in_page.ensures.alone

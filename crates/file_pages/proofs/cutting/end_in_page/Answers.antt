@@ -1,0 +1,43 @@
+use Rattle.std.proofs.Common.{Err, ap, refl, ◌∙◌}
+use Rattle.disk_records.proofs.Growing.{alone_twice}
+use Rattle.disk_records.specs.Labels.{page_of}
+use Rattle.laws_operation.proofs.values.Laws.{label_with_another_count}
+use Rattle.pack_model.specs.hints.Links.{no_link}
+use Rattle.page_seeking.proofs.Erring.{if_misled_map}
+use Rattle.file_pages.proofs.CommitFirst.{commit_broke, releases_after}
+use Rattle.file_pages.proofs.CutFiles.{carries_at, commits_at, follows_shortened}
+use Rattle.file_pages.proofs.cutting.end_in_page.Goals as goal
+
+pub shorten-requires-clause-same : goal.shorten-requires-clause-same
+shorten-requires-clause-same g c = ap page_of c.last_label-label.ensures ∙ (label_with_another_count c.args.buf.now.label c.args.page c.args.bytes no_link c.requires.named c.requires.few).0
+
+pub returns-in-Ok-clause-cuts : goal.returns-in-Ok-clause-cuts
+returns-in-Ok-clause-cuts g c p later told same read left =
+    let named = ap page_of c.last_label-label.ensures ∙ (label_with_another_count c.args.buf.now.label c.args.page c.args.bytes no_link c.requires.named c.requires.few).0 in
+    let done = c.in-Ok.ensures.commits told (carries_at same read) in
+    let one = c.shorten.ensures.alone.grown in
+    releases_after c.release_rest.result one c.release_rest.ensures.alone.grown (commits_at c.args.bytes _ same read c.last_label-label.ensures done) refl (c.release_rest.ensures.releases p later told (follows_shortened same read one named done) left)
+
+pub returns-in-Err-clause-cuts : goal.returns-in-Err-clause-cuts
+returns-in-Err-clause-cuts g c p later told same read left = commit_broke later c.in-Err.error (commits_at c.args.bytes _ same read c.last_label-label.ensures (c.in-Err.ensures.commits told (carries_at same read))) refl
+
+pub returns-in-Ok-clause-table : goal.returns-in-Ok-clause-table
+returns-in-Ok-clause-table g c p later told same read left =
+    let named = ap page_of c.last_label-label.ensures ∙ (label_with_another_count c.args.buf.now.label c.args.page c.args.bytes no_link c.requires.named c.requires.few).0 in
+    (c.release_rest.ensures.releases p later told (follows_shortened same read c.shorten.ensures.alone.grown named (c.in-Ok.ensures.commits told (carries_at same read))) left).table
+
+pub returns-in-Ok-clause-only : goal.returns-in-Ok-clause-only
+returns-in-Ok-clause-only g c p told same read =
+    let named = ap page_of c.last_label-label.ensures ∙ (label_with_another_count c.args.buf.now.label c.args.page c.args.bytes no_link c.requires.named c.requires.few).0 in
+    c.release_rest.ensures.only p told (follows_shortened same read c.shorten.ensures.alone.grown named (c.in-Ok.ensures.commits told (carries_at same read)))
+
+pub returns-in-Ok-clause-misled : goal.returns-in-Ok-clause-misled
+returns-in-Ok-clause-misled g c p told same read =
+    let named = ap page_of c.last_label-label.ensures ∙ (label_with_another_count c.args.buf.now.label c.args.page c.args.bytes no_link c.requires.named c.requires.few).0 in
+    c.release_rest.ensures.misled p told (follows_shortened same read c.shorten.ensures.alone.grown named (c.in-Ok.ensures.commits told (carries_at same read)))
+
+pub returns-in-Err-clause-misled : goal.returns-in-Err-clause-misled
+returns-in-Err-clause-misled g c p told same read = if_misled_map {T = Unit {0}} (Err c.in-Err.error) (c.in-Err.ensures.misled told (carries_at same read)) (λ place at wanted found no. absurd no)
+
+pub returns-in-Ok-clause-alone : goal.returns-in-Ok-clause-alone
+returns-in-Ok-clause-alone g c = alone_twice c.shorten.ensures.alone c.release_rest.ensures.alone

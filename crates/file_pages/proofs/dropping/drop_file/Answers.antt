@@ -1,0 +1,44 @@
+use Rattle.std.proofs.Common.{Bool, List, OnOk, false, subst, ◌∷◌, ◌≡◌}
+use Rattle.disk_records.proofs.Growing.{alone_twice, grown_twice}
+use Rattle.disk_records.proofs.Looking.{looks_pack}
+use Rattle.disk_records.specs.Tapes.{pack}
+use Rattle.laws_hint.specs.MapChanges.{marked}
+use Rattle.page_seeking.proofs.Erring.{if_misled_map, on_ok_map}
+use Rattle.page_seeking.specs.Seeking.{page_number}
+use Rattle.pack_model.specs.reading.Sights.{sights}
+use Rattle.file_pages.proofs.CommitFirst.{look_before}
+use Rattle.file_pages.proofs.CutFiles.{known_read}
+use Rattle.file_pages.proofs.DroppedFiles.{drop_begun, drop_here}
+use Rattle.file_pages.proofs.Going.{handy_still, misled_by}
+use Rattle.file_pages.specs.Cutting.{IsRead}
+use Rattle.file_pages.proofs.dropping.drop_file.Goals as goal
+
+pub returns-in-Ok-clause-alone : goal.returns-in-Ok-clause-alone
+returns-in-Ok-clause-alone g c = alone_twice c.locate.ensures.looks.alone c.drop_pages.ensures.alone
+
+pub returns-in-Ok-clause-releases : goal.returns-in-Ok-clause-releases
+returns-in-Ok-clause-releases g c told stands dropped =
+    let a = g.D.Tape.tape c.args.disk.now in
+    let looks = c.locate.ensures.looks in
+    let read : IsRead (pack a) (page_number c.args.file.now.fid 0) c.in-Ok.at c.in-Ok.info c.locate.new.buf = record { seen = c.in-Ok.ensures.seen; stands = c.in-Ok.ensures.stands told } in
+    let here = drop_here (pack a) c.args.file.now c.in-Ok.at c.in-Ok.info stands dropped (known_read read) in
+    let same = looks_pack looks told in
+    let writes = c.drop_pages.ensures.drops (pack a) here.pages told same read here.left in
+    let table = subst (λ (l : List Bool). OnOk c.drop_pages.result (c.drop_pages.new.hints.table ≡ marked false (c.in-Ok.at ∷ here.pages) l)) c.locate.ensures.table (c.drop_pages.ensures.table (pack a) here.pages told same read here.left) in
+    drop_begun c.args.file.now.fid c.in-Ok.at here.pages c.drop_pages.result here.may
+    (look_before looks.alone.grown c.drop_pages.ensures.alone.grown (looks.silent told) (g.met.D.Disk.counted c.args.disk.now told) (g.met.D.Disk.counted c.locate.new.disk told) writes) table
+
+pub returns-in-Ok-clause-misled : goal.returns-in-Ok-clause-misled
+returns-in-Ok-clause-misled g c told stands =
+    let a = g.D.Tape.tape c.args.disk.now in
+    let looks = c.locate.ensures.looks in
+    let read : IsRead (pack a) (page_number c.args.file.now.fid 0) c.in-Ok.at c.in-Ok.info c.locate.new.buf = record { seen = c.in-Ok.ensures.seen; stands = c.in-Ok.ensures.stands told } in
+    if_misled_map c.drop_pages.result (c.drop_pages.ensures.misled (pack a) told (looks_pack looks told) read) (λ place at wanted found x. misled_by c.args.file.now.fid place at wanted found (grown_twice looks.alone.grown c.drop_pages.ensures.alone.grown) x)
+
+pub returns-in-Ok-clause-handy : goal.returns-in-Ok-clause-handy
+returns-in-Ok-clause-handy g c told stands =
+    let a = g.D.Tape.tape c.args.disk.now in
+    let d = g.D.Tape.tape c.drop_pages.new.disk in
+    let looks = c.locate.ensures.looks in
+    let read : IsRead (pack a) (page_number c.args.file.now.fid 0) c.in-Ok.at c.in-Ok.info c.locate.new.buf = record { seen = c.in-Ok.ensures.seen; stands = c.in-Ok.ensures.stands told } in
+    on_ok_map c.drop_pages.result (λ only whole links f handy. handy_still (pack a) (pack d) f _ whole only (c.drop_pages.ensures.handy (sights (pack a)) f (c.locate.ensures.handy told whole links f handy))) (c.drop_pages.ensures.only (pack a) told (looks_pack looks told) read)

@@ -1,0 +1,37 @@
+use Rattle.std.proofs.Common.{Err, List, OnOk, Bool, false, refl, subst, ◌≡◌}
+use Rattle.disk_records.proofs.Growing.{alone_twice}
+use Rattle.laws_hint.specs.MapChanges.{marked}
+use Rattle.page_seeking.proofs.Erring.{if_misled_map}
+use Rattle.file_pages.proofs.CommitFirst.{commit_broke, releases_after}
+use Rattle.file_pages.proofs.CutFiles.{carries_at}
+use Rattle.file_pages.proofs.DroppedFiles.{follows_leader}
+use Rattle.file_pages.proofs.dropping.drop_pages.Goals as goal
+
+pub returns-in-Ok-clause-drops : goal.returns-in-Ok-clause-drops
+returns-in-Ok-clause-drops g c p pages told same read left =
+    let done = c.in-Ok.ensures.commits told (carries_at same read) in
+    let one = c.release_leader.ensures.alone.grown in
+    releases_after c.release_rest.result one c.release_rest.ensures.alone.grown done refl (c.release_rest.ensures.releases p pages told (follows_leader same read one done) left)
+
+pub returns-in-Err-clause-drops : goal.returns-in-Err-clause-drops
+returns-in-Err-clause-drops g c p pages told same read left = commit_broke pages c.in-Err.error (c.in-Err.ensures.commits told (carries_at same read)) refl
+
+pub returns-in-Ok-clause-table : goal.returns-in-Ok-clause-table
+returns-in-Ok-clause-table g c p pages told same read left =
+    subst (λ (l : List Bool). OnOk c.release_rest.result (c.release_rest.new.hints.table ≡ marked false pages l)) c.give_back.ensures.table
+    (c.release_rest.ensures.releases p pages told (follows_leader same read c.release_leader.ensures.alone.grown (c.in-Ok.ensures.commits told (carries_at same read))) left).table
+
+pub returns-in-Ok-clause-only : goal.returns-in-Ok-clause-only
+returns-in-Ok-clause-only g c p told same read = c.release_rest.ensures.only p told (follows_leader same read c.release_leader.ensures.alone.grown (c.in-Ok.ensures.commits told (carries_at same read)))
+
+pub returns-in-Ok-clause-misled : goal.returns-in-Ok-clause-misled
+returns-in-Ok-clause-misled g c p told same read = c.release_rest.ensures.misled p told (follows_leader same read c.release_leader.ensures.alone.grown (c.in-Ok.ensures.commits told (carries_at same read)))
+
+pub returns-in-Err-clause-misled : goal.returns-in-Err-clause-misled
+returns-in-Err-clause-misled g c p told same read = if_misled_map {T = Unit {0}} (Err c.in-Err.error) (c.in-Err.ensures.misled told (carries_at same read)) (λ place at wanted found no. absurd no)
+
+pub returns-in-Ok-clause-alone : goal.returns-in-Ok-clause-alone
+returns-in-Ok-clause-alone g c = alone_twice c.release_leader.ensures.alone c.release_rest.ensures.alone
+
+pub returns-in-Ok-clause-handy : goal.returns-in-Ok-clause-handy
+returns-in-Ok-clause-handy g c = λ ss f handy. c.release_rest.ensures.handy ss f (c.give_back.ensures.handy ss f handy)

@@ -1,0 +1,19 @@
+use Rattle.std.proofs.Common.{IsTrue, List, length, ℕ, ◌≡◌}
+use Rattle.disk_records.specs.Packs.{Pack}
+use Rattle.disk_records.specs.Tapes.{DiskAlone, pack}
+use Rattle.page_seeking.specs.Seeking.{page_number}
+use Rattle.file_pages.specs.Releasing.{AreAfter, Follows, Halfway, KeepsEachHandy}
+use Rattle.file_pages.proofs.releasing.release_rest.Given as goal
+
+abbrev pub invariant-loop-lower : goal.invariant-loop-lower
+invariant-loop-lower g l =
+    let old = g.D.Tape.tape l.fn.disk in
+    let now = g.D.Tape.tape l.disk in
+    record {
+      alone : DiskAlone old now;
+      sized : length l.hints.table ≡ length l.fn.hints.table;
+      refused : l.hints.cache.refused ≡ l.fn.hints.cache.refused;
+      handy : KeepsEachHandy l.fn.hints.cache l.hints.cache;
+      follows : (p : Pack) → IsTrue g.D.Tape.told → Follows p (pack old) (page_number l.fid l.fn.number) l.fn.at l.fn.info → Follows p (pack now) (page_number l.fid l.lower) l.here l.last;
+      halfway : (p : Pack) (pages : List ℕ) → IsTrue g.D.Tape.told → Follows p (pack old) (page_number l.fid l.fn.number) l.fn.at l.fn.info → AreAfter p l.fid l.fn.number pages → Halfway p l.fid l.lower pages old now l.fn.hints.table l.hints.table;
+    }

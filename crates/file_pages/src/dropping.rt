@@ -1,0 +1,115 @@
+// A file that goes: all of its sectors are released.
+ghost use Rattle.std.specs.Prelude.{◌≡◌, ◌<◌, ◌≤◌, ◌∷◌, ℕ, List, Some, false, IsTrue, OnOk, length};
+ghost use Rattle.disk_records.specs.Addresses.{pages_of};
+ghost use Rattle.disk_records.specs.Causes.{HasCause};
+ghost use Rattle.disk_records.specs.Commands.{release_writes};
+ghost use Rattle.disk_records.specs.Packs.{Pack, carried};
+ghost use Rattle.disk_records.specs.Tapes.{DiskAlone, added, pack};
+ghost use Rattle.laws_call.specs.Acting.{Releases};
+ghost use Rattle.laws_hint.specs.MapChanges.{marked};
+ghost use Rattle.page_seeking.specs.Causes.{cause_of_file, cause_of_length};
+ghost use Rattle.page_seeking.specs.Refs.{FileStands, IfBeyond, IfMisled, MisledBy};
+ghost use Rattle.page_seeking.specs.Seeking.{page_number};
+ghost use Rattle.page_seeking.specs.declared.refs.FileError.TheVariants as error;
+ghost use Rattle.file_pages.specs.Calls.{around};
+ghost use Rattle.file_pages.specs.Cutting.{IsRead};
+ghost use Rattle.file_pages.specs.Dropping.{MayBeDropped};
+ghost use Rattle.file_pages.specs.Releasing.{AreAfter, CommitsAndReleases, CommitsFirst, KeepsEachHandy, MisledSince, OnlyGo, HandyStill};
+
+use crate::refs::error_at;
+use crate::releasing::{give_back, release_rest};
+use crate::tallying::count_operation;
+use crate::{FileError, FileRef};
+use alto_words::Fid;
+use disk_records::{Disk, Page, Place, Sector, Tally};
+use hint_cache::Hints;
+use label_check::{PageInfo, release};
+use page_seeking::locate;
+
+/// Releases the leader of a file, by which its drop is committed, and counts it. Two sector commands, two record writes.
+fn release_leader<D: Disk>(
+    disk: &mut D,
+    tally: &mut Tally,
+    at: u16,
+    leader: Page,
+) -> Result<(), FileError>
+    requires first { 1 ≤ at }
+    requires place { at < pages_of (D.tape disk.old).form }
+    ensures commits { IsTrue D.told → carried (pack (D.tape disk.old)) at ≡ Some leader → CommitsFirst (release_writes at) (D.tape disk.old) (D.tape disk.new) tally.old tally.new result }
+    ensures misled { IsTrue D.told → carried (pack (D.tape disk.old)) at ≡ Some leader → IfMisled result (λ place at wanted found. ⊥) }
+    ensures cause { HasCause cause_of_length (D.tape disk.old) (D.tape disk.new) result }
+    ensures alone { DiskAlone (D.tape disk.old) (D.tape disk.new) }
+{
+    let before = disk.writes();
+    let released = release(disk, at, leader);
+    let now = disk.writes();
+    count_operation(tally, before, 1, now, &released);
+    match released {
+        Ok(()) => Ok(()),
+        Err(error) => Err(error_at(Place::Held { at }, at, leader, error)),
+    }
+}
+
+/// Releases all sectors of a file whose leader was read.
+fn drop_pages<D: Disk>(
+    disk: &mut D,
+    hints: &mut Hints,
+    tally: &mut Tally,
+    fid: Fid,
+    at: u16,
+    info: PageInfo,
+    buf: &mut Sector,
+) -> Result<(), FileError>
+    requires sized { length hints.old.table ≡ pages_of (D.tape disk.old).form }
+    requires first { 1 ≤ at }
+    requires place { at < pages_of (D.tape disk.old).form }
+    ensures drops { (p : Pack) (pages : List ℕ) → IsTrue D.told → pack (D.tape disk.old) ≡ p → IsRead p (page_number fid 0) at info buf.old → AreAfter p fid 0 pages → CommitsAndReleases (release_writes at) pages (D.tape disk.old) (D.tape disk.new) tally.old tally.new result }
+    ensures table { (p : Pack) (pages : List ℕ) → IsTrue D.told → pack (D.tape disk.old) ≡ p → IsRead p (page_number fid 0) at info buf.old → AreAfter p fid 0 pages → OnOk result (hints.new.table ≡ marked false (at ∷ pages) hints.old.table) }
+    ensures only { (p : Pack) → IsTrue D.told → pack (D.tape disk.old) ≡ p → IsRead p (page_number fid 0) at info buf.old → OnOk result (OnlyGo p (pack (D.tape disk.new))) }
+    ensures misled { (p : Pack) → IsTrue D.told → pack (D.tape disk.old) ≡ p → IsRead p (page_number fid 0) at info buf.old → IfMisled result (MisledSince p (pack (D.tape disk.new)) fid) }
+    ensures cause { HasCause cause_of_length (D.tape disk.old) (D.tape disk.new) result }
+    ensures alone { DiskAlone (D.tape disk.old) (D.tape disk.new) }
+    ensures sized { length hints.new.table ≡ length hints.old.table }
+    ensures refused { hints.new.cache.refused ≡ hints.old.cache.refused }
+    ensures handy { KeepsEachHandy hints.old.cache hints.new.cache }
+{
+    let leader = Page { fid, number: 0 };
+    match release_leader(disk, tally, at, leader) {
+        Ok(()) => {
+            give_back(hints, leader, at);
+            release_rest(disk, hints, fid, 0, at, info, buf)
+        }
+        Err(error) => Err(error),
+    }
+}
+
+/// Releases all sectors of a file that has no entries of its own and isn't a system file: its leader, whose label commits, and then its data
+/// pages, rising, each found by the next link of the page before it. It is the drop of the file except for the slot of its entry, which the
+/// directory frees next. Two record writes of each page. The sectors are free in the table then, and the cache has forgotten the pages.
+/// `buf` is used, and what it holds then is open.
+///
+/// Misled: the address that the file is named with misleads, or a next link of the file: then nothing was written, or the file is gone and
+/// later pages are left, which a scavenge releases. DiskFault: the device failed. Memory: no memory was left for a record write. After these
+/// two a prefix of the record writes was done. Beyond never comes.
+pub fn drop_file<D: Disk>(
+    disk: &mut D,
+    hints: &mut Hints,
+    tally: &mut Tally,
+    file: &FileRef,
+    buf: &mut Sector,
+) -> Result<(), FileError>
+    requires sized { length hints.old.table ≡ pages_of (D.tape disk.old).form }
+    ensures releases { IsTrue D.told → FileStands (pack (D.tape disk.old)) file.now → MayBeDropped (pack (D.tape disk.old)) file.now.fid → Releases error.DiskFault error.Memory file.now.fid (around (D.tape disk.old) hints.old.table tally.old) (around (D.tape disk.new) hints.new.table tally.new) result }
+    ensures misled { IsTrue D.told → FileStands (pack (D.tape disk.old)) file.now → IfMisled result (MisledBy (pack (D.tape disk.old)) (added (D.tape disk.old) (D.tape disk.new)) file.now.fid) }
+    ensures never_beyond { IsTrue D.told → FileStands (pack (D.tape disk.old)) file.now → IfBeyond result (λ length. ⊥) }
+    ensures cause { HasCause cause_of_file (D.tape disk.old) (D.tape disk.new) result }
+    ensures alone { DiskAlone (D.tape disk.old) (D.tape disk.new) }
+    ensures sized { length hints.new.table ≡ length hints.old.table }
+    ensures refused { hints.old.cache.refused ≤ hints.new.cache.refused }
+    ensures handy { IsTrue D.told → FileStands (pack (D.tape disk.old)) file.now → OnOk result (HandyStill (pack (D.tape disk.old)) (pack (D.tape disk.new)) hints.old.cache hints.new.cache) }
+{
+    match locate(disk, hints, file, 0, buf) {
+        Ok((at, info)) => drop_pages(disk, hints, tally, file.fid, at, info, buf),
+        Err(error) => Err(error),
+    }
+}
