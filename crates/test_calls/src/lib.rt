@@ -5,3 +5,5 @@
 
 #[cfg(test)]
 mod new_files;
+#[cfg(test)]
+mod released_pages;
