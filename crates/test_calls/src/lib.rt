@@ -7,3 +7,5 @@
 mod new_files;
 #[cfg(test)]
 mod released_pages;
+#[cfg(test)]
+mod seeking;

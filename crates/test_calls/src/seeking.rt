@@ -1,0 +1,158 @@
+// Pages of files that hints lead to or mislead from: a row that isn't one, a cache of ones, and a long file that is read in parts.
+ghost use Rattle.std.specs.Prelude.{◌<◌};
+
+use alto_words::Fid;
+use disk_memory::MemMachine;
+use disk_records::{Disk, Place, Sector, Shape};
+use hint_cache::{BitTable, HintCache, Hints};
+use page_seeking::{FileRef, last_page, length, locate, read_all, read_part};
+use std::alloc::{AllocError, Global};
+use std::test::Fail;
+use test_packs::{Placed, failing_machine, sectors_of};
+
+/// The file that is read: an ordinary one with serial 3.
+const FID: Fid = Fid {
+    high: 0,
+    low: 3,
+    version: 1,
+};
+
+/// Three pages of it that aren't in a row: the leader in sector 5, page 1 with 512 bytes in sector 9, and page 2 with 3 bytes in sector 11.
+/// The real address of a sector below 12 is 4,096 times its own.
+const SCATTERED: [Placed; 3] = [
+    Placed {
+        at: 5,
+        label: [0x9000, 0xFFFF, 0, 512, 0, 1, 0, 3],
+        front: [0, 0, 0],
+    },
+    Placed {
+        at: 9,
+        label: [0xB000, 0x5000, 0, 512, 1, 1, 0, 3],
+        front: [0x4142, 0x4344, 0],
+    },
+    Placed {
+        at: 11,
+        label: [0xFFFF, 0x9000, 0, 3, 2, 1, 0, 3],
+        front: [0x5859, 0x5A00, 0],
+    },
+];
+
+/// The file, named by the address of its leader.
+fn file_at(leader_at: u16) -> FileRef {
+    FileRef {
+        fid: FID,
+        leader_at,
+        from: Place::Held { at: leader_at },
+    }
+}
+
+/// Word 247 of the leader says that the pages lie in a row, which they don't: it is passed over, all bytes are read, and nothing is misled.
+/// A cache of ones is as one without entries.
+#[test]
+fn a_row_that_is_none(rt: HostRuntime) -> Result<(), Fail> {
+    let mut sectors = sectors_of(rt.alloc(), &SCATTERED)?;
+    sectors.get_mut(5).ok_or("no sector")?.value[247] = 1;
+    let mut machine = failing_machine(rt.alloc(), sectors, b"")?;
+    let mut hints = Hints {
+        cache: HintCache::from_words(rt.alloc(), &[0xFFFF; 241])?,
+        table: BitTable::from_words(rt.alloc(), machine.shape().pages(), &[0; 3])?,
+    };
+    let file = file_at(5);
+    let mut buf = Sector::ZEROS;
+    let bytes = read_all(rt.alloc(), &mut machine, &mut hints, &file)?;
+    assert_eq!(rt; bytes.len(), 515);
+    assert!(rt; bytes.starts_with(&[0x41, 0x42, 0x43, 0x44, 0]));
+    assert!(rt; bytes.ends_with(&[0, 0x58, 0x59, 0x5A]));
+    let (at, info) = locate(&mut machine, &mut hints, &file, 2, &mut buf)?;
+    assert_eq!(rt; at, 11);
+    assert_eq!(rt; info.bytes, 3);
+    let last = last_page(&mut machine, &mut hints, &file, &mut buf)?;
+    assert_eq!(rt; last.number, 2);
+    assert_eq!(rt; last.at, 11);
+    assert_eq!(rt; buf.value[0], 0x5859);
+    Ok(())
+}
+
+/// The real address of a sector of a model 31 pack.
+fn real_of(at: u16) -> u16
+    requires { at < 4872 }
+{
+    at % 12 * 4096 + at / 24 * 8 + at / 12 % 2 * 4
+}
+
+/// A sector of a model 31 pack with one file of 60,000 bytes: its leader in sector 100, and pages 1 to 118 right after it. The bytes of a
+/// page are its number in each word; the last one has 96 of them.
+fn sector_of(at: u16) -> Sector
+    requires { at < 4872 }
+{
+    let header = [1, real_of(at)];
+    if at < 100 || at > 218 {
+        return Sector {
+            header,
+            label: [0xFFFF; 8],
+            value: [0xFFFF; 256],
+        };
+    }
+    let number = at - 100;
+    let next = if number < 118 {
+        real_of(at + 1)
+    } else {
+        0xFFFF
+    };
+    let previous = if number > 0 { real_of(at - 1) } else { 0xFFFF };
+    let bytes = if number < 118 { 512 } else { 96 };
+    Sector {
+        header,
+        label: [next, previous, 0, bytes, number, 1, 0, 3],
+        value: [number; 256],
+    }
+}
+
+/// The sectors of this pack.
+fn long_file(alloc: Global) -> Result<Vec<Sector>, AllocError> {
+    let mut sectors = Vec::new(alloc);
+    for at in 0..4872 {
+        sectors.push(sector_of(at))?;
+    }
+    Ok(sectors)
+}
+
+/// A file of 60,000 bytes that is read in parts of 2,048 takes two sector commands for its first page, and one for each of the 117 others:
+/// the next one would fail. Then its last page is known.
+#[test]
+fn a_long_file_in_parts(rt: HostRuntime) -> Result<(), Fail> {
+    let shape = Shape::new(1, 203).ok_or("no shape")?;
+    let mut machine = MemMachine::new(
+        rt.alloc(),
+        shape,
+        long_file(rt.alloc())?,
+        Vec::new(rt.alloc()),
+    )?;
+    machine.fail_at(rt.alloc(), 119, 0)?;
+    let mut hints = Hints {
+        cache: HintCache::new(rt.alloc())?,
+        table: BitTable::new(rt.alloc(), machine.shape().pages())?,
+    };
+    let file = file_at(100);
+    let mut buf = Sector::ZEROS;
+    let mut part = [0; 2048];
+    for number in 0..29 {
+        let n = read_part(
+            &mut machine,
+            &mut hints,
+            &file,
+            number * 2048,
+            &mut part,
+            &mut buf,
+        )?;
+        assert_eq!(rt; n, 2048);
+        assert_eq!(rt; u32::from(part[1]), number * 4 + 1);
+        assert_eq!(rt; u32::from(part[2047]), number * 4 + 4);
+    }
+    let n = read_part(&mut machine, &mut hints, &file, 59_392, &mut part, &mut buf)?;
+    assert_eq!(rt; n, 608);
+    assert_eq!(rt; part[607], 118);
+    assert!(rt; length(&mut machine, &mut hints, &file, &mut buf).is_err());
+    assert_eq!(rt; length(&mut machine, &mut hints, &file, &mut buf)?, 60_000);
+    Ok(())
+}
