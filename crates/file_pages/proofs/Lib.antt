@@ -8,8 +8,11 @@ mod Following
 mod Going
 mod MakeMoves
 mod OneWrite
+mod PutOnce
 mod ReleaseLoop
 mod Remaining
 mod Sequel
 mod Titling
 mod TwoClaims
+mod Valued
+mod WithinFile

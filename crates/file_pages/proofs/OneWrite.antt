@@ -1,8 +1,8 @@
--- An operation that is one value.
+-- A value write, by its guarded command.
 use Rattle.std.proofs.Common.{Bool, Err, IsErrOf, List, Ok, ap, arith, length, refl, suc, sym, take, [], ℕ, ◌+◌, ◌-◌, ◌<◌, ◌^◌, ◌∙◌, ◌∷◌, ◌≡◌, nat_le, cond}
 use Rattle.disk_records.specs.Commands.{value_writes}
 use Rattle.disk_records.specs.Events.{IsFirstOf, writes_in}
-use Rattle.disk_records.specs.Tapes.{DiskAlone, Taped, added, capped, pack}
+use Rattle.disk_records.specs.Tapes.{DiskAlone, Taped, added, capped}
 use Rattle.disk_records.specs.declared.records.Event.{Event}
 use Rattle.disk_records.specs.declared.records.Page.{Page}
 use Rattle.disk_records.specs.declared.records.Place.{Place}
@@ -14,13 +14,13 @@ use Rattle.pack_laws.proofs.tallies.Laws.{count_tells_what_was_written}
 use Rattle.pack_model.specs.operations.Operations.{one_move}
 use Rattle.pack_model.specs.operations.Step.{Operation}
 use Rattle.pack_model.specs.sessions.Tallies.{counted, is_among, took_effect}
-use Rattle.laws_call.specs.Acting.{Operates, begun}
 use Rattle.page_seeking.specs.declared.refs.FileError.TheVariants as file
 use Rattle.page_seeking.specs.declared.refs.FileError.{FileError}
 use Rattle.file_pages.proofs.Erring.{fault_of, memory_of}
-use Rattle.file_pages.specs.Calls.{IsOneValue, around}
+use Rattle.laws_call.specs.Acting.{around}
 use Rattle.file_pages.specs.Counting.{counted_after}
 use Rattle.file_pages.specs.Inside.{error_at}
+use Rattle.file_pages.specs.Values.{WroteValue}
 
 module _ (a b : Taped) (at : ℕ) (page : Page) (value : List ℕ) (o : Operation) (t : Tally) (alone : DiskAlone a b) (first : a.writes ≡ capped (writes_in a.events)) (last : b.writes ≡ capped (writes_in b.events)) where
   -- after a fault the record write is known by the count
@@ -46,36 +46,27 @@ module _ (a b : Taped) (at : ℕ) (page : Page) (value : List ℕ) (o : Operatio
       none [] h = refl
       none (x ∷ events) h = absurd h
 
-  module _ (bits : List Bool) (is : IsOneValue (pack a) o (value_writes at value)) where
-    -- the value write failed
-    pub value_failed : {u : Tally} (error : GuardError) (place : Place) (held : ℕ) (wanted : Page) (e : FileError) → e ≡ error_at place held wanted error
-        → Guarded {T = Unit {0}} (Carries at page) at [] (value_writes at value) 2 a b (Err error) → u ≡ counted_after a.writes 1 b.writes (Err error) t
-        → Operates {T = Unit {0}} file.DiskFault file.Memory o [] (around a bits t) (around b bits u) (Err e)
-    value_failed error place held wanted e same guarded counts = begun (record {
-      writes = value_writes at value;
-      released = [];
-      exact = is.exact;
-      acts = is.acts;
-      some = guarded.some;
-      all = tt;
-      table = tt;
-      counts = λ tells. counts ∙ failed_counts error place held wanted e same guarded tells ∙ ap (λ l. counted a.writes (take (length (added a b)) l) t) (sym is.moves);
-      out_of_memory = λ memory. (guarded.want (memory_of error place held wanted e same memory)).less;
-    })
+  -- the value write failed
+  pub value_failed : {u : Tally} (bits : List Bool) (error : GuardError) (place : Place) (held : ℕ) (wanted : Page) (e : FileError) → e ≡ error_at place held wanted error
+      → Guarded {T = Unit {0}} (Carries at page) at [] (value_writes at value) 2 a b (Err error) → u ≡ counted_after a.writes 1 b.writes (Err error) t
+      → WroteValue {T = Unit {0}} at value o (around a bits t) (around b bits u) (Err e)
+  value_failed bits error place held wanted e same guarded counts = record {
+    some = guarded.some;
+    all = tt;
+    table = refl;
+    counts = λ tells. counts ∙ failed_counts error place held wanted e same guarded tells;
+    out_of_memory = λ memory. (guarded.want (memory_of error place held wanted e same memory)).less;
+  }
 
-    -- it was done
-    pub value_done : {u : Tally} → Guarded {T = Unit {0}} (Carries at page) at [] (value_writes at value) 2 a b (Ok tt) → u ≡ counted_after a.writes 1 b.writes (Ok tt) t
-        → Operates {T = Unit {0}} file.DiskFault file.Memory o [] (around a bits t) (around b bits u) (Ok tt)
-    value_done guarded counts =
-        let next : a.writes + 1 ≡ suc a.writes = omega arith in
-        begun (record {
-          writes = value_writes at value;
-          released = [];
-          exact = is.exact;
-          acts = is.acts;
-          some = guarded.some;
-          all = guarded.ok.wrote;
-          table = refl;
-          counts = λ tells. counts ∙ ap (λ n. took_effect n t) next ∙ ap (λ l. counted a.writes (take (length l) (one_move o)) t) (sym guarded.ok.wrote) ∙ ap (λ l. counted a.writes (take (length (added a b)) l) t) (sym is.moves);
-          out_of_memory = λ memory. cc;
-        })
+  -- it was done
+  pub value_done : {u : Tally} (bits : List Bool) → Guarded {T = Unit {0}} (Carries at page) at [] (value_writes at value) 2 a b (Ok tt) → u ≡ counted_after a.writes 1 b.writes (Ok tt) t
+      → WroteValue {T = Unit {0}} at value o (around a bits t) (around b bits u) (Ok tt)
+  value_done bits guarded counts =
+      let next : a.writes + 1 ≡ suc a.writes = omega arith in
+      record {
+        some = guarded.some;
+        all = guarded.ok.wrote;
+        table = refl;
+        counts = λ tells. counts ∙ ap (λ n. took_effect n t) next ∙ ap (λ l. counted a.writes (take (length l) (one_move o)) t) (sym guarded.ok.wrote);
+        out_of_memory = λ memory. cc;
+      }

@@ -11,9 +11,8 @@ use Rattle.pack_model.specs.operations.Committing.{moves_of}
 use Rattle.pack_model.specs.operations.Step.{Operation}
 use Rattle.pack_model.specs.reading.Model.{read_as}
 use Rattle.pack_model.specs.sessions.Tallies.{counted}
-use Rattle.laws_call.specs.Acting.{Acts, Operates, begun, refused}
+use Rattle.laws_call.specs.Acting.{Acts, Operates, around, begun, refused}
 use Rattle.laws_call.specs.Writing.{Written}
-use Rattle.file_pages.specs.Calls.{around}
 
 module _ (T E : Type 0) (fault memory : E) (o : Operation) (claimed : List ℕ) (a b c : Taped) (one : DiskAlone a b) (two : DiskAlone b c) (silent : added a b ≡ []) (first : a.writes ≡ capped (writes_in a.events)) (mid : b.writes ≡ capped (writes_in b.events)) where
   same : added a c ≡ added b c

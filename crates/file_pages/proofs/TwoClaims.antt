@@ -21,7 +21,7 @@ use Rattle.pack_model.specs.operations.Operations.{make_moves, make_writes}
 use Rattle.pack_model.specs.operations.Step.Operation.{make}
 use Rattle.pack_model.specs.sessions.Tallies.{counted, took_effect}
 use Rattle.laws_call.proofs.acting.Laws.{acts_of_each_operation}
-use Rattle.laws_call.specs.Acting.{Operates, begun}
+use Rattle.laws_call.specs.Acting.{Operates, around, begun}
 use Rattle.laws_call.specs.Writing.{makes}
 use Rattle.laws_hint.specs.MapChanges.{marked}
 use Rattle.laws_operation.proofs.grow.Laws.{claims_keep_unclaimed_free}
@@ -30,7 +30,7 @@ use Rattle.laws_operation.specs.PlaceLaws.{HasTwoPages}
 use Rattle.page_seeking.specs.declared.refs.FileError.TheVariants as file
 use Rattle.page_seeking.specs.declared.refs.FileError.{FileError}
 use Rattle.file_pages.proofs.Counting.{effect_by_the_count, first_length}
-use Rattle.file_pages.specs.Calls.{MayBeMade, around}
+use Rattle.file_pages.specs.Calls.{MayBeMade}
 use Rattle.file_pages.specs.Counting.{counted_after}
 use Rattle.file_pages.specs.Inside.{error_at}
 use Rattle.file_pages.proofs.Erring.{memory_of, fault_of}

@@ -1,23 +1,17 @@
 -- What a caller of a call that writes sees.
-use Rattle.std.specs.Prelude.{Bool, List, [], ℕ, ◌≡◌}
+use Rattle.std.specs.Prelude.{List, [], ℕ, ◌≡◌}
 use Rattle.disk_records.specs.declared.records.Event.{Event}
 use Rattle.alto_words.specs.declared.fid.Fid.{Fid}
 use Rattle.disk_records.specs.Packs.{Pack}
-use Rattle.disk_records.specs.Tapes.{Taped}
-use Rattle.disk_records.specs.declared.records.Tally.{Tally}
 use Rattle.pack_model.specs.operations.Committing.{moves_of}
 use Rattle.pack_model.specs.operations.Operations.{one_move}
 use Rattle.pack_model.specs.operations.Step.Operation.{make, title}
 use Rattle.pack_model.specs.operations.Step.{Operation}
 use Rattle.pack_model.specs.reading.Model.{read_as}
 use Rattle.pack_model.specs.states.Whole.{Tidy, Whole}
-use Rattle.laws_call.specs.Acting.{Acts, Around}
+use Rattle.laws_call.specs.Acting.{Acts}
 use Rattle.laws_call.specs.Writing.{Written}
 use Rattle.laws_operation.specs.FileWords.{CanMake}
-
--- the machine, the bits of the table and the tally, before or after a call
-abbrev pub around : Taped → List Bool → Tally → Around
-around tape bits tally = record { tape = tape; bits = bits; tally = tally }
 
 -- ---- make
 abbrev pub to_make : Fid → List ℕ → ℕ → Operation

@@ -1,15 +1,17 @@
 // Another name in a leader page.
-ghost use Rattle.std.specs.Prelude.{◌≡◌, ◌≤◌, IsTrue, [], true};
+ghost use Rattle.std.specs.Prelude.{◌≡◌, ◌+◌, ◌≤◌, IsTrue, OnOk, [], true};
 ghost use Rattle.alto_words.specs.Names.{is_stored_name};
 ghost use Rattle.disk_records.specs.Causes.{HasCause};
 ghost use Rattle.disk_records.specs.Tapes.{DiskAlone, pack};
-ghost use Rattle.laws_call.specs.Acting.{Operates};
+ghost use Rattle.laws_call.specs.Acting.{Operates, around};
 ghost use Rattle.laws_operation.specs.ByteLaws.{IsOrdinary};
 ghost use Rattle.pack_model.specs.operations.PageWords.{titled_value};
 ghost use Rattle.page_seeking.specs.Causes.{cause_of_file};
 ghost use Rattle.page_seeking.specs.Refs.{FileStands, IfBeyond, IfMisled, MisledBy};
+ghost use Rattle.page_seeking.specs.Seeking.{Quick};
 ghost use Rattle.page_seeking.specs.declared.refs.FileError.TheVariants as error;
-ghost use Rattle.file_pages.specs.Calls.{around, to_title};
+ghost use Rattle.file_pages.specs.Calls.{to_title};
+ghost use Rattle.file_pages.specs.Values.{LeavesHandy};
 
 use crate::one_value::write_page;
 use crate::refs::page_of_file;
@@ -52,6 +54,8 @@ pub fn title<D: Disk>(
     ensures alone { DiskAlone (D.tape disk.old) (D.tape disk.new) }
     ensures table { hints.new.table ≡ hints.old.table }
     ensures refused { hints.old.cache.refused ≤ hints.new.cache.refused }
+    ensures handy { IsTrue D.told → LeavesHandy (pack (D.tape disk.old)) (pack (D.tape disk.new)) hints.old.cache hints.new.cache }
+    ensures quick { IsTrue D.told → Quick (pack (D.tape disk.old)) file.now.fid hints.old.cache → OnOk result ((D.tape disk.new).runs ≤ (D.tape disk.old).runs + 3) }
 {
     match locate(disk, hints, file, 0, buf) {
         Ok((at, _)) => {

@@ -1,7 +1,7 @@
 //! Calls on files that write, each of them one operation.
 //!
 //! Below it stand label_check, hint_cache and leader_page, page_seeking with the names of files, and the laws of calls. Come here to make a
-//! file, to title one, to cut one or to drop one. To the layers above, on every machine:
+//! file, to title one, to put bytes in the place of others, to cut one or to drop one. To the layers above, on every machine:
 //! 1. A fault comes only where its count rose (`cause`). Nothing is shown, and no key is taken (`alone`).
 //! 2. The table of busy bits keeps its length (`sized`), or is as it was (`table`), and the count of notes that were refused never falls
 //!    (`refused`): such a note is passed over.
@@ -10,9 +10,11 @@
 //! 3. The call does one operation: at Ok all of its record writes, at every other answer a prefix of them, and the tally counts the
 //!    operation if and only if the record that commits it was written (`operates`). A drop is so except for the slot of its entry (`releases`).
 //! 4. A new file's pages are in the sectors that were given for them (`placed`).
-//! 5. Misled comes only where a hint of the file misled as the call began, of a new file never (`misled`), and Beyond of a cut past the end
-//!    (`beyond`), else never (`cause`, `never_beyond`).
-//! 6. With true links a cache that is handy for a file is so after a cut and a drop (`handy`).
+//! 5. Misled comes only where a hint of the file misled as the call began, of a new file never (`misled`), and Beyond only of bytes that would
+//!    end after the file and of a cut past its end (`beyond`), else never (`cause`, `never_beyond`). `put` says its record write of every file,
+//!    directories too (`puts`).
+//! 6. With true links a cache that was handy for a file is so on the pack afterwards (`handy`), and where all hints of the file are handy, few
+//!    sector commands are taken (`quick`).
 //!
 //! Not promised: that the sectors for a new file are free where the machine isn't modelled. Such a call answers Misled.
 #![tactic(auto)]
@@ -23,6 +25,7 @@ mod leaders;
 mod making;
 mod new_pages;
 mod one_value;
+mod putting;
 mod refs;
 mod releasing;
 mod tallying;
@@ -32,3 +35,4 @@ pub use dropping::drop_file;
 pub use leaders::title;
 pub use making::make;
 pub use page_seeking::{FileError, FileRef};
+pub use putting::put;

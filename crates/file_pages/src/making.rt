@@ -6,11 +6,11 @@ ghost use Rattle.disk_records.specs.Causes.{HasCause};
 ghost use Rattle.disk_records.specs.Tapes.{DiskAlone, pack};
 ghost use Rattle.disk_records.specs.Words.{word};
 ghost use Rattle.disk_records.specs.declared.records.Place.TheVariants as place;
-ghost use Rattle.laws_call.specs.Acting.{Operates};
+ghost use Rattle.laws_call.specs.Acting.{Operates, around};
 ghost use Rattle.laws_operation.specs.PlaceLaws.{HasTwoPages};
 ghost use Rattle.page_seeking.specs.declared.refs.FileError.TheVariants as error;
 ghost use Rattle.page_seeking.specs.Refs.{IfMisled};
-ghost use Rattle.file_pages.specs.Calls.{MayBeMade, around, to_make};
+ghost use Rattle.file_pages.specs.Calls.{MayBeMade, to_make};
 ghost use Rattle.page_seeking.specs.Causes.{cause_of_length};
 
 use crate::FileError;

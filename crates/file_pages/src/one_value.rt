@@ -1,16 +1,15 @@
-// An operation that is one value of a page.
-ghost use Rattle.std.specs.Prelude.{◌≡◌, ◌<◌, ◌≤◌, Bool, IsTrue, List, Some, []};
+// One value of a page.
+ghost use Rattle.std.specs.Prelude.{◌≡◌, ◌+◌, ◌<◌, ◌≤◌, Bool, IsTrue, List, Some};
 ghost use Rattle.disk_records.specs.Addresses.{pages_of};
 ghost use Rattle.disk_records.specs.Causes.{HasCause};
-ghost use Rattle.disk_records.specs.Commands.{value_writes};
 ghost use Rattle.disk_records.specs.Packs.{carried};
 ghost use Rattle.disk_records.specs.Tapes.{DiskAlone, pack};
-ghost use Rattle.laws_call.specs.Acting.{Operates};
+ghost use Rattle.laws_call.specs.Acting.{around};
+ghost use Rattle.laws_operation.specs.PlaceLaws.{SamePlaces};
 ghost use Rattle.page_seeking.specs.Causes.{cause_of_length};
 ghost use Rattle.page_seeking.specs.Refs.{IfMisled};
-ghost use Rattle.page_seeking.specs.declared.refs.FileError.TheVariants as error;
 ghost use Rattle.pack_model.specs.operations.Step.{Operation};
-ghost use Rattle.file_pages.specs.Calls.{IsOneValue, around};
+ghost use Rattle.file_pages.specs.Values.{WroteValue};
 
 use crate::FileError;
 use crate::refs::error_at;
@@ -29,10 +28,12 @@ pub(crate) fn write_page<D: Disk>(
 ) -> Result<(), FileError>
     requires first { 1 ≤ at }
     requires place { at < pages_of (D.tape disk.old).form }
-    ensures operates { (o : Operation) (bits : List Bool) → IsTrue D.told → carried (pack (D.tape disk.old)) at ≡ Some page → IsOneValue (pack (D.tape disk.old)) o (value_writes at value.now) → Operates error.DiskFault error.Memory o [] (around (D.tape disk.old) bits tally.old) (around (D.tape disk.new) bits tally.new) result }
+    ensures writes { (o : Operation) (bits : List Bool) → IsTrue D.told → WroteValue at value.now o (around (D.tape disk.old) bits tally.old) (around (D.tape disk.new) bits tally.new) result }
     ensures misled { IsTrue D.told → carried (pack (D.tape disk.old)) at ≡ Some page → IfMisled result (λ place at wanted found. ⊥) }
     ensures cause { HasCause cause_of_length (D.tape disk.old) (D.tape disk.new) result }
     ensures alone { DiskAlone (D.tape disk.old) (D.tape disk.new) }
+    ensures places { IsTrue D.told → SamePlaces (pack (D.tape disk.old)) (pack (D.tape disk.new)) }
+    ensures runs { IsTrue D.told → (D.tape disk.new).runs ≤ (D.tape disk.old).runs + 2 }
 {
     let before = disk.writes();
     let written = write_value(disk, at, page, value);

@@ -38,6 +38,9 @@ pub record Around : Type 0 where
   pub bits : List Bool
   pub tally : Tally
 
+abbrev pub around : Taped → List Bool → Tally → Around
+around tape bits tally = record { tape = tape; bits = bits; tally = tally }
+
 -- Nothing was written, and nothing counted.
 pub record IsQuiet (old new : Around) : Type 0 where
   pub silent : added old.tape new.tape ≡ []

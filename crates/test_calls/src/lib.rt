@@ -4,6 +4,8 @@
 #![tactic(auto)]
 
 #[cfg(test)]
+mod bytes_put;
+#[cfg(test)]
 mod new_files;
 #[cfg(test)]
 mod released_pages;

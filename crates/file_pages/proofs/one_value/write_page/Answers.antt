@@ -2,23 +2,30 @@ use Rattle.std.proofs.Common.{Err, Ok, ap, ◌∙◌, ◌≡◌}
 use Rattle.disk_records.specs.declared.records.Place.TheVariants.{Held}
 use Rattle.file_pages.specs.Counting.{counted_after}
 use Rattle.file_pages.proofs.OneWrite.{value_done, value_failed}
+use Rattle.file_pages.proofs.Valued.{value_keeps_places}
 use Rattle.file_pages.proofs.one_value.write_page.Goals as goal
 
-pub returns-in-Ok-clause-operates : goal.returns-in-Ok-clause-operates
-returns-in-Ok-clause-operates g c o bits told carries is =
+pub returns-in-Ok-clause-writes : goal.returns-in-Ok-clause-writes
+returns-in-Ok-clause-writes g c o bits told =
     let a = g.D.Tape.tape c.args.disk.now in
     let b = g.D.Tape.tape c.write_value-written.new.disk in
     let counts : c.count_operation.new.tally ≡ counted_after a.writes 1 b.writes (Ok tt) c.args.tally.now =
     c.count_operation.ensures ∙ ap (λ k. counted_after k 1 c.writes-now.result c.write_value-written.result c.args.tally.now) c.writes-before.ensures ∙ ap (λ k. counted_after a.writes 1 k c.write_value-written.result c.args.tally.now) c.writes-now.ensures ∙ ap (λ r. counted_after a.writes 1 b.writes r c.args.tally.now) c.in-Ok.is in
-    value_done a b c.args.at c.args.page c.args.value.now o c.args.tally.now c.write_value-written.ensures.alone (g.met.D.Disk.counted c.args.disk.now told) (g.met.D.Disk.counted c.write_value-written.new.disk told) bits is
+    value_done a b c.args.at c.args.page c.args.value.now o c.args.tally.now c.write_value-written.ensures.alone (g.met.D.Disk.counted c.args.disk.now told) (g.met.D.Disk.counted c.write_value-written.new.disk told) bits
     (rw c.in-Ok.is at (c.write_value-written.ensures.guarded told)) counts
 
-pub returns-in-Err-clause-operates : goal.returns-in-Err-clause-operates
-returns-in-Err-clause-operates g c o bits told carries is =
+pub returns-in-Err-clause-writes : goal.returns-in-Err-clause-writes
+returns-in-Err-clause-writes g c o bits told =
     let a = g.D.Tape.tape c.args.disk.now in
     let b = g.D.Tape.tape c.write_value-written.new.disk in
     let error = c.in-Err.error in
     let counts : c.count_operation.new.tally ≡ counted_after a.writes 1 b.writes (Err error) c.args.tally.now =
     c.count_operation.ensures ∙ ap (λ k. counted_after k 1 c.writes-now.result c.write_value-written.result c.args.tally.now) c.writes-before.ensures ∙ ap (λ k. counted_after a.writes 1 k c.write_value-written.result c.args.tally.now) c.writes-now.ensures ∙ ap (λ r. counted_after a.writes 1 b.writes r c.args.tally.now) c.in-Err.is in
-    value_failed a b c.args.at c.args.page c.args.value.now o c.args.tally.now c.write_value-written.ensures.alone (g.met.D.Disk.counted c.args.disk.now told) (g.met.D.Disk.counted c.write_value-written.new.disk told) bits is
+    value_failed a b c.args.at c.args.page c.args.value.now o c.args.tally.now c.write_value-written.ensures.alone (g.met.D.Disk.counted c.args.disk.now told) (g.met.D.Disk.counted c.write_value-written.new.disk told) bits
     error (Held c.args.at) c.args.at _ c.error_at.result c.error_at.ensures (rw c.in-Err.is at (c.write_value-written.ensures.guarded told)) counts
+
+pub returns-in-Ok-clause-places : goal.returns-in-Ok-clause-places
+returns-in-Ok-clause-places g c told = value_keeps_places c.args.at c.args.value.now c.write_value-written.ensures.alone.grown (c.write_value-written.ensures.guarded told).some
+
+pub returns-in-Err-clause-places : goal.returns-in-Err-clause-places
+returns-in-Err-clause-places g c told = value_keeps_places c.args.at c.args.value.now c.write_value-written.ensures.alone.grown (c.write_value-written.ensures.guarded told).some

@@ -1,0 +1,74 @@
+use Rattle.std.proofs.Common.{Bool, List, ap, length, refl, subst, sym, ℕ, ◌%◌, ◌∙◌, ◌≡◌}
+use Rattle.disk_records.proofs.Growing.{alone_twice}
+use Rattle.disk_records.specs.Packs.{Pack, sector_at}
+use Rattle.disk_records.specs.Tapes.{pack}
+use Rattle.disk_records.specs.declared.records.Sector.{Sector}
+use Rattle.laws_call.specs.Acting.{Operates, around}
+use Rattle.page_seeking.specs.declared.refs.FileError.TheVariants as error
+use Rattle.pack_model.specs.operations.PageWords.{put_value}
+use Rattle.pack_model.specs.operations.Step.Operation.{put}
+use Rattle.file_pages.specs.Putting.{Puts, value_put}
+use Rattle.file_pages.specs.Values.{WroteValue}
+use Rattle.file_pages.proofs.PutOnce.{Fits, put_operates, put_puts}
+use Rattle.file_pages.proofs.Valued.{look_leaves_handy, value_after_look, value_leaves_handy}
+use Rattle.file_pages.proofs.WithinFile.{ends_before, never_beyond}
+use Rattle.file_pages.proofs.putting.put.Goals as goal
+
+pub returns-in-Ok-clause-alone : goal.returns-in-Ok-clause-alone
+returns-in-Ok-clause-alone g c = alone_twice c.locate_bytes.ensures.looks.alone c.write_page.ensures.alone
+
+pub returns-in-Ok-clause-operates : goal.returns-in-Ok-clause-operates
+returns-in-Ok-clause-operates g c told stands ordinary may =
+    let a = g.D.Tape.tape c.args.disk.now in
+    let d = g.D.Tape.tape c.write_page.new.disk in
+    let f = c.args.file.now.fid in
+    let offset = c.args.offset in
+    let new = c.args.bytes.now in
+    let past = c.args.past.now in
+    let at = c.in-Ok.at in
+    let there = c.in-Ok.ensures.stands told in
+    let looks = c.locate_bytes.ensures.looks in
+    let bits = c.locate_bytes.new.hints.table in
+    let fits : Fits (pack a) f offset new past at = record { carries = there.carries; sized = ap (λ (s : Sector). length s.value) (sym there.holds) ∙ c.in-Ok.ensures.sized; one_page = c.requires.one_page; within = c.in-Ok.ensures.within told stands.whole; bytes = c.put_in_value.ensures.bytes; words = c.put_in_value.ensures.words } in
+    let value : c.put_in_value.new.value ≡ value_put (pack a) at offset new past = c.put_in_value.ensures.value ∙ ap (λ (s : Sector). put_value (offset % 512) new past s.value) there.holds in
+    let writes = value_after_look bits c.args.tally.now c.write_page.new.tally looks.alone c.write_page.ensures.alone (looks.silent told) (g.met.D.Disk.counted c.args.disk.now told) (g.met.D.Disk.counted c.locate_bytes.new.disk told) (c.write_page.ensures.writes (put f offset new) bits told) in
+    let wrote : WroteValue {T = Unit {0}} at (value_put (pack a) at offset new past) (put f offset new) (around a c.args.hints.now.table c.args.tally.now) (around d bits c.write_page.new.tally) c.write_page.result =
+    subst (λ (l : List Bool). WroteValue {T = Unit {0}} at (value_put (pack a) at offset new past) (put f offset new) (around a l c.args.tally.now) (around d bits c.write_page.new.tally) c.write_page.result) c.locate_bytes.ensures.table
+    (subst (λ (v : List ℕ). WroteValue {T = Unit {0}} at v (put f offset new) (around a bits c.args.tally.now) (around d bits c.write_page.new.tally) c.write_page.result) value writes) in
+    put_operates stands.whole stands.tidy ordinary may fits wrote
+
+pub returns-in-Ok-clause-puts : goal.returns-in-Ok-clause-puts
+returns-in-Ok-clause-puts g c told whole =
+    let a = g.D.Tape.tape c.args.disk.now in
+    let d = g.D.Tape.tape c.write_page.new.disk in
+    let f = c.args.file.now.fid in
+    let offset = c.args.offset in
+    let new = c.args.bytes.now in
+    let past = c.args.past.now in
+    let at = c.in-Ok.at in
+    let there = c.in-Ok.ensures.stands told in
+    let looks = c.locate_bytes.ensures.looks in
+    let bits = c.locate_bytes.new.hints.table in
+    let fits : Fits (pack a) f offset new past at = record { carries = there.carries; sized = ap (λ (s : Sector). length s.value) (sym there.holds) ∙ c.in-Ok.ensures.sized; one_page = c.requires.one_page; within = c.in-Ok.ensures.within told whole; bytes = c.put_in_value.ensures.bytes; words = c.put_in_value.ensures.words } in
+    let value : c.put_in_value.new.value ≡ value_put (pack a) at offset new past = c.put_in_value.ensures.value ∙ ap (λ (s : Sector). put_value (offset % 512) new past s.value) there.holds in
+    let writes = value_after_look bits c.args.tally.now c.write_page.new.tally looks.alone c.write_page.ensures.alone (looks.silent told) (g.met.D.Disk.counted c.args.disk.now told) (g.met.D.Disk.counted c.locate_bytes.new.disk told) (c.write_page.ensures.writes (put f offset new) bits told) in
+    let wrote : WroteValue {T = Unit {0}} at (value_put (pack a) at offset new past) (put f offset new) (around a c.args.hints.now.table c.args.tally.now) (around d bits c.write_page.new.tally) c.write_page.result =
+    subst (λ (l : List Bool). WroteValue {T = Unit {0}} at (value_put (pack a) at offset new past) (put f offset new) (around a l c.args.tally.now) (around d bits c.write_page.new.tally) c.write_page.result) c.locate_bytes.ensures.table
+    (subst (λ (v : List ℕ). WroteValue {T = Unit {0}} at v (put f offset new) (around a bits c.args.tally.now) (around d bits c.write_page.new.tally) c.write_page.result) value writes) in
+    put_puts whole fits wrote
+
+pub returns-in-Ok-clause-beyond : goal.returns-in-Ok-clause-beyond
+returns-in-Ok-clause-beyond g c told whole = never_beyond _ (g.D.Tape.tape c.locate_bytes.new.disk) (g.D.Tape.tape c.write_page.new.disk) c.write_page.result c.write_page.ensures.cause
+
+pub returns-in-Err-clause-beyond : goal.returns-in-Err-clause-beyond
+returns-in-Err-clause-beyond g c told whole =
+    let a = g.D.Tape.tape c.args.disk.now in
+    let b = g.D.Tape.tape c.locate_bytes.new.disk in
+    ends_before (ℕ × ℕ) (Unit {0}) (pack a) c.args.file.now.fid _ (around a c.args.hints.now.table c.args.tally.now) (around b c.locate_bytes.new.hints.table c.args.tally.now) c.in-Err.error
+    (record { silent = c.locate_bytes.ensures.looks.silent told; bits = c.locate_bytes.ensures.table; tally = refl }) (c.in-Err.ensures.beyond told whole)
+
+pub returns-in-Ok-clause-handy : goal.returns-in-Ok-clause-handy
+returns-in-Ok-clause-handy g c told = value_leaves_handy (g.D.Tape.tape c.write_page.new.disk) c.args.hints.now.cache c.locate_bytes.new.hints.cache c.locate_bytes.ensures.looks told (c.locate_bytes.ensures.handy told) (c.write_page.ensures.places told)
+
+pub returns-in-Err-clause-handy : goal.returns-in-Err-clause-handy
+returns-in-Err-clause-handy g c told = look_leaves_handy c.args.hints.now.cache c.locate_bytes.new.hints.cache c.locate_bytes.ensures.looks told (c.locate_bytes.ensures.handy told)
