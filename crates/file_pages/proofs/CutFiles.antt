@@ -13,7 +13,7 @@ use Rattle.disk_records.specs.declared.records.Tally.{Tally}
 use Rattle.label_check.specs.Guarded.{info_of}
 use Rattle.label_check.specs.declared.errors.PageInfo.{PageInfo}
 use Rattle.laws_call.proofs.writing.Laws.{written_acts}
-use Rattle.laws_call.specs.Acting.{Operates, begun}
+use Rattle.laws_call.specs.Acting.{Operates, around, begun}
 use Rattle.laws_call.specs.Writing.{cuts}
 use Rattle.laws_contents.proofs.pages.Laws.{page_numbers_are_words}
 use Rattle.laws_hint.specs.MapChanges.{marked}
@@ -42,7 +42,6 @@ use Rattle.page_seeking.specs.declared.refs.FileError.{FileError}
 use Rattle.page_seeking.specs.declared.refs.FileRef.{FileRef}
 use Rattle.file_pages.proofs.Following.{follows_relabelled}
 use Rattle.file_pages.proofs.Remaining.{most_bytes, short_size}
-use Rattle.file_pages.specs.Calls.{around}
 use Rattle.file_pages.specs.Cutting.{IsRead}
 use Rattle.file_pages.specs.Releasing.{IsKnown, AreAfter, CommitsAndReleases, CommitsFirst, Follows}
 

@@ -8,7 +8,7 @@ use Rattle.disk_records.specs.Tapes.{Grown, Taped, pack}
 use Rattle.disk_records.specs.declared.records.Sector.{Sector}
 use Rattle.disk_records.specs.declared.records.Tally.{Tally}
 use Rattle.label_check.specs.declared.errors.PageInfo.{PageInfo}
-use Rattle.laws_call.specs.Acting.{Releases, releasing}
+use Rattle.laws_call.specs.Acting.{Releases, around, releasing}
 use Rattle.laws_hint.specs.MapChanges.{marked}
 use Rattle.laws_lookup.proofs.dropping.Laws.{bare_file_may_be_dropped}
 use Rattle.laws_midway.proofs.found.Laws.{found_file_lives}
@@ -24,7 +24,6 @@ use Rattle.page_seeking.specs.declared.refs.FileError.{FileError}
 use Rattle.page_seeking.specs.declared.refs.FileRef.{FileRef}
 use Rattle.file_pages.proofs.CutFiles.{known_read}
 use Rattle.file_pages.proofs.Following.{follows_released}
-use Rattle.file_pages.specs.Calls.{around}
 use Rattle.file_pages.specs.Cutting.{IsRead}
 use Rattle.file_pages.specs.Dropping.{MayBeDropped}
 use Rattle.file_pages.specs.Releasing.{IsKnown, AreAfter, CommitsAndReleases, CommitsFirst, Follows}

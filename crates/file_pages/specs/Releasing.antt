@@ -106,7 +106,3 @@ pub record CommitsAndReleases (part : List Event) (pages : List ℕ) (old new : 
 -- on any pack a cache that was handy for a file is so
 abbrev pub KeepsEachHandy : Cached → Cached → Type 0
 KeepsEachHandy old new = (ss : List Sight) (f : Fid) → HandyCache ss f (all_listed old) → HandyCache ss f (all_listed new)
-
--- with true links on p, a cache that was handy for a file there is so on q
-abbrev pub HandyStill : Pack → Pack → Cached → Cached → Type 0
-HandyStill p q old new = Whole p → LinksTrue p → (f : Fid) → HandyCache (sights p) f (all_listed old) → HandyCache (sights q) f (all_listed new)

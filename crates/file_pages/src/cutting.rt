@@ -6,7 +6,7 @@ ghost use Rattle.disk_records.specs.Commands.{relabel_writes};
 ghost use Rattle.disk_records.specs.Labels.{page_of};
 ghost use Rattle.disk_records.specs.Packs.{Pack, carried, sector_at};
 ghost use Rattle.disk_records.specs.Tapes.{DiskAlone, added, pack};
-ghost use Rattle.laws_call.specs.Acting.{IsQuiet, Operates};
+ghost use Rattle.laws_call.specs.Acting.{IsQuiet, Operates, around};
 ghost use Rattle.laws_hint.specs.MapChanges.{marked};
 ghost use Rattle.laws_operation.specs.ByteLaws.{IsOrdinary};
 ghost use Rattle.pack_model.specs.hints.Links.{no_link};
@@ -17,9 +17,9 @@ ghost use Rattle.page_seeking.specs.Parts.{IsPast};
 ghost use Rattle.page_seeking.specs.Refs.{FileStands, IfBeyond, IfMisled, MisledBy};
 ghost use Rattle.page_seeking.specs.Seeking.{file_length, length_at};
 ghost use Rattle.page_seeking.specs.declared.refs.FileError.TheVariants as error;
-ghost use Rattle.file_pages.specs.Calls.{around};
 ghost use Rattle.file_pages.specs.Cutting.{IsRead, to_cut};
-ghost use Rattle.file_pages.specs.Releasing.{AreAfter, CommitsAndReleases, CommitsFirst, KeepsEachHandy, MisledSince, OnlyGo, HandyStill};
+ghost use Rattle.file_pages.specs.Releasing.{AreAfter, CommitsAndReleases, CommitsFirst, KeepsEachHandy, MisledSince, OnlyGo};
+ghost use Rattle.file_pages.specs.Values.{LeavesHandy};
 
 use crate::refs::error_at;
 use crate::releasing::release_rest;
@@ -148,7 +148,7 @@ pub fn cut<D: Disk>(
     ensures alone { DiskAlone (D.tape disk.old) (D.tape disk.new) }
     ensures sized { list_length hints.new.table ≡ list_length hints.old.table }
     ensures refused { hints.old.cache.refused ≤ hints.new.cache.refused }
-    ensures handy { IsTrue D.told → FileStands (pack (D.tape disk.old)) file.now → OnOk result (HandyStill (pack (D.tape disk.old)) (pack (D.tape disk.new)) hints.old.cache hints.new.cache) }
+    ensures handy { IsTrue D.told → FileStands (pack (D.tape disk.old)) file.now → OnOk result (LeavesHandy (pack (D.tape disk.old)) (pack (D.tape disk.new)) hints.old.cache hints.new.cache) }
 {
     let Some(number) = last_page_of(length) else {
         return match page_seeking::length(disk, hints, file, buf) {

@@ -5,16 +5,16 @@ ghost use Rattle.disk_records.specs.Causes.{HasCause};
 ghost use Rattle.disk_records.specs.Commands.{release_writes};
 ghost use Rattle.disk_records.specs.Packs.{Pack, carried};
 ghost use Rattle.disk_records.specs.Tapes.{DiskAlone, added, pack};
-ghost use Rattle.laws_call.specs.Acting.{Releases};
+ghost use Rattle.laws_call.specs.Acting.{Releases, around};
 ghost use Rattle.laws_hint.specs.MapChanges.{marked};
 ghost use Rattle.page_seeking.specs.Causes.{cause_of_file, cause_of_length};
 ghost use Rattle.page_seeking.specs.Refs.{FileStands, IfBeyond, IfMisled, MisledBy};
 ghost use Rattle.page_seeking.specs.Seeking.{page_number};
 ghost use Rattle.page_seeking.specs.declared.refs.FileError.TheVariants as error;
-ghost use Rattle.file_pages.specs.Calls.{around};
 ghost use Rattle.file_pages.specs.Cutting.{IsRead};
 ghost use Rattle.file_pages.specs.Dropping.{MayBeDropped};
-ghost use Rattle.file_pages.specs.Releasing.{AreAfter, CommitsAndReleases, CommitsFirst, KeepsEachHandy, MisledSince, OnlyGo, HandyStill};
+ghost use Rattle.file_pages.specs.Releasing.{AreAfter, CommitsAndReleases, CommitsFirst, KeepsEachHandy, MisledSince, OnlyGo};
+ghost use Rattle.file_pages.specs.Values.{LeavesHandy};
 
 use crate::refs::error_at;
 use crate::releasing::{give_back, release_rest};
@@ -106,7 +106,7 @@ pub fn drop_file<D: Disk>(
     ensures alone { DiskAlone (D.tape disk.old) (D.tape disk.new) }
     ensures sized { length hints.new.table ≡ length hints.old.table }
     ensures refused { hints.old.cache.refused ≤ hints.new.cache.refused }
-    ensures handy { IsTrue D.told → FileStands (pack (D.tape disk.old)) file.now → OnOk result (HandyStill (pack (D.tape disk.old)) (pack (D.tape disk.new)) hints.old.cache hints.new.cache) }
+    ensures handy { IsTrue D.told → FileStands (pack (D.tape disk.old)) file.now → OnOk result (LeavesHandy (pack (D.tape disk.old)) (pack (D.tape disk.new)) hints.old.cache hints.new.cache) }
 {
     match locate(disk, hints, file, 0, buf) {
         Ok((at, info)) => drop_pages(disk, hints, tally, file.fid, at, info, buf),
