@@ -1,5 +1,5 @@
 -- A put, as one value of a page.
-use Rattle.std.proofs.Common.{All, List, Result, Some, [], ap, arith, length, refl, subst, sym, ℕ, ◌%◌, ◌*◌, ◌+◌, ◌<◌, ◌∙◌, ◌≡◌, ◌≤◌}
+use Rattle.std.proofs.Common.{All, List, Result, Some, [], arith, length, refl, ℕ, ◌%◌, ◌*◌, ◌+◌, ◌<◌, ◌≡◌, ◌≤◌}
 use Rattle.alto_words.specs.declared.fid.Fid.{Fid}
 use Rattle.disk_records.proofs.Bytes.{length-bytes_of}
 use Rattle.disk_records.specs.Commands.{value_writes}

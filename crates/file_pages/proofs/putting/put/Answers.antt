@@ -1,13 +1,11 @@
 use Rattle.std.proofs.Common.{Bool, List, ap, length, refl, subst, sym, ℕ, ◌%◌, ◌∙◌, ◌≡◌}
 use Rattle.disk_records.proofs.Growing.{alone_twice}
-use Rattle.disk_records.specs.Packs.{Pack, sector_at}
 use Rattle.disk_records.specs.Tapes.{pack}
 use Rattle.disk_records.specs.declared.records.Sector.{Sector}
-use Rattle.laws_call.specs.Acting.{Operates, around}
-use Rattle.page_seeking.specs.declared.refs.FileError.TheVariants as error
+use Rattle.laws_call.specs.Acting.{around}
 use Rattle.pack_model.specs.operations.PageWords.{put_value}
 use Rattle.pack_model.specs.operations.Step.Operation.{put}
-use Rattle.file_pages.specs.Putting.{Puts, value_put}
+use Rattle.file_pages.specs.Putting.{value_put}
 use Rattle.file_pages.specs.Values.{WroteValue}
 use Rattle.file_pages.proofs.PutOnce.{Fits, put_operates, put_puts}
 use Rattle.file_pages.proofs.Valued.{look_leaves_handy, value_after_look, value_leaves_handy}
