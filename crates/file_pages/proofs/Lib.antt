@@ -4,6 +4,7 @@ mod Counting
 mod CutFiles
 mod DroppedFiles
 mod Erring
+mod FileEnds
 mod Following
 mod Going
 mod MakeMoves
@@ -12,6 +13,7 @@ mod PutOnce
 mod ReleaseLoop
 mod Remaining
 mod Sequel
+mod StampOnce
 mod Titling
 mod TwoClaims
 mod Valued

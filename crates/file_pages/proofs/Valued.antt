@@ -85,6 +85,10 @@ leaves_handy p q old new keeps same whole links f h = All-weaker (IsRight p) (Is
     IsRight : Pack → CachedAt → Type 0
     IsRight r x = x.0.fid ≡ f → IsRightOrIdle (sights r) f x.0.number x.1
 
+-- two looks keep a cache handy
+pub keeps_handy_twice : {told : Bool} {n : ℕ} {a b : Taped} (old mid new : Cached) → Looks told n a b → IsTrue told → KeepsHandy (pack a) old mid → KeepsHandy (pack b) mid new → KeepsHandy (pack a) old new
+keeps_handy_twice {a = a} old mid new looks told one two whole links f h = subst (λ (p : Pack). KeepsHandy p mid new) (looks_pack looks told) two whole links f (one whole links f h)
+
 -- a cache that a look keeps handy is so on the pack afterwards
 pub look_leaves_handy : {told : Bool} {n : ℕ} {a b : Taped} (old new : Cached) → Looks told n a b → IsTrue told → KeepsHandy (pack a) old new → LeavesHandy (pack a) (pack b) old new
 look_leaves_handy {a = a} {b} old new looks told keeps = subst (λ (q : Pack). LeavesHandy (pack a) q old new) (sym (looks_pack looks told)) keeps

@@ -5,7 +5,7 @@ use Rattle.alto_words.specs.declared.fid.Fid.{Fid}
 use Rattle.disk_records.specs.Packs.{Pack}
 use Rattle.pack_model.specs.operations.Committing.{moves_of}
 use Rattle.pack_model.specs.operations.Operations.{one_move}
-use Rattle.pack_model.specs.operations.Step.Operation.{make, title}
+use Rattle.pack_model.specs.operations.Step.Operation.{make, stamp, title}
 use Rattle.pack_model.specs.operations.Step.{Operation}
 use Rattle.pack_model.specs.reading.Model.{read_as}
 use Rattle.pack_model.specs.states.Whole.{Tidy, Whole}
@@ -32,3 +32,6 @@ pub record IsOneValue (p : Pack) (o : Operation) (writes : List Event) : Type 0 
 
 abbrev pub to_title : Fid → List ℕ → Operation
 to_title f name = title f name
+
+abbrev pub to_stamp : Fid → ℕ → Operation
+to_stamp f moment = stamp f moment

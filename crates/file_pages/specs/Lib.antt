@@ -2,6 +2,7 @@ pub mod Calls
 pub mod Counting
 pub mod Cutting
 pub mod Dropping
+pub mod Ends
 pub mod Inside
 pub mod Putting
 pub mod Releasing

@@ -1,18 +1,20 @@
-// Another name in a leader page.
-ghost use Rattle.std.specs.Prelude.{◌≡◌, ◌+◌, ◌≤◌, IsTrue, OnOk, [], true};
+// Another name, or another written date, in a leader page.
+ghost use Rattle.std.specs.Prelude.{◌≡◌, ◌+◌, ◌≤◌, IsTrue, OnOk, [], length, true};
 ghost use Rattle.alto_words.specs.Names.{is_stored_name};
+ghost use Rattle.disk_records.specs.Bytes.{put_at};
 ghost use Rattle.disk_records.specs.Causes.{HasCause};
 ghost use Rattle.disk_records.specs.Tapes.{DiskAlone, pack};
 ghost use Rattle.laws_call.specs.Acting.{Operates, around};
 ghost use Rattle.laws_operation.specs.ByteLaws.{IsOrdinary};
-ghost use Rattle.pack_model.specs.operations.PageWords.{titled_value};
+ghost use Rattle.pack_model.specs.operations.PageWords.{halves, stamped_value, titled_value};
 ghost use Rattle.page_seeking.specs.Causes.{cause_of_file};
 ghost use Rattle.page_seeking.specs.Refs.{FileStands, IfBeyond, IfMisled, MisledBy};
-ghost use Rattle.page_seeking.specs.Seeking.{Quick};
+ghost use Rattle.page_seeking.specs.Seeking.{LastNamed, Quick};
 ghost use Rattle.page_seeking.specs.declared.refs.FileError.TheVariants as error;
-ghost use Rattle.file_pages.specs.Calls.{to_title};
+ghost use Rattle.file_pages.specs.Calls.{to_stamp, to_title};
 ghost use Rattle.file_pages.specs.Values.{LeavesHandy};
 
+use crate::ends::{FileEnd, locate_ends};
 use crate::one_value::write_page;
 use crate::refs::page_of_file;
 use crate::{FileError, FileRef};
@@ -22,10 +24,14 @@ use hint_cache::Hints;
 use leader_page::name_words;
 use page_seeking::locate;
 
-/// The words of a leader page where its name is.
+/// The words of a leader page where its written date is, its name, and the address, the number and the bytes of the last page.
+const WRITTEN: usize = 2;
+
 const NAME: usize = 6;
 
 const REST: usize = 26;
+
+const LAST: usize = 253;
 
 /// Puts another name in the value of a leader page.
 fn put_name(value: &mut [u16; 256], name: &Name)
@@ -61,6 +67,62 @@ pub fn title<D: Disk>(
         Ok((at, _)) => {
             put_name(&mut buf.value, name);
             write_page(disk, tally, at, page_of_file(file.fid, 0), &buf.value)
+        }
+        Err(error) => Err(error),
+    }
+}
+
+/// A number as two words, the high one first.
+fn halves(number: u32) -> [u16; 2]
+    ensures { result ≡ halves number }
+{
+    [(number / 65_536) as u16, (number % 65_536) as u16]
+}
+
+/// Puts words in the place of others, from a word on.
+fn put_words(value: &mut [u16; 256], at: usize, words: &[u16])
+    requires { at + length words.now ≤ 256 }
+    ensures { value.new ≡ put_at at words.now value.old }
+{
+    value[at..at + words.len()].copy_from_slice(words);
+}
+
+/// Puts another written date and another last page in the value of a leader page.
+fn put_stamp(value: &mut [u16; 256], moment: u32, end: FileEnd)
+    ensures { value.new ≡ stamped_value moment end.at end.number end.bytes value.old }
+{
+    put_words(value, WRITTEN, &halves(moment));
+    put_words(value, LAST, &[end.at, end.number, end.bytes]);
+}
+
+/// Gives the leader of an ordinary file another written date, in seconds since the start of 1901, and the address, the number and the bytes
+/// of its last page, by one value write. Its leader and its last page are located first; what `buf` holds is open.
+///
+/// Misled: a hint of the file misleads, as `locate` says. DiskFault: the device failed. Memory: no memory was left for the record write.
+/// After each of these nothing was written, or after DiskFault all of it may be.
+pub fn stamp<D: Disk>(
+    disk: &mut D,
+    hints: &mut Hints,
+    tally: &mut Tally,
+    file: &FileRef,
+    moment: u32,
+    buf: &mut Sector,
+) -> Result<(), FileError>
+    ensures operates { IsTrue D.told → FileStands (pack (D.tape disk.old)) file.now → IsOrdinary file.now.fid → Operates error.DiskFault error.Memory (to_stamp file.now.fid moment) [] (around (D.tape disk.old) hints.old.table tally.old) (around (D.tape disk.new) hints.new.table tally.new) result }
+    ensures misled { IsTrue D.told → FileStands (pack (D.tape disk.old)) file.now → IfMisled result (MisledBy (pack (D.tape disk.old)) [] file.now.fid) }
+    ensures never_beyond { IsTrue D.told → FileStands (pack (D.tape disk.old)) file.now → IfBeyond result (λ length. ⊥) }
+    ensures cause { HasCause cause_of_file (D.tape disk.old) (D.tape disk.new) result }
+    ensures alone { DiskAlone (D.tape disk.old) (D.tape disk.new) }
+    ensures table { hints.new.table ≡ hints.old.table }
+    ensures refused { hints.old.cache.refused ≤ hints.new.cache.refused }
+    ensures handy { IsTrue D.told → LeavesHandy (pack (D.tape disk.old)) (pack (D.tape disk.new)) hints.old.cache hints.new.cache }
+    ensures quick { IsTrue D.told → Quick (pack (D.tape disk.old)) file.now.fid hints.old.cache → LastNamed (pack (D.tape disk.old)) file.now.fid → OnOk result ((D.tape disk.new).runs ≤ (D.tape disk.old).runs + 4) }
+{
+    let mut value = [0; 256];
+    match locate_ends(disk, hints, file, &mut value, buf) {
+        Ok((at, end)) => {
+            put_stamp(&mut value, moment, end);
+            write_page(disk, tally, at, page_of_file(file.fid, 0), &value)
         }
         Err(error) => Err(error),
     }

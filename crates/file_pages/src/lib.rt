@@ -1,7 +1,7 @@
 //! Calls on files that write, each of them one operation.
 //!
 //! Below it stand label_check, hint_cache and leader_page, page_seeking with the names of files, and the laws of calls. Come here to make a
-//! file, to title one, to put bytes in the place of others, to cut one or to drop one. To the layers above, on every machine:
+//! file, to title or to stamp one, to put bytes in the place of others, to cut one or to drop one. To the layers above, on every machine:
 //! 1. A fault comes only where its count rose (`cause`). Nothing is shown, and no key is taken (`alone`).
 //! 2. The table of busy bits keeps its length (`sized`), or is as it was (`table`), and the count of notes that were refused never falls
 //!    (`refused`): such a note is passed over.
@@ -21,6 +21,7 @@
 
 mod cutting;
 mod dropping;
+mod ends;
 mod leaders;
 mod making;
 mod new_pages;
@@ -32,7 +33,7 @@ mod tallying;
 
 pub use cutting::cut;
 pub use dropping::drop_file;
-pub use leaders::title;
+pub use leaders::{stamp, title};
 pub use making::make;
 pub use page_seeking::{FileError, FileRef};
 pub use putting::put;

@@ -26,8 +26,9 @@ use hint_cache::Hints;
 use page_seeking::{length, locate};
 
 /// The number of the page that the byte at this offset is in. None: no page can have it.
-fn page_number_of(offset: u32) -> Option<u16>
+pub(crate) fn page_number_of(offset: u32) -> Option<u16>
     ensures some { IfSome result (λ number. number ≡ page_of_byte offset) }
+    ensures most { IfSome result (λ number. number ≤ 65535) }
     ensures none { IfNone result (65535 ≤ offset / 512) }
 {
     let number = offset / PAGE_BYTES as u32 + 1;

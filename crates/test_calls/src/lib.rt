@@ -11,3 +11,5 @@ mod new_files;
 mod released_pages;
 #[cfg(test)]
 mod seeking;
+#[cfg(test)]
+mod stamped_leader;

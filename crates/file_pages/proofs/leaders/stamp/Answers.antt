@@ -1,0 +1,29 @@
+use Rattle.std.proofs.Common.{Bool, List, [], subst}
+use Rattle.disk_records.proofs.Growing.{alone_twice}
+use Rattle.disk_records.specs.Tapes.{pack}
+use Rattle.pack_model.specs.operations.Step.Operation.{stamp}
+use Rattle.laws_call.specs.Acting.{Operates, around}
+use Rattle.page_seeking.specs.declared.refs.FileError.TheVariants as error
+use Rattle.file_pages.proofs.StampOnce.{stamped_once}
+use Rattle.file_pages.proofs.Valued.{look_leaves_handy, value_after_look, value_leaves_handy, value_operates}
+use Rattle.file_pages.proofs.leaders.stamp.Goals as goal
+
+pub returns-in-Ok-clause-alone : goal.returns-in-Ok-clause-alone
+returns-in-Ok-clause-alone g c = alone_twice c.locate_ends.ensures.looks.alone c.write_page.ensures.alone
+
+pub returns-in-Ok-clause-operates : goal.returns-in-Ok-clause-operates
+returns-in-Ok-clause-operates g c told stands ordinary =
+    let a = g.D.Tape.tape c.args.disk.now in
+    let d = g.D.Tape.tape c.write_page.new.disk in
+    let fid = c.args.file.now.fid in
+    let looks = c.locate_ends.ensures.looks in
+    let bits = c.locate_ends.new.hints.table in
+    let is = stamped_once (pack a) fid c.args.moment c.in-Ok.at c.in-Ok.end c.put_stamp.new.value c.locate_ends.new.leader stands.whole stands.tidy ordinary (c.in-Ok.ensures.carries told) (c.in-Ok.ensures.value told) c.in-Ok.ensures.sized (c.in-Ok.ensures.end told stands.whole) c.put_stamp.ensures in
+    let writes = value_after_look bits c.args.tally.now c.write_page.new.tally looks.alone c.write_page.ensures.alone (looks.silent told) (g.met.D.Disk.counted c.args.disk.now told) (g.met.D.Disk.counted c.locate_ends.new.disk told) (c.write_page.ensures.writes (stamp fid c.args.moment) bits told) in
+    subst (λ (l : List Bool). Operates {T = Unit {0}} error.DiskFault error.Memory (stamp fid c.args.moment) [] (around a l c.args.tally.now) (around d bits c.write_page.new.tally) c.write_page.result) c.locate_ends.ensures.table (value_operates is writes)
+
+pub returns-in-Ok-clause-handy : goal.returns-in-Ok-clause-handy
+returns-in-Ok-clause-handy g c told = value_leaves_handy (g.D.Tape.tape c.write_page.new.disk) c.args.hints.now.cache c.locate_ends.new.hints.cache c.locate_ends.ensures.looks told (c.locate_ends.ensures.handy told) (c.write_page.ensures.places told)
+
+pub returns-in-Err-clause-handy : goal.returns-in-Err-clause-handy
+returns-in-Err-clause-handy g c told = look_leaves_handy c.args.hints.now.cache c.locate_ends.new.hints.cache c.locate_ends.ensures.looks told (c.locate_ends.ensures.handy told)
