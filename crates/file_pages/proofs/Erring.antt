@@ -1,12 +1,15 @@
 -- The errors of guarded commands as those of calls.
-use Rattle.std.proofs.Common.{Err, IsErrOf, refl, ℕ, ◌≡◌}
+use Rattle.std.proofs.Common.{Err, IsErrOf, List, Option, arith, refl, ℕ, ◌≡◌, ◌≤◌}
+use Rattle.disk_records.specs.Causes.{IsCause}
 use Rattle.disk_records.specs.Packs.{Pack}
 use Rattle.disk_records.specs.Tapes.{Taped, pack}
 use Rattle.disk_records.specs.declared.records.Page.{Page}
 use Rattle.disk_records.specs.declared.records.Place.{Place}
+use Rattle.label_check.specs.Causes.{cause_of_guard}
 use Rattle.label_check.specs.Guarded.{FoundWrong, IfWrong}
 use Rattle.label_check.specs.declared.errors.GuardError.TheVariants as guard
 use Rattle.label_check.specs.declared.errors.GuardError.{GuardError}
+use Rattle.page_seeking.specs.Causes.{cause_of_length}
 use Rattle.page_seeking.specs.Refs.{IfMisled}
 use Rattle.page_seeking.specs.declared.refs.FileError.TheVariants as file
 use Rattle.page_seeking.specs.declared.refs.FileError.{FileError}
@@ -26,3 +29,29 @@ pub never_misled : (holds : Pack → Type 0) (at : ℕ) (a b : Taped) (error : G
 never_misled holds at a b (guard.Wrong found) place held wanted e same wrong held_then = absurd (wrong.failed held_then)
 never_misled holds at a b guard.DiskFault place held wanted e same wrong held_then = rw same tt
 never_misled holds at a b guard.Memory place held wanted e same wrong held_then = rw same tt
+
+-- an error of a later call has its cause in the whole
+pub caused_later : (a b c : Taped) (error : GuardError) (place : Place) (held : ℕ) (wanted : Page) (e : FileError) → e ≡ error_at place held wanted error → a.disk_faults ≤ b.disk_faults → IsCause b c (cause_of_guard error) → IsCause a c (cause_of_length e)
+caused_later a b c (guard.Wrong found) place held wanted e same less cause = rw same tt
+caused_later a b c guard.DiskFault place held wanted e same less cause = rw same (omega (arith, less, cause))
+caused_later a b c guard.Memory place held wanted e same less cause = rw same tt
+
+pub cause_after : (a b c : Taped) (e : FileError) → a.disk_faults ≤ b.disk_faults → IsCause b c (cause_of_length e) → IsCause a c (cause_of_length e)
+cause_after a b c (file.Misled place at wanted found) less cause = tt
+cause_after a b c (file.Beyond length) less cause = cause
+cause_after a b c file.DiskFault less cause = omega (arith, less, cause)
+cause_after a b c file.Memory less cause = tt
+
+-- what never misleads misleads in no way
+pub none_misled : (P : Place → ℕ → Page → Option (List ℕ) → Type 0) (e : FileError) → IfMisled {T = Unit {0}} (Err e) (λ place at wanted found. ⊥) → IfMisled {T = Unit {0}} (Err e) P
+none_misled P (file.Misled place at wanted found) never = absurd never
+none_misled P (file.Beyond length) never = tt
+none_misled P file.DiskFault never = tt
+none_misled P file.Memory never = tt
+
+-- out of memory, whatever the call would answer
+pub memory_too : (T : Type 0) (e : FileError) → IsErrOf {T = Unit {0}} (Err e) file.Memory → IsErrOf {T = T} (Err e) file.Memory
+memory_too T (file.Misled place at wanted found) is = absurd cc
+memory_too T (file.Beyond length) is = absurd cc
+memory_too T file.DiskFault is = absurd cc
+memory_too T file.Memory is = refl

@@ -1,3 +1,4 @@
+mod ClaimRow
 mod ClaimedWords
 mod CommitFirst
 mod Counting
@@ -6,8 +7,18 @@ mod DroppedFiles
 mod Erring
 mod FileEnds
 mod Following
+mod FreeSectors
+mod FreshWords
 mod Going
+mod GrownFile
+mod GrownHandy
+mod GrownPages
+mod Growth
+mod GrowthWords
+mod LastLabel
+mod LastWrites
 mod MakeMoves
+mod NewNotes
 mod OneWrite
 mod PutOnce
 mod ReleaseLoop

@@ -1,5 +1,5 @@
 -- What a caller of a call that writes sees.
-use Rattle.std.specs.Prelude.{List, [], ℕ, ◌≡◌}
+use Rattle.std.specs.Prelude.{List, [], ℕ, ◌≡◌, ◌⊎◌}
 use Rattle.disk_records.specs.declared.records.Event.{Event}
 use Rattle.alto_words.specs.declared.fid.Fid.{Fid}
 use Rattle.disk_records.specs.Packs.{Pack}
@@ -12,6 +12,11 @@ use Rattle.pack_model.specs.states.Whole.{Tidy, Whole}
 use Rattle.laws_call.specs.Acting.{Acts}
 use Rattle.laws_call.specs.Writing.{Written}
 use Rattle.laws_operation.specs.FileWords.{CanMake}
+use Rattle.hint_cache.specs.Caches.{Cached}
+use Rattle.pack_model.specs.hints.Handy.{HandyCache}
+use Rattle.pack_model.specs.hints.Links.{LinksTrue}
+use Rattle.pack_model.specs.reading.Sights.{sights}
+use Rattle.page_seeking.specs.Seeking.{Refused, all_listed}
 
 -- ---- make
 abbrev pub to_make : Fid → List ℕ → ℕ → Operation
@@ -35,3 +40,8 @@ to_title f name = title f name
 
 abbrev pub to_stamp : Fid → ℕ → Operation
 to_stamp f moment = stamp f moment
+
+-- ---- hints
+-- with true links before the call, a cache that was handy for a file is handy for it on the pack afterwards, unless a `note` was refused
+abbrev pub StaysHandy : Pack → Pack → Cached → Cached → Type 0
+StaysHandy p q old new = Whole p → LinksTrue p → (f : Fid) → HandyCache (sights p) f (all_listed old) → HandyCache (sights q) f (all_listed new) ⊎ Refused old new

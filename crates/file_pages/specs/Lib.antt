@@ -3,6 +3,7 @@ pub mod Counting
 pub mod Cutting
 pub mod Dropping
 pub mod Ends
+pub mod Growing
 pub mod Inside
 pub mod Putting
 pub mod Releasing

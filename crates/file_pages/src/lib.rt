@@ -1,7 +1,8 @@
 //! Calls on files that write, each of them one operation.
 //!
 //! Below it stand label_check, hint_cache and leader_page, page_seeking with the names of files, and the laws of calls. Come here to make a
-//! file, to title or to stamp one, to put bytes in the place of others, to cut one or to drop one. To the layers above, on every machine:
+//! file, to title or to stamp one, to put bytes in the place of others or after them, to cut one or to drop one. To the layers above, on every
+//! machine:
 //! 1. A fault comes only where its count rose (`cause`). Nothing is shown, and no key is taken (`alone`).
 //! 2. The table of busy bits keeps its length (`sized`), or is as it was (`table`), and the count of notes that were refused never falls
 //!    (`refused`): such a note is passed over.
@@ -14,16 +15,20 @@
 //!    end after the file and of a cut past its end (`beyond`), else never (`cause`, `never_beyond`). `put` says its record write of every file,
 //!    directories too (`puts`).
 //! 6. With true links a cache that was handy for a file is so on the pack afterwards (`handy`), and where all hints of the file are handy, few
-//!    sector commands are taken (`quick`).
+//!    sector commands are taken (`quick`); of a growth only if no note was refused.
 //!
-//! Not promised: that the sectors for a new file are free where the machine isn't modelled. Such a call answers Misled.
+//! Not promised: that the sectors for new pages are free where the machine isn't modelled. Such a call answers Misled.
 #![tactic(auto)]
 
+mod claims;
 mod cutting;
 mod dropping;
 mod ends;
+mod growing;
+mod last_words;
 mod leaders;
 mod making;
+mod new_hints;
 mod new_pages;
 mod one_value;
 mod putting;
@@ -33,6 +38,7 @@ mod tallying;
 
 pub use cutting::cut;
 pub use dropping::drop_file;
+pub use growing::grow;
 pub use leaders::{stamp, title};
 pub use making::make;
 pub use page_seeking::{FileError, FileRef};

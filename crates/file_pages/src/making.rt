@@ -23,7 +23,7 @@ use hint_cache::{BitTable, HintCache, Hints};
 use label_check::claim;
 
 /// The number of record writes up to which a tally counts, a number of 64 bits.
-fn limit_of(tally: &Tally) -> u64
+pub(crate) fn limit_of(tally: &Tally) -> u64
     ensures { result ≡ tally.now.limit }
 {
     tally.limit
@@ -88,7 +88,7 @@ fn make_file<D: Disk>(
 }
 
 /// The answer if an address that was to be checked is no sector's.
-fn at_held(at: u16, wanted: Page) -> FileError
+pub(crate) fn at_held(at: u16, wanted: Page) -> FileError
     ensures { result ≡ error.Misled (place.Held at) at wanted None }
 {
     FileError::Misled {

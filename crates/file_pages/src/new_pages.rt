@@ -10,7 +10,7 @@ use disk_records::{Shape, label_of};
 use leader_page::Leader;
 
 /// The link at either end of a file.
-const NO_LINK: u16 = 0xFFFF;
+pub(crate) const NO_LINK: u16 = 0xFFFF;
 
 /// The words of the free slot that a new directory is.
 const FREE_WORDS: u16 = 255;

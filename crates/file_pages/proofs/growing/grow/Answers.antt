@@ -1,0 +1,163 @@
+use Rattle.std.proofs.Common.{All, List, Bool, Ok, Err, OnOk, [], ap, arith, length, refl, subst, sym, true, ℕ, ◌+◌, ◌∙◌, ◌≡◌, ◌≤◌}
+use Rattle.disk_records.proofs.Growing.{alone_twice, pack-silent}
+use Rattle.disk_records.specs.Addresses.{pages_of}
+use Rattle.disk_records.specs.Packs.{Pack}
+use Rattle.disk_records.specs.Tapes.{pack}
+use Rattle.disk_records.specs.declared.shape.Shape.{Shape}
+use Rattle.laws_call.specs.Acting.{Operates, refused, around}
+use Rattle.page_seeking.specs.Refs.{IfMisled, MisledBy}
+use Rattle.page_seeking.specs.Seeking.{Seen, Stands, page_number}
+use Rattle.page_seeking.specs.declared.ends.LastPage.{LastPage}
+use Rattle.page_seeking.specs.declared.refs.FileError.TheVariants as error
+use Rattle.pack_model.specs.states.Whole.{Tidy, Whole}
+use Rattle.file_pages.specs.Growing.{Grew, IsSector, MayBeGrown}
+use Rattle.page_seeking.specs.Seeking.{IsLast}
+use Rattle.file_pages.proofs.Erring.{cause_after, memory_too, none_misled}
+use Rattle.file_pages.proofs.FreeSectors.{free_are_sectors}
+use Rattle.file_pages.proofs.GrownHandy.{grown_handy}
+use Rattle.file_pages.proofs.LastLabel.{label_says}
+use Rattle.file_pages.proofs.Sequel.{silent_before}
+use Rattle.file_pages.proofs.growing.grow.Goals as goal
+
+pub returns-in-Err-clause-operates : goal.returns-in-Err-clause-operates
+returns-in-Err-clause-operates g c o told stands may =
+    refused (record { silent = c.last_page.ensures.looks.silent told; bits = c.last_page.ensures.table; tally = refl }) tt (λ memory. c.in-Err.ensures.want told (memory_too LastPage c.in-Err.error memory))
+
+pub returns-in-Err-clause-misled : goal.returns-in-Err-clause-misled
+returns-in-Err-clause-misled g c o told stands may = c.in-Err.ensures.misled told stands.from
+
+-- every address is a sector's
+pub returns-in-Some-clause-operates : goal.returns-in-Some-clause-operates
+returns-in-Some-clause-operates g c o told stands may =
+    let form = c.shape.ensures ∙ c.last_page.ensures.looks.alone.grown.form in
+    absurd (c.in-Some.ensures.some (subst (λ (s : Shape). All (IsSector s) c.args.fresh.now) (sym form) (free_are_sectors (pack (g.D.Tape.tape c.args.disk.now)) c.args.fresh.now may.free)))
+
+pub returns-in-Some-clause-misled : goal.returns-in-Some-clause-misled
+returns-in-Some-clause-misled g c o told stands may =
+    let form = c.shape.ensures ∙ c.last_page.ensures.looks.alone.grown.form in
+    absurd (c.in-Some.ensures.some (subst (λ (s : Shape). All (IsSector s) c.args.fresh.now) (sym form) (free_are_sectors (pack (g.D.Tape.tape c.args.disk.now)) c.args.fresh.now may.free)))
+
+pub grow_pages-grown-requires-clause-sized : goal.grow_pages-grown-requires-clause-sized
+grow_pages-grown-requires-clause-sized g c = ap length c.last_page.ensures.table ∙ c.requires.sized ∙ ap (λ (s : Shape). pages_of s) (sym c.last_page.ensures.looks.alone.grown.form)
+
+pub grow_pages-grown-requires-clause-seen : goal.grow_pages-grown-requires-clause-seen
+grow_pages-grown-requires-clause-seen g c =
+    subst (λ (s : Shape). Seen s (page_number c.args.file.now.fid c.in-Ok.last.number) c.in-Ok.last.at c.in-Ok.last.info c.last_page.new.buf) (sym c.last_page.ensures.looks.alone.grown.form) c.in-Ok.ensures.seen
+
+pub grow_pages-grown-requires-clause-full_name : goal.grow_pages-grown-requires-clause-full_name
+grow_pages-grown-requires-clause-full_name g c = (label_says c.last_page.new.buf.label (page_number c.args.file.now.fid c.in-Ok.last.number) c.in-Ok.ensures.seen.holds.names).0
+
+pub grow_pages-grown-requires-clause-few : goal.grow_pages-grown-requires-clause-few
+grow_pages-grown-requires-clause-few g c =
+    let few = (label_says c.last_page.new.buf.label (page_number c.args.file.now.fid c.in-Ok.last.number) c.in-Ok.ensures.seen.holds.names).1 in
+    let tells = ap (λ i. i.bytes) c.in-Ok.ensures.seen.tells in
+    omega (arith, few, tells)
+
+pub grow_pages-grown-requires-clause-sectors : goal.grow_pages-grown-requires-clause-sectors
+grow_pages-grown-requires-clause-sectors g c = subst (λ (s : Shape). All (IsSector s) c.args.fresh.now) c.shape.ensures c.in-None.ensures.none
+
+pub note_pages-requires : goal.note_pages-requires
+note_pages-requires g c = record { few = rw c.in-Ok-grown.is at c.grow_pages-grown.ensures.few }
+
+pub returns-in-Ok-grown-clause-operates : goal.returns-in-Ok-grown-clause-operates
+returns-in-Ok-grown-clause-operates g c o told stands may =
+    let a = g.D.Tape.tape c.args.disk.now in
+    let b = g.D.Tape.tape c.last_page.new.disk in
+    let d = g.D.Tape.tape c.grow_pages-grown.new.disk in
+    let fid = c.args.file.now.fid in
+    let last = c.in-Ok.last in
+    let looks = c.last_page.ensures.looks in
+    let silent = looks.silent told in
+    let packs : pack a ≡ pack b = sym (pack-silent looks.alone.grown silent) in
+    let whole = subst (λ (p : Pack). Whole p) packs stands.whole in
+    let tidy = subst (λ (p : Pack). Tidy p) packs stands.tidy in
+    let there = subst (λ (p : Pack). Stands p (page_number fid last.number) last.at c.last_page.new.buf) packs (c.in-Ok.ensures.stands told) in
+    let is = subst (λ (p : Pack). IsLast p fid last) packs (c.in-Ok.ensures.last told stands.whole) in
+    let may_then = subst (λ (p : Pack). MayBeGrown p o fid c.args.bytes.now c.args.past.now c.args.fresh.now) packs may in
+    let operates = rw c.in-Ok-grown.is at (c.grow_pages-grown.ensures.operates o told whole tidy there is may_then) in
+    subst (λ (l : List Bool). Operates {T = Unit {0}} error.DiskFault error.Memory o c.args.fresh.now (around a l c.args.tally.now) (around d c.grow_pages-grown.new.table c.grow_pages-grown.new.tally) (Ok tt)) c.last_page.ensures.table
+    (silent_before _ _ _ _ _ _ a b d looks.alone c.grow_pages-grown.ensures.alone silent (g.met.D.Disk.counted c.args.disk.now told) (g.met.D.Disk.counted c.last_page.new.disk told) c.last_page.new.hints.table c.grow_pages-grown.new.table c.args.tally.now c.grow_pages-grown.new.tally (Ok tt) operates)
+
+pub returns-in-Err-grown-clause-operates : goal.returns-in-Err-grown-clause-operates
+returns-in-Err-grown-clause-operates g c o told stands may =
+    let a = g.D.Tape.tape c.args.disk.now in
+    let b = g.D.Tape.tape c.last_page.new.disk in
+    let d = g.D.Tape.tape c.grow_pages-grown.new.disk in
+    let fid = c.args.file.now.fid in
+    let last = c.in-Ok.last in
+    let looks = c.last_page.ensures.looks in
+    let silent = looks.silent told in
+    let packs : pack a ≡ pack b = sym (pack-silent looks.alone.grown silent) in
+    let whole = subst (λ (p : Pack). Whole p) packs stands.whole in
+    let tidy = subst (λ (p : Pack). Tidy p) packs stands.tidy in
+    let there = subst (λ (p : Pack). Stands p (page_number fid last.number) last.at c.last_page.new.buf) packs (c.in-Ok.ensures.stands told) in
+    let is = subst (λ (p : Pack). IsLast p fid last) packs (c.in-Ok.ensures.last told stands.whole) in
+    let may_then = subst (λ (p : Pack). MayBeGrown p o fid c.args.bytes.now c.args.past.now c.args.fresh.now) packs may in
+    let operates = rw c.in-Err-grown.is at (c.grow_pages-grown.ensures.operates o told whole tidy there is may_then) in
+    subst (λ (l : List Bool). Operates {T = Unit {0}} error.DiskFault error.Memory o c.args.fresh.now (around a l c.args.tally.now) (around d c.grow_pages-grown.new.table c.grow_pages-grown.new.tally) (Err c.in-Err-grown.error)) c.last_page.ensures.table
+    (silent_before _ _ _ _ _ _ a b d looks.alone c.grow_pages-grown.ensures.alone silent (g.met.D.Disk.counted c.args.disk.now told) (g.met.D.Disk.counted c.last_page.new.disk told) c.last_page.new.hints.table c.grow_pages-grown.new.table c.args.tally.now c.grow_pages-grown.new.tally (Err c.in-Err-grown.error) operates)
+
+pub returns-in-Err-grown-clause-misled : goal.returns-in-Err-grown-clause-misled
+returns-in-Err-grown-clause-misled g c o told stands may =
+    let a = g.D.Tape.tape c.args.disk.now in
+    let b = g.D.Tape.tape c.last_page.new.disk in
+    let d = g.D.Tape.tape c.grow_pages-grown.new.disk in
+    let fid = c.args.file.now.fid in
+    let last = c.in-Ok.last in
+    let looks = c.last_page.ensures.looks in
+    let silent = looks.silent told in
+    let packs : pack a ≡ pack b = sym (pack-silent looks.alone.grown silent) in
+    let whole = subst (λ (p : Pack). Whole p) packs stands.whole in
+    let tidy = subst (λ (p : Pack). Tidy p) packs stands.tidy in
+    let there = subst (λ (p : Pack). Stands p (page_number fid last.number) last.at c.last_page.new.buf) packs (c.in-Ok.ensures.stands told) in
+    let is = subst (λ (p : Pack). IsLast p fid last) packs (c.in-Ok.ensures.last told stands.whole) in
+    let may_then = subst (λ (p : Pack). MayBeGrown p o fid c.args.bytes.now c.args.past.now c.args.fresh.now) packs may in
+    none_misled (MisledBy (pack a) [] fid) c.in-Err-grown.error (rw c.in-Err-grown.is at (c.grow_pages-grown.ensures.misled o told whole tidy there is may_then))
+
+pub returns-in-Ok-grown-clause-quick : goal.returns-in-Ok-grown-clause-quick
+returns-in-Ok-grown-clause-quick g c o told stands may quick named =
+    let a = g.D.Tape.tape c.args.disk.now in
+    let b = g.D.Tape.tape c.last_page.new.disk in
+    let d = g.D.Tape.tape c.grow_pages-grown.new.disk in
+    let fid = c.args.file.now.fid in
+    let last = c.in-Ok.last in
+    let looks = c.last_page.ensures.looks in
+    let silent = looks.silent told in
+    let packs : pack a ≡ pack b = sym (pack-silent looks.alone.grown silent) in
+    let whole = subst (λ (p : Pack). Whole p) packs stands.whole in
+    let tidy = subst (λ (p : Pack). Tidy p) packs stands.tidy in
+    let there = subst (λ (p : Pack). Stands p (page_number fid last.number) last.at c.last_page.new.buf) packs (c.in-Ok.ensures.stands told) in
+    let is = subst (λ (p : Pack). IsLast p fid last) packs (c.in-Ok.ensures.last told stands.whole) in
+    let may_then = subst (λ (p : Pack). MayBeGrown p o fid c.args.bytes.now c.args.past.now c.args.fresh.now) packs may in
+    let first = c.in-Ok.ensures.quick told quick named in
+    let second = c.grow_pages-grown.ensures.runs o told whole tidy there is may_then in
+    omega (arith, first, second)
+
+pub returns-in-Ok-grown-clause-handy : goal.returns-in-Ok-grown-clause-handy
+returns-in-Ok-grown-clause-handy g c o told stands may =
+    let a = g.D.Tape.tape c.args.disk.now in
+    let b = g.D.Tape.tape c.last_page.new.disk in
+    let d = g.D.Tape.tape c.grow_pages-grown.new.disk in
+    let fid = c.args.file.now.fid in
+    let last = c.in-Ok.last in
+    let looks = c.last_page.ensures.looks in
+    let silent = looks.silent told in
+    let packs : pack a ≡ pack b = sym (pack-silent looks.alone.grown silent) in
+    let whole = subst (λ (p : Pack). Whole p) packs stands.whole in
+    let tidy = subst (λ (p : Pack). Tidy p) packs stands.tidy in
+    let there = subst (λ (p : Pack). Stands p (page_number fid last.number) last.at c.last_page.new.buf) packs (c.in-Ok.ensures.stands told) in
+    let is = subst (λ (p : Pack). IsLast p fid last) packs (c.in-Ok.ensures.last told stands.whole) in
+    let may_then = subst (λ (p : Pack). MayBeGrown p o fid c.args.bytes.now c.args.past.now c.args.fresh.now) packs may in
+    let grew = subst (λ (p : Pack). Grew p (pack d) fid last.number c.args.fresh.now) (sym packs) (rw c.in-Ok-grown.is at (c.grow_pages-grown.ensures.grew o told whole tidy there is may_then)) in
+    grown_handy (pack a) (pack d) fid last.number c.args.fresh.now grew c.args.hints.now.cache c.last_page.new.hints.cache c.note_pages.new.cache (c.last_page.ensures.handy told) c.last_page.ensures.refused c.note_pages.ensures.notes
+
+pub returns-in-Ok-grown-clause-alone : goal.returns-in-Ok-grown-clause-alone
+returns-in-Ok-grown-clause-alone g c = alone_twice c.last_page.ensures.looks.alone c.grow_pages-grown.ensures.alone
+
+pub returns-in-Err-grown-clause-alone : goal.returns-in-Err-grown-clause-alone
+returns-in-Err-grown-clause-alone g c = alone_twice c.last_page.ensures.looks.alone c.grow_pages-grown.ensures.alone
+
+pub returns-in-Err-grown-clause-cause : goal.returns-in-Err-grown-clause-cause
+returns-in-Err-grown-clause-cause g c =
+    let less = c.last_page.ensures.looks.alone.grown.disk_faults in
+    cause_after (g.D.Tape.tape c.args.disk.now) (g.D.Tape.tape c.last_page.new.disk) (g.D.Tape.tape c.grow_pages-grown.new.disk) c.in-Err-grown.error less (rw c.in-Err-grown.is at c.grow_pages-grown.ensures.cause)

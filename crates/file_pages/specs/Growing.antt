@@ -1,0 +1,122 @@
+-- What a caller sees of a growth and of a widening, and what their private functions say.
+use Rattle.std.specs.List.{AllPairs}
+use Rattle.std.specs.Prelude.{All, Contains, IsErrOf, List, None, OnOk, Result, [], cond, length, min, nat_le, suc, take, true, ℕ, ◌%◌, ◌*◌, ◌+◌, ◌<◌, ◌∷◌, ◌≡◌, ◌≢◌, ◌≤◌, ◌⊎◌}
+use Rattle.alto_words.specs.Fid.{is_directory}
+use Rattle.alto_words.specs.declared.fid.Fid.{Fid}
+use Rattle.disk_records.specs.Addresses.{pages_of, real_of}
+use Rattle.disk_records.specs.Commands.{claim_writes}
+use Rattle.disk_records.specs.Events.{IsFirstOf}
+use Rattle.disk_records.specs.Labels.{label_of}
+use Rattle.disk_records.specs.Packs.{Pack, is_free_at}
+use Rattle.disk_records.specs.Tapes.{Taped, added}
+use Rattle.disk_records.specs.declared.records.Event.{Event}
+use Rattle.disk_records.specs.declared.records.Page.{Page}
+use Rattle.disk_records.specs.declared.records.Tally.{Tally}
+use Rattle.disk_records.specs.declared.shape.Shape.{Shape}
+use Rattle.hint_cache.specs.Caches.{Cached, noted}
+use Rattle.hint_cache.specs.declared.cache.Entry.{Entry}
+use Rattle.laws_lookup.specs.OtherLaws.{KeepsPages, LeavesOthers}
+use Rattle.laws_operation.specs.ByteLaws.{Bear, IsOrdinary}
+use Rattle.page_seeking.specs.Seeking.{Refused, file_length, page_number}
+use Rattle.page_seeking.specs.declared.refs.FileError.{FileError}
+use Rattle.page_seeking.specs.declared.refs.FileError.TheVariants.{DiskFault, Memory}
+use Rattle.pack_model.specs.operations.Commands.{Claim, past_last}
+use Rattle.pack_model.specs.operations.Committing.{pages_added}
+use Rattle.pack_model.specs.operations.PageWords.{link_to_first, page_value, widening_bytes}
+use Rattle.pack_model.specs.operations.Step.Operation.{grow, widen}
+use Rattle.pack_model.specs.operations.Step.{Operation}
+use Rattle.pack_model.specs.reading.Bytes.{bytes_of}
+use Rattle.pack_model.specs.reading.Files.{place}
+use Rattle.pack_model.specs.reading.Sights.{sights}
+use Rattle.pack_model.specs.sessions.Tallies.{Tells, took_effect}
+
+-- ---- what is asked of a growth
+-- The operation that these bytes are after those of a file: of an ordinary one its growth, and of a directory, where they are the ones of a
+-- free slot of a page, its widening.
+pub data IsGrowth (f : Fid) (new : List ℕ) : Operation → Type 0 where
+  of_file : IsOrdinary f → IsGrowth f new (grow f new)
+  of_directory : is_directory f ≡ true → new ≡ widening_bytes → IsGrowth f new (widen f)
+
+-- The file can get these bytes, and these words after them, by this operation: there are as many free sectors as pages come, each of them once,
+-- and the words fit in the page that is the last one then.
+pub record MayBeGrown (p : Pack) (o : Operation) (f : Fid) (new past fresh : List ℕ) : Type 0 where
+  pub growth : IsGrowth f new o
+  pub room : (file_length p f + length new) % 512 + length (bytes_of past) ≤ 512
+  pub number : length fresh ≡ pages_added (file_length p f) (length new)
+  pub free : All (λ i. is_free_at p i ≡ true) fresh
+  pub distinct : AllPairs (λ i j. i ≢ j) fresh
+
+-- ---- where the pages are then
+-- Pages up to `last` are where they were, those that came are in these sectors, there is no other, and other files are as they were.
+pub record Grew (p q : Pack) (f : Fid) (last : ℕ) (fresh : List ℕ) : Type 0 where
+  pub there : (n : ℕ) → n ≤ last → place (sights p) f n ≢ None
+  pub kept : KeepsPages f last p q
+  pub comes : Bear (sights q) f (suc last) fresh
+  pub none : (n : ℕ) → last + length fresh < n → place (sights q) f n ≡ None
+  pub others : LeavesOthers f p q
+
+-- ---- claims of pages in a row
+-- The address of a sector that can carry a page.
+pub record IsSector (form : Shape) (at : ℕ) : Type 0 where
+  pub first : 1 ≤ at
+  pub last : at < pages_of form
+
+-- the first claim of `claims_of`: the first of these bytes are in this page, which comes after the one in the sector `previous`
+abbrev pub next_claim : Shape → Page → ℕ → List ℕ → List ℕ → ℕ → List ℕ → Claim
+next_claim shape page previous bytes past at later = record {
+  at = at;
+  label = label_of page (min 512 (length bytes)) (link_to_first shape later) (real_of shape previous);
+  value = page_value (take 512 bytes) (past_last past later);
+}
+
+-- the words after the bytes of that page fit in it
+abbrev pub FitsNext : List ℕ → List ℕ → List ℕ → Type 0
+FitsNext bytes past later = min 512 (length bytes) + 2 * length (past_last past later) ≤ 512
+
+-- These bytes, and these words after them, can be claimed as pages after page `last`: the sectors are free, each of them once, and
+-- the numbers and the words fit.
+pub record CanClaim (p : Pack) (last : ℕ) (bytes past fresh : List ℕ) : Type 0 where
+  pub free : All (λ i. is_free_at p i ≡ true) fresh
+  pub distinct : AllPairs (λ i j. i ≢ j) fresh
+  pub few : last + length fresh ≤ 65535
+  pub small : 2 * length past ≤ 512
+  pub room : 0 < length fresh → length bytes + 2 * length past ≤ 512 * length fresh
+
+-- A call that is to make these record writes, in so many sector commands at most: for every answer it made a prefix of them, at Ok all. Out of
+-- memory comes only if fewer events were kept ready.
+pub record Makes (writes : List Event) (most : ℕ) (old new : Taped) (result : Result (Unit {0}) FileError) : Type 0 where
+  pub some : IsFirstOf writes (added old new)
+  pub all : OnOk result (added old new ≡ writes)
+  pub out_of_memory : IsErrOf result Memory → old.spare < length writes
+  pub runs : new.runs ≤ old.runs + most
+
+-- ---- the old last page
+-- a machine had so many record writes, and then made n ones of which the second commits an operation
+abbrev pub counted_second : ℕ → ℕ → Tally → Tally
+counted_second writes n t = cond (nat_le 2 n) (took_effect (writes + 2) t) t
+
+-- The value of a page, its label, which commits the operation, and its value again; the operation is counted if the label was written.
+pub record Commits (at : ℕ) (label value : List ℕ) (old new : Taped) (before now : Tally) (result : Result (Unit {0}) FileError) : Type 0 where
+  pub makes : Makes (claim_writes at label value) 4 old new result
+  pub counts : Tells DiskFault new result → now ≡ counted_second old.writes (length (added old new)) before
+
+-- ---- hints of the pages that came
+-- a note for this page at this sector, which is passed over if it is refused
+pub record NotesOne (page : Page) (at : ℕ) (old new : Cached) : Type 0 where
+  pub entries : (new.entries ≡ noted page at old.entries) ⊎ Refused old new
+  pub grows : old.refused ≤ new.refused
+
+-- the entry is one of these: page n of f in the first of these sectors, page n + 1 in the next, and so on
+abbrev pub IsAmong : Fid → ℕ → List ℕ → Entry → Type 0
+IsAmong f n [] e = ⊥
+IsAmong f n (at ∷ fresh) e = (e ≡ record { page = page_number f n; at = at }) ⊎ IsAmong f (suc n) fresh e
+
+-- it stood there, and is of none of the pages of f after `last` up to `now`
+pub record StoodApart (f : Fid) (last now : ℕ) (old : List Entry) (e : Entry) : Type 0 where
+  pub stood : Contains old e
+  pub apart : e.page.fid ≡ f → (e.page.number ≤ last) ⊎ (now < e.page.number)
+
+-- Each entry is of a page that came, after page `last` of f, and names its sector, or it stood there and is of another page; unless a note was
+-- refused.
+abbrev pub NotesPages : Fid → ℕ → List ℕ → Cached → Cached → Type 0
+NotesPages f last fresh old new = All (λ e. IsAmong f (suc last) fresh e ⊎ StoodApart f last (last + length fresh) old.entries e) new.entries ⊎ Refused old new
