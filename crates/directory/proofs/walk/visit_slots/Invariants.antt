@@ -1,0 +1,24 @@
+use Rattle.std.proofs.Common.{◌≡◌, ℕ, ◌+◌, ◌*◌, ◌≤◌, List, IsTrue}
+use Rattle.dir_slots.specs.Walks.{Walked}
+use Rattle.disk_records.specs.Tapes.{Looks, pack}
+use Rattle.pack_model.specs.reading.Sights.{sights}
+use Rattle.pack_model.specs.states.Sentences.{EachOnce}
+use Rattle.page_seeking.specs.Seeking.{KeepsHandy, Quick}
+use Rattle.directory.proofs.Paging.{VisitedTo}
+use Rattle.directory.proofs.Quickly.{IsAhead}
+use Rattle.directory.proofs.walk.visit_slots.Given as goal
+
+abbrev pub invariant-loop-full : goal.invariant-loop-full
+invariant-loop-full g l =
+    let old = g.D.Tape.tape l.fn.disk in
+    let now = g.D.Tape.tape l.disk in
+    record {
+      walks : (given : List ℕ) × Walked given l.walk;
+      taken : l.walk.place + l.walk.held ≤ 256 * l.full;
+      looks : Looks g.D.Tape.told (65588 * l.full) old now;
+      table : l.hints.table ≡ l.fn.hints.table;
+      refused : l.fn.hints.cache.refused ≤ l.hints.cache.refused;
+      handy : IsTrue g.D.Tape.told → KeepsHandy (pack old) l.fn.hints.cache l.hints.cache;
+      visited : IsTrue g.D.Tape.told → EachOnce (sights (pack old)) → VisitedTo g.V.Visit.step (pack old) l.dir.fid l.full l.walk l.fn.visitor l.visitor;
+      ahead : IsTrue g.D.Tape.told → Quick (pack old) l.dir.fid l.fn.hints.cache → IsAhead (pack old) l.dir.fid (l.full + 1) l.fn.hints.cache l.hints.cache old now;
+    }

@@ -1,0 +1,69 @@
+// Room in a directory.
+ghost use Rattle.std.specs.Prelude.{◌≡◌, ◌*◌, ◌≤◌, IsTrue, IsErrOf, IfOk, OnOk, []};
+ghost use Rattle.disk_records.specs.Causes.{HasCause, never};
+ghost use Rattle.disk_records.specs.Tapes.{Looks, pack};
+ghost use Rattle.pack_model.specs.hints.Links.{dir_words};
+ghost use Rattle.pack_model.specs.operations.Rooms.{largest_run};
+ghost use Rattle.pack_model.specs.reading.Slots.{slots};
+ghost use Rattle.page_seeking.specs.Refs.{MisledBy};
+ghost use Rattle.page_seeking.specs.Seeking.{KeepsHandy, Quick};
+ghost use Rattle.directory.specs.Asked.{DirIsFound};
+ghost use Rattle.directory.specs.Errors.{IfMisled, cause_of, out_of_memory};
+ghost use Rattle.directory.specs.Found.{IsQuick};
+
+use crate::walk::{Visit, visit_slots};
+use crate::{DirError, FileRef};
+use alto_words::Memory;
+use dir_slots::{PlacedSlot, Slot};
+use disk_records::{Disk, Sector};
+use hint_cache::Hints;
+
+/// The free words in the row that ends with the slots met so far, and the most in any row of them.
+#[derive(Drop)]
+struct Runs {
+    row: u32,
+    largest: u32,
+}
+
+impl Visit for Runs {
+    ghost use Rattle.std.specs.Prelude.{false};
+    ghost use Rattle.directory.specs.Inside.{MeetsRow};
+
+    ghost step = { MeetsRow };
+
+    ghost takes_memory = { false };
+
+    fn visit(&mut self, met: PlacedSlot) -> Result<(), Memory> {
+        self.row = match met.slot {
+            Slot::Free { words } => self.row.saturating_add(words as u32),
+            Slot::Entry { .. } => 0,
+        };
+        self.largest = self.largest.max(self.row);
+        Ok(())
+    }
+}
+
+/// The greatest number of free words in a row of a directory. Pages are sought as by `locate`. Nothing is written.
+///
+/// File: Misled where the address that the directory is named with, or a next link of it, misleads; DiskFault where the device failed;
+/// Memory where no memory was left, which no machine that is modelled answers here. No other error comes. What `buf` holds then is open.
+pub fn room<D: Disk>(
+    disk: &mut D,
+    hints: &mut Hints,
+    dir: &FileRef,
+    buf: &mut Sector,
+) -> Result<u32, DirError>
+    ensures found { IsTrue D.told → DirIsFound (pack (D.tape disk.old)) dir.now → IfOk result (λ words. words ≡ largest_run (slots (dir_words (pack (D.tape disk.old)) dir.now.fid))) }
+    ensures misled { IsTrue D.told → DirIsFound (pack (D.tape disk.old)) dir.now → IfMisled result (MisledBy (pack (D.tape disk.old)) [] dir.now.fid) }
+    ensures cause { HasCause (cause_of never never never) (D.tape disk.old) (D.tape disk.new) result }
+    ensures want { IsTrue D.told → IsErrOf result out_of_memory → ⊥ }
+    ensures looks { Looks D.told (65588 * 65535) (D.tape disk.old) (D.tape disk.new) }
+    ensures quick { IsTrue D.told → Quick (pack (D.tape disk.old)) dir.now.fid hints.old.cache → OnOk result (IsQuick (pack (D.tape disk.old)) dir.now.fid hints.old.cache hints.new.cache (D.tape disk.old) (D.tape disk.new)) }
+    ensures table { hints.new.table ≡ hints.old.table }
+    ensures refused { hints.old.cache.refused ≤ hints.new.cache.refused }
+    ensures handy { IsTrue D.told → KeepsHandy (pack (D.tape disk.old)) hints.old.cache hints.new.cache }
+{
+    let mut runs = Runs { row: 0, largest: 0 };
+    visit_slots(disk, hints, dir, &mut runs, buf)?;
+    Ok(runs.largest)
+}

@@ -1,0 +1,120 @@
+// The slots of a directory one after another, for a visitor.
+ghost use Rattle.std.specs.Prelude.{◌≡◌, ℕ, ◌+◌, ◌*◌, ◌<◌, ◌≤◌, ◌++◌, Bool, IsTrue, IsErrOf, OnOk, OnErr, List, [], length};
+ghost use Rattle.std.specs.List.{FoldsTo};
+ghost use Rattle.disk_records.specs.Causes.{HasCause};
+ghost use Rattle.disk_records.specs.Tapes.{Looks, pack};
+ghost use Rattle.dir_slots.specs.Items.{IsInRange, item_of};
+ghost use Rattle.dir_slots.specs.Laws.{HasStoredName};
+ghost use Rattle.dir_slots.specs.Walks.{Walked, slot_met};
+ghost use Rattle.pack_model.specs.hints.Links.{dir_slots};
+ghost use Rattle.pack_model.specs.reading.Slots.{item_words};
+ghost use Rattle.pack_model.specs.reading.SlotWords.{SlotAt};
+ghost use Rattle.page_seeking.specs.Causes.{cause_of_length};
+ghost use Rattle.page_seeking.specs.Refs.{IfBeyond, IfMisled, MisledBy};
+ghost use Rattle.page_seeking.specs.Seeking.{KeepsHandy, Quick};
+ghost use Rattle.directory.specs.Asked.{DirIsFound};
+ghost use Rattle.directory.specs.Bounds.{most_words};
+ghost use Rattle.directory.specs.Found.{IsQuick};
+ghost use Rattle.directory.specs.Visits.{Visits, ended};
+
+use alto_words::Memory;
+use dir_slots::{PlacedSlot, Walk};
+use disk_records::{Disk, PAGE_BYTES, Sector};
+use hint_cache::Hints;
+use page_seeking::{FileError, FileRef, locate};
+
+/// What is done with each slot of a directory.
+pub(crate) trait Visit {
+    /// The visitor before a slot, the slot as it stands in the directory, and the visitor after it.
+    ghost step: { Self → SlotAt → Self → Type 0 };
+
+    /// Whether a step takes memory: a constant of the type.
+    ghost takes_memory: { Bool };
+
+    /// Takes the next slot of the directory. Memory: no memory was left.
+    fn visit(&mut self, met: PlacedSlot) -> Result<(), Memory>
+        requires within { met.place + item_words (item_of met.slot) ≤ most_words }
+        requires in_range { IsInRange met.slot }
+        requires stored { HasStoredName met.slot }
+        ensures step { OnOk result (step self.old (slot_met met) self.new) }
+        ensures want { OnErr result (IsTrue takes_memory) };
+}
+
+/// Hands each slot that ends in these words, the next ones of the directory, to the visitor.
+fn visit_words<V: Visit>(walk: &mut Walk, words: &[u16], visitor: &mut V) -> Result<(), Memory>
+    requires walks { (given : List ℕ) × Walked given walk.old }
+    requires fits { walk.old.place + walk.old.held + length words.now ≤ most_words }
+    ensures visits { (given : List ℕ) → Walked given walk.old → OnOk result (Visits V.step given (given ++ words.now) walk.new visitor.old visitor.new) }
+    ensures taken { OnOk result (walk.new.place + walk.new.held ≤ walk.old.place + walk.old.held + length words.now) }
+    ensures want { OnErr result (IsTrue V.takes_memory) }
+{
+    let mut from = 0;
+    while let Some(met) = walk.next(words, &mut from) {
+        visitor.visit(met)?;
+    }
+    Ok(())
+}
+
+/// What a walk answers if a page isn't located. Beyond, which comes only where the machine isn't modelled, is an end of the directory.
+fn ended(error: FileError) -> Result<(), FileError>
+    ensures { result ≡ ended error }
+{
+    match error {
+        FileError::Beyond { .. } => Ok(()),
+        FileError::Misled {
+            place,
+            at,
+            wanted,
+            found,
+        } => Err(FileError::Misled {
+            place,
+            at,
+            wanted,
+            found,
+        }),
+        FileError::DiskFault => Err(FileError::DiskFault),
+        FileError::Memory => Err(FileError::Memory),
+    }
+}
+
+/// Hands each slot of a directory to the visitor, in order. Its pages are located one after another; `buf` holds the last one then. It
+/// takes no memory of its own.
+///
+/// Misled and DiskFault come as from `locate`, and Beyond never. Memory: none was left for the visitor. After each of them the visitor has
+/// met some first slots.
+pub(crate) fn visit_slots<D: Disk, V: Visit>(
+    disk: &mut D,
+    hints: &mut Hints,
+    dir: &FileRef,
+    visitor: &mut V,
+    buf: &mut Sector,
+) -> Result<(), FileError>
+    ensures visited { IsTrue D.told → DirIsFound (pack (D.tape disk.old)) dir.now → OnOk result (FoldsTo V.step visitor.old (dir_slots (pack (D.tape disk.old)) dir.now.fid) visitor.new) }
+    ensures misled { IsTrue D.told → DirIsFound (pack (D.tape disk.old)) dir.now → IfMisled result (MisledBy (pack (D.tape disk.old)) [] dir.now.fid) }
+    ensures never_beyond { IfBeyond result (λ length. ⊥) }
+    ensures cause { HasCause cause_of_length (D.tape disk.old) (D.tape disk.new) result }
+    ensures want { IsTrue D.told → IsErrOf result FileError.Memory → IsTrue V.takes_memory }
+    ensures looks { Looks D.told (65588 * 65535) (D.tape disk.old) (D.tape disk.new) }
+    ensures quick { IsTrue D.told → Quick (pack (D.tape disk.old)) dir.now.fid hints.old.cache → OnOk result (IsQuick (pack (D.tape disk.old)) dir.now.fid hints.old.cache hints.new.cache (D.tape disk.old) (D.tape disk.new)) }
+    ensures table { hints.new.table ≡ hints.old.table }
+    ensures refused { hints.old.cache.refused ≤ hints.new.cache.refused }
+    ensures handy { IsTrue D.told → KeepsHandy (pack (D.tape disk.old)) hints.old.cache hints.new.cache }
+{
+    let mut walk = Walk::new();
+    for full in 0..u16::MAX {
+        match locate(disk, hints, dir, full + 1, buf) {
+            Ok((_, info)) => {
+                let words = &buf.value[..usize::from(info.bytes) / 2];
+                match visit_words(&mut walk, words, visitor) {
+                    Ok(()) => {}
+                    Err(Memory) => return Err(FileError::Memory),
+                }
+                if info.bytes != PAGE_BYTES {
+                    return Ok(());
+                }
+            }
+            Err(error) => return ended(error),
+        }
+    }
+    Ok(())
+}

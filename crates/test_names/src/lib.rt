@@ -1,0 +1,10 @@
+//! Tests of calls on directories, over a formatted pack in memory.
+//!
+//! What is expected here was worked out by hand from the layouts, and never taken from a run. There is nothing to call.
+#![tactic(auto)]
+
+#[cfg(test)]
+mod pack;
+
+#[cfg(test)]
+mod reading;
