@@ -1,5 +1,5 @@
 -- A cut, by the label of the page in which it ends.
-use Rattle.std.proofs.Common.{Bool, List, None, Ok, OnOk, Option, Result, Some, [], ap, arith, false, inl, inr, le-leb, length, refl, subst, suc, sym, true, zero, ℕ, ◌%◌, ◌-◌, ◌/◌, ◌<◌, ◌∙◌, ◌≡◌, ◌≢◌, ◌≤◌}
+use Rattle.std.proofs.Common.{Bool, List, None, Ok, OnOk, Option, Result, Some, [], ap, arith, false, inl, inr, le-leb, length, refl, subst, suc, sym, true, zero, ℕ, ◌%◌, ◌/◌, ◌<◌, ◌∙◌, ◌≡◌, ◌≢◌, ◌≤◌}
 use Rattle.std.specs.Option.{is_some}
 use Rattle.alto_words.specs.declared.fid.Fid.{Fid}
 use Rattle.disk_records.proofs.Growing.{pack-after}

@@ -7,6 +7,7 @@ mod DroppedFiles
 mod Erring
 mod FileEnds
 mod Following
+mod Forgetting
 mod FreeSectors
 mod FreshWords
 mod Going

@@ -1,5 +1,5 @@
 -- Which pages of a file are left midway.
-use Rattle.std.proofs.Common.{Bool, List, None, Option, Some, [], add-one, ap, arith, cond, false, inl, inr, refl, set, suc, sym, true, zero, ℕ, ◌++◌, ◌+◌, ◌-◌, ◌∙◌, ◌∷◌, ◌≡◌, ◌≢◌, ◌≤◌, ◌⊎◌}
+use Rattle.std.proofs.Common.{Bool, List, None, Option, Some, [], add-one, ap, arith, cond, false, inl, inr, refl, set, suc, sym, true, zero, ℕ, ◌++◌, ◌+◌, ◌∙◌, ◌∷◌, ◌≡◌, ◌≢◌, ◌≤◌, ◌⊎◌}
 use Rattle.alto_words.specs.declared.fid.Fid.{Fid}
 use Rattle.disk_records.specs.Commands.{release_writes}
 use Rattle.disk_records.specs.Packs.{Pack, carried, is_usable, sector_at}
@@ -76,6 +76,13 @@ short_size p f (suc k) at info known whole first short =
     let most = most_bytes p (page_number f (suc k)) at info known in
     let is = length_by_the_last_page p f k at info.bytes whole (record { sector = carried_place p whole at (page_number f (suc k)) known.carries; sized = known.sized; bytes = sym (ap (λ (i : PageInfo). i.bytes) known.tells) }) (omega (arith, most, short)) in
     omega (arith, is)
+
+-- and no page comes after it
+pub short_end : (p : Pack) (f : Fid) (number at : ℕ) (info : PageInfo) → IsKnown p (page_number f number) at info → Whole p → 1 ≤ number → info.bytes ≢ 512 → page_of_byte (file_length p f) ≤ number
+short_end p f number at info known whole first short =
+    let size = short_size p f number at info known whole first short in
+    let most = most_bytes p (page_number f number) at info known in
+    omega (arith, size, first, short, most)
 
 pub none_left : (p : Pack) (f : Fid) (number at : ℕ) (info : PageInfo) (pages : List ℕ) → IsKnown p (page_number f number) at info → 1 ≤ number → (info.bytes ≢ 512) ⊎ (number ≡ 65535) → AreAfter p f number pages → pages ≡ []
 none_left p f number at info [] known first ends left = refl

@@ -1,5 +1,5 @@
 -- Pages of a file that go one after another. The pack as a call began is p, and q is the one that its record writes have left of it so far.
-use Rattle.std.specs.Prelude.{Bool, IsErrOf, List, OnOk, Option, Result, Some, false, length, set, suc, take, ℕ, ◌++◌, ◌+◌, ◌<◌, ◌≤◌, ◌∷◌, ◌≡◌}
+use Rattle.std.specs.Prelude.{None, Bool, IsErrOf, List, OnOk, Option, Result, Some, false, length, set, suc, take, ℕ, ◌++◌, ◌+◌, ◌<◌, ◌≤◌, ◌∷◌, ◌≡◌}
 use Rattle.alto_words.specs.declared.fid.Fid.{Fid}
 use Rattle.disk_records.specs.Addresses.{pages_of}
 use Rattle.disk_records.specs.Commands.{release_writes}
@@ -10,7 +10,7 @@ use Rattle.disk_records.specs.declared.records.Event.{Event}
 use Rattle.disk_records.specs.declared.records.Page.{Page}
 use Rattle.disk_records.specs.declared.records.Place.{Place}
 use Rattle.disk_records.specs.declared.records.Tally.{Tally}
-use Rattle.hint_cache.specs.Caches.{Cached}
+use Rattle.hint_cache.specs.Caches.{Cached, address_in}
 use Rattle.label_check.specs.Guarded.{info_of}
 use Rattle.label_check.specs.declared.errors.PageInfo.{PageInfo}
 use Rattle.laws_hint.specs.MapChanges.{marked}
@@ -106,3 +106,11 @@ pub record CommitsAndReleases (part : List Event) (pages : List ℕ) (old new : 
 -- on any pack a cache that was handy for a file is so
 abbrev pub KeepsEachHandy : Cached → Cached → Type 0
 KeepsEachHandy old new = (ss : List Sight) (f : Fid) → HandyCache ss f (all_listed old) → HandyCache ss f (all_listed new)
+
+-- a page that wasn't listed isn't
+abbrev pub ListsNoMore : Cached → Cached → Type 0
+ListsNoMore old new = (page : Page) → address_in old.entries page ≡ None → address_in new.entries page ≡ None
+
+-- no page of the file after the one with this number is listed, up to the last
+abbrev pub Forgotten : Cached → Fid → ℕ → ℕ → Type 0
+Forgotten cache f number last = (n : ℕ) → number < n → n ≤ last → address_in cache.entries (page_number f n) ≡ None

@@ -12,13 +12,14 @@ ghost use Rattle.laws_operation.specs.ByteLaws.{IsOrdinary};
 ghost use Rattle.pack_model.specs.hints.Links.{no_link};
 ghost use Rattle.pack_model.specs.operations.Committing.{page_of_byte};
 ghost use Rattle.pack_model.specs.operations.PageWords.{relabelled};
+ghost use Rattle.pack_model.specs.states.Whole.{Whole};
 ghost use Rattle.page_seeking.specs.Causes.{cause_of_file, cause_of_length};
 ghost use Rattle.page_seeking.specs.Parts.{IsPast};
 ghost use Rattle.page_seeking.specs.Refs.{FileStands, IfBeyond, IfMisled, MisledBy};
 ghost use Rattle.page_seeking.specs.Seeking.{file_length, length_at};
 ghost use Rattle.page_seeking.specs.declared.refs.FileError.TheVariants as error;
 ghost use Rattle.file_pages.specs.Cutting.{IsRead, to_cut};
-ghost use Rattle.file_pages.specs.Releasing.{AreAfter, CommitsAndReleases, CommitsFirst, KeepsEachHandy, MisledSince, OnlyGo};
+ghost use Rattle.file_pages.specs.Releasing.{AreAfter, CommitsAndReleases, CommitsFirst, Forgotten, KeepsEachHandy, MisledSince, OnlyGo};
 ghost use Rattle.file_pages.specs.Values.{LeavesHandy};
 
 use crate::refs::error_at;
@@ -114,6 +115,7 @@ fn end_in_page<D: Disk>(
     ensures sized { list_length hints.new.table ≡ list_length hints.old.table }
     ensures refused { hints.new.cache.refused ≡ hints.old.cache.refused }
     ensures handy { KeepsEachHandy hints.old.cache hints.new.cache }
+    ensures forgotten { (p : Pack) → IsTrue D.told → pack (D.tape disk.old) ≡ p → IsRead p page at info buf.old → Whole p → file_length p page.fid / 512 < 65535 → OnOk result (Forgotten hints.new.cache page.fid page.number (page_of_byte (file_length p page.fid))) }
 {
     let label = last_label(&buf.label, bytes);
     match shorten(disk, tally, at, page, label) {
@@ -148,6 +150,7 @@ pub fn cut<D: Disk>(
     ensures alone { DiskAlone (D.tape disk.old) (D.tape disk.new) }
     ensures sized { list_length hints.new.table ≡ list_length hints.old.table }
     ensures refused { hints.old.cache.refused ≤ hints.new.cache.refused }
+    ensures forgotten { IsTrue D.told → FileStands (pack (D.tape disk.old)) file.now → OnOk result (Forgotten hints.new.cache file.now.fid (page_of_byte length) (page_of_byte (file_length (pack (D.tape disk.old)) file.now.fid))) }
     ensures handy { IsTrue D.told → FileStands (pack (D.tape disk.old)) file.now → OnOk result (LeavesHandy (pack (D.tape disk.old)) (pack (D.tape disk.new)) hints.old.cache hints.new.cache) }
 {
     let Some(number) = last_page_of(length) else {

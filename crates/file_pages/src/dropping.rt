@@ -1,5 +1,5 @@
 // A file that goes: all of its sectors are released.
-ghost use Rattle.std.specs.Prelude.{◌≡◌, ◌<◌, ◌≤◌, ◌∷◌, ℕ, List, Some, false, IsTrue, OnOk, length};
+ghost use Rattle.std.specs.Prelude.{None, ◌≡◌, ◌<◌, ◌/◌, ◌≤◌, ◌∷◌, ℕ, List, Some, false, IsTrue, OnOk, length};
 ghost use Rattle.disk_records.specs.Addresses.{pages_of};
 ghost use Rattle.disk_records.specs.Causes.{HasCause};
 ghost use Rattle.disk_records.specs.Commands.{release_writes};
@@ -7,13 +7,16 @@ ghost use Rattle.disk_records.specs.Packs.{Pack, carried};
 ghost use Rattle.disk_records.specs.Tapes.{DiskAlone, added, pack};
 ghost use Rattle.laws_call.specs.Acting.{Releases, around};
 ghost use Rattle.laws_hint.specs.MapChanges.{marked};
+ghost use Rattle.hint_cache.specs.Caches.{address_in};
+ghost use Rattle.pack_model.specs.operations.Committing.{page_of_byte};
+ghost use Rattle.pack_model.specs.states.Whole.{Whole};
 ghost use Rattle.page_seeking.specs.Causes.{cause_of_file, cause_of_length};
 ghost use Rattle.page_seeking.specs.Refs.{FileStands, IfBeyond, IfMisled, MisledBy};
-ghost use Rattle.page_seeking.specs.Seeking.{page_number};
+ghost use Rattle.page_seeking.specs.Seeking.{file_length, page_number};
 ghost use Rattle.page_seeking.specs.declared.refs.FileError.TheVariants as error;
 ghost use Rattle.file_pages.specs.Cutting.{IsRead};
 ghost use Rattle.file_pages.specs.Dropping.{MayBeDropped};
-ghost use Rattle.file_pages.specs.Releasing.{AreAfter, CommitsAndReleases, CommitsFirst, KeepsEachHandy, MisledSince, OnlyGo};
+ghost use Rattle.file_pages.specs.Releasing.{AreAfter, CommitsAndReleases, CommitsFirst, Forgotten, KeepsEachHandy, MisledSince, OnlyGo};
 ghost use Rattle.file_pages.specs.Values.{LeavesHandy};
 
 use crate::refs::error_at;
@@ -72,6 +75,8 @@ fn drop_pages<D: Disk>(
     ensures sized { length hints.new.table ≡ length hints.old.table }
     ensures refused { hints.new.cache.refused ≡ hints.old.cache.refused }
     ensures handy { KeepsEachHandy hints.old.cache hints.new.cache }
+    ensures forgotten { (p : Pack) → IsTrue D.told → pack (D.tape disk.old) ≡ p → IsRead p (page_number fid 0) at info buf.old → Whole p → file_length p fid / 512 < 65535 → OnOk result (Forgotten hints.new.cache fid 0 (page_of_byte (file_length p fid))) }
+    ensures leader { OnOk result (address_in hints.new.cache.entries (page_number fid 0) ≡ None) }
 {
     let leader = Page { fid, number: 0 };
     match release_leader(disk, tally, at, leader) {
@@ -106,6 +111,8 @@ pub fn drop_file<D: Disk>(
     ensures alone { DiskAlone (D.tape disk.old) (D.tape disk.new) }
     ensures sized { length hints.new.table ≡ length hints.old.table }
     ensures refused { hints.old.cache.refused ≤ hints.new.cache.refused }
+    ensures forgotten { IsTrue D.told → FileStands (pack (D.tape disk.old)) file.now → OnOk result (Forgotten hints.new.cache file.now.fid 0 (page_of_byte (file_length (pack (D.tape disk.old)) file.now.fid))) }
+    ensures leader { OnOk result (address_in hints.new.cache.entries (page_number file.now.fid 0) ≡ None) }
     ensures handy { IsTrue D.told → FileStands (pack (D.tape disk.old)) file.now → OnOk result (LeavesHandy (pack (D.tape disk.old)) (pack (D.tape disk.new)) hints.old.cache hints.new.cache) }
 {
     match locate(disk, hints, file, 0, buf) {

@@ -1,16 +1,19 @@
 // Pages of a file that are released: all after one whose label was read, found one by one by the next links.
-ghost use Rattle.std.specs.Prelude.{◌≡◌, ◌≢◌, ◌⊎◌, ◌+◌, ◌<◌, ◌≤◌, ℕ, List, set, true, false, IfOk, IsErrOf, IsTrue, OnErr, OnOk, length};
+ghost use Rattle.std.specs.Prelude.{None, ◌/◌, ◌≡◌, ◌≢◌, ◌⊎◌, ◌+◌, ◌<◌, ◌≤◌, ℕ, List, set, true, false, IfOk, IsErrOf, IsTrue, OnErr, OnOk, length};
 ghost use Rattle.disk_records.specs.Addresses.{pages_of};
 ghost use Rattle.disk_records.specs.Causes.{HasCause};
 ghost use Rattle.disk_records.specs.Commands.{release_writes};
 ghost use Rattle.disk_records.specs.Events.{IsFirstOf};
 ghost use Rattle.disk_records.specs.Packs.{Pack, carried};
 ghost use Rattle.disk_records.specs.Tapes.{DiskAlone, Looks, added, pack};
+ghost use Rattle.hint_cache.specs.Caches.{address_in};
+ghost use Rattle.pack_model.specs.operations.Committing.{page_of_byte};
+ghost use Rattle.pack_model.specs.states.Whole.{Whole};
 ghost use Rattle.page_seeking.specs.Causes.{cause_of_length};
 ghost use Rattle.page_seeking.specs.Refs.{IfMisled};
-ghost use Rattle.page_seeking.specs.Seeking.{IsFull, Seen, Stands, page_after, page_number};
+ghost use Rattle.page_seeking.specs.Seeking.{file_length, IsFull, Seen, Stands, page_after, page_number};
 ghost use Rattle.page_seeking.specs.declared.refs.FileError.TheVariants as error;
-ghost use Rattle.file_pages.specs.Releasing.{AreAfter, Follows, KeepsEachHandy, MisledSince, OnlyGo, ReleasesAll, ReleasesNext};
+ghost use Rattle.file_pages.specs.Releasing.{AreAfter, Follows, Forgotten, KeepsEachHandy, ListsNoMore, MisledSince, OnlyGo, ReleasesAll, ReleasesNext};
 
 use crate::FileError;
 use crate::refs::error_at;
@@ -71,6 +74,8 @@ pub(crate) fn give_back(hints: &mut Hints, page: Page, at: u16)
     ensures table { hints.new.table ≡ set hints.old.table at false }
     ensures refused { hints.new.cache.refused ≡ hints.old.cache.refused }
     ensures handy { KeepsEachHandy hints.old.cache hints.new.cache }
+    ensures forgotten { address_in hints.new.cache.entries page ≡ None }
+    ensures no_more { ListsNoMore hints.old.cache hints.new.cache }
 {
     hints.table.set(at, false);
     hints.cache.forget(page);
@@ -96,6 +101,8 @@ fn release_after<D: Disk>(
     ensures sized { length hints.new.table ≡ length hints.old.table }
     ensures refused { hints.new.cache.refused ≡ hints.old.cache.refused }
     ensures handy { KeepsEachHandy hints.old.cache hints.new.cache }
+    ensures forgotten { IfOk result (λ next. address_in hints.new.cache.entries (page_after page) ≡ None) }
+    ensures no_more { ListsNoMore hints.old.cache hints.new.cache }
 {
     let after = Page {
         fid: page.fid,
@@ -133,6 +140,8 @@ pub(crate) fn release_rest<D: Disk>(
     ensures sized { length hints.new.table ≡ length hints.old.table }
     ensures refused { hints.new.cache.refused ≡ hints.old.cache.refused }
     ensures handy { KeepsEachHandy hints.old.cache hints.new.cache }
+    ensures forgotten { (p : Pack) → IsTrue D.told → Follows p (pack (D.tape disk.old)) (page_number fid number) at info → Whole p → file_length p fid / 512 < 65535 → OnOk result (Forgotten hints.new.cache fid number (page_of_byte (file_length p fid))) }
+    ensures no_more { ListsNoMore hints.old.cache hints.new.cache }
 {
     let mut here = at;
     let mut last = info;

@@ -7,9 +7,11 @@ use Rattle.page_seeking.proofs.Erring.{if_misled_map, on_ok, on_ok_map}
 use Rattle.page_seeking.specs.Seeking.{file_length, page_number}
 use Rattle.pack_model.specs.reading.Sights.{sights}
 use Rattle.file_pages.proofs.CommitFirst.{look_before}
-use Rattle.file_pages.proofs.CutFiles.{cut_begun, cut_here, cut_is_at_the_end, cut_is_past, cut_is_within, far_past, known_read}
+use Rattle.file_pages.proofs.CutFiles.{cut_begun, cut_here, cut_is_at_the_end, cut_is_past, cut_is_within, far_past, fewer_pages, known_read}
 use Rattle.file_pages.proofs.Going.{handy_still, misled_by}
 use Rattle.file_pages.specs.Cutting.{IsRead}
+use Rattle.file_pages.specs.Releasing.{Forgotten}
+use Rattle.pack_model.specs.operations.Committing.{page_of_byte}
 use Rattle.file_pages.proofs.cutting.cut.Goals as goal
 
 pub returns-in-Ok-clause-beyond : goal.returns-in-Ok-clause-beyond
@@ -90,3 +92,19 @@ returns-else-info-bytes-2-clause-handy g c told stands =
 
 pub returns-else-info-bytes-2-clause-alone : goal.returns-else-info-bytes-2-clause-alone
 returns-else-info-bytes-2-clause-alone g c = alone_twice c.locate.ensures.looks.alone c.end_in_page.ensures.alone
+
+pub returns-then-info-bytes-2-clause-forgotten : goal.returns-then-info-bytes-2-clause-forgotten
+returns-then-info-bytes-2-clause-forgotten g c told stands =
+    let a = pack (g.D.Tape.tape c.args.disk.now) in
+    let read : IsRead a (page_number c.args.file.now.fid c.in-Some.number) c.in-Ok-locate.at c.in-Ok-locate.info c.locate.new.buf = record { seen = c.in-Ok-locate.ensures.seen; stands = c.in-Ok-locate.ensures.stands told } in
+    let same = c.if-info-bytes-2.true in
+    let end = cut_is_at_the_end a c.args.file.now.fid c.args.length c.in-Some.number c.in-Ok-locate.at c.in-Ok-locate.info stands.whole (known_read read) c.in-Some.ensures.some (omega (arith, same)) in
+    λ n above within. absurd (omega (arith, end, above, within))
+
+pub returns-else-info-bytes-2-clause-forgotten : goal.returns-else-info-bytes-2-clause-forgotten
+returns-else-info-bytes-2-clause-forgotten g c told stands =
+    let a = pack (g.D.Tape.tape c.args.disk.now) in
+    let f = c.args.file.now.fid in
+    let read : IsRead a (page_number f c.in-Some.number) c.in-Ok-locate.at c.in-Ok-locate.info c.locate.new.buf = record { seen = c.in-Ok-locate.ensures.seen; stands = c.in-Ok-locate.ensures.stands told } in
+    subst (λ k. OnOk c.end_in_page.result (Forgotten c.end_in_page.new.hints.cache f k (page_of_byte (file_length a f)))) c.in-Some.ensures.some
+    (c.end_in_page.ensures.forgotten a told (looks_pack c.locate.ensures.looks told) read stands.whole (fewer_pages a c.args.file.now stands))

@@ -41,3 +41,8 @@ returns-in-Err-clause-misled g c p told same read = if_misled_map {T = Unit {0}}
 
 pub returns-in-Ok-clause-alone : goal.returns-in-Ok-clause-alone
 returns-in-Ok-clause-alone g c = alone_twice c.shorten.ensures.alone c.release_rest.ensures.alone
+
+pub returns-in-Ok-clause-forgotten : goal.returns-in-Ok-clause-forgotten
+returns-in-Ok-clause-forgotten g c p told same read whole few =
+    let named = ap page_of c.last_label-label.ensures ∙ (label_with_another_count c.args.buf.now.label c.args.page c.args.bytes no_link c.requires.named c.requires.few).0 in
+    c.release_rest.ensures.forgotten p told (follows_shortened same read c.shorten.ensures.alone.grown named (c.in-Ok.ensures.commits told (carries_at same read))) whole few

@@ -7,7 +7,7 @@ use Rattle.page_seeking.proofs.Erring.{if_misled_map, on_ok_map}
 use Rattle.page_seeking.specs.Seeking.{page_number}
 use Rattle.pack_model.specs.reading.Sights.{sights}
 use Rattle.file_pages.proofs.CommitFirst.{look_before}
-use Rattle.file_pages.proofs.CutFiles.{known_read}
+use Rattle.file_pages.proofs.CutFiles.{fewer_pages, known_read}
 use Rattle.file_pages.proofs.DroppedFiles.{drop_begun, drop_here}
 use Rattle.file_pages.proofs.Going.{handy_still, misled_by}
 use Rattle.file_pages.specs.Cutting.{IsRead}
@@ -42,3 +42,9 @@ returns-in-Ok-clause-handy g c told stands =
     let looks = c.locate.ensures.looks in
     let read : IsRead (pack a) (page_number c.args.file.now.fid 0) c.in-Ok.at c.in-Ok.info c.locate.new.buf = record { seen = c.in-Ok.ensures.seen; stands = c.in-Ok.ensures.stands told } in
     on_ok_map c.drop_pages.result (λ only whole links f handy. handy_still (pack a) (pack d) f _ whole only (c.drop_pages.ensures.handy (sights (pack a)) f (c.locate.ensures.handy told whole links f handy))) (c.drop_pages.ensures.only (pack a) told (looks_pack looks told) read)
+
+pub returns-in-Ok-clause-forgotten : goal.returns-in-Ok-clause-forgotten
+returns-in-Ok-clause-forgotten g c told stands =
+    let a = g.D.Tape.tape c.args.disk.now in
+    let read : IsRead (pack a) (page_number c.args.file.now.fid 0) c.in-Ok.at c.in-Ok.info c.locate.new.buf = record { seen = c.in-Ok.ensures.seen; stands = c.in-Ok.ensures.stands told } in
+    c.drop_pages.ensures.forgotten (pack a) told (looks_pack c.locate.ensures.looks told) read stands.whole (fewer_pages (pack a) c.args.file.now stands)

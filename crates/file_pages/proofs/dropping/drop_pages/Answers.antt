@@ -1,7 +1,8 @@
 use Rattle.std.proofs.Common.{Err, List, OnOk, Bool, false, refl, subst, ◌≡◌}
 use Rattle.disk_records.proofs.Growing.{alone_twice}
 use Rattle.laws_hint.specs.MapChanges.{marked}
-use Rattle.page_seeking.proofs.Erring.{if_misled_map}
+use Rattle.page_seeking.proofs.Erring.{if_misled_map, on_ok}
+use Rattle.page_seeking.specs.Seeking.{page_number}
 use Rattle.file_pages.proofs.CommitFirst.{commit_broke, releases_after}
 use Rattle.file_pages.proofs.CutFiles.{carries_at}
 use Rattle.file_pages.proofs.DroppedFiles.{follows_leader}
@@ -35,3 +36,9 @@ returns-in-Ok-clause-alone g c = alone_twice c.release_leader.ensures.alone c.re
 
 pub returns-in-Ok-clause-handy : goal.returns-in-Ok-clause-handy
 returns-in-Ok-clause-handy g c = λ ss f handy. c.release_rest.ensures.handy ss f (c.give_back.ensures.handy ss f handy)
+
+pub returns-in-Ok-clause-forgotten : goal.returns-in-Ok-clause-forgotten
+returns-in-Ok-clause-forgotten g c p told same read whole few = c.release_rest.ensures.forgotten p told (follows_leader same read c.release_leader.ensures.alone.grown (c.in-Ok.ensures.commits told (carries_at same read))) whole few
+
+pub returns-in-Ok-clause-leader : goal.returns-in-Ok-clause-leader
+returns-in-Ok-clause-leader g c = on_ok c.release_rest.result (c.release_rest.ensures.no_more (page_number c.args.fid 0) c.give_back.ensures.forgotten)

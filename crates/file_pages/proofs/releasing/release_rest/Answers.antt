@@ -1,5 +1,9 @@
-use Rattle.std.proofs.Common.{arith, inl, inr, refl, ◌∙◌, ◌≡◌, ◌≤◌}
+use Rattle.std.proofs.Common.{None, arith, inl, inr, refl, subst, ◌+◌, ◌∙◌, ◌≡◌, ◌≤◌}
 use Rattle.disk_records.proofs.Growing.{alone_here, alone_twice}
+use Rattle.hint_cache.specs.Caches.{address_in}
+use Rattle.page_seeking.proofs.Ending.{same_or_less}
+use Rattle.page_seeking.specs.Seeking.{page_number}
+use Rattle.file_pages.proofs.Remaining.{short_end}
 use Rattle.file_pages.proofs.ReleaseLoop.{halfway_here, halfway_more, releases_all, releases_broke}
 use Rattle.file_pages.proofs.releasing.release_rest.Goals as goal
 
@@ -9,6 +13,8 @@ loop-lower-init g c = record {
   sized = refl;
   refused = refl;
   handy = λ ss f handy. handy;
+  no_more = λ page none. none;
+  forgotten = λ n above within. absurd (omega (arith, above, within));
   follows = λ p told follows. follows;
   halfway = λ p pages told follows left. halfway_here (g.D.Tape.tape c.args.disk.now) c.args.hints.now.table left;
 }
@@ -22,6 +28,11 @@ loop-lower-preserved g c =
       sized = step.sized ∙ inv.sized;
       refused = step.refused ∙ inv.refused;
       handy = λ ss f handy. step.handy ss f (inv.handy ss f handy);
+      no_more = λ page none. step.no_more page (inv.no_more page none);
+      forgotten = λ n above within. elim (same_or_less n (c.loop-lower.lower + 1) within) [
+        | inl same ↦ subst (λ k. address_in c.release_after.new.hints.cache.entries (page_number c.args.fid k) ≡ None) same c.in-Ok.ensures.forgotten
+        | inr less ↦ step.no_more (page_number c.args.fid n) (inv.forgotten n above (omega (arith, less)))
+      ];
       follows = λ p told follows. (c.in-Ok.ensures.released p told (inv.follows p told follows)).follows;
       halfway = λ p pages told follows left. halfway_more inv.alone.grown step.alone.grown (inv.halfway p pages told follows left) (inv.follows p told follows) (c.goes_on.ensures.full c.if-not-goes_on.false) (c.in-Ok.ensures.released p told (inv.follows p told follows));
     }
@@ -60,3 +71,19 @@ returns-clause-releases g c p pages told follows left =
 
 pub returns-clause-only : goal.returns-clause-only
 returns-clause-only g c p told follows = (c.loop-lower.invariant.follows p told follows).only
+
+pub returns-then-not-goes_on-clause-forgotten : goal.returns-then-not-goes_on-clause-forgotten
+returns-then-not-goes_on-clause-forgotten g c p told follows whole few =
+    let inv = c.loop-lower.invariant in
+    let short = c.goes_on.ensures.short c.if-not-goes_on.true in
+    let last = short_end p c.args.fid c.loop-lower.lower c.loop-lower.here c.loop-lower.last (inv.follows p told follows).known whole short.0 short.1 in
+    λ n above within. inv.forgotten n above (omega (arith, last, within))
+
+pub returns-clause-forgotten : goal.returns-clause-forgotten
+returns-clause-forgotten g c p told follows whole few =
+    let end = c.loop-lower.auto.lower-end (omega arith) in
+    let top : c.loop-lower.lower ≡ 65535 = omega (arith, end) in
+    λ n above within. c.loop-lower.invariant.forgotten n above (omega (arith, few, within, top))
+
+pub returns-in-Err-clause-no_more : goal.returns-in-Err-clause-no_more
+returns-in-Err-clause-no_more g c = λ page none. c.release_after.ensures.no_more page (c.loop-lower.invariant.no_more page none)

@@ -1,8 +1,9 @@
-use Rattle.std.proofs.Common.{IsTrue, List, length, ℕ, ◌≡◌}
+use Rattle.std.proofs.Common.{IsTrue, List, None, length, ℕ, ◌<◌, ◌≡◌, ◌≤◌}
 use Rattle.disk_records.specs.Packs.{Pack}
 use Rattle.disk_records.specs.Tapes.{DiskAlone, pack}
+use Rattle.hint_cache.specs.Caches.{address_in}
 use Rattle.page_seeking.specs.Seeking.{page_number}
-use Rattle.file_pages.specs.Releasing.{AreAfter, Follows, Halfway, KeepsEachHandy}
+use Rattle.file_pages.specs.Releasing.{AreAfter, Follows, Halfway, KeepsEachHandy, ListsNoMore}
 use Rattle.file_pages.proofs.releasing.release_rest.Given as goal
 
 abbrev pub invariant-loop-lower : goal.invariant-loop-lower
@@ -14,6 +15,8 @@ invariant-loop-lower g l =
       sized : length l.hints.table ≡ length l.fn.hints.table;
       refused : l.hints.cache.refused ≡ l.fn.hints.cache.refused;
       handy : KeepsEachHandy l.fn.hints.cache l.hints.cache;
+      no_more : ListsNoMore l.fn.hints.cache l.hints.cache;
+      forgotten : (n : ℕ) → l.fn.number < n → n ≤ l.lower → address_in l.hints.cache.entries (page_number l.fid n) ≡ None;
       follows : (p : Pack) → IsTrue g.D.Tape.told → Follows p (pack old) (page_number l.fid l.fn.number) l.fn.at l.fn.info → Follows p (pack now) (page_number l.fid l.lower) l.here l.last;
       halfway : (p : Pack) (pages : List ℕ) → IsTrue g.D.Tape.told → Follows p (pack old) (page_number l.fid l.fn.number) l.fn.at l.fn.info → AreAfter p l.fid l.fn.number pages → Halfway p l.fid l.lower pages old now l.fn.hints.table l.hints.table;
     }
