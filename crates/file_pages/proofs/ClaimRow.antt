@@ -1,5 +1,5 @@
 -- Claims of new pages in a row, one after another.
-use Rattle.std.proofs.Common.{All, Bool, Err, IsErrOf, List, Ok, [], ap, append-nil, append_assoc, arith, drop, get_or, length, min, subst, suc, sym, true, zero, ℕ, ◌*◌, ◌++◌, ◌+◌, ◌-◌, ◌<◌, ◌∙◌, ◌∷◌, ◌≡◌, ◌≢◌, ◌≤◌, refl}
+use Rattle.std.proofs.Common.{Err, List, Ok, [], ap, append-nil, append_assoc, arith, drop, get_or, length, min, subst, suc, sym, true, ℕ, ◌*◌, ◌++◌, ◌+◌, ◌-◌, ◌∙◌, ◌∷◌, ◌≡◌, ◌≢◌, ◌≤◌, refl}
 use Rattle.std.proofs.lemmas.List.{length-append, length-drop}
 use Rattle.std.proofs.lemmas.List.Elements.{All-cons, All-head, All-nil}
 use Rattle.alto_words.specs.declared.fid.Fid.{Fid}
@@ -18,15 +18,13 @@ use Rattle.disk_records.specs.declared.shape.Shape.{Shape}
 use Rattle.label_check.specs.Guarded.{Guarded, IsFree}
 use Rattle.label_check.specs.declared.errors.GuardError.{GuardError}
 use Rattle.laws_operation.proofs.grow.Laws.{claims_keep_unclaimed_free}
-use Rattle.page_seeking.specs.Refs.{IfMisled}
 use Rattle.page_seeking.specs.Seeking.{page_number}
-use Rattle.page_seeking.specs.declared.refs.FileError.TheVariants as file
 use Rattle.page_seeking.specs.declared.refs.FileError.{FileError}
-use Rattle.pack_model.specs.operations.Commands.{Claim, all_claimed, claims_of, claims_writes, past_last, sectors_of}
+use Rattle.pack_model.specs.operations.Commands.{Claim, all_claimed, claims_of, claims_writes, sectors_of}
 use Rattle.pack_model.specs.operations.PageWords.{link_to_first}
-use Rattle.file_pages.specs.Growing.{CanClaim, FitsNext, IsSector, Makes, next_claim}
+use Rattle.file_pages.specs.Growing.{CanClaim, FitsNext, Makes, next_claim}
 use Rattle.file_pages.specs.Inside.{error_at}
-use Rattle.file_pages.proofs.Erring.{memory_of, never_misled}
+use Rattle.file_pages.proofs.Erring.{memory_of}
 
 -- ---- lists
 -- the sectors are those that were given, and there are three record writes for each

@@ -1,9 +1,9 @@
 -- Sectors that can carry a page, and free ones.
-use Rattle.std.proofs.Common.{All, Bool, List, arith, cond, false, get_or, inl, inr, length, nat_lt, refl, true, ℕ, ◌&&◌, ◌<◌, ◌≡◌, ◌≤◌, ◌⊎◌}
+use Rattle.std.proofs.Common.{All, Bool, List, arith, false, get_or, inl, inr, length, nat_lt, refl, true, ℕ, ◌&&◌, ◌<◌, ◌≡◌, ◌≤◌, ◌⊎◌}
 use Rattle.std.proofs.lemmas.Bool.Decides.{nat_tests}
 use Rattle.std.specs.Prelude.{◌==◌}
 use Rattle.disk_records.specs.Addresses.{pages_of, real_of}
-use Rattle.disk_records.specs.Packs.{Pack, is_free_at, is_usable, sector_at}
+use Rattle.disk_records.specs.Packs.{Pack, is_free_at, sector_at}
 use Rattle.disk_records.specs.Words.{word}
 use Rattle.disk_records.specs.declared.shape.Shape.{Shape}
 use Rattle.pack_laws.proofs.Guarding.{free_parts}

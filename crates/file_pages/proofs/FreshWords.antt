@@ -1,6 +1,6 @@
 -- The value of a new page, and its label.
-use Rattle.std.proofs.Common.{List, [], ap, arith, drop, length, min, refl, replicate, take, suc, zero, ℕ, ◌*◌, ◌++◌, ◌+◌, ◌-◌, ◌∙◌, ◌∷◌, ◌≡◌, ◌≤◌}
-use Rattle.std.proofs.lemmas.List.{drop-replicate, drop_all, length-append, take_min}
+use Rattle.std.proofs.Common.{List, ap, arith, drop, length, min, refl, replicate, take, suc, zero, ℕ, ◌*◌, ◌++◌, ◌+◌, ◌-◌, ◌∙◌, ◌∷◌, ◌≡◌, ◌≤◌}
+use Rattle.std.proofs.lemmas.List.{drop-replicate, take_min}
 use Rattle.disk_records.specs.Labels.{label_of}
 use Rattle.disk_records.specs.declared.records.Page.{Page}
 use Rattle.pack_model.specs.operations.PageWords.{page_value}

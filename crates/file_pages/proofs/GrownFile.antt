@@ -1,10 +1,10 @@
 -- Where the pages of a file are after it is grown, or a directory after it is widened.
-use Rattle.std.proofs.Common.{Bool, List, None, Option, Some, [], ap, arith, cond, drop, false, inl, inr, length, nat_le, refl, subst, suc, sym, true, ℕ, ◌*◌, ◌++◌, ◌+◌, ◌/◌, ◌<◌, ◌∙◌, ◌∷◌, ◌≡◌, ◌≢◌, ◌≤◌}
+use Rattle.std.proofs.Common.{List, None, Option, Some, [], ap, arith, cond, drop, false, length, nat_le, refl, subst, suc, sym, true, ℕ, ◌*◌, ◌++◌, ◌+◌, ◌/◌, ◌<◌, ◌∙◌, ◌∷◌, ◌≡◌, ◌≢◌, ◌≤◌}
 use Rattle.std.proofs.lemmas.Bool.Decides.{nat_tests}
 use Rattle.std.proofs.lemmas.List.{length-append}
 use Rattle.std.specs.FinMap.{get}
 use Rattle.std.specs.Option.{is_some, option_map}
-use Rattle.alto_words.specs.Fid.{disk_descriptor, is_directory, is_fid}
+use Rattle.alto_words.specs.Fid.{disk_descriptor, is_fid}
 use Rattle.alto_words.specs.declared.fid.Fid.{Fid}
 use Rattle.disk_records.specs.Packs.{Pack, after, sector_at}
 use Rattle.laws_call.proofs.writing.Laws.{written_acts}
@@ -22,10 +22,10 @@ use Rattle.laws_record.proofs.DirReads.{not_descriptor}
 use Rattle.page_seeking.specs.Seeking.{file_length}
 use Rattle.pack_laws.proofs.Keys.{fid_same, fid_total, is_fid-itself}
 use Rattle.pack_laws.proofs.Mapping.{get-update}
-use Rattle.pack_model.specs.operations.Commands.{all_claimed, claims_of, grown_claims, grown_label, grown_value, last_room, sectors_of}
+use Rattle.pack_model.specs.operations.Commands.{all_claimed, grown_claims, last_room, sectors_of}
 use Rattle.pack_model.specs.operations.Committing.{length_in, length_of, page_of_byte}
 use Rattle.pack_model.specs.operations.PageWords.{widening_bytes}
-use Rattle.pack_model.specs.operations.Step.Operation.{grow, widen}
+use Rattle.pack_model.specs.operations.Step.Operation.{widen}
 use Rattle.pack_model.specs.operations.Step.{Operation, on_bytes, on_items, step}
 use Rattle.pack_model.specs.reading.Bodies.Body.{data_of, items_of}
 use Rattle.pack_model.specs.reading.Bodies.{File, Files, body_length}

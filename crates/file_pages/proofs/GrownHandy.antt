@@ -1,6 +1,6 @@
 -- Hints of all files stay handy over a growth, where the pages that came are noted.
-use Rattle.std.proofs.Common.{Bool, List, None, Option, Some, [], ap, arith, false, inl, inr, length, map, refl, subst, suc, sym, true, ℕ, ◌+◌, ◌<◌, ◌∙◌, ◌∷◌, ◌≡◌, ◌≤◌, ◌⊎◌}
-use Rattle.std.specs.Prelude.{All, Contains}
+use Rattle.std.proofs.Common.{Bool, List, Some, [], ap, arith, false, inl, inr, length, map, refl, subst, suc, sym, true, ℕ, ◌+◌, ◌∙◌, ◌∷◌, ◌≡◌, ◌≤◌, ◌⊎◌}
+use Rattle.std.specs.Prelude.{All}
 use Rattle.std.proofs.lemmas.List.Elements.{All-cons, All-contains, All-map, All-nil}
 use Rattle.alto_words.specs.Fid.{is_fid}
 use Rattle.alto_words.specs.declared.fid.Fid.{Fid}
@@ -9,7 +9,7 @@ use Rattle.disk_records.specs.declared.records.Page.{Page}
 use Rattle.hint_cache.specs.Caches.{Cached}
 use Rattle.hint_cache.specs.declared.cache.Entry.{Entry}
 use Rattle.laws_operation.specs.ByteLaws.{Bear}
-use Rattle.page_seeking.specs.Seeking.{KeepsHandy, Refused, all_listed, as_listed}
+use Rattle.page_seeking.specs.Seeking.{KeepsHandy, as_listed}
 use Rattle.pack_laws.proofs.Keys.{same_fid}
 use Rattle.pack_model.specs.hints.Handy.{HandyCache, IsRightOrIdle}
 use Rattle.pack_model.specs.reading.Files.{place}

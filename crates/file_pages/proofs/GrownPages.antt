@@ -1,5 +1,5 @@
 -- What `grow_pages` finds out of its arguments, where the machine is modelled.
-use Rattle.std.proofs.Common.{All, Bool, List, OnOk, Ok, Err, Result, Some, [], ap, arith, drop, length, min, refl, subst, suc, sym, take, true, ℕ, ◌%◌, ◌*◌, ◌++◌, ◌+◌, ◌-◌, ◌/◌, ◌<◌, ◌^◌, ◌∙◌, ◌∷◌, ◌≡◌, ◌≤◌}
+use Rattle.std.proofs.Common.{All, Bool, List, OnOk, Ok, Err, Result, Some, ap, arith, drop, length, min, refl, subst, suc, sym, take, true, ℕ, ◌*◌, ◌++◌, ◌+◌, ◌-◌, ◌/◌, ◌<◌, ◌^◌, ◌∙◌, ◌≡◌, ◌≤◌}
 use Rattle.alto_words.specs.declared.fid.Fid.{Fid}
 use Rattle.disk_records.proofs.Growing.{grown_twice, pack-after}
 use Rattle.disk_records.specs.Events.{writes_in}
@@ -13,7 +13,7 @@ use Rattle.laws_operation.specs.FileWords.{CanGrow}
 use Rattle.page_seeking.specs.Seeking.{Stands, file_length, page_number}
 use Rattle.page_seeking.specs.declared.refs.FileError.TheVariants as file
 use Rattle.page_seeking.specs.declared.refs.FileError.{FileError}
-use Rattle.pack_model.specs.operations.Commands.{Claim, claims_of, claims_writes, grown_claims, grown_label, grown_value, last_room, past_last}
+use Rattle.pack_model.specs.operations.Commands.{claims_of, claims_writes, grown_claims, grown_label, grown_value, past_last}
 use Rattle.pack_model.specs.operations.Committing.{page_of_byte}
 use Rattle.pack_model.specs.operations.PageWords.{link_to_first, relabelled}
 use Rattle.pack_model.specs.operations.Step.{Operation}

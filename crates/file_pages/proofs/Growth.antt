@@ -1,5 +1,5 @@
 -- A growth: the claims of its pages, and then its old last page.
-use Rattle.std.proofs.Common.{Bool, Err, IsErrOf, List, OnOk, Ok, Result, [], ap, append_assoc, arith, cond, false, length, nat_le, nat_lt, refl, subst, suc, sym, take, true, ℕ, ◌*◌, ◌++◌, ◌+◌, ◌-◌, ◌<◌, ◌^◌, ◌∙◌, ◌∷◌, ◌≡◌, ◌≤◌}
+use Rattle.std.proofs.Common.{Bool, Err, List, OnOk, Ok, Result, [], ap, append_assoc, arith, cond, false, length, nat_le, nat_lt, refl, subst, suc, sym, take, true, ℕ, ◌*◌, ◌++◌, ◌+◌, ◌<◌, ◌^◌, ◌∙◌, ◌∷◌, ◌≡◌, ◌≤◌}
 use Rattle.std.proofs.lemmas.Bool.Decides.{nat_tests}
 use Rattle.std.proofs.lemmas.List.Sums.{sum_by-append}
 use Rattle.std.proofs.lemmas.List.{length-append}
@@ -12,8 +12,7 @@ use Rattle.disk_records.specs.Packs.{sector_at}
 use Rattle.disk_records.specs.Tapes.{DiskAlone, Taped, added, capped, pack}
 use Rattle.disk_records.specs.declared.records.Event.{Event}
 use Rattle.disk_records.specs.declared.records.Tally.{Tally}
-use Rattle.disk_records.specs.declared.shape.Shape.{Shape}
-use Rattle.laws_call.specs.Acting.{Operates, begun, around}
+use Rattle.laws_call.specs.Acting.{around, Operates, begun}
 use Rattle.laws_call.specs.Writing.{grown_writes}
 use Rattle.laws_hint.specs.MapChanges.{marked}
 use Rattle.pack_laws.proofs.tallies.Laws.{one_commit_is_counted}
@@ -22,7 +21,7 @@ use Rattle.pack_model.specs.operations.Commands.{Claim, claims_of, claims_writes
 use Rattle.pack_model.specs.operations.Operations.Move.{commits, quiet}
 use Rattle.pack_model.specs.operations.Operations.{Move, claims_moves, grow_moves, weight_of}
 use Rattle.pack_model.specs.operations.Step.{Operation}
-use Rattle.pack_model.specs.sessions.Tallies.{Tells, counted, took_effect}
+use Rattle.pack_model.specs.sessions.Tallies.{counted, took_effect}
 use Rattle.page_seeking.specs.declared.refs.FileError.TheVariants as file
 use Rattle.page_seeking.specs.declared.refs.FileError.{FileError}
 use Rattle.file_pages.proofs.ClaimRow.{claims_many, claims_written}

@@ -1,11 +1,10 @@
 -- The words of a growth, as the code takes them, and what is claimed.
 use Rattle.std.proofs.Common.{All, Bool, List, None, Option, Some, [], ap, arith, drop, false, length, min, refl, subst, suc, sym, take, true, ℕ, ◌%◌, ◌*◌, ◌++◌, ◌+◌, ◌-◌, ◌/◌, ◌<◌, ◌∙◌, ◌∷◌, ◌≡◌, ◌≤◌}
-use Rattle.std.proofs.lemmas.List.{drop_min, length-drop, length-take, take_min}
-use Rattle.std.specs.Option.{is_some}
-use Rattle.alto_words.specs.Fid.{disk_descriptor, is_directory, is_fid}
+use Rattle.std.proofs.lemmas.List.{drop_min, length-drop, take_min}
+use Rattle.alto_words.specs.Fid.{disk_descriptor, is_fid}
 use Rattle.alto_words.specs.declared.fid.Fid.{Fid}
 use Rattle.disk_records.proofs.Bytes.{length-bytes_of}
-use Rattle.disk_records.specs.Packs.{Pack, sector_at}
+use Rattle.disk_records.specs.Packs.{Pack}
 use Rattle.disk_records.specs.declared.records.Sector.{Sector}
 use Rattle.disk_records.specs.declared.shape.Shape.{Shape}
 use Rattle.laws_call.proofs.writing.Laws.{written_acts}
@@ -27,7 +26,6 @@ use Rattle.pack_model.specs.operations.Commands.{Claimable, all_claimed, claims_
 use Rattle.pack_model.specs.operations.Committing.{length_of, moves_of, page_of_byte, pages_added, units}
 use Rattle.pack_model.specs.operations.Operations.Move.{commits, quiet}
 use Rattle.pack_model.specs.operations.Operations.{Move, grow_moves}
-use Rattle.pack_model.specs.operations.PageWords.{widening_bytes}
 use Rattle.pack_model.specs.operations.Step.Operation.{grow, widen}
 use Rattle.pack_model.specs.operations.Step.{Operation}
 use Rattle.pack_model.specs.reading.Bytes.{bytes_of}

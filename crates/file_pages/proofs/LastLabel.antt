@@ -1,5 +1,5 @@
 -- The old last page of a file that grows: what its label says, and that claims leave its sector.
-use Rattle.std.proofs.Common.{All, Bool, List, Option, None, Some, [], ap, arith, cond, drop, false, get_or, length, min, nat_le, nat_lt, not, refl, set, subst, suc, sym, true, ℕ, ◌&&◌, ◌++◌, ◌+◌, ◌%◌, ◌∙◌, ◌∷◌, ◌≡◌, ◌≢◌, ◌<◌, ◌≤◌}
+use Rattle.std.proofs.Common.{All, Bool, List, None, Some, [], ap, arith, cond, drop, false, get_or, nat_le, nat_lt, not, refl, suc, sym, true, ℕ, ◌&&◌, ◌∙◌, ◌∷◌, ◌≡◌, ◌≢◌, ◌<◌, ◌≤◌}
 use Rattle.std.proofs.lemmas.Bool.Decides.{nat_tests}
 use Rattle.std.proofs.lemmas.List.Elements.{All-head, All-tail}
 use Rattle.std.specs.Prelude.{◌==◌}
@@ -18,8 +18,6 @@ use Rattle.laws_operation.proofs.Making.{named_page}
 use Rattle.laws_record.proofs.Heads.{and_left}
 use Rattle.pack_laws.proofs.Guarding.{carried_parts, free_parts, in_range_taken, other_kept}
 use Rattle.pack_model.specs.operations.Commands.{claims_of, claims_writes}
-use Rattle.pack_model.specs.operations.PageWords.{relabelled}
-use Rattle.page_seeking.specs.Seeking.{page_number}
 
 -- ---- what a label says that names a page
 middle_three : (a b c d e : Bool) → (a && b && c && d && e) ≡ true → (b && c && d) ≡ true

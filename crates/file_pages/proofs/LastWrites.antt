@@ -1,5 +1,5 @@
 -- The old last page of a file that grows: its value, its label, and its value again.
-use Rattle.std.proofs.Common.{Bool, Err, IsErrOf, List, Ok, Some, ap, arith, cond, false, length, nat_le, refl, subst, sym, true, [], ℕ, ◌++◌, ◌+◌, ◌-◌, ◌<◌, ◌^◌, ◌∙◌, ◌∷◌, ◌≡◌, ◌≤◌}
+use Rattle.std.proofs.Common.{Err, IsErrOf, List, Ok, Some, ap, arith, cond, false, length, nat_le, refl, subst, sym, [], ℕ, ◌++◌, ◌+◌, ◌-◌, ◌<◌, ◌^◌, ◌∙◌, ◌∷◌, ◌≡◌}
 use Rattle.std.proofs.lemmas.Bool.Decides.{nat_tests}
 use Rattle.std.proofs.lemmas.List.{length-append}
 use Rattle.disk_records.proofs.FirstOnes.{first_front, first_then}

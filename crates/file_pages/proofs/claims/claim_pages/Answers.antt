@@ -1,4 +1,4 @@
-use Rattle.std.proofs.Common.{All, List, Ok, Err, ap, arith, drop, length, min, refl, subst, suc, sym, ℕ, ◌*◌, ◌+◌, ◌<◌, ◌∙◌, ◌∷◌, ◌≡◌, ◌≤◌}
+use Rattle.std.proofs.Common.{All, List, ap, arith, drop, length, min, refl, subst, suc, sym, ℕ, ◌*◌, ◌<◌, ◌∙◌, ◌≡◌}
 use Rattle.std.proofs.lemmas.List.{drop_min}
 use Rattle.std.proofs.lemmas.List.Elements.{All-head, All-tail}
 use Rattle.disk_records.proofs.Growing.{alone_here, alone_twice}

@@ -1,6 +1,5 @@
-use Rattle.std.proofs.Common.{All, arith, inl, inr, length, subst, sym, ◌<◌, ◌≡◌, ◌≤◌, ◌⊎◌}
+use Rattle.std.proofs.Common.{All, subst, sym}
 use Rattle.std.proofs.lemmas.List.Elements.{All-cons, All-head, All-tail}
-use Rattle.disk_records.specs.Addresses.{pages_of}
 use Rattle.file_pages.specs.Growing.{IsSector}
 use Rattle.file_pages.proofs.FreeSectors.{is_no_sector, none_are}
 use Rattle.file_pages.proofs.growing.first_unusable.Goals as goal

@@ -1,11 +1,11 @@
-use Rattle.std.proofs.Common.{All, List, Bool, Ok, Err, OnOk, [], ap, arith, length, refl, subst, sym, true, ℕ, ◌+◌, ◌∙◌, ◌≡◌, ◌≤◌}
+use Rattle.std.proofs.Common.{All, List, Bool, Ok, Err, [], ap, arith, length, refl, subst, sym, ◌∙◌, ◌≡◌}
 use Rattle.disk_records.proofs.Growing.{alone_twice, pack-silent}
 use Rattle.disk_records.specs.Addresses.{pages_of}
 use Rattle.disk_records.specs.Packs.{Pack}
 use Rattle.disk_records.specs.Tapes.{pack}
 use Rattle.disk_records.specs.declared.shape.Shape.{Shape}
-use Rattle.laws_call.specs.Acting.{Operates, refused, around}
-use Rattle.page_seeking.specs.Refs.{IfMisled, MisledBy}
+use Rattle.laws_call.specs.Acting.{around, Operates, refused}
+use Rattle.page_seeking.specs.Refs.{MisledBy}
 use Rattle.page_seeking.specs.Seeking.{Seen, Stands, page_number}
 use Rattle.page_seeking.specs.declared.ends.LastPage.{LastPage}
 use Rattle.page_seeking.specs.declared.refs.FileError.TheVariants as error

@@ -1,4 +1,4 @@
-use Rattle.std.proofs.Common.{All, List, Bool, Ok, Err, Some, ap, arith, length, min, refl, subst, sym, true, ℕ, ◌*◌, ◌+◌, ◌-◌, ◌<◌, ◌∙◌, ◌≡◌, ◌≤◌}
+use Rattle.std.proofs.Common.{List, Ok, Err, Some, ap, arith, length, min, refl, subst, sym, ℕ, ◌+◌, ◌-◌, ◌<◌, ◌∙◌, ◌≡◌}
 use Rattle.std.proofs.lemmas.List.Elements.{All-from_get_or}
 use Rattle.disk_records.proofs.Growing.{alone_twice}
 use Rattle.disk_records.specs.Labels.{page_of}
@@ -7,13 +7,10 @@ use Rattle.disk_records.specs.Tapes.{pack}
 use Rattle.disk_records.specs.declared.records.Page.{Page}
 use Rattle.disk_records.specs.declared.shape.Shape.{Shape}
 use Rattle.laws_operation.proofs.values.Laws.{label_with_another_count}
-use Rattle.page_seeking.specs.Seeking.{Stands, page_number}
+use Rattle.page_seeking.specs.Seeking.{page_number}
 use Rattle.pack_model.specs.operations.Commands.{past_last}
 use Rattle.pack_model.specs.operations.PageWords.{link_to_first}
-use Rattle.pack_model.specs.operations.Step.{Operation}
-use Rattle.pack_model.specs.states.Whole.{Tidy, Whole}
-use Rattle.file_pages.specs.Growing.{CanClaim, MayBeGrown}
-use Rattle.page_seeking.specs.Seeking.{IsLast}
+use Rattle.file_pages.specs.Growing.{CanClaim}
 use Rattle.file_pages.proofs.Erring.{cause_after}
 use Rattle.file_pages.proofs.GrownPages.{Asked, claims_then, grew_then, may_claim, not_claimed, operated, still_there, words_are}
 use Rattle.file_pages.proofs.LastLabel.{label_says}

@@ -1,4 +1,4 @@
-use Rattle.std.proofs.Common.{All, List, Bool, ap, arith, length, subst, sym, true, ℕ, ◌<◌, ◌∙◌, ◌≡◌}
+use Rattle.std.proofs.Common.{All, List, ap, length, subst, sym, true, ℕ, ◌<◌, ◌∙◌, ◌≡◌}
 use Rattle.std.proofs.lemmas.List.{length-set}
 use Rattle.std.proofs.lemmas.List.Elements.{All-head, All-tail}
 use Rattle.laws_hint.specs.MapChanges.{marked}

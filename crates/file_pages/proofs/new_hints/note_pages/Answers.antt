@@ -1,4 +1,4 @@
-use Rattle.std.proofs.Common.{List, ap, arith, inl, length, refl, subst, suc, ℕ, ◌∙◌, ◌≡◌, ◌⊎◌}
+use Rattle.std.proofs.Common.{List, ap, arith, inl, refl, subst, suc, ℕ, ◌∙◌, ◌≡◌, ◌⊎◌}
 use Rattle.page_seeking.specs.Seeking.{Refused, page_number}
 use Rattle.disk_records.specs.declared.records.Page.{Page}
 use Rattle.file_pages.specs.Growing.{NotesOne}
