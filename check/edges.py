@@ -36,6 +36,7 @@ REPLIES = b"done\nbeyond length 5\n"
 LISTING = b"SysDir>Lost3. length 5\n1 files\n"
 NO_FILES = b"0 files\n"
 FORMATTED = b"formatted: 43 pages free\n"
+PREPARED = b"prepared: 48 pages\n"
 
 failures = []
 
@@ -325,6 +326,42 @@ def check_format(program):
         Run(program, ["--second", "two", "one", "show"], run.left).gives(DONE, NO_FILES, left=run.left)
 
 
+def check_prepare(program):
+    pack = packs.pack(2, b"ABCDE")
+    twice = {"one": pack, "two": pack}
+    both = ["--second", "two", "one"]
+    prepared = Run(program, [*both, "prepare", "1"], {"one": pack, "two": bytes(SMALL)})
+    prepared.gives(DONE, PREPARED, left=prepared.left)
+    if prepared.left["one"] != pack:
+        failures.append("prepare: the first drive changed")
+    # each label and value has ones, and each header the pack's number and the bit of the second drive
+    second = prepared.left["two"]
+    for at in range(48):
+        if second[at * 532 : at * 532 + 2] != bytes([0, 1]) or not second[at * 532 + 2] | second[at * 532 + 3]:
+            failures.append(f"prepare: sector {at} of the second drive hasn't the header that it should")
+        if second[at * 532 + 4 : (at + 1) * 532] != b"\xff" * 528:
+            failures.append(f"prepare: sector {at} of the second drive isn't free")
+    Run(program, [*both, "show"], prepared.left).gives(DONE, LISTING, left=prepared.left)
+    # what stood there is gone
+    Run(program, [*both, "prepare", "1"], twice, PATCHES).gives(DONE, PREPARED, left=prepared.left)
+    Run(program, [*both, "prepare", "00001"], prepared.left).gives(DONE, PREPARED, left=prepared.left)
+    # on one drive, with other numbers and other words
+    Run(program, ["one", "prepare", "1"], {"one": pack}).gives(USAGE, b"usage\n", left={"one": pack})
+    for words in [["0"], ["65536"], ["-1"], [""], [], ["1", "1"]]:
+        Run(program, [*both, "prepare", *words], twice).gives(USAGE, b"usage\n", left=twice)
+    # the display fails after the last record write; the disk fails, and the drive is prepared again
+    Run(program, [*both, "prepare", "1"], twice, redirect=">&-").gives(DISPLAY_FAILED, left=prepared.left)
+    stopped = Run(program, [*both, "prepare", "1"], twice, before=limited(1_000))
+    stopped.gives(-signal.SIGXFSZ, left=stopped.left)
+    Run(program, [*both, "prepare", "1"], stopped.left).gives(DONE, PREPARED, left=prepared.left)
+    # an old pack of one drive, of each size
+    for cylinders, pages in [(203, 4872), (406, 9744)]:
+        one = Run(program, ["--cylinders", str(cylinders), "one", "format", "1"]).left["one"]
+        run = Run(program, [*both, "prepare", "1"], {"one": one, "two": bytes(cylinders * 12_768)})
+        run.gives(DONE, b"prepared: %d pages\n" % pages, left=run.left)
+        Run(program, [*both, "show"], run.left).gives(DONE, NO_FILES, left=run.left)
+
+
 def may(act):
     """Whether a process may do this here."""
     try:
@@ -597,6 +634,7 @@ CHECKS = [
     check_sessions,
     check_show,
     check_format,
+    check_prepare,
     check_file_for_reading,
     check_without_null_device,
     check_size_limit,

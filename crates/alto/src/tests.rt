@@ -22,7 +22,7 @@ Usage: alto [--cylinders C] [--second PACK2] PACK WORDS
 
 Arguments:
   <PACK>   The path of the pack file
-  <WORDS>  boot: obeys the lines that are typed; show: lists what the pack holds; format N: formats the pack, whose number is N, 1 to 65535
+  <WORDS>  boot: obeys the lines that are typed; show: lists what the pack holds; format N: formats the pack, whose number is N, 1 to 65535; prepare N: prepares its second drive
 
 Options:
       --cylinders <C>   Makes the pack file first, or both, new and of zeros, with 2 to 406 cylinders

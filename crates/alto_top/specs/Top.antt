@@ -1,13 +1,15 @@
 -- The command line: what its words ask for.
-use Rattle.std.specs.Prelude.{◌≡◌, ◌⊎◌, ◌&&◌, ℕ, cond, nat_le, List, [], ◌∷◌, codes, Option, Some, None}
+use Rattle.std.specs.Prelude.{◌≡◌, ◌≢◌, ◌⊎◌, ◌&&◌, ℕ, cond, nat_le, List, [], ◌∷◌, codes, Option, Some, None}
 use Rattle.alto_words.specs.Numbers.{number_in}
+use Rattle.disk_records.specs.declared.shape.Shape.{Shape}
+use Rattle.disk_records.specs.Addresses.{disks_of}
 use Rattle.disk_records.specs.Events.{IsFirstOf, shown_events}
 use Rattle.disk_records.specs.Tapes.{Taped, Grown, ShowAlone, added}
-use Rattle.alto_top.specs.Formats.{AnswersFormat, FormatsPack}
+use Rattle.alto_top.specs.Formats.{AnswersFormat, FormatsPack, PreparesPack, ShowsThroughout}
 use Rattle.alto_top.specs.Sessions.{Booted}
 use Rattle.alto_top.specs.Showing.{AnswersShow, KeepsKeys, ShowsPack}
 use Rattle.alto_top.specs.declared.top.Asked.{Asked}
-use Rattle.alto_top.specs.declared.top.Asked.TheVariants.{Boot, Show, Format, Nothing}
+use Rattle.alto_top.specs.declared.top.Asked.TheVariants.{Boot, Show, Format, Prepare, Nothing}
 use Rattle.alto_top.specs.declared.status.Status.{Status}
 use Rattle.alto_top.specs.declared.status.Status.TheVariants as status
 
@@ -33,17 +35,25 @@ pub record AsksFormat (words : List (List ℕ)) (n : ℕ) : Type 0 where
   pub words_are : words ≡ codes "format" ∷ word ∷ []
   pub number : pack_number word ≡ Some n
 
+-- the word `prepare`, and a pack's number
+pub record AsksPrepare (words : List (List ℕ)) (n : ℕ) : Type 0 where
+  pub word : List ℕ
+  pub words_are : words ≡ codes "prepare" ∷ word ∷ []
+  pub number : pack_number word ≡ Some n
+
 -- any other words: they ask for `usage`
 pub record AsksUsage (words : List (List ℕ)) : Type 0 where
   pub no_boot : AsksBoot words → ⊥
   pub no_show : AsksShow words → ⊥
   pub no_format : (n : ℕ) → AsksFormat words n → ⊥
+  pub no_prepare : (n : ℕ) → AsksPrepare words n → ⊥
 
 -- what the words ask for
 abbrev pub AsksFor : List (List ℕ) → Asked → Type 0
 AsksFor words Boot = AsksBoot words
 AsksFor words Show = AsksShow words
 AsksFor words (Format n) = AsksFormat words n
+AsksFor words (Prepare n) = AsksPrepare words n
 AsksFor words Nothing = AsksUsage words
 
 abbrev pub usage_text : List ℕ
@@ -67,27 +77,41 @@ pub record ShowsUsage (old new : Taped) (answer : Status) : Type 0 where
   pub keys : new.keys ≡ old.keys
   pub runs : new.runs ≡ old.runs
 
+-- ---- the word `prepare`: on one drive it asks for `usage`
+-- its answers: those of preparing on two drives, and those of `usage` on one
+pub record AnswersPrepare (shape : Shape) (answer : Status) : Type 0 where
+  pub two : disks_of shape ≡ 2 → AnswersFormat answer
+  pub one : disks_of shape ≢ 2 → AnswersUsage answer
+
+-- On a machine that is modelled: on two drives the second one is prepared, and on one drive `usage` is shown.
+pub record PreparesOrUsage (number : ℕ) (old new : Taped) (answer : Status) : Type 0 where
+  pub two : disks_of old.form ≡ 2 → PreparesPack number old new answer
+  pub shows : disks_of old.form ≡ 2 → ShowsThroughout old new
+  pub one : disks_of old.form ≢ 2 → ShowsUsage old new answer
+
 -- ---- the top call, by the words
--- Usage is answered only to words that ask for it, Done only to `boot`, `show` and `format`; and what `show`, `format`, and words that ask
--- for `usage`, can answer.
+-- Usage is answered only to words that ask for it and to `prepare`, Done only to `boot`, `show`, `format` and `prepare`; and what `show`,
+-- `format`, and words that ask for `usage`, can answer.
 pub record AnswersTo (words : List (List ℕ)) (answer : Status) : Type 0 where
-  pub usage : answer ≡ status.Usage → AsksUsage words
-  pub done : answer ≡ status.Done → AsksBoot words ⊎ (AsksShow words ⊎ ((n : ℕ) × AsksFormat words n))
+  pub usage : answer ≡ status.Usage → AsksUsage words ⊎ ((n : ℕ) × AsksPrepare words n)
+  pub done : answer ≡ status.Done → AsksBoot words ⊎ (AsksShow words ⊎ (((n : ℕ) × AsksFormat words n) ⊎ ((n : ℕ) × AsksPrepare words n)))
   pub show : AsksShow words → AnswersShow answer
   pub format : (n : ℕ) → AsksFormat words n → AnswersFormat answer
   pub others : AsksUsage words → AnswersUsage answer
 
--- no event is taken back; `show` and `format` take no key, and words that ask for `usage` touch the display alone
+-- no event is taken back; `show`, `format` and `prepare` take no key, and words that ask for `usage` touch the display alone
 pub record Touches (words : List (List ℕ)) (old new : Taped) : Type 0 where
   pub grown : Grown old new
   pub show : AsksShow words → KeepsKeys old new
   pub format : (n : ℕ) → AsksFormat words n → KeepsKeys old new
+  pub prepare : (n : ℕ) → AsksPrepare words n → KeepsKeys old new
   pub others : AsksUsage words → ShowAlone old new
 
--- On a machine that is modelled, at this moment: `boot` is a session, `show` shows what the pack shows, `format` formats it, and other
--- words show `usage`.
+-- On a machine that is modelled, at this moment: `boot` is a session, `show` shows what the pack shows, `format` formats it, `prepare`
+-- prepares its second drive where there is one, and other words show `usage`.
 pub record DoesAsAsked (words : List (List ℕ)) (moment : ℕ) (old new : Taped) (answer : Status) : Type 0 where
   pub boot : AsksBoot words → Booted old new answer
   pub show : AsksShow words → ShowsPack old new answer
   pub format : (n : ℕ) → AsksFormat words n → FormatsPack n moment old new answer
+  pub prepare : (n : ℕ) → AsksPrepare words n → PreparesOrUsage n old new answer
   pub others : AsksUsage words → ShowsUsage old new answer

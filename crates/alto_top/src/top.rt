@@ -1,10 +1,12 @@
 // The command line.
 ghost use Rattle.std.specs.Prelude.{◌≡◌, [], ◌∷◌, codes, map, string_bytes, IsTrue};
-ghost use Rattle.disk_records.specs.Tapes.{ShowAlone};
+ghost use Rattle.disk_records.specs.Tapes.{Grown, ShowAlone};
 ghost use Rattle.alto_top.specs.Faults.{HasStatusCause};
-ghost use Rattle.alto_top.specs.Top.{AsksFor, AnswersUsage, ShowsUsage, AnswersTo, Touches, DoesAsAsked, pack_number};
+ghost use Rattle.alto_top.specs.Showing.{KeepsKeys};
+ghost use Rattle.alto_top.specs.Top.{AnswersPrepare, AnswersTo, AnswersUsage, AsksFor, DoesAsAsked, PreparesOrUsage, ShowsUsage, Touches, pack_number};
 
 use crate::formatting::format_pack;
+use crate::preparing::prepare_pack;
 use crate::session::{boot, show_all};
 use crate::show::show_pack;
 use crate::status::Status;
@@ -21,11 +23,13 @@ pub enum Asked {
     Show,
     /// The pack is formatted, with this number.
     Format(u16),
+    /// The second drive is prepared, with this number of the pack.
+    Prepare(u16),
     /// None of these.
     Nothing,
 }
 
-/// What the words ask for: a word alone, or `format` with a number.
+/// What the words ask for: a word alone, or `format` or `prepare` with a number.
 fn asked_of(words: &[String]) -> Asked
     ensures { AsksFor (map string_bytes words.now) result }
 {
@@ -51,12 +55,10 @@ fn asked_by(word: &[u8]) -> Asked
 fn asked_by_two(verb: &[u8], number: &[u8]) -> Asked
     ensures { AsksFor (verb.now ∷ number.now ∷ []) result }
 {
-    if verb != b"format".as_slice() {
-        return Asked::Nothing;
-    }
-    match pack_number(number) {
-        Some(number) => Asked::Format(number),
-        None => Asked::Nothing,
+    match (verb, pack_number(number)) {
+        (b"format", Some(number)) => Asked::Format(number),
+        (b"prepare", Some(number)) => Asked::Prepare(number),
+        _ => Asked::Nothing,
     }
 }
 
@@ -85,14 +87,29 @@ fn show_usage<C: Console>(console: &mut C) -> Status
     }
 }
 
-/// Does what the words of a command line ask for on this machine. The words are `boot` alone, `show` alone, or `format` and the pack's
-/// number, 1 to 65,535; with any others `usage` is shown and nothing else happens. `moment` is the time now, in seconds since the start
+/// Prepares the second drive of a pack of two; of a pack of one shows `usage`.
+fn prepare_or_usage<M: Machine>(alloc: Global, number: u16, machine: &mut M) -> Status
+    ensures prepares { IsTrue M.told → PreparesOrUsage number (M.tape machine.old) (M.tape machine.new) result }
+    ensures answers { AnswersPrepare (M.tape machine.old).form result }
+    ensures cause { HasStatusCause (M.tape machine.old) (M.tape machine.new) result }
+    ensures grown { Grown (M.tape machine.old) (M.tape machine.new) }
+    ensures keys { KeepsKeys (M.tape machine.old) (M.tape machine.new) }
+{
+    if machine.shape().disks() == 2 {
+        prepare_pack(alloc, number, machine)
+    } else {
+        show_usage(machine)
+    }
+}
+
+/// Does what the words of a command line ask for on this machine. The words are `boot` alone, `show` alone, or `format` or `prepare` and
+/// the pack's number, 1 to 65,535; with any others, and with `prepare` on one drive, `usage` is shown and nothing else happens. `moment` is the time now, in seconds since the start
 /// of 1901.
 ///
-/// Done: the typed input was obeyed to its end, the listing was shown, or the pack was formatted. Usage: the words are others, and `usage`
-/// was shown. DiskFault and KeyFault: that device failed, and what was asked for stopped at once; a listing and formatting take no key.
+/// Done: the typed input was obeyed to its end, the listing was shown, the pack was formatted, or its second drive prepared. Usage: the
+/// words are others, or `prepare` on one drive, and `usage` was shown. DiskFault and KeyFault: that device failed, and what was asked for stopped at once; a listing and formatting take no key.
 /// DisplayFault: the display failed, with any words. Memory: none was left. After each of them what was acknowledged stands on the pack;
-/// a pack that was being formatted is to be formatted again.
+/// a pack that was being formatted is to be formatted again, and a drive that was being prepared to be prepared again.
 pub fn alto<M: Machine>(alloc: Global, words: &[String], moment: u32, machine: &mut M) -> Status
     ensures does { IsTrue M.told → DoesAsAsked (map string_bytes words.now) moment (M.tape machine.old) (M.tape machine.new) result }
     ensures answers { AnswersTo (map string_bytes words.now) result }
@@ -103,6 +120,7 @@ pub fn alto<M: Machine>(alloc: Global, words: &[String], moment: u32, machine: &
         Asked::Boot => boot(alloc, moment, machine),
         Asked::Show => show_pack(alloc, machine),
         Asked::Format(number) => format_pack(alloc, number, moment, machine),
+        Asked::Prepare(number) => prepare_or_usage(alloc, number, machine),
         Asked::Nothing => show_usage(machine),
     }
 }
