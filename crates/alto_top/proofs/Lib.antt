@@ -1,3 +1,4 @@
+mod Asking
 pub mod Booting
 pub mod Causes
 pub mod Counting
