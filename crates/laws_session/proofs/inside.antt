@@ -1,9 +1,16 @@
 pub mod Answering
 pub mod Beginning
+pub mod Changing
+pub mod Filling
 pub mod Lining
+pub mod Named
 pub mod Needing
+pub mod Newcomers
+pub mod OneFile
 pub mod Opening
+pub mod Passing
 pub mod Ruling
 pub mod Scavenging
+pub mod Spacious
 pub mod Standing
 pub mod Talking

@@ -4,3 +4,4 @@ pub mod EndLaws
 pub mod HistoryLaws
 pub mod LineAnswers
 pub mod ScavengeLaws
+pub mod UnrefusedLaws

@@ -4,6 +4,9 @@
 //! that doesn't, or whose text breaks off, is a turn that broke off; a scavenge is a turn, too. Turns one after another are a history, and
 //! each crash point of a history can be mended and shows the model after as many operations as the ruler says.
 //!
+//! A line on files that isn't refused on a sound pack: its files and directories are there, its name is free, its operations are a line as
+//! the laws of lines ask for it, and there are the free sectors that they take.
+//!
 //! A law function is public, has an empty body and one clause, the law; its lemma has the same name, and its statement has it in
 //! capitals. To cite a law: `use Rattle.laws_session.proofs.histories.Laws.{crashes_of_a_history}`. Lemma files in proofs/inside/ no other
 //! crate can name.
@@ -15,3 +18,4 @@ pub mod ends;
 pub mod histories;
 pub mod lines;
 pub mod scavenges;
+pub mod unrefused;

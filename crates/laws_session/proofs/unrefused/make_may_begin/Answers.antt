@@ -1,0 +1,5 @@
+use Rattle.laws_session.proofs.inside.Newcomers.{make_may_begin}
+use Rattle.laws_session.proofs.unrefused.make_may_begin.Goals as goal
+
+pub returns : goal.returns
+returns c = make_may_begin

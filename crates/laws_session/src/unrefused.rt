@@ -1,0 +1,59 @@
+//! From a line on files that isn't refused, on a sound pack, to what the laws of lines and of operations ask for.
+
+ghost use Rattle.laws_session.specs.UnrefusedLaws.{AppendMayBegin, CopyMayBegin, CutMayBegin, DeleteMayBegin, FullAsksForItsPages, MakeDirMayBegin, MakeMayBegin, PatchMayBegin, RemoveDirMayBegin, RenameMayBegin, UnrefusedLinesHaveTheirPages};
+
+/// If a line isn't refused, a whole pack has as many free sectors as the line's operations add pages.
+pub fn unrefused_lines_have_their_pages()
+    ensures { UnrefusedLinesHaveTheirPages }
+{}
+
+/// A line that is refused for room asks for the pages that its operations would add, and says how many there are.
+pub fn full_asks_for_its_pages()
+    ensures { FullAsksForItsPages }
+{}
+
+/// If an `append` isn't refused on a sound pack, it is of a living ordinary file, and is a line as the laws of lines know them.
+pub fn append_may_begin()
+    ensures { AppendMayBegin }
+{}
+
+/// If a `patch` isn't refused on a sound pack, it is such a line, and puts its bytes within the file.
+pub fn patch_may_begin()
+    ensures { PatchMayBegin }
+{}
+
+/// If a `cut` isn't refused on a sound pack, it is such a line, and keeps no more bytes than there are.
+pub fn cut_may_begin()
+    ensures { CutMayBegin }
+{}
+
+/// If a `delete` isn't refused on a sound pack, it is of an ordinary file that may be dropped.
+pub fn delete_may_begin()
+    ensures { DeleteMayBegin }
+{}
+
+/// If an `rmdir` isn't refused on a sound pack, it is of a directory without entries, which may be dropped.
+pub fn remove_dir_may_begin()
+    ensures { RemoveDirMayBegin }
+{}
+
+/// If a `make` isn't refused on a sound pack, the next full name is of no living file, and its directory takes its name.
+pub fn make_may_begin()
+    ensures { MakeMayBegin }
+{}
+
+/// If a `copy` isn't refused on a sound pack, it makes such a file, from a living ordinary one.
+pub fn copy_may_begin()
+    ensures { CopyMayBegin }
+{}
+
+/// If an `mkdir` isn't refused on a sound pack, the next directory's full name is of no living file, and SysDir takes its name.
+pub fn make_dir_may_begin()
+    ensures { MakeDirMayBegin }
+{}
+
+/// If a `rename` isn't refused on a sound pack, the file is an ordinary one with the entry that leaves, and the new directory takes its
+/// new name.
+pub fn rename_may_begin()
+    ensures { RenameMayBegin }
+{}
