@@ -1,8 +1,7 @@
 -- How many sector commands the pages of a directory take where its hints are handy, one page after another.
-use Rattle.std.proofs.Common.{◌≡◌, ℕ, suc, ◌+◌, ◌<◌, ◌≤◌, ◌⊎◌, inl, inr, Bool, true, false, nat_lt, Option, Some, None, refl, sym, ◌∙◌, ap, subst, add-one, arith}
+use Rattle.std.proofs.Common.{◌≡◌, ℕ, suc, ◌+◌, ◌≤◌, ◌⊎◌, inl, inr, Bool, true, false, nat_lt, Option, Some, None, refl, sym, ◌∙◌, ap, subst, add-one, arith}
 use Rattle.std.proofs.lemmas.Bool.Decides.{nat_tests}
 use Rattle.alto_words.specs.declared.fid.Fid.{Fid}
-use Rattle.disk_records.specs.Addresses.{pages_of, real_of}
 use Rattle.disk_records.specs.Packs.{Pack, carried, sector_at}
 use Rattle.disk_records.specs.Tapes.{Taped}
 use Rattle.disk_records.specs.Words.{word}

@@ -1,5 +1,5 @@
 -- One page of a walk, and its end.
-use Rattle.std.proofs.Common.{◌≡◌, ◌≢◌, ℕ, suc, ◌+◌, ◌*◌, ◌/◌, ◌<◌, ◌≤◌, ◌⊎◌, inl, inr, List, [], ◌++◌, length, take, Option, Some, Result, Ok, Err, IsErrOf, OnOk, refl, sym, ◌∙◌, ap, subst, add-one, arith}
+use Rattle.std.proofs.Common.{◌≡◌, ℕ, suc, ◌+◌, ◌*◌, ◌/◌, ◌≤◌, ◌⊎◌, inl, inr, List, ◌++◌, length, take, Option, Some, Result, Err, IsErrOf, OnOk, refl, sym, ◌∙◌, ap, subst, add-one, arith}
 use Rattle.std.specs.List.{FoldsTo}
 use Rattle.alto_words.specs.declared.fid.Fid.{Fid}
 use Rattle.dir_slots.specs.Walks.{Walked, Walking}
@@ -16,7 +16,6 @@ use Rattle.label_check.specs.declared.errors.PageInfo.{PageInfo}
 use Rattle.laws_contents.specs.PageLaws.{FullBefore, bytes_at}
 use Rattle.laws_contents.specs.WordContents.{file_words, words_at}
 use Rattle.pack_model.specs.hints.Links.{LinksTrue, dir_slots}
-use Rattle.pack_model.specs.operations.Committing.{page_of_byte}
 use Rattle.pack_model.specs.reading.Files.{place}
 use Rattle.pack_model.specs.reading.Sights.{sights}
 use Rattle.pack_model.specs.reading.SlotWords.{SlotAt}
@@ -26,7 +25,7 @@ use Rattle.page_seeking.specs.Causes.{cause_of_file, cause_of_length}
 use Rattle.page_seeking.specs.declared.refs.FileError.{FileError}
 use Rattle.page_seeking.specs.declared.refs.FileError.TheVariants.{Misled, Beyond, DiskFault, Memory}
 use Rattle.page_seeking.specs.Refs.{IfBeyond, IfMisled}
-use Rattle.page_seeking.specs.Seeking.{GoesOn, IsEnd, Links, Lists, Refused, Seen, Stands, file_length, page_after, page_number}
+use Rattle.page_seeking.specs.Seeking.{IsEnd, Links, Lists, Refused, Seen, Stands, page_number}
 use Rattle.page_seeking.proofs.Parting.{few_bytes}
 use Rattle.directory.specs.Found.{IsQuick}
 use Rattle.directory.specs.Visits.{Visits, ended}

@@ -1,5 +1,5 @@
 -- What the private functions say: entries that were met, and a step of each visitor.
-use Rattle.std.specs.Prelude.{◌≡◌, ℕ, ◌-◌, ◌^◌, ◌++◌, ◌||◌, min, max, List, [], ◌∷◌, map}
+use Rattle.std.specs.Prelude.{◌≡◌, ◌-◌, ◌^◌, ◌++◌, ◌||◌, min, max, [], ◌∷◌, map}
 use Rattle.std.specs.Option.{option_map}
 use Rattle.dir_slots.specs.Items.{address_of, items_of}
 use Rattle.laws_midway.specs.RoomLaws.{row_words}

@@ -1,14 +1,12 @@
-use Rattle.std.proofs.Common.{◌≡◌, ◌+◌, ◌*◌, ◌/◌, ◌∙◌, Err, OnOk, [], ℕ, List, Option, Some, refl, sym, take, ap, subst, add-one, arith}
+use Rattle.std.proofs.Common.{◌≡◌, ◌+◌, ◌/◌, ◌∙◌, Err, [], ℕ, Some, refl, sym, take, ap, subst, arith}
 use Rattle.std.specs.List.{FoldsTo}
 use Rattle.disk_records.proofs.Looking.{looks_none, looks_pack, looks_twice}
-use Rattle.disk_records.specs.declared.records.Page.{Page}
-use Rattle.disk_records.specs.declared.records.Place.{Place}
 use Rattle.disk_records.specs.Packs.{Pack, carried}
 use Rattle.disk_records.specs.Tapes.{pack}
 use Rattle.hint_cache.specs.Caches.{Cached}
 use Rattle.label_check.specs.declared.errors.PageInfo.{PageInfo}
 use Rattle.pack_model.specs.hints.Links.{dir_slots}
-use Rattle.page_seeking.specs.Refs.{FileIsFrom, IfBeyond, IfMisled, MisledBy}
+use Rattle.page_seeking.specs.Refs.{FileIsFrom, IfBeyond, MisledBy}
 use Rattle.page_seeking.specs.Seeking.{IsEnd, Quick, Stands, page_number}
 use Rattle.page_seeking.proofs.Erring.{if_misled_map}
 use Rattle.page_seeking.proofs.Parting.{few_bytes}

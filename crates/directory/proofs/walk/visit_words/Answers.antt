@@ -1,7 +1,5 @@
-use Rattle.std.proofs.Common.{◌≡◌, ◌∙◌, ◌++◌, ◌∷◌, [], length, take, refl, sym, ap, subst, arith}
-use Rattle.std.proofs.lemmas.Fn.{FoldsTo-push}
+use Rattle.std.proofs.Common.{◌≡◌, ◌∙◌, ◌++◌, length, take, sym, ap, subst, arith}
 use Rattle.std.proofs.lemmas.List.{append-nil, take_all}
-use Rattle.dir_slots.specs.Walks.{Walked, slot_met}
 use Rattle.directory.specs.Visits.{Visits}
 use Rattle.directory.proofs.Items.{met_ends}
 use Rattle.directory.proofs.Paging.{visits_end, visits_next, visits_none}
