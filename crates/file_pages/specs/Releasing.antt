@@ -16,7 +16,6 @@ use Rattle.label_check.specs.declared.errors.PageInfo.{PageInfo}
 use Rattle.laws_hint.specs.MapChanges.{marked}
 use Rattle.laws_operation.specs.ByteLaws.{Bear}
 use Rattle.pack_model.specs.hints.Handy.{HandyCache}
-use Rattle.pack_model.specs.hints.Links.{LinksTrue}
 use Rattle.pack_model.specs.hints.Misled.{Finds, IsOnDisk, Misled}
 use Rattle.pack_model.specs.operations.Commands.{releases_writes}
 use Rattle.pack_model.specs.operations.Committing.{page_of_byte, units}
