@@ -15,3 +15,4 @@ pub mod NewFile
 pub mod Operating
 pub mod Renaming
 pub mod RenamingInside
+pub mod Writings

@@ -1,3 +1,4 @@
 pub mod First
 pub mod Peopled
 pub mod Premises
+pub mod Writings

@@ -12,3 +12,4 @@
 
 pub mod premises;
 pub mod sessions;
+pub mod writings;

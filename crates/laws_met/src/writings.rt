@@ -1,0 +1,24 @@
+//! The premises of calls are met: all record writes of an operation, as calls name them; values of 256 words; a cache that lists a new file.
+
+ghost use Rattle.laws_met.specs.Writings.{MakeIsWritten, NewPagesAreListed, ValuesAreFull, WritingsAreMet};
+
+/// On the small pack with files and a directory each operation on a file or a directory that is there has its record writes as calls name
+/// them: bytes put in place, also with a word past the file's end, and another date.
+pub fn writings_are_met()
+    ensures { WritingsAreMet }
+{}
+
+/// After its new serial a make has its record writes as calls name them.
+pub fn make_is_written()
+    ensures { MakeIsWritten }
+{}
+
+/// On the small pack each sector has records as those of a disk, so that each page has a value of 256 words.
+pub fn values_are_full()
+    ensures { ValuesAreFull }
+{}
+
+/// A cache that lists both pages of a new file meets what the law of its hints asks for, and they are handy once it is made.
+pub fn new_pages_are_listed()
+    ensures { NewPagesAreListed }
+{}
