@@ -2,6 +2,7 @@ pub mod Answering
 pub mod Beginning
 pub mod Changing
 pub mod Filling
+pub mod Flushing
 pub mod Lining
 pub mod Named
 pub mod Needing

@@ -4,4 +4,5 @@ pub mod EndLaws
 pub mod HistoryLaws
 pub mod LineAnswers
 pub mod ScavengeLaws
+pub mod StreamLaws
 pub mod UnrefusedLaws

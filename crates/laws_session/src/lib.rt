@@ -18,4 +18,5 @@ pub mod ends;
 pub mod histories;
 pub mod lines;
 pub mod scavenges;
+pub mod streams;
 pub mod unrefused;

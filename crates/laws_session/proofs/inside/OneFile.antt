@@ -31,7 +31,6 @@ use Rattle.session_model.specs.Effects.{appended_ops, cut_ops, effect}
 use Rattle.session_model.specs.Finding.{file_at, has_entry, the_file}
 use Rattle.session_model.specs.Operands.{Operand, in_root, no_directory, removed}
 use Rattle.session_model.specs.Refusals.{dir_at, left_in, missing, no_dir, of_system, of_wrong_kind, when_beyond, when_found, when_missing, wrong_kind, wrong_system}
-use Rattle.session_model.specs.Replies.{ops}
 use Rattle.session_model.specs.Streams.{puts}
 use Rattle.session_model.specs.Worlds.{World}
 use Rattle.laws_session.specs.UnrefusedLaws.{AppendMayBegin, CutMayBegin, DeleteMayBegin, DropsFile, HasFile, IsUnrefused, PatchMayBegin, Reaches, RemoveDirMayBegin, ops_on}

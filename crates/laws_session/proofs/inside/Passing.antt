@@ -1,5 +1,5 @@
 -- What is so where a line isn't refused: none of its reasons holds.
-use Rattle.std.proofs.Common.{◌≡◌, ◌≤◌, ℕ, ◌+◌, Bool, true, false, not, nat_lt, List, [], ◌∷◌, ◌++◌, Option, Some, None, map, refl, ap, arith}
+use Rattle.std.proofs.Common.{◌≡◌, ◌≤◌, ℕ, Bool, true, false, not, nat_lt, List, [], ◌∷◌, ◌++◌, Option, Some, None, map, refl, ap, arith}
 use Rattle.std.specs.Option.{option_or}
 use Rattle.pack_model.specs.operations.Committing.{pages_for_operations}
 use Rattle.pack_model.specs.operations.Step.{Operation}
@@ -11,7 +11,7 @@ use Rattle.exec_words.specs.declared.reply.Refusal.TheVariants as refusal_is
 use Rattle.exec_words.specs.Typed.{is_typed}
 use Rattle.session_model.specs.Effects.{effect}
 use Rattle.session_model.specs.Operands.{Operand, operands}
-use Rattle.session_model.specs.Refusals.{beyond, by_line, by_operands, is_bad, missing, not_empty, of_system, of_taken_name, of_wrong_kind, reasons, spent, when}
+use Rattle.session_model.specs.Refusals.{beyond, by_line, by_operands, is_bad, missing, no_such_stream, not_empty, of_system, of_taken_name, of_wrong_kind, reasons, spent, when}
 use Rattle.session_model.specs.Replies.{ops, refusal, unless_refused}
 use Rattle.session_model.specs.Worlds.{World}
 use Rattle.laws_room.proofs.rooms.Laws.{free_is_the_room}
@@ -44,7 +44,8 @@ neither None b e = (refl, e)
 neither (Some x) b e = absurd cc
 
 -- ---- all of them
--- The line can be typed, no test of an operand holds, its last byte is within, there is a serial for it, and there is room.
+-- The line can be typed, no test of an operand holds, its stream is open, its last byte is within, there is a serial for it, and there is
+-- room.
 pub record Passes (l : Line) (m : Model) (w : World) (os : List Operation) : Type 0 where
   pub typed : is_typed l ≡ true
   pub there : EachNone (map (missing m) (operands l))
@@ -52,6 +53,7 @@ pub record Passes (l : Line) (m : Model) (w : World) (os : List Operation) : Typ
   pub systems : EachNone (map (of_system m) (operands l))
   pub names : EachNone (map (of_taken_name m) (operands l))
   pub empty : EachNone (map (not_empty m) (operands l))
+  pub streams : no_such_stream l w ≡ None
   pub within : beyond l m w ≡ None
   pub serials : spent l m ≡ None
   pub pages : pages_for_operations m os ≤ room m
@@ -83,6 +85,7 @@ passes_by l m w all_ops e =
       systems = b.1;
       names = c.1;
       empty = d.1;
+      streams = rest.0;
       within = rest.1.0;
       serials = rest.1.1.1.1.1.1.0;
       pages = enough (room m) (pages_for_operations m all_ops) (when_not _ _ rest.1.1.1.1.1.1.1.0);
