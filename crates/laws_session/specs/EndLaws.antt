@@ -1,5 +1,5 @@
 -- What a history leaves, as it goes on and at its end; and what one begins with.
-use Rattle.std.specs.Prelude.{◌≡◌, ℕ, Bool, true, false, List, []}
+use Rattle.std.specs.Prelude.{◌≡◌, ℕ, true, false, List, []}
 use Rattle.disk_records.specs.declared.records.Event.{Event}
 use Rattle.disk_records.specs.Packs.{Pack, after}
 use Rattle.pack_model.specs.operations.Operations.{Move}
@@ -15,7 +15,6 @@ use Rattle.session_model.specs.Keeping.{Kept, Keeping}
 use Rattle.session_model.specs.Replies.{next}
 use Rattle.session_model.specs.Turning.{State, Cue, StandsOn, opening}
 use Rattle.session_model.specs.Worlds.{World, failed_world}
-use Rattle.pack_model.specs.reading.Model.{Model}
 
 -- ---- the beginning: a sound pack stands for what is read of it
 abbrev pub SoundPacksBegin : Type 0
@@ -26,15 +25,19 @@ SoundPacksBegin = (p : Pack) (moment : ℕ) → Sound p → StandsOn p (opening 
 abbrev pub TurnsStand : Type 0
 TurnsStand = (says : List ℕ → List ℕ) (p : Pack) (s u : State) (events : List Event) (cues : List Cue) (turns : List (Turn Move)) → StandsOn p s → TurnsOf says p s events cues turns u → StandsOn (after p events) u
 
--- What is kept after a hint failed: no stream, and the need of a scavenge; of the descriptor and the table nothing is asked.
-abbrev pub kept_in_need : Kept → ℕ → ℕ → List Bool → Kept
-kept_in_need k last mark busy = record k { streams = []; need = true; last = last; mark = mark; busy = busy }
+-- What is kept after a hint failed: the moment, the level and the memory, no stream, and the need of a scavenge. Of the rest nothing is asked.
+pub record KeptInNeed (one two : Kept) : Type 0 where
+  pub moment : two.moment ≡ one.moment
+  pub level : two.level ≡ one.level
+  pub memory : two.memory ≡ one.memory
+  pub streams : two.streams ≡ []
+  pub need : two.need ≡ true
 
 abbrev pub failed_state : State → List Move → State
 failed_state s moves = record { model = steps session s.model moves; world = failed_world s.world; over = false }
 
 abbrev pub FailedTurnsKeep : Type 0
-FailedTurnsKeep = (p : Pack) (k : Kept) (s : State) (wrote : List Event) (moves : List Move) (last mark : ℕ) (busy : List Bool) → Keeping p k s → Obeys session s.model p wrote moves → Keeping (after p wrote) (kept_in_need k last mark busy) (failed_state s moves)
+FailedTurnsKeep = (p : Pack) (k : Kept) (s : State) (wrote : List Event) (moves : List Move) (two : Kept) → Keeping p k s → KeptInNeed k two → Obeys session s.model p wrote moves → Keeping (after p wrote) two (failed_state s moves)
 
 -- no line changes whether a scavenge is needed
 abbrev pub LinesKeepNeed : Type 0

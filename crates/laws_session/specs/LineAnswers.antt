@@ -15,7 +15,7 @@ use Rattle.laws_line.specs.SoundLines.{LineOnSound}
 use Rattle.laws_line.specs.SoundParts.{BreaksOnSound}
 use Rattle.session_model.specs.Answering.{Answered, plain_reply}
 use Rattle.session_model.specs.Replies.{ops}
-use Rattle.session_model.specs.Turning.{State, Cue, typed, StandsOn, HintFailing, cue_moves, cue_ops, cue_world, cue_files, closes, asks_scavenge, is_ended}
+use Rattle.session_model.specs.Turning.{State, Cue, typed, StandsOn, HintFailing, cue_moves, cue_ops, cue_world, cue_files, closes, asks_scavenge, is_ended, IsTakenUp}
 use Rattle.session_model.specs.Worlds.{failed_world}
 
 -- ---- the states after a turn
@@ -53,7 +53,7 @@ EndsInNeedAnswer = (p : Pack) (s : State) (cue : Cue) → closes s cue ≡ true 
 -- ---- answers of turns that don't do all
 -- What a prefix of the record writes of a turn may be answered: a fault, out of memory, or a hint that misled.
 pub record PrefixAnswers (p : Pack) (s : State) (cue : Cue) (wrote : List Event) (moves : List Move) : Type 0 where
-  pub fault : (u : State) → asks_scavenge s cue ≡ false → Answered p s cue wrote reply.DiskFault u
+  pub fault : (u : State) → asks_scavenge s cue ≡ false → IsTakenUp s cue → Answered p s cue wrote reply.DiskFault u
   pub memory : (u : State) → asks_scavenge s cue ≡ false → Answered p s cue wrote reply.Memory u
   pub hint : (place : Place) (at : ℕ) (wanted : Page) (found : Option (List ℕ)) → HintFailing p wrote (cue_files s cue) place at wanted found → Answered p s cue wrote (reply.Refused (refusal.HintFailed place at wanted found)) (state_in_need s cue moves)
 

@@ -27,7 +27,7 @@ use Rattle.session_model.specs.Finding.{the_file}
 use Rattle.session_model.specs.Streams.{bytes_in}
 use Rattle.session_model.specs.Worlds.{World}
 use Rattle.session_model.specs.Replies.{refusal as refusal_to, reply_to}
-use Rattle.session_model.specs.Turning.{State, Cue, typed, ended, TurnKind, plain, failed, scavenged, TurnMade, turn_of, cue_line, cue_moves, cue_files, asks_scavenge, is_quit}
+use Rattle.session_model.specs.Turning.{State, Cue, typed, ended, TurnKind, plain, failed, scavenged, TurnMade, turn_of, cue_line, cue_moves, cue_files, asks_scavenge, is_quit, IsTakenUp}
 use Rattle.session_model.specs.Keeping.{Kept, Keeping}
 use Rattle.session_model.specs.Bounds.{AllHandy, RunsWithin}
 
@@ -57,7 +57,8 @@ pub record Asks (s : State) (cue : Cue) (moves : List Move) (u : State) : Type 0
   pub moves_none : moves ≡ []
   pub same : u ≡ s
 
--- after a fault, or out of memory, a prefix of the record writes is made; none where a scavenge was asked for
+-- After a fault, or out of memory, a prefix of the record writes is made; none where a scavenge was asked for. A fault comes of no line
+-- that is refused by itself.
 abbrev pub StopsEarly : State → Cue → List Move → Type 0
 StopsEarly s cue moves = (asks_scavenge s cue ≡ false) ⊎ (moves ≡ [])
 
@@ -66,7 +67,7 @@ Answers p s cue wrote moves (reply.Done text) u = Replied p s cue wrote moves (r
 Answers p s cue wrote moves (reply.Refused r) u = Replied p s cue wrote moves (reply.Refused r) u
 Answers p s cue wrote moves reply.Quit u = Replied p s cue wrote moves reply.Quit u
 Answers p s cue wrote moves reply.Scavenge u = Asks s cue moves u
-Answers p s cue wrote moves reply.DiskFault u = StopsEarly s cue moves
+Answers p s cue wrote moves reply.DiskFault u = StopsEarly s cue moves × IsTakenUp s cue
 Answers p s cue wrote moves reply.Memory u = StopsEarly s cue moves
 
 -- From the pack p and the state s, to the state u: at every answer the record writes make a prefix of the moves of the turn.

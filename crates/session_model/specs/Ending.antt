@@ -15,10 +15,12 @@ use Rattle.pack_model.specs.sessions.Meanings.{session}
 use Rattle.pack_model.specs.sessions.Moves.{IsStartOf}
 use Rattle.pack_model.specs.sessions.Tallies.{no_tally, counted}
 use Rattle.pack_model.specs.sessions.Turns.{Turn, CutAt, ops_of, texts_of}
+use Rattle.pack_model.specs.reading.Sights.{sights}
+use Rattle.pack_model.specs.states.Sentences.{EachOnce}
 use Rattle.pack_model.specs.states.Sound.{Sound, Clean}
 use Rattle.exec_words.specs.Grammar.{line_in}
 use Rattle.session_model.specs.Turning.{State, Cue, typed, ended, cue_for, opening, HintFailing, hint_text}
-use Rattle.session_model.specs.Histories.{HistoryOf, aloud, broken_text, MadeAll, NoneFailedIn, ShowsRuled}
+use Rattle.session_model.specs.Histories.{HistoryOf, aloud, broken_text, BrokenIsTakenUp, MadeAll, NoneFailedIn, ShowsRuled}
 use Rattle.session_model.specs.Answering.{count_end}
 use Rattle.session_model.specs.Opening.{Unready, no_root, no_descriptor, wrong_length, bad_descriptor, not_clean, unready, unready_text, system_files}
 
@@ -68,7 +70,7 @@ pub record TookKeys (old new : Taped) (stop : Stop) (cues : List Cue) : Type 0 w
 
 -- ---- a session on a pack that opened
 -- Its history is over a prefix of what is typed, and shows its texts; of a turn that broke off some text is shown only where the display
--- failed, and all moves are made there. Its tally counts the history from the limit that was given. Each crash point stands for the model, and shows it, as the
+-- failed, and all moves are made there; the disk fails at no line that is refused by itself. Its tally counts the history from the limit that was given. Each crash point stands for the model, and shows it, as the
 -- ruler says.
 pub record SessionOf (moment : ℕ) (old new : Taped) (given tally : Tally) (stop : Stop) (end : Option State) : Type 0 where
   pub cues : List Cue
@@ -78,6 +80,7 @@ pub record SessionOf (moment : ℕ) (old new : Taped) (given tally : Tally) (sto
   pub keys : TookKeys old new stop cues
   pub silent : stop ≢ display_failed → broken_text history ≡ []
   pub shows : stop ≡ display_failed → MadeAll history
+  pub reaches : stop ≡ disk_failed → BrokenIsTakenUp history
   pub shown : shown_bytes (added old new) ≡ texts_of turns
   pub tally_is : (stop ≡ disk_failed → suc new.writes ≤ count_end) → tally ≡ counted old.writes (ops_of turns) (no_tally given.limit)
   pub cuts : (k : ℕ) → CutAt weight_of session (read_as (pack old)) (pack old) (added old new) turns k
@@ -153,7 +156,7 @@ pub data Unentered (old new : Taped) (stop : Stop) (u : Unready) : Type 0 where
 
 -- of a pack that carries no page twice, whether it is sound or not
 abbrev pub NotEntered : Taped → Taped → Tally → Tally → Stop → Type 0
-NotEntered old new given tally stop = (u : Unready) → unready (pack old) ≡ Some u → Unentered old new stop u × NotBegun old new given tally
+NotEntered old new given tally stop = (u : Unready) → EachOnce (sights (pack old)) → unready (pack old) ≡ Some u → Unentered old new stop u × NotBegun old new given tally
 
 -- The pack opened, and this is the session. Or a hint misled on the way to a system file, and the one text says which. Or a fault or
 -- out of memory came before either, and nothing is shown or written.

@@ -14,7 +14,7 @@ use Rattle.pack_model.specs.sessions.Turns.{Turn, BrokeOff, ops_of, ruler}
 use Rattle.pack_model.specs.showing.Settling.{settle, show}
 use Rattle.pack_model.specs.showing.View.{view}
 use Rattle.session_model.specs.Worlds.{World}
-use Rattle.session_model.specs.Turning.{State, Cue, TurnKind, plain, failed, scavenged, TurnMade}
+use Rattle.session_model.specs.Turning.{State, Cue, TurnKind, plain, failed, scavenged, TurnMade, IsTakenUp}
 
 -- ---- one turn
 -- The record writes of a turn make its moves, and then its text is shown as `says` has it: all of it, or none where a session shows one
@@ -66,6 +66,11 @@ broken_text {says = says} (broken {made = made} h turn) = says made.text
 abbrev pub MadeAll : {says : List ℕ → List ℕ} {p : Pack} {s : State} {events : List Event} {cues : List Cue} {turns : List (Turn Move)} {end : Option State} → HistoryOf says p s events cues turns end → Type 0
 MadeAll (whole h) = Unit {0}
 MadeAll (broken {made = made} h turn) = made.ops ≡ turn.wanted.ops
+
+-- the turn that broke off is over a line that isn't refused by itself, if one did
+abbrev pub BrokenIsTakenUp : {says : List ℕ → List ℕ} {p : Pack} {s : State} {events : List Event} {cues : List Cue} {turns : List (Turn Move)} {end : Option State} → HistoryOf says p s events cues turns end → Type 0
+BrokenIsTakenUp (whole h) = Unit {0}
+BrokenIsTakenUp (broken {t = t} {cue = cue} h turn) = IsTakenUp t cue
 
 -- ---- the model after so many operations
 -- the moves before operation j + 1, with the ends of scavenges that stand there

@@ -41,7 +41,6 @@ abbrev pub is_root : Option Page → Bool
 is_root None = false
 is_root (Some page) = is_fid page.fid sys_dir && page.number == 0
 
--- the first entry of the name in SysDir, whatever file it is of
 abbrev pub slots_of_root : Pack → List Item
 slots_of_root p = slots (words_of (file_bytes (sights p) sys_dir))
 
@@ -49,6 +48,7 @@ abbrev pub is_descriptor : Option Fid → Bool
 is_descriptor None = false
 is_descriptor (Some f) = is_fid f disk_descriptor
 
+-- the first entry of the name in SysDir, whatever file it is of
 abbrev pub descriptor_entry : Pack → Option Fid
 descriptor_entry p = option_map (λ e. e.0) (exact descriptor_name (slots_of_root p))
 

@@ -1,11 +1,12 @@
 -- A turn of a session: over a typed line, or over the end of the keys.
 -- The kinds of turns are this project's choice.
-use Rattle.std.specs.Prelude.{◌≡◌, ℕ, Bool, true, false, cond, List, [], ◌∷◌, ◌++◌, Option, Contains}
+use Rattle.std.specs.Prelude.{◌≡◌, ℕ, Bool, true, false, cond, List, [], ◌∷◌, ◌++◌, Option, None, Contains}
 use Rattle.alto_words.specs.declared.fid.Fid.{Fid}
 use Rattle.disk_records.specs.declared.records.Page.{Page}
 use Rattle.disk_records.specs.declared.records.Place.{Place}
 use Rattle.disk_records.specs.declared.records.Event.{Event}
 use Rattle.disk_records.specs.Packs.{Pack, after}
+use Rattle.pack_model.specs.reading.Files.{first}
 use Rattle.pack_model.specs.reading.Sights.{sights}
 use Rattle.pack_model.specs.reading.Model.{Model, read_as}
 use Rattle.pack_model.specs.states.Sound.{Sound, Clean, mark_of}
@@ -26,6 +27,7 @@ use Rattle.exec_words.specs.declared.reply.Refusal.TheVariants as refusal
 use Rattle.exec_words.specs.Texts.{refusal_text, report_text}
 use Rattle.session_model.specs.Worlds.{World, fresh_world, failed_world, mended_world}
 use Rattle.session_model.specs.Effects.{ending_ops}
+use Rattle.session_model.specs.Refusals.{by_line}
 use Rattle.session_model.specs.Replies.{refusal as refusal_to, reply_to, ops, next, unless_refused}
 use Rattle.session_model.specs.Touched.{touched}
 
@@ -74,6 +76,10 @@ cue_world s cue = next (cue_line cue) s.model s.world
 
 abbrev pub cue_files : State → Cue → List Fid
 cue_files s cue = touched (cue_line cue) s.model s.world
+
+-- the line isn't refused by itself: what is refused so is answered before any file is looked at
+abbrev pub IsTakenUp : State → Cue → Type 0
+IsTakenUp s cue = first (λ r. r) (by_line (cue_line cue) s.world) ≡ None
 
 -- ---- lines that end the session, or ask for a scavenge, unless they are refused
 abbrev pub is_quit : Line → Bool

@@ -37,7 +37,7 @@ abbrev pub first_set : ℕ → List ℕ → Option ℕ
 first_set at [] = None
 first_set at (w ∷ words) = cond (w == 0) (first_set (suc at) words) (Some at)
 
--- a tag of 0, one that reaches past these words, or that of a free block after a free block
+-- a tag of 0 or 1, one that reaches past these words, or that of a free block after a free block
 abbrev pub is_wrong_tag : Bool → ℕ → List ℕ → Bool
 is_wrong_tag after_gap tag words = tag_size tag == 0 || nat_lt (suc (length words)) (tag_size tag) || (after_gap && is_gap_tag tag)
 

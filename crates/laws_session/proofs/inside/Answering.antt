@@ -96,6 +96,6 @@ pub answers_are_turns : AnswersAreTurns
 answers_are_turns p s cue wrote r u goes_on a = record {
   whole = λ has. text_makes_a_turn (λ text. text) p s cue wrote (turn_of a.moves (reply_text r)) u goes_on a.each (replied p s cue wrote a.moves r u has a.answers).made;
   cut_short = λ has shown first. text_breaks_off p s cue wrote shown (turn_of a.moves (reply_text r)) u goes_on a.each (replied p s cue wrote a.moves r u has a.answers).made first;
-  fault = λ is. call_breaks_off p s cue wrote a.moves goes_on (subst (λ x. Answers p s cue wrote a.moves x u) is a.answers) a.each a.start;
+  fault = λ is. call_breaks_off p s cue wrote a.moves goes_on (subst (λ x. Answers p s cue wrote a.moves x u) is a.answers).0 a.each a.start;
   memory = λ is. call_breaks_off p s cue wrote a.moves goes_on (subst (λ x. Answers p s cue wrote a.moves x u) is a.answers) a.each a.start;
 }

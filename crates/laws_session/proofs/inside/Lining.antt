@@ -113,7 +113,7 @@ lines_on_a_sound_pack_answer p s l wrote g unneeded stands line =
 -- ---- turns that don't do all
 pub prefixes_answer : PrefixesAnswer
 prefixes_answer p s cue wrote moves each start = record {
-  fault = λ u asks. record { moves = moves; each = each; start = start; answers = inl asks };
+  fault = λ u asks taken. record { moves = moves; each = each; start = start; answers = (inl asks, taken) };
   memory = λ u asks. record { moves = moves; each = each; start = start; answers = inl asks };
   hint = λ place at wanted found f. record {
     moves = moves;

@@ -1,9 +1,10 @@
 -- What a history begins with, keeps and leaves.
-use Rattle.std.proofs.Common.{◌≡◌, ℕ, true, false, List, ◌++◌, arith, refl, sym, subst, ap, ◌∙◌}
+use Rattle.std.proofs.Common.{◌≡◌, ℕ, true, false, All, List, ◌++◌, arith, refl, sym, subst, ap, ◌∙◌}
 use Rattle.disk_records.specs.declared.records.Event.{Event}
 use Rattle.disk_records.specs.Events.{shown_events}
 use Rattle.disk_records.specs.Packs.{Pack, after}
 use Rattle.disk_records.proofs.Growing.{after-append, after-shown}
+use Rattle.pack_model.specs.hints.Sources.{IsFrom}
 use Rattle.pack_model.specs.operations.Operations.{Move}
 use Rattle.pack_model.specs.sessions.Meanings.{session}
 use Rattle.pack_model.specs.sessions.Turns.{Turn}
@@ -12,9 +13,10 @@ use Rattle.pack_laws.proofs.Moving.{stands_last}
 use Rattle.pack_laws.proofs.turns.Laws.{turns_are_shown}
 use Rattle.laws_room.proofs.rooms.Laws.{sound_needs_nothing}
 use Rattle.session_model.specs.Histories.{TurnsOf, begun, then, aloud}
+use Rattle.session_model.specs.Keeping.{Kept, OpenFile, world_of}
 use Rattle.session_model.specs.Turning.{State, Cue, StandsOn}
 use Rattle.session_model.specs.Worlds.{failed_world}
-use Rattle.laws_session.specs.EndLaws.{FailedTurnsKeep, SessionsLeaveClosed, SoundPacksBegin, TurnsStand}
+use Rattle.laws_session.specs.EndLaws.{FailedTurnsKeep, KeptInNeed, SessionsLeaveClosed, SoundPacksBegin, TurnsStand}
 use Rattle.laws_session.proofs.inside.Talking.{turns_talk}
 
 -- ---- the beginning
@@ -33,15 +35,21 @@ turns_stand says p s u events cues turns start h = by h where
   by begun = start
   by (then {events} {more} {u = u} {made = made} so_far turn) = subst (λ q. StandsOn q u) (same_pack p events more turn.run.wrote (says made.text) turn.run.split) turn.finished.stands
 
+worlds : {one two : Kept} → KeptInNeed one two → failed_world (world_of one) ≡ world_of two
+worlds is = rw (is.moment, is.level, is.memory, is.streams, is.need) refl
+
+needed : true ≡ false → ⊥
+needed e = cc
+
 pub failed_turns_keep : FailedTurnsKeep
-failed_turns_keep p k s wrote moves last mark busy h each = record {
+failed_turns_keep p k s wrote moves two h is each = record {
   begins = refl;
-  world = ap failed_world h.world;
+  world = ap failed_world h.world ∙ worlds is;
   stands = record { sound = λ need. cc; reads = λ need. cc };
   cut = stands_last session each;
-  descriptor = λ need. cc;
+  descriptor = λ need. absurd (needed (sym is.need ∙ need));
   fits = λ k d less. absurd (omega (arith, less));
-  refs = λ k d less. absurd (omega (arith, less));
+  refs = subst (All (λ (o : OpenFile). IsFrom (after p wrote) o.ref.fid o.ref.leader_at o.ref.place)) (sym is.streams) (λ k d less. absurd (omega (arith, less)));
 }
 
 -- ---- the end
