@@ -1,10 +1,10 @@
 // One sector command in the file of its drive.
 //
-// A sector that isn't kept yet is read with its whole cylinder, by one read call, and the cylinder is kept. Where there is no memory
+// A sector that isn't kept is read with its whole cylinder, by one read call, and the cylinder is kept. Where there is no memory
 // for it, or it can't be read whole, the records that the command reads are read alone. Writes go to the file at once.
-ghost use Rattle.std.specs.Prelude.{◌≡◌, ◌≢◌, ◌↔◌, ◌+◌, ◌*◌, ◌≤◌, None, IfOk, IfSome, IfNone, IsOk, OnOk, OnErr, IsTrue};
+ghost use Rattle.std.specs.Prelude.{◌≡◌, ◌≢◌, ◌↔◌, ◌+◌, ◌*◌, ◌/◌, ◌≤◌, None, IfOk, IfSome, IfNone, IsOk, OnOk, OnErr, IsTrue};
 ghost use Rattle.disk_records.specs.Checks.{is_legal, is_checked, mismatch, memory_after};
-ghost use Rattle.disk_image.specs.Kept.{kept_at, ReadsKept, ObeysKept, OthersStay};
+ghost use Rattle.disk_image.specs.Kept.{kept_at, ReadsKept, ObeysKept, NoOtherChanges};
 ghost use Rattle.disk_image.specs.Records.{writes_after_all};
 
 use crate::codec::SECTOR_BYTES;
@@ -78,11 +78,11 @@ fn read_in_file<F: Read + Seek>(
 
 /// Keeps the cylinder of a sector. Where there is no memory for it, or it can't be read whole, all that is kept stays as it was.
 fn keep_cylinder_of<F: Read + Seek>(file: &mut F, spot: Spot, kept: &mut KeptSectors)
-    ensures { OthersStay spot.at kept.old kept.new }
+    ensures { NoOtherChanges (spot.at / 24) kept.old kept.new }
 {
-    let first = spot.at / CYLINDER_SECTORS * CYLINDER_SECTORS;
-    if kept.has_room(first) && seek_to_cylinder(file, spot.ahead).is_ok() {
-        let _ = read_cylinder(file, first, kept);
+    let cylinder = spot.at / CYLINDER_SECTORS;
+    if kept.has_room(cylinder) && seek_to_cylinder(file, spot.ahead).is_ok() {
+        let _ = read_cylinder(file, cylinder, kept);
     }
 }
 

@@ -1,20 +1,48 @@
-// What is kept in memory of the sectors of a pack, so that a sector which was read once is read from memory again.
+// What is kept in memory of the sectors of a pack.
 //
-// Memory for all sectors of the pack is taken once, before the first is kept. Where it is refused nothing is ever kept.
-ghost use Rattle.std.specs.Prelude.{◌≡◌, ◌≢◌, ℕ, ◌<◌, ◌≤◌, length, Some, None, IsTrue, vec_len, vec_capacity};
+// A pass over the pack that is the only one, as that of a listing, needs each sector once: so of the cylinders that were read once only
+// the one that was read last is kept, always in the same memory, which costs less than new memory for each. One that is read again is
+// kept from then on. Memory for all sectors of the pack is taken once, before the first is kept, and touched as it is needed. Where it
+// is refused nothing is ever kept.
+ghost use Rattle.std.specs.Prelude.{◌≡◌, ◌≢◌, ℕ, ◌<◌, ◌≤◌, length, None, IfOk, IsTrue};
 ghost use Rattle.std.specs.Option.{option_copied, option_map};
-ghost use Rattle.disk_image.specs.Kept.{kept_at, HasRoom, KeepsCylinder};
+ghost use Rattle.disk_image.specs.Kept.{kept_at, place_of, HasRoom, KeepsCylinder};
 
-use crate::codec::{SECTOR_BYTES, read_sector};
 use crate::spot::CYLINDER_SECTORS;
+use crate::table::SectorTable;
+use alto_words::Memory;
 use disk_records::{Sector, Shape};
 use std::alloc::Global;
+
+/// How often a cylinder was read.
+#[derive(Clone, Copy, PartialEq, Eq)]
+pub(crate) enum Reads {
+    Never,
+    Once,
+    Often,
+}
+
+/// Where a sector may be kept.
+#[derive(Clone, Copy)]
+pub(crate) enum Place {
+    /// It isn't kept.
+    Nowhere,
+    /// With the cylinder that was read last of those that were read once.
+    Passing,
+    /// With the cylinders that were read more often.
+    Staying,
+}
 
 /// The sectors that are kept of a pack, each at its virtual address.
 #[derive(Drop)]
 pub(crate) struct KeptSectors {
-    // the first sectors of the pack, None for one that isn't kept; those after them aren't kept either
-    sectors: Vec<Option<Sector>>,
+    // how often each cylinder was read
+    reads: Vec<Reads>,
+    // the cylinder that was read last of those that were read once, and its sectors from 0 on
+    latest: u16,
+    passing: SectorTable,
+    // the sectors of cylinders that were read more often
+    staying: SectorTable,
 }
 
 impl KeptSectors {
@@ -22,11 +50,44 @@ impl KeptSectors {
     pub(crate) fn none_of(alloc: Global, shape: Shape) -> KeptSectors
         ensures { (k : ℕ) → kept_at result k ≡ None }
     {
-        match Vec::with_capacity(alloc, shape.pages() as usize) {
-            Ok(sectors) => KeptSectors { sectors },
+        match KeptSectors::with_room(alloc, shape) {
+            Ok(kept) => kept,
             Err(_) => KeptSectors {
-                sectors: Vec::new(alloc),
+                reads: Vec::new(alloc),
+                latest: 0,
+                passing: SectorTable::new(alloc),
+                staying: SectorTable::new(alloc),
             },
+        }
+    }
+
+    /// None yet, and memory for all sectors of a pack of this shape.
+    fn with_room(alloc: Global, shape: Shape) -> Result<KeptSectors, Memory>
+        ensures { IfOk result (λ kept. (k : ℕ) → kept_at kept k ≡ None) }
+    {
+        let cylinders = shape.pages() / CYLINDER_SECTORS;
+        Ok(KeptSectors {
+            reads: vec![in alloc; Reads::Never; cylinders as usize]?,
+            latest: 0,
+            passing: SectorTable::with_room(alloc, CYLINDER_SECTORS)?,
+            staying: SectorTable::with_room(alloc, shape.pages())?,
+        })
+    }
+
+    /// Where the sector at this virtual address may be kept.
+    fn place_of(&self, at: u16) -> Place
+        ensures { result ≡ place_of self.now at }
+    {
+        let cylinder = at / CYLINDER_SECTORS;
+        match self.reads.get(cylinder as usize) {
+            None => Place::Nowhere,
+            Some(Reads::Never) => Place::Nowhere,
+            Some(Reads::Once) => if cylinder == self.latest {
+                Place::Passing
+            } else {
+                Place::Nowhere
+            },
+            Some(Reads::Often) => Place::Staying,
         }
     }
 
@@ -34,62 +95,56 @@ impl KeptSectors {
     pub(crate) fn sector(&self, at: u16) -> Option<&Sector>
         ensures { option_copied result ≡ kept_at self.now at }
     {
-        match self.sectors.get(at as usize) {
-            Some(Some(sector)) => Some(sector),
-            _ => None,
+        match self.place_of(at) {
+            Place::Nowhere => None,
+            Place::Passing => self.passing.sector(at % CYLINDER_SECTORS),
+            Place::Staying => self.staying.sector(at),
         }
     }
 
-    /// Whether there is memory for the sectors of the cylinder that begins at this virtual address.
-    pub(crate) fn has_room(&self, first: u16) -> bool
-        ensures { IsTrue result → HasRoom self.now first }
+    /// Whether there is memory for the sectors of a cylinder.
+    pub(crate) fn has_room(&self, cylinder: u16) -> bool
+        ensures { IsTrue result → HasRoom self.now cylinder }
     {
-        first as usize + CYLINDER_SECTORS as usize <= self.sectors.capacity()
+        let sectors = CYLINDER_SECTORS as usize;
+        (cylinder as usize) < self.reads.len()
+            && sectors <= self.passing.room()
+            && (cylinder as usize + 1) * sectors <= self.staying.room()
     }
 
-    /// Keeps the sectors of the cylinder that begins at this virtual address, as these bytes say. No memory is taken.
-    pub(crate) fn keep_cylinder(&mut self, first: u16, bytes: &[u8])
-        requires room { HasRoom self.old first }
+    /// Keeps the sectors of a cylinder, as these bytes say. No memory is taken.
+    pub(crate) fn keep_cylinder(&mut self, cylinder: u16, bytes: &[u8])
+        requires room { HasRoom self.old cylinder }
         requires length { length bytes.now ≡ 12768 }
-        ensures { KeepsCylinder first bytes.now self.old self.new }
+        ensures { KeepsCylinder cylinder bytes.now self.old self.new }
     {
-        let start = first as usize;
-        self.reach_to(start);
-        for sector in 0..CYLINDER_SECTORS as usize {
-            let from = sector * SECTOR_BYTES;
-            self.put(
-                start + sector,
-                read_sector(&bytes[from..from + SECTOR_BYTES]),
-            );
+        match self.reads[cylinder as usize] {
+            Reads::Never => self.let_pass(cylinder, bytes),
+            Reads::Once => self.let_stay(cylinder, bytes),
+            Reads::Often => self.let_stay(cylinder, bytes),
         }
     }
 
-    /// Has at least so many sectors in the list, the new ones not kept.
-    fn reach_to(&mut self, end: usize)
-        requires { end ≤ vec_capacity self.old.sectors }
-        ensures long { end ≤ vec_len self.new.sectors }
-        ensures room { vec_capacity self.new.sectors ≡ vec_capacity self.old.sectors }
-        ensures same { (k : ℕ) → kept_at self.new k ≡ kept_at self.old k }
+    /// Keeps the sectors of a cylinder in the place of those of the one that was read before it.
+    fn let_pass(&mut self, cylinder: u16, bytes: &[u8])
+        requires room { HasRoom self.old cylinder }
+        requires length { length bytes.now ≡ 12768 }
+        ensures { KeepsCylinder cylinder bytes.now self.old self.new }
     {
-        for _ in self.sectors.len()..end {
-            self.sectors.push_reserved(None);
-        }
+        self.passing.put_cylinder(0, bytes);
+        self.latest = cylinder;
+        self.reads[cylinder as usize] = Reads::Once;
     }
 
-    /// Keeps a sector at this place of the list, or at its end.
-    fn put(&mut self, place: usize, sector: Sector)
-        requires room { place < vec_capacity self.old.sectors }
-        requires long { place ≤ vec_len self.old.sectors }
-        ensures long { place < vec_len self.new.sectors }
-        ensures same_room { vec_capacity self.new.sectors ≡ vec_capacity self.old.sectors }
-        ensures here { kept_at self.new place ≡ Some sector }
-        ensures others { (k : ℕ) → k ≢ place → kept_at self.new k ≡ kept_at self.old k }
+    /// Keeps the sectors of a cylinder from now on.
+    fn let_stay(&mut self, cylinder: u16, bytes: &[u8])
+        requires room { HasRoom self.old cylinder }
+        requires length { length bytes.now ≡ 12768 }
+        ensures { KeepsCylinder cylinder bytes.now self.old self.new }
     {
-        if place < self.sectors.len() {
-            self.sectors[place] = Some(sector);
-        } else {
-            self.sectors.push_reserved(Some(sector));
-        }
+        let first = cylinder as usize * CYLINDER_SECTORS as usize;
+        self.staying.put_cylinder(first, bytes);
+        self.reads[cylinder as usize] = Reads::Often;
     }
 
     /// Keeps this sector in the place of the one that is kept at this virtual address, if one is.
@@ -97,8 +152,10 @@ impl KeptSectors {
         ensures here { kept_at self.new at ≡ option_map (λ kept. sector.now) (kept_at self.old at) }
         ensures others { (k : ℕ) → k ≢ at → kept_at self.new k ≡ kept_at self.old k }
     {
-        if self.sector(at).is_some() {
-            self.sectors[at as usize] = Some(*sector);
+        match self.place_of(at) {
+            Place::Nowhere => {}
+            Place::Passing => self.passing.replace(at % CYLINDER_SECTORS, sector),
+            Place::Staying => self.staying.replace(at, sector),
         }
     }
 
@@ -107,8 +164,10 @@ impl KeptSectors {
         ensures here { kept_at self.new at ≡ None }
         ensures others { (k : ℕ) → k ≢ at → kept_at self.new k ≡ kept_at self.old k }
     {
-        if let Some(kept) = self.sectors.get_mut(at as usize) {
-            *kept = None;
+        match self.place_of(at) {
+            Place::Nowhere => {}
+            Place::Passing => self.passing.forget(at % CYLINDER_SECTORS),
+            Place::Staying => self.staying.forget(at),
         }
     }
 }

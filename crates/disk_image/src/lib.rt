@@ -31,6 +31,7 @@ mod reach;
 mod records;
 mod spot;
 mod start;
+mod table;
 
 pub use codec::{decode_pack, encode_pack};
 pub use error::{ImageError, ReachError};

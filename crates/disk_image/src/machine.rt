@@ -1,12 +1,13 @@
 // The machine over a pack file, or two of them for two drives, standard input and standard output: the edge to the outside.
 //
-// What was read stays in memory (kept.rt), and a sector command on a sector that is kept makes no read call. Else it seeks to the
-// sector's cylinder, in the file of its drive, makes one read call for all of it, and keeps it. Where there is no memory for that, or
-// the cylinder can't be read whole, it seeks to the sector and makes one read call for the records before its first Write. A command
-// that begins with a Write reads nothing. Writes are never kept back: a command that writes seeks to its first Write and makes one write
-// call for each record that it writes, in their order. What is kept of the sector is changed after them, and after a fault it is kept no
-// longer. That is said of calls that are neither short nor interrupted by a signal, here and in records.rt: after a short one another
-// does the rest, and an interrupted one is made again.
+// Sectors that were read are kept in memory (kept.rt), and a sector command on one that is kept makes no read call. Else it seeks to the
+// sector's cylinder, in the file of its drive, makes one read call for all of it, and keeps it: until another cylinder is read for the
+// first time, or for good where it was read before. Where there is no memory for that, or the cylinder can't be read whole, it seeks to
+// the sector and makes one read call for the records before its first Write. A command that begins with a Write reads nothing. Writes
+// are never kept back: a command that writes seeks to its first Write and makes one write call for each record that it writes, in their
+// order. What is kept of the sector is changed after them, and after a fault it is kept no longer. That is said of calls that are neither
+// short nor interrupted by a signal, here and in records.rt: after a short one another does the rest, and an interrupted one is made
+// again.
 //
 // That a process which is stopped leaves a prefix of its record writes in the files, each of them whole, is a premise. It holds for one
 // that is stopped between two calls, of which the first wasn't short, and for one that a signal kills within a write call unless the
@@ -38,9 +39,10 @@ const MOST_TRIES: u64 = u64::MAX;
 
 /// A machine over a pack file, or over two of them for two drives, standard input and standard output. It isn't modelled: contracts see its
 /// shape and its counts, and nothing of what the files, the keys and the display hold. Each fault of the outside, as a read past a file's
-/// end, raises the count of its device by one and is answered by Failed; a count stands at 2^64 - 1 once there. Each cylinder is read
-/// once, and kept in memory for all sectors of the pack that is taken as the machine is made; where that memory is refused, each sector
-/// is read from its file each time. No call takes memory, and a sector that is kept meets no fault of a read.
+/// end, raises the count of its device by one and is answered by Failed; a count stands at 2^64 - 1 once there. Without faults each
+/// cylinder is read twice at most, and from the second time on kept in memory for all sectors of the pack that is taken as the machine is
+/// made; where that memory is refused, each sector is read from its file each time. No call takes memory, and a sector that is kept meets
+/// no fault of a read.
 #[derive(Drop)]
 pub struct FileMachine<'a, R: Files + Input + Print> {
     rt: &'a R,
@@ -48,7 +50,7 @@ pub struct FileMachine<'a, R: Files + Input + Print> {
     first: R::File,
     second: Option<R::File>,
     shape: Shape,
-    // what was read of the files and is read from memory from now on
+    // what was read of the files and is read from memory
     kept: KeptSectors,
     // standard input, read ahead, so that a read of one key is cheap
     keys: BufReader<R::Reader>,
@@ -201,7 +203,7 @@ impl<'a, R: Files + Input + Print> FileMachine<'a, R> {
     }
 
     /// Does one sector command on a sector that is kept, or in the file of its drive, and answers the first word that differs, if one
-    /// does. The other drive's file isn't touched, and what is kept of other cylinders stays.
+    /// does. The other drive's file isn't touched, and what is kept of other cylinders was kept before.
     fn obey(&mut self, at: u16, plan: Plan, buf: &mut Sector) -> io::Result<Option<(u8, u16)>>
         requires place { at < pages_of (⟦<FileMachine<'a, R> as Tape>⟧.tape self.old).form }
         requires legal { IsTrue (is_legal plan) }

@@ -77,20 +77,20 @@ pub(crate) fn read_front<F: Read>(file: &mut F, plan: Plan) -> io::Result<Sector
     Ok(read_sector(&bytes))
 }
 
-/// Reads the cylinder that begins at the virtual address `first`, on whose first byte the file stands, by one read call, and keeps its
-/// sectors. Where that fails, or the file ends within the cylinder, all that is kept stays as it was.
+/// Reads a cylinder of the pack, on whose first byte the file stands, by one read call, and keeps its sectors. Where that fails, or the
+/// file ends within the cylinder, all that is kept stays as it was.
 pub(crate) fn read_cylinder<F: Read>(
     file: &mut F,
-    first: u16,
+    cylinder: u16,
     kept: &mut KeptSectors,
 ) -> io::Result<()>
-    requires { HasRoom kept.old first }
-    ensures ok { OnOk result (ReadsCylinder first (F.remaining file.old) (F.remaining file.new) kept.old kept.new) }
+    requires { HasRoom kept.old cylinder }
+    ensures ok { OnOk result (ReadsCylinder cylinder (F.remaining file.old) (F.remaining file.new) kept.old kept.new) }
     ensures err { OnErr result (kept.new ≡ kept.old) }
 {
     let mut bytes = [0; CYLINDER_BYTES as usize];
     file.read_exact(&mut bytes)?;
-    kept.keep_cylinder(first, &bytes);
+    kept.keep_cylinder(cylinder, &bytes);
     Ok(())
 }
 

@@ -46,6 +46,28 @@ fn a_kept_sector_meets_no_fault(rt: HostRuntime) -> Result<(), Fail> {
 }
 
 #[test]
+fn a_cylinder_that_is_read_again_stays(rt: HostRuntime) -> Result<(), Fail> {
+    let mut machine = FileMachine::create(&rt, rt.alloc(), "again", 2)?;
+    // the byte that the file is full of by now, the sector that is read, and the words that it is read as
+    let steps = [
+        (1u8, 0u16, 0x0101u16),
+        (2, 1, 0x0101),
+        // the second cylinder takes the place of the first one, which is read again and stays beside it
+        (2, 24, 0x0202),
+        (3, 0, 0x0303),
+        (4, 1, 0x0303),
+        (4, 25, 0x0202),
+    ];
+    for (byte, at, word) in steps {
+        fs::write(&rt, "again", bytes_of(rt.alloc(), byte, 25_536)?.as_slice())?;
+        let wanted = filled(word, word, word);
+        assert!(rt; read_at(&mut machine, at) == Ok(wanted), "{at} of {byte}");
+    }
+    fs::remove_file(&rt, "again")?;
+    Ok(())
+}
+
+#[test]
 fn a_sector_is_forgotten_after_a_fault(rt: HostRuntime) -> Result<(), Fail> {
     let mut machine = FileMachine::create(&rt, rt.alloc(), "forgotten", 2)?;
     machine.run(5, WRITE_ALL, &mut filled(1, 2, 3))?;
@@ -93,8 +115,8 @@ fn a_kept_sector_is_the_one_of_its_drive(rt: HostRuntime) -> Result<(), Fail> {
     let mut machine = FileMachine::create_two(&rt, rt.alloc(), "here", "there", 2)?;
     fs::write(&rt, "here", bytes_of(rt.alloc(), 1, 25_536)?.as_slice())?;
     fs::write(&rt, "there", bytes_of(rt.alloc(), 2, 25_536)?.as_slice())?;
-    // both cylinders of the second drive, and then those of the first
-    for at in [95u16, 48, 0, 47] {
+    // both cylinders of the second drive, and then those of the first; the second time they stay
+    for at in [95u16, 48, 0, 47, 95, 48, 0, 47] {
         let wanted = if at < 48 { 0x0101 } else { 0x0202 };
         let sector = filled(wanted, wanted, wanted);
         assert!(rt; read_at(&mut machine, at) == Ok(sector), "{at}");

@@ -174,12 +174,13 @@ fn a_sector_command_is_few_calls(rt: HostRuntime) -> Result<(), Fail> {
 }
 
 #[test]
-fn a_cylinder_is_read_once_and_else_by_sectors(rt: HostRuntime) -> Result<(), Fail> {
+fn a_cylinder_is_read_twice_at_most_and_else_by_sectors(rt: HostRuntime) -> Result<(), Fail> {
     let alloc = rt.alloc();
     let seek = |byte| FileCall::Seek(SeekFrom::Start(byte));
     let cylinder = FileCall::Read(12_768);
     let sector = FileCall::Read(532);
-    let each_once = [seek(0), cylinder, seek(12_768), cylinder];
+    // after the first pass the second cylinder alone is kept, and after the next one both are
+    let twice_at_most = [seek(0), cylinder, seek(12_768), cylinder, seek(0), cylinder];
     // the second time the cylinder can be read, and is kept
     let one_by_one = [seek(0), cylinder, seek(3_192), sector, seek(0), cylinder];
     // of the cylinder a byte is missing, and none comes for it
@@ -198,7 +199,14 @@ fn a_cylinder_is_read_once_and_else_by_sectors(rt: HostRuntime) -> Result<(), Fa
     ];
     // the first sector that is read in turn, the one after the last, how often, and the calls for it
     let rows = [
-        (Broken::Nothing, 25_536, 0u16, 48, 2, each_once.as_slice()),
+        (
+            Broken::Nothing,
+            25_536,
+            0u16,
+            48,
+            3,
+            twice_at_most.as_slice(),
+        ),
         (Broken::ReadCall(0), 25_536, 6, 7, 3, &one_by_one),
         (Broken::Nothing, 25_535, 46, 47, 2, &cut_short),
     ];

@@ -119,7 +119,9 @@ fn a_command_on_the_second_drive_goes_to_its_file(rt: HostRuntime) -> Result<(),
         (70u16, Some(0u64), BACK_LEADER.label, [1, 0xA006]),
         (77, Some(12_768), [0xFFFF; 8], [1, 0x500A]),
         (7, Some(0), FRONT_DATA.label, [1, 0x7000]),
-        (50, None, BACK_DATA.label, [1, 0x2002]),
+        // the other two cylinders were read since, so that of this one isn't kept any more; read again it stays
+        (50, Some(0), BACK_DATA.label, [1, 0x2002]),
+        (70, None, BACK_LEADER.label, [1, 0xA006]),
     ];
     for (at, seek, label, header) in rows {
         let mut sector = ZEROS;

@@ -1,6 +1,6 @@
 use Rattle.std.proofs.Common.{rules, arith}
 use Rattle.disk_image.proofs.Keeping.{keeps_more}
-use Rattle.disk_image.proofs.kept.KeptSectors.keep_cylinder.Goals as goal
+use Rattle.disk_image.proofs.table.SectorTable.put_cylinder.Goals as goal
 
 pub loop-sector-preserved : goal.loop-sector-preserved
 loop-sector-preserved c = record {
