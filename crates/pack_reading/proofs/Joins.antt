@@ -94,7 +94,7 @@ joining_all pages all done bytes c end =
 pub kept_here : (pages : Pages) (f : Fid) (n : ℕ) (o : Option (List ℕ)) → o ≡ get page_cmp pages.kept (record { fid = f; number = n + 1 }) → page_kept pages f n ≡ o
 kept_here pages f n o e = ap (λ (k : ℕ). get page_cmp pages.kept (record { fid = f; number = k })) (sym (add-one n)) ∙ sym e
 
-all_pages : 65535 ≡ most_pages
+pub all_pages : 65535 ≡ most_pages
 unfolding most_pages
 all_pages = refl
 

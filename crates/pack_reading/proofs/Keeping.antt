@@ -12,7 +12,7 @@ use Rattle.pack_reading.specs.declared.swept.Pages.{Pages}
 use Rattle.pack_reading.specs.declared.swept.Swept.{Swept}
 use Rattle.pack_reading.specs.Kept.{leader_kept, page_kept, KeepsSight}
 
-suc-eqb : (n k : ℕ) → (suc n == suc k) ≡ (n == k)
+pub suc-eqb : (n k : ℕ) → (suc n == suc k) ≡ (n == k)
 suc-eqb n k = grind (arith, nat_tests)
 
 -- a data page

@@ -14,3 +14,6 @@ pub mod Words
 pub mod Joins
 pub mod Keeping
 pub mod Sweeping
+pub mod Counting
+pub mod Measured
+pub mod Measuring

@@ -53,7 +53,7 @@ names_get m q =
     ∙ ap (λ o. cond (shows q) o None) (get-from_entries fid_total (homes (namings (entries m.files))) q)
     ∙ turned (is_system q) (find fid_cmp q (homes (namings (entries m.files))))
 
-view_names : (shape : Shape) (ss : List Sight) → fold (considered (lives ss)) (empty {R = fid_cmp}) (namings (map_entries file_of (entries (files_shown ss)))) ≡ (view (read_sights shape ss)).names
+pub view_names : (shape : Shape) (ss : List Sight) → fold (considered (lives ss)) (empty {R = fid_cmp}) (namings (map_entries file_of (entries (files_shown ss)))) ≡ (view (read_sights shape ss)).names
 view_names shape ss =
     let ns = namings (map_entries file_of (entries (files_shown ss))) in
     let kept : namings (entries (read_sights shape ss).files) ≡ scanned (is_kept (lives ss)) [] ns =

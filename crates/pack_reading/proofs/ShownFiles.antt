@@ -88,7 +88,7 @@ unfolding leader_of_file
 each_found ss pages kept [] = refl
 each_found ss pages kept (e ∷ ls) = λ i. record { fid = e.0; leader = plain_leader e.1; bytes = bytes_are ss pages e.0 (kept e.0) i } ∷ each_found ss pages kept ls i
 
-stored_entries : (ss : List Sight) → entries (files_shown ss) ≡ map_entries (stored_file ss) (entries (from_entries {R = fid_cmp} (leader_entries ss)))
+pub stored_entries : (ss : List Sight) → entries (files_shown ss) ≡ map_entries (stored_file ss) (entries (from_entries {R = fid_cmp} (leader_entries ss)))
 unfolding files_shown
 stored_entries ss = entries-map_values fid_total fid_same (stored_file ss) (from_entries (leader_entries ss))
 

@@ -13,23 +13,23 @@ use Rattle.pack_reading.specs.declared.swept.Swept.{Swept}
 use Rattle.pack_reading.specs.declared.sweep.Reading.{Reading}
 use Rattle.pack_reading.specs.Kept.{plain_leader, leader_kept, page_kept, KeepsSight, HoldsSights}
 
-map_or : {X Y : Type 0} (g : X → Y) (a b : Option X) → option_or (option_map g a) (option_map g b) ≡ option_map g (option_or a b)
+pub map_or : {X Y : Type 0} (g : X → Y) (a b : Option X) → option_or (option_map g a) (option_map g b) ≡ option_map g (option_or a b)
 map_or g None b = refl
 map_or g (Some x) b = refl
 
 -- sector 0 shows nothing
-nothing_first : {X : Type 0} (answer : Sight → Option X) → answer hidden ≡ None → None ≡ first answer (hidden ∷ [])
+pub nothing_first : {X : Type 0} (answer : Sight → Option X) → answer hidden ≡ None → None ≡ first answer (hidden ∷ [])
 unfolding first
 nothing_first answer e = rw e refl
 
-holds_none : (swept : Swept) → ((f : Fid) → leader_kept swept.leaders f ≡ None) → ((f : Fid) (n : ℕ) → page_kept swept.pages f n ≡ None) → HoldsSights (hidden ∷ []) swept
+pub holds_none : (swept : Swept) → ((f : Fid) → leader_kept swept.leaders f ≡ None) → ((f : Fid) (n : ℕ) → page_kept swept.pages f n ≡ None) → HoldsSights (hidden ∷ []) swept
 holds_none swept leaders pages = record {
   leaders = λ f. leaders f ∙ ap (option_map plain_leader) (nothing_first (leader_at f) refl);
   pages = λ f n. pages f n ∙ nothing_first (page_at f n) refl;
 }
 
 -- one sector more
-holds_more : (ss : List Sight) (s : Sight) (old new : Swept) → HoldsSights ss old → KeepsSight s old new → HoldsSights (ss ++ s ∷ []) new
+pub holds_more : (ss : List Sight) (s : Sight) (old new : Swept) → HoldsSights ss old → KeepsSight s old new → HoldsSights (ss ++ s ∷ []) new
 holds_more ss s old new so_far kept = record {
   leaders = λ f.
       kept.leaders f

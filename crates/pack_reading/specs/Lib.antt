@@ -5,3 +5,4 @@ pub mod Orders
 pub mod Passed
 pub mod Shows
 pub mod Files
+pub mod Lengths

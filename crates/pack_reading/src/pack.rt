@@ -24,7 +24,7 @@ use disk_records::Disk;
 use std::alloc::Global;
 
 /// What these sectors show.
-fn show_swept(alloc: Global, swept: Swept) -> Result<Shown, Memory>
+pub(crate) fn show_swept(alloc: Global, swept: Swept) -> Result<Shown, Memory>
     ensures { (form : Form) (ss : List Sight) → HoldsSights ss swept → IfOk result (λ shown. ShowsView shown (settle (view (read_sights form ss)))) }
 {
     let Swept { leaders, pages } = swept;
@@ -40,8 +40,8 @@ fn show_swept(alloc: Global, swept: Swept) -> Result<Shown, Memory>
 /// SysDir where no entry of it is kept. Nothing is written. Fewer sector commands than sectors.
 ///
 /// DiskFault: a sector wasn't read, and the count of disk faults rose. Memory: none was left. A pack full of ordinary files took 1.7
-/// times its bytes, one large directory 3.7 times, leader pages alone 4.8 times (docs/speed.md): leaders are held as they were seen and
-/// as they are shown, and the words of a directory while it is scanned.
+/// times its bytes, one large directory 3.7 times, leader pages alone 4.8 times: leaders are held as they were seen and as they are
+/// shown, and the words of a directory while it is scanned.
 pub fn read_pack<D: Disk>(alloc: Global, disk: &mut D) -> Result<Shown, ReadingError>
     ensures read { IsTrue D.told → IfOk result (λ shown. ShowsView shown (show (pack (D.tape disk.old)))) }
     ensures cause { HasCause cause_of_reading (D.tape disk.old) (D.tape disk.new) result }

@@ -32,3 +32,21 @@ pub struct Shown {
     /// Rising by directory, and then by name without regard to case.
     pub names: List<ShownName>,
 }
+
+/// The length of a file that is shown.
+#[derive(Clone, Copy, Debug, PartialEq, Eq)]
+pub struct FileLength {
+    /// The file's full name.
+    pub fid: Fid,
+    /// Its length in bytes. None for a directory.
+    pub length: Option<u64>,
+}
+
+/// What a pack shows, with the length of each file in the place of its leader and bytes.
+#[derive(Drop)]
+pub struct ShownLengths {
+    /// Rising by full name.
+    pub files: List<FileLength>,
+    /// Rising by directory, and then by name without regard to case.
+    pub names: List<ShownName>,
+}
