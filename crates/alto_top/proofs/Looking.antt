@@ -19,8 +19,9 @@ use Rattle.pack_laws.proofs.Keys.{same_fid}
 use Rattle.pack_laws.proofs.Firsts.{or_none, or_assoc}
 use Rattle.pack_laws.proofs.Inserting.{in_order-none, in_order-cons}
 use Rattle.pack_laws.proofs.Orders.{naming_total, last_apart}
-use Rattle.pack_reading.specs.declared.shown.Shown.{Shown}
-use Rattle.pack_reading.specs.Shows.{ShowsView, shown_name}
+use Rattle.pack_reading.specs.declared.shown.ShownLengths.{ShownLengths}
+use Rattle.pack_reading.specs.Lengths.{ShowsLengths}
+use Rattle.pack_reading.specs.Shows.{shown_name}
 use Rattle.alto_top.specs.Looking.{first_of, Knows}
 
 -- ---- one after another
@@ -89,7 +90,7 @@ name_found (e ∷ es) sorted f =
     ∙ map_or (is_fid f e.0) e.1 (find fid_cmp f es)
 
 -- ---- both
-pub knows : (name : Fid → Option (List ℕ)) (shown : Shown) (v : View) → ShowsView shown v → ((f : Fid) → name f ≡ first_of (λ n. n.fid) (λ n. n.name) shown.names f) → Knows name shown.files v
+pub knows : (name : Fid → Option (List ℕ)) (shown : ShownLengths) (v : View) → ShowsLengths shown v → ((f : Fid) → name f ≡ first_of (λ n. n.fid) (λ n. n.name) shown.names f) → Knows name shown.files v
 knows name shown v shows names = record {
   names = λ f.
       names f

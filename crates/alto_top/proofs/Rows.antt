@@ -10,9 +10,10 @@ use Rattle.pack_model.specs.showing.View.{View}
 use Rattle.pack_model.specs.showing.Listing.{Listed, line_of, listed_cmp, listing, in_order, shown_names, shown_files}
 use Rattle.pack_laws.proofs.Inserting.{in_order-none, in_order-cons, map-insert_key}
 use Rattle.pack_laws.proofs.Orders.{listed_total}
-use Rattle.pack_reading.specs.declared.shown.Shown.{Shown}
+use Rattle.pack_reading.specs.declared.shown.ShownLengths.{ShownLengths}
 use Rattle.pack_reading.specs.declared.shown.ShownName.{ShownName}
-use Rattle.pack_reading.specs.Shows.{ShowsView, naming, shown_name, shown_file}
+use Rattle.pack_reading.specs.Lengths.{file_length, ShowsLengths}
+use Rattle.pack_reading.specs.Shows.{naming, shown_name}
 use Rattle.alto_top.specs.declared.row.Row.{Row}
 use Rattle.alto_top.specs.Orders.{row_cmp}
 use Rattle.alto_top.specs.Looking.{listed_in}
@@ -50,11 +51,11 @@ names_back : (v : View) (ns : List Naming) → map (line_for v) (map shown_name 
 names_back v [] = refl
 names_back v (n ∷ ns) = ap (λ l. line_of v n ∷ l) (names_back v ns)
 
-pub listing_is : (v : View) (shown : Shown) (rows : List Row) (text : List ℕ) → ShowsView shown v → map listed_in rows ≡ in_order listed_cmp (map (line_for v) shown.names) → text ≡ flat_map (λ l. line_text (listed_in l)) rows ++ count_text (length shown.files) → text ≡ listing_text v
+pub listing_is : (v : View) (shown : ShownLengths) (rows : List Row) (text : List ℕ) → ShowsLengths shown v → map listed_in rows ≡ in_order listed_cmp (map (line_for v) shown.names) → text ≡ flat_map (λ l. line_text (listed_in l)) rows ++ count_text (length shown.files) → text ≡ listing_text v
 unfolding listing_text
 listing_is v shown rows text shows listed is =
     let in_lines : map listed_in rows ≡ listing v = listed ∙ ap (λ l. in_order listed_cmp (map (line_for v) l)) shows.names ∙ ap (in_order listed_cmp) (names_back v (shown_names v)) in
-    let count : length shown.files ≡ length (shown_files v) = ap length shows.files ∙ length-map (shown_files v) shown_file in
+    let count : length shown.files ≡ length (shown_files v) = ap length shows.files ∙ length-map (shown_files v) file_length in
     is
     ∙ ap (λ l. l ++ count_text (length shown.files)) (sym (flat_map-map line_text listed_in rows) ∙ ap (flat_map line_text) in_lines)
     ∙ ap (λ n. flat_map line_text (listing v) ++ count_text n) count

@@ -1,12 +1,13 @@
 -- Rows of the listing, and what is looked up for them.
-use Rattle.std.specs.Prelude.{◌≡◌, ℕ, length, map, List, [], ◌∷◌, Option, Some, None, cond}
-use Rattle.std.specs.Option.{option_map, option_or}
+use Rattle.std.specs.Prelude.{◌≡◌, ℕ, map, List, [], ◌∷◌, Option, Some, None, cond}
+use Rattle.std.specs.Option.{option_or}
 use Rattle.alto_words.specs.declared.fid.Fid.{Fid}
 use Rattle.alto_words.specs.Fid.{is_fid}
 use Rattle.pack_model.specs.showing.View.{View}
 use Rattle.pack_model.specs.showing.Listing.{Listed, home_name, shown_files}
-use Rattle.pack_reading.specs.declared.shown.ShownFile.{ShownFile}
-use Rattle.pack_reading.specs.Shows.{naming, shown_file}
+use Rattle.pack_reading.specs.declared.shown.FileLength.{FileLength}
+use Rattle.pack_reading.specs.Lengths.{file_length}
+use Rattle.pack_reading.specs.Shows.{naming}
 use Rattle.alto_top.specs.declared.row.Row.{Row}
 
 -- what the first item of a file says
@@ -14,14 +15,10 @@ abbrev pub first_of : {X V : Type 0} → (X → Fid) → (X → V) → List X �
 first_of key value [] f = None
 first_of key value (x ∷ xs) f = option_or (cond (is_fid f (key x)) (Some (value x)) None) (first_of key value xs f)
 
--- the length of a file, none of a directory
-abbrev pub file_length : ShownFile → Option ℕ
-file_length x = option_map (λ bytes. length bytes) x.bytes
-
--- the names of directories and the files, as a view has them
-pub record Knows (name : Fid → Option (List ℕ)) (files : List ShownFile) (v : View) : Type 0 where
+-- the names of directories and the lengths of files, as a view has them
+pub record Knows (name : Fid → Option (List ℕ)) (files : List FileLength) (v : View) : Type 0 where
   pub names : (f : Fid) → name f ≡ home_name v f
-  pub files_are : files ≡ map shown_file (shown_files v)
+  pub files_are : files ≡ map file_length (shown_files v)
 
 -- what the model has in a row
 abbrev pub listed_in : Row → Listed

@@ -7,14 +7,15 @@ ghost use Rattle.alto_words.specs.declared.fid.Fid.{Fid as Named};
 ghost use Rattle.alto_words.specs.Fid.{fid_cmp, is_fid};
 ghost use Rattle.pack_model.specs.showing.View.{View};
 ghost use Rattle.pack_model.specs.showing.Listing.{line_of, listed_cmp, in_order, size_of, shown_files};
-ghost use Rattle.pack_reading.specs.Shows.{naming, shown_file, ShowsView};
-ghost use Rattle.alto_top.specs.Looking.{first_of, file_length, Knows, listed_in};
+ghost use Rattle.pack_reading.specs.Lengths.{file_length, ShowsLengths};
+ghost use Rattle.pack_reading.specs.Shows.{naming};
+ghost use Rattle.alto_top.specs.Looking.{first_of, Knows, listed_in};
 ghost use Rattle.std.specs.FinMap.{get as look_up};
 ghost use Rattle.alto_top.specs.Showing.{stem, dir_text, listed_length, line_text, count_text, listing_text};
 
 use crate::row::Row;
 use alto_words::{Fid, Memory, Name, push_number};
-use pack_reading::{Shown, ShownFile, ShownName};
+use pack_reading::{FileLength, ShownLengths, ShownName};
 use std::alloc::Global;
 use std::collections::{BTreeMap, BTreeSet};
 
@@ -39,28 +40,19 @@ fn names_by_file(alloc: Global, names: &[ShownName]) -> Result<BTreeMap<Fid, Nam
     Ok(map)
 }
 
-/// The length of a file in bytes; None of a directory.
-fn length_of(file: &ShownFile) -> Option<u64>
-    ensures { result ≡ file_length file.now }
-{
-    file.bytes
-        .as_ref()
-        .map(|bytes| bytes.as_slice().len() as u64)
-}
-
 /// The length in bytes of the file of this full name among these, which rise by full name; None of a directory, and where it
 /// isn't there.
-fn length_in(files: &[ShownFile], fid: Fid) -> Option<u64>
-    ensures { (v : View) → files.now ≡ map shown_file (shown_files v) → result ≡ size_of (look_up v.files fid) }
+fn length_in(files: &[FileLength], fid: Fid) -> Option<u64>
+    ensures { (v : View) → files.now ≡ map file_length (shown_files v) → result ≡ size_of (look_up v.files fid) }
 {
     match files.binary_search_by_key(&fid, |file| file.fid) {
-        Ok(i) => length_of(&files[i]),
+        Ok(i) => files[i].length,
         Err(_) => None,
     }
 }
 
 /// The row of a name.
-fn row_of(names: &BTreeMap<Fid, Name>, files: &[ShownFile], named: ShownName) -> Row
+fn row_of(names: &BTreeMap<Fid, Name>, files: &[FileLength], named: ShownName) -> Row
     ensures { (v : View) → Knows (get fid_cmp names.now) files.now v → listed_in result ≡ line_of v (naming named) }
 {
     Row {
@@ -74,7 +66,7 @@ fn row_of(names: &BTreeMap<Fid, Name>, files: &[ShownFile], named: ShownName) ->
 fn rows_of(
     alloc: Global,
     by_file: &BTreeMap<Fid, Name>,
-    files: &[ShownFile],
+    files: &[FileLength],
     names: &[ShownName],
 ) -> Result<BTreeSet<Row>, Memory>
     ensures { (v : View) → Knows (get fid_cmp by_file.now) files.now v → IfOk result (λ rows. map listed_in rows.keys ≡ in_order listed_cmp (map (λ n. line_of v (naming n)) names.now)) }
@@ -145,8 +137,8 @@ fn push_count(alloc: Global, text: &mut Vec<u8>, count: usize) -> Result<(), Mem
 }
 
 /// The listing of what is shown: a row for each name, SysDir's names first, and then the number of files.
-pub fn listing_of(alloc: Global, shown: &Shown) -> Result<Vec<u8>, Memory>
-    ensures { (v : View) → ShowsView shown.now v → IfOk result (λ text. text.items ≡ listing_text v) }
+pub fn listing_of(alloc: Global, shown: &ShownLengths) -> Result<Vec<u8>, Memory>
+    ensures { (v : View) → ShowsLengths shown.now v → IfOk result (λ text. text.items ≡ listing_text v) }
 {
     let by_file = names_by_file(alloc, shown.names.as_slice())?;
     let rows = rows_of(

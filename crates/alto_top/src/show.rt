@@ -10,7 +10,7 @@ use crate::listing::listing_of;
 use crate::session::show_all;
 use crate::status::{Fault, Status};
 use disk_records::{Disk, Machine};
-use pack_reading::read_pack;
+use pack_reading::read_lengths;
 use std::alloc::Global;
 
 /// The listing of what the pack shows. Which pages count is told by headers and labels alone.
@@ -19,7 +19,7 @@ fn list_pack<D: Disk>(alloc: Global, disk: &mut D) -> Result<Vec<u8>, Fault>
     ensures cause { HasDiskCause (D.tape disk.old) (D.tape disk.new) result }
     ensures looks { Looks D.told (pages_of (D.tape disk.old).form - 1) (D.tape disk.old) (D.tape disk.new) }
 {
-    let shown = read_pack(alloc, disk)?;
+    let shown = read_lengths(alloc, disk)?;
     Ok(listing_of(alloc, &shown)?)
 }
 
