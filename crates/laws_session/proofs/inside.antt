@@ -1,5 +1,6 @@
 pub mod Answering
 pub mod Beginning
+pub mod Calling
 pub mod Changing
 pub mod Filling
 pub mod Flushing

@@ -1,5 +1,6 @@
 pub mod AnswerLaws
 pub mod BeginLaws
+pub mod CallLaws
 pub mod EndLaws
 pub mod HistoryLaws
 pub mod LineAnswers

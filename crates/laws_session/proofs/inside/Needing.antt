@@ -72,13 +72,13 @@ lines_keep_need l m w = by (refusal l m w) where
 
 -- ---- turns
 -- a turn that didn't fail needs no scavenge where none was needed
-unfailed_need : {p : Pack} {s : State} {cue : Cue} {wrote : List Event} {made : Turn Move} {world : World} {over : Bool} (k : TurnKind p s cue wrote made world over) → IsUnfailed k → s.world.need ≡ false → world.need ≡ false
+pub unfailed_need : {p : Pack} {s : State} {cue : Cue} {wrote : List Event} {made : Turn Move} {world : World} {over : Bool} (k : TurnKind p s cue wrote made world over) → IsUnfailed k → s.world.need ≡ false → world.need ≡ false
 unfailed_need {s = s} {cue = cue} (plain asks) h need = lines_keep_need (cue_line cue) s.model s.world ∙ need
 unfailed_need (failed moves f start) h need = elim h [ ]
 unfailed_need (scavenged quiets n asks) h need = refl
 
 -- where links are true as it begins it doesn't fail
-true_unfailed : {p : Pack} {s : State} {cue : Cue} {wrote : List Event} {made : Turn Move} {world : World} {over : Bool} (k : TurnKind p s cue wrote made world over) → Sound p → HasFullValues p → LinksTrue p → IsUnfailed k
+pub true_unfailed : {p : Pack} {s : State} {cue : Cue} {wrote : List Event} {made : Turn Move} {world : World} {over : Bool} (k : TurnKind p s cue wrote made world over) → Sound p → HasFullValues p → LinksTrue p → IsUnfailed k
 true_unfailed (plain asks) sound full links = tt
 true_unfailed {p = p} (failed {place = place} {at = at} {wanted = wanted} moves f start) sound full links = absurd (true_hints_never_mislead p place at wanted sound.whole sound.tidy full links f.on_disk f.misled.misled)
 true_unfailed (scavenged quiets n asks) sound full links = tt

@@ -1,0 +1,2 @@
+-- The laws of calls one after another: what other crates cite.
+pub use Rattle.laws_session.proofs.inside.Calling.{calls_keep, calls_keep_need, hints_stay_true, sessions_end_with_true_hints, true_hints_fail_no_call}

@@ -1,0 +1,29 @@
+//! The calls of a session one after another, and true hints from its beginning to its end.
+
+ghost use Rattle.laws_session.specs.CallLaws.{CallsKeep, CallsKeepNeed, HintsStayTrue, SessionsEndWithTrueHints, TrueHintsFailNoCall};
+
+/// What is kept is right after each call that answers, until the session is over.
+pub fn calls_keep()
+    ensures { CallsKeep }
+{}
+
+/// Links and the table that are true as a session begins are true after each call that answers; once it is over all hints are true, where no
+/// scavenge is needed.
+pub fn hints_stay_true()
+    ensures { HintsStayTrue }
+{}
+
+/// If no turn fails over such calls, no scavenge is needed.
+pub fn calls_keep_need()
+    ensures { CallsKeepNeed }
+{}
+
+/// If links and the table are true as a session begins, no turn fails over such calls.
+pub fn true_hints_fail_no_call()
+    ensures { TrueHintsFailNoCall }
+{}
+
+/// A session that begins on a pack whose hints are all true, and in which no turn fails, leaves a pack whose hints are all true.
+pub fn sessions_end_with_true_hints()
+    ensures { SessionsEndWithTrueHints }
+{}
