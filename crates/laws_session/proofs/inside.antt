@@ -1,5 +1,6 @@
 pub mod Answering
 pub mod Beginning
+pub mod Blocking
 pub mod Calling
 pub mod Changing
 pub mod Filling
@@ -11,8 +12,10 @@ pub mod Newcomers
 pub mod OneFile
 pub mod Opening
 pub mod Passing
+pub mod Remembering
 pub mod Ruling
 pub mod Scavenging
 pub mod Spacious
 pub mod Standing
 pub mod Talking
+pub mod Zoning

@@ -7,3 +7,4 @@ pub mod LineAnswers
 pub mod ScavengeLaws
 pub mod StreamLaws
 pub mod UnrefusedLaws
+pub mod ZoneLaws

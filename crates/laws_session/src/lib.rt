@@ -7,7 +7,8 @@
 //! A line on files that isn't refused on a sound pack: its files and directories are there, its name is free, its operations are a line as
 //! the laws of lines ask for it, and there are the free sectors that they take.
 //!
-//! Over calls one after another what is kept stays right, and true hints stay true until all are true at the end.
+//! Over calls one after another what is kept stays right, and true hints stay true until all are true at the end. The zone of a world reads
+//! back from the words of its memory.
 //!
 //! A law function is public, has an empty body and one clause, the law; its lemma has the same name, and its statement has it in
 //! capitals. To cite a law: `use Rattle.laws_session.proofs.histories.Laws.{crashes_of_a_history}`. Lemma files in proofs/inside/ no other
@@ -23,3 +24,4 @@ pub mod lines;
 pub mod scavenges;
 pub mod streams;
 pub mod unrefused;
+pub mod zones;
