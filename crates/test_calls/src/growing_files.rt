@@ -70,7 +70,7 @@ fn made(alloc: Global, limit: u64) -> Result<(MemMachine, Held), Fail> {
     Ok((machine, Held { hints, tally }))
 }
 
-/// Puts these bytes after those of the file.
+/// Puts these bytes after those of the file. Memory: there are none, or the table isn't the machine's.
 fn grown(
     machine: &mut MemMachine,
     held: &mut Held,
@@ -79,6 +79,9 @@ fn grown(
     fresh: &[u16],
 ) -> Result<(), FileError> {
     let mut buf = Sector::ZEROS;
+    if bytes.is_empty() || held.hints.table.pages() != machine.shape().pages() {
+        return Err(FileError::Memory);
+    }
     grow(
         machine,
         &mut held.hints,

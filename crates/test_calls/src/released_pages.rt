@@ -125,15 +125,15 @@ fn cuts(rt: HostRuntime) -> Result<(), Fail> {
 /// A cut past the end answers the length, and writes nothing.
 #[test]
 fn no_cut_past_the_end(rt: HostRuntime) -> Result<(), Fail> {
-    let sectors = sectors_of(rt.alloc(), &pages(THIRD))?;
-    let mut machine = sure_machine(rt.alloc(), sectors, b"")?;
-    let mut hints = Hints {
-        cache: HintCache::new(rt.alloc())?,
-        table: BitTable::from_words(rt.alloc(), machine.shape().pages(), &[0x0780, 0, 0])?,
-    };
-    let mut tally = no_tally();
-    let mut buf = Sector::ZEROS;
     for length in [1201, 40_000_000] {
+        let sectors = sectors_of(rt.alloc(), &pages(THIRD))?;
+        let mut machine = sure_machine(rt.alloc(), sectors, b"")?;
+        let mut hints = Hints {
+            cache: HintCache::new(rt.alloc())?,
+            table: BitTable::from_words(rt.alloc(), machine.shape().pages(), &[0x0780, 0, 0])?,
+        };
+        let mut tally = no_tally();
+        let mut buf = Sector::ZEROS;
         assert_eq!(rt;
             cut(
                 &mut machine,

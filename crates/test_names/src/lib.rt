@@ -5,6 +5,5 @@
 
 #[cfg(test)]
 mod pack;
-
 #[cfg(test)]
 mod reading;
