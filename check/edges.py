@@ -514,9 +514,10 @@ def within(size):
 
 
 def check_memory_limit(program):
-    """Limits on memory from the least under which a small pack is shown, and a step more, up to 16 MiB more: a full pack is shown
-    whole, or the program ends with 6 and says nothing. The first limit is too small for the full pack, and the last one isn't. Under
-    the first, which leaves no memory to keep what is read of a large pack, a session is the same."""
+    """Limits on memory from the least under which a small pack is shown, and a step more, up to 16 MiB more, by quarters of a step: a full
+    pack is shown whole, or the program ends with 6 and says nothing. Some limit is too small, where memory to keep what is read leaves too
+    little for the listing, and the last one isn't. Under the first, which leaves no memory to keep what is read of a large pack, a session
+    is the same."""
     show, (full, listing) = ["pack", "show"], packs.full_pack(203, 200)
     small = {"pack": abcde()}
     least = next((limit for limit in range(STEP, 64 * MIB, STEP) if Run(program, show, small, before=within(limit)).code == DONE), None)
@@ -527,13 +528,13 @@ def check_memory_limit(program):
     for before in [None, within(least + STEP)]:
         Run(program, ["pack", "boot"], {"pack": large}, PATCHES, before=before).gives(DONE, REPLIES, left={"pack": patched})
     codes = []
-    for limit in range(least + STEP, least + 16 * MIB, STEP):
+    for limit in range(least + STEP, least + 16 * MIB, STEP // 4):
         run = Run(program, show, {"pack": full}, before=within(limit))
         run.name += f"under a limit of {limit} bytes on memory"
         run.gives(run.code if run.code == DONE else NO_MEMORY, listing if run.code == DONE else b"", left={"pack": full})
         codes.append(run.code)
-    if (codes[0], codes[-1]) != (NO_MEMORY, DONE):
-        failures.append(f"limits on memory: the exit codes are {codes}, and not 6 at first and 0 at last")
+    if NO_MEMORY not in codes or codes[-1] != DONE:
+        failures.append(f"limits on memory: the exit codes are {codes}, and not 6 among them and 0 at last")
 
 
 # a line that reads no sector, one that reads all labels and a page, and one that writes the page too
