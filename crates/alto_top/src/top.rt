@@ -103,13 +103,14 @@ fn prepare_or_usage<M: Machine>(alloc: Global, number: u16, machine: &mut M) -> 
 }
 
 /// Does what the words of a command line ask for on this machine. The words are `boot` alone, `show` alone, or `format` or `prepare` and
-/// the pack's number, 1 to 65,535; with any others, and with `prepare` on one drive, `usage` is shown and nothing else happens. `moment` is the time now, in seconds since the start
-/// of 1901.
+/// the pack's number, 1 to 65,535; with any others, and with `prepare` on one drive, `usage` is shown and nothing else happens. `moment`
+/// is the time now, in seconds since the start of 1901.
 ///
 /// Done: the typed input was obeyed to its end, the listing was shown, the pack was formatted, or its second drive prepared. Usage: the
-/// words are others, or `prepare` on one drive, and `usage` was shown. DiskFault and KeyFault: that device failed, and what was asked for stopped at once; a listing and formatting take no key.
-/// DisplayFault: the display failed, with any words. Memory: none was left. After each of them what was acknowledged stands on the pack;
-/// a pack that was being formatted is to be formatted again, and a drive that was being prepared to be prepared again.
+/// words are others, or `prepare` on one drive, and `usage` was shown. DiskFault and KeyFault: that device failed, and what was asked for
+/// stopped at once; a listing and formatting take no key. DisplayFault: the display failed, with any words. Memory: none was left. After
+/// each of them what was acknowledged stands on the pack; a pack that was being formatted is to be formatted again, and a drive that was
+/// being prepared to be prepared again.
 pub fn alto<M: Machine>(alloc: Global, words: &[String], moment: u32, machine: &mut M) -> Status
     ensures does { IsTrue M.told → DoesAsAsked (map string_bytes words.now) moment (M.tape machine.old) (M.tape machine.new) result }
     ensures answers { AnswersTo (map string_bytes words.now) result }

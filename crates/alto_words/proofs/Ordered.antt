@@ -1,5 +1,5 @@
 -- How stored names are ordered: by base and by version alone.
-use Rattle.std.proofs.Common.{◌≡◌, ◌↔◌, ℕ, ◌<◌, Bool, true, false, cond, nat_lt, ◌==◌, List, [], ◌∷◌, ◌++◌, map, Option, Some, None, Less, Equal, Greater, Ordering, refl, ap, sym, ◌∙◌, arith}
+use Rattle.std.proofs.Common.{◌≢◌, ◌≡◌, ◌↔◌, ℕ, ◌<◌, Bool, true, false, cond, nat_lt, ◌==◌, List, [], ◌∷◌, ◌++◌, map, Option, Some, None, Less, Equal, Greater, Ordering, refl, ap, sym, ◌∙◌, arith}
 use Rattle.std.specs.Char.{to_ascii_lowercase}
 use Rattle.std.specs.Cmp.Lexicographic.{slice_cmp, same_text}
 use Rattle.std.specs.Option.{option_map}
@@ -102,3 +102,18 @@ folded_cmp-newer a b one other same newer =
     folded_cmp-parts a b one other
     ∙ ap (λ o. ordering_then o (nat_cmp (version_of a) (version_of b))) ((tied (map fold_case (base_of a)) (map fold_case (base_of b))).1 same)
     ∙ cond-true (nat_lt (version_of a) (version_of b)) Less (cond (version_of a == version_of b) Equal Greater) lower
+
+-- where the bases differ they alone decide
+pub folded_cmp-apart : (a b : List ℕ) → slice_cmp nat_cmp (map to_ascii_lowercase (base_of a)) (map to_ascii_lowercase (base_of b)) ≢ Equal
+    → slice_cmp nat_cmp (map to_ascii_lowercase (base_of a)) (map to_ascii_lowercase (base_of b)) ≡ folded_cmp a b
+folded_cmp-apart a b apart =
+    let folded : slice_cmp nat_cmp (map to_ascii_lowercase (base_of a)) (map to_ascii_lowercase (base_of b)) ≡ slice_cmp nat_cmp (base_of (map fold_case a)) (base_of (map fold_case b)) =
+    λ i. slice_cmp nat_cmp (trans_base a i) (trans_base b i) in
+    folded ∙ first_decides _ _ (λ e. apart (folded ∙ e))
+  where
+    trans_base : (a : List ℕ) → map to_ascii_lowercase (base_of a) ≡ base_of (map fold_case a)
+    trans_base a = map-lowercase (base_of a) ∙ sym (fold_base a)
+    first_decides : (x y : Ordering) → x ≢ Equal → x ≡ ordering_then x y
+    first_decides Less y apart = refl
+    first_decides Greater y apart = refl
+    first_decides Equal y apart = absurd (apart refl)

@@ -179,7 +179,10 @@ impl Name {
         let other_base = other.base();
         let own = base.as_bytes().iter().map(|c| c.to_ascii_lowercase());
         let others = other_base.as_bytes().iter().map(|c| c.to_ascii_lowercase());
-        own.cmp(others).then(self.version().cmp(&other.version()))
+        match own.cmp(others) {
+            Ordering::Equal => self.version().cmp(&other.version()),
+            unequal => unequal,
+        }
     }
 
     /// The name that this one gives way to where it is taken: the first characters of its base,

@@ -12,7 +12,8 @@ pub fn turns_stand()
     ensures { TurnsStand }
 {}
 
-/// After a hint failed a session that drops its streams and needs a scavenge is right for the pack, whatever it keeps of the descriptor and the table.
+/// After a hint failed a session that drops its streams and needs a scavenge is right for the pack, whatever it keeps of the descriptor
+/// and the table.
 pub fn failed_turns_keep()
     ensures { FailedTurnsKeep }
 {}

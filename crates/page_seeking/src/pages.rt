@@ -128,8 +128,8 @@ pub(crate) fn seek_page<D: Disk>(
 /// is written.
 ///
 /// Misled: the named address, or a next link of the file, names no usable sector, or one that doesn't carry the page. Beyond: the file has
-/// no page with this number, since a page before it isn't full; it never comes of pages 0 and 1. DiskFault: the device failed. Memory: no memory was left, which no disk that is modelled answers here. After
-/// each of these what `buf` holds is open.
+/// no page with this number, since a page before it isn't full; it never comes of pages 0 and 1. DiskFault: the device failed. Memory: no
+/// memory was left, which no disk that is modelled answers here. After each of these what `buf` holds is open.
 pub fn locate<D: Disk>(
     disk: &mut D,
     hints: &mut Hints,
