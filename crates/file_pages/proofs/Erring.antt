@@ -9,8 +9,8 @@ use Rattle.label_check.specs.Causes.{cause_of_guard}
 use Rattle.label_check.specs.Guarded.{FoundWrong, IfWrong}
 use Rattle.label_check.specs.declared.errors.GuardError.TheVariants as guard
 use Rattle.label_check.specs.declared.errors.GuardError.{GuardError}
-use Rattle.page_seeking.specs.Causes.{cause_of_length}
-use Rattle.page_seeking.specs.Refs.{IfMisled}
+use Rattle.page_seeking.specs.Causes.{cause_of_file, cause_of_length}
+use Rattle.page_seeking.specs.Refs.{IfBeyond, IfMisled}
 use Rattle.page_seeking.specs.declared.refs.FileError.TheVariants as file
 use Rattle.page_seeking.specs.declared.refs.FileError.{FileError}
 use Rattle.file_pages.specs.Inside.{error_at}
@@ -55,3 +55,10 @@ memory_too T (file.Misled place at wanted found) is = absurd cc
 memory_too T (file.Beyond length) is = absurd cc
 memory_too T file.DiskFault is = absurd cc
 memory_too T file.Memory is = refl
+
+-- an answer that is never Beyond
+pub never_past : (T : Type 0) (a b : Taped) (e : FileError) → IsCause a b (cause_of_file e) → IfBeyond {T = T} (Err e) (λ length. ⊥) → IsCause a b (cause_of_length e)
+never_past T a b (file.Misled place at wanted found) cause never = tt
+never_past T a b (file.Beyond length) cause never = absurd never
+never_past T a b file.DiskFault cause never = cause
+never_past T a b file.Memory cause never = tt

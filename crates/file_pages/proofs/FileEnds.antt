@@ -20,8 +20,8 @@ use Rattle.pack_model.specs.reading.Sights.{sights}
 use Rattle.pack_model.specs.states.Whole.{Whole}
 use Rattle.page_seeking.proofs.Ending.{ranged}
 use Rattle.page_seeking.proofs.Handing.{placed_within}
-use Rattle.page_seeking.specs.Seeking.{LastNamed, Stands, file_length, page_number}
-use Rattle.file_pages.specs.Ends.{IsFileEnd, NamesFileEnd}
+use Rattle.page_seeking.specs.Seeking.{IsLast, LastNamed, Stands, file_length, page_number}
+use Rattle.file_pages.specs.Ends.{NamesFileEnd}
 
 one : {a b : ℕ} → ◌≡◌ {A = Option ℕ} (Some a) (Some b) → a ≡ b
 one e = cc
@@ -65,7 +65,7 @@ module _ (p : Pack) (f : Fid) (n at : ℕ) (info : PageInfo) (whole : Whole p) (
   count = ap (λ (i : PageInfo). i.bytes) tells
 
   -- a page that isn't full is the last
-  pub last_by_label : info.bytes ≢ 512 → IsFileEnd p f (record { at = at; number = n; bytes = info.bytes })
+  pub last_by_label : info.bytes ≢ 512 → IsLast p f (record { number = n; at = at; info = info })
   last_by_label short =
       let most = counted (tag (sector_at p at).label) (ranged p at (page_number f n) carries) in
       let size = length_by_the_last_page p f (n - 1) at (word (sector_at p at).label 3) whole (record { sector = sector; sized = sized; bytes = refl }) (omega (arith, count, most, short)) in

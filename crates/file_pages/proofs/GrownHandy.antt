@@ -17,8 +17,19 @@ use Rattle.pack_model.specs.reading.Sights.{Sight, sights}
 use Rattle.file_pages.specs.Calls.{StaysHandy}
 use Rattle.file_pages.specs.Growing.{Grew, IsAmong, NotesPages, StoodApart}
 
-abbrev IsHandyEntry : List Sight → Fid → Entry → Type 0
+abbrev pub IsHandyEntry : List Sight → Fid → Entry → Type 0
 IsHandyEntry ss f e = e.page.fid ≡ f → IsRightOrIdle ss f e.page.number e.at
+
+-- a handy cache, entry by entry
+pub handy_entries : (ss : List Sight) (g : Fid) (entries : List Entry) → HandyCache ss g (map as_listed entries) → All (IsHandyEntry ss g) entries
+handy_entries ss g [] h = All-nil (IsHandyEntry ss g)
+handy_entries ss g (e ∷ entries) h = All-cons (IsHandyEntry ss g) e entries (h 0 (e.page, e.at) (omega arith)) (handy_entries ss g entries (λ k d lt. h (suc k) d (omega arith)))
+
+pub handy_cache : (ss : List Sight) (g : Fid) (entries : List Entry) → All (IsHandyEntry ss g) entries → HandyCache ss g (map as_listed entries)
+handy_cache ss g entries each = All-map IsRightPair as_listed entries each
+  where
+    IsRightPair : Page × ℕ → Type 0
+    IsRightPair c = c.0.fid ≡ g → IsRightOrIdle ss g c.0.number c.1
 
 -- an entry of a page that came names its sector
 among_placed : (ss : List Sight) (f : Fid) (n : ℕ) (fresh : List ℕ) (e : Entry) → Bear ss f n fresh → IsAmong f n fresh e → (e.page.fid ≡ f) × (place ss f e.page.number ≡ Some e.at)
@@ -54,13 +65,6 @@ module _ (p q : Pack) (f : Fid) (last : ℕ) (fresh : List ℕ) (x : Grew p q f 
   all_stay : (g : Fid) (old : List Entry) → All (IsHandyEntry (sights p) g) old → (now : List Entry) → All (λ e. IsAmong f (suc last) fresh e ⊎ StoodApart f last (last + length fresh) old e) now → All (IsHandyEntry (sights q) g) now
   all_stay g old was now each k d within = entry_stays g old was _ (each k d within)
 
-  handy_entries : (g : Fid) (entries : List Entry) → HandyCache (sights p) g (map as_listed entries) → All (IsHandyEntry (sights p) g) entries
-  handy_entries g [] h = All-nil (IsHandyEntry (sights p) g)
-  handy_entries g (e ∷ entries) h = All-cons (IsHandyEntry (sights p) g) e entries (h 0 (e.page, e.at) (omega arith)) (handy_entries g entries (λ k d lt. h (suc k) d (omega arith)))
-
   pub grown_handy : (old mid now : Cached) → KeepsHandy p old mid → old.refused ≤ mid.refused → NotesPages f last fresh mid now → StaysHandy p q old now
   grown_handy old mid now keeps grows (inr rose) whole links g h = inr (omega (arith, rose, grows))
-  grown_handy old mid now keeps grows (inl each) whole links g h = inl (All-map IsRightPair as_listed now.entries (all_stay g mid.entries (handy_entries g mid.entries (keeps whole links g h)) now.entries each))
-    where
-      IsRightPair : Page × ℕ → Type 0
-      IsRightPair c = c.0.fid ≡ g → IsRightOrIdle (sights q) g c.0.number c.1
+  grown_handy old mid now keeps grows (inl each) whole links g h = inl (handy_cache (sights q) g now.entries (all_stay g mid.entries (handy_entries (sights p) g mid.entries (keeps whole links g h)) now.entries each))

@@ -7,11 +7,10 @@ use Rattle.disk_records.specs.Packs.{Pack, after, carried, sector_at}
 use Rattle.disk_records.specs.Tapes.{DiskAlone, Taped, added, capped, pack}
 use Rattle.disk_records.specs.declared.records.Sector.{Sector}
 use Rattle.disk_records.specs.declared.records.Tally.{Tally}
-use Rattle.laws_call.specs.Acting.{Operates, around}
+use Rattle.laws_call.specs.Acting.{around}
 use Rattle.laws_hint.specs.MapChanges.{marked}
 use Rattle.laws_operation.specs.FileWords.{CanGrow}
 use Rattle.page_seeking.specs.Seeking.{Stands, file_length, page_number}
-use Rattle.page_seeking.specs.declared.refs.FileError.TheVariants as file
 use Rattle.page_seeking.specs.declared.refs.FileError.{FileError}
 use Rattle.pack_model.specs.operations.Commands.{claims_of, claims_writes, grown_claims, grown_label, grown_value, past_last}
 use Rattle.pack_model.specs.operations.Committing.{page_of_byte}
@@ -19,11 +18,11 @@ use Rattle.pack_model.specs.operations.PageWords.{link_to_first, relabelled}
 use Rattle.pack_model.specs.operations.Step.{Operation}
 use Rattle.pack_model.specs.reading.Bytes.{bytes_of, put_at, words_of}
 use Rattle.pack_model.specs.states.Whole.{Tidy, Whole}
-use Rattle.file_pages.proofs.Growth.{all_written, claims_failed, page_committed}
+use Rattle.file_pages.proofs.Growth.{all_written, claims_failed, claims_first, page_committed, page_first}
 use Rattle.file_pages.proofs.GrownFile.{grew}
 use Rattle.file_pages.proofs.GrowthWords.{IsGrown, can_claim, can_grow, counted_bytes, first_bytes, is_grown, other_bytes, words_fit}
 use Rattle.file_pages.proofs.LastLabel.{carried_after_claims}
-use Rattle.file_pages.specs.Growing.{CanClaim, Commits, Grew, Makes, MayBeGrown}
+use Rattle.file_pages.specs.Growing.{CanClaim, Commits, Grew, GrowsWith, Makes, MayBeGrown}
 use Rattle.page_seeking.specs.Seeking.{IsLast}
 use Rattle.page_seeking.specs.declared.ends.LastPage.{LastPage}
 
@@ -91,29 +90,40 @@ module _ (a : Taped) (o : Operation) (f : Fid) (last : LastPage) (buffer : Secto
         (h (subst (λ (l : List ℕ). CanClaim (pack a) last.number l past fresh) (sym same) may_claim))
 
     -- a claim failed
-    pub not_claimed : (e : FileError) → Makes (claims_writes (claims_of a.form f (suc last.number) last.at (drop count new) past fresh)) (2 * length fresh) a c (Err e) → Operates {T = Unit {0}} file.DiskFault file.Memory o fresh (around a bits t) (around c bits t) (Err e)
-    not_claimed e makes = claims_failed a c o f b last.at new past fresh (drop count new) (suc last.number) grown claims_are bits t e makes
+    pub not_claimed : (e : FileError) → Makes (claims_writes (claims_of a.form f (suc last.number) last.at (drop count new) past fresh)) (2 * length fresh) a c (Err e) → GrowsWith o f last.at new past fresh (around a bits t) (around c bits t) (Err e)
+    not_claimed e makes = record {
+      operates = claims_failed a c o f b last.at new past fresh (drop count new) (suc last.number) grown claims_are bits t e makes;
+      writes = claims_first a c o f b last.at new past fresh (drop count new) (suc last.number) grown claims_are bits t e makes;
+    }
 
     module _ (done : added a c ≡ claims_writes (claims_of a.form f (suc last.number) last.at (drop count new) past fresh)) where
       -- the page is there still
       pub still_there : carried (pack c) last.at ≡ Some (page_number f last.number)
       still_there = carried_after_claims (pack a) (pack c) a.form f past fresh (suc last.number) last.at (drop count new) last.at (page_number f last.number) (pack-after one.grown ∙ ap (after (pack a)) done) x.stands.carries x.may.free
 
+      -- its words are those of the growth
+      grown_commits : (d : Taped) (label value words : List ℕ) (bytes next : ℕ) → label ≡ relabelled buffer.label bytes next → bytes ≡ last.info.bytes + count → next ≡ link_to_first a.form fresh → value ≡ words_of (put_at last.info.bytes (take count new ++ bytes_of words) (bytes_of buffer.value)) → words ≡ past_last past fresh
+          → (u : Tally) (result : Result (Unit {0}) FileError) → Commits last.at label value c d t u result → Commits last.at (grown_label a.form (file_length (pack a) f) new fresh (sector_at (pack a) last.at).label) (grown_value (file_length (pack a) f) new past fresh (sector_at (pack a) last.at).value) c d t u result
+      grown_commits d label value words bytes next is_label many link is_value same u result commits =
+          subst (λ (v : List ℕ). Commits last.at (grown_label a.form (file_length (pack a) f) new fresh (sector_at (pack a) last.at).label) v c d t u result) (value_is value words is_value same)
+          (subst (λ (l : List ℕ). Commits last.at l value c d t u result) (label_is label bytes next is_label many link) commits)
+
       -- the page was written, or not
       pub operated : (d : Taped) (two : DiskAlone c d) → a.writes ≡ capped (writes_in a.events) → c.writes ≡ capped (writes_in c.events) → t.limit < 2 ^ 64 → (label value words : List ℕ) (bytes next : ℕ) → label ≡ relabelled buffer.label bytes next → bytes ≡ last.info.bytes + count → next ≡ link_to_first a.form fresh
           → value ≡ words_of (put_at last.info.bytes (take count new ++ bytes_of words) (bytes_of buffer.value)) → words ≡ past_last past fresh → (now : List Bool) (u : Tally) (result : Result (Unit {0}) FileError) → Commits last.at label value c d t u result → OnOk result (now ≡ marked true fresh bits)
-          → Operates file.DiskFault file.Memory o fresh (around a bits t) (around d now u) result
+          → GrowsWith o f last.at new past fresh (around a bits t) (around d now u) result
       operated d two first mid limit label value words bytes next is_label many link is_value same now u result commits table =
-          page_committed a c o f b last.at new past fresh (drop count new) (suc last.number) grown claims_are bits t d one two done first mid limit now u result
-          (subst (λ (v : List ℕ). Commits last.at (grown_label a.form (file_length (pack a) f) new fresh (sector_at (pack a) last.at).label) v c d t u result) (value_is value words is_value same)
-          (subst (λ (l : List ℕ). Commits last.at l value c d t u result) (label_is label bytes next is_label many link) commits)) table
+          let now_grown = grown_commits d label value words bytes next is_label many link is_value same u result commits in
+          record {
+            operates = page_committed a c o f b last.at new past fresh (drop count new) (suc last.number) grown claims_are bits t d one two done first mid limit now u result now_grown table;
+            writes = page_first a c o f b last.at new past fresh (drop count new) (suc last.number) grown claims_are bits t d one two done first mid limit result now_grown.makes;
+          }
 
       -- it was written: the pages are there
       pub grew_then : (d : Taped) (two : DiskAlone c d) → a.writes ≡ capped (writes_in a.events) → c.writes ≡ capped (writes_in c.events) → t.limit < 2 ^ 64 → (label value words : List ℕ) (bytes next : ℕ) → label ≡ relabelled buffer.label bytes next → bytes ≡ last.info.bytes + count → next ≡ link_to_first a.form fresh
           → value ≡ words_of (put_at last.info.bytes (take count new ++ bytes_of words) (bytes_of buffer.value)) → words ≡ past_last past fresh → (u : Tally) → Commits last.at label value c d t u (Ok tt) → Grew (pack a) (pack d) f last.number fresh
       grew_then d two first mid limit label value words bytes next is_label many link is_value same u commits =
-          let now = subst (λ (v : List ℕ). Commits last.at (grown_label a.form (file_length (pack a) f) new fresh (sector_at (pack a) last.at).label) v c d t u (Ok tt)) (value_is value words is_value same)
-          (subst (λ (l : List ℕ). Commits last.at l value c d t u (Ok tt)) (label_is label bytes next is_label many link) commits) in
+          let now = grown_commits d label value words bytes next is_label many link is_value same u (Ok tt) commits in
           let all = all_written a c o f b last.at new past fresh (drop count new) (suc last.number) grown claims_are bits t d one two done first mid limit now.makes.all in
           subst (λ n. Grew (pack a) (pack d) f n fresh) (sym number)
           (subst (λ (q : Pack). Grew (pack a) q f (page_of_byte (file_length (pack a) f)) fresh) (sym (pack-after (grown_twice one.grown two.grown) ∙ ap (after (pack a)) all)) (grew (pack a) f last.at new past fresh x.whole x.tidy can o x.may.growth))

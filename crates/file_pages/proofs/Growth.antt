@@ -27,7 +27,7 @@ use Rattle.page_seeking.specs.declared.refs.FileError.{FileError}
 use Rattle.file_pages.proofs.ClaimRow.{claims_many, claims_written}
 use Rattle.file_pages.proofs.Counting.{effect_by_the_count, first_length}
 use Rattle.file_pages.proofs.GrowthWords.{IsGrown}
-use Rattle.file_pages.specs.Growing.{Commits, Makes, counted_second}
+use Rattle.file_pages.specs.Growing.{Commits, Makes, WritesAs, counted_second}
 
 -- ---- the tally
 claims_quiet : (fresh : List ℕ) → operations_in (claims_moves fresh) ≡ 0
@@ -81,6 +81,10 @@ module _ (a b : Taped) (o : Operation) (f : Fid) (n at : ℕ) (new past fresh by
   all_long : length (grown_writes (pack a) f n at new past fresh) ≡ 3 * length fresh + 3
   all_long = ap length (sym all_are) ∙ length-append claimed (claim_writes at label value) ∙ ap (λ k. k + 3) long
 
+  -- record writes of the claims alone
+  pub claims_first : (e : FileError) → Makes (claims_writes (claims_of a.form f number at bytes past fresh)) (2 * length fresh) a b (Err e) → WritesAs {T = Unit {0}} (grown_writes (pack a) f n at new past fresh) (added a b) (Err e)
+  claims_first e makes = record { some = subst (λ l. IsFirstOf l (added a b)) all_are (first_front claimed (claim_writes at label value) (added a b) makes.some); all = tt }
+
   -- a claim failed
   pub claims_failed : (e : FileError) → Makes (claims_writes (claims_of a.form f number at bytes past fresh)) (2 * length fresh) a b (Err e)
       → Operates {T = Unit {0}} file.DiskFault file.Memory o fresh (around a bits t) (around b bits t) (Err e)
@@ -91,7 +95,7 @@ module _ (a b : Taped) (o : Operation) (f : Fid) (n at : ℕ) (new past fresh by
         released = [];
         exact = is.exact;
         acts = is.acts;
-        some = subst (λ l. IsFirstOf l (added a b)) all_are (first_front claimed (claim_writes at label value) (added a b) makes.some);
+        some = (claims_first e makes).some;
         all = tt;
         table = tt;
         counts = λ tells. sym (ap (λ (l : List Move). counted a.writes (take (length (added a b)) l) t) is.moves ∙ few_counted o fresh a.writes (length (added a b)) t (omega (arith, few, long)));
@@ -122,24 +126,29 @@ module _ (a b : Taped) (o : Operation) (f : Fid) (n at : ℕ) (new past fresh by
     pub all_written : added b c ≡ claim_writes at (grown_label a.form n new fresh (sector_at (pack a) at).label) (grown_value n new past fresh (sector_at (pack a) at).value) → added a c ≡ grown_writes (pack a) f n at new past fresh
     all_written all = both ∙ ap (λ l. l ++ added b c) done ∙ ap (λ l. claimed ++ l) all ∙ all_are
 
+    -- and of the old last page
+    pub page_first : (result : Result (Unit {0}) FileError) → Makes (claim_writes at (grown_label a.form n new fresh (sector_at (pack a) at).label) (grown_value n new past fresh (sector_at (pack a) at).value)) 4 b c result → WritesAs (grown_writes (pack a) f n at new past fresh) (added a c) result
+    page_first result makes = record { some = some_then makes.some; all = all_then result makes.all }
+      where
+        all_then : (result : Result (Unit {0}) FileError) → OnOk result (added b c ≡ claim_writes at (grown_label a.form n new fresh (sector_at (pack a) at).label) (grown_value n new past fresh (sector_at (pack a) at).value)) → OnOk result (added a c ≡ grown_writes (pack a) f n at new past fresh)
+        all_then (Ok x) all = all_written all
+        all_then (Err e) all = tt
+
     -- the old last page was written, or not
     pub page_committed : (now : List Bool) (u : Tally) (result : Result (Unit {0}) FileError) → Commits at (grown_label a.form n new fresh (sector_at (pack a) at).label) (grown_value n new past fresh (sector_at (pack a) at).value) b c t u result
         → OnOk result (now ≡ marked true fresh bits) → Operates file.DiskFault file.Memory o fresh (around a bits t) (around c now u) result
     page_committed now u result x table =
         let spare = one.grown.spare in
         let put = ap length done in
+        let first_ones = page_first result x.makes in
         begun (record {
           writes = grown_writes (pack a) f n at new past fresh;
           released = [];
           exact = is.exact;
           acts = is.acts;
-          some = some_then x.makes.some;
-          all = all_then result x.makes.all;
+          some = first_ones.some;
+          all = first_ones.all;
           table = table;
           counts = λ tells. counts_then u (x.counts tells) ∙ ap (λ (l : List Move). counted a.writes (take (length (added a c)) l) t) (sym is.moves);
           out_of_memory = λ memory. let less = x.makes.out_of_memory memory in omega (arith, less, long, all_long, spare, put);
         })
-      where
-        all_then : (result : Result (Unit {0}) FileError) → OnOk result (added b c ≡ claim_writes at (grown_label a.form n new fresh (sector_at (pack a) at).label) (grown_value n new past fresh (sector_at (pack a) at).value)) → OnOk result (added a c ≡ grown_writes (pack a) f n at new past fresh)
-        all_then (Ok x) all = all_written all
-        all_then (Err e) all = tt

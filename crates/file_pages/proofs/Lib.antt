@@ -15,9 +15,11 @@ mod GrownFile
 mod GrownHandy
 mod GrownPages
 mod Growth
+mod GrowthAfter
 mod GrowthWords
 mod LastLabel
 mod LastWrites
+mod MadeHandy
 mod MakeMoves
 mod NewNotes
 mod OneWrite

@@ -33,8 +33,14 @@ without_all page P Q (e ∷ entries) h f = by (without_all page P Q entries (All
     by rest true is = subst (λ b. All Q (cond (not b) (e ∷ without page entries) (without page entries))) (sym is) rest
     by rest false is = subst (λ b. All Q (cond (not b) (e ∷ without page entries) (without page entries))) (sym is) (All-cons Q e (without page entries) (f e (All-head P e entries h) is) rest)
 
+-- what holds of the new entry and of each old one of another page
+pub noted_each : (page : Page) (at : ℕ) (P Q : Entry → Type 0) (entries : List Entry) → Q (record { page = page; at = at }) → All P entries → ((e : Entry) → P e → is_page e.page page ≡ false → Q e) → All Q (noted page at entries)
+noted_each page at P Q entries front each f =
+    let first : Entry = record { page = page; at = at } in
+    All-take Q 48 (first ∷ without page entries) (All-cons Q first (without page entries) front (without_all page P Q entries each f))
+
 -- another page of the file has another number
-other_number : (page : Page) (f : Fid) (n : ℕ) → is_page page (page_number f n) ≡ false → page.fid ≡ f → page.number ≡ n → ⊥
+pub other_number : (page : Page) (f : Fid) (n : ℕ) → is_page page (page_number f n) ≡ false → page.fid ≡ f → page.number ≡ n → ⊥
 other_number page f n other own number =
     let same : page ≡ page_number f n = (λ i. record { fid = own i; number = number i }) in
     let both : true ≡ false = sym (is_page-itself (page_number f n)) ∙ ap (λ (p : Page). is_page p (page_number f n)) (sym same) ∙ other in
@@ -62,7 +68,7 @@ module _ (f : Fid) (last : ℕ) (fresh : List ℕ) (before at : ℕ) (later : Li
           past own (inr high) = inr (let not_next = other_number e.page f (suc before) other own in omega (arith, high, not_next))
 
       all : All Q (noted (page_number f (suc before)) at a.entries)
-      all = All-take Q 48 (front ∷ without (page_number f (suc before)) a.entries) (All-cons Q front (without (page_number f (suc before)) a.entries) (inl (x.others front (inl refl))) (without_all (page_number f (suc before)) P Q a.entries x.each keep))
+      all = noted_each (page_number f (suc before)) at P Q a.entries (inl (x.others front (inl refl))) x.each keep
 
 -- one more, unless a note was refused
 pub noted_on : (f : Fid) (last : ℕ) (fresh : List ℕ) (before at : ℕ) (later : List ℕ) (old a b : Cached) → old.refused ≤ a.refused → NotedSoFar f last fresh before (at ∷ later) old.entries a.entries ⊎ Refused old a → NotesOne (page_number f (suc before)) at a b

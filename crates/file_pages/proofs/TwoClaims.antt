@@ -24,6 +24,8 @@ use Rattle.laws_call.proofs.acting.Laws.{acts_of_each_operation}
 use Rattle.laws_call.specs.Acting.{Operates, around, begun}
 use Rattle.laws_call.specs.Writing.{makes}
 use Rattle.laws_hint.specs.MapChanges.{marked}
+use Rattle.laws_lookup.proofs.others.Laws.{make_leaves_others}
+use Rattle.laws_lookup.specs.OtherLaws.{LeavesOthers}
 use Rattle.laws_operation.proofs.grow.Laws.{claims_keep_unclaimed_free}
 use Rattle.laws_operation.proofs.make.Laws.{make_places_its_pages, make_words_fit}
 use Rattle.laws_operation.specs.PlaceLaws.{HasTwoPages}
@@ -90,6 +92,12 @@ module _ (a b : Taped) (bits : List Bool) (f : Fid) (name : List ℕ) (moment le
     make_placed wrote =
         subst (λ p. HasTwoPages p f leader_at page_at) (sym (pack-after (grown_twice one.grown two.grown) ∙ ap (after (pack a)) (make_wrote wrote)))
         (make_places_its_pages (pack a) f name moment page leader may.whole may.tidy (make_words_fit (pack a) f name moment leader_at page_at may.can))
+
+    -- and all other files are as they were
+    pub make_others : added b c ≡ claim_writes leader_at (leader_claim (pack a).shape f name moment leader_at page_at).label (leader_claim (pack a).shape f name moment leader_at page_at).value → LeavesOthers f (pack a) (pack c)
+    make_others wrote =
+        subst (λ p. LeavesOthers f (pack a) p) (sym (pack-after (grown_twice one.grown two.grown) ∙ ap (after (pack a)) (make_wrote wrote)))
+        (make_leaves_others (pack a) f name moment page leader may.whole may.tidy (make_words_fit (pack a) f name moment leader_at page_at may.can))
 
     module _ (first : a.writes ≡ capped (writes_in a.events)) (mid : b.writes ≡ capped (writes_in b.events)) (last : c.writes ≡ capped (writes_in c.events)) where
       later : (events : List Event) (at : ℕ) (label value : List ℕ) → IsFirstOf (claim_writes at label value) events → writes_in events ≡ length events

@@ -1,5 +1,5 @@
 -- What a caller of a call that writes sees.
-use Rattle.std.specs.Prelude.{List, [], ℕ, ◌≡◌, ◌⊎◌}
+use Rattle.std.specs.Prelude.{List, Some, [], ℕ, ◌≡◌, ◌⊎◌}
 use Rattle.disk_records.specs.declared.records.Event.{Event}
 use Rattle.alto_words.specs.declared.fid.Fid.{Fid}
 use Rattle.disk_records.specs.Packs.{Pack}
@@ -12,11 +12,11 @@ use Rattle.pack_model.specs.states.Whole.{Tidy, Whole}
 use Rattle.laws_call.specs.Acting.{Acts}
 use Rattle.laws_call.specs.Writing.{Written}
 use Rattle.laws_operation.specs.FileWords.{CanMake}
-use Rattle.hint_cache.specs.Caches.{Cached}
+use Rattle.hint_cache.specs.Caches.{Cached, address_in}
 use Rattle.pack_model.specs.hints.Handy.{HandyCache}
 use Rattle.pack_model.specs.hints.Links.{LinksTrue}
 use Rattle.pack_model.specs.reading.Sights.{sights}
-use Rattle.page_seeking.specs.Seeking.{Refused, all_listed}
+use Rattle.page_seeking.specs.Seeking.{Refused, all_listed, page_number}
 
 -- ---- make
 abbrev pub to_make : Fid → List ℕ → ℕ → Operation
@@ -27,6 +27,10 @@ pub record MayBeMade (p : Pack) (f : Fid) (name : List ℕ) (leader_at page_at :
   pub whole : Whole p
   pub tidy : Tidy p
   pub can : CanMake p f name leader_at page_at
+
+-- Each page of the new file is listed with its sector, unless a note was refused.
+abbrev pub ListsTwoPages : Fid → ℕ → ℕ → Cached → Cached → Type 0
+ListsTwoPages f leader_at page_at old new = ((address_in new.entries (page_number f 0) ≡ Some leader_at) × (address_in new.entries (page_number f 1) ≡ Some page_at)) ⊎ Refused old new
 
 -- ---- one value
 -- The operation is these record writes, of which there is one, which commits it; they claim and release nothing.

@@ -1,5 +1,5 @@
--- The last page of a file.
-use Rattle.std.specs.Prelude.{List, Some, ℕ, ◌%◌, ◌≡◌}
+-- The last page of a file, by its leader.
+use Rattle.std.specs.Prelude.{List, Some, ℕ, ◌≡◌}
 use Rattle.alto_words.specs.declared.fid.Fid.{Fid}
 use Rattle.disk_records.specs.Packs.{Pack}
 use Rattle.disk_records.specs.Words.{word}
@@ -8,13 +8,6 @@ use Rattle.pack_model.specs.operations.Committing.{page_of_byte}
 use Rattle.pack_model.specs.reading.Files.{place}
 use Rattle.pack_model.specs.reading.Sights.{sights}
 use Rattle.page_seeking.specs.Seeking.{file_length}
-use Rattle.file_pages.specs.declared.ends.FileEnd.{FileEnd}
-
--- It is the last page of this file: by the file's length, and in its place.
-pub record IsFileEnd (p : Pack) (f : Fid) (end : FileEnd) : Type 0 where
-  pub number : end.number ≡ page_of_byte (file_length p f)
-  pub bytes : end.bytes ≡ file_length p f % 512
-  pub placed : place (sights p) f end.number ≡ Some end.at
 
 -- The words of a leader name the last page of this file, and its place.
 pub record NamesFileEnd (p : Pack) (f : Fid) (leader : List ℕ) : Type 0 where

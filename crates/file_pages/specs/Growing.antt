@@ -8,13 +8,15 @@ use Rattle.disk_records.specs.Commands.{claim_writes}
 use Rattle.disk_records.specs.Events.{IsFirstOf}
 use Rattle.disk_records.specs.Labels.{label_of}
 use Rattle.disk_records.specs.Packs.{Pack, is_free_at}
-use Rattle.disk_records.specs.Tapes.{Taped, added}
+use Rattle.disk_records.specs.Tapes.{Taped, added, pack}
 use Rattle.disk_records.specs.declared.records.Event.{Event}
 use Rattle.disk_records.specs.declared.records.Page.{Page}
 use Rattle.disk_records.specs.declared.records.Tally.{Tally}
 use Rattle.disk_records.specs.declared.shape.Shape.{Shape}
 use Rattle.hint_cache.specs.Caches.{Cached, noted}
 use Rattle.hint_cache.specs.declared.cache.Entry.{Entry}
+use Rattle.laws_call.specs.Acting.{Around, Operates}
+use Rattle.laws_call.specs.Writing.{grown_writes}
 use Rattle.laws_lookup.specs.OtherLaws.{KeepsPages, LeavesOthers}
 use Rattle.laws_operation.specs.ByteLaws.{Bear, IsOrdinary}
 use Rattle.page_seeking.specs.Seeking.{Refused, file_length, page_number}
@@ -90,6 +92,21 @@ pub record Makes (writes : List Event) (most : ℕ) (old new : Taped) (result : 
   pub out_of_memory : IsErrOf result Memory → old.spare < length writes
   pub runs : new.runs ≤ old.runs + most
 
+-- ---- the record writes
+-- for every answer these are a prefix of the record writes, at Ok all of them
+pub record WritesAs {T : Type 0} (writes events : List Event) (result : Result T FileError) : Type 0 where
+  pub some : IsFirstOf writes events
+  pub all : OnOk result (events ≡ writes)
+
+-- all record writes of a growth of the file by these bytes, with these words after them, whose last page is in this sector
+abbrev pub growth_writes : Pack → Fid → ℕ → List ℕ → List ℕ → List ℕ → List Event
+growth_writes p f at new past fresh = grown_writes p f (file_length p f) at new past fresh
+
+-- The call is to do the operation, by these record writes.
+pub record GrowsWith (o : Operation) (f : Fid) (at : ℕ) (new past fresh : List ℕ) (old now : Around) (result : Result (Unit {0}) FileError) : Type 0 where
+  pub operates : Operates DiskFault Memory o fresh old now result
+  pub writes : WritesAs (growth_writes (pack old.tape) f at new past fresh) (added old.tape now.tape) result
+
 -- ---- the old last page
 -- a machine had so many record writes, and then made n ones of which the second commits an operation
 abbrev pub counted_second : ℕ → ℕ → Tally → Tally
@@ -105,6 +122,10 @@ pub record Commits (at : ℕ) (label value : List ℕ) (old new : Taped) (before
 pub record NotesOne (page : Page) (at : ℕ) (old new : Cached) : Type 0 where
   pub entries : (new.entries ≡ noted page at old.entries) ⊎ Refused old new
   pub grows : old.refused ≤ new.refused
+
+-- page 1 of a new file was noted in its sector, and then the leader, unless a note was refused
+abbrev pub NotesTwo : Fid → ℕ → ℕ → Cached → Cached → Type 0
+NotesTwo f leader_at page_at old new = (new.entries ≡ noted (page_number f 0) leader_at (noted (page_number f 1) page_at old.entries)) ⊎ Refused old new
 
 -- the entry is one of these: page n of f in the first of these sectors, page n + 1 in the next, and so on
 abbrev pub IsAmong : Fid → ℕ → List ℕ → Entry → Type 0

@@ -10,8 +10,8 @@ ghost use Rattle.laws_hint.specs.MapChanges.{marked};
 ghost use Rattle.hint_cache.specs.Caches.{address_in};
 ghost use Rattle.pack_model.specs.operations.Committing.{page_of_byte};
 ghost use Rattle.pack_model.specs.states.Whole.{Whole};
-ghost use Rattle.page_seeking.specs.Causes.{cause_of_file, cause_of_length};
-ghost use Rattle.page_seeking.specs.Refs.{FileStands, IfBeyond, IfMisled, MisledBy};
+ghost use Rattle.page_seeking.specs.Causes.{cause_of_length};
+ghost use Rattle.page_seeking.specs.Refs.{FileStands, IfMisled, MisledBy};
 ghost use Rattle.page_seeking.specs.Seeking.{file_length, page_number};
 ghost use Rattle.page_seeking.specs.declared.refs.FileError.TheVariants as error;
 ghost use Rattle.file_pages.specs.Cutting.{IsRead};
@@ -106,8 +106,7 @@ pub fn drop_file<D: Disk>(
     requires sized { length hints.old.table ≡ pages_of (D.tape disk.old).form }
     ensures releases { IsTrue D.told → FileStands (pack (D.tape disk.old)) file.now → MayBeDropped (pack (D.tape disk.old)) file.now.fid → Releases error.DiskFault error.Memory file.now.fid (around (D.tape disk.old) hints.old.table tally.old) (around (D.tape disk.new) hints.new.table tally.new) result }
     ensures misled { IsTrue D.told → FileStands (pack (D.tape disk.old)) file.now → IfMisled result (MisledBy (pack (D.tape disk.old)) (added (D.tape disk.old) (D.tape disk.new)) file.now.fid) }
-    ensures never_beyond { IsTrue D.told → FileStands (pack (D.tape disk.old)) file.now → IfBeyond result (λ length. ⊥) }
-    ensures cause { HasCause cause_of_file (D.tape disk.old) (D.tape disk.new) result }
+    ensures cause { HasCause cause_of_length (D.tape disk.old) (D.tape disk.new) result }
     ensures alone { DiskAlone (D.tape disk.old) (D.tape disk.new) }
     ensures sized { length hints.new.table ≡ length hints.old.table }
     ensures refused { hints.old.cache.refused ≤ hints.new.cache.refused }

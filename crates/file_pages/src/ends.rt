@@ -4,37 +4,25 @@ ghost use Rattle.disk_records.specs.Addresses.{pages_of};
 ghost use Rattle.disk_records.specs.Causes.{HasCause};
 ghost use Rattle.disk_records.specs.Packs.{carried, sector_at};
 ghost use Rattle.disk_records.specs.Tapes.{Looks, pack};
-ghost use Rattle.page_seeking.specs.Causes.{cause_of_file, cause_of_length};
-ghost use Rattle.page_seeking.specs.Refs.{FileStands, IfBeyond, IfMisled, MisledBy};
-ghost use Rattle.page_seeking.specs.Seeking.{KeepsHandy, LastNamed, Quick, page_number};
+ghost use Rattle.page_seeking.specs.Causes.{cause_of_length};
+ghost use Rattle.page_seeking.specs.Refs.{FileStands, IfMisled, MisledBy};
+ghost use Rattle.page_seeking.specs.Seeking.{IsLast, KeepsHandy, LastNamed, Quick, page_number};
 ghost use Rattle.page_seeking.specs.declared.refs.FileError.TheVariants as error;
 ghost use Rattle.pack_model.specs.states.Whole.{Whole};
-ghost use Rattle.file_pages.specs.Ends.{IsFileEnd, NamesFileEnd};
+ghost use Rattle.file_pages.specs.Ends.{NamesFileEnd};
 
-use crate::putting::page_number_of;
 use crate::refs::page_of_file;
 use crate::{FileError, FileRef};
 use alto_words::Fid;
 use disk_records::{Disk, PAGE_BYTES, Sector};
 use hint_cache::Hints;
 use label_check::{GuardError, read_page};
-use page_seeking::{length, locate};
+use page_seeking::{LastPage, last_page, locate};
 
 /// The words of a leader page with the address and the number of the last page.
 const LAST_AT: usize = 253;
 
 const LAST_NUMBER: usize = 254;
-
-/// The last page of a file.
-#[derive(Clone, Copy, Debug, PartialEq, Eq)]
-pub(crate) struct FileEnd {
-    /// The virtual address of its sector.
-    pub at: u16,
-    /// Its number, from 1.
-    pub number: u16,
-    /// The bytes that count in it, fewer than 512.
-    pub bytes: u16,
-}
 
 /// The last page of a file, if it is where a leader with this value says. At most one sector command; what `buf` holds is open.
 fn named_end<D: Disk>(
@@ -42,8 +30,8 @@ fn named_end<D: Disk>(
     fid: Fid,
     leader: &[u16; 256],
     buf: &mut Sector,
-) -> Result<Option<FileEnd>, FileError>
-    ensures end { IsTrue D.told → Whole (pack (D.tape disk.old)) → IfOk result (λ found. IfSome found (IsFileEnd (pack (D.tape disk.old)) fid)) }
+) -> Result<Option<LastPage>, FileError>
+    ensures end { IsTrue D.told → Whole (pack (D.tape disk.old)) → IfOk result (λ found. IfSome found (IsLast (pack (D.tape disk.old)) fid)) }
     ensures there { IsTrue D.told → Whole (pack (D.tape disk.old)) → NamesFileEnd (pack (D.tape disk.old)) fid leader.now → IfOk result (λ found. found ≢ None) }
     ensures misled { IfMisled result (λ place at wanted found. ⊥) }
     ensures cause { HasCause cause_of_length (D.tape disk.old) (D.tape disk.new) result }
@@ -57,12 +45,11 @@ fn named_end<D: Disk>(
     }
     match read_page(disk, at, page_of_file(fid, number), buf) {
         Ok(info) => {
-            let bytes = info.bytes;
             // a full page isn't the last
-            if bytes == PAGE_BYTES {
+            if info.bytes == PAGE_BYTES {
                 Ok(None)
             } else {
-                Ok(Some(FileEnd { at, number, bytes }))
+                Ok(Some(LastPage { number, at, info }))
             }
         }
         Err(GuardError::Wrong { .. }) => Ok(None),
@@ -71,60 +58,25 @@ fn named_end<D: Disk>(
     }
 }
 
-/// Locates the last page of a file by the file's length.
-fn seek_end<D: Disk>(
-    disk: &mut D,
-    hints: &mut Hints,
-    file: &FileRef,
-    buf: &mut Sector,
-) -> Result<FileEnd, FileError>
-    ensures end { IsTrue D.told → Whole (pack (D.tape disk.old)) → IfOk result (IsFileEnd (pack (D.tape disk.old)) file.now.fid) }
-    ensures misled { IsTrue D.told → FileStands (pack (D.tape disk.old)) file.now → IfMisled result (MisledBy (pack (D.tape disk.old)) [] file.now.fid) }
-    ensures never_beyond { IsTrue D.told → Whole (pack (D.tape disk.old)) → IfBeyond result (λ length. ⊥) }
-    ensures cause { HasCause cause_of_file (D.tape disk.old) (D.tape disk.new) result }
-    ensures want { IsTrue D.told → IsErrOf result error.Memory → ⊥ }
-    ensures looks { Looks D.told 131174 (D.tape disk.old) (D.tape disk.new) }
-    ensures table { hints.new.table ≡ hints.old.table }
-    ensures refused { hints.old.cache.refused ≤ hints.new.cache.refused }
-    ensures handy { IsTrue D.told → KeepsHandy (pack (D.tape disk.old)) hints.old.cache hints.new.cache }
-{
-    let size = match length(disk, hints, file, buf) {
-        Ok(size) => size,
-        Err(error) => return Err(error),
-    };
-    let Some(number) = page_number_of(size) else {
-        return Err(FileError::Beyond { length: size });
-    };
-    match locate(disk, hints, file, number, buf) {
-        Ok((at, _)) => Ok(FileEnd {
-            at,
-            number,
-            bytes: (size % PAGE_BYTES as u32) as u16,
-        }),
-        Err(error) => Err(error),
-    }
-}
-
-/// Locates a file's leader and its last page, which is sought where the leader says and else by the file's length: the virtual address of the
-/// leader, and the last page. `leader` gets the leader's value; what `buf` holds is open.
+/// Locates a file's leader and its last page, which is sought where the leader says and else by the file's links: the virtual address of the leader,
+/// and the last page. `leader` gets the leader's value; what `buf` holds is open.
 pub(crate) fn locate_ends<D: Disk>(
     disk: &mut D,
     hints: &mut Hints,
     file: &FileRef,
     leader: &mut [u16; 256],
     buf: &mut Sector,
-) -> Result<(u16, FileEnd), FileError>
+) -> Result<(u16, LastPage), FileError>
     ensures first { IfOk result (λ found. 1 ≤ found.0) }
     ensures place { IfOk result (λ found. found.0 < pages_of (D.tape disk.old).form) }
     ensures sized { OnOk result (length leader.new ≡ 256) }
     ensures carries { IsTrue D.told → IfOk result (λ found. carried (pack (D.tape disk.old)) found.0 ≡ Some (page_number file.now.fid 0)) }
     ensures value { IsTrue D.told → IfOk result (λ found. leader.new ≡ (sector_at (pack (D.tape disk.old)) found.0).value) }
-    ensures end { IsTrue D.told → Whole (pack (D.tape disk.old)) → IfOk result (λ found. IsFileEnd (pack (D.tape disk.old)) file.now.fid found.1) }
+    ensures end { IsTrue D.told → Whole (pack (D.tape disk.old)) → IfOk result (λ found. IsLast (pack (D.tape disk.old)) file.now.fid found.1) }
     ensures misled { IsTrue D.told → FileStands (pack (D.tape disk.old)) file.now → IfMisled result (MisledBy (pack (D.tape disk.old)) [] file.now.fid) }
-    ensures never_beyond { IsTrue D.told → Whole (pack (D.tape disk.old)) → IfBeyond result (λ length. ⊥) }
-    ensures cause { HasCause cause_of_file (D.tape disk.old) (D.tape disk.new) result }
+    ensures cause { HasCause cause_of_length (D.tape disk.old) (D.tape disk.new) result }
     ensures want { IsTrue D.told → IsErrOf result error.Memory → ⊥ }
-    ensures looks { Looks D.told 131228 (D.tape disk.old) (D.tape disk.new) }
+    ensures looks { Looks D.told 65640 (D.tape disk.old) (D.tape disk.new) }
     ensures quick { IsTrue D.told → Quick (pack (D.tape disk.old)) file.now.fid hints.old.cache → LastNamed (pack (D.tape disk.old)) file.now.fid → OnOk result ((D.tape disk.new).runs ≤ (D.tape disk.old).runs + 2) }
     ensures table { hints.new.table ≡ hints.old.table }
     ensures refused { hints.old.cache.refused ≤ hints.new.cache.refused }
@@ -137,7 +89,7 @@ pub(crate) fn locate_ends<D: Disk>(
     *leader = buf.value;
     match named_end(disk, file.fid, leader, buf) {
         Ok(Some(end)) => Ok((at, end)),
-        Ok(None) => match seek_end(disk, hints, file, buf) {
+        Ok(None) => match last_page(disk, hints, file, buf) {
             Ok(end) => Ok((at, end)),
             Err(error) => Err(error),
         },

@@ -1,18 +1,21 @@
 // More bytes after those of a file.
-ghost use Rattle.std.specs.Prelude.{◌≡◌, ◌+◌, ◌*◌, ◌<◌, ◌≤◌, ◌⊎◌, All, IfNone, IfSome, IsTrue, OnOk, [], false, length, true};
+ghost use Rattle.std.specs.Prelude.{◌≡◌, ◌+◌, ◌*◌, ◌<◌, ◌≤◌, ◌⊎◌, All, IfNone, IfSome, IsTrue, OnErr, OnOk, Some, [], false, length, true, ℕ};
 ghost use Rattle.alto_words.specs.Fid.{is_full_name};
 ghost use Rattle.disk_records.specs.Addresses.{pages_of};
 ghost use Rattle.disk_records.specs.Causes.{HasCause};
-ghost use Rattle.disk_records.specs.Tapes.{DiskAlone, pack};
+ghost use Rattle.disk_records.specs.Tapes.{DiskAlone, added, pack};
 ghost use Rattle.laws_call.specs.Acting.{Operates, around};
 ghost use Rattle.page_seeking.specs.Causes.{cause_of_length};
 ghost use Rattle.page_seeking.specs.Refs.{FileStands, IfMisled, MisledBy};
-ghost use Rattle.page_seeking.specs.Seeking.{IsLast, LastNamed, Quick, Seen, Stands, page_number};
+ghost use Rattle.page_seeking.specs.Seeking.{IsLast, LastNamed, Quick, Seen, Stands, file_length, page_number};
 ghost use Rattle.page_seeking.specs.declared.refs.FileError.TheVariants as error;
+ghost use Rattle.pack_model.specs.operations.Committing.{page_of_byte};
 ghost use Rattle.pack_model.specs.operations.Step.{Operation};
+ghost use Rattle.pack_model.specs.reading.Files.{place};
+ghost use Rattle.pack_model.specs.reading.Sights.{sights};
 ghost use Rattle.pack_model.specs.states.Whole.{Tidy, Whole};
 ghost use Rattle.file_pages.specs.Calls.{StaysHandy};
-ghost use Rattle.file_pages.specs.Growing.{Grew, IsSector, MayBeGrown};
+ghost use Rattle.file_pages.specs.Growing.{Grew, GrowsWith, IsSector, MayBeGrown, WritesAs, growth_writes};
 
 use crate::claims::{after_first, claim_pages, link_to_first, past_last, words_that_fit};
 use crate::last_words::{commit_page, with_count};
@@ -66,11 +69,12 @@ fn grow_pages<D: Disk>(
     requires full_name { is_full_name fid ≡ true }
     requires few { last.info.bytes ≤ 512 }
     requires sectors { All (IsSector (D.tape disk.old).form) fresh.now }
-    ensures operates { (o : Operation) → IsTrue D.told → Whole (pack (D.tape disk.old)) → Tidy (pack (D.tape disk.old)) → Stands (pack (D.tape disk.old)) (page_number fid last.number) last.at buf.old → IsLast (pack (D.tape disk.old)) fid last → MayBeGrown (pack (D.tape disk.old)) o fid bytes.now past.now fresh.now → Operates error.DiskFault error.Memory o fresh.now (around (D.tape disk.old) table.old tally.old) (around (D.tape disk.new) table.new tally.new) result }
+    ensures operates { (o : Operation) → IsTrue D.told → Whole (pack (D.tape disk.old)) → Tidy (pack (D.tape disk.old)) → Stands (pack (D.tape disk.old)) (page_number fid last.number) last.at buf.old → IsLast (pack (D.tape disk.old)) fid last → MayBeGrown (pack (D.tape disk.old)) o fid bytes.now past.now fresh.now → GrowsWith o fid last.at bytes.now past.now fresh.now (around (D.tape disk.old) table.old tally.old) (around (D.tape disk.new) table.new tally.new) result }
     ensures misled { (o : Operation) → IsTrue D.told → Whole (pack (D.tape disk.old)) → Tidy (pack (D.tape disk.old)) → Stands (pack (D.tape disk.old)) (page_number fid last.number) last.at buf.old → IsLast (pack (D.tape disk.old)) fid last → MayBeGrown (pack (D.tape disk.old)) o fid bytes.now past.now fresh.now → IfMisled result (λ place at wanted found. ⊥) }
     ensures cause { HasCause cause_of_length (D.tape disk.old) (D.tape disk.new) result }
     ensures alone { DiskAlone (D.tape disk.old) (D.tape disk.new) }
     ensures grew { (o : Operation) → IsTrue D.told → Whole (pack (D.tape disk.old)) → Tidy (pack (D.tape disk.old)) → Stands (pack (D.tape disk.old)) (page_number fid last.number) last.at buf.old → IsLast (pack (D.tape disk.old)) fid last → MayBeGrown (pack (D.tape disk.old)) o fid bytes.now past.now fresh.now → OnOk result (Grew (pack (D.tape disk.old)) (pack (D.tape disk.new)) fid last.number fresh.now) }
+    ensures table { OnErr result (table.new ≡ table.old) }
     ensures few { OnOk result (last.number + length fresh.now ≤ 65535) }
     ensures sized { length table.new ≡ length table.old }
     ensures runs { (o : Operation) → IsTrue D.told → Whole (pack (D.tape disk.old)) → Tidy (pack (D.tape disk.old)) → Stands (pack (D.tape disk.old)) (page_number fid last.number) last.at buf.old → IsLast (pack (D.tape disk.old)) fid last → MayBeGrown (pack (D.tape disk.old)) o fid bytes.now past.now fresh.now → (D.tape disk.new).runs ≤ (D.tape disk.old).runs + (2 * length fresh.now + 4) }
@@ -122,14 +126,16 @@ pub fn grow<D: Disk>(
     requires sized { length hints.old.table ≡ pages_of (D.tape disk.old).form }
     requires some { 0 < length bytes.now }
 
-    // What it does, for a file and for a directory, and which error comes when.
+    // What it does, for a file and for a directory, by which record writes, and which error comes when.
     ensures operates { (o : Operation) → IsTrue D.told → FileStands (pack (D.tape disk.old)) file.now → MayBeGrown (pack (D.tape disk.old)) o file.now.fid bytes.now past.now fresh.now → Operates error.DiskFault error.Memory o fresh.now (around (D.tape disk.old) hints.old.table tally.old) (around (D.tape disk.new) hints.new.table tally.new) result }
+    ensures grows { (o : Operation) (at : ℕ) → IsTrue D.told → FileStands (pack (D.tape disk.old)) file.now → MayBeGrown (pack (D.tape disk.old)) o file.now.fid bytes.now past.now fresh.now → place (sights (pack (D.tape disk.old))) file.now.fid (page_of_byte (file_length (pack (D.tape disk.old)) file.now.fid)) ≡ Some at → WritesAs (growth_writes (pack (D.tape disk.old)) file.now.fid at bytes.now past.now fresh.now) (added (D.tape disk.old) (D.tape disk.new)) result }
     ensures misled { (o : Operation) → IsTrue D.told → FileStands (pack (D.tape disk.old)) file.now → MayBeGrown (pack (D.tape disk.old)) o file.now.fid bytes.now past.now fresh.now → IfMisled result (MisledBy (pack (D.tape disk.old)) [] file.now.fid) }
     ensures cause { HasCause cause_of_length (D.tape disk.old) (D.tape disk.new) result }
     ensures alone { DiskAlone (D.tape disk.old) (D.tape disk.new) }
     ensures quick { (o : Operation) → IsTrue D.told → FileStands (pack (D.tape disk.old)) file.now → MayBeGrown (pack (D.tape disk.old)) o file.now.fid bytes.now past.now fresh.now → Quick (pack (D.tape disk.old)) file.now.fid hints.old.cache → LastNamed (pack (D.tape disk.old)) file.now.fid → OnOk result ((D.tape disk.new).runs ≤ (D.tape disk.old).runs + (2 * length fresh.now + 6)) }
 
     // What becomes of the hints.
+    ensures table { OnErr result (hints.new.table ≡ hints.old.table) }
     ensures sized { length hints.new.table ≡ length hints.old.table }
     ensures refused { hints.old.cache.refused ≤ hints.new.cache.refused }
     ensures handy { (o : Operation) → IsTrue D.told → FileStands (pack (D.tape disk.old)) file.now → MayBeGrown (pack (D.tape disk.old)) o file.now.fid bytes.now past.now fresh.now → OnOk result (StaysHandy (pack (D.tape disk.old)) (pack (D.tape disk.new)) hints.old.cache hints.new.cache) }

@@ -7,14 +7,14 @@ ghost use Rattle.disk_records.specs.Tapes.{DiskAlone, pack};
 ghost use Rattle.laws_call.specs.Acting.{Operates, around};
 ghost use Rattle.laws_operation.specs.ByteLaws.{IsOrdinary};
 ghost use Rattle.pack_model.specs.operations.PageWords.{halves, stamped_value, titled_value};
-ghost use Rattle.page_seeking.specs.Causes.{cause_of_file};
-ghost use Rattle.page_seeking.specs.Refs.{FileStands, IfBeyond, IfMisled, MisledBy};
+ghost use Rattle.page_seeking.specs.Causes.{cause_of_length};
+ghost use Rattle.page_seeking.specs.Refs.{FileStands, IfMisled, MisledBy};
 ghost use Rattle.page_seeking.specs.Seeking.{LastNamed, Quick};
 ghost use Rattle.page_seeking.specs.declared.refs.FileError.TheVariants as error;
 ghost use Rattle.file_pages.specs.Calls.{to_stamp, to_title};
 ghost use Rattle.file_pages.specs.Values.{LeavesHandy};
 
-use crate::ends::{FileEnd, locate_ends};
+use crate::ends::locate_ends;
 use crate::one_value::write_page;
 use crate::refs::page_of_file;
 use crate::{FileError, FileRef};
@@ -22,7 +22,7 @@ use alto_words::Name;
 use disk_records::{Disk, Sector, Tally};
 use hint_cache::Hints;
 use leader_page::name_words;
-use page_seeking::locate;
+use page_seeking::{LastPage, locate};
 
 /// The words of a leader page where its written date is, its name, and the address, the number and the bytes of the last page.
 const WRITTEN: usize = 2;
@@ -55,8 +55,7 @@ pub fn title<D: Disk>(
 ) -> Result<(), FileError>
     ensures operates { IsTrue D.told → FileStands (pack (D.tape disk.old)) file.now → IsOrdinary file.now.fid → Operates error.DiskFault error.Memory (to_title file.now.fid name.now) [] (around (D.tape disk.old) hints.old.table tally.old) (around (D.tape disk.new) hints.new.table tally.new) result }
     ensures misled { IsTrue D.told → FileStands (pack (D.tape disk.old)) file.now → IfMisled result (MisledBy (pack (D.tape disk.old)) [] file.now.fid) }
-    ensures never_beyond { IsTrue D.told → FileStands (pack (D.tape disk.old)) file.now → IfBeyond result (λ length. ⊥) }
-    ensures cause { HasCause cause_of_file (D.tape disk.old) (D.tape disk.new) result }
+    ensures cause { HasCause cause_of_length (D.tape disk.old) (D.tape disk.new) result }
     ensures alone { DiskAlone (D.tape disk.old) (D.tape disk.new) }
     ensures table { hints.new.table ≡ hints.old.table }
     ensures refused { hints.old.cache.refused ≤ hints.new.cache.refused }
@@ -88,11 +87,11 @@ fn put_words(value: &mut [u16; 256], at: usize, words: &[u16])
 }
 
 /// Puts another written date and another last page in the value of a leader page.
-fn put_stamp(value: &mut [u16; 256], moment: u32, end: FileEnd)
-    ensures { value.new ≡ stamped_value moment end.at end.number end.bytes value.old }
+fn put_stamp(value: &mut [u16; 256], moment: u32, last: LastPage)
+    ensures { value.new ≡ stamped_value moment last.at last.number last.info.bytes value.old }
 {
     put_words(value, WRITTEN, &halves(moment));
-    put_words(value, LAST, &[end.at, end.number, end.bytes]);
+    put_words(value, LAST, &[last.at, last.number, last.info.bytes]);
 }
 
 /// Gives the leader of an ordinary file another written date, in seconds since the start of 1901, and the address, the number and the bytes
@@ -110,8 +109,7 @@ pub fn stamp<D: Disk>(
 ) -> Result<(), FileError>
     ensures operates { IsTrue D.told → FileStands (pack (D.tape disk.old)) file.now → IsOrdinary file.now.fid → Operates error.DiskFault error.Memory (to_stamp file.now.fid moment) [] (around (D.tape disk.old) hints.old.table tally.old) (around (D.tape disk.new) hints.new.table tally.new) result }
     ensures misled { IsTrue D.told → FileStands (pack (D.tape disk.old)) file.now → IfMisled result (MisledBy (pack (D.tape disk.old)) [] file.now.fid) }
-    ensures never_beyond { IsTrue D.told → FileStands (pack (D.tape disk.old)) file.now → IfBeyond result (λ length. ⊥) }
-    ensures cause { HasCause cause_of_file (D.tape disk.old) (D.tape disk.new) result }
+    ensures cause { HasCause cause_of_length (D.tape disk.old) (D.tape disk.new) result }
     ensures alone { DiskAlone (D.tape disk.old) (D.tape disk.new) }
     ensures table { hints.new.table ≡ hints.old.table }
     ensures refused { hints.old.cache.refused ≤ hints.new.cache.refused }
@@ -120,8 +118,8 @@ pub fn stamp<D: Disk>(
 {
     let mut value = [0; 256];
     match locate_ends(disk, hints, file, &mut value, buf) {
-        Ok((at, end)) => {
-            put_stamp(&mut value, moment, end);
+        Ok((at, last)) => {
+            put_stamp(&mut value, moment, last);
             write_page(disk, tally, at, page_of_file(file.fid, 0), &value)
         }
         Err(error) => Err(error),

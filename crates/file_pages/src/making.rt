@@ -1,5 +1,5 @@
 // A new file.
-ghost use Rattle.std.specs.Prelude.{◌≡◌, ◌<◌, ◌≤◌, ◌∷◌, [], true, IsTrue, None, OnOk, length};
+ghost use Rattle.std.specs.Prelude.{◌≡◌, ◌<◌, ◌≤◌, ◌∷◌, [], true, IsTrue, None, OnErr, OnOk, length};
 ghost use Rattle.alto_words.specs.Fid.{is_full_name};
 ghost use Rattle.disk_records.specs.Addresses.{pages_of};
 ghost use Rattle.disk_records.specs.Causes.{HasCause};
@@ -7,19 +7,21 @@ ghost use Rattle.disk_records.specs.Tapes.{DiskAlone, pack};
 ghost use Rattle.disk_records.specs.Words.{word};
 ghost use Rattle.disk_records.specs.declared.records.Place.TheVariants as place;
 ghost use Rattle.laws_call.specs.Acting.{Operates, around};
+ghost use Rattle.laws_lookup.specs.OtherLaws.{LeavesOthers};
 ghost use Rattle.laws_operation.specs.PlaceLaws.{HasTwoPages};
 ghost use Rattle.page_seeking.specs.declared.refs.FileError.TheVariants as error;
 ghost use Rattle.page_seeking.specs.Refs.{IfMisled};
-ghost use Rattle.file_pages.specs.Calls.{MayBeMade, to_make};
+ghost use Rattle.file_pages.specs.Calls.{ListsTwoPages, MayBeMade, StaysHandy, to_make};
 ghost use Rattle.page_seeking.specs.Causes.{cause_of_length};
 
 use crate::FileError;
+use crate::new_hints::note_two;
 use crate::new_pages::{first_label, first_value, new_leader_label, new_value};
 use crate::refs::{error_at, page_of_file};
 use crate::tallying::count_operation;
 use alto_words::{Fid, Name};
 use disk_records::{Disk, Page, Place, Tally};
-use hint_cache::{BitTable, HintCache, Hints};
+use hint_cache::{BitTable, Hints};
 use label_check::claim;
 
 /// The number of record writes up to which a tally counts, a number of 64 bits.
@@ -48,9 +50,11 @@ fn make_file<D: Disk>(
     requires page_last { page_at < pages_of (D.tape disk.old).form }
     ensures operates { IsTrue D.told → MayBeMade (pack (D.tape disk.old)) fid name.now leader_at page_at → Operates error.DiskFault error.Memory (to_make fid name.now moment) (page_at ∷ leader_at ∷ []) (around (D.tape disk.old) table.old tally.old) (around (D.tape disk.new) table.new tally.new) result }
     ensures placed { IsTrue D.told → MayBeMade (pack (D.tape disk.old)) fid name.now leader_at page_at → OnOk result (HasTwoPages (pack (D.tape disk.new)) fid leader_at page_at) }
+    ensures others { IsTrue D.told → MayBeMade (pack (D.tape disk.old)) fid name.now leader_at page_at → OnOk result (LeavesOthers fid (pack (D.tape disk.old)) (pack (D.tape disk.new))) }
     ensures misled { IsTrue D.told → MayBeMade (pack (D.tape disk.old)) fid name.now leader_at page_at → IfMisled result (λ place at wanted found. ⊥) }
     ensures cause { HasCause cause_of_length (D.tape disk.old) (D.tape disk.new) result }
     ensures alone { DiskAlone (D.tape disk.old) (D.tape disk.new) }
+    ensures table { OnErr result (table.new ≡ table.old) }
     ensures sized { length table.new ≡ length table.old }
 {
     let shape = disk.shape();
@@ -99,13 +103,6 @@ pub(crate) fn at_held(at: u16, wanted: Page) -> FileError
     }
 }
 
-/// Notes an address. A refused `note` is passed over.
-fn note_one(cache: &mut HintCache, page: Page, at: u16)
-    ensures refused { cache.old.refused ≤ cache.new.refused }
-{
-    let _ = cache.note(page, at);
-}
-
 /// Makes a new file with this leader name, whose three dates are `moment`, in seconds since the start of 1901. It claims page 1 in the second
 /// of the two sectors `fresh`, given by their virtual addresses, and then the leader in the first, whose label commits. Page 1 has no bytes,
 /// or of a directory one free slot of 255 words. Four sector commands and six record writes. The full name has to be one that can be given,
@@ -129,8 +126,11 @@ pub fn make<D: Disk>(
     ensures misled { IsTrue D.told → MayBeMade (pack (D.tape disk.old)) fid name.now (word fresh 0) (word fresh 1) → IfMisled result (λ place at wanted found. ⊥) }
     ensures cause { HasCause cause_of_length (D.tape disk.old) (D.tape disk.new) result }
     ensures alone { DiskAlone (D.tape disk.old) (D.tape disk.new) }
+    ensures table { OnErr result (hints.new.table ≡ hints.old.table) }
     ensures sized { length hints.new.table ≡ length hints.old.table }
     ensures refused { hints.old.cache.refused ≤ hints.new.cache.refused }
+    ensures listed { OnOk result (ListsTwoPages fid (word fresh 0) (word fresh 1) hints.old.cache hints.new.cache) }
+    ensures handy { IsTrue D.told → MayBeMade (pack (D.tape disk.old)) fid name.now (word fresh 0) (word fresh 1) → OnOk result (StaysHandy (pack (D.tape disk.old)) (pack (D.tape disk.new)) hints.old.cache hints.new.cache) }
 {
     let pages = disk.shape().pages();
     let [leader_at, page_at] = fresh;
@@ -151,8 +151,7 @@ pub fn make<D: Disk>(
         page_at,
     ) {
         Ok(()) => {
-            note_one(&mut hints.cache, page_of_file(fid, 1), page_at);
-            note_one(&mut hints.cache, page_of_file(fid, 0), leader_at);
+            note_two(&mut hints.cache, fid, leader_at, page_at);
             Ok(())
         }
         Err(error) => Err(error),

@@ -1,7 +1,7 @@
 // What a call notes of pages that came.
 ghost use Rattle.std.specs.Prelude.{◌≡◌, ◌+◌, ◌<◌, ◌≤◌, All, length, true};
 ghost use Rattle.laws_hint.specs.MapChanges.{marked};
-ghost use Rattle.file_pages.specs.Growing.{NotesOne, NotesPages};
+ghost use Rattle.file_pages.specs.Growing.{NotesOne, NotesPages, NotesTwo};
 
 use crate::refs::page_of_file;
 use alto_words::Fid;
@@ -28,6 +28,15 @@ fn note_one(cache: &mut HintCache, page: Page, at: u16)
     // the count of refusals is a number of 64 bits
     let _refused = cache.refused();
     let _ = cache.note(page, at);
+}
+
+/// Notes both pages of a new file, page 1 and then the leader. A refused `note` is passed over.
+pub(crate) fn note_two(cache: &mut HintCache, fid: Fid, leader_at: u16, page_at: u16)
+    ensures notes { NotesTwo fid leader_at page_at cache.old cache.new }
+    ensures refused { cache.old.refused ≤ cache.new.refused }
+{
+    note_one(cache, page_of_file(fid, 1), page_at);
+    note_one(cache, page_of_file(fid, 0), leader_at);
 }
 
 /// Notes pages of a file that came after page `last`, in these sectors. A refused `note` is passed over.

@@ -1,7 +1,8 @@
-use Rattle.std.proofs.Common.{Bool, List, OnOk, false, subst, ◌∷◌, ◌≡◌}
+use Rattle.std.proofs.Common.{Bool, List, OnOk, arith, false, subst, ℕ, ◌∷◌, ◌≡◌}
 use Rattle.disk_records.proofs.Growing.{alone_twice, grown_twice}
 use Rattle.disk_records.proofs.Looking.{looks_pack}
 use Rattle.disk_records.specs.Tapes.{pack}
+use Rattle.label_check.specs.declared.errors.PageInfo.{PageInfo}
 use Rattle.laws_hint.specs.MapChanges.{marked}
 use Rattle.page_seeking.proofs.Erring.{if_misled_map, on_ok_map}
 use Rattle.page_seeking.specs.Seeking.{page_number}
@@ -9,6 +10,7 @@ use Rattle.pack_model.specs.reading.Sights.{sights}
 use Rattle.file_pages.proofs.CommitFirst.{look_before}
 use Rattle.file_pages.proofs.CutFiles.{fewer_pages, known_read}
 use Rattle.file_pages.proofs.DroppedFiles.{drop_begun, drop_here}
+use Rattle.file_pages.proofs.Erring.{never_past}
 use Rattle.file_pages.proofs.Going.{handy_still, misled_by}
 use Rattle.file_pages.specs.Cutting.{IsRead}
 use Rattle.file_pages.proofs.dropping.drop_file.Goals as goal
@@ -48,3 +50,6 @@ returns-in-Ok-clause-forgotten g c told stands =
     let a = g.D.Tape.tape c.args.disk.now in
     let read : IsRead (pack a) (page_number c.args.file.now.fid 0) c.in-Ok.at c.in-Ok.info c.locate.new.buf = record { seen = c.in-Ok.ensures.seen; stands = c.in-Ok.ensures.stands told } in
     c.drop_pages.ensures.forgotten (pack a) told (looks_pack c.locate.ensures.looks told) read stands.whole (fewer_pages (pack a) c.args.file.now stands)
+
+pub returns-in-Err-clause-cause : goal.returns-in-Err-clause-cause
+returns-in-Err-clause-cause g c = never_past (ℕ × PageInfo) (g.D.Tape.tape c.args.disk.now) (g.D.Tape.tape c.locate.new.disk) c.in-Err.error c.in-Err.ensures.cause (c.in-Err.ensures.never_beyond (omega arith))

@@ -1,38 +1,51 @@
-use Rattle.std.proofs.Common.{arith, subst, sym}
+use Rattle.std.proofs.Common.{Err, [], arith, subst, sym, ℕ}
 use Rattle.disk_records.proofs.Looking.{looks_pack, looks_twice}
 use Rattle.disk_records.specs.Packs.{Pack}
 use Rattle.disk_records.specs.Tapes.{pack}
+use Rattle.label_check.specs.declared.errors.PageInfo.{PageInfo}
+use Rattle.page_seeking.specs.declared.ends.LastPage.{LastPage}
 use Rattle.pack_model.specs.states.Whole.{Whole}
+use Rattle.page_seeking.specs.Refs.{FileIsFrom, IfMisled, MisledBy}
 use Rattle.file_pages.specs.Ends.{NamesFileEnd}
+use Rattle.file_pages.proofs.Erring.{never_past}
 use Rattle.file_pages.proofs.FileEnds.{names_last}
 use Rattle.file_pages.proofs.Valued.{keeps_handy_twice}
 use Rattle.file_pages.proofs.ends.locate_ends.Goals as goal
 
 pub returns-in-Ok-Some-clause-looks : goal.returns-in-Ok-Some-clause-looks
-returns-in-Ok-Some-clause-looks g c = looks_twice 131228 c.locate.ensures.looks c.named_end.ensures.looks (omega arith)
+returns-in-Ok-Some-clause-looks g c = looks_twice 65640 c.locate.ensures.looks c.named_end.ensures.looks (omega arith)
 
 pub returns-in-Err-named_end-clause-looks : goal.returns-in-Err-named_end-clause-looks
-returns-in-Err-named_end-clause-looks g c = looks_twice 131228 c.locate.ensures.looks c.named_end.ensures.looks (omega arith)
+returns-in-Err-named_end-clause-looks g c = looks_twice 65640 c.locate.ensures.looks c.named_end.ensures.looks (omega arith)
 
-pub returns-in-Ok-seek_end-clause-looks : goal.returns-in-Ok-seek_end-clause-looks
-returns-in-Ok-seek_end-clause-looks g c = looks_twice 131228 (looks_twice 54 c.locate.ensures.looks c.named_end.ensures.looks (omega arith)) c.seek_end.ensures.looks (omega arith)
+pub returns-in-Ok-last_page-clause-looks : goal.returns-in-Ok-last_page-clause-looks
+returns-in-Ok-last_page-clause-looks g c = looks_twice 65640 (looks_twice 54 c.locate.ensures.looks c.named_end.ensures.looks (omega arith)) c.last_page.ensures.looks (omega arith)
 
-pub returns-in-Err-seek_end-clause-looks : goal.returns-in-Err-seek_end-clause-looks
-returns-in-Err-seek_end-clause-looks g c = looks_twice 131228 (looks_twice 54 c.locate.ensures.looks c.named_end.ensures.looks (omega arith)) c.seek_end.ensures.looks (omega arith)
+pub returns-in-Err-last_page-clause-looks : goal.returns-in-Err-last_page-clause-looks
+returns-in-Err-last_page-clause-looks g c = looks_twice 65640 (looks_twice 54 c.locate.ensures.looks c.named_end.ensures.looks (omega arith)) c.last_page.ensures.looks (omega arith)
 
 -- a page that the leader names is found where it says
-pub returns-in-Ok-seek_end-clause-quick : goal.returns-in-Ok-seek_end-clause-quick
-returns-in-Ok-seek_end-clause-quick g c told quick named =
+pub returns-in-Ok-last_page-clause-quick : goal.returns-in-Ok-last_page-clause-quick
+returns-in-Ok-last_page-clause-quick g c told quick named =
     let p = pack (g.D.Tape.tape c.args.disk.now) in
     let f = c.args.file.now.fid in
     let same = looks_pack c.locate.ensures.looks told in
     let names = names_last p f c.in-Ok.found.0 c.locate.new.buf quick.whole (c.in-Ok.ensures.stands told) named in
     absurd (c.in-Ok-None.ensures.there told (subst Whole (sym same) quick.whole) (subst (λ (q : Pack). NamesFileEnd q f c.locate.new.buf.value) (sym same) names) c.in-Ok-None.field-0-is)
 
-pub returns-in-Ok-seek_end-clause-handy : goal.returns-in-Ok-seek_end-clause-handy
-returns-in-Ok-seek_end-clause-handy g c told =
-    keeps_handy_twice c.args.hints.now.cache c.locate.new.hints.cache c.seek_end.new.hints.cache (looks_twice 54 c.locate.ensures.looks c.named_end.ensures.looks (omega arith)) told (c.locate.ensures.handy told) (c.seek_end.ensures.handy told)
+pub returns-in-Ok-last_page-clause-handy : goal.returns-in-Ok-last_page-clause-handy
+returns-in-Ok-last_page-clause-handy g c told =
+    keeps_handy_twice c.args.hints.now.cache c.locate.new.hints.cache c.last_page.new.hints.cache (looks_twice 54 c.locate.ensures.looks c.named_end.ensures.looks (omega arith)) told (c.locate.ensures.handy told) (c.last_page.ensures.handy told)
 
-pub returns-in-Err-seek_end-clause-handy : goal.returns-in-Err-seek_end-clause-handy
-returns-in-Err-seek_end-clause-handy g c told =
-    keeps_handy_twice c.args.hints.now.cache c.locate.new.hints.cache c.seek_end.new.hints.cache (looks_twice 54 c.locate.ensures.looks c.named_end.ensures.looks (omega arith)) told (c.locate.ensures.handy told) (c.seek_end.ensures.handy told)
+pub returns-in-Err-last_page-clause-handy : goal.returns-in-Err-last_page-clause-handy
+returns-in-Err-last_page-clause-handy g c told =
+    keeps_handy_twice c.args.hints.now.cache c.locate.new.hints.cache c.last_page.new.hints.cache (looks_twice 54 c.locate.ensures.looks c.named_end.ensures.looks (omega arith)) told (c.locate.ensures.handy told) (c.last_page.ensures.handy told)
+
+pub returns-in-Err-clause-cause : goal.returns-in-Err-clause-cause
+returns-in-Err-clause-cause g c = never_past (ℕ × PageInfo) (g.D.Tape.tape c.args.disk.now) (g.D.Tape.tape c.locate.new.disk) c.in-Err.error c.in-Err.ensures.cause (c.in-Err.ensures.never_beyond (omega arith))
+
+pub returns-in-Err-last_page-clause-misled : goal.returns-in-Err-last_page-clause-misled
+returns-in-Err-last_page-clause-misled g c told stands =
+    let same = looks_pack (looks_twice 54 c.locate.ensures.looks c.named_end.ensures.looks (omega arith)) told in
+    subst (λ (q : Pack). IfMisled {T = ℕ × LastPage} (Err c.in-Err-last_page.error) (MisledBy q [] c.args.file.now.fid)) same
+    (c.in-Err-last_page.ensures.misled told (subst (λ (q : Pack). FileIsFrom q c.args.file.now) (sym same) stands.from))

@@ -24,25 +24,25 @@ returns-then-number-eq0-clause-there g c told whole names same =
           omega (arith, last, pages, w.if-at-pages.true)
     ]
 
-pub returns-then-bytes-eq-PAGE_BYTES-clause-there : goal.returns-then-bytes-eq-PAGE_BYTES-clause-there
-returns-then-bytes-eq-PAGE_BYTES-clause-there g c told whole names same =
+pub returns-then-info-eq-PAGE_BYTES-clause-there : goal.returns-then-info-eq-PAGE_BYTES-clause-there
+returns-then-info-eq-PAGE_BYTES-clause-there g c told whole names same =
     let p = pack (g.D.Tape.tape c.args.disk.now) in
     let n = word c.args.leader.now 254 in
     let at = word c.args.leader.now 253 in
     let read = c.in-Ok.ensures.read told in
     let carries : carried p at ≡ Some (page_number c.args.fid n) = (c.in-Ok.ensures.guarded told).ok.held ∙ ap (λ (x : Page). Some x) c.page_of_file.ensures in
     let sized : length (sector_at p at).value ≡ 256 = ap (λ (s : Sector). length s.value) (sym read.holds) ∙ c.in-Ok.ensures.whole in
-    last_is_short p c.args.fid n at c.in-Ok.info whole carries sized (omega (arith, c.if-number-eq0.false)) read.tells names.number c.if-bytes-eq-PAGE_BYTES.true
+    last_is_short p c.args.fid n at c.in-Ok.info whole carries sized (omega (arith, c.if-number-eq0.false)) read.tells names.number c.if-info-eq-PAGE_BYTES.true
 
-pub returns-else-bytes-eq-PAGE_BYTES-clause-end : goal.returns-else-bytes-eq-PAGE_BYTES-clause-end
-returns-else-bytes-eq-PAGE_BYTES-clause-end g c told whole =
+pub returns-else-info-eq-PAGE_BYTES-clause-end : goal.returns-else-info-eq-PAGE_BYTES-clause-end
+returns-else-info-eq-PAGE_BYTES-clause-end g c told whole =
     let p = pack (g.D.Tape.tape c.args.disk.now) in
     let n = word c.args.leader.now 254 in
     let at = word c.args.leader.now 253 in
     let read = c.in-Ok.ensures.read told in
     let carries : carried p at ≡ Some (page_number c.args.fid n) = (c.in-Ok.ensures.guarded told).ok.held ∙ ap (λ (x : Page). Some x) c.page_of_file.ensures in
     let sized : length (sector_at p at).value ≡ 256 = ap (λ (s : Sector). length s.value) (sym read.holds) ∙ c.in-Ok.ensures.whole in
-    last_by_label p c.args.fid n at c.in-Ok.info whole carries sized (omega (arith, c.if-number-eq0.false)) read.tells c.if-bytes-eq-PAGE_BYTES.false
+    last_by_label p c.args.fid n at c.in-Ok.info whole carries sized (omega (arith, c.if-number-eq0.false)) read.tells c.if-info-eq-PAGE_BYTES.false
 
 pub returns-in-Err-Wrong-clause-there : goal.returns-in-Err-Wrong-clause-there
 returns-in-Err-Wrong-clause-there g c told whole names same =

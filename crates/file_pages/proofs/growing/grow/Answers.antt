@@ -15,6 +15,7 @@ use Rattle.page_seeking.specs.Seeking.{IsLast}
 use Rattle.file_pages.proofs.Erring.{cause_after, memory_too, none_misled}
 use Rattle.file_pages.proofs.FreeSectors.{free_are_sectors}
 use Rattle.file_pages.proofs.GrownHandy.{grown_handy}
+use Rattle.file_pages.proofs.GrowthAfter.{nothing_written, written_after}
 use Rattle.file_pages.proofs.LastLabel.{label_says}
 use Rattle.file_pages.proofs.Sequel.{silent_before}
 use Rattle.file_pages.proofs.growing.grow.Goals as goal
@@ -23,12 +24,20 @@ pub returns-in-Err-clause-operates : goal.returns-in-Err-clause-operates
 returns-in-Err-clause-operates g c o told stands may =
     refused (record { silent = c.last_page.ensures.looks.silent told; bits = c.last_page.ensures.table; tally = refl }) tt (λ memory. c.in-Err.ensures.want told (memory_too LastPage c.in-Err.error memory))
 
+pub returns-in-Err-clause-grows : goal.returns-in-Err-clause-grows
+returns-in-Err-clause-grows g c o at told stands may here = nothing_written _ _ c.in-Err.error (c.last_page.ensures.looks.silent told)
+
 pub returns-in-Err-clause-misled : goal.returns-in-Err-clause-misled
 returns-in-Err-clause-misled g c o told stands may = c.in-Err.ensures.misled told stands.from
 
 -- every address is a sector's
 pub returns-in-Some-clause-operates : goal.returns-in-Some-clause-operates
 returns-in-Some-clause-operates g c o told stands may =
+    let form = c.shape.ensures ∙ c.last_page.ensures.looks.alone.grown.form in
+    absurd (c.in-Some.ensures.some (subst (λ (s : Shape). All (IsSector s) c.args.fresh.now) (sym form) (free_are_sectors (pack (g.D.Tape.tape c.args.disk.now)) c.args.fresh.now may.free)))
+
+pub returns-in-Some-clause-grows : goal.returns-in-Some-clause-grows
+returns-in-Some-clause-grows g c o at told stands may here =
     let form = c.shape.ensures ∙ c.last_page.ensures.looks.alone.grown.form in
     absurd (c.in-Some.ensures.some (subst (λ (s : Shape). All (IsSector s) c.args.fresh.now) (sym form) (free_are_sectors (pack (g.D.Tape.tape c.args.disk.now)) c.args.fresh.now may.free)))
 
@@ -74,7 +83,7 @@ returns-in-Ok-grown-clause-operates g c o told stands may =
     let there = subst (λ (p : Pack). Stands p (page_number fid last.number) last.at c.last_page.new.buf) packs (c.in-Ok.ensures.stands told) in
     let is = subst (λ (p : Pack). IsLast p fid last) packs (c.in-Ok.ensures.last told stands.whole) in
     let may_then = subst (λ (p : Pack). MayBeGrown p o fid c.args.bytes.now c.args.past.now c.args.fresh.now) packs may in
-    let operates = rw c.in-Ok-grown.is at (c.grow_pages-grown.ensures.operates o told whole tidy there is may_then) in
+    let operates = (rw c.in-Ok-grown.is at (c.grow_pages-grown.ensures.operates o told whole tidy there is may_then)).operates in
     subst (λ (l : List Bool). Operates {T = Unit {0}} error.DiskFault error.Memory o c.args.fresh.now (around a l c.args.tally.now) (around d c.grow_pages-grown.new.table c.grow_pages-grown.new.tally) (Ok tt)) c.last_page.ensures.table
     (silent_before _ _ _ _ _ _ a b d looks.alone c.grow_pages-grown.ensures.alone silent (g.met.D.Disk.counted c.args.disk.now told) (g.met.D.Disk.counted c.last_page.new.disk told) c.last_page.new.hints.table c.grow_pages-grown.new.table c.args.tally.now c.grow_pages-grown.new.tally (Ok tt) operates)
 
@@ -93,9 +102,47 @@ returns-in-Err-grown-clause-operates g c o told stands may =
     let there = subst (λ (p : Pack). Stands p (page_number fid last.number) last.at c.last_page.new.buf) packs (c.in-Ok.ensures.stands told) in
     let is = subst (λ (p : Pack). IsLast p fid last) packs (c.in-Ok.ensures.last told stands.whole) in
     let may_then = subst (λ (p : Pack). MayBeGrown p o fid c.args.bytes.now c.args.past.now c.args.fresh.now) packs may in
-    let operates = rw c.in-Err-grown.is at (c.grow_pages-grown.ensures.operates o told whole tidy there is may_then) in
+    let operates = (rw c.in-Err-grown.is at (c.grow_pages-grown.ensures.operates o told whole tidy there is may_then)).operates in
     subst (λ (l : List Bool). Operates {T = Unit {0}} error.DiskFault error.Memory o c.args.fresh.now (around a l c.args.tally.now) (around d c.grow_pages-grown.new.table c.grow_pages-grown.new.tally) (Err c.in-Err-grown.error)) c.last_page.ensures.table
     (silent_before _ _ _ _ _ _ a b d looks.alone c.grow_pages-grown.ensures.alone silent (g.met.D.Disk.counted c.args.disk.now told) (g.met.D.Disk.counted c.last_page.new.disk told) c.last_page.new.hints.table c.grow_pages-grown.new.table c.args.tally.now c.grow_pages-grown.new.tally (Err c.in-Err-grown.error) operates)
+
+pub returns-in-Ok-grown-clause-grows : goal.returns-in-Ok-grown-clause-grows
+returns-in-Ok-grown-clause-grows g c o at told stands may here =
+    let a = g.D.Tape.tape c.args.disk.now in
+    let b = g.D.Tape.tape c.last_page.new.disk in
+    let d = g.D.Tape.tape c.grow_pages-grown.new.disk in
+    let fid = c.args.file.now.fid in
+    let last = c.in-Ok.last in
+    let looks = c.last_page.ensures.looks in
+    let silent = looks.silent told in
+    let packs : pack a ≡ pack b = sym (pack-silent looks.alone.grown silent) in
+    let whole = subst (λ (p : Pack). Whole p) packs stands.whole in
+    let tidy = subst (λ (p : Pack). Tidy p) packs stands.tidy in
+    let there = subst (λ (p : Pack). Stands p (page_number fid last.number) last.at c.last_page.new.buf) packs (c.in-Ok.ensures.stands told) in
+    let last_is = c.in-Ok.ensures.last told stands.whole in
+    let is = subst (λ (p : Pack). IsLast p fid last) packs last_is in
+    let may_then = subst (λ (p : Pack). MayBeGrown p o fid c.args.bytes.now c.args.past.now c.args.fresh.now) packs may in
+    let writes = (rw c.in-Ok-grown.is at (c.grow_pages-grown.ensures.operates o told whole tidy there is may_then)).writes in
+    written_after a b d looks.alone c.grow_pages-grown.ensures.alone silent fid last last_is at here c.args.bytes.now c.args.past.now c.args.fresh.now (Ok tt) writes
+
+pub returns-in-Err-grown-clause-grows : goal.returns-in-Err-grown-clause-grows
+returns-in-Err-grown-clause-grows g c o at told stands may here =
+    let a = g.D.Tape.tape c.args.disk.now in
+    let b = g.D.Tape.tape c.last_page.new.disk in
+    let d = g.D.Tape.tape c.grow_pages-grown.new.disk in
+    let fid = c.args.file.now.fid in
+    let last = c.in-Ok.last in
+    let looks = c.last_page.ensures.looks in
+    let silent = looks.silent told in
+    let packs : pack a ≡ pack b = sym (pack-silent looks.alone.grown silent) in
+    let whole = subst (λ (p : Pack). Whole p) packs stands.whole in
+    let tidy = subst (λ (p : Pack). Tidy p) packs stands.tidy in
+    let there = subst (λ (p : Pack). Stands p (page_number fid last.number) last.at c.last_page.new.buf) packs (c.in-Ok.ensures.stands told) in
+    let last_is = c.in-Ok.ensures.last told stands.whole in
+    let is = subst (λ (p : Pack). IsLast p fid last) packs last_is in
+    let may_then = subst (λ (p : Pack). MayBeGrown p o fid c.args.bytes.now c.args.past.now c.args.fresh.now) packs may in
+    let writes = (rw c.in-Err-grown.is at (c.grow_pages-grown.ensures.operates o told whole tidy there is may_then)).writes in
+    written_after a b d looks.alone c.grow_pages-grown.ensures.alone silent fid last last_is at here c.args.bytes.now c.args.past.now c.args.fresh.now (Err c.in-Err-grown.error) writes
 
 pub returns-in-Err-grown-clause-misled : goal.returns-in-Err-grown-clause-misled
 returns-in-Err-grown-clause-misled g c o told stands may =

@@ -18,7 +18,7 @@ returns-in-Ok-clause-operates g c told stands ordinary =
     let fid = c.args.file.now.fid in
     let looks = c.locate_ends.ensures.looks in
     let bits = c.locate_ends.new.hints.table in
-    let is = stamped_once (pack a) fid c.args.moment c.in-Ok.at c.in-Ok.end c.put_stamp.new.value c.locate_ends.new.leader stands.whole stands.tidy ordinary (c.in-Ok.ensures.carries told) (c.in-Ok.ensures.value told) c.in-Ok.ensures.sized (c.in-Ok.ensures.end told stands.whole) c.put_stamp.ensures in
+    let is = stamped_once (pack a) fid c.args.moment c.in-Ok.at c.in-Ok.last c.put_stamp.new.value c.locate_ends.new.leader stands.whole stands.tidy ordinary (c.in-Ok.ensures.carries told) (c.in-Ok.ensures.value told) c.in-Ok.ensures.sized (c.in-Ok.ensures.end told stands.whole) c.put_stamp.ensures in
     let writes = value_after_look bits c.args.tally.now c.write_page.new.tally looks.alone c.write_page.ensures.alone (looks.silent told) (g.met.D.Disk.counted c.args.disk.now told) (g.met.D.Disk.counted c.locate_ends.new.disk told) (c.write_page.ensures.writes (stamp fid c.args.moment) bits told) in
     subst (λ (l : List Bool). Operates {T = Unit {0}} error.DiskFault error.Memory (stamp fid c.args.moment) [] (around a l c.args.tally.now) (around d bits c.write_page.new.tally) c.write_page.result) c.locate_ends.ensures.table (value_operates is writes)
 

@@ -1,10 +1,12 @@
-use Rattle.std.proofs.Common.{Bool, List, [], ap, subst}
+use Rattle.std.proofs.Common.{Bool, List, [], ap, arith, subst, ℕ}
 use Rattle.disk_records.proofs.Growing.{alone_twice}
 use Rattle.disk_records.specs.Tapes.{pack}
 use Rattle.disk_records.specs.declared.records.Sector.{Sector}
+use Rattle.label_check.specs.declared.errors.PageInfo.{PageInfo}
 use Rattle.pack_model.specs.operations.Step.Operation.{title}
 use Rattle.laws_call.specs.Acting.{Operates, around}
 use Rattle.page_seeking.specs.declared.refs.FileError.TheVariants as error
+use Rattle.file_pages.proofs.Erring.{never_past}
 use Rattle.file_pages.proofs.Titling.{titled_once}
 use Rattle.file_pages.proofs.Valued.{look_leaves_handy, value_after_look, value_leaves_handy, value_operates}
 use Rattle.file_pages.proofs.leaders.title.Goals as goal
@@ -32,3 +34,6 @@ returns-in-Err-clause-handy g c told = look_leaves_handy c.args.hints.now.cache 
 
 pub returns-in-Err-clause-misled : goal.returns-in-Err-clause-misled
 returns-in-Err-clause-misled g c told stands = c.in-Err.ensures.misled told stands.from
+
+pub returns-in-Err-clause-cause : goal.returns-in-Err-clause-cause
+returns-in-Err-clause-cause g c = never_past (ℕ × PageInfo) (g.D.Tape.tape c.args.disk.now) (g.D.Tape.tape c.locate.new.disk) c.in-Err.error c.in-Err.ensures.cause (c.in-Err.ensures.never_beyond (omega arith))

@@ -9,7 +9,7 @@ use Rattle.pack_model.specs.operations.PageWords.{first_page_label, leader_label
 use Rattle.file_pages.specs.Counting.{counted_after}
 use Rattle.file_pages.proofs.ClaimedWords.{claimed_as, few_bytes, label_ranged}
 use Rattle.file_pages.proofs.Erring.{never_misled}
-use Rattle.file_pages.proofs.TwoClaims.{leader_still_free, make_broken, make_done, make_placed, make_unbegun}
+use Rattle.file_pages.proofs.TwoClaims.{leader_still_free, make_broken, make_done, make_others, make_placed, make_unbegun}
 use Rattle.file_pages.proofs.making.make_file.Goals as goal
 
 pub claim-requires-clause-label : goal.claim-requires-clause-label
@@ -52,6 +52,16 @@ returns-in-Ok-claimed-clause-placed g c told may =
     let done = (claimed_as _ _ _ _ first c.first_value-value.ensures (c.in-Ok.ensures.guarded told)).ok in
     let guarded = claimed_as _ _ _ _ second c.new_value-value.ensures (rw c.in-Ok-claimed.is at (c.claim-claimed.ensures.guarded told)) in
     make_placed _ _ c.args.table.now c.args.fid c.args.name.now c.args.moment c.args.leader_at c.args.page_at may _ c.claim.ensures.alone c.claim-claimed.ensures.alone done guarded.ok.wrote
+
+pub returns-in-Ok-claimed-clause-others : goal.returns-in-Ok-claimed-clause-others
+returns-in-Ok-claimed-clause-others g c told may =
+    let a = g.D.Tape.tape c.args.disk.now in
+    let form = c.shape-shape.ensures in
+    let first : c.first_label-label.result ≡ first_page_label a.form c.args.fid c.args.leader_at = c.first_label-label.ensures.label ∙ ap (λ (s : Shape). first_page_label s c.args.fid c.args.leader_at) form in
+    let second : c.new_leader_label-label.result ≡ leader_label a.form c.args.fid c.args.page_at = c.new_leader_label-label.ensures.label ∙ ap (λ (s : Shape). leader_label s c.args.fid c.args.page_at) form in
+    let done = (claimed_as _ _ _ _ first c.first_value-value.ensures (c.in-Ok.ensures.guarded told)).ok in
+    let guarded = claimed_as _ _ _ _ second c.new_value-value.ensures (rw c.in-Ok-claimed.is at (c.claim-claimed.ensures.guarded told)) in
+    make_others _ _ c.args.table.now c.args.fid c.args.name.now c.args.moment c.args.leader_at c.args.page_at may _ c.claim.ensures.alone c.claim-claimed.ensures.alone done guarded.ok.wrote
 
 pub returns-in-Err-claimed-clause-operates : goal.returns-in-Err-claimed-clause-operates
 returns-in-Err-claimed-clause-operates g c told may =
