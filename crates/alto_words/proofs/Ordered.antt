@@ -113,6 +113,7 @@ folded_cmp-apart a b apart =
   where
     trans_base : (a : List ℕ) → map to_ascii_lowercase (base_of a) ≡ base_of (map fold_case a)
     trans_base a = map-lowercase (base_of a) ∙ sym (fold_base a)
+
     first_decides : (x y : Ordering) → x ≢ Equal → x ≡ ordering_then x y
     first_decides Less y apart = refl
     first_decides Greater y apart = refl
