@@ -1,4 +1,4 @@
-//! Tests of calls on files, over packs made by hand in memory.
+//! Tests of calls that write files, over packs made by hand in memory.
 //!
 //! What is expected here was worked out by hand from the layouts, and never taken from a run. There is nothing to call.
 #![tactic(auto)]
@@ -11,7 +11,5 @@ mod growing_files;
 mod new_files;
 #[cfg(test)]
 mod released_pages;
-#[cfg(test)]
-mod seeking;
 #[cfg(test)]
 mod stamped_leader;

@@ -1,17 +1,10 @@
-//! Tests of machines over real pack files: their bytes, which calls a sector command makes, what is kept, and sessions; with an outside
-//! that notes what it is asked, and fails, is short or is interrupted where it is set to. What is seen from outside of the built program
-//! is in check/edges.py.
+//! Tests of machines over real pack files: which calls a sector command makes, and sessions; with an outside that notes what it is asked,
+//! and fails, is short or is interrupted where it is set to. What is seen from outside of the built program is in check/edges.py.
 //!
 //! What is expected here was worked out by hand from the rules of pack files and commands, and never taken from a run.
 //! There is nothing to call.
 #![tactic(auto)]
 
-#[cfg(test)]
-mod bytes;
-#[cfg(test)]
-mod commands;
-#[cfg(test)]
-mod kept;
 #[cfg(test)]
 mod outside;
 #[cfg(test)]

@@ -3,7 +3,7 @@ ghost use Rattle.std.specs.Prelude.{IsTrue};
 ghost use Rattle.disk_records.specs.Checks.{is_legal};
 
 use crate::outside::{Broken, FileCall, Log, Outside};
-use crate::samples::{READ_ALL, WRITE_ALL, WRITE_LABEL, WRITE_VALUE, ZEROS};
+use crate::samples::ZEROS;
 use alto_top::{Status, boot};
 use disk_image::{FileMachine, encode_pack};
 use disk_records::{Disk, DiskError, Plan, Sector};
@@ -163,13 +163,13 @@ fn a_sector_command_is_few_calls(rt: HostRuntime) -> Result<(), Fail> {
     let four = FileCall::Write(4);
     let sixteen = FileCall::Write(16);
     let rest = FileCall::Write(512);
-    assert!(rt; makes_calls(&rt, READ_ALL, &cylinder, &[])?);
+    assert!(rt; makes_calls(&rt, Plan::READ, &cylinder, &[])?);
     let all = [seek(16_492), four, sixteen, rest];
-    assert!(rt; makes_calls(&rt, WRITE_ALL, &[], &all)?);
+    assert!(rt; makes_calls(&rt, Plan::WRITE_ALL, &[], &all)?);
     let label = [seek(16_496), sixteen, rest];
-    assert!(rt; makes_calls(&rt, WRITE_LABEL, &cylinder, &label)?);
+    assert!(rt; makes_calls(&rt, Plan::WRITE_LABEL, &cylinder, &label)?);
     let value = [seek(16_512), rest];
-    assert!(rt; makes_calls(&rt, WRITE_VALUE, &cylinder, &value)?);
+    assert!(rt; makes_calls(&rt, Plan::WRITE_VALUE, &cylinder, &value)?);
     Ok(())
 }
 
@@ -219,7 +219,7 @@ fn a_cylinder_is_read_twice_at_most_and_else_by_sectors(rt: HostRuntime) -> Resu
         for _ in 0u8..times {
             for at in first..end {
                 assert!(rt; at < machine.shape().pages());
-                machine.run(at, READ_ALL, &mut ZEROS)?;
+                machine.run(at, Plan::READ, &mut ZEROS)?;
             }
         }
         assert!(rt;
@@ -267,14 +267,14 @@ fn a_failing_write_leaves_the_records_ahead(rt: HostRuntime) -> Result<(), Fail>
         let mut machine = FileMachine::reach(&outside, alloc, "failing")?;
         assert!(rt; 7 < machine.shape().pages());
         let mut sector = NUMBERED;
-        machine.run(7, READ_ALL, &mut sector)?;
+        machine.run(7, Plan::READ, &mut sector)?;
         assert!(rt; sector == ZEROS, "{failing}");
-        let failed = machine.run(7, WRITE_ALL, &mut NUMBERED);
+        let failed = machine.run(7, Plan::WRITE_ALL, &mut NUMBERED);
         assert!(rt; failed == Err(DiskError::Failed), "{failing}");
         assert!(rt; machine.writes() == failing, "{failing}");
         // the sector that was kept is read again
         assert!(rt; 7 < machine.shape().pages());
-        machine.run(7, READ_ALL, &mut sector)?;
+        machine.run(7, Plan::READ, &mut sector)?;
         assert!(rt; sector == numbered_front(failing), "{failing}");
         let bytes = fs::read(&rt, "failing")?;
         assert!(rt; bytes.len() == 25_536, "{failing}");

@@ -1,51 +1,9 @@
-// Plans, sectors and bytes that several tests have.
-use disk_records::{Act, Plan, Sector};
-use std::alloc::{AllocError, Global};
+// The sector that several tests have.
+use disk_records::Sector;
 
-pub const READ_ALL: Plan = Plan {
-    header: Act::Read,
-    label: Act::Read,
-    value: Act::Read,
-};
-
-pub const WRITE_ALL: Plan = Plan {
-    header: Act::Write,
-    label: Act::Write,
-    value: Act::Write,
-};
-
-pub const WRITE_LABEL: Plan = Plan {
-    header: Act::Check,
-    label: Act::Write,
-    value: Act::Write,
-};
-
-pub const WRITE_VALUE: Plan = Plan {
-    header: Act::Check,
-    label: Act::Check,
-    value: Act::Write,
-};
-
+/// A sector of zeros.
 pub const ZEROS: Sector = Sector {
     header: [0; 2],
     label: [0; 8],
     value: [0; 256],
 };
-
-/// A sector whose records hold one word each over and over.
-pub fn filled(header: u16, label: u16, value: u16) -> Sector {
-    Sector {
-        header: [header; 2],
-        label: [label; 8],
-        value: [value; 256],
-    }
-}
-
-/// So many bytes, each byte value among them.
-pub fn bytes_from(alloc: Global, first: u32, count: u32) -> Result<Vec<u8>, AllocError> {
-    let mut bytes = Vec::new(alloc);
-    for at in 0..count {
-        bytes.push(((at as u64 + first as u64) * 7 / 3 % 256) as u8)?;
-    }
-    Ok(bytes)
-}

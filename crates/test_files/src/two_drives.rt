@@ -1,9 +1,9 @@
 // Two drives of two cylinders each over real files: which file a command goes to, and what stands where calls fail or are short.
 use crate::outside::{Broken, FileCall, Log, Outside};
-use crate::samples::{READ_ALL, ZEROS};
+use crate::samples::ZEROS;
 use alto_top::{Status, boot};
 use disk_image::{FileMachine, ReachError, encode_two};
-use disk_records::{Disk, Sector, Shape};
+use disk_records::{Disk, Plan, Sector, Shape};
 use std::fs;
 use std::io::SeekFrom;
 use std::process::Abort;
@@ -126,7 +126,7 @@ fn a_command_on_the_second_drive_goes_to_its_file(rt: HostRuntime) -> Result<(),
     for (at, seek, label, header) in rows {
         let mut sector = ZEROS;
         assert!(rt; at < machine.shape().pages());
-        machine.run(at, READ_ALL, &mut sector)?;
+        machine.run(at, Plan::READ, &mut sector)?;
         assert!(rt; sector.label == label, "{at}");
         assert!(rt; sector.header == header, "{at}");
         let calls = log.take_file_calls(alloc)?;

@@ -1,7 +1,7 @@
 // Sector commands over real files: where the records stand that they write, and what they read.
-use crate::samples::{READ_ALL, WRITE_ALL, WRITE_VALUE, bytes_from, filled};
+use crate::samples::{bytes_from, filled};
 use disk_image::FileMachine;
-use disk_records::{Disk, DiskError};
+use disk_records::{Disk, DiskError, Plan};
 use std::fs;
 use std::test::Fail;
 
@@ -19,15 +19,15 @@ fn byte_at(place: usize, header: u16, label: u16, value: u16) -> u8 {
 #[test]
 fn records_are_written_in_place(rt: HostRuntime) -> Result<(), Fail> {
     let mut machine = FileMachine::create(&rt, rt.alloc(), "written", 2)?;
-    machine.run(7, WRITE_ALL, &mut filled(0x0102, 0x0304, 0x0506))?;
+    machine.run(7, Plan::WRITE_ALL, &mut filled(0x0102, 0x0304, 0x0506))?;
     assert_eq!(rt; machine.writes(), 3);
 
     let mut memory = filled(0, 0x0304, 0x0708);
     memory.label[5] = 8;
     let mismatch = DiskError::Mismatch { part: 1, word: 5 };
-    assert!(rt; machine.run(7, WRITE_VALUE, &mut memory) == Err(mismatch));
+    assert!(rt; machine.run(7, Plan::WRITE_VALUE, &mut memory) == Err(mismatch));
     memory.label[5] = 0;
-    machine.run(7, WRITE_VALUE, &mut memory)?;
+    machine.run(7, Plan::WRITE_VALUE, &mut memory)?;
     assert!(rt; memory == filled(0x0102, 0x0304, 0x0708));
     assert_eq!(rt; machine.writes(), 4);
 
@@ -36,9 +36,9 @@ fn records_are_written_in_place(rt: HostRuntime) -> Result<(), Fail> {
     for (place, byte) in bytes.iter().enumerate() {
         assert_eq!(rt; *byte, byte_at(place, 0x0102, 0x0304, 0x0708), "at {place}");
     }
-    machine.run(7, READ_ALL, &mut memory)?;
+    machine.run(7, Plan::READ, &mut memory)?;
     assert!(rt; memory == filled(0x0102, 0x0304, 0x0708));
-    machine.run(47, READ_ALL, &mut memory)?;
+    machine.run(47, Plan::READ, &mut memory)?;
     assert!(rt; memory == filled(0, 0, 0));
     fs::remove_file(&rt, "written")?;
     Ok(())
@@ -57,8 +57,8 @@ fn every_byte_of_two_files_is_read_and_written_back(rt: HostRuntime) -> Result<(
     let mut sector = filled(9, 9, 9);
     for at in 0u16..96 {
         assert!(rt; at < every.shape().pages() && at < again.shape().pages());
-        every.run(at, READ_ALL, &mut sector)?;
-        again.run(at, WRITE_ALL, &mut sector)?;
+        every.run(at, Plan::READ, &mut sector)?;
+        again.run(at, Plan::WRITE_ALL, &mut sector)?;
     }
     assert_eq!(rt; again.writes(), 3 * 96);
     for (path, wanted) in [

@@ -1,7 +1,7 @@
 // Sectors that are kept: that real files are read once, and again where they have to be.
-use crate::samples::{READ_ALL, WRITE_ALL, WRITE_VALUE, filled};
+use crate::samples::filled;
 use disk_image::FileMachine;
-use disk_records::{Disk, DiskError, Sector};
+use disk_records::{Disk, DiskError, Plan, Sector};
 use std::alloc::{AllocError, Global};
 use std::fs;
 use std::fs::{OpenFile, OpenOptions};
@@ -18,14 +18,14 @@ fn read_at<D: Disk>(machine: &mut D, at: u16) -> Result<Sector, DiskError> {
     if at >= machine.shape().pages() {
         return Err(DiskError::Failed);
     }
-    machine.run(at, READ_ALL, &mut memory)?;
+    machine.run(at, Plan::READ, &mut memory)?;
     Ok(memory)
 }
 
 #[test]
 fn a_kept_sector_meets_no_fault(rt: HostRuntime) -> Result<(), Fail> {
     let mut machine = FileMachine::create(&rt, rt.alloc(), "kept", 2)?;
-    machine.run(5, WRITE_ALL, &mut filled(1, 2, 3))?;
+    machine.run(5, Plan::WRITE_ALL, &mut filled(1, 2, 3))?;
     assert!(rt; read_at(&mut machine, 5) == Ok(filled(1, 2, 3)));
     // the first cylinder was read, and the other one wasn't
     let file = OpenOptions::new().write(true).open(&rt, "kept")?;
@@ -70,12 +70,12 @@ fn a_cylinder_that_is_read_again_stays(rt: HostRuntime) -> Result<(), Fail> {
 #[test]
 fn a_sector_is_forgotten_after_a_fault(rt: HostRuntime) -> Result<(), Fail> {
     let mut machine = FileMachine::create(&rt, rt.alloc(), "forgotten", 2)?;
-    machine.run(5, WRITE_ALL, &mut filled(1, 2, 3))?;
-    machine.run(6, WRITE_ALL, &mut filled(4, 5, 6))?;
+    machine.run(5, Plan::WRITE_ALL, &mut filled(1, 2, 3))?;
+    machine.run(6, Plan::WRITE_ALL, &mut filled(4, 5, 6))?;
     assert!(rt; read_at(&mut machine, 5) == Ok(filled(1, 2, 3)));
     let file = OpenOptions::new().write(true).open(&rt, "forgotten")?;
     file.set_len(0)?;
-    let failed = machine.run(5, WRITE_VALUE, &mut filled(0, 0, 7));
+    let failed = machine.run(5, Plan::WRITE_VALUE, &mut filled(0, 0, 7));
     assert!(rt; failed == Err(DiskError::Failed));
     assert!(rt; read_at(&mut machine, 5) == Err(DiskError::Failed));
     assert!(rt; read_at(&mut machine, 6) == Ok(filled(4, 5, 6)));
@@ -123,7 +123,7 @@ fn a_kept_sector_is_the_one_of_its_drive(rt: HostRuntime) -> Result<(), Fail> {
     }
     // of these one is written, and all are kept
     assert!(rt; 53 < machine.shape().pages());
-    machine.run(53, WRITE_ALL, &mut filled(3, 3, 3))?;
+    machine.run(53, Plan::WRITE_ALL, &mut filled(3, 3, 3))?;
     fs::write(&rt, "here", b"")?;
     fs::write(&rt, "there", b"")?;
     for at in 0u16..96 {
@@ -148,13 +148,13 @@ fn a_write_at_a_lost_sector_is_a_fault(rt: HostRuntime) -> Result<(), Fail> {
     for length in [2_127u64, 1_700, 1_596] {
         file.set_len(length)?;
         for at in [3u16, 4, 47] {
-            for plan in [WRITE_ALL, WRITE_VALUE] {
+            for plan in [Plan::WRITE_ALL, Plan::WRITE_VALUE] {
                 let failed = machine.run(at, plan, &mut filled(0, 0, 7));
                 assert!(rt; failed == Err(DiskError::Failed), "{at} of {length}");
             }
         }
-        machine.run(2, WRITE_ALL, &mut filled(0, 0, 7))?;
-        machine.run(2, WRITE_VALUE, &mut filled(0, 0, 7))?;
+        machine.run(2, Plan::WRITE_ALL, &mut filled(0, 0, 7))?;
+        machine.run(2, Plan::WRITE_VALUE, &mut filled(0, 0, 7))?;
         assert!(rt; fs::read(&rt, "lost")?.len() as u64 == length);
     }
     assert_eq!(rt; machine.writes(), 12);
