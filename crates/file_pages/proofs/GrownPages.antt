@@ -3,12 +3,13 @@ use Rattle.std.proofs.Common.{All, Bool, List, OnOk, Ok, Err, Result, Some, ap, 
 use Rattle.alto_words.specs.declared.fid.Fid.{Fid}
 use Rattle.disk_records.proofs.Growing.{grown_twice, pack-after}
 use Rattle.disk_records.specs.Events.{writes_in}
-use Rattle.disk_records.specs.Packs.{Pack, after, carried, sector_at}
+use Rattle.disk_records.specs.Packs.{Pack, after, carried, is_free_at, sector_at}
 use Rattle.disk_records.specs.Tapes.{DiskAlone, Taped, added, capped, pack}
 use Rattle.disk_records.specs.declared.records.Sector.{Sector}
 use Rattle.disk_records.specs.declared.records.Tally.{Tally}
 use Rattle.laws_call.specs.Acting.{around}
 use Rattle.laws_hint.specs.MapChanges.{marked}
+use Rattle.laws_midway.proofs.loops.Laws.{claims_leave_carried_pages}
 use Rattle.laws_operation.specs.FileWords.{CanGrow}
 use Rattle.page_seeking.specs.Seeking.{Stands, file_length, page_number}
 use Rattle.page_seeking.specs.declared.refs.FileError.{FileError}
@@ -18,10 +19,10 @@ use Rattle.pack_model.specs.operations.PageWords.{link_to_first, relabelled}
 use Rattle.pack_model.specs.operations.Step.{Operation}
 use Rattle.pack_model.specs.reading.Bytes.{bytes_of, put_at, words_of}
 use Rattle.pack_model.specs.states.Whole.{Tidy, Whole}
+use Rattle.file_pages.proofs.ClaimRow.{claims_sectors}
 use Rattle.file_pages.proofs.Growth.{all_written, claims_failed, claims_first, page_committed, page_first}
 use Rattle.file_pages.proofs.GrownFile.{grew}
 use Rattle.file_pages.proofs.GrowthWords.{IsGrown, can_claim, can_grow, counted_bytes, first_bytes, is_grown, other_bytes, words_fit}
-use Rattle.file_pages.proofs.LastLabel.{carried_after_claims}
 use Rattle.file_pages.specs.Growing.{CanClaim, Commits, Grew, GrowsWith, Makes, MayBeGrown}
 use Rattle.page_seeking.specs.Seeking.{IsLast}
 use Rattle.page_seeking.specs.declared.ends.LastPage.{LastPage}
@@ -99,7 +100,10 @@ module _ (a : Taped) (o : Operation) (f : Fid) (last : LastPage) (buffer : Secto
     module _ (done : added a c ≡ claims_writes (claims_of a.form f (suc last.number) last.at (drop count new) past fresh)) where
       -- the page is there still
       pub still_there : carried (pack c) last.at ≡ Some (page_number f last.number)
-      still_there = carried_after_claims (pack a) (pack c) a.form f past fresh (suc last.number) last.at (drop count new) last.at (page_number f last.number) (pack-after one.grown ∙ ap (after (pack a)) done) x.stands.carries x.may.free
+      still_there =
+          let claims = claims_of a.form f (suc last.number) last.at (drop count new) past fresh in
+          let free = subst (λ ats. All (λ i. is_free_at (pack a) i ≡ true) ats) (sym (claims_sectors a.form f past fresh (suc last.number) last.at (drop count new))) x.may.free in
+          ap (λ (q : Pack). carried q last.at) (pack-after one.grown ∙ ap (after (pack a)) done) ∙ claims_leave_carried_pages (pack a) claims last.at (page_number f last.number) x.stands.carries free
 
       -- its words are those of the growth
       grown_commits : (d : Taped) (label value words : List ℕ) (bytes next : ℕ) → label ≡ relabelled buffer.label bytes next → bytes ≡ last.info.bytes + count → next ≡ link_to_first a.form fresh → value ≡ words_of (put_at last.info.bytes (take count new ++ bytes_of words) (bytes_of buffer.value)) → words ≡ past_last past fresh

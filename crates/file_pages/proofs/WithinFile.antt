@@ -8,16 +8,12 @@ use Rattle.disk_records.specs.Packs.{Pack, carried, sector_at}
 use Rattle.disk_records.specs.Tapes.{Taped}
 use Rattle.disk_records.specs.Words.{word}
 use Rattle.laws_call.specs.Acting.{Around, IsQuiet}
-use Rattle.laws_contents.proofs.ends.Laws.{each_file_has_its_end, whole_file_ends_in_a_page}
-use Rattle.laws_contents.proofs.model.Laws.{leader_is_its_value}
-use Rattle.laws_contents.proofs.pages.Laws.{page_numbers_are_words}
 use Rattle.laws_operation.proofs.lengths.Laws.{full_page_is_not_the_last, length_by_the_last_page}
 use Rattle.laws_operation.proofs.places.Laws.{carried_in_place}
 use Rattle.laws_operation.specs.LengthLaws.{CountsPage}
 use Rattle.pack_laws.proofs.Sighted.{counted}
 use Rattle.pack_model.specs.operations.Committing.{page_of_byte}
 use Rattle.pack_model.specs.states.Whole.{Whole}
-use Rattle.page_seeking.proofs.Easing.{leader_placed}
 use Rattle.page_seeking.proofs.Ending.{ranged}
 use Rattle.page_seeking.specs.Causes.{cause_of_length}
 use Rattle.page_seeking.specs.Parts.{IsPast}
@@ -33,20 +29,6 @@ full_or n most = by (nat_lt n 512) refl
     by : (b : Bool) → nat_lt n 512 ≡ b → (n < 512) ⊎ (n ≡ 512)
     by true is = inl (grind (arith, nat_tests))
     by false is = inr (grind (arith, nat_tests))
-
--- no file of a whole pack has so many bytes that its last page couldn't have a number
-pub length_fits : (p : Pack) (f : Fid) → Whole p → file_length p f / 512 < 65535
-length_fits p f whole = by (nat_lt (file_length p f / 512) 65535) refl
-  where
-    by : (b : Bool) → nat_lt (file_length p f / 512) 65535 ≡ b → file_length p f / 512 < 65535
-    by true is = grind (arith, nat_tests)
-    by false is =
-        let many : 65535 ≤ file_length p f / 512 = grind (arith, nat_tests) in
-        let full = (each_file_has_its_end p f).before.each 65534 (omega (arith, many)) in
-        let leader = leader_placed p f 65534 full.at whole full.sector in
-        let end = whole_file_ends_in_a_page p f whole (leader_is_its_value p f leader.0 leader.1).living in
-        let most = page_numbers_are_words p f (page_of_byte (file_length p f)) end.at end.sector in
-        absurd (omega (arith, many, most))
 
 module _ (p : Pack) (f : Fid) (offset at count : ℕ) (whole : Whole p) (carries : carried p at ≡ Some (page_number f (page_of_byte offset))) (sized : length (sector_at p at).value ≡ 256) where
   -- the page that the byte at the offset is in

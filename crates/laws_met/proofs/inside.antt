@@ -1,10 +1,13 @@
 pub mod Changing
+pub mod Crowded
+pub mod CrowdedWhole
 pub mod FactsA
 pub mod FactsC
 pub mod FactsD
 pub mod FactsE
 pub mod FactsP
 pub mod First
+pub mod Laid
 pub mod LineA
 pub mod LineD
 pub mod Lines

@@ -1,3 +1,4 @@
+pub mod Crowded
 pub mod First
 pub mod Peopled
 pub mod Premises

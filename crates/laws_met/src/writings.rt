@@ -1,5 +1,6 @@
 //! The premises of calls are met: all record writes of an operation, as calls name them; values of 256 words; a cache that lists a new file.
 
+ghost use Rattle.laws_met.specs.Crowded.{EnteringOverAPagesEndIsWritten};
 ghost use Rattle.laws_met.specs.Writings.{MakeIsWritten, NewPagesAreListed, ValuesAreFull, WritingsAreMet};
 
 /// On the small pack with files and a directory each operation on a file or a directory that is there has its record writes as calls name
@@ -11,6 +12,12 @@ pub fn writings_are_met()
 /// After its new serial a make has its record writes as calls name them.
 pub fn make_is_written()
     ensures { MakeIsWritten }
+{}
+
+/// On a small whole pack whose SysDir has two pages an entry may come that goes over the end of the first, into two free slots that are
+/// joined: its record writes, as calls name them, are three values.
+pub fn entering_over_a_pages_end_is_written()
+    ensures { EnteringOverAPagesEndIsWritten }
 {}
 
 /// On the small pack each sector has records as those of a disk, so that each page has a value of 256 words.

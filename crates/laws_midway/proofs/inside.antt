@@ -1,10 +1,13 @@
+pub mod Apart
 pub mod Beside
 pub mod Cutting
 pub mod Dropped
 pub mod FoundRoom
 pub mod Founding
 pub mod FreeRuns
+pub mod Growing
 pub mod Lining
+pub mod Longer
 pub mod Looping
 pub mod Made
 pub mod MostWords

@@ -1,9 +1,10 @@
 -- What stays known of the sectors to come midway in a call's own loop.
-use Rattle.std.specs.Prelude.{All, List, drop, length, take, ℕ, ◌+◌, ◌≡◌, ◌≢◌, ◌≤◌}
+use Rattle.std.specs.Prelude.{All, List, Some, drop, length, take, true, ℕ, ◌+◌, ◌≡◌, ◌≢◌, ◌≤◌}
 use Rattle.alto_words.specs.declared.fid.Fid.{Fid}
 use Rattle.disk_records.specs.Commands.{relabel_writes}
-use Rattle.disk_records.specs.Packs.{Pack, after, sector_at}
+use Rattle.disk_records.specs.Packs.{Pack, after, carried, is_free_at, sector_at}
 use Rattle.disk_records.specs.declared.records.Event.{Event}
+use Rattle.disk_records.specs.declared.records.Page.{Page}
 use Rattle.laws_hint.specs.MapMeanings.{HasEachSector}
 use Rattle.laws_operation.specs.ByteLaws.{Bear}
 use Rattle.pack_model.specs.operations.Commands.{Claim, all_claimed, claims_writes, releases_writes, sectors_of}
@@ -25,6 +26,14 @@ ReleasesLeaveTheRest = (p : Pack) (f : Fid) (n k : ℕ) (pages : List ℕ) → B
 -- on any pack claims leave each sector that isn't one of theirs
 abbrev pub ClaimsLeaveOtherSectors : Type 0
 ClaimsLeaveOtherSectors = (p : Pack) (claims : List Claim) (i : ℕ) → IsApart i (sectors_of (all_claimed claims)) → sector_at (after p (claims_writes claims)) i ≡ sector_at p i
+
+-- on any pack a sector that carries a page is none of free ones
+abbrev pub CarriedIsApartFromFree : Type 0
+CarriedIsApartFromFree = (p : Pack) (at : ℕ) (page : Page) (ats : List ℕ) → carried p at ≡ Some page → All (λ i. is_free_at p i ≡ true) ats → IsApart at ats
+
+-- and carries it still after claims of these
+abbrev pub ClaimsLeaveCarriedPages : Type 0
+ClaimsLeaveCarriedPages = (p : Pack) (claims : List Claim) (at : ℕ) (page : Page) → carried p at ≡ Some page → All (λ i. is_free_at p i ≡ true) (sectors_of (all_claimed claims)) → carried (after p (claims_writes claims)) at ≡ Some page
 
 -- and another label with a value leaves each other sector
 abbrev pub RelabelLeavesOtherSectors : Type 0

@@ -1,6 +1,6 @@
 //! What stays known of the sectors to come midway in a call's own loop.
 
-ghost use Rattle.laws_midway.specs.LoopLaws.{ClaimsLeaveOtherSectors, EachSectorStays, RelabelLeavesOtherSectors, ReleasesLeaveOtherSectors, ReleasesLeaveTheRest};
+ghost use Rattle.laws_midway.specs.LoopLaws.{CarriedIsApartFromFree, ClaimsLeaveCarriedPages, ClaimsLeaveOtherSectors, EachSectorStays, RelabelLeavesOtherSectors, ReleasesLeaveOtherSectors, ReleasesLeaveTheRest};
 
 /// Releases leave each sector that isn't one of theirs.
 pub fn releases_leave_other_sectors()
@@ -15,6 +15,16 @@ pub fn releases_leave_the_rest()
 /// Claims leave each sector that isn't one of theirs.
 pub fn claims_leave_other_sectors()
     ensures { ClaimsLeaveOtherSectors }
+{}
+
+/// A sector that carries a page is none of free ones.
+pub fn carried_is_apart_from_free()
+    ensures { CarriedIsApartFromFree }
+{}
+
+/// A page is carried by its sector still after claims of free sectors.
+pub fn claims_leave_carried_pages()
+    ensures { ClaimsLeaveCarriedPages }
 {}
 
 /// Another label and a value leave each other sector.

@@ -1,2 +1,3 @@
 -- The laws of the premises of calls: what other crates cite.
+pub use Rattle.laws_met.proofs.inside.Crowded.{entering_over_a_pages_end_is_written}
 pub use Rattle.laws_met.proofs.inside.Writings.{make_is_written, new_pages_are_listed, values_are_full, writings_are_met}

@@ -3,16 +3,17 @@ use Rattle.disk_records.specs.Packs.{carried, sector_at}
 use Rattle.disk_records.specs.Tapes.{pack}
 use Rattle.disk_records.specs.Words.{word}
 use Rattle.disk_records.specs.declared.records.Sector.{Sector}
+use Rattle.laws_midway.proofs.growing.Laws.{last_page_has_a_number}
 use Rattle.label_check.specs.declared.errors.PageInfo.{PageInfo}
 use Rattle.page_seeking.specs.Seeking.{length_at, page_number}
 use Rattle.pack_model.specs.operations.Committing.{page_of_byte}
-use Rattle.file_pages.proofs.WithinFile.{length_fits, past_file, within_file}
+use Rattle.file_pages.proofs.WithinFile.{past_file, within_file}
 use Rattle.file_pages.proofs.putting.locate_bytes.Goals as goal
 
 pub returns-in-Ok-clause-beyond : goal.returns-in-Ok-clause-beyond
 returns-in-Ok-clause-beyond g c told whole =
     let size = c.in-Ok.ensures.length told whole in
-    let most = length_fits (pack (g.D.Tape.tape c.args.disk.now)) c.args.file.now.fid whole in
+    let most = last_page_has_a_number (pack (g.D.Tape.tape c.args.disk.now)) c.args.file.now.fid whole in
     let none = c.in_default.ensures.none in
     record { is = size; past = omega (arith, size, most, none) }
 
