@@ -4,16 +4,21 @@ use Rattle.std.specs.Prelude.{All}
 use Rattle.std.proofs.lemmas.List.Elements.{All-cons, All-contains, All-map, All-nil}
 use Rattle.alto_words.specs.Fid.{is_fid}
 use Rattle.alto_words.specs.declared.fid.Fid.{Fid}
-use Rattle.disk_records.specs.Packs.{Pack}
+use Rattle.disk_records.specs.Packs.{Pack, sector_at}
+use Rattle.disk_records.specs.Words.{word}
 use Rattle.disk_records.specs.declared.records.Page.{Page}
+use Rattle.disk_records.specs.declared.records.Sector.{Sector}
 use Rattle.hint_cache.specs.Caches.{Cached}
 use Rattle.hint_cache.specs.declared.cache.Entry.{Entry}
 use Rattle.laws_operation.specs.ByteLaws.{Bear}
-use Rattle.page_seeking.specs.Seeking.{KeepsHandy, as_listed}
+use Rattle.page_seeking.specs.Seeking.{KeepsHandy, NamedNearEnd, as_listed, file_length}
 use Rattle.pack_laws.proofs.Keys.{same_fid}
-use Rattle.pack_model.specs.hints.Handy.{HandyCache, IsRightOrIdle}
+use Rattle.pack_model.specs.hints.Handy.{HandyCache, IsRightOrIdle, last_at_word, last_number_word, leader_word}
+use Rattle.pack_model.specs.operations.Committing.{page_of_byte}
 use Rattle.pack_model.specs.reading.Files.{place}
 use Rattle.pack_model.specs.reading.Sights.{Sight, sights}
+use Rattle.pack_model.specs.states.Whole.{Whole}
+use Rattle.file_pages.proofs.GrownFile.{placed_low}
 use Rattle.file_pages.specs.Calls.{StaysHandy}
 use Rattle.file_pages.specs.Growing.{Grew, IsAmong, NotesPages, StoodApart}
 
@@ -68,3 +73,23 @@ module _ (p q : Pack) (f : Fid) (last : ℕ) (fresh : List ℕ) (x : Grew p q f 
   pub grown_handy : (old mid now : Cached) → KeepsHandy p old mid → old.refused ≤ mid.refused → NotesPages f last fresh mid now → StaysHandy p q old now
   grown_handy old mid now keeps grows (inr rose) whole links g h = inr (omega (arith, rose, grows))
   grown_handy old mid now keeps grows (inl each) whole links g h = inl (handy_cache (sights q) g now.entries (all_stay g mid.entries (handy_entries (sights p) g mid.entries (keeps whole links g h)) now.entries each))
+
+-- ---- the page that the leader names
+-- is named still, where it was, and so many pages more come after it
+pub named_still : {p q : Pack} {f : Fid} {last more : ℕ} {fresh : List ℕ} → Whole p → Grew p q f last fresh → last ≡ page_of_byte (file_length p f) → NamedNearEnd p f more → NamedNearEnd q f (more + length fresh)
+named_still {p} {q} {f} {last} {more} {fresh} whole x is named =
+    let n = leader_word p named.leader_at last_number_word in
+    let words : (sector_at q named.leader_at).value ≡ (sector_at p named.leader_at).value = ap (λ (s : Sector). s.value) (x.leads named.leader_at named.leader) in
+    let number : leader_word q named.leader_at last_number_word ≡ n = ap (λ l. word l last_number_word) words in
+    let at : leader_word q named.leader_at last_at_word ≡ leader_word p named.leader_at last_at_word = ap (λ l. word l last_at_word) words in
+    let first = named.first in
+    let low = placed_low p f n (leader_word p named.leader_at last_at_word) whole named.at in
+    let near = named.near in
+    let ends = x.ends in
+    record {
+      leader_at = named.leader_at;
+      leader = x.kept 0 named.leader_at (omega arith) named.leader;
+      first = omega (arith, first, number);
+      at = ap (place (sights q) f) number ∙ x.kept n (leader_word p named.leader_at last_at_word) (omega (arith, low, is)) named.at ∙ ap (λ i. Some i) (sym at);
+      near = omega (arith, near, ends, number, is);
+    }

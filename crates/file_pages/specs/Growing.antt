@@ -1,13 +1,13 @@
 -- What a caller sees of a growth and of a widening, and what their private functions say.
 use Rattle.std.specs.List.{AllPairs}
-use Rattle.std.specs.Prelude.{All, Contains, IsErrOf, List, None, OnOk, Result, [], cond, length, min, nat_le, suc, take, true, ℕ, ◌%◌, ◌*◌, ◌+◌, ◌<◌, ◌∷◌, ◌≡◌, ◌≢◌, ◌≤◌, ◌⊎◌}
+use Rattle.std.specs.Prelude.{All, Contains, IsErrOf, List, None, OnOk, Result, Some, [], cond, length, min, nat_le, suc, take, true, ℕ, ◌%◌, ◌*◌, ◌+◌, ◌<◌, ◌∷◌, ◌≡◌, ◌≢◌, ◌≤◌, ◌⊎◌}
 use Rattle.alto_words.specs.Fid.{is_directory}
 use Rattle.alto_words.specs.declared.fid.Fid.{Fid}
 use Rattle.disk_records.specs.Addresses.{pages_of, real_of}
 use Rattle.disk_records.specs.Commands.{claim_writes}
 use Rattle.disk_records.specs.Events.{IsFirstOf}
 use Rattle.disk_records.specs.Labels.{label_of}
-use Rattle.disk_records.specs.Packs.{Pack, is_free_at}
+use Rattle.disk_records.specs.Packs.{Pack, is_free_at, sector_at}
 use Rattle.disk_records.specs.Tapes.{Taped, added, pack}
 use Rattle.disk_records.specs.declared.records.Event.{Event}
 use Rattle.disk_records.specs.declared.records.Page.{Page}
@@ -23,7 +23,7 @@ use Rattle.page_seeking.specs.Seeking.{Refused, file_length, page_number}
 use Rattle.page_seeking.specs.declared.refs.FileError.{FileError}
 use Rattle.page_seeking.specs.declared.refs.FileError.TheVariants.{DiskFault, Memory}
 use Rattle.pack_model.specs.operations.Commands.{Claim, past_last}
-use Rattle.pack_model.specs.operations.Committing.{pages_added}
+use Rattle.pack_model.specs.operations.Committing.{page_of_byte, pages_added}
 use Rattle.pack_model.specs.operations.PageWords.{link_to_first, page_value, widening_bytes}
 use Rattle.pack_model.specs.operations.Step.Operation.{grow, widen}
 use Rattle.pack_model.specs.operations.Step.{Operation}
@@ -49,11 +49,14 @@ pub record MayBeGrown (p : Pack) (o : Operation) (f : Fid) (new past fresh : Lis
   pub distinct : AllPairs (λ i j. i ≢ j) fresh
 
 -- ---- where the pages are then
--- Pages up to `last` are where they were, those that came are in these sectors, there is no other, and other files are as they were.
+-- Pages up to `last` are where they were, with the same leader; those that came, after it, are in these sectors, and end the file; there is no
+-- other, and other files are as they were.
 pub record Grew (p q : Pack) (f : Fid) (last : ℕ) (fresh : List ℕ) : Type 0 where
   pub there : (n : ℕ) → n ≤ last → place (sights p) f n ≢ None
   pub kept : KeepsPages f last p q
+  pub leads : (at : ℕ) → place (sights p) f 0 ≡ Some at → sector_at q at ≡ sector_at p at
   pub comes : Bear (sights q) f (suc last) fresh
+  pub ends : page_of_byte (file_length q f) ≡ last + length fresh
   pub none : (n : ℕ) → last + length fresh < n → place (sights q) f n ≡ None
   pub others : LeavesOthers f p q
 

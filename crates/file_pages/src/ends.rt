@@ -1,12 +1,12 @@
 // Where a file ends.
-ghost use Rattle.std.specs.Prelude.{◌≡◌, ◌≢◌, ◌+◌, ◌<◌, ◌≤◌, IfOk, IfSome, IsErrOf, IsTrue, None, OnOk, Some, [], length};
+ghost use Rattle.std.specs.Prelude.{◌≡◌, ◌≢◌, ◌+◌, ◌<◌, ◌≤◌, ℕ, IfOk, IfSome, IsErrOf, IsTrue, None, OnOk, Some, [], length};
 ghost use Rattle.disk_records.specs.Addresses.{pages_of};
 ghost use Rattle.disk_records.specs.Causes.{HasCause};
 ghost use Rattle.disk_records.specs.Packs.{carried, sector_at};
 ghost use Rattle.disk_records.specs.Tapes.{Looks, pack};
 ghost use Rattle.page_seeking.specs.Causes.{cause_of_length};
 ghost use Rattle.page_seeking.specs.Refs.{FileStands, IfMisled, MisledBy};
-ghost use Rattle.page_seeking.specs.Seeking.{IsLast, KeepsHandy, LastNamed, Quick, page_number};
+ghost use Rattle.page_seeking.specs.Seeking.{IsLast, KeepsHandy, LastNamed, NamedNearEnd, Quick, QuickCache, page_number};
 ghost use Rattle.page_seeking.specs.declared.refs.FileError.TheVariants as error;
 ghost use Rattle.pack_model.specs.states.Whole.{Whole};
 ghost use Rattle.file_pages.specs.Ends.{NamesFileEnd};
@@ -78,6 +78,7 @@ pub(crate) fn locate_ends<D: Disk>(
     ensures want { IsTrue D.told → IsErrOf result error.Memory → ⊥ }
     ensures looks { Looks D.told 65640 (D.tape disk.old) (D.tape disk.new) }
     ensures quick { IsTrue D.told → Quick (pack (D.tape disk.old)) file.now.fid hints.old.cache → LastNamed (pack (D.tape disk.old)) file.now.fid → OnOk result ((D.tape disk.new).runs ≤ (D.tape disk.old).runs + 2) }
+    ensures climbs { (more : ℕ) → IsTrue D.told → QuickCache (pack (D.tape disk.old)) file.now.fid hints.old.cache → NamedNearEnd (pack (D.tape disk.old)) file.now.fid more → OnOk result ((D.tape disk.new).runs ≤ (D.tape disk.old).runs + (more + 4)) }
     ensures table { hints.new.table ≡ hints.old.table }
     ensures refused { hints.old.cache.refused ≤ hints.new.cache.refused }
     ensures handy { IsTrue D.told → KeepsHandy (pack (D.tape disk.old)) hints.old.cache hints.new.cache }

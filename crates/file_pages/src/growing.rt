@@ -7,7 +7,7 @@ ghost use Rattle.disk_records.specs.Tapes.{DiskAlone, added, pack};
 ghost use Rattle.laws_call.specs.Acting.{Operates, around};
 ghost use Rattle.page_seeking.specs.Causes.{cause_of_length};
 ghost use Rattle.page_seeking.specs.Refs.{FileStands, IfMisled, MisledBy};
-ghost use Rattle.page_seeking.specs.Seeking.{IsLast, LastNamed, Quick, Seen, Stands, file_length, page_number};
+ghost use Rattle.page_seeking.specs.Seeking.{IsLast, LastNamed, NamedNearEnd, Quick, Seen, Stands, file_length, page_number};
 ghost use Rattle.page_seeking.specs.declared.refs.FileError.TheVariants as error;
 ghost use Rattle.pack_model.specs.operations.Committing.{page_of_byte};
 ghost use Rattle.pack_model.specs.operations.Step.{Operation};
@@ -134,7 +134,8 @@ pub fn grow<D: Disk>(
     ensures alone { DiskAlone (D.tape disk.old) (D.tape disk.new) }
     ensures quick { (o : Operation) → IsTrue D.told → FileStands (pack (D.tape disk.old)) file.now → MayBeGrown (pack (D.tape disk.old)) o file.now.fid bytes.now past.now fresh.now → Quick (pack (D.tape disk.old)) file.now.fid hints.old.cache → LastNamed (pack (D.tape disk.old)) file.now.fid → OnOk result ((D.tape disk.new).runs ≤ (D.tape disk.old).runs + (2 * length fresh.now + 6)) }
 
-    // What becomes of the hints.
+    // What becomes of the hints. The leader names the page that it named, and so many more come after it.
+    ensures named { (o : Operation) (more : ℕ) → IsTrue D.told → FileStands (pack (D.tape disk.old)) file.now → MayBeGrown (pack (D.tape disk.old)) o file.now.fid bytes.now past.now fresh.now → NamedNearEnd (pack (D.tape disk.old)) file.now.fid more → OnOk result (NamedNearEnd (pack (D.tape disk.new)) file.now.fid (more + length fresh.now)) }
     ensures table { OnErr result (hints.new.table ≡ hints.old.table) }
     ensures sized { length hints.new.table ≡ length hints.old.table }
     ensures refused { hints.old.cache.refused ≤ hints.new.cache.refused }

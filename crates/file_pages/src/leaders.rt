@@ -1,5 +1,5 @@
 // Another name, or another written date, in a leader page.
-ghost use Rattle.std.specs.Prelude.{◌≡◌, ◌+◌, ◌≤◌, IsTrue, OnOk, [], length, true};
+ghost use Rattle.std.specs.Prelude.{◌≡◌, ◌+◌, ◌≤◌, ℕ, IsTrue, OnOk, [], length, true};
 ghost use Rattle.alto_words.specs.Names.{is_stored_name};
 ghost use Rattle.disk_records.specs.Bytes.{put_at};
 ghost use Rattle.disk_records.specs.Causes.{HasCause};
@@ -9,7 +9,7 @@ ghost use Rattle.laws_operation.specs.ByteLaws.{IsOrdinary};
 ghost use Rattle.pack_model.specs.operations.PageWords.{halves, stamped_value, titled_value};
 ghost use Rattle.page_seeking.specs.Causes.{cause_of_length};
 ghost use Rattle.page_seeking.specs.Refs.{FileStands, IfMisled, MisledBy};
-ghost use Rattle.page_seeking.specs.Seeking.{LastNamed, Quick};
+ghost use Rattle.page_seeking.specs.Seeking.{LastNamed, NamedNearEnd, Quick, QuickCache};
 ghost use Rattle.page_seeking.specs.declared.refs.FileError.TheVariants as error;
 ghost use Rattle.file_pages.specs.Calls.{to_stamp, to_title};
 ghost use Rattle.file_pages.specs.Values.{LeavesHandy};
@@ -95,7 +95,8 @@ fn put_stamp(value: &mut [u16; 256], moment: u32, last: LastPage)
 }
 
 /// Gives the leader of an ordinary file another written date, in seconds since the start of 1901, and the address, the number and the bytes
-/// of its last page, by one value write. Its leader and its last page are located first; what `buf` holds is open.
+/// of its last page, by one value write. Its leader and its last page are located first; what `buf` holds is open. With true links, a handy
+/// cache and a leader that names a page near the end it takes 6 sector commands, and one for each page after that one; 4, if that is the last.
 ///
 /// Misled: a hint of the file misleads, as `locate` says. DiskFault: the device failed. Memory: no memory was left for the record write.
 /// After each of these nothing was written, or after DiskFault all of it may be.
@@ -115,6 +116,7 @@ pub fn stamp<D: Disk>(
     ensures refused { hints.old.cache.refused ≤ hints.new.cache.refused }
     ensures handy { IsTrue D.told → LeavesHandy (pack (D.tape disk.old)) (pack (D.tape disk.new)) hints.old.cache hints.new.cache }
     ensures quick { IsTrue D.told → Quick (pack (D.tape disk.old)) file.now.fid hints.old.cache → LastNamed (pack (D.tape disk.old)) file.now.fid → OnOk result ((D.tape disk.new).runs ≤ (D.tape disk.old).runs + 4) }
+    ensures climbs { (more : ℕ) → IsTrue D.told → QuickCache (pack (D.tape disk.old)) file.now.fid hints.old.cache → NamedNearEnd (pack (D.tape disk.old)) file.now.fid more → OnOk result ((D.tape disk.new).runs ≤ (D.tape disk.old).runs + (more + 6)) }
 {
     let mut value = [0; 256];
     match locate_ends(disk, hints, file, &mut value, buf) {

@@ -24,8 +24,8 @@ use Rattle.pack_model.specs.reading.Sights.{Sight, sights}
 use Rattle.pack_model.specs.reading.Sights.Sight.{hidden, holds}
 use Rattle.pack_model.specs.states.Whole.{FileWhole, Whole, absent, present}
 use Rattle.page_seeking.specs.declared.seek.Found.{Found}
-use Rattle.page_seeking.specs.Seeking.{KeepsHandy, Quick, Stands, all_listed, as_listed, page_number}
-use Rattle.page_seeking.specs.Inside.{Eases, HandyEntries, IfMissed, IsHandyEntry, IsNoneOr, LeadsTo, Sought}
+use Rattle.page_seeking.specs.Seeking.{KeepsHandy, Quick, QuickCache, Stands, all_listed, as_listed, page_number}
+use Rattle.page_seeking.specs.Inside.{Eases, Finds, HandyEntries, IfMissed, IsHandyEntry, IsNoneOr, LeadsTo, Sought}
 use Rattle.page_seeking.proofs.Handing.{placed_within}
 use Rattle.page_seeking.proofs.Recalling.{of_listed}
 
@@ -41,12 +41,16 @@ right_entry p f n i at entries handy listed placed = elim (of_listed (IsHandyEnt
     no e = cc
 
 -- a page that was missed by the cache isn't listed there
-pub passed_free : {P : Type 0} (p : Pack) (f : Fid) (n at : ℕ) (cache : Cached) → Eases p f n at cache → (address_in cache.entries (page_number f n) ≡ None → P) → ((i : ℕ) → address_in cache.entries (page_number f n) ≡ Some i → carried p i ≡ Some (page_number f n) → ⊥) → P
-passed_free {P} p f n at cache eases free here = by (address_in cache.entries (page_number f n)) refl
+pub passed_free : {P : Type 0} (p : Pack) (f : Fid) (n at : ℕ) (cache : Cached) → Finds p f n at cache → (address_in cache.entries (page_number f n) ≡ None → P) → ((i : ℕ) → address_in cache.entries (page_number f n) ≡ Some i → carried p i ≡ Some (page_number f n) → ⊥) → P
+passed_free {P} p f n at cache finds free here = by (address_in cache.entries (page_number f n)) refl
   where
     by : (o : Option ℕ) → address_in cache.entries (page_number f n) ≡ o → P
     by None e = free e
-    by (Some i) e = absurd (here i e (ap (carried p) (right_entry p f n i at cache.entries eases.entries e eases.placed) ∙ place_carried p (page_number f n) at eases.placed))
+    by (Some i) e = absurd (here i e (ap (carried p) (right_entry p f n i at cache.entries finds.entries e finds.placed) ∙ place_carried p (page_number f n) at finds.placed))
+
+-- what is handy for a page finds it
+pub finds_eased : {p : Pack} {f : Fid} {n at : ℕ} {c : Cached} → Eases p f n at c → Finds p f n at c
+finds_eased x = record { entries = x.entries; placed = x.placed }
 
 -- ---- pages of a whole file
 -- a page before one that is there is there
@@ -144,6 +148,13 @@ eases_of {p} {f} {n} {at} {c} quick carries =
       entries = handy_entries p f c.entries quick.handy.cached;
       placed = carried_place p quick.whole at (page_number f n) carries;
     }
+
+-- a handy cache finds a page that is carried
+pub finds_of : {p : Pack} {f : Fid} {n at : ℕ} {c : Cached} → QuickCache p f c → carried p at ≡ Some (page_number f n) → Finds p f n at c
+finds_of {p} {f} {n} {at} {c} quick carries = record { entries = handy_entries p f c.entries quick.cached; placed = carried_place p quick.whole at (page_number f n) carries }
+
+pub quick_cache : {p : Pack} {f : Fid} {c : Cached} → Quick p f c → QuickCache p f c
+quick_cache quick = record { whole = quick.whole; links = quick.links; cached = quick.handy.cached }
 
 -- ---- hints that may be passed over
 -- a hint that is right, if there is one, isn't missed: so there is none

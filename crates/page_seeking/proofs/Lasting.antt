@@ -1,5 +1,5 @@
 -- The last page of a file, and its length by that page's label.
-use Rattle.std.proofs.Common.{◌≡◌, ◌≢◌, ℕ, ◌-◌, ◌/◌, ◌<◌, ◌≤◌, suc, Bool, length, Option, Some, IsTrue, inl, inr, refl, sym, ◌∙◌, ap, arith}
+use Rattle.std.proofs.Common.{◌≡◌, ◌≢◌, ℕ, ◌+◌, ◌-◌, ◌/◌, ◌<◌, ◌≤◌, suc, Bool, length, Option, Some, IsTrue, inl, inr, refl, sym, ◌∙◌, ap, arith}
 use Rattle.alto_words.specs.declared.fid.Fid.{Fid}
 use Rattle.disk_records.specs.declared.records.Sector.{Sector}
 use Rattle.disk_records.specs.declared.shape.Shape.{Shape}
@@ -13,12 +13,14 @@ use Rattle.laws_contents.specs.EndLaws.{EndsInAPage}
 use Rattle.laws_contents.specs.PageLaws.{bytes_at}
 use Rattle.laws_record.proofs.Carried.{carried_place}
 use Rattle.laws_record.proofs.Copying.{place_carried}
+use Rattle.pack_model.specs.hints.Handy.{leader_word}
 use Rattle.pack_model.specs.operations.Committing.{page_of_byte}
 use Rattle.pack_model.specs.reading.Files.{place}
 use Rattle.pack_model.specs.reading.Sights.{sights}
 use Rattle.pack_model.specs.states.Whole.{Whole}
 use Rattle.page_seeking.specs.declared.seek.Found.{Found}
-use Rattle.page_seeking.specs.Seeking.{IsLast, LastNamed, Stands, file_length, length_at, page_number}
+use Rattle.page_seeking.specs.Seeking.{IsLast, LastNamed, NamedNearEnd, Stands, file_length, length_at, page_number}
+use Rattle.page_seeking.specs.declared.ends.LastPage.{LastPage}
 use Rattle.page_seeking.specs.Inside.{Ends, Known, NamesEnd}
 use Rattle.page_seeking.proofs.Easing.{leader_placed}
 use Rattle.page_seeking.proofs.Ending.{end_is_length, end_of, same_or_less}
@@ -31,16 +33,35 @@ one e = cc
 pub ending : (p : Pack) (f : Fid) (at : ℕ) → Whole p → place (sights p) f 0 ≡ Some at → EndsInAPage p f
 ending p f at whole placed = whole_file_ends_in_a_page p f whole (leader_is_its_value p f at placed).living
 
--- a leader that names it does so by its words
-pub names_end : {p : Pack} {f : Fid} {la : ℕ} {leader : Sector} → Whole p → Stands p (page_number f 0) la leader → LastNamed p f → NamesEnd p f leader (page_of_byte (file_length p f))
-names_end {p} {f} {la} {leader} whole stands named =
+-- a leader that names the last page names a page near the end
+pub near_of_last : {p : Pack} {f : Fid} → LastNamed p f → NamedNearEnd p f 0
+near_of_last {p} {f} named =
+    let number = named.number in
+    record {
+      leader_at = named.leader_at;
+      leader = named.leader;
+      first = omega (arith, number);
+      at = ap (place (sights p) f) number ∙ named.at;
+      near = omega (arith, number);
+    }
+
+-- and does so by its words
+pub names_end : {p : Pack} {f : Fid} {la more : ℕ} {leader : Sector} → Whole p → Stands p (page_number f 0) la leader → (named : NamedNearEnd p f more) → NamesEnd p f leader (leader_word p named.leader_at 254)
+names_end {p} {f} {la} {more} {leader} whole stands named =
     let same : la ≡ named.leader_at = one (sym (carried_place p whole la (page_number f 0) stands.carries) ∙ named.leader) in
     let value : leader.value ≡ (sector_at p named.leader_at).value = ap (λ (s : Sector). s.value) stands.holds ∙ ap (λ i. (sector_at p i).value) same in
     record {
-      first = omega arith;
-      number = ap (λ l. word l 254) value ∙ named.number;
-      carries = place_carried p (page_number f (page_of_byte (file_length p f))) _ (named.at ∙ ap (λ l. Some (word l 253)) (sym value));
+      first = named.first;
+      number = ap (λ l. word l 254) value;
+      carries = place_carried p (page_number f (leader_word p named.leader_at 254)) _ (named.at ∙ ap (λ l. Some (word l 253)) (sym value));
     }
+
+-- from a page near the end it isn't far to the last one
+pub near_the_end : {p : Pack} {f : Fid} {more : ℕ} {last : LastPage} (now old : ℕ) → IsLast p f last → (named : NamedNearEnd p f more) → now + leader_word p named.leader_at 254 ≤ old + (last.number + 2) → now ≤ old + (more + 2)
+near_the_end now old is named few =
+    let number = is.number in
+    let near = named.near in
+    omega (arith, number, near, few)
 
 -- a known data page counts as many bytes as its label says
 pub counts_known : {told : Bool} {p : Pack} {form : Shape} {f : Fid} {n : ℕ} {found : Found} → Whole p → IsTrue told → 1 ≤ n → Known told p form (page_number f n) found → length (bytes_at p found.at) ≡ found.info.bytes
@@ -48,16 +69,6 @@ counts_known {p = p} {f = f} {n} {found} whole told first known =
     let above : suc (n - 1) ≡ n = omega arith in
     let sector : place (sights p) f (suc (n - 1)) ≡ Some found.at = rw above (carried_place p whole found.at (page_number f n) (known.carries told)) in
     (labels_count p f (n - 1) found.at sector).says (known.sized told) ∙ sym (ap (λ (i : PageInfo). i.bytes) (known.tells told))
-
--- the last page isn't full
-pub last_counts : {told : Bool} {p : Pack} {form : Shape} {f : Fid} {n : ℕ} {found : Found} → Whole p → LastNamed p f → Known told p form (page_number f n) found → IsTrue told → n ≡ page_of_byte (file_length p f) → found.info.bytes ≢ 512
-last_counts {p = p} {f = f} {n} {found} whole named known told is full =
-    let e = ending p f named.leader_at whole named.leader in
-    let here : found.at ≡ e.at = one (sym (carried_place p whole found.at (page_number f n) (known.carries told)) ∙ ap (place (sights p) f) is ∙ e.sector) in
-    let counts = counts_known whole told (omega (arith, is)) known in
-    let same = ap (λ i. length (bytes_at p i)) here in
-    let rest = e.counts in
-    omega (arith, counts, same, rest, full)
 
 -- ---- the length
 -- data page 65,535 isn't full: no page would come after it

@@ -4,6 +4,7 @@ pub mod Seeking
 pub mod Misleading
 pub mod Erring
 pub mod Recalling
+mod Recent
 pub mod Ending
 pub mod Easing
 pub mod Lasting

@@ -105,6 +105,7 @@ confirmed_before {told} {n} {a} {b} {page} {c} {d} {e} {buffer} {f} looks grows 
         here = elim (x.lists.here) [ inl is ↦ inl is | inr rose ↦ inr (omega (arith, grows, rose)) ];
         next = λ i goes links. elim (x.lists.next i goes (subst (λ (s : Shape). Links s f.info.next i) (sym form) links)) [ inl is ↦ inl is | inr rose ↦ inr (omega (arith, grows, rose)) ];
       };
+      recent = elim (x.recent) [ inl is ↦ inl is | inr rose ↦ inr (omega (arith, grows, rose)) ];
     }
 
 -- a page that a climb answers is confirmed over the calls before it too, which found the page that it began at

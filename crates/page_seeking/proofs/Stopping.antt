@@ -3,7 +3,8 @@ use Rattle.std.proofs.Common.{◌≡◌, ◌⊎◌, ℕ, suc, nat_lt, ◌+◌, �
 use Rattle.std.proofs.lemmas.Bool.Decides.{nat_tests}
 use Rattle.alto_words.specs.declared.fid.Fid.{Fid}
 use Rattle.disk_records.specs.declared.records.Sector.{Sector}
-use Rattle.disk_records.specs.Packs.{Pack}
+use Rattle.disk_records.proofs.Looking.{looks_pack}
+use Rattle.disk_records.specs.Packs.{Pack, carried}
 use Rattle.disk_records.specs.Tapes.{Taped, Looks, pack}
 use Rattle.hint_cache.specs.Caches.{Cached}
 use Rattle.label_check.specs.declared.errors.PageInfo.{PageInfo}
@@ -21,12 +22,13 @@ use Rattle.page_seeking.specs.declared.links.Below.{Below}
 use Rattle.page_seeking.specs.declared.seek.Found.{Found}
 use Rattle.page_seeking.specs.Seeking.{Refused, file_length, page_number}
 use Rattle.page_seeking.specs.Parts.{IsListed, ListsEnd, ListsNext}
-use Rattle.page_seeking.specs.Inside.{Confirmed, Known, Stops, StopsAt}
+use Rattle.page_seeking.specs.Inside.{Confirmed, Known, LastListed, Stops, StopsAt}
 use Rattle.page_seeking.proofs.Easing.{leader_placed}
 use Rattle.page_seeking.proofs.Handing.{placed_first, placed_within}
 use Rattle.page_seeking.proofs.Lasting.{ending}
 use Rattle.page_seeking.proofs.Once.{counts_once, full_before_known, once_of_whole, placed_once}
 use Rattle.page_seeking.proofs.Parting.{few_bytes}
+use Rattle.page_seeking.proofs.Recent.{listed_before}
 use Rattle.page_seeking.proofs.Seeking.{confirmed_before, known_of}
 
 -- over the calls before, which found the page that reading began at
@@ -35,6 +37,19 @@ pub stops_before : {told : Bool} {n : ℕ} {a b : Taped} {f : Fid} {end : ℕ} {
 stops_before {told} {a = a} {f = f} {c = c} {d} {e} {below} {buffer} looks grows first found (inl x) =
     record { number = below.number; here = below.found; buffer = buffer; first = first; from = x.from; upto = x.upto; confirmed = subst (λ (y : Cached). Confirmed told (page_number f below.number) a c y buffer below.found) (sym x.cache_is) found }
 stops_before looks grows first found (inr x) = record { number = x.number; here = x.here; buffer = x.buffer; first = x.first; from = x.from; upto = x.upto; confirmed = confirmed_before looks grows x.confirmed }
+
+-- and so is the page of the last byte listed
+pub last_before : {told : Bool} {n : ℕ} {a b : Taped} {f : Fid} {c d : Cached} {buffer : Sector} (below : Below) (end : ℕ) (e : Cached) → Looks told n a b → c.refused ≤ d.refused → d.refused ≤ e.refused → Confirmed told (page_number f below.number) a c d buffer below.found
+    → LastListed told b f below end d e → ListsNext told (pack a) f (end - 1) c e
+last_before {told} {a = a} {f = f} {c} {d} below end e looks less more found (inl here) =
+    subst (λ n. IsListed told (pack a) (page_number f n) e ⊎ Refused c e) (sym here.0) (elim (listed_before (page_number f below.number) below.found.at c d e less more found.recent here.1) [
+      | inl there ↦ inl (record { at = below.found.at; listed = there; carries = λ told. (found.stands told).carries })
+      | inr rose ↦ inr rose
+    ])
+last_before {told} {a = a} {f = f} {c} {d} below end e looks less more found (inr lists) = elim lists [
+  | inl x ↦ inl (record { at = x.at; listed = x.listed; carries = λ told. subst (λ (p : Pack). carried p x.at ≡ Some (page_number f (page_of_byte (end - 1)))) (looks_pack looks told) (x.carries told) })
+  | inr rose ↦ inr (omega (arith, less, rose))
+]
 
 -- the page is listed
 pub lists_end : {told : Bool} {a : Taped} {f : Fid} {end : ℕ} {c d : Cached} → Stops told a f end c d → ListsEnd told (pack a) f end c d

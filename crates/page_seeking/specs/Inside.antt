@@ -1,5 +1,5 @@
 -- What the private functions say.
-use Rattle.std.specs.Prelude.{◌≡◌, ◌≢◌, ◌⊎◌, ℕ, ◌+◌, ◌-◌, ◌*◌, ◌<◌, ◌≤◌, Bool, IsTrue, List, [], length, All, Contains, Option, Some, None, Result, Ok, Err}
+use Rattle.std.specs.Prelude.{◌≡◌, ◌≢◌, ◌⊎◌, ℕ, ◌+◌, ◌-◌, ◌*◌, ◌<◌, ◌≤◌, Bool, IsTrue, List, [], length, take, All, Contains, Option, Some, None, Result, Ok, Err}
 use Rattle.alto_words.specs.declared.fid.Fid.{Fid}
 use Rattle.disk_records.specs.declared.records.Page.{Page}
 use Rattle.disk_records.specs.declared.records.Place.{Place}
@@ -10,7 +10,7 @@ use Rattle.disk_records.specs.Packs.{Pack, sector_at, carried}
 use Rattle.disk_records.specs.Tapes.{Taped, Looks, pack}
 use Rattle.disk_records.specs.Words.{word}
 use Rattle.hint_cache.specs.declared.cache.Entry.{Entry}
-use Rattle.hint_cache.specs.Caches.{Cached, noted}
+use Rattle.hint_cache.specs.Caches.{Cached, address_in, noted}
 use Rattle.label_check.specs.declared.errors.PageInfo.{PageInfo}
 use Rattle.label_check.specs.declared.errors.LookError.{LookError}
 use Rattle.label_check.specs.declared.errors.LookError.TheVariants as look
@@ -19,6 +19,7 @@ use Rattle.label_check.specs.declared.errors.GuardError.TheVariants as guard
 use Rattle.label_check.specs.Guarded.{info_of}
 use Rattle.pack_model.specs.hints.Handy.{Handy, IsRightOrIdle, last_at_word, last_number_word, row_word}
 use Rattle.pack_model.specs.hints.Links.{LinksTrue}
+use Rattle.pack_model.specs.operations.Committing.{page_of_byte}
 use Rattle.pack_model.specs.reading.Files.{place}
 use Rattle.pack_model.specs.reading.Sights.{Sight, sights}
 use Rattle.pack_model.specs.states.Whole.{Whole}
@@ -26,6 +27,7 @@ use Rattle.page_seeking.specs.declared.refs.FileError.{FileError}
 use Rattle.page_seeking.specs.declared.refs.FileError.TheVariants.{Misled, DiskFault, Memory}
 use Rattle.page_seeking.specs.declared.links.Below.{Below}
 use Rattle.page_seeking.specs.declared.seek.Found.{Found}
+use Rattle.page_seeking.specs.Parts.{ListsNext}
 use Rattle.page_seeking.specs.Seeking.{GoesOn, Links, page_after, page_number, Seen, Stands, Lists, Refused}
 
 abbrev pub error_of_look : LookError → FileError
@@ -58,12 +60,25 @@ pub record Notes (page : Page) (at : ℕ) (before now : Cached) : Type 0 where
   pub here : (now.entries ≡ noted page at before.entries) ⊎ Refused before now
   pub grows : before.refused ≤ now.refused
 
+-- The page is listed at this address, among the two entries that were used last, unless a `note` was refused.
+abbrev pub IsRecent : Page → ℕ → Cached → Cached → Type 0
+IsRecent page at before now = (address_in (take 2 now.entries) page ≡ Some at) ⊎ Refused before now
+
+-- An address that the page had among the two entries that were used last is listed still, unless a `note` was refused.
+abbrev pub KeepsRecent : Page → Cached → Cached → Type 0
+KeepsRecent page before now = (at : ℕ) → address_in (take 2 before.entries) page ≡ Some at → (address_in now.entries page ≡ Some at) ⊎ Refused before now
+
+-- so it is of each page with a lower number
+abbrev pub KeepsLower : Page → Cached → Cached → Type 0
+KeepsLower page before now = (other : Page) → other.number < page.number → KeepsRecent other before now
+
 -- ---- a page that was found
 -- It is in the buffer, and the cache lists it.
 pub record Confirmed (told : Bool) (page : Page) (old : Taped) (before now : Cached) (buffer : Sector) (f : Found) : Type 0 where
   pub seen : Seen old.form page f.at f.info buffer
   pub stands : IsTrue told → Stands (pack old) page f.at buffer
   pub lists : Lists old.form page f.at f.info before now
+  pub recent : IsRecent page f.at before now
 
 -- A page that is known by its address and its label's words, whatever the buffer holds.
 pub record Known (told : Bool) (p : Pack) (form : Shape) (page : Page) (f : Found) : Type 0 where
@@ -101,6 +116,10 @@ pub record Stops (told : Bool) (old : Taped) (f : Fid) (end : ℕ) (before now :
   pub upto : end ≤ 512 * (number - 1) + here.info.bytes
   pub confirmed : Confirmed told (page_number f number) old before now buffer here
 
+-- The last byte that was read is in the page that reading began at, which is listed still if it was used last; or its page is listed.
+abbrev pub LastListed : Bool → Taped → Fid → Below → ℕ → Cached → Cached → Type 0
+LastListed told old f below end before now = ((page_of_byte (end - 1) ≡ below.number) × KeepsRecent (page_number f below.number) before now) ⊎ ListsNext told (pack old) f (end - 1) before now
+
 -- an entry for a page of this file names its sector, or no sector bears the page
 abbrev pub IsHandyEntry : List Sight → Fid → Entry → Type 0
 IsHandyEntry ss f e = e.page.fid ≡ f → IsRightOrIdle ss f e.page.number e.at
@@ -134,6 +153,11 @@ pub record Eases (p : Pack) (f : Fid) (n at : ℕ) (cache : Cached) : Type 0 whe
   pub whole : Whole p
   pub links : LinksTrue p
   pub hints : Handy p f []
+  pub entries : HandyEntries p f cache.entries
+  pub placed : place (sights p) f n ≡ Some at
+
+-- The page has this place, and what the cache has of its file is handy.
+pub record Finds (p : Pack) (f : Fid) (n at : ℕ) (cache : Cached) : Type 0 where
   pub entries : HandyEntries p f cache.entries
   pub placed : place (sights p) f n ≡ Some at
 

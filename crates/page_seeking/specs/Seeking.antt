@@ -121,9 +121,24 @@ pub record Quick (p : Pack) (f : Fid) (cache : Cached) : Type 0 where
   pub links : LinksTrue p
   pub handy : Handy p f (all_listed cache)
 
+-- What bounds on reaching a file's leader and its end ask for: true links on a whole pack, and addresses in the cache that are handy for this
+-- file, whatever its leader says of pages.
+pub record QuickCache (p : Pack) (f : Fid) (cache : Cached) : Type 0 where
+  pub whole : Whole p
+  pub links : LinksTrue p
+  pub cached : HandyCache (sights p) f (all_listed cache)
+
 -- The last-page words of a file's leader name its last page, and its place.
 pub record LastNamed (p : Pack) (f : Fid) : Type 0 where
   pub leader_at : ℕ
   pub leader : place (sights p) f 0 ≡ Some leader_at
   pub number : leader_word p leader_at last_number_word ≡ page_of_byte (file_length p f)
   pub at : place (sights p) f (page_of_byte (file_length p f)) ≡ Some (leader_word p leader_at last_at_word)
+
+-- They name a data page of it, and its place, and at most so many pages come after that one.
+pub record NamedNearEnd (p : Pack) (f : Fid) (more : ℕ) : Type 0 where
+  pub leader_at : ℕ
+  pub leader : place (sights p) f 0 ≡ Some leader_at
+  pub first : 1 ≤ leader_word p leader_at last_number_word
+  pub at : place (sights p) f (leader_word p leader_at last_number_word) ≡ Some (leader_word p leader_at last_at_word)
+  pub near : page_of_byte (file_length p f) ≤ leader_word p leader_at last_number_word + more

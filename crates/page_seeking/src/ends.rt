@@ -4,12 +4,13 @@ ghost use Rattle.disk_records.specs.Causes.{HasCause};
 ghost use Rattle.disk_records.specs.Packs.{carried};
 ghost use Rattle.disk_records.specs.Tapes.{Looks, Rose, pack};
 ghost use Rattle.disk_records.specs.Words.{word};
+ghost use Rattle.pack_model.specs.hints.Handy.{last_number_word, leader_word};
 ghost use Rattle.pack_model.specs.reading.Sights.{sights};
 ghost use Rattle.pack_model.specs.states.Sentences.{EachOnce};
 ghost use Rattle.pack_model.specs.states.Whole.{Whole};
 ghost use Rattle.page_seeking.specs.Causes.{cause_of_length};
 ghost use Rattle.page_seeking.specs.Refs.{FileIsFrom, IfMisled, IfBeyond, MisledBy};
-ghost use Rattle.page_seeking.specs.Seeking.{EndsAtPage, IsLast, KeepsHandy, LastNamed, Lists, Quick, Seen, Stands, file_length, page_number};
+ghost use Rattle.page_seeking.specs.Seeking.{EndsAtPage, IsLast, KeepsHandy, LastNamed, Lists, NamedNearEnd, Quick, QuickCache, Seen, Stands, file_length, page_number};
 ghost use Rattle.page_seeking.specs.Inside.{Confirmed, Known, NamesEnd, Sought, StaysAt};
 
 use crate::leader::{last_address, last_number, locate_leader};
@@ -49,7 +50,7 @@ fn climb_to_end<D: Disk>(
     ensures want { IsTrue D.told → IsErrOf result FileError.Memory → ⊥ }
     ensures misled { IsTrue D.told → Known D.told (pack (D.tape disk.old)) (D.tape disk.old).form (page_number fid below.number) below.found → IfMisled result (MisledBy (pack (D.tape disk.old)) [] fid) }
     ensures never_beyond { IfBeyond result (λ length. ⊥) }
-    ensures quick { IsTrue D.told → 1 ≤ below.number → below.found.info.bytes ≢ 512 → (D.tape disk.new).runs ≤ (D.tape disk.old).runs }
+    ensures climbs { IsTrue D.told → IfOk result (λ last. (D.tape disk.new).runs + below.number ≤ (D.tape disk.old).runs + last.number) }
 {
     let mut here = below.found;
     for number in below.number..u16::MAX {
@@ -112,7 +113,7 @@ pub(crate) fn seek_last<D: Disk>(
     ensures want { IsTrue D.told → IsErrOf result FileError.Memory → ⊥ }
     ensures misled { IsTrue D.told → FileIsFrom (pack (D.tape disk.old)) file.now → IfMisled result (MisledBy (pack (D.tape disk.old)) [] file.now.fid) }
     ensures never_beyond { IfBeyond result (λ length. ⊥) }
-    ensures quick { IsTrue D.told → Quick (pack (D.tape disk.old)) file.now.fid cache.old → LastNamed (pack (D.tape disk.old)) file.now.fid → OnOk result ((D.tape disk.new).runs ≤ (D.tape disk.old).runs + 2) }
+    ensures climbs { (more : ℕ) → IsTrue D.told → QuickCache (pack (D.tape disk.old)) file.now.fid cache.old → (near : NamedNearEnd (pack (D.tape disk.old)) file.now.fid more) → IfOk result (λ last. (D.tape disk.new).runs + leader_word (pack (D.tape disk.old)) near.leader_at last_number_word ≤ (D.tape disk.old).runs + (last.number + 2)) }
 {
     let leader = locate_leader(disk, cache, file, buf)?;
     let below = near_end(disk, cache, file.fid, leader, buf)?;
@@ -142,10 +143,11 @@ pub fn last_page<D: Disk>(
     ensures cause { HasCause cause_of_length (D.tape disk.old) (D.tape disk.new) result }
     ensures want { IsTrue D.told → IsErrOf result FileError.Memory → ⊥ }
 
-    // Nothing is written. With any hints there are so many sector commands at most; and two with true links, handy hints, and a leader that
-    // names the last page.
+    // Nothing is written. With any hints there are so many sector commands at most; two with true links, handy hints, and a leader that names
+    // the last page; and one more for each page after the one that it names.
     ensures looks { Looks D.told 65586 (D.tape disk.old) (D.tape disk.new) }
     ensures quick { IsTrue D.told → Quick (pack (D.tape disk.old)) file.now.fid hints.old.cache → LastNamed (pack (D.tape disk.old)) file.now.fid → OnOk result ((D.tape disk.new).runs ≤ (D.tape disk.old).runs + 2) }
+    ensures climbs { (more : ℕ) → IsTrue D.told → QuickCache (pack (D.tape disk.old)) file.now.fid hints.old.cache → NamedNearEnd (pack (D.tape disk.old)) file.now.fid more → OnOk result ((D.tape disk.new).runs ≤ (D.tape disk.old).runs + (more + 2)) }
 
     // What becomes of the hints.
     ensures table { hints.new.table ≡ hints.old.table }

@@ -7,7 +7,7 @@ ghost use Rattle.hint_cache.specs.Caches.{address_in};
 ghost use Rattle.pack_model.specs.hints.Handy.{last_at_word, last_number_word};
 ghost use Rattle.pack_model.specs.hints.Misled.{leader_page};
 ghost use Rattle.page_seeking.specs.Refs.{FileIsFrom, IfMisled, IfBeyond, MisledBy};
-ghost use Rattle.page_seeking.specs.Inside.{Sought, Confirmed, IfFound, IfMissed, Eases, EndsAt, IsNoneOr, LeadsTo, LiesAt};
+ghost use Rattle.page_seeking.specs.Inside.{Sought, Confirmed, IfFound, IfMissed, EndsAt, Finds, IsNoneOr, LeadsTo, LiesAt};
 
 use crate::look::look_at;
 use crate::notes::note_seen;
@@ -70,7 +70,7 @@ pub(crate) fn locate_leader<D: Disk>(
     ensures misled { IsTrue D.told → FileIsFrom (pack (D.tape disk.old)) file.now → IfMisled result (MisledBy (pack (D.tape disk.old)) [] file.now.fid) }
     ensures never_beyond { IfBeyond result (λ length. ⊥) }
     ensures soon { (at : ℕ) → IsTrue D.told → address_in cache.old.entries (leader_page file.now.fid) ≡ Some at → carried (pack (D.tape disk.old)) at ≡ Some (leader_page file.now.fid) → (D.tape disk.new).runs ≤ (D.tape disk.old).runs + 1 }
-    ensures quick { (at : ℕ) → IsTrue D.told → Eases (pack (D.tape disk.old)) file.now.fid 0 at cache.old → (D.tape disk.new).runs ≤ (D.tape disk.old).runs + 1 }
+    ensures quick { (at : ℕ) → IsTrue D.told → Finds (pack (D.tape disk.old)) file.now.fid 0 at cache.old → (D.tape disk.new).runs ≤ (D.tape disk.old).runs + 1 }
 {
     let page = Page {
         fid: file.fid,

@@ -1,9 +1,9 @@
 // Following next links upward.
-ghost use Rattle.std.specs.Prelude.{◌≡◌, ◌≢◌, ◌⊎◌, true, false, ◌+◌, ◌-◌, ◌<◌, ◌≤◌, IsTrue, IsErrOf, IfOk, []};
+ghost use Rattle.std.specs.Prelude.{◌≡◌, ◌≢◌, ◌⊎◌, true, false, ◌+◌, ◌-◌, ◌<◌, ◌≤◌, IsTrue, IsErrOf, IfOk, OnOk, []};
 ghost use Rattle.disk_records.specs.Tapes.{Rose, pack};
 ghost use Rattle.page_seeking.specs.Refs.{IfMisled, IfBeyond, MisledBy};
 ghost use Rattle.page_seeking.specs.Seeking.{IsEnd, IsFull, length_at, page_after, page_number};
-ghost use Rattle.page_seeking.specs.Inside.{Sought, Confirmed, Known};
+ghost use Rattle.page_seeking.specs.Inside.{Sought, Confirmed, KeepsRecent, Known};
 
 use crate::FileError;
 use crate::look::look_at;
@@ -30,6 +30,7 @@ pub(crate) fn follow<D: Disk>(
     ensures want { IsTrue D.told → IsErrOf result FileError.Memory → ⊥ }
     ensures misled { IsTrue D.told → Known D.told (pack (D.tape disk.old)) (D.tape disk.old).form page here → IsFull page here.info.bytes → IfMisled result (MisledBy (pack (D.tape disk.old)) [] page.fid) }
     ensures never_beyond { IfBeyond result (λ length. ⊥) }
+    ensures keeps { OnOk result (KeepsRecent page cache.old cache.new) }
 {
     let shape = disk.shape();
     let after = Page {

@@ -1,7 +1,7 @@
 // What is noted of a page that was seen.
 ghost use Rattle.std.specs.Prelude.{◌≡◌, ◌≤◌, ℕ, Some, IfSome};
 ghost use Rattle.page_seeking.specs.Seeking.{GoesOn, Links, Lists};
-ghost use Rattle.page_seeking.specs.Inside.{AreNoted, Notes};
+ghost use Rattle.page_seeking.specs.Inside.{AreNoted, IsRecent, KeepsLower, Notes};
 
 use disk_records::{PAGE_BYTES, Page, Shape};
 use hint_cache::HintCache;
@@ -26,6 +26,8 @@ fn next_address(shape: Shape, page: Page, info: PageInfo) -> Option<u16>
 pub(crate) fn note_seen(cache: &mut HintCache, shape: Shape, page: Page, at: u16, info: PageInfo)
     ensures lists { Lists shape page at info cache.old cache.new }
     ensures noted { AreNoted shape page at info cache.old.entries cache.new.entries }
+    ensures recent { IsRecent page at cache.old cache.new }
+    ensures keeps { KeepsLower page cache.old cache.new }
     ensures refused { cache.old.refused ≤ cache.new.refused }
 {
     note_one(cache, page, at);

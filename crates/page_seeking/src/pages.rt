@@ -7,8 +7,8 @@ ghost use Rattle.hint_cache.specs.Caches.{address_in};
 ghost use Rattle.pack_model.specs.states.Whole.{Whole};
 ghost use Rattle.page_seeking.specs.Causes.{cause_of_file};
 ghost use Rattle.page_seeking.specs.Refs.{FileIsFrom, IfMisled, IfBeyond, MisledBy};
-ghost use Rattle.page_seeking.specs.Seeking.{Seen, Stands, Lists, KeepsHandy, Quick, IsEnd, IsLengthBelow, page_number};
-ghost use Rattle.page_seeking.specs.Inside.{Sought, Confirmed, Known, Eases};
+ghost use Rattle.page_seeking.specs.Seeking.{Seen, Stands, Lists, KeepsHandy, Quick, QuickCache, IsEnd, IsLengthBelow, page_number};
+ghost use Rattle.page_seeking.specs.Inside.{Sought, Confirmed, Known, Eases, Finds};
 
 use crate::leader::{locate_leader, try_leader_hints};
 use crate::links::{Below, climb};
@@ -107,6 +107,7 @@ pub(crate) fn seek_page<D: Disk>(
     ensures never_beyond { number ≤ 1 → IfBeyond result (λ length. ⊥) }
     ensures soon { (at : ℕ) → IsTrue D.told → address_in cache.old.entries (page_number file.now.fid number) ≡ Some at → carried (pack (D.tape disk.old)) at ≡ Some (page_number file.now.fid number) → (D.tape disk.new).runs ≤ (D.tape disk.old).runs + 1 }
     ensures quick { (at : ℕ) → IsTrue D.told → Eases (pack (D.tape disk.old)) file.now.fid number at cache.old → OnOk result ((D.tape disk.new).runs ≤ (D.tape disk.old).runs + (number + 1)) }
+    ensures leader { (at : ℕ) → IsTrue D.told → number ≡ 0 → Finds (pack (D.tape disk.old)) file.now.fid 0 at cache.old → (D.tape disk.new).runs ≤ (D.tape disk.old).runs + 1 }
 {
     if number == 0 {
         return locate_leader(disk, cache, file, buf);
@@ -149,11 +150,12 @@ pub fn locate<D: Disk>(
     ensures cause { HasCause cause_of_file (D.tape disk.old) (D.tape disk.new) result }
     ensures want { IsTrue D.told → IsErrOf result FileError.Memory → ⊥ }
 
-    // Nothing is written, and with any hints there are so many sector commands at most; one, if the cache has the page's sector; and with
-    // true links and handy hints one more than the page's number.
+    // Nothing is written, and with any hints there are so many sector commands at most; one, if the cache has the page's sector; with true
+    // links and handy hints one more than the page's number; and for the leader page one, if true links and a handy cache are all there is.
     ensures looks { Looks D.told (number + 53) (D.tape disk.old) (D.tape disk.new) }
     ensures soon { (at : ℕ) → IsTrue D.told → address_in hints.old.cache.entries (page_number file.now.fid number) ≡ Some at → carried (pack (D.tape disk.old)) at ≡ Some (page_number file.now.fid number) → (D.tape disk.new).runs ≤ (D.tape disk.old).runs + 1 }
     ensures quick { IsTrue D.told → Quick (pack (D.tape disk.old)) file.now.fid hints.old.cache → OnOk result ((D.tape disk.new).runs ≤ (D.tape disk.old).runs + (number + 1)) }
+    ensures leader { IsTrue D.told → number ≡ 0 → QuickCache (pack (D.tape disk.old)) file.now.fid hints.old.cache → OnOk result ((D.tape disk.new).runs ≤ (D.tape disk.old).runs + 1) }
 
     // What becomes of the hints.
     ensures table { hints.new.table ≡ hints.old.table }

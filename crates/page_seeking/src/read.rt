@@ -16,7 +16,7 @@ ghost use Rattle.page_seeking.specs.Causes.{cause_of_file};
 ghost use Rattle.page_seeking.specs.Parts.{IsPart, IsPast, IsReadTo, IsWithinPart, ListsEnd, ListsNext};
 ghost use Rattle.page_seeking.specs.Refs.{FileIsFrom, IfMisled, IfBeyond, MisledBy};
 ghost use Rattle.page_seeking.specs.Seeking.{KeepsHandy, Quick, file_length, page_number};
-ghost use Rattle.page_seeking.specs.Inside.{Known, Sought, Stops, StopsAt};
+ghost use Rattle.page_seeking.specs.Inside.{Known, LastListed, Sought, Stops, StopsAt};
 
 use crate::ends::{length, seek_last};
 use crate::links::{Below, follow, length_at};
@@ -79,6 +79,7 @@ fn read_on<D: Disk>(
     ensures never_beyond { IfBeyond result (λ length. ⊥) }
     ensures fits { IfOk result (λ n. n ≤ length out.old) }
     ensures stops { IfOk result (λ n. StopsAt below (offset + n) cache.old cache.new ⊎ Stops D.told (D.tape disk.old) fid (offset + n) cache.old cache.new) }
+    ensures last { 512 * (below.number - 1) ≤ offset → below.found.info.bytes ≤ 512 → IfOk result (λ n. 1 ≤ n → LastListed D.told (D.tape disk.old) fid below (offset + n) cache.old cache.new) }
     ensures filled { IsTrue D.told → 512 * (below.number - 1) ≤ offset → IfOk result (λ n. 1 ≤ n → n ≡ length out.old → (D.tape disk.new).runs + below.number ≤ (D.tape disk.old).runs + page_of_byte (offset + n - 1)) }
     ensures quick { IsTrue D.told → IfOk result (λ n. (D.tape disk.new).runs + below.number ≤ (D.tape disk.old).runs + page_of_byte (offset + n)) }
     ensures read { (old : List ℕ) → IsTrue D.told → EachOnce (sights (pack (D.tape disk.old))) → FullBefore (pack (D.tape disk.old)) fid (below.number - 1) → Known D.told (pack (D.tape disk.old)) (D.tape disk.old).form (page_number fid below.number) below.found → IsReadTo (file_bytes (sights (pack (D.tape disk.old))) fid) offset front old out.old → IfOk result (IsWithinPart (file_bytes (sights (pack (D.tape disk.old))) fid) offset old out.new) }
@@ -121,6 +122,7 @@ fn read_pages<D: Disk>(
     ensures reached { IsTrue D.told → Whole (pack (D.tape disk.old)) → OnOk result (FullBefore (pack (D.tape disk.old)) file.now.fid (offset / 512)) }
     ensures read { IsTrue D.told → EachOnce (sights (pack (D.tape disk.old))) → FullBefore (pack (D.tape disk.old)) file.now.fid (offset / 512) → IfOk result (IsWithinPart (file_bytes (sights (pack (D.tape disk.old))) file.now.fid) offset out.old out.new) }
     ensures stops { IfOk result (λ n. Stops D.told (D.tape disk.old) file.now.fid (offset + n) cache.old cache.new) }
+    ensures last { IfOk result (λ n. 1 ≤ n → ListsNext D.told (pack (D.tape disk.old)) file.now.fid (offset + n - 1) cache.old cache.new) }
     ensures filled { (at : ℕ) → IsTrue D.told → address_in cache.old.entries (page_number file.now.fid (page_of_byte offset)) ≡ Some at → carried (pack (D.tape disk.old)) at ≡ Some (page_number file.now.fid (page_of_byte offset)) → IfOk result (λ n. 1 ≤ n → n ≡ length out.old → (D.tape disk.new).runs + page_of_byte offset ≤ (D.tape disk.old).runs + page_of_byte (offset + n - 1) + 1) }
     ensures soon { (at : ℕ) → IsTrue D.told → address_in cache.old.entries (page_number file.now.fid (page_of_byte offset)) ≡ Some at → carried (pack (D.tape disk.old)) at ≡ Some (page_number file.now.fid (page_of_byte offset)) → IfOk result (λ n. (D.tape disk.new).runs + page_of_byte offset ≤ (D.tape disk.old).runs + page_of_byte (offset + n) + 1) }
     ensures quick { IsTrue D.told → Quick (pack (D.tape disk.old)) file.now.fid cache.old → IfOk result (λ n. (D.tape disk.new).runs ≤ (D.tape disk.old).runs + page_of_byte (offset + n) + 1) }
@@ -188,9 +190,10 @@ pub fn read_part<D: Disk>(
     ensures filled { (at : ℕ) → IsTrue D.told → address_in hints.old.cache.entries (page_number file.now.fid (page_of_byte offset)) ≡ Some at → carried (pack (D.tape disk.old)) at ≡ Some (page_number file.now.fid (page_of_byte offset)) → IfOk result (λ n. 1 ≤ n → n ≡ length out.old → (D.tape disk.new).runs + page_of_byte offset ≤ (D.tape disk.old).runs + page_of_byte (offset + n - 1) + 1) }
     ensures quick { IsTrue D.told → Quick (pack (D.tape disk.old)) file.now.fid hints.old.cache → IfOk result (λ n. (D.tape disk.new).runs ≤ (D.tape disk.old).runs + page_of_byte (offset + n) + 1) }
 
-    // What becomes of the hints. The cache lists the page that reading ended in; and with true links the one to go on from, so that a file
-    // that is read in parts takes one sector command a page.
+    // What becomes of the hints. The cache lists the page of the last byte that was read, or of no bytes a page that the offset is in or ends.
+    // With true links it lists the page to go on from, so that a file that is read in parts takes one sector command a page.
     ensures table { hints.new.table ≡ hints.old.table }
+    ensures last { IfOk result (λ n. 1 ≤ n → ListsNext D.told (pack (D.tape disk.old)) file.now.fid (offset + n - 1) hints.old.cache hints.new.cache) }
     ensures listed { IfOk result (λ n. ListsEnd D.told (pack (D.tape disk.old)) file.now.fid (offset + n) hints.old.cache hints.new.cache) }
     ensures next { IsTrue D.told → Whole (pack (D.tape disk.old)) → LinksTrue (pack (D.tape disk.old)) → IfOk result (λ n. ListsNext D.told (pack (D.tape disk.old)) file.now.fid (offset + n) hints.old.cache hints.new.cache) }
     ensures refused { hints.old.cache.refused ≤ hints.new.cache.refused }

@@ -1,4 +1,4 @@
-use Rattle.std.proofs.Common.{Err, [], arith, subst, sym, ℕ}
+use Rattle.std.proofs.Common.{Err, [], arith, refl, subst, sym, ℕ}
 use Rattle.disk_records.proofs.Looking.{looks_pack, looks_twice}
 use Rattle.disk_records.specs.Packs.{Pack}
 use Rattle.disk_records.specs.Tapes.{pack}
@@ -6,6 +6,7 @@ use Rattle.label_check.specs.declared.errors.PageInfo.{PageInfo}
 use Rattle.page_seeking.specs.declared.ends.LastPage.{LastPage}
 use Rattle.pack_model.specs.states.Whole.{Whole}
 use Rattle.page_seeking.specs.Refs.{FileIsFrom, IfMisled, MisledBy}
+use Rattle.page_seeking.specs.Seeking.{NamedNearEnd, QuickCache}
 use Rattle.file_pages.specs.Ends.{NamesFileEnd}
 use Rattle.file_pages.proofs.Erring.{never_past}
 use Rattle.file_pages.proofs.FileEnds.{names_last}
@@ -32,6 +33,23 @@ returns-in-Ok-last_page-clause-quick g c told quick named =
     let same = looks_pack c.locate.ensures.looks told in
     let names = names_last p f c.in-Ok.found.0 c.locate.new.buf quick.whole (c.in-Ok.ensures.stands told) named in
     absurd (c.in-Ok-None.ensures.there told (subst Whole (sym same) quick.whole) (subst (λ (q : Pack). NamesFileEnd q f c.locate.new.buf.value) (sym same) names) c.in-Ok-None.field-0-is)
+
+pub returns-in-Ok-Some-clause-climbs : goal.returns-in-Ok-Some-clause-climbs
+returns-in-Ok-Some-clause-climbs g c more told quick near =
+    let first = c.in-Ok.ensures.leader told refl quick in
+    let second = c.named_end.ensures.looks.runs told in
+    omega (arith, first, second)
+
+pub returns-in-Ok-last_page-clause-climbs : goal.returns-in-Ok-last_page-clause-climbs
+returns-in-Ok-last_page-clause-climbs g c more told quick near =
+    let p = pack (g.D.Tape.tape c.args.disk.now) in
+    let f = c.args.file.now.fid in
+    let same = sym (looks_pack (looks_twice 54 c.locate.ensures.looks c.named_end.ensures.looks (omega arith)) told) in
+    let then : QuickCache p f c.locate.new.hints.cache = record { whole = quick.whole; links = quick.links; cached = c.locate.ensures.handy told quick.whole quick.links f quick.cached } in
+    let first = c.in-Ok.ensures.leader told refl quick in
+    let second = c.named_end.ensures.looks.runs told in
+    let third = c.in-Ok-last_page.ensures.climbs more told (subst (λ (q : Pack). QuickCache q f c.locate.new.hints.cache) same then) (subst (λ (q : Pack). NamedNearEnd q f more) same near) in
+    omega (arith, first, second, third)
 
 pub returns-in-Ok-last_page-clause-handy : goal.returns-in-Ok-last_page-clause-handy
 returns-in-Ok-last_page-clause-handy g c told =

@@ -1,9 +1,10 @@
-use Rattle.std.proofs.Common.{Bool, List, [], subst}
+use Rattle.std.proofs.Common.{Bool, List, [], arith, subst}
 use Rattle.disk_records.proofs.Growing.{alone_twice}
 use Rattle.disk_records.specs.Tapes.{pack}
 use Rattle.pack_model.specs.operations.Step.Operation.{stamp}
 use Rattle.laws_call.specs.Acting.{Operates, around}
 use Rattle.page_seeking.specs.declared.refs.FileError.TheVariants as error
+use Rattle.page_seeking.proofs.Erring.{on_ok}
 use Rattle.file_pages.proofs.StampOnce.{stamped_once}
 use Rattle.file_pages.proofs.Valued.{look_leaves_handy, value_after_look, value_leaves_handy, value_operates}
 use Rattle.file_pages.proofs.leaders.stamp.Goals as goal
@@ -27,3 +28,9 @@ returns-in-Ok-clause-handy g c told = value_leaves_handy (g.D.Tape.tape c.write_
 
 pub returns-in-Err-clause-handy : goal.returns-in-Err-clause-handy
 returns-in-Err-clause-handy g c told = look_leaves_handy c.args.hints.now.cache c.locate_ends.new.hints.cache c.locate_ends.ensures.looks told (c.locate_ends.ensures.handy told)
+
+pub returns-in-Ok-clause-climbs : goal.returns-in-Ok-clause-climbs
+returns-in-Ok-clause-climbs g c more told quick near =
+    let first = c.in-Ok.ensures.climbs more told quick near in
+    let second = c.write_page.ensures.runs told in
+    on_ok c.write_page.result (omega (arith, first, second))

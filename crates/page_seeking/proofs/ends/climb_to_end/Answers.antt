@@ -1,6 +1,5 @@
-use Rattle.std.proofs.Common.{◌≡◌, Err, arith, ap, sym, subst, refl, ◌∙◌, inl, inr}
+use Rattle.std.proofs.Common.{◌≡◌, Err, arith, sym, subst, refl, ◌∙◌, inl, inr}
 use Rattle.page_seeking.specs.declared.links.Below.{Below}
-use Rattle.page_seeking.specs.declared.seek.Found.{Found}
 use Rattle.page_seeking.specs.Seeking.{page_number}
 use Rattle.page_seeking.specs.Inside.{Confirmed}
 use Rattle.page_seeking.proofs.Ending.{same_or_less}
@@ -9,7 +8,7 @@ use Rattle.page_seeking.proofs.Seeking.{confirmed_before, known_before, known_la
 use Rattle.page_seeking.proofs.ends.climb_to_end.Goals as goal
 
 pub loop-number-init : goal.loop-number-init
-loop-number-init g c = record { sought = sought_more (omega arith) (sought_here (g.D.Tape.tape c.args.disk.now) c.args.cache.now); known = λ told k. k; start = λ is. (refl, (refl, refl)); found = λ less. absurd (omega arith); short = λ less. absurd (omega arith) }
+loop-number-init g c = record { sought = sought_more (omega arith) (sought_here (g.D.Tape.tape c.args.disk.now) c.args.cache.now); known = λ told k. k; start = λ is. (refl, (refl, refl)); found = λ less. absurd (omega arith) }
 
 pub returns-in-Err-clause-sought : goal.returns-in-Err-clause-sought
 returns-in-Err-clause-sought g c = sought_more (omega arith) (sought_twice c.loop-number.invariant.sought c.follow.ensures.sought)
@@ -53,10 +52,17 @@ loop-number-preserved g c =
       known = λ told k. known_before inv.sought.looks (known_of next.found);
       start = λ is. absurd (omega (arith, is));
       found = λ less. confirmed_before inv.sought.looks inv.sought.refused next.found;
-      short = λ less first.
-          let from = c.loop-number.auto.number in
-          elim (same_or_less c.args.below.number c.loop-number.number from) [
-            | inl same ↦ elim (c.goes_on.ensures.full c.if-not-goes_on.false) [ inl zeroth ↦ absurd (omega (arith, same, zeroth, first)) | inr full ↦ ap (λ (f : Found). f.info.bytes) (sym (inv.start same).0) ∙ full ]
-            | inr more ↦ inv.short more first
-          ];
     }
+
+pub returns-then-not-goes_on-clause-climbs : goal.returns-then-not-goes_on-clause-climbs
+returns-then-not-goes_on-clause-climbs g c told =
+    let runs = c.loop-number.invariant.sought.looks.runs told in
+    let from = c.loop-number.auto.number in
+    omega (arith, runs, from)
+
+pub returns-clause-climbs : goal.returns-clause-climbs
+returns-clause-climbs g c told =
+    let runs = c.loop-number.invariant.sought.looks.runs told in
+    let from = c.loop-number.auto.number in
+    let end = c.loop-number.auto.number-end (omega arith) in
+    omega (arith, runs, from, end)

@@ -1,7 +1,7 @@
 use Rattle.page_seeking.specs.declared.links.Below.{Below}
-use Rattle.page_seeking.proofs.Easing.{keeps_handy}
+use Rattle.page_seeking.proofs.Easing.{keeps_handy, quick_cache}
 use Rattle.page_seeking.proofs.Erring.{caused_length}
-use Rattle.page_seeking.proofs.Lasting.{is_last}
+use Rattle.page_seeking.proofs.Lasting.{is_last, near_of_last, near_the_end}
 use Rattle.page_seeking.proofs.Seeking.{ends_of}
 use Rattle.page_seeking.proofs.ends.last_page.Goals as goal
 
@@ -16,3 +16,12 @@ returns-in-Ok-clause-handy g c told = keeps_handy c.seek_last.ensures.sought tol
 
 pub returns-in-Err-clause-handy : goal.returns-in-Err-clause-handy
 returns-in-Err-clause-handy g c told = keeps_handy c.seek_last.ensures.sought told
+
+pub returns-in-Ok-clause-quick : goal.returns-in-Ok-clause-quick
+returns-in-Ok-clause-quick g c told quick named =
+    let near = near_of_last named in
+    near_the_end _ _ (is_last quick.whole told (ends_of c.in-Ok.ensures.ends c.in-Ok.ensures.found)) near (c.in-Ok.ensures.climbs 0 told (quick_cache quick) near)
+
+pub returns-in-Ok-clause-climbs : goal.returns-in-Ok-clause-climbs
+returns-in-Ok-clause-climbs g c more told quick near =
+    near_the_end _ _ (is_last quick.whole told (ends_of c.in-Ok.ensures.ends c.in-Ok.ensures.found)) near (c.in-Ok.ensures.climbs more told quick near)

@@ -1,8 +1,8 @@
 use Rattle.std.proofs.Common.{◌∙◌, arith}
 use Rattle.page_seeking.specs.declared.links.Below.{Below}
-use Rattle.page_seeking.proofs.Easing.{keeps_handy}
+use Rattle.page_seeking.proofs.Easing.{keeps_handy, quick_cache}
 use Rattle.page_seeking.proofs.Erring.{caused_length}
-use Rattle.page_seeking.proofs.Lasting.{ends_at}
+use Rattle.page_seeking.proofs.Lasting.{ends_at, is_last, near_of_last, near_the_end}
 use Rattle.page_seeking.proofs.Once.{most_once}
 use Rattle.page_seeking.proofs.Seeking.{ends_of}
 use Rattle.page_seeking.proofs.ends.length.Goals as goal
@@ -24,3 +24,8 @@ returns-in-Ok-clause-handy g c told = keeps_handy c.seek_last.ensures.sought tol
 
 pub returns-in-Err-clause-handy : goal.returns-in-Err-clause-handy
 returns-in-Err-clause-handy g c told = keeps_handy c.seek_last.ensures.sought told
+
+pub returns-in-Ok-clause-quick : goal.returns-in-Ok-clause-quick
+returns-in-Ok-clause-quick g c told quick named =
+    let near = near_of_last named in
+    near_the_end _ _ (is_last quick.whole told (ends_of c.in-Ok.ensures.ends c.in-Ok.ensures.found)) near (c.in-Ok.ensures.climbs 0 told (quick_cache quick) near)

@@ -2,13 +2,12 @@ use Rattle.std.proofs.Common.{arith, subst, sym}
 use Rattle.disk_records.specs.Packs.{Pack}
 use Rattle.disk_records.specs.Tapes.{pack}
 use Rattle.disk_records.proofs.Looking.{looks_pack}
-use Rattle.page_seeking.specs.Seeking.{file_length}
 use Rattle.page_seeking.specs.Inside.{NamesEnd}
-use Rattle.pack_model.specs.operations.Committing.{page_of_byte}
-use Rattle.page_seeking.proofs.Easing.{eases_of}
-use Rattle.page_seeking.proofs.Lasting.{last_counts, names_end}
-use Rattle.page_seeking.proofs.Erring.{if_ok_both, on_ok}
-use Rattle.page_seeking.proofs.Seeking.{confirmed_before, confirmed_reached, known_before, known_later, known_of, sought_more, sought_twice}
+use Rattle.pack_model.specs.hints.Handy.{leader_word}
+use Rattle.page_seeking.proofs.Easing.{finds_of}
+use Rattle.page_seeking.proofs.Lasting.{names_end}
+use Rattle.page_seeking.proofs.Erring.{if_ok_both, if_ok_map}
+use Rattle.page_seeking.proofs.Seeking.{confirmed_before, confirmed_reached, sought_more, sought_twice}
 use Rattle.page_seeking.proofs.ends.seek_last.Goals as goal
 
 pub returns-in_err-below-clause-sought : goal.returns-in_err-below-clause-sought
@@ -23,15 +22,14 @@ returns-clause-found g c =
     let both = sought_twice leader c.near_end.ensures.sought in
     if_ok_both c.climb_to_end.result c.climb_to_end.ensures.ends c.climb_to_end.ensures.found (λ last ends found. confirmed_reached both.looks both.refused (λ above. confirmed_before leader.looks leader.refused (c.in_ok-below.ensures.found above)) ends.first found)
 
-pub returns-clause-quick : goal.returns-clause-quick
-returns-clause-quick g c told quick named =
+pub returns-clause-climbs : goal.returns-clause-climbs
+returns-clause-climbs g c more told quick near =
     let old = pack (g.D.Tape.tape c.args.disk.now) in
     let f = c.args.file.now.fid in
+    let named = leader_word old near.leader_at 254 in
     let confirmed = c.in_ok-leader.ensures.found in
-    let leader = c.locate_leader.ensures.quick c.in_ok-leader.leader.at told (eases_of quick (confirmed.stands told).carries) in
+    let leader = c.locate_leader.ensures.quick c.in_ok-leader.leader.at told (finds_of quick (confirmed.stands told).carries) in
     let looks = c.locate_leader.ensures.sought.looks in
-    let ends = names_end quick.whole (confirmed.stands told) named in
-    let near = c.in_ok-below.ensures.quick (page_of_byte (file_length old f)) told (subst (λ (p : Pack). NamesEnd p f c.locate_leader.new.buf (page_of_byte (file_length old f))) (sym (looks_pack looks told)) ends) in
-    let known = c.in_ok-below.ensures.known told (known_later looks (known_of confirmed)) in
-    let short = last_counts quick.whole named (known_before looks known) told near.0 in
-    on_ok c.climb_to_end.result (omega (arith, leader, near.1, c.climb_to_end.ensures.quick told (omega (arith, near.0)) short))
+    let ends = names_end quick.whole (confirmed.stands told) near in
+    let below = c.in_ok-below.ensures.quick named told (subst (λ (p : Pack). NamesEnd p f c.locate_leader.new.buf named) (sym (looks_pack looks told)) ends) in
+    if_ok_map c.climb_to_end.result (c.climb_to_end.ensures.climbs told) (λ last climbed. omega (arith, leader, below.0, below.1, climbed))

@@ -20,7 +20,7 @@ returns-in-None-clause-misled g c told stands =
     if_misled_map c.look_at_leader.result (c.look_at_leader.ensures.misled told (subst (λ (p : Pack). FileIsFrom p c.args.file.now) (sym (looks_pack looks told)) stands)) (λ place at wanted found x. misled_before looks told x)
 
 pub returns-in-None-clause-quick : goal.returns-in-None-clause-quick
-returns-in-None-clause-quick g c at told eases =
+returns-in-None-clause-quick g c at told finds =
     let here = rw c.in-None.is at c.in_ok-found.ensures.here in
-    let none = passed_free (pack (g.D.Tape.tape c.args.disk.now)) c.args.file.now.fid 0 at c.args.cache.now eases (c.try_cached.ensures.unlisted told) (λ i. here i told) in
+    let none = passed_free (pack (g.D.Tape.tape c.args.disk.now)) c.args.file.now.fid 0 at c.args.cache.now finds (c.try_cached.ensures.unlisted told) (λ i. here i told) in
     omega (arith, none, c.look_at_leader.ensures.sought.looks.runs told)

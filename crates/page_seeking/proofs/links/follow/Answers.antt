@@ -1,4 +1,4 @@
-use Rattle.std.proofs.Common.{sym, [], subst}
+use Rattle.std.proofs.Common.{sym, [], arith, subst}
 use Rattle.disk_records.specs.declared.shape.Shape.{Shape}
 use Rattle.disk_records.specs.Tapes.{pack}
 use Rattle.label_check.specs.declared.errors.PageInfo.{PageInfo}
@@ -26,3 +26,6 @@ returns-in-Err-clause-misled g c told known full =
     let taken = taken_link c.shape-shape.result c.args.here.info.next to c.virtual_of.result c.virtual_of.ensures.some c.virtual_of.ensures.back c.unwrap_or-at.ensures in
     at_wrong Found PageInfo (MisledBy (pack old) [] page.fid) (FoundWrong (Carries to (page_after page)) to old (g.D.Tape.tape c.look_at.new.disk)) c.in-Err.error c.error_at.ensures (c.in-Err.ensures.wrong told)
     (λ found wrong. link_misled (pack old) c.shape-shape.result page c.args.here to found told c.shape-shape.ensures (subst (λ (s : Shape). Known g.D.Tape.told (pack old) s page c.args.here) (sym c.shape-shape.ensures) known) full taken.0 taken.1 wrong.failed wrong.label)
+
+pub returns-in-Ok-clause-keeps : goal.returns-in-Ok-clause-keeps
+returns-in-Ok-clause-keeps g c = c.note_seen.ensures.keeps c.args.page (omega arith)

@@ -1,7 +1,8 @@
-use Rattle.std.proofs.Common.{Err}
+use Rattle.std.proofs.Common.{Err, subst}
 use Rattle.disk_records.specs.Tapes.{pack}
 use Rattle.page_seeking.specs.declared.seek.Found.{Found}
-use Rattle.page_seeking.proofs.Easing.{eases_of, keeps_handy}
+use Rattle.page_seeking.specs.Inside.{Finds}
+use Rattle.page_seeking.proofs.Easing.{eases_of, finds_of, keeps_handy}
 use Rattle.page_seeking.proofs.Ending.{end_is_length}
 use Rattle.page_seeking.proofs.Erring.{caused, if_beyond_map}
 use Rattle.page_seeking.proofs.pages.locate.Goals as goal
@@ -14,6 +15,11 @@ returns-in-Err-clause-beyond g c told whole = if_beyond_map {T = Found} (Err c.i
 
 pub returns-in-Ok-clause-quick : goal.returns-in-Ok-clause-quick
 returns-in-Ok-clause-quick g c told quick = c.in-Ok.ensures.quick c.in-Ok.found.at told (eases_of quick (c.in-Ok.ensures.found.stands told).carries)
+
+pub returns-in-Ok-clause-leader : goal.returns-in-Ok-clause-leader
+returns-in-Ok-clause-leader g c told zeroth quick =
+    let finds = finds_of quick (c.in-Ok.ensures.found.stands told).carries in
+    c.in-Ok.ensures.leader c.in-Ok.found.at told zeroth (subst (λ n. Finds (pack (g.D.Tape.tape c.args.disk.now)) c.args.file.now.fid n c.in-Ok.found.at c.args.hints.now.cache) zeroth finds)
 
 pub returns-in-Ok-clause-handy : goal.returns-in-Ok-clause-handy
 returns-in-Ok-clause-handy g c told = keeps_handy c.seek_page.ensures.sought told

@@ -2,7 +2,7 @@ use Rattle.std.proofs.Common.{arith, sym, subst}
 use Rattle.disk_records.specs.Packs.{Pack}
 use Rattle.page_seeking.proofs.Erring.{if_ok_map, if_misled_map, if_beyond_map, on_ok}
 use Rattle.disk_records.proofs.Looking.{looks_pack}
-use Rattle.page_seeking.proofs.Easing.{eases_later, eases_leader, leads_to}
+use Rattle.page_seeking.proofs.Easing.{eases_later, eases_leader, finds_eased, leads_to}
 use Rattle.page_seeking.proofs.Seeking.{confirmed_before, end_before, known_later, known_of, misled_before, sought_more, sought_twice}
 use Rattle.disk_records.specs.Tapes.{pack}
 use Rattle.laws_record.proofs.Copying.{place_carried}
@@ -53,7 +53,7 @@ returns-in-Some-clause-found g c =
 pub returns-in-Some-clause-quick : goal.returns-in-Some-clause-quick
 returns-in-Some-clause-quick g c at told eases =
     let low = eases_leader c.requires.first eases in
-    let leader = c.locate_leader.ensures.quick low.0 told low.1 in
+    let leader = c.locate_leader.ensures.quick low.0 told (finds_eased low.1) in
     let stands = subst (λ (p : Pack). Stands p (page_number c.args.file.now.fid 0) c.in_ok-leader.leader.at c.locate_leader.new.buf) (sym (looks_pack c.locate_leader.ensures.sought.looks told)) (c.in_ok-leader.ensures.found.stands told) in
     let here = eases_later c.locate_leader.ensures.sought told eases in
     let hints = c.try_leader_hints.ensures.quick at told (place_carried (pack (g.D.Tape.tape c.locate_leader.new.disk)) (page_number c.args.file.now.fid c.args.number) at here.placed) (leads_to c.requires.first here stands) in
@@ -63,7 +63,7 @@ returns-in-Some-clause-quick g c at told eases =
 pub returns-in_ok-below-in-None-clause-quick : goal.returns-in_ok-below-in-None-clause-quick
 returns-in_ok-below-in-None-clause-quick g c at told eases =
     let low = eases_leader c.requires.first eases in
-    let leader = c.locate_leader.ensures.quick low.0 told low.1 in
+    let leader = c.locate_leader.ensures.quick low.0 told (finds_eased low.1) in
     let stands = subst (λ (p : Pack). Stands p (page_number c.args.file.now.fid 0) c.in_ok-leader.leader.at c.locate_leader.new.buf) (sym (looks_pack c.locate_leader.ensures.sought.looks told)) (c.in_ok-leader.ensures.found.stands told) in
     let here = eases_later c.locate_leader.ensures.sought told eases in
     let hints = rw c.in-None.is at (c.in_ok-found.ensures.passed at told (place_carried (pack (g.D.Tape.tape c.locate_leader.new.disk)) (page_number c.args.file.now.fid c.args.number) at here.placed) (leads_to c.requires.first here stands)) in

@@ -4,7 +4,7 @@ use Rattle.page_seeking.specs.Refs.{FileIsFrom}
 use Rattle.disk_records.specs.Tapes.{pack}
 use Rattle.page_seeking.proofs.Erring.{if_ok_map, if_misled_map, if_beyond_map, on_ok, on_ok_map}
 use Rattle.disk_records.proofs.Looking.{looks_pack}
-use Rattle.page_seeking.proofs.Easing.{eases_later, passed_free}
+use Rattle.page_seeking.proofs.Easing.{eases_later, finds_eased, passed_free}
 use Rattle.page_seeking.proofs.Seeking.{confirmed_before, end_before, misled_before, sought_more, sought_twice}
 use Rattle.page_seeking.specs.Inside.{Eases}
 use Rattle.page_seeking.proofs.pages.seek_page.Goals as goal
@@ -28,11 +28,14 @@ returns-in-None-clause-ends g c = λ told.
 pub returns-in-None-clause-quick : goal.returns-in-None-clause-quick
 returns-in-None-clause-quick g c at told eases =
     let here = rw c.in-None.is at c.in_ok-found.ensures.here in
-    let none = passed_free (pack (g.D.Tape.tape c.args.disk.now)) c.args.file.now.fid c.args.number at c.args.cache.now eases (c.try_cached.ensures.unlisted told) (λ i. here i told) in
+    let none = passed_free (pack (g.D.Tape.tape c.args.disk.now)) c.args.file.now.fid c.args.number at c.args.cache.now (finds_eased eases) (c.try_cached.ensures.unlisted told) (λ i. here i told) in
     on_ok_map c.seek_from_leader.result (λ h. omega (arith, none, h)) (c.seek_from_leader.ensures.quick at told (eases_later c.try_cached.ensures.sought told eases))
 
 pub returns-then-number-eq0-clause-quick : goal.returns-then-number-eq0-clause-quick
 returns-then-number-eq0-clause-quick g c at told eases =
     let old = pack (g.D.Tape.tape c.args.disk.now) in
-    let few = c.locate_leader.ensures.quick at told (subst (λ n. Eases old c.args.file.now.fid n at c.args.cache.now) c.if-number-eq0.true eases) in
+    let few = c.locate_leader.ensures.quick at told (finds_eased (subst (λ n. Eases old c.args.file.now.fid n at c.args.cache.now) c.if-number-eq0.true eases)) in
     on_ok c.locate_leader.result (omega (arith, few))
+
+pub returns-then-number-eq0-clause-leader : goal.returns-then-number-eq0-clause-leader
+returns-then-number-eq0-clause-leader g c at told zeroth finds = c.locate_leader.ensures.quick at told finds

@@ -12,12 +12,13 @@ use Rattle.pack_model.specs.reading.Sights.{sights}
 use Rattle.pack_model.specs.states.Sentences.{EachOnce}
 use Rattle.page_seeking.specs.declared.links.Below.{Below}
 use Rattle.page_seeking.specs.declared.seek.Found.{Found}
-use Rattle.page_seeking.specs.Parts.{IsReadTo}
-use Rattle.page_seeking.specs.Seeking.{page_number}
-use Rattle.page_seeking.specs.Inside.{Confirmed, Known, Stops, StopsAt}
+use Rattle.page_seeking.specs.Parts.{IsListed, IsReadTo}
+use Rattle.page_seeking.specs.Seeking.{Refused, page_number}
+use Rattle.page_seeking.specs.Inside.{Confirmed, KeepsRecent, Known, LastListed, Stops, StopsAt}
 use Rattle.page_seeking.proofs.Ending.{same_or_less}
 use Rattle.page_seeking.proofs.Once.{full_before_next}
 use Rattle.page_seeking.proofs.Parting.{few_bytes, page_bytes, put_all, read_ended, read_length, read_more, read_whole}
+use Rattle.page_seeking.proofs.Recent.{kept_here, listed_before}
 use Rattle.page_seeking.proofs.Seeking.{confirmed_before, known_before, known_of, sought_here, sought_more, sought_twice}
 use Rattle.page_seeking.proofs.read.read_on.Goals as goal
 
@@ -59,6 +60,36 @@ spent below number old now offset done room from low some all runs reached = eli
   | inr more ↦ let last = reached more all in omega (arith, more, last, runs)
 ]
 
+-- and where the last byte is
+listed_last : {told : Bool} {old : Taped} {f : Fid} {number bytes : ℕ} {here : Found} {buffer : Sector} {before now : Cached} (below : Below) (end : ℕ) → below.number ≤ number → (number ≡ below.number → (here ≡ below.found) × (now ≡ before))
+    → (below.number < number → Confirmed told (page_number f number) old before now buffer here) → (page_of_byte (end - 1) ≡ number) ⊎ ((bytes ≡ 0) × LastListed told old f below end before now) → LastListed told old f below end before now
+listed_last below end from start found (inr done) = done.1
+listed_last {told} {old} {f} {number} {here = here} {before = before} {now} below end from start found (inl is) = elim (same_or_less below.number number from) [
+  | inl same ↦ inl (is ∙ same, subst (λ (x : Cached). KeepsRecent (page_number f below.number) before x) (sym (start same).1) (kept_here (page_number f below.number) before))
+  | inr more ↦
+      let x = found more in
+      inr (subst (λ n. IsListed told (pack old) (page_number f n) now ⊎ Refused before now) (sym is) (elim (x.lists.here) [
+        | inl there ↦ inl (record { at = here.at; listed = there; carries = λ told. (x.stands told).carries })
+        | inr rose ↦ inr rose
+      ]))
+]
+
+-- an empty page more leaves it listed
+empty_after : {told : Bool} {old : Taped} {f : Fid} {number : ℕ} {here : Found} {buffer : Sector} {before now : Cached} (below : Below) (end : ℕ) (later : Cached) → below.number ≤ number → now.refused ≤ later.refused → before.refused ≤ now.refused
+    → (number ≡ below.number → (here ≡ below.found) × (now ≡ before)) → (below.number < number → Confirmed told (page_number f number) old before now buffer here) → page_of_byte (end - 1) ≡ number → KeepsRecent (page_number f number) now later
+    → LastListed told old f below end before later
+empty_after {told} {old} {f} {number} {here} {buffer} {before} {now} below end later from more less start found is keeps = elim (same_or_less below.number number from) [
+  | inl same ↦
+      let there = subst (λ n. KeepsRecent (page_number f n) now later) same keeps in
+      inl (is ∙ same, subst (λ (x : Cached). KeepsRecent (page_number f below.number) x later) (start same).1 there)
+  | inr further ↦
+      let x = found further in
+      inr (subst (λ n. IsListed told (pack old) (page_number f n) later ⊎ Refused before later) (sym is) (elim (listed_before (page_number f number) here.at before now later less more x.recent keeps) [
+        | inl there ↦ inl (record { at = here.at; listed = there; carries = λ told. (x.stands told).carries })
+        | inr rose ↦ inr rose
+      ]))
+]
+
 pub loop-number-init : goal.loop-number-init
 loop-number-init g c =
     record {
@@ -68,6 +99,7 @@ loop-number-init g c =
       upto = c.requires.upto;
       sized = refl;
       start = λ is. (refl, refl);
+      last = λ low few some. let upto = c.requires.upto in let first = c.requires.data in inl (omega (arith, low, few, some, upto, first));
       found = λ less. absurd (omega (arith, less));
       reached = λ less. absurd (omega (arith, less));
       sought = sought_more (omega arith) (sought_here (g.D.Tape.tape c.args.disk.now) c.args.cache.now);
@@ -99,6 +131,15 @@ pub returns-clause-filled : goal.returns-clause-filled
 returns-clause-filled g c told low some all =
     let inv = c.loop-number.invariant in
     spent c.args.below.number c.loop-number.number _ _ c.args.offset c.loop-number.done (length c.loop-number.out) c.loop-number.auto.number low some (all ∙ sym inv.sized) (inv.sought.looks.runs told) inv.reached
+
+pub returns-then-done-out-clause-last : goal.returns-then-done-out-clause-last
+returns-then-done-out-clause-last g c low few some = let inv = c.loop-number.invariant in listed_last c.args.below (c.args.offset + c.loop-number.done) c.loop-number.auto.number inv.start inv.found (inv.last low few some)
+
+pub returns-then-here-ne-PAGE_BYTES-clause-last : goal.returns-then-here-ne-PAGE_BYTES-clause-last
+returns-then-here-ne-PAGE_BYTES-clause-last g c low few some = let inv = c.loop-number.invariant in listed_last c.args.below (c.args.offset + c.loop-number.done) c.loop-number.auto.number inv.start inv.found (inv.last low few some)
+
+pub returns-clause-last : goal.returns-clause-last
+returns-clause-last g c low few some = let inv = c.loop-number.invariant in listed_last c.args.below (c.args.offset + c.loop-number.done) c.loop-number.auto.number inv.start inv.found (inv.last low few some)
 
 pub returns-in-Err-clause-sought : goal.returns-in-Err-clause-sought
 returns-in-Err-clause-sought g c = sought_more (omega arith) (sought_twice c.loop-number.invariant.sought c.follow.ensures.sought)
@@ -136,6 +177,18 @@ loop-number-preserved g c =
       start = λ is. absurd (omega (arith, is, from));
       found = λ less. confirmed_before inv.sought.looks inv.sought.refused next.found;
       reached = λ less is. let room = c.if-done-out.false in omega (arith, is, size, there, room);
+      last = λ low few some.
+          let room = c.if-done-out.false in
+          elim (same_or_less 0 count (omega arith)) [
+            | inr bytes ↦ inl (omega (arith, bytes, there, many, word, few_bytes next.found.seen))
+            | inl none ↦
+                let was : 1 ≤ done = omega (arith, some, none) in
+                let end : c.args.offset + (done + count) ≡ c.args.offset + done = omega (arith, none) in
+                let empty : c.in-Ok.found.info.bytes ≡ 0 = omega (arith, none, many, word, room, most) in
+                let mine : page_of_byte (c.args.offset + done - 1) ≡ number = elim (inv.last low few was) [ inl is ↦ is | inr ended ↦ let gone = ended.0 in absurd (omega (arith, gone, full)) ] in
+                let kept = empty_after c.args.below (c.args.offset + done) c.follow.new.cache from c.follow.ensures.sought.refused inv.sought.refused inv.start inv.found mine c.in-Ok.ensures.keeps in
+                inr (empty, subst (λ e. LastListed g.D.Tape.told (g.D.Tape.tape c.args.disk.now) c.args.fid c.args.below e c.args.cache.now c.follow.new.cache) (sym end) kept)
+          ];
       sought = sought_more (omega arith) (sought_twice inv.sought c.follow.ensures.sought);
       known = λ told k. known_before inv.sought.looks (known_of next.found);
       before = before;

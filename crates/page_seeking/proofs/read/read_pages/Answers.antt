@@ -15,7 +15,7 @@ use Rattle.page_seeking.proofs.Ending.{end_is_length}
 use Rattle.page_seeking.proofs.Lasting.{ends_at, most_length}
 use Rattle.page_seeking.proofs.Once.{end_once, full_before_known, full_before_less, length_of_all, length_once}
 use Rattle.page_seeking.proofs.Parting.{few_bytes, page_bytes, read_more}
-use Rattle.page_seeking.proofs.Stopping.{stops_before}
+use Rattle.page_seeking.proofs.Stopping.{last_before, stops_before}
 use Rattle.page_seeking.proofs.Seeking.{ends_of, known_later, known_of, sought_more, sought_twice}
 use Rattle.page_seeking.proofs.read.read_pages.Goals as goal
 
@@ -95,6 +95,14 @@ returns-clause-stops g c =
     let some = c.in-Some.ensures.some.0 in
     let sought = c.seek_page.ensures.sought in
     if_ok_map c.read_on.result c.read_on.ensures.stops (λ n x. stops_before sought.looks sought.refused (omega (arith, some)) c.in-Ok-seek_page.ensures.found x)
+
+pub returns-clause-last : goal.returns-clause-last
+returns-clause-last g c =
+    let some = c.in-Some.ensures.some.0 in
+    let sought = c.seek_page.ensures.sought in
+    let found = c.in-Ok-seek_page.ensures.found in
+    let few = few_bytes found.seen in
+    if_ok_map c.read_on.result (c.read_on.ensures.last (omega (arith, some)) few) (λ n x least. last_before (record { number = c.in-Some.number; found = c.in-Ok-seek_page.found }) (c.args.offset + n) c.read_on.new.cache sought.looks sought.refused c.read_on.ensures.sought.refused found (x least))
 
 pub returns-clause-filled : goal.returns-clause-filled
 returns-clause-filled g c at told listed carries =
