@@ -1,7 +1,10 @@
+mod Answering
 mod Items
+mod LeavingEntry
 mod Meeting
 mod Paging
 mod Quickly
 mod Rows
 mod Standing
 mod Walking
+mod WideningPage

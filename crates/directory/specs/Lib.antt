@@ -1,6 +1,9 @@
+pub mod Answers
 pub mod Asked
 pub mod Bounds
 pub mod Errors
 pub mod Found
 pub mod Inside
+pub mod Leaving
 pub mod Visits
+pub mod Widening

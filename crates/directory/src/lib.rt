@@ -1,35 +1,45 @@
 //! Directories: names, and the files that they mean.
 //!
-//! Below it stand dir_slots, with a walk over the slots of a directory, page_seeking, by which its pages are sought, and laws of look-up.
-//! Come here to find a file by its name, or to see which slots a directory has. A directory is named by a `FileRef`, as any file. To the
-//! layers above, on every machine:
+//! Below it stand dir_slots, with a walk over the slots of a directory, page_seeking, by which its pages are sought, file_pages, by which
+//! they are written and come, and laws of look-up and of calls. Come here to find a file by its name, to see which slots a directory has,
+//! to take an entry out of one, or to widen one. A directory is named by a `FileRef`, as any file. To the layers above, on every machine:
 //! 1. An error has its cause (`cause`): a fault comes only where its count rose, and Beyond never. The table of busy bits stays (`table`),
-//!    and the count of notes that were refused never falls (`refused`).
+//!    or at Ok of a widening keeps its length (`sized`), and the count of notes that were refused never falls (`refused`).
 //!
 //! And where the machine is modelled, with any words in hints:
 //! 2. A call that reads writes nothing (`looks`), and is out of memory only if it takes an allocator (`want`).
-//! 3. Hints that were handy with true links stay handy (`handy`); where they are handy for the directory, a call that reads takes one sector
-//!    command a data page and one more (`quick`).
+//! 3. Hints that were handy with true links are so on the pack afterwards (`handy`); where they are handy for the directory, few sector
+//!    commands are taken: for a call that reads one for each data page and one more (`quick`).
 //!
 //! And where besides the directory was found on its pack (`DirIsFound`):
 //! 4. What is answered is what the slots of the directory say (`found`), and a name is absent exactly if no slot has it (`absent`).
 //! 5. Misled comes only where a hint of the directory misleads (`misled`).
 //!
+//! And where the pack is whole and tidy besides (`DirStands`), and the arguments are as the contract's premises say:
+//! 6. A call that writes does one operation: at Ok all of its record writes, at every other answer a prefix of them, and the tally counts
+//!    the operation if and only if the record that commits it was written (`operates`). `free_slot` makes the record write with which a
+//!    drop ends (`frees`), also on a pack that isn't tidy, and counts nothing.
+//!
 //! Not promised: that the address of a file that was found is that of its leader. Who follows it checks it by the label that stands there.
 #![tactic(auto)]
 
+mod answers;
 mod entry;
 mod errors;
 mod finding;
+mod leaving;
 mod names;
 mod runs;
 mod slots;
 mod versions;
 mod walk;
+mod widening;
 
 pub use errors::{DirError, ListError};
+pub use leaving::{free_slot, leave};
 pub use names::lookup;
 pub use page_seeking::{FileError, FileRef};
 pub use runs::room;
 pub use slots::list;
 pub use versions::{VersionFound, greatest};
+pub use widening::widen;

@@ -30,5 +30,5 @@ mod Sequel
 mod StampOnce
 mod Titling
 mod TwoClaims
-mod Valued
+pub mod Valued
 mod WithinFile

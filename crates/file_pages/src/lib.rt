@@ -1,8 +1,8 @@
 //! Calls on files that write, each of them one operation.
 //!
 //! Below it stand label_check, hint_cache and leader_page, page_seeking with the names of files, and the laws of calls. Come here to make a
-//! file, to title or to stamp one, to put bytes in the place of others or after them, to cut one or to drop one. To the layers above, on every
-//! machine:
+//! file, to title or to stamp one, to put bytes in the place of others or after them, to cut one or to drop one; and for a value write of one
+//! page as an operation, on which calls on directories stand (`write_page`). To the layers above, on every machine:
 //! 1. A fault comes only where its count rose, and Beyond only from `put` and `cut` (`cause`). Nothing is shown, and no key is taken (`alone`).
 //! 2. The table of busy bits keeps its length (`sized`), or is as it was (`table`), and the count of notes that were refused never falls
 //!    (`refused`): such a note is passed over.
@@ -42,5 +42,6 @@ pub use dropping::drop_file;
 pub use growing::grow;
 pub use leaders::{stamp, title};
 pub use making::make;
+pub use one_value::write_page;
 pub use page_seeking::{FileError, FileRef};
 pub use putting::put;

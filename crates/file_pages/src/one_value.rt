@@ -18,8 +18,11 @@ use disk_records::{Disk, Page, Place, Tally};
 use label_check::write_value;
 
 /// Writes another value of the page in the sector at the virtual address `at`, which commits an operation, and counts it. Two sector
-/// commands, one record write.
-pub(crate) fn write_page<D: Disk>(
+/// commands, one record write. Come here for a value of a page that was located, of a file of any kind; its words are the caller's.
+///
+/// Misled: the sector doesn't carry this page, and `place` says that the caller holds the address. DiskFault: the device failed. Memory: no
+/// memory was left for the record write. After each of these nothing was written, or after DiskFault all of it may be.
+pub fn write_page<D: Disk>(
     disk: &mut D,
     tally: &mut Tally,
     at: u16,

@@ -4,6 +4,10 @@
 #![tactic(auto)]
 
 #[cfg(test)]
+mod leaving;
+#[cfg(test)]
 mod pack;
 #[cfg(test)]
 mod reading;
+#[cfg(test)]
+mod widening;
