@@ -2,6 +2,9 @@ mod Closings
 mod Keeping
 mod Map
 mod Preparings
+mod OpenErrors
+mod Opened
+mod PagesRead
 mod Puts
 mod Steps
 mod SystemWords

@@ -38,8 +38,8 @@ pub(crate) fn write_pages<D: Disk>(
     let shape = disk.shape();
     let mut left = pages.len();
     while left > 0 {
-        let number = left as u16;
         left -= 1;
+        let number = left as u16 + 1;
         let value = descriptor_page(shape, last, CLEAN, table, number);
         write_page(disk, pages[left], number, &value)?;
     }

@@ -8,10 +8,10 @@ use hint_cache::BitTable;
 use std::marker::Model;
 
 /// The word of the last serial's high word.
-const LAST: usize = 4;
+pub(crate) const LAST: usize = 4;
 
 /// The word of the mark.
-const MARK: usize = 6;
+pub(crate) const MARK: usize = 6;
 
 /// The mark of a pack that was written to since it was closed.
 const OPEN: u16 = 2;
@@ -23,11 +23,11 @@ const MOST_LAST: u32 = 2_147_483_646;
 /// of its data pages. Contracts see the record of these.
 #[derive(Drop)]
 pub struct Descriptor {
-    shape: Shape,
-    last: u32,
-    mark: u16,
+    pub(crate) shape: Shape,
+    pub(crate) last: u32,
+    pub(crate) mark: u16,
     // of the data pages; those past the last one mean nothing
-    pages: [u16; 5],
+    pub(crate) pages: [u16; 5],
 }
 
 impl Model for Descriptor {

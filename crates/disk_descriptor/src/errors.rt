@@ -1,4 +1,5 @@
-// Why a pack wasn't formatted, and why DiskDescriptor wasn't written.
+// Why a pack wasn't formatted, why DiskDescriptor wasn't written, and why a pack isn't entered.
+use disk_records::{Page, Place};
 
 /// Why not every sector of a pack, or of its second drive, was written. A prefix of the record writes was done, and the pack has to be
 /// formatted again, or the drive prepared again.
@@ -21,5 +22,42 @@ pub enum DescError {
     /// The device failed, and its count of faults rose. A prefix of the record writes was done.
     DiskFault,
     /// No memory was left for a record write. A prefix of the record writes was done.
+    Memory,
+}
+
+/// Why a pack isn't entered. Nothing was written.
+#[derive(Clone, Copy, Debug, PartialEq, Eq, Drop)]
+pub enum OpenError {
+    /// Sector 1 doesn't carry SysDir's leader, and `found` is the label there, None where its header is wrong. `enter_pack` never answers
+    /// it.
+    NoRoot {
+        found: Option<[u16; 8]>,
+    },
+    /// SysDir has no entry of DiskDescriptor. `enter_pack` never answers it.
+    NoDescriptor,
+    /// The hint at `place` is `at`, and names no usable sector or one that doesn't carry the page `wanted`. `found` is the label there,
+    /// None where there is none.
+    Misled {
+        place: Place,
+        at: u16,
+        wanted: Page,
+        found: Option<[u16; 8]>,
+    },
+    /// DiskDescriptor has so many bytes, which isn't the length of one for this shape.
+    WrongLength {
+        length: u32,
+    },
+    /// Word `word` of DiskDescriptor is `found`, and says another shape. It is the first such word.
+    BadDescriptor {
+        word: u16,
+        found: u16,
+    },
+    /// The mark is this one, and not the clean one: the pack wasn't closed.
+    NotClean {
+        mark: u16,
+    },
+    /// The device failed, and its count of faults rose.
+    DiskFault,
+    /// No memory was left, which no disk that is modelled answers.
     Memory,
 }

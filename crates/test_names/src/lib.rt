@@ -1,10 +1,11 @@
-//! Tests of calls on directories, over a formatted pack in memory.
+//! Tests of calls on directories, and on what DiskDescriptor says, over a formatted pack in memory.
 //!
 //! What is expected here was worked out by hand from the layouts, and never taken from a run. There is nothing to call.
 #![tactic(auto)]
 
 #[cfg(test)]
 mod leaving;
+mod opening;
 #[cfg(test)]
 mod pack;
 #[cfg(test)]

@@ -1,7 +1,6 @@
-use Rattle.std.proofs.Common.{Err, ap, arith, length, rules, subst, sym, ◌*◌, ◌+◌, ◌-◌, ◌<◌, ◌∙◌, ◌≡◌}
+use Rattle.std.proofs.Common.{Err, arith, length, refl, rules, subst, sym, ◌*◌, ◌+◌, ◌-◌, ◌<◌, ◌∙◌, ◌≡◌}
 use Rattle.disk_records.proofs.Growing.{added-twice, alone_twice}
 use Rattle.disk_records.specs.Tapes.{added}
-use Rattle.disk_records.specs.declared.shape.Shape.{Shape}
 use Rattle.pack_model.specs.sessions.Descriptor.{descriptor_value}
 use Rattle.disk_descriptor.proofs.Closings.{done, page_done, page_failed, still_carried}
 use Rattle.disk_descriptor.proofs.Writings.{writes_all}
@@ -19,16 +18,17 @@ loop-left-preserved g c =
     let n = c.loop-left.left - 1 in
     let is : c.loop-left.left ≡ n + 1 = omega arith in
     let within : n < length pages = omega (arith, so_far.within) in
-    let same : c.descriptor_page-value.result ≡ descriptor_value form c.args.last 1 c.args.table.now n = c.descriptor_page-value.ensures.value ∙ ap (λ (s : Shape). descriptor_value s c.args.last 1 c.args.table.now n) c.shape-shape.ensures in
+    let page : n + 1 - 1 ≡ n = omega arith in
+    let same : c.descriptor_page-value.result ≡ descriptor_value form c.args.last 1 c.args.table.now n = c.descriptor_page-value.ensures.value ∙ (λ i. descriptor_value (c.shape-shape.ensures i) c.args.last 1 c.args.table.now (page i)) in
     record {
       alone = alone_twice so_far.alone next;
       within = omega (arith, so_far.within);
       wrote = λ told carries.
           let wrote = so_far.wrote told carries in
-          let one = c.in_ok-write_page.ensures.writes told (still_carried form c.args.last c.args.table.now pages n c.loop-left.left c.loop-left.left so_far.alone.grown wrote carries within is) in
+          let one = c.in_ok-write_page.ensures.writes told (still_carried form c.args.last c.args.table.now pages n c.loop-left.left (n + 1) so_far.alone.grown wrote carries within refl) in
           page_done form c.args.last c.args.table.now pages n c.loop-left.left c.descriptor_page-value.result is within so_far.alone next wrote same one.ok (added-twice so_far.alone.grown next.grown);
       runs = λ told carries.
-          let one = c.in_ok-write_page.ensures.writes told (still_carried form c.args.last c.args.table.now pages n c.loop-left.left c.loop-left.left so_far.alone.grown (so_far.wrote told carries) carries within is) in
+          let one = c.in_ok-write_page.ensures.writes told (still_carried form c.args.last c.args.table.now pages n c.loop-left.left (n + 1) so_far.alone.grown (so_far.wrote told carries) carries within refl) in
           let ran = so_far.runs told carries in
           let now = one.runs in
           omega (arith, ran, now, so_far.within, within);
@@ -44,9 +44,10 @@ returns-in_err-write_page-clause-writes g c = λ told carries.
     let n = c.loop-left.left - 1 in
     let is : c.loop-left.left ≡ n + 1 = omega arith in
     let within : n < length pages = omega (arith, so_far.within) in
-    let same : c.descriptor_page-value.result ≡ descriptor_value old.form c.args.last 1 c.args.table.now n = c.descriptor_page-value.ensures.value ∙ ap (λ (s : Shape). descriptor_value s c.args.last 1 c.args.table.now n) c.shape-shape.ensures in
+    let page : n + 1 - 1 ≡ n = omega arith in
+    let same : c.descriptor_page-value.result ≡ descriptor_value old.form c.args.last 1 c.args.table.now n = c.descriptor_page-value.ensures.value ∙ (λ i. descriptor_value (c.shape-shape.ensures i) c.args.last 1 c.args.table.now (page i)) in
     let wrote = so_far.wrote told carries in
-    let broken = c.in_err-write_page.ensures.writes told (still_carried old.form c.args.last c.args.table.now pages n c.loop-left.left c.loop-left.left so_far.alone.grown wrote carries within is) in
+    let broken = c.in_err-write_page.ensures.writes told (still_carried old.form c.args.last c.args.table.now pages n c.loop-left.left (n + 1) so_far.alone.grown wrote carries within refl) in
     let failed : c.from_residual.result ≡ Err e = search rules in
     subst (λ r. Writes {T = Unit {0}} Memory (done old.form c.args.last c.args.table.now pages 0) (2 * length pages) old new r) (sym failed)
     (page_failed old.form c.args.last c.args.table.now pages n c.loop-left.left c.descriptor_page-value.result is within so_far.alone c.in_err-write_page.ensures.alone wrote same e (2 * (length pages - c.loop-left.left)) (so_far.runs told carries) (omega (arith, so_far.within, within)) broken)
@@ -61,7 +62,7 @@ returns-in_err-write_page-clause-held g c = λ told carries.
     let within : n < length pages = omega (arith, so_far.within) in
     let failed : c.from_residual.result ≡ Err c.in_err-write_page.field-0.0 = search rules in
     subst (λ r. IfHeld {T = Unit {0}} r (λ at found. ⊥)) (sym failed)
-    (c.in_err-write_page.ensures.held told (still_carried old.form c.args.last c.args.table.now pages n c.loop-left.left c.loop-left.left so_far.alone.grown (so_far.wrote told carries) carries within is))
+    (c.in_err-write_page.ensures.held told (still_carried old.form c.args.last c.args.table.now pages n c.loop-left.left (n + 1) so_far.alone.grown (so_far.wrote told carries) carries within refl))
 
 pub returns-in_err-write_page-clause-alone : goal.returns-in_err-write_page-clause-alone
 returns-in_err-write_page-clause-alone g c = alone_twice c.loop-left.invariant.alone c.in_err-write_page.ensures.alone

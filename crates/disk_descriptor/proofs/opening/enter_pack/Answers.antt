@@ -1,0 +1,58 @@
+use Rattle.std.proofs.Common.{◌≡◌, Err, [], ap, subst, sym}
+use Rattle.alto_words.specs.declared.fid.Fid.{Fid}
+use Rattle.disk_records.specs.Tapes.{pack}
+use Rattle.page_seeking.specs.Refs.{MisledBy}
+use Rattle.disk_descriptor.specs.Opening.{HasBadWord, HasWrongLength, IsUnclean}
+use Rattle.disk_descriptor.specs.Reading.{IsRead}
+use Rattle.disk_descriptor.specs.declared.descriptor.Descriptor.{Descriptor}
+use Rattle.disk_descriptor.specs.declared.errors.OpenError.TheVariants.{Memory}
+use Rattle.disk_descriptor.proofs.OpenErrors.{open_bad, open_caused, open_length, open_mark, open_misled, open_ok, open_want}
+use Rattle.disk_descriptor.proofs.opening.enter_pack.Goals as goal
+
+-- ---- DiskDescriptor was read
+pub returns-in-Ok-clause-opened : goal.returns-in-Ok-clause-opened
+returns-in-Ok-clause-opened g c = λ told may.
+    let p = pack (g.D.Tape.tape c.args.disk.now) in
+    c.keep_read.ensures.opened p (subst (λ (f : Fid). IsRead p f c.read_file.new.words c.read_file.new.pages c.in-Ok.size) may.is_descriptor (c.in-Ok.ensures.read told may.once)) (sym c.shape-shape.ensures)
+
+pub returns-in-Ok-clause-wrong_length : goal.returns-in-Ok-clause-wrong_length
+returns-in-Ok-clause-wrong_length g c = λ told may.
+    let p = pack (g.D.Tape.tape c.args.disk.now) in
+    c.keep_read.ensures.wrong_length p (subst (λ (f : Fid). IsRead p f c.read_file.new.words c.read_file.new.pages c.in-Ok.size) may.is_descriptor (c.in-Ok.ensures.read told may.once)) (sym c.shape-shape.ensures)
+
+pub returns-in-Ok-clause-bad_word : goal.returns-in-Ok-clause-bad_word
+returns-in-Ok-clause-bad_word g c = λ told may.
+    let p = pack (g.D.Tape.tape c.args.disk.now) in
+    c.keep_read.ensures.bad_word p (subst (λ (f : Fid). IsRead p f c.read_file.new.words c.read_file.new.pages c.in-Ok.size) may.is_descriptor (c.in-Ok.ensures.read told may.once)) (sym c.shape-shape.ensures)
+
+pub returns-in-Ok-clause-not_clean : goal.returns-in-Ok-clause-not_clean
+returns-in-Ok-clause-not_clean g c = λ told may.
+    let p = pack (g.D.Tape.tape c.args.disk.now) in
+    c.keep_read.ensures.not_clean p (subst (λ (f : Fid). IsRead p f c.read_file.new.words c.read_file.new.pages c.in-Ok.size) may.is_descriptor (c.in-Ok.ensures.read told may.once)) (sym c.shape-shape.ensures)
+
+pub returns-in-Ok-clause-misled : goal.returns-in-Ok-clause-misled
+returns-in-Ok-clause-misled g c = λ told may. open_misled c.keep_read.result (MisledBy (pack (g.D.Tape.tape c.args.disk.now)) [] c.args.entry.now.fid) c.keep_read.ensures.misled
+
+pub returns-in-Ok-clause-cause : goal.returns-in-Ok-clause-cause
+returns-in-Ok-clause-cause g c = c.keep_read.ensures.cause (g.D.Tape.tape c.args.disk.now) (g.D.Tape.tape c.read_file.new.disk)
+
+-- ---- it wasn't
+pub returns-in-Err-clause-wrong_length : goal.returns-in-Err-clause-wrong_length
+returns-in-Err-clause-wrong_length g c = λ told may. open_length Descriptor (HasWrongLength (pack (g.D.Tape.tape c.args.disk.now))) c.in-Err.error c.open_error.result c.open_error.ensures (c.in-Err.ensures.beyond told may.once)
+
+pub returns-in-Err-clause-bad_word : goal.returns-in-Err-clause-bad_word
+returns-in-Err-clause-bad_word g c = λ told may. open_bad Descriptor (HasBadWord (pack (g.D.Tape.tape c.args.disk.now))) c.in-Err.error c.open_error.result c.open_error.ensures
+
+pub returns-in-Err-clause-not_clean : goal.returns-in-Err-clause-not_clean
+returns-in-Err-clause-not_clean g c = λ told may. open_mark Descriptor (IsUnclean (pack (g.D.Tape.tape c.args.disk.now))) c.in-Err.error c.open_error.result c.open_error.ensures
+
+pub returns-in-Err-clause-misled : goal.returns-in-Err-clause-misled
+returns-in-Err-clause-misled g c = λ told may. open_ok Descriptor (MisledBy (pack (g.D.Tape.tape c.args.disk.now)) [] c.args.entry.now.fid) c.in-Err.error c.open_error.result c.open_error.ensures (c.in-Err.ensures.misled told may.from)
+
+pub returns-in-Err-clause-cause : goal.returns-in-Err-clause-cause
+returns-in-Err-clause-cause g c = open_caused (g.D.Tape.tape c.args.disk.now) (g.D.Tape.tape c.read_file.new.disk) c.in-Err.error c.open_error.result c.open_error.ensures c.in-Err.ensures.cause
+
+pub returns-in-Err-clause-want : goal.returns-in-Err-clause-want
+returns-in-Err-clause-want g c = λ told memory.
+    let is : c.open_error.result ≡ Memory = cc memory in
+    c.in-Err.ensures.want told (ap Err (open_want c.in-Err.error c.open_error.result c.open_error.ensures is))
