@@ -5,8 +5,12 @@ pub mod Calling
 pub mod Changing
 pub mod Filling
 pub mod Flushing
+pub mod Leaving
+pub mod Levelling
 pub mod Lining
+pub mod Loading
 pub mod Named
+pub mod Naming
 pub mod Needing
 pub mod Newcomers
 pub mod OneFile

@@ -1,19 +1,25 @@
 -- The calls of a session one after another, and true hints from its beginning to its end.
-use Rattle.std.specs.Prelude.{◌≡◌, ℕ, true, false, List, []}
+use Rattle.std.specs.Prelude.{◌≡◌, ℕ, true, false, List, [], Option, Some}
 use Rattle.disk_records.specs.Packs.{Pack}
 use Rattle.disk_records.specs.Tapes.{Taped, added, pack}
 use Rattle.disk_records.specs.declared.records.Event.{Event}
+use Rattle.disk_records.specs.declared.records.Page.{Page}
+use Rattle.disk_records.specs.declared.records.Place.{Place}
 use Rattle.exec_words.specs.declared.line.Line.{Line}
+use Rattle.exec_words.specs.declared.reply.Refusal.TheVariants as refusal
 use Rattle.exec_words.specs.declared.reply.Reply.{Reply}
 use Rattle.exec_words.specs.declared.reply.Reply.TheVariants as reply
 use Rattle.pack_model.specs.hints.Tables.{HintsTrue}
 use Rattle.pack_model.specs.hints.Truth.{Truthful}
 use Rattle.pack_model.specs.operations.Operations.{Move}
-use Rattle.session_model.specs.Answering.{Answers, IsAnswer, ReadsOnly, TakesTurn}
+use Rattle.pack_model.specs.reading.Model.{Model}
+use Rattle.session_model.specs.Answering.{Answers, IsAnswer, ReadsOnly, Replied, TakesTurn}
 use Rattle.session_model.specs.Histories.{IsUnfailed}
 use Rattle.session_model.specs.Keeping.{Kept, Keeping}
 use Rattle.session_model.specs.Opening.{Begun, Renewed, goes_on}
-use Rattle.session_model.specs.Turning.{State, Cue, opening}
+use Rattle.session_model.specs.Replies.{refusal as refusal_to}
+use Rattle.session_model.specs.Turning.{State, Cue, HintFailing, cue_files, opening}
+use Rattle.session_model.specs.Worlds.{World, failed_world}
 use Rattle.laws_lookup.specs.HintLaws.{HasFullValues}
 
 -- ---- calls
@@ -39,6 +45,16 @@ pub record TrueAfterCalls (last : Taped) (kept : Kept) (t : State) : Type 0 wher
 -- so it is if they were true as it began
 abbrev pub HintsStayTrue : Type 0
 HintsStayTrue = (first last : Taped) (k kept : Kept) (s t : State) → s.over ≡ false → Truthful (pack first) k.busy → Calls first k s last kept t → TrueAfterCalls last kept t
+
+-- ---- hints that failed
+-- no line is refused by the model for a hint
+abbrev pub RefusalsNameNoHint : Type 0
+RefusalsNameNoHint = (l : Line) (m : Model) (w : World) (place : Place) (at : ℕ) (wanted : Page) (found : Option (List ℕ)) → refusal_to l m w ≡ Some (refusal.HintFailed place at wanted found) → ⊥
+
+-- so an answer that names one says that it misled, and a scavenge is needed then
+abbrev pub AnswersNameAFailedHint : Type 0
+AnswersNameAFailedHint = (p : Pack) (s u : State) (cue : Cue) (wrote : List Event) (moves : List Move) (place : Place) (at : ℕ) (wanted : Page) (found : Option (List ℕ))
+    → Replied p s cue wrote moves (reply.Refused (refusal.HintFailed place at wanted found)) u → HintFailing p wrote (cue_files s cue) place at wanted found × (u.world ≡ failed_world s.world)
 
 -- ---- where no turn failed
 abbrev pub IsUnfailedAnswer : (p : Pack) (s : State) (cue : Cue) (wrote : List Event) (moves : List Move) (u : State) (r : Reply) → Answers p s cue wrote moves r u → Type 0

@@ -1,10 +1,16 @@
 -- The zone of a world in the words of its memory.
-use Rattle.std.specs.Prelude.{◌≡◌, ◌≤◌, ℕ, ◌+◌, Bool, true, false, map, List, [], ◌∷◌, length, take, Some}
-use Rattle.world_model.specs.Levels.{IsAtLevel, all_levels, level_base}
+use Rattle.std.specs.Prelude.{◌≡◌, ◌≤◌, ℕ, ◌+◌, Bool, true, false, map, List, [], ◌∷◌, length, take, Some, None}
+use Rattle.pack_model.specs.reading.Bytes.{words_of}
+use Rattle.pack_model.specs.reading.Model.{Model}
+use Rattle.exec_words.specs.declared.line.Line.{Line}
+use Rattle.world_model.specs.Levels.{IsAtLevel, all_levels, level_base, used_by_levels}
 use Rattle.world_model.specs.Zones.{Block, Taken, gap, live, block_size, given_back, size_for, taken, zone_set}
+use Rattle.world_model.specs.StateFiles.{message_length}
 use Rattle.world_model.specs.ZoneWords.{tag_size, zone_in, zone_start}
 use Rattle.session_model.specs.Keeping.{Kept, stream_of, world_of}
-use Rattle.session_model.specs.Worlds.{World, memory_words, world_with_zone}
+use Rattle.session_model.specs.Refusals.{no_world}
+use Rattle.session_model.specs.Replies.{next}
+use Rattle.session_model.specs.Worlds.{World, fresh_world, full_world, junta_world, loaded_world, memory_words, world_with_zone}
 
 -- ---- the zones that can be
 -- of an even number of words, and of some
@@ -68,3 +74,39 @@ GivenBackFillsTheZone = (top at : ℕ) (zone left : List Block) → FillZone top
 -- and those in which a word is another
 abbrev pub WordFillsTheZone : Type 0
 WordFillsTheZone = (top at x : ℕ) (zone : List Block) → FillZone top zone → FillZone top (zone_set zone_start at x zone)
+
+-- ---- what levels make of it
+-- the zone of a world ends at the base of its level
+abbrev pub FillsWorld : World → Type 0
+FillsWorld w = FillZone (level_base w.level) w.zone
+
+-- as levels go their words join the zone, which the blocks fill still
+abbrev pub JuntaFillsTheZone : Type 0
+JuntaFillsTheZone = (w : World) (to : ℕ) → w.level ≤ all_levels → FillsWorld w → FillsWorld (junta_world w to)
+
+-- and as all come back, where no used block stands in their words
+abbrev pub CounterJuntaFillsTheZone : Type 0
+CounterJuntaFillsTheZone = (w : World) → w.level ≤ all_levels → used_by_levels w.zone ≡ None → FillsWorld w → FillsWorld (full_world w)
+
+-- ---- worlds with a memory
+-- The level is one of the table, so many words are the user's, and the blocks fill the zone.
+pub record HasMemory (w : World) : Type 0 where
+  pub least : 1 ≤ w.level
+  pub most : w.level ≤ all_levels
+  pub user : length w.user ≡ zone_start
+  pub fills : FillsWorld w
+
+-- such is the world that is kept with a memory of its level, and that of a session as it begins
+abbrev pub KeptWorldsHaveAMemory : Type 0
+KeptWorldsHaveAMemory = (k : Kept) → IsAtLevel k.level k.memory → HasMemory (world_of k)
+
+abbrev pub FreshWorldsHaveAMemory : Type 0
+FreshWorldsHaveAMemory = (moment : ℕ) → HasMemory (fresh_world moment)
+
+-- that of a file that is one of a whole world, with a message of at most 40 bytes
+abbrev pub LoadedWorldsHaveAMemory : Type 0
+LoadedWorldsHaveAMemory = (w : World) (bytes message : List ℕ) → no_world bytes ≡ None → length message ≤ message_length → HasMemory (loaded_world w (words_of bytes) message)
+
+-- and that after any line, refused or not
+abbrev pub LinesLeaveAMemory : Type 0
+LinesLeaveAMemory = (l : Line) (m : Model) (w : World) → HasMemory w → HasMemory (next l m w)

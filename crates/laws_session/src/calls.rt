@@ -1,6 +1,6 @@
 //! The calls of a session one after another, and true hints from its beginning to its end.
 
-ghost use Rattle.laws_session.specs.CallLaws.{CallsKeep, CallsKeepNeed, HintsStayTrue, SessionsEndWithTrueHints, TrueHintsFailNoCall};
+ghost use Rattle.laws_session.specs.CallLaws.{AnswersNameAFailedHint, CallsKeep, CallsKeepNeed, HintsStayTrue, RefusalsNameNoHint, SessionsEndWithTrueHints, TrueHintsFailNoCall};
 
 /// What is kept is right after each call that answers, until the session is over.
 pub fn calls_keep()
@@ -26,4 +26,14 @@ pub fn true_hints_fail_no_call()
 /// A session that begins on a pack whose hints are all true, and in which no turn fails, leaves a pack whose hints are all true.
 pub fn sessions_end_with_true_hints()
     ensures { SessionsEndWithTrueHints }
+{}
+
+/// No line is refused by the model for a hint.
+pub fn refusals_name_no_hint()
+    ensures { RefusalsNameNoHint }
+{}
+
+/// An answer that names a hint is that of a turn that failed: the hint misled, and a scavenge is needed then.
+pub fn answers_name_a_failed_hint()
+    ensures { AnswersNameAFailedHint }
 {}

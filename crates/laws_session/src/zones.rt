@@ -1,6 +1,6 @@
 //! The zone of a world in the words of its memory.
 
-ghost use Rattle.laws_session.specs.ZoneLaws.{GivenBackFillsTheZone, MemoriesHaveSuchZones, TakenFillsTheZone, WordFillsTheZone, WorldsAreKept, ZonesReadBack};
+ghost use Rattle.laws_session.specs.ZoneLaws.{CounterJuntaFillsTheZone, FreshWorldsHaveAMemory, GivenBackFillsTheZone, JuntaFillsTheZone, KeptWorldsHaveAMemory, LinesLeaveAMemory, LoadedWorldsHaveAMemory, MemoriesHaveSuchZones, TakenFillsTheZone, WordFillsTheZone, WorldsAreKept, ZonesReadBack};
 
 /// The zone of each memory of a level is of even blocks that fill it, and of which no free one follows a free one.
 pub fn memories_have_such_zones()
@@ -31,4 +31,34 @@ pub fn given_back_fills_the_zone()
 /// Blocks of which a word is another fill the same zone.
 pub fn word_fills_the_zone()
     ensures { WordFillsTheZone }
+{}
+
+/// After levels go the blocks fill the zone that their words joined.
+pub fn junta_fills_the_zone()
+    ensures { JuntaFillsTheZone }
+{}
+
+/// After all levels come back, where no used block stood in their words, the blocks fill the zone that ends at their base.
+pub fn counter_junta_fills_the_zone()
+    ensures { CounterJuntaFillsTheZone }
+{}
+
+/// A world that is kept with a memory of its level has the user's words and blocks that fill its zone.
+pub fn kept_worlds_have_a_memory()
+    ensures { KeptWorldsHaveAMemory }
+{}
+
+/// So has the world of a session as it begins.
+pub fn fresh_worlds_have_a_memory()
+    ensures { FreshWorldsHaveAMemory }
+{}
+
+/// So has the world of a file that is one of a whole world, whatever message it finds.
+pub fn loaded_worlds_have_a_memory()
+    ensures { LoadedWorldsHaveAMemory }
+{}
+
+/// So has the world after any line, where the world before it had.
+pub fn lines_leave_a_memory()
+    ensures { LinesLeaveAMemory }
 {}

@@ -13,10 +13,10 @@ use Rattle.laws_session.specs.ZoneLaws.{AreJoined, CanStand, EachCanStand, FillZ
 pub twice : (h n : ℕ) → n ≡ h * 2 → tag_size n ≡ n
 twice h n e = let two : 1 ≤ 2 = omega arith in ap tag_size e ∙ ap (λ k. k * 2) (mul-div_cancel h two) ∙ sym e
 
-even_sum : (n k : ℕ) → tag_size n ≡ n → tag_size k ≡ k → tag_size (n + k) ≡ n + k
+pub even_sum : (n k : ℕ) → tag_size n ≡ n → tag_size k ≡ k → tag_size (n + k) ≡ n + k
 even_sum n k one two = let e : n + k ≡ (n / 2 + k / 2) * 2 = omega (arith, one, two) in twice (n / 2 + k / 2) (n + k) e
 
-even_rest : (n k : ℕ) → tag_size n ≡ n → tag_size k ≡ k → k ≤ n → tag_size (n - k) ≡ n - k
+pub even_rest : (n k : ℕ) → tag_size n ≡ n → tag_size k ≡ k → k ≤ n → tag_size (n - k) ≡ n - k
 even_rest n k one two less = let e : n - k ≡ (n / 2 - k / 2) * 2 = omega (arith, one, two, less) in twice (n / 2 - k / 2) (n - k) e
 
 -- ---- what stays
@@ -78,7 +78,7 @@ taken_stay size at (live words ∷ bs) after_gap some even each j =
     (λ t h. record { stand = record { each = (each.0, h.stand.each); size_is = ap (λ k. suc (length words) + k) h.stand.size_is }; joined = h.joined })
     (taken_stay size (at + suc (length words)) bs false some even each.1 j)
 
-fills : (top : ℕ) (old new : List Block) → FillZone top old → Stay false (zone_size old) new → FillZone top new
+pub fills : (top : ℕ) (old new : List Block) → FillZone top old → Stay false (zone_size old) new → FillZone top new
 fills top old new h stay = let size = h.size in let same = stay.stand.size_is in record { each = stay.stand.each; joined = stay.joined; size = omega (arith, size, same) }
 
 size_even : (n : ℕ) → tag_size (size_for n) ≡ size_for n
@@ -117,7 +117,7 @@ gap_joins n (gap k ∷ bs) can each j =
     }
 gap_joins n (live words ∷ bs) can each j = record { stand = record { each = (can, each); size_is = refl }; joined = (refl, j) }
 
-joined_stay : (zone : List Block) → EachCanStand zone → Stay false (zone_size zone) (joined zone)
+pub joined_stay : (zone : List Block) → EachCanStand zone → Stay false (zone_size zone) (joined zone)
 joined_stay [] each = record { stand = record { each = tt; size_is = refl }; joined = tt }
 joined_stay (gap n ∷ bs) each =
     let rest = joined_stay bs each.1 in

@@ -86,7 +86,7 @@ blocks_stay (suc fuel) (suc others) at after_gap (tag ∷ words) enough more rig
     fits = ltb-false (suc (length words)) (tag_size tag) tests.1
 
 -- ---- in a memory
-above_start : (level : ℕ) → level ≤ all_levels → zone_start ≤ level_base level
+pub above_start : (level : ℕ) → level ≤ all_levels → zone_start ≤ level_base level
 unfolding level_base
 above_start zero most = let e : level_base 0 ≡ 65536 = refl in omega (arith, e)
 above_start (suc zero) most = let e : level_base 1 ≡ 64512 = refl in omega (arith, e)
