@@ -5,6 +5,7 @@
 
 #[cfg(test)]
 mod leaving;
+#[cfg(test)]
 mod opening;
 #[cfg(test)]
 mod pack;
