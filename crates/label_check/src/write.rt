@@ -87,9 +87,9 @@ pub fn release<D: Disk>(disk: &mut D, at: u16, page: Page) -> Result<(), GuardEr
     ensures cause { HasCause cause_of_guard (D.tape disk.old) (D.tape disk.new) result }
     ensures alone { DiskAlone (D.tape disk.old) (D.tape disk.new) }
 {
-    let mut buf = Sector::ZEROS;
-    look_for(disk, at, page, &mut buf)?;
-    buf.label = [0xFFFF; 8];
-    buf.value = [0xFFFF; 256];
-    finish(disk, at, Plan::WRITE_LABEL, &mut buf)
+    let mut free = Sector::ZEROS;
+    look_for(disk, at, page, &mut free)?;
+    free.label = [0xFFFF; 8];
+    free.value = [0xFFFF; 256];
+    finish(disk, at, Plan::WRITE_LABEL, &mut free)
 }
