@@ -11,13 +11,13 @@
 //! written (`shown` of `show_pack`).
 //! And of `format`: at Done the pack is the one that formatting writes, whatever stood there, and the number of its free sectors is shown;
 //! for every answer a prefix of the record writes and of the text was done (`formats` of `format_pack`).
-//! And of `prepare`, on two drives: at Done each sector of the second drive is free, none of the first has changed, and the number of sectors
-//! is shown; if no sector of the second drive carried a page, each crash point shows what stood before (`prepares`, `shows` of
+//! And of `prepare`, on two drives: at Done each sector of the second drive is free, none of the first has changed, and the number of
+//! sectors is shown; if no sector of the second drive carried a page, each crash point shows what stood before (`prepares`, `shows` of
 //! `prepare_pack`). On one drive it is `usage`.
 //! And for every machine: DiskFault, KeyFault and DisplayFault come only where their own count rose (`cause`).
-//! And for every machine: with words other than `boot` alone, `show` alone, or `format` or `prepare` with a number no record write is counted, and no
-//! fault except the display's (`touches`); where it is modelled, no sector command is run, nothing is written and no key is taken (`does`
-//! of `alto`).
+//! And for every machine: with words other than `boot` alone, `show` alone, or `format` or `prepare` with a number no record write is
+//! counted, and no fault except the display's (`touches`); where it is modelled, no sector command is run, nothing is written and no key is
+//! taken (`does` of `alto`).
 //! Not promised: that memory is left; how long anything takes, except the number of sector commands (`runs`).
 #![tactic(auto)]
 

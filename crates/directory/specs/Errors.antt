@@ -33,7 +33,8 @@ IfListMisled (Err (list.File f)) P = refs.IfMisled {T = Unit {0}} (Err f) P
 IfListMisled (Err list.Memory) P = Unit {0}
 
 -- ---- causes
--- of a name that is absent, a name that is taken and a directory without room, each `never` of a call that doesn't answer it; Beyond never comes
+-- of a name that is absent, a name that is taken and a directory without room, each `never` of a call that doesn't answer it; Beyond never
+-- comes
 abbrev pub cause_of : Cause → Cause → Cause → DirError → Cause
 cause_of absent taken full NoSuchName = absent
 cause_of absent taken full NameTaken = taken

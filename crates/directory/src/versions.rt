@@ -73,8 +73,8 @@ impl Visit for Versions {
 /// The greatest version of a bare name in a directory, and whether the name is held by a directory or a system file. Pages are sought as by
 /// `locate`. Nothing is written.
 ///
-/// Misled: the address that the directory is named with, or a next link of it, misleads. DiskFault: the device failed. Memory: no memory was
-/// left, which no machine that is modelled answers here. Beyond never comes. What `buf` holds then is open.
+/// Misled: the address that the directory is named with, or a next link of it, misleads. DiskFault: the device failed. Memory: no memory
+/// was left, which no machine that is modelled answers here. Beyond never comes. What `buf` holds then is open.
 pub fn greatest<D: Disk>(
     disk: &mut D,
     hints: &mut Hints,

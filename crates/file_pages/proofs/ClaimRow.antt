@@ -46,7 +46,8 @@ fits_next p before bytes past at [] can = let room = can.room (omega arith) in o
 fits_next p before bytes past at (next ∷ later) can = omega arith
 
 -- ---- midway
--- Of all these record writes those were made, from a to b, that claim the pages up to `before`, whose sector is `previous`, and the others are left.
+-- Of all these record writes those were made, from a to b, that claim the pages up to `before`, whose sector is `previous`, and the others
+-- are left.
 pub record Midway (writes : List Event) (most : ℕ) (a b : Taped) (f : Fid) (before previous : ℕ) (bytes past rest : List ℕ) : Type 0 where
   pub wrote : added a b ++ claims_writes (claims_of a.form f (suc before) previous bytes past rest) ≡ writes
   pub can : CanClaim (pack b) before bytes past rest

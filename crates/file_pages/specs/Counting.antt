@@ -5,8 +5,8 @@ use Rattle.label_check.specs.declared.errors.GuardError.{GuardError}
 use Rattle.label_check.specs.declared.errors.GuardError.TheVariants.{DiskFault, Memory, Wrong}
 use Rattle.pack_model.specs.sessions.Tallies.{is_among, took_effect}
 
--- A guarded call began after so many record writes and ended after so many, and its nth one, which its last sector command writes, commits an
--- operation: whether this was written.
+-- A guarded call began after so many record writes and ended after so many, and its nth one, which its last sector command writes, commits
+-- an operation: whether this was written.
 abbrev pub is_done : ℕ → ℕ → ℕ → Result (Unit {0}) GuardError → Bool
 is_done before nth now (Ok x) = true
 is_done before nth now (Err (Wrong found)) = false

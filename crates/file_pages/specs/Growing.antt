@@ -39,8 +39,8 @@ pub data IsGrowth (f : Fid) (new : List ℕ) : Operation → Type 0 where
   of_file : IsOrdinary f → IsGrowth f new (grow f new)
   of_directory : is_directory f ≡ true → new ≡ widening_bytes → IsGrowth f new (widen f)
 
--- The file can get these bytes, and these words after them, by this operation: there are as many free sectors as pages come, each of them once,
--- and the words fit in the page that is the last one then.
+-- The file can get these bytes, and these words after them, by this operation: there are as many free sectors as pages come, each of them
+-- once, and the words fit in the page that is the last one then.
 pub record MayBeGrown (p : Pack) (o : Operation) (f : Fid) (new past fresh : List ℕ) : Type 0 where
   pub growth : IsGrowth f new o
   pub room : (file_length p f + length new) % 512 + length (bytes_of past) ≤ 512
@@ -49,8 +49,8 @@ pub record MayBeGrown (p : Pack) (o : Operation) (f : Fid) (new past fresh : Lis
   pub distinct : AllPairs (λ i j. i ≢ j) fresh
 
 -- ---- where the pages are then
--- Pages up to `last` are where they were, with the same leader; those that came, after it, are in these sectors, and end the file; there is no
--- other, and other files are as they were.
+-- Pages up to `last` are where they were, with the same leader; those that came, after it, are in these sectors, and end the file; there is
+-- no other, and other files are as they were.
 pub record Grew (p q : Pack) (f : Fid) (last : ℕ) (fresh : List ℕ) : Type 0 where
   pub there : (n : ℕ) → n ≤ last → place (sights p) f n ≢ None
   pub kept : KeepsPages f last p q
@@ -87,8 +87,8 @@ pub record CanClaim (p : Pack) (last : ℕ) (bytes past fresh : List ℕ) : Type
   pub small : 2 * length past ≤ 512
   pub room : 0 < length fresh → length bytes + 2 * length past ≤ 512 * length fresh
 
--- A call that is to make these record writes, in so many sector commands at most: for every answer it made a prefix of them, at Ok all. Out of
--- memory comes only if fewer events were kept ready.
+-- A call that is to make these record writes, in so many sector commands at most: for every answer it made a prefix of them, at Ok all. Out
+-- of memory comes only if fewer events were kept ready.
 pub record Makes (writes : List Event) (most : ℕ) (old new : Taped) (result : Result (Unit {0}) FileError) : Type 0 where
   pub some : IsFirstOf writes (added old new)
   pub all : OnOk result (added old new ≡ writes)
@@ -140,7 +140,7 @@ pub record StoodApart (f : Fid) (last now : ℕ) (old : List Entry) (e : Entry) 
   pub stood : Contains old e
   pub apart : e.page.fid ≡ f → (e.page.number ≤ last) ⊎ (now < e.page.number)
 
--- Each entry is of a page that came, after page `last` of f, and names its sector, or it stood there and is of another page; unless a note was
--- refused.
+-- Each entry is of a page that came, after page `last` of f, and names its sector, or it stood there and is of another page; unless a note
+-- was refused.
 abbrev pub NotesPages : Fid → ℕ → List ℕ → Cached → Cached → Type 0
 NotesPages f last fresh old new = All (λ e. IsAmong f (suc last) fresh e ⊎ StoodApart f last (last + length fresh) old.entries e) new.entries ⊎ Refused old new

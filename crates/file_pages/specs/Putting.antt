@@ -25,8 +25,8 @@ pub record MayBePut (p : Pack) (f : Fid) (offset : ℕ) (new past : List ℕ) : 
 abbrev pub value_put : Pack → ℕ → ℕ → List ℕ → List ℕ → List ℕ
 value_put p at offset new past = put_value (offset % 512) new past (sector_at p at).value
 
--- For every answer: nothing was written or counted, and it is neither Ok nor out of memory; or the file has bytes in the place of these, and
--- the value of the page that they are in was to be written, with these in it.
+-- For every answer: nothing was written or counted, and it is neither Ok nor out of memory; or the file has bytes in the place of these,
+-- and the value of the page that they are in was to be written, with these in it.
 pub data Puts {T : Type 0} (p : Pack) (f : Fid) (offset : ℕ) (new past : List ℕ) (old now : Around) (result : Result T FileError) : Type 0 where
   unput : IsQuiet old now → OnOk result ⊥ → (IsErrOf result Memory → ⊥) → Puts p f offset new past old now result
   putting : {at : ℕ} → place (sights p) f (page_of_byte offset) ≡ Some at → offset + length new ≤ file_length p f → WroteValue at (value_put p at offset new past) (to_put f offset new) old now result → Puts p f offset new past old now result

@@ -19,8 +19,8 @@ use Rattle.pack_model.specs.sessions.Tallies.{CountsMoves}
 use Rattle.pack_model.specs.states.Whole.{Whole}
 
 -- ---- one value of a page
--- A call was to write this value into this sector, and to count it as this operation. For every answer it wrote it whole or nothing, and the
--- tally counts the operation if it did; at Ok it did. Out of memory comes only if no event was kept ready.
+-- A call was to write this value into this sector, and to count it as this operation. For every answer it wrote it whole or nothing, and
+-- the tally counts the operation if it did; at Ok it did. Out of memory comes only if no event was kept ready.
 pub record WroteValue {T : Type 0} (at : ℕ) (value : List ℕ) (o : Operation) (old new : Around) (result : Result T FileError) : Type 0 where
   pub some : IsFirstOf (value_writes at value) (added old.tape new.tape)
   pub all : OnOk result (added old.tape new.tape ≡ value_writes at value)

@@ -68,8 +68,8 @@ fn page_value(bytes: &[u8], past: &[u16]) -> [u16; 256]
     value
 }
 
-/// Claims the sector at the virtual address `at` for a page with the first of these bytes, after the one in the sector `previous` and before
-/// those in `later`.
+/// Claims the sector at the virtual address `at` for a page with the first of these bytes, after the one in the sector `previous` and
+/// before those in `later`.
 fn claim_page<D: Disk>(
     disk: &mut D,
     fid: Fid,
@@ -97,8 +97,9 @@ fn claim_page<D: Disk>(
     claim(disk, at, label, &value)
 }
 
-/// Claims pages of a file after page `last`, which is in the sector `last_at`: one in each of the sectors `fresh`, in order, with 512 of these
-/// bytes as long as there are so many, and these words past the bytes of the last. Two sector commands and three record writes for each.
+/// Claims pages of a file after page `last`, which is in the sector `last_at`: one in each of the sectors `fresh`, in order, with 512 of
+/// these bytes as long as there are so many, and these words past the bytes of the last. Two sector commands and three record writes for
+/// each.
 pub(crate) fn claim_pages<D: Disk>(
     disk: &mut D,
     fid: Fid,

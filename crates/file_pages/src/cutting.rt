@@ -124,14 +124,14 @@ fn end_in_page<D: Disk>(
     }
 }
 
-/// Cuts an ordinary file to its first `length` bytes. The page in which they end is located, and gets a label that counts fewer bytes and has
-/// no next link, which commits; then each later page is released, rising, found by the next link of the page before it. Of the page that
-/// becomes the last two record writes, of each later one two. A cut to the file's own length writes nothing. The sectors of later pages are
-/// free in the table then, and the cache has forgotten these pages. `buf` is used, and what it holds then is open.
+/// Cuts an ordinary file to its first `length` bytes. The page in which they end is located, and gets a label that counts fewer bytes and
+/// has no next link, which commits; then each later page is released, rising, found by the next link of the page before it. Of the page
+/// that becomes the last two record writes, of each later one two. A cut to the file's own length writes nothing. The sectors of later
+/// pages are free in the table then, and the cache has forgotten these pages. `buf` is used, and what it holds then is open.
 ///
 /// Beyond: the file is shorter; nothing was written. Misled: the address that the file is named with misleads, or a next link of the file:
-/// then nothing was written, or the file is cut and later pages are left, which a scavenge releases. DiskFault: the device failed. Memory: no memory
-/// was left for a record write. After these two a prefix of the record writes was done.
+/// then nothing was written, or the file is cut and later pages are left, which a scavenge releases. DiskFault: the device failed. Memory:
+/// no memory was left for a record write. After these two a prefix of the record writes was done.
 pub fn cut<D: Disk>(
     disk: &mut D,
     hints: &mut Hints,

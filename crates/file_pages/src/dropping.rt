@@ -88,14 +88,14 @@ fn drop_pages<D: Disk>(
     }
 }
 
-/// Releases all sectors of a file that has no entries of its own and isn't a system file: its leader, whose label commits, and then its data
-/// pages, rising, each found by the next link of the page before it. It is the drop of the file except for the slot of its entry, which the
-/// directory frees next. Two record writes of each page. The sectors are free in the table then, and the cache has forgotten the pages.
-/// `buf` is used, and what it holds then is open.
+/// Releases all sectors of a file that has no entries of its own and isn't a system file: its leader, whose label commits, and then its
+/// data pages, rising, each found by the next link of the page before it. It is the drop of the file except for the slot of its entry,
+/// which the directory frees next. Two record writes of each page. The sectors are free in the table then, and the cache has forgotten the
+/// pages. `buf` is used, and what it holds then is open.
 ///
 /// Misled: the address that the file is named with misleads, or a next link of the file: then nothing was written, or the file is gone and
-/// later pages are left, which a scavenge releases. DiskFault: the device failed. Memory: no memory was left for a record write. After these
-/// two a prefix of the record writes was done. Beyond never comes.
+/// later pages are left, which a scavenge releases. DiskFault: the device failed. Memory: no memory was left for a record write. After
+/// these two a prefix of the record writes was done. Beyond never comes.
 pub fn drop_file<D: Disk>(
     disk: &mut D,
     hints: &mut Hints,

@@ -58,8 +58,8 @@ fn named_end<D: Disk>(
     }
 }
 
-/// Locates a file's leader and its last page, which is sought where the leader says and else by the file's links: the virtual address of the leader,
-/// and the last page. `leader` gets the leader's value; what `buf` holds is open.
+/// Locates a file's leader and its last page, which is sought where the leader says and else by the file's links: the virtual address of
+/// the leader, and the last page. `leader` gets the leader's value; what `buf` holds is open.
 pub(crate) fn locate_ends<D: Disk>(
     disk: &mut D,
     hints: &mut Hints,

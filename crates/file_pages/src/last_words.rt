@@ -28,8 +28,8 @@ pub(crate) fn with_count(label: &[u16; 8], bytes: u16, next: u16) -> [u16; 8]
     words
 }
 
-/// Writes another value of the page in the sector at the virtual address `at`, and then another label with the same value: the label commits
-/// an operation, and is counted. Four sector commands, three record writes.
+/// Writes another value of the page in the sector at the virtual address `at`, and then another label with the same value: the label
+/// commits an operation, and is counted. Four sector commands, three record writes.
 pub(crate) fn commit_page<D: Disk>(
     disk: &mut D,
     tally: &mut Tally,

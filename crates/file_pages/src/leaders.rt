@@ -96,7 +96,8 @@ fn put_stamp(value: &mut [u16; 256], moment: u32, last: LastPage)
 
 /// Gives the leader of an ordinary file another written date, in seconds since the start of 1901, and the address, the number and the bytes
 /// of its last page, by one value write. Its leader and its last page are located first; what `buf` holds is open. With true links, a handy
-/// cache and a leader that names a page near the end it takes 6 sector commands, and one for each page after that one; 4, if that is the last.
+/// cache and a leader that names a page near the end it takes 6 sector commands, and one for each page after that one; 4, if that is the
+/// last.
 ///
 /// Misled: a hint of the file misleads, as `locate` says. DiskFault: the device failed. Memory: no memory was left for the record write.
 /// After each of these nothing was written, or after DiskFault all of it may be.

@@ -1,22 +1,24 @@
 //! Calls on files that write, each of them one operation.
 //!
 //! Below it stand label_check, hint_cache and leader_page, page_seeking with the names of files, and the laws of calls. Come here to make a
-//! file, to title or to stamp one, to put bytes in the place of others or after them, to cut one or to drop one; and for a value write of one
-//! page as an operation, on which calls on directories stand (`write_page`). To the layers above, on every machine:
-//! 1. A fault comes only where its count rose, and Beyond only from `put` and `cut` (`cause`). Nothing is shown, and no key is taken (`alone`).
+//! file, to title or to stamp one, to put bytes in the place of others or after them, to cut one or to drop one; and for a value write of
+//! one page as an operation, on which calls on directories stand (`write_page`). To the layers above, on every machine:
+//! 1. A fault comes only where its count rose, and Beyond only from `put` and `cut` (`cause`). Nothing is shown, and no key is taken
+//!    (`alone`).
 //! 2. The table of busy bits keeps its length (`sized`), or is as it was (`table`), and the count of notes that were refused never falls
 //!    (`refused`): such a note is passed over.
 //!
 //! And where the machine is modelled, the pack is whole and tidy, and the arguments are as the contract's premises say:
 //! 3. The call does one operation: at Ok all of its record writes, at every other answer a prefix of them, and the tally counts the
-//!    operation if and only if the record that commits it was written (`operates`). A drop is so except for the slot of its entry (`releases`).
+//!    operation if and only if the record that commits it was written (`operates`). A drop is so except for the slot of its entry
+//!    (`releases`).
 //! 4. A new file's pages are in the sectors that were given for them (`placed`), and listed, unless a note was refused (`listed`).
-//! 5. Misled comes only where a hint of the file misled as the call began, of a new file never (`misled`), and Beyond only of bytes that would
-//!    end after the file and of a cut past its end (`beyond`). `put` says its record write of every file, directories too (`puts`), and `grow`
-//!    its record writes with the words that come after the bytes (`grows`).
-//! 6. With true links a cache that was handy for a file is so on the pack afterwards (`handy`), and where all hints of the file are handy, few
-//!    sector commands are taken (`quick`); of a new file and of a growth only if no note was refused. A growth leaves the page that the leader
-//!    names (`named`), and from there a stamp takes one sector command a page (`climbs`).
+//! 5. Misled comes only where a hint of the file misled as the call began, of a new file never (`misled`), and Beyond only of bytes that
+//!    would end after the file and of a cut past its end (`beyond`). `put` says its record write of every file, directories too (`puts`),
+//!    and `grow` its record writes with the words that come after the bytes (`grows`).
+//! 6. With true links a cache that was handy for a file is so on the pack afterwards (`handy`), and where all hints of the file are handy,
+//!    few sector commands are taken (`quick`); of a new file and of a growth only if no note was refused. A growth leaves the page that the
+//!    leader names (`named`), and from there a stamp takes one sector command a page (`climbs`).
 //!
 //! Not promised: that the sectors for new pages are free where the machine isn't modelled. Such a call answers Misled.
 #![tactic(auto)]

@@ -103,10 +103,11 @@ pub(crate) fn at_held(at: u16, wanted: Page) -> FileError
     }
 }
 
-/// Makes a new file with this leader name, whose three dates are `moment`, in seconds since the start of 1901. It claims page 1 in the second
-/// of the two sectors `fresh`, given by their virtual addresses, and then the leader in the first, whose label commits. Page 1 has no bytes,
-/// or of a directory one free slot of 255 words. Four sector commands and six record writes. The full name has to be one that can be given,
-/// of no living file, with the last serial given out; the sectors have to be free ones. Both are noted then, and busy in the table.
+/// Makes a new file with this leader name, whose three dates are `moment`, in seconds since the start of 1901. It claims page 1 in the
+/// second of the two sectors `fresh`, given by their virtual addresses, and then the leader in the first, whose label commits. Page 1 has
+/// no bytes, or of a directory one free slot of 255 words. Four sector commands and six record writes. The full name has to be one that can
+/// be given, of no living file, with the last serial given out; the sectors have to be free ones. Both are noted then, and busy in the
+/// table.
 ///
 /// Misled: an address is no usable sector's, or, where the machine isn't modelled, its sector isn't free. DiskFault: the device failed.
 /// Memory: no memory was left for a record write. After each of these a prefix of the record writes was done, and the table is as before.

@@ -47,7 +47,8 @@ fn length_at(number: u16, bytes: u16) -> u32
     (number as u32 - 1) * PAGE_BYTES as u32 + bytes as u32
 }
 
-/// Locates the page that so many bytes of a file are in, from an offset on: the virtual address of its sector, and its number. `buf` holds it.
+/// Locates the page that so many bytes of a file are in, from an offset on: the virtual address of its sector, and its number. `buf` holds
+/// it.
 ///
 /// Beyond: the file ends before they do.
 fn locate_bytes<D: Disk>(
@@ -110,8 +111,8 @@ fn put_in_value(value: &mut [u16; 256], from: usize, bytes: &[u8], past: &[u16])
 /// commits. After them come the words `past`, which don't count: the file has to end with the bytes then. The page is located first.
 ///
 /// Beyond: the file ends before the bytes do, and `length` is its length. Misled: a hint of the file misleads, as `locate` says. DiskFault:
-/// the device failed. Memory: no memory was left for the record write. After each of these nothing was written, or after DiskFault all of it
-/// may be. What `buf` holds is open.
+/// the device failed. Memory: no memory was left for the record write. After each of these nothing was written, or after DiskFault all of
+/// it may be. What `buf` holds is open.
 pub fn put<D: Disk>(
     disk: &mut D,
     hints: &mut Hints,

@@ -30,8 +30,8 @@ fn goes_on(number: u16, info: PageInfo) -> bool
     number == 0 || info.bytes == PAGE_BYTES
 }
 
-/// Reads the page after one whose label was read, by its next link: this can mislead. One sector command. Answers the virtual address of its
-/// sector, and its label's words.
+/// Reads the page after one whose label was read, by its next link: this can mislead. One sector command. Answers the virtual address of
+/// its sector, and its label's words.
 fn read_after<D: Disk>(
     disk: &mut D,
     page: Page,

@@ -20,9 +20,9 @@ use Rattle.laws_operation.specs.LinkLaws.{KeepsLinks}
 use Rattle.laws_operation.specs.Outcomes.{KeepsDescriptor, StillFits}
 
 -- ---- all record writes of an operation
--- On a whole and tidy pack they make its moves, each crash point is viewed as the model there and can be scavenged where the models are ready,
--- and afterwards the pack is read as the step, whole and tidy. DiskDescriptor stays, and what a session keeps of it fits. Links that were true
--- are true again. The true map changes at these sectors alone, and each other free sector stays free.
+-- On a whole and tidy pack they make its moves, each crash point is viewed as the model there and can be scavenged where the models are
+-- ready, and afterwards the pack is read as the step, whole and tidy. DiskDescriptor stays, and what a session keeps of it fits. Links that
+-- were true are true again. The true map changes at these sectors alone, and each other free sector stays free.
 pub record Acts (p : Pack) (o : Operation) (claimed released : List ℕ) (writes : List Event) : Type 0 where
   pub stays : StaysMendable p writes o
   pub descriptor : KeepsDescriptor p (after p writes)
@@ -48,8 +48,8 @@ pub record IsQuiet (old new : Around) : Type 0 where
   pub tally : new.tally ≡ old.tally
 
 -- The call began to write, with these record writes of the operation, in the words of `pack_model`. For every answer those that it made are
--- a prefix of them, and are counted. At Ok they are all of them, and the table has the sectors that were claimed as busy, and those that were
--- released as free. Out of memory comes only if fewer events were kept ready than the operation has record writes.
+-- a prefix of them, and are counted. At Ok they are all of them, and the table has the sectors that were claimed as busy, and those that
+-- were released as free. Out of memory comes only if fewer events were kept ready than the operation has record writes.
 pub record Begun {T E : Type 0} (fault memory : E) (o : Operation) (claimed : List ℕ) (old new : Around) (result : Result T E) : Type 0 where
   pub writes : List Event
   pub released : List ℕ

@@ -35,8 +35,8 @@ CountsOn a b = b.writes ≡ capped (a.writes + writes_in (added a b))
 abbrev pub CountOfACall : Type 0
 CountOfACall = (a b : Taped) → Grown a b → a.writes ≡ capped (writes_in a.events) → b.writes ≡ capped (writes_in b.events) → CountsOn a b
 
--- After a call that is to do the next operation of the line the count and the tally are those of the line's moves so far again, with as many
--- of the operation as the call made record writes.
+-- After a call that is to do the next operation of the line the count and the tally are those of the line's moves so far again, with as
+-- many of the operation as the call made record writes.
 abbrev pub CallIsCountedOn : Type 0 → Type 0 → Type 0
 CallIsCountedOn T E = (w : ℕ) (t : Tally) (moves : List Move) (fault memory : E) (o : Operation) (claimed : List ℕ) (old new : Around) (result : Result T E)
     → t.limit < 2 ^ 64 → CountedSoFar w t moves old → CountsOn old.tape new.tape → Operates fault memory o claimed old new result → Tells fault new.tape result

@@ -24,8 +24,8 @@ pub record LineFits (p : Pack) (at : ℕ) (ops : List Operation) : Type 0 where
   pub line : IsLine (read_as p) ops
   pub room : pages_for_operations (read_as p) ops ≤ free_sector_count (sights p)
 
--- Where the mark isn't opened to its end, and where calls on the pack with the open mark do the operations: for every answer the record writes
--- are those of a line that broke off or is done; at Ok they are all of the line's.
+-- Where the mark isn't opened to its end, and where calls on the pack with the open mark do the operations: for every answer the record
+-- writes are those of a line that broke off or is done; at Ok they are all of the line's.
 pub record CallsOnSound (T E : Type 0) (p : Pack) (at : ℕ) (ops : List Operation) : Type 0 where
   pub opening_breaks : (wrote : List Event) → IsFirstOf (opening_writes p at) wrote → BreaksOnSound p wrote ops
   pub breaks : (events : List Event) (result : Result T E) → Goes (after p (opening_writes p at)) ops events result → BreaksOnSound p (opening_writes p at ++ events) ops

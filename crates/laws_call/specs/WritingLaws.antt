@@ -41,8 +41,8 @@ IsOnOne (leave d name) = Unit {0}
 IsOnOne (enter d name f) = Unit {0}
 IsOnOne (widen d) = Unit {0}
 
--- All other files are as they were, and the leader of the file that is written stands where it stood; each hint that misleads misled before;
--- and the sectors that are released weren't free.
+-- All other files are as they were, and the leader of the file that is written stands where it stood; each hint that misleads misled
+-- before; and the sectors that are released weren't free.
 pub record StaysKnown (p : Pack) (o : Operation) (released : List ℕ) (writes : List Event) : Type 0 where
   pub others : IsOnOne o → LeavesOthers (written_file o) p (after p writes)
   pub leader : IsOnOne o → KeepsPages (written_file o) 0 p (after p writes)

@@ -1,8 +1,8 @@
 //! What a call that does an operation answers, and calls one after another as a line of a session.
 //!
-//! Come here when you write a call on files or directories that writes, or one that does several of them. `Acts` is what all record writes of
-//! one operation do; `Operates` is what a call that is to do it answers, whatever its errors are; `Goes` is what several such calls have done
-//! so far, and a line that broke off is said by it, too.
+//! Come here when you write a call on files or directories that writes, or one that does several of them. `Acts` is what all record writes
+//! of one operation do; `Operates` is what a call that is to do it answers, whatever its errors are; `Goes` is what several such calls have
+//! done so far, and a line that broke off is said by it, too.
 //!
 //! A law function is public, has an empty body and one clause, the law; its lemma has the same name, and its statement has it in
 //! capitals. To cite a law: `use Rattle.laws_call.proofs.going.Laws.{call_joins}`. Lemma files in proofs/inside/ no other crate can name.

@@ -19,15 +19,15 @@ use Rattle.pack_model.specs.sessions.Tallies.{CountsMoves}
 use Rattle.pack_model.specs.states.Whole.{Tidy, Whole}
 
 -- ---- a part of a list of record writes
--- From the first state to the last there is a prefix of the list; after an Ok of the part's command, all up to the end of the part. It is out
--- of memory only if fewer events were kept ready at first than the whole list has.
+-- From the first state to the last there is a prefix of the list; after an Ok of the part's command, all up to the end of the part. It is
+-- out of memory only if fewer events were kept ready at first than the whole list has.
 pub record ByPart (before part later : List Event) (first last : Taped) (inner : Result (Unit {0}) GuardError) : Type 0 where
   pub some : IsFirstOf (before ++ (part ++ later)) (added first last)
   pub all : OnOk inner (added first last ≡ before ++ part)
   pub want : IsErrOf inner guard.Memory → first.spare < length (before ++ (part ++ later))
 
--- What a guarded command for these record writes says of them, whatever its guard: a prefix of them was written, at Ok all, and it is out of
--- memory only if fewer events were kept ready. `guarded_writes` of proofs/Guards gives it.
+-- What a guarded command for these record writes says of them, whatever its guard: a prefix of them was written, at Ok all, and it is out
+-- of memory only if fewer events were kept ready. `guarded_writes` of proofs/Guards gives it.
 pub record WritesPart (part : List Event) (old new : Taped) (inner : Result (Unit {0}) GuardError) : Type 0 where
   pub prefix : IsFirstOf part (added old new)
   pub ok : OnOk inner (added old new ≡ part)
@@ -43,8 +43,8 @@ pub record Passes {T E : Type 0} (memory : E) (inner : Result (Unit {0}) GuardEr
   pub ok : OnOk result (inner ≡ Ok tt)
   pub memory_is : IsErrOf result memory → IsErrOf inner guard.Memory
 
--- A call that ends with the guarded command for this part of the operation's record writes: at Ok none is left. What is needed besides is the
--- table and the tally.
+-- A call that ends with the guarded command for this part of the operation's record writes: at Ok none is left. What is needed besides is
+-- the table and the tally.
 pub record EndsWith {T E : Type 0} (memory : E) (before part later : List Event) (old new : Taped) (result : Result T E) : Type 0 where
   pub mid : Taped
   pub inner : Result (Unit {0}) GuardError

@@ -2,7 +2,8 @@
 
 ghost use Rattle.laws_guard.specs.GuardedCalls.{GuardedCallOperates, GuardedCallReleases, LookBeforeOperates, NextPart};
 
-/// A guarded command for the next part of a list of record writes: for every answer there is a prefix of the list, and at Ok all of the part.
+/// A guarded command for the next part of a list of record writes: for every answer there is a prefix of the list, and at Ok all of the
+/// part.
 pub fn next_part()
     ensures { NextPart }
 {}

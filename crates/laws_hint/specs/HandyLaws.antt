@@ -21,8 +21,8 @@ pub record SameHandyWords (p q : Pack) (at : ℕ) : Type 0 where
   pub last_number : leader_word q at last_number_word ≡ leader_word p at last_number_word
 
 -- ---- pages stay or go
--- Pages of the file are where they were, or gone; and where its leader is those words are as they were. So it is of every other file after an
--- operation on one, and of the file itself after a put, a title, a cut and a drop.
+-- Pages of the file are where they were, or gone; and where its leader is those words are as they were. So it is of every other file after
+-- an operation on one, and of the file itself after a put, a title, a cut and a drop.
 pub record KeepsHandy (p q : Pack) (f : Fid) : Type 0 where
   pub pages : (n at : ℕ) → place (sights q) f n ≡ Some at → place (sights p) f n ≡ Some at
   pub words : (at : ℕ) → place (sights q) f 0 ≡ Some at → SameHandyWords p q at
@@ -40,8 +40,8 @@ HandyAfterLeaderValue = (p : Pack) (at : ℕ) (value : List ℕ) (f : Fid) (cach
     place (sights p) f 0 ≡ Some at → leader_word q at row_word ≡ leader_word p at row_word → NamesLastPage (sights p) f (leader_word q at last_number_word) (leader_word q at last_at_word) → Handy p f cache → Handy q f cache
 
 -- ---- pages come
--- Pages of the file up to this number are where they were, and its leader's words too; the flag says nothing, and the words and the cache speak
--- of no page after these but of one where it is now. So it is of a file that is grown, and of a directory that is widened.
+-- Pages of the file up to this number are where they were, and its leader's words too; the flag says nothing, and the words and the cache
+-- speak of no page after these but of one where it is now. So it is of a file that is grown, and of a directory that is widened.
 pub record GrowsHandy (p q : Pack) (f : Fid) (last : ℕ) (cache : List CachedAt) : Type 0 where
   pub pages : (n at : ℕ) → n ≤ last → place (sights p) f n ≡ Some at → place (sights q) f n ≡ Some at
   pub there : (n : ℕ) → n ≤ last → place (sights p) f n ≢ None

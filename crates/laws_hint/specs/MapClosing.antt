@@ -24,7 +24,8 @@ pub record Describes (p q : Pack) (busy : List Bool) : Type 0 where
 abbrev pub ClosingDescribesItsMap : Type 0
 ClosingDescribesItsMap = (p : Pack) (busy : List Bool) (pages : List ℕ) → Whole p → Tidy p → MayClose p pages → mark_of (sights p) ≢ mark_clean → Describes p (after p (closing_writes p busy pages)) busy
 
--- closing a whole and tidy pack whose mark isn't clean, with a map that has a bit for each sector, leaves a DiskDescriptor that says this map
+-- closing a whole and tidy pack whose mark isn't clean, with a map that has a bit for each sector, leaves a DiskDescriptor that says this
+-- map
 abbrev pub ClosedMapIsReadBack : Type 0
 ClosedMapIsReadBack = (p : Pack) (busy : List Bool) (pages : List ℕ) → Whole p → Tidy p → MayClose p pages → mark_of (sights p) ≢ mark_clean → length busy ≡ pages_of p.shape
     → described_table (after p (closing_writes p busy pages)) ≡ busy

@@ -30,8 +30,9 @@ abbrev pub OpenPackIsUnmarked : Type 0
 OpenPackIsUnmarked = (p : Pack) → Whole p → mark_of (sights p) ≡ mark_open → Unmarked p
 
 -- ---- one operation
--- These record writes are the operation on a pack whose mark is open: each makes its move, and each crash point is viewed as the model there;
--- where the models before and after it are ready, each crash point can be scavenged and none is clean; and so it is for the pack after them.
+-- These record writes are the operation on a pack whose mark is open: each makes its move, and each crash point is viewed as the model
+-- there; where the models before and after it are ready, each crash point can be scavenged and none is clean; and so it is for the pack
+-- after them.
 pub record StaysMendable (p : Pack) (events : List Event) (o : Operation) : Type 0 where
   pub obeys : Obeys viewing (read_as p) p events (moves_of (read_as p) o)
   pub cuts : Unmarked p → Ready (read_as p) → Ready (step (read_as p) o) → Throughout Mendable p events
@@ -66,8 +67,8 @@ abbrev pub LinesJoin : Type 0
 LinesJoin = (p : Pack) (a b : List Event) (ops more : List Operation) → Batch p a ops → Batch (after p a) b more → Batch p (a ++ b) (ops ++ more)
 
 -- Its record writes make these moves, and each crash point is viewed as the model there; where the models of its operations are ready, each
--- can be scavenged, and is clean only where it is sound. The pack that it leaves is whole, tidy and unmarked, and is read as the model after
--- them.
+-- can be scavenged, and is clean only where it is sound. The pack that it leaves is whole, tidy and unmarked, and is read as the model
+-- after them.
 pub record LineStays (p : Pack) (events : List Event) (ops : List Operation) (moves : List Move) : Type 0 where
   pub obeys : Obeys viewing (read_as p) p events moves
   pub cuts : ReadyThroughout (read_as p) ops → Throughout Mendable p events

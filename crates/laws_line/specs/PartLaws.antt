@@ -1,5 +1,5 @@
--- What holds of the pack at each crash of some events: of first ones of them, of more after them, and crash by crash. And moves whose cuts are
--- viewed as their models and can be scavenged.
+-- What holds of the pack at each crash of some events: of first ones of them, of more after them, and crash by crash. And moves whose cuts
+-- are viewed as their models and can be scavenged.
 use Rattle.std.specs.Prelude.{List, ℕ, ◌++◌, ◌∷◌, ◌↔◌, ◌≡◌}
 use Rattle.disk_records.specs.Events.{IsFirstOf}
 use Rattle.disk_records.specs.Packs.{Pack, after, crash}

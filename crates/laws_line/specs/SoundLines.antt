@@ -31,8 +31,8 @@ pub data IsLine (m : Model) : List Operation → Type 0 where
       → IsLine m (new_file_line m d name f moment rest)
   renamed : (d : Fid) (old : List ℕ) (to : Fid) (name : List ℕ) (f : Fid) → IsDirectory m to → IsEntered m d old f → length name ≤ 39 → is_system f ≡ false → IsLine m (rename_line m d old to name f)
 
--- Each cut of the line can be scavenged and is clean only where it is sound; its record writes make its moves, and each crash point is viewed
--- as the model there, and shows what it shows. After it the pack is read as the last model, and is sound again.
+-- Each cut of the line can be scavenged and is clean only where it is sound; its record writes make its moves, and each crash point is
+-- viewed as the model there, and shows what it shows. After it the pack is read as the last model, and is sound again.
 pub record LineOnSound (p : Pack) (events : List Event) (ops : List Operation) : Type 0 where
   pub cuts : Throughout Mendable p events
   pub operating : Obeys operating (read_as p) p events (line_moves (mark_of (sights p)) (read_as p) ops)

@@ -19,7 +19,8 @@ impl Property for CanBeMended {
     ghost holds = { Mendable };
 }
 
-/// What holds at each crash point holds at each crash point of first events, as where a call was broken off, and of the others from there on.
+/// What holds at each crash point holds at each crash point of first events, as where a call was broken off, and of the others from there
+/// on.
 pub fn crashes_of_parts<X: Property>()
     ensures { CrashesOfParts X.holds }
 {}

@@ -9,8 +9,8 @@ pub fn crashes_of_a_line_on_a_sound_pack()
     ensures { CrashesOfALineOnASoundPack }
 {}
 
-/// Each crash point of the first operations of a line is as in the whole line, and their moves are a prefix of the line's; so it is, too, where
-/// there is no operation yet and the mark is opened.
+/// Each crash point of the first operations of a line is as in the whole line, and their moves are a prefix of the line's; so it is, too,
+/// where there is no operation yet and the mark is opened.
 pub fn part_of_a_line_on_a_sound_pack()
     ensures { PartOfALineOnASoundPack }
 {}

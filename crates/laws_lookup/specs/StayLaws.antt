@@ -22,7 +22,8 @@ SlotsOfAnotherDirectoryStay = (f : Fid) (p q : Pack) (d : Fid) → LeavesOthers 
 abbrev pub EntriesOfAnotherDirectoryStand : Type 0
 EntriesOfAnotherDirectoryStand = (f : Fid) (p q : Pack) (d : Fid) (w at : ℕ) (wanted : Page) → LeavesOthers f p q → is_fid d f ≡ false → StandsInEntry p d w at wanted ↔ StandsInEntry q d w at wanted
 
--- so it is of each entry, if the file isn't a directory: in a put, a growth, a cut, a title, a stamp, and with DiskDescriptor's record writes
+-- so it is of each entry, if the file isn't a directory: in a put, a growth, a cut, a title, a stamp, and with DiskDescriptor's record
+-- writes
 abbrev pub EntriesStandBesideAnOrdinaryFile : Type 0
 EntriesStandBesideAnOrdinaryFile = (f : Fid) (p q : Pack) (d : Fid) (w at : ℕ) (wanted : Page) → LeavesOthers f p q → is_directory f ≡ false → StandsInEntry p d w at wanted ↔ StandsInEntry q d w at wanted
 

@@ -1,4 +1,5 @@
-//! The premises of calls are met: all record writes of an operation, as calls name them; values of 256 words; a cache that lists a new file.
+//! The premises of calls are met: all record writes of an operation, as calls name them; values of 256 words; a cache that lists a new
+//! file.
 
 ghost use Rattle.laws_met.specs.Crowded.{EnteringOverAPagesEndIsWritten};
 ghost use Rattle.laws_met.specs.Writings.{MakeIsWritten, NewPagesAreListed, ValuesAreFull, WritingsAreMet};

@@ -5,8 +5,8 @@
 //! directory: room and the most free words, slot by slot.
 //!
 //! The laws of what was found: its file lives, its entry is the first with its name and may go, and two entries stand apart. The laws of
-//! hints: one that misleads in the middle of a line misled as it began, and those of a new file are handy. The law of a drop in two calls: all
-//! other files are as they were.
+//! hints: one that misleads in the middle of a line misled as it began, and those of a new file are handy. The law of a drop in two calls:
+//! all other files are as they were.
 //!
 //! To cite a law: `use Rattle.laws_midway.proofs.found.Laws.{found_file_lives}`.
 #![tactic(auto)]

@@ -31,7 +31,8 @@ abbrev pub EnterLeavesFreeSectors : Type 0
 EnterLeavesFreeSectors = (p : Pack) (before : List (ℕ × List ℕ)) (at : ℕ) (value : List ℕ) → SameFree p (enter_writes before at value)
 
 -- ---- claims
--- after claims, of whatever sectors, each sector that was free, except those that they claim, is free still: so between the claims of an operation
+-- after claims, of whatever sectors, each sector that was free, except those that they claim, is free still: so between the claims of an
+-- operation
 abbrev pub ClaimsKeepUnclaimedFree : Type 0
 ClaimsKeepUnclaimedFree = (p : Pack) (claims : List Claim) → StayFreeBut (sectors_of (all_claimed claims)) p (claims_writes claims)
 
@@ -39,8 +40,8 @@ ClaimsKeepUnclaimedFree = (p : Pack) (claims : List Claim) → StayFreeBut (sect
 abbrev pub MakeKeepsUnclaimedFree : Type 0
 MakeKeepsUnclaimedFree = (p : Pack) (page leader : Claim) → StayFreeBut (page.at ∷ leader.at ∷ []) p (make_writes page leader)
 
--- after a growth or a widening each sector that was free, but those that it claims, is free still; the sector that gets another label bears a
--- page
+-- after a growth or a widening each sector that was free, but those that it claims, is free still; the sector that gets another label bears
+-- a page
 abbrev pub GrowKeepsUnclaimedFree : Type 0
 GrowKeepsUnclaimedFree = (p : Pack) (f : Fid) (n : ℕ) (claims : List Claim) (at : ℕ) (label value : List ℕ) → place (sights p) f n ≡ Some at → StayFreeBut (sectors_of (all_claimed claims)) p (grow_writes claims at label value)
 

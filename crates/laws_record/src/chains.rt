@@ -4,7 +4,8 @@ ghost use Rattle.laws_record.specs.ChainLaws.{RunsChain, ScavengesJoin};
 
 use pack_laws::turns::Moves;
 
-/// Runs that carry out lists of moves carry out the lists joined; where the second is broken off, the two still make their moves in lockstep.
+/// Runs that carry out lists of moves carry out the lists joined; where the second is broken off, the two still make their moves in
+/// lockstep.
 pub fn runs_chain<X: Moves>()
     ensures { RunsChain X.means }
 {}

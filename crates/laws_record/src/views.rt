@@ -1,4 +1,5 @@
-//! The laws of record writes after which any pack is viewed as before, though it may be read otherwise: they concern the system files, or pages that aren't in use.
+//! The laws of record writes after which any pack is viewed as before, though it may be read otherwise: they concern the system files, or
+//! pages that aren't in use.
 
 ghost use Rattle.laws_record.specs.DirLaws.{UnusedRelease};
 ghost use Rattle.laws_record.specs.ViewLaws.{DescriptorLeader, DescriptorPages, FirstLeaderOfTheMainDirectory, SystemLeaderValue, ViewsSame};

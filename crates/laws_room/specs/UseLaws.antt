@@ -47,7 +47,8 @@ MayBeDone m (leave d name) = Unit {0}
 MayBeDone m (enter d name f) = Unit {0}
 MayBeDone m (widen d) = (is_directory d ≡ true) × (contains_key m.files d ≡ true)
 
--- Between whole packs of which one is read as the other with an operation done, the sectors in use are more by the pages that it adds and fewer by those that it frees.
+-- Between whole packs of which one is read as the other with an operation done, the sectors in use are more by the pages that it adds and
+-- fewer by those that it frees.
 abbrev pub UseFollowsTheOperation : Type 0
 UseFollowsTheOperation = (p q : Pack) (o : Operation) → Whole p → Whole q → q.shape ≡ p.shape → MayBeDone (read_as p) o → read_as q ≡ step (read_as p) o
     → sectors_in_use q + pages_freed (read_as p) o ≡ sectors_in_use p + pages_for_operation (read_as p) o

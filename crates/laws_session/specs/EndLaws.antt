@@ -25,7 +25,8 @@ SoundPacksBegin = (p : Pack) (moment : ℕ) → Sound p → StandsOn p (opening 
 abbrev pub TurnsStand : Type 0
 TurnsStand = (says : List ℕ → List ℕ) (p : Pack) (s u : State) (events : List Event) (cues : List Cue) (turns : List (Turn Move)) → StandsOn p s → TurnsOf says p s events cues turns u → StandsOn (after p events) u
 
--- What is kept after a hint failed: the moment, the level and the memory, no stream, and the need of a scavenge. Of the rest nothing is asked.
+-- What is kept after a hint failed: the moment, the level and the memory, no stream, and the need of a scavenge. Of the rest nothing is
+-- asked.
 pub record KeptInNeed (one two : Kept) : Type 0 where
   pub moment : two.moment ≡ one.moment
   pub level : two.level ≡ one.level

@@ -7,8 +7,8 @@ pub fn calls_keep()
     ensures { CallsKeep }
 {}
 
-/// Links and the table that are true as a session begins are true after each call that answers; once it is over all hints are true, where no
-/// scavenge is needed.
+/// Links and the table that are true as a session begins are true after each call that answers; once it is over all hints are true, where
+/// no scavenge is needed.
 pub fn hints_stay_true()
     ensures { HintsStayTrue }
 {}

@@ -1,8 +1,8 @@
 //! The laws of sessions: calls that answer as turns, turns as histories, and what each crash point and the end of a history is.
 //!
-//! Come here when you write a call on a session, or the loop that takes lines. A call that answers is a whole turn once its text is shown; one
-//! that doesn't, or whose text breaks off, is a turn that broke off; a scavenge is a turn, too. Turns one after another are a history, and
-//! each crash point of a history can be mended and shows the model after as many operations as the ruler says.
+//! Come here when you write a call on a session, or the loop that takes lines. A call that answers is a whole turn once its text is shown;
+//! one that doesn't, or whose text breaks off, is a turn that broke off; a scavenge is a turn, too. Turns one after another are a history,
+//! and each crash point of a history can be mended and shows the model after as many operations as the ruler says.
 //!
 //! A line on files that isn't refused on a sound pack: its files and directories are there, its name is free, its operations are a line as
 //! the laws of lines ask for it, and there are the free sectors that they take.

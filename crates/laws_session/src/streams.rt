@@ -2,8 +2,8 @@
 
 ghost use Rattle.laws_session.specs.StreamLaws.{EndingIsALine, StreamLineMayBegin};
 
-/// If the pending bytes of each stream begin within its file, a `get`, `putb`, `seek` or `close` that isn't refused is a line as the laws of
-/// lines know them.
+/// If the pending bytes of each stream begin within its file, a `get`, `putb`, `seek` or `close` that isn't refused is a line as the laws
+/// of lines know them.
 pub fn stream_line_may_begin()
     ensures { StreamLineMayBegin }
 {}

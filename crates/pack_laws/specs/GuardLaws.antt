@@ -41,7 +41,8 @@ ComesToHold at page label value p q = ChangesOne at (Some page) false (page_sigh
 abbrev pub ValueWritesKeepThePage : Type 0
 ValueWritesKeepThePage = (p : Pack) (at : ℕ) (page : Page) (value : List ℕ) (k : ℕ) → carried p at ≡ Some page → 0 < k → ComesToHold at page (sector_at p at).label value p (crash p (value_writes at value) k)
 
--- Another label for the same page, and the value that stands there: the same page at both crash points, with as many bytes as the label says.
+-- Another label for the same page, and the value that stands there: the same page at both crash points, with as many bytes as the label
+-- says.
 abbrev pub RelabelKeepsThePage : Type 0
 RelabelKeepsThePage = (p : Pack) (at : ℕ) (page : Page) (label : List ℕ) (k : ℕ) → carried p at ≡ Some page → page_of label ≡ Some page → 0 < k → ComesToHold at page label (sector_at p at).value p (crash p (relabel_writes at label (sector_at p at).value) k)
 

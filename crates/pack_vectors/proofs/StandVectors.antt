@@ -1,4 +1,5 @@
--- The formatted pack stands for its model as a cut does, and is whole by the sentences; what a session keeps of it; record writes that commit.
+-- The formatted pack stands for its model as a cut does, and is whole by the sentences; what a session keeps of it; record writes that
+-- commit.
 use Rattle.std.proofs.Common.{◌≡◌, ◌⊎◌, ℕ, zero, suc, ◌+◌, Bool, true, cond, List, [], ◌∷◌, refl, sym, ap, subst, ◌∙◌, arith, inl, inr}
 use Rattle.std.specs.Prelude.{◌<◌, codes, get_or, slice_get}
 use Rattle.alto_words.specs.declared.fid.Fid.{Fid}

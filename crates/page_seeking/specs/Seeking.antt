@@ -121,8 +121,8 @@ pub record Quick (p : Pack) (f : Fid) (cache : Cached) : Type 0 where
   pub links : LinksTrue p
   pub handy : Handy p f (all_listed cache)
 
--- What bounds on reaching a file's leader and its end ask for: true links on a whole pack, and addresses in the cache that are handy for this
--- file, whatever its leader says of pages.
+-- What bounds on reaching a file's leader and its end ask for: true links on a whole pack, and addresses in the cache that are handy for
+-- this file, whatever its leader says of pages.
 pub record QuickCache (p : Pack) (f : Fid) (cache : Cached) : Type 0 where
   pub whole : Whole p
   pub links : LinksTrue p

@@ -124,8 +124,8 @@ pub(crate) fn seek_last<D: Disk>(
 /// the nearest page that is known. `buf` holds the page then. The cache lists it from then on. Nothing is written.
 ///
 /// Misled: the named address, or a next link of the file, names no usable sector, or one that doesn't carry the page. DiskFault: the device
-/// failed. Memory: no memory was left, which no disk that is modelled answers here. Beyond never comes. After each of these what `buf` holds
-/// is open.
+/// failed. Memory: no memory was left, which no disk that is modelled answers here. Beyond never comes. After each of these what `buf`
+/// holds is open.
 pub fn last_page<D: Disk>(
     disk: &mut D,
     hints: &mut Hints,
@@ -143,8 +143,8 @@ pub fn last_page<D: Disk>(
     ensures cause { HasCause cause_of_length (D.tape disk.old) (D.tape disk.new) result }
     ensures want { IsTrue D.told → IsErrOf result FileError.Memory → ⊥ }
 
-    // Nothing is written. With any hints there are so many sector commands at most; two with true links, handy hints, and a leader that names
-    // the last page; and one more for each page after the one that it names.
+    // Nothing is written. With any hints there are so many sector commands at most; two with true links, handy hints, and a leader that
+    // names the last page; and one more for each page after the one that it names.
     ensures looks { Looks D.told 65586 (D.tape disk.old) (D.tape disk.new) }
     ensures quick { IsTrue D.told → Quick (pack (D.tape disk.old)) file.now.fid hints.old.cache → LastNamed (pack (D.tape disk.old)) file.now.fid → OnOk result ((D.tape disk.new).runs ≤ (D.tape disk.old).runs + 2) }
     ensures climbs { (more : ℕ) → IsTrue D.told → QuickCache (pack (D.tape disk.old)) file.now.fid hints.old.cache → NamedNearEnd (pack (D.tape disk.old)) file.now.fid more → OnOk result ((D.tape disk.new).runs ≤ (D.tape disk.old).runs + (more + 2)) }
@@ -165,8 +165,8 @@ pub fn last_page<D: Disk>(
     }
 }
 
-/// The length of a file in bytes, by the label of its last page, which is located as by `last_page`. On a pack that isn't whole pages before
-/// it may be missing: the file ends there then, and has fewer bytes. Nothing is written.
+/// The length of a file in bytes, by the label of its last page, which is located as by `last_page`. On a pack that isn't whole pages
+/// before it may be missing: the file ends there then, and has fewer bytes. Nothing is written.
 ///
 /// Misled, DiskFault and Memory come as from `last_page`, and Beyond never comes.
 pub fn length<D: Disk>(

@@ -16,13 +16,13 @@
 //!    so on packs that are being opened too.
 //!
 //! And where besides the pack carries no page twice, as one that is being opened:
-//! 7. `read_all` gives the file's bytes (`read`), and `read_part` those from each offset that isn't past the end (`read_once`); the file isn't
-//!    longer than `length` says (`most`), and is shorter only where a page is missing.
+//! 7. `read_all` gives the file's bytes (`read`), and `read_part` those from each offset that isn't past the end (`read_once`); the file
+//!    isn't longer than `length` says (`most`), and is shorter only where a page is missing.
 //!
 //! And where the pack is whole:
 //! 8. The bytes (`read`), the length (`length`) and the last page (`last`) are the file's, and Beyond comes by its length (`beyond`).
-//! 9. With true links, hints that are handy stay handy (`handy`), and the page to go on from is listed (`next`): a file that is read in parts
-//!    takes one sector command a page.
+//! 9. With true links, hints that are handy stay handy (`handy`), and the page to go on from is listed (`next`): a file that is read in
+//!    parts takes one sector command a page.
 //!
 //! Not promised: that hints are true. True ones never mislead; that is a law of laws_lookup.
 #![tactic(auto)]

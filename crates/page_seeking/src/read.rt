@@ -159,8 +159,8 @@ fn read_pages<D: Disk>(
 /// Reads bytes of a file from the byte `offset` on to the front of `out`: as many as there are and fit, and answers how many. The rest of
 /// `out` stays. The first page is located as by `locate`, and each one after it by the next link of the page before. Nothing is written.
 ///
-/// Beyond: `offset` is past the file's length; it never comes of offset 0. Misled, DiskFault and Memory come as from `locate`. After an error
-/// what `out` holds is open.
+/// Beyond: `offset` is past the file's length; it never comes of offset 0. Misled, DiskFault and Memory come as from `locate`. After an
+/// error what `out` holds is open.
 pub fn read_part<D: Disk>(
     disk: &mut D,
     hints: &mut Hints,
@@ -169,8 +169,8 @@ pub fn read_part<D: Disk>(
     out: &mut [u8],
     buf: &mut Sector,
 ) -> Result<usize, FileError>
-    // The bytes are the file's, as many as fit, and the offset isn't past its end: on a whole pack, and on any that carries no page twice, if
-    // the offset isn't past the end there.
+    // The bytes are the file's, as many as fit, and the offset isn't past its end: on a whole pack, and on any that carries no page twice,
+    // if the offset isn't past the end there.
     ensures read { IsTrue D.told → Whole (pack (D.tape disk.old)) → IfOk result (IsWithinPart (file_bytes (sights (pack (D.tape disk.old))) file.now.fid) offset out.old out.new) }
     ensures read_once { IsTrue D.told → EachOnce (sights (pack (D.tape disk.old))) → offset ≤ file_length (pack (D.tape disk.old)) file.now.fid → IfOk result (IsWithinPart (file_bytes (sights (pack (D.tape disk.old))) file.now.fid) offset out.old out.new) }
     ensures fits { IfOk result (λ n. n ≤ length out.old) }
@@ -183,15 +183,15 @@ pub fn read_part<D: Disk>(
     ensures cause { HasCause cause_of_file (D.tape disk.old) (D.tape disk.new) result }
     ensures want { IsTrue D.told → IsErrOf result FileError.Memory → ⊥ }
 
-    // Sector commands: one a page, if the cache has the first page's sector, up to the page of the last byte, if no more fit. With true links
-    // and handy hints one more than the number of the page that the end of what was read is in.
+    // Sector commands: one a page, if the cache has the first page's sector, up to the page of the last byte, if no more fit. With true
+    // links and handy hints one more than the number of the page that the end of what was read is in.
     ensures looks { Looks D.told 65588 (D.tape disk.old) (D.tape disk.new) }
     ensures soon { (at : ℕ) → IsTrue D.told → address_in hints.old.cache.entries (page_number file.now.fid (page_of_byte offset)) ≡ Some at → carried (pack (D.tape disk.old)) at ≡ Some (page_number file.now.fid (page_of_byte offset)) → IfOk result (λ n. (D.tape disk.new).runs + page_of_byte offset ≤ (D.tape disk.old).runs + page_of_byte (offset + n) + 1) }
     ensures filled { (at : ℕ) → IsTrue D.told → address_in hints.old.cache.entries (page_number file.now.fid (page_of_byte offset)) ≡ Some at → carried (pack (D.tape disk.old)) at ≡ Some (page_number file.now.fid (page_of_byte offset)) → IfOk result (λ n. 1 ≤ n → n ≡ length out.old → (D.tape disk.new).runs + page_of_byte offset ≤ (D.tape disk.old).runs + page_of_byte (offset + n - 1) + 1) }
     ensures quick { IsTrue D.told → Quick (pack (D.tape disk.old)) file.now.fid hints.old.cache → IfOk result (λ n. (D.tape disk.new).runs ≤ (D.tape disk.old).runs + page_of_byte (offset + n) + 1) }
 
-    // What becomes of the hints. The cache lists the page of the last byte that was read, or of no bytes a page that the offset is in or ends.
-    // With true links it lists the page to go on from, so that a file that is read in parts takes one sector command a page.
+    // What becomes of the hints. The cache lists the page of the last byte that was read, or of no bytes a page that the offset is in or
+    // ends. With true links it lists the page to go on from, so that a file that is read in parts takes one sector command a page.
     ensures table { hints.new.table ≡ hints.old.table }
     ensures last { IfOk result (λ n. 1 ≤ n → ListsNext D.told (pack (D.tape disk.old)) file.now.fid (offset + n - 1) hints.old.cache hints.new.cache) }
     ensures listed { IfOk result (λ n. ListsEnd D.told (pack (D.tape disk.old)) file.now.fid (offset + n) hints.old.cache hints.new.cache) }

@@ -70,8 +70,8 @@ pub record TookKeys (old new : Taped) (stop : Stop) (cues : List Cue) : Type 0 w
 
 -- ---- a session on a pack that opened
 -- Its history is over a prefix of what is typed, and shows its texts; of a turn that broke off some text is shown only where the display
--- failed, and all moves are made there; the disk fails at no line that is refused by itself. Its tally counts the history from the limit that was given. Each crash point stands for the model, and shows it, as the
--- ruler says.
+-- failed, and all moves are made there; the disk fails at no line that is refused by itself. Its tally counts the history from the limit
+-- that was given. Each crash point stands for the model, and shows it, as the ruler says.
 pub record SessionOf (moment : ℕ) (old new : Taped) (given tally : Tally) (stop : Stop) (end : Option State) : Type 0 where
   pub cues : List Cue
   pub turns : List (Turn Move)

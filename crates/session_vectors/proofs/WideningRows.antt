@@ -1,4 +1,5 @@
--- Rows of directories without room for an entry: a page more for SysDir, for another directory, or for both, before the line's own operations.
+-- Rows of directories without room for an entry: a page more for SysDir, for another directory, or for both, before the line's own
+-- operations.
 use Rattle.std.proofs.Common.{◌≡◌, ℕ, List, [], ◌∷◌, Some, refl}
 use Rattle.std.specs.Prelude.{codes}
 use Rattle.std.specs.FinMap.{get, entries, from_entries, get-from_entries}

@@ -22,8 +22,8 @@ const FILE: FileRef = FileRef {
     from: Place::Held { at: 5 },
 };
 
-/// The labels of its pages 1 to 3 after 1,200 bytes, which fill two pages and 176 bytes of the third. The real address of a sector below 12 is
-/// 4,096 times its own.
+/// The labels of its pages 1 to 3 after 1,200 bytes, which fill two pages and 176 bytes of the third. The real address of a sector below 12
+/// is 4,096 times its own.
 const PAGES: [[u16; 8]; 3] = [
     [0x7000, 0x5000, 0, 512, 1, 1, 0, 3],
     [0x8000, 0x6000, 0, 512, 2, 1, 0, 3],
@@ -100,7 +100,8 @@ fn size(machine: &mut MemMachine, held: &mut Held) -> Result<u32, FileError> {
     length(machine, &mut held.hints, &FILE, &mut buf)
 }
 
-/// Nine record writes are made, and the eighth of them commits, so the fourteenth: a tally counts it up to a limit of 14, and not up to one of
+/// Nine record writes are made, and the eighth of them commits, so the fourteenth: a tally counts it up to a limit of 14, and not up to one
+/// of
 /// 13. Ten bytes more stay in the last page, with a word after them; and 326 fill it, so that a page without bytes comes.
 #[test]
 fn a_file_that_grows(rt: HostRuntime) -> Result<(), Fail> {
@@ -156,8 +157,8 @@ fn a_file_that_grows(rt: HostRuntime) -> Result<(), Fail> {
     Ok(())
 }
 
-/// The call of the machine that fails, and after how many of its record writes; then the record writes that were made, the operations that are
-/// counted, and the length. Calls 4 and 5 find the last page, 6 to 9 claim, and 13 is the old last page's label.
+/// The call of the machine that fails, and after how many of its record writes; then the record writes that were made, the operations that
+/// are counted, and the length. Calls 4 and 5 find the last page, 6 to 9 claim, and 13 is the old last page's label.
 const FAULTS: [(u64, u8, u64, u64, u32); 3] = [
     (8, 0, 9, 1, 0),
     (13, 0, 13, 1, 0),

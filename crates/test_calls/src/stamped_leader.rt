@@ -17,8 +17,8 @@ const FILE: FileRef = FileRef {
     from: Place::Held { at: 5 },
 };
 
-/// Each stamp is one record write. The first finds a leader that names no last page, the second one that does. A title is one too, and leaves
-/// all other words.
+/// Each stamp is one record write. The first finds a leader that names no last page, the second one that does. A title is one too, and
+/// leaves all other words.
 #[test]
 fn stamped_twice_and_titled(rt: HostRuntime) -> Result<(), Fail> {
     let name = Name::parse(b"Memo").ok_or("no name")?;

@@ -27,7 +27,8 @@ use Rattle.laws_line.specs.LineLaws.{new_file_line, rename_line}
 use Rattle.laws_met.specs.Peopled.{leaving, making}
 use Rattle.laws_met.proofs.inside.Operating.{Done, Stands}
 
--- where SysDir has a run of free words for the longest entry, and the directory one for this entry, a line that makes a file has no widening
+-- where SysDir has a run of free words for the longest entry, and the directory one for this entry, a line that makes a file has no
+-- widening
 pub plain_line : (m : Model) (d : Fid) (name : List ℕ) (f : Fid) (rest : List Operation) (roots items : List Item) → dir_items m sys_dir ≡ roots → dir_items m d ≡ items
     → nat_le longest_entry (largest_run roots) ≡ true → (is_fid d sys_dir || nat_le (entry_length (length name)) (largest_run items)) ≡ true
     → new_file_line m d name f 1000 rest ≡ make f name 1000 ∷ enter d name f ∷ rest

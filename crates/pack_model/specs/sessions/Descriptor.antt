@@ -73,8 +73,8 @@ abbrev pub mark_after : ℕ → List Operation → ℕ
 mark_after mark [] = mark
 mark_after mark (o ∷ ops) = mark_open
 
--- The moves of the end of a session, one a record write: none where it needs scavenging, and else those of its last operations and of closing.
--- At a line `quit` they come before `done` is shown, as the record writes of every line come before its text; at the end of the
+-- The moves of the end of a session, one a record write: none where it needs scavenging, and else those of its last operations and of
+-- closing. At a line `quit` they come before `done` is shown, as the record writes of every line come before its text; at the end of the
 -- keys there is no text.
 abbrev pub ending_moves : Bool → ℕ → Model → List Operation → List Move
 ending_moves true mark m ops = []

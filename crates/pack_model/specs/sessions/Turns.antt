@@ -75,7 +75,8 @@ acknowledged weight (t ∷ turns) bytes = cond (t.counts && is_whole t.text byte
 abbrev pub moves_at : {O : Type 0} → List (Turn O) → List Event → ℕ → List O
 moves_at turns events k = take (writes_in (take k events)) (ops_of turns)
 
--- The ruler: the number of operations that the crash after k events has done. It starts at 0, never falls, and rises at record writes alone.
+-- The ruler: the number of operations that the crash after k events has done. It starts at 0, never falls, and rises at record writes
+-- alone.
 abbrev pub ruler : {O : Type 0} → (O → ℕ) → List (Turn O) → List Event → ℕ → ℕ
 ruler weight turns events k = sum_by weight (moves_at turns events k)
 
