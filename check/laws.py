@@ -33,7 +33,7 @@ QUESTIONS = [
     ("map", "laws_hint::changes", "marks_the_map|leaves_the_map"),
     ("room", "laws_line::lines", "leaves_room"),
 ]
-# Laws of several operations: the question, the law, the operations.
+# Laws of several operations, or with another home: the question, the law, the operations. A law of another crate has its whole path.
 SHARED = [
     ("one record", "entry_is_the_step", "enter"),
     ("one record", "drop_is_the_step", "release"),
@@ -49,6 +49,7 @@ SHARED = [
     ("names, places", "free_name_is_apart_for_a_nameless_file", "enter"),
     ("names, places", "new_serial_names_no_living_file", "serial"),
     ("other files", "values_leave_others", "put title stamp slot enter leave open serial close"),
+    ("other files", "laws_midway::dropped::drop_leaves_others", "drop"),
     ("misled before", "values_misled_before", "put title stamp open serial close"),
     ("misled before", "leave_misled_before", "slot"),
     ("system", "leader_leaves_the_system", "title stamp"),
@@ -81,14 +82,18 @@ def laws_for(question, operation, laws):
     known = {path[2]: path for path in laws if path[0] == home.split("::")[0]}
     own = [path for name, path in known.items() if re.fullmatch(f"{operation}_({endings})", name)]
     shared = [law for it, law, operations in SHARED if it == heading and operation in operations.split()]
+    known |= {"::".join(path): path for path in laws}
     return [*own, *(known[name] for name in shared if name in known)]
 
 
 def cell(question, operation, laws):
-    """The same as a cell of the table: without the module where it is the one to be expected."""
-    expected = module_of(question[1], operation)
-    found = laws_for(question, operation, laws)
-    return ", ".join(f"`{name}`" if module == expected else f"`{module}::{name}`" for _, module, name in found) or "-"
+    """The same as a cell of the table: without crate and module where they are those to be expected."""
+    expected = (question[1].split("::")[0], module_of(question[1], operation))
+    found = []
+    for path in laws_for(question, operation, laws):
+        same = 2 if path[:2] == expected else 1 if path[0] == expected[0] else 0
+        found.append("`" + "::".join(path[same:]) + "`")
+    return ", ".join(found) or "-"
 
 
 def table():

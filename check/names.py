@@ -1,7 +1,8 @@
 #!/usr/bin/env python3
 """Finds public functions, types, variants, laws and definitions by a word of their name or of the first sentence of their comment.
 
-Those with the word in their name come first. Each is shown with its place and that sentence.
+Those with the word in their name come first: code before definitions, and in each those whose whole name it is. Each is shown with its
+place and that sentence.
 """
 # A path is as the code imports it, with `::` between its parts: a crate, modules, a type and an item or a variant of src/; or a crate,
 # `specs` or `proofs`, folders, a file and what it defines. What a root file passes on by `pub use` has the shorter path too.
@@ -15,6 +16,7 @@ import typing
 
 TOP = pathlib.Path(__file__).resolve().parent.parent
 ITEM = re.compile(r"( *)(pub(?:\([a-z]+\))? )?(?:const )?(fn|struct|enum|trait|const|type) (\w+)")
+GHOST = re.compile(r"    ghost (\w+):")
 VARIANT = re.compile(r"    ([A-Z]\w*)(?=[ ({,]|$)")
 IMPL = re.compile(r"impl\b(?:<[^>]*>)?(?:[^{]* for)? (\w+)")
 DEFINITION = re.compile(r"((?:(?:pub|abbrev|unfoldable|opaque|data|record) )*)(?!(?:use|mod) )([^\s:(){}]+)(?= :| [({][^=]* : )")
@@ -99,6 +101,8 @@ def items_of(file, module):
                 yield Name((*module, holder, name), file, at, public == "pub " or is_shared, lines)
         elif holder and has_variants and (variant := VARIANT.match(line)):
             yield Name((*module, holder, variant[1]), file, at, is_shared, lines)
+        elif holder and (ghost := GHOST.match(line)):
+            yield Name((*module, holder, ghost[1]), file, at, is_shared, lines)
 
 
 def definitions_of(file, module):
@@ -149,8 +153,10 @@ def found_by(word):
     """The public names with this word, and those with it in their sentence alone."""
     word = word.lower()
     public = [name for crate in crates() for name in names_of(crate) if name.public]
+    by_name = [name for name in public if word in name.path[-1].lower()]
+    by_name.sort(key=lambda name: (name.path[1] == "specs", word != name.path[-1].lower()))
     others = [name for name in public if word not in name.path[-1].lower()]
-    return [name for name in public if word in name.path[-1].lower()], [name for name in others if word in name.sentence().lower()]
+    return by_name, [name for name in others if word in name.sentence().lower()]
 
 
 def main():
