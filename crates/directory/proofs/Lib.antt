@@ -1,9 +1,12 @@
 mod Answering
+mod FreeRows
 mod Items
 mod LeavingEntry
 mod Meeting
 mod Paging
+mod PlaceFound
 mod Quickly
+mod RoomSeeking
 mod Rows
 mod Standing
 mod Walking

@@ -50,7 +50,7 @@ free_within [] = omega arith
 free_within (space n ∷ is) = let h = free_within is in omega (arith, h)
 free_within (entry f name ∷ is) = omega arith
 
-run_within : (is : List Item) → largest_run is ≤ all_words is
+pub run_within : (is : List Item) → largest_run is ≤ all_words is
 run_within [] = omega arith
 run_within (i ∷ is) = let h = run_within is in let g = free_within (i ∷ is) in omega (arith, h, g)
 

@@ -3,7 +3,11 @@ pub mod Asked
 pub mod Bounds
 pub mod Errors
 pub mod Found
+pub mod FoundRooms
+pub mod FreeRows
 pub mod Inside
 pub mod Leaving
+pub mod Places
+pub mod Seeking
 pub mod Visits
 pub mod Widening

@@ -1,5 +1,6 @@
 // Room in a directory.
 ghost use Rattle.std.specs.Prelude.{◌≡◌, ◌*◌, ◌≤◌, IsTrue, IsErrOf, IfOk, OnOk, []};
+ghost use Rattle.dir_slots.specs.Walks.{slot_met};
 ghost use Rattle.disk_records.specs.Causes.{HasCause, never};
 ghost use Rattle.disk_records.specs.Tapes.{Looks, pack};
 ghost use Rattle.pack_model.specs.hints.Links.{dir_words};
@@ -20,9 +21,24 @@ use hint_cache::Hints;
 
 /// The free words in the row that ends with the slots met so far, and the most in any row of them.
 #[derive(Drop)]
-struct Runs {
-    row: u32,
-    largest: u32,
+pub(crate) struct Runs {
+    pub row: u32,
+    pub largest: u32,
+}
+
+impl Runs {
+    ghost use Rattle.directory.specs.Inside.{MeetsRow};
+
+    /// Counts this slot too.
+    pub(crate) fn count(&mut self, met: &PlacedSlot)
+        ensures { MeetsRow self.old (slot_met met.now) self.new }
+    {
+        self.row = match met.slot {
+            Slot::Free { words } => self.row.saturating_add(words as u32),
+            Slot::Entry { .. } => 0,
+        };
+        self.largest = self.largest.max(self.row);
+    }
 }
 
 impl Visit for Runs {
@@ -34,11 +50,7 @@ impl Visit for Runs {
     ghost takes_memory = { false };
 
     fn visit(&mut self, met: PlacedSlot) -> Result<(), Memory> {
-        self.row = match met.slot {
-            Slot::Free { words } => self.row.saturating_add(words as u32),
-            Slot::Entry { .. } => 0,
-        };
-        self.largest = self.largest.max(self.row);
+        self.count(&met);
         Ok(())
     }
 }
