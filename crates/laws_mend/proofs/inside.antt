@@ -1,0 +1,9 @@
+pub mod Claiming
+pub mod Counting
+pub mod FreeOnes
+pub mod Freeing
+pub mod Joining
+pub mod PartsMended
+pub mod Relabelling
+pub mod Releasing
+pub mod SystemPages

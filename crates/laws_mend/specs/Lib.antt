@@ -1,0 +1,6 @@
+pub mod JoinLaws
+pub mod NumberLaws
+pub mod PartLaws
+pub mod Parts
+pub mod RunLaws
+pub mod Tending
