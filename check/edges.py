@@ -280,9 +280,9 @@ def check_show(program):
 
 
 def without_dates(run):
-    """The run with zeros for the three dates of both leaders in the files left: they are the time of the run."""
+    """The run with zeros for the three dates of both leaders in the files left, except in `two`: they are the time of the run."""
     for name, content in run.left.items():
-        for at in (1, 3):
+        for at in () if name == "two" else (1, 3):
             first = at * 532 + 20
             content = content[:first] + bytes(12) + content[first + 12 :]
         run.left[name] = content
@@ -291,11 +291,8 @@ def without_dates(run):
 
 def check_format(program):
     pack, made, new = abcde(), bytes(SMALL), ["--cylinders", "2", "new", "format", "1"]
-    formatted = without_dates(Run(program, new)).left.get("new", b"")
-    # each sector's header has the pack's number and the sector's real address, which is 4,096 times its address on the first track
-    for at in range(12):
-        if formatted[at * 532 : at * 532 + 4] != bytes([0, 1, at * 16, 0]):
-            failures.append(f"format: sector {at} hasn't the header that it should")
+    (formatted,) = packs.formatted(1, 2, 1)
+    without_dates(Run(program, new)).gives(DONE, FORMATTED, left={"new": formatted})
     without_dates(Run(program, new, typed=PATCHES)).gives(DONE, FORMATTED, left={"new": formatted})
     # whatever stood there
     format_1 = ["pack", "format", "1"]
@@ -314,52 +311,49 @@ def check_format(program):
     stopped = Run(program, format_1, {"pack": pack}, before=limited(1_000))
     stopped.gives(-signal.SIGXFSZ, left=stopped.left)
     without_dates(Run(program, format_1, stopped.left)).gives(DONE, FORMATTED, left={"pack": formatted})
-    # larger ones, and two drives
+    # larger ones, and two drives, each drive whole: headers, labels and values
     for cylinders, free in [(160, 3834), (203, 4866), (406, 9737)]:
-        run = Run(program, ["--cylinders", str(cylinders), "new", "format", "7"])
-        run.gives(DONE, b"formatted: %d pages free\n" % free, left=run.left)
-        if [len(it) for it in run.left.values()] != [cylinders * 12_768]:
-            failures.append(f"{run.name}: the file has another length")
-    for cylinders, free in [(203, 9737), (406, 19479)]:
-        run = Run(program, ["--cylinders", str(cylinders), "--second", "two", "one", "format", "7"])
-        run.gives(DONE, b"formatted: %d pages free\n" % free, left=run.left)
-        Run(program, ["--second", "two", "one", "show"], run.left).gives(DONE, NO_FILES, left=run.left)
+        run = without_dates(Run(program, ["--cylinders", str(cylinders), "new", "format", "4660"]))
+        run.gives(DONE, b"formatted: %d pages free\n" % free, left={"new": packs.formatted(1, cylinders, 4660)[0]})
+    for cylinders, free in [(2, 91), (203, 9737), (406, 19479)]:
+        both = ["--second", "two", "one"]
+        left = dict(zip(("one", "two"), packs.formatted(2, cylinders, 4660)))
+        run = without_dates(Run(program, ["--cylinders", str(cylinders), *both, "format", "4660"]))
+        run.gives(DONE, b"formatted: %d pages free\n" % free, left=left)
+        Run(program, [*both, "show"], run.left).gives(DONE, NO_FILES, left=left)
+    # two drives on which something stood
+    one, two = packs.pair(2, b"ABCDE")
+    left = dict(zip(("one", "two"), packs.formatted(2, 2, 65_535)))
+    run = without_dates(Run(program, ["--second", "two", "one", "format", "65535"], {"one": one, "two": two}))
+    run.gives(DONE, b"formatted: 91 pages free\n", left=left)
 
 
 def check_prepare(program):
     pack = packs.pack(2, b"ABCDE")
     twice = {"one": pack, "two": pack}
     both = ["--second", "two", "one"]
-    prepared = Run(program, [*both, "prepare", "1"], {"one": pack, "two": bytes(SMALL)})
-    prepared.gives(DONE, PREPARED, left=prepared.left)
-    if prepared.left["one"] != pack:
-        failures.append("prepare: the first drive changed")
-    # each label and value has ones, and each header the pack's number and the bit of the second drive
-    second = prepared.left["two"]
-    for at in range(48):
-        if second[at * 532 : at * 532 + 2] != bytes([0, 1]) or not second[at * 532 + 2] | second[at * 532 + 3]:
-            failures.append(f"prepare: sector {at} of the second drive hasn't the header that it should")
-        if second[at * 532 + 4 : (at + 1) * 532] != b"\xff" * 528:
-            failures.append(f"prepare: sector {at} of the second drive isn't free")
-    Run(program, [*both, "show"], prepared.left).gives(DONE, LISTING, left=prepared.left)
+    # the first drive doesn't change; of the second each label and value has ones, and each header the pack's number and the drive's bit
+    prepared = {"one": pack, "two": packs.prepared(2, 1)}
+    Run(program, [*both, "prepare", "1"], {"one": pack, "two": bytes(SMALL)}).gives(DONE, PREPARED, left=prepared)
+    Run(program, [*both, "show"], prepared).gives(DONE, LISTING, left=prepared)
     # what stood there is gone
-    Run(program, [*both, "prepare", "1"], twice, PATCHES).gives(DONE, PREPARED, left=prepared.left)
-    Run(program, [*both, "prepare", "00001"], prepared.left).gives(DONE, PREPARED, left=prepared.left)
+    Run(program, [*both, "prepare", "1"], twice, PATCHES).gives(DONE, PREPARED, left=prepared)
+    Run(program, [*both, "prepare", "00001"], prepared).gives(DONE, PREPARED, left=prepared)
     # on one drive, with other numbers and other words
     Run(program, ["one", "prepare", "1"], {"one": pack}).gives(USAGE, b"usage\n", left={"one": pack})
     for words in [["0"], ["65536"], ["-1"], [""], [], ["1", "1"]]:
         Run(program, [*both, "prepare", *words], twice).gives(USAGE, b"usage\n", left=twice)
     # the display fails after the last record write; the disk fails, and the drive is prepared again
-    Run(program, [*both, "prepare", "1"], twice, redirect=">&-").gives(DISPLAY_FAILED, left=prepared.left)
+    Run(program, [*both, "prepare", "1"], twice, redirect=">&-").gives(DISPLAY_FAILED, left=prepared)
     stopped = Run(program, [*both, "prepare", "1"], twice, before=limited(1_000))
     stopped.gives(-signal.SIGXFSZ, left=stopped.left)
-    Run(program, [*both, "prepare", "1"], stopped.left).gives(DONE, PREPARED, left=prepared.left)
-    # an old pack of one drive, of each size
+    Run(program, [*both, "prepare", "1"], stopped.left).gives(DONE, PREPARED, left=prepared)
+    # an old pack of one drive, of each size, and another number
     for cylinders, pages in [(203, 4872), (406, 9744)]:
-        one = Run(program, ["--cylinders", str(cylinders), "one", "format", "1"]).left["one"]
-        run = Run(program, [*both, "prepare", "1"], {"one": one, "two": bytes(cylinders * 12_768)})
-        run.gives(DONE, b"prepared: %d pages\n" % pages, left=run.left)
-        Run(program, [*both, "show"], run.left).gives(DONE, NO_FILES, left=run.left)
+        (one,) = packs.formatted(1, cylinders, 1)
+        files, left = {"one": one, "two": bytes(cylinders * 12_768)}, {"one": one, "two": packs.prepared(cylinders, 4660)}
+        Run(program, [*both, "prepare", "4660"], files).gives(DONE, b"prepared: %d pages\n" % pages, left=left)
+        Run(program, [*both, "show"], left).gives(DONE, NO_FILES, left=left)
 
 
 def may(act):
@@ -591,23 +585,27 @@ def check_shrinking_second(program):
 
 def check_whole_writes(program):
     """A reply, a listing and each other text is shown by one write call: a socket of packets keeps them apart."""
+    second = ["--second", "second"]
     rows = [
-        (["boot"], [b"done\n", b"beyond length 5\n"]),
-        (["show"], [LISTING]),
-        (["format", "1"], [FORMATTED]),
-        (["halt"], [b"usage\n"]),
+        ([], ["boot"], [b"done\n", b"beyond length 5\n"]),
+        ([], ["show"], [LISTING]),
+        ([], ["format", "1"], [FORMATTED]),
+        ([], ["prepare", "1"], [b"usage\n"]),
+        (second, ["prepare", "1"], [PREPARED]),
+        ([], ["halt"], [b"usage\n"]),
     ]
-    for words, texts in rows:
+    for options, words, texts in rows:
         with tempfile.TemporaryDirectory() as folder:
-            file = pathlib.Path(folder) / "pack"
-            file.write_bytes(abcde())
+            for name in ("pack", "second"):
+                (pathlib.Path(folder) / name).write_bytes(abcde())
             reader, writer = socket.socketpair(socket.AF_UNIX, socket.SOCK_SEQPACKET)
             with reader:
-                subprocess.run([program, file, *words], input=PATCHES, stdout=writer, timeout=SECONDS)
+                command = [program, *options, "pack", *words]
+                subprocess.run(command, cwd=folder, input=PATCHES, stdout=writer, timeout=SECONDS)
                 writer.close()
                 shown = list(iter(lambda: reader.recv(MIB), b""))
             if shown != texts:
-                failures.append(f"{words}: the write calls show {shown}, and not {texts}")
+                failures.append(f"{[*options, *words]}: the write calls show {shown}, and not {texts}")
 
 
 def check_closed_pipe(program):

@@ -130,6 +130,38 @@ def pair(cylinders, data):
     return files_of_two(sectors, cylinders)
 
 
+def numbered(file, number):
+    """A pack file with this pack number in each header."""
+    return b"".join(number.to_bytes(2, "big") + file[at + 2 : at + SECTOR] for at in range(0, len(file), SECTOR))
+
+
+def drive_files(sectors, drives, cylinders):
+    return files_of_two(sectors, cylinders) if drives == 2 else (b"".join(sectors),)
+
+
+def formatted(drives, cylinders, number):
+    """The files of a pack that `format` wrote, a file a drive, with zeros for the dates; docs/formats.md tells the words. Sector 0 has
+    zeros, SysDir and DiskDescriptor follow, and the other sectors are free."""
+    sectors, words = free_sectors(drives * cylinders), -(-drives * cylinders * 24 // 16)
+    sectors[0] = sector(0, [0] * 8, bytes(PAGE))
+    names = slot(SYS_DIR, b"SysDir.", 1) + slot(DESCRIPTOR, b"DiskDescriptor.", 3)
+    put_file(sectors, 1, SYS_DIR, b"SysDir.", names + free_slot(231))
+    size = 32 + 2 * words
+    used = 5 + size // PAGE
+    busy = (((1 << used) - 1) << (16 * words - used)).to_bytes(2 * words, "big")
+    heading = struct.pack(">16H", drives, cylinders, 2, 12, 0, 2, 1, drives * cylinders * 24 - used, words, *[0] * 7)
+    put_file(sectors, 3, DESCRIPTOR, b"DiskDescriptor.", heading + busy)
+    # the last page's address, number and bytes end each leader
+    for at, hints in [(1, (2, 1, 510)), (3, (used - 1, used - 4, size % PAGE))]:
+        sectors[at] = sectors[at][: SECTOR - 6] + struct.pack(">3H", *hints)
+    return tuple(numbered(it, number) for it in drive_files(sectors, drives, cylinders))
+
+
+def prepared(cylinders, number):
+    """The file of a second drive that `prepare` wrote: each of its sectors is free."""
+    return numbered(files_of_two(free_sectors(2 * cylinders), cylinders)[1], number)
+
+
 def place(offset):
     """Where a byte of the file stands in the pack file."""
     return (LEADER_AT + 1 + offset // PAGE) * SECTOR + 20 + offset % PAGE
