@@ -1,5 +1,5 @@
 // A file that is cut: a prefix of its bytes is kept.
-ghost use Rattle.std.specs.Prelude.{◌≡◌, ◌≢◌, ◌<◌, ◌≤◌, ◌/◌, ℕ, List, [], false, Some, IfNone, IfSome, IsTrue, OnOk, length as list_length};
+ghost use Rattle.std.specs.Prelude.{◌≡◌, ◌≢◌, ◌<◌, ◌≤◌, ◌/◌, ℕ, List, [], false, Some, IfNone, IfSome, IsErrOf, IsTrue, OnOk, length as list_length};
 ghost use Rattle.disk_records.specs.Addresses.{pages_of};
 ghost use Rattle.disk_records.specs.Causes.{HasCause};
 ghost use Rattle.disk_records.specs.Commands.{relabel_writes};
@@ -131,7 +131,8 @@ fn end_in_page<D: Disk>(
 ///
 /// Beyond: the file is shorter; nothing was written. Misled: the address that the file is named with misleads, or a next link of the file:
 /// then nothing was written, or the file is cut and later pages are left, which a scavenge releases. DiskFault: the device failed. Memory:
-/// no memory was left for a record write. After these two a prefix of the record writes was done.
+/// no memory was left for a record write, so never for a cut to the file's own length. After these two a prefix of the record writes was
+/// done.
 pub fn cut<D: Disk>(
     disk: &mut D,
     hints: &mut Hints,
@@ -143,6 +144,7 @@ pub fn cut<D: Disk>(
     requires sized { list_length hints.old.table ≡ pages_of (D.tape disk.old).form }
     ensures operates { IsTrue D.told → FileStands (pack (D.tape disk.old)) file.now → IsOrdinary file.now.fid → length ≢ file_length (pack (D.tape disk.old)) file.now.fid → Operates error.DiskFault error.Memory (to_cut file.now.fid length) [] (around (D.tape disk.old) hints.old.table tally.old) (around (D.tape disk.new) hints.new.table tally.new) result }
     ensures own_length { IsTrue D.told → FileStands (pack (D.tape disk.old)) file.now → length ≡ file_length (pack (D.tape disk.old)) file.now.fid → IsQuiet (around (D.tape disk.old) hints.old.table tally.old) (around (D.tape disk.new) hints.new.table tally.new) }
+    ensures want { IsTrue D.told → FileStands (pack (D.tape disk.old)) file.now → length ≡ file_length (pack (D.tape disk.old)) file.now.fid → IsErrOf result error.Memory → ⊥ }
     ensures within { IsTrue D.told → FileStands (pack (D.tape disk.old)) file.now → OnOk result (length ≤ file_length (pack (D.tape disk.old)) file.now.fid) }
     ensures beyond { IsTrue D.told → FileStands (pack (D.tape disk.old)) file.now → IfBeyond result (IsPast (pack (D.tape disk.old)) file.now.fid length) }
     ensures misled { IsTrue D.told → FileStands (pack (D.tape disk.old)) file.now → IfMisled result (MisledBy (pack (D.tape disk.old)) (added (D.tape disk.old) (D.tape disk.new)) file.now.fid) }

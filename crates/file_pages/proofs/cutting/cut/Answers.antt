@@ -50,6 +50,15 @@ returns-else-info-bytes-2-clause-own_length g c told stands own =
     let within = cut_is_within a c.args.file.now.fid c.args.length c.in-Some.number c.in-Ok-locate.at c.in-Ok-locate.info stands.whole (known_read read) c.in-Some.ensures.some (omega (arith, not_less, not_same)) in
     absurd (omega (arith, within, own))
 
+pub returns-else-info-bytes-2-clause-want : goal.returns-else-info-bytes-2-clause-want
+returns-else-info-bytes-2-clause-want g c told stands own memory =
+    let a = pack (g.D.Tape.tape c.args.disk.now) in
+    let read : IsRead a (page_number c.args.file.now.fid c.in-Some.number) c.in-Ok-locate.at c.in-Ok-locate.info c.locate.new.buf = record { seen = c.in-Ok-locate.ensures.seen; stands = c.in-Ok-locate.ensures.stands told } in
+    let not_less = c.if-info-bytes.false in
+    let not_same = c.if-info-bytes-2.false in
+    let within = cut_is_within a c.args.file.now.fid c.args.length c.in-Some.number c.in-Ok-locate.at c.in-Ok-locate.info stands.whole (known_read read) c.in-Some.ensures.some (omega (arith, not_less, not_same)) in
+    absurd (omega (arith, within, own))
+
 pub returns-then-info-bytes-2-clause-operates : goal.returns-then-info-bytes-2-clause-operates
 returns-then-info-bytes-2-clause-operates g c told stands ordinary other =
     let a = pack (g.D.Tape.tape c.args.disk.now) in
