@@ -11,7 +11,7 @@
 //! And where the machine is modelled, the pack is whole and tidy, and the arguments are as the contract's premises say:
 //! 3. The call does one operation: at Ok all of its record writes, at every other answer a prefix of them, and the tally counts the
 //!    operation if and only if the record that commits it was written (`operates`). A drop is so except for the slot of its entry
-//!    (`releases`).
+//!    (`releases`), and its record writes do what the operation's do (`goes`).
 //! 4. A new file's pages are in the sectors that were given for them (`placed`), and listed, unless a note was refused (`listed`).
 //! 5. Misled comes only where a hint of the file misled as the call began, of a new file never (`misled`), and Beyond only of bytes that
 //!    would end after the file and of a cut past its end (`beyond`). `put` says its record write of every file, directories too (`puts`),

@@ -9,7 +9,7 @@ use Rattle.page_seeking.specs.Seeking.{page_number}
 use Rattle.pack_model.specs.reading.Sights.{sights}
 use Rattle.file_pages.proofs.CommitFirst.{look_before}
 use Rattle.file_pages.proofs.CutFiles.{fewer_pages, known_read}
-use Rattle.file_pages.proofs.DroppedFiles.{drop_begun, drop_here}
+use Rattle.file_pages.proofs.DroppedFiles.{drop_begun, drop_does, drop_here, drop_not_begun}
 use Rattle.file_pages.proofs.Erring.{never_past}
 use Rattle.file_pages.proofs.Going.{handy_still, misled_by}
 use Rattle.file_pages.specs.Cutting.{IsRead}
@@ -29,6 +29,19 @@ returns-in-Ok-clause-releases g c told stands dropped =
     let table = subst (λ (l : List Bool). OnOk c.drop_pages.result (c.drop_pages.new.hints.table ≡ marked false (c.in-Ok.at ∷ here.pages) l)) c.locate.ensures.table (c.drop_pages.ensures.table (pack a) here.pages told same read here.left) in
     drop_begun c.args.file.now.fid c.in-Ok.at here.pages c.drop_pages.result here.may
     (look_before looks.alone.grown c.drop_pages.ensures.alone.grown (looks.silent told) (g.met.D.Disk.counted c.args.disk.now told) (g.met.D.Disk.counted c.locate.new.disk told) writes) table
+
+pub returns-in-Ok-clause-goes : goal.returns-in-Ok-clause-goes
+returns-in-Ok-clause-goes g c told stands dropped =
+    let a = g.D.Tape.tape c.args.disk.now in
+    let looks = c.locate.ensures.looks in
+    let read : IsRead (pack a) (page_number c.args.file.now.fid 0) c.in-Ok.at c.in-Ok.info c.locate.new.buf = record { seen = c.in-Ok.ensures.seen; stands = c.in-Ok.ensures.stands told } in
+    let here = drop_here (pack a) c.args.file.now c.in-Ok.at c.in-Ok.info stands dropped (known_read read) in
+    let writes = c.drop_pages.ensures.drops (pack a) here.pages told (looks_pack looks told) read here.left in
+    drop_does c.args.file.now.fid c.in-Ok.at here.pages c.drop_pages.result stands.whole stands.tidy here.may
+    (look_before looks.alone.grown c.drop_pages.ensures.alone.grown (looks.silent told) (g.met.D.Disk.counted c.args.disk.now told) (g.met.D.Disk.counted c.locate.new.disk told) writes)
+
+pub returns-in-Err-clause-goes : goal.returns-in-Err-clause-goes
+returns-in-Err-clause-goes g c told stands dropped = drop_not_begun (pack (g.D.Tape.tape c.args.disk.now)) c.args.file.now _ c.in-Err.error stands dropped (c.locate.ensures.looks.silent told)
 
 pub returns-in-Ok-clause-misled : goal.returns-in-Ok-clause-misled
 returns-in-Ok-clause-misled g c told stands =
