@@ -29,6 +29,7 @@ mod Remaining
 mod Sequel
 mod StampOnce
 mod Titling
+mod TrueLinks
 mod TwoClaims
 pub mod Valued
 mod WithinFile

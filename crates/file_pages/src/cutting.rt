@@ -9,7 +9,7 @@ ghost use Rattle.disk_records.specs.Tapes.{DiskAlone, added, pack};
 ghost use Rattle.laws_call.specs.Acting.{IsQuiet, Operates, around};
 ghost use Rattle.laws_hint.specs.MapChanges.{marked};
 ghost use Rattle.laws_operation.specs.ByteLaws.{IsOrdinary};
-ghost use Rattle.pack_model.specs.hints.Links.{no_link};
+ghost use Rattle.pack_model.specs.hints.Links.{LinksTrue, no_link};
 ghost use Rattle.pack_model.specs.operations.Committing.{page_of_byte};
 ghost use Rattle.pack_model.specs.operations.PageWords.{relabelled};
 ghost use Rattle.pack_model.specs.states.Whole.{Whole};
@@ -148,6 +148,7 @@ pub fn cut<D: Disk>(
     ensures within { IsTrue D.told → FileStands (pack (D.tape disk.old)) file.now → OnOk result (length ≤ file_length (pack (D.tape disk.old)) file.now.fid) }
     ensures beyond { IsTrue D.told → FileStands (pack (D.tape disk.old)) file.now → IfBeyond result (IsPast (pack (D.tape disk.old)) file.now.fid length) }
     ensures misled { IsTrue D.told → FileStands (pack (D.tape disk.old)) file.now → IfMisled result (MisledBy (pack (D.tape disk.old)) (added (D.tape disk.old) (D.tape disk.new)) file.now.fid) }
+    ensures true_links { IsTrue D.told → FileStands (pack (D.tape disk.old)) file.now → LinksTrue (pack (D.tape disk.old)) → IfMisled result (λ place at wanted found. ⊥) }
     ensures cause { HasCause cause_of_file (D.tape disk.old) (D.tape disk.new) result }
     ensures alone { DiskAlone (D.tape disk.old) (D.tape disk.new) }
     ensures sized { list_length hints.new.table ≡ list_length hints.old.table }

@@ -8,6 +8,7 @@ ghost use Rattle.disk_records.specs.Tapes.{DiskAlone, added, pack};
 ghost use Rattle.laws_call.specs.Acting.{Releases, around};
 ghost use Rattle.laws_hint.specs.MapChanges.{marked};
 ghost use Rattle.hint_cache.specs.Caches.{address_in};
+ghost use Rattle.pack_model.specs.hints.Links.{LinksTrue};
 ghost use Rattle.pack_model.specs.operations.Committing.{page_of_byte};
 ghost use Rattle.pack_model.specs.states.Whole.{Whole};
 ghost use Rattle.page_seeking.specs.Causes.{cause_of_length};
@@ -107,6 +108,7 @@ pub fn drop_file<D: Disk>(
     ensures releases { IsTrue D.told → FileStands (pack (D.tape disk.old)) file.now → MayBeDropped (pack (D.tape disk.old)) file.now.fid → Releases error.DiskFault error.Memory file.now.fid (around (D.tape disk.old) hints.old.table tally.old) (around (D.tape disk.new) hints.new.table tally.new) result }
     ensures goes { IsTrue D.told → FileStands (pack (D.tape disk.old)) file.now → MayBeDropped (pack (D.tape disk.old)) file.now.fid → DropsButSlot (pack (D.tape disk.old)) file.now.fid (added (D.tape disk.old) (D.tape disk.new)) result }
     ensures misled { IsTrue D.told → FileStands (pack (D.tape disk.old)) file.now → IfMisled result (MisledBy (pack (D.tape disk.old)) (added (D.tape disk.old) (D.tape disk.new)) file.now.fid) }
+    ensures true_links { IsTrue D.told → FileStands (pack (D.tape disk.old)) file.now → LinksTrue (pack (D.tape disk.old)) → IfMisled result (λ place at wanted found. ⊥) }
     ensures cause { HasCause cause_of_length (D.tape disk.old) (D.tape disk.new) result }
     ensures alone { DiskAlone (D.tape disk.old) (D.tape disk.new) }
     ensures sized { length hints.new.table ≡ length hints.old.table }

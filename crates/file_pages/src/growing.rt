@@ -9,6 +9,7 @@ ghost use Rattle.page_seeking.specs.Causes.{cause_of_length};
 ghost use Rattle.page_seeking.specs.Refs.{FileStands, IfMisled, MisledBy};
 ghost use Rattle.page_seeking.specs.Seeking.{IsLast, LastNamed, NamedNearEnd, Quick, Seen, Stands, file_length, page_number};
 ghost use Rattle.page_seeking.specs.declared.refs.FileError.TheVariants as error;
+ghost use Rattle.pack_model.specs.hints.Links.{LinksTrue};
 ghost use Rattle.pack_model.specs.operations.Committing.{page_of_byte};
 ghost use Rattle.pack_model.specs.operations.Step.{Operation};
 ghost use Rattle.pack_model.specs.reading.Files.{place};
@@ -130,6 +131,7 @@ pub fn grow<D: Disk>(
     ensures operates { (o : Operation) → IsTrue D.told → FileStands (pack (D.tape disk.old)) file.now → MayBeGrown (pack (D.tape disk.old)) o file.now.fid bytes.now past.now fresh.now → Operates error.DiskFault error.Memory o fresh.now (around (D.tape disk.old) hints.old.table tally.old) (around (D.tape disk.new) hints.new.table tally.new) result }
     ensures grows { (o : Operation) (at : ℕ) → IsTrue D.told → FileStands (pack (D.tape disk.old)) file.now → MayBeGrown (pack (D.tape disk.old)) o file.now.fid bytes.now past.now fresh.now → place (sights (pack (D.tape disk.old))) file.now.fid (page_of_byte (file_length (pack (D.tape disk.old)) file.now.fid)) ≡ Some at → WritesAs (growth_writes (pack (D.tape disk.old)) file.now.fid at bytes.now past.now fresh.now) (added (D.tape disk.old) (D.tape disk.new)) result }
     ensures misled { (o : Operation) → IsTrue D.told → FileStands (pack (D.tape disk.old)) file.now → MayBeGrown (pack (D.tape disk.old)) o file.now.fid bytes.now past.now fresh.now → IfMisled result (MisledBy (pack (D.tape disk.old)) [] file.now.fid) }
+    ensures true_links { (o : Operation) → IsTrue D.told → FileStands (pack (D.tape disk.old)) file.now → MayBeGrown (pack (D.tape disk.old)) o file.now.fid bytes.now past.now fresh.now → LinksTrue (pack (D.tape disk.old)) → IfMisled result (λ place at wanted found. ⊥) }
     ensures cause { HasCause cause_of_length (D.tape disk.old) (D.tape disk.new) result }
     ensures alone { DiskAlone (D.tape disk.old) (D.tape disk.new) }
     ensures quick { (o : Operation) → IsTrue D.told → FileStands (pack (D.tape disk.old)) file.now → MayBeGrown (pack (D.tape disk.old)) o file.now.fid bytes.now past.now fresh.now → Quick (pack (D.tape disk.old)) file.now.fid hints.old.cache → LastNamed (pack (D.tape disk.old)) file.now.fid → OnOk result ((D.tape disk.new).runs ≤ (D.tape disk.old).runs + (2 * length fresh.now + 6)) }

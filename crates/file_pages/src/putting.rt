@@ -12,6 +12,7 @@ ghost use Rattle.page_seeking.specs.Parts.{IsPast};
 ghost use Rattle.page_seeking.specs.Refs.{FileStands, IfBeyond, IfMisled, MisledBy};
 ghost use Rattle.page_seeking.specs.Seeking.{KeepsHandy, Quick, Stands, file_length, length_at, page_number};
 ghost use Rattle.page_seeking.specs.declared.refs.FileError.TheVariants as error;
+ghost use Rattle.pack_model.specs.hints.Links.{LinksTrue};
 ghost use Rattle.pack_model.specs.operations.Committing.{page_of_byte};
 ghost use Rattle.pack_model.specs.operations.PageWords.{put_value};
 ghost use Rattle.pack_model.specs.states.Whole.{Whole};
@@ -132,6 +133,7 @@ pub fn put<D: Disk>(
     // Which error comes when.
     ensures beyond { IsTrue D.told → Whole (pack (D.tape disk.old)) → IfBeyond result (EndsBefore (pack (D.tape disk.old)) file.now.fid (offset + length bytes.now) (around (D.tape disk.old) hints.old.table tally.old) (around (D.tape disk.new) hints.new.table tally.new)) }
     ensures misled { IsTrue D.told → FileStands (pack (D.tape disk.old)) file.now → IfMisled result (MisledBy (pack (D.tape disk.old)) [] file.now.fid) }
+    ensures true_links { IsTrue D.told → FileStands (pack (D.tape disk.old)) file.now → LinksTrue (pack (D.tape disk.old)) → IfMisled result (λ place at wanted found. ⊥) }
     ensures cause { HasCause cause_of_file (D.tape disk.old) (D.tape disk.new) result }
 
     // What stays, and the hints.

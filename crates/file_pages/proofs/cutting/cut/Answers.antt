@@ -1,7 +1,7 @@
-use Rattle.std.proofs.Common.{Bool, List, OnOk, arith, false, refl, subst, ◌≡◌, ◌≤◌}
+use Rattle.std.proofs.Common.{Bool, List, OnOk, arith, false, refl, subst, ◌≡◌, ◌≤◌, Err, []}
 use Rattle.disk_records.proofs.Growing.{alone_twice, grown_twice}
 use Rattle.disk_records.proofs.Looking.{looks_pack}
-use Rattle.disk_records.specs.Tapes.{pack}
+use Rattle.disk_records.specs.Tapes.{pack, added}
 use Rattle.laws_hint.specs.MapChanges.{marked}
 use Rattle.page_seeking.proofs.Erring.{if_misled_map, on_ok, on_ok_map}
 use Rattle.page_seeking.specs.Seeking.{file_length, page_number}
@@ -12,6 +12,7 @@ use Rattle.file_pages.proofs.Going.{handy_still, misled_by}
 use Rattle.file_pages.specs.Cutting.{IsRead}
 use Rattle.file_pages.specs.Releasing.{Forgotten}
 use Rattle.pack_model.specs.operations.Committing.{page_of_byte}
+use Rattle.file_pages.proofs.TrueLinks.{never_led}
 use Rattle.file_pages.proofs.cutting.cut.Goals as goal
 
 pub returns-in-Ok-clause-beyond : goal.returns-in-Ok-clause-beyond
@@ -117,3 +118,15 @@ returns-else-info-bytes-2-clause-forgotten g c told stands =
     let read : IsRead a (page_number f c.in-Some.number) c.in-Ok-locate.at c.in-Ok-locate.info c.locate.new.buf = record { seen = c.in-Ok-locate.ensures.seen; stands = c.in-Ok-locate.ensures.stands told } in
     subst (λ k. OnOk c.end_in_page.result (Forgotten c.end_in_page.new.hints.cache f k (page_of_byte (file_length a f)))) c.in-Some.ensures.some
     (c.end_in_page.ensures.forgotten a told (looks_pack c.locate.ensures.looks told) read stands.whole (fewer_pages a c.args.file.now stands))
+
+pub returns-else-info-bytes-2-clause-true_links : goal.returns-else-info-bytes-2-clause-true_links
+returns-else-info-bytes-2-clause-true_links g c told stands links =
+    never_led {T = Unit {0}} (pack (g.D.Tape.tape c.args.disk.now)) (added (g.D.Tape.tape c.args.disk.now) (g.D.Tape.tape c.end_in_page.new.disk)) c.args.file.now.fid c.args.file.now c.end_in_page.result (g.met.D.Disk.formed c.args.disk.now told) stands links (returns-else-info-bytes-2-clause-misled g c told stands)
+
+pub returns-in-Err-clause-true_links : goal.returns-in-Err-clause-true_links
+returns-in-Err-clause-true_links g c told stands links =
+    never_led {T = Unit {0}} (pack (g.D.Tape.tape c.args.disk.now)) [] c.args.file.now.fid c.args.file.now (Err c.in-Err.error) (g.met.D.Disk.formed c.args.disk.now told) stands links (c.in-Err.ensures.misled told stands.from)
+
+pub returns-in-Err-locate-clause-true_links : goal.returns-in-Err-locate-clause-true_links
+returns-in-Err-locate-clause-true_links g c told stands links =
+    never_led {T = Unit {0}} (pack (g.D.Tape.tape c.args.disk.now)) [] c.args.file.now.fid c.args.file.now (Err c.in-Err-locate.error) (g.met.D.Disk.formed c.args.disk.now told) stands links (c.in-Err-locate.ensures.misled told stands.from)

@@ -1,7 +1,7 @@
-use Rattle.std.proofs.Common.{Bool, List, OnOk, arith, false, subst, ℕ, ◌∷◌, ◌≡◌}
+use Rattle.std.proofs.Common.{Bool, List, OnOk, arith, false, subst, ℕ, ◌∷◌, ◌≡◌, Err, []}
 use Rattle.disk_records.proofs.Growing.{alone_twice, grown_twice}
 use Rattle.disk_records.proofs.Looking.{looks_pack}
-use Rattle.disk_records.specs.Tapes.{pack}
+use Rattle.disk_records.specs.Tapes.{pack, added}
 use Rattle.label_check.specs.declared.errors.PageInfo.{PageInfo}
 use Rattle.laws_hint.specs.MapChanges.{marked}
 use Rattle.page_seeking.proofs.Erring.{if_misled_map, on_ok_map}
@@ -13,6 +13,7 @@ use Rattle.file_pages.proofs.DroppedFiles.{drop_begun, drop_does, drop_here, dro
 use Rattle.file_pages.proofs.Erring.{never_past}
 use Rattle.file_pages.proofs.Going.{handy_still, misled_by}
 use Rattle.file_pages.specs.Cutting.{IsRead}
+use Rattle.file_pages.proofs.TrueLinks.{never_led}
 use Rattle.file_pages.proofs.dropping.drop_file.Goals as goal
 
 pub returns-in-Ok-clause-alone : goal.returns-in-Ok-clause-alone
@@ -66,3 +67,11 @@ returns-in-Ok-clause-forgotten g c told stands =
 
 pub returns-in-Err-clause-cause : goal.returns-in-Err-clause-cause
 returns-in-Err-clause-cause g c = never_past (ℕ × PageInfo) (g.D.Tape.tape c.args.disk.now) (g.D.Tape.tape c.locate.new.disk) c.in-Err.error c.in-Err.ensures.cause (c.in-Err.ensures.never_beyond (omega arith))
+
+pub returns-in-Ok-clause-true_links : goal.returns-in-Ok-clause-true_links
+returns-in-Ok-clause-true_links g c told stands links =
+    never_led {T = Unit {0}} (pack (g.D.Tape.tape c.args.disk.now)) (added (g.D.Tape.tape c.args.disk.now) (g.D.Tape.tape c.drop_pages.new.disk)) c.args.file.now.fid c.args.file.now c.drop_pages.result (g.met.D.Disk.formed c.args.disk.now told) stands links (returns-in-Ok-clause-misled g c told stands)
+
+pub returns-in-Err-clause-true_links : goal.returns-in-Err-clause-true_links
+returns-in-Err-clause-true_links g c told stands links =
+    never_led {T = Unit {0}} (pack (g.D.Tape.tape c.args.disk.now)) [] c.args.file.now.fid c.args.file.now (Err c.in-Err.error) (g.met.D.Disk.formed c.args.disk.now told) stands links (c.in-Err.ensures.misled told stands.from)

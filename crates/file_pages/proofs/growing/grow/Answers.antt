@@ -18,6 +18,7 @@ use Rattle.file_pages.proofs.GrownHandy.{grown_handy, named_still}
 use Rattle.file_pages.proofs.GrowthAfter.{nothing_written, written_after}
 use Rattle.file_pages.proofs.LastLabel.{label_says}
 use Rattle.file_pages.proofs.Sequel.{silent_before}
+use Rattle.file_pages.proofs.TrueLinks.{never_led}
 use Rattle.file_pages.proofs.growing.grow.Goals as goal
 
 pub returns-in-Err-clause-operates : goal.returns-in-Err-clause-operates
@@ -226,3 +227,16 @@ pub returns-in-Err-grown-clause-cause : goal.returns-in-Err-grown-clause-cause
 returns-in-Err-grown-clause-cause g c =
     let less = c.last_page.ensures.looks.alone.grown.disk_faults in
     cause_after (g.D.Tape.tape c.args.disk.now) (g.D.Tape.tape c.last_page.new.disk) (g.D.Tape.tape c.grow_pages-grown.new.disk) c.in-Err-grown.error less (rw c.in-Err-grown.is at c.grow_pages-grown.ensures.cause)
+
+pub returns-in-Some-clause-true_links : goal.returns-in-Some-clause-true_links
+returns-in-Some-clause-true_links g c o told stands may links =
+    let form = c.shape.ensures ∙ c.last_page.ensures.looks.alone.grown.form in
+    absurd (c.in-Some.ensures.some (subst (λ (s : Shape). All (IsSector s) c.args.fresh.now) (sym form) (free_are_sectors (pack (g.D.Tape.tape c.args.disk.now)) c.args.fresh.now may.free)))
+
+pub returns-in-Err-clause-true_links : goal.returns-in-Err-clause-true_links
+returns-in-Err-clause-true_links g c o told stands may links =
+    never_led {T = Unit {0}} (pack (g.D.Tape.tape c.args.disk.now)) [] c.args.file.now.fid c.args.file.now (Err c.in-Err.error) (g.met.D.Disk.formed c.args.disk.now told) stands links (c.in-Err.ensures.misled told stands.from)
+
+pub returns-in-Err-grown-clause-true_links : goal.returns-in-Err-grown-clause-true_links
+returns-in-Err-grown-clause-true_links g c o told stands may links =
+    never_led {T = Unit {0}} (pack (g.D.Tape.tape c.args.disk.now)) [] c.args.file.now.fid c.args.file.now (Err c.in-Err-grown.error) (g.met.D.Disk.formed c.args.disk.now told) stands links (returns-in-Err-grown-clause-misled g c o told stands may)

@@ -1,4 +1,4 @@
-use Rattle.std.proofs.Common.{Bool, List, [], ap, arith, subst, ℕ}
+use Rattle.std.proofs.Common.{Bool, List, [], ap, arith, subst, ℕ, Err}
 use Rattle.disk_records.proofs.Growing.{alone_twice}
 use Rattle.disk_records.specs.Tapes.{pack}
 use Rattle.disk_records.specs.declared.records.Sector.{Sector}
@@ -9,6 +9,7 @@ use Rattle.page_seeking.specs.declared.refs.FileError.TheVariants as error
 use Rattle.file_pages.proofs.Erring.{never_past}
 use Rattle.file_pages.proofs.Titling.{titled_once}
 use Rattle.file_pages.proofs.Valued.{look_leaves_handy, value_after_look, value_leaves_handy, value_operates}
+use Rattle.file_pages.proofs.TrueLinks.{never_led}
 use Rattle.file_pages.proofs.leaders.title.Goals as goal
 
 pub returns-in-Ok-clause-alone : goal.returns-in-Ok-clause-alone
@@ -37,3 +38,7 @@ returns-in-Err-clause-misled g c told stands = c.in-Err.ensures.misled told stan
 
 pub returns-in-Err-clause-cause : goal.returns-in-Err-clause-cause
 returns-in-Err-clause-cause g c = never_past (ℕ × PageInfo) (g.D.Tape.tape c.args.disk.now) (g.D.Tape.tape c.locate.new.disk) c.in-Err.error c.in-Err.ensures.cause (c.in-Err.ensures.never_beyond (omega arith))
+
+pub returns-in-Err-clause-true_links : goal.returns-in-Err-clause-true_links
+returns-in-Err-clause-true_links g c told stands links =
+    never_led {T = Unit {0}} (pack (g.D.Tape.tape c.args.disk.now)) [] c.args.file.now.fid c.args.file.now (Err c.in-Err.error) (g.met.D.Disk.formed c.args.disk.now told) stands links (c.in-Err.ensures.misled told stands.from)

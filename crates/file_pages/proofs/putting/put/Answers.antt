@@ -1,4 +1,4 @@
-use Rattle.std.proofs.Common.{Bool, List, ap, length, refl, subst, sym, ℕ, ◌%◌, ◌∙◌, ◌≡◌}
+use Rattle.std.proofs.Common.{Bool, List, ap, length, refl, subst, sym, ℕ, ◌%◌, ◌∙◌, ◌≡◌, Err, []}
 use Rattle.disk_records.proofs.Growing.{alone_twice}
 use Rattle.disk_records.specs.Tapes.{pack}
 use Rattle.disk_records.specs.declared.records.Sector.{Sector}
@@ -10,6 +10,7 @@ use Rattle.file_pages.specs.Values.{WroteValue}
 use Rattle.file_pages.proofs.PutOnce.{Fits, put_operates, put_puts}
 use Rattle.file_pages.proofs.Valued.{look_leaves_handy, value_after_look, value_leaves_handy}
 use Rattle.file_pages.proofs.WithinFile.{ends_before, never_beyond}
+use Rattle.file_pages.proofs.TrueLinks.{never_led}
 use Rattle.file_pages.proofs.putting.put.Goals as goal
 
 pub returns-in-Ok-clause-alone : goal.returns-in-Ok-clause-alone
@@ -70,3 +71,7 @@ returns-in-Ok-clause-handy g c told = value_leaves_handy (g.D.Tape.tape c.write_
 
 pub returns-in-Err-clause-handy : goal.returns-in-Err-clause-handy
 returns-in-Err-clause-handy g c told = look_leaves_handy c.args.hints.now.cache c.locate_bytes.new.hints.cache c.locate_bytes.ensures.looks told (c.locate_bytes.ensures.handy told)
+
+pub returns-in-Err-clause-true_links : goal.returns-in-Err-clause-true_links
+returns-in-Err-clause-true_links g c told stands links =
+    never_led {T = Unit {0}} (pack (g.D.Tape.tape c.args.disk.now)) [] c.args.file.now.fid c.args.file.now (Err c.in-Err.error) (g.met.D.Disk.formed c.args.disk.now told) stands links (c.in-Err.ensures.misled told stands)
