@@ -62,3 +62,9 @@ never_past T a b (file.Misled place at wanted found) cause never = tt
 never_past T a b (file.Beyond length) cause never = absurd never
 never_past T a b file.DiskFault cause never = cause
 never_past T a b file.Memory cause never = tt
+
+-- the place, the address and the page of a guarded command that misled
+pub wrong_at : (T : Type 0) (P : Place → ℕ → Page → Option (List ℕ) → Type 0) (error : GuardError) (place : Place) (at : ℕ) (wanted : Page) (e : FileError) → e ≡ error_at place at wanted error → ((found : Option (List ℕ)) → P place at wanted found) → IfMisled {T = T} (Err e) P
+wrong_at T P (guard.Wrong found) place at wanted e same here = rw same (here found)
+wrong_at T P guard.DiskFault place at wanted e same here = rw same tt
+wrong_at T P guard.Memory place at wanted e same here = rw same tt

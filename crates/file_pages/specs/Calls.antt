@@ -1,6 +1,9 @@
 -- What a caller of a call that writes sees.
-use Rattle.std.specs.Prelude.{List, Some, [], ℕ, ◌≡◌, ◌⊎◌}
+use Rattle.std.specs.Prelude.{List, Option, Some, [], ℕ, ◌≡◌, ◌⊎◌}
 use Rattle.disk_records.specs.declared.records.Event.{Event}
+use Rattle.disk_records.specs.declared.records.Page.{Page}
+use Rattle.disk_records.specs.declared.records.Place.{Place}
+use Rattle.disk_records.specs.declared.records.Place.TheVariants.{Held}
 use Rattle.alto_words.specs.declared.fid.Fid.{Fid}
 use Rattle.disk_records.specs.Packs.{Pack}
 use Rattle.pack_model.specs.operations.Committing.{moves_of}
@@ -31,6 +34,11 @@ pub record MayBeMade (p : Pack) (f : Fid) (name : List ℕ) (leader_at page_at :
 -- Each page of the new file is listed with its sector, unless a note was refused.
 abbrev pub ListsTwoPages : Fid → ℕ → ℕ → Cached → Cached → Type 0
 ListsTwoPages f leader_at page_at old new = ((address_in new.entries (page_number f 0) ≡ Some leader_at) × (address_in new.entries (page_number f 1) ≡ Some page_at)) ⊎ Refused old new
+
+-- The hint that misled is the address that was given for the leader of this file, or for its page 1, and that page is wanted.
+pub record WasGiven (f : Fid) (leader_at page_at : ℕ) (place : Place) (at : ℕ) (wanted : Page) (found : Option (List ℕ)) : Type 0 where
+  pub held : place ≡ Held at
+  pub given : ((wanted ≡ page_number f 0) × (at ≡ leader_at)) ⊎ ((wanted ≡ page_number f 1) × (at ≡ page_at))
 
 -- ---- one value
 -- The operation is these record writes, of which there is one, which commits it; they claim and release nothing.

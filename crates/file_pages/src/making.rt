@@ -11,7 +11,7 @@ ghost use Rattle.laws_lookup.specs.OtherLaws.{LeavesOthers};
 ghost use Rattle.laws_operation.specs.PlaceLaws.{HasTwoPages};
 ghost use Rattle.page_seeking.specs.declared.refs.FileError.TheVariants as error;
 ghost use Rattle.page_seeking.specs.Refs.{IfMisled};
-ghost use Rattle.file_pages.specs.Calls.{ListsTwoPages, MayBeMade, StaysHandy, to_make};
+ghost use Rattle.file_pages.specs.Calls.{ListsTwoPages, MayBeMade, StaysHandy, WasGiven, to_make};
 ghost use Rattle.page_seeking.specs.Causes.{cause_of_length};
 
 use crate::FileError;
@@ -52,6 +52,7 @@ fn make_file<D: Disk>(
     ensures placed { IsTrue D.told → MayBeMade (pack (D.tape disk.old)) fid name.now leader_at page_at → OnOk result (HasTwoPages (pack (D.tape disk.new)) fid leader_at page_at) }
     ensures others { IsTrue D.told → MayBeMade (pack (D.tape disk.old)) fid name.now leader_at page_at → OnOk result (LeavesOthers fid (pack (D.tape disk.old)) (pack (D.tape disk.new))) }
     ensures misled { IsTrue D.told → MayBeMade (pack (D.tape disk.old)) fid name.now leader_at page_at → IfMisled result (λ place at wanted found. ⊥) }
+    ensures given { IfMisled result (WasGiven fid leader_at page_at) }
     ensures cause { HasCause cause_of_length (D.tape disk.old) (D.tape disk.new) result }
     ensures alone { DiskAlone (D.tape disk.old) (D.tape disk.new) }
     ensures table { OnErr result (table.new ≡ table.old) }
@@ -109,8 +110,9 @@ pub(crate) fn at_held(at: u16, wanted: Page) -> FileError
 /// be given, of no living file, with the last serial given out; the sectors have to be free ones. Both are noted then, and busy in the
 /// table.
 ///
-/// Misled: an address is no usable sector's, or, where the machine isn't modelled, its sector isn't free. DiskFault: the device failed.
-/// Memory: no memory was left for a record write. After each of these a prefix of the record writes was done, and the table is as before.
+/// Misled: an address of `fresh` is no usable sector's, or, where the machine isn't modelled, its sector isn't free; the page that is
+/// wanted is the new file's that was to be there. DiskFault: the device failed. Memory: no memory was left for a record write. After each
+/// of these a prefix of the record writes was done, and the table is as before.
 pub fn make<D: Disk>(
     disk: &mut D,
     hints: &mut Hints,
@@ -125,6 +127,7 @@ pub fn make<D: Disk>(
     ensures operates { IsTrue D.told → MayBeMade (pack (D.tape disk.old)) fid name.now (word fresh 0) (word fresh 1) → Operates error.DiskFault error.Memory (to_make fid name.now moment) (word fresh 1 ∷ word fresh 0 ∷ []) (around (D.tape disk.old) hints.old.table tally.old) (around (D.tape disk.new) hints.new.table tally.new) result }
     ensures placed { IsTrue D.told → MayBeMade (pack (D.tape disk.old)) fid name.now (word fresh 0) (word fresh 1) → OnOk result (HasTwoPages (pack (D.tape disk.new)) fid (word fresh 0) (word fresh 1)) }
     ensures misled { IsTrue D.told → MayBeMade (pack (D.tape disk.old)) fid name.now (word fresh 0) (word fresh 1) → IfMisled result (λ place at wanted found. ⊥) }
+    ensures given { IfMisled result (WasGiven fid (word fresh 0) (word fresh 1)) }
     ensures cause { HasCause cause_of_length (D.tape disk.old) (D.tape disk.new) result }
     ensures alone { DiskAlone (D.tape disk.old) (D.tape disk.new) }
     ensures table { OnErr result (hints.new.table ≡ hints.old.table) }

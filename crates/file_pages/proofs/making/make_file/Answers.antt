@@ -1,4 +1,5 @@
-use Rattle.std.proofs.Common.{Err, List, Ok, ap, arith, set, true, ℕ, ◌∙◌, ◌≡◌}
+use Rattle.std.proofs.Common.{Err, List, Ok, ap, arith, set, true, ℕ, ◌∙◌, ◌≡◌, inl, inr, refl}
+use Rattle.file_pages.specs.Calls.{WasGiven}
 use Rattle.disk_records.proofs.Growing.{alone_twice}
 use Rattle.disk_records.specs.Addresses.{real_of}
 use Rattle.disk_records.specs.Labels.{in_range, tag}
@@ -8,7 +9,7 @@ use Rattle.pack_model.specs.hints.Links.{no_link}
 use Rattle.pack_model.specs.operations.PageWords.{first_page_label, leader_label, new_bytes}
 use Rattle.file_pages.specs.Counting.{counted_after}
 use Rattle.file_pages.proofs.ClaimedWords.{claimed_as, few_bytes, label_ranged}
-use Rattle.file_pages.proofs.Erring.{never_misled}
+use Rattle.file_pages.proofs.Erring.{never_misled, wrong_at}
 use Rattle.file_pages.proofs.TwoClaims.{leader_still_free, make_broken, make_done, make_others, make_placed, make_unbegun}
 use Rattle.file_pages.proofs.making.make_file.Goals as goal
 
@@ -94,3 +95,10 @@ returns-in-Ok-claimed-clause-alone g c = alone_twice c.claim.ensures.alone c.cla
 
 pub returns-in-Err-claimed-clause-alone : goal.returns-in-Err-claimed-clause-alone
 returns-in-Err-claimed-clause-alone g c = alone_twice c.claim.ensures.alone c.claim-claimed.ensures.alone
+
+pub returns-in-Err-clause-given : goal.returns-in-Err-clause-given
+returns-in-Err-clause-given g c = wrong_at (Unit {0}) (WasGiven c.args.fid c.args.leader_at c.args.page_at) c.in-Err.error (Held c.args.page_at) c.args.page_at _ c.error_at.result c.error_at.ensures (λ found. record { held = refl; given = inr ((cc), refl) })
+
+pub returns-in-Err-claimed-clause-given : goal.returns-in-Err-claimed-clause-given
+returns-in-Err-claimed-clause-given g c =
+    wrong_at (Unit {0}) (WasGiven c.args.fid c.args.leader_at c.args.page_at) c.in-Err-claimed.error (Held c.args.leader_at) c.args.leader_at _ c.error_at-in-Err-claimed.result c.error_at-in-Err-claimed.ensures (λ found. record { held = refl; given = inl ((cc), refl) })
