@@ -1,3 +1,4 @@
+pub mod BoundRows
 pub mod FileRows
 pub mod KeyRows
 pub mod MemoryRows

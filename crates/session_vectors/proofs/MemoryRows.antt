@@ -2,18 +2,21 @@
 use Rattle.std.proofs.Common.{◌≡◌, ℕ, List, [], ◌∷◌, Some, refl}
 use Rattle.std.specs.Prelude.{codes, replicate, length}
 use Rattle.std.specs.Fmt.{digits}
+use Rattle.alto_words.specs.Fid.{sys_dir}
 use Rattle.alto_words.specs.Names.{is_stored_name}
+use Rattle.pack_model.specs.operations.Step.Operation.{make, put, grow, stamp, enter}
 use Rattle.pack_model.specs.reading.Bytes.{words_of}
 use Rattle.pack_model.specs.reading.Files.{first}
 use Rattle.exec_words.specs.declared.line.Line.TheVariants as line
 use Rattle.world_model.specs.Levels.{level_base}
-use Rattle.world_model.specs.StateFiles.{state_bytes, state_mark, spoilt_word, with_message}
+use Rattle.world_model.specs.StateFiles.{mark_whole, state_bytes, state_mark, spoilt_word, with_message}
 use Rattle.world_model.specs.Zones.{Block, gap, live}
 use Rattle.exec_words.specs.declared.reply.Refusal.TheVariants as refusal
+use Rattle.session_model.specs.Effects.{effect, world_puts}
 use Rattle.session_model.specs.Refusals.{by_world}
 use Rattle.session_model.specs.Replies.{reply_to, ops, next}
-use Rattle.session_model.specs.Worlds.{World, world_with_zone, failed_world}
-use Rattle.session_vectors.proofs.Models.{m0, all_0, ma, root_is, a_is, all_is, w, w_with, stream, a_path, a_file, abc, five}
+use Rattle.session_model.specs.Worlds.{World, world_bytes, world_with_zone, failed_world}
+use Rattle.session_vectors.proofs.Models.{m0, root_0, all_0, f3, ma, root_is, a_is, all_is, w, w_with, stream, a_path, a_file, abc, five}
 
 -- ---- blocks
 abbrev one_block : List ℕ → List Block
@@ -179,3 +182,19 @@ outload_short = rw (root_is five, a_is five) refl
 outload_open : reply_to (line.OutLoad a_path) (ma []) (w_with (stream 0 0 [] ∷ [])) ≡ codes "streams open\n"
 unfolding is_stored_name first digits
 outload_open = rw (root_is []) refl
+
+-- ---- a world of any words, written into no file, and into one without a byte
+abbrev of_words : List ℕ → List Block → World
+of_words user zone = record w { user = user; zone = zone }
+
+outload_new : (user : List ℕ) (zone : List Block) → (effect (line.OutLoad a_path) m0 (of_words user zone)).ops ≡ make f3 (codes "A.") 1000 ∷ enter sys_dir (codes "A.") f3 ∷ grow f3 (world_bytes (of_words user zone) mark_whole) ∷ stamp f3 1000 ∷ []
+unfolding is_stored_name first
+outload_new user zone = rw (root_0) refl
+
+outload_empty : (user : List ℕ) (zone : List Block) → (effect (line.OutLoad a_path) (ma []) (of_words user zone)).ops ≡ grow f3 (world_bytes (of_words user zone) mark_whole) ∷ stamp f3 1000 ∷ []
+unfolding is_stored_name first
+outload_empty user zone = rw (root_is [], a_is []) refl
+
+-- over a world: the first page with the mark that says it has begun, the other pages, and the first page as it is then
+over_world : world_puts f3 (0 ∷ replicate 599 7) (165 ∷ replicate 599 7) ≡ put f3 0 (0 ∷ replicate 511 7) ∷ put f3 512 (replicate 88 7) ∷ put f3 0 (165 ∷ replicate 511 7) ∷ []
+over_world = refl

@@ -91,6 +91,9 @@ root_d = get-from_entries fid_total list_d sys_dir
 pub d_is : get (from_entries {R = fid_cmp} list_d) d3 ≡ Some dir_d
 d_is = get-from_entries fid_total list_d d3
 
+pub a_in_d : get (from_entries {R = fid_cmp} list_d) f4 ≡ Some (file_with (codes "A.") [])
+a_in_d = get-from_entries fid_total list_d f4
+
 pub all_d : entries (from_entries {R = fid_cmp} list_d) ≡ list_d
 all_d = entries-from_entries fid_total fid_same list_d tt
 
