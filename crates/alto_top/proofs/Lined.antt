@@ -5,7 +5,7 @@ use Rattle.std.proofs.lemmas.Bool.{cases_lt}
 use Rattle.pack_model.specs.sessions.Lines.{lines, lines_from, ended_lines}
 use Rattle.alto_top.specs.Keys.{kept_of, TookEnded, TookRest, TookLast, TookPart}
 use Rattle.alto_top.specs.Sessions.{keys_of, TookLines}
-use Rattle.alto_top.proofs.Live.{Live, Over, split_more, live_lines, live_keys, live_part, live_ahead, live_behind, live_rest, live_ended, live_last}
+use Rattle.alto_top.proofs.Live.{Live, Over, split_more, live_lines, live_keys, live_part, live_ahead, live_after, live_rest, live_ended, live_last}
 
 -- Either of them.
 abbrev pub Lined : List ℕ → List ℕ → ℕ → List (List ℕ) → Type 0
@@ -32,7 +32,7 @@ these_lines (line ∷ done) more = ap (λ l. line ∷ l) (these_lines done more)
 pub lined_split : {old mid : List ℕ} {before : ℕ} {done : List (List ℕ)} → Lined old mid before done → LinesTaken old mid done
 lined_split {old} {mid} {before} {done} (inl live) =
     let first : take (length done) (lines old) ≡ done = ap (take (length done)) (live_lines live) ∙ these_lines done (lines_from [] (take before mid)) in
-    record { taken = live.taken; split = live.split; ahead = live_ahead live; behind = live_behind live; exact = inl (live.typed ∙ ap keys_of (sym first)) }
+    record { taken = live.taken; split = live.split; ahead = live_ahead live; behind = live_after live; exact = inl (live.typed ∙ ap keys_of (sym first)) }
 lined_split (inr over) = record { taken = over.taken; split = over.split; ahead = over.ahead; behind = over.behind; exact = inr (ap length (sym over.all), over.keys) }
 
 -- a line that was taken, as it was typed
@@ -74,7 +74,7 @@ module _ {old mid : List ℕ} {before : ℕ} {done : List (List ℕ)} where
         split = live.split;
         all = live_lines live ∙ ap (λ (k : ℕ). done ++ lines_from [] (take k mid)) none ∙ append-nil done;
         ahead = live_ahead live;
-        behind = live_behind live;
+        behind = live_after live;
         keys = sym (live_keys live ∙ ap (λ (k : ℕ). drop k mid) none);
         spent = none;
       }

@@ -68,8 +68,8 @@ module _ {old mid : List ℕ} {before : ℕ} {done : List (List ℕ)} (live : Li
   pub live_ahead : length (ended_lines live.taken) ≤ length done
   live_ahead = omega (arith, live_ended_lines)
 
-  pub live_behind : length done ≤ length (lines live.taken)
-  live_behind = omega (arith, live_ended_lines, ended_few live.taken)
+  pub live_after : length done ≤ length (lines live.taken)
+  live_after = omega (arith, live_ended_lines, ended_few live.taken)
 
   -- the lines of the keys taken and of some more
   live_more : (rest : List ℕ) → length rest ≤ before → lines (live.taken ++ rest) ≡ done ++ lines_from [] rest

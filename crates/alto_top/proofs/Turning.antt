@@ -54,8 +54,8 @@ TurnOn p events line result =
     (turn : IsTurn putting (stored_files p) p events (turn_of (stored_files p) line) result)
     × IfErr result (λ fault. BreaksBy (status_of fault) turn.made (turn_of (stored_files p) line))
 
-obeyed_behind : {x y z : Taped} {line : List ℕ} {result : Result (Unit {0}) Fault} → KeysAlone x y → Obeyed y z line result → Obeyed x z line result
-obeyed_behind {x} {y} {z} {line} {result} keys obeyed =
+obeyed_after : {x y z : Taped} {line : List ℕ} {result : Result (Unit {0}) Fault} → KeysAlone x y → Obeyed y z line result → Obeyed x z line result
+obeyed_after {x} {y} {z} {line} {result} keys obeyed =
     let events : added y z ≡ added x z = ap (λ (e : List Event). drop (length e) z.events) keys.events in
     let on : TurnOn (pack y) (added y z) line result = (obeyed.turn, obeyed.breaks) in
     let here : TurnOn (pack x) (added x z) line result = subst (λ p. TurnOn p (added x z) line result) (keys_pack keys) (subst (λ e. TurnOn (pack y) e line result) events on) in
@@ -72,7 +72,7 @@ next_missed {x} {y} {before} after result fault keys part cause is =
 
 module _ {x y z : Taped} {before after : ℕ} (line : List ℕ) (keys : KeysAlone x y) (same : z.keys ≡ y.keys) (took : TookWhole x.keys y.keys before after line) where
   next_taken : {result : Result (Unit {0}) Fault} → Obeyed y z line result → TurnTaken x z before after result
-  next_taken obeyed = record { line = line; took = subst (λ k. TookWhole x.keys k before after line) (sym same) took; obeyed = obeyed_behind keys obeyed }
+  next_taken obeyed = record { line = line; took = subst (λ k. TookWhole x.keys k before after line) (sym same) took; obeyed = obeyed_after keys obeyed }
 
   -- the line was obeyed
   pub next_obeyed : {u : Unit {0}} → Obeyed y z line (Ok u) → NextTurn x z before after (Ok Line)

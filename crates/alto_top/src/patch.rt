@@ -70,7 +70,7 @@ fn read_operands(alloc: Global, text: &[u8]) -> Result<Option<Patch>, Memory>
     }))
 }
 
-/// The patch that a line asks for. None exactly where the line isn't in the grammar or is longer than 4,096 bytes.
+/// The patch that a line asks for. None if and only if the line isn't in the grammar or is longer than 4,096 bytes.
 pub fn read_patch(alloc: Global, line: &[u8]) -> Result<Option<Patch>, Memory>
     ensures { IfOk result (λ patch. patch ≡ patch_in line.now) }
 {

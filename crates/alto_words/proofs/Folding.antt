@@ -96,7 +96,7 @@ last_ties Equal Less c e = cc
 last_ties Equal Greater c e = cc
 last_ties Equal Equal c e = e
 
--- names are tied exactly where they are the same
+-- names are tied if and only if they are the same
 pub folded_cmp-equal : (a b : List ℕ) → (folded_cmp a b ≡ Equal) ↔ (is_same_name a b ≡ true)
 folded_cmp-equal a b = (
   λ e. (tied (map fold_case a) (map fold_case b)).0 (last_ties _ _ _ e),

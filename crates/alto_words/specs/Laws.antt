@@ -73,7 +73,7 @@ OrderIsTotal = IsTotalOrder folded_cmp
 abbrev pub PrefixComesFirst : Type 0
 PrefixComesFirst = (name front rest : List ℕ) → is_bare_name name ≡ true → is_bare_name (front ++ rest) ≡ true → is_same_name name front ≡ true → 0 < length rest → folded_cmp name (front ++ rest) ≡ Less
 
--- two names are tied exactly where they are the same
+-- two names are tied if and only if they are the same
 abbrev pub OrderAgreesWithSame : Type 0
 OrderAgreesWithSame = (a b : List ℕ) → (folded_cmp a b ≡ Equal) ↔ (is_same_name a b ≡ true)
 

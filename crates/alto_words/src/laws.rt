@@ -62,7 +62,7 @@ pub fn prefix_comes_first()
     ensures { PrefixComesFirst }
 {}
 
-/// Two names are tied in the order exactly where they are the same.
+/// Two names are tied in the order if and only if they are the same.
 pub fn order_agrees_with_same()
     ensures { OrderAgreesWithSame }
 {}

@@ -77,8 +77,8 @@ spelled name =
       }
     ]
 
-behind_name : (name pad : List ℕ) → IsSplitAt (name ++ pad) (length name) name pad
-behind_name name pad =
+after_name : (name pad : List ℕ) → IsSplitAt (name ++ pad) (length name) name pad
+after_name name pad =
     let long = length-append name pad in
     (omega arith, sym (take_at name pad (length name) refl), sym (drop_at name pad (length name) refl), refl, omega arith)
 
@@ -87,7 +87,7 @@ pub name_of-written : (name : List ℕ) → is_stored_name name ≡ true → nam
 name_of-written name stored =
     let s = spelled name in
     let bytes : AreBytes (short_bytes name) = (let most = is_stored_name-fits name stored in omega arith, characters_below name (0 ∷ []) (is_stored_name-characters name stored) (omega arith, tt)) in
-    name_of-parts (bytes_of (short_name_words name)) (name ++ s.pad) name s.pad (length name) (bytes_of-pairs (short_bytes name) bytes ∙ s.whole) (behind_name name s.pad)
+    name_of-parts (bytes_of (short_name_words name)) (name ++ s.pad) name s.pad (length name) (bytes_of-pairs (short_bytes name) bytes ∙ s.whole) (after_name name s.pad)
     ∙ cond-true _ _ None s.blank ∙ cond-true _ (Some name) None stored
 
 -- ---- the words of a name

@@ -74,9 +74,9 @@ searching_none n slots some = record {
 }
 
 -- after the row, and after slots with no row at their head
-behind_row : (n : ℕ) (slots : List Slot) (row : Room) (at : ℕ) → at ≤ length slots → ((m : ℕ) → run m (items_of (drop at slots)) ≡ None) → Searching n slots row at
+after_row : (n : ℕ) (slots : List Slot) (row : Room) (at : ℕ) → at ≤ length slots → ((m : ℕ) → run m (items_of (drop at slots)) ≡ None) → Searching n slots row at
     → room_from n (row.first + (at - row.first)) (row.place + row.total) (items_of (drop at slots)) ≡ find_room n (items_of slots)
-behind_row n slots row at within none r =
+after_row n slots row at within none r =
     let items : List Item = row_items slots row.first at in
     let few = r.few in
     let total = r.total in
@@ -117,14 +117,14 @@ searching_more n slots row at (Entry f a name) lt is r few =
       same =
           sym (λ i. room_from n (next i) (row.place + row.total + entry_length (length name)) (items_of (drop (at + 1) slots)))
           ∙ ap (room_from n (row.first + (at - row.first)) (row.place + row.total)) (sym split)
-          ∙ behind_row n slots row at (omega arith) (λ m. ap (run m) split) r;
+          ∙ after_row n slots row at (omega arith) (λ m. ap (run m) split) r;
     }
 
 -- with no slot left there is no room
 pub searching_all : (n : ℕ) (slots : List Slot) (row : Room) (at : ℕ) → length slots ≡ at → Searching n slots row at → find_room n (items_of slots) ≡ None
 searching_all n slots row at all r =
     let none : items_of (drop at slots) ≡ [] = ap items_of (drop_all at slots (omega arith)) in
-    sym (behind_row n slots row at (omega arith) (λ m. ap (run m) none) r)
+    sym (after_row n slots row at (omega arith) (λ m. ap (run m) none) r)
     ∙ ap (room_from n (row.first + (at - row.first)) (row.place + row.total)) none
 
 -- ---- the row reaches so many words

@@ -38,7 +38,7 @@ const MIN_ENTRY_WORDS: usize = 8;
 /// The most bytes of a name with its length: those of the words after word 5.
 const MAX_NAME_BYTES: usize = 40;
 
-/// The slot at the head of `left` words, of which `front` has the first 26, or all where they are fewer. None exactly where they
+/// The slot at the head of `left` words, of which `front` has the first 26, or all where they are fewer. None if and only if they
 /// begin with no slot that can be read: its length is 0 or goes past them, its type isn't 0 or 1, or it is of type 1 and isn't an
 /// entry. It takes no memory. The slot's length is its `words`.
 pub fn slot_here(front: &[u16], left: usize) -> Option<Slot>

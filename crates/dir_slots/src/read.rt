@@ -34,7 +34,7 @@ pub fn read_slots(alloc: Global, words: &[u16]) -> Result<(List<Slot>, usize), M
     Ok((List::from_vec(read), at))
 }
 
-/// The slot at the head of these words, those of a directory from its first word or from the end of a slot on. None exactly where
+/// The slot at the head of these words, those of a directory from its first word or from the end of a slot on. None if and only if
 /// they begin with no slot that can be read, so also where there are none. It looks at 26 words at most and takes no memory. The
 /// slot's length is its `words`: those after it are the ones to read on from.
 pub fn first_slot(words: &[u16]) -> Option<Slot>

@@ -21,7 +21,7 @@ pub struct Room {
 }
 
 /// The room for an entry of `n` words, 1 to 26: the first free slot from which adjacent free slots reach `n` words with a total of
-/// at most 1,023, and the fewest slots from there that do. None exactly where no free slots in a row have `n` words. Each free slot
+/// at most 1,023, and the fewest slots from there that do. None if and only if no free slots in a row have `n` words. Each free slot
 /// must have 1 to 1,023 words, and all slots together fewer than 2^32.
 pub fn find_room(slots: &[Slot], n: u16) -> Option<Room>
     requires least { 1 ≤ n }

@@ -84,7 +84,7 @@ fn room_in(alloc: Global, words: &[u16; 256]) -> Result<Option<Room>, Memory> {
 }
 
 #[test]
-fn room_is_found_behind_an_entry(rt: HostRuntime) -> Result<(), Fail> {
+fn room_is_found_after_an_entry(rt: HostRuntime) -> Result<(), Fail> {
     let mut page = [0; 256];
     page[..8].copy_from_slice(&ENTRY_OF_A);
     page[8] = 248;

@@ -26,13 +26,13 @@ use Rattle.pack_model.specs.sessions.Descriptor.{DescriptorFits, close_writes, c
 use Rattle.pack_model.specs.states.Sound.{mark_clean, mark_open}
 use Rattle.pack_model.specs.states.Whole.{Tidy, Whole}
 use Rattle.disk_descriptor.proofs.Writings.{writes_all}
-use Rattle.disk_descriptor.specs.Kept.GivesOne.{given}
-use Rattle.disk_descriptor.specs.Kept.{Fits, FitsDisk, GivesOne, Kept, Opens, closed, closes, most_last, opened, with_last}
+use Rattle.disk_descriptor.specs.Fields.GivesOne.{given}
+use Rattle.disk_descriptor.specs.Fields.{Fits, FitsDisk, GivesOne, Fields, Opens, closed, closes, most_last, opened, with_last}
 use Rattle.disk_descriptor.specs.Writing.{AreCarried, Writes, data_page}
 use Rattle.disk_descriptor.specs.declared.errors.DescError.TheVariants.{Memory}
 use Rattle.disk_descriptor.specs.declared.errors.DescError.{DescError}
 
-module _ (p : Pack) (kept : Kept) (fits : Fits p kept) where
+module _ (p : Pack) (kept : Fields) (fits : Fits p kept) where
   -- its pages are in the sectors that are kept
   pub page_placed : (n : ℕ) → n < length kept.pages → place (sights p) disk_descriptor (n + 1) ≡ Some (get_or kept.pages n 0)
   page_placed n within = fits.bears n within ∙ slice_get-get_or kept.pages n 0 within
@@ -57,7 +57,7 @@ module _ (p : Pack) (kept : Kept) (fits : Fits p kept) where
       let here : at < length p.sectors = usable_within p at (carried_parts p at (data_page (n + 1)) (pages_carried n within)).0 in
       (All-get_or IsFormed p.sectors at no_sector here formed).value)
 
-module _ (p : Pack) (kept : Kept) (here : FitsDisk p kept) where
+module _ (p : Pack) (kept : Fields) (here : FitsDisk p kept) where
   pub fits_opened : FitsDisk (after p (opening_writes p (get_or kept.pages 0 0))) (opened kept)
   fits_opened =
       let at : ℕ = get_or kept.pages 0 0 in
@@ -95,7 +95,7 @@ module _ (p : Pack) (kept : Kept) (here : FitsDisk p kept) where
 
 -- ---- what a descriptor holds: room for five sectors, of which those of the data pages count
 module _ (s : Shape) (last mark : ℕ) (pages : List ℕ) where
-  abbrev pub kept_of : Kept
+  abbrev pub kept_of : Fields
   kept_of = record { shape = s; last = last; mark = mark; pages = take (data_pages s) pages }
 
   abbrev first : ℕ

@@ -32,7 +32,7 @@ use Rattle.page_seeking.specs.Refs.{IfBeyond, IfMisled}
 use Rattle.page_seeking.specs.declared.refs.FileError.{FileError}
 use Rattle.page_seeking.specs.declared.refs.FileError.TheVariants.{Beyond, DiskFault, Memory, Misled}
 use Rattle.page_seeking.specs.Seeking.{IsEnd, KeepsHandy, Seen, Stands, page_number}
-use Rattle.disk_descriptor.specs.Kept.{AreSectors}
+use Rattle.disk_descriptor.specs.Fields.{AreSectors}
 use Rattle.disk_descriptor.specs.Reading.{IsRead}
 
 one : {a b : ℕ} → ◌≡◌ {A = Option ℕ} (Some a) (Some b) → a ≡ b

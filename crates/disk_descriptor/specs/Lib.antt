@@ -1,7 +1,7 @@
 pub mod Answers
 pub mod Causes
 pub mod Formatting
-pub mod Kept
+pub mod Fields
 pub mod Opening
 pub mod Reading
 pub mod Writing

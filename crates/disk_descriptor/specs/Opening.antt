@@ -19,7 +19,7 @@ use Rattle.page_seeking.specs.Seeking.{file_length}
 use Rattle.page_seeking.specs.declared.refs.FileError.{FileError}
 use Rattle.page_seeking.specs.declared.refs.FileError.TheVariants as file
 use Rattle.page_seeking.specs.declared.refs.FileRef.{FileRef}
-use Rattle.disk_descriptor.specs.Kept.{Fits, Kept}
+use Rattle.disk_descriptor.specs.Fields.{Fits, Fields}
 use Rattle.disk_descriptor.specs.declared.errors.OpenError.{OpenError}
 use Rattle.disk_descriptor.specs.declared.errors.OpenError.TheVariants.{BadDescriptor, DiskFault, Memory, Misled, NoDescriptor, NoRoot, NotClean, WrongLength}
 
@@ -59,7 +59,7 @@ pub record IsUnclean (p : Pack) (mark : ℕ) : Type 0 where
   pub differs : mark ≢ mark_clean
 
 -- All three are right; what is kept fits, with the clean mark; and the table is the one that DiskDescriptor's words hold.
-pub record IsOpened (p : Pack) (kept : Kept) (busy : List Bool) : Type 0 where
+pub record IsOpened (p : Pack) (kept : Fields) (busy : List Bool) : Type 0 where
   pub size : file_length p disk_descriptor ≡ descriptor_length p.shape
   pub right : bad_word (shape_words p.shape) (descriptor_words (sights p)) ≡ None
   pub fits : Fits p kept

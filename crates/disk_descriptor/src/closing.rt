@@ -7,7 +7,7 @@ ghost use Rattle.disk_records.specs.Tapes.{DiskAlone, pack};
 ghost use Rattle.pack_model.specs.operations.Commands.{values_writes};
 ghost use Rattle.pack_model.specs.sessions.Descriptor.{closed_values, data_pages};
 ghost use Rattle.disk_descriptor.specs.Answers.{IfHeld, cause_of};
-ghost use Rattle.disk_descriptor.specs.Kept.{AreSectors};
+ghost use Rattle.disk_descriptor.specs.Fields.{AreSectors};
 ghost use Rattle.disk_descriptor.specs.Writing.{AreCarried, Writes};
 
 use crate::DescError;

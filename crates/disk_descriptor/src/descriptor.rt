@@ -33,9 +33,9 @@ pub struct Descriptor {
 impl Model for Descriptor {
     ghost use Rattle.std.specs.Prelude.{take};
     ghost use Rattle.pack_model.specs.sessions.Descriptor.{data_pages};
-    ghost use Rattle.disk_descriptor.specs.Kept.{AreSectors, Kept};
+    ghost use Rattle.disk_descriptor.specs.Fields.{AreSectors, Fields};
 
-    ghost Value = { Kept };
+    ghost Value = { Fields };
 
     ghost view = { λ d. record { shape = d.shape; last = d.last; mark = d.mark; pages = take (data_pages d.shape) d.pages } };
 
@@ -49,7 +49,7 @@ impl Descriptor {
     ghost use Rattle.disk_records.specs.Causes.Cause.{never, other};
     ghost use Rattle.disk_records.specs.Tapes.{DiskAlone, added, pack};
     ghost use Rattle.disk_descriptor.specs.Answers.{IfHeld, IfSpent, cause_of};
-    ghost use Rattle.disk_descriptor.specs.Kept.{Fits, FitsDisk, GivesOne, Opens, closed, closes, most_last, opened, with_last};
+    ghost use Rattle.disk_descriptor.specs.Fields.{Fits, FitsDisk, GivesOne, Opens, closed, closes, most_last, opened, with_last};
     ghost use Rattle.disk_descriptor.specs.Writing.{Writes};
 
     /// The last serial given out.

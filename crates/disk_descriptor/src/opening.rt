@@ -9,7 +9,7 @@ ghost use Rattle.hint_cache.specs.Bits.{bit_in, bits_in};
 ghost use Rattle.page_seeking.specs.Refs.{MisledBy};
 ghost use Rattle.page_seeking.specs.Seeking.{KeepsHandy};
 ghost use Rattle.disk_descriptor.specs.Opening.{HasBadWord, HasWrongLength, IfBadDescriptor, IfNotClean, IfOpenMisled, IfWrongLength, IsOpened, IsUnclean, MayBeOpened, bad_word, cause_of_opening, open_error, shape_words};
-ghost use Rattle.disk_descriptor.specs.Kept.{AreSectors};
+ghost use Rattle.disk_descriptor.specs.Fields.{AreSectors};
 ghost use Rattle.disk_descriptor.specs.Reading.{IsRead};
 
 use crate::OpenError;

@@ -8,7 +8,7 @@ ghost use Rattle.pack_model.specs.states.Sentences.{EachOnce};
 ghost use Rattle.page_seeking.specs.Causes.{cause_of_file};
 ghost use Rattle.page_seeking.specs.Refs.{FileIsFrom, IfBeyond, IfMisled, MisledBy};
 ghost use Rattle.page_seeking.specs.Seeking.{KeepsHandy};
-ghost use Rattle.disk_descriptor.specs.Kept.{AreSectors};
+ghost use Rattle.disk_descriptor.specs.Fields.{AreSectors};
 ghost use Rattle.disk_descriptor.specs.Reading.{IsRead};
 
 use disk_records::{Disk, PAGE_BYTES, Sector};

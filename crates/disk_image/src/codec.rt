@@ -28,7 +28,7 @@ pub(crate) const SECTOR_BYTES: usize = 532;
 /// The bytes of one cylinder: 24 sectors.
 pub(crate) const CYLINDER_BYTES: u64 = 12_768;
 
-/// The shape of a pack of one or two drives whose files have this many bytes each. None exactly where that isn't the length of 2 to
+/// The shape of a pack of one or two drives whose files have this many bytes each. None if and only if that isn't the length of 2 to
 /// 406 cylinders.
 pub(crate) fn shape_of_length(disks: u16, bytes: u64) -> Option<Shape>
     requires some_disk { 1 ≤ disks }
@@ -90,7 +90,7 @@ pub(crate) fn read_sectors(bytes: &[u8], count: usize, sectors: &mut Vec<Sector>
 
 /// The pack of a file: its shape, of one drive, and its sectors in the order of their virtual addresses.
 ///
-/// BadLength comes exactly where the length isn't that of 2 to 406 cylinders of 12,768 bytes, and carries it. Unlike never comes.
+/// BadLength comes if and only if the length isn't that of 2 to 406 cylinders of 12,768 bytes, and carries it. Unlike never comes.
 /// Memory: none was left for the sectors, which are one allocation.
 pub fn decode_pack(alloc: Global, bytes: &[u8]) -> Result<(Shape, Vec<Sector>), ImageError>
     ensures ok { IfOk result (λ pack. IsImage pack.0 pack.1.items bytes.now) }

@@ -4,7 +4,7 @@
 //! has a file for each of its one or two drives. To the layers above:
 //! 1. A pack has one file, and a file is one pack's: what `encode_pack` writes `decode_pack` reads back, and the other way round; and so
 //!    of the two files of two drives, by `encode_two` and `decode_two` (`laws`).
-//! 2. `decode_pack` refuses a file for its length exactly where that isn't the length of 2 to 406 cylinders (`IsImageErrorAt`), and
+//! 2. `decode_pack` refuses a file for its length if and only if that isn't the length of 2 to 406 cylinders (`IsImageErrorAt`), and
 //!    `decode_two` two files for the first such length, or for two lengths that differ (`IsErrorOfTwo`).
 //! 3. `start_of` takes exactly the command lines `[--cylinders C] [--second PACK2] PACK WORDS` with C from 2 to 406 (`start`).
 //! 4. `FileMachine` meets what disk_records asks of every machine: a fault is answered only where the count of its own device rose,

@@ -32,8 +32,8 @@ pub(crate) fn shape_of_lengths(first: u64, second: u64) -> Result<Shape, ImageEr
 
 /// The pack of two files, one for each drive: its shape, and its sectors in the order of their virtual addresses.
 ///
-/// BadLength comes exactly where the length of a file isn't that of 2 to 406 cylinders of 12,768 bytes, and carries that of the first
-/// such file. Unlike comes exactly where both lengths are such and differ, and carries both. Memory: none was left for the sectors, which
+/// BadLength comes if and only if the length of a file isn't that of 2 to 406 cylinders of 12,768 bytes, and carries that of the first
+/// such file. Unlike comes if and only if both lengths are such and differ, and carries both. Memory: none was left for the sectors, which
 /// are one allocation.
 pub fn decode_two(
     alloc: Global,

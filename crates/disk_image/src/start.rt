@@ -18,7 +18,7 @@ pub struct Start {
 }
 
 /// Reads the words of a command line. The options `--cylinders C` and `--second PACK2` stand first, in this order, and each may be left
-/// out. C is a decimal number from 2 to 406. None exactly where there is no PACK, or the first word is `--cylinders` and no C in range
+/// out. C is a decimal number from 2 to 406. None if and only if there is no PACK, or the first word is `--cylinders` and no C in range
 /// follows it, or `--second` stands in its place and no PACK2 follows it. No memory is taken.
 pub fn start_of(words: &[String]) -> Option<Start>
     ensures start { result ≡ start_of (map string_bytes words.now) }

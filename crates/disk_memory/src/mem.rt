@@ -131,7 +131,7 @@ impl MemMachine {
     ghost use Rattle.disk_memory.specs.Failing.{FailsAt, HasFailed, IsFresh, SameFailures, calls_of, next_failure};
 
     /// A machine over these sectors, in order of their virtual addresses, with these keys to be read. No call is to fail.
-    /// WrongCount comes exactly where there aren't as many sectors as the shape has.
+    /// WrongCount comes if and only if there aren't as many sectors as the shape has.
     pub fn new(
         alloc: Global,
         shape: Shape,

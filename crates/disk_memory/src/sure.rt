@@ -112,7 +112,7 @@ impl SureMachine {
     ghost use Rattle.disk_memory.specs.Making.{IsNewErrorAt, IsCut, first_tape};
 
     /// A machine over these sectors, in order of their virtual addresses, with these keys to be read. WrongCount comes
-    /// exactly where there aren't as many sectors as the shape has.
+    /// if and only if there aren't as many sectors as the shape has.
     pub fn new(
         alloc: Global,
         shape: Shape,

@@ -38,7 +38,7 @@ fn mismatch_in(part: u8, act: Act, memory: &[u16], disk: &[u16]) -> Option<(u8, 
 }
 
 /// The first word of a checked record of `memory` that isn't 0 and differs from the word of `disk`, as its record (0 header,
-/// 1 label, 2 value) and its place there. None exactly where the command finds the sector as it should be.
+/// 1 label, 2 value) and its place there. None if and only if the command finds the sector as it should be.
 pub fn first_mismatch(plan: Plan, memory: &Sector, disk: &Sector) -> Option<(u8, u16)>
     ensures { result ≡ mismatch plan memory.now disk.now }
 {

@@ -43,7 +43,7 @@ pub fn is_free_label(label: &[u16; 8]) -> bool
     label[VERSION] == 0xFFFF && label[SERIAL_HIGH] == 0xFFFF && label[SERIAL_LOW] == 0xFFFF
 }
 
-/// The page that a label names. None exactly where the label isn't in range: more than 512 bytes, version 0 or 0xFFFF,
+/// The page that a label names. None if and only if the label isn't in range: more than 512 bytes, version 0 or 0xFFFF,
 /// or serial 0.
 pub fn page_of(label: &[u16; 8]) -> Option<Page>
     ensures { result ≡ page_of label.now }

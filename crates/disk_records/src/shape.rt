@@ -19,7 +19,7 @@ impl Shape {
     ghost use Rattle.std.specs.Prelude.{ℕ, ◌≢◌, ◌<◌, ◌↔◌, Some, IsSome, IfNone, IfSome};
     ghost use Rattle.disk_records.specs.Addresses.{disks_of, cylinders_of, pages_of, real_of, descriptor_length};
 
-    /// A shape of one or two disks with 2 to 406 cylinders each. None exactly where the numbers aren't these.
+    /// A shape of one or two disks with 2 to 406 cylinders each. None if and only if the numbers aren't these.
     pub fn new(disks: u16, cylinders: u16) -> Option<Shape>
         ensures some { IfSome result (λ shape. (disks_of shape ≡ disks) × (cylinders_of shape ≡ cylinders)) }
         ensures valid { IsSome result ↔ ((1 ≤ disks) × (disks ≤ 2) × (2 ≤ cylinders) × (cylinders ≤ 406)) }
@@ -64,7 +64,7 @@ impl Shape {
             + cylinder / self.cylinders * 2
     }
 
-    /// The virtual address of the sector with this real address. None exactly where no sector has it with restore bit 0.
+    /// The virtual address of the sector with this real address. None if and only if no sector has it with restore bit 0.
     pub fn virtual_of(&self, real: u16) -> Option<u16>
         ensures some { IfSome result (λ at. (at < pages_of self.now) × (real_of self.now at ≡ real)) }
         ensures back { (at : ℕ) → at < pages_of self.now → real_of self.now at ≡ real → result ≡ Some at }

@@ -58,7 +58,7 @@ guarded_less {first = first} {a = a} {b = b} second result is less =
       runs = less.runs;
     })
 
--- one sector command alone, which finds no mismatch exactly where the guard holds
+-- one sector command alone, which finds no mismatch if and only if the guard holds
 pub guarded_whole : {guard : Pack → Type 0} {at : ℕ} {plan : Plan} {memory buffer : Sector} {a b : Taped} → (first_mismatch plan memory (sector_at (pack a) at) ≡ None → guard (pack a))
     → Ran at plan memory buffer a b (Ok tt) → Guarded {T = Unit {0}} guard at [] (writes_of at plan memory) 1 a b (Ok tt)
 guarded_whole holds ran =

@@ -17,12 +17,12 @@ pub fn call_is_counted_on<T, E>()
     ensures { CallIsCountedOn T E }
 {}
 
-/// So they are after the releases of a drop.
+/// Count and tally are those of the line's moves so far after the releases of a drop, if they were before it.
 pub fn releases_are_counted<T, E>()
     ensures { ReleasesAreCounted T E }
 {}
 
-/// So they are after a call that makes quiet moves alone.
+/// Count and tally are those of the line's moves so far after a call that makes quiet moves alone, if they were before it.
 pub fn quiet_call_is_counted()
     ensures { QuietCallIsCounted }
 {}

@@ -1,5 +1,7 @@
 //! What a file holds, by the values of its pages.
 //!
+//! Come here when you have read values of a file's pages and answer its bytes, words, length or leader.
+//!
 //! The laws that lead from sectors that were read to what a pack means: which of a sector's bytes count, where they stand in a file's
 //! bytes and words, where a file ends, and what the files of the model are. They hold on any pack unless they say more; on one that
 //! carries no page twice whichever sector carries a page is its place.

@@ -13,7 +13,7 @@ pub fn guarded_call_operates<T, E>()
     ensures { GuardedCallOperates T E }
 {}
 
-/// So is one for a part of the releases of a drop.
+/// The answer of a guarded command for a part of the releases of a drop makes that of the call.
 pub fn guarded_call_releases<T, E>()
     ensures { GuardedCallReleases T E }
 {}

@@ -31,7 +31,7 @@ ClosedMapIsReadBack = (p : Pack) (busy : List Bool) (pages : List ℕ) → Whole
     → described_table (after p (closing_writes p busy pages)) ≡ busy
 
 -- after closing a whole and tidy pack whose mark isn't clean and that has a sector for each address, with a map that has a bit for each
--- sector, the words of DiskDescriptor's map are true exactly where that map was the true one before
+-- sector, the words of DiskDescriptor's map are true if and only if that map was the true one before
 abbrev pub ClosedMapIsTrueWhereItWas : Type 0
 ClosedMapIsTrueWhereItWas = (p : Pack) (busy : List Bool) (pages : List ℕ) → Whole p → Tidy p → MayClose p pages → mark_of (sights p) ≢ mark_clean → HasEachSector p → length busy ≡ pages_of p.shape
     → WordsTrue (after p (closing_writes p busy pages)) ↔ TableTrue p busy

@@ -15,7 +15,7 @@ HasEachSector p = length p.sectors ≡ pages_of p.shape
 abbrev pub FreeTableIsTrue : Type 0
 FreeTableIsTrue = (p : Pack) → IsTrueTable p (free_table p)
 
--- on a pack with a sector for each address, a table with a bit for each sector is true in page_alloc's term exactly where it is the map of
+-- on a pack with a sector for each address, a table with a bit for each sector is true in page_alloc's term if and only if it is the map of
 -- the free sectors
 abbrev pub OnlyFreeTableIsCompleteAndTrue : Type 0
 OnlyFreeTableIsCompleteAndTrue = (p : Pack) (bits : List Bool) → HasEachSector p → length bits ≡ pages_of p.shape → IsTrueTable p bits ↔ (bits ≡ free_table p)
@@ -28,6 +28,6 @@ FreeSectorsAreAvailable = (p : Pack) (at : ℕ) → busy_at (free_table p) at �
 abbrev pub TrueTableIsFreeTable : Type 0
 TrueTableIsFreeTable = (p : Pack) → Whole p → true_table p ≡ free_table p
 
--- on a whole pack with a sector for each address, a table with a bit for each sector is true in one term exactly where it is in the other
+-- on a whole pack with a sector for each address, a table with a bit for each sector is true in one term if and only if it is in the other
 abbrev pub WholePackHasOneKindOfTrueTable : Type 0
 WholePackHasOneKindOfTrueTable = (p : Pack) (bits : List Bool) → Whole p → HasEachSector p → length bits ≡ pages_of p.shape → IsTrueTable p bits ↔ TableTrue p bits

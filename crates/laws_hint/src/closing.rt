@@ -28,7 +28,7 @@ pub fn closed_map_is_read_back()
 {}
 
 /// After closing a whole and tidy pack whose mark isn't clean and that has a sector for each address, with a map that has a bit for
-/// each sector, the words of DiskDescriptor's map are true exactly where that map was the true one before.
+/// each sector, the words of DiskDescriptor's map are true if and only if that map was the true one before.
 pub fn closed_map_is_true_where_it_was()
     ensures { ClosedMapIsTrueWhereItWas }
 {}

@@ -1,5 +1,7 @@
 //! When hints and the map are true, and that closing leaves them so.
 //!
+//! Come here when a call hands on that hints are true: links and the map over a line, and closing, which writes the map.
+//!
 //! The laws of all hints together, on whole and tidy packs: closing with the true map leaves all of them true, where the links are
 //! and the mark isn't clean, and a line whose operations each leave true links true does so as a whole.
 //!

@@ -10,7 +10,7 @@ pub fn free_table_is_true()
     ensures { FreeTableIsTrue }
 {}
 
-/// On a pack with a sector for each address a table with a bit for each sector is true in page_alloc's term exactly where it is the map
+/// On a pack with a sector for each address a table with a bit for each sector is true in page_alloc's term if and only if it is the map
 /// of the free sectors.
 pub fn only_free_table_is_complete_and_true()
     ensures { OnlyFreeTableIsCompleteAndTrue }
@@ -27,7 +27,7 @@ pub fn true_table_is_free_table()
 {}
 
 /// On a whole pack with a sector for each address a table with a bit for each sector is busy exactly at the sectors that aren't free,
-/// as page_alloc calls it true, exactly where it is the true map.
+/// as page_alloc calls it true, if and only if it is the true map.
 pub fn whole_pack_has_one_kind_of_true_table()
     ensures { WholePackHasOneKindOfTrueTable }
 {}

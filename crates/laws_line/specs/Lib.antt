@@ -1,4 +1,4 @@
-pub mod BehindLaws
+pub mod AfterLaws
 pub mod CutLaws
 pub mod EachLaws
 pub mod EndLaws

@@ -17,7 +17,7 @@ use Rattle.pack_model.specs.reading.Sights.{sights}
 use Rattle.pack_model.specs.states.Sound.{Sound, mark_of}
 use Rattle.pack_model.specs.operations.Step.{Operation}
 use Rattle.pack_model.specs.operations.Step.Operation.{drop_file}
-use Rattle.laws_line.specs.BehindLaws.{IsDirectory}
+use Rattle.laws_line.specs.AfterLaws.{IsDirectory}
 use Rattle.laws_line.specs.LineLaws.{IsEntered, LeaveNames, MayGo, new_file_line, rename_line, with_new_file}
 use Rattle.laws_line.specs.Ready.{steps_of}
 use Rattle.laws_line.specs.CutLaws.{Batch}

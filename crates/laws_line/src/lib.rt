@@ -1,5 +1,7 @@
 //! A whole line: every crash point within it can be mended.
 //!
+//! Come here when you write a typed line of several operations: its record writes, crash points and end, by what it knew at its begin.
+//!
 //! The laws of lines, on models: after each operation of a line the files have room, as the Scavenger will find them, and after it
 //! every file has a name again.
 //!
@@ -12,11 +14,11 @@
 //! of DiskDescriptor.
 //!
 //! A law function is public, has an empty body and one clause, the law; its lemma has the same name, and its statement has it in
-//! capitals. To cite a law: `use Rattle.laws_line.proofs.behind.Laws.{directories_are_read}`. Lemma files right in proofs/ are
+//! capitals. To cite a law: `use Rattle.laws_line.proofs.after.Laws.{directories_are_read}`. Lemma files right in proofs/ are
 //! cited by other crates too; those in proofs/inside/ no other crate can name.
 #![tactic(auto)]
 
-pub mod behind;
+pub mod after;
 pub mod cuts;
 pub mod ending;
 pub mod fits;

@@ -1,5 +1,7 @@
 //! Look-up and hints: which entry an operand means and where it stands, what of it stays known, and which hints mislead.
 //!
+//! Come here when you seek an entry or a page, answer that a hint misled, or hold on to a file that was found while others are written.
+//!
 //! The laws of look-up: a walk that meets the slots of a directory one at a time finds the entry that an operand means; its slot is one
 //! of the directory's, its address word is a hint, and its file and name are the model's.
 //!

@@ -1,5 +1,7 @@
 //! Midway in a call: what it knows of sectors, slots, files and hints while it works, before its next step.
 //!
+//! Come here when a call's loop is proved: what it knows of sectors, slots and hints between two of its guarded commands.
+//!
 //! The laws of loops: releases, claims and a relabelling leave the sectors that come later, and a pack keeps a sector for each address;
 //! what a cut wants is there. The laws of a growth: where a file's pages are then, and how long it is. The laws of a walk over a
 //! directory: room and the most free words, slot by slot.

@@ -9,7 +9,7 @@ use Rattle.disk_records.specs.declared.records.Event.{Event}
 use Rattle.pack_model.specs.reading.Bytes.{put_at}
 use Rattle.pack_model.specs.operations.Commands.{values_writes}
 use Rattle.pack_model.specs.operations.Committing.{moves_of, page_of_word, units, values_before}
-use Rattle.pack_model.specs.operations.Entering.{EntryRoom, entry_value, joined, joining, overlapping, values_first}
+use Rattle.pack_model.specs.operations.Entering.{EntryRoom, entry_value, after_joining, joining, overlapping, values_first}
 use Rattle.pack_model.specs.states.InUse.{one_if}
 use Rattle.pack_model.specs.sessions.Meanings.{viewing}
 use Rattle.pack_model.specs.reading.Model.{Model, dir_items, read_as}
@@ -68,10 +68,10 @@ enter_carries_out p d name f a old b left words at next_at w t h =
     let m : Model = read_as p in
     let r : EntryRoom = entry_room a old at next_at in
     let x : List (ℕ × List ℕ) = joining p r in
-    let y : List (ℕ × List ℕ) = overlapping (joined p r) (all_words a) words next_at in
+    let y : List (ℕ × List ℕ) = overlapping (after_joining p r) (all_words a) words next_at in
     let s = all_stages p w t d name f a old b left words at next_at h one refl in
-    let twice : after (joined p r) (values_writes y) ≡ after p (values_writes (x ++ y)) = sym (after-append p (values_writes x) (values_writes y)) ∙ ap (after p) (sym (values-append x y)) in
-    let value1 : List ℕ = put_at (in_page (all_words a)) (near (all_words a) words) (sector_at (after (joined p r) (values_writes y)) at).value in
+    let twice : after (after_joining p r) (values_writes y) ≡ after p (values_writes (x ++ y)) = sym (after-append p (values_writes x) (values_writes y)) ∙ ap (after p) (sym (values-append x y)) in
+    let value1 : List ℕ = put_at (in_page (all_words a)) (near (all_words a) words) (sector_at (after (after_joining p r) (values_writes y)) at).value in
     let value_is : value1 ≡ entry_value p r words = ap (λ q. put_at (in_page (all_words a)) (near (all_words a) words) (sector_at q at).value) twice in
     let events : List Event = enter_writes (values_first p r words) at (entry_value p r words) in
     let events_are : values_writes x ++ (values_writes y ++ value_writes at value1) ≡ events =

@@ -34,7 +34,7 @@ use Rattle.laws_record.proofs.Addressing.{LooseIn, slots_kept}
 use Rattle.laws_record.proofs.DirReads.{dir_reads, dir_same, has_leader, insert_same}
 use Rattle.laws_record.proofs.DirWords.{dir_change}
 use Rattle.laws_record.proofs.Entered.{directory, namings_in-append}
-use Rattle.laws_record.proofs.Slotwise.{put_before, put_behind, slots_freed}
+use Rattle.laws_record.proofs.Slotwise.{put_before, put_after, slots_freed}
 use Rattle.laws_record.proofs.Tidying.{tidy_same}
 use Rattle.laws_record.specs.DirLaws.{DirWrite, Frees, dir_written, freed}
 use Rattle.laws_operation.proofs.DirValue.{dir_before, dir_lead, dir_read, value_change, value_same, value_tidy, value_whole}
@@ -107,7 +107,7 @@ loose_stage p whole tidy d w at new h loose =
     let now : slots (put_at w new ws) ≡ is = slots_kept ws (put_at w new ws) 0 is (length-put_at w new ws h.within) refl
     (λ k low high. elim (cases_lt k w) [
       | inl before ↦ inl (put_before w new ws k h.within before)
-      | inr past ↦ elim (cases_lt k (w + length new)) [ inl here ↦ inr (loose k past here) | inr behind ↦ inl (put_behind w new ws k h.within behind) ]
+      | inr past ↦ elim (cases_lt k (w + length new)) [ inl here ↦ inr (loose k past here) | inr behind ↦ inl (put_after w new ws k h.within behind) ]
     ]) in
     let c = dir_change p d w at new h in
     let l : Leader = dir_lead p whole d w at new h in

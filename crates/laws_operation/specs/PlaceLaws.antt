@@ -20,7 +20,7 @@ use Rattle.laws_operation.specs.LifeLaws.{MayMake}
 use Rattle.laws_operation.specs.NameLaws.{MayWiden}
 
 -- ---- on any pack
--- a file lives exactly where its leader page has a place
+-- a file lives if and only if its leader page has a place
 abbrev pub FileLivesInAPlace : Type 0
 FileLivesInAPlace = (p : Pack) (f : Fid) → lives (sights p) f ≡ is_some (place (sights p) f 0)
 

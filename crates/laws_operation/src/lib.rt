@@ -1,5 +1,7 @@
 //! Each operation: what to know, what to write, what is true at each crash point and afterwards.
 //!
+//! Come here when you write a call that does an operation: its law in each column of docs/laws.md's table is one of these.
+//!
 //! The laws of operations: what the whole list of record writes of an operation does to a whole and tidy pack, at every crash point.
 //!
 //! The laws of written words: those that each operation writes, as pack_model defines them, are such as the laws of operations ask

@@ -8,7 +8,7 @@ pub fn whole_pack_carries_once()
     ensures { WholePackCarriesOnce }
 {}
 
-/// On any pack a file lives exactly where its leader page has a place.
+/// On any pack a file lives if and only if its leader page has a place.
 pub fn file_lives_in_a_place()
     ensures { FileLivesInAPlace }
 {}

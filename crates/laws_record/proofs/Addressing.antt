@@ -99,10 +99,10 @@ LooseIn place [] w = ⊥
 LooseIn place (i ∷ is) w = ((place ≤ w) × IsLoose i (w - place)) ⊎ LooseIn (place + item_words i) is w
 
 -- loose words stand after the first one
-loose_behind : (place : ℕ) (is : List Item) (w : ℕ) → LooseIn place is w → place ≤ w
-loose_behind place [] w h = absurd h
-loose_behind place (i ∷ is) w (inl here) = here.0
-loose_behind place (i ∷ is) w (inr later) = let l = loose_behind (place + item_words i) is w later in omega arith
+loose_after : (place : ℕ) (is : List Item) (w : ℕ) → LooseIn place is w → place ≤ w
+loose_after place [] w h = absurd h
+loose_after place (i ∷ is) w (inl here) = here.0
+loose_after place (i ∷ is) w (inr later) = let l = loose_after (place + item_words i) is w later in omega arith
 
 -- words that differ at most in loose ones have the same slots
 pub slots_kept : (xs ys : List ℕ) (place : ℕ) (is : List Item) → length ys ≡ length xs → slots (drop place xs) ≡ is → ((k : ℕ) → place ≤ k → k < length xs → (word ys k ≡ word xs k) ⊎ LooseIn place is k) → slots (drop place ys) ≡ is
@@ -119,7 +119,7 @@ slots_kept xs ys place (i ∷ is) size e same =
       | inl z ↦ inl (get_or-drop place ys k 0 ∙ z ∙ sym (get_or-drop place xs k 0))
       | inr address ↦ elim address [
         | inl own ↦ inr (let z : place + k - place ≡ k = omega arith in subst (IsLoose i) z own.1)
-        | inr later ↦ absurd (let b = loose_behind (place + item_words i) is (place + k) later in omega arith)
+        | inr later ↦ absurd (let b = loose_after (place + item_words i) is (place + k) later in omega arith)
       ]
     ]) in
     let rest : slots (drop (place + item_words i) ys) ≡ is =

@@ -24,7 +24,7 @@ use Rattle.laws_record.proofs.DirReads.{dir_reads, dir_same, dir_was, has_leader
 use Rattle.laws_record.proofs.DirWords.{DirChange, dir_change}
 use Rattle.laws_record.proofs.Entered.{directory}
 use Rattle.laws_record.proofs.Scanned.{kept_before, not_kept, scan_same, scan_tidied, tidied_items}
-use Rattle.laws_record.proofs.Slotwise.{put_before, put_behind, slots_freed}
+use Rattle.laws_record.proofs.Slotwise.{put_before, put_after, slots_freed}
 use Rattle.laws_record.proofs.Staying.{Stays}
 use Rattle.laws_record.proofs.Unkept.{unkept_items}
 use Rattle.laws_record.proofs.inside.Viewed.{name_left, tidied_view}
@@ -54,7 +54,7 @@ loose_words p d w at new h loose =
       | inl before ↦ inl (put_before w new ws k h.within before)
       | inr past ↦ elim (cases_lt k (w + length new)) [
         | inl here ↦ inr (loose_word p d k (loose k past here))
-        | inr behind ↦ inl (put_behind w new ws k h.within behind)
+        | inr behind ↦ inl (put_after w new ws k h.within behind)
       ]
     ]))
 

@@ -12,7 +12,7 @@ use Rattle.pack_model.specs.reading.Slots.Item.{entry, space}
 use Rattle.laws_record.proofs.Addressing.{drop_same}
 use Rattle.pack_laws.proofs.Bytes.{length-put_at}
 use Rattle.laws_record.proofs.Heads.{head_of, head_reads, slots_cons, slots_some}
-use Rattle.laws_record.proofs.Slotwise.{free_head, put_before, put_behind, slots_before, slots_behind}
+use Rattle.laws_record.proofs.Slotwise.{free_head, put_before, put_after, slots_before, slots_behind}
 use Rattle.laws_record.specs.DirLaws.{Enters}
 
 -- a free slot for the words left over, if any
@@ -39,7 +39,7 @@ slots_entered p d at new a b f name left h =
     let sx = length-drop place xs in
     let sy = length-drop place ys in
     let behind : slots (drop (place + (n + left)) xs) ≡ b = ap slots (sym (drop-drop (n + left) place xs)) ∙ s.1 in
-    let behind_new : slots (drop (place + (n + left)) ys) ≡ b = ap slots (drop_same xs ys (place + (n + left)) size (λ k l m. put_behind place new xs k w (omega arith))) ∙ behind in
+    let after_new : slots (drop (place + (n + left)) ys) ≡ b = ap slots (drop_same xs ys (place + (n + left)) size (λ k l m. put_after place new xs k w (omega arith))) ∙ behind in
     let here : slot_at (drop place ys) ≡ Some (entry f name) = head_reads (drop place ys) (entry f name) (record {
       some = omega arith;
       within = omega arith;
@@ -51,7 +51,7 @@ slots_entered p d at new a b f name left h =
     let rest : slots (drop (place + n) ys) ≡ left_over left b =
     left_slots left (drop (place + n) ys) b (omega arith) (let t = length-drop (place + n) ys in omega arith)
     (λ some. let k : place + n + 0 ≡ place + n = omega arith in get_or-drop (place + n) ys 0 0 ∙ ap (word ys) k ∙ h.left_is some)
-    (ap slots (drop-drop left (place + n) ys) ∙ ap (λ k. slots (drop k ys)) q ∙ behind_new) in
+    (ap slots (drop-drop left (place + n) ys) ∙ ap (λ k. slots (drop k ys)) q ∙ after_new) in
     slots_before 0 xs ys a (space (n + left) ∷ b) size h.slots_are (λ k l m. put_before place new xs k w (omega arith))
     ∙ ap (λ k. a ++ slots (drop k ys)) z
     ∙ ap (λ x. a ++ x) (slots_some (drop place ys) (entry f name) here ∙ ap (λ r. entry f name ∷ r) (ap slots (drop-drop n place ys) ∙ rest))

@@ -29,8 +29,8 @@ put_here at new old k fits l =
     ∙ ap (word new) z
 
 -- the words after
-pub put_behind : (at : ℕ) (new old : List ℕ) (k : ℕ) → at + length new ≤ length old → at + length new ≤ k → word (put_at at new old) k ≡ word old k
-put_behind at new old k fits l =
+pub put_after : (at : ℕ) (new old : List ℕ) (k : ℕ) → at + length new ≤ length old → at + length new ≤ k → word (put_at at new old) k ≡ word old k
+put_after at new old k fits l =
     let size = length-take-le at old (omega arith) in
     let all : length (take at old ++ new) ≡ at + length new = (let s = length-append (take at old) new in omega arith) in
     let z : at + length new + (k - (at + length new)) ≡ k = omega arith in
@@ -119,6 +119,6 @@ slots_freed xs a old b e some most =
     slots_replaced xs ys a old b (space n) e (record {
       size = size;
       before = λ k l. put_before at (n ∷ []) xs k fits l;
-      behind = λ k l. put_behind at (n ∷ []) xs k fits (omega arith);
+      behind = λ k l. put_after at (n ∷ []) xs k fits (omega arith);
       head = free_head (drop at ys) n some most (let d = length-drop at ys in omega arith) here;
     }) refl

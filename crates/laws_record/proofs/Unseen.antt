@@ -60,14 +60,14 @@ word_behind : (label : List ℕ) (k : ℕ) → word label (3 + k) ≡ word (drop
 word_behind label k = sym (get_or-drop 3 label k 0)
 
 -- the same words after the first three say the same
-pub tag_behind : (a b : List ℕ) → drop 3 b ≡ drop 3 a → tag b ≡ tag a
-tag_behind a b e =
+pub tag_after : (a b : List ℕ) → drop 3 b ≡ drop 3 a → tag b ≡ tag a
+tag_after a b e =
     let same : (k : ℕ) → word b (3 + k) ≡ word a (3 + k) = λ k. word_behind b k ∙ ap (λ x. word x k) e ∙ sym (word_behind a k) in
     λ i. record { fid = record { high = same 3 i; low = same 4 i; version = same 2 i }; page = same 1 i; bytes = same 0 i }
 
 -- a label with other links
 pub other_links : OtherLinks Stays
-other_links p at label e = label_quiet p at label (tag_behind (sector_at p at).label label e)
+other_links p at label e = label_quiet p at label (tag_after (sector_at p at).label label e)
 
 -- the same counted bytes of a data page
 past_same : (f : Fid) (n count : ℕ) (a b : List ℕ) → 0 < n → take count (bytes_of a) ≡ take count (bytes_of b) → page_sight f n count a ≡ page_sight f n count b

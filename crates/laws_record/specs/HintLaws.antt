@@ -7,7 +7,7 @@ use Rattle.pack_model.specs.reading.Model.{read_as}
 use Rattle.pack_model.specs.states.Sound.{Clean, Sound}
 use Rattle.laws_record.specs.QuietLaws.{with_value}
 
--- They are read the same, and one is sound or clean exactly where the other is.
+-- They are read the same, and one is sound or clean if and only if the other is.
 pub record MeansSame (p q : Pack) : Type 0 where
   pub read : read_as q ≡ read_as p
   pub sound : Sound p ↔ Sound q

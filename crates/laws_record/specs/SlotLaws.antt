@@ -13,7 +13,7 @@ use Rattle.pack_model.specs.reading.Slots.Item.{entry, space}
 abbrev pub LengthIsRead : Type 0
 LengthIsRead = (words : List ℕ) (is : List Item) (r : ReadsLongest words is) → length r.front ≡ all_words is
 
--- words are slots to their end exactly where the slots that are read have all of them
+-- words are slots to their end if and only if the slots that are read have all of them
 abbrev pub ReadsToTheEnd : Type 0
 ReadsToTheEnd = (words : List ℕ) → Reads words (slots words) ↔ (all_words (slots words) ≡ length words)
 
@@ -24,8 +24,8 @@ EntryWritesBack = (words : List ℕ) (f : Fid) (name : List ℕ) → slot_at wor
 
 -- ---- the first words alone are known, as those of the pages read so far
 -- a slot that is read stays, whatever words follow
-abbrev pub MoreBehind : Type 0
-MoreBehind = (words more : List ℕ) (i : Item) → slot_at words ≡ Some i → slot_at (words ++ more) ≡ Some i
+abbrev pub MoreAfter : Type 0
+MoreAfter = (words more : List ℕ) (i : Item) → slot_at words ≡ Some i → slot_at (words ++ more) ≡ Some i
 
 -- one that is read with more words alone has more than were there
 abbrev pub NotYet : Type 0
@@ -57,7 +57,7 @@ pub record IsPlacedIn (r : Room) (i : Item) (old new : List Item) : Type 0 where
   pub total : r.total ≡ all_words free
   pub new_are : new ≡ before ++ i ∷ left_over (r.total - item_words i) behind
 
--- An item is placed exactly where a room for its words is found, and in this room.
+-- An item is placed if and only if a room for its words is found, and in this room.
 pub record IsPlacedWhereFound (i : Item) (is : List Item) : Type 0 where
   pub neither : find_room (item_words i) is ≡ None ↔ (placed i is ≡ None)
   pub both : (r : Room) (new : List Item) → find_room (item_words i) is ≡ Some r → placed i is ≡ Some new → IsPlacedIn r i is new

@@ -2,7 +2,7 @@
 
 ghost use Rattle.laws_record.specs.HintLaws.{HintsMeanNothing, ValueWithOtherHints};
 
-/// Packs that differ in hint words alone are read the same, and one is sound or clean exactly where the other is.
+/// Packs that differ in hint words alone are read the same, and one is sound or clean if and only if the other is.
 pub fn hints_mean_nothing()
     ensures { HintsMeanNothing }
 {}

@@ -1,9 +1,11 @@
 //! What one write of one record changes, and what it doesn't.
 //!
+//! Come here when you write one sector by one guarded command and ask what it leaves of the pack; and for the slots of a directory.
+//!
 //! The laws of record writes: which leave a pack as it is read or viewed, and which carry out operations. With them stand those of
 //! the slots of a directory.
 //!
-//! The laws of whole packs: a pack is whole by the sentences, asked of all sectors, exactly where each of its files lies as a whole
+//! The laws of whole packs: a pack is whole by the sentences, asked of all sectors, if and only if each of its files lies as a whole
 //! one does.
 //!
 //! A law function is public, has an empty body and one clause, the law; its lemma has the same name, and its statement has it in

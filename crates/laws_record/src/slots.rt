@@ -1,13 +1,13 @@
 //! The laws of slots: how far words are slots, when a reader knows the next one, and where an entry's room is.
 
-ghost use Rattle.laws_record.specs.SlotLaws.{LengthIsRead, ReadsToTheEnd, EntryWritesBack, MoreBehind, NotYet, OneByOne, ReadsOn, FoundIsPlaced};
+ghost use Rattle.laws_record.specs.SlotLaws.{LengthIsRead, ReadsToTheEnd, EntryWritesBack, MoreAfter, NotYet, OneByOne, ReadsOn, FoundIsPlaced};
 
 /// The longest prefix of words that slots fill to its end has as many words as they have together.
 pub fn length_is_read()
     ensures { LengthIsRead }
 {}
 
-/// Words are slots to their end exactly where the slots that are read have as many words together.
+/// Words are slots to their end if and only if the slots that are read have as many words together.
 pub fn reads_to_the_end()
     ensures { ReadsToTheEnd }
 {}
@@ -18,8 +18,8 @@ pub fn entry_writes_back()
 {}
 
 /// The slot at the head of words is there whatever words follow them.
-pub fn more_behind()
-    ensures { MoreBehind }
+pub fn more_after()
+    ensures { MoreAfter }
 {}
 
 /// Where no slot can be read at the head of words, one that can be with more words after them is longer than they are.
@@ -37,7 +37,7 @@ pub fn reads_on()
     ensures { ReadsOn }
 {}
 
-/// An item is placed among slots exactly where a room for its words is found, and where this room is: between the slots before it
+/// An item is placed among slots if and only if a room for its words is found, and where this room is: between the slots before it
 /// and those after it, with a free slot of the words left over.
 pub fn found_is_placed()
     ensures { FoundIsPlaced }

@@ -25,7 +25,7 @@ count_placed shape ss [] = 0
 count_placed shape ss (e ∷ es) = placed_pages ss e.0 (last_page shape e.0 e.1.body) + count_placed shape ss es
 
 -- The sectors in use are these pages; they and the available ones are the good sectors. What is available, and what the mended files
--- need, make up what is needed and the good sectors. So needed is at most the available exactly where the mended files have room.
+-- need, make up what is needed and the good sectors. So needed is at most the available if and only if the mended files have room.
 pub record Counts (shape : Shape) (ss : List Sight) : Type 0 where
   pub in_use : how_many (in_use shape ss) (numbered 0 ss) ≡ count_placed shape ss (entries (found ss))
   pub available_is : available shape ss + count_placed shape ss (entries (found ss)) ≡ good_sectors ss

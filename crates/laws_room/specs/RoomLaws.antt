@@ -21,7 +21,7 @@ pub record SystemStands (ss : List Sight) : Type 0 where
   pub root : (readable : Bool) × (l : Leader) × (get_or ss 1 hidden ≡ leads sys_dir readable l)
   pub descriptor : lives ss disk_descriptor ≡ true
 
--- such a pack is scavengeable exactly where the files that it is read as have room
+-- such a pack is scavengeable if and only if the files that it is read as have room
 abbrev pub ScavengeableByModel : Type 0
 ScavengeableByModel = (p : Pack) → SystemStands (sights p) → Scavengeable p ↔ HasRoom (read_as p)
 
@@ -36,7 +36,7 @@ pub record FreeIsRoom (p : Pack) : Type 0 where
 abbrev pub FreeIsTheRoom : Type 0
 FreeIsTheRoom = (p : Pack) → Whole p → FreeIsRoom p
 
--- each of its sectors is in use exactly where it is good and not free, and available exactly where it is free
+-- each of its sectors is in use if and only if it is good and not free, and available if and only if it is free
 pub record SectorIsUsed (p : Pack) (at : ℕ) : Type 0 where
   pub in_use_is : in_use p.shape (sights p) (at, get_or (sights p) at hidden) ≡ (is_good (get_or (sights p) at hidden) && not (is_free_sight (get_or (sights p) at hidden)))
   pub available_is : is_available p.shape (sights p) (at, get_or (sights p) at hidden) ≡ is_free_sight (get_or (sights p) at hidden)

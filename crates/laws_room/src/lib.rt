@@ -1,5 +1,7 @@
 //! How many sectors are in use, free and needed, and which packs can be scavenged.
 //!
+//! Come here when you count sectors: whether a line has room before it writes, what is free after it, and whether a pack can be scavenged.
+//!
 //! The laws of counts: which sectors are available, how many a pack needs, and which record writes keep what a scavenge keeps.
 //!
 //! The laws of room: which packs the Scavenger takes, by the model that they are read as; the free sectors of whole packs; and how

@@ -2,7 +2,7 @@
 
 ghost use Rattle.laws_room.specs.RoomLaws.{EachSectorIsUsedOrFree, FreeIsTheRoom, FreeSectorsAreThoseFound, ScavengeableByModel, SoundNeedsNothing};
 
-/// Where sector 1 shows SysDir's leader and DiskDescriptor lives, a pack is scavengeable exactly where its model has room.
+/// Where sector 1 shows SysDir's leader and DiskDescriptor lives, a pack is scavengeable if and only if its model has room.
 pub fn scavengeable_by_model()
     ensures { ScavengeableByModel }
 {}
@@ -12,7 +12,7 @@ pub fn free_is_the_room()
     ensures { FreeIsTheRoom }
 {}
 
-/// Each sector of a whole pack is in use exactly where it is good and not free, and available exactly where it is free.
+/// Each sector of a whole pack is in use if and only if it is good and not free, and available if and only if it is free.
 pub fn each_sector_is_used_or_free()
     ensures { EachSectorIsUsedOrFree }
 {}

@@ -48,17 +48,17 @@ pub fn kept_worlds_have_a_memory()
     ensures { KeptWorldsHaveAMemory }
 {}
 
-/// So has the world of a session as it begins.
+/// The world of a session as it begins has the user's words and blocks that fill its zone.
 pub fn fresh_worlds_have_a_memory()
     ensures { FreshWorldsHaveAMemory }
 {}
 
-/// So has the world of a file that is one of a whole world, whatever message it finds.
+/// The world that a file of a whole world holds has the user's words and blocks that fill its zone, whatever message it finds.
 pub fn loaded_worlds_have_a_memory()
     ensures { LoadedWorldsHaveAMemory }
 {}
 
-/// So has the world after any line, where the world before it had.
+/// The world after any line has the user's words and blocks that fill its zone, where the world before it had.
 pub fn lines_leave_a_memory()
     ensures { LinesLeaveAMemory }
 {}

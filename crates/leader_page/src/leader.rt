@@ -59,7 +59,7 @@ impl Leader {
     ghost use Rattle.pack_model.specs.reading.Leaders.{leader_of};
     ghost use Rattle.pack_model.specs.operations.PageWords.{leader_value};
 
-    /// The leader that the value of a leader page says. None exactly where words 6 to 25 spell no stored name: the length byte
+    /// The leader that the value of a leader page says. None if and only if words 6 to 25 spell no stored name: the length byte
     /// isn't 2 to 39, or so many characters don't form one. Bytes after the name are ignored.
     pub fn decode(value: &[u16; 256]) -> Option<Leader>
         ensures { IsDecoded value.now result }
@@ -118,7 +118,7 @@ fn name_bytes(name: &Name) -> [u8; 40]
     bytes
 }
 
-/// The name that words 6 to 25 spell. None exactly where it isn't a stored name.
+/// The name that words 6 to 25 spell. None if and only if it isn't a stored name.
 fn read_name(value: &[u16; 256]) -> Option<Name>
     ensures { result ≡ cond (is_readable (leader_words value.now)) (Some (spelled_name (leader_words value.now))) None }
 {

@@ -2,7 +2,7 @@
 //!
 //! Below it stand alto_words, disk_records and the definitions of pack_model. A `Leader` is seen as the record of its fields; `said`
 //! is the leader that pack_model speaks of, with the hints apart. To the layers above:
-//! 1. `decode` answers a leader exactly where words 6 to 25 spell a stored name, and then the one that the value says for every
+//! 1. `decode` answers a leader if and only if words 6 to 25 spell a stored name, and then the one that the value says for every
 //!    full name (`IsDecoded`). It believes no hint and refuses none.
 //! 2. `of_file` answers that leader for a file, and where no stored name is spelled the one under its lost name (`leader_of` of
 //!    pack_model), so that who reads packs needs no places of words.

@@ -71,7 +71,7 @@ carried_of_names shape at s page h =
     ∙ (λ i. Some (record { fid = h.fid i; number = h.number i }))
 
 -- ---- on a pack
--- The sector at an address carries a page, by its label, exactly where what it shows carries it.
+-- The sector at an address carries a page, by its label, if and only if what it shows carries it.
 pub sight_carries : (p : Pack) (at : ℕ) (page : Page) (d : Sight) → at < length p.sectors → carried p at ≡ Some page → carries_page page.fid page.number (get_or (sights p) at d) ≡ true
 sight_carries p at page d l e =
     ap (carries_page page.fid page.number) (sights-get p at d l)

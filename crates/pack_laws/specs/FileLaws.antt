@@ -43,7 +43,7 @@ abbrev pub PlacesAreLowest : Type 0
 PlacesAreLowest = (p : Pack) (page : Page) → PlaceIsLowest p page
 
 -- ---- stored files
--- A stored file is there exactly where the file lives, and it is the file's leader and bytes.
+-- A stored file is there if and only if the file lives, and it is the file's leader and bytes.
 pub record IsStoredFile (p : Pack) (f : Fid) : Type 0 where
   pub living : is_some (get (stored_files p) f) ≡ lives (sights p) f
   pub stored : (l : Leader) → leader (sights p) f ≡ Some l → get (stored_files p) f ≡ Some (record { leader = l; bytes = file_bytes (sights p) f })

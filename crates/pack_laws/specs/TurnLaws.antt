@@ -34,8 +34,8 @@ CallsJoin {M} {O} T U E F means = (p : Pack) (a b : List Event) (wanted more : L
 
 -- A call that names its record writes, which make the moves that are wanted, may do a prefix of them at an error: then it
 -- has made a prefix of the moves, and each crash stands for a model on the way.
-abbrev pub FaultsLeaveAFirstPart : {M O : Type 0} → Type 0 → Type 0 → Meaning M O → Type 0
-FaultsLeaveAFirstPart {M} {O} T E means =
+abbrev pub FaultsLeaveAPrefix : {M O : Type 0} → Type 0 → Type 0 → Meaning M O → Type 0
+FaultsLeaveAPrefix {M} {O} T E means =
     (p : Pack) (writes events : List Event) (wanted : List O) (result : Result T E) → Obeys means (means.read p) p writes wanted → means.read (after p writes) ≡ steps means (means.read p) wanted → IsFirstOf writes events → OnOk result (events ≡ writes) → Does means p events wanted result
 
 -- ---- turns

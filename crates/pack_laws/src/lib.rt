@@ -1,7 +1,10 @@
 //! The laws of what packs mean: lemmas over pack_model by topic, in proofs/, and law functions.
 //!
-//! What single record
-//! writes leave of a pack stands in laws_record, which is built on this crate, so that a new law of theirs proves no program anew.
+//! Come here when you prove something of what a pack is read as, viewed as or carries, and no write is in question; and for the rules by
+//! which runs, histories and turns are put one after another.
+//!
+//! What single record writes leave of a pack stands in laws_record, which is built on this crate, so that a new law of theirs proves
+//! no program anew.
 //!
 //! A law function is public, has an empty body and one clause, the law; its lemma has the same name, and its statement has it in
 //! capitals. To cite a law: `use Rattle.pack_laws.proofs.files.Laws.{first_is_bears}`. Lemma files right in proofs/ are cited by

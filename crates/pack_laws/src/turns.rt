@@ -2,7 +2,7 @@
 //!
 //! They hold of any meaning of moves. `Puts` is one: a move puts bytes in a stored file.
 
-ghost use Rattle.pack_laws.specs.TurnLaws.{AcknowledgedAreDone, CallsAreTurns, CallsJoin, CutOfRun, CutOfTurns, FaultsLeaveAFirstPart, RulerLaws, RunBreaksOff, RunsJoin, TurnsAreShown, TurnsJoin, WritesAreMade};
+ghost use Rattle.pack_laws.specs.TurnLaws.{AcknowledgedAreDone, CallsAreTurns, CallsJoin, CutOfRun, CutOfTurns, FaultsLeaveAPrefix, RulerLaws, RunBreaksOff, RunsJoin, TurnsAreShown, TurnsJoin, WritesAreMade};
 ghost use Rattle.pack_model.specs.sessions.Moves.{Meaning};
 ghost use Rattle.pack_model.specs.operations.Puts.{Put, putting};
 ghost use Rattle.pack_model.specs.reading.Stored.{StoredFiles};
@@ -57,8 +57,8 @@ pub fn calls_join<X: Moves, T, U, E, F>()
 {}
 
 /// A call that names its record writes leaves, at every error and every cut, what a prefix of its moves makes.
-pub fn faults_leave_a_first_part<X: Moves, T, E>()
-    ensures { FaultsLeaveAFirstPart T E X.means }
+pub fn faults_leave_a_prefix<X: Moves, T, E>()
+    ensures { FaultsLeaveAPrefix T E X.means }
 {}
 
 /// Two runs of turns, the second from where the first ends, are one run.

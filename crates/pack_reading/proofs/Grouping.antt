@@ -38,8 +38,8 @@ module _ {groups : List Group} {homes : FinMap fid_cmp Home} {name : List ℕ} {
       subst (AreTaken homes name 1) begins behind.taken
 
   -- all of it are taken, too
-  pub behind_more : (group : Group) {suffix : Option ℕ} → count < length groups → suffix ≡ None → IsFirstFree homes name (get_or groups count group) suffix → AreBehind groups homes name (count + 1)
-  behind_more group more none here =
+  pub after_more : (group : Group) {suffix : Option ℕ} → count < length groups → suffix ≡ None → IsFirstFree homes name (get_or groups count group) suffix → AreBehind groups homes name (count + 1)
+  after_more group more none here =
       let stop : (get_or groups count group).end ≡ get_or (1 ∷ ends groups) (count + 1) 0 =
       sym (get_or-map (λ (g : Group). g.end) groups count group 0 more) ∙ sym (ap (λ n. get_or (1 ∷ ends groups) n 0) (add-one count)) in
       let all = (subst (IsFirstFree homes name (get_or groups count group)) none here).taken in

@@ -130,10 +130,10 @@ left_first pages es ordered = record { ordered = ordered; pages = all_left pages
 below_apart : (k f : Fid) → fid_cmp k f ≡ Less → is_fid f k ≡ false
 below_apart k f less = is_fid-sym f k ∙ ap is_eq less
 
-left_behind : (old now next : Pages) (k : Fid) (ks : List Fid) → KeepsOthers k now next → AllByRecursion (λ f. fid_cmp k f ≡ Less) ks
+left_after : (old now next : Pages) (k : Fid) (ks : List Fid) → KeepsOthers k now next → AllByRecursion (λ f. fid_cmp k f ≡ Less) ks
     → AllByRecursion (λ f. (n : ℕ) → page_kept now f n ≡ page_kept old f n) ks → AllByRecursion (λ f. (n : ℕ) → page_kept next f n ≡ page_kept old f n) ks
-left_behind old now next k [] others above left = tt
-left_behind old now next k (f ∷ ks) others above left = (λ n. others f (below_apart k f above.0) n ∙ left.0 n, left_behind old now next k ks others above.1 left.1)
+left_after old now next k [] others above left = tt
+left_after old now next k (f ∷ ks) others above left = (λ n. others f (below_apart k f above.0) n ∙ left.0 n, left_after old now next k ks others above.1 left.1)
 
 -- the bytes of the first are those that it had
 pub bytes_left : {X : Type 0} (old now : Pages) (e : Fid × X) (es : List (Fid × X)) → AreLeft old now (e ∷ es) → bytes_kept now e.0 ≡ bytes_kept old e.0
@@ -144,5 +144,5 @@ pub left_more : {X : Type 0} (old now next : Pages) (e : Fid × X) (es : List (F
 unfolding IsStrictlySortedBy
 left_more old now next e es left others = record {
   ordered = left.ordered.1;
-  pages = left_behind old now next e.0 (keys_of es) others left.ordered.0 left.pages.1;
+  pages = left_after old now next e.0 (keys_of es) others left.ordered.0 left.pages.1;
 }

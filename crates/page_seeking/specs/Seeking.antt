@@ -17,13 +17,11 @@ use Rattle.pack_model.specs.reading.Files.{file_bytes, place}
 use Rattle.pack_model.specs.hints.Handy.{Handy, HandyCache, last_at_word, last_number_word, leader_word}
 use Rattle.pack_model.specs.hints.Links.{LinksTrue}
 use Rattle.pack_model.specs.reading.Sights.{sights}
+pub use Rattle.pack_model.specs.operations.PageWords.{page_number}
 use Rattle.pack_model.specs.states.Whole.{Whole}
 use Rattle.page_seeking.specs.declared.ends.LastPage.{LastPage}
 
 -- ---- a page that was found
-abbrev pub page_number : Fid → ℕ → Page
-page_number f n = record { fid = f; number = n }
-
 -- On any disk: the sector is a usable one, and the buffer holds the page, of which the label's words were answered.
 pub record Seen (form : Shape) (page : Page) (at : ℕ) (info : PageInfo) (buffer : Sector) : Type 0 where
   pub first : 1 ≤ at

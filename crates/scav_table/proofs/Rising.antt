@@ -64,12 +64,12 @@ pub above_comes : (b : Option Row) (row : Row) (xs : List Row) → is_above b ro
 above_comes b row [] e = ap (λ t. cond t (row ∷ []) []) e
 above_comes b row (x ∷ xs) e = by_test (above_comes b row xs e) (is_below x row) refl
   where
-    behind_it : (t : Bool) → is_below x row ≡ true → above b (placed row xs) ≡ placed row (above b xs) → cond t (x ∷ above b (placed row xs)) (above b (placed row xs)) ≡ placed row (cond t (x ∷ above b xs) (above b xs))
-    behind_it true l ih = ap (λ m. x ∷ m) ih ∙ sym (ap (λ t. cond t (x ∷ placed row (above b xs)) (row ∷ x ∷ above b xs)) l)
-    behind_it false l ih = ih
+    after_it : (t : Bool) → is_below x row ≡ true → above b (placed row xs) ≡ placed row (above b xs) → cond t (x ∷ above b (placed row xs)) (above b (placed row xs)) ≡ placed row (cond t (x ∷ above b xs) (above b xs))
+    after_it true l ih = ap (λ m. x ∷ m) ih ∙ sym (ap (λ t. cond t (x ∷ placed row (above b xs)) (row ∷ x ∷ above b xs)) l)
+    after_it false l ih = ih
 
     by_test : above b (placed row xs) ≡ placed row (above b xs) → (t : Bool) → is_below x row ≡ t → above b (cond t (x ∷ placed row xs) (row ∷ x ∷ xs)) ≡ placed row (above b (x ∷ xs))
-    by_test ih true l = behind_it (is_above b x) l ih
+    by_test ih true l = after_it (is_above b x) l ih
     by_test ih false l =
         ap (λ t. cond t (row ∷ above b (x ∷ xs)) (above b (x ∷ xs))) e
         ∙ ap (λ m. row ∷ m) (ap (λ t. cond t (x ∷ above b xs) (above b xs)) (rises b row x e l))

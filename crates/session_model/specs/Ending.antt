@@ -150,7 +150,7 @@ IsPastRoot (not_clean mark) = Unit {0}
 -- A pack that isn't ready: the one text says why, or which hint misled on the way. Or a fault or out of memory came before either, and
 -- nothing is shown or written.
 pub data Unentered (old new : Taped) (stop : Stop) (u : Unready) : Type 0 where
-  told : ShowsWhy stop (unready_text u) (added old new) → Unentered old new stop u
+  reasoned : ShowsWhy stop (unready_text u) (added old new) → Unentered old new stop u
   misled : {place : Place} {at : ℕ} {wanted : Page} {found : Option (List ℕ)} → IsPastRoot u → HintFailing (pack old) [] system_files place at wanted found → ShowsWhy stop (hint_text place at wanted found) (added old new) → Unentered old new stop u
   stopped : CanStop stop → added old new ≡ [] → Unentered old new stop u
 

@@ -53,10 +53,10 @@ join_gap n (gap k ∷ bs) = gap (n + k) ∷ bs
 join_gap n (live words ∷ bs) = gap n ∷ live words ∷ bs
 
 -- adjacent free blocks as one
-abbrev pub joined : List Block → List Block
-joined [] = []
-joined (gap n ∷ bs) = join_gap n (joined bs)
-joined (live words ∷ bs) = live words ∷ joined bs
+abbrev pub joined_gaps : List Block → List Block
+joined_gaps [] = []
+joined_gaps (gap n ∷ bs) = join_gap n (joined_gaps bs)
+joined_gaps (live words ∷ bs) = live words ∷ joined_gaps bs
 
 -- the used block with this first usable word becomes free; none where no used block has it
 abbrev pub freed : ℕ → ℕ → List Block → Option (List Block)
@@ -66,7 +66,7 @@ freed at a (live words ∷ bs) = cond (a == at + 1) (Some (gap (block_size (live
 
 -- and is joined with free neighbours
 abbrev pub given_back : ℕ → ℕ → List Block → Option (List Block)
-given_back at a bs = option_map joined (freed at a bs)
+given_back at a bs = option_map joined_gaps (freed at a bs)
 
 -- ---- words of used blocks
 -- the usable word at this address, if it is one
@@ -84,7 +84,7 @@ zone_set at a w (live words ∷ bs) = cond (nat_lt at a && nat_lt a (at + block_
 -- ---- a zone that grows and shrinks at its end
 abbrev pub grown : ℕ → List Block → List Block
 grown zero zone = zone
-grown (suc n) zone = joined (zone ++ gap (suc n) ∷ [])
+grown (suc n) zone = joined_gaps (zone ++ gap (suc n) ∷ [])
 
 -- the first so many words of the zone; after them it has free words alone
 abbrev pub shrunk : ℕ → List Block → List Block

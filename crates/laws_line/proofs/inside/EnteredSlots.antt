@@ -9,10 +9,10 @@ use Rattle.pack_model.specs.reading.Slots.{Item, item_words}
 use Rattle.pack_model.specs.reading.Slots.Item.{entry, space}
 
 -- what is after a run are some of the slots
-behind_short : (n : ℕ) (is : List Item) (r : ℕ × List Item) → All IsShort is → run n is ≡ Some r → All IsShort r.1
-behind_short n [] r h e = absurd cc
-behind_short n (entry f name ∷ is) r h e = absurd cc
-behind_short n (space k ∷ is) r h e = by (nat_le n k) (run (n - k) is) refl e (λ q. behind_short (n - k) is q (All-tail IsShort (space k) is h))
+after_short : (n : ℕ) (is : List Item) (r : ℕ × List Item) → All IsShort is → run n is ≡ Some r → All IsShort r.1
+after_short n [] r h e = absurd cc
+after_short n (entry f name ∷ is) r h e = absurd cc
+after_short n (space k ∷ is) r h e = by (nat_le n k) (run (n - k) is) refl e (λ q. after_short (n - k) is q (All-tail IsShort (space k) is h))
   where
     by : (t : Bool) (o : Option (ℕ × List Item)) → run (n - k) is ≡ o → cond t (Some (k, is)) (option_map (λ r. (k + r.0, r.1)) o) ≡ Some r → ((q : ℕ × List Item) → run (n - k) is ≡ Some q → All IsShort q.1) → All IsShort r.1
     by true o o_is e again = let same : ◌≡◌ {A = ℕ × List Item} (k, is) r = cc in subst (λ r. All IsShort r.1) same (All-tail IsShort (space k) is h)
@@ -33,7 +33,7 @@ run_short i is js short h e = by (run (item_words i) is) refl e
     fits true r is_r t e =
         let same : i ∷ left_over (r.0 - item_words i) r.1 ≡ js = cc in
         let l = leb-true r.0 1023 t in
-        subst (All IsShort) same (All-cons IsShort i (left_over (r.0 - item_words i) r.1) short (left_short (r.0 - item_words i) r.1 (omega arith) (behind_short (item_words i) is r h is_r)))
+        subst (All IsShort) same (All-cons IsShort i (left_over (r.0 - item_words i) r.1) short (left_short (r.0 - item_words i) r.1 (omega arith) (after_short (item_words i) is r h is_r)))
 
     by : (o : Option (ℕ × List Item)) → run (item_words i) is ≡ o → in_run i o ≡ Some js → All IsShort js
     by None o_is e = absurd cc

@@ -8,7 +8,7 @@ use Rattle.alto_words.specs.declared.fid.Fid.{Fid}
 use Rattle.disk_records.specs.Packs.{Pack}
 use Rattle.laws_line.proofs.inside.Runs.{IsShort}
 use Rattle.laws_line.proofs.inside.SoundSettled.{kept_short, slots_short}
-use Rattle.laws_line.specs.BehindLaws.{DirectoriesAreRead, IsDirectory}
+use Rattle.laws_line.specs.AfterLaws.{DirectoriesAreRead, IsDirectory}
 use Rattle.pack_laws.proofs.Keys.{fid_same, fid_total}
 use Rattle.pack_model.specs.reading.Bodies.{Body, File, described, found, is_described}
 use Rattle.pack_model.specs.reading.Bodies.Body.{data_of, items_of}

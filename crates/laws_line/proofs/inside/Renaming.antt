@@ -32,21 +32,21 @@ module _ (m : Model) (d : Fid) (old : List ℕ) (to : Fid) (name : List ℕ) (f 
   left = step titled (leave d old)
 
   -- the entry after the front of the line
-  enters_behind : EntersIn d old f (dir_items (behind m to name s) d)
-  enters_behind = subst (λ n. EntersIn d old f (dir_items n d)) (sym (steps_both m (spare_widening m) (room_widening m to name)))
+  enters_after : EntersIn d old f (dir_items (behind m to name s) d)
+  enters_after = subst (λ n. EntersIn d old f (dir_items n d)) (sym (steps_both m (spare_widening m) (room_widening m to name)))
       (enters_page (steps_of m (spare_widening m)) d to old f (is_fid to sys_dir || nat_le (entry_length (length name)) (largest_run (dir_items m to)))
       (enters_page m d sys_dir old f (nat_le longest_entry (largest_run (root_items m))) (enters_in m d old f h)))
 
   -- after the title, and after the entry that goes, the file alone may have no name
-  titled_behind : Prepared m to name s rest → Spared titled f
-  titled_behind p = let enough = p.pages in spared_kept (behind m to name s) titled 0 f (keeps_step (behind m to name s) (title f name) short) (omega arith) (p.spared f)
+  titled_after : Prepared m to name s rest → Spared titled f
+  titled_after p = let enough = p.pages in spared_kept (behind m to name s) titled 0 f (keeps_step (behind m to name s) (title f name) short) (omega arith) (p.spared f)
 
-  pub left_behind : Prepared m to name s rest → Spared left f
-  left_behind p = left_spared titled d old f (enters_titled (behind m to name s) d f old name f enters_behind) (titled_behind p) ordinary
+  pub left_after : Prepared m to name s rest → Spared left f
+  left_after p = left_spared titled d old f (enters_titled (behind m to name s) d f old name f enters_after) (titled_after p) ordinary
 
   -- the title, the entry that goes, and the one that comes
   rename_rest : Prepared m to name s rest → ReadyThroughout (behind m to name s) rest
-  rename_rest p = (spared_ready (behind m to name s) f (p.spared f), (spared_ready titled f (titled_behind p), (spared_ready left f (left_behind p), entered_ready to f name short left (left_behind p))))
+  rename_rest p = (spared_ready (behind m to name s) f (p.spared f), (spared_ready titled f (titled_after p), (spared_ready left f (left_after p), entered_ready to f name short left (left_after p))))
 
 pub rename_leaves_room : RenameLeavesRoom
 rename_leaves_room m d old to name f s h short ordinary few = ready_line m to name s (title f name ∷ leave d old ∷ enter to name f ∷ []) few (rename_rest m d old to name f s h short ordinary)

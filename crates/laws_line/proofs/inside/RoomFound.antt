@@ -9,7 +9,7 @@ use Rattle.laws_line.proofs.inside.Coming.{body_enter, entering}
 use Rattle.laws_line.proofs.inside.Mentions.{mentions, mentions_own, named_there}
 use Rattle.laws_line.proofs.inside.Roomy.{Roomy, roomy_more, roomy_steps, roomy_widened}
 use Rattle.laws_line.proofs.inside.Runs.{placed_somewhere}
-use Rattle.laws_line.proofs.inside.Spared.{behind, front, leaves_front, page_leaves, run_behind}
+use Rattle.laws_line.proofs.inside.Spared.{behind, front, leaves_front, page_leaves, run_after}
 use Rattle.laws_line.proofs.inside.Throughout.{steps_both}
 use Rattle.laws_line.proofs.inside.Updates.{got_updated, named_updated, there_updated}
 use Rattle.laws_line.specs.Ready.{NamedBut, Settled, steps_of}
@@ -32,12 +32,12 @@ module _ (m : Model) (d : Fid) (name : List ℕ) (s : Settled m) (short : length
   with_page = roomy_widened 0 words (steps_of m (spare_widening m)) d (omega arith) (roomy_steps 0 m (spare_widening m) d (page_leaves m sys_dir (nat_le longest_entry (largest_run (root_items m)))) h)
 
   -- the words for the entry are free in a row after it
-  pub roomy_behind : Roomy words (behind m d name s) d
-  roomy_behind = by (is_fid d sys_dir) refl (nat_le words (largest_run (dir_items m d))) refl
+  pub roomy_after : Roomy words (behind m d name s) d
+  roomy_after = by (is_fid d sys_dir) refl (nat_le words (largest_run (dir_items m d))) refl
     where
       by : (b : Bool) → is_fid d sys_dir ≡ b → (c : Bool) → nat_le words (largest_run (dir_items m d)) ≡ c → Roomy words (behind m d name s) d
       by true e c k =
-          let r = run_behind m d name s in
+          let r = run_after m d name s in
           let same = ap (λ q. largest_run (dir_items (behind m d name s) q)) (same_fid d sys_dir e) in
           roomy_more 0 words (behind m d name s) d (roomy_steps 0 m (front m d name s) d (leaves_front m d name s) h) (omega arith)
       by false e true k = roomy_steps words m (front m d name s) d (leaves_front m d name s) (roomy_more 0 words m d h (leb-true words (largest_run (dir_items m d)) k))

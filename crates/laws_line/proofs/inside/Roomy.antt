@@ -8,10 +8,10 @@ use Rattle.alto_words.specs.Fid.{is_fid}
 use Rattle.alto_words.specs.Names.{is_same_name}
 use Rattle.alto_words.specs.declared.fid.Fid.{Fid}
 use Rattle.laws_line.proofs.inside.Coming.{slots_enter}
-use Rattle.laws_line.proofs.inside.FreeWords.{MoreFree, more_behind, row_behind, row_widened}
+use Rattle.laws_line.proofs.inside.FreeWords.{MoreFree, more_after, row_behind, row_widened}
 use Rattle.laws_line.proofs.inside.Runs.{IsShort}
 use Rattle.laws_line.proofs.inside.Updates.{got_updated}
-use Rattle.laws_line.specs.BehindLaws.{IsDirectory, RootIsDirectory}
+use Rattle.laws_line.specs.AfterLaws.{IsDirectory, RootIsDirectory}
 use Rattle.laws_line.specs.LineLaws.{LeaveNames, LeavesNames}
 use Rattle.laws_line.specs.Ready.{steps_of}
 use Rattle.pack_laws.proofs.Keys.{fid_total, is_fid-itself, same_fid}
@@ -116,12 +116,12 @@ short_left name (entry f own ∷ is) h = by (is_same_name own name) (short_left 
 
 free_left : (name : List ℕ) (is : List Item) → MoreFree is (items_left name is)
 free_left name [] = record { front = omega arith; row = omega arith }
-free_left name (space n ∷ is) = more_behind (space n ∷ []) is (items_left name is) (free_left name is)
+free_left name (space n ∷ is) = more_after (space n ∷ []) is (items_left name is) (free_left name is)
 free_left name (entry f own ∷ is) = by (is_same_name own name) (free_left name is)
   where
     by : (b : Bool) → MoreFree is (items_left name is) → MoreFree (entry f own ∷ is) (cond b (space (item_words (entry f own)) ∷ is) (entry f own ∷ items_left name is))
     by true again = record { front = omega arith; row = omega arith }
-    by false again = more_behind (entry f own ∷ []) is (items_left name is) again
+    by false again = more_after (entry f own ∷ []) is (items_left name is) again
 
 -- ---- operations
 -- those that leave names as they are

@@ -6,8 +6,8 @@ use Rattle.alto_words.specs.Fid.{sys_dir}
 use Rattle.alto_words.specs.declared.fid.Fid.{Fid}
 use Rattle.laws_line.proofs.inside.Dropped.{drop_leaves_room, got_other, named_still, now, root_other, short_kept, stays}
 use Rattle.laws_line.proofs.inside.Roomy.{Roomy, Slotted, slotted_by}
-use Rattle.laws_line.proofs.inside.SettledAgain.{behind_line}
-use Rattle.laws_line.specs.BehindLaws.{SettledAfterDrop}
+use Rattle.laws_line.proofs.inside.SettledAgain.{after_line}
+use Rattle.laws_line.specs.AfterLaws.{SettledAfterDrop}
 use Rattle.laws_line.specs.LineLaws.{MayGo}
 use Rattle.laws_line.specs.Ready.{Settled}
 use Rattle.pack_model.specs.reading.Bodies.{File}
@@ -38,5 +38,5 @@ module _ (m : Model) (f : Fid) (s : Settled m) (h : MayGo m f) where
   root_there = ap is_some (got_other m f s h sys_dir (root_other m f s h) ∙ ap (option_map (file_without f sys_dir)) s.root.2)
 
 pub settled_after_drop : SettledAfterDrop
-settled_after_drop m f s h = behind_line m (drop_file f ∷ []) (step m (drop_file f)) refl s (drop_leaves_room m f s h) (λ g there. all_named m f s h g (get (now m f s h) g) refl there)
+settled_after_drop m f s h = after_line m (drop_file f ∷ []) (step m (drop_file f)) refl s (drop_leaves_room m f s h) (λ g there. all_named m f s h g (get (now m f s h) g) refl there)
     (λ d there k. directory m f s h d k (get (now m f s h) d) refl there) (root_there m f s h)

@@ -5,14 +5,14 @@ use Rattle.std.specs.FinMap.{contains_key, get, get-insert}
 use Rattle.std.specs.Option.{is_some}
 use Rattle.alto_words.specs.Fid.{is_directory, sys_dir}
 use Rattle.alto_words.specs.declared.fid.Fid.{Fid}
-use Rattle.laws_line.proofs.inside.NewFile.{entered, fresh_behind, leaves_entered, made, made_behind, new_file_leaves_room}
-use Rattle.laws_line.proofs.inside.RoomFound.{all_named, roomy_behind}
+use Rattle.laws_line.proofs.inside.NewFile.{entered, fresh_after, leaves_entered, made, made_after, new_file_leaves_room}
+use Rattle.laws_line.proofs.inside.RoomFound.{all_named, roomy_after}
 use Rattle.laws_line.proofs.inside.Roomy.{Roomy, directory_roomy, roomy_directory, roomy_enter, roomy_make, roomy_steps, root_is_directory}
 use Rattle.laws_line.proofs.inside.Runs.{IsShort}
-use Rattle.laws_line.proofs.inside.SettledAgain.{behind_line}
+use Rattle.laws_line.proofs.inside.SettledAgain.{after_line}
 use Rattle.laws_line.proofs.inside.Spared.{behind, front, keeps_all, leaves_front, prepared_line}
 use Rattle.laws_line.proofs.inside.Throughout.{steps_both}
-use Rattle.laws_line.specs.BehindLaws.{IsDirectory, NewDirectory, SettledAfterNewFile}
+use Rattle.laws_line.specs.AfterLaws.{IsDirectory, NewDirectory, SettledAfterNewFile}
 use Rattle.laws_line.specs.LineLaws.{LeaveNames, new_file_line}
 use Rattle.laws_line.specs.Ready.{Settled, steps_of}
 use Rattle.pack_laws.proofs.Keys.{fid_total, is_fid-itself}
@@ -44,7 +44,7 @@ module _ (m : Model) (d : Fid) (name : List ℕ) (f : Fid) (moment : ℕ) (rest 
   module _ (leaves : LeaveNames new_entered rest) where
     -- a directory stays one
     made_directory : (k : ℕ) (e : Fid) → Roomy k (behind m d name s) e → Roomy k new_made e
-    made_directory k e = roomy_make k (behind m d name s) f name moment e (fresh_behind m d name f moment rest s short fresh)
+    made_directory k e = roomy_make k (behind m d name s) f name moment e (fresh_after m d name f moment rest s short fresh)
 
     last_directory : (e : Fid) → Roomy 0 new_made e → Roomy 0 last e
     last_directory e h = roomy_steps 0 new_entered rest e leaves (roomy_enter new_made d name f e short h)
@@ -56,8 +56,8 @@ module _ (m : Model) (d : Fid) (name : List ℕ) (f : Fid) (moment : ℕ) (rest 
     named : Roomy 0 m d → pages_for_operations m (new_file_line m d name f moment rest) ≤ room m → (g : Fid) → contains_key last.files g ≡ true → IsNamed last g
     named h few g there =
         let k = keeps_all new_entered rest leaves in
-        let but = (made_behind m d name f moment rest s short fresh (prepared_line m d name s line few)).named in
-        k.named g (all_named new_made d name f short (made_directory (entry_length (length name)) d (roomy_behind m d name s short h)) but g (sym (k.there g) ∙ there))
+        let but = (made_after m d name f moment rest s short fresh (prepared_line m d name s line few)).named in
+        k.named g (all_named new_made d name f short (made_directory (entry_length (length name)) d (roomy_after m d name s short h)) but g (sym (k.there g) ∙ there))
 
   -- a directory that is made has a free slot of 255 words
   new_slots : is_directory f ≡ true → Roomy 0 new_made f
@@ -74,15 +74,15 @@ module _ (m : Model) (d : Fid) (name : List ℕ) (f : Fid) (moment : ℕ) (rest 
   }
 
 pub settled_after_new_file : SettledAfterNewFile
-settled_after_new_file m d name f moment rest s dir short fresh behind_leaves few =
-    let leaves = leaves_entered m d name f moment rest s short fresh behind_leaves in
-    behind_line m (new_file_line m d name f moment rest) (last m d name f moment rest s short fresh) (last_is m d name f moment rest s short fresh) s
-    (new_file_leaves_room m d name f moment rest s short fresh behind_leaves few) (named m d name f moment rest s short fresh leaves (directory_roomy m d dir) few)
+settled_after_new_file m d name f moment rest s dir short fresh after_leaves few =
+    let leaves = leaves_entered m d name f moment rest s short fresh after_leaves in
+    after_line m (new_file_line m d name f moment rest) (last m d name f moment rest s short fresh) (last_is m d name f moment rest s short fresh) s
+    (new_file_leaves_room m d name f moment rest s short fresh after_leaves few) (named m d name f moment rest s short fresh leaves (directory_roomy m d dir) few)
     (λ e there h. stays m d name f moment rest s short fresh leaves e h)
     (ap is_some (stays m d name f moment rest s short fresh leaves sys_dir (directory_roomy m sys_dir (root_is_directory m s))).there)
 
 pub new_directory : NewDirectory
-new_directory m d name f moment rest s kind short fresh behind_leaves =
+new_directory m d name f moment rest s kind short fresh after_leaves =
     subst (λ n. IsDirectory n f) (sym (last_is m d name f moment rest s short fresh))
     (roomy_directory 0 (last m d name f moment rest s short fresh) f
-    (last_directory m d name f moment rest s short fresh (leaves_entered m d name f moment rest s short fresh behind_leaves) f (new_slots m d name f moment rest s short fresh kind)))
+    (last_directory m d name f moment rest s short fresh (leaves_entered m d name f moment rest s short fresh after_leaves) f (new_slots m d name f moment rest s short fresh kind)))

@@ -4,13 +4,13 @@ use Rattle.std.specs.FinMap.{contains_key}
 use Rattle.std.specs.Option.{is_some}
 use Rattle.alto_words.specs.Fid.{is_system, sys_dir}
 use Rattle.alto_words.specs.declared.fid.Fid.{Fid}
-use Rattle.laws_line.proofs.inside.Renaming.{left, left_behind, rename_leaves_room, rest, titled}
-use Rattle.laws_line.proofs.inside.RoomFound.{all_named, roomy_behind}
+use Rattle.laws_line.proofs.inside.Renaming.{left, left_after, rename_leaves_room, rest, titled}
+use Rattle.laws_line.proofs.inside.RoomFound.{all_named, roomy_after}
 use Rattle.laws_line.proofs.inside.Roomy.{Roomy, directory_roomy, roomy_enter, roomy_leave, roomy_step, roomy_steps, root_is_directory}
-use Rattle.laws_line.proofs.inside.SettledAgain.{behind_line}
+use Rattle.laws_line.proofs.inside.SettledAgain.{after_line}
 use Rattle.laws_line.proofs.inside.Spared.{behind, front, leaves_front, prepared_line}
 use Rattle.laws_line.proofs.inside.Throughout.{steps_both}
-use Rattle.laws_line.specs.BehindLaws.{SettledAfterRename}
+use Rattle.laws_line.specs.AfterLaws.{SettledAfterRename}
 use Rattle.laws_line.specs.LineLaws.{IsEntered, rename_line}
 use Rattle.laws_line.specs.Ready.{Settled, steps_of}
 use Rattle.pack_model.specs.operations.Committing.{pages_for_operations}
@@ -40,12 +40,12 @@ module _ (m : Model) (d : Fid) (old : List ℕ) (to : Fid) (name : List ℕ) (f 
   -- every file has a name
   named : Roomy 0 m to → pages_for_operations m (rename_line m d old to name f) ≤ room m → (g : Fid) → contains_key last.files g ≡ true → IsNamed last g
   named r few =
-      let but = (left_behind m d old to name f s h short ordinary (prepared_line m to name s (rest m d old to name f s h short ordinary) few)).named in
-      all_named before to name f short (left_directory (entry_length (length name)) to (roomy_behind m to name s short r)) but
+      let but = (left_after m d old to name f s h short ordinary (prepared_line m to name s (rest m d old to name f s h short ordinary) few)).named in
+      all_named before to name f short (left_directory (entry_length (length name)) to (roomy_after m to name s short r)) but
 
 pub settled_after_rename : SettledAfterRename
 settled_after_rename m d old to name f s dir h short ordinary few =
-    behind_line m (rename_line m d old to name f) (last m d old to name f s h short ordinary) (last_is m d old to name f s h short ordinary) s
+    after_line m (rename_line m d old to name f) (last m d old to name f s h short ordinary) (last_is m d old to name f s h short ordinary) s
     (rename_leaves_room m d old to name f s h short ordinary few) (named m d old to name f s h short ordinary (directory_roomy m to dir) few)
     (λ e there r. stays m d old to name f s h short ordinary e r)
     (ap is_some (stays m d old to name f s h short ordinary sys_dir (directory_roomy m sys_dir (root_is_directory m s))).there)

@@ -79,12 +79,12 @@ module _ (m : Model) (d : Fid) (name : List ℕ) (s : Settled m) where
   keeps_front = keeps_all m front leaves_front
 
   -- no file comes or goes
-  pub there_behind : (q : Fid) → contains_key behind.files q ≡ contains_key m.files q
-  there_behind q = keeps_front.there q
+  pub there_after : (q : Fid) → contains_key behind.files q ≡ contains_key m.files q
+  there_after q = keeps_front.there q
 
   -- SysDir keeps its run
-  pub run_behind : longest_entry ≤ largest_run (root_items behind)
-  run_behind =
+  pub run_after : longest_entry ≤ largest_run (root_items behind)
+  run_after =
       let r = (keeps_all (steps_of m (spare_widening m)) (room_widening m d name) leaves_second).row in
       let h = run_there m s in
       let e = ap (λ n. largest_run (root_items n)) (steps_both m (spare_widening m) (room_widening m d name)) in
@@ -100,7 +100,7 @@ module _ (m : Model) (d : Fid) (name : List ℕ) (s : Settled m) where
     spared = λ f. record {
       fitting = fitting_kept m behind (pages_for_operations m front) keeps_front s.fitting (omega arith);
       named = named_kept m behind (pages_for_operations m front) f keeps_front (record { main = s.main; descriptor = s.descriptor; others = λ g there other. s.all g there });
-      run = run_behind;
+      run = run_after;
     };
     pages = pages_kept m behind (pages_for_operations m front) (pages_for_operations behind rest) keeps_front p;
   }

@@ -21,7 +21,7 @@ use Rattle.laws_record.proofs.Copying.{place_carried}
 use Rattle.laws_record.proofs.DirWords.{dir_change}
 use Rattle.laws_record.proofs.Heads.{all_read}
 use Rattle.laws_record.proofs.Slotting.{slots_reads}
-use Rattle.laws_record.proofs.Slotwise.{put_before, put_behind, slots_freed}
+use Rattle.laws_record.proofs.Slotwise.{put_before, put_after, slots_freed}
 use Rattle.laws_record.proofs.SystemEntries.{left_split, left_words}
 use Rattle.laws_operation.proofs.Concerning.{end_is, entered_slots, entered_words_apart, events_are, widened_words}
 use Rattle.laws_operation.proofs.enter.Laws.{enter_carries_out}
@@ -46,7 +46,7 @@ freeing_replaces_slots p d at a old b h =
       are = ap slots c.words_are ∙ slots_freed (dir_words p d) a old b h.slots_are h.some (omega arith);
       size = inr (omega arith);
       before = λ k l. ap (λ ws. word ws k) c.words_are ∙ put_before (all_words a) new (dir_words p d) k h.write.within l;
-      later = λ k l m. ap (λ ws. word ws k) c.words_are ∙ put_behind (all_words a) new (dir_words p d) k h.write.within (omega arith);
+      later = λ k l m. ap (λ ws. word ws k) c.words_are ∙ put_after (all_words a) new (dir_words p d) k h.write.within (omega arith);
     }
 
 pub leave_replaces_slots : LeaveReplacesSlots

@@ -28,7 +28,7 @@ use Rattle.laws_line.specs.CutLaws.{with_serial}
 use Rattle.laws_line.specs.LineLaws.{LeaveNames, with_new_file}
 use Rattle.laws_line.specs.SoundLines.{IsLine}
 use Rattle.laws_line.specs.SoundLines.IsLine.{comes}
-use Rattle.laws_line.proofs.behind.Laws.{directories_are_read}
+use Rattle.laws_line.proofs.after.Laws.{directories_are_read}
 use Rattle.laws_met.specs.Peopled.{entering, making}
 use Rattle.laws_met.proofs.inside.Lines.{is_in_model, items_of_words, may_enter_made, not_in_model, plain_line}
 use Rattle.laws_met.proofs.inside.Operating.{Done, LineDone, Stands, done_make, done_more, entered, made, stands_after, stands_numbered}

@@ -9,7 +9,7 @@ use Rattle.pack_model.specs.reading.Model.{dir_items, read_as}
 use Rattle.laws_operation.specs.DirectoryWords.{CanEnter, HasEntry, left_in}
 use Rattle.laws_line.specs.SoundLines.{IsLine}
 use Rattle.laws_line.specs.SoundLines.IsLine.{renamed}
-use Rattle.laws_line.proofs.behind.Laws.{directories_are_read}
+use Rattle.laws_line.proofs.after.Laws.{directories_are_read}
 use Rattle.laws_met.specs.Peopled.{dir_d, entering, file_a, leaving, left, name_a, name_c, peopled, retitled, room_c, titling}
 use Rattle.laws_met.specs.Premises.{LineRuns, found_c, renaming_events, renaming_line, system_items}
 use Rattle.laws_met.proofs.inside.Changing.{items_then}

@@ -11,7 +11,7 @@ use Rattle.pack_model.specs.reading.Slots.Item.{space}
 use Rattle.laws_operation.specs.DirectoryWords.{CanEnter, left_in}
 use Rattle.laws_line.specs.SoundLines.{IsLine}
 use Rattle.laws_line.specs.SoundLines.IsLine.{renamed}
-use Rattle.laws_line.proofs.behind.Laws.{directories_are_read}
+use Rattle.laws_line.proofs.after.Laws.{directories_are_read}
 use Rattle.laws_met.specs.Peopled.{dir_d, entering, file_b, leaving, left_b, name_b, name_e, peopled, retitled_b, room_e, titling}
 use Rattle.laws_met.specs.Premises.{LineRuns, found_b, inner_renaming_events, inner_renaming_line}
 use Rattle.laws_met.proofs.inside.FactsE.{items_free, leader_b, left_facts_b, left_inner_b, names_fit_e, retitled_inner_b, retitled_page_b}

@@ -18,7 +18,7 @@ use Rattle.pack_model.specs.showing.View.{view}
 use Rattle.pack_model.specs.states.Whole.{SaysShape, Tidy, Whole}
 use Rattle.pack_laws.proofs.Bytes.{length-put_at}
 use Rattle.laws_record.proofs.Describing.{view_files}
-use Rattle.laws_record.proofs.Slotwise.{put_before, put_behind, put_here}
+use Rattle.laws_record.proofs.Slotwise.{put_before, put_after, put_here}
 use Rattle.laws_operation.proofs.FirstWords.{kept_sound, words_read, words_written}
 use Rattle.laws_operation.specs.DescriptorLaws.{KeepsSound, OpenCarriesOut, Opens, SerialCarriesOut}
 
@@ -31,7 +31,7 @@ says_still shape words word_at new low high long s =
       cylinders = put_before word_at new words 1 fits (omega arith) ∙ s.cylinders;
       heads = put_before word_at new words 2 fits (omega arith) ∙ s.heads;
       sectors = put_before word_at new words 3 fits (omega arith) ∙ s.sectors;
-      table = put_behind word_at new words 8 fits (omega arith) ∙ s.table;
+      table = put_after word_at new words 8 fits (omega arith) ∙ s.table;
     }
 
 -- the last serial is words 4 and 5, which are there
@@ -95,5 +95,5 @@ serial_carries_out p at last w t sector more =
       obeys = write refl tt (rest (ap view reads ∙ view_files (record (read_as p) { last = last }) (read_as p) refl));
       reads = reads;
       keeps = kept_sound p w t at 4 new h (says_still p.shape words 4 new (omega arith) (omega arith) long w.descriptor_fits.says) (omega (arith, more, last_is));
-      mark = ap (λ ws. word ws 6) h.words ∙ put_behind 4 new words 6 fits (omega arith);
+      mark = ap (λ ws. word ws 6) h.words ∙ put_after 4 new words 6 fits (omega arith);
     }

@@ -7,7 +7,7 @@ use Rattle.pack_model.specs.operations.Rooms.{find_room, in_run, items_entered, 
 use Rattle.pack_model.specs.reading.Slots.{Item, all_words, item_words}
 use Rattle.pack_model.specs.reading.Slots.Item.{entry, space}
 use Rattle.laws_record.proofs.Roomy.{run_enough}
-use Rattle.laws_operation.proofs.inside.Rooming.{FailsAll, placed_past, room_behind, room_past, shorter_run}
+use Rattle.laws_operation.proofs.inside.Rooming.{FailsAll, placed_past, room_after, room_past, shorter_run}
 use Rattle.laws_operation.specs.NameLaws.{IsRoom}
 
 module _ (n total : ℕ) (old b : List Item) (run_is : run n (old ++ b) ≡ Some (total, b)) (enough : n ≤ total) where
@@ -47,7 +47,7 @@ module _ (n total : ℕ) (old b : List Item) (run_is : run n (old ++ b) ≡ Some
 -- ---- where the entry goes
 -- earlier starts fail
 pub room_fails : (n : ℕ) (is a old b : List Item) → IsRoom n is a old b → FailsAll n a (old ++ b)
-room_fails n is a old b h = (room_behind n 0 0 a (old ++ b) (record { first = length a; place = all_words a; total = all_words old }) (ap (find_room n) (sym h.split) ∙ h.found) (let z : length a ≡ 0 + length a = omega arith in z)).0
+room_fails n is a old b h = (room_after n 0 0 a (old ++ b) (record { first = length a; place = all_words a; total = all_words old }) (ap (find_room n) (sym h.split) ∙ h.found) (let z : length a ≡ 0 + length a = omega arith in z)).0
 
 -- a room has the words that are asked for
 pub enough_words : (n : ℕ) (is a old b : List Item) → IsRoom n is a old b → n ≤ all_words old

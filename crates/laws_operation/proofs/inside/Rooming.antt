@@ -67,9 +67,9 @@ FailsAll n [] tail = Unit {0}
 FailsAll n (i ∷ a) tail = Fails n (i ∷ (a ++ tail)) × FailsAll n a tail
 
 -- the first room stands after starts that fail
-pub room_behind : (n first place : ℕ) (a tail : List Item) (r : Room) → room_from n first place (a ++ tail) ≡ Some r → r.first ≡ first + length a → FailsAll n a tail × (room_from n (first + length a) (place + all_words a) tail ≡ Some r)
-room_behind n first place [] tail r e at = (tt, (let x : first + 0 ≡ first = omega arith in let y : place + 0 ≡ place = omega arith in (λ i. room_from n (x i) (y i) tail) ∙ e))
-room_behind n first place (j ∷ a) tail r e at = by (run n (j ∷ (a ++ tail))) refl e (λ e. room_behind n (suc first) (place + item_words j) a tail r e (omega (arith, at)))
+pub room_after : (n first place : ℕ) (a tail : List Item) (r : Room) → room_from n first place (a ++ tail) ≡ Some r → r.first ≡ first + length a → FailsAll n a tail × (room_from n (first + length a) (place + all_words a) tail ≡ Some r)
+room_after n first place [] tail r e at = (tt, (let x : first + 0 ≡ first = omega arith in let y : place + 0 ≡ place = omega arith in (λ i. room_from n (x i) (y i) tail) ∙ e))
+room_after n first place (j ∷ a) tail r e at = by (run n (j ∷ (a ++ tail))) refl e (λ e. room_after n (suc first) (place + item_words j) a tail r e (omega (arith, at)))
   where
     later : FailsAll n a tail × (room_from n (suc first + length a) (place + item_words j + all_words a) tail ≡ Some r) → Fails n (j ∷ (a ++ tail)) → FailsAll n (j ∷ a) tail × (room_from n (first + length (j ∷ a)) (place + all_words (j ∷ a)) tail ≡ Some r)
     later h fails =

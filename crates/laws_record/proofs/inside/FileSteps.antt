@@ -77,8 +77,8 @@ cut_is_the_step p at n f label o bears names low fits =
 
 -- ---- more bytes
 -- bytes after others are what is left when these are dropped
-behind_are : (a b all : List ℕ) → all ≡ a ++ b → a ++ drop (length a) all ≡ all
-behind_are a b all e = ap (λ x. a ++ drop (length a) x) e ∙ ap (λ x. a ++ x) (drop_at a b (length a) refl) ∙ sym e
+after_are : (a b all : List ℕ) → all ≡ a ++ b → a ++ drop (length a) all ≡ all
+after_are a b all e = ap (λ x. a ++ drop (length a) x) e ∙ ap (λ x. a ++ x) (drop_at a b (length a) refl) ∙ sym e
 
 -- a page that begins as before, and what comes after it
 page_more : (front old new rest : List ℕ) → take (length old) new ≡ old → (x : List ℕ) × (front ++ continue (Some new) rest ≡ (front ++ old) ++ x)
@@ -135,4 +135,4 @@ grow_is_the_step p at f label o bears names more =
     let now : file_bytes (sights q) f ≡ file_bytes ss f ++ grown.0 = subst (λ us. file_bytes us f ≡ file_bytes ss f ++ grown.0) (sym shown) grown.1 in
     bytes_step p q f (file_bytes (sights q) f)
     (page_change p q f n at new (file_bytes (sights q) f) h refl shown (ap (λ us. file_bytes us f) (sym shown)))
-    o (λ bytes. bytes ++ more_bytes p q f) (behind_are (file_bytes ss f) grown.0 (file_bytes (sights q) f) now)
+    o (λ bytes. bytes ++ more_bytes p q f) (after_are (file_bytes ss f) grown.0 (file_bytes (sights q) f) now)

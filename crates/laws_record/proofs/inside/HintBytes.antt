@@ -24,7 +24,7 @@ use Rattle.laws_record.proofs.inside.Hinting.{each_alike, place_alike, sights_si
 use Rattle.pack_laws.proofs.Keys.{is_fid-itself}
 use Rattle.pack_laws.proofs.Placing.{leader_of_place, no_page, one_page, page_of_place, short_pages}
 use Rattle.pack_laws.proofs.Sighted.{length-sights, shows_page, sights-get}
-use Rattle.laws_record.proofs.Unseen.{tag_behind}
+use Rattle.laws_record.proofs.Unseen.{tag_after}
 use Rattle.laws_record.specs.HintLaws.{HintsMeanNothing}
 
 -- ---- where the bytes of a file may differ
@@ -66,7 +66,7 @@ module _ (p q : Pack) (h : SameButHints p q) where
       let m : at < length q.sectors = omega (arith, h.sectors) in
       let x = shows_page p.shape at (sector_at p at) f n a (sym (sights-get p at hidden l) ∙ was) in
       let y = shows_page q.shape at (sector_at q at) f n b (sym (sights-get q at hidden m) ∙ now) in
-      let count : (tag (sector_at q at).label).bytes ≡ (tag (sector_at p at).label).bytes = ap (λ t. t.bytes) (tag_behind (sector_at p at).label (sector_at q at).label (h.labels at)) in
+      let count : (tag (sector_at q at).label).bytes ≡ (tag (sector_at p at).label).bytes = ap (λ t. t.bytes) (tag_after (sector_at p at).label (sector_at q at).label (h.labels at)) in
       let c : ℕ = (tag (sector_at p at).label).bytes in
       let vp : List ℕ = bytes_of (sector_at p at).value in
       let vq : List ℕ = bytes_of (sector_at q at).value in
@@ -166,6 +166,6 @@ module _ (p q : Pack) (h : SameButHints p q) where
     words = map_words;
   }
 
--- Packs that differ in hints alone are read the same, and one is sound or clean exactly where the other is.
+-- Packs that differ in hints alone are read the same, and one is sound or clean if and only if the other is.
 pub hints_mean_nothing : HintsMeanNothing
 hints_mean_nothing p q h = means_alike p q h.shape (hints_alike p q h)

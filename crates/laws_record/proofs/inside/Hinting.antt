@@ -20,7 +20,7 @@ use Rattle.laws_record.proofs.inside.Alike.{OneAlike, carry_alike, place_all}
 use Rattle.pack_laws.proofs.Bytes.{length-bytes_of}
 use Rattle.pack_laws.proofs.Placing.{data_page_of_place}
 use Rattle.pack_laws.proofs.Sighted.{length-sights, sights-get}
-use Rattle.laws_record.proofs.Unseen.{hints_same, tag_behind}
+use Rattle.laws_record.proofs.Unseen.{hints_same, tag_after}
 
 -- ---- one sector
 -- two sights that differ in a value alone
@@ -79,7 +79,7 @@ module _ (p q : Pack) (h : SameButHints p q) where
         let now : get_or (sights q) at hidden ≡ sight q.shape at t = sights-get q at hidden (omega (arith, h.sectors)) in
         let g : Tag = tag s.label in
         let same : sight q.shape at t ≡ cond (is_usable p.shape at s) (cond (in_range g) (page_sight g.fid g.page g.bytes t.value) (cond (is_free g) free stray)) hidden =
-        (λ i. cond (nat_lt 0 at && is_right_header (h.shape i) at (h.headers at i)) (tag_sight (tag_behind s.label t.label (h.labels at) i) t.value) hidden) in
+        (λ i. cond (nat_lt 0 at && is_right_header (h.shape i) at (h.headers at i)) (tag_sight (tag_after s.label t.label (h.labels at) i) t.value) hidden) in
         let both = one_by (is_usable p.shape at s) (in_range g) (is_free g) g.fid g.page g.bytes s.value t.value (h.sizes at) (λ x l e. leader_words_same at g.fid x l (was ∙ e)) in
         subst (λ a. OneAlike a (get_or (sights q) at hidden)) (sym was) (subst (OneAlike (sight p.shape at s)) (sym (now ∙ same)) both))
     | inr past ↦ inl (get_or_past (sights q) at hidden (let n = length-sights q in omega (arith, h.sectors)) ∙ sym (get_or_past (sights p) at hidden (let n = length-sights p in omega arith)))

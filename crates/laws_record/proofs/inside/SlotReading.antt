@@ -5,7 +5,7 @@ use Rattle.std.proofs.lemmas.List.{get_or_append_left, take-append-le}
 use Rattle.pack_model.specs.reading.Slots.{Item, and_then, item_words, slot_at, slot_of, slots}
 use Rattle.laws_record.proofs.Heads.{all_read, head_of, head_reads, reads_all, slots_none, slots_some}
 use Rattle.laws_record.proofs.Slotting.{slots_reads}
-use Rattle.laws_record.specs.SlotLaws.{LengthIsRead, MoreBehind, NotYet, OneByOne, ReadsOn, ReadsToTheEnd}
+use Rattle.laws_record.specs.SlotLaws.{LengthIsRead, MoreAfter, NotYet, OneByOne, ReadsOn, ReadsToTheEnd}
 
 -- ---- how far words are slots
 pub length_is_read : LengthIsRead
@@ -15,8 +15,8 @@ pub reads_to_the_end : ReadsToTheEnd
 reads_to_the_end = λ words. (λ reads. (all_read words (slots words) reads).1, λ all. reads_all (slots words) words refl all)
 
 -- ---- with more words after them
-pub more_behind : MoreBehind
-more_behind = λ words more i e.
+pub more_after : MoreAfter
+more_after = λ words more i e.
     let h = head_of words i e in
     let some = h.some in
     let within = h.within in
@@ -30,8 +30,8 @@ more_behind = λ words more i e.
     })
 
 -- a slot within the first words is there without the others
-fewer_behind : (words more : List ℕ) (i : Item) → slot_at (words ++ more) ≡ Some i → item_words i ≤ length words → slot_at words ≡ Some i
-fewer_behind words more i e within =
+fewer_after : (words more : List ℕ) (i : Item) → slot_at (words ++ more) ≡ Some i → item_words i ≤ length words → slot_at words ≡ Some i
+fewer_after words more i e within =
     let h = head_of (words ++ more) i e in
     let some = h.some in
     head_reads words i (record {
@@ -45,7 +45,7 @@ fewer_behind words more i e within =
 pub not_yet : NotYet
 not_yet = λ words more i none some. elim (cases_lt (length words) (item_words i)) [
   | inl longer ↦ longer
-  | inr within ↦ absurd (let clash : None ≡ Some i = sym none ∙ fewer_behind words more i some within in cc)
+  | inr within ↦ absurd (let clash : None ≡ Some i = sym none ∙ fewer_after words more i some within in cc)
 ]
 
 -- ---- one after another

@@ -65,13 +65,13 @@ module _ (p q : Pack) (is js : List Item) (t : RootTurns p q is js) where
   before_is = refl
 
   -- of the second the files are
-  behind_is : (mended q.shape (sights q)).files ≡ behind.files
+  after_is : (mended q.shape (sights q)).files ≡ behind.files
   unfolding mended
-  behind_is = t.now
+  after_is = t.now
 
   -- what is lacking then
   pub lacks : lacking (mended q.shape (sights q)) ≡ lacking behind
-  lacks = lacking_files (mended q.shape (sights q)) behind behind_is
+  lacks = lacking_files (mended q.shape (sights q)) behind after_is
 
   -- SysDir before, in the model
   pub root_was : get (mended p.shape (sights p)).files sys_dir ≡ Some (directory zeros is)
@@ -80,14 +80,14 @@ module _ (p q : Pack) (is js : List Item) (t : RootTurns p q is js) where
 
   -- and then
   pub root_now : get (mended q.shape (sights q)).files sys_dir ≡ Some (directory zeros js)
-  root_now = ap (λ files. get files sys_dir) behind_is ∙ get-insert fid_total (mended_files (sights p)) sys_dir (directory zeros js) sys_dir ∙ ap (λ b. cond b (Some (directory zeros js)) (get (mended_files (sights p)) sys_dir)) (is_fid-itself sys_dir)
+  root_now = ap (λ files. get files sys_dir) after_is ∙ get-insert fid_total (mended_files (sights p)) sys_dir (directory zeros js) sys_dir ∙ ap (λ b. cond b (Some (directory zeros js)) (get (mended_files (sights p)) sys_dir)) (is_fid-itself sys_dir)
 
   -- from these models to the packs
   pub turn_keeps : settle (view behind) ≡ settle (view before) → needs behind ≡ needs before → KeepsWithRoot p q
   turn_keeps shown need =
       needs_keep p q t.shape t.good
-      (needs_files (mended q.shape (sights q)) behind behind_is ∙ need ∙ ap needs (sym before_is))
-      (ap settle (sym (mended_view q.shape (sights q)) ∙ view_files (mended q.shape (sights q)) behind behind_is)
+      (needs_files (mended q.shape (sights q)) behind after_is ∙ need ∙ ap needs (sym before_is))
+      (ap settle (sym (mended_view q.shape (sights q)) ∙ view_files (mended q.shape (sights q)) behind after_is)
       ∙ shown ∙ ap settle (ap view (sym before_is) ∙ mended_view p.shape (sights p)))
 
   -- slots with the same entries: the same is viewed and lacking

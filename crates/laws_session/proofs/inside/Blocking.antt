@@ -4,7 +4,7 @@ use Rattle.std.proofs.Math.Nat.{add-div_right, mul-div_cancel}
 use Rattle.std.proofs.lemmas.Bool.{leb-true}
 use Rattle.std.proofs.lemmas.List.{length-replicate, length-set}
 use Rattle.std.specs.Prelude.{nat_le, nat_lt}
-use Rattle.world_model.specs.Zones.{Block, Taken, gap, live, freed, join_gap, joined, left_before, size_for, taken, taken_after, taken_here, zone_set}
+use Rattle.world_model.specs.Zones.{Block, Taken, gap, live, freed, join_gap, joined_gaps, left_before, size_for, taken, taken_after, taken_here, zone_set}
 use Rattle.std.specs.Option.{option_map}
 use Rattle.world_model.specs.ZoneWords.{tag_size, zone_start}
 use Rattle.laws_session.specs.ZoneLaws.{AreJoined, CanStand, EachCanStand, FillZone, GivenBackFillsTheZone, TakenFillsTheZone, WordFillsTheZone, zone_size}
@@ -117,11 +117,11 @@ gap_joins n (gap k ∷ bs) can each j =
     }
 gap_joins n (live words ∷ bs) can each j = record { stand = record { each = (can, each); size_is = refl }; joined = (refl, j) }
 
-pub joined_stay : (zone : List Block) → EachCanStand zone → Stay false (zone_size zone) (joined zone)
+pub joined_stay : (zone : List Block) → EachCanStand zone → Stay false (zone_size zone) (joined_gaps zone)
 joined_stay [] each = record { stand = record { each = tt; size_is = refl }; joined = tt }
 joined_stay (gap n ∷ bs) each =
     let rest = joined_stay bs each.1 in
-    let all = gap_joins n (joined bs) each.0 rest.stand.each rest.joined in
+    let all = gap_joins n (joined_gaps bs) each.0 rest.stand.each rest.joined in
     record { stand = record { each = all.stand.each; size_is = all.stand.size_is ∙ ap (λ k. n + k) rest.stand.size_is }; joined = all.joined }
 joined_stay (live words ∷ bs) each =
     let rest = joined_stay bs each.1 in
@@ -130,7 +130,7 @@ joined_stay (live words ∷ bs) each =
 pub given_back_fills_the_zone : GivenBackFillsTheZone
 given_back_fills_the_zone top at zone left h is =
     fills top zone left h (subst (OfSome (Stay false (zone_size zone))) is
-    (of_map (Stand (zone_size zone)) (Stay false (zone_size zone)) joined (freed zone_start at zone)
+    (of_map (Stand (zone_size zone)) (Stay false (zone_size zone)) joined_gaps (freed zone_start at zone)
     (λ r s. let stay = joined_stay r s.each in record { stand = record { each = stay.stand.each; size_is = stay.stand.size_is ∙ s.size_is }; joined = stay.joined })
     (freed_stand zone_start at zone h.each)))
 

@@ -34,8 +34,8 @@ use Rattle.laws_lookup.proofs.names.Laws.{new_name_is_absent_in_the_model}
 use Rattle.laws_lookup.specs.EnteringLaws.{IsEnterable}
 use Rattle.laws_lookup.specs.NewNameLaws.{CanBeWanted}
 use Rattle.laws_room.proofs.FreeRoom.{root_lives}
-use Rattle.laws_line.proofs.behind.Laws.{directories_are_read}
-use Rattle.laws_line.specs.BehindLaws.{IsDirectory}
+use Rattle.laws_line.proofs.after.Laws.{directories_are_read}
+use Rattle.laws_line.specs.AfterLaws.{IsDirectory}
 use Rattle.laws_line.specs.LineLaws.{IsEntered, LeaveNames, new_file_line, with_new_file}
 use Rattle.laws_line.specs.SoundLines.{IsLine, comes, renamed}
 use Rattle.exec_words.specs.declared.line.Line.{Line}

@@ -13,7 +13,7 @@ use Rattle.pack_model.specs.reading.Slots.{Item, entry_length}
 use Rattle.pack_model.specs.reading.Slots.Item.{space}
 use Rattle.pack_laws.proofs.Keys.{fid_same, fid_total, is_fid-itself, same_fid}
 use Rattle.pack_laws.proofs.Mapping.{get-update}
-use Rattle.laws_line.specs.BehindLaws.{IsDirectory}
+use Rattle.laws_line.specs.AfterLaws.{IsDirectory}
 use Rattle.laws_line.specs.Ready.{steps_of}
 use Rattle.session_model.specs.Effects.{widenings}
 

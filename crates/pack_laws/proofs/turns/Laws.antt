@@ -4,7 +4,7 @@ use Rattle.pack_laws.proofs.Moving.{does_first, obeys_cut, obeys_first, obeys_th
 use Rattle.pack_laws.proofs.inside.Ruling.{ruler_next, ruler_rises, ruler_shown, ruler_start, ruler_whole, ruler_wrote, talks_makes}
 use Rattle.pack_laws.proofs.Talking.{talks_acknowledged, talks_cut, talks_join, talks_model, talks_shown, talks_writes}
 use Rattle.pack_laws.proofs.TurnCalls.{turn_broken, turn_cut, turn_whole}
-use Rattle.pack_laws.specs.TurnLaws.{AcknowledgedAreDone, CallsAreTurns, CallsJoin, CutOfRun, CutOfTurns, FaultsLeaveAFirstPart, RulerLaws, RunBreaksOff, RunsJoin, TurnsAreShown, TurnsJoin, WritesAreMade}
+use Rattle.pack_laws.specs.TurnLaws.{AcknowledgedAreDone, CallsAreTurns, CallsJoin, CutOfRun, CutOfTurns, FaultsLeaveAPrefix, RulerLaws, RunBreaksOff, RunsJoin, TurnsAreShown, TurnsJoin, WritesAreMade}
 use Rattle.pack_model.specs.sessions.Moves.{Meaning}
 
 pub runs_join : {M O : Type 0} (means : Meaning M O) → RunsJoin means
@@ -19,8 +19,8 @@ run_breaks_off means = λ m p writes events moves obeys first. let l = obeys_fir
 pub calls_join : {M O : Type 0} (T U E F : Type 0) (means : Meaning M O) → CallsJoin T U E F means
 calls_join T U E F means = λ p a b wanted more x result first next. then_does means first next
 
-pub faults_leave_a_first_part : {M O : Type 0} (T E : Type 0) (means : Meaning M O) → FaultsLeaveAFirstPart T E means
-faults_leave_a_first_part T E means = λ p writes events wanted result all ends first ok. does_first means events result all ends first ok
+pub faults_leave_a_prefix : {M O : Type 0} (T E : Type 0) (means : Meaning M O) → FaultsLeaveAPrefix T E means
+faults_leave_a_prefix T E means = λ p writes events wanted result all ends first ok. does_first means events result all ends first ok
 
 pub turns_join : {M O : Type 0} (means : Meaning M O) → TurnsJoin means
 turns_join means = λ m n l p a b turns more first next. talks_join means first next

@@ -28,8 +28,8 @@ abbrev pub joining : Pack → EntryRoom → List (ℕ × List ℕ)
 joining p r = cond (r.first_words == r.total) [] ((r.at, freed_value r.place r.total (sector_at p r.at).value) ∷ [])
 
 -- the pack with it
-abbrev pub joined : Pack → EntryRoom → Pack
-joined p r = after p (values_writes (joining p r))
+abbrev pub after_joining : Pack → EntryRoom → Pack
+after_joining p r = after p (values_writes (joining p r))
 
 -- the value of the next page, where the words lie over the page's end
 abbrev pub overlapping : Pack → ℕ → List ℕ → ℕ → List (ℕ × List ℕ)
@@ -37,7 +37,7 @@ overlapping p place words next_at = cond (page_of_word (place + length words - 1
 
 -- the values before the one that commits
 abbrev pub values_first : Pack → EntryRoom → List ℕ → List (ℕ × List ℕ)
-values_first p r words = joining p r ++ overlapping (joined p r) r.place words r.next_at
+values_first p r words = joining p r ++ overlapping (after_joining p r) r.place words r.next_at
 
 -- the value that commits, on the pack with all of these: the words in the room's own page
 abbrev pub entry_value : Pack → EntryRoom → List ℕ → List ℕ

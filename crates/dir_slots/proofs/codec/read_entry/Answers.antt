@@ -4,7 +4,7 @@ use Rattle.std.proofs.lemmas.Bool.{both_ways, and_from, and_parts, eqb-true}
 use Rattle.std.proofs.lemmas.Option.{none-some}
 use Rattle.dir_slots.specs.Inside.{name_of}
 use Rattle.dir_slots.specs.Items.{item_of}
-use Rattle.dir_slots.proofs.Words.{name_behind}
+use Rattle.dir_slots.proofs.Words.{name_after}
 use Rattle.dir_slots.proofs.Entries.{entry_of-short, entry_of-none, entry_of-some, same_size, named_stored}
 use Rattle.dir_slots.proofs.codec.read_entry.Goals as goal
 
@@ -21,11 +21,11 @@ returns-then-not-is_full_name-clause-item c =
 
 pub returns-in_err-name-clause-item : goal.returns-in_err-name-clause-item
 returns-in_err-name-clause-item c =
-    ap (option_map item_of) c.from_residual.ensures ∙ sym (entry_of-none c.args.words.now (λ parts. none-some _ (c.in_err-name.ensures ∙ ap name_of (name_behind c.args.words.now) ∙ parts.named)))
+    ap (option_map item_of) c.from_residual.ensures ∙ sym (entry_of-none c.args.words.now (λ parts. none-some _ (c.in_err-name.ensures ∙ ap name_of (name_after c.args.words.now) ∙ parts.named)))
 
 pub returns-then-entry_words-words-clause-item : goal.returns-then-entry_words-words-clause-item
 returns-then-entry_words-words-clause-item c =
-    sym (entry_of-none c.args.words.now (λ parts. c.if-entry_words-words.true (c.entry_words.ensures.words ∙ same_size c.args.words.now _ (sym (c.in_ok-name.ensures ∙ ap name_of (name_behind c.args.words.now))) parts)))
+    sym (entry_of-none c.args.words.now (λ parts. c.if-entry_words-words.true (c.entry_words.ensures.words ∙ same_size c.args.words.now _ (sym (c.in_ok-name.ensures ∙ ap name_of (name_after c.args.words.now))) parts)))
 
 pub returns-clause-item : goal.returns-clause-item
 returns-clause-item c =
@@ -33,10 +33,10 @@ returns-clause-item c =
     sym (entry_of-some c.args.words.now c.in_ok-name.name (record {
       first = eqb-true _ _ same.0;
       size = sym c.if-entry_words-words.false ∙ c.entry_words.ensures.words;
-      named = sym (c.in_ok-name.ensures ∙ ap name_of (name_behind c.args.words.now));
+      named = sym (c.in_ok-name.ensures ∙ ap name_of (name_after c.args.words.now));
       zero = eqb-true _ _ same.1;
       full = sym c.is_full_name.ensures ∙ c.if-not-is_full_name.false;
     }))
 
 pub returns-clause-stored : goal.returns-clause-stored
-returns-clause-stored c = named_stored c.args.words.now c.in_ok-name.name (sym (c.in_ok-name.ensures ∙ ap name_of (name_behind c.args.words.now)))
+returns-clause-stored c = named_stored c.args.words.now c.in_ok-name.name (sym (c.in_ok-name.ensures ∙ ap name_of (name_after c.args.words.now)))

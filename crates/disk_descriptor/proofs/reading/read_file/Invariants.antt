@@ -3,7 +3,7 @@ use Rattle.disk_records.specs.Tapes.{Looks, pack}
 use Rattle.pack_model.specs.reading.Sights.{sights}
 use Rattle.pack_model.specs.states.Sentences.{EachOnce}
 use Rattle.page_seeking.specs.Seeking.{KeepsHandy}
-use Rattle.disk_descriptor.specs.Kept.{AreSectors}
+use Rattle.disk_descriptor.specs.Fields.{AreSectors}
 use Rattle.disk_descriptor.proofs.PagesRead.{ReadTo}
 use Rattle.disk_descriptor.proofs.reading.read_file.Given as goal
 

@@ -23,10 +23,10 @@ use Rattle.laws_operation.specs.DescriptorLaws.{Opens}
 use Rattle.laws_room.proofs.rooms.Laws.{free_is_the_room, sound_needs_nothing}
 use Rattle.laws_line.proofs.inside.Lining.{crashes_of_an_unmarked_line}
 use Rattle.laws_line.proofs.inside.Marked.{open_pack_is_unmarked, opened_unmarked}
-use Rattle.laws_line.proofs.inside.SettledAgain.{first_part_ready}
+use Rattle.laws_line.proofs.inside.SettledAgain.{prefix_ready}
 use Rattle.laws_line.proofs.inside.SoundSettled.{sound_is_settled}
 use Rattle.laws_line.proofs.inside.crashes.Parting.{crashes_of_parts, operations_are_in_session, viewed_and_mendable_in_session, viewed_and_mendable_operates}
-use Rattle.laws_line.proofs.inside.crashes.SoundLining.{line_behind}
+use Rattle.laws_line.proofs.inside.crashes.SoundLining.{line_after}
 use Rattle.laws_line.specs.CutLaws.{Batch, LineStays}
 use Rattle.laws_line.specs.PartLaws.{MovesOfALineSplit}
 use Rattle.laws_line.specs.Ready.{ReadyThroughout, steps_of}
@@ -97,9 +97,9 @@ opened p at events ops o others sound placed line = by (mark_of (sights p) == ma
 pub part_of_a_line_on_a_sound_pack : PartOfALineOnASoundPack
 part_of_a_line_on_a_sound_pack p at events ops more sound placed some is few line =
     let free = (free_is_the_room p sound.whole).room_is in
-    let behind = line_behind (read_as p) (ops ++ more) (sound_is_settled p sound) is (omega arith) in
+    let behind = line_after (read_as p) (ops ++ more) (sound_is_settled p sound) is (omega arith) in
     let h = by (ops ++ more) some in
-    let cuts = h.cuts (first_part_ready (read_as p) ops more behind.ready) in
+    let cuts = h.cuts (prefix_ready (read_as p) ops more behind.ready) in
     record {
       cuts = cuts;
       operating = viewed_and_mendable_operates (read_as p) p _ _ h.obeys cuts;

@@ -10,7 +10,7 @@ use Rattle.disk_records.specs.Packs.{Pack, after, sector_at}
 use Rattle.pack_model.specs.reading.Bytes.{put_at}
 use Rattle.pack_model.specs.operations.Commands.{values_writes}
 use Rattle.pack_model.specs.operations.Committing.{page_of_word}
-use Rattle.pack_model.specs.operations.Entering.{entry_value, joined, joining, overlapping, values_first}
+use Rattle.pack_model.specs.operations.Entering.{entry_value, after_joining, joining, overlapping, values_first}
 use Rattle.pack_model.specs.reading.Files.{place}
 use Rattle.pack_model.specs.hints.Links.{dir_words}
 use Rattle.pack_model.specs.reading.Model.{read_as}
@@ -97,7 +97,7 @@ module _ (p : Pack) (w : Whole p) (t : Tidy p) (d : Fid) (name : List ℕ) (f : 
   pub enter_ready : Ready (read_as p) → Ready (step (read_as p) (enter d name f)) → Throughout ReadsReady p (enter_writes (values_first p (entry_room a old at next_at) words) at (entry_value p (entry_room a old at next_at) words))
   enter_ready first last =
       let x : List (ℕ × List ℕ) = joining p (entry_room a old at next_at) in
-      let q : Pack = joined p (entry_room a old at next_at) in
+      let q : Pack = after_joining p (entry_room a old at next_at) in
       let y : List (ℕ × List ℕ) = overlapping q (all_words a) words next_at in
       let twice : after q (values_writes y) ≡ after p (values_writes (x ++ y)) = sym (after-append p (values_writes x) (values_writes y)) ∙ ap (after p) (sym (values-append x y)) in
       let value1 : List ℕ = put_at (in_page (all_words a)) (near (all_words a) words) (sector_at (after q (values_writes y)) at).value in

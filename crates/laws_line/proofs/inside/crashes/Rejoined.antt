@@ -53,12 +53,12 @@ module _ (d : Fid) where
     run_joined (i ∷ a) = let h = run_joined a in let e = free_joined (i ∷ a) in omega (arith, h, e)
 
 -- slots after others
-all_behind : (P : Item → Type 0) (old b : List Item) → All P (old ++ b) → All P b
-all_behind P [] b h = h
-all_behind P (i ∷ old) b h = all_behind P old b (All-tail P i (old ++ b) h)
+all_after : (P : Item → Type 0) (old b : List Item) → All P (old ++ b) → All P b
+all_after P [] b h = h
+all_after P (i ∷ old) b h = all_after P old b (All-tail P i (old ++ b) h)
 
 all_joined : (P : Item → Type 0) (a old b : List Item) (n : ℕ) → P (space n) → All P (a ++ (old ++ b)) → All P (a ++ space n ∷ b)
-all_joined P [] old b n s h = All-cons P (space n) b s (all_behind P old b h)
+all_joined P [] old b n s h = All-cons P (space n) b s (all_after P old b h)
 all_joined P (i ∷ a) old b n s h = All-cons P i (a ++ space n ∷ b) (All-head P i (a ++ (old ++ b)) h) (all_joined P a old b n s (All-tail P i (a ++ (old ++ b)) h))
 
 -- ---- the model

@@ -26,7 +26,7 @@ use Rattle.laws_line.proofs.inside.SettledDrop.{settled_after_drop}
 use Rattle.laws_line.proofs.inside.SettledNewFile.{settled_after_new_file}
 use Rattle.laws_line.proofs.inside.SettledRename.{settled_after_rename}
 use Rattle.laws_line.proofs.inside.SoundSettled.{sound_is_settled}
-use Rattle.laws_line.specs.BehindLaws.{SettledBehind}
+use Rattle.laws_line.specs.AfterLaws.{SettledAfter}
 use Rattle.laws_line.specs.Ready.{Settled, steps_of}
 use Rattle.laws_line.proofs.inside.Lining.{crashes_of_a_line}
 use Rattle.laws_line.proofs.inside.crashes.Parting.{viewed_and_mendable_in_session, viewed_and_mendable_operates}
@@ -36,11 +36,11 @@ use Rattle.laws_room.proofs.rooms.Laws.{free_is_the_room}
 
 -- ---- the model
 -- each kind of line keeps a settled model ready where there is room for the pages that it adds, and leaves a settled one
-pub line_behind : (m : Model) (ops : List Operation) → Settled m → IsLine m ops → pages_for_operations m ops ≤ room m → SettledBehind m ops
-line_behind m _ s (changes ops leave) few = settled_after_changes m ops s leave few
-line_behind m _ s (goes f may) few = settled_after_drop m f s may
-line_behind m _ s (comes d name f moment rest dir short new leave) few = settled_after_new_file m d name f moment rest s dir short new leave few
-line_behind m _ s (renamed d old to name f dir entered short other) few = settled_after_rename m d old to name f s dir entered short other few
+pub line_after : (m : Model) (ops : List Operation) → Settled m → IsLine m ops → pages_for_operations m ops ≤ room m → SettledAfter m ops
+line_after m _ s (changes ops leave) few = settled_after_changes m ops s leave few
+line_after m _ s (goes f may) few = settled_after_drop m f s may
+line_after m _ s (comes d name f moment rest dir short new leave) few = settled_after_new_file m d name f moment rest s dir short new leave few
+line_after m _ s (renamed d old to name f dir entered short other) few = settled_after_rename m d old to name f s dir entered short other few
 
 -- ---- the pack
 -- a living file but DiskDescriptor is one of the model
@@ -62,8 +62,8 @@ living_read shape ss f other alive = same _ _ (get-seen (lives ss) (described ss
     by (Some l) e = refl
 
 -- what the line leaves is sound where its last model is settled
-sound_behind : (p : Pack) (events : List Event) (ops : List Operation) {moves : List Move} → LineStays p events ops moves → Settled (steps_of (read_as p) ops) → Sound (after p events)
-sound_behind p events ops h settled = record { whole = h.whole; tidy = h.tidy; named = λ f alive. by f alive (is_fid f disk_descriptor) refl }
+sound_after : (p : Pack) (events : List Event) (ops : List Operation) {moves : List Move} → LineStays p events ops moves → Settled (steps_of (read_as p) ops) → Sound (after p events)
+sound_after p events ops h settled = record { whole = h.whole; tidy = h.tidy; named = λ f alive. by f alive (is_fid f disk_descriptor) refl }
   where
     q : Pack
     q = after p events
@@ -80,7 +80,7 @@ pub crashes_of_a_line_on_a_sound_pack : CrashesOfALineOnASoundPack
 crashes_of_a_line_on_a_sound_pack p at events ops sound placed some is few line =
     let h = crashes_of_a_line p at events ops sound placed some line in
     let free = (free_is_the_room p sound.whole).room_is in
-    let behind = line_behind (read_as p) ops (sound_is_settled p sound) is (omega arith) in
+    let behind = line_after (read_as p) ops (sound_is_settled p sound) is (omega arith) in
     let cuts = h.cuts behind.ready in
     record {
       cuts = cuts;
@@ -88,5 +88,5 @@ crashes_of_a_line_on_a_sound_pack p at events ops sound placed some is few line 
       session = viewed_and_mendable_in_session (read_as p) p _ _ h.obeys cuts;
       reads = h.reads;
       unmarked = h.unmarked;
-      sound = sound_behind p _ ops h behind.behind;
+      sound = sound_after p _ ops h behind.behind;
     }

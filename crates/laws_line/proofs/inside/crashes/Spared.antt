@@ -13,7 +13,7 @@ use Rattle.disk_records.specs.declared.records.Page.{Page}
 use Rattle.pack_model.specs.reading.Bytes.{bytes_of, put_at}
 use Rattle.pack_model.specs.operations.Commands.{Claim, Claimable, claims_writes, releases_writes, values_writes}
 use Rattle.pack_model.specs.operations.Committing.{page_of_byte, page_of_word}
-use Rattle.pack_model.specs.operations.Entering.{EntryRoom, entry_value, joined, joining, overlapping}
+use Rattle.pack_model.specs.operations.Entering.{EntryRoom, entry_value, after_joining, joining, overlapping}
 use Rattle.pack_model.specs.reading.Files.{file_bytes, place}
 use Rattle.pack_model.specs.reading.Model.{good_one}
 use Rattle.pack_model.specs.operations.Operations.{release_file_writes}
@@ -120,13 +120,13 @@ pub enter_leaves_the_system : EnterLeavesTheSystem
 enter_leaves_the_system p d name f a old b left words at next_at w h =
     let r : EntryRoom = entry_room a old at next_at in
     let x : List (ℕ × List ℕ) = joining p r in
-    let y : List (ℕ × List ℕ) = overlapping (joined p r) (all_words a) words next_at in
+    let y : List (ℕ × List ℕ) = overlapping (after_joining p r) (all_words a) words next_at in
     let last : List ℕ = entry_value p r words in
     All-append (LeavesSystemAt p) (values_writes (x ++ y)) (value_writes at last)
     (subst (LeavesSystem p) (sym (values-append x y))
     (All-append (LeavesSystemAt p) (values_writes x) (values_writes y)
     (first (r.first_words == r.total) (freed_value r.place r.total (sector_at p at).value))
-    (second (page_of_word (all_words a + length words - 1) == page_of_word (all_words a)) refl (put_at 0 (later (all_words a) words) (sector_at (joined p r) next_at).value))))
+    (second (page_of_word (all_words a + length words - 1) == page_of_word (all_words a)) refl (put_at 0 (later (all_words a) words) (sector_at (after_joining p r) next_at).value))))
     (here last)
   where
     here : (value : List ℕ) → LeavesSystem p (value_writes at value)

@@ -21,7 +21,7 @@ use Rattle.pack_model.specs.sessions.Meanings.{reading}
 use Rattle.laws_record.proofs.Addressing.{LooseIn}
 use Rattle.laws_record.proofs.Copying.{place_carried}
 use Rattle.laws_record.proofs.DirWords.{dir_change}
-use Rattle.laws_record.proofs.Slotwise.{one_word, put_before, put_behind, slots_freed}
+use Rattle.laws_record.proofs.Slotwise.{one_word, put_before, put_after, slots_freed}
 use Rattle.laws_record.specs.DirLaws.{Frees, dir_written}
 use Rattle.laws_operation.proofs.EnterLaw.{items_are}
 use Rattle.laws_operation.proofs.EnterStages.{join_stage, loose_stage}
@@ -77,7 +77,7 @@ module _ (p : Pack) (d : Fid) (at : ℕ) (a old b : List Item) (fr : Frees p d a
       let size : all_words (space (all_words old) ∷ []) ≡ all_words mid = omega (arith, same) in
       subst (λ ws. AllTrue (sights p) ws 0 (a ++ space (all_words old) ∷ b)) (sym freed_words)
       (true_replaced (sights p) (dir_words p d) (put_at (all_words a) new (dir_words p d)) a mid (space (all_words old) ∷ []) b
-      (λ k l. put_before (all_words a) new (dir_words p d) k fr.write.within l) (λ k l. put_behind (all_words a) new (dir_words p d) k fr.write.within (omega arith)) size (tt, tt) was)
+      (λ k l. put_before (all_words a) new (dir_words p d) k fr.write.within l) (λ k l. put_after (all_words a) new (dir_words p d) k fr.write.within (omega arith)) size (tt, tt) was)
 
   module _ (wp : Whole p) (wq : Whole (dir_written p (all_words a) at (all_words old ∷ []))) (tq : Tidy (dir_written p (all_words a) at (all_words old ∷ []))) where
     -- the slots that are read
@@ -145,7 +145,7 @@ loose_words_keep_links p d w at new a b n wp t h slots_are low high links =
     let was : AllTrue (sights p) (dir_words p d) 0 is = subst (AllTrue (sights p) (dir_words p d) 0) items (dirs_true p links.entries d h.lives h.directory) in
     let size : all_words (space n ∷ []) ≡ n = omega arith in
     let now : AllTrue (sights p) (put_at w new (dir_words p d)) 0 is =
-    true_replaced (sights p) (dir_words p d) (put_at w new (dir_words p d)) a (space n ∷ []) (space n ∷ []) b (λ k l. put_before w new (dir_words p d) k h.within (omega arith)) (λ k l. put_behind w new (dir_words p d) k h.within (omega arith)) refl (tt, tt) was in
+    true_replaced (sights p) (dir_words p d) (put_at w new (dir_words p d)) a (space n ∷ []) (space n ∷ []) b (λ k l. put_before w new (dir_words p d) k h.within (omega arith)) (λ k l. put_after w new (dir_words p d) k h.within (omega arith)) refl (tt, tt) was in
     let items_now : dir_items (read_as q) d ≡ is = ap (λ m. dir_items m d) st.read ∙ items in
     dir_values vs p d wp st.whole of (λ g ne live dir. ap (λ m. dir_items m g) st.read)
     (subst (λ ws. AllTrue (sights p) ws 0 (dir_items (read_as q) d)) (sym words) (subst (AllTrue (sights p) (put_at w new (dir_words p d)) 0) (sym items_now) now)) links

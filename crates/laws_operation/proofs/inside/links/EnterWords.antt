@@ -15,7 +15,7 @@ use Rattle.pack_model.specs.operations.PageWords.{freed_value, in_page, later, n
 use Rattle.pack_model.specs.reading.Sights.{sights}
 use Rattle.pack_laws.proofs.Bytes.{length-put_at}
 use Rattle.laws_record.proofs.DirWords.{dir_change}
-use Rattle.laws_record.proofs.Slotwise.{put_before, put_behind, put_here}
+use Rattle.laws_record.proofs.Slotwise.{put_before, put_after, put_here}
 use Rattle.laws_record.specs.DirLaws.{DirWrite, dir_written}
 use Rattle.laws_operation.proofs.Entering.{sector_still}
 
@@ -61,7 +61,7 @@ module _ (p : Pack) (d : Fid) (begin total : ℕ) (words : List ℕ) (at next_at
         };
         apart = record {
           before = λ k l. ap (λ ws. word ws k) c.words_are ∙ put_before w new (dir_words p d) k h.within (omega arith);
-          behind = λ k l. ap (λ ws. word ws k) c.words_are ∙ put_behind w new (dir_words p d) k h.within (omega arith);
+          behind = λ k l. ap (λ ws. word ws k) c.words_are ∙ put_after w new (dir_words p d) k h.within (omega arith);
         };
       }
 
@@ -149,6 +149,6 @@ module _ (p : Pack) (d : Fid) (begin total : ℕ) (words : List ℕ) (at next_at
           one_stage begin at new h (omega arith) (omega arith),
           λ j l. ap (λ ws. word ws (begin + j)) c.words_are ∙ elim (cases_lt j (length new)) [
             | inl less ↦ put_here begin new (dir_words p d) j h.within less ∙ get_or-take (256 - in_page begin) words j 0 (omega arith)
-            | inr past ↦ put_behind begin new (dir_words p d) (begin + j) h.within (omega arith) ∙ stands j past l
+            | inr past ↦ put_after begin new (dir_words p d) (begin + j) h.within (omega arith) ∙ stands j past l
           ],
         )

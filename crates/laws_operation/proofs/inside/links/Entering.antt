@@ -11,7 +11,7 @@ use Rattle.pack_model.specs.reading.Bodies.Body.{data_of, items_of}
 use Rattle.pack_model.specs.reading.Bytes.{put_at}
 use Rattle.pack_model.specs.operations.Commands.{values_writes}
 use Rattle.pack_model.specs.operations.Committing.{page_of_word}
-use Rattle.pack_model.specs.operations.Entering.{EntryRoom, entry_value, joined, joining, overlapping, values_first}
+use Rattle.pack_model.specs.operations.Entering.{EntryRoom, entry_value, after_joining, joining, overlapping, values_first}
 use Rattle.pack_model.specs.reading.Files.{file_bytes, place}
 use Rattle.pack_model.specs.reading.Leaders.{Leader}
 use Rattle.pack_model.specs.hints.Links.{LinksTrue, dir_words}
@@ -94,7 +94,7 @@ module _ (p : Pack) (w : Whole p) (t : Tidy p) (d : Fid) (name : List ℕ) (f : 
 
   -- value by value
   abbrev first : Pack
-  first = joined p (entry_room a old at next_at)
+  first = after_joining p (entry_room a old at next_at)
 
   -- with the words over the page's end
   abbrev second : Pack
@@ -105,7 +105,7 @@ module _ (p : Pack) (w : Whole p) (t : Tidy p) (d : Fid) (name : List ℕ) (f : 
   third = dir_written second (all_words a) at (near (all_words a) words)
 
   -- free slots are made one
-  stage1 : Stage p (joined p (entry_room a old at next_at)) d (all_words a) (all_words old) words at next_at
+  stage1 : Stage p (after_joining p (entry_room a old at next_at)) d (all_words a) (all_words old) words at next_at
   stage1 = join_words p d (all_words a) (all_words old) words at next_at spot (item_words (get_or old 0 (space 0)) == all_words old) some
 
   -- the words over the page's end
@@ -126,7 +126,7 @@ module _ (p : Pack) (w : Whole p) (t : Tidy p) (d : Fid) (name : List ℕ) (f : 
 
   -- the pack at the end
   pub end_is : after p (values_writes (values_first p (entry_room a old at next_at) words ++ (at, entry_value p (entry_room a old at next_at) words) ∷ []))
-      ≡ dir_written (after (joined p (entry_room a old at next_at)) (values_writes (overlapping (joined p (entry_room a old at next_at)) (all_words a) words next_at))) (all_words a) at (near (all_words a) words)
+      ≡ dir_written (after (after_joining p (entry_room a old at next_at)) (values_writes (overlapping (after_joining p (entry_room a old at next_at)) (all_words a) words next_at))) (all_words a) at (near (all_words a) words)
   end_is =
       let x : List (ℕ × List ℕ) = joining p (entry_room a old at next_at) in
       let y : List (ℕ × List ℕ) = overlapping first (all_words a) words next_at in
@@ -135,13 +135,13 @@ module _ (p : Pack) (w : Whole p) (t : Tidy p) (d : Fid) (name : List ℕ) (f : 
       ∙ ap (λ q. after q (value_writes at (put_at (in_page (all_words a)) (near (all_words a) words) (sector_at q at).value))) (sym twice)
 
   -- the words around the room stand as they did, and in it the entry's
-  pub entered_words_apart : (q : Apart (dir_words p d) (dir_words (dir_written (after (joined p (entry_room a old at next_at)) (values_writes (overlapping (joined p (entry_room a old at next_at)) (all_words a) words next_at))) (all_words a) at (near (all_words a) words)) d) (all_words a) (all_words old))
-      × (word (dir_words (dir_written (after (joined p (entry_room a old at next_at)) (values_writes (overlapping (joined p (entry_room a old at next_at)) (all_words a) words next_at))) (all_words a) at (near (all_words a) words)) d) (all_words a + 5) ≡ word words 5)
+  pub entered_words_apart : (q : Apart (dir_words p d) (dir_words (dir_written (after (after_joining p (entry_room a old at next_at)) (values_writes (overlapping (after_joining p (entry_room a old at next_at)) (all_words a) words next_at))) (all_words a) at (near (all_words a) words)) d) (all_words a) (all_words old))
+      × (word (dir_words (dir_written (after (after_joining p (entry_room a old at next_at)) (values_writes (overlapping (after_joining p (entry_room a old at next_at)) (all_words a) words next_at))) (all_words a) at (near (all_words a) words)) d) (all_words a + 5) ≡ word words 5)
   entered_words_apart = let l = long in let s = h.words_are.size in (apart_twice (apart_twice stage1.apart stage2.0.apart) stage3.0.apart, stage3.1 5 (omega arith))
 
   -- the addresses of its slots are true
   own_true : place (sights p) f 0 ≡ Some (word words (address_word 0)) → LinksTrue p → (k : ℕ) → k ≡ all_words old - entry_length (length name)
-      → AllTrue (sights p) (dir_words (dir_written (after (joined p (entry_room a old at next_at)) (values_writes (overlapping (joined p (entry_room a old at next_at)) (all_words a) words next_at))) (all_words a) at (near (all_words a) words)) d) 0 (a ++ entry f name ∷ left_over k b)
+      → AllTrue (sights p) (dir_words (dir_written (after (after_joining p (entry_room a old at next_at)) (values_writes (overlapping (after_joining p (entry_room a old at next_at)) (all_words a) words next_at))) (all_words a) at (near (all_words a) words)) d) 0 (a ++ entry f name ∷ left_over k b)
   own_true address links k k_is =
       let r = h.total in
       let l = long in

@@ -39,12 +39,12 @@ clash_fid e (n ∷ ns) h = or_false (is_fid n.fid e.fid) (list_any (λ n. is_fid
 
 module _ (v : Fid → Bool) (e : Naming) where
   -- those kept after it have another file
-  behind_other : (s r es : List Naming) → AllKept (is_kept v) (s ++ e ∷ r) es → list_any (λ n. is_fid n.fid e.fid) es ≡ false
-  behind_other s r [] h = refl
-  behind_other s r (x ∷ es) h =
+  after_other : (s r es : List Naming) → AllKept (is_kept v) (s ++ e ∷ r) es → list_any (λ n. is_fid n.fid e.fid) es ≡ false
+  after_other s r [] h = refl
+  after_other s r (x ∷ es) h =
       or_false (is_fid x.fid e.fid) (list_any (λ n. is_fid n.fid e.fid) es)
       (or_false_left (is_fid x.fid e.fid) _ (at_last s (not-true (list_any (clashes x) (s ++ e ∷ r)) (and_right (may_stand v x) (not (list_any (clashes x) (s ++ e ∷ r))) h.0))))
-      (behind_other (x ∷ s) r es h.1)
+      (after_other (x ∷ s) r es h.1)
     where
       at_last : (s : List Naming) → list_any (clashes x) (s ++ e ∷ r) ≡ false → clashes x e ≡ false
       at_last [] h = or_false_left (clashes x e) (list_any (clashes x) r) h
@@ -111,7 +111,7 @@ module _ (p : Pack) (d f : Fid) (old : List ℕ) (h : HasName (read_as p) d old 
       let clear : list_any (clashes e) (onto place_of.before []) ≡ false = not-true (list_any (clashes e) (onto place_of.before [])) (and_right (may_stand (lives (sights p)) e) (not (list_any (clashes e) (onto place_of.before []))) s.1.0) in
       any_both (λ n. is_fid n.fid f) place_of.before place_of.later
       (clash_fid e place_of.before (onto_none (clashes e) place_of.before [] clear).0)
-      (behind_other (lives (sights p)) e [] (onto place_of.before []) place_of.later s.1.1)
+      (after_other (lives (sights p)) e [] (onto place_of.before []) place_of.later s.1.1)
 
   -- so it has no entry then
   nameless_then : is_named (step m (leave d old)) f ≡ false

@@ -57,9 +57,9 @@ abbrev pub Hold : List ℕ → List ℕ → Type 0
 Hold bytes fresh = length fresh ≡ suc (length bytes / 512)
 
 -- the words after the last page are words, also where there are none
-pub behind_below : (past fresh : List ℕ) → All (λ w. w < 65536) past → All (λ w. w < 65536) (past_last past fresh)
-behind_below past [] words = words
-behind_below past (next ∷ fresh) words = λ k d l. absurd (omega arith)
+pub after_below : (past fresh : List ℕ) → All (λ w. w < 65536) past → All (λ w. w < 65536) (past_last past fresh)
+after_below past [] words = words
+after_below past (next ∷ fresh) words = λ k d l. absurd (omega arith)
 
 -- the bytes that the claims make
 pub claims_hold : (shape : Shape) (f : Fid) (past fresh : List ℕ) (number previous : ℕ) (bytes : List ℕ) → All (λ x. x < 256) bytes → All (λ w. w < 65536) past → length bytes % 512 + length (bytes_of past) ≤ 512
@@ -70,7 +70,7 @@ claims_hold shape f past (at ∷ fresh) number previous bytes below words room m
     let rest : length (drop 512 bytes) ≡ length bytes - 512 = length-drop 512 bytes in
     let size : length own ≡ min 512 (length bytes) = length-take 512 bytes in
     let hold : suc (length fresh) ≡ suc (length bytes / 512) = elim many [ inl none ↦ absurd (omega arith) | inr h ↦ h ] in
-    let one : take (min 512 (length bytes)) (bytes_of (page_value own (past_last past fresh))) ≡ own = ap (λ n. take n (bytes_of (page_value own (past_last past fresh)))) (sym size) ∙ page_counted own (past_last past fresh) (fits fresh hold size) (All-take (λ x. x < 256) 512 bytes below) (behind_below past fresh words) in
+    let one : take (min 512 (length bytes)) (bytes_of (page_value own (past_last past fresh))) ≡ own = ap (λ n. take n (bytes_of (page_value own (past_last past fresh)))) (sym size) ∙ page_counted own (past_last past fresh) (fits fresh hold size) (All-take (λ x. x < 256) 512 bytes below) (after_below past fresh words) in
     (λ i. (at, one i) ∷ claims_hold shape f past fresh (suc number) at (drop 512 bytes) (All-drop (λ x. x < 256) 512 bytes below) words (omega arith) (later fresh hold rest) i)
   where
     fits : (fresh : List ℕ) → suc (length fresh) ≡ suc (length bytes / 512) → length (take 512 bytes) ≡ min 512 (length bytes) → length (take 512 bytes) + length (bytes_of (past_last past fresh)) ≤ 512

@@ -24,7 +24,7 @@ use Rattle.laws_operation.proofs.inside.Wording.{label_with_another_count}
 use Rattle.laws_operation.specs.ByteLaws.{together}
 use Rattle.laws_operation.proofs.inside.words.FewPages.{few_pages}
 use Rattle.laws_operation.proofs.inside.words.Filled.{take-put_before, take-put_front}
-use Rattle.laws_operation.proofs.inside.words.FreshPages.{Hold, behind_below, claims_able, claims_hold, free_in, in_pages, pages_laid, pages_together}
+use Rattle.laws_operation.proofs.inside.words.FreshPages.{Hold, after_below, claims_able, claims_hold, free_in, in_pages, pages_laid, pages_together}
 use Rattle.laws_operation.proofs.inside.words.Labels.{placed_label, placed_name}
 use Rattle.laws_operation.specs.FileWords.{CanGrow, GrowWordsFit}
 
@@ -94,7 +94,7 @@ module _ (p : Pack) (f : Fid) (b : ℕ) (new past fresh : List ℕ) (at : ℕ) (
 
   value_bytes : bytes_of (grown_value b new past fresh value) ≡ put_at (b % 512) (take (last_room b) new ++ bytes_of (past_last past fresh)) (bytes_of value)
   value_bytes = bytes_of-put (b % 512) (take (last_room b) new ++ bytes_of (past_last past fresh)) value (let l = fits fresh many in omega (arith, value_size))
-      (All-append (λ x. x < 256) (take (last_room b) new) (bytes_of (past_last past fresh)) (All-take (λ x. x < 256) (last_room b) new h.bytes) (bytes_below (past_last past fresh) (behind_below past fresh h.words)))
+      (All-append (λ x. x < 256) (take (last_room b) new) (bytes_of (past_last past fresh)) (All-take (λ x. x < 256) (last_room b) new h.bytes) (bytes_below (past_last past fresh) (after_below past fresh h.words)))
 
   -- its counted bytes stay
   kept : counted_of p at (grown_value b new past fresh value) ≡ counted_of p at value

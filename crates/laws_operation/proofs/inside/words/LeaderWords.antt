@@ -9,7 +9,7 @@ use Rattle.pack_model.specs.reading.Bytes.{bytes_of, put_at}
 use Rattle.pack_model.specs.reading.Leaders.{Leader, is_readable, leader_name, leader_of, leader_words, name_bytes}
 use Rattle.pack_model.specs.operations.PageWords.{halves, leader_value, name_words, stamped_value, titled_value}
 use Rattle.pack_laws.proofs.Bytes.{length-put_at, take-put_at}
-use Rattle.laws_record.proofs.Slotwise.{put_before, put_behind, put_here}
+use Rattle.laws_record.proofs.Slotwise.{put_before, put_after, put_here}
 use Rattle.laws_operation.specs.LeaderLaws.{stamped, titled}
 use Rattle.laws_operation.proofs.inside.words.Filled.{drop-put_at, take-drop-put_at}
 use Rattle.laws_operation.proofs.inside.words.NameWords.{length-name_words, name_named, readable_named}
@@ -124,7 +124,7 @@ module _ (value : List ℕ) (sized : length value ≡ 256) where
     ahead k l = put_before 2 (halves moment) (take 246 value) k (omega (arith, front_size)) l
 
     further : (k : ℕ) → 4 ≤ k → word (put_at 2 (halves moment) (take 246 value)) k ≡ word (take 246 value) k
-    further k l = put_behind 2 (halves moment) (take 246 value) k (omega (arith, front_size)) l
+    further k l = put_after 2 (halves moment) (take 246 value) k (omega (arith, front_size)) l
 
     -- the rest of them
     later : (n : ℕ) → 4 ≤ n → drop n (put_at 2 (halves moment) (take 246 value)) ≡ drop n (take 246 value)

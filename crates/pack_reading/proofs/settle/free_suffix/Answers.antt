@@ -1,5 +1,5 @@
 use Rattle.std.proofs.Common.{refl, arith}
-use Rattle.pack_reading.proofs.Grouping.{behind_more, chosen_here, behind_all}
+use Rattle.pack_reading.proofs.Grouping.{after_more, chosen_here, behind_all}
 use Rattle.pack_reading.proofs.Passing.{free_last}
 use Rattle.pack_reading.proofs.settle.free_suffix.Goals as goal
 
@@ -13,7 +13,7 @@ pub loop-group-preserved : goal.loop-group-preserved
 loop-group-preserved c = record {
   passed = λ homes stands is. c.in_ok-k.ensures.passed homes stands (c.loop-group.invariant.passed homes stands is);
   behind = λ homes stands is.
-      behind_more (c.loop-group.invariant.behind homes stands is) c.group-item.result c.loop-group-test.true c.in_default.is (c.in_ok-k.ensures.free homes stands (c.loop-group.invariant.passed homes stands is));
+      after_more (c.loop-group.invariant.behind homes stands is) c.group-item.result c.loop-group-test.true c.in_default.is (c.in_ok-k.ensures.free homes stands (c.loop-group.invariant.passed homes stands is));
 }
 
 pub returns-in-Some-clause-chosen : goal.returns-in-Some-clause-chosen

@@ -5,7 +5,7 @@ use Rattle.pack_model.specs.operations.Commands.{values_writes}
 use Rattle.pack_model.specs.sessions.Descriptor.{closed_values, data_pages}
 use Rattle.disk_descriptor.proofs.Keeping.{closes_after, fits_after_closing, kept_of, pages_carried}
 use Rattle.disk_descriptor.specs.Answers.{IfHeld}
-use Rattle.disk_descriptor.specs.Kept.{Fits, FitsDisk, closes}
+use Rattle.disk_descriptor.specs.Fields.{Fits, FitsDisk, closes}
 use Rattle.disk_descriptor.specs.Writing.{AreCarried, Writes}
 use Rattle.disk_descriptor.specs.declared.errors.DescError.TheVariants.{Memory}
 use Rattle.disk_descriptor.proofs.descriptor.Descriptor.close_pack.Goals as goal

@@ -2,7 +2,7 @@ use Rattle.std.proofs.Common.{Err, rules, subst, sym, ◌≡◌}
 use Rattle.disk_records.specs.Tapes.{pack}
 use Rattle.disk_descriptor.proofs.Keeping.{fits_after_opening, first_carried, opens_after, opens_not}
 use Rattle.disk_descriptor.specs.Answers.{IfHeld}
-use Rattle.disk_descriptor.specs.Kept.{Fits, FitsDisk, Opens}
+use Rattle.disk_descriptor.specs.Fields.{Fits, FitsDisk, Opens}
 use Rattle.disk_descriptor.specs.declared.errors.DescError.TheVariants.{Memory}
 use Rattle.disk_descriptor.proofs.descriptor.Descriptor.mark_open.Goals as goal
 

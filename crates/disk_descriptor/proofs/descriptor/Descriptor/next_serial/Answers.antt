@@ -4,7 +4,7 @@ use Rattle.disk_records.specs.Tapes.{pack}
 use Rattle.disk_descriptor.proofs.Keeping.{fits_after_serial, first_carried, gives_after, kept_of}
 use Rattle.disk_descriptor.proofs.Writings.{writes_all, writes_stop}
 use Rattle.disk_descriptor.specs.Answers.{IfHeld}
-use Rattle.disk_descriptor.specs.Kept.{Fits, FitsDisk, GivesOne}
+use Rattle.disk_descriptor.specs.Fields.{Fits, FitsDisk, GivesOne}
 use Rattle.disk_descriptor.specs.declared.errors.DescError.TheVariants.{Memory}
 use Rattle.disk_descriptor.proofs.descriptor.Descriptor.next_serial.Goals as goal
 

@@ -1,5 +1,0 @@
-use Rattle.laws_line.proofs.inside.ReadDirectories.{directories_are_read}
-use Rattle.laws_line.proofs.behind.directories_are_read.Goals as goal
-
-pub returns : goal.returns
-returns c = directories_are_read

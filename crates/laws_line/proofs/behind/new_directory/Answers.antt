@@ -1,5 +1,0 @@
-use Rattle.laws_line.proofs.inside.SettledNewFile.{new_directory}
-use Rattle.laws_line.proofs.behind.new_directory.Goals as goal
-
-pub returns : goal.returns
-returns c = new_directory

@@ -1,5 +1,0 @@
-use Rattle.laws_line.proofs.inside.SettledAgain.{settled_after_changes}
-use Rattle.laws_line.proofs.behind.settled_after_changes.Goals as goal
-
-pub returns : goal.returns
-returns c = settled_after_changes

@@ -1,5 +1,0 @@
-use Rattle.laws_line.proofs.inside.SettledDrop.{settled_after_drop}
-use Rattle.laws_line.proofs.behind.settled_after_drop.Goals as goal
-
-pub returns : goal.returns
-returns c = settled_after_drop

@@ -1,5 +1,0 @@
-use Rattle.laws_line.proofs.inside.SettledNewFile.{settled_after_new_file}
-use Rattle.laws_line.proofs.behind.settled_after_new_file.Goals as goal
-
-pub returns : goal.returns
-returns c = settled_after_new_file

@@ -1,5 +1,0 @@
-use Rattle.laws_line.proofs.inside.SettledRename.{settled_after_rename}
-use Rattle.laws_line.proofs.behind.settled_after_rename.Goals as goal
-
-pub returns : goal.returns
-returns c = settled_after_rename
