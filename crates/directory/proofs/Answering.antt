@@ -1,7 +1,7 @@
 -- The answers of calls on a directory as a file, as those of calls on a directory.
-use Rattle.std.proofs.Common.{◌≡◌, ◌≤◌, ℕ, List, Option, Result, Ok, Err, IsErrOf, OnErr, OnOk, ap, arith, refl}
-use Rattle.disk_records.specs.Causes.{Cause, HasCause, IsCause, never, other}
-use Rattle.disk_records.specs.Tapes.{Taped}
+use Rattle.std.proofs.Common.{◌≡◌, ◌≤◌, ℕ, List, Option, Result, Ok, Err, IsErrOf, OnErr, OnOk, ap, arith, refl, subst}
+use Rattle.disk_records.specs.Causes.{Cause, HasCause, IsCause, disk, display, keyboard, never, other}
+use Rattle.disk_records.specs.Tapes.{Grown, Taped}
 use Rattle.disk_records.specs.declared.records.Page.{Page}
 use Rattle.disk_records.specs.declared.records.Place.{Place}
 use Rattle.laws_call.specs.Acting.{Around, Operates, begun, refused}
@@ -13,7 +13,7 @@ use Rattle.page_seeking.specs.declared.refs.FileError.TheVariants as fault
 use Rattle.directory.specs.declared.errors.DirError.{DirError}
 use Rattle.directory.specs.declared.errors.DirError.TheVariants.{NoSuchName, NameTaken, NoSlot, File}
 use Rattle.directory.specs.Answers.{in_directory, unlocated}
-use Rattle.directory.specs.Errors.{IfBySlots, IfMisled, cause_of, disk_fault, out_of_memory}
+use Rattle.directory.specs.Errors.{IfBySlots, IfMisled, IfNoSlot, cause_of, disk_fault, out_of_memory}
 
 -- ---- the same answer
 pub ok_in : (P : Type 0) (a : Result (Unit {0}) FileError) → OnOk a P → OnOk (in_directory a) P
@@ -103,3 +103,66 @@ unlocated_absent T U P (fault.Misled place at wanted found) d is h none m = absu
 unlocated_absent T U P (fault.Beyond length) d is h none m = none length h
 unlocated_absent T U P fault.DiskFault d is h none m = absurd cc
 unlocated_absent T U P fault.Memory d is h none m = absurd cc
+
+-- ---- a part of a call
+-- a fault has its cause in the call if it has it in the part
+pub cause_sooner : (k : Cause) (first a b : Taped) → Grown first a → IsCause a b k → IsCause first b k
+cause_sooner disk first a b grown h = let less = grown.disk_faults in omega (arith, less, h)
+cause_sooner keyboard first a b grown h = let less = grown.key_faults in omega (arith, less, h)
+cause_sooner display first a b grown h = let less = grown.show_faults in omega (arith, less, h)
+cause_sooner other first a b grown h = tt
+cause_sooner never first a b grown h = h
+
+-- an answer that the part never gives may come in the call
+pub cause_of_entering : {T : Type 0} (full : Cause) (first a b : Taped) (r : Result T DirError) → Grown first a → HasCause (cause_of never never full) a b r → HasCause (cause_of never other other) first b r
+cause_of_entering full first a b (Ok x) grown h = tt
+cause_of_entering full first a b (Err NoSuchName) grown h = h
+cause_of_entering full first a b (Err NameTaken) grown h = tt
+cause_of_entering full first a b (Err (NoSlot largest)) grown h = tt
+cause_of_entering full first a b (Err (File f)) grown h = cause_sooner (cause_of_length f) first a b grown h
+
+-- a part that never answers by the slots doesn't make the call do so
+pub never_by_slots : {T : Type 0} (X : Type 0) (r : Result T DirError) → IfBySlots r ⊥ → IfBySlots r X
+never_by_slots X (Ok x) h = tt
+never_by_slots X (Err NoSuchName) h = absurd h
+never_by_slots X (Err NameTaken) h = absurd h
+never_by_slots X (Err (NoSlot largest)) h = absurd h
+never_by_slots X (Err (File f)) h = tt
+
+pub never_full : {T : Type 0} (P : ℕ → Type 0) (r : Result T DirError) → IfBySlots r ⊥ → IfNoSlot r P
+never_full P (Ok x) h = tt
+never_full P (Err NoSuchName) h = tt
+never_full P (Err NameTaken) h = tt
+never_full P (Err (NoSlot largest)) h = absurd h
+never_full P (Err (File f)) h = tt
+
+pub never_taken : {T : Type 0} (r : Result T DirError) → IfBySlots r ⊥ → IsErrOf r NameTaken → ⊥
+never_taken r h e = subst (λ x. IfBySlots x ⊥) e h
+
+-- and one that does so only where something is false, which isn't
+pub by_slots_none : {T : Type 0} (X : Type 0) (r : Result T DirError) → (X → ⊥) → IfBySlots r X → IfBySlots r ⊥
+by_slots_none X (Ok x) f h = tt
+by_slots_none X (Err NoSuchName) f h = f h
+by_slots_none X (Err NameTaken) f h = f h
+by_slots_none X (Err (NoSlot largest)) f h = f h
+by_slots_none X (Err (File e)) f h = tt
+
+pub by_slots_any : {T : Type 0} (X : Type 0) (r : Result T DirError) → X → IfBySlots r X
+by_slots_any X (Ok x) h = tt
+by_slots_any X (Err NoSuchName) h = h
+by_slots_any X (Err NameTaken) h = h
+by_slots_any X (Err (NoSlot largest)) h = h
+by_slots_any X (Err (File f)) h = tt
+
+pub never_misled : {T : Type 0} (P : Place → ℕ → Page → Option (List ℕ) → Type 0) (r : Result T DirError) → IfMisled r (λ place at wanted found. ⊥) → IfMisled r P
+never_misled P (Ok x) h = tt
+never_misled P (Err NoSuchName) h = tt
+never_misled P (Err NameTaken) h = tt
+never_misled P (Err (NoSlot largest)) h = tt
+never_misled P (Err (File (fault.Misled place at wanted found))) h = absurd h
+never_misled P (Err (File (fault.Beyond length))) h = tt
+never_misled P (Err (File fault.DiskFault)) h = tt
+never_misled P (Err (File fault.Memory)) h = tt
+
+pub same_error : (T U : Type 0) (e f : DirError) → IsErrOf {T = U} (Err e) f → IsErrOf {T = T} (Err e) f
+same_error T U e f h = let same : e ≡ f = cc in ap Err same

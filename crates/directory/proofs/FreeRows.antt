@@ -17,6 +17,7 @@ use Rattle.pack_model.specs.reading.Slots.{Item, all_words, item_words}
 use Rattle.directory.specs.declared.free_row.RoomWords.{RoomWords}
 use Rattle.directory.specs.FoundRooms.{IsRoomIn}
 use Rattle.directory.specs.FreeRows.{IsShortRow}
+use Rattle.directory.proofs.RoomSizes.{no_room, one_room, room_sized}
 use Rattle.directory.proofs.Rows.{run_within}
 
 pub words_push : (row : List Item) (k : ℕ) → all_words (row ++ space k ∷ []) ≡ all_words row + k
@@ -27,30 +28,6 @@ words_push row k = let sum = all_words-append row (space k ∷ []) in omega (ari
 pub record EndsAt (first place count words : ℕ) (r : Room) : Type 0 where
   pub within : r.first < first + count
   pub ends : r.place + r.total ≡ place + words
-
-one_room : (a b : Room) → ◌≡◌ {A = Option Room} (Some a) (Some b) → a ≡ b
-one_room a b e = cc
-
-no_room : (r : Room) → ◌≡◌ {A = Option Room} None (Some r) → ⊥
-no_room r e = cc
-
--- a room's first slot is one of them
-pub room_within : (n first place : ℕ) (is : List Item) (r : Room) → room_from n first place is ≡ Some r → r.first < first + length is
-room_within n first place [] r found = absurd (no_room r found)
-room_within n first place (i ∷ is) r found = by (run n (i ∷ is)) found (λ e. room_within n (suc first) (place + item_words i) is r e)
-  where
-    later : (room_from n (suc first) (place + item_words i) is ≡ Some r → r.first < suc first + length is) → room_from n (suc first) (place + item_words i) is ≡ Some r → r.first < first + suc (length is)
-    later rest e = let l = rest e in omega (arith, l)
-
-    tried : (t : Bool) (total : ℕ) → option_or (cond {A = Option Room} t (Some (record { first = first; place = place; total = total })) None) (room_from n (suc first) (place + item_words i) is) ≡ Some r
-        → (room_from n (suc first) (place + item_words i) is ≡ Some r → r.first < suc first + length is) → r.first < first + suc (length is)
-    tried true total e rest = let f = ap (λ (x : Room). x.first) (one_room (record { first = first; place = place; total = total }) r e) in omega (arith, f)
-    tried false total e rest = later rest e
-
-    by : (q : Option (ℕ × List Item)) → option_or (room_here first place q) (room_from n (suc first) (place + item_words i) is) ≡ Some r
-        → (room_from n (suc first) (place + item_words i) is ≡ Some r → r.first < suc first + length is) → r.first < first + suc (length is)
-    by None e rest = later rest e
-    by (Some q) e rest = tried (nat_le q.0 most_free) q.0 e rest
 
 -- a room that is found among them has as many words as are asked for, so that they have
 reaches : (n first place k : ℕ) (row : List Item) (r : Room) → room_from n first place (row ++ space k ∷ []) ≡ Some r → n ≤ all_words row + k
@@ -157,7 +134,7 @@ module _ (slots : List Slot) (k w : ℕ) (there : k < length slots) where
         let ends = row_ends needed 0 0 w (items_of (take k slots)) room row.free row.few here in
         let end = ends.ends in
         let push = words_push (items_of (take k slots)) w in
-        let within = room_within needed 0 0 (items_of (take (k + 1) (set slots k (Free w)))) room found in
+        let within = (room_sized needed 0 0 (items_of (take (k + 1) (set slots k (Free w)))) room found).first in
         let size = length-map (take (k + 1) (set slots k (Free w))) item_of in
         record {
           room = room;

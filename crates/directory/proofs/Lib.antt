@@ -1,4 +1,9 @@
 mod Answering
+mod EntryActs
+mod EntryCall
+mod EntryPages
+mod EntrySteps
+mod EntryValues
 mod FreeRows
 mod Items
 mod LeavingEntry
@@ -7,7 +12,9 @@ mod Paging
 mod PlaceFound
 mod Quickly
 mod RoomSeeking
+mod RoomSizes
 mod Rows
 mod Standing
 mod Walking
 mod WideningPage
+mod WrittenWords

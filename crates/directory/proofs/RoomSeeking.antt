@@ -1,5 +1,5 @@
 -- The room for a new entry, once all slots of a directory are met.
-use Rattle.std.proofs.Common.{◌≡◌, ℕ, ◌+◌, ◌-◌, ◌<◌, List, [], ◌∷◌, ◌++◌, length, None, Option, Some, IfNone, IfSome, refl, sym, ◌∙◌, ap, subst, arith, append_assoc}
+use Rattle.std.proofs.Common.{◌≡◌, ℕ, ◌+◌, ◌<◌, List, [], ◌∷◌, ◌++◌, length, None, Option, Some, IfNone, IfSome, refl, sym, ◌∙◌, ap, subst, arith, append_assoc}
 use Rattle.std.specs.List.{FoldsTo}
 use Rattle.std.specs.Option.{option_map}
 use Rattle.std.specs.Prelude.{get_or}
@@ -20,7 +20,8 @@ use Rattle.directory.specs.FoundRooms.{EndsHere, SeeksBy, SeeksIn}
 use Rattle.directory.specs.FreeRows.{RowOf}
 use Rattle.directory.specs.Places.{IsRoomAmong}
 use Rattle.directory.specs.Seeking.{MeetsRoom}
-use Rattle.directory.proofs.FreeRows.{further, room_further, room_within, words_push}
+use Rattle.directory.proofs.FreeRows.{further, room_further, words_push}
+use Rattle.directory.proofs.RoomSizes.{room_sized}
 
 -- ---- a part of a visitor
 pub fold_part : {U V X : Type 0} (R : U → X → U → Type 0) (S : V → X → V → Type 0) (f : U → V) → ((u : U) (x : X) (v : U) → R u x v → S (f u) x (f v)) → (xs : List X) (u v : U) → FoldsTo R u xs v → FoldsTo S (f u) xs (f v)
@@ -43,7 +44,7 @@ pub record HasRoom (n : ℕ) (is : List Item) (u : Seeking) : Type 0 where
 -- ---- a room that was found
 among_more : (n : ℕ) (is more : List Item) (r : RoomFound) → IsRoomAmong n is r → IsRoomAmong n (is ++ more) r
 among_more n is more r h =
-    let within = room_within n 0 0 is h.room h.is in
+    let within = (room_sized n 0 0 is h.room h.is).first in
     record {
       room = h.room;
       is = found_room_stays n is more h.room h.is;

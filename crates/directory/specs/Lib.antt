@@ -1,6 +1,7 @@
 pub mod Answers
 pub mod Asked
 pub mod Bounds
+pub mod Entering
 pub mod Errors
 pub mod Found
 pub mod FoundRooms

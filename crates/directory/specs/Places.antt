@@ -38,3 +38,9 @@ pub record IsRoomAmong (n : ℕ) (items : List Item) (found : RoomFound) : Type 
 pub record IsPlaceFor (p : Pack) (d : Fid) (name : List ℕ) (found : RoomFound) : Type 0 where
   pub absent : IsAbsent p d (Exact name)
   pub room : IsRoomAmong (entry_length (length name)) (slots (dir_words p d)) found
+
+-- No entry had the name, and there was room.
+pub record HadRoom (p : Pack) (d : Fid) (name : List ℕ) : Type 0 where
+  pub absent : IsAbsent p d (Exact name)
+  pub room : Room
+  pub found : room_for p d name ≡ Some room

@@ -1,6 +1,6 @@
 // What a call on a directory answers, by what a call on it as a file answers.
 ghost use Rattle.std.specs.Prelude.{◌≡◌};
-ghost use Rattle.directory.specs.Answers.{in_directory, unlocated};
+ghost use Rattle.directory.specs.Answers.{in_directory, unlocated, unplaced};
 
 use crate::{DirError, FileError};
 
@@ -21,6 +21,35 @@ pub(crate) fn unlocated(error: FileError) -> DirError
 {
     match error {
         FileError::Beyond { .. } => DirError::NoSuchName,
+        FileError::Misled {
+            place,
+            at,
+            wanted,
+            found,
+        } => DirError::File {
+            fault: FileError::Misled {
+                place,
+                at,
+                wanted,
+                found,
+            },
+        },
+        FileError::DiskFault => DirError::File {
+            fault: FileError::DiskFault,
+        },
+        FileError::Memory => DirError::File {
+            fault: FileError::Memory,
+        },
+    }
+}
+
+/// What is answered if a page of the room that was found isn't located. Beyond, which comes only where the machine isn't modelled, is a room that
+/// is gone.
+pub(crate) fn unplaced(error: FileError) -> DirError
+    ensures { result ≡ unplaced error }
+{
+    match error {
+        FileError::Beyond { .. } => DirError::NoSlot { largest: 0 },
         FileError::Misled {
             place,
             at,

@@ -69,6 +69,7 @@ impl FreeRow {
         requires least { 1 ≤ words }
         requires most { words ≤ 1023 }
         ensures room { IfSome result (IsRoomIn self.old.needed (self.old.items ++ space words ∷ [])) }
+        ensures some { IfSome result (λ words. 1 ≤ words.total) }
         ensures none { IfNone result (room_in self.old.needed (self.old.items ++ space words ∷ []) ≡ None) }
         ensures row { IfNone result (self.new.items ≡ self.old.items ++ space words ∷ []) }
         ensures needed { self.new.needed ≡ self.old.needed }

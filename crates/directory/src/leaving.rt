@@ -32,10 +32,10 @@ use hint_cache::Hints;
 use page_seeking::locate;
 
 /// The words of a page.
-const PAGE_WORDS: u32 = 256;
+pub(crate) const PAGE_WORDS: u32 = 256;
 
 /// The number of the page that a word of a directory is in.
-fn page_of_word(place: u32) -> u16
+pub(crate) fn page_of_word(place: u32) -> u16
     requires { place < most_words }
     ensures { result ≡ page_of_word place }
 {

@@ -2,7 +2,8 @@
 //!
 //! Below it stand dir_slots, with a walk over the slots of a directory, page_seeking, by which its pages are sought, file_pages, by which
 //! they are written and come, and laws of look-up and of calls. Come here to find a file by its name, to see which slots a directory has,
-//! to take an entry out of one, or to widen one. A directory is named by a `FileRef`, as any file. To the layers above, on every machine:
+//! to enter a file in one or take its entry out, or to widen one. A directory is named by a `FileRef`, as any file. To the layers above, on
+//! every machine:
 //! 1. An error has its cause (`cause`): a fault comes only where its count rose, and Beyond never. The table of busy bits stays (`table`),
 //!    or at Ok of a widening keeps its length (`sized`), and the count of notes that were refused never falls (`refused`).
 //!
@@ -17,14 +18,17 @@
 //!
 //! And where the pack is whole and tidy besides (`DirStands`), and the arguments are as the contract's premises say:
 //! 6. A call that writes does one operation: at Ok all of its record writes, at every other answer a prefix of them, and the tally counts
-//!    the operation if and only if the record that commits it was written (`operates`). `free_slot` makes the record write with which a
-//!    drop ends (`frees`), also on a pack that isn't tidy, and counts nothing.
+//!    the operation if and only if the record that commits it was written (`operates`). A name is taken or there is no room for it only if
+//!    the slots say so (`taken`, `full`), and after a refusal by the slots nothing was written (`unwritten`). `free_slot` makes the record
+//!    write with which a drop ends (`frees`), also on a pack that isn't tidy, and counts nothing.
 //!
 //! Not promised: that the address of a file that was found is that of its leader. Who follows it checks it by the label that stands there.
 #![tactic(auto)]
 
 mod answers;
+mod entering;
 mod entry;
+mod entry_words;
 mod errors;
 mod finding;
 mod free_row;
@@ -38,6 +42,7 @@ mod versions;
 mod walk;
 mod widening;
 
+pub use entering::enter;
 pub use errors::{DirError, ListError};
 pub use leaving::{free_slot, leave};
 pub use names::lookup;

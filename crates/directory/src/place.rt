@@ -12,4 +12,5 @@ pub(crate) struct RoomFound {
     /// How many words it has.
     pub words: RoomWords,
     pub ghost low: { place + words.total ≤ most_words },
+    pub ghost some: { 1 ≤ words.total },
 }

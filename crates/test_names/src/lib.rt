@@ -4,6 +4,8 @@
 #![tactic(auto)]
 
 #[cfg(test)]
+mod entering;
+#[cfg(test)]
 mod leaving;
 #[cfg(test)]
 mod opening;

@@ -1,0 +1,77 @@
+-- What a caller sees of an entry that comes into a directory.
+use Rattle.std.specs.Prelude.{◌≡◌, ◌⊎◌, ℕ, ◌+◌, ◌*◌, ◌-◌, ◌<◌, ◌≤◌, ◌==◌, Bool, true, false, cond, nat_lt, List, [], ◌++◌, length, take, Some, Result, OnOk, IsErrOf}
+use Rattle.alto_words.specs.declared.fid.Fid.{Fid}
+use Rattle.disk_records.specs.Commands.{value_writes}
+use Rattle.disk_records.specs.Events.{IsFirstOf}
+use Rattle.disk_records.specs.Packs.{Pack}
+use Rattle.disk_records.specs.Tapes.{Taped, added}
+use Rattle.disk_records.specs.declared.records.Event.{Event}
+use Rattle.hint_cache.specs.Caches.{Cached}
+use Rattle.laws_call.specs.Acting.{Around}
+use Rattle.laws_lookup.specs.EnteringLaws.{IsEnterable}
+use Rattle.pack_model.specs.operations.Committing.{page_of_byte}
+use Rattle.pack_model.specs.operations.Operations.{enter_moves}
+use Rattle.pack_model.specs.operations.PageWords.{entered_words, freed_value, in_page, later, near}
+use Rattle.pack_model.specs.operations.Step.Operation.{enter}
+use Rattle.pack_model.specs.operations.Step.{Operation}
+use Rattle.pack_model.specs.reading.Bytes.{put_at}
+use Rattle.pack_model.specs.reading.Files.{lives, place}
+use Rattle.pack_model.specs.reading.Model.{is_named, read_as}
+use Rattle.pack_model.specs.reading.Sights.{sights}
+use Rattle.pack_model.specs.reading.Slots.{entry_length}
+use Rattle.pack_model.specs.sessions.Tallies.{CountsMoves}
+use Rattle.page_seeking.specs.Seeking.{Refused, file_length}
+use Rattle.directory.specs.declared.errors.DirError.{DirError}
+use Rattle.directory.specs.declared.place.RoomFound.{RoomFound}
+use Rattle.directory.specs.Errors.{disk_fault, out_of_memory}
+
+abbrev pub to_enter : Fid → List ℕ → Fid → Operation
+to_enter d name f = enter d name f
+
+-- ---- what is asked
+-- The file lives and has no entry, may have one in this directory, and its leader is in this sector.
+pub record MayBeEntered (p : Pack) (d f : Fid) (leader_at : ℕ) : Type 0 where
+  pub living : lives (sights p) f ≡ true
+  pub enterable : IsEnterable d f
+  pub nameless : is_named (read_as p) f ≡ false
+  pub leader : place (sights p) f 0 ≡ Some leader_at
+
+-- ---- the words, and the values with them
+-- those of the entry, and the first one of a free slot for the words of the room that are left over
+abbrev pub words_for : Fid → ℕ → List ℕ → RoomFound → List ℕ
+words_for f leader_at name room = entered_words f leader_at name (room.words.total - entry_length (length name))
+
+-- whether words come to lie in the page after that of the room's first word
+abbrev pub has_later : RoomFound → List ℕ → Bool
+has_later room words = nat_lt (256 - in_page room.place) (length words)
+
+-- the value of the room's page in which its free slots are one, where they are several
+abbrev pub joined_value : RoomFound → List ℕ → List ℕ
+joined_value room value = cond (room.words.first == room.words.total) value (freed_value room.place room.words.total value)
+
+-- and with the words that lie in this page
+abbrev pub room_value : RoomFound → List ℕ → List ℕ → List ℕ
+room_value room words value = put_at (in_page room.place) (near room.place words) (joined_value room value)
+
+-- the record write that makes the free slots one, where they are several
+abbrev pub joining_writes : RoomFound → ℕ → List ℕ → List Event
+joining_writes room at value = cond (room.words.first == room.words.total) [] (value_writes at (freed_value room.place room.words.total value))
+
+-- the one of the page after, where words come to lie there
+abbrev pub next_writes : RoomFound → List ℕ → ℕ → List ℕ → List Event
+next_writes room words next_at value = cond (has_later room words) (value_writes next_at (put_at 0 (later room.place words) value)) []
+
+-- ---- the record writes
+-- A call was to make these record writes, of which the last commits this operation, and to count it. For every answer it made a prefix of them,
+-- and the tally counts the operation if it made the last; at Ok it did. Out of memory comes only if fewer events were kept ready.
+pub record WroteEntry {T : Type 0} (first last : List Event) (o : Operation) (old new : Around) (result : Result T DirError) : Type 0 where
+  pub some : IsFirstOf (first ++ last) (added old.tape new.tape)
+  pub all : OnOk result (added old.tape new.tape ≡ first ++ last)
+  pub table : new.bits ≡ old.bits
+  pub counts : CountsMoves disk_fault old.tape new.tape (take (length (added old.tape new.tape)) (enter_moves first o)) old.tally new.tally result
+  pub out_of_memory : IsErrOf result out_of_memory → old.tape.spare < length (first ++ last)
+
+-- ---- few sector commands
+-- three for each data page and ten more, unless a note was refused
+abbrev pub IsQuickThrice : Pack → Fid → ℕ → Cached → Cached → Taped → Taped → Type 0
+IsQuickThrice p d more before now old new = (new.runs ≤ old.runs + (3 * page_of_byte (file_length p d) + more)) ⊎ Refused before now
