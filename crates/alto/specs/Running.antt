@@ -1,5 +1,5 @@
 -- What stops a run that has no session, and how a run ends.
-use Rattle.std.specs.Prelude.{◌≡◌, ℕ, List, drop, Bool, true, false, Option, Some, None, is_some, IfSome, Result, Ok, Err}
+use Rattle.std.specs.Prelude.{◌≡◌, ℕ, List, drop, Bool, true, false, Option, Some, None, is_some, if◌then◌else◌, IfSome, Result, Ok, Err}
 use Rattle.alto_top.specs.declared.status.Status.{Status}
 use Rattle.alto_top.specs.declared.status.Status.TheVariants as status
 use Rattle.alto_top.specs.Top.{AnswersTo}
@@ -35,9 +35,13 @@ abbrev pub IsHelpEnd : Result Status Stop → Type 0
 IsHelpEnd (Ok answer) = answer ≡ status.Done
 IsHelpEnd (Err stop) = IsHelpStop stop
 
+-- the drives of a pack, with a PACK2 or without
+abbrev pub drives : Bool → ℕ
+drives has_second = if has_second then 2 else 1
+
 -- how a command line with these words after PACK ends, with a PACK2 or without
 abbrev pub IsCallEnd : Option ℕ → Bool → List (List ℕ) → Result Status Stop → Type 0
-IsCallEnd cylinders has_second words (Ok answer) = AnswersTo words answer
+IsCallEnd cylinders has_second words (Ok answer) = AnswersTo words (drives has_second) answer
 IsCallEnd cylinders has_second words (Err stop) = IsCallStop cylinders has_second stop
 
 -- how a run ends whose words ask for the help, and one whose words are a command line

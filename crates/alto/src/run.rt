@@ -1,9 +1,9 @@
 // One run of the program, over any runtime, clock and top call.
-ghost use Rattle.std.specs.Prelude.{◌≡◌, ◌↔◌, if◌then◌else◌, map, string_bytes, is_some, IfOk, IfErr, IfSome, IsErrOf};
+ghost use Rattle.std.specs.Prelude.{◌≡◌, ◌↔◌, map, string_bytes, is_some, IfOk, IfErr, IfSome, IsErrOf};
 ghost use Rattle.disk_records.specs.Addresses.{disks_of, cylinders_of};
 ghost use Rattle.disk_image.specs.Machines.{IsUntouched};
 ghost use Rattle.alto.specs.CommandLines.{IsFaulty, HasRange};
-ghost use Rattle.alto.specs.Running.{IsRefusal, IsHelpStop, IsCallEnd, IsEnd};
+ghost use Rattle.alto.specs.Running.{IsRefusal, IsHelpStop, IsCallEnd, IsEnd, drives};
 
 use crate::clock::read_moment;
 use crate::command_line::{Call, CommandLine, read_command_line, words_after_name};
@@ -49,7 +49,7 @@ fn machine_of<'a, R: Files + Input + Print + AllocGlobal>(
 ) -> Result<FileMachine<'a, R>, ReachError>
     requires range { HasRange call }
     ensures untouched { IfOk result (λ machine. IsUntouched (⟦<FileMachine<'a, R> as Tape>⟧.tape machine)) }
-    ensures disks { IfOk result (λ machine. disks_of (⟦<FileMachine<'a, R> as Tape>⟧.tape machine).form ≡ (if is_some call.entry.second then 2 else 1)) }
+    ensures disks { IfOk result (λ machine. disks_of (⟦<FileMachine<'a, R> as Tape>⟧.tape machine).form ≡ drives (is_some call.entry.second)) }
     ensures form { IfSome call.entry.cylinders (λ cylinders. IfOk result (λ machine. cylinders_of (⟦<FileMachine<'a, R> as Tape>⟧.tape machine).form ≡ cylinders)) }
     ensures err { IfErr result (IsRefusal call.entry.cylinders (is_some call.entry.second)) }
 {

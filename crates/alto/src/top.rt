@@ -1,5 +1,6 @@
 // The top call on the machine over a pack file, at a moment.
 ghost use Rattle.std.specs.Prelude.{map, string_bytes};
+ghost use Rattle.disk_records.specs.Addresses.{disks_of};
 ghost use Rattle.alto_top.specs.Faults.{HasStatusCause};
 ghost use Rattle.alto_top.specs.Top.{AnswersTo};
 
@@ -18,7 +19,7 @@ pub trait Runs {
         machine: &mut M,
     ) -> Status
         ensures cause { HasStatusCause (M.tape machine.old) (M.tape machine.new) result }
-        ensures answer { AnswersTo (map string_bytes words.now) result };
+        ensures answer { AnswersTo (map string_bytes words.now) (disks_of (M.tape machine.old).form) result };
 }
 
 /// The top call of the program: `alto`.

@@ -1,7 +1,6 @@
 -- The command line: what its words ask for.
 use Rattle.std.specs.Prelude.{◌≡◌, ◌≢◌, ◌⊎◌, ◌&&◌, ℕ, cond, nat_le, List, [], ◌∷◌, codes, Option, Some, None}
 use Rattle.alto_words.specs.Numbers.{number_in}
-use Rattle.disk_records.specs.declared.shape.Shape.{Shape}
 use Rattle.disk_records.specs.Addresses.{disks_of}
 use Rattle.disk_records.specs.Events.{IsFirstOf, shown_events}
 use Rattle.disk_records.specs.Tapes.{Taped, Grown, ShowAlone, added}
@@ -78,10 +77,10 @@ pub record ShowsUsage (old new : Taped) (answer : Status) : Type 0 where
   pub runs : new.runs ≡ old.runs
 
 -- ---- the word `prepare`: on one drive it asks for `usage`
--- its answers: those of preparing on two drives, and those of `usage` on one
-pub record AnswersPrepare (shape : Shape) (answer : Status) : Type 0 where
-  pub two : disks_of shape ≡ 2 → AnswersFormat answer
-  pub one : disks_of shape ≢ 2 → AnswersUsage answer
+-- its answers on so many drives: those of preparing on two, and those of `usage` on one
+pub record AnswersPrepare (disks : ℕ) (answer : Status) : Type 0 where
+  pub two : disks ≡ 2 → AnswersFormat answer
+  pub one : disks ≢ 2 → AnswersUsage answer
 
 -- On a machine that is modelled: on two drives the second one is prepared, and on one drive `usage` is shown.
 pub record PreparesOrUsage (number : ℕ) (old new : Taped) (answer : Status) : Type 0 where
@@ -90,21 +89,31 @@ pub record PreparesOrUsage (number : ℕ) (old new : Taped) (answer : Status) : 
   pub one : disks_of old.form ≢ 2 → ShowsUsage old new answer
 
 -- ---- the top call, by the words
--- Usage is answered only to words that ask for it and to `prepare`, Done only to `boot`, `show`, `format` and `prepare`; and what `show`,
--- `format`, and words that ask for `usage`, can answer.
-pub record AnswersTo (words : List (List ℕ)) (answer : Status) : Type 0 where
-  pub usage : answer ≡ status.Usage → AsksUsage words ⊎ ((n : ℕ) × AsksPrepare words n)
-  pub done : answer ≡ status.Done → AsksBoot words ⊎ (AsksShow words ⊎ (((n : ℕ) × AsksFormat words n) ⊎ ((n : ℕ) × AsksPrepare words n)))
+-- `prepare` with a number, on so many drives: there is a second drive, or there is none
+abbrev pub MayPrepare : List (List ℕ) → ℕ → Type 0
+MayPrepare words disks = ((n : ℕ) × AsksPrepare words n) × (disks ≡ 2)
+
+abbrev pub CannotPrepare : List (List ℕ) → ℕ → Type 0
+CannotPrepare words disks = ((n : ℕ) × AsksPrepare words n) × (disks ≢ 2)
+
+-- On so many drives. Usage is answered only to words that ask for it and to `prepare` where there is no second drive; Done only to `boot`,
+-- `show`, `format`, and `prepare` where there is one; and what each of the words but `boot` can answer.
+pub record AnswersTo (words : List (List ℕ)) (disks : ℕ) (answer : Status) : Type 0 where
+  pub usage : answer ≡ status.Usage → AsksUsage words ⊎ CannotPrepare words disks
+  pub done : answer ≡ status.Done → AsksBoot words ⊎ (AsksShow words ⊎ (((n : ℕ) × AsksFormat words n) ⊎ MayPrepare words disks))
   pub show : AsksShow words → AnswersShow answer
   pub format : (n : ℕ) → AsksFormat words n → AnswersFormat answer
+  pub prepare : (n : ℕ) → AsksPrepare words n → AnswersPrepare disks answer
   pub others : AsksUsage words → AnswersUsage answer
 
--- no event is taken back; `show`, `format` and `prepare` take no key, and words that ask for `usage` touch the display alone
+-- No event is taken back; `show`, `format` and `prepare` take no key; and words that ask for `usage` touch the display alone, as `prepare`
+-- does where there is no second drive.
 pub record Touches (words : List (List ℕ)) (old new : Taped) : Type 0 where
   pub grown : Grown old new
   pub show : AsksShow words → KeepsKeys old new
   pub format : (n : ℕ) → AsksFormat words n → KeepsKeys old new
   pub prepare : (n : ℕ) → AsksPrepare words n → KeepsKeys old new
+  pub unprepared : (n : ℕ) → AsksPrepare words n → disks_of old.form ≢ 2 → ShowAlone old new
   pub others : AsksUsage words → ShowAlone old new
 
 -- On a machine that is modelled, at this moment: `boot` is a session, `show` shows what the pack shows, `format` formats it, `prepare`

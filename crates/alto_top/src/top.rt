@@ -1,5 +1,6 @@
 // The command line.
-ghost use Rattle.std.specs.Prelude.{◌≡◌, [], ◌∷◌, codes, map, string_bytes, IsTrue};
+ghost use Rattle.std.specs.Prelude.{◌≡◌, ◌≢◌, [], ◌∷◌, codes, map, string_bytes, IsTrue};
+ghost use Rattle.disk_records.specs.Addresses.{disks_of};
 ghost use Rattle.disk_records.specs.Tapes.{Grown, ShowAlone};
 ghost use Rattle.alto_top.specs.Faults.{HasStatusCause};
 ghost use Rattle.alto_top.specs.Showing.{KeepsKeys};
@@ -90,10 +91,11 @@ fn show_usage<C: Console>(console: &mut C) -> Status
 /// Prepares the second drive of a pack of two; of a pack of one shows `usage`.
 fn prepare_or_usage<M: Machine>(alloc: Global, number: u16, machine: &mut M) -> Status
     ensures prepares { IsTrue M.told → PreparesOrUsage number (M.tape machine.old) (M.tape machine.new) result }
-    ensures answers { AnswersPrepare (M.tape machine.old).form result }
+    ensures answers { AnswersPrepare (disks_of (M.tape machine.old).form) result }
     ensures cause { HasStatusCause (M.tape machine.old) (M.tape machine.new) result }
     ensures grown { Grown (M.tape machine.old) (M.tape machine.new) }
     ensures keys { KeepsKeys (M.tape machine.old) (M.tape machine.new) }
+    ensures unprepared { disks_of (M.tape machine.old).form ≢ 2 → ShowAlone (M.tape machine.old) (M.tape machine.new) }
 {
     if machine.shape().disks() == 2 {
         prepare_pack(alloc, number, machine)
@@ -108,12 +110,12 @@ fn prepare_or_usage<M: Machine>(alloc: Global, number: u16, machine: &mut M) -> 
 ///
 /// Done: the typed input was obeyed to its end, the listing was shown, the pack was formatted, or its second drive prepared. Usage: the
 /// words are others, or `prepare` on one drive, and `usage` was shown. DiskFault and KeyFault: that device failed, and what was asked for
-/// stopped at once; a listing and formatting take no key. DisplayFault: the display failed, with any words. Memory: none was left. After
+/// stopped at once; a listing, formatting and preparing take no key. DisplayFault: the display failed, with any words. Memory: none was left. After
 /// each of them what was acknowledged stands on the pack; a pack that was being formatted is to be formatted again, and a drive that was
 /// being prepared to be prepared again.
 pub fn alto<M: Machine>(alloc: Global, words: &[String], moment: u32, machine: &mut M) -> Status
     ensures does { IsTrue M.told → DoesAsAsked (map string_bytes words.now) moment (M.tape machine.old) (M.tape machine.new) result }
-    ensures answers { AnswersTo (map string_bytes words.now) result }
+    ensures answers { AnswersTo (map string_bytes words.now) (disks_of (M.tape machine.old).form) result }
     ensures cause { HasStatusCause (M.tape machine.old) (M.tape machine.new) result }
     ensures touches { Touches (map string_bytes words.now) (M.tape machine.old) (M.tape machine.new) }
 {

@@ -112,7 +112,7 @@ module _ (s : Shape) (last mark : ℕ) (pages : List ℕ) where
   opens_nothing : (p : Pack) (at : ℕ) → Fits p kept_of → mark ≡ mark_open → opening_writes p at ≡ []
   opens_nothing p at fits is = opens_by p kept_of fits at ∙ ap (λ b. cond b [] (value_writes at (opened_value (sector_at p at).value))) (eq-eqb mark mark_open is)
 
-  opens_once : (p : Pack) → Fits p kept_of → mark ≢ mark_open → opening_writes p (get_or kept_of.pages 0 0) ≡ value_writes first (opened_value (sector_at p first).value)
+  pub opens_once : (p : Pack) → Fits p kept_of → mark ≢ mark_open → opening_writes p (get_or kept_of.pages 0 0) ≡ value_writes first (opened_value (sector_at p first).value)
   opens_once p fits other =
       ap (opening_writes p) first_is
       ∙ opens_by p kept_of fits first
@@ -137,7 +137,7 @@ module _ (s : Shape) (last mark : ℕ) (pages : List ℕ) where
       subst (λ p. FitsDisk p (opened kept_of)) (sym (pack-after grown ∙ ap (after (pack a)) (wrote ∙ sym (opens_once (pack a) here.fits other)))) (fits_opened (pack a) kept_of here)
 
   -- ---- serials
-  serial_at_first : (p : Pack) (new : ℕ) → serial_writes (get_or kept_of.pages 0 0) new (sector_at p (get_or kept_of.pages 0 0)).value ≡ serial_writes first new (sector_at p first).value
+  pub serial_at_first : (p : Pack) (new : ℕ) → serial_writes (get_or kept_of.pages 0 0) new (sector_at p (get_or kept_of.pages 0 0)).value ≡ serial_writes first new (sector_at p first).value
   serial_at_first p new = ap (λ at. serial_writes at new (sector_at p at).value) first_is
 
   pub gives_after : {T : Type 0} {a b : Taped} {result : Result T DescError} → Fits (pack a) kept_of → last < most_last → Writes Memory (serial_writes first (last + 1) (sector_at (pack a) first).value) 3 a b result → GivesOne Memory kept_of a b result
@@ -152,7 +152,7 @@ module _ (s : Shape) (last mark : ℕ) (pages : List ℕ) where
   closes_nothing : (p : Pack) (busy : List Bool) → Fits p kept_of → mark ≡ mark_clean → closes p busy kept_of ≡ []
   closes_nothing p busy fits is = closes_by p kept_of fits busy ∙ ap (λ b. cond b [] (values_writes (reverse (closed_values s last busy 0 kept_of.pages)))) (eq-eqb mark mark_clean is)
 
-  closes_all : (p : Pack) (busy : List Bool) → Fits p kept_of → mark ≢ mark_clean → closes p busy kept_of ≡ values_writes (reverse (closed_values s last busy 0 kept_of.pages))
+  pub closes_all : (p : Pack) (busy : List Bool) → Fits p kept_of → mark ≢ mark_clean → closes p busy kept_of ≡ values_writes (reverse (closed_values s last busy 0 kept_of.pages))
   closes_all p busy fits other =
       closes_by p kept_of fits busy
       ∙ ap (λ b. cond b [] (values_writes (reverse (closed_values s last busy 0 kept_of.pages)))) (false_from_ne_true (mark == mark_clean) (λ is. other (eqb-true mark mark_clean is)))

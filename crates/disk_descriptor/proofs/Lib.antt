@@ -1,4 +1,5 @@
 mod Closings
+mod Entered
 mod Keeping
 mod Map
 mod Preparings
@@ -6,6 +7,7 @@ mod OpenErrors
 mod Opened
 mod PagesRead
 mod Puts
+mod Readings
 mod Steps
 mod SystemWords
 mod Texts

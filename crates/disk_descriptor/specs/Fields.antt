@@ -8,7 +8,9 @@ use Rattle.disk_records.specs.declared.records.Event.{Event}
 use Rattle.disk_records.specs.declared.shape.Shape.{Shape}
 use Rattle.laws_hint.specs.ClosingLaws.{closing_writes}
 use Rattle.laws_hint.specs.LineLinks.{opening_writes}
+use Rattle.pack_model.specs.hints.Links.{LinksTrue}
 use Rattle.pack_model.specs.reading.Files.{place}
+use Rattle.pack_model.specs.reading.Model.{Model, read_as}
 use Rattle.pack_model.specs.reading.Sights.{sights}
 use Rattle.pack_model.specs.sessions.Descriptor.{DescriptorFits, serial_writes}
 use Rattle.pack_model.specs.states.Sound.{mark_clean, mark_open}
@@ -35,6 +37,11 @@ pub record FitsDisk (p : Pack) (kept : Fields) : Type 0 where
   pub whole : Whole p
   pub tidy : Tidy p
   pub fits : Fits p kept
+
+-- The pack is read as this model, and all its links are true if those of the pack before were.
+pub record ReadsAs (m : Model) (p q : Pack) : Type 0 where
+  pub reads : read_as q ≡ m
+  pub links : LinksTrue p → LinksTrue q
 
 -- ---- the mark
 -- A call that does the record writes by which the mark is opened, none where it is open.

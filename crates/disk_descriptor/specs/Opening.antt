@@ -111,6 +111,18 @@ IfOpenMisled (Err (NotClean mark)) P = Unit {0}
 IfOpenMisled (Err DiskFault) P = Unit {0}
 IfOpenMisled (Err Memory) P = Unit {0}
 
+-- how opening ends if it may end well: the pack is opened, its mark isn't the clean one, or the disk gave out
+abbrev pub OpensIfClean : {T : Type 0} → Result T OpenError → Type 0
+OpensIfClean (Ok x) = Unit {0}
+OpensIfClean (Err (NoRoot found)) = ⊥
+OpensIfClean (Err NoDescriptor) = ⊥
+OpensIfClean (Err (Misled place at wanted found)) = ⊥
+OpensIfClean (Err (WrongLength length)) = ⊥
+OpensIfClean (Err (BadDescriptor w found)) = ⊥
+OpensIfClean (Err (NotClean mark)) = Unit {0}
+OpensIfClean (Err DiskFault) = Unit {0}
+OpensIfClean (Err Memory) = Unit {0}
+
 -- the answer if a page of DiskDescriptor isn't read: past its end it is too short
 abbrev pub open_error : FileError → OpenError
 open_error (file.Misled place at wanted found) = Misled place at wanted found

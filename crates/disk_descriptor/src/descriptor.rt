@@ -48,8 +48,9 @@ impl Descriptor {
     ghost use Rattle.disk_records.specs.Causes.{HasCause};
     ghost use Rattle.disk_records.specs.Causes.Cause.{never, other};
     ghost use Rattle.disk_records.specs.Tapes.{DiskAlone, added, pack};
+    ghost use Rattle.pack_model.specs.reading.Model.{read_as};
     ghost use Rattle.disk_descriptor.specs.Answers.{IfHeld, IfSpent, cause_of};
-    ghost use Rattle.disk_descriptor.specs.Fields.{Fits, FitsDisk, GivesOne, Opens, closed, closes, most_last, opened, with_last};
+    ghost use Rattle.disk_descriptor.specs.Fields.{Fits, FitsDisk, GivesOne, Opens, ReadsAs, closed, closes, most_last, opened, with_last};
     ghost use Rattle.disk_descriptor.specs.Writing.{Writes};
 
     /// The last serial given out.
@@ -76,6 +77,7 @@ impl Descriptor {
         requires shape { self.old.shape ≡ (D.tape disk.old).form }
         ensures opens { IsTrue D.told → Fits (pack (D.tape disk.old)) self.old → Opens DescError.Memory (D.tape disk.old) (D.tape disk.new) result }
         ensures fits { IsTrue D.told → FitsDisk (pack (D.tape disk.old)) self.old → OnOk result (FitsDisk (pack (D.tape disk.new)) self.new) }
+        ensures reads { IsTrue D.told → FitsDisk (pack (D.tape disk.old)) self.old → OnOk result (ReadsAs (read_as (pack (D.tape disk.old))) (pack (D.tape disk.old)) (pack (D.tape disk.new))) }
         ensures kept { OnOk result (self.new ≡ opened self.old) }
         ensures left { OnErr result (self.new ≡ self.old) }
         ensures held { IsTrue D.told → Fits (pack (D.tape disk.old)) self.old → IfHeld result (λ at found. ⊥) }
@@ -100,6 +102,7 @@ impl Descriptor {
         requires shape { self.old.shape ≡ (D.tape disk.old).form }
         ensures gives { IsTrue D.told → Fits (pack (D.tape disk.old)) self.old → GivesOne DescError.Memory self.old (D.tape disk.old) (D.tape disk.new) result }
         ensures fits { IsTrue D.told → FitsDisk (pack (D.tape disk.old)) self.old → OnOk result (FitsDisk (pack (D.tape disk.new)) self.new) }
+        ensures reads { IsTrue D.told → FitsDisk (pack (D.tape disk.old)) self.old → IfOk result (λ serial. ReadsAs (record (read_as (pack (D.tape disk.old))) { last = serial }) (pack (D.tape disk.old)) (pack (D.tape disk.new))) }
         ensures next { IfOk result (λ serial. serial ≡ self.old.last + 1) }
         ensures kept { IfOk result (λ serial. self.new ≡ with_last serial self.old) }
         ensures left { OnErr result (self.new ≡ self.old) }
@@ -131,6 +134,7 @@ impl Descriptor {
         requires sized { length table.now ≡ pages_of (D.tape disk.old).form }
         ensures writes { IsTrue D.told → Fits (pack (D.tape disk.old)) self.old → Writes DescError.Memory (closes (pack (D.tape disk.old)) table.now self.old) (2 * length self.old.pages) (D.tape disk.old) (D.tape disk.new) result }
         ensures fits { IsTrue D.told → FitsDisk (pack (D.tape disk.old)) self.old → OnOk result (FitsDisk (pack (D.tape disk.new)) self.new) }
+        ensures reads { IsTrue D.told → FitsDisk (pack (D.tape disk.old)) self.old → OnOk result (ReadsAs (read_as (pack (D.tape disk.old))) (pack (D.tape disk.old)) (pack (D.tape disk.new))) }
         ensures kept { OnOk result (self.new ≡ closed self.old) }
         ensures left { OnErr result (self.new ≡ self.old) }
         ensures held { IsTrue D.told → Fits (pack (D.tape disk.old)) self.old → IfHeld result (λ at found. ⊥) }

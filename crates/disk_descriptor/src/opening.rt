@@ -6,9 +6,11 @@ ghost use Rattle.disk_records.specs.Causes.{HasCause};
 ghost use Rattle.disk_records.specs.Packs.{Pack};
 ghost use Rattle.disk_records.specs.Tapes.{Looks, Taped, pack};
 ghost use Rattle.hint_cache.specs.Bits.{bit_in, bits_in};
-ghost use Rattle.page_seeking.specs.Refs.{MisledBy};
+ghost use Rattle.pack_model.specs.hints.Links.{LinksTrue};
+ghost use Rattle.pack_model.specs.hints.Misled.{IsOnDisk};
+ghost use Rattle.page_seeking.specs.Refs.{FileStands, MisledBy};
 ghost use Rattle.page_seeking.specs.Seeking.{KeepsHandy};
-ghost use Rattle.disk_descriptor.specs.Opening.{HasBadWord, HasWrongLength, IfBadDescriptor, IfNotClean, IfOpenMisled, IfWrongLength, IsOpened, IsUnclean, MayBeOpened, bad_word, cause_of_opening, open_error, shape_words};
+ghost use Rattle.disk_descriptor.specs.Opening.{HasBadWord, HasWrongLength, IfBadDescriptor, IfNotClean, IfOpenMisled, IfWrongLength, IsOpened, IsUnclean, MayBeOpened, OpensIfClean, bad_word, cause_of_opening, open_error, shape_words};
 ghost use Rattle.disk_descriptor.specs.Fields.{AreSectors};
 ghost use Rattle.disk_descriptor.specs.Reading.{IsRead};
 
@@ -150,6 +152,8 @@ pub fn enter_pack<D: Disk>(
     ensures bad_word { IsTrue D.told → MayBeOpened (pack (D.tape disk.old)) entry.now → IfBadDescriptor result (HasBadWord (pack (D.tape disk.old))) }
     ensures not_clean { IsTrue D.told → MayBeOpened (pack (D.tape disk.old)) entry.now → IfNotClean result (IsUnclean (pack (D.tape disk.old))) }
     ensures misled { IsTrue D.told → MayBeOpened (pack (D.tape disk.old)) entry.now → IfOpenMisled result (MisledBy (pack (D.tape disk.old)) [] entry.now.fid) }
+    ensures on_disk { IsTrue D.told → MayBeOpened (pack (D.tape disk.old)) entry.now → IfOpenMisled result (λ place at wanted found. IsOnDisk place) }
+    ensures true_links { IsTrue D.told → FileStands (pack (D.tape disk.old)) entry.now → entry.now.fid ≡ disk_descriptor → LinksTrue (pack (D.tape disk.old)) → OpensIfClean result }
     ensures cause { HasCause cause_of_opening (D.tape disk.old) (D.tape disk.new) result }
     ensures want { IsTrue D.told → IsErrOf result OpenError.Memory → ⊥ }
     ensures shape { IfOk result (λ kept. kept.shape ≡ (D.tape disk.old).form) }

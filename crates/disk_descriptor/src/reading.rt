@@ -2,11 +2,12 @@
 ghost use Rattle.std.specs.Prelude.{◌≡◌, ◌*◌, ◌<◌, ◌≤◌, IsErrOf, IsTrue, IfOk, [], length, set};
 ghost use Rattle.disk_records.specs.Causes.{HasCause};
 ghost use Rattle.disk_records.specs.Tapes.{Looks, pack};
+ghost use Rattle.pack_model.specs.hints.Misled.{IsOnDisk};
 ghost use Rattle.pack_model.specs.reading.Bytes.{put_at};
 ghost use Rattle.pack_model.specs.reading.Sights.{sights};
 ghost use Rattle.pack_model.specs.states.Sentences.{EachOnce};
 ghost use Rattle.page_seeking.specs.Causes.{cause_of_file};
-ghost use Rattle.page_seeking.specs.Refs.{FileIsFrom, IfBeyond, IfMisled, MisledBy};
+ghost use Rattle.page_seeking.specs.Refs.{FileIsFrom, FileIsRooted, IfBeyond, IfMisled, MisledBy};
 ghost use Rattle.page_seeking.specs.Seeking.{KeepsHandy};
 ghost use Rattle.disk_descriptor.specs.Fields.{AreSectors};
 ghost use Rattle.disk_descriptor.specs.Reading.{IsRead};
@@ -54,6 +55,7 @@ pub(crate) fn read_file<D: Disk>(
     ensures many { length words.new ≡ 1280 }
     ensures room { length pages.new ≡ 5 }
     ensures misled { IsTrue D.told → FileIsFrom (pack (D.tape disk.old)) file.now → IfMisled result (MisledBy (pack (D.tape disk.old)) [] file.now.fid) }
+    ensures on_disk { IsTrue D.told → FileIsRooted (pack (D.tape disk.old)) file.now → IfMisled result (λ place at wanted found. IsOnDisk place) }
     ensures beyond { IsTrue D.told → EachOnce (sights (pack (D.tape disk.old))) → IfBeyond result (λ length. ⊥) }
     ensures cause { HasCause cause_of_file (D.tape disk.old) (D.tape disk.new) result }
     ensures want { IsTrue D.told → IsErrOf result FileError.Memory → ⊥ }

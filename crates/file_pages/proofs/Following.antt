@@ -22,7 +22,7 @@ use Rattle.file_pages.specs.Releasing.{IsKnown, Follows, MisledSince, OnlyGo}
 one : {T : Type 0} {a b : T} → ◌≡◌ {A = Option T} (Some a) (Some b) → a ≡ b
 one e = cc
 
-same_or_not : (a b : ℕ) → (a ≡ b) ⊎ (a ≢ b)
+pub same_or_not : (a b : ℕ) → (a ≡ b) ⊎ (a ≢ b)
 same_or_not a b = by (a == b) refl
   where
     by : (t : Bool) → (a == b) ≡ t → (a ≡ b) ⊎ (a ≢ b)

@@ -11,6 +11,7 @@ mod Forgetting
 mod FreeSectors
 mod FreshWords
 mod Going
+mod Gone
 mod GrownFile
 mod GrownHandy
 mod GrownPages
@@ -21,7 +22,9 @@ mod LastLabel
 mod LastWrites
 mod MadeHandy
 mod MakeMoves
+mod NewListed
 mod NewNotes
+mod NotedHandy
 mod OneWrite
 mod PutOnce
 mod ReleaseLoop
@@ -29,7 +32,6 @@ mod Remaining
 mod Sequel
 mod StampOnce
 mod Titling
-mod TrueLinks
 mod TwoClaims
 pub mod Valued
 mod WithinFile

@@ -1,5 +1,5 @@
 -- What a caller of a call that writes sees.
-use Rattle.std.specs.Prelude.{List, Option, Some, [], ℕ, ◌≡◌, ◌⊎◌}
+use Rattle.std.specs.Prelude.{Bool, List, Option, Some, [], ℕ, ◌≡◌, ◌⊎◌}
 use Rattle.disk_records.specs.declared.records.Event.{Event}
 use Rattle.disk_records.specs.declared.records.Page.{Page}
 use Rattle.disk_records.specs.declared.records.Place.{Place}
@@ -19,6 +19,7 @@ use Rattle.hint_cache.specs.Caches.{Cached, address_in}
 use Rattle.pack_model.specs.hints.Handy.{HandyCache}
 use Rattle.pack_model.specs.hints.Links.{LinksTrue}
 use Rattle.pack_model.specs.reading.Sights.{sights}
+use Rattle.page_seeking.specs.Parts.{IsListed, ListsLast}
 use Rattle.page_seeking.specs.Seeking.{Refused, all_listed, page_number}
 
 -- ---- make
@@ -40,6 +41,13 @@ pub record WasGiven (f : Fid) (leader_at page_at : ℕ) (place : Place) (at : �
   pub held : place ≡ Held at
   pub given : ((wanted ≡ page_number f 0) × (at ≡ leader_at)) ⊎ ((wanted ≡ page_number f 1) × (at ≡ page_at))
 
+-- ---- addresses that were checked
+-- The hint that misled is this address of a sector, which the call was handed or had found before, and this page was wanted.
+pub record WasHeld (i : ℕ) (page : Page) (place : Place) (at : ℕ) (wanted : Page) (found : Option (List ℕ)) : Type 0 where
+  pub held : place ≡ Held i
+  pub address : at ≡ i
+  pub page_is : wanted ≡ page
+
 -- ---- one value
 -- The operation is these record writes, of which there is one, which commits it; they claim and release nothing.
 pub record IsOneValue (p : Pack) (o : Operation) (writes : List Event) : Type 0 where
@@ -54,6 +62,14 @@ abbrev pub to_stamp : Fid → ℕ → Operation
 to_stamp f moment = stamp f moment
 
 -- ---- hints
+-- the leader is listed, unless a `note` was refused
+abbrev pub ListsLeader : Bool → Pack → Fid → Cached → Cached → Type 0
+ListsLeader told p f old new = IsListed told p (page_number f 0) new ⊎ Refused old new
+
+-- the last page is listed, unless a `note` was refused
+abbrev pub ListsItsEnd : Bool → Pack → Fid → Cached → Cached → Type 0
+ListsItsEnd told p f old new = (n : ℕ) × ListsLast told p f old new n
+
 -- with true links before the call, a cache that was handy for a file is handy for it on the pack afterwards, unless a `note` was refused
 abbrev pub StaysHandy : Pack → Pack → Cached → Cached → Type 0
 StaysHandy p q old new = Whole p → LinksTrue p → (f : Fid) → HandyCache (sights p) f (all_listed old) → HandyCache (sights q) f (all_listed new) ⊎ Refused old new

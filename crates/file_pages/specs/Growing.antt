@@ -1,6 +1,6 @@
 -- What a caller sees of a growth and of a widening, and what their private functions say.
 use Rattle.std.specs.List.{AllPairs}
-use Rattle.std.specs.Prelude.{All, Contains, IsErrOf, List, None, OnOk, Result, Some, [], cond, length, min, nat_le, suc, take, true, ℕ, ◌%◌, ◌*◌, ◌+◌, ◌<◌, ◌∷◌, ◌≡◌, ◌≢◌, ◌≤◌, ◌⊎◌}
+use Rattle.std.specs.Prelude.{All, Bool, Contains, IsErrOf, IsTrue, List, None, OnOk, Option, Result, Some, [], cond, get_or, length, min, nat_le, suc, take, true, ℕ, ◌%◌, ◌*◌, ◌+◌, ◌<◌, ◌∷◌, ◌≡◌, ◌≢◌, ◌≤◌, ◌⊎◌}
 use Rattle.alto_words.specs.Fid.{is_directory}
 use Rattle.alto_words.specs.declared.fid.Fid.{Fid}
 use Rattle.disk_records.specs.Addresses.{pages_of, real_of}
@@ -11,17 +11,22 @@ use Rattle.disk_records.specs.Packs.{Pack, is_free_at, sector_at}
 use Rattle.disk_records.specs.Tapes.{Taped, added, pack}
 use Rattle.disk_records.specs.declared.records.Event.{Event}
 use Rattle.disk_records.specs.declared.records.Page.{Page}
+use Rattle.disk_records.specs.declared.records.Place.{Place}
+use Rattle.disk_records.specs.declared.records.Place.TheVariants.{Held}
 use Rattle.disk_records.specs.declared.records.Tally.{Tally}
 use Rattle.disk_records.specs.declared.shape.Shape.{Shape}
-use Rattle.hint_cache.specs.Caches.{Cached, noted}
+use Rattle.hint_cache.specs.Caches.{Cached, address_in, noted}
 use Rattle.hint_cache.specs.declared.cache.Entry.{Entry}
 use Rattle.laws_call.specs.Acting.{Around, Operates}
 use Rattle.laws_call.specs.Writing.{grown_writes}
 use Rattle.laws_lookup.specs.OtherLaws.{KeepsPages, LeavesOthers}
 use Rattle.laws_operation.specs.ByteLaws.{Bear, IsOrdinary}
-use Rattle.page_seeking.specs.Seeking.{Refused, file_length, page_number}
+use Rattle.page_seeking.specs.Parts.{IsListed}
+use Rattle.page_seeking.specs.Refs.{IsOwnHint}
+use Rattle.page_seeking.specs.Seeking.{EndsAtPage, Refused, file_length, page_number}
 use Rattle.page_seeking.specs.declared.refs.FileError.{FileError}
 use Rattle.page_seeking.specs.declared.refs.FileError.TheVariants.{DiskFault, Memory}
+use Rattle.page_seeking.specs.declared.refs.FileRef.{FileRef}
 use Rattle.pack_model.specs.operations.Commands.{Claim, past_last}
 use Rattle.pack_model.specs.operations.Committing.{page_of_byte, pages_added}
 use Rattle.pack_model.specs.operations.PageWords.{link_to_first, page_value, widening_bytes}
@@ -31,6 +36,7 @@ use Rattle.pack_model.specs.reading.Bytes.{bytes_of}
 use Rattle.pack_model.specs.reading.Files.{place}
 use Rattle.pack_model.specs.reading.Sights.{sights}
 use Rattle.pack_model.specs.sessions.Tallies.{Tells, took_effect}
+use Rattle.pack_model.specs.states.Whole.{Whole}
 
 -- ---- what is asked of a growth
 -- The operation that these bytes are after those of a file: of an ordinary one its growth, and of a directory, where they are the ones of a
@@ -95,6 +101,24 @@ pub record Makes (writes : List Event) (most : ℕ) (old new : Taped) (result : 
   pub out_of_memory : IsErrOf result Memory → old.spare < length writes
   pub runs : new.runs ≤ old.runs + most
 
+-- ---- which hint is answered, on every machine
+-- The hint that misled is an address that was given for a page that comes, and a page of this file was wanted.
+pub record WasGivenToGrow (f : Fid) (fresh : List ℕ) (place : Place) (at : ℕ) (wanted : Page) (found : Option (List ℕ)) : Type 0 where
+  pub held : place ≡ Held at
+  pub own : wanted.fid ≡ f
+  pub given : Contains fresh at
+
+-- It is the sector in which the call itself found the last page, which is listed there unless a note was refused, and this page was wanted.
+pub record WasLast (f : Fid) (old new : Cached) (place : Place) (at : ℕ) (wanted : Page) (found : Option (List ℕ)) : Type 0 where
+  pub held : place ≡ Held at
+  pub own : wanted.fid ≡ f
+  pub data_page : 1 ≤ wanted.number
+  pub listed : (address_in new.entries wanted ≡ Some at) ⊎ Refused old new
+
+-- no other address that was checked is answered, and else a hint of the file
+abbrev pub IsHintOfGrowth : FileRef → List ℕ → Cached → Cached → Place → ℕ → Page → Option (List ℕ) → Type 0
+IsHintOfGrowth file fresh old new place at wanted found = IsOwnHint file place at wanted found ⊎ (WasGivenToGrow file.fid fresh place at wanted found ⊎ WasLast file.fid old new place at wanted found)
+
 -- ---- the record writes
 -- for every answer these are a prefix of the record writes, at Ok all of them
 pub record WritesAs {T : Type 0} (writes events : List Event) (result : Result T FileError) : Type 0 where
@@ -123,6 +147,7 @@ pub record Commits (at : ℕ) (label value : List ℕ) (old new : Taped) (before
 -- ---- hints of the pages that came
 -- a note for this page at this sector, which is passed over if it is refused
 pub record NotesOne (page : Page) (at : ℕ) (old new : Cached) : Type 0 where
+  pub each : All (λ e. Contains old.entries e ⊎ (e ≡ record { page = page; at = at })) new.entries
   pub entries : (new.entries ≡ noted page at old.entries) ⊎ Refused old new
   pub grows : old.refused ≤ new.refused
 
@@ -144,3 +169,17 @@ pub record StoodApart (f : Fid) (last now : ℕ) (old : List Entry) (e : Entry) 
 -- was refused.
 abbrev pub NotesPages : Fid → ℕ → List ℕ → Cached → Cached → Type 0
 NotesPages f last fresh old new = All (λ e. IsAmong f (suc last) fresh e ⊎ StoodApart f last (last + length fresh) old.entries e) new.entries ⊎ Refused old new
+
+-- The last of them are listed with their sectors, as many as a cache has entries, unless a note was refused.
+abbrev pub ListsFresh : Fid → ℕ → List ℕ → Cached → Cached → Type 0
+ListsFresh f last fresh old new = ((i : ℕ) → i < length fresh → length fresh ≤ i + 48 → address_in new.entries (page_number f (last + 1 + i)) ≡ Some (get_or fresh i 0)) ⊎ Refused old new
+
+-- The page with this number was the last one of the file. If no page came it is listed, and else those that came, as many as a cache has
+-- entries.
+pub record ListsGrown (told : Bool) (p : Pack) (f : Fid) (fresh : List ℕ) (old new : Cached) : Type 0 where
+  pub last : ℕ
+  pub bytes : ℕ
+  pub ends : EndsAtPage last bytes
+  pub is : IsTrue told → Whole p → last ≡ page_of_byte (file_length p f)
+  pub stays : fresh ≡ [] → IsListed told p (page_number f last) new ⊎ Refused old new
+  pub comes : ListsFresh f last fresh old new

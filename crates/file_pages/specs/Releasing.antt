@@ -1,5 +1,5 @@
 -- Pages of a file that go one after another. The pack as a call began is p, and q is the one that its record writes have left of it so far.
-use Rattle.std.specs.Prelude.{None, Bool, IsErrOf, List, OnOk, Option, Result, Some, false, length, set, suc, take, ℕ, ◌++◌, ◌+◌, ◌<◌, ◌≤◌, ◌∷◌, ◌≡◌}
+use Rattle.std.specs.Prelude.{None, Bool, IsErrOf, List, OnOk, Option, Result, Some, false, length, set, suc, take, ℕ, ◌++◌, ◌+◌, ◌<◌, ◌≤◌, ◌∷◌, ◌≡◌, ◌≢◌}
 use Rattle.alto_words.specs.declared.fid.Fid.{Fid}
 use Rattle.disk_records.specs.Addresses.{pages_of}
 use Rattle.disk_records.specs.Commands.{release_writes}
@@ -113,3 +113,11 @@ ListsNoMore old new = (page : Page) → address_in old.entries page ≡ None →
 -- no page of the file after the one with this number is listed, up to the last
 abbrev pub Forgotten : Cached → Fid → ℕ → ℕ → Type 0
 Forgotten cache f number last = (n : ℕ) → number < n → n ≤ last → address_in cache.entries (page_number f n) ≡ None
+
+-- each other page is listed as it was
+abbrev pub KeepsOthers : Page → Cached → Cached → Type 0
+KeepsOthers page old new = (other : Page) → other ≢ page → address_in new.entries other ≡ address_in old.entries other
+
+-- Each page that is listed is still in the sector that carried it: none that went is listed, whatever the answer is.
+abbrev pub ListsNoneGone : Pack → Pack → Cached → Type 0
+ListsNoneGone p q cache = (page : Page) (i at : ℕ) → address_in cache.entries page ≡ Some at → carried p i ≡ Some page → carried q i ≡ Some page

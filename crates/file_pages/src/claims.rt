@@ -12,7 +12,7 @@ ghost use Rattle.page_seeking.specs.Refs.{IfMisled};
 ghost use Rattle.page_seeking.specs.Seeking.{page_number};
 ghost use Rattle.pack_model.specs.operations.Commands.{claims_of, claims_writes, past_last};
 ghost use Rattle.pack_model.specs.operations.PageWords.{link_to_first, page_value};
-ghost use Rattle.file_pages.specs.Growing.{CanClaim, FitsNext, IsSector, Makes, next_claim};
+ghost use Rattle.file_pages.specs.Growing.{CanClaim, FitsNext, IsSector, Makes, WasGivenToGrow, next_claim};
 
 use crate::FileError;
 use crate::making::at_held;
@@ -114,6 +114,7 @@ pub(crate) fn claim_pages<D: Disk>(
     requires sectors { All (IsSector (D.tape disk.old).form) fresh.now }
     ensures claims { IsTrue D.told → CanClaim (pack (D.tape disk.old)) last bytes.now past.now fresh.now → Makes (claims_writes (claims_of (D.tape disk.old).form fid (suc last) last_at bytes.now past.now fresh.now)) (2 * length fresh.now) (D.tape disk.old) (D.tape disk.new) result }
     ensures misled { IsTrue D.told → CanClaim (pack (D.tape disk.old)) last bytes.now past.now fresh.now → IfMisled result (λ place at wanted found. ⊥) }
+    ensures given { IfMisled result (WasGivenToGrow fid fresh.now) }
     ensures few { OnOk result (last + length fresh.now ≤ 65535) }
     ensures cause { HasCause cause_of_length (D.tape disk.old) (D.tape disk.new) result }
     ensures alone { DiskAlone (D.tape disk.old) (D.tape disk.new) }

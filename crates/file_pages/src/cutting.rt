@@ -6,6 +6,7 @@ ghost use Rattle.disk_records.specs.Commands.{relabel_writes};
 ghost use Rattle.disk_records.specs.Labels.{page_of};
 ghost use Rattle.disk_records.specs.Packs.{Pack, carried, sector_at};
 ghost use Rattle.disk_records.specs.Tapes.{DiskAlone, added, pack};
+ghost use Rattle.hint_cache.specs.Caches.{address_in};
 ghost use Rattle.laws_call.specs.Acting.{IsQuiet, Operates, around};
 ghost use Rattle.laws_hint.specs.MapChanges.{marked};
 ghost use Rattle.laws_operation.specs.ByteLaws.{IsOrdinary};
@@ -14,12 +15,12 @@ ghost use Rattle.pack_model.specs.operations.Committing.{page_of_byte};
 ghost use Rattle.pack_model.specs.operations.PageWords.{relabelled};
 ghost use Rattle.pack_model.specs.states.Whole.{Whole};
 ghost use Rattle.page_seeking.specs.Causes.{cause_of_file, cause_of_length};
-ghost use Rattle.page_seeking.specs.Parts.{IsPast};
+ghost use Rattle.page_seeking.specs.Parts.{IsPast, ListsNext};
 ghost use Rattle.page_seeking.specs.Refs.{FileStands, IfBeyond, IfMisled, MisledBy};
 ghost use Rattle.page_seeking.specs.Seeking.{file_length, length_at};
 ghost use Rattle.page_seeking.specs.declared.refs.FileError.TheVariants as error;
 ghost use Rattle.file_pages.specs.Cutting.{IsRead, to_cut};
-ghost use Rattle.file_pages.specs.Releasing.{AreAfter, CommitsAndReleases, CommitsFirst, Forgotten, KeepsEachHandy, MisledSince, OnlyGo};
+ghost use Rattle.file_pages.specs.Releasing.{AreAfter, CommitsAndReleases, CommitsFirst, Forgotten, KeepsEachHandy, ListsNoneGone, MisledSince, OnlyGo};
 ghost use Rattle.file_pages.specs.Values.{LeavesHandy};
 
 use crate::refs::error_at;
@@ -116,6 +117,8 @@ fn end_in_page<D: Disk>(
     ensures refused { hints.new.cache.refused ≡ hints.old.cache.refused }
     ensures handy { KeepsEachHandy hints.old.cache hints.new.cache }
     ensures forgotten { (p : Pack) → IsTrue D.told → pack (D.tape disk.old) ≡ p → IsRead p page at info buf.old → Whole p → file_length p page.fid / 512 < 65535 → OnOk result (Forgotten hints.new.cache page.fid page.number (page_of_byte (file_length p page.fid))) }
+    ensures here { address_in hints.new.cache.entries page ≡ address_in hints.old.cache.entries page }
+    ensures gone { (p : Pack) → IsTrue D.told → pack (D.tape disk.old) ≡ p → IsRead p page at info buf.old → ListsNoneGone p (pack (D.tape disk.new)) hints.new.cache }
 {
     let label = last_label(&buf.label, bytes);
     match shorten(disk, tally, at, page, label) {
@@ -127,7 +130,8 @@ fn end_in_page<D: Disk>(
 /// Cuts an ordinary file to its first `length` bytes. The page in which they end is located, and gets a label that counts fewer bytes and
 /// has no next link, which commits; then each later page is released, rising, found by the next link of the page before it. Of the page
 /// that becomes the last two record writes, of each later one two. A cut to the file's own length writes nothing. The sectors of later
-/// pages are free in the table then, and the cache has forgotten these pages. `buf` is used, and what it holds then is open.
+/// pages are free in the table then, and the cache has forgotten these pages; after an error it has forgotten those that went. The cache
+/// lists the page in which the file ends then. `buf` is used, and what it holds then is open.
 ///
 /// Beyond: the file is shorter; nothing was written. Misled: the address that the file is named with misleads, or a next link of the file:
 /// then nothing was written, or the file is cut and later pages are left, which a scavenge releases. DiskFault: the device failed. Memory:
@@ -154,6 +158,8 @@ pub fn cut<D: Disk>(
     ensures sized { list_length hints.new.table ≡ list_length hints.old.table }
     ensures refused { hints.old.cache.refused ≤ hints.new.cache.refused }
     ensures forgotten { IsTrue D.told → FileStands (pack (D.tape disk.old)) file.now → OnOk result (Forgotten hints.new.cache file.now.fid (page_of_byte length) (page_of_byte (file_length (pack (D.tape disk.old)) file.now.fid))) }
+    ensures gone { IsTrue D.told → ListsNoneGone (pack (D.tape disk.old)) (pack (D.tape disk.new)) hints.new.cache }
+    ensures listed { OnOk result (ListsNext D.told (pack (D.tape disk.old)) file.now.fid length hints.old.cache hints.new.cache) }
     ensures handy { IsTrue D.told → FileStands (pack (D.tape disk.old)) file.now → OnOk result (LeavesHandy (pack (D.tape disk.old)) (pack (D.tape disk.new)) hints.old.cache hints.new.cache) }
 {
     let Some(number) = last_page_of(length) else {

@@ -17,11 +17,11 @@ ghost use Rattle.page_seeking.specs.Seeking.{file_length, page_number};
 ghost use Rattle.page_seeking.specs.declared.refs.FileError.TheVariants as error;
 ghost use Rattle.file_pages.specs.Cutting.{IsRead};
 ghost use Rattle.file_pages.specs.Dropping.{DropsButSlot, MayBeDropped};
-ghost use Rattle.file_pages.specs.Releasing.{AreAfter, CommitsAndReleases, CommitsFirst, Forgotten, KeepsEachHandy, MisledSince, OnlyGo};
+ghost use Rattle.file_pages.specs.Releasing.{AreAfter, CommitsAndReleases, CommitsFirst, Forgotten, KeepsEachHandy, ListsNoneGone, MisledSince, OnlyGo};
 ghost use Rattle.file_pages.specs.Values.{LeavesHandy};
 
 use crate::refs::error_at;
-use crate::releasing::{give_back, release_rest};
+use crate::releasing::{forget_page, release_rest};
 use crate::tallying::count_operation;
 use crate::{FileError, FileRef};
 use alto_words::Fid;
@@ -78,11 +78,13 @@ fn drop_pages<D: Disk>(
     ensures handy { KeepsEachHandy hints.old.cache hints.new.cache }
     ensures forgotten { (p : Pack) → IsTrue D.told → pack (D.tape disk.old) ≡ p → IsRead p (page_number fid 0) at info buf.old → Whole p → file_length p fid / 512 < 65535 → OnOk result (Forgotten hints.new.cache fid 0 (page_of_byte (file_length p fid))) }
     ensures leader { OnOk result (address_in hints.new.cache.entries (page_number fid 0) ≡ None) }
+    ensures gone { (p : Pack) → IsTrue D.told → pack (D.tape disk.old) ≡ p → IsRead p (page_number fid 0) at info buf.old → ListsNoneGone p (pack (D.tape disk.new)) hints.new.cache }
 {
     let leader = Page { fid, number: 0 };
+    forget_page(&mut hints.cache, leader);
     match release_leader(disk, tally, at, leader) {
         Ok(()) => {
-            give_back(hints, leader, at);
+            hints.table.set(at, false);
             release_rest(disk, hints, fid, 0, at, info, buf)
         }
         Err(error) => Err(error),
@@ -92,7 +94,7 @@ fn drop_pages<D: Disk>(
 /// Releases all sectors of a file that has no entries of its own and isn't a system file: its leader, whose label commits, and then its
 /// data pages, rising, each found by the next link of the page before it. It is the drop of the file except for the slot of its entry,
 /// which the directory frees next. Two record writes of each page. The sectors are free in the table then, and the cache has forgotten the
-/// pages. `buf` is used, and what it holds then is open.
+/// pages; after an error it has forgotten those that went. `buf` is used, and what it holds then is open.
 ///
 /// Misled: the address that the file is named with misleads, or a next link of the file: then nothing was written, or the file is gone and
 /// later pages are left, which a scavenge releases. DiskFault: the device failed. Memory: no memory was left for a record write. After
@@ -115,6 +117,7 @@ pub fn drop_file<D: Disk>(
     ensures refused { hints.old.cache.refused ≤ hints.new.cache.refused }
     ensures forgotten { IsTrue D.told → FileStands (pack (D.tape disk.old)) file.now → OnOk result (Forgotten hints.new.cache file.now.fid 0 (page_of_byte (file_length (pack (D.tape disk.old)) file.now.fid))) }
     ensures leader { OnOk result (address_in hints.new.cache.entries (page_number file.now.fid 0) ≡ None) }
+    ensures gone { IsTrue D.told → ListsNoneGone (pack (D.tape disk.old)) (pack (D.tape disk.new)) hints.new.cache }
     ensures handy { IsTrue D.told → FileStands (pack (D.tape disk.old)) file.now → OnOk result (LeavesHandy (pack (D.tape disk.old)) (pack (D.tape disk.new)) hints.old.cache hints.new.cache) }
 {
     match locate(disk, hints, file, 0, buf) {

@@ -6,11 +6,12 @@ ghost use Rattle.disk_records.specs.Packs.{carried, sector_at};
 ghost use Rattle.disk_records.specs.Tapes.{Looks, pack};
 ghost use Rattle.page_seeking.specs.Causes.{cause_of_length};
 ghost use Rattle.page_seeking.specs.Refs.{FileStands, IfMisled, MisledBy};
-ghost use Rattle.page_seeking.specs.Seeking.{IsLast, KeepsHandy, LastNamed, NamedNearEnd, Quick, QuickCache, page_number};
+ghost use Rattle.page_seeking.specs.Seeking.{EndsAtPage, IsLast, KeepsHandy, LastNamed, NamedNearEnd, Quick, QuickCache, page_number};
 ghost use Rattle.page_seeking.specs.declared.refs.FileError.TheVariants as error;
 ghost use Rattle.pack_model.specs.states.Whole.{Whole};
-ghost use Rattle.file_pages.specs.Ends.{NamesFileEnd};
+ghost use Rattle.file_pages.specs.Ends.{ListsEndAt, NamesFileEnd};
 
+use crate::new_hints::note_one;
 use crate::refs::page_of_file;
 use crate::{FileError, FileRef};
 use alto_words::Fid;
@@ -32,6 +33,8 @@ fn named_end<D: Disk>(
     buf: &mut Sector,
 ) -> Result<Option<LastPage>, FileError>
     ensures end { IsTrue D.told → Whole (pack (D.tape disk.old)) → IfOk result (λ found. IfSome found (IsLast (pack (D.tape disk.old)) fid)) }
+    ensures ends { IfOk result (λ found. IfSome found (λ end. EndsAtPage end.number end.info.bytes)) }
+    ensures carries { IsTrue D.told → IfOk result (λ found. IfSome found (λ end. carried (pack (D.tape disk.old)) end.at ≡ Some (page_number fid end.number))) }
     ensures there { IsTrue D.told → Whole (pack (D.tape disk.old)) → NamesFileEnd (pack (D.tape disk.old)) fid leader.now → IfOk result (λ found. found ≢ None) }
     ensures misled { IfMisled result (λ place at wanted found. ⊥) }
     ensures cause { HasCause cause_of_length (D.tape disk.old) (D.tape disk.new) result }
@@ -59,7 +62,7 @@ fn named_end<D: Disk>(
 }
 
 /// Locates a file's leader and its last page, which is sought where the leader says and else by the file's links: the virtual address of
-/// the leader, and the last page. `leader` gets the leader's value; what `buf` holds is open.
+/// the leader, and the last page, which is noted. `leader` gets the leader's value; what `buf` holds is open.
 pub(crate) fn locate_ends<D: Disk>(
     disk: &mut D,
     hints: &mut Hints,
@@ -80,6 +83,7 @@ pub(crate) fn locate_ends<D: Disk>(
     ensures quick { IsTrue D.told → Quick (pack (D.tape disk.old)) file.now.fid hints.old.cache → LastNamed (pack (D.tape disk.old)) file.now.fid → OnOk result ((D.tape disk.new).runs ≤ (D.tape disk.old).runs + 2) }
     ensures climbs { (more : ℕ) → IsTrue D.told → QuickCache (pack (D.tape disk.old)) file.now.fid hints.old.cache → NamedNearEnd (pack (D.tape disk.old)) file.now.fid more → OnOk result ((D.tape disk.new).runs ≤ (D.tape disk.old).runs + (more + 4)) }
     ensures table { hints.new.table ≡ hints.old.table }
+    ensures listed { IfOk result (λ found. ListsEndAt D.told (pack (D.tape disk.old)) file.now.fid found.1 hints.old.cache hints.new.cache) }
     ensures refused { hints.old.cache.refused ≤ hints.new.cache.refused }
     ensures handy { IsTrue D.told → KeepsHandy (pack (D.tape disk.old)) hints.old.cache hints.new.cache }
 {
@@ -89,7 +93,10 @@ pub(crate) fn locate_ends<D: Disk>(
     };
     *leader = buf.value;
     match named_end(disk, file.fid, leader, buf) {
-        Ok(Some(end)) => Ok((at, end)),
+        Ok(Some(end)) => {
+            note_one(&mut hints.cache, page_of_file(file.fid, end.number), end.at);
+            Ok((at, end))
+        }
         Ok(None) => match last_page(disk, hints, file, buf) {
             Ok(end) => Ok((at, end)),
             Err(error) => Err(error),

@@ -1,5 +1,5 @@
 // More bytes after those of a file.
-ghost use Rattle.std.specs.Prelude.{◌≡◌, ◌+◌, ◌*◌, ◌<◌, ◌≤◌, ◌⊎◌, All, IfNone, IfSome, IsTrue, OnErr, OnOk, Some, [], false, length, true, ℕ};
+ghost use Rattle.std.specs.Prelude.{◌≡◌, ◌+◌, ◌*◌, ◌<◌, ◌≤◌, ◌⊎◌, All, Contains, IfNone, IfSome, IsTrue, OnErr, OnOk, Some, [], false, length, true, ℕ};
 ghost use Rattle.alto_words.specs.Fid.{is_full_name};
 ghost use Rattle.disk_records.specs.Addresses.{pages_of};
 ghost use Rattle.disk_records.specs.Causes.{HasCause};
@@ -15,8 +15,8 @@ ghost use Rattle.pack_model.specs.operations.Step.{Operation};
 ghost use Rattle.pack_model.specs.reading.Files.{place};
 ghost use Rattle.pack_model.specs.reading.Sights.{sights};
 ghost use Rattle.pack_model.specs.states.Whole.{Tidy, Whole};
-ghost use Rattle.file_pages.specs.Calls.{StaysHandy};
-ghost use Rattle.file_pages.specs.Growing.{Grew, GrowsWith, IsSector, MayBeGrown, WritesAs, growth_writes};
+ghost use Rattle.file_pages.specs.Calls.{StaysHandy, WasHeld};
+ghost use Rattle.file_pages.specs.Growing.{Grew, GrowsWith, IsHintOfGrowth, IsSector, ListsGrown, MayBeGrown, WasGivenToGrow, WritesAs, growth_writes};
 
 use crate::claims::{after_first, claim_pages, link_to_first, past_last, words_that_fit};
 use crate::last_words::{commit_page, with_count};
@@ -41,6 +41,7 @@ fn is_sector(shape: Shape, at: u16) -> bool
 fn first_unusable(shape: Shape, fresh: &[u16]) -> Option<u16>
     ensures none { IfNone result (All (IsSector shape) fresh.now) }
     ensures some { IfSome result (λ at. All (IsSector shape) fresh.now → ⊥) }
+    ensures given { IfSome result (λ at. Contains fresh.now at) }
 {
     let mut rest = fresh;
     while let Some((at, later)) = rest.split_first() {
@@ -72,6 +73,7 @@ fn grow_pages<D: Disk>(
     requires sectors { All (IsSector (D.tape disk.old).form) fresh.now }
     ensures operates { (o : Operation) → IsTrue D.told → Whole (pack (D.tape disk.old)) → Tidy (pack (D.tape disk.old)) → Stands (pack (D.tape disk.old)) (page_number fid last.number) last.at buf.old → IsLast (pack (D.tape disk.old)) fid last → MayBeGrown (pack (D.tape disk.old)) o fid bytes.now past.now fresh.now → GrowsWith o fid last.at bytes.now past.now fresh.now (around (D.tape disk.old) table.old tally.old) (around (D.tape disk.new) table.new tally.new) result }
     ensures misled { (o : Operation) → IsTrue D.told → Whole (pack (D.tape disk.old)) → Tidy (pack (D.tape disk.old)) → Stands (pack (D.tape disk.old)) (page_number fid last.number) last.at buf.old → IsLast (pack (D.tape disk.old)) fid last → MayBeGrown (pack (D.tape disk.old)) o fid bytes.now past.now fresh.now → IfMisled result (λ place at wanted found. ⊥) }
+    ensures given { IfMisled result (λ place at wanted found. WasGivenToGrow fid fresh.now place at wanted found ⊎ WasHeld last.at (page_number fid last.number) place at wanted found) }
     ensures cause { HasCause cause_of_length (D.tape disk.old) (D.tape disk.new) result }
     ensures alone { DiskAlone (D.tape disk.old) (D.tape disk.new) }
     ensures grew { (o : Operation) → IsTrue D.told → Whole (pack (D.tape disk.old)) → Tidy (pack (D.tape disk.old)) → Stands (pack (D.tape disk.old)) (page_number fid last.number) last.at buf.old → IsLast (pack (D.tape disk.old)) fid last → MayBeGrown (pack (D.tape disk.old)) o fid bytes.now past.now fresh.now → OnOk result (Grew (pack (D.tape disk.old)) (pack (D.tape disk.new)) fid last.number fresh.now) }
@@ -109,7 +111,8 @@ fn grow_pages<D: Disk>(
 /// value, its label, which commits, and its value again. `past` are words after the last byte that don't count; those that don't fit in the
 /// last page are passed over. The last page is located first; `buf` holds it then. With m pages that come there are 3m + 3 record writes,
 /// and with true links, handy hints and a leader that names the last page 2m + 6 sector commands. The sectors have to be free ones, each of
-/// them once, and as many as pages come. The pages that come are noted then, and busy in the table.
+/// them once, and as many as pages come. The pages that come are noted then, and busy in the table; the cache
+/// lists the last 48 of them, and the last page if none comes.
 ///
 /// Misled: the address that the file is named with or a next link of it misleads, or an address of `fresh` is no usable sector's, or, where
 /// the machine isn't modelled, its sector isn't free. DiskFault: the device failed. Memory: no memory was left for a record write. After
@@ -132,6 +135,7 @@ pub fn grow<D: Disk>(
     ensures grows { (o : Operation) (at : ℕ) → IsTrue D.told → FileStands (pack (D.tape disk.old)) file.now → MayBeGrown (pack (D.tape disk.old)) o file.now.fid bytes.now past.now fresh.now → place (sights (pack (D.tape disk.old))) file.now.fid (page_of_byte (file_length (pack (D.tape disk.old)) file.now.fid)) ≡ Some at → WritesAs (growth_writes (pack (D.tape disk.old)) file.now.fid at bytes.now past.now fresh.now) (added (D.tape disk.old) (D.tape disk.new)) result }
     ensures misled { (o : Operation) → IsTrue D.told → FileStands (pack (D.tape disk.old)) file.now → MayBeGrown (pack (D.tape disk.old)) o file.now.fid bytes.now past.now fresh.now → IfMisled result (MisledBy (pack (D.tape disk.old)) [] file.now.fid) }
     ensures true_links { (o : Operation) → IsTrue D.told → FileStands (pack (D.tape disk.old)) file.now → MayBeGrown (pack (D.tape disk.old)) o file.now.fid bytes.now past.now fresh.now → LinksTrue (pack (D.tape disk.old)) → IfMisled result (λ place at wanted found. ⊥) }
+    ensures given { IfMisled result (IsHintOfGrowth file.now fresh.now hints.old.cache hints.new.cache) }
     ensures cause { HasCause cause_of_length (D.tape disk.old) (D.tape disk.new) result }
     ensures alone { DiskAlone (D.tape disk.old) (D.tape disk.new) }
     ensures quick { (o : Operation) → IsTrue D.told → FileStands (pack (D.tape disk.old)) file.now → MayBeGrown (pack (D.tape disk.old)) o file.now.fid bytes.now past.now fresh.now → Quick (pack (D.tape disk.old)) file.now.fid hints.old.cache → LastNamed (pack (D.tape disk.old)) file.now.fid → OnOk result ((D.tape disk.new).runs ≤ (D.tape disk.old).runs + (2 * length fresh.now + 6)) }
@@ -141,6 +145,7 @@ pub fn grow<D: Disk>(
     ensures table { OnErr result (hints.new.table ≡ hints.old.table) }
     ensures sized { length hints.new.table ≡ length hints.old.table }
     ensures refused { hints.old.cache.refused ≤ hints.new.cache.refused }
+    ensures listed { OnOk result (ListsGrown D.told (pack (D.tape disk.old)) file.now.fid fresh.now hints.old.cache hints.new.cache) }
     ensures handy { (o : Operation) → IsTrue D.told → FileStands (pack (D.tape disk.old)) file.now → MayBeGrown (pack (D.tape disk.old)) o file.now.fid bytes.now past.now fresh.now → OnOk result (StaysHandy (pack (D.tape disk.old)) (pack (D.tape disk.new)) hints.old.cache hints.new.cache) }
 {
     let last = match last_page(disk, hints, file, buf) {

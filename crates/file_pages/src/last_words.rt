@@ -1,13 +1,14 @@
 // The words of a file's last page, where more bytes come after it.
-ghost use Rattle.std.specs.Prelude.{◌≡◌, ◌<◌, ◌≤◌, IsTrue, Some};
+ghost use Rattle.std.specs.Prelude.{◌≡◌, ◌≢◌, ◌<◌, ◌≤◌, IsTrue, Some, []};
 ghost use Rattle.disk_records.specs.Addresses.{pages_of};
 ghost use Rattle.disk_records.specs.Causes.{HasCause};
 ghost use Rattle.disk_records.specs.Labels.{page_of};
 ghost use Rattle.disk_records.specs.Packs.{carried};
-ghost use Rattle.disk_records.specs.Tapes.{DiskAlone, pack};
+ghost use Rattle.disk_records.specs.Tapes.{DiskAlone, added, pack};
 ghost use Rattle.page_seeking.specs.Causes.{cause_of_length};
 ghost use Rattle.page_seeking.specs.Refs.{IfMisled};
 ghost use Rattle.pack_model.specs.operations.PageWords.{relabelled};
+ghost use Rattle.file_pages.specs.Calls.{WasHeld};
 ghost use Rattle.file_pages.specs.Growing.{Commits};
 
 use crate::FileError;
@@ -42,7 +43,9 @@ pub(crate) fn commit_page<D: Disk>(
     requires place { at < pages_of (D.tape disk.old).form }
     requires same { page_of label ≡ Some page }
     ensures commits { IsTrue D.told → carried (pack (D.tape disk.old)) at ≡ Some page → Commits at label value.now (D.tape disk.old) (D.tape disk.new) tally.old tally.new result }
+    ensures guards { IsTrue D.told → added (D.tape disk.old) (D.tape disk.new) ≢ [] → carried (pack (D.tape disk.old)) at ≡ Some page }
     ensures misled { IsTrue D.told → carried (pack (D.tape disk.old)) at ≡ Some page → IfMisled result (λ place at wanted found. ⊥) }
+    ensures held { IfMisled result (WasHeld at page) }
     ensures cause { HasCause cause_of_length (D.tape disk.old) (D.tape disk.new) result }
     ensures alone { DiskAlone (D.tape disk.old) (D.tape disk.new) }
 {

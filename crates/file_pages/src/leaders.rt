@@ -12,7 +12,7 @@ ghost use Rattle.page_seeking.specs.Causes.{cause_of_length};
 ghost use Rattle.page_seeking.specs.Refs.{FileStands, IfMisled, MisledBy};
 ghost use Rattle.page_seeking.specs.Seeking.{LastNamed, NamedNearEnd, Quick, QuickCache};
 ghost use Rattle.page_seeking.specs.declared.refs.FileError.TheVariants as error;
-ghost use Rattle.file_pages.specs.Calls.{to_stamp, to_title};
+ghost use Rattle.file_pages.specs.Calls.{ListsItsEnd, ListsLeader, to_stamp, to_title};
 ghost use Rattle.file_pages.specs.Values.{LeavesHandy};
 
 use crate::ends::locate_ends;
@@ -61,6 +61,7 @@ pub fn title<D: Disk>(
     ensures alone { DiskAlone (D.tape disk.old) (D.tape disk.new) }
     ensures table { hints.new.table ≡ hints.old.table }
     ensures refused { hints.old.cache.refused ≤ hints.new.cache.refused }
+    ensures listed { OnOk result (ListsLeader D.told (pack (D.tape disk.old)) file.now.fid hints.old.cache hints.new.cache) }
     ensures handy { IsTrue D.told → LeavesHandy (pack (D.tape disk.old)) (pack (D.tape disk.new)) hints.old.cache hints.new.cache }
     ensures quick { IsTrue D.told → Quick (pack (D.tape disk.old)) file.now.fid hints.old.cache → OnOk result ((D.tape disk.new).runs ≤ (D.tape disk.old).runs + 3) }
 {
@@ -97,7 +98,7 @@ fn put_stamp(value: &mut [u16; 256], moment: u32, last: LastPage)
 }
 
 /// Gives the leader of an ordinary file another written date, in seconds since the start of 1901, and the address, the number and the bytes
-/// of its last page, by one value write. Its leader and its last page are located first; what `buf` holds is open. With true links, a handy
+/// of its last page, by one value write. Its leader and its last page are located first, and noted; what `buf` holds is open. With true links, a handy
 /// cache and a leader that names a page near the end it takes 6 sector commands, and one for each page after that one; 4, if that is the
 /// last.
 ///
@@ -118,6 +119,7 @@ pub fn stamp<D: Disk>(
     ensures alone { DiskAlone (D.tape disk.old) (D.tape disk.new) }
     ensures table { hints.new.table ≡ hints.old.table }
     ensures refused { hints.old.cache.refused ≤ hints.new.cache.refused }
+    ensures listed { OnOk result (ListsItsEnd D.told (pack (D.tape disk.old)) file.now.fid hints.old.cache hints.new.cache) }
     ensures handy { IsTrue D.told → LeavesHandy (pack (D.tape disk.old)) (pack (D.tape disk.new)) hints.old.cache hints.new.cache }
     ensures quick { IsTrue D.told → Quick (pack (D.tape disk.old)) file.now.fid hints.old.cache → LastNamed (pack (D.tape disk.old)) file.now.fid → OnOk result ((D.tape disk.new).runs ≤ (D.tape disk.old).runs + 4) }
     ensures climbs { (more : ℕ) → IsTrue D.told → QuickCache (pack (D.tape disk.old)) file.now.fid hints.old.cache → NamedNearEnd (pack (D.tape disk.old)) file.now.fid more → OnOk result ((D.tape disk.new).runs ≤ (D.tape disk.old).runs + (more + 6)) }

@@ -1,7 +1,7 @@
 // What a call notes of pages that came.
-ghost use Rattle.std.specs.Prelude.{◌≡◌, ◌+◌, ◌<◌, ◌≤◌, All, length, true};
+ghost use Rattle.std.specs.Prelude.{◌≡◌, ◌+◌, ◌<◌, ◌≤◌, All, [], length, true};
 ghost use Rattle.laws_hint.specs.MapChanges.{marked};
-ghost use Rattle.file_pages.specs.Growing.{NotesOne, NotesPages, NotesTwo};
+ghost use Rattle.file_pages.specs.Growing.{ListsFresh, NotesOne, NotesPages, NotesTwo};
 
 use crate::refs::page_of_file;
 use alto_words::Fid;
@@ -22,7 +22,7 @@ pub(crate) fn mark_busy(table: &mut BitTable, fresh: &[u16])
 }
 
 /// Notes an address. A refused `note` is passed over.
-fn note_one(cache: &mut HintCache, page: Page, at: u16)
+pub(crate) fn note_one(cache: &mut HintCache, page: Page, at: u16)
     ensures { NotesOne page at cache.old cache.new }
 {
     // the count of refusals is a number of 64 bits
@@ -43,6 +43,8 @@ pub(crate) fn note_two(cache: &mut HintCache, fid: Fid, leader_at: u16, page_at:
 pub(crate) fn note_pages(cache: &mut HintCache, fid: Fid, last: u16, fresh: &[u16])
     requires few { last + length fresh.now ≤ 65535 }
     ensures notes { NotesPages fid last fresh.now cache.old cache.new }
+    ensures listed { ListsFresh fid last fresh.now cache.old cache.new }
+    ensures none { fresh.now ≡ [] → cache.new ≡ cache.old }
     ensures refused { cache.old.refused ≤ cache.new.refused }
 {
     let mut before = last;

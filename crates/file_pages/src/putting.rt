@@ -8,7 +8,7 @@ ghost use Rattle.hint_cache.specs.Caches.{address_in};
 ghost use Rattle.laws_call.specs.Acting.{Operates, around};
 ghost use Rattle.laws_operation.specs.ByteLaws.{IsOrdinary};
 ghost use Rattle.page_seeking.specs.Causes.{cause_of_file};
-ghost use Rattle.page_seeking.specs.Parts.{IsPast};
+ghost use Rattle.page_seeking.specs.Parts.{IsPast, ListsNext};
 ghost use Rattle.page_seeking.specs.Refs.{FileStands, IfBeyond, IfMisled, MisledBy};
 ghost use Rattle.page_seeking.specs.Seeking.{KeepsHandy, Quick, Stands, file_length, length_at, page_number};
 ghost use Rattle.page_seeking.specs.declared.refs.FileError.TheVariants as error;
@@ -76,6 +76,7 @@ fn locate_bytes<D: Disk>(
     ensures quick { IsTrue D.told → Quick (pack (D.tape disk.old)) file.now.fid hints.old.cache → OnOk result ((D.tape disk.new).runs ≤ (D.tape disk.old).runs + (page_of_byte offset + 1)) }
     ensures table { hints.new.table ≡ hints.old.table }
     ensures refused { hints.old.cache.refused ≤ hints.new.cache.refused }
+    ensures listed { OnOk result (ListsNext D.told (pack (D.tape disk.old)) file.now.fid offset hints.old.cache hints.new.cache) }
     ensures handy { IsTrue D.told → KeepsHandy (pack (D.tape disk.old)) hints.old.cache hints.new.cache }
 {
     let Some(number) = page_number_of(offset) else {
@@ -140,6 +141,7 @@ pub fn put<D: Disk>(
     ensures alone { DiskAlone (D.tape disk.old) (D.tape disk.new) }
     ensures table { hints.new.table ≡ hints.old.table }
     ensures refused { hints.old.cache.refused ≤ hints.new.cache.refused }
+    ensures listed { OnOk result (ListsNext D.told (pack (D.tape disk.old)) file.now.fid offset hints.old.cache hints.new.cache) }
     ensures handy { IsTrue D.told → LeavesHandy (pack (D.tape disk.old)) (pack (D.tape disk.new)) hints.old.cache hints.new.cache }
 
     // Sector commands: three if the cache has the page's sector; and with true links and handy hints three more than the page's number.

@@ -13,13 +13,13 @@ ghost use Rattle.page_seeking.specs.Causes.{cause_of_length};
 ghost use Rattle.page_seeking.specs.Refs.{IfMisled};
 ghost use Rattle.page_seeking.specs.Seeking.{file_length, IsFull, Seen, Stands, page_after, page_number};
 ghost use Rattle.page_seeking.specs.declared.refs.FileError.TheVariants as error;
-ghost use Rattle.file_pages.specs.Releasing.{AreAfter, Follows, Forgotten, KeepsEachHandy, ListsNoMore, MisledSince, OnlyGo, ReleasesAll, ReleasesNext};
+ghost use Rattle.file_pages.specs.Releasing.{AreAfter, Follows, Forgotten, KeepsEachHandy, KeepsOthers, ListsNoMore, ListsNoneGone, MisledSince, OnlyGo, ReleasesAll, ReleasesNext};
 
 use crate::FileError;
 use crate::refs::error_at;
 use alto_words::Fid;
 use disk_records::{Disk, PAGE_BYTES, Page, Place, Sector};
-use hint_cache::Hints;
+use hint_cache::{HintCache, Hints};
 use label_check::{PageInfo, read_page, release};
 
 /// Whether another page comes after this one.
@@ -68,17 +68,16 @@ fn read_after<D: Disk>(
     }
 }
 
-/// Takes a page's sector as free in the table, and forgets the page's address.
-pub(crate) fn give_back(hints: &mut Hints, page: Page, at: u16)
-    requires { at < length hints.old.table }
-    ensures table { hints.new.table ≡ set hints.old.table at false }
-    ensures refused { hints.new.cache.refused ≡ hints.old.cache.refused }
-    ensures handy { KeepsEachHandy hints.old.cache hints.new.cache }
-    ensures forgotten { address_in hints.new.cache.entries page ≡ None }
-    ensures no_more { ListsNoMore hints.old.cache hints.new.cache }
+/// Takes the entry of a page out of the cache, if there is one. It comes before the page's release: whatever that answers, the page isn't
+/// listed then.
+pub(crate) fn forget_page(cache: &mut HintCache, page: Page)
+    ensures refused { cache.new.refused ≡ cache.old.refused }
+    ensures handy { KeepsEachHandy cache.old cache.new }
+    ensures forgotten { address_in cache.new.entries page ≡ None }
+    ensures no_more { ListsNoMore cache.old cache.new }
+    ensures others { KeepsOthers page cache.old cache.new }
 {
-    hints.table.set(at, false);
-    hints.cache.forget(page);
+    cache.forget(page);
 }
 
 /// Releases the page after one whose label was read. Three sector commands, two record writes. Answers its address and its label's words.
@@ -103,19 +102,24 @@ fn release_after<D: Disk>(
     ensures handy { KeepsEachHandy hints.old.cache hints.new.cache }
     ensures forgotten { IfOk result (λ next. address_in hints.new.cache.entries (page_after page) ≡ None) }
     ensures no_more { ListsNoMore hints.old.cache hints.new.cache }
+    ensures others { KeepsOthers (page_after page) hints.old.cache hints.new.cache }
+    ensures gone { IsTrue D.told → ListsNoneGone (pack (D.tape disk.old)) (pack (D.tape disk.new)) hints.new.cache }
 {
     let after = Page {
         fid: page.fid,
         number: page.number + 1,
     };
     match read_after(disk, page, at, info, buf) {
-        Ok((to, next)) => match release(disk, to, after) {
-            Ok(()) => {
-                give_back(hints, after, to);
-                Ok((to, next))
+        Ok((to, next)) => {
+            forget_page(&mut hints.cache, after);
+            match release(disk, to, after) {
+                Ok(()) => {
+                    hints.table.set(to, false);
+                    Ok((to, next))
+                }
+                Err(error) => Err(error_at(Place::Next { at }, info.next, after, error)),
             }
-            Err(error) => Err(error_at(Place::Next { at }, info.next, after, error)),
-        },
+        }
         Err(error) => Err(error),
     }
 }
@@ -142,6 +146,8 @@ pub(crate) fn release_rest<D: Disk>(
     ensures handy { KeepsEachHandy hints.old.cache hints.new.cache }
     ensures forgotten { (p : Pack) → IsTrue D.told → Follows p (pack (D.tape disk.old)) (page_number fid number) at info → Whole p → file_length p fid / 512 < 65535 → OnOk result (Forgotten hints.new.cache fid number (page_of_byte (file_length p fid))) }
     ensures no_more { ListsNoMore hints.old.cache hints.new.cache }
+    ensures here { address_in hints.new.cache.entries (page_number fid number) ≡ address_in hints.old.cache.entries (page_number fid number) }
+    ensures gone { IsTrue D.told → ListsNoneGone (pack (D.tape disk.old)) (pack (D.tape disk.new)) hints.new.cache }
 {
     let mut here = at;
     let mut last = info;

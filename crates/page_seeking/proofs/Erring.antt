@@ -21,6 +21,12 @@ at_wrong T U P Q (guard.Wrong found) is wrong h = rw is (h found wrong)
 at_wrong T U P Q guard.DiskFault is wrong h = rw is tt
 at_wrong T U P Q guard.Memory is wrong h = rw is tt
 
+-- the place is the hint's own, whatever was found
+pub at_place : (T : Type 0) (P : Place → Type 0) (place : Place) (at : ℕ) (wanted : Page) (e : FileError) (error : GuardError) → e ≡ error_at place at wanted error → P place → IfMisled {T = T} (Err e) (λ p a w found. P p)
+at_place T P place at wanted e (guard.Wrong found) is h = rw is h
+at_place T P place at wanted e guard.DiskFault is h = rw is tt
+at_place T P place at wanted e guard.Memory is h = rw is tt
+
 pub if_ok_map : {T E : Type 0} {P Q : T → Type 0} (result : Result T E) → IfOk result P → ((x : T) → P x → Q x) → IfOk result Q
 if_ok_map (Ok x) p f = f x p
 if_ok_map (Err e) p f = tt

@@ -4,10 +4,13 @@ pub mod Seeking
 pub mod Misleading
 pub mod Erring
 pub mod Recalling
-mod Recent
+pub mod Recent
 pub mod Ending
 pub mod Easing
 pub mod Lasting
 pub mod Once
 pub mod Parting
 pub mod Stopping
+pub mod TrueLinks
+pub mod OwnHints
+pub mod Listing

@@ -6,12 +6,12 @@ use Rattle.alto_words.specs.declared.fid.Fid.{Fid}
 use Rattle.disk_records.specs.declared.shape.Shape.{Shape}
 use Rattle.disk_records.specs.declared.records.Page.{Page}
 use Rattle.disk_records.specs.declared.records.Place.{Place}
-use Rattle.disk_records.specs.declared.records.Place.TheVariants.{Next}
+use Rattle.disk_records.specs.declared.records.Place.TheVariants.{Root, Entry, Next, Held}
 use Rattle.disk_records.specs.Addresses.{pages_of, real_of}
 use Rattle.disk_records.specs.Words.{word}
 use Rattle.disk_records.specs.Packs.{Pack, carried, label_found, sector_at}
 use Rattle.label_check.specs.declared.errors.PageInfo.{PageInfo}
-use Rattle.pack_model.specs.hints.Misled.{AnswersMisled, NamesSector, StandsAt, leader_page}
+use Rattle.pack_model.specs.hints.Misled.{AnswersMisled, IsOnDisk, NamesSector, StandsAt, leader_page}
 use Rattle.pack_model.specs.hints.Sources.{IsFrom}
 use Rattle.laws_lookup.proofs.hints.Laws.{label_of_another_page_misleads, link_means_the_next_page, no_sector_misleads}
 use Rattle.laws_lookup.proofs.sources.Laws.{leader_that_is_not_there_misleads}
@@ -33,6 +33,13 @@ unfound p at none = no_label (nat_lt 0 at) (nat_lt at (pages_of p.shape)) (word 
 -- ---- the address that a file is named with
 pub leader_misled : (p : Pack) (f : Fid) (at : ℕ) (from : Place) (found : Option (List ℕ)) → IsFrom p f at from → (carried p at ≡ Some (leader_page f) → ⊥) → found ≡ label_found p at → MisledBy p [] f from at (leader_page f) found
 leader_misled p f at from found h failed is = record { own = refl; answers = subst (AnswersMisled p [] from at (leader_page f)) (sym is) (leader_that_is_not_there_misleads p [] f at from h failed) }
+
+-- it stands on the disk: where the leader is at SysDir's fixed address, or was seen before, the address doesn't mislead
+pub leader_on_disk : (p : Pack) (f : Fid) (at : ℕ) (from : Place) → IsFrom p f at from → (from ≡ Root → carried p at ≡ Some (leader_page f)) → (carried p at ≡ Some (leader_page f) → ⊥) → IsOnDisk from
+leader_on_disk p f at Root h root failed = absurd (failed (root refl))
+leader_on_disk p f at (Entry d w) h root failed = tt
+leader_on_disk p f at (Next i) h root failed = absurd h
+leader_on_disk p f at (Held i) h root failed = absurd (failed h.1)
 
 -- ---- a next link
 -- the sector that a link was taken to name

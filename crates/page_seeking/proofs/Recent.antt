@@ -16,10 +16,10 @@ and_false : (a b : Bool) → b ≡ false → (a && b) ≡ false
 and_false true b e = e
 and_false false b e = refl
 
-lower_differs : (other page : Page) → other.number < page.number → is_page other page ≡ false
+pub lower_differs : (other page : Page) → other.number < page.number → is_page other page ≡ false
 lower_differs other page less = and_false (is_fid other.fid page.fid) (other.number == page.number) (grind (arith, nat_tests))
 
-higher_differs : (other page : Page) → other.number < page.number → is_page page other ≡ false
+pub higher_differs : (other page : Page) → other.number < page.number → is_page page other ≡ false
 higher_differs other page less = and_false (is_fid page.fid other.fid) (page.number == other.number) (grind (arith, nat_tests))
 
 -- ---- addresses among the first entries
@@ -39,7 +39,7 @@ module _ (other : Page) (i : ℕ) where
   among_more (suc n) zero (x ∷ l) most h = absurd (omega (arith, most))
   among_more (suc n) (suc m) (x ∷ l) most h = goes_on x (take n l) (take m l) (among_more n m l (omega (arith, most))) h
 
-  among_all : (n : ℕ) (l : List Entry) → address_in (take n l) other ≡ Some i → address_in l other ≡ Some i
+  pub among_all : (n : ℕ) (l : List Entry) → address_in (take n l) other ≡ Some i → address_in l other ≡ Some i
   among_all zero [] h = absurd cc
   among_all zero (x ∷ l) h = absurd cc
   among_all (suc n) [] h = absurd cc
@@ -67,7 +67,7 @@ module _ (other : Page) (i : ℕ) where
       by rest false is false own h = rw own (rest h)
 
   -- after a note of another page
-  among_noted : (page : Page) (at n : ℕ) (l : List Entry) → is_page other page ≡ false → is_page page other ≡ false → suc n ≤ 48 → address_in (take n l) other ≡ Some i → address_in (take (suc n) (noted page at l)) other ≡ Some i
+  pub among_noted : (page : Page) (at n : ℕ) (l : List Entry) → is_page other page ≡ false → is_page page other ≡ false → suc n ≤ 48 → address_in (take n l) other ≡ Some i → address_in (take (suc n) (noted page at l)) other ≡ Some i
   among_noted page at n l apart turned few h = rw turned (among_cut n 47 (without page l) (omega (arith, few)) (among_without page n l apart h))
 
 -- ---- a page that was noted

@@ -5,7 +5,7 @@ use Rattle.disk_records.specs.declared.records.Page.{Page}
 use Rattle.disk_records.specs.Packs.{Pack, carried}
 use Rattle.hint_cache.specs.Caches.{Cached, address_in}
 use Rattle.pack_model.specs.operations.Committing.{page_of_byte}
-use Rattle.page_seeking.specs.Seeking.{Refused, file_length, page_number}
+use Rattle.page_seeking.specs.Seeking.{EndsAtPage, Refused, file_length, length_at, page_number}
 
 -- So many bytes from the offset on, as many as are there and fit, stand in front of what stood after them.
 pub record IsPart (bytes : List ℕ) (offset : ℕ) (old new : List ℕ) (n : ℕ) : Type 0 where
@@ -46,3 +46,12 @@ pub record ListsEnd (told : Bool) (p : Pack) (f : Fid) (end : ℕ) (old new : Ca
 -- the page that the byte at this offset is in, or would be, is listed, unless a `note` was refused
 abbrev pub ListsNext : Bool → Pack → Fid → ℕ → Cached → Cached → Type 0
 ListsNext told p f offset old new = IsListed told p (page_number f (page_of_byte offset)) new ⊎ Refused old new
+
+-- The length of a file was told by its last page, by its number and the bytes that count in it: the page is listed, unless a `note` was
+-- refused.
+pub record ListsLast (told : Bool) (p : Pack) (f : Fid) (old new : Cached) (n : ℕ) : Type 0 where
+  pub number : ℕ
+  pub bytes : ℕ
+  pub tells : n ≡ length_at number bytes
+  pub ends : EndsAtPage number bytes
+  pub listed : IsListed told p (page_number f number) new ⊎ Refused old new

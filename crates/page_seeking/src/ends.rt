@@ -1,15 +1,17 @@
 // The last page of a file, and so its length.
-ghost use Rattle.std.specs.Prelude.{◌≡◌, ◌≢◌, ◌⊎◌, ◌+◌, ◌-◌, ◌<◌, ◌≤◌, ℕ, Some, IsTrue, IsErrOf, IfOk, OnOk, []};
+ghost use Rattle.std.specs.Prelude.{◌≡◌, ◌≢◌, ◌⊎◌, ◌+◌, ◌-◌, ◌*◌, ◌<◌, ◌≤◌, ℕ, Some, IsTrue, IsErrOf, IfOk, OnOk, []};
 ghost use Rattle.disk_records.specs.Causes.{HasCause};
 ghost use Rattle.disk_records.specs.Packs.{carried};
 ghost use Rattle.disk_records.specs.Tapes.{Looks, Rose, pack};
 ghost use Rattle.disk_records.specs.Words.{word};
 ghost use Rattle.pack_model.specs.hints.Handy.{last_number_word, leader_word};
+ghost use Rattle.pack_model.specs.hints.Links.{LinksTrue};
 ghost use Rattle.pack_model.specs.reading.Sights.{sights};
 ghost use Rattle.pack_model.specs.states.Sentences.{EachOnce};
 ghost use Rattle.pack_model.specs.states.Whole.{Whole};
 ghost use Rattle.page_seeking.specs.Causes.{cause_of_length};
-ghost use Rattle.page_seeking.specs.Refs.{FileIsFrom, IfMisled, IfBeyond, MisledBy};
+ghost use Rattle.page_seeking.specs.Parts.{ListsLast};
+ghost use Rattle.page_seeking.specs.Refs.{FileIsFrom, FileStands, IfMisled, IfBeyond, IsOwnHint, IsOwnLink, MisledBy};
 ghost use Rattle.page_seeking.specs.Seeking.{EndsAtPage, IsLast, KeepsHandy, LastNamed, Lists, NamedNearEnd, Quick, QuickCache, Seen, Stands, file_length, page_number};
 ghost use Rattle.page_seeking.specs.Inside.{Confirmed, Known, NamesEnd, Sought, StaysAt};
 
@@ -51,6 +53,7 @@ fn climb_to_end<D: Disk>(
     ensures misled { IsTrue D.told → Known D.told (pack (D.tape disk.old)) (D.tape disk.old).form (page_number fid below.number) below.found → IfMisled result (MisledBy (pack (D.tape disk.old)) [] fid) }
     ensures never_beyond { IfBeyond result (λ length. ⊥) }
     ensures climbs { IsTrue D.told → IfOk result (λ last. (D.tape disk.new).runs + below.number ≤ (D.tape disk.old).runs + last.number) }
+    ensures link { IfMisled result (λ place at wanted found. IsOwnLink fid place wanted) }
 {
     let mut here = below.found;
     for number in below.number..u16::MAX {
@@ -114,8 +117,12 @@ pub(crate) fn seek_last<D: Disk>(
     ensures misled { IsTrue D.told → FileIsFrom (pack (D.tape disk.old)) file.now → IfMisled result (MisledBy (pack (D.tape disk.old)) [] file.now.fid) }
     ensures never_beyond { IfBeyond result (λ length. ⊥) }
     ensures climbs { (more : ℕ) → IsTrue D.told → QuickCache (pack (D.tape disk.old)) file.now.fid cache.old → (near : NamedNearEnd (pack (D.tape disk.old)) file.now.fid more) → IfOk result (λ last. (D.tape disk.new).runs + leader_word (pack (D.tape disk.old)) near.leader_at last_number_word ≤ (D.tape disk.old).runs + (last.number + 2)) }
+    ensures hint { IfMisled result (IsOwnHint file.now) }
 {
-    let leader = locate_leader(disk, cache, file, buf)?;
+    let leader = match locate_leader(disk, cache, file, buf) {
+        Ok(leader) => leader,
+        Err(error) => return Err(error),
+    };
     let below = near_end(disk, cache, file.fid, leader, buf)?;
     climb_to_end(disk, cache, file.fid, below, buf)
 }
@@ -140,6 +147,8 @@ pub fn last_page<D: Disk>(
 
     // Which error comes when.
     ensures misled { IsTrue D.told → FileIsFrom (pack (D.tape disk.old)) file.now → IfMisled result (MisledBy (pack (D.tape disk.old)) [] file.now.fid) }
+    ensures hint { IfMisled result (IsOwnHint file.now) }
+    ensures true_links { IsTrue D.told → FileStands (pack (D.tape disk.old)) file.now → LinksTrue (pack (D.tape disk.old)) → IfMisled result (λ place at wanted found. ⊥) }
     ensures cause { HasCause cause_of_length (D.tape disk.old) (D.tape disk.new) result }
     ensures want { IsTrue D.told → IsErrOf result FileError.Memory → ⊥ }
 
@@ -166,7 +175,8 @@ pub fn last_page<D: Disk>(
 }
 
 /// The length of a file in bytes, by the label of its last page, which is located as by `last_page`. On a pack that isn't whole pages
-/// before it may be missing: the file ends there then, and has fewer bytes. Nothing is written.
+/// before it may be missing: the file ends there then, and has fewer bytes. It is at most 65,535 pages of 512 bytes on every disk. The cache
+/// lists the last page from then on. Nothing is written.
 ///
 /// Misled, DiskFault and Memory come as from `last_page`, and Beyond never comes.
 pub fn length<D: Disk>(
@@ -177,12 +187,15 @@ pub fn length<D: Disk>(
 ) -> Result<u32, FileError>
     ensures length { IsTrue D.told → Whole (pack (D.tape disk.old)) → IfOk result (λ n. n ≡ file_length (pack (D.tape disk.old)) file.now.fid) }
     ensures most { IsTrue D.told → EachOnce (sights (pack (D.tape disk.old))) → IfOk result (λ n. file_length (pack (D.tape disk.old)) file.now.fid ≤ n) }
+    ensures bound { IfOk result (λ n. n ≤ 65535 * 512) }
     ensures misled { IsTrue D.told → FileIsFrom (pack (D.tape disk.old)) file.now → IfMisled result (MisledBy (pack (D.tape disk.old)) [] file.now.fid) }
+    ensures true_links { IsTrue D.told → FileStands (pack (D.tape disk.old)) file.now → LinksTrue (pack (D.tape disk.old)) → IfMisled result (λ place at wanted found. ⊥) }
     ensures cause { HasCause cause_of_length (D.tape disk.old) (D.tape disk.new) result }
     ensures want { IsTrue D.told → IsErrOf result FileError.Memory → ⊥ }
     ensures looks { Looks D.told 65586 (D.tape disk.old) (D.tape disk.new) }
     ensures quick { IsTrue D.told → Quick (pack (D.tape disk.old)) file.now.fid hints.old.cache → LastNamed (pack (D.tape disk.old)) file.now.fid → OnOk result ((D.tape disk.new).runs ≤ (D.tape disk.old).runs + 2) }
     ensures table { hints.new.table ≡ hints.old.table }
+    ensures listed { IfOk result (ListsLast D.told (pack (D.tape disk.old)) file.now.fid hints.old.cache hints.new.cache) }
     ensures refused { hints.old.cache.refused ≤ hints.new.cache.refused }
     ensures handy { IsTrue D.told → KeepsHandy (pack (D.tape disk.old)) hints.old.cache hints.new.cache }
 {

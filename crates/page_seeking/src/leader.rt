@@ -5,8 +5,8 @@ ghost use Rattle.disk_records.specs.Packs.{carried};
 ghost use Rattle.disk_records.specs.Words.{word};
 ghost use Rattle.hint_cache.specs.Caches.{address_in};
 ghost use Rattle.pack_model.specs.hints.Handy.{last_at_word, last_number_word};
-ghost use Rattle.pack_model.specs.hints.Misled.{leader_page};
-ghost use Rattle.page_seeking.specs.Refs.{FileIsFrom, IfMisled, IfBeyond, MisledBy};
+ghost use Rattle.pack_model.specs.hints.Misled.{IsOnDisk, leader_page};
+ghost use Rattle.page_seeking.specs.Refs.{FileIsFrom, FileIsRooted, IfMisled, IfBeyond, MisledBy, IsOwnAddress};
 ghost use Rattle.page_seeking.specs.Inside.{Sought, Confirmed, IfFound, IfMissed, EndsAt, Finds, IsNoneOr, LeadsTo, LiesAt};
 
 use crate::look::look_at;
@@ -38,7 +38,9 @@ fn look_at_leader<D: Disk>(
     ensures fault { IsErrOf result FileError.DiskFault → Rose (D.tape disk.old).disk_faults (D.tape disk.new).disk_faults }
     ensures want { IsTrue D.told → IsErrOf result FileError.Memory → ⊥ }
     ensures misled { IsTrue D.told → FileIsFrom (pack (D.tape disk.old)) file.now → IfMisled result (MisledBy (pack (D.tape disk.old)) [] file.now.fid) }
+    ensures on_disk { IsTrue D.told → FileIsRooted (pack (D.tape disk.old)) file.now → IfMisled result (λ place at wanted found. IsOnDisk place) }
     ensures never_beyond { IfBeyond result (λ length. ⊥) }
+    ensures hint { IfMisled result (λ place at wanted found. IsOwnAddress file.now place at wanted) }
 {
     let shape = disk.shape();
     let page = Page {
@@ -68,9 +70,11 @@ pub(crate) fn locate_leader<D: Disk>(
     ensures fault { IsErrOf result FileError.DiskFault → Rose (D.tape disk.old).disk_faults (D.tape disk.new).disk_faults }
     ensures want { IsTrue D.told → IsErrOf result FileError.Memory → ⊥ }
     ensures misled { IsTrue D.told → FileIsFrom (pack (D.tape disk.old)) file.now → IfMisled result (MisledBy (pack (D.tape disk.old)) [] file.now.fid) }
+    ensures on_disk { IsTrue D.told → FileIsRooted (pack (D.tape disk.old)) file.now → IfMisled result (λ place at wanted found. IsOnDisk place) }
     ensures never_beyond { IfBeyond result (λ length. ⊥) }
     ensures soon { (at : ℕ) → IsTrue D.told → address_in cache.old.entries (leader_page file.now.fid) ≡ Some at → carried (pack (D.tape disk.old)) at ≡ Some (leader_page file.now.fid) → (D.tape disk.new).runs ≤ (D.tape disk.old).runs + 1 }
     ensures quick { (at : ℕ) → IsTrue D.told → Finds (pack (D.tape disk.old)) file.now.fid 0 at cache.old → (D.tape disk.new).runs ≤ (D.tape disk.old).runs + 1 }
+    ensures hint { IfMisled result (λ place at wanted found. IsOwnAddress file.now place at wanted) }
 {
     let page = Page {
         fid: file.fid,

@@ -13,7 +13,8 @@
 //! 4. No call that takes no allocator answers Memory (`want`).
 //! 5. A sector that is answered carries the page (`stands`), and Beyond comes only after a page that isn't full (`ends`).
 //! 6. Misled comes only where a hint of the file misleads (`misled`), if the file's address stands where it was taken from (`FileIsFrom`):
-//!    so on packs that are being opened too.
+//!    so on packs that are being opened too. As `locate` answers it, the hint is on the disk then, if SysDir's leader is
+//!    at its fixed address (`on_disk`).
 //!
 //! And where besides the pack carries no page twice, as one that is being opened:
 //! 7. `read_all` gives the file's bytes (`read`), and `read_part` those from each offset that isn't past the end (`read_once`); the file

@@ -1,7 +1,8 @@
 // Following next links upward.
 ghost use Rattle.std.specs.Prelude.{◌≡◌, ◌≢◌, ◌⊎◌, true, false, ◌+◌, ◌-◌, ◌<◌, ◌≤◌, IsTrue, IsErrOf, IfOk, OnOk, []};
 ghost use Rattle.disk_records.specs.Tapes.{Rose, pack};
-ghost use Rattle.page_seeking.specs.Refs.{IfMisled, IfBeyond, MisledBy};
+ghost use Rattle.pack_model.specs.hints.Misled.{IsOnDisk};
+ghost use Rattle.page_seeking.specs.Refs.{IfMisled, IfBeyond, MisledBy, IsOwnLink};
 ghost use Rattle.page_seeking.specs.Seeking.{IsEnd, IsFull, length_at, page_after, page_number};
 ghost use Rattle.page_seeking.specs.Inside.{Sought, Confirmed, KeepsRecent, Known};
 
@@ -29,8 +30,10 @@ pub(crate) fn follow<D: Disk>(
     ensures fault { IsErrOf result FileError.DiskFault → Rose (D.tape disk.old).disk_faults (D.tape disk.new).disk_faults }
     ensures want { IsTrue D.told → IsErrOf result FileError.Memory → ⊥ }
     ensures misled { IsTrue D.told → Known D.told (pack (D.tape disk.old)) (D.tape disk.old).form page here → IsFull page here.info.bytes → IfMisled result (MisledBy (pack (D.tape disk.old)) [] page.fid) }
+    ensures on_disk { IfMisled result (λ place at wanted found. IsOnDisk place) }
     ensures never_beyond { IfBeyond result (λ length. ⊥) }
     ensures keeps { OnOk result (KeepsRecent page cache.old cache.new) }
+    ensures link { IfMisled result (λ place at wanted found. IsOwnLink page.fid place wanted) }
 {
     let shape = disk.shape();
     let after = Page {
@@ -86,6 +89,7 @@ pub(crate) fn climb<D: Disk>(
     ensures fault { IsErrOf result FileError.DiskFault → Rose (D.tape disk.old).disk_faults (D.tape disk.new).disk_faults }
     ensures want { IsTrue D.told → IsErrOf result FileError.Memory → ⊥ }
     ensures misled { IsTrue D.told → Known D.told (pack (D.tape disk.old)) (D.tape disk.old).form (page_number fid below.number) below.found → IfMisled result (MisledBy (pack (D.tape disk.old)) [] fid) }
+    ensures on_disk { IfMisled result (λ place at wanted found. IsOnDisk place) }
     ensures ends { IsTrue D.told → Known D.told (pack (D.tape disk.old)) (D.tape disk.old).form (page_number fid below.number) below.found → IfBeyond result (IsEnd (pack (D.tape disk.old)) fid number) }
     ensures never_beyond { number ≤ 1 → IfBeyond result (λ length. ⊥) }
 {

@@ -4,9 +4,11 @@ ghost use Rattle.disk_records.specs.Causes.{HasCause};
 ghost use Rattle.disk_records.specs.Packs.{carried};
 ghost use Rattle.disk_records.specs.Tapes.{Looks, Rose, pack};
 ghost use Rattle.hint_cache.specs.Caches.{address_in};
+ghost use Rattle.pack_model.specs.hints.Misled.{IsOnDisk};
 ghost use Rattle.pack_model.specs.states.Whole.{Whole};
 ghost use Rattle.page_seeking.specs.Causes.{cause_of_file};
-ghost use Rattle.page_seeking.specs.Refs.{FileIsFrom, IfMisled, IfBeyond, MisledBy};
+ghost use Rattle.page_seeking.specs.Refs.{FileIsFrom, FileIsRooted, IfMisled, IfBeyond, MisledBy, FileStands};
+ghost use Rattle.pack_model.specs.hints.Links.{LinksTrue};
 ghost use Rattle.page_seeking.specs.Seeking.{Seen, Stands, Lists, KeepsHandy, Quick, QuickCache, IsEnd, IsLengthBelow, page_number};
 ghost use Rattle.page_seeking.specs.Inside.{Sought, Confirmed, Known, Eases, Finds};
 
@@ -72,6 +74,7 @@ fn seek_from_leader<D: Disk>(
     ensures fault { IsErrOf result FileError.DiskFault → Rose (D.tape disk.old).disk_faults (D.tape disk.new).disk_faults }
     ensures want { IsTrue D.told → IsErrOf result FileError.Memory → ⊥ }
     ensures misled { IsTrue D.told → FileIsFrom (pack (D.tape disk.old)) file.now → IfMisled result (MisledBy (pack (D.tape disk.old)) [] file.now.fid) }
+    ensures on_disk { IsTrue D.told → FileIsRooted (pack (D.tape disk.old)) file.now → IfMisled result (λ place at wanted found. IsOnDisk place) }
     ensures ends { IsTrue D.told → IfBeyond result (IsEnd (pack (D.tape disk.old)) file.now.fid number) }
     ensures never_beyond { number ≤ 1 → IfBeyond result (λ length. ⊥) }
     ensures quick { (at : ℕ) → IsTrue D.told → Eases (pack (D.tape disk.old)) file.now.fid number at cache.old → OnOk result ((D.tape disk.new).runs ≤ (D.tape disk.old).runs + (number + 1)) }
@@ -103,6 +106,7 @@ pub(crate) fn seek_page<D: Disk>(
     ensures fault { IsErrOf result FileError.DiskFault → Rose (D.tape disk.old).disk_faults (D.tape disk.new).disk_faults }
     ensures want { IsTrue D.told → IsErrOf result FileError.Memory → ⊥ }
     ensures misled { IsTrue D.told → FileIsFrom (pack (D.tape disk.old)) file.now → IfMisled result (MisledBy (pack (D.tape disk.old)) [] file.now.fid) }
+    ensures on_disk { IsTrue D.told → FileIsRooted (pack (D.tape disk.old)) file.now → IfMisled result (λ place at wanted found. IsOnDisk place) }
     ensures ends { IsTrue D.told → IfBeyond result (IsEnd (pack (D.tape disk.old)) file.now.fid number) }
     ensures never_beyond { number ≤ 1 → IfBeyond result (λ length. ⊥) }
     ensures soon { (at : ℕ) → IsTrue D.told → address_in cache.old.entries (page_number file.now.fid number) ≡ Some at → carried (pack (D.tape disk.old)) at ≡ Some (page_number file.now.fid number) → (D.tape disk.new).runs ≤ (D.tape disk.old).runs + 1 }
@@ -144,9 +148,11 @@ pub fn locate<D: Disk>(
 
     // Which error comes when.
     ensures misled { IsTrue D.told → FileIsFrom (pack (D.tape disk.old)) file.now → IfMisled result (MisledBy (pack (D.tape disk.old)) [] file.now.fid) }
+    ensures on_disk { IsTrue D.told → FileIsRooted (pack (D.tape disk.old)) file.now → IfMisled result (λ place at wanted found. IsOnDisk place) }
     ensures beyond { IsTrue D.told → Whole (pack (D.tape disk.old)) → IfBeyond result (IsLengthBelow (pack (D.tape disk.old)) file.now.fid number) }
     ensures ends { IsTrue D.told → IfBeyond result (IsEnd (pack (D.tape disk.old)) file.now.fid number) }
     ensures never_beyond { number ≤ 1 → IfBeyond result (λ length. ⊥) }
+    ensures true_links { IsTrue D.told → FileStands (pack (D.tape disk.old)) file.now → LinksTrue (pack (D.tape disk.old)) → IfMisled result (λ place at wanted found. ⊥) }
     ensures cause { HasCause cause_of_file (D.tape disk.old) (D.tape disk.new) result }
     ensures want { IsTrue D.told → IsErrOf result FileError.Memory → ⊥ }
 

@@ -14,7 +14,7 @@ ghost use Rattle.pack_model.specs.states.Sentences.{EachOnce};
 ghost use Rattle.pack_model.specs.states.Whole.{Whole};
 ghost use Rattle.page_seeking.specs.Causes.{cause_of_file};
 ghost use Rattle.page_seeking.specs.Parts.{IsPart, IsPast, IsReadTo, IsWithinPart, ListsEnd, ListsNext};
-ghost use Rattle.page_seeking.specs.Refs.{FileIsFrom, IfMisled, IfBeyond, MisledBy};
+ghost use Rattle.page_seeking.specs.Refs.{FileIsFrom, FileStands, IfMisled, IfBeyond, MisledBy};
 ghost use Rattle.page_seeking.specs.Seeking.{KeepsHandy, Quick, file_length, page_number};
 ghost use Rattle.page_seeking.specs.Inside.{Known, LastListed, Sought, Stops, StopsAt};
 
@@ -180,6 +180,7 @@ pub fn read_part<D: Disk>(
     ensures beyond_once { IsTrue D.told → EachOnce (sights (pack (D.tape disk.old))) → offset ≤ file_length (pack (D.tape disk.old)) file.now.fid → IfBeyond result (λ n. n ≡ file_length (pack (D.tape disk.old)) file.now.fid) }
     ensures never_beyond { offset ≡ 0 → IfBeyond result (λ length. ⊥) }
     ensures misled { IsTrue D.told → FileIsFrom (pack (D.tape disk.old)) file.now → IfMisled result (MisledBy (pack (D.tape disk.old)) [] file.now.fid) }
+    ensures true_links { IsTrue D.told → FileStands (pack (D.tape disk.old)) file.now → LinksTrue (pack (D.tape disk.old)) → IfMisled result (λ place at wanted found. ⊥) }
     ensures cause { HasCause cause_of_file (D.tape disk.old) (D.tape disk.new) result }
     ensures want { IsTrue D.told → IsErrOf result FileError.Memory → ⊥ }
 
@@ -205,7 +206,7 @@ pub fn read_part<D: Disk>(
     }
 }
 
-/// Reads all bytes of a file. Nothing is written.
+/// Reads all bytes of a file. The cache lists the page of the last byte then, or of no bytes page 1. Nothing is written.
 ///
 /// Misled and DiskFault come as from `locate`. Memory: none was left for the bytes. Beyond never comes.
 pub fn read_all<D: Disk>(
@@ -217,9 +218,12 @@ pub fn read_all<D: Disk>(
     ensures read { IsTrue D.told → EachOnce (sights (pack (D.tape disk.old))) → IfOk result (λ bytes. bytes.items ≡ file_bytes (sights (pack (D.tape disk.old))) file.now.fid) }
     ensures never_beyond { IfBeyond result (λ length. ⊥) }
     ensures misled { IsTrue D.told → FileIsFrom (pack (D.tape disk.old)) file.now → IfMisled result (MisledBy (pack (D.tape disk.old)) [] file.now.fid) }
+    ensures true_links { IsTrue D.told → FileStands (pack (D.tape disk.old)) file.now → LinksTrue (pack (D.tape disk.old)) → IfMisled result (λ place at wanted found. ⊥) }
     ensures cause { HasCause cause_of_file (D.tape disk.old) (D.tape disk.new) result }
     ensures looks { Looks D.told 131174 (D.tape disk.old) (D.tape disk.new) }
     ensures table { hints.new.table ≡ hints.old.table }
+    ensures last { IfOk result (λ bytes. 1 ≤ length bytes.items → ListsNext D.told (pack (D.tape disk.old)) file.now.fid (length bytes.items - 1) hints.old.cache hints.new.cache) }
+    ensures listed { IfOk result (λ bytes. ListsEnd D.told (pack (D.tape disk.old)) file.now.fid (length bytes.items) hints.old.cache hints.new.cache) }
     ensures refused { hints.old.cache.refused ≤ hints.new.cache.refused }
     ensures handy { IsTrue D.told → KeepsHandy (pack (D.tape disk.old)) hints.old.cache hints.new.cache }
 {

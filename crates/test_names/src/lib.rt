@@ -14,4 +14,6 @@ mod pack;
 #[cfg(test)]
 mod reading;
 #[cfg(test)]
+mod values;
+#[cfg(test)]
 mod widening;

@@ -1,11 +1,13 @@
 // Opening a formatted pack: DiskDescriptor has 38 bytes in sector 4, for 48 sectors and so 3 map words, and sectors 0 to 4 are used.
-use crate::pack::formatted;
-use alto_words::Fid;
-use directory::FileRef;
-use disk_descriptor::{DescError, OpenError, enter_pack};
+use crate::pack::{ROOT, formatted};
+use alto_words::{Fid, Wanted};
+use directory::{FileRef, lookup};
+use disk_descriptor::{DescError, OpenError, enter_pack, format};
 use disk_memory::SureMachine;
-use disk_records::{Disk, Page, Place, Plan, Sector};
+use disk_records::{Disk, Page, Place, Plan, Sector, Shape};
+use hint_cache::{BitTable, HintCache, Hints};
 use label_check::read_page;
+use std::alloc::Global;
 use std::process::Abort;
 use std::test::Fail;
 
@@ -25,23 +27,31 @@ const FIRST: Page = Page {
     number: 1,
 };
 
-/// Puts the number in the place of a word of its first data page, or its count of bytes where `word` is 256.
+/// The page with SysDir's words.
+const ENTRIES: Page = Page {
+    fid: Fid::SYS_DIR,
+    number: 1,
+};
+
+/// Puts the number in the place of a word of the page that this sector carries: of its value below 256, and after that of its label.
 fn change<A: Abort>(
     rt: &A,
     machine: &mut SureMachine,
+    at: u16,
+    page: Page,
     word: usize,
     number: u16,
 ) -> Result<(), Fail> {
     let mut buf = Sector::ZEROS;
-    assert!(rt; 4 < machine.shape().pages());
-    read_page(machine, 4, FIRST, &mut buf)?;
+    assert!(rt; 0 < at && at < machine.shape().pages() && word < 264);
+    read_page(machine, at, page, &mut buf)?;
     if word < 256 {
         buf.value[word] = number;
     } else {
-        buf.label[3] = number;
+        buf.label[word - 256] = number;
     }
-    assert!(rt; 4 < machine.shape().pages());
-    machine.run(4, Plan::WRITE_ALL, &mut buf)?;
+    assert!(rt; at < machine.shape().pages());
+    machine.run(at, Plan::WRITE_ALL, &mut buf)?;
     Ok(())
 }
 
@@ -78,10 +88,10 @@ fn refusals(rt: HostRuntime) -> Result<(), Fail> {
             },
         ),
         (3, 13, OpenError::BadDescriptor { word: 3, found: 13 }),
-        (256, 36, OpenError::WrongLength { length: 36 }),
+        (259, 36, OpenError::WrongLength { length: 36 }),
     ];
     for (word, number, refusal) in rows {
-        change(&rt, &mut machine, word, number)?;
+        change(&rt, &mut machine, 4, FIRST, word, number)?;
         assert!(rt; hints.table.pages() == machine.shape().pages());
         match enter_pack(&mut machine, &mut hints, &DESCRIPTOR) {
             Ok(_) => assert!(rt; false),
@@ -96,8 +106,8 @@ fn refusals(rt: HostRuntime) -> Result<(), Fail> {
 #[test]
 fn last_serials(rt: HostRuntime) -> Result<(), Fail> {
     let (mut machine, mut hints) = formatted(rt.alloc())?;
-    change(&rt, &mut machine, 4, 0x7FFF)?;
-    change(&rt, &mut machine, 5, 0xFFFD)?;
+    change(&rt, &mut machine, 4, FIRST, 4, 0x7FFF)?;
+    change(&rt, &mut machine, 4, FIRST, 5, 0xFFFD)?;
     assert!(rt; hints.table.pages() == machine.shape().pages());
     let mut kept = enter_pack(&mut machine, &mut hints, &DESCRIPTOR)?;
     assert_eq!(rt; kept.next_serial(&mut machine)?, 2_147_483_646);
@@ -108,5 +118,107 @@ fn last_serials(rt: HostRuntime) -> Result<(), Fail> {
         })
     );
     assert_eq!(rt; kept.last(), 2_147_483_646);
+    Ok(())
+}
+
+/// An entry with the address of the data page misleads: the label there isn't the leader's.
+#[test]
+fn misled_by_its_entry(rt: HostRuntime) -> Result<(), Fail> {
+    let (mut machine, mut hints) = formatted(rt.alloc())?;
+    change(&rt, &mut machine, 2, ENTRIES, 15, 4)?;
+    let wanted = Wanted::parse(b"DiskDescriptor").ok_or("no operand")?;
+    let mut buf = Sector::ZEROS;
+    let (file, _) = lookup(&mut machine, &mut hints, &ROOT, &wanted, &mut buf)?;
+    assert!(rt; hints.table.pages() == machine.shape().pages());
+    match enter_pack(&mut machine, &mut hints, &file) {
+        Ok(_) => assert!(rt; false),
+        Err(error) => assert_eq!(rt;
+            error,
+            OpenError::Misled {
+                place: Place::Entry {
+                    dir: Fid::SYS_DIR,
+                    word: 15,
+                },
+                at: 4,
+                wanted: Page {
+                    fid: Fid::DISK_DESCRIPTOR,
+                    number: 0,
+                },
+                found: Some([0xFFFF, 0x3000, 0, 38, 1, 1, 0, 2]),
+            }
+        ),
+    }
+    Ok(())
+}
+
+/// So does the leader's next link, where the label that it leads to has another page's number. What the leader says of its pages is passed
+/// over before.
+#[test]
+fn misled_by_a_link(rt: HostRuntime) -> Result<(), Fail> {
+    let (mut machine, mut hints) = formatted(rt.alloc())?;
+    change(&rt, &mut machine, 4, FIRST, 260, 2)?;
+    assert!(rt; hints.table.pages() == machine.shape().pages());
+    match enter_pack(&mut machine, &mut hints, &DESCRIPTOR) {
+        Ok(_) => assert!(rt; false),
+        Err(error) => assert_eq!(rt;
+            error,
+            OpenError::Misled {
+                place: Place::Next { at: 3 },
+                at: 0x4000,
+                wanted: FIRST,
+                found: Some([0xFFFF, 0x3000, 0, 38, 2, 1, 0, 2]),
+            }
+        ),
+    }
+    Ok(())
+}
+
+/// A formatted pack of 160 cylinders, and 240 words of ones as the table. DiskDescriptor has 512 bytes, so that its second data page, in
+/// sector 5, is empty; sectors 0 to 5 are used, of 3,840.
+fn formatted_large(alloc: Global) -> Result<(SureMachine, Hints), Fail> {
+    let shape = Shape::new(1, 160).ok_or("no shape")?;
+    let mut sectors = Vec::new(alloc);
+    for _ in 0..3840 {
+        sectors.push(Sector::ZEROS)?;
+    }
+    let mut machine = SureMachine::new(alloc, shape, sectors, Vec::new(alloc))?;
+    machine.reserve(alloc, 11_600)?;
+    if format(&mut machine, 1, 0)? != 3834 {
+        return Err("another number of free sectors".into());
+    }
+    let hints = Hints {
+        cache: HintCache::new(alloc)?,
+        table: BitTable::new(alloc, machine.shape().pages())?,
+    };
+    Ok((machine, hints))
+}
+
+/// A pack of two data pages is entered, opened, given a serial and closed over a table with its last sector as busy, which stands there as
+/// it is entered again. Formatting makes 11,520 record writes, the mark and the serial one each, and closing two; closing again none.
+#[test]
+fn large_pack(rt: HostRuntime) -> Result<(), Fail> {
+    let (mut machine, mut hints) = formatted_large(rt.alloc())?;
+    assert!(rt; hints.table.pages() == machine.shape().pages());
+    let mut kept = enter_pack(&mut machine, &mut hints, &DESCRIPTOR)?;
+    assert_eq!(rt; hints.table.word(0), 0xFC00);
+    assert_eq!(rt; hints.table.word(239), 0);
+    kept.mark_open(&mut machine)?;
+    assert_eq!(rt; kept.next_serial(&mut machine)?, 3);
+    assert!(rt; hints.table.pages() == machine.shape().pages() && hints.table.pages() > 3839);
+    hints.table.set(3839, true);
+    assert!(rt; hints.table.pages() == machine.shape().pages());
+    kept.close_pack(&mut machine, &hints.table)?;
+    assert_eq!(rt; machine.event_count(), 11_524);
+    assert!(rt; hints.table.pages() == machine.shape().pages());
+    kept.close_pack(&mut machine, &hints.table)?;
+    assert_eq!(rt; machine.event_count(), 11_524);
+    assert!(rt; hints.table.pages() == machine.shape().pages() && hints.table.pages() > 100);
+    hints.table.set(100, true);
+    let again = enter_pack(&mut machine, &mut hints, &DESCRIPTOR)?;
+    assert_eq!(rt; again.last(), 3);
+    assert_eq!(rt; again.mark(), 1);
+    assert_eq!(rt; hints.table.word(0), 0xFC00);
+    assert_eq!(rt; hints.table.word(6), 0);
+    assert_eq!(rt; hints.table.word(239), 1);
     Ok(())
 }

@@ -4,4 +4,8 @@
 #![tactic(auto)]
 
 #[cfg(test)]
+mod long_file;
+#[cfg(test)]
 mod seeking;
+#[cfg(test)]
+mod wrong_hints;

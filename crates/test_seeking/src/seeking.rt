@@ -1,23 +1,13 @@
 // Pages of files that hints lead to or mislead from: a row that isn't one, a cache of ones, and a long file that is read in parts.
-ghost use Rattle.std.specs.Prelude.{◌<◌};
-
-use alto_words::Fid;
+use crate::long_file::{file_at, long_file};
 use disk_memory::MemMachine;
-use disk_records::{Disk, Place, Sector, Shape};
+use disk_records::{Disk, Sector, Shape};
 use hint_cache::{BitTable, HintCache, Hints};
-use page_seeking::{FileRef, last_page, length, locate, read_all, read_part};
-use std::alloc::{AllocError, Global};
+use page_seeking::{last_page, length, locate, read_all, read_part};
 use std::test::Fail;
 use test_packs::{Placed, failing_machine, sectors_of};
 
-/// The file that is read: an ordinary one with serial 3.
-const FID: Fid = Fid {
-    high: 0,
-    low: 3,
-    version: 1,
-};
-
-/// Three pages of it that aren't in a row: the leader in sector 5, page 1 with 512 bytes in sector 9, and page 2 with 3 bytes in sector 11.
+/// Three pages of the file with serial 3 that aren't in a row: the leader in sector 5, page 1 with 512 bytes in sector 9, and page 2 with 3 bytes in sector 11.
 /// The real address of a sector below 12 is 4,096 times its own.
 const SCATTERED: [Placed; 3] = [
     Placed {
@@ -36,15 +26,6 @@ const SCATTERED: [Placed; 3] = [
         front: [0x5859, 0x5A00, 0],
     },
 ];
-
-/// The file, named by the address of its leader.
-fn file_at(leader_at: u16) -> FileRef {
-    FileRef {
-        fid: FID,
-        leader_at,
-        from: Place::Held { at: leader_at },
-    }
-}
 
 /// Word 247 of the leader says that the pages lie in a row, which they don't: it is passed over, all bytes are read, and nothing is misled.
 /// A cache of ones is as one without entries.
@@ -71,50 +52,6 @@ fn a_row_that_is_none(rt: HostRuntime) -> Result<(), Fail> {
     assert_eq!(rt; last.at, 11);
     assert_eq!(rt; buf.value[0], 0x5859);
     Ok(())
-}
-
-/// The real address of a sector of a model 31 pack.
-fn real_of(at: u16) -> u16
-    requires { at < 4872 }
-{
-    at % 12 * 4096 + at / 24 * 8 + at / 12 % 2 * 4
-}
-
-/// A sector of a model 31 pack with one file of 60,000 bytes: its leader in sector 100, and pages 1 to 118 right after it. The bytes of a
-/// page are its number in each word; the last one has 96 of them.
-fn sector_of(at: u16) -> Sector
-    requires { at < 4872 }
-{
-    let header = [1, real_of(at)];
-    if at < 100 || at > 218 {
-        return Sector {
-            header,
-            label: [0xFFFF; 8],
-            value: [0xFFFF; 256],
-        };
-    }
-    let number = at - 100;
-    let next = if number < 118 {
-        real_of(at + 1)
-    } else {
-        0xFFFF
-    };
-    let previous = if number > 0 { real_of(at - 1) } else { 0xFFFF };
-    let bytes = if number < 118 { 512 } else { 96 };
-    Sector {
-        header,
-        label: [next, previous, 0, bytes, number, 1, 0, 3],
-        value: [number; 256],
-    }
-}
-
-/// The sectors of this pack.
-fn long_file(alloc: Global) -> Result<Vec<Sector>, AllocError> {
-    let mut sectors = Vec::new(alloc);
-    for at in 0..4872 {
-        sectors.push(sector_of(at))?;
-    }
-    Ok(sectors)
 }
 
 /// A file of 60,000 bytes that is read in parts of 2,048 takes two sector commands for its first page, and one for each of the 117 others:

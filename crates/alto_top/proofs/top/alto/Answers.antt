@@ -1,7 +1,8 @@
-use Rattle.std.proofs.Common.{inl, map, string_bytes, subst}
-use Rattle.alto_top.proofs.Asking.{format_is_no_boot, format_is_no_prepare, format_is_no_show, format_of_one_number}
+use Rattle.std.proofs.Common.{inl, inr, map, string_bytes, subst}
+use Rattle.disk_records.specs.Addresses.{disks_of}
+use Rattle.alto_top.proofs.Asking.{done_of_two, format_is_no_boot, format_is_no_prepare, format_is_no_show, format_of_one_number, prepare_is_no_show, usage_of_one}
 use Rattle.alto_top.specs.Formats.{FormatsPack}
-use Rattle.alto_top.specs.Top.{AnswersUsage, AsksFormat}
+use Rattle.alto_top.specs.Top.{AnswersPrepare, AnswersUsage, AsksFormat, AsksPrepare}
 use Rattle.alto_top.proofs.top.alto.Goals as goal
 
 pub returns-in-Format-clause-does : goal.returns-in-Format-clause-does
@@ -31,5 +32,20 @@ returns-in-Nothing-clause-answers g c = record {
   done = λ is. absurd (subst AnswersUsage is c.show_usage.ensures.answer);
   show = λ asks. absurd (c.in-Nothing.ensures.no_show asks);
   format = λ n asks. absurd (c.in-Nothing.ensures.no_format n asks);
+  prepare = λ n asks. absurd (c.in-Nothing.ensures.no_prepare n asks);
   others = λ asks. c.show_usage.ensures.answer;
 }
+
+pub returns-in-Prepare-clause-answers : goal.returns-in-Prepare-clause-answers
+returns-in-Prepare-clause-answers g c =
+    let words = map string_bytes c.args.words.now in
+    let asks : AsksPrepare words c.in-Prepare.number = c.in-Prepare.ensures in
+    let disks = disks_of (g.M.Tape.tape c.args.machine.now).form in
+    record {
+      usage = λ is. inr ((c.in-Prepare.number, asks), usage_of_one disks (subst (AnswersPrepare disks) is c.prepare_or_usage.ensures.answers));
+      done = λ is. inr (inr (inr ((c.in-Prepare.number, asks), done_of_two disks (subst (AnswersPrepare disks) is c.prepare_or_usage.ensures.answers))));
+      show = λ show. absurd (prepare_is_no_show words c.in-Prepare.number asks show);
+      format = λ n format. absurd (format_is_no_prepare words n format c.in-Prepare.number asks);
+      prepare = λ n other. c.prepare_or_usage.ensures.answers;
+      others = λ usage. absurd (usage.no_prepare c.in-Prepare.number asks);
+    }

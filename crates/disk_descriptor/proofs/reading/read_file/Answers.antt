@@ -5,9 +5,10 @@ use Rattle.disk_records.specs.Packs.{Pack}
 use Rattle.disk_records.specs.Tapes.{pack}
 use Rattle.disk_records.specs.declared.shape.Shape.{Shape}
 use Rattle.label_check.specs.declared.errors.PageInfo.{PageInfo}
+use Rattle.pack_model.specs.hints.Misled.{IsOnDisk}
 use Rattle.page_seeking.proofs.Erring.{if_misled_map}
 use Rattle.page_seeking.proofs.Seeking.{misled_before}
-use Rattle.page_seeking.specs.Refs.{FileIsFrom, IfBeyond, MisledBy}
+use Rattle.page_seeking.specs.Refs.{FileIsFrom, FileIsRooted, IfBeyond, MisledBy}
 use Rattle.page_seeking.specs.Seeking.{IsEnd, Stands, page_number}
 use Rattle.disk_descriptor.proofs.PagesRead.{cause_before, handy_twice, misled_as, never_past, read_all_pages, read_last, read_more, read_none, sectors_kept}
 use Rattle.disk_descriptor.proofs.reading.read_file.Goals as goal
@@ -55,6 +56,11 @@ returns-in-Err-clause-misled g c = λ told found.
     let from : FileIsFrom (pack (g.D.Tape.tape c.loop-full.disk)) c.args.file.now = subst (λ (q : Pack). FileIsFrom q c.args.file.now) (sym (looks_pack inv.looks told)) found in
     misled_as (ℕ × PageInfo) ℕ (MisledBy (pack (g.D.Tape.tape c.args.disk.now)) [] f) c.in-Err.error
     (if_misled_map {T = ℕ × PageInfo} (Err c.in-Err.error) (c.in-Err.ensures.misled told from) (λ place at wanted found x. misled_before inv.looks told x))
+
+pub returns-in-Err-clause-on_disk : goal.returns-in-Err-clause-on_disk
+returns-in-Err-clause-on_disk g c = λ told found.
+    let from : FileIsRooted (pack (g.D.Tape.tape c.loop-full.disk)) c.args.file.now = subst (λ (q : Pack). FileIsRooted q c.args.file.now) (sym (looks_pack c.loop-full.invariant.looks told)) found in
+    misled_as (ℕ × PageInfo) ℕ (λ place at wanted label. IsOnDisk place) c.in-Err.error (c.in-Err.ensures.on_disk told from)
 
 pub returns-in-Err-clause-beyond : goal.returns-in-Err-clause-beyond
 returns-in-Err-clause-beyond g c = λ told once.

@@ -1,6 +1,6 @@
 use Rattle.std.proofs.Common.{All, List, ap, arith, drop, length, min, refl, subst, suc, sym, ℕ, ◌*◌, ◌<◌, ◌∙◌, ◌≡◌}
 use Rattle.std.proofs.lemmas.List.{drop_min}
-use Rattle.std.proofs.lemmas.List.Elements.{All-head, All-tail}
+use Rattle.std.proofs.lemmas.List.Elements.{All-head, All-tail, All-contains_itself}
 use Rattle.disk_records.proofs.Growing.{alone_here, alone_twice}
 use Rattle.disk_records.specs.Addresses.{pages_of}
 use Rattle.disk_records.specs.Tapes.{pack}
@@ -8,10 +8,12 @@ use Rattle.disk_records.specs.declared.records.Place.TheVariants.{Held}
 use Rattle.disk_records.specs.declared.shape.Shape.{Shape}
 use Rattle.label_check.specs.Guarded.{IsFree}
 use Rattle.pack_model.specs.operations.Commands.{claims_of, claims_writes}
-use Rattle.file_pages.specs.Growing.{IsSector}
+use Rattle.file_pages.specs.Growing.{IsSector, WasGivenToGrow}
 use Rattle.file_pages.proofs.ClaimRow.{Midway, fits_next, midway_begins, midway_breaks_off, midway_ends, midway_goes_on, next_is_free, same_claim_label}
 use Rattle.file_pages.proofs.ClaimedWords.{claimed_as}
-use Rattle.file_pages.proofs.Erring.{never_misled, caused_later}
+use Rattle.file_pages.proofs.Erring.{never_misled, caused_later, wrong_at}
+use Rattle.std.specs.Prelude.{Contains}
+use Rattle.disk_records.specs.declared.records.Page.{Page}
 use Rattle.file_pages.proofs.claims.claim_pages.Goals as goal
 
 pub loop-at-init : goal.loop-at-init
@@ -21,6 +23,7 @@ loop-at-init g c =
       alone = alone_here a;
       previous = c.requires.last_place;
       sectors = c.requires.sectors;
+      given = All-contains_itself c.args.fresh.now;
       numbers = refl;
       small = let fits = c.ranges.last.fits in omega (arith, fits);
       midway = λ told can. midway_begins a c.args.fid c.args.last c.args.last_at c.args.bytes.now c.args.past.now c.args.fresh.now can;
@@ -112,6 +115,7 @@ loop-at-preserved g c =
       alone = alone_twice inv.alone c.claim_page.ensures.alone;
       previous = (All-head (IsSector a.form) at later sectors).last;
       sectors = All-tail (IsSector a.form) at later sectors;
+      given = All-tail (Contains c.args.fresh.now) at later (subst (All (Contains c.args.fresh.now)) rest inv.given);
       numbers = omega (arith, numbers, number, long);
       small = let fits = c.in-Some-checked_add.ensures in omega (arith, fits.0, number);
       midway = λ told can.
@@ -135,3 +139,14 @@ returns-clause-few g c = let none = c.in_default.ensures.cases in let numbers = 
 
 pub returns-clause-alone : goal.returns-clause-alone
 returns-clause-alone g c = c.loop-at.invariant.alone
+
+pub returns-in_default-checked_add-clause-given : goal.returns-in_default-checked_add-clause-given
+returns-in_default-checked_add-clause-given g c =
+    let rest = subst (All (Contains c.args.fresh.now)) c.in-Some.ensures.cases.0 c.loop-at.invariant.given in
+    rw c.at_held.ensures (record { held = refl; own = ap (λ (p : Page). p.fid) c.page_of_file.ensures; given = All-head (Contains c.args.fresh.now) c.in-Some.at.now c.in-Some.later.now rest })
+
+pub returns-in-Err-clause-given : goal.returns-in-Err-clause-given
+returns-in-Err-clause-given g c =
+    let rest = subst (All (Contains c.args.fresh.now)) c.in-Some.ensures.cases.0 c.loop-at.invariant.given in
+    wrong_at (Unit {0}) (WasGivenToGrow c.args.fid c.args.fresh.now) c.in-Err.error (Held c.in-Some.at.now) c.in-Some.at.now _ c.error_at.result c.error_at.ensures
+    (λ found. record { held = refl; own = ap (λ (p : Page). p.fid) c.page_of_file-in-Err.ensures; given = All-head (Contains c.args.fresh.now) c.in-Some.at.now c.in-Some.later.now rest })

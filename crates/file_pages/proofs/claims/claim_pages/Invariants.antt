@@ -1,4 +1,5 @@
 use Rattle.std.proofs.Common.{All, IsTrue, length, suc, ◌*◌, ◌+◌, ◌<◌, ◌≡◌, ◌≤◌}
+use Rattle.std.specs.Prelude.{Contains}
 use Rattle.disk_records.specs.Addresses.{pages_of}
 use Rattle.disk_records.specs.Tapes.{DiskAlone, pack}
 use Rattle.pack_model.specs.operations.Commands.{claims_of, claims_writes}
@@ -14,6 +15,7 @@ invariant-loop-at g l =
       alone : DiskAlone a b;
       previous : l.previous < pages_of a.form;
       sectors : All (IsSector a.form) l.rest;
+      given : All (Contains l.fresh) l.rest;
       numbers : l.before + length l.rest ≡ l.last + length l.fresh;
       small : l.before ≤ 65535;
       midway : IsTrue g.D.Tape.told → CanClaim (pack a) l.last l.bytes l.past l.fresh → Midway (claims_writes (claims_of a.form l.fid (suc l.last) l.last_at l.bytes l.past l.fresh)) (2 * length l.fresh) a b l.fid l.before l.previous l.left l.past l.rest;

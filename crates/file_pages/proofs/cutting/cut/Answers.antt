@@ -1,18 +1,23 @@
-use Rattle.std.proofs.Common.{Bool, List, OnOk, arith, false, refl, subst, ◌≡◌, ◌≤◌, Err, []}
+use Rattle.std.proofs.Common.{Bool, List, OnOk, arith, false, refl, subst, ◌≡◌, ◌≤◌, Err, [], ◌⊎◌, ℕ}
 use Rattle.disk_records.proofs.Growing.{alone_twice, grown_twice}
 use Rattle.disk_records.proofs.Looking.{looks_pack}
 use Rattle.disk_records.specs.Tapes.{pack, added}
+use Rattle.laws_call.specs.Acting.{refused}
 use Rattle.laws_hint.specs.MapChanges.{marked}
 use Rattle.page_seeking.proofs.Erring.{if_misled_map, on_ok, on_ok_map}
-use Rattle.page_seeking.specs.Seeking.{file_length, page_number}
+use Rattle.page_seeking.specs.Seeking.{file_length, page_number, Refused}
 use Rattle.pack_model.specs.reading.Sights.{sights}
 use Rattle.file_pages.proofs.CommitFirst.{look_before}
 use Rattle.file_pages.proofs.CutFiles.{cut_begun, cut_here, cut_is_at_the_end, cut_is_past, cut_is_within, far_past, fewer_pages, known_read}
+use Rattle.file_pages.proofs.Erring.{memory_too}
 use Rattle.file_pages.proofs.Going.{handy_still, misled_by}
 use Rattle.file_pages.specs.Cutting.{IsRead}
 use Rattle.file_pages.specs.Releasing.{Forgotten}
 use Rattle.pack_model.specs.operations.Committing.{page_of_byte}
-use Rattle.file_pages.proofs.TrueLinks.{never_led}
+use Rattle.page_seeking.proofs.TrueLinks.{never_led}
+use Rattle.page_seeking.proofs.Listing.{is_listed}
+use Rattle.page_seeking.specs.Parts.{IsListed}
+use Rattle.file_pages.proofs.Gone.{listed_still, looked_only}
 use Rattle.file_pages.proofs.cutting.cut.Goals as goal
 
 pub returns-in-Ok-clause-beyond : goal.returns-in-Ok-clause-beyond
@@ -23,6 +28,10 @@ returns-then-info-bytes-clause-beyond g c told stands =
     let a = pack (g.D.Tape.tape c.args.disk.now) in
     let read : IsRead a (page_number c.args.file.now.fid c.in-Some.number) c.in-Ok-locate.at c.in-Ok-locate.info c.locate.new.buf = record { seen = c.in-Ok-locate.ensures.seen; stands = c.in-Ok-locate.ensures.stands told } in
     cut_is_past a c.args.file.now.fid c.args.length c.in-Some.number c.in-Ok-locate.at c.in-Ok-locate.info stands.whole (known_read read) c.in-Some.ensures.some (omega (arith, c.if-info-bytes.true)) _ c.length_at.ensures
+
+pub returns-in-Err-clause-operates : goal.returns-in-Err-clause-operates
+returns-in-Err-clause-operates g c told stands ordinary other =
+    refused (record { silent = c.length.ensures.looks.silent told; bits = c.length.ensures.table; tally = refl }) tt (λ memory. c.in-Err.ensures.want told (memory_too ℕ c.in-Err.error memory))
 
 pub returns-else-info-bytes-2-clause-operates : goal.returns-else-info-bytes-2-clause-operates
 returns-else-info-bytes-2-clause-operates g c told stands ordinary other =
@@ -130,3 +139,37 @@ returns-in-Err-clause-true_links g c told stands links =
 pub returns-in-Err-locate-clause-true_links : goal.returns-in-Err-locate-clause-true_links
 returns-in-Err-locate-clause-true_links g c told stands links =
     never_led {T = Unit {0}} (pack (g.D.Tape.tape c.args.disk.now)) [] c.args.file.now.fid c.args.file.now (Err c.in-Err-locate.error) (g.met.D.Disk.formed c.args.disk.now told) stands links (c.in-Err-locate.ensures.misled told stands.from)
+
+pub returns-in-Ok-clause-gone : goal.returns-in-Ok-clause-gone
+returns-in-Ok-clause-gone g c told = looked_only c.length.new.hints.cache c.length.ensures.looks told
+
+pub returns-in-Err-clause-gone : goal.returns-in-Err-clause-gone
+returns-in-Err-clause-gone g c told = looked_only c.length.new.hints.cache c.length.ensures.looks told
+
+pub returns-then-info-bytes-clause-gone : goal.returns-then-info-bytes-clause-gone
+returns-then-info-bytes-clause-gone g c told = looked_only c.locate.new.hints.cache c.locate.ensures.looks told
+
+pub returns-then-info-bytes-2-clause-gone : goal.returns-then-info-bytes-2-clause-gone
+returns-then-info-bytes-2-clause-gone g c told = looked_only c.locate.new.hints.cache c.locate.ensures.looks told
+
+pub returns-in-Err-locate-clause-gone : goal.returns-in-Err-locate-clause-gone
+returns-in-Err-locate-clause-gone g c told = looked_only c.locate.new.hints.cache c.locate.ensures.looks told
+
+pub returns-else-info-bytes-2-clause-gone : goal.returns-else-info-bytes-2-clause-gone
+returns-else-info-bytes-2-clause-gone g c told =
+    let a = g.D.Tape.tape c.args.disk.now in
+    let read : IsRead (pack a) (page_number c.args.file.now.fid c.in-Some.number) c.in-Ok-locate.at c.in-Ok-locate.info c.locate.new.buf = record { seen = c.in-Ok-locate.ensures.seen; stands = c.in-Ok-locate.ensures.stands told } in
+    c.end_in_page.ensures.gone (pack a) told (looks_pack c.locate.ensures.looks told) read
+
+pub returns-then-info-bytes-2-clause-listed : goal.returns-then-info-bytes-2-clause-listed
+returns-then-info-bytes-2-clause-listed g c =
+    let p = pack (g.D.Tape.tape c.args.disk.now) in
+    let here = is_listed g.D.Tape.told (pack (g.D.Tape.tape c.args.disk.now)) c.in-Ok-locate.ensures.listed (λ told. (c.in-Ok-locate.ensures.stands told).carries) in
+    subst (λ n. IsListed g.D.Tape.told p (page_number c.args.file.now.fid n) c.locate.new.hints.cache ⊎ Refused c.args.hints.now.cache c.locate.new.hints.cache) c.in-Some.ensures.some here
+
+pub returns-else-info-bytes-2-clause-listed : goal.returns-else-info-bytes-2-clause-listed
+returns-else-info-bytes-2-clause-listed g c =
+    let p = pack (g.D.Tape.tape c.args.disk.now) in
+    let here = is_listed g.D.Tape.told (pack (g.D.Tape.tape c.args.disk.now)) c.in-Ok-locate.ensures.listed (λ told. (c.in-Ok-locate.ensures.stands told).carries) in
+    let still = listed_still c.args.hints.now.cache c.locate.new.hints.cache c.end_in_page.new.hints.cache c.end_in_page.ensures.here c.end_in_page.ensures.refused here in
+    on_ok c.end_in_page.result (subst (λ n. IsListed g.D.Tape.told p (page_number c.args.file.now.fid n) c.end_in_page.new.hints.cache ⊎ Refused c.args.hints.now.cache c.end_in_page.new.hints.cache) c.in-Some.ensures.some still)

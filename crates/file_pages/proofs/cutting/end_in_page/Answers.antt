@@ -1,4 +1,4 @@
-use Rattle.std.proofs.Common.{Err, ap, refl, ◌∙◌}
+use Rattle.std.proofs.Common.{Err, ap, refl, ◌∙◌, subst}
 use Rattle.disk_records.proofs.Growing.{alone_twice}
 use Rattle.disk_records.specs.Labels.{page_of}
 use Rattle.laws_operation.proofs.values.Laws.{label_with_another_count}
@@ -6,6 +6,10 @@ use Rattle.pack_model.specs.hints.Links.{no_link}
 use Rattle.page_seeking.proofs.Erring.{if_misled_map}
 use Rattle.file_pages.proofs.CommitFirst.{commit_broke, releases_after}
 use Rattle.file_pages.proofs.CutFiles.{carries_at, commits_at, follows_shortened}
+use Rattle.disk_records.specs.Packs.{Pack}
+use Rattle.disk_records.specs.Tapes.{pack}
+use Rattle.file_pages.proofs.Gone.{none_gone_twice, relabel_loses_none}
+use Rattle.file_pages.specs.Releasing.{ListsNoneGone}
 use Rattle.file_pages.proofs.cutting.end_in_page.Goals as goal
 
 pub shorten-requires-clause-same : goal.shorten-requires-clause-same
@@ -46,3 +50,18 @@ pub returns-in-Ok-clause-forgotten : goal.returns-in-Ok-clause-forgotten
 returns-in-Ok-clause-forgotten g c p told same read whole few =
     let named = ap page_of c.last_label-label.ensures ∙ (label_with_another_count c.args.buf.now.label c.args.page c.args.bytes no_link c.requires.named c.requires.few).0 in
     c.release_rest.ensures.forgotten p told (follows_shortened same read c.shorten.ensures.alone.grown named (c.in-Ok.ensures.commits told (carries_at same read))) whole few
+
+pub returns-in-Ok-clause-gone : goal.returns-in-Ok-clause-gone
+returns-in-Ok-clause-gone g c p told same read =
+    let named = ap page_of c.last_label-label.ensures ∙ (label_with_another_count c.args.buf.now.label c.args.page c.args.bytes no_link c.requires.named c.requires.few).0 in
+    let d = g.D.Tape.tape c.release_rest.new.disk in
+    let done = c.in-Ok.ensures.commits told (carries_at same read) in
+    let first = relabel_loses_none c.args.at c.args.page c.last_label-label.result c.args.hints.now.cache c.shorten.ensures.alone.grown (carries_at same read) named done.some in
+    subst (λ (q : Pack). ListsNoneGone q (pack d) c.release_rest.new.hints.cache) same (none_gone_twice (pack (g.D.Tape.tape c.args.disk.now)) (pack (g.D.Tape.tape c.shorten.new.disk)) (pack d) c.args.hints.now.cache c.release_rest.new.hints.cache first c.release_rest.ensures.no_more (c.release_rest.ensures.gone told))
+
+pub returns-in-Err-clause-gone : goal.returns-in-Err-clause-gone
+returns-in-Err-clause-gone g c p told same read =
+    let named = ap page_of c.last_label-label.ensures ∙ (label_with_another_count c.args.buf.now.label c.args.page c.args.bytes no_link c.requires.named c.requires.few).0 in
+    let d = g.D.Tape.tape c.shorten.new.disk in
+    let done = c.in-Err.ensures.commits told (carries_at same read) in
+    subst (λ (q : Pack). ListsNoneGone q (pack d) c.args.hints.now.cache) same (relabel_loses_none c.args.at c.args.page c.last_label-label.result c.args.hints.now.cache c.shorten.ensures.alone.grown (carries_at same read) named done.some)

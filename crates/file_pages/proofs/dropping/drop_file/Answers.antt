@@ -13,7 +13,8 @@ use Rattle.file_pages.proofs.DroppedFiles.{drop_begun, drop_does, drop_here, dro
 use Rattle.file_pages.proofs.Erring.{never_past}
 use Rattle.file_pages.proofs.Going.{handy_still, misled_by}
 use Rattle.file_pages.specs.Cutting.{IsRead}
-use Rattle.file_pages.proofs.TrueLinks.{never_led}
+use Rattle.page_seeking.proofs.TrueLinks.{never_led}
+use Rattle.file_pages.proofs.Gone.{looked_only}
 use Rattle.file_pages.proofs.dropping.drop_file.Goals as goal
 
 pub returns-in-Ok-clause-alone : goal.returns-in-Ok-clause-alone
@@ -75,3 +76,12 @@ returns-in-Ok-clause-true_links g c told stands links =
 pub returns-in-Err-clause-true_links : goal.returns-in-Err-clause-true_links
 returns-in-Err-clause-true_links g c told stands links =
     never_led {T = Unit {0}} (pack (g.D.Tape.tape c.args.disk.now)) [] c.args.file.now.fid c.args.file.now (Err c.in-Err.error) (g.met.D.Disk.formed c.args.disk.now told) stands links (c.in-Err.ensures.misled told stands.from)
+
+pub returns-in-Ok-clause-gone : goal.returns-in-Ok-clause-gone
+returns-in-Ok-clause-gone g c told =
+    let a = g.D.Tape.tape c.args.disk.now in
+    let read : IsRead (pack a) (page_number c.args.file.now.fid 0) c.in-Ok.at c.in-Ok.info c.locate.new.buf = record { seen = c.in-Ok.ensures.seen; stands = c.in-Ok.ensures.stands told } in
+    c.drop_pages.ensures.gone (pack a) told (looks_pack c.locate.ensures.looks told) read
+
+pub returns-in-Err-clause-gone : goal.returns-in-Err-clause-gone
+returns-in-Err-clause-gone g c told = looked_only c.locate.new.hints.cache c.locate.ensures.looks told

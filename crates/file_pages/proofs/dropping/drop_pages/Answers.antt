@@ -6,6 +6,10 @@ use Rattle.page_seeking.specs.Seeking.{page_number}
 use Rattle.file_pages.proofs.CommitFirst.{commit_broke, releases_after}
 use Rattle.file_pages.proofs.CutFiles.{carries_at}
 use Rattle.file_pages.proofs.DroppedFiles.{follows_leader}
+use Rattle.disk_records.specs.Packs.{Pack}
+use Rattle.disk_records.specs.Tapes.{pack}
+use Rattle.file_pages.proofs.Gone.{none_gone_twice, release_forgets}
+use Rattle.file_pages.specs.Releasing.{ListsNoneGone}
 use Rattle.file_pages.proofs.dropping.drop_pages.Goals as goal
 
 pub returns-in-Ok-clause-drops : goal.returns-in-Ok-clause-drops
@@ -19,7 +23,7 @@ returns-in-Err-clause-drops g c p pages told same read left = commit_broke pages
 
 pub returns-in-Ok-clause-table : goal.returns-in-Ok-clause-table
 returns-in-Ok-clause-table g c p pages told same read left =
-    subst (λ (l : List Bool). OnOk c.release_rest.result (c.release_rest.new.hints.table ≡ marked false pages l)) c.give_back.ensures.table
+    subst (λ (l : List Bool). OnOk c.release_rest.result (c.release_rest.new.hints.table ≡ marked false pages l)) c.set.ensures
     (c.release_rest.ensures.releases p pages told (follows_leader same read c.release_leader.ensures.alone.grown (c.in-Ok.ensures.commits told (carries_at same read))) left).table
 
 pub returns-in-Ok-clause-only : goal.returns-in-Ok-clause-only
@@ -35,10 +39,23 @@ pub returns-in-Ok-clause-alone : goal.returns-in-Ok-clause-alone
 returns-in-Ok-clause-alone g c = alone_twice c.release_leader.ensures.alone c.release_rest.ensures.alone
 
 pub returns-in-Ok-clause-handy : goal.returns-in-Ok-clause-handy
-returns-in-Ok-clause-handy g c = λ ss f handy. c.release_rest.ensures.handy ss f (c.give_back.ensures.handy ss f handy)
+returns-in-Ok-clause-handy g c = λ ss f handy. c.release_rest.ensures.handy ss f (c.forget_page.ensures.handy ss f handy)
 
 pub returns-in-Ok-clause-forgotten : goal.returns-in-Ok-clause-forgotten
 returns-in-Ok-clause-forgotten g c p told same read whole few = c.release_rest.ensures.forgotten p told (follows_leader same read c.release_leader.ensures.alone.grown (c.in-Ok.ensures.commits told (carries_at same read))) whole few
 
 pub returns-in-Ok-clause-leader : goal.returns-in-Ok-clause-leader
-returns-in-Ok-clause-leader g c = on_ok c.release_rest.result (c.release_rest.ensures.no_more (page_number c.args.fid 0) c.give_back.ensures.forgotten)
+returns-in-Ok-clause-leader g c = on_ok c.release_rest.result (c.release_rest.ensures.no_more (page_number c.args.fid 0) c.forget_page.ensures.forgotten)
+
+pub returns-in-Ok-clause-gone : goal.returns-in-Ok-clause-gone
+returns-in-Ok-clause-gone g c p told same read =
+    let d = g.D.Tape.tape c.release_rest.new.disk in
+    let done = c.in-Ok.ensures.commits told (carries_at same read) in
+    let first = release_forgets c.args.at (page_number c.args.fid 0) c.forget_page.new.cache c.release_leader.ensures.alone.grown (carries_at same read) done.some c.forget_page.ensures.forgotten in
+    subst (λ (q : Pack). ListsNoneGone q (pack d) c.release_rest.new.hints.cache) same (none_gone_twice (pack (g.D.Tape.tape c.args.disk.now)) (pack (g.D.Tape.tape c.release_leader.new.disk)) (pack d) c.forget_page.new.cache c.release_rest.new.hints.cache first c.release_rest.ensures.no_more (c.release_rest.ensures.gone told))
+
+pub returns-in-Err-clause-gone : goal.returns-in-Err-clause-gone
+returns-in-Err-clause-gone g c p told same read =
+    let d = g.D.Tape.tape c.release_leader.new.disk in
+    let done = c.in-Err.ensures.commits told (carries_at same read) in
+    subst (λ (q : Pack). ListsNoneGone q (pack d) c.forget_page.new.cache) same (release_forgets c.args.at (page_number c.args.fid 0) c.forget_page.new.cache c.release_leader.ensures.alone.grown (carries_at same read) done.some c.forget_page.ensures.forgotten)

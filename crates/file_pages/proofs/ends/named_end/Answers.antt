@@ -1,4 +1,4 @@
-use Rattle.std.proofs.Common.{Some, ap, arith, length, sym, ◌∙◌, ◌≡◌}
+use Rattle.std.proofs.Common.{Some, ap, arith, length, sym, ◌∙◌, ◌≡◌, inl}
 use Rattle.disk_records.specs.Addresses.{pages_of}
 use Rattle.disk_records.specs.Packs.{carried, sector_at}
 use Rattle.disk_records.specs.Tapes.{pack}
@@ -48,3 +48,9 @@ pub returns-in-Err-Wrong-clause-there : goal.returns-in-Err-Wrong-clause-there
 returns-in-Err-Wrong-clause-there g c told whole names same =
     let guarded = rw c.in-Err-Wrong.field-0-is at (c.in-Err-Wrong.ensures.guarded told) in
     guarded.wrong.failed (named_is_there (pack (g.D.Tape.tape c.args.disk.now)) c.args.fid c.args.leader.now names ∙ ap (λ (x : Page). Some x) (sym c.page_of_file.ensures))
+
+pub returns-else-info-eq-PAGE_BYTES-clause-ends : goal.returns-else-info-eq-PAGE_BYTES-clause-ends
+returns-else-info-eq-PAGE_BYTES-clause-ends g c = record { first = omega (arith, c.if-number-eq0.false); ends = inl c.if-info-eq-PAGE_BYTES.false }
+
+pub returns-else-info-eq-PAGE_BYTES-clause-carries : goal.returns-else-info-eq-PAGE_BYTES-clause-carries
+returns-else-info-eq-PAGE_BYTES-clause-carries g c told = (c.in-Ok.ensures.guarded told).ok.held ∙ ap (λ (x : Page). Some x) c.page_of_file.ensures

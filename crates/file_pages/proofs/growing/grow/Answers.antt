@@ -1,4 +1,4 @@
-use Rattle.std.proofs.Common.{All, List, Bool, Ok, Err, [], ap, arith, length, refl, subst, sym, ◌∙◌, ◌≡◌}
+use Rattle.std.proofs.Common.{All, List, Bool, Ok, Err, [], ap, arith, length, refl, subst, sym, ◌∙◌, ◌≡◌, inl, inr}
 use Rattle.disk_records.proofs.Growing.{alone_twice, pack-silent}
 use Rattle.disk_records.specs.Addresses.{pages_of}
 use Rattle.disk_records.specs.Packs.{Pack}
@@ -18,7 +18,13 @@ use Rattle.file_pages.proofs.GrownHandy.{grown_handy, named_still}
 use Rattle.file_pages.proofs.GrowthAfter.{nothing_written, written_after}
 use Rattle.file_pages.proofs.LastLabel.{label_says}
 use Rattle.file_pages.proofs.Sequel.{silent_before}
-use Rattle.file_pages.proofs.TrueLinks.{never_led}
+use Rattle.page_seeking.proofs.TrueLinks.{never_led}
+use Rattle.disk_records.specs.declared.records.Page.{Page}
+use Rattle.hint_cache.specs.Caches.{Cached, address_in}
+use Rattle.page_seeking.proofs.Erring.{if_misled_map}
+use Rattle.page_seeking.proofs.Listing.{is_listed}
+use Rattle.file_pages.proofs.Gone.{listed_still}
+use Rattle.file_pages.proofs.NewListed.{fresh_since, given_or_last}
 use Rattle.file_pages.proofs.growing.grow.Goals as goal
 
 pub returns-in-Err-clause-operates : goal.returns-in-Err-clause-operates
@@ -240,3 +246,27 @@ returns-in-Err-clause-true_links g c o told stands may links =
 pub returns-in-Err-grown-clause-true_links : goal.returns-in-Err-grown-clause-true_links
 returns-in-Err-grown-clause-true_links g c o told stands may links =
     never_led {T = Unit {0}} (pack (g.D.Tape.tape c.args.disk.now)) [] c.args.file.now.fid c.args.file.now (Err c.in-Err-grown.error) (g.met.D.Disk.formed c.args.disk.now told) stands links (returns-in-Err-grown-clause-misled g c o told stands may)
+
+pub returns-in-Err-clause-given : goal.returns-in-Err-clause-given
+returns-in-Err-clause-given g c = if_misled_map {T = Unit {0}} (Err c.in-Err.error) c.in-Err.ensures.hint (λ place at wanted found x. inl x)
+
+pub returns-in-Some-clause-given : goal.returns-in-Some-clause-given
+returns-in-Some-clause-given g c = rw c.at_held.ensures (inr (inl (record { held = refl; own = ap (λ (p : Page). p.fid) c.page_of_file.ensures; given = c.in-Some.ensures.given })))
+
+pub returns-in-Err-grown-clause-given : goal.returns-in-Err-grown-clause-given
+returns-in-Err-grown-clause-given g c =
+    if_misled_map {T = Unit {0}} (Err c.in-Err-grown.error) (rw c.in-Err-grown.is at c.grow_pages-grown.ensures.given) (λ place at wanted found x. given_or_last c.args.file.now c.args.fresh.now c.in-Ok.last c.args.hints.now.cache c.last_page.new.hints.cache c.in-Ok.ensures.ends.first c.in-Ok.ensures.listed.here place at wanted found x)
+
+pub returns-in-Ok-grown-clause-listed : goal.returns-in-Ok-grown-clause-listed
+returns-in-Ok-grown-clause-listed g c =
+    let last = c.in-Ok.last in
+    let page = page_number c.args.file.now.fid last.number in
+    let here = is_listed g.D.Tape.told (pack (g.D.Tape.tape c.args.disk.now)) c.in-Ok.ensures.listed (λ told. (c.in-Ok.ensures.stands told).carries) in
+    record {
+      last = last.number;
+      bytes = last.info.bytes;
+      ends = c.in-Ok.ensures.ends;
+      is = λ told whole. (c.in-Ok.ensures.last told whole).number;
+      stays = λ none. let same = c.note_pages.ensures.none none in listed_still c.args.hints.now.cache c.last_page.new.hints.cache c.note_pages.new.cache (ap (λ (k : Cached). address_in k.entries page) same) (ap (λ (k : Cached). k.refused) same) here;
+      comes = fresh_since c.args.file.now.fid last.number c.args.fresh.now c.args.hints.now.cache c.last_page.new.hints.cache c.note_pages.new.cache c.last_page.ensures.refused c.note_pages.ensures.listed;
+    }

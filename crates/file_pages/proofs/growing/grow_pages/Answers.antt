@@ -1,4 +1,4 @@
-use Rattle.std.proofs.Common.{List, Ok, Err, Some, ap, arith, length, min, refl, subst, sym, ℕ, ◌+◌, ◌-◌, ◌<◌, ◌∙◌, ◌≡◌}
+use Rattle.std.proofs.Common.{List, Ok, Err, Some, ap, arith, length, min, refl, subst, sym, ℕ, ◌+◌, ◌-◌, ◌<◌, ◌∙◌, ◌≡◌, inl, inr}
 use Rattle.std.proofs.lemmas.List.Elements.{All-from_get_or}
 use Rattle.disk_records.proofs.Growing.{alone_twice}
 use Rattle.disk_records.specs.Labels.{page_of}
@@ -14,6 +14,7 @@ use Rattle.file_pages.specs.Growing.{CanClaim}
 use Rattle.file_pages.proofs.Erring.{cause_after}
 use Rattle.file_pages.proofs.GrownPages.{Asked, claims_then, grew_then, may_claim, not_claimed, operated, still_there, words_are}
 use Rattle.file_pages.proofs.LastLabel.{label_says}
+use Rattle.page_seeking.proofs.Erring.{if_misled_map}
 use Rattle.file_pages.proofs.growing.grow_pages.Goals as goal
 
 pub returns-in-Err-clause-operates : goal.returns-in-Err-clause-operates
@@ -255,3 +256,10 @@ commit_page-committed-requires-clause-same g c =
 
 pub mark_busy-requires : goal.mark_busy-requires
 mark_busy-requires g c = record { within = λ k d within. let sector = c.requires.sectors k d within in let last = sector.last in let sized = c.requires.sized in omega (arith, last, sized) }
+
+pub returns-in-Err-clause-given : goal.returns-in-Err-clause-given
+returns-in-Err-clause-given g c = if_misled_map {T = Unit {0}} (Err c.in-Err.error) c.in-Err.ensures.given (λ place at wanted found x. inl x)
+
+pub returns-in-Err-committed-clause-given : goal.returns-in-Err-committed-clause-given
+returns-in-Err-committed-clause-given g c =
+    if_misled_map {T = Unit {0}} (Err c.in-Err-committed.error) (rw c.in-Err-committed.is at c.commit_page-committed.ensures.held) (λ place at wanted found x. inr (record { held = x.held; address = x.address; page_is = x.page_is ∙ c.page_of_file-page.ensures }))

@@ -1,11 +1,12 @@
-use Rattle.std.proofs.Common.{Err, List, Ok, [], ap, arith, subst, ℕ, ◌∙◌, ◌≡◌}
+use Rattle.std.proofs.Common.{Err, List, Ok, [], ap, arith, subst, ℕ, ◌∙◌, ◌≡◌, refl}
 use Rattle.disk_records.proofs.Growing.{alone_twice}
 use Rattle.disk_records.specs.Commands.{relabel_writes}
 use Rattle.disk_records.specs.declared.records.Place.TheVariants.{Held}
 use Rattle.label_check.specs.Guarded.{Carries, Guarded}
 use Rattle.file_pages.specs.Counting.{counted_after}
-use Rattle.file_pages.proofs.Erring.{never_misled}
+use Rattle.file_pages.proofs.Erring.{never_misled, wrong_at}
 use Rattle.file_pages.proofs.LastWrites.{carried_still, label_done, label_not_done, value_not_done, value_stands}
+use Rattle.file_pages.specs.Calls.{WasHeld}
 use Rattle.file_pages.proofs.last_words.commit_page.Goals as goal
 
 pub returns-in-Err-clause-commits : goal.returns-in-Err-clause-commits
@@ -62,3 +63,19 @@ returns-in-Ok-labelled-clause-alone g c = alone_twice c.write_value.ensures.alon
 
 pub returns-in-Err-labelled-clause-alone : goal.returns-in-Err-labelled-clause-alone
 returns-in-Err-labelled-clause-alone g c = alone_twice c.write_value.ensures.alone c.relabel-labelled.ensures.alone
+
+pub returns-in-Err-clause-held : goal.returns-in-Err-clause-held
+returns-in-Err-clause-held g c = wrong_at (Unit {0}) (WasHeld c.args.at c.args.page) c.in-Err.error (Held c.args.at) c.args.at c.args.page c.error_at.result c.error_at.ensures (λ found. record { held = refl; address = refl; page_is = refl })
+
+pub returns-in-Err-labelled-clause-held : goal.returns-in-Err-labelled-clause-held
+returns-in-Err-labelled-clause-held g c =
+    wrong_at (Unit {0}) (WasHeld c.args.at c.args.page) c.in-Err-labelled.error (Held c.args.at) c.args.at c.args.page c.error_at-in-Err-labelled.result c.error_at-in-Err-labelled.ensures (λ found. record { held = refl; address = refl; page_is = refl })
+
+pub returns-in-Err-clause-guards : goal.returns-in-Err-clause-guards
+returns-in-Err-clause-guards g c told = (c.in-Err.ensures.guarded told).guarded
+
+pub returns-in-Ok-labelled-clause-guards : goal.returns-in-Ok-labelled-clause-guards
+returns-in-Ok-labelled-clause-guards g c told some = (c.in-Ok.ensures.guarded told).ok.held
+
+pub returns-in-Err-labelled-clause-guards : goal.returns-in-Err-labelled-clause-guards
+returns-in-Err-labelled-clause-guards g c told some = (c.in-Ok.ensures.guarded told).ok.held

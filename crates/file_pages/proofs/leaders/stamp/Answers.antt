@@ -1,4 +1,4 @@
-use Rattle.std.proofs.Common.{Bool, List, [], arith, subst, Err}
+use Rattle.std.proofs.Common.{Bool, List, [], arith, subst, Err, refl}
 use Rattle.disk_records.proofs.Growing.{alone_twice}
 use Rattle.disk_records.specs.Tapes.{pack}
 use Rattle.pack_model.specs.operations.Step.Operation.{stamp}
@@ -7,7 +7,8 @@ use Rattle.page_seeking.specs.declared.refs.FileError.TheVariants as error
 use Rattle.page_seeking.proofs.Erring.{on_ok}
 use Rattle.file_pages.proofs.StampOnce.{stamped_once}
 use Rattle.file_pages.proofs.Valued.{look_leaves_handy, value_after_look, value_leaves_handy, value_operates}
-use Rattle.file_pages.proofs.TrueLinks.{never_led}
+use Rattle.page_seeking.proofs.TrueLinks.{never_led}
+use Rattle.page_seeking.specs.Seeking.{length_at}
 use Rattle.file_pages.proofs.leaders.stamp.Goals as goal
 
 pub returns-in-Ok-clause-alone : goal.returns-in-Ok-clause-alone
@@ -39,3 +40,8 @@ returns-in-Ok-clause-climbs g c more told quick near =
 pub returns-in-Err-clause-true_links : goal.returns-in-Err-clause-true_links
 returns-in-Err-clause-true_links g c told stands links =
     never_led {T = Unit {0}} (pack (g.D.Tape.tape c.args.disk.now)) [] c.args.file.now.fid c.args.file.now (Err c.in-Err.error) (g.met.D.Disk.formed c.args.disk.now told) stands links (c.in-Err.ensures.misled told stands)
+
+pub returns-in-Ok-clause-listed : goal.returns-in-Ok-clause-listed
+returns-in-Ok-clause-listed g c =
+    let last = c.in-Ok.last in
+    on_ok c.write_page.result (length_at last.number last.info.bytes, record { number = last.number; bytes = last.info.bytes; tells = refl; ends = c.in-Ok.ensures.listed.ends; listed = c.in-Ok.ensures.listed.listed })

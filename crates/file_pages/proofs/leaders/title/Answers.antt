@@ -9,7 +9,9 @@ use Rattle.page_seeking.specs.declared.refs.FileError.TheVariants as error
 use Rattle.file_pages.proofs.Erring.{never_past}
 use Rattle.file_pages.proofs.Titling.{titled_once}
 use Rattle.file_pages.proofs.Valued.{look_leaves_handy, value_after_look, value_leaves_handy, value_operates}
-use Rattle.file_pages.proofs.TrueLinks.{never_led}
+use Rattle.page_seeking.proofs.TrueLinks.{never_led}
+use Rattle.page_seeking.proofs.Listing.{is_listed}
+use Rattle.page_seeking.proofs.Erring.{on_ok}
 use Rattle.file_pages.proofs.leaders.title.Goals as goal
 
 pub returns-in-Ok-clause-alone : goal.returns-in-Ok-clause-alone
@@ -42,3 +44,6 @@ returns-in-Err-clause-cause g c = never_past (ℕ × PageInfo) (g.D.Tape.tape c.
 pub returns-in-Err-clause-true_links : goal.returns-in-Err-clause-true_links
 returns-in-Err-clause-true_links g c told stands links =
     never_led {T = Unit {0}} (pack (g.D.Tape.tape c.args.disk.now)) [] c.args.file.now.fid c.args.file.now (Err c.in-Err.error) (g.met.D.Disk.formed c.args.disk.now told) stands links (c.in-Err.ensures.misled told stands.from)
+
+pub returns-in-Ok-clause-listed : goal.returns-in-Ok-clause-listed
+returns-in-Ok-clause-listed g c = on_ok c.write_page.result (is_listed g.D.Tape.told (pack (g.D.Tape.tape c.args.disk.now)) c.in-Ok.ensures.listed (λ told. (c.in-Ok.ensures.stands told).carries))

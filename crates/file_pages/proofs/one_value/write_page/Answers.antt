@@ -1,8 +1,12 @@
-use Rattle.std.proofs.Common.{Err, Ok, ap, ◌∙◌, ◌≡◌}
+use Rattle.std.proofs.Common.{Err, Ok, ap, ◌∙◌, ◌≡◌, List, Option, refl, ℕ}
 use Rattle.disk_records.specs.declared.records.Place.TheVariants.{Held}
 use Rattle.file_pages.specs.Counting.{counted_after}
 use Rattle.file_pages.proofs.OneWrite.{value_done, value_failed}
 use Rattle.file_pages.proofs.Valued.{value_keeps_places}
+use Rattle.label_check.specs.Guarded.{Carries, FoundWrong}
+use Rattle.file_pages.proofs.Erring.{wrong_at}
+use Rattle.file_pages.proofs.Going.{at_wrong}
+use Rattle.file_pages.specs.Calls.{WasHeld}
 use Rattle.file_pages.proofs.one_value.write_page.Goals as goal
 
 pub returns-in-Ok-clause-writes : goal.returns-in-Ok-clause-writes
@@ -29,3 +33,19 @@ returns-in-Ok-clause-places g c told = value_keeps_places c.args.at c.args.value
 
 pub returns-in-Err-clause-places : goal.returns-in-Err-clause-places
 returns-in-Err-clause-places g c told = value_keeps_places c.args.at c.args.value.now c.write_value-written.ensures.alone.grown (c.write_value-written.ensures.guarded told).some
+
+pub returns-in-Err-clause-held : goal.returns-in-Err-clause-held
+returns-in-Err-clause-held g c = wrong_at (Unit {0}) (WasHeld c.args.at c.args.page) c.in-Err.error (Held c.args.at) c.args.at c.args.page c.error_at.result c.error_at.ensures (λ found. record { held = refl; address = refl; page_is = refl })
+
+pub returns-in-Err-clause-found : goal.returns-in-Err-clause-found
+returns-in-Err-clause-found g c told =
+    let a = g.D.Tape.tape c.args.disk.now in
+    let b = g.D.Tape.tape c.write_value-written.new.disk in
+    let Wrong : Option (List ℕ) → Type 0 = FoundWrong (Carries c.args.at c.args.page) c.args.at a b in
+    at_wrong (Unit {0}) (Unit {0}) (λ place w wanted found. Wrong found) Wrong c.in-Err.error c.error_at.ensures (rw c.in-Err.is at (c.write_value-written.ensures.guarded told)).wrong (λ found wrong. wrong)
+
+pub returns-in-Ok-clause-guards : goal.returns-in-Ok-clause-guards
+returns-in-Ok-clause-guards g c told = (c.write_value-written.ensures.guarded told).guarded
+
+pub returns-in-Err-clause-guards : goal.returns-in-Err-clause-guards
+returns-in-Err-clause-guards g c told = (c.write_value-written.ensures.guarded told).guarded

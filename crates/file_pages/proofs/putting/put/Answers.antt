@@ -10,7 +10,8 @@ use Rattle.file_pages.specs.Values.{WroteValue}
 use Rattle.file_pages.proofs.PutOnce.{Fits, put_operates, put_puts}
 use Rattle.file_pages.proofs.Valued.{look_leaves_handy, value_after_look, value_leaves_handy}
 use Rattle.file_pages.proofs.WithinFile.{ends_before, never_beyond}
-use Rattle.file_pages.proofs.TrueLinks.{never_led}
+use Rattle.page_seeking.proofs.TrueLinks.{never_led}
+use Rattle.page_seeking.proofs.Erring.{on_ok}
 use Rattle.file_pages.proofs.putting.put.Goals as goal
 
 pub returns-in-Ok-clause-alone : goal.returns-in-Ok-clause-alone
@@ -75,3 +76,6 @@ returns-in-Err-clause-handy g c told = look_leaves_handy c.args.hints.now.cache 
 pub returns-in-Err-clause-true_links : goal.returns-in-Err-clause-true_links
 returns-in-Err-clause-true_links g c told stands links =
     never_led {T = Unit {0}} (pack (g.D.Tape.tape c.args.disk.now)) [] c.args.file.now.fid c.args.file.now (Err c.in-Err.error) (g.met.D.Disk.formed c.args.disk.now told) stands links (c.in-Err.ensures.misled told stands)
+
+pub returns-in-Ok-clause-listed : goal.returns-in-Ok-clause-listed
+returns-in-Ok-clause-listed g c = on_ok c.write_page.result c.in-Ok.ensures.listed

@@ -13,7 +13,8 @@ use Rattle.page_seeking.specs.Seeking.{page_after}
 use Rattle.file_pages.proofs.Erring.{memory_of}
 use Rattle.file_pages.proofs.Going.{memory_as, never_here}
 use Rattle.file_pages.proofs.Following.{follows_next}
-use Rattle.file_pages.specs.Releasing.{MisledSince}
+use Rattle.file_pages.proofs.Gone.{release_forgets}
+use Rattle.file_pages.specs.Releasing.{ListsNoneGone, MisledSince}
 use Rattle.file_pages.proofs.releasing.release_after.Goals as goal
 
 pub returns-in-Ok-release-clause-released : goal.returns-in-Ok-release-clause-released
@@ -28,7 +29,7 @@ returns-in-Ok-release-clause-released g c p told follows =
     let left : pack d ≡ after (pack a) (release_writes to) = pack-after two ∙ ap (after (pack b)) wrote ∙ ap (λ (q : Pack). after q (release_writes to)) (looks_pack looks told) in
     record {
       wrote = added-twice looks.alone.grown two ∙ ap (λ l. l ++ added b d) (looks.silent told) ∙ wrote;
-      table = c.give_back.ensures.table;
+      table = c.set.ensures;
       follows = follows_next p (pack a) (pack d) a.form c.args.page c.args.at to c.args.info c.in-Ok.next c.read_after.new.buf follows c.in-Ok.ensures.seen refl (c.in-Ok.ensures.stands told) left;
     }
 
@@ -74,3 +75,22 @@ returns-in-Err-release-clause-alone g c = alone_twice c.read_after.ensures.looks
 
 pub returns-in-Ok-release-clause-alone : goal.returns-in-Ok-release-clause-alone
 returns-in-Ok-release-clause-alone g c = alone_twice c.read_after.ensures.looks.alone c.release.ensures.alone
+
+pub returns-in-Ok-release-clause-gone : goal.returns-in-Ok-release-clause-gone
+returns-in-Ok-release-clause-gone g c told =
+    let d = g.D.Tape.tape c.release.new.disk in
+    let same = looks_pack c.read_after.ensures.looks told in
+    let after = page_after c.args.page in
+    let held = ap (λ (q : Pack). carried q c.in-Ok.to) same ∙ (c.in-Ok.ensures.stands told).carries in
+    subst (λ (q : Pack). ListsNoneGone q (pack d) c.forget_page.new.cache) same (release_forgets c.in-Ok.to after c.forget_page.new.cache c.release.ensures.alone.grown held (c.in-Ok-release.ensures.guarded told).some c.forget_page.ensures.forgotten)
+
+pub returns-in-Err-release-clause-gone : goal.returns-in-Err-release-clause-gone
+returns-in-Err-release-clause-gone g c told =
+    let d = g.D.Tape.tape c.release.new.disk in
+    let same = looks_pack c.read_after.ensures.looks told in
+    let after = page_after c.args.page in
+    let held = ap (λ (q : Pack). carried q c.in-Ok.to) same ∙ (c.in-Ok.ensures.stands told).carries in
+    subst (λ (q : Pack). ListsNoneGone q (pack d) c.forget_page.new.cache) same (release_forgets c.in-Ok.to after c.forget_page.new.cache c.release.ensures.alone.grown held (c.in-Err-release.ensures.guarded told).some c.forget_page.ensures.forgotten)
+
+pub returns-in-Err-clause-gone : goal.returns-in-Err-clause-gone
+returns-in-Err-clause-gone g c told = λ page i at listed there. ap (λ (q : Pack). carried q i) (looks_pack c.read_after.ensures.looks told) ∙ there

@@ -1,8 +1,11 @@
-use Rattle.std.proofs.Common.{None, arith, inl, inr, refl, subst, ◌+◌, ◌∙◌, ◌≡◌, ◌≤◌}
+use Rattle.std.proofs.Common.{None, ap, arith, inl, inr, refl, subst, ◌+◌, ◌∙◌, ◌≡◌, ◌≤◌}
 use Rattle.disk_records.proofs.Growing.{alone_here, alone_twice}
+use Rattle.disk_records.specs.Tapes.{pack}
+use Rattle.disk_records.specs.declared.records.Page.{Page}
 use Rattle.hint_cache.specs.Caches.{address_in}
 use Rattle.page_seeking.proofs.Ending.{same_or_less}
 use Rattle.page_seeking.specs.Seeking.{page_number}
+use Rattle.file_pages.proofs.Gone.{none_gone_twice}
 use Rattle.file_pages.proofs.Remaining.{short_end}
 use Rattle.file_pages.proofs.ReleaseLoop.{halfway_here, halfway_more, releases_all, releases_broke}
 use Rattle.file_pages.proofs.releasing.release_rest.Goals as goal
@@ -14,6 +17,8 @@ loop-lower-init g c = record {
   refused = refl;
   handy = λ ss f handy. handy;
   no_more = λ page none. none;
+  here = refl;
+  gone = λ told page i at listed there. there;
   forgotten = λ n above within. absurd (omega (arith, above, within));
   follows = λ p told follows. follows;
   halfway = λ p pages told follows left. halfway_here (g.D.Tape.tape c.args.disk.now) c.args.hints.now.table left;
@@ -29,6 +34,8 @@ loop-lower-preserved g c =
       refused = step.refused ∙ inv.refused;
       handy = λ ss f handy. step.handy ss f (inv.handy ss f handy);
       no_more = λ page none. step.no_more page (inv.no_more page none);
+      here = step.others (page_number c.args.fid c.args.number) (λ same. let number : c.args.number ≡ c.loop-lower.lower + 1 = ap (λ (x : Page). x.number) same in omega (arith, number, c.loop-lower.auto.lower)) ∙ inv.here;
+      gone = λ told. none_gone_twice (pack (g.D.Tape.tape c.args.disk.now)) (pack (g.D.Tape.tape c.loop-lower.disk)) (pack (g.D.Tape.tape c.release_after.new.disk)) c.loop-lower.hints.cache c.release_after.new.hints.cache (inv.gone told) step.no_more (step.gone told);
       forgotten = λ n above within. elim (same_or_less n (c.loop-lower.lower + 1) within) [
         | inl same ↦ subst (λ k. address_in c.release_after.new.hints.cache.entries (page_number c.args.fid k) ≡ None) same c.in-Ok.ensures.forgotten
         | inr less ↦ step.no_more (page_number c.args.fid n) (inv.forgotten n above (omega (arith, less)))
@@ -87,3 +94,10 @@ returns-clause-forgotten g c p told follows whole few =
 
 pub returns-in-Err-clause-no_more : goal.returns-in-Err-clause-no_more
 returns-in-Err-clause-no_more g c = λ page none. c.release_after.ensures.no_more page (c.loop-lower.invariant.no_more page none)
+
+pub returns-in-Err-clause-here : goal.returns-in-Err-clause-here
+returns-in-Err-clause-here g c =
+    c.release_after.ensures.others (page_number c.args.fid c.args.number) (λ same. let number : c.args.number ≡ c.loop-lower.lower + 1 = ap (λ (x : Page). x.number) same in omega (arith, number, c.loop-lower.auto.lower)) ∙ c.loop-lower.invariant.here
+
+pub returns-in-Err-clause-gone : goal.returns-in-Err-clause-gone
+returns-in-Err-clause-gone g c told = none_gone_twice (pack (g.D.Tape.tape c.args.disk.now)) (pack (g.D.Tape.tape c.loop-lower.disk)) (pack (g.D.Tape.tape c.release_after.new.disk)) c.loop-lower.hints.cache c.release_after.new.hints.cache (c.loop-lower.invariant.gone told) c.release_after.ensures.no_more (c.release_after.ensures.gone told)

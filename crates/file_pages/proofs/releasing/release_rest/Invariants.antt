@@ -3,7 +3,7 @@ use Rattle.disk_records.specs.Packs.{Pack}
 use Rattle.disk_records.specs.Tapes.{DiskAlone, pack}
 use Rattle.hint_cache.specs.Caches.{address_in}
 use Rattle.page_seeking.specs.Seeking.{page_number}
-use Rattle.file_pages.specs.Releasing.{AreAfter, Follows, Halfway, KeepsEachHandy, ListsNoMore}
+use Rattle.file_pages.specs.Releasing.{AreAfter, Follows, Halfway, KeepsEachHandy, ListsNoMore, ListsNoneGone}
 use Rattle.file_pages.proofs.releasing.release_rest.Given as goal
 
 abbrev pub invariant-loop-lower : goal.invariant-loop-lower
@@ -16,6 +16,8 @@ invariant-loop-lower g l =
       refused : l.hints.cache.refused ≡ l.fn.hints.cache.refused;
       handy : KeepsEachHandy l.fn.hints.cache l.hints.cache;
       no_more : ListsNoMore l.fn.hints.cache l.hints.cache;
+      here : address_in l.hints.cache.entries (page_number l.fid l.fn.number) ≡ address_in l.fn.hints.cache.entries (page_number l.fid l.fn.number);
+      gone : IsTrue g.D.Tape.told → ListsNoneGone (pack old) (pack now) l.hints.cache;
       forgotten : (n : ℕ) → l.fn.number < n → n ≤ l.lower → address_in l.hints.cache.entries (page_number l.fid n) ≡ None;
       follows : (p : Pack) → IsTrue g.D.Tape.told → Follows p (pack old) (page_number l.fid l.fn.number) l.fn.at l.fn.info → Follows p (pack now) (page_number l.fid l.lower) l.here l.last;
       halfway : (p : Pack) (pages : List ℕ) → IsTrue g.D.Tape.told → Follows p (pack old) (page_number l.fid l.fn.number) l.fn.at l.fn.info → AreAfter p l.fid l.fn.number pages → Halfway p l.fid l.lower pages old now l.fn.hints.table l.hints.table;

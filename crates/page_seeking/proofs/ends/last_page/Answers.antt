@@ -3,6 +3,9 @@ use Rattle.page_seeking.proofs.Easing.{keeps_handy, quick_cache}
 use Rattle.page_seeking.proofs.Erring.{caused_length}
 use Rattle.page_seeking.proofs.Lasting.{is_last, near_of_last, near_the_end}
 use Rattle.page_seeking.proofs.Seeking.{ends_of}
+use Rattle.std.proofs.Common.{Err, []}
+use Rattle.page_seeking.proofs.TrueLinks.{never_led}
+use Rattle.disk_records.specs.Tapes.{pack}
 use Rattle.page_seeking.proofs.ends.last_page.Goals as goal
 
 pub returns-in-Ok-clause-last : goal.returns-in-Ok-clause-last
@@ -25,3 +28,7 @@ returns-in-Ok-clause-quick g c told quick named =
 pub returns-in-Ok-clause-climbs : goal.returns-in-Ok-clause-climbs
 returns-in-Ok-clause-climbs g c more told quick near =
     near_the_end _ _ (is_last quick.whole told (ends_of c.in-Ok.ensures.ends c.in-Ok.ensures.found)) near (c.in-Ok.ensures.climbs more told quick near)
+
+pub returns-in-Err-clause-true_links : goal.returns-in-Err-clause-true_links
+returns-in-Err-clause-true_links g c told stands links =
+    never_led {T = Unit {0}} (pack (g.D.Tape.tape c.args.disk.now)) [] c.args.file.now.fid c.args.file.now (Err c.in-Err.error) (g.met.D.Disk.formed c.args.disk.now told) stands links (c.in-Err.ensures.misled told stands.from)

@@ -1,10 +1,14 @@
-use Rattle.std.proofs.Common.{◌∙◌, arith}
+use Rattle.std.proofs.Common.{◌∙◌, arith, Err, []}
 use Rattle.page_seeking.specs.declared.links.Below.{Below}
 use Rattle.page_seeking.proofs.Easing.{keeps_handy, quick_cache}
 use Rattle.page_seeking.proofs.Erring.{caused_length}
 use Rattle.page_seeking.proofs.Lasting.{ends_at, is_last, near_of_last, near_the_end}
 use Rattle.page_seeking.proofs.Once.{most_once}
 use Rattle.page_seeking.proofs.Seeking.{ends_of}
+use Rattle.page_seeking.proofs.TrueLinks.{never_led}
+use Rattle.disk_records.specs.Tapes.{pack}
+use Rattle.page_seeking.proofs.Listing.{is_listed}
+use Rattle.page_seeking.proofs.Parting.{few_bytes}
 use Rattle.page_seeking.proofs.ends.length.Goals as goal
 
 pub returns-in-Ok-clause-length : goal.returns-in-Ok-clause-length
@@ -29,3 +33,25 @@ pub returns-in-Ok-clause-quick : goal.returns-in-Ok-clause-quick
 returns-in-Ok-clause-quick g c told quick named =
     let near = near_of_last named in
     near_the_end _ _ (is_last quick.whole told (ends_of c.in-Ok.ensures.ends c.in-Ok.ensures.found)) near (c.in-Ok.ensures.climbs 0 told (quick_cache quick) near)
+
+pub returns-in-Err-clause-true_links : goal.returns-in-Err-clause-true_links
+returns-in-Err-clause-true_links g c told stands links =
+    never_led {T = Unit {0}} (pack (g.D.Tape.tape c.args.disk.now)) [] c.args.file.now.fid c.args.file.now (Err c.in-Err.error) (g.met.D.Disk.formed c.args.disk.now told) stands links (c.in-Err.ensures.misled told stands.from)
+
+pub returns-in-Ok-clause-bound : goal.returns-in-Ok-clause-bound
+returns-in-Ok-clause-bound g c =
+    let few = few_bytes c.in-Ok.ensures.found.seen in
+    let is = c.length_at.ensures in
+    let first = c.in-Ok.ensures.ends.first in
+    omega (arith, few, is, first)
+
+pub returns-in-Ok-clause-listed : goal.returns-in-Ok-clause-listed
+returns-in-Ok-clause-listed g c =
+    let found = c.in-Ok.ensures.found in
+    record {
+      number = c.in-Ok.last.number;
+      bytes = c.in-Ok.last.found.info.bytes;
+      tells = c.length_at.ensures;
+      ends = c.in-Ok.ensures.ends;
+      listed = is_listed g.D.Tape.told (pack (g.D.Tape.tape c.args.disk.now)) found.lists (λ told. (found.stands told).carries);
+    }

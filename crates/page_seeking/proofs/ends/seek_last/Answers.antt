@@ -1,4 +1,4 @@
-use Rattle.std.proofs.Common.{arith, subst, sym}
+use Rattle.std.proofs.Common.{arith, subst, sym, Err, inl, inr}
 use Rattle.disk_records.specs.Packs.{Pack}
 use Rattle.disk_records.specs.Tapes.{pack}
 use Rattle.disk_records.proofs.Looking.{looks_pack}
@@ -6,8 +6,9 @@ use Rattle.page_seeking.specs.Inside.{NamesEnd}
 use Rattle.pack_model.specs.hints.Handy.{leader_word}
 use Rattle.page_seeking.proofs.Easing.{finds_of}
 use Rattle.page_seeking.proofs.Lasting.{names_end}
-use Rattle.page_seeking.proofs.Erring.{if_ok_both, if_ok_map}
+use Rattle.page_seeking.proofs.Erring.{if_ok_both, if_ok_map, if_misled_map}
 use Rattle.page_seeking.proofs.Seeking.{confirmed_before, confirmed_reached, sought_more, sought_twice}
+use Rattle.page_seeking.specs.declared.links.Below.{Below}
 use Rattle.page_seeking.proofs.ends.seek_last.Goals as goal
 
 pub returns-in_err-below-clause-sought : goal.returns-in_err-below-clause-sought
@@ -27,9 +28,15 @@ returns-clause-climbs g c more told quick near =
     let old = pack (g.D.Tape.tape c.args.disk.now) in
     let f = c.args.file.now.fid in
     let named = leader_word old near.leader_at 254 in
-    let confirmed = c.in_ok-leader.ensures.found in
-    let leader = c.locate_leader.ensures.quick c.in_ok-leader.leader.at told (finds_of quick (confirmed.stands told).carries) in
+    let confirmed = c.in-Ok.ensures.found in
+    let leader = c.locate_leader.ensures.quick c.in-Ok.leader.at told (finds_of quick (confirmed.stands told).carries) in
     let looks = c.locate_leader.ensures.sought.looks in
     let ends = names_end quick.whole (confirmed.stands told) near in
     let below = c.in_ok-below.ensures.quick named told (subst (λ (p : Pack). NamesEnd p f c.locate_leader.new.buf named) (sym (looks_pack looks told)) ends) in
     if_ok_map c.climb_to_end.result (c.climb_to_end.ensures.climbs told) (λ last climbed. omega (arith, leader, below.0, below.1, climbed))
+
+pub returns-in-Err-clause-hint : goal.returns-in-Err-clause-hint
+returns-in-Err-clause-hint g c = if_misled_map {T = Below} (Err c.in-Err.error) c.in-Err.ensures.hint (λ place at wanted found x. inl x)
+
+pub returns-clause-hint : goal.returns-clause-hint
+returns-clause-hint g c = if_misled_map c.climb_to_end.result c.climb_to_end.ensures.link (λ place at wanted found x. inr x)

@@ -2,7 +2,7 @@ use Rattle.std.proofs.Common.{arith, sym, subst}
 use Rattle.disk_records.specs.Packs.{Pack}
 use Rattle.disk_records.specs.Tapes.{pack}
 use Rattle.disk_records.proofs.Looking.{looks_pack}
-use Rattle.page_seeking.specs.Refs.{FileIsFrom}
+use Rattle.page_seeking.specs.Refs.{FileIsFrom, FileIsRooted}
 use Rattle.page_seeking.proofs.Easing.{passed_free}
 use Rattle.page_seeking.proofs.Erring.{if_ok_map, if_misled_map}
 use Rattle.page_seeking.proofs.Seeking.{confirmed_before, misled_before, sought_twice}
@@ -24,3 +24,6 @@ returns-in-None-clause-quick g c at told finds =
     let here = rw c.in-None.is at c.in_ok-found.ensures.here in
     let none = passed_free (pack (g.D.Tape.tape c.args.disk.now)) c.args.file.now.fid 0 at c.args.cache.now finds (c.try_cached.ensures.unlisted told) (λ i. here i told) in
     omega (arith, none, c.look_at_leader.ensures.sought.looks.runs told)
+
+pub returns-in-None-clause-on_disk : goal.returns-in-None-clause-on_disk
+returns-in-None-clause-on_disk g c = λ told stands. c.look_at_leader.ensures.on_disk told (subst (λ (p : Pack). FileIsRooted p c.args.file.now) (sym (looks_pack c.try_cached.ensures.sought.looks told)) stands)

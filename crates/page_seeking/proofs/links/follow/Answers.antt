@@ -1,15 +1,18 @@
-use Rattle.std.proofs.Common.{sym, [], arith, subst}
+use Rattle.std.proofs.Common.{sym, [], arith, subst, refl}
+use Rattle.disk_records.specs.declared.records.Place.TheVariants.{Next}
 use Rattle.disk_records.specs.declared.shape.Shape.{Shape}
 use Rattle.disk_records.specs.Tapes.{pack}
 use Rattle.label_check.specs.declared.errors.PageInfo.{PageInfo}
 use Rattle.label_check.specs.Guarded.{Carries, FoundWrong}
+use Rattle.pack_model.specs.hints.Misled.{IsOnDisk}
 use Rattle.page_seeking.specs.declared.seek.Found.{Found}
 use Rattle.page_seeking.specs.Inside.{Known}
-use Rattle.page_seeking.specs.Refs.{MisledBy}
+use Rattle.page_seeking.specs.Refs.{MisledBy, IsOwnLink}
 use Rattle.page_seeking.specs.Seeking.{page_after}
-use Rattle.page_seeking.proofs.Erring.{at_wrong}
+use Rattle.page_seeking.proofs.Erring.{at_place, at_wrong}
 use Rattle.page_seeking.proofs.Misleading.{link_misled, taken_link}
 use Rattle.page_seeking.proofs.Seeking.{sought_missed, sought_noted}
+use Rattle.page_seeking.proofs.OwnHints.{wrong_at}
 use Rattle.page_seeking.proofs.links.follow.Goals as goal
 
 pub returns-in-Ok-clause-sought : goal.returns-in-Ok-clause-sought
@@ -29,3 +32,11 @@ returns-in-Err-clause-misled g c told known full =
 
 pub returns-in-Ok-clause-keeps : goal.returns-in-Ok-clause-keeps
 returns-in-Ok-clause-keeps g c = c.note_seen.ensures.keeps c.args.page (omega arith)
+
+pub returns-in-Err-clause-on_disk : goal.returns-in-Err-clause-on_disk
+returns-in-Err-clause-on_disk g c = at_place Found IsOnDisk (Next c.args.here.at) c.args.here.info.next (page_after c.args.page) c.error_at.result c.in-Err.error c.error_at.ensures tt
+
+pub returns-in-Err-clause-link : goal.returns-in-Err-clause-link
+returns-in-Err-clause-link g c =
+    let page = c.args.page in
+    wrong_at Found (λ place at wanted found. IsOwnLink page.fid place wanted) c.in-Err.error (Next c.args.here.at) c.args.here.info.next (page_after page) c.error_at.result c.error_at.ensures (λ found. record { followed = c.args.here.at; link = refl; own = refl; later = omega arith })

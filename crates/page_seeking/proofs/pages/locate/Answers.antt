@@ -1,10 +1,11 @@
-use Rattle.std.proofs.Common.{Err, subst}
+use Rattle.std.proofs.Common.{Err, subst, []}
 use Rattle.disk_records.specs.Tapes.{pack}
 use Rattle.page_seeking.specs.declared.seek.Found.{Found}
 use Rattle.page_seeking.specs.Inside.{Finds}
 use Rattle.page_seeking.proofs.Easing.{eases_of, finds_of, keeps_handy}
 use Rattle.page_seeking.proofs.Ending.{end_is_length}
 use Rattle.page_seeking.proofs.Erring.{caused, if_beyond_map}
+use Rattle.page_seeking.proofs.TrueLinks.{never_led}
 use Rattle.page_seeking.proofs.pages.locate.Goals as goal
 
 pub returns-in-Err-clause-cause : goal.returns-in-Err-clause-cause
@@ -26,3 +27,7 @@ returns-in-Ok-clause-handy g c told = keeps_handy c.seek_page.ensures.sought tol
 
 pub returns-in-Err-clause-handy : goal.returns-in-Err-clause-handy
 returns-in-Err-clause-handy g c told = keeps_handy c.seek_page.ensures.sought told
+
+pub returns-in-Err-clause-true_links : goal.returns-in-Err-clause-true_links
+returns-in-Err-clause-true_links g c told stands links =
+    never_led {T = Unit {0}} (pack (g.D.Tape.tape c.args.disk.now)) [] c.args.file.now.fid c.args.file.now (Err c.in-Err.error) (g.met.D.Disk.formed c.args.disk.now told) stands links (c.in-Err.ensures.misled told stands.from)

@@ -71,3 +71,6 @@ returns-in_ok-below-in-None-clause-quick g c at told eases =
     let climbed = c.climb.ensures.sought.looks.runs told in
     let first = c.requires.first in
     on_ok c.climb.result (omega (arith, leader, hints, below, climbed, first))
+
+pub returns-in_ok-below-in-None-clause-on_disk : goal.returns-in_ok-below-in-None-clause-on_disk
+returns-in_ok-below-in-None-clause-on_disk g c = λ told stands. c.climb.ensures.on_disk

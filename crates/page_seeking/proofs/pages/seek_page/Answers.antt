@@ -1,6 +1,6 @@
 use Rattle.std.proofs.Common.{arith, sym, subst}
 use Rattle.disk_records.specs.Packs.{Pack}
-use Rattle.page_seeking.specs.Refs.{FileIsFrom}
+use Rattle.page_seeking.specs.Refs.{FileIsFrom, FileIsRooted}
 use Rattle.disk_records.specs.Tapes.{pack}
 use Rattle.page_seeking.proofs.Erring.{if_ok_map, if_misled_map, if_beyond_map, on_ok, on_ok_map}
 use Rattle.disk_records.proofs.Looking.{looks_pack}
@@ -39,3 +39,6 @@ returns-then-number-eq0-clause-quick g c at told eases =
 
 pub returns-then-number-eq0-clause-leader : goal.returns-then-number-eq0-clause-leader
 returns-then-number-eq0-clause-leader g c at told zeroth finds = c.locate_leader.ensures.quick at told finds
+
+pub returns-in-None-clause-on_disk : goal.returns-in-None-clause-on_disk
+returns-in-None-clause-on_disk g c = λ told stands. c.seek_from_leader.ensures.on_disk told (subst (λ (p : Pack). FileIsRooted p c.args.file.now) (sym (looks_pack c.try_cached.ensures.sought.looks told)) stands)

@@ -1,9 +1,10 @@
-use Rattle.std.proofs.Common.{ℕ}
+use Rattle.std.proofs.Common.{ℕ, Err, []}
 use Rattle.disk_records.specs.Tapes.{pack}
 use Rattle.page_seeking.proofs.Easing.{keeps_handy}
 use Rattle.page_seeking.proofs.Erring.{caused}
 use Rattle.page_seeking.proofs.Once.{full_before_byte, once_of_whole}
 use Rattle.page_seeking.proofs.Stopping.{lists_end, lists_next}
+use Rattle.page_seeking.proofs.TrueLinks.{never_led}
 use Rattle.page_seeking.proofs.read.read_part.Goals as goal
 
 pub returns-in-Err-clause-cause : goal.returns-in-Err-clause-cause
@@ -29,3 +30,7 @@ returns-in-Ok-clause-handy g c told = keeps_handy c.read_pages.ensures.sought to
 
 pub returns-in-Err-clause-handy : goal.returns-in-Err-clause-handy
 returns-in-Err-clause-handy g c told = keeps_handy c.read_pages.ensures.sought told
+
+pub returns-in-Err-clause-true_links : goal.returns-in-Err-clause-true_links
+returns-in-Err-clause-true_links g c told stands links =
+    never_led {T = Unit {0}} (pack (g.D.Tape.tape c.args.disk.now)) [] c.args.file.now.fid c.args.file.now (Err c.in-Err.error) (g.met.D.Disk.formed c.args.disk.now told) stands links (c.in-Err.ensures.misled told stands.from)

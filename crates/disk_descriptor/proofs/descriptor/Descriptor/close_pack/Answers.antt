@@ -4,6 +4,7 @@ use Rattle.disk_records.specs.Tapes.{pack}
 use Rattle.pack_model.specs.operations.Commands.{values_writes}
 use Rattle.pack_model.specs.sessions.Descriptor.{closed_values, data_pages}
 use Rattle.disk_descriptor.proofs.Keeping.{closes_after, fits_after_closing, kept_of, pages_carried}
+use Rattle.disk_descriptor.proofs.Readings.{reads_after_closing, reads_itself}
 use Rattle.disk_descriptor.specs.Answers.{IfHeld}
 use Rattle.disk_descriptor.specs.Fields.{Fits, FitsDisk, closes}
 use Rattle.disk_descriptor.specs.Writing.{AreCarried, Writes}
@@ -65,4 +66,21 @@ returns-clause-fits g c = λ told fits.
     let carries : AreCarried (pack a) (take c.from-count.result d.pages) = subst (λ n. AreCarried (pack a) (take n d.pages)) (sym count) (pages_carried (pack a) (kept_of d.shape d.last d.mark d.pages) here.fits) in
     let wrote = (c.in_ok-write_pages.ensures.writes told carries).ok in
     fits_after_closing d.shape d.last d.mark d.pages busy here (g.met.D.Disk.formed c.args.disk.now told) c.if-self-eq-CLEAN.false c.in_ok-write_pages.ensures.alone.grown
+    (wrote ∙ (λ i. values_writes (reverse (closed_values (form i) d.last busy 0 (take (count i) d.pages)))))
+
+pub returns-then-self-eq-CLEAN-clause-reads : goal.returns-then-self-eq-CLEAN-clause-reads
+returns-then-self-eq-CLEAN-clause-reads g c = λ told fits. reads_itself (pack (g.D.Tape.tape c.args.disk.now))
+
+pub returns-clause-reads : goal.returns-clause-reads
+returns-clause-reads g c = λ told fits.
+    let d = c.self.inside in
+    let a = g.D.Tape.tape c.args.disk.now in
+    let b = g.D.Tape.tape c.write_pages.new.disk in
+    let busy = c.args.table.now in
+    let here : FitsDisk (pack a) (kept_of d.shape d.last d.mark d.pages) = subst (FitsDisk (pack a)) (sym c.self.view_is) fits in
+    let count : c.from-count.result ≡ data_pages d.shape = c.from-count.ensures ∙ c.data_pages.ensures.pages in
+    let form : a.form ≡ d.shape = sym (ap (λ k. k.shape) c.self.view_is ∙ c.requires.shape) in
+    let carries : AreCarried (pack a) (take c.from-count.result d.pages) = subst (λ n. AreCarried (pack a) (take n d.pages)) (sym count) (pages_carried (pack a) (kept_of d.shape d.last d.mark d.pages) here.fits) in
+    let wrote = (c.in_ok-write_pages.ensures.writes told carries).ok in
+    reads_after_closing d.shape d.last d.mark d.pages busy here (g.met.D.Disk.formed c.args.disk.now told) c.if-self-eq-CLEAN.false c.in_ok-write_pages.ensures.alone.grown
     (wrote ∙ (λ i. values_writes (reverse (closed_values (form i) d.last busy 0 (take (count i) d.pages)))))

@@ -1,6 +1,7 @@
 use Rattle.std.proofs.Common.{Err, rules, subst, sym, ◌≡◌}
 use Rattle.disk_records.specs.Tapes.{pack}
 use Rattle.disk_descriptor.proofs.Keeping.{fits_after_opening, first_carried, opens_after, opens_not}
+use Rattle.disk_descriptor.proofs.Readings.{reads_after_opening, reads_itself}
 use Rattle.disk_descriptor.specs.Answers.{IfHeld}
 use Rattle.disk_descriptor.specs.Fields.{Fits, FitsDisk, Opens}
 use Rattle.disk_descriptor.specs.declared.errors.DescError.TheVariants.{Memory}
@@ -41,3 +42,13 @@ returns-clause-fits g c = λ told fits.
     let a = g.D.Tape.tape c.args.disk.now in
     let here : FitsDisk (pack a) _ = subst (FitsDisk (pack a)) (sym c.self.view_is) fits in
     fits_after_opening d.shape d.last d.mark d.pages here c.if-self-eq-OPEN.false c.in_ok-change_words.ensures.alone.grown (c.in_ok-change_words.ensures.writes told (first_carried d.shape d.last d.mark d.pages (pack a) here.fits)).ok
+
+pub returns-then-self-eq-OPEN-clause-reads : goal.returns-then-self-eq-OPEN-clause-reads
+returns-then-self-eq-OPEN-clause-reads g c = λ told fits. reads_itself (pack (g.D.Tape.tape c.args.disk.now))
+
+pub returns-clause-reads : goal.returns-clause-reads
+returns-clause-reads g c = λ told fits.
+    let d = c.self.inside in
+    let a = g.D.Tape.tape c.args.disk.now in
+    let here : FitsDisk (pack a) _ = subst (FitsDisk (pack a)) (sym c.self.view_is) fits in
+    reads_after_opening d.shape d.last d.mark d.pages here c.if-self-eq-OPEN.false c.in_ok-change_words.ensures.alone.grown (c.in_ok-change_words.ensures.writes told (first_carried d.shape d.last d.mark d.pages (pack a) here.fits)).ok

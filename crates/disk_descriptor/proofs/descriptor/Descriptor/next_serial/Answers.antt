@@ -2,6 +2,7 @@ use Rattle.std.proofs.Common.{Err, Ok, [], arith, rules, subst, sym, ℕ, ◌+�
 use Rattle.std.proofs.lemmas.List.{append-nil}
 use Rattle.disk_records.specs.Tapes.{pack}
 use Rattle.disk_descriptor.proofs.Keeping.{fits_after_serial, first_carried, gives_after, kept_of}
+use Rattle.disk_descriptor.proofs.Readings.{reads_after_serial}
 use Rattle.disk_descriptor.proofs.Writings.{writes_all, writes_stop}
 use Rattle.disk_descriptor.specs.Answers.{IfHeld}
 use Rattle.disk_descriptor.specs.Fields.{Fits, FitsDisk, GivesOne}
@@ -44,3 +45,10 @@ returns-clause-fits g c = λ told fits.
     let a = g.D.Tape.tape c.args.disk.now in
     let here : FitsDisk (pack a) (kept_of d.shape d.last d.mark d.pages) = subst (FitsDisk (pack a)) (sym c.self.view_is) fits in
     fits_after_serial d.shape d.last d.mark d.pages here c.in_ok-change_words.ensures.alone.grown (c.in_ok-change_words.ensures.writes told (first_carried d.shape d.last d.mark d.pages (pack a) here.fits)).ok
+
+pub returns-clause-reads : goal.returns-clause-reads
+returns-clause-reads g c = λ told fits.
+    let d = c.self.inside in
+    let a = g.D.Tape.tape c.args.disk.now in
+    let here : FitsDisk (pack a) (kept_of d.shape d.last d.mark d.pages) = subst (FitsDisk (pack a)) (sym c.self.view_is) fits in
+    reads_after_serial d.shape d.last d.mark d.pages here c.in_ok-change_words.ensures.alone.grown (c.in_ok-change_words.ensures.writes told (first_carried d.shape d.last d.mark d.pages (pack a) here.fits)).ok
