@@ -4,7 +4,7 @@
 In a transcript a line that begins with `$ ` is a command for sh. Where it has a here-document (`<<`), the lines after it that begin
 with `> ` belong to it. Then comes all that it prints, on the standard error too, and `[exit code N]` on a line of its own where it
 doesn't end with 0. Each transcript runs in a fresh folder, command by command, with the built program on the path as `alto` and the
-folder of this script as `check`.
+folders check/ and tools/.
 """
 import difflib
 import os
@@ -39,7 +39,8 @@ def replayed(transcript, program):
         folder.mkdir()
         tools.mkdir()
         (tools / "alto").symlink_to(program)
-        (folder / "check").symlink_to(arguments.TOP / "check")
+        for name in ("check", "tools"):
+            (folder / name).symlink_to(arguments.TOP / name)
         environment = {**os.environ, "PATH": f"{tools}:{os.environ['PATH']}", "LC_ALL": "C", "PYTHONDONTWRITEBYTECODE": "1"}
         for lines, command in commands_of(transcript):
             made += lines + printed(command, folder, environment)

@@ -2,8 +2,8 @@
 
 A pack file is its sectors in order, 532 bytes each: header (pack number, real address), label and value, words with the high byte
 first. docs/formats.md tells the words. A file's full name is its serial, the high word first, and its version. Run as a script, it
-writes a small pack with one file of the five bytes `ABCDE`, which no directory names, or with --named one with three files that
-directories name.
+writes a small pack with one file of the five bytes `ABCDE`, which no directory names, with --named one with three files that
+directories name, or with --damaged one with damage of each kind.
 """
 import argparse
 import pathlib
@@ -99,6 +99,28 @@ def named_pack():
     return b"".join(sectors)
 
 
+def damaged_pack():
+    """A pack of 48 sectors with two system files, a directory and two files, a sector of each kind that damage leaves, and false hints."""
+    sectors, a, d, x = free_sectors(2), ordinary(3), directory(4), ordinary(5)
+    root = slot(SYS_DIR, b"SysDir.", 1) + slot(DESCRIPTOR, b"DiskDescriptor.", 3) + slot(a, b"A.", 5) + slot(d, b"D.", 8)
+    put_file(sectors, 1, SYS_DIR, b"SysDir.", root)
+    # the bit of sector 30 is 0, though it is bad, and that of sector 40 is 1, though it is free
+    put_file(sectors, 3, DESCRIPTOR, b"DiskDescriptor.", struct.pack(">19H", 1, 2, 2, 12, 0, 5, 1, 29, 3, *[0] * 7, 0xFFFC, 0, 0x0080))
+    put_file(sectors, 5, a, b"A.", bytes(1_000))
+    # the leader page of X is on sector 10
+    put_file(sectors, 8, d, b"D.", slot(x, b"X.", 13))
+    put_file(sectors, 10, x, b"X.", bytes(1_200))
+    # page 1 of A names its second copy, and that one names nothing
+    put_page(sectors, 6, a, 1, b"", following=real_of(20), previous=real_of(5))
+    put_page(sectors, 20, a, 1, b"")
+    put_page(sectors, 12, x, 2, b"", following=real_of(13))
+    put_page(sectors, 22, ordinary(9), 1, b"", 100)
+    put_page(sectors, 24, a, 5, b"", 100)
+    put_page(sectors, 26, ordinary(0), 0, b"")
+    sectors[30] = sectors[31]
+    return b"".join(sectors)
+
+
 def file_name(number):
     return f"File{number:03}.".encode()
 
@@ -170,9 +192,12 @@ def place(offset):
 def main():
     parser = argparse.ArgumentParser(description=__doc__, formatter_class=argparse.RawDescriptionHelpFormatter)
     parser.add_argument("pack", metavar="PACK", help="the path of the pack file, which is written anew")
-    parser.add_argument("--named", action="store_true", help="three files that directories name")
+    kinds = parser.add_mutually_exclusive_group()
+    kinds.add_argument("--named", action="store_true", help="three files that directories name")
+    kinds.add_argument("--damaged", action="store_true", help="three files that directories name, with damage of each kind and false hints")
     options = parser.parse_args()
-    pathlib.Path(options.pack).write_bytes(named_pack() if options.named else pack(2, b"ABCDE"))
+    made = named_pack() if options.named else damaged_pack() if options.damaged else pack(2, b"ABCDE")
+    pathlib.Path(options.pack).write_bytes(made)
 
 
 if __name__ == "__main__":

@@ -1,0 +1,38 @@
+"""Stored names, as `A.` and `A!2.` (docs/formats.md, Names)."""
+import re
+
+SHORTEST, LONGEST, LAST_VERSION = 2, 39, 65_534
+STORED = re.compile(r"([A-Za-z0-9+\-.$]+)(?:!([2-9]|[1-9][0-9]{1,4}))?\.")
+
+
+def stored(text):
+    """A stored name that these bytes spell, or None."""
+    if not SHORTEST <= len(text) <= LONGEST or not text.isascii():
+        return None
+    name = text.decode()
+    found = STORED.fullmatch(name)
+    return name if found and int(found[2] or 1) <= LAST_VERSION else None
+
+
+def parts(name):
+    """The base of a stored name with its last dot, and its version."""
+    base, _, version = name[:-1].partition("!")
+    return base + ".", int(version or 1)
+
+
+def folded(name):
+    """What two stored names have in common if they are the same; it also orders them."""
+    base, version = parts(name)
+    return base.lower(), version
+
+
+def suffixed(name, number):
+    """The name with this number for another one."""
+    base, version = parts(name)
+    suffix, stated = f"${number}", f"!{version}" if version > 1 else ""
+    return base[: LONGEST - 1 - len(suffix) - len(stated)] + suffix + stated + "."
+
+
+def lost(serial):
+    """The name of a file whose leader page has none."""
+    return f"Lost{serial:o}."
