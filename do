@@ -14,7 +14,7 @@ usage: ./do VERB ..
   edits CRATE ..        tries its must-fail edits
   fmt [CRATE ..]        lays out the files of these crates, or of all
   docs                  compares the documents with the code
-  find WORD             finds functions, types, laws and definitions by a word
+  find WORD ..          finds laws, functions, types and definitions that have all these words
   demo                  replays the transcripts of demo/
   gate                  all that a change has to pass
 END
@@ -50,7 +50,8 @@ case "$verb $#" in
     "edits "*) exec rt must-fail "$@" ;;
     "fmt "*) fmt "$@" ;;
     "docs 0") exec python3 check/documents.py ;;
-    "find 1") exec python3 check/names.py "$1" ;;
+    "find 0") usage >&2; exit 1 ;;
+    "find "*) exec python3 check/names.py "$@" ;;
     "demo 0") exec python3 check/demos.py ;;
     "gate 0") exec .ci/run ;;
     "help 0" | "--help 0" | "-h 0") usage ;;

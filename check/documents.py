@@ -27,6 +27,9 @@ PATH = re.compile(r"`((?:\w+::)+\w+)`")
 FILE = re.compile(r"(?<![\w./-])(?:\.ci|bench|check|crates|demo|docs|tools)/[\w./-]*\w")
 # what stands for any name, and what is built
 NO_FILE = re.compile(r"\b(CRATE|MODULE|NAME|out)\b")
+# a cell that points at another: at a row beside it, at those above it, or at the row of an edit, which may be another crate's
+POINTER = re.compile(r"as in (?:the (row) (above|below)|the (rows) above|the row of `(\w+)`(?: of (\w+))?)(?:,|$)")
+NOTHING = ("none", "not yet")
 CRATE_ROW = re.compile(r"\| `(\w+)` \|")
 NUMBER = re.compile(r"\b(\d[\d,]*) (crates|must-fail edits|edits)\b(?! a crate)")
 DEMO_BLOCK = re.compile(r"^<!-- (demo/\S+) -->\n(?:```\w*\n(.*?)^```$)?", re.M | re.S)
@@ -92,6 +95,48 @@ def check_promises():
             yield f"{place}: the row has {len(cells)} cells, and is to have 4"
         elif cells and len(cells[0].split()) > PROMISE_WORDS:
             yield f"{place}: the promise has {len(cells[0].split())} words, and may have {PROMISE_WORDS}"
+
+
+def promise_rows():
+    """The rows of docs/promises.md by section, each with its place and its cells."""
+    rows, section = collections.defaultdict(list), None
+    for place, line in lines_of(TOP / "docs/promises.md"):
+        cells = [cell.strip() for cell in line.split("|")[1:-1]]
+        if line.startswith("## "):
+            section = line[3:]
+        elif section and len(cells) == 4 and cells[0] != "Promise" and cells[0].strip("-"):
+            rows[section].append((place, cells))
+    return rows
+
+
+def shown_by(rows, section, at, column):
+    """Whether this cell says what shows its promise, also where it points at the cell of another row; None if it points at none."""
+    if not 0 <= at < len(rows[section]):
+        return None
+    cell = rows[section][at][1][column]
+    if not cell.startswith("as in "):
+        return cell not in NOTHING
+    pointer = POINTER.match(cell)
+    if not pointer:
+        return None
+    row, side, above, edit, crate = pointer.groups()
+    if edit:
+        return f"{crate or section}/{edit}" in all_edits() or None
+    if above:
+        return any(shown_by(rows, section, it, column) for it in range(at)) or None
+    return shown_by(rows, section, at - 1 if side == "above" else at + 1, column)
+
+
+def check_shown():
+    """Each row of docs/promises.md says what shows its promise beside the contract: an edit, a test, or in words what else."""
+    rows = promise_rows()
+    for section in rows:
+        for at, (place, cells) in enumerate(rows[section]):
+            shown = [shown_by(rows, section, at, column) for column in (2, 3)]
+            if None in shown:
+                yield f"{place}: points by 'as in' at no row that is there, or at none that shows anything"
+            elif not any(shown):
+                yield f"{place}: names neither edit nor test, and doesn't say what shows it: 'none: ..' with a caller, or 'the clause alone'"
 
 
 def differences(document, kind, named, there):
@@ -210,6 +255,7 @@ def main():
         *check_edits(),
         *check_few_edits(),
         *check_promises(),
+        *check_shown(),
         *check_contracts(found),
         *check_paths(found),
         *check_laws(),

@@ -1,8 +1,9 @@
 #!/usr/bin/env python3
-"""Finds public functions, types, variants, laws and definitions by a word of their name or of the first sentence of their comment.
+"""Finds laws, functions, types, variants and definitions by words of their name or of the first sentence of their comment.
 
-Those with the word in their name come first: code before definitions, and in each those whose whole name it is. Each is shown with its
-place and that sentence.
+All of the words have to be there. Law functions come first, then what has the words in its name: code before definitions, and in each
+what they are the whole name of. Functions that are private to their crate come last, after 'inside'. Each is shown with its place and
+that sentence.
 """
 # A path is as the code imports it, with `::` between its parts: a crate, modules, a type and an item or a variant of src/; or a crate,
 # `specs` or `proofs`, folders, a file and what it defines. What a root file passes on by `pub use` has the shorter path too.
@@ -149,26 +150,43 @@ def index(folders=("src", "specs", "proofs")):
     return found
 
 
-def found_by(word):
-    """The public names with this word, and those with it in their sentence alone."""
-    word = word.lower()
-    public = [name for crate in crates() for name in names_of(crate) if name.public]
-    by_name = [name for name in public if word in name.path[-1].lower()]
-    by_name.sort(key=lambda name: (name.path[1] == "specs", word != name.path[-1].lower()))
-    others = [name for name in public if word not in name.path[-1].lower()]
-    return by_name, [name for name in others if word in name.sentence().lower()]
+def is_law(name):
+    """Whether it is a function of a crate of laws."""
+    return (name.path[0] == "pack_laws" or name.path[0].startswith("laws_")) and name.path[1] != "specs"
+
+
+def is_inside(name):
+    """Whether it is a function that no other crate can name."""
+    item = ITEM.match(name.lines[name.at])
+    return not name.public and name.path[1] != "specs" and bool(item) and item[3] == "fn"
+
+
+def found_by(words):
+    """The public names that have these words in their name or sentence, and the private functions that have."""
+    words = [word.lower() for word in words]
+
+    def has_all(text):
+        return all(word in text.lower() for word in words)
+
+    def rank(name):
+        last = name.path[-1]
+        return not is_law(name), not has_all(last), name.path[1] == "specs", "_".join(words) != last.lower()
+
+    found = [name for crate in crates() for name in names_of(crate) if has_all(f"{name.path[-1]} {name.sentence()}")]
+    return sorted((name for name in found if name.public), key=rank), [name for name in found if is_inside(name)]
 
 
 def main():
     # a reader of the lines may go away before the last of them
     signal.signal(signal.SIGPIPE, signal.SIG_DFL)
     parser = argparse.ArgumentParser(prog="./do find", description=__doc__, formatter_class=argparse.RawDescriptionHelpFormatter)
-    parser.add_argument("word", help="a part of the name or of the sentence, in letters of either case")
-    by_name, by_sentence = found_by(parser.parse_args().word)
-    for name in [*by_name, *by_sentence]:
-        print(f"{'::'.join(name.path)}  {name.place()}  {name.sentence()}")
-    if not by_name and not by_sentence:
-        sys.exit("nothing public has this in its name or its sentence; git grep looks through all texts")
+    parser.add_argument("word", nargs="+", help="a part of the name or of the sentence, in letters of either case")
+    public, inside = found_by(parser.parse_args().word)
+    for where, names in [("", public), ("inside ", inside)]:
+        for name in names:
+            print(f"{where}{'::'.join(name.path)}  {name.place()}  {name.sentence()}")
+    if not public and not inside:
+        sys.exit("nothing has this in its name or its sentence; git grep looks through all texts")
 
 
 if __name__ == "__main__":

@@ -74,7 +74,7 @@ fn put_bytes<D: Disk>(
     Ok(if done { Reply::Done } else { Reply::NoSuchName })
 }
 
-/// Obeys a patch of a file whose data pages are known, and which is patched in one page.
+/// Obeys a patch of a file whose data pages are known, and which is patched in one page: here `beyond length` is decided, and `done`.
 fn patch_pages<D: Disk>(
     disk: &mut D,
     patch: &Patch,
