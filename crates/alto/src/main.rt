@@ -1,5 +1,7 @@
 //! The program `alto`: boots a pack file and obeys what is typed, lists what the pack shows, or formats it.
 //!
+//! Come here for what a shell sees of the program: its words, its exit codes, its complaints.
+//!
 //! Below it stand alto_top, whose contract says what a session shows and leaves and what is listed, and disk_image, whose machine is
 //! over one or two pack files, standard input and standard output. Here are the program's edges: what its words ask for
 //! (`IsCommandLine`), the machine that they name (`machine_of`), the moment of a reading of the clock (`moment_of`; that it is read

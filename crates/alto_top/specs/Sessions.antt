@@ -52,7 +52,7 @@ NextTurn old new before after (Ok Line) = TurnTaken old new before after (Ok tt)
 NextTurn old new before after (Ok End) = KeysAlone old new × TookRest old.keys new.keys before after []
 NextTurn old new before after (Err fault) = TurnMissed old new before fault ⊎ (TurnTaken old new before after (Err fault) × (fault ≢ Key))
 
--- The history is the turns of some first lines, and perhaps one of the next line that broke off. After a fault of the disk or of
+-- The history is the turns of a prefix of the lines, and perhaps one of the next line that broke off. After a fault of the disk or of
 -- the display one did, and nothing follows it.
 abbrev pub IsHistory : Status → StoredFiles → List (List ℕ) → List (Turn Put) → Type 0
 IsHistory answer files lines [] = (answer ≢ status.DiskFault) × (answer ≢ status.DisplayFault)

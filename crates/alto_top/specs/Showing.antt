@@ -52,8 +52,8 @@ pub record KeepsKeys (old new : Taped) : Type 0 where
   pub keys : new.keys ≡ old.keys
   pub key_faults : new.key_faults ≡ old.key_faults
 
--- On a machine that is modelled: the listing of what the pack shows is shown, some first bytes of it where the display failed, and
--- none where the disk failed or memory was wanting; nothing is written, and there are fewer sector commands than sectors.
+-- On a machine that is modelled: the listing of what the pack shows is shown, a prefix of it where the display failed, and
+-- none where the disk failed or memory was refused; nothing is written, and there are fewer sector commands than sectors.
 pub record ShowsPack (old new : Taped) (answer : Status) : Type 0 where
   pub some : IsFirstOf (shown_events (listing_text (show (pack old)))) (added old new)
   pub done : answer ≡ status.Done → added old new ≡ shown_events (listing_text (show (pack old)))

@@ -1,5 +1,9 @@
 //! The top call: a pack is booted and typed lines are obeyed until the input ends, or what the pack shows is listed, or it is formatted.
 //!
+//! Come here when you change what the program does for a word, or obeys as a line. Below it stand label_check and label_sweep for a patch,
+//! pack_reading for the listing, disk_descriptor for formatting and preparing, and the definitions of pack_model, by which all of it is
+//! said.
+//!
 //! To whoever starts it, for every machine that is modelled (`told`), whatever stands on its pack:
 //! 1. The events of `boot` are the turns of the typed lines: each line's record writes, and then its reply (`talks`, `history`).
 //! 2. A reply is that of the files as the earlier lines left them, by labels alone; a `done` stands for its put (`history`).

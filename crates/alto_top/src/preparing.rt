@@ -43,7 +43,7 @@ fn prepare_disk<D: Disk>(alloc: Global, disk: &mut D, number: u16) -> Result<Vec
 /// sector commands a sector of the drive at most.
 ///
 /// DiskFault: a sector wasn't written; nothing is shown, and the drive is to be prepared again. DisplayFault: the display failed; the drive
-/// is prepared, and some first bytes of the text are shown. Memory: none was left; nothing is shown, and the drive is to be prepared again.
+/// is prepared, and a prefix of the text is shown. Memory: none was left; nothing is shown, and the drive is to be prepared again.
 /// Usage and KeyFault are never answered.
 pub fn prepare_pack<M: Machine>(alloc: Global, number: u16, machine: &mut M) -> Status
     requires two { disks_of (M.tape machine.old).form ≡ 2 }

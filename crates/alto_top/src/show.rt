@@ -26,7 +26,7 @@ fn list_pack<D: Disk>(alloc: Global, disk: &mut D) -> Result<Vec<u8>, Fault>
 /// Shows what the pack shows, whatever stands on it: a line for each name, SysDir's first, and then the number of files. No key is
 /// taken and nothing is written. Fewer sector commands than sectors.
 ///
-/// DiskFault: a sector wasn't read; nothing is shown. DisplayFault: the display failed; some first bytes of the listing are shown.
+/// DiskFault: a sector wasn't read; nothing is shown. DisplayFault: the display failed; a prefix of the listing is shown.
 /// Memory: none was left; nothing is shown. Usage and KeyFault are never answered.
 pub fn show_pack<M: Machine>(alloc: Global, machine: &mut M) -> Status
     ensures answer { AnswersShow result }

@@ -110,9 +110,9 @@ fn prepare_or_usage<M: Machine>(alloc: Global, number: u16, machine: &mut M) -> 
 ///
 /// Done: the typed input was obeyed to its end, the listing was shown, the pack was formatted, or its second drive prepared. Usage: the
 /// words are others, or `prepare` on one drive, and `usage` was shown. DiskFault and KeyFault: that device failed, and what was asked for
-/// stopped at once; a listing, formatting and preparing take no key. DisplayFault: the display failed, with any words. Memory: none was left. After
-/// each of them what was acknowledged stands on the pack; a pack that was being formatted is to be formatted again, and a drive that was
-/// being prepared to be prepared again.
+/// stopped at once; a listing, formatting and preparing take no key. DisplayFault: the display failed, with any words. Memory: none was
+/// left. After each of them what was acknowledged stands on the pack; a pack that was being formatted is to be formatted again, and a
+/// drive that was being prepared to be prepared again.
 pub fn alto<M: Machine>(alloc: Global, words: &[String], moment: u32, machine: &mut M) -> Status
     ensures does { IsTrue M.told → DoesAsAsked (map string_bytes words.now) moment (M.tape machine.old) (M.tape machine.new) result }
     ensures answers { AnswersTo (map string_bytes words.now) (disks_of (M.tape machine.old).form) result }

@@ -1,5 +1,7 @@
 //! The slots of a directory, between words and values.
 //!
+//! Come here when you read the words of a directory, or write an entry into them.
+//!
 //! Below it stand alto_words, disk_records, leader_page and pack_model. A directory's words are its bytes in pairs, read as slots
 //! from word 0 on. Of a slot,
 //!   word 0: its type times 1,024, and its length in words

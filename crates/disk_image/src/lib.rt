@@ -1,5 +1,7 @@
 //! Pack files, the machine over one or two of them, and the words that a program is started with.
 //!
+//! Come here for pack files and their layout, the calls that are made of them, and the words of the command line.
+//!
 //! Below it stand alto_words and disk_records. A drive's file is its sectors in the order of their virtual addresses, as bytes; a pack
 //! has a file for each of its one or two drives. To the layers above:
 //! 1. A pack has one file, and a file is one pack's: what `encode_pack` writes `decode_pack` reads back, and the other way round; and so

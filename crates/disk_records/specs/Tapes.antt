@@ -135,7 +135,7 @@ pub record HasRead (before after : List ℕ) (old new : Taped) (result : Result 
   pub err : OnErr result ((new.keys ≡ old.keys) × (after ≡ before))
   pub want : IsErrOf result console.Memory → new.key_faults ≡ old.key_faults
 
--- for every answer the shown bytes are some first ones
+-- for every answer the shown bytes are a prefix of them
 pub record HasShown (bytes : List ℕ) (old new : Taped) (result : Result (Unit {0}) ConsoleError) : Type 0 where
   pub some : IsFirstOf (shown_events bytes) (added old new)
   pub ok : OnOk result (added old new ≡ shown_events bytes)

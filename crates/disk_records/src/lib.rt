@@ -1,5 +1,8 @@
 //! Sectors with their three records, what happens to them, and the machine as the layers above see it.
 //!
+//! Come here for what a sector, a label and an address are; and when you write a call that is given a machine, for its frame, its faults
+//! and what it may have done.
+//!
 //! Below it stands alto_words. A pack is a shape and a list of sectors. A machine is seen as one record, its
 //! *tape*: the sectors that it began with, the events since then (record writes and shown bytes), the keys left, and
 //! counts. Where the machine is *modelled* (`told`), its pack is the first one with the record writes of the events done in order.

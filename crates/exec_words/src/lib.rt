@@ -1,5 +1,7 @@
 //! Typed lines: what each text asks for, and the texts of replies.
 //!
+//! Come here when you add a verb, an operand, a refusal or a text to the typed lines.
+//!
 //! Below it stand alto_words, disk_records and pack_model's definitions. No call here is given a disk, keys or the display. To the layers
 //! above:
 //! 1. `read_line` answers exactly the line that a text is by the grammar, and `Bad` if and only if it is none. The grammar is one table, a

@@ -1,5 +1,7 @@
 //! Hints: where pages were last seen, and which sectors are free.
 //!
+//! Come here when you follow an address that was noted, note one, or keep the table of busy bits.
+//!
 //! Below it stand alto_words, disk_records and the library `lru`, which keeps the entries of a cache. Nothing here is read from
 //! a disk or written to one. A `HintCache` is seen as the list of its entries, the most recently used first, and a count of
 //! refusals; a `BitTable` as a list of bits, one a sector, in which true is busy. To the layers above:

@@ -1,5 +1,7 @@
 //! One sector command, guarded by the label that stands there.
 //!
+//! Come here when you read or write one sector, or make one free. Below it stand alto_words and disk_records.
+//!
 //! A sector *carries* a page where its header is right and its label is in range and names that page. To the layers above, for
 //! every answer on a machine that is modelled:
 //! 1. What was written is a prefix of the one list in the contract (`some`), all of it at Ok (`ok`).

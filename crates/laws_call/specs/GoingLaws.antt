@@ -21,7 +21,7 @@ use Rattle.laws_line.specs.CutLaws.{StaysMendable, with_serial}
 abbrev pub NoCallYet : Type 0 → Type 0 → Type 0
 NoCallYet T E = (p : Pack) (result : Result T E) → Goes p [] [] result
 
--- Such calls, and then some first record writes of an operation which needs no serial, whichever calls make them: so a drop is one
+-- Such calls, and then a prefix of the record writes of an operation which needs no serial, whichever calls make them: so a drop is one
 -- operation, though one call releases the file's sectors and another frees its entry's slot.
 abbrev pub OperationJoins : Type 0 → Type 0 → Type 0 → Type 0 → Type 0
 OperationJoins T U E F = (p : Pack) (ops : List Operation) (events : List Event) (x : U) (o : Operation) (writes some : List Event) (result : Result T E)

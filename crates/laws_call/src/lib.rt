@@ -4,6 +4,8 @@
 //! of one operation do; `Operates` is what a call that is to do it answers, whatever its errors are; `Goes` is what several such calls have
 //! done so far, and a line that broke off is said by it, too.
 //!
+//! Below it stand laws_hint and laws_lookup.
+//!
 //! A law function is public, has an empty body and one clause, the law; its lemma has the same name, and its statement has it in
 //! capitals. To cite a law: `use Rattle.laws_call.proofs.going.Laws.{call_joins}`. Lemma files in proofs/inside/ no other crate can name.
 #![tactic(auto)]

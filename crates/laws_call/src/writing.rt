@@ -1,8 +1,9 @@
-//! The record writes of an operation as `pack_model` has them: that they act as it, and what stays known over them.
+//! The record writes of an operation as `pack_model` has them: that they do all that the operation does (`Acts`), and what stays known over
+//! them.
 
 ghost use Rattle.laws_call.specs.WritingLaws.{WrittenActs, WrittenStaysKnown};
 
-/// On a whole and tidy pack all record writes of an operation act as it.
+/// On a whole and tidy pack all record writes of an operation do what it does (`Acts`).
 pub fn written_acts()
     ensures { WrittenActs }
 {}

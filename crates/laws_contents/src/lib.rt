@@ -8,9 +8,11 @@
 //!
 //! Data pages are counted from 0 here, as in the definitions: data page k has the number k + 1 in its label.
 //!
-//! A law function is public, has an empty body and one clause, the law; its lemma has the same name, and its statement has it in
-//! capitals. To cite a law: `use Rattle.laws_contents.proofs.pages.Laws.{labels_count}`. Lemma files right in proofs/ are cited by
-//! other crates too; those in proofs/inside/ no other crate can name.
+//! Below it stands laws_record, with those of one record write.
+//!
+//! A law function is public, has an empty body and one clause, the law; its lemma has the same name, and its statement has it in capitals.
+//! To cite a law: `use Rattle.laws_contents.proofs.pages.Laws.{labels_count}`. Lemma files stand in proofs/inside/, where no other crate
+//! can name them.
 #![tactic(auto)]
 
 pub mod bytes;

@@ -6,6 +6,8 @@
 //! sectors: what each shows is known by its place, and all else follows from that. Of a pack whose second drive is prepared it is known
 //! what it shows at each crash point, if no sector of the drive carries a page.
 //!
+//! Below it stands laws_hint.
+//!
 //! A law function is public, has an empty body and one clause, the law; its lemma has the same name, and its statement has it in
 //! capitals. To cite a law: `use Rattle.laws_format.proofs.formatted.Laws.{formatted_pack_begins_a_session}`. Lemma files stand in
 //! proofs/inside/, where no other crate can name them.

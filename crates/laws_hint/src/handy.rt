@@ -27,17 +27,18 @@ pub fn handy_of_others()
     ensures { HandyOfOthers }
 {}
 
-/// A cut of a file leaves the file's own hints handy.
+/// On a whole pack a cut of a file leaves the file's own hints handy.
 pub fn handy_after_cut()
     ensures { HandyAfterCut }
 {}
 
-/// A growth of a file leaves the file's own hints handy, if they speak of its old pages alone and the flag is 0.
+/// On a whole and tidy pack a growth of a living file leaves its own hints handy, if they speak of its old pages alone and the flag is 0.
 pub fn handy_after_growth()
     ensures { HandyAfterGrowth }
 {}
 
-/// A widening of a directory leaves the directory's own hints handy, if they speak of its old pages alone and the flag is 0.
+/// On a whole and tidy pack a widening of a living directory leaves its own hints handy, if they speak of its old pages alone and the flag
+/// is 0.
 pub fn handy_after_widening()
     ensures { HandyAfterWidening }
 {}

@@ -11,9 +11,11 @@
 //! The laws of a session: the table in memory while sectors are reserved, claimed and released; true hints from opening to closing;
 //! and handy hints, which stay handy.
 //!
-//! A law function is public, has an empty body and one clause, the law; its lemma has the same name, and its statement has it in
-//! capitals. To cite a law: `use Rattle.laws_hint.proofs.changes.Laws.{claims_and_releases_mark_free_table}`. Lemma files right in
-//! proofs/ are cited by other crates too; those in proofs/inside/ no other crate can name.
+//! Below it stand laws_line and laws_lookup, and hint_cache and page_alloc for their definitions.
+//!
+//! A law function is public, has an empty body and one clause, the law; its lemma has the same name, and its statement has it in capitals.
+//! To cite a law: `use Rattle.laws_hint.proofs.changes.Laws.{claims_and_releases_mark_free_table}`. Lemma files stand in proofs/inside/,
+//! where no other crate can name them.
 #![tactic(auto)]
 
 pub mod changes;

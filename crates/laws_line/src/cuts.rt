@@ -1,4 +1,4 @@
-//! Every cut of an operation, and of a line, can be scavenged, where its models are ready.
+//! Every crash point of an operation, and of a line, can be scavenged, where its models are ready.
 
 ghost use Rattle.laws_line.specs.CutLaws.{CrashesOfALine, CrashesOfAnOperation, CrashesOfAnUnmarkedLine, CrashesOfEnter, LinesJoin, OpenPackIsUnmarked};
 ghost use Rattle.laws_line.specs.EachLaws.{CrashesOfEachOperation};

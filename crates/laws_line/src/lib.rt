@@ -7,15 +7,17 @@
 //!
 //! FullModels has the models in which a line that gives SysDir no room first, or puts bytes past a file's end, leaves no room.
 //!
-//! The laws of cuts: every cut of a line from a sound pack with the free sectors for it is viewed as its model, can be scavenged,
-//! and is clean only where it is sound.
+//! The laws of crashes: every crash point of a line from a sound pack with the free sectors for it is viewed as its model, can be
+//! scavenged, and is clean only where it is sound.
 //!
 //! The laws of parts and ends: a line that breaks off, closing, and the end of a session, from a sound pack; and what a session keeps
 //! of DiskDescriptor.
 //!
-//! A law function is public, has an empty body and one clause, the law; its lemma has the same name, and its statement has it in
-//! capitals. To cite a law: `use Rattle.laws_line.proofs.after.Laws.{directories_are_read}`. Lemma files right in proofs/ are
-//! cited by other crates too; those in proofs/inside/ no other crate can name.
+//! Below it stands laws_room, which counts the sectors of one operation.
+//!
+//! A law function is public, has an empty body and one clause, the law; its lemma has the same name, and its statement has it in capitals.
+//! To cite a law: `use Rattle.laws_line.proofs.after.Laws.{directories_are_read}`. Lemma files stand in proofs/inside/, where no other
+//! crate can name them.
 #![tactic(auto)]
 
 pub mod after;

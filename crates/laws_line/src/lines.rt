@@ -1,4 +1,4 @@
-//! What a line needs of free sectors and of SysDir when it begins, so that each cut of it can be scavenged.
+//! What a line needs of free sectors and of SysDir when it begins, so that each crash point of it can be scavenged.
 
 ghost use Rattle.laws_line.specs.LineLaws.{ChangesLeaveRoom, DropLeavesRoom, NewFileLeavesRoom, ReadyHasRoom, RenameLeavesRoom, SoundIsSettled};
 

@@ -35,7 +35,7 @@ pub fn crash_by_crash<X: Property>()
     ensures { CrashByCrash X.holds }
 {}
 
-/// Record writes whose cuts are viewed as the models of their moves and can be scavenged are those of operations.
+/// Record writes whose crash points are viewed as the models of their moves and can be scavenged are those of operations.
 pub fn viewed_and_mendable_operates()
     ensures { ViewedAndMendableOperates }
 {}

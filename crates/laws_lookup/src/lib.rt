@@ -8,6 +8,8 @@
 //! The laws of hints: true ones never mislead; a label that was read and isn't that of the page which is wanted shows that the word
 //! which was followed misleads; and one that misleads after some record writes misled before them.
 //!
+//! Below it stands laws_operation, with those of whole operations.
+//!
 //! To cite a law: `use Rattle.laws_lookup.proofs.hints.Laws.{true_hints_never_mislead}`.
 #![tactic(auto)]
 

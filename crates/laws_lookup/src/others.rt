@@ -12,27 +12,27 @@ pub fn values_leave_others()
     ensures { ValuesLeaveOthers }
 {}
 
-/// A growth leaves all other files as they were.
+/// A growth on a whole and tidy pack leaves all other files as they were.
 pub fn grow_leaves_others()
     ensures { GrowLeavesOthers }
 {}
 
-/// A widening leaves all files except its directory as they were.
+/// A widening on a whole and tidy pack leaves all files except its directory as they were.
 pub fn widen_leaves_others()
     ensures { WidenLeavesOthers }
 {}
 
-/// A cut leaves all other files as they were.
+/// A cut on a whole and tidy pack leaves all other files as they were.
 pub fn cut_leaves_others()
     ensures { CutLeavesOthers }
 {}
 
-/// A make leaves all files as they were.
+/// A make on a whole and tidy pack leaves all other files as they were.
 pub fn make_leaves_others()
     ensures { MakeLeavesOthers }
 {}
 
-/// A drop, before the value that frees its entry's slot, leaves all other files as they were.
+/// A drop on a whole and tidy pack, before the value that frees its entry's slot, leaves all other files as they were.
 pub fn release_leaves_others()
     ensures { ReleaseLeavesOthers }
 {}

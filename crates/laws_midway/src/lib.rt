@@ -10,6 +10,8 @@
 //! hints: one that misleads in the middle of a line misled as it began, and those of a new file are handy. The law of a drop in two calls:
 //! all other files are as they were.
 //!
+//! Below it stand laws_hint and laws_lookup.
+//!
 //! To cite a law: `use Rattle.laws_midway.proofs.found.Laws.{found_file_lives}`.
 #![tactic(auto)]
 

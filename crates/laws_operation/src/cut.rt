@@ -6,7 +6,7 @@ ghost use Rattle.laws_operation.specs.FreeLaws.{CutFreesItsPages, CutTakesNoSect
 ghost use Rattle.laws_operation.specs.LinkLaws.{CutKeepsLinks};
 ghost use Rattle.laws_operation.specs.OnceLaws.{CutCarriesOnce};
 
-/// The label of a cut is such as its law asks for.
+/// If the caller knows `CanCut`, the label of a cut is as `MayCut` asks, which `cut_carries_out` needs.
 pub fn cut_words_fit()
     ensures { CutWordsFit }
 {}

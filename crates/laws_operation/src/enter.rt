@@ -7,12 +7,13 @@ ghost use Rattle.laws_operation.specs.NameLaws.{EnterCarriesOut};
 ghost use Rattle.laws_operation.specs.NameLinkLaws.{EnterKeepsLinks, JoinKeepsLinks, LooseWordsKeepLinks};
 ghost use Rattle.laws_operation.specs.OnceLaws.{EnterCarriesOnce};
 
-/// The words of an entry, and of a free slot for those left over, are such as an entering asks for.
+/// The words of an entry, and of a free slot for those left over, are read as these two slots, as an entering needs it.
 pub fn entry_words_fit()
     ensures { EntryWordsFit }
 {}
 
-/// The values of an entering in the room that was found are such as its law asks for.
+/// If the caller knows `CanEnter`, the values of an entering in the room that was found are as `MayEnterAt` asks, which `enter_carries_out`
+/// needs.
 pub fn enter_words_fit()
     ensures { EnterWordsFit }
 {}

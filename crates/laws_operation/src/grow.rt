@@ -7,7 +7,8 @@ ghost use Rattle.laws_operation.specs.LinkLaws.{GrowKeepsLinks};
 ghost use Rattle.laws_operation.specs.OnceLaws.{GrowCarriesOnce};
 ghost use Rattle.laws_operation.specs.PlaceLaws.{GrowPlacesItsPages};
 
-/// The claims of a growth, and its label and value of the old last page, are such as its law asks for.
+/// On a whole pack, if the caller knows `CanGrow`, the claims of a growth, and its label and value of the old last page, are as `MayGrow`
+/// asks, which `grow_carries_out` needs.
 pub fn grow_words_fit()
     ensures { GrowWordsFit }
 {}

@@ -5,7 +5,7 @@ ghost use Rattle.laws_operation.specs.EntryLaws.{FreeNameIsApartAfterLeave, Leav
 ghost use Rattle.laws_operation.specs.NameLaws.{LeaveCarriesOut};
 ghost use Rattle.laws_operation.specs.NameLinkLaws.{LeaveKeepsLinks};
 
-/// The value of a leaving is such as its law asks for.
+/// An entry that stands there under the name, and not of a system file, may leave as `MayLeave` asks, which `leave_carries_out` needs.
 pub fn leave_words_fit()
     ensures { LeaveWordsFit }
 {}

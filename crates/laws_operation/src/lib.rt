@@ -1,20 +1,18 @@
 //! Each operation: what to know, what to write, what is true at each crash point and afterwards.
 //!
-//! Come here when you write a call that does an operation: its law in each column of docs/laws.md's table is one of these.
+//! Come here when you write a call that does an operation: six columns of docs/laws.md's table, from `words fit` to `names, places`, are
+//! laws of this crate, the other six of its neighbours.
 //!
-//! The laws of operations: what the whole list of record writes of an operation does to a whole and tidy pack, at every crash point.
+//! One module an operation has its laws: the words that it writes, as pack_model defines them, are the ones that its record writes need, by
+//! what a calling program is to know (`words_fit`); all of them do to a whole and tidy pack what the operation is to do, at every crash
+//! point (`carries_out`); links and addresses in entries that were true are true again once it is done (`keeps_links`), and no page is
+//! carried twice on the way (`carries_once`); and it says which sectors are free afterwards, and which names and places stay.
 //!
-//! The laws of written words: those that each operation writes, as pack_model defines them, are such as the laws of operations ask
-//! for, by what a calling program is to know.
-//!
-//! The laws of links: those of pages and of entries that were true are true again once an operation is done, and no page is carried
-//! twice on the way.
-//!
-//! The laws of looks: what a calling program has to know before it writes, of places, lengths, entries, names and free sectors.
-//!
-//! Which files live, where their pages are and where they end follows, on a whole pack, from which sector carries which page and
-//! from the counts of labels. The slots of a directory in the model are, on a tidy pack, those of its words; no law here leads from
-//! the values of pages to these words, or to a file's bytes. Entries, names and free sectors are said of any pack.
+//! The other modules have what several operations share, and what a calling program has to know before it writes: places, lengths, entries,
+//! names and free sectors. Which files live, where their pages are and where they end follows, on a whole pack, from which sector carries
+//! which page and from the counts of labels. The slots of a directory in the model are, on a tidy pack, those of its words; no law here
+//! leads from the values of pages to these words, or to a file's bytes: those are in laws_contents, below. Entries, names and free sectors
+//! are said of any pack.
 //!
 //! A law function is public, has an empty body and one clause, the law; its lemma has the same name, and its statement has it in
 //! capitals. To cite a law: `use Rattle.laws_operation.proofs.cut.Laws.{cut_carries_once}`. Lemma files right in proofs/ are cited

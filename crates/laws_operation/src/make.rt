@@ -8,7 +8,7 @@ ghost use Rattle.laws_operation.specs.LinkLaws.{MakeKeepsLinks};
 ghost use Rattle.laws_operation.specs.OnceLaws.{MakeCarriesOnce};
 ghost use Rattle.laws_operation.specs.PlaceLaws.{MakePlacesItsPages};
 
-/// The two claims of a make are such as its law asks for.
+/// If the caller knows `CanMake`, the two claims of a make are as `MayMake` asks, which `make_carries_out` needs.
 pub fn make_words_fit()
     ensures { MakeWordsFit }
 {}

@@ -5,12 +5,12 @@ ghost use Rattle.laws_operation.specs.FileWords.{PutPastWordsFit, PutWordsFit};
 ghost use Rattle.laws_operation.specs.LinkLaws.{PutKeepsLinks};
 ghost use Rattle.laws_operation.specs.WordLaws.{BytesInAValue};
 
-/// The value of a put is such as its law asks for.
+/// On a whole pack, if the caller knows `CanPut`, the value of a put is as `MayPut` asks, which `put_carries_out` needs.
 pub fn put_words_fit()
     ensures { PutWordsFit }
 {}
 
-/// The value of a put with which the file ends is such as its law asks for, also if words past its end come with it.
+/// On a whole pack the value of a put with which the file ends is so too, also if words past its end come with it.
 pub fn put_past_words_fit()
     ensures { PutPastWordsFit }
 {}

@@ -4,7 +4,8 @@ ghost use Rattle.laws_operation.specs.FileWords.{StampWordsFit};
 ghost use Rattle.laws_operation.specs.LeaderLaws.{StampCarriesOut};
 ghost use Rattle.laws_operation.specs.LinkLaws.{StampKeepsLinks};
 
-/// The value of a stamp is such as its law asks for.
+/// On a whole pack, if the caller knows `CanWriteLeader`, the value of a stamp is as `MayWriteLeader` asks, which `stamp_carries_out`
+/// needs.
 pub fn stamp_words_fit()
     ensures { StampWordsFit }
 {}

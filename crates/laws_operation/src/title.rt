@@ -4,7 +4,7 @@ ghost use Rattle.laws_operation.specs.FileWords.{TitleWordsFit};
 ghost use Rattle.laws_operation.specs.LeaderLaws.{TitleCarriesOut};
 ghost use Rattle.laws_operation.specs.LinkLaws.{TitleKeepsLinks};
 
-/// The value of a title is such as its law asks for.
+/// If the caller knows `CanWriteLeader`, the value of a title is as `MayWriteLeader` asks, which `title_carries_out` needs.
 pub fn title_words_fit()
     ensures { TitleWordsFit }
 {}

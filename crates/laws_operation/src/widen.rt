@@ -6,7 +6,8 @@ ghost use Rattle.laws_operation.specs.NameLinkLaws.{WidenKeepsLinks};
 ghost use Rattle.laws_operation.specs.OnceLaws.{WidenCarriesOnce};
 ghost use Rattle.laws_operation.specs.PlaceLaws.{WidenPlacesItsPages};
 
-/// The claims of a widening, and its label and value of the old last page, are such as its law asks for.
+/// On a whole pack, if the caller knows `CanGrow` of a directory, the claims of a widening, and its label and value of the old last page,
+/// are as `MayWiden` asks, which `widen_carries_out` needs.
 pub fn widen_words_fit()
     ensures { WidenWordsFit }
 {}

@@ -7,6 +7,8 @@
 //! The laws of room: which packs the Scavenger takes, by the model that they are read as; the free sectors of whole packs; and how
 //! many sectors an operation takes into use.
 //!
+//! Below it stands laws_operation, and page_alloc for its definitions.
+//!
 //! A law function is public, has an empty body and one clause, the law; its lemma has the same name, and its statement has it in
 //! capitals. To cite a law: `use Rattle.laws_room.proofs.entering.Laws.{free_slots_made_one_keeps}`. Lemma files right in proofs/
 //! are cited by other crates too; those in proofs/inside/ no other crate can name.

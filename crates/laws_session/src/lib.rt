@@ -10,6 +10,8 @@
 //! Over calls one after another what is kept stays right, and true hints stay true until all are true at the end. The zone of a world reads
 //! back from the words of its memory.
 //!
+//! Below it stand session_model, laws_lookup and laws_line.
+//!
 //! A law function is public, has an empty body and one clause, the law; its lemma has the same name, and its statement has it in
 //! capitals. To cite a law: `use Rattle.laws_session.proofs.histories.Laws.{crashes_of_a_history}`. Lemma files in proofs/inside/ no other
 //! crate can name.

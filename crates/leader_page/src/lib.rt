@@ -1,5 +1,7 @@
 //! Leader pages: what stands in the value of page 0 of a file.
 //!
+//! Come here when you read or write the leader page of a file: its name, its dates, its hints.
+//!
 //! Below it stand alto_words, disk_records and the definitions of pack_model. A `Leader` is seen as the record of its fields; `said`
 //! is the leader that pack_model speaks of, with the hints apart. To the layers above:
 //! 1. `decode` answers a leader if and only if words 6 to 25 spell a stored name, and then the one that the value says for every

@@ -59,7 +59,7 @@ pub record BrokenTurn {M O T E : Type 0} (means : Meaning M O) (m : M) (p : Pack
   pub breaks : BreaksAt display turn.made wanted
 
 -- A call from x to y that makes the moves of a turn, and then its text, shown from y to z. All of both is the turn; where the display
--- failed all moves are made and some first bytes are shown; where the moves broke off nothing is shown.
+-- failed all moves are made and a prefix is shown; where the moves broke off nothing is shown.
 pub record TurnOfCalls {M O : Type 0} (T E F : Type 0) (means : Meaning M O) (x y z : Taped) (t : Turn O) : Type 0 where
   pub whole : (u : T) → Grown x y → Grown y z → Does {E = E} means (pack x) (added x y) t.ops (Ok u) → added y z ≡ shown_events t.text → IsTurn {T = Unit {0}} {E = F} means (means.read (pack x)) (pack x) (added x z) t (Ok tt)
   pub shown : (u : T) (fault : F) → Grown x y → Grown y z → Does {E = E} means (pack x) (added x y) t.ops (Ok u) → IsFirstOf (shown_events t.text) (added y z)

@@ -6,6 +6,8 @@
 //! What single record writes leave of a pack stands in laws_record, which is built on this crate, so that a new law of theirs proves
 //! no program anew.
 //!
+//! Below it stand the definitions of pack_model.
+//!
 //! A law function is public, has an empty body and one clause, the law; its lemma has the same name, and its statement has it in
 //! capitals. To cite a law: `use Rattle.pack_laws.proofs.files.Laws.{first_is_bears}`. Lemma files right in proofs/ are cited by
 //! other crates too; those in proofs/inside/ no other crate can name.

@@ -18,7 +18,7 @@ pub fn quiet_moves_are_not_counted()
     ensures { QuietMovesAreNotCounted }
 {}
 
-/// An operation of which only some first record writes were made is counted if and only if the one that commits it is among them.
+/// An operation of which a prefix of its record writes was made is counted if and only if the one that commits it is among them.
 pub fn one_commit_is_counted()
     ensures { OneCommitIsCounted }
 {}

@@ -41,7 +41,7 @@ pub fn runs_join<X: Moves>()
     ensures { RunsJoin X.means }
 {}
 
-/// A pack that is cut after some writes of a run stands for the model after as many moves.
+/// A pack after a prefix of the writes of a run stands for the model after as many moves.
 pub fn cut_of_run<X: Moves>()
     ensures { CutOfRun X.means }
 {}
@@ -56,7 +56,7 @@ pub fn calls_join<X: Moves, T, U, E, F>()
     ensures { CallsJoin T U E F X.means }
 {}
 
-/// A call that names its record writes leaves, at every error and every cut, what a prefix of its moves makes.
+/// A call that names its record writes leaves, at every error and every crash point, what a prefix of its moves makes.
 pub fn faults_leave_a_prefix<X: Moves, T, E>()
     ensures { FaultsLeaveAPrefix T E X.means }
 {}
@@ -78,7 +78,8 @@ pub fn calls_are_turns<X: Moves, T, E, F>()
     ensures { CallsAreTurns T E F X.means }
 {}
 
-/// Turns that are cut anywhere leave a pack that stands for the model after the moves so far, with every acknowledged operation in it.
+/// Turns that stop at any crash point leave a pack that stands for the model after the moves so far, with every acknowledged operation in
+/// it.
 pub fn cut_of_turns<X: Moves>()
     ensures { CutOfTurns X.weight X.means }
 {}

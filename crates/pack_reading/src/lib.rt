@@ -1,5 +1,7 @@
 //! What any pack shows: its files and names, whatever stands on it.
 //!
+//! Come here when you want all that a pack shows, as a listing does, whatever stands on it.
+//!
 //! Below it stand alto_words, disk_records, label_check, label_sweep, leader_page, dir_slots and the definitions of pack_model.
 //! `read_pack` sweeps all labels once and follows no link. Then it works in memory: the bytes of each file by page numbers, the slots of
 //! each directory, the one scan of all entries, and the names of nameless files. `read_lengths` does the same for a listing, which shows

@@ -10,7 +10,7 @@ use alto_words::{Fid, Memory, Name};
 use std::alloc::Global;
 use std::collections::BTreeMap;
 
-/// How many suffixes of names, from some first ones on, are known to be taken in SysDir.
+/// How many suffixes of names, counted from the first, are known to be taken in SysDir.
 #[derive(Drop)]
 pub(crate) struct Passed {
     /// By the first one: names that have it in common have all later ones in common, which keep no more of a name.

@@ -1,5 +1,7 @@
 //! Free sectors: how they are found, taken and counted.
 //!
+//! Come here when a call takes free sectors, or answers how many there are.
+//!
 //! Below it stand label_check and hint_cache. A sector is *free* where its header is right and its label says so. A table of
 //! busy bits is *true* where it is busy exactly at the sectors that aren't free; a table is a hint, and nothing but the choice
 //! of sectors and the number of sector commands rests on its being true. To the layers above, on every disk:

@@ -1,5 +1,7 @@
 //! What a session means: definitions alone.
 //!
+//! Come here when you write a line or a call on a session, or doubt what its reply is to be.
+//!
 //! Below it stand alto_words, disk_records, pack_model, exec_words and world_model. It has no function. The contracts of the session's
 //! calls will cite these definitions; the laws over them stand above.
 //! They read upwards. What an operand means is found in a model (`Finding`); streams keep bytes that aren't written yet (`Streams`);

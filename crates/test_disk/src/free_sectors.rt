@@ -186,7 +186,7 @@ fn a_fault_leaves_what_labels_say(rt: HostRuntime) -> Result<(), Fail> {
                 assert!(rt; busy == is_busy(&words, at) || busy != is_free(at));
             }
         }
-        // each label but that of sector 0 is read, and none twice
+        // each label except that of sector 0 is read, and none twice
         expect_full(&rt, &ask_failing(rt.alloc(), words, 6, 47)?.taken);
     }
     Ok(())

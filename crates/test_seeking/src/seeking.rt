@@ -7,7 +7,8 @@ use page_seeking::{last_page, length, locate, read_all, read_part};
 use std::test::Fail;
 use test_packs::{Placed, failing_machine, sectors_of};
 
-/// Three pages of the file with serial 3 that aren't in a row: the leader in sector 5, page 1 with 512 bytes in sector 9, and page 2 with 3 bytes in sector 11.
+/// Three pages of the file with serial 3 that aren't in a row: the leader in sector 5, page 1 with 512 bytes in sector 9, and page 2 with 3
+/// bytes in sector 11.
 /// The real address of a sector below 12 is 4,096 times its own.
 const SCATTERED: [Placed; 3] = [
     Placed {

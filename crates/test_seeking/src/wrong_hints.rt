@@ -32,10 +32,11 @@ fn wrong_leader(alloc: Global) -> Result<Vec<Sector>, Fail> {
     Ok(sectors)
 }
 
-/// Page 118 is located in 169 sector commands, which are 51 more than its number: one for the last page by the cache and one for the leader,
-/// one for the leader by the address of the file, two for what it says of the last page, one for each of the 46 other pages that the cache
-/// has wrong and one for page 1 that the leader's link named, and one for each of the 117 pages after it. The call after them, which is number
-/// 169 from 0, would fail. Then the cache has the page, and it is located by one: call 170 finds it, and call 171 would fail.
+/// Page 118 is located in 169 sector commands, which are 51 more than its number: one for the last page by the cache and one for the
+/// leader, one for the leader by the address of the file, two for what it says of the last page, one for each of the 46 other pages that
+/// the cache has wrong and one for page 1 that the leader's link named, and one for each of the 117 pages after it. The call after them,
+/// which is number 169 from 0, would fail. Then the cache has the page, and it is located by one: call 170 finds it, and call 171 would
+/// fail.
 #[test]
 fn all_hints_wrong(rt: HostRuntime) -> Result<(), Fail> {
     let shape = Shape::new(1, 203).ok_or("no shape")?;

@@ -1,5 +1,7 @@
 //! The memory of the machine, its zone and levels, and a world as a file: definitions alone.
 //!
+//! Come here when you write a contract of the memory: of a zone, a level or a world.
+//!
 //! Below it stand disk_records, for words and bytes. It has no function. The calls on zones, on levels and on worlds will cite these
 //! definitions, and session_model cites them for what a session keeps beside its files.
 //! They read upwards: a *block* is free or used; a zone is a row of blocks (`Zones`); which words a row of blocks is, and which row

@@ -1,4 +1,4 @@
--- All record writes of an operation act as it.
+-- All record writes of an operation do what it does.
 use Rattle.std.proofs.Common.{List, [], subst, ℕ, ◌%◌}
 use Rattle.disk_records.specs.Packs.{sector_at}
 use Rattle.laws_call.proofs.inside.Acting.{acts_of_each_operation}

@@ -51,7 +51,7 @@ pub record Scavengeable (p : Pack) : Type 0 where
   pub room : needed p.shape (sights p) ≤ available p.shape (sights p)
 
 -- ---- what the Scavenger keeps
--- The pack q, at some cut of a scavenge of p, shows what p shows; the available sectors less the needed ones are as many as there;
+-- The pack q, at some crash point of a scavenge of p, shows what p shows; the available sectors less the needed ones are as many as there;
 -- and it is scavengeable where p is.
 pub record Keeps (p q : Pack) : Type 0 where
   pub shown : show q ≡ show p

@@ -23,13 +23,13 @@ pub data Obeys {M O : Type 0} (means : Meaning M O) : M → Pack → List Event 
   rest : {m : M} {p : Pack} → means.Stands m p → Obeys means m p [] []
   write : {m : M} {p : Pack} {at part : ℕ} {words : List ℕ} {events : List Event} {o : O} {ops : List O} → means.Stands m p → means.Makes p (Wrote at part words) o → Obeys means (means.step m o) (after p (Wrote at part words ∷ [])) events ops → Obeys means m p (Wrote at part words ∷ events) (o ∷ ops)
 
--- some first ones
+-- a prefix
 abbrev pub IsStartOf : {X : Type 0} → List X → List X → Type 0
 IsStartOf [] wanted = Unit {0}
 IsStartOf (x ∷ xs) [] = ⊥
 IsStartOf (x ∷ xs) (w ∷ wanted) = (x ≡ w) × IsStartOf xs wanted
 
--- A call on the pack p that is to make the moves that are wanted: all of them at Ok, and for every answer some first ones. Of moves
+-- A call on the pack p that is to make the moves that are wanted: all of them at Ok, and for every answer a prefix of them. Of moves
 -- that any record write makes it says only how many there are: their sectors and words are left to the call's other clauses.
 pub record Does {M O T E : Type 0} (means : Meaning M O) (p : Pack) (events : List Event) (wanted : List O) (result : Result T E) : Type 0 where
   pub ops : List O

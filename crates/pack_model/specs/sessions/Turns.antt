@@ -28,14 +28,14 @@ pub data Talks {M O : Type 0} (means : Meaning M O) (m : M) (p : Pack) : List Ev
   begun : means.Stands m p → Talks means m p [] [] m
   spoken : {events wrote : List Event} {turns : List (Turn O)} {n : M} (turn : Turn O) → Talks means m p events turns n → Obeys means n (after p events) wrote turn.ops → Talks means m p (events ++ (wrote ++ shown_events turn.text)) (turns ++ turn ∷ []) (steps means n turn.ops)
 
--- The turn broke off: a prefix of its moves, some first bytes of its text only after all of them, and nothing more.
+-- The turn broke off: a prefix of its moves, a prefix of its text only after all of them, and nothing more.
 pub record BrokeOff {O : Type 0} (made wanted : Turn O) : Type 0 where
   pub start : IsStartOf made.ops wanted.ops
   pub text : IsStartOf made.text wanted.text
   pub later : made.text ≢ [] → made.ops ≡ wanted.ops
   pub uncounted : made.counts ≡ false
 
--- The same by what stopped it: only where the display failed some first bytes of its text are shown, and then all its moves are made.
+-- The same by what stopped it: only where the display failed a prefix of its text is shown, and then all its moves are made.
 pub record BreaksAt {O : Type 0} (display : Bool) (made wanted : Turn O) : Type 0 where
   pub off : BrokeOff made wanted
   pub shows : display ≡ true → made.ops ≡ wanted.ops
