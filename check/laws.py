@@ -29,7 +29,7 @@ QUESTIONS = [
     ("names, places", BY_OPERATION, "leaves_no_name|places_its_pages|takes_the_only_entry|keeps_places"),
     ("other files", "laws_lookup::others", "leaves_others"),
     ("misled before", "laws_lookup::before", "misled_before"),
-    ("system", "laws_line::spares", "leaves_the_system"),
+    ("system", "laws_line::system", "leaves_the_system"),
     ("map", "laws_hint::changes", "marks_the_map|leaves_the_map"),
     ("room", "laws_line::lines", "leaves_room"),
 ]

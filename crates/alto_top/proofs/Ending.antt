@@ -2,13 +2,13 @@
 use Rattle.std.proofs.Common.{◌≡◌, ◌≢◌, inl, inr, ℕ, ◌≤◌, List, [], ◌∷◌, ◌++◌, length, drop, Err, sym, ◌∙◌, ap, subst, arith, append_assoc}
 use Rattle.std.proofs.lemmas.List.{append-nil, length-append}
 use Rattle.disk_records.specs.Tapes.{Taped}
-use Rattle.pack_model.specs.sessions.Lines.{lines, ended_lines, most_keys}
+use Rattle.pack_model.specs.sessions.Lines.{lines, ended_lines, most_keys, TookLines}
 use Rattle.pack_model.specs.operations.Puts.{putting}
 use Rattle.pack_laws.proofs.Talking.{talks_cut, talks_shown}
 use Rattle.alto_top.specs.Keys.{TookPart}
 use Rattle.alto_top.specs.Patches.{turn_of}
 use Rattle.alto_top.specs.declared.status.Fault.{Fault}
-use Rattle.alto_top.specs.Sessions.{turns_of, BreaksBy, Obeyed, IsHistory, TookLines, Booted, one_each}
+use Rattle.alto_top.specs.Sessions.{turns_of, BreaksBy, Obeyed, IsHistory, Booted, one_each}
 use Rattle.alto_top.specs.declared.status.Status.{Status}
 use Rattle.alto_top.specs.declared.status.Status.TheVariants as status
 use Rattle.alto_top.specs.Faults.{status_of}
@@ -41,7 +41,7 @@ broke {first} {x} {y} {done} {line} {whole} {left} {fault} next answer is not_ke
       taken = split.taken;
       split = split.split;
       ahead = omega (arith, split.ahead, count);
-      behind = omega (arith, split.behind, count);
+      are_taken = omega (arith, split.are_taken, count);
       exact = λ fault. subst (TookLines first.keys y.keys split.taken) (sym count) split.exact;
       key_fault = λ is. absurd (not_key is);
       runs = runs_longer next turn.made;
@@ -51,7 +51,7 @@ broke {first} {x} {y} {done} {line} {whole} {left} {fault} next answer is not_ke
 module _ {first y : Taped} {done : List (List ℕ)} (going : Going first y done) where
   -- after whole lines
   ended : (answer : Status) (keys : List ℕ) (more : List (List ℕ)) → IsWhole answer → lines first.keys ≡ done ++ more → first.keys ≡ keys ++ y.keys → length (ended_lines keys) ≤ length done → length done ≤ length (lines keys) → (answer ≡ status.Done → (lines first.keys ≡ done) × (y.keys ≡ drop most_keys first.keys)) → (answer ≡ status.KeyFault → ended_lines keys ≡ done) → Booted first y answer
-  ended answer keys more no_fault all split ahead behind whole part =
+  ended answer keys more no_fault all split ahead are_taken whole part =
       record {
         turns = going.turns;
         history = subst (IsHistory answer (files_of first) (lines first.keys)) (sym going.are) (subst (λ l. IsHistory answer (files_of first) l (turns_of (files_of first) done)) (sym all) (history_front answer (files_of first) done more no_fault));
@@ -62,7 +62,7 @@ module _ {first y : Taped} {done : List (List ℕ)} (going : Going first y done)
         taken = keys;
         split = split;
         ahead = omega (arith, ahead, turns_count going);
-        behind = omega (arith, behind, turns_count going);
+        are_taken = omega (arith, are_taken, turns_count going);
         exact = λ fault. elim fault [ inl disk ↦ absurd (no_fault.0 disk) | inr display ↦ absurd (no_fault.1 display) ];
         key_fault = λ is. going.are ∙ ap (turns_of (files_of first)) (sym (part is));
         runs = going.runs;
@@ -70,7 +70,7 @@ module _ {first y : Taped} {done : List (List ℕ)} (going : Going first y done)
 
   -- with the keys
   pub ended_over : {left : ℕ} → Over first.keys y.keys left done → Booted first y status.Done
-  ended_over over = ended status.Done over.taken [] done_is_whole (over.all ∙ sym (append-nil done)) over.split over.ahead over.behind (λ is. (over.all, over.keys)) (λ is. absurd (done_is_no_key is))
+  ended_over over = ended status.Done over.taken [] done_is_whole (over.all ∙ sym (append-nil done)) over.split over.ahead over.are_taken (λ is. (over.all, over.keys)) (λ is. absurd (done_is_no_key is))
 
   -- in a line that isn't whole
   pub ended_part : {before : ℕ} {mid : List ℕ} (answer : Status) → answer ≢ status.Done → IsWhole answer → Lined first.keys mid before done → TookPart mid y.keys before → Booted first y answer

@@ -2,10 +2,9 @@
 use Rattle.std.proofs.Common.{◌≡◌, ◌≢◌, ℕ, ◌≤◌, List, [], ◌∷◌, ◌++◌, length, take, refl, sym, ◌∙◌, ap, arith, append_assoc, cond}
 use Rattle.std.proofs.lemmas.List.{append-nil, length-append}
 use Rattle.std.proofs.lemmas.Bool.{ne_eqb}
-use Rattle.pack_model.specs.sessions.Lines.{lines, lines_from, ended_lines, ended_from, most_keys}
+use Rattle.pack_model.specs.sessions.Lines.{lines, lines_from, ended_lines, ended_from, most_keys, keys_of}
 use Rattle.pack_laws.proofs.Lining.{rest_from, lines_split, ended-join}
 use Rattle.alto_top.specs.Keys.{IsUnbroken}
-use Rattle.alto_top.specs.Sessions.{keys_of}
 
 pub unbroken_ended : (line keys : List ℕ) → IsUnbroken keys → ended_from line keys ≡ []
 unbroken_ended line [] h = refl

@@ -2,9 +2,8 @@
 use Rattle.std.proofs.Common.{◌≡◌, ◌⊎◌, inl, inr, ℕ, ◌+◌, ◌≤◌, List, [], ◌∷◌, ◌++◌, length, take, drop, refl, sym, ◌∙◌, ap, subst, arith}
 use Rattle.std.proofs.lemmas.List.{append-nil}
 use Rattle.std.proofs.lemmas.Bool.{cases_lt}
-use Rattle.pack_model.specs.sessions.Lines.{lines, lines_from, ended_lines}
+use Rattle.pack_model.specs.sessions.Lines.{lines, lines_from, ended_lines, keys_of, TookLines}
 use Rattle.alto_top.specs.Keys.{kept_of, TookEnded, TookRest, TookLast, TookPart}
-use Rattle.alto_top.specs.Sessions.{keys_of, TookLines}
 use Rattle.alto_top.proofs.Live.{Live, Over, split_more, live_lines, live_keys, live_part, live_ahead, live_after, live_rest, live_ended, live_last}
 
 -- Either of them.
@@ -21,7 +20,7 @@ pub record LinesTaken (old mid : List ℕ) (done : List (List ℕ)) : Type 0 whe
   pub taken : List ℕ
   pub split : old ≡ taken ++ mid
   pub ahead : length (ended_lines taken) ≤ length done
-  pub behind : length done ≤ length (lines taken)
+  pub are_taken : length done ≤ length (lines taken)
   pub exact : TookLines old mid taken (length done)
 
 -- so many first lines are these
@@ -32,8 +31,8 @@ these_lines (line ∷ done) more = ap (λ l. line ∷ l) (these_lines done more)
 pub lined_split : {old mid : List ℕ} {before : ℕ} {done : List (List ℕ)} → Lined old mid before done → LinesTaken old mid done
 lined_split {old} {mid} {before} {done} (inl live) =
     let first : take (length done) (lines old) ≡ done = ap (take (length done)) (live_lines live) ∙ these_lines done (lines_from [] (take before mid)) in
-    record { taken = live.taken; split = live.split; ahead = live_ahead live; behind = live_after live; exact = inl (live.typed ∙ ap keys_of (sym first)) }
-lined_split (inr over) = record { taken = over.taken; split = over.split; ahead = over.ahead; behind = over.behind; exact = inr (ap length (sym over.all), over.keys) }
+    record { taken = live.taken; split = live.split; ahead = live_ahead live; are_taken = live_after live; exact = inl (live.typed ∙ ap keys_of (sym first)) }
+lined_split (inr over) = record { taken = over.taken; split = over.split; ahead = over.ahead; are_taken = over.are_taken; exact = inr (ap length (sym over.all), over.keys) }
 
 -- a line that was taken, as it was typed
 pub record Took (old new : List ℕ) (before after : ℕ) (done : List (List ℕ)) (line : List ℕ) : Type 0 where
@@ -60,7 +59,7 @@ module _ {old mid : List ℕ} {before : ℕ} {done : List (List ℕ)} where
   lined_over {new} {after} (inl live) t = subst (Over old new after) (append-nil done) (live_rest live [] refl t)
   lined_over {new} (inr over) t =
       let same : new ≡ mid = t.rest ∙ ap (λ (k : ℕ). drop k mid) over.spent in
-      record { taken = over.taken; split = over.split ∙ ap (λ l. over.taken ++ l) (sym same); all = over.all; ahead = over.ahead; behind = over.behind; keys = same ∙ over.keys; spent = t.spent }
+      record { taken = over.taken; split = over.split ∙ ap (λ l. over.taken ++ l) (sym same); all = over.all; ahead = over.ahead; are_taken = over.are_taken; keys = same ∙ over.keys; spent = t.spent }
 
   pub lined_part : {new : List ℕ} → Lined old mid before done → TookPart mid new before → (taken : List ℕ) × (old ≡ taken ++ new) × (ended_lines taken ≡ done)
   lined_part {new} (inl live) t = (live.taken ++ t.part, split_more old live.taken t.part mid new live.split t.split, live_part live t.part t.unbroken t.counted)
@@ -74,7 +73,7 @@ module _ {old mid : List ℕ} {before : ℕ} {done : List (List ℕ)} where
         split = live.split;
         all = live_lines live ∙ ap (λ (k : ℕ). done ++ lines_from [] (take k mid)) none ∙ append-nil done;
         ahead = live_ahead live;
-        behind = live_after live;
+        are_taken = live_after live;
         keys = sym (live_keys live ∙ ap (λ (k : ℕ). drop k mid) none);
         spent = none;
       }

@@ -2,10 +2,9 @@
 use Rattle.std.proofs.Common.{◌≡◌, ℕ, ◌+◌, ◌≤◌, List, [], ◌∷◌, ◌++◌, length, take, drop, refl, sym, ◌∙◌, ap, subst, arith, append_assoc}
 use Rattle.std.proofs.lemmas.List.{take_all, append-nil, length-append, length-take, take-append-drop}
 use Rattle.std.proofs.Math.Seq.{take-append-add, drop-append-add}
-use Rattle.pack_model.specs.sessions.Lines.{lines, lines_from, ended_lines, ended_from, most_keys}
+use Rattle.pack_model.specs.sessions.Lines.{lines, lines_from, ended_lines, ended_from, most_keys, keys_of}
 use Rattle.pack_laws.proofs.Lining.{rest_from, lines-append, ended-append, rest-append, lines_split}
 use Rattle.alto_top.specs.Keys.{IsUnbroken, TookEnded, TookRest, TookLast}
-use Rattle.alto_top.specs.Sessions.{keys_of}
 use Rattle.alto_top.proofs.LineEnds.{unbroken_ended, unbroken_rest, whole_line, keys_of-push, ended_few}
 
 -- All lines so far have ended, and so many keys still count.
@@ -23,7 +22,7 @@ pub record Over (old now : List ℕ) (left : ℕ) (done : List (List ℕ)) : Typ
   pub split : old ≡ taken ++ now
   pub all : lines old ≡ done
   pub ahead : length (ended_lines taken) ≤ length done
-  pub behind : length done ≤ length (lines taken)
+  pub are_taken : length done ≤ length (lines taken)
   pub keys : now ≡ drop most_keys old
   pub spent : left ≡ 0
 
@@ -91,7 +90,7 @@ module _ {old mid : List ℕ} {before : ℕ} {done : List (List ℕ)} (live : Li
             let within : length (take before mid) ≤ before = omega (arith, length-take before mid) in
             let ended = ap length (live_part (take before mid) (subst IsUnbroken (sym t.is) t.unbroken) within) in
             omega (arith, ended, length-append done more);
-        behind =
+        are_taken =
             let within : length (take before mid) ≤ before = omega (arith, length-take before mid) in
             let same = ap length (live_more (take before mid) within ∙ ap (λ l. done ++ lines_from [] l) t.is ∙ ap (λ l. done ++ l) are) in
             omega (arith, same);

@@ -12,7 +12,7 @@ use Rattle.pack_laws.proofs.Inserting.{in_order-none, in_order-cons, map-insert_
 use Rattle.pack_laws.proofs.Orders.{listed_total}
 use Rattle.pack_reading.specs.declared.shown.ShownLengths.{ShownLengths}
 use Rattle.pack_reading.specs.declared.shown.ShownName.{ShownName}
-use Rattle.pack_reading.specs.Lengths.{file_length, ShowsLengths}
+use Rattle.pack_reading.specs.Lengths.{shown_length, ShowsLengths}
 use Rattle.pack_reading.specs.Shows.{naming, shown_name}
 use Rattle.alto_top.specs.declared.row.Row.{Row}
 use Rattle.alto_top.specs.Orders.{row_cmp}
@@ -55,7 +55,7 @@ pub listing_is : (v : View) (shown : ShownLengths) (rows : List Row) (text : Lis
 unfolding listing_text
 listing_is v shown rows text shows listed is =
     let in_lines : map listed_in rows ≡ listing v = listed ∙ ap (λ l. in_order listed_cmp (map (line_for v) l)) shows.names ∙ ap (in_order listed_cmp) (names_back v (shown_names v)) in
-    let count : length shown.files ≡ length (shown_files v) = ap length shows.files ∙ length-map (shown_files v) file_length in
+    let count : length shown.files ≡ length (shown_files v) = ap length shows.files ∙ length-map (shown_files v) shown_length in
     is
     ∙ ap (λ l. l ++ count_text (length shown.files)) (sym (flat_map-map line_text listed_in rows) ∙ ap (flat_map line_text) in_lines)
     ∙ ap (λ n. flat_map line_text (listing v) ++ count_text n) count

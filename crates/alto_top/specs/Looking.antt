@@ -6,7 +6,7 @@ use Rattle.alto_words.specs.Fid.{is_fid}
 use Rattle.pack_model.specs.showing.View.{View}
 use Rattle.pack_model.specs.showing.Listing.{Listed, home_name, shown_files}
 use Rattle.pack_reading.specs.declared.shown.FileLength.{FileLength}
-use Rattle.pack_reading.specs.Lengths.{file_length}
+use Rattle.pack_reading.specs.Lengths.{shown_length}
 use Rattle.pack_reading.specs.Shows.{naming}
 use Rattle.alto_top.specs.declared.row.Row.{Row}
 
@@ -18,7 +18,7 @@ first_of key value (x ∷ xs) f = option_or (cond (is_fid f (key x)) (Some (valu
 -- the names of directories and the lengths of files, as a view has them
 pub record Knows (name : Fid → Option (List ℕ)) (files : List FileLength) (v : View) : Type 0 where
   pub names : (f : Fid) → name f ≡ home_name v f
-  pub files_are : files ≡ map file_length (shown_files v)
+  pub files_are : files ≡ map shown_length (shown_files v)
 
 -- what the model has in a row
 abbrev pub listed_in : Row → Listed

@@ -1,9 +1,9 @@
 -- A session: the turns of typed lines.
-use Rattle.std.specs.Prelude.{◌≡◌, ◌≢◌, ◌⊎◌, ◌≤◌, ℕ, ◌+◌, ◌*◌, List, [], ◌∷◌, ◌++◌, length, take, drop, Result, Ok, Err, IfErr}
+use Rattle.std.specs.Prelude.{◌≡◌, ◌≢◌, ◌⊎◌, ◌≤◌, ℕ, ◌+◌, ◌*◌, List, [], ◌∷◌, ◌++◌, length, drop, Result, Ok, Err, IfErr}
 use Rattle.disk_records.specs.Addresses.{pages_of}
 use Rattle.disk_records.specs.Events.{shown_bytes}
 use Rattle.disk_records.specs.Tapes.{Taped, KeysAlone, pack, added}
-use Rattle.pack_model.specs.sessions.Lines.{lines, ended_lines, most_keys}
+use Rattle.pack_model.specs.sessions.Lines.{TookLines, lines, ended_lines, most_keys}
 use Rattle.pack_model.specs.reading.Stored.{StoredFiles, stored_files}
 use Rattle.pack_model.specs.operations.Puts.{Put, putting}
 use Rattle.pack_model.specs.sessions.Moves.{steps}
@@ -61,16 +61,6 @@ IsHistory answer files (line ∷ lines) (t ∷ turns) =
     ((t ≡ turn_of files line) × IsHistory answer (steps putting files (puts_of files line)) lines turns)
     ⊎ (BreaksBy answer t (turn_of files line) × (turns ≡ []))
 
--- the keys of these lines, each with the byte 10 that ends it
-abbrev pub keys_of : List (List ℕ) → List ℕ
-keys_of [] = []
-keys_of (line ∷ lines) = line ++ 10 ∷ keys_of lines
-
--- The keys taken are those of so many first lines, and no key after them. Where the last line isn't ended by a byte 10, they
--- are all keys that count, and these are all their lines.
-abbrev pub TookLines : List ℕ → List ℕ → List ℕ → ℕ → Type 0
-TookLines old new taken count = (taken ≡ keys_of (take count (lines old))) ⊎ ((count ≡ length (lines old)) × (new ≡ drop most_keys old))
-
 -- a put is an operation
 abbrev pub one_each : Put → ℕ
 one_each put = 1
@@ -93,7 +83,7 @@ pub record Booted (old new : Taped) (answer : Status) : Type 0 where
   pub taken : List ℕ
   pub split : old.keys ≡ taken ++ new.keys
   pub ahead : length (ended_lines taken) ≤ length turns
-  pub behind : length turns ≤ length (lines taken)
+  pub are_taken : length turns ≤ length (lines taken)
   pub exact : (answer ≡ status.DiskFault) ⊎ (answer ≡ status.DisplayFault) → TookLines old.keys new.keys taken (length turns)
   pub key_fault : answer ≡ status.KeyFault → turns ≡ turns_of (stored_files (pack old)) (ended_lines taken)
   pub runs : new.runs ≤ old.runs + length turns * runs_of_line old

@@ -7,7 +7,7 @@ ghost use Rattle.alto_words.specs.declared.fid.Fid.{Fid as Named};
 ghost use Rattle.alto_words.specs.Fid.{fid_cmp, is_fid};
 ghost use Rattle.pack_model.specs.showing.View.{View};
 ghost use Rattle.pack_model.specs.showing.Listing.{line_of, listed_cmp, in_order, size_of, shown_files};
-ghost use Rattle.pack_reading.specs.Lengths.{file_length, ShowsLengths};
+ghost use Rattle.pack_reading.specs.Lengths.{shown_length, ShowsLengths};
 ghost use Rattle.pack_reading.specs.Shows.{naming};
 ghost use Rattle.alto_top.specs.Looking.{first_of, Knows, listed_in};
 ghost use Rattle.std.specs.FinMap.{get as look_up};
@@ -43,7 +43,7 @@ fn names_by_file(alloc: Global, names: &[ShownName]) -> Result<BTreeMap<Fid, Nam
 /// The length in bytes of the file of this full name among these, which rise by full name; None of a directory, and where it
 /// isn't there.
 fn length_in(files: &[FileLength], fid: Fid) -> Option<u64>
-    ensures { (v : View) → files.now ≡ map file_length (shown_files v) → result ≡ size_of (look_up v.files fid) }
+    ensures { (v : View) → files.now ≡ map shown_length (shown_files v) → result ≡ size_of (look_up v.files fid) }
 {
     match files.binary_search_by_key(&fid, |file| file.fid) {
         Ok(i) => files[i].length,

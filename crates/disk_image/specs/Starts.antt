@@ -10,11 +10,11 @@ abbrev pub is_option : List ℕ → List ℕ → Bool
 is_option option word = pointwise nat_eq word option
 
 -- the number of cylinders that a word gives: 2 to 406
-abbrev pub in_range : ℕ → Option ℕ
-in_range cylinders = if nat_le 2 cylinders && nat_le cylinders 406 then Some cylinders else None
+abbrev pub allowed_cylinders : ℕ → Option ℕ
+allowed_cylinders cylinders = if nat_le 2 cylinders && nat_le cylinders 406 then Some cylinders else None
 
 abbrev pub cylinders_in : List ℕ → Option ℕ
-cylinders_in word = option_and_then in_range (number_in word)
+cylinders_in word = option_and_then allowed_cylinders (number_in word)
 
 -- after `--second`, which stands at word n: PACK2, PACK and the words
 abbrev pub second_from : Option ℕ → ℕ → List (List ℕ) → Option Start

@@ -75,12 +75,12 @@ fn write_sector(sector: &Sector, bytes: &mut [u8])
 /// Reads the sectors of `count` times 532 bytes into a list that has room for them, after those that are there. No memory is taken.
 pub(crate) fn read_sectors(bytes: &[u8], count: usize, sectors: &mut Vec<Sector>)
     requires length { length bytes.now ≡ count * 532 }
-    requires room { vec_len sectors.old + count ≤ vec_capacity sectors.old }
+    requires capacity { vec_len sectors.old + count ≤ vec_capacity sectors.old }
     ensures count { vec_len sectors.new ≡ vec_len sectors.old + count }
     ensures kept { take (vec_len sectors.old) sectors.new.items ≡ sectors.old.items }
     ensures whole { All IsWhole (drop (vec_len sectors.old) sectors.new.items) }
     ensures bytes { bytes.now ≡ pack_bytes (drop (vec_len sectors.old) sectors.new.items) }
-    ensures same_room { vec_capacity sectors.new ≡ vec_capacity sectors.old }
+    ensures same_capacity { vec_capacity sectors.new ≡ vec_capacity sectors.old }
 {
     for at in 0..count {
         let from = at * SECTOR_BYTES;
@@ -94,7 +94,7 @@ pub(crate) fn read_sectors(bytes: &[u8], count: usize, sectors: &mut Vec<Sector>
 /// Memory: none was left for the sectors, which are one allocation.
 pub fn decode_pack(alloc: Global, bytes: &[u8]) -> Result<(Shape, Vec<Sector>), ImageError>
     ensures ok { IfOk result (λ pack. IsImage pack.0 pack.1.items bytes.now) }
-    ensures room { IfOk result (λ pack. vec_capacity pack.1 ≡ pages_of pack.0) }
+    ensures capacity { IfOk result (λ pack. vec_capacity pack.1 ≡ pages_of pack.0) }
     ensures err { IfErr result (IsImageErrorAt (length bytes.now)) }
 {
     let Some(shape) = shape_of_length(1, bytes.len() as u64) else {

@@ -41,7 +41,7 @@ pub fn decode_two(
     second: &[u8],
 ) -> Result<(Shape, Vec<Sector>), ImageError>
     ensures ok { IfOk result (λ pack. AreImages pack.0 pack.1.items first.now second.now) }
-    ensures room { IfOk result (λ pack. vec_capacity pack.1 ≡ pages_of pack.0) }
+    ensures capacity { IfOk result (λ pack. vec_capacity pack.1 ≡ pages_of pack.0) }
     ensures err { IfErr result (IsErrorOfTwo (length first.now) (length second.now)) }
 {
     let shape = shape_of_lengths(first.len() as u64, second.len() as u64)?;

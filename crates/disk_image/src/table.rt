@@ -56,7 +56,7 @@ impl SectorTable {
 
     /// Puts the sectors of a cylinder at their numbers, as these bytes say, the first of them at this one. No memory is taken.
     pub(crate) fn put_cylinder(&mut self, first: usize, bytes: &[u8])
-        requires room { first + 24 ≤ vec_capacity self.old.sectors }
+        requires capacity { first + 24 ≤ vec_capacity self.old.sectors }
         requires length { length bytes.now ≡ 12768 }
         ensures { PutsCylinder first bytes.now self.old self.new }
     {
@@ -74,7 +74,7 @@ impl SectorTable {
     fn reach_to(&mut self, end: usize)
         requires { end ≤ vec_capacity self.old.sectors }
         ensures long { end ≤ vec_len self.new.sectors }
-        ensures room { vec_capacity self.new.sectors ≡ vec_capacity self.old.sectors }
+        ensures capacity { vec_capacity self.new.sectors ≡ vec_capacity self.old.sectors }
         ensures same { (k : ℕ) → sector_in self.new k ≡ sector_in self.old k }
     {
         for _ in self.sectors.len()..end {
@@ -84,10 +84,10 @@ impl SectorTable {
 
     /// Puts a sector at this place of the list, or at its end.
     fn put(&mut self, place: usize, sector: Sector)
-        requires room { place < vec_capacity self.old.sectors }
+        requires capacity { place < vec_capacity self.old.sectors }
         requires long { place ≤ vec_len self.old.sectors }
         ensures long { place < vec_len self.new.sectors }
-        ensures same_room { vec_capacity self.new.sectors ≡ vec_capacity self.old.sectors }
+        ensures same_capacity { vec_capacity self.new.sectors ≡ vec_capacity self.old.sectors }
         ensures here { sector_in self.new place ≡ Some sector }
         ensures others { (k : ℕ) → k ≢ place → sector_in self.new k ≡ sector_in self.old k }
     {

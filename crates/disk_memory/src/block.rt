@@ -10,7 +10,7 @@ use std::alloc::{AllocError, Global};
 pub struct Block {
     words: Vec<u16>,
     ghost empty: { words.items ≡ [] },
-    ghost room: { 256 ≤ vec_capacity words },
+    ghost capacity: { 256 ≤ vec_capacity words },
 }
 
 impl Block {

@@ -13,7 +13,7 @@ use Rattle.pack_model.specs.reading.Model.{read_as}
 use Rattle.pack_model.specs.sessions.Tallies.{CountsMoves}
 use Rattle.laws_call.specs.Writing.{Written}
 use Rattle.laws_hint.specs.MapChanges.{MarksMap, marked}
-use Rattle.laws_line.specs.CutLaws.{StaysMendable}
+use Rattle.laws_line.specs.CrashLaws.{StaysMendable}
 use Rattle.laws_operation.specs.FreeLaws.{StayFreeBut}
 use Rattle.laws_operation.specs.LifeLaws.{MayDrop, first_moves}
 use Rattle.laws_operation.specs.LinkLaws.{KeepsLinks}
@@ -50,7 +50,7 @@ pub record IsQuiet (old new : Around) : Type 0 where
 -- The call began to write, with these record writes of the operation, in the words of `pack_model`. For every answer those that it made are
 -- a prefix of them, and are counted. At Ok they are all of them, and the table has the sectors that were claimed as busy, and those that
 -- were released as free. Out of memory comes only if fewer events were kept ready than the operation has record writes.
-pub record Begun {T E : Type 0} (fault memory : E) (o : Operation) (claimed : List ℕ) (old new : Around) (result : Result T E) : Type 0 where
+pub record BeganToWrite {T E : Type 0} (fault memory : E) (o : Operation) (claimed : List ℕ) (old new : Around) (result : Result T E) : Type 0 where
   pub writes : List Event
   pub released : List ℕ
   pub exact : Written (pack old.tape) o claimed released writes
@@ -64,10 +64,10 @@ pub record Begun {T E : Type 0} (fault memory : E) (o : Operation) (claimed : Li
 -- For every answer: it wrote nothing, counted nothing, and is neither Ok nor out of memory; or it began.
 pub data Operates {T E : Type 0} (fault memory : E) (o : Operation) (claimed : List ℕ) (old new : Around) (result : Result T E) : Type 0 where
   refused : IsQuiet old new → OnOk result ⊥ → (IsErrOf result memory → ⊥) → Operates fault memory o claimed old new result
-  begun : Begun fault memory o claimed old new result → Operates fault memory o claimed old new result
+  begun : BeganToWrite fault memory o claimed old new result → Operates fault memory o claimed old new result
 
 -- ---- a drop without the slot of its entry
--- The releases of the file's sectors began: of its leader in this one and of its data pages in these. It is as `Begun`, except that the
+-- The releases of the file's sectors began: of its leader in this one and of its data pages in these. It is as `BeganToWrite`, except that the
 -- operation is whole only once its entry's slot is freed.
 pub record Released {T E : Type 0} (fault memory : E) (f : Fid) (old new : Around) (result : Result T E) : Type 0 where
   pub at : ℕ

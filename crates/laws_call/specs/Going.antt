@@ -5,7 +5,7 @@ use Rattle.disk_records.specs.Packs.{Pack}
 use Rattle.disk_records.specs.declared.records.Event.{Event}
 use Rattle.pack_model.specs.operations.Step.{Operation}
 use Rattle.pack_model.specs.sessions.Moves.{IsStartOf}
-use Rattle.laws_line.specs.CutLaws.{Batch}
+use Rattle.laws_line.specs.CrashLaws.{Batch}
 
 -- Calls on the pack p that are to do these operations. For every answer their record writes are a prefix of those of a prefix of the
 -- operations, each make with its new serial; at Ok they are all of those of all.

@@ -15,7 +15,7 @@ use Rattle.pack_model.specs.reading.Sights.{sights}
 use Rattle.pack_model.specs.sessions.Descriptor.{serial_writes}
 use Rattle.laws_call.specs.Acting.{Around, Operates}
 use Rattle.laws_call.specs.Going.{Goes}
-use Rattle.laws_line.specs.CutLaws.{StaysMendable, with_serial}
+use Rattle.laws_line.specs.CrashLaws.{StaysMendable, with_serial}
 
 -- no call yet
 abbrev pub NoCallYet : Type 0 → Type 0 → Type 0

@@ -13,7 +13,7 @@ use Rattle.pack_model.specs.states.InUse.{free_sector_count}
 use Rattle.pack_model.specs.states.Sound.{Sound}
 use Rattle.laws_call.specs.Going.{Goes}
 use Rattle.laws_hint.specs.LineLinks.{opening_writes}
-use Rattle.laws_line.specs.SoundLines.{IsLine, LineOnSound}
+use Rattle.laws_line.specs.SoundLines.{IsKindOfLine, LineOnSound}
 use Rattle.laws_line.specs.SoundParts.{BreaksOnSound}
 
 -- The operations of a line of the operating system, and the sectors that it needs, on a sound pack.
@@ -21,7 +21,7 @@ pub record LineFits (p : Pack) (at : ℕ) (ops : List Operation) : Type 0 where
   pub sound : Sound p
   pub placed : place (sights p) disk_descriptor 1 ≡ Some at
   pub some : 0 < length ops
-  pub line : IsLine (read_as p) ops
+  pub line : IsKindOfLine (read_as p) ops
   pub room : pages_for_operations (read_as p) ops ≤ free_sector_count (sights p)
 
 -- Where the mark isn't opened to its end, and where calls on the pack with the open mark do the operations: for every answer the record

@@ -52,14 +52,14 @@ FormedPagesHave256Words = (p : Pack) (at : ℕ) (page : Page) → AreFormed p �
 
 -- ---- pages in front of a page
 -- A data page of a file, counted from 0, is there and full.
-pub record IsFull (p : Pack) (f : Fid) (k : ℕ) : Type 0 where
+pub record IsFullPage (p : Pack) (f : Fid) (k : ℕ) : Type 0 where
   pub at : ℕ
   pub sector : place (sights p) f (suc k) ≡ Some at
   pub full : length (bytes_at p at) ≡ 512
 
 -- All data pages before page k are, so that page k is one of the file's where it is there.
 pub record FullBefore (p : Pack) (f : Fid) (k : ℕ) : Type 0 where
-  pub each : (j : ℕ) → j < k → IsFull p f j
+  pub each : (j : ℕ) → j < k → IsFullPage p f j
 
 -- so it is of the first data page
 abbrev pub NoneBeforeTheFirst : Type 0
@@ -67,7 +67,7 @@ NoneBeforeTheFirst = (p : Pack) (f : Fid) → FullBefore p f 0
 
 -- of the page after a full one
 abbrev pub FullBeforeTheNext : Type 0
-FullBeforeTheNext = (p : Pack) (f : Fid) (k : ℕ) → FullBefore p f k → IsFull p f k → FullBefore p f (suc k)
+FullBeforeTheNext = (p : Pack) (f : Fid) (k : ℕ) → FullBefore p f k → IsFullPage p f k → FullBefore p f (suc k)
 
 -- and on a whole pack of each that has a place
 abbrev pub FullBeforeEachOfAWholePack : Type 0

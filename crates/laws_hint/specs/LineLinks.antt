@@ -12,7 +12,7 @@ use Rattle.pack_model.specs.operations.Step.{Operation}
 use Rattle.pack_model.specs.hints.Tables.{TableTrue}
 use Rattle.pack_model.specs.states.Whole.{Tidy, Whole}
 use Rattle.laws_operation.specs.DescriptorLaws.{MayClose}
-use Rattle.laws_line.specs.CutLaws.{Batch, does, makes, over, with_serial}
+use Rattle.laws_line.specs.CrashLaws.{Batch, does, makes, over, with_serial}
 use Rattle.laws_operation.specs.LinkLaws.{KeepsLinks}
 use Rattle.laws_hint.specs.ClosingLaws.{ClosedTrue, closing_writes}
 

@@ -15,7 +15,7 @@ use Rattle.laws_operation.specs.ByteLaws.{MayCut, MayGrow, MayPut}
 use Rattle.laws_operation.specs.LeaderLaws.{MayWriteLeader, stamped, titled}
 use Rattle.laws_operation.specs.LifeLaws.{MayDrop, MayMake}
 use Rattle.laws_operation.specs.NameLaws.{MayLeave, MayWiden}
-use Rattle.laws_line.specs.CutLaws.{StaysMendable}
+use Rattle.laws_line.specs.CrashLaws.{StaysMendable}
 
 -- The bytes of a file, its leader, a file that comes or goes, an entry that leaves, and a wider directory.
 pub record EachStays (p : Pack) : Type 0 where

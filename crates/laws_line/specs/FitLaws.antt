@@ -8,7 +8,7 @@ use Rattle.pack_model.specs.reading.Sights.{sights}
 use Rattle.pack_model.specs.sessions.Descriptor.{DescriptorFits, close_writes, open_writes}
 use Rattle.pack_model.specs.states.Sound.{mark_clean, mark_open}
 use Rattle.pack_model.specs.states.Whole.{Tidy, Whole}
-use Rattle.laws_line.specs.CutLaws.{with_serial}
+use Rattle.laws_line.specs.CrashLaws.{with_serial}
 use Rattle.laws_operation.specs.DescriptorLaws.{MayClose}
 
 -- Of a whole and tidy pack that these fit: what fits after the opening of the mark, a new serial and closing.

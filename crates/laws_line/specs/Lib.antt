@@ -1,5 +1,5 @@
 pub mod AfterLaws
-pub mod CutLaws
+pub mod CrashLaws
 pub mod EachLaws
 pub mod EndLaws
 pub mod FitLaws
@@ -8,4 +8,4 @@ pub mod PartLaws
 pub mod Ready
 pub mod SoundLines
 pub mod SoundParts
-pub mod SpareLaws
+pub mod SystemLaws

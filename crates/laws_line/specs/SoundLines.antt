@@ -20,16 +20,16 @@ use Rattle.pack_model.specs.operations.Step.Operation.{drop_file}
 use Rattle.laws_line.specs.AfterLaws.{IsDirectory}
 use Rattle.laws_line.specs.LineLaws.{IsEntered, LeaveNames, MayGo, new_file_line, rename_line, with_new_file}
 use Rattle.laws_line.specs.Ready.{steps_of}
-use Rattle.laws_line.specs.CutLaws.{Batch}
+use Rattle.laws_line.specs.CrashLaws.{Batch}
 
 -- What the operations of a line are: changes that leave names as they are; a file that goes; one that is made and entered in a directory of
 -- the model, and then changed; one that is renamed, into such a directory.
-pub data IsLine (m : Model) : List Operation → Type 0 where
-  changes : (ops : List Operation) → LeaveNames m ops → IsLine m ops
-  goes : (f : Fid) → MayGo m f → IsLine m (drop_file f ∷ [])
+pub data IsKindOfLine (m : Model) : List Operation → Type 0 where
+  changes : (ops : List Operation) → LeaveNames m ops → IsKindOfLine m ops
+  goes : (f : Fid) → MayGo m f → IsKindOfLine m (drop_file f ∷ [])
   comes : (d : Fid) (name : List ℕ) (f : Fid) (moment : ℕ) (rest : List Operation) → IsDirectory m d → length name ≤ 39 → contains_key m.files f ≡ false → LeaveNames (with_new_file m d name f moment) rest
-      → IsLine m (new_file_line m d name f moment rest)
-  renamed : (d : Fid) (old : List ℕ) (to : Fid) (name : List ℕ) (f : Fid) → IsDirectory m to → IsEntered m d old f → length name ≤ 39 → is_system f ≡ false → IsLine m (rename_line m d old to name f)
+      → IsKindOfLine m (new_file_line m d name f moment rest)
+  renamed : (d : Fid) (old : List ℕ) (to : Fid) (name : List ℕ) (f : Fid) → IsDirectory m to → IsEntered m d old f → length name ≤ 39 → is_system f ≡ false → IsKindOfLine m (rename_line m d old to name f)
 
 -- Each cut of the line can be scavenged and is clean only where it is sound; its record writes make its moves, and each crash point is
 -- viewed as the model there, and shows what it shows. After it the pack is read as the last model, and is sound again.
@@ -44,5 +44,5 @@ pub record LineOnSound (p : Pack) (events : List Event) (ops : List Operation) :
 -- So it is where there are at least as many free sectors as the line adds pages.
 abbrev pub CrashesOfALineOnASoundPack : Type 0
 CrashesOfALineOnASoundPack = (p : Pack) (at : ℕ) (events : List Event) (ops : List Operation) → let all : List Event = open_writes (mark_of (sights p)) at (sector_at p at).value ++ events in
-    Sound p → place (sights p) disk_descriptor 1 ≡ Some at → 0 < length ops → IsLine (read_as p) ops → pages_for_operations (read_as p) ops ≤ free_sector_count (sights p)
+    Sound p → place (sights p) disk_descriptor 1 ≡ Some at → 0 < length ops → IsKindOfLine (read_as p) ops → pages_for_operations (read_as p) ops ≤ free_sector_count (sights p)
     → Batch (after p (open_writes (mark_of (sights p)) at (sector_at p at).value)) events ops → LineOnSound p all ops

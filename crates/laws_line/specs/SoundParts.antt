@@ -17,9 +17,9 @@ use Rattle.pack_model.specs.sessions.Moves.{IsStartOf, Obeys}
 use Rattle.pack_model.specs.states.InUse.{free_sector_count}
 use Rattle.pack_model.specs.states.Sound.{Sound, mark_of}
 use Rattle.pack_model.specs.states.Whole.{Tidy, Whole}
-use Rattle.laws_line.specs.CutLaws.{Batch}
+use Rattle.laws_line.specs.CrashLaws.{Batch}
 use Rattle.laws_line.specs.Ready.{steps_of}
-use Rattle.laws_line.specs.SoundLines.{IsLine}
+use Rattle.laws_line.specs.SoundLines.{IsKindOfLine}
 
 -- the moves of a line's first operations; the mark is opened before them, also while there is none yet
 abbrev pub begun_moves : ℕ → Model → List Operation → List Operation → List Move
@@ -40,7 +40,7 @@ pub record PartOnSound (p : Pack) (events : List Event) (ops all : List Operatio
 -- so it is where the whole line is one of the operating system, and the pages are there that it adds
 abbrev pub PartOfALineOnASoundPack : Type 0
 PartOfALineOnASoundPack = (p : Pack) (at : ℕ) (events : List Event) (ops more : List Operation) → let all : List Event = open_writes (mark_of (sights p)) at (sector_at p at).value ++ events in
-    Sound p → place (sights p) disk_descriptor 1 ≡ Some at → 0 < length (ops ++ more) → IsLine (read_as p) (ops ++ more) → pages_for_operations (read_as p) (ops ++ more) ≤ free_sector_count (sights p)
+    Sound p → place (sights p) disk_descriptor 1 ≡ Some at → 0 < length (ops ++ more) → IsKindOfLine (read_as p) (ops ++ more) → pages_for_operations (read_as p) (ops ++ more) ≤ free_sector_count (sights p)
     → Batch (after p (open_writes (mark_of (sights p)) at (sector_at p at).value)) events ops → PartOnSound p all ops (ops ++ more)
 
 -- The line broke off within them: a prefix of their record writes make a prefix of the line's moves, and so of the moves of an end

@@ -21,10 +21,10 @@
 #![tactic(auto)]
 
 pub mod after;
-pub mod cuts;
+pub mod crashes;
 pub mod ending;
 pub mod fits;
 pub mod lines;
 pub mod parts;
 pub mod sound;
-pub mod spares;
+pub mod system;

@@ -6,7 +6,7 @@ use Rattle.pack_model.specs.scavenger.Needed.{needed}
 use Rattle.pack_model.specs.scavenger.Reports.{freed_sectors}
 use Rattle.pack_model.specs.scavenger.Scavenging.{Scavengeable}
 use Rattle.pack_model.specs.states.InUse.{available, free_sector_count}
-use Rattle.laws_mend.specs.Parts.{Frees, Used}
+use Rattle.laws_mend.specs.Parts.{FreesMore, Used}
 
 -- on any pack the available sectors are the free ones and those that are freed
 abbrev pub FreedAndFree : Type 0
@@ -18,7 +18,7 @@ UsedAvailableIsFree = (p : Pack) → Used p → available p.shape (sights p) ≡
 
 -- sectors that become free one after another, as many being available as before, become free together
 abbrev pub FreesJoin : Type 0
-FreesJoin = (p q r : Pack) (m n : ℕ) → Frees p q m → Frees q r n → Frees p r (m + n)
+FreesJoin = (p q r : Pack) (m n : ℕ) → FreesMore p q m → FreesMore q r n → FreesMore p r (m + n)
 
 -- Of a pack that can be scavenged, each good sector of which is free or in use: if a sector is needed, one is free.
 abbrev pub NeededIsFree : Type 0

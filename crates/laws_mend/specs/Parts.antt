@@ -41,6 +41,6 @@ pub record Lasting (p : Pack) : Type 0 where
 
 -- ---- between two packs
 -- so many sectors more are free, and as many are available
-pub record Frees (p q : Pack) (n : ℕ) : Type 0 where
+pub record FreesMore (p q : Pack) (n : ℕ) : Type 0 where
   pub free : free_sector_count (sights q) ≡ free_sector_count (sights p) + n
   pub available_is : available q.shape (sights q) ≡ available p.shape (sights p)

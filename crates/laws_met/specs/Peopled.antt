@@ -16,7 +16,7 @@ use Rattle.pack_model.specs.reading.Slots.{entry_length}
 use Rattle.pack_model.specs.sessions.Descriptor.{open_writes}
 use Rattle.pack_model.specs.sessions.Format.{formatted}
 use Rattle.pack_model.specs.states.Sound.{mark_of}
-use Rattle.laws_line.specs.CutLaws.{with_serial}
+use Rattle.laws_line.specs.CrashLaws.{with_serial}
 
 -- one drive of two cylinders: 48 sectors
 abbrev pub small : Shape

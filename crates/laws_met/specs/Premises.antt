@@ -24,8 +24,8 @@ use Rattle.laws_operation.specs.DescriptorLaws.{MayClose}
 use Rattle.laws_operation.specs.DirectoryWords.{CanEnter, HasEntry, left_in}
 use Rattle.laws_operation.specs.FileWords.{ArePastTheEnd, CanCut, CanGrow, CanMake, CanPut, CanWriteLeader}
 use Rattle.laws_operation.specs.LifeLaws.{MayDrop}
-use Rattle.laws_line.specs.CutLaws.{Batch}
-use Rattle.laws_line.specs.SoundLines.{IsLine, LineOnSound}
+use Rattle.laws_line.specs.CrashLaws.{Batch}
+use Rattle.laws_line.specs.SoundLines.{IsKindOfLine, LineOnSound}
 use Rattle.laws_hint.specs.ClosingLaws.{ClosedTrue, closing_writes}
 use Rattle.laws_hint.specs.LineLinks.{EachKeepsLinks}
 use Rattle.laws_met.specs.Peopled.{bytes_a, bytes_more, after_cut, cutting, dir_d, dropping, entered_a, entered_d, entering, file_a, file_b, formatted_pack, after_growth, grown_a, growing, leaving, left, left_b, made_a, made_b, made_d, making, name_a, name_b, name_c, name_d, name_e, name_z, numbered_a, numbered_b, numbered_d, opened, opening, peopled, after_put, putting, retitled, retitled_b, room_a, room_b, room_c, room_d, room_e, after_stamp, stamping, after_title, titling}
@@ -83,7 +83,7 @@ pub record LineRuns (p : Pack) (events : List Event) (ops : List Operation) : Ty
   pub sound : Sound p
   pub links : LinksTrue p
   pub placed : place (sights p) disk_descriptor 1 ≡ Some 4
-  pub is_line : IsLine (read_as p) ops
+  pub is_line : IsKindOfLine (read_as p) ops
   pub enough : pages_for_operations (read_as p) ops ≤ free_sector_count (sights p)
   pub batch : Batch (after p (opening p)) events ops
   pub each_keeps : EachKeepsLinks batch

@@ -26,7 +26,7 @@ pub record KeepsSound (p q : Pack) : Type 0 where
   pub places : (n : ℕ) → place (sights q) disk_descriptor n ≡ place (sights p) disk_descriptor n
 
 -- The mark is open after these record writes, so the pack isn't clean; each crash is read as before.
-pub record Opens (p : Pack) (events : List Event) (moves : List Move) : Type 0 where
+pub record OpensMark (p : Pack) (events : List Event) (moves : List Move) : Type 0 where
   pub obeys : Obeys reading (read_as p) p events moves
   pub keeps : KeepsSound p (after p events)
   pub marked : mark_of (sights (after p events)) ≡ mark_open
@@ -34,7 +34,7 @@ pub record Opens (p : Pack) (events : List Event) (moves : List Move) : Type 0 w
 -- where the mark is open nothing is written; else it is the value of the first data page
 abbrev pub OpenCarriesOut : Type 0
 OpenCarriesOut = (p : Pack) (at : ℕ) (o : Operation) (ops : List Operation) → Whole p → Tidy p → place (sights p) disk_descriptor 1 ≡ Some at
-    → Opens p (open_writes (mark_of (sights p)) at (sector_at p at).value) (open_moves (mark_of (sights p)) (o ∷ ops))
+    → OpensMark p (open_writes (mark_of (sights p)) at (sector_at p at).value) (open_moves (mark_of (sights p)) (o ∷ ops))
 
 -- Each crash is viewed as before; read as a model the pack has the new last serial after the record write, and the mark that it had.
 pub record GivesSerial (p : Pack) (last : ℕ) (events : List Event) : Type 0 where

@@ -6,12 +6,12 @@ use Rattle.disk_records.specs.declared.records.Event.{Event}
 use Rattle.pack_model.specs.sessions.Moves.{Meaning, Obeys, steps}
 use Rattle.pack_model.specs.scavenger.Scavenging.{Keeps, Mends, Throughout}
 use Rattle.pack_laws.proofs.Moving.{obeys_then, steps-append}
-use Rattle.laws_record.specs.ChainLaws.{Follows, KeptTogether, RunsChain, ScavengesJoin, ShowsSame}
+use Rattle.laws_record.specs.ChainLaws.{MakesRun, KeptTogether, RunsChain, ScavengesJoin, ShowsSame}
 
 -- ---- moves
 module _ {M O : Type 0} (means : Meaning M O) where
   -- the second run from the model where the first ends
-  from_there : {p : Pack} {a b : List Event} {ops more : List O} → Follows means p a ops → Obeys means (means.read (after p a)) (after p a) b more → Obeys means (steps means (means.read p) ops) (after p a) b more
+  from_there : {p : Pack} {a b : List Event} {ops more : List O} → MakesRun means p a ops → Obeys means (means.read (after p a)) (after p a) b more → Obeys means (steps means (means.read p) ops) (after p a) b more
   from_there {p} {a} {b} {ops} {more} f o = subst (λ m. Obeys means m (after p a) b more) f.ends o
 
   -- both together

@@ -8,15 +8,15 @@ use Rattle.pack_model.specs.showing.Settling.{show}
 
 -- ---- lists of moves
 -- They make these moves, in lockstep, and each crash stands for the model there; at the end the pack is read as the last model.
-pub record Follows {M O : Type 0} (means : Meaning M O) (p : Pack) (events : List Event) (ops : List O) : Type 0 where
+pub record MakesRun {M O : Type 0} (means : Meaning M O) (p : Pack) (events : List Event) (ops : List O) : Type 0 where
   pub each : Obeys means (means.read p) p events ops
   pub ends : means.read (after p events) ≡ steps means (means.read p) ops
 
 -- Two such runs, the second from where the first ends, are one. Where the second isn't read as its last model at the end, as where
 -- it failed or was broken off, the two still make all moves in lockstep.
 pub record RunsChain {M O : Type 0} (means : Meaning M O) : Type 0 where
-  pub whole : (p : Pack) (a b : List Event) (ops more : List O) → Follows means p a ops → Follows means (after p a) b more → Follows means p (a ++ b) (ops ++ more)
-  pub broken : (p : Pack) (a b : List Event) (ops more : List O) → Follows means p a ops → Obeys means (means.read (after p a)) (after p a) b more → Obeys means (means.read p) p (a ++ b) (ops ++ more)
+  pub whole : (p : Pack) (a b : List Event) (ops more : List O) → MakesRun means p a ops → MakesRun means (after p a) b more → MakesRun means p (a ++ b) (ops ++ more)
+  pub broken : (p : Pack) (a b : List Event) (ops more : List O) → MakesRun means p a ops → Obeys means (means.read (after p a)) (after p a) b more → Obeys means (means.read p) p (a ++ b) (ops ++ more)
 
 -- ---- what is kept at each crash
 -- Two runs, each of which keeps at every crash what it finds at its beginning, together keep what the first finds.

@@ -2,7 +2,7 @@
 use Rattle.std.specs.Prelude.{◌≡◌, ℕ, All, Some}
 use Rattle.disk_records.specs.Packs.{Pack}
 use Rattle.pack_model.specs.reading.Model.{Model, read_as}
-use Rattle.laws_line.specs.SoundLines.{IsLine}
+use Rattle.laws_line.specs.SoundLines.{IsKindOfLine}
 use Rattle.exec_words.specs.declared.line.Line.{Line}
 use Rattle.session_model.specs.Effects.{ending_ops}
 use Rattle.session_model.specs.Keeping.{AreApart, StreamFits}
@@ -16,8 +16,8 @@ StreamsFit m w = All (StreamFits m) w.streams
 
 -- then a `get`, `putb`, `seek` or `close` that isn't refused is a line
 abbrev pub StreamLineMayBegin : Type 0
-StreamLineMayBegin = (p : Pack) (w : World) (l : Line) (n : ℕ) → IsUnrefused p w l → stream_named l ≡ Some n → StreamsFit (read_as p) w → IsLine (read_as p) (ops_on p w l)
+StreamLineMayBegin = (p : Pack) (w : World) (l : Line) (n : ℕ) → IsUnrefused p w l → stream_named l ≡ Some n → StreamsFit (read_as p) w → IsKindOfLine (read_as p) (ops_on p w l)
 
 -- and so are the last operations of a session, at a `quit` or at the end of the keys: each stream has a file of its own
 abbrev pub EndingIsALine : Type 0
-EndingIsALine = (m : Model) (w : World) → StreamsFit m w → AreApart w.streams → IsLine m (ending_ops m w)
+EndingIsALine = (m : Model) (w : World) → StreamsFit m w → AreApart w.streams → IsKindOfLine m (ending_ops m w)

@@ -22,7 +22,7 @@ use Rattle.laws_operation.specs.EntryLaws.{HasName, IsOpenTo}
 use Rattle.laws_lookup.specs.DropLaws.{HasDrop, IsBare}
 use Rattle.laws_lookup.specs.EnteringLaws.{IsEnterable}
 use Rattle.laws_line.specs.Ready.{steps_of}
-use Rattle.laws_line.specs.SoundLines.{IsLine}
+use Rattle.laws_line.specs.SoundLines.{IsKindOfLine}
 use Rattle.exec_words.specs.declared.line.Line.{Line}
 use Rattle.exec_words.specs.declared.line.Line.TheVariants as line
 use Rattle.exec_words.specs.declared.line.Path.{Path}
@@ -58,7 +58,7 @@ pub record HasFile (p : Pack) (w : World) (l : Line) (target : Target) : Type 0 
   pub found : file_at (read_as p) target ≡ Some (the_file (read_as p) target)
   pub file : IsOrdinary (the_file (read_as p) target)
   pub living : lives (sights p) (the_file (read_as p) target) ≡ true
-  pub is_line : IsLine (read_as p) (ops_on p w l)
+  pub is_line : IsKindOfLine (read_as p) (ops_on p w l)
 
 -- the file has so many bytes at least
 abbrev pub Reaches : Pack → Target → ℕ → Type 0
@@ -83,7 +83,7 @@ pub record DropsFile (p : Pack) (w : World) (l : Line) (f : Fid) : Type 0 where
   pub no_system : is_system f ≡ false
   pub bare : IsBare p f
   pub drop : HasDrop p f
-  pub is_line : IsLine (read_as p) (ops_on p w l)
+  pub is_line : IsKindOfLine (read_as p) (ops_on p w l)
 
 abbrev pub DeleteMayBegin : Type 0
 DeleteMayBegin = (p : Pack) (w : World) (path : Path) → Sound p → IsUnrefused p w (line.Delete path)
@@ -119,7 +119,7 @@ pub record MakesFile (p : Pack) (w : World) (l : Line) (d : Fid) (name : List �
   pub fresh : lives (sights p) f ≡ false
   pub no_system : is_system f ≡ false
   pub entry : TakesName p d name f
-  pub is_line : IsLine (read_as p) (ops_on p w l)
+  pub is_line : IsKindOfLine (read_as p) (ops_on p w l)
 
 abbrev pub MakeMayBegin : Type 0
 MakeMayBegin = (p : Pack) (w : World) (path : Path) → Sound p → StatesStored path.wanted → IsUnrefused p w (line.Make path)

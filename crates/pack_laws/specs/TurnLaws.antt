@@ -15,8 +15,8 @@ abbrev pub RunsJoin : {M O : Type 0} → Meaning M O → Type 0
 RunsJoin {M} {O} means = (m : M) (p : Pack) (a b : List Event) (ops more : List O) → Obeys means m p a ops → Obeys means (steps means m ops) (after p a) b more → Obeys means m p (a ++ b) (ops ++ more)
 
 -- The pack crash after k writes of a run stands for the model after its first k moves.
-abbrev pub CutOfRun : {M O : Type 0} → Meaning M O → Type 0
-CutOfRun {M} {O} means = (m : M) (p : Pack) (events : List Event) (ops : List O) → Obeys means m p events ops → (k : ℕ) → means.Stands (steps means m (take k ops)) (crash p events k)
+abbrev pub CrashOfRun : {M O : Type 0} → Meaning M O → Type 0
+CrashOfRun {M} {O} means = (m : M) (p : Pack) (events : List Event) (ops : List O) → Obeys means m p events ops → (k : ℕ) → means.Stands (steps means m (take k ops)) (crash p events k)
 
 -- Some first ones of a run's writes make a prefix of its moves.
 pub record MakesFirst {M O : Type 0} (means : Meaning M O) (m : M) (p : Pack) (events : List Event) (wanted : List O) : Type 0 where
@@ -54,7 +54,7 @@ TurnsAreShown {M} {O} means = (m n : M) (p : Pack) (events : List Event) (turns 
 
 -- ---- calls that are turns
 -- A call that is to be this turn broke off: what it made of it, and whether it was the display that failed.
-pub record BrokenTurn {M O T E : Type 0} (means : Meaning M O) (m : M) (p : Pack) (events : List Event) (wanted : Turn O) (result : Result T E) (display : Bool) : Type 0 where
+pub record BrokenCalls {M O T E : Type 0} (means : Meaning M O) (m : M) (p : Pack) (events : List Event) (wanted : Turn O) (result : Result T E) (display : Bool) : Type 0 where
   pub turn : IsTurn means m p events wanted result
   pub breaks : BreaksAt display turn.made wanted
 
@@ -63,16 +63,16 @@ pub record BrokenTurn {M O T E : Type 0} (means : Meaning M O) (m : M) (p : Pack
 pub record TurnOfCalls {M O : Type 0} (T E F : Type 0) (means : Meaning M O) (x y z : Taped) (t : Turn O) : Type 0 where
   pub whole : (u : T) → Grown x y → Grown y z → Does {E = E} means (pack x) (added x y) t.ops (Ok u) → added y z ≡ shown_events t.text → IsTurn {T = Unit {0}} {E = F} means (means.read (pack x)) (pack x) (added x z) t (Ok tt)
   pub shown : (u : T) (fault : F) → Grown x y → Grown y z → Does {E = E} means (pack x) (added x y) t.ops (Ok u) → IsFirstOf (shown_events t.text) (added y z)
-      → BrokenTurn {T = Unit {0}} means (means.read (pack x)) (pack x) (added x z) t (Err fault) true
-  pub broken : (e : E) (fault : F) → Does {T = T} means (pack x) (added x y) t.ops (Err e) → BrokenTurn {T = Unit {0}} means (means.read (pack x)) (pack x) (added x y) t (Err fault) false
+      → BrokenCalls {T = Unit {0}} means (means.read (pack x)) (pack x) (added x z) t (Err fault) true
+  pub broken : (e : E) (fault : F) → Does {T = T} means (pack x) (added x y) t.ops (Err e) → BrokenCalls {T = Unit {0}} means (means.read (pack x)) (pack x) (added x y) t (Err fault) false
 
 abbrev pub CallsAreTurns : {M O : Type 0} → Type 0 → Type 0 → Type 0 → Meaning M O → Type 0
 CallsAreTurns {M} {O} T E F means = (x y z : Taped) (t : Turn O) → TurnOfCalls T E F means x y z t
 
 -- ---- crash points
 -- Each crash stands for the model after the moves so far, and no operation that was acknowledged is missing.
-abbrev pub CutOfTurns : {M O : Type 0} → (O → ℕ) → Meaning M O → Type 0
-CutOfTurns {M} {O} weight means = (m n : M) (p : Pack) (events : List Event) (turns : List (Turn O)) → Talks means m p events turns n → (k : ℕ) → CutAt weight means m p events turns k
+abbrev pub CrashOfTurns : {M O : Type 0} → (O → ℕ) → Meaning M O → Type 0
+CrashOfTurns {M} {O} weight means = (m n : M) (p : Pack) (events : List Event) (turns : List (Turn O)) → Talks means m p events turns n → (k : ℕ) → CutAt weight means m p events turns k
 
 -- the moves of those turns, from the first on, whose whole texts stand in the bytes
 abbrev pub acknowledged_moves : {O : Type 0} → List (Turn O) → List ℕ → List O

@@ -2,7 +2,7 @@
 //!
 //! They hold of any meaning of moves. `Puts` is one: a move puts bytes in a stored file.
 
-ghost use Rattle.pack_laws.specs.TurnLaws.{AcknowledgedAreDone, CallsAreTurns, CallsJoin, CutOfRun, CutOfTurns, FaultsLeaveAPrefix, RulerLaws, RunBreaksOff, RunsJoin, TurnsAreShown, TurnsJoin, WritesAreMade};
+ghost use Rattle.pack_laws.specs.TurnLaws.{AcknowledgedAreDone, CallsAreTurns, CallsJoin, CrashOfRun, CrashOfTurns, FaultsLeaveAPrefix, RulerLaws, RunBreaksOff, RunsJoin, TurnsAreShown, TurnsJoin, WritesAreMade};
 ghost use Rattle.pack_model.specs.sessions.Moves.{Meaning};
 ghost use Rattle.pack_model.specs.operations.Puts.{Put, putting};
 ghost use Rattle.pack_model.specs.reading.Stored.{StoredFiles};
@@ -42,8 +42,8 @@ pub fn runs_join<X: Moves>()
 {}
 
 /// A pack after a prefix of the writes of a run stands for the model after as many moves.
-pub fn cut_of_run<X: Moves>()
-    ensures { CutOfRun X.means }
+pub fn crash_of_run<X: Moves>()
+    ensures { CrashOfRun X.means }
 {}
 
 /// A prefix of the record writes of a run makes a prefix of its moves.
@@ -80,8 +80,8 @@ pub fn calls_are_turns<X: Moves, T, E, F>()
 
 /// Turns that stop at any crash point leave a pack that stands for the model after the moves so far, with every acknowledged operation in
 /// it.
-pub fn cut_of_turns<X: Moves>()
-    ensures { CutOfTurns X.weight X.means }
+pub fn crash_of_turns<X: Moves>()
+    ensures { CrashOfTurns X.weight X.means }
 {}
 
 /// The moves that the shown bytes acknowledge are the first ones of those that have been made, at every crash point.

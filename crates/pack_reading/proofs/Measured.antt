@@ -27,7 +27,7 @@ use Rattle.pack_laws.proofs.ByLists.{is_shown as shows}
 use Rattle.pack_reading.specs.declared.shown.Shown.{Shown}
 use Rattle.pack_reading.specs.declared.shown.ShownLengths.{ShownLengths}
 use Rattle.pack_reading.specs.Homes.{considered}
-use Rattle.pack_reading.specs.Lengths.{without_data, length_in, file_length, ShowsLengths}
+use Rattle.pack_reading.specs.Lengths.{without_data, length_in, shown_length, ShowsLengths}
 use Rattle.pack_reading.specs.Shows.{shown_file, shown_name, ShowsView}
 use Rattle.pack_reading.proofs.ShownFiles.{stored_entries, view_files}
 use Rattle.pack_reading.proofs.Showing.{view_names}
@@ -136,11 +136,11 @@ module _ (ss : List Sight) where
   length_one true bytes = refl
   length_one false bytes = refl
 
-  lengths_same : (ls : List (Fid × Leader)) → map (λ x. length_in ss x.fid) (map shown_file (seen (stored few ls))) ≡ map file_length (seen (stored ss ls))
+  lengths_same : (ls : List (Fid × Leader)) → map (λ x. length_in ss x.fid) (map shown_file (seen (stored few ls))) ≡ map shown_length (seen (stored ss ls))
   lengths_same [] = refl
   lengths_same (e ∷ ls) =
       let rest = lengths_same ls in
-      elim (shows e.0) as (λ b. map (λ x. length_in ss x.fid) (map shown_file (cond b ((e.0, seen_of e.0 (file_of e.0 (stored_file few e.0 e.1))) ∷ seen (stored few ls)) (seen (stored few ls)))) ≡ map file_length (cond b ((e.0, seen_of e.0 (file_of e.0 (stored_file ss e.0 e.1))) ∷ seen (stored ss ls)) (seen (stored ss ls)))) [
+      elim (shows e.0) as (λ b. map (λ x. length_in ss x.fid) (map shown_file (cond b ((e.0, seen_of e.0 (file_of e.0 (stored_file few e.0 e.1))) ∷ seen (stored few ls)) (seen (stored few ls)))) ≡ map shown_length (cond b ((e.0, seen_of e.0 (file_of e.0 (stored_file ss e.0 e.1))) ∷ seen (stored ss ls)) (seen (stored ss ls)))) [
         | true ↦ λ i. record { fid = e.0; length = length_one (is_directory e.0) (file_bytes ss e.0) i } ∷ rest i
         | false ↦ rest
       ]
@@ -159,7 +159,7 @@ module _ (ss : List Sight) where
         files
         ∙ ap (map (λ x. length_in ss x.fid)) (shows.files ∙ ap (map shown_file) (files_few shape))
         ∙ lengths_same (leaders_of ss)
-        ∙ ap (map file_length) (sym (files_all shape));
+        ∙ ap (map shown_length) (sym (files_all shape));
     names =
         names
         ∙ shows.names

@@ -54,10 +54,10 @@ abbrev pub length_in : List Sight → Fid → FileLength
 length_in ss f = record { fid = f; length = cond (is_directory f) None (Some (length (file_bytes ss f))) }
 
 -- and by what is seen of it
-abbrev pub file_length : Fid × Seen → FileLength
-file_length e = record { fid = e.0; length = option_map (λ bytes. length bytes) e.1.bytes }
+abbrev pub shown_length : Fid × Seen → FileLength
+shown_length e = record { fid = e.0; length = option_map (λ bytes. length bytes) e.1.bytes }
 
 -- all files of a view with their lengths, and all names, in order
 pub record ShowsLengths (shown : ShownLengths) (v : View) : Type 0 where
-  pub files : shown.files ≡ map file_length (shown_files v)
+  pub files : shown.files ≡ map shown_length (shown_files v)
   pub names : shown.names ≡ map shown_name (shown_names v)

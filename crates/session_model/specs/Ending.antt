@@ -1,6 +1,6 @@
 -- A whole session over typed bytes: which lines have turns, how it ends, and what it leaves.
 -- How a session ends is this project's choice.
-use Rattle.std.specs.Prelude.{◌≡◌, ◌≢◌, ◌⊎◌, ◌≤◌, ℕ, suc, Bool, true, false, map, List, [], ◌∷◌, ◌++◌, length, take, drop, Option, Some, None}
+use Rattle.std.specs.Prelude.{◌≡◌, ◌≢◌, ◌≤◌, ℕ, suc, Bool, true, false, map, List, [], ◌∷◌, ◌++◌, length, drop, Option, Some, None}
 use Rattle.disk_records.specs.declared.records.Event.{Event}
 use Rattle.disk_records.specs.declared.records.Page.{Page}
 use Rattle.disk_records.specs.declared.records.Place.{Place}
@@ -10,7 +10,7 @@ use Rattle.disk_records.specs.Tapes.{Taped, pack, added}
 use Rattle.pack_model.specs.hints.Tables.{HintsTrue}
 use Rattle.pack_model.specs.operations.Operations.{Move, weight_of}
 use Rattle.pack_model.specs.reading.Model.{read_as}
-use Rattle.pack_model.specs.sessions.Lines.{lines, ended_lines, most_keys}
+use Rattle.pack_model.specs.sessions.Lines.{TookLines, lines, ended_lines, most_keys}
 use Rattle.pack_model.specs.sessions.Meanings.{session}
 use Rattle.pack_model.specs.sessions.Moves.{IsStartOf}
 use Rattle.pack_model.specs.sessions.Tallies.{no_tally, counted}
@@ -49,15 +49,6 @@ pub data Stop : Type 0 where
   no_memory : Stop
 
 -- ---- the keys that were taken
--- the keys of these lines, each with the byte 10 that ends it
-abbrev pub keys_of : List (List ℕ) → List ℕ
-keys_of [] = []
-keys_of (line ∷ lines) = line ++ 10 ∷ keys_of lines
-
--- those of so many lines from the first on, and none after them; or all keys that count
-abbrev pub TookLines : List ℕ → List ℕ → List ℕ → ℕ → Type 0
-TookLines old new taken count = (taken ≡ keys_of (take count (lines old))) ⊎ ((count ≡ length (lines old)) × (new ≡ drop most_keys old))
-
 -- Each line has its turn before the next one is taken to its end.
 pub record TookKeys (old new : Taped) (stop : Stop) (cues : List Cue) : Type 0 where
   pub taken : List ℕ

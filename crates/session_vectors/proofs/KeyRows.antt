@@ -3,11 +3,11 @@ use Rattle.std.proofs.Common.{◌≡◌, [], ◌∷◌, refl}
 use Rattle.std.specs.Prelude.{codes}
 use Rattle.alto_words.specs.Names.{is_stored_name}
 use Rattle.alto_words.specs.Numbers.{number_in, bytes_in_hex}
-use Rattle.pack_model.specs.sessions.Lines.{longest_line, most_keys}
+use Rattle.pack_model.specs.sessions.Lines.{longest_line, most_keys, keys_of}
 use Rattle.exec_words.specs.declared.line.Line.TheVariants as line
 use Rattle.exec_words.specs.declared.line.Target.TheVariants.{BySerial}
 use Rattle.exec_words.specs.Grammar.{line_in}
-use Rattle.session_model.specs.Ending.{cues_of, typed_cues, keys_of}
+use Rattle.session_model.specs.Ending.{cues_of, typed_cues}
 use Rattle.session_model.specs.Turning.{typed, ended}
 
 nothing_typed : cues_of [] ≡ ended ∷ []

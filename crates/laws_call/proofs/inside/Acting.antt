@@ -21,7 +21,7 @@ use Rattle.laws_call.specs.ActLaws.{ActsOfEachOperation}
 use Rattle.laws_call.specs.Acting.{Acts}
 use Rattle.laws_hint.proofs.changes.Laws.{claims_mark_the_map, releases_mark_the_map, values_leave_the_map}
 use Rattle.laws_hint.specs.MapChanges.{ReleasesMark, ValuesLeave}
-use Rattle.laws_line.proofs.cuts.Laws.{crashes_of_each_operation, crashes_of_enter}
+use Rattle.laws_line.proofs.crashes.Laws.{crashes_of_each_operation, crashes_of_enter}
 use Rattle.laws_line.specs.EachLaws.{EachStays}
 use Rattle.laws_operation.proofs.cut.Laws.{cut_carries_out, cut_keeps_links, cut_takes_no_sector, cut_words_fit}
 use Rattle.laws_operation.proofs.drop.Laws.{drop_carries_out, drop_keeps_links, drop_takes_no_sector}

@@ -20,8 +20,8 @@ use Rattle.pack_laws.proofs.Moving.{start_self}
 use Rattle.laws_call.specs.Acting.{Around, Operates, begun, refused}
 use Rattle.laws_call.specs.GoingLaws.{CallJoins, LineStops, NoCallYet, OperationJoins, SerialAndMakeJoin, SilentCallJoins}
 use Rattle.laws_call.specs.Going.{Goes}
-use Rattle.laws_line.proofs.cuts.Laws.{lines_join}
-use Rattle.laws_line.specs.CutLaws.{Batch, StaysMendable, does, makes, over, with_serial}
+use Rattle.laws_line.proofs.crashes.Laws.{lines_join}
+use Rattle.laws_line.specs.CrashLaws.{Batch, StaysMendable, does, makes, over, with_serial}
 
 -- ---- prefixes and answers
 start_front : {X : Type 0} (a b : List X) → IsStartOf a (a ++ b)

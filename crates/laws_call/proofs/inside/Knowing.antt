@@ -12,7 +12,7 @@ use Rattle.disk_records.specs.declared.records.Event.{Event}
 use Rattle.laws_call.proofs.inside.Writing.{written_acts}
 use Rattle.laws_call.specs.WritingLaws.{StaysKnown, WrittenStaysKnown}
 use Rattle.laws_call.specs.Writing.{Written, cuts, drops, entering_writes, enters, entry_freed, grown_writes, grows, leaves, makes, puts, stamps, titles, widens}
-use Rattle.laws_line.proofs.cuts.Laws.{crashes_of_enter}
+use Rattle.laws_line.proofs.crashes.Laws.{crashes_of_enter}
 use Rattle.laws_lookup.proofs.before.Laws.{cut_misled_before, drop_misled_before, enter_misled_before, grow_misled_before, leave_misled_before, make_misled_before, widen_misled_before}
 use Rattle.laws_lookup.proofs.others.Laws.{cut_keeps_pages, cut_leaves_others, grow_keeps_pages, grow_leaves_others, make_leaves_others, place_is_of_its_file, values_leave_others, widen_keeps_pages, widen_leaves_others}
 use Rattle.laws_lookup.proofs.stays.Laws.{values_misled_before}

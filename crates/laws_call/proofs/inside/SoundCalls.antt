@@ -10,7 +10,7 @@ use Rattle.laws_call.specs.Going.{Goes}
 use Rattle.laws_call.specs.SoundCalls.{CallsOnASoundPack, LineFits}
 use Rattle.laws_hint.specs.LineLinks.{opening_writes}
 use Rattle.laws_line.proofs.sound.Laws.{broken_line_on_a_sound_pack, crashes_of_a_line_on_a_sound_pack, part_of_a_line_on_a_sound_pack}
-use Rattle.laws_line.specs.CutLaws.{Batch, over}
+use Rattle.laws_line.specs.CrashLaws.{Batch, over}
 use Rattle.laws_line.specs.SoundLines.{LineOnSound}
 use Rattle.laws_line.specs.SoundParts.{BreaksOnSound, PartOnSound}
 

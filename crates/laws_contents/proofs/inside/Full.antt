@@ -10,7 +10,7 @@ use Rattle.pack_laws.proofs.Joining.{Reaches, continue, front, is_full, joined-s
 use Rattle.pack_laws.proofs.Placing.{place_of_page, short_pages}
 use Rattle.laws_contents.proofs.inside.Counted.{labels_count, page_numbers_are_words, pages_are_their_counted_bytes}
 use Rattle.laws_contents.proofs.inside.Parts.{Parts}
-use Rattle.laws_contents.specs.PageLaws.{FullBefore, FullBeforeTheNext, IsFull, NoneBeforeTheFirst, bytes_at}
+use Rattle.laws_contents.specs.PageLaws.{FullBefore, FullBeforeTheNext, IsFullPage, NoneBeforeTheFirst, bytes_at}
 
 -- ---- full pages
 pub none_before_the_first : NoneBeforeTheFirst
@@ -18,7 +18,7 @@ none_before_the_first p f = record { each = λ j l. absurd (omega arith) }
 
 pub full_before_the_next : FullBeforeTheNext
 full_before_the_next p f k h full = record {
-  each = λ j l. elim (cases_lt j k) as (λ x. IsFull p f j) [ inl below ↦ h.each j below | inr past ↦ let e : k ≡ j = omega arith in subst (IsFull p f) e full ];
+  each = λ j l. elim (cases_lt j k) as (λ x. IsFullPage p f j) [ inl below ↦ h.each j below | inr past ↦ let e : k ≡ j = omega arith in subst (IsFullPage p f) e full ];
 }
 
 -- they are full in the definition of a file's bytes
@@ -30,7 +30,7 @@ reaches p f k h = record {
 }
 
 -- and the other way
-is_full_here : (p : Pack) (f : Fid) (j : ℕ) (r : Option (List ℕ)) → page (sights p) f j ≡ r → is_full r ≡ true → IsFull p f j
+is_full_here : (p : Pack) (f : Fid) (j : ℕ) (r : Option (List ℕ)) → page (sights p) f j ≡ r → is_full r ≡ true → IsFullPage p f j
 is_full_here p f j None e full = cc
 is_full_here p f j (Some bytes) e full =
     let x = place_of_page (sights p) f j bytes e in

@@ -10,7 +10,7 @@ use Rattle.pack_laws.proofs.Placing.{carries-holds, page_of_place}
 use Rattle.laws_record.proofs.Carried.{place_of_carried, seat_in}
 use Rattle.laws_record.proofs.Seats.{seat_range}
 use Rattle.laws_contents.proofs.inside.Counted.{pages_are_their_counted_bytes}
-use Rattle.laws_contents.specs.PageLaws.{FullBefore, FullBeforeEachOfAWholePack, IsFull, bytes_at}
+use Rattle.laws_contents.specs.PageLaws.{FullBefore, FullBeforeEachOfAWholePack, IsFullPage, bytes_at}
 
 -- a page of these, which isn't the last: its sector and its 512 bytes
 record Early (ss : List Sight) (f : Fid) (k : ℕ) : Type 0 where
@@ -27,7 +27,7 @@ early ss f k (c ∷ d ∷ cs) zero s h l = let z : k ≡ k + 0 = omega arith in 
 early ss f k (c ∷ d ∷ cs) (suc j) s h l = let z : suc k + j ≡ k + suc j = omega arith in subst (Early ss f) z (early ss f (suc k) (d ∷ cs) j s.1 h.1 (omega arith))
 
 -- it is full in the pack
-full_page : (p : Pack) (f : Fid) (k : ℕ) → FileWhole (sights p) f → Early (sights p) f k → IsFull p f k
+full_page : (p : Pack) (f : Fid) (k : ℕ) → FileWhole (sights p) f → Early (sights p) f k → IsFullPage p f k
 full_page p f k whole x =
     let place = place_of_carried (sights p) f whole (suc k) x.at (ap (carries_page f (suc k)) x.shows ∙ carries-holds f k x.bytes) in
     let h = page_of_place (sights p) f k x.at place in

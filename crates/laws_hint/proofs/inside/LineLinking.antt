@@ -16,10 +16,10 @@ use Rattle.pack_model.specs.operations.Step.Operation.{drop_file}
 use Rattle.pack_model.specs.states.Whole.{Tidy, Whole}
 use Rattle.laws_operation.specs.DescriptorLaws.{KeepsSound}
 use Rattle.laws_operation.specs.LinkLaws.{KeepsLinks}
-use Rattle.laws_line.specs.CutLaws.{Batch, LineStays, does, makes, over, with_serial}
+use Rattle.laws_line.specs.CrashLaws.{Batch, LineStays, does, makes, over, with_serial}
 use Rattle.laws_hint.proofs.inside.ClosedHints.{closing_leaves_hints_true}
 use Rattle.laws_hint.specs.LineLinks.{EachKeepsLinks, LineClosesWithTrueHints, LineKeepsLinks, LinksJoin, OpenedLineKeepsLinks, opening_writes}
-use Rattle.laws_line.proofs.cuts.Laws.{crashes_of_an_unmarked_line, open_pack_is_unmarked}
+use Rattle.laws_line.proofs.crashes.Laws.{crashes_of_an_unmarked_line, open_pack_is_unmarked}
 use Rattle.laws_operation.proofs.descriptor.Laws.{open_carries_out, open_keeps_links, serial_keeps_links}
 use Rattle.laws_room.proofs.marks.Laws.{unmarked_is_unclean}
 

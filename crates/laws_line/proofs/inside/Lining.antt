@@ -23,13 +23,13 @@ use Rattle.pack_model.specs.states.Whole.{Tidy, Whole}
 use Rattle.pack_laws.proofs.Moving.{obeys_then, stands_last}
 use Rattle.laws_line.specs.Ready.{Ready, ReadyThroughout, steps_of}
 use Rattle.laws_operation.proofs.EnterStages.{views_of}
-use Rattle.laws_operation.specs.DescriptorLaws.{Opens}
+use Rattle.laws_operation.specs.DescriptorLaws.{OpensMark}
 use Rattle.laws_line.proofs.inside.crashes.Cutting.{mendable_still}
 use Rattle.laws_line.proofs.inside.Marked.{open_pack_is_unmarked, opened_unmarked, serial_unmarked}
 use Rattle.laws_line.proofs.inside.crashes.OneCommit.{moves_step}
 use Rattle.laws_line.proofs.inside.crashes.Parting.{crashes_of_both_parts}
 use Rattle.laws_line.proofs.inside.crashes.Still.{still_self}
-use Rattle.laws_line.specs.CutLaws.{CrashesOfALine, CrashesOfAnUnmarkedLine, Batch, LineStays, LinesJoin, does, makes, over, with_serial}
+use Rattle.laws_line.specs.CrashLaws.{CrashesOfALine, CrashesOfAnUnmarkedLine, Batch, LineStays, LinesJoin, does, makes, over, with_serial}
 use Rattle.laws_line.proofs.inside.SettledAgain.{first_ready}
 use Rattle.laws_operation.proofs.descriptor.Laws.{open_carries_out, serial_carries_out}
 use Rattle.laws_room.proofs.rooms.Laws.{sound_needs_nothing}
@@ -120,7 +120,7 @@ pub crashes_of_a_line : CrashesOfALine
 crashes_of_a_line p at events [] sound placed some line = absurd (omega arith)
 crashes_of_a_line p at events (o ∷ ops) sound placed some line = by (mark_of (sights p) == mark_open) refl (open_carries_out p at o ops sound.whole sound.tidy placed) line
   where
-    by : (c : Bool) → (mark_of (sights p) == mark_open) ≡ c → Opens p (cond c [] (value_writes at (opened_value (sector_at p at).value))) (cond c [] (quiet ∷ [])) → Batch (after p (cond c [] (value_writes at (opened_value (sector_at p at).value)))) events (o ∷ ops)
+    by : (c : Bool) → (mark_of (sights p) == mark_open) ≡ c → OpensMark p (cond c [] (value_writes at (opened_value (sector_at p at).value))) (cond c [] (quiet ∷ [])) → Batch (after p (cond c [] (value_writes at (opened_value (sector_at p at).value)))) events (o ∷ ops)
         → LineStays p (cond c [] (value_writes at (opened_value (sector_at p at).value)) ++ events) (o ∷ ops) (cond c [] (quiet ∷ []) ++ moves_of_all (read_as p) (o ∷ ops))
     by true e opens line = leaves line sound.whole sound.tidy (open_pack_is_unmarked p sound.whole (eqb-true (mark_of (sights p)) mark_open e))
     by false e opens line =

@@ -13,7 +13,7 @@ use Rattle.pack_model.specs.reading.Slots.{Item}
 use Rattle.pack_model.specs.reading.Slots.Item.{entry, space}
 use Rattle.laws_operation.proofs.Rows.{ordinary_length}
 use Rattle.laws_operation.specs.DirectoryWords.{HasEntry}
-use Rattle.laws_line.specs.SoundLines.IsLine.{changes, goes}
+use Rattle.laws_line.specs.SoundLines.IsKindOfLine.{changes, goes}
 use Rattle.laws_met.specs.Peopled.{bytes_more, after_cut, cutting, dir_d, dropping, file_a, after_growth, growing, name_a, name_d, name_z, peopled, after_put, putting, after_stamp, stamping, after_title, titling, after_widening}
 use Rattle.laws_met.specs.Premises.{LineRuns, changing_events, changing_line, drop_events, drop_line, system_items}
 use Rattle.laws_met.proofs.inside.FactsC.{cut_facts, grown_facts, put_facts, stamped_facts, titled_facts}

@@ -12,7 +12,7 @@ use Rattle.pack_model.specs.reading.Model.{read_as}
 use Rattle.pack_model.specs.states.Sound.{Sound}
 use Rattle.laws_operation.specs.FileWords.{CanGrow}
 use Rattle.laws_format.proofs.formatted.Laws.{formatted_pack_begins_a_session, formatted_pack_has_free_sectors}
-use Rattle.laws_line.specs.SoundLines.{IsLine}
+use Rattle.laws_line.specs.SoundLines.{IsKindOfLine}
 use Rattle.laws_met.specs.Peopled.{bytes_a, entered_a, file_a, formatted_pack, grown_a, growing, name_a, opened, opening, room_a, small}
 use Rattle.laws_met.specs.Premises.{LineRuns, file_events, file_line}
 use Rattle.laws_met.proofs.inside.FactsA.{formatted_root, found_a, in_entered, in_formatted, in_opened, items_before, made_is, made_root, names_fit_a, numbered_is, numbered_root}
@@ -58,7 +58,7 @@ done_a : LineDone opened file_events file_line
 done_a = new_file_done opened sys_dir file_a name_a 5 6 items_before found_a room_a stands_open names_fit_a in_opened.0 (let e = in_opened.1 in omega arith) numbered_root numbered_is (omega arith) made_root made_is growth (grow file_a bytes_a ∷ [])
     (done_more entered_a (growing entered_a file_a 0 bytes_a (7 ∷ []) 6) [] (grow file_a bytes_a) [] refl grown_it (done_none grown_a))
 
-is_line_a : IsLine (read_as formatted_pack) file_line
+is_line_a : IsKindOfLine (read_as formatted_pack) file_line
 is_line_a = is_new_file formatted_pack sys_dir file_a name_a (grow file_a bytes_a ∷ []) items_before items_before stands_formatted formatted_root formatted_root refl refl refl in_formatted.1 refl refl (omega arith) (tt, tt)
 
 pub ran_a : LineRuns formatted_pack file_events file_line

@@ -33,7 +33,7 @@ use Rattle.laws_operation.proofs.put.Laws.{put_keeps_links, put_words_fit}
 use Rattle.laws_operation.proofs.stamp.Laws.{stamp_keeps_links, stamp_words_fit}
 use Rattle.laws_operation.proofs.title.Laws.{title_keeps_links, title_words_fit}
 use Rattle.laws_operation.proofs.widen.Laws.{widen_keeps_links, widen_words_fit}
-use Rattle.laws_line.proofs.cuts.Laws.{crashes_of_each_operation}
+use Rattle.laws_line.proofs.crashes.Laws.{crashes_of_each_operation}
 use Rattle.laws_met.specs.Peopled.{cutting, dropping, growing, leaving, putting, stamping, titling}
 use Rattle.laws_met.proofs.inside.Operating.{Done, Stands}
 

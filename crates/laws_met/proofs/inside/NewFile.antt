@@ -24,10 +24,10 @@ use Rattle.pack_model.specs.sessions.Descriptor.{serial_writes}
 use Rattle.laws_operation.specs.DirectoryWords.{CanEnter, left_in}
 use Rattle.laws_operation.specs.EntryLaws.{is_of_another}
 use Rattle.laws_operation.specs.FileWords.{CanMake}
-use Rattle.laws_line.specs.CutLaws.{with_serial}
+use Rattle.laws_line.specs.CrashLaws.{with_serial}
 use Rattle.laws_line.specs.LineLaws.{LeaveNames, with_new_file}
-use Rattle.laws_line.specs.SoundLines.{IsLine}
-use Rattle.laws_line.specs.SoundLines.IsLine.{comes}
+use Rattle.laws_line.specs.SoundLines.{IsKindOfLine}
+use Rattle.laws_line.specs.SoundLines.IsKindOfLine.{comes}
 use Rattle.laws_line.proofs.after.Laws.{directories_are_read}
 use Rattle.laws_met.specs.Peopled.{entering, making}
 use Rattle.laws_met.proofs.inside.Lines.{is_in_model, items_of_words, may_enter_made, not_in_model, plain_line}
@@ -140,8 +140,8 @@ module _ (q : Pack) (d f : Fid) (name : List ℕ) (leader_at page_at : ℕ) (ite
 -- it is a line of the operating system, by the model before it
 pub is_new_file : (p : Pack) (d f : Fid) (name : List ℕ) (rest : List Operation) (roots items : List Item) → Stands p → DirectoryIs p sys_dir roots → DirectoryIs p d items → is_directory d ≡ true → is_fid d disk_descriptor ≡ false → is_fid f disk_descriptor ≡ false → lives (sights p) f ≡ false
     → nat_le longest_entry (largest_run roots) ≡ true → (is_fid d sys_dir || nat_le (entry_length (length name)) (largest_run items)) ≡ true → length name ≤ 39 → LeaveNames (with_new_file (read_as p) d name f 1000) rest
-    → IsLine (read_as p) (make f name 1000 ∷ enter d name f ∷ rest)
+    → IsKindOfLine (read_as p) (make f name 1000 ∷ enter d name f ∷ rest)
 is_new_file p d f name rest roots items s root dir is no_descriptor f_no_descriptor dead long room short leaves =
-    subst (IsLine (read_as p))
+    subst (IsKindOfLine (read_as p))
     (plain_line (read_as p) d name f rest roots items (items_of_words p sys_dir roots s root.living refl root.slots_are) (items_of_words p d items s dir.living is dir.slots_are) long room)
     (comes d name f 1000 rest (directories_are_read p d is (is_in_model p d no_descriptor dir.living)) short (not_in_model p f f_no_descriptor dead) leaves)

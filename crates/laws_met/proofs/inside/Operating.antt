@@ -29,9 +29,9 @@ use Rattle.laws_operation.proofs.descriptor.Laws.{open_carries_out, open_keeps_l
 use Rattle.laws_operation.proofs.enter.Laws.{enter_keeps_links, enter_words_fit}
 use Rattle.laws_operation.proofs.grow.Laws.{grow_keeps_links, grow_words_fit}
 use Rattle.laws_operation.proofs.make.Laws.{make_keeps_links, make_words_fit}
-use Rattle.laws_line.specs.CutLaws.{Batch, StaysMendable, does, makes, over, with_serial}
-use Rattle.laws_line.specs.SoundLines.{IsLine}
-use Rattle.laws_line.proofs.cuts.Laws.{crashes_of_each_operation, crashes_of_enter}
+use Rattle.laws_line.specs.CrashLaws.{Batch, StaysMendable, does, makes, over, with_serial}
+use Rattle.laws_line.specs.SoundLines.{IsKindOfLine}
+use Rattle.laws_line.proofs.crashes.Laws.{crashes_of_each_operation, crashes_of_enter}
 use Rattle.laws_line.proofs.sound.Laws.{crashes_of_a_line_on_a_sound_pack}
 use Rattle.laws_hint.specs.LineLinks.{EachKeepsLinks}
 use Rattle.laws_hint.proofs.lines.Laws.{opened_line_keeps_links}
@@ -106,7 +106,7 @@ pub done_make : (p : Pack) (at last : ℕ) (events later : List Event) (f : Fid)
 done_make p at last events later f name moment ops placed above d rest = record { line = makes placed above d.stays rest.line; links = (d.links, rest.links) }
 
 -- the line is done on a sound pack, after the opening of the mark
-pub ran : (p : Pack) (events : List Event) (ops : List Operation) → Sound p → LinksTrue p → place (sights p) disk_descriptor 1 ≡ Some 4 → 0 < length ops → IsLine (read_as p) ops → pages_for_operations (read_as p) ops ≤ free_sector_count (sights p)
+pub ran : (p : Pack) (events : List Event) (ops : List Operation) → Sound p → LinksTrue p → place (sights p) disk_descriptor 1 ≡ Some 4 → 0 < length ops → IsKindOfLine (read_as p) ops → pages_for_operations (read_as p) ops ≤ free_sector_count (sights p)
     → LineDone (after p (opening p)) events ops → LineRuns p events ops
 ran p events ops sound links placed some is enough d = record {
   sound = sound;
@@ -124,7 +124,7 @@ ran p events ops sound links placed some is enough d = record {
 pub opened_already : (p : Pack) → mark_of (sights p) ≡ mark_open → opening p ≡ []
 opened_already p open_is = ap (λ mark. open_writes mark 4 (sector_at p 4).value) open_is
 
-pub ran_on : (p : Pack) (events : List Event) (ops : List Operation) → mark_of (sights p) ≡ mark_open → Sound p → LinksTrue p → place (sights p) disk_descriptor 1 ≡ Some 4 → 0 < length ops → IsLine (read_as p) ops → pages_for_operations (read_as p) ops ≤ free_sector_count (sights p)
+pub ran_on : (p : Pack) (events : List Event) (ops : List Operation) → mark_of (sights p) ≡ mark_open → Sound p → LinksTrue p → place (sights p) disk_descriptor 1 ≡ Some 4 → 0 < length ops → IsKindOfLine (read_as p) ops → pages_for_operations (read_as p) ops ≤ free_sector_count (sights p)
     → LineDone p events ops → LineRuns p events ops
 ran_on p events ops open_is sound links placed some is enough d =
     ran p events ops sound links placed some is enough (subst (λ first. LineDone (after p first) events ops) (sym (opened_already p open_is)) d)

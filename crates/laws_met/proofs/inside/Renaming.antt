@@ -7,8 +7,8 @@ use Rattle.pack_model.specs.operations.Rooms.{find_room}
 use Rattle.pack_model.specs.operations.Step.Operation.{enter, leave, title}
 use Rattle.pack_model.specs.reading.Model.{dir_items, read_as}
 use Rattle.laws_operation.specs.DirectoryWords.{CanEnter, HasEntry, left_in}
-use Rattle.laws_line.specs.SoundLines.{IsLine}
-use Rattle.laws_line.specs.SoundLines.IsLine.{renamed}
+use Rattle.laws_line.specs.SoundLines.{IsKindOfLine}
+use Rattle.laws_line.specs.SoundLines.IsKindOfLine.{renamed}
 use Rattle.laws_line.proofs.after.Laws.{directories_are_read}
 use Rattle.laws_met.specs.Peopled.{dir_d, entering, file_a, leaving, left, name_a, name_c, peopled, retitled, room_c, titling}
 use Rattle.laws_met.specs.Premises.{LineRuns, found_c, renaming_events, renaming_line, system_items}
@@ -65,11 +65,11 @@ renaming_done =
     (done_more left (entering left room_c file_a 5 name_c) [] (enter dir_d name_c file_a) [] refl entered_done
     (done_none _)))
 
-is_renaming : IsLine (read_as peopled) renaming_line
+is_renaming : IsKindOfLine (read_as peopled) renaming_line
 is_renaming =
     let roots = items_of_words peopled sys_dir root_items stands_b root_is.living refl root_is.slots_are in
     let items = items_of_words peopled dir_d inner_items stands_b inner_is.living refl inner_is.slots_are in
-    subst (IsLine (read_as peopled)) (plain_rename (read_as peopled) sys_dir name_a dir_d name_c file_a root_items inner_items roots items refl refl)
+    subst (IsKindOfLine (read_as peopled)) (plain_rename (read_as peopled) sys_dir name_a dir_d name_c file_a root_items inner_items roots items refl refl)
     (renamed sys_dir name_a dir_d name_c file_a (directories_are_read peopled dir_d refl (is_in_model peopled dir_d refl inner_is.living)) (record { before = system_items; own = name_a; behind = items_then; items_are = roots; same = refl; first = refl }) (omega arith) refl)
 
 pub renaming_runs : LineRuns peopled renaming_events renaming_line

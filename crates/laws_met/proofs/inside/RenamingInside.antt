@@ -9,8 +9,8 @@ use Rattle.pack_model.specs.reading.Model.{dir_items, read_as}
 use Rattle.pack_model.specs.reading.Slots.{Item}
 use Rattle.pack_model.specs.reading.Slots.Item.{space}
 use Rattle.laws_operation.specs.DirectoryWords.{CanEnter, left_in}
-use Rattle.laws_line.specs.SoundLines.{IsLine}
-use Rattle.laws_line.specs.SoundLines.IsLine.{renamed}
+use Rattle.laws_line.specs.SoundLines.{IsKindOfLine}
+use Rattle.laws_line.specs.SoundLines.IsKindOfLine.{renamed}
 use Rattle.laws_line.proofs.after.Laws.{directories_are_read}
 use Rattle.laws_met.specs.Peopled.{dir_d, entering, file_b, leaving, left_b, name_b, name_e, peopled, retitled_b, room_e, titling}
 use Rattle.laws_met.specs.Premises.{LineRuns, found_b, inner_renaming_events, inner_renaming_line}
@@ -70,11 +70,11 @@ renaming_done =
     (done_more left_b (entering left_b room_e file_b 10 name_e) [] (enter dir_d name_e file_b) [] refl entered_done
     (done_none _)))
 
-is_renaming : IsLine (read_as peopled) inner_renaming_line
+is_renaming : IsKindOfLine (read_as peopled) inner_renaming_line
 is_renaming =
     let roots = items_of_words peopled sys_dir root_items stands_b root_is.living refl root_is.slots_are in
     let items = items_of_words peopled dir_d inner_items stands_b inner_is.living refl inner_is.slots_are in
-    subst (IsLine (read_as peopled)) (plain_rename (read_as peopled) dir_d name_b dir_d name_e file_b root_items inner_items roots items refl refl)
+    subst (IsKindOfLine (read_as peopled)) (plain_rename (read_as peopled) dir_d name_b dir_d name_e file_b root_items inner_items roots items refl refl)
     (renamed dir_d name_b dir_d name_e file_b (directories_are_read peopled dir_d refl (is_in_model peopled dir_d refl inner_is.living)) (record { before = []; own = name_b; behind = free_then; items_are = items; same = refl; first = refl }) (omega arith) refl)
 
 pub inner_renaming_runs : LineRuns peopled inner_renaming_events inner_renaming_line

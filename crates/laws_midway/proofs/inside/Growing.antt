@@ -10,8 +10,8 @@ use Rattle.disk_records.specs.Packs.{Pack, after, carried, is_free_at, sector_at
 use Rattle.disk_records.specs.declared.records.Page.{Page}
 use Rattle.disk_records.specs.declared.shape.Shape.{Shape}
 use Rattle.laws_contents.proofs.model.Laws.{model_lengths_are_of_bytes}
-use Rattle.laws_line.proofs.cuts.Laws.{crashes_of_each_operation}
-use Rattle.laws_line.specs.CutLaws.{StaysMendable}
+use Rattle.laws_line.proofs.crashes.Laws.{crashes_of_each_operation}
+use Rattle.laws_line.specs.CrashLaws.{StaysMendable}
 use Rattle.laws_lookup.proofs.others.Laws.{grow_keeps_pages, grow_leaves_others, widen_keeps_pages, widen_leaves_others}
 use Rattle.laws_lookup.specs.OtherLaws.{KeepsPages, LeavesOthers}
 use Rattle.laws_operation.proofs.Commanding.{claim_apart}

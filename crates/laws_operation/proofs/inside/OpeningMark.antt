@@ -20,7 +20,7 @@ use Rattle.pack_laws.proofs.Bytes.{length-put_at}
 use Rattle.laws_record.proofs.Describing.{view_files}
 use Rattle.laws_record.proofs.Slotwise.{put_before, put_after, put_here}
 use Rattle.laws_operation.proofs.FirstWords.{kept_sound, words_read, words_written}
-use Rattle.laws_operation.specs.DescriptorLaws.{KeepsSound, OpenCarriesOut, Opens, SerialCarriesOut}
+use Rattle.laws_operation.specs.DescriptorLaws.{KeepsSound, OpenCarriesOut, OpensMark, SerialCarriesOut}
 
 -- words 4 and 5, or word 6, are no words of the shape
 says_still : (shape : Shape) (words : List ℕ) (word_at : ℕ) (new : List ℕ) → 4 ≤ word_at → word_at + length new ≤ 8 → 16 ≤ length words → SaysShape shape words → SaysShape shape (put_at word_at new words)
@@ -59,7 +59,7 @@ keeps_itself p w t = record { whole = w; tidy = t; sound = λ s. s; places = λ 
 pub open_carries_out : OpenCarriesOut
 open_carries_out p at o ops w t sector = by (mark_of (sights p) == mark_open) refl
   where
-    by : (c : Bool) → (mark_of (sights p) == mark_open) ≡ c → Opens p (cond c [] (value_writes at (opened_value (sector_at p at).value))) (cond c [] (quiet ∷ []))
+    by : (c : Bool) → (mark_of (sights p) == mark_open) ≡ c → OpensMark p (cond c [] (value_writes at (opened_value (sector_at p at).value))) (cond c [] (quiet ∷ []))
     by true e = record { obeys = rest refl; keeps = keeps_itself p w t; marked = eqb-true (mark_of (sights p)) mark_open e }
     by false e =
         let words : List ℕ = descriptor_words (sights p) in

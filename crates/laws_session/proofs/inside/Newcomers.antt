@@ -37,7 +37,7 @@ use Rattle.laws_room.proofs.FreeRoom.{root_lives}
 use Rattle.laws_line.proofs.after.Laws.{directories_are_read}
 use Rattle.laws_line.specs.AfterLaws.{IsDirectory}
 use Rattle.laws_line.specs.LineLaws.{IsEntered, LeaveNames, new_file_line, with_new_file}
-use Rattle.laws_line.specs.SoundLines.{IsLine, comes, renamed}
+use Rattle.laws_line.specs.SoundLines.{IsKindOfLine, comes, renamed}
 use Rattle.exec_words.specs.declared.line.Line.{Line}
 use Rattle.exec_words.specs.declared.line.Line.TheVariants as line
 use Rattle.exec_words.specs.declared.line.Path.{Path}
@@ -189,12 +189,12 @@ below_most l m makes e =
 
 -- ---- the operations of a new file
 -- a line with changes after its entry
-filled_is_line : (m : Model) (d : Fid) (name : List ℕ) (f : Fid) (moment : ℕ) (rest : List Operation) → IsDirectory m d → length name ≤ 39 → contains_key m.files f ≡ false → LeaveNames (with_new_file m d name f moment) rest → IsLine m (new_file_ops m d name f moment ++ rest)
+filled_is_line : (m : Model) (d : Fid) (name : List ℕ) (f : Fid) (moment : ℕ) (rest : List Operation) → IsDirectory m d → length name ≤ 39 → contains_key m.files f ≡ false → LeaveNames (with_new_file m d name f moment) rest → IsKindOfLine m (new_file_ops m d name f moment ++ rest)
 filled_is_line m d name f moment rest dir short new keeps =
     let same : new_file_ops m d name f moment ++ rest ≡ new_file_line m d name f moment rest =
     append_assoc (widenings m d name) (make f name moment ∷ enter d name f ∷ []) rest
     in
-    subst (IsLine m) (sym same) (comes d name f moment rest dir short new keeps)
+    subst (IsKindOfLine m) (sym same) (comes d name f moment rest dir short new keeps)
 
 not_in_model : (p : Pack) (f : Fid) → Whole p → lives (sights p) f ≡ false → contains_key (read_as p).files f ≡ false
 not_in_model p f whole fresh = model_has_the_living p f (by (is_fid f disk_descriptor) refl) ∙ fresh
@@ -211,7 +211,7 @@ makes_file_of p w l d name f rest whole none next takes keeps are = record {
   fresh = next.fresh;
   no_system = next.no_system;
   entry = takes;
-  is_line = line_of p w l none (subst (IsLine (read_as p)) (sym are)
+  is_line = line_of p w l none (subst (IsKindOfLine (read_as p)) (sym are)
       (filled_is_line (read_as p) d name f w.moment rest (in_model p d takes.directory takes.living) (is_stored_name-fits name takes.stored) (not_in_model p f whole next.fresh) keeps));
 }
 

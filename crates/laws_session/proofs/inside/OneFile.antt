@@ -20,7 +20,7 @@ use Rattle.laws_operation.proofs.Rows.{ordinary_length}
 use Rattle.laws_operation.specs.ByteLaws.{IsOrdinary}
 use Rattle.laws_lookup.proofs.dropping.Laws.{bare_file_may_be_dropped, ordinary_file_is_bare}
 use Rattle.laws_lookup.specs.DropLaws.{IsBare}
-use Rattle.laws_line.specs.SoundLines.{IsLine, changes, goes}
+use Rattle.laws_line.specs.SoundLines.{IsKindOfLine, changes, goes}
 use Rattle.exec_words.specs.declared.line.Line.{Line}
 use Rattle.exec_words.specs.declared.line.Line.TheVariants as line
 use Rattle.exec_words.specs.declared.line.Target.{Target}
@@ -80,12 +80,12 @@ there p target whole found kind system =
       living = meant_lives p target f whole is;
     }
 
-pub has_file : (p : Pack) (w : World) (l : Line) (target : Target) → IsThere p target → IsLine (read_as p) (ops_on p w l) → HasFile p w l target
+pub has_file : (p : Pack) (w : World) (l : Line) (target : Target) → IsThere p target → IsKindOfLine (read_as p) (ops_on p w l) → HasFile p w l target
 has_file p w l target t is = record { found = t.found; file = t.file; living = t.living; is_line = is }
 
 -- the operations of a line that isn't refused are such as those of its effect
-pub line_of : (p : Pack) (w : World) (l : Line) → IsUnrefused p w l → IsLine (read_as p) (effect l (read_as p) w).ops → IsLine (read_as p) (ops_on p w l)
-line_of p w l none is = subst (IsLine (read_as p)) (sym (ops_done l (read_as p) w none)) is
+pub line_of : (p : Pack) (w : World) (l : Line) → IsUnrefused p w l → IsKindOfLine (read_as p) (effect l (read_as p) w).ops → IsKindOfLine (read_as p) (ops_on p w l)
+line_of p w l none is = subst (IsKindOfLine (read_as p)) (sym (ops_done l (read_as p) w none)) is
 
 -- ---- lengths
 -- the bytes are there
@@ -136,7 +136,7 @@ drops_file p w l f sound living system bare none are = record {
   no_system = system;
   bare = bare;
   drop = bare_file_may_be_dropped p f sound.whole living system bare;
-  is_line = line_of p w l none (subst (IsLine (read_as p)) (sym are) (goes f (record { no_system = system; bare = bare })));
+  is_line = line_of p w l none (subst (IsKindOfLine (read_as p)) (sym are) (goes f (record { no_system = system; bare = bare })));
 }
 
 pub delete_may_begin : DeleteMayBegin

@@ -7,7 +7,7 @@ use Rattle.pack_model.specs.reading.Model.{Model}
 use Rattle.pack_model.specs.sessions.Meanings.{session, SessionCut}
 use Rattle.pack_model.specs.sessions.Moves.{steps}
 use Rattle.pack_model.specs.sessions.Turns.{Turn, Talks, spoken, begun as none_yet}
-use Rattle.pack_laws.proofs.turns.Laws.{cut_of_turns, turns_are_shown}
+use Rattle.pack_laws.proofs.turns.Laws.{crash_of_turns, turns_are_shown}
 use Rattle.pack_laws.proofs.tallies.Laws.{tally_is_the_ruler}
 use Rattle.laws_session.specs.HistoryLaws.{IsTalk, HistoriesAreTurns, HistoriesAreShown, CrashesOfAHistory, TallyOfAHistory}
 use Rattle.session_model.specs.Histories.{WholeTurn, BrokenTurn, TurnsOf, begun, then, HistoryOf, whole, broken, aloud}
@@ -39,7 +39,7 @@ histories_are_shown p s events cues turns end start h =
 pub crashes_of_a_history : CrashesOfAHistory
 crashes_of_a_history p s events cues turns end start h k =
     let t = histories_are_turns p s events cues turns end start h in
-    cut_of_turns weight_of session s.model t.model p events turns t.talks k
+    crash_of_turns weight_of session s.model t.model p events turns t.talks k
 
 pub tally_of_a_history : TallyOfAHistory
 tally_of_a_history limit p s events cues turns end start h =

@@ -1,6 +1,6 @@
 -- Typed bytes as lines.
 -- The rules of lines are this project's choice.
-use Rattle.std.specs.Prelude.{ℕ, ◌+◌, ◌==◌, ◌^◌, Bool, cond, nat_le, List, [], ◌∷◌, ◌++◌, length, take}
+use Rattle.std.specs.Prelude.{◌≡◌, ◌⊎◌, ℕ, ◌+◌, ◌==◌, ◌^◌, Bool, cond, nat_le, List, [], ◌∷◌, ◌++◌, length, take, drop}
 
 -- so many typed bytes are obeyed in one session; those after them don't count
 unfoldable pub most_keys : ℕ
@@ -33,3 +33,14 @@ ended_lines keys = ended_from [] (take most_keys keys)
 -- a line of more bytes than a line may have
 abbrev pub is_too_long : List ℕ → Bool
 is_too_long line = nat_le (longest_line + 1) (length line)
+
+-- ---- the keys that were taken
+-- the keys of these lines, each with the byte 10 that ends it
+abbrev pub keys_of : List (List ℕ) → List ℕ
+keys_of [] = []
+keys_of (line ∷ lines) = line ++ 10 ∷ keys_of lines
+
+-- The keys taken are those of so many first lines, and no key after them. Where the last line isn't ended by a byte 10, they
+-- are all keys that count, and these are all their lines.
+abbrev pub TookLines : List ℕ → List ℕ → List ℕ → ℕ → Type 0
+TookLines old new taken count = (taken ≡ keys_of (take count (lines old))) ⊎ ((count ≡ length (lines old)) × (new ≡ drop most_keys old))

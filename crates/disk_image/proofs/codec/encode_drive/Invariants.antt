@@ -6,7 +6,7 @@ abbrev pub invariant-loop-sector : goal.invariant-loop-sector
 invariant-loop-sector l = record {
   one : length l.one ≡ 532;
   count : vec_len l.bytes ≡ l.sector-index * 532;
-  room : length l.sectors * 532 ≤ vec_capacity l.bytes;
+  capacity : length l.sectors * 532 ≤ vec_capacity l.bytes;
   whole : All IsWhole (take l.sector-index l.sectors);
   so_far : l.bytes.items ≡ pack_bytes (take l.sector-index l.sectors);
 }

@@ -19,7 +19,7 @@ use Rattle.pack_model.specs.states.Sound.{Sound, mark_of, mark_open}
 use Rattle.pack_laws.proofs.Moving.{obeys_first, obeys_then, stands_last, start_after}
 use Rattle.laws_operation.proofs.EnterStages.{views_of}
 use Rattle.laws_operation.proofs.descriptor.Laws.{open_carries_out}
-use Rattle.laws_operation.specs.DescriptorLaws.{Opens}
+use Rattle.laws_operation.specs.DescriptorLaws.{OpensMark}
 use Rattle.laws_room.proofs.rooms.Laws.{free_is_the_room, sound_needs_nothing}
 use Rattle.laws_line.proofs.inside.Lining.{crashes_of_an_unmarked_line}
 use Rattle.laws_line.proofs.inside.Marked.{open_pack_is_unmarked, opened_unmarked}
@@ -27,7 +27,7 @@ use Rattle.laws_line.proofs.inside.SettledAgain.{prefix_ready}
 use Rattle.laws_line.proofs.inside.SoundSettled.{sound_is_settled}
 use Rattle.laws_line.proofs.inside.crashes.Parting.{crashes_of_parts, operations_are_in_session, viewed_and_mendable_in_session, viewed_and_mendable_operates}
 use Rattle.laws_line.proofs.inside.crashes.SoundLining.{line_after}
-use Rattle.laws_line.specs.CutLaws.{Batch, LineStays}
+use Rattle.laws_line.specs.CrashLaws.{Batch, LineStays}
 use Rattle.laws_line.specs.PartLaws.{MovesOfALineSplit}
 use Rattle.laws_line.specs.Ready.{ReadyThroughout, steps_of}
 use Rattle.laws_line.specs.SoundParts.{BrokenLineOnASoundPack, PartOfALineOnASoundPack, begun_moves}
@@ -77,7 +77,7 @@ opened : (p : Pack) (at : ℕ) (events : List Event) (ops : List Operation) (o :
     → LineStays p (open_writes (mark_of (sights p)) at (sector_at p at).value ++ events) ops (begun_moves (mark_of (sights p)) (read_as p) ops (o ∷ others))
 opened p at events ops o others sound placed line = by (mark_of (sights p) == mark_open) refl (open_carries_out p at o others sound.whole sound.tidy placed) line
   where
-    by : (c : Bool) → (mark_of (sights p) == mark_open) ≡ c → Opens p (cond c [] (value_writes at (opened_value (sector_at p at).value))) (cond c [] (quiet ∷ [])) → Batch (after p (cond c [] (value_writes at (opened_value (sector_at p at).value)))) events ops
+    by : (c : Bool) → (mark_of (sights p) == mark_open) ≡ c → OpensMark p (cond c [] (value_writes at (opened_value (sector_at p at).value))) (cond c [] (quiet ∷ [])) → Batch (after p (cond c [] (value_writes at (opened_value (sector_at p at).value)))) events ops
         → LineStays p (cond c [] (value_writes at (opened_value (sector_at p at).value)) ++ events) ops (cond c [] (quiet ∷ []) ++ moves_of_all (read_as p) ops)
     by true e opens line = crashes_of_an_unmarked_line p events ops sound.whole sound.tidy (open_pack_is_unmarked p sound.whole (eqb-true (mark_of (sights p)) mark_open e)) line
     by false e opens line =

@@ -30,13 +30,13 @@ use Rattle.laws_line.specs.AfterLaws.{SettledAfter}
 use Rattle.laws_line.specs.Ready.{Settled, steps_of}
 use Rattle.laws_line.proofs.inside.Lining.{crashes_of_a_line}
 use Rattle.laws_line.proofs.inside.crashes.Parting.{viewed_and_mendable_in_session, viewed_and_mendable_operates}
-use Rattle.laws_line.specs.CutLaws.{LineStays}
-use Rattle.laws_line.specs.SoundLines.{CrashesOfALineOnASoundPack, IsLine, changes, comes, goes, renamed}
+use Rattle.laws_line.specs.CrashLaws.{LineStays}
+use Rattle.laws_line.specs.SoundLines.{CrashesOfALineOnASoundPack, IsKindOfLine, changes, comes, goes, renamed}
 use Rattle.laws_room.proofs.rooms.Laws.{free_is_the_room}
 
 -- ---- the model
 -- each kind of line keeps a settled model ready where there is room for the pages that it adds, and leaves a settled one
-pub line_after : (m : Model) (ops : List Operation) → Settled m → IsLine m ops → pages_for_operations m ops ≤ room m → SettledAfter m ops
+pub line_after : (m : Model) (ops : List Operation) → Settled m → IsKindOfLine m ops → pages_for_operations m ops ≤ room m → SettledAfter m ops
 line_after m _ s (changes ops leave) few = settled_after_changes m ops s leave few
 line_after m _ s (goes f may) few = settled_after_drop m f s may
 line_after m _ s (comes d name f moment rest dir short new leave) few = settled_after_new_file m d name f moment rest s dir short new leave few

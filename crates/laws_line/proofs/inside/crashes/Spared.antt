@@ -29,7 +29,7 @@ use Rattle.laws_operation.proofs.EnterMoves.{values-append}
 use Rattle.laws_operation.proofs.Lying.{shows_set, within}
 use Rattle.laws_operation.specs.NameLaws.{entry_room}
 use Rattle.laws_line.proofs.inside.crashes.Sparing.{IsElse, claim_spares, names_else, reclaim_spares, relabel_spares, release_spares, releases_spare, shown_free, value_alone}
-use Rattle.laws_line.specs.SpareLaws.{CutLeavesTheSystem, DropLeavesTheSystem, EnterLeavesTheSystem, GrowLeavesTheSystem, LeaderLeavesTheSystem, MakeLeavesTheSystem, PutLeavesTheSystem, ReleaseLeavesTheSystem, SlotLeavesTheSystem, LeavesSystem, LeavesSystemAt, WidenLeavesTheSystem}
+use Rattle.laws_line.specs.SystemLaws.{CutLeavesTheSystem, DropLeavesTheSystem, EnterLeavesTheSystem, GrowLeavesTheSystem, LeaderLeavesTheSystem, MakeLeavesTheSystem, PutLeavesTheSystem, ReleaseLeavesTheSystem, SlotLeavesTheSystem, LeavesSystem, LeavesSystemAt, WidenLeavesTheSystem}
 
 -- ---- names of files
 -- an ordinary file isn't SysDir

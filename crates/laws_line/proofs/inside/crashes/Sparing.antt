@@ -23,7 +23,7 @@ use Rattle.laws_record.proofs.Recording.{free_sight}
 use Rattle.laws_operation.proofs.Commanding.{ones_none}
 use Rattle.laws_operation.proofs.Showing.{free_is, is_here, usable_is}
 use Rattle.laws_operation.specs.ByteLaws.{Bear}
-use Rattle.laws_line.specs.SpareLaws.{LeavesSystem, RecordLeavesSystem, LeavesSystemAt}
+use Rattle.laws_line.specs.SystemLaws.{LeavesSystem, RecordLeavesSystem, LeavesSystemAt}
 
 -- a page of another file than DiskDescriptor, and not SysDir's leader
 pub record IsElse (x : Page) : Type 0 where

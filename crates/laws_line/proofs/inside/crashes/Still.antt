@@ -24,7 +24,7 @@ use Rattle.laws_record.proofs.Copying.{place_carried}
 use Rattle.laws_record.proofs.Recording.{carried_sight}
 use Rattle.laws_room.specs.RoomLaws.{SystemStands}
 use Rattle.laws_line.proofs.inside.crashes.Sparing.{root_carried}
-use Rattle.laws_line.specs.SpareLaws.{LeavesSystem, RecordLeavesSystem, LeavesSystemAt}
+use Rattle.laws_line.specs.SystemLaws.{LeavesSystem, RecordLeavesSystem, LeavesSystemAt}
 use Rattle.pack_laws.proofs.files.Laws.{places_are_lowest}
 
 -- Sector 1 and each sector with a page of DiskDescriptor are as they were, and no other has one.

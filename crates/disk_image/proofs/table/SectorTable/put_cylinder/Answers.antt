@@ -4,7 +4,7 @@ use Rattle.disk_image.proofs.table.SectorTable.put_cylinder.Goals as goal
 
 pub loop-sector-preserved : goal.loop-sector-preserved
 loop-sector-preserved c = record {
-  room = search rules;
+  capacity = search rules;
   long = search rules;
   here = keeps_more c.loop-sector.self c.put.new.self c.args.first c.loop-sector.sector c.read_sector.result c.args.bytes.now _ (omega arith) c.loop-sector.invariant.here c.put.ensures.here c.put.ensures.others c.read_sector.ensures.bytes;
   below = search rules;

@@ -1,0 +1,5 @@
+use Rattle.laws_line.proofs.inside.Lining.{crashes_of_an_unmarked_line}
+use Rattle.laws_line.proofs.crashes.crashes_of_an_unmarked_line.Goals as goal
+
+pub returns : goal.returns
+returns c = crashes_of_an_unmarked_line

@@ -1,5 +1,0 @@
-use Rattle.laws_line.proofs.inside.crashes.Cutting.{crashes_of_an_operation}
-use Rattle.laws_line.proofs.cuts.crashes_of_an_operation.Goals as goal
-
-pub returns : goal.returns
-returns c = crashes_of_an_operation

@@ -1,5 +1,0 @@
-use Rattle.laws_line.proofs.inside.crashes.Staying.{crashes_of_each_operation}
-use Rattle.laws_line.proofs.cuts.crashes_of_each_operation.Goals as goal
-
-pub returns : goal.returns
-returns c = crashes_of_each_operation

@@ -1,5 +1,0 @@
-use Rattle.laws_line.proofs.inside.crashes.Cutting.{crashes_of_enter}
-use Rattle.laws_line.proofs.cuts.crashes_of_enter.Goals as goal
-
-pub returns : goal.returns
-returns c = crashes_of_enter

@@ -1,5 +1,0 @@
-use Rattle.laws_line.proofs.inside.Lining.{lines_join}
-use Rattle.laws_line.proofs.cuts.lines_join.Goals as goal
-
-pub returns : goal.returns
-returns c = lines_join

@@ -1,5 +1,0 @@
-use Rattle.laws_line.proofs.inside.Marked.{open_pack_is_unmarked}
-use Rattle.laws_line.proofs.cuts.open_pack_is_unmarked.Goals as goal
-
-pub returns : goal.returns
-returns c = open_pack_is_unmarked

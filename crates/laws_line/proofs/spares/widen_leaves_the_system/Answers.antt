@@ -1,5 +1,0 @@
-use Rattle.laws_line.proofs.inside.crashes.Spared.{widen_leaves_the_system}
-use Rattle.laws_line.proofs.spares.widen_leaves_the_system.Goals as goal
-
-pub returns : goal.returns
-returns c = widen_leaves_the_system
