@@ -4,7 +4,7 @@ use Rattle.std.proofs.lemmas.List.{append-nil, length-append}
 use Rattle.disk_records.specs.Tapes.{Taped}
 use Rattle.pack_model.specs.sessions.Lines.{lines, ended_lines, most_keys, TookLines}
 use Rattle.pack_model.specs.operations.Puts.{putting}
-use Rattle.pack_laws.proofs.Talking.{talks_cut, talks_shown}
+use Rattle.pack_laws.proofs.Talking.{crash_of_turns, talks_shown}
 use Rattle.alto_top.specs.Keys.{TookPart}
 use Rattle.alto_top.specs.Patches.{turn_of}
 use Rattle.alto_top.specs.declared.status.Fault.{Fault}
@@ -36,7 +36,7 @@ broke {first} {x} {y} {done} {line} {whole} {left} {fault} next answer is not_ke
       history = subst (λ t. IsHistory answer (files_of first) (lines first.keys) (t ++ turn.made ∷ [])) (sym going.are) (subst (λ l. IsHistory answer (files_of first) l (turns_of (files_of first) done ++ turn.made ∷ [])) (sym all) history);
       talks = talks;
       shown = talks_shown putting talks;
-      cuts = talks_cut putting one_each talks;
+      cuts = crash_of_turns putting one_each talks;
       done = λ done. absurd (no_fault_is_done fault (sym is ∙ done));
       taken = split.taken;
       split = split.split;
@@ -57,7 +57,7 @@ module _ {first y : Taped} {done : List (List ℕ)} (going : Going first y done)
         history = subst (IsHistory answer (files_of first) (lines first.keys)) (sym going.are) (subst (λ l. IsHistory answer (files_of first) l (turns_of (files_of first) done)) (sym all) (history_front answer (files_of first) done more no_fault));
         talks = going.talks;
         shown = talks_shown putting going.talks;
-        cuts = talks_cut putting one_each going.talks;
+        cuts = crash_of_turns putting one_each going.talks;
         done = λ is. (going.are ∙ ap (turns_of (files_of first)) (sym (whole is).0), (whole is).1);
         taken = keys;
         split = split;

@@ -27,7 +27,7 @@ pub record ByPart (before part later : List Event) (first last : Taped) (inner :
   pub want : IsErrOf inner guard.Memory → first.spare < length (before ++ (part ++ later))
 
 -- What a guarded command for these record writes says of them, whatever its guard: a prefix of them was written, at Ok all, and it is out
--- of memory only if fewer events were kept ready. `guarded_writes` of proofs/Guards gives it.
+-- of memory only if fewer events were kept ready. `guarded_writes` of proofs/inside/Guards gives it.
 pub record WritesPart (part : List Event) (old new : Taped) (inner : Result (Unit {0}) GuardError) : Type 0 where
   pub prefix : IsFirstOf part (added old new)
   pub ok : OnOk inner (added old new ≡ part)

@@ -21,7 +21,7 @@ use Rattle.pack_model.specs.operations.Operations.Move.{quiet}
 use Rattle.pack_model.specs.reading.Sights.{sights}
 use Rattle.pack_model.specs.states.Sound.{mark_clean, mark_of}
 use Rattle.pack_model.specs.states.Whole.{Tidy, Whole}
-use Rattle.pack_laws.proofs.Moving.{obeys_cut, obeys_then, stands_last}
+use Rattle.pack_laws.proofs.Moving.{crash_of_run, obeys_then, stands_last}
 use Rattle.laws_operation.proofs.inside.Closed.{Marks, close_value_size, first_page}
 use Rattle.laws_operation.proofs.inside.Closing.{Mid, later_page, mid_itself, mid_twice}
 use Rattle.laws_operation.proofs.EnterMoves.{values-append}
@@ -106,7 +106,7 @@ close_carries_out p busy pages w t h = by (mark_of (sights p) == mark_clean) ref
         let events : List Event = es ++ value_writes at value in
         let at_end : after p events ≡ r = after-append p es (value_writes at value) in
         let keeps_end : KeepsSound p (after p events) = subst (KeepsSound p) (sym at_end) (record { whole = m0.keeps.whole; tidy = m0.keeps.tidy; sound = λ x. m0.keeps.sound (mid.keeps.sound x); places = λ n. m0.keeps.places n ∙ mid.keeps.places n }) in
-        let early : (k : ℕ) → Mid p (crash p es k) = λ k. (obeys_cut (closing p) s k).1 in
+        let early : (k : ℕ) → Mid p (crash p es k) = λ k. (crash_of_run (closing p) s k).1 in
         let size : length events ≡ length es + 1 = length-append es (value_writes at value) in
         let cuts : (k : ℕ) → KeepsSound p (crash p events k) = λ k. elim (cases_lt k (length events)) [
           | inl l ↦ subst (λ x. KeepsSound p (after p x)) (sym (take_more k es (Wrote at 2 value) (omega (arith, size, l)))) (early k).keeps

@@ -21,7 +21,7 @@ use Rattle.pack_model.specs.reading.Slots.{Item, all_words, entry_length, item_w
 use Rattle.pack_model.specs.reading.Slots.Item.{space}
 use Rattle.pack_model.specs.operations.Step.{Operation, step}
 use Rattle.pack_model.specs.operations.Step.Operation.{enter}
-use Rattle.pack_laws.proofs.Moving.{obeys_cut}
+use Rattle.pack_laws.proofs.Moving.{crash_of_run}
 use Rattle.laws_record.proofs.Addressing.{entry_words_many}
 use Rattle.laws_record.proofs.DirReads.{not_descriptor}
 use Rattle.laws_operation.proofs.EnterLaw.{all_stages, all_ticks}
@@ -88,7 +88,7 @@ enter_carries_out p d name f a old b left words at next_at w t h =
     let obeys : Obeys viewing m p events (moves_of m o) = subst (Obeys viewing m p events) (sym moves) s1.obeys in
     record {
       sees = record { obeys = obeys; ends = s1.ends ∙ sym (ap (steps viewing m) moves ∙ enters_to (all_ticks one same) o m); whole = s1.whole; tidy = s1.tidy };
-      cuts = λ k. obeys_cut viewing obeys k;
+      cuts = λ k. crash_of_run viewing obeys k;
       ends = s1.ends;
       descriptor = descriptor_kept p (after p events) d s1.same (not_descriptor d h.directory);
       fits = fits_still p (after p events) d s1.same (not_descriptor d h.directory) refl;

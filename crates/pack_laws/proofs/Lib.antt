@@ -21,7 +21,6 @@ pub mod Serials
 pub mod Sighted
 pub mod Storing
 pub mod Talking
-pub mod Tallying
 pub mod TurnCalls
 pub mod Uses
 pub mod WiderRule

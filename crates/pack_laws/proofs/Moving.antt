@@ -49,11 +49,11 @@ module _ {M O : Type 0} (means : Meaning M O) where
   obeys_then (write here makes later) next = write here makes (obeys_then later next)
 
   -- each cut stands for the model after as many moves
-  pub obeys_cut : {m : M} {p : Pack} {events : List Event} {ops : List O} → Obeys means m p events ops → (k : ℕ) → means.Stands (steps means m (take k ops)) (after p (take k events))
-  obeys_cut (rest here) zero = here
-  obeys_cut (rest here) (suc k) = here
-  obeys_cut (write here makes later) zero = here
-  obeys_cut (write here makes later) (suc k) = obeys_cut later k
+  pub crash_of_run : {m : M} {p : Pack} {events : List Event} {ops : List O} → Obeys means m p events ops → (k : ℕ) → means.Stands (steps means m (take k ops)) (after p (take k events))
+  crash_of_run (rest here) zero = here
+  crash_of_run (rest here) (suc k) = here
+  crash_of_run (write here makes later) zero = here
+  crash_of_run (write here makes later) (suc k) = crash_of_run later k
 
   -- a prefix of the writes make a prefix of the moves
   pub obeys_first : {m : M} {p : Pack} {writes : List Event} {wanted : List O} → Obeys means m p writes wanted → (events : List Event) → IsFirstOf writes events → MadeFirst means m p events wanted

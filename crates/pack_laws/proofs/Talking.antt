@@ -13,7 +13,7 @@ use Rattle.disk_records.proofs.Growing.{after-append, after-shown, shown-append,
 use Rattle.pack_model.specs.sessions.Moves.{Meaning, steps, Obeys, rest, write, IsStartOf}
 use Rattle.pack_model.specs.sessions.Turns.{Turn, ops_of, texts_of, Talks, begun, spoken, IsTurn, acknowledged, CutAt, moves_at}
 use Rattle.pack_laws.specs.TurnLaws.{acknowledged_moves}
-use Rattle.pack_laws.proofs.Moving.{stands_last, obeys_cut, steps-append, start_within}
+use Rattle.pack_laws.proofs.Moving.{stands_last, crash_of_run, steps-append, start_within}
 use Rattle.pack_laws.proofs.inside.Acknowledging.{acknowledged-moves, acknowledged_at_most, acknowledged_short, acknowledged_start, ops-append, ops-push, sum_of_ones, texts-push}
 
 -- ---- events
@@ -113,7 +113,7 @@ module _ {M O : Type 0} (means : Meaning M O) where
           let moves : take (writes_in (events ++ take i wrote)) (ops_of (turns ++ turn ∷ [])) ≡ ops_of turns ++ take i turn.ops = ap (λ x. take x (ops_of (turns ++ turn ∷ []))) number ∙ ap (take (length (ops_of turns) + i)) (ops-push turns turn) ∙ take-append-add (ops_of turns) turn.ops i in
           record {
             none_missing = rw (whole, bytes, moves, sum_by-append weight (ops_of turns) (take i turn.ops)) (le_trans (acknowledged_short weight turns turn (texts_of turns) (omega arith)) (le_trans (acknowledged_at_most weight turns (texts_of turns)) (omega arith)));
-            stands = rw (whole, moves, steps-append means m (ops_of turns) (take i turn.ops), ← model, after-append p events (take i wrote)) (obeys_cut means o i);
+            stands = rw (whole, moves, steps-append means m (ops_of turns) (take i turn.ops), ← model, after-append p events (take i wrote)) (crash_of_run means o i);
           }
 
       -- a crash within its text
@@ -141,11 +141,11 @@ module _ {M O : Type 0} (means : Meaning M O) where
       ]
 
       -- each crash stands for the model after its moves, and holds each operation that was acknowledged
-      pub talks_cut : {events : List Event} {turns : List (Turn O)} {n : M} → Talks means m p events turns n → (k : ℕ) → CutAt weight means m p events turns k
-      talks_cut (begun here) zero = record { none_missing = omega arith; stands = here }
-      talks_cut (begun here) (suc k) = record { none_missing = omega arith; stands = here }
-      talks_cut (spoken {events} {wrote} {turns} {n} turn so_far o) k = elim (cases_lt k (length events)) [
-        | inl before ↦ cut_before events (wrote ++ shown_events turn.text) turns turn k before (talks_shown so_far) (talks_writes so_far) (talks_cut so_far k)
+      pub crash_of_turns : {events : List Event} {turns : List (Turn O)} {n : M} → Talks means m p events turns n → (k : ℕ) → CutAt weight means m p events turns k
+      crash_of_turns (begun here) zero = record { none_missing = omega arith; stands = here }
+      crash_of_turns (begun here) (suc k) = record { none_missing = omega arith; stands = here }
+      crash_of_turns (spoken {events} {wrote} {turns} {n} turn so_far o) k = elim (cases_lt k (length events)) [
+        | inl before ↦ cut_before events (wrote ++ shown_events turn.text) turns turn k before (talks_shown so_far) (talks_writes so_far) (crash_of_turns so_far k)
         | inr past ↦
             let split : k ≡ length events + (k - length events) = omega arith in
             rw split (cut_after events wrote turns turn n (k - length events) (talks_shown so_far) (talks_writes so_far) (talks_model so_far) o)
@@ -154,7 +154,7 @@ module _ {M O : Type 0} (means : Meaning M O) where
     -- the moves that a cut's shown bytes acknowledge are the first of those that it has made
     pub talks_acknowledged : {events : List Event} {turns : List (Turn O)} {n : M} → Talks means m p events turns n → (k : ℕ) → IsStartOf (acknowledged_moves turns (shown_bytes (take k events))) (moves_at turns events k)
     talks_acknowledged {events} {turns} {n} talks k =
-        let crash : CutAt (λ o. 1) means m p events turns k = talks_cut (λ o. 1) talks k in
+        let crash : CutAt (λ o. 1) means m p events turns k = crash_of_turns (λ o. 1) talks k in
         let most : acknowledged (λ o. 1) turns (shown_bytes (take k events)) ≤ sum_by (λ o. 1) (moves_at turns events k) = crash.none_missing in
         let weighs = acknowledged-moves (λ (o : O). 1) turns (shown_bytes (take k events)) in
         let one = sum_of_ones (acknowledged_moves turns (shown_bytes (take k events))) in
@@ -162,11 +162,11 @@ module _ {M O : Type 0} (means : Meaning M O) where
         start_within (acknowledged_moves turns (shown_bytes (take k events))) (ops_of turns) (writes_in (take k events)) (acknowledged_start turns (shown_bytes (take k events))) (omega (arith, most, weighs, one, two))
 
     -- two runs of turns, the second from where the first ends, are one
-    pub talks_join : {a : List Event} {turns : List (Turn O)} {n : M} {b : List Event} {more : List (Turn O)} {l : M} → Talks means m p a turns n → Talks means n (after p a) b more l → Talks means m p (a ++ b) (turns ++ more) l
-    talks_join {a} {turns} {n} {b} {more} {l} first (begun here) = rw (append-nil a, append-nil turns) first
-    talks_join {a} {turns} {n} {b} {more} {l} first (spoken {events} {wrote} {turns = others} {n = k} turn so_far o) =
+    pub turns_join : {a : List Event} {turns : List (Turn O)} {n : M} {b : List Event} {more : List (Turn O)} {l : M} → Talks means m p a turns n → Talks means n (after p a) b more l → Talks means m p (a ++ b) (turns ++ more) l
+    turns_join {a} {turns} {n} {b} {more} {l} first (begun here) = rw (append-nil a, append-nil turns) first
+    turns_join {a} {turns} {n} {b} {more} {l} first (spoken {events} {wrote} {turns = others} {n = k} turn so_far o) =
         let o : Obeys means k (after p (a ++ events)) wrote turn.ops = rw (after-append p a events) o in
-        rw (← append_assoc a events (wrote ++ shown_events turn.text), ← append_assoc turns others (turn ∷ [])) (spoken turn (talks_join first so_far) o)
+        rw (← append_assoc a events (wrote ++ shown_events turn.text), ← append_assoc turns others (turn ∷ [])) (spoken turn (turns_join first so_far) o)
 
 -- ---- calls that are turns
 module _ {M O : Type 0} (means : Meaning M O) where

@@ -6,3 +6,4 @@ pub mod OldPacks
 pub mod Places
 pub mod Ruling
 pub mod SlotsByRule
+pub mod Tallying

@@ -19,7 +19,7 @@ use Rattle.pack_model.specs.reading.Sights.Sight.{free, hidden, holds, leads, st
 use Rattle.pack_model.specs.operations.Step.{Operation, step}
 use Rattle.pack_model.specs.showing.View.{view}
 use Rattle.pack_laws.proofs.Keys.{is_fid-sym}
-use Rattle.pack_laws.proofs.Moving.{obeys_cut, stands_last}
+use Rattle.pack_laws.proofs.Moving.{crash_of_run, stands_last}
 use Rattle.laws_operation.proofs.inside.Elsewhere.{MayBe, SameBut, other_bytes, other_leader}
 use Rattle.laws_operation.specs.Outcomes.{CarriesOut, CutsAreViewed, KeepsDescriptor, StillFits}
 
@@ -92,7 +92,7 @@ steps_alike m (o ∷ moves) = steps_alike (moved m o) moves
 
 -- so cuts that are read as models are viewed as them
 pub cuts_read : (p : Pack) (events : List Event) (moves : List Move) → Obeys reading (read_as p) p events moves → CutsAreViewed p events moves
-cuts_read p events moves obeys k = ap view (obeys_cut reading obeys k ∙ sym (steps_alike (read_as p) (take k moves)))
+cuts_read p events moves obeys k = ap view (crash_of_run reading obeys k ∙ sym (steps_alike (read_as p) (take k moves)))
 
 -- an operation whose record writes concern one file alone
 pub carries_out : (p : Pack) (events : List Event) (o : Operation) (f : Fid) → steps reading (read_as p) (moves_of (read_as p) o) ≡ step (read_as p) o → SameBut f (sights p) (sights (after p events)) → is_fid f disk_descriptor ≡ false

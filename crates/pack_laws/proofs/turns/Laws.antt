@@ -1,8 +1,10 @@
 -- The laws of turns, as they are stated.
 use Rattle.std.proofs.Common.{false, true, ℕ, ◌≡◌}
-use Rattle.pack_laws.proofs.Moving.{does_first, obeys_cut, obeys_first, obeys_then, then_does}
+use Rattle.pack_laws.proofs.Moving.{does_first, obeys_first, obeys_then, then_does}
+use Rattle.pack_laws.proofs.Moving as moving
 use Rattle.pack_laws.proofs.inside.Ruling.{ruler_next, ruler_rises, ruler_shown, ruler_start, ruler_whole, ruler_wrote, talks_makes}
-use Rattle.pack_laws.proofs.Talking.{talks_acknowledged, talks_cut, talks_join, talks_model, talks_shown, talks_writes}
+use Rattle.pack_laws.proofs.Talking.{talks_acknowledged, talks_model, talks_shown, talks_writes}
+use Rattle.pack_laws.proofs.Talking as talking
 use Rattle.pack_laws.proofs.TurnCalls.{turn_broken, turn_cut, turn_whole}
 use Rattle.pack_laws.specs.TurnLaws.{AcknowledgedAreDone, CallsAreTurns, CallsJoin, CrashOfRun, CrashOfTurns, FaultsLeaveAPrefix, RulerLaws, RunBreaksOff, RunsJoin, TurnsAreShown, TurnsJoin, WritesAreMade}
 use Rattle.pack_model.specs.sessions.Moves.{Meaning}
@@ -11,7 +13,7 @@ pub runs_join : {M O : Type 0} (means : Meaning M O) → RunsJoin means
 runs_join means = λ m p a b ops more first next. obeys_then means first next
 
 pub crash_of_run : {M O : Type 0} (means : Meaning M O) → CrashOfRun means
-crash_of_run means = λ m p events ops obeys k. obeys_cut means obeys k
+crash_of_run means = λ m p events ops obeys k. moving.crash_of_run means obeys k
 
 pub run_breaks_off : {M O : Type 0} (means : Meaning M O) → RunBreaksOff means
 run_breaks_off means = λ m p writes events moves obeys first. let l = obeys_first means obeys events first in record { moves = l.ops; start = l.start; each = l.each }
@@ -23,10 +25,10 @@ pub faults_leave_a_prefix : {M O : Type 0} (T E : Type 0) (means : Meaning M O) 
 faults_leave_a_prefix T E means = λ p writes events wanted result all ends first ok. does_first means events result all ends first ok
 
 pub turns_join : {M O : Type 0} (means : Meaning M O) → TurnsJoin means
-turns_join means = λ m n l p a b turns more first next. talks_join means first next
+turns_join means = λ m n l p a b turns more first next. talking.turns_join means first next
 
 pub crash_of_turns : {M O : Type 0} (weight : O → ℕ) (means : Meaning M O) → CrashOfTurns weight means
-crash_of_turns weight means = λ m n p events turns talks k. talks_cut means weight talks k
+crash_of_turns weight means = λ m n p events turns talks k. talking.crash_of_turns means weight talks k
 
 pub acknowledged_are_done : {M O : Type 0} (means : Meaning M O) → AcknowledgedAreDone means
 acknowledged_are_done means = λ m n p events turns talks k. talks_acknowledged means talks k

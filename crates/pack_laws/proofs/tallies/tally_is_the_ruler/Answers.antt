@@ -1,4 +1,4 @@
-use Rattle.pack_laws.proofs.Tallying.{tally_is_the_ruler}
+use Rattle.pack_laws.proofs.inside.Tallying.{tally_is_the_ruler}
 use Rattle.pack_laws.proofs.tallies.tally_is_the_ruler.Goals as goal
 use Rattle.pack_model.specs.sessions.Meanings.{session}
 
