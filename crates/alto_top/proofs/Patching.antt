@@ -1,6 +1,6 @@
 -- The bytes of a patch, put into one page.
-use Rattle.std.proofs.Common.{Bool, Err, IfOk, List, Ok, OnOk, Result, Some, [], arith, eqb-true, false, length, refl, subst, suc, sym, true, ℕ, ◌%◌, ◌+◌, ◌/◌, ◌<◌, ◌∙◌, ◌∷◌, ◌≡◌, ◌≢◌, ◌≤◌}
-use Rattle.std.specs.Prelude.{All, MatchBool, get_or}
+use Rattle.std.proofs.Common.{Err, IfOk, List, Ok, OnOk, Result, Some, [], arith, eqb-true, length, refl, subst, suc, sym, true, ℕ, ◌%◌, ◌+◌, ◌/◌, ◌<◌, ◌∙◌, ◌∷◌, ◌≡◌, ◌≢◌, ◌≤◌}
+use Rattle.std.specs.Prelude.{All, get_or}
 use Rattle.alto_words.specs.declared.fid.Fid.{Fid}
 use Rattle.disk_records.specs.declared.records.Event.{Event}
 use Rattle.disk_records.specs.Packs.{Pack, carried}
@@ -21,7 +21,9 @@ use Rattle.alto_top.specs.declared.patch.Patch.{Patch}
 use Rattle.alto_top.specs.declared.status.Fault.{Fault}
 use Rattle.label_check.specs.Guarded.{Carries}
 use Rattle.alto_top.specs.Patches.{lie_in_one_page, put_of}
-use Rattle.alto_top.specs.Putting.{PutDone, value_with}
+use Rattle.alto_top.specs.Putting.{AtEnd, PutDone, value_with}
+use Rattle.alto_top.specs.declared.put.PutEnd.{PutEnd}
+use Rattle.alto_top.specs.declared.put.PutEnd.TheVariants as put_end
 use Rattle.pack_laws.proofs.puts.Laws.{value_write_is_the_put}
 
 pub one_page_fits : (offset : ℕ) (bytes : List ℕ) → bytes ≢ [] → lie_in_one_page offset bytes ≡ true → offset % 512 + length bytes ≤ 512
@@ -59,11 +61,11 @@ module _ (old new : Taped) (patch : Patch) (f : Fid) (at : ℕ) (b : List ℕ) (
   put_of-some (x ∷ bytes) h = refl
 
   -- a put into the page that was found
-  pub put_made : {T E : Type 0} {r : Result Bool Fault} (result : Result T E) → lie_in_one_page patch.offset patch.bytes ≡ true → All (λ byte. byte < 256) b → PutDone at (record { fid = f; number = patch.offset / 512 + 1 }) (patch.offset % 512) b old new r → OnOk result (r ≡ Ok true) → Does putting (pack old) (added old new) (put_of patch f patch.bytes) result
+  pub put_made : {T E : Type 0} {r : Result PutEnd Fault} (result : Result T E) → lie_in_one_page patch.offset patch.bytes ≡ true → All (λ byte. byte < 256) b → PutDone at (record { fid = f; number = patch.offset / 512 + 1 }) (patch.offset % 512) b old new r → OnOk result (r ≡ Ok put_end.Done) → Does putting (pack old) (added old new) (put_of patch f patch.bytes) result
   put_made {T} {E} {r} result one are done ok =
       let wrote : List Event = value_writes at (value_with (pack old) at (patch.offset % 512) b) in
-      let all : OnOk result (added old new ≡ wrote) = elim result as (λ x. OnOk x (r ≡ Ok true) → OnOk x (added old new ≡ wrote)) [
-        | Ok y ↦ λ is. subst (λ x. IfOk x (λ done. MatchBool done (added old new ≡ wrote) (Carries at (record { fid = f; number = patch.offset / 512 + 1 }) (pack old) → ⊥))) is done.ok
+      let all : OnOk result (added old new ≡ wrote) = elim result as (λ x. OnOk x (r ≡ Ok put_end.Done) → OnOk x (added old new ≡ wrote)) [
+        | Ok y ↦ λ is. subst (λ x. IfOk x (λ end. AtEnd end (added old new ≡ wrote) (Carries at (record { fid = f; number = patch.offset / 512 + 1 }) (pack old) → ⊥))) is done.ok
         | Err e ↦ λ h. tt
       ] ok in
       let is_some : b ≢ [] = λ e. some (sym same ∙ e) in
@@ -74,5 +76,5 @@ module _ (old new : Taped) (patch : Patch) (f : Fid) (at : ℕ) (b : List ℕ) (
       (put_does (pack old) f patch.offset b is_some inside at bears are (one_page_fits patch.offset b is_some one_of) (added old new) result done.some all))
 
   -- it carries the page
-  pub never_wrong : {r : Result Bool Fault} → r ≡ Ok false → PutDone at (record { fid = f; number = patch.offset / 512 + 1 }) (patch.offset % 512) b old new r → ⊥
-  never_wrong is done = subst (λ r. IfOk r (λ done. MatchBool done (added old new ≡ value_writes at (value_with (pack old) at (patch.offset % 512) b)) (Carries at (record { fid = f; number = patch.offset / 512 + 1 }) (pack old) → ⊥))) is done.ok (page_carried (pack old) f patch.offset patch.bytes some fits at bears)
+  pub never_wrong : {r : Result PutEnd Fault} → r ≡ Ok put_end.Gone → PutDone at (record { fid = f; number = patch.offset / 512 + 1 }) (patch.offset % 512) b old new r → ⊥
+  never_wrong is done = subst (λ r. IfOk r (λ end. AtEnd end (added old new ≡ value_writes at (value_with (pack old) at (patch.offset % 512) b)) (Carries at (record { fid = f; number = patch.offset / 512 + 1 }) (pack old) → ⊥))) is done.ok (page_carried (pack old) f patch.offset patch.bytes some fits at bears)

@@ -1,5 +1,5 @@
 -- One value write after one read.
-use Rattle.std.proofs.Common.{◌≡◌, ℕ, List, [], ◌++◌, Ok, Err, true, ◌∙◌, ap}
+use Rattle.std.proofs.Common.{◌≡◌, ℕ, List, [], ◌++◌, Ok, Err, ◌∙◌, ap}
 use Rattle.disk_records.specs.declared.records.Page.{Page}
 use Rattle.disk_records.specs.declared.records.Sector.{Sector}
 use Rattle.disk_records.specs.Packs.{sector_at}
@@ -13,6 +13,7 @@ use Rattle.label_check.specs.declared.errors.GuardError.{GuardError}
 use Rattle.label_check.specs.declared.errors.GuardError.TheVariants as guard
 use Rattle.label_check.specs.Guarded.{Carries, Guarded, DoneWhole, IsReadPage}
 use Rattle.pack_model.specs.reading.Bytes.{bytes_of, words_of, put_at}
+use Rattle.alto_top.specs.declared.put.PutEnd.TheVariants.{Done}
 use Rattle.alto_top.specs.declared.status.Fault.{Fault}
 use Rattle.alto_top.specs.declared.status.Fault.TheVariants.{Disk, Memory}
 use Rattle.alto_top.specs.Putting.{PutDone, value_with, not_done}
@@ -34,7 +35,7 @@ put_unread at page offset bytes old new guard.Memory guarded = put_nothing at pa
 -- the page was read, and its value written with other bytes
 pub put_whole : (offset : ℕ) (bytes value : List ℕ) {at : ℕ} {page : Page} {old mid new : Taped} {buffer : Sector} {info : PageInfo} → DiskAlone old mid → DiskAlone mid new
     → DoneWhole (Carries at page) [] 1 old mid → IsReadPage (pack old) at buffer info → value ≡ words_of (put_at offset bytes (bytes_of buffer.value))
-    → DoneWhole (Carries at page) (value_writes at value) 2 mid new → PutDone at page offset bytes old new (Ok true)
+    → DoneWhole (Carries at page) (value_writes at value) 2 mid new → PutDone at page offset bytes old new (Ok Done)
 put_whole offset bytes value {at} {page} {old} {mid} {new} {buffer} x y read is put wrote =
     let all : added old new ≡ value_writes at value = added-twice x.grown y.grown ∙ ap (λ l. l ++ added mid new) read.wrote ∙ wrote.wrote in
     let found : value ≡ words_of (put_at offset bytes (bytes_of (sector_at (pack old) at).value)) = put ∙ ap (λ (s : Sector). words_of (put_at offset bytes (bytes_of s.value))) is.holds in

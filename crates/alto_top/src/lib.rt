@@ -25,6 +25,7 @@
 //! Not promised: that memory is left; how long anything takes, except the number of sector commands (`runs`).
 #![tactic(auto)]
 
+mod console;
 mod formatting;
 mod keys;
 mod listing;

@@ -7,7 +7,7 @@ ghost use Rattle.alto_top.specs.Faults.{HasDiskCause, HasStatusCause};
 ghost use Rattle.alto_top.specs.Formats.{AnswersFormat, PreparesDisk, PreparesPack, ShowsThroughout, prepare_text};
 ghost use Rattle.alto_top.specs.Showing.{KeepsKeys};
 
-use crate::session::show_all;
+use crate::console::show_all;
 use crate::status::{Fault, Status};
 use alto_words::{Memory, push_number};
 use disk_descriptor::prepare;

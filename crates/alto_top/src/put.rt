@@ -9,19 +9,28 @@ use crate::status::Fault;
 use disk_records::{Disk, Page, Sector, put_in_words};
 use label_check::{GuardError, read_page, write_value};
 
-/// What a guarded call that wasn't done answers: false where the sector doesn't carry the page.
-fn not_done(error: GuardError) -> Result<bool, Fault>
+/// What became of a put into one page.
+#[derive(Clone, Copy, Debug, PartialEq, Eq)]
+pub enum PutEnd {
+    /// The page has the bytes.
+    Done,
+    /// The sector doesn't carry the page, and nothing is written.
+    Gone,
+}
+
+/// What a guarded call that wasn't done answers: Gone where the sector doesn't carry the page.
+fn not_done(error: GuardError) -> Result<PutEnd, Fault>
     ensures { result ≡ not_done error }
 {
     match error {
-        GuardError::Wrong { .. } => Ok(false),
+        GuardError::Wrong { .. } => Ok(PutEnd::Gone),
         GuardError::DiskFault => Err(Fault::Disk),
         GuardError::Memory => Err(Fault::Memory),
     }
 }
 
 /// Puts bytes into a page that a sector carries, from this byte of the page on: one value write, which leaves the page's other
-/// bytes. False where the sector doesn't carry the page; then nothing is written. Three sector commands at most.
+/// bytes. Gone where the sector doesn't carry the page; then nothing is written. Three sector commands at most.
 ///
 /// Disk: the disk failed. Memory: no memory was left. On a modelled disk the value is written or nothing is, whatever the answer.
 pub fn put_in_page<D: Disk>(
@@ -31,7 +40,7 @@ pub fn put_in_page<D: Disk>(
     offset: usize,
     bytes: &[u8],
     buf: &mut Sector,
-) -> Result<bool, Fault>
+) -> Result<PutEnd, Fault>
     requires first { 1 ≤ at }
     requires place { at < pages_of (D.tape disk.old).form }
     requires fits { offset + length bytes.now ≤ 512 }
@@ -47,7 +56,7 @@ pub fn put_in_page<D: Disk>(
     let mut value = buf.value;
     put_in_words(&mut value, offset, bytes, &[]);
     match write_value(disk, at, page, &value) {
-        Ok(()) => Ok(true),
+        Ok(()) => Ok(PutEnd::Done),
         Err(error) => not_done(error),
     }
 }

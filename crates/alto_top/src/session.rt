@@ -1,29 +1,32 @@
 // A session: typed lines are obeyed in order.
 ghost use Rattle.std.specs.Prelude.{◌≡◌, ◌≢◌, ◌≤◌, ◌<◌, ◌+◌, ◌/◌, [], true, length, All, IsTrue, IsErrOf, IfOk};
 ghost use Rattle.disk_records.specs.Addresses.{pages_of};
-ghost use Rattle.disk_records.specs.Tapes.{Grown, DiskAlone, ShowAlone, pack, added};
+ghost use Rattle.disk_records.specs.Tapes.{Grown, DiskAlone, pack, added};
 ghost use Rattle.pack_model.specs.reading.Sights.{sights};
 ghost use Rattle.pack_model.specs.reading.Files.{file_bytes};
 ghost use Rattle.pack_model.specs.reading.Stored.{stored_files};
 ghost use Rattle.pack_model.specs.sessions.Moves.{Does};
 ghost use Rattle.pack_model.specs.operations.Puts.{putting};
-ghost use Rattle.alto_top.specs.Faults.{HasFaultCause, HasDiskCause, HasShowCause, HasStatusCause};
-ghost use Rattle.alto_top.specs.Patches.{put_of, puts_at, puts_of, puts_of_patch, reply_within, reply_to, reply_to_patch, text_of, is_patched, lie_in_one_page};
-ghost use Rattle.alto_top.specs.Keys.{ShownAll};
+ghost use Rattle.alto_top.specs.Faults.{HasFaultCause, HasDiskCause, HasStatusCause};
+ghost use Rattle.alto_top.specs.Patches.{put_of, puts_at, puts_of, puts_of_patch, reply_within, reply_to, reply_to_patch, is_patched, lie_in_one_page};
 ghost use Rattle.alto_top.specs.Sweeps.{HoldsPages, AreWithin, length_kept};
 ghost use Rattle.alto_top.specs.Sessions.{Booted, NextTurn, Obeyed, runs_of_line};
 ghost use Rattle.alto_top.specs.declared.reply.Reply.TheVariants.{Done};
 
+use crate::console::show_reply;
 use crate::keys::{MOST_KEYS, read_line};
 use crate::pages::Pages;
 use crate::patch::{Patch, read_patch};
-use crate::put::put_in_page;
+use crate::put::{PutEnd, put_in_page};
 use crate::reply::Reply;
 use crate::status::{Fault, Status};
 use crate::sweep::{find_file, find_pages};
 use alto_words::Fid;
-use disk_records::{Console, ConsoleError, Disk, Machine, Page, Sector};
+use disk_records::{Disk, Machine, PAGE_BYTES, Page, Sector};
 use std::alloc::Global;
+
+/// The bytes of a full page.
+const PAGE: u32 = PAGE_BYTES as u32;
 
 /// Whether the bytes of a file are patched: not those of directories and of DiskDescriptor.
 fn is_patched(fid: Fid) -> bool
@@ -37,7 +40,8 @@ fn lie_in_one_page(offset: u32, bytes: &[u8]) -> bool
     ensures one_page { result ≡ lie_in_one_page offset bytes.now }
     ensures are_bytes { All (λ byte. byte < 256) bytes.now }
 {
-    bytes.is_empty() || offset as u64 / 512 == (offset as u64 + (bytes.len() as u64 - 1)) / 512
+    bytes.is_empty()
+        || offset as u64 / PAGE as u64 == (offset as u64 + (bytes.len() as u64 - 1)) / PAGE as u64
 }
 
 /// Puts the bytes of a patch, which lie in one page and within the pages that are kept.
@@ -60,10 +64,10 @@ fn put_bytes<D: Disk>(
     ensures alone { DiskAlone (D.tape disk.old) (D.tape disk.new) }
     ensures runs { IsTrue D.told → (D.tape disk.new).runs ≤ (D.tape disk.old).runs + 3 }
 {
-    let number = (patch.offset / 512 + 1) as u16;
+    let number = (patch.offset / PAGE + 1) as u16;
     let at = pages.place(number);
-    let offset = (patch.offset % 512) as usize;
-    let done = put_in_page(
+    let offset = (patch.offset % PAGE) as usize;
+    let end = put_in_page(
         disk,
         at,
         Page { fid, number },
@@ -71,7 +75,10 @@ fn put_bytes<D: Disk>(
         patch.bytes.as_slice(),
         buf,
     )?;
-    Ok(if done { Reply::Done } else { Reply::NoSuchName })
+    match end {
+        PutEnd::Done => Ok(Reply::Done),
+        PutEnd::Gone => Ok(Reply::NoSuchName),
+    }
 }
 
 /// Obeys a patch of a file whose data pages are known, and which is patched in one page: here `beyond length` is decided, and `done`.
@@ -135,29 +142,6 @@ fn act<D: Disk>(alloc: Global, disk: &mut D, line: &[u8]) -> Result<Reply, Fault
         Some(patch) => obey_patch(alloc, disk, &patch),
         None => Ok(Reply::BadLine),
     }
-}
-
-/// Shows these bytes.
-pub fn show_all<C: Console>(console: &mut C, bytes: &[u8]) -> Result<(), Fault>
-    ensures shown { IsTrue C.told → ShownAll bytes.now (C.tape console.old) (C.tape console.new) result }
-    ensures cause { HasShowCause (C.tape console.old) (C.tape console.new) result }
-    ensures alone { ShowAlone (C.tape console.old) (C.tape console.new) }
-{
-    match console.show(bytes) {
-        Ok(()) => Ok(()),
-        Err(ConsoleError::Failed) => Err(Fault::Display),
-        Err(ConsoleError::Memory) => Err(Fault::Memory),
-    }
-}
-
-/// Shows the reply to a line.
-fn show_reply<C: Console>(alloc: Global, console: &mut C, reply: Reply) -> Result<(), Fault>
-    ensures shown { IsTrue C.told → ShownAll (text_of reply) (C.tape console.old) (C.tape console.new) result }
-    ensures cause { HasShowCause (C.tape console.old) (C.tape console.new) result }
-    ensures alone { ShowAlone (C.tape console.old) (C.tape console.new) }
-{
-    let text = reply.text(alloc)?;
-    show_all(console, &text)
 }
 
 /// Obeys one line, given without the byte 10 that ends it: does what it asks for, and then shows its reply, one line of text.

@@ -6,8 +6,8 @@ ghost use Rattle.pack_model.specs.showing.Settling.{show};
 ghost use Rattle.alto_top.specs.Faults.{HasDiskCause, HasStatusCause};
 ghost use Rattle.alto_top.specs.Showing.{listing_text, AnswersShow, KeepsKeys, ShowsPack};
 
+use crate::console::show_all;
 use crate::listing::listing_of;
-use crate::session::show_all;
 use crate::status::{Fault, Status};
 use disk_records::{Disk, Machine};
 use pack_reading::read_lengths;

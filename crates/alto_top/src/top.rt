@@ -6,9 +6,10 @@ ghost use Rattle.alto_top.specs.Faults.{HasStatusCause};
 ghost use Rattle.alto_top.specs.Showing.{KeepsKeys};
 ghost use Rattle.alto_top.specs.Top.{AnswersPrepare, AnswersTo, AnswersUsage, AsksFor, DoesAsAsked, PreparesOrUsage, ShowsUsage, Touches, pack_number};
 
+use crate::console::show_all;
 use crate::formatting::format_pack;
 use crate::preparing::prepare_pack;
-use crate::session::{boot, show_all};
+use crate::session::boot;
 use crate::show::show_pack;
 use crate::status::Status;
 use alto_words::read_number;

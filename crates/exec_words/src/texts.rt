@@ -6,7 +6,11 @@ ghost use Rattle.exec_words.specs.Texts.{made_text, length_text, at_text, level_
 use crate::push::{numbered, plain, push, push_bytes, push_with_number};
 use crate::reply::Stat;
 use alto_words::{Fid, Memory, Name, push_hex, push_number};
+use disk_records::PAGE_BYTES;
 use std::alloc::Global;
+
+/// The bytes of a full page.
+const PAGE: u32 = PAGE_BYTES as u32;
 
 /// So many bytes are shown in hex on one line.
 const BYTES_A_LINE: usize = 32;
@@ -149,7 +153,7 @@ pub fn stat_text(alloc: Global, stat: &Stat) -> Result<Vec<u8>, Memory>
     let mut out = Vec::new(alloc);
     push_with_number(alloc, &mut out, b"#", stat.fid.serial() as u64)?;
     push_with_number(alloc, &mut out, b" length ", stat.length as u64)?;
-    push_with_number(alloc, &mut out, b" pages ", (2 + stat.length / 512) as u64)?;
+    push_with_number(alloc, &mut out, b" pages ", (2 + stat.length / PAGE) as u64)?;
     push_with_number(alloc, &mut out, b" created ", stat.created as u64)?;
     push_with_number(alloc, &mut out, b" written ", stat.written as u64)?;
     push_with_number(alloc, &mut out, b" read ", stat.read as u64)?;

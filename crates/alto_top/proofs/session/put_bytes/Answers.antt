@@ -16,30 +16,30 @@ overflow_cast-number g c =
 pub place-at-requires : goal.place-at-requires
 place-at-requires g c = (byte_kept c.args.pages.now c.args.patch.now.offset (omega (arith, c.requires.length, some_bytes c.args.patch.now.bytes c.requires.some))).1
 
-pub returns-in_err-done-clause-does : goal.returns-in_err-done-clause-does
-returns-in_err-done-clause-does g c = λ told.
+pub returns-in_err-end-clause-does : goal.returns-in_err-end-clause-does
+returns-in_err-end-clause-does g c = λ told.
     let old = g.D.Tape.tape c.args.disk.now in
     let fits : c.args.patch.now.offset + length c.args.patch.now.bytes ≤ length (file_bytes (sights (pack old)) c.args.fid) = omega (arith, c.requires.length, kept_length (pack old) c.args.fid c.args.pages.now (c.requires.pages told)) in
     let bears = kept_number (pack old) c.args.fid c.args.pages.now (c.requires.pages told) (c.args.patch.now.offset) c.place-at.result c.place-at.ensures in
     put_made old (g.D.Tape.tape c.put_in_page.new.disk) c.args.patch.now c.args.fid c.place-at.result c.as_slice.result.now c.as_slice.ensures c.requires.some fits bears _ c.requires.one_page (subst (All (λ byte. byte < 256)) (sym c.as_slice.ensures) c.requires.are_bytes) (c.put_in_page.ensures.done told) (search rules)
 
-pub returns-then-done-clause-does : goal.returns-then-done-clause-does
-returns-then-done-clause-does g c = λ told.
+pub returns-in-Done-clause-does : goal.returns-in-Done-clause-does
+returns-in-Done-clause-does g c = λ told.
     let old = g.D.Tape.tape c.args.disk.now in
     let fits : c.args.patch.now.offset + length c.args.patch.now.bytes ≤ length (file_bytes (sights (pack old)) c.args.fid) = omega (arith, c.requires.length, kept_length (pack old) c.args.fid c.args.pages.now (c.requires.pages told)) in
     let bears = kept_number (pack old) c.args.fid c.args.pages.now (c.requires.pages told) (c.args.patch.now.offset) c.place-at.result c.place-at.ensures in
-    put_made old (g.D.Tape.tape c.put_in_page.new.disk) c.args.patch.now c.args.fid c.place-at.result c.as_slice.result.now c.as_slice.ensures c.requires.some fits bears _ c.requires.one_page (subst (All (λ byte. byte < 256)) (sym c.as_slice.ensures) c.requires.are_bytes) (c.put_in_page.ensures.done told) (c.in_ok-done.was ∙ ap Ok c.if-done.true)
+    put_made old (g.D.Tape.tape c.put_in_page.new.disk) c.args.patch.now c.args.fid c.place-at.result c.as_slice.result.now c.as_slice.ensures c.requires.some fits bears _ c.requires.one_page (subst (All (λ byte. byte < 256)) (sym c.as_slice.ensures) c.requires.are_bytes) (c.put_in_page.ensures.done told) (c.in_ok-end.was ∙ ap Ok c.in-Done.is)
 
-pub returns-else-done-clause-does : goal.returns-else-done-clause-does
-returns-else-done-clause-does g c = λ told.
+pub returns-in-Gone-clause-does : goal.returns-in-Gone-clause-does
+returns-in-Gone-clause-does g c = λ told.
     let old = g.D.Tape.tape c.args.disk.now in
     let fits : c.args.patch.now.offset + length c.args.patch.now.bytes ≤ length (file_bytes (sights (pack old)) c.args.fid) = omega (arith, c.requires.length, kept_length (pack old) c.args.fid c.args.pages.now (c.requires.pages told)) in
     let bears = kept_number (pack old) c.args.fid c.args.pages.now (c.requires.pages told) (c.args.patch.now.offset) c.place-at.result c.place-at.ensures in
-    absurd (never_wrong old (g.D.Tape.tape c.put_in_page.new.disk) c.args.patch.now c.args.fid c.place-at.result c.as_slice.result.now c.as_slice.ensures c.requires.some fits bears (c.in_ok-done.was ∙ ap Ok c.if-done.false) (c.put_in_page.ensures.done told))
+    absurd (never_wrong old (g.D.Tape.tape c.put_in_page.new.disk) c.args.patch.now c.args.fid c.place-at.result c.as_slice.result.now c.as_slice.ensures c.requires.some fits bears (c.in_ok-end.was ∙ ap Ok c.in-Gone.is) (c.put_in_page.ensures.done told))
 
-pub returns-else-done-clause-reply : goal.returns-else-done-clause-reply
-returns-else-done-clause-reply g c = λ told.
+pub returns-in-Gone-clause-reply : goal.returns-in-Gone-clause-reply
+returns-in-Gone-clause-reply g c = λ told.
     let old = g.D.Tape.tape c.args.disk.now in
     let fits : c.args.patch.now.offset + length c.args.patch.now.bytes ≤ length (file_bytes (sights (pack old)) c.args.fid) = omega (arith, c.requires.length, kept_length (pack old) c.args.fid c.args.pages.now (c.requires.pages told)) in
     let bears = kept_number (pack old) c.args.fid c.args.pages.now (c.requires.pages told) (c.args.patch.now.offset) c.place-at.result c.place-at.ensures in
-    absurd (never_wrong old (g.D.Tape.tape c.put_in_page.new.disk) c.args.patch.now c.args.fid c.place-at.result c.as_slice.result.now c.as_slice.ensures c.requires.some fits bears (c.in_ok-done.was ∙ ap Ok c.if-done.false) (c.put_in_page.ensures.done told))
+    absurd (never_wrong old (g.D.Tape.tape c.put_in_page.new.disk) c.args.patch.now c.args.fid c.place-at.result c.as_slice.result.now c.as_slice.ensures c.requires.some fits bears (c.in_ok-end.was ∙ ap Ok c.in-Gone.is) (c.put_in_page.ensures.done told))
