@@ -1,0 +1,14 @@
+//! What a call knew that stays known over another operation of its line, and operations that two calls do as one step.
+//!
+//! Come here when you write a line of several operations: a file that was looked up before the first of them is found still before the
+//! last, and a drop by two calls, one that releases the file's sectors and one that frees its entry's slot, is one operation of the line.
+//!
+//! The laws of keeping: files that were found stay found over each operation, except the file that is dropped and the one whose entry
+//! leaves, and over the open mark and a new serial.
+//!
+//! A law function is public, has an empty body and one clause, the law; its lemma has the same name, and its statement has it in
+//! capitals. To cite a law: `use Rattle.laws_steps.proofs.keeping.Laws.{written_keeps_found}`. Lemma files in proofs/inside/ no other
+//! crate can name. Below it: `laws_call` and `laws_midway`.
+#![tactic(auto)]
+
+pub mod keeping;
