@@ -1,3 +1,4 @@
 pub mod Beside
+pub mod Dropping
 pub mod Keeping
 pub mod Released

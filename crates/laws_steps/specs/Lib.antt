@@ -1,1 +1,2 @@
+pub mod DroppingLaws
 pub mod KeepingLaws

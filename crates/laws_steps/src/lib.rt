@@ -6,9 +6,13 @@
 //! The laws of keeping: files that were found stay found over each operation, except the file that is dropped and the one whose entry
 //! leaves, and over the open mark and a new serial.
 //!
+//! The laws of a drop by two calls: after the releases the entry stands in its directory as before; and the value that frees its slot, as
+//! read then, is the rest of the drop, a break anywhere between being a prefix of it.
+//!
 //! A law function is public, has an empty body and one clause, the law; its lemma has the same name, and its statement has it in
 //! capitals. To cite a law: `use Rattle.laws_steps.proofs.keeping.Laws.{written_keeps_found}`. Lemma files in proofs/inside/ no other
 //! crate can name. Below it: `laws_call` and `laws_midway`.
 #![tactic(auto)]
 
+pub mod dropping;
 pub mod keeping;
