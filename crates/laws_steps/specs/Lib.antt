@@ -1,2 +1,3 @@
 pub mod DroppingLaws
 pub mod KeepingLaws
+pub mod SerialLaws
