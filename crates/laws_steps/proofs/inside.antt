@@ -1,5 +1,6 @@
 pub mod Beside
 pub mod ByEntries
+pub mod Descriptor
 pub mod DescriptorLeast
 pub mod Dropping
 pub mod Keeping

@@ -1,10 +1,10 @@
 -- Files that were found stay found over the operations of a line.
-use Rattle.std.specs.Prelude.{List, Some, false, ℕ, ◌≡◌}
+use Rattle.std.specs.Prelude.{List, Some, false, ℕ, ◌≡◌, ◌≤◌}
 use Rattle.alto_words.specs.Fid.{disk_descriptor, is_fid}
 use Rattle.alto_words.specs.declared.fid.Fid.{Fid}
 use Rattle.alto_words.specs.declared.wanted.Wanted.TheVariants.{Exact}
 use Rattle.disk_records.specs.Commands.{value_writes}
-use Rattle.disk_records.specs.Packs.{Pack, after}
+use Rattle.disk_records.specs.Packs.{Pack, after, sector_at}
 use Rattle.disk_records.specs.declared.records.Event.{Event}
 use Rattle.disk_records.specs.declared.records.Place.{Place}
 use Rattle.laws_call.specs.Writing.{Written}
@@ -14,7 +14,10 @@ use Rattle.pack_model.specs.operations.Step.Operation.{cut, drop_file, enter, gr
 use Rattle.pack_model.specs.operations.Step.{Operation}
 use Rattle.pack_model.specs.reading.Files.{place}
 use Rattle.pack_model.specs.reading.Lookup.{EntryAt, entry_at}
+use Rattle.pack_model.specs.reading.Model.{read_as}
 use Rattle.pack_model.specs.reading.Sights.{sights}
+use Rattle.pack_model.specs.sessions.Descriptor.{open_writes, serial_writes}
+use Rattle.pack_model.specs.states.Sound.{mark_of}
 use Rattle.pack_model.specs.states.Whole.{Tidy, Whole}
 
 -- the operation isn't the file's drop, and the entry that leaves isn't the file's
@@ -35,7 +38,18 @@ abbrev pub WrittenKeepsFound : Type 0
 WrittenKeepsFound = (p : Pack) (o : Operation) (claimed released : List ℕ) (writes : List Event) (g : Fid) (at : ℕ) (from : Place)
     → Whole p → Tidy p → Written p o claimed released writes → StaysEntered p o g → IsFrom p g at from → IsFrom (after p writes) g at from
 
--- so it is over a value of a page of DiskDescriptor after which the pack is whole: that of the open mark, and that of a new serial
+-- ---- DiskDescriptor
+-- so it is over a value of one of its pages after which the pack is whole
 abbrev pub DescriptorKeepsFound : Type 0
 DescriptorKeepsFound = (p : Pack) (n i : ℕ) (value : List ℕ) (g : Fid) (at : ℕ) (from : Place)
     → Whole p → place (sights p) disk_descriptor n ≡ Some i → Whole (after p (value_writes i value)) → IsFrom p g at from → IsFrom (after p (value_writes i value)) g at from
+
+-- that of the open mark, or none where it is open
+abbrev pub OpeningKeepsFound : Type 0
+OpeningKeepsFound = (p : Pack) (i : ℕ) (g : Fid) (at : ℕ) (from : Place)
+    → Whole p → Tidy p → place (sights p) disk_descriptor 1 ≡ Some i → IsFrom p g at from → IsFrom (after p (open_writes (mark_of (sights p)) i (sector_at p i).value)) g at from
+
+-- that of a new serial
+abbrev pub SerialKeepsFound : Type 0
+SerialKeepsFound = (p : Pack) (i last : ℕ) (g : Fid) (at : ℕ) (from : Place)
+    → Whole p → Tidy p → place (sights p) disk_descriptor 1 ≡ Some i → (read_as p).last ≤ last → IsFrom p g at from → IsFrom (after p (serial_writes i last (sector_at p i).value)) g at from

@@ -8,7 +8,7 @@
 //! leaves, and over the open mark and a new serial.
 //!
 //! The laws of a drop by two calls: after the releases the entry stands in its directory as before; and the value that frees its slot, as
-//! read then, is the rest of the drop, a break anywhere between being a prefix of it.
+//! read then, is the rest of the drop, a break within either being a prefix of it.
 //!
 //! The law of a file by its serial: the least full name with the serial, of the leaders that a sweep meets, is the model's file.
 //!

@@ -2,7 +2,7 @@
 use Rattle.std.proofs.Common.{Bool, List, None, Option, Some, [], ap, cond, false, inr, length, refl, subst, sym, true, ℕ, ◌++◌, ◌∙◌, ◌∷◌, ◌≡◌}
 use Rattle.std.specs.FinMap.{get}
 use Rattle.std.specs.Option.{option_map}
-use Rattle.alto_words.specs.Fid.{disk_descriptor, is_directory, is_fid}
+use Rattle.alto_words.specs.Fid.{is_directory, is_fid}
 use Rattle.alto_words.specs.Names.{is_same_name}
 use Rattle.alto_words.specs.declared.fid.Fid.{Fid}
 use Rattle.alto_words.specs.declared.wanted.Wanted.TheVariants.{Exact}
@@ -59,7 +59,7 @@ use Rattle.pack_model.specs.reading.Versions.{Entered, exact}
 use Rattle.pack_model.specs.states.Whole.{Tidy, Whole}
 use Rattle.laws_steps.proofs.inside.Beside.{exact_here, found_beside}
 use Rattle.laws_steps.proofs.inside.Released.{elsewhere, entry_stays, found_released}
-use Rattle.laws_steps.specs.KeepingLaws.{DescriptorKeepsFound, StaysEntered, WrittenKeepsFound}
+use Rattle.laws_steps.specs.KeepingLaws.{StaysEntered, WrittenKeepsFound}
 
 -- files of which a test says otherwise are two
 pub apart_by : (test : Fid → Bool) (d f : Fid) → test d ≡ true → test f ≡ false → is_fid d f ≡ false
@@ -173,11 +173,3 @@ written_keeps_found p o claimed released writes g at from w t h stays found = by
     by (widens {d = d} {past = past} {fresh = fresh} {b = b} {at = i} dir can) stays =
         on_free (widens dir can) tt (slots (dir_words p d)) [] (space 256 ∷ []) []
         (widen_replaces_slots p d (space_words 256) (grown_claims p.shape d b i widening_bytes past fresh) i (grown_label p.shape b widening_bytes fresh (sector_at p i).label) (grown_value b widening_bytes past fresh (sector_at p i).value) w t (widen_words_fit p d b past fresh i w dir can)) refl
-
--- ---- DiskDescriptor
-pub descriptor_keeps_found : DescriptorKeepsFound
-descriptor_keeps_found p n i value g at from w there wq h =
-    let values : List (ℕ × List ℕ) = (i, value) ∷ [] in
-    found_file_stays_found disk_descriptor p (value_writes i value) g at from w (values_leave_others p disk_descriptor values w wq (place_is_of_its_file p disk_descriptor n i there, tt))
-    (elsewhere p disk_descriptor g at from (λ d k s. apart_by is_directory d disk_descriptor s.directory refl) h)
-    (inr (λ m j l is. (values_keep_places p values).places disk_descriptor m ∙ is)) h

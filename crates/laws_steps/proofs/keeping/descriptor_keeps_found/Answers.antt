@@ -1,4 +1,4 @@
-use Rattle.laws_steps.proofs.inside.Keeping.{descriptor_keeps_found}
+use Rattle.laws_steps.proofs.inside.Descriptor.{descriptor_keeps_found}
 use Rattle.laws_steps.proofs.keeping.descriptor_keeps_found.Goals as goal
 
 pub returns : goal.returns
