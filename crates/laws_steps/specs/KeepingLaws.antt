@@ -6,6 +6,7 @@ use Rattle.alto_words.specs.declared.wanted.Wanted.TheVariants.{Exact}
 use Rattle.disk_records.specs.Commands.{value_writes}
 use Rattle.disk_records.specs.Packs.{Pack, after, sector_at}
 use Rattle.disk_records.specs.declared.records.Event.{Event}
+use Rattle.disk_records.specs.declared.records.Place.TheVariants.{Entry, Held, Next, Root}
 use Rattle.disk_records.specs.declared.records.Place.{Place}
 use Rattle.laws_call.specs.Writing.{Written}
 use Rattle.pack_model.specs.hints.Links.{dir_slots}
@@ -20,23 +21,30 @@ use Rattle.pack_model.specs.sessions.Descriptor.{open_writes, serial_writes}
 use Rattle.pack_model.specs.states.Sound.{mark_of}
 use Rattle.pack_model.specs.states.Whole.{Tidy, Whole}
 
--- the operation isn't the file's drop, and the entry that leaves isn't the file's
-abbrev pub StaysEntered : Pack → Operation → Fid → Type 0
-StaysEntered p (make f name moment) g = Unit {0}
-StaysEntered p (put f offset new) g = Unit {0}
-StaysEntered p (grow f new) g = Unit {0}
-StaysEntered p (cut f n) g = Unit {0}
-StaysEntered p (title f name) g = Unit {0}
-StaysEntered p (stamp f moment) g = Unit {0}
-StaysEntered p (drop_file f) g = is_fid g f ≡ false
-StaysEntered p (leave d name) g = (e : EntryAt) → entry_at (Exact name) (dir_slots p d) ≡ Some e → is_fid g e.fid ≡ false
-StaysEntered p (enter d name f) g = Unit {0}
-StaysEntered p (widen d) g = Unit {0}
+-- asked of a file that was found by an entry, and of no other
+abbrev pub IfByEntry : Place → Type 0 → Type 0
+IfByEntry Root P = Unit {0}
+IfByEntry (Entry d w) P = P
+IfByEntry (Next i) P = Unit {0}
+IfByEntry (Held i) P = Unit {0}
+
+-- the operation isn't the file's drop, and the entry that leaves isn't the one by which it was found
+abbrev pub StaysEntered : Pack → Operation → Fid → Place → Type 0
+StaysEntered p (make f name moment) g from = Unit {0}
+StaysEntered p (put f offset new) g from = Unit {0}
+StaysEntered p (grow f new) g from = Unit {0}
+StaysEntered p (cut f n) g from = Unit {0}
+StaysEntered p (title f name) g from = Unit {0}
+StaysEntered p (stamp f moment) g from = Unit {0}
+StaysEntered p (drop_file f) g from = is_fid g f ≡ false
+StaysEntered p (leave d name) g from = IfByEntry from ((e : EntryAt) → entry_at (Exact name) (dir_slots p d) ≡ Some e → is_fid g e.fid ≡ false)
+StaysEntered p (enter d name f) g from = Unit {0}
+StaysEntered p (widen d) g from = Unit {0}
 
 -- then a file that was found is found afterwards, by the same address from the same place
 abbrev pub WrittenKeepsFound : Type 0
 WrittenKeepsFound = (p : Pack) (o : Operation) (claimed released : List ℕ) (writes : List Event) (g : Fid) (at : ℕ) (from : Place)
-    → Whole p → Tidy p → Written p o claimed released writes → StaysEntered p o g → IsFrom p g at from → IsFrom (after p writes) g at from
+    → Whole p → Tidy p → Written p o claimed released writes → StaysEntered p o g from → IsFrom p g at from → IsFrom (after p writes) g at from
 
 -- ---- DiskDescriptor
 -- so it is over a value of one of its pages after which the pack is whole

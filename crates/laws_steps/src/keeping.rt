@@ -2,7 +2,8 @@
 
 ghost use Rattle.laws_steps.specs.KeepingLaws.{DescriptorKeepsFound, OpeningKeepsFound, SerialKeepsFound, WrittenKeepsFound};
 
-/// A file that was found stays found over all record writes of an operation that isn't its drop and doesn't take its entry out.
+/// A file that was found stays found over all record writes of an operation that isn't its drop and doesn't take out the entry by which it
+/// was found: one that was found by a held address stays found over the leaving of its own entry.
 pub fn written_keeps_found()
     ensures { WrittenKeepsFound }
 {}

@@ -22,6 +22,7 @@ use Rattle.pack_model.specs.reading.SlotWords.{SlotAt, address_at, address_word,
 use Rattle.pack_model.specs.reading.Slots.Item.{entry, space}
 use Rattle.pack_model.specs.reading.Slots.{Item, all_words, entry_length, item_words, slots}
 use Rattle.pack_model.specs.reading.Versions.{exact}
+use Rattle.laws_steps.specs.KeepingLaws.{IfByEntry}
 
 -- ---- slots of a list
 none_in : (s : SlotAt) → Contains [] s → ⊥
@@ -68,8 +69,8 @@ beside words begin (i ∷ a) b f g own name s other h is = elim (in_cases (recor
   ]
 ]
 
--- so where a file was found is beside the slot of another file's entry
-pub found_beside : (p : Pack) (d : Fid) (a b : List Item) (f : Fid) (own : List ℕ) (g : Fid) (at : ℕ) (from : Place) → slots (dir_words p d) ≡ a ++ entry f own ∷ b → is_fid g f ≡ false → IsFrom p g at from
+-- so where a file was found is beside the slot of another file's entry, or of its own where it was found elsewhere
+pub found_beside : (p : Pack) (d : Fid) (a b : List Item) (f : Fid) (own : List ℕ) (g : Fid) (at : ℕ) (from : Place) → slots (dir_words p d) ≡ a ++ entry f own ∷ b → IfByEntry from (is_fid g f ≡ false) → IsFrom p g at from
     → IsBeside d (all_words a) (all_words a + all_words (entry f own ∷ [])) from
 found_beside p d a b f own g at Root are other h = tt
 found_beside p d a b f own g at (Next i) are other h = tt

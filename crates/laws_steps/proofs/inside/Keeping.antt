@@ -59,7 +59,7 @@ use Rattle.pack_model.specs.reading.Versions.{Entered, exact}
 use Rattle.pack_model.specs.states.Whole.{Tidy, Whole}
 use Rattle.laws_steps.proofs.inside.Beside.{exact_here, found_beside}
 use Rattle.laws_steps.proofs.inside.Released.{elsewhere, entry_stays, found_released}
-use Rattle.laws_steps.specs.KeepingLaws.{StaysEntered, WrittenKeepsFound}
+use Rattle.laws_steps.specs.KeepingLaws.{IfByEntry, StaysEntered, WrittenKeepsFound}
 
 -- files of which a test says otherwise are two
 pub apart_by : (test : Fid → Bool) (d f : Fid) → test d ≡ true → test f ≡ false → is_fid d f ≡ false
@@ -82,8 +82,8 @@ beside_free p events d a old new b g at (Entry e k) w left keeps r bare h = by (
     by false other = found_file_stays_found d p events g at (Entry e k) w left other (inr keeps) h
     by true own = subst (λ x. IsFrom (after p events) g at (Entry x k)) (sym (same_fid e d own)) (entry_stands_outside_of_free_slots p (after p events) d a old new b k at (leader_page g) r bare (subst (λ x. IsFrom p g at (Entry x k)) (same_fid e d own) h))
 
--- where the slot of an entry of another file is made free
-slot_found : (p : Pack) (d : Fid) (slot_at : ℕ) (a b : List Item) (f : Fid) (own : List ℕ) (g : Fid) (at : ℕ) (from : Place) → Whole p → Whole (after p (value_writes slot_at (entry_freed p slot_at a f own))) → HasEntry p d slot_at a b f own → is_fid g f ≡ false
+-- where the slot of an entry is made free, by which the file wasn't found
+slot_found : (p : Pack) (d : Fid) (slot_at : ℕ) (a b : List Item) (f : Fid) (own : List ℕ) (g : Fid) (at : ℕ) (from : Place) → Whole p → Whole (after p (value_writes slot_at (entry_freed p slot_at a f own))) → HasEntry p d slot_at a b f own → IfByEntry from (is_fid g f ≡ false)
     → IsFrom p g at from → IsFrom (after p (value_writes slot_at (entry_freed p slot_at a f own))) g at from
 slot_found p d slot_at a b f own g at from w wq has other h =
     let values : List (ℕ × List ℕ) = (slot_at, entry_freed p slot_at a f own) ∷ [] in
@@ -106,9 +106,12 @@ entry_meant p d at a b f own name t has same =
     ap (exact name) (items_are_slots p d t has.living has.directory ∙ has.slots_are)
     ∙ exact_here d f own name same a b (apart_before (lives (sights p)) (read_as p).files d l.0 a b f own (read_entries_are_kept p) here)
 
--- so another file's entry stays
-another_leaves : (p : Pack) (d : Fid) (at : ℕ) (a b : List Item) (f : Fid) (own name : List ℕ) (g : Fid) → Tidy p → HasEntry p d at a b f own → is_same_name own name ≡ true → StaysEntered p (leave d name) g → is_fid g f ≡ false
-another_leaves p d at a b f own name g t has same stays =
+-- so the file is another one, or it wasn't found by an entry
+another_leaves : (p : Pack) (d : Fid) (at : ℕ) (a b : List Item) (f : Fid) (own name : List ℕ) (g : Fid) (from : Place) → Tidy p → HasEntry p d at a b f own → is_same_name own name ≡ true → StaysEntered p (leave d name) g from → IfByEntry from (is_fid g f ≡ false)
+another_leaves p d at a b f own name g Root t has same stays = tt
+another_leaves p d at a b f own name g (Next i) t has same stays = tt
+another_leaves p d at a b f own name g (Held i) t has same stays = tt
+another_leaves p d at a b f own name g (Entry c k) t has same stays =
     by (entry_at (Exact name) (dir_slots p d)) refl (lookup_is_the_models p d (Exact name) t has.living has.directory ∙ entry_meant p d at a b f own name t has same)
   where
     by : (r : Option EntryAt) → entry_at (Exact name) (dir_slots p d) ≡ r → option_map entered r ≡ Some (f, own) → is_fid g f ≡ false
@@ -119,6 +122,13 @@ another_leaves p d at a b f own name g t has same stays =
         ap (is_fid g) (sym fid) ∙ stays e is
 
 -- ---- a drop
+-- what is known however it was found
+if_by_entry : (P : Type 0) (from : Place) → P → IfByEntry from P
+if_by_entry P Root h = tt
+if_by_entry P (Entry d w) h = h
+if_by_entry P (Next i) h = tt
+if_by_entry P (Held i) h = tt
+
 dropped : (p : Pack) (f d : Fid) (at : ℕ) (pages : List ℕ) (slot_at : ℕ) (a b : List Item) (own : List ℕ) (g : Fid) (bt : ℕ) (from : Place) → Whole p → Tidy p → MayDrop p f at pages → HasEntry p d slot_at a b f own → is_fid g f ≡ false → IsFrom p g bt from
     → IsFrom (after p (drop_writes at pages slot_at (entry_freed p slot_at a f own))) g bt from
 dropped p f d at pages slot_at a b own g bt from w t may has other h =
@@ -131,7 +141,7 @@ dropped p f d at pages slot_at a b own g bt from w t may has other h =
     ∙ ap (λ (s : Sector). after mid (value_writes slot_at (freed_value (all_words a) (item_words (entry f own)) s.value))) (sym sector) in
     let whole : Whole (after mid (value_writes slot_at (entry_freed mid slot_at a f own))) = subst Whole end (drop_carries_out p f at pages d slot_at a b own w t may (slot_words_fit p d slot_at a b f own has)).meets.whole in
     subst (λ q. IsFrom q g bt from) (sym end)
-    (slot_found mid d slot_at a b f own g bt from (release_carries_out p f at pages w t may).drops.whole whole (entry_stays p w t f at pages may d ne slot_at a b f own has) other (found_released p w t f at pages may g bt from other h))
+    (slot_found mid d slot_at a b f own g bt from (release_carries_out p f at pages w t may).drops.whole whole (entry_stays p w t f at pages may d ne slot_at a b f own has) (if_by_entry (is_fid g f ≡ false) from other) (found_released p w t f at pages may g bt from other h))
 
 -- ---- all operations
 pub written_keeps_found : WrittenKeepsFound
@@ -153,7 +163,7 @@ written_keeps_found p o claimed released writes g at from w t h stays found = by
         let k : StaysKnown p o released writes = written_stays_known p o claimed released writes w t x in
         beside_free p writes (written_file o) a old new b g at from w (k.others one) (k.leader one) r bare found
 
-    by : {o : Operation} {claimed released : List ℕ} {writes : List Event} → Written p o claimed released writes → StaysEntered p o g → IsFrom (after p writes) g at from
+    by : {o : Operation} {claimed released : List ℕ} {writes : List Event} → Written p o claimed released writes → StaysEntered p o g from → IsFrom (after p writes) g at from
     by (puts can past_end) stays = on_ordinary (puts can past_end) tt can.file.no_directory
     by (grows file can) stays = on_ordinary (grows file can) tt file.no_directory
     by (cuts can) stays = on_ordinary (cuts can) tt can.file.no_directory
@@ -162,7 +172,7 @@ written_keeps_found p o claimed released writes g at from w t h stays found = by
     by (makes {f = f} {moment = moment} can) stays = on_one (makes {moment = moment} can) tt (λ d k s. apart_by (lives (sights p)) d f s.lives can.not_there)
     by (drops {f = f} {d = d} {at = i} {slot_at = slot_at} {pages = pages} {own = own} {a = a} {b = b} may has) stays = dropped p f d i pages slot_at a b own g at from w t may has stays found
     by (leaves {f = f} {d = d} {name = name} {own = own} {at = i} {a = a} {b = b} has same no_system) stays =
-        slot_found p d i a b f own g at from w (written_acts p (leave d name) [] [] (value_writes i (entry_freed p i a f own)) w t (leaves {name = name} has same no_system)).stays.whole has (another_leaves p d i a b f own name g t has same stays) found
+        slot_found p d i a b f own g at from w (written_acts p (leave d name) [] [] (value_writes i (entry_freed p i a f own)) w t (leaves {name = name} has same no_system)).stays.whole has (another_leaves p d i a b f own name g from t has same stays) found
     by (enters {f = f} {d = d} {name = name} {r = r} {leader_at = leader_at} {at = i} {next_at = next_at} can leader) stays =
         let words : List ℕ = entered_words f leader_at name (left_in r name) in
         let e = enter_words_fit p d name f leader_at r i next_at can in
