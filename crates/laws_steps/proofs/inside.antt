@@ -3,6 +3,7 @@ pub mod ByEntries
 pub mod Descriptor
 pub mod DescriptorLeast
 pub mod Dropping
+pub mod Hinting
 pub mod Keeping
 pub mod Leaders
 pub mod Released

@@ -1,3 +1,4 @@
 pub mod DroppingLaws
+pub mod HintLaws
 pub mod KeepingLaws
 pub mod SerialLaws

@@ -10,6 +10,9 @@
 //! The laws of a drop by two calls: after the releases the entry stands in its directory as before; and the value that frees its slot, as
 //! read then, is the rest of the drop, a break within either being a prefix of it.
 //!
+//! The laws of hints: none on the disk means a file that is to be made; and one hint, also between the two calls of a drop, misled as the
+//! line began where it misleads later.
+//!
 //! The law of a file by its serial: the least full name with the serial, of the leaders that a sweep meets, is the model's file.
 //!
 //! A law function is public, has an empty body and one clause, the law; its lemma has the same name, and its statement has it in
@@ -18,5 +21,6 @@
 #![tactic(auto)]
 
 pub mod dropping;
+pub mod hints;
 pub mod keeping;
 pub mod serials;
