@@ -6,5 +6,6 @@ pub mod Dropping
 pub mod Hinting
 pub mod Keeping
 pub mod Leaders
+pub mod LineKeeping
 pub mod Released
 pub mod Serials

@@ -4,8 +4,8 @@
 //! Come here when you write a line of several operations: a file that was looked up before the first of them is found still before the
 //! last, and a drop by two calls, one that releases the file's sectors and one that frees its entry's slot, is one operation of the line.
 //!
-//! The laws of keeping: files that were found stay found over each operation, except the file that is dropped and the one whose entry
-//! leaves, and over the open mark and a new serial.
+//! The laws of keeping: files that were found stay found over each operation, except the file that is dropped and one found by the entry that
+//! leaves, and over the open mark and a new serial. The laws of lines: so they do over several operations, by what the model says of each.
 //!
 //! The laws of a drop by two calls: after the releases the entry stands in its directory as before; and the value that frees its slot, as
 //! read then, is the rest of the drop, a break within either being a prefix of it.
@@ -23,4 +23,5 @@
 pub mod dropping;
 pub mod hints;
 pub mod keeping;
+pub mod lines;
 pub mod serials;
