@@ -9,7 +9,7 @@ use Rattle.disk_records.specs.declared.records.Event.{Event}
 use Rattle.disk_records.specs.declared.records.Place.{Place}
 use Rattle.laws_call.specs.Acting.{Acts}
 use Rattle.laws_call.specs.Going.{Goes}
-use Rattle.laws_call.specs.Writing.{entry_freed}
+use Rattle.laws_call.specs.Writing.{Written, entry_freed}
 use Rattle.laws_operation.specs.DirectoryWords.{HasEntry}
 use Rattle.laws_operation.specs.LifeLaws.{MayDrop}
 use Rattle.pack_model.specs.hints.Links.{dir_slots}
@@ -47,12 +47,14 @@ ReleasesLeaveTheEntry = (p : Pack) (f d : Fid) (at : ℕ) (pages : List ℕ) (sl
 
 -- ---- both calls
 -- After calls that did these operations: a prefix of the releases; or all of them, and then a prefix of the value that frees the slot of an
--- entry of f as it stands on the pack after them. For every answer that is a prefix of the line with the drop; all of it is the drop.
+-- entry of f as it stands on the pack after them. For every answer that is a prefix of the line with the drop; all of it is what is written of the drop on the pack before the releases.
 pub record DropJoins (T E : Type 0) (p : Pack) (ops : List Operation) (events : List Event) (f d : Fid) (at : ℕ) (pages : List ℕ) : Type 0 where
   pub breaks : (some : List Event) (error : E) → IsFirstOf (release_file_writes at pages) some → Goes {T = T} p (ops ++ drop_file f ∷ []) (events ++ some) (Err error)
   pub joins : (slot_at : ℕ) (a b : List Item) (own : List ℕ) → HasEntry (released_pack (after p events) at pages) d slot_at a b f own
       → (some : List Event) (result : Result T E) → IsFirstOf (slot_writes (released_pack (after p events) at pages) slot_at a f own) some → OnOk result (some ≡ slot_writes (released_pack (after p events) at pages) slot_at a f own)
       → Goes p (ops ++ drop_file f ∷ []) (events ++ (release_file_writes at pages ++ some)) result
+  pub written : (slot_at : ℕ) (a b : List Item) (own : List ℕ) → HasEntry (released_pack (after p events) at pages) d slot_at a b f own
+      → Written (after p events) (drop_file f) [] (at ∷ pages) (release_file_writes at pages ++ slot_writes (released_pack (after p events) at pages) slot_at a f own)
   pub acts : (slot_at : ℕ) (a b : List Item) (own : List ℕ) → HasEntry (released_pack (after p events) at pages) d slot_at a b f own
       → Acts (after p events) (drop_file f) [] (at ∷ pages) (release_file_writes at pages ++ slot_writes (released_pack (after p events) at pages) slot_at a f own)
   pub stands : StandsReleased (after p events) f d at pages

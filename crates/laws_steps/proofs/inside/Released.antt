@@ -56,11 +56,19 @@ module _ (p : Pack) (w : Whole p) (t : Tidy p) (f : Fid) (at : ℕ) (pages : Lis
   pub words : (d : Fid) → is_fid d f ≡ false → dir_words (after p (release_file_writes at pages)) d ≡ dir_words p d
   words d other = ap words_of (others.bytes d other)
 
-  -- and its entries
+  -- and its entries, and no others
   pub entry_stays : (d : Fid) → is_fid d f ≡ false → (slot_at : ℕ) (a b : List Item) (g : Fid) (own : List ℕ) → HasEntry p d slot_at a b g own → HasEntry (after p (release_file_writes at pages)) d slot_at a b g own
   entry_stays d other slot_at a b g own has = record {
     directory = has.directory;
     living = others.living d other ∙ has.living;
     slots_are = ap slots (words d other) ∙ has.slots_are;
     sector = others.places d (page_of_word (all_words a)) other ∙ has.sector;
+  }
+
+  pub entry_stood : (d : Fid) → is_fid d f ≡ false → (slot_at : ℕ) (a b : List Item) (g : Fid) (own : List ℕ) → HasEntry (after p (release_file_writes at pages)) d slot_at a b g own → HasEntry p d slot_at a b g own
+  entry_stood d other slot_at a b g own has = record {
+    directory = has.directory;
+    living = sym (others.living d other) ∙ has.living;
+    slots_are = ap slots (sym (words d other)) ∙ has.slots_are;
+    sector = sym (others.places d (page_of_word (all_words a)) other) ∙ has.sector;
   }
