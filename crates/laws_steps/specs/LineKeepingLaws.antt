@@ -60,6 +60,16 @@ NoneKeepsFound = (p : Pack) → KeepsFound p p []
 abbrev pub OneKeepsFound : Type 0
 OneKeepsFound = (p : Pack) (o : Operation) (claimed released : List ℕ) (writes : List Event) → Whole p → Tidy p → Written p o claimed released writes → KeepsFound p (after p writes) (o ∷ [])
 
+-- so does a call that is to do one, at Ok
+abbrev pub OneCallKeepsFound : Type 0 → Type 0 → Type 0
+OneCallKeepsFound T E = (fault memory : E) (o : Operation) (claimed : List ℕ) (old new : Around) (result : Result T E)
+    → Whole (pack old.tape) → Tidy (pack old.tape) → Operates fault memory o claimed old new result → OnOk result (KeepsFound (pack old.tape) (after (pack old.tape) (added old.tape new.tape)) (o ∷ []))
+
+-- so does a make with its new serial
+abbrev pub MakeKeepsFound : Type 0
+MakeKeepsFound = (p : Pack) (at last : ℕ) (f : Fid) (name : List ℕ) (moment : ℕ) (claimed released : List ℕ) (writes : List Event) → Whole p → Tidy p → place (sights p) disk_descriptor 1 ≡ Some at → (read_as p).last ≤ last
+    → Written (with_serial p at last) (make f name moment) claimed released writes → KeepsFound p (after (with_serial p at last) writes) (make f name moment ∷ [])
+
 -- one after the other do
 abbrev pub LaterKeepsFound : Type 0
 LaterKeepsFound = (p q r : Pack) (ops more : List Operation) → read_as q ≡ steps_of (read_as p) ops → KeepsFound p q ops → KeepsFound q r more → KeepsFound p r (ops ++ more)

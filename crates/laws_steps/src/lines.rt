@@ -1,6 +1,6 @@
 //! Files that were found, over several operations of a line, by what the model says of each.
 
-ghost use Rattle.laws_steps.specs.LineKeepingLaws.{CallKeepsFound, LaterKeepsFound, ModelsFoundStaysEntered, NoneKeepsFound, OneKeepsFound, SerialAndMakeKeepFound, WrittenKeepsFoundOver};
+ghost use Rattle.laws_steps.specs.LineKeepingLaws.{CallKeepsFound, LaterKeepsFound, MakeKeepsFound, ModelsFoundStaysEntered, NoneKeepsFound, OneCallKeepsFound, OneKeepsFound, SerialAndMakeKeepFound, WrittenKeepsFoundOver};
 
 /// What the model says of an operation and a file that was found is so of the pack too.
 pub fn models_found_stays_entered()
@@ -15,6 +15,16 @@ pub fn none_keeps_found()
 /// Over one operation files stay found, by the model before it.
 pub fn one_keeps_found()
     ensures { OneKeepsFound }
+{}
+
+/// Over a call that is to do one operation files stay found, at Ok.
+pub fn one_call_keeps_found<T, E>()
+    ensures { OneCallKeepsFound T E }
+{}
+
+/// Over a make with its new serial files stay found.
+pub fn make_keeps_found()
+    ensures { MakeKeepsFound }
 {}
 
 /// Files that stay found over some operations, and then over more of them, stay so over all.

@@ -7,6 +7,7 @@ use Rattle.alto_words.specs.declared.fid.Fid.{Fid}
 use Rattle.alto_words.specs.declared.wanted.Wanted.TheVariants.{Exact}
 use Rattle.disk_records.proofs.Growing.{after-append}
 use Rattle.disk_records.specs.Packs.{Pack, after, sector_at}
+use Rattle.disk_records.specs.Tapes.{pack}
 use Rattle.disk_records.specs.declared.records.Event.{Event}
 use Rattle.disk_records.specs.declared.records.Place.{Place}
 use Rattle.disk_records.specs.declared.records.Place.TheVariants.{Entry, Held, Next, Root}
@@ -32,7 +33,7 @@ use Rattle.pack_model.specs.states.Whole.{Tidy, Whole}
 use Rattle.laws_steps.proofs.inside.Descriptor.{serial_keeps_found}
 use Rattle.laws_steps.proofs.inside.Keeping.{written_keeps_found}
 use Rattle.laws_steps.specs.KeepingLaws.{IfByEntry, StaysEntered}
-use Rattle.laws_steps.specs.LineKeepingLaws.{CallKeepsFound, KeepsFound, LaterKeepsFound, ModelsFoundStaysEntered, NoneKeepsFound, OneKeepsFound, SerialAndMakeKeepFound, StaysFound, StaysFoundOver, WrittenKeepsFoundOver}
+use Rattle.laws_steps.specs.LineKeepingLaws.{CallKeepsFound, KeepsFound, LaterKeepsFound, MakeKeepsFound, ModelsFoundStaysEntered, NoneKeepsFound, OneCallKeepsFound, OneKeepsFound, SerialAndMakeKeepFound, StaysFound, StaysFoundOver, WrittenKeepsFoundOver}
 
 -- ---- by the model
 -- what is asked of an entry follows from another thing that is asked of it
@@ -66,6 +67,21 @@ none_keeps_found p g at from stays h = h
 pub one_keeps_found : OneKeepsFound
 one_keeps_found p o claimed released writes w t h g at from stays found = written_keeps_found p o claimed released writes g at from w t h (models_found_stays_entered p o claimed released writes g from t h stays.0) found
 
+-- a call that wrote nothing isn't done
+never_ok : {T E : Type 0} (P : Type 0) (result : Result T E) → OnOk result ⊥ → OnOk result P
+never_ok P (Ok x) bad = absurd bad
+never_ok P (Err e) bad = tt
+
+pub one_call_keeps_found : (T E : Type 0) → OneCallKeepsFound T E
+one_call_keeps_found T E fault memory o claimed old new result w t (refused quiet bad rich) = never_ok _ result bad
+one_call_keeps_found T E fault memory o claimed old new result w t (begun b) =
+    on_ok_weaker result (λ all. subst (λ l. KeepsFound (pack old.tape) (after (pack old.tape) l) (o ∷ [])) (sym all) (one_keeps_found (pack old.tape) o claimed b.released b.writes w t b.exact)) b.all
+
+pub make_keeps_found : MakeKeepsFound
+make_keeps_found p at last f name moment claimed released writes w t there above h g bt from stays found =
+    let k = (serial_carries_out p at last w t there above).keeps in
+    one_keeps_found (with_serial p at last) (make f name moment) claimed released writes k.whole k.tidy h g bt from (tt, tt) (serial_keeps_found p at last g bt from w t there above found)
+
 -- what stays found over all of them stays so over the first ones, and then over the others
 first_ones : (m : Model) (ops more : List Operation) (g : Fid) (from : Place) → StaysFoundOver m (ops ++ more) g from → StaysFoundOver m ops g from
 first_ones m [] more g from h = tt
@@ -91,23 +107,11 @@ written_keeps_found_over U F p ops events x o claimed released writes w t u firs
     later_keeps_found p (after p events) (after p (events ++ writes)) ops (o ∷ []) s.reads before
     (subst (λ q. KeepsFound (after p events) q (o ∷ [])) (sym (after-append p events writes)) (one_keeps_found (after p events) o claimed released writes s.whole s.tidy h))
 
--- a call that wrote nothing isn't done
-never_ok : {T E : Type 0} (P : Type 0) (result : Result T E) → OnOk result ⊥ → OnOk result P
-never_ok P (Ok x) bad = absurd bad
-never_ok P (Err e) bad = tt
-
 pub call_keeps_found : (T U E F : Type 0) → CallKeepsFound T U E F
 call_keeps_found T U E F p ops events x fault memory o claimed old new result w t u first before same (refused quiet bad rich) = never_ok _ result bad
 call_keeps_found T U E F p ops events x fault memory o claimed old new result w t u first before same (begun b) =
     on_ok_weaker result (λ all. subst (λ l. KeepsFound p (after p (events ++ l)) (ops ++ o ∷ [])) (sym all)
     (written_keeps_found_over U F p ops events x o claimed b.released b.writes w t u first before (subst (λ q. Written q o claimed b.released b.writes) same b.exact))) b.all
-
--- a make with its serial
-made_keeps : (q : Pack) (at last : ℕ) (f : Fid) (name : List ℕ) (moment : ℕ) (claimed released : List ℕ) (writes : List Event) → Whole q → Tidy q → place (sights q) disk_descriptor 1 ≡ Some at → (read_as q).last ≤ last
-    → Written (with_serial q at last) (make f name moment) claimed released writes → KeepsFound q (after (with_serial q at last) writes) (make f name moment ∷ [])
-made_keeps q at last f name moment claimed released writes w t there above h g bt from stays found =
-    let k = (serial_carries_out q at last w t there above).keeps in
-    one_keeps_found (with_serial q at last) (make f name moment) claimed released writes k.whole k.tidy h g bt from (tt, tt) (serial_keeps_found q at last g bt from w t there above found)
 
 pub serial_and_make_keep_found : (T U E F : Type 0) → SerialAndMakeKeepFound T U E F
 serial_and_make_keep_found T U E F p ops events x f name moment at last fault memory claimed old new result w t u first before there above same (refused quiet bad rich) = never_ok _ result bad
@@ -116,7 +120,7 @@ serial_and_make_keep_found T U E F p ops events x f name moment at last fault me
     let serial : List Event = serial_writes at last (sector_at (after p events) at).value in
     let end : after p (events ++ (serial ++ b.writes)) ≡ after (with_serial (after p events) at last) b.writes = after-append p events (serial ++ b.writes) ∙ after-append (after p events) serial b.writes in
     let made : KeepsFound (after p events) (after (with_serial (after p events) at last) b.writes) (make f name moment ∷ []) =
-    made_keeps (after p events) at last f name moment claimed b.released b.writes s.whole s.tidy there above (subst (λ q. Written q (make f name moment) claimed b.released b.writes) same b.exact) in
+    make_keeps_found (after p events) at last f name moment claimed b.released b.writes s.whole s.tidy there above (subst (λ q. Written q (make f name moment) claimed b.released b.writes) same b.exact) in
     let all : KeepsFound p (after p (events ++ (serial ++ b.writes))) (ops ++ make f name moment ∷ []) =
     later_keeps_found p (after p events) (after p (events ++ (serial ++ b.writes))) ops (make f name moment ∷ []) s.reads before (subst (λ q. KeepsFound (after p events) q (make f name moment ∷ [])) (sym end) made) in
     on_ok_weaker result (λ e. subst (λ l. KeepsFound p (after p (events ++ (serial ++ l))) (ops ++ make f name moment ∷ [])) (sym e) all) b.all
