@@ -1,8 +1,8 @@
 -- Files that were found, over several operations.
-use Rattle.std.proofs.Common.{Err, List, Ok, OnOk, Result, Some, [], ap, false, subst, sym, ℕ, ◌++◌, ◌∙◌, ◌∷◌, ◌≡◌, ◌≤◌}
+use Rattle.std.proofs.Common.{Err, List, Ok, OnOk, Result, Some, [], ap, false, subst, sym, ℕ, ◌++◌, ◌∙◌, ◌∷◌, ◌≡◌}
 use Rattle.std.proofs.lemmas.Result.{on_ok_weaker}
 use Rattle.std.specs.Option.{option_map}
-use Rattle.alto_words.specs.Fid.{disk_descriptor, is_fid}
+use Rattle.alto_words.specs.Fid.{is_fid}
 use Rattle.alto_words.specs.declared.fid.Fid.{Fid}
 use Rattle.alto_words.specs.declared.wanted.Wanted.TheVariants.{Exact}
 use Rattle.disk_records.proofs.Growing.{after-append}
@@ -22,10 +22,8 @@ use Rattle.laws_operation.proofs.descriptor.Laws.{serial_carries_out}
 use Rattle.pack_model.specs.operations.Committing.{moves_of_all}
 use Rattle.pack_model.specs.operations.Step.Operation.{make}
 use Rattle.pack_model.specs.operations.Step.{Operation, step}
-use Rattle.pack_model.specs.reading.Files.{place}
 use Rattle.pack_model.specs.reading.Lookup.{entered}
 use Rattle.pack_model.specs.reading.Model.{Model, dir_items, read_as}
-use Rattle.pack_model.specs.reading.Sights.{sights}
 use Rattle.pack_model.specs.reading.Versions.{Entered, exact}
 use Rattle.pack_model.specs.scavenger.Scavenging.{Unmarked}
 use Rattle.pack_model.specs.sessions.Descriptor.{serial_writes}
