@@ -3,7 +3,7 @@ use Rattle.std.proofs.Common.{◌≡◌, ◌≢◌, ℕ, suc, min, nat_lt, ◌+�
 use Rattle.std.proofs.lemmas.Bool.Decides.{nat_tests}
 use Rattle.std.proofs.lemmas.List.{drop-drop, length-drop, length-take-le}
 use Rattle.std.proofs.lemmas.Slice.{drop-append-drop}
-use Rattle.std.proofs.Math.Seq.{take-add, take-append_seam}
+use Rattle.std.proofs.Math.Seq.{take-add, take-append_seam, take-length}
 use Rattle.alto_words.specs.declared.fid.Fid.{Fid}
 use Rattle.disk_records.specs.declared.records.Page.{Page}
 use Rattle.disk_records.specs.declared.records.Sector.{Sector}
@@ -81,6 +81,14 @@ read_whole bytes old now offset done x end =
       part = record { many = elim end [ inl all ↦ omega (arith, all, there) | inr last ↦ omega (arith, last, most) ]; read = x.read };
       within = omega (arith, there);
     }
+
+-- where all fits from the first byte on, it is all that is there
+pub read_all_there : (bytes old now : List ℕ) (done : ℕ) → IsWithinPart bytes 0 old now done → length bytes ≤ length old → take done now ≡ bytes
+read_all_there bytes old now done x fits =
+    let many = x.part.many in
+    let all : done ≡ length bytes = omega (arith, many, fits) in
+    let long : length (take done bytes) ≡ done = length-take-le done bytes (omega (arith, all)) in
+    ap (take done) x.part.read ∙ ap (λ n. take n (take done bytes ++ drop done old)) (sym long) ∙ take-append_seam (take done bytes) (drop done old) ∙ ap (λ n. take n bytes) all ∙ take-length bytes
 
 -- the bytes that a label of a page counts
 pub few_bytes : {form : Shape} {page : Page} {at : ℕ} {info : PageInfo} {buffer : Sector} → Seen form page at info buffer → info.bytes ≤ 512
