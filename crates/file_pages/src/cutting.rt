@@ -16,7 +16,7 @@ ghost use Rattle.pack_model.specs.operations.PageWords.{relabelled};
 ghost use Rattle.pack_model.specs.states.Whole.{Whole};
 ghost use Rattle.page_seeking.specs.Causes.{cause_of_file, cause_of_length};
 ghost use Rattle.page_seeking.specs.Parts.{IsPast, ListsNext};
-ghost use Rattle.page_seeking.specs.Refs.{FileStands, IfBeyond, IfMisled, MisledBy};
+ghost use Rattle.page_seeking.specs.Refs.{FileStands, IfBeyond, IfMisled, IsOwnHint, MisledBy};
 ghost use Rattle.page_seeking.specs.Seeking.{file_length, length_at};
 ghost use Rattle.page_seeking.specs.declared.refs.FileError.TheVariants as error;
 ghost use Rattle.file_pages.specs.Cutting.{IsRead, to_cut};
@@ -152,6 +152,7 @@ pub fn cut<D: Disk>(
     ensures within { IsTrue D.told → FileStands (pack (D.tape disk.old)) file.now → OnOk result (length ≤ file_length (pack (D.tape disk.old)) file.now.fid) }
     ensures beyond { IsTrue D.told → FileStands (pack (D.tape disk.old)) file.now → IfBeyond result (IsPast (pack (D.tape disk.old)) file.now.fid length) }
     ensures misled { IsTrue D.told → FileStands (pack (D.tape disk.old)) file.now → IfMisled result (MisledBy (pack (D.tape disk.old)) (added (D.tape disk.old) (D.tape disk.new)) file.now.fid) }
+    ensures hint { IsTrue D.told → IfMisled result (IsOwnHint file.now) }
     ensures true_links { IsTrue D.told → FileStands (pack (D.tape disk.old)) file.now → LinksTrue (pack (D.tape disk.old)) → IfMisled result (λ place at wanted found. ⊥) }
     ensures cause { HasCause cause_of_file (D.tape disk.old) (D.tape disk.new) result }
     ensures alone { DiskAlone (D.tape disk.old) (D.tape disk.new) }

@@ -12,7 +12,7 @@ ghost use Rattle.pack_model.specs.hints.Links.{LinksTrue};
 ghost use Rattle.pack_model.specs.operations.Committing.{page_of_byte};
 ghost use Rattle.pack_model.specs.states.Whole.{Whole};
 ghost use Rattle.page_seeking.specs.Causes.{cause_of_length};
-ghost use Rattle.page_seeking.specs.Refs.{FileStands, IfMisled, MisledBy};
+ghost use Rattle.page_seeking.specs.Refs.{FileStands, IfMisled, IsOwnHint, MisledBy};
 ghost use Rattle.page_seeking.specs.Seeking.{file_length, page_number};
 ghost use Rattle.page_seeking.specs.declared.refs.FileError.TheVariants as error;
 ghost use Rattle.file_pages.specs.Cutting.{IsRead};
@@ -110,6 +110,7 @@ pub fn drop_file<D: Disk>(
     ensures releases { IsTrue D.told → FileStands (pack (D.tape disk.old)) file.now → MayBeDropped (pack (D.tape disk.old)) file.now.fid → Releases error.DiskFault error.Memory file.now.fid (around (D.tape disk.old) hints.old.table tally.old) (around (D.tape disk.new) hints.new.table tally.new) result }
     ensures goes { IsTrue D.told → FileStands (pack (D.tape disk.old)) file.now → MayBeDropped (pack (D.tape disk.old)) file.now.fid → DropsButSlot (pack (D.tape disk.old)) file.now.fid (added (D.tape disk.old) (D.tape disk.new)) result }
     ensures misled { IsTrue D.told → FileStands (pack (D.tape disk.old)) file.now → IfMisled result (MisledBy (pack (D.tape disk.old)) (added (D.tape disk.old) (D.tape disk.new)) file.now.fid) }
+    ensures hint { IsTrue D.told → IfMisled result (IsOwnHint file.now) }
     ensures true_links { IsTrue D.told → FileStands (pack (D.tape disk.old)) file.now → LinksTrue (pack (D.tape disk.old)) → IfMisled result (λ place at wanted found. ⊥) }
     ensures cause { HasCause cause_of_length (D.tape disk.old) (D.tape disk.new) result }
     ensures alone { DiskAlone (D.tape disk.old) (D.tape disk.new) }

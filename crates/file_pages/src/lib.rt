@@ -46,5 +46,5 @@ pub use growing::grow;
 pub use leaders::{stamp, title};
 pub use making::make;
 pub use one_value::write_page;
-pub use page_seeking::{FileError, FileRef};
+pub use page_seeking::{FileError, FileRef, length, locate, read_all, read_part};
 pub use putting::put;

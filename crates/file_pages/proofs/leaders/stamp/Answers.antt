@@ -44,4 +44,14 @@ returns-in-Err-clause-true_links g c told stands links =
 pub returns-in-Ok-clause-listed : goal.returns-in-Ok-clause-listed
 returns-in-Ok-clause-listed g c =
     let last = c.in-Ok.last in
-    on_ok c.write_page.result (length_at last.number last.info.bytes, record { number = last.number; bytes = last.info.bytes; tells = refl; ends = c.in-Ok.ensures.listed.ends; listed = c.in-Ok.ensures.listed.listed })
+    on_ok c.write_page.result (length_at last.number last.info.bytes, record { number = last.number; bytes = last.info.bytes; tells = refl; ends = c.in-Ok.ensures.listed.ends; most = c.in-Ok.ensures.listed.most; is = λ told whole. (c.in-Ok.ensures.end told whole).number; listed = c.in-Ok.ensures.listed.listed })
+
+pub returns-in-Ok-clause-unwritten : goal.returns-in-Ok-clause-unwritten
+returns-in-Ok-clause-unwritten g c told unless =
+    let looks = c.locate_ends.ensures.looks in
+    let bits = c.locate_ends.new.hints.table in
+    let writes = value_after_look bits c.args.tally.now c.write_page.new.tally looks.alone c.write_page.ensures.alone (looks.silent told) (g.met.D.Disk.counted c.args.disk.now told) (g.met.D.Disk.counted c.locate_ends.new.disk told) (c.write_page.ensures.writes (stamp c.args.file.now.fid c.args.moment) bits told) in
+    writes.unwritten unless
+
+pub returns-in-Err-clause-unwritten : goal.returns-in-Err-clause-unwritten
+returns-in-Err-clause-unwritten g c told unless = c.locate_ends.ensures.looks.silent told

@@ -47,3 +47,13 @@ returns-in-Err-clause-true_links g c told stands links =
 
 pub returns-in-Ok-clause-listed : goal.returns-in-Ok-clause-listed
 returns-in-Ok-clause-listed g c = on_ok c.write_page.result (is_listed g.D.Tape.told (pack (g.D.Tape.tape c.args.disk.now)) c.in-Ok.ensures.listed (λ told. (c.in-Ok.ensures.stands told).carries))
+
+pub returns-in-Ok-clause-unwritten : goal.returns-in-Ok-clause-unwritten
+returns-in-Ok-clause-unwritten g c told unless =
+    let looks = c.locate.ensures.looks in
+    let bits = c.locate.new.hints.table in
+    let writes = value_after_look bits c.args.tally.now c.write_page.new.tally looks.alone c.write_page.ensures.alone (looks.silent told) (g.met.D.Disk.counted c.args.disk.now told) (g.met.D.Disk.counted c.locate.new.disk told) (c.write_page.ensures.writes (title c.args.file.now.fid c.args.name.now) bits told) in
+    writes.unwritten unless
+
+pub returns-in-Err-clause-unwritten : goal.returns-in-Err-clause-unwritten
+returns-in-Err-clause-unwritten g c told unless = c.locate.ensures.looks.silent told
