@@ -2,7 +2,8 @@
 //!
 //! Below it stand label_check, hint_cache and leader_page, page_seeking with the names of files, and the laws of calls. Come here to make a
 //! file, to title or to stamp one, to put bytes in the place of others or after them, to cut one or to drop one; and for a value write of
-//! one page as an operation, on which calls on directories stand (`write_page`). To the layers above, on every machine:
+//! one page as an operation, on which calls on directories stand (`write_page`). The calls that read, `locate`, `length`, `read_part` and
+//! `read_all` of page_seeking, are handed on, so that all eleven calls on files come from here. To the layers above, on every machine:
 //! 1. A fault comes only where its count rose, and Beyond only from `put` and `cut` (`cause`). Misled of a new file names an address that
 //!    was given for it (`given`). Nothing is shown, and no key is taken (`alone`).
 //! 2. The table of busy bits keeps its length (`sized`), or is as it was (`table`), and the count of notes that were refused never falls
