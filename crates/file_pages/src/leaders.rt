@@ -42,10 +42,11 @@ fn put_name(value: &mut [u16; 256], name: &Name)
     value[NAME..REST].copy_from_slice(&name_words(name));
 }
 
-/// Gives the leader of an ordinary file another name, by one value write. Its leader page is located first; `buf` holds it then.
+/// Gives the leader of an ordinary file another name, by one value write. Its leader page is located first; what `buf` holds afterwards is
+/// open.
 ///
 /// Misled: the address that the file is named with misleads. DiskFault: the device failed. Memory: no memory was left for the record write.
-/// After each of these nothing was written, or after DiskFault all of it may be; what `buf` holds is open.
+/// After each of these nothing was written, or after DiskFault all of it may be.
 pub fn title<D: Disk>(
     disk: &mut D,
     hints: &mut Hints,
@@ -100,9 +101,9 @@ fn put_stamp(value: &mut [u16; 256], moment: u32, last: LastPage)
 }
 
 /// Gives the leader of an ordinary file another written date, in seconds since the start of 1901, and the address, the number and the bytes
-/// of its last page, by one value write. Its leader and its last page are located first, and noted; what `buf` holds is open. With true links, a handy
-/// cache and a leader that names a page near the end it takes 6 sector commands, and one for each page after that one; 4, if that is the
-/// last.
+/// of its last page, by one value write. Its leader and its last page are located first; the last page is listed then, unless a note was
+/// refused, and what `buf` holds is open. With true links, a handy cache and a leader that names a data page it takes at most 6 sector
+/// commands, and one more for each page after that one; with handy hints and a leader that names the last page at most 4.
 ///
 /// Misled: a hint of the file misleads, as `locate` says. DiskFault: the device failed. Memory: no memory was left for the record write.
 /// After each of these nothing was written, or after DiskFault all of it may be.
