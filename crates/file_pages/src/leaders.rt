@@ -12,7 +12,7 @@ ghost use Rattle.page_seeking.specs.Causes.{cause_of_length};
 ghost use Rattle.page_seeking.specs.Refs.{FileStands, IfMisled, IsOwnHint, MisledBy};
 ghost use Rattle.page_seeking.specs.Seeking.{LastNamed, NamedNearEnd, Quick, QuickCache};
 ghost use Rattle.page_seeking.specs.declared.refs.FileError.TheVariants as error;
-ghost use Rattle.file_pages.specs.Calls.{ListsItsEnd, ListsLeader, to_stamp, to_title};
+ghost use Rattle.file_pages.specs.Calls.{IsHintOrFound, ListsItsEnd, ListsLeader, to_stamp, to_title};
 ghost use Rattle.file_pages.specs.Values.{LeavesHandy};
 
 use crate::ends::locate_ends;
@@ -58,6 +58,7 @@ pub fn title<D: Disk>(
     ensures operates { IsTrue D.told → FileStands (pack (D.tape disk.old)) file.now → IsOrdinary file.now.fid → Operates error.DiskFault error.Memory (to_title file.now.fid name.now) [] (around (D.tape disk.old) hints.old.table tally.old) (around (D.tape disk.new) hints.new.table tally.new) result }
     ensures misled { IsTrue D.told → FileStands (pack (D.tape disk.old)) file.now → IfMisled result (MisledBy (pack (D.tape disk.old)) [] file.now.fid) }
     ensures hint { IsTrue D.told → IfMisled result (IsOwnHint file.now) }
+    ensures given { IfMisled result (IsHintOrFound file.now) }
     ensures true_links { IsTrue D.told → FileStands (pack (D.tape disk.old)) file.now → LinksTrue (pack (D.tape disk.old)) → IfMisled result (λ place at wanted found. ⊥) }
     ensures cause { HasCause cause_of_length (D.tape disk.old) (D.tape disk.new) result }
     ensures unwritten { IsTrue D.told → (IsErrOf result error.DiskFault → ⊥) → OnErr result (added (D.tape disk.old) (D.tape disk.new) ≡ []) }
@@ -118,6 +119,7 @@ pub fn stamp<D: Disk>(
     ensures operates { IsTrue D.told → FileStands (pack (D.tape disk.old)) file.now → IsOrdinary file.now.fid → Operates error.DiskFault error.Memory (to_stamp file.now.fid moment) [] (around (D.tape disk.old) hints.old.table tally.old) (around (D.tape disk.new) hints.new.table tally.new) result }
     ensures misled { IsTrue D.told → FileStands (pack (D.tape disk.old)) file.now → IfMisled result (MisledBy (pack (D.tape disk.old)) [] file.now.fid) }
     ensures hint { IsTrue D.told → IfMisled result (IsOwnHint file.now) }
+    ensures given { IfMisled result (IsHintOrFound file.now) }
     ensures true_links { IsTrue D.told → FileStands (pack (D.tape disk.old)) file.now → LinksTrue (pack (D.tape disk.old)) → IfMisled result (λ place at wanted found. ⊥) }
     ensures cause { HasCause cause_of_length (D.tape disk.old) (D.tape disk.new) result }
     ensures unwritten { IsTrue D.told → (IsErrOf result error.DiskFault → ⊥) → OnErr result (added (D.tape disk.old) (D.tape disk.new) ≡ []) }

@@ -13,6 +13,7 @@ ghost use Rattle.page_seeking.specs.Refs.{FileStands, IfBeyond, IfMisled, IsOwnH
 ghost use Rattle.page_seeking.specs.Seeking.{KeepsHandy, Quick, Stands, file_length, length_at, page_number};
 ghost use Rattle.page_seeking.specs.declared.refs.FileError.TheVariants as error;
 ghost use Rattle.pack_model.specs.hints.Links.{LinksTrue};
+ghost use Rattle.file_pages.specs.Calls.{IsHintOrFound};
 ghost use Rattle.pack_model.specs.operations.Committing.{page_of_byte};
 ghost use Rattle.pack_model.specs.operations.PageWords.{put_value};
 ghost use Rattle.pack_model.specs.states.Whole.{Whole};
@@ -136,6 +137,7 @@ pub fn put<D: Disk>(
     ensures beyond { IsTrue D.told → Whole (pack (D.tape disk.old)) → IfBeyond result (EndsBefore (pack (D.tape disk.old)) file.now.fid (offset + length bytes.now) (around (D.tape disk.old) hints.old.table tally.old) (around (D.tape disk.new) hints.new.table tally.new)) }
     ensures misled { IsTrue D.told → FileStands (pack (D.tape disk.old)) file.now → IfMisled result (MisledBy (pack (D.tape disk.old)) [] file.now.fid) }
     ensures hint { IsTrue D.told → IfMisled result (IsOwnHint file.now) }
+    ensures given { IfMisled result (IsHintOrFound file.now) }
     ensures true_links { IsTrue D.told → FileStands (pack (D.tape disk.old)) file.now → LinksTrue (pack (D.tape disk.old)) → IfMisled result (λ place at wanted found. ⊥) }
     ensures cause { HasCause cause_of_file (D.tape disk.old) (D.tape disk.new) result }
     ensures unwritten { IsTrue D.told → (IsErrOf result error.DiskFault → ⊥) → OnErr result (added (D.tape disk.old) (D.tape disk.new) ≡ []) }

@@ -1,4 +1,4 @@
-use Rattle.std.proofs.Common.{Bool, List, [], arith, subst, Err, refl}
+use Rattle.std.proofs.Common.{Bool, List, [], arith, subst, Err, refl, ap, inl, inr}
 use Rattle.disk_records.proofs.Growing.{alone_twice}
 use Rattle.disk_records.specs.Tapes.{pack}
 use Rattle.pack_model.specs.operations.Step.Operation.{stamp}
@@ -9,6 +9,9 @@ use Rattle.file_pages.proofs.StampOnce.{stamped_once}
 use Rattle.file_pages.proofs.Valued.{look_leaves_handy, value_after_look, value_leaves_handy, value_operates}
 use Rattle.page_seeking.proofs.TrueLinks.{never_led}
 use Rattle.page_seeking.specs.Seeking.{length_at}
+use Rattle.disk_records.specs.declared.records.Page.{Page}
+use Rattle.page_seeking.proofs.Erring.{if_misled_map}
+use Rattle.file_pages.proofs.Erring.{was_found}
 use Rattle.file_pages.proofs.leaders.stamp.Goals as goal
 
 pub returns-in-Ok-clause-alone : goal.returns-in-Ok-clause-alone
@@ -55,3 +58,9 @@ returns-in-Ok-clause-unwritten g c told unless =
 
 pub returns-in-Err-clause-unwritten : goal.returns-in-Err-clause-unwritten
 returns-in-Err-clause-unwritten g c told unless = c.locate_ends.ensures.looks.silent told
+
+pub returns-in-Ok-clause-given : goal.returns-in-Ok-clause-given
+returns-in-Ok-clause-given g c = if_misled_map c.write_page.result c.write_page.ensures.held (λ place at wanted found x. inr (was_found c.args.file.now.fid c.in-Ok.at c.page_of_file.result (ap (λ (p : Page). p.fid) c.page_of_file.ensures) place at wanted found x))
+
+pub returns-in-Err-clause-given : goal.returns-in-Err-clause-given
+returns-in-Err-clause-given g c = if_misled_map {T = Unit {0}} (Err c.in-Err.error) c.in-Err.ensures.hint (λ place at wanted found x. inl x)
