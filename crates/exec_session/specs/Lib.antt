@@ -1,2 +1,6 @@
 pub mod Stops
+pub mod Serials
 pub mod Meant
+pub mod Found
+pub mod NewNames
+pub mod Rooms

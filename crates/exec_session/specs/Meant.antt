@@ -1,21 +1,15 @@
 -- What contracts see of a session, and of a line that is done or isn't.
 -- What a session keeps is this project's choice.
-use Rattle.std.specs.Prelude.{◌≡◌, ◌⊎◌, ◌≤◌, ◌+◌, ℕ, Bool, IsTrue, true, List, [], Option, None, Vec, Result, Ok, Err}
+use Rattle.std.specs.Prelude.{◌≡◌, ◌⊎◌, ◌≤◌, ◌+◌, ℕ, Bool, IsTrue, true, List, [], Option, Vec, Result, Ok, Err}
 use Rattle.disk_records.specs.declared.records.Page.{Page}
 use Rattle.disk_records.specs.declared.records.Place.{Place}
 use Rattle.disk_records.specs.Tapes.{Taped, Looks, pack}
-use Rattle.pack_model.specs.reading.Files.{first}
 use Rattle.page_seeking.specs.Seeking.{KeepsHandy, Refused as NoteRefused, all_listed}
-use Rattle.exec_words.specs.declared.line.Line.{Line}
 use Rattle.exec_words.specs.declared.reply.Refusal.{Refusal}
 use Rattle.exec_words.specs.declared.reply.Refusal.TheVariants as refusal
 use Rattle.exec_words.specs.declared.reply.Reply.{Reply}
 use Rattle.exec_words.specs.declared.reply.Reply.TheVariants as reply
-
-use Rattle.session_model.specs.Keeping.{Kept, Formed, world_of}
-use Rattle.session_model.specs.Refusals.{by_line}
-use Rattle.session_model.specs.Turning.{typed}
-use Rattle.session_model.specs.Worlds.{World}
+use Rattle.session_model.specs.Keeping.{Kept}
 use Rattle.exec_session.specs.declared.session.Session.{Session}
 use Rattle.exec_session.specs.declared.stop.Stop.{Stop}
 use Rattle.exec_session.specs.declared.stop.Stop.TheVariants.{Refused, Misled, DiskFault, Memory}

@@ -1,7 +1,6 @@
 -- Why a line isn't done, by the answers of the calls that it makes.
 -- How a failed call is answered is this project's choice.
-use Rattle.std.specs.Prelude.{ℕ, Bool, cond, List, [], Option, Some, None, Result, Ok, Err}
-use Rattle.alto_words.specs.Fid.{disk_descriptor}
+use Rattle.std.specs.Prelude.{Bool, cond, Option, Some, None, Result, Ok, Err}
 use Rattle.disk_records.specs.Causes.{Cause, disk, other}
 use Rattle.disk_records.specs.declared.records.Place.TheVariants.{Held}
 use Rattle.pack_model.specs.hints.Misled.{leader_page}

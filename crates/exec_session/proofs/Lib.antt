@@ -1,0 +1,7 @@
+mod Finding
+mod Looking
+mod NewNaming
+mod OrdinaryFiles
+mod RoomPlanning
+mod SerialFiles
+mod Stopping
