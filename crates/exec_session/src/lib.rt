@@ -20,19 +20,23 @@
 //! Not promised: that the address of a file that was found is that of its leader. Who follows it checks it by the label that stands there.
 #![tactic(auto)]
 
+mod contents;
 mod kinds;
 mod new_names;
 mod operands;
+mod reserving;
 mod rooms;
 mod serials;
 mod session;
 mod stop;
 mod targets;
 
+pub use contents::length_of;
 pub use kinds::{refuse_descriptor, refuse_directory, refuse_system, require_directory};
 pub use new_names::{name_given, refuse_held_base};
 pub use operands::{Found, ROOT, find_dir, find_path};
 pub use page_seeking::FileRef;
+pub use reserving::require_serial;
 pub use rooms::{NewEntry, plan_entry};
 pub use session::Session;
 pub use stop::{Stop, entered, refused, written};
