@@ -13,6 +13,7 @@ import socket
 import subprocess
 import sys
 import tempfile
+import time
 
 sys.dont_write_bytecode = True
 import arguments
@@ -23,6 +24,9 @@ DONE, USAGE, DISK_FAILED, KEYS_FAILED, DISPLAY_FAILED, NO_MEMORY, NO_SESSION = 0
 SMALL = 25_536
 THREE = 38_304
 LARGEST = 5_183_808
+# dates are in seconds since the start of 1901, and stand after a sector's header and label
+SECONDS_BEFORE_1970 = 2_177_452_800
+DATES_AT = 20
 MIB = 2**20
 # limits on memory, each greater than the one before it by half a MiB
 STEP = MIB // 2
@@ -280,10 +284,16 @@ def check_show(program):
 
 
 def without_dates(run):
-    """The run with zeros for the three dates of both leaders in the files left, except in `two`: they are the time of the run."""
+    """The run, in which a pack was formatted, with zeros for the three dates of both leaders in the files left, except in `two`. Before, they
+    are one moment of the run, or else that is a failure: the clock is read now, and may have gone on for all of the run."""
+    now = int(time.time()) + SECONDS_BEFORE_1970
     for name, content in run.left.items():
         for at in () if name == "two" else (1, 3):
-            first = at * 532 + 20
+            first = at * packs.SECTOR + DATES_AT
+            dates = content[first : first + 12]
+            moment = int.from_bytes(dates[:4], "big")
+            if dates != 3 * dates[:4] or not now - SECONDS - 2 <= moment <= now:
+                failures.append(f"{run.name}: {name}: the dates in sector {at} are {dates.hex(' ', 4)}, and not one moment of the run")
             content = content[:first] + bytes(12) + content[first + 12 :]
         run.left[name] = content
     return run

@@ -46,8 +46,8 @@ fn format_disk<D: Disk>(
 /// time now, in seconds since the start of 1901, which the leaders of both system files have as their dates. No key is taken. One sector
 /// command a sector at most.
 ///
-/// DiskFault: a sector wasn't written; nothing is shown, and the pack is to be formatted again. DisplayFault: the display failed; the pack
-/// is formatted, and a prefix of the text is shown. Memory: none was left; nothing is shown, and the pack is to be formatted
+/// DiskFault: a sector may not be written; nothing is shown, and the pack is to be formatted again. DisplayFault: the display failed; the
+/// pack is formatted, and a prefix of the text is shown. Memory: none was left; nothing is shown, and the pack is to be formatted
 /// again. Usage and KeyFault are never answered.
 pub fn format_pack<M: Machine>(alloc: Global, number: u16, moment: u32, machine: &mut M) -> Status
     ensures answer { AnswersFormat result }

@@ -42,8 +42,8 @@ fn prepare_disk<D: Disk>(alloc: Global, disk: &mut D, number: u16) -> Result<Vec
 /// number. Where no sector of the drive carries a page, the pack shows at each crash point what it showed before. No key is taken. Two
 /// sector commands a sector of the drive at most.
 ///
-/// DiskFault: a sector wasn't written; nothing is shown, and the drive is to be prepared again. DisplayFault: the display failed; the drive
-/// is prepared, and a prefix of the text is shown. Memory: none was left; nothing is shown, and the drive is to be prepared again.
+/// DiskFault: a sector may not be written; nothing is shown, and the drive is to be prepared again. DisplayFault: the display failed; the
+/// drive is prepared, and a prefix of the text is shown. Memory: none was left; nothing is shown, and the drive is to be prepared again.
 /// Usage and KeyFault are never answered.
 pub fn prepare_pack<M: Machine>(alloc: Global, number: u16, machine: &mut M) -> Status
     requires two { disks_of (M.tape machine.old).form ≡ 2 }

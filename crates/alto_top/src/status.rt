@@ -16,18 +16,19 @@ use std::alloc::{AllocError, AllocFailed};
 /// How a call of the program ended; its number is the exit code.
 #[derive(Clone, Copy, Debug, PartialEq, Eq)]
 pub enum Status {
-    /// The typed input was obeyed to its end, the listing was shown, or the pack was formatted.
+    /// The typed input was obeyed to its end, the listing was shown, the pack was formatted, or its second drive was prepared.
     Done = 0,
-    /// The words of the command line ask for nothing.
+    /// The words of the command line ask for nothing, or to prepare the second drive of a pack on one.
     Usage = 1,
     /// The disk failed. The session or the listing stopped at once; what was acknowledged stands on the pack. A pack that was being
-    /// formatted is to be formatted again.
+    /// formatted is to be formatted again, and a drive that was being prepared is to be prepared again.
     DiskFault = 3,
     /// The keyboard failed. The lines that ended before have their replies.
     KeyFault = 4,
     /// The display failed. No record write follows the first byte that wasn't shown.
     DisplayFault = 5,
-    /// No memory was left. What was acknowledged stands on the pack. A pack that was being formatted is to be formatted again.
+    /// No memory was left. What was acknowledged stands on the pack. A pack that was being formatted is to be formatted again, and a drive
+    /// that was being prepared is to be prepared again.
     Memory = 6,
 }
 

@@ -8,6 +8,7 @@ mod FreeRows
 mod Items
 mod LeavingEntry
 mod Meeting
+mod Misleading
 mod Paging
 mod PlaceFound
 mod Quickly

@@ -16,6 +16,7 @@ use Rattle.label_check.specs.declared.errors.PageInfo.{PageInfo}
 use Rattle.laws_contents.specs.PageLaws.{FullBefore, bytes_at}
 use Rattle.laws_contents.specs.WordContents.{file_words, words_at}
 use Rattle.pack_model.specs.hints.Links.{LinksTrue, dir_slots}
+use Rattle.pack_model.specs.operations.Committing.{page_of_byte}
 use Rattle.pack_model.specs.reading.Files.{place}
 use Rattle.pack_model.specs.reading.Sights.{sights}
 use Rattle.pack_model.specs.reading.SlotWords.{SlotAt}
@@ -25,7 +26,7 @@ use Rattle.page_seeking.specs.Causes.{cause_of_file, cause_of_length}
 use Rattle.page_seeking.specs.declared.refs.FileError.{FileError}
 use Rattle.page_seeking.specs.declared.refs.FileError.TheVariants.{Misled, Beyond, DiskFault, Memory}
 use Rattle.page_seeking.specs.Refs.{IfBeyond, IfMisled}
-use Rattle.page_seeking.specs.Seeking.{IsEnd, Links, Lists, Refused, Seen, Stands, page_number}
+use Rattle.page_seeking.specs.Seeking.{IsEnd, Links, Lists, Refused, Seen, Stands, file_length, page_number}
 use Rattle.page_seeking.proofs.Parting.{few_bytes}
 use Rattle.directory.specs.Found.{IsQuick}
 use Rattle.directory.specs.Visits.{Visits, ended}
@@ -46,6 +47,10 @@ module _ (p : Pack) (f : Fid) (k at : ℕ) (form : Shape) (info : PageInfo) (buf
 
   counts : length (bytes_at p at) ≡ info.bytes
   counts = counts_here p f k at placed seen stands.holds
+
+  -- it has the last number, if it isn't full
+  pub last_number : FullBefore p f k → (info.bytes ≡ 512 → ⊥) → k + 1 ≡ page_of_byte (file_length p f)
+  last_number full short = let small = few_bytes seen in add-one k ∙ sym (ends_here p f k at full placed (omega (arith, small, short, counts)))
 
   module _ {V : Type 0} (step : V → SlotAt → V → Type 0) (words : List ℕ) (walk later : Walking) (u v w : V) (is : words ≡ take (info.bytes / 2) buffer.value) (so_far : VisitedTo step p f k walk u v)
       (visits : (given : List ℕ) → Walked given walk → Visits step given (given ++ words) later v w) where

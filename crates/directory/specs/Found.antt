@@ -1,5 +1,5 @@
 -- What calls that read a directory find, by the slots of its words.
-use Rattle.std.specs.Prelude.{◌≡◌, ◌⊎◌, ℕ, ◌+◌, ◌≤◌, List, map, Some, None}
+use Rattle.std.specs.Prelude.{◌≡◌, ◌⊎◌, ℕ, ◌+◌, ◌≤◌, Bool, List, map, Some, None}
 use Rattle.alto_words.specs.declared.fid.Fid.{Fid}
 use Rattle.alto_words.specs.declared.wanted.Wanted.{Wanted}
 use Rattle.alto_words.specs.declared.wanted.Wanted.TheVariants.{Newest}
@@ -15,7 +15,8 @@ use Rattle.pack_model.specs.reading.Lookup.{EntryAt, entry_at, is_held_at, versi
 use Rattle.pack_model.specs.reading.Slots.{slots}
 use Rattle.pack_model.specs.reading.SlotWords.{address_word}
 use Rattle.page_seeking.specs.declared.refs.FileRef.{FileRef}
-use Rattle.page_seeking.specs.Seeking.{Refused, file_length}
+use Rattle.page_seeking.specs.Parts.{IsListed}
+use Rattle.page_seeking.specs.Seeking.{Refused, file_length, page_number}
 use Rattle.directory.specs.declared.versions.VersionFound.{VersionFound}
 
 -- ---- a name that was looked up
@@ -49,3 +50,14 @@ pub record AreSlots (p : Pack) (d : Fid) (found : List Slot) : Type 0 where
 -- one a data page and one more, unless a note was refused
 abbrev pub IsQuick : Pack → Fid → Cached → Cached → Taped → Taped → Type 0
 IsQuick p d before now old new = (new.runs ≤ old.runs + (page_of_byte (file_length p d) + 1)) ⊎ Refused before now
+
+-- ---- the cache
+-- a directory's last page has this number: that of the page its end is in, or the greatest there is
+abbrev pub IsLastNumber : Pack → Fid → ℕ → Type 0
+IsLastNumber p d number = (number ≡ page_of_byte (file_length p d)) ⊎ ((number ≡ 65535) × (65535 ≤ page_of_byte (file_length p d)))
+
+-- Its last page is listed, unless a note was refused.
+pub record ListsLastPage (told : Bool) (p : Pack) (d : Fid) (old new : Cached) : Type 0 where
+  pub number : ℕ
+  pub is : IsLastNumber p d number
+  pub listed : IsListed told p (page_number d number) new ⊎ Refused old new

@@ -8,6 +8,7 @@ ghost use Rattle.disk_records.specs.Tapes.{DiskAlone, Looks, pack};
 ghost use Rattle.file_pages.specs.Values.{LeavesHandy};
 ghost use Rattle.laws_call.specs.Acting.{IsQuiet, Operates, around};
 ghost use Rattle.laws_operation.specs.PlaceLaws.{SamePlaces};
+ghost use Rattle.pack_model.specs.hints.Links.{LinksTrue};
 ghost use Rattle.pack_model.specs.operations.Committing.{page_of_word};
 ghost use Rattle.pack_model.specs.operations.PageWords.{in_page, later, near};
 ghost use Rattle.pack_model.specs.reading.Bytes.{put_at};
@@ -257,7 +258,9 @@ pub fn enter<D: Disk>(
     ensures taken { IsTrue D.told → DirStands (pack (D.tape disk.old)) dir.now → IsErrOf result DirError.NameTaken → IsTaken (pack (D.tape disk.old)) dir.now.fid name.now }
     ensures full { IsTrue D.told → DirStands (pack (D.tape disk.old)) dir.now → IfNoSlot result (HasNoRoom (pack (D.tape disk.old)) dir.now.fid name.now) }
     ensures unwritten { IsTrue D.told → IfBySlots result (IsQuiet (around (D.tape disk.old) hints.old.table tally.old) (around (D.tape disk.new) hints.new.table tally.new)) }
+    ensures quiet { IsTrue D.told → DirStands (pack (D.tape disk.old)) dir.now → IfMisled result (λ place at wanted found. IsQuiet (around (D.tape disk.old) hints.old.table tally.old) (around (D.tape disk.new) hints.new.table tally.new)) }
     ensures misled { IsTrue D.told → DirStands (pack (D.tape disk.old)) dir.now → IfMisled result (MisledBy (pack (D.tape disk.old)) [] dir.now.fid) }
+    ensures true_links { IsTrue D.told → DirStands (pack (D.tape disk.old)) dir.now → LinksTrue (pack (D.tape disk.old)) → IfMisled result (λ place at wanted found. ⊥) }
     ensures cause { HasCause (cause_of never other other) (D.tape disk.old) (D.tape disk.new) result }
 
     // What stays, and the hints.

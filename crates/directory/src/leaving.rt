@@ -6,6 +6,7 @@ ghost use Rattle.disk_records.specs.Causes.{HasCause, never, other};
 ghost use Rattle.disk_records.specs.Tapes.{DiskAlone, Looks, added, pack};
 ghost use Rattle.file_pages.specs.Values.{LeavesHandy};
 ghost use Rattle.laws_call.specs.Acting.{IsQuiet, Operates, around};
+ghost use Rattle.pack_model.specs.hints.Links.{LinksTrue};
 ghost use Rattle.pack_model.specs.operations.Committing.{page_of_word};
 ghost use Rattle.pack_model.specs.operations.PageWords.{freed_value};
 ghost use Rattle.pack_model.specs.reading.Slots.Item.{entry};
@@ -123,6 +124,7 @@ fn free_entry<D: Disk>(
     ensures frees { IsTrue D.told → DirIsFound (pack (D.tape disk.old)) dir.now → FreesSlot (pack (D.tape disk.old)) dir.now.fid name.now (D.tape disk.old) (D.tape disk.new) result }
     ensures absent { IsTrue D.told → Whole (pack (D.tape disk.old)) → DirIsFound (pack (D.tape disk.old)) dir.now → IsErrOf result DirError.NoSuchName → IsAbsent (pack (D.tape disk.old)) dir.now.fid (Exact name.now) }
     ensures unwritten { IsTrue D.told → IfBySlots result (IsQuiet (around (D.tape disk.old) hints.old.table tally.old) (around (D.tape disk.new) hints.new.table tally.new)) }
+    ensures quiet { IsTrue D.told → IfMisled result (λ place at wanted found. IsQuiet (around (D.tape disk.old) hints.old.table tally.old) (around (D.tape disk.new) hints.new.table tally.new)) }
     ensures misled { IsTrue D.told → DirIsFound (pack (D.tape disk.old)) dir.now → IfMisled result (MisledBy (pack (D.tape disk.old)) [] dir.now.fid) }
     ensures cause { HasCause (cause_of other never never) (D.tape disk.old) (D.tape disk.new) result }
     ensures alone { DiskAlone (D.tape disk.old) (D.tape disk.new) }
@@ -149,8 +151,8 @@ fn free_entry<D: Disk>(
 /// page in which it begins is located before the record write.
 ///
 /// NoSuchName: the directory has no such entry. File: Misled where the address that the directory is named with, or a next link of it,
-/// misleads; DiskFault where the device failed; Memory where no memory was left for the record write. After each of these nothing was
-/// written, or after DiskFault all of it may be. NameTaken and NoSlot never come. What `buf` holds is open.
+/// misleads; DiskFault where the device failed; Memory where no memory was left for the record write. After NoSuchName and Misled nothing was
+/// written; after DiskFault and Memory the record write was made or not. NameTaken and NoSlot never come. What `buf` holds is open.
 pub fn leave<D: Disk>(
     disk: &mut D,
     hints: &mut Hints,
@@ -166,7 +168,9 @@ pub fn leave<D: Disk>(
     // Which error comes when.
     ensures absent { IsTrue D.told → DirStands (pack (D.tape disk.old)) dir.now → IsErrOf result DirError.NoSuchName → IsAbsent (pack (D.tape disk.old)) dir.now.fid (Exact name.now) }
     ensures unwritten { IsTrue D.told → IfBySlots result (IsQuiet (around (D.tape disk.old) hints.old.table tally.old) (around (D.tape disk.new) hints.new.table tally.new)) }
+    ensures quiet { IsTrue D.told → IfMisled result (λ place at wanted found. IsQuiet (around (D.tape disk.old) hints.old.table tally.old) (around (D.tape disk.new) hints.new.table tally.new)) }
     ensures misled { IsTrue D.told → DirStands (pack (D.tape disk.old)) dir.now → IfMisled result (MisledBy (pack (D.tape disk.old)) [] dir.now.fid) }
+    ensures true_links { IsTrue D.told → DirStands (pack (D.tape disk.old)) dir.now → LinksTrue (pack (D.tape disk.old)) → IfMisled result (λ place at wanted found. ⊥) }
     ensures cause { HasCause (cause_of other never never) (D.tape disk.old) (D.tape disk.new) result }
 
     // What stays, and the hints.
@@ -185,7 +189,8 @@ pub fn leave<D: Disk>(
 /// counted the drop. It is done as `leave` does it, and nothing is counted. On the pack the entry's file doesn't live, so that the pack
 /// needn't be tidy.
 ///
-/// The errors are those of `leave`.
+/// The errors are those of `leave`. That Misled never comes where links are true is said of tidy packs alone: the caller has it of the pack
+/// before the drop, by the calls that found the entry there, and takes a Misled here as one of any pack (`misled`).
 pub fn free_slot<D: Disk>(
     disk: &mut D,
     hints: &mut Hints,
@@ -199,6 +204,7 @@ pub fn free_slot<D: Disk>(
     // Which error comes when.
     ensures absent { IsTrue D.told → Whole (pack (D.tape disk.old)) → DirIsFound (pack (D.tape disk.old)) dir.now → IsErrOf result DirError.NoSuchName → IsAbsent (pack (D.tape disk.old)) dir.now.fid (Exact name.now) }
     ensures unwritten { IsTrue D.told → IfBySlots result (added (D.tape disk.old) (D.tape disk.new) ≡ []) }
+    ensures quiet { IsTrue D.told → IfMisled result (λ place at wanted found. added (D.tape disk.old) (D.tape disk.new) ≡ []) }
     ensures misled { IsTrue D.told → DirIsFound (pack (D.tape disk.old)) dir.now → IfMisled result (MisledBy (pack (D.tape disk.old)) [] dir.now.fid) }
     ensures cause { HasCause (cause_of other never never) (D.tape disk.old) (D.tape disk.new) result }
 

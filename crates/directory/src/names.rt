@@ -2,11 +2,13 @@
 ghost use Rattle.std.specs.Prelude.{◌≡◌, ◌*◌, ◌≤◌, IsTrue, IsErrOf, IfOk, OnOk, []};
 ghost use Rattle.disk_records.specs.Causes.{HasCause, never, other};
 ghost use Rattle.disk_records.specs.Tapes.{Looks, pack};
-ghost use Rattle.page_seeking.specs.Refs.{MisledBy};
+ghost use Rattle.pack_model.specs.hints.Links.{LinksTrue};
+ghost use Rattle.pack_model.specs.hints.Misled.{IsOnDisk};
+ghost use Rattle.page_seeking.specs.Refs.{FileIsRooted, MisledBy};
 ghost use Rattle.page_seeking.specs.Seeking.{KeepsHandy, Quick};
-ghost use Rattle.directory.specs.Asked.{DirIsFound};
+ghost use Rattle.directory.specs.Asked.{DirIsFound, DirStands};
 ghost use Rattle.directory.specs.Errors.{IfMisled, cause_of, out_of_memory};
-ghost use Rattle.directory.specs.Found.{IsAbsent, IsLookedUp, IsQuick, file_of};
+ghost use Rattle.directory.specs.Found.{IsAbsent, IsLookedUp, IsQuick, ListsLastPage, file_of};
 ghost use Rattle.directory.specs.Inside.{found_at};
 
 use crate::entry::EntryFound;
@@ -53,15 +55,19 @@ pub fn lookup<D: Disk>(
 
     // Which other error comes when.
     ensures misled { IsTrue D.told → DirIsFound (pack (D.tape disk.old)) dir.now → IfMisled result (MisledBy (pack (D.tape disk.old)) [] dir.now.fid) }
+    ensures on_disk { IsTrue D.told → FileIsRooted (pack (D.tape disk.old)) dir.now → IfMisled result (λ place at wanted found. IsOnDisk place) }
+    ensures true_links { IsTrue D.told → DirStands (pack (D.tape disk.old)) dir.now → LinksTrue (pack (D.tape disk.old)) → IfMisled result (λ place at wanted found. ⊥) }
     ensures cause { HasCause (cause_of other never never) (D.tape disk.old) (D.tape disk.new) result }
     ensures want { IsTrue D.told → IsErrOf result out_of_memory → ⊥ }
 
     // Nothing is written; with true links and handy hints there is one sector command a data page and one more.
     ensures looks { Looks D.told (65588 * 65535) (D.tape disk.old) (D.tape disk.new) }
     ensures quick { IsTrue D.told → Quick (pack (D.tape disk.old)) dir.now.fid hints.old.cache → OnOk result (IsQuick (pack (D.tape disk.old)) dir.now.fid hints.old.cache hints.new.cache (D.tape disk.old) (D.tape disk.new)) }
+    ensures quick_absent { IsTrue D.told → Quick (pack (D.tape disk.old)) dir.now.fid hints.old.cache → IsErrOf result DirError.NoSuchName → IsQuick (pack (D.tape disk.old)) dir.now.fid hints.old.cache hints.new.cache (D.tape disk.old) (D.tape disk.new) }
 
     // What becomes of the hints.
     ensures table { hints.new.table ≡ hints.old.table }
+    ensures listed { IsTrue D.told → DirIsFound (pack (D.tape disk.old)) dir.now → OnOk result (ListsLastPage D.told (pack (D.tape disk.old)) dir.now.fid hints.old.cache hints.new.cache) }
     ensures refused { hints.old.cache.refused ≤ hints.new.cache.refused }
     ensures handy { IsTrue D.told → KeepsHandy (pack (D.tape disk.old)) hints.old.cache hints.new.cache }
 {

@@ -3,14 +3,14 @@ ghost use Rattle.std.specs.Prelude.{◌≡◌, ◌*◌, ◌≤◌, IsTrue, IsErr
 ghost use Rattle.dir_slots.specs.Walks.{slot_met};
 ghost use Rattle.disk_records.specs.Causes.{HasCause, never};
 ghost use Rattle.disk_records.specs.Tapes.{Looks, pack};
-ghost use Rattle.pack_model.specs.hints.Links.{dir_words};
+ghost use Rattle.pack_model.specs.hints.Links.{LinksTrue, dir_words};
 ghost use Rattle.pack_model.specs.operations.Rooms.{largest_run};
 ghost use Rattle.pack_model.specs.reading.Slots.{slots};
 ghost use Rattle.page_seeking.specs.Refs.{MisledBy};
 ghost use Rattle.page_seeking.specs.Seeking.{KeepsHandy, Quick};
-ghost use Rattle.directory.specs.Asked.{DirIsFound};
+ghost use Rattle.directory.specs.Asked.{DirIsFound, DirStands};
 ghost use Rattle.directory.specs.Errors.{IfMisled, cause_of, out_of_memory};
-ghost use Rattle.directory.specs.Found.{IsQuick};
+ghost use Rattle.directory.specs.Found.{IsQuick, ListsLastPage};
 
 use crate::walk::{Visit, visit_slots};
 use crate::{DirError, FileRef};
@@ -67,11 +67,13 @@ pub fn room<D: Disk>(
 ) -> Result<u32, DirError>
     ensures found { IsTrue D.told → DirIsFound (pack (D.tape disk.old)) dir.now → IfOk result (λ words. words ≡ largest_run (slots (dir_words (pack (D.tape disk.old)) dir.now.fid))) }
     ensures misled { IsTrue D.told → DirIsFound (pack (D.tape disk.old)) dir.now → IfMisled result (MisledBy (pack (D.tape disk.old)) [] dir.now.fid) }
+    ensures true_links { IsTrue D.told → DirStands (pack (D.tape disk.old)) dir.now → LinksTrue (pack (D.tape disk.old)) → IfMisled result (λ place at wanted found. ⊥) }
     ensures cause { HasCause (cause_of never never never) (D.tape disk.old) (D.tape disk.new) result }
     ensures want { IsTrue D.told → IsErrOf result out_of_memory → ⊥ }
     ensures looks { Looks D.told (65588 * 65535) (D.tape disk.old) (D.tape disk.new) }
     ensures quick { IsTrue D.told → Quick (pack (D.tape disk.old)) dir.now.fid hints.old.cache → OnOk result (IsQuick (pack (D.tape disk.old)) dir.now.fid hints.old.cache hints.new.cache (D.tape disk.old) (D.tape disk.new)) }
     ensures table { hints.new.table ≡ hints.old.table }
+    ensures listed { IsTrue D.told → DirIsFound (pack (D.tape disk.old)) dir.now → OnOk result (ListsLastPage D.told (pack (D.tape disk.old)) dir.now.fid hints.old.cache hints.new.cache) }
     ensures refused { hints.old.cache.refused ≤ hints.new.cache.refused }
     ensures handy { IsTrue D.told → KeepsHandy (pack (D.tape disk.old)) hints.old.cache hints.new.cache }
 {

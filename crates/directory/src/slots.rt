@@ -2,11 +2,12 @@
 ghost use Rattle.std.specs.Prelude.{◌≡◌, ◌*◌, ◌≤◌, IsTrue, IfOk, OnOk, []};
 ghost use Rattle.disk_records.specs.Causes.{HasCause};
 ghost use Rattle.disk_records.specs.Tapes.{Looks, pack};
+ghost use Rattle.pack_model.specs.hints.Links.{LinksTrue};
 ghost use Rattle.page_seeking.specs.Refs.{MisledBy};
 ghost use Rattle.page_seeking.specs.Seeking.{KeepsHandy, Quick};
-ghost use Rattle.directory.specs.Asked.{DirIsFound};
+ghost use Rattle.directory.specs.Asked.{DirIsFound, DirStands};
 ghost use Rattle.directory.specs.Errors.{IfListMisled, cause_of_list};
-ghost use Rattle.directory.specs.Found.{AreSlots, IsQuick};
+ghost use Rattle.directory.specs.Found.{AreSlots, IsQuick, ListsLastPage};
 
 use crate::walk::{Visit, visit_slots};
 use crate::{FileRef, ListError};
@@ -49,10 +50,12 @@ pub fn list<D: Disk>(
 ) -> Result<Vec<Slot>, ListError>
     ensures found { IsTrue D.told → DirIsFound (pack (D.tape disk.old)) dir.now → IfOk result (λ found. AreSlots (pack (D.tape disk.old)) dir.now.fid found.items) }
     ensures misled { IsTrue D.told → DirIsFound (pack (D.tape disk.old)) dir.now → IfListMisled result (MisledBy (pack (D.tape disk.old)) [] dir.now.fid) }
+    ensures true_links { IsTrue D.told → DirStands (pack (D.tape disk.old)) dir.now → LinksTrue (pack (D.tape disk.old)) → IfListMisled result (λ place at wanted found. ⊥) }
     ensures cause { HasCause cause_of_list (D.tape disk.old) (D.tape disk.new) result }
     ensures looks { Looks D.told (65588 * 65535) (D.tape disk.old) (D.tape disk.new) }
     ensures quick { IsTrue D.told → Quick (pack (D.tape disk.old)) dir.now.fid hints.old.cache → OnOk result (IsQuick (pack (D.tape disk.old)) dir.now.fid hints.old.cache hints.new.cache (D.tape disk.old) (D.tape disk.new)) }
     ensures table { hints.new.table ≡ hints.old.table }
+    ensures listed { IsTrue D.told → DirIsFound (pack (D.tape disk.old)) dir.now → OnOk result (ListsLastPage D.told (pack (D.tape disk.old)) dir.now.fid hints.old.cache hints.new.cache) }
     ensures refused { hints.old.cache.refused ≤ hints.new.cache.refused }
     ensures handy { IsTrue D.told → KeepsHandy (pack (D.tape disk.old)) hints.old.cache hints.new.cache }
 {

@@ -1,16 +1,21 @@
 // A directory that is widened.
-ghost use Rattle.std.specs.Prelude.{◌≡◌, ◌+◌, ◌≤◌, [], ◌∷◌, IsTrue, OnErr, OnOk, length};
+ghost use Rattle.std.specs.Prelude.{◌≡◌, ◌+◌, ◌≤◌, [], ◌∷◌, IsTrue, OnErr, OnOk, Some, length, ℕ};
 ghost use Rattle.disk_records.specs.Addresses.{pages_of};
 ghost use Rattle.disk_records.specs.Causes.{HasCause, never};
-ghost use Rattle.disk_records.specs.Tapes.{DiskAlone, pack};
+ghost use Rattle.disk_records.specs.Tapes.{DiskAlone, added, pack};
 ghost use Rattle.file_pages.specs.Calls.{StaysHandy};
+ghost use Rattle.file_pages.specs.Growing.{IsHintOfGrowth, ListsGrown, growth_writes};
 ghost use Rattle.laws_call.specs.Acting.{Operates, around};
+ghost use Rattle.pack_model.specs.hints.Links.{LinksTrue};
+ghost use Rattle.pack_model.specs.operations.Committing.{page_of_byte};
 ghost use Rattle.pack_model.specs.operations.PageWords.{widening_bytes};
+ghost use Rattle.pack_model.specs.reading.Files.{place};
+ghost use Rattle.pack_model.specs.reading.Sights.{sights};
 ghost use Rattle.page_seeking.specs.Refs.{MisledBy};
-ghost use Rattle.page_seeking.specs.Seeking.{LastNamed, Quick};
+ghost use Rattle.page_seeking.specs.Seeking.{LastNamed, Quick, file_length};
 ghost use Rattle.directory.specs.Asked.{DirStands};
 ghost use Rattle.directory.specs.Errors.{IfMisled, cause_of, disk_fault, out_of_memory};
-ghost use Rattle.directory.specs.Widening.{MayBeWidened, to_widen};
+ghost use Rattle.directory.specs.Widening.{MayBeWidened, WrotePart, to_widen};
 
 use crate::answers::in_directory;
 use crate::{DirError, FileRef};
@@ -48,7 +53,10 @@ pub fn widen<D: Disk>(
 
     // What it does, with its exact record writes, and which error comes when.
     ensures operates { IsTrue D.told → DirStands (pack (D.tape disk.old)) dir.now → MayBeWidened (pack (D.tape disk.old)) fresh → Operates disk_fault out_of_memory (to_widen dir.now.fid) (fresh ∷ []) (around (D.tape disk.old) hints.old.table tally.old) (around (D.tape disk.new) hints.new.table tally.new) result }
+    ensures widens { (at : ℕ) → IsTrue D.told → DirStands (pack (D.tape disk.old)) dir.now → MayBeWidened (pack (D.tape disk.old)) fresh → place (sights (pack (D.tape disk.old))) dir.now.fid (page_of_byte (file_length (pack (D.tape disk.old)) dir.now.fid)) ≡ Some at → WrotePart (growth_writes (pack (D.tape disk.old)) dir.now.fid at widening_bytes [] (fresh ∷ [])) (added (D.tape disk.old) (D.tape disk.new)) result }
     ensures misled { IsTrue D.told → DirStands (pack (D.tape disk.old)) dir.now → MayBeWidened (pack (D.tape disk.old)) fresh → IfMisled result (MisledBy (pack (D.tape disk.old)) [] dir.now.fid) }
+    ensures true_links { IsTrue D.told → DirStands (pack (D.tape disk.old)) dir.now → MayBeWidened (pack (D.tape disk.old)) fresh → LinksTrue (pack (D.tape disk.old)) → IfMisled result (λ place at wanted found. ⊥) }
+    ensures given { IfMisled result (IsHintOfGrowth dir.now (fresh ∷ []) hints.old.cache hints.new.cache) }
     ensures cause { HasCause (cause_of never never never) (D.tape disk.old) (D.tape disk.new) result }
     ensures alone { DiskAlone (D.tape disk.old) (D.tape disk.new) }
     ensures quick { IsTrue D.told → DirStands (pack (D.tape disk.old)) dir.now → MayBeWidened (pack (D.tape disk.old)) fresh → Quick (pack (D.tape disk.old)) dir.now.fid hints.old.cache → LastNamed (pack (D.tape disk.old)) dir.now.fid → OnOk result ((D.tape disk.new).runs ≤ (D.tape disk.old).runs + 8) }
@@ -57,6 +65,7 @@ pub fn widen<D: Disk>(
     ensures table { OnErr result (hints.new.table ≡ hints.old.table) }
     ensures sized { length hints.new.table ≡ length hints.old.table }
     ensures refused { hints.old.cache.refused ≤ hints.new.cache.refused }
+    ensures listed { OnOk result (ListsGrown D.told (pack (D.tape disk.old)) dir.now.fid (fresh ∷ []) hints.old.cache hints.new.cache) }
     ensures handy { IsTrue D.told → DirStands (pack (D.tape disk.old)) dir.now → MayBeWidened (pack (D.tape disk.old)) fresh → OnOk result (StaysHandy (pack (D.tape disk.old)) (pack (D.tape disk.new)) hints.old.cache hints.new.cache) }
 {
     in_directory(grow(disk, hints, tally, dir, &free_page(), &[], &[fresh], buf))

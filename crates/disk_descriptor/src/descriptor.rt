@@ -70,9 +70,8 @@ impl Descriptor {
     /// Opens the mark, before the first other record write of a session: nothing where it is open, else one record write in three sector
     /// commands. It takes no memory of its own.
     ///
-    /// Held: the sector that is kept doesn't carry DiskDescriptor's first page, and nothing was written. DiskFault: the device failed.
-    /// Memory: it wanted some for the record write, and had none. What is kept is as before after each of them; after DiskFault the mark
-    /// may be open.
+    /// Held: the sector that is kept doesn't carry DiskDescriptor's first page. DiskFault: the device failed. Memory: it wanted some for the
+    /// record write, and had none. What is kept is as before after each of them; after DiskFault the mark may be open.
     pub fn mark_open<D: Disk>(&mut self, disk: &mut D) -> Result<(), DescError>
         requires shape { self.old.shape ≡ (D.tape disk.old).form }
         ensures opens { IsTrue D.told → Fits (pack (D.tape disk.old)) self.old → Opens DescError.Memory (D.tape disk.old) (D.tape disk.new) result }
@@ -95,9 +94,9 @@ impl Descriptor {
     /// Gives out the serial after the last one, which is on the disk then, before any label bears it: one record write in three sector
     /// commands. It takes no memory of its own.
     ///
-    /// Spent: the last serial is 2,147,483,646 or more; nothing was written. Held: the sector that is kept doesn't carry DiskDescriptor's
-    /// first page, and nothing was written. DiskFault: the device failed. Memory: it wanted some for the record write, and had none. What
-    /// is kept is as before after each of them; after DiskFault the serial may be on the disk.
+    /// Spent: the last serial is 2,147,483,646 or more; on a modelled disk nothing was written. Held: the sector that is kept doesn't carry
+    /// DiskDescriptor's first page. DiskFault: the device failed. Memory: it wanted some for the record write, and had none. What is kept
+    /// is as before after each of them; after DiskFault the serial may be on the disk.
     pub fn next_serial<D: Disk>(&mut self, disk: &mut D) -> Result<u32, DescError>
         requires shape { self.old.shape ≡ (D.tape disk.old).form }
         ensures gives { IsTrue D.told → Fits (pack (D.tape disk.old)) self.old → GivesOne DescError.Memory self.old (D.tape disk.old) (D.tape disk.new) result }
@@ -128,7 +127,8 @@ impl Descriptor {
     /// for each sector. It takes no memory of its own.
     ///
     /// Held: a sector that is kept doesn't carry its page. DiskFault: the device failed. Memory: it wanted some for a record write, and had
-    /// none. After each of them a prefix of the record writes was done, and what is kept is as before.
+    /// none. After each of them what is kept is as before; on a modelled disk that the descriptor fits a prefix of the record writes was
+    /// done.
     pub fn close_pack<D: Disk>(&mut self, disk: &mut D, table: &BitTable) -> Result<(), DescError>
         requires shape { self.old.shape ≡ (D.tape disk.old).form }
         requires sized { length table.now ≡ pages_of (D.tape disk.old).form }

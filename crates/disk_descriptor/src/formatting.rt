@@ -37,8 +37,8 @@ pub(crate) fn write_sector<D: Disk>(
 /// pack's number, which stands in each header; the leaders of both system files have `moment` as their dates, in seconds since the start
 /// of 1901. Answers the number of free sectors. It takes no memory of its own.
 ///
-/// DiskFault: the device failed. Memory: the device wanted some for its record writes, and had none. After each of them a prefix of the
-/// record writes was done, and the pack is to be formatted again.
+/// DiskFault: the device failed. Memory: the device wanted some for its record writes, and had none. After each of them the
+/// pack is to be formatted again; on a modelled disk a prefix of the record writes was done.
 pub fn format<D: Disk>(disk: &mut D, number: u16, moment: u32) -> Result<u16, FormatError>
     ensures leaves { IsTrue D.told → OnOk result (IsFormatted (D.tape disk.old).form number moment (pack (D.tape disk.new))) }
     ensures free { IfOk result (λ free. free ≡ free_after_format (D.tape disk.old).form) }

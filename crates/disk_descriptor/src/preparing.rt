@@ -64,8 +64,8 @@ fn prepare_sector<D: Disk>(disk: &mut D, number: u16, at: u16) -> Result<(), For
 /// record writes each. `number` is the pack's number, which stands in each header. A pack of which no sector of the second drive carries
 /// a page shows at each crash point what it showed before. Answers the number of sectors of the drive. It takes no memory of its own.
 ///
-/// DiskFault: the device failed. Memory: the device wanted some for its record writes, and had none. After each of them a prefix of the
-/// record writes was done, and the drive is to be prepared again.
+/// DiskFault: the device failed. Memory: the device wanted some for its record writes, and had none. After each of them the
+/// drive is to be prepared again; on a modelled disk a prefix of the record writes was done.
 pub fn prepare<D: Disk>(disk: &mut D, number: u16) -> Result<u16, FormatError>
     requires two { disks_of (D.tape disk.old).form ≡ 2 }
     ensures frees { IsTrue D.told → OnOk result (IsPrepared (pack (D.tape disk.old)) (pack (D.tape disk.new))) }

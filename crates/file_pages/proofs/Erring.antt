@@ -1,10 +1,12 @@
 -- The errors of guarded commands as those of calls.
-use Rattle.std.proofs.Common.{Err, IsErrOf, List, Option, arith, refl, ℕ, ◌≡◌, ◌≤◌}
+use Rattle.std.proofs.Common.{Err, IsErrOf, List, Option, ap, arith, inl, inr, refl, sym, ℕ, ◌∙◌, ◌≡◌, ◌≤◌}
+use Rattle.alto_words.specs.declared.fid.Fid.{Fid}
 use Rattle.disk_records.specs.Causes.{IsCause}
 use Rattle.disk_records.specs.Packs.{Pack}
 use Rattle.disk_records.specs.Tapes.{Taped, pack}
 use Rattle.disk_records.specs.declared.records.Page.{Page}
 use Rattle.disk_records.specs.declared.records.Place.{Place}
+use Rattle.disk_records.specs.declared.records.Place.TheVariants.{Held}
 use Rattle.label_check.specs.Causes.{cause_of_guard}
 use Rattle.label_check.specs.Guarded.{FoundWrong, IfWrong}
 use Rattle.label_check.specs.declared.errors.GuardError.TheVariants as guard
@@ -13,6 +15,8 @@ use Rattle.page_seeking.specs.Causes.{cause_of_file, cause_of_length}
 use Rattle.page_seeking.specs.Refs.{IfBeyond, IfMisled}
 use Rattle.page_seeking.specs.declared.refs.FileError.TheVariants as file
 use Rattle.page_seeking.specs.declared.refs.FileError.{FileError}
+use Rattle.page_seeking.specs.declared.refs.FileRef.{FileRef}
+use Rattle.file_pages.specs.Calls.{IsHintOrFound, IsLinkOrFound, WasFound, WasHeld}
 use Rattle.file_pages.specs.Inside.{error_at}
 
 pub memory_of : (error : GuardError) (place : Place) (held : ℕ) (wanted : Page) (e : FileError) → e ≡ error_at place held wanted error → IsErrOf {T = Unit {0}} (Err e) file.Memory → IsErrOf {T = Unit {0}} (Err error) guard.Memory
@@ -68,3 +72,11 @@ pub wrong_at : (T : Type 0) (P : Place → ℕ → Page → Option (List ℕ) �
 wrong_at T P (guard.Wrong found) place at wanted e same here = rw same (here found)
 wrong_at T P guard.DiskFault place at wanted e same here = rw same tt
 wrong_at T P guard.Memory place at wanted e same here = rw same tt
+
+-- an address at which the call had found a page of the file
+pub was_found : (f : Fid) (i : ℕ) (page : Page) → page.fid ≡ f → (place : Place) (at : ℕ) (wanted : Page) (found : Option (List ℕ)) → WasHeld i page place at wanted found → WasFound f place at wanted found
+was_found f i page own place at wanted found x = record { held = x.held ∙ ap (λ (n : ℕ). Held n) (sym x.address); own = ap (λ (p : Page). p.fid) x.page_is ∙ own }
+
+pub own_or_found : (file : FileRef) (place : Place) (at : ℕ) (wanted : Page) (found : Option (List ℕ)) → IsLinkOrFound file.fid place at wanted found → IsHintOrFound file place at wanted found
+own_or_found file place at wanted found (inl x) = inl (inr x)
+own_or_found file place at wanted found (inr x) = inr x

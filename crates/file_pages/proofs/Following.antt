@@ -38,7 +38,7 @@ pub link_misled_since : (p q : Pack) (page : Page) (at : ℕ) (info : PageInfo) 
     → ((i : ℕ) → Links q.shape info.next i → to ≡ i) → (0 < to → Links q.shape info.next to) → (carried q to ≡ Some (page_after page) → ⊥) → found ≡ label_found q to
     → MisledSince p q page.fid (Next at) info.next (page_after page) found
 link_misled_since p q page at info to found f full only back failed is = record {
-  own = refl;
+  link = record { followed = at; link = refl; own = refl; later = omega arith };
   misled = record { stands = stands; misses = misses };
   on_disk = λ whole. tt;
   finds = record { named = λ i n. is ∙ ap (label_found q) (only i (record { first = n.first; last = n.last; named = sym n.named })); unnamed = λ none. by none to refl };

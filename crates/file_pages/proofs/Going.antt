@@ -51,7 +51,7 @@ handy_still p q f cache whole only handy = λ k d within own. right_still p q wh
 
 -- a hint that misled as the call began, by the call's events
 pub misled_by : {a b : Taped} (f : Fid) (place : Place) (at : ℕ) (wanted : Page) (found : Option (List ℕ)) → Grown a b → MisledSince (pack a) (pack b) f place at wanted found → MisledBy (pack a) (added a b) f place at wanted found
-misled_by f place at wanted found grown x = record { own = x.own; answers = record { misled = x.misled; on_disk = x.on_disk; finds = subst (λ (q : Pack). Finds q place at found) (pack-after grown) x.finds } }
+misled_by f place at wanted found grown x = record { own = x.link.own; answers = record { misled = x.misled; on_disk = x.on_disk; finds = subst (λ (q : Pack). Finds q place at found) (pack-after grown) x.finds } }
 
 -- ---- a page that is forgotten
 each_entry : (P : Page × ℕ → Type 0) (entries : List Entry) → All P (map as_listed entries) → All (λ e. P (as_listed e)) entries

@@ -46,6 +46,18 @@ module _ (a b : Taped) (at : ℕ) (page : Page) (value : List ℕ) (o : Operatio
       none [] h = refl
       none (x ∷ events) h = absurd h
 
+  -- what failed for another cause than a fault wrote nothing
+  failed_unwritten : (error : GuardError) (place : Place) (held : ℕ) (wanted : Page) (e : FileError) → e ≡ error_at place held wanted error
+      → Guarded {T = Unit {0}} (Carries at page) at [] (value_writes at value) 2 a b (Err error)
+      → (IsErrOf {T = Unit {0}} (Err e) file.DiskFault → ⊥) → added a b ≡ []
+  failed_unwritten (guard.Wrong found) place held wanted e same guarded unless = guarded.wrong.silent
+  failed_unwritten guard.DiskFault place held wanted e same guarded unless = absurd (unless (ap (λ (x : FileError). Err x) same))
+  failed_unwritten guard.Memory place held wanted e same guarded unless = none (added a b) (guarded.want refl).unwritten
+    where
+      none : (events : List Event) → IsFirstOf [] events → events ≡ []
+      none [] h = refl
+      none (x ∷ events) h = absurd h
+
   -- the value write failed
   pub value_failed : {u : Tally} (bits : List Bool) (error : GuardError) (place : Place) (held : ℕ) (wanted : Page) (e : FileError) → e ≡ error_at place held wanted error
       → Guarded {T = Unit {0}} (Carries at page) at [] (value_writes at value) 2 a b (Err error) → u ≡ counted_after a.writes 1 b.writes (Err error) t
@@ -56,6 +68,7 @@ module _ (a b : Taped) (at : ℕ) (page : Page) (value : List ℕ) (o : Operatio
     table = refl;
     counts = λ tells. counts ∙ failed_counts error place held wanted e same guarded tells;
     out_of_memory = λ memory. (guarded.want (memory_of error place held wanted e same memory)).less;
+    unwritten = λ unless. failed_unwritten error place held wanted e same guarded unless;
   }
 
   -- it was done
@@ -69,4 +82,5 @@ module _ (a b : Taped) (at : ℕ) (page : Page) (value : List ℕ) (o : Operatio
         table = refl;
         counts = λ tells. counts ∙ ap (λ n. took_effect n t) next ∙ ap (λ l. counted a.writes (take (length l) (one_move o)) t) (sym guarded.ok.wrote);
         out_of_memory = λ memory. cc;
+        unwritten = λ unless. tt;
       }

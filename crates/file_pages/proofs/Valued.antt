@@ -1,5 +1,5 @@
 -- A call that was to write one value: the operation that it is, a look before it, and what is where it was afterwards.
-use Rattle.std.proofs.Common.{Bool, Err, IsTrue, List, Ok, OnOk, Result, ap, arith, inl, inr, length, refl, subst, sym, take, [], ℕ, ◌++◌, ◌∙◌, ◌∷◌, ◌≡◌}
+use Rattle.std.proofs.Common.{Bool, Err, IsTrue, List, Ok, OnErr, OnOk, Result, ap, arith, inl, inr, length, refl, subst, sym, take, [], ℕ, ◌++◌, ◌∙◌, ◌∷◌, ◌≡◌}
 use Rattle.std.proofs.lemmas.List.Elements.{All-weaker}
 use Rattle.std.proofs.lemmas.List.{append-nil}
 use Rattle.alto_words.specs.declared.fid.Fid.{Fid}
@@ -63,6 +63,7 @@ value_after_look {T} {at} {value} {o} {a} {b} {c} {result} bits t u one two sile
           ∙ ap (λ n. counted n (take (length (added b c)) (one_move o)) t) writes_stay
           ∙ ap (λ l. counted a.writes (take (length l) (one_move o)) t) (sym same);
       out_of_memory = λ is. let less = x.out_of_memory is in omega (arith, less, spare, none);
+      unwritten = λ unless. subst (λ l. OnErr result (l ≡ [])) (sym same) (x.unwritten unless);
     }
 
 -- ---- places

@@ -20,6 +20,8 @@ use Rattle.pack_model.specs.hints.Handy.{HandyCache}
 use Rattle.pack_model.specs.hints.Links.{LinksTrue}
 use Rattle.pack_model.specs.reading.Sights.{sights}
 use Rattle.page_seeking.specs.Parts.{IsListed, ListsLast}
+use Rattle.page_seeking.specs.Refs.{IsOwnHint, IsOwnLink}
+use Rattle.page_seeking.specs.declared.refs.FileRef.{FileRef}
 use Rattle.page_seeking.specs.Seeking.{Refused, all_listed, page_number}
 
 -- ---- make
@@ -47,6 +49,19 @@ pub record WasHeld (i : ℕ) (page : Page) (place : Place) (at : ℕ) (wanted : 
   pub held : place ≡ Held i
   pub address : at ≡ i
   pub page_is : wanted ≡ page
+
+-- The hint that misled is the address of a sector in which the call itself had found a page of this file, and a page of it was wanted.
+pub record WasFound (f : Fid) (place : Place) (at : ℕ) (wanted : Page) (found : Option (List ℕ)) : Type 0 where
+  pub held : place ≡ Held at
+  pub own : wanted.fid ≡ f
+
+-- no hint but one of the file's is answered, or such an address
+abbrev pub IsHintOrFound : FileRef → Place → ℕ → Page → Option (List ℕ) → Type 0
+IsHintOrFound file place at wanted found = IsOwnHint file place at wanted found ⊎ WasFound file.fid place at wanted found
+
+-- so it is once the page was located
+abbrev pub IsLinkOrFound : Fid → Place → ℕ → Page → Option (List ℕ) → Type 0
+IsLinkOrFound f place at wanted found = IsOwnLink f place wanted ⊎ WasFound f place at wanted found
 
 -- ---- one value
 -- The operation is these record writes, of which there is one, which commits it; they claim and release nothing.

@@ -1,5 +1,5 @@
 -- The last page of a file, by its leader.
-use Rattle.std.specs.Prelude.{Bool, List, Some, ℕ, ◌≡◌, ◌⊎◌}
+use Rattle.std.specs.Prelude.{Bool, List, Some, ℕ, ◌≡◌, ◌≤◌, ◌⊎◌}
 use Rattle.alto_words.specs.declared.fid.Fid.{Fid}
 use Rattle.disk_records.specs.Packs.{Pack}
 use Rattle.disk_records.specs.Words.{word}
@@ -20,4 +20,5 @@ pub record NamesFileEnd (p : Pack) (f : Fid) (leader : List ℕ) : Type 0 where
 -- The page ends its file, and is listed at its sector, unless a `note` was refused.
 pub record ListsEndAt (told : Bool) (p : Pack) (f : Fid) (last : LastPage) (old new : Cached) : Type 0 where
   pub ends : EndsAtPage last.number last.info.bytes
+  pub most : last.info.bytes ≤ 512
   pub listed : IsListed told p (page_number f last.number) new ⊎ Refused old new

@@ -15,6 +15,7 @@ use Rattle.label_check.specs.Guarded.{info_of}
 use Rattle.label_check.specs.declared.errors.PageInfo.{PageInfo}
 use Rattle.laws_hint.specs.MapChanges.{marked}
 use Rattle.laws_operation.specs.ByteLaws.{Bear}
+use Rattle.page_seeking.specs.Refs.{IsOwnLink}
 use Rattle.pack_model.specs.hints.Handy.{HandyCache}
 use Rattle.pack_model.specs.hints.Misled.{Finds, IsOnDisk, Misled}
 use Rattle.pack_model.specs.operations.Commands.{releases_writes}
@@ -55,9 +56,9 @@ pub record AreAfter (p : Pack) (f : Fid) (number : ℕ) (pages : List ℕ) : Typ
   pub bear : Bear (sights p) f (suc number) pages
   pub count : number + length pages ≡ page_of_byte (file_length p f)
 
--- A hint of the file misled as the call began, and what was found is the label on q.
+-- A link of the file misled as the call began, and what was found is the label on q.
 pub record MisledSince (p q : Pack) (f : Fid) (place : Place) (at : ℕ) (wanted : Page) (found : Option (List ℕ)) : Type 0 where
-  pub own : wanted.fid ≡ f
+  pub link : IsOwnLink f place wanted
   pub misled : Misled p place at wanted
   pub on_disk : Whole p → IsOnDisk place
   pub finds : Finds q place at found

@@ -1,5 +1,5 @@
 -- What a call that writes one value of a page says, whatever the file.
-use Rattle.std.specs.Prelude.{IsErrOf, List, OnOk, Result, length, take, ℕ, ◌<◌, ◌≡◌}
+use Rattle.std.specs.Prelude.{IsErrOf, List, OnErr, OnOk, Result, [], length, take, ℕ, ◌<◌, ◌≡◌}
 use Rattle.alto_words.specs.declared.fid.Fid.{Fid}
 use Rattle.disk_records.specs.Commands.{value_writes}
 use Rattle.disk_records.specs.Events.{IsFirstOf}
@@ -20,13 +20,15 @@ use Rattle.pack_model.specs.states.Whole.{Whole}
 
 -- ---- one value of a page
 -- A call was to write this value into this sector, and to count it as this operation. For every answer it wrote it whole or nothing, and
--- the tally counts the operation if it did; at Ok it did. Out of memory comes only if no event was kept ready.
+-- the tally counts the operation if it did; at Ok it did, and at an error only after a fault. Out of memory comes only if no event was
+-- kept ready.
 pub record WroteValue {T : Type 0} (at : ℕ) (value : List ℕ) (o : Operation) (old new : Around) (result : Result T FileError) : Type 0 where
   pub some : IsFirstOf (value_writes at value) (added old.tape new.tape)
   pub all : OnOk result (added old.tape new.tape ≡ value_writes at value)
   pub table : new.bits ≡ old.bits
   pub counts : CountsMoves DiskFault old.tape new.tape (take (length (added old.tape new.tape)) (one_move o)) old.tally new.tally result
   pub out_of_memory : IsErrOf result Memory → old.tape.spare < 1
+  pub unwritten : (IsErrOf result DiskFault → ⊥) → OnErr result (added old.tape new.tape ≡ [])
 
 -- ---- the cache
 -- with true links before the call, a cache that was handy for a file is handy for it on the pack afterwards

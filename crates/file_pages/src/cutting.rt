@@ -16,9 +16,10 @@ ghost use Rattle.pack_model.specs.operations.PageWords.{relabelled};
 ghost use Rattle.pack_model.specs.states.Whole.{Whole};
 ghost use Rattle.page_seeking.specs.Causes.{cause_of_file, cause_of_length};
 ghost use Rattle.page_seeking.specs.Parts.{IsPast, ListsNext};
-ghost use Rattle.page_seeking.specs.Refs.{FileStands, IfBeyond, IfMisled, MisledBy};
+ghost use Rattle.page_seeking.specs.Refs.{FileStands, IfBeyond, IfMisled, IsOwnHint, MisledBy};
 ghost use Rattle.page_seeking.specs.Seeking.{file_length, length_at};
 ghost use Rattle.page_seeking.specs.declared.refs.FileError.TheVariants as error;
+ghost use Rattle.file_pages.specs.Calls.{IsHintOrFound, IsLinkOrFound, WasHeld};
 ghost use Rattle.file_pages.specs.Cutting.{IsRead, to_cut};
 ghost use Rattle.file_pages.specs.Releasing.{AreAfter, CommitsAndReleases, CommitsFirst, Forgotten, KeepsEachHandy, ListsNoneGone, MisledSince, OnlyGo};
 ghost use Rattle.file_pages.specs.Values.{LeavesHandy};
@@ -78,6 +79,7 @@ fn shorten<D: Disk>(
     requires same { page_of label ≡ Some page }
     ensures commits { IsTrue D.told → carried (pack (D.tape disk.old)) at ≡ Some page → CommitsFirst (relabel_writes at label (sector_at (pack (D.tape disk.old)) at).value) (D.tape disk.old) (D.tape disk.new) tally.old tally.new result }
     ensures misled { IsTrue D.told → carried (pack (D.tape disk.old)) at ≡ Some page → IfMisled result (λ place at wanted found. ⊥) }
+    ensures held { IfMisled result (WasHeld at page) }
     ensures cause { HasCause cause_of_length (D.tape disk.old) (D.tape disk.new) result }
     ensures alone { DiskAlone (D.tape disk.old) (D.tape disk.new) }
 {
@@ -111,6 +113,7 @@ fn end_in_page<D: Disk>(
     ensures table { (p : Pack) (later : List ℕ) → IsTrue D.told → pack (D.tape disk.old) ≡ p → IsRead p page at info buf.old → AreAfter p page.fid page.number later → OnOk result (hints.new.table ≡ marked false later hints.old.table) }
     ensures only { (p : Pack) → IsTrue D.told → pack (D.tape disk.old) ≡ p → IsRead p page at info buf.old → OnOk result (OnlyGo p (pack (D.tape disk.new))) }
     ensures misled { (p : Pack) → IsTrue D.told → pack (D.tape disk.old) ≡ p → IsRead p page at info buf.old → IfMisled result (MisledSince p (pack (D.tape disk.new)) page.fid) }
+    ensures given { IfMisled result (IsLinkOrFound page.fid) }
     ensures cause { HasCause cause_of_length (D.tape disk.old) (D.tape disk.new) result }
     ensures alone { DiskAlone (D.tape disk.old) (D.tape disk.new) }
     ensures sized { list_length hints.new.table ≡ list_length hints.old.table }
@@ -152,6 +155,8 @@ pub fn cut<D: Disk>(
     ensures within { IsTrue D.told → FileStands (pack (D.tape disk.old)) file.now → OnOk result (length ≤ file_length (pack (D.tape disk.old)) file.now.fid) }
     ensures beyond { IsTrue D.told → FileStands (pack (D.tape disk.old)) file.now → IfBeyond result (IsPast (pack (D.tape disk.old)) file.now.fid length) }
     ensures misled { IsTrue D.told → FileStands (pack (D.tape disk.old)) file.now → IfMisled result (MisledBy (pack (D.tape disk.old)) (added (D.tape disk.old) (D.tape disk.new)) file.now.fid) }
+    ensures hint { IsTrue D.told → IfMisled result (IsOwnHint file.now) }
+    ensures given { IfMisled result (IsHintOrFound file.now) }
     ensures true_links { IsTrue D.told → FileStands (pack (D.tape disk.old)) file.now → LinksTrue (pack (D.tape disk.old)) → IfMisled result (λ place at wanted found. ⊥) }
     ensures cause { HasCause cause_of_file (D.tape disk.old) (D.tape disk.new) result }
     ensures alone { DiskAlone (D.tape disk.old) (D.tape disk.new) }

@@ -12,9 +12,10 @@ ghost use Rattle.pack_model.specs.hints.Links.{LinksTrue};
 ghost use Rattle.pack_model.specs.operations.Committing.{page_of_byte};
 ghost use Rattle.pack_model.specs.states.Whole.{Whole};
 ghost use Rattle.page_seeking.specs.Causes.{cause_of_length};
-ghost use Rattle.page_seeking.specs.Refs.{FileStands, IfMisled, MisledBy};
+ghost use Rattle.page_seeking.specs.Refs.{FileStands, IfMisled, IsOwnHint, MisledBy};
 ghost use Rattle.page_seeking.specs.Seeking.{file_length, page_number};
 ghost use Rattle.page_seeking.specs.declared.refs.FileError.TheVariants as error;
+ghost use Rattle.file_pages.specs.Calls.{IsHintOrFound, IsLinkOrFound, WasHeld};
 ghost use Rattle.file_pages.specs.Cutting.{IsRead};
 ghost use Rattle.file_pages.specs.Dropping.{DropsButSlot, MayBeDropped};
 ghost use Rattle.file_pages.specs.Releasing.{AreAfter, CommitsAndReleases, CommitsFirst, Forgotten, KeepsEachHandy, ListsNoneGone, MisledSince, OnlyGo};
@@ -41,6 +42,7 @@ fn release_leader<D: Disk>(
     requires place { at < pages_of (D.tape disk.old).form }
     ensures commits { IsTrue D.told → carried (pack (D.tape disk.old)) at ≡ Some leader → CommitsFirst (release_writes at) (D.tape disk.old) (D.tape disk.new) tally.old tally.new result }
     ensures misled { IsTrue D.told → carried (pack (D.tape disk.old)) at ≡ Some leader → IfMisled result (λ place at wanted found. ⊥) }
+    ensures held { IfMisled result (WasHeld at leader) }
     ensures cause { HasCause cause_of_length (D.tape disk.old) (D.tape disk.new) result }
     ensures alone { DiskAlone (D.tape disk.old) (D.tape disk.new) }
 {
@@ -71,6 +73,7 @@ fn drop_pages<D: Disk>(
     ensures table { (p : Pack) (pages : List ℕ) → IsTrue D.told → pack (D.tape disk.old) ≡ p → IsRead p (page_number fid 0) at info buf.old → AreAfter p fid 0 pages → OnOk result (hints.new.table ≡ marked false (at ∷ pages) hints.old.table) }
     ensures only { (p : Pack) → IsTrue D.told → pack (D.tape disk.old) ≡ p → IsRead p (page_number fid 0) at info buf.old → OnOk result (OnlyGo p (pack (D.tape disk.new))) }
     ensures misled { (p : Pack) → IsTrue D.told → pack (D.tape disk.old) ≡ p → IsRead p (page_number fid 0) at info buf.old → IfMisled result (MisledSince p (pack (D.tape disk.new)) fid) }
+    ensures given { IfMisled result (IsLinkOrFound fid) }
     ensures cause { HasCause cause_of_length (D.tape disk.old) (D.tape disk.new) result }
     ensures alone { DiskAlone (D.tape disk.old) (D.tape disk.new) }
     ensures sized { length hints.new.table ≡ length hints.old.table }
@@ -110,6 +113,8 @@ pub fn drop_file<D: Disk>(
     ensures releases { IsTrue D.told → FileStands (pack (D.tape disk.old)) file.now → MayBeDropped (pack (D.tape disk.old)) file.now.fid → Releases error.DiskFault error.Memory file.now.fid (around (D.tape disk.old) hints.old.table tally.old) (around (D.tape disk.new) hints.new.table tally.new) result }
     ensures goes { IsTrue D.told → FileStands (pack (D.tape disk.old)) file.now → MayBeDropped (pack (D.tape disk.old)) file.now.fid → DropsButSlot (pack (D.tape disk.old)) file.now.fid (added (D.tape disk.old) (D.tape disk.new)) result }
     ensures misled { IsTrue D.told → FileStands (pack (D.tape disk.old)) file.now → IfMisled result (MisledBy (pack (D.tape disk.old)) (added (D.tape disk.old) (D.tape disk.new)) file.now.fid) }
+    ensures hint { IsTrue D.told → IfMisled result (IsOwnHint file.now) }
+    ensures given { IfMisled result (IsHintOrFound file.now) }
     ensures true_links { IsTrue D.told → FileStands (pack (D.tape disk.old)) file.now → LinksTrue (pack (D.tape disk.old)) → IfMisled result (λ place at wanted found. ⊥) }
     ensures cause { HasCause cause_of_length (D.tape disk.old) (D.tape disk.new) result }
     ensures alone { DiskAlone (D.tape disk.old) (D.tape disk.new) }

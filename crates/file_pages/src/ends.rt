@@ -5,7 +5,7 @@ ghost use Rattle.disk_records.specs.Causes.{HasCause};
 ghost use Rattle.disk_records.specs.Packs.{carried, sector_at};
 ghost use Rattle.disk_records.specs.Tapes.{Looks, pack};
 ghost use Rattle.page_seeking.specs.Causes.{cause_of_length};
-ghost use Rattle.page_seeking.specs.Refs.{FileStands, IfMisled, MisledBy};
+ghost use Rattle.page_seeking.specs.Refs.{FileStands, IfMisled, IsOwnHint, MisledBy};
 ghost use Rattle.page_seeking.specs.Seeking.{EndsAtPage, IsLast, KeepsHandy, LastNamed, NamedNearEnd, Quick, QuickCache, page_number};
 ghost use Rattle.page_seeking.specs.declared.refs.FileError.TheVariants as error;
 ghost use Rattle.pack_model.specs.states.Whole.{Whole};
@@ -34,6 +34,7 @@ fn named_end<D: Disk>(
 ) -> Result<Option<LastPage>, FileError>
     ensures end { IsTrue D.told → Whole (pack (D.tape disk.old)) → IfOk result (λ found. IfSome found (IsLast (pack (D.tape disk.old)) fid)) }
     ensures ends { IfOk result (λ found. IfSome found (λ end. EndsAtPage end.number end.info.bytes)) }
+    ensures most { IfOk result (λ found. IfSome found (λ end. end.info.bytes ≤ 512)) }
     ensures carries { IsTrue D.told → IfOk result (λ found. IfSome found (λ end. carried (pack (D.tape disk.old)) end.at ≡ Some (page_number fid end.number))) }
     ensures there { IsTrue D.told → Whole (pack (D.tape disk.old)) → NamesFileEnd (pack (D.tape disk.old)) fid leader.now → IfOk result (λ found. found ≢ None) }
     ensures misled { IfMisled result (λ place at wanted found. ⊥) }
@@ -77,6 +78,7 @@ pub(crate) fn locate_ends<D: Disk>(
     ensures value { IsTrue D.told → IfOk result (λ found. leader.new ≡ (sector_at (pack (D.tape disk.old)) found.0).value) }
     ensures end { IsTrue D.told → Whole (pack (D.tape disk.old)) → IfOk result (λ found. IsLast (pack (D.tape disk.old)) file.now.fid found.1) }
     ensures misled { IsTrue D.told → FileStands (pack (D.tape disk.old)) file.now → IfMisled result (MisledBy (pack (D.tape disk.old)) [] file.now.fid) }
+    ensures hint { IfMisled result (IsOwnHint file.now) }
     ensures cause { HasCause cause_of_length (D.tape disk.old) (D.tape disk.new) result }
     ensures want { IsTrue D.told → IsErrOf result error.Memory → ⊥ }
     ensures looks { Looks D.told 65640 (D.tape disk.old) (D.tape disk.new) }

@@ -108,15 +108,16 @@ fn grow_pages<D: Disk>(
 
 /// Puts these bytes after those of an ordinary file, or after those of a directory the bytes of a free slot of 256 words. The pages that
 /// come are claimed first, in the sectors `fresh`, given by their virtual addresses, in order; then the old last page is written: its
-/// value, its label, which commits, and its value again. `past` are words after the last byte that don't count; those that don't fit in the
-/// last page are passed over. The last page is located first; `buf` holds it then. With m pages that come there are 3m + 3 record writes,
-/// and with true links, handy hints and a leader that names the last page 2m + 6 sector commands. The sectors have to be free ones, each of
-/// them once, and as many as pages come. The pages that come are noted then, and busy in the table; the cache
-/// lists the last 48 of them, and the last page if none comes.
+/// value, its label, which commits, and its value again. `past` are words after the last byte that don't count; they have to fit in the
+/// page that is the last then. The sectors have to be free ones, each of them once, and as many as pages come. The last page is located
+/// first; what `buf` holds afterwards is open. With m pages that come there are 3m + 3 record writes, and with true links, handy hints and
+/// a leader that names the last page at most 2m + 6 sector commands. The sectors of the pages that come are busy in the table then; the
+/// cache lists the last 48 of these pages, and the last page if none comes, unless a note was refused.
 ///
-/// Misled: the address that the file is named with or a next link of it misleads, or an address of `fresh` is no usable sector's, or, where
-/// the machine isn't modelled, its sector isn't free. DiskFault: the device failed. Memory: no memory was left for a record write. After
-/// each of these a prefix of the record writes was done, and the table is as before; what `buf` holds is open.
+/// Misled: the address that the file is named with or a next link of it misleads. Of what isn't as asked, or where the machine isn't
+/// modelled, it also comes of an address of `fresh` that is no usable sector's or whose sector isn't free, and of the sector in which this
+/// call found the last page, if it no longer carries it. DiskFault: the device failed. Memory: no memory was left for a record write. After
+/// each of these a prefix of the record writes was done, and the table is as before.
 pub fn grow<D: Disk>(
     disk: &mut D,
     hints: &mut Hints,

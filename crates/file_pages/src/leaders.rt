@@ -1,18 +1,18 @@
 // Another name, or another written date, in a leader page.
-ghost use Rattle.std.specs.Prelude.{◌≡◌, ◌+◌, ◌≤◌, ℕ, IsTrue, OnOk, [], length, true};
+ghost use Rattle.std.specs.Prelude.{◌≡◌, ◌+◌, ◌≤◌, ℕ, IsErrOf, IsTrue, OnErr, OnOk, [], length, true};
 ghost use Rattle.alto_words.specs.Names.{is_stored_name};
 ghost use Rattle.disk_records.specs.Bytes.{put_at};
 ghost use Rattle.disk_records.specs.Causes.{HasCause};
-ghost use Rattle.disk_records.specs.Tapes.{DiskAlone, pack};
+ghost use Rattle.disk_records.specs.Tapes.{DiskAlone, added, pack};
 ghost use Rattle.laws_call.specs.Acting.{Operates, around};
 ghost use Rattle.laws_operation.specs.ByteLaws.{IsOrdinary};
 ghost use Rattle.pack_model.specs.hints.Links.{LinksTrue};
 ghost use Rattle.pack_model.specs.operations.PageWords.{halves, stamped_value, titled_value};
 ghost use Rattle.page_seeking.specs.Causes.{cause_of_length};
-ghost use Rattle.page_seeking.specs.Refs.{FileStands, IfMisled, MisledBy};
+ghost use Rattle.page_seeking.specs.Refs.{FileStands, IfMisled, IsOwnHint, MisledBy};
 ghost use Rattle.page_seeking.specs.Seeking.{LastNamed, NamedNearEnd, Quick, QuickCache};
 ghost use Rattle.page_seeking.specs.declared.refs.FileError.TheVariants as error;
-ghost use Rattle.file_pages.specs.Calls.{ListsItsEnd, ListsLeader, to_stamp, to_title};
+ghost use Rattle.file_pages.specs.Calls.{IsHintOrFound, ListsItsEnd, ListsLeader, to_stamp, to_title};
 ghost use Rattle.file_pages.specs.Values.{LeavesHandy};
 
 use crate::ends::locate_ends;
@@ -42,10 +42,11 @@ fn put_name(value: &mut [u16; 256], name: &Name)
     value[NAME..REST].copy_from_slice(&name_words(name));
 }
 
-/// Gives the leader of an ordinary file another name, by one value write. Its leader page is located first; `buf` holds it then.
+/// Gives the leader of an ordinary file another name, by one value write. Its leader page is located first; what `buf` holds afterwards is
+/// open.
 ///
 /// Misled: the address that the file is named with misleads. DiskFault: the device failed. Memory: no memory was left for the record write.
-/// After each of these nothing was written, or after DiskFault all of it may be; what `buf` holds is open.
+/// After each of these nothing was written, or after DiskFault all of it may be.
 pub fn title<D: Disk>(
     disk: &mut D,
     hints: &mut Hints,
@@ -56,8 +57,11 @@ pub fn title<D: Disk>(
 ) -> Result<(), FileError>
     ensures operates { IsTrue D.told → FileStands (pack (D.tape disk.old)) file.now → IsOrdinary file.now.fid → Operates error.DiskFault error.Memory (to_title file.now.fid name.now) [] (around (D.tape disk.old) hints.old.table tally.old) (around (D.tape disk.new) hints.new.table tally.new) result }
     ensures misled { IsTrue D.told → FileStands (pack (D.tape disk.old)) file.now → IfMisled result (MisledBy (pack (D.tape disk.old)) [] file.now.fid) }
+    ensures hint { IsTrue D.told → IfMisled result (IsOwnHint file.now) }
+    ensures given { IfMisled result (IsHintOrFound file.now) }
     ensures true_links { IsTrue D.told → FileStands (pack (D.tape disk.old)) file.now → LinksTrue (pack (D.tape disk.old)) → IfMisled result (λ place at wanted found. ⊥) }
     ensures cause { HasCause cause_of_length (D.tape disk.old) (D.tape disk.new) result }
+    ensures unwritten { IsTrue D.told → (IsErrOf result error.DiskFault → ⊥) → OnErr result (added (D.tape disk.old) (D.tape disk.new) ≡ []) }
     ensures alone { DiskAlone (D.tape disk.old) (D.tape disk.new) }
     ensures table { hints.new.table ≡ hints.old.table }
     ensures refused { hints.old.cache.refused ≤ hints.new.cache.refused }
@@ -98,9 +102,9 @@ fn put_stamp(value: &mut [u16; 256], moment: u32, last: LastPage)
 }
 
 /// Gives the leader of an ordinary file another written date, in seconds since the start of 1901, and the address, the number and the bytes
-/// of its last page, by one value write. Its leader and its last page are located first, and noted; what `buf` holds is open. With true links, a handy
-/// cache and a leader that names a page near the end it takes 6 sector commands, and one for each page after that one; 4, if that is the
-/// last.
+/// of its last page, by one value write. Its leader and its last page are located first; the last page is listed then, unless a note was
+/// refused, and what `buf` holds is open. With true links, a handy cache and a leader that names a data page it takes at most 6 sector
+/// commands, and one more for each page after that one; with handy hints and a leader that names the last page at most 4.
 ///
 /// Misled: a hint of the file misleads, as `locate` says. DiskFault: the device failed. Memory: no memory was left for the record write.
 /// After each of these nothing was written, or after DiskFault all of it may be.
@@ -114,8 +118,11 @@ pub fn stamp<D: Disk>(
 ) -> Result<(), FileError>
     ensures operates { IsTrue D.told → FileStands (pack (D.tape disk.old)) file.now → IsOrdinary file.now.fid → Operates error.DiskFault error.Memory (to_stamp file.now.fid moment) [] (around (D.tape disk.old) hints.old.table tally.old) (around (D.tape disk.new) hints.new.table tally.new) result }
     ensures misled { IsTrue D.told → FileStands (pack (D.tape disk.old)) file.now → IfMisled result (MisledBy (pack (D.tape disk.old)) [] file.now.fid) }
+    ensures hint { IsTrue D.told → IfMisled result (IsOwnHint file.now) }
+    ensures given { IfMisled result (IsHintOrFound file.now) }
     ensures true_links { IsTrue D.told → FileStands (pack (D.tape disk.old)) file.now → LinksTrue (pack (D.tape disk.old)) → IfMisled result (λ place at wanted found. ⊥) }
     ensures cause { HasCause cause_of_length (D.tape disk.old) (D.tape disk.new) result }
+    ensures unwritten { IsTrue D.told → (IsErrOf result error.DiskFault → ⊥) → OnErr result (added (D.tape disk.old) (D.tape disk.new) ≡ []) }
     ensures alone { DiskAlone (D.tape disk.old) (D.tape disk.new) }
     ensures table { hints.new.table ≡ hints.old.table }
     ensures refused { hints.old.cache.refused ≤ hints.new.cache.refused }

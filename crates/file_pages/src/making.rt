@@ -1,5 +1,5 @@
 // A new file.
-ghost use Rattle.std.specs.Prelude.{◌≡◌, ◌<◌, ◌≤◌, ◌∷◌, [], true, IsTrue, None, OnErr, OnOk, length};
+ghost use Rattle.std.specs.Prelude.{◌≡◌, ◌+◌, ◌<◌, ◌≤◌, ◌∷◌, [], true, IsTrue, None, OnErr, OnOk, length};
 ghost use Rattle.alto_words.specs.Fid.{is_full_name};
 ghost use Rattle.disk_records.specs.Addresses.{pages_of};
 ghost use Rattle.disk_records.specs.Causes.{HasCause};
@@ -54,6 +54,7 @@ fn make_file<D: Disk>(
     ensures misled { IsTrue D.told → MayBeMade (pack (D.tape disk.old)) fid name.now leader_at page_at → IfMisled result (λ place at wanted found. ⊥) }
     ensures given { IfMisled result (WasGiven fid leader_at page_at) }
     ensures cause { HasCause cause_of_length (D.tape disk.old) (D.tape disk.new) result }
+    ensures runs { IsTrue D.told → (D.tape disk.new).runs ≤ (D.tape disk.old).runs + 4 }
     ensures alone { DiskAlone (D.tape disk.old) (D.tape disk.new) }
     ensures table { OnErr result (table.new ≡ table.old) }
     ensures sized { length table.new ≡ length table.old }
@@ -106,13 +107,13 @@ pub(crate) fn at_held(at: u16, wanted: Page) -> FileError
 
 /// Makes a new file with this leader name, whose three dates are `moment`, in seconds since the start of 1901. It claims page 1 in the
 /// second of the two sectors `fresh`, given by their virtual addresses, and then the leader in the first, whose label commits. Page 1 has
-/// no bytes, or of a directory one free slot of 255 words. Four sector commands and six record writes. The full name has to be one that can
-/// be given, of no living file, with the last serial given out; the sectors have to be free ones. Both are noted then, and busy in the
-/// table.
+/// no bytes, or of a directory one free slot of 255 words. At most four sector commands, and six record writes. The full name has to be one
+/// that can be given, of no living file, with the last serial given out; the sectors have to be two free ones. Both pages are listed then,
+/// unless a note was refused, and their sectors busy in the table.
 ///
-/// Misled: an address of `fresh` is no usable sector's, or, where the machine isn't modelled, its sector isn't free; the page that is
-/// wanted is the new file's that was to be there. DiskFault: the device failed. Memory: no memory was left for a record write. After each
-/// of these a prefix of the record writes was done, and the table is as before.
+/// Misled: an address of `fresh` is no usable sector's, or its sector isn't free: where the machine is modelled, this comes of no such
+/// sectors as are asked for. The page that is wanted is the new file's that was to be there. DiskFault: the device failed. Memory: no memory
+/// was left for a record write. After each of these a prefix of the record writes was done, and the table is as before.
 pub fn make<D: Disk>(
     disk: &mut D,
     hints: &mut Hints,
@@ -129,6 +130,7 @@ pub fn make<D: Disk>(
     ensures misled { IsTrue D.told → MayBeMade (pack (D.tape disk.old)) fid name.now (word fresh 0) (word fresh 1) → IfMisled result (λ place at wanted found. ⊥) }
     ensures given { IfMisled result (WasGiven fid (word fresh 0) (word fresh 1)) }
     ensures cause { HasCause cause_of_length (D.tape disk.old) (D.tape disk.new) result }
+    ensures runs { IsTrue D.told → (D.tape disk.new).runs ≤ (D.tape disk.old).runs + 4 }
     ensures alone { DiskAlone (D.tape disk.old) (D.tape disk.new) }
     ensures table { OnErr result (hints.new.table ≡ hints.old.table) }
     ensures sized { length hints.new.table ≡ length hints.old.table }

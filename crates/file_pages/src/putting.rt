@@ -1,18 +1,19 @@
 // Bytes put in the place of others, within one page of a file.
-ghost use Rattle.std.specs.Prelude.{◌≡◌, ◌%◌, ◌*◌, ◌+◌, ◌/◌, ◌<◌, ◌≤◌, ℕ, All, IfNone, IfOk, IfSome, IsErrOf, IsTrue, OnOk, Some, [], length};
+ghost use Rattle.std.specs.Prelude.{◌≡◌, ◌%◌, ◌*◌, ◌+◌, ◌/◌, ◌<◌, ◌≤◌, ℕ, All, IfNone, IfOk, IfSome, IsErrOf, IsTrue, OnErr, OnOk, Some, [], length};
 ghost use Rattle.disk_records.specs.Addresses.{pages_of};
 ghost use Rattle.disk_records.specs.Causes.{HasCause};
 ghost use Rattle.disk_records.specs.Packs.{carried};
-ghost use Rattle.disk_records.specs.Tapes.{DiskAlone, Looks, pack};
+ghost use Rattle.disk_records.specs.Tapes.{DiskAlone, Looks, added, pack};
 ghost use Rattle.hint_cache.specs.Caches.{address_in};
 ghost use Rattle.laws_call.specs.Acting.{Operates, around};
 ghost use Rattle.laws_operation.specs.ByteLaws.{IsOrdinary};
 ghost use Rattle.page_seeking.specs.Causes.{cause_of_file};
 ghost use Rattle.page_seeking.specs.Parts.{IsPast, ListsNext};
-ghost use Rattle.page_seeking.specs.Refs.{FileStands, IfBeyond, IfMisled, MisledBy};
+ghost use Rattle.page_seeking.specs.Refs.{FileStands, IfBeyond, IfMisled, IsOwnHint, MisledBy};
 ghost use Rattle.page_seeking.specs.Seeking.{KeepsHandy, Quick, Stands, file_length, length_at, page_number};
 ghost use Rattle.page_seeking.specs.declared.refs.FileError.TheVariants as error;
 ghost use Rattle.pack_model.specs.hints.Links.{LinksTrue};
+ghost use Rattle.file_pages.specs.Calls.{IsHintOrFound};
 ghost use Rattle.pack_model.specs.operations.Committing.{page_of_byte};
 ghost use Rattle.pack_model.specs.operations.PageWords.{put_value};
 ghost use Rattle.pack_model.specs.states.Whole.{Whole};
@@ -69,6 +70,7 @@ fn locate_bytes<D: Disk>(
     ensures within { IsTrue D.told → Whole (pack (D.tape disk.old)) → OnOk result (offset + count ≤ file_length (pack (D.tape disk.old)) file.now.fid) }
     ensures beyond { IsTrue D.told → Whole (pack (D.tape disk.old)) → IfBeyond result (IsPast (pack (D.tape disk.old)) file.now.fid (offset + count)) }
     ensures misled { IsTrue D.told → FileStands (pack (D.tape disk.old)) file.now → IfMisled result (MisledBy (pack (D.tape disk.old)) [] file.now.fid) }
+    ensures hint { IfMisled result (IsOwnHint file.now) }
     ensures cause { HasCause cause_of_file (D.tape disk.old) (D.tape disk.new) result }
     ensures want { IsTrue D.told → IsErrOf result FileError.Memory → ⊥ }
     ensures looks { Looks D.told 65588 (D.tape disk.old) (D.tape disk.new) }
@@ -134,8 +136,11 @@ pub fn put<D: Disk>(
     // Which error comes when.
     ensures beyond { IsTrue D.told → Whole (pack (D.tape disk.old)) → IfBeyond result (EndsBefore (pack (D.tape disk.old)) file.now.fid (offset + length bytes.now) (around (D.tape disk.old) hints.old.table tally.old) (around (D.tape disk.new) hints.new.table tally.new)) }
     ensures misled { IsTrue D.told → FileStands (pack (D.tape disk.old)) file.now → IfMisled result (MisledBy (pack (D.tape disk.old)) [] file.now.fid) }
+    ensures hint { IsTrue D.told → IfMisled result (IsOwnHint file.now) }
+    ensures given { IfMisled result (IsHintOrFound file.now) }
     ensures true_links { IsTrue D.told → FileStands (pack (D.tape disk.old)) file.now → LinksTrue (pack (D.tape disk.old)) → IfMisled result (λ place at wanted found. ⊥) }
     ensures cause { HasCause cause_of_file (D.tape disk.old) (D.tape disk.new) result }
+    ensures unwritten { IsTrue D.told → (IsErrOf result error.DiskFault → ⊥) → OnErr result (added (D.tape disk.old) (D.tape disk.new) ≡ []) }
 
     // What stays, and the hints.
     ensures alone { DiskAlone (D.tape disk.old) (D.tape disk.new) }

@@ -10,7 +10,7 @@ ghost use Rattle.hint_cache.specs.Caches.{address_in};
 ghost use Rattle.pack_model.specs.operations.Committing.{page_of_byte};
 ghost use Rattle.pack_model.specs.states.Whole.{Whole};
 ghost use Rattle.page_seeking.specs.Causes.{cause_of_length};
-ghost use Rattle.page_seeking.specs.Refs.{IfMisled};
+ghost use Rattle.page_seeking.specs.Refs.{IfMisled, IsOwnLink};
 ghost use Rattle.page_seeking.specs.Seeking.{file_length, IsFull, Seen, Stands, page_after, page_number};
 ghost use Rattle.page_seeking.specs.declared.refs.FileError.TheVariants as error;
 ghost use Rattle.file_pages.specs.Releasing.{AreAfter, Follows, Forgotten, KeepsEachHandy, KeepsOthers, ListsNoMore, ListsNoneGone, MisledSince, OnlyGo, ReleasesAll, ReleasesNext};
@@ -43,6 +43,7 @@ fn read_after<D: Disk>(
     ensures seen { IfOk result (λ next. Seen (D.tape disk.old).form (page_after page) next.0 next.1 buf.new) }
     ensures stands { IsTrue D.told → IfOk result (λ next. Stands (pack (D.tape disk.old)) (page_after page) next.0 buf.new) }
     ensures misled { (p : Pack) → IsTrue D.told → Follows p (pack (D.tape disk.old)) page at info → IsFull page info.bytes → IfMisled result (MisledSince p (pack (D.tape disk.old)) page.fid) }
+    ensures link { IfMisled result (λ place at wanted found. IsOwnLink page.fid place wanted) }
     ensures want { IsTrue D.told → IsErrOf result error.Memory → ⊥ }
     ensures cause { HasCause cause_of_length (D.tape disk.old) (D.tape disk.new) result }
     ensures looks { Looks D.told 1 (D.tape disk.old) (D.tape disk.new) }
@@ -94,6 +95,7 @@ fn release_after<D: Disk>(
     ensures released { (p : Pack) → IsTrue D.told → Follows p (pack (D.tape disk.old)) page at info → IfOk result (λ next. ReleasesNext p page next.0 next.1 (D.tape disk.old) (D.tape disk.new) hints.old.table hints.new.table) }
     ensures breaks { (p : Pack) (to : ℕ) → IsTrue D.told → Follows p (pack (D.tape disk.old)) page at info → ((i : ℕ) → carried p i ≡ Some (page_after page) → i ≡ to) → OnErr result (IsFirstOf (release_writes to) (added (D.tape disk.old) (D.tape disk.new))) }
     ensures misled { (p : Pack) → IsTrue D.told → Follows p (pack (D.tape disk.old)) page at info → IsFull page info.bytes → IfMisled result (MisledSince p (pack (D.tape disk.new)) page.fid) }
+    ensures link { IfMisled result (λ place at wanted found. IsOwnLink page.fid place wanted) }
     ensures want { IsTrue D.told → IsErrOf result error.Memory → (D.tape disk.old).spare < 2 }
     ensures cause { HasCause cause_of_length (D.tape disk.old) (D.tape disk.new) result }
     ensures alone { DiskAlone (D.tape disk.old) (D.tape disk.new) }
@@ -139,6 +141,7 @@ pub(crate) fn release_rest<D: Disk>(
     ensures releases { (p : Pack) (pages : List ℕ) → IsTrue D.told → Follows p (pack (D.tape disk.old)) (page_number fid number) at info → AreAfter p fid number pages → ReleasesAll pages (D.tape disk.old) (D.tape disk.new) hints.old.table hints.new.table result }
     ensures only { (p : Pack) → IsTrue D.told → Follows p (pack (D.tape disk.old)) (page_number fid number) at info → OnOk result (OnlyGo p (pack (D.tape disk.new))) }
     ensures misled { (p : Pack) → IsTrue D.told → Follows p (pack (D.tape disk.old)) (page_number fid number) at info → IfMisled result (MisledSince p (pack (D.tape disk.new)) fid) }
+    ensures link { IfMisled result (λ place at wanted found. IsOwnLink fid place wanted) }
     ensures cause { HasCause cause_of_length (D.tape disk.old) (D.tape disk.new) result }
     ensures alone { DiskAlone (D.tape disk.old) (D.tape disk.new) }
     ensures sized { length hints.new.table ≡ length hints.old.table }

@@ -1,6 +1,7 @@
 pub mod Changing
 pub mod Crowded
 pub mod CrowdedWhole
+pub mod Dropping
 pub mod FactsA
 pub mod FactsC
 pub mod FactsD

@@ -1,4 +1,5 @@
 pub mod Crowded
+pub mod Dropping
 pub mod First
 pub mod Peopled
 pub mod Premises

@@ -1,7 +1,8 @@
-//! The premises of calls are met: all record writes of an operation, as calls name them; values of 256 words; a cache that lists a new
-//! file.
+//! The premises of calls are met: all record writes of an operation, as calls name them; a drop by two calls; values of 256 words; a cache
+//! that lists a new file.
 
 ghost use Rattle.laws_met.specs.Crowded.{EnteringOverAPagesEndIsWritten};
+ghost use Rattle.laws_met.specs.Dropping.{DropByTwoCallsIsMet, HeldFileStaysFound};
 ghost use Rattle.laws_met.specs.Writings.{MakeIsWritten, NewPagesAreListed, ValuesAreFull, WritingsAreMet};
 
 /// On the small pack with files and a directory each operation on a file or a directory that is there has its record writes as calls name
@@ -29,4 +30,14 @@ pub fn values_are_full()
 /// A cache that lists both pages of a new file meets what the law of its hints asks for, and they are handy once it is made.
 pub fn new_pages_are_listed()
     ensures { NewPagesAreListed }
+{}
+
+/// On the small pack a file goes by two calls, which are one drop, and between which its entry stands.
+pub fn drop_by_two_calls_is_met<T, E>()
+    ensures { DropByTwoCallsIsMet T E }
+{}
+
+/// On the small pack a file that was found by a held address is found by it after its own entry left.
+pub fn held_file_stays_found()
+    ensures { HeldFileStaysFound }
 {}

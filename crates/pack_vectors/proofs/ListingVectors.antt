@@ -11,7 +11,10 @@ use Rattle.alto_words.specs.Fid.{fid_cmp, sys_dir, ordinary_fid, directory_fid}
 use Rattle.alto_words.specs.Names.{is_stored_name, suffixed}
 use Rattle.disk_records.specs.Addresses.{real_of}
 use Rattle.disk_records.specs.Labels.{in_range, is_free}
-use Rattle.disk_records.specs.Packs.{Pack}
+use Rattle.disk_records.specs.Commands.{value_writes}
+use Rattle.disk_records.specs.Packs.{Pack, after, sector_at}
+use Rattle.pack_model.specs.operations.Operations.{drop_writes}
+use Rattle.pack_model.specs.operations.PageWords.{freed_value}
 use Rattle.pack_model.specs.reading.Leaders.{leader_of, leader_name, is_readable}
 use Rattle.pack_model.specs.reading.Sights.{sight, sights, sights_from}
 use Rattle.pack_model.specs.reading.Files.{first, joined, most_pages, file_bytes}
@@ -75,3 +78,17 @@ versions_listed = listing_is versions
 in_d_listed : listing (show in_d) ≡ line None sys_dir (codes "D.") (directory_fid 3) None ∷ line (Some (codes "D.")) (directory_fid 3) (codes "A.") (ordinary_fid 4) (Some 5) ∷ []
 unfolding sights_from sight real_of in_range is_free leader_of leader_name is_readable is_stored_name first joined most_pages file_bytes slots_after slot_at is_entry keeps_system most_suffixes suffixed digits
 in_d_listed = listing_is in_d
+
+-- ---- a drop whose entry was freed first
+-- the file whose entry is freed while its leader is there gets its leader's name in SysDir: a listing that was neither before the drop nor is
+-- after it
+abbrev freed_in_d : List ℕ
+freed_in_d = freed_value 0 8 (sector_at in_d 6).value
+
+freed_first_listed : listing (show (after in_d (value_writes 6 freed_in_d))) ≡ line None sys_dir (codes "A.") (ordinary_fid 4) (Some 5) ∷ line None sys_dir (codes "D.") (directory_fid 3) None ∷ []
+unfolding sights_from sight real_of in_range is_free leader_of leader_name is_readable is_stored_name first joined most_pages file_bytes slots_after slot_at is_entry keeps_system most_suffixes suffixed digits
+freed_first_listed = listing_is (after in_d (value_writes 6 freed_in_d))
+
+dropped_listed : listing (show (after in_d (drop_writes 7 (8 ∷ []) 6 freed_in_d))) ≡ line None sys_dir (codes "D.") (directory_fid 3) None ∷ []
+unfolding sights_from sight real_of in_range is_free leader_of leader_name is_readable is_stored_name first joined most_pages file_bytes slots_after slot_at is_entry keeps_system most_suffixes suffixed digits
+dropped_listed = listing_is (after in_d (drop_writes 7 (8 ∷ []) 6 freed_in_d))

@@ -153,6 +153,16 @@ eases_of {p} {f} {n} {at} {c} quick carries =
 pub finds_of : {p : Pack} {f : Fid} {n at : ℕ} {c : Cached} → QuickCache p f c → carried p at ≡ Some (page_number f n) → Finds p f n at c
 finds_of {p} {f} {n} {at} {c} quick carries = record { entries = handy_entries p f c.entries quick.cached; placed = carried_place p quick.whole at (page_number f n) carries }
 
+-- handy hints are handy on the pack as it is after a call that only looked
+pub quick_later : {p q : Pack} {f : Fid} {c d : Cached} → q ≡ p → KeepsHandy p c d → Quick p f c → Quick q f d
+quick_later {f = f} {d = d} same keeps quick =
+    let handy = quick.handy in
+    subst (λ (x : Pack). Quick x f d) (sym same) (record {
+      whole = quick.whole;
+      links = quick.links;
+      handy = record { row = handy.row; last = handy.last; cached = keeps quick.whole quick.links f handy.cached };
+    })
+
 pub quick_cache : {p : Pack} {f : Fid} {c : Cached} → Quick p f c → QuickCache p f c
 quick_cache quick = record { whole = quick.whole; links = quick.links; cached = quick.handy.cached }
 

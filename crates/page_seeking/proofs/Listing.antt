@@ -8,7 +8,7 @@ use Rattle.disk_records.specs.declared.records.Page.{Page}
 use Rattle.disk_records.specs.declared.shape.Shape.{Shape}
 use Rattle.hint_cache.specs.Caches.{Cached}
 use Rattle.label_check.specs.declared.errors.PageInfo.{PageInfo}
-use Rattle.page_seeking.specs.Parts.{IsListed, ListsEnd, ListsNext}
+use Rattle.page_seeking.specs.Parts.{IsListed, ListsEnd}
 use Rattle.page_seeking.specs.Seeking.{Lists, Refused}
 
 -- a page that was seen and is carried by its sector is listed

@@ -3,7 +3,7 @@ use Rattle.std.proofs.Common.{◌≡◌, ◌≢◌, ℕ, suc, min, nat_lt, ◌+�
 use Rattle.std.proofs.lemmas.Bool.Decides.{nat_tests}
 use Rattle.std.proofs.lemmas.List.{drop-drop, length-drop, length-take-le}
 use Rattle.std.proofs.lemmas.Slice.{drop-append-drop}
-use Rattle.std.proofs.Math.Seq.{take-add, take-append_seam}
+use Rattle.std.proofs.Math.Seq.{take-add, take-append_seam, take-length}
 use Rattle.alto_words.specs.declared.fid.Fid.{Fid}
 use Rattle.disk_records.specs.declared.records.Page.{Page}
 use Rattle.disk_records.specs.declared.records.Sector.{Sector}
@@ -12,6 +12,7 @@ use Rattle.disk_records.specs.Bytes.{bytes_of, put_at}
 use Rattle.disk_records.specs.Labels.{in_range, tag}
 use Rattle.disk_records.specs.Packs.{Pack, sector_at}
 use Rattle.disk_records.specs.Words.{word}
+use Rattle.label_check.specs.Guarded.{HoldsPage, info_of}
 use Rattle.label_check.specs.declared.errors.PageInfo.{PageInfo}
 use Rattle.laws_contents.proofs.bytes.Laws.{bytes_stand_in_their_page, page_is_a_slice}
 use Rattle.laws_contents.specs.PageLaws.{FullBefore}
@@ -82,16 +83,27 @@ read_whole bytes old now offset done x end =
       within = omega (arith, there);
     }
 
+-- where all fits from the first byte on, it is all that is there
+pub read_all_there : (bytes old now : List ℕ) (done : ℕ) → IsWithinPart bytes 0 old now done → length bytes ≤ length old → take done now ≡ bytes
+read_all_there bytes old now done x fits =
+    let many = x.part.many in
+    let all : done ≡ length bytes = omega (arith, many, fits) in
+    let long : length (take done bytes) ≡ done = length-take-le done bytes (omega (arith, all)) in
+    ap (take done) x.part.read ∙ ap (λ n. take n (take done bytes ++ drop done old)) (sym long) ∙ take-append_seam (take done bytes) (drop done old) ∙ ap (λ n. take n bytes) all ∙ take-length bytes
+
 -- the bytes that a label of a page counts
-pub few_bytes : {form : Shape} {page : Page} {at : ℕ} {info : PageInfo} {buffer : Sector} → Seen form page at info buffer → info.bytes ≤ 512
-few_bytes {page = page} {info = info} {buffer} seen =
-    let most = by (in_range (tag buffer.label)) refl seen.holds.names in
-    let count : info.bytes ≡ word buffer.label 3 = ap (λ (i : PageInfo). i.bytes) seen.tells in
+pub few_by_label : {form : Shape} {page : Page} {at : ℕ} {info : PageInfo} {buffer : Sector} → HoldsPage form at page buffer → info ≡ info_of buffer.label → info.bytes ≤ 512
+few_by_label {page = page} {info = info} {buffer} holds tells =
+    let most = by (in_range (tag buffer.label)) refl holds.names in
+    let count : info.bytes ≡ word buffer.label 3 = ap (λ (i : PageInfo). i.bytes) tells in
     omega (arith, count, most)
   where
     by : (r : Bool) → in_range (tag buffer.label) ≡ r → cond r (Some (record { fid = (tag buffer.label).fid; number = (tag buffer.label).page })) None ≡ Some page → word buffer.label 3 ≤ 512
     by false is e = absurd cc
     by true is e = counted (tag buffer.label) is
+
+pub few_bytes : {form : Shape} {page : Page} {at : ℕ} {info : PageInfo} {buffer : Sector} → Seen form page at info buffer → info.bytes ≤ 512
+few_bytes seen = few_by_label seen.holds seen.tells
 
 -- what is put fills the room or is all
 pub put_all : (done count room bytes : ℕ) → count ≡ min bytes (room - done) → done ≤ room → (done + count ≡ room) ⊎ (count ≡ bytes)

@@ -5,6 +5,7 @@ use Rattle.disk_records.specs.declared.records.Page.{Page}
 use Rattle.disk_records.specs.Packs.{Pack, carried}
 use Rattle.hint_cache.specs.Caches.{Cached, address_in}
 use Rattle.pack_model.specs.operations.Committing.{page_of_byte}
+use Rattle.pack_model.specs.states.Whole.{Whole}
 use Rattle.page_seeking.specs.Seeking.{EndsAtPage, Refused, file_length, length_at, page_number}
 
 -- So many bytes from the offset on, as many as are there and fit, stand in front of what stood after them.
@@ -48,10 +49,12 @@ abbrev pub ListsNext : Bool → Pack → Fid → ℕ → Cached → Cached → T
 ListsNext told p f offset old new = IsListed told p (page_number f (page_of_byte offset)) new ⊎ Refused old new
 
 -- The length of a file was told by its last page, by its number and the bytes that count in it: the page is listed, unless a `note` was
--- refused.
+-- refused. Where the machine is modelled, and the pack is whole, it is the page that the file ends in.
 pub record ListsLast (told : Bool) (p : Pack) (f : Fid) (old new : Cached) (n : ℕ) : Type 0 where
   pub number : ℕ
   pub bytes : ℕ
   pub tells : n ≡ length_at number bytes
   pub ends : EndsAtPage number bytes
+  pub most : bytes ≤ 512
+  pub is : IsTrue told → Whole p → number ≡ page_of_byte (file_length p f)
   pub listed : IsListed told p (page_number f number) new ⊎ Refused old new

@@ -189,6 +189,7 @@ pub fn length<D: Disk>(
     ensures most { IsTrue D.told → EachOnce (sights (pack (D.tape disk.old))) → IfOk result (λ n. file_length (pack (D.tape disk.old)) file.now.fid ≤ n) }
     ensures bound { IfOk result (λ n. n ≤ 65535 * 512) }
     ensures misled { IsTrue D.told → FileIsFrom (pack (D.tape disk.old)) file.now → IfMisled result (MisledBy (pack (D.tape disk.old)) [] file.now.fid) }
+    ensures hint { IfMisled result (IsOwnHint file.now) }
     ensures true_links { IsTrue D.told → FileStands (pack (D.tape disk.old)) file.now → LinksTrue (pack (D.tape disk.old)) → IfMisled result (λ place at wanted found. ⊥) }
     ensures cause { HasCause cause_of_length (D.tape disk.old) (D.tape disk.new) result }
     ensures want { IsTrue D.told → IsErrOf result FileError.Memory → ⊥ }

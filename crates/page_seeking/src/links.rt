@@ -92,6 +92,7 @@ pub(crate) fn climb<D: Disk>(
     ensures on_disk { IfMisled result (λ place at wanted found. IsOnDisk place) }
     ensures ends { IsTrue D.told → Known D.told (pack (D.tape disk.old)) (D.tape disk.old).form (page_number fid below.number) below.found → IfBeyond result (IsEnd (pack (D.tape disk.old)) fid number) }
     ensures never_beyond { number ≤ 1 → IfBeyond result (λ length. ⊥) }
+    ensures link { IfMisled result (λ place at wanted found. IsOwnLink fid place wanted) }
 {
     let mut here = below.found;
     for lower in below.number..number {

@@ -7,7 +7,7 @@ ghost use Rattle.hint_cache.specs.Caches.{address_in};
 ghost use Rattle.pack_model.specs.hints.Misled.{IsOnDisk};
 ghost use Rattle.pack_model.specs.states.Whole.{Whole};
 ghost use Rattle.page_seeking.specs.Causes.{cause_of_file};
-ghost use Rattle.page_seeking.specs.Refs.{FileIsFrom, FileIsRooted, IfMisled, IfBeyond, MisledBy, FileStands};
+ghost use Rattle.page_seeking.specs.Refs.{FileIsFrom, FileIsRooted, IfMisled, IfBeyond, IsOwnHint, MisledBy, FileStands};
 ghost use Rattle.pack_model.specs.hints.Links.{LinksTrue};
 ghost use Rattle.page_seeking.specs.Seeking.{Seen, Stands, Lists, KeepsHandy, Quick, QuickCache, IsEnd, IsLengthBelow, page_number};
 ghost use Rattle.page_seeking.specs.Inside.{Sought, Confirmed, Known, Eases, Finds};
@@ -75,6 +75,7 @@ fn seek_from_leader<D: Disk>(
     ensures want { IsTrue D.told → IsErrOf result FileError.Memory → ⊥ }
     ensures misled { IsTrue D.told → FileIsFrom (pack (D.tape disk.old)) file.now → IfMisled result (MisledBy (pack (D.tape disk.old)) [] file.now.fid) }
     ensures on_disk { IsTrue D.told → FileIsRooted (pack (D.tape disk.old)) file.now → IfMisled result (λ place at wanted found. IsOnDisk place) }
+    ensures hint { IfMisled result (IsOwnHint file.now) }
     ensures ends { IsTrue D.told → IfBeyond result (IsEnd (pack (D.tape disk.old)) file.now.fid number) }
     ensures never_beyond { number ≤ 1 → IfBeyond result (λ length. ⊥) }
     ensures quick { (at : ℕ) → IsTrue D.told → Eases (pack (D.tape disk.old)) file.now.fid number at cache.old → OnOk result ((D.tape disk.new).runs ≤ (D.tape disk.old).runs + (number + 1)) }
@@ -107,6 +108,7 @@ pub(crate) fn seek_page<D: Disk>(
     ensures want { IsTrue D.told → IsErrOf result FileError.Memory → ⊥ }
     ensures misled { IsTrue D.told → FileIsFrom (pack (D.tape disk.old)) file.now → IfMisled result (MisledBy (pack (D.tape disk.old)) [] file.now.fid) }
     ensures on_disk { IsTrue D.told → FileIsRooted (pack (D.tape disk.old)) file.now → IfMisled result (λ place at wanted found. IsOnDisk place) }
+    ensures hint { IfMisled result (IsOwnHint file.now) }
     ensures ends { IsTrue D.told → IfBeyond result (IsEnd (pack (D.tape disk.old)) file.now.fid number) }
     ensures never_beyond { number ≤ 1 → IfBeyond result (λ length. ⊥) }
     ensures soon { (at : ℕ) → IsTrue D.told → address_in cache.old.entries (page_number file.now.fid number) ≡ Some at → carried (pack (D.tape disk.old)) at ≡ Some (page_number file.now.fid number) → (D.tape disk.new).runs ≤ (D.tape disk.old).runs + 1 }
@@ -149,6 +151,7 @@ pub fn locate<D: Disk>(
     // Which error comes when.
     ensures misled { IsTrue D.told → FileIsFrom (pack (D.tape disk.old)) file.now → IfMisled result (MisledBy (pack (D.tape disk.old)) [] file.now.fid) }
     ensures on_disk { IsTrue D.told → FileIsRooted (pack (D.tape disk.old)) file.now → IfMisled result (λ place at wanted found. IsOnDisk place) }
+    ensures hint { IfMisled result (IsOwnHint file.now) }
     ensures beyond { IsTrue D.told → Whole (pack (D.tape disk.old)) → IfBeyond result (IsLengthBelow (pack (D.tape disk.old)) file.now.fid number) }
     ensures ends { IsTrue D.told → IfBeyond result (IsEnd (pack (D.tape disk.old)) file.now.fid number) }
     ensures never_beyond { number ≤ 1 → IfBeyond result (λ length. ⊥) }

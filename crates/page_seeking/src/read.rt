@@ -14,8 +14,8 @@ ghost use Rattle.pack_model.specs.states.Sentences.{EachOnce};
 ghost use Rattle.pack_model.specs.states.Whole.{Whole};
 ghost use Rattle.page_seeking.specs.Causes.{cause_of_file};
 ghost use Rattle.page_seeking.specs.Parts.{IsPart, IsPast, IsReadTo, IsWithinPart, ListsEnd, ListsNext};
-ghost use Rattle.page_seeking.specs.Refs.{FileIsFrom, FileStands, IfMisled, IfBeyond, MisledBy};
-ghost use Rattle.page_seeking.specs.Seeking.{KeepsHandy, Quick, file_length, page_number};
+ghost use Rattle.page_seeking.specs.Refs.{FileIsFrom, FileStands, IfMisled, IfBeyond, IsOwnHint, IsOwnLink, MisledBy};
+ghost use Rattle.page_seeking.specs.Seeking.{KeepsHandy, LastNamed, Quick, file_length, page_number};
 ghost use Rattle.page_seeking.specs.Inside.{Known, LastListed, Sought, Stops, StopsAt};
 
 use crate::ends::{length, seek_last};
@@ -76,6 +76,7 @@ fn read_on<D: Disk>(
     ensures fault { IsErrOf result FileError.DiskFault → Rose (D.tape disk.old).disk_faults (D.tape disk.new).disk_faults }
     ensures want { IsTrue D.told → IsErrOf result FileError.Memory → ⊥ }
     ensures misled { IsTrue D.told → Known D.told (pack (D.tape disk.old)) (D.tape disk.old).form (page_number fid below.number) below.found → IfMisled result (MisledBy (pack (D.tape disk.old)) [] fid) }
+    ensures link { IfMisled result (λ place at wanted found. IsOwnLink fid place wanted) }
     ensures never_beyond { IfBeyond result (λ length. ⊥) }
     ensures fits { IfOk result (λ n. n ≤ length out.old) }
     ensures stops { IfOk result (λ n. StopsAt below (offset + n) cache.old cache.new ⊎ Stops D.told (D.tape disk.old) fid (offset + n) cache.old cache.new) }
@@ -115,6 +116,7 @@ fn read_pages<D: Disk>(
     ensures fault { IsErrOf result FileError.DiskFault → Rose (D.tape disk.old).disk_faults (D.tape disk.new).disk_faults }
     ensures want { IsTrue D.told → IsErrOf result FileError.Memory → ⊥ }
     ensures misled { IsTrue D.told → FileIsFrom (pack (D.tape disk.old)) file.now → IfMisled result (MisledBy (pack (D.tape disk.old)) [] file.now.fid) }
+    ensures hint { IfMisled result (IsOwnHint file.now) }
     ensures beyond { IsTrue D.told → Whole (pack (D.tape disk.old)) → IfBeyond result (IsPast (pack (D.tape disk.old)) file.now.fid offset) }
     ensures beyond_once { IsTrue D.told → EachOnce (sights (pack (D.tape disk.old))) → FullBefore (pack (D.tape disk.old)) file.now.fid (offset / 512) → IfBeyond result (λ n. n ≡ file_length (pack (D.tape disk.old)) file.now.fid) }
     ensures never_beyond { offset ≡ 0 → IfBeyond result (λ length. ⊥) }
@@ -180,6 +182,7 @@ pub fn read_part<D: Disk>(
     ensures beyond_once { IsTrue D.told → EachOnce (sights (pack (D.tape disk.old))) → offset ≤ file_length (pack (D.tape disk.old)) file.now.fid → IfBeyond result (λ n. n ≡ file_length (pack (D.tape disk.old)) file.now.fid) }
     ensures never_beyond { offset ≡ 0 → IfBeyond result (λ length. ⊥) }
     ensures misled { IsTrue D.told → FileIsFrom (pack (D.tape disk.old)) file.now → IfMisled result (MisledBy (pack (D.tape disk.old)) [] file.now.fid) }
+    ensures hint { IfMisled result (IsOwnHint file.now) }
     ensures true_links { IsTrue D.told → FileStands (pack (D.tape disk.old)) file.now → LinksTrue (pack (D.tape disk.old)) → IfMisled result (λ place at wanted found. ⊥) }
     ensures cause { HasCause cause_of_file (D.tape disk.old) (D.tape disk.new) result }
     ensures want { IsTrue D.told → IsErrOf result FileError.Memory → ⊥ }
@@ -218,9 +221,11 @@ pub fn read_all<D: Disk>(
     ensures read { IsTrue D.told → EachOnce (sights (pack (D.tape disk.old))) → IfOk result (λ bytes. bytes.items ≡ file_bytes (sights (pack (D.tape disk.old))) file.now.fid) }
     ensures never_beyond { IfBeyond result (λ length. ⊥) }
     ensures misled { IsTrue D.told → FileIsFrom (pack (D.tape disk.old)) file.now → IfMisled result (MisledBy (pack (D.tape disk.old)) [] file.now.fid) }
+    ensures hint { IfMisled result (IsOwnHint file.now) }
     ensures true_links { IsTrue D.told → FileStands (pack (D.tape disk.old)) file.now → LinksTrue (pack (D.tape disk.old)) → IfMisled result (λ place at wanted found. ⊥) }
     ensures cause { HasCause cause_of_file (D.tape disk.old) (D.tape disk.new) result }
     ensures looks { Looks D.told 131174 (D.tape disk.old) (D.tape disk.new) }
+    ensures quick { IsTrue D.told → Quick (pack (D.tape disk.old)) file.now.fid hints.old.cache → LastNamed (pack (D.tape disk.old)) file.now.fid → IfOk result (λ bytes. (D.tape disk.new).runs ≤ (D.tape disk.old).runs + (page_of_byte (length bytes.items) + 3)) }
     ensures table { hints.new.table ≡ hints.old.table }
     ensures last { IfOk result (λ bytes. 1 ≤ length bytes.items → ListsNext D.told (pack (D.tape disk.old)) file.now.fid (length bytes.items - 1) hints.old.cache hints.new.cache) }
     ensures listed { IfOk result (λ bytes. ListsEnd D.told (pack (D.tape disk.old)) file.now.fid (length bytes.items) hints.old.cache hints.new.cache) }

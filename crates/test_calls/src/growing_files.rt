@@ -2,9 +2,8 @@
 use alto_words::{Fid, Name};
 use disk_memory::MemMachine;
 use disk_records::{Disk, Page, Place, Sector, Tally};
-use file_pages::{FileError, FileRef, grow, make};
+use file_pages::{FileError, FileRef, grow, length, make};
 use hint_cache::{BitTable, HintCache, Hints};
-use page_seeking::length;
 use std::alloc::Global;
 use std::test::Fail;
 use test_packs::{failing_machine, sectors_of};

@@ -1,10 +1,10 @@
 // Entries that come into the main directory of a formatted pack: words 0 to 23 are those of its two entries, and 231 free ones follow.
 use crate::pack::{ROOT, formatted};
-use alto_words::{Fid, Name};
+use alto_words::{Fid, Name, Wanted};
 use dir_slots::Slot;
-use directory::{DirError, enter, list, widen};
+use directory::{DirError, FileRef, VersionFound, enter, greatest, list, lookup, widen};
 use disk_memory::SureMachine;
-use disk_records::{Disk, Sector, Tally};
+use disk_records::{Disk, Place, Sector, Tally};
 use file_pages::put;
 use hint_cache::Hints;
 use std::test::Fail;
@@ -94,6 +94,68 @@ fn an_entry_that_comes(rt: HostRuntime) -> Result<(), Fail> {
     Ok(())
 }
 
+/// The file with this serial, by its entry: the address 5 stands at this word.
+fn entry_of(serial: u16, word: u32) -> FileRef {
+    FileRef {
+        fid: file(serial),
+        leader_at: 5,
+        from: Place::Entry {
+            dir: Fid::SYS_DIR,
+            word,
+        },
+    }
+}
+
+/// `A.` comes into words 24 to 31, and `A!2.` into words 32 to 40. The bare name means the greater version, `A!1` the first. The name of a
+/// directory is held, and that of these files isn't.
+#[test]
+fn two_versions(rt: HostRuntime) -> Result<(), Fail> {
+    let (mut machine, mut hints) = formatted(rt.alloc())?;
+    let mut tally = NO_TALLY;
+    let mut buf = Sector::ZEROS;
+    entering(&mut machine, &mut hints, &mut tally, b"A", 3)?;
+    entering(&mut machine, &mut hints, &mut tally, b"A!2", 4)?;
+    assert_eq!(rt;
+        &machine.sector(2).value[32..42],
+        [1033, 0, 4, 1, 0, 5, 0x0441, 0x2132, 0x2E00, 214].as_slice()
+    );
+    let newest = Wanted::parse(b"A").ok_or("no operand")?;
+    let (file, name) = lookup(&mut machine, &mut hints, &ROOT, &newest, &mut buf)?;
+    assert_eq!(rt; file, entry_of(4, 37));
+    assert_eq!(rt; name, Name::parse(b"A!2").ok_or("no name")?);
+    let oldest = Wanted::parse(b"A!1").ok_or("no operand")?;
+    let (file, name) = lookup(&mut machine, &mut hints, &ROOT, &oldest, &mut buf)?;
+    assert_eq!(rt; file, entry_of(3, 29));
+    assert_eq!(rt; name, Name::parse(b"A").ok_or("no name")?);
+    let base = Name::parse_bare(b"a").ok_or("no name")?;
+    assert_eq!(rt;
+        greatest(&mut machine, &mut hints, &ROOT, &base, &mut buf)?,
+        VersionFound {
+            version: 2,
+            held: false
+        }
+    );
+    let held = Name::parse_bare(b"D").ok_or("no name")?;
+    enter(
+        &mut machine,
+        &mut hints,
+        &mut tally,
+        &ROOT,
+        &held,
+        Fid::directory(5),
+        5,
+        &mut buf,
+    )?;
+    assert_eq!(rt;
+        greatest(&mut machine, &mut hints, &ROOT, &held, &mut buf)?,
+        VersionFound {
+            version: 1,
+            held: true
+        }
+    );
+    Ok(())
+}
+
 /// Free slots of 10 and 20 words side by side have room for the longest entry: a record write makes them one, and the next is the entry's.
 #[test]
 fn free_slots_are_joined(rt: HostRuntime) -> Result<(), Fail> {
@@ -130,6 +192,11 @@ fn free_slots_are_joined(rt: HostRuntime) -> Result<(), Fail> {
     Ok(())
 }
 
+/// Words 232 to 239 of a page.
+fn eight_words(value: &[u16; 256]) -> &[u16] {
+    &value[232..240]
+}
+
 /// Eight names of 38 letters leave 23 words, which are too few for a ninth. Once the directory is widened they are joined with the 256 words
 /// that came, and the entry lies over the page's end: the joining is the first record write, the next page's words are the second.
 #[test]
@@ -163,7 +230,7 @@ fn an_entry_over_a_pages_end(rt: HostRuntime) -> Result<(), Fail> {
     assert_eq!(rt; tally.all, 10);
     let first = machine.sector(2).value;
     assert_eq!(rt;
-        &first[232..240],
+        eight_words(&first),
         [1050, 0, 11, 1, 0, 5, 0x2769, 0x6969].as_slice()
     );
     assert_eq!(rt; first[255], 0x6969);

@@ -1,10 +1,12 @@
 // Opening a formatted pack: DiskDescriptor has 38 bytes in sector 4, for 48 sectors and so 3 map words, and sectors 0 to 4 are used.
+ghost use Rattle.std.specs.Prelude.{◌≡◌};
+
 use crate::pack::{ROOT, formatted};
 use alto_words::{Fid, Wanted};
 use directory::{FileRef, lookup};
 use disk_descriptor::{DescError, OpenError, enter_pack, format};
 use disk_memory::SureMachine;
-use disk_records::{Disk, Page, Place, Plan, Sector, Shape};
+use disk_records::{Disk, Page, Place, Plan, Sector, Shape, Tape};
 use hint_cache::{BitTable, HintCache, Hints};
 use label_check::read_page;
 use std::alloc::Global;
@@ -41,7 +43,9 @@ fn change<A: Abort>(
     page: Page,
     word: usize,
     number: u16,
-) -> Result<(), Fail> {
+) -> Result<(), Fail>
+    ensures form { (⟦<SureMachine as Tape>⟧.tape machine.new).form ≡ (⟦<SureMachine as Tape>⟧.tape machine.old).form }
+{
     let mut buf = Sector::ZEROS;
     assert!(rt; 0 < at && at < machine.shape().pages() && word < 264);
     read_page(machine, at, page, &mut buf)?;
@@ -118,6 +122,36 @@ fn last_serials(rt: HostRuntime) -> Result<(), Fail> {
         })
     );
     assert_eq!(rt; kept.last(), 2_147_483_646);
+    Ok(())
+}
+
+/// The sector of the first data page carries page 1 of the file with the serial 9 by then: no call writes there, whether it opens the mark,
+/// gives a serial or closes, and what is kept stays, of the pack as it was before its mark was open and after that.
+#[test]
+fn another_page_there(rt: HostRuntime) -> Result<(), Fail> {
+    let (mut machine, mut hints) = formatted(rt.alloc())?;
+    assert!(rt; hints.table.pages() == machine.shape().pages());
+    let mut closed = enter_pack(&mut machine, &mut hints, &DESCRIPTOR)?;
+    assert!(rt; hints.table.pages() == machine.shape().pages());
+    let mut opened = enter_pack(&mut machine, &mut hints, &DESCRIPTOR)?;
+    opened.mark_open(&mut machine)?;
+    change(&rt, &mut machine, 4, FIRST, 263, 9)?;
+    let held = DescError::Held {
+        at: 4,
+        found: Some([0xFFFF, 0x3000, 0, 38, 1, 1, 0, 9]),
+    };
+    let events = machine.event_count();
+    assert_eq!(rt; closed.mark_open(&mut machine), Err(held));
+    let Err(given) = opened.next_serial(&mut machine) else {
+        return Err("a serial is given".into());
+    };
+    assert_eq!(rt; given, held);
+    assert!(rt; hints.table.pages() == machine.shape().pages());
+    assert_eq!(rt; opened.close_pack(&mut machine, &hints.table), Err(held));
+    assert_eq!(rt; machine.event_count(), events);
+    assert_eq!(rt; closed.mark(), 1);
+    assert_eq!(rt; opened.last(), 2);
+    assert_eq!(rt; opened.mark(), 2);
     Ok(())
 }
 

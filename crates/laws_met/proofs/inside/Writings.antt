@@ -16,11 +16,12 @@ use Rattle.pack_model.specs.reading.Model.{read_sights}
 use Rattle.pack_model.specs.reading.Sights.{sight, sights_from}
 use Rattle.laws_record.proofs.Heads.{and_left, and_right}
 use Rattle.laws_contents.proofs.pages.Laws.{formed_pages_have_256_words}
-use Rattle.laws_call.specs.Writing.{cuts, grows, leaves, makes, puts, stamps, titles, widens}
+use Rattle.laws_call.specs.Writing.{cuts, drops, grows, leaves, makes, puts, stamps, titles, widens}
 use Rattle.laws_midway.proofs.made.Laws.{handy_after_make}
 use Rattle.laws_midway.specs.MadeLaws.{ListsNewPages}
 use Rattle.laws_met.specs.Peopled.{entered_d, file_b, name_b, name_z, numbered_b, peopled}
 use Rattle.laws_met.specs.Writings.{MakeIsWritten, NewPagesAreListed, ValuesAreFull, WritingsAreMet, cache_b}
+use Rattle.laws_met.proofs.inside.Changing.{entry_a}
 use Rattle.laws_met.proofs.inside.FactsD.{entered_session}
 use Rattle.laws_met.proofs.inside.LineD.{stands_d}
 use Rattle.laws_met.proofs.inside.Meeting.{ordinary_a, premises_are_met}
@@ -42,6 +43,7 @@ writings_are_met =
       titles = titles m.can_write_leader z_is_stored;
       stamps = stamps {b = 600} m.can_write_leader (sym (ap length m.bytes)) m.pages.1.1.0;
       leaves = leaves m.has_entry refl refl;
+      drops = drops m.may_drop entry_a;
       widens = widens refl m.can_widen;
     }
 

@@ -25,6 +25,7 @@ use Rattle.directory.specs.Places.{HasNoRoom}
 use Rattle.directory.proofs.Answering.{by_slots_any, cause_of_entering, never_by_slots, never_full, never_misled, never_taken, same_error}
 use Rattle.directory.proofs.EntryCall.{entered, next_page_is, quick_thrice, words_few, words_some, words_within}
 use Rattle.directory.proofs.LeavingEntry.{found_of_stands, quick_kept}
+use Rattle.directory.proofs.Misleading.{dir_never_led, misled_any}
 use Rattle.directory.proofs.Paging.{take_short}
 use Rattle.directory.proofs.Quickly.{handy_twice}
 use Rattle.directory.proofs.entering.enter.Goals as goal
@@ -41,6 +42,15 @@ returns-in-Err-clause-full g c told stands = c.in-Err.ensures.full told (found_o
 
 pub returns-in-Err-clause-misled : goal.returns-in-Err-clause-misled
 returns-in-Err-clause-misled g c told stands = c.in-Err.ensures.misled told (found_of_stands (pack (g.D.Tape.tape c.args.disk.now)) c.args.dir.now stands)
+
+pub returns-in-Err-clause-true_links : goal.returns-in-Err-clause-true_links
+returns-in-Err-clause-true_links g c told stands links =
+    dir_never_led {T = Unit {0}} (pack (g.D.Tape.tape c.args.disk.now)) c.args.dir.now (Err c.in-Err.error) (g.met.D.Disk.formed c.args.disk.now told) stands links (returns-in-Err-clause-misled g c told stands)
+
+pub returns-in-Err-clause-quiet : goal.returns-in-Err-clause-quiet
+returns-in-Err-clause-quiet g c told stands =
+    misled_any {T = Unit {0}} (IsQuiet (around (g.D.Tape.tape c.args.disk.now) c.args.hints.now.table c.args.tally.now) (around (g.D.Tape.tape c.find_place.new.disk) c.find_place.new.hints.table c.args.tally.now)) (Err c.in-Err.error)
+    (record { silent = c.find_place.ensures.looks.silent told; bits = c.find_place.ensures.table; tally = refl })
 
 pub returns-in-Err-clause-unwritten : goal.returns-in-Err-clause-unwritten
 returns-in-Err-clause-unwritten g c told =
@@ -92,6 +102,16 @@ returns-in-Err-locate_room-clause-misled g c told stands =
     let one = looks_pack c.find_place.ensures.looks told in
     subst (λ (q : Pack). IfMisled {T = Unit {0}} (Err c.in-Err-locate_room.error) (MisledBy q [] c.args.dir.now.fid)) one
     (c.in-Err-locate_room.ensures.misled told (subst (λ (q : Pack). DirIsFound q c.args.dir.now) (sym one) (found_of_stands p c.args.dir.now stands)))
+
+pub returns-in-Err-locate_room-clause-true_links : goal.returns-in-Err-locate_room-clause-true_links
+returns-in-Err-locate_room-clause-true_links g c told stands links =
+    dir_never_led {T = Unit {0}} (pack (g.D.Tape.tape c.args.disk.now)) c.args.dir.now (Err c.in-Err-locate_room.error) (g.met.D.Disk.formed c.args.disk.now told) stands links (returns-in-Err-locate_room-clause-misled g c told stands)
+
+pub returns-in-Err-locate_room-clause-quiet : goal.returns-in-Err-locate_room-clause-quiet
+returns-in-Err-locate_room-clause-quiet g c told stands =
+    let looks = looks_twice 4298440756 c.find_place.ensures.looks c.locate_room.ensures.looks (omega arith) in
+    misled_any {T = Unit {0}} (IsQuiet (around (g.D.Tape.tape c.args.disk.now) c.args.hints.now.table c.args.tally.now) (around (g.D.Tape.tape c.locate_room.new.disk) c.locate_room.new.hints.table c.args.tally.now)) (Err c.in-Err-locate_room.error)
+    (record { silent = looks.silent told; bits = c.locate_room.ensures.table ∙ c.find_place.ensures.table; tally = refl })
 
 pub returns-in-Err-locate_room-clause-cause : goal.returns-in-Err-locate_room-clause-cause
 returns-in-Err-locate_room-clause-cause g c = cause_of_entering {T = Unit {0}} other (g.D.Tape.tape c.args.disk.now) (g.D.Tape.tape c.find_place.new.disk) (g.D.Tape.tape c.locate_room.new.disk) (Err c.in-Err-locate_room.error) c.find_place.ensures.looks.alone.grown c.in-Err-locate_room.ensures.cause
@@ -168,6 +188,30 @@ returns-in-Ok-locate_room-clause-misled g c told stands =
     never_misled _ c.write_entry.result (c.write_entry.ensures.misled told (subst (λ (q : Pack). carried q at ≡ Some page) (sym two) here) (λ more.
     let next = (c.in-Ok-locate_room.ensures.stands_next told more (omega (arith, low, few))).carries ∙ ap (λ n. Some (page_number d (n + 1))) (sym c.page_of_word.ensures) in
     (next_page_is (pack (g.D.Tape.tape c.find_place.new.disk)) d c.page_of_word.result next_at (subst Whole (sym one) stands.stands.whole) next, subst (λ (q : Pack). carried q next_at ≡ Some (page_after page)) (sym two) next)))
+
+pub returns-in-Ok-locate_room-clause-quiet : goal.returns-in-Ok-locate_room-clause-quiet
+returns-in-Ok-locate_room-clause-quiet g c told stands =
+    let p = pack (g.D.Tape.tape c.args.disk.now) in
+    let d = c.args.dir.now.fid in
+    let room = c.in-Ok.room in
+    let at = c.in-Ok-locate_room.at in
+    let next_at = c.in-Ok-locate_room.next_at in
+    let found = c.in-Ok.ensures.found told (found_of_stands p c.args.dir.now stands) in
+    let words = take c.put_entry-count.result c.put_entry-count.new.words in
+    let is = c.put_entry-count.ensures.words ∙ ap (entered_words c.args.fid c.args.leader_at c.args.name.now) (c.saturating_sub-left.ensures ∙ ap (λ n. room.words.total - n) c.entry_words.ensures.words) in
+    let few = words_few p d c.args.name.now c.args.fid c.args.leader_at room words found is in
+    let low = room.low in
+    let one = looks_pack c.find_place.ensures.looks told in
+    let two = looks_pack c.locate_room.ensures.looks told in
+    let page : Page = page_number d c.page_of_word.result in
+    let here = (c.in-Ok-locate_room.ensures.stands told).carries ∙ ap (λ n. Some (page_number d n)) (sym c.page_of_word.ensures) in
+    never_misled _ c.write_entry.result (c.write_entry.ensures.misled told (subst (λ (q : Pack). carried q at ≡ Some page) (sym two) here) (λ more.
+    let next = (c.in-Ok-locate_room.ensures.stands_next told more (omega (arith, low, few))).carries ∙ ap (λ n. Some (page_number d (n + 1))) (sym c.page_of_word.ensures) in
+    (next_page_is (pack (g.D.Tape.tape c.find_place.new.disk)) d c.page_of_word.result next_at (subst Whole (sym one) stands.stands.whole) next, subst (λ (q : Pack). carried q next_at ≡ Some (page_after page)) (sym two) next)))
+
+pub returns-in-Ok-locate_room-clause-true_links : goal.returns-in-Ok-locate_room-clause-true_links
+returns-in-Ok-locate_room-clause-true_links g c told stands links =
+    dir_never_led (pack (g.D.Tape.tape c.args.disk.now)) c.args.dir.now c.write_entry.result (g.met.D.Disk.formed c.args.disk.now told) stands links (returns-in-Ok-locate_room-clause-misled g c told stands)
 
 pub returns-in-Ok-locate_room-clause-cause : goal.returns-in-Ok-locate_room-clause-cause
 returns-in-Ok-locate_room-clause-cause g c = cause_of_entering never (g.D.Tape.tape c.args.disk.now) (g.D.Tape.tape c.locate_room.new.disk) (g.D.Tape.tape c.write_entry.new.disk) c.write_entry.result (alone_twice c.find_place.ensures.looks.alone c.locate_room.ensures.looks.alone).grown c.write_entry.ensures.cause

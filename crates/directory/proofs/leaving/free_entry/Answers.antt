@@ -1,4 +1,4 @@
-use Rattle.std.proofs.Common.{Bool, List, Some, [], ap, subst, sym, ℕ, ◌∙◌, ◌≡◌}
+use Rattle.std.proofs.Common.{Bool, Err, List, Some, [], ap, refl, subst, sym, ℕ, ◌∙◌, ◌≡◌}
 use Rattle.disk_records.proofs.Growing.{alone_twice}
 use Rattle.disk_records.proofs.Looking.{looks_pack}
 use Rattle.disk_records.specs.Causes.{never, other}
@@ -6,7 +6,7 @@ use Rattle.disk_records.specs.Packs.{Pack, carried}
 use Rattle.disk_records.specs.Tapes.{pack}
 use Rattle.file_pages.proofs.Valued.{look_leaves_handy, value_after_look, value_leaves_handy, value_operates}
 use Rattle.file_pages.specs.Values.{WroteValue}
-use Rattle.laws_call.specs.Acting.{Operates, around}
+use Rattle.laws_call.specs.Acting.{IsQuiet, Operates, around}
 use Rattle.laws_call.specs.Writing.{entry_freed}
 use Rattle.pack_model.specs.operations.Step.Operation.{leave}
 use Rattle.page_seeking.specs.Seeking.{page_number}
@@ -15,6 +15,7 @@ use Rattle.directory.specs.Errors.{disk_fault, out_of_memory}
 use Rattle.directory.specs.Inside.{found_at}
 use Rattle.directory.proofs.Answering.{cause_in, misled_in, not_absent, not_by_slots, on_ok_in, operates_in}
 use Rattle.directory.proofs.LeavingEntry.{entry_is_there, freed_is, left_once, quick_written, slot_freed}
+use Rattle.directory.proofs.Misleading.{misled_any}
 use Rattle.directory.proofs.leaving.free_entry.Goals as goal
 
 pub returns-in-Ok-clause-alone : goal.returns-in-Ok-clause-alone
@@ -70,6 +71,19 @@ returns-in-Ok-clause-misled g c told found =
     let carries : carried (pack (g.D.Tape.tape c.locate_entry.new.disk)) c.in-Ok.at ≡ Some (page_number f c.page_of_word.result) =
     subst (λ (q : Pack). carried q c.in-Ok.at ≡ Some (page_number f c.page_of_word.result)) (sym same) ((c.in-Ok.ensures.stands told).carries ∙ ap (λ n. Some (page_number f n)) (sym c.page_of_word.ensures)) in
     misled_in _ c.write_page.result c.in_directory.result c.in_directory.ensures (if_misled_map c.write_page.result (c.write_page.ensures.misled told carries) (λ place at wanted found nothing. absurd nothing))
+
+pub returns-in-Ok-clause-quiet : goal.returns-in-Ok-clause-quiet
+returns-in-Ok-clause-quiet g c told =
+    let f = c.args.dir.now.fid in
+    let same = looks_pack c.locate_entry.ensures.looks told in
+    let carries : carried (pack (g.D.Tape.tape c.locate_entry.new.disk)) c.in-Ok.at ≡ Some (page_number f c.page_of_word.result) =
+    subst (λ (q : Pack). carried q c.in-Ok.at ≡ Some (page_number f c.page_of_word.result)) (sym same) ((c.in-Ok.ensures.stands told).carries ∙ ap (λ n. Some (page_number f n)) (sym c.page_of_word.ensures)) in
+    misled_in _ c.write_page.result c.in_directory.result c.in_directory.ensures (if_misled_map c.write_page.result (c.write_page.ensures.misled told carries) (λ place at wanted found nothing. absurd nothing))
+
+pub returns-in-Err-clause-quiet : goal.returns-in-Err-clause-quiet
+returns-in-Err-clause-quiet g c told =
+    misled_any {T = Unit {0}} (IsQuiet (around (g.D.Tape.tape c.args.disk.now) c.args.hints.now.table c.args.tally.now) (around (g.D.Tape.tape c.locate_entry.new.disk) c.locate_entry.new.hints.table c.args.tally.now)) (Err c.in-Err.error)
+    (record { silent = c.locate_entry.ensures.looks.silent told; bits = c.locate_entry.ensures.table; tally = refl })
 
 pub returns-in-Ok-clause-cause : goal.returns-in-Ok-clause-cause
 returns-in-Ok-clause-cause g c = cause_in other never never (g.D.Tape.tape c.args.disk.now) (g.D.Tape.tape c.locate_entry.new.disk) (g.D.Tape.tape c.write_page.new.disk) c.write_page.result c.in_directory.result c.in_directory.ensures c.locate_entry.ensures.looks.alone.grown.disk_faults c.write_page.ensures.cause

@@ -1,21 +1,23 @@
-use Rattle.std.proofs.Common.{◌≡◌, ◌+◌, ◌/◌, ◌∙◌, Err, [], ℕ, Some, refl, sym, take, ap, subst, arith}
+use Rattle.std.proofs.Common.{◌≡◌, ◌+◌, ◌/◌, ◌∙◌, Err, [], ℕ, Some, inl, inr, refl, sym, take, ap, subst, arith}
 use Rattle.std.specs.List.{FoldsTo}
 use Rattle.disk_records.proofs.Looking.{looks_none, looks_pack, looks_twice}
 use Rattle.disk_records.specs.Packs.{Pack, carried}
 use Rattle.disk_records.specs.Tapes.{pack}
 use Rattle.hint_cache.specs.Caches.{Cached}
 use Rattle.label_check.specs.declared.errors.PageInfo.{PageInfo}
-use Rattle.pack_model.specs.hints.Links.{dir_slots}
-use Rattle.page_seeking.specs.Refs.{FileIsFrom, IfBeyond, MisledBy}
+use Rattle.pack_model.specs.hints.Links.{LinksTrue, dir_slots}
+use Rattle.pack_model.specs.hints.Misled.{IsOnDisk}
+use Rattle.page_seeking.specs.Refs.{FileIsFrom, FileIsRooted, FileStands, IfBeyond, MisledBy}
 use Rattle.page_seeking.specs.Seeking.{IsEnd, Quick, Stands, page_number}
 use Rattle.page_seeking.proofs.Erring.{if_misled_map}
+use Rattle.page_seeking.proofs.Listing.{is_listed, listed_since}
 use Rattle.page_seeking.proofs.Parting.{few_bytes}
 use Rattle.page_seeking.proofs.Seeking.{misled_before}
-use Rattle.directory.specs.Found.{IsQuick}
-use Rattle.directory.proofs.Paging.{take_short, visited_all, visited_none}
+use Rattle.directory.specs.Found.{IsQuick, ListsLastPage}
+use Rattle.directory.proofs.Paging.{ends_full, take_short, visited_all, visited_none}
 use Rattle.directory.proofs.Quickly.{ahead_first, handy_twice}
 use Rattle.directory.proofs.Standing.{once_of_whole}
-use Rattle.directory.proofs.Walking.{ended_cause, ended_memory, ended_misled, ended_within, ok_of_beyond, page_last, page_more, quick_end, quick_last, quick_more}
+use Rattle.directory.proofs.Walking.{ended_cause, ended_memory, ended_misled, ended_within, last_number, ok_of_beyond, page_last, page_more, quick_end, quick_last, quick_more}
 use Rattle.directory.proofs.walk.visit_slots.Goals as goal
 
 pub loop-full-init : goal.loop-full-init
@@ -31,6 +33,7 @@ loop-full-init g c =
       refused = omega arith;
       handy = λ told whole links f handy. handy;
       visited = λ told once. visited_none g.V.Visit.step (pack first) c.args.dir.now.fid c.new-walk.result c.args.visitor.now c.new-walk.ensures.start c.new-walk.ensures.none;
+      listed = λ some. absurd (omega (arith, some));
       ahead = λ told quick. ahead_first (pack first) c.args.dir.now.fid _ c.args.hints.now.cache first refl;
     }
 
@@ -94,6 +97,48 @@ returns-in-Err-clause-misled g c = λ told found.
     ended_misled (ℕ × PageInfo) (MisledBy (pack (g.D.Tape.tape c.args.disk.now)) [] f) c.in-Err.error c.ended.result c.ended.ensures
     (if_misled_map {T = ℕ × PageInfo} (Err c.in-Err.error) (c.in-Err.ensures.misled told from) (λ place at wanted found x. misled_before inv.looks told x))
 
+pub returns-in-Err-clause-on_disk : goal.returns-in-Err-clause-on_disk
+returns-in-Err-clause-on_disk g c = λ told rooted.
+    let same = looks_pack c.loop-full.invariant.looks told in
+    ended_misled (ℕ × PageInfo) (λ place at wanted found. IsOnDisk place) c.in-Err.error c.ended.result c.ended.ensures
+    (c.in-Err.ensures.on_disk told (subst (λ (q : Pack). FileIsRooted q c.args.dir.now) (sym same) rooted))
+
+pub returns-in-Err-clause-true_links : goal.returns-in-Err-clause-true_links
+returns-in-Err-clause-true_links g c = λ told stands links.
+    let same = looks_pack c.loop-full.invariant.looks told in
+    ended_misled (ℕ × PageInfo) (λ place at wanted found. ⊥) c.in-Err.error c.ended.result c.ended.ensures
+    (c.in-Err.ensures.true_links told (subst (λ (q : Pack). FileStands q c.args.dir.now) (sym same) stands.stands) (subst LinksTrue (sym same) links))
+
+pub returns-in-Err-clause-listed : goal.returns-in-Err-clause-listed
+returns-in-Err-clause-listed g c = λ told found.
+    let inv = c.loop-full.invariant in
+    let same = looks_pack inv.looks told in
+    let old = g.D.Tape.tape c.args.disk.now in
+    let f = c.args.dir.now.fid in
+    ok_of_beyond (ListsLastPage g.D.Tape.told (pack old) f c.args.hints.now.cache c.locate.new.hints.cache) (ℕ × PageInfo) (pack old) f c.loop-full.full c.in-Err.error c.ended.result c.ended.ensures found.once (inv.visited told found.once).before
+    (subst (λ (q : Pack). IfBeyond {T = ℕ × PageInfo} (Err c.in-Err.error) (IsEnd q f (c.loop-full.full + 1))) same (c.in-Err.ensures.ends told))
+
+pub returns-then-info-ne-PAGE_BYTES-clause-listed : goal.returns-then-info-ne-PAGE_BYTES-clause-listed
+returns-then-info-ne-PAGE_BYTES-clause-listed g c = λ told found.
+    let inv = c.loop-full.invariant in
+    let p = pack (g.D.Tape.tape c.args.disk.now) in
+    let f = c.args.dir.now.fid in
+    let stands = subst (λ (q : Pack). Stands q (page_number f (c.loop-full.full + 1)) c.in-Ok.field-0-0 c.locate.new.buf) (looks_pack inv.looks told) (c.in-Ok.ensures.stands told) in
+    record {
+      number = c.loop-full.full + 1;
+      is = inl (last_number p f c.loop-full.full c.in-Ok.field-0-0 (g.D.Tape.tape c.loop-full.disk).form c.in-Ok.info c.locate.new.buf found.once c.in-Ok.ensures.seen stands (inv.visited told found.once).before c.if-info-ne-PAGE_BYTES.true);
+      listed = listed_since c.args.hints.now.cache c.loop-full.hints.cache c.locate.new.hints.cache c.loop-full.invariant.looks c.loop-full.invariant.refused (is_listed g.D.Tape.told (pack (g.D.Tape.tape c.loop-full.disk)) c.in-Ok.ensures.listed (λ told. (c.in-Ok.ensures.stands told).carries));
+    }
+
+pub returns-clause-listed : goal.returns-clause-listed
+returns-clause-listed g c = λ told found.
+    let inv = c.loop-full.invariant in
+    let p = pack (g.D.Tape.tape c.args.disk.now) in
+    let f = c.args.dir.now.fid in
+    let top : c.loop-full.full ≡ 65535 = omega arith in
+    let end = ends_full p f c.loop-full.full (inv.visited told found.once).before top in
+    record { number = c.loop-full.full; is = inr (top, omega (arith, top, end)); listed = inv.listed (omega (arith, top)) }
+
 pub returns-in-Err-clause-never_beyond : goal.returns-in-Err-clause-never_beyond
 returns-in-Err-clause-never_beyond g c = ended_within c.in-Err.error c.ended.result c.ended.ensures
 
@@ -140,6 +185,7 @@ loop-full-preserved g c =
           let stands = subst (λ (q : Pack). Stands q (page_number f (k + 1)) c.in-Ok.field-0-0 c.locate.new.buf) (looks_pack inv.looks told) (c.in-Ok.ensures.stands told) in
           page_more p f k c.in-Ok.field-0-0 here.form c.in-Ok.info c.locate.new.buf once c.in-Ok.ensures.seen stands g.V.Visit.step _ c.loop-full.walk c.visit_words.new.walk c.args.visitor.now c.loop-full.visitor c.visit_words.new.visitor
           (ap (λ n. take (n / 2) c.locate.new.buf.value) c.from.ensures) (inv.visited told once) c.in-Ok-visit_words.ensures.visits c.if-info-ne-PAGE_BYTES.false;
+      listed = λ some. listed_since c.args.hints.now.cache c.loop-full.hints.cache c.locate.new.hints.cache c.loop-full.invariant.looks c.loop-full.invariant.refused (is_listed g.D.Tape.told (pack (g.D.Tape.tape c.loop-full.disk)) c.in-Ok.ensures.listed (λ told. (c.in-Ok.ensures.stands told).carries));
       ahead = λ told quick.
           let same = looks_pack inv.looks told in
           let once = once_of_whole p quick.whole in

@@ -1,9 +1,10 @@
-use Rattle.std.proofs.Common.{◌≡◌, ℕ, ◌+◌, ◌*◌, ◌≤◌, List, IsTrue}
+use Rattle.std.proofs.Common.{◌≡◌, ◌⊎◌, ℕ, ◌+◌, ◌*◌, ◌≤◌, List, IsTrue}
 use Rattle.dir_slots.specs.Walks.{Walked}
 use Rattle.disk_records.specs.Tapes.{Looks, pack}
 use Rattle.pack_model.specs.reading.Sights.{sights}
 use Rattle.pack_model.specs.states.Sentences.{EachOnce}
-use Rattle.page_seeking.specs.Seeking.{KeepsHandy, Quick}
+use Rattle.page_seeking.specs.Parts.{IsListed}
+use Rattle.page_seeking.specs.Seeking.{KeepsHandy, Quick, Refused, page_number}
 use Rattle.directory.proofs.Paging.{VisitedTo}
 use Rattle.directory.proofs.Quickly.{IsAhead}
 use Rattle.directory.proofs.walk.visit_slots.Given as goal
@@ -20,5 +21,6 @@ invariant-loop-full g l =
       refused : l.fn.hints.cache.refused ≤ l.hints.cache.refused;
       handy : IsTrue g.D.Tape.told → KeepsHandy (pack old) l.fn.hints.cache l.hints.cache;
       visited : IsTrue g.D.Tape.told → EachOnce (sights (pack old)) → VisitedTo g.V.Visit.step (pack old) l.dir.fid l.full l.walk l.fn.visitor l.visitor;
+      listed : 1 ≤ l.full → IsListed g.D.Tape.told (pack old) (page_number l.dir.fid l.full) l.hints.cache ⊎ Refused l.fn.hints.cache l.hints.cache;
       ahead : IsTrue g.D.Tape.told → Quick (pack old) l.dir.fid l.fn.hints.cache → IsAhead (pack old) l.dir.fid (l.full + 1) l.fn.hints.cache l.hints.cache old now;
     }

@@ -1,4 +1,4 @@
-use Rattle.std.proofs.Common.{Bool, List, OnOk, arith, false, refl, subst, ◌≡◌, ◌≤◌, Err, [], ◌⊎◌, ℕ}
+use Rattle.std.proofs.Common.{Bool, List, OnOk, arith, false, refl, subst, ◌≡◌, ◌≤◌, Err, [], ◌⊎◌, ℕ, inl, inr}
 use Rattle.disk_records.proofs.Growing.{alone_twice, grown_twice}
 use Rattle.disk_records.proofs.Looking.{looks_pack}
 use Rattle.disk_records.specs.Tapes.{pack, added}
@@ -9,7 +9,7 @@ use Rattle.page_seeking.specs.Seeking.{file_length, page_number, Refused}
 use Rattle.pack_model.specs.reading.Sights.{sights}
 use Rattle.file_pages.proofs.CommitFirst.{look_before}
 use Rattle.file_pages.proofs.CutFiles.{cut_begun, cut_here, cut_is_at_the_end, cut_is_past, cut_is_within, far_past, fewer_pages, known_read}
-use Rattle.file_pages.proofs.Erring.{memory_too}
+use Rattle.file_pages.proofs.Erring.{memory_too, own_or_found}
 use Rattle.file_pages.proofs.Going.{handy_still, misled_by}
 use Rattle.file_pages.specs.Cutting.{IsRead}
 use Rattle.file_pages.specs.Releasing.{Forgotten}
@@ -173,3 +173,19 @@ returns-else-info-bytes-2-clause-listed g c =
     let here = is_listed g.D.Tape.told (pack (g.D.Tape.tape c.args.disk.now)) c.in-Ok-locate.ensures.listed (λ told. (c.in-Ok-locate.ensures.stands told).carries) in
     let still = listed_still c.args.hints.now.cache c.locate.new.hints.cache c.end_in_page.new.hints.cache c.end_in_page.ensures.here c.end_in_page.ensures.refused here in
     on_ok c.end_in_page.result (subst (λ n. IsListed g.D.Tape.told p (page_number c.args.file.now.fid n) c.end_in_page.new.hints.cache ⊎ Refused c.args.hints.now.cache c.end_in_page.new.hints.cache) c.in-Some.ensures.some still)
+
+pub returns-else-info-bytes-2-clause-hint : goal.returns-else-info-bytes-2-clause-hint
+returns-else-info-bytes-2-clause-hint g c told =
+    let a = g.D.Tape.tape c.args.disk.now in
+    let looks = c.locate.ensures.looks in
+    let read : IsRead (pack a) (page_number c.args.file.now.fid c.in-Some.number) c.in-Ok-locate.at c.in-Ok-locate.info c.locate.new.buf = record { seen = c.in-Ok-locate.ensures.seen; stands = c.in-Ok-locate.ensures.stands told } in
+    if_misled_map c.end_in_page.result (c.end_in_page.ensures.misled (pack a) told (looks_pack looks told) read) (λ place at wanted found x. inr x.link)
+
+pub returns-in-Err-clause-given : goal.returns-in-Err-clause-given
+returns-in-Err-clause-given g c = if_misled_map {T = Unit {0}} (Err c.in-Err.error) c.in-Err.ensures.hint (λ place at wanted found x. inl x)
+
+pub returns-in-Err-locate-clause-given : goal.returns-in-Err-locate-clause-given
+returns-in-Err-locate-clause-given g c = if_misled_map {T = Unit {0}} (Err c.in-Err-locate.error) c.in-Err-locate.ensures.hint (λ place at wanted found x. inl x)
+
+pub returns-else-info-bytes-2-clause-given : goal.returns-else-info-bytes-2-clause-given
+returns-else-info-bytes-2-clause-given g c = if_misled_map c.end_in_page.result c.end_in_page.ensures.given (own_or_found c.args.file.now)

@@ -1,4 +1,4 @@
-use Rattle.std.proofs.Common.{Err, ap, refl, ◌∙◌, subst}
+use Rattle.std.proofs.Common.{Err, ap, inl, inr, refl, ◌∙◌, subst}
 use Rattle.disk_records.proofs.Growing.{alone_twice}
 use Rattle.disk_records.specs.Labels.{page_of}
 use Rattle.laws_operation.proofs.values.Laws.{label_with_another_count}
@@ -10,6 +10,7 @@ use Rattle.disk_records.specs.Packs.{Pack}
 use Rattle.disk_records.specs.Tapes.{pack}
 use Rattle.file_pages.proofs.Gone.{none_gone_twice, relabel_loses_none}
 use Rattle.file_pages.specs.Releasing.{ListsNoneGone}
+use Rattle.file_pages.proofs.Erring.{was_found}
 use Rattle.file_pages.proofs.cutting.end_in_page.Goals as goal
 
 pub shorten-requires-clause-same : goal.shorten-requires-clause-same
@@ -65,3 +66,9 @@ returns-in-Err-clause-gone g c p told same read =
     let d = g.D.Tape.tape c.shorten.new.disk in
     let done = c.in-Err.ensures.commits told (carries_at same read) in
     subst (λ (q : Pack). ListsNoneGone q (pack d) c.args.hints.now.cache) same (relabel_loses_none c.args.at c.args.page c.last_label-label.result c.args.hints.now.cache c.shorten.ensures.alone.grown (carries_at same read) named done.some)
+
+pub returns-in-Ok-clause-given : goal.returns-in-Ok-clause-given
+returns-in-Ok-clause-given g c = if_misled_map c.release_rest.result c.release_rest.ensures.link (λ place at wanted found x. inl x)
+
+pub returns-in-Err-clause-given : goal.returns-in-Err-clause-given
+returns-in-Err-clause-given g c = if_misled_map {T = Unit {0}} (Err c.in-Err.error) c.in-Err.ensures.held (λ place at wanted found x. inr (was_found c.args.page.fid c.args.at c.args.page refl place at wanted found x))

@@ -1,10 +1,12 @@
-use Rattle.std.proofs.Common.{Err, Ok, ap, ◌∙◌, ◌≡◌}
+use Rattle.std.proofs.Common.{Err, Ok, ap, refl, ◌∙◌, ◌≡◌}
 use Rattle.disk_records.specs.Packs.{sector_at}
 use Rattle.disk_records.specs.Tapes.{pack}
 use Rattle.disk_records.specs.declared.records.Place.TheVariants.{Held}
 use Rattle.label_check.specs.Guarded.{Carries}
 use Rattle.file_pages.specs.Counting.{counted_after}
 use Rattle.file_pages.proofs.CommitFirst.{commits_done, commits_failed}
+use Rattle.file_pages.specs.Calls.{WasHeld}
+use Rattle.file_pages.proofs.Erring.{wrong_at}
 use Rattle.file_pages.proofs.cutting.shorten.Goals as goal
 
 pub returns-in-Ok-clause-commits : goal.returns-in-Ok-clause-commits
@@ -25,3 +27,6 @@ returns-in-Err-clause-commits g c told carries =
     c.count_operation.ensures ∙ ap (λ k. counted_after k 1 c.writes-now.result c.relabel-written.result c.args.tally.now) c.writes-before.ensures ∙ ap (λ k. counted_after a.writes 1 k c.relabel-written.result c.args.tally.now) c.writes-now.ensures ∙ ap (λ r. counted_after a.writes 1 b.writes r c.args.tally.now) c.in-Err.is in
     commits_failed a b (Carries c.args.at c.args.page) c.args.at c.args.label (sector_at (pack a) c.args.at).value c.args.tally.now c.relabel-written.ensures.alone (g.met.D.Disk.counted c.args.disk.now told) (g.met.D.Disk.counted c.relabel-written.new.disk told)
     error (Held c.args.at) c.args.at _ c.error_at.result c.error_at.ensures (rw c.in-Err.is at (c.relabel-written.ensures.guarded told)) counts
+
+pub returns-in-Err-clause-held : goal.returns-in-Err-clause-held
+returns-in-Err-clause-held g c = wrong_at (Unit {0}) (WasHeld c.args.at c.args.page) c.in-Err.error (Held c.args.at) c.args.at c.args.page c.error_at.result c.error_at.ensures (λ found. record { held = refl; address = refl; page_is = refl })

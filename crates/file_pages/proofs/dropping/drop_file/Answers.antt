@@ -1,4 +1,4 @@
-use Rattle.std.proofs.Common.{Bool, List, OnOk, arith, false, subst, ℕ, ◌∷◌, ◌≡◌, Err, []}
+use Rattle.std.proofs.Common.{Bool, List, OnOk, arith, false, subst, ℕ, ◌∷◌, ◌≡◌, Err, [], inl, inr}
 use Rattle.disk_records.proofs.Growing.{alone_twice, grown_twice}
 use Rattle.disk_records.proofs.Looking.{looks_pack}
 use Rattle.disk_records.specs.Tapes.{pack, added}
@@ -10,7 +10,7 @@ use Rattle.pack_model.specs.reading.Sights.{sights}
 use Rattle.file_pages.proofs.CommitFirst.{look_before}
 use Rattle.file_pages.proofs.CutFiles.{fewer_pages, known_read}
 use Rattle.file_pages.proofs.DroppedFiles.{drop_begun, drop_does, drop_here, drop_not_begun}
-use Rattle.file_pages.proofs.Erring.{never_past}
+use Rattle.file_pages.proofs.Erring.{never_past, own_or_found}
 use Rattle.file_pages.proofs.Going.{handy_still, misled_by}
 use Rattle.file_pages.specs.Cutting.{IsRead}
 use Rattle.page_seeking.proofs.TrueLinks.{never_led}
@@ -85,3 +85,16 @@ returns-in-Ok-clause-gone g c told =
 
 pub returns-in-Err-clause-gone : goal.returns-in-Err-clause-gone
 returns-in-Err-clause-gone g c told = looked_only c.locate.new.hints.cache c.locate.ensures.looks told
+
+pub returns-in-Ok-clause-hint : goal.returns-in-Ok-clause-hint
+returns-in-Ok-clause-hint g c told =
+    let a = g.D.Tape.tape c.args.disk.now in
+    let looks = c.locate.ensures.looks in
+    let read : IsRead (pack a) (page_number c.args.file.now.fid 0) c.in-Ok.at c.in-Ok.info c.locate.new.buf = record { seen = c.in-Ok.ensures.seen; stands = c.in-Ok.ensures.stands told } in
+    if_misled_map c.drop_pages.result (c.drop_pages.ensures.misled (pack a) told (looks_pack looks told) read) (λ place at wanted found x. inr x.link)
+
+pub returns-in-Ok-clause-given : goal.returns-in-Ok-clause-given
+returns-in-Ok-clause-given g c = if_misled_map c.drop_pages.result c.drop_pages.ensures.given (own_or_found c.args.file.now)
+
+pub returns-in-Err-clause-given : goal.returns-in-Err-clause-given
+returns-in-Err-clause-given g c = if_misled_map {T = Unit {0}} (Err c.in-Err.error) c.in-Err.ensures.hint (λ place at wanted found x. inl x)

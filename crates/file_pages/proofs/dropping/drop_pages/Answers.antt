@@ -1,4 +1,4 @@
-use Rattle.std.proofs.Common.{Err, List, OnOk, Bool, false, refl, subst, ◌≡◌}
+use Rattle.std.proofs.Common.{Err, List, OnOk, Bool, false, inl, inr, refl, subst, ◌≡◌}
 use Rattle.disk_records.proofs.Growing.{alone_twice}
 use Rattle.laws_hint.specs.MapChanges.{marked}
 use Rattle.page_seeking.proofs.Erring.{if_misled_map, on_ok}
@@ -10,6 +10,7 @@ use Rattle.disk_records.specs.Packs.{Pack}
 use Rattle.disk_records.specs.Tapes.{pack}
 use Rattle.file_pages.proofs.Gone.{none_gone_twice, release_forgets}
 use Rattle.file_pages.specs.Releasing.{ListsNoneGone}
+use Rattle.file_pages.proofs.Erring.{was_found}
 use Rattle.file_pages.proofs.dropping.drop_pages.Goals as goal
 
 pub returns-in-Ok-clause-drops : goal.returns-in-Ok-clause-drops
@@ -59,3 +60,9 @@ returns-in-Err-clause-gone g c p told same read =
     let d = g.D.Tape.tape c.release_leader.new.disk in
     let done = c.in-Err.ensures.commits told (carries_at same read) in
     subst (λ (q : Pack). ListsNoneGone q (pack d) c.forget_page.new.cache) same (release_forgets c.args.at (page_number c.args.fid 0) c.forget_page.new.cache c.release_leader.ensures.alone.grown (carries_at same read) done.some c.forget_page.ensures.forgotten)
+
+pub returns-in-Ok-clause-given : goal.returns-in-Ok-clause-given
+returns-in-Ok-clause-given g c = if_misled_map c.release_rest.result c.release_rest.ensures.link (λ place at wanted found x. inl x)
+
+pub returns-in-Err-clause-given : goal.returns-in-Err-clause-given
+returns-in-Err-clause-given g c = if_misled_map {T = Unit {0}} (Err c.in-Err.error) c.in-Err.ensures.held (λ place at wanted found x. inr (was_found c.args.fid c.args.at (page_number c.args.fid 0) refl place at wanted found x))

@@ -1,9 +1,11 @@
-use Rattle.std.proofs.Common.{Err, Ok, ap, ◌∙◌, ◌≡◌}
+use Rattle.std.proofs.Common.{Err, Ok, ap, refl, ◌∙◌, ◌≡◌}
 use Rattle.disk_records.specs.declared.records.Place.TheVariants.{Held}
 use Rattle.disk_records.specs.Commands.{ones}
 use Rattle.label_check.specs.Guarded.{Carries}
 use Rattle.file_pages.specs.Counting.{counted_after}
 use Rattle.file_pages.proofs.CommitFirst.{commits_done, commits_failed}
+use Rattle.file_pages.specs.Calls.{WasHeld}
+use Rattle.file_pages.proofs.Erring.{wrong_at}
 use Rattle.file_pages.proofs.dropping.release_leader.Goals as goal
 
 pub returns-in-Ok-clause-commits : goal.returns-in-Ok-clause-commits
@@ -24,3 +26,6 @@ returns-in-Err-clause-commits g c told carries =
     c.count_operation.ensures ∙ ap (λ k. counted_after k 1 c.writes-now.result c.release-released.result c.args.tally.now) c.writes-before.ensures ∙ ap (λ k. counted_after a.writes 1 k c.release-released.result c.args.tally.now) c.writes-now.ensures ∙ ap (λ r. counted_after a.writes 1 b.writes r c.args.tally.now) c.in-Err.is in
     commits_failed a b (Carries c.args.at c.args.leader) c.args.at (ones 8) (ones 256) c.args.tally.now c.release-released.ensures.alone (g.met.D.Disk.counted c.args.disk.now told) (g.met.D.Disk.counted c.release-released.new.disk told)
     error (Held c.args.at) c.args.at _ c.error_at.result c.error_at.ensures (rw c.in-Err.is at (c.release-released.ensures.guarded told)) counts
+
+pub returns-in-Err-clause-held : goal.returns-in-Err-clause-held
+returns-in-Err-clause-held g c = wrong_at (Unit {0}) (WasHeld c.args.at c.args.leader) c.in-Err.error (Held c.args.at) c.args.at c.args.leader c.error_at.result c.error_at.ensures (λ found. record { held = refl; address = refl; page_is = refl })

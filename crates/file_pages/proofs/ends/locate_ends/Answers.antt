@@ -12,6 +12,7 @@ use Rattle.file_pages.proofs.Erring.{never_past}
 use Rattle.file_pages.proofs.FileEnds.{names_last}
 use Rattle.file_pages.proofs.Valued.{keeps_handy_twice}
 use Rattle.page_seeking.proofs.Listing.{is_listed, listed_since}
+use Rattle.page_seeking.proofs.Parting.{few_bytes}
 use Rattle.file_pages.proofs.NotedHandy.{noted_handy, noted_listed}
 use Rattle.file_pages.proofs.ends.locate_ends.Goals as goal
 
@@ -85,11 +86,13 @@ returns-in-Ok-Some-clause-listed g c =
     let page = page_number c.args.file.now.fid end.number in
     record {
       ends = rw c.in-Ok-Some.field-0-is at c.in-Ok-Some.ensures.ends;
+      most = rw c.in-Ok-Some.field-0-is at c.in-Ok-Some.ensures.most;
       listed = noted_listed (pack (g.D.Tape.tape c.args.disk.now)) c.args.hints.now.cache c.locate.ensures.refused (λ told. subst (λ (p : Pack). carried p end.at ≡ Some page) (looks_pack c.locate.ensures.looks told) (rw c.in-Ok-Some.field-0-is at (c.in-Ok-Some.ensures.carries told))) (rw c.page_of_file.ensures at c.note_one.ensures);
     }
 
 pub returns-in-Ok-last_page-clause-listed : goal.returns-in-Ok-last_page-clause-listed
 returns-in-Ok-last_page-clause-listed g c = record {
   ends = c.in-Ok-last_page.ensures.ends;
+  most = few_bytes c.in-Ok-last_page.ensures.seen;
   listed = listed_since c.args.hints.now.cache c.locate.new.hints.cache c.last_page.new.hints.cache (looks_twice 54 c.locate.ensures.looks c.named_end.ensures.looks (omega arith)) c.locate.ensures.refused (is_listed g.D.Tape.told (pack (g.D.Tape.tape c.named_end.new.disk)) c.in-Ok-last_page.ensures.listed (λ told. (c.in-Ok-last_page.ensures.stands told).carries));
 }

@@ -5,6 +5,7 @@ use Rattle.disk_records.specs.Tapes.{pack}
 use Rattle.disk_records.specs.Words.{word}
 use Rattle.disk_records.specs.declared.records.Page.{Page}
 use Rattle.disk_records.specs.declared.records.Sector.{Sector}
+use Rattle.page_seeking.proofs.Parting.{few_by_label}
 use Rattle.page_seeking.specs.Seeking.{page_number}
 use Rattle.file_pages.proofs.FileEnds.{last_by_label, last_is_short, named_is_there, named_within}
 use Rattle.file_pages.proofs.ends.named_end.Goals as goal
@@ -54,3 +55,6 @@ returns-else-info-eq-PAGE_BYTES-clause-ends g c = record { first = omega (arith,
 
 pub returns-else-info-eq-PAGE_BYTES-clause-carries : goal.returns-else-info-eq-PAGE_BYTES-clause-carries
 returns-else-info-eq-PAGE_BYTES-clause-carries g c told = (c.in-Ok.ensures.guarded told).ok.held ∙ ap (λ (x : Page). Some x) c.page_of_file.ensures
+
+pub returns-else-info-eq-PAGE_BYTES-clause-most : goal.returns-else-info-eq-PAGE_BYTES-clause-most
+returns-else-info-eq-PAGE_BYTES-clause-most g c = few_by_label c.in-Ok.ensures.page c.in-Ok.ensures.tells

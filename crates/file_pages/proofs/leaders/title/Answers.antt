@@ -1,4 +1,4 @@
-use Rattle.std.proofs.Common.{Bool, List, [], ap, arith, subst, ℕ, Err}
+use Rattle.std.proofs.Common.{Bool, List, [], ap, arith, subst, ℕ, Err, inl, inr}
 use Rattle.disk_records.proofs.Growing.{alone_twice}
 use Rattle.disk_records.specs.Tapes.{pack}
 use Rattle.disk_records.specs.declared.records.Sector.{Sector}
@@ -12,6 +12,9 @@ use Rattle.file_pages.proofs.Valued.{look_leaves_handy, value_after_look, value_
 use Rattle.page_seeking.proofs.TrueLinks.{never_led}
 use Rattle.page_seeking.proofs.Listing.{is_listed}
 use Rattle.page_seeking.proofs.Erring.{on_ok}
+use Rattle.disk_records.specs.declared.records.Page.{Page}
+use Rattle.page_seeking.proofs.Erring.{if_misled_map}
+use Rattle.file_pages.proofs.Erring.{was_found}
 use Rattle.file_pages.proofs.leaders.title.Goals as goal
 
 pub returns-in-Ok-clause-alone : goal.returns-in-Ok-clause-alone
@@ -47,3 +50,19 @@ returns-in-Err-clause-true_links g c told stands links =
 
 pub returns-in-Ok-clause-listed : goal.returns-in-Ok-clause-listed
 returns-in-Ok-clause-listed g c = on_ok c.write_page.result (is_listed g.D.Tape.told (pack (g.D.Tape.tape c.args.disk.now)) c.in-Ok.ensures.listed (λ told. (c.in-Ok.ensures.stands told).carries))
+
+pub returns-in-Ok-clause-unwritten : goal.returns-in-Ok-clause-unwritten
+returns-in-Ok-clause-unwritten g c told unless =
+    let looks = c.locate.ensures.looks in
+    let bits = c.locate.new.hints.table in
+    let writes = value_after_look bits c.args.tally.now c.write_page.new.tally looks.alone c.write_page.ensures.alone (looks.silent told) (g.met.D.Disk.counted c.args.disk.now told) (g.met.D.Disk.counted c.locate.new.disk told) (c.write_page.ensures.writes (title c.args.file.now.fid c.args.name.now) bits told) in
+    writes.unwritten unless
+
+pub returns-in-Err-clause-unwritten : goal.returns-in-Err-clause-unwritten
+returns-in-Err-clause-unwritten g c told unless = c.locate.ensures.looks.silent told
+
+pub returns-in-Ok-clause-given : goal.returns-in-Ok-clause-given
+returns-in-Ok-clause-given g c = if_misled_map c.write_page.result c.write_page.ensures.held (λ place at wanted found x. inr (was_found c.args.file.now.fid c.in-Ok.at c.page_of_file.result (ap (λ (p : Page). p.fid) c.page_of_file.ensures) place at wanted found x))
+
+pub returns-in-Err-clause-given : goal.returns-in-Err-clause-given
+returns-in-Err-clause-given g c = if_misled_map {T = Unit {0}} (Err c.in-Err.error) c.in-Err.ensures.hint (λ place at wanted found x. inl x)

@@ -102,3 +102,12 @@ returns-in-Err-clause-given g c = wrong_at (Unit {0}) (WasGiven c.args.fid c.arg
 pub returns-in-Err-claimed-clause-given : goal.returns-in-Err-claimed-clause-given
 returns-in-Err-claimed-clause-given g c =
     wrong_at (Unit {0}) (WasGiven c.args.fid c.args.leader_at c.args.page_at) c.in-Err-claimed.error (Held c.args.leader_at) c.args.leader_at _ c.error_at-in-Err-claimed.result c.error_at-in-Err-claimed.ensures (λ found. record { held = refl; given = inl ((cc), refl) })
+
+pub returns-in-Err-clause-runs : goal.returns-in-Err-clause-runs
+returns-in-Err-clause-runs g c told = let r = (c.claim.ensures.guarded told).runs in omega (arith, r)
+
+pub returns-in-Ok-claimed-clause-runs : goal.returns-in-Ok-claimed-clause-runs
+returns-in-Ok-claimed-clause-runs g c told = let r = (c.claim.ensures.guarded told).runs in let s = (c.claim-claimed.ensures.guarded told).runs in omega (arith, r, s)
+
+pub returns-in-Err-claimed-clause-runs : goal.returns-in-Err-claimed-clause-runs
+returns-in-Err-claimed-clause-runs g c told = let r = (c.claim.ensures.guarded told).runs in let s = (c.claim-claimed.ensures.guarded told).runs in omega (arith, r, s)

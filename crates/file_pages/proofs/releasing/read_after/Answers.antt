@@ -1,4 +1,4 @@
-use Rattle.std.proofs.Common.{None, Option, Some, ap, arith, subst, sym, ℕ, ◌<◌, ◌∙◌, ◌≡◌}
+use Rattle.std.proofs.Common.{None, Option, Some, ap, arith, refl, subst, sym, ℕ, ◌<◌, ◌∙◌, ◌≡◌}
 use Rattle.disk_records.specs.Packs.{carried, label_found}
 use Rattle.disk_records.specs.Tapes.{pack}
 use Rattle.disk_records.specs.declared.records.Page.{Page}
@@ -7,10 +7,12 @@ use Rattle.label_check.specs.Guarded.{Carries, FoundWrong}
 use Rattle.label_check.specs.declared.errors.PageInfo.{PageInfo}
 use Rattle.page_seeking.proofs.Misleading.{taken_link}
 use Rattle.page_seeking.specs.Seeking.{Links, page_after}
-use Rattle.file_pages.proofs.Erring.{memory_of}
+use Rattle.file_pages.proofs.Erring.{memory_of, wrong_at}
 use Rattle.file_pages.proofs.Following.{link_misled_since}
 use Rattle.file_pages.proofs.Going.{at_wrong, memory_as, refusal_as}
 use Rattle.file_pages.specs.Releasing.{MisledSince}
+use Rattle.disk_records.specs.declared.records.Place.TheVariants.{Next}
+use Rattle.page_seeking.specs.Refs.{IsOwnLink}
 use Rattle.file_pages.proofs.releasing.read_after.Goals as goal
 
 clash : {x : Page} → ◌≡◌ {A = Option Page} None (Some x) → ⊥
@@ -41,3 +43,11 @@ returns-in-Err-clause-want g c told memory =
     let refused = memory_of c.in-Err.error _ _ _ _ c.error_at.ensures (memory_as (ℕ × PageInfo) (Unit {0}) c.error_at.result memory) in
     let less = ((c.in-Err.ensures.guarded told).want (refusal_as (Unit {0}) PageInfo c.in-Err.error refused)).less in
     absurd (omega (arith, less))
+
+pub returns-in-Err-clause-link : goal.returns-in-Err-clause-link
+returns-in-Err-clause-link g c =
+    let page = c.args.page in
+    wrong_at (ℕ × PageInfo) (λ place at wanted found. IsOwnLink page.fid place wanted) c.in-Err.error (Next c.args.at) c.args.info.next (page_after page) c.error_at.result c.error_at.ensures (λ found. record { followed = c.args.at; link = refl; own = refl; later = omega arith })
+
+pub returns-then-to-eq0-clause-link : goal.returns-then-to-eq0-clause-link
+returns-then-to-eq0-clause-link g c = record { followed = c.args.at; link = refl; own = refl; later = omega arith }

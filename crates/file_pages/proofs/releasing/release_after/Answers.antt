@@ -10,11 +10,12 @@ use Rattle.label_check.specs.Guarded.{Carries}
 use Rattle.label_check.specs.declared.errors.PageInfo.{PageInfo}
 use Rattle.page_seeking.proofs.Erring.{if_misled_map}
 use Rattle.page_seeking.specs.Seeking.{page_after}
-use Rattle.file_pages.proofs.Erring.{memory_of}
+use Rattle.file_pages.proofs.Erring.{memory_of, wrong_at}
 use Rattle.file_pages.proofs.Going.{memory_as, never_here}
 use Rattle.file_pages.proofs.Following.{follows_next}
 use Rattle.file_pages.proofs.Gone.{release_forgets}
 use Rattle.file_pages.specs.Releasing.{ListsNoneGone, MisledSince}
+use Rattle.page_seeking.specs.Refs.{IsOwnLink}
 use Rattle.file_pages.proofs.releasing.release_after.Goals as goal
 
 pub returns-in-Ok-release-clause-released : goal.returns-in-Ok-release-clause-released
@@ -94,3 +95,8 @@ returns-in-Err-release-clause-gone g c told =
 
 pub returns-in-Err-clause-gone : goal.returns-in-Err-clause-gone
 returns-in-Err-clause-gone g c told = λ page i at listed there. ap (λ (q : Pack). carried q i) (looks_pack c.read_after.ensures.looks told) ∙ there
+
+pub returns-in-Err-release-clause-link : goal.returns-in-Err-release-clause-link
+returns-in-Err-release-clause-link g c =
+    let page = c.args.page in
+    wrong_at (ℕ × PageInfo) (λ place at wanted found. IsOwnLink page.fid place wanted) c.in-Err-release.error (Next c.args.at) c.args.info.next (page_after page) c.error_at.result c.error_at.ensures (λ found. record { followed = c.args.at; link = refl; own = refl; later = omega arith })

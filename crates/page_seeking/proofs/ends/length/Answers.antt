@@ -53,5 +53,7 @@ returns-in-Ok-clause-listed g c =
       bytes = c.in-Ok.last.found.info.bytes;
       tells = c.length_at.ensures;
       ends = c.in-Ok.ensures.ends;
+      most = few_bytes found.seen;
+      is = λ told whole. (is_last whole told (ends_of c.in-Ok.ensures.ends found)).number;
       listed = is_listed g.D.Tape.told (pack (g.D.Tape.tape c.args.disk.now)) found.lists (λ told. (found.stands told).carries);
     }

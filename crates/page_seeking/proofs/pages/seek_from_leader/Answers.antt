@@ -1,4 +1,4 @@
-use Rattle.std.proofs.Common.{arith, sym, subst}
+use Rattle.std.proofs.Common.{arith, sym, subst, inr}
 use Rattle.disk_records.specs.Packs.{Pack}
 use Rattle.page_seeking.proofs.Erring.{if_ok_map, if_misled_map, if_beyond_map, on_ok}
 use Rattle.disk_records.proofs.Looking.{looks_pack}
@@ -74,3 +74,6 @@ returns-in_ok-below-in-None-clause-quick g c at told eases =
 
 pub returns-in_ok-below-in-None-clause-on_disk : goal.returns-in_ok-below-in-None-clause-on_disk
 returns-in_ok-below-in-None-clause-on_disk g c = λ told stands. c.climb.ensures.on_disk
+
+pub returns-in_ok-below-in-None-clause-hint : goal.returns-in_ok-below-in-None-clause-hint
+returns-in_ok-below-in-None-clause-hint g c = if_misled_map c.climb.result c.climb.ensures.link (λ place at wanted found x. inr x)

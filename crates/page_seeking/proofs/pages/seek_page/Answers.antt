@@ -1,4 +1,4 @@
-use Rattle.std.proofs.Common.{arith, sym, subst}
+use Rattle.std.proofs.Common.{arith, sym, subst, inl}
 use Rattle.disk_records.specs.Packs.{Pack}
 use Rattle.page_seeking.specs.Refs.{FileIsFrom, FileIsRooted}
 use Rattle.disk_records.specs.Tapes.{pack}
@@ -42,3 +42,6 @@ returns-then-number-eq0-clause-leader g c at told zeroth finds = c.locate_leader
 
 pub returns-in-None-clause-on_disk : goal.returns-in-None-clause-on_disk
 returns-in-None-clause-on_disk g c = λ told stands. c.seek_from_leader.ensures.on_disk told (subst (λ (p : Pack). FileIsRooted p c.args.file.now) (sym (looks_pack c.try_cached.ensures.sought.looks told)) stands)
+
+pub returns-then-number-eq0-clause-hint : goal.returns-then-number-eq0-clause-hint
+returns-then-number-eq0-clause-hint g c = if_misled_map c.locate_leader.result c.locate_leader.ensures.hint (λ place at wanted found x. inl x)

@@ -1,10 +1,14 @@
-use Rattle.std.proofs.Common.{arith, length, sym, subst, ◌+◌, ◌-◌, ◌≡◌}
+use Rattle.std.proofs.Common.{arith, length, sym, subst, take, ◌+◌, ◌-◌, ◌≡◌, ◌∙◌}
 use Rattle.std.proofs.lemmas.Grind.{common_steps}
 use Rattle.page_seeking.proofs.Listing.{end_since, listed_since}
-use Rattle.page_seeking.specs.Parts.{ListsEnd, ListsNext}
+use Rattle.pack_model.specs.reading.Files.{file_bytes}
+use Rattle.pack_model.specs.reading.Sights.{sights}
+use Rattle.pack_model.specs.states.Sentences.{EachOnce}
+use Rattle.page_seeking.proofs.Parting.{read_all_there}
+use Rattle.page_seeking.specs.Parts.{IsWithinPart, ListsEnd, ListsNext}
 use Rattle.disk_records.proofs.Looking.{looks_pack, looks_twice}
 use Rattle.disk_records.specs.Tapes.{pack}
-use Rattle.page_seeking.proofs.Easing.{keeps_handy_twice}
+use Rattle.page_seeking.proofs.Easing.{keeps_handy_twice, quick_later}
 use Rattle.disk_records.specs.Packs.{Pack}
 use Rattle.page_seeking.specs.Refs.{FileStands}
 use Rattle.pack_model.specs.hints.Links.{LinksTrue}
@@ -46,3 +50,23 @@ returns-in-Ok-read_part-clause-listed g c =
     let n = c.in-Ok-read_part.n in
     let size : 0 + n ≡ length c.truncate.new.self.items = grind (arith, common_steps) in
     subst (λ k. ListsEnd g.D.Tape.told p c.args.file.now.fid k c.args.hints.now.cache c.read_part.new.hints.cache) size (end_since c.args.hints.now.cache c.length.new.hints.cache c.read_part.new.hints.cache c.length.ensures.looks c.length.ensures.refused c.in-Ok-read_part.ensures.listed)
+
+pub returns-in-Ok-read_part-clause-read : goal.returns-in-Ok-read_part-clause-read
+returns-in-Ok-read_part-clause-read g c told once =
+    let f = c.args.file.now.fid in
+    let same = looks_pack c.length.ensures.looks told in
+    let n = c.in-Ok-read_part.n in
+    let room : length c.deref_mut.result.now ≡ c.in-Ok.size = grind (arith, common_steps) in
+    let kept : c.truncate.new.self.items ≡ take n c.read_part.new.out = grind (arith, common_steps) in
+    let most = c.in-Ok.ensures.most told once in
+    let part = c.in-Ok-read_part.ensures.read_once told (subst (λ (p : Pack). EachOnce (sights p)) (sym same) once) (omega arith) in
+    let mine = subst (λ (p : Pack). IsWithinPart (file_bytes (sights p) f) 0 c.deref_mut.result.now c.read_part.new.out n) same part in
+    kept ∙ read_all_there (file_bytes (sights (pack (g.D.Tape.tape c.args.disk.now))) f) c.deref_mut.result.now c.read_part.new.out n mine (omega (arith, most, room))
+
+pub returns-in-Ok-read_part-clause-quick : goal.returns-in-Ok-read_part-clause-quick
+returns-in-Ok-read_part-clause-quick g c told quick named =
+    let same = looks_pack c.length.ensures.looks told in
+    let size : length c.truncate.new.self.items ≡ c.in-Ok-read_part.n = grind (arith, common_steps) in
+    let first = c.in-Ok.ensures.quick told quick named in
+    let after = c.in-Ok-read_part.ensures.quick told (quick_later same (c.length.ensures.handy told) quick) in
+    omega (arith, first, after, size)

@@ -1,0 +1,39 @@
+use Rattle.std.proofs.Common.{ap, subst, sym, ◌∙◌}
+use Rattle.disk_records.specs.Tapes.{pack}
+use Rattle.exec_words.specs.declared.line.Line.TheVariants as line
+use Rattle.session_model.specs.Answering.{TakesTurn}
+use Rattle.session_model.specs.Turning.{typed}
+use Rattle.exec_session.specs.Meant.{kept}
+use Rattle.exec_session.proofs.Ending.{formed_after, no_streams, quit_ends, quit_reply, some_level, stopped_tally, turns_broken, turns_closed}
+use Rattle.exec_session.proofs.end.quit.Goals as goal
+
+pub returns-in-Ok-clause-turns : goal.returns-in-Ok-clause-turns
+returns-in-Ok-clause-turns g c = λ told s keeping.
+    let a = g.D.Tape.tape c.args.disk.now in
+    let b = g.D.Tape.tape c.close.new.disk in
+    let one = c.args.session.now in
+    let none = no_streams (pack a) one s keeping in
+    let least = some_level (pack a) one s a.form c.requires.formed keeping in
+    let h = c.in-Ok.ensures in
+    subst (TakesTurn a b (kept one) (kept c.close.new.session) s (typed line.Quit)) (quit_reply s none least)
+    (turns_closed a b one c.close.new.session s (typed line.Quit) keeping (quit_ends s none least) (g.met.D.Disk.formed c.args.disk.now told) h.alone.grown
+    c.in-Ok.field-0 (λ is. ((h.in_need is).1, (h.in_need is).2)) (h.closes told) h.kept)
+
+pub returns-in-Ok-clause-formed : goal.returns-in-Ok-clause-formed
+returns-in-Ok-clause-formed g c =
+    let h = c.in-Ok.ensures in
+    formed_after (g.D.Tape.tape c.args.disk.now) (g.D.Tape.tape c.close.new.disk) c.args.session.now c.close.new.session c.requires.formed h.alone.grown.form (λ is. (h.in_need is).2) h.kept
+
+pub returns-in-Err-clause-turns : goal.returns-in-Err-clause-turns
+returns-in-Err-clause-turns g c = λ told s keeping.
+    let a = g.D.Tape.tape c.args.disk.now in
+    let b = g.D.Tape.tape c.close.new.disk in
+    let one = c.args.session.now in
+    let x = c.in-Err.stop in
+    let none = no_streams (pack a) one s keeping in
+    let least = some_level (pack a) one s a.form c.requires.formed keeping in
+    let h = c.in-Err.ensures in
+    subst (TakesTurn a b (kept one) (kept c.stopped.new.session) s (typed line.Quit)) (sym c.stopped.ensures.reply)
+    (turns_broken a b one c.stopped.new.session s (typed line.Quit) keeping (quit_ends s none least) (g.met.D.Disk.formed c.args.disk.now told) h.alone.grown
+    x (λ is. (h.in_need is).0) (h.closes told) (h.unfailing told) h.unrefused
+    (ap (λ k. k.tally) c.stopped.ensures.kept ∙ stopped_tally x (kept c.close.new.session) ∙ ap (λ z. z.tally) h.left))

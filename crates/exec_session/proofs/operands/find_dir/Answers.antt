@@ -1,0 +1,43 @@
+use Rattle.std.proofs.Common.{ℕ, List, [], ◌∷◌, Err, refl, sym, ap, subst, ◌∙◌, ◌+◌}
+use Rattle.alto_words.specs.Fid.{sys_dir}
+use Rattle.alto_words.specs.declared.wanted.Wanted.TheVariants.{Exact}
+use Rattle.disk_records.specs.Tapes.{pack}
+use Rattle.pack_model.specs.reading.Model.{read_as}
+use Rattle.session_model.specs.Bounds.{root_pages}
+use Rattle.session_model.specs.Finding.{dir_of, fid_of}
+use Rattle.page_seeking.specs.Refs.{MisledBy}
+use Rattle.page_seeking.specs.declared.refs.FileRef.{FileRef}
+use Rattle.session_model.specs.Turning.{HintFailing}
+use Rattle.exec_session.specs.Found.{IsNoDirOf, root_ref}
+use Rattle.exec_session.specs.Meant.{IsSoon}
+use Rattle.exec_session.proofs.Finding.{contains_first, hint_failing, looked_up, looked_up_none, root_found}
+use Rattle.exec_session.proofs.Looking.{dir_pages, quick_of_first}
+use Rattle.exec_session.proofs.Stopping.{hint_of_dir, refused_by_lookup}
+use Rattle.exec_session.proofs.operands.find_dir.Goals as goal
+
+pub returns-in_err-file-clause-absent : goal.returns-in_err-file-clause-absent
+returns-in_err-file-clause-absent g c = λ told sound.
+    let p = pack (g.D.Tape.tape c.args.disk.now) in
+    let there = root_found p sound in
+    refused_by_lookup (IsNoDirOf p c.args.dir.now) (g.D.Tape.tape c.args.disk.now) (g.D.Tape.tape c.lookup.new.disk) c.in_err-file.field-0.0 c.from_residual.result c.from_residual.ensures.1 c.in_err-file.ensures.cause
+    (λ none. (refl, ap (dir_of (read_as p)) c.in-Some.is ∙ ap fid_of (looked_up_none p root_ref (Exact c.in-Some.name) sound there (c.in_err-file.ensures.absent told there (ap Err none)))))
+
+pub returns-in_err-file-clause-misled : goal.returns-in_err-file-clause-misled
+returns-in_err-file-clause-misled g c = λ told sound.
+    let p = pack (g.D.Tape.tape c.args.disk.now) in
+    hint_of_dir (FileRef × List ℕ) (MisledBy p [] sys_dir) (HintFailing p [] (sys_dir ∷ [])) c.in_err-file.field-0.0 c.from_residual.result c.from_residual.ensures.1
+    (λ place at wanted found by. hint_failing p sys_dir (sys_dir ∷ []) place at wanted found sound (contains_first sys_dir []) by)
+    (c.in_err-file.ensures.misled told (root_found p sound))
+
+pub returns-clause-found : goal.returns-clause-found
+returns-clause-found g c = λ told sound.
+    let p = pack (g.D.Tape.tape c.args.disk.now) in
+    let there = root_found p sound in
+    let at = looked_up p root_ref (Exact c.in-Some.name) (c.in_ok-file.file, c.in_ok-file.field-0-1) sound there (c.in_ok-file.ensures.found told there) in
+    record { is = ap (dir_of (read_as p)) c.in-Some.is ∙ ap fid_of at.is; from = at.from }
+
+pub returns-clause-quick : goal.returns-clause-quick
+returns-clause-quick g c = λ told handy.
+    let p = pack (g.D.Tape.tape c.args.disk.now) in
+    let pages = ap (root_pages (read_as p)) c.in-Some.is ∙ dir_pages p sys_dir handy.sound (root_found p handy.sound).living refl in
+    subst (λ n. IsSoon (n + 1) (g.D.Tape.tape c.args.disk.now) (g.D.Tape.tape c.lookup.new.disk) c.args.session.now (record c.args.session.now { hints = c.lookup.new.hints })) (sym pages) (c.in_ok-file.ensures.quick told (quick_of_first c.args.session.now sys_dir [] handy))

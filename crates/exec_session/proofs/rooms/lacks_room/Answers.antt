@@ -1,0 +1,21 @@
+use Rattle.std.proofs.Common.{ℕ, [], ap, nat_lt}
+use Rattle.disk_records.specs.Tapes.{pack}
+use Rattle.page_seeking.specs.Refs.{MisledBy}
+use Rattle.exec_session.proofs.NewNaming.{found_of_stands}
+use Rattle.exec_session.proofs.RoomPlanning.{run_in_the_model}
+use Rattle.exec_session.proofs.Stopping.{hint_of_dir}
+use Rattle.exec_session.proofs.rooms.lacks_room.Goals as goal
+
+pub returns-in_err-room-clause-misled : goal.returns-in_err-room-clause-misled
+returns-in_err-room-clause-misled g c = λ told stands.
+    let p = pack (g.D.Tape.tape c.args.disk.now) in
+    let d = c.args.dir.now.fid in
+    hint_of_dir ℕ (MisledBy p [] d) (MisledBy p [] d) c.in_err-room.field-0.0 c.from_residual.result c.from_residual.ensures.1
+    (λ place at wanted found h. h)
+    (c.in_err-room.ensures.misled told (found_of_stands p c.args.dir.now stands))
+
+pub returns-clause-lacks : goal.returns-clause-lacks
+returns-clause-lacks g c = λ told stands.
+    let p = pack (g.D.Tape.tape c.args.disk.now) in
+    let dir = c.args.dir.now in
+    ap (λ n. nat_lt n c.args.words) (run_in_the_model p dir c.in_ok-room.field-0 stands (c.in_ok-room.ensures.found told (found_of_stands p dir stands)))

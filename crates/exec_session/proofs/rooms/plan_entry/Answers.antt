@@ -1,0 +1,45 @@
+use Rattle.std.proofs.Common.{ℕ, Bool, [], ◌∷◌, List, Option, sym, subst, arith}
+use Rattle.std.specs.Prelude.{Contains}
+use Rattle.alto_words.specs.Fid.{sys_dir}
+use Rattle.alto_words.specs.declared.fid.Fid.{Fid}
+use Rattle.directory.specs.Asked.{DirStands}
+use Rattle.disk_records.proofs.Looking.{looks_pack}
+use Rattle.disk_records.specs.Packs.{Pack}
+use Rattle.disk_records.specs.Tapes.{pack}
+use Rattle.disk_records.specs.declared.records.Page.{Page}
+use Rattle.disk_records.specs.declared.records.Place.{Place}
+use Rattle.page_seeking.specs.Refs.{MisledBy}
+use Rattle.pack_model.specs.states.Whole.{Whole}
+use Rattle.session_model.specs.Turning.{HintFailing}
+use Rattle.exec_session.proofs.Finding.{contains_first, contains_second}
+use Rattle.exec_session.proofs.Looking.{looks_about_twice}
+use Rattle.exec_session.proofs.Stopping.{hint_of_stop}
+use Rattle.exec_session.proofs.rooms.plan_entry.Goals as goal
+
+failing : (p : Pack) (d : Fid) (files : List Fid) (place : Place) (at : ℕ) (wanted : Page) (found : Option (List ℕ)) → Whole p → Contains files d → MisledBy p [] d place at wanted found → HintFailing p [] files place at wanted found
+failing p d files place at wanted found whole among by = record { misled = by.answers; on_disk = by.answers.on_disk whole; file = rw by.own among }
+
+pub returns-in_err-spare-clause-misled : goal.returns-in_err-spare-clause-misled
+returns-in_err-spare-clause-misled g c = λ told root stands.
+    let p = pack (g.D.Tape.tape c.args.disk.now) in
+    let files = sys_dir ∷ c.args.dir.fid ∷ [] in
+    hint_of_stop Bool (MisledBy p [] sys_dir) (HintFailing p [] files) c.in_err-spare.field-0.0 c.from_residual.result c.from_residual.ensures.1
+    (λ place at wanted found h. failing p sys_dir files place at wanted found root.stands.whole (contains_first sys_dir (c.args.dir.fid ∷ [])) h)
+    (c.in_err-spare.ensures.misled told root)
+
+pub returns-in_err-room-clause-misled : goal.returns-in_err-room-clause-misled
+returns-in_err-room-clause-misled g c = λ told root stands.
+    let p = pack (g.D.Tape.tape c.args.disk.now) in
+    let q = pack (g.D.Tape.tape c.lacks_room.new.disk) in
+    let dir = c.args.dir in
+    let files = sys_dir ∷ dir.fid ∷ [] in
+    let same = looks_pack c.in_ok-spare.ensures.looks.looks told in
+    hint_of_stop Bool (MisledBy q [] dir.fid) (HintFailing p [] files) c.in_err-room.field-0.0 c.from_residual-in_err-room.result c.from_residual-in_err-room.ensures.1
+    (λ place at wanted found h. failing p dir.fid files place at wanted found root.stands.whole (contains_second sys_dir dir.fid []) (subst (λ r. MisledBy r [] dir.fid place at wanted found) same h))
+    (c.in_err-room.ensures.misled told (subst (λ r. DirStands r dir) (sym same) stands))
+
+pub returns-in_err-room-clause-looks : goal.returns-in_err-room-clause-looks
+returns-in_err-room-clause-looks g c = looks_about_twice 8596750336 (omega arith) c.in_ok-spare.ensures.looks c.in_err-room.ensures.looks
+
+pub returns-clause-looks : goal.returns-clause-looks
+returns-clause-looks g c = looks_about_twice 8596750336 (omega arith) c.in_ok-spare.ensures.looks c.in_ok-room.ensures.looks

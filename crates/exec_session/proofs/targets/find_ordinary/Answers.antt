@@ -1,0 +1,30 @@
+use Rattle.std.proofs.Common.{◌≡◌, Some, sym, ap, ◌∙◌}
+use Rattle.disk_records.specs.Tapes.{pack}
+use Rattle.page_seeking.specs.declared.refs.FileRef.{FileRef}
+use Rattle.session_model.specs.Operands.{no_directory}
+use Rattle.exec_session.specs.Found.{IsNoneAt, operand, operand_refusal}
+use Rattle.exec_session.proofs.OrdinaryFiles.{absent_refused, descriptor_refused, directory_refused, none_refused}
+use Rattle.exec_session.proofs.Stopping.{refused_of_stop}
+use Rattle.exec_session.proofs.targets.find_ordinary.Goals as goal
+
+pub returns-in_err-file-clause-refused : goal.returns-in_err-file-clause-refused
+returns-in_err-file-clause-refused g c = λ told sound.
+    let p = pack (g.D.Tape.tape c.args.disk.now) in
+    refused_of_stop FileRef (IsNoneAt p c.args.target.now) (λ r. operand_refusal p (operand c.args.target.now no_directory) ≡ Some r) c.in_err-file.field-0.0 c.from_residual.result c.from_residual.ensures.1
+    (λ r none. absent_refused p c.args.target.now none.1 ∙ ap Some (sym none.0))
+    (c.in_err-file.ensures.absent told sound)
+
+pub returns-in_err-refuse_directory-clause-refused : goal.returns-in_err-refuse_directory-clause-refused
+returns-in_err-refuse_directory-clause-refused g c = λ told sound.
+    let p = pack (g.D.Tape.tape c.args.disk.now) in
+    directory_refused p c.args.target.now c.in_ok-file.file.fid sound (c.in_ok-file.ensures.found told sound).is c.in_err-refuse_directory.field-0.0 c.from_residual-in_err-refuse_directory.result c.in_err-refuse_directory.ensures c.from_residual-in_err-refuse_directory.ensures.1
+
+pub returns-in_err-refuse_descriptor-clause-refused : goal.returns-in_err-refuse_descriptor-clause-refused
+returns-in_err-refuse_descriptor-clause-refused g c = λ told sound.
+    let p = pack (g.D.Tape.tape c.args.disk.now) in
+    descriptor_refused p c.args.target.now c.in_ok-file.file.fid sound (c.in_ok-file.ensures.found told sound).is c.in_ok-refuse_directory.field-0 c.in_err-refuse_descriptor.field-0.0 c.from_residual-in_err-refuse_descriptor.result c.in_ok-refuse_directory.ensures c.in_err-refuse_descriptor.ensures c.from_residual-in_err-refuse_descriptor.ensures.1
+
+pub returns-clause-taken : goal.returns-clause-taken
+returns-clause-taken g c = λ told sound.
+    let p = pack (g.D.Tape.tape c.args.disk.now) in
+    none_refused p c.args.target.now c.in_ok-file.file.fid sound (c.in_ok-file.ensures.found told sound).is c.in_ok-refuse_directory.field-0 c.in_ok-refuse_descriptor.field-0 c.in_ok-refuse_directory.ensures c.in_ok-refuse_descriptor.ensures

@@ -1,0 +1,48 @@
+//! What typed lines share: the session and its end, why a line isn't done, what the operands of lines mean, and the names and the room of
+//! new entries.
+//!
+//! Come here when you write a line. Below it stand the calls on directories, the sweep of all labels, and the words of DiskDescriptor that a
+//! session keeps. A line finds its operands and refuses in order, by the calls of this crate, before it writes. To the layers above, on
+//! every machine:
+//! 1. What keeps a line from being done is a `Stop`: a refusal, a hint that misled, a disk fault, which comes only where its count rose
+//!    (`cause`), or out of memory. A call that wrote is answered by no refusal (`written`, `entered`).
+//! 2. A call that finds or plans only looks: of what a session keeps the cache of addresses alone may be another (`looks`).
+//!
+//! And where the machine is modelled:
+//! 3. Those calls write nothing, are never out of memory (`want`), and hints that were handy with true links stay so (`looks`). Where
+//!    they are handy, a path takes few sector commands (`quick`).
+//!
+//! And where the pack is sound besides, or for new entries their directories stand:
+//! 4. What is found is what the operand means in the model, with an address that stands where it was taken from (`found`), and a refusal
+//!    comes exactly where it is the first that holds (`absent`, `refused`, `taken`). A new entry gets the model's name (`given`), after the
+//!    model's widenings (`planned`).
+//! 5. A hint that misled is one on the disk, of SysDir or the directory that is named (`misled`).
+//!
+//! Not promised: that the address of a file that was found is that of its leader. Who follows it checks it by the label that stands there.
+#![tactic(auto)]
+
+mod answers;
+mod contents;
+mod end;
+mod kinds;
+mod new_names;
+mod operands;
+mod reserving;
+mod rooms;
+mod serials;
+mod session;
+mod stop;
+mod targets;
+
+pub use answers::{answer, stopped};
+pub use contents::length_of;
+pub use end::quit;
+pub use kinds::{refuse_descriptor, refuse_directory, refuse_system, require_directory};
+pub use new_names::{name_given, refuse_held_base};
+pub use operands::{Found, ROOT, find_dir, find_path};
+pub use page_seeking::FileRef;
+pub use reserving::require_serial;
+pub use rooms::{NewEntry, plan_entry};
+pub use session::Session;
+pub use stop::{Stop, entered, refused, written};
+pub use targets::{find_ordinary, find_target};

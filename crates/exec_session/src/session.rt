@@ -1,0 +1,56 @@
+// A session: what is kept from one line to the next.
+ghost use Rattle.std.specs.Prelude.{◌≡◌};
+
+use alto_words::List;
+use disk_descriptor::Descriptor;
+use disk_records::Tally;
+use hint_cache::Hints;
+
+/// What a session keeps from one line to the next.
+#[derive(Drop)]
+pub struct Session {
+    /// DiskDescriptor's shape, last serial, mark and sectors.
+    pub descriptor: Descriptor,
+    /// The allocation map and the addresses that were seen: hints.
+    pub hints: Hints,
+    /// The operations that took effect, counted up to a limit of record writes.
+    pub tally: Tally,
+    /// The moment of later dates, in seconds since the start of 1901.
+    pub moment: u32,
+    /// The highest level of service that is in memory, 1 to 8.
+    pub level: u8,
+    /// The memory, 65,536 words.
+    pub memory: List<u16>,
+    /// Whether a hint failed since the pack was opened or scavenged.
+    pub need: bool,
+}
+
+/// The number of record writes up to which a session's tally counts, a number of 64 bits.
+pub(crate) fn limit_of(session: &Session) -> u64
+    ensures { result ≡ session.now.tally.limit }
+{
+    session.tally.limit
+}
+
+impl Session {
+    /// The operations that took effect, counted up to the limit that the session was given.
+    pub fn tally(&self) -> Tally
+        ensures { result ≡ self.now.tally }
+    {
+        self.tally
+    }
+
+    /// The highest level of service that is in memory, 1 to 8.
+    pub fn level(&self) -> u8
+        ensures { result ≡ self.now.level }
+    {
+        self.level
+    }
+
+    /// Whether a hint failed since the pack was opened or scavenged: only `scavenge`, `counterjunta` and `quit` are obeyed then.
+    pub fn needs_scavenge(&self) -> bool
+        ensures { result ≡ self.now.need }
+    {
+        self.need
+    }
+}

@@ -1,0 +1,5 @@
+use Rattle.laws_steps.proofs.inside.Hinting.{released_others_misled_before}
+use Rattle.laws_steps.proofs.hints.released_others_misled_before.Goals as goal
+
+pub returns : goal.returns
+returns c = released_others_misled_before

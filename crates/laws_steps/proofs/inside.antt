@@ -1,0 +1,11 @@
+pub mod Beside
+pub mod ByEntries
+pub mod Descriptor
+pub mod DescriptorLeast
+pub mod Dropping
+pub mod Hinting
+pub mod Keeping
+pub mod Leaders
+pub mod LineKeeping
+pub mod Released
+pub mod Serials

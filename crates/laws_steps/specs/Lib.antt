@@ -1,0 +1,5 @@
+pub mod DroppingLaws
+pub mod HintLaws
+pub mod KeepingLaws
+pub mod LineKeepingLaws
+pub mod SerialLaws

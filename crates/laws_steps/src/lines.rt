@@ -1,0 +1,48 @@
+//! Files that were found, over several operations of a line, by what the model says of each.
+
+ghost use Rattle.laws_steps.specs.LineKeepingLaws.{CallKeepsFound, LaterKeepsFound, MakeKeepsFound, ModelsFoundStaysEntered, NoneKeepsFound, OneCallKeepsFound, OneKeepsFound, SerialAndMakeKeepFound, WrittenKeepsFoundOver};
+
+/// What the model says of an operation and a file that was found is so of the pack too.
+pub fn models_found_stays_entered()
+    ensures { ModelsFoundStaysEntered }
+{}
+
+/// Before the first operation each file is found that was.
+pub fn none_keeps_found()
+    ensures { NoneKeepsFound }
+{}
+
+/// Over one operation files stay found, by the model before it.
+pub fn one_keeps_found()
+    ensures { OneKeepsFound }
+{}
+
+/// Over a call that is to do one operation files stay found, at Ok.
+pub fn one_call_keeps_found<T, E>()
+    ensures { OneCallKeepsFound T E }
+{}
+
+/// Over a make with its new serial files stay found.
+pub fn make_keeps_found()
+    ensures { MakeKeepsFound }
+{}
+
+/// Files that stay found over some operations, and then over more of them, stay so over all.
+pub fn later_keeps_found()
+    ensures { LaterKeepsFound }
+{}
+
+/// Files stay found over calls and what is written of one more operation, whichever calls write it.
+pub fn written_keeps_found_over<U, F>()
+    ensures { WrittenKeepsFoundOver U F }
+{}
+
+/// Files stay found over calls and one more call, at Ok.
+pub fn call_keeps_found<T, U, E, F>()
+    ensures { CallKeepsFound T U E F }
+{}
+
+/// Files stay found over calls, a new serial and its make, at Ok.
+pub fn serial_and_make_keep_found<T, U, E, F>()
+    ensures { SerialAndMakeKeepFound T U E F }
+{}
