@@ -1,5 +1,5 @@
 -- The record writes of closing, from the last page to the first.
-use Rattle.std.proofs.Common.{Bool, Err, List, Option, Result, [], ap, append_assoc, arith, get_or, length, drop, subst, suc, sym, zero, ℕ, ◌++◌, ◌+◌, ◌*◌, ◌<◌, ◌∙◌, ◌≡◌, ◌≤◌}
+use Rattle.std.proofs.Common.{Bool, Err, IsErrOf, List, Option, Result, [], ap, append_assoc, arith, get_or, length, drop, subst, suc, sym, zero, ℕ, ◌++◌, ◌+◌, ◌*◌, ◌<◌, ◌∙◌, ◌≡◌, ◌≤◌}
 use Rattle.std.proofs.Math.Seq.{drop-cons}
 use Rattle.std.proofs.lemmas.List.{append-nil, length-append}
 use Rattle.std.specs.Prelude.{reverse}
@@ -97,3 +97,11 @@ module _ (shape : Shape) (last : ℕ) (busy : List Bool) (pages : List ℕ) wher
               label = h.label ∙ still_found left (get_or pages n 0) first.grown wrote ∙ ap (label_found (pack x)) (sym h.here);
               later = omega (arith, all, none, many, is);
             }
+
+    -- or isn't, out of memory
+    pub page_short : {T U : Type 0} (e : DescError) → length (added x y) + left ≡ length pages → GuardsPage {T = T} (get_or pages n 0) (n + 1) y z (Err e) → IsErrOf {T = U} (Err e) Memory → length (added x z) < length pages
+    page_short {T} {U} e many guards want =
+        let all : length (added x z) ≡ length (added x y) + length (added y z) = ap length (added-twice first.grown next.grown) ∙ length-append (added x y) (added y z) in
+        let same : e ≡ Memory = cc in
+        let none = ap length (guards.short (ap Err same)) in
+        omega (arith, all, none, many, is)

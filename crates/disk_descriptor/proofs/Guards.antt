@@ -1,7 +1,8 @@
 -- Values that are written by what is kept: each in a sector that carries its page, whether what is kept fits the pack or not.
-use Rattle.std.proofs.Common.{Bool, Err, IsTrue, List, None, Ok, Option, Result, Some, [], ap, arith, cond, get_or, length, nat_lt, refl, subst, suc, sym, zero, ℕ, ◌++◌, ◌+◌, ◌∙◌, ◌∷◌, ◌≡◌, ◌≢◌}
+use Rattle.std.proofs.Common.{Bool, Err, IsTrue, List, None, Ok, Option, Result, Some, [], ap, arith, cond, get_or, length, nat_lt, refl, subst, suc, sym, zero, ℕ, ◌++◌, ◌+◌, ◌<◌, ◌∙◌, ◌∷◌, ◌≡◌, ◌≢◌}
 use Rattle.std.proofs.lemmas.List.{append-nil}
 use Rattle.std.specs.Prelude.{◌&&◌}
+use Rattle.disk_records.proofs.FirstOnes.{none_of_none}
 use Rattle.disk_records.proofs.Growing.{added-twice, nothing_added, pack-silent}
 use Rattle.disk_records.specs.Addresses.{is_right_header}
 use Rattle.disk_records.specs.Commands.{value_writes}
@@ -11,10 +12,13 @@ use Rattle.disk_records.specs.Tapes.{Grown, Looks, Taped, added, pack}
 use Rattle.disk_records.specs.declared.records.Event.TheVariants.{Wrote}
 use Rattle.disk_records.specs.declared.records.Event.{Event}
 use Rattle.disk_records.specs.declared.shape.Shape.{Shape}
+use Rattle.label_check.specs.Guarded.{Carries, Guarded}
+use Rattle.label_check.specs.declared.errors.GuardError.TheVariants as guard
+use Rattle.label_check.specs.declared.errors.GuardError.{GuardError}
 use Rattle.pack_laws.proofs.Guarding.{front_from}
 use Rattle.pack_model.specs.operations.Commands.{values_writes}
 use Rattle.disk_descriptor.proofs.Writings.{look_before, writes_all, writes_stop}
-use Rattle.disk_descriptor.specs.Answers.{IfHeld}
+use Rattle.disk_descriptor.specs.Answers.{IfHeld, error_at}
 use Rattle.disk_descriptor.specs.Writing.{AreOwnValues, FindsOther, GuardsPage, IsOwnValue, StopsAt, Writes, WritesOwn, data_page}
 use Rattle.disk_descriptor.specs.declared.errors.DescError.TheVariants.{DiskFault, Held, Memory, Spent}
 use Rattle.disk_descriptor.specs.declared.errors.DescError.{DescError}
@@ -61,6 +65,16 @@ held_of T U P (Held at found) h = h
 held_of T U P DiskFault h = tt
 held_of T U P Memory h = tt
 
+-- ---- a guarded command that isn't done
+pub guards_err : (at number count : ℕ) (writes : List Event) {x y : Taped} (e : GuardError) → Guarded {T = Unit {0}} (Carries at (data_page number)) at [] writes count x y (Err e) → GuardsPage {T = Unit {0}} at number x y (Err (error_at at e))
+guards_err at number count writes (guard.Wrong found) call = record {
+  own = call.guarded;
+  held = record { here = refl; other = call.wrong.failed; label = call.wrong.label; silent = call.wrong.silent };
+  short = λ want. cc;
+}
+guards_err at number count writes guard.DiskFault call = record { own = call.guarded; held = tt; short = λ want. cc }
+guards_err at number count writes {x} {y} guard.Memory call = record { own = call.guarded; held = tt; short = λ want. none_of_none (added x y) (call.want refl).unwritten }
+
 -- ---- calls
 -- for the first page alone
 pub own_first : {T : Type 0} (at : ℕ) (value : List ℕ) (most : ℕ) {x y : Taped} {result : Result T DescError} → Writes Memory (value_writes at value) most x y result → GuardsPage at 1 x y result → WritesOwn (at ∷ []) (value_writes at value) most x y result
@@ -68,6 +82,7 @@ own_first at value most {x} {y} {result} wrote guards = record {
   writes = wrote;
   own = own_value (pack x) (at ∷ []) 0 value (added x y) wrote.some guards.own;
   held = held_as result one guards.held;
+  short = λ want. let none = ap length (guards.short want) in omega (arith, none);
 }
   where
     one : (place : ℕ) (found : Option (List ℕ)) → FindsOther (pack x) at 1 (added x y) place found → StopsAt (pack x) (at ∷ []) (added x y) place found
@@ -89,6 +104,7 @@ own_after_look pages writes n {x} {y} {z} {result} told looks two call =
       writes = look_before Memory writes n told looks two call.writes;
       own = subst (AreOwnValues (pack x) pages (length pages)) (sym both) (subst (λ p. AreOwnValues p pages (length pages) (added y z)) same call.own);
       held = subst (λ es. IfHeld result (StopsAt (pack x) pages es)) (sym both) (subst (λ p. IfHeld result (StopsAt p pages (added y z))) same call.held);
+      short = λ want. subst (λ es. length es < length pages) (sym both) (call.short want);
     }
 
 -- one that is done already
@@ -97,11 +113,12 @@ own_done value pages writes most a none = record {
   writes = writes_all Memory value writes most (nothing_added a.events ∙ sym none) (omega arith);
   own = own_nothing pages a;
   held = tt;
+  short = λ want. cc;
 }
 
 -- one that answers another value
 pub own_ok : {T U : Type 0} {old_value : T} (value : U) (pages : List ℕ) (writes : List Event) (most : ℕ) {x y : Taped} → WritesOwn pages writes most x y (Ok old_value) → WritesOwn pages writes most x y (Ok value)
-own_ok value pages writes most call = record { writes = writes_all Memory value writes most call.writes.ok call.writes.runs; own = call.own; held = tt }
+own_ok value pages writes most call = record { writes = writes_all Memory value writes most call.writes.ok call.writes.runs; own = call.own; held = tt; short = λ want. cc }
 
 -- one that hands an error on
 pub own_err : {T U : Type 0} (e : DescError) (pages : List ℕ) (writes : List Event) (most : ℕ) {x y : Taped} → WritesOwn {T = T} pages writes most x y (Err e) → WritesOwn {T = U} pages writes most x y (Err e)
@@ -109,4 +126,5 @@ own_err {T} {U} e pages writes most {x} {y} call = record {
   writes = writes_stop {T = T} {U = U} Memory e writes [] writes most most (sym (append-nil writes)) (omega arith) call.writes;
   own = call.own;
   held = held_of T U (StopsAt (pack x) pages (added x y)) e call.held;
+  short = λ want. call.short (let same : e ≡ Memory = cc in ap Err same);
 }

@@ -178,6 +178,7 @@ module _ (s : Shape) (last mark : ℕ) (pages : List ℕ) where
     };
     own = own_nothing (first_kept kept_of ∷ []) a;
     held = tt;
+    short = λ want. cc;
   }
 
   pub serial_at_first : (p : Pack) (new : ℕ) → serial_writes (get_or kept_of.pages 0 0) new (sector_at p (get_or kept_of.pages 0 0)).value ≡ serial_writes first new (sector_at p first).value

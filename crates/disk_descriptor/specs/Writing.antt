@@ -33,10 +33,11 @@ pub record FindsOther (p : Pack) (at number : ℕ) (events : List Event) (place 
   pub silent : events ≡ []
 
 -- A call for one value that writes only in a sector that carries DiskDescriptor's page with this number. Held comes only of one that
--- doesn't.
+-- doesn't, and out of memory it has written nothing.
 pub record GuardsPage {T : Type 0} (at number : ℕ) (old new : Taped) (result : Result T DescError) : Type 0 where
   pub own : added old new ≢ [] → carried (pack old) at ≡ Some (data_page number)
   pub held : IfHeld result (FindsOther (pack old) at number (added old new))
+  pub short : IsErrOf result Memory → added old new ≡ []
 
 -- a record write of the value of the nth of these sectors, from 0, which carries DiskDescriptor's page n + 1
 abbrev pub IsOwnValue : Pack → List ℕ → ℕ → Event → Type 0
@@ -60,8 +61,9 @@ pub record StopsAt (p : Pack) (pages : List ℕ) (events : List Event) (at : ℕ
 
 -- A call that does these record writes as `Writes` says, whatever stands in these sectors: values of DiskDescriptor's pages, from the last
 -- to the first, each in its sector, which carried this page as the call began. Held comes only of a sector that didn't, and nothing was
--- written for its page or one before it.
+-- written for its page or one before it. Out of memory the first page isn't written.
 pub record WritesOwn {T : Type 0} (pages : List ℕ) (wanted : List Event) (most : ℕ) (old new : Taped) (result : Result T DescError) : Type 0 where
   pub writes : Writes Memory wanted most old new result
   pub own : AreOwnValues (pack old) pages (length pages) (added old new)
   pub held : IfHeld result (StopsAt (pack old) pages (added old new))
+  pub short : IsErrOf result Memory → length (added old new) < length pages

@@ -18,7 +18,7 @@
 //!    commands that is said. Where events are kept ready for the list it is never out of memory; it takes none of its own.
 //! 6. So it is with a `Descriptor` that doesn't fit, with the list by what it keeps: each record write is the value of a sector that is
 //!    kept and that carried that very page as the call began. Held comes only of one that didn't, with its label, and nothing was written
-//!    there or for a page before it (`guarded`).
+//!    there or for a page before it; out of memory the first page isn't written (`guarded`).
 //! 7. `enter_pack` writes nothing (`looks`) and takes no memory (`want`). On a pack that carries no page twice, whole or not, it refuses in
 //!    this order exactly another length, the first word that says another shape, and a mark that isn't clean (`wrong_length`, `bad_word`,
 //!    `not_clean`); else its `Descriptor` fits, and the table is the map that stands there (`opened`). Only DiskDescriptor's own hints

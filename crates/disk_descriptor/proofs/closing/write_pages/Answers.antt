@@ -3,7 +3,7 @@ use Rattle.std.proofs.lemmas.List.{length-append}
 use Rattle.disk_records.proofs.Growing.{added-twice, alone_twice}
 use Rattle.disk_records.specs.Tapes.{added}
 use Rattle.pack_model.specs.sessions.Descriptor.{descriptor_value}
-use Rattle.disk_descriptor.proofs.Closings.{done, page_done, page_failed, page_held, page_own}
+use Rattle.disk_descriptor.proofs.Closings.{done, page_done, page_failed, page_held, page_own, page_short}
 use Rattle.disk_descriptor.proofs.Writings.{writes_all}
 use Rattle.disk_descriptor.specs.Writing.{WritesOwn}
 use Rattle.disk_descriptor.specs.declared.errors.DescError.TheVariants.{Memory}
@@ -62,6 +62,7 @@ returns-in_err-write_page-clause-guarded g c = λ told.
           e (2 * (length pages - c.loop-left.left)) (so_far.runs told) (omega (arith, so_far.within, within)) broken;
       own = page_own old.form c.args.last c.args.table.now pages n c.loop-left.left c.descriptor_page-value.result is within so_far.alone next wrote same (so_far.own told) (so_far.many told) broken.some guards;
       held = page_held old.form c.args.last c.args.table.now pages n c.loop-left.left c.descriptor_page-value.result is within so_far.alone next wrote same (Unit {0}) (Unit {0}) e (so_far.many told) guards;
+      short = page_short old.form c.args.last c.args.table.now pages n c.loop-left.left c.descriptor_page-value.result is within so_far.alone next wrote same e (so_far.many told) guards;
     })
 
 pub returns-in_err-write_page-clause-alone : goal.returns-in_err-write_page-clause-alone
@@ -79,4 +80,5 @@ returns-clause-guarded g c = λ told.
           (subst (λ k. added old now ≡ done old.form c.args.last c.args.table.now pages k) none (c.loop-left.invariant.wrote told)) (omega (arith, ran));
       own = c.loop-left.invariant.own told;
       held = tt;
+      short = λ want. cc;
     }
