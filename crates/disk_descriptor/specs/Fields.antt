@@ -1,6 +1,7 @@
 -- What is kept of DiskDescriptor, and the record writes of the calls that open the mark, give a serial and close.
-use Rattle.std.specs.Prelude.{All, Bool, List, OnOk, Result, Some, get_or, ℕ, ◌+◌, ◌<◌, ◌≡◌, ◌≤◌, []}
-use Rattle.alto_words.specs.Fid.{disk_descriptor}
+use Rattle.std.specs.Prelude.{All, Bool, List, OnOk, Result, Some, get_or, true, ℕ, ◌+◌, ◌<◌, ◌≡◌, ◌≤◌, []}
+use Rattle.alto_words.specs.Fid.{disk_descriptor, serial_of}
+use Rattle.alto_words.specs.declared.fid.Fid.{Fid}
 use Rattle.disk_records.specs.Addresses.{pages_of}
 use Rattle.disk_records.specs.Packs.{Pack, sector_at}
 use Rattle.disk_records.specs.Tapes.{Taped, added, pack}
@@ -9,7 +10,7 @@ use Rattle.disk_records.specs.declared.shape.Shape.{Shape}
 use Rattle.laws_hint.specs.ClosingLaws.{closing_writes}
 use Rattle.laws_hint.specs.LineLinks.{opening_writes}
 use Rattle.pack_model.specs.hints.Links.{LinksTrue}
-use Rattle.pack_model.specs.reading.Files.{place}
+use Rattle.pack_model.specs.reading.Files.{lives, place}
 use Rattle.pack_model.specs.reading.Model.{Model, read_as}
 use Rattle.pack_model.specs.reading.Sights.{sights}
 use Rattle.pack_model.specs.sessions.Descriptor.{DescriptorFits, close_writes, open_writes, serial_writes}
@@ -74,6 +75,10 @@ gives_kept p kept = serial_writes (first_kept kept) (kept.last + 1) (sector_at p
 pub data GivesOne {T E : Type 0} (memory : E) (kept : Fields) (old new : Taped) (result : Result T E) : Type 0 where
   spent : most_last ≤ kept.last → added old new ≡ [] → OnOk result ⊥ → GivesOne memory kept old new result
   given : (at : ℕ) → kept.last < most_last → place (sights (pack old)) disk_descriptor 1 ≡ Some at → Writes memory (serial_writes at (kept.last + 1) (sector_at (pack old) at).value) 3 old new result → GivesOne memory kept old new result
+
+-- each file that lives on the pack has a lower serial
+abbrev pub IsAboveLiving : Pack → ℕ → Type 0
+IsAboveLiving p serial = (f : Fid) → lives (sights p) f ≡ true → serial_of f < serial
 
 abbrev pub with_last : ℕ → Fields → Fields
 with_last last kept = record kept { last = last }

@@ -43,14 +43,16 @@ impl Model for Descriptor {
 }
 
 impl Descriptor {
-    ghost use Rattle.std.specs.Prelude.{◌≡◌, ◌+◌, ◌*◌, ◌≤◌, ◌∷◌, [], Err, IfOk, IsTrue, OnErr, OnOk, length};
+    ghost use Rattle.std.specs.Prelude.{◌≡◌, ◌≢◌, ◌+◌, ◌*◌, ◌≤◌, ◌∷◌, [], Err, IfOk, IsTrue, OnErr, OnOk, length};
     ghost use Rattle.disk_records.specs.Addresses.{pages_of};
     ghost use Rattle.disk_records.specs.Causes.{HasCause};
     ghost use Rattle.disk_records.specs.Causes.Cause.{never, other};
     ghost use Rattle.disk_records.specs.Tapes.{DiskAlone, added, pack};
+    ghost use Rattle.laws_hint.specs.MapClosing.{Describes};
     ghost use Rattle.pack_model.specs.reading.Model.{read_as};
+    ghost use Rattle.pack_model.specs.states.Sound.{mark_clean};
     ghost use Rattle.disk_descriptor.specs.Answers.{IfHeld, IfSpent, cause_of};
-    ghost use Rattle.disk_descriptor.specs.Fields.{Fits, FitsDisk, GivesOne, Opens, ReadsAs, closed, closes, closes_kept, first_kept, gives_kept, most_last, opened, opens_kept, with_last};
+    ghost use Rattle.disk_descriptor.specs.Fields.{Fits, FitsDisk, GivesOne, IsAboveLiving, Opens, ReadsAs, closed, closes, closes_kept, first_kept, gives_kept, most_last, opened, opens_kept, with_last};
     ghost use Rattle.disk_descriptor.specs.Writing.{Writes, WritesOwn};
 
     /// The last serial given out.
@@ -105,6 +107,7 @@ impl Descriptor {
         ensures gives { IsTrue D.told → Fits (pack (D.tape disk.old)) self.old → GivesOne DescError.Memory self.old (D.tape disk.old) (D.tape disk.new) result }
         ensures fits { IsTrue D.told → FitsDisk (pack (D.tape disk.old)) self.old → OnOk result (FitsDisk (pack (D.tape disk.new)) self.new) }
         ensures reads { IsTrue D.told → FitsDisk (pack (D.tape disk.old)) self.old → IfOk result (λ serial. ReadsAs (record (read_as (pack (D.tape disk.old))) { last = serial }) (pack (D.tape disk.old)) (pack (D.tape disk.new))) }
+        ensures above { IsTrue D.told → FitsDisk (pack (D.tape disk.old)) self.old → IfOk result (λ serial. IsAboveLiving (pack (D.tape disk.new)) serial) }
         ensures next { IfOk result (λ serial. serial ≡ self.old.last + 1) }
         ensures kept { IfOk result (λ serial. self.new ≡ with_last serial self.old) }
         ensures left { OnErr result (self.new ≡ self.old) }
@@ -138,6 +141,7 @@ impl Descriptor {
         ensures guarded { IsTrue D.told → WritesOwn self.old.pages (closes_kept table.now self.old) (2 * length self.old.pages) (D.tape disk.old) (D.tape disk.new) result }
         ensures writes { IsTrue D.told → Fits (pack (D.tape disk.old)) self.old → Writes DescError.Memory (closes (pack (D.tape disk.old)) table.now self.old) (2 * length self.old.pages) (D.tape disk.old) (D.tape disk.new) result }
         ensures fits { IsTrue D.told → FitsDisk (pack (D.tape disk.old)) self.old → OnOk result (FitsDisk (pack (D.tape disk.new)) self.new) }
+        ensures describes { IsTrue D.told → FitsDisk (pack (D.tape disk.old)) self.old → self.old.mark ≢ mark_clean → OnOk result (Describes (pack (D.tape disk.old)) (pack (D.tape disk.new)) table.now) }
         ensures reads { IsTrue D.told → FitsDisk (pack (D.tape disk.old)) self.old → OnOk result (ReadsAs (read_as (pack (D.tape disk.old))) (pack (D.tape disk.old)) (pack (D.tape disk.new))) }
         ensures kept { OnOk result (self.new ≡ closed self.old) }
         ensures left { OnErr result (self.new ≡ self.old) }

@@ -4,7 +4,7 @@ use Rattle.disk_records.specs.Tapes.{added, pack}
 use Rattle.pack_model.specs.operations.Commands.{values_writes}
 use Rattle.pack_model.specs.sessions.Descriptor.{closed_values, data_pages}
 use Rattle.disk_descriptor.proofs.Keeping.{closes_after, fits_after_closing, kept_of, never_held, own_closed, own_closes}
-use Rattle.disk_descriptor.proofs.Readings.{reads_after_closing, reads_itself}
+use Rattle.disk_descriptor.proofs.Readings.{describes_after_closing, reads_after_closing, reads_itself}
 use Rattle.disk_descriptor.specs.Answers.{IfHeld}
 use Rattle.disk_descriptor.specs.Fields.{Fits, FitsDisk, closes, closes_kept}
 use Rattle.disk_descriptor.specs.Writing.{StopsAt, Writes, WritesOwn}
@@ -120,4 +120,19 @@ returns-clause-reads g c = λ told fits.
     let form : a.form ≡ d.shape = sym (ap (λ k. k.shape) c.self.view_is ∙ c.requires.shape) in
     let wrote = (c.in_ok-write_pages.ensures.guarded told).writes.ok in
     reads_after_closing d.shape d.last d.mark d.pages busy here (g.met.D.Disk.formed c.args.disk.now told) c.if-self-eq-CLEAN.false c.in_ok-write_pages.ensures.alone.grown
+    (wrote ∙ (λ i. values_writes (reverse (closed_values (form i) d.last busy 0 (take (count i) d.pages)))))
+
+pub returns-then-self-eq-CLEAN-clause-describes : goal.returns-then-self-eq-CLEAN-clause-describes
+returns-then-self-eq-CLEAN-clause-describes g c = λ told fits other. absurd (other (sym (ap (λ k. k.mark) c.self.view_is) ∙ c.if-self-eq-CLEAN.true))
+
+pub returns-clause-describes : goal.returns-clause-describes
+returns-clause-describes g c = λ told fits other.
+    let d = c.self.inside in
+    let a = g.D.Tape.tape c.args.disk.now in
+    let busy = c.args.table.now in
+    let here : FitsDisk (pack a) (kept_of d.shape d.last d.mark d.pages) = subst (FitsDisk (pack a)) (sym c.self.view_is) fits in
+    let count : c.from-count.result ≡ data_pages d.shape = c.from-count.ensures ∙ c.data_pages.ensures.pages in
+    let form : a.form ≡ d.shape = sym (ap (λ k. k.shape) c.self.view_is ∙ c.requires.shape) in
+    let wrote = (c.in_ok-write_pages.ensures.guarded told).writes.ok in
+    describes_after_closing d.shape d.last d.mark d.pages busy here (g.met.D.Disk.formed c.args.disk.now told) c.if-self-eq-CLEAN.false c.in_ok-write_pages.ensures.alone.grown
     (wrote ∙ (λ i. values_writes (reverse (closed_values (form i) d.last busy 0 (take (count i) d.pages)))))

@@ -3,7 +3,7 @@ use Rattle.std.proofs.lemmas.List.{append-nil}
 use Rattle.disk_records.specs.Tapes.{added, pack}
 use Rattle.disk_descriptor.proofs.Guards.{held_of, own_err, own_ok}
 use Rattle.disk_descriptor.proofs.Keeping.{first_never_held, fits_after_serial, gives_after, kept_of, own_gives, own_spent}
-use Rattle.disk_descriptor.proofs.Readings.{reads_after_serial}
+use Rattle.disk_descriptor.proofs.Readings.{above_after_serial, reads_after_serial}
 use Rattle.disk_descriptor.proofs.Writings.{writes_all, writes_stop}
 use Rattle.disk_descriptor.specs.Answers.{IfHeld}
 use Rattle.disk_descriptor.specs.Fields.{Fits, FitsDisk, GivesOne, first_kept, gives_kept}
@@ -82,3 +82,10 @@ returns-clause-reads g c = λ told fits.
     let a = g.D.Tape.tape c.args.disk.now in
     let here : FitsDisk (pack a) (kept_of d.shape d.last d.mark d.pages) = subst (FitsDisk (pack a)) (sym c.self.view_is) fits in
     reads_after_serial d.shape d.last d.mark d.pages here c.in_ok-change_words.ensures.alone.grown (c.in_ok-change_words.ensures.guarded told).writes.ok
+
+pub returns-clause-above : goal.returns-clause-above
+returns-clause-above g c = λ told fits.
+    let d = c.self.inside in
+    let a = g.D.Tape.tape c.args.disk.now in
+    let here : FitsDisk (pack a) (kept_of d.shape d.last d.mark d.pages) = subst (FitsDisk (pack a)) (sym c.self.view_is) fits in
+    above_after_serial d.shape d.last d.mark d.pages here c.in_ok-change_words.ensures.alone.grown (c.in_ok-change_words.ensures.guarded told).writes.ok
