@@ -50,8 +50,8 @@ AreOwnValues p pages n [] = Unit {0}
 AreOwnValues p pages zero (e ∷ events) = ⊥
 AreOwnValues p pages (suc n) (e ∷ events) = IsOwnValue p pages n e × AreOwnValues p pages n events
 
--- The sector at this address is the nth of these, from 0, and doesn't carry DiskDescriptor's page n + 1; its label was found. One record write was
--- done for each page after it, and no other.
+-- The sector at this address is the nth of these, from 0, and doesn't carry DiskDescriptor's page n + 1; its label was found. One record
+-- write was done for each page after it, and no other.
 pub record StopsAt (p : Pack) (pages : List ℕ) (events : List Event) (at : ℕ) (found : Option (List ℕ)) : Type 0 where
   pub n : ℕ
   pub is_kept : at ≡ get_or pages n 0

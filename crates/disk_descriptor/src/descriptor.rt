@@ -98,9 +98,9 @@ impl Descriptor {
     /// Gives out the serial after the last one, which is on the disk then, before any label bears it: one record write in three sector
     /// commands. It takes no memory of its own.
     ///
-    /// Spent: the last serial is 2,147,483,646 or more. Held: the sector that is kept doesn't carry DiskDescriptor's first page. On a
-    /// modelled disk nothing was written after these two. DiskFault: the device failed. Memory: it wanted some for the record write, and
-    /// had none. What is kept is as before after each of them; after DiskFault the serial may be on the disk.
+    /// Spent: the last serial is 2,147,483,646 or more. Held: the sector that is kept doesn't carry DiskDescriptor's first page. At both
+    /// nothing was written, on a modelled disk. DiskFault: the device failed. Memory: it wanted some for the record write, and had none.
+    /// What is kept is as before after each of them; after DiskFault the serial may be on the disk.
     pub fn next_serial<D: Disk>(&mut self, disk: &mut D) -> Result<u32, DescError>
         requires shape { self.old.shape ≡ (D.tape disk.old).form }
         ensures guarded { IsTrue D.told → WritesOwn (first_kept self.old ∷ []) (gives_kept (pack (D.tape disk.old)) self.old) 3 (D.tape disk.old) (D.tape disk.new) result }

@@ -12,9 +12,9 @@
 //! 3. A `Descriptor` fits a pack where what it keeps is so there. `mark_open`, `next_serial` and `close_pack` then make the record writes
 //!    of the laws and no others (`opens`, `gives`, `writes`); on a whole and tidy pack it fits at Ok what they leave (`fits`), which
 //!    is read as before, except for a new serial, and has true links if the pack had (`reads`).
-//! 4. A serial is on the disk before it is given (`gives`, `next`), and is above those of all files that live there (`above`). Spent comes if
-//!    and only if none is left, with nothing written (`spent`, `exact`, `refused`). Closing writes the pages from the last to the first, so
-//!    that the clean mark comes last (`writes`), and leaves the words of its map with their number of free sectors (`describes`).
+//! 4. A serial is on the disk before it is given (`gives`, `next`), and is above those of all files that live there (`above`). Spent comes
+//!    if and only if none is left, with nothing written (`spent`, `exact`, `refused`). Closing writes the pages from the last to the first,
+//!    so that the clean mark comes last (`writes`), and leaves the words of its map with their number of free sectors (`describes`).
 //! 5. For every answer the record writes of a call are a prefix of its one list (`writes`, `opens`, `gives`), in a number of sector
 //!    commands that is said. Where events are kept ready for the list it is never out of memory; it takes none of its own.
 //! 6. So it is with a `Descriptor` that doesn't fit, with the list by what it keeps: each record write is the value of a sector that is
