@@ -21,7 +21,11 @@
 #![tactic(auto)]
 
 pub mod dropping;
+pub mod entries;
 pub mod hints;
 pub mod keeping;
+pub mod lengths;
 pub mod lines;
+pub mod names;
+pub mod parts;
 pub mod serials;
