@@ -12,6 +12,6 @@ use Rattle.pack_model.specs.reading.Versions.{exact}
 abbrev pub AbsentNameStaysAbsent : Type 0
 AbsentNameStaysAbsent = (m : Model) (d : Fid) (name : List ℕ) (o : Operation) → enters_name d name o ≡ false → exact name (dir_items m d) ≡ None → exact name (dir_items (step m o) d) ≡ None
 
--- after an entry left, of this directory or of another, as many words are free in a row as before
+-- after an entry left, of this directory or of another, at least as many words are free in a row as before
 abbrev pub LeaveKeepsRoom : Type 0
 LeaveKeepsRoom = (m : Model) (d e : Fid) (name : List ℕ) → largest_run (dir_items m d) ≤ largest_run (dir_items (step m (leave e name)) d)

@@ -7,7 +7,7 @@ pub fn absent_name_stays_absent()
     ensures { AbsentNameStaysAbsent }
 {}
 
-/// After an entry left, as many words of a directory are free in a row as before.
+/// After an entry left, at least as many words of a directory are free in a row as before.
 pub fn leave_keeps_room()
     ensures { LeaveKeepsRoom }
 {}

@@ -12,11 +12,11 @@ use Rattle.laws_record.proofs.Tidying.{or_false_left, or_false_right}
 use Rattle.pack_laws.proofs.Keys.{fid_same, fid_total, same_fid}
 use Rattle.pack_laws.proofs.Mapping.{get-update}
 use Rattle.pack_model.specs.operations.Step.Operation.{cut, drop_file, enter, grow, leave, make, put, stamp, title, widen}
-use Rattle.pack_model.specs.operations.Step.{Operation, on_items, step}
+use Rattle.pack_model.specs.operations.Step.{on_items, step}
 use Rattle.pack_model.specs.reading.Bodies.Body.{data_of, items_of}
 use Rattle.pack_model.specs.reading.Bodies.{Body, File, body_items, items_in}
 use Rattle.pack_model.specs.reading.Model.{Model, dir_items}
-use Rattle.pack_model.specs.reading.Namings.{Naming, namings_in}
+use Rattle.pack_model.specs.reading.Namings.{namings_in}
 use Rattle.pack_model.specs.reading.Slots.Item.{entry, space}
 use Rattle.pack_model.specs.reading.Slots.{Item}
 use Rattle.pack_model.specs.reading.Versions.{exact}
