@@ -6,4 +6,3 @@ mod OrdinaryFiles
 mod RoomPlanning
 mod SerialFiles
 mod Stopping
-mod SweptLeaders
