@@ -11,8 +11,7 @@ use Rattle.laws_steps.specs.SerialLaws.{LeaderMet, leader_met, least_leader}
 use Rattle.pack_model.specs.hints.Misled.{leader_page}
 use Rattle.pack_model.specs.reading.Files.{numbered}
 use Rattle.pack_model.specs.reading.Model.{read_as}
-use Rattle.pack_model.specs.reading.Sights.{Sight, sights}
-use Rattle.pack_model.specs.reading.Sights.Sight.{hidden}
+use Rattle.pack_model.specs.reading.Sights.{Sight}
 use Rattle.pack_model.specs.states.Sound.{Sound}
 use Rattle.session_model.specs.Finding.{by_serial}
 use Rattle.exec_session.specs.declared.serials.LeaderAt.{LeaderAt}
@@ -44,10 +43,10 @@ met_more : (n : ℕ) (ss : List Sight) (u w : LeastLeader) (s : Sight) → HasLe
 met_more n ss u w s so_far step = record {
   serial = step.0 ∙ so_far.serial;
   least =
-    step.1
-    ∙ ap (λ k. least_leader k (leader_of u.best) (length ss) s) so_far.serial
-    ∙ ap (λ met. least_leader n met (length ss) s) so_far.least
-    ∙ sym (least_push n ss s);
+      step.1
+      ∙ ap (λ k. least_leader k (leader_of u.best) (length ss) s) so_far.serial
+      ∙ ap (λ met. least_leader n met (length ss) s) so_far.least
+      ∙ sym (least_push n ss s);
 }
 
 pub least_of_all : {told : Bool} {t : Taped} (before after : LeastLeader) → before.best ≡ None → Swept told MeetsLeader t before after → IsTrue told → leader_of after.best ≡ leader_met before.serial (pack t)

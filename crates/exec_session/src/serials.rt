@@ -5,9 +5,9 @@ ghost use Rattle.disk_records.specs.Tapes.{Looks, pack};
 ghost use Rattle.exec_session.specs.Found.{IsAt, IsNoneAt};
 ghost use Rattle.exec_session.specs.Meant.{IfHint, IfRefused};
 ghost use Rattle.exec_session.specs.Serials.{leader_of};
-ghost use Rattle.laws_steps.specs.SerialLaws.{lesser_leader};
 ghost use Rattle.exec_session.specs.Stops.{cause_of_stop};
 ghost use Rattle.exec_words.specs.declared.line.Target.TheVariants.{BySerial};
+ghost use Rattle.laws_steps.specs.SerialLaws.{lesser_leader};
 ghost use Rattle.pack_model.specs.states.Sound.{Sound};
 ghost use Rattle.std.specs.Prelude.{IfOk, IsErrOf, IsTrue, ◌-◌, ◌≡◌};
 
