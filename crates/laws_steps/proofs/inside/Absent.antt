@@ -7,8 +7,9 @@ use Rattle.alto_words.specs.Fid.{disk_descriptor, is_fid, sys_dir}
 use Rattle.alto_words.specs.Names.{is_same_name}
 use Rattle.alto_words.specs.declared.fid.Fid.{Fid}
 use Rattle.laws_lookup.proofs.names.Laws.{open_name_stays_open}
+use Rattle.laws_lookup.proofs.slots.Laws.{absent_name_is_open}
 use Rattle.laws_operation.specs.EntryLaws.{is_of_another}
-use Rattle.laws_record.proofs.Tidying.{or_false, or_false_left, or_false_right}
+use Rattle.laws_record.proofs.Tidying.{or_false_left, or_false_right}
 use Rattle.pack_laws.proofs.Keys.{fid_same, fid_total, is_fid-itself, same_fid}
 use Rattle.pack_laws.proofs.Mapping.{get-update}
 use Rattle.pack_model.specs.operations.Rooms.{largest_run, words_free}
@@ -22,21 +23,7 @@ use Rattle.pack_model.specs.reading.Versions.{exact}
 use Rattle.laws_steps.specs.NameLaws.{AbsentNameStaysAbsent, LeaveKeepsRoom}
 
 -- ---- names
--- a name that no entry has is open to each file
-not_both : (b : Bool) → (b && false) ≡ false
-not_both true = refl
-not_both false = refl
-
-open_to_each : (f : Fid) (name : List ℕ) (is : List Item) → exact name is ≡ None → list_any (is_of_another f name) is ≡ false
-open_to_each f name [] h = refl
-open_to_each f name (space n ∷ is) h = open_to_each f name is h
-open_to_each f name (entry g own ∷ is) h = by (is_same_name own name) (open_to_each f name is) h
-  where
-    by : (c : Bool) → (exact name is ≡ None → list_any (is_of_another f name) is ≡ false) → cond c (Some (g, own)) (exact name is) ≡ None → ((not (is_fid g f) && c) || list_any (is_of_another f name) is) ≡ false
-    by true rest h = absurd cc
-    by false rest h = or_false (not (is_fid g f) && false) (list_any (is_of_another f name) is) (not_both (not (is_fid g f))) (rest h)
-
--- one that is open to two files no entry has: it would be of both
+-- one that is open to two files no entry has, which would be of both
 of_this : (b : Bool) → (not b && true) ≡ false → b ≡ true
 of_this true e = refl
 of_this false e = absurd cc
@@ -61,8 +48,8 @@ open_to_two name (entry g own ∷ is) h k = by (is_same_name own name) (open_to_
 pub absent_name_stays_absent : AbsentNameStaysAbsent
 absent_name_stays_absent m d name o apart none =
     open_to_two name (dir_items (step m o) d)
-    (open_name_stays_open m d sys_dir name o apart (open_to_each sys_dir name (dir_items m d) none))
-    (open_name_stays_open m d disk_descriptor name o apart (open_to_each disk_descriptor name (dir_items m d) none))
+    (open_name_stays_open m d sys_dir name o apart (absent_name_is_open m d sys_dir name none))
+    (open_name_stays_open m d disk_descriptor name o apart (absent_name_is_open m d disk_descriptor name none))
 
 -- ---- free words in a row
 -- More words are free at the front, and in a row.
