@@ -1,5 +1,5 @@
 -- What a call knew on the pack with two files and a directory.
-use Rattle.std.proofs.Common.{Bool, None, Some, [], ap, arith, false, length, refl, true, ℕ, ◌∙◌, ◌∷◌, ◌≡◌}
+use Rattle.std.proofs.Common.{Bool, None, Some, [], ap, arith, false, length, refl, true, ◌∙◌, ◌∷◌, ◌≡◌}
 use Rattle.alto_words.specs.Fid.{sys_dir}
 use Rattle.disk_records.specs.Packs.{Pack}
 use Rattle.laws_contents.proofs.model.Laws.{model_lengths_are_of_bytes}
@@ -17,7 +17,7 @@ use Rattle.pack_model.specs.reading.Sights.{sights}
 use Rattle.pack_model.specs.reading.Slots.Item.{entry, space}
 use Rattle.pack_model.specs.reading.Versions.{exact}
 use Rattle.laws_met.specs.Lookups.{LookupsAreMet, MeetsLookups}
-use Rattle.laws_met.specs.Peopled.{bytes_a, dir_d, file_a, file_b, name_a, name_b, name_c, peopled}
+use Rattle.laws_met.specs.Peopled.{dir_d, file_a, file_b, name_a, name_b, name_c, peopled}
 use Rattle.laws_met.specs.Premises.{MeetsPremises}
 use Rattle.laws_met.proofs.inside.Meeting.{premises_are_met, size_a}
 
