@@ -5,7 +5,6 @@ use Rattle.std.specs.List.{list_any}
 use Rattle.std.specs.Option.{option_map}
 use Rattle.alto_words.specs.Fid.{disk_descriptor, is_fid, sys_dir}
 use Rattle.alto_words.specs.Names.{is_same_name}
-use Rattle.alto_words.specs.declared.fid.Fid.{Fid}
 use Rattle.laws_lookup.proofs.names.Laws.{open_name_stays_open}
 use Rattle.laws_lookup.proofs.slots.Laws.{absent_name_is_open}
 use Rattle.laws_operation.specs.EntryLaws.{is_of_another}
