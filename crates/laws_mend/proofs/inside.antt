@@ -1,6 +1,9 @@
+pub mod Availing
 pub mod Claiming
+pub mod Counted
 pub mod Counting
 pub mod FreeOnes
+pub mod Freed
 pub mod Freeing
 pub mod Joining
 pub mod PartsMended

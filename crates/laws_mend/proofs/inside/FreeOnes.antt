@@ -11,7 +11,7 @@ use Rattle.laws_mend.proofs.inside.Counting.{used_available_is_free}
 use Rattle.laws_mend.specs.NumberLaws.{NeededIsFree, TwoNeededAreFree}
 
 -- what is shown as free is free
-shown_free : (p : Pack) (at : ℕ) → get_or (sights p) at hidden ≡ free → is_free_at p at ≡ true
+pub shown_free : (p : Pack) (at : ℕ) → get_or (sights p) at hidden ≡ free → is_free_at p at ≡ true
 shown_free p at is = ap (λ b. cond b (is_free (tag (sector_at p at).label)) false) (usable_is p at (ap good_one is)) ∙ free_is p at is
 
 -- ---- one free sight, and two
