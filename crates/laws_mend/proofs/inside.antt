@@ -1,10 +1,13 @@
+pub mod Alike
 pub mod Availing
 pub mod Claiming
 pub mod Counted
 pub mod Counting
+pub mod Filed
 pub mod FreeOnes
 pub mod Freed
 pub mod Freeing
+pub mod Gone
 pub mod Joining
 pub mod PartsMended
 pub mod Relabelling

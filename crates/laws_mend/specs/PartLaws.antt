@@ -1,14 +1,78 @@
--- The parts of a mended pack, put together.
-use Rattle.std.specs.Prelude.{◌≡◌, true}
+-- The parts of a mended pack: what the record writes of guarded commands leave of them, and how they are put together.
+use Rattle.std.specs.Prelude.{◌≡◌, ◌≢◌, ℕ, suc, ◌+◌, ◌*◌, ◌/◌, ◌<◌, Bool, true, false, List, drop, get_or, length, Some, None}
 use Rattle.alto_words.specs.declared.fid.Fid.{Fid}
-use Rattle.disk_records.specs.Packs.{Pack}
-use Rattle.pack_model.specs.hints.Links.{PageLinks}
-use Rattle.pack_model.specs.reading.Files.{lives}
+use Rattle.alto_words.specs.Fid.{is_directory, is_fid, disk_descriptor}
+use Rattle.disk_records.specs.declared.records.Page.{Page}
+use Rattle.disk_records.specs.Commands.{claim_writes, ones, relabel_writes, release_writes, value_writes}
+use Rattle.disk_records.specs.Labels.{page_of, tag}
+use Rattle.disk_records.specs.Packs.{Pack, after, carried, is_free_at, is_usable, sector_at}
+use Rattle.disk_records.specs.Words.{word}
+use Rattle.pack_model.specs.hints.Links.{HasLinks, PageLinks, dir_words, next_link, previous_link}
+use Rattle.pack_model.specs.reading.Files.{lives, file_bytes, place}
+use Rattle.pack_model.specs.reading.Leaders.{Leader, is_readable, leader_words}
 use Rattle.pack_model.specs.reading.Sights.{sights}
+use Rattle.pack_model.specs.reading.Sights.Sight.{free, hidden, leads}
+use Rattle.pack_model.specs.reading.Slots.{SlotsReachEnd, all_words, slots}
 use Rattle.pack_model.specs.scavenger.Reports.{PagesMended}
-use Rattle.pack_model.specs.states.Sentences.{HasReadableName}
-use Rattle.laws_mend.specs.Parts.{Lasting}
+use Rattle.pack_model.specs.states.InUse.{counts}
+use Rattle.pack_model.specs.states.Sentences.{EachOnce, HasLastPage, HasReadableName, IsUsed}
+use Rattle.pack_laws.specs.GuardLaws.{ChangesOne, with_words}
+use Rattle.laws_mend.specs.Parts.{Cleared, Ended, Lasting, Rooted, SameFiles}
 
+-- ---- releases
+-- of a page that a lower sector carries: the same files stand
+abbrev pub CopyReleaseLeaves : Type 0
+CopyReleaseLeaves = (p : Pack) (at lower : ℕ) (page : Page) → carried p at ≡ Some page → carried p lower ≡ Some page → lower < at → SameFiles p (after p (release_writes at))
+
+-- A label that is neither free nor in range becomes a free one, and the value ones: the same files stand, and no page comes to be carried twice.
+pub record StrayGone (p q : Pack) (at : ℕ) : Type 0 where
+  pub changed : ChangesOne at None true free (with_words (sector_at p at) (ones 8) (ones 256)) p q
+  pub files : SameFiles p q
+  pub once : EachOnce (sights p) → EachOnce (sights q)
+
+abbrev pub StrayReleaseLeaves : Type 0
+StrayReleaseLeaves = (p : Pack) (at : ℕ) → is_usable p.shape at (sector_at p at) ≡ true → carried p at ≡ None → StrayGone p (after p (release_writes at)) at
+
+-- A page that isn't within its file's end has gone. The same files live, and the bytes of each of them are as they were, except of
+-- DiskDescriptor; every other page has its place, and counts if it counted.
+pub record UnusedGone (p q : Pack) (at : ℕ) (page : Page) : Type 0 where
+  pub none : place (sights q) page.fid page.number ≡ None
+  pub others : (f : Fid) (n : ℕ) → (f ≡ page.fid → n ≡ page.number → ⊥) → place (sights q) f n ≡ place (sights p) f n
+  pub lives_are : (f : Fid) → lives (sights q) f ≡ lives (sights p) f
+  pub bytes_are : (f : Fid) → lives (sights p) f ≡ true → is_fid f disk_descriptor ≡ false → file_bytes (sights q) f ≡ file_bytes (sights p) f
+  pub counts_are : (f : Fid) (n : ℕ) → counts q.shape (sights q) f n ≡ counts p.shape (sights p) f n
+  pub ended : Ended q
+  pub used_here : IsUsed q.shape (sights q) at
+  pub used : (i : ℕ) → IsUsed p.shape (sights p) i → IsUsed q.shape (sights q) i
+
+abbrev pub UnusedReleaseLeaves : Type 0
+UnusedReleaseLeaves = (p : Pack) (at : ℕ) (page : Page) → Ended p → carried p at ≡ Some page → counts p.shape (sights p) page.fid page.number ≡ false → UnusedGone p (after p (release_writes at)) at page
+
+-- ---- labels and leader pages
+-- Other links are written: all is shown as it was, every other sector has the links that it had, and this one those that are written.
+pub record LinksWritten (p q : Pack) (at : ℕ) (label : List ℕ) : Type 0 where
+  pub shown : sights q ≡ sights p
+  pub others : (i : ℕ) → i ≢ at → HasLinks p i → HasLinks q i
+  pub here : word label 0 ≡ next_link p.shape (sights p) (get_or (sights p) at hidden) → word label 1 ≡ previous_link p.shape (sights p) (get_or (sights p) at hidden) → HasLinks q at
+  pub lasting : Lasting p → Lasting q
+
+abbrev pub OtherLinksLeave : Type 0
+OtherLinksLeave = (p : Pack) (at : ℕ) (page : Page) (label : List ℕ) → carried p at ≡ Some page → page_of label ≡ Some page → drop 3 label ≡ drop 3 (sector_at p at).label → LinksWritten p (after p (relabel_writes at label (sector_at p at).value)) at label
+
+-- A leader page's value is written: the same files stand, each sector has its label, and links that were true are so still. The name of
+-- the page can be read if the value says one.
+pub record LeaderWritten (p q : Pack) (at : ℕ) (value : List ℕ) : Type 0 where
+  pub labels : (i : ℕ) → (sector_at q i).label ≡ (sector_at p i).label
+  pub links : (i : ℕ) → HasLinks p i → HasLinks q i
+  pub files : SameFiles p q
+  pub others : (i : ℕ) → i ≢ at → get_or (sights q) i hidden ≡ get_or (sights p) i hidden
+  pub named : is_readable (leader_words value) ≡ true → (f : Fid) (readable : Bool) (l : Leader) → get_or (sights q) at hidden ≡ leads f readable l → readable ≡ true
+  pub lasting : Lasting p → Lasting q
+
+abbrev pub LeaderValueLeaves : Type 0
+LeaderValueLeaves = (p : Pack) (at : ℕ) (page : Page) (value : List ℕ) → carried p at ≡ Some page → page.number ≡ 0 → LeaderWritten p (after p (value_writes at value)) at value
+
+-- ---- all parts
 -- all parts, true links and names that can be read are a pack whose pages are mended
 abbrev pub PartsAreMended : Type 0
 PartsAreMended = (p : Pack) → Lasting p → PageLinks p → ((f : Fid) → lives (sights p) f ≡ true → HasReadableName (sights p) f) → PagesMended p

@@ -4,7 +4,7 @@ use Rattle.alto_words.specs.declared.fid.Fid.{Fid}
 use Rattle.alto_words.specs.Fid.{is_directory, sys_dir, disk_descriptor}
 use Rattle.disk_records.specs.Addresses.{descriptor_length}
 use Rattle.disk_records.specs.Packs.{Pack}
-use Rattle.pack_model.specs.reading.Files.{lives, file_bytes}
+use Rattle.pack_model.specs.reading.Files.{lives, file_bytes, place}
 use Rattle.pack_model.specs.reading.Leaders.{Leader}
 use Rattle.pack_model.specs.reading.Sights.{sights}
 use Rattle.pack_model.specs.reading.Sights.Sight.{hidden, stray, leads}
@@ -44,3 +44,9 @@ pub record Lasting (p : Pack) : Type 0 where
 pub record FreesMore (p q : Pack) (n : ℕ) : Type 0 where
   pub free : free_sector_count (sights q) ≡ free_sector_count (sights p) + n
   pub available_is : available q.shape (sights q) ≡ available p.shape (sights p)
+
+-- the same files live, with the same bytes, and each page has its place
+pub record SameFiles (p q : Pack) : Type 0 where
+  pub lives_are : (f : Fid) → lives (sights q) f ≡ lives (sights p) f
+  pub bytes_are : (f : Fid) → file_bytes (sights q) f ≡ file_bytes (sights p) f
+  pub places_are : (f : Fid) (n : ℕ) → place (sights q) f n ≡ place (sights p) f n

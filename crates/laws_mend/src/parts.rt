@@ -1,6 +1,35 @@
-//! The parts of a pack whose pages are mended.
+//! The parts of a pack whose pages are mended: what the record writes of guarded commands leave of them, and how they are put together.
 
-ghost use Rattle.laws_mend.specs.PartLaws.{PartsAreMended};
+ghost use Rattle.laws_mend.specs.PartLaws.{CopyReleaseLeaves, LeaderValueLeaves, OtherLinksLeave, PartsAreMended, StrayReleaseLeaves, UnusedReleaseLeaves};
+
+/// A release of a page that a lower sector carries leaves the same files with the same bytes, and each page its place.
+pub fn copy_release_leaves()
+    ensures { CopyReleaseLeaves }
+{}
+
+/// A release of a usable sector that carries no page leaves the same files with the same bytes, each page its place, and every other sector
+/// as it was; no page comes to be carried twice.
+pub fn stray_release_leaves()
+    ensures { StrayReleaseLeaves }
+{}
+
+/// A release of a page that isn't within its file's end leaves every other page its place and each living file its bytes, except of
+/// DiskDescriptor; each directory ends with its slots still, and the sectors that were free or in use are so, as the released one is.
+pub fn unused_release_leaves()
+    ensures { UnusedReleaseLeaves }
+{}
+
+/// A label with other links, and then the value that stands there, leave all that is shown, and every other sector its links; the sector
+/// has true ones if those of the label are.
+pub fn other_links_leave()
+    ensures { OtherLinksLeave }
+{}
+
+/// A value of a leader page leaves the same files with the same bytes, each page its place, and each sector its label and true links; the
+/// name of the page can be read if the value says one.
+pub fn leader_value_leaves()
+    ensures { LeaderValueLeaves }
+{}
 
 /// The pages of a pack are mended if no page is carried twice, no label is out of range, each directory ends with its slots, each good
 /// sector is free or in use, sector 1 is SysDir's leader page, each living file has its last page, DiskDescriptor lives with the length of

@@ -1,7 +1,7 @@
 -- Pages that are within their files' ends, and those that aren't in use.
-use Rattle.std.proofs.Common.{◌*◌, ◌/◌, ◌<◌, ◌∙◌, ◌≡◌, ◌≤◌, Bool, List, None, Option, Some, ap, arith, cond, false, leb-true, length, nat_le, get_or, refl, suc, subst, sym, true, zero, ℕ}
+use Rattle.std.proofs.Common.{◌*◌, ◌/◌, ◌<◌, ◌∙◌, ◌≡◌, ◌≤◌, Bool, List, None, Option, Some, ap, arith, cond, false, le-leb, leb-true, length, nat_le, get_or, refl, suc, subst, sym, true, zero, ℕ}
 use Rattle.std.specs.FinMap.{get}
-use Rattle.std.specs.Option.{option_map}
+use Rattle.std.specs.Option.{is_some, option_map}
 use Rattle.std.specs.Prelude.{◌&&◌}
 use Rattle.alto_words.specs.declared.fid.Fid.{Fid}
 use Rattle.alto_words.specs.Fid.{disk_descriptor, is_directory, is_fid}
@@ -13,7 +13,7 @@ use Rattle.disk_records.specs.declared.shape.Shape.{Shape}
 use Rattle.pack_model.specs.reading.Bodies.{Body, body_length, body_of}
 use Rattle.pack_model.specs.reading.Bodies.Body.{data_of, items_of}
 use Rattle.pack_model.specs.reading.Bytes.{words_of}
-use Rattle.pack_model.specs.reading.Files.{file_bytes, leader, place}
+use Rattle.pack_model.specs.reading.Files.{file_bytes, leader, lives, place}
 use Rattle.pack_model.specs.reading.Leaders.{Leader}
 use Rattle.pack_model.specs.reading.Sights.{Sight, page_sight, sights}
 use Rattle.pack_model.specs.reading.Sights.Sight.{hidden}
@@ -25,13 +25,15 @@ use Rattle.pack_laws.proofs.Bytes.{length-words_of}
 use Rattle.pack_laws.proofs.Keys.{same_fid}
 use Rattle.laws_record.proofs.Carried.{carried_shows}
 use Rattle.laws_record.proofs.Ends.{counts_none}
-use Rattle.laws_record.proofs.Heads.{all_within}
-use Rattle.laws_record.proofs.Reading.{get-found, read_file}
+use Rattle.laws_record.proofs.Heads.{all_read, all_within}
+use Rattle.laws_record.proofs.Reading.{get-found, get_by, read_file}
 use Rattle.laws_record.proofs.Recording.{carried_sight}
 use Rattle.laws_record.proofs.Staying.{FilesStay}
 use Rattle.laws_record.proofs.Systemic.{described_get}
 use Rattle.laws_record.specs.QuietLaws.{IsUnread}
 use Rattle.laws_record.specs.QuietLaws.IsUnread.{leaderless, past_end}
+use Rattle.laws_operation.proofs.Widening.{directory_length}
+use Rattle.laws_mend.specs.Parts.{Ended}
 
 -- ---- between two packs
 -- the same pages are within their files' ends where the same files are found; of DiskDescriptor only whether it lives counts
@@ -104,3 +106,30 @@ descriptor_uncounted p n far = ap (is_within p.shape disk_descriptor (suc n)) (g
     by : (r : Option Leader) → is_within p.shape disk_descriptor (suc n) (option_map (read_file disk_descriptor (file_bytes (sights p) disk_descriptor)) r) ≡ false
     by None = refl
     by (Some l) = past_last p.shape disk_descriptor (suc n) (body_of disk_descriptor (file_bytes (sights p) disk_descriptor)) (omega arith)
+
+-- ---- pages that count
+-- where each directory ends with its slots, the bytes of a living file, except of DiskDescriptor, are its body
+body_ends : (p : Pack) → Ended p → (f : Fid) → lives (sights p) f ≡ true → body_length (body_of f (file_bytes (sights p) f)) ≡ length (file_bytes (sights p) f)
+body_ends p ended f live = by (is_directory f) refl
+  where
+    by : (b : Bool) → is_directory f ≡ b → body_length (cond b (items_of (slots (words_of (file_bytes (sights p) f)))) (data_of (file_bytes (sights p) f))) ≡ length (file_bytes (sights p) f)
+    by false ordinary = refl
+    by true dir =
+        let r = ended.directories f live dir in
+        let h = all_read (words_of (file_bytes (sights p) f)) r.items r.reads in
+        ap (λ is. body_length (items_of is)) h.0 ∙ directory_length r.items (file_bytes (sights p) f) r.even h.1
+
+-- so its pages count up to the one of that end
+pub counts_end : (p : Pack) → Ended p → (f : Fid) → lives (sights p) f ≡ true → is_fid f disk_descriptor ≡ false → (n : ℕ) → counts p.shape (sights p) f n ≡ nat_le n (suc (length (file_bytes (sights p) f) / 512))
+counts_end p ended f live other n = by (leader (sights p) f) refl
+  where
+    by : (r : Option Leader) → leader (sights p) f ≡ r → counts p.shape (sights p) f n ≡ nat_le n (suc (length (file_bytes (sights p) f) / 512))
+    by None e = absurd (let c : false ≡ true = sym (ap is_some e) ∙ live in cc)
+    by (Some l) e =
+        ap (is_within p.shape f n) (get_by (sights p) f l (file_bytes (sights p) f) e refl)
+        ∙ ap (λ b. nat_le n (suc ((cond b (descriptor_length p.shape) (body_length (body_of f (file_bytes (sights p) f)))) / 512))) other
+        ∙ ap (λ e. nat_le n (suc (e / 512))) (body_ends p ended f live)
+
+-- a leader page does
+pub led_counts : (p : Pack) (f : Fid) (l : Leader) → leader (sights p) f ≡ Some l → counts p.shape (sights p) f 0 ≡ true
+led_counts p f l e = ap (is_within p.shape f 0) (get_by (sights p) f l (file_bytes (sights p) f) e refl) ∙ le-leb 0 (last_page p.shape f (body_of f (file_bytes (sights p) f))) (omega arith)

@@ -59,19 +59,19 @@ module _ (p : Pack) (at : ℕ) (usable : is_usable p.shape at (sector_at p at) �
   twice = after p (release_writes at)
 
   -- the sector is free from the label on
-  here_once : sector_at once at ≡ record (sector_at p at) { label = ones 8 }
+  pub here_once : sector_at once at ≡ record (sector_at p at) { label = ones 8 }
   here_once = here_written p at 1 (ones 8) (usable_within p at usable)
 
   usable_once : is_usable p.shape at (sector_at once at) ≡ true
   usable_once = ap (λ (s : Sector). is_usable p.shape at s) here_once ∙ usable
 
-  here_twice : sector_at twice at ≡ record (sector_at once at) { value = ones 256 }
+  pub here_twice : sector_at twice at ≡ record (sector_at once at) { value = ones 256 }
   here_twice = here_written once at 2 (ones 256) (usable_within once at usable_once)
 
   free_once : is_free_at once at ≡ true
   free_once = ap (λ b. cond b (is_free (tag (sector_at once at).label)) false) usable_once ∙ ap (λ (s : Sector). is_free (tag s.label)) here_once ∙ ones_free
 
-  free_twice : is_free_at twice at ≡ true
+  pub free_twice : is_free_at twice at ≡ true
   free_twice = ap (λ (s : Sector). cond (is_usable p.shape at s) (is_free (tag s.label)) false) here_twice ∙ free_once
 
   -- what is shown then
@@ -82,10 +82,10 @@ module _ (p : Pack) (at : ℕ) (usable : is_usable p.shape at (sector_at p at) �
   shown_twice = free_value_shows once at (ones 256) free_once ∙ shown_once
 
   -- every other one is as before
-  others_once : (i : ℕ) → i ≢ at → sector_at once i ≡ sector_at p i
+  pub others_once : (i : ℕ) → i ≢ at → sector_at once i ≡ sector_at p i
   others_once i other = other_kept p at 1 (ones 8) i other
 
-  others_twice : (i : ℕ) → i ≢ at → sector_at twice i ≡ sector_at once i
+  pub others_twice : (i : ℕ) → i ≢ at → sector_at twice i ≡ sector_at once i
   others_twice i other = other_kept once at 2 (ones 256) i other
 
   page_of_other : (i : ℕ) → i ≢ at → carried once i ≡ carried p i
