@@ -1,6 +1,7 @@
 pub mod Alike
 pub mod Availing
 pub mod Claiming
+pub mod Completed
 pub mod Counted
 pub mod Counting
 pub mod Filed
@@ -9,7 +10,9 @@ pub mod Freed
 pub mod Freeing
 pub mod Gone
 pub mod Joining
+pub mod Lacked
 pub mod PartsMended
 pub mod Relabelling
 pub mod Releasing
+pub mod Shortened
 pub mod SystemPages

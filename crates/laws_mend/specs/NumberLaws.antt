@@ -1,13 +1,13 @@
 -- Free and available sectors while the pages of a pack are mended.
-use Rattle.std.specs.Prelude.{◌≡◌, ℕ, suc, ◌+◌, ◌*◌, ◌<◌, ◌≤◌, true, false, List, Some, None}
+use Rattle.std.specs.Prelude.{◌≡◌, ◌≢◌, ℕ, suc, ◌+◌, ◌*◌, ◌/◌, ◌<◌, ◌≤◌, true, false, List, length, Some, None}
 use Rattle.alto_words.specs.declared.fid.Fid.{Fid}
-use Rattle.alto_words.specs.Fid.{is_directory, is_fid, disk_descriptor}
+use Rattle.alto_words.specs.Fid.{is_directory, is_fid, sys_dir, disk_descriptor}
 use Rattle.disk_records.specs.declared.records.Page.{Page}
 use Rattle.disk_records.specs.Commands.{relabel_writes, release_writes}
 use Rattle.disk_records.specs.Labels.{page_of, tag}
 use Rattle.disk_records.specs.Packs.{Pack, after, carried, is_free_at, is_usable, sector_at}
 use Rattle.pack_model.specs.hints.Links.{dir_words}
-use Rattle.pack_model.specs.reading.Files.{place}
+use Rattle.pack_model.specs.reading.Files.{lives, file_bytes, place}
 use Rattle.pack_model.specs.reading.Sights.{sights}
 use Rattle.pack_model.specs.reading.Slots.{all_words, slots}
 use Rattle.pack_model.specs.scavenger.Needed.{needed}
@@ -17,7 +17,7 @@ use Rattle.pack_model.specs.sessions.Descriptor.{data_pages}
 use Rattle.pack_model.specs.states.InUse.{available, counts, free_sector_count}
 use Rattle.pack_model.specs.states.Sentences.{EachOnce}
 use Rattle.laws_record.specs.QuietLaws.{IsUnread}
-use Rattle.laws_mend.specs.Parts.{FreesMore, Used}
+use Rattle.laws_mend.specs.Parts.{FreesMore, Rooted, Used}
 
 -- on any pack the available sectors are the free ones and those that are freed
 abbrev pub FreedAndFree : Type 0
@@ -38,6 +38,16 @@ NeededIsFree = (p : Pack) → Used p → Scavengeable p → 0 < needed p.shape (
 -- If two sectors are needed, one that isn't sector 1 is free.
 abbrev pub TwoNeededAreFree : Type 0
 TwoNeededAreFree = (p : Pack) → Used p → Scavengeable p → 2 ≤ needed p.shape (sights p) → (at : ℕ) × (2 ≤ at) × (is_free_at p at ≡ true)
+
+-- a living file of such a pack that can be scavenged, except DiskDescriptor, has a free sector other than sector 1 for its last page, if
+-- that is missing
+abbrev pub LackingPageIsFree : Type 0
+LackingPageIsFree = (p : Pack) (f : Fid) → Scavengeable p → Rooted p → lives (sights p) f ≡ true → is_fid f disk_descriptor ≡ false → place (sights p) f (suc (length (file_bytes (sights p) f) / 512)) ≡ None
+    → (at : ℕ) × (at ≢ 1) × (is_free_at p at ≡ true)
+
+-- two sectors are needed where SysDir has no leader page
+abbrev pub RootNeedsTwo : Type 0
+RootNeedsTwo = (p : Pack) → lives (sights p) sys_dir ≡ false → 2 ≤ needed p.shape (sights p)
 
 -- ---- what the record writes of guarded commands free
 -- a release of a page that a lower sector carries

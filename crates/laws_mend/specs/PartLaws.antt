@@ -48,7 +48,34 @@ pub record UnusedGone (p q : Pack) (at : ℕ) (page : Page) : Type 0 where
 abbrev pub UnusedReleaseLeaves : Type 0
 UnusedReleaseLeaves = (p : Pack) (at : ℕ) (page : Page) → Ended p → carried p at ≡ Some page → counts p.shape (sights p) page.fid page.number ≡ false → UnusedGone p (after p (release_writes at)) at page
 
+-- ---- a last page
+-- A last page that was missing is there: it has its place, each other page its own, and all files live with the same bytes.
+pub record LastClaimed (p q : Pack) (at : ℕ) (page : Page) : Type 0 where
+  pub here : place (sights q) page.fid page.number ≡ Some at
+  pub others : (f : Fid) (n : ℕ) → (f ≡ page.fid → n ≡ page.number → ⊥) → place (sights q) f n ≡ place (sights p) f n
+  pub lives_are : (f : Fid) → lives (sights q) f ≡ lives (sights p) f
+  pub bytes_are : (f : Fid) → file_bytes (sights q) f ≡ file_bytes (sights p) f
+  pub last_page : HasLastPage (sights q) page.fid
+  pub rooted : lives (sights p) page.fid ≡ true → Rooted p → Rooted q
+
+abbrev pub LastClaimLeaves : Type 0
+LastClaimLeaves = (p : Pack) (at : ℕ) (page : Page) (label value : List ℕ) → is_free_at p at ≡ true → at ≢ 1 → page_of label ≡ Some page → is_fid page.fid disk_descriptor ≡ false → (tag label).bytes ≡ 0
+    → page.number ≡ suc (length (file_bytes (sights p) page.fid) / 512) → place (sights p) page.fid page.number ≡ None → LastClaimed p (after p (claim_writes at label value)) at page
+
 -- ---- labels and leader pages
+-- A directory ends with its slots: each page has its place, and the bytes of every other file are as they were.
+pub record DirectoryIsCut (p q : Pack) (d : Fid) : Type 0 where
+  pub lives_are : (f : Fid) → lives (sights q) f ≡ lives (sights p) f
+  pub places_are : (f : Fid) (n : ℕ) → place (sights q) f n ≡ place (sights p) f n
+  pub others : (f : Fid) → is_fid f d ≡ false → file_bytes (sights q) f ≡ file_bytes (sights p) f
+  pub ends : lives (sights p) d ≡ true → SlotsReachEnd (file_bytes (sights q) d)
+  pub slots_are : lives (sights p) d ≡ true → slots (dir_words q d) ≡ slots (dir_words p d)
+  pub cleared : Cleared p → Cleared q
+
+abbrev pub DirectoryCutLeaves : Type 0
+DirectoryCutLeaves = (p : Pack) (d : Fid) (at n : ℕ) (label : List ℕ) → is_directory d ≡ true → place (sights p) d (suc n) ≡ Some at → page_of label ≡ Some (record { fid = d; number = suc n }) → (tag label).bytes < 512
+    → 512 * n + (tag label).bytes ≡ all_words (slots (dir_words p d)) * 2 → DirectoryIsCut p (after p (relabel_writes at label (sector_at p at).value)) d
+
 -- Other links are written: all is shown as it was, every other sector has the links that it had, and this one those that are written.
 pub record LinksWritten (p q : Pack) (at : ℕ) (label : List ℕ) : Type 0 where
   pub shown : sights q ≡ sights p

@@ -1,6 +1,6 @@
 //! Free and available sectors while the pages of a pack are mended.
 
-ghost use Rattle.laws_mend.specs.NumberLaws.{CopyReleaseFrees, DescriptorReleaseFrees, DirectoryCutFrees, FreedAndFree, FreesJoin, NeededIsFree, StrayReleaseFrees, TwoNeededAreFree, UnreadReleaseFrees, UnusedReleaseFrees, UsedAvailableIsFree};
+ghost use Rattle.laws_mend.specs.NumberLaws.{CopyReleaseFrees, DescriptorReleaseFrees, DirectoryCutFrees, FreedAndFree, FreesJoin, LackingPageIsFree, NeededIsFree, RootNeedsTwo, StrayReleaseFrees, TwoNeededAreFree, UnreadReleaseFrees, UnusedReleaseFrees, UsedAvailableIsFree};
 
 /// Sectors that become free one after another, as many being available as before, become free together.
 pub fn frees_join()
@@ -26,6 +26,17 @@ pub fn needed_is_free()
 /// A pack that can be scavenged, each good sector of which is free or in use, has a free sector other than sector 1 if it needs two.
 pub fn two_needed_are_free()
     ensures { TwoNeededAreFree }
+{}
+
+/// A pack that can be scavenged, with SysDir's leader page in sector 1 and each good sector free or in use, has a free sector other than
+/// sector 1 if a living file lacks its last page, except DiskDescriptor.
+pub fn lacking_page_is_free()
+    ensures { LackingPageIsFree }
+{}
+
+/// A pack without a leader page of SysDir needs two sectors.
+pub fn root_needs_two()
+    ensures { RootNeedsTwo }
 {}
 
 /// A release of a page that a lower sector carries frees one sector more, and as many are available.

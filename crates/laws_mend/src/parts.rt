@@ -1,6 +1,6 @@
 //! The parts of a pack whose pages are mended: what the record writes of guarded commands leave of them, and how they are put together.
 
-ghost use Rattle.laws_mend.specs.PartLaws.{CopyReleaseLeaves, LeaderValueLeaves, OtherLinksLeave, PartsAreMended, StrayReleaseLeaves, UnusedReleaseLeaves};
+ghost use Rattle.laws_mend.specs.PartLaws.{CopyReleaseLeaves, DirectoryCutLeaves, LastClaimLeaves, LeaderValueLeaves, OtherLinksLeave, PartsAreMended, StrayReleaseLeaves, UnusedReleaseLeaves};
 
 /// A release of a page that a lower sector carries leaves the same files with the same bytes, and each page its place.
 pub fn copy_release_leaves()
@@ -17,6 +17,18 @@ pub fn stray_release_leaves()
 /// DiskDescriptor; each directory ends with its slots still, and the sectors that were free or in use are so, as the released one is.
 pub fn unused_release_leaves()
     ensures { UnusedReleaseLeaves }
+{}
+
+/// A label by which a directory ends with its slots, and then the value that stands there, leave each page its place, and the bytes of every
+/// other file; the directory has the same slots and ends with them, if it lives.
+pub fn directory_cut_leaves()
+    ensures { DirectoryCutLeaves }
+{}
+
+/// A claim of a missing last page with 0 bytes, on a free sector other than sector 1, leaves each other page its place and all files their
+/// bytes; the file has its last page, and if it lives each good sector is free or in use as before.
+pub fn last_claim_leaves()
+    ensures { LastClaimLeaves }
 {}
 
 /// A label with other links, and then the value that stands there, leave all that is shown, and every other sector its links; the sector

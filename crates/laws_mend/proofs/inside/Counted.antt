@@ -109,7 +109,7 @@ descriptor_uncounted p n far = ap (is_within p.shape disk_descriptor (suc n)) (g
 
 -- ---- pages that count
 -- where each directory ends with its slots, the bytes of a living file, except of DiskDescriptor, are its body
-body_ends : (p : Pack) → Ended p → (f : Fid) → lives (sights p) f ≡ true → body_length (body_of f (file_bytes (sights p) f)) ≡ length (file_bytes (sights p) f)
+pub body_ends : (p : Pack) → Ended p → (f : Fid) → lives (sights p) f ≡ true → body_length (body_of f (file_bytes (sights p) f)) ≡ length (file_bytes (sights p) f)
 body_ends p ended f live = by (is_directory f) refl
   where
     by : (b : Bool) → is_directory f ≡ b → body_length (cond b (items_of (slots (words_of (file_bytes (sights p) f)))) (data_of (file_bytes (sights p) f))) ≡ length (file_bytes (sights p) f)
