@@ -11,8 +11,10 @@ pub mod Freeing
 pub mod Gone
 pub mod Joining
 pub mod Lacked
+pub mod LackedDescriptor
 pub mod PartsMended
 pub mod Relabelling
 pub mod Releasing
 pub mod Shortened
+pub mod Slotting
 pub mod SystemPages

@@ -3,4 +3,5 @@ pub mod NumberLaws
 pub mod PartLaws
 pub mod Parts
 pub mod RunLaws
+pub mod SlotLaws
 pub mod Tending

@@ -17,7 +17,7 @@ use Rattle.pack_model.specs.sessions.Descriptor.{data_pages}
 use Rattle.pack_model.specs.states.InUse.{available, counts, free_sector_count}
 use Rattle.pack_model.specs.states.Sentences.{EachOnce}
 use Rattle.laws_record.specs.QuietLaws.{IsUnread}
-use Rattle.laws_mend.specs.Parts.{FreesMore, Rooted, Used}
+use Rattle.laws_mend.specs.Parts.{FreesMore, Rooted, RootedBut, Used}
 
 -- on any pack the available sectors are the free ones and those that are freed
 abbrev pub FreedAndFree : Type 0
@@ -44,6 +44,10 @@ TwoNeededAreFree = (p : Pack) → Used p → Scavengeable p → 2 ≤ needed p.s
 abbrev pub LackingPageIsFree : Type 0
 LackingPageIsFree = (p : Pack) (f : Fid) → Scavengeable p → Rooted p → lives (sights p) f ≡ true → is_fid f disk_descriptor ≡ false → place (sights p) f (suc (length (file_bytes (sights p) f) / 512)) ≡ None
     → (at : ℕ) × (at ≢ 1) × (is_free_at p at ≡ true)
+
+-- so it has for a page of DiskDescriptor that is missing, the leader page or a data page of its format, also while DiskDescriptor is made
+abbrev pub LackingDescriptorPageIsFree : Type 0
+LackingDescriptorPageIsFree = (p : Pack) (n : ℕ) → Scavengeable p → RootedBut p → n ≤ data_pages p.shape → place (sights p) disk_descriptor n ≡ None → (at : ℕ) × (at ≢ 1) × (is_free_at p at ≡ true)
 
 -- two sectors are needed where SysDir has no leader page
 abbrev pub RootNeedsTwo : Type 0

@@ -20,3 +20,4 @@ pub mod joins;
 pub mod numbers;
 pub mod parts;
 pub mod runs;
+pub mod slots;

@@ -1,6 +1,6 @@
 //! Free and available sectors while the pages of a pack are mended.
 
-ghost use Rattle.laws_mend.specs.NumberLaws.{CopyReleaseFrees, DescriptorReleaseFrees, DirectoryCutFrees, FreedAndFree, FreesJoin, LackingPageIsFree, NeededIsFree, RootNeedsTwo, StrayReleaseFrees, TwoNeededAreFree, UnreadReleaseFrees, UnusedReleaseFrees, UsedAvailableIsFree};
+ghost use Rattle.laws_mend.specs.NumberLaws.{CopyReleaseFrees, DescriptorReleaseFrees, DirectoryCutFrees, FreedAndFree, FreesJoin, LackingDescriptorPageIsFree, LackingPageIsFree, NeededIsFree, RootNeedsTwo, StrayReleaseFrees, TwoNeededAreFree, UnreadReleaseFrees, UnusedReleaseFrees, UsedAvailableIsFree};
 
 /// Sectors that become free one after another, as many being available as before, become free together.
 pub fn frees_join()
@@ -32,6 +32,12 @@ pub fn two_needed_are_free()
 /// sector 1 if a living file lacks its last page, except DiskDescriptor.
 pub fn lacking_page_is_free()
     ensures { LackingPageIsFree }
+{}
+
+/// Such a pack has a free sector other than sector 1 if DiskDescriptor lacks its leader page or a data page of its format, also while its
+/// data pages stand without a leader page.
+pub fn lacking_descriptor_page_is_free()
+    ensures { LackingDescriptorPageIsFree }
 {}
 
 /// A pack without a leader page of SysDir needs two sectors.

@@ -40,9 +40,9 @@ unfolding needed
 lacking_is_needed p = omega arith
 
 -- sector 1 isn't free where it is SysDir's leader page
-pub root_taken : (p : Pack) → Rooted p → (at : ℕ) → is_free_at p at ≡ true → at ≢ 1
-root_taken p rooted at is same =
-    let c : true ≡ false = sym is ∙ ap (is_free_at p) same ∙ found_shown p 1 ∙ ap is_free_sight rooted.root.2 in cc
+pub root_taken : (p : Pack) (f : Fid) (readable : Bool) (l : Leader) → get_or (sights p) 1 hidden ≡ leads f readable l → (at : ℕ) → is_free_at p at ≡ true → at ≢ 1
+root_taken p f readable l root at is same =
+    let c : true ≡ false = sym is ∙ ap (is_free_at p) same ∙ found_shown p 1 ∙ ap is_free_sight root in cc
 
 -- ---- the laws
 pub lacking_page_is_free : LackingPageIsFree
@@ -59,7 +59,7 @@ lacking_page_is_free p f ready rooted live other lacks = by (leader (sights p) f
         ∙ ap (λ r. one_if (not (is_some r))) (no_page (sights p) f (length bytes / 512) lacks) in
         let all = lacking_is_needed p in
         let r = needed_is_free p rooted.used ready (omega arith) in
-        (r.0, root_taken p rooted r.0 r.1, r.1)
+        (r.0, root_taken p sys_dir rooted.root.1 rooted.root.0 rooted.root.2 r.0 r.1, r.1)
 
 pub root_needs_two : RootNeedsTwo
 unfolding needed

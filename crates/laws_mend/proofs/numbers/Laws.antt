@@ -4,3 +4,4 @@ pub use Rattle.laws_mend.proofs.inside.Freed.{copy_release_frees, descriptor_rel
 pub use Rattle.laws_mend.proofs.inside.Freeing.{frees_join}
 pub use Rattle.laws_mend.proofs.inside.FreeOnes.{needed_is_free, two_needed_are_free}
 pub use Rattle.laws_mend.proofs.inside.Lacked.{lacking_page_is_free, root_needs_two}
+pub use Rattle.laws_mend.proofs.inside.LackedDescriptor.{lacking_descriptor_page_is_free}

@@ -1,0 +1,26 @@
+-- The slots of directories while names are mended, on any pack: no premise asks that it is whole.
+use Rattle.std.specs.Prelude.{◌≡◌, ◌++◌, ◌+◌, ◌<◌, ◌≤◌, ◌∷◌, [], ℕ, List, length}
+use Rattle.alto_words.specs.declared.fid.Fid.{Fid}
+use Rattle.disk_records.specs.Packs.{Pack}
+use Rattle.pack_model.specs.hints.Links.{HasLinks, dir_words}
+use Rattle.pack_model.specs.operations.Rooms.{left_over}
+use Rattle.pack_model.specs.reading.Files.{file_bytes, lives}
+use Rattle.pack_model.specs.reading.Sights.{sights}
+use Rattle.pack_model.specs.reading.Slots.{Item, SlotsReachEnd, entry_length, slots}
+use Rattle.pack_model.specs.reading.Slots.Item.{entry, space}
+use Rattle.laws_record.specs.DirLaws.{DirWrite, Enters, IsLooseWord, dir_written, entered}
+use Rattle.laws_lookup.specs.OwnLaws.{ReplacesSlots}
+
+-- an entry comes in the place of a free slot
+abbrev pub EntersReplacesSlots : Type 0
+EntersReplacesSlots = (p : Pack) (d : Fid) (at : ℕ) (new : List ℕ) (a b : List Item) (f : Fid) (name : List ℕ) (left : ℕ) → Enters p d at new a b f name left
+    → ReplacesSlots p (entered p at a new) d a (space (entry_length (length name) + left) ∷ []) (entry f name ∷ left_over left []) b
+
+-- a directory that ended with its slots has a free slot of 256 words more, in new words after its own
+abbrev pub MoreWordsReplaceSlots : Type 0
+MoreWordsReplaceSlots = (p q : Pack) (d : Fid) (fresh : List ℕ) → lives (sights q) d ≡ lives (sights p) d → SlotsReachEnd (file_bytes (sights p) d) → dir_words q d ≡ dir_words p d ++ fresh → slots fresh ≡ space 256 ∷ []
+    → ReplacesSlots p q d (slots (dir_words p d)) [] (space 256 ∷ []) []
+
+-- words inside free slots and addresses of entries leave the slots of each directory
+abbrev pub LooseWordsKeepSlots : Type 0
+LooseWordsKeepSlots = (p : Pack) (d : Fid) (w at : ℕ) (new : List ℕ) → DirWrite p d w at new → ((k : ℕ) → w ≤ k → k < w + length new → IsLooseWord p d k) → (e : Fid) → slots (dir_words (dir_written p w at new) e) ≡ slots (dir_words p e)
