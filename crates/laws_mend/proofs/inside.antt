@@ -4,6 +4,7 @@ pub mod Claiming
 pub mod Completed
 pub mod Counted
 pub mod Counting
+pub mod Describing
 pub mod Filed
 pub mod FreeOnes
 pub mod Freed
@@ -15,6 +16,8 @@ pub mod LackedDescriptor
 pub mod PartsMended
 pub mod Relabelling
 pub mod Releasing
+pub mod RootMade
+pub mod RootMoved
 pub mod Shortened
 pub mod Slotting
 pub mod SystemPages

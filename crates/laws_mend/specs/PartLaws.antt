@@ -1,7 +1,8 @@
 -- The parts of a mended pack: what the record writes of guarded commands leave of them, and how they are put together.
-use Rattle.std.specs.Prelude.{◌≡◌, ◌≢◌, ℕ, suc, ◌+◌, ◌*◌, ◌/◌, ◌<◌, Bool, true, false, List, drop, get_or, length, Some, None}
+use Rattle.std.specs.Prelude.{◌≡◌, ◌≢◌, ℕ, suc, ◌+◌, ◌-◌, ◌*◌, ◌/◌, ◌<◌, ◌∷◌, [], min, Bool, true, false, List, drop, get_or, length, Some, None}
 use Rattle.alto_words.specs.declared.fid.Fid.{Fid}
-use Rattle.alto_words.specs.Fid.{is_directory, is_fid, disk_descriptor}
+use Rattle.alto_words.specs.Fid.{is_directory, is_fid, sys_dir, disk_descriptor}
+use Rattle.disk_records.specs.Addresses.{descriptor_length}
 use Rattle.disk_records.specs.declared.records.Page.{Page}
 use Rattle.disk_records.specs.Commands.{claim_writes, ones, relabel_writes, release_writes, value_writes}
 use Rattle.disk_records.specs.Labels.{page_of, tag}
@@ -13,11 +14,14 @@ use Rattle.pack_model.specs.reading.Leaders.{Leader, is_readable, leader_words}
 use Rattle.pack_model.specs.reading.Sights.{sights}
 use Rattle.pack_model.specs.reading.Sights.Sight.{free, hidden, leads}
 use Rattle.pack_model.specs.reading.Slots.{SlotsReachEnd, all_words, slots}
+use Rattle.pack_model.specs.reading.Slots.Item.{space}
 use Rattle.pack_model.specs.scavenger.Reports.{PagesMended}
+use Rattle.pack_model.specs.sessions.Descriptor.{data_pages}
 use Rattle.pack_model.specs.states.InUse.{counts}
 use Rattle.pack_model.specs.states.Sentences.{EachOnce, HasLastPage, HasReadableName, IsUsed}
 use Rattle.pack_laws.specs.GuardLaws.{ChangesOne, with_words}
-use Rattle.laws_mend.specs.Parts.{Cleared, Ended, Lasting, Rooted, SameFiles}
+use Rattle.laws_contents.specs.PageLaws.{bytes_at}
+use Rattle.laws_mend.specs.Parts.{Cleared, Ended, Lasting, Rooted, RootedBut, SameFiles, Used}
 
 -- ---- releases
 -- of a page that a lower sector carries: the same files stand
@@ -61,6 +65,63 @@ pub record LastClaimed (p q : Pack) (at : ℕ) (page : Page) : Type 0 where
 abbrev pub LastClaimLeaves : Type 0
 LastClaimLeaves = (p : Pack) (at : ℕ) (page : Page) (label value : List ℕ) → is_free_at p at ≡ true → at ≢ 1 → page_of label ≡ Some page → is_fid page.fid disk_descriptor ≡ false → (tag label).bytes ≡ 0
     → page.number ≡ suc (length (file_bytes (sights p) page.fid) / 512) → place (sights p) page.fid page.number ≡ None → LastClaimed p (after p (claim_writes at label value)) at page
+
+-- ---- SysDir's leader page comes to sector 1
+-- an equal copy comes there, and then the old sector is released
+abbrev pub RootIsMoved : Type 0
+RootIsMoved = (p : Pack) (old : ℕ) → Used p → is_free_at p 1 ≡ true → place (sights p) sys_dir 0 ≡ Some old → Rooted (after (after p (claim_writes 1 (sector_at p old).label (sector_at p old).value)) (release_writes old))
+
+-- SysDir's first data page is one free slot of 255 words, and then its leader page is in sector 1.
+pub record RootMade (q r : Pack) : Type 0 where
+  pub slots : slots (dir_words q sys_dir) ≡ space 255 ∷ []
+  pub rooted : Rooted r
+
+-- so it is after the claims of both, if it didn't live
+abbrev pub RootIsMade : Type 0
+RootIsMade = (p : Pack) (at : ℕ) (label value later_label later_value : List ℕ) → Used p → lives (sights p) sys_dir ≡ false → is_free_at p 1 ≡ true → is_free_at p at ≡ true → at ≢ 1
+    → page_of label ≡ Some (record { fid = sys_dir; number = 1 }) → (tag label).bytes ≡ 510 → length value ≡ 256 → word value 0 ≡ 255 → page_of later_label ≡ Some (record { fid = sys_dir; number = 0 })
+    → let q : Pack = after p (claim_writes at label value) in RootMade q (after q (claim_writes 1 later_label later_value))
+
+-- ---- DiskDescriptor is made
+-- A data page of DiskDescriptor, counted from 0, is there, and counts the bytes that its format has in it.
+pub record IsDescribed (p : Pack) (n : ℕ) : Type 0 where
+  pub at : ℕ
+  pub sector : place (sights p) disk_descriptor (suc n) ≡ Some at
+  pub counts : length (bytes_at p at) ≡ min 512 (descriptor_length p.shape - 512 * n)
+
+-- A data page of DiskDescriptor is written, claimed or under another label: it has its place, each other page its own, and each other file
+-- its bytes. The data pages that were as they have to be are so still, and this one is if its bytes are as many.
+pub record DescriptorPageWritten (p q : Pack) (at n : ℕ) : Type 0 where
+  pub here : place (sights q) disk_descriptor (suc n) ≡ Some at
+  pub others : (f : Fid) (m : ℕ) → (f ≡ disk_descriptor → m ≡ suc n → ⊥) → place (sights q) f m ≡ place (sights p) f m
+  pub lives_are : (f : Fid) → lives (sights q) f ≡ lives (sights p) f
+  pub bytes_are : (f : Fid) → is_fid f disk_descriptor ≡ false → file_bytes (sights q) f ≡ file_bytes (sights p) f
+  pub described : (m : ℕ) → m ≢ n → IsDescribed p m → IsDescribed q m
+  pub described_here : length (bytes_at q at) ≡ min 512 (descriptor_length p.shape - 512 * n) → IsDescribed q n
+  pub rooted : RootedBut p → RootedBut q
+
+-- a data page that is missing is claimed
+abbrev pub DescriptorClaimLeaves : Type 0
+DescriptorClaimLeaves = (p : Pack) (at n : ℕ) (label value : List ℕ) → is_free_at p at ≡ true → at ≢ 1 → page_of label ≡ Some (record { fid = disk_descriptor; number = suc n }) → n < data_pages p.shape → place (sights p) disk_descriptor (suc n) ≡ None
+    → DescriptorPageWritten p (after p (claim_writes at label value)) at n
+
+-- one that is there gets another count
+abbrev pub DescriptorCountLeaves : Type 0
+DescriptorCountLeaves = (p : Pack) (at n : ℕ) (label : List ℕ) → place (sights p) disk_descriptor (suc n) ≡ Some at → page_of label ≡ Some (record { fid = disk_descriptor; number = suc n }) → DescriptorPageWritten p (after p (relabel_writes at label (sector_at p at).value)) at n
+
+-- All its data pages are as they have to be, and each other living file has its last page.
+pub record IsDescribedWhole (p : Pack) : Type 0 where
+  pub rooted : RootedBut p
+  pub described : (n : ℕ) → n < data_pages p.shape → IsDescribed p n
+  pub last_pages : (f : Fid) → lives (sights p) f ≡ true → is_fid f disk_descriptor ≡ false → HasLastPage (sights p) f
+
+-- so, if it lives, each living file has its last page, and it has the length of its format
+abbrev pub DescribedIsLasting : Type 0
+DescribedIsLasting = (p : Pack) → IsDescribedWhole p → lives (sights p) disk_descriptor ≡ true → Lasting p
+
+-- and if its leader page is claimed
+abbrev pub DescriptorLeaderMakesLasting : Type 0
+DescriptorLeaderMakesLasting = (p : Pack) (at : ℕ) (label value : List ℕ) → IsDescribedWhole p → is_free_at p at ≡ true → at ≢ 1 → page_of label ≡ Some (record { fid = disk_descriptor; number = 0 }) → place (sights p) disk_descriptor 0 ≡ None → Lasting (after p (claim_writes at label value))
 
 -- ---- labels and leader pages
 -- A directory ends with its slots: each page has its place, and the bytes of every other file are as they were.

@@ -1,6 +1,6 @@
 //! The parts of a pack whose pages are mended: what the record writes of guarded commands leave of them, and how they are put together.
 
-ghost use Rattle.laws_mend.specs.PartLaws.{CopyReleaseLeaves, DirectoryCutLeaves, LastClaimLeaves, LeaderValueLeaves, OtherLinksLeave, PartsAreMended, StrayReleaseLeaves, UnusedReleaseLeaves};
+ghost use Rattle.laws_mend.specs.PartLaws.{CopyReleaseLeaves, DescribedIsLasting, DescriptorClaimLeaves, DescriptorCountLeaves, DescriptorLeaderMakesLasting, DirectoryCutLeaves, LastClaimLeaves, LeaderValueLeaves, OtherLinksLeave, PartsAreMended, RootIsMade, RootIsMoved, StrayReleaseLeaves, UnusedReleaseLeaves};
 
 /// A release of a page that a lower sector carries leaves the same files with the same bytes, and each page its place.
 pub fn copy_release_leaves()
@@ -29,6 +29,41 @@ pub fn directory_cut_leaves()
 /// bytes; the file has its last page, and if it lives each good sector is free or in use as before.
 pub fn last_claim_leaves()
     ensures { LastClaimLeaves }
+{}
+
+/// An equal copy of SysDir's leader page, claimed in sector 1, and the release of the old sector leave SysDir's leader page in sector 1, and
+/// each good sector free or in use, if it was.
+pub fn root_is_moved()
+    ensures { RootIsMoved }
+{}
+
+/// A claim of SysDir's first data page, of 510 bytes whose first word is 255, and then one of its leader page in sector 1 leave SysDir with
+/// one free slot of 255 words, and each good sector free or in use, if it was and SysDir didn't live.
+pub fn root_is_made()
+    ensures { RootIsMade }
+{}
+
+/// A claim of a missing data page of DiskDescriptor, on a free sector other than sector 1, leaves each other page its place, each other file
+/// its bytes, and each good sector free, in use, or with a data page of DiskDescriptor.
+pub fn descriptor_claim_leaves()
+    ensures { DescriptorClaimLeaves }
+{}
+
+/// A label with another count of a data page of DiskDescriptor, and then the value that stands there, leave each page its place, each other
+/// file its bytes, and each good sector free, in use, or with a data page of DiskDescriptor.
+pub fn descriptor_count_leaves()
+    ensures { DescriptorCountLeaves }
+{}
+
+/// If all data pages of DiskDescriptor are there with the counts of its format, each other living file has its last page, and
+/// DiskDescriptor lives, it has the length of its format, and each living file its last page.
+pub fn described_is_lasting()
+    ensures { DescribedIsLasting }
+{}
+
+/// So it is once DiskDescriptor's missing leader page is claimed on a free sector other than sector 1.
+pub fn descriptor_leader_makes_lasting()
+    ensures { DescriptorLeaderMakesLasting }
 {}
 
 /// A label with other links, and then the value that stands there, leave all that is shown, and every other sector its links; the sector

@@ -34,19 +34,19 @@ use Rattle.laws_mend.specs.Parts.{RootedBut, Used}
 -- ---- how many sectors carry some pages
 none_pass : (u : Sight → Bool) (xs : List Sight) → ((i : ℕ) → u (get_or xs i hidden) ≡ true → ⊥) → how_many u xs ≡ 0
 none_pass u [] h = refl
-none_pass u (x ∷ xs) h = by (u x) refl
+none_pass u (x ∷ xs) h = let rest = none_pass u xs (λ i. h (suc i)) in by (u x) refl rest
   where
-    by : (b : Bool) → u x ≡ b → one_if (u x) + how_many u xs ≡ 0
-    by true e = absurd (h 0 e)
-    by false e = (let z = ap one_if e in let r = none_pass u xs (λ i. h (suc i)) in omega arith)
+    by : (b : Bool) → u x ≡ b → how_many u xs ≡ 0 → one_if (u x) + how_many u xs ≡ 0
+    by true e rest = absurd (h 0 e)
+    by false e rest = (let z = ap one_if e in omega arith)
 
 one_passes : (u : Sight → Bool) (xs : List Sight) → ((i j : ℕ) → u (get_or xs i hidden) ≡ true → u (get_or xs j hidden) ≡ true → i ≡ j) → how_many u xs ≤ 1
 one_passes u [] h = omega arith
-one_passes u (x ∷ xs) h = by (u x) refl
+one_passes u (x ∷ xs) h = let rest = one_passes u xs (λ i j a b. let c = h (suc i) (suc j) a b in omega arith) in by (u x) refl rest
   where
-    by : (b : Bool) → u x ≡ b → one_if (u x) + how_many u xs ≤ 1
-    by true e = (let z = ap one_if e in let r = none_pass u xs (λ i is. let c = h 0 (suc i) e is in omega arith) in omega arith)
-    by false e = (let z = ap one_if e in let r = one_passes u xs (λ i j a b. let c = h (suc i) (suc j) a b in omega arith) in omega arith)
+    by : (b : Bool) → u x ≡ b → how_many u xs ≤ 1 → one_if (u x) + how_many u xs ≤ 1
+    by true e rest = (let z = ap one_if e in let r = none_pass u xs (λ i is. let c = h 0 (suc i) e is in absurd (omega arith)) in omega arith)
+    by false e rest = (let z = ap one_if e in omega arith)
 
 -- one of two tests
 either_many : (t u v : Sight → Bool) (xs : List Sight) → ((s : Sight) → one_if (t s) ≤ one_if (u s) + one_if (v s)) → how_many t xs ≤ how_many u xs + how_many v xs
@@ -82,17 +82,21 @@ among_many ss f (suc k) alone =
     or_many true b = omega arith
     or_many false b = omega arith
 
+or_first : (a b : Bool) → a ≡ true → (a || b) ≡ true
+or_first true b e = refl
+or_first false b e = cc
+
+or_last : (a b : Bool) → b ≡ true → (a || b) ≡ true
+or_last true b e = refl
+or_last false b e = e
+
 is_among : (f : Fid) (k n : ℕ) (s : Sight) → n < k → carries_page f (suc n) s ≡ true → among f k s ≡ true
 unfolding among
 is_among f zero n s less has = absurd (omega arith)
-is_among f (suc k) n s less has = by (carries_page f (suc k) s) refl
-  where
-    by : (b : Bool) → carries_page f (suc k) s ≡ b → (b || among f k s) ≡ true
-    by true e = refl
-    by false e = is_among f k n s (below e) has
-      where
-        below : carries_page f (suc k) s ≡ false → n < k
-        below e = elim (cases_lt n k) [ inl less ↦ less | inr past ↦ absurd (let z : n ≡ k = omega arith in let c : true ≡ false = sym has ∙ ap (λ m. carries_page f (suc m) s) z ∙ e in cc) ]
+is_among f (suc k) n s less has = elim (cases_lt n k) [
+  | inl below ↦ or_last (carries_page f (suc k) s) (among f k s) (is_among f k n s below has)
+  | inr past ↦ (let z : n ≡ k = omega arith in or_first (carries_page f (suc k) s) (among f k s) (ap (λ m. carries_page f (suc m) s) (sym z) ∙ has))
+]
 
 -- ---- tests
 and_none : (a c : Bool) → ((a && false) && c) ≡ false
@@ -148,7 +152,7 @@ module _ (p : Pack) (r : RootedBut p) where
       (f.0, shown_free p f.0 f.1)
 
   -- ---- once it lives
-  living_used : lives (sights p) disk_descriptor ≡ true → Used p
+  pub living_used : lives (sights p) disk_descriptor ≡ true → Used p
   living_used live = record { ended = r.ended; used = λ i. by i (r.used i) }
     where
       counted : (n : ℕ) → n < data_pages p.shape → (l : Option Leader) → leader (sights p) disk_descriptor ≡ l → counts p.shape (sights p) disk_descriptor (suc n) ≡ true

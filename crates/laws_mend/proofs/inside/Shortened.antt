@@ -47,7 +47,7 @@ use Rattle.laws_mend.specs.PartLaws.{DirectoryCutLeaves}
 use Rattle.laws_mend.specs.Parts.{Cleared}
 
 -- as many bytes as twice a number are whole words
-even_by : (n : ℕ) (bs : List ℕ) → length bs ≡ n + n → IsEven bs
+pub even_by : (n : ℕ) (bs : List ℕ) → length bs ≡ n + n → IsEven bs
 even_by zero [] e = none
 even_by zero (a ∷ bs) e = absurd (omega arith)
 even_by (suc n) [] e = absurd (omega arith)
