@@ -14,8 +14,10 @@ pub mod Joining
 pub mod Lacked
 pub mod LackedDescriptor
 pub mod PartsMended
+pub mod Redescribed
 pub mod Relabelling
 pub mod Releasing
+pub mod Revalued
 pub mod RootMade
 pub mod RootMoved
 pub mod Shortened

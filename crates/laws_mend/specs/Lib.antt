@@ -1,3 +1,4 @@
+pub mod ClosingLaws
 pub mod JoinLaws
 pub mod NumberLaws
 pub mod PartLaws

@@ -69,14 +69,14 @@ alike_leads f r l s t (one e) is = (l, r, e ∙ is)
 alike_leads f r l s t (led g a b k m x y) is = (k, a, (let e : leads g b m ≡ leads f r l = sym y ∙ is in let same : g ≡ f = cc in x ∙ ap (λ h. leads h a k) same))
 
 -- the links that they have to have
-alike_next : (shape : Shape) (ss tt : List Sight) → ((f : Fid) (n : ℕ) → place tt f n ≡ place ss f n) → (s : Sight) → next_link shape tt s ≡ next_link shape ss s
+pub alike_next : (shape : Shape) (ss tt : List Sight) → ((f : Fid) (n : ℕ) → place tt f n ≡ place ss f n) → (s : Sight) → next_link shape tt s ≡ next_link shape ss s
 alike_next shape ss tt same hidden = refl
 alike_next shape ss tt same free = refl
 alike_next shape ss tt same stray = refl
 alike_next shape ss tt same (leads f r l) = ap (link_to shape) (same f 1)
 alike_next shape ss tt same (holds f n bytes) = ap (λ r. cond (nat_lt (length bytes) 512) no_link (link_to shape r)) (same f (suc (suc n)))
 
-alike_previous : (shape : Shape) (ss tt : List Sight) → ((f : Fid) (n : ℕ) → place tt f n ≡ place ss f n) → (s : Sight) → previous_link shape tt s ≡ previous_link shape ss s
+pub alike_previous : (shape : Shape) (ss tt : List Sight) → ((f : Fid) (n : ℕ) → place tt f n ≡ place ss f n) → (s : Sight) → previous_link shape tt s ≡ previous_link shape ss s
 alike_previous shape ss tt same hidden = refl
 alike_previous shape ss tt same free = refl
 alike_previous shape ss tt same stray = refl
