@@ -1,5 +1,5 @@
 -- DiskDescriptor's words are written once pages and names are mended.
-use Rattle.std.specs.Prelude.{◌≡◌, ℕ, suc, ◌<◌, ◌≤◌, ◌^◌, true, Bool, List, get_or, length, reverse, Some}
+use Rattle.std.specs.Prelude.{◌≡◌, ℕ, suc, ◌<◌, ◌≤◌, true, Bool, List, get_or, length, reverse, Some}
 use Rattle.alto_words.specs.declared.fid.Fid.{Fid}
 use Rattle.alto_words.specs.Fid.{disk_descriptor, serial_of}
 use Rattle.disk_records.specs.Packs.{Pack, after}

@@ -2,7 +2,7 @@
 use Rattle.std.specs.Prelude.{◌≡◌, ◌++◌, ◌+◌, ◌<◌, ◌≤◌, ◌∷◌, [], ℕ, List, length}
 use Rattle.alto_words.specs.declared.fid.Fid.{Fid}
 use Rattle.disk_records.specs.Packs.{Pack}
-use Rattle.pack_model.specs.hints.Links.{HasLinks, dir_words}
+use Rattle.pack_model.specs.hints.Links.{dir_words}
 use Rattle.pack_model.specs.operations.Rooms.{left_over}
 use Rattle.pack_model.specs.reading.Files.{file_bytes, lives}
 use Rattle.pack_model.specs.reading.Sights.{sights}

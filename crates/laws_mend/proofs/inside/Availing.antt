@@ -1,9 +1,9 @@
 -- Available sectors, and those in use, when one sector shows something else.
-use Rattle.std.proofs.Common.{◌+◌, ◌<◌, ◌∙◌, ◌∷◌, ◌≡◌, ◌≢◌, Bool, List, None, Option, Some, [], ap, arith, eqb-true, false, get_or, inl, inr, length, not, refl, set, subst, suc, sym, true, zero, ℕ}
+use Rattle.std.proofs.Common.{◌+◌, ◌<◌, ◌∙◌, ◌∷◌, ◌≡◌, ◌≢◌, Bool, List, None, Option, Some, [], ap, arith, false, get_or, inl, inr, length, not, refl, set, subst, suc, sym, true, zero, ℕ}
 use Rattle.std.proofs.Math.ListN.{length-set}
 use Rattle.std.proofs.lemmas.Bool.{cases_eq, cases_lt}
 use Rattle.std.proofs.lemmas.List.{get_or-set_other, get_or-set_same}
-use Rattle.std.specs.Prelude.{◌&&◌, ◌==◌}
+use Rattle.std.specs.Prelude.{◌&&◌}
 use Rattle.alto_words.specs.declared.fid.Fid.{Fid}
 use Rattle.disk_records.specs.declared.shape.Shape.{Shape}
 use Rattle.pack_model.specs.reading.Files.{carries_page, numbered, place}
@@ -12,7 +12,7 @@ use Rattle.pack_model.specs.reading.Sights.Sight.{hidden, free, stray, leads, ho
 use Rattle.pack_model.specs.states.InUse.{available, counts, how_many, in_use, is_available, is_good, is_place, one_if}
 use Rattle.pack_model.specs.states.Sentences.{EachOnce}
 use Rattle.pack_laws.proofs.Keys.{is_fid-itself}
-use Rattle.pack_laws.proofs.Placing.{IsPlace, carries-holds, place_from, place_is, place_none, place_same}
+use Rattle.pack_laws.proofs.Placing.{carries-holds, place_from, place_is, place_none, place_same}
 
 -- ---- how many pass a test
 -- as many, if each passes the one test as its neighbour passes the other

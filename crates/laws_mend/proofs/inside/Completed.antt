@@ -1,24 +1,23 @@
 -- A last page that was missing is claimed.
-use Rattle.std.proofs.Common.{[], ◌*◌, ◌++◌, ◌+◌, ◌-◌, ◌/◌, ◌<◌, ◌∙◌, ◌∷◌, ◌≡◌, ◌≢◌, ◌≤◌, ◌⊎◌, Bool, List, None, Option, Some, ap, arith, cond, eq-eqb, false, get_or, inl, inr, le-leb, length, nat_le, refl, set, subst, suc, sym, take, true, zero, ℕ}
+use Rattle.std.proofs.Common.{[], ◌/◌, ◌<◌, ◌∙◌, ◌≡◌, ◌≢◌, ◌⊎◌, Bool, List, None, Option, Some, ap, arith, eq-eqb, false, get_or, inl, inr, le-leb, length, refl, set, subst, suc, sym, take, true, zero, ℕ}
 use Rattle.std.proofs.Math.ListN.{length-set}
-use Rattle.std.proofs.lemmas.Bool.{cases_eq, cases_lt}
-use Rattle.std.proofs.lemmas.List.{get_or-set_other, get_or-set_same, get_or_past}
+use Rattle.std.proofs.lemmas.Bool.{cases_eq}
+use Rattle.std.proofs.lemmas.List.{get_or-set_other, get_or-set_same}
 use Rattle.std.specs.Option.{is_some}
-use Rattle.std.specs.Prelude.{◌&&◌, ◌==◌}
+use Rattle.std.specs.Prelude.{◌&&◌}
 use Rattle.alto_words.specs.declared.fid.Fid.{Fid}
-use Rattle.alto_words.specs.Fid.{is_directory, is_fid, disk_descriptor}
+use Rattle.alto_words.specs.Fid.{is_fid, disk_descriptor}
 use Rattle.disk_records.specs.Commands.{claim_writes}
 use Rattle.disk_records.specs.Labels.{page_of, tag}
-use Rattle.disk_records.specs.Packs.{Pack, after, carried, is_free_at, is_usable, sector_at}
+use Rattle.disk_records.specs.Packs.{Pack, after, is_free_at}
 use Rattle.disk_records.specs.declared.records.Page.{Page}
 use Rattle.pack_model.specs.reading.Bytes.{bytes_of}
-use Rattle.pack_model.specs.reading.Files.{carries_page, file_bytes, joined, lives, most_pages, page, page_at, place}
+use Rattle.pack_model.specs.reading.Files.{carries_page, file_bytes, joined, lives, most_pages, page, place}
 use Rattle.pack_model.specs.reading.Sights.{Sight, page_sight, sights}
-use Rattle.pack_model.specs.reading.Sights.Sight.{free, hidden, holds, leads, stray}
+use Rattle.pack_model.specs.reading.Sights.Sight.{free, hidden, holds, stray}
 use Rattle.pack_model.specs.reading.Slots.{SlotsReachEnd}
 use Rattle.pack_model.specs.states.InUse.{counts, in_use, is_good, is_place}
-use Rattle.pack_model.specs.states.Sentences.{EachOnce, HasLastPage, IsUsed}
-use Rattle.pack_laws.proofs.Carrying.{carried_shown}
+use Rattle.pack_model.specs.states.Sentences.{EachOnce, IsUsed}
 use Rattle.pack_laws.proofs.guards.Laws.{claim_takes_at_the_label}
 use Rattle.pack_laws.proofs.Joining.{continue, joined-suc}
 use Rattle.pack_laws.proofs.Keys.{is_fid-itself, same_fid}
@@ -31,7 +30,7 @@ use Rattle.laws_mend.proofs.inside.Availing.{none_free, same_in_use}
 use Rattle.laws_mend.proofs.inside.Counted.{counts_end, page_in_use}
 use Rattle.laws_mend.proofs.inside.Filed.{bytes_by_places, lives_by_place, page_by_place}
 use Rattle.laws_mend.specs.PartLaws.{LastClaimLeaves}
-use Rattle.laws_mend.specs.Parts.{Cleared, Ended, Rooted, Used}
+use Rattle.laws_mend.specs.Parts.{Cleared, Rooted}
 
 -- ---- a page with no bytes
 -- it ends a file where the file ended

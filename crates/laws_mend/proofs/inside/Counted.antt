@@ -1,5 +1,5 @@
 -- Pages that are within their files' ends, and those that aren't in use.
-use Rattle.std.proofs.Common.{◌*◌, ◌/◌, ◌<◌, ◌∙◌, ◌≡◌, ◌≤◌, Bool, List, None, Option, Some, ap, arith, cond, false, le-leb, leb-true, length, nat_le, get_or, refl, suc, subst, sym, true, zero, ℕ}
+use Rattle.std.proofs.Common.{◌/◌, ◌<◌, ◌∙◌, ◌≡◌, ◌≤◌, Bool, List, None, Option, Some, ap, arith, cond, false, le-leb, leb-true, length, nat_le, get_or, refl, suc, subst, sym, true, zero, ℕ}
 use Rattle.std.specs.FinMap.{get}
 use Rattle.std.specs.Option.{is_some, option_map}
 use Rattle.std.specs.Prelude.{◌&&◌}

@@ -1,50 +1,48 @@
 -- The pages of DiskDescriptor are made.
-use Rattle.std.proofs.Common.{[], ◌%◌, ◌*◌, ◌+◌, ◌-◌, ◌/◌, ◌<◌, ◌∙◌, ◌≡◌, ◌≢◌, ◌≤◌, ◌⊎◌, Bool, List, None, Option, Some, ap, arith, cond, eq-eqb, false, get_or, inl, inr, le-leb, length, min, nat_le, refl, set, subst, suc, sym, take, true, zero, ℕ}
-use Rattle.std.proofs.lemmas.Bool.{cases_eq, cases_lt}
+use Rattle.std.proofs.Common.{◌*◌, ◌-◌, ◌/◌, ◌<◌, ◌∙◌, ◌≡◌, ◌≢◌, ◌⊎◌, Bool, List, None, Option, Some, ap, arith, eq-eqb, false, get_or, inl, inr, length, min, refl, subst, suc, sym, take, true, ℕ}
+use Rattle.std.proofs.lemmas.Bool.{cases_eq}
 use Rattle.std.proofs.lemmas.List.{get_or-set_other, get_or-set_same}
 use Rattle.std.specs.Option.{is_some, option_map}
-use Rattle.std.specs.Prelude.{◌&&◌, ◌==◌}
+use Rattle.std.specs.Prelude.{◌&&◌}
 use Rattle.alto_words.specs.declared.fid.Fid.{Fid}
-use Rattle.alto_words.specs.Fid.{disk_descriptor, is_directory, is_fid}
+use Rattle.alto_words.specs.Fid.{disk_descriptor, is_fid}
 use Rattle.disk_records.specs.Addresses.{descriptor_length}
 use Rattle.disk_records.specs.Commands.{claim_writes, relabel_writes}
-use Rattle.disk_records.specs.Labels.{page_of, tag}
-use Rattle.disk_records.specs.Packs.{Pack, after, carried, is_free_at, sector_at}
+use Rattle.disk_records.specs.Labels.{tag}
+use Rattle.disk_records.specs.Packs.{Pack, after, carried, sector_at}
 use Rattle.disk_records.specs.declared.records.Page.{Page}
 use Rattle.disk_records.specs.declared.records.Sector.{Sector}
 use Rattle.disk_records.specs.declared.shape.Shape.{Shape}
-use Rattle.pack_model.specs.reading.Bodies.{body_of}
 use Rattle.pack_model.specs.reading.Bytes.{bytes_of}
 use Rattle.pack_model.specs.reading.Files.{carries_page, file_bytes, leader, lives, place}
 use Rattle.pack_model.specs.reading.Leaders.{Leader}
-use Rattle.pack_model.specs.reading.Sights.{Sight, page_sight, sights}
+use Rattle.pack_model.specs.reading.Sights.{Sight, sights}
 use Rattle.pack_model.specs.reading.Sights.Sight.{free, hidden, holds, leads, stray}
 use Rattle.pack_model.specs.reading.Slots.{SlotsReachEnd}
 use Rattle.pack_model.specs.sessions.Descriptor.{data_pages}
-use Rattle.pack_model.specs.states.InUse.{counts, in_use, is_good, is_place, is_within, last_page}
-use Rattle.pack_model.specs.states.Sentences.{EachOnce, HasLastPage, IsUsed}
+use Rattle.pack_model.specs.states.InUse.{counts, in_use, is_good, is_place, is_within}
+use Rattle.pack_model.specs.states.Sentences.{HasLastPage, IsUsed}
 use Rattle.pack_laws.proofs.guards.Laws.{claim_takes_at_the_label, relabel_keeps_the_page}
-use Rattle.pack_laws.proofs.Keys.{is_fid-itself, is_fid-sym, same_fid}
+use Rattle.pack_laws.proofs.Keys.{is_fid-itself, same_fid}
 use Rattle.pack_laws.proofs.Placing.{one_page, page_of_place, place_none}
 use Rattle.pack_laws.specs.GuardLaws.{ComesToHold}
 use Rattle.laws_contents.proofs.ends.Laws.{last_page_ends_the_file}
-use Rattle.laws_contents.proofs.pages.Laws.{carried_once_is_in_place}
-use Rattle.laws_contents.specs.PageLaws.{FullBefore, IsFullPage, bytes_at}
+use Rattle.laws_contents.specs.PageLaws.{FullBefore}
 use Rattle.laws_record.proofs.Carried.{carries_within}
 use Rattle.laws_record.proofs.Copying.{place_carried}
 use Rattle.laws_record.proofs.DirReads.{not_descriptor}
 use Rattle.laws_record.proofs.Ends.{counts_none}
-use Rattle.laws_record.proofs.Reading.{get-found, get_by, read_file}
-use Rattle.laws_record.proofs.Recording.{carried_sight, carried_within, free_sight, free_within}
+use Rattle.laws_record.proofs.Reading.{get-found, read_file}
+use Rattle.laws_record.proofs.Recording.{carried_sight, carried_within, free_sight}
 use Rattle.laws_mend.proofs.inside.Alike.{counts_alike}
 use Rattle.laws_mend.proofs.inside.Availing.{same_in_use}
-use Rattle.laws_mend.proofs.inside.Completed.{claimed_aside, claimed_cleared, claimed_here, claimed_others, claimed_place}
+use Rattle.laws_mend.proofs.inside.Completed.{claimed_aside, claimed_cleared, claimed_others, claimed_place}
 use Rattle.laws_mend.proofs.inside.Counted.{carried_in_use, led_counts}
 use Rattle.laws_mend.proofs.inside.Filed.{bytes_by_places, lives_by_place, lives_place}
 use Rattle.laws_mend.proofs.inside.Freed.{rewritten_places, same_carried}
 use Rattle.laws_mend.proofs.inside.LackedDescriptor.{living_used}
-use Rattle.laws_mend.specs.PartLaws.{DescribedIsLasting, DescriptorClaimLeaves, DescriptorCountLeaves, DescriptorLeaderMakesLasting, DescriptorPageWritten, IsDescribed, IsDescribedWhole}
-use Rattle.laws_mend.specs.Parts.{Cleared, Ended, Lasting, Rooted, RootedBut, Used}
+use Rattle.laws_mend.specs.PartLaws.{DescribedIsLasting, DescriptorClaimLeaves, DescriptorCountLeaves, DescriptorLeaderMakesLasting, DescriptorPageWritten, IsDescribed}
+use Rattle.laws_mend.specs.Parts.{Cleared, Lasting, Rooted, RootedBut}
 
 -- ---- pages that count
 -- of DiskDescriptor only whether it lives counts

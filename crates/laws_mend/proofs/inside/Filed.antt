@@ -1,8 +1,8 @@
 -- Files by the places of their pages.
-use Rattle.std.proofs.Common.{◌∙◌, ◌≡◌, ◌≢◌, List, None, Option, Some, ap, get_or, refl, suc, sym, ℕ}
+use Rattle.std.proofs.Common.{◌∙◌, ◌≡◌, List, None, Option, Some, ap, get_or, refl, suc, sym, ℕ}
 use Rattle.std.specs.Option.{is_some}
 use Rattle.alto_words.specs.declared.fid.Fid.{Fid}
-use Rattle.pack_model.specs.reading.Files.{file_bytes, leader, lives, page, place}
+use Rattle.pack_model.specs.reading.Files.{file_bytes, lives, page, place}
 use Rattle.pack_model.specs.reading.Sights.{Sight}
 use Rattle.pack_model.specs.reading.Sights.Sight.{hidden, holds}
 use Rattle.pack_laws.proofs.Placing.{leader_of_place, no_leader, no_page, page_of_place}

@@ -1,22 +1,19 @@
 -- How many sectors the record writes of guarded commands free.
-use Rattle.std.proofs.Common.{◌+◌, ◌<◌, ◌∙◌, ◌≡◌, ◌≢◌, Bool, List, None, Option, Some, ap, arith, eqb-true, false, get_or, inl, inr, length, not, refl, set, subst, suc, sym, true, zero, ℕ}
+use Rattle.std.proofs.Common.{◌+◌, ◌<◌, ◌∙◌, ◌≡◌, Bool, List, None, Option, Some, ap, arith, eqb-true, false, get_or, inl, inr, length, not, refl, set, subst, suc, sym, true, zero, ℕ}
 use Rattle.std.proofs.Math.ListN.{length-set}
 use Rattle.std.proofs.lemmas.Bool.{cases_eq, cases_lt}
 use Rattle.std.proofs.lemmas.List.{get_or-set_other, get_or-set_same}
-use Rattle.std.specs.Prelude.{◌&&◌, ◌==◌, cond}
+use Rattle.std.specs.Prelude.{◌&&◌, ◌==◌}
 use Rattle.alto_words.specs.declared.fid.Fid.{Fid}
 use Rattle.alto_words.specs.Fid.{disk_descriptor}
 use Rattle.disk_records.specs.Commands.{ones, relabel_writes, release_writes}
-use Rattle.disk_records.specs.Labels.{is_free, page_of, tag}
-use Rattle.disk_records.specs.Packs.{Pack, after, carried, is_free_at, is_usable, sector_at}
+use Rattle.disk_records.specs.Labels.{tag}
+use Rattle.disk_records.specs.Packs.{Pack, after, carried, is_usable, sector_at}
 use Rattle.disk_records.specs.declared.records.Page.{Page}
-use Rattle.pack_model.specs.reading.Bytes.{bytes_of}
 use Rattle.pack_model.specs.reading.Files.{carries_page, place}
-use Rattle.pack_model.specs.reading.Model.{good_one}
-use Rattle.pack_model.specs.reading.Sights.{Sight, page_sight, sights}
-use Rattle.pack_model.specs.reading.Sights.Sight.{free, hidden, holds, leads, stray}
+use Rattle.pack_model.specs.reading.Sights.{page_sight, sights}
+use Rattle.pack_model.specs.reading.Sights.Sight.{free, hidden, stray}
 use Rattle.pack_model.specs.states.InUse.{available, counts, free_sector_count, in_use, is_available, is_free_sight, is_good, is_place, one_if}
-use Rattle.pack_model.specs.states.Sentences.{EachOnce}
 use Rattle.pack_laws.proofs.Carrying.{carried_shown}
 use Rattle.pack_laws.proofs.guards.Laws.{relabel_keeps_the_page}
 use Rattle.pack_laws.proofs.Guarding.{carried_parts, ones_free, usable_within}

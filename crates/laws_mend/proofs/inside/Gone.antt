@@ -1,20 +1,18 @@
 -- What releases leave of the parts of a mended pack.
-use Rattle.std.proofs.Common.{◌∙◌, ◌<◌, ◌≡◌, ◌≢◌, ◌⊎◌, Bool, List, None, Option, Some, ap, arith, cond, false, get_or, inl, inr, leb-false, length, nat_le, refl, set, subst, suc, sym, take, true, zero, ℕ, ◌/◌}
-use Rattle.std.proofs.Math.ListN.{length-set}
+use Rattle.std.proofs.Common.{◌∙◌, ◌<◌, ◌≡◌, ◌≢◌, ◌⊎◌, Bool, None, Option, Some, ap, arith, cond, false, get_or, inl, inr, leb-false, length, refl, set, subst, suc, sym, take, true, zero, ℕ, ◌/◌}
 use Rattle.std.proofs.lemmas.Bool.{cases_eq, cases_lt}
 use Rattle.std.proofs.lemmas.List.{get_or-set_other, get_or-set_same}
 use Rattle.std.specs.Option.{is_some}
 use Rattle.alto_words.specs.declared.fid.Fid.{Fid}
-use Rattle.alto_words.specs.Fid.{disk_descriptor, is_directory, is_fid}
+use Rattle.alto_words.specs.Fid.{disk_descriptor, is_fid}
 use Rattle.disk_records.specs.Commands.{ones, release_writes}
 use Rattle.disk_records.specs.Labels.{is_free, page_of, tag}
 use Rattle.disk_records.specs.Packs.{Pack, after, carried, is_usable, sector_at}
 use Rattle.disk_records.specs.declared.records.Page.{Page}
 use Rattle.disk_records.specs.declared.records.Sector.{Sector}
 use Rattle.pack_model.specs.reading.Bytes.{bytes_of}
-use Rattle.pack_model.specs.reading.Files.{carries_page, file_bytes, leader, lives, place}
-use Rattle.pack_model.specs.reading.Leaders.{Leader}
-use Rattle.pack_model.specs.reading.Sights.{Sight, page_sight, sights}
+use Rattle.pack_model.specs.reading.Files.{carries_page, file_bytes, lives, place}
+use Rattle.pack_model.specs.reading.Sights.{page_sight, sights}
 use Rattle.pack_model.specs.reading.Sights.Sight.{free, hidden, holds, stray}
 use Rattle.pack_model.specs.reading.Slots.{SlotsReachEnd}
 use Rattle.pack_model.specs.states.InUse.{counts, in_use, is_good, is_place}
@@ -29,7 +27,7 @@ use Rattle.laws_record.proofs.Carried.{carried_shows}
 use Rattle.laws_record.proofs.Copying.{place_carried}
 use Rattle.laws_record.proofs.DirReads.{not_descriptor}
 use Rattle.laws_record.proofs.Framing.{counted_bytes, release_frame}
-use Rattle.laws_record.proofs.Recording.{carried_sight, carried_within, number_below}
+use Rattle.laws_record.proofs.Recording.{carried_sight, number_below}
 use Rattle.laws_record.proofs.Unread.{no_page_shown, unread}
 use Rattle.laws_record.proofs.Unused.{unused_release}
 use Rattle.laws_record.specs.QuietLaws.{with_label}
@@ -39,7 +37,7 @@ use Rattle.laws_mend.proofs.inside.Counted.{counts_end, counts_stay, led_counts,
 use Rattle.laws_mend.proofs.inside.Filed.{bytes_by_places, lives_by_place}
 use Rattle.laws_mend.proofs.inside.Releasing.{free_twice, here_once, here_twice, none_of_free, others_once, others_twice, shown_once, shown_twice}
 use Rattle.laws_mend.specs.PartLaws.{CopyReleaseLeaves, StrayReleaseLeaves, UnusedReleaseLeaves}
-use Rattle.laws_mend.specs.Parts.{Cleared, Ended, SameFiles}
+use Rattle.laws_mend.specs.Parts.{Ended, SameFiles}
 
 -- what is something is the same
 some_is : {X : Type 0} {x y : X} → Some x ≡ Some y → x ≡ y

@@ -1,12 +1,11 @@
 -- Sectors for pages that DiskDescriptor lacks.
-use Rattle.std.proofs.Common.{[], ◌+◌, ◌/◌, ◌<◌, ◌∙◌, ◌∷◌, ◌≡◌, ◌≢◌, ◌≤◌, ◌⊎◌, Bool, List, None, Option, Some, ap, arith, eq-eqb, false, get_or, inl, inr, le-leb, length, not, refl, suc, sym, true, zero, ℕ}
+use Rattle.std.proofs.Common.{[], ◌+◌, ◌<◌, ◌∙◌, ◌∷◌, ◌≡◌, ◌≤◌, ◌⊎◌, Bool, List, None, Option, Some, ap, arith, eq-eqb, false, get_or, inl, inr, le-leb, not, refl, suc, sym, true, zero, ℕ}
 use Rattle.std.proofs.lemmas.Bool.{cases_lt}
 use Rattle.std.specs.Option.{is_some}
 use Rattle.std.specs.Prelude.{◌&&◌, ◌||◌, cond}
 use Rattle.alto_words.specs.declared.fid.Fid.{Fid}
 use Rattle.alto_words.specs.Fid.{disk_descriptor, sys_dir}
 use Rattle.disk_records.specs.Packs.{Pack, carried, is_free_at}
-use Rattle.disk_records.specs.declared.records.Page.{Page}
 use Rattle.pack_model.specs.reading.Bodies.{body_of}
 use Rattle.pack_model.specs.reading.Files.{carries_page, file_bytes, leader, lives, numbered, page, place}
 use Rattle.pack_model.specs.reading.Leaders.{Leader}
@@ -17,7 +16,7 @@ use Rattle.pack_model.specs.scavenger.Needed.{descriptor_lacks, missing, needed,
 use Rattle.pack_model.specs.scavenger.Reports.{freed_sectors}
 use Rattle.pack_model.specs.scavenger.Scavenging.{Scavengeable}
 use Rattle.pack_model.specs.sessions.Descriptor.{data_pages}
-use Rattle.pack_model.specs.states.InUse.{available, counts, free_sector_count, how_many, in_use, is_available, is_free_sight, is_good, is_place, is_within, last_page, one_if}
+use Rattle.pack_model.specs.states.InUse.{counts, how_many, in_use, is_available, is_free_sight, is_good, is_place, is_within, last_page, one_if}
 use Rattle.pack_model.specs.states.Sentences.{EachOnce, IsUsed}
 use Rattle.pack_laws.proofs.Placing.{no_page}
 use Rattle.laws_contents.proofs.pages.Laws.{carried_once_is_in_place}

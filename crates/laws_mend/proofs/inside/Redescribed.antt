@@ -1,27 +1,27 @@
 -- DiskDescriptor's words are written on a pack whose names are mended.
-use Rattle.std.proofs.Common.{[], ◌%◌, ◌*◌, ◌++◌, ◌+◌, ◌-◌, ◌/◌, ◌<◌, ◌∙◌, ◌∷◌, ◌≡◌, ◌≢◌, ◌≤◌, ◌⊎◌, Bool, List, None, Option, Some, ap, arith, cond, drop, false, get_or, inl, inr, length, length-take, map, min, not, refl, set, subst, suc, sym, take, true, zero, ℕ, get_or-drop, le-leb, nat_le}
-use Rattle.std.proofs.lemmas.Bool.{cases_eq, cases_lt}
+use Rattle.std.proofs.Common.{[], ◌%◌, ◌*◌, ◌++◌, ◌+◌, ◌-◌, ◌/◌, ◌<◌, ◌∙◌, ◌∷◌, ◌≡◌, ◌≢◌, ◌≤◌, ◌⊎◌, Bool, List, None, Option, Some, ap, arith, cond, drop, false, get_or, inl, inr, length, length-take, map, not, refl, subst, suc, sym, take, true, zero, ℕ, get_or-drop, le-leb, nat_le}
+use Rattle.std.proofs.lemmas.Bool.{cases_lt}
 use Rattle.std.proofs.lemmas.List.{ext_get_or, get_or-take, length-append, length-replicate, reverse-append, take_all, get_or_past}
 use Rattle.std.proofs.lemmas.List.Elements.{All-weaker}
 use Rattle.std.specs.Option.{is_some}
 use Rattle.std.specs.Prelude.{◌&&◌, All, replicate, reverse}
 use Rattle.alto_words.specs.declared.fid.Fid.{Fid}
-use Rattle.alto_words.specs.Fid.{disk_descriptor, is_directory, is_fid, serial_of, sys_dir}
+use Rattle.alto_words.specs.Fid.{disk_descriptor, is_fid, sys_dir}
 use Rattle.disk_records.proofs.Growing.{after-append}
-use Rattle.disk_records.specs.Addresses.{cylinders_of, descriptor_length, disks_of, table_words}
+use Rattle.disk_records.specs.Addresses.{descriptor_length, table_words}
 use Rattle.disk_records.specs.Commands.{value_writes}
 use Rattle.disk_records.specs.Packs.{Pack, after, carried, sector_at}
 use Rattle.disk_records.specs.Words.{double, word}
 use Rattle.disk_records.specs.declared.records.Page.{Page}
 use Rattle.disk_records.specs.declared.records.Sector.{Sector}
 use Rattle.disk_records.specs.declared.shape.Shape.{Shape}
-use Rattle.pack_model.specs.hints.Links.{EntryAddresses, HasLinks, IsTrueAddress, LinksTrue, PageLinks, dir_words, kept_slots, next_link, previous_link}
-use Rattle.pack_model.specs.hints.Tables.{HintsTrue, WordsTrue, described_free, free_table, table_in, true_table, words_of_bits}
+use Rattle.pack_model.specs.hints.Links.{EntryAddresses, HasLinks, IsTrueAddress, PageLinks, dir_words, kept_slots, next_link, previous_link}
+use Rattle.pack_model.specs.hints.Tables.{HintsTrue, true_table, words_of_bits}
 use Rattle.pack_model.specs.operations.Commands.{values_writes}
-use Rattle.pack_model.specs.operations.PageWords.{filled, halves}
+use Rattle.pack_model.specs.operations.PageWords.{filled}
 use Rattle.pack_model.specs.reading.Bodies.{described}
-use Rattle.pack_model.specs.reading.Bytes.{bytes_of, words_of}
-use Rattle.pack_model.specs.reading.Files.{carries_page, file_bytes, leader, lives, numbered, place}
+use Rattle.pack_model.specs.reading.Bytes.{words_of}
+use Rattle.pack_model.specs.reading.Files.{carries_page, file_bytes, lives, numbered, place}
 use Rattle.pack_model.specs.reading.Leaders.{Leader}
 use Rattle.pack_model.specs.reading.Model.{Model, IsNamed, descriptor_words, dir_items, good_sectors, is_named, last_serial, read_as, read_sights}
 use Rattle.pack_model.specs.reading.Namings.{IsTidy, tidied}
@@ -30,15 +30,14 @@ use Rattle.pack_model.specs.reading.Sights.Sight.{free, hidden, holds, leads, st
 use Rattle.pack_model.specs.reading.Slots.{SlotsReachEnd, Item}
 use Rattle.pack_model.specs.reading.Slots.Item.{entry, space}
 use Rattle.pack_model.specs.reading.SlotWords.{SlotAt, slots_at}
-use Rattle.pack_model.specs.scavenger.Reports.{NamesMended}
-use Rattle.pack_model.specs.sessions.Descriptor.{closed_values, data_pages, descriptor_text, descriptor_value}
+use Rattle.pack_model.specs.sessions.Descriptor.{closed_values, descriptor_text, descriptor_value}
 use Rattle.pack_model.specs.states.InUse.{counts, free_sector_count, how_many, in_use, is_available, is_free_sight, is_good, is_place, one_if}
-use Rattle.pack_model.specs.states.Sentences.{EachOnce, HasLastPage, HasReadableName, IsUsed, IsWholeBySentences, PagesWhole, WholeBySentences}
-use Rattle.pack_model.specs.states.Sound.{Clean, Sound, mark_clean, mark_of}
-use Rattle.pack_model.specs.states.Whole.{SaysShape, Tidy, TidySights, Whole}
+use Rattle.pack_model.specs.states.Sentences.{IsUsed, PagesWhole, WholeBySentences}
+use Rattle.pack_model.specs.states.Sound.{Clean, Sound, mark_clean}
+use Rattle.pack_model.specs.states.Whole.{SaysShape}
 use Rattle.pack_laws.proofs.Bytes.{length-words_of}
 use Rattle.pack_laws.proofs.Guarding.{carried_parts, here_written, other_kept, usable_within}
-use Rattle.pack_laws.proofs.Keys.{is_fid-itself, same_fid}
+use Rattle.pack_laws.proofs.Keys.{is_fid-itself}
 use Rattle.pack_laws.proofs.Placing.{page_of_place, place_none}
 use Rattle.laws_contents.proofs.words.Laws.{each_word_has_its_page, word_stands_in_its_page}
 use Rattle.laws_record.proofs.Copying.{place_carried}

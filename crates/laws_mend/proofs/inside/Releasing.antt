@@ -11,7 +11,7 @@ use Rattle.disk_records.specs.declared.records.Page.{Page}
 use Rattle.disk_records.specs.declared.records.Sector.{Sector}
 use Rattle.pack_model.specs.reading.Files.{place}
 use Rattle.pack_model.specs.reading.Model.{read_as}
-use Rattle.pack_model.specs.reading.Sights.{sight, sights, tag_sight}
+use Rattle.pack_model.specs.reading.Sights.{sight, sights}
 use Rattle.pack_model.specs.reading.Sights.Sight.{free, hidden}
 use Rattle.pack_model.specs.scavenger.Scavenging.{Keeps, Unmarked}
 use Rattle.pack_model.specs.showing.View.{view}

@@ -1,13 +1,12 @@
 -- Data pages of DiskDescriptor get other values.
-use Rattle.std.proofs.Common.{[], ◌*◌, ◌++◌, ◌+◌, ◌/◌, ◌<◌, ◌∙◌, ◌∷◌, ◌≡◌, ◌≢◌, ◌≤◌, ◌⊎◌, Bool, List, None, Option, Some, ap, arith, cond, false, get_or, inl, inr, length, length-take, min, nat_lt, refl, set, subst, suc, sym, take, true, zero, ℕ}
+use Rattle.std.proofs.Common.{◌++◌, ◌+◌, ◌∙◌, ◌≡◌, Bool, List, None, Option, Some, ap, arith, cond, false, get_or, inl, inr, length, length-take, nat_lt, refl, set, subst, suc, sym, take, true, zero, ℕ}
 use Rattle.std.proofs.Math.ListN.{length-set}
 use Rattle.std.proofs.lemmas.Bool.{cases_eq}
 use Rattle.std.proofs.lemmas.List.{get_or-set_other, get_or-set_same, length-append}
-use Rattle.std.specs.Option.{is_some}
 use Rattle.alto_words.specs.declared.fid.Fid.{Fid}
-use Rattle.alto_words.specs.Fid.{disk_descriptor, is_fid}
+use Rattle.alto_words.specs.Fid.{disk_descriptor}
 use Rattle.disk_records.specs.Labels.{tag}
-use Rattle.disk_records.specs.Packs.{Pack, after, carried, is_usable, sector_at}
+use Rattle.disk_records.specs.Packs.{Pack, carried, sector_at}
 use Rattle.disk_records.specs.declared.records.Page.{Page}
 use Rattle.disk_records.specs.declared.records.Sector.{Sector}
 use Rattle.disk_records.specs.declared.shape.Shape.{Shape}
@@ -16,13 +15,12 @@ use Rattle.pack_model.specs.reading.Bytes.{bytes_of}
 use Rattle.pack_model.specs.reading.Files.{carries_page, file_bytes, joined, most_pages, page, place}
 use Rattle.pack_model.specs.reading.Leaders.{Leader}
 use Rattle.pack_model.specs.reading.Sights.{Sight, sights}
-use Rattle.pack_model.specs.reading.Sights.Sight.{free, hidden, holds, leads, stray}
+use Rattle.pack_model.specs.reading.Sights.Sight.{free, hidden, holds, leads}
 use Rattle.pack_model.specs.states.InUse.{in_use, is_free_sight, is_good}
 use Rattle.pack_laws.proofs.Bytes.{length-bytes_of}
 use Rattle.pack_laws.proofs.guards.Laws.{value_writes_keep_the_page}
-use Rattle.pack_laws.proofs.Guarding.{carried_parts, here_written, other_kept, usable_within, value_page}
+use Rattle.pack_laws.proofs.Guarding.{value_page}
 use Rattle.pack_laws.proofs.Joining.{continue, joined-suc}
-use Rattle.pack_laws.proofs.Keys.{is_fid-itself}
 use Rattle.pack_laws.proofs.Placing.{no_page, page_of_place}
 use Rattle.pack_laws.specs.GuardLaws.{ComesToHold}
 use Rattle.laws_record.proofs.Recording.{carried_sight, carried_within, value_sights}

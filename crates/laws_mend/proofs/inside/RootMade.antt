@@ -1,5 +1,5 @@
 -- SysDir is made: a data page of one free slot, and then its leader page in sector 1.
-use Rattle.std.proofs.Common.{[], ◌%◌, ◌*◌, ◌+◌, ◌-◌, ◌/◌, ◌<◌, ◌∙◌, ◌∷◌, ◌≡◌, ◌≢◌, ◌≤◌, ◌⊎◌, Bool, List, None, Option, Some, ap, arith, cond, drop, eq-eqb, false, get_or, inl, inr, le-leb, length, length-take, min, nat_le, refl, set, subst, suc, sym, take, true, zero, ℕ}
+use Rattle.std.proofs.Common.{[], ◌%◌, ◌*◌, ◌/◌, ◌∙◌, ◌∷◌, ◌≡◌, ◌≢◌, ◌≤◌, ◌⊎◌, Bool, List, None, Option, Some, ap, arith, cond, drop, eq-eqb, false, get_or, inl, inr, le-leb, length, length-take, nat_le, refl, subst, suc, sym, take, true, zero, ℕ}
 use Rattle.std.proofs.lemmas.Bool.{cases_eq}
 use Rattle.std.proofs.lemmas.List.{take_all}
 use Rattle.std.specs.Option.{is_some}
@@ -13,16 +13,15 @@ use Rattle.disk_records.specs.Words.{word}
 use Rattle.disk_records.specs.declared.records.Page.{Page}
 use Rattle.disk_records.specs.declared.records.Sector.{Sector}
 use Rattle.pack_model.specs.hints.Links.{dir_words}
-use Rattle.pack_model.specs.reading.Bodies.{body_length, body_of}
-use Rattle.pack_model.specs.reading.Bytes.{bytes_of, words_of}
-use Rattle.pack_model.specs.reading.Files.{carries_page, file_bytes, leader, lives, place}
+use Rattle.pack_model.specs.reading.Bytes.{bytes_of}
+use Rattle.pack_model.specs.reading.Files.{file_bytes, leader, lives, place}
 use Rattle.pack_model.specs.reading.Leaders.{Leader, is_readable, leader_of, leader_words}
-use Rattle.pack_model.specs.reading.Sights.{Sight, page_sight, sights}
-use Rattle.pack_model.specs.reading.Sights.Sight.{free, hidden, holds, leads, stray}
-use Rattle.pack_model.specs.reading.Slots.{Item, SlotsReachEnd, all_words, and_then, first_length, is_entry, slot_at, slot_fid, slot_name, slot_of, slots, slots_after}
+use Rattle.pack_model.specs.reading.Sights.{page_sight, sights}
+use Rattle.pack_model.specs.reading.Sights.Sight.{free, hidden}
+use Rattle.pack_model.specs.reading.Slots.{SlotsReachEnd, all_words, and_then, first_length, is_entry, slot_at, slot_fid, slot_name, slot_of, slots, slots_after}
 use Rattle.pack_model.specs.reading.Slots.Item.{entry, space}
-use Rattle.pack_model.specs.states.InUse.{counts, in_use, is_good, is_place, is_within, last_page}
-use Rattle.pack_model.specs.states.Sentences.{EachOnce, IsUsed}
+use Rattle.pack_model.specs.states.InUse.{counts, in_use, is_good, is_place, is_within}
+use Rattle.pack_model.specs.states.Sentences.{IsUsed}
 use Rattle.pack_laws.proofs.Bytes.{length-bytes_of, length-words_of}
 use Rattle.pack_laws.proofs.guards.Laws.{claim_takes_at_the_label}
 use Rattle.pack_laws.proofs.Keys.{is_fid-itself, same_fid}
@@ -40,7 +39,7 @@ use Rattle.laws_record.proofs.Recording.{carried_sight, free_sight}
 use Rattle.laws_record.proofs.slots.Laws.{one_by_one, reads_to_the_end}
 use Rattle.laws_mend.proofs.inside.Alike.{counts_alike}
 use Rattle.laws_mend.proofs.inside.Completed.{claimed_aside, claimed_cleared, claimed_here, claimed_others, claimed_place}
-use Rattle.laws_mend.proofs.inside.Counted.{carried_in_use, led_counts}
+use Rattle.laws_mend.proofs.inside.Counted.{carried_in_use}
 use Rattle.laws_mend.proofs.inside.Describing.{use_alike}
 use Rattle.laws_mend.proofs.inside.Filed.{bytes_by_places, lives_by_place, lives_place}
 use Rattle.laws_mend.proofs.inside.Shortened.{even_by}

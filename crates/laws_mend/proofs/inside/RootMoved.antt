@@ -1,5 +1,5 @@
 -- SysDir's leader page is moved to sector 1.
-use Rattle.std.proofs.Common.{◌<◌, ◌∙◌, ◌≡◌, ◌≢◌, ◌⊎◌, Bool, List, None, Some, ap, arith, cond, eq-eqb, false, get_or, inl, inr, length, refl, set, subst, suc, sym, true, zero, ℕ}
+use Rattle.std.proofs.Common.{◌<◌, ◌∙◌, ◌≡◌, ◌≢◌, ◌⊎◌, Bool, List, Some, ap, arith, false, get_or, inl, inr, length, refl, set, subst, suc, sym, true, ℕ}
 use Rattle.std.proofs.Math.ListN.{length-set}
 use Rattle.std.proofs.lemmas.Bool.{cases_eq}
 use Rattle.std.proofs.lemmas.List.{get_or-set_other, get_or-set_same, get_or_default}
@@ -13,7 +13,7 @@ use Rattle.disk_records.specs.Packs.{Pack, after, carried, is_free_at, sector_at
 use Rattle.disk_records.specs.declared.records.Page.{Page}
 use Rattle.pack_model.specs.reading.Files.{carries_page, file_bytes, lives, place}
 use Rattle.pack_model.specs.reading.Sights.{Sight, page_sight, sights}
-use Rattle.pack_model.specs.reading.Sights.Sight.{free, hidden, holds, leads, stray}
+use Rattle.pack_model.specs.reading.Sights.Sight.{free, hidden, leads}
 use Rattle.pack_model.specs.reading.Slots.{SlotsReachEnd}
 use Rattle.pack_model.specs.states.InUse.{counts, in_use, is_good, is_place}
 use Rattle.pack_model.specs.states.Sentences.{EachOnce, IsUsed}
@@ -23,7 +23,7 @@ use Rattle.pack_laws.proofs.Keys.{same_fid}
 use Rattle.pack_laws.proofs.Placing.{leader_of_place, page_of_place, place_from, place_same}
 use Rattle.pack_laws.specs.GuardLaws.{ComesToHold}
 use Rattle.laws_record.proofs.Copying.{place_carried}
-use Rattle.laws_record.proofs.Recording.{carried_sight, carried_within, free_sight, free_within}
+use Rattle.laws_record.proofs.Recording.{carried_sight, free_sight, free_within}
 use Rattle.laws_mend.proofs.inside.Alike.{counts_alike}
 use Rattle.laws_mend.proofs.inside.Availing.{none_free, same_in_use}
 use Rattle.laws_mend.proofs.inside.Counted.{led_counts}

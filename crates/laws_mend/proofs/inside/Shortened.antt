@@ -1,5 +1,5 @@
 -- A directory that is cut at the end of its slots.
-use Rattle.std.proofs.Common.{[], ◌%◌, ◌*◌, ◌+◌, ◌/◌, ◌<◌, ◌∙◌, ◌∷◌, ◌≡◌, ◌≢◌, ◌≤◌, ◌⊎◌, Bool, List, None, Option, Some, ap, arith, cond, false, get_or, inl, inr, length, length-take, min, refl, set, subst, suc, sym, take, true, zero, ℕ}
+use Rattle.std.proofs.Common.{[], ◌%◌, ◌*◌, ◌+◌, ◌/◌, ◌<◌, ◌∙◌, ◌∷◌, ◌≡◌, ◌≢◌, ◌≤◌, List, None, Option, Some, ap, arith, cond, false, get_or, inl, inr, length, length-take, min, refl, set, suc, sym, take, true, zero, ℕ}
 use Rattle.std.proofs.lemmas.Bool.{cases_eq, cases_lt}
 use Rattle.std.proofs.lemmas.List.{get_or-set_other, get_or-set_same}
 use Rattle.std.specs.FinMap.{get}
@@ -14,14 +14,13 @@ use Rattle.disk_records.specs.declared.records.Sector.{Sector}
 use Rattle.pack_model.specs.hints.Links.{dir_words}
 use Rattle.pack_model.specs.reading.Bodies.{File, body_of, described}
 use Rattle.pack_model.specs.reading.Bodies.Body.{data_of, items_of}
-use Rattle.pack_model.specs.reading.Bytes.{bytes_of, words_of}
+use Rattle.pack_model.specs.reading.Bytes.{bytes_of}
 use Rattle.pack_model.specs.reading.Files.{carries_page, file_bytes, leader, lives, place}
 use Rattle.pack_model.specs.reading.Leaders.{Leader}
 use Rattle.pack_model.specs.reading.Sights.{page_sight, sights}
 use Rattle.pack_model.specs.reading.Sights.Sight.{hidden, holds, stray}
 use Rattle.pack_model.specs.reading.Slots.{IsEven, SlotsReachEnd, all_words, slots}
 use Rattle.pack_model.specs.reading.Slots.IsEven.{none, two}
-use Rattle.pack_model.specs.states.Sentences.{EachOnce}
 use Rattle.pack_laws.proofs.Bytes.{length-words_of}
 use Rattle.pack_laws.proofs.guards.Laws.{relabel_keeps_the_page}
 use Rattle.pack_laws.proofs.Guarding.{carried_parts}
@@ -40,7 +39,7 @@ use Rattle.laws_record.proofs.Systemic.{described_get}
 use Rattle.laws_record.specs.QuietLaws.{with_label}
 use Rattle.laws_contents.proofs.ends.Laws.{each_file_has_its_end, last_page_ends_the_file}
 use Rattle.laws_contents.specs.EndLaws.{HasItsEnd}
-use Rattle.laws_contents.specs.PageLaws.{FullBefore, IsFullPage, bytes_at}
+use Rattle.laws_contents.specs.PageLaws.{FullBefore, bytes_at}
 use Rattle.laws_mend.proofs.inside.Filed.{bytes_by_places, lives_by_place}
 use Rattle.laws_mend.proofs.inside.Freed.{rewritten_places, same_carried}
 use Rattle.laws_mend.specs.PartLaws.{DirectoryCutLeaves}

@@ -1,5 +1,5 @@
 -- The slots of directories while names are mended.
-use Rattle.std.proofs.Common.{[], ◌++◌, ◌+◌, ◌-◌, ◌<◌, ◌∙◌, ◌∷◌, ◌≡◌, ◌≤◌, Bool, List, ap, arith, drop, false, inl, inr, length, min, refl, subst, suc, sym, true, zero, ℕ}
+use Rattle.std.proofs.Common.{[], ◌++◌, ◌+◌, ◌-◌, ◌<◌, ◌∙◌, ◌∷◌, ◌≡◌, Bool, List, ap, arith, false, inl, inr, length, refl, subst, suc, sym, true, zero, ℕ}
 use Rattle.std.proofs.lemmas.Bool.{cases_lt}
 use Rattle.std.specs.Option.{is_some}
 use Rattle.alto_words.specs.declared.fid.Fid.{Fid}
@@ -9,10 +9,8 @@ use Rattle.disk_records.specs.Words.{word}
 use Rattle.pack_model.specs.hints.Links.{dir_words}
 use Rattle.pack_model.specs.operations.Rooms.{left_over}
 use Rattle.pack_model.specs.reading.Bytes.{put_at, words_of}
-use Rattle.pack_model.specs.reading.Files.{file_bytes}
-use Rattle.pack_model.specs.reading.Sights.{sights}
-use Rattle.pack_model.specs.reading.Slots.{Item, all_words, entry_length, slots}
-use Rattle.pack_model.specs.reading.Slots.Item.{entry, space}
+use Rattle.pack_model.specs.reading.Slots.{Item, all_words, slots}
+use Rattle.pack_model.specs.reading.Slots.Item.{entry}
 use Rattle.pack_laws.proofs.Bytes.{length-put_at}
 use Rattle.pack_laws.proofs.Keys.{same_fid}
 use Rattle.laws_record.proofs.Addressing.{IsLoose, LooseIn, loose_among, slots_kept}
