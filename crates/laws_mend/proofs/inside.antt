@@ -6,6 +6,7 @@ pub mod Counted
 pub mod Counting
 pub mod Describing
 pub mod Filed
+pub mod FirstSector
 pub mod FreeOnes
 pub mod Freed
 pub mod Freeing
@@ -18,6 +19,7 @@ pub mod Redescribed
 pub mod Relabelling
 pub mod Releasing
 pub mod Revalued
+pub mod Reworded
 pub mod RootMade
 pub mod RootMoved
 pub mod Shortened

@@ -1,5 +1,5 @@
 -- Free and available sectors while the pages of a pack are mended.
-use Rattle.std.specs.Prelude.{◌≡◌, ◌≢◌, ℕ, suc, ◌+◌, ◌*◌, ◌/◌, ◌<◌, ◌≤◌, true, false, List, length, Some, None}
+use Rattle.std.specs.Prelude.{◌≡◌, ◌≢◌, ◌⊎◌, ℕ, suc, ◌+◌, ◌*◌, ◌/◌, ◌<◌, ◌≤◌, true, false, List, length, Some, None}
 use Rattle.alto_words.specs.declared.fid.Fid.{Fid}
 use Rattle.alto_words.specs.Fid.{is_directory, is_fid, sys_dir, disk_descriptor}
 use Rattle.disk_records.specs.declared.records.Page.{Page}
@@ -48,6 +48,10 @@ LackingPageIsFree = (p : Pack) (f : Fid) → Scavengeable p → Rooted p → liv
 -- so it has for a page of DiskDescriptor that is missing, the leader page or a data page of its format, also while DiskDescriptor is made
 abbrev pub LackingDescriptorPageIsFree : Type 0
 LackingDescriptorPageIsFree = (p : Pack) (n : ℕ) → Scavengeable p → RootedBut p → n ≤ data_pages p.shape → place (sights p) disk_descriptor n ≡ None → (at : ℕ) × (at ≢ 1) × (is_free_at p at ≡ true)
+
+-- sector 1 of such a pack is the place of SysDir's leader page, or it is free
+abbrev pub FirstSectorIsFree : Type 0
+FirstSectorIsFree = (p : Pack) → Scavengeable p → Used p → (place (sights p) sys_dir 0 ≡ Some 1) ⊎ (is_free_at p 1 ≡ true)
 
 -- two sectors are needed where SysDir has no leader page
 abbrev pub RootNeedsTwo : Type 0

@@ -1,6 +1,6 @@
 //! Free and available sectors while the pages of a pack are mended.
 
-ghost use Rattle.laws_mend.specs.NumberLaws.{CopyReleaseFrees, DescriptorReleaseFrees, DirectoryCutFrees, FreedAndFree, FreesJoin, LackingDescriptorPageIsFree, LackingPageIsFree, NeededIsFree, RootNeedsTwo, StrayReleaseFrees, TwoNeededAreFree, UnreadReleaseFrees, UnusedReleaseFrees, UsedAvailableIsFree};
+ghost use Rattle.laws_mend.specs.NumberLaws.{CopyReleaseFrees, DescriptorReleaseFrees, DirectoryCutFrees, FirstSectorIsFree, FreedAndFree, FreesJoin, LackingDescriptorPageIsFree, LackingPageIsFree, NeededIsFree, RootNeedsTwo, StrayReleaseFrees, TwoNeededAreFree, UnreadReleaseFrees, UnusedReleaseFrees, UsedAvailableIsFree};
 
 /// Sectors that become free one after another, as many being available as before, become free together.
 pub fn frees_join()
@@ -38,6 +38,12 @@ pub fn lacking_page_is_free()
 /// data pages stand without a leader page.
 pub fn lacking_descriptor_page_is_free()
     ensures { LackingDescriptorPageIsFree }
+{}
+
+/// Sector 1 of a pack that can be scavenged, each good sector of which is free or in use, is the place of SysDir's leader page, or it is
+/// free.
+pub fn first_sector_is_free()
+    ensures { FirstSectorIsFree }
 {}
 
 /// A pack without a leader page of SysDir needs two sectors.

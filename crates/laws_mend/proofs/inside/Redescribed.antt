@@ -229,7 +229,7 @@ module _ (p q : Pack) (last : ℕ) (busy : List Bool) (pages : List ℕ) (h : Ma
   bytes_stay : (f : Fid) → is_fid f disk_descriptor ≡ false → file_bytes (sights q) f ≡ file_bytes (sights p) f
   bytes_stay f other = bytes_by_places (sights p) (sights q) f (λ n. r.places f (suc n)) (λ n k e. by n ((page_of_place (sights p) f n k e).bytes) ((page_of_place (sights p) f n k e).shows hidden) (r.near k))
     where
-      by : (n : ℕ) (bytes : List ℕ) {s t : Sight} → t ≡ holds f n bytes → IsNear s t → s ≡ t
+      by : (n : ℕ) (bytes : List ℕ) {s t : Sight} → t ≡ holds f n bytes → IsNear disk_descriptor s t → s ≡ t
       by n bytes is (one e) = e
       by n bytes is (held m a b x y l) = absurd
           (let c : holds disk_descriptor m b ≡ holds f n bytes = sym y ∙ is in
@@ -238,7 +238,7 @@ module _ (p q : Pack) (last : ℕ) (busy : List Bool) (pages : List ℕ) (h : Ma
 
   -- those of DiskDescriptor are as many
   size_stays : length (file_bytes (sights q) disk_descriptor) ≡ descriptor_length p.shape
-  size_stays = bytes_long (sights p) (sights q) disk_descriptor (λ n. r.places disk_descriptor (suc n)) r.near ∙ whole.descriptor_size
+  size_stays = bytes_long disk_descriptor (sights p) (sights q) disk_descriptor (λ n. r.places disk_descriptor (suc n)) r.near ∙ whole.descriptor_size
 
   -- and they are the text
   words_size : length (descriptor_words (sights q)) ≡ length text
@@ -285,20 +285,20 @@ module _ (p q : Pack) (last : ℕ) (busy : List Bool) (pages : List ℕ) (h : Ma
 
   -- ---- the pages
   used : (i : ℕ) → IsUsed p.shape (sights q) i
-  used i good = by (whole.used i (sym (near_good _ _ (r.near i)) ∙ good))
+  used i good = by (whole.used i (sym (near_good disk_descriptor _ _ (r.near i)) ∙ good))
     where
       by : (get_or (sights p) i hidden ≡ free) ⊎ (in_use p.shape (sights p) (i, get_or (sights p) i hidden) ≡ true) → (get_or (sights q) i hidden ≡ free) ⊎ (in_use p.shape (sights q) (i, get_or (sights q) i hidden) ≡ true)
-      by (inl e) = inl (near_free _ _ (r.near i) e)
+      by (inl e) = inl (near_free disk_descriptor _ _ (r.near i) e)
       by (inr e) = inr
-          (near_use p.shape (sights q) i _ _ (r.near i)
+          (near_use disk_descriptor p.shape (sights q) i _ _ (r.near i)
           ∙ same_in_use p.shape (sights p) (sights q) i (get_or (sights p) i hidden) counted (λ f n has. ap (is_place i) (r.places f n))
           ∙ e)
 
   carries_same : (i : ℕ) (f : Fid) (n : ℕ) → carries_page f n (get_or (sights q) i hidden) ≡ carries_page f n (get_or (sights p) i hidden)
-  carries_same i f n = near_carries _ _ (r.near i) f n
+  carries_same i f n = near_carries disk_descriptor _ _ (r.near i) f n
 
   sizes : (f : Fid) → length (file_bytes (sights q) f) ≡ length (file_bytes (sights p) f)
-  sizes f = bytes_long (sights p) (sights q) f (λ n. r.places f (suc n)) r.near
+  sizes f = bytes_long disk_descriptor (sights p) (sights q) f (λ n. r.places f (suc n)) r.near
 
   pages_whole : PagesWhole p.shape (sights q)
   pages_whole = record {
@@ -307,12 +307,12 @@ module _ (p q : Pack) (last : ℕ) (busy : List Bool) (pages : List ℕ) (h : Ma
     last_pages = λ f live. ap is_some (ap (λ n. place (sights q) f (suc (n / 512))) (sizes f) ∙ r.places f (suc (length (file_bytes (sights p) f) / 512))) ∙ whole.last_pages f (sym (lives_stay f) ∙ live);
     readable = λ f live at readable l e is. whole.readable f (sym (lives_stay f) ∙ live) at readable l (sym (r.places f 0) ∙ e) (led at f readable l (r.near at) is);
     directories = λ d live dir. subst SlotsReachEnd (sym (bytes_stay d (not_descriptor d dir))) (whole.directories d (sym (lives_stay d) ∙ live) dir);
-    root = (whole.root.0, whole.root.1, near_leads _ _ (r.near 1) sys_dir whole.root.1 whole.root.0 whole.root.2);
+    root = (whole.root.0, whole.root.1, near_leads disk_descriptor _ _ (r.near 1) sys_dir whole.root.1 whole.root.0 whole.root.2);
     descriptor_lives = lives_stay disk_descriptor ∙ whole.descriptor_lives;
     descriptor_size = size_stays;
   }
     where
-      led : (at : ℕ) (f : Fid) (readable : Bool) (l : Leader) → IsNear (get_or (sights q) at hidden) (get_or (sights p) at hidden) → get_or (sights q) at hidden ≡ leads f readable l → get_or (sights p) at hidden ≡ leads f readable l
+      led : (at : ℕ) (f : Fid) (readable : Bool) (l : Leader) → IsNear disk_descriptor (get_or (sights q) at hidden) (get_or (sights p) at hidden) → get_or (sights q) at hidden ≡ leads f readable l → get_or (sights p) at hidden ≡ leads f readable l
       led at f readable l (one e) is = sym e ∙ is
       led at f readable l (held n a b x y k) is = absurd (let c : holds disk_descriptor n a ≡ leads f readable l = sym x ∙ is in cc)
 
@@ -350,14 +350,14 @@ module _ (p q : Pack) (last : ℕ) (busy : List Bool) (pages : List ℕ) (h : Ma
   -- ---- the hints
   links : (i : ℕ) → HasLinks p i → HasLinks q i
   links i l = record {
-    next = ap (λ x. word x 0) (r.labels i) ∙ l.next ∙ sym (ap (λ s. next_link s (sights q) (get_or (sights q) i hidden)) shape ∙ alike_next p.shape (sights p) (sights q) r.places (get_or (sights q) i hidden) ∙ near_next p.shape (sights p) _ _ (r.near i));
-    previous = ap (λ x. word x 1) (r.labels i) ∙ l.previous ∙ sym (ap (λ s. previous_link s (sights q) (get_or (sights q) i hidden)) shape ∙ alike_previous p.shape (sights p) (sights q) r.places (get_or (sights q) i hidden) ∙ near_previous p.shape (sights p) _ _ (r.near i));
+    next = ap (λ x. word x 0) (r.labels i) ∙ l.next ∙ sym (ap (λ s. next_link s (sights q) (get_or (sights q) i hidden)) shape ∙ alike_next p.shape (sights p) (sights q) r.places (get_or (sights q) i hidden) ∙ near_next disk_descriptor p.shape (sights p) _ _ (r.near i));
+    previous = ap (λ x. word x 1) (r.labels i) ∙ l.previous ∙ sym (ap (λ s. previous_link s (sights q) (get_or (sights q) i hidden)) shape ∙ alike_previous p.shape (sights p) (sights q) r.places (get_or (sights q) i hidden) ∙ near_previous disk_descriptor p.shape (sights p) _ _ (r.near i));
   }
 
   page_links : PageLinks q
   page_links i u = links i (h.named.links.pages i
       (sym (ap (λ s. in_use s (sights q) (i, get_or (sights q) i hidden)) shape
-      ∙ near_use p.shape (sights q) i _ _ (r.near i)
+      ∙ near_use disk_descriptor p.shape (sights q) i _ _ (r.near i)
       ∙ same_in_use p.shape (sights p) (sights q) i (get_or (sights p) i hidden) counted (λ f n has. ap (is_place i) (r.places f n))) ∙ u))
 
   addresses : EntryAddresses q
@@ -371,7 +371,7 @@ module _ (p q : Pack) (last : ℕ) (busy : List Bool) (pages : List ℕ) (h : Ma
   table_is =
       ap (λ s. map (λ e. not (is_available s (sights q) e)) (numbered 0 (sights q))) shape
       ∙ true_map p.shape (sights q) 0 (sights q) (λ i k e. let z : k ≡ i = omega arith in ap (λ j. is_available p.shape (sights q) (j, get_or (sights q) i hidden)) z ∙ used_is_free p.shape (sights q) i (get_or (sights q) i hidden) (used i))
-      ∙ same_map (sights p) (sights q) r.size (λ i. near_free_sight _ _ (r.near i))
+      ∙ same_map (sights p) (sights q) r.size (λ i. near_free_sight disk_descriptor _ _ (r.near i))
       ∙ sym h.map_is
 
   hints : HintsTrue q
@@ -383,7 +383,7 @@ module _ (p q : Pack) (last : ℕ) (busy : List Bool) (pages : List ℕ) (h : Ma
         ∙ (λ i. words_of_bits (table_words (sym shape i)) (sym table_is i));
     free =
         ap (λ ws. word ws 7) words_are
-        ∙ ap (how_many not) (h.map_is ∙ sym (same_map (sights p) (sights q) r.size (λ i. near_free_sight _ _ (r.near i))))
+        ∙ ap (how_many not) (h.map_is ∙ sym (same_map (sights p) (sights q) r.size (λ i. near_free_sight disk_descriptor _ _ (r.near i))))
         ∙ free_words (sights q);
   }
 

@@ -32,53 +32,53 @@ use Rattle.laws_lookup.specs.HintLaws.{HasFullValues}
 use Rattle.laws_mend.proofs.inside.Freed.{rewritten_places}
 
 -- ---- two sights
--- they are one, or both are the same data page of DiskDescriptor with as many bytes
-pub data IsNear (s t : Sight) : Type 0 where
-  one : s ≡ t → IsNear s t
-  held : (n : ℕ) (a b : List ℕ) → s ≡ holds disk_descriptor n a → t ≡ holds disk_descriptor n b → length a ≡ length b → IsNear s t
+-- they are one, or both are the same data page of this file with as many bytes
+pub data IsNear (own : Fid) (s t : Sight) : Type 0 where
+  one : s ≡ t → IsNear own s t
+  held : (n : ℕ) (a b : List ℕ) → s ≡ holds own n a → t ≡ holds own n b → length a ≡ length b → IsNear own s t
 
-pub near_twice : (s t u : Sight) → IsNear s t → IsNear t u → IsNear s u
-near_twice s t u (one e) (one f) = one (e ∙ f)
-near_twice s t u (one e) (held n a b x y l) = held n a b (e ∙ x) y l
-near_twice s t u (held n a b x y l) (one f) = held n a b x (sym f ∙ y) l
-near_twice s t u (held n a b x y l) (held m c d v w k) =
-    let both : holds disk_descriptor n b ≡ holds disk_descriptor m c = sym y ∙ v in
+pub near_twice : (own : Fid) → (s t u : Sight) → IsNear own s t → IsNear own t u → IsNear own s u
+near_twice own s t u (one e) (one f) = one (e ∙ f)
+near_twice own s t u (one e) (held n a b x y l) = held n a b (e ∙ x) y l
+near_twice own s t u (held n a b x y l) (one f) = held n a b x (sym f ∙ y) l
+near_twice own s t u (held n a b x y l) (held m c d v w k) =
+    let both : holds own n b ≡ holds own m c = sym y ∙ v in
     let same : n ≡ m = cc in
     let bytes : b ≡ c = cc in
-    held n a d x (w ∙ ap (λ j. holds disk_descriptor j d) (sym same)) (l ∙ ap length bytes ∙ k)
+    held n a d x (w ∙ ap (λ j. holds own j d) (sym same)) (l ∙ ap length bytes ∙ k)
 
-pub near_carries : (s t : Sight) → IsNear s t → (f : Fid) (n : ℕ) → carries_page f n s ≡ carries_page f n t
-near_carries s t (one e) f n = ap (carries_page f n) e
-near_carries s t (held m a b x y l) f zero = ap (carries_page f 0) x ∙ sym (ap (carries_page f 0) y)
-near_carries s t (held m a b x y l) f (suc n) = ap (carries_page f (suc n)) x ∙ sym (ap (carries_page f (suc n)) y)
+pub near_carries : (own : Fid) → (s t : Sight) → IsNear own s t → (f : Fid) (n : ℕ) → carries_page f n s ≡ carries_page f n t
+near_carries own s t (one e) f n = ap (carries_page f n) e
+near_carries own s t (held m a b x y l) f zero = ap (carries_page f 0) x ∙ sym (ap (carries_page f 0) y)
+near_carries own s t (held m a b x y l) f (suc n) = ap (carries_page f (suc n)) x ∙ sym (ap (carries_page f (suc n)) y)
 
-pub near_good : (s t : Sight) → IsNear s t → is_good s ≡ is_good t
-near_good s t (one e) = ap is_good e
-near_good s t (held m a b x y l) = ap is_good x ∙ sym (ap is_good y)
+pub near_good : (own : Fid) → (s t : Sight) → IsNear own s t → is_good s ≡ is_good t
+near_good own s t (one e) = ap is_good e
+near_good own s t (held m a b x y l) = ap is_good x ∙ sym (ap is_good y)
 
-pub near_free_sight : (s t : Sight) → IsNear s t → is_free_sight s ≡ is_free_sight t
-near_free_sight s t (one e) = ap is_free_sight e
-near_free_sight s t (held m a b x y l) = ap is_free_sight x ∙ sym (ap is_free_sight y)
+pub near_free_sight : (own : Fid) → (s t : Sight) → IsNear own s t → is_free_sight s ≡ is_free_sight t
+near_free_sight own s t (one e) = ap is_free_sight e
+near_free_sight own s t (held m a b x y l) = ap is_free_sight x ∙ sym (ap is_free_sight y)
 
-pub near_free : (s t : Sight) → IsNear s t → t ≡ free → s ≡ free
-near_free s t (one e) is = e ∙ is
-near_free s t (held m a b x y l) is = absurd (let c : holds disk_descriptor m b ≡ free = sym y ∙ is in cc)
+pub near_free : (own : Fid) → (s t : Sight) → IsNear own s t → t ≡ free → s ≡ free
+near_free own s t (one e) is = e ∙ is
+near_free own s t (held m a b x y l) is = absurd (let c : holds own m b ≡ free = sym y ∙ is in cc)
 
-pub near_leads : (s t : Sight) → IsNear s t → (f : Fid) (r : Bool) (l : Leader) → t ≡ leads f r l → s ≡ leads f r l
-near_leads s t (one e) f r l is = e ∙ is
-near_leads s t (held m a b x y k) f r l is = absurd (let c : holds disk_descriptor m b ≡ leads f r l = sym y ∙ is in cc)
+pub near_leads : (own : Fid) → (s t : Sight) → IsNear own s t → (f : Fid) (r : Bool) (l : Leader) → t ≡ leads f r l → s ≡ leads f r l
+near_leads own s t (one e) f r l is = e ∙ is
+near_leads own s t (held m a b x y k) f r l is = absurd (let c : holds own m b ≡ leads f r l = sym y ∙ is in cc)
 
-pub near_use : (shape : Shape) (ss : List Sight) (at : ℕ) (s t : Sight) → IsNear s t → in_use shape ss (at, s) ≡ in_use shape ss (at, t)
-near_use shape ss at s t (one e) = ap (λ x. in_use shape ss (at, x)) e
-near_use shape ss at s t (held m a b x y l) = ap (λ z. in_use shape ss (at, z)) x ∙ sym (ap (λ z. in_use shape ss (at, z)) y)
+pub near_use : (own : Fid) → (shape : Shape) (ss : List Sight) (at : ℕ) (s t : Sight) → IsNear own s t → in_use shape ss (at, s) ≡ in_use shape ss (at, t)
+near_use own shape ss at s t (one e) = ap (λ x. in_use shape ss (at, x)) e
+near_use own shape ss at s t (held m a b x y l) = ap (λ z. in_use shape ss (at, z)) x ∙ sym (ap (λ z. in_use shape ss (at, z)) y)
 
-pub near_next : (shape : Shape) (ss : List Sight) (s t : Sight) → IsNear s t → next_link shape ss s ≡ next_link shape ss t
-near_next shape ss s t (one e) = ap (next_link shape ss) e
-near_next shape ss s t (held m a b x y l) = ap (next_link shape ss) x ∙ ap (λ n. cond (nat_lt n 512) no_link (link_to shape (place ss disk_descriptor (suc (suc m))))) l ∙ sym (ap (next_link shape ss) y)
+pub near_next : (own : Fid) → (shape : Shape) (ss : List Sight) (s t : Sight) → IsNear own s t → next_link shape ss s ≡ next_link shape ss t
+near_next own shape ss s t (one e) = ap (next_link shape ss) e
+near_next own shape ss s t (held m a b x y l) = ap (next_link shape ss) x ∙ ap (λ n. cond (nat_lt n 512) no_link (link_to shape (place ss own (suc (suc m))))) l ∙ sym (ap (next_link shape ss) y)
 
-pub near_previous : (shape : Shape) (ss : List Sight) (s t : Sight) → IsNear s t → previous_link shape ss s ≡ previous_link shape ss t
-near_previous shape ss s t (one e) = ap (previous_link shape ss) e
-near_previous shape ss s t (held m a b x y l) = ap (previous_link shape ss) x ∙ sym (ap (previous_link shape ss) y)
+pub near_previous : (own : Fid) → (shape : Shape) (ss : List Sight) (s t : Sight) → IsNear own s t → previous_link shape ss s ≡ previous_link shape ss t
+near_previous own shape ss s t (one e) = ap (previous_link shape ss) e
+near_previous own shape ss s t (held m a b x y l) = ap (previous_link shape ss) x ∙ sym (ap (previous_link shape ss) y)
 
 -- ---- bytes of files
 -- as many bytes, where pages are as long
@@ -102,15 +102,15 @@ joined_long (suc fuel) old new h =
         full true = e
         full false = length-append a x ∙ (λ i. e i + l i) ∙ sym (length-append b y)
 
-pub bytes_long : (ss tt : List Sight) (f : Fid) → ((n : ℕ) → place tt f (suc n) ≡ place ss f (suc n)) → ((i : ℕ) → IsNear (get_or tt i hidden) (get_or ss i hidden)) → length (file_bytes tt f) ≡ length (file_bytes ss f)
+pub bytes_long : (own : Fid) (ss tt : List Sight) (f : Fid) → ((n : ℕ) → place tt f (suc n) ≡ place ss f (suc n)) → ((i : ℕ) → IsNear own (get_or tt i hidden) (get_or ss i hidden)) → length (file_bytes tt f) ≡ length (file_bytes ss f)
 unfolding file_bytes
-bytes_long ss tt f same near = joined_long most_pages (page ss f) (page tt f) (λ n. each n (place ss f (suc n)) refl)
+bytes_long own ss tt f same near = joined_long most_pages (page ss f) (page tt f) (λ n. each n (place ss f (suc n)) refl)
   where
-    sizes : (n : ℕ) (a b : List ℕ) (s t : Sight) → s ≡ holds f n a → t ≡ holds f n b → IsNear s t → length a ≡ length b
+    sizes : (n : ℕ) (a b : List ℕ) (s t : Sight) → s ≡ holds f n a → t ≡ holds f n b → IsNear own s t → length a ≡ length b
     sizes n a b s t x y (one e) = (let z : holds f n a ≡ holds f n b = sym x ∙ e ∙ y in let w : a ≡ b = cc in ap length w)
     sizes n a b s t x y (held m c d v w l) =
-        let p : holds f n a ≡ holds disk_descriptor m c = sym x ∙ v in
-        let q : holds f n b ≡ holds disk_descriptor m d = sym y ∙ w in
+        let p : holds f n a ≡ holds own m c = sym x ∙ v in
+        let q : holds f n b ≡ holds own m d = sym y ∙ w in
         let j : a ≡ c = cc in
         let k : b ≡ d = cc in
         ap length j ∙ l ∙ sym (ap length k)
@@ -128,7 +128,7 @@ pub record IsRevalued (p q : Pack) : Type 0 where
   pub shape : q.shape ≡ p.shape
   pub labels : (i : ℕ) → (sector_at q i).label ≡ (sector_at p i).label
   pub pages : (i : ℕ) → carried q i ≡ carried p i
-  pub near : (i : ℕ) → IsNear (get_or (sights q) i hidden) (get_or (sights p) i hidden)
+  pub near : (i : ℕ) → IsNear disk_descriptor (get_or (sights q) i hidden) (get_or (sights p) i hidden)
   pub size : length (sights q) ≡ length (sights p)
   pub places : (f : Fid) (n : ℕ) → place (sights q) f n ≡ place (sights p) f n
   pub files : FilesStay p q
@@ -151,7 +151,7 @@ revalued_twice p q r a b = record {
   shape = b.shape ∙ a.shape;
   labels = λ i. b.labels i ∙ a.labels i;
   pages = λ i. b.pages i ∙ a.pages i;
-  near = λ i. near_twice _ _ _ (b.near i) (a.near i);
+  near = λ i. near_twice disk_descriptor _ _ _ (b.near i) (a.near i);
   size = b.size ∙ a.size;
   places = λ f n. b.places f n ∙ a.places f n;
   files = record {
