@@ -25,3 +25,4 @@ pub mod RootMoved
 pub mod Shortened
 pub mod Slotting
 pub mod SystemPages
+pub mod WholePacks

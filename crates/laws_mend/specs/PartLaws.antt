@@ -8,17 +8,19 @@ use Rattle.disk_records.specs.Commands.{claim_writes, ones, relabel_writes, rele
 use Rattle.disk_records.specs.Labels.{page_of, tag}
 use Rattle.disk_records.specs.Packs.{Pack, after, carried, is_free_at, is_usable, sector_at}
 use Rattle.disk_records.specs.Words.{word}
-use Rattle.pack_model.specs.hints.Links.{HasLinks, PageLinks, dir_words, next_link, previous_link}
+use Rattle.pack_model.specs.hints.Links.{HasLinks, LinksTrue, PageLinks, dir_words, next_link, previous_link}
 use Rattle.pack_model.specs.reading.Files.{lives, file_bytes, place}
 use Rattle.pack_model.specs.reading.Leaders.{Leader, is_readable, leader_words}
 use Rattle.pack_model.specs.reading.Sights.{sights}
 use Rattle.pack_model.specs.reading.Sights.Sight.{free, hidden, leads}
 use Rattle.pack_model.specs.reading.Slots.{SlotsReachEnd, all_words, slots}
 use Rattle.pack_model.specs.reading.Slots.Item.{space}
-use Rattle.pack_model.specs.scavenger.Reports.{PagesMended}
+use Rattle.pack_model.specs.scavenger.Reports.{NamesMended, PagesMended}
 use Rattle.pack_model.specs.sessions.Descriptor.{data_pages}
 use Rattle.pack_model.specs.states.InUse.{counts}
 use Rattle.pack_model.specs.states.Sentences.{EachOnce, HasLastPage, HasReadableName, IsUsed}
+use Rattle.pack_model.specs.states.Sound.{Sound}
+use Rattle.pack_model.specs.states.Whole.{Whole}
 use Rattle.pack_laws.specs.GuardLaws.{ChangesOne, with_words}
 use Rattle.laws_contents.specs.PageLaws.{bytes_at}
 use Rattle.laws_mend.specs.Parts.{Cleared, Ended, Lasting, Rooted, RootedBut, SameFiles, Used}
@@ -164,3 +166,12 @@ LeaderValueLeaves = (p : Pack) (at : ℕ) (page : Page) (value : List ℕ) → c
 -- all parts, true links and names that can be read are a pack whose pages are mended
 abbrev pub PartsAreMended : Type 0
 PartsAreMended = (p : Pack) → Lasting p → PageLinks p → ((f : Fid) → lives (sights p) f ≡ true → HasReadableName (sights p) f) → PagesMended p
+
+-- ---- packs that have them
+-- a whole pack has all parts
+abbrev pub WholeIsLasting : Type 0
+WholeIsLasting = (p : Pack) → Whole p → Lasting p
+
+-- and the names of a sound one with true links are mended
+abbrev pub SoundIsMended : Type 0
+SoundIsMended = (p : Pack) → Sound p → LinksTrue p → NamesMended p

@@ -1,6 +1,6 @@
 //! The parts of a pack whose pages are mended: what the record writes of guarded commands leave of them, and how they are put together.
 
-ghost use Rattle.laws_mend.specs.PartLaws.{CopyReleaseLeaves, DescribedIsLasting, DescriptorClaimLeaves, DescriptorCountLeaves, DescriptorLeaderMakesLasting, DirectoryCutLeaves, LastClaimLeaves, LeaderValueLeaves, OtherLinksLeave, PartsAreMended, RootIsMade, RootIsMoved, StrayReleaseLeaves, UnusedReleaseLeaves};
+ghost use Rattle.laws_mend.specs.PartLaws.{CopyReleaseLeaves, DescribedIsLasting, DescriptorClaimLeaves, DescriptorCountLeaves, DescriptorLeaderMakesLasting, DirectoryCutLeaves, LastClaimLeaves, LeaderValueLeaves, OtherLinksLeave, PartsAreMended, RootIsMade, RootIsMoved, SoundIsMended, StrayReleaseLeaves, UnusedReleaseLeaves, WholeIsLasting};
 
 /// A release of a page that a lower sector carries leaves the same files with the same bytes, and each page its place.
 pub fn copy_release_leaves()
@@ -83,4 +83,14 @@ pub fn leader_value_leaves()
 /// its format, the links of pages are true, and the name of each living file can be read.
 pub fn parts_are_mended()
     ensures { PartsAreMended }
+{}
+
+/// A whole pack has all parts of a mended one: so the premises of these laws are met.
+pub fn whole_is_lasting()
+    ensures { WholeIsLasting }
+{}
+
+/// The names of a sound pack with true links are mended.
+pub fn sound_is_mended()
+    ensures { SoundIsMended }
 {}

@@ -7,3 +7,4 @@ pub use Rattle.laws_mend.proofs.inside.PartsMended.{parts_are_mended}
 pub use Rattle.laws_mend.proofs.inside.RootMade.{root_is_made}
 pub use Rattle.laws_mend.proofs.inside.RootMoved.{root_is_moved}
 pub use Rattle.laws_mend.proofs.inside.Shortened.{directory_cut_leaves}
+pub use Rattle.laws_mend.proofs.inside.WholePacks.{sound_is_mended, whole_is_lasting}
