@@ -1,9 +1,10 @@
 mod Ending
 mod Finding
-mod Looking
+pub mod Looking
 mod NewNaming
 mod OrdinaryFiles
 mod RoomPlanning
 mod SerialFiles
 mod Stopping
 mod SweptLeaders
+pub mod Turning

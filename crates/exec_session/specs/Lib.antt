@@ -1,6 +1,7 @@
 pub mod Stops
 pub mod Serials
 pub mod Meant
+pub mod Turned
 pub mod Found
 pub mod NewNames
 pub mod Rooms

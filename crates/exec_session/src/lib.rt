@@ -25,6 +25,7 @@ mod answers;
 mod contents;
 mod end;
 mod kinds;
+pub mod laws;
 mod new_names;
 mod operands;
 mod reserving;
