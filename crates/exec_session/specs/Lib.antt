@@ -5,4 +5,5 @@ pub mod Turned
 pub mod Found
 pub mod NewNames
 pub mod Rooms
+pub mod Contents
 pub mod Ends

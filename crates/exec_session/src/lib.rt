@@ -36,13 +36,13 @@ mod stop;
 mod targets;
 
 pub use answers::{answer, stopped};
-pub use contents::length_of;
+pub use contents::{bytes_of, length_of};
 pub use end::quit;
 pub use kinds::{refuse_descriptor, refuse_directory, refuse_system, require_directory};
 pub use new_names::{name_given, refuse_held_base};
 pub use operands::{Found, ROOT, find_dir, find_path};
 pub use page_seeking::FileRef;
-pub use reserving::require_serial;
+pub use reserving::{require_serial, reserve_pages};
 pub use rooms::{NewEntry, plan_entry};
 pub use session::Session;
 pub use stop::{Stop, entered, refused, written};
