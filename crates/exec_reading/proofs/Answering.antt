@@ -3,9 +3,7 @@ use Rattle.std.proofs.Common.{◌≡◌, ◌&&◌, ℕ, Bool, true, false, cond,
 use Rattle.std.specs.Result.{IsErrAnd}
 use Rattle.disk_records.proofs.Growing.{pack-silent}
 use Rattle.disk_records.specs.Packs.{Pack}
-use Rattle.disk_records.specs.Tapes.{DiskAlone, Taped, added, pack}
-use Rattle.disk_records.specs.declared.records.Page.{Page}
-use Rattle.disk_records.specs.declared.records.Place.{Place}
+use Rattle.disk_records.specs.Tapes.{Taped, added, pack}
 use Rattle.exec_words.specs.declared.line.Line.{Line}
 use Rattle.exec_words.specs.declared.line.Line.TheVariants as line
 use Rattle.exec_words.specs.declared.line.Target.{Target}
@@ -13,8 +11,6 @@ use Rattle.exec_words.specs.declared.reply.Refusal.{Refusal}
 use Rattle.exec_words.specs.declared.reply.Refusal.TheVariants as refusal
 use Rattle.exec_words.specs.declared.reply.Reply.{Reply}
 use Rattle.exec_words.specs.declared.reply.Reply.TheVariants as reply
-use Rattle.laws_session.specs.LineAnswers.{GoesOnWith}
-use Rattle.pack_model.specs.operations.Step.{Operation}
 use Rattle.pack_model.specs.reading.Files.{first}
 use Rattle.pack_model.specs.reading.Model.{Model, read_as}
 use Rattle.pack_model.specs.states.Sound.{Sound}
@@ -23,10 +19,10 @@ use Rattle.session_model.specs.Bounds.{DoneWithin, RunsWithin}
 use Rattle.session_model.specs.Effects.{effect}
 use Rattle.session_model.specs.Keeping.{Keeping, world_of}
 use Rattle.session_model.specs.Operands.{level_of}
-use Rattle.session_model.specs.Refusals.{by_line, is_bad, is_obeyed_in_need, when}
+use Rattle.session_model.specs.Refusals.{is_bad, is_obeyed_in_need, when}
 use Rattle.session_model.specs.Replies.{refusal as refusal_to, text_unless, unless_refused}
-use Rattle.session_model.specs.Touched.{files_touched, touched}
-use Rattle.session_model.specs.Turning.{HintFailing, IsTakenUp, State, cue_files, is_quit, is_scavenge, typed}
+use Rattle.session_model.specs.Touched.{files_touched}
+use Rattle.session_model.specs.Turning.{HintFailing, IsTakenUp, State, is_quit, is_scavenge, typed}
 use Rattle.session_model.specs.Worlds.{World}
 use Rattle.exec_session.specs.declared.session.Session.{Session}
 use Rattle.exec_session.specs.declared.stop.Stop.{Stop}
@@ -34,7 +30,7 @@ use Rattle.exec_session.specs.declared.stop.Stop.TheVariants as stop
 use Rattle.exec_session.specs.Meant.{IfHint, IfRefused, IsTakenUpBy, LooksAbout, MayObey, TakesLine, kept, kept_replied, replied}
 use Rattle.exec_session.specs.Turned.{FewRuns, SameBut, Turned}
 use Rattle.exec_session.proofs.Looking.{same_but_looked}
-use Rattle.exec_session.proofs.Stopping.{error_is, hint_of_stop, refused_of_stop}
+use Rattle.exec_session.proofs.Stopping.{error_is}
 use Rattle.exec_session.proofs.Turning.{line_is_refused, line_stops_unwritten, line_writes_nothing, turned_is_a_turn}
 use Rattle.exec_reading.specs.Reads.{IsSaid, ReadsAs, ReadsRight}
 

@@ -4,12 +4,11 @@ use Rattle.std.specs.FinMap.{get}
 use Rattle.std.specs.Option.{is_some, unwrap_or}
 use Rattle.alto_words.specs.declared.fid.Fid.{Fid}
 use Rattle.alto_words.specs.Fid.{disk_descriptor, is_directory, is_fid, sys_dir}
-use Rattle.disk_records.specs.Packs.{Pack, sector_at}
+use Rattle.disk_records.specs.Packs.{Pack}
 use Rattle.exec_words.specs.Texts.{stat_text, type_text}
 use Rattle.exec_words.specs.declared.line.Line.TheVariants as line
 use Rattle.exec_words.specs.declared.line.Target.{Target}
 use Rattle.exec_words.specs.declared.reply.Refusal.TheVariants as refusal
-use Rattle.exec_words.specs.declared.reply.Stat.{Stat}
 use Rattle.laws_contents.proofs.model.Laws.{directory_is_its_pages, leader_is_its_value, model_lengths_are_of_bytes, ordinary_file_is_its_pages}
 use Rattle.laws_operation.proofs.places.Laws.{carried_in_place, file_lives_in_a_place}
 use Rattle.laws_operation.specs.ByteLaws.{IsOrdinary}
@@ -19,7 +18,7 @@ use Rattle.page_seeking.specs.declared.refs.FileRef.{FileRef}
 use Rattle.page_seeking.specs.Seeking.{file_length, page_number}
 use Rattle.pack_model.specs.operations.Committing.{length_of}
 use Rattle.pack_model.specs.reading.Files.{file_bytes, lives, place}
-use Rattle.pack_model.specs.reading.Leaders.{Leader, leader_of}
+use Rattle.pack_model.specs.reading.Leaders.{Leader}
 use Rattle.pack_model.specs.reading.Model.{Model, read_as}
 use Rattle.pack_model.specs.reading.Sights.{sights}
 use Rattle.pack_model.specs.states.Sound.{Sound}

@@ -5,7 +5,7 @@ use Rattle.std.specs.Option.{unwrap_or}
 use Rattle.alto_words.specs.declared.fid.Fid.{Fid}
 use Rattle.alto_words.specs.Fid.{is_directory, sys_dir}
 use Rattle.alto_words.specs.Names.{folded_cmp}
-use Rattle.dir_slots.specs.Items.{item_of, items_of}
+use Rattle.dir_slots.specs.Items.{items_of}
 use Rattle.dir_slots.specs.declared.slot.Slot.{Slot}
 use Rattle.dir_slots.specs.declared.slot.Slot.TheVariants.{Free, Entry}
 use Rattle.directory.specs.Found.{AreSlots}
@@ -24,7 +24,7 @@ use Rattle.pack_model.specs.reading.Slots.{Item}
 use Rattle.pack_model.specs.reading.Slots.Item.{entry, space}
 use Rattle.pack_model.specs.showing.Listing.{in_order}
 use Rattle.pack_model.specs.states.Sound.{Sound}
-use Rattle.session_model.specs.Effects.{listed_dir, names_in}
+use Rattle.session_model.specs.Effects.{names_in}
 use Rattle.session_model.specs.Finding.{dir_of}
 use Rattle.session_model.specs.Refusals.{when}
 use Rattle.session_model.specs.Replies.{refusal as refusal_to}

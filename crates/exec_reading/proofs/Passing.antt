@@ -1,10 +1,10 @@
 -- Answers of calls that a line makes, passed on as its own.
-use Rattle.std.proofs.Common.{◌≡◌, ◌≤◌, ◌-◌, ◌+◌, ◌/◌, ℕ, Bool, true, false, not, List, [], ◌∷◌, ◌++◌, Option, Some, None, Result, Ok, Err, Vec, IfOk, IsTrue, OnOk, inl, inr, refl, sym, subst, ap, ◌∙◌, arith, All}
+use Rattle.std.proofs.Common.{◌≡◌, ◌≤◌, ◌-◌, ℕ, Bool, true, List, [], ◌∷◌, ◌++◌, Option, Some, None, Result, Ok, Err, Vec, IfOk, inl, inr, refl, sym, subst, ap, ◌∙◌, arith, All}
 use Rattle.std.specs.Prelude.{Contains}
 use Rattle.std.specs.Result.{IsErrAnd}
 use Rattle.std.proofs.lemmas.List.Elements.{All-contains, All-contains_itself, All-weaker, Contains-append_left, Contains-append_right}
 use Rattle.alto_words.specs.declared.fid.Fid.{Fid}
-use Rattle.alto_words.specs.Fid.{disk_descriptor, is_directory, is_fid, sys_dir}
+use Rattle.alto_words.specs.Fid.{sys_dir}
 use Rattle.directory.specs.Errors.{IfListMisled, cause_of_list}
 use Rattle.directory.specs.declared.errors.ListError.{ListError}
 use Rattle.directory.specs.declared.errors.ListError.TheVariants as listing
@@ -19,7 +19,6 @@ use Rattle.exec_words.specs.declared.line.Path.{Path}
 use Rattle.exec_words.specs.declared.line.Target.{Target}
 use Rattle.exec_words.specs.declared.line.Target.TheVariants.{ByPath, BySerial}
 use Rattle.exec_words.specs.declared.reply.Refusal.{Refusal}
-use Rattle.exec_words.specs.declared.reply.Refusal.TheVariants as refusal
 use Rattle.label_check.specs.declared.errors.LookError.{LookError}
 use Rattle.label_check.specs.declared.errors.LookError.TheVariants as look
 use Rattle.page_seeking.specs.Refs.{MisledBy}
@@ -30,17 +29,14 @@ use Rattle.pack_model.specs.states.Sound.{Sound}
 use Rattle.session_model.specs.Answering.{NoneRefused}
 use Rattle.session_model.specs.Bounds.{AllHandy, DoneWithin, RunsWithin, type_runs}
 use Rattle.session_model.specs.Finding.{dir_of, file_at}
-use Rattle.session_model.specs.Keeping.{Kept}
 use Rattle.session_model.specs.Operands.{no_directory}
-use Rattle.session_model.specs.Refusals.{when}
 use Rattle.session_model.specs.Replies.{refusal as refusal_to, unless_refused}
-use Rattle.session_model.specs.Touched.{dir_named, files_touched, one_of, operand_files}
+use Rattle.session_model.specs.Touched.{files_touched, one_of, operand_files}
 use Rattle.session_model.specs.Turning.{HintFailing, State, cue_files, typed}
 use Rattle.session_model.specs.Worlds.{World}
 use Rattle.exec_session.specs.Found.{dirs_followed, files_followed, operand}
-use Rattle.exec_session.specs.Meant.{IfHint, IfRefused, IsSoon, IsTakenUpBy, Looked, LooksAbout, kept, kept_replied, replied}
+use Rattle.exec_session.specs.Meant.{IfHint, IfRefused, IsSoon, IsTakenUpBy, LooksAbout, kept, replied}
 use Rattle.exec_session.specs.Stops.{refused_if, stop_of_list, stop_of_look}
-use Rattle.exec_session.specs.Turned.{FewRuns}
 use Rattle.exec_session.specs.declared.session.Session.{Session}
 use Rattle.exec_session.specs.declared.stop.Stop.{Stop}
 use Rattle.exec_session.specs.declared.stop.Stop.TheVariants as stop

@@ -1,17 +1,15 @@
 -- What lines that only read are refused for: the tests of their operand, in their order, and nothing else.
-use Rattle.std.proofs.Common.{◌≡◌, ◌&&◌, ◌||◌, ℕ, Bool, true, false, cond, not, nat_lt, List, [], ◌∷◌, ◌++◌, Option, Some, None, refl, sym, subst, ap, ◌∙◌, arith}
+use Rattle.std.proofs.Common.{◌≡◌, ℕ, Bool, true, false, not, nat_lt, List, [], ◌∷◌, ◌++◌, Option, Some, None, refl, ap, ◌∙◌, arith}
 use Rattle.std.proofs.lemmas.Bool.{le-ltb}
 use Rattle.std.specs.Option.{option_or}
 use Rattle.alto_words.specs.declared.fid.Fid.{Fid}
 use Rattle.alto_words.specs.Fid.{disk_descriptor, is_directory, is_fid, sys_dir}
 use Rattle.exec_words.specs.declared.line.Line.{Line}
 use Rattle.exec_words.specs.declared.line.Line.TheVariants as line
-use Rattle.exec_words.specs.declared.line.Path.{Path}
 use Rattle.exec_words.specs.declared.line.Target.{Target}
 use Rattle.exec_words.specs.declared.line.Target.TheVariants.{ByPath, BySerial}
 use Rattle.exec_words.specs.declared.reply.Refusal.{Refusal}
 use Rattle.exec_words.specs.declared.reply.Refusal.TheVariants as refusal
-use Rattle.pack_model.specs.operations.Step.{Operation}
 use Rattle.pack_model.specs.reading.Files.{first}
 use Rattle.pack_model.specs.reading.Model.{Model, read_as, room}
 use Rattle.pack_model.specs.states.Sound.{Sound}
@@ -20,7 +18,7 @@ use Rattle.exec_session.proofs.OrdinaryFiles.{directory_of}
 use Rattle.session_model.specs.Effects.{effect}
 use Rattle.session_model.specs.Finding.{dir_of, file_at}
 use Rattle.session_model.specs.Operands.{Operand, Use, in_root, listed, no_directory, some_file}
-use Rattle.session_model.specs.Refusals.{beyond, by_line, by_memory, by_room, by_world, dir_at, left_in, meets_stream, no_such_stream, not_empty, of_taken_name, reasons, spent, taken_target, too_many, when, when_found, when_missing, wrong_kind, wrong_system}
+use Rattle.session_model.specs.Refusals.{by_line, dir_at, left_in, not_empty, of_taken_name, reasons, taken_target, when, when_found, when_missing, wrong_kind, wrong_system}
 use Rattle.session_model.specs.Replies.{refusal as refusal_to}
 use Rattle.session_model.specs.Worlds.{World}
 use Rattle.exec_session.specs.Found.{operand, operand_tests}

@@ -1,4 +1,4 @@
-use Rattle.std.proofs.Common.{◌≡◌, ◌-◌, Ok, ap, ◌∙◌}
+use Rattle.std.proofs.Common.{◌-◌, Ok, ap, ◌∙◌}
 use Rattle.disk_records.specs.Tapes.{pack}
 use Rattle.exec_words.specs.Texts.{free_text}
 use Rattle.exec_words.specs.declared.line.Line.TheVariants as line

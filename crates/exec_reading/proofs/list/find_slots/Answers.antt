@@ -1,4 +1,4 @@
-use Rattle.std.proofs.Common.{◌≡◌, ◌*◌, ℕ, true, false, not, [], ◌∷◌, Option, List, Some, None, Err, map, arith, ap, refl, sym, subst, ◌∙◌}
+use Rattle.std.proofs.Common.{◌*◌, not, [], ◌∷◌, Err, arith, sym, subst}
 use Rattle.alto_words.specs.Fid.{is_directory, sys_dir}
 use Rattle.directory.specs.Errors.{IfListMisled}
 use Rattle.dir_slots.specs.Items.{items_of}
@@ -7,10 +7,9 @@ use Rattle.disk_records.specs.Tapes.{pack}
 use Rattle.exec_words.specs.Texts.{list_text}
 use Rattle.exec_words.specs.declared.line.Line.TheVariants as line
 use Rattle.exec_words.specs.declared.reply.Refusal.TheVariants as refusal
-use Rattle.page_seeking.specs.Refs.{FileIsFrom, MisledBy}
+use Rattle.page_seeking.specs.Refs.{MisledBy}
 use Rattle.page_seeking.specs.declared.refs.FileRef.{FileRef}
 use Rattle.pack_model.specs.reading.Model.{read_as}
-use Rattle.pack_model.specs.states.Sound.{Sound}
 use Rattle.directory.specs.Asked.{DirIsFound}
 use Rattle.directory.specs.Found.{AreSlots}
 use Rattle.exec_session.specs.Found.{IsNoDirOf}

@@ -1,4 +1,4 @@
-use Rattle.std.proofs.Common.{◌≡◌, ◌-◌, Ok, List, ap, ◌∙◌}
+use Rattle.std.proofs.Common.{◌-◌, Ok, ap, ◌∙◌}
 use Rattle.dir_slots.specs.Items.{items_of}
 use Rattle.disk_records.specs.Tapes.{pack}
 use Rattle.exec_words.specs.Texts.{list_text, names_text}

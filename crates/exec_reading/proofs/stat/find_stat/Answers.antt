@@ -1,4 +1,4 @@
-use Rattle.std.proofs.Common.{◌≡◌, ◌*◌, ℕ, [], Some, Err, arith, ap, sym, subst, ◌∙◌}
+use Rattle.std.proofs.Common.{◌*◌, ℕ, [], Some, Err, arith, ap, sym, subst, ◌∙◌}
 use Rattle.alto_words.specs.Fid.{disk_descriptor, is_fid}
 use Rattle.disk_records.proofs.Looking.{looks_pack}
 use Rattle.disk_records.specs.Tapes.{pack}

@@ -1,4 +1,4 @@
-use Rattle.std.proofs.Common.{◌≡◌, ◌≤◌, ◌*◌, ◌+◌, ◌/◌, ℕ, [], Some, None, IfOk, arith, ap, refl, sym, subst, ◌∙◌}
+use Rattle.std.proofs.Common.{◌≡◌, ◌*◌, ◌+◌, ◌/◌, [], Some, IfOk, arith, ap, sym, subst, ◌∙◌}
 use Rattle.disk_records.proofs.Looking.{looks_pack}
 use Rattle.disk_records.specs.Tapes.{pack}
 use Rattle.exec_words.specs.Texts.{type_text}
@@ -10,7 +10,7 @@ use Rattle.page_seeking.specs.Refs.{FileIsFrom, MisledBy}
 use Rattle.page_seeking.specs.Seeking.{Quick, all_listed, file_length}
 use Rattle.page_seeking.specs.declared.refs.FileRef.{FileRef}
 use Rattle.pack_model.specs.operations.Committing.{length_of}
-use Rattle.pack_model.specs.reading.Files.{file_bytes, lives}
+use Rattle.pack_model.specs.reading.Files.{file_bytes}
 use Rattle.pack_model.specs.reading.Model.{read_as}
 use Rattle.pack_model.specs.reading.Sights.{sights}
 use Rattle.pack_model.specs.states.Sound.{Sound}
@@ -19,9 +19,8 @@ use Rattle.session_model.specs.Finding.{file_at, the_file}
 use Rattle.session_model.specs.Operands.{no_directory}
 use Rattle.session_model.specs.Touched.{one_of}
 use Rattle.exec_session.specs.Found.{dirs_followed, files_followed, operand, operand_refusal}
-use Rattle.exec_session.specs.Meant.{IfHint, IsSoon}
-use Rattle.exec_session.proofs.Looking.{looks_about_twice, quick_stays, soon_twice, soon_within}
-use Rattle.exec_reading.specs.Reads.{IsSaid}
+use Rattle.exec_session.specs.Meant.{IfHint}
+use Rattle.exec_session.proofs.Looking.{looks_about_twice, quick_stays, soon_twice}
 use Rattle.exec_reading.proofs.Contents.{file_lives, named, type_said}
 use Rattle.exec_reading.proofs.Passing.{follows_file, handy_front, handy_of, ok_then, reads_of, touches_dirs, touches_file, unfound}
 use Rattle.exec_reading.proofs.Untaken.{type_refused}

@@ -1,4 +1,4 @@
-use Rattle.std.proofs.Common.{◌≡◌, ◌-◌, Ok, ◌∙◌, ap, sym, subst}
+use Rattle.std.proofs.Common.{◌-◌, Ok, ◌∙◌, ap, sym, subst}
 use Rattle.disk_records.specs.Tapes.{pack}
 use Rattle.exec_words.specs.Texts.{type_text}
 use Rattle.exec_words.specs.declared.line.Line.TheVariants as line
