@@ -1,9 +1,9 @@
-//! What typed lines share: the session and its end, why a line isn't done, what the operands of lines mean, and the names and the room of
-//! new entries.
+//! What typed lines share: the session and its end, why a line isn't done, what the operands of lines mean, the names and the room of new
+//! entries, the bytes of files, sectors that are reserved, and how a line is answered that wrote nothing.
 //!
 //! Come here when you write a line. Below it stand the calls on directories, the sweep of all labels, and the words of DiskDescriptor that a
-//! session keeps. A line finds its operands and refuses in order, by the calls of this crate, before it writes. To the layers above, on
-//! every machine:
+//! session keeps. A line finds its operands, refuses in order, and reserves all of its sectors at once, by the calls of this crate, before it
+//! writes. To the layers above, on every machine:
 //! 1. What keeps a line from being done is a `Stop`: a refusal, a hint that misled, a disk fault, which comes only where its count rose
 //!    (`cause`), or out of memory. A call that wrote is answered by no refusal (`written`, `entered`).
 //! 2. A call that finds or plans only looks: of what a session keeps the cache of addresses alone may be another (`looks`).
@@ -17,6 +17,10 @@
 //!    comes exactly where it is the first that holds (`absent`, `refused`, `taken`). A new entry gets the model's name (`given`), after the
 //!    model's widenings (`planned`).
 //! 5. A hint that misled is one on the disk, of SysDir or the directory that is named (`misled`).
+//! 6. All bytes of a file are read, whether or not its last page is known, in few sector commands where hints are handy (`read`, `quick`).
+//! 7. Reserved sectors are free, and Full comes exactly where fewer are, with the model's room (`enough`, `full`); a true table has these
+//!    sectors busy besides (`table`).
+//! 8. A line that wrote nothing is a turn: by its plain reply, by its refusal, or by what stopped it (`laws`).
 //!
 //! Not promised: that the address of a file that was found is that of its leader. Who follows it checks it by the label that stands there.
 #![tactic(auto)]
