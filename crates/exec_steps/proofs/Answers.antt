@@ -1,0 +1,147 @@
+-- The answers of calls on files and directories, as those of a step.
+use Rattle.std.proofs.Common.{Contains, Err, IsErrOf, List, Ok, OnOk, Option, Result, [], ap, arith, length, refl, subst, suc, sym, true, ℕ, ◌++◌, ◌∙◌, ◌∷◌, ◌≡◌, ◌≤◌}
+use Rattle.alto_words.specs.declared.fid.Fid.{Fid}
+use Rattle.disk_records.specs.Causes.{Cause, HasCause, IsCause, never}
+use Rattle.disk_records.specs.Packs.{Pack}
+use Rattle.disk_records.specs.Tapes.{Taped, added, pack}
+use Rattle.disk_records.specs.declared.records.Event.{Event}
+use Rattle.disk_records.specs.declared.records.Page.{Page}
+use Rattle.disk_records.specs.declared.records.Place.{Place}
+use Rattle.laws_call.specs.Acting.{Around, Operates, begun, refused}
+use Rattle.page_seeking.specs.Causes.{cause_of_length}
+use Rattle.page_seeking.specs.Refs as refs
+use Rattle.page_seeking.specs.Refs.{MisledBy}
+use Rattle.page_seeking.specs.declared.refs.FileError.{FileError}
+use Rattle.page_seeking.specs.declared.refs.FileError.TheVariants as fault
+use Rattle.page_seeking.specs.declared.refs.FileRef.{FileRef}
+use Rattle.directory.specs.Errors.{IfMisled, IfNoSlot, cause_of, disk_fault, out_of_memory}
+use Rattle.directory.specs.declared.errors.DirError.{DirError}
+use Rattle.directory.specs.declared.errors.DirError.TheVariants.{NoSuchName, NameTaken, NoSlot, File}
+use Rattle.pack_model.specs.hints.Misled.{AnswersMisled}
+use Rattle.pack_model.specs.operations.Step.{Operation}
+use Rattle.exec_session.specs.Meant.{IfHint, IfRefused}
+use Rattle.exec_session.specs.Stops.{cause_of_stop, stop_entered, stop_entering, stop_writing, stop_written}
+use Rattle.exec_session.specs.declared.stop.Stop.{Stop}
+use Rattle.exec_session.specs.declared.stop.Stop.TheVariants as stop
+
+-- ---- that a call is to do an operation
+-- with another error for an error, a fault for a fault, and out of memory for out of memory
+module _ {E F T : Type 0} {fault memory : E} {other_fault other_memory : F} {o : Operation} {claimed : List ℕ} {old new : Around} where
+  of_ok : (x : T) → ((Ok {E = F} x ≡ Err other_memory) → ⊥) → ((Ok {E = E} x ≡ Err fault) → ⊥) → Operates fault memory o claimed old new (Ok x) → Operates other_fault other_memory o claimed old new (Ok x)
+  of_ok x rich well (refused calm bad none) = absurd bad
+  of_ok x rich well (begun b) = begun (record {
+    writes = b.writes;
+    released = b.released;
+    exact = b.exact;
+    acts = b.acts;
+    some = b.some;
+    all = b.all;
+    table = b.table;
+    counts = λ tells. b.counts (λ e. absurd (well e));
+    out_of_memory = λ e. absurd (rich e);
+  })
+
+  of_err : (x : E) (y : F) → (Err {A = T} x ≡ Err fault → Err {A = T} y ≡ Err other_fault) → (Err {A = T} y ≡ Err other_memory → Err {A = T} x ≡ Err memory)
+      → Operates {T = T} fault memory o claimed old new (Err x) → Operates {T = T} other_fault other_memory o claimed old new (Err y)
+  of_err x y is_fault is_memory (refused calm bad none) = refused calm tt (λ e. none (is_memory e))
+  of_err x y is_fault is_memory (begun b) = begun (record {
+    writes = b.writes;
+    released = b.released;
+    exact = b.exact;
+    acts = b.acts;
+    some = b.some;
+    all = tt;
+    table = tt;
+    counts = λ tells. b.counts (λ e. tells (is_fault e));
+    out_of_memory = λ e. b.out_of_memory (is_memory e);
+  })
+
+module _ {o : Operation} {claimed : List ℕ} {old new : Around} where
+  written_err : (file : FileRef) (e : FileError) → Operates {T = Unit {0}} fault.DiskFault fault.Memory o claimed old new (Err e) → Operates {T = Unit {0}} stop.DiskFault stop.Memory o claimed old new (Err (stop_writing file e))
+  written_err file (fault.Misled place at wanted found) h = of_err _ _ (λ e. absurd cc) (λ e. absurd cc) h
+  written_err file (fault.Beyond length) h = of_err _ _ (λ e. absurd cc) (λ e. absurd cc) h
+  written_err file fault.DiskFault h = of_err _ _ (λ e. refl) (λ e. absurd cc) h
+  written_err file fault.Memory h = of_err _ _ (λ e. absurd cc) (λ e. refl) h
+
+  pub written_operates : (file : FileRef) (result : Result (Unit {0}) FileError) → Operates fault.DiskFault fault.Memory o claimed old new result → Operates stop.DiskFault stop.Memory o claimed old new (stop_written file result)
+  written_operates file (Ok x) h = of_ok x (λ e. cc) (λ e. cc) h
+  written_operates file (Err e) h = written_err file e h
+
+  entered_fault : (dir : FileRef) (e : FileError) → Operates {T = Unit {0}} disk_fault out_of_memory o claimed old new (Err (File e)) → Operates {T = Unit {0}} stop.DiskFault stop.Memory o claimed old new (Err (stop_writing dir e))
+  entered_fault dir (fault.Misled place at wanted found) h = of_err _ _ (λ e. absurd cc) (λ e. absurd cc) h
+  entered_fault dir (fault.Beyond length) h = of_err _ _ (λ e. absurd cc) (λ e. absurd cc) h
+  entered_fault dir fault.DiskFault h = of_err _ _ (λ e. refl) (λ e. absurd cc) h
+  entered_fault dir fault.Memory h = of_err _ _ (λ e. absurd cc) (λ e. refl) h
+
+  pub entered_operates : (dir : FileRef) (result : Result (Unit {0}) DirError) → Operates disk_fault out_of_memory o claimed old new result → Operates stop.DiskFault stop.Memory o claimed old new (stop_entered dir result)
+  entered_operates dir (Ok x) h = of_ok x (λ e. cc) (λ e. cc) h
+  entered_operates dir (Err NoSuchName) h = of_err _ _ (λ e. absurd cc) (λ e. absurd cc) h
+  entered_operates dir (Err NameTaken) h = of_err _ _ (λ e. absurd cc) (λ e. absurd cc) h
+  entered_operates dir (Err (NoSlot largest)) h = of_err _ _ (λ e. absurd cc) (λ e. absurd cc) h
+  entered_operates dir (Err (File e)) h = entered_fault dir e h
+
+-- ---- a hint that misled
+-- of this file, when nothing was written yet
+of_file : {p : Pack} {events : List Event} {f : Fid} (files : List Fid) → Contains files f → events ≡ [] → (place : Place) (at : ℕ) (wanted : Page) (found : Option (List ℕ)) → MisledBy p [] f place at wanted found → Contains files wanted.fid × AnswersMisled p events place at wanted found
+of_file {p} files there silent place at wanted found h = (subst (Contains files) (sym h.own) there, subst (λ l. AnswersMisled p l place at wanted found) (sym silent) h.answers)
+
+module _ {p : Pack} {events : List Event} {f : Fid} (files : List Fid) (there : Contains files f) {a b : Taped} where
+  pub written_hints : (file : FileRef) (result : Result (Unit {0}) FileError) → HasCause cause_of_length a b result → refs.IfMisled result (MisledBy p [] f) → refs.IfMisled result (λ place at wanted found. events ≡ [])
+      → IfHint (stop_written file result) (λ place at wanted found. Contains files wanted.fid × AnswersMisled p events place at wanted found)
+  written_hints file (Ok x) cause h silent = tt
+  written_hints file (Err (fault.Misled place at wanted found)) cause h silent = of_file files there silent place at wanted found h
+  written_hints file (Err (fault.Beyond length)) cause h silent = absurd cause
+  written_hints file (Err fault.DiskFault) cause h silent = tt
+  written_hints file (Err fault.Memory) cause h silent = tt
+
+  entered_hint : (dir : FileRef) (e : FileError) → IsCause a b (cause_of_length e) → refs.IfMisled {T = Unit {0}} (Err e) (MisledBy p [] f) → refs.IfMisled {T = Unit {0}} (Err e) (λ place at wanted found. events ≡ [])
+      → IfHint {T = Unit {0}} (Err (stop_writing dir e)) (λ place at wanted found. Contains files wanted.fid × AnswersMisled p events place at wanted found)
+  entered_hint dir (fault.Misled place at wanted found) cause h silent = of_file files there silent place at wanted found h
+  entered_hint dir (fault.Beyond length) cause h silent = absurd cause
+  entered_hint dir fault.DiskFault cause h silent = tt
+  entered_hint dir fault.Memory cause h silent = tt
+
+  -- where the slots refused nothing
+  pub entered_hints : (dir : FileRef) (taken full : Cause) (result : Result (Unit {0}) DirError) → HasCause (cause_of never taken full) a b result → (result ≡ Err NameTaken → ⊥) → IfNoSlot result (λ largest. ⊥) → IfMisled result (MisledBy p [] f) → IfMisled result (λ place at wanted found. events ≡ [])
+      → IfHint (stop_entered dir result) (λ place at wanted found. Contains files wanted.fid × AnswersMisled p events place at wanted found)
+  entered_hints dir taken full (Ok x) cause untaken roomy h silent = tt
+  entered_hints dir taken full (Err NoSuchName) cause untaken roomy h silent = absurd cause
+  entered_hints dir taken full (Err NameTaken) cause untaken roomy h silent = absurd (untaken refl)
+  entered_hints dir taken full (Err (NoSlot largest)) cause untaken roomy h silent = absurd roomy
+  entered_hints dir taken full (Err (File e)) cause untaken roomy h silent = entered_hint dir e cause h silent
+
+-- ---- causes, and no refusal
+module _ {a b : Taped} where
+  written_error : (file : FileRef) (e : FileError) → IsCause a b (cause_of_length e) → IsCause a b (cause_of_stop (stop_writing file e))
+  written_error file (fault.Misled place at wanted found) h = tt
+  written_error file (fault.Beyond length) h = tt
+  written_error file fault.DiskFault h = h
+  written_error file fault.Memory h = tt
+
+  pub written_cause : (file : FileRef) (result : Result (Unit {0}) FileError) → HasCause cause_of_length a b result → HasCause cause_of_stop a b (stop_written file result)
+  written_cause file (Ok x) h = tt
+  written_cause file (Err e) h = written_error file e h
+
+  pub entered_cause : (dir : FileRef) (taken full : Cause) (result : Result (Unit {0}) DirError) → HasCause (cause_of never taken full) a b result → HasCause cause_of_stop a b (stop_entered dir result)
+  entered_cause dir taken full (Ok x) h = tt
+  entered_cause dir taken full (Err NoSuchName) h = tt
+  entered_cause dir taken full (Err NameTaken) h = tt
+  entered_cause dir taken full (Err (NoSlot largest)) h = tt
+  entered_cause dir taken full (Err (File e)) h = written_error dir e h
+
+unrefused_error : (file : FileRef) (e : FileError) → IfRefused {T = Unit {0}} (Err (stop_writing file e)) (λ r. ⊥)
+unrefused_error file (fault.Misled place at wanted found) = tt
+unrefused_error file (fault.Beyond length) = tt
+unrefused_error file fault.DiskFault = tt
+unrefused_error file fault.Memory = tt
+
+pub written_unrefused : (file : FileRef) (result : Result (Unit {0}) FileError) → IfRefused (stop_written file result) (λ r. ⊥)
+written_unrefused file (Ok x) = tt
+written_unrefused file (Err e) = unrefused_error file e
+
+pub entered_unrefused : (dir : FileRef) (result : Result (Unit {0}) DirError) → IfRefused (stop_entered dir result) (λ r. ⊥)
+entered_unrefused dir (Ok x) = tt
+entered_unrefused dir (Err NoSuchName) = tt
+entered_unrefused dir (Err NameTaken) = tt
+entered_unrefused dir (Err (NoSlot largest)) = tt
+entered_unrefused dir (Err (File e)) = unrefused_error dir e

@@ -1,0 +1,5 @@
+mod Answers
+mod Calling
+mod Joining
+mod Opening
+mod Stepping

@@ -1,0 +1,3 @@
+pub mod Midway
+pub mod Steps
+pub mod Asked
