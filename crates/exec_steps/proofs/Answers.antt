@@ -27,7 +27,7 @@ use Rattle.exec_session.specs.declared.stop.Stop.TheVariants as stop
 -- ---- that a call is to do an operation
 -- with another error for an error, a fault for a fault, and out of memory for out of memory
 module _ {E F T : Type 0} {fault memory : E} {other_fault other_memory : F} {o : Operation} {claimed : List ℕ} {old new : Around} where
-  of_ok : (x : T) → ((Ok {E = F} x ≡ Err other_memory) → ⊥) → ((Ok {E = E} x ≡ Err fault) → ⊥) → Operates fault memory o claimed old new (Ok x) → Operates other_fault other_memory o claimed old new (Ok x)
+  of_ok : (x : T) → (IsErrOf {E = F} (Ok x) other_memory → ⊥) → (IsErrOf {E = E} (Ok x) fault → ⊥) → Operates fault memory o claimed old new (Ok x) → Operates other_fault other_memory o claimed old new (Ok x)
   of_ok x rich well (refused calm bad none) = absurd bad
   of_ok x rich well (begun b) = begun (record {
     writes = b.writes;
@@ -41,7 +41,7 @@ module _ {E F T : Type 0} {fault memory : E} {other_fault other_memory : F} {o :
     out_of_memory = λ e. absurd (rich e);
   })
 
-  of_err : (x : E) (y : F) → (Err {A = T} x ≡ Err fault → Err {A = T} y ≡ Err other_fault) → (Err {A = T} y ≡ Err other_memory → Err {A = T} x ≡ Err memory)
+  of_err : (x : E) (y : F) → (IsErrOf {T = T} (Err x) fault → IsErrOf {T = T} (Err y) other_fault) → (IsErrOf {T = T} (Err y) other_memory → IsErrOf {T = T} (Err x) memory)
       → Operates {T = T} fault memory o claimed old new (Err x) → Operates {T = T} other_fault other_memory o claimed old new (Err y)
   of_err x y is_fault is_memory (refused calm bad none) = refused calm tt (λ e. none (is_memory e))
   of_err x y is_fault is_memory (begun b) = begun (record {

@@ -1,5 +1,10 @@
 mod Answers
 mod Calling
+mod Counting
+mod Entries
 mod Joining
+mod NewFile
 mod Opening
+mod Premises
+mod Serials
 mod Stepping

@@ -43,7 +43,7 @@ use Rattle.pack_model.specs.states.Whole.{Tidy, Whole}
 use Rattle.session_model.specs.Keeping.{Kept}
 use Rattle.exec_session.specs.declared.stop.Stop.{Stop}
 use Rattle.exec_steps.specs.Midway.{AreFree, MayStart, Midway}
-use Rattle.exec_steps.proofs.Stepping.{obeys_many}
+use Rattle.exec_steps.proofs.Counting.{obeys_many}
 
 -- ---- the record write, or none
 by_mark : (P : List Event → Type 0) (p : Pack) (at : ℕ) → P [] → P (value_writes at (opened_value (sector_at p at).value)) → P (opening_writes p at)
@@ -70,7 +70,7 @@ opening_free p at = by_mark (SameFree p) p at (λ i. refl) (values_leave_free_se
 
 -- ---- the line once the mark is open
 module _ {old new : Taped} {one before two : Kept} {at : ℕ} {reserved : List ℕ} (may : MayStart (pack old) one before at reserved) (grown : Grown old new) (all : added old new ≡ opening_writes (pack old) at) where
-  p : Pack
+  abbrev p : Pack
   p = pack old
 
   ends : pack new ≡ after p (opening_writes p at)
@@ -83,7 +83,7 @@ module _ {old new : Taped} {one before two : Kept} {at : ℕ} {reserved : List �
     opens : OpensMark p (opening_writes p at) (open_moves (mark_of (sights p)) (o ∷ ops))
     opens = open_carries_out p at o ops may.sound.whole may.sound.tidy may.placed
 
-    moves : List Move
+    abbrev moves : List Move
     moves = open_moves (mark_of (sights p)) (o ∷ ops)
 
     counted_none : CountedSoFar old.writes one.tally [] (around old before.busy before.tally)

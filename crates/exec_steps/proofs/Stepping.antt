@@ -1,6 +1,7 @@
 -- A step of a line: a call that is to do one operation, from wherever the line is midway.
-use Rattle.std.proofs.Common.{All, AllPairs, Contains, Err, IsErrOf, List, Ok, OnOk, Option, Result, Some, [], add-suc, ap, append-nil, append_assoc, arith, false, length, length-append, refl, subst, suc, sym, take, take_all, true, zero, ℕ, ◌++◌, ◌+◌, ◌<◌, ◌^◌, ◌∙◌, ◌∷◌, ◌≡◌, ◌≢◌, ◌≤◌}
-use Rattle.std.proofs.lemmas.List.Elements.{All-cons, All-tail}
+use Rattle.std.proofs.Common.{All, AllPairs, Contains, Err, IsErrOf, List, Ok, OnOk, Option, Result, Some, [], add-suc, ap, append-nil, append_assoc, arith, false, length, length-append, refl, slice_index_or, subst, suc, sym, take, take_all, true, zero, ℕ, ◌++◌, ◌+◌, ◌<◌, ◌^◌, ◌∙◌, ◌∷◌, ◌≡◌, ◌≢◌, ◌≤◌}
+use Rattle.std.proofs.lemmas.List.Elements.{All-cons, All-head, All-nil, All-tail}
+use Rattle.std.proofs.lemmas.List.Kept.{AllPairs-cons}
 use Rattle.alto_words.specs.declared.fid.Fid.{Fid}
 use Rattle.disk_records.proofs.FirstOnes.{first_all}
 use Rattle.disk_records.proofs.Growing.{added-twice, after-append, grown_twice, pack-after}
@@ -33,14 +34,12 @@ use Rattle.laws_steps.specs.LineKeepingLaws.{KeepsFound}
 use Rattle.pack_laws.proofs.Moving.{start_self}
 use Rattle.pack_model.specs.hints.Misled.{AnswersMisled}
 use Rattle.pack_model.specs.operations.Committing.{moves_of, moves_of_all, open_moves, serial_moves}
-use Rattle.pack_model.specs.operations.Operations.Move.{commits, mends, quiet}
 use Rattle.pack_model.specs.operations.Operations.{Move}
 use Rattle.pack_model.specs.operations.Step.{Operation, step}
 use Rattle.pack_model.specs.reading.Model.{Model, read_as}
 use Rattle.pack_model.specs.reading.Sights.{sights}
 use Rattle.pack_model.specs.sessions.Descriptor.{DescriptorFits}
-use Rattle.pack_model.specs.sessions.Moves.{Meaning, Obeys, rest, write}
-use Rattle.pack_model.specs.sessions.Tallies.{Tells, counted, took_effect}
+use Rattle.pack_model.specs.sessions.Tallies.{Tells, counted}
 use Rattle.pack_model.specs.states.Sound.{mark_of}
 use Rattle.pack_model.specs.states.Whole.{Tidy, Whole}
 use Rattle.session_model.specs.Keeping.{Kept}
@@ -48,6 +47,7 @@ use Rattle.session_model.specs.Turning.{HintFailing}
 use Rattle.exec_session.specs.Meant.{IfHint}
 use Rattle.exec_session.specs.declared.stop.Stop.{Stop}
 use Rattle.exec_session.specs.declared.stop.Stop.TheVariants as stop
+use Rattle.exec_steps.proofs.Counting.{first_few, limit_stays, obeys_many, take_past}
 use Rattle.exec_steps.specs.Midway.{AreFree, Midway, Stepped, StepsOn, moves_so_far, opened_pack}
 
 -- ---- moves of operations, one after another
@@ -69,40 +69,19 @@ so_far_append old done ops all =
 one_moves : (m : Model) (o : Operation) → serial_moves o ≡ [] → moves_of_all m (o ∷ []) ≡ moves_of m o
 one_moves m o none = append-nil (serial_moves o ++ moves_of m o) ∙ ap (λ l. l ++ moves_of m o) none
 
--- ---- as many as record writes
-pub obeys_many : {M O : Type 0} {means : Meaning M O} {m : M} {p : Pack} {writes : List Event} {moves : List O} → Obeys means m p writes moves → length writes ≡ length moves
-obeys_many (rest here) = refl
-obeys_many (write here makes later) = ap suc (obeys_many later)
-
-pub first_few : (writes some : List Event) → IsFirstOf writes some → length some ≤ length writes
-first_few writes [] h = omega arith
-first_few [] (e ∷ some) h = absurd h
-first_few (w ∷ writes) (e ∷ some) h = let few = first_few writes some h.1 in omega (arith, few)
-
-pub take_past : {X : Type 0} (xs ys : List X) (k : ℕ) → take (length xs + k) (xs ++ ys) ≡ xs ++ take k ys
-take_past [] ys k = let e : 0 + k ≡ k = omega arith in ap (λ n. take n ys) e
-take_past (x ∷ xs) ys k = let e : suc (length xs) + k ≡ suc (length xs + k) = omega arith in ap (λ n. take n (x ∷ (xs ++ ys))) e ∙ ap (λ l. x ∷ l) (take_past xs ys k)
-
--- a tally keeps its limit
-pub limit_stays : (w : ℕ) (moves : List Move) (t : Tally) → (counted w moves t).limit ≡ t.limit
-limit_stays w [] t = refl
-limit_stays w (quiet ∷ moves) t = limit_stays (suc w) moves t
-limit_stays w (commits o ∷ moves) t = limit_stays (suc w) moves (took_effect (suc w) t)
-limit_stays w (mends m ∷ moves) t = limit_stays (suc w) moves t
-
 -- ---- sectors that are reserved
 all_right : {X : Type 0} (P : X → Type 0) (xs ys : List X) → All P (xs ++ ys) → All P ys
 all_right P [] ys h = h
 all_right P (x ∷ xs) ys h = all_right P xs ys (All-tail P x (xs ++ ys) h)
 
-pairs_tail : (x : ℕ) (xs : List ℕ) → AllPairs (λ i j. i ≢ j) (x ∷ xs) → AllPairs (λ i j. i ≢ j) xs
+pub pairs_tail : (x : ℕ) (xs : List ℕ) → AllPairs (λ i j. i ≢ j) (x ∷ xs) → AllPairs (λ i j. i ≢ j) xs
 pairs_tail x xs h i j d lt within = h (suc i) (suc j) d (omega (arith, lt)) (omega (arith, within))
 
 pairs_right : (xs ys : List ℕ) → AllPairs (λ i j. i ≢ j) (xs ++ ys) → AllPairs (λ i j. i ≢ j) ys
 pairs_right [] ys h = h
 pairs_right (x ∷ xs) ys h = pairs_right xs ys (pairs_tail x (xs ++ ys) h)
 
-pairs_head : (x : ℕ) (xs : List ℕ) → AllPairs (λ i j. i ≢ j) (x ∷ xs) → All (λ j. x ≢ j) xs
+pub pairs_head : (x : ℕ) (xs : List ℕ) → AllPairs (λ i j. i ≢ j) (x ∷ xs) → All (λ j. x ≢ j) xs
 pairs_head x xs h k d lt = h zero (suc k) d (omega arith) (omega (arith, lt))
 
 none_of : (at : ℕ) → All (λ i. at ≢ i) []
@@ -110,9 +89,21 @@ none_of at k d lt = absurd (omega (arith, lt))
 
 -- those on the right are apart from each on the left
 pub pairs_apart : (xs ys : List ℕ) → AllPairs (λ i j. i ≢ j) (xs ++ ys) → All (λ at. All (λ i. at ≢ i) xs) ys
-pairs_apart [] ys h k d lt = none_of _
+pairs_apart [] ys h k d lt = none_of (slice_index_or ys k d)
 pairs_apart (x ∷ xs) ys h k d lt =
-    All-cons (λ i. _ ≢ i) x xs (λ e. all_right (λ j. x ≢ j) xs ys (pairs_head x (xs ++ ys) h) k d lt (sym e)) (pairs_apart xs ys (pairs_tail x (xs ++ ys) h) k d lt)
+    All-cons (λ i. slice_index_or ys k d ≢ i) x xs (λ e. all_right (λ j. x ≢ j) xs ys (pairs_head x (xs ++ ys) h) k d lt (sym e)) (pairs_apart xs ys (pairs_tail x (xs ++ ys) h) k d lt)
+
+all_left : {X : Type 0} (P : X → Type 0) (xs ys : List X) → All P (xs ++ ys) → All P xs
+all_left P [] ys h = All-nil P
+all_left P (x ∷ xs) ys h = All-cons P x xs (All-head P x (xs ++ ys) h) (all_left P xs ys (All-tail P x (xs ++ ys) h))
+
+pairs_left : (xs ys : List ℕ) → AllPairs (λ i j. i ≢ j) (xs ++ ys) → AllPairs (λ i j. i ≢ j) xs
+pairs_left [] ys h = λ i j d lt within. absurd (omega (arith, within))
+pairs_left (x ∷ xs) ys h = AllPairs-cons (λ i j. i ≢ j) x xs (all_left (λ j. x ≢ j) xs ys (pairs_head x (xs ++ ys) h)) (pairs_left xs ys (pairs_tail x (xs ++ ys) h))
+
+-- the first of some that are free
+pub free_left : (p : Pack) (xs ys : List ℕ) → AreFree p (xs ++ ys) → AreFree p xs
+free_left p xs ys free = (all_left (λ i. is_free_at p i ≡ true) xs ys free.0, pairs_left xs ys free.1)
 
 pub free_after : (p : Pack) (writes : List Event) (claimed rest : List ℕ) → StayFreeBut claimed p writes → AreFree p (claimed ++ rest) → AreFree (after p writes) rest
 free_after p writes claimed rest stay free = (
@@ -142,8 +133,8 @@ pub record Calls {T : Type 0} (now new : Taped) (two three : Kept) (o : Operatio
   pub keeps : KeepsFitting two three
   pub hints : IfHint result (λ place at wanted found. Contains files wanted.fid × AnswersMisled (pack now) (added now new) place at wanted found)
 
-module _ {old now new : Taped} {one two three : Kept} {at : ℕ} {done all : List Operation} {o : Operation} {claimed rest : List ℕ} {files : List Fid} (none : serial_moves o ≡ []) (m : Midway old now one two at done all (claimed ++ rest)) where
-  p : Pack
+module _ (old now new : Taped) (one two three : Kept) (at : ℕ) (done all : List Operation) (o : Operation) (claimed rest : List ℕ) (files : List Fid) (none : serial_moves o ≡ []) (m : Midway old now one two at done all (claimed ++ rest)) where
+  abbrev p : Pack
   p = pack old
 
   here : pack now ≡ after p (added old now)
@@ -152,7 +143,7 @@ module _ {old now new : Taped} {one two three : Kept} {at : ℕ} {done all : Lis
   opened : pack now ≡ after (opened_pack p at) m.wrote
   opened = here ∙ ap (after p) m.events ∙ after-append p (opening_writes p at) m.wrote
 
-  ms : List Move
+  abbrev ms : List Move
   ms = moves_of (read_as (pack now)) o
 
   so_far : moves_so_far old (done ++ o ∷ []) all ≡ moves_so_far old done all ++ ms
@@ -160,13 +151,13 @@ module _ {old now new : Taped} {one two three : Kept} {at : ℕ} {done all : Lis
       so_far_append old done (o ∷ []) all
       ∙ ap (λ l. moves_so_far old done all ++ l) (one_moves (steps_of (read_as p) done) o none ∙ ap (λ x. moves_of x o) (sym m.reads))
 
-  module _ {T : Type 0} where
+  module _ (T : Type 0) where
     -- no more record writes than moves
     few : (result : Result T Stop) → Operates stop.DiskFault stop.Memory o claimed (around now two.busy two.tally) (around new three.busy three.tally) result → length (added now new) ≤ length ms
     few result (refused calm bad rich) = let e : length (added now new) ≡ 0 = ap length calm.silent in omega (arith, e)
     few result (begun b) = let e = obeys_many b.acts.stays.obeys in let f = first_few b.writes (added now new) b.some in omega (arith, e, f)
 
-    module _ {result : Result T Stop} (c : Calls now new two three o claimed files result) where
+    module _ (result : Result T Stop) (c : Calls now new two three o claimed files result) where
       both : added old new ≡ added old now ++ added now new
       both = added-twice m.grown c.grown
 
@@ -216,9 +207,9 @@ module _ {old now new : Taped} {one two three : Kept} {at : ℕ} {done all : Lis
       }) c.hints
 
     -- at Ok
-    module _ (x : T) (c : Calls now new two three o claimed files (Ok x)) (b : BeganToWrite stop.DiskFault stop.Memory o claimed (around now two.busy two.tally) (around new three.busy three.tally) (Ok {E = Stop} x)) where
+    module _ (x : T) (c : Calls now new two three o claimed files (Ok x)) (b : BeganToWrite {T = T} stop.DiskFault stop.Memory o claimed (around now two.busy two.tally) (around new three.busy three.tally) (Ok x)) where
       ends : pack new ≡ after (pack now) b.writes
-      ends = there c ∙ ap (after (pack now)) b.all
+      ends = there (Ok x) c ∙ ap (after (pack now)) b.all
 
       whole_move : length (added now new) ≡ length ms
       whole_move = ap length b.all ∙ obeys_many b.acts.stays.obeys
@@ -231,23 +222,23 @@ module _ {old now new : Taped} {one two three : Kept} {at : ℕ} {done all : Lis
 
       now_midway : Midway old new one three at (done ++ o ∷ []) all rest
       now_midway =
-          let g = step_goes c in
+          let g = step_goes (Ok x) c in
           record {
             grown = grown_twice m.grown c.grown;
             placed = m.placed;
             wrote = m.wrote ++ added now new;
-            events = step_events c;
+            events = step_events (Ok x) c;
             line = subst (λ l. Batch (opened_pack p at) l (done ++ o ∷ [])) (sym g.all.1) (subst (λ l. Batch (opened_pack p at) g.writes l) g.all.0 g.line);
-            many = many_both c ∙ ap (λ n. length (moves_so_far old done all) + n) whole_move ∙ sym (ap length so_far ∙ length-append (moves_so_far old done all) ms);
+            many = many_both (Ok x) c ∙ ap (λ n. length (moves_so_far old done all) + n) whole_move ∙ sym (ap length so_far ∙ length-append (moves_so_far old done all) ms);
             reads = ap read_as ends ∙ b.acts.stays.reads ∙ ap (λ s. step s o) m.reads ∙ sym (steps_append (read_as p) done (o ∷ []));
             whole = subst Whole (sym ends) b.acts.stays.whole;
             tidy = subst Tidy (sym ends) b.acts.stays.tidy;
             fits = c.keeps (pack new) (subst (λ q. DescriptorFits q two.shape two.last two.mark two.pages) (sym ends) (b.acts.fits two.shape two.last two.mark two.pages m.fits));
             counted = subst (λ l. CountedSoFar old.writes one.tally l (around new three.busy three.tally))
               (ap (λ l. moves_so_far old done all ++ l) (take_all (length (added now new)) ms (let e = whole_move in omega (arith, e))) ∙ sym so_far)
-              (call_is_counted_on T Stop old.writes one.tally (moves_so_far old done all) stop.DiskFault stop.Memory o claimed (around now two.busy two.tally) (around new three.busy three.tally) (Ok x) (low_one c) m.counted c.counts c.operates (λ fault. absurd fault));
-            misled = subst (MisledBefore p) (sym (both c)) (later_misled_before p (added old now) (added now new) m.misled known_before);
-            links = subst (KeepsLinks p) (sym (both c)) (links_join p (added old now) (added now new) m.links new_links);
+              (call_is_counted_on T Stop old.writes one.tally (moves_so_far old done all) stop.DiskFault stop.Memory o claimed (around now two.busy two.tally) (around new three.busy three.tally) (Ok x) (low_one (Ok x) c) m.counted c.counts c.operates (λ fault. absurd cc));
+            misled = subst (MisledBefore p) (sym (both (Ok x) c)) (later_misled_before p (added old now) (added now new) m.misled known_before);
+            links = subst (KeepsLinks p) (sym (both (Ok x) c)) (links_join p (added old now) (added now new) m.links new_links);
             free = subst (λ q. AreFree q rest) (sym ends) (free_after (pack now) b.writes claimed rest b.acts.free m.free);
             table = λ was. subst (λ q. TableReserves q three.busy rest) (sym ends) (subst (λ t. TableReserves (after (pack now) b.writes) t rest) (sym b.table)
               (operations_use_the_table (pack now) b.writes two.busy claimed rest b.released (m.table was) b.acts.map b.acts.free (pairs_apart claimed rest m.free.1)
@@ -264,16 +255,16 @@ module _ {old now new : Taped} {one two three : Kept} {at : ℕ} {done all : Lis
     pub steps_from : (result : Result T Stop) → Calls now new two three o claimed files result → Stepped old now new one three at done (o ∷ []) all rest files result
     steps_from result c = record {
       wrote = m.wrote ++ added now new;
-      events = step_events c;
-      goes = step_goes c;
-      within = step_within c;
+      events = step_events result c;
+      goes = step_goes result c;
+      within = step_within result c;
       midway = step_midway result c;
-      found = step_found c;
-      counted = step_counted c;
-      failing = step_failing c;
+      found = step_found result c;
+      counted = step_counted result c;
+      failing = step_failing result c;
     }
 
 -- the call is a step of each line that is midway
 pub step_of_operates : {T : Type 0} (now new : Taped) (two three : Kept) (o : Operation) (claimed : List ℕ) (files : List Fid) (result : Result T Stop) → serial_moves o ≡ [] → Calls now new two three o claimed files result
     → StepsOn now new two three (o ∷ []) claimed files result
-step_of_operates now new two three o claimed files result none c old one at done all rest m = steps_from none m result c
+step_of_operates {T} now new two three o claimed files result none c old one at done all rest m = steps_from old now new one two three at done all o claimed rest files none m T result c

@@ -11,10 +11,10 @@ use Rattle.exec_session.specs.declared.stop.Stop.{Stop}
 -- the second from what is known once the first is done
 abbrev pub StepsJoin : Type 0 → Type 0 → Type 0
 StepsJoin T U = (a b c : Taped) (one two three : Kept) (first second : List Operation) (claimed more : List ℕ) (files others : List Fid) (x : U) (result : Result T Stop)
-    → StepsOn a b one two first claimed files (Ok {E = Stop} x) → ((left : List ℕ) → Arrived (pack a) (pack b) two first (more ++ left) → StepsOn b c two three second more others result)
+    → StepsOn a b one two first claimed files (Ok x) → ((left : List ℕ) → Arrived (pack a) (pack b) two first (more ++ left) → StepsOn b c two three second more others result)
     → StepsOn a c one three (first ++ second) (claimed ++ more) (files ++ others) result
 
 -- a step that isn't done ends what was to come after it, too
 abbrev pub StepStops : Type 0 → Type 0 → Type 0
 StepStops T U = (a b : Taped) (one two : Kept) (first second : List Operation) (claimed more : List ℕ) (files others : List Fid) (stop : Stop)
-    → StepsOn a b one two first claimed files (Err {A = U} stop) → StepsOn a b one two (first ++ second) (claimed ++ more) (files ++ others) (Err {A = T} stop)
+    → StepsOn {T = U} a b one two first claimed files (Err stop) → StepsOn {T = T} a b one two (first ++ second) (claimed ++ more) (files ++ others) (Err stop)
