@@ -68,8 +68,15 @@ opening_misled p at whole placed =
 opening_free : (p : Pack) (at : ℕ) → SameFree p (opening_writes p at)
 opening_free p at = by_mark (SameFree p) p at (λ i. refl) (values_leave_free_sectors p ((at, opened_value (sector_at p at).value) ∷ []))
 
+-- where it is open there is none
+pub none_when_open : (p : Pack) (at : ℕ) → mark_of (sights p) ≡ mark_open → opening_writes p at ≡ []
+none_when_open p at is = ap (λ n. cond (n == mark_open) [] (value_writes at (opened_value (sector_at p at).value))) is
+
+pub same_place : {X : Type 0} (x y : X) → Some x ≡ Some y → x ≡ y
+same_place x y e = cc
+
 -- ---- the line once the mark is open
-module _ {old new : Taped} {one before two : Kept} {at : ℕ} {reserved : List ℕ} (may : MayStart (pack old) one before at reserved) (grown : Grown old new) (all : added old new ≡ opening_writes (pack old) at) where
+module _ (old new : Taped) (one before two : Kept) (at : ℕ) (reserved : List ℕ) (may : MayStart (pack old) one before at reserved) (grown : Grown old new) (all : added old new ≡ opening_writes (pack old) at) where
   abbrev p : Pack
   p = pack old
 
