@@ -1,5 +1,5 @@
 -- The answers of calls on files and directories, as those of a step.
-use Rattle.std.proofs.Common.{Contains, Err, IsErrOf, List, Ok, OnOk, Option, Result, [], ap, arith, length, refl, subst, suc, sym, true, ℕ, ◌++◌, ◌∙◌, ◌∷◌, ◌≡◌, ◌≤◌}
+use Rattle.std.proofs.Common.{Contains, Err, IsErrOf, List, Ok, OnErr, OnOk, Option, Result, [], refl, subst, sym, ℕ, ◌≡◌}
 use Rattle.alto_words.specs.declared.fid.Fid.{Fid}
 use Rattle.disk_records.specs.Causes.{Cause, HasCause, IsCause, never}
 use Rattle.disk_records.specs.Packs.{Pack}
@@ -7,7 +7,7 @@ use Rattle.disk_records.specs.Tapes.{Taped, added, pack}
 use Rattle.disk_records.specs.declared.records.Event.{Event}
 use Rattle.disk_records.specs.declared.records.Page.{Page}
 use Rattle.disk_records.specs.declared.records.Place.{Place}
-use Rattle.laws_call.specs.Acting.{Around, Operates, begun, refused}
+use Rattle.laws_call.specs.Acting.{Around, IsQuiet, Operates, begun, refused}
 use Rattle.page_seeking.specs.Causes.{cause_of_length}
 use Rattle.page_seeking.specs.Refs as refs
 use Rattle.page_seeking.specs.Refs.{MisledBy}
@@ -19,8 +19,8 @@ use Rattle.directory.specs.declared.errors.DirError.{DirError}
 use Rattle.directory.specs.declared.errors.DirError.TheVariants.{NoSuchName, NameTaken, NoSlot, File}
 use Rattle.pack_model.specs.hints.Misled.{AnswersMisled}
 use Rattle.pack_model.specs.operations.Step.{Operation}
-use Rattle.exec_session.specs.Meant.{IfHint, IfRefused}
-use Rattle.exec_session.specs.Stops.{cause_of_stop, stop_entered, stop_entering, stop_writing, stop_written}
+use Rattle.exec_session.specs.Meant.{IfHint}
+use Rattle.exec_session.specs.Stops.{stop_entered, stop_writing, stop_written}
 use Rattle.exec_session.specs.declared.stop.Stop.{Stop}
 use Rattle.exec_session.specs.declared.stop.Stop.TheVariants as stop
 
@@ -82,21 +82,21 @@ module _ {o : Operation} {claimed : List ℕ} {old new : Around} where
 
 -- ---- a hint that misled
 -- of this file, when nothing was written yet
-of_file : {p : Pack} {events : List Event} {f : Fid} (files : List Fid) → Contains files f → events ≡ [] → (place : Place) (at : ℕ) (wanted : Page) (found : Option (List ℕ)) → MisledBy p [] f place at wanted found → Contains files wanted.fid × AnswersMisled p events place at wanted found
-of_file {p} files there silent place at wanted found h = (subst (Contains files) (sym h.own) there, subst (λ l. AnswersMisled p l place at wanted found) (sym silent) h.answers)
+of_file : (p : Pack) (events : List Event) (f : Fid) (files : List Fid) → Contains files f → events ≡ [] → (place : Place) (at : ℕ) (wanted : Page) (found : Option (List ℕ)) → MisledBy p [] f place at wanted found → Contains files wanted.fid × AnswersMisled p events place at wanted found
+of_file p events f files there silent place at wanted found h = (subst (Contains files) (sym h.own) there, subst (λ l. AnswersMisled p l place at wanted found) (sym silent) h.answers)
 
-module _ {p : Pack} {events : List Event} {f : Fid} (files : List Fid) (there : Contains files f) {a b : Taped} where
+module _ (p : Pack) (events : List Event) (f : Fid) (files : List Fid) (there : Contains files f) (a b : Taped) where
   pub written_hints : (file : FileRef) (result : Result (Unit {0}) FileError) → HasCause cause_of_length a b result → refs.IfMisled result (MisledBy p [] f) → refs.IfMisled result (λ place at wanted found. events ≡ [])
       → IfHint (stop_written file result) (λ place at wanted found. Contains files wanted.fid × AnswersMisled p events place at wanted found)
   written_hints file (Ok x) cause h silent = tt
-  written_hints file (Err (fault.Misled place at wanted found)) cause h silent = of_file files there silent place at wanted found h
+  written_hints file (Err (fault.Misled place at wanted found)) cause h silent = of_file p events f files there silent place at wanted found h
   written_hints file (Err (fault.Beyond length)) cause h silent = absurd cause
   written_hints file (Err fault.DiskFault) cause h silent = tt
   written_hints file (Err fault.Memory) cause h silent = tt
 
   entered_hint : (dir : FileRef) (e : FileError) → IsCause a b (cause_of_length e) → refs.IfMisled {T = Unit {0}} (Err e) (MisledBy p [] f) → refs.IfMisled {T = Unit {0}} (Err e) (λ place at wanted found. events ≡ [])
       → IfHint {T = Unit {0}} (Err (stop_writing dir e)) (λ place at wanted found. Contains files wanted.fid × AnswersMisled p events place at wanted found)
-  entered_hint dir (fault.Misled place at wanted found) cause h silent = of_file files there silent place at wanted found h
+  entered_hint dir (fault.Misled place at wanted found) cause h silent = of_file p events f files there silent place at wanted found h
   entered_hint dir (fault.Beyond length) cause h silent = absurd cause
   entered_hint dir fault.DiskFault cause h silent = tt
   entered_hint dir fault.Memory cause h silent = tt
@@ -110,38 +110,27 @@ module _ {p : Pack} {events : List Event} {f : Fid} (files : List Fid) (there : 
   entered_hints dir taken full (Err (NoSlot largest)) cause untaken roomy h silent = absurd roomy
   entered_hints dir taken full (Err (File e)) cause untaken roomy h silent = entered_hint dir e cause h silent
 
--- ---- causes, and no refusal
-module _ {a b : Taped} where
-  written_error : (file : FileRef) (e : FileError) → IsCause a b (cause_of_length e) → IsCause a b (cause_of_stop (stop_writing file e))
-  written_error file (fault.Misled place at wanted found) h = tt
-  written_error file (fault.Beyond length) h = tt
-  written_error file fault.DiskFault h = h
-  written_error file fault.Memory h = tt
+-- ---- what is said of other answers
+pub misled_silent : (X : Type 0) (result : Result (Unit {0}) FileError) → ((IsErrOf result fault.DiskFault → ⊥) → OnErr result X) → refs.IfMisled result (λ place at wanted found. X)
+misled_silent X (Ok x) h = tt
+misled_silent X (Err (fault.Misled place at wanted found)) h = h (λ e. cc)
+misled_silent X (Err (fault.Beyond length)) h = tt
+misled_silent X (Err fault.DiskFault) h = tt
+misled_silent X (Err fault.Memory) h = tt
 
-  pub written_cause : (file : FileRef) (result : Result (Unit {0}) FileError) → HasCause cause_of_length a b result → HasCause cause_of_stop a b (stop_written file result)
-  written_cause file (Ok x) h = tt
-  written_cause file (Err e) h = written_error file e h
+pub misled_quiet : (old new : Around) (result : Result (Unit {0}) DirError) → IfMisled result (λ place at wanted found. IsQuiet old new) → IfMisled result (λ place at wanted found. added old.tape new.tape ≡ [])
+misled_quiet old new (Ok x) h = tt
+misled_quiet old new (Err NoSuchName) h = tt
+misled_quiet old new (Err NameTaken) h = tt
+misled_quiet old new (Err (NoSlot largest)) h = tt
+misled_quiet old new (Err (File (fault.Misled place at wanted found))) h = h.silent
+misled_quiet old new (Err (File (fault.Beyond length))) h = tt
+misled_quiet old new (Err (File fault.DiskFault)) h = tt
+misled_quiet old new (Err (File fault.Memory)) h = tt
 
-  pub entered_cause : (dir : FileRef) (taken full : Cause) (result : Result (Unit {0}) DirError) → HasCause (cause_of never taken full) a b result → HasCause cause_of_stop a b (stop_entered dir result)
-  entered_cause dir taken full (Ok x) h = tt
-  entered_cause dir taken full (Err NoSuchName) h = tt
-  entered_cause dir taken full (Err NameTaken) h = tt
-  entered_cause dir taken full (Err (NoSlot largest)) h = tt
-  entered_cause dir taken full (Err (File e)) h = written_error dir e h
-
-unrefused_error : (file : FileRef) (e : FileError) → IfRefused {T = Unit {0}} (Err (stop_writing file e)) (λ r. ⊥)
-unrefused_error file (fault.Misled place at wanted found) = tt
-unrefused_error file (fault.Beyond length) = tt
-unrefused_error file fault.DiskFault = tt
-unrefused_error file fault.Memory = tt
-
-pub written_unrefused : (file : FileRef) (result : Result (Unit {0}) FileError) → IfRefused (stop_written file result) (λ r. ⊥)
-written_unrefused file (Ok x) = tt
-written_unrefused file (Err e) = unrefused_error file e
-
-pub entered_unrefused : (dir : FileRef) (result : Result (Unit {0}) DirError) → IfRefused (stop_entered dir result) (λ r. ⊥)
-entered_unrefused dir (Ok x) = tt
-entered_unrefused dir (Err NoSuchName) = tt
-entered_unrefused dir (Err NameTaken) = tt
-entered_unrefused dir (Err (NoSlot largest)) = tt
-entered_unrefused dir (Err (File e)) = unrefused_error dir e
+pub roomy : (P : ℕ → Type 0) (result : Result (Unit {0}) DirError) → ((largest : ℕ) → P largest → ⊥) → IfNoSlot result P → IfNoSlot result (λ largest. ⊥)
+roomy P (Ok x) f h = tt
+roomy P (Err NoSuchName) f h = tt
+roomy P (Err NameTaken) f h = tt
+roomy P (Err (NoSlot largest)) f h = f largest h
+roomy P (Err (File e)) f h = tt

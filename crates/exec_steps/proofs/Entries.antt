@@ -58,11 +58,11 @@ never_full p dir name largest s stored room full =
 exact_page : (name : List ℕ) (is : List Item) → exact name is ≡ None → exact name (is ++ space 256 ∷ []) ≡ None
 exact_page name [] e = refl
 exact_page name (space n ∷ is) e = exact_page name is e
-exact_page name (entry f own ∷ is) e = by (is_same_name own name) e
+exact_page name (entry f own ∷ is) e = by (is_same_name own name) e (λ h. exact_page name is h)
   where
-    by : (b : Bool) → cond b (Some (f, own)) (exact name is) ≡ None → cond b (Some (f, own)) (exact name (is ++ space 256 ∷ [])) ≡ None
-    by true e = absurd (none_some _ (sym e))
-    by false e = exact_page name is e
+    by : (b : Bool) → cond b (Some (f, own)) (exact name is) ≡ None → (exact name is ≡ None → exact name (is ++ space 256 ∷ []) ≡ None) → cond b (Some (f, own)) (exact name (is ++ space 256 ∷ [])) ≡ None
+    by true e later = absurd (none_some _ (sym e))
+    by false e later = later e
 
 exact_in : (name : List ℕ) (r : Option File) → exact name (items_in r) ≡ None → exact name (items_in (option_map (on_items (λ is. is ++ space 256 ∷ [])) r)) ≡ None
 exact_in name None e = refl
