@@ -1,5 +1,6 @@
 -- The answers of calls on files and directories, as those of a step.
-use Rattle.std.proofs.Common.{Contains, Err, IsErrOf, List, Ok, OnErr, OnOk, Option, Result, [], refl, subst, sym, ℕ, ◌≡◌}
+use Rattle.std.proofs.Common.{Contains, Err, IsErrOf, List, Ok, OnErr, OnOk, Option, Result, [], ap, arith, refl, subst, sym, ℕ, ◌<◌, ◌≡◌, ◌≤◌}
+use Rattle.std.specs.Result.{IsErrAnd}
 use Rattle.alto_words.specs.declared.fid.Fid.{Fid}
 use Rattle.disk_records.specs.Causes.{Cause, HasCause, IsCause, never}
 use Rattle.disk_records.specs.Packs.{Pack}
@@ -14,13 +15,18 @@ use Rattle.page_seeking.specs.Refs.{MisledBy}
 use Rattle.page_seeking.specs.declared.refs.FileError.{FileError}
 use Rattle.page_seeking.specs.declared.refs.FileError.TheVariants as fault
 use Rattle.page_seeking.specs.declared.refs.FileRef.{FileRef}
+use Rattle.disk_descriptor.specs.Answers.{IfHeld, IfSpent}
+use Rattle.disk_descriptor.specs.Fields.{most_last}
+use Rattle.disk_descriptor.specs.declared.errors.DescError.{DescError}
+use Rattle.disk_descriptor.specs.declared.errors.DescError.TheVariants as desc
 use Rattle.directory.specs.Errors.{IfMisled, IfNoSlot, cause_of, disk_fault, out_of_memory}
 use Rattle.directory.specs.declared.errors.DirError.{DirError}
 use Rattle.directory.specs.declared.errors.DirError.TheVariants.{NoSuchName, NameTaken, NoSlot, File}
 use Rattle.pack_model.specs.hints.Misled.{AnswersMisled}
 use Rattle.pack_model.specs.operations.Step.{Operation}
-use Rattle.exec_session.specs.Meant.{IfHint}
-use Rattle.exec_session.specs.Stops.{stop_entered, stop_writing, stop_written}
+use Rattle.session_model.specs.Refusals.{most_serials}
+use Rattle.exec_session.specs.Meant.{IfHint, IfRefused}
+use Rattle.exec_session.specs.Stops.{stop_entered, stop_of_desc, stop_writing, stop_written}
 use Rattle.exec_session.specs.declared.stop.Stop.{Stop}
 use Rattle.exec_session.specs.declared.stop.Stop.TheVariants as stop
 
@@ -134,3 +140,33 @@ roomy P (Err NoSuchName) f h = tt
 roomy P (Err NameTaken) f h = tt
 roomy P (Err (NoSlot largest)) f h = f largest h
 roomy P (Err (File e)) f h = tt
+
+-- ---- of calls on DiskDescriptor
+pub desc_hints : (T U : Type 0) (x : DescError) → IfHeld {T = U} (Err x) (λ at found. ⊥) → IfHint {T = T} (Err (stop_of_desc x)) (λ place at wanted found. ⊥)
+desc_hints T U (desc.Spent last) h = tt
+desc_hints T U (desc.Held at found) h = h
+desc_hints T U desc.DiskFault h = tt
+desc_hints T U desc.Memory h = tt
+
+pub desc_unrefused : (T U : Type 0) (x : DescError) (k : ℕ) → k < most_serials → IfSpent {T = U} (Err x) (λ last. (last ≡ k) × (most_last ≤ last)) → IfRefused {T = T} (Err (stop_of_desc x)) (λ r. ⊥)
+unfolding most_serials
+desc_unrefused T U (desc.Spent last) k left h = let same = h.0 in let most = h.1 in absurd (omega (arith, left, same, most))
+desc_unrefused T U (desc.Held at found) k left h = tt
+desc_unrefused T U desc.DiskFault k left h = tt
+desc_unrefused T U desc.Memory k left h = tt
+
+-- ---- the error that an answer passes on, and a call that wrote to a file
+pub error_is : {U : Type 0} {s : Stop} (r : Result U Stop) → IsErrAnd r (λ x. x ≡ s) → r ≡ Err s
+error_is (Ok x) is = absurd is
+error_is (Err x) is = ap Err is
+
+pub was_written : (X : Type 0) (file : FileRef) (x : Unit {0}) (result : Result (Unit {0}) FileError) → Ok x ≡ stop_written file result → OnOk result X → X
+was_written X file x (Ok y) is h = h
+was_written X file x (Err e) is h = absurd cc
+
+pub no_hints : (file : FileRef) (a b : Taped) (result : Result (Unit {0}) FileError) → HasCause cause_of_length a b result → refs.IfMisled result (λ place at wanted found. ⊥) → IfHint (stop_written file result) (λ place at wanted found. ⊥)
+no_hints file a b (Ok x) cause h = tt
+no_hints file a b (Err (fault.Misled place at wanted found)) cause h = h
+no_hints file a b (Err (fault.Beyond length)) cause h = cause
+no_hints file a b (Err fault.DiskFault) cause h = tt
+no_hints file a b (Err fault.Memory) cause h = tt

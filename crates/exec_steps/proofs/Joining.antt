@@ -102,19 +102,44 @@ step_stops T U a b one two first second claimed more files others error steps ol
 
 -- ---- other answers
 -- a step whose answer has another value
-pub step_of_other : (T U : Type 0) (now new : Taped) (two three : Kept) (ops : List Operation) (claimed : List ℕ) (files : List Fid) (x : U) (y : T) → StepsOn now new two three ops claimed files (Ok x) → StepsOn now new two three ops claimed files (Ok y)
-step_of_other T U now new two three ops claimed files x y steps old one at done all rest m =
-    let s = steps old one at done all rest m in
-    record {
-      wrote = s.wrote;
-      events = s.events;
-      goes = record { begun = s.goes.begun; start = s.goes.start; writes = s.goes.writes; line = s.goes.line; some = s.goes.some; all = s.goes.all };
-      within = s.within;
-      midway = s.midway;
-      found = s.found;
-      counted = λ tells. s.counted (λ fault. absurd cc);
-      failing = tt;
-    }
+module _ (T U : Type 0) (old now new : Taped) (one two : Kept) (at : ℕ) (done ops all : List Operation) (left : List ℕ) (files : List Fid) where
+  pub stepped_ok : (x : U) (y : T) → Stepped old now new one two at done ops all left files (Ok x) → Stepped old now new one two at done ops all left files (Ok y)
+  stepped_ok x y s = record {
+    wrote = s.wrote;
+    events = s.events;
+    goes = record { begun = s.goes.begun; start = s.goes.start; writes = s.goes.writes; line = s.goes.line; some = s.goes.some; all = s.goes.all };
+    within = s.within;
+    midway = s.midway;
+    found = s.found;
+    counted = λ tells. s.counted (λ fault. absurd cc);
+    failing = tt;
+  }
+
+  failing_too : (error : Stop) → IfHint {T = U} (Err error) (HintFailing (pack old) (added old new) files) → IfHint {T = T} (Err error) (HintFailing (pack old) (added old new) files)
+  failing_too (stop.Refused r) h = tt
+  failing_too (stop.Misled place at wanted found) h = h
+  failing_too stop.DiskFault h = tt
+  failing_too stop.Memory h = tt
+
+  pub stepped_err : (error : Stop) → Stepped {T = U} old now new one two at done ops all left files (Err error) → Stepped {T = T} old now new one two at done ops all left files (Err error)
+  stepped_err error s = record {
+    wrote = s.wrote;
+    events = s.events;
+    goes = record { begun = s.goes.begun; start = s.goes.start; writes = s.goes.writes; line = s.goes.line; some = s.goes.some; all = tt };
+    within = s.within;
+    midway = tt;
+    found = tt;
+    counted = λ tells. s.counted (tells_too T U new error tells);
+    failing = failing_too error s.failing;
+  }
+
+-- and so of a step of each line
+module _ (T U : Type 0) (now new : Taped) (two three : Kept) (ops : List Operation) (claimed : List ℕ) (files : List Fid) where
+  pub steps_ok : (x : U) (y : T) → StepsOn now new two three ops claimed files (Ok x) → StepsOn now new two three ops claimed files (Ok y)
+  steps_ok x y steps old one at done all left m = stepped_ok T U old now new one three at done ops all left files x y (steps old one at done all left m)
+
+  pub steps_err : (error : Stop) → StepsOn {T = U} now new two three ops claimed files (Err error) → StepsOn {T = T} now new two three ops claimed files (Err error)
+  steps_err error steps old one at done all left m = stepped_err T U old now new one three at done ops all left files error (steps old one at done all left m)
 
 -- a call that has nothing to do
 pub step_of_nothing : {T : Type 0} (now : Taped) (two : Kept) (files : List Fid) (x : T) → StepsOn now now two two [] [] files (Ok x)

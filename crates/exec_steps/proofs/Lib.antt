@@ -4,6 +4,7 @@ mod Counting
 mod Entries
 mod Joining
 mod NewFile
+mod NextFile
 mod Opening
 mod Premises
 mod Serials

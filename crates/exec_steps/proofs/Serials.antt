@@ -1,5 +1,5 @@
 -- A new serial and its make, as one step of a line.
-use Rattle.std.proofs.Common.{All, Bool, Err, List, Ok, OnOk, Option, Result, Some, [], ap, append-nil, append_assoc, arith, false, length, length-append, refl, subst, suc, sym, take, take_all, true, zero, ℕ, ◌++◌, ◌+◌, ◌<◌, ◌^◌, ◌∙◌, ◌∷◌, ◌≡◌, ◌≢◌, ◌≤◌, ◌||◌, ◌==◌}
+use Rattle.std.proofs.Common.{All, Bool, Err, List, Ok, OnOk, Option, Result, Some, [], ap, append-nil, append_assoc, arith, false, length, length-append, refl, slice_index_or, subst, suc, sym, take, take_all, true, zero, ℕ, ◌++◌, ◌+◌, ◌<◌, ◌^◌, ◌∙◌, ◌∷◌, ◌≡◌, ◌≢◌, ◌≤◌, ◌||◌, ◌==◌}
 use Rattle.std.proofs.lemmas.List.Elements.{All-cons, All-tail}
 use Rattle.std.proofs.lemmas.List.Kept.{AllPairs-cons}
 use Rattle.std.specs.List.{list_any}
@@ -109,7 +109,7 @@ quiet_taken w t moves ms zero few = ap (λ l. counted w l t) (append-nil moves)
 quiet_taken w t moves ms (suc zero) few = (tallies_join w moves (quiet ∷ []) t).whole
 quiet_taken w t moves ms (suc (suc n)) few = absurd (omega (arith, few))
 
-module _ {old a b : Taped} {one two : Kept} {at : ℕ} {done all : List Operation} {reserved : List ℕ} (m : Midway old a one two at done all reserved) (grown : Grown a b) (bt last : ℕ) (placed : place (sights (pack a)) disk_descriptor 1 ≡ Some bt) (above : (read_as (pack a)).last ≤ last) (f : Fid) (name : List ℕ) (moment : ℕ) where
+module _ (old a b : Taped) (one two : Kept) (at : ℕ) (done all : List Operation) (reserved : List ℕ) (m : Midway old a one two at done all reserved) (grown : Grown a b) (bt last : ℕ) (placed : place (sights (pack a)) disk_descriptor 1 ≡ Some bt) (above : (read_as (pack a)).last ≤ last) (f : Fid) (name : List ℕ) (moment : ℕ) where
   abbrev p : Pack
   p = pack old
 
@@ -138,7 +138,7 @@ module _ {old a b : Taped} {one two : Kept} {at : ℕ} {done all : List Operatio
       (subst (λ q. place (sights q) disk_descriptor 1 ≡ Some bt) opened placed) (subst (λ q. (read_as q).last ≤ last) opened above) (subst (λ q. StaysMendable (with_serial q bt last) writes own) opened stays)
 
   -- ---- the serial isn't given
-  module _ {T : Type 0} {three : Kept} {rest : List ℕ} {files : List Fid} (writes : List Event) (stays : StaysMendable (with_serial (pack a) bt last) writes own) (error : Stop) (some : IsFirstOf serial (added a b)) (tally : three.tally ≡ two.tally) (hints : IfHint {T = T} (Err error) (λ place at wanted found. ⊥)) where
+  module _ (T : Type 0) (three : Kept) (rest : List ℕ) (files : List Fid) (writes : List Event) (stays : StaysMendable (with_serial (pack a) bt last) writes own) (error : Stop) (some : IsFirstOf serial (added a b)) (tally : three.tally ≡ two.tally) (hints : IfHint {T = T} (Err error) (λ place at wanted found. ⊥)) where
     pub serial_failed : Stepped {T = T} old a b one three at done (own ∷ []) all rest files (Err error)
     serial_failed =
         let both : added old b ≡ added old a ++ added a b = added-twice m.grown grown in
@@ -154,7 +154,7 @@ module _ {old a b : Taped} {one two : Kept} {at : ℕ} {done all : List Operatio
           counted = λ tells. tally ∙ m.counted.tally ∙ sym (
             ap (λ l. counted old.writes l one.tally) (ap (λ n. take n (moves_so_far old (done ++ own ∷ []) all)) many ∙ ap (take (length (moves_so_far old done all) + length (added a b))) so_far ∙ take_past (moves_so_far old done all) (quiet ∷ ms) (length (added a b)))
             ∙ quiet_taken old.writes one.tally (moves_so_far old done all) ms (length (added a b)) few);
-          failing = if_hint_weaker _ _ (Err error) (λ place at wanted found h. absurd h) hints;
+          failing = if_hint_weaker {T = T} (λ place hint wanted found. ⊥) (HintFailing p (added old b) files) (Err error) (λ place hint wanted found h. absurd h) hints;
         }
 
   -- ---- it is given
@@ -171,7 +171,7 @@ module _ {old a b : Taped} {one two : Kept} {at : ℕ} {done all : List Operatio
     still_free : AreFree (pack b) reserved
     still_free =
         let same = values_leave_free_sectors (pack a) ((bt, serial_value last (sector_at (pack a) bt).value) ∷ []) in
-        subst (λ q. AreFree q reserved) (sym here) ((λ k d lt. same _ ∙ m.free.0 k d lt), m.free.1)
+        subst (λ q. AreFree q reserved) (sym here) ((λ k d lt. same (slice_index_or reserved k d) ∙ m.free.0 k d lt), m.free.1)
 
     still_reserved : TableTrue p one.busy → TableReserves (pack b) two.busy reserved
     still_reserved was =
@@ -184,7 +184,7 @@ module _ {old a b : Taped} {one two : Kept} {at : ℕ} {done all : List Operatio
     counted_serial : CountsOn a b → CountedSoFar old.writes one.tally (moves_so_far old done all ++ quiet ∷ []) (around b two.busy two.tally)
     counted_serial counts = quiet_call_is_counted old.writes one.tally (moves_so_far old done all) (quiet ∷ []) (around a two.busy two.tally) (around b two.busy two.tally) m.counted counts refl refl (sym (ap writes_in whole_serial))
 
-    module _ {c : Taped} {three : Kept} {claimed rest : List ℕ} {files : List Fid} (parts : reserved ≡ claimed ++ rest) (made : Grown b c) (counts_serial : CountsOn a b) (counts_make : CountsOn b c) (low : two.tally.limit < 2 ^ 64)
+    module _ (c : Taped) (three : Kept) (claimed rest : List ℕ) (files : List Fid) (parts : reserved ≡ claimed ++ rest) (made : Grown b c) (counts_serial : CountsOn a b) (counts_make : CountsOn b c) (low : two.tally.limit < 2 ^ 64)
         (keeps : (q : Pack) → DescriptorFits q two.shape last two.mark two.pages → DescriptorFits q three.shape three.last three.mark three.pages) where
       both : added a c ≡ serial ++ added b c
       both = added-twice grown made ∙ ap (λ l. l ++ added b c) whole_serial
@@ -210,7 +210,7 @@ module _ {old a b : Taped} {one two : Kept} {at : ℕ} {done all : List Operatio
           ∙ take_past (moves_so_far old done all) (quiet ∷ ms) (suc (length (added b c)))
           ∙ sym (append_assoc (moves_so_far old done all) (quiet ∷ []) (take (length (added b c)) ms))
 
-      module _ {T : Type 0} where
+      module _ (T : Type 0) where
         few : (result : Result T Stop) → Operates stop.DiskFault stop.Memory own claimed (around b two.busy two.tally) (around c three.busy three.tally) result → length (added b c) ≤ length ms
         few result (refused calm bad rich) = let e : length (added b c) ≡ 0 = ap length calm.silent in omega (arith, e)
         few result (begun r) = let e = obeys_many r.acts.stays.obeys in let f = first_few r.writes (added b c) r.some in omega (arith, e, f)
