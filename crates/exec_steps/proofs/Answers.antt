@@ -134,6 +134,13 @@ misled_quiet old new (Err (File (fault.Beyond length))) h = tt
 misled_quiet old new (Err (File fault.DiskFault)) h = tt
 misled_quiet old new (Err (File fault.Memory)) h = tt
 
+pub quiet_silent : (old new : Around) (result : Result (Unit {0}) FileError) → refs.IfMisled result (λ place at wanted found. IsQuiet old new) → refs.IfMisled result (λ place at wanted found. added old.tape new.tape ≡ [])
+quiet_silent old new (Ok x) h = tt
+quiet_silent old new (Err (fault.Misled place at wanted found)) h = h.silent
+quiet_silent old new (Err (fault.Beyond length)) h = tt
+quiet_silent old new (Err fault.DiskFault) h = tt
+quiet_silent old new (Err fault.Memory) h = tt
+
 pub roomy : (P : ℕ → Type 0) (result : Result (Unit {0}) DirError) → ((largest : ℕ) → P largest → ⊥) → IfNoSlot result P → IfNoSlot result (λ largest. ⊥)
 roomy P (Ok x) f h = tt
 roomy P (Err NoSuchName) f h = tt
@@ -170,3 +177,11 @@ no_hints file a b (Err (fault.Misled place at wanted found)) cause h = h
 no_hints file a b (Err (fault.Beyond length)) cause h = cause
 no_hints file a b (Err fault.DiskFault) cause h = tt
 no_hints file a b (Err fault.Memory) cause h = tt
+
+-- a call that never answers that there is no room
+pub never_full : (a b : Taped) (result : Result (Unit {0}) DirError) → HasCause (cause_of never never never) a b result → IfNoSlot result (λ largest. ⊥)
+never_full a b (Ok x) cause = tt
+never_full a b (Err NoSuchName) cause = tt
+never_full a b (Err NameTaken) cause = tt
+never_full a b (Err (NoSlot largest)) cause = cause
+never_full a b (Err (File e)) cause = tt

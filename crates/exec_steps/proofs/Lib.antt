@@ -2,6 +2,7 @@ mod Answers
 mod Calling
 mod Counting
 mod Entries
+mod Grown
 mod Joining
 mod NewFile
 mod NextFile
@@ -9,3 +10,4 @@ mod Opening
 mod Premises
 mod Serials
 mod Stepping
+mod Widened
