@@ -1,9 +1,12 @@
 mod Ending
-mod Finding
-mod Looking
+pub mod Finding
+pub mod Looking
 mod NewNaming
-mod OrdinaryFiles
+pub mod OrdinaryFiles
+mod Parts
 mod RoomPlanning
+pub mod SectorTaking
 mod SerialFiles
-mod Stopping
+pub mod Stopping
 mod SweptLeaders
+pub mod Turning
