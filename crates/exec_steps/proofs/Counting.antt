@@ -1,12 +1,12 @@
 -- Record writes and moves, as many of one as of the other.
-use Rattle.std.proofs.Common.{List, [], ap, arith, length, refl, suc, take, ℕ, ◌++◌, ◌+◌, ◌∙◌, ◌∷◌, ◌≡◌, ◌≤◌}
+use Rattle.std.proofs.Common.{List, [], ap, arith, length, refl, subst, suc, sym, take, ℕ, ◌++◌, ◌+◌, ◌∙◌, ◌∷◌, ◌≡◌, ◌≤◌}
 use Rattle.disk_records.specs.Events.{IsFirstOf}
-use Rattle.disk_records.specs.Packs.{Pack}
+use Rattle.disk_records.specs.Packs.{Pack, after}
 use Rattle.disk_records.specs.declared.records.Event.{Event}
 use Rattle.disk_records.specs.declared.records.Tally.{Tally}
 use Rattle.pack_model.specs.operations.Operations.Move.{commits, mends, quiet}
 use Rattle.pack_model.specs.operations.Operations.{Move}
-use Rattle.pack_model.specs.sessions.Moves.{Meaning, Obeys, rest, write}
+use Rattle.pack_model.specs.sessions.Moves.{Meaning, Obeys, rest, steps, write}
 use Rattle.pack_model.specs.sessions.Tallies.{counted, took_effect}
 
 -- ---- as many as record writes
@@ -29,3 +29,11 @@ limit_stays w [] t = refl
 limit_stays w (quiet ∷ moves) t = limit_stays (suc w) moves t
 limit_stays w (commits o ∷ moves) t = limit_stays (suc w) moves (took_effect (suc w) t)
 limit_stays w (mends m ∷ moves) t = limit_stays (suc w) moves t
+
+-- ---- where record writes end, and that none make none
+pub obeys_ends : {M O : Type 0} {means : Meaning M O} {m : M} {p : Pack} {writes : List Event} {moves : List O} → Obeys means m p writes moves → means.Stands (steps means m moves) (after p writes)
+obeys_ends (rest here) = here
+obeys_ends (write here makes later) = obeys_ends later
+
+pub none_obeyed : {M O : Type 0} (means : Meaning M O) (m : M) (p : Pack) (events : List Event) → events ≡ [] → means.Stands m p → Obeys means m p events []
+none_obeyed means m p events none stands = subst (λ es. Obeys means m p es []) (sym none) (rest stands)

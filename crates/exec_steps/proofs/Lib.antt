@@ -4,6 +4,7 @@ mod Counting
 mod Entries
 mod Grown
 mod Joining
+mod Lining
 mod NewFile
 mod NextFile
 mod Opening

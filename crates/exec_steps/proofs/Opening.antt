@@ -124,6 +124,7 @@ module _ (old new : Taped) (one before two : Kept) (at : ℕ) (reserved : List �
       reads = reads;
       whole = whole;
       tidy = tidy;
+      marked = ap (λ q. mark_of (sights q)) ends ∙ opens.marked;
       fits = fits;
       counted = subst (λ l. CountedSoFar old.writes one.tally l (around new two.busy two.tally)) (sym (append-nil moves)) counted_opened;
       misled = subst (MisledBefore p) (sym all) (opening_misled p at may.sound.whole may.placed (subst Whole ends whole));

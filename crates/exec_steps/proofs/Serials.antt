@@ -10,6 +10,7 @@ use Rattle.disk_records.proofs.Growing.{added-twice, after-append, grown_twice, 
 use Rattle.disk_records.specs.Events.{IsFirstOf, writes_in}
 use Rattle.disk_records.specs.Packs.{Pack, after, is_free_at, sector_at}
 use Rattle.disk_records.specs.Tapes.{Grown, Taped, added, pack}
+use Rattle.disk_records.specs.Words.{word}
 use Rattle.disk_records.specs.declared.records.Event.{Event}
 use Rattle.disk_records.specs.declared.records.Page.{Page}
 use Rattle.disk_records.specs.declared.records.Place.{Place}
@@ -50,10 +51,12 @@ use Rattle.pack_model.specs.operations.Operations.{Move}
 use Rattle.pack_model.specs.operations.Step.Operation.{make}
 use Rattle.pack_model.specs.operations.Step.{Operation, step}
 use Rattle.pack_model.specs.reading.Files.{place}
+use Rattle.pack_model.specs.reading.Bytes.{words_of}
 use Rattle.pack_model.specs.reading.Model.{read_as}
 use Rattle.pack_model.specs.reading.Sights.{sights}
 use Rattle.pack_model.specs.sessions.Descriptor.{DescriptorFits, serial_value, serial_writes}
 use Rattle.pack_model.specs.sessions.Tallies.{Tells, counted}
+use Rattle.pack_model.specs.states.Sound.{mark_of}
 use Rattle.pack_model.specs.states.Whole.{Tidy, Whole}
 use Rattle.session_model.specs.Keeping.{Kept}
 use Rattle.session_model.specs.Turning.{HintFailing}
@@ -95,6 +98,7 @@ swapped {old} {a} {one} {two} {at} {done} {all} {rest} x y m = record {
   reads = m.reads;
   whole = m.whole;
   tidy = m.tidy;
+  marked = m.marked;
   fits = m.fits;
   counted = m.counted;
   misled = m.misled;
@@ -250,6 +254,7 @@ module _ (old a b : Taped) (one two : Kept) (at : ℕ) (done all : List Operatio
             reads = ap read_as ends ∙ r.acts.stays.reads ∙ ap (λ s. step s own) (ap read_as here ∙ gives.reads) ∙ ap (λ s. step s own) m.reads ∙ sym (steps_append (read_as p) done (own ∷ []));
             whole = subst Whole (sym ends) r.acts.stays.whole;
             tidy = subst Tidy (sym ends) r.acts.stays.tidy;
+            marked = ap (λ q. mark_of (sights q)) ends ∙ ap (λ bytes. word (words_of bytes) 6) r.acts.descriptor.bytes ∙ ap (λ q. mark_of (sights q)) here ∙ gives.mark ∙ m.marked;
             fits = keeps (pack c) (subst (λ q. DescriptorFits q two.shape last two.mark two.pages) (sym ends)
               (r.acts.fits two.shape last two.mark two.pages (subst (λ q. DescriptorFits q two.shape last two.mark two.pages) (sym here)
               ((descriptor_fits_on (pack a) two.shape two.last two.mark two.pages m.whole m.tidy m.fits).serial bt last placed (subst (λ n. n ≤ last) m.fits.last_is above)))));

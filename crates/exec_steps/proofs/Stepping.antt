@@ -8,6 +8,7 @@ use Rattle.disk_records.proofs.Growing.{added-twice, after-append, grown_twice, 
 use Rattle.disk_records.specs.Events.{IsFirstOf}
 use Rattle.disk_records.specs.Packs.{Pack, after, is_free_at}
 use Rattle.disk_records.specs.Tapes.{Grown, Taped, added, pack}
+use Rattle.disk_records.specs.Words.{word}
 use Rattle.disk_records.specs.declared.records.Event.{Event}
 use Rattle.disk_records.specs.declared.records.Page.{Page}
 use Rattle.disk_records.specs.declared.records.Place.{Place}
@@ -36,6 +37,7 @@ use Rattle.pack_model.specs.hints.Misled.{AnswersMisled}
 use Rattle.pack_model.specs.operations.Committing.{moves_of, moves_of_all, open_moves, serial_moves}
 use Rattle.pack_model.specs.operations.Operations.{Move}
 use Rattle.pack_model.specs.operations.Step.{Operation, step}
+use Rattle.pack_model.specs.reading.Bytes.{words_of}
 use Rattle.pack_model.specs.reading.Model.{Model, read_as}
 use Rattle.pack_model.specs.reading.Sights.{sights}
 use Rattle.pack_model.specs.sessions.Descriptor.{DescriptorFits}
@@ -233,6 +235,7 @@ module _ (old now new : Taped) (one two three : Kept) (at : ℕ) (done all : Lis
             reads = ap read_as ends ∙ b.acts.stays.reads ∙ ap (λ s. step s o) m.reads ∙ sym (steps_append (read_as p) done (o ∷ []));
             whole = subst Whole (sym ends) b.acts.stays.whole;
             tidy = subst Tidy (sym ends) b.acts.stays.tidy;
+            marked = ap (λ q. mark_of (sights q)) ends ∙ ap (λ bytes. word (words_of bytes) 6) b.acts.descriptor.bytes ∙ m.marked;
             fits = c.keeps (pack new) (subst (λ q. DescriptorFits q two.shape two.last two.mark two.pages) (sym ends) (b.acts.fits two.shape two.last two.mark two.pages m.fits));
             counted = subst (λ l. CountedSoFar old.writes one.tally l (around new three.busy three.tally))
               (ap (λ l. moves_so_far old done all ++ l) (take_all (length (added now new)) ms (let e = whole_move in omega (arith, e))) ∙ sym so_far)

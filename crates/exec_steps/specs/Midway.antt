@@ -14,7 +14,7 @@ use Rattle.pack_model.specs.reading.Files.{place}
 use Rattle.pack_model.specs.reading.Model.{read_as}
 use Rattle.pack_model.specs.reading.Sights.{sights}
 use Rattle.pack_model.specs.sessions.Tallies.{Tells, counted}
-use Rattle.pack_model.specs.states.Sound.{Sound, mark_of}
+use Rattle.pack_model.specs.states.Sound.{Sound, mark_of, mark_open}
 use Rattle.pack_model.specs.states.Whole.{Whole, Tidy}
 use Rattle.laws_call.specs.Acting.{around}
 use Rattle.laws_call.specs.CountLaws.{CountedSoFar}
@@ -48,7 +48,7 @@ abbrev pub moves_so_far : Taped → List Operation → List Operation → List M
 moves_so_far old done all = begun_moves (mark_of (sights (pack old))) (read_as (pack old)) done all
 
 -- The line began on the machine `old` with what `one` keeps, and has opened the mark and done these operations, all of them, with one record
--- write a move; so the pack is read as the model after them. What is kept of DiskDescriptor fits; the tally counts the moves so far; hints
+-- write a move; so the pack is read as the model after them, and its mark is open. What is kept of DiskDescriptor fits; the tally counts the moves so far; hints
 -- that mislead now misled as the line began, links that were true are true, and a table that was true has these sectors reserved.
 pub record Midway (old now : Taped) (one two : Kept) (at : ℕ) (done all : List Operation) (reserved : List ℕ) : Type 0 where
   pub grown : Grown old now
@@ -60,6 +60,7 @@ pub record Midway (old now : Taped) (one two : Kept) (at : ℕ) (done all : List
   pub reads : read_as (pack now) ≡ steps_of (read_as (pack old)) done
   pub whole : Whole (pack now)
   pub tidy : Tidy (pack now)
+  pub marked : mark_of (sights (pack now)) ≡ mark_open
   pub fits : DescriptorFits (pack now) two.shape two.last two.mark two.pages
   pub counted : CountedSoFar old.writes one.tally (moves_so_far old done all) (around now two.busy two.tally)
   pub misled : MisledBefore (pack old) (added old now)
