@@ -1,5 +1,5 @@
 -- A new file with its entry: three steps as one.
-use Rattle.std.proofs.Common.{Bool, Contains, Err, List, Ok, Result, Some, [], ap, append-nil, append_assoc, arith, drop, false, inl, inr, length, refl, subst, suc, sym, take, take-add, true, ℕ, ◌++◌, ◌+◌, ◌<◌, ◌^◌, ◌∙◌, ◌∷◌, ◌≡◌, ◌≤◌}
+use Rattle.std.proofs.Common.{Bool, Contains, Err, List, Ok, Result, Some, [], ap, append-nil, append_assoc, arith, drop, false, inl, inr, length, length-drop, refl, subst, suc, sym, take, take-add, take_all, true, ℕ, ◌++◌, ◌+◌, ◌-◌, ◌<◌, ◌^◌, ◌∙◌, ◌∷◌, ◌≡◌, ◌≤◌}
 use Rattle.std.proofs.lemmas.List.Elements.{Contains-append_cases, Contains-append_right}
 use Rattle.std.specs.Option.{is_some}
 use Rattle.alto_words.specs.Fid.{is_fid, is_full_name, serial_of, sys_dir}
@@ -106,6 +106,10 @@ module _ (a b : Taped) (k0 k1 : Kept) (e : NewEntry) (is_dir : Bool) (fresh late
 sectors_are : (n : ℕ) (fresh later : List ℕ) → later ≡ drop n fresh → take n fresh ++ (take 2 later ++ []) ≡ take (n + 2) fresh
 sectors_are n fresh later is = ap (λ l. take n fresh ++ l) (append-nil (take 2 later) ∙ ap (take 2) is) ∙ sym (take-add n 2 fresh)
 
+-- a slice from a place to the end
+pub from_there : (n : ℕ) (fresh : List ℕ) → take (length fresh - n) (drop n fresh) ≡ drop n fresh
+from_there n fresh = take_all (length fresh - n) (drop n fresh) (let e : length (drop n fresh) ≡ length fresh - n = length-drop n fresh in omega (arith, e))
+
 -- the entry's directory twice is none more
 twice_one : (d e f : Fid) → Contains ((d ∷ e ∷ []) ++ ([] ++ (e ∷ []))) f → Contains (d ∷ e ∷ []) f
 twice_one d e f h = elim (Contains-append_cases (d ∷ e ∷ []) (e ∷ []) f h) [
@@ -114,42 +118,42 @@ twice_one d e f h = elim (Contains-append_cases (d ∷ e ∷ []) (e ∷ []) f h)
 ]
 
 module _ (a b : Taped) (k0 k1 : Kept) (e : NewEntry) (is_dir : Bool) (fresh later : List ℕ) (moment : ℕ) (is_later : later ≡ drop (pages_planned e) fresh) where
-  abbrev f : Fid
-  f = made_fid is_dir (k0.last + 1)
+  abbrev own : Fid
+  own = made_fid is_dir (k0.last + 1)
 
-  as_made : (T : Type 0) (now new : Taped) (two three : Kept) (result : Result T Stop) → StepsOn now new two three (first_widenings e ++ (make f e.name moment ∷ enter e.dir.fid e.name f ∷ [])) (take (pages_planned e) fresh ++ (take 2 later ++ [])) ((sys_dir ∷ e.dir.fid ∷ []) ++ ([] ++ (e.dir.fid ∷ []))) result
-      → StepsOn now new two three (made_entered e f moment) (take (pages_planned e + 2) fresh) (sys_dir ∷ e.dir.fid ∷ []) result
+  as_made : (T : Type 0) (now new : Taped) (two three : Kept) (result : Result T Stop) → StepsOn now new two three (first_widenings e ++ (make own e.name moment ∷ enter e.dir.fid e.name own ∷ [])) (take (pages_planned e) fresh ++ (take 2 later ++ [])) ((sys_dir ∷ e.dir.fid ∷ []) ++ ([] ++ (e.dir.fid ∷ []))) result
+      → StepsOn now new two three (made_entered e own moment) (take (pages_planned e + 2) fresh) (sys_dir ∷ e.dir.fid ∷ []) result
   as_made T now new two three result steps =
-      step_for now new two three (made_entered e f moment) (take (pages_planned e + 2) fresh) ((sys_dir ∷ e.dir.fid ∷ []) ++ ([] ++ (e.dir.fid ∷ []))) (sys_dir ∷ e.dir.fid ∷ []) result (twice_one sys_dir e.dir.fid) (subst (λ l. StepsOn now new two three (made_entered e f moment) l ((sys_dir ∷ e.dir.fid ∷ []) ++ ([] ++ (e.dir.fid ∷ []))) result) (sectors_are (pages_planned e) fresh later is_later) steps)
+      step_for now new two three (made_entered e own moment) (take (pages_planned e + 2) fresh) ((sys_dir ∷ e.dir.fid ∷ []) ++ ([] ++ (e.dir.fid ∷ []))) (sys_dir ∷ e.dir.fid ∷ []) result (twice_one sys_dir e.dir.fid) (subst (λ l. StepsOn now new two three (made_entered e own moment) l ((sys_dir ∷ e.dir.fid ∷ []) ++ ([] ++ (e.dir.fid ∷ []))) result) (sectors_are (pages_planned e) fresh later is_later) steps)
 
   -- the widenings break off
   pub widenings_stop : (T U : Type 0) (stop : Stop) → StepsOn {T = U} a b k0 k1 (first_widenings e) (take (pages_planned e) fresh) (sys_dir ∷ e.dir.fid ∷ []) (Err stop)
-      → StepsOn {T = T} a b k0 k1 (made_entered e f moment) (take (pages_planned e + 2) fresh) (sys_dir ∷ e.dir.fid ∷ []) (Err stop)
+      → StepsOn {T = T} a b k0 k1 (made_entered e own moment) (take (pages_planned e + 2) fresh) (sys_dir ∷ e.dir.fid ∷ []) (Err stop)
   widenings_stop T U stop steps =
-      as_made T a b k0 k1 (Err stop) (step_stops T U a b k0 k1 (first_widenings e) (make f e.name moment ∷ enter e.dir.fid e.name f ∷ []) (take (pages_planned e) fresh) (take 2 later ++ []) (sys_dir ∷ e.dir.fid ∷ []) ([] ++ (e.dir.fid ∷ [])) stop steps)
+      as_made T a b k0 k1 (Err stop) (step_stops T U a b k0 k1 (first_widenings e) (make own e.name moment ∷ enter e.dir.fid e.name own ∷ []) (take (pages_planned e) fresh) (take 2 later ++ []) (sys_dir ∷ e.dir.fid ∷ []) ([] ++ (e.dir.fid ∷ [])) stop steps)
 
   module _ (U : Type 0) (x : U) (may : MayMakeEntered (pack a) k0 e is_dir fresh) (same : k1.last ≡ k0.last) (widened : StepsOn a b k0 k1 (first_widenings e) (take (pages_planned e) fresh) (sys_dir ∷ e.dir.fid ∷ []) (Ok x)) where
     module _ (c : Taped) (k2 : Kept) where
       -- the make does
-      pub make_stops : (T V : Type 0) (stop : Stop) → (MayMakeNext (pack b) k1 is_dir e.name later → StepsOn {T = V} b c k1 k2 (make f e.name moment ∷ []) (take 2 later) [] (Err stop))
-          → StepsOn {T = T} a c k0 k2 (made_entered e f moment) (take (pages_planned e + 2) fresh) (sys_dir ∷ e.dir.fid ∷ []) (Err stop)
+      pub make_stops : (T V : Type 0) (stop : Stop) → (MayMakeNext (pack b) k1 is_dir e.name later → StepsOn {T = V} b c k1 k2 (make own e.name moment ∷ []) (take 2 later) [] (Err stop))
+          → StepsOn {T = T} a c k0 k2 (made_entered e own moment) (take (pages_planned e + 2) fresh) (sys_dir ∷ e.dir.fid ∷ []) (Err stop)
       make_stops T V stop made =
-          as_made T a c k0 k2 (Err stop) (steps_join T U a b c k0 k1 k2 (first_widenings e) (make f e.name moment ∷ enter e.dir.fid e.name f ∷ []) (take (pages_planned e) fresh) (take 2 later ++ []) (sys_dir ∷ e.dir.fid ∷ []) ([] ++ (e.dir.fid ∷ [])) x (Err stop) widened
-          (λ left ab. step_stops T V b c k1 k2 (make f e.name moment ∷ []) (enter e.dir.fid e.name f ∷ []) (take 2 later) [] [] (e.dir.fid ∷ []) stop (made (may_next a b k0 k1 e is_dir fresh later left may same ab))))
+          as_made T a c k0 k2 (Err stop) (steps_join T U a b c k0 k1 k2 (first_widenings e) (make own e.name moment ∷ enter e.dir.fid e.name own ∷ []) (take (pages_planned e) fresh) (take 2 later ++ []) (sys_dir ∷ e.dir.fid ∷ []) ([] ++ (e.dir.fid ∷ [])) x (Err stop) widened
+          (λ left ab. step_stops T V b c k1 k2 (make own e.name moment ∷ []) (enter e.dir.fid e.name own ∷ []) (take 2 later) [] [] (e.dir.fid ∷ []) stop (made (may_next a b k0 k1 e is_dir fresh later left may same ab))))
 
-      module _ (V : Type 0) (y : V) (leader_at : ℕ) (made : MayMakeNext (pack b) k1 is_dir e.name later → StepsOn b c k1 k2 (make f e.name moment ∷ []) (take 2 later) [] (Ok y)) (placed : MayMakeNext (pack b) k1 is_dir e.name later → place (sights (pack c)) f 0 ≡ Some leader_at) where
+      module _ (V : Type 0) (y : V) (leader_at : ℕ) (made : MayMakeNext (pack b) k1 is_dir e.name later → StepsOn b c k1 k2 (make own e.name moment ∷ []) (take 2 later) [] (Ok y)) (placed : MayMakeNext (pack b) k1 is_dir e.name later → place (sights (pack c)) own 0 ≡ Some leader_at) where
         -- the entry comes, or breaks off
-        pub enter_ends : (T : Type 0) (d : Taped) (k3 : Kept) (result : Result T Stop) → (MayEnterFile (pack c) e f leader_at → StepsOn c d k2 k3 (enter e.dir.fid e.name f ∷ []) [] (e.dir.fid ∷ []) result)
-            → StepsOn a d k0 k3 (made_entered e f moment) (take (pages_planned e + 2) fresh) (sys_dir ∷ e.dir.fid ∷ []) result
+        pub enter_ends : (T : Type 0) (d : Taped) (k3 : Kept) (result : Result T Stop) → (MayEnterFile (pack c) e own leader_at → StepsOn c d k2 k3 (enter e.dir.fid e.name own ∷ []) [] (e.dir.fid ∷ []) result)
+            → StepsOn a d k0 k3 (made_entered e own moment) (take (pages_planned e + 2) fresh) (sys_dir ∷ e.dir.fid ∷ []) result
         enter_ends T d k3 result entered =
-            as_made T a d k0 k3 result (steps_join T U a b d k0 k1 k3 (first_widenings e) (make f e.name moment ∷ enter e.dir.fid e.name f ∷ []) (take (pages_planned e) fresh) (take 2 later ++ []) (sys_dir ∷ e.dir.fid ∷ []) ([] ++ (e.dir.fid ∷ [])) x result widened
+            as_made T a d k0 k3 result (steps_join T U a b d k0 k1 k3 (first_widenings e) (make own e.name moment ∷ enter e.dir.fid e.name own ∷ []) (take (pages_planned e) fresh) (take 2 later ++ []) (sys_dir ∷ e.dir.fid ∷ []) ([] ++ (e.dir.fid ∷ [])) x result widened
             (λ left ab. let next = may_next a b k0 k1 e is_dir fresh later left may same ab in
-            steps_join T V b c d k1 k2 k3 (make f e.name moment ∷ []) (enter e.dir.fid e.name f ∷ []) (take 2 later) [] [] (e.dir.fid ∷ []) y result (made next)
+            steps_join T V b c d k1 k2 k3 (make own e.name moment ∷ []) (enter e.dir.fid e.name own ∷ []) (take 2 later) [] [] (e.dir.fid ∷ []) y result (made next)
             (λ rest bc. entered (may_enter a b k0 k1 e is_dir fresh later left may same ab c k2 ([] ++ rest) moment leader_at (placed next) bc))))
 
         -- the new leader stands where it was put
-        pub leader_stands : (d : Taped) (k3 : Kept) (W : Type 0) (w : W) (old : Taped) (one : Kept) (at : ℕ) (done all : List Operation) (rest : List ℕ) → (MayEnterFile (pack c) e f leader_at → StepsOn c d k2 k3 (enter e.dir.fid e.name f ∷ []) [] (e.dir.fid ∷ []) (Ok w))
-            → Midway old a one k0 at done all (take (pages_planned e + 2) fresh ++ rest) → FileIsFrom (pack d) (new_ref f leader_at)
+        pub leader_stands : (d : Taped) (k3 : Kept) (W : Type 0) (w : W) (old : Taped) (one : Kept) (at : ℕ) (done all : List Operation) (rest : List ℕ) → (MayEnterFile (pack c) e own leader_at → StepsOn c d k2 k3 (enter e.dir.fid e.name own ∷ []) [] (e.dir.fid ∷ []) (Ok w))
+            → Midway old a one k0 at done all (take (pages_planned e + 2) fresh ++ rest) → FileIsFrom (pack d) (new_ref own leader_at)
         leader_stands d k3 W w old one at done all rest entered m =
             let m1 : Midway old a one k0 at done all (take (pages_planned e) fresh ++ ((take 2 later ++ []) ++ rest)) =
               subst (Midway old a one k0 at done all) (ap (λ l. l ++ rest) (sym (sectors_are (pages_planned e) fresh later is_later)) ∙ append_assoc (take (pages_planned e) fresh) (take 2 later ++ []) rest) m in
@@ -159,9 +163,9 @@ module _ (a b : Taped) (k0 k1 : Kept) (e : NewEntry) (is_dir : Bool) (fresh late
             let m2 : Midway old b one k1 at (done ++ first_widenings e) all (take 2 later ++ rest) = subst (λ l. Midway old b one k1 at (done ++ first_widenings e) all (l ++ rest)) (append-nil (take 2 later)) s1.midway in
             let s2 = made next old one at (done ++ first_widenings e) all rest m2 in
             let bc = arrived_then m2 s2.midway s2.found in
-            let s3 = entered (may_enter a b k0 k1 e is_dir fresh later rest may same ab c k2 rest moment leader_at (placed next) bc) old one at ((done ++ first_widenings e) ++ make f e.name moment ∷ []) all rest s2.midway in
-            let carries : carried (pack c) leader_at ≡ Some (leader_page f) = ((places_are_lowest (pack c) (leader_page f)).lowest leader_at (placed next)).here in
-            s3.found f leader_at (Held leader_at) (tt, tt) (refl, carries)
+            let s3 = entered (may_enter a b k0 k1 e is_dir fresh later rest may same ab c k2 rest moment leader_at (placed next) bc) old one at ((done ++ first_widenings e) ++ make own e.name moment ∷ []) all rest s2.midway in
+            let carries : carried (pack c) leader_at ≡ Some (leader_page own) = ((places_are_lowest (pack c) (leader_page own)).lowest leader_at (placed next)).here in
+            s3.found own leader_at (Held leader_at) (tt, tt) (refl, carries)
 
 -- ---- as the make says it
 -- by what is kept and the moment once the widenings are done

@@ -1,4 +1,4 @@
-use Rattle.std.proofs.Common.{List, Result, [], ap, drop, refl, subst, sym, take, ◌∷◌, ◌∙◌, ◌≡◌, ℕ}
+use Rattle.std.proofs.Common.{List, Result, [], ap, drop, length, refl, subst, sym, take, ◌∷◌, ◌∙◌, ◌≡◌, ◌-◌, ℕ}
 use Rattle.alto_words.specs.Fid.{sys_dir}
 use Rattle.disk_records.proofs.Growing.{alone_twice}
 use Rattle.disk_records.specs.Tapes.{pack}
@@ -8,6 +8,7 @@ use Rattle.exec_session.specs.declared.stop.Stop.{Stop}
 use Rattle.exec_steps.specs.Asked.{first_widenings}
 use Rattle.exec_steps.specs.Midway.{StepsOn}
 use Rattle.exec_steps.proofs.Answers.{error_is}
+use Rattle.exec_steps.proofs.NewFile.{from_there}
 use Rattle.exec_steps.proofs.Widened.{as_number, first_free, widens_both, widens_stop}
 use Rattle.exec_steps.proofs.beginning.widen_first.Goals as goal
 
@@ -31,7 +32,7 @@ returns-clause-steps g c = λ told may.
     let fresh = c.args.fresh.now in
     let k0 = kept c.args.session.now in
     let k1 = kept c.widen_if.new.session in
-    widens_both a b k0 k1 e fresh (drop c.from.result fresh) (ap (λ (n : ℕ). drop n fresh) (c.from.ensures ∙ as_number e.spare)) (g.D.Tape.tape c.widen_if-2.new.disk) (kept c.widen_if-2.new.session) c.in_ok-widen_if.field-0 c.widen_if-2.result may
+    widens_both a b k0 k1 e fresh (take (length fresh - c.from.result) (drop c.from.result fresh)) (from_there c.from.result fresh ∙ ap (λ (n : ℕ). drop n fresh) (c.from.ensures ∙ as_number e.spare)) (g.D.Tape.tape c.widen_if-2.new.disk) (kept c.widen_if-2.new.session) c.in_ok-widen_if.field-0 c.widen_if-2.result may
     (c.in_ok-widen_if.ensures.steps told may.root (first_free a b k0 k1 e fresh (drop (one_if e.spare) fresh) refl (pack a) may))
     (λ stands free. c.widen_if-2.ensures.steps told stands free)
 

@@ -1,4 +1,4 @@
-use Rattle.std.proofs.Common.{List, Result, Ok, Err, Some, [], ap, drop, refl, subst, sym, take, ◌∷◌, ◌∙◌, ◌≡◌, ◌+◌, ◌++◌, ℕ}
+use Rattle.std.proofs.Common.{List, Result, Ok, Err, Some, [], ap, drop, length, refl, subst, sym, take, ◌∷◌, ◌∙◌, ◌≡◌, ◌+◌, ◌-◌, ◌++◌, ℕ}
 use Rattle.alto_words.specs.Fid.{sys_dir}
 use Rattle.alto_words.specs.declared.fid.Fid.{Fid}
 use Rattle.disk_descriptor.specs.Fields.{Fields}
@@ -17,7 +17,7 @@ use Rattle.exec_steps.specs.Asked.{MayEnterFile, made_entered, made_fid, new_ref
 use Rattle.exec_steps.specs.Midway.{StepsOn}
 use Rattle.exec_steps.proofs.Answers.{error_is}
 use Rattle.exec_steps.proofs.Joining.{steps_err, steps_ok}
-use Rattle.exec_steps.proofs.NewFile.{as_asked, enter_ends, leader_stands, make_stops, widenings_stop}
+use Rattle.exec_steps.proofs.NewFile.{as_asked, enter_ends, from_there, leader_stands, make_stops, widenings_stop}
 use Rattle.exec_steps.proofs.making.make_entered.Goals as goal
 
 pub returns-in_err-widen_first-clause-steps : goal.returns-in_err-widen_first-clause-steps
@@ -50,11 +50,11 @@ returns-in_err-file-clause-steps g c = λ told may.
     let e = c.args.entry.now in
     let dir = c.args.of_directory in
     let fresh = c.args.fresh.now in
-    let later = drop c.pages.result fresh in
+    let later = take (length fresh - c.pages.result) (drop c.pages.result fresh) in
     let w = c.in_ok-widen_first.ensures in
     let same = ap (λ (d : Fields). d.last) w.descriptor in
     subst (λ (r : Result FileRef Stop). StepsOn a m (kept s) (kept u) (made_entered e (made_fid dir (s.descriptor.last + 1)) s.moment) (take (pages_planned e + 2) fresh) (sys_dir ∷ e.dir.fid ∷ []) r) (sym (error_is c.from_residual-in_err-file.result c.from_residual-in_err-file.ensures.1))
-    (make_stops a b (kept s) (kept t) e dir fresh later s.moment (ap (λ (n : ℕ). drop n fresh) c.pages.ensures) (Unit {0}) c.in_ok-widen_first.field-0 may same (w.steps told may.widens) m (kept u) FileRef FileRef c.in_err-file.field-0.0
+    (make_stops a b (kept s) (kept t) e dir fresh later s.moment (from_there c.pages.result fresh ∙ ap (λ (n : ℕ). drop n fresh) c.pages.ensures) (Unit {0}) c.in_ok-widen_first.field-0 may same (w.steps told may.widens) m (kept u) FileRef FileRef c.in_err-file.field-0.0
     (λ next. as_asked b m (kept t) (kept u) dir e.name later t.descriptor.last t.moment s.descriptor.last s.moment (Err c.in_err-file.field-0.0) same w.works.moment (c.in_err-file.ensures.steps told next)))
 
 pub returns-in_err-enter_file-clause-steps : goal.returns-in_err-enter_file-clause-steps
@@ -70,7 +70,7 @@ returns-in_err-enter_file-clause-steps g c = λ told may.
     let e = c.args.entry.now in
     let dir = c.args.of_directory in
     let fresh = c.args.fresh.now in
-    let later = drop c.pages.result fresh in
+    let later = take (length fresh - c.pages.result) (drop c.pages.result fresh) in
     let w = c.in_ok-widen_first.ensures in
     let n = c.in_ok-file.ensures in
     let x = c.in_err-enter_file.field-0.0 in
@@ -79,7 +79,7 @@ returns-in_err-enter_file-clause-steps g c = λ told may.
     let file_is : c.in_ok-file.file ≡ new_ref f (word later 0) = n.made ∙ ap (λ (k : ℕ). new_ref (made_fid dir (k + 1)) (word later 0)) same in
     subst (λ (r : Result FileRef Stop). StepsOn a d (kept s) (kept v) (made_entered e f s.moment) (take (pages_planned e + 2) fresh) (sys_dir ∷ e.dir.fid ∷ []) r) (sym (error_is c.from_residual-in_err-enter_file.result c.from_residual-in_err-enter_file.ensures.1))
     (steps_err FileRef (Unit {0}) a d (kept s) (kept v) (made_entered e f s.moment) (take (pages_planned e + 2) fresh) (sys_dir ∷ e.dir.fid ∷ []) x
-    (enter_ends a b (kept s) (kept t) e dir fresh later s.moment (ap (λ (k : ℕ). drop k fresh) c.pages.ensures) (Unit {0}) c.in_ok-widen_first.field-0 may same (w.steps told may.widens) m (kept u) FileRef c.in_ok-file.file (word later 0)
+    (enter_ends a b (kept s) (kept t) e dir fresh later s.moment (from_there c.pages.result fresh ∙ ap (λ (k : ℕ). drop k fresh) c.pages.ensures) (Unit {0}) c.in_ok-widen_first.field-0 may same (w.steps told may.widens) m (kept u) FileRef c.in_ok-file.file (word later 0)
     (λ next. as_asked b m (kept t) (kept u) dir e.name later t.descriptor.last t.moment s.descriptor.last s.moment (Ok c.in_ok-file.file) same w.works.moment (n.steps told next))
     (λ next. subst (λ (k : ℕ). place (sights (pack m)) (made_fid dir (k + 1)) 0 ≡ Some (word later 0)) same (n.placed told next))
     (Unit {0}) d (kept v) (Err x)
@@ -98,14 +98,14 @@ returns-clause-steps g c = λ told may.
     let e = c.args.entry.now in
     let dir = c.args.of_directory in
     let fresh = c.args.fresh.now in
-    let later = drop c.pages.result fresh in
+    let later = take (length fresh - c.pages.result) (drop c.pages.result fresh) in
     let w = c.in_ok-widen_first.ensures in
     let n = c.in_ok-file.ensures in
     let same = ap (λ (f : Fields). f.last) w.descriptor in
     let f = made_fid dir (s.descriptor.last + 1) in
     let file_is : c.in_ok-file.file ≡ new_ref f (word later 0) = n.made ∙ ap (λ (k : ℕ). new_ref (made_fid dir (k + 1)) (word later 0)) same in
     steps_ok FileRef (Unit {0}) a d (kept s) (kept v) (made_entered e f s.moment) (take (pages_planned e + 2) fresh) (sys_dir ∷ e.dir.fid ∷ []) c.in_ok-enter_file.field-0 c.in_ok-file.file
-    (enter_ends a b (kept s) (kept t) e dir fresh later s.moment (ap (λ (k : ℕ). drop k fresh) c.pages.ensures) (Unit {0}) c.in_ok-widen_first.field-0 may same (w.steps told may.widens) m (kept u) FileRef c.in_ok-file.file (word later 0)
+    (enter_ends a b (kept s) (kept t) e dir fresh later s.moment (from_there c.pages.result fresh ∙ ap (λ (k : ℕ). drop k fresh) c.pages.ensures) (Unit {0}) c.in_ok-widen_first.field-0 may same (w.steps told may.widens) m (kept u) FileRef c.in_ok-file.file (word later 0)
     (λ next. as_asked b m (kept t) (kept u) dir e.name later t.descriptor.last t.moment s.descriptor.last s.moment (Ok c.in_ok-file.file) same w.works.moment (n.steps told next))
     (λ next. subst (λ (k : ℕ). place (sights (pack m)) (made_fid dir (k + 1)) 0 ≡ Some (word later 0)) same (n.placed told next))
     (Unit {0}) d (kept v) (Ok c.in_ok-enter_file.field-0)
@@ -124,14 +124,14 @@ returns-clause-stands g c = λ old one at done all rest told may midway.
     let e = c.args.entry.now in
     let dir = c.args.of_directory in
     let fresh = c.args.fresh.now in
-    let later = drop c.pages.result fresh in
+    let later = take (length fresh - c.pages.result) (drop c.pages.result fresh) in
     let w = c.in_ok-widen_first.ensures in
     let n = c.in_ok-file.ensures in
     let same = ap (λ (f : Fields). f.last) w.descriptor in
     let f = made_fid dir (s.descriptor.last + 1) in
     let file_is : c.in_ok-file.file ≡ new_ref f (word later 0) = n.made ∙ ap (λ (k : ℕ). new_ref (made_fid dir (k + 1)) (word later 0)) same in
     subst (λ (file : FileRef). FileIsFrom (pack d) file) (sym file_is)
-    (leader_stands a b (kept s) (kept t) e dir fresh later s.moment (ap (λ (k : ℕ). drop k fresh) c.pages.ensures) (Unit {0}) c.in_ok-widen_first.field-0 may same (w.steps told may.widens) m (kept u) FileRef c.in_ok-file.file (word later 0)
+    (leader_stands a b (kept s) (kept t) e dir fresh later s.moment (from_there c.pages.result fresh ∙ ap (λ (k : ℕ). drop k fresh) c.pages.ensures) (Unit {0}) c.in_ok-widen_first.field-0 may same (w.steps told may.widens) m (kept u) FileRef c.in_ok-file.file (word later 0)
     (λ next. as_asked b m (kept t) (kept u) dir e.name later t.descriptor.last t.moment s.descriptor.last s.moment (Ok c.in_ok-file.file) same w.works.moment (n.steps told next))
     (λ next. subst (λ (k : ℕ). place (sights (pack m)) (made_fid dir (k + 1)) 0 ≡ Some (word later 0)) same (n.placed told next))
     d (kept v) (Unit {0}) c.in_ok-enter_file.field-0 old one at done all rest
