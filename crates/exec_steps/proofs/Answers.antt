@@ -185,3 +185,8 @@ never_full a b (Err NoSuchName) cause = tt
 never_full a b (Err NameTaken) cause = tt
 never_full a b (Err (NoSlot largest)) cause = cause
 never_full a b (Err (File e)) cause = tt
+
+-- what is so at Ok
+pub on_written : (X : Type 0) (file : FileRef) (result : Result (Unit {0}) FileError) → OnOk result X → OnOk (stop_written file result) X
+on_written X file (Ok x) h = h
+on_written X file (Err e) h = tt

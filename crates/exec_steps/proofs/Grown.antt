@@ -1,5 +1,6 @@
 -- Bytes after those of a file, if there are some.
-use Rattle.std.proofs.Common.{Bool, List, Ok, Result, [], ap, arith, false, inl, length, mod-lt, refl, subst, sym, true, ℕ, ◌%◌, ◌+◌, ◌<◌, ◌∙◌, ◌∷◌, ◌≡◌, ◌≤◌}
+use Rattle.std.proofs.Common.{Bool, List, Ok, Result, [], ap, arith, false, inl, length, refl, subst, sym, true, ℕ, ◌%◌, ◌+◌, ◌<◌, ◌==◌, ◌∙◌, ◌∷◌, ◌≡◌, ◌≤◌}
+use Rattle.std.proofs.lemmas.Bool.Decides.{nat_tests}
 use Rattle.alto_words.specs.declared.fid.Fid.{Fid}
 use Rattle.disk_records.specs.Packs.{Pack}
 use Rattle.disk_records.specs.Tapes.{Taped, pack}
@@ -19,9 +20,21 @@ use Rattle.exec_steps.specs.Midway.{StepsOn}
 use Rattle.exec_steps.proofs.Joining.{step_of_nothing}
 
 -- ---- no bytes
+is_zero : (n : ℕ) → (n == 0) ≡ true → n ≡ 0
+is_zero n h = grind (arith, nat_tests)
+
+is_some : (n : ℕ) → (n == 0) ≡ false → 0 < n
+is_some n h = grind (arith, nat_tests)
+
 pub no_bytes : (bytes : List ℕ) → length bytes ≡ 0 → bytes ≡ []
 no_bytes [] e = refl
 no_bytes (b ∷ bytes) e = cc
+
+pub when_empty : (bytes : List ℕ) (b : Bool) → b ≡ (length bytes == 0) → b ≡ true → bytes ≡ []
+when_empty bytes b is e = no_bytes bytes (is_zero (length bytes) (sym is ∙ e))
+
+pub when_some : (bytes : List ℕ) (b : Bool) → b ≡ (length bytes == 0) → b ≡ false → 0 < length bytes
+when_some bytes b is e = is_some (length bytes) (sym is ∙ e)
 
 no_sectors : (b : ℕ) (bytes fresh : List ℕ) → bytes ≡ [] → length fresh ≡ pages_added b (length bytes) → fresh ≡ []
 no_sectors b bytes fresh none number = no_bytes fresh (number ∙ ap (λ l. pages_added b (length l)) none ∙ (omega arith))
@@ -45,7 +58,7 @@ grows_once f (b ∷ bytes) some = refl
 pub may_be_grown : (p : Pack) (file : FileRef) (bytes fresh : List ℕ) → MayGrowFile p file bytes fresh → MayBeGrown p (grow file.fid bytes) file.fid bytes [] fresh
 may_be_grown p file bytes fresh may = record {
   growth = of_file may.found.ordinary;
-  room = let low : (file_length p file.fid + length bytes) % 512 < 512 = mod-lt (file_length p file.fid + length bytes) 512 (omega arith) in omega (arith, low);
+  room = omega arith;
   number = may.number;
   free = may.free.0;
   distinct = may.free.1;
