@@ -90,7 +90,7 @@ step_stops T U a b one two first second claimed more files others error steps ol
       midway = tt;
       found = tt;
       counted = λ tells. s.counted (tells_too T U b error tells) ∙ ap (λ l. counted old.writes l base.tally)
-        (sym (ap (take (length (added old b))) longer ∙ take-append-le (length (added old b)) (moves_so_far old (done ++ first) all) tail within));
+          (sym (ap (take (length (added old b))) longer ∙ take-append-le (length (added old b)) (moves_so_far old (done ++ first) all) tail within));
       failing = failed_left (pack old) (added old b) files others error s.failing;
     }
   where
@@ -153,7 +153,7 @@ step_of_nothing now two files x old one at done all rest m =
       midway = subst (λ l. Midway old now one two at l all rest) (sym same) m;
       found = none_keeps_found (pack now);
       counted = λ tells. m.counted.tally ∙ ap (λ l. counted old.writes l one.tally)
-        (sym (ap (λ l. take (length (added old now)) (moves_so_far old l all)) same ∙ take_all (length (added old now)) (moves_so_far old done all) (let k = m.many in omega (arith, k))));
+          (sym (ap (λ l. take (length (added old now)) (moves_so_far old l all)) same ∙ take_all (length (added old now)) (moves_so_far old done all) (let k = m.many in omega (arith, k))));
       failing = tt;
     }
 

@@ -180,7 +180,7 @@ module _ (old : Taped) (one : Kept) (s : State) (l : Line) (b : Begins old one s
   broke_opening T new two at reserved error fits started =
       let x : BreaksOnSound p (added old new) own = (calls_on_a_sound_pack T Stop p at own fits).opening_breaks (added old new) started.some in
       of_sound new two (Err error) x (λ tells.
-        started.tally ∙ sym (ap (λ ms. counted old.writes ms one.tally) x.are ∙ opening_counted at own old.writes (length (added old new)) one.tally fits.some (first_few (opening_writes p at) (added old new) started.some)))
+      started.tally ∙ sym (ap (λ ms. counted old.writes ms one.tally) x.are ∙ opening_counted at own old.writes (length (added old new)) one.tally fits.some (first_few (opening_writes p at) (added old new) started.some)))
 
   broke_step : (T : Type 0) (now new : Taped) (two : Kept) (at : ℕ) (done ops more : List Operation) (reserved : List ℕ) (files : List Fid) (error : Stop) → LineFits p at own → (done ++ ops) ++ more ≡ own → Stepped {T = T} old now new one two at done ops own reserved files (Err error) → BrokeOff {T = T} old new one two s l (Err error)
   broke_step T now new two at done ops more reserved files error fits all_are st =
@@ -195,7 +195,7 @@ module _ (old : Taped) (one : Kept) (s : State) (l : Line) (b : Begins old one s
       let x : BreaksOnSound p (added old new) own = subst (λ es. BreaksOnSound p es own) (sym m.events) ((calls_on_a_sound_pack (Unit {0}) Stop p at own fits).breaks m.wrote (Err stop.Memory) goes) in
       let many = m.many in
       of_sound new two result x (λ tells. m.counted.tally ∙ ap (λ ms. counted old.writes ms one.tally)
-        (sym (x.are ∙ taken done more all_are (length (added old new)) (omega (arith, many)) ∙ take_all (length (added old new)) (moves_so_far old done own) (omega (arith, many)))))
+      (sym (x.are ∙ taken done more all_are (length (added old new)) (omega (arith, many)) ∙ take_all (length (added old new)) (moves_so_far old done own) (omega (arith, many)))))
 
   -- ---- how it is answered
   module _ (new : Taped) (two : Kept) (same : SameWorld one two) (alone : DiskAlone old new) where
@@ -219,7 +219,7 @@ module _ (old : Taped) (one : Kept) (s : State) (l : Line) (b : Begins old one s
           answered = a;
           need = λ is. refl;
           keeping = λ is. subst (λ q. Keeping q (in_need two) (state_in_need s (typed l) k.moves)) (sym (pack-after alone.grown))
-            (failed_turns_keep p one s (added old new) k.moves (in_need two) b.keeping (record { moment = same.moment; level = same.level; memory = same.memory; streams = same.streams; need = refl }) k.each);
+              (failed_turns_keep p one s (added old new) k.moves (in_need two) b.keeping (record { moment = same.moment; level = same.level; memory = same.memory; streams = same.streams; need = refl }) k.each);
           tally = λ tells. counted_as (stop.Misled place at wanted found) k a (λ e. absurd cc);
           truthful = λ was is. absurd (true_hints_never_mislead p place at wanted (b.keeping.stands.sound unneeded).whole (b.keeping.stands.sound unneeded).tidy b.full was.links hint.on_disk hint.misled.misled);
         }

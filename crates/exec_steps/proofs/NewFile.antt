@@ -156,7 +156,7 @@ module _ (a b : Taped) (k0 k1 : Kept) (e : NewEntry) (is_dir : Bool) (fresh late
             → Midway old a one k0 at done all (take (pages_planned e + 2) fresh ++ rest) → FileIsFrom (pack d) (new_ref own leader_at)
         leader_stands d k3 W w old one at done all rest entered m =
             let m1 : Midway old a one k0 at done all (take (pages_planned e) fresh ++ ((take 2 later ++ []) ++ rest)) =
-              subst (Midway old a one k0 at done all) (ap (λ l. l ++ rest) (sym (sectors_are (pages_planned e) fresh later is_later)) ∙ append_assoc (take (pages_planned e) fresh) (take 2 later ++ []) rest) m in
+            subst (Midway old a one k0 at done all) (ap (λ l. l ++ rest) (sym (sectors_are (pages_planned e) fresh later is_later)) ∙ append_assoc (take (pages_planned e) fresh) (take 2 later ++ []) rest) m in
             let s1 = widened old one at done all ((take 2 later ++ []) ++ rest) m1 in
             let ab = arrived_then m1 s1.midway s1.found in
             let next = may_next a b k0 k1 e is_dir fresh later rest may same ab in

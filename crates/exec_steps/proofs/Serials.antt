@@ -77,9 +77,10 @@ swap_free p x y rest free =
     let ahead = pairs_head x (y ∷ rest) free.1 in
     let next = pairs_head y rest tail in
     let x_y : x ≢ y = ahead 0 0 (omega arith) in (
-    All-cons (λ i. is_free_at p i ≡ true) y (x ∷ rest) y_free (All-cons (λ i. is_free_at p i ≡ true) x rest x_free later_free),
-    AllPairs-cons (λ i j. i ≢ j) y (x ∷ rest) (All-cons (λ j. y ≢ j) x rest (λ e. x_y (sym e)) next)
-      (AllPairs-cons (λ i j. i ≢ j) x rest (All-tail (λ j. x ≢ j) y rest ahead) (pairs_tail y rest tail)))
+      All-cons (λ i. is_free_at p i ≡ true) y (x ∷ rest) y_free (All-cons (λ i. is_free_at p i ≡ true) x rest x_free later_free),
+      AllPairs-cons (λ i j. i ≢ j) y (x ∷ rest) (All-cons (λ j. y ≢ j) x rest (λ e. x_y (sym e)) next)
+          (AllPairs-cons (λ i j. i ≢ j) x rest (All-tail (λ j. x ≢ j) y rest ahead) (pairs_tail y rest tail)),
+    )
 
 or_swap : (a b c : Bool) → (a || (b || c)) ≡ (b || (a || c))
 or_swap true true c = refl
@@ -156,8 +157,8 @@ module _ (old a b : Taped) (one two : Kept) (at : ℕ) (done all : List Operatio
           midway = tt;
           found = tt;
           counted = λ tells. tally ∙ m.counted.tally ∙ sym (
-            ap (λ l. counted old.writes l one.tally) (ap (λ n. take n (moves_so_far old (done ++ own ∷ []) all)) many ∙ ap (take (length (moves_so_far old done all) + length (added a b))) so_far ∙ take_past (moves_so_far old done all) (quiet ∷ ms) (length (added a b)))
-            ∙ quiet_taken old.writes one.tally (moves_so_far old done all) ms (length (added a b)) few);
+              ap (λ l. counted old.writes l one.tally) (ap (λ n. take n (moves_so_far old (done ++ own ∷ []) all)) many ∙ ap (take (length (moves_so_far old done all) + length (added a b))) so_far ∙ take_past (moves_so_far old done all) (quiet ∷ ms) (length (added a b)))
+              ∙ quiet_taken old.writes one.tally (moves_so_far old done all) ms (length (added a b)) few);
           failing = if_hint_weaker {T = T} (λ place hint wanted found. ⊥) (HintFailing p (added old b) files) (Err error) (λ place hint wanted found h. absurd h) hints;
         }
 
@@ -256,15 +257,15 @@ module _ (old a b : Taped) (one two : Kept) (at : ℕ) (done all : List Operatio
             tidy = subst Tidy (sym ends) r.acts.stays.tidy;
             marked = ap (λ q. mark_of (sights q)) ends ∙ ap (λ bytes. word (words_of bytes) 6) r.acts.descriptor.bytes ∙ ap (λ q. mark_of (sights q)) here ∙ gives.mark ∙ m.marked;
             fits = keeps (pack c) (subst (λ q. DescriptorFits q two.shape last two.mark two.pages) (sym ends)
-              (r.acts.fits two.shape last two.mark two.pages (subst (λ q. DescriptorFits q two.shape last two.mark two.pages) (sym here)
-              ((descriptor_fits_on (pack a) two.shape two.last two.mark two.pages m.whole m.tidy m.fits).serial bt last placed (subst (λ n. n ≤ last) m.fits.last_is above)))));
+                (r.acts.fits two.shape last two.mark two.pages (subst (λ q. DescriptorFits q two.shape last two.mark two.pages) (sym here)
+                ((descriptor_fits_on (pack a) two.shape two.last two.mark two.pages m.whole m.tidy m.fits).serial bt last placed (subst (λ n. n ≤ last) m.fits.last_is above)))));
             counted = subst (λ l. CountedSoFar old.writes one.tally l (around c three.busy three.tally))
-              (ap (λ l. (moves_so_far old done all ++ quiet ∷ []) ++ l) (take_all (length (added b c)) ms (let e = whole_move in omega (arith, e))) ∙ append_assoc (moves_so_far old done all) (quiet ∷ []) ms ∙ sym so_far)
-              (call_is_counted_on T Stop old.writes one.tally (moves_so_far old done all ++ quiet ∷ []) stop.DiskFault stop.Memory own claimed (around b two.busy two.tally) (around c three.busy three.tally) (Ok x) low_one (counted_serial counts_serial) counts_make operates (λ fault. absurd cc));
+                (ap (λ l. (moves_so_far old done all ++ quiet ∷ []) ++ l) (take_all (length (added b c)) ms (let e = whole_move in omega (arith, e))) ∙ append_assoc (moves_so_far old done all) (quiet ∷ []) ms ∙ sym so_far)
+                (call_is_counted_on T Stop old.writes one.tally (moves_so_far old done all ++ quiet ∷ []) stop.DiskFault stop.Memory own claimed (around b two.busy two.tally) (around c three.busy three.tally) (Ok x) low_one (counted_serial counts_serial) counts_make operates (λ fault. absurd cc));
             misled = subst (MisledBefore p) (sym all_added) (later_misled_before p (added old a) (added a c) m.misled
-              (subst (λ q. MisledBefore q (added a c)) behind (subst (MisledBefore (pack a)) (sym both) (later_misled_before (pack a) serial (added b c) serial_misled known))));
+                (subst (λ q. MisledBefore q (added a c)) behind (subst (MisledBefore (pack a)) (sym both) (later_misled_before (pack a) serial (added b c) serial_misled known))));
             links = subst (KeepsLinks p) (sym all_added) (links_join p (added old a) (added a c) m.links
-              (subst (λ q. KeepsLinks q (added a c)) behind (subst (KeepsLinks (pack a)) (sym both) (links_join (pack a) serial (added b c) (serial_keeps_links (pack a) bt last m.whole m.tidy placed above) kept_links))));
+                (subst (λ q. KeepsLinks q (added a c)) behind (subst (KeepsLinks (pack a)) (sym both) (links_join (pack a) serial (added b c) (serial_keeps_links (pack a) bt last m.whole m.tidy placed above) kept_links))));
             free = subst (λ q. AreFree q rest) (sym ends) (free_after (pack b) r.writes claimed rest r.acts.free (subst (AreFree (pack b)) parts still_free));
             table = reserved_then;
           }
@@ -289,8 +290,8 @@ module _ (old a b : Taped) (one two : Kept) (at : ℕ) (done all : List Operatio
             → Stepped old a c one three at done (own ∷ []) all rest files result
         serial_and_make result writes stays operates hints =
             let goes : Goes base (done ++ own ∷ []) (m.wrote ++ (serial ++ added b c)) result =
-              subst (λ q. Goes base (done ++ own ∷ []) (m.wrote ++ (serial_writes bt last (sector_at q bt).value ++ added b c)) result) (sym opened)
-              ((joins T writes stays).make_joins stop.DiskFault stop.Memory claimed (around b two.busy two.tally) (around c three.busy three.tally) result (here ∙ ap (λ q. with_serial q bt last) opened) operates)
+            subst (λ q. Goes base (done ++ own ∷ []) (m.wrote ++ (serial_writes bt last (sector_at q bt).value ++ added b c)) result) (sym opened)
+            ((joins T writes stays).make_joins stop.DiskFault stop.Memory claimed (around b two.busy two.tally) (around c three.busy three.tally) result (here ∙ ap (λ q. with_serial q bt last) opened) operates)
             in
             record {
               wrote = m.wrote ++ (serial ++ added b c);
@@ -300,7 +301,7 @@ module _ (old a b : Taped) (one two : Kept) (at : ℕ) (done all : List Operatio
               midway = step_midway result operates goes;
               found = step_found result operates;
               counted = λ tells.
-                call_is_counted T Stop old.writes one.tally (moves_so_far old done all ++ quiet ∷ []) stop.DiskFault stop.Memory own claimed (around b two.busy two.tally) (around c three.busy three.tally) result low_one (counted_serial counts_serial) operates tells
-                ∙ ap (λ l. counted old.writes l one.tally) (sym taken);
+                  call_is_counted T Stop old.writes one.tally (moves_so_far old done all ++ quiet ∷ []) stop.DiskFault stop.Memory own claimed (around b two.busy two.tally) (around c three.busy three.tally) result low_one (counted_serial counts_serial) operates tells
+                  ∙ ap (λ l. counted old.writes l one.tally) (sym taken);
               failing = if_hint_weaker _ _ result (λ place hint wanted found h. absurd h) hints;
             }

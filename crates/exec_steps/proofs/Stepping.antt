@@ -110,7 +110,8 @@ free_left p xs ys free = (all_left (λ i. is_free_at p i ≡ true) xs ys free.0,
 pub free_after : (p : Pack) (writes : List Event) (claimed rest : List ℕ) → StayFreeBut claimed p writes → AreFree p (claimed ++ rest) → AreFree (after p writes) rest
 free_after p writes claimed rest stay free = (
   (λ k d lt. stay _ (all_right (λ i. is_free_at p i ≡ true) claimed rest free.0 k d lt) (pairs_apart claimed rest free.1 k d lt)),
-  pairs_right claimed rest free.1)
+  pairs_right claimed rest free.1,
+)
 
 -- ---- answers
 pub if_hint_weaker : {T : Type 0} (P Q : Place → ℕ → Page → Option (List ℕ) → Type 0) (result : Result T Stop) → ((place : Place) (at : ℕ) (wanted : Page) (found : Option (List ℕ)) → P place at wanted found → Q place at wanted found)
@@ -203,7 +204,7 @@ module _ (old now new : Taped) (one two three : Kept) (at : ℕ) (done all : Lis
       step_failing : IfHint result (HintFailing p (added old new) files)
       step_failing = if_hint_weaker _ _ result (λ place hint wanted found h. record {
         misled = subst (λ l. AnswersMisled p l place hint wanted found) (sym both)
-          (later_answer_misled_before p (added old now) (added now new) place hint wanted found m.misled (subst Whole here m.whole) (subst (λ q. AnswersMisled q (added now new) place hint wanted found) here h.1));
+            (later_answer_misled_before p (added old now) (added now new) place hint wanted found m.misled (subst Whole here m.whole) (subst (λ q. AnswersMisled q (added now new) place hint wanted found) here h.1));
         on_disk = h.1.on_disk m.whole;
         file = h.0;
       }) c.hints
@@ -238,14 +239,14 @@ module _ (old now new : Taped) (one two three : Kept) (at : ℕ) (done all : Lis
             marked = ap (λ q. mark_of (sights q)) ends ∙ ap (λ bytes. word (words_of bytes) 6) b.acts.descriptor.bytes ∙ m.marked;
             fits = c.keeps (pack new) (subst (λ q. DescriptorFits q two.shape two.last two.mark two.pages) (sym ends) (b.acts.fits two.shape two.last two.mark two.pages m.fits));
             counted = subst (λ l. CountedSoFar old.writes one.tally l (around new three.busy three.tally))
-              (ap (λ l. moves_so_far old done all ++ l) (take_all (length (added now new)) ms (let e = whole_move in omega (arith, e))) ∙ sym so_far)
-              (call_is_counted_on T Stop old.writes one.tally (moves_so_far old done all) stop.DiskFault stop.Memory o claimed (around now two.busy two.tally) (around new three.busy three.tally) (Ok x) (low_one (Ok x) c) m.counted c.counts c.operates (λ fault. absurd cc));
+                (ap (λ l. moves_so_far old done all ++ l) (take_all (length (added now new)) ms (let e = whole_move in omega (arith, e))) ∙ sym so_far)
+                (call_is_counted_on T Stop old.writes one.tally (moves_so_far old done all) stop.DiskFault stop.Memory o claimed (around now two.busy two.tally) (around new three.busy three.tally) (Ok x) (low_one (Ok x) c) m.counted c.counts c.operates (λ fault. absurd cc));
             misled = subst (MisledBefore p) (sym (both (Ok x) c)) (later_misled_before p (added old now) (added now new) m.misled known_before);
             links = subst (KeepsLinks p) (sym (both (Ok x) c)) (links_join p (added old now) (added now new) m.links new_links);
             free = subst (λ q. AreFree q rest) (sym ends) (free_after (pack now) b.writes claimed rest b.acts.free m.free);
             table = λ was. subst (λ q. TableReserves q three.busy rest) (sym ends) (subst (λ t. TableReserves (after (pack now) b.writes) t rest) (sym b.table)
-              (operations_use_the_table (pack now) b.writes two.busy claimed rest b.released (m.table was) b.acts.map b.acts.free (pairs_apart claimed rest m.free.1)
-              (written_stays_known (pack now) o claimed b.released b.writes m.whole m.tidy b.exact).held));
+                (operations_use_the_table (pack now) b.writes two.busy claimed rest b.released (m.table was) b.acts.map b.acts.free (pairs_apart claimed rest m.free.1)
+                (written_stays_known (pack now) o claimed b.released b.writes m.whole m.tidy b.exact).held));
           }
 
     step_midway : (result : Result T Stop) → Calls now new two three o claimed files result → OnOk result (Midway old new one three at (done ++ o ∷ []) all rest)

@@ -30,7 +30,7 @@ returns-clause-starts g c = λ one at reserved told may.
     record {
       some = subst (λ (l : List Event). IsFirstOf (opening_writes (pack a) at) l) (sym all) (first_all (opening_writes (pack a) at));
       midway = λ o ops. midway_opened a b one (kept c.args.session.now) (kept two) at reserved may h.alone.grown all (count_of_a_call a b h.alone.grown first (g.met.D.Disk.counted c.mark_open.new.disk told)) first
-        (h.reads told disk).reads there.whole there.tidy refl refl o ops there.fits;
+          (h.reads told disk).reads there.whole there.tidy refl refl o ops there.fits;
       found = found_opened a b one (kept c.args.session.now) (kept two) at reserved may h.alone.grown all;
       tally = may.tally;
       failing = tt;
