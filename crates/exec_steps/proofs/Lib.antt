@@ -1,14 +1,14 @@
-mod Answers
-mod Calling
-mod Counting
+pub mod Answers
+pub mod Calling
+pub mod Counting
 mod Entries
 mod Grown
-mod Joining
+pub mod Joining
 mod Lining
 mod NewFile
 mod NextFile
 mod Opening
 mod Premises
 mod Serials
-mod Stepping
+pub mod Stepping
 mod Widened

@@ -14,7 +14,7 @@ use Rattle.disk_records.specs.declared.records.Tally.{Tally}
 use Rattle.exec_words.specs.declared.line.Line.{Line}
 use Rattle.exec_words.specs.declared.reply.Reply.{Reply}
 use Rattle.exec_words.specs.declared.reply.Reply.TheVariants as reply
-use Rattle.laws_call.proofs.going.Laws.{line_stops}
+use Rattle.laws_call.proofs.going.Laws.{line_stops as calls_stop}
 use Rattle.laws_call.proofs.sound.Laws.{calls_on_a_sound_pack}
 use Rattle.laws_call.specs.Going.{Goes}
 use Rattle.laws_call.specs.SoundCalls.{CallsOnSound, LineFits}
@@ -184,14 +184,14 @@ module _ (old : Taped) (one : Kept) (s : State) (l : Line) (b : Begins old one s
 
   broke_step : (T : Type 0) (now new : Taped) (two : Kept) (at : ℕ) (done ops more : List Operation) (reserved : List ℕ) (files : List Fid) (error : Stop) → LineFits p at own → (done ++ ops) ++ more ≡ own → Stepped {T = T} old now new one two at done ops own reserved files (Err error) → BrokeOff {T = T} old new one two s l (Err error)
   broke_step T now new two at done ops more reserved files error fits all_are st =
-      let goes : Goes {T = T} (opened_pack p at) own st.wrote (Err error) = subst (λ o. Goes {T = T} (opened_pack p at) o st.wrote (Err error)) all_are (line_stops T T Stop Stop (opened_pack p at) (done ++ ops) more st.wrote (Err error) error st.goes) in
+      let goes : Goes {T = T} (opened_pack p at) own st.wrote (Err error) = subst (λ o. Goes {T = T} (opened_pack p at) o st.wrote (Err error)) all_are (calls_stop T T Stop Stop (opened_pack p at) (done ++ ops) more st.wrote (Err error) error st.goes) in
       let x : BreaksOnSound p (added old new) own = subst (λ es. BreaksOnSound p es own) (sym st.events) ((calls_on_a_sound_pack T Stop p at own fits).breaks st.wrote (Err error) goes) in
       of_sound new two (Err error) x (λ tells. st.counted tells ∙ ap (λ ms. counted old.writes ms one.tally) (sym (x.are ∙ taken (done ++ ops) more all_are (length (added old new)) st.within)))
 
   broke_later : {T : Type 0} (new : Taped) (two : Kept) (at : ℕ) (done more : List Operation) (reserved : List ℕ) (result : Result T Stop) → LineFits p at own → done ++ more ≡ own → Midway old new one two at done own reserved → BrokeOff old new one two s l result
   broke_later new two at done more reserved result fits all_are m =
       let first : Goes {T = Unit {0}} {E = Stop} (opened_pack p at) done m.wrote (Ok tt) = record { begun = done; start = start_self done; writes = m.wrote; line = m.line; some = first_all m.wrote; all = (refl, refl) } in
-      let goes : Goes {T = Unit {0}} (opened_pack p at) own m.wrote (Err stop.Memory) = subst (λ o. Goes {T = Unit {0}} (opened_pack p at) o m.wrote (Err stop.Memory)) all_are (line_stops (Unit {0}) (Unit {0}) Stop Stop (opened_pack p at) done more m.wrote (Ok tt) stop.Memory first) in
+      let goes : Goes {T = Unit {0}} (opened_pack p at) own m.wrote (Err stop.Memory) = subst (λ o. Goes {T = Unit {0}} (opened_pack p at) o m.wrote (Err stop.Memory)) all_are (calls_stop (Unit {0}) (Unit {0}) Stop Stop (opened_pack p at) done more m.wrote (Ok tt) stop.Memory first) in
       let x : BreaksOnSound p (added old new) own = subst (λ es. BreaksOnSound p es own) (sym m.events) ((calls_on_a_sound_pack (Unit {0}) Stop p at own fits).breaks m.wrote (Err stop.Memory) goes) in
       let many = m.many in
       of_sound new two result x (λ tells. m.counted.tally ∙ ap (λ ms. counted old.writes ms one.tally)
@@ -258,5 +258,5 @@ lines_break_off T old one s l b = record {
   later = broke_later old one s l b;
 }
 
-pub broken_line_stops : LineStops
-broken_line_stops old new one two s l error b same alone k unrefused hint = stops old one s l b new two same alone error k unrefused hint
+pub line_stops : LineStops
+line_stops old new one two s l error b same alone k unrefused hint = stops old one s l b new two same alone error k unrefused hint
