@@ -1,12 +1,10 @@
 -- Calls on files and directories as steps: their premises alone.
-use Rattle.std.proofs.Common.{Bool, Contains, Err, List, Ok, Option, Result, Some, [], ap, arith, cond, false, length, refl, subst, sym, true, ℕ, ◌++◌, ◌+◌, ◌<◌, ◌^◌, ◌∙◌, ◌∷◌, ◌≡◌}
-use Rattle.alto_words.specs.Fid.{is_directory, sys_dir}
+use Rattle.std.proofs.Common.{Bool, Contains, List, Result, [], arith, false, refl, true, ℕ, ◌<◌, ◌^◌, ◌∷◌, ◌≡◌}
 use Rattle.alto_words.specs.declared.fid.Fid.{Fid}
 use Rattle.directory.specs.Asked.{DirStands}
 use Rattle.disk_records.specs.Events.{writes_in}
 use Rattle.disk_records.specs.Packs.{Pack}
 use Rattle.disk_records.specs.Tapes.{DiskAlone, Taped, added, capped, pack}
-use Rattle.disk_records.specs.declared.records.Page.{Page}
 use Rattle.disk_records.specs.declared.records.Place.{Place}
 use Rattle.disk_records.specs.declared.records.Tally.{Tally}
 use Rattle.hint_cache.specs.declared.hints.Hints.{Hints}
@@ -14,15 +12,12 @@ use Rattle.laws_call.proofs.counts.Laws.{count_of_a_call}
 use Rattle.laws_call.specs.Acting.{Operates, around}
 use Rattle.laws_midway.proofs.found.Laws.{found_file_lives}
 use Rattle.laws_steps.specs.LineKeepingLaws.{StaysFoundOver}
-use Rattle.page_seeking.specs.Refs.{FileIsFrom, FileStands}
+use Rattle.page_seeking.specs.Refs.{FileIsFrom}
 use Rattle.page_seeking.specs.declared.refs.FileRef.{FileRef}
 use Rattle.pack_model.specs.hints.Misled.{AnswersMisled}
-use Rattle.pack_model.specs.hints.Sources.{IsFrom}
 use Rattle.pack_model.specs.operations.Committing.{serial_moves}
-use Rattle.pack_model.specs.operations.Step.{Operation, step}
-use Rattle.pack_model.specs.reading.Files.{lives}
+use Rattle.pack_model.specs.operations.Step.{Operation}
 use Rattle.pack_model.specs.reading.Model.{Model}
-use Rattle.pack_model.specs.reading.Sights.{sights}
 use Rattle.session_model.specs.Keeping.{Kept}
 use Rattle.exec_session.specs.Meant.{IfHint, kept}
 use Rattle.exec_session.specs.Rooms.{widens_if}

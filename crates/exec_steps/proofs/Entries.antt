@@ -1,9 +1,9 @@
 -- An entry that is to come: that nothing in its directory is in its way, before the widenings of its line and after them.
-use Rattle.std.proofs.Common.{Bool, List, None, Option, Some, [], ap, arith, cond, false, length, not, refl, subst, sym, true, ℕ, ◌++◌, ◌+◌, ◌/◌, ◌∙◌, ◌∷◌, ◌≡◌, ◌≢◌, ◌≤◌}
+use Rattle.std.proofs.Common.{Bool, List, None, Option, Some, [], ap, arith, cond, false, length, not, refl, subst, sym, true, ℕ, ◌++◌, ◌∙◌, ◌∷◌, ◌≡◌, ◌≤◌}
 use Rattle.std.specs.FinMap.{get}
-use Rattle.std.specs.Option.{is_some, option_map}
+use Rattle.std.specs.Option.{option_map}
 use Rattle.alto_words.proofs.Versions.{is_stored_name-fits}
-use Rattle.alto_words.specs.Fid.{disk_descriptor, is_directory, is_fid, sys_dir}
+use Rattle.alto_words.specs.Fid.{is_fid, sys_dir}
 use Rattle.alto_words.specs.Names.{is_same_name, is_stored_name}
 use Rattle.alto_words.specs.declared.fid.Fid.{Fid}
 use Rattle.alto_words.specs.declared.wanted.Wanted.TheVariants.{Exact}
@@ -20,15 +20,14 @@ use Rattle.laws_operation.proofs.entries.Laws.{items_are_slots}
 use Rattle.laws_operation.proofs.places.Laws.{model_has_the_living}
 use Rattle.laws_record.proofs.DirReads.{not_descriptor}
 use Rattle.page_seeking.specs.declared.refs.FileRef.{FileRef}
-use Rattle.pack_laws.proofs.Keys.{fid_same, fid_total, is_fid-itself, same_fid}
+use Rattle.pack_laws.proofs.Keys.{fid_same, fid_total, same_fid}
 use Rattle.pack_laws.proofs.Mapping.{get-update}
-use Rattle.pack_model.specs.hints.Links.{dir_slots, dir_words}
 use Rattle.pack_model.specs.operations.Rooms.{find_room, largest_run}
 use Rattle.pack_model.specs.operations.Step.Operation.{make, widen}
-use Rattle.pack_model.specs.operations.Step.{Operation, body_slots, on_items, step}
+use Rattle.pack_model.specs.operations.Step.{body_slots, on_items, step}
 use Rattle.pack_model.specs.reading.Bodies.Body.{data_of, items_of}
 use Rattle.pack_model.specs.reading.Bodies.{Body, File, items_in}
-use Rattle.pack_model.specs.reading.Lookup.{EntryAt, entered, entry_at}
+use Rattle.pack_model.specs.reading.Lookup.{entered}
 use Rattle.pack_model.specs.reading.Model.{Model, dir_items, read_as}
 use Rattle.pack_model.specs.reading.Slots.Item.{entry, space}
 use Rattle.pack_model.specs.reading.Slots.{Item, entry_length}

@@ -1,5 +1,5 @@
 -- Bytes after those of a file, if there are some.
-use Rattle.std.proofs.Common.{Bool, List, Ok, Result, [], ap, arith, false, inl, length, refl, subst, sym, true, ℕ, ◌%◌, ◌+◌, ◌<◌, ◌==◌, ◌∙◌, ◌∷◌, ◌≡◌, ◌≤◌}
+use Rattle.std.proofs.Common.{Bool, List, Ok, [], ap, arith, false, inl, length, refl, subst, sym, true, ℕ, ◌+◌, ◌<◌, ◌==◌, ◌∙◌, ◌∷◌, ◌≡◌}
 use Rattle.std.proofs.lemmas.Bool.Decides.{nat_tests}
 use Rattle.alto_words.specs.declared.fid.Fid.{Fid}
 use Rattle.disk_records.specs.Packs.{Pack}
@@ -11,10 +11,8 @@ use Rattle.page_seeking.specs.Seeking.{NamedNearEnd, file_length}
 use Rattle.page_seeking.specs.declared.refs.FileRef.{FileRef}
 use Rattle.pack_model.specs.operations.Committing.{pages_added}
 use Rattle.pack_model.specs.operations.Step.Operation.{grow}
-use Rattle.pack_model.specs.operations.Step.{Operation}
 use Rattle.session_model.specs.Keeping.{Kept}
 use Rattle.session_model.specs.Streams.{grows}
-use Rattle.exec_session.specs.declared.stop.Stop.{Stop}
 use Rattle.exec_steps.specs.Asked.{MayGrowFile}
 use Rattle.exec_steps.specs.Midway.{StepsOn}
 use Rattle.exec_steps.proofs.Joining.{step_of_nothing}

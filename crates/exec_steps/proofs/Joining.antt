@@ -1,5 +1,5 @@
 -- Steps of a line, one after the other.
-use Rattle.std.proofs.Common.{Contains, Err, List, Ok, OnOk, Option, Result, [], append_assoc, ap, arith, length, length-append, refl, subst, sym, take, take_all, ℕ, ◌++◌, ◌∙◌, ◌≡◌, ◌≤◌}
+use Rattle.std.proofs.Common.{Contains, Err, List, Ok, OnOk, Result, [], append_assoc, ap, arith, length, length-append, refl, subst, sym, take, take_all, ℕ, ◌++◌, ◌∙◌, ◌≡◌, ◌≤◌}
 use Rattle.std.proofs.lemmas.List.Elements.{Contains-append_left, Contains-append_right}
 use Rattle.std.proofs.lemmas.List.{append-nil, take-append-le}
 use Rattle.std.proofs.lemmas.Result.{on_ok_weaker}

@@ -1,27 +1,23 @@
 -- A line that has done all of its steps, or broke off, as a turn.
-use Rattle.std.proofs.Common.{All, Bool, Err, List, Ok, Option, Result, [], ap, ap₂, append-nil, append_assoc, arith, cond, false, length, length-append, map, refl, subst, suc, sym, take, take_all, true, zero, ℕ, ◌++◌, ◌+◌, ◌<◌, ◌^◌, ◌==◌, ◌∙◌, ◌∷◌, ◌≡◌, ◌≤◌}
+use Rattle.std.proofs.Common.{All, Bool, Err, List, Ok, Result, [], ap, ap₂, arith, cond, false, length, map, refl, subst, suc, sym, take, take_all, true, zero, ℕ, ◌++◌, ◌<◌, ◌==◌, ◌∙◌, ◌∷◌, ◌≡◌, ◌≤◌}
 use Rattle.std.proofs.lemmas.List.Elements.{All-nil}
 use Rattle.std.proofs.lemmas.List.{take-append-le}
 use Rattle.alto_words.specs.declared.fid.Fid.{Fid}
 use Rattle.disk_records.proofs.FirstOnes.{first_all}
 use Rattle.disk_records.proofs.Growing.{pack-after}
 use Rattle.disk_records.specs.Commands.{value_writes}
-use Rattle.disk_records.specs.Events.{IsFirstOf}
 use Rattle.disk_records.specs.Packs.{Pack, after, sector_at}
 use Rattle.disk_records.specs.Tapes.{DiskAlone, Taped, added, pack}
-use Rattle.disk_records.specs.declared.records.Event.{Event}
 use Rattle.disk_records.specs.declared.records.Tally.{Tally}
 use Rattle.exec_words.specs.declared.line.Line.{Line}
 use Rattle.exec_words.specs.declared.reply.Reply.{Reply}
-use Rattle.exec_words.specs.declared.reply.Reply.TheVariants as reply
 use Rattle.laws_call.proofs.going.Laws.{line_stops as calls_stop}
 use Rattle.laws_call.proofs.sound.Laws.{calls_on_a_sound_pack}
 use Rattle.laws_call.specs.Going.{Goes}
-use Rattle.laws_call.specs.SoundCalls.{CallsOnSound, LineFits}
+use Rattle.laws_call.specs.SoundCalls.{LineFits}
 use Rattle.laws_hint.proofs.tables.Laws.{table_without_reserved}
 use Rattle.laws_hint.specs.LineLinks.{opening_writes}
 use Rattle.laws_line.proofs.parts.Laws.{line_moves_lead_to_the_model}
-use Rattle.laws_line.specs.CrashLaws.{Batch}
 use Rattle.laws_line.specs.Ready.{steps_of}
 use Rattle.laws_line.specs.SoundLines.{LineOnSound}
 use Rattle.laws_line.specs.SoundParts.{BreaksOnSound}
@@ -34,13 +30,12 @@ use Rattle.pack_model.specs.hints.Links.{LinksTrue}
 use Rattle.pack_model.specs.hints.Sources.{IsFrom}
 use Rattle.pack_model.specs.operations.Committing.{line_moves, moves_of_all, open_moves}
 use Rattle.pack_model.specs.operations.Operations.Move.{quiet}
-use Rattle.pack_model.specs.operations.Operations.{Move}
 use Rattle.pack_model.specs.operations.Step.{Operation}
-use Rattle.pack_model.specs.reading.Model.{Model, read_as}
+use Rattle.pack_model.specs.reading.Model.{read_as}
 use Rattle.pack_model.specs.reading.Sights.{sights}
 use Rattle.pack_model.specs.sessions.Descriptor.{ending_moves, opened_value}
 use Rattle.pack_model.specs.sessions.Meanings.{SessionCut, session}
-use Rattle.pack_model.specs.sessions.Moves.{IsStartOf, Meaning, Obeys, steps}
+use Rattle.pack_model.specs.sessions.Moves.{IsStartOf, Obeys, steps}
 use Rattle.pack_model.specs.sessions.Tallies.{Tells, counted}
 use Rattle.pack_model.specs.states.Sound.{Sound, mark_clean, mark_of, mark_open}
 use Rattle.session_model.specs.Answering.{Answered, plain_reply}
@@ -51,7 +46,7 @@ use Rattle.exec_session.specs.Meant.{IfHint, IfRefused, in_need, kept_stopped, s
 use Rattle.exec_session.specs.Turned.{Begins, LeavesWorld, SameWorld, Turned, line_ops}
 use Rattle.exec_session.specs.declared.stop.Stop.{Stop}
 use Rattle.exec_session.specs.declared.stop.Stop.TheVariants as stop
-use Rattle.exec_steps.specs.Lines.{BreaksOff, BrokeOff, LineIsDone, LineStops, LinesBreakOff}
+use Rattle.exec_steps.specs.Lines.{BrokeOff, LineIsDone, LineStops, LinesBreakOff}
 use Rattle.exec_steps.specs.Midway.{Midway, Started, Stepped, moves_so_far, opened_pack}
 use Rattle.exec_steps.proofs.Counting.{first_few, none_obeyed, obeys_ends, obeys_many}
 use Rattle.exec_steps.proofs.Stepping.{so_far_append}

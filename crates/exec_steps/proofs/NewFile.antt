@@ -1,8 +1,8 @@
 -- A new file with its entry: three steps as one.
-use Rattle.std.proofs.Common.{Bool, Contains, Err, List, Ok, Result, Some, [], ap, append-nil, append_assoc, arith, drop, false, inl, inr, length, length-drop, refl, subst, suc, sym, take, take-add, take_all, true, ℕ, ◌++◌, ◌+◌, ◌-◌, ◌<◌, ◌^◌, ◌∙◌, ◌∷◌, ◌≡◌, ◌≤◌}
+use Rattle.std.proofs.Common.{Bool, Contains, Err, List, Ok, Result, Some, [], ap, append-nil, append_assoc, arith, drop, false, inl, inr, length, length-drop, refl, subst, sym, take, take-add, take_all, true, ℕ, ◌++◌, ◌+◌, ◌-◌, ◌<◌, ◌^◌, ◌∙◌, ◌∷◌, ◌≡◌, ◌≤◌}
 use Rattle.std.proofs.lemmas.List.Elements.{Contains-append_cases, Contains-append_right}
 use Rattle.std.specs.Option.{is_some}
-use Rattle.alto_words.specs.Fid.{is_fid, is_full_name, serial_of, sys_dir}
+use Rattle.alto_words.specs.Fid.{is_fid, is_full_name, sys_dir}
 use Rattle.alto_words.specs.declared.fid.Fid.{Fid}
 use Rattle.disk_records.specs.Packs.{Pack, carried}
 use Rattle.disk_records.specs.Tapes.{Taped, pack}
@@ -13,14 +13,12 @@ use Rattle.laws_operation.proofs.make.Laws.{make_leaves_no_name}
 use Rattle.laws_operation.proofs.places.Laws.{file_lives_in_a_place}
 use Rattle.laws_steps.specs.LineKeepingLaws.{StaysFoundOver}
 use Rattle.page_seeking.specs.Refs.{FileIsFrom}
-use Rattle.page_seeking.specs.declared.refs.FileRef.{FileRef}
 use Rattle.pack_laws.proofs.Keys.{same_fid}
 use Rattle.pack_laws.proofs.files.Laws.{places_are_lowest}
 use Rattle.pack_model.specs.hints.Misled.{leader_page}
-use Rattle.pack_model.specs.hints.Sources.{IsFrom}
 use Rattle.pack_model.specs.operations.Rooms.{largest_run}
 use Rattle.pack_model.specs.operations.Step.Operation.{enter, make}
-use Rattle.pack_model.specs.operations.Step.{Operation, step}
+use Rattle.pack_model.specs.operations.Step.{Operation}
 use Rattle.pack_model.specs.reading.Files.{lives, place}
 use Rattle.pack_model.specs.reading.Model.{Model, dir_items, is_named, read_as}
 use Rattle.pack_model.specs.reading.Sights.{sights}
@@ -32,12 +30,12 @@ use Rattle.exec_session.specs.Rooms.{pages_planned, widens_if}
 use Rattle.exec_session.specs.declared.rooms.NewEntry.{NewEntry}
 use Rattle.exec_session.specs.declared.stop.Stop.{Stop}
 use Rattle.exec_steps.specs.Asked.{MayEnterFile, MayMakeEntered, MayMakeNext, first_widenings, made_entered, made_fid, new_ref}
-use Rattle.exec_steps.specs.Midway.{AreFree, Arrived, Midway, Stepped, StepsOn}
+use Rattle.exec_steps.specs.Midway.{AreFree, Arrived, Midway, StepsOn}
 use Rattle.exec_steps.proofs.Calling.{dir_stands_still, widens_stay}
 use Rattle.exec_steps.proofs.Entries.{exact_after, items_after_make}
 use Rattle.exec_steps.proofs.Joining.{arrived_then, step_for, step_stops, steps_join}
 use Rattle.exec_steps.proofs.Premises.{few_serials, made_serial}
-use Rattle.exec_steps.proofs.Stepping.{free_left, steps_append}
+use Rattle.exec_steps.proofs.Stepping.{free_left}
 
 -- ---- what is asked of each step, once the ones before it are done
 both_stay : (m : Model) (e : NewEntry) (g : Fid) (from : Place) → StaysFoundOver m (first_widenings e) g from

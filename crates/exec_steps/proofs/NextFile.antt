@@ -1,12 +1,12 @@
 -- A file under the next serial, by what the calls say.
-use Rattle.std.proofs.Common.{Bool, Err, IfOk, List, Ok, OnOk, Option, Result, Some, [], ap, arith, length, refl, subst, sym, take, true, ℕ, ◌++◌, ◌+◌, ◌<◌, ◌^◌, ◌∙◌, ◌∷◌, ◌≡◌, ◌≤◌}
+use Rattle.std.proofs.Common.{Bool, Err, List, Ok, Result, Some, [], ap, arith, length, refl, subst, sym, take, ℕ, ◌++◌, ◌+◌, ◌<◌, ◌^◌, ◌∙◌, ◌∷◌, ◌≡◌, ◌≤◌}
 use Rattle.alto_words.specs.Fid.{disk_descriptor}
 use Rattle.alto_words.specs.declared.fid.Fid.{Fid}
 use Rattle.disk_records.proofs.Growing.{pack-after}
 use Rattle.disk_records.specs.Causes.{HasCause}
 use Rattle.disk_records.specs.Events.{writes_in}
-use Rattle.disk_records.specs.Packs.{Pack, after, sector_at}
-use Rattle.disk_records.specs.Tapes.{DiskAlone, Taped, added, capped, pack}
+use Rattle.disk_records.specs.Packs.{after, sector_at}
+use Rattle.disk_records.specs.Tapes.{DiskAlone, Taped, capped, pack}
 use Rattle.disk_records.specs.Words.{word}
 use Rattle.disk_records.specs.declared.records.Tally.{Tally}
 use Rattle.disk_descriptor.specs.Answers.{IfHeld}
@@ -26,18 +26,14 @@ use Rattle.page_seeking.specs.declared.refs.FileError.{FileError}
 use Rattle.page_seeking.specs.declared.refs.FileError.TheVariants as fault
 use Rattle.page_seeking.specs.declared.refs.FileRef.{FileRef}
 use Rattle.pack_model.specs.operations.Step.Operation.{make}
-use Rattle.pack_model.specs.operations.Step.{Operation}
 use Rattle.pack_model.specs.reading.Files.{place}
 use Rattle.pack_model.specs.reading.Sights.{sights}
 use Rattle.pack_model.specs.sessions.Descriptor.{DescriptorFits, serial_writes}
 use Rattle.pack_model.specs.states.Whole.{Tidy, Whole}
-use Rattle.session_model.specs.Keeping.{Kept}
 use Rattle.session_model.specs.Refusals.{most_serials}
 use Rattle.exec_session.specs.Meant.{kept}
 use Rattle.exec_session.specs.Stops.{stop_of_desc, stop_written}
 use Rattle.exec_session.specs.declared.session.Session.{Session}
-use Rattle.exec_session.specs.declared.stop.Stop.{Stop}
-use Rattle.exec_session.specs.declared.stop.Stop.TheVariants as stop
 use Rattle.exec_steps.specs.Asked.{MayMakeNext, made_fid}
 use Rattle.exec_steps.specs.Midway.{Midway, StepsOn}
 use Rattle.exec_steps.proofs.Answers.{desc_hints, no_hints, written_operates}

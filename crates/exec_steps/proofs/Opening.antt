@@ -1,5 +1,5 @@
 -- The mark, as a line begins to write.
-use Rattle.std.proofs.Common.{Bool, Err, List, Ok, OnOk, Option, Result, Some, [], ap, append-nil, arith, cond, false, length, refl, subst, slice_index_or, sym, true, ℕ, ◌<◌, ◌++◌, ◌==◌, ◌∙◌, ◌∷◌, ◌≡◌}
+use Rattle.std.proofs.Common.{Bool, List, Some, [], ap, append-nil, arith, cond, false, length, refl, subst, slice_index_or, sym, true, ℕ, ◌<◌, ◌==◌, ◌∙◌, ◌∷◌, ◌≡◌}
 use Rattle.alto_words.specs.Fid.{disk_descriptor}
 use Rattle.disk_records.proofs.Growing.{pack-after}
 use Rattle.disk_records.specs.Commands.{value_writes}
@@ -7,8 +7,6 @@ use Rattle.disk_records.specs.Events.{writes_in}
 use Rattle.disk_records.specs.Packs.{Pack, after, is_free_at, sector_at}
 use Rattle.disk_records.specs.Tapes.{Grown, Taped, added, capped, pack}
 use Rattle.disk_records.specs.declared.records.Event.{Event}
-use Rattle.disk_descriptor.specs.Fields.{FitsDisk, Opens}
-use Rattle.disk_descriptor.specs.Writing.{Writes}
 use Rattle.laws_call.proofs.counts.Laws.{quiet_call_is_counted}
 use Rattle.laws_call.specs.Acting.{around}
 use Rattle.laws_call.specs.CountLaws.{CountedSoFar, CountsOn}
@@ -41,8 +39,7 @@ use Rattle.pack_model.specs.sessions.Descriptor.{DescriptorFits, opened_value}
 use Rattle.pack_model.specs.states.Sound.{mark_of, mark_open}
 use Rattle.pack_model.specs.states.Whole.{Tidy, Whole}
 use Rattle.session_model.specs.Keeping.{Kept}
-use Rattle.exec_session.specs.declared.stop.Stop.{Stop}
-use Rattle.exec_steps.specs.Midway.{AreFree, MayStart, Midway}
+use Rattle.exec_steps.specs.Midway.{MayStart, Midway}
 use Rattle.exec_steps.proofs.Counting.{obeys_many}
 
 -- ---- the record write, or none

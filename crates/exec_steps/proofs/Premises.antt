@@ -1,13 +1,12 @@
 -- What a new file and its entry ask of the pack, by what is known before them.
-use Rattle.std.proofs.Common.{All, AllPairs, Bool, List, Option, Some, [], ap, arith, cond, false, get_or, length, refl, slice_index_or, subst, suc, sym, take, true, zero, ℕ, ◌++◌, ◌+◌, ◌*◌, ◌/◌, ◌%◌, ◌<◌, ◌^◌, ◌∙◌, ◌∷◌, ◌≡◌, ◌≢◌, ◌≤◌, ◌||◌, ◌==◌}
-use Rattle.alto_words.specs.Fid.{directory_fid, disk_descriptor, is_directory, is_fid, is_full_name, ordinary_fid, serial_of, sys_dir}
+use Rattle.std.proofs.Common.{Bool, List, Some, [], ap, arith, false, length, refl, subst, sym, take, true, ℕ, ◌+◌, ◌<◌, ◌^◌, ◌∙◌, ◌∷◌, ◌≡◌, ◌≢◌, ◌≤◌}
+use Rattle.alto_words.specs.Fid.{disk_descriptor, is_fid, serial_of}
 use Rattle.alto_words.specs.declared.fid.Fid.{Fid}
-use Rattle.disk_records.specs.Packs.{Pack, after, is_free_at, sector_at}
+use Rattle.disk_records.specs.Packs.{Pack, is_free_at, sector_at}
 use Rattle.disk_records.specs.Words.{word}
 use Rattle.disk_records.specs.declared.records.Event.{Event}
 use Rattle.laws_call.proofs.writing.Laws.{written_acts}
-use Rattle.laws_call.specs.Acting.{Acts}
-use Rattle.laws_call.specs.Writing.{Written, makes}
+use Rattle.laws_call.specs.Writing.{makes}
 use Rattle.laws_line.specs.CrashLaws.{StaysMendable, with_serial}
 use Rattle.laws_operation.proofs.descriptor.Laws.{serial_carries_out}
 use Rattle.laws_operation.proofs.places.Laws.{serial_keeps_places}

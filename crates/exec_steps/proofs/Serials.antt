@@ -1,5 +1,5 @@
 -- A new serial and its make, as one step of a line.
-use Rattle.std.proofs.Common.{All, Bool, Err, List, Ok, OnOk, Option, Result, Some, [], ap, append-nil, append_assoc, arith, false, length, length-append, refl, slice_index_or, subst, suc, sym, take, take_all, true, zero, ℕ, ◌++◌, ◌+◌, ◌<◌, ◌^◌, ◌∙◌, ◌∷◌, ◌≡◌, ◌≢◌, ◌≤◌, ◌||◌, ◌==◌}
+use Rattle.std.proofs.Common.{Bool, Err, List, Ok, OnOk, Result, Some, [], ap, append-nil, append_assoc, arith, false, length, length-append, refl, slice_index_or, subst, suc, sym, take, take_all, true, zero, ℕ, ◌++◌, ◌+◌, ◌<◌, ◌^◌, ◌∙◌, ◌∷◌, ◌≡◌, ◌≢◌, ◌≤◌, ◌||◌, ◌==◌}
 use Rattle.std.proofs.lemmas.List.Elements.{All-cons, All-tail}
 use Rattle.std.proofs.lemmas.List.Kept.{AllPairs-cons}
 use Rattle.std.specs.List.{list_any}
@@ -12,8 +12,6 @@ use Rattle.disk_records.specs.Packs.{Pack, after, is_free_at, sector_at}
 use Rattle.disk_records.specs.Tapes.{Grown, Taped, added, pack}
 use Rattle.disk_records.specs.Words.{word}
 use Rattle.disk_records.specs.declared.records.Event.{Event}
-use Rattle.disk_records.specs.declared.records.Page.{Page}
-use Rattle.disk_records.specs.declared.records.Place.{Place}
 use Rattle.disk_records.specs.declared.records.Tally.{Tally}
 use Rattle.laws_call.proofs.counts.Laws.{call_is_counted, call_is_counted_on, quiet_call_is_counted}
 use Rattle.laws_call.proofs.going.Laws.{serial_and_make_join}
@@ -31,7 +29,6 @@ use Rattle.laws_hint.specs.MapChanges.{marked}
 use Rattle.laws_hint.specs.TableLaws.{TableReserves}
 use Rattle.laws_line.proofs.fits.Laws.{descriptor_fits_on}
 use Rattle.laws_line.specs.CrashLaws.{Batch, StaysMendable, with_serial}
-use Rattle.laws_line.specs.Ready.{steps_of}
 use Rattle.laws_lookup.proofs.others.Laws.{place_is_of_its_file}
 use Rattle.laws_lookup.proofs.stays.Laws.{values_misled_before}
 use Rattle.laws_lookup.specs.StayLaws.{MisledBefore}
@@ -45,7 +42,7 @@ use Rattle.laws_steps.specs.LineKeepingLaws.{KeepsFound}
 use Rattle.pack_laws.proofs.Moving.{start_self}
 use Rattle.pack_laws.proofs.tallies.Laws.{tallies_join}
 use Rattle.pack_model.specs.hints.Tables.{TableTrue, true_table}
-use Rattle.pack_model.specs.operations.Committing.{moves_of, moves_of_all}
+use Rattle.pack_model.specs.operations.Committing.{moves_of}
 use Rattle.pack_model.specs.operations.Operations.Move.{quiet}
 use Rattle.pack_model.specs.operations.Operations.{Move}
 use Rattle.pack_model.specs.operations.Step.Operation.{make}
@@ -55,7 +52,7 @@ use Rattle.pack_model.specs.reading.Bytes.{words_of}
 use Rattle.pack_model.specs.reading.Model.{read_as}
 use Rattle.pack_model.specs.reading.Sights.{sights}
 use Rattle.pack_model.specs.sessions.Descriptor.{DescriptorFits, serial_value, serial_writes}
-use Rattle.pack_model.specs.sessions.Tallies.{Tells, counted}
+use Rattle.pack_model.specs.sessions.Tallies.{counted}
 use Rattle.pack_model.specs.states.Sound.{mark_of}
 use Rattle.pack_model.specs.states.Whole.{Tidy, Whole}
 use Rattle.session_model.specs.Keeping.{Kept}

@@ -1,11 +1,10 @@
 -- A step of a line: a call that is to do one operation, from wherever the line is midway.
-use Rattle.std.proofs.Common.{All, AllPairs, Contains, Err, IsErrOf, List, Ok, OnOk, Option, Result, Some, [], add-suc, ap, append-nil, append_assoc, arith, false, length, length-append, refl, slice_index_or, subst, suc, sym, take, take_all, true, zero, ℕ, ◌++◌, ◌+◌, ◌<◌, ◌^◌, ◌∙◌, ◌∷◌, ◌≡◌, ◌≢◌, ◌≤◌}
+use Rattle.std.proofs.Common.{All, AllPairs, Contains, Err, List, Ok, OnOk, Option, Result, [], ap, append-nil, append_assoc, arith, length, length-append, refl, slice_index_or, subst, suc, sym, take, take_all, true, zero, ℕ, ◌++◌, ◌+◌, ◌<◌, ◌^◌, ◌∙◌, ◌∷◌, ◌≡◌, ◌≢◌, ◌≤◌}
 use Rattle.std.proofs.lemmas.List.Elements.{All-cons, All-head, All-nil, All-tail}
 use Rattle.std.proofs.lemmas.List.Kept.{AllPairs-cons}
 use Rattle.alto_words.specs.declared.fid.Fid.{Fid}
 use Rattle.disk_records.proofs.FirstOnes.{first_all}
 use Rattle.disk_records.proofs.Growing.{added-twice, after-append, grown_twice, pack-after}
-use Rattle.disk_records.specs.Events.{IsFirstOf}
 use Rattle.disk_records.specs.Packs.{Pack, after, is_free_at}
 use Rattle.disk_records.specs.Tapes.{Grown, Taped, added, pack}
 use Rattle.disk_records.specs.Words.{word}
@@ -22,7 +21,6 @@ use Rattle.laws_call.specs.Going.{Goes}
 use Rattle.laws_hint.proofs.lines.Laws.{links_join}
 use Rattle.laws_hint.proofs.tables.Laws.{operations_use_the_table}
 use Rattle.laws_hint.specs.LineLinks.{opening_writes}
-use Rattle.laws_hint.specs.MapChanges.{marked}
 use Rattle.laws_hint.specs.TableLaws.{TableReserves}
 use Rattle.laws_line.specs.CrashLaws.{Batch}
 use Rattle.laws_line.specs.Ready.{steps_of}

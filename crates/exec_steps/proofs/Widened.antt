@@ -1,5 +1,5 @@
 -- Pages of directories that come first: two widenings as one step.
-use Rattle.std.proofs.Common.{Bool, Err, List, Ok, Result, [], ap, arith, cond, drop, false, length, refl, subst, sym, take, take-add, take-append-drop, true, ℕ, ◌++◌, ◌+◌, ◌∙◌, ◌∷◌, ◌≡◌, ◌≤◌}
+use Rattle.std.proofs.Common.{Bool, Err, List, Ok, Result, [], ap, arith, drop, false, length, refl, subst, sym, take, take-add, take-append-drop, true, ℕ, ◌++◌, ◌∙◌, ◌∷◌, ◌≡◌, ◌≤◌}
 use mir.Val.{bool_byte}
 use Rattle.alto_words.specs.Fid.{sys_dir}
 use Rattle.alto_words.specs.declared.fid.Fid.{Fid}
@@ -8,9 +8,7 @@ use Rattle.disk_records.specs.Packs.{Pack, is_free_at}
 use Rattle.disk_records.specs.Tapes.{Taped, pack}
 use Rattle.disk_records.specs.Words.{word}
 use Rattle.pack_model.specs.operations.Step.Operation.{widen}
-use Rattle.pack_model.specs.operations.Step.{Operation}
 use Rattle.session_model.specs.Keeping.{Kept}
-use Rattle.exec_session.specs.Found.{root_ref}
 use Rattle.exec_session.specs.Rooms.{one_if, pages_planned, widens_if}
 use Rattle.exec_session.specs.declared.rooms.NewEntry.{NewEntry}
 use Rattle.exec_session.specs.declared.stop.Stop.{Stop}

@@ -1,4 +1,4 @@
-use Rattle.std.proofs.Common.{List, Result, [], ap, drop, length, refl, subst, sym, take, ◌∷◌, ◌∙◌, ◌≡◌, ◌-◌, ℕ}
+use Rattle.std.proofs.Common.{Result, [], ap, drop, length, refl, subst, sym, take, ◌∷◌, ◌∙◌, ◌-◌, ℕ}
 use Rattle.alto_words.specs.Fid.{sys_dir}
 use Rattle.disk_records.proofs.Growing.{alone_twice}
 use Rattle.disk_records.specs.Tapes.{pack}

@@ -1,13 +1,12 @@
-use Rattle.std.proofs.Common.{List, Result, Ok, Err, Some, [], ap, drop, length, refl, subst, sym, take, ◌∷◌, ◌∙◌, ◌≡◌, ◌+◌, ◌-◌, ◌++◌, ℕ}
+use Rattle.std.proofs.Common.{Result, Ok, Err, Some, [], ap, drop, length, refl, subst, sym, take, ◌∷◌, ◌∙◌, ◌≡◌, ◌+◌, ◌-◌, ℕ}
 use Rattle.alto_words.specs.Fid.{sys_dir}
-use Rattle.alto_words.specs.declared.fid.Fid.{Fid}
 use Rattle.disk_descriptor.specs.Fields.{Fields}
 use Rattle.disk_records.proofs.Growing.{alone_twice}
 use Rattle.disk_records.specs.Tapes.{pack}
 use Rattle.disk_records.specs.Words.{word}
 use Rattle.page_seeking.specs.Refs.{FileIsFrom}
 use Rattle.page_seeking.specs.declared.refs.FileRef.{FileRef}
-use Rattle.pack_model.specs.operations.Step.Operation.{enter, make}
+use Rattle.pack_model.specs.operations.Step.Operation.{enter}
 use Rattle.pack_model.specs.reading.Files.{place}
 use Rattle.pack_model.specs.reading.Sights.{sights}
 use Rattle.exec_session.specs.Meant.{kept}

@@ -1,18 +1,16 @@
-use Rattle.std.proofs.Common.{List, Result, Ok, Err, Some, [], ap, arith, length, refl, subst, sym, take, ◌∷◌, ◌++◌, ◌+◌, ◌∙◌, ◌≡◌, ℕ}
+use Rattle.std.proofs.Common.{Result, [], ap, arith, subst, sym, take, ◌∷◌, ◌+◌, ◌∙◌, ℕ}
 use Rattle.alto_words.specs.declared.fid.Fid.{Fid}
 use Rattle.disk_descriptor.specs.Fields.{with_last}
 use Rattle.disk_records.proofs.Growing.{alone_twice}
-use Rattle.disk_records.specs.Tapes.{added, pack}
-use Rattle.disk_records.specs.Words.{word}
+use Rattle.disk_records.specs.Tapes.{pack}
 use Rattle.page_seeking.specs.declared.refs.FileRef.{FileRef}
 use Rattle.pack_model.specs.operations.Step.Operation.{make}
 use Rattle.pack_model.specs.reading.Files.{place}
 use Rattle.pack_model.specs.reading.Sights.{sights}
 use Rattle.exec_session.specs.Meant.{IfRefused, kept}
-use Rattle.exec_session.specs.Stops.{stop_of_desc, stop_written}
 use Rattle.exec_session.specs.declared.stop.Stop.{Stop}
 use Rattle.exec_steps.specs.Asked.{made_fid}
-use Rattle.exec_steps.specs.Midway.{Midway, Stepped, StepsOn}
+use Rattle.exec_steps.specs.Midway.{StepsOn}
 use Rattle.exec_steps.proofs.Answers.{desc_unrefused, error_is, was_written}
 use Rattle.exec_steps.proofs.Joining.{steps_err, steps_ok}
 use Rattle.exec_steps.proofs.NextFile.{asked_of_make, made_next, serial_stops}

@@ -1,4 +1,4 @@
-use Rattle.std.proofs.Common.{List, OnOk, Result, [], arith, length, refl, subst, sym, ◌∷◌, ◌+◌, ◌*◌, ◌≤◌}
+use Rattle.std.proofs.Common.{List, Result, [], arith, refl, subst, sym, ◌∷◌}
 use Rattle.disk_records.specs.Tapes.{added, pack}
 use Rattle.laws_call.specs.Acting.{around}
 use Rattle.pack_model.specs.operations.Step.Operation.{grow}
