@@ -5,6 +5,7 @@ mod Entries
 mod Grown
 pub mod Joining
 mod Lining
+mod Named
 mod NewFile
 mod NextFile
 mod Opening

@@ -1,7 +1,7 @@
 //! How steps of a line join, and what a line is that is done or broke off: each law is what a function of its name ensures. The functions
 //! do nothing.
 ghost use Rattle.exec_steps.specs.Lines.{LineIsDone, LineStops, LinesBreakOff};
-ghost use Rattle.exec_steps.specs.Steps.{StepStops, StepsJoin};
+ghost use Rattle.exec_steps.specs.Steps.{NamedPageStays, StepStops, StepsJoin};
 
 /// Two steps of a line, one after the other, are a step with the operations of both.
 pub fn steps_join<T, U>()
@@ -26,4 +26,9 @@ pub fn lines_break_off<T>()
 /// It is answered by a fault, by out of memory, or by a hint that misled.
 pub fn line_stops()
     ensures { LineStops }
+{}
+
+/// The last page that a leader names is as near the end as it was where record writes leave all files but another one as they were.
+pub fn named_page_stays()
+    ensures { NamedPageStays }
 {}
