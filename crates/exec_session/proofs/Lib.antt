@@ -1,9 +1,13 @@
 mod Ending
 mod Finding
+mod FreshMemory
 mod Looking
 mod NewNaming
 mod OrdinaryFiles
+mod PackOpening
 mod RoomPlanning
+mod RootFinding
 mod SerialFiles
+mod Sessions
 mod Stopping
 mod SweptLeaders

@@ -5,3 +5,4 @@ pub mod Found
 pub mod NewNames
 pub mod Rooms
 pub mod Ends
+pub mod Opens
