@@ -5,7 +5,7 @@ ghost use Rattle.disk_records.specs.Causes.{HasCause, never};
 ghost use Rattle.disk_records.specs.Tapes.{DiskAlone, added, pack};
 ghost use Rattle.file_pages.specs.Calls.{StaysHandy};
 ghost use Rattle.file_pages.specs.Growing.{IsHintOfGrowth, ListsGrown, growth_writes};
-ghost use Rattle.laws_call.specs.Acting.{Operates, around};
+ghost use Rattle.laws_call.specs.Acting.{IsQuiet, Operates, around};
 ghost use Rattle.pack_model.specs.hints.Links.{LinksTrue};
 ghost use Rattle.pack_model.specs.operations.Committing.{page_of_byte};
 ghost use Rattle.pack_model.specs.operations.PageWords.{widening_bytes};
@@ -55,6 +55,7 @@ pub fn widen<D: Disk>(
     ensures operates { IsTrue D.told → DirStands (pack (D.tape disk.old)) dir.now → MayBeWidened (pack (D.tape disk.old)) fresh → Operates disk_fault out_of_memory (to_widen dir.now.fid) (fresh ∷ []) (around (D.tape disk.old) hints.old.table tally.old) (around (D.tape disk.new) hints.new.table tally.new) result }
     ensures widens { (at : ℕ) → IsTrue D.told → DirStands (pack (D.tape disk.old)) dir.now → MayBeWidened (pack (D.tape disk.old)) fresh → place (sights (pack (D.tape disk.old))) dir.now.fid (page_of_byte (file_length (pack (D.tape disk.old)) dir.now.fid)) ≡ Some at → WrotePart (growth_writes (pack (D.tape disk.old)) dir.now.fid at widening_bytes [] (fresh ∷ [])) (added (D.tape disk.old) (D.tape disk.new)) result }
     ensures misled { IsTrue D.told → DirStands (pack (D.tape disk.old)) dir.now → MayBeWidened (pack (D.tape disk.old)) fresh → IfMisled result (MisledBy (pack (D.tape disk.old)) [] dir.now.fid) }
+    ensures quiet { IsTrue D.told → DirStands (pack (D.tape disk.old)) dir.now → MayBeWidened (pack (D.tape disk.old)) fresh → IfMisled result (λ place at wanted found. IsQuiet (around (D.tape disk.old) hints.old.table tally.old) (around (D.tape disk.new) hints.new.table tally.new)) }
     ensures true_links { IsTrue D.told → DirStands (pack (D.tape disk.old)) dir.now → MayBeWidened (pack (D.tape disk.old)) fresh → LinksTrue (pack (D.tape disk.old)) → IfMisled result (λ place at wanted found. ⊥) }
     ensures given { IfMisled result (IsHintOfGrowth dir.now (fresh ∷ []) hints.old.cache hints.new.cache) }
     ensures cause { HasCause (cause_of never never never) (D.tape disk.old) (D.tape disk.new) result }

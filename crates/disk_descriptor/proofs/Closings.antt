@@ -1,11 +1,12 @@
 -- The record writes of closing, from the last page to the first.
-use Rattle.std.proofs.Common.{Bool, Err, List, Some, [], ap, append_assoc, arith, get_or, length, drop, suc, sym, zero, ℕ, ◌++◌, ◌+◌, ◌*◌, ◌<◌, ◌∙◌, ◌≡◌, ◌≤◌}
+use Rattle.std.proofs.Common.{Bool, Err, IsErrOf, List, Option, Result, [], ap, append_assoc, arith, get_or, length, drop, subst, suc, sym, zero, ℕ, ◌++◌, ◌+◌, ◌*◌, ◌<◌, ◌∙◌, ◌≡◌, ◌≤◌}
 use Rattle.std.proofs.Math.Seq.{drop-cons}
-use Rattle.std.proofs.lemmas.List.{append-nil}
+use Rattle.std.proofs.lemmas.List.{append-nil, length-append}
 use Rattle.std.specs.Prelude.{reverse}
-use Rattle.disk_records.proofs.Growing.{pack-after}
+use Rattle.disk_records.proofs.Growing.{added-twice, pack-after}
 use Rattle.disk_records.specs.Commands.{value_writes}
-use Rattle.disk_records.specs.Packs.{after, carried}
+use Rattle.disk_records.specs.Events.{IsFirstOf}
+use Rattle.disk_records.specs.Packs.{after, carried, label_found}
 use Rattle.disk_records.specs.Tapes.{DiskAlone, Grown, Taped, added, pack}
 use Rattle.disk_records.specs.declared.records.Event.{Event}
 use Rattle.disk_records.specs.declared.shape.Shape.{Shape}
@@ -14,8 +15,10 @@ use Rattle.laws_record.proofs.Carried.{values_carried}
 use Rattle.pack_model.specs.operations.Commands.{values_writes}
 use Rattle.pack_model.specs.sessions.Descriptor.{closed_values, descriptor_value}
 use Rattle.pack_model.specs.states.Sound.{mark_clean}
+use Rattle.disk_descriptor.proofs.Guards.{held_as, held_of, own_then, own_value, values_found}
 use Rattle.disk_descriptor.proofs.Writings.{writes_stop, writes_then}
-use Rattle.disk_descriptor.specs.Writing.{AreCarried, Writes, data_page}
+use Rattle.disk_descriptor.specs.Answers.{IfHeld}
+use Rattle.disk_descriptor.specs.Writing.{AreOwnValues, FindsOther, GuardsPage, StopsAt, Writes}
 use Rattle.disk_descriptor.specs.declared.errors.DescError.TheVariants.{Memory}
 use Rattle.disk_descriptor.specs.declared.errors.DescError.{DescError}
 
@@ -43,6 +46,17 @@ module _ (shape : Shape) (last : ℕ) (busy : List Bool) (pages : List ℕ) wher
       let one : List Event = value_writes (get_or pages n 0) (descriptor_value shape last mark_clean busy n) in
       (one ++ before.0, before.1 ∙ ap (λ es. es ++ before.0) (one_before n (omega arith)) ∙ append_assoc (done shape last busy pages (suc n)) one before.0)
 
+  -- ---- each sector carries what it carried and has its label, whatever values were written
+  still_carried : {x y : Taped} (n at : ℕ) → Grown x y → added x y ≡ done shape last busy pages n → carried (pack y) at ≡ carried (pack x) at
+  still_carried {x} {y} n at grown wrote =
+      ap (λ p. carried p at) (pack-after grown ∙ ap (after (pack x)) wrote)
+      ∙ values_carried (reverse (closed_values shape last busy n (drop n pages))) (pack x) at
+
+  still_found : {x y : Taped} (n at : ℕ) → Grown x y → added x y ≡ done shape last busy pages n → label_found (pack y) at ≡ label_found (pack x) at
+  still_found {x} {y} n at grown wrote =
+      ap (λ p. label_found p at) (pack-after grown ∙ ap (after (pack x)) wrote)
+      ∙ values_found (reverse (closed_values shape last busy n (drop n pages))) (pack x) at
+
   module _ {x y z : Taped} (n left : ℕ) (value : List ℕ) (is : left ≡ n + 1) (within : n < length pages) (first : DiskAlone x y) (next : DiskAlone y z)
       (wrote : added x y ≡ done shape last busy pages left) (same : value ≡ descriptor_value shape last mark_clean busy n) where
     -- one page more is done
@@ -59,10 +73,35 @@ module _ (shape : Shape) (last : ℕ) (busy : List Bool) (pages : List ℕ) wher
         writes_stop {T = T} Memory e (done shape last busy pages left ++ v) rest.0 (done shape last busy pages 0) (m + 2) (2 * length pages) goes most
         (writes_then Memory (done shape last busy pages left) v m 2 first.grown next.grown wrote ran broken)
 
-  -- each page is where it was, whatever values were written
-  pub still_carried : {x y : Taped} (n left number : ℕ) → Grown x y → added x y ≡ done shape last busy pages left → AreCarried (pack x) pages → n < length pages → number ≡ n + 1 → carried (pack y) (get_or pages n 0) ≡ Some (data_page number)
-  still_carried {x} {y} n left number grown wrote carries within is =
-      ap (λ p. carried p (get_or pages n 0)) (pack-after grown ∙ ap (after (pack x)) wrote)
-      ∙ values_carried (reverse (closed_values shape last busy left (drop left pages))) (pack x) (get_or pages n 0)
-      ∙ carries n within
-      ∙ ap (λ k. Some (data_page k)) (sym is)
+    -- the page that is written is in a sector that carried it as the call began
+    pub page_own : {T : Type 0} {result : Result T DescError} → AreOwnValues (pack x) pages (length pages) (added x y) → length (added x y) + left ≡ length pages → IsFirstOf (value_writes (get_or pages n 0) value) (added y z) → GuardsPage (get_or pages n 0) (n + 1) y z result
+        → AreOwnValues (pack x) pages (length pages) (added x z)
+    page_own so_far many some guards =
+        let one : AreOwnValues (pack x) pages (suc n) (added y z) = own_value (pack x) pages n value (added y z) some (λ now. sym (still_carried left (get_or pages n 0) first.grown wrote) ∙ guards.own now) in
+        let same : suc n ≡ left = omega (arith, is) in
+        subst (AreOwnValues (pack x) pages (length pages)) (sym (added-twice first.grown next.grown))
+        (own_then (pack x) pages (length pages) left (added x y) (added y z) so_far many (subst (λ k. AreOwnValues (pack x) pages k (added y z)) same one))
+
+    -- or isn't, where that sector didn't carry it
+    pub page_held : (T U : Type 0) (e : DescError) → length (added x y) + left ≡ length pages → GuardsPage {T = T} (get_or pages n 0) (n + 1) y z (Err e) → IfHeld {T = U} (Err e) (StopsAt (pack x) pages (added x z))
+    page_held T U e many guards = held_of T U (StopsAt (pack x) pages (added x z)) e (held_as {T = T} (Err e) stops guards.held)
+      where
+        stops : (place : ℕ) (found : Option (List ℕ)) → FindsOther (pack y) (get_or pages n 0) (n + 1) (added y z) place found → StopsAt (pack x) pages (added x z) place found
+        stops place found h =
+            let all : length (added x z) ≡ length (added x y) + length (added y z) = ap length (added-twice first.grown next.grown) ∙ length-append (added x y) (added y z) in
+            let none = ap length h.silent in
+            record {
+              n = n;
+              is_kept = h.here;
+              other = λ carries. h.other (ap (carried (pack y)) (sym h.here) ∙ still_carried left place first.grown wrote ∙ carries);
+              label = h.label ∙ still_found left (get_or pages n 0) first.grown wrote ∙ ap (label_found (pack x)) (sym h.here);
+              later = omega (arith, all, none, many, is);
+            }
+
+    -- or isn't, out of memory
+    pub page_short : {T U : Type 0} (e : DescError) → length (added x y) + left ≡ length pages → GuardsPage {T = T} (get_or pages n 0) (n + 1) y z (Err e) → IsErrOf {T = U} (Err e) Memory → length (added x z) < length pages
+    page_short {T} {U} e many guards want =
+        let all : length (added x z) ≡ length (added x y) + length (added y z) = ap length (added-twice first.grown next.grown) ∙ length-append (added x y) (added y z) in
+        let same : e ≡ Memory = cc in
+        let none = ap length (guards.short (ap Err same)) in
+        omega (arith, all, none, many, is)

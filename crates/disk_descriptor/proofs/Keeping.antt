@@ -1,5 +1,5 @@
 -- What is kept of DiskDescriptor fits the disk, before a call and after it.
-use Rattle.std.proofs.Common.{All, Bool, List, Ok, Result, Some, [], ap, arith, cond, eq-eqb, eqb-true, get_or, length, refl, subst, sym, take, ℕ, ◌+◌, ◌<◌, ◌∙◌, ◌≡◌, ◌≢◌}
+use Rattle.std.proofs.Common.{All, Bool, Err, List, Ok, Result, Some, [], ap, arith, cond, eq-eqb, eqb-true, get_or, length, refl, subst, sym, take, ℕ, ◌+◌, ◌<◌, ◌∙◌, ◌∷◌, ◌≡◌, ◌≢◌}
 use Rattle.std.proofs.lemmas.List.Elements.{All-from_get_or, All-get_or}
 use Rattle.std.proofs.lemmas.Bool.{false_from_ne_true}
 use Rattle.std.proofs.lemmas.List.{get_or-take, take_all}
@@ -8,6 +8,7 @@ use Rattle.std.specs.Prelude.{reverse, ◌==◌}
 use Rattle.alto_words.specs.Fid.{disk_descriptor, sys_dir}
 use Rattle.disk_records.proofs.Growing.{nothing_added, pack-after}
 use Rattle.disk_records.specs.Commands.{value_writes}
+use Rattle.disk_records.specs.Events.{IsFirstOf}
 use Rattle.disk_records.specs.Packs.{AreFormed, IsFormed, Pack, after, carried, crash, no_sector, sector_at}
 use Rattle.disk_records.specs.Tapes.{Grown, Taped, added, pack}
 use Rattle.disk_records.specs.declared.records.Event.{Event}
@@ -25,11 +26,13 @@ use Rattle.pack_model.specs.reading.Sights.{sights}
 use Rattle.pack_model.specs.sessions.Descriptor.{DescriptorFits, close_writes, closed_values, data_pages, open_writes, opened_value, serial_writes}
 use Rattle.pack_model.specs.states.Sound.{mark_clean, mark_open}
 use Rattle.pack_model.specs.states.Whole.{Tidy, Whole}
+use Rattle.disk_descriptor.proofs.Guards.{held_as, own_done, own_nothing}
 use Rattle.disk_descriptor.proofs.Writings.{writes_all}
+use Rattle.disk_descriptor.specs.Answers.{IfHeld}
 use Rattle.disk_descriptor.specs.Fields.GivesOne.{given}
-use Rattle.disk_descriptor.specs.Fields.{Fits, FitsDisk, GivesOne, Fields, Opens, closed, closes, most_last, opened, with_last}
-use Rattle.disk_descriptor.specs.Writing.{AreCarried, Writes, data_page}
-use Rattle.disk_descriptor.specs.declared.errors.DescError.TheVariants.{Memory}
+use Rattle.disk_descriptor.specs.Fields.{Fits, FitsDisk, GivesOne, Fields, Opens, closed, closes, closes_kept, first_kept, gives_kept, most_last, opened, opens_kept, with_last}
+use Rattle.disk_descriptor.specs.Writing.{StopsAt, Writes, WritesOwn, data_page}
+use Rattle.disk_descriptor.specs.declared.errors.DescError.TheVariants.{Memory, Spent}
 use Rattle.disk_descriptor.specs.declared.errors.DescError.{DescError}
 
 module _ (p : Pack) (kept : Fields) (fits : Fits p kept) where
@@ -37,7 +40,7 @@ module _ (p : Pack) (kept : Fields) (fits : Fits p kept) where
   pub page_placed : (n : ℕ) → n < length kept.pages → place (sights p) disk_descriptor (n + 1) ≡ Some (get_or kept.pages n 0)
   page_placed n within = fits.bears n within ∙ slice_get-get_or kept.pages n 0 within
 
-  pub pages_carried : AreCarried p kept.pages
+  pub pages_carried : (n : ℕ) → n < length kept.pages → carried p (get_or kept.pages n 0) ≡ Some (data_page (n + 1))
   pages_carried n within = ((places_are_lowest p (data_page (n + 1))).lowest (get_or kept.pages n 0) (page_placed n within)).here
 
   pub first_placed : place (sights p) disk_descriptor 1 ≡ Some (get_or kept.pages 0 0)
@@ -107,7 +110,30 @@ module _ (s : Shape) (last mark : ℕ) (pages : List ℕ) where
   pub first_carried : (p : Pack) → Fits p kept_of → carried p first ≡ Some (data_page 1)
   first_carried p fits = ap (carried p) (sym first_is) ∙ pages_carried p kept_of fits 0 (let size = fits.size in omega (arith, size))
 
+  -- it is so where the guarded calls look
+  pub never_held : {T : Type 0} (p : Pack) (events : List Event) (result : Result T DescError) → Fits p kept_of → IfHeld result (StopsAt p kept_of.pages events) → IfHeld result (λ at found. ⊥)
+  never_held p events result fits = held_as result (λ at found h.
+      let later = h.later in h.other (ap (carried p) h.is_kept ∙ pages_carried p kept_of fits h.n (omega (arith, later))))
+
+  pub first_never_held : {T : Type 0} (p : Pack) (events : List Event) (result : Result T DescError) → Fits p kept_of → IfHeld result (StopsAt p (first ∷ []) events) → IfHeld result (λ at found. ⊥)
+  first_never_held p events result fits = held_as result (λ at found h.
+      let later = h.later in
+      let none : h.n ≡ 0 = omega (arith, later) in
+      h.other (ap (carried p) (h.is_kept ∙ ap (λ n. get_or (first ∷ []) n 0) none) ∙ first_carried p fits ∙ ap (λ n. Some (data_page (n + 1))) (sym none)))
+
   -- ---- the mark
+  -- by what is kept, whether it fits or not
+  pub own_opened : (a : Taped) → mark ≡ mark_open → WritesOwn {T = Unit {0}} (first_kept kept_of ∷ []) (opens_kept (pack a) kept_of) 3 a a (Ok tt)
+  own_opened a is = own_done tt (first_kept kept_of ∷ []) (opens_kept (pack a) kept_of) 3 a
+      (ap (λ b. cond b [] (value_writes (first_kept kept_of) (opened_value (sector_at (pack a) (first_kept kept_of)).value))) (eq-eqb mark mark_open is))
+
+  pub own_opens : {T : Type 0} {a b : Taped} {result : Result T DescError} → mark ≢ mark_open → WritesOwn (first ∷ []) (value_writes first (opened_value (sector_at (pack a) first).value)) 3 a b result
+      → WritesOwn (first_kept kept_of ∷ []) (opens_kept (pack a) kept_of) 3 a b result
+  own_opens {a = a} {b = b} {result = result} other call =
+      let writes : open_writes mark first (sector_at (pack a) first).value ≡ value_writes first (opened_value (sector_at (pack a) first).value) =
+      ap (λ b. cond b [] (value_writes first (opened_value (sector_at (pack a) first).value))) (false_from_ne_true (mark == mark_open) (λ is. other (eqb-true mark mark_open is))) in
+      subst (λ at. WritesOwn (at ∷ []) (open_writes mark at (sector_at (pack a) at).value) 3 a b result) (sym first_is) (subst (λ es. WritesOwn (first ∷ []) es 3 a b result) (sym writes) call)
+
   -- opening writes nothing where it is open, and else one value
   opens_nothing : (p : Pack) (at : ℕ) → Fits p kept_of → mark ≡ mark_open → opening_writes p at ≡ []
   opens_nothing p at fits is = opens_by p kept_of fits at ∙ ap (λ b. cond b [] (value_writes at (opened_value (sector_at p at).value))) (eq-eqb mark mark_open is)
@@ -137,6 +163,24 @@ module _ (s : Shape) (last mark : ℕ) (pages : List ℕ) where
       subst (λ p. FitsDisk p (opened kept_of)) (sym (pack-after grown ∙ ap (after (pack a)) (wrote ∙ sym (opens_once (pack a) here.fits other)))) (fits_opened (pack a) kept_of here)
 
   -- ---- serials
+  pub own_gives : {T : Type 0} {a b : Taped} {result : Result T DescError} → WritesOwn (first ∷ []) (serial_writes first (last + 1) (sector_at (pack a) first).value) 3 a b result
+      → WritesOwn (first_kept kept_of ∷ []) (gives_kept (pack a) kept_of) 3 a b result
+  own_gives {a = a} {b = b} {result = result} call = subst (λ at. WritesOwn (at ∷ []) (serial_writes at (last + 1) (sector_at (pack a) at).value) 3 a b result) (sym first_is) call
+
+  -- none is given
+  pub own_spent : {T : Type 0} (a : Taped) → WritesOwn {T = T} (first_kept kept_of ∷ []) (gives_kept (pack a) kept_of) 3 a a (Err (Spent last))
+  own_spent a = record {
+    writes = record {
+      some = subst (IsFirstOf (gives_kept (pack a) kept_of)) (sym (nothing_added a.events)) tt;
+      ok = tt;
+      want = λ short. cc;
+      runs = omega arith;
+    };
+    own = own_nothing (first_kept kept_of ∷ []) a;
+    held = tt;
+    short = λ want. cc;
+  }
+
   pub serial_at_first : (p : Pack) (new : ℕ) → serial_writes (get_or kept_of.pages 0 0) new (sector_at p (get_or kept_of.pages 0 0)).value ≡ serial_writes first new (sector_at p first).value
   serial_at_first p new = ap (λ at. serial_writes at new (sector_at p at).value) first_is
 
@@ -149,6 +193,17 @@ module _ (s : Shape) (last mark : ℕ) (pages : List ℕ) where
       subst (λ p. FitsDisk p (with_last (last + 1) kept_of)) (sym (pack-after grown ∙ ap (after (pack a)) (wrote ∙ sym (serial_at_first (pack a) (last + 1))))) (fits_serial (pack a) kept_of here (last + 1) refl)
 
   -- ---- closing
+  pub own_closed : (a : Taped) (busy : List Bool) (most : ℕ) → mark ≡ mark_clean → WritesOwn {T = Unit {0}} kept_of.pages (closes_kept busy kept_of) most a a (Ok tt)
+  own_closed a busy most is = own_done tt kept_of.pages (closes_kept busy kept_of) most a
+      (ap (λ b. cond b [] (values_writes (reverse (closed_values s last busy 0 kept_of.pages)))) (eq-eqb mark mark_clean is))
+
+  pub own_closes : {T : Type 0} {a b : Taped} {result : Result T DescError} (busy : List Bool) (most : ℕ) → mark ≢ mark_clean → WritesOwn kept_of.pages (values_writes (reverse (closed_values s last busy 0 kept_of.pages))) most a b result
+      → WritesOwn kept_of.pages (closes_kept busy kept_of) most a b result
+  own_closes {a = a} {b = b} {result = result} busy most other call =
+      let writes : closes_kept busy kept_of ≡ values_writes (reverse (closed_values s last busy 0 kept_of.pages)) =
+      ap (λ b. cond b [] (values_writes (reverse (closed_values s last busy 0 kept_of.pages)))) (false_from_ne_true (mark == mark_clean) (λ is. other (eqb-true mark mark_clean is))) in
+      subst (λ es. WritesOwn kept_of.pages es most a b result) (sym writes) call
+
   closes_nothing : (p : Pack) (busy : List Bool) → Fits p kept_of → mark ≡ mark_clean → closes p busy kept_of ≡ []
   closes_nothing p busy fits is = closes_by p kept_of fits busy ∙ ap (λ b. cond b [] (values_writes (reverse (closed_values s last busy 0 kept_of.pages)))) (eq-eqb mark mark_clean is)
 

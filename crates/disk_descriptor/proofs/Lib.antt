@@ -1,5 +1,6 @@
 mod Closings
 mod Entered
+mod Guards
 mod Keeping
 mod Map
 mod Preparings

@@ -9,16 +9,20 @@ use Rattle.disk_records.specs.Packs.{AreFormed, Pack, after, crash, sector_at}
 use Rattle.disk_records.specs.Tapes.{Grown, Taped, added, pack}
 use Rattle.disk_records.specs.declared.records.Event.{Event}
 use Rattle.disk_records.specs.declared.shape.Shape.{Shape}
+use Rattle.laws_hint.proofs.closing.Laws.{closing_describes_its_map}
 use Rattle.laws_hint.specs.LineLinks.{opening_writes}
+use Rattle.laws_hint.specs.MapClosing.{Describes}
 use Rattle.laws_line.proofs.fits.Laws.{fitting_descriptor_may_close}
 use Rattle.laws_operation.proofs.descriptor.Laws.{close_carries_out, close_keeps_links, open_carries_out, open_keeps_links, serial_carries_out, serial_keeps_links}
 use Rattle.laws_operation.specs.DescriptorLaws.{MayClose}
+use Rattle.laws_operation.proofs.places.Laws.{serial_keeps_places}
 use Rattle.pack_laws.proofs.Moving.{stands_last}
 use Rattle.pack_model.specs.hints.Links.{LinksTrue}
 use Rattle.pack_model.specs.operations.Commands.{values_writes}
 use Rattle.pack_model.specs.operations.Operations.{quiet_moves}
 use Rattle.pack_model.specs.operations.Operations.Move.{quiet}
 use Rattle.pack_model.specs.operations.Step.Operation.{drop_file}
+use Rattle.pack_model.specs.reading.Files.{lives}
 use Rattle.pack_model.specs.reading.Model.{Model, read_as}
 use Rattle.pack_model.specs.reading.Sights.{sights}
 use Rattle.pack_model.specs.sessions.Descriptor.{closed_values, opened_value, serial_writes}
@@ -26,7 +30,7 @@ use Rattle.pack_model.specs.sessions.Meanings.{reading}
 use Rattle.pack_model.specs.sessions.Moves.{steps}
 use Rattle.pack_model.specs.states.Sound.{mark_clean, mark_of, mark_open}
 use Rattle.disk_descriptor.proofs.Keeping.{closes_all, first_placed, kept_of, opens_once, serial_at_first, values_sized}
-use Rattle.disk_descriptor.specs.Fields.{Fields, FitsDisk, ReadsAs, closes}
+use Rattle.disk_descriptor.specs.Fields.{Fields, FitsDisk, IsAboveLiving, ReadsAs, closes}
 
 -- ---- moves that change no model
 opening_reads : (m : Model) (is_open : Bool) → steps reading m (cond is_open [] (quiet ∷ [])) ≡ m
@@ -92,6 +96,20 @@ module _ (s : Shape) (last mark : ℕ) (pages : List ℕ) where
   reads_after_serial {a} {b} here grown wrote =
       subst (ReadsAs (record (read_as (pack a)) { last = last + 1 }) (pack a)) (sym (pack-after grown ∙ ap (after (pack a)) (wrote ∙ sym (serial_at_first s last mark pages (pack a) (last + 1))))) (reads_serial (pack a) kept here (last + 1) refl)
 
+  pub above_after_serial : {a b : Taped} → FitsDisk (pack a) kept → Grown a b → added a b ≡ serial_writes first (last + 1) (sector_at (pack a) first).value → IsAboveLiving (pack b) (last + 1)
+  above_after_serial {a} {b} here grown wrote =
+      subst (λ p. IsAboveLiving p (last + 1)) (sym (pack-after grown ∙ ap (after (pack a)) wrote)) (λ f now.
+      let before : lives (sights (pack a)) f ≡ true = sym ((serial_keeps_places (pack a) first (last + 1) (sector_at (pack a) first).value).living f) ∙ now in
+      let most = here.whole.last f before in
+      let is = here.fits.last_is in
+      omega (arith, most, is))
+
   pub reads_after_closing : {a b : Taped} (busy : List Bool) → FitsDisk (pack a) kept → AreFormed (pack a) → mark ≢ mark_clean → Grown a b → added a b ≡ values_writes (reverse (closed_values s last busy 0 kept.pages)) → ReadsAs (read_as (pack a)) (pack a) (pack b)
   reads_after_closing {a} {b} busy here formed other grown wrote =
       subst (ReadsAs (read_as (pack a)) (pack a)) (sym (pack-after grown ∙ ap (after (pack a)) (wrote ∙ sym (closes_all s last mark pages (pack a) busy here.fits other)))) (reads_closed (pack a) kept here busy formed)
+
+  pub describes_after_closing : {a b : Taped} (busy : List Bool) → FitsDisk (pack a) kept → AreFormed (pack a) → mark ≢ mark_clean → Grown a b → added a b ≡ values_writes (reverse (closed_values s last busy 0 kept.pages)) → Describes (pack a) (pack b) busy
+  describes_after_closing {a} {b} busy here formed other grown wrote =
+      let may : MayClose (pack a) kept.pages = fitting_descriptor_may_close (pack a) s last mark kept.pages here.fits (values_sized (pack a) kept here.fits formed) in
+      subst (λ p. Describes (pack a) p busy) (sym (pack-after grown ∙ ap (after (pack a)) (wrote ∙ sym (closes_all s last mark pages (pack a) busy here.fits other))))
+      (closing_describes_its_map (pack a) busy kept.pages here.whole here.tidy may (λ is. other (sym here.fits.mark_is ∙ is)))

@@ -1,14 +1,14 @@
 // The pages of DiskDescriptor as a pack is closed.
-ghost use Rattle.std.specs.Prelude.{◌≡◌, ◌+◌, ◌*◌, ◌≤◌, IsTrue, length, reverse};
+ghost use Rattle.std.specs.Prelude.{◌≡◌, ◌*◌, ◌≤◌, IsTrue, length, reverse};
 ghost use Rattle.disk_records.specs.Addresses.{pages_of};
 ghost use Rattle.disk_records.specs.Causes.{HasCause};
 ghost use Rattle.disk_records.specs.Causes.Cause.{never};
-ghost use Rattle.disk_records.specs.Tapes.{DiskAlone, pack};
+ghost use Rattle.disk_records.specs.Tapes.{DiskAlone};
 ghost use Rattle.pack_model.specs.operations.Commands.{values_writes};
 ghost use Rattle.pack_model.specs.sessions.Descriptor.{closed_values, data_pages};
-ghost use Rattle.disk_descriptor.specs.Answers.{IfHeld, cause_of};
+ghost use Rattle.disk_descriptor.specs.Answers.{cause_of};
 ghost use Rattle.disk_descriptor.specs.Fields.{AreSectors};
-ghost use Rattle.disk_descriptor.specs.Writing.{AreCarried, Writes};
+ghost use Rattle.disk_descriptor.specs.Writing.{WritesOwn};
 
 use crate::DescError;
 use crate::values::descriptor_page;
@@ -30,8 +30,7 @@ pub(crate) fn write_pages<D: Disk>(
     requires sized { length table.now ≡ pages_of (D.tape disk.old).form }
     requires many { length pages.now ≤ data_pages (D.tape disk.old).form }
     requires sectors { AreSectors (D.tape disk.old).form pages.now }
-    ensures writes { IsTrue D.told → AreCarried (pack (D.tape disk.old)) pages.now → Writes DescError.Memory (values_writes (reverse (closed_values (D.tape disk.old).form last table.now 0 pages.now))) (2 * length pages.now) (D.tape disk.old) (D.tape disk.new) result }
-    ensures held { IsTrue D.told → AreCarried (pack (D.tape disk.old)) pages.now → IfHeld result (λ at found. ⊥) }
+    ensures guarded { IsTrue D.told → WritesOwn pages.now (values_writes (reverse (closed_values (D.tape disk.old).form last table.now 0 pages.now))) (2 * length pages.now) (D.tape disk.old) (D.tape disk.new) result }
     ensures cause { HasCause (cause_of never) (D.tape disk.old) (D.tape disk.new) result }
     ensures alone { DiskAlone (D.tape disk.old) (D.tape disk.new) }
 {

@@ -43,15 +43,17 @@ impl Model for Descriptor {
 }
 
 impl Descriptor {
-    ghost use Rattle.std.specs.Prelude.{◌≡◌, ◌+◌, ◌*◌, ◌≤◌, [], Err, IfOk, IsTrue, OnErr, OnOk, length};
+    ghost use Rattle.std.specs.Prelude.{◌≡◌, ◌≢◌, ◌+◌, ◌*◌, ◌≤◌, ◌∷◌, [], Err, IfOk, IsTrue, OnErr, OnOk, length};
     ghost use Rattle.disk_records.specs.Addresses.{pages_of};
     ghost use Rattle.disk_records.specs.Causes.{HasCause};
     ghost use Rattle.disk_records.specs.Causes.Cause.{never, other};
     ghost use Rattle.disk_records.specs.Tapes.{DiskAlone, added, pack};
+    ghost use Rattle.laws_hint.specs.MapClosing.{Describes};
     ghost use Rattle.pack_model.specs.reading.Model.{read_as};
+    ghost use Rattle.pack_model.specs.states.Sound.{mark_clean};
     ghost use Rattle.disk_descriptor.specs.Answers.{IfHeld, IfSpent, cause_of};
-    ghost use Rattle.disk_descriptor.specs.Fields.{Fits, FitsDisk, GivesOne, Opens, ReadsAs, closed, closes, most_last, opened, with_last};
-    ghost use Rattle.disk_descriptor.specs.Writing.{Writes};
+    ghost use Rattle.disk_descriptor.specs.Fields.{Fits, FitsDisk, GivesOne, IsAboveLiving, Opens, ReadsAs, closed, closes, closes_kept, first_kept, gives_kept, most_last, opened, opens_kept, with_last};
+    ghost use Rattle.disk_descriptor.specs.Writing.{Writes, WritesOwn};
 
     /// The last serial given out.
     pub fn last(&self) -> u32
@@ -70,10 +72,12 @@ impl Descriptor {
     /// Opens the mark, before the first other record write of a session: nothing where it is open, else one record write in three sector
     /// commands. It takes no memory of its own.
     ///
-    /// Held: the sector that is kept doesn't carry DiskDescriptor's first page. DiskFault: the device failed. Memory: it wanted some for the
-    /// record write, and had none. What is kept is as before after each of them; after DiskFault the mark may be open.
+    /// Held: the sector that is kept doesn't carry DiskDescriptor's first page; on a modelled disk nothing was written. DiskFault: the
+    /// device failed. Memory: it wanted some for the record write, and had none. What is kept is as before after each of them; after
+    /// DiskFault the mark may be open.
     pub fn mark_open<D: Disk>(&mut self, disk: &mut D) -> Result<(), DescError>
         requires shape { self.old.shape ≡ (D.tape disk.old).form }
+        ensures guarded { IsTrue D.told → WritesOwn (first_kept self.old ∷ []) (opens_kept (pack (D.tape disk.old)) self.old) 3 (D.tape disk.old) (D.tape disk.new) result }
         ensures opens { IsTrue D.told → Fits (pack (D.tape disk.old)) self.old → Opens DescError.Memory (D.tape disk.old) (D.tape disk.new) result }
         ensures fits { IsTrue D.told → FitsDisk (pack (D.tape disk.old)) self.old → OnOk result (FitsDisk (pack (D.tape disk.new)) self.new) }
         ensures reads { IsTrue D.told → FitsDisk (pack (D.tape disk.old)) self.old → OnOk result (ReadsAs (read_as (pack (D.tape disk.old))) (pack (D.tape disk.old)) (pack (D.tape disk.new))) }
@@ -94,14 +98,16 @@ impl Descriptor {
     /// Gives out the serial after the last one, which is on the disk then, before any label bears it: one record write in three sector
     /// commands. It takes no memory of its own.
     ///
-    /// Spent: the last serial is 2,147,483,646 or more; on a modelled disk nothing was written. Held: the sector that is kept doesn't carry
-    /// DiskDescriptor's first page. DiskFault: the device failed. Memory: it wanted some for the record write, and had none. What is kept
-    /// is as before after each of them; after DiskFault the serial may be on the disk.
+    /// Spent: the last serial is 2,147,483,646 or more. Held: the sector that is kept doesn't carry DiskDescriptor's first page. At both
+    /// nothing was written, on a modelled disk. DiskFault: the device failed. Memory: it wanted some for the record write, and had none.
+    /// What is kept is as before after each of them; after DiskFault the serial may be on the disk.
     pub fn next_serial<D: Disk>(&mut self, disk: &mut D) -> Result<u32, DescError>
         requires shape { self.old.shape ≡ (D.tape disk.old).form }
+        ensures guarded { IsTrue D.told → WritesOwn (first_kept self.old ∷ []) (gives_kept (pack (D.tape disk.old)) self.old) 3 (D.tape disk.old) (D.tape disk.new) result }
         ensures gives { IsTrue D.told → Fits (pack (D.tape disk.old)) self.old → GivesOne DescError.Memory self.old (D.tape disk.old) (D.tape disk.new) result }
         ensures fits { IsTrue D.told → FitsDisk (pack (D.tape disk.old)) self.old → OnOk result (FitsDisk (pack (D.tape disk.new)) self.new) }
         ensures reads { IsTrue D.told → FitsDisk (pack (D.tape disk.old)) self.old → IfOk result (λ serial. ReadsAs (record (read_as (pack (D.tape disk.old))) { last = serial }) (pack (D.tape disk.old)) (pack (D.tape disk.new))) }
+        ensures above { IsTrue D.told → FitsDisk (pack (D.tape disk.old)) self.old → IfOk result (λ serial. IsAboveLiving (pack (D.tape disk.new)) serial) }
         ensures next { IfOk result (λ serial. serial ≡ self.old.last + 1) }
         ensures kept { IfOk result (λ serial. self.new ≡ with_last serial self.old) }
         ensures left { OnErr result (self.new ≡ self.old) }
@@ -126,14 +132,16 @@ impl Descriptor {
     /// last to the first, so that the clean mark comes last. Two sector commands and one record write a page. The table has to have a bit
     /// for each sector. It takes no memory of its own.
     ///
-    /// Held: a sector that is kept doesn't carry its page. DiskFault: the device failed. Memory: it wanted some for a record write, and had
-    /// none. After each of them what is kept is as before; on a modelled disk that the descriptor fits a prefix of the record writes was
-    /// done.
+    /// Held: a sector that is kept doesn't carry its page; the pages after it are written. DiskFault: the device failed. Memory: it wanted
+    /// some for a record write, and had none. After each of them what is kept is as before; on a modelled disk a prefix of the record
+    /// writes was done, whether the descriptor fits it or not, each in a sector that carries its page.
     pub fn close_pack<D: Disk>(&mut self, disk: &mut D, table: &BitTable) -> Result<(), DescError>
         requires shape { self.old.shape ≡ (D.tape disk.old).form }
         requires sized { length table.now ≡ pages_of (D.tape disk.old).form }
+        ensures guarded { IsTrue D.told → WritesOwn self.old.pages (closes_kept table.now self.old) (2 * length self.old.pages) (D.tape disk.old) (D.tape disk.new) result }
         ensures writes { IsTrue D.told → Fits (pack (D.tape disk.old)) self.old → Writes DescError.Memory (closes (pack (D.tape disk.old)) table.now self.old) (2 * length self.old.pages) (D.tape disk.old) (D.tape disk.new) result }
         ensures fits { IsTrue D.told → FitsDisk (pack (D.tape disk.old)) self.old → OnOk result (FitsDisk (pack (D.tape disk.new)) self.new) }
+        ensures describes { IsTrue D.told → FitsDisk (pack (D.tape disk.old)) self.old → self.old.mark ≢ mark_clean → OnOk result (Describes (pack (D.tape disk.old)) (pack (D.tape disk.new)) table.now) }
         ensures reads { IsTrue D.told → FitsDisk (pack (D.tape disk.old)) self.old → OnOk result (ReadsAs (read_as (pack (D.tape disk.old))) (pack (D.tape disk.old)) (pack (D.tape disk.new))) }
         ensures kept { OnOk result (self.new ≡ closed self.old) }
         ensures left { OnErr result (self.new ≡ self.old) }

@@ -12,11 +12,15 @@
 //! 3. A `Descriptor` fits a pack where what it keeps is so there. `mark_open`, `next_serial` and `close_pack` then make the record writes
 //!    of the laws and no others (`opens`, `gives`, `writes`); on a whole and tidy pack it fits at Ok what they leave (`fits`), which
 //!    is read as before, except for a new serial, and has true links if the pack had (`reads`).
-//! 4. A serial is on the disk before it is given (`gives`, `next`). Spent comes if and only if none is left, with nothing written (`spent`,
-//!    `exact`, `refused`). Closing writes the pages from the last to the first, so that the clean mark comes last (`writes`).
+//! 4. A serial is on the disk before it is given (`gives`, `next`), and is above those of all files that live there (`above`). Spent comes
+//!    if and only if none is left, with nothing written (`spent`, `exact`, `refused`). Closing writes the pages from the last to the first,
+//!    so that the clean mark comes last (`writes`), and leaves the words of its map with their number of free sectors (`describes`).
 //! 5. For every answer the record writes of a call are a prefix of its one list (`writes`, `opens`, `gives`), in a number of sector
 //!    commands that is said. Where events are kept ready for the list it is never out of memory; it takes none of its own.
-//! 6. `enter_pack` writes nothing (`looks`) and takes no memory (`want`). On a pack that carries no page twice, whole or not, it refuses in
+//! 6. So it is with a `Descriptor` that doesn't fit, with the list by what it keeps: each record write is the value of a sector that is
+//!    kept and that carried that very page as the call began. Held comes only of one that didn't, with its label, and nothing was written
+//!    there or for a page before it; out of memory the first page isn't written (`guarded`).
+//! 7. `enter_pack` writes nothing (`looks`) and takes no memory (`want`). On a pack that carries no page twice, whole or not, it refuses in
 //!    this order exactly another length, the first word that says another shape, and a mark that isn't clean (`wrong_length`, `bad_word`,
 //!    `not_clean`); else its `Descriptor` fits, and the table is the map that stands there (`opened`). Only DiskDescriptor's own hints
 //!    mislead it (`misled`), and they are words on the disk (`on_disk`). A whole and tidy pack with true links is opened if its mark is clean

@@ -1,14 +1,14 @@
 // Values of DiskDescriptor's pages, written where its descriptor says that they are.
-ghost use Rattle.std.specs.Prelude.{◌≡◌, ◌+◌, ◌<◌, ◌≤◌, IsTrue, Some, length};
+ghost use Rattle.std.specs.Prelude.{◌≡◌, ◌+◌, ◌<◌, ◌≤◌, ◌∷◌, IsTrue, [], length};
 ghost use Rattle.disk_records.specs.Addresses.{pages_of};
 ghost use Rattle.disk_records.specs.Causes.{HasCause};
 ghost use Rattle.disk_records.specs.Causes.Cause.{never};
 ghost use Rattle.disk_records.specs.Commands.{value_writes};
-ghost use Rattle.disk_records.specs.Packs.{carried, sector_at};
+ghost use Rattle.disk_records.specs.Packs.{sector_at};
 ghost use Rattle.disk_records.specs.Tapes.{DiskAlone, pack};
 ghost use Rattle.pack_model.specs.reading.Bytes.{put_at};
-ghost use Rattle.disk_descriptor.specs.Answers.{IfHeld, cause_of, error_at};
-ghost use Rattle.disk_descriptor.specs.Writing.{Writes, data_page};
+ghost use Rattle.disk_descriptor.specs.Answers.{cause_of, error_at};
+ghost use Rattle.disk_descriptor.specs.Writing.{GuardsPage, Writes, WritesOwn, data_page};
 
 use crate::DescError;
 use crate::words::put;
@@ -47,8 +47,8 @@ pub(crate) fn write_page<D: Disk>(
 ) -> Result<(), DescError>
     requires first { 1 ≤ at }
     requires place { at < pages_of (D.tape disk.old).form }
-    ensures writes { IsTrue D.told → carried (pack (D.tape disk.old)) at ≡ Some (data_page number) → Writes DescError.Memory (value_writes at value.now) 2 (D.tape disk.old) (D.tape disk.new) result }
-    ensures held { IsTrue D.told → carried (pack (D.tape disk.old)) at ≡ Some (data_page number) → IfHeld result (λ at found. ⊥) }
+    ensures writes { IsTrue D.told → Writes DescError.Memory (value_writes at value.now) 2 (D.tape disk.old) (D.tape disk.new) result }
+    ensures guarded { IsTrue D.told → GuardsPage at number (D.tape disk.old) (D.tape disk.new) result }
     ensures cause { HasCause (cause_of never) (D.tape disk.old) (D.tape disk.new) result }
     ensures alone { DiskAlone (D.tape disk.old) (D.tape disk.new) }
 {
@@ -69,8 +69,7 @@ pub(crate) fn change_words<D: Disk>(
     requires first { 1 ≤ at }
     requires place { at < pages_of (D.tape disk.old).form }
     requires within { word + length words.now ≤ 256 }
-    ensures writes { IsTrue D.told → carried (pack (D.tape disk.old)) at ≡ Some (data_page 1) → Writes DescError.Memory (value_writes at (put_at word words.now (sector_at (pack (D.tape disk.old)) at).value)) 3 (D.tape disk.old) (D.tape disk.new) result }
-    ensures held { IsTrue D.told → carried (pack (D.tape disk.old)) at ≡ Some (data_page 1) → IfHeld result (λ at found. ⊥) }
+    ensures guarded { IsTrue D.told → WritesOwn (at ∷ []) (value_writes at (put_at word words.now (sector_at (pack (D.tape disk.old)) at).value)) 3 (D.tape disk.old) (D.tape disk.new) result }
     ensures cause { HasCause (cause_of never) (D.tape disk.old) (D.tape disk.new) result }
     ensures alone { DiskAlone (D.tape disk.old) (D.tape disk.new) }
 {

@@ -1,9 +1,15 @@
 mod Ending
-mod Finding
-mod Looking
+pub mod Finding
+mod FreshMemory
+pub mod Looking
 mod NewNaming
-mod OrdinaryFiles
+pub mod OrdinaryFiles
+mod PackOpening
+mod Parts
 mod RoomPlanning
+mod RootFinding
+pub mod SectorTaking
 mod SerialFiles
-mod Stopping
-mod SweptLeaders
+mod Sessions
+pub mod Stopping
+pub mod Turning

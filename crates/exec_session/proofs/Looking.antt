@@ -1,5 +1,5 @@
 -- Calls of a line that only look, one after another, and how many sector commands they take.
-use Rattle.std.proofs.Common.{◌≡◌, ◌≤◌, ◌+◌, ℕ, zero, suc, Bool, IsTrue, true, inl, inr, List, [], ◌∷◌, sym, ap, subst, ◌∙◌, arith}
+use Rattle.std.proofs.Common.{◌≡◌, ◌≤◌, ◌+◌, ℕ, zero, suc, Bool, IsTrue, true, inl, inr, List, [], ◌∷◌, refl, sym, ap, subst, ◌∙◌, arith}
 use Rattle.std.specs.Prelude.{All}
 use Rattle.alto_words.specs.declared.fid.Fid.{Fid}
 use Rattle.alto_words.specs.Fid.{is_directory}
@@ -17,9 +17,12 @@ use Rattle.pack_model.specs.states.Sound.{Sound}
 use Rattle.page_seeking.specs.Seeking.{KeepsHandy, Quick, Refused, all_listed, file_length}
 use Rattle.laws_contents.proofs.model.Laws.{model_lengths_are_of_bytes}
 use Rattle.laws_record.proofs.DirReads.{not_descriptor}
+use Rattle.pack_model.specs.hints.Tables.{TableTrue}
 use Rattle.session_model.specs.Bounds.{AllHandy, pages_of_dir}
+use Rattle.session_model.specs.Keeping.{Formed}
 use Rattle.exec_session.specs.declared.session.Session.{Session}
-use Rattle.exec_session.specs.Meant.{IsSoon, Looked, LooksAbout}
+use Rattle.exec_session.specs.Meant.{IsSoon, Looked, LooksAbout, Stays, kept}
+use Rattle.exec_session.specs.Turned.{SameBut}
 
 -- ---- hints over several calls
 handy_twice : (p q : Pack) (a b c : Cached) → q ≡ p → KeepsHandy p a b → KeepsHandy q b c → KeepsHandy p a c
@@ -55,6 +58,25 @@ looks_about_twice {x = x} {y = y} {a = a} {b = b} {c = c} most within one two = 
   looked = looked_twice one.looked two.looked;
   handy = λ told. handy_twice (pack x) (pack y) a.hints.cache b.hints.cache c.hints.cache (looks_pack one.looks told) (one.handy told) (two.handy told);
 }
+
+-- what is kept after a call that looked
+pub same_but_looked : (old new : Taped) {one two : Session} → Looked one two → pack new ≡ pack old → SameBut old new (kept one) (kept two)
+same_but_looked old new {one} {two} looked same = subst (λ s. SameBut old new (kept one) (kept s)) (sym looked.same) (record {
+  world = record { moment = refl; level = refl; memory = refl; before = refl; streams = refl; need = refl };
+  shape = refl;
+  last = refl;
+  mark = refl;
+  pages = refl;
+  tally = refl;
+  table = λ was. subst (λ p. TableTrue p one.hints.table) (sym same) was;
+})
+
+pub stays_looked : (old new : Taped) {one two : Session} → Looked one two → new.form ≡ old.form → Formed old.form (kept one) → Stays new one two
+stays_looked old new {one} {two} looked form formed = subst (λ s. Stays new one s) (sym looked.same) (record {
+  formed = subst (λ f. Formed f (kept (record one { hints = record { cache = two.hints.cache; table = one.hints.table } }))) (sym form)
+      (record { shape = formed.shape; bits = formed.bits; memory = formed.memory; streams = formed.streams; apart = formed.apart });
+  world = refl;
+})
 
 -- ---- few sector commands
 pub soon_twice : (few more most : ℕ) (x y z : Taped) {a b c : Session} → few + more ≤ most → Looked a b → Looked b c → IsSoon few x y a b → IsSoon more y z b c → IsSoon most x z a c

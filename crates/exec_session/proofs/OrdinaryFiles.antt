@@ -47,12 +47,12 @@ file_meant d f directory = by (is_directory d) (is_directory f) (is_fid f disk_d
     by false b c e = absurd (let n : false ≡ true = e in cc)
 
 -- ---- the directory of a file that is meant
-record HasDirectory (p : Pack) (target : Target) : Type 0 where
-  dir : Fid
-  is : dir_at (read_as p) target ≡ Some dir
-  directory : is_directory dir ≡ true
+pub record HasDirectory (p : Pack) (target : Target) : Type 0 where
+  pub dir : Fid
+  pub is : dir_at (read_as p) target ≡ Some dir
+  pub directory : is_directory dir ≡ true
 
-directory_of : (p : Pack) (target : Target) (f : Fid) → Sound p → file_at (read_as p) target ≡ Some f → HasDirectory p target
+pub directory_of : (p : Pack) (target : Target) (f : Fid) → Sound p → file_at (read_as p) target ≡ Some f → HasDirectory p target
 directory_of p (ByPath path) f sound e = by (dir_of (read_as p) path.dir) refl e
   where
     by : (r : Option Fid) → dir_of (read_as p) path.dir ≡ r → fid_of (entry_in (read_as p) path r) ≡ Some f → HasDirectory p (ByPath path)
@@ -73,11 +73,11 @@ found_refusal p target f sound e =
     let d = directory_of p target f sound e in
     ap (tests_of (dir_at (read_as p) target)) e ∙ ap (λ x. tests_of x (Some f)) d.is ∙ file_meant d.dir f d.directory
 
-by_test : (b : Bool) (s : Stop) (x : Refusal) → ◌≡◌ {A = Result (Unit {0}) Stop} (Err s) (refused_if b x) → (b ≡ true) × (s ≡ stop.Refused x)
+pub by_test : (b : Bool) (s : Stop) (x : Refusal) → ◌≡◌ {A = Result (Unit {0}) Stop} (Err s) (refused_if b x) → (b ≡ true) × (s ≡ stop.Refused x)
 by_test true s x e = (refl, let n : ◌≡◌ {A = Result (Unit {0}) Stop} (Err s) (Err (stop.Refused x)) = e in cc)
 by_test false s x e = absurd (let n : ◌≡◌ {A = Result (Unit {0}) Stop} (Err s) (Ok tt) = e in cc)
 
-ok_test : (b : Bool) (u : Unit {0}) (x : Refusal) → ◌≡◌ {A = Result (Unit {0}) Stop} (Ok u) (refused_if b x) → b ≡ false
+pub ok_test : (b : Bool) (u : Unit {0}) (x : Refusal) → ◌≡◌ {A = Result (Unit {0}) Stop} (Ok u) (refused_if b x) → b ≡ false
 ok_test true u x e = absurd (let n : ◌≡◌ {A = Result (Unit {0}) Stop} (Ok u) (Err (stop.Refused x)) = e in cc)
 ok_test false u x e = refl
 

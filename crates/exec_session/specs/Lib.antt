@@ -1,7 +1,10 @@
 pub mod Stops
 pub mod Serials
 pub mod Meant
+pub mod Turned
 pub mod Found
 pub mod NewNames
 pub mod Rooms
+pub mod Contents
 pub mod Ends
+pub mod Opens

@@ -1,15 +1,21 @@
 -- What contracts see of a session, and of a line that is done or isn't.
 -- What a session keeps is this project's choice.
-use Rattle.std.specs.Prelude.{◌≡◌, ◌⊎◌, ◌≤◌, ◌+◌, ℕ, Bool, IsTrue, true, List, [], Option, Vec, Result, Ok, Err}
+use Rattle.std.specs.Prelude.{◌≡◌, ◌⊎◌, ◌≤◌, ◌+◌, ℕ, Bool, IsTrue, true, List, [], Option, None, Vec, Result, Ok, Err}
 use Rattle.disk_records.specs.declared.records.Page.{Page}
 use Rattle.disk_records.specs.declared.records.Place.{Place}
 use Rattle.disk_records.specs.Tapes.{Taped, Looks, pack}
+use Rattle.pack_model.specs.reading.Files.{first}
 use Rattle.page_seeking.specs.Seeking.{KeepsHandy, Refused as NoteRefused, all_listed}
+use Rattle.exec_words.specs.declared.line.Line.{Line}
 use Rattle.exec_words.specs.declared.reply.Refusal.{Refusal}
 use Rattle.exec_words.specs.declared.reply.Refusal.TheVariants as refusal
 use Rattle.exec_words.specs.declared.reply.Reply.{Reply}
 use Rattle.exec_words.specs.declared.reply.Reply.TheVariants as reply
-use Rattle.session_model.specs.Keeping.{Kept}
+use Rattle.session_model.specs.Answering.{TakesTurns}
+use Rattle.session_model.specs.Keeping.{Formed, Kept, world_of}
+use Rattle.session_model.specs.Refusals.{by_line}
+use Rattle.session_model.specs.Turning.{typed}
+use Rattle.session_model.specs.Worlds.{World}
 use Rattle.exec_session.specs.declared.session.Session.{Session}
 use Rattle.exec_session.specs.declared.stop.Stop.{Stop}
 use Rattle.exec_session.specs.declared.stop.Stop.TheVariants.{Refused, Misled, DiskFault, Memory}
@@ -71,6 +77,25 @@ kept_stopped Memory k = k
 abbrev pub kept_replied : {T : Type 0} → Result T Stop → Kept → Kept
 kept_replied (Ok x) k = k
 kept_replied (Err stop) k = kept_stopped stop k
+
+-- ---- a line
+-- it isn't refused by itself
+abbrev pub IsTakenUpBy : World → Line → Type 0
+IsTakenUpBy w l = first (λ r. r) (by_line l w) ≡ None
+
+-- What is asked of a session for each line: it is formed as the disk is, and the line isn't refused by itself.
+pub record MayObey (tape : Taped) (s : Session) (l : Line) : Type 0 where
+  pub formed : Formed tape.form (kept s)
+  pub taken_up : IsTakenUpBy (world_of (kept s)) l
+
+-- on a machine that is modelled: the line is a turn of the session, once its reply is given
+abbrev pub TakesLine : {Z : Type 0} → Taped → Taped → Session → Session → Line → Result (Vec ℕ Z) Stop → Type 0
+TakesLine old new one two l result = TakesTurns old new (kept one) (kept_replied result (kept two)) (typed l) (replied result)
+
+-- On every machine, for every answer: the session is formed, and the world is as it was.
+pub record Stays (tape : Taped) (one two : Session) : Type 0 where
+  pub formed : Formed tape.form (kept two)
+  pub world : world_of (kept two) ≡ world_of (kept one)
 
 -- ---- a call of a line that only looks
 -- On every machine, for every answer: of what a session keeps the cache of addresses alone may be another.

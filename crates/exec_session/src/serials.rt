@@ -4,9 +4,10 @@ ghost use Rattle.disk_records.specs.Causes.{HasCause};
 ghost use Rattle.disk_records.specs.Tapes.{Looks, pack};
 ghost use Rattle.exec_session.specs.Found.{IsAt, IsNoneAt};
 ghost use Rattle.exec_session.specs.Meant.{IfHint, IfRefused};
-ghost use Rattle.exec_session.specs.Serials.{lesser_leader};
+ghost use Rattle.exec_session.specs.Serials.{leader_of};
 ghost use Rattle.exec_session.specs.Stops.{cause_of_stop};
 ghost use Rattle.exec_words.specs.declared.line.Target.TheVariants.{BySerial};
+ghost use Rattle.laws_steps.specs.SerialLaws.{lesser_leader};
 ghost use Rattle.pack_model.specs.states.Sound.{Sound};
 ghost use Rattle.std.specs.Prelude.{IfOk, IsErrOf, IsTrue, ◌-◌, ◌≡◌};
 
@@ -33,7 +34,7 @@ struct LeastLeader {
 
 /// The lesser of a leader and one that was met before, by their full names; where these are one, the one met before.
 fn lesser(best: Option<LeaderAt>, met: LeaderAt) -> Option<LeaderAt>
-    ensures { result ≡ lesser_leader best met }
+    ensures { leader_of result ≡ lesser_leader (leader_of best) met.fid met.at }
 {
     match best {
         Some(best) => Some(if met.fid < best.fid { met } else { best }),

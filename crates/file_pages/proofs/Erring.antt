@@ -53,6 +53,13 @@ none_misled P (file.Beyond length) never = tt
 none_misled P file.DiskFault never = tt
 none_misled P file.Memory never = tt
 
+-- what holds anyway
+pub any_misled : (X : Type 0) (e : FileError) → X → IfMisled {T = Unit {0}} (Err e) (λ place at wanted found. X)
+any_misled X (file.Misled place at wanted found) h = h
+any_misled X (file.Beyond length) h = tt
+any_misled X file.DiskFault h = tt
+any_misled X file.Memory h = tt
+
 -- out of memory, whatever the call would answer
 pub memory_too : (T : Type 0) (e : FileError) → IsErrOf {T = Unit {0}} (Err e) file.Memory → IsErrOf {T = T} (Err e) file.Memory
 memory_too T (file.Misled place at wanted found) is = absurd cc

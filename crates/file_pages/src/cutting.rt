@@ -137,9 +137,9 @@ fn end_in_page<D: Disk>(
 /// lists the page in which the file ends then. `buf` is used, and what it holds then is open.
 ///
 /// Beyond: the file is shorter; nothing was written. Misled: the address that the file is named with misleads, or a next link of the file:
-/// then nothing was written, or the file is cut and later pages are left, which a scavenge releases. DiskFault: the device failed. Memory:
-/// no memory was left for a record write, so never for a cut to the file's own length. After these two a prefix of the record writes was
-/// done.
+/// then nothing was written, or the file is cut and later pages are left, which a scavenge releases; where the machine isn't modelled also
+/// the sector in which this call found a page of the file, if it no longer carries it. DiskFault: the device failed. Memory: no memory was
+/// left for a record write, so never for a cut to the file's own length. After these two a prefix of the record writes was done.
 pub fn cut<D: Disk>(
     disk: &mut D,
     hints: &mut Hints,

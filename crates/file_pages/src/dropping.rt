@@ -100,8 +100,9 @@ fn drop_pages<D: Disk>(
 /// pages; after an error it has forgotten those that went. `buf` is used, and what it holds then is open.
 ///
 /// Misled: the address that the file is named with misleads, or a next link of the file: then nothing was written, or the file is gone and
-/// later pages are left, which a scavenge releases. DiskFault: the device failed. Memory: no memory was left for a record write. After
-/// these two a prefix of the record writes was done. Beyond never comes.
+/// later pages are left, which a scavenge releases; where the machine isn't modelled also the sector in which this call found a page of the
+/// file, if it no longer carries it. DiskFault: the device failed. Memory: no memory was left for a record write. After these two a prefix
+/// of the record writes was done. Beyond never comes.
 pub fn drop_file<D: Disk>(
     disk: &mut D,
     hints: &mut Hints,

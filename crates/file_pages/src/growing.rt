@@ -4,7 +4,7 @@ ghost use Rattle.alto_words.specs.Fid.{is_full_name};
 ghost use Rattle.disk_records.specs.Addresses.{pages_of};
 ghost use Rattle.disk_records.specs.Causes.{HasCause};
 ghost use Rattle.disk_records.specs.Tapes.{DiskAlone, added, pack};
-ghost use Rattle.laws_call.specs.Acting.{Operates, around};
+ghost use Rattle.laws_call.specs.Acting.{IsQuiet, Operates, around};
 ghost use Rattle.page_seeking.specs.Causes.{cause_of_length};
 ghost use Rattle.page_seeking.specs.Refs.{FileStands, IfMisled, MisledBy};
 ghost use Rattle.page_seeking.specs.Seeking.{IsLast, LastNamed, NamedNearEnd, Quick, Seen, Stands, file_length, page_number};
@@ -135,6 +135,7 @@ pub fn grow<D: Disk>(
     ensures operates { (o : Operation) → IsTrue D.told → FileStands (pack (D.tape disk.old)) file.now → MayBeGrown (pack (D.tape disk.old)) o file.now.fid bytes.now past.now fresh.now → Operates error.DiskFault error.Memory o fresh.now (around (D.tape disk.old) hints.old.table tally.old) (around (D.tape disk.new) hints.new.table tally.new) result }
     ensures grows { (o : Operation) (at : ℕ) → IsTrue D.told → FileStands (pack (D.tape disk.old)) file.now → MayBeGrown (pack (D.tape disk.old)) o file.now.fid bytes.now past.now fresh.now → place (sights (pack (D.tape disk.old))) file.now.fid (page_of_byte (file_length (pack (D.tape disk.old)) file.now.fid)) ≡ Some at → WritesAs (growth_writes (pack (D.tape disk.old)) file.now.fid at bytes.now past.now fresh.now) (added (D.tape disk.old) (D.tape disk.new)) result }
     ensures misled { (o : Operation) → IsTrue D.told → FileStands (pack (D.tape disk.old)) file.now → MayBeGrown (pack (D.tape disk.old)) o file.now.fid bytes.now past.now fresh.now → IfMisled result (MisledBy (pack (D.tape disk.old)) [] file.now.fid) }
+    ensures quiet { (o : Operation) → IsTrue D.told → FileStands (pack (D.tape disk.old)) file.now → MayBeGrown (pack (D.tape disk.old)) o file.now.fid bytes.now past.now fresh.now → IfMisled result (λ place at wanted found. IsQuiet (around (D.tape disk.old) hints.old.table tally.old) (around (D.tape disk.new) hints.new.table tally.new)) }
     ensures true_links { (o : Operation) → IsTrue D.told → FileStands (pack (D.tape disk.old)) file.now → MayBeGrown (pack (D.tape disk.old)) o file.now.fid bytes.now past.now fresh.now → LinksTrue (pack (D.tape disk.old)) → IfMisled result (λ place at wanted found. ⊥) }
     ensures given { IfMisled result (IsHintOfGrowth file.now fresh.now hints.old.cache hints.new.cache) }
     ensures cause { HasCause cause_of_length (D.tape disk.old) (D.tape disk.new) result }

@@ -45,8 +45,9 @@ fn put_name(value: &mut [u16; 256], name: &Name)
 /// Gives the leader of an ordinary file another name, by one value write. Its leader page is located first; what `buf` holds afterwards is
 /// open.
 ///
-/// Misled: the address that the file is named with misleads. DiskFault: the device failed. Memory: no memory was left for the record write.
-/// After each of these nothing was written, or after DiskFault all of it may be.
+/// Misled: the address that the file is named with misleads; where the machine isn't modelled also the sector in which this call found the
+/// leader, if it no longer carries it. DiskFault: the device failed. Memory: no memory was left for the record write. After each of these
+/// nothing was written, or after DiskFault all of it may be.
 pub fn title<D: Disk>(
     disk: &mut D,
     hints: &mut Hints,
@@ -106,8 +107,9 @@ fn put_stamp(value: &mut [u16; 256], moment: u32, last: LastPage)
 /// refused, and what `buf` holds is open. With true links, a handy cache and a leader that names a data page it takes at most 6 sector
 /// commands, and one more for each page after that one; with handy hints and a leader that names the last page at most 4.
 ///
-/// Misled: a hint of the file misleads, as `locate` says. DiskFault: the device failed. Memory: no memory was left for the record write.
-/// After each of these nothing was written, or after DiskFault all of it may be.
+/// Misled: a hint of the file misleads, as `locate` says; where the machine isn't modelled also the sector in which this call found a page
+/// of the file, if it no longer carries it. DiskFault: the device failed. Memory: no memory was left for the record write. After each of
+/// these nothing was written, or after DiskFault all of it may be.
 pub fn stamp<D: Disk>(
     disk: &mut D,
     hints: &mut Hints,

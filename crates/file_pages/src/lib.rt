@@ -16,9 +16,9 @@
 //!    (`releases`), and its record writes do what the operation's do (`goes`).
 //! 4. A new file's pages are in the sectors that were given for them (`placed`), and listed, unless a note was refused (`listed`).
 //! 5. Misled comes only where a hint of the file misled as the call began, of a new file never (`misled`), and of no file where all links
-//!    are true (`true_links`); but for a growth it names the address that the file is named with, or a next link of it (`hint`). Beyond comes only of bytes that would end after the file and of a cut past its end (`beyond`). `put` says
-//!    its record write of every file, directories too (`puts`), and `grow` its record writes with the words that come after the bytes
-//!    (`grows`).
+//!    are true (`true_links`). It names the address that the file is named with or a next link of it (`hint`); of a growth that is said by
+//!    `misled` alone. Beyond comes only of bytes that would end after the file and of a cut past its end (`beyond`). `put` says its record
+//!    write of every file, directories too (`puts`), and `grow` its record writes with the words that come after the bytes (`grows`).
 //! 6. With true links a cache that was handy for a file is so on the pack afterwards (`handy`), and where all hints of the file are handy,
 //!    few sector commands are taken (`quick`); of a new file and of a growth only if no note was refused. A growth leaves the page that the
 //!    leader names (`named`), and from there a stamp takes one sector command a page (`climbs`).

@@ -114,9 +114,10 @@ fn put_in_value(value: &mut [u16; 256], from: usize, bytes: &[u8], past: &[u16])
 /// Puts bytes in the place of as many bytes of a file, from the byte `offset` on, within one page: by one value write of that page, which
 /// commits. After them come the words `past`, which don't count: the file has to end with the bytes then. The page is located first.
 ///
-/// Beyond: the file ends before the bytes do, and `length` is its length. Misled: a hint of the file misleads, as `locate` says. DiskFault:
-/// the device failed. Memory: no memory was left for the record write. After each of these nothing was written, or after DiskFault all of
-/// it may be. What `buf` holds is open.
+/// Beyond: the file ends before the bytes do, and `length` is its length. Misled: a hint of the file misleads, as `locate` says; where the
+/// machine isn't modelled also the sector in which this call found a page of the file, if it no longer carries it. DiskFault: the device
+/// failed. Memory: no memory was left for the record write. After each of these nothing was written, or after DiskFault all of it may be.
+/// What `buf` holds is open.
 pub fn put<D: Disk>(
     disk: &mut D,
     hints: &mut Hints,

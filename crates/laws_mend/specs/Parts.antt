@@ -1,14 +1,15 @@
 -- The parts of a mended pack, each with those before it.
-use Rattle.std.specs.Prelude.{◌≡◌, ℕ, ◌+◌, Bool, true, length, get_or}
+use Rattle.std.specs.Prelude.{◌≡◌, ◌⊎◌, ℕ, suc, ◌+◌, ◌<◌, Bool, true, length, get_or, Some}
 use Rattle.alto_words.specs.declared.fid.Fid.{Fid}
 use Rattle.alto_words.specs.Fid.{is_directory, sys_dir, disk_descriptor}
 use Rattle.disk_records.specs.Addresses.{descriptor_length}
-use Rattle.disk_records.specs.Packs.{Pack}
-use Rattle.pack_model.specs.reading.Files.{lives, file_bytes}
+use Rattle.disk_records.specs.Packs.{Pack, carried}
+use Rattle.pack_model.specs.reading.Files.{lives, file_bytes, place}
 use Rattle.pack_model.specs.reading.Leaders.{Leader}
 use Rattle.pack_model.specs.reading.Sights.{sights}
 use Rattle.pack_model.specs.reading.Sights.Sight.{hidden, stray, leads}
 use Rattle.pack_model.specs.reading.Slots.{SlotsReachEnd}
+use Rattle.pack_model.specs.sessions.Descriptor.{data_pages}
 use Rattle.pack_model.specs.states.InUse.{available, free_sector_count}
 use Rattle.pack_model.specs.states.Sentences.{EachOnce, HasLastPage, IsUsed}
 
@@ -32,6 +33,12 @@ pub record Rooted (p : Pack) : Type 0 where
   pub used : Used p
   pub root : (l : Leader) × (readable : Bool) × (get_or (sights p) 1 hidden ≡ leads sys_dir readable l)
 
+-- so it is while DiskDescriptor is made: its data pages may stand without a leader page
+pub record RootedBut (p : Pack) : Type 0 where
+  pub ended : Ended p
+  pub used : (i : ℕ) → IsUsed p.shape (sights p) i ⊎ ((n : ℕ) × (n < data_pages p.shape) × (carried p i ≡ Some (record { fid = disk_descriptor; number = suc n })))
+  pub root : (l : Leader) × (readable : Bool) × (get_or (sights p) 1 hidden ≡ leads sys_dir readable l)
+
 -- and each living file's last page is carried, and DiskDescriptor lives with the length of its format
 pub record Lasting (p : Pack) : Type 0 where
   pub rooted : Rooted p
@@ -44,3 +51,9 @@ pub record Lasting (p : Pack) : Type 0 where
 pub record FreesMore (p q : Pack) (n : ℕ) : Type 0 where
   pub free : free_sector_count (sights q) ≡ free_sector_count (sights p) + n
   pub available_is : available q.shape (sights q) ≡ available p.shape (sights p)
+
+-- the same files live, with the same bytes, and each page has its place
+pub record SameFiles (p q : Pack) : Type 0 where
+  pub lives_are : (f : Fid) → lives (sights q) f ≡ lives (sights p) f
+  pub bytes_are : (f : Fid) → file_bytes (sights q) f ≡ file_bytes (sights p) f
+  pub places_are : (f : Fid) (n : ℕ) → place (sights q) f n ≡ place (sights p) f n

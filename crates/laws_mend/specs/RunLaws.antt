@@ -12,6 +12,7 @@ use Rattle.pack_model.specs.reading.Leaders.{leader_of}
 use Rattle.pack_model.specs.reading.Sights.{sights}
 use Rattle.pack_model.specs.reading.Slots.{all_words, slots}
 use Rattle.pack_model.specs.reading.Slots.Item.{space}
+use Rattle.pack_model.specs.states.InUse.{counts}
 use Rattle.pack_model.specs.states.Sentences.{EachOnce}
 use Rattle.laws_record.specs.QuietLaws.{IsUnread}
 use Rattle.laws_room.specs.MarkLaws.{OtherMark}
@@ -33,6 +34,10 @@ UnreadReleaseTends = (p : Pack) (at : ℕ) (page : Page) → EachOnce (sights p)
 -- of a data page of DiskDescriptor, where no page is carried twice
 abbrev pub DescriptorReleaseTends : Type 0
 DescriptorReleaseTends = (p : Pack) (at n : ℕ) → EachOnce (sights p) → carried p at ≡ Some (record { fid = disk_descriptor; number = suc n }) → AllTends p (release_writes at)
+
+-- of a page that isn't within its file's end, where no page is carried twice
+abbrev pub UnusedReleaseTends : Type 0
+UnusedReleaseTends = (p : Pack) (at : ℕ) (page : Page) → EachOnce (sights p) → carried p at ≡ Some page → counts p.shape (sights p) page.fid page.number ≡ false → AllTends p (release_writes at)
 
 -- ---- labels
 -- one by which a directory ends with its slots

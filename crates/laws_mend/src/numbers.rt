@@ -1,6 +1,6 @@
 //! Free and available sectors while the pages of a pack are mended.
 
-ghost use Rattle.laws_mend.specs.NumberLaws.{FreedAndFree, FreesJoin, NeededIsFree, TwoNeededAreFree, UsedAvailableIsFree};
+ghost use Rattle.laws_mend.specs.NumberLaws.{CopyReleaseFrees, DescriptorReleaseFrees, DirectoryCutFrees, FirstSectorIsFree, FreedAndFree, FreesJoin, LackingDescriptorPageIsFree, LackingPageIsFree, NeededIsFree, RootNeedsTwo, StrayReleaseFrees, TwoNeededAreFree, UnreadReleaseFrees, UnusedReleaseFrees, UsedAvailableIsFree};
 
 /// Sectors that become free one after another, as many being available as before, become free together.
 pub fn frees_join()
@@ -26,4 +26,61 @@ pub fn needed_is_free()
 /// A pack that can be scavenged, each good sector of which is free or in use, has a free sector other than sector 1 if it needs two.
 pub fn two_needed_are_free()
     ensures { TwoNeededAreFree }
+{}
+
+/// A pack that can be scavenged, with SysDir's leader page in sector 1 and each good sector free or in use, has a free sector other than
+/// sector 1 if a living file lacks its last page, except DiskDescriptor.
+pub fn lacking_page_is_free()
+    ensures { LackingPageIsFree }
+{}
+
+/// Such a pack has a free sector other than sector 1 if DiskDescriptor lacks its leader page or a data page of its format, also while its
+/// data pages stand without a leader page.
+pub fn lacking_descriptor_page_is_free()
+    ensures { LackingDescriptorPageIsFree }
+{}
+
+/// Sector 1 of a pack that can be scavenged, each good sector of which is free or in use, is the place of SysDir's leader page, or it is
+/// free.
+pub fn first_sector_is_free()
+    ensures { FirstSectorIsFree }
+{}
+
+/// A pack without a leader page of SysDir needs two sectors.
+pub fn root_needs_two()
+    ensures { RootNeedsTwo }
+{}
+
+/// A release of a page that a lower sector carries frees one sector more, and as many are available.
+pub fn copy_release_frees()
+    ensures { CopyReleaseFrees }
+{}
+
+/// A release of a usable sector that carries no page and isn't free frees one sector more, and as many are available.
+pub fn stray_release_frees()
+    ensures { StrayReleaseFrees }
+{}
+
+/// A release of a page that isn't within its file's end, or of a file without a leader page, frees one sector more, and as many are
+/// available, if no page is carried twice.
+pub fn unused_release_frees()
+    ensures { UnusedReleaseFrees }
+{}
+
+/// A release of a page that isn't read, except of DiskDescriptor, frees one sector more, and as many are available, if no page is carried
+/// twice.
+pub fn unread_release_frees()
+    ensures { UnreadReleaseFrees }
+{}
+
+/// A release of a data page of DiskDescriptor past those of its format frees one sector more, and as many are available, if no page is
+/// carried twice.
+pub fn descriptor_release_frees()
+    ensures { DescriptorReleaseFrees }
+{}
+
+/// A label by which a directory ends with its slots, and then the value that stands there, leave as many sectors free, and as many
+/// available.
+pub fn directory_cut_frees()
+    ensures { DirectoryCutFrees }
 {}

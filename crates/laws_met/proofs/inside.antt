@@ -12,6 +12,7 @@ pub mod Laid
 pub mod LineA
 pub mod LineD
 pub mod Lines
+pub mod Lookups
 pub mod Meeting
 pub mod Meets
 pub mod More

@@ -1,11 +1,15 @@
+pub mod Absent
 pub mod Beside
 pub mod ByEntries
 pub mod Descriptor
 pub mod DescriptorLeast
 pub mod Dropping
+pub mod Entered
 pub mod Hinting
 pub mod Keeping
 pub mod Leaders
+pub mod Lengths
 pub mod LineKeeping
+pub mod Parts
 pub mod Released
 pub mod Serials

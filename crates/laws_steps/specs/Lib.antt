@@ -1,5 +1,9 @@
 pub mod DroppingLaws
+pub mod EnteredLaws
 pub mod HintLaws
 pub mod KeepingLaws
+pub mod LengthLaws
 pub mod LineKeepingLaws
+pub mod NameLaws
+pub mod PartLaws
 pub mod SerialLaws

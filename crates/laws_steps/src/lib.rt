@@ -2,10 +2,15 @@
 //! a sweep finds by its serial.
 //!
 //! Come here when you write a line of several operations: a file that was looked up before the first of them is found still before the
-//! last, and a drop by two calls, one that releases the file's sectors and one that frees its entry's slot, is one operation of the line.
+//! last, a name that was free is so still, and a drop by two calls, one that releases the file's sectors and one that frees its entry's
+//! slot, is one operation of the line.
 //!
 //! The laws of keeping: files that were found stay found over each operation, except the file that is dropped and one found by the entry that
 //! leaves, and over the open mark and a new serial. The laws of lines: so they do over several operations, by what the model says of each.
+//!
+//! By the model alone, the laws of entries: the entry that a name means, over operations on bytes and leaders and over widenings. The laws of
+//! names: a name that no entry has, and the room for one. The laws of lengths: that of a file in which bytes are put, and that of a new one.
+//! The laws of parts: the model after a line, and its pages, by its first operations and the others.
 //!
 //! The laws of a drop by two calls: after the releases the entry stands in its directory as before; and the value that frees its slot, as
 //! read then, is the rest of the drop, a break within either being a prefix of it.
@@ -21,7 +26,11 @@
 #![tactic(auto)]
 
 pub mod dropping;
+pub mod entries;
 pub mod hints;
 pub mod keeping;
+pub mod lengths;
 pub mod lines;
+pub mod names;
+pub mod parts;
 pub mod serials;

@@ -5,6 +5,8 @@
 #![tactic(auto)]
 
 #[cfg(test)]
+mod begins;
+#[cfg(test)]
 mod cuts;
 #[cfg(test)]
 mod faults;

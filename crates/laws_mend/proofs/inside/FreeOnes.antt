@@ -11,11 +11,11 @@ use Rattle.laws_mend.proofs.inside.Counting.{used_available_is_free}
 use Rattle.laws_mend.specs.NumberLaws.{NeededIsFree, TwoNeededAreFree}
 
 -- what is shown as free is free
-shown_free : (p : Pack) (at : ℕ) → get_or (sights p) at hidden ≡ free → is_free_at p at ≡ true
+pub shown_free : (p : Pack) (at : ℕ) → get_or (sights p) at hidden ≡ free → is_free_at p at ≡ true
 shown_free p at is = ap (λ b. cond b (is_free (tag (sector_at p at).label)) false) (usable_is p at (ap good_one is)) ∙ free_is p at is
 
 -- ---- one free sight, and two
-some_free : (xs : List Sight) → 0 < how_many is_free_sight xs → (i : ℕ) × (get_or xs i hidden ≡ free)
+pub some_free : (xs : List Sight) → 0 < how_many is_free_sight xs → (i : ℕ) × (get_or xs i hidden ≡ free)
 some_free [] h = absurd (omega arith)
 some_free (hidden ∷ xs) h = let r = some_free xs (omega arith) in (suc r.0, r.1)
 some_free (free ∷ xs) h = (0, refl)

@@ -1,5 +1,5 @@
 -- Releases of sectors while the pages of a pack are mended.
-use Rattle.std.proofs.Common.{◌∙◌, ◌≡◌, ◌≢◌, None, Some, ap, false, inl, inr, sym, true, suc, ℕ}
+use Rattle.std.proofs.Common.{◌∙◌, ◌≡◌, ◌≢◌, List, None, Some, ap, false, inl, inr, set, sym, true, suc, ℕ}
 use Rattle.std.proofs.lemmas.Bool.{cases_eq}
 use Rattle.std.specs.Prelude.{cond}
 use Rattle.alto_words.specs.Fid.{disk_descriptor}
@@ -11,24 +11,28 @@ use Rattle.disk_records.specs.declared.records.Page.{Page}
 use Rattle.disk_records.specs.declared.records.Sector.{Sector}
 use Rattle.pack_model.specs.reading.Files.{place}
 use Rattle.pack_model.specs.reading.Model.{read_as}
-use Rattle.pack_model.specs.reading.Sights.{sights}
+use Rattle.pack_model.specs.reading.Sights.{sight, sights}
+use Rattle.pack_model.specs.reading.Sights.Sight.{free, hidden}
 use Rattle.pack_model.specs.scavenger.Scavenging.{Keeps, Unmarked}
 use Rattle.pack_model.specs.showing.View.{view}
 use Rattle.pack_laws.proofs.files.Laws.{places_are_lowest}
-use Rattle.pack_laws.proofs.Guarding.{carried_parts, free_parts, free_unnamed, here_written, ones_free, other_kept, usable_within}
+use Rattle.pack_laws.proofs.Guarding.{carried_parts, free_parts, free_shown, free_unnamed, here_written, ones_free, other_kept, usable_within}
 use Rattle.laws_contents.proofs.pages.Laws.{carried_once_is_in_place}
+use Rattle.laws_record.proofs.Recording.{freed_sights}
+use Rattle.laws_record.proofs.Unseen.{sights_kept}
 use Rattle.laws_record.proofs.quiet.Laws.{copy_release_reads_same, free_value_reads_same, stray_release_reads_same, unread_release_reads_same}
-use Rattle.laws_record.proofs.views.Laws.{descriptor_pages_views_same}
-use Rattle.laws_record.specs.QuietLaws.{with_label}
+use Rattle.laws_record.proofs.views.Laws.{descriptor_pages_views_same, unused_release_views_same}
+use Rattle.laws_record.specs.QuietLaws.{with_label, with_value}
 use Rattle.laws_record.specs.ViewLaws.IsDescriptorPage.{claimed, unclaimed}
-use Rattle.laws_room.proofs.keeping.Laws.{copy_release_keeps_aside, descriptor_pages_keeps_aside, free_value_keeps_aside, stray_release_keeps_aside, unread_release_keeps_aside}
+use Rattle.laws_room.proofs.keeping.Laws.{copy_release_keeps_aside, descriptor_pages_keeps_aside, free_value_keeps_aside, stray_release_keeps_aside, unread_release_keeps_aside, unused_release_keeps_aside}
 use Rattle.laws_room.proofs.marks.Laws.{unmarked_stays}
 use Rattle.laws_room.specs.KeepLaws.{RootMay}
 use Rattle.laws_room.specs.KeepLaws.RootMay.{as_before, made_free}
 use Rattle.laws_room.specs.MarkLaws.{mark_page}
 use Rattle.pack_model.specs.states.Sentences.{EachOnce}
+use Rattle.laws_mend.proofs.inside.Counted.{only_carrier, uncounted}
 use Rattle.laws_mend.proofs.inside.Joining.{nothing_tends, tends_on}
-use Rattle.laws_mend.specs.RunLaws.{CopyReleaseTends, DescriptorReleaseTends, StrayReleaseTends, UnreadReleaseTends}
+use Rattle.laws_mend.specs.RunLaws.{CopyReleaseTends, DescriptorReleaseTends, StrayReleaseTends, UnreadReleaseTends, UnusedReleaseTends}
 use Rattle.laws_mend.specs.Tending.{Tends, AllTends}
 
 -- nothing is something
@@ -39,6 +43,13 @@ some_none e = cc
 pub none_of_free : (p : Pack) (at : ℕ) → is_free_at p at ≡ true → carried p at ≡ None
 none_of_free p at is = let parts = free_parts p at is in ap (λ b. cond b (page_of (sector_at p at).label) None) parts.0 ∙ free_unnamed (sector_at p at).label parts.1
 
+-- a free sector shows the same, whatever its value
+pub free_value_shows : (p : Pack) (at : ℕ) (value : List ℕ) → is_free_at p at ≡ true → sights (with_value p at value) ≡ sights p
+unfolding sight
+free_value_shows p at value is =
+    let parts = free_parts p at is in
+    sights_kept p at 2 value (ap (λ s. cond (is_usable p.shape at (sector_at p at)) s hidden) (free_shown (tag (sector_at p at).label) value parts.1 ∙ sym (free_shown (tag (sector_at p at).label) (sector_at p at).value parts.1)))
+
 module _ (p : Pack) (at : ℕ) (usable : is_usable p.shape at (sector_at p at) ≡ true) where
   -- the pack with the label, and with the value
   abbrev once : Pack
@@ -48,26 +59,33 @@ module _ (p : Pack) (at : ℕ) (usable : is_usable p.shape at (sector_at p at) �
   twice = after p (release_writes at)
 
   -- the sector is free from the label on
-  here_once : sector_at once at ≡ record (sector_at p at) { label = ones 8 }
+  pub here_once : sector_at once at ≡ record (sector_at p at) { label = ones 8 }
   here_once = here_written p at 1 (ones 8) (usable_within p at usable)
 
   usable_once : is_usable p.shape at (sector_at once at) ≡ true
   usable_once = ap (λ (s : Sector). is_usable p.shape at s) here_once ∙ usable
 
-  here_twice : sector_at twice at ≡ record (sector_at once at) { value = ones 256 }
+  pub here_twice : sector_at twice at ≡ record (sector_at once at) { value = ones 256 }
   here_twice = here_written once at 2 (ones 256) (usable_within once at usable_once)
 
   free_once : is_free_at once at ≡ true
   free_once = ap (λ b. cond b (is_free (tag (sector_at once at).label)) false) usable_once ∙ ap (λ (s : Sector). is_free (tag s.label)) here_once ∙ ones_free
 
-  free_twice : is_free_at twice at ≡ true
+  pub free_twice : is_free_at twice at ≡ true
   free_twice = ap (λ (s : Sector). cond (is_usable p.shape at s) (is_free (tag s.label)) false) here_twice ∙ free_once
 
+  -- what is shown then
+  pub shown_once : sights once ≡ set (sights p) at free
+  shown_once = freed_sights p at (ones 8) usable ones_free
+
+  pub shown_twice : sights twice ≡ set (sights p) at free
+  shown_twice = free_value_shows once at (ones 256) free_once ∙ shown_once
+
   -- every other one is as before
-  others_once : (i : ℕ) → i ≢ at → sector_at once i ≡ sector_at p i
+  pub others_once : (i : ℕ) → i ≢ at → sector_at once i ≡ sector_at p i
   others_once i other = other_kept p at 1 (ones 8) i other
 
-  others_twice : (i : ℕ) → i ≢ at → sector_at twice i ≡ sector_at once i
+  pub others_twice : (i : ℕ) → i ≢ at → sector_at twice i ≡ sector_at once i
   others_twice i other = other_kept once at 2 (ones 256) i other
 
   page_of_other : (i : ℕ) → i ≢ at → carried once i ≡ carried p i
@@ -139,3 +157,11 @@ descriptor_release_tends p at n alone here =
     let usable = (carried_parts p at page here).0 in
     let now = free_once p at usable in
     release_tends p at usable (descriptor_pages_keeps_aside p at 1 (ones 8) (claimed n here) (unclaimed now)) (descriptor_pages_views_same p at 1 (ones 8) (claimed n here) (unclaimed now)) (unmarked_alone p at usable alone)
+
+-- of a page that doesn't count
+pub unused_release_tends : UnusedReleaseTends
+unused_release_tends p at page alone here uncounts =
+    let usable = (carried_parts p at page here).0 in
+    let unused = uncounted p at page here uncounts in
+    let only = only_carrier p at page alone here in
+    release_tends p at usable (unused_release_keeps_aside p at page (ones 8) here unused only ones_free) (unused_release_views_same p at page (ones 8) here unused only ones_free) (unmarked_alone p at usable alone)

@@ -56,3 +56,8 @@ returns-clause-given g c = misled_in _ c.grow.result c.in_directory.result c.in_
 
 pub returns-clause-listed : goal.returns-clause-listed
 returns-clause-listed g c = on_ok_in _ c.grow.result c.in_directory.result c.in_directory.ensures c.grow.ensures.listed
+
+pub returns-clause-quiet : goal.returns-clause-quiet
+returns-clause-quiet g c told stands free =
+    let may = may_be_grown (pack (g.D.Tape.tape c.args.disk.now)) c.args.dir.now.fid c.free_page.result c.args.fresh stands.directory c.free_page.ensures free in
+    misled_in _ c.grow.result c.in_directory.result c.in_directory.ensures (c.grow.ensures.quiet (widen c.args.dir.now.fid) told stands.stands may)

@@ -1,6 +1,6 @@
 use Rattle.std.proofs.Common.{◌≡◌, ◌+◌, ◌-◌, ◌*◌, ◌≤◌, IsTrue, length}
 use Rattle.disk_records.specs.Tapes.{DiskAlone, added, pack}
-use Rattle.disk_descriptor.specs.Writing.{AreCarried}
+use Rattle.disk_descriptor.specs.Writing.{AreOwnValues}
 use Rattle.disk_descriptor.proofs.Closings.{done}
 use Rattle.disk_descriptor.proofs.closing.write_pages.Given as goal
 
@@ -11,8 +11,10 @@ invariant-loop-left g l =
     record {
       alone : DiskAlone old now;
       within : l.left ≤ length l.pages;
-      wrote : IsTrue g.D.Tape.told → AreCarried (pack old) l.pages → added old now ≡ done old.form l.last l.table l.pages l.left;
-      runs : IsTrue g.D.Tape.told → AreCarried (pack old) l.pages → now.runs ≤ old.runs + 2 * (length l.pages - l.left);
+      wrote : IsTrue g.D.Tape.told → added old now ≡ done old.form l.last l.table l.pages l.left;
+      own : IsTrue g.D.Tape.told → AreOwnValues (pack old) l.pages (length l.pages) (added old now);
+      many : IsTrue g.D.Tape.told → length (added old now) + l.left ≡ length l.pages;
+      runs : IsTrue g.D.Tape.told → now.runs ≤ old.runs + 2 * (length l.pages - l.left);
     }
 
 abbrev pub decreases-loop-left : goal.decreases-loop-left

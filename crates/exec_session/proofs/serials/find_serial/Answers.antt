@@ -1,18 +1,17 @@
 use Rattle.std.proofs.Common.{None, refl}
 use Rattle.disk_records.specs.Tapes.{pack}
-use Rattle.exec_session.proofs.SerialFiles.{found_no_serial, found_serial}
-use Rattle.exec_session.proofs.SweptLeaders.{least_of_all}
+use Rattle.exec_session.proofs.SerialFiles.{found_no_serial, found_serial, least_of_all}
 use Rattle.exec_session.proofs.serials.find_serial.Goals as goal
 
 pub returns-in-Some-clause-found : goal.returns-in-Some-clause-found
 returns-in-Some-clause-found g c = λ told sound.
     let p = pack (g.D.Tape.tape c.args.disk.now) in
-    let has = least_of_all (record { serial = c.args.serial; best = None }) c.sweep.new.visitor refl c.in_ok-sweep.ensures.swept told in
-    let at = found_serial p c.args.serial c.sweep.new.visitor c.in-Some.found sound has c.in-Some.is in
+    let least = least_of_all (record { serial = c.args.serial; best = None }) c.sweep.new.visitor refl c.in_ok-sweep.ensures.swept told in
+    let at = found_serial p c.args.serial c.sweep.new.visitor.best c.in-Some.found sound least c.in-Some.is in
     record { is = at.0; from = (refl, at.1) }
 
 pub returns-in-None-clause-absent : goal.returns-in-None-clause-absent
 returns-in-None-clause-absent g c = λ told sound.
     let p = pack (g.D.Tape.tape c.args.disk.now) in
-    let has = least_of_all (record { serial = c.args.serial; best = None }) c.sweep.new.visitor refl c.in_ok-sweep.ensures.swept told in
-    (refl, found_no_serial p c.args.serial c.sweep.new.visitor sound has c.in-None.is)
+    let least = least_of_all (record { serial = c.args.serial; best = None }) c.sweep.new.visitor refl c.in_ok-sweep.ensures.swept told in
+    (refl, found_no_serial p c.args.serial c.sweep.new.visitor.best sound least c.in-None.is)

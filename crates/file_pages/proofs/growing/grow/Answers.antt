@@ -4,7 +4,7 @@ use Rattle.disk_records.specs.Addresses.{pages_of}
 use Rattle.disk_records.specs.Packs.{Pack}
 use Rattle.disk_records.specs.Tapes.{pack}
 use Rattle.disk_records.specs.declared.shape.Shape.{Shape}
-use Rattle.laws_call.specs.Acting.{around, Operates, refused}
+use Rattle.laws_call.specs.Acting.{IsQuiet, around, Operates, refused}
 use Rattle.page_seeking.specs.Refs.{MisledBy}
 use Rattle.page_seeking.specs.Seeking.{Seen, Stands, page_number}
 use Rattle.page_seeking.specs.declared.ends.LastPage.{LastPage}
@@ -12,7 +12,7 @@ use Rattle.page_seeking.specs.declared.refs.FileError.TheVariants as error
 use Rattle.pack_model.specs.states.Whole.{Tidy, Whole}
 use Rattle.file_pages.specs.Growing.{Grew, IsSector, MayBeGrown}
 use Rattle.page_seeking.specs.Seeking.{IsLast}
-use Rattle.file_pages.proofs.Erring.{cause_after, memory_too, none_misled}
+use Rattle.file_pages.proofs.Erring.{any_misled, cause_after, memory_too, none_misled}
 use Rattle.file_pages.proofs.FreeSectors.{free_are_sectors}
 use Rattle.file_pages.proofs.GrownHandy.{grown_handy, named_still}
 use Rattle.file_pages.proofs.GrowthAfter.{nothing_written, written_after}
@@ -270,3 +270,31 @@ returns-in-Ok-grown-clause-listed g c =
       stays = λ none. let same = c.note_pages.ensures.none none in listed_still c.args.hints.now.cache c.last_page.new.hints.cache c.note_pages.new.cache (ap (λ (k : Cached). address_in k.entries page) same) (ap (λ (k : Cached). k.refused) same) here;
       comes = fresh_since c.args.file.now.fid last.number c.args.fresh.now c.args.hints.now.cache c.last_page.new.hints.cache c.note_pages.new.cache c.last_page.ensures.refused c.note_pages.ensures.listed;
     }
+
+-- a hint misled before the first record write
+pub returns-in-Err-clause-quiet : goal.returns-in-Err-clause-quiet
+returns-in-Err-clause-quiet g c o told stands may =
+    any_misled (IsQuiet (around (g.D.Tape.tape c.args.disk.now) c.args.hints.now.table c.args.tally.now) (around (g.D.Tape.tape c.last_page.new.disk) c.last_page.new.hints.table c.args.tally.now)) c.in-Err.error
+    (record { silent = c.last_page.ensures.looks.silent told; bits = c.last_page.ensures.table; tally = refl })
+
+pub returns-in-Some-clause-quiet : goal.returns-in-Some-clause-quiet
+returns-in-Some-clause-quiet g c o told stands may =
+    let form = c.shape.ensures ∙ c.last_page.ensures.looks.alone.grown.form in
+    absurd (c.in-Some.ensures.some (subst (λ (s : Shape). All (IsSector s) c.args.fresh.now) (sym form) (free_are_sectors (pack (g.D.Tape.tape c.args.disk.now)) c.args.fresh.now may.free)))
+
+pub returns-in-Err-grown-clause-quiet : goal.returns-in-Err-grown-clause-quiet
+returns-in-Err-grown-clause-quiet g c o told stands may =
+    let a = g.D.Tape.tape c.args.disk.now in
+    let b = g.D.Tape.tape c.last_page.new.disk in
+    let d = g.D.Tape.tape c.grow_pages-grown.new.disk in
+    let fid = c.args.file.now.fid in
+    let last = c.in-Ok.last in
+    let looks = c.last_page.ensures.looks in
+    let silent = looks.silent told in
+    let packs : pack a ≡ pack b = sym (pack-silent looks.alone.grown silent) in
+    let whole = subst (λ (p : Pack). Whole p) packs stands.whole in
+    let tidy = subst (λ (p : Pack). Tidy p) packs stands.tidy in
+    let there = subst (λ (p : Pack). Stands p (page_number fid last.number) last.at c.last_page.new.buf) packs (c.in-Ok.ensures.stands told) in
+    let is = subst (λ (p : Pack). IsLast p fid last) packs (c.in-Ok.ensures.last told stands.whole) in
+    let may_then = subst (λ (p : Pack). MayBeGrown p o fid c.args.bytes.now c.args.past.now c.args.fresh.now) packs may in
+    none_misled (λ place at wanted found. IsQuiet (around a c.args.hints.now.table c.args.tally.now) (around d c.grow_pages-grown.new.table c.grow_pages-grown.new.tally)) c.in-Err-grown.error (rw c.in-Err-grown.is at (c.grow_pages-grown.ensures.misled o told whole tidy there is may_then))

@@ -1,0 +1,5 @@
+mod Answering
+mod Contents
+mod Names
+mod Passing
+mod Untaken

@@ -1,0 +1,41 @@
+use Rattle.std.proofs.Common.{◌≡◌, ◌<◌, ℕ, IsTrue, length, min, arith}
+use Rattle.disk_records.specs.Tapes.{pack}
+use Rattle.exec_words.specs.declared.reply.Refusal.TheVariants as refusal
+use Rattle.laws_hint.proofs.tables.Laws.{reserving_keeps_the_table}
+use Rattle.pack_model.specs.reading.Model.{read_as, room}
+use Rattle.page_alloc.specs.Free.{free_addresses}
+use Rattle.exec_session.proofs.SectorTaking.{each_sector, full_is, on_err, refused_of_alloc, room_enough, true_in_both}
+use Rattle.exec_session.proofs.reserving.reserve_pages.Goals as goal
+
+pub returns-in_err-reserve-clause-full : goal.returns-in_err-reserve-clause-full
+returns-in_err-reserve-clause-full g c = λ told sound.
+    let p = pack (g.D.Tape.tape c.args.disk.now) in
+    let n = c.min-count.result in
+    refused_of_alloc ℕ (λ r. (r ≡ refusal.Full (min c.args.pages 65535) (room (read_as p))) × (room (read_as p) < c.args.pages))
+    (λ needed free. (needed ≡ n) × (free < n) × (IsTrue g.D.Tape.told → free ≡ length (free_addresses p)))
+    c.in_err-reserve.field-0.0 c.from_residual.result c.from_residual.ensures.1
+    (λ needed free h. full_is p c.args.pages n needed free sound c.min-count.ensures h.0 h.1 (h.2 told))
+    c.in_err-reserve.ensures.full
+
+pub returns-in_err-reserve-clause-stays_true : goal.returns-in_err-reserve-clause-stays_true
+returns-in_err-reserve-clause-stays_true g c = λ told sound table.
+    let t = g.D.Tape.tape c.args.disk.now in
+    on_err c.from_residual.result
+    ((reserving_keeps_the_table (pack t) c.args.session.now.hints.table c.reserve.new.table sound.whole (each_sector t (g.met.D.Disk.sized c.args.disk.now told)) table c.reserve.ensures.sized).refused (c.in_err-reserve.ensures.refused told))
+
+pub returns-clause-enough : goal.returns-clause-enough
+returns-clause-enough g c = λ told sound. room_enough (pack (g.D.Tape.tape c.args.disk.now)) c.args.pages c.min-count.result sound c.min-count.ensures (c.in_ok-reserve.ensures.few told)
+
+pub returns-clause-table : goal.returns-clause-table
+returns-clause-table g c = λ told sound table.
+    let t = g.D.Tape.tape c.args.disk.now in
+    (reserving_keeps_the_table (pack t) c.args.session.now.hints.table c.reserve.new.table sound.whole (each_sector t (g.met.D.Disk.sized c.args.disk.now told)) table c.reserve.ensures.sized).taken
+    c.in_ok-reserve.field-0.items (c.in_ok-reserve.ensures.others told) c.in_ok-reserve.ensures.reserved.busy (c.in_ok-reserve.ensures.free told)
+
+pub returns-clause-soon : goal.returns-clause-soon
+returns-clause-soon g c = λ told sound table.
+    let t = g.D.Tape.tape c.args.disk.now in
+    let both = true_in_both (pack t) c.args.session.now.hints.table sound (each_sector t (g.met.D.Disk.sized c.args.disk.now told)) c.requires.sized table in
+    let few = c.in_ok-reserve.ensures.soon told both in
+    let n = c.min-count.ensures in
+    omega (arith, few, n)

@@ -1,0 +1,81 @@
+// A session as it begins, and as it goes on after a scavenge.
+ghost use Rattle.disk_records.specs.Causes.{HasCause};
+ghost use Rattle.disk_records.specs.Tapes.{DiskAlone, added, pack};
+ghost use Rattle.exec_session.specs.Meant.{kept};
+ghost use Rattle.exec_session.specs.Opens.{GoesOn, IsFresh, Mended, Opens, Renews, cause_of_open};
+ghost use Rattle.pack_model.specs.reading.Sights.{sights};
+ghost use Rattle.pack_model.specs.states.Sentences.{EachOnce};
+ghost use Rattle.session_model.specs.Keeping.{Formed};
+ghost use Rattle.std.specs.Prelude.{IfOk, IsTrue, OnOk, [], ◌≡◌};
+
+use crate::memory::fresh_memory;
+use crate::opening::open_pack;
+use crate::session::Session;
+use alto_words::Memory;
+use disk_descriptor::OpenError;
+use disk_records::{Disk, Tally};
+use hint_cache::{HintCache, Hints};
+use std::alloc::Global;
+
+/// The highest level.
+const ALL_LEVELS: u8 = 8;
+
+impl Session {
+    /// Opens the pack: finds SysDir at sector 1 and DiskDescriptor by its name, and enters the pack. Nothing is written.
+    pub fn begin<D: Disk>(
+        alloc: Global,
+        disk: &mut D,
+        moment: u32,
+        limit: u64,
+    ) -> Result<Session, OpenError>
+        ensures opens { IsTrue D.told → EachOnce (sights (pack (D.tape disk.old))) → Opens (pack (D.tape disk.old)) moment limit result }
+        ensures silent { IsTrue D.told → added (D.tape disk.old) (D.tape disk.new) ≡ [] }
+        ensures fresh { IfOk result (λ s. IsFresh moment limit (kept s)) }
+        ensures formed { IfOk result (λ s. Formed (D.tape disk.new).form (kept s)) }
+        ensures cause { HasCause cause_of_open (D.tape disk.old) (D.tape disk.new) result }
+        ensures alone { DiskAlone (D.tape disk.old) (D.tape disk.new) }
+    {
+        let memory = match fresh_memory(alloc) {
+            Ok(memory) => memory,
+            Err(Memory) => return Err(OpenError::Memory),
+        };
+        let opened = open_pack(alloc, disk)?;
+        Ok(Session {
+            descriptor: opened.descriptor,
+            hints: opened.hints,
+            tally: Tally {
+                limit,
+                passed: 0,
+                all: 0,
+            },
+            moment,
+            level: ALL_LEVELS,
+            memory,
+            need: false,
+        })
+    }
+
+    /// Enters the pack again after a scavenge, and forgets all addresses. Nothing is written.
+    pub fn renew<D: Disk>(&mut self, alloc: Global, disk: &mut D) -> Result<(), OpenError>
+        requires formed { Formed (D.tape disk.old).form (kept self.old) }
+        ensures renews { IsTrue D.told → Mended (pack (D.tape disk.old)) → Renews (pack (D.tape disk.old)) (kept self.old) (kept self.new) result }
+        ensures silent { IsTrue D.told → added (D.tape disk.old) (D.tape disk.new) ≡ [] }
+        ensures goes_on { OnOk result (GoesOn (kept self.old) (kept self.new)) }
+        ensures formed { Formed (D.tape disk.new).form (kept self.new) }
+        ensures cause { HasCause cause_of_open (D.tape disk.old) (D.tape disk.new) result }
+        ensures alone { DiskAlone (D.tape disk.old) (D.tape disk.new) }
+    {
+        let cache = match HintCache::new(alloc) {
+            Ok(cache) => cache,
+            Err(Memory) => return Err(OpenError::Memory),
+        };
+        let opened = open_pack(alloc, disk)?;
+        self.descriptor = opened.descriptor;
+        self.hints = Hints {
+            cache,
+            table: opened.hints.table,
+        };
+        self.need = false;
+        Ok(())
+    }
+}

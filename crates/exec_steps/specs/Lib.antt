@@ -1,0 +1,4 @@
+pub mod Midway
+pub mod Steps
+pub mod Lines
+pub mod Asked

@@ -1,0 +1,16 @@
+-- Lengths of files within a line, on any model.
+use Rattle.std.specs.Prelude.{List, false, length, ℕ, ◌+◌, ◌≡◌, ◌≤◌}
+use Rattle.alto_words.specs.Fid.{is_directory}
+use Rattle.alto_words.specs.declared.fid.Fid.{Fid}
+use Rattle.pack_model.specs.operations.Committing.{length_of}
+use Rattle.pack_model.specs.operations.Step.Operation.{enter, make, put}
+use Rattle.pack_model.specs.operations.Step.{step}
+use Rattle.pack_model.specs.reading.Model.{Model}
+
+-- bytes that are put within a file leave its length
+abbrev pub PutKeepsTheLength : Type 0
+PutKeepsTheLength = (m : Model) (f : Fid) (offset : ℕ) (new : List ℕ) → offset + length new ≤ length_of m f → length_of (step m (put f offset new)) f ≡ length_of m f
+
+-- a new file that is no directory has no bytes, once it is made and entered
+abbrev pub NewFileIsEmpty : Type 0
+NewFileIsEmpty = (m : Model) (d f : Fid) (name own : List ℕ) (moment : ℕ) → is_directory f ≡ false → length_of (step (step m (make f name moment)) (enter d own f)) f ≡ 0
