@@ -9,7 +9,7 @@ use Rattle.dir_slots.proofs.Hands.{slots_within}
 use Rattle.dir_slots.proofs.Writing.{length-entry}
 use Rattle.disk_records.proofs.Bytes.{length-words_of}
 use Rattle.disk_records.specs.Commands.{value_writes}
-use Rattle.disk_records.specs.Packs.{Pack, carried}
+use Rattle.disk_records.specs.Packs.{Pack}
 use Rattle.disk_records.specs.Tapes.{Taped, pack}
 use Rattle.disk_records.specs.declared.records.Event.{Event}
 use Rattle.disk_records.specs.declared.records.Sector.{Sector}
@@ -17,7 +17,7 @@ use Rattle.disk_records.specs.declared.records.Tally.{Tally}
 use Rattle.hint_cache.specs.Caches.{Cached}
 use Rattle.laws_call.specs.Acting.{Operates}
 use Rattle.laws_call.specs.Writing.{Written, entering_writes}
-use Rattle.laws_contents.proofs.pages.Laws.{carried_once_is_in_place, page_numbers_are_words}
+use Rattle.laws_contents.proofs.pages.Laws.{carried_once_is_in_place}
 use Rattle.pack_model.specs.hints.Links.{dir_words}
 use Rattle.pack_model.specs.operations.Committing.{page_of_byte, page_of_word}
 use Rattle.pack_model.specs.operations.PageWords.{in_page, later}
@@ -103,9 +103,6 @@ module _ (p : Pack) (d : Fid) (name : List ℕ) (f : Fid) (leader_at : ℕ) (roo
       omega (arith, ends, place_is, total_is, most, half, few)
 
 -- ---- the operation
-pub next_page_is : (p : Pack) (d : Fid) (number at : ℕ) → Whole p → carried p at ≡ Some (page_number d (number + 1)) → number < 65535
-next_page_is p d number at whole carries = let low = page_numbers_are_words p d (number + 1) at (carried_once_is_in_place p (page_number d (number + 1)) at (once_of_whole p whole) carries) in omega (arith, low)
-
 -- the words of the room that lie in the page after
 some_later : (place : ℕ) (words : List ℕ) → 0 < length (later place words) → nat_lt (256 - in_page place) (length words) ≡ true
 some_later place words some = let long = length-drop (256 - in_page place) words in over_is (256 - in_page place) (length words) (omega (arith, some, long))

@@ -9,6 +9,7 @@ mod Items
 mod LeavingEntry
 mod Meeting
 mod Misleading
+mod OthersTrue
 mod Paging
 mod PlaceFound
 mod Quickly

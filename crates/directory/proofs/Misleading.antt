@@ -1,8 +1,11 @@
 -- Misled answers: none where links are true, and what else holds of them.
-use Rattle.std.proofs.Common.{[], ℕ, List, Option, Result, Ok, Err}
+use Rattle.std.proofs.Common.{[], ap, sym, ◌∙◌, ◌≡◌, ℕ, List, Option, Result, Ok, Err}
+use Rattle.alto_words.specs.declared.fid.Fid.{Fid}
 use Rattle.disk_records.specs.Packs.{AreFormed, Pack}
 use Rattle.disk_records.specs.declared.records.Page.{Page}
+use Rattle.disk_records.specs.declared.records.Place.TheVariants.{Held}
 use Rattle.disk_records.specs.declared.records.Place.{Place}
+use Rattle.file_pages.specs.Calls.{WasFound, WasHeld}
 use Rattle.pack_model.specs.hints.Links.{LinksTrue}
 use Rattle.page_seeking.proofs.TrueLinks.{never_led}
 use Rattle.page_seeking.specs.Refs.{MisledBy}
@@ -42,3 +45,7 @@ misled_map (Err (File (fault.Misled place at wanted found))) p f = f place at wa
 misled_map (Err (File (fault.Beyond length))) p f = tt
 misled_map (Err (File fault.DiskFault)) p f = tt
 misled_map (Err (File fault.Memory)) p f = tt
+
+-- the address of a sector in which a page of the directory had been found
+pub was_found : (d : Fid) (i : ℕ) (page : Page) → page.fid ≡ d → (place : Place) (at : ℕ) (wanted : Page) (found : Option (List ℕ)) → WasHeld i page place at wanted found → WasFound d place at wanted found
+was_found d i page own place at wanted found x = record { held = x.held ∙ ap (λ (n : ℕ). Held n) (sym x.address); own = ap (λ (p : Page). p.fid) x.page_is ∙ own }

@@ -1,11 +1,12 @@
 -- What a caller sees of an entry that comes into a directory.
-use Rattle.std.specs.Prelude.{◌≡◌, ◌⊎◌, ℕ, ◌+◌, ◌*◌, ◌-◌, ◌<◌, ◌≤◌, ◌==◌, Bool, true, false, cond, nat_lt, List, [], ◌++◌, length, take, Some, Result, OnOk, IsErrOf}
+use Rattle.std.specs.Prelude.{◌≡◌, ◌⊎◌, ℕ, ◌+◌, ◌*◌, ◌-◌, ◌<◌, ◌≤◌, ◌==◌, Bool, true, false, cond, min, nat_lt, List, [], ◌++◌, length, take, Some, Result, OnOk, IsErrOf}
 use Rattle.alto_words.specs.declared.fid.Fid.{Fid}
 use Rattle.disk_records.specs.Commands.{value_writes}
 use Rattle.disk_records.specs.Events.{IsFirstOf}
 use Rattle.disk_records.specs.Packs.{Pack}
 use Rattle.disk_records.specs.Tapes.{Taped, added}
 use Rattle.disk_records.specs.declared.records.Event.{Event}
+use Rattle.disk_records.specs.declared.records.Page.{Page}
 use Rattle.hint_cache.specs.Caches.{Cached}
 use Rattle.laws_call.specs.Acting.{Around}
 use Rattle.laws_lookup.specs.EnteringLaws.{IsEnterable}
@@ -40,6 +41,10 @@ pub record MayBeEntered (p : Pack) (d f : Fid) (leader_at : ℕ) : Type 0 where
 -- those of the entry, and the first one of a free slot for the words of the room that are left over
 abbrev pub words_for : Fid → ℕ → List ℕ → RoomFound → List ℕ
 words_for f leader_at name room = entered_words f leader_at name (room.words.total - entry_length (length name))
+
+-- the page after one; numbers end at 65,535
+abbrev pub next_page : Page → Page
+next_page page = record { fid = page.fid; number = min (page.number + 1) 65535 }
 
 -- whether words come to lie in the page after that of the room's first word
 abbrev pub has_later : RoomFound → List ℕ → Bool

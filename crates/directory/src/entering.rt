@@ -5,6 +5,7 @@ ghost use Rattle.disk_records.specs.Causes.{HasCause, never, other};
 ghost use Rattle.disk_records.specs.Commands.{value_writes};
 ghost use Rattle.disk_records.specs.Packs.{carried};
 ghost use Rattle.disk_records.specs.Tapes.{DiskAlone, Looks, pack};
+ghost use Rattle.file_pages.specs.Calls.{IsHintOrFound, WasFound, WasHeld};
 ghost use Rattle.file_pages.specs.Values.{LeavesHandy};
 ghost use Rattle.laws_call.specs.Acting.{IsQuiet, Operates, around};
 ghost use Rattle.laws_operation.specs.PlaceLaws.{SamePlaces};
@@ -14,12 +15,12 @@ ghost use Rattle.pack_model.specs.operations.PageWords.{in_page, later, near};
 ghost use Rattle.pack_model.specs.reading.Bytes.{put_at};
 ghost use Rattle.pack_model.specs.operations.Step.{Operation};
 ghost use Rattle.pack_model.specs.states.Whole.{Whole};
-ghost use Rattle.page_seeking.specs.Refs.{MisledBy};
-ghost use Rattle.page_seeking.specs.Seeking.{IsLengthBelow, KeepsHandy, Quick, Stands, file_length, page_after, page_number};
+ghost use Rattle.page_seeking.specs.Refs.{IsOwnHint, MisledBy};
+ghost use Rattle.page_seeking.specs.Seeking.{IsLengthBelow, KeepsHandy, Quick, Stands, file_length, page_number};
 ghost use Rattle.directory.specs.Asked.{DirIsFound, DirStands};
 ghost use Rattle.directory.specs.Bounds.{most_words};
 ghost use Rattle.directory.specs.Errors.{IfBySlots, IfMisled, IfNoSlot, cause_of, disk_fault, out_of_memory};
-ghost use Rattle.directory.specs.Entering.{IsQuickThrice, MayBeEntered, WroteEntry, has_later, joined_value, joining_writes, next_writes, room_value, to_enter};
+ghost use Rattle.directory.specs.Entering.{IsQuickThrice, MayBeEntered, WroteEntry, has_later, joined_value, joining_writes, next_page, next_writes, room_value, to_enter};
 ghost use Rattle.directory.specs.Leaving.{Wrote};
 ghost use Rattle.directory.specs.Places.{HadRoom, HasNoRoom, IsTaken};
 
@@ -48,6 +49,7 @@ fn write_first<D: Disk>(
     requires place { IsTrue wanted → at < pages_of (D.tape disk.old).form }
     ensures writes { IsTrue D.told → Wrote (cond wanted (value_writes at value.now) []) (D.tape disk.old) (D.tape disk.new) result }
     ensures misled { IsTrue D.told → (IsTrue wanted → carried (pack (D.tape disk.old)) at ≡ Some page) → IfMisled result (λ place at wanted found. ⊥) }
+    ensures held { IfMisled result (WasHeld at page) }
     ensures slots { IfBySlots result ⊥ }
     ensures cause { HasCause (cause_of never never never) (D.tape disk.old) (D.tape disk.new) result }
     ensures alone { DiskAlone (D.tape disk.old) (D.tape disk.new) }
@@ -80,6 +82,7 @@ fn locate_if<D: Disk>(
     ensures asked { OnErr result (IsTrue wanted) }
     ensures full { IsTrue D.told → Whole (pack (D.tape disk.old)) → IfBySlots result ((n : ℕ) × IsLengthBelow (pack (D.tape disk.old)) dir.now.fid number n) }
     ensures misled { IsTrue D.told → DirIsFound (pack (D.tape disk.old)) dir.now → IfMisled result (MisledBy (pack (D.tape disk.old)) [] dir.now.fid) }
+    ensures hint { IfMisled result (IsOwnHint dir.now) }
     ensures cause { HasCause (cause_of never never other) (D.tape disk.old) (D.tape disk.new) result }
     ensures want { IsTrue D.told → IsErrOf result out_of_memory → ⊥ }
     ensures looks { Looks D.told (number + 53) (D.tape disk.old) (D.tape disk.new) }
@@ -127,8 +130,10 @@ fn locate_room<D: Disk>(
     ensures next { IsTrue (has_later room.now words.now) → IfOk result (λ at. (1 ≤ at.1) × (at.1 < pages_of (D.tape disk.old).form)) }
     ensures stands { IsTrue D.told → IfOk result (λ at. Stands (pack (D.tape disk.old)) (page_number dir.now.fid (page_of_word room.now.place)) at.0 buf.new) }
     ensures stands_next { IsTrue D.told → IsTrue (has_later room.now words.now) → room.now.place + length words.now ≤ most_words → IfOk result (λ at. Stands (pack (D.tape disk.old)) (page_number dir.now.fid (page_of_word room.now.place + 1)) at.1 next.new) }
+    ensures carries_next { IsTrue D.told → IsTrue (has_later room.now words.now) → IfOk result (λ at. carried (pack (D.tape disk.old)) at.1 ≡ Some (next_page (page_number dir.now.fid (page_of_word room.now.place)))) }
     ensures full { IsTrue D.told → Whole (pack (D.tape disk.old)) → 2 * (room.now.place + length words.now) ≤ file_length (pack (D.tape disk.old)) dir.now.fid → 0 < length words.now → IfBySlots result ⊥ }
     ensures misled { IsTrue D.told → DirIsFound (pack (D.tape disk.old)) dir.now → IfMisled result (MisledBy (pack (D.tape disk.old)) [] dir.now.fid) }
+    ensures hint { IfMisled result (IsOwnHint dir.now) }
     ensures cause { HasCause (cause_of never never other) (D.tape disk.old) (D.tape disk.new) result }
     ensures want { IsTrue D.told → IsErrOf result out_of_memory → ⊥ }
     ensures looks { Looks D.told (2 * 65588) (D.tape disk.old) (D.tape disk.new) }
@@ -204,7 +209,8 @@ fn write_entry<D: Disk>(
     requires few { length words.now ≤ 27 }
     requires next { IsTrue (has_later room.now words.now) → (1 ≤ next_at) × (next_at < pages_of (D.tape disk.old).form) }
     ensures writes { (o : Operation) (bits : List Bool) → IsTrue D.told → WroteEntry (joining_writes room.now at buf.old.value ++ next_writes room.now words.now next_at next.old.value) (value_writes at (room_value room.now words.now buf.old.value)) o (around (D.tape disk.old) bits tally.old) (around (D.tape disk.new) bits tally.new) result }
-    ensures misled { IsTrue D.told → carried (pack (D.tape disk.old)) at ≡ Some page → (IsTrue (has_later room.now words.now) → (page.number < 65535) × (carried (pack (D.tape disk.old)) next_at ≡ Some (page_after page))) → IfMisled result (λ place at wanted found. ⊥) }
+    ensures misled { IsTrue D.told → carried (pack (D.tape disk.old)) at ≡ Some page → (IsTrue (has_later room.now words.now) → carried (pack (D.tape disk.old)) next_at ≡ Some (next_page page)) → IfMisled result (λ place at wanted found. ⊥) }
+    ensures held { IfMisled result (WasFound page.fid) }
     ensures slots { IfBySlots result ⊥ }
     ensures cause { HasCause (cause_of never never never) (D.tape disk.old) (D.tape disk.new) result }
     ensures alone { DiskAlone (D.tape disk.old) (D.tape disk.new) }
@@ -237,9 +243,10 @@ fn write_entry<D: Disk>(
 /// pages are sought as by `locate`, before the first of them.
 ///
 /// NameTaken: an entry has the name, in whatever case of its letters. NoSlot: no free slots in a row have room for the entry, and no entry has
-/// the name. File: Misled where the address that the directory is named with, or a next link of it, misleads; DiskFault where the device
-/// failed; Memory where no memory was left for a record write. After each of these a prefix of the record writes was done, and nothing after
-/// NameTaken, NoSlot and Misled. NoSuchName never comes. What `buf` holds is open.
+/// the name. File: Misled where the address that the directory is named with, or a next link of it, misleads, and where the machine isn't
+/// modelled also where the sector in which this call found a page no longer carries it; DiskFault where the device failed; Memory where no
+/// memory was left for a record write. After each of these a prefix of the record writes was done, and nothing after NameTaken, NoSlot and
+/// Misled. NoSuchName never comes. What `buf` holds is open.
 pub fn enter<D: Disk>(
     disk: &mut D,
     hints: &mut Hints,
@@ -260,6 +267,8 @@ pub fn enter<D: Disk>(
     ensures unwritten { IsTrue D.told → IfBySlots result (IsQuiet (around (D.tape disk.old) hints.old.table tally.old) (around (D.tape disk.new) hints.new.table tally.new)) }
     ensures quiet { IsTrue D.told → DirStands (pack (D.tape disk.old)) dir.now → IfMisled result (λ place at wanted found. IsQuiet (around (D.tape disk.old) hints.old.table tally.old) (around (D.tape disk.new) hints.new.table tally.new)) }
     ensures misled { IsTrue D.told → DirStands (pack (D.tape disk.old)) dir.now → IfMisled result (MisledBy (pack (D.tape disk.old)) [] dir.now.fid) }
+    ensures hint { IsTrue D.told → IfMisled result (IsOwnHint dir.now) }
+    ensures given { IfMisled result (IsHintOrFound dir.now) }
     ensures true_links { IsTrue D.told → DirStands (pack (D.tape disk.old)) dir.now → LinksTrue (pack (D.tape disk.old)) → IfMisled result (λ place at wanted found. ⊥) }
     ensures cause { HasCause (cause_of never other other) (D.tape disk.old) (D.tape disk.new) result }
 

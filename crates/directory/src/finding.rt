@@ -8,7 +8,7 @@ ghost use Rattle.pack_model.specs.hints.Links.{LinksTrue, dir_slots};
 ghost use Rattle.pack_model.specs.hints.Misled.{IsOnDisk};
 ghost use Rattle.pack_model.specs.reading.Lookup.{entry_at, is_meant, meant_by, version_met};
 ghost use Rattle.page_seeking.specs.Causes.{cause_of_length};
-ghost use Rattle.page_seeking.specs.Refs.{FileIsRooted, IfMisled, MisledBy};
+ghost use Rattle.page_seeking.specs.Refs.{FileIsRooted, IfMisled, IsOwnHint, MisledBy};
 ghost use Rattle.page_seeking.specs.Seeking.{KeepsHandy, Quick};
 ghost use Rattle.directory.specs.Asked.{DirIsFound, DirStands};
 ghost use Rattle.directory.specs.Bounds.{most_words};
@@ -100,6 +100,7 @@ pub(crate) fn find_entry<D: Disk>(
     ensures found { IsTrue D.told → DirIsFound (pack (D.tape disk.old)) dir.now → IfOk result (λ best. option_map found_at best ≡ entry_at wanted.now (dir_slots (pack (D.tape disk.old)) dir.now.fid)) }
     ensures misled { IsTrue D.told → DirIsFound (pack (D.tape disk.old)) dir.now → IfMisled result (MisledBy (pack (D.tape disk.old)) [] dir.now.fid) }
     ensures on_disk { IsTrue D.told → FileIsRooted (pack (D.tape disk.old)) dir.now → IfMisled result (λ place at wanted found. IsOnDisk place) }
+    ensures hint { IfMisled result (IsOwnHint dir.now) }
     ensures true_links { IsTrue D.told → DirStands (pack (D.tape disk.old)) dir.now → LinksTrue (pack (D.tape disk.old)) → IfMisled result (λ place at wanted found. ⊥) }
     ensures cause { HasCause cause_of_length (D.tape disk.old) (D.tape disk.new) result }
     ensures want { IsTrue D.told → IsErrOf result FileError.Memory → ⊥ }

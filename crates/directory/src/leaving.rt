@@ -1,18 +1,21 @@
 // An entry that leaves its directory, and the end of a drop.
 ghost use Rattle.std.specs.Prelude.{◌≡◌, ◌*◌, ◌+◌, ◌<◌, ◌≤◌, [], IfOk, IsErrOf, IsTrue, OnOk, Some, length};
+ghost use Rattle.alto_words.specs.declared.fid.Fid.{Fid};
 ghost use Rattle.alto_words.specs.declared.wanted.Wanted.TheVariants.{Exact};
 ghost use Rattle.disk_records.specs.Addresses.{pages_of};
 ghost use Rattle.disk_records.specs.Causes.{HasCause, never, other};
 ghost use Rattle.disk_records.specs.Tapes.{DiskAlone, Looks, added, pack};
+ghost use Rattle.file_pages.specs.Calls.{IsHintOrFound};
 ghost use Rattle.file_pages.specs.Values.{LeavesHandy};
 ghost use Rattle.laws_call.specs.Acting.{IsQuiet, Operates, around};
 ghost use Rattle.pack_model.specs.hints.Links.{LinksTrue};
 ghost use Rattle.pack_model.specs.operations.Committing.{page_of_word};
 ghost use Rattle.pack_model.specs.operations.PageWords.{freed_value};
+ghost use Rattle.pack_model.specs.reading.Sights.{sights};
 ghost use Rattle.pack_model.specs.reading.Slots.Item.{entry};
 ghost use Rattle.pack_model.specs.reading.Slots.{item_words};
-ghost use Rattle.pack_model.specs.states.Whole.{Tidy, Whole};
-ghost use Rattle.page_seeking.specs.Refs.{MisledBy};
+ghost use Rattle.pack_model.specs.states.Whole.{Tidy, TidyBut, Whole};
+ghost use Rattle.page_seeking.specs.Refs.{IsOwnHint, MisledBy};
 ghost use Rattle.page_seeking.specs.Seeking.{KeepsHandy, Quick, Stands, page_number};
 ghost use Rattle.directory.specs.Asked.{DirIsFound, DirStands};
 ghost use Rattle.directory.specs.Bounds.{most_words};
@@ -54,6 +57,7 @@ fn named_entry<D: Disk>(
     ensures named { IsTrue D.told → DirIsFound (pack (D.tape disk.old)) dir.now → IfOk result (λ found. entry_named (pack (D.tape disk.old)) dir.now.fid name.now ≡ Some (found_at found)) }
     ensures absent { IsTrue D.told → DirIsFound (pack (D.tape disk.old)) dir.now → IsErrOf result DirError.NoSuchName → IsAbsent (pack (D.tape disk.old)) dir.now.fid (Exact name.now) }
     ensures misled { IsTrue D.told → DirIsFound (pack (D.tape disk.old)) dir.now → IfMisled result (MisledBy (pack (D.tape disk.old)) [] dir.now.fid) }
+    ensures hint { IfMisled result (IsOwnHint dir.now) }
     ensures cause { HasCause (cause_of other never never) (D.tape disk.old) (D.tape disk.new) result }
     ensures want { IsTrue D.told → IsErrOf result out_of_memory → ⊥ }
     ensures looks { Looks D.told (65588 * 65535) (D.tape disk.old) (D.tape disk.new) }
@@ -85,6 +89,7 @@ fn locate_entry<D: Disk>(
     ensures sized { OnOk result (length buf.new.value ≡ 256) }
     ensures absent { IsTrue D.told → Whole (pack (D.tape disk.old)) → DirIsFound (pack (D.tape disk.old)) dir.now → IsErrOf result DirError.NoSuchName → IsAbsent (pack (D.tape disk.old)) dir.now.fid (Exact name.now) }
     ensures misled { IsTrue D.told → DirIsFound (pack (D.tape disk.old)) dir.now → IfMisled result (MisledBy (pack (D.tape disk.old)) [] dir.now.fid) }
+    ensures hint { IfMisled result (IsOwnHint dir.now) }
     ensures cause { HasCause (cause_of other never never) (D.tape disk.old) (D.tape disk.new) result }
     ensures want { IsTrue D.told → IsErrOf result out_of_memory → ⊥ }
     ensures looks { Looks D.told (65588 * 65536) (D.tape disk.old) (D.tape disk.new) }
@@ -126,6 +131,8 @@ fn free_entry<D: Disk>(
     ensures unwritten { IsTrue D.told → IfBySlots result (IsQuiet (around (D.tape disk.old) hints.old.table tally.old) (around (D.tape disk.new) hints.new.table tally.new)) }
     ensures quiet { IsTrue D.told → IfMisled result (λ place at wanted found. IsQuiet (around (D.tape disk.old) hints.old.table tally.old) (around (D.tape disk.new) hints.new.table tally.new)) }
     ensures misled { IsTrue D.told → DirIsFound (pack (D.tape disk.old)) dir.now → IfMisled result (MisledBy (pack (D.tape disk.old)) [] dir.now.fid) }
+    ensures hint { IsTrue D.told → IfMisled result (IsOwnHint dir.now) }
+    ensures given { IfMisled result (IsHintOrFound dir.now) }
     ensures cause { HasCause (cause_of other never never) (D.tape disk.old) (D.tape disk.new) result }
     ensures alone { DiskAlone (D.tape disk.old) (D.tape disk.new) }
     ensures table { hints.new.table ≡ hints.old.table }
@@ -151,8 +158,9 @@ fn free_entry<D: Disk>(
 /// page in which it begins is located before the record write.
 ///
 /// NoSuchName: the directory has no such entry. File: Misled where the address that the directory is named with, or a next link of it,
-/// misleads; DiskFault where the device failed; Memory where no memory was left for the record write. After NoSuchName and Misled nothing was
-/// written; after DiskFault and Memory the record write was made or not. NameTaken and NoSlot never come. What `buf` holds is open.
+/// misleads, and where the machine isn't modelled also where the sector in which this call found the page no longer carries it; DiskFault
+/// where the device failed; Memory where no memory was left for the record write. After NoSuchName and Misled nothing was written; after
+/// DiskFault and Memory the record write was made or not. NameTaken and NoSlot never come. What `buf` holds is open.
 pub fn leave<D: Disk>(
     disk: &mut D,
     hints: &mut Hints,
@@ -170,6 +178,8 @@ pub fn leave<D: Disk>(
     ensures unwritten { IsTrue D.told → IfBySlots result (IsQuiet (around (D.tape disk.old) hints.old.table tally.old) (around (D.tape disk.new) hints.new.table tally.new)) }
     ensures quiet { IsTrue D.told → IfMisled result (λ place at wanted found. IsQuiet (around (D.tape disk.old) hints.old.table tally.old) (around (D.tape disk.new) hints.new.table tally.new)) }
     ensures misled { IsTrue D.told → DirStands (pack (D.tape disk.old)) dir.now → IfMisled result (MisledBy (pack (D.tape disk.old)) [] dir.now.fid) }
+    ensures hint { IsTrue D.told → IfMisled result (IsOwnHint dir.now) }
+    ensures given { IfMisled result (IsHintOrFound dir.now) }
     ensures true_links { IsTrue D.told → DirStands (pack (D.tape disk.old)) dir.now → LinksTrue (pack (D.tape disk.old)) → IfMisled result (λ place at wanted found. ⊥) }
     ensures cause { HasCause (cause_of other never never) (D.tape disk.old) (D.tape disk.new) result }
 
@@ -189,8 +199,8 @@ pub fn leave<D: Disk>(
 /// counted the drop. It is done as `leave` does it, and nothing is counted. On the pack the entry's file doesn't live, so that the pack
 /// needn't be tidy.
 ///
-/// The errors are those of `leave`. That Misled never comes where links are true is said of tidy packs alone: the caller has it of the pack
-/// before the drop, by the calls that found the entry there, and takes a Misled here as one of any pack (`misled`).
+/// The errors are those of `leave`. Misled never comes where links are true and the pack is whole, and tidy except for the entry of one file
+/// `f`, the one that was dropped (`TidyBut`): that is what `drop_file` at Ok makes of a whole and tidy pack with true links.
 pub fn free_slot<D: Disk>(
     disk: &mut D,
     hints: &mut Hints,
@@ -206,6 +216,9 @@ pub fn free_slot<D: Disk>(
     ensures unwritten { IsTrue D.told → IfBySlots result (added (D.tape disk.old) (D.tape disk.new) ≡ []) }
     ensures quiet { IsTrue D.told → IfMisled result (λ place at wanted found. added (D.tape disk.old) (D.tape disk.new) ≡ []) }
     ensures misled { IsTrue D.told → DirIsFound (pack (D.tape disk.old)) dir.now → IfMisled result (MisledBy (pack (D.tape disk.old)) [] dir.now.fid) }
+    ensures hint { IsTrue D.told → IfMisled result (IsOwnHint dir.now) }
+    ensures given { IfMisled result (IsHintOrFound dir.now) }
+    ensures true_links { (f : Fid) → IsTrue D.told → DirIsFound (pack (D.tape disk.old)) dir.now → Whole (pack (D.tape disk.old)) → TidyBut f (sights (pack (D.tape disk.old))) → LinksTrue (pack (D.tape disk.old)) → IfMisled result (λ place at wanted found. ⊥) }
     ensures cause { HasCause (cause_of other never never) (D.tape disk.old) (D.tape disk.new) result }
 
     // What stays, the hints, and few sector commands, as of `leave`.

@@ -6,25 +6,29 @@
 //! every machine:
 //! 1. An error has its cause (`cause`): a fault comes only where its count rose, and Beyond never. The table of busy bits stays (`table`),
 //!    or at Ok of a widening keeps its length (`sized`), and the count of notes that were refused never falls (`refused`).
+//! 2. Misled names a hint of the directory: the address that it is named with, or a next link of it (`hint`). A call that writes may also name
+//!    the sector in which it found a page itself, or the one that a widening was given (`given`); where the machine is modelled, an entering
+//!    or a leaving doesn't.
 //!
 //! And where the machine is modelled, with any words in hints:
-//! 2. A call that reads writes nothing (`looks`), and is out of memory only if it takes an allocator (`want`).
-//! 3. Hints that were handy with true links are so on the pack afterwards (`handy`): after a widening at Ok, and unless a note was refused.
+//! 3. A call that reads writes nothing (`looks`), and is out of memory only if it takes an allocator (`want`).
+//! 4. Hints that were handy with true links are so on the pack afterwards (`handy`): after a widening at Ok, and unless a note was refused.
 //!    Where they are handy for the directory, few sector commands are taken at Ok, by a call that reads one for each data page and one more,
 //!    unless a note was refused (`quick`); and as few by a look-up of a name that is absent (`quick_absent`).
 //!
 //! And where besides the directory was found on its pack (`DirIsFound`):
-//! 4. What is answered is what the slots of the directory say (`found`), and a name is absent exactly if no slot has it (`absent`). The cache
+//! 5. What is answered is what the slots of the directory say (`found`), and a name is absent exactly if no slot has it (`absent`). The cache
 //!    lists the directory's last page then, or after a widening the page that came, unless a note was refused (`listed`).
-//! 5. Misled comes only where a hint of the directory misleads (`misled`), and from a look-up only with a place on the disk (`on_disk`).
+//! 6. Misled comes only where a hint of the directory misleads (`misled`), and from a look-up only with a place on the disk (`on_disk`).
 //!
 //! And where the pack is whole and tidy besides (`DirStands`), and the arguments are as the contract's premises say:
-//! 6. A call that writes does one operation: at Ok all of its record writes, at every other answer a prefix of them, and the tally counts
+//! 7. A call that writes does one operation: at Ok all of its record writes, at every other answer a prefix of them, and the tally counts
 //!    the operation if and only if the record that commits it was written (`operates`). A name is taken or there is no room for it only if
 //!    the slots say so (`taken`, `full`), and after a refusal by the slots nothing was written (`unwritten`), nor after Misled by an entering
 //!    or a leaving (`quiet`). A widening makes the record writes of a growth by a free slot's bytes (`widens`). `free_slot` makes the record
 //!    write with which a drop ends (`frees`), also on a pack that isn't tidy, and counts nothing.
-//! 7. Where all links are true besides, Misled never comes (`true_links`).
+//! 8. Where all links are true besides, Misled never comes (`true_links`), of `free_slot` also on a pack that is tidy except for the entry of
+//!    one file (`TidyBut`), as a drop leaves it.
 //!
 //! Not promised: that the address of a file that was found is that of its leader. Who follows it checks it by the label that stands there.
 #![tactic(auto)]

@@ -5,7 +5,7 @@ ghost use Rattle.dir_slots.specs.Walks.{slot_met};
 ghost use Rattle.disk_records.specs.Causes.{HasCause, never, other};
 ghost use Rattle.disk_records.specs.Tapes.{Looks, pack};
 ghost use Rattle.pack_model.specs.reading.Slots.{item_words};
-ghost use Rattle.page_seeking.specs.Refs.{MisledBy};
+ghost use Rattle.page_seeking.specs.Refs.{IsOwnHint, MisledBy};
 ghost use Rattle.page_seeking.specs.Seeking.{KeepsHandy, Quick};
 ghost use Rattle.directory.specs.Asked.{DirIsFound};
 ghost use Rattle.directory.specs.Bounds.{most_words};
@@ -106,6 +106,7 @@ pub(crate) fn find_place<D: Disk>(
     ensures taken { IsTrue D.told → DirIsFound (pack (D.tape disk.old)) dir.now → IsErrOf result DirError.NameTaken → IsTaken (pack (D.tape disk.old)) dir.now.fid name.now }
     ensures full { IsTrue D.told → DirIsFound (pack (D.tape disk.old)) dir.now → IfNoSlot result (HasNoRoom (pack (D.tape disk.old)) dir.now.fid name.now) }
     ensures misled { IsTrue D.told → DirIsFound (pack (D.tape disk.old)) dir.now → IfMisled result (MisledBy (pack (D.tape disk.old)) [] dir.now.fid) }
+    ensures hint { IfMisled result (IsOwnHint dir.now) }
     ensures cause { HasCause (cause_of never other other) (D.tape disk.old) (D.tape disk.new) result }
     ensures want { IsTrue D.told → IsErrOf result out_of_memory → ⊥ }
     ensures looks { Looks D.told (65588 * 65535) (D.tape disk.old) (D.tape disk.new) }

@@ -6,7 +6,7 @@ ghost use Rattle.disk_records.specs.Tapes.{Looks, pack};
 ghost use Rattle.pack_model.specs.hints.Links.{LinksTrue, dir_words};
 ghost use Rattle.pack_model.specs.operations.Rooms.{largest_run};
 ghost use Rattle.pack_model.specs.reading.Slots.{slots};
-ghost use Rattle.page_seeking.specs.Refs.{MisledBy};
+ghost use Rattle.page_seeking.specs.Refs.{IsOwnHint, MisledBy};
 ghost use Rattle.page_seeking.specs.Seeking.{KeepsHandy, Quick};
 ghost use Rattle.directory.specs.Asked.{DirIsFound, DirStands};
 ghost use Rattle.directory.specs.Errors.{IfMisled, cause_of, out_of_memory};
@@ -67,6 +67,7 @@ pub fn room<D: Disk>(
 ) -> Result<u32, DirError>
     ensures found { IsTrue D.told → DirIsFound (pack (D.tape disk.old)) dir.now → IfOk result (λ words. words ≡ largest_run (slots (dir_words (pack (D.tape disk.old)) dir.now.fid))) }
     ensures misled { IsTrue D.told → DirIsFound (pack (D.tape disk.old)) dir.now → IfMisled result (MisledBy (pack (D.tape disk.old)) [] dir.now.fid) }
+    ensures hint { IfMisled result (IsOwnHint dir.now) }
     ensures true_links { IsTrue D.told → DirStands (pack (D.tape disk.old)) dir.now → LinksTrue (pack (D.tape disk.old)) → IfMisled result (λ place at wanted found. ⊥) }
     ensures cause { HasCause (cause_of never never never) (D.tape disk.old) (D.tape disk.new) result }
     ensures want { IsTrue D.told → IsErrOf result out_of_memory → ⊥ }

@@ -3,7 +3,7 @@ ghost use Rattle.std.specs.Prelude.{◌≡◌, ◌*◌, ◌≤◌, IsTrue, IfOk,
 ghost use Rattle.disk_records.specs.Causes.{HasCause};
 ghost use Rattle.disk_records.specs.Tapes.{Looks, pack};
 ghost use Rattle.pack_model.specs.hints.Links.{LinksTrue};
-ghost use Rattle.page_seeking.specs.Refs.{MisledBy};
+ghost use Rattle.page_seeking.specs.Refs.{IsOwnHint, MisledBy};
 ghost use Rattle.page_seeking.specs.Seeking.{KeepsHandy, Quick};
 ghost use Rattle.directory.specs.Asked.{DirIsFound, DirStands};
 ghost use Rattle.directory.specs.Errors.{IfListMisled, cause_of_list};
@@ -50,6 +50,7 @@ pub fn list<D: Disk>(
 ) -> Result<Vec<Slot>, ListError>
     ensures found { IsTrue D.told → DirIsFound (pack (D.tape disk.old)) dir.now → IfOk result (λ found. AreSlots (pack (D.tape disk.old)) dir.now.fid found.items) }
     ensures misled { IsTrue D.told → DirIsFound (pack (D.tape disk.old)) dir.now → IfListMisled result (MisledBy (pack (D.tape disk.old)) [] dir.now.fid) }
+    ensures hint { IfListMisled result (IsOwnHint dir.now) }
     ensures true_links { IsTrue D.told → DirStands (pack (D.tape disk.old)) dir.now → LinksTrue (pack (D.tape disk.old)) → IfListMisled result (λ place at wanted found. ⊥) }
     ensures cause { HasCause cause_of_list (D.tape disk.old) (D.tape disk.new) result }
     ensures looks { Looks D.told (65588 * 65535) (D.tape disk.old) (D.tape disk.new) }

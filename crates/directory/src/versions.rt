@@ -8,7 +8,7 @@ ghost use Rattle.dir_slots.specs.Items.{item_of};
 ghost use Rattle.pack_model.specs.hints.Links.{LinksTrue};
 ghost use Rattle.pack_model.specs.reading.Lookup.{holds_base};
 ghost use Rattle.page_seeking.specs.Causes.{cause_of_length};
-ghost use Rattle.page_seeking.specs.Refs.{IfMisled, MisledBy};
+ghost use Rattle.page_seeking.specs.Refs.{IfMisled, IsOwnHint, MisledBy};
 ghost use Rattle.page_seeking.specs.Seeking.{KeepsHandy, Quick};
 ghost use Rattle.directory.specs.Asked.{DirIsFound, DirStands};
 ghost use Rattle.directory.specs.Found.{IsGreatest, IsQuick, ListsLastPage};
@@ -86,6 +86,7 @@ pub fn greatest<D: Disk>(
     requires bare { is_bare_name base.now ≡ true }
     ensures found { IsTrue D.told → DirIsFound (pack (D.tape disk.old)) dir.now → IfOk result (IsGreatest (pack (D.tape disk.old)) dir.now.fid base.now) }
     ensures misled { IsTrue D.told → DirIsFound (pack (D.tape disk.old)) dir.now → IfMisled result (MisledBy (pack (D.tape disk.old)) [] dir.now.fid) }
+    ensures hint { IfMisled result (IsOwnHint dir.now) }
     ensures true_links { IsTrue D.told → DirStands (pack (D.tape disk.old)) dir.now → LinksTrue (pack (D.tape disk.old)) → IfMisled result (λ place at wanted found. ⊥) }
     ensures cause { HasCause cause_of_length (D.tape disk.old) (D.tape disk.new) result }
     ensures want { IsTrue D.told → IsErrOf result FileError.Memory → ⊥ }

@@ -11,7 +11,7 @@ ghost use Rattle.pack_model.specs.hints.Misled.{IsOnDisk};
 ghost use Rattle.pack_model.specs.reading.Slots.{item_words};
 ghost use Rattle.pack_model.specs.reading.SlotWords.{SlotAt};
 ghost use Rattle.page_seeking.specs.Causes.{cause_of_length};
-ghost use Rattle.page_seeking.specs.Refs.{FileIsRooted, IfBeyond, IfMisled, MisledBy};
+ghost use Rattle.page_seeking.specs.Refs.{FileIsRooted, IfBeyond, IfMisled, IsOwnHint, MisledBy};
 ghost use Rattle.page_seeking.specs.Seeking.{KeepsHandy, Quick};
 ghost use Rattle.directory.specs.Asked.{DirIsFound, DirStands};
 ghost use Rattle.directory.specs.Bounds.{most_words};
@@ -93,6 +93,7 @@ pub(crate) fn visit_slots<D: Disk, V: Visit>(
     ensures visited { IsTrue D.told → DirIsFound (pack (D.tape disk.old)) dir.now → OnOk result (FoldsTo V.step visitor.old (dir_slots (pack (D.tape disk.old)) dir.now.fid) visitor.new) }
     ensures misled { IsTrue D.told → DirIsFound (pack (D.tape disk.old)) dir.now → IfMisled result (MisledBy (pack (D.tape disk.old)) [] dir.now.fid) }
     ensures on_disk { IsTrue D.told → FileIsRooted (pack (D.tape disk.old)) dir.now → IfMisled result (λ place at wanted found. IsOnDisk place) }
+    ensures hint { IfMisled result (IsOwnHint dir.now) }
     ensures true_links { IsTrue D.told → DirStands (pack (D.tape disk.old)) dir.now → LinksTrue (pack (D.tape disk.old)) → IfMisled result (λ place at wanted found. ⊥) }
     ensures never_beyond { IfBeyond result (λ length. ⊥) }
     ensures cause { HasCause cause_of_length (D.tape disk.old) (D.tape disk.new) result }

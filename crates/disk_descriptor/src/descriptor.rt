@@ -17,7 +17,7 @@ pub(crate) const MARK: usize = 6;
 const OPEN: u16 = 2;
 
 /// The last serial from which none is left to give.
-const MOST_LAST: u32 = 2_147_483_646;
+pub const MOST_LAST: u32 = 2_147_483_646;
 
 /// What a session keeps of DiskDescriptor: the pack's shape, the last serial given out, the mark, and the virtual addresses of the sectors
 /// of its data pages. Contracts see the record of these.

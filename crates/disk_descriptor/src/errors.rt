@@ -28,12 +28,12 @@ pub enum DescError {
 /// Why a pack isn't entered. Nothing was written.
 #[derive(Clone, Copy, Debug, PartialEq, Eq, Drop)]
 pub enum OpenError {
-    /// Sector 1 doesn't carry SysDir's leader, and `found` is the label there, None where its header is wrong. `enter_pack` never answers
-    /// it.
+    /// Sector 1 doesn't carry SysDir's leader, and `found` is the label there, None where its header is wrong. `enter_pack`, which is given
+    /// DiskDescriptor, never answers it; a session that begins does.
     NoRoot {
         found: Option<[u16; 8]>,
     },
-    /// SysDir has no entry of DiskDescriptor. `enter_pack` never answers it.
+    /// SysDir has no entry of DiskDescriptor's name, or the first one is of another file. `enter_pack` never answers it.
     NoDescriptor,
     /// The hint at `place` is `at`, and names no usable sector or one that doesn't carry the page `wanted`. `found` is the label there,
     /// None where there is none.
@@ -58,6 +58,6 @@ pub enum OpenError {
     },
     /// The device failed, and its count of faults rose.
     DiskFault,
-    /// No memory was left, which no disk that is modelled answers.
+    /// No memory was left. `enter_pack` never answers it on a modelled disk; a session, which has memory of its own, may.
     Memory,
 }

@@ -46,9 +46,10 @@ mod values;
 mod words;
 mod writing;
 
-pub use descriptor::Descriptor;
+pub use descriptor::{Descriptor, MOST_LAST};
 pub use errors::{DescError, FormatError, OpenError};
 pub use formatting::format;
 pub use opening::enter_pack;
 pub use preparing::prepare;
+pub use root::descriptor_name;
 pub use values::descriptor_page;

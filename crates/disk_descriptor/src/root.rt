@@ -42,8 +42,8 @@ pub(crate) fn root_name() -> Name
     }
 }
 
-/// The name of DiskDescriptor.
-pub(crate) fn descriptor_name() -> Name
+/// The name of DiskDescriptor in SysDir, as it is stored.
+pub fn descriptor_name() -> Name
     ensures { result ≡ descriptor_name }
 {
     match Name::stored(b"DiskDescriptor.") {

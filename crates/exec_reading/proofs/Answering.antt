@@ -31,7 +31,7 @@ use Rattle.exec_session.specs.Meant.{IfHint, IfRefused, IsTakenUpBy, LooksAbout,
 use Rattle.exec_session.specs.Turned.{FewRuns, SameBut, Turned}
 use Rattle.exec_session.proofs.Looking.{same_but_looked}
 use Rattle.exec_session.proofs.Stopping.{error_is}
-use Rattle.exec_session.proofs.Turning.{line_is_refused, line_stops_unwritten, line_writes_nothing, turned_is_a_turn}
+use Rattle.exec_session.proofs.laws.Laws.{line_is_refused, line_stops_unwritten, line_writes_nothing, turned_is_a_turn}
 use Rattle.exec_reading.specs.Reads.{IsSaid, ReadsAs, ReadsRight}
 
 -- ---- lines that read

@@ -1,10 +1,9 @@
 -- What lines that only read are refused for: the tests of their operand, in their order, and nothing else.
-use Rattle.std.proofs.Common.{◌≡◌, ℕ, Bool, true, false, not, nat_lt, List, [], ◌∷◌, ◌++◌, Option, Some, None, refl, ap, ◌∙◌, arith}
+use Rattle.std.proofs.Common.{◌≡◌, ℕ, Bool, true, false, not, nat_lt, List, [], ◌∷◌, Option, Some, None, refl, ap, ◌∙◌, arith}
 use Rattle.std.proofs.lemmas.Bool.{le-ltb}
 use Rattle.std.specs.Option.{option_or}
 use Rattle.alto_words.specs.declared.fid.Fid.{Fid}
 use Rattle.alto_words.specs.Fid.{disk_descriptor, is_directory, is_fid, sys_dir}
-use Rattle.exec_words.specs.declared.line.Line.{Line}
 use Rattle.exec_words.specs.declared.line.Line.TheVariants as line
 use Rattle.exec_words.specs.declared.line.Target.{Target}
 use Rattle.exec_words.specs.declared.line.Target.TheVariants.{ByPath, BySerial}
@@ -15,34 +14,15 @@ use Rattle.pack_model.specs.reading.Model.{Model, read_as, room}
 use Rattle.pack_model.specs.states.Sound.{Sound}
 use Rattle.disk_records.specs.Packs.{Pack}
 use Rattle.exec_session.proofs.OrdinaryFiles.{directory_of}
-use Rattle.session_model.specs.Effects.{effect}
+use Rattle.laws_session.proofs.refused.Laws.{refused_by_tests}
+use Rattle.laws_session.specs.RefusedLaws.{first_of}
 use Rattle.session_model.specs.Finding.{dir_of, file_at}
 use Rattle.session_model.specs.Operands.{Operand, Use, in_root, listed, no_directory, some_file}
-use Rattle.session_model.specs.Refusals.{by_line, dir_at, left_in, not_empty, of_taken_name, reasons, taken_target, when, when_found, when_missing, wrong_kind, wrong_system}
+use Rattle.session_model.specs.Refusals.{dir_at, left_in, not_empty, of_taken_name, taken_target, when, when_found, when_missing, wrong_kind, wrong_system}
 use Rattle.session_model.specs.Replies.{refusal as refusal_to}
 use Rattle.session_model.specs.Worlds.{World}
 use Rattle.exec_session.specs.Found.{operand, operand_tests}
 use Rattle.exec_session.specs.Meant.{IsTakenUpBy}
-
-abbrev pub first_of : List (Option Refusal) → Option Refusal
-first_of rs = first (λ r. r) rs
-
--- ---- lists of reasons
-skip : (rs more : List (Option Refusal)) → first_of rs ≡ None → first_of (rs ++ more) ≡ first_of more
-unfolding first
-skip [] more e = refl
-skip (None ∷ rs) more e = skip rs more e
-skip (Some r ∷ rs) more e = absurd (let n : Some r ≡ None = e in cc)
-
-ends : (rs more : List (Option Refusal)) → first_of more ≡ None → first_of (rs ++ more) ≡ first_of rs
-unfolding first
-ends [] more e = e
-ends (None ∷ rs) more e = ends rs more e
-ends (Some r ∷ rs) more e = refl
-
--- a line that is taken up is refused by these tests, if no other reason holds
-by_tests : (l : Line) (m : Model) (w : World) (tests more : List (Option Refusal)) → IsTakenUpBy w l → reasons l m w (effect l m w).ops ≡ by_line l w ++ (tests ++ more) → first_of more ≡ None → refusal_to l m w ≡ first_of tests
-by_tests l m w tests more taken are none = ap first_of are ∙ skip (by_line l w) (tests ++ more) taken ∙ ends tests more none
 
 -- ---- what is left after the tests of operands, of a line without operations
 others_none : (m : Model) → first_of (None ∷ None ∷ None ∷ None ∷ None ∷ None ∷ None ∷ when (nat_lt (room m) 0) (refusal.Full 0 (room m)) ∷ []) ≡ None
@@ -66,7 +46,7 @@ left_none m used h (Some f) = h f
 -- ---- each line
 pub free_refused : (m : Model) (w : World) → IsTakenUpBy w line.Free → refusal_to line.Free m w ≡ None
 unfolding first
-free_refused m w taken = by_tests line.Free m w [] (None ∷ None ∷ None ∷ None ∷ None ∷ None ∷ None ∷ when (nat_lt (room m) 0) (refusal.Full 0 (room m)) ∷ []) taken refl (others_none m)
+free_refused m w taken = refused_by_tests line.Free m w [] (None ∷ None ∷ None ∷ None ∷ None ∷ None ∷ None ∷ when (nat_lt (room m) 0) (refusal.Full 0 (room m)) ∷ []) taken refl (others_none m)
 
 type_taken : (m : Model) (target : Target) → taken_target m no_directory target ≡ None
 type_taken m (ByPath path) = refl
@@ -75,7 +55,7 @@ type_taken m (BySerial n) = refl
 pub type_refused : (m : Model) (w : World) (target : Target) → IsTakenUpBy w (line.TypeOut target) → refusal_to (line.TypeOut target) m w ≡ first_of (operand_tests m (operand target no_directory))
 type_refused m w target taken =
     let o = operand target no_directory in
-    by_tests (line.TypeOut target) m w (operand_tests m o)
+    refused_by_tests (line.TypeOut target) m w (operand_tests m o)
     (of_taken_name m o ∷ not_empty m o ∷ None ∷ None ∷ None ∷ None ∷ None ∷ None ∷ None ∷ when (nat_lt (room m) 0) (refusal.Full 0 (room m)) ∷ []) taken refl
     (more_none m (of_taken_name m o) (not_empty m o) (type_taken m target) (left_none m no_directory (λ f. refl) (file_at m target)))
 
@@ -86,13 +66,13 @@ stat_taken m (BySerial n) = refl
 pub stat_refused : (m : Model) (w : World) (target : Target) → IsTakenUpBy w (line.Stat target) → refusal_to (line.Stat target) m w ≡ first_of (operand_tests m (operand target some_file))
 stat_refused m w target taken =
     let o = operand target some_file in
-    by_tests (line.Stat target) m w (operand_tests m o)
+    refused_by_tests (line.Stat target) m w (operand_tests m o)
     (of_taken_name m o ∷ not_empty m o ∷ None ∷ None ∷ None ∷ None ∷ None ∷ None ∷ None ∷ when (nat_lt (room m) 0) (refusal.Full 0 (room m)) ∷ []) taken refl
     (more_none m (of_taken_name m o) (not_empty m o) (stat_taken m target) (left_none m some_file (λ f. refl) (file_at m target)))
 
 pub root_refused : (m : Model) (w : World) → IsTakenUpBy w (line.ListNames None) → refusal_to (line.ListNames None) m w ≡ None
 unfolding first
-root_refused m w taken = by_tests (line.ListNames None) m w [] (None ∷ None ∷ None ∷ None ∷ None ∷ None ∷ None ∷ when (nat_lt (room m) 0) (refusal.Full 0 (room m)) ∷ []) taken refl (others_none m)
+root_refused m w taken = refused_by_tests (line.ListNames None) m w [] (None ∷ None ∷ None ∷ None ∷ None ∷ None ∷ None ∷ when (nat_lt (room m) 0) (refusal.Full 0 (room m)) ∷ []) taken refl (others_none m)
 
 abbrev pub dir_operand : List ℕ → Operand
 dir_operand name = operand (ByPath (in_root name)) listed
@@ -100,7 +80,7 @@ dir_operand name = operand (ByPath (in_root name)) listed
 pub list_refused : (m : Model) (w : World) (name : List ℕ) → IsTakenUpBy w (line.ListNames (Some name)) → refusal_to (line.ListNames (Some name)) m w ≡ first_of (operand_tests m (dir_operand name))
 list_refused m w name taken =
     let o = dir_operand name in
-    by_tests (line.ListNames (Some name)) m w (operand_tests m o)
+    refused_by_tests (line.ListNames (Some name)) m w (operand_tests m o)
     (of_taken_name m o ∷ not_empty m o ∷ None ∷ None ∷ None ∷ None ∷ None ∷ None ∷ None ∷ when (nat_lt (room m) 0) (refusal.Full 0 (room m)) ∷ []) taken refl
     (more_none m (of_taken_name m o) (not_empty m o) refl (left_none m listed (λ f. refl) (file_at m (ByPath (in_root name)))))
 

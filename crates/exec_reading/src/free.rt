@@ -13,6 +13,8 @@ use page_alloc::count_free;
 use std::alloc::Global;
 
 /// The text of `free`: the number of free sectors, by a sweep of all labels. It is never refused.
+///
+/// DiskFault: the device failed. Memory: none was left for the text.
 pub fn free_pages<D: Disk>(alloc: Global, _session: &Session, disk: &mut D) -> Result<Vec<u8>, Stop>
     requires obeys { MayObey (D.tape disk.old) _session.now line.Free }
     ensures turns { IsTrue D.told → TakesLine (D.tape disk.old) (D.tape disk.new) _session.now _session.now line.Free result }

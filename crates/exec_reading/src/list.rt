@@ -87,7 +87,8 @@ fn find_slots<D: Disk>(
 
 /// The text of `list`: the names of a directory's entries by their order, each on a line, and how many there are.
 ///
-/// NoSuchName: the directory isn't there. NotADirectory: it isn't one.
+/// NoSuchName: the directory isn't there. NotADirectory: it isn't one. Misled: an address on the way to it is wrong, or one of its links.
+/// DiskFault: the device failed. Memory: none was left for the names or the text.
 pub fn list_names<D: Disk>(
     alloc: Global,
     session: &mut Session,

@@ -56,7 +56,8 @@ fn find_stat<D: Disk>(session: &mut Session, disk: &mut D, target: &Target) -> R
 
 /// The text of `stat`: a file's serial, length, pages and dates, and the name in its leader.
 ///
-/// NoSuchName: the file isn't there. SystemFile: it is DiskDescriptor.
+/// NoSuchName: the file isn't there. SystemFile: it is DiskDescriptor. Misled: an address on the way to it is wrong, or one of its links.
+/// DiskFault: the device failed. Memory: none was left for the text.
 pub fn stat_file<D: Disk>(
     alloc: Global,
     session: &mut Session,

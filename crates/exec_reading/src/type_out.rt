@@ -38,7 +38,8 @@ fn find_bytes<D: Disk>(
 
 /// The text of `type`: the bytes of a file in hex, 32 to a line, and how many there are.
 ///
-/// NoSuchName: the file isn't there. IsADirectory: it is a directory. SystemFile: it is DiskDescriptor.
+/// NoSuchName: the file isn't there. IsADirectory: it is a directory. SystemFile: it is DiskDescriptor. Misled: an address on the way to
+/// it is wrong, or one of its links. DiskFault: the device failed. Memory: none was left for the bytes or the text.
 pub fn type_file<D: Disk>(
     alloc: Global,
     session: &mut Session,

@@ -41,7 +41,7 @@ use Rattle.pack_model.specs.sessions.Meanings.{session}
 use Rattle.pack_model.specs.sessions.Moves.{IsStartOf, Obeys}
 use Rattle.pack_model.specs.sessions.Tallies.{counted}
 use Rattle.pack_model.specs.states.Sound.{mark_clean, mark_of}
-use Rattle.session_model.specs.Answering.{Answered, IsAnswer, TakesTurn, plain_reply, reply_unless}
+use Rattle.session_model.specs.Answering.{Answered, IsAnswer, IsByModel, TakesTurn, plain_reply, reply_unless}
 use Rattle.session_model.specs.Bounds.{RunsWithin}
 use Rattle.session_model.specs.Effects.{effect, ending_ops}
 use Rattle.session_model.specs.Keeping.{Formed, Keeping, Kept}
@@ -266,3 +266,10 @@ no_streams p one s keeping = ap (λ w. w.streams) keeping.world
 
 pub some_level : (p : Pack) (one : Session) (s : State) (form : Shape) → Formed form (kept one) → Keeping p (kept one) s → 1 ≤ s.world.level
 some_level p one s form formed keeping = subst (λ n. 1 ≤ n) (sym (ap (λ w. w.level) keeping.world)) formed.memory.least
+
+-- what stops a closing is no refusal, so the reply isn't one by the model
+pub never_by_model : (x : Stop) → IfRefused {T = Unit {0}} (Err x) (λ r. ⊥) → IsByModel (stopped x) → ⊥
+never_by_model (stop.Refused r) unrefused by = unrefused
+never_by_model (stop.Misled place at wanted found) unrefused by = by
+never_by_model stop.DiskFault unrefused by = by
+never_by_model stop.Memory unrefused by = by

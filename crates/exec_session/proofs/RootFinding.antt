@@ -4,7 +4,6 @@ use Rattle.std.specs.Option.{is_some, option_map}
 use Rattle.alto_words.specs.declared.fid.Fid.{Fid}
 use Rattle.alto_words.specs.declared.wanted.Wanted.TheVariants.{Exact}
 use Rattle.alto_words.specs.Fid.{disk_descriptor, is_fid, sys_dir}
-use Rattle.alto_words.specs.Names.{is_stored_name}
 use Rattle.disk_records.specs.Packs.{Pack, carried}
 use Rattle.disk_records.specs.declared.records.Page.{Page}
 use Rattle.directory.specs.Asked.{DirIsFound}
@@ -26,11 +25,6 @@ use Rattle.pack_model.specs.states.Sentences.{EachOnce}
 use Rattle.page_seeking.specs.declared.refs.FileRef.{FileRef}
 use Rattle.session_model.specs.Opening.{descriptor_entry, is_descriptor, is_root}
 use Rattle.exec_session.specs.Found.{root_ref}
-
--- ---- the name of DiskDescriptor
-pub name_is_stored : is_stored_name descriptor_name ≡ true
-unfolding is_stored_name
-name_is_stored = refl
 
 -- ---- sector 1
 root_test : (x : Page) → (is_fid x.fid sys_dir && x.number == 0) ≡ true → (x.fid ≡ sys_dir) × (x.number ≡ 0)

@@ -55,6 +55,11 @@ pub record IsFresh (moment limit : ℕ) (k : Kept) : Type 0 where
   pub world : world_of k ≡ fresh_world moment
   pub tally : k.tally ≡ no_tally limit
 
+-- a pack that carries no page twice is entered again if and only if nothing is against it
+abbrev pub OpensAgain : Pack → Result (Unit {0}) OpenError → Type 0
+OpensAgain p (Ok x) = unready p ≡ None
+OpensAgain p (Err e) = Refuses p e
+
 -- ---- after a scavenge
 -- a pack that a scavenge has left
 pub record Mended (p : Pack) : Type 0 where

@@ -20,7 +20,7 @@ pub fn answer(session: &mut Session, done: Result<Vec<u8>, Stop>) -> Reply
     }
 }
 
-/// The reply to a line, or to the end of a session, that isn't done.
+/// The reply to a line, or to the end of a session, that isn't done. After a hint failed the session needs a scavenge.
 pub fn stopped(session: &mut Session, stop: Stop) -> Reply
     ensures reply { result ≡ stopped stop }
     ensures kept { (kept session.new) ≡ kept_stopped stop (kept session.old) }

@@ -2,11 +2,11 @@
 ghost use Rattle.disk_records.specs.Causes.{HasCause};
 ghost use Rattle.disk_records.specs.Tapes.{DiskAlone, added, pack};
 ghost use Rattle.exec_session.specs.Meant.{kept};
-ghost use Rattle.exec_session.specs.Opens.{GoesOn, IsFresh, Mended, Opens, Renews, cause_of_open};
+ghost use Rattle.exec_session.specs.Opens.{GoesOn, IsFresh, Mended, Opens, OpensAgain, Renews, cause_of_open};
 ghost use Rattle.pack_model.specs.reading.Sights.{sights};
 ghost use Rattle.pack_model.specs.states.Sentences.{EachOnce};
 ghost use Rattle.session_model.specs.Keeping.{Formed};
-ghost use Rattle.std.specs.Prelude.{IfOk, IsTrue, OnOk, [], ◌≡◌};
+ghost use Rattle.std.specs.Prelude.{IfOk, IsTrue, OnErr, OnOk, [], ◌≡◌};
 
 use crate::memory::fresh_memory;
 use crate::opening::open_pack;
@@ -21,7 +21,11 @@ use std::alloc::Global;
 const ALL_LEVELS: u8 = 8;
 
 impl Session {
-    /// Opens the pack: finds SysDir at sector 1 and DiskDescriptor by its name, and enters the pack. Nothing is written.
+    /// Opens the pack: finds SysDir at sector 1 and DiskDescriptor by its name, and enters the pack. Nothing is written. Dates will be
+    /// `moment`, in seconds since the start of 1901, and `limit` is the number of record writes up to which the tally counts.
+    ///
+    /// The first of these that holds: NoRoot, NoDescriptor, WrongLength, BadDescriptor, NotClean. Misled: an address on the way to SysDir's or
+    /// DiskDescriptor's words is wrong. DiskFault: the device failed. Memory: none was left for what a session keeps.
     pub fn begin<D: Disk>(
         alloc: Global,
         disk: &mut D,
@@ -55,12 +59,18 @@ impl Session {
         })
     }
 
-    /// Enters the pack again after a scavenge, and forgets all addresses. Nothing is written.
+    /// Enters the pack again after a scavenge: what is kept of DiskDescriptor and the table are read anew, all addresses are forgotten, and no
+    /// scavenge is needed. The tally, the moment and the memory stay. Nothing is written.
+    ///
+    /// It answers as `begin` does, so on a pack that a scavenge left only DiskFault, where the device failed, or Memory, where none was left.
+    /// The session is then as before.
     pub fn renew<D: Disk>(&mut self, alloc: Global, disk: &mut D) -> Result<(), OpenError>
         requires formed { Formed (D.tape disk.old).form (kept self.old) }
+        ensures opens { IsTrue D.told → EachOnce (sights (pack (D.tape disk.old))) → OpensAgain (pack (D.tape disk.old)) result }
         ensures renews { IsTrue D.told → Mended (pack (D.tape disk.old)) → Renews (pack (D.tape disk.old)) (kept self.old) (kept self.new) result }
         ensures silent { IsTrue D.told → added (D.tape disk.old) (D.tape disk.new) ≡ [] }
         ensures goes_on { OnOk result (GoesOn (kept self.old) (kept self.new)) }
+        ensures left { OnErr result (self.new ≡ self.old) }
         ensures formed { Formed (D.tape disk.new).form (kept self.new) }
         ensures cause { HasCause cause_of_open (D.tape disk.old) (D.tape disk.new) result }
         ensures alone { DiskAlone (D.tape disk.old) (D.tape disk.new) }

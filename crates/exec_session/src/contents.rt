@@ -28,7 +28,9 @@ const PART: usize = 4096;
 /// So many parts hold the bytes of the longest file.
 const MOST_PARTS: u16 = 8192;
 
-/// The length of a file in bytes.
+/// The length of a file in bytes, at most 65,535 pages of 512.
+///
+/// Misled: the file's address or one of its links doesn't lead to its page. DiskFault: the device failed.
 pub fn length_of<D: Disk>(session: &mut Session, disk: &mut D, file: &FileRef) -> Result<u32, Stop>
     ensures length { IsTrue D.told → Sound (pack (D.tape disk.old)) → IfOk result (λ n. n ≡ file_length (pack (D.tape disk.old)) file.now.fid) }
     ensures most { IfOk result (λ n. n ≤ most_bytes) }
@@ -71,7 +73,10 @@ fn append_part<D: Disk>(
     Ok(count)
 }
 
-/// All bytes of a file, read in parts, so that each of its pages is read once and its last page needn't be known.
+/// All bytes of a file, read in parts of eight pages, so that each of its pages is read once and its last page needn't be known.
+///
+/// Misled: the file's address or one of its links doesn't lead to its page. DiskFault: the device failed. Memory: none was left for the
+/// bytes.
 pub fn bytes_of<D: Disk>(
     alloc: Global,
     session: &mut Session,

@@ -6,7 +6,7 @@ ghost use Rattle.disk_records.specs.Tapes.{DiskAlone, pack};
 ghost use Rattle.exec_session.specs.Meant.{IfHint, IfRefused, kept};
 ghost use Rattle.exec_session.specs.Stops.{cause_of_stop};
 ghost use Rattle.exec_session.specs.Ends.{IsEndAnswer, cause_of_reply};
-ghost use Rattle.session_model.specs.Answering.{TakesTurns};
+ghost use Rattle.session_model.specs.Answering.{IsByModel, TakesTurns};
 ghost use Rattle.session_model.specs.Keeping.{Formed};
 ghost use Rattle.session_model.specs.Turning.{ended, typed};
 ghost use Rattle.std.specs.Prelude.{IsTrue, OnErr, OnOk, false, length, true, ◌*◌, ◌≡◌};
@@ -40,7 +40,11 @@ fn close<D: Disk>(session: &mut Session, disk: &mut D) -> Result<(), Stop>
 }
 
 impl Session {
-    /// Ends the session: closes the pack; in need of a scavenge nothing is done.
+    /// Ends the session: closes the pack, at most two sector commands and one record write for each data page of DiskDescriptor. In need of a
+    /// scavenge nothing is done. The reply is done without text if the pack is closed or nothing was to be done.
+    ///
+    /// DiskFault: the device failed, and a prefix of the record writes is made, perhaps all. Memory: none was left for a record write. On a
+    /// disk that isn't modelled HintFailed may come too, of a sector that is kept.
     pub fn end<D: Disk>(&mut self, alloc: Global, disk: &mut D) -> Reply
         requires formed { Formed (D.tape disk.old).form (kept self.old) }
         ensures turns { IsTrue D.told → TakesTurns (D.tape disk.old) (D.tape disk.new) (kept self.old) (kept self.new) ended result }
@@ -60,10 +64,11 @@ impl Session {
     }
 }
 
-/// `quit`: ends the session.
+/// `quit`: ends the session as `Session::end` does, with the same errors, and the reply to a pack that was closed is the end.
 pub fn quit<D: Disk>(session: &mut Session, disk: &mut D) -> Reply
     requires formed { Formed (D.tape disk.old).form (kept session.old) }
     ensures turns { IsTrue D.told → TakesTurns (D.tape disk.old) (D.tape disk.new) (kept session.old) (kept session.new) (typed line.Quit) result }
+    ensures unrefused { IsByModel result → ⊥ }
     ensures idle { (kept session.old).need ≡ true → (D.tape disk.new) ≡ (D.tape disk.old) }
     ensures limit { (kept session.new).tally.limit ≡ (kept session.old).tally.limit }
     ensures formed { Formed (D.tape disk.new).form (kept session.new) }

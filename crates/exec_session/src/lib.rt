@@ -61,6 +61,6 @@ pub use operands::{Found, ROOT, find_dir, find_path};
 pub use page_seeking::FileRef;
 pub use reserving::{require_serial, reserve_pages};
 pub use rooms::{NewEntry, plan_entry};
-pub use session::Session;
+pub use session::{Session, limit_of};
 pub use stop::{Stop, entered, refused, written};
 pub use targets::{find_ordinary, find_target};

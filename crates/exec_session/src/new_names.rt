@@ -64,7 +64,8 @@ fn refuse_entry<D: Disk>(
 
 /// The name that a new entry of a directory gets: the one that is stated with its version, or the version after the greatest of its base.
 ///
-/// NameTaken: the base is the name of a directory or of a system file; the stated name is there; or no version is left.
+/// NameTaken: the base is the name of a directory or of a system file; the stated name is there; or no version is left. Misled: the
+/// directory's address or one of its links is wrong. DiskFault: the device failed.
 pub fn name_given<D: Disk>(
     session: &mut Session,
     disk: &mut D,
@@ -93,7 +94,8 @@ pub fn name_given<D: Disk>(
     }
 }
 
-/// NameTaken: some entry of the directory has this bare name as its base, so that no directory can get it.
+/// NameTaken: some entry of the directory has this bare name as its base, so that no directory can get it. Misled: the directory's address
+/// or one of its links is wrong. DiskFault: the device failed.
 pub fn refuse_held_base<D: Disk>(
     session: &mut Session,
     disk: &mut D,

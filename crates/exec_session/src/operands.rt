@@ -40,7 +40,7 @@ pub struct Found {
 
 /// The directory of this name in SysDir, or SysDir where no name is typed; whether it is a directory isn't looked at.
 ///
-/// NoSuchName: SysDir has no such entry.
+/// NoSuchName: SysDir has no such entry. Misled: SysDir's address or one of its links is wrong. DiskFault: the device failed.
 pub fn find_dir<D: Disk>(
     session: &mut Session,
     disk: &mut D,
@@ -65,7 +65,8 @@ pub fn find_dir<D: Disk>(
 
 /// The file that a path means, with its directory and the name of its entry.
 ///
-/// NoSuchName: the directory isn't there or is none, or has no such entry.
+/// NoSuchName: the directory isn't there or is none, or has no such entry. Misled: an address on the way to it, or a link of SysDir or of the
+/// directory, is wrong. DiskFault: the device failed.
 pub fn find_path<D: Disk>(session: &mut Session, disk: &mut D, path: &Path) -> Result<Found, Stop>
     ensures found { IsTrue D.told → Sound (pack (D.tape disk.old)) → IfOk result (IsAtPath (pack (D.tape disk.old)) path.now) }
     ensures absent { IsTrue D.told → Sound (pack (D.tape disk.old)) → IfRefused result (IsNoneAt (pack (D.tape disk.old)) (ByPath path.now)) }

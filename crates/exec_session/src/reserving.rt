@@ -15,15 +15,15 @@ ghost use Rattle.std.specs.Prelude.{All, IfOk, IsTrue, OnErr, OnOk, length, min,
 
 use crate::session::Session;
 use crate::stop::{Stop, refused};
+use disk_descriptor::MOST_LAST;
 use disk_records::Disk;
 use exec_words::Refusal;
 use page_alloc::reserve;
 use std::alloc::Global;
 
-/// The last serial from which none is left to give.
-const MOST_LAST: u32 = 2_147_483_646;
-
-/// SerialsSpent: no serial is left for a new file.
+/// Refuses a line that makes a file where no serial is left for it.
+///
+/// SerialsSpent: the last serial given out is 2,147,483,646 or more.
 #[tactic(auto, unfolding(session_model::specs::Refusals::most_serials))]
 pub fn require_serial(session: &Session) -> Result<(), Stop>
     ensures { result ≡ refused_if (nat_le most_serials session.now.descriptor.last) (Refusal.SerialsSpent session.now.descriptor.last) }
@@ -35,9 +35,10 @@ pub fn require_serial(session: &Session) -> Result<(), Stop>
     Ok(())
 }
 
-/// Takes free sectors for all pages that a line adds: their virtual addresses, rising. They are busy in the table from now on.
+/// Takes free sectors for all pages that a line adds, at most 65,535: their virtual addresses, rising. They are busy in the table from now
+/// on. Each that the table offers is looked at by its label; where too few are free, all labels are swept once.
 ///
-/// Full: fewer are free, by their labels.
+/// Full: fewer are free, by their labels. DiskFault: the device failed. Memory: none was left for the addresses.
 pub fn reserve_pages<D: Disk>(
     alloc: Global,
     session: &mut Session,

@@ -40,7 +40,7 @@ pub struct NewEntry {
 }
 
 impl NewEntry {
-    /// How many pages come before the entry.
+    /// How many pages come before the entry, 0 to 2.
     pub fn pages(&self) -> usize
         ensures { result ≡ pages_planned self.now }
     {
@@ -87,6 +87,8 @@ fn lacks_own_room<D: Disk>(
 }
 
 /// What an entry of this name in this directory takes, by the directories as they are now.
+///
+/// Misled: an address or a link of SysDir or of the directory is wrong. DiskFault: the device failed.
 pub fn plan_entry<D: Disk>(
     session: &mut Session,
     disk: &mut D,

@@ -6,14 +6,13 @@ ghost use Rattle.disk_records.specs.Packs.{carried};
 ghost use Rattle.disk_records.specs.Tapes.{Looks, pack};
 ghost use Rattle.exec_session.specs.Found.{root_ref};
 ghost use Rattle.exec_session.specs.Opens.{DescriptorRefused, RootRefused, cause_of_open, root_error};
-ghost use Rattle.pack_model.specs.reading.Namings.{descriptor_name};
 ghost use Rattle.session_model.specs.Opening.{descriptor_entry, is_descriptor, is_root};
 ghost use Rattle.std.specs.Prelude.{IfErr, IfOk, IsTrue, OnOk, true, ◌*◌, ◌≡◌};
 
 use crate::operands::ROOT;
-use alto_words::{Fid, Name, Wanted};
+use alto_words::{Fid, Wanted};
 use directory::{DirError, lookup};
-use disk_descriptor::OpenError;
+use disk_descriptor::{OpenError, descriptor_name};
 use disk_records::{Disk, Page, Sector};
 use hint_cache::Hints;
 use label_check::{GuardError, read_page};
@@ -59,16 +58,6 @@ fn root_error(error: FileError) -> OpenError
         FileError::Beyond { .. } => OpenError::NoDescriptor,
         FileError::DiskFault => OpenError::DiskFault,
         FileError::Memory => OpenError::Memory,
-    }
-}
-
-/// The name of DiskDescriptor.
-fn descriptor_name() -> Name
-    ensures { result ≡ descriptor_name }
-{
-    match Name::stored(b"DiskDescriptor.") {
-        Some(name) => name,
-        None => unreachable!(),
     }
 }
 

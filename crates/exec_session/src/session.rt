@@ -25,8 +25,9 @@ pub struct Session {
     pub need: bool,
 }
 
-/// The number of record writes up to which a session's tally counts, a number of 64 bits.
-pub(crate) fn limit_of(session: &Session) -> u64
+/// The number of record writes up to which a session's tally counts: a number of 64 bits. A step reads it before its call, so that this is
+/// known of it.
+pub fn limit_of(session: &Session) -> u64
     ensures { result ≡ session.now.tally.limit }
 {
     session.tally.limit

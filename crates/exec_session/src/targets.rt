@@ -25,7 +25,8 @@ use page_seeking::FileRef;
 
 /// The file that an operand means: by its path, or the living one of least full name with its serial, for which all labels are swept.
 ///
-/// NoSuchName: there is none.
+/// NoSuchName: there is none. Misled: an address on the way to it, or a link of SysDir or of its directory, is wrong. DiskFault: the device
+/// failed.
 pub fn find_target<D: Disk>(
     session: &mut Session,
     disk: &mut D,
@@ -47,7 +48,8 @@ pub fn find_target<D: Disk>(
 
 /// The file that an operand means, where it has to be an ordinary one.
 ///
-/// NoSuchName: there is none. IsADirectory: it is a directory. SystemFile: it is DiskDescriptor. In this order.
+/// NoSuchName: there is none. IsADirectory: it is a directory. SystemFile: it is DiskDescriptor. In this order. Misled: an address on the way
+/// to it, or a link of SysDir or of its directory, is wrong. DiskFault: the device failed.
 pub fn find_ordinary<D: Disk>(
     session: &mut Session,
     disk: &mut D,

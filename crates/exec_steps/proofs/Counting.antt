@@ -4,6 +4,7 @@ use Rattle.disk_records.specs.Events.{IsFirstOf}
 use Rattle.disk_records.specs.Packs.{Pack, after}
 use Rattle.disk_records.specs.declared.records.Event.{Event}
 use Rattle.disk_records.specs.declared.records.Tally.{Tally}
+use Rattle.laws_steps.proofs.runs.Laws as runs
 use Rattle.pack_model.specs.operations.Operations.Move.{commits, mends, quiet}
 use Rattle.pack_model.specs.operations.Operations.{Move}
 use Rattle.pack_model.specs.sessions.Moves.{Meaning, Obeys, rest, steps, write}
@@ -11,8 +12,7 @@ use Rattle.pack_model.specs.sessions.Tallies.{counted, took_effect}
 
 -- ---- as many as record writes
 pub obeys_many : {M O : Type 0} {means : Meaning M O} {m : M} {p : Pack} {writes : List Event} {moves : List O} → Obeys means m p writes moves → length writes ≡ length moves
-obeys_many (rest here) = refl
-obeys_many (write here makes later) = ap suc (obeys_many later)
+obeys_many {means = means} {m = m} {p = p} {writes = writes} {moves = moves} obeys = runs.obeys_many means m p writes moves obeys
 
 pub first_few : (writes some : List Event) → IsFirstOf writes some → length some ≤ length writes
 first_few writes [] h = omega arith

@@ -5,7 +5,6 @@ mod Entries
 mod Grown
 pub mod Joining
 mod Lining
-mod Named
 mod NewFile
 mod NextFile
 mod Opening

@@ -1,12 +1,12 @@
 -- A step of a line: a call that is to do one operation, from wherever the line is midway.
-use Rattle.std.proofs.Common.{All, AllPairs, Contains, Err, List, Ok, OnOk, Option, Result, [], ap, append-nil, append_assoc, arith, length, length-append, refl, slice_index_or, subst, suc, sym, take, take_all, true, zero, ℕ, ◌++◌, ◌+◌, ◌<◌, ◌^◌, ◌∙◌, ◌∷◌, ◌≡◌, ◌≢◌, ◌≤◌}
+use Rattle.std.proofs.Common.{All, AllPairs, Err, List, Ok, OnOk, Option, Result, [], ap, append-nil, append_assoc, arith, length, length-append, refl, slice_index_or, subst, suc, sym, take, take_all, true, zero, ℕ, ◌++◌, ◌+◌, ◌<◌, ◌^◌, ◌∙◌, ◌∷◌, ◌≡◌, ◌≢◌, ◌≤◌}
 use Rattle.std.proofs.lemmas.List.Elements.{All-cons, All-head, All-nil, All-tail}
 use Rattle.std.proofs.lemmas.List.Kept.{AllPairs-cons}
 use Rattle.alto_words.specs.declared.fid.Fid.{Fid}
 use Rattle.disk_records.proofs.FirstOnes.{first_all}
 use Rattle.disk_records.proofs.Growing.{added-twice, after-append, grown_twice, pack-after}
 use Rattle.disk_records.specs.Packs.{Pack, after, is_free_at}
-use Rattle.disk_records.specs.Tapes.{Grown, Taped, added, pack}
+use Rattle.disk_records.specs.Tapes.{Taped, added, pack}
 use Rattle.disk_records.specs.Words.{word}
 use Rattle.disk_records.specs.declared.records.Event.{Event}
 use Rattle.disk_records.specs.declared.records.Page.{Page}
@@ -16,7 +16,7 @@ use Rattle.laws_call.proofs.counts.Laws.{call_is_counted, call_is_counted_on}
 use Rattle.laws_call.proofs.going.Laws.{call_joins}
 use Rattle.laws_call.proofs.writing.Laws.{written_stays_known}
 use Rattle.laws_call.specs.Acting.{BeganToWrite, Operates, around, begun, refused}
-use Rattle.laws_call.specs.CountLaws.{CountedSoFar, CountsOn}
+use Rattle.laws_call.specs.CountLaws.{CountedSoFar}
 use Rattle.laws_call.specs.Going.{Goes}
 use Rattle.laws_hint.proofs.lines.Laws.{links_join}
 use Rattle.laws_hint.proofs.tables.Laws.{operations_use_the_table}
@@ -48,7 +48,9 @@ use Rattle.exec_session.specs.Meant.{IfHint}
 use Rattle.exec_session.specs.declared.stop.Stop.{Stop}
 use Rattle.exec_session.specs.declared.stop.Stop.TheVariants as stop
 use Rattle.exec_steps.proofs.Counting.{first_few, limit_stays, obeys_many, take_past}
-use Rattle.exec_steps.specs.Midway.{AreFree, Midway, Stepped, StepsOn, moves_so_far, opened_pack}
+use Rattle.exec_steps.specs.Midway.{AreFree, Midway, Stepped, moves_so_far, opened_pack}
+use Rattle.exec_steps.specs.Steps.{CallIsAStep}
+pub use Rattle.exec_steps.specs.Steps.{Calls, KeepsFitting}
 
 -- ---- moves of operations, one after another
 pub moves_append : (m : Model) (ops more : List Operation) → moves_of_all m (ops ++ more) ≡ moves_of_all m ops ++ moves_of_all (steps_of m ops) more
@@ -121,19 +123,6 @@ if_hint_weaker P Q (Err stop.DiskFault) f h = tt
 if_hint_weaker P Q (Err stop.Memory) f h = tt
 
 -- ---- a call from a line midway
--- what is kept of DiskDescriptor fits where it fitted
-abbrev pub KeepsFitting : Kept → Kept → Type 0
-KeepsFitting two three = (q : Pack) → DescriptorFits q two.shape two.last two.mark two.pages → DescriptorFits q three.shape three.last three.mark three.pages
-
--- The call is to do the operation, on a machine that counts its record writes; a hint that misled is one of these files.
-pub record Calls {T : Type 0} (now new : Taped) (two three : Kept) (o : Operation) (claimed : List ℕ) (files : List Fid) (result : Result T Stop) : Type 0 where
-  pub operates : Operates stop.DiskFault stop.Memory o claimed (around now two.busy two.tally) (around new three.busy three.tally) result
-  pub grown : Grown now new
-  pub counts : CountsOn now new
-  pub low : two.tally.limit < 2 ^ 64
-  pub keeps : KeepsFitting two three
-  pub hints : IfHint result (λ place at wanted found. Contains files wanted.fid × AnswersMisled (pack now) (added now new) place at wanted found)
-
 module _ (old now new : Taped) (one two three : Kept) (at : ℕ) (done all : List Operation) (o : Operation) (claimed rest : List ℕ) (files : List Fid) (none : serial_moves o ≡ []) (m : Midway old now one two at done all (claimed ++ rest)) where
   abbrev p : Pack
   p = pack old
@@ -266,7 +255,9 @@ module _ (old now new : Taped) (one two three : Kept) (at : ℕ) (done all : Lis
       failing = step_failing result c;
     }
 
--- the call is a step of each line that is midway
-pub step_of_operates : {T : Type 0} (now new : Taped) (two three : Kept) (o : Operation) (claimed : List ℕ) (files : List Fid) (result : Result T Stop) → serial_moves o ≡ [] → Calls now new two three o claimed files result
-    → StepsOn now new two three (o ∷ []) claimed files result
-step_of_operates {T} now new two three o claimed files result none c old one at done all rest m = steps_from old now new one two three at done all o claimed rest files none m T result c
+pub call_is_a_step : (T : Type 0) → CallIsAStep T
+call_is_a_step T now new two three o claimed files result none c old one at done all rest m = steps_from old now new one two three at done all o claimed rest files none m T result c
+
+-- the same, of the type that the call answers
+pub step_of_operates : {T : Type 0} → CallIsAStep T
+step_of_operates {T} = call_is_a_step T

@@ -17,16 +17,12 @@ ghost use Rattle.std.specs.Prelude.{IsTrue, List, [], length, take, true, ℕ, �
 
 use directory::widen;
 use disk_records::{Disk, Sector};
-use exec_session::{FileRef, NewEntry, ROOT, Session, Stop, entered};
+use exec_session::{FileRef, NewEntry, ROOT, Session, Stop, entered, limit_of};
 
-/// The number of record writes up to which a session's tally counts, a number of 64 bits.
-pub(crate) fn limit_of(session: &Session) -> u64
-    ensures { result ≡ session.now.tally.limit }
-{
-    session.tally.limit
-}
-
-/// Opens the mark, if it isn't open.
+/// Opens the mark, if it isn't open: one record write in three sector commands.
+///
+/// Misled: the sector that is kept doesn't carry DiskDescriptor's first page, and nothing was written. DiskFault: the device failed. Memory:
+/// none was left for the record write.
 pub fn open_mark<D: Disk>(session: &mut Session, disk: &mut D) -> Result<(), Stop>
     requires shape { session.old.descriptor.shape ≡ (D.tape disk.old).form }
     ensures starts { (one : Kept) (at : ℕ) (reserved : List ℕ) → IsTrue D.told → MayStart (pack (D.tape disk.old)) one (kept session.old) at reserved → Started (D.tape disk.old) (D.tape disk.new) one (kept session.new) at reserved result }
@@ -96,7 +92,10 @@ fn widen_if<D: Disk>(
     }
 }
 
-/// Gives SysDir and the entry's directory a page more, each where the plan says so, in the first of these sectors.
+/// Gives SysDir and the entry's directory a page more, each where the plan says so, in the first of these sectors: virtual addresses.
+///
+/// Misled: a directory's address or one of its links doesn't lead to its page. DiskFault: the device failed. Memory: none was left for a
+/// record write. After each of them a prefix of the record writes was done, on a modelled disk.
 pub fn widen_first<D: Disk>(
     session: &mut Session,
     disk: &mut D,

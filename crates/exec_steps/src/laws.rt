@@ -1,7 +1,12 @@
-//! How steps of a line join, and what a line is that is done or broke off: each law is what a function of its name ensures. The functions
-//! do nothing.
+//! Which call is a step of a line, how steps join, and what a line is that is done or broke off: each law is what a function of its name
+//! ensures. The functions do nothing.
 ghost use Rattle.exec_steps.specs.Lines.{LineIsDone, LineStops, LinesBreakOff};
-ghost use Rattle.exec_steps.specs.Steps.{NamedPageStays, StepStops, StepsJoin};
+ghost use Rattle.exec_steps.specs.Steps.{CallIsAStep, StepStops, StepsJoin};
+
+/// A call that is to do one operation, on a machine that counts its record writes, is a step with it from wherever a line is midway.
+pub fn call_is_a_step<T>()
+    ensures { CallIsAStep T }
+{}
 
 /// Two steps of a line, one after the other, are a step with the operations of both.
 pub fn steps_join<T, U>()
@@ -23,12 +28,7 @@ pub fn lines_break_off<T>()
     ensures { LinesBreakOff T }
 {}
 
-/// It is answered by a fault, by out of memory, or by a hint that misled.
+/// A line that broke off is answered by a fault, by out of memory, or by a hint that misled.
 pub fn line_stops()
     ensures { LineStops }
-{}
-
-/// The last page that a leader names is as near the end as it was where record writes leave all files but another one as they were.
-pub fn named_page_stays()
-    ensures { NamedPageStays }
 {}

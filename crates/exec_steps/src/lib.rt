@@ -12,7 +12,8 @@
 //! 3. From wherever the line is midway, a step goes on with it for every answer, and the line is midway at Ok with the step's operations
 //!    (`steps`): at most one record write a move, counted by the tally; files that were found are found still; a hint that misleads misled as
 //!    the line began, and is one of the step's files.
-//! 4. Two steps in a row are a step with the operations of both, and a step that isn't done ends what was to come (`laws`).
+//! 4. A call that is to do one operation is a step with it. Two steps in a row are a step with the operations of both, and a step that
+//!    isn't done ends what was to come (`laws`).
 //! 5. A line of the operating system whose operations are all done is answered by its plain reply; one that broke off made a prefix of its
 //!    moves, and is answered by a fault, by out of memory or by a hint that misled (`laws`).
 //!

@@ -17,11 +17,11 @@ ghost use Rattle.pack_model.specs.reading.Files.{place};
 ghost use Rattle.pack_model.specs.reading.Sights.{sights};
 ghost use Rattle.std.specs.Prelude.{IfOk, IsTrue, List, OnOk, Some, [], length, take, true, ◌+◌, ◌^◌, ◌∷◌, ◌≡◌, ◌≤◌, ◌<◌, ℕ, ◌++◌};
 
-use crate::beginning::{limit_of, widen_first};
+use crate::beginning::widen_first;
 use alto_words::Fid;
 use directory::enter;
 use disk_records::{Disk, Place, Sector};
-use exec_session::{FileRef, NewEntry, Session, Stop, entered, written};
+use exec_session::{FileRef, NewEntry, Session, Stop, entered, limit_of, written};
 use file_pages::make;
 
 /// The file with this full name and with its leader in this sector.
@@ -86,7 +86,10 @@ fn make_next<D: Disk>(
     Ok(file)
 }
 
-/// Enters a file in its directory.
+/// Enters a file in its directory, with this virtual address of its leader.
+///
+/// Misled: the directory's address or one of its links doesn't lead to its page. DiskFault: the device failed. Memory: none was left for a
+/// record write. After each of them a prefix of the record writes was done, on a modelled disk.
 pub fn enter_file<D: Disk>(
     session: &mut Session,
     disk: &mut D,
@@ -118,8 +121,11 @@ pub fn enter_file<D: Disk>(
     entered(&entry.dir, answer)
 }
 
-/// Makes a new file and enters it, after the pages of directories and the new serial. The first of these sectors are for the pages of
-/// directories, the next two for the file.
+/// Makes a new file and enters it, after the pages of directories and the new serial. The first of these sectors, virtual addresses, are for
+/// the pages of directories, the next two for the file: its leader, and its first data page, which has no bytes.
+///
+/// Misled: an address or a link of a directory doesn't lead to its page. DiskFault: the device failed. Memory: none was left for a record
+/// write. After each of them a prefix of the record writes was done, on a modelled disk.
 pub fn make_entered<D: Disk>(
     session: &mut Session,
     disk: &mut D,

@@ -11,12 +11,14 @@ ghost use Rattle.page_seeking.specs.Seeking.{LastNamed, NamedNearEnd, Quick, Qui
 ghost use Rattle.session_model.specs.Streams.{grows};
 ghost use Rattle.std.specs.Prelude.{IsTrue, OnOk, [], length, ℕ, ◌*◌, ◌+◌, ◌∷◌, ◌≡◌, ◌≤◌};
 
-use crate::beginning::limit_of;
 use disk_records::{Disk, Sector};
-use exec_session::{FileRef, Session, Stop, written};
+use exec_session::{FileRef, Session, Stop, limit_of, written};
 use file_pages::{grow, stamp};
 
-/// Puts bytes after those of a file, if there are some, with these sectors for the pages that come.
+/// Puts bytes after those of a file, if there are some, with these sectors for the pages that come: virtual addresses.
+///
+/// Misled: the file's address or one of its links doesn't lead to its page. DiskFault: the device failed. Memory: none was left for a record
+/// write. After each of them a prefix of the record writes was done, on a modelled disk.
 pub fn grow_file<D: Disk>(
     session: &mut Session,
     disk: &mut D,
@@ -54,7 +56,10 @@ pub fn grow_file<D: Disk>(
     written(file, grown)
 }
 
-/// Gives a file the session's moment as its written date.
+/// Gives a file the session's moment as its written date: one record write, of its leader's value.
+///
+/// Misled: the file's address or one of its links doesn't lead to its page. DiskFault: the device failed. Memory: none was left for the record
+/// write. The date may be written after DiskFault.
 pub fn stamp_file<D: Disk>(session: &mut Session, disk: &mut D, file: &FileRef) -> Result<(), Stop>
     requires shape { session.old.descriptor.shape ≡ (D.tape disk.old).form }
     requires sized { length session.old.hints.table ≡ pages_of (D.tape disk.old).form }

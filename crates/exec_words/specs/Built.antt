@@ -1,9 +1,27 @@
 -- Which lines this program obeys.
-use Rattle.exec_words.specs.declared.line.Target.TheVariants.{BySerial}
+use Rattle.std.specs.Prelude.{Bool, true, false, cond}
 use Rattle.exec_words.specs.declared.line.Line.{Line}
 use Rattle.exec_words.specs.declared.line.Line.TheVariants as line
 
--- the line, or a bad one where its verb isn't built yet: today `patch` of a file by its serial is
+-- those on files and directories, and those that need neither: lines on streams, zones, levels and worlds wait, and so does `scavenge`
+abbrev pub is_built : Line → Bool
+is_built (line.ListNames dir) = true
+is_built (line.TypeOut file) = true
+is_built (line.Stat file) = true
+is_built (line.Make path) = true
+is_built (line.Append file bytes) = true
+is_built (line.Patch file offset bytes) = true
+is_built (line.Cut file n) = true
+is_built (line.Copy file path) = true
+is_built (line.Rename old new) = true
+is_built (line.Delete path) = true
+is_built (line.MakeDir name) = true
+is_built (line.RemoveDir name) = true
+is_built line.Free = true
+is_built (line.SetTime moment) = true
+is_built line.Quit = true
+is_built l = false
+
+-- the line, or a bad one where its verb isn't built yet
 abbrev pub as_built : Line → Line
-as_built (line.Patch (BySerial serial) offset bytes) = line.Patch (BySerial serial) offset bytes
-as_built l = line.Bad
+as_built l = cond (is_built l) l line.Bad

@@ -1,24 +1,52 @@
 // Which lines this program obeys.
 ghost use Rattle.std.specs.Prelude.{◌≡◌};
-ghost use Rattle.exec_words.specs.Built.{as_built};
+ghost use Rattle.exec_words.specs.Built.{is_built, as_built};
 
-use crate::line::{Line, Target};
+use crate::line::Line;
 
-/// The line itself if this program obeys lines of its verb, and `Bad` if their verb isn't built yet. Today `patch` is, of a file that
-/// is named by its serial.
+/// Whether this program obeys lines of this verb: those on files and directories, and `free`, `settime` and `quit`. Lines on streams,
+/// zones, levels and worlds wait, and so does `scavenge`.
+pub fn is_built(line: &Line) -> bool
+    ensures { result ≡ is_built line.now }
+{
+    match line {
+        Line::ListNames { .. }
+        | Line::TypeOut { .. }
+        | Line::Stat { .. }
+        | Line::Make { .. }
+        | Line::Append { .. }
+        | Line::Patch { .. }
+        | Line::Cut { .. }
+        | Line::Copy { .. }
+        | Line::Rename { .. }
+        | Line::Delete { .. }
+        | Line::MakeDir { .. }
+        | Line::RemoveDir { .. }
+        | Line::Free
+        | Line::SetTime { .. }
+        | Line::Quit => true,
+        Line::OpenStream { .. }
+        | Line::Get { .. }
+        | Line::PutBytes { .. }
+        | Line::Seek { .. }
+        | Line::Close { .. }
+        | Line::Store { .. }
+        | Line::Fetch { .. }
+        | Line::Block { .. }
+        | Line::Unblock { .. }
+        | Line::Junta { .. }
+        | Line::CounterJunta
+        | Line::OutLoad { .. }
+        | Line::InLoad { .. }
+        | Line::Scavenge
+        | Line::Bad => false,
+    }
+}
+
+/// The line itself if this program obeys lines of its verb (`is_built`), and `Bad` if their verb isn't built yet: lines on streams, zones,
+/// levels and worlds wait, and so does `scavenge`.
 pub fn as_built(line: Line) -> Line
     ensures { result ≡ as_built line }
 {
-    match line {
-        Line::Patch {
-            file: Target::BySerial { serial },
-            offset,
-            bytes,
-        } => Line::Patch {
-            file: Target::BySerial { serial },
-            offset,
-            bytes,
-        },
-        _ => Line::Bad,
-    }
+    if is_built(&line) { line } else { Line::Bad }
 }

@@ -6,9 +6,10 @@
 //! above:
 //! 1. `read_line` answers exactly the line that a text is by the grammar, and `Bad` if and only if it is none. The grammar is one table, a
 //!    verb with its operands in each row (`Grammar`).
-//! 2. Each line that can be typed is read from some text, and no other line from any (`laws`).
+//! 2. Each line that can be typed is read from some text, and no other line from any (`laws`). `is_typed` tells which can be.
 //! 3. `reply_text` answers exactly the text of a reply, and the calls beside it those of lines that are done (`Texts`).
-//! 4. Which lines this program obeys says `as_built`; it makes every other a bad line.
+//! 4. `is_built` tells which lines this program obeys: those on files and directories, `free`, `settime` and `quit`. `as_built` makes every
+//!    other a bad line.
 //! Not promised: that memory is left for the bytes of a line, or for a text; how long anything takes.
 #![tactic(auto)]
 
@@ -22,9 +23,10 @@ mod read;
 mod refusal;
 mod reply;
 mod texts;
+mod typed;
 
 pub use alto_words::Wanted;
-pub use built::as_built;
+pub use built::{as_built, is_built};
 pub use disk_records::Place;
 pub use line::{Line, Path, Target};
 pub use read::read_line;
@@ -34,3 +36,4 @@ pub use texts::{
     at_text, done_text, free_text, got_text, length_text, level_text, made_text, names_text,
     not_written_text, report_text, stat_text, stream_text, type_text, word_text, written_text,
 };
+pub use typed::is_typed;

@@ -12,7 +12,7 @@ use std::alloc::Global;
 const IN_DIR: u8 = b'>';
 
 /// The greatest number of a stream.
-const LAST_STREAM: u32 = 7;
+pub(crate) const LAST_STREAM: u32 = 7;
 
 /// Why a text gives no line.
 #[derive(Clone, Copy, Debug, PartialEq, Eq)]

@@ -13,16 +13,16 @@ use alto_words::{Memory, Name, read_number};
 use std::alloc::Global;
 
 /// A longer line is a bad line.
-const LONGEST_LINE: usize = 4096;
+pub(crate) const LONGEST_LINE: usize = 4096;
 
 /// Words are parted by single spaces.
 const SPACE: u8 = b' ';
 
 /// The most bytes that a line puts into a file.
-const MOST_BYTES: usize = 2000;
+pub(crate) const MOST_BYTES: usize = 2000;
 
 /// The most bytes of a message to a world.
-const MOST_MESSAGE: usize = 40;
+pub(crate) const MOST_MESSAGE: usize = 40;
 
 /// The line of a verb alone.
 fn alone(verb: &[u8]) -> Option<Line>

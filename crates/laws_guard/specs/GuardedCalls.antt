@@ -2,9 +2,11 @@
 use Rattle.std.specs.Prelude.{Bool, IsErrOf, List, Ok, OnOk, Result, [], false, length, take, true, ℕ, ◌++◌, ◌<◌, ◌∷◌, ◌≡◌}
 use Rattle.alto_words.specs.declared.fid.Fid.{Fid}
 use Rattle.disk_records.specs.Events.{IsFirstOf, writes_in}
+use Rattle.disk_records.specs.Packs.{Pack}
 use Rattle.disk_records.specs.Tapes.{Grown, Taped, added, capped, pack}
 use Rattle.disk_records.specs.declared.records.Event.{Event}
 use Rattle.disk_records.specs.declared.records.Tally.{Tally}
+use Rattle.label_check.specs.Guarded.{Guarded}
 use Rattle.label_check.specs.declared.errors.GuardError.TheVariants as guard
 use Rattle.label_check.specs.declared.errors.GuardError.{GuardError}
 use Rattle.laws_call.specs.Acting.{Around, Operates, Releases}
@@ -27,11 +29,16 @@ pub record ByPart (before part later : List Event) (first last : Taped) (inner :
   pub want : IsErrOf inner guard.Memory → first.spare < length (before ++ (part ++ later))
 
 -- What a guarded command for these record writes says of them, whatever its guard: a prefix of them was written, at Ok all, and it is out
--- of memory only if fewer events were kept ready. `guarded_writes` of proofs/inside/Guards gives it.
+-- of memory only if fewer events were kept ready.
 pub record WritesPart (part : List Event) (old new : Taped) (inner : Result (Unit {0}) GuardError) : Type 0 where
   pub prefix : IsFirstOf part (added old new)
   pub ok : OnOk inner (added old new ≡ part)
   pub less : IsErrOf inner guard.Memory → old.spare < length part
+
+-- So it does where its guard asks what something of the pack is, as the page that a sector carries, or whether the sector is free.
+abbrev pub GuardedWrites : Type 0 → Type 0
+GuardedWrites T = (asked : Pack → T) (wanted : T) (at : ℕ) (early writes : List Event) (count : ℕ) (old new : Taped) (inner : Result (Unit {0}) GuardError)
+    → Guarded (λ p. asked p ≡ wanted) at early writes count old new inner → WritesPart writes old new inner
 
 -- All before the part was written, and then a guarded command is for it: the step of a loop, and the end of a call.
 abbrev pub NextPart : Type 0

@@ -1,6 +1,11 @@
 //! Calls by their guarded commands.
 
-ghost use Rattle.laws_guard.specs.GuardedCalls.{GuardedCallOperates, GuardedCallReleases, LookBeforeOperates, NextPart};
+ghost use Rattle.laws_guard.specs.GuardedCalls.{GuardedCallOperates, GuardedCallReleases, GuardedWrites, LookBeforeOperates, NextPart};
+
+/// A guarded command writes a prefix of its record writes, at Ok all of them, and is out of memory only if fewer events were kept ready.
+pub fn guarded_writes<T>()
+    ensures { GuardedWrites T }
+{}
 
 /// A guarded command for the next part of a list of record writes: for every answer there is a prefix of the list, and at Ok all of the
 /// part.

@@ -22,7 +22,13 @@ pub mod Revalued
 pub mod Reworded
 pub mod RootMade
 pub mod RootMoved
+pub mod RootWidened
 pub mod Shortened
 pub mod Slotting
 pub mod SystemPages
 pub mod WholePacks
+pub mod Widened
+pub mod WidenedParts
+pub mod WideningBytes
+pub mod WideningPlain
+pub mod WideningWords

@@ -6,3 +6,4 @@ pub mod Parts
 pub mod RunLaws
 pub mod SlotLaws
 pub mod Tending
+pub mod WidenLaws

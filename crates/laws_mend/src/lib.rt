@@ -7,7 +7,8 @@
 //! The laws of joins: mendings one after another, broken off, and what they come to. The laws of runs: all record writes of one guarded
 //! command. The laws of numbers: free and available sectors, how many of them a command frees, and which are there for a page that lacks.
 //! The laws of parts: which files, places and parts of a mended pack a command leaves, and all parts put together. The laws of slots: those
-//! of directories while names are mended. The law of closing: what the last record writes of a scavenge leave.
+//! of directories while names are mended. The laws of widening: a directory that gets a page more meanwhile. The law of closing: what the last
+//! record writes of a scavenge leave.
 //!
 //! Below stand laws_room, which says of one record write that it keeps what a scavenge keeps, laws_record, which says that any pack is
 //! read or viewed as before after it, and laws_lookup for what it is that slots come in the place of others.
@@ -23,3 +24,4 @@ pub mod numbers;
 pub mod parts;
 pub mod runs;
 pub mod slots;
+pub mod widening;

@@ -4,6 +4,7 @@ pub mod CallLaws
 pub mod EndLaws
 pub mod HistoryLaws
 pub mod LineAnswers
+pub mod RefusedLaws
 pub mod ScavengeLaws
 pub mod StreamLaws
 pub mod UnrefusedLaws

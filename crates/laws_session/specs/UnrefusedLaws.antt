@@ -1,5 +1,5 @@
 -- From a line on files that isn't refused to what the laws of lines and of operations ask for.
-use Rattle.std.specs.Prelude.{◌≡◌, ◌≤◌, ℕ, ◌+◌, true, false, List, length, Some, None}
+use Rattle.std.specs.Prelude.{◌≡◌, ◌≤◌, ◌⊎◌, ℕ, ◌+◌, true, false, List, length, Some, None}
 use Rattle.alto_words.specs.declared.fid.Fid.{Fid}
 use Rattle.alto_words.specs.declared.wanted.Wanted.{Wanted}
 use Rattle.alto_words.specs.declared.wanted.Wanted.TheVariants.{Exact, Newest}
@@ -30,9 +30,11 @@ use Rattle.exec_words.specs.declared.line.Target.{Target}
 use Rattle.exec_words.specs.declared.line.Target.TheVariants.{ByPath}
 use Rattle.exec_words.specs.declared.reply.Refusal.TheVariants as refusal_of
 use Rattle.session_model.specs.Effects.{effect, listed_dir, next_directory, next_file, widenings}
-use Rattle.session_model.specs.Finding.{file_at, name_given, own_name, the_dir, the_file}
+use Rattle.world_model.specs.StateFiles.{state_length}
+use Rattle.session_model.specs.Finding.{file_at, is_there, name_given, own_name, the_dir, the_file}
 use Rattle.session_model.specs.Replies.{ops, refusal}
 use Rattle.session_model.specs.Worlds.{World}
+use Rattle.laws_session.specs.ZoneLaws.{HasMemory}
 
 -- ---- any line
 -- it isn't refused on what the pack is read as
@@ -133,6 +135,22 @@ CopyMayBegin = (p : Pack) (w : World) (file : Target) (path : Path) → Sound p 
 abbrev pub MakeDirMayBegin : Type 0
 MakeDirMayBegin = (p : Pack) (w : World) (name : List ℕ) → Sound p → IsUnrefused p w (line.MakeDir name)
     → MakesFile p w (line.MakeDir name) sys_dir name (next_directory (read_as p))
+
+-- ---- a world is written
+-- the file has no byte, or as many as that of a world
+abbrev pub TakesWorld : Pack → Fid → Type 0
+TakesWorld p f = (length (file_bytes (sights p) f) ≡ 0) ⊎ (length (file_bytes (sights p) f) ≡ state_length)
+
+-- The operations are a line. The file that the path means is a living ordinary one that takes a world; where the path means none, a new
+-- file comes.
+pub record WritesWorld (p : Pack) (w : World) (path : Path) : Type 0 where
+  pub is_line : IsKindOfLine (read_as p) (ops_on p w (line.OutLoad path))
+  pub over : is_there (read_as p) path ≡ true → HasFile p w (line.OutLoad path) (ByPath path)
+  pub size : is_there (read_as p) path ≡ true → TakesWorld p (the_file (read_as p) (ByPath path))
+  pub new : is_there (read_as p) path ≡ false → MakesFile p w (line.OutLoad path) (the_dir (read_as p) path) (name_given (read_as p) path) (next_file (read_as p))
+
+abbrev pub OutLoadMayBegin : Type 0
+OutLoadMayBegin = (p : Pack) (w : World) (path : Path) → Sound p → HasMemory w → StatesStored path.wanted → IsUnrefused p w (line.OutLoad path) → WritesWorld p w path
 
 -- ---- a file is renamed
 -- A living ordinary file with an entry under its own name, and a directory that takes its new one; the line's operations are a line.

@@ -5,10 +5,12 @@
 //! and each crash point of a history can be mended and shows the model after as many operations as the ruler says.
 //!
 //! A line on files that isn't refused on a sound pack: its files and directories are there, its name is free, its operations are a line as
-//! the laws of lines ask for it, and there are the free sectors that they take.
+//! the laws of lines ask for it, and there are the free sectors that they take. The other way, from the tests that a line made, in their
+//! order, to what it is refused for.
 //!
-//! Over calls one after another what is kept stays right, and true hints stay true until all are true at the end. The zone of a world reads
-//! back from the words of its memory.
+//! Open streams are over ordinary files of their own, in which their pending bytes begin, and stay so over each line. Over calls one after
+//! another what is kept stays right, and true hints stay true until all are true at the end. The zone of a world reads back from the words
+//! of its memory.
 //!
 //! Below it stand session_model, laws_lookup and laws_line.
 //!
@@ -23,6 +25,7 @@ pub mod calls;
 pub mod ends;
 pub mod histories;
 pub mod lines;
+pub mod refused;
 pub mod scavenges;
 pub mod streams;
 pub mod unrefused;

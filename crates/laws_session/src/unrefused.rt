@@ -1,6 +1,6 @@
 //! From a line on files that isn't refused, on a sound pack, to what the laws of lines and of operations ask for.
 
-ghost use Rattle.laws_session.specs.UnrefusedLaws.{AppendMayBegin, CopyMayBegin, CutMayBegin, DeleteMayBegin, FullAsksForItsPages, MakeDirMayBegin, MakeMayBegin, PatchMayBegin, RemoveDirMayBegin, RenameMayBegin, UnrefusedLinesHaveTheirPages};
+ghost use Rattle.laws_session.specs.UnrefusedLaws.{AppendMayBegin, CopyMayBegin, CutMayBegin, DeleteMayBegin, FullAsksForItsPages, MakeDirMayBegin, MakeMayBegin, OutLoadMayBegin, PatchMayBegin, RemoveDirMayBegin, RenameMayBegin, UnrefusedLinesHaveTheirPages};
 
 /// If a line isn't refused, a whole pack has as many free sectors as the line's operations add pages.
 pub fn unrefused_lines_have_their_pages()
@@ -50,6 +50,11 @@ pub fn copy_may_begin()
 /// If an `mkdir` isn't refused on a sound pack, the next directory's full name is of no living file, and SysDir takes its name.
 pub fn make_dir_may_begin()
     ensures { MakeDirMayBegin }
+{}
+
+/// If an `outload` isn't refused on a sound pack, it writes the world over a living ordinary file, or makes one, and is such a line.
+pub fn outload_may_begin()
+    ensures { OutLoadMayBegin }
 {}
 
 /// If a `rename` isn't refused on a sound pack, the file is an ordinary one with the entry that leaves, and the new directory takes its

@@ -10,6 +10,8 @@ pub mod Keeping
 pub mod Leaders
 pub mod Lengths
 pub mod LineKeeping
+pub mod Named
 pub mod Parts
 pub mod Released
+pub mod Runs
 pub mod Serials

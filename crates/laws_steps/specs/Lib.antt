@@ -6,4 +6,5 @@ pub mod LengthLaws
 pub mod LineKeepingLaws
 pub mod NameLaws
 pub mod PartLaws
+pub mod RunLaws
 pub mod SerialLaws

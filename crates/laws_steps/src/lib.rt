@@ -9,8 +9,10 @@
 //! leaves, and over the open mark and a new serial. The laws of lines: so they do over several operations, by what the model says of each.
 //!
 //! By the model alone, the laws of entries: the entry that a name means, over operations on bytes and leaders and over widenings. The laws of
-//! names: a name that no entry has, and the room for one. The laws of lengths: that of a file in which bytes are put, and that of a new one.
-//! The laws of parts: the model after a line, and its pages, by its first operations and the others.
+//! names: a name that no entry has, and the room for one. The laws of lengths: that of a file in which bytes are put, that of a new one, and
+//! the last page that a leader names.
+//! The laws of parts: the model after a line, and its pages, by its first operations and the others. The law of runs: a run has as many
+//! record writes as moves.
 //!
 //! The laws of a drop by two calls: after the releases the entry stands in its directory as before; and the value that frees its slot, as
 //! read then, is the rest of the drop, a break within either being a prefix of it.
@@ -22,7 +24,7 @@
 //!
 //! A law function is public, has an empty body and one clause, the law; its lemma has the same name, and its statement has it in
 //! capitals. To cite a law: `use Rattle.laws_steps.proofs.keeping.Laws.{written_keeps_found}`. Lemma files in proofs/inside/ no other
-//! crate can name. Below it: `laws_call`, `laws_midway` and `session_model`.
+//! crate can name. Below it: `laws_call`, `laws_midway`, `page_seeking` and `session_model`.
 #![tactic(auto)]
 
 pub mod dropping;
@@ -33,4 +35,5 @@ pub mod lengths;
 pub mod lines;
 pub mod names;
 pub mod parts;
+pub mod runs;
 pub mod serials;

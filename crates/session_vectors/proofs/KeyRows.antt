@@ -24,7 +24,7 @@ unfolding line_in longest_line most_keys is_stored_name number_in bytes_in_hex
 one_line = refl
 
 -- a verb that isn't built yet is a bad line
-not_built : cues_of (codes "make A\n") ≡ typed line.Bad ∷ ended ∷ []
+not_built : cues_of (codes "open A\n") ≡ typed line.Bad ∷ ended ∷ []
 unfolding line_in longest_line most_keys is_stored_name number_in bytes_in_hex
 not_built = refl
 

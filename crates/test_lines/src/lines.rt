@@ -1,6 +1,6 @@
 // Lines that are read, those that are bad, and those that this program obeys.
 use crate::written::written;
-use exec_words::{Line, as_built, read_line};
+use exec_words::{Line, as_built, is_built, is_typed, read_line};
 use std::test::Fail;
 
 #[test]
@@ -66,6 +66,7 @@ fn lines_of_the_table(rt: HostRuntime) -> Result<(), Fail> {
             line.as_bytes(),
             "{text}"
         );
+        assert!(rt; is_typed(&read), "{text}");
     }
     Ok(())
 }
@@ -233,14 +234,42 @@ fn lines_of_many_bytes(rt: HostRuntime) -> Result<(), Fail> {
 #[test]
 fn verbs_that_are_built(rt: HostRuntime) -> Result<(), Fail> {
     let rows = [
+        ("list D", "ListNames D."),
+        ("type A", "TypeOut newest A."),
+        ("stat #3", "Stat serial 3"),
+        ("make A", "Make newest A."),
+        ("append A 4242", "Append newest A. 4242"),
+        ("patch A 1 4242", "Patch newest A. 1 4242"),
         ("patch #3 1 4242", "Patch serial 3 1 4242"),
-        ("patch A 1 4242", "Bad"),
-        ("free", "Bad"),
-        ("quit", "Bad"),
+        ("cut A 1000", "Cut newest A. 1000"),
+        ("copy A B", "Copy newest A. newest B."),
+        ("rename A B", "Rename newest A. newest B."),
+        ("delete A!1", "Delete exact A."),
+        ("mkdir D", "MakeDir D."),
+        ("rmdir D", "RemoveDir D."),
+        ("free", "Free"),
+        ("settime 0", "SetTime 0"),
+        ("quit", "Quit"),
+        ("open A", "Bad"),
+        ("get 0 1", "Bad"),
+        ("putb 0 41", "Bad"),
+        ("seek 0 0", "Bad"),
+        ("close 0", "Bad"),
+        ("store 0 0", "Bad"),
+        ("fetch 0", "Bad"),
+        ("block 1", "Bad"),
+        ("unblock 0", "Bad"),
+        ("junta 1", "Bad"),
+        ("counterjunta", "Bad"),
+        ("outload W", "Bad"),
+        ("inload W -", "Bad"),
+        ("scavenge", "Bad"),
         ("Free", "Bad"),
     ];
     for (text, line) in rows {
-        let built = as_built(read_line(rt.alloc(), text.as_bytes())?);
+        let read = read_line(rt.alloc(), text.as_bytes())?;
+        assert_eq!(rt; is_built(&read), line != "Bad", "{text}");
+        let built = as_built(read);
         assert_eq!(rt;
             written(rt.alloc(), &built)?.as_slice(),
             line.as_bytes(),

@@ -10,14 +10,14 @@ use std::test::Fail;
 use test_packs::{sectors_of, sure_machine};
 
 /// SysDir, with its fixed address.
-pub(crate) const ROOT: FileRef = FileRef {
+pub const ROOT: FileRef = FileRef {
     fid: Fid::SYS_DIR,
     leader_at: 1,
     from: Place::Root,
 };
 
 /// A machine over a formatted pack, and empty hints.
-pub(crate) fn formatted(alloc: Global) -> Result<(SureMachine, Hints), Fail> {
+pub fn formatted(alloc: Global) -> Result<(SureMachine, Hints), Fail> {
     let mut machine = sure_machine(alloc, sectors_of(alloc, &[])?, b"")?;
     machine.reserve(alloc, 200)?;
     format(&mut machine, 1, 0)?;

@@ -3,17 +3,17 @@ use Rattle.std.proofs.Common.{Err, List, Ok, OnOk, Result, ℕ, ◌≡◌}
 use Rattle.disk_records.specs.Packs.{Pack}
 use Rattle.disk_records.specs.Tapes.{Taped, added}
 use Rattle.disk_records.specs.declared.records.Event.{Event}
-use Rattle.label_check.specs.Guarded.{DoneWhole, Guarded}
+use Rattle.label_check.specs.Guarded.{DoneWhole}
 use Rattle.label_check.specs.declared.errors.GuardError.{GuardError}
-use Rattle.laws_guard.specs.GuardedCalls.{WritesPart}
+use Rattle.laws_guard.specs.GuardedCalls.{GuardedWrites}
 
 done_wrote : (guards : Pack → Type 0) (writes : List Event) (count : ℕ) (a b : Taped) (inner : Result (Unit {0}) GuardError) → OnOk inner (DoneWhole guards writes count a b) → OnOk inner (added a b ≡ writes)
 done_wrote guards writes count a b (Ok x) done = done.wrote
 done_wrote guards writes count a b (Err e) done = tt
 
-pub guarded_writes : {guards : Pack → Type 0} {at count : ℕ} {early writes : List Event} {a b : Taped} {inner : Result (Unit {0}) GuardError} → Guarded guards at early writes count a b inner → WritesPart writes a b inner
-guarded_writes {guards} {at} {count} {early} {writes} {a} {b} {inner} guarded = record {
+pub guarded_writes : (T : Type 0) → GuardedWrites T
+guarded_writes T asked wanted at early writes count a b inner guarded = record {
   prefix = guarded.some;
-  ok = done_wrote guards writes count a b inner guarded.ok;
+  ok = done_wrote (λ p. asked p ≡ wanted) writes count a b inner guarded.ok;
   less = λ memory. (guarded.want memory).less;
 }

@@ -1,16 +1,19 @@
 -- The slots of directories while names are mended.
-use Rattle.std.proofs.Common.{[], ◌++◌, ◌+◌, ◌-◌, ◌<◌, ◌∙◌, ◌∷◌, ◌≡◌, Bool, List, ap, arith, false, inl, inr, length, refl, subst, suc, sym, true, zero, ℕ}
+use Rattle.std.proofs.Common.{[], ◌++◌, ◌+◌, ◌-◌, ◌<◌, ◌≤◌, ◌∙◌, ◌∷◌, ◌≡◌, Bool, List, ap, arith, false, inl, inr, length, refl, subst, suc, sym, true, zero, ℕ}
 use Rattle.std.proofs.lemmas.Bool.{cases_lt}
 use Rattle.std.specs.Option.{is_some}
 use Rattle.alto_words.specs.declared.fid.Fid.{Fid}
 use Rattle.alto_words.specs.Fid.{is_fid}
 use Rattle.disk_records.specs.Packs.{Pack}
 use Rattle.disk_records.specs.Words.{word}
-use Rattle.pack_model.specs.hints.Links.{dir_words}
+use Rattle.pack_model.specs.hints.Links.{dir_slots, dir_words}
 use Rattle.pack_model.specs.operations.Rooms.{left_over}
 use Rattle.pack_model.specs.reading.Bytes.{put_at, words_of}
-use Rattle.pack_model.specs.reading.Slots.{Item, all_words, slots}
-use Rattle.pack_model.specs.reading.Slots.Item.{entry}
+use Rattle.pack_model.specs.reading.Files.{file_bytes}
+use Rattle.pack_model.specs.reading.Sights.{sights}
+use Rattle.pack_model.specs.reading.SlotWords.{address_at, address_word, slots_at}
+use Rattle.pack_model.specs.reading.Slots.{Item, SlotsReachEnd, all_words, item_words, slots}
+use Rattle.pack_model.specs.reading.Slots.Item.{entry, space}
 use Rattle.pack_laws.proofs.Bytes.{length-put_at}
 use Rattle.pack_laws.proofs.Keys.{same_fid}
 use Rattle.laws_record.proofs.Addressing.{IsLoose, LooseIn, loose_among, slots_kept}
@@ -49,10 +52,41 @@ enters_replaces_slots p d at new a b f name left h =
 
 -- ---- more words
 -- those of the first list
-first_words : (xs ys : List ℕ) (k : ℕ) → k < length xs → word (xs ++ ys) k ≡ word xs k
+pub first_words : (xs ys : List ℕ) (k : ℕ) → k < length xs → word (xs ++ ys) k ≡ word xs k
 first_words [] ys k l = absurd (omega arith)
 first_words (x ∷ xs) ys zero l = refl
 first_words (x ∷ xs) ys (suc k) l = first_words xs ys k (omega arith)
+
+-- slots within the first list stand there with the same addresses
+front_slots : (xs ys : List ℕ) (place : ℕ) (is : List Item) → place + all_words is ≤ length xs → slots_at (xs ++ ys) place is ≡ slots_at xs place is
+unfolding slots_at
+front_slots xs ys place [] l = refl
+front_slots xs ys place (i ∷ is) l = λ j. record { place = place; item = i; address = same i (omega arith) j } ∷ front_slots xs ys (place + item_words i) is (omega arith) j
+  where
+    same : (i : Item) → place + item_words i ≤ length xs → address_at (xs ++ ys) place i ≡ address_at xs place i
+    same (space n) l = refl
+    same (entry f name) l = first_words xs ys (address_word place) (omega arith)
+
+-- slots one after another
+slots_join : (ws : List ℕ) (place : ℕ) (is js : List Item) → slots_at ws place (is ++ js) ≡ slots_at ws place is ++ slots_at ws (place + all_words is) js
+unfolding slots_at
+slots_join ws place [] js = let z : place ≡ place + 0 = omega arith in ap (λ n. slots_at ws n js) z
+slots_join ws place (i ∷ is) js =
+    let z : place + item_words i + all_words is ≡ place + all_words (i ∷ is) = omega arith in
+    ap (λ r. record { place = place; item = i; address = address_at ws place i } ∷ r) (slots_join ws (place + item_words i) is js ∙ ap (λ n. slots_at ws (place + item_words i) is ++ slots_at ws n js) z)
+
+-- those of a directory with a free slot of 256 words more
+pub slots_and_one : (p q : Pack) (d : Fid) (fresh : List ℕ) → SlotsReachEnd (file_bytes (sights p) d) → dir_words q d ≡ dir_words p d ++ fresh → slots fresh ≡ space 256 ∷ []
+    → dir_slots q d ≡ dir_slots p d ++ record { place = all_words (slots (dir_words p d)); item = space 256; address = 0 } ∷ []
+unfolding slots_at
+slots_and_one p q d fresh ends more one =
+    let ws : List ℕ = dir_words p d in
+    let r = all_read ws ends.items ends.reads in
+    let all : all_words (slots ws) ≡ length ws = ap all_words r.0 ∙ r.1 in
+    let first : 0 + all_words (slots ws) ≡ all_words (slots ws) = omega arith in
+    (λ i. slots_at (more i) 0 (slots (more i))) ∙ ap (slots_at (ws ++ fresh) 0) (widen_slots p d fresh ends one) ∙ slots_join (ws ++ fresh) 0 (slots ws) (space 256 ∷ [])
+    ∙ ap (λ n. slots_at (ws ++ fresh) 0 (slots ws) ++ slots_at (ws ++ fresh) n (space 256 ∷ [])) first
+    ∙ ap (λ is. is ++ record { place = all_words (slots ws); item = space 256; address = 0 } ∷ []) (front_slots ws fresh 0 (slots ws) (omega arith))
 
 pub more_words_replace_slots : MoreWordsReplaceSlots
 more_words_replace_slots p q d fresh living ends more one =

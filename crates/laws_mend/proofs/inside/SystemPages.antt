@@ -31,11 +31,11 @@ use Rattle.laws_mend.proofs.inside.Relabelling.{no_leader}
 use Rattle.laws_mend.proofs.inside.Releasing.{some_none}
 use Rattle.laws_mend.specs.RunLaws.{DescriptorLeaderTends, RootCopyTends, RootLeaderTends, SystemNameTends}
 
-abbrev root_page : Page
+abbrev pub root_page : Page
 root_page = record { fid = sys_dir; number = 0 }
 
 -- sector 1 stands as SysDir's leader page where it carries that
-root_shown : (q : Pack) → carried q 1 ≡ Some root_page → RootStands q.shape (sights q)
+pub root_shown : (q : Pack) → carried q 1 ≡ Some root_page → RootStands q.shape (sights q)
 root_shown q is = ap (root_stands q.shape (sights q)) (carried_sight q 1 root_page is)
 
 -- ---- DiskDescriptor's first leader page

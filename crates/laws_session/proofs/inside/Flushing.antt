@@ -26,24 +26,15 @@ use Rattle.session_model.specs.Refusals.{when_missing}
 use Rattle.session_model.specs.Streams.{Stream, appended_stream, close_ops, closing_ops, flush_ops, full_bytes, grows, pending_from, put_ops, puts, puts_from, stream_at, written_ops}
 use Rattle.session_model.specs.Worlds.{World, the_stream}
 use Rattle.laws_session.specs.StreamLaws.{EndingIsALine, StreamLineMayBegin, StreamsFit}
-use Rattle.laws_session.proofs.inside.Changing.{puts_leave}
+use Rattle.laws_session.proofs.inside.Changing.{grows_leave, leave_then, puts_leave}
 use Rattle.laws_session.proofs.inside.OneFile.{line_of}
 use Rattle.laws_session.proofs.inside.Passing.{passes}
 
--- ---- operations one after another
-leave_then : (m : Model) (a b : List Operation) → LeaveNames m a → LeaveNames (steps_of m a) b → LeaveNames m (a ++ b)
-leave_then m [] b first next = next
-leave_then m (o ∷ a) b first next = (first.0, leave_then (step m o) a b first.1 next)
-
-grows_leave : (m : Model) (f : Fid) (bytes : List ℕ) → LeaveNames m (grows f bytes)
-grows_leave m f [] = tt
-grows_leave m f (b ∷ bytes) = (tt, tt)
-
+-- ---- one stream
 stamp_leaves : (m : Model) (f : Fid) (moment : ℕ) (b : Bool) → LeaveNames m (cond b (stamp f moment ∷ []) [])
 stamp_leaves m f moment true = (tt, tt)
 stamp_leaves m f moment false = tt
 
--- ---- one stream
 -- its pending bytes, which begin within its file
 written_leave : (m : Model) (s : Stream) (n : ℕ) → pending_from s ≤ length_of m s.fid → LeaveNames m (written_ops m s n)
 written_leave m s n within =
@@ -70,7 +61,7 @@ found_fits m n (t ∷ ss) s fit e = by (t.number == n) e (found_fits m n ss s (A
     by true k more = let same : t ≡ s = cc in subst (StreamFits m) same (All-head (StreamFits m) t ss fit)
     by false k more = more k
 
-is_open : (r : Option Stream) (d : Stream) → when_missing r refusal_is.NoStream ≡ None → r ≡ Some (unwrap_or r d)
+pub is_open : (r : Option Stream) (d : Stream) → when_missing r refusal_is.NoStream ≡ None → r ≡ Some (unwrap_or r d)
 is_open None d e = absurd (let n : Some refusal_is.NoStream ≡ None = e in cc)
 is_open (Some s) d e = refl
 
@@ -96,7 +87,7 @@ stream_line_may_begin p w l n none named fit = absurd (let x : None ≡ Some n =
 
 -- ---- all streams, one after another
 -- these operations change the file alone
-abbrev OfFile : Fid → List Operation → Type 0
+abbrev pub OfFile : Fid → List Operation → Type 0
 OfFile f [] = Unit {0}
 OfFile f (put g offset new ∷ ops) = (g ≡ f) × OfFile f ops
 OfFile f (grow g new ∷ ops) = (g ≡ f) × OfFile f ops
@@ -127,7 +118,7 @@ of_other m f g (leave d name ∷ ops) other h = absurd h
 of_other m f g (enter d name k ∷ ops) other h = absurd h
 of_other m f g (widen d ∷ ops) other h = absurd h
 
-of_both : (f : Fid) (a b : List Operation) → OfFile f a → OfFile f b → OfFile f (a ++ b)
+pub of_both : (f : Fid) (a b : List Operation) → OfFile f a → OfFile f b → OfFile f (a ++ b)
 of_both f [] b x y = y
 of_both f (put g offset new ∷ a) b x y = (x.0, of_both f a b x.1 y)
 of_both f (grow g new ∷ a) b x y = (x.0, of_both f a b x.1 y)
@@ -140,12 +131,12 @@ of_both f (leave d name ∷ a) b x y = absurd x
 of_both f (enter d name k ∷ a) b x y = absurd x
 of_both f (widen d ∷ a) b x y = absurd x
 
-of_puts : (fuel : ℕ) (f : Fid) (at : ℕ) (bytes : List ℕ) → OfFile f (puts_from fuel f at bytes)
+pub of_puts : (fuel : ℕ) (f : Fid) (at : ℕ) (bytes : List ℕ) → OfFile f (puts_from fuel f at bytes)
 of_puts zero f at bytes = tt
 of_puts (suc fuel) f at [] = tt
 of_puts (suc fuel) f at (b ∷ bytes) = (refl, of_puts fuel f (at + (512 - at % 512)) (drop (512 - at % 512) (b ∷ bytes)))
 
-of_grows : (f : Fid) (bytes : List ℕ) → OfFile f (grows f bytes)
+pub of_grows : (f : Fid) (bytes : List ℕ) → OfFile f (grows f bytes)
 of_grows f [] = tt
 of_grows f (b ∷ bytes) = (refl, tt)
 
@@ -153,14 +144,15 @@ of_stamp : (f : Fid) (moment : ℕ) (b : Bool) → OfFile f (cond b (stamp f mom
 of_stamp f moment true = (refl, tt)
 of_stamp f moment false = tt
 
-of_close : (moment : ℕ) (m : Model) (s : Stream) → OfFile s.fid (close_ops moment m s)
-of_close moment m s =
-    let below : ℕ = min (length s.pending) (length_of m s.fid - pending_from s) in
+pub of_written : (m : Model) (s : Stream) (n : ℕ) → OfFile s.fid (written_ops m s n)
+of_written m s n =
+    let below : ℕ = min n (length_of m s.fid - pending_from s) in
     let front : List ℕ = take below s.pending in
-    let more : List ℕ = drop below (take (length s.pending) s.pending) in
-    of_both s.fid (flush_ops m s) (cond s.put (stamp s.fid moment ∷ []) [])
-    (of_both s.fid (puts s.fid (pending_from s) front) (grows s.fid more) (of_puts (length front) s.fid (pending_from s) front) (of_grows s.fid more))
-    (of_stamp s.fid moment s.put)
+    let more : List ℕ = drop below (take n s.pending) in
+    of_both s.fid (puts s.fid (pending_from s) front) (grows s.fid more) (of_puts (length front) s.fid (pending_from s) front) (of_grows s.fid more)
+
+pub of_close : (moment : ℕ) (m : Model) (s : Stream) → OfFile s.fid (close_ops moment m s)
+of_close moment m s = of_both s.fid (flush_ops m s) (cond s.put (stamp s.fid moment ∷ []) []) (of_written m s (length s.pending)) (of_stamp s.fid moment s.put)
 
 -- each stream begins within its file, which is as long as in m
 abbrev Ready : Model → Model → List Stream → Type 0

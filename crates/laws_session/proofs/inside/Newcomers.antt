@@ -81,7 +81,7 @@ in_model p d directory living = directories_are_read p d directory (model_has_th
     other true e = absurd (let clash : false ≡ true = sym (ap is_directory (same_fid d disk_descriptor e)) ∙ directory in cc)
 
 -- the directory takes the name that a new entry gets
-takes_name : (p : Pack) (d : Fid) (want : Wanted) (name : List ℕ) (f : Fid) → Sound p → is_directory d ≡ true → lives (sights p) d ≡ true → CanBeWanted want → new_name want (dir_items (read_as p) d) ≡ Some name → IsEnterable d f → TakesName p d name f
+pub takes_name : (p : Pack) (d : Fid) (want : Wanted) (name : List ℕ) (f : Fid) → Sound p → is_directory d ≡ true → lives (sights p) d ≡ true → CanBeWanted want → new_name want (dir_items (read_as p) d) ≡ Some name → IsEnterable d f → TakesName p d name f
 takes_name p d want name f sound directory living can new enterable =
     let absent = new_name_is_absent_in_the_model p d want name sound.tidy living directory can new in
     record {
@@ -95,7 +95,7 @@ takes_name p d want name f sound directory living can new enterable =
     }
 
 -- ---- the path of a new name
-abbrev coming : Path → Operand
+abbrev pub coming : Path → Operand
 coming path = record { target = ByPath path; used = new_file }
 
 can_be_wanted : (w : Wanted) → is_typed_wanted w ≡ true → StatesStored w → CanBeWanted w
@@ -111,33 +111,40 @@ name_is None e = absurd cc
 name_is (Some x) e = refl
 
 -- Its directory, and the name that it gives.
-record GivesName (p : Pack) (path : Path) : Type 0 where
-  directory : is_directory (the_dir (read_as p) path) ≡ true
-  living : lives (sights p) (the_dir (read_as p) path) ≡ true
-  can : CanBeWanted path.wanted
-  new : new_name path.wanted (dir_items (read_as p) (the_dir (read_as p) path)) ≡ Some (name_given (read_as p) path)
+pub record GivesName (p : Pack) (path : Path) : Type 0 where
+  pub directory : is_directory (the_dir (read_as p) path) ≡ true
+  pub living : lives (sights p) (the_dir (read_as p) path) ≡ true
+  pub can : CanBeWanted path.wanted
+  pub new : new_name path.wanted (dir_items (read_as p) (the_dir (read_as p) path)) ≡ Some (name_given (read_as p) path)
 
-gives_name : (p : Pack) (path : Path) → Whole p → is_typed_path path ≡ true → StatesStored path.wanted → missing (read_as p) (coming path) ≡ None → of_wrong_kind (read_as p) (coming path) ≡ None → of_taken_name (read_as p) (coming path) ≡ None → GivesName p path
-gives_name p path whole typed stored found kind taken =
+-- it is there, and a directory, and the name isn't taken
+pub gives_free_name : (p : Pack) (path : Path) → Whole p → is_typed_path path ≡ true → StatesStored path.wanted → when_missing (dir_of (read_as p) path.dir) refusal_is.NoSuchName ≡ None → no_dir (read_as p) (coming path) ≡ None → is_path_taken (read_as p) path ≡ false → GivesName p path
+gives_free_name p path whole typed stored found kind free =
     let m : Model = read_as p in
     let d : Fid = the_dir m path in
-    let is = is_found (dir_of m path.dir) refusal_is.NoSuchName (neither (when_missing (dir_of m path.dir) refusal_is.NoSuchName) (missing_file m (coming path)) found).0 in
-    let kinds = neither (no_dir m (coming path)) (when_found (file_at m (ByPath path)) (wrong_kind new_file)) kind in
-    let free = when_not (is_path_taken m path) refusal_is.NameTaken taken in
+    let is = is_found (dir_of m path.dir) refusal_is.NoSuchName found in
     record {
-      directory = is_so (is_directory d) (when_not (not (is_directory d)) refusal_is.NotADirectory (of_found (dir_of m path.dir) (λ k. cond (not (is_directory k)) (Some refusal_is.NotADirectory) None) d is kinds.0));
+      directory = is_so (is_directory d) (when_not (not (is_directory d)) refusal_is.NotADirectory (of_found (dir_of m path.dir) (λ k. cond (not (is_directory k)) (Some refusal_is.NotADirectory) None) d is kind));
       living = dir_lives p path.dir d whole is;
       can = can_be_wanted path.wanted (and_right (is_typed_dir path.dir) (is_typed_wanted path.wanted) typed) stored;
       new = name_is (new_name path.wanted (dir_items m d)) (or_false_left (is_none (new_name path.wanted (dir_items m d))) (is_held (base_wanted path.wanted) (dir_items m d)) free);
     }
 
+gives_name : (p : Pack) (path : Path) → Whole p → is_typed_path path ≡ true → StatesStored path.wanted → missing (read_as p) (coming path) ≡ None → of_wrong_kind (read_as p) (coming path) ≡ None → of_taken_name (read_as p) (coming path) ≡ None → GivesName p path
+gives_name p path whole typed stored found kind taken =
+    let m : Model = read_as p in
+    gives_free_name p path whole typed stored
+    (neither (when_missing (dir_of m path.dir) refusal_is.NoSuchName) (missing_file m (coming path)) found).0
+    (neither (no_dir m (coming path)) (when_found (file_at m (ByPath path)) (wrong_kind new_file)) kind).0
+    (when_not (is_path_taken m path) refusal_is.NameTaken taken)
+
 -- ---- the next full name
 -- A full name that can be given, with the serial after the last one.
-record IsNext (p : Pack) (f : Fid) : Type 0 where
-  full_name : is_full_name f ≡ true
-  next : serial_of f ≡ (read_as p).last + 1
-  fresh : lives (sights p) f ≡ false
-  no_system : is_system f ≡ false
+pub record IsNext (p : Pack) (f : Fid) : Type 0 where
+  pub full_name : is_full_name f ≡ true
+  pub next : serial_of f ≡ (read_as p).last + 1
+  pub fresh : lives (sights p) f ≡ false
+  pub no_system : is_system f ≡ false
 
 not_zero : (n k : ℕ) → n ≡ k + 1 → not (n == 0) ≡ true
 not_zero n k e = by (n == 0) refl
@@ -146,7 +153,7 @@ not_zero n k e = by (n == 0) refl
     by false q = refl
     by true q = let z = eqb-true n 0 q in absurd (omega (arith, z, e))
 
-is_next : (p : Pack) (f : Fid) → Whole p → f.version ≡ 1 → serial_of f ≡ (read_as p).last + 1 → IsNext p f
+pub is_next : (p : Pack) (f : Fid) → Whole p → f.version ≡ 1 → serial_of f ≡ (read_as p).last + 1 → IsNext p f
 is_next p f whole version next =
     let fresh = none_above_the_last_serial p f whole (omega (arith, next)) in
     record {
@@ -167,17 +174,17 @@ is_next p f whole version next =
 ordinary_back : (s : ℕ) → s < 2147483648 → serial_of (ordinary_fid s) ≡ s
 ordinary_back s less = omega arith
 
-directory_back : (s : ℕ) → s < 2147483648 → serial_of (directory_fid s) ≡ s
+pub directory_back : (s : ℕ) → s < 2147483648 → serial_of (directory_fid s) ≡ s
 directory_back s less = omega arith
 
-unmarked : (s : ℕ) → s < 2147483648 → is_directory (ordinary_fid s) ≡ false
+pub unmarked : (s : ℕ) → s < 2147483648 → is_directory (ordinary_fid s) ≡ false
 unmarked s less = by (s / 65536) (omega arith)
   where
     by : (h : ℕ) → h < 32768 → nat_le 32768 h ≡ false
     by h k = grind arith
 
 -- there is a serial more
-below_most : (l : Line) (m : Model) → makes_file l m ≡ true → spent l m ≡ None → m.last + 1 < 2147483648
+pub below_most : (l : Line) (m : Model) → makes_file l m ≡ true → spent l m ≡ None → m.last + 1 < 2147483648
 unfolding most_serials
 below_most l m makes e =
     let free = when_not (makes_file l m && nat_le 2147483646 m.last) (refusal_is.SerialsSpent m.last) e in
@@ -196,14 +203,14 @@ filled_is_line m d name f moment rest dir short new keeps =
     in
     subst (IsKindOfLine m) (sym same) (comes d name f moment rest dir short new keeps)
 
-not_in_model : (p : Pack) (f : Fid) → Whole p → lives (sights p) f ≡ false → contains_key (read_as p).files f ≡ false
+pub not_in_model : (p : Pack) (f : Fid) → Whole p → lives (sights p) f ≡ false → contains_key (read_as p).files f ≡ false
 not_in_model p f whole fresh = model_has_the_living p f (by (is_fid f disk_descriptor) refl) ∙ fresh
   where
     by : (b : Bool) → is_fid f disk_descriptor ≡ b → is_fid f disk_descriptor ≡ false
     by false e = e
     by true e = absurd (let clash : false ≡ true = sym fresh ∙ ap (lives (sights p)) (same_fid f disk_descriptor e) ∙ whole.descriptor_lives in cc)
 
-makes_file_of : (p : Pack) (w : World) (l : Line) (d : Fid) (name : List ℕ) (f : Fid) (rest : List Operation) → Whole p → IsUnrefused p w l → IsNext p f → TakesName p d name f → LeaveNames (with_new_file (read_as p) d name f w.moment) rest
+pub makes_file_of : (p : Pack) (w : World) (l : Line) (d : Fid) (name : List ℕ) (f : Fid) (rest : List Operation) → Whole p → IsUnrefused p w l → IsNext p f → TakesName p d name f → LeaveNames (with_new_file (read_as p) d name f w.moment) rest
     → (effect l (read_as p) w).ops ≡ new_file_ops (read_as p) d name f w.moment ++ rest → MakesFile p w l d name f
 makes_file_of p w l d name f rest whole none next takes keeps are = record {
   full_name = next.full_name;
@@ -217,10 +224,10 @@ makes_file_of p w l d name f rest whole none next takes keeps are = record {
 
 -- ---- the lines
 -- an ordinary file may stand in any directory
-ordinary_may_stand : (d f : Fid) → is_system f ≡ false → is_directory f ≡ false → IsEnterable d f
+pub ordinary_may_stand : (d f : Fid) → is_system f ≡ false → is_directory f ≡ false → IsEnterable d f
 ordinary_may_stand d f system ordinary = record { no_system = system; in_root = λ e. absurd (let clash : false ≡ true = sym ordinary ∙ e in cc) }
 
-next_ordinary : (p : Pack) → Whole p → (read_as p).last + 1 < 2147483648 → IsNext p (next_file (read_as p))
+pub next_ordinary : (p : Pack) → Whole p → (read_as p).last + 1 < 2147483648 → IsNext p (next_file (read_as p))
 next_ordinary p whole less = is_next p (next_file (read_as p)) whole refl (ordinary_back ((read_as p).last + 1) less)
 
 pub make_may_begin : MakeMayBegin

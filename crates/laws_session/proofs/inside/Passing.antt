@@ -11,7 +11,7 @@ use Rattle.exec_words.specs.declared.reply.Refusal.TheVariants as refusal_is
 use Rattle.exec_words.specs.Typed.{is_typed}
 use Rattle.session_model.specs.Effects.{effect}
 use Rattle.session_model.specs.Operands.{Operand, operands}
-use Rattle.session_model.specs.Refusals.{beyond, by_line, by_memory, by_operands, by_world, is_bad, missing, no_such_stream, not_empty, of_system, of_taken_name, of_wrong_kind, reasons, spent, when}
+use Rattle.session_model.specs.Refusals.{beyond, by_line, by_memory, by_operands, by_world, is_bad, meets_stream, missing, no_such_stream, not_empty, of_system, of_taken_name, of_wrong_kind, reasons, spent, when}
 use Rattle.session_model.specs.Replies.{ops, refusal, unless_refused}
 use Rattle.session_model.specs.Worlds.{World}
 use Rattle.laws_room.proofs.rooms.Laws.{free_is_the_room}
@@ -44,8 +44,8 @@ neither None b e = (refl, e)
 neither (Some x) b e = absurd cc
 
 -- ---- all of them
--- The line can be typed, no test of an operand holds, its stream is open, its last byte is within, no test of the memory or of a world
--- holds, there is a serial for it, and there is room.
+-- The line can be typed, no test of an operand holds, its stream is open, its last byte is within, it meets no stream, no test of the
+-- memory or of a world holds, there is a serial for it, and there is room.
 pub record Passes (l : Line) (m : Model) (w : World) (os : List Operation) : Type 0 where
   pub typed : is_typed l ≡ true
   pub there : EachNone (map (missing m) (operands l))
@@ -55,6 +55,7 @@ pub record Passes (l : Line) (m : Model) (w : World) (os : List Operation) : Typ
   pub empty : EachNone (map (not_empty m) (operands l))
   pub streams : no_such_stream l w ≡ None
   pub within : beyond l m w ≡ None
+  pub meets : meets_stream l m w ≡ false
   pub memory : by_memory l w ≡ None
   pub worlds : by_world l m ≡ None
   pub serials : spent l m ≡ None
@@ -89,6 +90,7 @@ passes_by l m w all_ops e =
       empty = d.1;
       streams = rest.0;
       within = rest.1.0;
+      meets = when_not (meets_stream l m w) refusal_is.StreamsOpen rest.1.1.1.0;
       memory = rest.1.1.1.1.0;
       worlds = rest.1.1.1.1.1.0;
       serials = rest.1.1.1.1.1.1.0;

@@ -1,10 +1,9 @@
-use Rattle.std.proofs.Common.{Bool, Err, IsTrue, List, Some, [], ap, arith, length, subst, sym, take, refl, ℕ, ◌*◌, ◌+◌, ◌-◌, ◌∙◌, ◌≡◌, ◌≤◌}
+use Rattle.std.proofs.Common.{Bool, Err, IsTrue, List, [], ap, arith, inl, inr, length, subst, sym, take, refl, ℕ, ◌*◌, ◌+◌, ◌-◌, ◌∙◌, ◌≤◌}
 use Rattle.disk_records.proofs.Growing.{alone_twice}
 use Rattle.disk_records.proofs.Looking.{looks_pack, looks_twice}
 use Rattle.disk_records.specs.Causes.{never, other}
-use Rattle.disk_records.specs.Packs.{Pack, carried}
+use Rattle.disk_records.specs.Packs.{Pack}
 use Rattle.disk_records.specs.Tapes.{pack}
-use Rattle.disk_records.specs.declared.records.Page.{Page}
 use Rattle.file_pages.proofs.Valued.{look_leaves_handy, value_leaves_handy}
 use Rattle.laws_call.specs.Acting.{IsQuiet, Operates, around, refused}
 use Rattle.laws_guard.proofs.guarded.Laws.{look_before_operates}
@@ -13,7 +12,7 @@ use Rattle.pack_model.specs.operations.PageWords.{entered_words}
 use Rattle.pack_model.specs.operations.Step.Operation.{enter}
 use Rattle.pack_model.specs.states.Whole.{Whole}
 use Rattle.page_seeking.specs.Refs.{MisledBy}
-use Rattle.page_seeking.specs.Seeking.{Quick, Stands, file_length, page_after, page_number}
+use Rattle.page_seeking.specs.Seeking.{Quick, Stands, file_length, page_number}
 use Rattle.page_seeking.proofs.Erring.{on_ok}
 use Rattle.directory.specs.declared.errors.DirError.TheVariants.{NameTaken}
 use Rattle.directory.specs.declared.errors.DirError.{DirError}
@@ -22,10 +21,11 @@ use Rattle.directory.specs.Asked.{DirIsFound}
 use Rattle.directory.specs.Entering.{has_later, to_enter}
 use Rattle.directory.specs.Errors.{IfMisled, disk_fault, out_of_memory}
 use Rattle.directory.specs.Places.{HasNoRoom}
-use Rattle.directory.proofs.Answering.{by_slots_any, cause_of_entering, never_by_slots, never_full, never_misled, never_taken, same_error}
-use Rattle.directory.proofs.EntryCall.{entered, next_page_is, quick_thrice, words_few, words_some, words_within}
+use Rattle.directory.proofs.Answering.{by_slots_any, cause_of_entering, never_by_slots, never_full, never_taken, same_error}
+use Rattle.directory.proofs.EntryCall.{entered, quick_thrice, words_few, words_some, words_within}
+use Rattle.directory.proofs.EntryPages.{written_there}
 use Rattle.directory.proofs.LeavingEntry.{found_of_stands, quick_kept}
-use Rattle.directory.proofs.Misleading.{dir_never_led, misled_any}
+use Rattle.directory.proofs.Misleading.{dir_never_led, misled_any, misled_map}
 use Rattle.directory.proofs.Paging.{take_short}
 use Rattle.directory.proofs.Quickly.{handy_twice}
 use Rattle.directory.proofs.entering.enter.Goals as goal
@@ -169,45 +169,26 @@ returns-in-Ok-locate_room-clause-full g c told stands = never_full _ c.write_ent
 pub returns-in-Ok-locate_room-clause-unwritten : goal.returns-in-Ok-locate_room-clause-unwritten
 returns-in-Ok-locate_room-clause-unwritten g c told = never_by_slots _ c.write_entry.result c.write_entry.ensures.slots
 
+pub returns-in-Ok-locate_room-clause-hint : goal.returns-in-Ok-locate_room-clause-hint
+returns-in-Ok-locate_room-clause-hint g c told =
+    written_there _ c.in-Ok-locate_room.at c.in-Ok-locate_room.next_at c.write_entry.result (looks_pack c.locate_room.ensures.looks told) c.page_of_word.ensures (c.in-Ok-locate_room.ensures.stands told).carries (c.in-Ok-locate_room.ensures.carries_next told) (c.write_entry.ensures.misled told)
+
 pub returns-in-Ok-locate_room-clause-misled : goal.returns-in-Ok-locate_room-clause-misled
 returns-in-Ok-locate_room-clause-misled g c told stands =
-    let p = pack (g.D.Tape.tape c.args.disk.now) in
-    let d = c.args.dir.now.fid in
-    let room = c.in-Ok.room in
-    let at = c.in-Ok-locate_room.at in
-    let next_at = c.in-Ok-locate_room.next_at in
-    let found = c.in-Ok.ensures.found told (found_of_stands p c.args.dir.now stands) in
-    let words = take c.put_entry-count.result c.put_entry-count.new.words in
-    let is = c.put_entry-count.ensures.words ∙ ap (entered_words c.args.fid c.args.leader_at c.args.name.now) (c.saturating_sub-left.ensures ∙ ap (λ n. room.words.total - n) c.entry_words.ensures.words) in
-    let few = words_few p d c.args.name.now c.args.fid c.args.leader_at room words found is in
-    let low = room.low in
-    let one = looks_pack c.find_place.ensures.looks told in
-    let two = looks_pack c.locate_room.ensures.looks told in
-    let page : Page = page_number d c.page_of_word.result in
-    let here = (c.in-Ok-locate_room.ensures.stands told).carries ∙ ap (λ n. Some (page_number d n)) (sym c.page_of_word.ensures) in
-    never_misled _ c.write_entry.result (c.write_entry.ensures.misled told (subst (λ (q : Pack). carried q at ≡ Some page) (sym two) here) (λ more.
-    let next = (c.in-Ok-locate_room.ensures.stands_next told more (omega (arith, low, few))).carries ∙ ap (λ n. Some (page_number d (n + 1))) (sym c.page_of_word.ensures) in
-    (next_page_is (pack (g.D.Tape.tape c.find_place.new.disk)) d c.page_of_word.result next_at (subst Whole (sym one) stands.stands.whole) next, subst (λ (q : Pack). carried q next_at ≡ Some (page_after page)) (sym two) next)))
+    written_there _ c.in-Ok-locate_room.at c.in-Ok-locate_room.next_at c.write_entry.result (looks_pack c.locate_room.ensures.looks told) c.page_of_word.ensures (c.in-Ok-locate_room.ensures.stands told).carries (c.in-Ok-locate_room.ensures.carries_next told) (c.write_entry.ensures.misled told)
 
 pub returns-in-Ok-locate_room-clause-quiet : goal.returns-in-Ok-locate_room-clause-quiet
 returns-in-Ok-locate_room-clause-quiet g c told stands =
-    let p = pack (g.D.Tape.tape c.args.disk.now) in
-    let d = c.args.dir.now.fid in
-    let room = c.in-Ok.room in
-    let at = c.in-Ok-locate_room.at in
-    let next_at = c.in-Ok-locate_room.next_at in
-    let found = c.in-Ok.ensures.found told (found_of_stands p c.args.dir.now stands) in
-    let words = take c.put_entry-count.result c.put_entry-count.new.words in
-    let is = c.put_entry-count.ensures.words ∙ ap (entered_words c.args.fid c.args.leader_at c.args.name.now) (c.saturating_sub-left.ensures ∙ ap (λ n. room.words.total - n) c.entry_words.ensures.words) in
-    let few = words_few p d c.args.name.now c.args.fid c.args.leader_at room words found is in
-    let low = room.low in
-    let one = looks_pack c.find_place.ensures.looks told in
-    let two = looks_pack c.locate_room.ensures.looks told in
-    let page : Page = page_number d c.page_of_word.result in
-    let here = (c.in-Ok-locate_room.ensures.stands told).carries ∙ ap (λ n. Some (page_number d n)) (sym c.page_of_word.ensures) in
-    never_misled _ c.write_entry.result (c.write_entry.ensures.misled told (subst (λ (q : Pack). carried q at ≡ Some page) (sym two) here) (λ more.
-    let next = (c.in-Ok-locate_room.ensures.stands_next told more (omega (arith, low, few))).carries ∙ ap (λ n. Some (page_number d (n + 1))) (sym c.page_of_word.ensures) in
-    (next_page_is (pack (g.D.Tape.tape c.find_place.new.disk)) d c.page_of_word.result next_at (subst Whole (sym one) stands.stands.whole) next, subst (λ (q : Pack). carried q next_at ≡ Some (page_after page)) (sym two) next)))
+    written_there _ c.in-Ok-locate_room.at c.in-Ok-locate_room.next_at c.write_entry.result (looks_pack c.locate_room.ensures.looks told) c.page_of_word.ensures (c.in-Ok-locate_room.ensures.stands told).carries (c.in-Ok-locate_room.ensures.carries_next told) (c.write_entry.ensures.misled told)
+
+pub returns-in-Ok-locate_room-clause-given : goal.returns-in-Ok-locate_room-clause-given
+returns-in-Ok-locate_room-clause-given g c = misled_map c.write_entry.result c.write_entry.ensures.held (λ place at wanted found x. inr x)
+
+pub returns-in-Err-clause-given : goal.returns-in-Err-clause-given
+returns-in-Err-clause-given g c = misled_map {T = Unit {0}} (Err c.in-Err.error) c.in-Err.ensures.hint (λ place at wanted found x. inl x)
+
+pub returns-in-Err-locate_room-clause-given : goal.returns-in-Err-locate_room-clause-given
+returns-in-Err-locate_room-clause-given g c = misled_map {T = Unit {0}} (Err c.in-Err-locate_room.error) c.in-Err-locate_room.ensures.hint (λ place at wanted found x. inl x)
 
 pub returns-in-Ok-locate_room-clause-true_links : goal.returns-in-Ok-locate_room-clause-true_links
 returns-in-Ok-locate_room-clause-true_links g c told stands links =

@@ -1,15 +1,20 @@
-use Rattle.std.proofs.Common.{◌+◌, ◌∙◌, ◌≡◌, Err, true, ℕ, arith, subst, sym}
+use Rattle.std.proofs.Common.{◌+◌, ◌∙◌, ◌≡◌, Err, Some, ap, min, true, ℕ, arith, subst, sym}
 use Rattle.disk_records.proofs.Looking.{looks_pack, looks_twice}
 use Rattle.disk_records.specs.Packs.{Pack}
 use Rattle.disk_records.specs.Tapes.{pack}
 use Rattle.pack_model.specs.states.Whole.{Whole}
-use Rattle.page_seeking.specs.Seeking.{IsLengthBelow, Quick}
+use Rattle.page_seeking.specs.Seeking.{IsLengthBelow, Quick, page_number}
 use Rattle.directory.specs.Entering.{has_later}
 use Rattle.directory.specs.Errors.{IfBySlots}
 use Rattle.directory.proofs.Answering.{by_slots_none}
 use Rattle.directory.proofs.EntryCall.{if_wanted, no_length_before, no_length_between}
 use Rattle.directory.proofs.LeavingEntry.{quick_kept}
 use Rattle.directory.proofs.entering.locate_room.Goals as goal
+
+pub returns-in-Ok-locate_if-clause-carries_next : goal.returns-in-Ok-locate_if-clause-carries_next
+returns-in-Ok-locate_if-clause-carries_next g c told more =
+    let next = (c.in-Ok.ensures.stands told (c.has_later-later.ensures ∙ more)).carries in
+    next ∙ ap (λ n. Some (page_number c.args.dir.now.fid n)) (c.saturating_add.ensures ∙ ap (λ n. min (n + 1) 65535) c.page_of_word-number.ensures)
 
 pub returns-in-Ok-locate_if-clause-looks : goal.returns-in-Ok-locate_if-clause-looks
 returns-in-Ok-locate_if-clause-looks g c =

@@ -1,4 +1,4 @@
-use Rattle.std.proofs.Common.{Err, IsTrue, Some, ◌++◌, ◌∙◌, ◌≡◌, List, ap, subst, sym, arith}
+use Rattle.std.proofs.Common.{Err, IsTrue, Some, ◌++◌, ◌∙◌, ◌≡◌, List, ap, refl, subst, sym, arith}
 use Rattle.std.specs.Prelude.{◌==◌}
 use Rattle.disk_records.proofs.Growing.{alone_twice}
 use Rattle.disk_records.specs.Commands.{value_writes}
@@ -10,11 +10,13 @@ use Rattle.file_pages.specs.Values.{WroteValue}
 use Rattle.laws_call.specs.Acting.{around}
 use Rattle.pack_model.specs.operations.PageWords.{freed_value, in_page, later, near}
 use Rattle.pack_model.specs.reading.Bytes.{put_at}
+use Rattle.page_seeking.proofs.Erring.{if_misled_map}
 use Rattle.directory.specs.Entering.{has_later, joining_writes, next_writes, room_value}
 use Rattle.directory.specs.Leaving.{Wrote}
 use Rattle.directory.proofs.Answering.{misled_in}
-use Rattle.directory.proofs.EntryPages.{after_is, places_twice, still_carried}
+use Rattle.directory.proofs.EntryPages.{next_is, places_twice, still_carried}
 use Rattle.directory.proofs.EntrySteps.{both_done, first_failed, joins_are, last_written, next_are, only_writes, second_failed}
+use Rattle.directory.proofs.Misleading.{misled_map, was_found}
 use Rattle.directory.proofs.entering.write_entry.Goals as goal
 
 pub returns-in-Err-clause-writes : goal.returns-in-Err-clause-writes
@@ -64,8 +66,7 @@ returns-clause-writes g c o bits told =
 pub returns-in-Err-write_first-clause-misled : goal.returns-in-Err-write_first-clause-misled
 returns-in-Err-write_first-clause-misled g c told carries later =
     c.in-Err-write_first.ensures.misled told (λ wanted.
-    let next = later (sym c.has_later.ensures ∙ wanted) in
-    still_carried c.args.at c.args.page c.join_slots-joins.new.value c.join_slots-joins.result c.args.next_at c.write_first.ensures.alone (c.in-Ok.ensures.writes told).all (λ joins. carries) ∙ next.1 ∙ ap Some (after_is c.args.page c.saturating_add.result next.0 c.saturating_add.ensures))
+    still_carried c.args.at c.args.page c.join_slots-joins.new.value c.join_slots-joins.result c.args.next_at c.write_first.ensures.alone (c.in-Ok.ensures.writes told).all (λ joins. carries) ∙ later (sym c.has_later.ensures ∙ wanted) ∙ ap Some (next_is c.args.page c.saturating_add.result c.saturating_add.ensures))
 
 pub returns-clause-misled : goal.returns-clause-misled
 returns-clause-misled g c told carries later =
@@ -74,10 +75,19 @@ returns-clause-misled g c told carries later =
     let first = still_carried c.args.at c.args.page c.join_slots-joins.new.value c.join_slots-joins.result in
     let still = first c.args.at c.write_first.ensures.alone (c.in-Ok.ensures.writes told).all (λ joins. carries) in
     let there : IsTrue c.has_later.result → carried (pack b) c.args.next_at ≡ Some after = λ wanted.
-    let next = later (sym c.has_later.ensures ∙ wanted) in
-    first c.args.next_at c.write_first.ensures.alone (c.in-Ok.ensures.writes told).all (λ joins. carries) ∙ next.1 ∙ ap Some (after_is c.args.page c.saturating_add.result next.0 c.saturating_add.ensures) in
+    first c.args.next_at c.write_first.ensures.alone (c.in-Ok.ensures.writes told).all (λ joins. carries) ∙ later (sym c.has_later.ensures ∙ wanted) ∙ ap Some (next_is c.args.page c.saturating_add.result c.saturating_add.ensures) in
     let still_then = still_carried c.args.next_at after c.put_later.new.value c.has_later.result c.args.at c.write_first-2.ensures.alone (c.in-Ok-write_first.ensures.writes told).all there in
     misled_in _ c.write_page.result c.in_directory.result c.in_directory.ensures (c.write_page.ensures.misled told (still_then ∙ still ∙ carries))
+
+pub returns-in-Err-clause-held : goal.returns-in-Err-clause-held
+returns-in-Err-clause-held g c = misled_map {T = Unit {0}} (Err c.in-Err.error) c.in-Err.ensures.held (was_found c.args.page.fid c.args.at c.args.page refl)
+
+pub returns-in-Err-write_first-clause-held : goal.returns-in-Err-write_first-clause-held
+returns-in-Err-write_first-clause-held g c =
+    misled_map {T = Unit {0}} (Err c.in-Err-write_first.error) c.in-Err-write_first.ensures.held (was_found c.args.page.fid c.args.next_at (record { fid = c.args.page.fid; number = c.saturating_add.result }) refl)
+
+pub returns-clause-held : goal.returns-clause-held
+returns-clause-held g c = misled_in _ c.write_page.result c.in_directory.result c.in_directory.ensures (if_misled_map c.write_page.result c.write_page.ensures.held (was_found c.args.page.fid c.args.at c.args.page refl))
 
 pub returns-in-Err-write_first-clause-alone : goal.returns-in-Err-write_first-clause-alone
 returns-in-Err-write_first-clause-alone g c = alone_twice c.write_first.ensures.alone c.write_first-2.ensures.alone

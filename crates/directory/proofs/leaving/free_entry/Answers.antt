@@ -1,4 +1,4 @@
-use Rattle.std.proofs.Common.{Bool, Err, List, Some, [], ap, refl, subst, sym, ℕ, ◌∙◌, ◌≡◌}
+use Rattle.std.proofs.Common.{Bool, Err, List, Some, [], ap, inl, inr, refl, subst, sym, ℕ, ◌∙◌, ◌≡◌}
 use Rattle.disk_records.proofs.Growing.{alone_twice}
 use Rattle.disk_records.proofs.Looking.{looks_pack}
 use Rattle.disk_records.specs.Causes.{never, other}
@@ -15,7 +15,7 @@ use Rattle.directory.specs.Errors.{disk_fault, out_of_memory}
 use Rattle.directory.specs.Inside.{found_at}
 use Rattle.directory.proofs.Answering.{cause_in, misled_in, not_absent, not_by_slots, on_ok_in, operates_in}
 use Rattle.directory.proofs.LeavingEntry.{entry_is_there, freed_is, left_once, quick_written, slot_freed}
-use Rattle.directory.proofs.Misleading.{misled_any}
+use Rattle.directory.proofs.Misleading.{misled_any, misled_map, was_found}
 use Rattle.directory.proofs.leaving.free_entry.Goals as goal
 
 pub returns-in-Ok-clause-alone : goal.returns-in-Ok-clause-alone
@@ -71,6 +71,23 @@ returns-in-Ok-clause-misled g c told found =
     let carries : carried (pack (g.D.Tape.tape c.locate_entry.new.disk)) c.in-Ok.at ≡ Some (page_number f c.page_of_word.result) =
     subst (λ (q : Pack). carried q c.in-Ok.at ≡ Some (page_number f c.page_of_word.result)) (sym same) ((c.in-Ok.ensures.stands told).carries ∙ ap (λ n. Some (page_number f n)) (sym c.page_of_word.ensures)) in
     misled_in _ c.write_page.result c.in_directory.result c.in_directory.ensures (if_misled_map c.write_page.result (c.write_page.ensures.misled told carries) (λ place at wanted found nothing. absurd nothing))
+
+pub returns-in-Ok-clause-hint : goal.returns-in-Ok-clause-hint
+returns-in-Ok-clause-hint g c told =
+    let f = c.args.dir.now.fid in
+    let same = looks_pack c.locate_entry.ensures.looks told in
+    let carries : carried (pack (g.D.Tape.tape c.locate_entry.new.disk)) c.in-Ok.at ≡ Some (page_number f c.page_of_word.result) =
+    subst (λ (q : Pack). carried q c.in-Ok.at ≡ Some (page_number f c.page_of_word.result)) (sym same) ((c.in-Ok.ensures.stands told).carries ∙ ap (λ n. Some (page_number f n)) (sym c.page_of_word.ensures)) in
+    misled_in _ c.write_page.result c.in_directory.result c.in_directory.ensures (if_misled_map c.write_page.result (c.write_page.ensures.misled told carries) (λ place at wanted found nothing. absurd nothing))
+
+pub returns-in-Ok-clause-given : goal.returns-in-Ok-clause-given
+returns-in-Ok-clause-given g c =
+    let f = c.args.dir.now.fid in
+    misled_in _ c.write_page.result c.in_directory.result c.in_directory.ensures
+    (if_misled_map c.write_page.result c.write_page.ensures.held (λ place at wanted found x. inr (was_found f c.in-Ok.at (page_number f c.page_of_word.result) refl place at wanted found x)))
+
+pub returns-in-Err-clause-given : goal.returns-in-Err-clause-given
+returns-in-Err-clause-given g c = misled_map {T = Unit {0}} (Err c.in-Err.error) c.in-Err.ensures.hint (λ place at wanted found x. inl x)
 
 pub returns-in-Ok-clause-quiet : goal.returns-in-Ok-clause-quiet
 returns-in-Ok-clause-quiet g c told =

@@ -5,7 +5,7 @@ use Rattle.disk_records.specs.Tapes.{pack}
 use Rattle.alto_words.specs.declared.wanted.Wanted.TheVariants.{Exact}
 use Rattle.label_check.specs.declared.errors.PageInfo.{PageInfo}
 use Rattle.pack_model.specs.states.Whole.{Whole}
-use Rattle.page_seeking.specs.Refs.{FileIsFrom, MisledBy}
+use Rattle.page_seeking.specs.Refs.{FileIsFrom, IsOwnHint, MisledBy}
 use Rattle.page_seeking.specs.Seeking.{IsLengthBelow, Quick, Stands, page_number}
 use Rattle.page_seeking.proofs.Erring.{if_misled_map}
 use Rattle.page_seeking.proofs.Seeking.{misled_before}
@@ -48,6 +48,9 @@ returns-in-Err-locate-clause-misled g c told found =
     let from : FileIsFrom (pack (g.D.Tape.tape c.named_entry.new.disk)) c.args.dir.now = subst (λ (q : Pack). FileIsFrom q c.args.dir.now) (sym same) found.from in
     unlocated_misled (ℕ × PageInfo) (ℕ × EntryFound) (MisledBy (pack (g.D.Tape.tape c.args.disk.now)) [] c.args.dir.now.fid) c.in-Err-locate.error c.unlocated.result c.unlocated.ensures
     (if_misled_map {T = ℕ × PageInfo} (Err c.in-Err-locate.error) (c.in-Err-locate.ensures.misled told from) (λ place at wanted found x. misled_before c.named_entry.ensures.looks told x))
+
+pub returns-in-Err-locate-clause-hint : goal.returns-in-Err-locate-clause-hint
+returns-in-Err-locate-clause-hint g c = unlocated_misled (ℕ × PageInfo) (ℕ × EntryFound) (IsOwnHint c.args.dir.now) c.in-Err-locate.error c.unlocated.result c.unlocated.ensures c.in-Err-locate.ensures.hint
 
 pub returns-in-Err-locate-clause-cause : goal.returns-in-Err-locate-clause-cause
 returns-in-Err-locate-clause-cause g c = unlocated_cause (g.D.Tape.tape c.args.disk.now) (g.D.Tape.tape c.named_entry.new.disk) (g.D.Tape.tape c.locate.new.disk) c.in-Err-locate.error c.unlocated.result c.unlocated.ensures c.named_entry.ensures.looks.alone.grown.disk_faults c.in-Err-locate.ensures.cause

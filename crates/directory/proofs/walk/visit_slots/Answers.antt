@@ -7,7 +7,7 @@ use Rattle.hint_cache.specs.Caches.{Cached}
 use Rattle.label_check.specs.declared.errors.PageInfo.{PageInfo}
 use Rattle.pack_model.specs.hints.Links.{LinksTrue, dir_slots}
 use Rattle.pack_model.specs.hints.Misled.{IsOnDisk}
-use Rattle.page_seeking.specs.Refs.{FileIsFrom, FileIsRooted, FileStands, IfBeyond, MisledBy}
+use Rattle.page_seeking.specs.Refs.{FileIsFrom, FileIsRooted, FileStands, IfBeyond, IsOwnHint, MisledBy}
 use Rattle.page_seeking.specs.Seeking.{IsEnd, Quick, Stands, page_number}
 use Rattle.page_seeking.proofs.Erring.{if_misled_map}
 use Rattle.page_seeking.proofs.Listing.{is_listed, listed_since}
@@ -102,6 +102,9 @@ returns-in-Err-clause-on_disk g c = λ told rooted.
     let same = looks_pack c.loop-full.invariant.looks told in
     ended_misled (ℕ × PageInfo) (λ place at wanted found. IsOnDisk place) c.in-Err.error c.ended.result c.ended.ensures
     (c.in-Err.ensures.on_disk told (subst (λ (q : Pack). FileIsRooted q c.args.dir.now) (sym same) rooted))
+
+pub returns-in-Err-clause-hint : goal.returns-in-Err-clause-hint
+returns-in-Err-clause-hint g c = ended_misled (ℕ × PageInfo) (IsOwnHint c.args.dir.now) c.in-Err.error c.ended.result c.ended.ensures c.in-Err.ensures.hint
 
 pub returns-in-Err-clause-true_links : goal.returns-in-Err-clause-true_links
 returns-in-Err-clause-true_links g c = λ told stands links.

@@ -1,10 +1,10 @@
 use Rattle.std.proofs.Common.{ap, subst, sym, ◌∙◌}
 use Rattle.disk_records.specs.Tapes.{pack}
 use Rattle.exec_words.specs.declared.line.Line.TheVariants as line
-use Rattle.session_model.specs.Answering.{TakesTurn}
+use Rattle.session_model.specs.Answering.{IsByModel, TakesTurn}
 use Rattle.session_model.specs.Turning.{typed}
 use Rattle.exec_session.specs.Meant.{kept}
-use Rattle.exec_session.proofs.Ending.{formed_after, no_streams, quit_ends, quit_reply, some_level, stopped_tally, turns_broken, turns_closed}
+use Rattle.exec_session.proofs.Ending.{formed_after, never_by_model, no_streams, quit_ends, quit_reply, some_level, stopped_tally, turns_broken, turns_closed}
 use Rattle.exec_session.proofs.end.quit.Goals as goal
 
 pub returns-in-Ok-clause-turns : goal.returns-in-Ok-clause-turns
@@ -37,3 +37,6 @@ returns-in-Err-clause-turns g c = λ told s keeping.
     (turns_broken a b one c.stopped.new.session s (typed line.Quit) keeping (quit_ends s none least) (g.met.D.Disk.formed c.args.disk.now told) h.alone.grown
     x (λ is. (h.in_need is).0) (h.closes told) (h.unfailing told) h.unrefused
     (ap (λ k. k.tally) c.stopped.ensures.kept ∙ stopped_tally x (kept c.close.new.session) ∙ ap (λ z. z.tally) h.left))
+
+pub returns-in-Err-clause-unrefused : goal.returns-in-Err-clause-unrefused
+returns-in-Err-clause-unrefused g c = λ by. never_by_model c.in-Err.stop c.in-Err.ensures.unrefused (subst IsByModel c.stopped.ensures.reply by)

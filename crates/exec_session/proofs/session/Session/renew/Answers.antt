@@ -4,16 +4,23 @@ use Rattle.hint_cache.specs.Caches.{Cached}
 use Rattle.laws_midway.proofs.loops.Laws.{each_sector_stays}
 use Rattle.page_seeking.proofs.Once.{once_of_whole}
 use Rattle.exec_session.specs.Meant.{kept}
-use Rattle.exec_session.specs.Opens.{Renews}
+use Rattle.exec_session.specs.Opens.{OpensAgain, Renews}
 use Rattle.exec_session.proofs.PackOpening.{answer_is}
 use Rattle.exec_session.proofs.Sessions.{is_renewed, renewed_of, renews_not}
 use Rattle.exec_session.proofs.session.Session.renew.Goals as goal
+
+pub returns-in_err-opened-clause-opens : goal.returns-in_err-opened-clause-opens
+returns-in_err-opened-clause-opens g c = λ told once.
+    subst (OpensAgain (pack (g.D.Tape.tape c.args.disk.now))) (sym (answer_is c.from_residual.result c.from_residual.ensures.1)) (c.in_err-opened.ensures.refused told once)
 
 pub returns-in_err-opened-clause-renews : goal.returns-in_err-opened-clause-renews
 returns-in_err-opened-clause-renews g c = λ told mended.
     let p = pack (g.D.Tape.tape c.args.disk.now) in
     let refused = c.in_err-opened.ensures.refused told (once_of_whole p mended.sound.whole) in
     subst (Renews p (kept c.args.self.now) (kept c.args.self.now)) (sym (answer_is c.from_residual.result c.from_residual.ensures.1)) (renews_not p mended (g.met.D.Disk.formed c.args.disk.now told) c.in_err-opened.field-0.0 refused)
+
+pub returns-clause-opens : goal.returns-clause-opens
+returns-clause-opens g c = λ told once. (c.in_ok-opened.ensures.opened told once).0
 
 pub returns-clause-renews : goal.returns-clause-renews
 returns-clause-renews g c = λ told mended.

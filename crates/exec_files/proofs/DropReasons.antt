@@ -1,0 +1,163 @@
+-- What `delete` and `rmdir` are refused for: the tests of their operand, in their order, and nothing else.
+use Rattle.std.proofs.Common.{◌≡◌, ◌||◌, ◌∷◌, ◌++◌, ◌∙◌, Bool, List, None, Option, Some, [], ap, arith, false, length, nat_lt, not, refl, true, ℕ}
+use Rattle.std.proofs.lemmas.Bool.{le-ltb, lt-ltb}
+use Rattle.std.specs.List.{list_any}
+use Rattle.std.specs.Option.{option_or}
+use Rattle.alto_words.specs.declared.fid.Fid.{Fid}
+use Rattle.alto_words.specs.Fid.{disk_descriptor, is_directory, is_fid, is_system, sys_dir}
+use Rattle.exec_words.specs.declared.line.Line.{Line}
+use Rattle.exec_words.specs.declared.line.Line.TheVariants as line
+use Rattle.exec_words.specs.declared.line.Path.{Path}
+use Rattle.exec_words.specs.declared.line.Target.TheVariants.{ByPath}
+use Rattle.exec_words.specs.declared.reply.Refusal.{Refusal}
+use Rattle.exec_words.specs.declared.reply.Refusal.TheVariants as refusal
+use Rattle.laws_lookup.specs.DropLaws.{is_an_entry}
+use Rattle.pack_model.specs.reading.Files.{first}
+use Rattle.pack_model.specs.reading.Model.{Model, room}
+use Rattle.pack_model.specs.reading.Namings.{namings_in}
+use Rattle.pack_model.specs.reading.Slots.{Item}
+use Rattle.pack_model.specs.reading.Slots.Item.{entry, space}
+use Rattle.session_model.specs.Effects.{effect}
+use Rattle.session_model.specs.Finding.{file_at, has_entry}
+use Rattle.session_model.specs.Operands.{Operand, in_root, no_directory, removed}
+use Rattle.session_model.specs.Refusals.{by_line, is_streamed, left_in, not_empty, of_system, of_taken_name, of_wrong_kind, missing, reasons, when, when_found, when_missing, wrong_kind, wrong_system}
+use Rattle.session_model.specs.Replies.{refusal as refusal_to}
+use Rattle.session_model.specs.Worlds.{World}
+use Rattle.exec_session.specs.Found.{operand, operand_tests}
+use Rattle.exec_session.specs.Meant.{IsTakenUpBy}
+
+abbrev first_of : List (Option Refusal) → Option Refusal
+first_of rs = first (λ r. r) rs
+
+-- ---- lists of reasons
+skip : (rs more : List (Option Refusal)) → first_of rs ≡ None → first_of (rs ++ more) ≡ first_of more
+unfolding first
+skip [] more e = refl
+skip (None ∷ rs) more e = skip rs more e
+skip (Some r ∷ rs) more e = absurd (let n : Some r ≡ None = e in cc)
+
+ends : (rs more : List (Option Refusal)) → first_of more ≡ None → first_of (rs ++ more) ≡ first_of rs
+unfolding first
+ends [] more e = e
+ends (None ∷ rs) more e = ends rs more e
+ends (Some r ∷ rs) more e = refl
+
+by_tests : (l : Line) (m : Model) (w : World) (tests more : List (Option Refusal)) → IsTakenUpBy w l → reasons l m w (effect l m w).ops ≡ by_line l w ++ (tests ++ more) → first_of more ≡ None → refusal_to l m w ≡ first_of tests
+by_tests l m w tests more taken are none = ap first_of are ∙ skip (by_line l w) (tests ++ more) taken ∙ ends tests more none
+
+-- no stream is open, and no page comes
+others_none : (m : Model) (streamed : Bool) → streamed ≡ false → first_of (None ∷ None ∷ None ∷ when streamed refusal.StreamsOpen ∷ None ∷ None ∷ None ∷ when (nat_lt (room m) 0) (refusal.Full 0 (room m)) ∷ []) ≡ None
+unfolding first
+others_none m streamed still = by streamed (nat_lt (room m) 0) still (le-ltb (room m) 0 (omega arith))
+  where
+    by : (b few : Bool) → b ≡ false → few ≡ false → first_of (None ∷ None ∷ None ∷ when b refusal.StreamsOpen ∷ None ∷ None ∷ None ∷ when few (refusal.Full 0 (room m)) ∷ []) ≡ None
+    by false false d e = refl
+    by true few d e = cc
+    by false true d e = cc
+
+more_none : (m : Model) (a b : Option Refusal) (streamed : Bool) → a ≡ None → b ≡ None → streamed ≡ false → first_of (a ∷ b ∷ None ∷ None ∷ None ∷ when streamed refusal.StreamsOpen ∷ None ∷ None ∷ None ∷ when (nat_lt (room m) 0) (refusal.Full 0 (room m)) ∷ []) ≡ None
+unfolding first
+more_none m None None streamed e f still = others_none m streamed still
+more_none m (Some r) b streamed e f still = absurd (let n : Some r ≡ None = e in cc)
+more_none m None (Some r) streamed e f still = absurd (let n : Some r ≡ None = f in cc)
+
+-- ---- `delete`
+unstreamed : (w : World) (r : Option Fid) → w.streams ≡ [] → is_streamed w r ≡ false
+unstreamed w None none = refl
+unstreamed w (Some f) none = ap (list_any (λ s. is_fid s.fid f)) none
+
+left_none : (m : Model) (r : Option Fid) → when_found r (left_in m no_directory) ≡ None
+left_none m None = refl
+left_none m (Some f) = refl
+
+pub delete_refused : (m : Model) (w : World) (path : Path) → w.streams ≡ [] → IsTakenUpBy w (line.Delete path) → refusal_to (line.Delete path) m w ≡ first_of (operand_tests m (operand (ByPath path) no_directory))
+delete_refused m w path none taken =
+    let o = operand (ByPath path) no_directory in
+    let streamed = is_streamed w (file_at m (ByPath path)) in
+    by_tests (line.Delete path) m w (operand_tests m o)
+    (of_taken_name m o ∷ not_empty m o ∷ None ∷ None ∷ None ∷ when streamed refusal.StreamsOpen ∷ None ∷ None ∷ None ∷ when (nat_lt (room m) 0) (refusal.Full 0 (room m)) ∷ []) taken refl
+    (more_none m (of_taken_name m o) (not_empty m o) streamed refl (left_none m (file_at m (ByPath path))) (unstreamed w (file_at m (ByPath path)) none))
+
+-- ---- `rmdir`
+abbrev removed_operand : List ℕ → Operand
+removed_operand name = operand (ByPath (in_root name)) removed
+
+-- its tests, by the file that is meant
+abbrev pub removed_tests : Model → Option Fid → Option Refusal
+removed_tests m f = first_of (
+    option_or None (when_missing f refusal.NoSuchName)
+    ∷ option_or (when (not (is_directory sys_dir)) refusal.NotADirectory) (when_found f (wrong_kind removed))
+    ∷ when_found f (wrong_system removed)
+    ∷ None
+    ∷ when_found f (left_in m removed)
+    ∷ [])
+
+pub rmdir_refused : (m : Model) (w : World) (name : List ℕ) → IsTakenUpBy w (line.RemoveDir name) → refusal_to (line.RemoveDir name) m w ≡ removed_tests m (file_at m (ByPath (in_root name)))
+rmdir_refused m w name taken =
+    let o = removed_operand name in
+    by_tests (line.RemoveDir name) m w (missing m o ∷ of_wrong_kind m o ∷ of_system m o ∷ of_taken_name m o ∷ not_empty m o ∷ [])
+    (None ∷ None ∷ None ∷ when false refusal.StreamsOpen ∷ None ∷ None ∷ None ∷ when (nat_lt (room m) 0) (refusal.Full 0 (room m)) ∷ []) taken refl
+    (others_none m false refl)
+
+pub removed_absent : (m : Model) → removed_tests m None ≡ Some refusal.NoSuchName
+unfolding first
+removed_absent m = refl
+
+-- of one that is there
+abbrev kind_or : Bool → Bool → Bool → Option Refusal
+kind_or directory system entries = option_or (when (not directory) refusal.NotADirectory) (option_or (when system refusal.SystemFile) (when entries refusal.NotEmpty))
+
+removed_is : (m : Model) (f : Fid) → removed_tests m (Some f) ≡ kind_or (is_directory f) (is_system f) (has_entry m f)
+unfolding first
+removed_is m f = by (is_directory f) (is_fid f sys_dir) (is_fid f disk_descriptor) (has_entry m f)
+  where
+    by : (a b c d : Bool) → option_or None (option_or (option_or None (when (not a) refusal.NotADirectory)) (option_or (when (c || b) refusal.SystemFile) (option_or None (option_or (when d refusal.NotEmpty) None)))) ≡ kind_or a (b || c) d
+    by true true true true = refl
+    by true true true false = refl
+    by true true false true = refl
+    by true true false false = refl
+    by true false true true = refl
+    by true false true false = refl
+    by true false false true = refl
+    by true false false false = refl
+    by false b c d = refl
+
+module _ (m : Model) (f : Fid) where
+  pub no_directory_refused : not (is_directory f) ≡ true → removed_tests m (Some f) ≡ Some refusal.NotADirectory
+  no_directory_refused is = removed_is m f ∙ by (is_directory f) is
+    where
+      by : (b : Bool) → not b ≡ true → kind_or b (is_system f) (has_entry m f) ≡ Some refusal.NotADirectory
+      by true e = cc
+      by false e = refl
+
+  pub system_refused : not (is_directory f) ≡ false → is_system f ≡ true → removed_tests m (Some f) ≡ Some refusal.SystemFile
+  system_refused directory is = removed_is m f ∙ by (is_directory f) (is_system f) directory is
+    where
+      by : (b c : Bool) → not b ≡ false → c ≡ true → kind_or b c (has_entry m f) ≡ Some refusal.SystemFile
+      by true true d e = refl
+      by true false d e = cc
+      by false c d e = cc
+
+  pub entries_refused : not (is_directory f) ≡ false → is_system f ≡ false → has_entry m f ≡ true → removed_tests m (Some f) ≡ Some refusal.NotEmpty
+  entries_refused directory system is = removed_is m f ∙ by (is_directory f) (is_system f) (has_entry m f) directory system is
+    where
+      by : (b c d : Bool) → not b ≡ false → c ≡ false → d ≡ true → kind_or b c d ≡ Some refusal.NotEmpty
+      by true false true e g h = refl
+      by true false false e g h = cc
+      by true true d e g h = cc
+      by false c d e g h = cc
+
+  pub nothing_refused : not (is_directory f) ≡ false → is_system f ≡ false → has_entry m f ≡ false → removed_tests m (Some f) ≡ None
+  nothing_refused directory system is = removed_is m f ∙ by (is_directory f) (is_system f) (has_entry m f) directory system is
+    where
+      by : (b c d : Bool) → not b ≡ false → c ≡ false → d ≡ false → kind_or b c d ≡ None
+      by true false false e g h = refl
+      by true false true e g h = cc
+      by true true d e g h = cc
+      by false c d e g h = cc
+
+-- ---- entries of a directory
+pub entries_among : (d : Fid) (is : List Item) → nat_lt 0 (length (namings_in d is)) ≡ list_any is_an_entry is
+entries_among d [] = refl
+entries_among d (space n ∷ is) = entries_among d is
+entries_among d (entry f name ∷ is) = lt-ltb 0 (length (namings_in d (entry f name ∷ is))) (omega arith)

@@ -1,0 +1,69 @@
+use Rattle.std.proofs.Common.{Bool, Contains, Err, List, Result, [], arith, refl, subst, sym, ◌∷◌}
+use Rattle.disk_records.proofs.Growing.{alone_twice}
+use Rattle.disk_records.specs.Tapes.{added, pack}
+use Rattle.laws_call.specs.Acting.{Operates, around}
+use Rattle.page_seeking.specs.Refs.{FileStands}
+use Rattle.pack_model.specs.hints.Misled.{AnswersMisled}
+use Rattle.pack_model.specs.operations.Step.Operation.{drop_file}
+use Rattle.exec_session.specs.Meant.{IfHint, kept}
+use Rattle.exec_session.specs.Stops.{stop_entered}
+use Rattle.exec_session.specs.declared.stop.Stop.{Stop}
+use Rattle.exec_session.specs.declared.stop.Stop.TheVariants as stop
+use Rattle.exec_steps.specs.Midway.{StepsOn}
+use Rattle.exec_steps.proofs.Answers.{error_is}
+use Rattle.exec_steps.proofs.Calling.{hints_step}
+use Rattle.exec_files.proofs.EntryFound.{found_by}
+use Rattle.exec_files.proofs.OneDrop.{dir_left, drop_breaks, drop_ends, file_hints, slot_hints, went, whole_left}
+use Rattle.exec_files.proofs.dropping.drop_found.Goals as goal
+
+pub returns-in_err-written-clause-steps : goal.returns-in_err-written-clause-steps
+returns-in_err-written-clause-steps g c = λ told may.
+    let a = g.D.Tape.tape c.args.disk.now in
+    let b = g.D.Tape.tape c.drop_file-dropped.new.disk in
+    let s = c.args.session.now in
+    let f = c.args.found.now.file.fid in
+    let d = c.args.found.now.dir.fid in
+    let whole = may.dir.stands.whole in
+    let tidy = may.dir.stands.tidy in
+    let dropped = c.drop_file-dropped in
+    let e = dropped.ensures in
+    let limit = c.limit_of-limit.ensures in
+    let y = c.in_err-written.field-0.0 in
+    let stands : FileStands (pack a) c.args.found.now.file = record { whole = whole; tidy = tidy; from = may.from } in
+    subst (λ (r : Result (Unit {0}) Stop). StepsOn a b (kept s) (kept (record s { hints = dropped.new.hints; tally = dropped.new.tally })) (drop_file f ∷ []) [] (f ∷ d ∷ []) r) (sym (error_is c.from_residual.result c.from_residual.ensures.1))
+    (hints_step a b s dropped.new.hints dropped.new.tally (drop_file f) [] (f ∷ d ∷ []) (Err y) refl e.alone
+    (g.met.D.Disk.counted c.args.disk.now told) (g.met.D.Disk.counted dropped.new.disk told) (omega (arith, limit))
+    (drop_breaks a s.hints.table s.tally f d c.args.found.now.name whole tidy (found_by (pack a) d c.args.found.now.name f whole tidy may.dir.directory may.dir.living may.entered) b dropped.new.hints.table dropped.new.tally c.args.found.now.file dropped.result y c.in_err-written.ensures (e.releases told stands may.may))
+    (subst (λ (r : Result (Unit {0}) Stop). IfHint r (λ place at wanted found. Contains (f ∷ d ∷ []) wanted.fid × AnswersMisled (pack a) (added a b) place at wanted found)) (sym c.in_err-written.ensures)
+    (file_hints (pack a) (added a b) f d a b c.args.found.now.file dropped.result e.cause (e.misled told stands))))
+
+pub returns-clause-steps : goal.returns-clause-steps
+returns-clause-steps g c = λ told may.
+    let a = g.D.Tape.tape c.args.disk.now in
+    let b = g.D.Tape.tape c.drop_file-dropped.new.disk in
+    let e = g.D.Tape.tape c.free_slot-freed.new.disk in
+    let s = c.args.session.now in
+    let f = c.args.found.now.file.fid in
+    let dir = c.args.found.now.dir in
+    let d = dir.fid in
+    let name = c.args.found.now.name in
+    let whole = may.dir.stands.whole in
+    let tidy = may.dir.stands.tidy in
+    let one = c.drop_file-dropped.ensures in
+    let two = c.free_slot-freed.ensures in
+    let limit = c.limit_of-limit.ensures in
+    let stands : FileStands (pack a) c.args.found.now.file = record { whole = whole; tidy = tidy; from = may.from } in
+    let entry = found_by (pack a) d name f whole tidy may.dir.directory may.dir.living may.entered in
+    let u = c.drop_file-dropped.new.tally in
+    let gone = went a s.hints.table s.tally f d name whole tidy entry b c.drop_file-dropped.new.hints.table u c.args.found.now.file c.in_ok-written.field-0 c.drop_file-dropped.result c.in_ok-written.ensures (one.releases told stands may.may) in
+    let left = dir_left a s.hints.table s.tally f d name whole tidy entry b c.drop_file-dropped.new.hints.table u gone one.alone.grown dir refl may.dir in
+    let there = whole_left a s.hints.table s.tally f d name whole tidy entry b c.drop_file-dropped.new.hints.table u gone one.alone.grown dir refl may.dir in
+    subst (λ (r : Result (Unit {0}) Stop). StepsOn a e (kept s) (kept (record s { hints = c.free_slot-freed.new.hints; tally = u })) (drop_file f ∷ []) [] (f ∷ d ∷ []) r) (sym c.entered.ensures)
+    (hints_step a e s c.free_slot-freed.new.hints u (drop_file f) [] (f ∷ d ∷ []) (stop_entered dir c.free_slot-freed.result) refl (alone_twice one.alone two.alone)
+    (g.met.D.Disk.counted c.args.disk.now told) (g.met.D.Disk.counted c.free_slot-freed.new.disk told) (omega (arith, limit))
+    (subst (λ (bits : List Bool). Operates stop.DiskFault stop.Memory (drop_file f) [] (around a s.hints.table s.tally) (around e bits u) (stop_entered dir c.free_slot-freed.result)) (sym two.table)
+    (drop_ends a s.hints.table s.tally f d name whole tidy entry b c.drop_file-dropped.new.hints.table u gone one.alone.grown dir refl may.dir e c.free_slot-freed.result two.alone.grown (two.frees told left)))
+    (slot_hints a s.hints.table s.tally f d name whole tidy entry b c.drop_file-dropped.new.hints.table u gone one.alone.grown dir refl may.dir e two.alone.grown c.free_slot-freed.result two.cause (two.absent told there left) (two.misled told left) (two.quiet told)))
+
+pub returns-clause-alone : goal.returns-clause-alone
+returns-clause-alone g c = alone_twice c.drop_file-dropped.ensures.alone c.free_slot-freed.ensures.alone

@@ -1,0 +1,16 @@
+pub mod AddedFile
+pub mod Adding
+pub mod CopyLine
+pub mod Copying
+pub mod Ends
+pub mod Frames
+pub mod Leaving
+pub mod NamedEntries
+pub mod NewPlaces
+pub mod NewSectors
+pub mod Reasons
+pub mod Refusing
+pub mod RenameLine
+pub mod Renaming
+pub mod Sorts
+pub mod Writing

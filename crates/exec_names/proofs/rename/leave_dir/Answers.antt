@@ -1,0 +1,31 @@
+use Rattle.std.proofs.Common.{Result, [], arith, refl, subst, sym, ◌∷◌}
+use Rattle.disk_records.specs.Causes.{other}
+use Rattle.disk_records.specs.Tapes.{added, pack}
+use Rattle.laws_call.specs.Acting.{around}
+use Rattle.pack_model.specs.operations.Step.Operation.{leave}
+use Rattle.exec_session.specs.Meant.{kept}
+use Rattle.exec_session.specs.Stops.{stop_entered}
+use Rattle.exec_session.specs.declared.stop.Stop.{Stop}
+use Rattle.exec_steps.specs.Midway.{StepsOn}
+use Rattle.exec_steps.proofs.Answers.{entered_hints, entered_operates, misled_quiet}
+use Rattle.exec_steps.proofs.Calling.{hints_step, in_one}
+use Rattle.exec_names.proofs.Leaving.{leaving_cause, leaving_roomy, leaving_untaken, never_absent, ordinary_entry}
+use Rattle.exec_names.proofs.rename.leave_dir.Goals as goal
+
+pub returns-clause-steps : goal.returns-clause-steps
+returns-clause-steps g c = λ told may.
+    let a = g.D.Tape.tape c.args.disk.now in
+    let b = g.D.Tape.tape c.leave-left.new.disk in
+    let s = c.args.session.now in
+    let found = c.args.found.now in
+    let dir = found.dir in
+    let e = c.leave-left.ensures in
+    let limit = c.limit_of-limit.ensures in
+    subst (λ (r : Result (Unit {0}) Stop). StepsOn a b (kept s) (kept (record s { hints = c.leave-left.new.hints; tally = c.leave-left.new.tally })) (leave dir.fid found.name ∷ []) [] (dir.fid ∷ []) r) (sym c.entered.ensures)
+    (hints_step a b s c.leave-left.new.hints c.leave-left.new.tally (leave dir.fid found.name) [] (dir.fid ∷ []) (stop_entered dir c.leave-left.result) refl e.alone
+    (g.met.D.Disk.counted c.args.disk.now told) (g.met.D.Disk.counted c.leave-left.new.disk told) (omega (arith, limit))
+    (entered_operates {old = around a s.hints.table s.tally} {new = around b c.leave-left.new.hints.table c.leave-left.new.tally} dir c.leave-left.result (e.operates told may.dir (ordinary_entry (pack a) found may)))
+    (entered_hints (pack a) (added a b) dir.fid (dir.fid ∷ []) (in_one dir.fid []) a b dir other other c.leave-left.result
+    (leaving_cause a b c.leave-left.result e.cause (λ is. never_absent (pack a) found may (e.absent told may.dir is)))
+    (leaving_untaken a b c.leave-left.result e.cause) (leaving_roomy a b c.leave-left.result e.cause)
+    (e.misled told may.dir) (misled_quiet (around a s.hints.table s.tally) (around b c.leave-left.new.hints.table c.leave-left.new.tally) c.leave-left.result (e.quiet told))))

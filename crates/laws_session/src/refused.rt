@@ -1,0 +1,19 @@
+//! From the tests that a line made, in their order, to what it is refused for.
+
+ghost use Rattle.laws_session.specs.RefusedLaws.{RefusedByTests, RefusedForRoom, RefusedInOrder};
+
+/// A line that is taken up is refused for the first of some tests that holds, whatever the others say; if none of these holds, for the
+/// first of the others.
+pub fn refused_in_order()
+    ensures { RefusedInOrder }
+{}
+
+/// If none of the others holds, it is refused for the first of these tests that holds, or not at all.
+pub fn refused_by_tests()
+    ensures { RefusedByTests }
+{}
+
+/// If none of the tests before that of the room holds, it is refused for want of room, or not at all.
+pub fn refused_for_room()
+    ensures { RefusedForRoom }
+{}

@@ -1,0 +1,12 @@
+pub mod Answers
+pub mod Ends
+pub mod Entering
+pub mod Goings
+pub mod LineEnds
+pub mod Lined
+pub mod LinesTyped
+pub mod Live
+pub mod Looping
+pub mod Nexts
+pub mod SoFar
+pub mod Typing

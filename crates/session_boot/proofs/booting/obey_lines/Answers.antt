@@ -1,0 +1,59 @@
+use Rattle.std.proofs.Common.{ap, refl, sym, subst, ◌∙◌, arith, Some}
+use Rattle.disk_records.proofs.Growing.{grown_here, grown_twice}
+use Rattle.exec_session.specs.Meant.{kept}
+use Rattle.session_boot.specs.Boots.{LastsBy}
+use Rattle.session_boot.proofs.Answers.{err_is}
+use Rattle.session_boot.proofs.Ends.{end_lasts}
+use Rattle.session_boot.proofs.Goings.{AtEnd, at_end_spent}
+use Rattle.session_boot.proofs.Looping.{next_lasts, next_more, next_none, next_over, starts}
+use Rattle.session_boot.proofs.SoFar.{Modelled}
+use Rattle.session_boot.proofs.booting.obey_lines.Goals as goal
+use Rattle.session_boot.proofs.booting.obey_lines.Goals.{else-lines-test, then-lines-test+in_ok-answer_next+in-None}
+
+pub lines-init : goal.lines-init
+lines-init g c = record {
+  grown = grown_here (g.M.Tape.tape c.args.machine.now);
+  formed = c.requires.formed;
+  limit = refl;
+  so_far = λ told moment first given limit opened sound is_begun. starts moment first (g.M.Tape.tape c.args.machine.now) given (kept c.args.session.now) opened is_begun;
+}
+
+pub returns-in_err-answer_next-clause-lasts : goal.returns-in_err-answer_next-clause-lasts
+returns-in_err-answer_next-clause-lasts g c = λ told moment first given limit opened sound is_begun.
+    let now = g.M.Tape.tape c.lines.machine in
+    let z = g.M.Tape.tape c.answer_next.new.machine in
+    let two = kept c.answer_next.new.session in
+    let result = c.from_residual.result in
+    let fault = c.in_err-answer_next.field-0.0 in
+    subst (LastsBy moment first z given two) (sym (err_is result fault c.from_residual.ensures.1))
+    (next_lasts two c.answer_next.new.left (c.lines.invariant.so_far told moment first given limit opened sound is_begun) (record { counts = g.met.M.Disk.counted c.lines.machine told; formed = g.met.M.Disk.formed c.lines.machine told }) limit sound opened.counts
+    c.answer_next.ensures.grown fault (c.in_err-answer_next.ensures.next told))
+
+pub returns-in-Some-Over-clause-lasts : goal.returns-in-Some-Over-clause-lasts
+returns-in-Some-Over-clause-lasts g c = λ told moment first given limit opened sound is_begun.
+    let modelled : Modelled (g.M.Tape.tape c.lines.machine) = record { counts = g.met.M.Disk.counted c.lines.machine told; formed = g.met.M.Disk.formed c.lines.machine told } in
+    next_over (kept c.answer_next.new.session) c.answer_next.new.left (c.lines.invariant.so_far told moment first given limit opened sound is_begun) modelled limit sound opened.counts
+    c.answer_next.ensures.grown c.in_ok-answer_next.field-0 (c.in-Some-Over.is ∙ ap (λ n. Some n) c.in-Some-Over.field-0-is) (c.in_ok-answer_next.ensures.next told)
+
+pub lines-preserved : goal.lines-preserved
+lines-preserved g c = record {
+  grown = grown_twice c.lines.invariant.grown c.answer_next.ensures.grown;
+  formed = c.answer_next.ensures.formed;
+  limit = c.answer_next.ensures.limit ∙ c.lines.invariant.limit;
+  so_far = λ told moment first given limit opened sound is_begun.
+      let modelled : Modelled (g.M.Tape.tape c.lines.machine) = record { counts = g.met.M.Disk.counted c.lines.machine told; formed = g.met.M.Disk.formed c.lines.machine told } in
+      next_more (kept c.answer_next.new.session) c.answer_next.new.left (c.lines.invariant.so_far told moment first given limit opened sound is_begun) modelled limit sound opened.counts
+      c.answer_next.ensures.grown c.in_ok-answer_next.field-0 (c.in-Some-More.is ∙ ap (λ n. Some n) c.in-Some-More.field-0-is) (c.in_ok-answer_next.ensures.next told);
+}
+
+pub returns-clause-lasts : goal.returns-clause-lasts
+returns-clause-lasts g c = λ told moment first given limit opened sound is_begun.
+    let so_far = c.lines.invariant.so_far told moment first given limit opened sound is_begun in
+    let modelled : Modelled (g.M.Tape.tape c.lines.machine) = record { counts = g.met.M.Disk.counted c.lines.machine told; formed = g.met.M.Disk.formed c.lines.machine told } in
+    let at : AtEnd moment first given (g.M.Tape.tape c.lines-test.machine) (kept c.lines-test.session) = elim c.lines-test.branch [
+      | else-lines-test w ↦ rw (w.machine-is, w.session-is) (at_end_spent so_far (omega arith))
+      | then-lines-test+in_ok-answer_next+in-None w ↦
+          rw (w.machine-is, w.session-is) (next_none (kept w.answer_next.new.session) w.answer_next.new.left so_far modelled limit sound opened.counts w.answer_next.ensures.grown w.in_ok-answer_next.field-0 w.in-None.is (w.in_ok-answer_next.ensures.next told))
+    ] in
+    end_lasts (kept c.end_session.new.session) at (record { counts = g.met.M.Disk.counted c.lines-test.machine told; formed = g.met.M.Disk.formed c.lines-test.machine told }) limit sound opened.counts
+    c.end_session.ensures.grown c.end_session.ensures.keys c.end_session.result (c.end_session.ensures.turn told) c.end_session.ensures.no_key

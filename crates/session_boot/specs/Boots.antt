@@ -1,0 +1,65 @@
+-- A whole session on a machine that is modelled.
+use Rattle.std.specs.Prelude.{◌≡◌, ◌⊎◌, ◌<◌, ◌^◌, ℕ, [], Option, Result, Ok, Err}
+use Rattle.disk_records.specs.declared.records.Tally.{Tally}
+use Rattle.disk_records.specs.Events.{writes_in}
+use Rattle.disk_records.specs.Tapes.{Grown, Rose, Taped, added, capped, pack}
+use Rattle.pack_model.specs.hints.Tables.{HintsTrue}
+use Rattle.pack_model.specs.states.Sound.{Clean, Sound}
+use Rattle.session_model.specs.Ending.{BootOf, EndsBy, NotEntered, SessionOf, Stop, done, needs_scavenge, disk_failed, display_failed, keys_failed, no_memory}
+use Rattle.session_model.specs.Keeping.{Kept}
+use Rattle.session_model.specs.Opening.{Begun}
+use Rattle.session_model.specs.Turning.{State}
+use Rattle.session_boot.specs.declared.status.Fault.{Fault}
+use Rattle.session_boot.specs.declared.status.Status.{Status}
+use Rattle.session_boot.specs.declared.status.Status.TheVariants as status
+use Rattle.session_boot.specs.Faults.{stop_of, stop_of_need}
+
+-- ---- how a session ended, by its status; Usage says of none
+abbrev pub EndsAs : Status → (Stop → Type 0) → Type 0
+EndsAs status.Done P = P done
+EndsAs status.Usage P = ⊥
+EndsAs status.NeedsScavenge P = P needs_scavenge
+EndsAs status.DiskFault P = P disk_failed
+EndsAs status.KeyFault P = P keys_failed
+EndsAs status.DisplayFault P = P display_failed
+EndsAs status.Memory P = P no_memory
+
+abbrev pub Boots : ℕ → Taped → Taped → Tally → Tally → Status → Type 0
+Boots moment old new given tally answer = EndsAs answer (λ stop. BootOf moment old new given tally stop)
+
+abbrev pub DoesntEnter : Taped → Taped → Tally → Tally → Status → Type 0
+DoesntEnter old new given tally answer = EndsAs answer (λ stop. NotEntered old new given tally stop)
+
+-- no device failed
+pub record NoneRose (old new : Taped) : Type 0 where
+  pub disk : Rose old.disk_faults new.disk_faults → ⊥
+  pub keys : Rose old.key_faults new.key_faults → ⊥
+  pub display : Rose old.show_faults new.show_faults → ⊥
+
+-- Of a machine that is modelled. A sound and clean pack: the session; and where its hints are true and no device failed it is done, or
+-- out of memory. A pack that isn't ready: one text and nothing else.
+pub record Booted (moment : ℕ) (old new : Taped) (given tally : Tally) (answer : Status) : Type 0 where
+  pub boots : Sound (pack old) → Clean (pack old) → Boots moment old new given tally answer
+  pub complete : Sound (pack old) → Clean (pack old) → HintsTrue (pack old) → NoneRose old new → (answer ≡ status.Done) ⊎ (answer ≡ status.Memory)
+  pub not_entered : DoesntEnter old new given tally answer
+
+-- ---- the lines of a session that has begun
+-- the pack was opened by this call, which wrote nothing and took no key
+pub record OpenedBy (first old : Taped) : Type 0 where
+  pub grown : Grown first old
+  pub silent : added first old ≡ []
+  pub keys : old.keys ≡ first.keys
+  pub counts : first.writes ≡ capped (writes_in first.events)
+
+-- the session, from that call on
+pub record LastsTo (moment : ℕ) (old new : Taped) (given tally : Tally) (stop : Stop) : Type 0 where
+  pub end : Option State
+  pub session : SessionOf moment old new given tally stop end
+  pub ends : EndsBy stop old new end
+
+abbrev pub LastsBy : ℕ → Taped → Taped → Tally → Kept → Result (Unit {0}) Fault → Type 0
+LastsBy moment first new given two (Ok x) = LastsTo moment first new given two.tally (stop_of_need two.need)
+LastsBy moment first new given two (Err fault) = LastsTo moment first new given two.tally (stop_of fault)
+
+abbrev pub Lasts : Taped → Taped → Kept → Kept → Result (Unit {0}) Fault → Type 0
+Lasts old new one two result = (moment : ℕ) (first : Taped) (given : Tally) → given.limit < 2 ^ 64 → OpenedBy first old → Sound (pack first) → Begun (pack first) one moment given.limit → LastsBy moment first new given two result

@@ -1,0 +1,65 @@
+-- Keys taken one at a time, and as lines.
+use Rattle.std.specs.Prelude.{◌≡◌, ◌≢◌, ◌⊎◌, ℕ, ◌+◌, ◌<◌, ◌≤◌, List, [], ◌∷◌, ◌++◌, length, take, drop, Option, Some, None, Result, Ok, Err, OnOk, IfErr, Vec}
+use Rattle.std.specs.declared.alloc.Global.{Global}
+use Rattle.disk_records.specs.Events.{IsFirstOf, shown_events}
+use Rattle.disk_records.specs.Tapes.{Taped, added}
+use Rattle.session_boot.specs.declared.status.Fault.{Fault}
+use Rattle.session_boot.specs.declared.status.Fault.TheVariants.{Display}
+
+abbrev pub TookKey : List ℕ → List ℕ → Result (Option ℕ) Fault → Type 0
+TookKey old new (Ok (Some key)) = old ≡ key ∷ new
+TookKey old new (Ok None) = (old ≡ []) × (new ≡ [])
+TookKey old new (Err e) = new ≡ old
+
+-- as much of a line as is kept: one byte more than a line may have
+abbrev pub kept_of : List ℕ → List ℕ
+kept_of line = take 4097 line
+
+-- no key of these ends a line
+abbrev pub IsUnbroken : List ℕ → Type 0
+IsUnbroken [] = Unit {0}
+IsUnbroken (key ∷ keys) = (key ≢ 10) × IsUnbroken keys
+
+-- a line that ended with a byte 10, where `before` keys counted and `after` still do
+pub record TookEnded (old new : List ℕ) (before after : ℕ) (line : List ℕ) : Type 0 where
+  pub whole : List ℕ
+  pub unbroken : IsUnbroken whole
+  pub split : old ≡ whole ++ 10 ∷ new
+  pub counted : length whole + 1 + after ≡ before
+  pub kept : line ≡ kept_of whole
+
+-- the keys that count are at their end: this is what was left of them
+pub record TookRest (old new : List ℕ) (before after : ℕ) (whole : List ℕ) : Type 0 where
+  pub unbroken : IsUnbroken whole
+  pub is : take before old ≡ whole
+  pub rest : new ≡ drop before old
+  pub spent : after ≡ 0
+
+pub record TookLast (old new : List ℕ) (before after : ℕ) (line : List ℕ) : Type 0 where
+  pub whole : List ℕ
+  pub some : whole ≢ []
+  pub took : TookRest old new before after whole
+  pub kept : line ≡ kept_of whole
+
+-- a line that ended, or the last one
+abbrev pub TookWhole : List ℕ → List ℕ → ℕ → ℕ → List ℕ → Type 0
+TookWhole old new before after line = TookEnded old new before after line ⊎ TookLast old new before after line
+
+-- a part of a line was taken
+pub record TookPart (old new : List ℕ) (before : ℕ) : Type 0 where
+  pub part : List ℕ
+  pub unbroken : IsUnbroken part
+  pub split : old ≡ part ++ new
+  pub counted : length part ≤ before
+  pub some : 0 < before
+
+abbrev pub TookLine : List ℕ → List ℕ → ℕ → ℕ → Result (Option (Vec ℕ Global)) Fault → Type 0
+TookLine old new before after (Ok (Some line)) = TookWhole old new before after line.items
+TookLine old new before after (Ok None) = TookRest old new before after []
+TookLine old new before after (Err e) = TookPart old new before
+
+-- bytes that are shown: all of them at Ok, a prefix where the display failed, else none
+pub record ShownAll (bytes : List ℕ) (old new : Taped) (result : Result (Unit {0}) Fault) : Type 0 where
+  pub some : IsFirstOf (shown_events bytes) (added old new)
+  pub ok : OnOk result (added old new ≡ shown_events bytes)
+  pub none : IfErr result (λ fault. fault ≢ Display → added old new ≡ [])

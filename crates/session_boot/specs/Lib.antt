@@ -1,0 +1,5 @@
+pub mod Boots
+pub mod Faults
+pub mod Keys
+pub mod Opening
+pub mod Turns

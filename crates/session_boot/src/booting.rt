@@ -1,0 +1,78 @@
+// A session: the pack is opened, typed lines are obeyed in order, and it is closed.
+ghost use Rattle.disk_records.specs.Tapes.{Grown};
+ghost use Rattle.exec_session.specs.Meant.{kept};
+ghost use Rattle.session_boot.specs.Boots.{Booted, Lasts};
+ghost use Rattle.session_boot.specs.Faults.{HasFaultCause, HasStatusCause};
+ghost use Rattle.session_model.specs.Keeping.{Formed};
+ghost use Rattle.std.specs.Prelude.{IsTrue, ◌≡◌, ◌≢◌};
+
+use crate::keys::MOST_KEYS;
+use crate::line::{Next, answer_next, end_session};
+use crate::opening::refuse_pack;
+use crate::status::{Fault, Status, status_of_need};
+use disk_records::{Machine, Tally};
+use executive::Session;
+use std::alloc::Global;
+
+/// The number of record writes up to which a tally counts.
+fn limit_of(tally: &Tally) -> u64
+    ensures { result ≡ tally.now.limit }
+{
+    tally.limit
+}
+
+/// Obeys the typed lines of a session until `quit` is answered `done` or no key is left that counts, and ends it.
+fn obey_lines<M: Machine>(
+    alloc: Global,
+    machine: &mut M,
+    session: &mut Session,
+) -> Result<(), Fault>
+    requires formed { Formed (M.tape machine.old).form (kept session.old) }
+    ensures lasts { IsTrue M.told → Lasts (M.tape machine.old) (M.tape machine.new) (kept session.old) (kept session.new) result }
+    ensures limit { (kept session.new).tally.limit ≡ (kept session.old).tally.limit }
+    ensures cause { HasFaultCause (M.tape machine.old) (M.tape machine.new) result }
+    ensures grown { Grown (M.tape machine.old) (M.tape machine.new) }
+{
+    let mut left = MOST_KEYS;
+    'lines: for _ in 0..MOST_KEYS {
+        match answer_next(alloc, machine, session, &mut left)? {
+            Some(Next::More) => {}
+            Some(Next::Over) => return Ok(()),
+            None => break,
+        }
+    }
+    end_session(alloc, machine, session)
+}
+
+/// The operating system: opens the pack, obeys the typed lines by the Executive in order, each with its reply, and closes the pack.
+/// `moment` is the time of new dates, in seconds since the start of 1901. `tally` gives the limit of record writes up to which operations
+/// are counted, and at the end it counts those of this session; where the pack isn't entered, none.
+///
+/// Done: the keys were taken to their end, to a `quit` that was answered `done`, or to 2^31 bytes, and the pack is closed. NeedsScavenge: the
+/// pack isn't entered, and the one text says why; or a hint failed in the session. DiskFault, KeyFault, DisplayFault: that device failed, and
+/// the session stopped at once. Memory: none was left. After each of these the pack isn't closed, and its next use begins with a scavenge.
+/// Usage is never answered.
+pub fn boot<M: Machine>(alloc: Global, moment: u32, tally: &mut Tally, machine: &mut M) -> Status
+    ensures booted { IsTrue M.told → Booted moment (M.tape machine.old) (M.tape machine.new) tally.old tally.new result }
+    ensures answers { result ≢ Status.Usage }
+    ensures limit { tally.new.limit ≡ tally.old.limit }
+    ensures cause { HasStatusCause (M.tape machine.old) (M.tape machine.new) result }
+    ensures grown { Grown (M.tape machine.old) (M.tape machine.new) }
+{
+    let limit = limit_of(tally);
+    *tally = Tally {
+        limit,
+        passed: 0,
+        all: 0,
+    };
+    let mut session = match Session::begin(alloc, machine, moment, limit) {
+        Ok(session) => session,
+        Err(error) => return refuse_pack(alloc, machine, error),
+    };
+    let ended = obey_lines(alloc, machine, &mut session);
+    *tally = session.tally();
+    match ended {
+        Ok(()) => status_of_need(session.needs_scavenge()),
+        Err(fault) => fault.status(),
+    }
+}

@@ -1,0 +1,106 @@
+// One turn: a line that is obeyed, or the end of the session, and its text.
+ghost use Rattle.disk_records.specs.Tapes.{Grown};
+ghost use Rattle.exec_session.specs.Meant.{kept};
+ghost use Rattle.session_boot.specs.Faults.{HasFaultCause};
+ghost use Rattle.session_boot.specs.Turns.{EndsTurnBy, NextTurn, TakesTurnBy, next_after};
+ghost use Rattle.session_model.specs.Ending.{cue_of};
+ghost use Rattle.session_model.specs.Keeping.{Formed};
+ghost use Rattle.session_model.specs.Turning.{ended};
+ghost use Rattle.std.specs.Prelude.{IsErrOf, IsTrue, OnOk, ◌≡◌};
+
+use crate::console::show_reply;
+use crate::keys::take_line;
+use crate::status::Fault;
+use disk_records::Machine;
+use executive::{Reply, Session, obey, read_line};
+use std::alloc::Global;
+
+/// What comes after a turn.
+#[derive(Clone, Copy, Debug, PartialEq, Eq)]
+pub(crate) enum Next {
+    /// The session goes on.
+    More,
+    /// It is over.
+    Over,
+}
+
+/// What comes after a reply, once its text is shown. A fault and out of memory have none.
+fn next_after(reply: &Reply) -> Result<Next, Fault>
+    ensures { result ≡ next_after reply.now }
+{
+    match reply {
+        Reply::Done { .. } | Reply::Refused { .. } | Reply::Scavenge => Ok(Next::More),
+        Reply::Quit => Ok(Next::Over),
+        Reply::DiskFault => Err(Fault::Disk),
+        Reply::Memory => Err(Fault::Memory),
+    }
+}
+
+/// Obeys a typed line, given without the byte 10 that ends it, and then shows its reply.
+///
+/// Disk: the disk failed; a prefix of the line's record writes is made, and nothing is shown. Display: the display failed; all of them are
+/// made, and a prefix of the reply is shown. Memory: none was left; a prefix of the record writes is made, and nothing is shown. After each
+/// of them the session is over.
+fn answer_line<M: Machine>(
+    alloc: Global,
+    machine: &mut M,
+    session: &mut Session,
+    text: &[u8],
+) -> Result<Next, Fault>
+    requires formed { Formed (M.tape machine.old).form (kept session.old) }
+    ensures turn { IsTrue M.told → TakesTurnBy (M.tape machine.old) (M.tape machine.new) (kept session.old) (kept session.new) (cue_of text.now) result }
+    ensures limit { (kept session.new).tally.limit ≡ (kept session.old).tally.limit }
+    ensures formed { Formed (M.tape machine.new).form (kept session.new) }
+    ensures cause { HasFaultCause (M.tape machine.old) (M.tape machine.new) result }
+    ensures no_key { IsErrOf result Fault.Key → ⊥ }
+    ensures grown { Grown (M.tape machine.old) (M.tape machine.new) }
+    ensures keys { (M.tape machine.new).keys ≡ (M.tape machine.old).keys }
+{
+    let line = read_line(alloc, text)?;
+    let reply = obey(alloc, session, machine, &line);
+    let next = next_after(&reply)?;
+    show_reply(alloc, machine, &reply)?;
+    Ok(next)
+}
+
+/// Takes the keys of the next line and answers it; None where no key is left that counts. `left` is the number of those that do.
+pub(crate) fn answer_next<M: Machine>(
+    alloc: Global,
+    machine: &mut M,
+    session: &mut Session,
+    left: &mut u32,
+) -> Result<Option<Next>, Fault>
+    requires formed { Formed (M.tape machine.old).form (kept session.old) }
+    ensures next { IsTrue M.told → NextTurn (M.tape machine.old) (M.tape machine.new) (kept session.old) (kept session.new) left.old left.new result }
+    ensures limit { (kept session.new).tally.limit ≡ (kept session.old).tally.limit }
+    ensures formed { Formed (M.tape machine.new).form (kept session.new) }
+    ensures cause { HasFaultCause (M.tape machine.old) (M.tape machine.new) result }
+    ensures grown { Grown (M.tape machine.old) (M.tape machine.new) }
+{
+    let Some(text) = take_line(alloc, machine, left)? else {
+        return Ok(None);
+    };
+    let next = answer_line(alloc, machine, session, &text)?;
+    Ok(Some(next))
+}
+
+/// Ends the session: the pack is closed, unless a scavenge is needed. A text says which hint failed, if one did.
+///
+/// Disk, Display and Memory: as of a line.
+pub(crate) fn end_session<M: Machine>(
+    alloc: Global,
+    machine: &mut M,
+    session: &mut Session,
+) -> Result<(), Fault>
+    requires formed { Formed (M.tape machine.old).form (kept session.old) }
+    ensures turn { IsTrue M.told → EndsTurnBy (M.tape machine.old) (M.tape machine.new) (kept session.old) (kept session.new) ended result }
+    ensures limit { (kept session.new).tally.limit ≡ (kept session.old).tally.limit }
+    ensures cause { HasFaultCause (M.tape machine.old) (M.tape machine.new) result }
+    ensures no_key { IsErrOf result Fault.Key → ⊥ }
+    ensures grown { Grown (M.tape machine.old) (M.tape machine.new) }
+    ensures keys { (M.tape machine.new).keys ≡ (M.tape machine.old).keys }
+{
+    let reply = session.end(alloc, machine);
+    next_after(&reply)?;
+    show_reply(alloc, machine, &reply)
+}
