@@ -1,17 +1,21 @@
 #!/usr/bin/env python3
-"""Kills the program while it patches in a loop, and compares the pack with what was acknowledged.
+"""Kills the program at random moments of random typed sessions, and compares the pack with what was acknowledged.
 
-Each line writes a whole page. After each kill the pack file must be, byte by byte, what the acknowledged lines make, or these and one
-more whose reply wasn't shown whole: the record of that line is old or new, and nothing else has changed. Linux looks for a signal that
-kills between the pages of memory that a write call fills. So a record that lies over a multiple of 4,096 bytes of the file may be torn
-there, its first part new and its last part old. It may be torn nowhere else, and no other record may be.
+The sessions are those of check/sessions.py. Each is obeyed whole once, and then killed several times from the same pack. What was shown
+by then has to be a prefix of its replies. The pack, read as a scavenge would mend it, has to have the names, dates and bytes after all
+operations of the acknowledged lines and a prefix of those of the next one, by check/plain.py: `show` lists the names, and labels tell the
+rest (tools/packtools). Either the pack isn't entered, as its mark is open, or it has the free pages of that prefix.
 
-Three kills of four come while lines write the page on sector 7, which lies over byte 4,096, and the others while lines write one page
-after the other. The random choices are how long the program runs before it is killed.
+Linux looks for a signal that kills between the pages of memory that a write call fills. So a record that lies over a multiple of 4,096
+bytes of a pack file may be torn there, its front new and its rest old. If a pack is as after none of these prefixes, the session is run
+again up to the line that was killed, and through it. Where there is such a record whose front is as that line leaves it, and whose rest
+isn't, the kill is counted apart; it is trusted that there is no other. The seed makes the same sessions again, and not the same kills.
 """
 import collections
+import copy
 import pathlib
 import random
+import struct
 import subprocess
 import sys
 import tempfile
@@ -21,112 +25,171 @@ sys.dont_write_bytecode = True
 sys.path.append(str(pathlib.Path(__file__).resolve().parent.parent / "check"))
 import arguments
 import packs
+import sessions
 
-CYLINDERS = 2
-PAGES = 24
-LINES = 20_000
-SHORTEST, LONGEST = 0.001, 0.06
+sys.path.append(str(arguments.TOP / "tools"))
+from packtools.pack import DESCRIPTOR, SYS_DIR, read_pack
+
 MEMORY_PAGE = 4_096
-# the page of the file whose bytes lie from 3,744 to 4,255 of the pack file
-CROSSING = 1
-REPLY = b"done\n"
+# where the header, the label and the value of a sector begin, and the sector ends
+RECORDS = [0, 4, packs.VALUE_AT, packs.SECTOR]
+KILLED = -9
+# of one session
+KILLS = 5
+NOT_CLEAN = (2, b"pack not clean: mark 2\n", b"")
 
 
-class Lines:
-    """Lines that write the page on sector 7 alone, or one page after the other. They are counted from 1."""
-
-    def __init__(self, folder, in_turn):
-        self.in_turn = in_turn
-        self.typed = folder / f"typed{in_turn:d}"
-        self.typed.write_text("".join(self.text(number) for number in range(1, LINES + 1)))
-
-    def page(self, number):
-        return number % PAGES if self.in_turn else CROSSING
-
-    def place(self, number):
-        """Where in the pack file a line writes."""
-        return packs.place(self.page(number) * packs.PAGE)
-
-    def value(self, number):
-        """The bytes that a line writes: each differs from the one that stood there."""
-        return (number * 0x01010101 % 2**32).to_bytes(4, "big") * (packs.PAGE // 4)
-
-    def text(self, number):
-        return f"patch #{packs.SERIAL} {self.page(number) * packs.PAGE} {self.value(number).hex()}\n"
-
-    def written(self, image, number):
-        """The image with this line's record."""
-        place = self.place(number)
-        return image[:place] + self.value(number) + image[place + packs.PAGE :]
-
-    def acknowledged(self, start, done):
-        """The image behind so many lines. The last of them have written each page that any of them has."""
-        for number in range(max(1, done - PAGES + 1), done + 1):
-            start = self.written(start, number)
-        return start
+def state_of(plain):
+    return plain.listing(), plain.contents(), plain.free()
 
 
-def write_by_sectors(file, content):
-    """Writes a file piece by piece. Memory of a file that is written at once may come in larger pieces than pages."""
-    with open(file, "wb", buffering=0) as out:
-        for at in range(0, len(content), packs.SECTOR):
-            out.write(content[at : at + packs.SECTOR])
+def states(plain, lines, replies, shown):
+    """The states that a pack may have when so much was shown: after each prefix of the operations of the line that isn't acknowledged."""
+    plain, acknowledged = copy.deepcopy(plain), acknowledged_lines(replies, shown)
+    for line in lines[:acknowledged]:
+        plain.obey(line)
+    found = [state_of(plain)]
+    if acknowledged < len(replies):
+        for operation in plain.answer(lines[acknowledged])[1]:
+            operation()
+            found.append(state_of(plain))
+    # a reply is shown after its line's operations
+    return found[-1:] if shown != b"".join(replies[:acknowledged]) else found
 
 
-def state_of(found, before, after, place):
-    """Whether the record at this place is old, new, or torn where it may be."""
-    if found == before:
-        return "old"
-    if found == after:
-        return "new"
-    boundary = (place // MEMORY_PAGE + 1) * MEMORY_PAGE
-    assert boundary < place + packs.PAGE, f"the record at {place} is neither old nor new, and lies over no boundary"
-    assert found == after[:boundary] + before[boundary:], f"the record at {place} is neither old nor new, nor torn at {boundary}"
-    return "torn"
+def acknowledged_lines(replies, shown):
+    count = 0
+    while count < len(replies) and shown.startswith(b"".join(replies[: count + 1])):
+        count += 1
+    return count
 
 
-def kill_once(program, start, folder, lines, wait):
-    """How many lines were acknowledged, and the state of the next line's record."""
-    file, shown = folder / "pack", folder / "shown"
-    write_by_sectors(file, start)
-    with open(lines.typed) as keys, open(shown, "wb") as out:
-        process = subprocess.Popen([program, file, "boot"], stdin=keys, stdout=out)
-        time.sleep(wait)
-        process.kill()
-        ended = process.wait()
-    assert ended == -9, f"the program was killed while it ran, and didn't end with {ended}"
-    replies = shown.read_bytes()
-    done = replies.count(REPLY)
-    assert (REPLY * (done + 1)).startswith(replies), "each reply is `done`"
-    before = lines.acknowledged(start, done)
-    state = state_of(file.read_bytes(), before, lines.written(before, done + 1), lines.place(done + 1))
-    assert state == "new" or len(replies) == done * len(REPLY), "no part of a reply is shown before its line's write is done"
-    return done, state
+def contents(files):
+    """What `Plain.contents` tells, by the labels of a pack."""
+    pack, told = read_pack(*files), {}
+    for file, number in pack.places:
+        if number == 0 and file not in (SYS_DIR, DESCRIPTOR):
+            leader = pack.value(pack.places[file, number])
+            name = leader[13 : 13 + leader[12]].decode()
+            data = b"".join(pack.value(at, pack.labels[at].count) for at in pack.data_pages(file))
+            told[file.serial()] = (name, *struct.unpack(">3I", leader[:12]), None if file.is_directory() else data)
+    return told
+
+
+def records_over_pages(file):
+    """The records of a pack file that lie over a multiple of 4,096 bytes: where each begins, that multiple, and where it ends."""
+    for middle in range(MEMORY_PAGE, len(file), MEMORY_PAGE):
+        sector = middle // packs.SECTOR * packs.SECTOR
+        start, end = next((sector + one, sector + two) for one, two in zip(RECORDS, RECORDS[1:]) if middle < sector + two)
+        if start < middle:
+            yield start, middle, end
+
+
+class Kills:
+    """The kills of one session over a pack."""
+
+    def __init__(self, pack, plain, lines, replies, keys):
+        self.pack, self.plain, self.lines, self.replies, self.keys = pack, plain, lines, replies, keys
+        self.before = self.read()
+        begun = time.perf_counter()
+        ended = pack.run(["boot"], keys)
+        self.seconds = time.perf_counter() - begun
+        assert ended == (0, b"".join(replies), b""), sessions.difference(lines, replies, ended[1]) or ended
+        self.after = self.read()
+
+    def read(self):
+        return [file.read_bytes() for file in self.pack.files]
+
+    def write(self, contents):
+        """Writes the files sector by sector: memory of a file that is written at once may come in larger pieces than pages."""
+        for file, content in zip(self.pack.files, contents):
+            with open(file, "wb", buffering=0) as out:
+                for at in range(0, len(content), packs.SECTOR):
+                    out.write(content[at : at + packs.SECTOR])
+
+    def kill(self, wait):
+        """What was shown of a session that is killed after some time, or None if it ended before."""
+        self.write(self.before)
+        with tempfile.TemporaryFile() as typed, tempfile.TemporaryFile() as shown:
+            typed.write(self.keys)
+            typed.seek(0)
+            process = subprocess.Popen([*self.pack.command, "boot"], stdin=typed, stdout=shown)
+            time.sleep(wait)
+            process.kill()
+            ended = process.wait()
+            shown.seek(0)
+            return shown.read() if ended == KILLED else None
+
+    def check(self, shown):
+        """What a killed session left: how many operations of the line that isn't acknowledged, in a word."""
+        assert b"".join(self.replies).startswith(shown), f"shown is {shown!r}"
+        wanted, left = states(self.plain, self.lines, self.replies, shown), self.read()
+        code, listed, error = self.pack.run(["show"])
+        assert (code, error) == (0, b""), f"show: {code}, {error!r}"
+        found = listed, contents(self.pack.files)
+        prefixes = [number for number, state in enumerate(wanted) if state[:2] == found]
+        if not prefixes:
+            acknowledged = acknowledged_lines(self.replies, shown)
+            others = {serial: it for serial, it in found[1].items() if all(state[1].get(serial) != it for state in wanted)}
+            told = f"{listed!r}, and not one of {[state[0] for state in wanted]}; of none of them are {others}"
+            assert self.is_torn(left, acknowledged), f"killed after {acknowledged} lines: {told}"
+            return "torn"
+        entered = self.pack.run(["boot"], b"free\n")
+        clean = [(0, b"%d pages free\n" % wanted[number][2], b"") for number in prefixes]
+        assert entered == NOT_CLEAN or entered in clean, f"boot: {entered}, and not one of {clean}"
+        return "none" if prefixes[0] == 0 else "all" if prefixes[-1] == len(wanted) - 1 else "some"
+
+    def image(self, count):
+        """The files after a session of so many lines. Its end writes DiskDescriptor, which lies over no multiple of 4,096 bytes."""
+        self.write(self.before)
+        self.pack.run(["boot"], b"".join(line + b"\n" for line in self.lines[:count]))
+        return self.read()
+
+    def is_torn(self, left, acknowledged):
+        """Whether the front of a record over a multiple of 4,096 bytes is as the next line leaves it, and its rest isn't."""
+        for old, new, found in zip(self.image(acknowledged), self.image(acknowledged + 1), left):
+            for start, middle, end in records_over_pages(found):
+                is_front_new = old[start:middle] != new[start:middle] == found[start:middle]
+                if is_front_new and found[middle:end] != new[middle:end]:
+                    return True
+        return False
+
+
+def killed(history, pack):
+    """The sessions of a history, each killed several times: for each kill the replies, what was shown of them, and what was left."""
+    plain = copy.deepcopy(history.plain)
+    for lines, replies in history.sessions():
+        kills = Kills(pack, plain, lines, replies, history.keys(lines))
+        for _ in range(KILLS):
+            shown = kills.kill(random.uniform(0, kills.seconds))
+            if shown is not None:
+                yield replies, shown, kills.check(shown)
+        kills.write(kills.after)
+        plain = copy.deepcopy(history.plain)
 
 
 def main():
     options = arguments.parser(__doc__)
-    options.add_argument("--runs", type=arguments.positive, default=300, metavar="N", help="how many kills (default: 300)")
-    options.add_argument("--seed", type=int, metavar="N", help="of the random choices (default: another one each time)")
+    options.add_argument("--runs", type=arguments.positive, default=500, metavar="N", help="how many kills at least (default: 500)")
+    options.add_argument("--seed", type=int, metavar="N", help="of the sessions (default: another one each time)")
     options = arguments.read(options)
     seed = random.randrange(2**32) if options.seed is None else options.seed
     print(f"seed {seed}", flush=True)
-    choices = random.Random(seed)
-    start = packs.pack(CYLINDERS, bytes(PAGES * packs.PAGE))
-    counts = []
-    with tempfile.TemporaryDirectory() as folder:
-        folder = pathlib.Path(folder)
-        kinds = {False: Lines(folder, in_turn=False), True: Lines(folder, in_turn=True)}
-        states = {in_turn: collections.Counter() for in_turn in kinds}
-        for number in range(options.runs):
-            in_turn = number % 4 == 3
-            done, state = kill_once(options.program, start, folder, kinds[in_turn], choices.uniform(SHORTEST, LONGEST))
-            states[in_turn][state] += 1
-            counts.append(done)
-    print(f"killed {options.runs} times, after {min(counts)} to {max(counts)} acknowledged lines, {sum(counts)} in all")
-    for in_turn, what in [(False, "on the page over byte 4,096"), (True, "on one page after the other")]:
-        found = states[in_turn]
-        print(f"the next record, {what}: {found['old']} old, {found['new']} new, {found['torn']} torn at a multiple of 4,096")
+    counts, number, acknowledged = collections.Counter(), 0, []
+    while counts.total() < options.runs:
+        number += 1
+        history = sessions.History(seed, number)
+        with tempfile.TemporaryDirectory() as folder:
+            try:
+                for replies, shown, state in killed(history, history.pack(options.program, pathlib.Path(folder))):
+                    counts[state] += 1
+                    acknowledged.append(acknowledged_lines(replies, shown))
+            except AssertionError as wrong:
+                history.tell(wrong)
+                sys.exit(1)
+    print(f"killed {counts.total()} times, after {min(acknowledged)} to {max(acknowledged)} acknowledged lines, {sum(acknowledged)} in all")
+    print(f"of the next line's operations {counts['none']} times none, {counts['some']} times some and {counts['all']} times all were done")
+    print(f"torn at a multiple of 4,096: {counts['torn']}")
 
 
 main()

@@ -17,19 +17,18 @@ import fcntl
 import math
 import os
 import pathlib
-import resource
 import select
 import statistics
 import subprocess
 import sys
 import tempfile
-import time
 
 sys.dont_write_bytecode = True
 sys.path.append(str(pathlib.Path(__file__).resolve().parent.parent / "check"))
 import arguments
 import packs
 from packs import SERIAL, SYS_DIR, ordinary
+from timing import most_memory, timed
 
 SMALLEST, MIDDLE, MODEL_31 = 2, 20, 203
 SLACK = 2.5
@@ -98,16 +97,14 @@ KINDS = [
 ]
 
 
-def timed(command, output=b""):
-    """The seconds of a whole process, and those of the processor. It has to print this."""
-    before, start = resource.getrusage(resource.RUSAGE_CHILDREN), time.perf_counter()
-    done = subprocess.run(command, stdin=subprocess.DEVNULL, stdout=subprocess.PIPE, check=True)
-    seconds, after = time.perf_counter() - start, resource.getrusage(resource.RUSAGE_CHILDREN)
-    assert done.stdout == output, "the listing is that of the files"
-    return seconds, after.ru_utime + after.ru_stime - before.ru_utime - before.ru_stime
+def listed(command, listing):
+    """The time of a whole process. It has to print this listing."""
+    time, shown = timed(command, stdin=subprocess.DEVNULL, stdout=subprocess.PIPE)
+    assert shown == listing, "the listing is that of the files"
+    return time
 
 
-def most_memory(command, listing):
+def memory_of(command, listing):
     """The most memory in bytes that a process had until its first byte was printed. None where it can't be measured.
 
     The pipe holds no more than 4,096 bytes, so the process waits in its write call while its status is read, if its listing is longer.
@@ -119,10 +116,9 @@ def most_memory(command, listing):
     with subprocess.Popen(command, stdin=subprocess.DEVNULL, stdout=writing) as process, open(reading, "rb") as output:
         os.close(writing)
         select.select([output], [], [])
-        status = pathlib.Path(f"/proc/{process.pid}/status").read_text().splitlines()
+        most = most_memory(process)
         output.read()
-    peak = [line.split()[1] for line in status if line.startswith("VmHWM")]
-    return int(peak[0]) * 1024 if peak else None
+    return None if most is None else most * 1024
 
 
 def measure(program, folder, runs, what, content, listing, bounded=False):
@@ -133,15 +129,15 @@ def measure(program, folder, runs, what, content, listing, bounded=False):
     empty.write_bytes(b"".join(packs.free_sectors(SMALLEST)))
     starts, shows, copies = [], [], []
     for _ in range(runs):
-        starts.append(timed([program, empty, "show"], b"0 files\n"))
-        shows.append(timed([program, file, "show"], listing))
-        copies.append(timed(["cp", file, copy_to]))
+        starts.append(listed([program, empty, "show"], b"0 files\n"))
+        shows.append(listed([program, file, "show"], listing))
+        copies.append(timed(["cp", file, copy_to])[0])
     assert file.read_bytes() == content, "nothing is written"
-    show, copy = (statistics.median(seconds for seconds, _ in times) for times in (shows, copies))
-    used, start = (statistics.median(processor for _, processor in times) for times in (shows, starts))
+    show, copy = (statistics.median(time.seconds for time in times) for times in (shows, copies))
+    used, start = (statistics.median(time.processor for time in times) for times in (shows, starts))
     print(f"{what}, {len(content):,} bytes: show {show * 1000:.1f} ms, cp {copy * 1000:.1f} ms, {show / copy:.1f} times")
     assert not bounded or show < 5 * copy, "show is slower than 5 times cp"
-    memory = most_memory([program, file, "show"], listing)
+    memory = memory_of([program, file, "show"], listing)
     if memory is not None:
         print(f"  most memory {memory:,} bytes, {memory / len(content):.2f} times the pack")
     assert not bounded or memory is not None, "the memory of show can be measured"

@@ -20,13 +20,12 @@ import arguments
 import packs
 
 SECONDS = 10
-DONE, USAGE, DISK_FAILED, KEYS_FAILED, DISPLAY_FAILED, NO_MEMORY, NO_SESSION = 0, 1, 3, 4, 5, 6, 8
+DONE, USAGE, IN_NEED, DISK_FAILED, KEYS_FAILED, DISPLAY_FAILED, NO_MEMORY, NO_SESSION = 0, 1, 2, 3, 4, 5, 6, 8
 SMALL = 25_536
 THREE = 38_304
 LARGEST = 5_183_808
 # dates are in seconds since the start of 1901, and stand after a sector's header and label
 SECONDS_BEFORE_1970 = 2_177_452_800
-DATES_AT = 20
 MIB = 2**20
 # limits on memory, each greater than the one before it by half a MiB
 STEP = MIB // 2
@@ -34,10 +33,15 @@ STEP = MIB // 2
 NOBODY = 65_534
 HELP_STARTS = b"The operating system of the Xerox Alto"
 HELP_ENDS = b"Prints this help, where it is the only word\n"
-PATCHES = b"patch #3 1 4242\npatch #3 4 4242\n"
-REPLIES = b"done\nbeyond length 5\n"
-# of the pack with the file `ABCDE`, which no directory names, and of a new pack
-LISTING = b"SysDir>Lost3. length 5\n1 files\n"
+# a session, and a line alone: neither changes a date
+PATCHES = b"settime 1000\npatch #3 1 4242\npatch A 4 4242\n"
+REPLIES = b"done\ndone\nbeyond length 5\n"
+PATCH = b"patch A 1 4242\n"
+# what a pack of zeros is answered
+NO_ROOT = b"no root: found none\n"
+# of the pack with the file `A.`, whose bytes are `ABCDE`, and of a new pack
+LISTING = b"SysDir>A. length 5\n1 files\n"
+LISTING_OF_TWO = b"SysDir>A. length 5\nSysDir>B. length 5\n2 files\n"
 NO_FILES = b"0 files\n"
 FORMATTED = b"formatted: 43 pages free\n"
 PREPARED = b"prepared: 48 pages\n"
@@ -45,8 +49,10 @@ PREPARED = b"prepared: 48 pages\n"
 failures = []
 
 
-def abcde(letters=b"ABCDE"):
-    return packs.pack(2, letters)
+def abcde(letters=b"ABCDE", mark=packs.CLEAN, cylinders=2, at=5):
+    """A formatted pack in which a file `A.` with these bytes was made. Its mark is open where a session didn't end."""
+    (pack,) = packs.sound(1, cylinders, [(b"A.", letters, range(at, at + 2 + len(letters) // packs.PAGE))], mark)
+    return pack
 
 
 class Run:
@@ -121,7 +127,7 @@ def check_words(program):
     # and so is each option where another word is wanted
     Run(program, ["--cylinders", "2", "--cylinders"]).gives(USAGE, b"usage\n", left={"--cylinders": made})
     Run(program, ["--cylinders", "2", "new", "--second", "pack"]).gives(USAGE, b"usage\n", left={"new": made})
-    (one, two), twice = packs.pair(2, b"ABCDE"), ["--second", "--second", "--second"]
+    (one, two), twice = crossed().values(), ["--second", "--second", "--second"]
     Run(program, ["--second", "two", "one"], {"one": one, "two": two}).gives(USAGE, b"usage\n", left={"one": one, "two": two})
     after = {"--cylinders": one, "two": two}
     Run(program, ["--second", "two", "--cylinders", "2", "new"], after).gives(USAGE, b"usage\n", left=after)
@@ -173,31 +179,27 @@ def pointing(target):
     return lambda path: path.symlink_to(target)
 
 
-def crossed(third=b"ABCDE", fourth=b"ABCDE"):
-    """The two files of a pack of two drives of two cylinders, with these bytes of the files 3 and 4. The leader of the one is on the
-    first drive and its page on the second, and of the other it is the other way round."""
-    sectors = packs.free_sectors(4)
-    for serial, leader_at, page_at, content in [(3, 5, 50, third), (4, 70, 7, fourth)]:
-        packs.put_page(sectors, leader_at, packs.ordinary(serial), 0, packs.leader(b""))
-        packs.put_page(sectors, page_at, packs.ordinary(serial), 1, content, len(content))
-    return dict(zip(("one", "two"), packs.files_of_two(sectors, 2)))
+def crossed(third=b"ABCDE", fourth=b"ABCDE", mark=packs.CLEAN):
+    """The two files of a formatted pack of two drives of two cylinders, with files `A.` and `B.` of these bytes. The leader of the one is on
+    the first drive and its page on the second, and of the other it is the other way round."""
+    return dict(zip(("one", "two"), packs.sound(2, 2, [(b"A.", third, [5, 50]), (b"B.", fourth, [70, 7])], mark)))
 
 
 def check_second(program):
     """Packs of two drives: a session, files that are refused, and files that are made."""
-    (one, two), three = packs.pair(2, b"ABCDE"), bytes(THREE)
-    both, patched = {"one": one, "two": two}, {"one": one, "two": packs.pair(2, b"ABBDE")[1]}
+    both, three = crossed(), bytes(THREE)
+    one, two = both.values()
     boot = ["--second", "two", "one", "boot"]
-    Run(program, boot, both, PATCHES).gives(DONE, REPLIES, left=patched)
-    Run(program, boot, both, PATCHES, ">/dev/full").gives(DISPLAY_FAILED, left=patched)
+    Run(program, boot, both, PATCHES).gives(DONE, REPLIES, left=crossed(third=b"ABBDE"))
+    Run(program, boot, both, PATCH, ">/dev/full").gives(DISPLAY_FAILED, left=crossed(third=b"ABBDE", mark=packs.OPEN))
     Run(program, boot, both, redirect="<&- >&- 2>&-").gives(KEYS_FAILED, left=both)
-    Run(program, ["--second", "two", "one", "show"], both, PATCHES).gives(DONE, LISTING, left=both)
+    Run(program, ["--second", "two", "one", "show"], both, PATCHES).gives(DONE, LISTING_OF_TWO, left=both)
     Run(program, ["--second", "two", "one", "halt"], both, PATCHES).gives(USAGE, b"usage\n", left=both)
     # a patch stands in the file of its page's drive
     for line, left in [(b"patch #3 0 565758595A\n", crossed(third=b"VWXYZ")), (b"patch #4 0 565758595A\n", crossed(fourth=b"VWXYZ"))]:
         Run(program, boot, crossed(), line).gives(DONE, b"done\n", left=left)
     # each file is that of its drive: the other way round all headers are wrong
-    Run(program, ["--second", "one", "two", "boot"], both, PATCHES).gives(DONE, b"no such name\n" * 2, left=both)
+    Run(program, ["--second", "one", "two", "boot"], both, PATCHES).gives(IN_NEED, NO_ROOT, left=both)
     # one that isn't there, or no file
     for words in [["--second", "two", "missing"], ["--second", "missing", "one"], ["--second", ".", "one"], ["--second", "", "one"]]:
         Run(program, [*words, "boot"], both, PATCHES).gives(NO_SESSION, err=b"no pack\n", left=both)
@@ -231,7 +233,7 @@ def check_second(program):
     made = bytes(SMALL)
     new = ["--cylinders", "2", "--second", "two", "one"]
     Run(program, [*new, "show"]).gives(DONE, NO_FILES, left={"one": made, "two": made})
-    Run(program, [*new, "boot"], typed=PATCHES).gives(DONE, b"no such name\n" * 2, left={"one": made, "two": made})
+    Run(program, [*new, "boot"], typed=PATCHES).gives(IN_NEED, NO_ROOT, left={"one": made, "two": made})
     Run(program, new).gives(USAGE, b"usage\n", left={"one": made, "two": made})
     for files in [{"one": one}, {"two": two}, both]:
         Run(program, [*new, "show"], files).gives(NO_SESSION, err=b"no pack\n", left=files)
@@ -240,16 +242,21 @@ def check_second(program):
 
 
 def check_sessions(program):
-    pack, patched = abcde(), abcde(b"ABBDE")
+    pack, patched, stopped = abcde(), abcde(b"ABBDE"), abcde(b"ABBDE", packs.OPEN)
     boot = ["pack", "boot"]
     Run(program, boot, {"pack": pack}, PATCHES).gives(DONE, REPLIES, left={"pack": patched})
+    Run(program, boot, {"pack": pack}, PATCHES + b"quit\npatch A 0 58\n").gives(DONE, REPLIES + b"done\n", left={"pack": patched})
     Run(program, boot, {"pack": pack}).gives(DONE, left={"pack": pack})
-    Run(program, ["--cylinders", "2", "new", "boot"], typed=PATCHES).gives(DONE, b"no such name\n" * 2, left={"new": bytes(SMALL)})
+    # packs that aren't entered: no key is taken, and nothing is written
+    for redirect in ["", "<&-"]:
+        Run(program, boot, {"pack": stopped}, PATCHES, redirect).gives(IN_NEED, b"pack not clean: mark 2\n", left={"pack": stopped})
+    Run(program, ["--cylinders", "2", "new", "boot"], typed=PATCHES).gives(IN_NEED, NO_ROOT, left={"new": bytes(SMALL)})
+    Run(program, boot, {"pack": stopped}, PATCHES, ">/dev/full").gives(DISPLAY_FAILED, left={"pack": stopped})
     # a standard stream that is closed or fails; no pack file takes its place
     Run(program, boot, {"pack": pack}, redirect="<&-").gives(KEYS_FAILED, left={"pack": pack})
     Run(program, boot, {"pack": pack}, redirect="</").gives(KEYS_FAILED, left={"pack": pack})
     for redirect in [">&-", ">/dev/full"]:
-        Run(program, boot, {"pack": pack}, PATCHES, redirect).gives(DISPLAY_FAILED, left={"pack": patched})
+        Run(program, boot, {"pack": pack}, PATCH, redirect).gives(DISPLAY_FAILED, left={"pack": stopped})
     Run(program, boot, {"pack": pack}, PATCHES, "2>&-").gives(DONE, REPLIES, left={"pack": patched})
     Run(program, boot, {"pack": pack}, redirect="<&- >&- 2>&-").gives(KEYS_FAILED, left={"pack": pack})
     made = {"new": bytes(SMALL)}
@@ -264,7 +271,7 @@ def check_show(program):
     Run(program, ["--cylinders", "2", "new", "show"], typed=PATCHES).gives(DONE, NO_FILES, left={"new": made})
     Run(program, show, {"pack": made}).gives(DONE, NO_FILES, left={"pack": made})
     patched = abcde(b"A" * packs.PAGE + b"B")
-    Run(program, show, {"pack": patched}).gives(DONE, b"SysDir>Lost3. length 513\n1 files\n", left={"pack": patched})
+    Run(program, show, {"pack": patched}).gives(DONE, b"SysDir>A. length 513\n1 files\n", left={"pack": patched})
     for words in [["pack", "show", "extra"], ["pack", "Show"], ["pack", "show", "show"], ["pack", "boot", "show"]]:
         Run(program, words, {"pack": pack}, PATCHES).gives(USAGE, b"usage\n", left={"pack": pack})
     # a closed keyboard is never asked; a display that fails ends it, and nothing is said of that
@@ -289,7 +296,7 @@ def without_dates(run):
     now = int(time.time()) + SECONDS_BEFORE_1970
     for name, content in run.left.items():
         for at in () if name == "two" else (1, 3):
-            first = at * packs.SECTOR + DATES_AT
+            first = at * packs.SECTOR + packs.VALUE_AT
             dates = content[first : first + 12]
             moment = int.from_bytes(dates[:4], "big")
             if dates != 3 * dates[:4] or not now - SECONDS - 2 <= moment <= now:
@@ -332,14 +339,13 @@ def check_format(program):
         run.gives(DONE, b"formatted: %d pages free\n" % free, left=left)
         Run(program, [*both, "show"], run.left).gives(DONE, NO_FILES, left=left)
     # two drives on which something stood
-    one, two = packs.pair(2, b"ABCDE")
     left = dict(zip(("one", "two"), packs.formatted(2, 2, 65_535)))
-    run = without_dates(Run(program, ["--second", "two", "one", "format", "65535"], {"one": one, "two": two}))
+    run = without_dates(Run(program, ["--second", "two", "one", "format", "65535"], crossed()))
     run.gives(DONE, b"formatted: 91 pages free\n", left=left)
 
 
 def check_prepare(program):
-    pack = packs.pack(2, b"ABCDE")
+    pack = abcde()
     twice = {"one": pack, "two": pack}
     both = ["--second", "two", "one"]
     # the first drive doesn't change; of the second each label and value has ones, and each header the pack's number and the drive's bit
@@ -423,16 +429,16 @@ def check_without_null_device(program):
         if (ended.returncode, ended.stderr, (folder / "new").exists()) != (NO_SESSION, b"no pack\n", False):
             failures.append(f"/dev/null: a new file: exit code {ended.returncode}, {ended.stderr!r}, or it is made")
         # at last a file stands there, and holds the place of a stream as well
-        rows = [(False, "boot", NO_SESSION, b"no pack\n", b"ABCDE"), (False, "show", NO_SESSION, b"no pack\n", b"ABCDE")]
-        for is_there, word, code, err, left in [*rows, (True, "boot", DISPLAY_FAILED, b"", b"ABBDE")]:
+        rows = [(False, "boot", NO_SESSION, b"no pack\n", abcde()), (False, "show", NO_SESSION, b"no pack\n", abcde())]
+        for is_there, word, code, err, left in [*rows, (True, "boot", DISPLAY_FAILED, b"", abcde(b"ABBDE", packs.OPEN))]:
             if is_there:
                 device.parent.mkdir()
                 device.touch()
             pack.write_bytes(abcde())
-            ended = subprocess.run([program, "pack", word], input=PATCHES, capture_output=True, timeout=SECONDS, preexec_fn=enter)
+            ended = subprocess.run([program, "pack", word], input=PATCH, capture_output=True, timeout=SECONDS, preexec_fn=enter)
             if (ended.returncode, ended.stderr) != (code, err):
                 failures.append(f"/dev/null: {is_there}, {word}: exit code {ended.returncode}, {ended.stderr!r}")
-            if pack.read_bytes() != abcde(left):
+            if pack.read_bytes() != left:
                 failures.append(f"/dev/null: {is_there}, {word}: the file isn't left as it should be")
 
 
@@ -466,9 +472,10 @@ def check_refused_writes(program):
     Run(program, new, before=refused_past(SMALL)).gives(DONE, NO_FILES, left={"new": bytes(SMALL)})
     Run(program, two, before=refused_past(SMALL)).gives(DONE, NO_FILES, left={"one": bytes(SMALL), "two": bytes(SMALL)})
     pack = {"pack": abcde()}
-    Run(program, ["pack", "boot"], pack, PATCHES, before=refused_past(1_000)).gives(DISK_FAILED, left=pack)
-    both = crossed()
-    Run(program, ["--second", "two", "one", "boot"], both, b"patch #4 0 56\n", before=refused_past(1_000)).gives(DISK_FAILED, left=both)
+    Run(program, ["pack", "boot"], pack, PATCHES, before=refused_past(1_000)).gives(DISK_FAILED, b"done\n", left=pack)
+    # the mark stands on sector 4, before byte 3,000, and the page behind it
+    boot, opened = ["--second", "two", "one", "boot"], crossed(mark=packs.OPEN)
+    Run(program, boot, crossed(), b"patch #4 0 56\n", before=refused_past(3_000)).gives(DISK_FAILED, left=opened)
 
 
 def open_files(number):
@@ -503,12 +510,12 @@ def check_size_limit(program):
     Run(program, new, before=limited(SMALL)).gives(DONE, NO_FILES, left={"new": bytes(SMALL)})
     Run(program, ["new", "boot"], short).gives(NO_SESSION, err=b"bad length %d\n" % size, left=short)
     Run(program, new, short).gives(NO_SESSION, err=b"no pack\n", left=short)
-    # a line's write, which makes no file longer, is stopped too, and no reply is shown
+    # a line's write, which makes no file longer, is stopped too, and its reply isn't shown
     pack = {"pack": abcde()}
-    Run(program, ["pack", "boot"], pack, PATCHES, before=limited(1_000)).gives(-signal.SIGXFSZ, left=pack)
+    Run(program, ["pack", "boot"], pack, PATCHES, before=limited(1_000)).gives(-signal.SIGXFSZ, b"done\n", left=pack)
     # one within a record, whose value begins at byte 3,212: the first 372 of its bytes are new
     line, old = b"patch #3 0 " + b"42" * packs.PAGE + b"\n", {"pack": abcde(b"A" * 600)}
-    torn = {"pack": abcde(b"B" * 372 + b"A" * 228)}
+    torn = {"pack": abcde(b"B" * 372 + b"A" * 228, packs.OPEN)}
     Run(program, ["pack", "boot"], old, line, before=limited(3_584)).gives(-signal.SIGXFSZ, left=torn)
 
 
@@ -528,7 +535,7 @@ def check_memory_limit(program):
     if least is None:
         failures.append("limits on memory: the program starts under none")
         return
-    large, patched = packs.pack(406, b"ABCDE"), packs.pack(406, b"ABBDE")
+    large, patched = abcde(cylinders=406, at=7), abcde(b"ABBDE", cylinders=406, at=7)
     for before in [None, within(least + STEP)]:
         Run(program, ["pack", "boot"], {"pack": large}, PATCHES, before=before).gives(DONE, REPLIES, left={"pack": patched})
     codes = []
@@ -541,15 +548,16 @@ def check_memory_limit(program):
         failures.append(f"limits on memory: the exit codes are {codes}, and not 6 among them and 0 at last")
 
 
-# a line that reads no sector, one that reads all labels and a page, and one that writes the page too
+# lines that read no sector, the file's, all labels; and one that writes the mark, on sector 4, and then the page, on sector 6
 READS_NOTHING = (b"bad\n", b"bad line\n")
-READS = (b"patch #3 0 -\n", b"done\n")
-WRITES = (b"patch #3 1 4242\n", b"done\n")
+READS = (b"type A\n", b"4142434445\n5 bytes\n")
+READS_ALL = (b"free\n", b"41 pages free\n")
+WRITES = (PATCH, b"done\n")
 
 
-def shrunk(program, words, files, name, length, first, second):
-    """A session in which the file with this name becomes so short after the first line: its exit code, what was shown of the first line
-    and what of the second, what was said on standard error, and the files left."""
+def shrunk(program, words, files, name, length, first, lines, second):
+    """A session in which the file with this name becomes so short after the first line, whose reply has so many lines: its exit code, what
+    was shown of the first line and what of the second, what was said on standard error, and the files left."""
     with tempfile.TemporaryDirectory() as folder:
         folder = pathlib.Path(folder)
         for path, content in files.items():
@@ -558,46 +566,46 @@ def shrunk(program, words, files, name, length, first, second):
         with subprocess.Popen([program, *words], cwd=folder, **streams) as process:
             process.stdin.write(first)
             process.stdin.flush()
-            reply = process.stdout.readline()
+            reply = b"".join(process.stdout.readline() for _ in range(lines))
             os.truncate(folder / name, length)
             out, err = process.communicate(second, timeout=SECONDS)
         return process.returncode, reply, out, err, {path: (folder / path).read_bytes() for path in files}
 
 
 def check_shrinking_file(program):
-    """The pack file becomes shorter during a session, after the first line. Sectors that weren't read yet can't be read any more, nor can
-    any be written; those that were read are read from memory. The file stays as short."""
+    """The pack file becomes shorter during a session, after the first line. The opening has read the first of its two cylinders, where the
+    system files and `A.` stand: it is read from memory. The second can't be read any more, and nothing is written past the file's end. The
+    file stays as short."""
+    patched, opened = abcde(b"ABBDE"), abcde(mark=packs.OPEN)
     rows = [
-        (READS_NOTHING, 3_300, READS, DISK_FAILED),
-        (READS_NOTHING, 25_535, READS, DISK_FAILED),
-        *((READS_NOTHING, length, WRITES, DISK_FAILED) for length in (25_535, 3_300, 0)),
-        (READS, 3_300, WRITES, DISK_FAILED),
-        (READS, 3_300, READS, DONE),
-        (READS, 0, READS, DONE),
-        # sector 6, which is written, ends at byte 3,724
-        (READS, 3_723, WRITES, DISK_FAILED),
-        (READS, 3_724, WRITES, DONE),
+        *((length, READS, DONE, abcde()) for length in (25_535, 3_300, 0)),
+        *((length, READS_ALL, DISK_FAILED, abcde()) for length in (25_535, 12_768)),
+        # sector 4 ends at byte 2,660 and sector 6 at byte 3,724
+        *((length, WRITES, DISK_FAILED, abcde()) for length in (2_659, 0)),
+        *((length, WRITES, DISK_FAILED, opened) for length in (3_723, 2_660)),
+        *((length, WRITES, DONE, patched) for length in (25_535, 3_724)),
     ]
-    for (first, shown), length, (second, reply), code in rows:
-        found = shrunk(program, ["pack", "boot"], {"pack": abcde()}, "pack", length, first, second)
-        left = abcde(b"ABBDE") if (code, second) == (DONE, WRITES[0]) else abcde()
+    first, shown = READS_NOTHING
+    for length, (second, reply), code, left in rows:
+        found = shrunk(program, ["pack", "boot"], {"pack": abcde()}, "pack", length, first, 1, second)
         if found != (code, shown, reply if code == DONE else b"", b"", {"pack": left[:length]}):
-            failures.append(f"a file that shrinks to {length} bytes, {first!r} and {second!r}: {found[:4]}, or it is left otherwise")
+            failures.append(f"a file that shrinks to {length} bytes, {second!r}: {found[:4]}, or it is left otherwise")
 
 
 def check_shrinking_second(program):
-    """And the second of two, though the leader alone of the file that is patched stands there."""
-    both, (first, shown) = crossed(), READS_NOTHING
-    found = shrunk(program, ["--second", "two", "one", "boot"], both, "two", 25_535, first, b"patch #4 0 56\n")
-    if found != (DISK_FAILED, shown, b"", b"", {"one": both["one"], "two": both["two"][:25_535]}):
-        failures.append(f"a second file that shrinks: {found[:4]}, or the files are left otherwise")
+    """And the second of two, on which `A.` has its page. One that was read is read from memory, and can't be written."""
+    both = crossed()
+    for (first, shown), (line, _), left in [(READS_NOTHING, READS, both), (READS, WRITES, crossed(mark=packs.OPEN))]:
+        found = shrunk(program, ["--second", "two", "one", "boot"], both, "two", 100, first, shown.count(b"\n"), line)
+        if found != (DISK_FAILED, shown, b"", b"", {"one": left["one"], "two": both["two"][:100]}):
+            failures.append(f"a second file that shrinks, {line!r}: {found[:4]}, or the files are left otherwise")
 
 
 def check_whole_writes(program):
     """A reply, a listing and each other text is shown by one write call: a socket of packets keeps them apart."""
     second = ["--second", "second"]
     rows = [
-        ([], ["boot"], [b"done\n", b"beyond length 5\n"]),
+        ([], ["boot"], [b"done\n", b"done\n", b"beyond length 5\n"]),
         ([], ["show"], [LISTING]),
         ([], ["format", "1"], [FORMATTED]),
         ([], ["prepare", "1"], [b"usage\n"]),
@@ -620,17 +628,17 @@ def check_whole_writes(program):
 
 def check_closed_pipe(program):
     """The reader of what is shown goes away before the first of it: the display has failed. The write ahead of the reply stays."""
-    for word, left in [("boot", b"ABBDE"), ("show", b"ABCDE")]:
+    for word, left in [("boot", abcde(b"ABBDE", packs.OPEN)), ("show", abcde())]:
         with tempfile.TemporaryDirectory() as folder:
             file = pathlib.Path(folder) / "pack"
             file.write_bytes(abcde())
             reader, writer = os.pipe()
             os.close(reader)
-            ended = subprocess.run([program, file, word], input=PATCHES, stdout=writer, stderr=subprocess.PIPE, timeout=SECONDS)
+            ended = subprocess.run([program, file, word], input=PATCH, stdout=writer, stderr=subprocess.PIPE, timeout=SECONDS)
             os.close(writer)
             if ended.returncode != DISPLAY_FAILED or ended.stderr:
                 failures.append(f"a closed pipe at {word}: exit code {ended.returncode}, {ended.stderr!r}")
-            if file.read_bytes() != abcde(left):
+            if file.read_bytes() != left:
                 failures.append(f"a closed pipe at {word}: the file isn't left as it should be")
 
 

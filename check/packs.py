@@ -11,11 +11,20 @@ import struct
 
 SECTOR = 532
 PAGE = 512
+# where the label and the value stand in a sector
+LABEL_AT, VALUE_AT = 4, 20
 ONES = 0xFFFF
 SYS_DIR = (0x8000, 1, 1)
 DESCRIPTOR = (0, 2, 1)
+# the mark of DiskDescriptor
+CLEAN, OPEN = 1, 2
 SERIAL = 3
 LEADER_AT = 5
+
+
+def word_at(at, word):
+    """Where a word of a sector stands in a pack file: of the sector's value below 256, and from there on of its label."""
+    return at * SECTOR + (VALUE_AT + 2 * word if word < PAGE // 2 else LABEL_AT + 2 * word - PAGE)
 
 
 def ordinary(serial):
@@ -143,15 +152,6 @@ def files_of_two(sectors, cylinders):
     return b"".join(files[:half]), b"".join(files[half:])
 
 
-def pair(cylinders, data):
-    """The two files of a pack of two drives with so many cylinders each. Its one living file, with the serial 3 and no name, has these
-    bytes: its leader is the last sector of the first drive, and its pages are the first ones of the second. Its links are those of a
-    pack of one drive."""
-    sectors = free_sectors(2 * cylinders)
-    put_file(sectors, cylinders * 24 - 1, ordinary(SERIAL), b"", data)
-    return files_of_two(sectors, cylinders)
-
-
 def numbered(file, number):
     """A pack file with this pack number in each header."""
     return b"".join(number.to_bytes(2, "big") + file[at + 2 : at + SECTOR] for at in range(0, len(file), SECTOR))
@@ -161,22 +161,39 @@ def drive_files(sectors, drives, cylinders):
     return files_of_two(sectors, cylinders) if drives == 2 else (b"".join(sectors),)
 
 
-def formatted(drives, cylinders, number):
-    """The files of a pack that `format` wrote, a file a drive, with zeros for the dates; docs/formats.md tells the words. Sector 0 has
-    zeros, SysDir and DiskDescriptor follow, and the other sectors are free."""
-    sectors, words = free_sectors(drives * cylinders), -(-drives * cylinders * 24 // 16)
+def put_linked(sectors, cylinders, file, text, data, places):
+    """Puts a file on these sectors, its leader on the first, with true links; the last page's address, number and bytes end its leader."""
+    pages = [leader(text).ljust(PAGE, b"\0")] + [data[place : place + PAGE] for place in range(0, len(data) + 1, PAGE)]
+    assert len(pages) == len(places), "each page has its sector"
+    last = len(pages) - 1
+    pages[0] = pages[0][:-6] + struct.pack(">3H", places[last], last, len(pages[last]))
+    links = [ONES, *[real_of(at, cylinders) for at in places], ONES]
+    for number, page in enumerate(pages):
+        put_page(sectors, places[number], file, number, page, len(page), links[number + 2], links[number])
+
+
+def sound(drives, cylinders, files, mark=CLEAN, number=1):
+    """The files of a pack, a file a drive, that is sound, with every hint true: one that `format` wrote, and in SysDir these files. Of each
+    there are its name, its bytes and its sectors, the leader's first; serials rise from 3 on. The dates are zeros; docs/formats.md tells
+    the words."""
+    pages = drives * cylinders * 24
+    sectors, words = free_sectors(drives * cylinders), -(-pages // 16)
     sectors[0] = sector(0, [0] * 8, bytes(PAGE))
-    names = slot(SYS_DIR, b"SysDir.", 1) + slot(DESCRIPTOR, b"DiskDescriptor.", 3)
-    put_file(sectors, 1, SYS_DIR, b"SysDir.", names + free_slot(231))
-    size = 32 + 2 * words
-    used = 5 + size // PAGE
-    busy = (((1 << used) - 1) << (16 * words - used)).to_bytes(2 * words, "big")
-    heading = struct.pack(">16H", drives, cylinders, 2, 12, 0, 2, 1, drives * cylinders * 24 - used, words, *[0] * 7)
-    put_file(sectors, 3, DESCRIPTOR, b"DiskDescriptor.", heading + busy)
-    # the last page's address, number and bytes end each leader
-    for at, hints in [(1, (2, 1, 510)), (3, (used - 1, used - 4, size % PAGE))]:
-        sectors[at] = sectors[at][: SECTOR - 6] + struct.pack(">3H", *hints)
+    system = [(SYS_DIR, b"SysDir.", range(1, 3)), (DESCRIPTOR, b"DiskDescriptor.", range(3, 5 + (32 + 2 * words) // PAGE))]
+    placed = system + [(ordinary(SERIAL + n), text, places) for n, (text, _, places) in enumerate(files)]
+    entries = b"".join(slot(file, text, places[0]) for file, text, places in placed)
+    used = {0}.union(*(places for _, _, places in placed))
+    busy = sum(1 << 16 * words - 1 - at for at in used).to_bytes(2 * words, "big")
+    heading = struct.pack(">16H", drives, cylinders, 2, 12, 0, 2 + len(files), mark, pages - len(used), words, *[0] * 7)
+    contents = [entries + free_slot(255 - len(entries) // 2), heading + busy, *[data for _, data, _ in files]]
+    for (file, text, places), data in zip(placed, contents):
+        put_linked(sectors, cylinders, file, text, data, places)
     return tuple(numbered(it, number) for it in drive_files(sectors, drives, cylinders))
+
+
+def formatted(drives, cylinders, number):
+    """The files of a pack that `format` wrote."""
+    return sound(drives, cylinders, [], number=number)
 
 
 def prepared(cylinders, number):
@@ -184,9 +201,9 @@ def prepared(cylinders, number):
     return numbered(files_of_two(free_sectors(2 * cylinders), cylinders)[1], number)
 
 
-def place(offset):
-    """Where a byte of the file stands in the pack file."""
-    return (LEADER_AT + 1 + offset // PAGE) * SECTOR + 20 + offset % PAGE
+def place(offset, leader_at=LEADER_AT):
+    """Where a byte of a file stands in the pack file, if its pages follow its leader."""
+    return (leader_at + 1 + offset // PAGE) * SECTOR + VALUE_AT + offset % PAGE
 
 
 def main():

@@ -1,7 +1,7 @@
 -- Exit codes, and what is said on standard error.
 use Rattle.std.specs.Prelude.{ℕ, Option, Some, None, Result, Ok, Err}
-use Rattle.alto_top.specs.declared.status.Status.{Status}
-use Rattle.alto_top.specs.declared.status.Status.TheVariants as status
+use Rattle.session_boot.specs.declared.status.Status.{Status}
+use Rattle.session_boot.specs.declared.status.Status.TheVariants as status
 use Rattle.disk_image.specs.declared.error.ReachError.TheVariants as reach
 use Rattle.alto.specs.declared.end.Stop.{Stop}
 use Rattle.alto.specs.declared.end.Stop.TheVariants as stop
@@ -32,6 +32,7 @@ complaint_of stop.Memory = None
 abbrev pub number_of : Status → ℕ
 number_of status.Done = 0
 number_of status.Usage = 1
+number_of status.NeedsScavenge = 2
 number_of status.DiskFault = 3
 number_of status.KeyFault = 4
 number_of status.DisplayFault = 5

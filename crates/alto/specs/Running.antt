@@ -1,7 +1,7 @@
 -- What stops a run that has no session, and how a run ends.
 use Rattle.std.specs.Prelude.{◌≡◌, ℕ, List, drop, Bool, true, false, Option, Some, None, is_some, if◌then◌else◌, IfSome, Result, Ok, Err}
-use Rattle.alto_top.specs.declared.status.Status.{Status}
-use Rattle.alto_top.specs.declared.status.Status.TheVariants as status
+use Rattle.session_boot.specs.declared.status.Status.{Status}
+use Rattle.session_boot.specs.declared.status.Status.TheVariants as status
 use Rattle.alto_top.specs.Top.{AnswersTo}
 use Rattle.disk_image.specs.declared.error.ReachError.{ReachError}
 use Rattle.disk_image.specs.Machines.{IsReaching, IsReachingTwo, IsMaking}

@@ -46,6 +46,7 @@ fn exit_codes_and_texts(rt: HostRuntime) -> Result<(), Fail> {
     let rows = [
         (Ok(Status::Done), 0, None),
         (Ok(Status::Usage), 1, None),
+        (Ok(Status::NeedsScavenge), 2, None),
         (Ok(Status::DiskFault), 3, None),
         (Ok(Status::KeyFault), 4, None),
         (Ok(Status::DisplayFault), 5, None),

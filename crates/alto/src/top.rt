@@ -1,7 +1,7 @@
 // The top call on the machine over a pack file, at a moment.
 ghost use Rattle.std.specs.Prelude.{map, string_bytes};
 ghost use Rattle.disk_records.specs.Addresses.{disks_of};
-ghost use Rattle.alto_top.specs.Faults.{HasStatusCause};
+ghost use Rattle.session_boot.specs.Faults.{HasStatusCause};
 ghost use Rattle.alto_top.specs.Top.{AnswersTo};
 
 use alto_top::{Status, alto};

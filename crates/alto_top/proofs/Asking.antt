@@ -2,7 +2,7 @@
 use Rattle.std.proofs.Common.{List, Some, [], ap, arith, codes, get_or, inl, inr, sym, ℕ, ◌<◌, ◌≤◌, ◌≢◌, ◌∙◌, ◌∷◌, ◌≡◌, ◌⊎◌}
 use Rattle.std.proofs.lemmas.Bool.{cases_lt}
 use Rattle.alto_top.specs.Top.{AnswersPrepare, AsksBoot, AsksFormat, AsksPrepare, AsksShow, pack_number}
-use Rattle.alto_top.specs.declared.status.Status.TheVariants as status
+use Rattle.session_boot.specs.declared.status.Status.TheVariants as status
 
 module _ (words : List (List ℕ)) (n : ℕ) (asks : AsksFormat words n) where
   pub format_is_no_boot : AsksBoot words → ⊥
@@ -48,3 +48,6 @@ usage_of_one disks answers two = answers.two two
 
 pub done_of_two : (disks : ℕ) → AnswersPrepare disks status.Done → disks ≡ 2
 done_of_two disks answers = two_of disks answers.one
+
+pub prepare_needs_none : (disks : ℕ) → AnswersPrepare disks status.NeedsScavenge → ⊥
+prepare_needs_none disks answers = answers.one (λ two. answers.two two)

@@ -10,13 +10,19 @@ use Rattle.disk_records.specs.declared.records.Event.{Event}
 use Rattle.disk_records.proofs.FirstOnes.{first_front, first_then}
 use Rattle.disk_records.proofs.Growing.{added-twice, after-append, pack-after, shown-append}
 use Rattle.pack_model.specs.showing.Settling.{show}
-use Rattle.alto_top.specs.Faults.{DiskFaultCause, status_of}
+use Rattle.alto_top.specs.Faults.{DiskFaultCause}
+use Rattle.session_boot.specs.Faults.{status_of}
 use Rattle.alto_top.specs.Formats.{Rewrites, RewritesAndTells, ShowsThroughout}
-use Rattle.alto_top.specs.Keys.{ShownAll}
-use Rattle.alto_top.specs.declared.status.Fault.{Fault}
-use Rattle.alto_top.specs.declared.status.Fault.TheVariants.{Disk, Key, Display, Memory}
-use Rattle.alto_top.specs.declared.status.Status.TheVariants as status
-use Rattle.alto_top.proofs.Statuses.{no_fault_is_done}
+use Rattle.session_boot.specs.Keys.{ShownAll}
+use Rattle.session_boot.specs.declared.status.Fault.{Fault}
+use Rattle.session_boot.specs.declared.status.Fault.TheVariants.{Disk, Key, Display, Memory}
+use Rattle.session_boot.specs.declared.status.Status.TheVariants as status
+
+no_fault_is_done : (fault : Fault) → status_of fault ≢ status.Done
+no_fault_is_done Disk is = cc
+no_fault_is_done Key is = cc
+no_fault_is_done Display is = cc
+no_fault_is_done Memory is = cc
 
 -- a disk shows nothing
 no_display : (x y : Taped) (fault : Fault) → DiskFaultCause x y fault → status_of fault ≢ status.DisplayFault

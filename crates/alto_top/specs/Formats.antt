@@ -11,9 +11,9 @@ use Rattle.disk_records.specs.declared.records.Event.{Event}
 use Rattle.laws_format.specs.Preparing.{HasUnusedDrive, IsPrepared, drive_pages, prepare_writes}
 use Rattle.pack_model.specs.showing.Settling.{show}
 use Rattle.disk_descriptor.specs.Formatting.{IsFormatted}
-use Rattle.alto_top.specs.declared.status.Fault.{Fault}
-use Rattle.alto_top.specs.declared.status.Status.{Status}
-use Rattle.alto_top.specs.declared.status.Status.TheVariants as status
+use Rattle.session_boot.specs.declared.status.Fault.{Fault}
+use Rattle.session_boot.specs.declared.status.Status.{Status}
+use Rattle.session_boot.specs.declared.status.Status.TheVariants as status
 
 -- what is shown of a formatted pack with so many free sectors
 abbrev pub format_text : ℕ → List ℕ
@@ -23,6 +23,7 @@ format_text free = codes "formatted: " ++ decimal free ++ codes " pages free\n"
 abbrev pub AnswersFormat : Status → Type 0
 AnswersFormat status.Done = Unit {0}
 AnswersFormat status.Usage = ⊥
+AnswersFormat status.NeedsScavenge = ⊥
 AnswersFormat status.DiskFault = Unit {0}
 AnswersFormat status.KeyFault = ⊥
 AnswersFormat status.DisplayFault = Unit {0}

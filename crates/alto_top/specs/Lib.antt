@@ -1,9 +1,4 @@
-pub mod Patches
 pub mod Faults
-pub mod Keys
-pub mod Sweeps
-pub mod Putting
-pub mod Sessions
 pub mod Orders
 pub mod Looking
 pub mod Showing

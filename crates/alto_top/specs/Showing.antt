@@ -9,8 +9,8 @@ use Rattle.disk_records.specs.Tapes.{Taped, pack, added}
 use Rattle.pack_model.specs.showing.View.{View}
 use Rattle.pack_model.specs.showing.Settling.{show}
 use Rattle.pack_model.specs.showing.Listing.{Listed, listing, shown_files}
-use Rattle.alto_top.specs.declared.status.Status.{Status}
-use Rattle.alto_top.specs.declared.status.Status.TheVariants as status
+use Rattle.session_boot.specs.declared.status.Status.{Status}
+use Rattle.session_boot.specs.declared.status.Status.TheVariants as status
 
 -- a stored name without the `.` that ends it
 abbrev pub stem : List ℕ → List ℕ
@@ -42,6 +42,7 @@ listing_text v = flat_map line_text (listing v) ++ count_text (length (shown_fil
 abbrev pub AnswersShow : Status → Type 0
 AnswersShow status.Done = Unit {0}
 AnswersShow status.Usage = ⊥
+AnswersShow status.NeedsScavenge = ⊥
 AnswersShow status.DiskFault = Unit {0}
 AnswersShow status.KeyFault = ⊥
 AnswersShow status.DisplayFault = Unit {0}

@@ -5,12 +5,14 @@ use Rattle.disk_records.specs.Addresses.{disks_of}
 use Rattle.disk_records.specs.Events.{IsFirstOf, shown_events}
 use Rattle.disk_records.specs.Tapes.{Taped, Grown, ShowAlone, added}
 use Rattle.alto_top.specs.Formats.{AnswersFormat, FormatsPack, PreparesPack, ShowsThroughout}
-use Rattle.alto_top.specs.Sessions.{Booted}
+use Rattle.disk_records.specs.declared.records.Tally.{Tally}
+use Rattle.pack_model.specs.sessions.Tallies.{no_tally}
+use Rattle.session_boot.specs.Boots.{Booted}
 use Rattle.alto_top.specs.Showing.{AnswersShow, KeepsKeys, ShowsPack}
 use Rattle.alto_top.specs.declared.top.Asked.{Asked}
 use Rattle.alto_top.specs.declared.top.Asked.TheVariants.{Boot, Show, Format, Prepare, Nothing}
-use Rattle.alto_top.specs.declared.status.Status.{Status}
-use Rattle.alto_top.specs.declared.status.Status.TheVariants as status
+use Rattle.session_boot.specs.declared.status.Status.{Status}
+use Rattle.session_boot.specs.declared.status.Status.TheVariants as status
 
 -- the word `boot`, alone
 abbrev pub AsksBoot : List (List ℕ) → Type 0
@@ -62,6 +64,7 @@ usage_text = codes "usage\n"
 abbrev pub AnswersUsage : Status → Type 0
 AnswersUsage status.Done = ⊥
 AnswersUsage status.Usage = Unit {0}
+AnswersUsage status.NeedsScavenge = ⊥
 AnswersUsage status.DiskFault = ⊥
 AnswersUsage status.KeyFault = ⊥
 AnswersUsage status.DisplayFault = Unit {0}
@@ -88,6 +91,11 @@ pub record PreparesOrUsage (number : ℕ) (old new : Taped) (answer : Status) : 
   pub shows : disks_of old.form ≡ 2 → ShowsThroughout old new
   pub one : disks_of old.form ≢ 2 → ShowsUsage old new answer
 
+-- ---- the word `boot`: a session, of which nobody is shown the tally
+pub record BootedAlone (moment : ℕ) (old new : Taped) (answer : Status) : Type 0 where
+  pub tally : Tally
+  pub booted : Booted moment old new (no_tally 0) tally answer
+
 -- ---- the top call, by the words
 -- `prepare` with a number, on so many drives: there is a second drive, or there is none
 abbrev pub MayPrepare : List (List ℕ) → ℕ → Type 0
@@ -101,6 +109,7 @@ CannotPrepare words disks = ((n : ℕ) × AsksPrepare words n) × (disks ≢ 2)
 pub record AnswersTo (words : List (List ℕ)) (disks : ℕ) (answer : Status) : Type 0 where
   pub usage : answer ≡ status.Usage → AsksUsage words ⊎ CannotPrepare words disks
   pub done : answer ≡ status.Done → AsksBoot words ⊎ (AsksShow words ⊎ (((n : ℕ) × AsksFormat words n) ⊎ MayPrepare words disks))
+  pub needs : answer ≡ status.NeedsScavenge → AsksBoot words
   pub show : AsksShow words → AnswersShow answer
   pub format : (n : ℕ) → AsksFormat words n → AnswersFormat answer
   pub prepare : (n : ℕ) → AsksPrepare words n → AnswersPrepare disks answer
@@ -119,7 +128,7 @@ pub record Touches (words : List (List ℕ)) (old new : Taped) : Type 0 where
 -- On a machine that is modelled, at this moment: `boot` is a session, `show` shows what the pack shows, `format` formats it, `prepare`
 -- prepares its second drive where there is one, and other words show `usage`.
 pub record DoesAsAsked (words : List (List ℕ)) (moment : ℕ) (old new : Taped) (answer : Status) : Type 0 where
-  pub boot : AsksBoot words → Booted old new answer
+  pub boot : AsksBoot words → BootedAlone moment old new answer
   pub show : AsksShow words → ShowsPack old new answer
   pub format : (n : ℕ) → AsksFormat words n → FormatsPack n moment old new answer
   pub prepare : (n : ℕ) → AsksPrepare words n → PreparesOrUsage n old new answer

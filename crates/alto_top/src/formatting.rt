@@ -4,15 +4,16 @@ ghost use Rattle.disk_records.specs.Addresses.{pages_of};
 ghost use Rattle.disk_records.specs.Tapes.{DiskAlone, Grown, pack};
 ghost use Rattle.pack_model.specs.sessions.Format.{format_writes, free_after_format};
 ghost use Rattle.disk_descriptor.specs.Formatting.{IsFormatted};
-ghost use Rattle.alto_top.specs.Faults.{HasDiskCause, HasStatusCause};
+ghost use Rattle.alto_top.specs.Faults.{HasDiskCause};
+ghost use Rattle.session_boot.specs.Faults.{HasStatusCause};
 ghost use Rattle.alto_top.specs.Formats.{AnswersFormat, FormatsDisk, FormatsPack, format_text};
 ghost use Rattle.alto_top.specs.Showing.{KeepsKeys};
 
-use crate::console::show_all;
-use crate::status::{Fault, Status};
+use crate::faults::fault_of_format;
 use alto_words::{Memory, push_number};
 use disk_descriptor::format;
 use disk_records::{Disk, Machine};
+use session_boot::{Fault, Status, show_all};
 use std::alloc::Global;
 
 /// What is shown of a formatted pack with so many free sectors.
@@ -38,7 +39,10 @@ fn format_disk<D: Disk>(
     ensures cause { HasDiskCause (D.tape disk.old) (D.tape disk.new) result }
     ensures alone { DiskAlone (D.tape disk.old) (D.tape disk.new) }
 {
-    let free = format(disk, number, moment)?;
+    let free = match format(disk, number, moment) {
+        Ok(free) => free,
+        Err(error) => return Err(fault_of_format(error)),
+    };
     Ok(text_of(alloc, free)?)
 }
 

@@ -3,15 +3,16 @@ ghost use Rattle.std.specs.Prelude.{◌≡◌, IsTrue, IfOk};
 ghost use Rattle.disk_records.specs.Addresses.{disks_of};
 ghost use Rattle.disk_records.specs.Tapes.{DiskAlone, Grown};
 ghost use Rattle.laws_format.specs.Preparing.{drive_pages};
-ghost use Rattle.alto_top.specs.Faults.{HasDiskCause, HasStatusCause};
+ghost use Rattle.alto_top.specs.Faults.{HasDiskCause};
+ghost use Rattle.session_boot.specs.Faults.{HasStatusCause};
 ghost use Rattle.alto_top.specs.Formats.{AnswersFormat, PreparesDisk, PreparesPack, ShowsThroughout, prepare_text};
 ghost use Rattle.alto_top.specs.Showing.{KeepsKeys};
 
-use crate::console::show_all;
-use crate::status::{Fault, Status};
+use crate::faults::fault_of_format;
 use alto_words::{Memory, push_number};
 use disk_descriptor::prepare;
 use disk_records::{Disk, Machine};
+use session_boot::{Fault, Status, show_all};
 use std::alloc::Global;
 
 /// What is shown of a second drive of so many sectors that was prepared.
@@ -34,7 +35,10 @@ fn prepare_disk<D: Disk>(alloc: Global, disk: &mut D, number: u16) -> Result<Vec
     ensures cause { HasDiskCause (D.tape disk.old) (D.tape disk.new) result }
     ensures alone { DiskAlone (D.tape disk.old) (D.tape disk.new) }
 {
-    let pages = prepare(disk, number)?;
+    let pages = match prepare(disk, number) {
+        Ok(pages) => pages,
+        Err(error) => return Err(fault_of_format(error)),
+    };
     Ok(text_of(alloc, pages)?)
 }
 

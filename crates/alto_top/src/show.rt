@@ -3,14 +3,15 @@ ghost use Rattle.std.specs.Prelude.{◌≡◌, ◌-◌, IsTrue, IfOk};
 ghost use Rattle.disk_records.specs.Addresses.{pages_of};
 ghost use Rattle.disk_records.specs.Tapes.{Looks, Grown, pack};
 ghost use Rattle.pack_model.specs.showing.Settling.{show};
-ghost use Rattle.alto_top.specs.Faults.{HasDiskCause, HasStatusCause};
+ghost use Rattle.alto_top.specs.Faults.{HasDiskCause};
+ghost use Rattle.session_boot.specs.Faults.{HasStatusCause};
 ghost use Rattle.alto_top.specs.Showing.{listing_text, AnswersShow, KeepsKeys, ShowsPack};
 
-use crate::console::show_all;
+use crate::faults::fault_of_reading;
 use crate::listing::listing_of;
-use crate::status::{Fault, Status};
 use disk_records::{Disk, Machine};
 use pack_reading::read_lengths;
+use session_boot::{Fault, Status, show_all};
 use std::alloc::Global;
 
 /// The listing of what the pack shows. Which pages count is told by headers and labels alone.
@@ -19,7 +20,10 @@ fn list_pack<D: Disk>(alloc: Global, disk: &mut D) -> Result<Vec<u8>, Fault>
     ensures cause { HasDiskCause (D.tape disk.old) (D.tape disk.new) result }
     ensures looks { Looks D.told (pages_of (D.tape disk.old).form - 1) (D.tape disk.old) (D.tape disk.new) }
 {
-    let shown = read_lengths(alloc, disk)?;
+    let shown = match read_lengths(alloc, disk) {
+        Ok(shown) => shown,
+        Err(error) => return Err(fault_of_reading(error)),
+    };
     Ok(listing_of(alloc, &shown)?)
 }
 

@@ -94,8 +94,8 @@ fn write_cut<D: Disk>(
 ///
 /// NoSuchName: the file isn't there. IsADirectory: it is a directory. SystemFile: it is DiskDescriptor. Beyond: it has fewer bytes. They are
 /// tested in this order, and nothing was written. Misled: an address on the way to the file is wrong, or one of its links. DiskFault: the
-/// device failed. Memory: none was left for a record write, or for the text. After each of these a prefix of the record writes was done, and
-/// all of them where memory for the text was refused.
+/// device failed. Memory: none was left for a record write, or for the text. After each of these a prefix of the record writes was done, on a
+/// modelled disk, and all of them where memory for the text was refused.
 pub fn cut_file<D: Disk>(
     alloc: Global,
     session: &mut Session,

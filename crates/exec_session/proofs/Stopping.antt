@@ -1,5 +1,5 @@
 -- What keeps a line from being done, by the answers of the calls that it makes.
-use Rattle.std.proofs.Common.{◌≡◌, ℕ, List, Option, Result, Ok, Err, refl, sym, subst, ap}
+use Rattle.std.proofs.Common.{◌≡◌, ◌≢◌, ℕ, List, Option, Result, Ok, Err, refl, sym, subst, ap}
 use Rattle.std.specs.Result.{IsErrAnd}
 use Rattle.disk_records.specs.Causes.{IsCause, never, other}
 use Rattle.disk_records.specs.Tapes.{Taped}
@@ -7,6 +7,7 @@ use Rattle.disk_records.specs.declared.records.Page.{Page}
 use Rattle.disk_records.specs.declared.records.Place.{Place}
 use Rattle.exec_words.specs.declared.reply.Refusal.{Refusal}
 use Rattle.exec_words.specs.declared.reply.Refusal.TheVariants as refusal
+use Rattle.exec_words.specs.declared.reply.Reply.TheVariants as reply
 use Rattle.page_seeking.specs.Causes.{cause_of_length}
 use Rattle.page_seeking.specs.Refs as refs
 use Rattle.page_seeking.specs.declared.refs.FileError.{FileError}
@@ -16,7 +17,7 @@ use Rattle.directory.specs.declared.errors.DirError.{DirError}
 use Rattle.directory.specs.declared.errors.DirError.TheVariants.{NoSuchName, NameTaken, NoSlot, File}
 use Rattle.exec_session.specs.declared.stop.Stop.{Stop}
 use Rattle.exec_session.specs.declared.stop.Stop.TheVariants as stop
-use Rattle.exec_session.specs.Meant.{IfHint, IfRefused}
+use Rattle.exec_session.specs.Meant.{IfHint, IfRefused, stopped}
 use Rattle.exec_session.specs.Stops.{stop_of_dir, stop_of_file}
 
 -- the error that an answer passes on
@@ -27,6 +28,13 @@ error_is (Err x) is = ap Err is
 -- a refusal
 pub refused_as : {U : Type 0} (P : Refusal → Type 0) (r : Result U Stop) (x : Refusal) → r ≡ Err (stop.Refused x) → P x → IfRefused r P
 refused_as P r x is h = subst (λ y. IfRefused y P) (sym is) h
+
+-- no scavenge is asked for
+pub stopped_unscavenged : (x : Stop) → stopped x ≢ reply.Scavenge
+stopped_unscavenged (stop.Refused r) is = cc
+stopped_unscavenged (stop.Misled place at wanted found) is = cc
+stopped_unscavenged stop.DiskFault is = cc
+stopped_unscavenged stop.Memory is = cc
 
 -- ---- of a call on a file
 hint_by_file : (T U : Type 0) (P Q : Place → ℕ → Page → Option (List ℕ) → Type 0) (e : FileError) → ((place : Place) (at : ℕ) (wanted : Page) (found : Option (List ℕ)) → P place at wanted found → Q place at wanted found) → refs.IfMisled {T = T} (Err e) P → IfHint {T = U} (Err (stop_of_file e)) Q

@@ -9,7 +9,7 @@ ghost use Rattle.exec_session.specs.Ends.{IsEndAnswer, cause_of_reply};
 ghost use Rattle.session_model.specs.Answering.{IsByModel, TakesTurns};
 ghost use Rattle.session_model.specs.Keeping.{Formed};
 ghost use Rattle.session_model.specs.Turning.{ended, typed};
-ghost use Rattle.std.specs.Prelude.{IsTrue, OnErr, OnOk, false, length, true, ◌*◌, ◌≡◌};
+ghost use Rattle.std.specs.Prelude.{IsTrue, OnErr, OnOk, false, length, true, ◌*◌, ◌≡◌, ◌≢◌};
 ghost use Rattle.exec_words.specs.declared.line.Line.TheVariants as line;
 
 use crate::answers::stopped;
@@ -69,6 +69,7 @@ pub fn quit<D: Disk>(session: &mut Session, disk: &mut D) -> Reply
     requires formed { Formed (D.tape disk.old).form (kept session.old) }
     ensures turns { IsTrue D.told → TakesTurns (D.tape disk.old) (D.tape disk.new) (kept session.old) (kept session.new) (typed line.Quit) result }
     ensures unrefused { IsByModel result → ⊥ }
+    ensures unscavenged { result ≢ Reply.Scavenge }
     ensures idle { (kept session.old).need ≡ true → (D.tape disk.new) ≡ (D.tape disk.old) }
     ensures limit { (kept session.new).tally.limit ≡ (kept session.old).tally.limit }
     ensures formed { Formed (D.tape disk.new).form (kept session.new) }

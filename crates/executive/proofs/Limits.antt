@@ -1,5 +1,5 @@
 -- The limit of a tally, put back after a line: the turn is the same, and the reply says what the line says.
-use Rattle.std.proofs.Common.{◌≡◌, ℕ, suc, List, [], ◌∷◌, Vec, Result, Ok, Err, refl, sym, subst, ap, ◌∙◌}
+use Rattle.std.proofs.Common.{◌≡◌, ◌≢◌, ℕ, suc, List, [], ◌∷◌, Vec, Result, Ok, Err, refl, sym, subst, ap, ◌∙◌}
 use Rattle.disk_records.specs.Causes.{HasCause, IsCause}
 use Rattle.disk_records.specs.Packs.{Pack}
 use Rattle.disk_records.specs.Tapes.{Taped, pack}
@@ -7,12 +7,14 @@ use Rattle.disk_records.specs.declared.records.Tally.{Tally}
 use Rattle.disk_records.specs.declared.shape.Shape.{Shape}
 use Rattle.exec_words.specs.declared.line.Line.{Line}
 use Rattle.exec_words.specs.declared.reply.Reply.{Reply}
+use Rattle.exec_words.specs.declared.reply.Reply.TheVariants as reply
 use Rattle.exec_session.specs.declared.session.Session.{Session}
 use Rattle.exec_session.specs.declared.stop.Stop.{Stop}
 use Rattle.exec_session.specs.declared.stop.Stop.TheVariants as stop
 use Rattle.exec_session.specs.Ends.{cause_of_reply}
 use Rattle.exec_session.specs.Meant.{IfRefused, TakesLine, in_need, kept, kept_replied, replied}
 use Rattle.exec_session.specs.Stops.{cause_of_stop}
+use Rattle.exec_session.proofs.Stopping.{stopped_unscavenged}
 use Rattle.pack_model.specs.operations.Operations.{Move}
 use Rattle.pack_model.specs.operations.Operations.Move.{quiet, commits, mends}
 use Rattle.pack_model.specs.sessions.Tallies.{counted, took_effect}
@@ -108,6 +110,10 @@ by_model_unwritten {Z} P done r is h by_model = by done h (subst IsByModel is by
     by (Err (stop.Misled place at wanted found)) h m = absurd m
     by (Err stop.DiskFault) h m = absurd m
     by (Err stop.Memory) h m = absurd m
+
+pub answered_unscavenged : {Z : Type 0} (done : Result (Vec ℕ Z) Stop) (r : Reply) → r ≡ replied done → r ≢ reply.Scavenge
+answered_unscavenged (Ok text) r is asks = cc
+answered_unscavenged (Err x) r is asks = stopped_unscavenged x (sym is ∙ asks)
 
 pub answered_cause : {Z : Type 0} (old new : Taped) (done : Result (Vec ℕ Z) Stop) (r : Reply) → r ≡ replied done → HasCause cause_of_stop old new done → IsCause old new (cause_of_reply r)
 answered_cause {Z} old new done r is h = subst (λ x. IsCause old new (cause_of_reply x)) (sym is) (by done h)

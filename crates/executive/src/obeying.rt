@@ -8,7 +8,7 @@ ghost use Rattle.exec_words.specs.Built.{is_built};
 ghost use Rattle.session_model.specs.Answering.{IsByModel, TakesTurns};
 ghost use Rattle.session_model.specs.Keeping.{Formed};
 ghost use Rattle.session_model.specs.Turning.{cue_for, is_quit};
-ghost use Rattle.std.specs.Prelude.{IsTrue, [], false, true, ◌≡◌};
+ghost use Rattle.std.specs.Prelude.{IsTrue, [], false, true, ◌≡◌, ◌≢◌};
 
 use crate::moment::set_time;
 use crate::refusing::refuse_line;
@@ -88,6 +88,7 @@ pub fn obey<D: Disk>(alloc: Global, session: &mut Session, disk: &mut D, line: &
     requires formed { Formed (D.tape disk.old).form (kept session.old) }
     ensures turns { IsTrue D.told → TakesTurns (D.tape disk.old) (D.tape disk.new) (kept session.old) (kept session.new) (cue_for line.now) result }
     ensures unwritten { IsTrue D.told → IsByModel result → added (D.tape disk.old) (D.tape disk.new) ≡ [] }
+    ensures unscavenged { result ≢ Reply.Scavenge }
     ensures limit { (kept session.new).tally.limit ≡ (kept session.old).tally.limit }
     ensures formed { Formed (D.tape disk.new).form (kept session.new) }
     ensures cause { IsCause (D.tape disk.old) (D.tape disk.new) (cause_of_reply result) }

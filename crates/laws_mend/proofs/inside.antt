@@ -14,6 +14,7 @@ pub mod Gone
 pub mod Joining
 pub mod Lacked
 pub mod LackedDescriptor
+pub mod Pages
 pub mod PartsMended
 pub mod Redescribed
 pub mod Relabelling
@@ -23,6 +24,7 @@ pub mod Reworded
 pub mod RootMade
 pub mod RootMoved
 pub mod RootWidened
+pub mod Seats
 pub mod Shortened
 pub mod Slotting
 pub mod SystemPages

@@ -1,4 +1,5 @@
 pub mod ClosingLaws
+pub mod CountingLaws
 pub mod JoinLaws
 pub mod NumberLaws
 pub mod PartLaws

@@ -6,8 +6,9 @@
 //!
 //! The laws of joins: mendings one after another, broken off, and what they come to. The laws of runs: all record writes of one guarded
 //! command. The laws of numbers: free and available sectors, how many of them a command frees, and which are there for a page that lacks.
-//! The laws of parts: which files, places and parts of a mended pack a command leaves, and all parts put together. The laws of slots: those
-//! of directories while names are mended. The laws of widening: a directory that gets a page more meanwhile. The law of closing: what the last
+//! The laws of counting: which pages count, which sectors are in use by them, and how far the pages of a file go. The laws of parts: which
+//! files, places and parts of a mended pack a command leaves, and all parts put together. The laws of slots: those of directories while
+//! names are mended. The laws of widening: a directory that gets a page more meanwhile. The law of closing: what the last
 //! record writes of a scavenge leave.
 //!
 //! Below stand laws_room, which says of one record write that it keeps what a scavenge keeps, laws_record, which says that any pack is
@@ -19,6 +20,7 @@
 #![tactic(auto)]
 
 pub mod closing;
+pub mod counting;
 pub mod joins;
 pub mod numbers;
 pub mod parts;

@@ -1,3 +1,4 @@
+pub mod Belonging
 mod Filling
 mod Given
 mod Naming

@@ -1,5 +1,6 @@
 -- A pack that is opened, or isn't, and then the session.
 use Rattle.std.proofs.Common.{◌≡◌, ◌≢◌, ◌⊎◌, ◌==◌, ◌≤◌, Bool, arith, true, false, ℕ, List, [], ◌++◌, Option, Some, None, inl, inr, refl, sym, subst, ap, ◌∙◌, eq-eqb}
+use Rattle.std.proofs.lemmas.Bool.{ne_eqb}
 use Rattle.alto_words.specs.declared.fid.Fid.{Fid}
 use Rattle.disk_descriptor.specs.declared.errors.OpenError.{OpenError}
 use Rattle.disk_descriptor.specs.declared.errors.OpenError.TheVariants as error
@@ -26,7 +27,7 @@ use Rattle.session_model.specs.Histories.{HistoryOf, NoneFailed, NoneFailedIn, T
 use Rattle.session_model.specs.Keeping.{Kept}
 use Rattle.session_model.specs.Opening.{Unready, bad_descriptor, no_descriptor, no_root, not_clean, system_files, unless_so, unready, unready_text, wrong_length}
 use Rattle.session_model.specs.Turning.{Cue, HintFailing, State, opening}
-use Rattle.session_boot.specs.Boots.{Booted, Boots, EndsAs, LastsTo, NoneRose}
+use Rattle.session_boot.specs.Boots.{Booted, Boots, DoesntEnter, EndsAs, LastsTo, NamesHint, NoneRose, TellsInOrder, TellsMark}
 use Rattle.session_boot.specs.Faults.{HasStatusCause, cause_of_fault, status_of, status_of_need, stop_of, stop_of_need}
 use Rattle.session_boot.specs.Opening.{IsReason, Refused, ShowsReason, reason}
 use Rattle.session_boot.specs.declared.status.Fault.{Fault}
@@ -43,6 +44,11 @@ sound_ready : (p : Pack) → Sound p → Clean p → unready p ≡ None
 sound_ready p sound clean =
     let is_clean : (mark_of (sights p) == mark_clean) ≡ true = eq-eqb (mark_of (sights p)) mark_clean clean.mark in
     sound_packs_are_ready p sound ∙ ap (λ b. unless_so b (not_clean (mark_of (sights p)))) is_clean
+
+sound_unready : (p : Pack) → Sound p → (Clean p → ⊥) → unready p ≡ Some (not_clean (mark_of (sights p)))
+sound_unready p sound unclean =
+    let is_open : (mark_of (sights p) == mark_clean) ≡ false = ne_eqb (mark_of (sights p)) mark_clean (λ is. unclean (record { lives = sound.whole.descriptor_lives; mark = is })) in
+    sound_packs_are_ready p sound ∙ ap (λ b. unless_so b (not_clean (mark_of (sights p)))) is_open
 
 not_both : {X : Type 0} (p : Pack) (u : Unready) → unready p ≡ None → unready p ≡ Some u → X
 not_both p u none some = absurd (let both : ◌≡◌ {A = Option Unready} None (Some u) = sym none ∙ some in cc)
@@ -80,6 +86,19 @@ module _ (moment : ℕ) (x z : Taped) (given tally : Tally) (sound : Sound (pack
   completes status.Memory boots cause none = inr refl
 
 -- ---- it isn't opened
+ends_as : {P Q : Stop → Type 0} (answer : Status) → ((stop : Stop) → P stop → Q stop) → EndsAs answer P → EndsAs answer Q
+ends_as status.Done so h = so done h
+ends_as status.Usage so h = h
+ends_as status.NeedsScavenge so h = so needs_scavenge h
+ends_as status.DiskFault so h = so disk_failed h
+ends_as status.KeyFault so h = so keys_failed h
+ends_as status.DisplayFault so h = so display_failed h
+ends_as status.Memory so h = so no_memory h
+
+-- the mark of a sound pack is the reason
+tells_mark : (x z : Taped) (given tally : Tally) (answer : Status) → DoesntEnter x z given tally answer → Sound (pack x) → (Clean (pack x) → ⊥) → TellsMark x z given tally answer
+tells_mark x z given tally answer unentered sound unclean = ends_as answer (λ stop h. h (not_clean (mark_of (sights (pack x)))) (sound_once (pack x) sound) (sound_unready (pack x) sound unclean)) unentered
+
 -- the text is shown, or the call stopped before it
 shows_or_stops : (e : OpenError) (y z : Taped) (answer : Status) → Refused e y z answer → ShowsReason e y z answer → (P : Stop → Type 0) → ((stop : Stop) → IsReason e → ShowsWhy stop (reason e) (added y z) → P stop) → ((stop : Stop) → CanStop stop → added y z ≡ [] → P stop) → EndsAs answer P
 shows_or_stops e y z status.Done refused shown P why stops = absurd refused
@@ -127,18 +146,33 @@ module _ {x y z : Taped} (e : OpenError) (given tally : Tally) (first : Grown x 
   unentered_by stop error.DiskFault u is refuses reasons shows = absurd reasons
   unentered_by stop error.Memory u is refuses reasons shows = absurd reasons
 
+  told_by : (stop : Stop) (e : OpenError) (u : Unready) → unready (pack x) ≡ Some u → Refuses (pack x) e → IsReason e → ShowsWhy stop (reason e) (added x z) → ShowsWhy stop (unready_text u) (added x z) ⊎ (NamesHint x z stop ⊎ (added x z ≡ []))
+  told_by stop (error.NoRoot found) u is refuses reasons shows = inl (reason_of stop u (no_root found) is refuses shows)
+  told_by stop error.NoDescriptor u is refuses reasons shows = inl (reason_of stop u no_descriptor is refuses shows)
+  told_by stop (error.WrongLength size) u is refuses reasons shows = inl (reason_of stop u (wrong_length size) is refuses shows)
+  told_by stop (error.BadDescriptor word found) u is refuses reasons shows = inl (reason_of stop u (bad_descriptor word found) is refuses shows)
+  told_by stop (error.NotClean mark) u is refuses reasons shows = inl (reason_of stop u (not_clean mark) is refuses shows)
+  told_by stop (error.Misled place at wanted found) u is refuses reasons shows = inr (inl (record { place = place; at = at; wanted = wanted; found = found; misled = refuses; shows = shows }))
+  told_by stop error.DiskFault u is refuses reasons shows = absurd reasons
+  told_by stop error.Memory u is refuses reasons shows = absurd reasons
+
   pub refused_boots : (moment : ℕ) (answer : Status) → AreFormed (pack x) → (EachOnce (sights (pack x)) → Refuses (pack x) e) → Refused e y z answer → ShowsReason e y z answer → HasStatusCause x z answer → Booted moment x z given tally answer
   refused_boots moment answer formed refuses refused shown cause =
       let boots : Sound (pack x) → Clean (pack x) → Boots moment x z given tally answer = λ sound clean.
       shows_or_stops e y z answer refused shown (λ stop. BootOf moment x z given tally stop)
       (λ stop is shows. unopened_by moment stop e (sound_ready (pack x) sound clean) (refuses (sound_once (pack x) sound)) is (subst (ShowsWhy stop (reason e)) (sym both) shows))
       (λ stop can none. stopped can (both ∙ none) not_begun) in
+      let unentered : DoesntEnter x z given tally answer = shows_or_stops e y z answer refused shown (λ stop. NotEntered x z given tally stop)
+      (λ stop is shows u once ready. (unentered_by stop e u ready (refuses once) is (subst (ShowsWhy stop (reason e)) (sym both) shows), not_begun))
+      (λ stop can none u once ready. (stopped can (both ∙ none), not_begun)) in
       record {
         boots = boots;
         complete = λ sound clean hints none. completes moment x z given tally sound formed hints answer (boots sound clean) cause none;
-        not_entered = shows_or_stops e y z answer refused shown (λ stop. NotEntered x z given tally stop)
-            (λ stop is shows u once ready. (unentered_by stop e u ready (refuses once) is (subst (ShowsWhy stop (reason e)) (sym both) shows), not_begun))
-            (λ stop can none u once ready. (stopped can (both ∙ none), not_begun));
+        not_entered = unentered;
+        in_order = shows_or_stops e y z answer refused shown (λ stop. TellsInOrder x z stop)
+            (λ stop is shows u once ready. told_by stop e u ready (refuses once) is (subst (ShowsWhy stop (reason e)) (sym both) shows))
+            (λ stop can none u once ready. inr (inr (both ∙ none)));
+        open_mark = tells_mark x z given tally answer unentered;
       }
 
 -- ---- it is
@@ -165,11 +199,15 @@ each_ends status.DisplayFault P other h = h display_failed
 each_ends status.Memory P other h = h no_memory
 
 pub opened_boots : (moment : ℕ) (x z : Taped) (given tally : Tally) (answer : Status) → AreFormed (pack x) → answer ≢ status.Usage → (EachOnce (sights (pack x)) → unready (pack x) ≡ None) → (Sound (pack x) → Boots moment x z given tally answer) → HasStatusCause x z answer → Booted moment x z given tally answer
-opened_boots moment x z given tally answer formed other ready boots cause = record {
-  boots = λ sound clean. boots sound;
-  complete = λ sound clean hints none. completes moment x z given tally sound formed hints answer (boots sound) cause none;
-  not_entered = each_ends answer (λ stop. NotEntered x z given tally stop) other (λ stop u once is. not_both (pack x) u (ready once) is);
-}
+opened_boots moment x z given tally answer formed other ready boots cause =
+    let unentered : DoesntEnter x z given tally answer = each_ends answer (λ stop. NotEntered x z given tally stop) other (λ stop u once is. not_both (pack x) u (ready once) is) in
+    record {
+      boots = λ sound clean. boots sound;
+      complete = λ sound clean hints none. completes moment x z given tally sound formed hints answer (boots sound) cause none;
+      not_entered = unentered;
+      in_order = each_ends answer (λ stop. TellsInOrder x z stop) other (λ stop u once is. not_both (pack x) u (ready once) is);
+      open_mark = tells_mark x z given tally answer unentered;
+    }
 
 pub ended_boots : (moment : ℕ) (x z : Taped) (given : Tally) (two : Kept) → LastsTo moment x z given two.tally (stop_of_need two.need) → Boots moment x z given two.tally (status_of_need two.need)
 ended_boots moment x z given two l = need_ends two.need (λ stop. BootOf moment x z given two.tally stop) (lasts_boot l)

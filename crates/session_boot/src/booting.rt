@@ -50,8 +50,8 @@ fn obey_lines<M: Machine>(
 ///
 /// Done: the keys were taken to their end, to a `quit` that was answered `done`, or to 2^31 bytes, and the pack is closed. NeedsScavenge: the
 /// pack isn't entered, and the one text says why; or a hint failed in the session. DiskFault, KeyFault, DisplayFault: that device failed, and
-/// the session stopped at once. Memory: none was left. After each of these the pack isn't closed, and its next use begins with a scavenge.
-/// Usage is never answered.
+/// the session ended there. Memory: none was left. After each of these a pack to which the session wrote may be left open, so that it is
+/// entered no more until it is scavenged; one to which it wrote nothing is as before. Usage is never answered.
 pub fn boot<M: Machine>(alloc: Global, moment: u32, tally: &mut Tally, machine: &mut M) -> Status
     ensures booted { IsTrue M.told → Booted moment (M.tape machine.old) (M.tape machine.new) tally.old tally.new result }
     ensures answers { result ≢ Status.Usage }

@@ -2,12 +2,13 @@
 //!
 //! Come here when you change how a pack is opened, how lines are taken, or how a session ends. Below it stand the Executive, which obeys one
 //! line, and the laws of sessions, by which the turns of the lines are a history. To the layers above, of each machine that is modelled:
-//! 1. On a pack that is sound and clean either a session opens, or one text says which hint misled on the way to a system file, or the disk
-//!    failed or no memory was left before either (`booted`).
+//! 1. On a pack that is sound and clean either a session opens, or one text says which hint misled on the way to a system file, a prefix of it
+//!    where the display failed, or the disk failed or no memory was left before either (`booted`).
 //! 2. What is shown in a session are the texts of its turns and nothing else; each crash point shows the model after as many operations as
 //!    the ruler says, every acknowledged one among them, and can be scavenged; the tally counts the history from the limit that was given.
 //! 3. At Done the pack is sound and clean and read as the last model; with true hints no turn failed, and they are true again.
-//! 4. On a pack that isn't ready one text says why, nothing is written and no key is taken.
+//! 4. On a pack that isn't ready and carries no page twice, as a sound one whose mark isn't clean, one text says why, a prefix of it where the
+//!    display failed, and none where the disk failed or no memory was left; nothing is written and no key is taken.
 //!
 //! And of every machine: DiskFault, KeyFault and DisplayFault come only where their own count rose (`cause`).
 //! Not promised: that memory is left; that no command follows a failed one, which a tape doesn't tell.

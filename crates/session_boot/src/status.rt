@@ -15,13 +15,13 @@ pub enum Status {
     Usage = 1,
     /// The pack isn't entered until it is scavenged, or the session ended after a hint failed.
     NeedsScavenge = 2,
-    /// The disk failed, and what was asked for stopped at once; what was acknowledged stands on the pack.
+    /// The disk failed before what was asked for was done. What was acknowledged stands on the pack, if it was sound and clean.
     DiskFault = 3,
     /// The keyboard failed. The lines that ended before have their replies.
     KeyFault = 4,
     /// The display failed. No record write follows the first byte that wasn't shown.
     DisplayFault = 5,
-    /// No memory was left. What was acknowledged stands on the pack.
+    /// No memory was left. What was acknowledged stands on the pack, if it was sound and clean.
     Memory = 6,
 }
 

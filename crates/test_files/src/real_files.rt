@@ -3,19 +3,16 @@ ghost use Rattle.std.specs.Prelude.{IsTrue};
 ghost use Rattle.disk_records.specs.Checks.{is_legal};
 
 use crate::outside::{Broken, FileCall, Log, Outside};
-use crate::samples::ZEROS;
-use alto_top::{Status, boot};
-use disk_image::{FileMachine, encode_pack};
+use crate::samples::{MADE, MARK_AT, ZEROS, expect_done, start};
+use alto_top::{Status, format_pack};
+use disk_image::FileMachine;
 use disk_records::{Disk, DiskError, Plan, Sector};
 use std::fs;
 use std::fs::{OpenFile, OpenOptions};
 use std::io::SeekFrom;
-use std::process::Abort;
-use std::rt::Runtime;
 use std::test::Fail;
-use test_packs::{DATA, LEADER, sectors_of, small_shape};
 
-/// The five bytes `ABCDE` become these.
+/// The five bytes `ABCDE` of the file with serial 3 become these.
 const KEYS: &[u8] = b"patch #3 0 565758595A\n";
 
 const PLACED: &[u8] = b"VWXYZ";
@@ -23,78 +20,97 @@ const PLACED: &[u8] = b"VWXYZ";
 /// Where the file's bytes stand in the pack file: after the six sectors ahead, a header and a label.
 const BYTES_AT: usize = 6 * 532 + 20;
 
-/// The bytes of the pack file with the one file.
-fn old_bytes<R: Abort + AllocGlobal>(rt: &R) -> Result<Vec<u8>, Fail> {
-    let shape = small_shape();
-    let sectors = sectors_of(rt.alloc(), &[LEADER, DATA])?;
-    assert!(rt; sectors.len() == shape.pages() as usize);
-    let bytes = encode_pack(rt.alloc(), shape, &sectors)?;
-    Ok(bytes)
+/// How much of the session stands in the pack file: nothing, the open mark, the bytes too, or the bytes after the pack was closed.
+#[derive(Clone, Copy)]
+enum Stands {
+    Nothing,
+    Mark,
+    Bytes,
+    Closed,
 }
 
-/// The same, patched.
-fn new_bytes<R: Abort + AllocGlobal>(rt: &R) -> Result<Vec<u8>, Fail> {
-    let mut bytes = old_bytes(rt)?;
-    for (byte, placed) in bytes.iter_mut().skip(BYTES_AT).zip(PLACED) {
-        *byte = *placed;
+/// The bytes of the pack file with so much of the session, where these stood before.
+fn bytes_with(mut bytes: Vec<u8>, stands: Stands) -> Vec<u8> {
+    let (mark, placed) = match stands {
+        Stands::Nothing => (1, false),
+        Stands::Mark => (2, false),
+        Stands::Bytes => (2, true),
+        Stands::Closed => (1, true),
+    };
+    if let Some(byte) = bytes.get_mut(MARK_AT) {
+        *byte = mark;
     }
-    Ok(bytes)
+    if placed {
+        for (byte, letter) in bytes.iter_mut().skip(BYTES_AT).zip(PLACED) {
+            *byte = *letter;
+        }
+    }
+    bytes
+}
+
+/// Makes a formatted pack file with the one file.
+fn place_pack(host: &HostRuntime, path: &str) -> Result<(), Fail> {
+    let alloc = host.alloc();
+    let log = Log::new(alloc);
+    let outside = Outside::new(host, MADE, Broken::Nothing, &log);
+    let mut machine = FileMachine::create(&outside, alloc, path, 2)?;
+    expect_done(format_pack(alloc, 1, 1000, &mut machine))?;
+    expect_done(start(alloc, &mut machine))
 }
 
 /// A machine over a new pack file with the one file.
-fn machine_over<'a, R: Runtime + Abort + AllocGlobal>(
-    rt: &R,
+fn machine_over<'a>(
+    host: &HostRuntime,
     outside: &'a Outside<'a>,
     path: &str,
 ) -> Result<FileMachine<'a, Outside<'a>>, Fail> {
-    let alloc = rt.alloc();
-    let made = FileMachine::create(rt, alloc, path, 2)?;
-    drop(made);
-    fs::write(rt, path, old_bytes(rt)?.as_slice())?;
-    let machine = FileMachine::reach(outside, alloc, path)?;
-    Ok(machine)
+    place_pack(host, path)?;
+    Ok(FileMachine::reach(outside, host.alloc(), path)?)
 }
 
 #[test]
 fn what_fails_and_what_stands_in_the_file(rt: HostRuntime) -> Result<(), Fail> {
     let alloc = rt.alloc();
+    place_pack(&rt, "old")?;
+    let old = fs::read(&rt, "old")?;
     // what fails is asked once, and a reply is shown once
     let rows = [
+        (Broken::Nothing, Status::Done, Stands::Closed, 1u64, 2u64),
+        (Broken::Display, Status::DisplayFault, Stands::Bytes, 1, 1),
+        (Broken::Keyboard, Status::KeyFault, Stands::Bytes, 1, 2),
+        (Broken::Writing, Status::DiskFault, Stands::Nothing, 0, 1),
         (
-            Broken::Nothing,
-            Status::Done,
-            b"done\n".as_slice(),
-            true,
-            1u64,
-            2u64,
+            Broken::WriteCall(0),
+            Status::DiskFault,
+            Stands::Nothing,
+            0,
+            1,
         ),
-        (Broken::Display, Status::DisplayFault, b"", true, 1, 1),
-        (Broken::Keyboard, Status::KeyFault, b"done\n", true, 1, 2),
-        (Broken::Writing, Status::DiskFault, b"", false, 0, 1),
-        (Broken::WriteCall(0), Status::DiskFault, b"", false, 0, 1),
-        (Broken::Reading, Status::DiskFault, b"", false, 0, 1),
+        (Broken::WriteCall(1), Status::DiskFault, Stands::Mark, 0, 1),
+        // the pack isn't closed
+        (Broken::WriteCall(2), Status::DiskFault, Stands::Bytes, 1, 2),
+        (Broken::Reading, Status::DiskFault, Stands::Nothing, 0, 0),
         // the cylinder can't be read, and its sectors can, one by one
-        (Broken::ReadCall(0), Status::Done, b"done\n", true, 1, 2),
+        (Broken::ReadCall(0), Status::Done, Stands::Closed, 1, 2),
         // of the 22 keys a short read takes 5, and the last one finds the end
-        (Broken::Short, Status::Done, b"done\n", true, 1, 6),
-        (Broken::Interrupted, Status::Done, b"done\n", true, 1, 4),
+        (Broken::Short, Status::Done, Stands::Closed, 1, 6),
+        (Broken::Interrupted, Status::Done, Stands::Closed, 1, 4),
     ];
-    for (broken, ended, shown, is_written, shows, key_reads) in rows {
+    for (broken, ended, stands, shows, key_reads) in rows {
         let log = Log::new(alloc);
         let outside = Outside::new(&rt, KEYS, broken, &log);
         let mut machine = machine_over(&rt, &outside, "patched")?;
-        let status = boot(alloc, 1000, &mut machine);
-        assert!(rt; status == ended, "{broken:?}");
+        assert!(rt; start(alloc, &mut machine) == ended, "{broken:?}");
+        let shown = if shows == 1 && broken != Broken::Display {
+            b"done\n".as_slice()
+        } else {
+            b""
+        };
         assert_eq!(rt; log.shown(alloc)?.as_slice(), shown, "{broken:?}");
         assert_eq!(rt; log.shows(), shows, "{broken:?}");
         assert_eq!(rt; log.key_reads(), key_reads, "{broken:?}");
-        let bytes = if is_written {
-            new_bytes(&rt)?
-        } else {
-            old_bytes(&rt)?
-        };
         assert!(rt;
-            fs::read(&rt, "patched")?.as_slice() == bytes.as_slice(),
+            fs::read(&rt, "patched")?.as_slice() == bytes_with(old.clone()?, stands).as_slice(),
             "{broken:?}"
         );
         fs::remove_file(&rt, "patched")?;
@@ -306,7 +322,7 @@ fn keys_are_read_ahead_and_replies_shown_whole(rt: HostRuntime) -> Result<(), Fa
         let log = Log::new(alloc);
         let outside = Outside::new(&rt, &keys, Broken::Nothing, &log);
         let mut machine = machine_over(&rt, &outside, "typed")?;
-        assert!(rt; boot(alloc, 1000, &mut machine) == Status::Done);
+        assert!(rt; start(alloc, &mut machine) == Status::Done);
         assert!(rt;
             log.shown(alloc)?.as_slice() == replies.as_slice(),
             "{pairs}"

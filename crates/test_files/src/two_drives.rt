@@ -1,7 +1,7 @@
 // Two drives of two cylinders each over real files: which file a command goes to, and what stands where calls fail or are short.
 use crate::outside::{Broken, FileCall, Log, Outside};
-use crate::samples::ZEROS;
-use alto_top::{Status, boot};
+use crate::samples::{MADE, MARK_AT, ZEROS, expect_done, start};
+use alto_top::{Status, format_pack};
 use disk_image::{FileMachine, ReachError, encode_two};
 use disk_records::{Disk, Plan, Sector, Shape};
 use std::fs;
@@ -36,8 +36,11 @@ const FRONT_DATA: Placed = Placed {
     front: [0x4142, 0x4344, 0x4500],
 };
 
-/// Where the bytes of the file with serial 3 stand in the second file: after two sectors, a header and a label.
-const IN_SECOND: usize = 2 * 532 + 20;
+/// Where the bytes of a second page stand in the second file: after the sector of the first, a header and a label.
+const IN_SECOND: usize = 532 + 20;
+
+/// Where the map's words of the first drive stand in the first file: words 16 to 18 of DiskDescriptor's page, on sector 4.
+const MAP_AT: usize = 4 * 532 + 20 + 32;
 
 /// The bytes of the two files of a pack.
 #[derive(Drop)]
@@ -81,22 +84,54 @@ fn stood(rt: &HostRuntime, pair: &Pair) -> Result<bool, Fail> {
     Ok(first.as_slice() == pair.first.as_slice() && second.as_slice() == pair.second.as_slice())
 }
 
+/// Makes a formatted pack on two files, on whose map the first drive is busy, and in a session the file with serial 3 and its five bytes
+/// `ABCDE`; so its pages stand on the second drive. Gives the bytes of the files.
+fn typed_pair(rt: &HostRuntime) -> Result<Pair, Fail> {
+    let alloc = rt.alloc();
+    let log = Log::new(alloc);
+    let outside = Outside::new(rt, MADE, Broken::Nothing, &log);
+    let mut machine = FileMachine::create_two(&outside, alloc, "first", "second", 2)?;
+    expect_done(format_pack(alloc, 1, 1000, &mut machine))?;
+    drop(machine);
+    let mut first = fs::read(rt, "first")?;
+    for byte in first.iter_mut().skip(MAP_AT).take(6) {
+        *byte = 0xFF;
+    }
+    fs::write(rt, "first", first.as_slice())?;
+    let mut machine = FileMachine::reach_two(&outside, alloc, "first", "second")?;
+    expect_done(start(alloc, &mut machine))?;
+    drop(machine);
+    let first = fs::read(rt, "first")?;
+    let second = fs::read(rt, "second")?;
+    Ok(Pair { first, second })
+}
+
 #[test]
 fn short_and_refused_writes_of_the_second_drive(rt: HostRuntime) -> Result<(), Fail> {
     let alloc = rt.alloc();
     let keys = b"patch #3 0 565758595A\n".as_slice();
     let rows = [
-        (Broken::Short, Status::Done, b"done\n".as_slice(), b"VWXYZ"),
-        (Broken::Writing, Status::DiskFault, b"", b"ABCDE"),
+        (
+            Broken::Short,
+            Status::Done,
+            b"done\n".as_slice(),
+            1,
+            b"VWXYZ",
+        ),
+        (Broken::Writing, Status::DiskFault, b"", 1, b"ABCDE"),
+        // after the mark, which stands on the first drive
+        (Broken::WriteCall(1), Status::DiskFault, b"", 2, b"ABCDE"),
     ];
-    for (broken, ended, shown, bytes) in rows {
-        let mut pair = old_pair(&rt)?;
-        place(&rt, &pair)?;
+    for (broken, ended, shown, mark, bytes) in rows {
+        let mut pair = typed_pair(&rt)?;
         let log = Log::new(alloc);
         let outside = Outside::new(&rt, keys, broken, &log);
         let mut machine = FileMachine::reach_two(&outside, alloc, "first", "second")?;
-        assert!(rt; boot(alloc, 1000, &mut machine) == ended, "{broken:?}");
+        assert!(rt; start(alloc, &mut machine) == ended, "{broken:?}");
         assert_eq!(rt; log.shown(alloc)?.as_slice(), shown, "{broken:?}");
+        if let Some(byte) = pair.first.get_mut(MARK_AT) {
+            *byte = mark;
+        }
         for (byte, placed) in pair.second.iter_mut().skip(IN_SECOND).zip(bytes) {
             *byte = *placed;
         }

@@ -8,4 +8,4 @@ mod machines;
 mod sectors;
 
 pub use machines::{failing_machine, small_shape, sure_machine};
-pub use sectors::{DATA, LEADER, PATCHED, Placed, sectors_of, set_page, value_of};
+pub use sectors::{DATA, LEADER, Placed, sectors_of, set_page, value_of};

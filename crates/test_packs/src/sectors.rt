@@ -28,9 +28,6 @@ pub const DATA: Placed = Placed {
     front: [0x4142, 0x4344, 0x4500],
 };
 
-/// The first words of the same data page with `ABBDE`.
-pub const PATCHED: [u16; 3] = [0x4142, 0x4244, 0x4500];
-
 /// A value that begins with these words. The others are 0.
 pub fn value_of(front: [u16; 3]) -> [u16; 256]
     ensures { result ≡ value_of front }

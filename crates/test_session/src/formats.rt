@@ -1,5 +1,5 @@
 // The word `format`: the worked row over a pack in memory, words that ask for nothing, and a device that fails.
-use crate::sessions::{expect_no_key_taken, obey};
+use crate::obeying::{expect_no_key_taken, obey};
 use alto_top::Status;
 use disk_records::{Disk, Sector};
 use std::test::Fail;

@@ -1,4 +1,4 @@
-//! Tests of typed sessions over packs made by hand in memory: lines, files, faults and crash points; and of `format` and `prepare`.
+//! Tests of the words of a command line over packs in memory, of `format` and `prepare`, and of sessions that begin.
 //!
 //! What is expected here was worked out by hand from the rules of commands and labels, and never taken from a run.
 //! There is nothing to call.
@@ -7,16 +7,10 @@
 #[cfg(test)]
 mod begins;
 #[cfg(test)]
-mod cuts;
-#[cfg(test)]
-mod faults;
-#[cfg(test)]
-mod files;
-#[cfg(test)]
 mod formats;
 #[cfg(test)]
-mod lines;
+mod obeying;
 #[cfg(test)]
 mod preparing;
 #[cfg(test)]
-mod sessions;
+mod words;

@@ -1,5 +1,5 @@
 // Packs of every size formatted over zeros, and the word `prepare` over two drives of 203 cylinders.
-use crate::sessions::obey;
+use crate::obeying::obey;
 use alto_top::Status;
 use disk_memory::{MemMachine, SureMachine};
 use disk_records::{Disk, Sector, Shape};

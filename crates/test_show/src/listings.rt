@@ -1,30 +1,7 @@
-// Listings at each crash point of a session, and listings that faults end.
-use crate::expected::expect_first_bytes;
-use alto_top::{Status, boot, show_pack};
-use pack_reading::read_pack;
+// Listings that faults end.
+use alto_top::{Status, show_pack};
 use std::test::Fail;
-use test_packs::{DATA, LEADER, failing_machine, sectors_of, sure_machine};
-
-#[test]
-fn cuts_of_a_patch(rt: HostRuntime) -> Result<(), Fail> {
-    let alloc = rt.alloc();
-    let keys = b"patch #3 1 4242\npatch #3 4 4242\n";
-    let mut machine = sure_machine(alloc, sectors_of(alloc, &[LEADER, DATA])?, keys)?;
-    assert!(rt; boot(alloc, 1000, &mut machine) == Status::Done);
-    for count in 0..=machine.event_count() {
-        let mut cut = machine.cut(alloc, count)?;
-        let before = cut.shown(alloc)?.len();
-        // the record write of the first line comes before all that is shown
-        let bytes = if count == 0 { b"ABCDE" } else { b"ABBDE" };
-        expect_first_bytes(&rt, &read_pack(alloc, &mut cut)?, bytes)?;
-        assert!(rt; show_pack(alloc, &mut cut) == Status::Done);
-        // the leader has no name
-        let shown = cut.shown(alloc)?;
-        let listing = b"SysDir>Lost3. length 5\n1 files\n".as_slice();
-        assert_eq!(rt; shown.get(before..), Some(listing), "{count}");
-    }
-    Ok(())
-}
+use test_packs::{DATA, LEADER, failing_machine, sectors_of};
 
 #[test]
 fn faults_while_showing(rt: HostRuntime) -> Result<(), Fail> {

@@ -1,12 +1,10 @@
 -- Whether sector 1 is free for SysDir's leader page.
 use Rattle.std.proofs.Common.{◌∙◌, ◌≡◌, ◌⊎◌, Bool, Some, ap, false, get_or, inl, inr, not, refl, suc, sym, true, ℕ}
-use Rattle.std.specs.Option.{is_some}
-use Rattle.std.specs.Prelude.{◌&&◌, ◌==◌}
+use Rattle.std.specs.Prelude.{◌&&◌}
 use Rattle.alto_words.specs.declared.fid.Fid.{Fid}
-use Rattle.alto_words.specs.Fid.{is_fid, sys_dir}
-use Rattle.disk_records.specs.Packs.{Pack, is_free_at}
+use Rattle.alto_words.specs.Fid.{sys_dir}
+use Rattle.disk_records.specs.Packs.{is_free_at}
 use Rattle.pack_model.specs.reading.Files.{place}
-use Rattle.pack_model.specs.reading.Leaders.{Leader}
 use Rattle.pack_model.specs.reading.Sights.{Sight, sights}
 use Rattle.pack_model.specs.reading.Sights.Sight.{free, hidden, holds, leads, stray}
 use Rattle.pack_model.specs.states.InUse.{counts, in_use, is_good, is_place}

@@ -1,6 +1,5 @@
 -- Words of a directory are written in a pack whose pages are mended.
-use Rattle.std.proofs.Common.{◌+◌, ◌/◌, ◌*◌, ◌<◌, ◌∙◌, ◌≡◌, ◌≢◌, ◌⊎◌, Bool, List, None, Option, Some, ap, arith, false, get_or, inl, inr, length, nat_le, refl, set, subst, suc, sym, true, zero, ℕ}
-use Rattle.std.proofs.Math.ListN.{length-set}
+use Rattle.std.proofs.Common.{◌+◌, ◌/◌, ◌*◌, ◌<◌, ◌∙◌, ◌≡◌, Bool, List, Some, ap, arith, false, get_or, inl, inr, length, nat_le, refl, set, subst, suc, sym, true, zero, ℕ}
 use Rattle.std.proofs.lemmas.Bool.{cases_eq}
 use Rattle.std.proofs.lemmas.List.{get_or-set_other, get_or-set_same}
 use Rattle.std.specs.Option.{is_some}
@@ -10,7 +9,7 @@ use Rattle.disk_records.specs.Packs.{Pack, carried, sector_at}
 use Rattle.disk_records.specs.Words.{word}
 use Rattle.disk_records.specs.declared.records.Page.{Page}
 use Rattle.disk_records.specs.declared.records.Sector.{Sector}
-use Rattle.pack_model.specs.hints.Links.{HasLinks, next_link, previous_link}
+use Rattle.pack_model.specs.hints.Links.{HasLinks}
 use Rattle.pack_model.specs.operations.PageWords.{in_page}
 use Rattle.pack_model.specs.reading.Bytes.{put_at}
 use Rattle.pack_model.specs.reading.Files.{carries_page, file_bytes, lives, place}
@@ -20,10 +19,10 @@ use Rattle.pack_model.specs.reading.Sights.Sight.{free, hidden, holds, leads, st
 use Rattle.pack_model.specs.reading.Slots.{SlotsReachEnd}
 use Rattle.pack_model.specs.scavenger.Reports.{PagesMended}
 use Rattle.pack_model.specs.states.InUse.{counts, in_use, is_good, is_place}
-use Rattle.pack_model.specs.states.Sentences.{IsUsed, PagesWhole}
+use Rattle.pack_model.specs.states.Sentences.{IsUsed}
 use Rattle.pack_laws.proofs.guards.Laws.{value_writes_keep_the_page}
 use Rattle.pack_laws.proofs.Keys.{is_fid-sym, same_fid}
-use Rattle.pack_laws.proofs.Placing.{carries-holds, place_same}
+use Rattle.pack_laws.proofs.Placing.{place_same}
 use Rattle.pack_laws.specs.GuardLaws.{ComesToHold}
 use Rattle.laws_record.proofs.Copying.{place_carried}
 use Rattle.laws_record.proofs.DirReads.{not_descriptor}
@@ -35,7 +34,7 @@ use Rattle.laws_mend.proofs.inside.Counted.{counts_end}
 use Rattle.laws_mend.proofs.inside.Filed.{lives_by_place}
 use Rattle.laws_mend.proofs.inside.Revalued.{IsNear, bytes_long, near_carries, near_free, near_good, near_leads, near_next, near_previous, near_use}
 use Rattle.laws_mend.proofs.inside.Revalued.IsNear.{one, held}
-use Rattle.laws_mend.specs.Parts.{Cleared, Ended}
+use Rattle.laws_mend.specs.Parts.{Ended}
 use Rattle.laws_mend.specs.SlotLaws.{DirWriteKeepsPages}
 
 module _ (p : Pack) (d : Fid) (w at : ℕ) (new : List ℕ) (h : DirWrite p d w at new) (m : PagesMended p) (ends : SlotsReachEnd (file_bytes (sights (dir_written p w at new)) d)) where

@@ -42,6 +42,7 @@ use Rattle.laws_contents.specs.EndLaws.{HasItsEnd}
 use Rattle.laws_contents.specs.PageLaws.{FullBefore, bytes_at}
 use Rattle.laws_mend.proofs.inside.Filed.{bytes_by_places, lives_by_place}
 use Rattle.laws_mend.proofs.inside.Freed.{rewritten_places, same_carried}
+use Rattle.laws_mend.specs.CountingLaws.{DirectoryReachesItsEnd}
 use Rattle.laws_mend.specs.PartLaws.{DirectoryCutLeaves}
 use Rattle.laws_mend.specs.Parts.{Cleared}
 
@@ -52,6 +53,16 @@ even_by zero (a ∷ bs) e = absurd (omega arith)
 even_by (suc n) [] e = absurd (omega arith)
 even_by (suc n) (a ∷ []) e = absurd (omega arith)
 even_by (suc n) (a ∷ b ∷ bs) e = two (even_by n bs (omega arith))
+
+-- a directory ends with its slots if their words are all its bytes
+pub directory_reaches_its_end : DirectoryReachesItsEnd
+directory_reaches_its_end p d all =
+    let l = length-words_of (file_bytes (sights p) d) in
+    record {
+      even = even_by (all_words (slots (dir_words p d))) (file_bytes (sights p) d) (omega arith);
+      items = slots (dir_words p d);
+      reads = (reads_to_the_end (dir_words p d)).1 (omega arith);
+    }
 
 -- what is something is the same
 some_is : {X : Type 0} {x y : X} → Some x ≡ Some y → x ≡ y
@@ -161,17 +172,7 @@ module _ (p : Pack) (d : Fid) (at n : ℕ) (label : List ℕ) (dir : is_director
           cc
 
   reaches : lives (sights p) d ≡ true → SlotsReachEnd (file_bytes (sights q) d)
-  reaches live =
-      let w : ℕ = all_words (slots (dir_words p d)) in
-      let s = size in
-      let same = ap all_words (slots_are live) in
-      let l = length-words_of (file_bytes (sights q) d) in
-      let all : all_words (slots (dir_words q d)) ≡ length (dir_words q d) = omega arith in
-      record {
-        even = even_by (all_words (slots (dir_words p d))) (file_bytes (sights q) d) (omega arith);
-        items = slots (dir_words q d);
-        reads = (reads_to_the_end (dir_words q d)).1 all;
-      }
+  reaches live = let s = size in let same = ap all_words (slots_are live) in directory_reaches_its_end q d (omega arith)
 
   cleared : Cleared p → Cleared q
   cleared e = record { once = λ f m i j x y. e.once f m i j (was i f m x) (was j f m y); no_stray = λ i x. e.no_stray i (stray_was i x) }

@@ -1,17 +1,12 @@
 -- The words of a directory that gets a page more, on any pack.
-use Rattle.std.proofs.Common.{[], eqb-true, false, ◌++◌, ◌%◌, ◌&&◌, ◌*◌, ◌+◌, ◌-◌, ◌/◌, ◌<◌, ◌∙◌, ◌∷◌, ◌≡◌, ◌≢◌, ◌≤◌, Bool, List, None, Some, ap, append-nil, append_assoc, arith, cond, drop, inl, inr, le-leb, length, length-take, min, refl, subst, suc, sym, take, take-append-drop, true, zero, ℕ}
-use Rattle.std.proofs.lemmas.Bool.{lt-ltb, ltb-true}
-use Rattle.std.proofs.lemmas.Bool.Decides.{Decides-eqb}
+use Rattle.std.proofs.Common.{[], ◌++◌, ◌%◌, ◌&&◌, ◌*◌, ◌+◌, ◌-◌, ◌/◌, ◌<◌, ◌∙◌, ◌∷◌, ◌≡◌, ◌≤◌, Bool, List, None, Some, ap, append-nil, append_assoc, arith, cond, drop, inl, inr, le-leb, length, length-take, min, subst, suc, sym, take, take-append-drop, true, ℕ}
+use Rattle.std.proofs.lemmas.Bool.{lt-ltb}
 use Rattle.std.proofs.lemmas.List.{drop_all, length-append, length-drop, length-replicate, length-take-le, take_all, take_at}
 use Rattle.std.proofs.lemmas.List.Elements.{All-append, All-cons, All-drop, All-replicate, All-take}
-use Rattle.std.proofs.lemmas.List.Kept.{AllPairs-cons}
-use Rattle.std.proofs.lemmas.Map.Made.{IsDistinct-from_AllPairs}
-use Rattle.std.proofs.lemmas.Map.Steps.{length-le_from_distinct_below}
-use Rattle.std.specs.List.{AllPairs, list_any}
-use Rattle.std.specs.Prelude.{All, nat_le, nat_lt, not, replicate, ◌==◌, ◌||◌}
+use Rattle.std.specs.Prelude.{All, nat_le, nat_lt, not, replicate, ◌==◌}
 use Rattle.alto_words.specs.declared.fid.Fid.{Fid}
 use Rattle.alto_words.specs.Fid.{serial_of}
-use Rattle.disk_records.specs.Addresses.{pages_of, real_of}
+use Rattle.disk_records.specs.Addresses.{real_of}
 use Rattle.disk_records.specs.Labels.{Tag, in_range, label_of, page_of, tag}
 use Rattle.disk_records.specs.Packs.{Pack, carried, sector_at}
 use Rattle.disk_records.specs.declared.records.Page.{Page}
@@ -25,7 +20,6 @@ use Rattle.pack_model.specs.reading.Sights.{sights}
 use Rattle.pack_model.specs.reading.SlotWords.{space_words}
 use Rattle.pack_laws.proofs.Bytes.{bytes_below, bytes_of-put, bytes_of-words_of, length-bytes_of, pairs_of_bytes}
 use Rattle.pack_laws.proofs.Guarding.{carried_parts}
-use Rattle.pack_laws.proofs.Placing.{one_page}
 use Rattle.laws_record.proofs.Copying.{place_carried}
 use Rattle.laws_record.proofs.Heads.{and_left, and_right}
 use Rattle.laws_record.specs.QuietLaws.{counted_of}
@@ -34,45 +28,8 @@ use Rattle.laws_operation.proofs.values.Laws.{label_with_another_count}
 use Rattle.laws_contents.proofs.ends.Laws.{each_file_has_its_end}
 use Rattle.laws_contents.specs.EndLaws.{HasItsEnd}
 use Rattle.laws_contents.specs.PageLaws.{bytes_at}
+use Rattle.laws_mend.proofs.inside.Seats.{few_seats}
 use Rattle.laws_mend.specs.WidenLaws.{CanWiden, GrowthCanWiden, last_number}
-
--- ---- numbers below another
--- a number among those below n is below n
-below_any : (n : ℕ) (xs : List ℕ) → All (λ i. i < n) xs → (q : ℕ) → list_any (λ x. q == x) xs ≡ true → q < n
-below_any n [] below q h = absurd cc
-below_any n (x ∷ xs) below q h = by (q == x) refl h (below_any n xs (λ k d l. below (suc k) d (omega arith)) q)
-  where
-    by : (t : Bool) → (q == x) ≡ t → (t || list_any (λ y. q == y) xs) ≡ true → (list_any (λ y. q == y) xs ≡ true → q < n) → q < n
-    by true e h later = let z : q ≡ x = eqb-true q x e in let l = below 0 0 (omega arith) in omega arith
-    by false e h later = later h
-
--- ---- sectors of pages one after another
--- As many sectors as pages from the first on, each once, each of the pack.
-record Seats (p : Pack) (d : Fid) (n : ℕ) : Type 0 where
-  ats : List ℕ
-  many : length ats ≡ n
-  below : All (λ i. i < pages_of p.shape) ats
-  pages : All (λ i. (j : ℕ) × (j < n) × (place (sights p) d (suc j) ≡ Some i)) ats
-  apart : AllPairs (λ i j. i ≢ j) ats
-
--- the sector of a page is one of the pack's
-place_below : (p : Pack) (d : Fid) (n at : ℕ) → place (sights p) d n ≡ Some at → at < pages_of p.shape
-place_below p d n at is =
-    let usable = (carried_parts p at (record { fid = d; number = n }) (place_carried p (record { fid = d; number = n }) at is)).0 in
-    ltb-true at (pages_of p.shape) (and_left (nat_lt at (pages_of p.shape)) _ (and_right (nat_lt 0 at) _ usable))
-
-seats : (p : Pack) (d : Fid) (n : ℕ) → ((j : ℕ) → j < n → (at : ℕ) × (place (sights p) d (suc j) ≡ Some at)) → Seats p d n
-seats p d zero has = record { ats = []; many = refl; below = λ k e l. absurd (omega arith); pages = λ k e l. absurd (omega arith); apart = λ i j e l m. absurd (omega arith) }
-seats p d (suc n) has =
-    let s = seats p d n (λ j l. has j (omega arith)) in
-    let h = has n (omega arith) in
-    record {
-      ats = h.0 ∷ s.ats;
-      many = ap suc s.many;
-      below = All-cons (λ i. i < pages_of p.shape) h.0 s.ats (place_below p d (suc n) h.0 h.1) s.below;
-      pages = All-cons (λ i. (j : ℕ) × (j < suc n) × (place (sights p) d (suc j) ≡ Some i)) h.0 s.ats (n, omega arith, h.1) (λ k e l. let x = s.pages k e l in let m = x.1 in (x.0, omega arith, x.2));
-      apart = AllPairs-cons (λ i j. i ≢ j) h.0 s.ats (λ k e l same. let x = s.pages k e l in let one = one_page (sights p) d d (suc n) (suc x.0) h.0 h.1 (x.2 ∙ ap Some (sym same)) in let y = one.1 in let m = x.1 in omega arith) s.apart;
-    }
 
 -- ---- labels
 -- another page of the same file, and another count
@@ -200,10 +157,8 @@ module _ (p : Pack) (d : Fid) (at fresh : ℕ) (h : CanWiden p d at fresh) where
   pub few : suc (last_number p d) < 65536
   few =
       let n : ℕ = b / 512 in
-      let s = seats p d n (λ j l. let x = ending.before.each j l in (x.at, x.sector)) in
-      let l = length-le_from_distinct_below s.ats (pages_of p.shape) (IsDistinct-from_AllPairs Decides-eqb s.ats s.apart) (below_any (pages_of p.shape) s.ats s.below) in
+      let l = few_seats p d n (λ j l. let x = ending.before.each j l in (x.at, x.sector)) in
       let most = p.shape.most_pages in
-      let many = s.many in
       omega arith
 
   number_is : b / 512 + 2 ≡ suc (last_number p d)

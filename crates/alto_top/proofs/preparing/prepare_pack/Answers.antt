@@ -9,7 +9,7 @@ use Rattle.alto_top.proofs.preparing.prepare_pack.Goals as goal
 pub returns-in-Err-clause-prepares : goal.returns-in-Err-clause-prepares
 returns-in-Err-clause-prepares g c = λ told.
     let old = g.M.Tape.tape c.args.machine.now in
-    subst (PreparesPack c.args.number old (g.M.Tape.tape c.prepare_disk.new.disk)) (sym c.status.ensures.value)
+    subst (PreparesPack c.args.number old (g.M.Tape.tape c.prepare_disk.new.disk)) (sym c.status.ensures)
     (broken (prepare_writes old.form c.args.number) (prepare_text (drive_pages old.form)) (IsPrepared (pack old)) (pages_of old.form) c.in-Err.ensures.alone c.in-Err.fault (c.in-Err.ensures.prepares told) c.in-Err.ensures.cause)
 
 pub returns-in-Ok-show_all-clause-prepares : goal.returns-in-Ok-show_all-clause-prepares
@@ -20,7 +20,7 @@ returns-in-Ok-show_all-clause-prepares g c = λ told.
 pub returns-clause-prepares : goal.returns-clause-prepares
 returns-clause-prepares g c = λ told.
     let old = g.M.Tape.tape c.args.machine.now in
-    subst (PreparesPack c.args.number old (g.M.Tape.tape c.show_all.new.console)) (sym c.status-in-Err-show_all.ensures.value)
+    subst (PreparesPack c.args.number old (g.M.Tape.tape c.show_all.new.console)) (sym c.status-in-Err-show_all.ensures)
     (cut_short (prepare_writes old.form c.args.number) (prepare_text (drive_pages old.form)) (IsPrepared (pack old)) (pages_of old.form) c.in-Ok.ensures.alone _ _ _ (c.in-Ok.ensures.prepares told) (c.deref.ensures.value ∙ c.in-Ok.ensures.text) c.in-Err-show_all.ensures.alone (c.in-Err-show_all.ensures.shown told) c.in-Err-show_all.fault (c.in-Err-show_all.ensures.shown told).none)
 
 pub returns-in-Ok-show_all-clause-shows : goal.returns-in-Ok-show_all-clause-shows

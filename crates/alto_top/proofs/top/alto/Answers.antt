@@ -1,6 +1,6 @@
 use Rattle.std.proofs.Common.{inl, inr, map, string_bytes, subst}
 use Rattle.disk_records.specs.Addresses.{disks_of}
-use Rattle.alto_top.proofs.Asking.{done_of_two, format_is_no_boot, format_is_no_prepare, format_is_no_show, format_of_one_number, prepare_is_no_show, usage_of_one}
+use Rattle.alto_top.proofs.Asking.{done_of_two, format_is_no_boot, format_is_no_prepare, format_is_no_show, format_of_one_number, prepare_is_no_show, prepare_needs_none, usage_of_one}
 use Rattle.alto_top.specs.Formats.{FormatsPack}
 use Rattle.alto_top.specs.Top.{AnswersPrepare, AnswersUsage, AsksFormat, AsksPrepare}
 use Rattle.alto_top.proofs.top.alto.Goals as goal
@@ -30,6 +30,7 @@ pub returns-in-Nothing-clause-answers : goal.returns-in-Nothing-clause-answers
 returns-in-Nothing-clause-answers g c = record {
   usage = λ is. inl c.in-Nothing.ensures;
   done = λ is. absurd (subst AnswersUsage is c.show_usage.ensures.answer);
+  needs = λ is. absurd (subst AnswersUsage is c.show_usage.ensures.answer);
   show = λ asks. absurd (c.in-Nothing.ensures.no_show asks);
   format = λ n asks. absurd (c.in-Nothing.ensures.no_format n asks);
   prepare = λ n asks. absurd (c.in-Nothing.ensures.no_prepare n asks);
@@ -44,6 +45,7 @@ returns-in-Prepare-clause-answers g c =
     record {
       usage = λ is. inr ((c.in-Prepare.number, asks), usage_of_one disks (subst (AnswersPrepare disks) is c.prepare_or_usage.ensures.answers));
       done = λ is. inr (inr (inr ((c.in-Prepare.number, asks), done_of_two disks (subst (AnswersPrepare disks) is c.prepare_or_usage.ensures.answers))));
+      needs = λ is. absurd (prepare_needs_none disks (subst (AnswersPrepare disks) is c.prepare_or_usage.ensures.answers));
       show = λ show. absurd (prepare_is_no_show words c.in-Prepare.number asks show);
       format = λ n format. absurd (format_is_no_prepare words n format c.in-Prepare.number asks);
       prepare = λ n other. c.prepare_or_usage.ensures.answers;

@@ -5,6 +5,7 @@ use Rattle.session_model.specs.Answering.{IsByModel, TakesTurn}
 use Rattle.session_model.specs.Turning.{typed}
 use Rattle.exec_session.specs.Meant.{kept}
 use Rattle.exec_session.proofs.Ending.{formed_after, never_by_model, no_streams, quit_ends, quit_reply, some_level, stopped_tally, turns_broken, turns_closed}
+use Rattle.exec_session.proofs.Stopping.{stopped_unscavenged}
 use Rattle.exec_session.proofs.end.quit.Goals as goal
 
 pub returns-in-Ok-clause-turns : goal.returns-in-Ok-clause-turns
@@ -40,3 +41,6 @@ returns-in-Err-clause-turns g c = λ told s keeping.
 
 pub returns-in-Err-clause-unrefused : goal.returns-in-Err-clause-unrefused
 returns-in-Err-clause-unrefused g c = λ by. never_by_model c.in-Err.stop c.in-Err.ensures.unrefused (subst IsByModel c.stopped.ensures.reply by)
+
+pub returns-in-Err-clause-unscavenged : goal.returns-in-Err-clause-unscavenged
+returns-in-Err-clause-unscavenged g c = λ asks. stopped_unscavenged c.in-Err.stop (sym c.stopped.ensures.reply ∙ asks)

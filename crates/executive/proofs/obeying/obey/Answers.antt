@@ -4,8 +4,9 @@ use Rattle.disk_records.specs.Tapes.{added}
 use Rattle.exec_session.specs.Meant.{kept}
 use Rattle.session_model.specs.Keeping.{world_of}
 use Rattle.session_model.specs.Refusals.{by_line}
+use Rattle.exec_session.proofs.Stopping.{stopped_unscavenged}
 use Rattle.executive.proofs.FirstRefusals.{as_built_turns, first_of, may_obey, not_quit, stop_cause, stop_turns}
-use Rattle.executive.proofs.Limits.{answered_cause, answered_formed, answered_turns, by_model_unwritten, limit_stays}
+use Rattle.executive.proofs.Limits.{answered_cause, answered_formed, answered_turns, answered_unscavenged, by_model_unwritten, limit_stays}
 use Rattle.executive.proofs.obeying.obey.Goals as goal
 
 pub returns-in-Err-clause-turns : goal.returns-in-Err-clause-turns
@@ -13,6 +14,9 @@ returns-in-Err-clause-turns g c = λ told.
     let l = as_built c.args.line.now in
     let one = c.args.session.now in
     stop_turns (g.D.Tape.tape c.args.disk.now) one c.stopped.new.session l c.in-Err.stop (first_of (by_line l (world_of (kept one)))) c.stopped.result refl (sym c.in-Err.is ∙ c.refuse_line.ensures) c.stopped.ensures.reply c.stopped.ensures.kept
+
+pub returns-in-Err-clause-unscavenged : goal.returns-in-Err-clause-unscavenged
+returns-in-Err-clause-unscavenged g c = λ asks. stopped_unscavenged c.in-Err.stop (sym c.stopped.ensures.reply ∙ asks)
 
 pub returns-in-Err-clause-cause : goal.returns-in-Err-clause-cause
 returns-in-Err-clause-cause g c =
@@ -41,6 +45,7 @@ returns-in_default g c =
       turns = λ told. as_built_turns a b (kept one) (kept c.answer.new.session) l c.answer.result may.0
           (answered_turns a b one two l done limit (kept c.answer.new.session) c.answer.result c.limit_of-limit.ensures (c.obey_line-done.ensures.turns told) c.answer.ensures.kept c.answer.ensures.reply);
       unwritten = λ told. by_model_unwritten (added a b ≡ []) done c.answer.result c.answer.ensures.reply (c.obey_line-done.ensures.unwritten told);
+      unscavenged = answered_unscavenged done c.answer.result c.answer.ensures.reply;
       limit = ap (λ k. k.tally.limit) c.answer.ensures.kept ∙ limit_stays done limit (kept two) ∙ c.limit_of-limit.ensures;
       formed = answered_formed b.form done limit (kept two) (kept c.answer.new.session) c.obey_line-done.ensures.formed c.answer.ensures.kept;
       cause = answered_cause a b done c.answer.result c.answer.ensures.reply c.obey_line-done.ensures.cause;

@@ -1,0 +1,336 @@
+"""A plain program that answers typed lines by names and bytes alone: no sector, label, link, address or table stands in it.
+
+A pack is its files by their serials, each with its name, its dates and its bytes; a directory has slots in place of bytes. What a line is
+answered, and which operations it makes in which order, was written from docs/commands.md, docs/formats.md and docs/model.md, and never
+from what the proved program answered. An operation is a call without arguments, so a line may be left in the middle.
+"""
+import itertools
+import sys
+import typing
+from functools import partial
+
+import arguments
+import grammar
+
+sys.path.append(str(arguments.TOP / "tools"))
+from packtools import directories, names
+
+PAGE = 512
+LAST_VERSION, LAST_SERIAL = 65_534, 2**31 - 2
+# words: of the longest entry and the longest free slot, and those that making a directory and widening one give it
+LONGEST_ENTRY, LONGEST_SLOT, FIRST_SLOT, WIDER = 26, 1_023, 255, 256
+# what an operand has to be
+ANY, ORDINARY, DIRECTORY, NEW = "any file", "an ordinary file", "a directory", "a new name"
+
+
+class Refused(Exception):
+    """A line that is refused: its text."""
+
+
+class Entry(typing.NamedTuple):
+    """A slot of a directory that isn't free. A free one is the number of its words."""
+
+    name: str
+    file: "File"
+
+    def words(self):
+        return entry_words(self.name)
+
+
+def entry_words(name):
+    return 6 + (len(name) + 2) // 2
+
+
+def words_of(slot):
+    return slot.words() if isinstance(slot, Entry) else slot
+
+
+def is_free(slot):
+    return not isinstance(slot, Entry)
+
+
+class File:
+    """An ordinary file, or a directory, which has slots and no bytes. The name is that in its leader page."""
+
+    def __init__(self, serial, name, moment, slots=None):
+        self.serial, self.name, self.content, self.slots = serial, name, b"", slots
+        self.created = self.written = self.read = moment
+
+    def is_directory(self):
+        return self.slots is not None
+
+    def length(self):
+        return 2 * sum(map(words_of, self.slots)) if self.is_directory() else len(self.content)
+
+    def pages(self):
+        return 2 + self.length() // PAGE
+
+    def told(self):
+        """The name, the dates, and the bytes of an ordinary file."""
+        return self.name, self.created, self.written, self.read, None if self.is_directory() else self.content
+
+    def entries(self):
+        return [slot for slot in self.slots or [] if not is_free(slot)]
+
+    def entry(self, name):
+        return next((it for it in self.entries() if names.folded(it.name) == names.folded(name)), None)
+
+    def versions(self, base):
+        """The entries with this base by their versions."""
+        found = [it for it in self.entries() if names.folded(it.name)[0] == base.lower()]
+        return {names.parts(it.name)[1]: it for it in found}
+
+    def largest_run(self):
+        """The most free words that stand in a row."""
+        return max((sum(run) for free, run in itertools.groupby(self.slots, is_free) if free), default=0)
+
+    def place(self, entry):
+        """Puts an entry into the first room: the fewest free slots in a row that have its words, and few enough for one slot."""
+        for first in range(len(self.slots)):
+            row = itertools.takewhile(is_free, self.slots[first:])
+            sums = list(itertools.accumulate(row))
+            count, words = next(((n, it) for n, it in enumerate(sums, 1) if it >= entry.words()), (0, 0))
+            if 0 < words <= LONGEST_SLOT:
+                left = words - entry.words()
+                self.slots[first : first + count] = [entry, left] if left else [entry]
+                return
+        raise AssertionError("the directory has room")
+
+
+class Found(typing.NamedTuple):
+    """What an operand means: its path and the directory in which it is sought, of a serial none, and the entry and the file if there."""
+
+    path: grammar.Path | None
+    directory: File | None
+    entry: Entry | None
+    file: File | None
+
+
+class Plain:
+    """A pack that was formatted at moment 0, with the last serial that was given out, and a session over it."""
+
+    def __init__(self, drives, cylinders, last=2):
+        self.sectors, self.last, self.moment = drives * cylinders * 24, last, 0
+        self.root, self.descriptor = File(1, "SysDir.", 0, []), File(2, "DiskDescriptor.", 0)
+        # a table of a bit a sector stands in whole words after 16 others
+        self.descriptor.content = bytes(2 * (16 + -(-self.sectors // 16)))
+        self.system = [self.root, self.descriptor]
+        entries = [Entry(file.name, file) for file in self.system]
+        self.root.slots = [*entries, FIRST_SLOT - sum(map(words_of, entries))]
+        self.files = {file.serial: file for file in self.system}
+
+    # a session
+
+    def answer(self, line):
+        """The reply to a line, and its operations, of which none is done yet."""
+        try:
+            read = grammar.read_line(line)
+            if read is None:
+                raise Refused("bad line")
+            verb, operands = read
+            text, operations = getattr(self, f"on_{verb}")(*operands)
+        except Refused as refusal:
+            text, operations = str(refusal), []
+        return f"{text}\n".encode(), operations
+
+    def obey(self, line):
+        reply, operations = self.answer(line)
+        for operation in operations:
+            operation()
+        return reply
+
+    # what operands mean
+
+    def find(self, operand, role):
+        if isinstance(operand, int):
+            found = Found(None, None, None, self.files.get(operand))
+        else:
+            named = self.root.entry(operand.directory) if operand.directory else Entry(self.root.name, self.root)
+            if named is None:
+                raise Refused("no such name")
+            versions = named.file.versions(operand.base)
+            entry = versions.get(operand.version or max(versions, default=None))
+            found = Found(operand, named.file, entry, entry and entry.file)
+        if found.file is None and role != NEW:
+            raise Refused("no such name")
+        return found
+
+    def mean(self, *operands):
+        """What operands mean, each of which is given with what it has to be. One refusal is tested of all of them before the next one."""
+        found = [(self.find(operand, role), role) for operand, role in operands]
+        for it, role in found:
+            if it.directory and not it.directory.is_directory() or role == DIRECTORY and not it.file.is_directory():
+                raise Refused("not a directory")
+            if role == ORDINARY and it.file.is_directory():
+                raise Refused("is a directory")
+        if any(it.file is self.descriptor for it, role in found if role != NEW):
+            raise Refused("system file")
+        return [it for it, _ in found]
+
+    def new_name(self, found):
+        """The name that a new file gets."""
+        versions, version = found.directory.versions(found.path.base), found.path.version
+        bare = versions.get(1)
+        name = grammar.versioned(found.path.base, version or max(versions, default=0) + 1)
+        if version in versions or not grammar.is_stored(name) or bare and (bare.file.is_directory() or bare.file in self.system):
+            raise Refused("name taken")
+        return name
+
+    # free pages
+
+    def free(self):
+        """Sector 0 has no page."""
+        return self.sectors - 1 - sum(file.pages() for file in self.files.values())
+
+    def need(self, pages):
+        if pages > self.free():
+            raise Refused(f"full: needed {pages} free {self.free()}")
+
+    def too_narrow(self, directory, name):
+        """The directories that get a page first: SysDir without room for the longest entry, another one without room for this name."""
+        root = [self.root] if self.root.largest_run() < LONGEST_ENTRY else []
+        return root + ([directory] if directory is not self.root and directory.largest_run() < entry_words(name) else [])
+
+    def new_file(self, directory, name, slots=None, more=0):
+        """A new file, which will have so many pages more than one without bytes, and the operations that make it."""
+        if self.last >= LAST_SERIAL:
+            raise Refused(f"serials spent: last {self.last}")
+        narrow, file = self.too_narrow(directory, name), File(self.last + 1, name, self.moment, slots)
+        self.need(len(narrow) + 2 + more)
+        return file, [*map(self.widening, narrow), partial(self.make, file), partial(directory.place, Entry(name, file))]
+
+    # operations
+
+    def widening(self, directory):
+        return partial(directory.slots.append, WIDER)
+
+    def make(self, file):
+        self.files[file.serial] = file
+        self.last = file.serial
+
+    def leave(self, directory, entry):
+        directory.slots[directory.slots.index(entry)] = entry.words()
+
+    def drop(self, directory, entry):
+        del self.files[entry.file.serial]
+        self.leave(directory, entry)
+
+    def put(self, file, offset, piece):
+        file.content = file.content[:offset] + piece + file.content[offset + len(piece) :]
+
+    def stamping(self, file):
+        return partial(setattr, file, "written", self.moment)
+
+    # lines: each gives its text and its operations, or is refused
+
+    def on_list(self, name=None):
+        (found,) = self.mean((grammar.Path(None, name or self.root.name, 1), DIRECTORY))
+        told = sorted((it.name for it in found.file.entries()), key=names.folded)
+        return "\n".join([*told, f"{len(told)} entries"]), []
+
+    def on_type(self, operand):
+        (found,) = self.mean((operand, ORDINARY))
+        data = found.file.content
+        lines = [data[at : at + 32].hex() for at in range(0, len(data), 32)]
+        return "\n".join([*lines, f"{len(data)} bytes"]), []
+
+    def on_stat(self, operand):
+        file = self.mean((operand, ANY))[0].file
+        dates = f"created {file.created} written {file.written} read {file.read}"
+        return f"#{file.serial} length {file.length()} pages {file.pages()} {dates} name {file.name}", []
+
+    def on_make(self, path):
+        (found,) = self.mean((path, NEW))
+        file, making = self.new_file(found.directory, self.new_name(found))
+        return f"made #{file.serial}", making
+
+    def on_append(self, operand, data):
+        file = self.mean((operand, ORDINARY))[0].file
+        whole = file.content + data
+        self.need(len(whole) // PAGE - len(file.content) // PAGE)
+        growing = [partial(setattr, file, "content", whole)] if data else []
+        return f"length {len(whole)}", [*growing, self.stamping(file)]
+
+    def on_patch(self, operand, offset, data):
+        file, end = self.mean((operand, ORDINARY))[0].file, offset + len(data)
+        if end > len(file.content):
+            raise Refused(f"beyond length {len(file.content)}")
+        places = sorted({offset, *range(offset // PAGE * PAGE + PAGE, end, PAGE), end})
+        return "done", [partial(self.put, file, at, data[at - offset : to - offset]) for at, to in itertools.pairwise(places)]
+
+    def on_cut(self, operand, length):
+        file = self.mean((operand, ORDINARY))[0].file
+        if length > len(file.content):
+            raise Refused(f"beyond length {len(file.content)}")
+        cutting = [partial(setattr, file, "content", file.content[:length])] if length < len(file.content) else []
+        return f"length {length}", [*cutting, self.stamping(file)]
+
+    def on_copy(self, operand, path):
+        old, new = self.mean((operand, ORDINARY), (path, NEW))
+        data = old.file.content
+        file, making = self.new_file(new.directory, self.new_name(new), more=len(data) // PAGE)
+        filling = [partial(setattr, file, "content", data), self.stamping(file)] if data else []
+        return f"made #{file.serial}", making + filling
+
+    def on_rename(self, old_path, new_path):
+        old, new = self.mean((old_path, ORDINARY), (new_path, NEW))
+        name = self.new_name(new)
+        narrow = self.too_narrow(new.directory, name)
+        self.need(len(narrow))
+        leaving = partial(self.leave, old.directory, old.entry)
+        entering = partial(new.directory.place, Entry(name, old.file))
+        return "done", [*map(self.widening, narrow), partial(setattr, old.file, "name", name), leaving, entering]
+
+    def on_delete(self, path):
+        (found,) = self.mean((path, ORDINARY))
+        return "done", [partial(self.drop, found.directory, found.entry)]
+
+    def on_mkdir(self, name):
+        if self.root.versions(name):
+            raise Refused("name taken")
+        file, making = self.new_file(self.root, name, [FIRST_SLOT])
+        return f"made #{file.serial}", making
+
+    def on_rmdir(self, name):
+        (found,) = self.mean((grammar.Path(None, name, 1), DIRECTORY))
+        if found.file is self.root:
+            raise Refused("system file")
+        if found.file.entries():
+            raise Refused("not empty")
+        return "done", [partial(self.drop, self.root, found.entry)]
+
+    def on_free(self):
+        return f"{self.free()} pages free", []
+
+    def on_settime(self, moment):
+        return "done", [partial(setattr, self, "moment", moment)]
+
+    def on_quit(self):
+        return "done", []
+
+    # what the pack shows
+
+    def settled(self):
+        """The entries of SysDir except the system files', and one more for each file that no directory names."""
+        named = [it.file for file in self.files.values() for it in file.entries()]
+        nameless = [file for file in self.files.values() if file not in named]
+        nameless.sort(key=lambda file: (file.is_directory(), file.serial))
+        given = directories.settle({file: file.name for file in nameless}, [it.name for it in self.root.entries()])
+        return [it for it in self.root.entries() if it.file not in self.system] + [Entry(name, file) for file, name in given.items()]
+
+    def listing(self):
+        """What `show` prints."""
+        in_root, lines = in_order(self.settled()), []
+        others = [(it.name[:-1], in_order(it.file.entries())) for it in in_root if it.file.is_directory()]
+        for directory, entries in [("SysDir", in_root), *others]:
+            for name, file in entries:
+                lines.append(f"{directory}>{name} {'directory' if file.is_directory() else f'length {file.length()}'}\n")
+        return "".join([*lines, f"{len(lines)} files\n"]).encode()
+
+    def contents(self):
+        """What each file is, by its serial, except the system files."""
+        return {file.serial: file.told() for file in self.files.values() if file not in self.system}
+
+
+def in_order(entries):
+    return sorted(entries, key=lambda it: names.folded(it.name))

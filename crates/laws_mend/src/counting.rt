@@ -1,0 +1,41 @@
+//! Which pages count, which sectors are in use by them, and how far the pages of a file go.
+
+ghost use Rattle.laws_mend.specs.CountingLaws.{CountsByItsEnd, CountsByItsFormat, DirectoryReachesItsEnd, FullPagesAreFew, LastingFileHasItsPages, UsedByItsPage, UsedBySight};
+
+/// The pages of a living file, except DiskDescriptor, count up to the one that the end of its bytes is in, if no page is carried twice, no
+/// label is out of range, and each directory ends with its slots.
+pub fn counts_by_its_end()
+    ensures { CountsByItsEnd }
+{}
+
+/// The pages of DiskDescriptor, if it lives, count up to the last data page of its format.
+pub fn counts_by_its_format()
+    ensures { CountsByItsFormat }
+{}
+
+/// A sector that carries a page is in use if and only if the page is within its file's end, if no page is carried twice.
+pub fn used_by_sight()
+    ensures { UsedBySight }
+{}
+
+/// A sector is free, in use or not good if and only if the page that it carries, if any, is within its file's end, if no page is carried
+/// twice and no label is out of range.
+pub fn used_by_its_page()
+    ensures { UsedByItsPage }
+{}
+
+/// A directory ends with its slots if their words are all its bytes.
+pub fn directory_reaches_its_end()
+    ensures { DirectoryReachesItsEnd }
+{}
+
+/// The pages of a living file that are there are those up to the one that the end of its bytes is in, if each living file has its last page,
+/// DiskDescriptor lives with the length of its format, and each good sector is free or in use.
+pub fn lasting_file_has_its_pages()
+    ensures { LastingFileHasItsPages }
+{}
+
+/// A file has fewer full pages one after another than the pack has sectors.
+pub fn full_pages_are_few()
+    ensures { FullPagesAreFew }
+{}

@@ -1,0 +1,66 @@
+use Rattle.std.proofs.Common.{◌≡◌, ◌+◌, suc, ap, ◌∙◌, sym, subst, arith}
+use Rattle.disk_records.specs.Addresses.{pages_of}
+use Rattle.disk_records.specs.Tapes.{pack}
+use Rattle.disk_records.proofs.Growing.{alone_twice}
+use Rattle.pack_model.specs.sessions.Descriptor.{data_pages}
+use Rattle.scav_pages.specs.Ends.{AreWithin, MayDescribePage}
+use Rattle.scav_pages.proofs.Doing.{does_ok, going_does}
+use Rattle.scav_pages.proofs.Claiming.{does_stop_part}
+use Rattle.scav_pages.proofs.Describing.{described_lasts}
+use Rattle.scav_pages.proofs.descriptor.mend_descriptor.Goals as goal
+
+pub returns-in_err-mend_data_page-clause-alone : goal.returns-in_err-mend_data_page-clause-alone
+returns-in_err-mend_data_page-clause-alone g c = alone_twice c.loop-number.invariant.alone c.in_err-mend_data_page.ensures.alone
+
+pub returns-in_err-make_leader-clause-alone : goal.returns-in_err-make_leader-clause-alone
+returns-in_err-make_leader-clause-alone g c = alone_twice c.loop-number.invariant.alone c.in_err-make_leader.ensures.alone
+
+pub returns-in_ok-make_leader-clause-alone : goal.returns-in_ok-make_leader-clause-alone
+returns-in_ok-make_leader-clause-alone g c = alone_twice c.loop-number.invariant.alone c.in_ok-make_leader.ensures.alone
+
+pub returns-in_err-mend_data_page-clause-does : goal.returns-in_err-mend_data_page-clause-does
+returns-in_err-mend_data_page-clause-does g c = λ told may.
+    let so_far = c.loop-number.invariant in
+    does_stop_part c.in_err-mend_data_page.field-0.0 c.from_residual.result (so_far.going told may) c.in_err-mend_data_page.ensures.alone.grown (c.in_err-mend_data_page.ensures.does told (so_far.described told may)) c.from_residual.ensures.1
+
+pub loop-number-preserved : goal.loop-number-preserved
+loop-number-preserved g c =
+    let so_far = c.loop-number.invariant in
+    let next = c.in_ok-mend_data_page.ensures in
+    let places = c.mend_data_page.new.places in
+    let more : suc c.loop-number.number ≡ c.loop-number.number + 1 = omega arith in
+    record {
+      alone = alone_twice so_far.alone next.alone;
+      first = next.first;
+      within = subst (λ s. AreWithin (pages_of s) places) so_far.alone.grown.form next.within;
+      going = λ told may. going_does (so_far.going told may) next.alone.grown (next.does told (so_far.described told may));
+      described = λ told may. subst (λ n. MayDescribePage (pack (g.D.Tape.tape c.mend_data_page.new.disk)) n places c.mend_data_page.new.from) more (next.does told (so_far.described told may)).leaves;
+    }
+
+pub returns-in_err-make_leader-clause-does : goal.returns-in_err-make_leader-clause-does
+returns-in_err-make_leader-clause-does g c = λ told may.
+    let so_far = c.loop-number.invariant in
+    let now = g.D.Tape.tape c.loop-number.disk in
+    let many = c.data_pages-last.ensures.pages ∙ ap data_pages (c.shape.ensures ∙ sym so_far.alone.grown.form) in
+    let all : c.loop-number.number ≡ data_pages now.form + 1 = omega (arith, many) in
+    let described = subst (λ n. MayDescribePage (pack now) n c.loop-number.places c.loop-number.from) all (so_far.described told may) in
+    does_stop_part c.in_err-make_leader.field-0.0 c.from_residual-in_err-make_leader.result (so_far.going told may) c.in_err-make_leader.ensures.alone.grown (c.in_err-make_leader.ensures.does told described) c.from_residual-in_err-make_leader.ensures.1
+
+pub returns-in_ok-make_leader-clause-does : goal.returns-in_ok-make_leader-clause-does
+returns-in_ok-make_leader-clause-does g c = λ told may.
+    let so_far = c.loop-number.invariant in
+    let now = g.D.Tape.tape c.loop-number.disk in
+    let many = c.data_pages-last.ensures.pages ∙ ap data_pages (c.shape.ensures ∙ sym so_far.alone.grown.form) in
+    let all : c.loop-number.number ≡ data_pages now.form + 1 = omega (arith, many) in
+    let described = subst (λ n. MayDescribePage (pack now) n c.loop-number.places c.loop-number.from) all (so_far.described told may) in
+    let d = c.in_ok-make_leader.ensures.does told described in
+    does_ok tt (going_does (so_far.going told may) c.in_ok-make_leader.ensures.alone.grown d) d.leaves
+
+pub returns-else-places-eq0-clause-does : goal.returns-else-places-eq0-clause-does
+returns-else-places-eq0-clause-does g c = λ told may.
+    let so_far = c.loop-number.invariant in
+    let now = g.D.Tape.tape c.loop-number.disk in
+    let many = c.data_pages-last.ensures.pages ∙ ap data_pages (c.shape.ensures ∙ sym so_far.alone.grown.form) in
+    let all : c.loop-number.number ≡ data_pages now.form + 1 = omega (arith, many) in
+    let described = subst (λ n. MayDescribePage (pack now) n c.loop-number.places c.loop-number.from) all (so_far.described told may) in
+    does_ok tt (so_far.going told may) (described_lasts (pack now) c.loop-number.places c.loop-number.from described c.if-places-eq0.false)

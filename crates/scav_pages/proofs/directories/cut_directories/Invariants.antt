@@ -1,0 +1,18 @@
+use Rattle.disk_records.specs.Tapes.{DiskAlone, pack}
+use Rattle.scav_table.specs.Passes.{Stands}
+use Rattle.scav_pages.proofs.Ahead.{ahead}
+use Rattle.scav_pages.proofs.DirectoryPass.{CutsTo}
+use Rattle.scav_pages.proofs.directories.cut_directories.Given as goal
+
+abbrev pub invariant-loop-row : goal.invariant-loop-row
+invariant-loop-row g l =
+    let old = g.D.Tape.tape l.fn.disk in
+    let now = g.D.Tape.tape l.disk in
+    record {
+      alone : DiskAlone old now;
+      stands : Stands g.D.Tape.told (pack now) l.table l.pass;
+      cuts : CutsTo g.D.Tape.told old now l.pass.last l.dir;
+    }
+
+abbrev pub decreases-loop-row : goal.decreases-loop-row
+decreases-loop-row g l = ahead l.pass.last

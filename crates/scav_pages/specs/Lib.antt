@@ -1,0 +1,11 @@
+pub mod Begins
+pub mod Directories
+pub mod Does
+pub mod Ends
+pub mod Free
+pub mod Fresh
+pub mod Links
+pub mod Parts
+pub mod Stops
+pub mod WalkLaws
+pub mod Walks

@@ -1,0 +1,52 @@
+-- One page is given its links and its name.
+use Rattle.std.specs.Prelude.{◌≡◌, ◌≢◌, ℕ, true, Bool, List, get_or, length, Some}
+use Rattle.alto_words.specs.declared.fid.Fid.{Fid}
+use Rattle.disk_records.specs.declared.records.Page.{Page}
+use Rattle.disk_records.specs.Packs.{Pack, carried, sector_at}
+use Rattle.pack_model.specs.hints.Links.{HasLinks, next_link, previous_link}
+use Rattle.pack_model.specs.reading.Files.{place}
+use Rattle.pack_model.specs.reading.Leaders.{Leader}
+use Rattle.pack_model.specs.reading.Sights.{sights}
+use Rattle.pack_model.specs.reading.Sights.Sight.{hidden, leads}
+use Rattle.scav_table.specs.declared.row.Row.{Row}
+use Rattle.scav_table.specs.Laws.{WritesAt}
+use Rattle.scav_pages.specs.declared.links.Pending.{Pending}
+use Rattle.laws_mend.specs.Parts.{Lasting}
+
+-- the links are those that its page has to have
+pub record MayMendPage (p : Pack) (page : Pending) (next : ℕ) : Type 0 where
+  pub lasting : Lasting p
+  pub carries : carried p page.row.at ≡ Some page.row.page
+  pub next_is : next ≡ next_link p.shape (sights p) (get_or (sights p) page.row.at hidden)
+  pub previous_is : page.previous ≡ previous_link p.shape (sights p) (get_or (sights p) page.row.at hidden)
+
+-- one sector alone is written, and it carries the page before and after
+pub record WritesPage (at : ℕ) (page : Page) (p q : Pack) : Type 0 where
+  pub written : WritesAt at p q
+  pub was : carried p at ≡ Some page
+  pub carries : carried q at ≡ Some page
+
+-- it has them, and every page stays where it is
+pub record PageLinked (at : ℕ) (p q : Pack) (done : Unit {0}) : Type 0 where
+  pub lasting : Lasting q
+  pub places : (f : Fid) (n : ℕ) → place (sights q) f n ≡ place (sights p) f n
+  pub links : HasLinks q at
+  pub others : (i : ℕ) → i ≢ at → HasLinks p i → HasLinks q i
+  pub shown : (i : ℕ) → i ≢ at → get_or (sights q) i hidden ≡ get_or (sights p) i hidden
+
+-- a leader page with this value and true links
+pub record MayName (p : Pack) (row : Row) (value : List ℕ) : Type 0 where
+  pub lasting : Lasting p
+  pub carries : carried p row.at ≡ Some row.page
+  pub value_is : value ≡ (sector_at p row.at).value
+  pub long : length value ≡ 256
+  pub links : HasLinks p row.at
+
+-- its links are true still, and its name can be read; every page stays where it is
+pub record PageMended (at : ℕ) (p q : Pack) (done : Unit {0}) : Type 0 where
+  pub lasting : Lasting q
+  pub places : (f : Fid) (n : ℕ) → place (sights q) f n ≡ place (sights p) f n
+  pub links : HasLinks q at
+  pub others : (i : ℕ) → i ≢ at → HasLinks p i → HasLinks q i
+  pub shown : (i : ℕ) → i ≢ at → get_or (sights q) i hidden ≡ get_or (sights p) i hidden
+  pub name : (f : Fid) (readable : Bool) (l : Leader) → get_or (sights q) at hidden ≡ leads f readable l → readable ≡ true
