@@ -15,17 +15,17 @@ In one more session the work is done 20 times, each time with the other files de
 import collections
 import os
 import pathlib
-import shutil
 import statistics
 import subprocess
 import sys
 import tempfile
+from functools import partial
 
 sys.dont_write_bytecode = True
 sys.path.append(str(pathlib.Path(__file__).resolve().parent.parent / "check"))
 import arguments
 import packs
-from timing import PAGE_KIB, answered, machine, most_memory, timed
+from timing import PAGE_KIB, answered, calls, machine, most_memory, timed
 
 CYLINDERS = 203
 IN_MEMORY = pathlib.Path("/dev/shm")
@@ -107,10 +107,8 @@ class Program:
 
     def calls(self, part):
         """The number of system calls of a run. None where there is no strace."""
-        if shutil.which("strace") is None:
-            return None
-        self.run(part, ["strace", "-f", "-c", "-U", "calls,name", "-o", self.counts])
-        return int(self.counts.read_text().split()[-2])
+        found = calls(partial(self.run, part), self.counts)
+        return None if found is None else found.total()
 
 
 class Alto(Program):
@@ -222,4 +220,5 @@ def main():
     assert most[-1] - most[1] <= 16 * PAGE_KIB, "memory doesn't grow with lines"
 
 
-main()
+if __name__ == "__main__":
+    main()

@@ -4,6 +4,7 @@ import os
 import pathlib
 import platform
 import resource
+import shutil
 import subprocess
 import threading
 import time
@@ -25,11 +26,24 @@ def used():
     return usage.ru_utime + usage.ru_stime
 
 
-def timed(command, **streams):
-    """The time of a whole process with these streams, and what it wrote to its standard output if that is a pipe."""
+def timed(command, codes=(0,), **streams):
+    """The time of a whole process with these streams, and what it wrote to its standard output if that is a pipe. It ends with one of these
+    codes."""
     before, start = used(), time.perf_counter()
-    done = subprocess.run(command, check=True, **streams)
-    return Time(time.perf_counter() - start, used() - before), done.stdout
+    done = subprocess.run(command, **streams)
+    time_taken = Time(time.perf_counter() - start, used() - before)
+    assert done.returncode in codes, f"{command[0]} ends with {done.returncode}"
+    return time_taken, done.stdout
+
+
+def calls(run, counts):
+    """How many system calls of each name a process makes: `run` is given the words ahead of its command, which count them into this file.
+    None where there is no strace."""
+    if shutil.which("strace") is None:
+        return None
+    run(["strace", "-f", "-c", "-U", "calls,name", "-o", counts])
+    found = (line.split() for line in counts.read_text().splitlines())
+    return collections.Counter({words[1]: int(words[0]) for words in found if len(words) == 2 and words[0].isdigit() and words[1] != "total"})
 
 
 def most_memory(process):

@@ -1,6 +1,7 @@
 """The arguments of the scripts in check/ and bench/, which all of them read in one way, and the program that they run."""
 import argparse
 import pathlib
+import random
 import subprocess
 import sys
 
@@ -11,6 +12,12 @@ def parser(description):
     """A parser with `--help`, which shows this text, and `--program`."""
     made = argparse.ArgumentParser(description=description, formatter_class=argparse.RawDescriptionHelpFormatter)
     made.add_argument("--program", type=built, metavar="PATH", help="the built program (default: it is built, and proved where it changed)")
+    return made
+
+
+def seeded(made):
+    """The parser with `--seed`, of random choices that the same seed makes again."""
+    made.add_argument("--seed", type=int, default=random.randrange(2**32), metavar="N", help="of the random choices (default: another one each time)")
     return made
 
 

@@ -20,7 +20,7 @@ import arguments
 import packs
 
 SECONDS = 10
-DONE, USAGE, IN_NEED, DISK_FAILED, KEYS_FAILED, DISPLAY_FAILED, NO_MEMORY, NO_SESSION = 0, 1, 2, 3, 4, 5, 6, 8
+DONE, USAGE, IN_NEED, DISK_FAILED, KEYS_FAILED, DISPLAY_FAILED, NO_MEMORY, CANNOT_SCAVENGE, NO_SESSION = range(9)
 SMALL = 25_536
 THREE = 38_304
 LARGEST = 5_183_808
@@ -45,6 +45,9 @@ LISTING_OF_TWO = b"SysDir>A. length 5\nSysDir>B. length 5\n2 files\n"
 NO_FILES = b"0 files\n"
 FORMATTED = b"formatted: 43 pages free\n"
 PREPARED = b"prepared: 48 pages\n"
+SCAVENGED = b"scavenged: files 3, freed 0, bad 0, adopted 0\n"
+SCAVENGED_TWO = b"scavenged: files 4, freed 0, bad 0, adopted 0\n"
+ROOT_BAD = b"root bad: 0 0\n"
 
 failures = []
 
@@ -372,6 +375,47 @@ def check_prepare(program):
         Run(program, [*both, "show"], left).gives(DONE, NO_FILES, left=left)
 
 
+def strayed(mark):
+    """The pack of `abcde` with zeros for the label of sector 20, which is released."""
+    file, label_at = bytearray(abcde(mark=mark)), packs.word_at(20, packs.PAGE // 2)
+    file[label_at : label_at + 16] = bytes(16)
+    return bytes(file)
+
+
+def check_scavenge(program):
+    pack, opened, made = abcde(), abcde(mark=packs.OPEN), bytes(SMALL)
+    scavenge, both = ["pack", "scavenge"], ["--second", "two", "one", "scavenge"]
+    # a pack that was left open becomes clean, and nothing else changes on it; a sound one stays as it is; what is typed isn't obeyed
+    Run(program, scavenge, {"pack": opened}, PATCHES).gives(DONE, SCAVENGED, left={"pack": pack})
+    Run(program, scavenge, {"pack": pack}).gives(DONE, SCAVENGED, left={"pack": pack})
+    Run(program, both, crossed(mark=packs.OPEN), PATCHES).gives(DONE, SCAVENGED_TWO, left=crossed())
+    for words in [["scavenge", "extra"], ["Scavenge"], ["scavenge", "scavenge"], ["scavenge", "1"], ["boot", "scavenge"]]:
+        Run(program, ["pack", *words], {"pack": opened}, PATCHES).gives(USAGE, b"usage\n", left={"pack": opened})
+    # packs that can't be scavenged: the files of the drives are in each other's place, too
+    Run(program, ["--cylinders", "2", "new", "scavenge"]).gives(CANNOT_SCAVENGE, ROOT_BAD, left={"new": made})
+    crosswise = ["--second", "one", "two", "scavenge"]
+    Run(program, crosswise, crossed()).gives(CANNOT_SCAVENGE, b"root bad: 1 %d\n" % packs.real_of(49, 2), left=crossed())
+    # a closed keyboard is never asked; a display that fails ends it, after the last record write
+    for redirect in ["<&-", "</", "2>&-", "<&- 2>&-"]:
+        Run(program, scavenge, {"pack": opened}, redirect=redirect).gives(DONE, SCAVENGED, left={"pack": pack})
+    for redirect in [">&-", ">/dev/full", ">/dev/full 2>&-", "<&- >&- 2>&-"]:
+        Run(program, scavenge, {"pack": opened}, redirect=redirect).gives(DISPLAY_FAILED, left={"pack": pack})
+        Run(program, scavenge, {"pack": made}, redirect=redirect).gives(DISPLAY_FAILED, left={"pack": made})
+        Run(program, [*scavenge, "extra"], {"pack": opened}, redirect=redirect).gives(DISPLAY_FAILED, left={"pack": opened})
+    # the disk fails: at the first write, which is that of the mark on sector 4, before byte 3,000, or at the release of sector 20
+    Run(program, scavenge, {"pack": pack}, before=refused_past(1_000)).gives(DISK_FAILED, left={"pack": pack})
+    stray, halfway, freed = ({"pack": strayed(packs.CLEAN)}, {"pack": strayed(packs.OPEN)}, SCAVENGED.replace(b"freed 0", b"freed 1"))
+    Run(program, scavenge, stray, before=refused_past(3_000)).gives(DISK_FAILED, left=halfway)
+    Run(program, scavenge, stray, before=limited(3_000)).gives(-signal.SIGXFSZ, left=halfway)
+    Run(program, ["pack", "boot"], halfway, PATCHES).gives(IN_NEED, b"pack not clean: mark 2\n", left=halfway)
+    Run(program, scavenge, halfway).gives(DONE, freed, left={"pack": pack})
+    # no session
+    for length in [0, 532, 25_535, 25_537, 12_768]:
+        file = bytes(length)
+        Run(program, scavenge, {"pack": file}).gives(NO_SESSION, err=b"bad length %d\n" % length, left={"pack": file})
+    Run(program, ["missing", "scavenge"]).gives(NO_SESSION, err=b"no pack\n")
+
+
 def may(act):
     """Whether a process may do this here."""
     try:
@@ -402,7 +446,7 @@ def check_file_for_reading(program):
         copied = shutil.copy(program, folder)
         os.chmod(copied, 0o755)
         Run(copied, ["pack", "show"], {"pack": with_mode(0o666, pack)}, before=before).gives(DONE, LISTING, left={"pack": pack})
-        for word in ["boot", "show"]:
+        for word in ["boot", "show", "scavenge"]:
             run = Run(copied, ["pack", word], {"pack": with_mode(0o444, pack)}, PATCHES, before=before)
             run.gives(NO_SESSION, err=b"no pack\n", left={"pack": pack})
 
@@ -610,6 +654,7 @@ def check_whole_writes(program):
         ([], ["format", "1"], [FORMATTED]),
         ([], ["prepare", "1"], [b"usage\n"]),
         (second, ["prepare", "1"], [PREPARED]),
+        ([], ["scavenge"], [SCAVENGED]),
         ([], ["halt"], [b"usage\n"]),
     ]
     for options, words, texts in rows:
@@ -628,7 +673,7 @@ def check_whole_writes(program):
 
 def check_closed_pipe(program):
     """The reader of what is shown goes away before the first of it: the display has failed. The write ahead of the reply stays."""
-    for word, left in [("boot", abcde(b"ABBDE", packs.OPEN)), ("show", abcde())]:
+    for word, left in [("boot", abcde(b"ABBDE", packs.OPEN)), ("show", abcde()), ("scavenge", abcde())]:
         with tempfile.TemporaryDirectory() as folder:
             file = pathlib.Path(folder) / "pack"
             file.write_bytes(abcde())
@@ -652,6 +697,7 @@ CHECKS = [
     check_show,
     check_format,
     check_prepare,
+    check_scavenge,
     check_file_for_reading,
     check_without_null_device,
     check_size_limit,

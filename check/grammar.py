@@ -11,7 +11,6 @@ from packtools import names
 LONGEST_LINE = 4_096
 NUMBER = re.compile("[0-9]{1,10}")
 HEX = re.compile("-|(?:[0-9A-Fa-f]{2}){1,2000}")
-NAME = re.compile(r"([^!]+)(?:!([1-9][0-9]*)\.?)?")
 # the operands of each verb that is built
 GRAMMAR = {
     "list": ["", "NAME"],
@@ -40,23 +39,14 @@ class Path(typing.NamedTuple):
     version: int | None
 
 
-def versioned(base, version):
-    """A version of a base, which may be too long to be stored."""
-    return base if version == 1 else f"{base[:-1]}!{version}."
-
-
 def is_stored(name):
     return names.stored(name.encode()) is not None
 
 
 def read_name(text):
     """A name that is typed, or None."""
-    found = NAME.fullmatch(text)
-    if found is None:
-        return None
-    base = found[1] if found[1].endswith(".") else found[1] + "."
-    version = int(found[2]) if found[2] else None
-    return Path(None, base, version) if is_stored(versioned(base, version or 1)) else None
+    found = names.typed(text)
+    return Path(None, *found) if found else None
 
 
 def read_bare(text):

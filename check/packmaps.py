@@ -71,7 +71,7 @@ def given(content):
     """The sectors of a pack are those of this file."""
 
     def change(sectors):
-        sectors[:] = [content[at : at + packs.SECTOR] for at in range(0, len(content), packs.SECTOR)]
+        sectors[:] = packs.sectors_of(content)
 
     return change
 

@@ -14,6 +14,8 @@ PAGE = 512
 # where the label and the value stand in a sector
 LABEL_AT, VALUE_AT = 4, 20
 ONES = 0xFFFF
+# the label and the value of a free sector
+FREED = b"\xff" * (SECTOR - LABEL_AT)
 SYS_DIR = (0x8000, 1, 1)
 DESCRIPTOR = (0, 2, 1)
 # the mark of DiskDescriptor
@@ -45,6 +47,11 @@ def real_of(at, cylinders=512):
 def sector(at, label, value):
     words = struct.pack(">2H8H", 1, real_of(at), *label)
     return words + value
+
+
+def sectors_of(content):
+    """The sectors of a pack file."""
+    return [content[at : at + SECTOR] for at in range(0, len(content), SECTOR)]
 
 
 def free_sectors(cylinders):
@@ -154,7 +161,7 @@ def files_of_two(sectors, cylinders):
 
 def numbered(file, number):
     """A pack file with this pack number in each header."""
-    return b"".join(number.to_bytes(2, "big") + file[at + 2 : at + SECTOR] for at in range(0, len(file), SECTOR))
+    return b"".join(number.to_bytes(2, "big") + it[2:] for it in sectors_of(file))
 
 
 def drive_files(sectors, drives, cylinders):

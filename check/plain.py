@@ -171,7 +171,7 @@ class Plain:
         """The name that a new file gets."""
         versions, version = found.directory.versions(found.path.base), found.path.version
         bare = versions.get(1)
-        name = grammar.versioned(found.path.base, version or max(versions, default=0) + 1)
+        name = names.numbered(found.path.base, version or max(versions, default=0) + 1)
         if version in versions or not grammar.is_stored(name) or bare and (bare.file.is_directory() or bare.file in self.system):
             raise Refused("name taken")
         return name

@@ -1,9 +1,10 @@
 #!/usr/bin/env python3
-"""Worked rows of typed sessions, through real pack files: what is shown, how each session ends, and what `show` lists then.
+"""Worked rows of typed sessions and of scavenges, through real pack files: what is shown, how each ends, and what `show` lists then.
 
 Each row begins with a pack that is formatted. Each session begins with `settime 1000`, whose `done` is the first reply. What is wanted was
 worked out by hand from docs/commands.md, and never taken from a run. Lines are parted by `|`, and a `$` in the place of the last one's end
-leaves it out; `x*n` is n times x. A pack that isn't entered, and one over which a session is said to write nothing, stays byte by byte.
+leaves it out; `x*n` is n times x. A pack that isn't entered or can't be scavenged, and one over which a session is said to write nothing,
+stays byte by byte. `show` lists the same before a scavenge and after it.
 """
 import collections
 import pathlib
@@ -22,13 +23,94 @@ FREE_PAGES = {(1, 2): 43, (1, 203): 4866, (2, 2): 91}
 
 Boot = collections.namedtuple("Boot", "typed shown code writes", defaults=[0, True])
 Show = collections.namedtuple("Show", "shown")
+Scavenge = collections.namedtuple("Scavenge", "shown code", defaults=[0])
 # words of a sector that are set by hand: of its value below 256, and from there on of its label
 Set = collections.namedtuple("Set", "sector words")
+# another pack file in the place of the first, made from its bytes
+Change = collections.namedtuple("Change", "made")
+# a second drive, of zeros and then prepared
+Second = collections.namedtuple("Second", "shown")
 
 MISLED = "hint failed: entry #1 word 29 at 6 wanted #3 v 1 page 0 found 65535 20480 0 0 1 1 0 3"
 NEWER = "made #3|length 1|made #4|length 2|A.|A!2.|DiskDescriptor.|SysDir.|4 entries|01|1 bytes|done"
+NO_ROOT = "no root: found 65535 65535 65535 65535 65535 65535 65535 65535"
 NO_LINK = "hint failed: next of 5 at 65535 wanted #3 v 1 page 1 found none"
-DATES = "created 1000 written 1000 read 1000"
+CROWDED = f"#12 length 11776 pages 25 created 0 written 0 read 0 name {'N' * 26}."
+DATES, NO_DATES = "created 1000 written 1000 read 1000", "created 0 written 0 read 0"
+# texts of packs that aren't entered
+NOT_ENTERED = ("pack not clean", "wrong descriptor", "no root")
+# the exit code of a pack that can't be scavenged
+CANNOT = 7
+# the name of each of five files that fill 258 sectors, and how many bytes it has
+WORLDS, WORLD = [f"W{n}." for n in range(1, 6)], 131_076
+# three files named X. in different directories: the first words of their slots stand in the directories' pages on sectors 6 and 10
+THREE_NAMES = [
+    Boot("mkdir D|make D>X|mkdir E|make E>X|make X", "made #3|made #4|made #5|made #6|made #7"),
+    Set(6, {0: 8}),
+    Set(10, {0: 8}),
+]
+THREE_LISTED = Show("SysDir>D. directory|SysDir>E. directory|SysDir>X. length 0|SysDir>X.$1. length 0|SysDir>X.$2. length 0|5 files")
+THREE_TOLD = Boot("stat X.$1|stat X.$2", f"#4 length 0 pages 2 {DATES} name X.|#6 length 0 pages 2 {DATES} name X.")
+
+
+def report(files, freed=0, bad=0, adopted=0):
+    return f"scavenged: files {files}, freed {freed}, bad {bad}, adopted {adopted}"
+
+
+def zeros(file):
+    return bytes(len(file))
+
+
+def ones(file):
+    """Ones in each label and value from sector 1 on."""
+    first, *others = packs.sectors_of(file)
+    return first + b"".join(it[: packs.LABEL_AT] + packs.FREED for it in others)
+
+
+def worlds(file):
+    """Five files that with the system files have 1,295 sectors: 6 for SysDir and DiskDescriptor with sector 0, and 258 for each."""
+    contents = [bytes((n * 7 + at // 512) % 251 for at in range(WORLD)) for n in range(5)]
+    placed = [(name.encode(), content, range(6 + 258 * n, 264 + 258 * n)) for n, (name, content) in enumerate(zip(WORLDS, contents))]
+    return packs.sound(1, len(file) // 24 // packs.SECTOR, placed)[0]
+
+
+def crowded(before, after, letters):
+    """A full pack that lost DiskDescriptor's leader page. In SysDir free slots of so many words stand before its entry and after it, 20 in
+    all, and entries of 211 words fill the page. One more file, whose name has so many letters, has no entry."""
+
+    def change(file):
+        sectors, at = packs.sectors_of(file), 5
+        slots = [packs.slot(packs.SYS_DIR, b"SysDir.", 1), *map(packs.free_slot, before)]
+        slots += [packs.slot(packs.DESCRIPTOR, b"DiskDescriptor.", 3), *map(packs.free_slot, after)]
+        # seven entries of 26 words, one of 21 and one of 8
+        for serial, length in enumerate([38] * 7 + [28, 1], packs.SERIAL):
+            name = b"%c" % (ord("a") + serial) * length + b"."
+            slots.append(packs.slot(packs.ordinary(serial), name, at))
+            at = packs.put_file(sectors, at, packs.ordinary(serial), name, b"")
+        packs.put_file(sectors, at, packs.ordinary(12), b"N" * letters + b".", bytes(23 * packs.PAGE))
+        packs.put_file(sectors, 1, packs.SYS_DIR, b"SysDir.", b"".join(slots))
+        sectors[3] = sectors[3][: packs.LABEL_AT] + packs.FREED
+        return b"".join(sectors)
+
+    return change
+
+
+def headless(file):
+    """No address in the header of sector 1."""
+    return file[: packs.SECTOR + 2] + bytes(2) + file[packs.SECTOR + 4 :]
+
+
+def leaders(count):
+    """So many leader pages on the last sectors, each of a file `F.` without a data page or an entry."""
+
+    def change(file):
+        sectors = packs.sectors_of(file)
+        for at in range(len(sectors) - count, len(sectors)):
+            packs.put_page(sectors, at, packs.ordinary(at), 0, packs.leader(b"F."))
+        return b"".join(sectors)
+
+    return change
+
 
 # the name of a row, the drives and the cylinders of each, and what is done
 ROWS = [
@@ -41,7 +123,13 @@ ROWS = [
         "the address of another page",
         1,
         2,
-        [Boot("make A", "made #3"), Set(2, {29: 6}), Boot("type A|free", f"{MISLED}|needs scavenging", 2, writes=False)],
+        [
+            Boot("make A", "made #3"),
+            Set(2, {29: 6}),
+            Boot("type A|free", f"{MISLED}|needs scavenging", 2, writes=False),
+            Scavenge(report(3)),
+            Boot("type A|free", "0 bytes|41 pages free", writes=False),
+        ],
     ),
     (
         "a quit in need",
@@ -70,6 +158,8 @@ ROWS = [
             Set(7, {256: 65535, 257: 65535}),
             Boot("type A", NO_LINK, 2, writes=False),
             Boot("free", "40 pages free", writes=False),
+            Scavenge(report(3)),
+            Boot("type A|free", "11*32|" * 18 + "11*24|600 bytes|40 pages free", writes=False),
         ],
     ),
     (
@@ -82,6 +172,9 @@ ROWS = [
             Boot("delete A|free|quit", f"{NO_LINK}|needs scavenging|done", 2),
             Boot("free", "pack not clean: mark 2", 2),
             Show("0 files"),
+            # page 1 has no leader page any more, and the entry no file
+            Scavenge(report(2, freed=1)),
+            Boot("free|list", "43 pages free|DiskDescriptor.|SysDir.|2 entries", writes=False),
         ],
     ),
     ("all busy", 1, 2, [Set(4, {16: 65535, 17: 65535, 18: 65535}), Boot("make B", "made #3")]),
@@ -99,7 +192,18 @@ ROWS = [
             Show("SysDir>A. length 20480|1 files"),
         ],
     ),
-    ("an open mark", 1, 2, [Boot("make A", "made #3"), Set(4, {6: 2}), Boot("free", "pack not clean: mark 2", 2)]),
+    (
+        "an open mark",
+        1,
+        2,
+        [
+            Boot("make A", "made #3"),
+            Set(4, {6: 2}),
+            Boot("free", "pack not clean: mark 2", 2),
+            Scavenge(report(3)),
+            Boot("free", "41 pages free", writes=False),
+        ],
+    ),
     ("a cut past the end", 1, 2, [Boot("make A|append A 41*512", "made #3|length 512"), Boot("cut A 1000", "beyond length 512")]),
     (
         "a patch",
@@ -145,6 +249,142 @@ ROWS = [
             Show("SysDir>C. length 1|1 files"),
         ],
     ),
+    # scavenges
+    ("a formatted pack is as it should be", 1, 2, [Scavenge(report(2)), Boot("free", "43 pages free"), Show("0 files")]),
+    ("and so on two drives", 2, 2, [Boot("make A", "made #3"), Scavenge(report(3)), Boot("free", "89 pages free")]),
+    ("names are taken from two directories", 1, 2, [*THREE_NAMES, Scavenge(report(7, adopted=2)), THREE_LISTED, THREE_TOLD]),
+    (
+        "and the scavenge was stopped after the first got one in SysDir",
+        1,
+        2,
+        [
+            *THREE_NAMES,
+            Set(4, {6: 2}),
+            Set(2, {48: 0x0409, 49: 0, 50: 4, 51: 1, 52: 0, 53: 7, 54: 0x0558, 55: 0x2E24, 56: 0x312E, 57: 198}),
+            Scavenge(report(7, adopted=1)),
+            THREE_LISTED,
+            THREE_TOLD,
+        ],
+    ),
+    (
+        "a second copy of a page",
+        1,
+        2,
+        [
+            Boot("make A|append A 4142434445", "made #3|length 5"),
+            Set(20, {0: 0x5858, 1: 0x5858, 2: 0x5800, **dict(enumerate([packs.ONES, packs.real_of(5), 0, 5, 1, 1, 0, 3], 256))}),
+            Scavenge(report(3, freed=1)),
+            Boot("type A|free", "4142434445|5 bytes|41 pages free", writes=False),
+        ],
+    ),
+    (
+        "a link that names its own sector",
+        1,
+        2,
+        [
+            Boot("make A|append A 4142434445", "made #3|length 5"),
+            Set(5, {256: packs.real_of(5)}),
+            Scavenge(report(3)),
+            Boot("type A", "4142434445|5 bytes", writes=False),
+        ],
+    ),
+    (
+        "a slot of no words",
+        1,
+        2,
+        [
+            Boot("make A|append A 4142434445", "made #3|length 5"),
+            Set(2, {24: 0}),
+            Scavenge(report(3, adopted=1)),
+            Show("SysDir>A. length 5|1 files"),
+            Boot("type A|make B|make SysDir", "4142434445|5 bytes|made #4|name taken"),
+        ],
+    ),
+    ("zeros", 1, 2, [Change(zeros), Scavenge("root bad: 0 0", CANNOT), Boot("free", "no root: found none", 2)]),
+    ("ones", 1, 2, [Change(ones), Boot("free", NO_ROOT, 2), Scavenge(report(2)), Boot("free|make A", "43 pages free|made #3")]),
+    (
+        "another page on sector 1",
+        1,
+        2,
+        [
+            Boot("make A", "made #3"),
+            Set(1, dict(enumerate([packs.real_of(6), packs.ONES, 0, 512, 0, 1, 0, 3], 256))),
+            Scavenge(f"root taken: {packs.real_of(6)} 65535 0 512 0 1 0 3", CANNOT),
+        ],
+    ),
+    (
+        "one page too few, and then enough",
+        1,
+        2,
+        [
+            # sectors 5 to 25 are free
+            Change(leaders(22)),
+            Scavenge("pack full: needed 22 free 21", CANNOT),
+            Set(47, {261: packs.ONES, 262: packs.ONES, 263: packs.ONES}),
+            Scavenge(report(23, adopted=21)),
+            Boot("free|stat F.$20|make A", f"1 pages free|#46 length 0 pages 2 {NO_DATES} name F.|full: needed 2 free 1", writes=False),
+        ],
+    ),
+    (
+        "the entry of a DiskDescriptor that is lost stays where it is, and leaves room for a name",
+        1,
+        2,
+        [Change(crowded([20], [], 26)), Scavenge(report(12, freed=1, adopted=1)), Boot("free|stat #12", f"0 pages free|{CROWDED}")],
+    ),
+    (
+        "or none, so that SysDir needs a page more",
+        1,
+        2,
+        [Change(crowded([10], [10], 18)), Scavenge("pack full: needed 3 free 2", CANNOT)],
+    ),
+    (
+        "of causes not to scavenge the first is told",
+        1,
+        2,
+        [
+            Change(leaders(22)),
+            Set(1, dict(enumerate([packs.ONES, packs.ONES, 0, 512, 0, 1, 0, 26], 256))),
+            Scavenge("root taken: 65535 65535 0 512 0 1 0 26", CANNOT),
+            Change(headless),
+            Scavenge("root bad: 1 0", CANNOT),
+        ],
+    ),
+    (
+        "files of more than one window",
+        1,
+        203,
+        [
+            Change(worlds),
+            Set(6, {256: 0}),
+            Scavenge(report(7)),
+            Show("|".join([f"SysDir>{name} length {WORLD}" for name in WORLDS] + ["5 files"])),
+            Boot("free", f"{4872 - 1296} pages free", writes=False),
+        ],
+    ),
+    (
+        "more files without an entry than a window has rows",
+        1,
+        203,
+        [
+            # their entries have 8 words, 9 times 9, 990 times 10 and 100 times 11: 11,089, of which SysDir has 231 free, and 43 times 256 more
+            Change(leaders(1_100)),
+            Scavenge(report(1_102, adopted=1_100)),
+            Boot("free|stat F.$1099", f"{4866 - 2 * 1_100 - 43} pages free|#4871 length 0 pages 2 {NO_DATES} name F.", writes=False),
+            Scavenge(report(1_102)),
+        ],
+    ),
+    (
+        "a second drive",
+        1,
+        203,
+        [
+            # the serial of B isn't given out again
+            Boot("make A|make B|delete B", "made #3|made #4|done"),
+            Second("prepared: 4872 pages"),
+            Scavenge(report(3)),
+            Boot("free|make B", "9735 pages free|made #5"),
+        ],
+    ),
 ]
 
 
@@ -158,8 +398,14 @@ class Pack:
     """Pack files in a folder, a file a drive, and the program over them."""
 
     def __init__(self, program, folder, drives):
-        self.files = [folder / f"drive{drive}" for drive in range(drives)]
-        self.command = [program, *[word for file in self.files[1:] for word in ("--second", file)], self.files[0]]
+        self.program, self.folder, self.files = program, folder, []
+        for _ in range(drives):
+            self.add_drive()
+
+    def add_drive(self):
+        """One more pack file, which isn't there yet."""
+        self.files.append(self.folder / f"drive{len(self.files)}")
+        self.command = [self.program, *[word for file in self.files[1:] for word in ("--second", file)], self.files[0]]
 
     def run(self, words, typed=b""):
         ended = subprocess.run([*self.command, *words], input=typed, capture_output=True, timeout=SECONDS)
@@ -171,19 +417,41 @@ class Pack:
     def do(self, step):
         """What a step gives, and what is wanted; last whether the files stay as they are."""
         before = self.images()
-        if isinstance(step, Set):
-            image = bytearray(before[0])
-            for word, number in step.words.items():
-                struct.pack_into(">H", image, packs.word_at(step.sector, word), number)
-            self.files[0].write_bytes(image)
-            return None, None
-        if isinstance(step, Show):
-            return (*self.run(["show"]), self.images() == before), (0, lines(step.shown), b"", True)
+        match step:
+            case Set():
+                image = bytearray(before[0])
+                for word, number in step.words.items():
+                    struct.pack_into(">H", image, packs.word_at(step.sector, word), number)
+                self.files[0].write_bytes(image)
+                return None, None
+            case Change():
+                self.files[0].write_bytes(step.made(before[0]))
+                return None, None
+            case Second():
+                return self.grow(len(before[0]), step.shown)
+            case Show():
+                return (*self.run(["show"]), self.images() == before), (0, lines(step.shown), b"", True)
+            case Scavenge():
+                return self.scavenge(before, step)
         # a pack that isn't entered takes no key, and nothing is written
-        refused = step.shown.startswith("pack not clean")
+        refused = step.shown.startswith(NOT_ENTERED)
         said = self.run(["boot"], lines("settime 1000|" + step.typed))
         stays = not step.writes or refused
         return (*said, not stays or self.images() == before), (step.code, (b"" if refused else b"done\n") + lines(step.shown), b"", True)
+
+    def scavenge(self, before, step):
+        listed = self.run(["show"])
+        said = self.run(["scavenge"])
+        stays = self.images() == before or step.code == 0
+        return (*said, stays, self.run(["show"])), (step.code, lines(step.shown), b"", True, listed)
+
+    def grow(self, size, shown):
+        """Puts a second drive of zeros beside the first, which has so many bytes, so that the pack isn't entered, and prepares it."""
+        self.add_drive()
+        self.files[1].write_bytes(bytes(size))
+        words = -(-size // packs.SECTOR // 16)
+        refused = b"wrong descriptor length %d\n" % (32 + 2 * words)
+        return [self.run(["boot"]), self.run(["prepare", "1"])], [(2, refused, b""), (0, lines(shown), b"")]
 
 
 def complaints(program, drives, cylinders, steps):

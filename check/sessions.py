@@ -250,16 +250,14 @@ def complaint(history, pack, lines, replies):
 
 
 def main():
-    options = arguments.parser(__doc__)
+    options = arguments.seeded(arguments.parser(__doc__))
     options.add_argument("--sessions", type=arguments.positive, default=1_000, metavar="N", help="how many at least (default: 1000)")
-    options.add_argument("--seed", type=int, metavar="N", help="of the random choices (default: another one each time)")
     options = arguments.read(options)
-    seed = random.randrange(2**32) if options.seed is None else options.seed
-    print(f"sessions: seed {seed}", flush=True)
+    print(f"sessions: seed {options.seed}", flush=True)
     count = number = typed = 0
     while count < options.sessions:
         number += 1
-        history = History(seed, number)
+        history = History(options.seed, number)
         with tempfile.TemporaryDirectory() as folder:
             pack = history.pack(options.program, pathlib.Path(folder))
             for lines, replies in history.sessions():

@@ -1,8 +1,9 @@
-"""Stored names, as `A.` and `A!2.` (docs/formats.md, Names)."""
+"""Stored names, as `A.` and `A!2.`, and how they are typed (docs/formats.md, Names)."""
 import re
 
 SHORTEST, LONGEST, LAST_VERSION = 2, 39, 65_534
 STORED = re.compile(r"([A-Za-z0-9+\-.$]+)(?:!([2-9]|[1-9][0-9]{1,4}))?\.")
+TYPED = re.compile(r"([^!]+)(?:!([1-9][0-9]{0,4})\.?)?")
 
 
 def stored(text):
@@ -18,6 +19,28 @@ def parts(name):
     """The base of a stored name with its last dot, and its version."""
     base, _, version = name[:-1].partition("!")
     return base + ".", int(version or 1)
+
+
+def numbered(base, version):
+    """A version of a base, which may be too long to be stored."""
+    return base if version == 1 else f"{base[:-1]}!{version}."
+
+
+def typed(text):
+    """The base of a name that is typed, with its last dot, and the version that it states, or None; None if it is no name."""
+    found = TYPED.fullmatch(text)
+    if found is None or not text.isascii():
+        return None
+    base = found[1] if found[1].endswith(".") else found[1] + "."
+    version = int(found[2]) if found[2] else None
+    return None if stored(numbered(base, version or 1).encode()) is None else (base, version)
+
+
+def spelled(name):
+    """How a stored name is typed, with its version unless that is 1. The last dot of its base is left out where it can be."""
+    base, version = parts(name)
+    text = base if base.endswith("..") else base[:-1]
+    return text if version == 1 else f"{text}!{version}"
 
 
 def folded(name):

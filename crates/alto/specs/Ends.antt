@@ -37,6 +37,7 @@ number_of status.DiskFault = 3
 number_of status.KeyFault = 4
 number_of status.DisplayFault = 5
 number_of status.Memory = 6
+number_of status.CannotScavenge = 7
 
 abbrev pub end_code : Result Status Stop → ℕ
 end_code (Ok status) = number_of status

@@ -20,7 +20,7 @@ pub fn help_text(alloc: Global) -> Result<String, AllocError> {
         .required(true)
         .help("The path of the pack file");
     let words = Arg::new(alloc, "WORDS").required(true).help(
-        "boot: obeys the lines that are typed; show: lists what the pack holds; format N: formats the pack, whose number is N, 1 to 65535; prepare N: prepares its second drive",
+        "boot: obeys the lines that are typed; show: lists what the pack holds; scavenge: mends the pack; format N: formats the pack, whose number is N, 1 to 65535; prepare N: prepares its second drive",
     );
     let mut command = Command::new(alloc, "alto")
         .about("The operating system of the Xerox Alto, over disk pack files")

@@ -1,4 +1,4 @@
-//! The program `alto`: boots a pack file and obeys what is typed, lists what the pack shows, or formats it.
+//! The program `alto`: boots a pack file and obeys what is typed, lists what the pack shows, scavenges or formats it.
 //!
 //! Come here for what a shell sees of the program: its words, its exit codes, its complaints.
 //!

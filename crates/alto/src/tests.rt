@@ -22,7 +22,7 @@ Usage: alto [--cylinders C] [--second PACK2] PACK WORDS
 
 Arguments:
   <PACK>   The path of the pack file
-  <WORDS>  boot: obeys the lines that are typed; show: lists what the pack holds; format N: formats the pack, whose number is N, 1 to 65535; prepare N: prepares its second drive
+  <WORDS>  boot: obeys the lines that are typed; show: lists what the pack holds; scavenge: mends the pack; format N: formats the pack, whose number is N, 1 to 65535; prepare N: prepares its second drive
 
 Options:
       --cylinders <C>   Makes the pack file first, or both, new and of zeros, with 2 to 406 cylinders
@@ -51,6 +51,7 @@ fn exit_codes_and_texts(rt: HostRuntime) -> Result<(), Fail> {
         (Ok(Status::KeyFault), 4, None),
         (Ok(Status::DisplayFault), 5, None),
         (Ok(Status::Memory), 6, None),
+        (Ok(Status::CannotScavenge), 7, None),
         (Err(Stop::Words), 1, Some("usage")),
         (Err(Stop::Pack(ReachError::NoFile)), 8, Some("no pack")),
         (Err(Stop::Pack(bad_length)), 8, Some("bad length 25535")),

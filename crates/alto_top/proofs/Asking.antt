@@ -1,7 +1,7 @@
 -- Words that ask for one thing ask for no other.
 use Rattle.std.proofs.Common.{List, Some, [], ap, arith, codes, get_or, inl, inr, sym, ℕ, ◌<◌, ◌≤◌, ◌≢◌, ◌∙◌, ◌∷◌, ◌≡◌, ◌⊎◌}
 use Rattle.std.proofs.lemmas.Bool.{cases_lt}
-use Rattle.alto_top.specs.Top.{AnswersPrepare, AsksBoot, AsksFormat, AsksPrepare, AsksShow, pack_number}
+use Rattle.alto_top.specs.Top.{AnswersPrepare, AsksBoot, AsksFormat, AsksPrepare, AsksScavenge, AsksShow, pack_number}
 use Rattle.session_boot.specs.declared.status.Status.TheVariants as status
 
 module _ (words : List (List ℕ)) (n : ℕ) (asks : AsksFormat words n) where
@@ -10,6 +10,9 @@ module _ (words : List (List ℕ)) (n : ℕ) (asks : AsksFormat words n) where
 
   pub format_is_no_show : AsksShow words → ⊥
   format_is_no_show show = let e : codes "format" ∷ asks.word ∷ [] ≡ codes "show" ∷ [] = sym asks.words_are ∙ show in cc
+
+  pub format_is_no_scavenge : AsksScavenge words → ⊥
+  format_is_no_scavenge scavenge = let e : codes "format" ∷ asks.word ∷ [] ≡ codes "scavenge" ∷ [] = sym asks.words_are ∙ scavenge in cc
 
   pub format_is_no_prepare : (m : ℕ) → AsksPrepare words m → ⊥
   format_is_no_prepare m prepare =
@@ -33,6 +36,9 @@ module _ (words : List (List ℕ)) (n : ℕ) (asks : AsksPrepare words n) where
   pub prepare_is_no_show : AsksShow words → ⊥
   prepare_is_no_show show = let e : codes "prepare" ∷ asks.word ∷ [] ≡ codes "show" ∷ [] = sym asks.words_are ∙ show in cc
 
+  pub prepare_is_no_scavenge : AsksScavenge words → ⊥
+  prepare_is_no_scavenge scavenge = let e : codes "prepare" ∷ asks.word ∷ [] ≡ codes "scavenge" ∷ [] = sym asks.words_are ∙ scavenge in cc
+
 -- ---- `prepare` by the number of drives
 -- an answer that only one drive gives isn't given on two, and the other way round
 two_of : (disks : ℕ) → ((disks ≢ 2) → ⊥) → disks ≡ 2
@@ -51,3 +57,6 @@ done_of_two disks answers = two_of disks answers.one
 
 pub prepare_needs_none : (disks : ℕ) → AnswersPrepare disks status.NeedsScavenge → ⊥
 prepare_needs_none disks answers = answers.one (λ two. answers.two two)
+
+pub prepare_can : (disks : ℕ) → AnswersPrepare disks status.CannotScavenge → ⊥
+prepare_can disks answers = answers.one (λ two. answers.two two)

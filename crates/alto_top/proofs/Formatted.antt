@@ -32,13 +32,13 @@ no_display x y Display cause is = absurd cause
 no_display x y Memory cause is = cc
 
 -- bytes that are shown leave the pack
-leaves_pack : (p : Pack) (text : List ℕ) (events : List Event) → IsFirstOf (shown_events text) events → after p events ≡ p
+pub leaves_pack : (p : Pack) (text : List ℕ) (events : List Event) → IsFirstOf (shown_events text) events → after p events ≡ p
 leaves_pack p text [] first = refl
 leaves_pack p [] (e ∷ events) first = absurd first
 leaves_pack p (byte ∷ text) (e ∷ events) first = (λ i. after p (first.0 i ∷ events)) ∙ leaves_pack p text events first.1
 
 -- a prefix of a prefix
-first_taken : (n : ℕ) (ws events : List Event) → IsFirstOf ws events → IsFirstOf ws (take n events)
+pub first_taken : (n : ℕ) (ws events : List Event) → IsFirstOf ws events → IsFirstOf ws (take n events)
 first_taken zero ws events first = tt
 first_taken (suc n) ws [] first = tt
 first_taken (suc n) [] (e ∷ events) first = absurd first

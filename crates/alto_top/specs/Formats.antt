@@ -28,6 +28,7 @@ AnswersFormat status.DiskFault = Unit {0}
 AnswersFormat status.KeyFault = ⊥
 AnswersFormat status.DisplayFault = Unit {0}
 AnswersFormat status.Memory = Unit {0}
+AnswersFormat status.CannotScavenge = ⊥
 
 -- ---- record writes, and then a text
 -- A call that does these record writes, after which the pack is so: a prefix of them at every answer, all of them at Ok.

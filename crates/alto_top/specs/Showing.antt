@@ -47,6 +47,7 @@ AnswersShow status.DiskFault = Unit {0}
 AnswersShow status.KeyFault = ⊥
 AnswersShow status.DisplayFault = Unit {0}
 AnswersShow status.Memory = Unit {0}
+AnswersShow status.CannotScavenge = ⊥
 
 -- no key is taken and none fails
 pub record KeepsKeys (old new : Taped) : Type 0 where

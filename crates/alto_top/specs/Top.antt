@@ -8,9 +8,10 @@ use Rattle.alto_top.specs.Formats.{AnswersFormat, FormatsPack, PreparesPack, Sho
 use Rattle.disk_records.specs.declared.records.Tally.{Tally}
 use Rattle.pack_model.specs.sessions.Tallies.{no_tally}
 use Rattle.session_boot.specs.Boots.{Booted}
+use Rattle.alto_top.specs.Scavenging.{AnswersScavenge, ScavengesPack}
 use Rattle.alto_top.specs.Showing.{AnswersShow, KeepsKeys, ShowsPack}
 use Rattle.alto_top.specs.declared.top.Asked.{Asked}
-use Rattle.alto_top.specs.declared.top.Asked.TheVariants.{Boot, Show, Format, Prepare, Nothing}
+use Rattle.alto_top.specs.declared.top.Asked.TheVariants.{Boot, Show, Scavenge, Format, Prepare, Nothing}
 use Rattle.session_boot.specs.declared.status.Status.{Status}
 use Rattle.session_boot.specs.declared.status.Status.TheVariants as status
 
@@ -21,6 +22,10 @@ AsksBoot words = words ≡ codes "boot" ∷ []
 -- the word `show`, alone
 abbrev pub AsksShow : List (List ℕ) → Type 0
 AsksShow words = words ≡ codes "show" ∷ []
+
+-- the word `scavenge`, alone
+abbrev pub AsksScavenge : List (List ℕ) → Type 0
+AsksScavenge words = words ≡ codes "scavenge" ∷ []
 
 -- a pack's number: 1 to 65,535
 abbrev pub in_word : Option ℕ → Option ℕ
@@ -46,6 +51,7 @@ pub record AsksPrepare (words : List (List ℕ)) (n : ℕ) : Type 0 where
 pub record AsksUsage (words : List (List ℕ)) : Type 0 where
   pub no_boot : AsksBoot words → ⊥
   pub no_show : AsksShow words → ⊥
+  pub no_scavenge : AsksScavenge words → ⊥
   pub no_format : (n : ℕ) → AsksFormat words n → ⊥
   pub no_prepare : (n : ℕ) → AsksPrepare words n → ⊥
 
@@ -53,6 +59,7 @@ pub record AsksUsage (words : List (List ℕ)) : Type 0 where
 abbrev pub AsksFor : List (List ℕ) → Asked → Type 0
 AsksFor words Boot = AsksBoot words
 AsksFor words Show = AsksShow words
+AsksFor words Scavenge = AsksScavenge words
 AsksFor words (Format n) = AsksFormat words n
 AsksFor words (Prepare n) = AsksPrepare words n
 AsksFor words Nothing = AsksUsage words
@@ -69,6 +76,7 @@ AnswersUsage status.DiskFault = ⊥
 AnswersUsage status.KeyFault = ⊥
 AnswersUsage status.DisplayFault = Unit {0}
 AnswersUsage status.Memory = Unit {0}
+AnswersUsage status.CannotScavenge = ⊥
 
 -- Words that ask for `usage`: it is shown, a prefix of it if the display failed, nothing if no memory was left, and nothing
 -- else happens.
@@ -105,31 +113,36 @@ abbrev pub CannotPrepare : List (List ℕ) → ℕ → Type 0
 CannotPrepare words disks = ((n : ℕ) × AsksPrepare words n) × (disks ≢ 2)
 
 -- On so many drives. Usage is answered only to words that ask for it and to `prepare` where there is no second drive; Done only to `boot`,
--- `show`, `format`, and `prepare` where there is one; and what each of the words but `boot` can answer.
+-- `show`, `scavenge`, `format`, and `prepare` where there is one; NeedsScavenge only to `boot`, and CannotScavenge only to `scavenge`; and what
+-- each of the words but `boot` can answer.
 pub record AnswersTo (words : List (List ℕ)) (disks : ℕ) (answer : Status) : Type 0 where
   pub usage : answer ≡ status.Usage → AsksUsage words ⊎ CannotPrepare words disks
-  pub done : answer ≡ status.Done → AsksBoot words ⊎ (AsksShow words ⊎ (((n : ℕ) × AsksFormat words n) ⊎ MayPrepare words disks))
+  pub done : answer ≡ status.Done → AsksBoot words ⊎ (AsksShow words ⊎ (AsksScavenge words ⊎ (((n : ℕ) × AsksFormat words n) ⊎ MayPrepare words disks)))
   pub needs : answer ≡ status.NeedsScavenge → AsksBoot words
+  pub cannot : answer ≡ status.CannotScavenge → AsksScavenge words
   pub show : AsksShow words → AnswersShow answer
+  pub scavenge : AsksScavenge words → AnswersScavenge answer
   pub format : (n : ℕ) → AsksFormat words n → AnswersFormat answer
   pub prepare : (n : ℕ) → AsksPrepare words n → AnswersPrepare disks answer
   pub others : AsksUsage words → AnswersUsage answer
 
--- No event is taken back; `show`, `format` and `prepare` take no key; and words that ask for `usage` touch the display alone, as `prepare`
+-- No event is taken back; `show`, `scavenge`, `format` and `prepare` take no key; and words that ask for `usage` touch the display alone, as `prepare`
 -- does where there is no second drive.
 pub record Touches (words : List (List ℕ)) (old new : Taped) : Type 0 where
   pub grown : Grown old new
   pub show : AsksShow words → KeepsKeys old new
+  pub scavenge : AsksScavenge words → KeepsKeys old new
   pub format : (n : ℕ) → AsksFormat words n → KeepsKeys old new
   pub prepare : (n : ℕ) → AsksPrepare words n → KeepsKeys old new
   pub unprepared : (n : ℕ) → AsksPrepare words n → disks_of old.form ≢ 2 → ShowAlone old new
   pub others : AsksUsage words → ShowAlone old new
 
--- On a machine that is modelled, at this moment: `boot` is a session, `show` shows what the pack shows, `format` formats it, `prepare`
--- prepares its second drive where there is one, and other words show `usage`.
+-- On a machine that is modelled, at this moment: `boot` is a session, `show` shows what the pack shows, `scavenge` scavenges it, `format`
+-- formats it, `prepare` prepares its second drive where there is one, and other words show `usage`.
 pub record DoesAsAsked (words : List (List ℕ)) (moment : ℕ) (old new : Taped) (answer : Status) : Type 0 where
   pub boot : AsksBoot words → BootedAlone moment old new answer
   pub show : AsksShow words → ShowsPack old new answer
+  pub scavenge : AsksScavenge words → ScavengesPack old new answer
   pub format : (n : ℕ) → AsksFormat words n → FormatsPack n moment old new answer
   pub prepare : (n : ℕ) → AsksPrepare words n → PreparesOrUsage n old new answer
   pub others : AsksUsage words → ShowsUsage old new answer

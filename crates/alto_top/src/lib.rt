@@ -1,19 +1,23 @@
-//! The top call: a pack is booted, listed or formatted, or its second drive is prepared, by the words of a command line.
+//! The top call: a pack is booted, listed, scavenged or formatted, or its second drive is prepared, by the words of a command line.
 //!
 //! Come here when you change what the program does for a word. Below it stand session_boot for a session of typed lines, pack_reading for the
-//! listing, disk_descriptor for formatting and preparing, and the definitions of pack_model and session_model, by which all of it is said.
+//! listing, scavenger for scavenging, disk_descriptor for formatting and preparing, and the definitions of pack_model and session_model, by
+//! which all of it is said.
 //!
 //! To whoever starts it, for every machine that is modelled (`told`):
 //! 1. `boot` is a session of session_boot (`does` of `alto`).
 //! And of `show`: at Done the shown bytes are the listing of what the pack shows, for every answer a prefix of it, and nothing is
 //! written (`shown` of `show_pack`).
+//! And of `scavenge`, on any pack whatever: at Done the pack is sound and clean, all its hints are true, it shows what it showed, and the report
+//! of what was found and done is shown; at CannotScavenge, which comes only of a pack that is refused, nothing was written and the text says why.
+//! At each crash point it shows what it showed, and one that could be scavenged can be (`scavenges` of `scavenge_pack`).
 //! And of `format`: at Done the pack is the one that formatting writes, whatever stood there, and the number of its free sectors is shown;
 //! for every answer a prefix of the record writes and of the text was done (`formats` of `format_pack`).
 //! And of `prepare`, on two drives: at Done each sector of the second drive is free, none of the first has changed, and the number of
 //! sectors is shown; if no sector of the second drive carried a page, each crash point shows what stood before (`prepares`, `shows` of
 //! `prepare_pack`). On one drive it is `usage`.
 //! And for every machine: DiskFault, KeyFault and DisplayFault come only where their own count rose (`cause`).
-//! And for every machine: with words other than `boot` alone, `show` alone, or `format` or `prepare` with a number no record write is
+//! And for every machine: with words other than `boot`, `show` or `scavenge` alone, or `format` or `prepare` with a number no record write is
 //! counted, and no fault except the display's (`touches`); where it is modelled, no sector command is run, nothing is written and no key is
 //! taken (`does` of `alto`).
 //! Not promised: that memory is left; how long anything takes, except the number of sector commands of `show` and `prepare`.
@@ -24,11 +28,13 @@ mod formatting;
 mod listing;
 mod preparing;
 mod row;
+mod scavenging;
 mod show;
 mod top;
 
 pub use formatting::format_pack;
 pub use preparing::prepare_pack;
+pub use scavenging::scavenge_pack;
 pub use session_boot::{Fault, Status, boot};
 pub use show::show_pack;
 pub use top::alto;

@@ -2,12 +2,14 @@
 ghost use Rattle.std.specs.Prelude.{◌≡◌, ◌≢◌, [], ◌∷◌, codes, map, string_bytes, IsTrue};
 ghost use Rattle.disk_records.specs.Addresses.{disks_of};
 ghost use Rattle.disk_records.specs.Tapes.{Grown, ShowAlone};
+ghost use Rattle.session_boot.specs.Boots.{AnswersBoot};
 ghost use Rattle.session_boot.specs.Faults.{HasStatusCause};
 ghost use Rattle.alto_top.specs.Showing.{KeepsKeys};
 ghost use Rattle.alto_top.specs.Top.{AnswersPrepare, AnswersTo, AnswersUsage, AsksFor, BootedAlone, DoesAsAsked, PreparesOrUsage, ShowsUsage, Touches, pack_number};
 
 use crate::formatting::format_pack;
 use crate::preparing::prepare_pack;
+use crate::scavenging::scavenge_pack;
 use crate::show::show_pack;
 use alto_words::read_number;
 use disk_records::{Console, Machine, Tally};
@@ -21,6 +23,8 @@ pub enum Asked {
     Boot,
     /// What the pack shows is shown.
     Show,
+    /// The pack is scavenged.
+    Scavenge,
     /// The pack is formatted, with this number.
     Format(u16),
     /// The second drive is prepared, with this number of the pack.
@@ -47,6 +51,7 @@ fn asked_by(word: &[u8]) -> Asked
     match word {
         b"boot" => Asked::Boot,
         b"show" => Asked::Show,
+        b"scavenge" => Asked::Scavenge,
         _ => Asked::Nothing,
     }
 }
@@ -106,7 +111,7 @@ fn prepare_or_usage<M: Machine>(alloc: Global, number: u16, machine: &mut M) -> 
 /// A session whose operations nobody asks for.
 fn boot_uncounted<M: Machine>(alloc: Global, moment: u32, machine: &mut M) -> Status
     ensures booted { IsTrue M.told → BootedAlone moment (M.tape machine.old) (M.tape machine.new) result }
-    ensures answers { result ≢ Status.Usage }
+    ensures answers { AnswersBoot result }
     ensures cause { HasStatusCause (M.tape machine.old) (M.tape machine.new) result }
     ensures grown { Grown (M.tape machine.old) (M.tape machine.new) }
 {
@@ -118,16 +123,17 @@ fn boot_uncounted<M: Machine>(alloc: Global, moment: u32, machine: &mut M) -> St
     boot(alloc, moment, &mut tally, machine)
 }
 
-/// Does what the words of a command line ask for on this machine. The words are `boot` alone, `show` alone, or `format` or `prepare` and
-/// the pack's number, 1 to 65,535; with any others, and with `prepare` on one drive, `usage` is shown and nothing else happens. `moment`
+/// Does what the words of a command line ask for on this machine. The words are `boot`, `show` or `scavenge` alone, or `format` or `prepare`
+/// and the pack's number, 1 to 65,535; with any others, and with `prepare` on one drive, `usage` is shown and nothing else happens. `moment`
 /// is the time now, in seconds since the start of 1901.
 ///
-/// Done: the session was ended, the listing was shown, the pack was formatted, or its second drive prepared. Usage: the
+/// Done: the session was ended, the listing was shown, the pack was scavenged or formatted, or its second drive prepared. Usage: the
 /// words are others, or `prepare` on one drive, and `usage` was shown. NeedsScavenge: of `boot` alone; the pack isn't entered, or a
-/// hint failed in the session. DiskFault and KeyFault: that device failed before what was asked for was done; a listing, formatting and
-/// preparing take no key. DisplayFault: the display failed, with any words. Memory: none was left. After each of them what was acknowledged
-/// stands on a pack that was sound and clean; a pack that was being formatted is to be formatted again, and a drive that was being prepared
-/// to be prepared again.
+/// hint failed in the session. CannotScavenge: of `scavenge` alone; the text says why the pack can't be scavenged, and nothing was written.
+/// DiskFault and KeyFault: that device failed before what was asked for was done; a listing, a scavenge, formatting and preparing take no
+/// key. DisplayFault: the display failed, with any words. Memory: none was left. After each of them what was acknowledged stands on a pack
+/// that was sound and clean; a pack that was being scavenged shows what it showed and is to be scavenged again, one that was being formatted
+/// is to be formatted again, and a drive that was being prepared to be prepared again.
 pub fn alto<M: Machine>(alloc: Global, words: &[String], moment: u32, machine: &mut M) -> Status
     ensures does { IsTrue M.told → DoesAsAsked (map string_bytes words.now) moment (M.tape machine.old) (M.tape machine.new) result }
     ensures answers { AnswersTo (map string_bytes words.now) (disks_of (M.tape machine.old).form) result }
@@ -137,6 +143,7 @@ pub fn alto<M: Machine>(alloc: Global, words: &[String], moment: u32, machine: &
     match asked_of(words) {
         Asked::Boot => boot_uncounted(alloc, moment, machine),
         Asked::Show => show_pack(alloc, machine),
+        Asked::Scavenge => scavenge_pack(alloc, machine),
         Asked::Format(number) => format_pack(alloc, number, moment, machine),
         Asked::Prepare(number) => prepare_or_usage(alloc, number, machine),
         Asked::Nothing => show_usage(machine),

@@ -68,11 +68,16 @@ fn has_hex_pairs(text: &[u8]) -> bool
     text.len() % 2 == 0 && has_hex_digits(text)
 }
 
-/// Whether a text is hexadecimal digits alone.
+/// Whether a text is hexadecimal digits alone. It goes over all of it, since a loop that ends at the first other byte compares one byte at
+/// a time.
 fn has_hex_digits(text: &[u8]) -> bool
     ensures { result ≡ list_all is_ascii_hexdigit text.now }
 {
-    text.iter().all(|c| c.is_ascii_hexdigit())
+    let mut all = true;
+    for c in text {
+        all &= c.is_ascii_hexdigit();
+    }
+    all
 }
 
 /// Appends the decimal digits of a number, without leading zeros. On Memory the vector holds what it

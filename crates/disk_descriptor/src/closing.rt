@@ -21,7 +21,10 @@ pub(crate) const CLEAN: u16 = 1;
 
 /// Writes DiskDescriptor's data pages, which these sectors are to carry, with the clean mark: from the last to the first, so that the mark
 /// comes last. Two sector commands and one record write a page.
-pub(crate) fn write_pages<D: Disk>(
+///
+/// Held: a sector doesn't carry its page; nothing was written there or for a page before it. DiskFault: the disk failed. Memory: no memory
+/// was left for a record write. After each of them the pages after it are written. Spent never comes.
+pub fn write_pages<D: Disk>(
     disk: &mut D,
     last: u32,
     pages: &[u16],

@@ -46,6 +46,7 @@ mod values;
 mod words;
 mod writing;
 
+pub use closing::write_pages;
 pub use descriptor::{Descriptor, MOST_LAST};
 pub use errors::{DescError, FormatError, OpenError};
 pub use formatting::format;

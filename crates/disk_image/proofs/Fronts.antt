@@ -1,15 +1,17 @@
--- The records before the first one that is written.
-use Rattle.std.proofs.Common.{◌≡◌, ℕ, ◌+◌, Bool, true, false, cond, ◌&&◌, List, [], ◌++◌, length, take, refl, sym, ap, ◌∙◌, arith, IsTrue, Option}
+-- The records before the first one that is written, and those from it on.
+use Rattle.std.proofs.Common.{◌≡◌, ℕ, ◌-◌, ◌*◌, ◌≤◌, Bool, true, false, cond, ◌&&◌, List, [], ◌++◌, length, take, drop, refl, sym, ap, ◌∙◌, arith, IsTrue, Option}
 use Rattle.std.proofs.lemmas.Bool.{false≢true}
-use Rattle.std.proofs.lemmas.List.{append_assoc, append-nil, length-append, take_all, take_at}
-use Rattle.std.specs.Io.KnownBytes.{Consumes}
+use Rattle.std.proofs.lemmas.List.{append_assoc, append-nil, length-append, length-drop, take_all}
+use Rattle.std.proofs.Math.Seq.{drop-append_seam}
+use Rattle.std.specs.Io.KnownBytes.{Consumes, Appends}
 use Rattle.disk_records.specs.declared.records.Act.{Act}
 use Rattle.disk_records.specs.declared.records.Act.TheVariants.{Read, Check, Write}
 use Rattle.disk_records.specs.declared.records.Plan.{Plan}
 use Rattle.disk_records.specs.declared.records.Sector.{Sector}
 use Rattle.disk_records.specs.Checks.{is_write, may_follow, is_legal}
 use Rattle.disk_image.specs.Images.{sector_bytes, IsWhole}
-use Rattle.disk_image.specs.Records.{read_bytes, read_length, front_bytes, front_length}
+use Rattle.disk_image.specs.Records.{read_bytes, read_length, written_bytes, front_bytes, front_length, back_bytes}
+use Rattle.disk_image.proofs.Inverses.{fronts_same, length-sector_bytes}
 use Rattle.disk_records.specs.Bytes.{bytes_of}
 use Rattle.disk_records.proofs.Bytes.{length-bytes_of}
 
@@ -18,47 +20,61 @@ read_bytes-cond Read words = refl
 read_bytes-cond Check words = refl
 read_bytes-cond Write words = refl
 
-read_length-cond : (act : Act) (n : ℕ) → read_length act n ≡ cond (is_write act) 0 n
-read_length-cond Read n = refl
-read_length-cond Check n = refl
-read_length-cond Write n = refl
+written_bytes-cond : (act : Act) (words : List ℕ) → written_bytes act words ≡ cond (is_write act) (bytes_of words) []
+written_bytes-cond Read words = refl
+written_bytes-cond Check words = refl
+written_bytes-cond Write words = refl
 
 may_follow-cond : (act next : Act) → may_follow act next ≡ cond (is_write act) (is_write next) true
 may_follow-cond Read next = refl
 may_follow-cond Check next = refl
 may_follow-cond Write next = refl
 
--- what isn't left out of three lists stands in front
-taken : (h l v : Bool) (a b c : List ℕ) → IsTrue (cond h l true && cond l v true) → cond h [] a ++ (cond l [] b ++ cond v [] c) ≡ take (cond h 0 (length a) + (cond l 0 (length b) + cond v 0 (length c))) (a ++ (b ++ c))
-taken true true true a b c legal = refl
-taken true true false a b c legal = absurd (false≢true legal)
-taken true false v a b c legal = absurd (false≢true legal)
-taken false true true a b c legal = append-nil a ∙ sym (take_at a (b ++ c) (length a + 0) (omega arith))
-taken false true false a b c legal = absurd (false≢true legal)
-taken false false true a b c legal =
-    let both : length (a ++ b) ≡ length a + (length b + 0) = omega (arith, length-append a b) in
-    ap (λ (l : List ℕ). a ++ l) (append-nil b) ∙ sym (take_at (a ++ b) c _ both) ∙ ap (take (length a + (length b + 0))) (append_assoc a b c)
-taken false false false a b c legal =
-    let all : length (a ++ (b ++ c)) ≡ length a + (length b + length c) = omega (arith, length-append a (b ++ c), length-append b c) in
-    sym (take_all _ (a ++ (b ++ c)) (omega (arith, all)))
+length-read_bytes : (act : Act) (words : List ℕ) (n : ℕ) → 2 * length words ≡ n → length (read_bytes act words) ≡ read_length act n
+length-read_bytes Read words n is = length-bytes_of words ∙ is
+length-read_bytes Check words n is = length-bytes_of words ∙ is
+length-read_bytes Write words n is = refl
 
-pub front_bytes-taken : (plan : Plan) (s : Sector) → IsTrue (is_legal plan) → IsWhole s → front_bytes plan s ≡ take (front_length plan) (sector_bytes s)
-front_bytes-taken plan s legal whole =
+-- of three lists what is left out after the first of them, and what isn't
+joined : (h l v : Bool) (a b c : List ℕ) → IsTrue (cond h l true && cond l v true) → (cond h [] a ++ (cond l [] b ++ cond v [] c)) ++ (cond h a [] ++ (cond l b [] ++ cond v c [])) ≡ a ++ (b ++ c)
+joined true true true a b c legal = refl
+joined true true false a b c legal = absurd (false≢true legal)
+joined true false v a b c legal = absurd (false≢true legal)
+joined false true true a b c legal = ap (λ (l : List ℕ). l ++ (b ++ c)) (append-nil a)
+joined false true false a b c legal = absurd (false≢true legal)
+joined false false true a b c legal = ap (λ (l : List ℕ). (a ++ l) ++ c) (append-nil b) ∙ append_assoc a b c
+joined false false false a b c legal = append-nil (a ++ (b ++ c))
+
+-- the records that a command reads, and then those that it writes, are all of the sector
+fronts_and_backs : (plan : Plan) (s : Sector) → IsTrue (is_legal plan) → front_bytes plan s ++ back_bytes plan s ≡ sector_bytes s
+fronts_and_backs plan s legal =
     let h = is_write plan.header in
     let l = is_write plan.label in
     let v = is_write plan.value in
-    let header : length (bytes_of s.header) ≡ 4 = omega (arith, length-bytes_of s.header, whole.header) in
-    let label : length (bytes_of s.label) ≡ 16 = omega (arith, length-bytes_of s.label, whole.label) in
-    let value : length (bytes_of s.value) ≡ 512 = omega (arith, length-bytes_of s.value, whole.value) in
-    let first : read_length plan.header 4 ≡ cond h 0 (length (bytes_of s.header)) = read_length-cond plan.header 4 ∙ ap (cond h 0) (sym header) in
-    let second : read_length plan.label 16 ≡ cond l 0 (length (bytes_of s.label)) = read_length-cond plan.label 16 ∙ ap (cond l 0) (sym label) in
-    let third : read_length plan.value 512 ≡ cond v 0 (length (bytes_of s.value)) = read_length-cond plan.value 512 ∙ ap (cond v 0) (sym value) in
     let follows : IsTrue (cond h l true && cond l v true) = sym (ap (λ (b : Bool). b && may_follow plan.label plan.value) (may_follow-cond plan.header plan.label) ∙ ap (λ (b : Bool). cond h l true && b) (may_follow-cond plan.label plan.value)) ∙ legal in
-    rw (read_bytes-cond plan.header s.header, read_bytes-cond plan.label s.label, read_bytes-cond plan.value s.value, first, second, third)
-    (taken h l v (bytes_of s.header) (bytes_of s.label) (bytes_of s.value) follows)
+    rw (read_bytes-cond plan.header s.header, read_bytes-cond plan.label s.label, read_bytes-cond plan.value s.value)
+    (rw (written_bytes-cond plan.header s.header, written_bytes-cond plan.label s.label, written_bytes-cond plan.value s.value)
+    (joined h l v (bytes_of s.header) (bytes_of s.label) (bytes_of s.value) follows))
+
+length-front_bytes : (plan : Plan) (s : Sector) → IsWhole s → length (front_bytes plan s) ≡ front_length plan
+length-front_bytes plan s whole =
+    let header = length-read_bytes plan.header s.header 4 (omega (arith, whole.header)) in
+    let label = length-read_bytes plan.label s.label 16 (omega (arith, whole.label)) in
+    let value = length-read_bytes plan.value s.value 512 (omega (arith, whole.value)) in
+    let inner = length-append (read_bytes plan.label s.label) (read_bytes plan.value s.value) in
+    let outer = length-append (read_bytes plan.header s.header) (read_bytes plan.label s.label ++ read_bytes plan.value s.value) in
+    omega (arith, header, label, value, inner, outer)
 
 -- what was read of a file are the bytes of the records before the first Write
 pub front_read : (a b : Option (List ℕ)) (plan : Plan) (s : Sector) (front rest : List ℕ) → IsTrue (is_legal plan) → IsWhole s → length front ≡ front_length plan → sector_bytes s ≡ front ++ rest → Consumes a b front → Consumes a b (front_bytes plan s)
 front_read a b plan s front rest legal whole len are consumes =
-    let same : front_bytes plan s ≡ front = front_bytes-taken plan s legal whole ∙ ap (take (front_length plan)) are ∙ take_at front rest (front_length plan) len in
+    let same : front_bytes plan s ≡ front = fronts_same (front_bytes plan s) (back_bytes plan s) front rest (length-front_bytes plan s whole ∙ sym len) (fronts_and_backs plan s legal ∙ are) in
     rw same consumes
+
+-- what was written to a file from there on are the bytes of the records from the first Write on
+pub back_written : (a b : Option (List ℕ)) (plan : Plan) (s : Sector) (bytes : List ℕ) (n : ℕ) → IsTrue (is_legal plan) → IsWhole s → bytes ≡ sector_bytes s → n ≡ front_length plan → Appends a b (take (532 - n) (drop n bytes)) → Appends a b (back_bytes plan s)
+back_written a b plan s bytes n legal whole are at appends =
+    let long : n ≡ length (front_bytes plan s) = at ∙ sym (length-front_bytes plan s whole) in
+    let rest : length (drop n bytes) ≤ 532 - n = omega (arith, length-drop n bytes, ap length are, length-sector_bytes s whole) in
+    let same : drop n bytes ≡ back_bytes plan s = ap (drop n) (are ∙ sym (fronts_and_backs plan s legal)) ∙ ap (λ m. drop m (front_bytes plan s ++ back_bytes plan s)) long ∙ drop-append_seam (front_bytes plan s) (back_bytes plan s) in
+    rw (← same, ← take_all (532 - n) (drop n bytes) rest) appends

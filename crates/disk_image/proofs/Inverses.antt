@@ -12,13 +12,13 @@ use Rattle.disk_image.specs.Images.{sector_bytes, pack_bytes, IsWhole, IsImage, 
 use Rattle.disk_image.proofs.Shapes.{shape_same}
 
 -- two lists that are joined at the same place
-fronts_same : {A : Type 0} (a b c d : List A) → length a ≡ length c → a ++ b ≡ c ++ d → a ≡ c
+pub fronts_same : {A : Type 0} (a b c d : List A) → length a ≡ length c → a ++ b ≡ c ++ d → a ≡ c
 fronts_same a b c d len same = sym (take-append_seam a b) ∙ ap (take (length a)) same ∙ ap (λ n. take n (c ++ d)) len ∙ take-append_seam c d
 
 backs_same : {A : Type 0} (a b c d : List A) → length a ≡ length c → a ++ b ≡ c ++ d → b ≡ d
 backs_same a b c d len same = sym (drop-append_seam a b) ∙ ap (drop (length a)) same ∙ ap (λ n. drop n (c ++ d)) len ∙ drop-append_seam c d
 
-length-sector_bytes : (s : Sector) → IsWhole s → length (sector_bytes s) ≡ 532
+pub length-sector_bytes : (s : Sector) → IsWhole s → length (sector_bytes s) ≡ 532
 length-sector_bytes s whole =
     let header = length-bytes_of s.header in
     let label = length-bytes_of s.label in

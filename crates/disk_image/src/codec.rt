@@ -60,7 +60,7 @@ pub(crate) fn read_sector(bytes: &[u8]) -> Sector
 }
 
 /// Writes a sector as its 532 bytes.
-fn write_sector(sector: &Sector, bytes: &mut [u8])
+pub(crate) fn write_sector(sector: &Sector, bytes: &mut [u8])
     requires { length bytes.old ≡ 532 }
     ensures bytes { bytes.new ≡ sector_bytes sector.now }
     ensures whole { IsWhole sector.now }

@@ -14,13 +14,12 @@ use crate::records::{
 };
 use crate::spot::{CYLINDER_SECTORS, Spot};
 use disk_records::{Act, Plan, Sector, first_mismatch, update_memory};
-use std::fs::OpenFile;
 use std::io;
-use std::io::{Error, ErrorKind, Read, Seek, Write};
+use std::io::{Error, ErrorKind, Read, Seek, SeekFrom, Write};
 
-/// Does one sector command in the file of the sector's drive, and answers the first word that differs, if one does. Each record that is
-/// written raises the count of writes.
-pub(crate) fn obey_in_file<F: Read + Write + Seek + OpenFile>(
+/// Does one sector command in the file of the sector's drive, and answers the first word that differs, if one does. Each record that it
+/// writes raises the count of writes, once all are written.
+pub(crate) fn obey_in_file<F: Read + Write + Seek>(
     file: &mut F,
     spot: Spot,
     plan: Plan,
@@ -108,21 +107,22 @@ fn has_sector(bytes: u64, ahead: u16) -> bool
 /// Checks that a sector lies in the file: an error where the file no longer has the whole of it. Records written there would make the
 /// file longer again, and those that were lost would be read as zeros. It holds for the moment of the question: another process can
 /// shorten the file after it. A command that only reads finds the end of the file by that, where the sector isn't kept.
-fn check_in_file<F: OpenFile>(file: &F, ahead: u16) -> io::Result<()> {
-    if has_sector(file.metadata()?.len(), ahead) {
+fn check_in_file<F: Seek>(file: &mut F, ahead: u16) -> io::Result<()> {
+    if has_sector(file.seek(SeekFrom::End(0))?, ahead) {
         return Ok(());
     }
     Err(Error::from(ErrorKind::UnexpectedEof))
 }
 
 /// Writes the records whose act is Write to the sector's place in the file, and counts them.
-fn write_in_file<F: Write + Seek + OpenFile>(
+fn write_in_file<F: Write + Seek>(
     file: &mut F,
     ahead: u16,
     plan: Plan,
     sector: &Sector,
     writes: &mut u64,
 ) -> io::Result<()>
+    requires { IsTrue (is_legal plan) }
     ensures count { OnOk result (writes.new ≡ writes_after_all plan writes.old) }
     ensures rise { writes.old ≤ writes.new }
 {

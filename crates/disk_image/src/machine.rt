@@ -4,23 +4,24 @@
 // sector's cylinder, in the file of its drive, makes one read call for all of it, and keeps it: until another cylinder is read for the
 // first time, or for good where it was read before. Where there is no memory for that, or the cylinder can't be read whole, it seeks to
 // the sector and makes one read call for the records before its first Write. A command that begins with a Write reads nothing. Writes
-// are never kept back: a command that writes seeks to its first Write and makes one write call for each record that it writes, in their
-// order. What is kept of the sector is changed after them, and after a fault it is kept no longer. That is said of calls that are neither
-// short nor interrupted by a signal, here and in records.rt: after a short one another does the rest, and an interrupted one is made
-// again.
+// are never kept back: a command that writes seeks to its first Write and makes one write call for all records that it writes, which stand
+// side by side in the file, in their order. What is kept of the sector is changed after it, and after a fault it is kept no longer. That is
+// said of calls that are neither short nor interrupted by a signal, here and in records.rt: after a short one another does the rest, and an
+// interrupted one is made again.
 //
 // That a process which is stopped leaves a prefix of its record writes in the files, each of them whole, is a premise. It holds for one
-// that is stopped between two calls, of which the first wasn't short, and for one that a signal kills within a write call unless the
-// record crosses a multiple of 4,096 bytes in its file: Linux looks for such a signal between two pages of memory, and the record may be
-// torn there. About one sector in 8 has such a record; the value of a file's sector 7, at the bytes 3,744 to 4,255, is the first. It
-// doesn't hold where a call writes a part of a record and the one for the rest fails, or is stopped by a limit on the size of files.
-// Nothing is synced to the device, so a power failure may leave less.
+// that is stopped between two calls, of which the first wasn't short, and for one that a signal kills within a write call unless a
+// record of it crosses a multiple of 4,096 bytes in its file: Linux writes the bytes of a call in rising order and looks for such a signal
+// between two pages of memory, and the record may be torn there. About one sector in 8 has such a record; the value of a file's sector 7,
+// at the bytes 3,744 to 4,255, is the first. It doesn't hold where a call writes a part of a record and the one for the rest fails, or is
+// stopped by a limit on the size of files. Nothing is synced to the device, so a power failure may leave less.
 //
-// Before its first write a command asks for the file's length, so that no write makes the file longer, unless another process
-// shortens the file between the question and the write.
-ghost use Rattle.std.specs.Prelude.{◌≡◌, ◌≢◌, ◌<◌, false, [], length, take, IfOk, IfErr, OnErr};
+// Before it writes a command asks for the file's length, by a seek to its end, so that no write makes the file longer, unless another
+// process shortens the file between the question and the write.
+ghost use Rattle.std.specs.Prelude.{◌≡◌, ◌≢◌, ◌<◌, false, [], ◌∷◌, length, take, IfOk, IfErr, IfNone, IfSome, OnErr};
 ghost use Rattle.std.specs.Option.{ForNone};
 ghost use Rattle.std.specs.Io.{ReadsAtMost};
+ghost use Rattle.std.specs.Io.Buffered.{reader_remaining};
 ghost use Rattle.std.specs.Io.KnownBytes.{Consumes, IsAtEnd, Keeps};
 ghost use Rattle.std.specs.IoError.{error_kind};
 ghost use Rattle.disk_records.specs.Addresses.{disks_of};
@@ -31,7 +32,7 @@ use crate::kept::KeptSectors;
 use disk_records::{Console, ConsoleError, Disk, DiskError, Machine, Plan, Sector, Shape, Tape};
 use std::alloc::Global;
 use std::io;
-use std::io::{BufReader, Error, ErrorKind, Input, Print, Read};
+use std::io::{BufRead, BufReader, Error, ErrorKind, Input, Print, Read};
 use std::rt::Files;
 
 /// How often at most a read of keys is tried that a signal interrupts each time.
@@ -54,7 +55,7 @@ pub struct FileMachine<'a, R: Files + Input + Print> {
     kept: KeptSectors,
     // standard input, read ahead, so that a read of one key is cheap
     keys: BufReader<R::Reader>,
-    // record writes that were done whole
+    // record writes of the commands that did all of theirs
     writes: u64,
     disk_faults: u64,
     key_faults: u64,
@@ -228,14 +229,31 @@ impl<'a, R: Files + Input + Print> FileMachine<'a, R> {
     }
 }
 
-/// Reads keys, and again where a signal interrupted the call, as std's own calls do that read more than once.
-fn read_keys<R: Read>(keys: &mut R, buf: &mut [u8]) -> io::Result<usize>
+/// Takes the next key of those that were read ahead. None where none is left of them.
+fn take_read_ahead<R: Read>(keys: &mut BufReader<R>) -> Option<u8>
+    ensures some { IfSome result (λ key. Consumes (reader_remaining R.remaining keys.old) (reader_remaining R.remaining keys.new) (key ∷ [])) }
+    ensures none { IfNone result (keys.new ≡ keys.old) }
+{
+    let key = *keys.buffer().first()?;
+    keys.consume(1);
+    Some(key)
+}
+
+/// Reads keys, and again where a signal interrupted the call, as std's own calls do that read more than once. One key that was read ahead
+/// is taken by itself: std's read copies bytes of any number.
+fn read_keys<R: Read>(keys: &mut BufReader<R>, buf: &mut [u8]) -> io::Result<usize>
     ensures bound { ReadsAtMost result buf.new }
-    ensures ok { IfOk result (λ count. Consumes (R.remaining keys.old) (R.remaining keys.new) (take count buf.new)) }
-    ensures end { IfOk result (λ count. count ≡ 0 → 0 < length buf.old → IsAtEnd (R.remaining keys.new)) }
-    ensures err { OnErr result (Keeps (R.remaining keys.old) (R.remaining keys.new)) }
+    ensures ok { IfOk result (λ count. Consumes (reader_remaining R.remaining keys.old) (reader_remaining R.remaining keys.new) (take count buf.new)) }
+    ensures end { IfOk result (λ count. count ≡ 0 → 0 < length buf.old → IsAtEnd (reader_remaining R.remaining keys.new)) }
+    ensures err { OnErr result (Keeps (reader_remaining R.remaining keys.old) (reader_remaining R.remaining keys.new)) }
     ensures retried { IfErr result (λ error. error_kind error ≢ ErrorKind.Interrupted) }
 {
+    if let [place] = buf {
+        if let Some(key) = take_read_ahead(keys) {
+            *place = key;
+            return Ok(1);
+        }
+    }
     for _ in 0..MOST_TRIES {
         match keys.read(buf) {
             Ok(count) => return Ok(count),

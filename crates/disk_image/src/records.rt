@@ -4,15 +4,14 @@ ghost use Rattle.std.specs.Io.KnownBytes.{Consumes, Appends};
 ghost use Rattle.std.specs.Io.Seek.{MovesTo};
 ghost use Rattle.disk_records.specs.Checks.{is_legal};
 ghost use Rattle.disk_image.specs.Kept.{HasRoom, ReadsCylinder};
-ghost use Rattle.disk_image.specs.Records.{read_length, front_length, front_bytes, back_bytes, written_bytes, writes_after, writes_after_all};
-ghost use Rattle.disk_records.specs.Bytes.{bytes_of};
+ghost use Rattle.disk_image.specs.Records.{read_length, front_length, front_bytes, back_bytes, writes_after, writes_after_all};
 
 use crate::codec::{
-    CYLINDER_BYTES, HEADER_BYTES, LABEL_BYTES, SECTOR_BYTES, VALUE_BYTES, read_sector,
+    CYLINDER_BYTES, HEADER_BYTES, LABEL_BYTES, SECTOR_BYTES, VALUE_BYTES, read_sector, write_sector,
 };
 use crate::kept::KeptSectors;
 use crate::spot::CYLINDER_SECTORS;
-use disk_records::{Act, Plan, Sector, words_into_bytes};
+use disk_records::{Act, Plan, Sector};
 use std::io;
 use std::io::{Read, Seek, SeekFrom, Write};
 
@@ -94,50 +93,39 @@ pub(crate) fn read_cylinder<F: Read>(
     Ok(())
 }
 
-/// Writes the records whose act is Write, in order, by one write call each, and counts those that were written.
+/// The count of record writes after an act.
+fn writes_after(act: Act, writes: u64) -> u64
+    ensures { result ≡ writes_after act writes }
+{
+    match act {
+        Act::Read => writes,
+        Act::Check => writes,
+        Act::Write => writes.saturating_add(1),
+    }
+}
+
+/// Writes the records whose act is Write, which are a sector's last ones, by one write call, and counts them. After a fault none of them is
+/// counted.
 pub(crate) fn write_back<F: Write>(
     file: &mut F,
     plan: Plan,
     sector: &Sector,
     writes: &mut u64,
 ) -> io::Result<()>
+    requires { IsTrue (is_legal plan) }
     ensures bytes { OnOk result (Appends (F.contents file.old) (F.contents file.new) (back_bytes plan sector.now)) }
     ensures count { OnOk result (writes.new ≡ writes_after_all plan writes.old) }
-    ensures rise { writes.old ≤ writes.new }
-{
-    write_record(file, plan.header, &sector.header, writes)?;
-    write_record(file, plan.label, &sector.label, writes)?;
-    write_record(file, plan.value, &sector.value, writes)
-}
-
-/// Writes one record where its act is Write, by one write call, and counts it.
-fn write_record<F: Write>(file: &mut F, act: Act, words: &[u16], writes: &mut u64) -> io::Result<()>
-    requires { length words.now ≤ 256 }
-    ensures bytes { OnOk result (Appends (F.contents file.old) (F.contents file.new) (written_bytes act words.now)) }
-    ensures count { OnOk result (writes.new ≡ writes_after act writes.old) }
     ensures err { OnErr result (writes.new ≡ writes.old) }
     ensures rise { writes.old ≤ writes.new }
 {
-    match act {
-        Act::Write => {
-            write_bytes(file, words)?;
-            *writes = writes.saturating_add(1);
-            Ok(())
-        }
-        Act::Read => Ok(()),
-        Act::Check => Ok(()),
-    }
-}
-
-/// Writes the bytes of words by one write call.
-fn write_bytes<F: Write>(file: &mut F, words: &[u16]) -> io::Result<()>
-    requires { length words.now ≤ 256 }
-    ensures { OnOk result (Appends (F.contents file.old) (F.contents file.new) (bytes_of words.now)) }
-{
-    let mut bytes = [0; VALUE_BYTES];
-    let record = &mut bytes[..2 * words.len()];
-    words_into_bytes(words, record);
-    file.write_all(record)
+    let mut bytes = [0; SECTOR_BYTES];
+    write_sector(sector, &mut bytes);
+    file.write_all(&bytes[front_length(plan)..])?;
+    *writes = writes_after(
+        plan.value,
+        writes_after(plan.label, writes_after(plan.header, *writes)),
+    );
+    Ok(())
 }
 
 /// Fills the new file of a drive of so many cylinders with zeros, one write call a cylinder.

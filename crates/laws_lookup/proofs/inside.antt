@@ -10,7 +10,6 @@ pub mod Misleading
 pub mod Newer
 pub mod OneSlot
 pub mod Open
-pub mod Replacing
 pub mod Replacings
 pub mod Sourcing
 pub mod Staying

@@ -7,7 +7,7 @@ use Rattle.pack_model.specs.hints.Links.{dir_words}
 use Rattle.pack_model.specs.operations.Rooms.{left_over}
 use Rattle.pack_model.specs.reading.Files.{file_bytes, lives, place}
 use Rattle.pack_model.specs.reading.Sights.{sights}
-use Rattle.pack_model.specs.reading.Slots.{Item, SlotsReachEnd, entry_length, slots}
+use Rattle.pack_model.specs.reading.Slots.{Item, SlotsReachEnd, all_words, entry_length, slots}
 use Rattle.pack_model.specs.reading.Slots.Item.{entry, space}
 use Rattle.pack_model.specs.scavenger.Reports.{PagesMended}
 use Rattle.laws_record.specs.DirLaws.{DirWrite, Enters, IsLooseWord, dir_written, entered}
@@ -37,3 +37,7 @@ pub record DirectoryIsWritten (p q : Pack) (d : Fid) : Type 0 where
 -- so it is with any words after which the directory ends with its slots
 abbrev pub DirWriteKeepsPages : Type 0
 DirWriteKeepsPages = (p : Pack) (d : Fid) (w at : ℕ) (new : List ℕ) → DirWrite p d w at new → PagesMended p → SlotsReachEnd (file_bytes (sights (dir_written p w at new)) d) → DirectoryIsWritten p (dir_written p w at new) d
+
+-- and it does with words after which its slots have as many words
+abbrev pub DirWriteReachesItsEnd : Type 0
+DirWriteReachesItsEnd = (p : Pack) (d : Fid) (w at : ℕ) (new : List ℕ) → DirWrite p d w at new → PagesMended p → all_words (slots (dir_words (dir_written p w at new) d)) ≡ all_words (slots (dir_words p d)) → SlotsReachEnd (file_bytes (sights (dir_written p w at new)) d)

@@ -1,6 +1,6 @@
 //! The slots of directories while names are mended, on any pack.
 
-ghost use Rattle.laws_mend.specs.SlotLaws.{DirWriteKeepsPages, EntersReplacesSlots, LooseWordsKeepSlots, MoreWordsReplaceSlots};
+ghost use Rattle.laws_mend.specs.SlotLaws.{DirWriteKeepsPages, DirWriteReachesItsEnd, EntersReplacesSlots, LooseWordsKeepSlots, MoreWordsReplaceSlots};
 
 /// An entry that comes in the place of a free slot leaves the slots beside it where they stood, with their words.
 pub fn enters_replaces_slots()
@@ -22,4 +22,9 @@ pub fn loose_words_keep_slots()
 /// every other file.
 pub fn dir_write_keeps_pages()
     ensures { DirWriteKeepsPages }
+{}
+
+/// Words of a directory, after which its slots have as many words, leave it ending with its slots.
+pub fn dir_write_reaches_its_end()
+    ensures { DirWriteReachesItsEnd }
 {}

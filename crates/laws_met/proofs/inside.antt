@@ -16,6 +16,7 @@ pub mod Lookups
 pub mod Meeting
 pub mod Meets
 pub mod More
+pub mod Naming
 pub mod NewFile
 pub mod Operating
 pub mod Renaming

@@ -14,6 +14,8 @@ use Rattle.pack_model.specs.operations.Step.Operation.{enter}
 use Rattle.pack_model.specs.reading.Bytes.{bytes_of}
 use Rattle.pack_model.specs.reading.Namings.{descriptor_name, sys_dir_name}
 use Rattle.pack_model.specs.reading.SlotWords.{entry_words, space_words}
+use Rattle.pack_model.specs.reading.Slots.{Item}
+use Rattle.pack_model.specs.reading.Slots.Item.{entry, space}
 use Rattle.pack_model.specs.sessions.Descriptor.{descriptor_text}
 use Rattle.pack_model.specs.sessions.Format.{with_headers}
 use Rattle.pack_model.specs.states.Sound.{mark_open}
@@ -81,6 +83,18 @@ found_i = record { first = 10; place = 232; total = 279 }
 abbrev pub room_i : EntryRoom
 room_i = record { place = 232; first_words = 23; total = 279; at = 2; next_at = 21 }
 
+-- SysDir's slots before the room, and the two free ones in it
+abbrev pub eight : ℕ → ℕ → ℕ → List Item
+eight zero serial c = []
+eight (suc n) serial c = entry (ordinary_fid serial) (letters c) ∷ eight n (suc serial) (suc c)
+
+abbrev pub before_i : List Item
+before_i = entry sys_dir sys_dir_name ∷ entry disk_descriptor descriptor_name ∷ eight 8 3 97
+
+abbrev pub free_i : List Item
+free_i = space 23 ∷ space 256 ∷ []
+
+-- the entry's words
 abbrev pub words_i : List ℕ
 words_i = entered_words file_i 22 name_i 253
 

@@ -2,6 +2,7 @@
 //! that lists a new file.
 
 ghost use Rattle.laws_met.specs.Crowded.{EnteringOverAPagesEndIsWritten};
+ghost use Rattle.laws_met.specs.Naming.{FreeingIsMet, NamingIsMet};
 ghost use Rattle.laws_met.specs.Dropping.{DropByTwoCallsIsMet, HeldFileStaysFound};
 ghost use Rattle.laws_met.specs.Writings.{MakeIsWritten, NewPagesAreListed, ValuesAreFull, WritingsAreMet};
 
@@ -40,4 +41,15 @@ pub fn drop_by_two_calls_is_met<T, E>()
 /// On the small pack a file that was found by a held address is found by it after its own entry left.
 pub fn held_file_stays_found()
     ensures { HeldFileStaysFound }
+{}
+
+/// On the small pack whose SysDir has two pages the entry of a file without one is lacking, and comes by three values, each of which meets
+/// what its law asks for.
+pub fn naming_is_met()
+    ensures { NamingIsMet }
+{}
+
+/// On the same pack, where two entries name one file, the second isn't kept, and the first word of its slot meets what its law asks for.
+pub fn freeing_is_met()
+    ensures { FreeingIsMet }
 {}

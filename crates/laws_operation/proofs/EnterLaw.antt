@@ -41,7 +41,7 @@ use Rattle.laws_operation.proofs.Dropped.{read_there}
 use Rattle.laws_operation.proofs.EnterStages.{EntersBy, Joined, alike_slots, join_stage, quiet_first}
 use Rattle.laws_operation.proofs.Entering.{Ready, second_stage, sector_still, ticks}
 use Rattle.laws_operation.proofs.OneDirectory.{slots_namings}
-use Rattle.laws_operation.proofs.inside.Rejoining.{enough_words, entered_there, room_again}
+use Rattle.laws_operation.proofs.Rejoining.{enough_words, entered_there, room_again}
 use Rattle.laws_operation.proofs.inside.Rooming.{run_bare}
 use Rattle.laws_operation.specs.NameLaws.{MayEnterAt}
 

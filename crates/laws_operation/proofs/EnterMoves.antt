@@ -27,7 +27,7 @@ use Rattle.laws_record.proofs.DirReads.{not_descriptor}
 use Rattle.laws_operation.proofs.EnterLaw.{all_stages, all_ticks}
 use Rattle.laws_operation.proofs.EnterStages.{EntersBy}
 use Rattle.laws_operation.proofs.inside.Kept.{descriptor_kept, fits_still}
-use Rattle.laws_operation.proofs.inside.Rejoining.{enough_words}
+use Rattle.laws_operation.proofs.Rejoining.{enough_words}
 use Rattle.laws_operation.specs.NameLaws.{EnterCarriesOut, entry_room}
 
 -- ---- counts

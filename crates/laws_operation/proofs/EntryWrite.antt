@@ -40,7 +40,7 @@ use Rattle.laws_record.specs.DirLaws.{DirWrite, Enters}
 use Rattle.laws_record.specs.EnterLaws.{IsItsRoom, MayEnter}
 use Rattle.laws_operation.proofs.DirValue.{dir_before, dir_lead, value_same, value_tidy, value_whole}
 use Rattle.laws_operation.proofs.inside.Elsewhere.{SameBut}
-use Rattle.laws_operation.proofs.inside.EntryKept.{entry_names, entry_tidy}
+use Rattle.laws_operation.proofs.EntryKept.{entry_names, entry_tidy}
 use Rattle.laws_operation.specs.NameLaws.{EntryWords}
 use Rattle.laws_record.proofs.entries.Laws.{entry_is_the_step}
 

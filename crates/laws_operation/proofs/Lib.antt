@@ -9,6 +9,7 @@ pub mod EnterLaw
 pub mod EnterMoves
 pub mod EnterStages
 pub mod Entering
+pub mod EntryKept
 pub mod EntryWrite
 pub mod FirstWords
 pub mod Grown
@@ -18,6 +19,7 @@ pub mod Lying
 pub mod Making
 pub mod OneDirectory
 pub mod OneValue
+pub mod Rejoining
 pub mod Rows
 pub mod Seating
 pub mod Showing

@@ -5,7 +5,6 @@ pub mod DescriptorValue
 pub mod DescriptorValues
 pub mod DropLaw
 pub mod Elsewhere
-pub mod EntryKept
 pub mod Evens
 pub mod Freeing
 pub mod Going
@@ -13,7 +12,6 @@ pub mod Growing
 pub mod Kept
 pub mod OneFile
 pub mod OpeningMark
-pub mod Rejoining
 pub mod Rooming
 pub mod SlotBefore
 pub mod Standing

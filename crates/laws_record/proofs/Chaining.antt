@@ -1,6 +1,7 @@
 -- Runs of record writes, one after another.
 use Rattle.std.proofs.Common.{◌++◌, ◌∙◌, ◌∷◌, List, [], ap, arith, subst, suc, sym, zero, ℕ}
 use Rattle.disk_records.proofs.Growing.{after-append}
+use Rattle.disk_records.specs.Events.{IsFirstOf}
 use Rattle.disk_records.specs.Packs.{Pack, after, crash}
 use Rattle.disk_records.specs.declared.records.Event.{Event}
 use Rattle.pack_model.specs.sessions.Moves.{Meaning, Obeys, steps}
@@ -27,7 +28,7 @@ module _ {M O : Type 0} (means : Meaning M O) where
 -- ---- properties of each crash
 module _ (P : Pack → Type 0) where
   -- one after another
-  run_on : (p : Pack) (a b : List Event) → Throughout P p a → Throughout P (after p a) b → Throughout P p (a ++ b)
+  pub run_on : (p : Pack) (a b : List Event) → Throughout P p a → Throughout P (after p a) b → Throughout P p (a ++ b)
   run_on p [] b r s = s
   run_on p (e ∷ a) b r s = (r.0, run_on (after p (e ∷ [])) a b r.1 s)
 
@@ -38,22 +39,32 @@ module _ (P : Pack → Type 0) where
   at_cut p (e ∷ events) r zero = r.0
   at_cut p (e ∷ events) r (suc k) = at_cut (after p (e ∷ [])) events r.1 k
 
-  -- the last pack
-  at_end : (p : Pack) (events : List Event) → Throughout P p events → P (after p events)
+  -- the first pack, and the last one
+  pub at_start : (p : Pack) (events : List Event) → Throughout P p events → P p
+  at_start p [] r = r
+  at_start p (e ∷ events) r = r.0
+
+  pub at_end : (p : Pack) (events : List Event) → Throughout P p events → P (after p events)
   at_end p [] r = r
   at_end p (e ∷ events) r = at_end (after p (e ∷ [])) events r.1
 
+  -- a run that breaks off
+  pub broken_off : (p : Pack) (wanted events : List Event) → IsFirstOf wanted events → Throughout P p wanted → Throughout P p events
+  broken_off p wanted [] first r = at_start p wanted r
+  broken_off p [] (e ∷ events) first r = elim first [ ]
+  broken_off p (w ∷ wanted) (e ∷ events) first r = (r.0, subst (λ x. Throughout P (after p (x ∷ [])) events) (sym first.0) (broken_off (after p (w ∷ [])) wanted events first.1 r.1))
+
 -- a property that carries over
-throughout_map : (P Q : Pack → Type 0) → ((q : Pack) → P q → Q q) → (p : Pack) (events : List Event) → Throughout P p events → Throughout Q p events
+pub throughout_map : (P Q : Pack → Type 0) → ((q : Pack) → P q → Q q) → (p : Pack) (events : List Event) → Throughout P p events → Throughout Q p events
 throughout_map P Q g p [] r = g p r
 throughout_map P Q g p (e ∷ events) r = (g p r.0, throughout_map P Q g (after p (e ∷ [])) events r.1)
 
 -- what is kept of what is kept is kept
-kept_together : (kept : Pack → Pack → Type 0) → ((p q r : Pack) → kept p q → kept q r → kept p r) → KeptTogether kept
+pub kept_together : (kept : Pack → Pack → Type 0) → ((p q r : Pack) → kept p q → kept q r → kept p r) → KeptTogether kept
 kept_together kept trans p a b r s = run_on (kept p) p a b r (throughout_map (kept (after p a)) (kept p) (λ q k. trans p (after p a) q (at_end (kept p) p a r) k) (after p a) b s)
 
 -- what the Scavenger keeps
-keeps_trans : (p q r : Pack) → Keeps p q → Keeps q r → Keeps p r
+pub keeps_trans : (p q r : Pack) → Keeps p q → Keeps q r → Keeps p r
 keeps_trans p q r a b = record {
   shown = b.shown ∙ a.shown;
   balance = (let x = a.balance in let y = b.balance in omega arith);

@@ -13,7 +13,7 @@ use Rattle.pack_model.specs.reading.Sights.{Sight, sights}
 use Rattle.pack_model.specs.states.Whole.{Whole, WholeSights}
 use Rattle.laws_room.proofs.inside.Rooming.{counting_theorem}
 use Rattle.laws_record.proofs.DirReads.{has_leader}
-use Rattle.laws_room.proofs.inside.SystemFiles.{leader_shown, pages_read}
+use Rattle.laws_room.proofs.SystemFiles.{leader_shown, pages_read}
 use Rattle.laws_room.proofs.inside.WholeFiles.{available_free, files_complete}
 use Rattle.laws_room.specs.RoomLaws.{FreeIsTheRoom}
 

@@ -29,7 +29,7 @@ use Rattle.laws_record.proofs.Mending.{get-seen}
 use Rattle.laws_record.proofs.Reading.{get-found, read_file}
 use Rattle.laws_room.proofs.Each.{Each, each_entry}
 use Rattle.laws_room.proofs.FreeRoom.{root_lives}
-use Rattle.laws_room.proofs.inside.SystemFiles.{lacking_read}
+use Rattle.laws_room.proofs.SystemFiles.{lacking_read}
 use Rattle.laws_room.proofs.inside.WholeFiles.{files_complete}
 use Rattle.laws_room.specs.RoomLaws.{SoundNeedsNothing}
 
@@ -40,7 +40,7 @@ none_given names [] h = refl
 none_given names (e ∷ es) h = ap (λ c. unless c (e.0, chosen names e.1.leader.name) (given_names (cond c names (given names e.0 e.1)) es)) h.0 ∙ none_given names es h.1
 
 -- a file that an entry names has a home
-named_find : (f : Fid) (ns : List Naming) → list_any (λ n. is_fid n.fid f) ns ≡ true → is_some (find fid_cmp f (homes ns)) ≡ true
+pub named_find : (f : Fid) (ns : List Naming) → list_any (λ n. is_fid n.fid f) ns ≡ true → is_some (find fid_cmp f (homes ns)) ≡ true
 named_find f [] e = absurd cc
 named_find f (n ∷ ns) e = by (named_find f ns) (is_fid n.fid f) refl e
   where

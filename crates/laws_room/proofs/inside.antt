@@ -12,7 +12,6 @@ pub mod Marking
 pub mod Needing
 pub mod NeedsNext
 pub mod NextEntry
-pub mod NextLacking
 pub mod Pages
 pub mod Rooming
 pub mod RootEntries
@@ -21,6 +20,5 @@ pub mod RootTurns
 pub mod RootedAt
 pub mod SectorsUsed
 pub mod Shown
-pub mod SystemFiles
 pub mod Totals
 pub mod WholeFiles

@@ -1,13 +1,8 @@
 pub mod Tests
-pub mod Homes
-pub mod Choosing
-pub mod Passing
+pub mod Settling
 pub mod Slots
-pub mod Grouping
 pub mod Scanning
 pub mod Tidying
-pub mod SystemApart
-pub mod Following
 pub mod ShownFiles
 pub mod Showing
 pub mod Words

@@ -24,9 +24,9 @@ use Rattle.pack_model.specs.showing.Settling.{settle, settled, adopted}
 use Rattle.pack_model.specs.showing.Listing.{naming_of, naming_cmp, in_order}
 use Rattle.pack_laws.proofs.Keys.{same_fid}
 use Rattle.pack_laws.proofs.ByLists.{is_shown as shows}
+use Rattle.kept_names.specs.Homes.{considered}
 use Rattle.pack_reading.specs.declared.shown.Shown.{Shown}
 use Rattle.pack_reading.specs.declared.shown.ShownLengths.{ShownLengths}
-use Rattle.pack_reading.specs.Homes.{considered}
 use Rattle.pack_reading.specs.Lengths.{without_data, length_in, shown_length, ShowsLengths}
 use Rattle.pack_reading.specs.Shows.{shown_file, shown_name, ShowsView}
 use Rattle.pack_reading.proofs.ShownFiles.{stored_entries, view_files}

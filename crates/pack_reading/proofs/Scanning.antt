@@ -1,36 +1,21 @@
 -- The scan of all directories, entry by entry.
-use Rattle.std.proofs.Common.{◌≡◌, ℕ, ◌+◌, ◌<◌, ◌≤◌, Bool, true, false, cond, not, List, [], ◌∷◌, ◌++◌, length, take, drop, get_or, None, Some, refl, sym, ap, subst, ◌∙◌}
-use Rattle.std.specs.Prelude.{◌&&◌, ◌||◌, fold}
+use Rattle.std.proofs.Common.{◌≡◌, ℕ, ◌+◌, ◌<◌, ◌≤◌, Bool, true, cond, List, [], ◌∷◌, ◌++◌, length, take, drop, get_or, None, Some, refl, sym, ap, subst, ◌∙◌}
+use Rattle.std.specs.Prelude.{fold}
 use Rattle.std.specs.FinMap.{FinMap}
 use Rattle.std.proofs.lemmas.List.{append_assoc, append-nil, take_more}
 use Rattle.alto_words.specs.declared.fid.Fid.{Fid}
-use Rattle.alto_words.specs.Fid.{fid_cmp, is_fid, is_system, is_directory, sys_dir}
-use Rattle.alto_words.specs.Names.{is_same_name}
+use Rattle.alto_words.specs.Fid.{fid_cmp, is_directory}
 use Rattle.pack_model.specs.reading.Bytes.{words_of}
 use Rattle.pack_model.specs.reading.Slots.{Item, item_words, slot_at, slots}
 use Rattle.pack_model.specs.reading.Slots.Item.{space, entry}
 use Rattle.pack_model.specs.reading.Bodies.Body.{data_of, items_of}
-use Rattle.pack_model.specs.reading.Namings.{Naming, namings_in, body_namings, sys_dir_name, descriptor_name}
+use Rattle.pack_model.specs.reading.Namings.{namings_in, body_namings}
 use Rattle.pack_model.specs.showing.View.{Home}
+use Rattle.kept_names.specs.declared.names.Names.{Names}
+use Rattle.kept_names.specs.Homes.{considered, StandsFor}
 use Rattle.pack_reading.specs.declared.files.Found.{Found}
-use Rattle.pack_reading.specs.declared.names.Names.{Names}
-use Rattle.pack_reading.specs.Homes.{may_show, considered, namings_of, all_namings, StandsFor}
-use Rattle.pack_reading.proofs.Tests.{may_show_is}
+use Rattle.pack_reading.specs.Scans.{namings_of, all_namings}
 use Rattle.pack_reading.proofs.Slots.{slots-none, slots-some}
-
--- ---- which entries may stand
-module _ (lives : Fid → Bool) (e : Naming) where
-  pub may_in_root : is_system e.fid ≡ false → lives e.fid ≡ true → is_fid e.dir sys_dir ≡ true → not (is_same_name e.name sys_dir_name || is_same_name e.name descriptor_name) ≡ may_show lives e
-  may_in_root other alive root = sym (
-      may_show_is lives e
-      ∙ (λ i. not (other i) && (alive i && cond (root i) (not (is_same_name e.name sys_dir_name || is_same_name e.name descriptor_name)) (not (is_directory e.fid))))
-      )
-
-  pub may_elsewhere : is_system e.fid ≡ false → lives e.fid ≡ true → is_fid e.dir sys_dir ≡ false → not (is_directory e.fid) ≡ may_show lives e
-  may_elsewhere other alive away = sym (
-      may_show_is lives e
-      ∙ (λ i. not (other i) && (alive i && cond (away i) (not (is_same_name e.name sys_dir_name || is_same_name e.name descriptor_name)) (not (is_directory e.fid))))
-      )
 
 -- ---- many entries
 pub fold-append : {X Y : Type 0} (g : Y → X → Y) (z : Y) (xs ys : List X) → fold g z (xs ++ ys) ≡ fold g (fold g z xs) ys

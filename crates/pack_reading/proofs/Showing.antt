@@ -22,19 +22,21 @@ use Rattle.pack_model.specs.showing.Settling.{settle, settled}
 use Rattle.pack_model.specs.showing.Listing.{naming_of, naming_cmp, in_order}
 use Rattle.pack_laws.proofs.Keys.{fid_total, fid_same}
 use Rattle.pack_laws.proofs.ByLists.{is_shown as shows}
+use Rattle.kept_names.specs.declared.names.Entry.{Entry}
+use Rattle.kept_names.specs.declared.names.Names.{Names}
+use Rattle.kept_names.specs.Homes.{naming_at, considered, StandsFor}
+use Rattle.kept_names.proofs.Scanned.{files_scanned, scanned}
+use Rattle.kept_names.proofs.Following.{follow_all, follows_none}
 use Rattle.pack_reading.specs.declared.files.Found.{Found}
-use Rattle.pack_reading.specs.declared.names.Entry.{Entry}
-use Rattle.pack_reading.specs.declared.names.Names.{Names}
 use Rattle.pack_reading.specs.declared.swept.Leaders.{Leaders}
 use Rattle.pack_reading.specs.declared.swept.Swept.{Swept}
 use Rattle.pack_reading.specs.declared.shown.Shown.{Shown}
 use Rattle.pack_reading.specs.declared.shown.ShownFile.{ShownFile}
 use Rattle.pack_reading.specs.Kept.{plain_leader, leader_kept, lives_kept, found_in, found_of, HoldsSights}
 use Rattle.pack_reading.specs.Files.{is_shown, shown_of}
-use Rattle.pack_reading.specs.Homes.{naming_at, considered, namings_of, all_namings, StandsFor}
+use Rattle.pack_reading.specs.Scans.{namings_of, all_namings}
 use Rattle.pack_reading.specs.Shows.{shown_file, seen_file, shown_name, ShowsView}
-use Rattle.pack_reading.proofs.Tidying.{model_files, files_scanned, described_namings, scanned}
-use Rattle.pack_reading.proofs.Following.{follow_all, follows_none}
+use Rattle.pack_reading.proofs.Tidying.{model_files, described_namings}
 use Rattle.pack_reading.proofs.ShownFiles.{found_are, view_files, each_shown, seen_shown}
 
 -- ---- the names that stand in directories
@@ -61,7 +63,7 @@ view_names shape ss =
     ∙ files_scanned (is_kept (lives ss)) [] (where_key fid_cmp is_described (map_entries file_of (entries (files_shown ss))))
     ∙ ap (scanned (is_kept (lives ss)) []) (described_namings (entries (files_shown ss))) in
     same_map fid_total fid_same _ _ (λ q.
-    follow_all (lives ss) ns [] [] (empty {R = fid_cmp}) follows_none q
+    (follow_all (lives ss) ns [] [] (empty {R = fid_cmp}) follows_none).has q
     ∙ ap (λ l. cond (is_system q) None (find fid_cmp q (homes l))) (sym kept)
     ∙ sym (names_get (read_sights shape ss) q))
 

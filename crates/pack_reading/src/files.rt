@@ -1,8 +1,8 @@
 // The living files, and those that are shown.
-ghost use Rattle.std.specs.Prelude.{◌≡◌, not, map, IfOk};
+ghost use Rattle.std.specs.Prelude.{◌≡◌, map, IfOk};
 ghost use Rattle.std.specs.BTreeMap.{IsOrdered};
 ghost use Rattle.std.specs.List.{filter};
-ghost use Rattle.alto_words.specs.Fid.{fid_cmp, is_system};
+ghost use Rattle.alto_words.specs.Fid.{fid_cmp};
 ghost use Rattle.pack_reading.specs.Kept.{found_in};
 ghost use Rattle.pack_reading.specs.Files.{is_shown, shown_of};
 
@@ -10,6 +10,7 @@ use crate::bytes::file_bytes;
 use crate::shown::ShownFile;
 use crate::swept::{Leaders, Pages};
 use alto_words::{Fid, List, Memory};
+use kept_names::is_system;
 use leader_page::Leader;
 use std::alloc::Global;
 
@@ -19,13 +20,6 @@ pub(crate) struct Found {
     pub(crate) fid: Fid,
     pub(crate) leader: Leader,
     pub(crate) bytes: List<u8>,
-}
-
-/// Whether this is one of the two system files, which aren't shown.
-pub(crate) fn is_system(fid: Fid) -> bool
-    ensures { result ≡ is_system fid }
-{
-    fid == Fid::SYS_DIR || fid == Fid::DISK_DESCRIPTOR
 }
 
 /// The living files, rising by full name. The pages of each are let go as its bytes are joined.

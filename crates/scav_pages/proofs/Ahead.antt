@@ -5,7 +5,7 @@ use Rattle.disk_records.specs.Packs.{Pack}
 use Rattle.disk_records.specs.Tapes.{Taped, pack}
 use Rattle.pack_laws.proofs.Sighted.{length-sights}
 use Rattle.pack_model.specs.reading.Sights.{sights}
-use Rattle.pack_model.specs.states.InUse.{how_many, is_free_sight, one_if}
+use Rattle.pack_model.specs.states.InUse.{free_sector_count, how_many, is_free_sight, one_if}
 use Rattle.laws_mend.specs.Parts.{FreesMore}
 use Rattle.scav_table.specs.declared.row.Row.{Row}
 use Rattle.scav_table.specs.Passes.{IsNext}
@@ -26,7 +26,7 @@ ahead_falls (Some b) row next =
     omega (arith, low, more)
 
 -- ---- how many sectors are freed
-few_pass : {X : Type 0} (test : X → Bool) (xs : List X) → how_many test xs ≤ length xs
+pub few_pass : {X : Type 0} (test : X → Bool) (xs : List X) → how_many test xs ≤ length xs
 few_pass test [] = omega arith
 few_pass test (x ∷ xs) = let rest = few_pass test xs in let one = at_most (test x) in omega (arith, rest, one)
   where
@@ -34,9 +34,10 @@ few_pass test (x ∷ xs) = let rest = few_pass test xs in let one = at_most (tes
     at_most true = omega arith
     at_most false = omega arith
 
--- no more than the sectors of a machine, so one more is counted
+-- no more than the sectors of the pack
+pub free_few : (p : Pack) → free_sector_count (sights p) ≤ length p.sectors
+free_few p = let few = few_pass is_free_sight (sights p) in omega (arith, few, length-sights p)
+
+-- those are few on a machine, so one more is counted
 pub counts_on : {p : Pack} {more : ℕ} (t : Taped) (freed : ℕ) → length t.base ≡ pages_of t.form → FreesMore p (pack t) (freed + 1) → more ≡ min (freed + 1) 4294967295 → more ≡ freed + 1
-counts_on t freed sized frees is =
-    let all = frees.free in
-    let few = few_pass is_free_sight (sights (pack t)) in
-    omega (arith, all, few, length-sights (pack t), few_sectors t sized, is)
+counts_on t freed sized frees is = let all = frees.free in omega (arith, all, free_few (pack t), few_sectors t sized, is)

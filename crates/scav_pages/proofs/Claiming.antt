@@ -1,15 +1,15 @@
 -- A page that is missing is claimed at the lowest free sector.
-use Rattle.std.proofs.Common.{◌≡◌, ◌≢◌, ℕ, ◌+◌, ◌<◌, ◌≤◌, ◌==◌, nat_lt, Bool, true, false, cond, IsTrue, List, get_or, length, replicate, Some, Result, Err, refl, sym, ap, subst, ◌∙◌, arith}
-use Rattle.std.specs.Prelude.{IsErrAnd}
+use Rattle.std.specs.Option.{option_map_or}
+use Rattle.std.proofs.Common.{◌≡◌, ◌≢◌, ℕ, ◌+◌, ◌<◌, ◌≤◌, ◌==◌, nat_lt, Bool, true, false, cond, List, get_or, length, replicate, Option, Some, refl, sym, ap, subst, ◌∙◌, arith}
 use Rattle.std.proofs.lemmas.Bool.Decides.{nat_tests}
 use Rattle.std.proofs.lemmas.List.{get_or-replicate}
 use Rattle.std.proofs.lemmas.Option.{cond_some}
-use Rattle.alto_words.specs.Fid.{is_full_name, sys_dir}
+use Rattle.alto_words.specs.Fid.{disk_descriptor, is_full_name, sys_dir}
 use Rattle.disk_records.specs.declared.records.Page.{Page}
 use Rattle.disk_records.specs.Commands.{claim_writes}
 use Rattle.disk_records.specs.Labels.{in_range, is_free, label_of, page_of, tag}
 use Rattle.disk_records.specs.Packs.{Pack, after, carried, is_free_at, sector_at}
-use Rattle.disk_records.specs.Tapes.{Grown, Looks, Taped, added, pack}
+use Rattle.disk_records.specs.Tapes.{Taped, added, pack}
 use Rattle.disk_records.proofs.Growing.{pack-after}
 use Rattle.pack_model.specs.reading.Files.{carries_page, place}
 use Rattle.pack_model.specs.reading.Leaders.{Leader}
@@ -23,42 +23,27 @@ use Rattle.pack_laws.proofs.Guarding.{carried_parts, named_taken}
 use Rattle.pack_laws.proofs.guards.Laws.{claim_takes_at_the_label}
 use Rattle.pack_laws.proofs.Keys.{is_fid-itself}
 use Rattle.pack_laws.proofs.Sighted.{length-sights}
+use Rattle.laws_record.proofs.DirReads.{not_descriptor}
 use Rattle.laws_operation.proofs.Lying.{within}
 use Rattle.laws_room.specs.MarkLaws.{OtherMark}
-use Rattle.laws_mend.specs.Tending.{AllTends}
 use Rattle.laws_mend.proofs.joins.Laws.{tending_ends}
+use Rattle.laws_mend.proofs.parts.Laws.{last_claim_leaves}
 use Rattle.laws_mend.proofs.runs.Laws.{descriptor_claim_tends, last_claim_tends}
-use Rattle.scav_pages.specs.declared.errors.Stop.{Stop}
-use Rattle.scav_pages.specs.declared.errors.Stop.TheVariants.{Astray, Memory}
-use Rattle.scav_pages.specs.Does.{Does}
+use Rattle.laws_mend.specs.Tending.{AllTends}
 use Rattle.scav_pages.specs.Ends.{IsWanted, MayClaim}
 use Rattle.scav_pages.specs.Ends.IsWanted.{ends, describes}
 use Rattle.scav_pages.specs.Free.{IsNextFree, NoneFreeBelow, NoneFreeFrom}
-use Rattle.scav_pages.proofs.Doing.{Going, error_is}
-use Rattle.scav_pages.proofs.Passing.{tends_added, tends_looks, want_added}
+use Rattle.scav_pages.specs.Keeping.{KeepsFiles}
+use Rattle.scav_pages.proofs.Changing.{claim_changes}
+use Rattle.scav_pages.proofs.Doing.{Going}
+use Rattle.scav_pages.proofs.Keeping.{Mends, data_keeps, keeps_bytes}
+use Rattle.scav_pages.proofs.Leading.{free_carries, leaders_beside, leading}
+use Rattle.scav_pages.proofs.Rooting.{root_page}
 
 -- ---- a part of mending in another
 -- what can be scavenged can be scavenged once it has gone on
 pub going_scavengeable : {a b : Taped} → Going a b → Scavengeable (pack a) → Scavengeable (pack b)
-going_scavengeable {a} {b} x s = subst Scavengeable (sym (pack-after x.grown)) ((tending_ends (pack a) (added a b) x.tends).last.keeps.scavengeable s)
-
--- a part that ends early, with the error that is answered
-pub does_stop_part : {a b c : Taped} {S T : Type 0} {Part : Pack → Pack → S → Type 0} {Leaves : Pack → Pack → T → Type 0} (e : Stop) (result : Result T Stop) → Going a b → Grown b c → Does Part b c (Err e) → IsErrAnd result (λ s. s ≡ e) → Does Leaves a c result
-does_stop_part {a} {b} {c} {T = T} {Leaves = Leaves} e result x y d is = subst (Does Leaves a c) (sym (error_is result is)) (record {
-  leaves = tt;
-  found = λ astray. (let same : e ≡ Astray = cc in d.found (ap Err same));
-  want = λ memory. (let same : e ≡ Memory = cc in want_added x.grown y (d.want (ap Err same)));
-  tends = tends_added x.grown y x.tends d.tends;
-})
-
--- a look that fails
-pub does_stop_look : {told : Bool} {most : ℕ} {a b : Taped} {T : Type 0} {Leaves : Pack → Pack → T → Type 0} (e : Stop) (result : Result T Stop) → Looks told most a b → IsTrue told → (e ≡ Astray → ⊥) → (e ≡ Memory → ⊥) → IsErrAnd result (λ s. s ≡ e) → Does Leaves a b result
-does_stop_look {a = a} {b = b} {Leaves = Leaves} e result looks told found want is = subst (Does Leaves a b) (sym (error_is result is)) (record {
-  leaves = tt;
-  found = λ astray. (let same : e ≡ Astray = cc in found same);
-  want = λ memory. (let same : e ≡ Memory = cc in absurd (want same));
-  tends = tends_looks looks told;
-})
+going_scavengeable {a} {b} x s = subst Scavengeable (sym (pack-after x.grown)) ((tending_ends (pack a) (added a b) x.mends.tends).last.keeps.scavengeable s)
 
 -- ---- labels
 -- the label of a page names it, and a label that names a page is in range
@@ -70,14 +55,11 @@ pub named_ranged : (label : List ℕ) (page : Page) → page_of label ≡ Some p
 named_ranged label page names = (cond_some (in_range (tag label)) _ page names).0
 
 -- ---- sector 1
-abbrev pub root_page : Page
-root_page = record { fid = sys_dir; number = 0 }
-
-pub root_carried : (p : Pack) (l : Leader) (readable : Bool) → get_or (sights p) 1 hidden ≡ leads sys_dir readable l → carried p 1 ≡ Some root_page
+pub root_carried : (p : Pack) (l : Leader) (readable : Bool) → get_or (sights p) 1 hidden ≡ leads sys_dir readable l → carried p 1 ≡ Some (root_page 0)
 root_carried p l readable shows =
     let inside : 1 < length (sights p) = within (sights p) 1 (ap good_one shows) in
     let long = length-sights p in
-    carried_shown p 1 root_page hidden (omega arith) (ap (carries_page sys_dir 0) shows ∙ is_fid-itself sys_dir)
+    carried_shown p 1 (root_page 0) hidden (omega arith) (ap (carries_page sys_dir 0) shows ∙ is_fid-itself sys_dir)
 
 pub carried_not_free : (p : Pack) (at : ℕ) (page : Page) → carried p at ≡ Some page → is_free_at p at ≡ false
 carried_not_free p at page e =
@@ -92,12 +74,21 @@ not_root p at root free same = (let no : true ≡ false = sym free ∙ ap (is_fr
 zeros_unmarked : OtherMark (replicate 256 0)
 zeros_unmarked e = omega (arith, e, get_or-replicate {A = ℕ} 256 0 6 0)
 
-pub claim_tends : (p : Pack) (page : Page) (bytes from at : ℕ) (label : List ℕ) → MayClaim p page bytes from → is_free_at p at ≡ true → page_of label ≡ Some page → (tag label).bytes ≡ bytes → AllTends p (claim_writes at label (replicate 256 0))
-claim_tends p page bytes from at label may free names count = by may.wanted
+pub claim_mends : (p : Pack) (page : Page) (bytes from at : ℕ) (label : List ℕ) → MayClaim p page bytes from → is_free_at p at ≡ true → page_of label ≡ Some page → (tag label).bytes ≡ bytes → Mends p (claim_writes at label (replicate 256 0))
+claim_mends p page bytes from at label may free names count = record {
+  each = record { tends = by may.wanted; changes = claim_changes p at page label (replicate 256 0) free names };
+  keeps = kept may.wanted;
+}
   where
     by : IsWanted p page bytes → AllTends p (claim_writes at label (replicate 256 0))
     by (ends none apart number) = last_claim_tends p at page label (replicate 256 0) free (not_root p at may.root free) names apart (count ∙ none) number may.lacks
     by (describes n is) = descriptor_claim_tends p at n label (replicate 256 0) free (not_root p at may.root free) (names ∙ ap Some is) (ap (λ (x : Page). place (sights p) x.fid x.number) (sym is) ∙ may.lacks) zeros_unmarked
+
+    kept : IsWanted p page bytes → KeepsFiles p (after p (claim_writes at label (replicate 256 0)))
+    kept (ends none apart number) =
+        let claimed = last_claim_leaves p at page label (replicate 256 0) free (not_root p at may.root free) names apart (count ∙ none) number may.lacks in
+        keeps_bytes claimed.lives_are (leaders_beside ((claim_takes_at_the_label p at page label (replicate 256 0) 3 free names).taken (omega arith)) claimed.lives_are (λ g. free_carries p at (leading g) free) (λ g same. (let is : page.number ≡ 0 = ap (λ (o : Option Page). option_map_or (λ x. x.number) o 0) same in omega (arith, is, number)))) (λ d live dir. claimed.bytes_are d)
+    kept (describes n is) = data_keeps p at disk_descriptor label (replicate 256 0) free n (names ∙ ap Some is) (λ d live dir. not_descriptor d dir)
 
 -- the sector isn't free then, and the others are as they were
 pub claim_takes : (p q : Pack) (page : Page) (at : ℕ) (label value : List ℕ) → is_free_at p at ≡ true → page_of label ≡ Some page → q ≡ after p (claim_writes at label value) → ComesToHold at page label value p q

@@ -11,8 +11,8 @@ use Rattle.disk_records.proofs.Looking.{looks_pack}
 use Rattle.label_check.specs.Guarded.{Carries, DoneWhole}
 use Rattle.laws_contents.proofs.pages.Laws.{once_is_by_labels}
 use Rattle.laws_mend.specs.Parts.{FreesMore}
-use Rattle.laws_mend.specs.Tending.{AllTends}
 use Rattle.laws_mend.proofs.numbers.Laws.{copy_release_frees, frees_join}
+use Rattle.laws_mend.proofs.parts.Laws.{copy_release_leaves}
 use Rattle.laws_mend.proofs.runs.Laws.{copy_release_tends}
 use Rattle.pack_model.specs.reading.Sights.{sights}
 use Rattle.pack_model.specs.states.Sentences.{EachOnce}
@@ -25,10 +25,12 @@ use Rattle.scav_table.specs.Windows.{Window}
 use Rattle.scav_pages.specs.Does.{Does}
 use Rattle.scav_pages.specs.Parts.{CopiesReleased}
 use Rattle.scav_pages.specs.Walks.{AreWords}
+use Rattle.scav_pages.proofs.Changing.{release_changes}
 use Rattle.scav_pages.proofs.Doing.{Going, does_ok, going_done, going_here, going_looks, pack_done}
-use Rattle.scav_pages.proofs.Passing.{carried_row, contrary, row_carried}
-use Rattle.scav_pages.proofs.Ranking.{above_last, above_or, between_pages, page_rank, rank_is, row_ranged}
-use Rattle.scav_pages.proofs.Releasing.{Released, met, met_before, row_goes, some_row, stands_released}
+use Rattle.scav_pages.proofs.Keeping.{Mends, keeps_released}
+use Rattle.scav_pages.proofs.Passing.{carried_row, contrary, row_carried, some_row}
+use Rattle.scav_pages.proofs.Ranking.{above_last, above_or, between_pages, met_or_next, page_rank, rank_is, row_ranged}
+use Rattle.scav_pages.proofs.Releasing.{Released, met_before, row_goes, stands_released}
 
 -- ---- the rows that were met
 -- Of those up to the row in hand no two have one page, and a sector at or below the row in hand carries its page.
@@ -66,22 +68,19 @@ module _ (p : Pack) (last : Option Row) (row : Row) (words : AreWords row) (firs
 
   pub apart_next : AreApart p last → ((b : Row) → last ≡ Some b → b.page ≢ row.page) → AreApart p (Some row)
   apart_next old other = record {
-    apart = λ i j r s ri sj lr ls same. elim (met p last row words first i r ri lr) [
-      | inl a ↦ elim (met p last row words first j s sj ls) [
+    apart = λ i j r s ri sj lr ls same. elim (met_or_next p last row first i r ri lr) [
+      | inl a ↦ elim (met_or_next p last row first j s sj ls) [
         | inl b ↦ old.apart i j r s ri sj a b same
-        | inr here ↦ absurd (none_met old other i r ri a (same ∙ ap (λ x. x.page) (row_here j s here sj)))
+        | inr here ↦ absurd (none_met old other i r ri a (same ∙ ap (λ x. x.page) here.1))
       ]
-      | inr here ↦ elim (met p last row words first j s sj ls) [
-        | inl b ↦ absurd (none_met old other j s sj b (sym same ∙ ap (λ x. x.page) (row_here i r here ri)))
-        | inr there ↦ here ∙ sym there
+      | inr here ↦ elim (met_or_next p last row first j s sj ls) [
+        | inl b ↦ absurd (none_met old other j s sj b (sym same ∙ ap (λ x. x.page) here.1))
+        | inr there ↦ here.0 ∙ sym there.0
       ]
     ];
     words = λ r e. subst AreWords (some_row e) words;
     carried_low = λ r e. (let is : row ≡ r = some_row e in (row.at, (let same : row.at ≡ r.at = ap (λ x. x.at) is in omega (arith, same)), carried_row p row.at row first.here ∙ ap (λ x. Some x.page) is));
   }
-    where
-      row_here : (i : ℕ) (r : Row) → i ≡ row.at → row_at p i ≡ Some r → r ≡ row
-      row_here i r here is = some_row (sym is ∙ ap (row_at p) here ∙ first.here)
 
   -- after the same page it is a second copy
   pub record IsSecond : Type 0 where
@@ -107,10 +106,10 @@ module _ (p : Pack) (last : Option Row) (row : Row) (words : AreWords row) (firs
   }
     where
       gone : Released p row
-      gone = row_goes p last row words first
+      gone = row_goes p last row first
 
       before : (i : ℕ) (r : Row) → row_at (after p (release_writes row.at)) i ≡ Some r → is_below row r ≡ false → (row_at p i ≡ Some r) × (is_above last r ≡ false)
-      before = met_before p last row words first
+      before = met_before p last row first
 
 -- ---- the pass so far
 -- so many second copies up to the row in hand were released
@@ -143,8 +142,14 @@ module _ {told : Bool} {most freed : ℕ} {a b c : Taped} {last : Option Row} {r
     pub copy_here : carried (pack c) row.at ≡ Some row.page
     copy_here = subst (λ p. carried p row.at ≡ Some row.page) (sym (looks_pack looks h)) (carried_row (pack b) row.at row first.here)
 
-    pub copy_tends : AllTends (pack c) (release_writes row.at)
-    copy_tends = subst (λ p. AllTends p (release_writes row.at)) (sym (looks_pack looks h)) (copy_release_tends (pack b) row.at second.lower row.page (carried_row (pack b) row.at row first.here) second.carries second.less)
+    pub copy_mends : Mends (pack c) (release_writes row.at)
+    copy_mends = subst (λ p. Mends p (release_writes row.at)) (sym (looks_pack looks h)) (record {
+      each = record {
+        tends = copy_release_tends (pack b) row.at second.lower row.page (carried_row (pack b) row.at row first.here) second.carries second.less;
+        changes = release_changes (pack b) row.at row.page (carried_row (pack b) row.at row first.here);
+      };
+      keeps = keeps_released (pack b) row.at row.page (carried_row (pack b) row.at row first.here) (copy_release_leaves (pack b) row.at second.lower row.page (carried_row (pack b) row.at row first.here) second.carries second.less);
+    })
 
     -- which is released
     pub copies_released : {d : Taped} → Grown c d → DoneWhole (Carries row.at row.page) (release_writes row.at) 2 c d → CopiesTo a d (Some row) (freed + 1)
@@ -154,7 +159,7 @@ module _ {told : Bool} {most freed : ℕ} {a b c : Taped} {last : Option Row} {r
           apart = subst (λ p. AreApart p (Some row)) (sym now) (apart_released (pack b) last row words first so_far.apart second);
           frees = subst (λ q. FreesMore (pack a) q (freed + 1)) (sym now)
               (frees_join (pack a) (pack b) (after (pack b) (release_writes row.at)) freed 1 so_far.frees (copy_release_frees (pack b) row.at second.lower row.page (carried_row (pack b) row.at row first.here) second.carries second.less));
-          going = going_done (going_looks so_far.going looks h) grown copy_tends done;
+          going = going_done (going_looks so_far.going looks h) grown copy_mends done;
         }
 
 -- ---- all rows

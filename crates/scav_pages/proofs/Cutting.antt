@@ -11,16 +11,18 @@ use Rattle.disk_records.specs.Labels.{in_range, label_of, page_of, tag}
 use Rattle.disk_records.specs.Packs.{Pack, after, carried, sector_at}
 use Rattle.disk_records.specs.Words.{word}
 use Rattle.pack_model.specs.hints.Links.{dir_words}
+use Rattle.pack_model.specs.reading.Bytes.{words_of}
 use Rattle.pack_model.specs.reading.Files.{file_bytes, lives, place}
 use Rattle.pack_model.specs.reading.Sights.{sights}
 use Rattle.pack_model.specs.reading.Slots.{SlotsReachEnd, all_words, slots}
 use Rattle.pack_laws.proofs.files.Laws.{places_are_lowest}
 use Rattle.pack_laws.proofs.guards.Laws.{relabel_keeps_the_page}
 use Rattle.pack_laws.proofs.Keys.{same_fid}
+use Rattle.laws_record.proofs.Heads.{all_read}
 use Rattle.laws_contents.proofs.pages.Laws.{page_numbers_are_words}
+use Rattle.laws_operation.proofs.Widening.{directory_length}
 use Rattle.laws_mend.specs.PartLaws.{DirectoryIsCut}
 use Rattle.laws_mend.specs.Parts.{Cleared, FreesMore}
-use Rattle.laws_mend.specs.Tending.{AllTends}
 use Rattle.laws_mend.proofs.counting.Laws.{directory_reaches_its_end}
 use Rattle.laws_mend.proofs.numbers.Laws.{directory_cut_frees}
 use Rattle.laws_mend.proofs.parts.Laws.{directory_cut_leaves}
@@ -30,6 +32,9 @@ use Rattle.scav_pages.specs.declared.files.FileWalk.{FileWalk}
 use Rattle.scav_pages.specs.Directories.{IsRead, MayBeCut}
 use Rattle.scav_pages.specs.Parts.{DirectoryEnds, RelabelsHand}
 use Rattle.scav_pages.specs.Walks.{file_in_hand}
+use Rattle.scav_pages.proofs.Changing.{relabel_changes, relabel_same}
+use Rattle.scav_pages.proofs.Keeping.{Mends, keeps_slots}
+use Rattle.scav_pages.proofs.Leading.{leaders_beside, other_number}
 use Rattle.scav_pages.proofs.Passing.{relabel_at, row_carried, row_placed}
 
 -- ---- labels
@@ -133,8 +138,33 @@ module _ (p : Pack) (dir : Directory) (fid : Fid) (cleared : Cleared p) (hand : 
             let plain : 512 * (dir.slots.place / 256) + 2 * dir.slots.place % 512 ≡ dir.slots.place * 2 = omega arith in
             ap (λ n. 512 * (dir.slots.place / 256) + n) count ∙ plain ∙ ap (λ n. n * 2) read.end
 
-        pub cut_tends : AllTends p (relabel_writes dir.at label (sector_at p dir.at).value)
-        cut_tends = directory_cut_tends p fid dir.at (dir.slots.place / 256) label isdir seat names less sum
+        cut : DirectoryIsCut p (after p (relabel_writes dir.at label (sector_at p dir.at).value)) fid
+        cut = directory_cut_leaves p fid dir.at (dir.slots.place / 256) label isdir seat names less sum
+
+        -- the label that stands doesn't end the directory with its slots
+        other_label : label ≢ (sector_at p dir.at).label
+        other_label same =
+            let whole : SlotsReachEnd (file_bytes (sights p) fid) = subst (λ x. SlotsReachEnd (file_bytes (sights x) fid)) (relabel_same p dir.at label same) (cut.ends alive) in
+            let all = all_read (dir_words p fid) whole.items whole.reads in
+            let long = directory_length whole.items (file_bytes (sights p) fid) whole.even all.1 in
+            let end : dir.slots.place ≡ all_words whole.items = read.end ∙ ap all_words all.0 in
+            differs (omega (arith, long, end, read.size))
+
+        pub cut_mends : Mends p (relabel_writes dir.at label (sector_at p dir.at).value)
+        cut_mends = record {
+          each = record {
+            tends = directory_cut_tends p fid dir.at (dir.slots.place / 256) label isdir seat names less sum;
+            changes = relabel_changes p dir.at label (sector_at p dir.at).value other_label;
+          };
+          keeps = keeps_slots cut.lives_are (leaders_beside (relabel_keeps_the_page p dir.at (record { fid = fid; number = suc (dir.slots.place / 256) }) label 2 here names (omega arith)) cut.lives_are (λ f e. other_number fid f (dir.slots.place / 256) (sym here ∙ e)) (λ f. other_number fid f (dir.slots.place / 256))) (λ d live other_dir. slots_or d live (is_fid d fid) refl);
+        }
+          where
+            here : carried p dir.at ≡ Some (record { fid = fid; number = suc (dir.slots.place / 256) })
+            here = ((places_are_lowest p (record { fid = fid; number = suc (dir.slots.place / 256) })).lowest dir.at seat).here
+
+            slots_or : (d : Fid) → lives (sights p) d ≡ true → (t : Bool) → is_fid d fid ≡ t → slots (dir_words (after p (relabel_writes dir.at label (sector_at p dir.at).value)) d) ≡ slots (dir_words p d)
+            slots_or d live true e = subst (λ f. slots (dir_words (after p (relabel_writes dir.at label (sector_at p dir.at).value)) f) ≡ slots (dir_words p f)) (sym (same_fid d fid e)) (cut.slots_are alive)
+            slots_or d live false e = ap (λ bytes. slots (words_of bytes)) (cut.others d e)
 
         pub cut_ends : (q : Pack) → q ≡ after p (relabel_writes dir.at label (sector_at p dir.at).value) → DirectoryEnds dir p q tt
         cut_ends q left = subst (λ x. DirectoryEnds dir p x tt) (sym left) (record {
@@ -148,9 +178,6 @@ module _ (p : Pack) (dir : Directory) (fid : Fid) (cleared : Cleared p) (hand : 
           where
             r : Pack
             r = after p (relabel_writes dir.at label (sector_at p dir.at).value)
-
-            cut : DirectoryIsCut p r fid
-            cut = directory_cut_leaves p fid dir.at (dir.slots.place / 256) label isdir seat names less sum
 
             not_hand : (f : Fid) (t : Bool) → is_fid f fid ≡ t → file_in_hand dir.walk ≢ Some f → is_fid f fid ≡ false
             not_hand f true e other = absurd (other (hand ∙ ap Some (sym (same_fid f fid e))))

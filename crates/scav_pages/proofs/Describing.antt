@@ -12,30 +12,37 @@ use Rattle.disk_records.specs.Commands.{claim_writes, relabel_writes}
 use Rattle.disk_records.specs.Labels.{page_of, tag}
 use Rattle.disk_records.specs.Packs.{AreFormed, Pack, after, carried, is_free_at, sector_at}
 use Rattle.disk_records.specs.Words.{word}
+use Rattle.leader_page.specs.Pages.{Says}
 use Rattle.pack_model.specs.reading.Files.{file_bytes, lives, place}
 use Rattle.pack_model.specs.reading.Sights.{sights}
 use Rattle.pack_model.specs.scavenger.Scavenging.{Scavengeable}
 use Rattle.pack_model.specs.sessions.Descriptor.{data_pages}
 use Rattle.pack_model.specs.states.Sentences.{HasLastPage}
 use Rattle.pack_laws.specs.GuardLaws.{ComesToHold}
+use Rattle.pack_laws.proofs.files.Laws.{places_are_lowest}
 use Rattle.pack_laws.proofs.guards.Laws.{relabel_keeps_the_page}
 use Rattle.pack_laws.proofs.Guarding.{carried_parts}
 use Rattle.pack_laws.proofs.Keys.{is_fid-itself}
 use Rattle.laws_record.proofs.Copying.{place_carried}
+use Rattle.laws_record.proofs.DirReads.{not_descriptor}
 use Rattle.laws_contents.specs.PageLaws.{bytes_at}
 use Rattle.laws_contents.proofs.pages.Laws.{formed_pages_have_256_words, labels_count}
 use Rattle.laws_operation.proofs.places.Laws.{file_lives_in_a_place}
 use Rattle.laws_mend.specs.PartLaws.{DescriptorPageWritten, IsDescribed, IsDescribedWhole}
 use Rattle.laws_mend.specs.Parts.{Lasting}
-use Rattle.laws_mend.specs.Tending.{AllTends}
 use Rattle.laws_mend.proofs.numbers.Laws.{lacking_descriptor_page_is_free}
 use Rattle.laws_mend.proofs.parts.Laws.{described_is_lasting, descriptor_claim_leaves, descriptor_count_leaves, descriptor_leader_makes_lasting}
 use Rattle.laws_mend.proofs.runs.Laws.{descriptor_count_tends, descriptor_leader_tends}
 use Rattle.scav_pages.specs.Ends.{ArePlaces, MayClaim, MayDescribePage}
 use Rattle.scav_pages.specs.Ends.IsWanted.{describes}
 use Rattle.scav_pages.specs.Free.{NoneFreeBelow, NoneFreeFrom}
+use Rattle.scav_pages.specs.Fresh.{fresh_leader}
 use Rattle.scav_pages.specs.Parts.{PageClaimed}
-use Rattle.scav_pages.proofs.Claiming.{carried_not_free, claim_takes, not_root, root_carried, root_page}
+use Rattle.scav_pages.proofs.Changing.{claim_changes, relabel_changes}
+use Rattle.scav_pages.proofs.Claiming.{carried_not_free, claim_takes, not_root, root_carried}
+use Rattle.scav_pages.proofs.Keeping.{Mends, keeps_bytes, leader_keeps}
+use Rattle.scav_pages.proofs.Leading.{leaders_beside, leads_new, other_number}
+use Rattle.scav_pages.proofs.Rooting.{root_page}
 
 -- ---- pages and their places
 pub few_data_pages : (shape : Shape) → data_pages shape ≤ 5
@@ -51,7 +58,7 @@ placed_first p f n at e = by (nat_lt 0 at) refl (carried_parts p at (record { fi
     by true e h = grind (arith, nat_tests, e)
     by false e h = cc
 
-no_place_at : (p : Pack) (places : List ℕ) (n : ℕ) → ArePlaces p places → n < 6 → get_or places n 0 ≡ 0 → place (sights p) disk_descriptor n ≡ None
+pub no_place_at : (p : Pack) (places : List ℕ) (n : ℕ) → ArePlaces p places → n < 6 → get_or places n 0 ≡ 0 → place (sights p) disk_descriptor n ≡ None
 no_place_at p places n are few none = by (place (sights p) disk_descriptor n) refl
   where
     by : (o : Option ℕ) → place (sights p) disk_descriptor n ≡ o → o ≡ None
@@ -61,7 +68,7 @@ no_place_at p places n are few none = by (place (sights p) disk_descriptor n) re
         let here : at ≡ 0 = sym (are n few ∙ ap (λ o. option_map_or (λ i. i) o 0) e) ∙ none in
         absurd (omega (arith, first, here))
 
-some_place_at : (p : Pack) (places : List ℕ) (n : ℕ) → ArePlaces p places → n < 6 → get_or places n 0 ≢ 0 → place (sights p) disk_descriptor n ≡ Some (get_or places n 0)
+pub some_place_at : (p : Pack) (places : List ℕ) (n : ℕ) → ArePlaces p places → n < 6 → get_or places n 0 ≢ 0 → place (sights p) disk_descriptor n ≡ Some (get_or places n 0)
 some_place_at p places n are few some = by (place (sights p) disk_descriptor n) refl
   where
     by : (o : Option ℕ) → place (sights p) disk_descriptor n ≡ o → o ≡ Some (get_or places n 0)
@@ -86,7 +93,7 @@ module _ (p : Pack) (number from : ℕ) (places : List ℕ) (may : MayDescribePa
   pred_number = omega (arith, some)
 
   pub root_not_free : is_free_at p 1 ≡ false
-  root_not_free = carried_not_free p 1 root_page (root_carried p may.rooted.root.0 may.rooted.root.1 may.rooted.root.2)
+  root_not_free = carried_not_free p 1 (root_page 0) (root_carried p may.rooted.root.0 may.rooted.root.1 may.rooted.root.2)
 
   -- where no sector is noted
   pub lacks_page : get_or places number 0 ≡ 0 → place (sights p) disk_descriptor number ≡ None
@@ -174,8 +181,14 @@ module _ (p : Pack) (number from : ℕ) (places : List ℕ) (may : MayDescribePa
     carries : carried p at ≡ Some (its_page (suc (number - 1)))
     carries = carries_page_there at noted here ∙ ap (λ n. Some (its_page n)) pred_number
 
-    pub count_tends : (label : List ℕ) → page_of label ≡ Some (its_page number) → AllTends p (relabel_writes at label (sector_at p at).value)
-    count_tends label names = descriptor_count_tends p at (number - 1) label carries (names ∙ ap (λ n. Some (its_page n)) pred_number)
+    pub count_mends : (label : List ℕ) → page_of label ≡ Some (its_page number) → label ≢ (sector_at p at).label → Mends p (relabel_writes at label (sector_at p at).value)
+    count_mends label names other = record {
+      each = record {
+        tends = descriptor_count_tends p at (number - 1) label carries (names ∙ ap (λ n. Some (its_page n)) pred_number);
+        changes = relabel_changes p at label (sector_at p at).value other;
+      };
+      keeps = (let written = descriptor_count_leaves p at (number - 1) label (its_place_before at noted here) (names ∙ ap (λ n. Some (its_page n)) pred_number) in keeps_bytes written.lives_are (leaders_beside (relabel_keeps_the_page p at (its_page (suc (number - 1))) label 2 carries (names ∙ ap (λ n. Some (its_page n)) pred_number) (omega arith)) written.lives_are (λ f e. other_number disk_descriptor f (number - 1) (sym carries ∙ e)) (λ f. other_number disk_descriptor f (number - 1))) (λ d live dir. written.bytes_are d (not_descriptor d dir)));
+    }
 
     none_free : (q : Pack) (label : List ℕ) (k : ℕ) → ComesToHold at (its_page (suc (number - 1))) label (sector_at p at).value p q → k < from → (t : Bool) → (k == at) ≡ t → is_free_at q k ≡ false
     none_free q label k keeps low true e = let same : k ≡ at = grind (arith, nat_tests, e) in ap (is_free_at q) same ∙ keeps.free_here
@@ -228,11 +241,11 @@ module _ (p : Pack) (places : List ℕ) (from : ℕ) (may : MayDescribePage p (d
   no_leader : place (sights p) disk_descriptor 0 ≡ None
   no_leader = no_place_at p places 0 may.places_are (omega arith) none
 
-  at_root : carried p 1 ≡ Some root_page
+  at_root : carried p 1 ≡ Some (root_page 0)
   at_root = root_carried p may.rooted.root.0 may.rooted.root.1 may.rooted.root.2
 
   apart_from_root : (at : ℕ) → is_free_at p at ≡ true → at ≢ 1
-  apart_from_root at free = not_root p at (carried_not_free p 1 root_page at_root) free
+  apart_from_root at free = not_root p at (carried_not_free p 1 (root_page 0) at_root) free
 
   pub leader_place_free : NoneFreeFrom p from → ⊥
   leader_place_free nothing =
@@ -243,8 +256,15 @@ module _ (p : Pack) (places : List ℕ) (from : ℕ) (may : MayDescribePage p (d
       by at free true l = let low : at < from = grind (arith, nat_tests, l) in let no : true ≡ false = sym free ∙ may.none_below at low in cc
       by at free false l = let high : from ≤ at = grind (arith, nat_tests, l) in let no : true ≡ false = sym free ∙ nothing at high in cc
 
-  pub leader_tends : (at : ℕ) (label value : List ℕ) → is_free_at p at ≡ true → page_of label ≡ Some (its_page 0) → AllTends p (claim_writes at label value)
-  leader_tends at label value free names = descriptor_leader_tends p at label value free (apart_from_root at free) at_root names
+  pub leader_mends : (at : ℕ) (label value : List ℕ) {hints : List ℕ} → is_free_at p at ≡ true → page_of label ≡ Some (its_page 0) → Says value (fresh_leader disk_descriptor) hints → Mends p (claim_writes at label value)
+  leader_mends at label value free names says = record {
+    each = record {
+      tends = descriptor_leader_tends p at label value free (apart_from_root at free) at_root names;
+      changes = claim_changes p at (its_page 0) label value free names;
+    };
+    keeps = leader_keeps p at disk_descriptor label value free names (λ dead here. cc) (λ readable l x. absurd (let wrong : None ≡ Some x.at = sym no_leader ∙ x.sector in cc))
+        (λ dead. leads_new p at disk_descriptor label value free names (λ j below. (places_are_lowest p (its_page 0)).none no_leader j) says);
+  }
 
   pub leader_lasts : (q : Pack) (at : ℕ) (label value : List ℕ) → is_free_at p at ≡ true → page_of label ≡ Some (its_page 0) → q ≡ after p (claim_writes at label value) → Lasting q
   leader_lasts q at label value free names left = subst Lasting (sym left) (descriptor_leader_makes_lasting p at label value (described_whole p places from may) free (apart_from_root at free) names no_leader)

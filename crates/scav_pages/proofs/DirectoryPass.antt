@@ -1,9 +1,9 @@
 -- A pass that cuts directories: the rows to come are those of the pack as it began, and each directory that was left ends with its slots.
-use Rattle.std.proofs.Common.{◌≡◌, ◌≢◌, ◌⊎◌, inl, inr, ℕ, suc, ◌/◌, ◌==◌, Bool, true, false, IsTrue, length, Option, Some, None, Result, Ok, Err, IfOk, refl, sym, ap, subst, ◌∙◌, arith}
+use Rattle.std.proofs.Common.{◌≡◌, ◌≢◌, ◌⊎◌, inl, inr, ℕ, suc, ◌/◌, ◌==◌, Bool, true, false, IsTrue, length, Option, Some, None, Result, Ok, Err, IfOk, refl, sym, ap, subst, ◌∙◌, arith, IsErrAnd}
 use Rattle.std.proofs.lemmas.Bool.Decides.{nat_tests}
-use Rattle.std.specs.Option.{is_some, option_map}
+use Rattle.std.specs.Option.{option_map}
 use Rattle.alto_words.specs.declared.fid.Fid.{Fid}
-use Rattle.alto_words.specs.Fid.{is_directory, is_fid}
+use Rattle.alto_words.specs.Fid.{is_directory}
 use Rattle.disk_records.specs.declared.records.Page.{Page}
 use Rattle.disk_records.specs.Packs.{AreFormed, Pack, carried, sector_at}
 use Rattle.disk_records.specs.Tapes.{DiskAlone, Grown, Looks, Taped, pack}
@@ -12,8 +12,6 @@ use Rattle.pack_model.specs.reading.Files.{file_bytes, lives, place}
 use Rattle.pack_model.specs.reading.Sights.{sights}
 use Rattle.pack_model.specs.reading.Bytes.{words_of}
 use Rattle.pack_model.specs.reading.Slots.{SlotsReachEnd, all_words, slots}
-use Rattle.pack_laws.proofs.Keys.{is_fid-itself, same_fid}
-use Rattle.laws_operation.proofs.places.Laws.{file_lives_in_a_place}
 use Rattle.laws_mend.specs.Parts.{Cleared, FreesMore}
 use Rattle.laws_mend.proofs.numbers.Laws.{frees_join}
 use Rattle.scav_table.specs.declared.pass.Pass.{Pass as RowPass}
@@ -24,7 +22,6 @@ use Rattle.scav_table.specs.Rows.{is_above, is_below, row_at}
 use Rattle.scav_table.specs.Windows.{Window}
 use Rattle.scav_pages.specs.declared.directory.Directory.{Directory}
 use Rattle.scav_pages.specs.declared.errors.Stop.{Stop}
-use Rattle.scav_pages.specs.declared.errors.Stop.TheVariants.{Astray, Memory}
 use Rattle.scav_pages.specs.declared.files.FileWalk.{FileWalk}
 use Rattle.scav_pages.specs.Begins.{MayBegin}
 use Rattle.scav_pages.specs.Directories.{IsReadTo, MayBeCut}
@@ -32,10 +29,10 @@ use Rattle.scav_pages.specs.Does.{Does}
 use Rattle.scav_pages.specs.Parts.{DirectoriesEnd, DirectoryEnds, RelabelsFor, RelabelsHand}
 use Rattle.scav_pages.specs.Walks.{AreWords, IsLeft, IsOtherFile, NoneAbove, Walked, file_in_hand}
 use Rattle.scav_pages.proofs.DirectoryReading.{may_cut}
-use Rattle.scav_pages.proofs.Doing.{Going, going_does, going_here, going_looks}
-use Rattle.scav_pages.proofs.Passing.{SameAhead, ahead_here, ahead_moves, ahead_writes, carried_row, contrary, first_above_stays, next_row_stays, passed_carried, passed_more, stands_over, tends_added, want_added}
-use Rattle.scav_pages.proofs.Ranking.{HasRow, IsRanged, isnt_lower, rank_is, row_of_place, row_ranged}
-use Rattle.scav_pages.proofs.Walking.{leaves_its_file, leaves_the_last_file}
+use Rattle.scav_pages.proofs.Doing.{Going, does_last, does_stop_part, going_does, going_here, going_looks}
+use Rattle.scav_pages.proofs.Passing.{SameAhead, ahead_here, ahead_moves, ahead_writes, carried_row, contrary, first_above_stays, further, next_row_stays, passed_carried, passed_more, stands_over}
+use Rattle.scav_pages.proofs.Ranking.{living_row, met_or_next}
+use Rattle.scav_pages.proofs.Walking.{hand_or, leaves_its_file, leaves_the_last_file}
 
 -- ---- sectors to come
 -- Of the pack as the pass began: the rows above the row in hand are those of the pack now, and so are the sectors that they are in.
@@ -46,13 +43,8 @@ pub record Stays (p q : Pack) (last : Option Row) : Type 0 where
 pub stays_here : (p : Pack) (last : Option Row) → Stays p p last
 stays_here p last = record { rows = ahead_here p last; sectors = λ at r is above. refl }
 
--- a row above a higher one
-above_more : (last : Option Row) (row r : Row) → is_above last row ≡ true → is_above (Some row) r ≡ true → is_above last r ≡ true
-above_more None row r e l = refl
-above_more (Some b) row r e l = grind (arith, nat_tests)
-
 pub stays_moves : {p q : Pack} {last : Option Row} (row : Row) → Stays p q last → is_above last row ≡ true → Stays p q (Some row)
-stays_moves {last = last} row s e = record { rows = ahead_moves row s.rows e; sectors = λ at r is above. s.sectors at r is (above_more last row r e above) }
+stays_moves {last = last} row s e = record { rows = ahead_moves row s.rows e; sectors = λ at r is above. s.sectors at r is (further last row r e above) }
 
 -- a row that isn't above is passed
 passed_not : (p : Pack) (last : Option Row) (at : ℕ) → ((r : Row) → row_at p at ≡ Some r → is_above last r ≡ true → ⊥) → IsPassed last (row_at p at)
@@ -154,23 +146,8 @@ cuts_begin p cleared = record {
   places_are = λ f n. refl;
   lives_are = λ f. refl;
   pending = λ f h. refl;
-  ended = λ d living isdir none. absurd (by d none (place (sights p) d 0) refl (sym (file_lives_in_a_place p d) ∙ living));
+  ended = λ d living isdir none. (let h = living_row p d living in absurd (none (inr (h.0, h.1.row, h.1.is, refl, ap (λ (x : Page). x.fid) (sym h.1.page_is)))));
 }
-  where
-    by : (d : Fid) → (IsPending p None None d → ⊥) → (o : Option ℕ) → place (sights p) d 0 ≡ o → is_some (place (sights p) d 0) ≡ true → ⊥
-    by d none None e some = contrary (sym (ap is_some e) ∙ some) refl
-    by d none (Some at) e some =
-        let h : HasRow p (record { fid = d; number = 0 }) at = row_of_place p (record { fid = d; number = 0 }) at e in
-        none (inr (at, h.row, h.is, refl, ap (λ (x : Page). x.fid) (sym h.page_is)))
-
--- a file is in hand, or it isn't
-hand_or : (hand : Option Fid) (f : Fid) → (hand ≡ Some f) ⊎ (hand ≢ Some f)
-hand_or None f = inr (λ e. cc)
-hand_or (Some g) f = by (is_fid g f) refl
-  where
-    by : (t : Bool) → is_fid g f ≡ t → (Some g ≡ Some f) ⊎ (Some g ≢ Some f)
-    by true e = inl (ap Some (same_fid g f e))
-    by false e = inr (λ is. (let same : g ≡ f = cc in contrary (subst (λ x. is_fid g x ≡ true) same (is_fid-itself g)) e))
 
 -- the directory in hand is left
 pub cuts_leave : {p q : Pack} {last : Option Row} {dir : Directory} (r : Pack) → Cuts p q last (file_in_hand dir.walk) → IsLeft p last dir.walk → DirectoryEnds dir q r tt → Cuts p r last None
@@ -198,7 +175,7 @@ cuts_meet {p} {q} {last} {hand} {row} c first same = record {
   lives_are = c.lives_are;
   pending = λ f h. c.pending f (elim h [
     | inl is ↦ inr (row.at, row, first.here, first.above, (let e : row.page.fid ≡ f = cc in sym e))
-    | inr some ↦ inr (some.0, some.1, some.2, above_more last row some.1 first.above some.3, some.4)
+    | inr some ↦ inr (some.0, some.1, some.2, further last row some.1 first.above some.3, some.4)
   ]);
   ended = λ d living isdir none. c.ended d living isdir (λ pending. elim pending [
     | inl is ↦ elim (hand_or (Some row.page.fid) d) [
@@ -211,20 +188,10 @@ cuts_meet {p} {q} {last} {hand} {row} c first same = record {
   where
     by : (d : Fid) → (IsPending p (Some row) (Some row.page.fid) d → ⊥) → (at : ℕ) (r : Row) → row_at p at ≡ Some r → is_above last r ≡ true → d ≡ r.page.fid → (t : Bool) → is_below row r ≡ t → ⊥
     by d none at r is above e true more = none (inr (at, r, is, more, e))
-    by d none at r is above e false more =
-        let x : IsRanged p at r = row_ranged p at r is in
-        let y : IsRanged p row.at row = row_ranged p row.at row first.here in
-        let xat = x.at in
-        let yat = y.at in
-        let here = x.here in
-        let low = isnt_lower row r more in
-        let high = isnt_lower r row (first.least at r is above) in
-        let rx = rank_is r in
-        let ry = rank_is row in
-        let one : r.at ≡ row.at = omega (arith, low, high, rx, ry, xat, yat) in
-        let two : Some r ≡ Some row = sym is ∙ ap (row_at p) (sym here ∙ one) ∙ first.here in
-        let three : r ≡ row = cc in
-        none (inl (ap (λ (z : Row). Some z.page.fid) (sym three) ∙ ap Some (sym e)))
+    by d none at r is above e false more = elim (met_or_next p last row first at r is more) [
+      | inl old ↦ contrary above old
+      | inr next ↦ none (inl (ap (λ (z : Row). Some z.page.fid) (sym next.1) ∙ ap Some (sym e)))
+    ]
 
 -- all rows were met
 pub cuts_end : {p q : Pack} {last : Option Row} → Cuts p q last None → IsNextRow p last None → DirectoriesEnd p q tt
@@ -293,38 +260,21 @@ module _ {told : Bool} {a b : Taped} {last : Option Row} {dir : Directory} (x : 
   cuts_left {c} {result} new grown does wrote is start none begins = record {
     stays = λ k. stays_relabels (pack c) (x.stays k) (left k) (wrote k);
     read = λ k. start (pack a) last (x.read k).walked.formed (begins k);
-    going = λ k cleared. (let m = now_cut k cleared in going_does (x.going k cleared) grown (does k m.0 m.1));
+    going = λ k cleared. going_does (x.going k cleared) grown (done k cleared);
     cuts = λ k cleared.
-        let m = now_cut k cleared in
-        let ends : DirectoryEnds dir (pack b) (pack c) tt = subst (λ r. IfOk r (DirectoryEnds dir (pack b) (pack c))) is (does k m.0 m.1).leaves in
-        subst (Cuts (pack a) (pack c) last) (sym none) (cuts_leave (pack c) (x.cuts k cleared) (left k) ends);
+        subst (Cuts (pack a) (pack c) last) (sym none) (cuts_leave (pack c) (x.cuts k cleared) (left k) (done k cleared).leaves);
   }
+    where
+      done : IsTrue told → Cleared (pack a) → Does (DirectoryEnds dir) b c (Ok tt)
+      done k cleared = (let m = now_cut k cleared in subst (Does (DirectoryEnds dir) b c) is (does k m.0 m.1))
 
   -- it isn't
-  pub cuts_stopped : {T : Type 0} {Leaves : Pack → Pack → T → Type 0} {c : Taped} (e : Stop) (result : Result T Stop) → Grown b c → (IsTrue told → Cleared (pack b) → MayBeCut (pack b) dir → Does {T = Unit {0}} (DirectoryEnds dir) b c (Err e)) → result ≡ Err e → IsTrue told → Cleared (pack a) → Does Leaves a c result
-  cuts_stopped {T} {Leaves} {c} e result grown does is k cleared =
-      let m = now_cut k cleared in
-      let d = does k m.0 m.1 in
-      let g = x.going k cleared in
-      subst (Does Leaves a c) (sym is) (record {
-        leaves = tt;
-        found = λ astray. (let same : e ≡ Astray = cc in d.found (ap Err same));
-        want = λ memory. (let same : e ≡ Memory = cc in want_added g.grown grown (d.want (ap Err same)));
-        tends = tends_added g.grown grown g.tends d.tends;
-      })
+  pub cuts_stopped : {T : Type 0} {Leaves : Pack → Pack → T → Type 0} {c : Taped} (e : Stop) (result : Result T Stop) → Grown b c → (IsTrue told → Cleared (pack b) → MayBeCut (pack b) dir → Does {T = Unit {0}} (DirectoryEnds dir) b c (Err e)) → IsErrAnd result (λ s. s ≡ e) → IsTrue told → Cleared (pack a) → Does Leaves a c result
+  cuts_stopped e result grown does is k cleared = let m = now_cut k cleared in does_stop_part e result (x.going k cleared) grown (does k m.0 m.1) is
 
   -- it is the last one
   pub cuts_done : {c : Taped} (result : Result (Unit {0}) Stop) → Grown b c → (IsTrue told → Cleared (pack b) → MayBeCut (pack b) dir → Does (DirectoryEnds dir) b c result) → (IsTrue told → IsNextRow (pack a) last None) → IsTrue told → Cleared (pack a) → Does DirectoriesEnd a c result
-  cuts_done {c} result grown does none k cleared =
-      let m = now_cut k cleared in
-      let d = does k m.0 m.1 in
-      let g = x.going k cleared in
-      record {
-        leaves = by result d.leaves;
-        found = d.found;
-        want = λ memory. want_added g.grown grown (d.want memory);
-        tends = tends_added g.grown grown g.tends d.tends;
-      }
+  cuts_done {c} result grown does none k cleared = let m = now_cut k cleared in does_last result (x.going k cleared) grown (does k m.0 m.1) (by result)
     where
       by : (r : Result (Unit {0}) Stop) → IfOk r (DirectoryEnds dir (pack b) (pack c)) → IfOk r (DirectoriesEnd (pack a) (pack c))
       by (Ok v) ends = cuts_end (cuts_leave (pack c) (x.cuts k cleared) (left k) ends) (none k)

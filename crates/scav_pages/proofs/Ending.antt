@@ -1,6 +1,5 @@
 -- The last page of the file in hand is claimed, if it is missing.
-use Rattle.std.proofs.Common.{◌≡◌, inr, ℕ, suc, ◌+◌, ◌/◌, ◌<◌, ◌==◌, ◌&&◌, Bool, true, false, cond, length, replicate, Option, Some, None, refl, sym, ap, subst, ◌∙◌, arith}
-use Rattle.std.specs.Option.{is_some}
+use Rattle.std.proofs.Common.{◌≡◌, inr, ℕ, suc, ◌+◌, ◌/◌, ◌<◌, ◌==◌, ◌&&◌, Bool, true, false, cond, length, replicate, Some, None, refl, sym, ap, subst, ◌∙◌, arith}
 use Rattle.std.proofs.lemmas.Bool.Decides.{nat_tests}
 use Rattle.std.proofs.lemmas.Option.{cond_some}
 use Rattle.alto_words.specs.declared.fid.Fid.{Fid}
@@ -13,9 +12,7 @@ use Rattle.pack_model.specs.reading.Sights.{sights}
 use Rattle.pack_model.specs.states.Sentences.{HasLastPage}
 use Rattle.pack_laws.proofs.Guarding.{carried_parts, free_parts, free_unnamed}
 use Rattle.pack_laws.proofs.Keys.{same_fid}
-use Rattle.laws_record.proofs.Copying.{place_carried}
 use Rattle.laws_contents.proofs.ends.Laws.{each_file_has_its_end}
-use Rattle.laws_operation.proofs.places.Laws.{file_lives_in_a_place}
 use Rattle.laws_mend.specs.PartLaws as part_laws
 use Rattle.laws_mend.proofs.counting.Laws.{full_pages_are_few}
 use Rattle.laws_mend.proofs.numbers.Laws.{lacking_page_is_free}
@@ -26,8 +23,10 @@ use Rattle.scav_pages.specs.Ends.{HasEnd, MayClaim, MayClaimLast}
 use Rattle.scav_pages.specs.Ends.IsWanted.{ends}
 use Rattle.scav_pages.specs.Parts.{ClaimsHand, LastClaimed, PageClaimed, PageWritten}
 use Rattle.scav_pages.specs.Walks.{file_in_hand}
-use Rattle.scav_pages.proofs.Claiming.{carried_not_free, claim_takes, not_root, root_carried, root_page}
+use Rattle.scav_pages.proofs.Claiming.{carried_not_free, claim_takes, not_root, root_carried}
 use Rattle.scav_pages.proofs.Passing.{claim_at}
+use Rattle.scav_pages.proofs.Ranking.{living_row}
+use Rattle.scav_pages.proofs.Rooting.{root_page}
 
 -- ---- names of files
 full_in_range : (t : Tag) → in_range t ≡ true → is_full_name t.fid ≡ true
@@ -40,11 +39,7 @@ carried_name p at page e =
     ap (λ (x : Page). is_full_name x.fid) (sym parts.1) ∙ full_in_range (tag (sector_at p at).label) parts.0
 
 living_name : (p : Pack) (f : Fid) → lives (sights p) f ≡ true → is_full_name f ≡ true
-living_name p f alive = by (place (sights p) f 0) refl
-  where
-    by : (o : Option ℕ) → place (sights p) f 0 ≡ o → is_full_name f ≡ true
-    by None e = absurd (let no : true ≡ false = sym alive ∙ file_lives_in_a_place p f ∙ ap is_some e in cc)
-    by (Some at) e = carried_name p at (record { fid = f; number = 0 }) (place_carried p (record { fid = f; number = 0 }) at e)
+living_name p f alive = let h = living_row p f alive in carried_name p h.0 (record { fid = f; number = 0 }) h.1.carries
 
 -- DiskDescriptor's words
 pub other_by_words : (f : Fid) → (f.high == 0 && (f.low == 2 && f.version == 1)) ≡ false → is_fid f disk_descriptor ≡ false
@@ -91,7 +86,7 @@ module _ (p : Pack) (walk : FileWalk) (from : ℕ) (may : MayClaimLast p walk fr
   lacks_last = let one : walk.pages + 1 ≡ suc walk.pages = omega arith in ap (place (sights p) f) one ∙ (its_end.missing on).1
 
   root_kept : is_free_at p 1 ≡ false
-  root_kept = carried_not_free p 1 root_page (root_carried p may.rooted.root.0 may.rooted.root.1 may.rooted.root.2)
+  root_kept = carried_not_free p 1 (root_page 0) (root_carried p may.rooted.root.0 may.rooted.root.1 may.rooted.root.2)
 
   pub may_claim_last_page : MayClaim p (last_page_of walk f) 0 from
   may_claim_last_page =

@@ -1,23 +1,30 @@
-mod Ahead
+pub mod Ahead
+mod Changing
 mod Claiming
 mod Copying
-mod Counting
+pub mod Counting
 mod Cutting
-mod Describing
-mod DirectoryPass
+pub mod Describing
+pub mod DirectoryPass
 mod DirectoryReading
-mod Doing
+pub mod Doing
 mod Ending
+mod EndsPass
 mod Freeing
 mod Fresh
+mod Keeping
+mod LastPages
+mod Leading
+mod LinkPass
 mod Linking
+mod Mending
 mod Naming
-mod Passing
-mod Ranking
+mod Neighbours
+pub mod Passing
+pub mod Ranking
 mod Releasing
 mod Rooting
-mod SlotReading
-mod Stopping
+pub mod SlotReading
 mod Straying
 mod Using
-mod Walking
+pub mod Walking

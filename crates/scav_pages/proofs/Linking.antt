@@ -1,5 +1,5 @@
 -- The links of one page, and its name.
-use Rattle.std.proofs.Common.{◌≡◌, ℕ, ◌≤◌, Bool, true, false, cond, List, [], ◌∷◌, drop, get_or, length, Some, None, refl, sym, ap, subst, ◌∙◌, arith}
+use Rattle.std.proofs.Common.{◌≡◌, ◌≢◌, ℕ, ◌≤◌, Bool, true, false, cond, List, [], ◌∷◌, drop, get_or, length, Some, None, refl, sym, ap, subst, ◌∙◌, arith}
 use Rattle.std.proofs.lemmas.List.Elements.{All-get_or}
 use Rattle.disk_records.specs.declared.records.Page.{Page}
 use Rattle.disk_records.specs.Commands.{relabel_writes}
@@ -14,12 +14,13 @@ use Rattle.pack_laws.proofs.Guarding.{carried_parts, usable_within}
 use Rattle.pack_laws.proofs.guards.Laws.{relabel_keeps_the_page}
 use Rattle.laws_mend.specs.Parts.{Lasting}
 use Rattle.laws_mend.specs.PartLaws.{LinksWritten}
-use Rattle.laws_mend.specs.Tending.{AllTends}
 use Rattle.laws_mend.proofs.parts.Laws.{other_links_leave}
 use Rattle.laws_mend.proofs.runs.Laws.{other_links_tend}
 use Rattle.scav_pages.specs.declared.links.Pending.{Pending}
 use Rattle.scav_pages.specs.Links.{MayMendPage, PageLinked, WritesPage}
+use Rattle.scav_pages.proofs.Changing.{relabel_changes}
 use Rattle.scav_pages.proofs.Cutting.{made_names}
+use Rattle.scav_pages.proofs.Keeping.{Mends, keeps_shown}
 use Rattle.scav_pages.proofs.Passing.{relabel_at}
 use Rattle.scav_pages.proofs.Ranking.{page_ranged}
 
@@ -48,6 +49,16 @@ last_words (a ∷ b ∷ c ∷ d ∷ e ∷ f ∷ h ∷ l ∷ x ∷ xs) size = cc
 pub same_last_words : (label : List ℕ) (page : Page) (bytes next previous : ℕ) → length label ≡ 8 → page_of label ≡ Some page → bytes ≡ word label 3 → drop 3 (label_of page bytes next previous) ≡ drop 3 label
 same_last_words label page bytes next previous size names counts = words_of_page label page bytes names ∙ ap (λ n. n ∷ word label 4 ∷ word label 5 ∷ word label 6 ∷ word label 7 ∷ []) counts ∙ sym (last_words label size)
 
+-- where its links are true nothing is written
+pub linked_already : {p : Pack} {page : Pending} {next : ℕ} → MayMendPage p page next → word (sector_at p page.row.at).label 0 ≡ next → word (sector_at p page.row.at).label 1 ≡ page.previous → PageLinked page.row.at p p tt
+linked_already may next previous = record {
+  lasting = may.lasting;
+  places = λ f n. refl;
+  links = record { next = next ∙ may.next_is; previous = previous ∙ may.previous_is };
+  others = λ i other h. h;
+  shown = λ i other. refl;
+}
+
 -- what other links leave
 pub links_linked : {p q : Pack} {at : ℕ} {label : List ℕ} → LinksWritten p q at label → Lasting p → word label 0 ≡ next_link p.shape (sights p) (get_or (sights p) at hidden) → word label 1 ≡ previous_link p.shape (sights p) (get_or (sights p) at hidden) → PageLinked at p q tt
 links_linked w lasting next previous = record {
@@ -70,8 +81,11 @@ links_made p at page label bytes next previous size carries counts is =
       ap (λ l. drop 3 l) is ∙ same_last_words (sector_at p at).label page bytes next previous size names counts,
     )
 
-pub links_tend : (p : Pack) (at : ℕ) (page : Page) (label : List ℕ) → carried p at ≡ Some page → page_of label ≡ Some page → drop 3 label ≡ drop 3 (sector_at p at).label → AllTends p (relabel_writes at label (sector_at p at).value)
-links_tend p at page label carries names last = other_links_tend p at page label carries names last
+pub links_mend : (p : Pack) (at : ℕ) (page : Page) (label : List ℕ) → carried p at ≡ Some page → page_of label ≡ Some page → drop 3 label ≡ drop 3 (sector_at p at).label → label ≢ (sector_at p at).label → Mends p (relabel_writes at label (sector_at p at).value)
+links_mend p at page label carries names last other = record {
+  each = record { tends = other_links_tend p at page label carries names last; changes = relabel_changes p at label (sector_at p at).value other };
+  keeps = keeps_shown (other_links_leave p at page label carries names last).shown;
+}
 
 pub made_linked : (p : Pack) (page : Pending) (next : ℕ) (label : List ℕ) (bytes : ℕ) → MayMendPage p page next → page_of label ≡ Some page.row.page → drop 3 label ≡ drop 3 (sector_at p page.row.at).label → label ≡ label_of page.row.page bytes next page.previous
     → (q : Pack) → q ≡ after p (relabel_writes page.row.at label (sector_at p page.row.at).value) → PageLinked page.row.at p q tt

@@ -1,7 +1,9 @@
 -- The name of a leader page that has none that can be read.
-use Rattle.std.proofs.Common.{◌≡◌, ◌≢◌, ℕ, zero, suc, Bool, true, false, cond, List, length, Some, refl, sym, ap, subst, ◌∙◌, arith}
+use Rattle.std.proofs.Common.{◌≡◌, ◌≢◌, ◌⊎◌, inl, inr, get_or, ◌==◌, ℕ, zero, suc, Bool, true, false, cond, List, length, Some, refl, sym, ap, subst, ◌∙◌, arith}
 use Rattle.std.specs.Prelude.{◌||◌}
+use Rattle.std.proofs.lemmas.Bool.Decides.{nat_tests}
 use Rattle.std.proofs.lemmas.List.Elements.{All-get_or}
+use Rattle.std.proofs.lemmas.List.{get_or-set_same}
 use Rattle.disk_records.specs.declared.records.Sector.{Sector}
 use Rattle.disk_records.specs.declared.shape.Shape.{Shape}
 use Rattle.disk_records.specs.Labels.{in_range, is_free, tag}
@@ -14,21 +16,28 @@ use Rattle.disk_records.specs.Packs.{AreFormed, IsFormed, Pack, after, carried, 
 use Rattle.leader_page.specs.Laws.{SaysTitled}
 use Rattle.pack_model.specs.operations.PageWords.{titled_value}
 use Rattle.pack_model.specs.reading.Leaders.{Leader, is_readable, leader_name, leader_of, leader_words, spelled_name}
-use Rattle.pack_model.specs.reading.Files.{carries_page}
-use Rattle.pack_model.specs.reading.Sights.{page_sight, sight}
+use Rattle.pack_model.specs.reading.Files.{carries_page, place}
+use Rattle.pack_model.specs.reading.Sights.{page_sight, sight, sights}
 use Rattle.pack_model.specs.reading.Sights.Sight.{free, hidden, leads, stray}
+use Rattle.pack_laws.specs.GuardLaws.{ComesToHold}
 use Rattle.pack_laws.proofs.Carrying.{sight_carries}
 use Rattle.pack_laws.proofs.Guarding.{carried_parts, usable_within}
-use Rattle.pack_laws.proofs.Sighted.{sights-get}
+use Rattle.pack_laws.proofs.Sighted.{length-sights, sights-get}
 use Rattle.pack_laws.proofs.guards.Laws.{value_writes_keep_the_page}
+use Rattle.laws_record.proofs.Recording.{carried_sight}
 use Rattle.laws_mend.specs.PartLaws.{LeaderWritten}
-use Rattle.laws_mend.specs.Tending.{AllTends}
 use Rattle.laws_mend.proofs.parts.Laws.{leader_value_leaves}
 use Rattle.laws_mend.proofs.runs.Laws.{lost_name_tends, system_name_tends}
 use Rattle.scav_table.specs.declared.row.Row.{Row}
+use Rattle.laws_mend.specs.Tending.{AllTends}
+use Rattle.scav_pages.specs.Changes.{AllChange}
 use Rattle.scav_pages.specs.Fresh.{own_name}
+use Rattle.scav_pages.specs.Keeping.{KeepsLeaders, Leads}
 use Rattle.scav_pages.specs.Links.{MayName, PageLinked, PageMended, WritesPage}
+use Rattle.scav_pages.proofs.Changing.{value_changes}
 use Rattle.scav_pages.proofs.Claiming.{root_carried}
+use Rattle.scav_pages.proofs.Keeping.{Mends, keeps_files}
+use Rattle.scav_pages.proofs.Leading.{leading}
 use Rattle.scav_pages.proofs.Passing.{value_at}
 
 -- a sector shows whether the name in its value can be read
@@ -71,10 +80,57 @@ unread_name : (f : Fid) (value : List ℕ) → is_readable (leader_words value) 
 unfolding leader_of leader_name
 unread_name f value unread = ap (λ b. cond b (spelled_name (leader_words value)) (lost (serial_of f))) unread
 
-module _ (p : Pack) (row : Row) (value : List ℕ) (may : MayName p row value) (leads_it : row.page.number ≡ 0) (named : SaysTitled value (own_name row.page.fid)) where
-  pub name_tends : is_readable (leader_words value) ≡ false → AllTends p (value_writes row.at (titled_value (own_name row.page.fid) value))
-  name_tends unread = by (is_system row.page.fid) refl
+-- the leader page in this sector gets its file's own name, and each other one stays
+module _ (p : Pack) (at : ℕ) (f : Fid) (value : List ℕ) (carries : carried p at ≡ Some (leading f)) (is : value ≡ (sector_at p at).value) (unread : is_readable (leader_words value) ≡ false) (named : SaysTitled value (own_name f)) where
+  abbrev renamed : Pack
+  renamed = after p (value_writes at (titled_value (own_name f) value))
+
+  leads_own : (l : Leader) → place (sights renamed) f 0 ≡ Some at → l ≡ leader_of f value → Leads renamed f true (record l { name = own_name f })
+  leads_own l sector says = record {
+    at = at;
+    sector = sector;
+    says = ap (λ ss. get_or ss at hidden) written.shown ∙ get_or-set_same (sights p) at (page_sight f 0 (tag (sector_at p at).label).bytes (titled_value (own_name f) value)) hidden (let low = usable_within p at (carried_parts p at (leading f) carries).0 in omega (arith, low, length-sights p))
+        ∙ (λ i. leads f (named.readable i) ((named.leader_is f ∙ ap {A = Leader} (λ x. record x { name = own_name f }) (sym says)) i));
+  }
     where
+      written : ComesToHold at (leading f) (sector_at p at).label (titled_value (own_name f) value) p renamed
+      written = value_writes_keep_the_page p at (leading f) (titled_value (own_name f) value) 1 carries (omega arith)
+
+  leaders_named : LeaderWritten p renamed at (titled_value (own_name f) value) → KeepsLeaders p renamed
+  leaders_named leaves = record { kept = λ g readable l x. by g readable l x (x.at == at) refl; made = λ g system dead. inl (leaves.files.lives_are g ∙ dead) }
+    where
+      by : (g : Fid) (readable : Bool) (l : Leader) (x : Leads p g readable l) (t : Bool) → (x.at == at) ≡ t → Leads renamed g readable l ⊎ ((readable ≡ false) × Leads renamed g true (record l { name = own_name g }))
+      by g readable l x true e =
+          let same : x.at ≡ at = grind (arith, nat_tests, e) in
+          let shown : leads g readable l ≡ leads f (is_readable (leader_words (sector_at p at).value)) (leader_of f (sector_at p at).value) = sym x.says ∙ ap (λ k. get_or (sights p) k hidden) same ∙ carried_sight p at (leading f) carries in
+          let file : g ≡ f = cc in
+          let can : readable ≡ is_readable (leader_words (sector_at p at).value) = cc in
+          let lead : l ≡ leader_of f (sector_at p at).value = cc in
+          inr (
+            can ∙ ap (λ v. is_readable (leader_words v)) (sym is) ∙ unread,
+            subst (λ h. Leads renamed h true (record l { name = own_name h })) (sym file)
+                (leads_own l (ap (λ h. place (sights renamed) h 0) (sym file) ∙ leaves.files.places_are g 0 ∙ x.sector ∙ ap Some same) (lead ∙ ap (leader_of f) (sym is))),
+          )
+      by g readable l x false e =
+          let other : x.at ≢ at = λ same. (let no = subst (λ k. (k == at) ≡ false) same e in grind (arith, nat_tests, no)) in
+          inl (record { at = x.at; sector = leaves.files.places_are g 0 ∙ x.sector; says = leaves.others x.at other ∙ x.says })
+
+module _ (p : Pack) (row : Row) (value : List ℕ) (may : MayName p row value) (leads_it : row.page.number ≡ 0) (named : SaysTitled value (own_name row.page.fid)) where
+  pub name_mends : is_readable (leader_words value) ≡ false → Mends p (value_writes row.at (titled_value (own_name row.page.fid) value))
+  name_mends unread = record {
+    each = record { tends = by (is_system row.page.fid) refl; changes = other_value };
+    keeps = keeps_files leaves.files named_leaders;
+  }
+    where
+      leaves : LeaderWritten p (after p (value_writes row.at (titled_value (own_name row.page.fid) value))) row.at (titled_value (own_name row.page.fid) value)
+      leaves = leader_value_leaves p row.at row.page (titled_value (own_name row.page.fid) value) may.carries leads_it
+
+      named_leaders : KeepsLeaders p (after p (value_writes row.at (titled_value (own_name row.page.fid) value)))
+      named_leaders = leaders_named p row.at row.page.fid value (may.carries ∙ ap (λ n. Some (record { fid = row.page.fid; number = n })) leads_it) may.value_is unread named leaves
+
+      other_value : AllChange p (value_writes row.at (titled_value (own_name row.page.fid) value))
+      other_value = value_changes p row.at (titled_value (own_name row.page.fid) value) (λ same. (let wrong : true ≡ false = sym named.readable ∙ ap (λ v. is_readable (leader_words v)) (same ∙ sym may.value_is) ∙ unread in cc))
+
       by : (t : Bool) → is_system row.page.fid ≡ t → AllTends p (value_writes row.at (titled_value (own_name row.page.fid) value))
       by true is =
           let root = may.lasting.rooted.root in

@@ -15,8 +15,6 @@ use Rattle.disk_records.specs.Packs.{Pack, after, carried, is_usable, no_sector,
 use Rattle.disk_records.specs.Tapes.{Grown, Looks, Taped, added, pack}
 use Rattle.disk_records.specs.Words.{word}
 use Rattle.disk_records.proofs.Growing.{added-twice, pack-after}
-use Rattle.laws_mend.specs.Tending.{AllTends}
-use Rattle.laws_mend.proofs.joins.Laws.{nothing_tends, tends_join}
 use Rattle.scav_table.specs.declared.pass.Pass.{Pass as RowPass}
 use Rattle.scav_table.specs.declared.row.Row.{Row}
 use Rattle.scav_table.specs.Laws.{IsFirstAbove, IsNextRow, WritesAt}
@@ -26,6 +24,8 @@ use Rattle.scav_table.specs.Windows.{Window}
 use Rattle.scav_table.proofs.Belonging.{first_is_least}
 use Rattle.scav_table.proofs.Standing.{few_sectors}
 use Rattle.scav_table.proofs.Staying.{pass_goes_on_over}
+use Rattle.scav_pages.specs.Changes.{AllMend}
+use Rattle.scav_pages.proofs.Changing.{mend_join, nothing_mends}
 
 -- ---- a pass in its table
 -- over a pack of which one sector, at or below the row in hand, is written
@@ -51,10 +51,14 @@ stands_same {told} {p} {table} {pass} q s h = record {
 }
 
 -- ---- the rows that were met
+pub some_row : {a b : Row} → Some a ≡ Some b → a ≡ b
+some_row e = cc
+
 pub contrary : {X : Type 0} {t : Bool} → t ≡ true → t ≡ false → X
 contrary a b = absurd (let both : true ≡ false = sym a ∙ b in cc)
 
-further : (b : Option Row) (x y : Row) → is_above b x ≡ true → is_below x y ≡ true → is_above b y ≡ true
+-- a row above a higher one
+pub further : (b : Option Row) (x y : Row) → is_above b x ≡ true → is_below x y ≡ true → is_above b y ≡ true
 further None x y e l = refl
 further (Some b) x y e l = grind (arith, nat_tests)
 
@@ -188,7 +192,7 @@ row_placed p at row e = placed_of p.shape at (sector_at p at) row e
 pub passed_none : (p : Pack) (at : ℕ) (last : Option Row) → carried p at ≡ None → IsPassed last (row_at p at)
 passed_none p at last e = subst (IsPassed last) (sym (row_none p at e)) tt
 
-same_rank : (a b : Row) → a.page ≡ b.page → a.at ≡ b.at → rank a ≡ rank b
+pub same_rank : (a b : Row) → a.page ≡ b.page → a.at ≡ b.at → rank a ≡ rank b
 unfolding rank
 same_rank a b e f = (λ i. ((((e i).fid.high * 65536 + (e i).fid.low) * 65536 + (e i).fid.version) * 65536 + (e i).number) * 65536 + f i)
 
@@ -259,13 +263,13 @@ pub value_at : (p : Pack) (at : ℕ) (value : List ℕ) → WritesAt at p (after
 value_at p at value = writes_one p at 2 value
 
 -- ---- calls one after another
-pub tends_added : {a b c : Taped} → Grown a b → Grown b c → AllTends (pack a) (added a b) → AllTends (pack b) (added b c) → AllTends (pack a) (added a c)
-tends_added {a} {b} {c} x y one two =
-    subst (AllTends (pack a)) (sym (added-twice x y))
-    (tends_join (pack a) (added a b) (added b c) one (subst (λ p. AllTends p (added b c)) (pack-after x) two))
+pub mends_added : {a b c : Taped} → Grown a b → Grown b c → AllMend (pack a) (added a b) → AllMend (pack b) (added b c) → AllMend (pack a) (added a c)
+mends_added {a} {b} {c} x y one two =
+    subst (AllMend (pack a)) (sym (added-twice x y))
+    (mend_join (pack a) (added a b) (added b c) one (subst (λ p. AllMend p (added b c)) (pack-after x) two))
 
-pub tends_looks : {told : Bool} {most : ℕ} {a b : Taped} → Looks told most a b → IsTrue told → AllTends (pack a) (added a b)
-tends_looks {a = a} l h = subst (AllTends (pack a)) (sym (l.silent h)) (nothing_tends (pack a))
+pub mends_looks : {told : Bool} {most : ℕ} {a b : Taped} → Looks told most a b → IsTrue told → AllMend (pack a) (added a b)
+mends_looks {a = a} l h = subst (AllMend (pack a)) (sym (l.silent h)) (nothing_mends (pack a))
 
 -- a call that has no room for two record writes had none before what was written in between
 pub want_added : {a b c : Taped} → Grown a b → Grown b c → b.spare < length (added b c) + 3 → a.spare < length (added a c) + 3

@@ -1,20 +1,22 @@
 -- Rows in their order: files by their names, pages by their numbers, sectors by their addresses.
 use Rattle.std.proofs.Common.{◌≡◌, ◌≢◌, ◌⊎◌, inl, inr, ℕ, ◌+◌, ◌*◌, ◌<◌, ◌≤◌, Bool, true, false, cond, List, Option, Some, None, refl, sym, ap, subst, ◌∙◌, arith}
+use Rattle.std.specs.Option.{is_some}
 use Rattle.std.proofs.lemmas.Bool.Decides.{nat_tests}
 use Rattle.alto_words.specs.declared.fid.Fid.{Fid}
 use Rattle.disk_records.specs.declared.records.Page.{Page}
 use Rattle.disk_records.specs.Labels.{Tag, in_range, page_of, tag}
 use Rattle.disk_records.specs.Packs.{Pack, carried, sector_at}
 use Rattle.disk_records.specs.Words.{word}
+use Rattle.laws_operation.proofs.places.Laws.{file_lives_in_a_place}
 use Rattle.pack_laws.proofs.Guarding.{carried_parts}
 use Rattle.pack_laws.proofs.files.Laws.{places_are_lowest}
-use Rattle.pack_model.specs.reading.Files.{place}
+use Rattle.pack_model.specs.reading.Files.{lives, place}
 use Rattle.pack_model.specs.reading.Sights.{sights}
 use Rattle.scav_table.specs.declared.row.Row.{Row}
 use Rattle.scav_table.specs.Laws.{IsFirstAbove}
 use Rattle.scav_table.specs.Rows.{is_above, is_below, rank, row_at}
 use Rattle.scav_pages.specs.Walks.{AreWords, IsSeated}
-use Rattle.scav_pages.proofs.Passing.{carried_row, contrary, row_carried, row_placed}
+use Rattle.scav_pages.proofs.Passing.{carried_row, contrary, row_carried, row_placed, some_row}
 
 -- ---- ranks
 abbrev pub fid_rank : Fid → ℕ
@@ -182,6 +184,17 @@ words_of p at r row e w same =
       at = ranged.at;
     }
 
+-- a row that is neither above nor below another is in its sector
+pub same_sector : (p : Pack) (i : ℕ) (r row : Row) → row_at p i ≡ Some r → row.at < 65536 → is_below row r ≡ false → is_below r row ≡ false → i ≡ row.at
+same_sector p i r row is few low high =
+    let ranged = row_ranged p i r is in
+    let here = ranged.here in
+    let x : ℕ = page_rank r.page in
+    let y : ℕ = page_rank row.page in
+    let a : x * 65536 + r.at ≤ y * 65536 + row.at = omega (arith, rank_is r, rank_is row, isnt_lower row r low) in
+    let b : y * 65536 + row.at ≤ x * 65536 + r.at = omega (arith, rank_is r, rank_is row, isnt_lower r row high) in
+    omega (arith, here, ranged.at, few, a, b)
+
 -- the place of a page is a sector with its row
 pub record HasRow (p : Pack) (page : Page) (at : ℕ) : Type 0 where
   pub row : Row
@@ -195,7 +208,25 @@ row_of_place p page at e =
     let carries : carried p at ≡ Some page = ((places_are_lowest p page).lowest at e).here in
     record { row = record { page = page; at = at; bytes = word (sector_at p at).label 3 }; is = row_carried p at page carries; page_is = refl; here = refl; carries = carries }
 
+-- a living file has a row
+pub living_row : (p : Pack) (f : Fid) → lives (sights p) f ≡ true → (at : ℕ) × (HasRow p (record { fid = f; number = 0 }) at)
+living_row p f alive = by (place (sights p) f 0) refl
+  where
+    by : (o : Option ℕ) → place (sights p) f 0 ≡ o → (at : ℕ) × (HasRow p (record { fid = f; number = 0 }) at)
+    by None e = absurd (let no : true ≡ false = sym alive ∙ file_lives_in_a_place p f ∙ ap is_some e in cc)
+    by (Some at) e = (at, row_of_place p (record { fid = f; number = 0 }) at e)
+
 -- ---- the next row
+-- a row that isn't above it was met before, or is the next one
+pub met_or_next : (p : Pack) (last : Option Row) (row : Row) → IsFirstAbove p last row → (i : ℕ) (r : Row) → row_at p i ≡ Some r → is_below row r ≡ false → (is_above last r ≡ false) ⊎ ((i ≡ row.at) × (r ≡ row))
+met_or_next p last row first i r is low = by_test (is_above last r) refl
+  where
+    by_test : (t : Bool) → is_above last r ≡ t → (is_above last r ≡ false) ⊎ ((i ≡ row.at) × (r ≡ row))
+    by_test false e = inl e
+    by_test true e =
+        let here : i ≡ row.at = same_sector p i r row is (row_ranged p row.at row first.here).at low (first.least i r is e) in
+        inr (here, some_row (sym is ∙ ap (row_at p) here ∙ first.here))
+
 -- the last row, where there was one, has another page than this row, or is of another file
 abbrev pub IsOtherPage : Option Row → Row → Type 0
 IsOtherPage last row = (b : Row) → last ≡ Some b → AreWords b × (b.page ≢ row.page)

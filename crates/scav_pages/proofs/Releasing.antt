@@ -1,5 +1,5 @@
 -- The next row of a pass is released.
-use Rattle.std.proofs.Common.{◌≡◌, ◌≢◌, ◌⊎◌, inl, inr, ℕ, ◌+◌, ◌*◌, ◌≤◌, Bool, true, false, IsTrue, Option, Some, None, refl, sym, ap, subst, ◌∙◌, arith}
+use Rattle.std.proofs.Common.{◌≡◌, ◌≢◌, inl, inr, ℕ, Bool, true, false, IsTrue, Option, Some, None, sym, ap, subst, ◌∙◌, arith}
 use Rattle.disk_records.specs.Commands.{release_writes}
 use Rattle.disk_records.specs.Packs.{Pack, after, sector_at}
 use Rattle.disk_records.specs.Tapes.{DiskAlone, Looks, Taped, pack}
@@ -14,40 +14,21 @@ use Rattle.scav_table.specs.Laws.{IsFirstAbove, WritesAt}
 use Rattle.scav_table.specs.Passes.{IsPassed, Stands}
 use Rattle.scav_table.specs.Rows.{is_above, is_below, row_at}
 use Rattle.scav_table.specs.Windows.{Window}
-use Rattle.scav_pages.specs.Walks.{AreWords}
 use Rattle.scav_pages.proofs.Doing.{pack_done}
 use Rattle.scav_pages.proofs.Passing.{carried_row, passed_none, passed_row, release_at, row_none, row_stays, stands_over}
-use Rattle.scav_pages.proofs.Ranking.{isnt_lower, page_rank, rank_is, row_ranged}
-
-pub some_row : {a b : Row} → Some a ≡ Some b → a ≡ b
-some_row e = cc
+use Rattle.scav_pages.proofs.Ranking.{met_or_next}
 
 -- the sector of a row, after its release
 abbrev pub Released : Pack → Row → Type 0
 Released p row = ChangesOne row.at None true free (released (sector_at p row.at) 2) p (after p (release_writes row.at))
 
-module _ (p : Pack) (last : Option Row) (row : Row) (words : AreWords row) (first : IsFirstAbove p last row) where
-  -- a row up to it was met before, or is this one
-  pub met : (i : ℕ) (r : Row) → row_at p i ≡ Some r → is_below row r ≡ false → (is_above last r ≡ false) ⊎ (i ≡ row.at)
-  met i r is low = by_test (is_above last r) refl
-    where
-      by_test : (t : Bool) → is_above last r ≡ t → (is_above last r ≡ false) ⊎ (i ≡ row.at)
-      by_test false e = inl e
-      by_test true e =
-          let ranged = row_ranged p i r is in
-          let here = ranged.here in
-          let x : ℕ = page_rank r.page in
-          let y : ℕ = page_rank row.page in
-          let a : x * 65536 + r.at ≤ y * 65536 + row.at = omega (arith, rank_is r, rank_is row, isnt_lower row r low) in
-          let b : y * 65536 + row.at ≤ x * 65536 + r.at = omega (arith, rank_is r, rank_is row, isnt_lower r row (first.least i r is e)) in
-          inr (omega (arith, here, ranged.at, words.at, a, b))
-
+module _ (p : Pack) (last : Option Row) (row : Row) (first : IsFirstAbove p last row) where
   -- it goes, and so each other row up to it was met before
   pub row_goes : Released p row
   row_goes = release_frees_at_the_label p row.at row.page 2 (carried_row p row.at row first.here) (omega arith)
 
   pub met_before : (i : ℕ) (r : Row) → row_at (after p (release_writes row.at)) i ≡ Some r → is_below row r ≡ false → (row_at p i ≡ Some r) × (is_above last r ≡ false)
-  met_before i r is low = (old, elim (met i r old low) [ inl e ↦ e | inr at ↦ absurd (other at) ])
+  met_before i r is low = (old, elim (met_or_next p last row first i r old low) [ inl e ↦ e | inr next ↦ absurd (other next.0) ])
     where
       q : Pack
       q = after p (release_writes row.at)

@@ -1,17 +1,25 @@
 -- SysDir's leader page comes to sector 1.
-use Rattle.std.proofs.Common.{◌≡◌, ◌≢◌, inl, inr, ℕ, ◌==◌, ◌<◌, ◌≤◌, Bool, true, false, cond, List, length, replicate, set, Option, Some, None, refl, sym, ap, subst, ◌∙◌, arith}
+use Rattle.std.proofs.Common.{◌≡◌, ◌≢◌, inl, inr, ℕ, ◌==◌, ◌<◌, ◌≤◌, Bool, true, false, cond, List, [], ◌∷◌, get_or, length, replicate, set, Option, Some, None, refl, sym, ap, subst, ◌∙◌, arith}
 use Rattle.std.proofs.lemmas.Bool.Decides.{nat_tests}
 use Rattle.std.specs.Option.{is_some, option_map_or}
-use Rattle.alto_words.specs.Fid.{sys_dir}
+use Rattle.alto_words.specs.Fid.{is_fid, sys_dir}
+use Rattle.alto_words.specs.declared.fid.Fid.{Fid}
 use Rattle.disk_records.specs.declared.records.Page.{Page}
 use Rattle.disk_records.specs.declared.records.Sector.{Sector}
 use Rattle.disk_records.specs.Commands.{claim_writes, release_writes}
 use Rattle.disk_records.specs.Labels.{in_range, label_of, page_of, tag}
 use Rattle.disk_records.specs.Packs.{Pack, after, carried, is_free_at, is_usable, sector_at}
 use Rattle.disk_records.specs.Words.{word}
+use Rattle.leader_page.specs.Pages.{Says}
+use Rattle.pack_model.specs.hints.Links.{dir_words}
 use Rattle.pack_model.specs.reading.Files.{leader, lives, place}
+use Rattle.pack_model.specs.reading.Leaders.{Leader, is_readable, leader_of, leader_words}
+use Rattle.pack_model.specs.reading.Sights.Sight.{hidden, leads}
 use Rattle.pack_model.specs.reading.Sights.{sights}
+use Rattle.pack_model.specs.reading.Slots.Item.{space}
+use Rattle.pack_model.specs.reading.Slots.{slots}
 use Rattle.pack_laws.specs.GuardLaws.{ComesToHold}
+use Rattle.pack_laws.proofs.Keys.{same_fid}
 use Rattle.pack_laws.proofs.files.Laws.{places_are_lowest}
 use Rattle.pack_laws.proofs.guards.Laws.{claim_takes_at_the_label}
 use Rattle.laws_record.proofs.Recording.{carried_sight}
@@ -19,12 +27,17 @@ use Rattle.laws_record.specs.QuietLaws.IsUnread.{leaderless}
 use Rattle.laws_operation.proofs.places.Laws.{file_lives_in_a_place, uncarried_page_has_no_place}
 use Rattle.laws_mend.specs.PartLaws.{RootMade}
 use Rattle.laws_mend.specs.Parts.{Rooted}
-use Rattle.laws_mend.specs.Tending.{AllTends}
 use Rattle.laws_mend.proofs.numbers.Laws.{first_sector_is_free, root_needs_two, two_needed_are_free}
-use Rattle.laws_mend.proofs.parts.Laws.{root_is_made, root_is_moved}
+use Rattle.laws_mend.proofs.parts.Laws.{copy_release_leaves, root_is_made, root_is_moved}
 use Rattle.laws_mend.proofs.runs.Laws.{copy_release_tends, root_copy_tends, root_leader_tends, unread_claim_tends}
+use Rattle.laws_mend.specs.Tending.{AllTends}
 use Rattle.scav_pages.specs.Free.{NoneFreeFrom}
+use Rattle.scav_pages.specs.Fresh.{fresh_leader}
+use Rattle.scav_pages.specs.Keeping.{Leads}
 use Rattle.scav_pages.specs.Parts.{MayMoveRoot}
+use Rattle.scav_pages.proofs.Changing.{claim_changes, release_changes}
+use Rattle.scav_pages.proofs.Keeping.{Mends, carried_lives, data_keeps, keeps_released, leader_keeps}
+use Rattle.scav_pages.proofs.Leading.{leads_new, leads_now}
 
 -- the label of a sector that carries a page names it
 pub label_names : (p : Pack) (at : ℕ) (page : Page) → carried p at ≡ Some page → page_of (sector_at p at).label ≡ Some page
@@ -76,8 +89,29 @@ module _ (p : Pack) (old : ℕ) (may : MayMoveRoot p (Some old)) (past : 1 < old
     | inr free ↦ free
   ]
 
-  pub copy_tends : (s : Sector) → s ≡ sector_at p old → AllTends p (claim_writes 1 s.label s.value)
-  copy_tends s is = subst (λ x. AllTends p (claim_writes 1 x.label x.value)) (sym is) (root_copy_tends p old first_free seat)
+  pub copy_mends : (s : Sector) → s ≡ sector_at p old → Mends p (claim_writes 1 s.label s.value)
+  copy_mends s is = subst (λ x. Mends p (claim_writes 1 x.label x.value)) (sym is) (record {
+    each = record {
+      tends = root_copy_tends p old first_free seat;
+      changes = claim_changes p 1 (root_page 0) (sector_at p old).label (sector_at p old).value first_free (label_names p old (root_page 0) root_carried);
+    };
+    keeps = leader_keeps p 1 sys_dir (sector_at p old).label (sector_at p old).value first_free (label_names p old (root_page 0) root_carried)
+        (λ dead here. absurd (living dead)) copied (λ dead. absurd (living dead));
+  })
+    where
+      living : lives (sights p) sys_dir ≡ false → ⊥
+      living dead = (let wrong : true ≡ false = sym (file_lives_in_a_place p sys_dir ∙ ap is_some seat) ∙ dead in cc)
+
+      copied : (readable : Bool) (l : Leader) → Leads p sys_dir readable l → Leads (after p (claim_writes 1 (sector_at p old).label (sector_at p old).value)) sys_dir readable l
+      copied readable l x =
+          let at : Some x.at ≡ Some old = sym x.sector ∙ seat in
+          let same : x.at ≡ old = cc in
+          let shown : leads sys_dir readable l ≡ leads sys_dir (is_readable (leader_words (sector_at p old).value)) (leader_of sys_dir (sector_at p old).value) = sym x.says ∙ ap (λ k. get_or (sights p) k hidden) same ∙ carried_sight p old (root_page 0) root_carried in
+          let can : readable ≡ is_readable (leader_words (sector_at p old).value) = cc in
+          let lead : l ≡ leader_of sys_dir (sector_at p old).value = cc in
+          subst (λ r. Leads (after p (claim_writes 1 (sector_at p old).label (sector_at p old).value)) sys_dir r l) (sym can)
+          (subst (λ y. Leads (after p (claim_writes 1 (sector_at p old).label (sector_at p old).value)) sys_dir (is_readable (leader_words (sector_at p old).value)) y) (sym lead)
+          (leads_now p 1 sys_dir (sector_at p old).label (sector_at p old).value first_free (label_names p old (root_page 0) root_carried) (λ j below. ((places_are_lowest p (root_page 0)).lowest old seat).lowest j (omega (arith, below, past)))))
 
   -- once the copy is there
   module _ (s : Sector) (is : s ≡ sector_at p old) (q : Pack) (left : q ≡ after p (claim_writes 1 s.label s.value)) where
@@ -90,8 +124,11 @@ module _ (p : Pack) (old : ℕ) (may : MayMoveRoot p (Some old)) (past : 1 < old
     pub still_carried : carried q old ≡ Some (root_page 0)
     still_carried = taken.pages old (λ same. omega arith) ∙ root_carried
 
-    pub old_tends : AllTends q (release_writes old)
-    old_tends = copy_release_tends q old 1 (root_page 0) still_carried taken.page_here past
+    pub old_mends : Mends q (release_writes old)
+    old_mends = record {
+      each = record { tends = copy_release_tends q old 1 (root_page 0) still_carried taken.page_here past; changes = release_changes q old (root_page 0) still_carried };
+      keeps = keeps_released q old (root_page 0) still_carried (copy_release_leaves q old 1 (root_page 0) still_carried taken.page_here past);
+    }
 
     pub moved : (r : Pack) → r ≡ after q (release_writes old) → Rooted r
     moved r gone =
@@ -126,8 +163,18 @@ module _ (p : Pack) (may : MayMoveRoot p None) where
   no_leader : leader (sights p) sys_dir ≡ None
   no_leader = no_leader_of p (sym may.root_is)
 
-  pub page_tends : (at : ℕ) (label value : List ℕ) → is_free_at p at ≡ true → 2 ≤ at → page_of label ≡ Some (root_page 1) → AllTends p (claim_writes at label value)
-  page_tends at label value free past names = unread_claim_tends p at (root_page 1) label value free (λ same. omega arith) names refl (leaderless no_leader refl (omega arith))
+  pub page_mends : (at : ℕ) (label value : List ℕ) → is_free_at p at ≡ true → 2 ≤ at → page_of label ≡ Some (root_page 1) → Mends p (claim_writes at label value)
+  page_mends at label value free past names = record {
+    each = record {
+      tends = unread_claim_tends p at (root_page 1) label value free (λ same. omega arith) names refl (leaderless no_leader refl (omega arith));
+      changes = claim_changes p at (root_page 1) label value free names;
+    };
+    keeps = data_keeps p at sys_dir label value free 0 names (λ d live dir. not_root_dir d live (is_fid d sys_dir) refl);
+  }
+    where
+      not_root_dir : (d : Fid) → lives (sights p) d ≡ true → (t : Bool) → is_fid d sys_dir ≡ t → is_fid d sys_dir ≡ false
+      not_root_dir d live true e = absurd (let wrong : true ≡ false = sym live ∙ ap (lives (sights p)) (same_fid d sys_dir e) ∙ root_dead in cc)
+      not_root_dir d live false e = e
 
   -- once its first data page is there
   module _ (at : ℕ) (label value : List ℕ) (free : is_free_at p at ≡ true) (past : 2 ≤ at) (names : page_of label ≡ Some (root_page 1)) (q : Pack) (left : q ≡ after p (claim_writes at label value)) where
@@ -154,9 +201,19 @@ module _ (p : Pack) (may : MayMoveRoot p None) where
       made : RootMade (after p (claim_writes at label value)) (after (after p (claim_writes at label value)) (claim_writes 1 later_label later_value))
       made = root_is_made p at label value later_label later_value may.used root_dead one_free free (λ same. omega arith) names counts sized first later_names
 
-      pub leader_tends : AllTends q (claim_writes 1 later_label later_value)
-      leader_tends = subst (λ x. AllTends x (claim_writes 1 later_label later_value)) (sym left)
-          (root_leader_tends (after p (claim_writes at label value)) later_label later_value (subst (λ x. is_free_at x 1 ≡ true) left one_still_free) later_names (subst (λ x. leader (sights x) sys_dir ≡ None) left still_dead) made.slots)
+      pub leader_mends : {hints : List ℕ} → Says later_value (fresh_leader sys_dir) hints → Mends q (claim_writes 1 later_label later_value)
+      leader_mends says = record {
+        each = record { tends = leader_tends; changes = claim_changes q 1 (root_page 0) later_label later_value one_still_free later_names };
+        keeps = leader_keeps q 1 sys_dir later_label later_value one_still_free later_names (λ dead here. subst (λ x. slots (dir_words x sys_dir) ≡ space 255 ∷ []) (sym left) made.slots) (λ readable l x. absurd (dead_now (file_lives_in_a_place q sys_dir ∙ ap is_some x.sector)))
+            (λ dead. leads_new q 1 sys_dir later_label later_value one_still_free later_names (λ j below carries. dead_now (carried_lives q j sys_dir carries)) says);
+      }
+        where
+          dead_now : lives (sights q) sys_dir ≡ true → ⊥
+          dead_now live = (let wrong : true ≡ false = sym live ∙ ap is_some still_dead in cc)
+
+          leader_tends : AllTends q (claim_writes 1 later_label later_value)
+          leader_tends = subst (λ x. AllTends x (claim_writes 1 later_label later_value)) (sym left)
+              (root_leader_tends (after p (claim_writes at label value)) later_label later_value (subst (λ x. is_free_at x 1 ≡ true) left one_still_free) later_names (subst (λ x. leader (sights x) sys_dir ≡ None) left still_dead) made.slots)
 
       pub root_made : (r : Pack) → r ≡ after q (claim_writes 1 later_label later_value) → Rooted r
       root_made r is = subst Rooted (sym is) (subst (λ x. Rooted (after x (claim_writes 1 later_label later_value))) (sym left) made.rooted)

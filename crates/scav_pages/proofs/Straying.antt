@@ -25,16 +25,19 @@ use Rattle.pack_model.specs.states.Sentences.{EachOnce}
 use Rattle.pack_laws.proofs.Guarding.{usable_within}
 use Rattle.pack_laws.proofs.Sighted.{length-sights, sights-get}
 use Rattle.laws_mend.specs.Parts.{FreesMore}
-use Rattle.laws_mend.specs.Tending.{AllTends}
-use Rattle.laws_mend.proofs.joins.Laws.{tends_breaks_off}
 use Rattle.laws_mend.proofs.numbers.Laws.{frees_join, stray_release_frees}
 use Rattle.laws_mend.proofs.parts.Laws.{stray_release_leaves}
 use Rattle.laws_mend.proofs.runs.Laws.{stray_release_tends}
+use Rattle.scav_pages.specs.Changes.{AllMend}
+use Rattle.scav_pages.specs.Keeping.{KeepsFiles}
 use Rattle.scav_pages.specs.declared.errors.Stop.TheVariants.{DiskFault, Memory}
 use Rattle.scav_pages.specs.Does.{Does}
 use Rattle.scav_pages.specs.Parts.{StrayReleased, StraysReleased}
+use Rattle.scav_pages.proofs.Changing.{busy_release_changes, mend_breaks_off}
 use Rattle.scav_pages.proofs.Doing.{Going, does_ok, going_does, going_here}
-use Rattle.scav_pages.proofs.Passing.{release_at, tends_looks, want_added, writes_here}
+use Rattle.scav_pages.proofs.Keeping.{keeps_files, keeps_here}
+use Rattle.scav_pages.proofs.Leading.{leaders_released}
+use Rattle.scav_pages.proofs.Passing.{release_at, mends_looks, want_added, writes_here}
 
 -- ---- what a sector shows
 -- a good sector that is neither free nor carries a page
@@ -147,31 +150,36 @@ stays_released p at once is =
 pub nothing_released : {told : Bool} {a b : Taped} (at : ℕ) → Looks told 1 a b → IsTrue told → EachOnce (sights (pack a)) → (IsStray (pack a) at → ⊥) → Does {T = Bool} (StrayReleased at) a b (Ok false)
 nothing_released {a = a} at looks h once other = record {
   leaves = subst (λ q. StrayReleased at (pack a) q false) (sym (looks_pack looks h)) (stays_unreleased (pack a) at once other);
+  keeps = subst (KeepsFiles (pack a)) (sym (looks_pack looks h)) (keeps_here (pack a));
   found = λ e. cc;
   want = λ e. cc;
-  tends = tends_looks looks h;
+  mends = mends_looks looks h;
 }
 
 module _ {told : Bool} {a b c : Taped} (at : ℕ) (looks : Looks told 1 a b) (alone : DiskAlone b c) (h : IsTrue told) (is : IsStray (pack a) at) (some : IsFirstOf (release_writes at) (added b c)) where
   added_is : added a c ≡ added b c
   added_is = added-twice looks.alone.grown alone.grown ∙ ap (λ l. l ++ added b c) (looks.silent h)
 
-  tends : AllTends (pack a) (added a c)
-  tends = tends_breaks_off (pack a) (release_writes at) (added a c) (subst (IsFirstOf (release_writes at)) (sym added_is) some) (stray_release_tends (pack a) at is.usable is.carries)
+  mends : AllMend (pack a) (added a c)
+  mends = mend_breaks_off (pack a) (release_writes at) (added a c) (subst (IsFirstOf (release_writes at)) (sym added_is) some) (record { tends = stray_release_tends (pack a) at is.usable is.carries; changes = busy_release_changes (pack a) at is.usable is.busy })
+
+  left : added b c ≡ release_writes at → pack c ≡ after (pack a) (release_writes at)
+  left wrote = pack-after (alone_twice looks.alone alone).grown ∙ ap (after (pack a)) (added_is ∙ wrote)
 
   pub one_released : EachOnce (sights (pack a)) → added b c ≡ release_writes at → Does {T = Bool} (StrayReleased at) a c (Ok true)
   one_released once wrote = record {
-    leaves = subst (λ q. StrayReleased at (pack a) q true) (sym (pack-after (alone_twice looks.alone alone).grown ∙ ap (after (pack a)) (added_is ∙ wrote))) (stays_released (pack a) at once is);
+    leaves = subst (λ q. StrayReleased at (pack a) q true) (sym (left wrote)) (stays_released (pack a) at once is);
+    keeps = subst (KeepsFiles (pack a)) (sym (left wrote)) (let gone = stray_release_leaves (pack a) at is.usable is.carries in keeps_files gone.files (leaders_released gone.changed refl gone.files.lives_are (λ f k e. gone.files.places_are f 0 ∙ e)));
     found = λ e. cc;
     want = λ e. cc;
-    tends = tends;
+    mends = mends;
   }
 
   pub half_released : Does {T = Bool} (StrayReleased at) a c (Err DiskFault)
-  half_released = record { leaves = tt; found = λ e. cc; want = λ e. cc; tends = tends }
+  half_released = record { leaves = tt; keeps = tt; found = λ e. cc; want = λ e. cc; mends = mends }
 
   pub none_released : b.spare < 2 → Does {T = Bool} (StrayReleased at) a c (Err Memory)
-  none_released less = record { leaves = tt; found = λ e. cc; want = λ e. want_added looks.alone.grown alone.grown (omega (arith, less)); tends = tends }
+  none_released less = record { leaves = tt; keeps = tt; found = λ e. cc; want = λ e. want_added looks.alone.grown alone.grown (omega (arith, less)); mends = mends }
 
 -- the header is the one that was read, so it matches
 pub header_matches : {told : Bool} {a b : Taped} (at : ℕ) (memory found : Sector) → Looks told 1 a b → IsTrue told → found ≡ sector_at (pack a) at → memory.header ≡ found.header

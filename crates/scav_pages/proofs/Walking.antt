@@ -23,29 +23,35 @@ use Rattle.scav_pages.specs.declared.files.Met.TheVariants.{Past}
 use Rattle.scav_pages.specs.Begins.{Begun}
 use Rattle.scav_pages.specs.WalkLaws.{LeavesItsFile, LeavesTheLastFile, LeftFileIsKnown}
 use Rattle.scav_pages.specs.Walks.{AreWords, EndsAt, IsFresh, IsInFile, IsInHand, IsMet, IsOtherFile, NoneAbove, Walked, file_in_hand, page_in_hand}
-use Rattle.scav_pages.proofs.Passing.{carried_row, contrary, passed_more, passed_row}
+use Rattle.scav_pages.proofs.Passing.{carried_row, contrary, passed_more, passed_row, some_row}
 use Rattle.scav_pages.proofs.Ranking.{HasRow, IsOfOther, IsOtherPage, above_last, all_later, between_fids, isnt_lower, later_number, lower_is, number_later, row_of_place, row_ranged, row_seated, same_ranks, words_of}
 
 -- ---- the file in hand
+-- a file is in hand, or it isn't
+pub hand_or : (hand : Option Fid) (f : Fid) → (hand ≡ Some f) ⊎ (hand ≢ Some f)
+hand_or None f = inr (λ e. cc)
+hand_or (Some g) f = by (is_fid g f) refl
+  where
+    by : (t : Bool) → is_fid g f ≡ t → (Some g ≡ Some f) ⊎ (Some g ≢ Some f)
+    by true e = inl (ap Some (same_fid g f e))
+    by false e = inr (λ is. (let same : g ≡ f = cc in contrary (subst (λ x. is_fid g x ≡ true) same (is_fid-itself g)) e))
+
 -- it is that of the walk's row
 hand_is : (walk : FileWalk) (row : Row) (f : Fid) → walk.last ≡ Some row → file_in_hand walk ≡ Some f → row.page.fid ≡ f
 hand_is walk row f e h = let both : Some row.page.fid ≡ Some f = sym (ap (option_map (λ r. r.page.fid)) e) ∙ h in cc
 
-some_row : {o : Option Row} {a b : Row} → o ≡ Some a → o ≡ Some b → a ≡ b
-some_row d e = let both = sym d ∙ e in cc
-
 -- the walk's row, and the last row, of which it has the page
-record Hand (p : Pack) (last : Option Row) (walk : FileWalk) (f : Fid) : Type 0 where
-  row : Row
-  is : walk.last ≡ Some row
-  fid : row.page.fid ≡ f
-  b : Row
-  last_is : last ≡ Some b
-  page : b.page ≡ row.page
-  words : AreWords b
-  hand : IsInHand p last walk row
+pub record Hand (p : Pack) (last : Option Row) (walk : FileWalk) (f : Fid) : Type 0 where
+  pub row : Row
+  pub is : walk.last ≡ Some row
+  pub fid : row.page.fid ≡ f
+  pub b : Row
+  pub last_is : last ≡ Some b
+  pub page : b.page ≡ row.page
+  pub words : AreWords b
+  pub hand : IsInHand p last walk row
 
-hand_of : {p : Pack} {last : Option Row} {walk : FileWalk} (f : Fid) → Walked p last walk → file_in_hand walk ≡ Some f → Hand p last walk f
+pub hand_of : {p : Pack} {last : Option Row} {walk : FileWalk} (f : Fid) → Walked p last walk → file_in_hand walk ≡ Some f → Hand p last walk f
 hand_of {p} {last} {walk} f w h = by_last walk.last refl last refl
   where
     by_last : (o : Option Row) → walk.last ≡ o → (l : Option Row) → last ≡ l → Hand p last walk f
@@ -121,10 +127,10 @@ module _ {p : Pack} {last : Option Row} {row : Row} {walk : FileWalk} (b : Begun
   taken : (new : FileWalk) → new.last ≡ Some row → new.pages ≤ row.page.number → IsInFile p (Some row) row.page.fid new → Walked p (Some row) new
   taken new e few file = record {
     formed = b.formed;
-    words = λ r is. subst AreWords (some_row {o = Some row} refl is) b.words;
+    words = λ r is. subst AreWords (some_row is) b.words;
     begins = λ none. absurd (let no : None ≡ Some row = sym none ∙ e in cc);
     fresh = λ none. absurd (let no : None ≡ Some row = sym none ∙ e in cc);
-    hand = λ r is. subst (IsInHand p (Some row) new) (some_row e is) (record { page = refl; seated = b.seated; passed = passed_row p row b.first.here; pages = few });
+    hand = λ r is. subst (IsInHand p (Some row) new) (some_row (sym e ∙ is)) (record { page = refl; seated = b.seated; passed = passed_row p row b.first.here; pages = few });
     file = λ f is. subst (λ g. IsInFile p (Some row) g new) (hand_is new row f e is) file;
   }
 
@@ -132,7 +138,7 @@ module _ {p : Pack} {last : Option Row} {row : Row} {walk : FileWalk} (b : Begun
   above_row : (n at : ℕ) (r : Row) → row.page.number < n → place (sights p) row.page.fid n ≡ Some at → row_at p at ≡ Some r → is_above (Some row) r ≡ true
   above_row n at r l e is =
       let h = row_of_place p (record { fid = row.page.fid; number = n }) at e in
-      let same : h.row ≡ r = some_row h.is is in
+      let same : h.row ≡ r = some_row (sym h.is ∙ is) in
       let fid : row.page.fid ≡ r.page.fid = sym (ap (λ x. x.fid) h.page_is) ∙ ap (λ x. x.page.fid) same in
       let number : r.page.number ≡ n = sym (ap (λ x. x.page.number) same) ∙ ap (λ x. x.number) h.page_is in
       lower_is row r (later_number row r b.words.at fid (omega (arith, number, l)))
@@ -238,7 +244,7 @@ other_file {p} {last} {walk} row w other b e = by_hand (file_in_hand walk) refl
     by_hand None h = absurd (other.0 h)
     by_hand (Some f) h =
         let hand = hand_of f w h in
-        let same : hand.b ≡ b = some_row hand.last_is e in
+        let same : hand.b ≡ b = some_row (sym hand.last_is ∙ e) in
         let fid : b.page.fid ≡ f = sym (ap (λ x. x.page.fid) same) ∙ ap (λ x. x.fid) hand.page ∙ hand.fid in
         (w.words b e, λ is. other.1 (h ∙ ap (λ x. Some x) (sym fid ∙ is)))
 
@@ -261,7 +267,7 @@ begun_fresh {p} {last} {walk} {row} fresh formed words other first = record {
   full = λ on. (subst (FullBefore p row.page.fid) (sym fresh.pages) (none_before_the_first p row.page.fid), (let n = fresh.length in let m = fresh.pages in omega (arith, n, m)));
   next = λ on at r place_is is.
       let h = row_of_place p (record { fid = row.page.fid; number = suc walk.pages }) at place_is in
-      let same : h.row ≡ r = some_row h.is is in
+      let same : h.row ≡ r = some_row (sym h.is ∙ is) in
       all_later p last row words other first at r is (sym (ap (λ x. x.page.fid) same) ∙ ap (λ x. x.fid) h.page_is);
   ended = λ off. contrary fresh.goes_on off;
 }
@@ -286,7 +292,7 @@ begun_fresh {p} {last} {walk} {row} fresh formed words other first = record {
 pub begun_same : {p : Pack} {last : Option Row} {walk : FileWalk} {row : Row} (l : Row) → Walked p last walk → AreWords row → IsFirstAbove p last row → walk.last ≡ Some l → l.page.fid ≡ row.page.fid → l.page ≢ row.page → Begun p last row walk
 begun_same {p} {last} {walk} {row} l w words first e fid other =
     let hand = hand_of row.page.fid w (ap (option_map (λ r. r.page.fid)) e ∙ ap (λ f. Some f) fid) in
-    let same : hand.row ≡ l = some_row hand.is e in
+    let same : hand.row ≡ l = some_row (sym hand.is ∙ e) in
     let page : hand.b.page ≡ l.page = hand.page ∙ ap (λ r. r.page) same in
     let known : IsInFile p last row.page.fid walk = w.file row.page.fid (ap (option_map (λ r. r.page.fid)) e ∙ ap (λ f. Some f) fid) in
     let low : rank hand.b < rank row = above_last last hand.b row hand.last_is first.above in
@@ -296,7 +302,7 @@ begun_same {p} {last} {walk} {row} l w words first e fid other =
       formed = w.formed;
       words = words;
       first = first;
-      seated = row_seated p last row words (λ b is. (w.words b is, λ pages_same. other (sym page ∙ ap (λ r. r.page) (some_row hand.last_is is) ∙ pages_same))) first;
+      seated = row_seated p last row words (λ b is. (w.words b is, λ pages_same. other (sym page ∙ ap (λ r. r.page) (some_row (sym hand.last_is ∙ is)) ∙ pages_same))) first;
       lives_is = λ some. known.lives_is;
       later = inl (omega (arith, few, number));
       full = known.full;
@@ -336,7 +342,7 @@ module _ {p : Pack} {last : Option Row} {walk : FileWalk} {row : Row} (l : Row) 
       by_test : (t : Bool) → is_below row r ≡ t → is_below row r ≡ true
       by_test true low = low
       by_test false high =
-          let same : h.row ≡ r = some_row h.is here in
+          let same : h.row ≡ r = some_row (sym h.is ∙ here) in
           let page_is : r.page ≡ record { fid = row.page.fid; number = n } = sym (ap (λ x. x.page) same) ∙ h.page_is in
           let rwords : AreWords r = words_of p at r row here words (ap (λ x. x.fid) page_is) in
           let least : rank row ≤ rank r = isnt_lower r row (first.least at r here above) in
@@ -351,11 +357,11 @@ module _ {p : Pack} {last : Option Row} {walk : FileWalk} {row : Row} (l : Row) 
   pub copy_walked : Walked p (Some row) walk
   copy_walked = record {
     formed = w.formed;
-    words = λ r is. subst AreWords (some_row {o = Some row} refl is) words;
+    words = λ r is. subst AreWords (some_row is) words;
     begins = λ none. absurd (let no : None ≡ Some l = sym none ∙ e in cc);
     fresh = λ none. absurd (let no : None ≡ Some l = sym none ∙ e in cc);
     hand = λ r is.
-        let same : l ≡ r = some_row e is in
+        let same : l ≡ r = some_row (sym e ∙ is) in
         let old = w.hand r is in
         record { page = ap (λ x. Some x) (sym page ∙ ap (λ x. x.page) same); seated = old.seated; passed = passed_more last row (row_at p r.at) first.above old.passed; pages = old.pages };
     file = λ f h.

@@ -1,10 +1,14 @@
 pub mod Begins
+pub mod Changes
 pub mod Directories
+pub mod DirectoryLaws
 pub mod Does
 pub mod Ends
 pub mod Free
 pub mod Fresh
+pub mod Keeping
 pub mod Links
+pub mod Mending
 pub mod Parts
 pub mod Stops
 pub mod WalkLaws

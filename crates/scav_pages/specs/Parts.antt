@@ -11,6 +11,7 @@ use Rattle.pack_model.specs.reading.Sights.{sights}
 use Rattle.pack_model.specs.reading.Sights.Sight.{hidden, stray}
 use Rattle.pack_model.specs.reading.Slots.{SlotsReachEnd}
 use Rattle.pack_model.specs.scavenger.Scavenging.{Scavengeable}
+use Rattle.pack_model.specs.scavenger.Reports.{PagesMended}
 use Rattle.pack_model.specs.states.InUse.{one_if}
 use Rattle.pack_model.specs.states.Sentences.{EachOnce, HasLastPage}
 use Rattle.laws_mend.specs.Parts.{Cleared, Ended, FreesMore, Lasting, Rooted, Used}
@@ -120,3 +121,6 @@ PageDescribed number places next p q done = MayDescribePage q (suc number) place
 
 abbrev pub Described : Pack → Pack → Unit {0} → Type 0
 Described p q done = Lasting q
+
+abbrev pub LinksMended : Pack → Pack → Unit {0} → Type 0
+LinksMended p q done = PagesMended q

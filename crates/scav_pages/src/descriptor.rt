@@ -23,8 +23,8 @@ const NO_LINK: u16 = 0xFFFF;
 /// The sectors of DiskDescriptor's pages, by their numbers: the leader page first, and 5 data pages at most. 0 if none is known.
 pub(crate) type Places = [u16; 6];
 
-/// The number of DiskDescriptor's data pages, 1 to 5.
-pub(crate) fn data_pages(shape: Shape) -> u16
+/// The number of data pages, 1 to 5, that DiskDescriptor has on a pack of this shape by the length of its format.
+pub fn data_pages(shape: Shape) -> u16
     ensures pages { result ≡ data_pages shape }
     ensures least { 1 ≤ result }
     ensures most { result ≤ 5 }

@@ -42,8 +42,12 @@ pub(crate) fn cut_directories<D: Disk>(disk: &mut D, table: &mut Table) -> Resul
     cut_directory(disk, &dir)
 }
 
-/// Takes the next row, and reads the slots of its page if it is one of a living directory.
-fn meet_page<D: Disk>(disk: &mut D, row: &Row, dir: &mut Directory) -> Result<(), Stop>
+/// Takes the next row of a pass, which is of the file in hand or the first of another, and reads the slots of its page if it is one of a
+/// living directory.
+///
+/// One sector command at most, and nothing is written. DiskFault: the disk failed. Memory: no memory was left, and Astray: the sector shows
+/// another page than the row; neither comes on a machine that is modelled, if the row is of its pack. After each of them the pass is over.
+pub fn meet_page<D: Disk>(disk: &mut D, row: &Row, dir: &mut Directory) -> Result<(), Stop>
     requires first { 1 ≤ row.now.at }
     requires place { row.now.at < pages_of (D.tape disk.old).form }
     requires same { IsOtherFile dir.old.walk row.now → ⊥ }

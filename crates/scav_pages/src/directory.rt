@@ -8,11 +8,13 @@ use scav_table::Row;
 /// The words of a full page.
 const PAGE_WORDS: u32 = 256;
 
-/// The file in hand, and if it is a directory its slots as far as its pages were read.
+/// The file in hand of a pass along rows, and if it is a directory its slots as far as its pages were read.
 #[derive(Drop)]
-pub(crate) struct Directory {
-    pub(crate) walk: FileWalk,
-    pub(crate) slots: Walk,
+pub struct Directory {
+    /// The rows of the file, as far as they were met.
+    pub walk: FileWalk,
+    /// The slots of its words, as far as these were read; none of a file that is no living directory.
+    pub slots: Walk,
     /// The sector of the page that the next slot begins in; 0 if no page was read.
     pub(crate) at: u16,
     ghost few: { slots.place + slots.held ≤ 256 * walk.pages },
@@ -27,8 +29,8 @@ impl Directory {
     ghost use Rattle.scav_pages.specs.Directories.{IsReadTo};
     ghost use Rattle.scav_pages.specs.Walks.{file_in_hand};
 
-    /// No file yet.
-    pub(crate) fn new() -> Directory
+    /// No file yet: the pass is before its first row, or after the last row of a file.
+    pub fn new() -> Directory
         ensures none { file_in_hand result.walk ≡ None }
         ensures start { (p : Pack) (last : Option Row) → AreFormed p → MayBegin p last → IsReadTo p last result }
     {

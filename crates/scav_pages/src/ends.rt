@@ -1,26 +1,50 @@
-// Last pages of files, and pages that are claimed.
+// Last pages of files, and DiskDescriptor.
 ghost use Rattle.std.specs.Prelude.{◌≡◌, ◌≤◌, ◌<◌, ◌↔◌, get_or, ℕ, Some, IsTrue, IfOk, OnOk};
 ghost use Rattle.disk_records.specs.Addresses.{pages_of};
 ghost use Rattle.disk_records.specs.Causes.{HasCause};
 ghost use Rattle.disk_records.specs.Labels.{page_of};
 ghost use Rattle.disk_records.specs.Tapes.{DiskAlone, pack};
+ghost use Rattle.laws_mend.specs.Parts.{Rooted};
+ghost use Rattle.pack_model.specs.scavenger.Scavenging.{Scavengeable};
 ghost use Rattle.scav_pages.specs.Does.{Does};
 ghost use Rattle.scav_pages.specs.Ends.{AreWithin, MayClaim, MayClaimLast, noted_at};
-ghost use Rattle.scav_pages.specs.Parts.{ClaimsHand, LastClaimed, PageClaimed, PageWritten};
+ghost use Rattle.scav_pages.specs.Parts.{ClaimsHand, Described, LastClaimed, PageClaimed, PageWritten};
 ghost use Rattle.scav_pages.specs.Stops.{cause_of_stop};
 ghost use Rattle.scav_pages.specs.Walks.{sector_in_hand};
 
-use crate::descriptor::Places;
+use crate::descriptor::{Places, mend_descriptor};
 use crate::errors::Stop;
 use crate::files::FileWalk;
 use crate::free::next_free;
+use crate::rows::next_row;
 use alto_words::Fid;
 use disk_records::{Disk, Page, label_of, page_of};
 use label_check::claim;
-use scav_table::Row;
+use scav_table::{Pass, Row, Table};
 
 /// A link at either end of a file.
 const NO_LINK: u16 = 0xFFFF;
+
+/// Claims each last page that is missing, with 0 bytes, and makes DiskDescriptor whole.
+pub(crate) fn mend_ends<D: Disk>(disk: &mut D, table: &mut Table) -> Result<(), Stop>
+    ensures does { IsTrue D.told → Scavengeable (pack (D.tape disk.old)) → Rooted (pack (D.tape disk.old)) → Does Described (D.tape disk.old) (D.tape disk.new) result }
+    ensures cause { HasCause cause_of_stop (D.tape disk.old) (D.tape disk.new) result }
+    ensures alone { DiskAlone (D.tape disk.old) (D.tape disk.new) }
+{
+    let mut pass = Pass::begin(disk, table)?;
+    let mut walk = FileWalk::new();
+    let mut from = 1;
+    let mut places: Places = [0; 6];
+    while let Some(row) = next_row(disk, table, &mut pass)? {
+        if walk.leaves(&row) {
+            claim_last(disk, &walk, &mut from)?;
+        }
+        walk.meet(&row);
+        note_page(&mut places, &row);
+    }
+    claim_last(disk, &walk, &mut from)?;
+    mend_descriptor(disk, &mut places, &mut from)
+}
 
 /// Notes the sector of a page of DiskDescriptor, one of its first six.
 fn note_page(places: &mut Places, row: &Row)

@@ -1,16 +1,18 @@
 // Why a pass over all rows ends early.
 ghost use Rattle.std.specs.Prelude.{◌≡◌};
+ghost use Rattle.scav_pages.specs.declared.errors.Stop.TheVariants.{Memory};
 ghost use Rattle.scav_pages.specs.Stops.{stop_of_guard, stop_of_look, stop_of_sweep};
 
+use alto_words::Memory;
 use label_check::{GuardError, LookError};
 use scav_table::SweepError;
 
-/// Why a pass ends before its last row.
+/// Why a pass along the rows of a pack, or any other part of the Scavenger's work, ends before all of it is done.
 #[derive(Clone, Copy, Debug, PartialEq, Eq, Drop)]
-pub(crate) enum Stop {
+pub enum Stop {
     /// The device failed, and its count of faults rose.
     DiskFault,
-    /// The device wanted memory for record writes, and had none.
+    /// No memory was left: the device wanted it for record writes, or what the part keeps of the rows did, where it keeps anything.
     Memory,
     /// A sector shows another page than a moment ago, or a free sector that has to be there isn't. This never comes on a machine that is
     /// modelled, if the pack can be scavenged.
@@ -48,5 +50,13 @@ impl From<LookError> for Stop {
             LookError::DiskFault => Stop::DiskFault,
             LookError::Memory => Stop::Memory,
         }
+    }
+}
+
+impl From<Memory> for Stop {
+    ghost from_gives = { λ _ stop. stop ≡ Memory };
+
+    fn from(_: Memory) -> Self {
+        Stop::Memory
     }
 }

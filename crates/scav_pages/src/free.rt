@@ -11,10 +11,12 @@ use crate::errors::Stop;
 use disk_records::{Disk, Sector, is_free_label};
 use label_check::look;
 
-/// The lowest free sector from this one on, which then is the one after it.
+/// Finds the lowest free sector from the sector `from` on, which is 1 at least, and sets `from` to the sector after it.
 ///
-/// Astray: there is none.
-pub(crate) fn next_free<D: Disk>(disk: &mut D, from: &mut u16) -> Result<u16, Stop>
+/// One sector command for each sector that it looks at, and nothing is written. Astray: no sector from `from` on is free. DiskFault: the
+/// disk failed. Memory: no memory was left, which never comes on a machine that is modelled. After each of them `from` is no less than
+/// it was.
+pub fn next_free<D: Disk>(disk: &mut D, from: &mut u16) -> Result<u16, Stop>
     requires first { 1 ≤ from.old }
     ensures free { IsTrue D.told → IfOk result (IsNextFree (pack (D.tape disk.old)) from.old) }
     ensures least { from.old ≤ from.new }

@@ -1,23 +1,31 @@
-//! The pages of a pack while they are mended: the Scavenger's work on second copies, stray labels, directories, pages that aren't in use, SysDir
-//! and DiskDescriptor.
+//! The pages of a pack, mended: the Scavenger's work on labels, links, ends of files and leaders.
 //!
 //! Come here to make the pages of any pack whole. Below stand scav_table, whose passes go along all pages in the order of files,
 //! label_check, dir_slots and leader_page. It takes no memory: what is kept between two rows is the file in hand, the slot in hand and
-//! the sectors of DiskDescriptor's pages. The parts of a mending stand, each with what it leaves and with what it keeps at each crash point;
-//! the passes that claim all last pages and make all links true, and the call that has all parts, aren't built yet. Where the machine is modelled:
-//! 1. At each crash point of a part, whatever its answer, what is shown is as before, and so are the available sectors less the needed ones;
-//!    the pack can be scavenged if it could; it isn't clean if it had no clean mark before (`tends`).
-//! 2. At Ok no page is carried twice (`copies`); each label is free or in range (`strays`); directories end with their slots (`directories`);
-//!    each good sector is free or in use (`unused`); sector 1 is SysDir's leader (`root`); a file whose last page was missing has it (`ends`);
-//!    DiskDescriptor lives with the length of its format (`descriptor`); a page has true links, and its name if it is a leader page (`links`).
+//! the sectors of DiskDescriptor's pages. To the layers above, where the machine is modelled and the pack can be scavenged:
+//! 1. At each crash point, whatever the answer, what is shown is as before, and so are the available sectors less the needed ones; the
+//!    pack can be scavenged; it isn't clean if it had no clean mark before (`kept`, `unclean`).
+//! 2. At Ok each good sector is free or in use, and no page is carried twice; sector 1 is SysDir's leader; directories end with their
+//!    slots, all files with their last page; DiskDescriptor lives with the length of its format; links are true, and leaders' names can be
+//!    read (`mended`). Directories have the slots that they had, and SysDir, if it is made, one free slot of 255 words (`slots_are`, `root`).
+//!    Leader pages say what they said, except that a name that couldn't be read is its file's own; those that are made have dates 0
+//!    (`leaders`, `fresh`).
+//! 3. The answer is the number of sectors that were available and not free (`freed_is`), and as many files will get a name as would have
+//!    before (`adopted`).
+//! 4. Whatever the answer, each record write changes what stands: no label is written that stands already, and no value either, except in a
+//!    free sector or with its sector's label (`changes`).
 //!
 //! And of any pack:
-//! 3. A `FileWalk` that is given the rows in their order says what each is to its file (`met`), and of a file of which no more rows come
+//! 5. A `FileWalk` that is given the rows in their order says what each is to its file (`met`), and of a file of which no more rows come
 //!    whether it lives, how long it is, and whether its last page is missing (`leaves_its_file`, `leaves_the_last_file`,
 //!    `left_file_is_known`).
 //!
+//! What the rest of the Scavenger shares with these parts is open to it: a `Stop` says why a part ended early, `next_row` and `next_free`
+//! give the next row of a pass and the next free sector, `own_name` and `data_pages` the name and the pages of a file that is made.
+//!
 //! On every machine a fault is answered only if its count rose (`cause`).
-//! Not promised: anything of a pack that lacks what the parts before leave.
+//! Not promised: anything of a pack that can't be scavenged. On a machine that isn't modelled, a sector that shows another page than a
+//! moment ago ends the work early, as out of memory.
 #![tactic(auto)]
 
 mod copies;
@@ -30,9 +38,18 @@ mod files;
 mod free;
 pub mod laws;
 mod links;
+mod mend;
 mod root;
 mod rows;
 mod strays;
 mod unused;
 
+pub use descriptor::data_pages;
+pub use directories::meet_page;
+pub use directory::Directory;
+pub use errors::Stop;
 pub use files::{FileWalk, Met};
+pub use free::next_free;
+pub use mend::mend_pages;
+pub use root::own_name;
+pub use rows::next_row;

@@ -1,5 +1,5 @@
-// The links of a page, and a leader page's name.
-ghost use Rattle.std.specs.Prelude.{◌≡◌, ◌<◌, ◌≤◌, cond, Some, true, IsTrue, OnOk};
+// True links, and names that can be read.
+ghost use Rattle.std.specs.Prelude.{◌≡◌, ◌<◌, ◌≤◌, cond, Some, true, IfOk, IfSome, IsTrue, OnOk};
 ghost use Rattle.alto_words.specs.Fid.{is_fid};
 ghost use Rattle.alto_words.specs.Names.{is_stored_name};
 ghost use Rattle.disk_records.specs.Addresses.{pages_of, real_of};
@@ -10,16 +10,19 @@ ghost use Rattle.pack_model.specs.hints.Links.{no_link};
 ghost use Rattle.pack_model.specs.operations.PageWords.{titled_value};
 ghost use Rattle.scav_pages.specs.Does.{Does};
 ghost use Rattle.scav_pages.specs.Fresh.{own_name};
-ghost use Rattle.scav_pages.specs.Links.{MayMendPage, MayName, PageLinked, PageMended, WritesPage};
+ghost use Rattle.scav_pages.specs.Links.{MayMeet, MayMendPage, MayName, PageLinked, PageMended, RowMet, WritesPage, WritesPending};
+ghost use Rattle.laws_mend.specs.Parts.{Lasting};
+ghost use Rattle.scav_pages.specs.Parts.{LinksMended};
 ghost use Rattle.scav_pages.specs.Stops.{cause_of_stop};
 
 use crate::errors::Stop;
 use crate::root::own_name;
+use crate::rows::next_row;
 use alto_words::Fid;
 use disk_records::{Disk, Sector, Shape, label_of};
 use label_check::{read_page, relabel, write_value};
 use leader_page::{Leader, name_words, title_changes_the_name};
-use scav_table::Row;
+use scav_table::{Pass, Row, Table};
 
 /// A link at either end of a file.
 const NO_LINK: u16 = 0xFFFF;
@@ -34,6 +37,46 @@ const REST: usize = 26;
 pub(crate) struct Pending {
     pub(crate) row: Row,
     pub(crate) previous: u16,
+}
+
+/// Makes each link true, and each leader page's name one that can be read, of a pack whose pages are all in use and whose files have their
+/// last pages.
+pub(crate) fn mend_links<D: Disk>(disk: &mut D, table: &mut Table) -> Result<(), Stop>
+    ensures does { IsTrue D.told → Lasting (pack (D.tape disk.old)) → Does LinksMended (D.tape disk.old) (D.tape disk.new) result }
+    ensures cause { HasCause cause_of_stop (D.tape disk.old) (D.tape disk.new) result }
+    ensures alone { DiskAlone (D.tape disk.old) (D.tape disk.new) }
+{
+    let mut pass = Pass::begin(disk, table)?;
+    let mut pending: Option<Pending> = None;
+    while let Some(row) = next_row(disk, table, &mut pass)? {
+        pending = Some(mend_before(disk, pending, row)?);
+    }
+    match pending {
+        Some(last) => mend_page(disk, &last, NO_LINK),
+        None => Ok(()),
+    }
+}
+
+/// Mends the pending page, if there is one, now that the row after it is known, and answers that row with the link to the page before it.
+fn mend_before<D: Disk>(disk: &mut D, pending: Option<Pending>, row: Row) -> Result<Pending, Stop>
+    requires place { row.at < pages_of (D.tape disk.old).form }
+    requires before { IfSome pending (λ before. (1 ≤ before.row.at) × (before.row.at < pages_of (D.tape disk.old).form)) }
+    ensures row { IfOk result (λ next. next.row ≡ row) }
+    ensures does { IsTrue D.told → MayMeet (pack (D.tape disk.old)) pending row → Does RowMet (D.tape disk.old) (D.tape disk.new) result }
+    ensures wrote { IsTrue D.told → OnOk result (WritesPending pending (pack (D.tape disk.old)) (pack (D.tape disk.new))) }
+    ensures cause { HasCause cause_of_stop (D.tape disk.old) (D.tape disk.new) result }
+    ensures alone { DiskAlone (D.tape disk.old) (D.tape disk.new) }
+{
+    let Some(before) = pending else {
+        return Ok(Pending {
+            row,
+            previous: NO_LINK,
+        });
+    };
+    let shape = disk.shape();
+    mend_page(disk, &before, link_between(shape, &before.row, &row))?;
+    let previous = link_between(shape, &row, &before.row);
+    Ok(Pending { row, previous })
 }
 
 /// The link from a page to the other, which stands beside it: none if that is of another file.

@@ -3,7 +3,8 @@ ghost use Rattle.std.specs.Prelude.{◌≡◌, ◌<◌, ◌≤◌, IsTrue, None,
 ghost use Rattle.disk_records.specs.Addresses.{pages_of};
 ghost use Rattle.disk_records.specs.Causes.{HasCause};
 ghost use Rattle.disk_records.specs.Tapes.{DiskAlone, pack};
-ghost use Rattle.pack_model.specs.operations.PageWords.{last_page_hints, leader_value};
+ghost use Rattle.leader_page.specs.Pages.{Says};
+ghost use Rattle.pack_model.specs.operations.PageWords.{last_page_hints};
 ghost use Rattle.pack_model.specs.reading.Namings.{descriptor_name, sys_dir_name};
 ghost use Rattle.scav_pages.specs.Does.{Does};
 ghost use Rattle.scav_pages.specs.Fresh.{fresh_leader, own_name};
@@ -16,7 +17,7 @@ use crate::unused::ROOT;
 use alto_words::{Fid, Name};
 use disk_records::{Disk, PAGE_BYTES, Page, Sector, label_of};
 use label_check::{claim, read_page, release};
-use leader_page::Leader;
+use leader_page::{Leader, value_says_its_leader};
 
 /// A link at either end of a file.
 const NO_LINK: u16 = 0xFFFF;
@@ -47,8 +48,9 @@ fn descriptor_name() -> Name
     }
 }
 
-/// The name of a file whose leader page has none that can be read.
-pub(crate) fn own_name(fid: Fid) -> Name
+/// The name that the Scavenger writes for a file whose leader page has none that can be read: `SysDir.` and `DiskDescriptor.` for these two
+/// files, and for any other `Lost`, its serial in octal and a `.`.
+pub fn own_name(fid: Fid) -> Name
     ensures { result ≡ own_name fid }
 {
     if fid == Fid::SYS_DIR {
@@ -62,8 +64,10 @@ pub(crate) fn own_name(fid: Fid) -> Name
 
 /// The value of a new leader page with dates 0, whose hint at the last page is this one.
 pub(crate) fn fresh_leader(fid: Fid, at: u16, number: u16, bytes: u16) -> [u16; 256]
-    ensures { result ≡ leader_value (fresh_leader fid) (last_page_hints at number bytes) }
+    ensures says { Says result (fresh_leader fid) (last_page_hints at number bytes) }
 {
+    // this law says that the words can be read so
+    value_says_its_leader();
     let leader = Leader {
         created: 0,
         written: 0,

@@ -13,8 +13,13 @@ use crate::errors::Stop;
 use disk_records::Disk;
 use scav_table::{Pass, Row, Table};
 
-/// The next row of a pass: the first above the row in hand, of the pack as it is in this call. None where there is no such row.
-pub(crate) fn next_row<D: Disk>(
+/// The next row of a pass over the pages of a pack, in the order of their files and numbers, with a sector that the disk has: the first row
+/// above the last one that the pass gave, of the pack as it is in this call. None if there is no such row.
+///
+/// At most one sector command for each sector after sector 0, and none except at the end of a window. Nothing is written. DiskFault: the
+/// disk failed. Memory: no memory was left. Astray: the row tells a sector that the disk hasn't. Neither of the last two comes on a machine
+/// that is modelled. After each of them the pass is over.
+pub fn next_row<D: Disk>(
     disk: &mut D,
     table: &mut Table,
     pass: &mut Pass,

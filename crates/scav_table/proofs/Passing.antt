@@ -10,6 +10,8 @@ use Rattle.disk_records.specs.Packs.{Pack, is_usable}
 use Rattle.disk_records.specs.Words.{word}
 use Rattle.scav_table.specs.declared.row.Row.{Row}
 use Rattle.scav_table.specs.Rows.{is_below, is_above, above, Rises, last_or, row_in, row_of, rows_from, with_row, in_order, rows, rows_above, window}
+use Rattle.scav_table.specs.Laws.{AreWindows}
+use Rattle.scav_table.specs.Laws.AreWindows.{more, none}
 use Rattle.scav_table.specs.Passes.{after_window}
 use Rattle.scav_table.proofs.Rising.{AreBefore, before_more, placed_before, placed_rises, all_above, above_rises}
 
@@ -78,15 +80,10 @@ unfolding rows_above
 next_above p b x rest l e = after_next None b (rows p) x rest (rows_rise p l) e (first_above None b (rows p) x rest (rows_rise p l) e)
 
 -- ---- the rows above a window's last one
-rest_above : (n : ℕ) (b : Option Row) (xs ys : List Row) → Rises None xs → above b xs ≡ ys → n ≤ length ys → above (last_or b (take n ys)) xs ≡ drop n ys
-rest_above zero b xs ys s e l = e
-rest_above (suc n) b xs [] s e l = absurd (omega arith)
-rest_above (suc n) b xs (y ∷ ys) s e l = rest_above n (Some y) xs ys s (after_next None b xs y ys s e (first_above None b xs y ys s e)) (omega arith)
-
-filled : (n : ℕ) (ys : List Row) → (length (take n ys) == n) ≡ true → n ≤ length ys
-filled zero ys e = omega arith
-filled (suc n) [] e = grind (arith, nat_tests, e)
-filled (suc n) (y ∷ ys) e = let h = filled n ys (grind (arith, nat_tests, e)) in omega (arith, h)
+rest_above : (n : ℕ) (b : Option Row) (xs ys : List Row) → Rises None xs → above b xs ≡ ys → above (last_or b (take n ys)) xs ≡ drop n ys
+rest_above zero b xs ys s e = e
+rest_above (suc n) b xs [] s e = e
+rest_above (suc n) b xs (y ∷ ys) s e = rest_above n (Some y) xs ys s (after_next None b xs y ys s e (first_above None b xs y ys s e))
 
 short : (n : ℕ) (ys : List Row) → (length (take n ys) == n) ≡ false → take n ys ≡ ys
 short zero ys e = let no : true ≡ false = e in cc
@@ -98,9 +95,29 @@ joined : (n : ℕ) (b : Option Row) (xs : List Row) → Rises None xs → above 
 joined n b xs s = by_test (length (take n (above b xs)) == n) refl
   where
     by_test : (t : Bool) → (length (take n (above b xs)) == n) ≡ t → above b xs ≡ take n (above b xs) ++ cond t (above (last_or b (take n (above b xs))) xs) []
-    by_test true e = sym (take-append-drop n (above b xs)) ∙ ap (λ l. take n (above b xs) ++ l) (sym (rest_above n b xs (above b xs) s refl (filled n (above b xs) e)))
+    by_test true e = sym (take-append-drop n (above b xs)) ∙ ap (λ l. take n (above b xs) ++ l) (sym (rest_above n b xs (above b xs) s refl))
     by_test false e = sym (short n (above b xs) e) ∙ sym (append-nil (take n (above b xs)))
 
 pub window_joined : (p : Pack) (b : Option Row) → length p.sectors ≤ 65536 → rows_above p b ≡ window p b ++ after_window (length (window p b) == 1024) p (last_or b (window p b))
 unfolding rows_above
 window_joined p b l = joined 1024 b (rows p) (rows_rise p l)
+
+-- ---- windows one after another
+none_taken : (n : ℕ) (ys : List Row) → take (suc n) ys ≡ [] → [] ≡ ys
+none_taken n [] e = refl
+none_taken n (y ∷ ys) e = cc
+
+windows_above : (p : Pack) (b : Option Row) (all : List Row) → Rises None (rows p) → AreWindows p b all → all ≡ rows_above p b
+unfolding rows_above
+windows_above p b [] rises (none empty) = none_taken 1023 (above b (rows p)) empty
+windows_above p b all rises (more {rest = rest} is windows) =
+    is ∙ ap (λ l. window p b ++ l) (windows_above p (last_or b (window p b)) rest rises windows ∙ rest_above 1024 b (rows p) (above b (rows p)) rises refl)
+    ∙ take-append-drop 1024 (above b (rows p))
+
+above_none : (xs : List Row) → above None xs ≡ xs
+above_none [] = refl
+above_none (x ∷ xs) = ap (λ l. x ∷ l) (above_none xs)
+
+pub windows_joined : (p : Pack) (all : List Row) → length p.sectors ≤ 65536 → AreWindows p None all → all ≡ rows p
+unfolding rows_above
+windows_joined p all few windows = windows_above p None all (rows_rise p few) windows ∙ above_none (rows p)

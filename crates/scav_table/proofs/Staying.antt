@@ -7,7 +7,7 @@ use Rattle.disk_records.specs.declared.records.Sector.{Sector}
 use Rattle.disk_records.specs.declared.shape.Shape.{Shape}
 use Rattle.disk_records.specs.Packs.{Pack, after, sector_at, no_sector, with_part}
 use Rattle.scav_table.specs.declared.row.Row.{Row}
-use Rattle.scav_table.specs.Laws.{RowsRise, RowsAfterNext, WindowsJoin, RowsAboveStay, PassGoesOn, PassGoesOnOver, WritesAt}
+use Rattle.scav_table.specs.Laws.{RowsRise, RowsAfterNext, WindowsAreRows, WindowsJoin, RowsAboveStay, PassGoesOn, PassGoesOnOver, WritesAt}
 use Rattle.scav_table.specs.Passes.{IsPassed}
 use Rattle.scav_table.specs.Rows.{is_above, above, placed, with_row, in_order, row_of, row_at, rows_from, sector_rows, rows, rows_above}
 use Rattle.scav_table.proofs.Filling.{length-rows, rows-get}
@@ -128,3 +128,6 @@ rows_after_next = passing.next_above
 
 pub windows_join : WindowsJoin
 windows_join = passing.window_joined
+
+pub windows_are_rows : WindowsAreRows
+windows_are_rows = passing.windows_joined

@@ -41,6 +41,15 @@ RowsAfterNext = (p : Pack) (last : Option Row) (row : Row) (rest : List Row) →
 abbrev pub WindowsJoin : Type 0
 WindowsJoin = (p : Pack) (bound : Option Row) → length p.sectors ≤ 65536 → rows_above p bound ≡ window p bound ++ after_window (length (window p bound) == 1024) p (last_or bound (window p bound))
 
+-- windows one after another, each above the last row of the one before, up to an empty one, and their rows together
+pub data AreWindows (p : Pack) : Option Row → List Row → Type 0 where
+  none : {bound : Option Row} → window p bound ≡ [] → AreWindows p bound []
+  more : {bound : Option Row} {rest all : List Row} → all ≡ window p bound ++ rest → AreWindows p (last_or bound (window p bound)) rest → AreWindows p bound all
+
+-- from the first on they are all rows of the pack
+abbrev pub WindowsAreRows : Type 0
+WindowsAreRows = (p : Pack) (all : List Row) → length p.sectors ≤ 65536 → AreWindows p None all → all ≡ rows p
+
 -- A record write in a sector whose row, before and after, is at or below the bound leaves the rows above it.
 abbrev pub RowsAboveStay : Type 0
 RowsAboveStay = (p : Pack) (bound : Option Row) (at part : ℕ) (words : List ℕ) → IsPassed bound (row_at p at) → IsPassed bound (row_at (after p (Wrote at part words ∷ [])) at) → rows_above (after p (Wrote at part words ∷ [])) bound ≡ rows_above p bound

@@ -1,5 +1,5 @@
 // What holds of rows and passes: each law is what the function of its name ensures. The functions do nothing.
-ghost use Rattle.scav_table.specs.Laws.{FirstIsLeast, RowsAreSectors, RowsRise, RowsAfterNext, WindowsJoin, RowsAboveStay, PassGoesOn, PassGoesOnOver};
+ghost use Rattle.scav_table.specs.Laws.{FirstIsLeast, RowsAreSectors, RowsRise, RowsAfterNext, WindowsJoin, WindowsAreRows, RowsAboveStay, PassGoesOn, PassGoesOnOver};
 
 /// The row that a pass gives next is the first above the row in hand, of those of all sectors.
 pub fn first_is_least()
@@ -24,6 +24,11 @@ pub fn rows_after_next()
 /// A window and what comes after it are all rows above the bound.
 pub fn windows_join()
     ensures { WindowsJoin }
+{}
+
+/// Windows one after another from the first, up to an empty one, are all rows of a pack in their order.
+pub fn windows_are_rows()
+    ensures { WindowsAreRows }
 {}
 
 /// A record write at or below a bound leaves the rows above it.

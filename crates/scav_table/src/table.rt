@@ -143,12 +143,12 @@ impl Table {
     /// the bound stays. It takes no memory, and at most one sector command a sector.
     ///
     /// DiskFault: the disk failed. Memory: no memory was left, which never comes on a machine that is modelled. After either of them
-    /// there are no rows, and the bound is as before.
+    /// there are no rows, and the bound and the number of bad sectors are as before.
     pub fn advance<D: Disk>(&mut self, disk: &mut D) -> Result<bool, SweepError>
         ensures window { OnOk result (IsFilled D.told (D.tape disk.old) self.old.bound self.new.rows self.new.bad) }
         ensures more { IfOk result (λ more. IsTrue more ↔ (0 < length self.new.rows)) }
         ensures bound { OnOk result (self.new.bound ≡ last_or self.old.bound self.new.rows) }
-        ensures empty { OnErr result ((self.new.rows ≡ []) × (self.new.bound ≡ self.old.bound)) }
+        ensures empty { OnErr result ((self.new.rows ≡ []) × (self.new.bound ≡ self.old.bound) × (self.new.bad ≡ self.old.bad)) }
         ensures cause { HasCause cause_of_sweep (D.tape disk.old) (D.tape disk.new) result }
         ensures want { IsTrue D.told → IsErrOf result SweepError.Memory → ⊥ }
         ensures looks { Looks D.told (pages_of (D.tape disk.old).form - 1) (D.tape disk.old) (D.tape disk.new) }
@@ -164,11 +164,11 @@ impl Table {
     /// sector.
     ///
     /// DiskFault: the disk failed. Memory: no memory was left, which never comes on a machine that is modelled. After either of them
-    /// there are no rows, and the bound is as before.
+    /// there are no rows, and the bound and the number of bad sectors are as before.
     pub fn rewind<D: Disk>(&mut self, disk: &mut D) -> Result<(), SweepError>
         ensures window { OnOk result (IsFilled D.told (D.tape disk.old) None self.new.rows self.new.bad) }
         ensures bound { OnOk result (self.new.bound ≡ last_or None self.new.rows) }
-        ensures empty { OnErr result ((self.new.rows ≡ []) × (self.new.bound ≡ self.old.bound)) }
+        ensures empty { OnErr result ((self.new.rows ≡ []) × (self.new.bound ≡ self.old.bound) × (self.new.bad ≡ self.old.bad)) }
         ensures cause { HasCause cause_of_sweep (D.tape disk.old) (D.tape disk.new) result }
         ensures want { IsTrue D.told → IsErrOf result SweepError.Memory → ⊥ }
         ensures looks { Looks D.told (pages_of (D.tape disk.old).form - 1) (D.tape disk.old) (D.tape disk.new) }

@@ -1,5 +1,5 @@
 -- A pack that is opened, or isn't, and then the session.
-use Rattle.std.proofs.Common.{◌≡◌, ◌≢◌, ◌⊎◌, ◌==◌, ◌≤◌, Bool, arith, true, false, ℕ, List, [], ◌++◌, Option, Some, None, inl, inr, refl, sym, subst, ap, ◌∙◌, eq-eqb}
+use Rattle.std.proofs.Common.{◌≡◌, ◌⊎◌, ◌==◌, ◌≤◌, Bool, arith, true, false, ℕ, List, [], ◌++◌, Option, Some, None, inl, inr, refl, sym, subst, ap, ◌∙◌, eq-eqb}
 use Rattle.std.proofs.lemmas.Bool.{ne_eqb}
 use Rattle.alto_words.specs.declared.fid.Fid.{Fid}
 use Rattle.disk_descriptor.specs.declared.errors.OpenError.{OpenError}
@@ -27,7 +27,7 @@ use Rattle.session_model.specs.Histories.{HistoryOf, NoneFailed, NoneFailedIn, T
 use Rattle.session_model.specs.Keeping.{Kept}
 use Rattle.session_model.specs.Opening.{Unready, bad_descriptor, no_descriptor, no_root, not_clean, system_files, unless_so, unready, unready_text, wrong_length}
 use Rattle.session_model.specs.Turning.{Cue, HintFailing, State, opening}
-use Rattle.session_boot.specs.Boots.{Booted, Boots, DoesntEnter, EndsAs, LastsTo, NamesHint, NoneRose, TellsInOrder, TellsMark}
+use Rattle.session_boot.specs.Boots.{AnswersBoot, Booted, Boots, DoesntEnter, EndsAs, LastsTo, NamesHint, NoneRose, TellsInOrder, TellsMark}
 use Rattle.session_boot.specs.Faults.{HasStatusCause, cause_of_fault, status_of, status_of_need, stop_of, stop_of_need}
 use Rattle.session_boot.specs.Opening.{IsReason, Refused, ShowsReason, reason}
 use Rattle.session_boot.specs.declared.status.Fault.{Fault}
@@ -84,6 +84,7 @@ module _ (moment : ℕ) (x z : Taped) (given tally : Tally) (sound : Sound (pack
   completes status.KeyFault boots cause none = absurd (none.keys cause)
   completes status.DisplayFault boots cause none = absurd (none.display cause)
   completes status.Memory boots cause none = inr refl
+  completes status.CannotScavenge boots cause none = absurd boots
 
 -- ---- it isn't opened
 ends_as : {P Q : Stop → Type 0} (answer : Status) → ((stop : Stop) → P stop → Q stop) → EndsAs answer P → EndsAs answer Q
@@ -94,6 +95,7 @@ ends_as status.DiskFault so h = so disk_failed h
 ends_as status.KeyFault so h = so keys_failed h
 ends_as status.DisplayFault so h = so display_failed h
 ends_as status.Memory so h = so no_memory h
+ends_as status.CannotScavenge so h = h
 
 -- the mark of a sound pack is the reason
 tells_mark : (x z : Taped) (given tally : Tally) (answer : Status) → DoesntEnter x z given tally answer → Sound (pack x) → (Clean (pack x) → ⊥) → TellsMark x z given tally answer
@@ -108,6 +110,7 @@ shows_or_stops e y z status.DiskFault refused shown P why stops = stops disk_fai
 shows_or_stops e y z status.KeyFault refused shown P why stops = absurd refused
 shows_or_stops e y z status.DisplayFault refused shown P why stops = why display_failed refused.0 shown
 shows_or_stops e y z status.Memory refused shown P why stops = stops no_memory tt shown
+shows_or_stops e y z status.CannotScavenge refused shown P why stops = absurd refused
 
 module _ {x y z : Taped} (e : OpenError) (given tally : Tally) (first : Grown x y) (second : Grown y z) (silent : added x y ≡ []) (keys : z.keys ≡ x.keys) (tally_is : tally ≡ no_tally given.limit) where
   both : added x z ≡ added y z
@@ -189,16 +192,17 @@ fault_ends Memory P h = h
 lasts_boot : {moment : ℕ} {x z : Taped} {given tally : Tally} {stop : Stop} → LastsTo moment x z given tally stop → BootOf moment x z given tally stop
 lasts_boot l = opened l.session l.ends
 
-each_ends : (answer : Status) (P : Stop → Type 0) → answer ≢ status.Usage → ((stop : Stop) → P stop) → EndsAs answer P
+each_ends : (answer : Status) (P : Stop → Type 0) → AnswersBoot answer → ((stop : Stop) → P stop) → EndsAs answer P
 each_ends status.Done P other h = h done
-each_ends status.Usage P other h = absurd (other refl)
+each_ends status.Usage P other h = absurd other
 each_ends status.NeedsScavenge P other h = h needs_scavenge
 each_ends status.DiskFault P other h = h disk_failed
 each_ends status.KeyFault P other h = h keys_failed
 each_ends status.DisplayFault P other h = h display_failed
 each_ends status.Memory P other h = h no_memory
+each_ends status.CannotScavenge P other h = absurd other
 
-pub opened_boots : (moment : ℕ) (x z : Taped) (given tally : Tally) (answer : Status) → AreFormed (pack x) → answer ≢ status.Usage → (EachOnce (sights (pack x)) → unready (pack x) ≡ None) → (Sound (pack x) → Boots moment x z given tally answer) → HasStatusCause x z answer → Booted moment x z given tally answer
+pub opened_boots : (moment : ℕ) (x z : Taped) (given tally : Tally) (answer : Status) → AreFormed (pack x) → AnswersBoot answer → (EachOnce (sights (pack x)) → unready (pack x) ≡ None) → (Sound (pack x) → Boots moment x z given tally answer) → HasStatusCause x z answer → Booted moment x z given tally answer
 opened_boots moment x z given tally answer formed other ready boots cause =
     let unentered : DoesntEnter x z given tally answer = each_ends answer (λ stop. NotEntered x z given tally stop) other (λ stop u once is. not_both (pack x) u (ready once) is) in
     record {
@@ -227,6 +231,7 @@ refused_cause x y z e status.DiskFault first second cause refused = subst (Rose 
 refused_cause x y z e status.KeyFault first second cause refused = absurd refused
 refused_cause x y z e status.DisplayFault first second cause refused = subst (λ n. Rose n z.show_faults) first.show_faults refused.1
 refused_cause x y z e status.Memory first second cause refused = tt
+refused_cause x y z e status.CannotScavenge first second cause refused = absurd refused
 
 pub need_cause : (x z : Taped) (b : Bool) → HasStatusCause x z (status_of_need b)
 need_cause x z false = tt
@@ -238,12 +243,12 @@ fault_cause x y z Key grown cause = later_rose x.key_faults y.key_faults z.key_f
 fault_cause x y z Display grown cause = later_rose x.show_faults y.show_faults z.show_faults grown.show_faults cause
 fault_cause x y z Memory grown cause = tt
 
-pub need_is_no_usage : (b : Bool) → status_of_need b ≢ status.Usage
-need_is_no_usage false is = cc
-need_is_no_usage true is = cc
+pub need_answers : (b : Bool) → AnswersBoot (status_of_need b)
+need_answers false = tt
+need_answers true = tt
 
-pub fault_is_no_usage : (fault : Fault) → status_of fault ≢ status.Usage
-fault_is_no_usage Disk is = cc
-fault_is_no_usage Key is = cc
-fault_is_no_usage Display is = cc
-fault_is_no_usage Memory is = cc
+pub fault_answers : (fault : Fault) → AnswersBoot (status_of fault)
+fault_answers Disk = tt
+fault_answers Key = tt
+fault_answers Display = tt
+fault_answers Memory = tt

@@ -19,7 +19,18 @@ use Rattle.session_boot.specs.declared.status.Status.{Status}
 use Rattle.session_boot.specs.declared.status.Status.TheVariants as status
 use Rattle.session_boot.specs.Faults.{stop_of, stop_of_need}
 
--- ---- how a session ended, by its status; Usage says of none
+-- the answers of a session
+abbrev pub AnswersBoot : Status → Type 0
+AnswersBoot status.Done = Unit {0}
+AnswersBoot status.Usage = ⊥
+AnswersBoot status.NeedsScavenge = Unit {0}
+AnswersBoot status.DiskFault = Unit {0}
+AnswersBoot status.KeyFault = Unit {0}
+AnswersBoot status.DisplayFault = Unit {0}
+AnswersBoot status.Memory = Unit {0}
+AnswersBoot status.CannotScavenge = ⊥
+
+-- ---- how a session ended, by its status; Usage and CannotScavenge are of none
 abbrev pub EndsAs : Status → (Stop → Type 0) → Type 0
 EndsAs status.Done P = P done
 EndsAs status.Usage P = ⊥
@@ -28,6 +39,7 @@ EndsAs status.DiskFault P = P disk_failed
 EndsAs status.KeyFault P = P keys_failed
 EndsAs status.DisplayFault P = P display_failed
 EndsAs status.Memory P = P no_memory
+EndsAs status.CannotScavenge P = ⊥
 
 abbrev pub Boots : ℕ → Taped → Taped → Tally → Tally → Status → Type 0
 Boots moment old new given tally answer = EndsAs answer (λ stop. BootOf moment old new given tally stop)

@@ -22,6 +22,7 @@ cause_of_status status.DiskFault = disk
 cause_of_status status.KeyFault = keyboard
 cause_of_status status.DisplayFault = display
 cause_of_status status.Memory = other
+cause_of_status status.CannotScavenge = other
 
 abbrev pub HasFaultCause : {T : Type 0} → Taped → Taped → Result T Fault → Type 0
 HasFaultCause old new result = HasCause cause_of_fault old new result

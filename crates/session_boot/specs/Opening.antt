@@ -53,6 +53,7 @@ Refused e old new status.DiskFault = e ≡ error.DiskFault
 Refused e old new status.KeyFault = ⊥
 Refused e old new status.DisplayFault = IsReason e × Rose old.show_faults new.show_faults
 Refused e old new status.Memory = Unit {0}
+Refused e old new status.CannotScavenge = ⊥
 
 -- and what is shown on a modelled one: the text, or a prefix of it where the display failed
 abbrev pub ShowsReason : OpenError → Taped → Taped → Status → Type 0
@@ -63,3 +64,4 @@ ShowsReason e old new status.DiskFault = added old new ≡ []
 ShowsReason e old new status.KeyFault = ⊥
 ShowsReason e old new status.DisplayFault = IsFirstOf (shown_events (reason e)) (added old new)
 ShowsReason e old new status.Memory = added old new ≡ []
+ShowsReason e old new status.CannotScavenge = ⊥

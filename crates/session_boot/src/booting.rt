@@ -1,10 +1,10 @@
 // A session: the pack is opened, typed lines are obeyed in order, and it is closed.
 ghost use Rattle.disk_records.specs.Tapes.{Grown};
 ghost use Rattle.exec_session.specs.Meant.{kept};
-ghost use Rattle.session_boot.specs.Boots.{Booted, Lasts};
+ghost use Rattle.session_boot.specs.Boots.{AnswersBoot, Booted, Lasts};
 ghost use Rattle.session_boot.specs.Faults.{HasFaultCause, HasStatusCause};
 ghost use Rattle.session_model.specs.Keeping.{Formed};
-ghost use Rattle.std.specs.Prelude.{IsTrue, ◌≡◌, ◌≢◌};
+ghost use Rattle.std.specs.Prelude.{IsTrue, ◌≡◌};
 
 use crate::keys::MOST_KEYS;
 use crate::line::{Next, answer_next, end_session};
@@ -51,10 +51,10 @@ fn obey_lines<M: Machine>(
 /// Done: the keys were taken to their end, to a `quit` that was answered `done`, or to 2^31 bytes, and the pack is closed. NeedsScavenge: the
 /// pack isn't entered, and the one text says why; or a hint failed in the session. DiskFault, KeyFault, DisplayFault: that device failed, and
 /// the session ended there. Memory: none was left. After each of these a pack to which the session wrote may be left open, so that it is
-/// entered no more until it is scavenged; one to which it wrote nothing is as before. Usage is never answered.
+/// entered no more until it is scavenged; one to which it wrote nothing is as before. Usage and CannotScavenge are never answered.
 pub fn boot<M: Machine>(alloc: Global, moment: u32, tally: &mut Tally, machine: &mut M) -> Status
     ensures booted { IsTrue M.told → Booted moment (M.tape machine.old) (M.tape machine.new) tally.old tally.new result }
-    ensures answers { result ≢ Status.Usage }
+    ensures answers { AnswersBoot result }
     ensures limit { tally.new.limit ≡ tally.old.limit }
     ensures cause { HasStatusCause (M.tape machine.old) (M.tape machine.new) result }
     ensures grown { Grown (M.tape machine.old) (M.tape machine.new) }

@@ -1,33 +1,16 @@
 // A pack that isn't entered: the one text that says why.
 ghost use Rattle.disk_records.specs.Tapes.{ShowAlone};
-ghost use Rattle.exec_words.specs.Texts.{found_text, spaced, with_number};
+ghost use Rattle.exec_words.specs.Texts.{found_text};
 ghost use Rattle.session_boot.specs.Opening.{HasReason, Refused, ShowsReason};
 ghost use Rattle.std.specs.Prelude.{IsTrue, OnOk, ◌++◌, ◌≡◌};
 
 use crate::console::show_all;
 use crate::status::{Fault, Status};
-use alto_words::{Memory, push_number};
+use crate::text::{push_spaced, push_with_number};
+use alto_words::Memory;
 use disk_records::Console;
 use executive::{OpenError, Refusal, Reply, reply_text};
 use std::alloc::Global;
-
-/// Appends a text and a number in decimal.
-fn push_with_number(alloc: Global, out: &mut Vec<u8>, text: &[u8], n: u64) -> Result<(), Memory>
-    ensures { OnOk result (out.new.items ≡ out.old.items ++ with_number text.now n) }
-{
-    out.extend_from_slice(text)?;
-    push_number(alloc, out, n)
-}
-
-/// Appends numbers in decimal, each after a space.
-fn push_spaced(alloc: Global, out: &mut Vec<u8>, numbers: &[u16]) -> Result<(), Memory>
-    ensures { OnOk result (out.new.items ≡ out.old.items ++ spaced numbers.now) }
-{
-    for n in numbers {
-        push_with_number(alloc, out, b" ", *n as u64)?;
-    }
-    Ok(())
-}
 
 /// Appends the label that was found.
 fn push_found(alloc: Global, out: &mut Vec<u8>, found: Option<[u16; 8]>) -> Result<(), Memory>

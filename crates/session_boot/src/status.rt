@@ -23,6 +23,8 @@ pub enum Status {
     DisplayFault = 5,
     /// No memory was left. What was acknowledged stands on the pack, if it was sound and clean.
     Memory = 6,
+    /// The pack can't be scavenged: the text says why, and nothing was written.
+    CannotScavenge = 7,
 }
 
 /// What ends a session before its input does.

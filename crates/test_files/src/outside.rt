@@ -27,6 +27,8 @@ pub enum Broken {
     ReadCall(u64),
     /// One write call of files fails: that with this number, counted from 0 over all files.
     WriteCall(u64),
+    /// A file takes so many bytes, and then none: a write call of more is short, and the next one fails.
+    Full(usize),
     /// One opening of a file fails: that with this number, counted from 0.
     Opening(u64),
     /// Each read and write call of a file, and each read of keys, does 5 bytes of what it is asked at most.
@@ -264,7 +266,23 @@ pub struct Logged<'a> {
     file: File,
     broken: Broken,
     calls: Calls,
+    // how many bytes it still takes
+    room: usize,
     log: &'a Log,
+}
+
+impl Logged<'_> {
+    /// How many bytes a write call does of those that it is asked. StorageFull: there is room for none.
+    fn take_room(&mut self, asked: usize) -> io::Result<usize>
+        ensures most { IfOk result (λ length. length ≤ asked) }
+    {
+        if self.room == 0 {
+            return Err(Error::from(ErrorKind::StorageFull));
+        }
+        let length = asked.min(self.room);
+        self.room -= length;
+        Ok(length)
+    }
 }
 
 impl Read for Logged<'_> {
@@ -286,7 +304,8 @@ impl Write for Logged<'_> {
         if self.broken == Broken::WriteCall(number) {
             return Err(Error::from(ErrorKind::StorageFull));
         }
-        let length = self.calls.next_length(buf.len())?;
+        let asked = self.calls.next_length(buf.len())?;
+        let length = self.take_room(asked)?;
         self.file.write(&buf[..length])
     }
 
@@ -371,6 +390,10 @@ impl<'a> Files for Outside<'a> {
             file: self.opened(how, path)?,
             broken: self.broken,
             calls: Calls::of(self.broken),
+            room: match self.broken {
+                Broken::Full(room) => room,
+                _ => usize::MAX,
+            },
             log: self.log,
         })
     }

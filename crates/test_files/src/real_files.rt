@@ -176,15 +176,14 @@ fn a_sector_command_is_few_calls(rt: HostRuntime) -> Result<(), Fail> {
         FileCall::Read(12_768),
     ];
     let seek = |byte| FileCall::Seek(SeekFrom::Start(byte));
-    let four = FileCall::Write(4);
-    let sixteen = FileCall::Write(16);
-    let rest = FileCall::Write(512);
+    // the file's length is asked first; the records that are written stand side by side, and one call writes them
+    let end = FileCall::Seek(SeekFrom::End(0));
     assert!(rt; makes_calls(&rt, Plan::READ, &cylinder, &[])?);
-    let all = [seek(16_492), four, sixteen, rest];
+    let all = [end, seek(16_492), FileCall::Write(532)];
     assert!(rt; makes_calls(&rt, Plan::WRITE_ALL, &[], &all)?);
-    let label = [seek(16_496), sixteen, rest];
+    let label = [end, seek(16_496), FileCall::Write(528)];
     assert!(rt; makes_calls(&rt, Plan::WRITE_LABEL, &cylinder, &label)?);
-    let value = [seek(16_512), rest];
+    let value = [end, seek(16_512), FileCall::Write(512)];
     assert!(rt; makes_calls(&rt, Plan::WRITE_VALUE, &cylinder, &value)?);
     Ok(())
 }
@@ -273,33 +272,35 @@ fn numbered_front(records: u64) -> Sector {
 }
 
 #[test]
-fn a_failing_write_leaves_the_records_ahead(rt: HostRuntime) -> Result<(), Fail> {
+fn a_write_that_breaks_off_leaves_the_records_ahead(rt: HostRuntime) -> Result<(), Fail> {
     let alloc = rt.alloc();
-    for failing in 0u64..3 {
+    // how many records are whole when the file takes no more bytes
+    for (records, room) in [(0u64, 0usize), (1, 4), (2, 20)] {
         let made = FileMachine::create(&rt, alloc, "failing", 2)?;
         drop(made);
         let log = Log::new(alloc);
-        let outside = Outside::new(&rt, b"", Broken::WriteCall(failing), &log);
+        let outside = Outside::new(&rt, b"", Broken::Full(room), &log);
         let mut machine = FileMachine::reach(&outside, alloc, "failing")?;
         assert!(rt; 7 < machine.shape().pages());
         let mut sector = NUMBERED;
         machine.run(7, Plan::READ, &mut sector)?;
-        assert!(rt; sector == ZEROS, "{failing}");
+        assert!(rt; sector == ZEROS, "{room}");
         let failed = machine.run(7, Plan::WRITE_ALL, &mut NUMBERED);
-        assert!(rt; failed == Err(DiskError::Failed), "{failing}");
-        assert!(rt; machine.writes() == failing, "{failing}");
+        assert!(rt; failed == Err(DiskError::Failed), "{room}");
+        // none of a command that failed is counted
+        assert!(rt; machine.writes() == 0, "{room}");
         // the sector that was kept is read again
         assert!(rt; 7 < machine.shape().pages());
         machine.run(7, Plan::READ, &mut sector)?;
-        assert!(rt; sector == numbered_front(failing), "{failing}");
+        assert!(rt; sector == numbered_front(records), "{room}");
         let bytes = fs::read(&rt, "failing")?;
-        assert!(rt; bytes.len() == 25_536, "{failing}");
+        assert!(rt; bytes.len() == 25_536, "{room}");
         for (place, byte) in bytes.iter().enumerate() {
             let wanted = match place {
-                3724..=4255 => first_records(place - 3724, failing),
+                3724..=4255 => first_records(place - 3724, records),
                 _ => 0,
             };
-            assert!(rt; *byte == wanted, "{failing} at {place}");
+            assert!(rt; *byte == wanted, "{room} at {place}");
         }
         fs::remove_file(&rt, "failing")?;
     }

@@ -36,7 +36,7 @@ use Rattle.laws_operation.proofs.places.Laws.{carried_in_place, file_lives_in_a_
 use Rattle.laws_operation.specs.ByteLaws.{MayCut}
 use Rattle.laws_operation.specs.LifeLaws.{MayMake}
 use Rattle.laws_lookup.proofs.inside.LeftAlone.{cut_leaves_others, cut_keeps_pages, make_leaves_others, release_leaves_others}
-use Rattle.laws_lookup.proofs.inside.Replacing.{no_entry}
+use Rattle.laws_lookup.proofs.Replacing.{no_entry}
 use Rattle.laws_lookup.proofs.inside.Staying.{address_misled_before, dir_apart, link_misled_before}
 use Rattle.laws_lookup.proofs.inside.TrueHints.{some_of, within_pack}
 use Rattle.laws_lookup.specs.BeforeLaws.{CutMisledBefore, MakeMisledBefore, ReleaseMisledBefore}

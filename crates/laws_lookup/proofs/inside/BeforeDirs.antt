@@ -29,7 +29,7 @@ use Rattle.laws_operation.proofs.places.Laws.{values_keep_places}
 use Rattle.laws_operation.specs.NameLaws.{entry_room}
 use Rattle.laws_lookup.proofs.inside.Found.{in_cases}
 use Rattle.laws_lookup.proofs.inside.LeftAlone.{of_all, place_is_of_its_file, values_leave_others}
-use Rattle.laws_lookup.proofs.inside.Replacing.{entry_stands_outside_of_free_slots, no_entry, replacing_turns_round, still}
+use Rattle.laws_lookup.proofs.Replacing.{entry_stands_outside_of_free_slots, no_entry, replacing_turns_round, still}
 use Rattle.laws_lookup.proofs.inside.Replacings.{enter_replaces_slots, leave_replaces_slots}
 use Rattle.laws_lookup.proofs.inside.Staying.{address_misled_before, values_leave_next_links}
 use Rattle.laws_lookup.proofs.inside.TrueHints.{within_pack}

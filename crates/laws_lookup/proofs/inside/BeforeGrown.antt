@@ -28,7 +28,7 @@ use Rattle.laws_operation.proofs.GrownLinks.{IsClaim, Rowed, grown_place, label_
 use Rattle.laws_operation.proofs.Widening.{widen_law}
 use Rattle.laws_operation.proofs.places.Laws.{carried_in_place}
 use Rattle.laws_lookup.proofs.inside.LeftAlone.{grow_keeps_pages, grow_leaves_others, widen_keeps_pages, widen_leaves_others}
-use Rattle.laws_lookup.proofs.inside.Replacing.{entry_stands_outside_of_free_slots, replacing_turns_round}
+use Rattle.laws_lookup.proofs.Replacing.{entry_stands_outside_of_free_slots, replacing_turns_round}
 use Rattle.laws_lookup.proofs.inside.Replacings.{widen_replaces_slots}
 use Rattle.laws_lookup.proofs.inside.Staying.{address_misled_before, dir_apart, leader_stays, link_misled_before}
 use Rattle.laws_lookup.proofs.inside.TrueHints.{within_pack}

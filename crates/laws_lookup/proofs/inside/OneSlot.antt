@@ -12,7 +12,7 @@ use Rattle.pack_model.specs.reading.Slots.{Item, entry_length, item_words, slots
 use Rattle.pack_model.specs.reading.Slots.Item.{entry}
 use Rattle.laws_record.proofs.Addressing.{entry_words_many}
 use Rattle.laws_lookup.proofs.inside.Found.{in_cases, none_in}
-use Rattle.laws_lookup.proofs.inside.Replacing.{range}
+use Rattle.laws_lookup.proofs.Replacing.{range}
 use Rattle.laws_lookup.specs.HintLaws.{PlaceMeansOnePage}
 
 -- two slots with words that stand at one place are one

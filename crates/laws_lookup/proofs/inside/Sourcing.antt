@@ -13,7 +13,7 @@ use Rattle.pack_model.specs.hints.Sources.{IsFrom}
 use Rattle.pack_model.specs.states.Whole.{Whole}
 use Rattle.pack_laws.proofs.Keys.{same_fid}
 use Rattle.laws_lookup.proofs.inside.Found.{found_entry_stands}
-use Rattle.laws_lookup.proofs.inside.Replacing.{entry_beside_stands}
+use Rattle.laws_lookup.proofs.Replacing.{entry_beside_stands}
 use Rattle.laws_lookup.proofs.inside.Staying.{entries_of_another_directory_stand, leader_stays, pages_of_another_file_stay}
 use Rattle.laws_lookup.proofs.inside.TrueHints.{root_carried}
 use Rattle.laws_lookup.specs.OtherLaws.{KeepsPages, LeavesOthers}

@@ -9,14 +9,15 @@ use Rattle.disk_records.specs.Packs.{Pack, carried, sector_at}
 use Rattle.disk_records.specs.Words.{word}
 use Rattle.disk_records.specs.declared.records.Page.{Page}
 use Rattle.disk_records.specs.declared.records.Sector.{Sector}
-use Rattle.pack_model.specs.hints.Links.{HasLinks}
+use Rattle.pack_model.specs.hints.Links.{HasLinks, dir_words}
 use Rattle.pack_model.specs.operations.PageWords.{in_page}
-use Rattle.pack_model.specs.reading.Bytes.{put_at}
+use Rattle.pack_model.specs.reading.Bytes.{put_at, words_of}
 use Rattle.pack_model.specs.reading.Files.{carries_page, file_bytes, lives, place}
 use Rattle.pack_model.specs.reading.Leaders.{Leader}
 use Rattle.pack_model.specs.reading.Sights.{Sight, sights}
 use Rattle.pack_model.specs.reading.Sights.Sight.{free, hidden, holds, leads, stray}
-use Rattle.pack_model.specs.reading.Slots.{SlotsReachEnd}
+use Rattle.pack_model.specs.reading.Slots.{IsEven, SlotsReachEnd, all_words, slots}
+use Rattle.pack_model.specs.reading.Slots.IsEven.{none, two}
 use Rattle.pack_model.specs.scavenger.Reports.{PagesMended}
 use Rattle.pack_model.specs.states.InUse.{counts, in_use, is_good, is_place}
 use Rattle.pack_model.specs.states.Sentences.{IsUsed}
@@ -27,17 +28,24 @@ use Rattle.pack_laws.specs.GuardLaws.{ComesToHold}
 use Rattle.laws_record.proofs.Copying.{place_carried}
 use Rattle.laws_record.proofs.DirReads.{not_descriptor}
 use Rattle.laws_record.proofs.DirWords.{dir_change, dir_page, new_bytes, new_size, page_by_bytes, written_sights}
+use Rattle.laws_record.proofs.Heads.{all_read}
 use Rattle.laws_record.specs.DirLaws.{DirWrite, dir_written}
 use Rattle.laws_mend.proofs.inside.Alike.{alike_next, alike_previous, counts_alike}
 use Rattle.laws_mend.proofs.inside.Availing.{same_in_use}
 use Rattle.laws_mend.proofs.inside.Counted.{counts_end}
+use Rattle.laws_mend.proofs.inside.Shortened.{directory_reaches_its_end}
 use Rattle.laws_mend.proofs.inside.Filed.{lives_by_place}
 use Rattle.laws_mend.proofs.inside.Revalued.{IsNear, bytes_long, near_carries, near_free, near_good, near_leads, near_next, near_previous, near_use}
 use Rattle.laws_mend.proofs.inside.Revalued.IsNear.{one, held}
 use Rattle.laws_mend.specs.Parts.{Ended}
-use Rattle.laws_mend.specs.SlotLaws.{DirWriteKeepsPages}
+use Rattle.laws_mend.specs.SlotLaws.{DirWriteKeepsPages, DirWriteReachesItsEnd}
 
-module _ (p : Pack) (d : Fid) (w at : ℕ) (new : List ℕ) (h : DirWrite p d w at new) (m : PagesMended p) (ends : SlotsReachEnd (file_bytes (sights (dir_written p w at new)) d)) where
+-- bytes in whole words
+even_length : (bytes : List ℕ) → IsEven bytes → length bytes ≡ 2 * length (words_of bytes)
+even_length bytes none = refl
+even_length bytes (two {bytes = rest} e) = let r = even_length rest e in omega arith
+
+module _ (p : Pack) (d : Fid) (w at : ℕ) (new : List ℕ) (h : DirWrite p d w at new) where
   abbrev q : Pack
   q = dir_written p w at new
 
@@ -99,83 +107,97 @@ module _ (p : Pack) (d : Fid) (w at : ℕ) (new : List ℕ) (h : DirWrite p d w 
   carries_same : (i : ℕ) (f : Fid) (k : ℕ) → carries_page f k (get_or (sights q) i hidden) ≡ carries_page f k (get_or (sights p) i hidden)
   carries_same i f k = near_carries d _ _ (near i) f k
 
-  directories : (e : Fid) → lives (sights q) e ≡ true → is_directory e ≡ true → SlotsReachEnd (file_bytes (sights q) e)
-  directories e live dir = by (is_fid e d) refl
-    where
-      by : (b : Bool) → is_fid e d ≡ b → SlotsReachEnd (file_bytes (sights q) e)
-      by false x = subst SlotsReachEnd (sym (others e x)) (m.pages.directories e (sym (lives_stay e) ∙ live) dir)
-      by true x = subst (λ g. SlotsReachEnd (file_bytes (sights q) g)) (sym (same_fid e d x)) ends
+  -- the directory ends with its slots still, if they have as many words
+  reaches : PagesMended p → all_words (slots (dir_words q d)) ≡ all_words (slots (dir_words p d)) → SlotsReachEnd (file_bytes (sights q) d)
+  reaches m same =
+      let e = m.pages.directories d h.lives h.directory in
+      let r = all_read (dir_words p d) e.items e.reads in
+      let all : all_words (slots (dir_words p d)) ≡ length (dir_words p d) = ap all_words r.0 ∙ r.1 in
+      let even = even_length (file_bytes (sights p) d) e.even in
+      let long = sizes d in
+      directory_reaches_its_end q d (omega arith)
 
-  once : (f : Fid) (k i j : ℕ) → carries_page f k (get_or (sights q) i hidden) ≡ true → carries_page f k (get_or (sights q) j hidden) ≡ true → i ≡ j
-  once f k i j x y = m.pages.once f k i j (sym (carries_same i f k) ∙ x) (sym (carries_same j f k) ∙ y)
+  module _ (m : PagesMended p) (ends : SlotsReachEnd (file_bytes (sights q) d)) where
+    directories : (e : Fid) → lives (sights q) e ≡ true → is_directory e ≡ true → SlotsReachEnd (file_bytes (sights q) e)
+    directories e live dir = by (is_fid e d) refl
+      where
+        by : (b : Bool) → is_fid e d ≡ b → SlotsReachEnd (file_bytes (sights q) e)
+        by false x = subst SlotsReachEnd (sym (others e x)) (m.pages.directories e (sym (lives_stay e) ∙ live) dir)
+        by true x = subst (λ g. SlotsReachEnd (file_bytes (sights q) g)) (sym (same_fid e d x)) ends
 
-  ended_before : Ended p
-  ended_before = record { cleared = record { once = m.pages.once; no_stray = none_before }; directories = m.pages.directories }
-    where
-      none_before : (i : ℕ) → get_or (sights p) i hidden ≡ stray → ⊥
-      none_before i e = elim (m.pages.used i (ap is_good e)) [
-        | inl is ↦ (let x : stray ≡ free = sym e ∙ is in cc)
-        | inr is ↦ (let x : false ≡ true = sym (ap (λ s. in_use p.shape (sights p) (i, s)) e) ∙ is in cc)
-      ]
+    once : (f : Fid) (k i j : ℕ) → carries_page f k (get_or (sights q) i hidden) ≡ true → carries_page f k (get_or (sights q) j hidden) ≡ true → i ≡ j
+    once f k i j x y = m.pages.once f k i j (sym (carries_same i f k) ∙ x) (sym (carries_same j f k) ∙ y)
 
-  ended_after : Ended q
-  ended_after = record { cleared = record { once = once; no_stray = λ i e. ended_before.cleared.no_stray i (stray_was (near i) e) }; directories = directories }
-    where
-      stray_was : {s t : Sight} → IsNear d s t → s ≡ stray → t ≡ stray
-      stray_was (one e) is = sym e ∙ is
-      stray_was (held k a b x y l) is = absurd (let z : holds d k a ≡ stray = sym x ∙ is in cc)
+    ended_before : Ended p
+    ended_before = record { cleared = record { once = m.pages.once; no_stray = none_before }; directories = m.pages.directories }
+      where
+        none_before : (i : ℕ) → get_or (sights p) i hidden ≡ stray → ⊥
+        none_before i e = elim (m.pages.used i (ap is_good e)) [
+          | inl is ↦ (let x : stray ≡ free = sym e ∙ is in cc)
+          | inr is ↦ (let x : false ≡ true = sym (ap (λ s. in_use p.shape (sights p) (i, s)) e) ∙ is in cc)
+        ]
 
-  counted : (f : Fid) (k : ℕ) → counts p.shape (sights q) f k ≡ counts p.shape (sights p) f k
-  counted f k = by (is_fid f d) refl
-    where
-      own : counts p.shape (sights q) d k ≡ counts p.shape (sights p) d k
-      own =
-          counts_end q ended_after d (lives_stay d ∙ h.lives) (not_descriptor d h.directory) k
-          ∙ ap (λ j. nat_le k (suc (j / 512))) (sizes d)
-          ∙ sym (counts_end p ended_before d h.lives (not_descriptor d h.directory) k)
+    ended_after : Ended q
+    ended_after = record { cleared = record { once = once; no_stray = λ i e. ended_before.cleared.no_stray i (stray_was (near i) e) }; directories = directories }
+      where
+        stray_was : {s t : Sight} → IsNear d s t → s ≡ stray → t ≡ stray
+        stray_was (one e) is = sym e ∙ is
+        stray_was (held k a b x y l) is = absurd (let z : holds d k a ≡ stray = sym x ∙ is in cc)
 
-      by : (b : Bool) → is_fid f d ≡ b → counts p.shape (sights q) f k ≡ counts p.shape (sights p) f k
-      by false x = counts_alike p.shape (sights p) (sights q) f k (lives_stay f) (others f x)
-      by true x = subst (λ g. counts p.shape (sights q) g k ≡ counts p.shape (sights p) g k) (sym (same_fid f d x)) own
+    counted : (f : Fid) (k : ℕ) → counts p.shape (sights q) f k ≡ counts p.shape (sights p) f k
+    counted f k = by (is_fid f d) refl
+      where
+        own : counts p.shape (sights q) d k ≡ counts p.shape (sights p) d k
+        own =
+            counts_end q ended_after d (lives_stay d ∙ h.lives) (not_descriptor d h.directory) k
+            ∙ ap (λ j. nat_le k (suc (j / 512))) (sizes d)
+            ∙ sym (counts_end p ended_before d h.lives (not_descriptor d h.directory) k)
 
-  use_stays : (i : ℕ) → in_use p.shape (sights q) (i, get_or (sights q) i hidden) ≡ in_use p.shape (sights p) (i, get_or (sights p) i hidden)
-  use_stays i = near_use d p.shape (sights q) i _ _ (near i) ∙ same_in_use p.shape (sights p) (sights q) i (get_or (sights p) i hidden) counted (λ f k has. ap (is_place i) (places f k))
+        by : (b : Bool) → is_fid f d ≡ b → counts p.shape (sights q) f k ≡ counts p.shape (sights p) f k
+        by false x = counts_alike p.shape (sights p) (sights q) f k (lives_stay f) (others f x)
+        by true x = subst (λ g. counts p.shape (sights q) g k ≡ counts p.shape (sights p) g k) (sym (same_fid f d x)) own
 
-  used : (i : ℕ) → IsUsed p.shape (sights q) i
-  used i good = elim (m.pages.used i (sym (near_good d _ _ (near i)) ∙ good)) [
-    | inl e ↦ inl (near_free d _ _ (near i) e)
-    | inr e ↦ inr (use_stays i ∙ e)
-  ]
+    use_stays : (i : ℕ) → in_use p.shape (sights q) (i, get_or (sights q) i hidden) ≡ in_use p.shape (sights p) (i, get_or (sights p) i hidden)
+    use_stays i = near_use d p.shape (sights q) i _ _ (near i) ∙ same_in_use p.shape (sights p) (sights q) i (get_or (sights p) i hidden) counted (λ f k has. ap (is_place i) (places f k))
 
-  links : (i : ℕ) → HasLinks p i → HasLinks q i
-  links i l = record {
-    next = ap (λ x. word x 0) (labels i) ∙ l.next ∙ sym (alike_next p.shape (sights p) (sights q) places (get_or (sights q) i hidden) ∙ near_next d p.shape (sights p) _ _ (near i));
-    previous = ap (λ x. word x 1) (labels i) ∙ l.previous ∙ sym (alike_previous p.shape (sights p) (sights q) places (get_or (sights q) i hidden) ∙ near_previous d p.shape (sights p) _ _ (near i));
-  }
+    used : (i : ℕ) → IsUsed p.shape (sights q) i
+    used i good = elim (m.pages.used i (sym (near_good d _ _ (near i)) ∙ good)) [
+      | inl e ↦ inl (near_free d _ _ (near i) e)
+      | inr e ↦ inr (use_stays i ∙ e)
+    ]
 
-  mended : PagesMended q
-  mended = record {
-    pages = record {
-      used = used;
-      once = once;
-      last_pages = λ f live. ap is_some (ap (λ k. place (sights q) f (suc (k / 512))) (sizes f) ∙ places f (suc (length (file_bytes (sights p) f) / 512))) ∙ m.pages.last_pages f (sym (lives_stay f) ∙ live);
-      readable = λ f live i readable l e is. m.pages.readable f (sym (lives_stay f) ∙ live) i readable l (sym (places f 0) ∙ e) (led (near i) is);
-      directories = directories;
-      root = (m.pages.root.0, m.pages.root.1, near_leads d _ _ (near 1) sys_dir m.pages.root.1 m.pages.root.0 m.pages.root.2);
-      descriptor_lives = lives_stay disk_descriptor ∙ m.pages.descriptor_lives;
-      descriptor_size = sizes disk_descriptor ∙ m.pages.descriptor_size;
-    };
-    links = λ i u. links i (m.links i (sym (use_stays i) ∙ u));
-  }
-    where
-      led : {s t : Sight} {f : Fid} {readable : Bool} {l : Leader} → IsNear d s t → s ≡ leads f readable l → t ≡ leads f readable l
-      led (one e) is = sym e ∙ is
-      led {f = f} {readable = r} {l = l} (held k a b x y z) is = absurd (let e : holds d k a ≡ leads f r l = sym x ∙ is in cc)
+    links : (i : ℕ) → HasLinks p i → HasLinks q i
+    links i l = record {
+      next = ap (λ x. word x 0) (labels i) ∙ l.next ∙ sym (alike_next p.shape (sights p) (sights q) places (get_or (sights q) i hidden) ∙ near_next d p.shape (sights p) _ _ (near i));
+      previous = ap (λ x. word x 1) (labels i) ∙ l.previous ∙ sym (alike_previous p.shape (sights p) (sights q) places (get_or (sights q) i hidden) ∙ near_previous d p.shape (sights p) _ _ (near i));
+    }
+
+    mended : PagesMended q
+    mended = record {
+      pages = record {
+        used = used;
+        once = once;
+        last_pages = λ f live. ap is_some (ap (λ k. place (sights q) f (suc (k / 512))) (sizes f) ∙ places f (suc (length (file_bytes (sights p) f) / 512))) ∙ m.pages.last_pages f (sym (lives_stay f) ∙ live);
+        readable = λ f live i readable l e is. m.pages.readable f (sym (lives_stay f) ∙ live) i readable l (sym (places f 0) ∙ e) (led (near i) is);
+        directories = directories;
+        root = (m.pages.root.0, m.pages.root.1, near_leads d _ _ (near 1) sys_dir m.pages.root.1 m.pages.root.0 m.pages.root.2);
+        descriptor_lives = lives_stay disk_descriptor ∙ m.pages.descriptor_lives;
+        descriptor_size = sizes disk_descriptor ∙ m.pages.descriptor_size;
+      };
+      links = λ i u. links i (m.links i (sym (use_stays i) ∙ u));
+    }
+      where
+        led : {s t : Sight} {f : Fid} {readable : Bool} {l : Leader} → IsNear d s t → s ≡ leads f readable l → t ≡ leads f readable l
+        led (one e) is = sym e ∙ is
+        led {f = f} {readable = r} {l = l} (held k a b x y z) is = absurd (let e : holds d k a ≡ leads f r l = sym x ∙ is in cc)
 
 pub dir_write_keeps_pages : DirWriteKeepsPages
 dir_write_keeps_pages p d w at new h m ends = record {
   mended = mended p d w at new h m ends;
-  lives_are = lives_stay p d w at new h m ends;
-  places_are = places p d w at new h m ends;
-  others = others p d w at new h m ends;
+  lives_are = lives_stay p d w at new h;
+  places_are = places p d w at new h;
+  others = others p d w at new h;
 }
+
+pub dir_write_reaches_its_end : DirWriteReachesItsEnd
+dir_write_reaches_its_end p d w at new h m same = reaches p d w at new h m same

@@ -24,6 +24,7 @@ use Rattle.laws_record.proofs.Heads.{all_read}
 use Rattle.laws_record.proofs.Slotwise.{put_after, put_before}
 use Rattle.laws_record.specs.DirLaws.{IsLooseWord, dir_written}
 use Rattle.laws_record.specs.DirLaws.IsLooseWord.{in_space, of_address}
+use Rattle.laws_lookup.proofs.Replacing.{split_at}
 use Rattle.laws_mend.specs.SlotLaws.{EntersReplacesSlots, LooseWordsKeepSlots, MoreWordsReplaceSlots}
 
 -- ---- words left over
@@ -67,14 +68,6 @@ front_slots xs ys place (i ∷ is) l = λ j. record { place = place; item = i; a
     same (space n) l = refl
     same (entry f name) l = first_words xs ys (address_word place) (omega arith)
 
--- slots one after another
-slots_join : (ws : List ℕ) (place : ℕ) (is js : List Item) → slots_at ws place (is ++ js) ≡ slots_at ws place is ++ slots_at ws (place + all_words is) js
-unfolding slots_at
-slots_join ws place [] js = let z : place ≡ place + 0 = omega arith in ap (λ n. slots_at ws n js) z
-slots_join ws place (i ∷ is) js =
-    let z : place + item_words i + all_words is ≡ place + all_words (i ∷ is) = omega arith in
-    ap (λ r. record { place = place; item = i; address = address_at ws place i } ∷ r) (slots_join ws (place + item_words i) is js ∙ ap (λ n. slots_at ws (place + item_words i) is ++ slots_at ws n js) z)
-
 -- those of a directory with a free slot of 256 words more
 pub slots_and_one : (p q : Pack) (d : Fid) (fresh : List ℕ) → SlotsReachEnd (file_bytes (sights p) d) → dir_words q d ≡ dir_words p d ++ fresh → slots fresh ≡ space 256 ∷ []
     → dir_slots q d ≡ dir_slots p d ++ record { place = all_words (slots (dir_words p d)); item = space 256; address = 0 } ∷ []
@@ -84,7 +77,7 @@ slots_and_one p q d fresh ends more one =
     let r = all_read ws ends.items ends.reads in
     let all : all_words (slots ws) ≡ length ws = ap all_words r.0 ∙ r.1 in
     let first : 0 + all_words (slots ws) ≡ all_words (slots ws) = omega arith in
-    (λ i. slots_at (more i) 0 (slots (more i))) ∙ ap (slots_at (ws ++ fresh) 0) (widen_slots p d fresh ends one) ∙ slots_join (ws ++ fresh) 0 (slots ws) (space 256 ∷ [])
+    (λ i. slots_at (more i) 0 (slots (more i))) ∙ ap (slots_at (ws ++ fresh) 0) (widen_slots p d fresh ends one) ∙ split_at (ws ++ fresh) 0 (slots ws) (space 256 ∷ [])
     ∙ ap (λ n. slots_at (ws ++ fresh) 0 (slots ws) ++ slots_at (ws ++ fresh) n (space 256 ∷ [])) first
     ∙ ap (λ is. is ++ record { place = all_words (slots ws); item = space 256; address = 0 } ∷ []) (front_slots ws fresh 0 (slots ws) (omega arith))
 

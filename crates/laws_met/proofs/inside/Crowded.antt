@@ -1,8 +1,8 @@
 -- The pack whose SysDir has two pages, by computation.
-use Rattle.std.proofs.Common.{◌≡◌, ◌&&◌, ℕ, zero, suc, Bool, true, false, List, [], ◌∷◌, ◌++◌, Some, refl, ap, subst, ◌∙◌}
+use Rattle.std.proofs.Common.{◌≡◌, ◌&&◌, Bool, true, false, List, [], ◌∷◌, ◌++◌, Some, refl, ap, subst, ◌∙◌}
 use Rattle.std.specs.List.{list_any}
 use Rattle.std.specs.FinMap.{entries}
-use Rattle.alto_words.specs.Fid.{disk_descriptor, ordinary_fid, sys_dir}
+use Rattle.alto_words.specs.Fid.{sys_dir}
 use Rattle.alto_words.specs.Names.{is_stored_name}
 use Rattle.disk_records.specs.Addresses.{real_of}
 use Rattle.disk_records.specs.Labels.{in_range, is_free}
@@ -14,10 +14,9 @@ use Rattle.pack_model.specs.reading.Bodies.{described}
 use Rattle.pack_model.specs.reading.Files.{file_bytes, first, joined, lives, most_pages, place}
 use Rattle.pack_model.specs.reading.Leaders.{is_readable, leader_name, leader_of}
 use Rattle.pack_model.specs.reading.Model.{dir_items, read_as}
-use Rattle.pack_model.specs.reading.Namings.{AllKept, Naming, clashes, descriptor_name, is_kept, keeps_system, namings, sys_dir_name}
+use Rattle.pack_model.specs.reading.Namings.{AllKept, Naming, clashes, is_kept, keeps_system, namings}
 use Rattle.pack_model.specs.reading.Sights.{sight, sights, sights_from}
 use Rattle.pack_model.specs.reading.Slots.{Item, is_entry, slot_at, slots, slots_after}
-use Rattle.pack_model.specs.reading.Slots.Item.{entry, space}
 use Rattle.pack_model.specs.states.Whole.{Tidy}
 use Rattle.pack_laws.proofs.ByLists.{described_by, described_list, read_by, read_list}
 use Rattle.laws_record.proofs.Heads.{and_left, and_right}
@@ -27,18 +26,18 @@ use Rattle.laws_operation.specs.DirectoryWords.{CanEnter}
 use Rattle.laws_call.specs.Writing.{Written, entering_writes}
 use Rattle.laws_call.specs.Writing.Written.{enters}
 use Rattle.laws_met.proofs.inside.CrowdedWhole.{whole}
-use Rattle.laws_met.specs.Crowded.{EnteringOverAPagesEndIsWritten, crowded, file_i, found_i, letters, name_i, room_i, words_i}
+use Rattle.laws_met.specs.Crowded.{EnteringOverAPagesEndIsWritten, before_i, crowded, file_i, found_i, free_i, name_i, room_i, words_i}
 use Rattle.laws_met.specs.Peopled.{small}
 
 -- ---- what a caller looks up
-record LooksUp : Type 0 where
-  living : lives (sights crowded) sys_dir ≡ true
-  lives_i : lives (sights crowded) file_i ≡ true
-  at_1 : place (sights crowded) sys_dir 1 ≡ Some 2
-  at_2 : place (sights crowded) sys_dir 2 ≡ Some 21
-  at_i : place (sights crowded) file_i 0 ≡ Some 22
+pub record LooksUp : Type 0 where
+  pub living : lives (sights crowded) sys_dir ≡ true
+  pub lives_i : lives (sights crowded) file_i ≡ true
+  pub at_1 : place (sights crowded) sys_dir 1 ≡ Some 2
+  pub at_2 : place (sights crowded) sys_dir 2 ≡ Some 21
+  pub at_i : place (sights crowded) file_i 0 ≡ Some 22
 
-looks_up : LooksUp
+pub looks_up : LooksUp
 unfolding sights_from sight real_of in_range is_free leader_of leader_name is_readable is_stored_name first joined most_pages file_bytes
 looks_up = record { living = refl; lives_i = refl; at_1 = refl; at_2 = refl; at_i = refl }
 
@@ -56,7 +55,7 @@ kept_by_lists : kept_all (is_kept (lives (sights crowded))) [] (namings (describ
 unfolding kept_all sights_from sight real_of in_range is_free leader_of leader_name is_readable is_stored_name first joined most_pages file_bytes slots_after slot_at is_entry keeps_system
 kept_by_lists = refl
 
-tidy : Tidy crowded
+pub tidy : Tidy crowded
 tidy = all_kept (is_kept (lives (sights crowded))) [] (namings (entries (described (sights crowded)))) (ap (λ es. kept_all (is_kept (lives (sights crowded))) [] (namings es)) (described_list (sights crowded)) ∙ kept_by_lists)
 
 abbrev new_entry : Naming
@@ -70,14 +69,10 @@ may_enter : MayEnter crowded sys_dir file_i name_i
 unfolding keeps_system
 may_enter = record { lives = looks_up.lives_i; fits = refl; apart = ap (λ es. list_any (clashes new_entry) (namings es)) (read_list small (sights crowded)) ∙ apart_by_lists }
 
-abbrev eight : ℕ → ℕ → ℕ → List Item
-eight zero serial c = []
-eight (suc n) serial c = entry (ordinary_fid serial) (letters c) ∷ eight n (suc serial) (suc c)
-
 abbrev root_slots : List Item
-root_slots = entry sys_dir sys_dir_name ∷ entry disk_descriptor descriptor_name ∷ (eight 8 3 97 ++ space 23 ∷ space 256 ∷ [])
+root_slots = before_i ++ free_i
 
-slots_are : slots (dir_words crowded sys_dir) ≡ root_slots
+pub slots_are : slots (dir_words crowded sys_dir) ≡ root_slots
 unfolding sights_from sight real_of in_range is_free leader_of leader_name is_readable is_stored_name first joined most_pages file_bytes slots_after slot_at is_entry
 slots_are = refl
 
@@ -88,7 +83,7 @@ items_are = items_are_slots crowded sys_dir tidy looks_up.living refl ∙ slots_
 room_is : (find_room 26 root_slots ≡ Some found_i) × (found_room found_i root_slots 2 21 ≡ room_i)
 room_is = (refl, refl)
 
-stored_i : is_stored_name name_i ≡ true
+pub stored_i : is_stored_name name_i ≡ true
 unfolding is_stored_name
 stored_i = refl
 

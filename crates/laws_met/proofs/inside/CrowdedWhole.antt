@@ -28,11 +28,11 @@ use Rattle.laws_met.specs.Crowded.{crowded, file_i, letters, name_i, root_words}
 use Rattle.laws_met.specs.Peopled.{small}
 
 -- ---- what its sectors show
-abbrev eight_shown : ℕ → ℕ → ℕ → List Sight
+abbrev pub eight_shown : ℕ → ℕ → ℕ → List Sight
 eight_shown zero serial c = []
 eight_shown (suc n) serial c = leads (ordinary_fid serial) true (new_leader (letters c) 1000) ∷ holds (ordinary_fid serial) 0 [] ∷ eight_shown n (suc serial) (suc c)
 
-abbrev shown : List Sight
+abbrev pub shown : List Sight
 shown =
     hidden
     ∷ leads sys_dir true (new_leader sys_dir_name 1000)
@@ -41,7 +41,7 @@ shown =
     ∷ holds disk_descriptor 0 (bytes_of (descriptor_text small 11 mark_open []))
     ∷ (eight_shown 8 3 97 ++ holds sys_dir 1 (drop 512 (bytes_of root_words)) ∷ leads file_i true (new_leader name_i 1000) ∷ holds file_i 0 [] ∷ replicate 24 free)
 
-shown_are : sights crowded ≡ shown
+pub shown_are : sights crowded ≡ shown
 unfolding sights_from sight real_of in_range is_free leader_of leader_name is_readable is_stored_name
 shown_are = refl
 

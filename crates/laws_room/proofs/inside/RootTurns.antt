@@ -19,7 +19,7 @@ use Rattle.laws_room.proofs.inside.Balancing.{needs_files, needs_keep}
 use Rattle.laws_room.proofs.inside.DirRooted.{zeros}
 use Rattle.laws_room.proofs.inside.Lacking.{same_namings}
 use Rattle.laws_room.proofs.inside.NeedsNext.{enter_needs, join_needs, widen_needs}
-use Rattle.laws_room.proofs.inside.NextLacking.{entered}
+use Rattle.laws_room.proofs.NextLacking.{entered}
 use Rattle.laws_room.proofs.Standing.{placed_stands}
 use Rattle.laws_room.specs.KeepLaws.{KeepsWithRoot}
 use Rattle.pack_laws.proofs.Keys.{fid_total, is_fid-itself}

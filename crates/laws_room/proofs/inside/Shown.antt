@@ -6,8 +6,8 @@ use Rattle.alto_words.specs.Fid.{fid_cmp, is_fid}
 use Rattle.alto_words.specs.declared.fid.Fid.{Fid}
 use Rattle.pack_model.specs.reading.Model.{read_as}
 use Rattle.pack_model.specs.reading.Sights.{sights}
-use Rattle.pack_model.specs.showing.Settling.{adopted, chosen, given, settle, settled}
-use Rattle.pack_model.specs.showing.View.{Home, Seen, View, view}
+use Rattle.pack_model.specs.showing.Settling.{adopted, given, settle, settled}
+use Rattle.pack_model.specs.showing.View.{Home, Seen, view}
 use Rattle.pack_laws.proofs.Keys.{fid_total}
 use Rattle.laws_record.proofs.Settles.{has_name, some_more}
 use Rattle.laws_room.proofs.Each.{Each, each_entry}

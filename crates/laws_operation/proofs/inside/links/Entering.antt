@@ -38,7 +38,7 @@ use Rattle.laws_record.specs.DirLaws.{dir_written}
 use Rattle.laws_operation.proofs.Dropped.{read_there}
 use Rattle.laws_operation.proofs.EnterLaw.{items_are}
 use Rattle.laws_operation.proofs.EnterMoves.{enter_carries_out, values-append}
-use Rattle.laws_operation.proofs.inside.Rejoining.{entered_there}
+use Rattle.laws_operation.proofs.Rejoining.{entered_there}
 use Rattle.laws_operation.specs.NameLaws.{MayEnterAt, entry_room}
 use Rattle.laws_operation.proofs.inside.links.Addresses.{AllTrue, left_true, true_replaced}
 use Rattle.laws_operation.proofs.inside.links.DirValues.{dir_values}

@@ -1,69 +1,18 @@
 -- The room that was found for an entry, among the slots of its directory.
-use Rattle.std.proofs.Common.{Bool, List, None, Option, Some, [], ap, arith, cond, false, get_or, leb-true, length, nat_le, refl, subst, suc, sym, true, ℕ, ◌++◌, ◌+◌, ◌<◌, ◌∙◌, ◌∷◌, ◌≡◌, ◌≤◌}
-use Rattle.std.specs.Option.{option_or}
+use Rattle.std.proofs.Common.{List, Some, ap, arith, get_or, length, subst, suc, sym, ℕ, ◌++◌, ◌<◌, ◌∙◌, ◌≡◌, ◌≤◌}
 use Rattle.pack_model.specs.operations.Committing.{page_of_word}
 use Rattle.pack_model.specs.reading.Files.{place}
 use Rattle.pack_model.specs.reading.Model.{dir_items, read_as}
 use Rattle.pack_model.specs.operations.PageWords.{entered_words, later}
-use Rattle.pack_model.specs.operations.Rooms.{Room, most_free, room_from, room_here, run}
 use Rattle.pack_model.specs.reading.Sights.{sights}
 use Rattle.pack_model.specs.reading.Slots.{Item, all_words, entry_length, item_words}
 use Rattle.pack_model.specs.reading.Slots.Item.{space}
-use Rattle.laws_record.proofs.RoomPlaced.{run_is}
 use Rattle.laws_record.proofs.Roomy.{run_enough}
 use Rattle.laws_operation.proofs.inside.words.EntryBytes.{entry_words_fit}
 use Rattle.laws_operation.proofs.inside.words.Labels.{living_name}
+use Rattle.laws_operation.proofs.Rejoining.{parted}
 use Rattle.laws_operation.specs.DirectoryWords.{EnterWordsFit, left_in}
 use Rattle.laws_operation.proofs.EnterMoves.{first_slot}
-
--- ---- a room
--- the slots before it, its own and those after it, where the search begins with a slot of this number and at this word
-record Parted (n first place : ℕ) (is : List Item) (r : Room) : Type 0 where
-  before : List Item
-  old : List Item
-  behind : List Item
-  split : is ≡ before ++ (old ++ behind)
-  first_is : r.first ≡ first + length before
-  place_is : r.place ≡ place + all_words before
-  total : r.total ≡ all_words old
-  runs : run n (old ++ behind) ≡ Some (r.total, behind)
-  most : r.total ≤ 1023
-
-parted : (n first place : ℕ) (is : List Item) (r : Room) → room_from n first place is ≡ Some r → Parted n first place is r
-parted n first place [] r e = absurd cc
-parted n first place (i ∷ is) r e = by (run n (i ∷ is)) refl e (λ e. behind_one (parted n (suc first) (place + item_words i) is r e))
-  where
-    behind_one : Parted n (suc first) (place + item_words i) is r → Parted n first place (i ∷ is) r
-    behind_one h =
-        let f = h.first_is in
-        let p = h.place_is in
-        record { before = i ∷ h.before; old = h.old; behind = h.behind; split = ap (λ l. i ∷ l) h.split; first_is = omega arith; place_is = omega arith; total = h.total; runs = h.runs; most = h.most }
-
-    tried : (t : Bool) (q : ℕ × List Item) → run n (i ∷ is) ≡ Some q → nat_le q.0 most_free ≡ t → option_or (cond t (Some (record { first = first; place = place; total = q.0 })) None) (room_from n (suc first) (place + item_words i) is) ≡ Some r
-        → (room_from n (suc first) (place + item_words i) is ≡ Some r → Parted n first place (i ∷ is) r) → Parted n first place (i ∷ is) r
-    tried true q q_is few e again =
-        let same : ◌≡◌ {A = Room} (record { first = first; place = place; total = q.0 }) r = cc in
-        let here = run_is n (i ∷ is) q q_is in
-        let total : q.0 ≡ r.total = ap (λ x. x.total) same in
-        let f : first ≡ r.first = ap (λ x. x.first) same in
-        let p : place ≡ r.place = ap (λ x. x.place) same in
-        let l = leb-true q.0 1023 few in
-        record {
-          before = [];
-          old = here.free;
-          behind = q.1;
-          split = here.are;
-          first_is = omega arith;
-          place_is = omega arith;
-          total = sym total ∙ here.words;
-          runs = ap (run n) (sym here.are) ∙ q_is ∙ (λ j. Some (total j, q.1));
-          most = omega arith;
-        }
-    tried false q q_is few e again = again e
-
-    by : (q : Option (ℕ × List Item)) → run n (i ∷ is) ≡ q → option_or (room_here first place q) (room_from n (suc first) (place + item_words i) is) ≡ Some r → (room_from n (suc first) (place + item_words i) is ≡ Some r → Parted n first place (i ∷ is) r) → Parted n first place (i ∷ is) r
-    by None q_is e again = again e
-    by (Some q) q_is e again = tried (nat_le q.0 most_free) q q_is refl e again
 
 -- ---- an entering there
 pub enter_words_fit : EnterWordsFit

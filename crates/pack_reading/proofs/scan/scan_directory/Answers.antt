@@ -6,7 +6,8 @@ use Rattle.pack_model.specs.reading.Bytes.{words_of}
 use Rattle.pack_model.specs.reading.Slots.{slots, slot_at}
 use Rattle.pack_model.specs.reading.Namings.{namings_in}
 use Rattle.pack_reading.specs.Kept.{lives_kept}
-use Rattle.pack_reading.specs.Homes.{considered, namings_of}
+use Rattle.kept_names.specs.Homes.{considered}
+use Rattle.pack_reading.specs.Scans.{namings_of}
 use Rattle.pack_reading.proofs.Scanning.{directory_namings, slot_considered, none_left}
 use Rattle.pack_reading.proofs.scan.scan_directory.Goals as goal
 

@@ -4,7 +4,8 @@ use Rattle.std.specs.FinMap.{FinMap}
 use Rattle.alto_words.specs.Fid.{fid_cmp}
 use Rattle.pack_model.specs.showing.View.{Home}
 use Rattle.pack_reading.specs.Kept.{lives_kept}
-use Rattle.pack_reading.specs.Homes.{StandsFor, considered, namings_of}
+use Rattle.kept_names.specs.Homes.{StandsFor, considered}
+use Rattle.pack_reading.specs.Scans.{namings_of}
 use Rattle.pack_reading.proofs.Scanning.{ComesTo}
 use Rattle.pack_reading.proofs.scan.scan_directory.Given as goal
 

@@ -1,5 +1,5 @@
 use Rattle.std.proofs.Common.{◌≡◌, ◌++◌, map}
-use Rattle.pack_reading.specs.Homes.{naming_at}
+use Rattle.kept_names.specs.Homes.{naming_at}
 use Rattle.pack_reading.specs.Shows.{shown_name}
 use Rattle.pack_reading.proofs.settle.list_names.Given as goal
 

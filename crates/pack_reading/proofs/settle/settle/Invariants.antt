@@ -3,8 +3,8 @@ use Rattle.std.specs.FinMap.{FinMap}
 use Rattle.alto_words.specs.Fid.{fid_cmp}
 use Rattle.pack_model.specs.showing.View.{Home}
 use Rattle.pack_model.specs.showing.Settling.{settled}
-use Rattle.pack_reading.specs.Homes.{StandsFor}
-use Rattle.pack_reading.specs.Passed.{IsPassed}
+use Rattle.kept_names.specs.Homes.{StandsFor}
+use Rattle.kept_names.specs.Passed.{IsPassed}
 use Rattle.pack_reading.specs.Shows.{seen_file}
 use Rattle.pack_reading.proofs.settle.settle.Given as goal
 

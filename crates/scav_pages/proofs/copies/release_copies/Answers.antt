@@ -1,16 +1,13 @@
-use Rattle.std.proofs.Common.{◌≡◌, ◌≢◌, Err, IfSome, IsTrue, None, Some, arith, rules, subst, sym, ap, ◌∙◌}
+use Rattle.std.proofs.Common.{◌≡◌, ◌≢◌, IfSome, IsTrue, None, Some, arith, rules, subst, sym, ap, ◌∙◌}
 use Rattle.std.specs.Option.{option_map, option_or}
 use Rattle.disk_records.specs.Tapes.{pack}
 use Rattle.disk_records.proofs.Growing.{alone_twice}
 use Rattle.scav_table.specs.Laws.{IsFirstAbove, IsNextRow}
 use Rattle.scav_table.specs.Passes.{IsNext}
-use Rattle.scav_pages.specs.Does.{Does}
-use Rattle.scav_pages.specs.Parts.{CopiesReleased}
 use Rattle.scav_pages.specs.Walks.{AreWords}
 use Rattle.scav_pages.proofs.Ahead.{ahead, ahead_falls, counts_on}
-use Rattle.scav_pages.proofs.Copying.{CopiesPass, CopiesTo, copies_all, copies_none, copy_here, copy_tends, goes_by, last_row, releases}
-use Rattle.scav_pages.proofs.Doing.{does_stop_two, going_looks}
-use Rattle.scav_pages.proofs.Stopping.{look_stops}
+use Rattle.scav_pages.proofs.Copying.{CopiesPass, CopiesTo, copies_all, copies_none, copy_here, copy_mends, goes_by, last_row, releases}
+use Rattle.scav_pages.proofs.Doing.{does_stop_looking, does_stop_two, going_looks}
 use Rattle.scav_pages.proofs.copies.release_copies.Goals as goal
 use Rattle.scav_pages.proofs.copies.release_copies.Goals.{then-eq+in_ok-release, else-eq}
 
@@ -33,10 +30,7 @@ returns-in_err-row-clause-alone g c = alone_twice c.loop-row.invariant.pass.alon
 pub returns-in_err-row-clause-does : goal.returns-in_err-row-clause-does
 returns-in_err-row-clause-does g c = λ told.
     let read = c.in_err-row.ensures in
-    let e = c.in_err-row.field-0.0 in
-    let failed : c.from_residual-in_err-row.result ≡ Err e = search rules in
-    subst (Does CopiesReleased (g.D.Tape.tape c.args.disk.now) (g.D.Tape.tape c.next_row.new.disk)) (sym failed)
-    (look_stops (c.loop-row.invariant.pass.released told).going read.looks told (read.found told) (read.want told))
+    does_stop_looking c.in_err-row.field-0.0 c.from_residual-in_err-row.result (c.loop-row.invariant.pass.released told).going read.looks told (read.found told) (read.want told) c.from_residual-in_err-row.ensures.1
 
 pub returns-in_err-release-clause-alone : goal.returns-in_err-release-clause-alone
 returns-in_err-release-clause-alone g c = alone_twice (alone_twice c.loop-row.invariant.pass.alone c.in_ok-row.ensures.looks.alone) c.in_err-release.ensures.alone
@@ -51,7 +45,7 @@ returns-in_err-release-clause-does g c = λ told.
     let same : c.loop-row.last ≡ Some row.page = search rules in
     let last = last_row c.loop-row.pass.last row.page (sym c.loop-row.invariant.last ∙ same) in
     does_stop_two c.in_err-release.field-0.0 c.from_residual-in_err-release.result (going_looks so_far.going read.looks told) c.in_err-release.ensures.alone.grown
-    (copy_here so_far read.looks told words first last.0 last.1 last.2) (copy_tends so_far read.looks told words first last.0 last.1 last.2) (omega arith) (c.in_err-release.ensures.guarded told) c.from_residual-in_err-release.ensures.1
+    (copy_here so_far read.looks told words first last.0 last.1 last.2) (copy_mends so_far read.looks told words first last.0 last.1 last.2) (omega arith) (c.in_err-release.ensures.guarded told) c.from_residual-in_err-release.ensures.1
 
 pub loop-row-preserved : goal.loop-row-preserved
 loop-row-preserved g c =

@@ -1,21 +1,21 @@
-use Rattle.std.proofs.Common.{◌≡◌, Some, Err, true, ap, ◌∙◌, refl, sym, subst, arith}
+use Rattle.std.proofs.Common.{◌≡◌, Some, true, ap, ◌∙◌, refl, sym, subst, arith}
 use Rattle.disk_records.specs.Labels.{page_of}
 use Rattle.disk_records.specs.Packs.{after, is_free_at}
 use Rattle.disk_records.specs.Commands.{claim_writes}
 use Rattle.disk_records.specs.Tapes.{pack}
 use Rattle.disk_records.proofs.Growing.{alone_twice}
 use Rattle.disk_records.proofs.Looking.{looks_pack}
-use Rattle.laws_mend.specs.Tending.{AllTends}
-use Rattle.scav_pages.proofs.Doing.{does_ok, does_stop_claim, going_done, going_here, going_looks, pack_done}
-use Rattle.scav_pages.proofs.Claiming.{does_stop_look, named_ranged, names_its_page}
-use Rattle.scav_pages.proofs.Describing.{its_page, leader_lasts, leader_place_free, leader_tends}
+use Rattle.scav_pages.proofs.Doing.{does_ok, does_stop_claim, does_stop_looking, going_done, going_here, going_looks, pack_done}
+use Rattle.scav_pages.proofs.Claiming.{named_ranged, names_its_page}
+use Rattle.scav_pages.proofs.Describing.{its_page, leader_lasts, leader_place_free, leader_mends}
+use Rattle.scav_pages.proofs.Keeping.{Mends}
 use Rattle.scav_pages.proofs.descriptor.make_leader.Goals as goal
 
 pub returns-in_err-at-clause-does : goal.returns-in_err-at-clause-does
 returns-in_err-at-clause-does g c = λ told may.
-    does_stop_look c.in_err-at.field-0.0 c.from_residual.result c.in_err-at.ensures.looks told
-    (λ astray. leader_place_free (pack (g.D.Tape.tape c.args.disk.now)) c.args.places.now c.args.from.now may c.requires.lacks (c.in_err-at.ensures.none told (ap Err astray)))
-    (λ memory. c.in_err-at.ensures.want told (ap Err memory)) c.from_residual.ensures.1
+    does_stop_looking c.in_err-at.field-0.0 c.from_residual.result (going_here (g.D.Tape.tape c.args.disk.now)) c.in_err-at.ensures.looks told
+    (λ astray. leader_place_free (pack (g.D.Tape.tape c.args.disk.now)) c.args.places.now c.args.from.now may c.requires.lacks (c.in_err-at.ensures.none told astray))
+    (c.in_err-at.ensures.want told) c.from_residual.ensures.1
 
 pub claim-requires-clause-label : goal.claim-requires-clause-label
 claim-requires-clause-label g c = named_ranged c.label_of-label.result (its_page 0) (ap page_of c.label_of-label.ensures ∙ names_its_page (its_page 0) 512 c.real_of.result 65535 refl (omega arith) (omega arith))
@@ -38,7 +38,7 @@ returns-in_err-claim-clause-does g c = λ told may.
     let names : page_of label ≡ Some (its_page 0) = ap page_of c.label_of-label.ensures ∙ names_its_page (its_page 0) 512 c.real_of.result 65535 refl (omega arith) (omega arith) in
     does_stop_claim c.in_err-claim.field-0.0 c.from_residual-in_err-claim.result (going_looks (going_here a) looks told) c.in_err-claim.ensures.alone.grown
     (subst (λ p. is_free_at p at ≡ true) (sym same) found.free)
-    (subst (λ p. AllTends p (claim_writes at label value)) (sym same) (leader_tends (pack a) c.args.places.now c.args.from.now may c.requires.lacks at label value found.free names))
+    (subst (λ p. Mends p (claim_writes at label value)) (sym same) (leader_mends (pack a) c.args.places.now c.args.from.now may c.requires.lacks at label value found.free names c.fresh_leader-leader.ensures.says))
     (c.in_err-claim.ensures.guarded told) c.from_residual-in_err-claim.ensures.1
 
 pub returns-clause-does : goal.returns-clause-does
@@ -54,6 +54,6 @@ returns-clause-does g c = λ told may.
     let grown = c.in_ok-claim.ensures.alone.grown in
     let done = (c.in_ok-claim.ensures.guarded told).ok in
     let left = pack_done grown done ∙ ap (λ p. after p (claim_writes at label value)) same in
-    let tends = subst (λ p. AllTends p (claim_writes at label value)) (sym same) (leader_tends (pack a) c.args.places.now c.args.from.now may c.requires.lacks at label value found.free names) in
-    does_ok tt (going_done (going_looks (going_here a) looks told) grown tends done)
+    let mends = subst (λ p. Mends p (claim_writes at label value)) (sym same) (leader_mends (pack a) c.args.places.now c.args.from.now may c.requires.lacks at label value found.free names c.fresh_leader-leader.ensures.says) in
+    does_ok tt (going_done (going_looks (going_here a) looks told) grown mends done)
     (leader_lasts (pack a) c.args.places.now c.args.from.now may c.requires.lacks (pack (g.D.Tape.tape c.claim.new.disk)) at label value found.free names left)

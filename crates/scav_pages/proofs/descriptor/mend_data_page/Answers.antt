@@ -8,12 +8,12 @@ use Rattle.disk_records.specs.Tapes.{pack}
 use Rattle.disk_records.specs.Words.{word}
 use Rattle.disk_records.proofs.Growing.{alone_twice}
 use Rattle.disk_records.proofs.Looking.{looks_pack}
-use Rattle.laws_mend.specs.Tending.{AllTends}
-use Rattle.laws_mend.proofs.joins.Laws.{nothing_tends}
 use Rattle.scav_pages.specs.Ends.{MayDescribePage}
-use Rattle.scav_pages.proofs.Doing.{does_ok, does_stop_two, going_does, going_done, going_here, going_looks, pack_done}
-use Rattle.scav_pages.proofs.Claiming.{does_stop_part, going_scavengeable, names_its_page}
-use Rattle.scav_pages.proofs.Describing.{already_described, carries_page_there, claim_described, count_described, count_tends, few_data_pages, its_page, may_claim_data}
+use Rattle.scav_pages.proofs.Changing.{other_word}
+use Rattle.scav_pages.proofs.Doing.{does_ok, does_stop_part, does_stop_two, going_does, going_done, going_here, going_looks, pack_done}
+use Rattle.scav_pages.proofs.Claiming.{going_scavengeable, names_its_page}
+use Rattle.scav_pages.proofs.Describing.{already_described, carries_page_there, claim_described, count_described, count_mends, few_data_pages, its_page, may_claim_data}
+use Rattle.scav_pages.proofs.Keeping.{Mends, mends_nothing}
 use Rattle.scav_pages.proofs.descriptor.mend_data_page.Goals as goal
 
 pub returns-in_err-places-clause-does : goal.returns-in_err-places-clause-does
@@ -48,7 +48,7 @@ returns-in_err-info-clause-does g c = λ told may.
     let at = get_or places c.from-index.result 0 in
     let noted : get_or places c.args.number 0 ≡ at = ap (λ i. get_or places i 0) (sym c.from-index.ensures) in
     does_stop_two c.in_err-info.field-0.0 c.from_residual-in_err-info.result (going_here a) c.in_err-info.ensures.looks.alone.grown
-    (carries_page_there (pack a) c.args.number c.args.from.now places may c.requires.one c.requires.most at noted c.if-at-eq0.false) (nothing_tends (pack a)) (omega arith)
+    (carries_page_there (pack a) c.args.number c.args.from.now places may c.requires.one c.requires.most at noted c.if-at-eq0.false) (mends_nothing (pack a)) (omega arith)
     (c.in_err-info.ensures.guarded told) c.from_residual-in_err-info.ensures.1
 
 pub relabel-requires-clause-same : goal.relabel-requires-clause-same
@@ -75,9 +75,10 @@ returns-in_err-relabel-clause-does g c = λ told may.
     let most = few_data_pages a.form in
     let few : c.page_bytes-bytes.result ≤ 512 = omega (arith, c.page_bytes-bytes.ensures) in
     let names : page_of label ≡ Some (its_page c.args.number) = ap page_of c.label_of-label.ensures ∙ names_its_page (its_page c.args.number) c.page_bytes-bytes.result c.in_ok-info.info.next c.in_ok-info.info.previous refl (omega (arith, most, c.requires.most)) few in
+    let other = other_word 3 c.in_ok-info.info.bytes label _ (sector_at (pack a) at).label c.label_of-label.ensures (ap (λ i. i.bytes) (c.in_ok-info.ensures.read told).tells) c.if-info-bytes.true in
     does_stop_two c.in_err-relabel.field-0.0 c.from_residual-in_err-relabel.result (going_looks (going_here a) looks told) c.in_err-relabel.ensures.alone.grown
     (subst (λ p. carried p at ≡ Some (its_page c.args.number)) (sym same) (carries_page_there (pack a) c.args.number c.args.from.now places may c.requires.one c.requires.most at noted c.if-at-eq0.false))
-    (subst (λ p. AllTends p (relabel_writes at label (sector_at p at).value)) (sym same) (count_tends (pack a) c.args.number c.args.from.now places may c.requires.one c.requires.most at noted c.if-at-eq0.false label names))
+    (subst (λ p. Mends p (relabel_writes at label (sector_at p at).value)) (sym same) (count_mends (pack a) c.args.number c.args.from.now places may c.requires.one c.requires.most at noted c.if-at-eq0.false label names other))
     (omega arith) (c.in_err-relabel.ensures.guarded told) c.from_residual-in_err-relabel.ensures.1
 
 pub returns-in_ok-relabel-clause-does : goal.returns-in_ok-relabel-clause-does
@@ -98,8 +99,9 @@ returns-in_ok-relabel-clause-does g c = λ told may.
     let grown = c.in_ok-relabel.ensures.alone.grown in
     let done = (c.in_ok-relabel.ensures.guarded told).ok in
     let left : q ≡ after (pack a) (relabel_writes at label (sector_at (pack a) at).value) = pack_done grown done ∙ ap (λ p. after p (relabel_writes at label (sector_at p at).value)) same in
-    let tends = subst (λ p. AllTends p (relabel_writes at label (sector_at p at).value)) (sym same) (count_tends (pack a) c.args.number c.args.from.now places may c.requires.one c.requires.most at noted c.if-at-eq0.false label names) in
-    let going = going_done (going_looks (going_here a) looks told) grown tends done in
+    let other = other_word 3 c.in_ok-info.info.bytes label _ (sector_at (pack a) at).label c.label_of-label.ensures (ap (λ i. i.bytes) (c.in_ok-info.ensures.read told).tells) c.if-info-bytes.true in
+    let mends = subst (λ p. Mends p (relabel_writes at label (sector_at p at).value)) (sym same) (count_mends (pack a) c.args.number c.args.from.now places may c.requires.one c.requires.most at noted c.if-at-eq0.false label names other) in
+    let going = going_done (going_looks (going_here a) looks told) grown mends done in
     does_ok tt going
     (count_described (pack a) c.args.number c.args.from.now places may c.requires.one c.requires.most at noted c.if-at-eq0.false q bytes label names (ap (λ l. word l 3) c.label_of-label.ensures) left (g.met.D.Disk.formed c.relabel.new.disk told) (going_scavengeable going may.scavengeable) size)
 

@@ -4,8 +4,7 @@ use Rattle.disk_records.specs.Tapes.{pack}
 use Rattle.disk_records.proofs.Growing.{alone_twice}
 use Rattle.pack_model.specs.sessions.Descriptor.{data_pages}
 use Rattle.scav_pages.specs.Ends.{AreWithin, MayDescribePage}
-use Rattle.scav_pages.proofs.Doing.{does_ok, going_does}
-use Rattle.scav_pages.proofs.Claiming.{does_stop_part}
+use Rattle.scav_pages.proofs.Doing.{does_ok, does_stop_part, going_does}
 use Rattle.scav_pages.proofs.Describing.{described_lasts}
 use Rattle.scav_pages.proofs.descriptor.mend_descriptor.Goals as goal
 

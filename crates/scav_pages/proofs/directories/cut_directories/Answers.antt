@@ -1,4 +1,4 @@
-use Rattle.std.proofs.Common.{◌≡◌, true, IsTrue, Some, Err, IfSome, refl, ap, sym, subst, ◌∙◌, rules}
+use Rattle.std.proofs.Common.{◌≡◌, true, IsTrue, Some, IfSome, refl, ap, sym, subst, ◌∙◌, rules}
 use Rattle.std.specs.Option.{option_or}
 use Rattle.disk_records.specs.Tapes.{pack}
 use Rattle.disk_records.proofs.Growing.{alone_twice}
@@ -26,9 +26,8 @@ returns-in_err-row-clause-alone g c = alone_twice c.loop-row.invariant.alone c.i
 
 pub returns-in_err-row-clause-does : goal.returns-in_err-row-clause-does
 returns-in_err-row-clause-does g c = λ told cleared.
-    let e = c.in_err-row.field-0.0 in
-    let failed : c.from_residual-in_err-row.result ≡ Err c.in_err-row.field-0.0 = search rules in
-    does_stop_looking e c.from_residual-in_err-row.result (c.loop-row.invariant.cuts.going told cleared) c.in_err-row.ensures.looks told (λ astray. c.in_err-row.ensures.found told (ap Err astray)) (λ memory. c.in_err-row.ensures.want told (ap Err memory)) failed
+    let read = c.in_err-row.ensures in
+    does_stop_looking c.in_err-row.field-0.0 c.from_residual-in_err-row.result (c.loop-row.invariant.cuts.going told cleared) read.looks told (read.found told) (read.want told) c.from_residual-in_err-row.ensures.1
 
 pub returns-in_err-cut_directory-clause-alone : goal.returns-in_err-cut_directory-clause-alone
 returns-in_err-cut_directory-clause-alone g c = alone_twice (alone_twice c.loop-row.invariant.alone c.in_ok-row.ensures.looks.alone) c.in_err-cut_directory.ensures.alone
@@ -39,8 +38,7 @@ returns-in_err-cut_directory-clause-does g c = λ told cleared.
     let first = λ (k : IsTrue g.D.Tape.told). subst (IsNextRow (pack (g.D.Tape.tape c.loop-row.disk)) c.loop-row.pass.last) c.in-Some.is (c.in_ok-row.ensures.next k) in
     let words : AreWords c.in-Some.row = subst (λ o. IfSome o AreWords) c.in-Some.is c.in_ok-row.ensures.words in
     let other : IsOtherFile c.loop-row.dir.walk c.in-Some.row = c.leaves.ensures.0 (search rules) in
-    let failed : c.from_residual-in_err-cut_directory.result ≡ Err c.in_err-cut_directory.field-0.0 = search rules in
-    cuts_stopped x (left_at c.loop-row.invariant.cuts first words other) c.in_err-cut_directory.field-0.0 c.from_residual-in_err-cut_directory.result c.in_err-cut_directory.ensures.alone.grown c.in_err-cut_directory.ensures.does failed told cleared
+    cuts_stopped x (left_at c.loop-row.invariant.cuts first words other) c.in_err-cut_directory.field-0.0 c.from_residual-in_err-cut_directory.result c.in_err-cut_directory.ensures.alone.grown c.in_err-cut_directory.ensures.does c.from_residual-in_err-cut_directory.ensures.1 told cleared
 
 pub loop-row-preserved : goal.loop-row-preserved
 loop-row-preserved g c =
@@ -147,9 +145,8 @@ returns-in_err-meet_page-clause-does g c = λ told cleared.
             same = λ other. contrary (c.leaves.ensures.1 other) w.if-leaves.false;
           }))
     ] in
-    let failed : c.from_residual-in_err-meet_page.result ≡ Err c.in_err-meet_page.field-0.0 = search rules in
     does_stop_looking c.in_err-meet_page.field-0.0 c.from_residual-in_err-meet_page.result (ready.cuts.going told cleared) c.in_err-meet_page.ensures.looks told
-    (λ astray. c.in_err-meet_page.ensures.found told (row_there (ready.cuts.stays told) (first_of_all told)).1 (ap Err astray)) (λ memory. c.in_err-meet_page.ensures.want told (ap Err memory)) failed
+    (c.in_err-meet_page.ensures.found told (row_there (ready.cuts.stays told) (first_of_all told)).1) (c.in_err-meet_page.ensures.want told) c.from_residual-in_err-meet_page.ensures.1
 
 pub returns-clause-alone : goal.returns-clause-alone
 returns-clause-alone g c = alone_twice (alone_twice c.loop-row.invariant.alone c.in_ok-row.ensures.looks.alone) c.cut_directory-2.ensures.alone

@@ -6,12 +6,11 @@ use Rattle.disk_records.specs.Packs.{after, carried, sector_at}
 use Rattle.disk_records.specs.Tapes.{pack}
 use Rattle.disk_records.proofs.Growing.{alone_twice}
 use Rattle.disk_records.proofs.Looking.{looks_pack}
-use Rattle.laws_mend.specs.Tending.{AllTends}
-use Rattle.laws_mend.proofs.joins.Laws.{nothing_tends}
 use Rattle.scav_pages.specs.Parts.{RelabelsHand}
 use Rattle.scav_pages.specs.Walks.{file_in_hand}
-use Rattle.scav_pages.proofs.Cutting.{carried_here, cut_ends, cut_tends, dead_alone, file_alone, made_names, no_word, number_low, placed_here, relabels_hand, whole_alone, word_of}
+use Rattle.scav_pages.proofs.Cutting.{carried_here, cut_ends, cut_mends, dead_alone, file_alone, made_names, no_word, number_low, placed_here, relabels_hand, whole_alone, word_of}
 use Rattle.scav_pages.proofs.Doing.{does_ok, does_stop_two, going_done, going_here, going_looks, pack_done}
+use Rattle.scav_pages.proofs.Keeping.{Mends, mends_nothing}
 use Rattle.scav_pages.proofs.directories.cut_directory.Goals as goal
 use Rattle.scav_pages.proofs.directories.cut_directory.Goals.{then-not-lives-via-then-not-lives, then-not-lives-via-else-not-lives+then-not-is_directory, then-not-lives-via-else-not-lives+else-not-is_directory+then-end-length, then-dir-lt1-via-then-dir-lt1, then-dir-lt1-via-else-dir-lt1+then-dir-pages}
 
@@ -56,7 +55,7 @@ returns-in_err-info-clause-does g c = λ told cleared may.
     let number = word_of c.try_from.result c.try_from.ensures c.in-Ok.is ∙ c.page.ensures in
     does_stop_two c.in_err-info.field-0.0 c.from_residual.result (going_here a) c.in_err-info.ensures.looks.alone.grown
     (carried_here (pack a) dir c.in-Some.fid cleared hand may (sym c.lives.ensures ∙ c.if-not-lives.false) (sym c.is_directory.ensures ∙ c.if-not-is_directory.false) (let other = c.if-end-length.false in let is = c.length.ensures in let at = c.place-end.ensures.place in (λ same. other (omega (arith, same, is, at)))) c.in-Ok.number number)
-    (nothing_tends (pack a)) (omega arith) (c.in_err-info.ensures.guarded told) c.from_residual.ensures.1
+    (mends_nothing (pack a)) (omega arith) (c.in_err-info.ensures.guarded told) c.from_residual.ensures.1
 
 pub relabel-requires-clause-same : goal.relabel-requires-clause-same
 relabel-requires-clause-same g c =
@@ -96,7 +95,7 @@ returns-in_err-relabel-clause-does g c = λ told cleared may.
     let isdir = sym c.is_directory.ensures ∙ c.if-not-is_directory.false in
     does_stop_two c.in_err-relabel.field-0.0 c.from_residual-in_err-relabel.result (going_looks (going_here a) c.in_ok-info.ensures.looks told) c.in_err-relabel.ensures.alone.grown
     (subst (λ p. carried p dir.at ≡ Some (record { fid = c.in-Some.fid; number = c.in-Ok.number })) (sym same) (carried_here (pack a) dir c.in-Some.fid cleared hand may living isdir differs c.in-Ok.number number))
-    (subst (λ p. AllTends p (relabel_writes dir.at label (sector_at p dir.at).value)) (sym same) (cut_tends (pack a) dir c.in-Some.fid cleared hand may living isdir differs label c.in-Ok.number number names count))
+    (subst (λ p. Mends p (relabel_writes dir.at label (sector_at p dir.at).value)) (sym same) (cut_mends (pack a) dir c.in-Some.fid cleared hand may living isdir differs label c.in-Ok.number number names count))
     (omega arith) (c.in_err-relabel.ensures.guarded told) c.from_residual-in_err-relabel.ensures.1
 
 pub returns-clause-does : goal.returns-clause-does
@@ -117,6 +116,6 @@ returns-clause-does g c = λ told cleared may.
     let done = (c.in_ok-relabel.ensures.guarded told).ok in
     does_ok tt
     (going_done (going_looks (going_here a) c.in_ok-info.ensures.looks told) grown
-    (subst (λ p. AllTends p (relabel_writes dir.at label (sector_at p dir.at).value)) (sym same) (cut_tends (pack a) dir c.in-Some.fid cleared hand may living isdir differs label c.in-Ok.number number names count)) done)
+    (subst (λ p. Mends p (relabel_writes dir.at label (sector_at p dir.at).value)) (sym same) (cut_mends (pack a) dir c.in-Some.fid cleared hand may living isdir differs label c.in-Ok.number number names count)) done)
     (cut_ends (pack a) dir c.in-Some.fid cleared hand may living isdir differs label c.in-Ok.number number names count (pack (g.D.Tape.tape c.relabel.new.disk))
     (pack_done grown done ∙ ap (λ p. after p (relabel_writes dir.at label (sector_at p dir.at).value)) same))

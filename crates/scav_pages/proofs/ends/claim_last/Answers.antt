@@ -4,8 +4,7 @@ use Rattle.disk_records.specs.Tapes.{pack}
 use Rattle.scav_pages.specs.Ends.{MayClaim}
 use Rattle.scav_pages.specs.Parts.{PageClaimed}
 use Rattle.scav_pages.specs.Walks.{file_in_hand}
-use Rattle.scav_pages.proofs.Doing.{does_ok, going_does, going_here}
-use Rattle.scav_pages.proofs.Claiming.{does_stop_part}
+use Rattle.scav_pages.proofs.Doing.{does_ok, does_stop_part, going_does, going_here}
 use Rattle.scav_pages.proofs.Ending.{claims_for_hand, few_pages, last_was_claimed, may_claim_last_page, other_by_words}
 use Rattle.scav_pages.proofs.ends.claim_last.Goals as goal
 

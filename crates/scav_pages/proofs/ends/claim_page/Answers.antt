@@ -6,10 +6,10 @@ use Rattle.disk_records.specs.Tapes.{pack}
 use Rattle.disk_records.specs.Words.{word}
 use Rattle.disk_records.proofs.Growing.{alone_twice}
 use Rattle.disk_records.proofs.Looking.{looks_pack}
-use Rattle.laws_mend.specs.Tending.{AllTends}
 use Rattle.scav_pages.specs.Free.{NoneFreeBelow}
 use Rattle.scav_pages.proofs.Doing.{does_ok, does_stop_claim, going_done, going_here, going_looks, pack_done}
-use Rattle.scav_pages.proofs.Claiming.{claim_tends, named_ranged, names_its_page, none_below_claimed}
+use Rattle.scav_pages.proofs.Claiming.{claim_mends, named_ranged, names_its_page, none_below_claimed}
+use Rattle.scav_pages.proofs.Keeping.{Mends}
 use Rattle.scav_pages.proofs.ends.claim_page.Goals as goal
 
 pub claim-requires-clause-label : goal.claim-requires-clause-label
@@ -38,7 +38,7 @@ returns-in_err-claim-clause-does g c = λ told may.
     let count = ap (λ l. word l 3) c.label_of-label.ensures in
     does_stop_claim c.in_err-claim.field-0.0 c.from_residual-in_err-claim.result (going_looks (going_here a) looks told) c.in_err-claim.ensures.alone.grown
     (subst (λ p. is_free_at p at ≡ true) (sym same) found.free)
-    (subst (λ p. AllTends p (claim_writes at label (replicate 256 0))) (sym same) (claim_tends (pack a) c.args.page c.args.bytes c.args.from.now at label may found.free names count))
+    (subst (λ p. Mends p (claim_writes at label (replicate 256 0))) (sym same) (claim_mends (pack a) c.args.page c.args.bytes c.args.from.now at label may found.free names count))
     (c.in_err-claim.ensures.guarded told) c.from_residual-in_err-claim.ensures.1
 
 pub returns-clause-wrote : goal.returns-clause-wrote
@@ -67,7 +67,7 @@ returns-clause-does g c = λ told may.
     let left = pack_done grown done ∙ ap (λ p. after p (claim_writes at label (replicate 256 0))) same in
     let q = pack (g.D.Tape.tape c.claim.new.disk) in
     does_ok at
-    (going_done (going_looks (going_here a) looks told) grown (subst (λ p. AllTends p (claim_writes at label (replicate 256 0))) (sym same) (claim_tends (pack a) c.args.page c.args.bytes c.args.from.now at label may found.free names count)) done)
+    (going_done (going_looks (going_here a) looks told) grown (subst (λ p. Mends p (claim_writes at label (replicate 256 0))) (sym same) (claim_mends (pack a) c.args.page c.args.bytes c.args.from.now at label may found.free names count)) done)
     (record {
       wrote = record { was_free = found.free; label = label; names = names; count = count; left = left };
       none_below = subst (λ n. NoneFreeBelow q n) (sym c.in_ok-at.ensures.next) (none_below_claimed (pack a) q c.args.page c.args.from.now at label (replicate 256 0) may.none_below found names left);

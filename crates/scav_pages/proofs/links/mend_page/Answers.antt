@@ -1,11 +1,7 @@
-use Rattle.std.proofs.Common.{rules, ◌≡◌, Err, sym, subst}
 use Rattle.disk_records.specs.Tapes.{pack}
 use Rattle.disk_records.proofs.Growing.{alone_twice}
-use Rattle.scav_pages.specs.Does.{Does}
-use Rattle.scav_pages.specs.Links.{PageMended}
-use Rattle.scav_pages.proofs.Doing.{does_ok, going_does, going_here}
+use Rattle.scav_pages.proofs.Doing.{does_ok, does_stop_part, going_does, going_here}
 use Rattle.scav_pages.proofs.Naming.{linked_named, linked_only, may_name}
-use Rattle.scav_pages.proofs.Stopping.{part_stops}
 use Rattle.scav_pages.proofs.links.mend_page.Goals as goal
 
 pub returns-in_err-name_page-clause-alone : goal.returns-in_err-name_page-clause-alone
@@ -21,10 +17,7 @@ returns-in_err-name_page-clause-does g c = λ told may.
     let link = c.in_ok-link_page.ensures in
     let linked = link.does told may in
     let name = may_name (pack a) (pack (g.D.Tape.tape c.link_page.new.disk)) row c.link_page.new.buf.value tt linked.leaves (link.wrote told) (g.met.D.Disk.formed c.link_page.new.disk told) (link.holds told) in
-    let e = c.in_err-name_page.field-0.0 in
-    let failed : c.from_residual-in_err-name_page.result ≡ Err e = search rules in
-    subst (Does (PageMended row.at) a (g.D.Tape.tape c.name_page.new.disk)) (sym failed)
-    (part_stops (going_does (going_here a) link.alone.grown linked) c.in_err-name_page.ensures.alone.grown (c.in_err-name_page.ensures.does told name))
+    does_stop_part c.in_err-name_page.field-0.0 c.from_residual-in_err-name_page.result (going_does (going_here a) link.alone.grown linked) c.in_err-name_page.ensures.alone.grown (c.in_err-name_page.ensures.does told name) c.from_residual-in_err-name_page.ensures.1
 
 pub returns-in_ok-name_page-clause-does : goal.returns-in_ok-name_page-clause-does
 returns-in_ok-name_page-clause-does g c = λ told may.

@@ -7,11 +7,11 @@ use Rattle.disk_records.specs.Tapes.{pack}
 use Rattle.leader_page.specs.declared.leader.Leader.{Leader}
 use Rattle.leader_page.specs.Laws.{SaysTitled}
 use Rattle.leader_page.specs.Pages.{IsDecoded}
-use Rattle.laws_mend.specs.Tending.{AllTends}
 use Rattle.pack_model.specs.reading.Leaders.{is_readable, leader_words}
 use Rattle.scav_pages.specs.Fresh.{own_name}
 use Rattle.scav_pages.proofs.Doing.{does_ok, does_stop_two, going_done, going_here, pack_done}
-use Rattle.scav_pages.proofs.Naming.{name_tends, name_written, named_already, named_page}
+use Rattle.scav_pages.proofs.Keeping.{Mends}
+use Rattle.scav_pages.proofs.Naming.{name_mends, name_written, named_already, named_page}
 use Rattle.scav_pages.proofs.links.name_page.Goals as goal
 
 unread : (value : List ℕ) (r : Option Leader) (none : Bool) → IsDecoded value r → is_some r ≡ not none → none ≡ true → is_readable (leader_words value) ≡ false
@@ -28,9 +28,9 @@ returns-in_err-write_value-clause-does g c = λ told may.
     let row = c.args.row.now in
     let value = c.args.value.now in
     let named : SaysTitled value (own_name row.page.fid) = c.title_changes_the_name.ensures value (own_name row.page.fid) may.long c.put_name.ensures.stored in
-    let tends = name_tends (pack a) row value may c.requires.leader named (unread value c.decode.result c.is_none.result c.decode.ensures c.is_none.ensures c.if-is_none.true) in
+    let mends = name_mends (pack a) row value may c.requires.leader named (unread value c.decode.result c.is_none.result c.decode.ensures c.is_none.ensures c.if-is_none.true) in
     does_stop_two c.in_err-write_value.field-0.0 c.from_residual.result (going_here a) c.in_err-write_value.ensures.alone.grown may.carries
-    (subst (λ v. AllTends (pack a) (value_writes row.at v)) (sym c.put_name.ensures.value) tends) (omega arith) (c.in_err-write_value.ensures.guarded told) c.from_residual.ensures.1
+    (subst (λ v. Mends (pack a) (value_writes row.at v)) (sym c.put_name.ensures.value) mends) (omega arith) (c.in_err-write_value.ensures.guarded told) c.from_residual.ensures.1
 
 pub returns-in_ok-write_value-clause-does : goal.returns-in_ok-write_value-clause-does
 returns-in_ok-write_value-clause-does g c = λ told may.
@@ -38,10 +38,10 @@ returns-in_ok-write_value-clause-does g c = λ told may.
     let row = c.args.row.now in
     let value = c.args.value.now in
     let named : SaysTitled value (own_name row.page.fid) = c.title_changes_the_name.ensures value (own_name row.page.fid) may.long c.put_name.ensures.stored in
-    let tends = name_tends (pack a) row value may c.requires.leader named (unread value c.decode.result c.is_none.result c.decode.ensures c.is_none.ensures c.if-is_none.true) in
+    let mends = name_mends (pack a) row value may c.requires.leader named (unread value c.decode.result c.is_none.result c.decode.ensures c.is_none.ensures c.if-is_none.true) in
     let grown = c.in_ok-write_value.ensures.alone.grown in
     let done = (c.in_ok-write_value.ensures.guarded told).ok in
-    does_ok tt (going_done (going_here a) grown (subst (λ v. AllTends (pack a) (value_writes row.at v)) (sym c.put_name.ensures.value) tends) done)
+    does_ok tt (going_done (going_here a) grown (subst (λ v. Mends (pack a) (value_writes row.at v)) (sym c.put_name.ensures.value) mends) done)
     (named_page (pack a) row value may c.requires.leader named (pack (g.D.Tape.tape c.write_value.new.disk)) (pack_done grown done ∙ ap (λ v. after (pack a) (value_writes row.at v)) c.put_name.ensures.value))
 
 pub returns-in_ok-write_value-clause-wrote : goal.returns-in_ok-write_value-clause-wrote

@@ -1,22 +1,20 @@
-use Rattle.std.proofs.Common.{◌≡◌, true, Err, ap, ◌∙◌, refl, sym, subst, rules}
+use Rattle.std.proofs.Common.{◌≡◌, true, ap, ◌∙◌, refl, sym, subst}
 use Rattle.disk_records.specs.Commands.{claim_writes}
 use Rattle.disk_records.specs.Labels.{tag}
 use Rattle.disk_records.specs.Packs.{after, is_free_at}
 use Rattle.disk_records.specs.Tapes.{pack}
 use Rattle.disk_records.proofs.Growing.{alone_twice}
 use Rattle.disk_records.proofs.Looking.{looks_pack}
-use Rattle.laws_mend.specs.Tending.{AllTends}
 use Rattle.scav_pages.proofs.Doing.{does_ok, does_stop_claim, does_stop_looking, going_done, going_here, going_looks, pack_done}
-use Rattle.scav_pages.proofs.Rooting.{first_in_range, first_names, leader_in_range, leader_names, leader_tends, not_none, one_still_free, page_tends, root_made, root_words}
+use Rattle.scav_pages.proofs.Keeping.{Mends}
+use Rattle.scav_pages.proofs.Rooting.{first_in_range, first_names, leader_in_range, leader_names, leader_mends, not_none, one_still_free, page_mends, root_made, root_words}
 use Rattle.scav_pages.proofs.root.make_root.Goals as goal
 
 pub returns-in_err-at-clause-does : goal.returns-in_err-at-clause-does
 returns-in_err-at-clause-does g c = λ told may.
     let a = g.D.Tape.tape c.args.disk.now in
-    let failed : c.from_residual.result ≡ Err c.in_err-at.field-0.0 = search rules in
     does_stop_looking c.in_err-at.field-0.0 c.from_residual.result (going_here a) c.in_err-at.ensures.looks told
-    (λ astray. not_none (pack a) may (c.in_err-at.ensures.none told (ap Err astray)))
-    (λ memory. c.in_err-at.ensures.want told (ap Err memory)) failed
+    (λ astray. not_none (pack a) may (c.in_err-at.ensures.none told astray)) (c.in_err-at.ensures.want told) c.from_residual.ensures.1
 
 pub claim-requires-clause-label : goal.claim-requires-clause-label
 claim-requires-clause-label g c = first_in_range 65535 c.real_of.result c.label_of-label.ensures
@@ -44,7 +42,7 @@ returns-in_err-claim-clause-does g c = λ told may.
     let names = first_names 65535 c.real_of.result c.label_of-label.ensures in
     does_stop_claim c.in_err-claim.field-0.0 c.from_residual-in_err-claim.result (going_looks (going_here a) looks told) c.in_err-claim.ensures.alone.grown
     (subst (λ p. is_free_at p at ≡ true) (sym same) free)
-    (subst (λ p. AllTends p (claim_writes at label root_words)) (sym same) (page_tends (pack a) may at label root_words free c.in_ok-at.ensures.first names))
+    (subst (λ p. Mends p (claim_writes at label root_words)) (sym same) (page_mends (pack a) may at label root_words free c.in_ok-at.ensures.first names))
     (c.in_err-claim.ensures.guarded told) c.from_residual-in_err-claim.ensures.1
 
 pub returns-in_err-claim-2-clause-does : goal.returns-in_err-claim-2-clause-does
@@ -65,10 +63,10 @@ returns-in_err-claim-2-clause-does g c = λ told may.
     let done = (c.in_ok-claim.ensures.guarded told).ok in
     let left = pack_done claimed done ∙ ap (λ x. after x (claim_writes at label root_words)) same in
     does_stop_claim c.in_err-claim-2.field-0.0 c.from_residual-in_err-claim-2.result
-    (going_done (going_looks (going_here a) looks told) claimed (subst (λ x. AllTends x (claim_writes at label root_words)) (sym same) (page_tends p may at label root_words free c.in_ok-at.ensures.first names)) done)
+    (going_done (going_looks (going_here a) looks told) claimed (subst (λ x. Mends x (claim_writes at label root_words)) (sym same) (page_mends p may at label root_words free c.in_ok-at.ensures.first names)) done)
     c.in_err-claim-2.ensures.alone.grown
     (one_still_free p may at label root_words free c.in_ok-at.ensures.first names q left)
-    (leader_tends p may at label root_words free c.in_ok-at.ensures.first names q left later c.fresh_leader-leader.result counts refl refl later_names)
+    (leader_mends p may at label root_words free c.in_ok-at.ensures.first names q left later c.fresh_leader-leader.result counts refl refl later_names c.fresh_leader-leader.ensures.says)
     (c.in_err-claim-2.ensures.guarded told) c.from_residual-in_err-claim-2.ensures.1
 
 pub returns-clause-does : goal.returns-clause-does
@@ -92,6 +90,6 @@ returns-clause-does g c = λ told may.
     let whole = (c.in_ok-claim-2.ensures.guarded told).ok in
     does_ok tt
     (going_done
-    (going_done (going_looks (going_here a) looks told) claimed (subst (λ x. AllTends x (claim_writes at label root_words)) (sym same) (page_tends p may at label root_words free c.in_ok-at.ensures.first names)) done)
-    last (leader_tends p may at label root_words free c.in_ok-at.ensures.first names q left later c.fresh_leader-leader.result counts refl refl later_names) whole)
+    (going_done (going_looks (going_here a) looks told) claimed (subst (λ x. Mends x (claim_writes at label root_words)) (sym same) (page_mends p may at label root_words free c.in_ok-at.ensures.first names)) done)
+    last (leader_mends p may at label root_words free c.in_ok-at.ensures.first names q left later c.fresh_leader-leader.result counts refl refl later_names c.fresh_leader-leader.ensures.says) whole)
     (root_made p may at label root_words free c.in_ok-at.ensures.first names q left later c.fresh_leader-leader.result counts refl refl later_names (pack (g.D.Tape.tape c.claim-2.new.disk)) (pack_done last whole))

@@ -4,16 +4,15 @@ use Rattle.disk_records.specs.Packs.{after, is_free_at}
 use Rattle.disk_records.specs.Tapes.{pack}
 use Rattle.disk_records.proofs.Growing.{alone_twice}
 use Rattle.disk_records.proofs.Looking.{looks_pack}
-use Rattle.laws_mend.specs.Tending.{AllTends}
-use Rattle.laws_mend.proofs.joins.Laws.{nothing_tends}
 use Rattle.scav_pages.proofs.Doing.{does_ok, does_stop_claim, does_stop_two, going_done, going_here, going_looks, pack_done}
-use Rattle.scav_pages.proofs.Rooting.{copy_tends, first_free, moved, old_tends, root_carried, still_carried}
+use Rattle.scav_pages.proofs.Keeping.{Mends, mends_nothing}
+use Rattle.scav_pages.proofs.Rooting.{copy_mends, first_free, moved, old_mends, root_carried, still_carried}
 use Rattle.scav_pages.proofs.root.move_root.Goals as goal
 
 pub returns-in_err-read_page-clause-does : goal.returns-in_err-read_page-clause-does
 returns-in_err-read_page-clause-does g c = λ told may.
     let a = g.D.Tape.tape c.args.disk.now in
-    does_stop_two c.in_err-read_page.field-0.0 c.from_residual.result (going_here a) c.in_err-read_page.ensures.looks.alone.grown (root_carried (pack a) c.args.old may c.requires.first) (nothing_tends (pack a)) (omega arith) (c.in_err-read_page.ensures.guarded told) c.from_residual.ensures.1
+    does_stop_two c.in_err-read_page.field-0.0 c.from_residual.result (going_here a) c.in_err-read_page.ensures.looks.alone.grown (root_carried (pack a) c.args.old may c.requires.first) (mends_nothing (pack a)) (omega arith) (c.in_err-read_page.ensures.guarded told) c.from_residual.ensures.1
 
 pub returns-in_err-claim-clause-alone : goal.returns-in_err-claim-clause-alone
 returns-in_err-claim-clause-alone g c = alone_twice c.in_ok-read_page.ensures.looks.alone c.in_err-claim.ensures.alone
@@ -34,7 +33,7 @@ returns-in_err-claim-clause-does g c = λ told may.
     let same = looks_pack looks told in
     does_stop_claim c.in_err-claim.field-0.0 c.from_residual-in_err-claim.result (going_looks (going_here a) looks told) c.in_err-claim.ensures.alone.grown
     (subst (λ p. is_free_at p 1 ≡ true) (sym same) (first_free (pack a) old may c.requires.first))
-    (subst (λ p. AllTends p (claim_writes 1 s.label s.value)) (sym same) (copy_tends (pack a) old may c.requires.first s holds))
+    (subst (λ p. Mends p (claim_writes 1 s.label s.value)) (sym same) (copy_mends (pack a) old may c.requires.first s holds))
     (c.in_err-claim.ensures.guarded told) c.from_residual-in_err-claim.ensures.1
 
 pub returns-in_err-release-clause-does : goal.returns-in_err-release-clause-does
@@ -49,10 +48,10 @@ returns-in_err-release-clause-does g c = λ told may.
     let done = (c.in_ok-claim.ensures.guarded told).ok in
     let left = pack_done claimed done ∙ ap (λ p. after p (claim_writes 1 s.label s.value)) same in
     does_stop_two c.in_err-release.field-0.0 c.from_residual-in_err-release.result
-    (going_done (going_looks (going_here a) looks told) claimed (subst (λ p. AllTends p (claim_writes 1 s.label s.value)) (sym same) (copy_tends (pack a) old may c.requires.first s holds)) done)
+    (going_done (going_looks (going_here a) looks told) claimed (subst (λ p. Mends p (claim_writes 1 s.label s.value)) (sym same) (copy_mends (pack a) old may c.requires.first s holds)) done)
     c.in_err-release.ensures.alone.grown
     (still_carried (pack a) old may c.requires.first s holds (pack (g.D.Tape.tape c.claim.new.disk)) left)
-    (old_tends (pack a) old may c.requires.first s holds (pack (g.D.Tape.tape c.claim.new.disk)) left)
+    (old_mends (pack a) old may c.requires.first s holds (pack (g.D.Tape.tape c.claim.new.disk)) left)
     (omega arith) (c.in_err-release.ensures.guarded told) c.from_residual-in_err-release.ensures.1
 
 pub returns-clause-does : goal.returns-clause-does
@@ -69,6 +68,6 @@ returns-clause-does g c = λ told may.
     let released = c.in_ok-release.ensures.alone.grown in
     let gone = (c.in_ok-release.ensures.guarded told).ok in
     does_ok tt
-    (going_done (going_done (going_looks (going_here a) looks told) claimed (subst (λ p. AllTends p (claim_writes 1 s.label s.value)) (sym same) (copy_tends (pack a) old may c.requires.first s holds)) done)
-    released (old_tends (pack a) old may c.requires.first s holds (pack (g.D.Tape.tape c.claim.new.disk)) left) gone)
+    (going_done (going_done (going_looks (going_here a) looks told) claimed (subst (λ p. Mends p (claim_writes 1 s.label s.value)) (sym same) (copy_mends (pack a) old may c.requires.first s holds)) done)
+    released (old_mends (pack a) old may c.requires.first s holds (pack (g.D.Tape.tape c.claim.new.disk)) left) gone)
     (moved (pack a) old may c.requires.first s holds (pack (g.D.Tape.tape c.claim.new.disk)) left (pack (g.D.Tape.tape c.release.new.disk)) (pack_done released gone))

@@ -1,11 +1,9 @@
-use Rattle.std.proofs.Common.{◌≡◌, ◌+◌, ◌<◌, ◌≤◌, Err, length, arith, rules, ap, subst, sym, ◌∙◌}
+use Rattle.std.proofs.Common.{◌≡◌, ◌+◌, ◌<◌, ◌≤◌, length, arith, rules, ap, subst, sym, ◌∙◌}
 use Rattle.disk_records.specs.Addresses.{pages_of}
 use Rattle.disk_records.specs.Tapes.{pack}
 use Rattle.disk_records.proofs.Growing.{alone_here, alone_twice, length-pack}
 use Rattle.pack_model.specs.states.InUse.{one_if}
-use Rattle.scav_pages.specs.Does.{Does}
-use Rattle.scav_pages.specs.Parts.{StraysReleased}
-use Rattle.scav_pages.proofs.Stopping.{part_stops}
+use Rattle.scav_pages.proofs.Doing.{does_stop_part}
 use Rattle.scav_pages.proofs.Straying.{StraysTo, strays_all, strays_more, strays_none}
 use Rattle.scav_pages.proofs.strays.release_strays.Goals as goal
 use Rattle.scav_pages.proofs.strays.release_strays.Goals.{then-branch, else-branch}
@@ -26,10 +24,7 @@ returns-in_err-release_stray-clause-alone g c = alone_twice c.loop-at.invariant.
 pub returns-in_err-release_stray-clause-does : goal.returns-in_err-release_stray-clause-does
 returns-in_err-release_stray-clause-does g c = λ told once.
     let so_far = c.loop-at.invariant.released told once in
-    let e = c.in_err-release_stray.field-0.0 in
-    let failed : c.from_residual.result ≡ Err e = search rules in
-    subst (Does StraysReleased (g.D.Tape.tape c.args.disk.now) (g.D.Tape.tape c.release_stray.new.disk)) (sym failed)
-    (part_stops so_far.going c.in_err-release_stray.ensures.alone.grown (c.in_err-release_stray.ensures.does told so_far.once))
+    does_stop_part c.in_err-release_stray.field-0.0 c.from_residual.result so_far.going c.in_err-release_stray.ensures.alone.grown (c.in_err-release_stray.ensures.does told so_far.once) c.from_residual.ensures.1
 
 pub loop-at-preserved : goal.loop-at-preserved
 loop-at-preserved g c =

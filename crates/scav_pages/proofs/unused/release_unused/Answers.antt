@@ -1,4 +1,4 @@
-use Rattle.std.proofs.Common.{◌≡◌, ◌≢◌, ◌<◌, ◌≤◌, Err, IfSome, IsTrue, None, Some, arith, rules, refl, subst, sym, ap, ◌∙◌}
+use Rattle.std.proofs.Common.{◌≡◌, ◌≢◌, ◌<◌, ◌≤◌, IfSome, IsTrue, None, Some, arith, rules, refl, subst, sym, ap, ◌∙◌}
 use Rattle.std.specs.Option.{option_or}
 use Rattle.disk_records.specs.Addresses.{pages_of}
 use Rattle.disk_records.specs.Tapes.{pack}
@@ -9,13 +9,11 @@ use Rattle.pack_model.specs.states.InUse.{counts}
 use Rattle.pack_model.specs.reading.Sights.{sights}
 use Rattle.scav_table.specs.Laws.{IsFirstAbove, IsNextRow}
 use Rattle.scav_table.specs.Passes.{IsNext}
-use Rattle.scav_pages.specs.Does.{Does}
-use Rattle.scav_pages.specs.Parts.{UnusedReleased}
-use Rattle.scav_pages.specs.Walks.{AreWords, Walked}
+use Rattle.scav_pages.specs.Walks.{Walked}
 use Rattle.scav_pages.proofs.Ahead.{ahead, ahead_falls, counts_on}
-use Rattle.scav_pages.proofs.Doing.{does_stop_two, going_looks}
-use Rattle.scav_pages.proofs.Stopping.{look_stops}
-use Rattle.scav_pages.proofs.Using.{count_is, keeps_it, pass_none, releases_it, root_page, unused_here, unused_tends, used_all, walked_then}
+use Rattle.scav_pages.proofs.Doing.{does_stop_looking, does_stop_two, going_looks}
+use Rattle.scav_pages.proofs.Rooting.{root_page}
+use Rattle.scav_pages.proofs.Using.{count_is, keeps_it, pass_none, releases_it, unused_here, unused_mends, used_all, walked_then}
 use Rattle.scav_pages.proofs.Using.IsNoted.{noted, other}
 use Rattle.scav_pages.proofs.unused.release_unused.Goals as goal
 
@@ -30,10 +28,7 @@ returns-in_err-row-clause-alone g c = alone_twice c.loop-row.invariant.pass.alon
 pub returns-in_err-row-clause-does : goal.returns-in_err-row-clause-does
 returns-in_err-row-clause-does g c = λ told ended.
     let read = c.in_err-row.ensures in
-    let e = c.in_err-row.field-0.0 in
-    let failed : c.from_residual-in_err-row.result ≡ Err e = search rules in
-    subst (Does UnusedReleased (g.D.Tape.tape c.args.disk.now) (g.D.Tape.tape c.next_row.new.disk)) (sym failed)
-    (look_stops (c.loop-row.invariant.pass.released told ended).going read.looks told (read.found told) (read.want told))
+    does_stop_looking c.in_err-row.field-0.0 c.from_residual-in_err-row.result (c.loop-row.invariant.pass.released told ended).going read.looks told (read.found told) (read.want told) c.from_residual-in_err-row.ensures.1
 
 pub returns-in_err-release-clause-alone : goal.returns-in_err-release-clause-alone
 returns-in_err-release-clause-alone g c = alone_twice (alone_twice c.loop-row.invariant.pass.alone c.in_ok-row.ensures.looks.alone) c.in_err-release.ensures.alone
@@ -47,15 +42,14 @@ returns-in_err-release-clause-does g c = λ told ended.
     let inv = c.loop-row.invariant.pass in
     let so_far = inv.released told ended in
     let form : data_pages c.shape.result ≡ data_pages old.form = ap data_pages (c.shape.ensures ∙ c.in_ok-pass.ensures.looks.alone.grown.form) in
-    let words : AreWords row = subst (λ o. IfSome o AreWords) c.in-Some.is read.words in
     let first : IsTrue g.D.Tape.told → IsFirstAbove (pack now) c.loop-row.pass.last row = λ told. subst (IsNextRow (pack now) c.loop-row.pass.last) c.in-Some.is (read.next told) in
     let next : c.next_row.new.pass.last ≡ Some row = read.last ∙ ap (λ o. option_or o c.loop-row.pass.last) c.in-Some.is in
     let tells : Ended (pack old) → Walked (pack old) c.loop-row.pass.last c.loop-row.walk → IsFirstAbove (pack old) c.loop-row.pass.last row → c.is_used.result ≡ counts old.form (sights (pack old)) row.page.fid row.page.number =
     λ ended. c.is_used.ensures.used (pack old) c.loop-row.pass.last ended (c.data_pages-most.ensures.pages ∙ form) in
-    let walked = walked_then c.is_used.result inv read.looks read.stands next words first c.is_used.ensures.walked tells told ended in
-    let uncounted = sym (count_is c.is_used.result inv read.looks read.stands next words first c.is_used.ensures.walked tells told ended) ∙ c.if-not-is_used.true in
+    let walked = walked_then c.is_used.result inv read.looks read.stands next first c.is_used.ensures.walked tells told ended in
+    let uncounted = sym (count_is c.is_used.result inv read.looks read.stands next first c.is_used.ensures.walked tells told ended) ∙ c.if-not-is_used.true in
     does_stop_two c.in_err-release.field-0.0 c.from_residual-in_err-release.result (going_looks so_far.going read.looks told) c.in_err-release.ensures.alone.grown
-    (unused_here so_far read.looks told words (first told) walked uncounted) (unused_tends so_far read.looks told words (first told) walked uncounted) (omega arith) (c.in_err-release.ensures.guarded told) c.from_residual-in_err-release.ensures.1
+    (unused_here so_far read.looks told (first told) walked uncounted) (unused_mends so_far read.looks told (first told) walked uncounted) (omega arith) (c.in_err-release.ensures.guarded told) c.from_residual-in_err-release.ensures.1
 
 pub loop-row-preserved-then-not-is_used : goal.loop-row-preserved-then-not-is_used
 loop-row-preserved-then-not-is_used g c =
@@ -64,13 +58,12 @@ loop-row-preserved-then-not-is_used g c =
     let old = g.D.Tape.tape c.args.disk.now in
     let now = g.D.Tape.tape c.loop-row.disk in
     let form : data_pages c.shape.result ≡ data_pages old.form = ap data_pages (c.shape.ensures ∙ c.in_ok-pass.ensures.looks.alone.grown.form) in
-    let words : AreWords row = subst (λ o. IfSome o AreWords) c.in-Some.is read.words in
     let first : IsTrue g.D.Tape.told → IsFirstAbove (pack now) c.loop-row.pass.last row = λ told. subst (IsNextRow (pack now) c.loop-row.pass.last) c.in-Some.is (read.next told) in
     let next : c.next_row.new.pass.last ≡ Some row = read.last ∙ ap (λ o. option_or o c.loop-row.pass.last) c.in-Some.is in
     let tells : Ended (pack old) → Walked (pack old) c.loop-row.pass.last c.loop-row.walk → IsFirstAbove (pack old) c.loop-row.pass.last row → c.is_used.result ≡ counts old.form (sights (pack old)) row.page.fid row.page.number =
     λ ended. c.is_used.ensures.used (pack old) c.loop-row.pass.last ended (c.data_pages-most.ensures.pages ∙ form) in
     record {
-      pass = releases_it c.is_used.result c.loop-row.invariant.pass read.looks read.stands next words first c.is_used.ensures.walked tells c.if-not-is_used.true c.saturating_add.result c.in_ok-release.ensures.alone
+      pass = releases_it c.is_used.result c.loop-row.invariant.pass read.looks read.stands next first c.is_used.ensures.walked tells c.if-not-is_used.true c.saturating_add.result c.in_ok-release.ensures.alone
           (λ told. (c.in_ok-release.ensures.guarded told).ok)
           (λ told frees. counts_on (g.D.Tape.tape c.release.new.disk) c.loop-row.unused.freed (g.met.D.Disk.sized c.release.new.disk told) frees c.saturating_add.ensures);
     }
@@ -82,16 +75,15 @@ loop-row-preserved-then-eq g c =
     let old = g.D.Tape.tape c.args.disk.now in
     let now = g.D.Tape.tape c.loop-row.disk in
     let form : data_pages c.shape.result ≡ data_pages old.form = ap data_pages (c.shape.ensures ∙ c.in_ok-pass.ensures.looks.alone.grown.form) in
-    let words : AreWords row = subst (λ o. IfSome o AreWords) c.in-Some.is read.words in
     let first : IsTrue g.D.Tape.told → IsFirstAbove (pack now) c.loop-row.pass.last row = λ told. subst (IsNextRow (pack now) c.loop-row.pass.last) c.in-Some.is (read.next told) in
     let next : c.next_row.new.pass.last ≡ Some row = read.last ∙ ap (λ o. option_or o c.loop-row.pass.last) c.in-Some.is in
     let tells : Ended (pack old) → Walked (pack old) c.loop-row.pass.last c.loop-row.walk → IsFirstAbove (pack old) c.loop-row.pass.last row → c.is_used.result ≡ counts old.form (sights (pack old)) row.page.fid row.page.number =
     λ ended. c.is_used.ensures.used (pack old) c.loop-row.pass.last ended (c.data_pages-most.ensures.pages ∙ form) in
     let within = subst (λ o. IfSome o (λ r. (1 ≤ r.at) × (r.at < pages_of now.form))) c.in-Some.is read.place in
     let pages : pages_of now.form ≡ pages_of old.form = ap pages_of c.loop-row.invariant.pass.alone.grown.form in
-    let same : row.page ≡ root_page = search rules in
+    let same : row.page ≡ (root_page 0) = search rules in
     record {
-      pass = keeps_it c.is_used.result c.loop-row.invariant.pass read.looks read.stands next words first c.is_used.ensures.walked tells c.if-not-is_used.false (Some row.at) (within.0, omega (arith, within.1, pages)) (noted same refl);
+      pass = keeps_it c.is_used.result c.loop-row.invariant.pass read.looks read.stands next first c.is_used.ensures.walked tells c.if-not-is_used.false (Some row.at) (within.0, omega (arith, within.1, pages)) (noted same refl);
     }
 
 pub loop-row-preserved : goal.loop-row-preserved
@@ -101,13 +93,12 @@ loop-row-preserved g c =
     let old = g.D.Tape.tape c.args.disk.now in
     let now = g.D.Tape.tape c.loop-row.disk in
     let form : data_pages c.shape.result ≡ data_pages old.form = ap data_pages (c.shape.ensures ∙ c.in_ok-pass.ensures.looks.alone.grown.form) in
-    let words : AreWords row = subst (λ o. IfSome o AreWords) c.in-Some.is read.words in
     let first : IsTrue g.D.Tape.told → IsFirstAbove (pack now) c.loop-row.pass.last row = λ told. subst (IsNextRow (pack now) c.loop-row.pass.last) c.in-Some.is (read.next told) in
     let next : c.next_row.new.pass.last ≡ Some row = read.last ∙ ap (λ o. option_or o c.loop-row.pass.last) c.in-Some.is in
     let tells : Ended (pack old) → Walked (pack old) c.loop-row.pass.last c.loop-row.walk → IsFirstAbove (pack old) c.loop-row.pass.last row → c.is_used.result ≡ counts old.form (sights (pack old)) row.page.fid row.page.number =
     λ ended. c.is_used.ensures.used (pack old) c.loop-row.pass.last ended (c.data_pages-most.ensures.pages ∙ form) in
-    let another : row.page ≢ root_page = λ same. search rules in
-    record { pass = keeps_it c.is_used.result c.loop-row.invariant.pass read.looks read.stands next words first c.is_used.ensures.walked tells c.if-not-is_used.false c.loop-row.unused.root c.loop-row.invariant.pass.place (other another refl) }
+    let another : row.page ≢ (root_page 0) = λ same. search rules in
+    record { pass = keeps_it c.is_used.result c.loop-row.invariant.pass read.looks read.stands next first c.is_used.ensures.walked tells c.if-not-is_used.false c.loop-row.unused.root c.loop-row.invariant.pass.place (other another refl) }
 
 pub loop-row-smaller : goal.loop-row-smaller
 loop-row-smaller g c =

@@ -5,7 +5,7 @@ use Rattle.pack_model.specs.sessions.Tallies.{no_tally}
 use Rattle.session_model.specs.Opening.{Begun}
 use Rattle.session_boot.specs.Boots.{Booted, OpenedBy}
 use Rattle.session_boot.specs.Faults.{status_of, status_of_need}
-use Rattle.session_boot.proofs.Entering.{ended_boots, failed_boots, fault_cause, fault_is_no_usage, need_cause, need_is_no_usage, opened_boots, refused_boots, refused_cause, sound_once}
+use Rattle.session_boot.proofs.Entering.{ended_boots, failed_boots, fault_cause, fault_answers, need_cause, need_answers, opened_boots, refused_boots, refused_cause, sound_once}
 use Rattle.session_boot.proofs.booting.boot.Goals as goal
 
 pub returns-in-Err-clause-booted : goal.returns-in-Err-clause-booted
@@ -32,7 +32,7 @@ returns-in-Ok-ended-clause-booted g c = λ told.
     let by_opening : OpenedBy x y = record { grown = c.begin.ensures.alone.grown; silent = c.begin.ensures.silent told; keys = c.begin.ensures.alone.keys; counts = g.met.M.Disk.counted c.args.machine.now told } in
     let most : given.limit < 2 ^ 64 = omega (arith, limit) in
     let all : Booted moment x z given two.tally (status_of_need two.need) =
-    opened_boots moment x z given two.tally (status_of_need two.need) (g.met.M.Disk.formed c.args.machine.now told) (need_is_no_usage two.need) (λ once. (c.in-Ok.ensures.opens told once).0)
+    opened_boots moment x z given two.tally (status_of_need two.need) (g.met.M.Disk.formed c.args.machine.now told) (need_answers two.need) (λ once. (c.in-Ok.ensures.opens told once).0)
     (λ sound. ended_boots moment x z given two (c.in-Ok-ended.ensures.lasts told moment x given most by_opening sound (subst (Begun (pack x) one moment) limit ((c.in-Ok.ensures.opens told (sound_once (pack x) sound)).1 sound))))
     (need_cause x z two.need) in
     subst (Booted moment x z given c.tally.result) (sym (c.status_of_need.ensures ∙ ap status_of_need c.needs_scavenge.ensures))
@@ -52,7 +52,7 @@ returns-clause-booted g c = λ told.
     let by_opening : OpenedBy x y = record { grown = c.begin.ensures.alone.grown; silent = c.begin.ensures.silent told; keys = c.begin.ensures.alone.keys; counts = g.met.M.Disk.counted c.args.machine.now told } in
     let most : given.limit < 2 ^ 64 = omega (arith, limit) in
     let all : Booted moment x z given two.tally (status_of fault) =
-    opened_boots moment x z given two.tally (status_of fault) (g.met.M.Disk.formed c.args.machine.now told) (fault_is_no_usage fault) (λ once. (c.in-Ok.ensures.opens told once).0)
+    opened_boots moment x z given two.tally (status_of fault) (g.met.M.Disk.formed c.args.machine.now told) (fault_answers fault) (λ once. (c.in-Ok.ensures.opens told once).0)
     (λ sound. failed_boots moment x z given two.tally fault (c.in-Err-ended.ensures.lasts told moment x given most by_opening sound (subst (Begun (pack x) one moment) limit ((c.in-Ok.ensures.opens told (sound_once (pack x) sound)).1 sound))))
     (fault_cause x y z fault c.begin.ensures.alone.grown c.in-Err-ended.ensures.cause) in
     subst (Booted moment x z given c.tally.result) (sym c.status.ensures)

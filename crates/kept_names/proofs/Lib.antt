@@ -1,0 +1,9 @@
+pub mod Tests
+pub mod Homes
+pub mod Choices
+pub mod Passing
+pub mod Grouping
+pub mod MayShow
+pub mod Scanned
+pub mod SystemApart
+pub mod Following

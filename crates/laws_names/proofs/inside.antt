@@ -1,0 +1,17 @@
+pub mod Addressed
+pub mod Choosing
+pub mod Ending
+pub mod FewNames
+pub mod Freed
+pub mod Joining
+pub mod Models
+pub mod MoreRoom
+pub mod NextEntered
+pub mod NextKept
+pub mod Parted
+pub mod Rooms
+pub mod Scanned
+pub mod Staying
+pub mod Unlacking
+pub mod Written
+pub mod WrittenWords

@@ -1,0 +1,7 @@
+pub mod EntriesLaws
+pub mod JoinLaws
+pub mod Keeping
+pub mod LackingLaws
+pub mod ModelLaws
+pub mod PartLaws
+pub mod WriteLaws

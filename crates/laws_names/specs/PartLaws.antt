@@ -1,0 +1,8 @@
+-- The parts of a pack whose pages are mended.
+use Rattle.disk_records.specs.Packs.{Pack}
+use Rattle.pack_model.specs.scavenger.Reports.{PagesMended}
+use Rattle.laws_mend.specs.Parts.{Lasting}
+
+-- it has all of them
+abbrev pub MendedHasParts : Type 0
+MendedHasParts = (p : Pack) → PagesMended p → Lasting p

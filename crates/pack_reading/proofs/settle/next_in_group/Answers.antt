@@ -1,6 +1,0 @@
-use Rattle.std.proofs.Common.{sym, subst, ◌+◌, arith}
-use Rattle.pack_reading.specs.Passed.{AreTaken}
-use Rattle.pack_reading.proofs.settle.next_in_group.Goals as goal
-
-pub loop-count-init : goal.loop-count-init
-loop-count-init c = λ homes stands is. subst (λ n. AreTaken homes c.args.name c.args.group.first (c.args.group.first + n)) (sym c.count-count.ensures) (is c.args.name c.args.group.first (omega arith))

@@ -1,0 +1,18 @@
+use Rattle.std.proofs.Common.{◌≡◌, get_or, sym, subst, ◌∙◌}
+use Rattle.disk_records.specs.Tapes.{pack}
+use Rattle.scav_names.specs.Parts.{AddressesTrue}
+use Rattle.scav_names.specs.Words.{AreWordsOf, WritesWords, address_words}
+use Rattle.scav_names.proofs.Addressing.{are_words, few_places, run_addresses}
+use Rattle.scav_names.proofs.WordRuns.{does_writes}
+use Rattle.scav_names.proofs.addresses.mend_addresses.Goals as goal
+
+pub returns-clause-does : goal.returns-clause-does
+returns-clause-does g c = λ told may.
+    let a = g.D.Tape.tape c.args.disk.now in
+    let files = c.args.living.now in
+    let kept = c.args.kept.now in
+    let is : c.as_slice.result.now ≡ address_words files kept = c.as_slice.ensures ∙ c.in_ok-words.ensures may.rises (λ k z within. few_places (pack a) (get_or kept k z) (may.stand k z within)) in
+    let runs = run_addresses (pack a) files kept may in
+    let wrote : WritesWords (address_words files kept) a (g.D.Tape.tape c.write_words.new.disk) c.write_words.result =
+    subst (λ ws. WritesWords ws a (g.D.Tape.tape c.write_words.new.disk) c.write_words.result) is (c.write_words.ensures.writes told (subst (AreWordsOf (pack a)) (sym is) (are_words (pack a) files kept may))) in
+    does_writes {Leaves = AddressesTrue} c.write_words.result c.write_words.ensures.alone.grown wrote runs.keeps runs.mended

@@ -1,0 +1,48 @@
+use Rattle.std.proofs.Common.{◌≡◌, refl, sym, ap, subst, ◌∙◌}
+use Rattle.alto_words.specs.Fid.{sys_dir}
+use Rattle.disk_records.specs.Tapes.{pack}
+use Rattle.disk_records.proofs.Growing.{alone_twice}
+use Rattle.pack_model.specs.hints.Links.{dir_words}
+use Rattle.pack_model.specs.reading.Slots.{slots}
+use Rattle.scav_entries.specs.Rooms.{IsFirstRoom}
+use Rattle.scav_pages.specs.declared.errors.Stop.TheVariants.{Memory}
+use Rattle.scav_names.proofs.Going.{does_ok, does_part, does_stop, so_far_does, so_far_here}
+use Rattle.scav_names.proofs.NextEntry.{entered, entered_after}
+use Rattle.scav_names.proofs.enter.enter.Goals as goal
+
+pub returns-in_err-write_entry-clause-alone : goal.returns-in_err-write_entry-clause-alone
+returns-in_err-write_entry-clause-alone g c = alone_twice c.in_ok-room.ensures.alone c.in_err-write_entry.ensures.alone
+
+pub returns-in_err-write_entry-clause-does : goal.returns-in_err-write_entry-clause-does
+returns-in_err-write_entry-clause-does g c = λ told todo may.
+    let a = g.D.Tape.tape c.args.disk.now in
+    let made = c.in_ok-room.ensures.does told c.args.file.now todo c.entry_words-words.ensures.words may in
+    does_part c.in_err-write_entry.field-0.0 c.from_residual-in_err-write_entry.result (so_far_does (so_far_here a) c.in_ok-room.ensures.alone.grown made) c.in_err-write_entry.ensures.alone.grown
+    (c.in_err-write_entry.ensures.does told todo made.leaves.may) c.from_residual-in_err-write_entry.ensures.1
+
+pub returns-in_err-fill-clause-alone : goal.returns-in_err-fill-clause-alone
+returns-in_err-fill-clause-alone g c = alone_twice c.in_ok-room.ensures.alone c.in_ok-write_entry.ensures.alone
+
+pub returns-in_err-fill-clause-does : goal.returns-in_err-fill-clause-does
+returns-in_err-fill-clause-does g c = λ told todo may.
+    let a = g.D.Tape.tape c.args.disk.now in
+    let made = c.in_ok-room.ensures.does told c.args.file.now todo c.entry_words-words.ensures.words may in
+    let wrote = c.in_ok-write_entry.ensures.does told todo made.leaves.may in
+    does_stop Memory c.from_residual-in_err-fill.result (so_far_does (so_far_does (so_far_here a) c.in_ok-room.ensures.alone.grown made) c.in_ok-write_entry.ensures.alone.grown wrote) (λ astray. cc) c.from_residual-in_err-fill.ensures.1
+
+pub returns-clause-alone : goal.returns-clause-alone
+returns-clause-alone g c = alone_twice c.in_ok-room.ensures.alone c.in_ok-write_entry.ensures.alone
+
+pub returns-clause-does : goal.returns-clause-does
+returns-clause-does g c = λ told todo may.
+    let a = g.D.Tape.tape c.args.disk.now in
+    let b = g.D.Tape.tape c.make_room.new.disk in
+    let file = c.args.file.now in
+    let words = c.entry_words-words.ensures.words in
+    let made = c.in_ok-room.ensures.does told file todo words may in
+    let wrote = c.in_ok-write_entry.ensures.does told todo made.leaves.may in
+    let is = slots (dir_words (pack b) sys_dir) in
+    let first = subst (λ n. IsFirstRoom n is c.in_ok-room.room) (sym words) made.leaves.may.first in
+    let rooms = c.in_ok-fill.ensures is made.leaves.may.may.rooms first file.fid file.name (sym words) in
+    does_ok tt (so_far_does (so_far_does (so_far_here a) c.in_ok-room.ensures.alone.grown made) c.in_ok-write_entry.ensures.alone.grown wrote)
+    (entered_after made.leaves.stay (entered made.leaves.may.may wrote.leaves refl refl rooms))

@@ -1,0 +1,31 @@
+use Rattle.std.proofs.Common.{◌∷◌, arith}
+use Rattle.alto_words.specs.Fid.{sys_dir}
+use Rattle.disk_records.specs.Tapes.{pack}
+use Rattle.pack_model.specs.hints.Links.{dir_words}
+use Rattle.pack_model.specs.reading.Slots.{slots}
+use Rattle.scav_names.proofs.Going.{does_ok, does_part, so_far_does, so_far_here}
+use Rattle.scav_names.proofs.NextEntry.{none_there, room_comes, room_then}
+use Rattle.scav_names.proofs.enter.make_room.Goals as goal
+
+pub returns-in_err-widen_root-clause-does : goal.returns-in_err-widen_root-clause-does
+returns-in_err-widen_root-clause-does g c = λ told next todo is may.
+    let a = g.D.Tape.tape c.args.disk.now in
+    let none = c.in_default.ensures.room (slots (dir_words (pack a) sys_dir)) may.rooms in
+    does_part c.in_err-widen_root.field-0.0 c.from_residual.result (so_far_here a) c.in_err-widen_root.ensures.alone.grown (c.in_err-widen_root.ensures.does told (next ∷ todo) (none_there c.args.words is (let few = c.requires.most in omega (arith, few)) may none)) c.from_residual.ensures.1
+
+pub returns-in-Some-find-clause-does : goal.returns-in-Some-find-clause-does
+returns-in-Some-find-clause-does g c = λ told next todo is may.
+    let a = g.D.Tape.tape c.args.disk.now in
+    let b = g.D.Tape.tape c.widen_root.new.disk in
+    let none = c.in_default.ensures.room (slots (dir_words (pack a) sys_dir)) may.rooms in
+    let wide = c.in_ok-widen_root.ensures.does told (next ∷ todo) (none_there c.args.words is (let few = c.requires.most in omega (arith, few)) may none) in
+    let first = c.in-Some-find.ensures.room (slots (dir_words (pack b) sys_dir)) wide.leaves.may.rooms in
+    does_ok c.in-Some-find.room (so_far_does (so_far_here a) c.in_ok-widen_root.ensures.alone.grown wide) (room_then c.args.words c.in-Some-find.room is wide.leaves first)
+
+pub returns-in-None-clause-does : goal.returns-in-None-clause-does
+returns-in-None-clause-does g c = λ told next todo is may.
+    let a = g.D.Tape.tape c.args.disk.now in
+    let b = g.D.Tape.tape c.widen_root.new.disk in
+    let none = c.in_default.ensures.room (slots (dir_words (pack a) sys_dir)) may.rooms in
+    let wide = c.in_ok-widen_root.ensures.does told (next ∷ todo) (none_there c.args.words is (let few = c.requires.most in omega (arith, few)) may none) in
+    absurd (room_comes c.args.words is wide.leaves (c.in-None.ensures.room (slots (dir_words (pack b) sys_dir)) wide.leaves.may.rooms))

@@ -1,0 +1,12 @@
+use Rattle.scav_names.proofs.Going.{does_ok, so_far_here}
+use Rattle.scav_names.proofs.OneRoom.{one_already, place_known, several_keep, several_made}
+use Rattle.scav_names.proofs.WordRuns.{does_writes}
+use Rattle.scav_names.specs.Roots.{RoomMadeOne}
+use Rattle.scav_names.proofs.entering.make_one.Goals as goal
+
+pub returns-then-room-clause-does : goal.returns-then-room-clause-does
+returns-then-room-clause-does g c = λ told next todo may. does_ok tt (so_far_here (g.D.Tape.tape c.args.disk.now)) (one_already may c.if-room.true)
+
+pub returns-clause-does : goal.returns-clause-does
+returns-clause-does g c = λ told next todo may.
+    does_writes {Leaves = RoomMadeOne c.args.root.now next todo c.args.room.now} c.put_in_root.result c.put_in_root.ensures.alone.grown (c.put_in_root.ensures.writes told may.may.known.pages (place_known may)) (several_keep may) (several_made may)

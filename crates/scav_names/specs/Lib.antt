@@ -1,0 +1,5 @@
+pub mod Does
+pub mod Mending
+pub mod Parts
+pub mod Roots
+pub mod Words

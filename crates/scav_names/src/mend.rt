@@ -1,0 +1,95 @@
+// All names of a pack.
+ghost use Rattle.std.specs.Prelude.{◌≡◌, ◌^◌, ◌<◌, length, IsTrue};
+ghost use Rattle.disk_records.specs.Causes.{HasCause};
+ghost use Rattle.disk_records.specs.Tapes.{DiskAlone, pack};
+ghost use Rattle.pack_model.specs.scavenger.Reports.{PagesMended};
+ghost use Rattle.pack_model.specs.scavenger.Scavenging.{Scavengeable};
+ghost use Rattle.scav_entries.specs.Lacking.{adopted_among};
+ghost use Rattle.scav_pages.specs.Stops.{cause_of_stop};
+ghost use Rattle.scav_table.specs.Causes.{cause_of_sweep};
+ghost use Rattle.scav_names.specs.Does.{Does};
+ghost use Rattle.scav_names.specs.Mending.{AreMended, MendsNames};
+ghost use Rattle.scav_names.specs.Parts.{MayBeNamed};
+
+use crate::addresses::mend_addresses;
+use crate::enter::enter_all;
+use crate::root::Root;
+use crate::unkept::free_unkept;
+use disk_records::Disk;
+use kept_names::is_system;
+use scav_entries::{Catalogue, Living, lacking, part_entries, read_names, root_rooms};
+use scav_pages::Stop;
+use scav_table::{SweepError, Table};
+use std::alloc::Global;
+
+/// How many of these files aren't system files.
+fn count_adopted(files: &[Living]) -> u32
+    ensures { length files.now < 2 ^ 32 → result ≡ adopted_among files.now }
+{
+    let mut adopted = 0u32;
+    for file in files {
+        if !is_system(file.fid) {
+            adopted = adopted.saturating_add(1);
+        }
+    }
+    adopted
+}
+
+/// Mends the names of a pack that can be scavenged and whose pages are mended, at whatever window the table is: makes the slots of entries
+/// free that aren't kept, enters the system files in SysDir if they have no entry there, and then each nameless file by rising full name, under its
+/// leader's name or the first suffix of that which isn't taken, and makes the addresses of all entries true. SysDir gets a page more for an
+/// entry that has no room. Answers how many files got a name, the system files aside. A record write that would change nothing isn't made.
+/// What it keeps in memory are names and slots.
+///
+/// DiskFault: the disk failed. Memory: none was left for names and slots, or for record writes of the disk. After either of them a prefix of the
+/// work is done, and the pack can be scavenged again.
+pub fn mend_names<D: Disk>(
+    alloc: Global,
+    disk: &mut D,
+    table: &mut Table,
+) -> Result<u32, SweepError>
+    ensures mends { IsTrue D.told → Scavengeable (pack (D.tape disk.old)) → PagesMended (pack (D.tape disk.old)) → MendsNames (D.tape disk.old) (D.tape disk.new) result }
+    ensures cause { HasCause cause_of_sweep (D.tape disk.old) (D.tape disk.new) result }
+    ensures alone { DiskAlone (D.tape disk.old) (D.tape disk.new) }
+{
+    match mend(alloc, disk, table) {
+        Ok(adopted) => Ok(adopted),
+        // on a machine that isn't modelled: nothing more is written
+        Err(Stop::Astray) => Err(SweepError::Memory),
+        Err(Stop::DiskFault) => Err(SweepError::DiskFault),
+        Err(Stop::Memory) => Err(SweepError::Memory),
+    }
+}
+
+/// The parts, one after another.
+fn mend<D: Disk>(alloc: Global, disk: &mut D, table: &mut Table) -> Result<u32, Stop>
+    ensures does { IsTrue D.told → MayBeNamed (pack (D.tape disk.old)) → Does AreMended (D.tape disk.old) (D.tape disk.new) result }
+    ensures cause { HasCause cause_of_stop (D.tape disk.old) (D.tape disk.new) result }
+    ensures alone { DiskAlone (D.tape disk.old) (D.tape disk.new) }
+{
+    let mut names = read_names(alloc, disk, table)?;
+    let mut parted = part_entries(alloc, &names)?;
+    free_unkept(alloc, disk, table, parted.unkept.as_slice())?;
+    root_rooms(&mut names, &parted)?;
+    let files = lacking(alloc, names.living.as_slice(), &mut parted)?;
+    let Catalogue {
+        living,
+        rooms,
+        root_pages,
+        ..
+    } = names;
+    let mut root = Root {
+        rooms,
+        pages: root_pages,
+        from: 1,
+    };
+    enter_all(alloc, disk, &mut root, files.as_slice())?;
+    mend_addresses(
+        alloc,
+        disk,
+        table,
+        living.as_slice(),
+        parted.kept.as_slice(),
+    )?;
+    Ok(count_adopted(files.as_slice()))
+}

@@ -1,0 +1,16 @@
+mod Closing
+mod CountPass
+mod OwnPages
+mod Ending
+mod FileNumbers
+mod Filtering
+mod Finding
+mod Finishing
+mod Lacking
+mod Mapping
+mod MarkPlaces
+mod OldSerial
+mod Opening
+mod Refusals
+mod Safety
+mod Starting

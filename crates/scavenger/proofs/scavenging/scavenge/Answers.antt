@@ -1,0 +1,54 @@
+use Rattle.std.proofs.Common.{◌≡◌, None, IfSome, ap, sym, subst, ◌∙◌}
+use Rattle.disk_records.specs.Packs.{Pack}
+use Rattle.disk_records.specs.Tapes.{pack}
+use Rattle.disk_records.proofs.Growing.{alone_twice, pack-silent, silent_twice}
+use Rattle.disk_records.proofs.Looking.{looks_pack}
+use Rattle.pack_model.specs.reading.Sights.{sights}
+use Rattle.pack_model.specs.scavenger.Scavenging.{first_refusal}
+use Rattle.pack_model.specs.states.InUse.{bad_sectors}
+use Rattle.scavenger.specs.Answers.{IsRefusal, refused}
+use Rattle.scavenger.specs.Counting.{Counted}
+use Rattle.scavenger.proofs.Safety.{refusal_cause, refused_answers, scavenges_after, scavenges_none}
+use Rattle.scavenger.proofs.scavenging.scavenge.Goals as goal
+
+pub returns-in_err-counts-clause-alone : goal.returns-in_err-counts-clause-alone
+returns-in_err-counts-clause-alone g c = alone_twice c.in_ok-table.ensures.looks.alone c.in_err-counts.ensures.alone
+
+pub returns-in_err-refusal-clause-alone : goal.returns-in_err-refusal-clause-alone
+returns-in_err-refusal-clause-alone g c = alone_twice (alone_twice c.in_ok-table.ensures.looks.alone c.in_ok-counts.ensures.alone) c.in_err-refusal.ensures.alone
+
+pub returns-in-Some-clause-alone : goal.returns-in-Some-clause-alone
+returns-in-Some-clause-alone g c = alone_twice (alone_twice c.in_ok-table.ensures.looks.alone c.in_ok-counts.ensures.alone) c.in_ok-refusal.ensures.alone
+
+pub returns-clause-alone : goal.returns-clause-alone
+returns-clause-alone g c = alone_twice (alone_twice (alone_twice c.in_ok-table.ensures.looks.alone c.in_ok-counts.ensures.alone) c.in_ok-refusal.ensures.alone) c.mend.ensures.alone
+
+pub returns-in-Some-clause-cause : goal.returns-in-Some-clause-cause
+returns-in-Some-clause-cause g c = refusal_cause (g.D.Tape.tape c.args.disk.now) (g.D.Tape.tape c.refuse.new.disk) c.in-Some.refusal (subst (λ o. IfSome o IsRefusal) c.in-Some.is c.in_ok-refusal.ensures.refusal)
+
+pub returns-in-Some-clause-scavenges : goal.returns-in-Some-clause-scavenges
+returns-in-Some-clause-scavenges g c = λ told.
+    let before = alone_twice c.in_ok-table.ensures.looks.alone c.in_ok-counts.ensures.alone in
+    let quiet = silent_twice c.in_ok-table.ensures.looks.alone.grown c.in_ok-counts.ensures.alone.grown (c.in_ok-table.ensures.looks.silent told) (c.in_ok-counts.ensures.silent told) in
+    let all = silent_twice before.grown c.in_ok-refusal.ensures.alone.grown quiet (c.in_ok-refusal.ensures.silent told) in
+    let here = pack-silent before.grown quiet in
+    let counted = subst (λ (q : Pack). Counted q c.in_ok-counts.counts) (looks_pack c.in_ok-table.ensures.looks told ∙ sym here) (c.in_ok-counts.ensures.counted told) in
+    let bad : c.bad-bad.result ≡ bad_sectors (sights (pack (g.D.Tape.tape c.count_pages.new.disk))) = c.bad-bad.ensures ∙ c.in_ok-table.ensures.window.wrong told ∙ ap (λ (q : Pack). bad_sectors (sights q)) (sym here) in
+    let refuses = c.in_ok-refusal.ensures.refuses told counted bad in
+    let is = sym (ap refused c.in-Some.is) ∙ refuses ∙ ap first_refusal here in
+    scavenges_none c.in-Some.refusal all (refused_answers (pack (g.D.Tape.tape c.args.disk.now)) c.in-Some.refusal is)
+
+pub returns-clause-scavenges : goal.returns-clause-scavenges
+returns-clause-scavenges g c = λ told.
+    let before = alone_twice c.in_ok-table.ensures.looks.alone c.in_ok-counts.ensures.alone in
+    let quiet = silent_twice c.in_ok-table.ensures.looks.alone.grown c.in_ok-counts.ensures.alone.grown (c.in_ok-table.ensures.looks.silent told) (c.in_ok-counts.ensures.silent told) in
+    let both = alone_twice before c.in_ok-refusal.ensures.alone in
+    let all = silent_twice before.grown c.in_ok-refusal.ensures.alone.grown quiet (c.in_ok-refusal.ensures.silent told) in
+    let here = pack-silent before.grown quiet in
+    let first = subst (λ (q : Pack). Counted q c.in_ok-counts.counts) (looks_pack c.in_ok-table.ensures.looks told) (c.in_ok-counts.ensures.counted told) in
+    let counted = subst (λ (q : Pack). Counted q c.in_ok-counts.counts) (sym here) first in
+    let at_first : c.bad-bad.result ≡ bad_sectors (sights (pack (g.D.Tape.tape c.args.disk.now))) = c.bad-bad.ensures ∙ c.in_ok-table.ensures.window.wrong told in
+    let bad : c.bad-bad.result ≡ bad_sectors (sights (pack (g.D.Tape.tape c.count_pages.new.disk))) = at_first ∙ ap (λ (q : Pack). bad_sectors (sights q)) (sym here) in
+    let refuses = c.in_ok-refusal.ensures.refuses told counted bad in
+    let none : first_refusal (pack (g.D.Tape.tape c.args.disk.now)) ≡ None = sym (sym (ap refused c.in_default.is) ∙ refuses ∙ ap first_refusal here) in
+    scavenges_after c.in_ok-counts.counts c.bad-bad.result c.mend.result both.grown c.mend.ensures.alone.grown all none first at_first (λ may now. c.mend.ensures.mends told may now)

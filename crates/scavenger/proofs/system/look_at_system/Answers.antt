@@ -1,0 +1,22 @@
+use Rattle.std.proofs.Common.{arith}
+use Rattle.disk_records.specs.Addresses.{pages_of}
+use Rattle.disk_records.specs.Tapes.{Looks}
+use Rattle.disk_records.proofs.Looking.{looks_pages, looks_twice}
+use Rattle.scavenger.proofs.system.look_at_system.Goals as goal
+
+pub returns-in_err-places-clause-looks : goal.returns-in_err-places-clause-looks
+returns-in_err-places-clause-looks g c =
+    let same = looks_pages c.in_ok-first.ensures.looks in
+    looks_twice _ c.in_ok-first.ensures.looks c.in_err-places.ensures.looks (omega (arith, same))
+
+pub returns-in_err-words-clause-looks : goal.returns-in_err-words-clause-looks
+returns-in_err-words-clause-looks g c =
+    let same = looks_pages c.in_ok-first.ensures.looks in
+    let both : Looks g.D.Tape.told (pages_of (g.D.Tape.tape c.args.disk.now).form) (g.D.Tape.tape c.args.disk.now) (g.D.Tape.tape c.find_pages.new.disk) = looks_twice _ c.in_ok-first.ensures.looks c.in_ok-places.ensures.looks (omega (arith, same, (g.D.Tape.tape c.args.disk.now).form.least_pages)) in
+    looks_twice _ both c.in_err-words.ensures.looks (omega arith)
+
+pub returns-clause-looks : goal.returns-clause-looks
+returns-clause-looks g c =
+    let same = looks_pages c.in_ok-first.ensures.looks in
+    let both : Looks g.D.Tape.told (pages_of (g.D.Tape.tape c.args.disk.now).form) (g.D.Tape.tape c.args.disk.now) (g.D.Tape.tape c.find_pages.new.disk) = looks_twice _ c.in_ok-first.ensures.looks c.in_ok-places.ensures.looks (omega (arith, same, (g.D.Tape.tape c.args.disk.now).form.least_pages)) in
+    looks_twice _ both c.in_ok-words.ensures.looks (omega arith)

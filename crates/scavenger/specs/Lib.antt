@@ -1,0 +1,8 @@
+pub mod Answers
+pub mod Counting
+pub mod Descriptors
+pub mod Describing
+pub mod InUse
+pub mod Marks
+pub mod Runs
+pub mod Scavenges
