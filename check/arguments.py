@@ -1,4 +1,4 @@
-"""The arguments of the scripts in check/ and bench/, which all of them read in one way, and the program that they run."""
+"""The arguments of the scripts in check/ and bench/, which all of them read in one way, the program that they run, and how they end."""
 import argparse
 import pathlib
 import random
@@ -50,3 +50,12 @@ def build():
     if subprocess.run(["rt", "run", "--", "--help"], cwd=crate, stdout=subprocess.DEVNULL).returncode != 0:
         sys.exit("the program can't be built")
     return crate / "out" / "alto"
+
+
+def end(name, failures, passed):
+    """Tells of each failure, or how the script passed if there is none, and ends it with the status for that."""
+    for failure in failures:
+        print(f"{name}: {failure}")
+    if not failures:
+        print(f"{name}: {passed}")
+    sys.exit(1 if failures else 0)

@@ -384,11 +384,7 @@ def main():
     for check, sentence, pack in CHECKS:
         with tempfile.TemporaryDirectory() as folder:
             check(Place(program, sentence, folder, **pack))
-    for failure in failures:
-        print(f"copies: {failure}")
-    if not failures:
-        print(f"copies: {3 * EACH} files go in and out as they should, and {len(CHECKS) - 1} other places are as docs/tools.md says")
-    sys.exit(1 if failures else 0)
+    arguments.end("copies", failures, f"{3 * EACH} files go in and out as they should, and {len(CHECKS) - 1} other places are as docs/tools.md says")
 
 
 if __name__ == "__main__":

@@ -954,11 +954,7 @@ def main():
     with tempfile.TemporaryDirectory() as folder:
         for row in PACKS:
             check(program, pathlib.Path(folder), *row)
-    for failure in failures:
-        print(f"listings: {failure}")
-    if not failures:
-        print(f"listings: {len(PACKS)} packs are shown as they should be")
-    sys.exit(1 if failures else 0)
+    arguments.end("listings", failures, f"{len(PACKS)} packs are shown as they should be")
 
 
 if __name__ == "__main__":

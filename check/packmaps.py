@@ -498,11 +498,7 @@ def main():
         check_damages(program, pathlib.Path(folder))
         check_formatted(program, pathlib.Path(folder))
         check_words(pathlib.Path(folder))
-    for failure in failures:
-        print(f"packmaps: {failure}")
-    if not failures:
-        print(f"packmaps: {len(ROWS) + len(listings.PACKS) + DAMAGED + RANDOM} packs are drawn as they should be")
-    sys.exit(1 if failures else 0)
+    arguments.end("packmaps", failures, f"{len(ROWS) + len(listings.PACKS) + DAMAGED + RANDOM} packs are drawn as they should be")
 
 
 if __name__ == "__main__":

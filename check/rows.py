@@ -475,12 +475,8 @@ def complaints(program, drives, cylinders, steps):
 
 def main():
     program = arguments.read(arguments.parser(__doc__)).program
-    wrong = [f"{name}: {it}" for name, drives, cylinders, steps in ROWS for it in complaints(program, drives, cylinders, steps)]
-    for complaint in wrong:
-        print(f"rows: {complaint}")
-    if not wrong:
-        print(f"rows: {len(ROWS)} rows are shown as they were worked out")
-    sys.exit(1 if wrong else 0)
+    failures = [f"{name}: {it}" for name, drives, cylinders, steps in ROWS for it in complaints(program, drives, cylinders, steps)]
+    arguments.end("rows", failures, f"{len(ROWS)} rows are shown as they were worked out")
 
 
 if __name__ == "__main__":

@@ -15,6 +15,7 @@ use disk_image::{FileMachine, ReachError};
 use disk_records::Tape;
 use std::env;
 use std::io::{ErrorKind, Input};
+use std::os::unix::fs::FileExt;
 use std::rt::{Clock, Env, Files, Runtime};
 
 /// The program's name and the words that it was started with. One that isn't UTF-8 makes no command line.
@@ -73,6 +74,8 @@ fn run_call<R: Files + Input + Print + AllocGlobal, C: Clock, T: Runs>(
     top: &T,
     call: Call<'_>,
 ) -> Result<Status, Stop>
+where
+    R::File: FileExt,
     requires range { HasRange call }
     ensures end { IsCallEnd call.entry.cylinders (is_some call.entry.second) (map string_bytes call.entry.words.now) result }
 {
@@ -87,6 +90,8 @@ pub fn run_words<R: Files + Input + Print + AllocGlobal, C: Clock, T: Runs>(
     top: &T,
     words: &[String],
 ) -> Result<Status, Stop>
+where
+    R::File: FileExt,
     ensures faulty { IsErrOf result Stop.Words ↔ IsFaulty (map string_bytes words.now) }
     ensures end { IsEnd (map string_bytes words.now) result }
 {
@@ -98,7 +103,10 @@ pub fn run_words<R: Files + Input + Print + AllocGlobal, C: Clock, T: Runs>(
 }
 
 /// Does what the words that the program was started with ask for.
-pub fn run<R: Runtime + AllocGlobal>(rt: &R) -> Result<Status, Stop> {
+pub fn run<R: Runtime + AllocGlobal>(rt: &R) -> Result<Status, Stop>
+where
+    R::File: FileExt,
+{
     let args = read_args(rt)?;
     run_words(rt, rt, &Alto, words_after_name(&args))
 }

@@ -13,7 +13,7 @@ use Rattle.alto_words.specs.declared.fid.Fid.{Fid}
 use Rattle.alto_words.specs.Fid.{fid_cmp}
 use Rattle.pack_model.specs.showing.View.{Seen, View}
 use Rattle.pack_model.specs.showing.Listing.{size_of}
-use Rattle.pack_laws.proofs.Keys.{fid_total, fid_same}
+use Rattle.session_boot.specs.pack_laws.proofs.Keys.{fid_total, fid_same}
 use Rattle.pack_reading.specs.declared.shown.FileLength.{FileLength}
 use Rattle.pack_reading.specs.Lengths.{shown_length}
 use Rattle.alto_top.proofs.Looking.{lower, sorted_parts}

@@ -15,10 +15,10 @@ use Rattle.alto_words.specs.Names.{folded_cmp}
 use Rattle.pack_model.specs.reading.Namings.{Naming}
 use Rattle.pack_model.specs.showing.View.{Home, View}
 use Rattle.pack_model.specs.showing.Listing.{naming_of, naming_cmp, in_order, shown_names}
-use Rattle.pack_laws.proofs.Keys.{same_fid}
-use Rattle.pack_laws.proofs.Firsts.{or_none, or_assoc}
-use Rattle.pack_laws.proofs.Inserting.{in_order-none, in_order-cons}
-use Rattle.pack_laws.proofs.Orders.{naming_total, last_apart}
+use Rattle.session_boot.specs.pack_laws.proofs.Keys.{same_fid}
+use Rattle.session_boot.specs.pack_laws.proofs.Firsts.{or_none, or_assoc}
+use Rattle.session_boot.specs.pack_laws.proofs.Inserting.{in_order-none, in_order-cons}
+use Rattle.session_boot.specs.pack_laws.proofs.Orders.{naming_total, last_apart}
 use Rattle.pack_reading.specs.declared.shown.ShownLengths.{ShownLengths}
 use Rattle.pack_reading.specs.Lengths.{ShowsLengths}
 use Rattle.pack_reading.specs.Shows.{shown_name}

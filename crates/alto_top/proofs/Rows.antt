@@ -8,8 +8,8 @@ use Rattle.std.proofs.lemmas.List.Folds.{flat_map-map}
 use Rattle.pack_model.specs.reading.Namings.{Naming}
 use Rattle.pack_model.specs.showing.View.{View}
 use Rattle.pack_model.specs.showing.Listing.{Listed, line_of, listed_cmp, listing, in_order, shown_names, shown_files}
-use Rattle.pack_laws.proofs.Inserting.{in_order-none, in_order-cons, map-insert_key}
-use Rattle.pack_laws.proofs.Orders.{listed_total}
+use Rattle.session_boot.specs.pack_laws.proofs.Inserting.{in_order-none, in_order-cons, map-insert_key}
+use Rattle.session_boot.specs.pack_laws.proofs.Orders.{listed_total}
 use Rattle.pack_reading.specs.declared.shown.ShownLengths.{ShownLengths}
 use Rattle.pack_reading.specs.declared.shown.ShownName.{ShownName}
 use Rattle.pack_reading.specs.Lengths.{shown_length, ShowsLengths}

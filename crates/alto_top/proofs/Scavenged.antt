@@ -1,26 +1,22 @@
 -- A pack that was scavenged or refused, and the text that tells it.
-use Rattle.std.proofs.Common.{◌≡◌, ◌≢◌, ◌⊎◌, ℕ, ◌+◌, ◌-◌, ◌<◌, ◌≤◌, Bool, true, false, cond, not, nat_le, List, [], ◌∷◌, ◌++◌, length, take, get_or, Some, None, Result, Ok, Err, inl, inr, refl, sym, ap, subst, ◌∙◌, arith, append-nil, le-leb}
+use Rattle.std.proofs.Common.{◌≡◌, ◌≢◌, ◌⊎◌, ℕ, ◌+◌, ◌-◌, ◌<◌, ◌≤◌, List, [], ◌∷◌, ◌++◌, length, take, Some, None, Result, Ok, Err, inl, inr, refl, sym, ap, subst, ◌∙◌, arith, append-nil}
 use Rattle.std.proofs.Math.Seq.{take-append-add}
 use Rattle.std.proofs.lemmas.Bool.{cases_lt}
 use Rattle.std.proofs.lemmas.List.{take-append-le, take_all}
 use Rattle.disk_records.specs.declared.records.Event.{Event}
 use Rattle.disk_records.specs.declared.records.Event.TheVariants.{Shown}
-use Rattle.disk_records.specs.declared.shape.Shape.{Shape}
 use Rattle.disk_records.specs.Causes.{IsCause, of_display}
 use Rattle.disk_records.specs.Events.{IsFirstOf, shown_bytes, shown_events, writes_in}
-use Rattle.disk_records.specs.Packs.{Pack, after, crash, sector_at}
+use Rattle.disk_records.specs.Packs.{Pack, after, crash}
 use Rattle.disk_records.specs.Tapes.{DiskAlone, Grown, Rose, ShowAlone, Taped, added, pack}
 use Rattle.disk_records.proofs.Growing.{added-twice, after-append, grown_twice, pack-after, shown-events, writes-append}
 use Rattle.exec_words.specs.Texts.{report_text}
-use Rattle.pack_model.specs.reading.Sights.{Sight, sights}
-use Rattle.pack_model.specs.reading.Sights.Sight.{hidden, free, stray, leads, holds}
-use Rattle.pack_model.specs.scavenger.Needed.{needed}
 use Rattle.pack_model.specs.scavenger.Reports.{Scavenged}
-use Rattle.pack_model.specs.scavenger.Scavenging.{Refusal, Scavengeable, first_refusal, root_stands}
+use Rattle.pack_model.specs.scavenger.Scavenging.{Refusal, Scavengeable, first_refusal}
 use Rattle.pack_model.specs.scavenger.Scavenging.Refusal.{root_bad, root_taken, pack_full}
 use Rattle.pack_model.specs.showing.Settling.{show}
-use Rattle.pack_model.specs.states.InUse.{available, is_good}
 use Rattle.pack_model.specs.states.Sound.{Clean, Sound}
+use Rattle.scavenger.specs.laws_room.proofs.rooms.Laws.{scavengeable_is_unrefused}
 use Rattle.scavenger.specs.declared.errors.Report.{Report}
 use Rattle.scavenger.specs.declared.errors.ScavError.{ScavError}
 use Rattle.scavenger.specs.declared.errors.ScavError.TheVariants as error
@@ -40,27 +36,8 @@ use Rattle.alto_top.specs.Scavenging.{IsRefused, IsTextOf, IsToldOf, ScavengesDi
 use Rattle.alto_top.proofs.Formatted.{first_taken, leaves_pack}
 
 -- ---- a pack that can be scavenged isn't refused
-good_root : (shape : Shape) (ss : List Sight) (s : Sight) → root_stands shape ss s ≡ true → is_good s ≡ true
-good_root shape ss hidden stands = cc
-good_root shape ss free stands = refl
-good_root shape ss stray stands = refl
-good_root shape ss (leads f readable l) stands = refl
-good_root shape ss (holds f n bytes) stands = refl
-
-by_tests : {X : Type 0} (good stands room : Bool) (one two three : X) → good ≡ true → stands ≡ true → room ≡ true → cond (not good) (Some one) (cond (not stands) (Some two) (cond room None (Some three))) ≡ None
-by_tests true true true one two three good stands room = refl
-by_tests true true false one two three good stands room = cc
-by_tests true false room one two three good stands more = cc
-by_tests false stands room one two three good more most = cc
-
-unrefused : (p : Pack) → Scavengeable p → first_refusal p ≡ None
-unrefused p may =
-    by_tests (is_good (get_or (sights p) 1 hidden)) (root_stands p.shape (sights p) (get_or (sights p) 1 hidden)) (nat_le (needed p.shape (sights p)) (available p.shape (sights p)))
-    (root_bad (sector_at p 1).header) (root_taken (sector_at p 1).label) (pack_full (needed p.shape (sights p)) (available p.shape (sights p)))
-    (good_root p.shape (sights p) (get_or (sights p) 1 hidden) may.root) may.root (le-leb (needed p.shape (sights p)) (available p.shape (sights p)) may.room)
-
 not_refused : {X : Type 0} (p : Pack) → Scavengeable p → IsRefused p → X
-not_refused p may refused = let both : None ≡ Some refused.0 = sym (unrefused p may) ∙ refused.1 in cc
+not_refused p may refused = let both : None ≡ Some refused.0 = sym ((scavengeable_is_unrefused p).0 may) ∙ refused.1 in cc
 
 -- ---- the texts
 -- of a pack that isn't refused, and of one that is

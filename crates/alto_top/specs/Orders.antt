@@ -6,8 +6,8 @@ use Rattle.std.specs.Cmp.{IsTotalOrder, then_total, on_total}
 use Rattle.std.specs.Cmp.Lexicographic.{options_total}
 use Rattle.alto_words.specs.Fid.{fid_cmp}
 use Rattle.alto_words.specs.Names.{folded_cmp}
-use Rattle.pack_laws.proofs.Keys.{fid_total}
-use Rattle.pack_laws.proofs.Orders.{name_total}
+use Rattle.session_boot.specs.pack_laws.proofs.Keys.{fid_total}
+use Rattle.session_boot.specs.pack_laws.proofs.Orders.{name_total}
 use Rattle.alto_top.specs.declared.row.Row.{Row}
 
 -- by the directory's name, the directory, the name and the file

@@ -67,6 +67,17 @@ ends_here (v ∷ words) w i unended is =
     let head : first_length (take n (hand ++ w ∷ [])) ≡ first_length hand = ap (λ x. x % 1024) (get_or-take n (hand ++ w ∷ []) 0 0 least) ∙ first_stays hand (w ∷ []) (omega arith) in
     omega (arith, one.1, first, size, head, unended (omega arith), long)
 
+-- words that are as many as their first says are the whole of the slot that is read from them
+pub whole_is : (words : List ℕ) (i : Item) → first_length words ≡ length words → slot_at words ≡ Some i → item_words i ≡ length words
+whole_is words i all some =
+    let one = slot_at-is words i some in
+    let n : ℕ = item_words i in
+    let size = one.0.size in
+    let first = one.0.first in
+    let least = one.0.some in
+    let head : first_length (take n words) ≡ first_length words = ap (λ x. x % 1024) (get_or-take n words 0 0 (omega (arith, size, least))) in
+    omega (arith, size, first, head, all)
+
 -- ---- the slots of one word more
 pub slots_open : (given more : List ℕ) → IsOpen (hand_of given ++ more) → slots (given ++ more) ≡ slots given
 slots_open given more unended = slots_on given more ∙ ap (λ l. slots given ++ l) (slots-none (hand_of given ++ more) (open_none (hand_of given ++ more) unended)) ∙ append-nil (slots given)

@@ -60,6 +60,25 @@ walked_ended given walk place last ended = record {
   ended = λ _. last;
 }
 
+-- a slot ends with these words, the one that was in hand or the next
+pub meets_more : (given more : List ℕ) (old new : Walking) → Walked given old → (met : PlacedSlot) → met.place ≡ old.place → new.place ≡ old.place + length (hand_of given ++ more) → new.ended ≡ false → IsHeld new []
+    → slot_at (hand_of given ++ more) ≡ Some (item_of met.slot) → item_words (item_of met.slot) ≡ length (hand_of given ++ more) → address_of met.slot ≡ address_at (hand_of given ++ more) 0 (item_of met.slot) → Meets given (given ++ more) new (Some met)
+unfolding slots_at
+meets_more given more old new walked met at place ended held some size address =
+    let i : Item = item_of met.slot in
+    let hand : List ℕ = hand_of given ++ more in
+    let one = slots_met given more i some size in
+    let words : all_words (slots (given ++ more)) ≡ all_words (slots given) + length hand = ap all_words one ∙ all_words-append (slots given) (i ∷ []) ∙ omega (arith, size) in
+    let long : all_words (slots given) + length hand ≡ length (given ++ more) =
+    omega (arith, slots_within given, length-drop (all_words (slots given)) given, length-append (hand_of given) more, length-append given more) in
+    let nothing : hand_of (given ++ more) ≡ [] = drop_all (all_words (slots (given ++ more))) (given ++ more) (omega (arith, words, long)) in
+    let stands : address_at (given ++ more) (all_words (slots given)) i ≡ address_of met.slot =
+    sym (address_at-drop (given ++ more) (all_words (slots given)) i) ∙ ap (λ l. address_at l 0 i) (hand_more given more) ∙ sym address in
+    record {
+      walked = walked_open (given ++ more) new [] (place ∙ ap (λ (n : ℕ). n + length hand) walked.place ∙ sym words) nothing held (λ some. absurd (omega (arith, some))) ended;
+      slots = placed_more given more (i ∷ []) one ∙ ap (λ (s : SlotAt). placed_slots given ++ s ∷ []) (λ j. record { place = (sym walked.place ∙ sym at) j; item = i; address = stands j });
+    }
+
 module _ (given : List ℕ) (w : ℕ) (old new : Walking) (walked : Walked given old) (going : old.ended ≡ false) where
   -- the slot in hand goes on
   pub goes_on : new.place ≡ old.place → new.ended ≡ false → IsHeld new (hand_of given ++ w ∷ []) → IsOpen (hand_of given ++ w ∷ []) → Meets given (given ++ w ∷ []) new None
@@ -88,19 +107,5 @@ module _ (given : List ℕ) (w : ℕ) (old new : Walking) (walked : Walked given
   -- a slot ends with this word
   pub meets_one : (met : PlacedSlot) → met.place ≡ old.place → new.place ≡ old.place + length (hand_of given ++ w ∷ []) → new.ended ≡ false → IsHeld new []
       → slot_at (hand_of given ++ w ∷ []) ≡ Some (item_of met.slot) → address_of met.slot ≡ address_at (hand_of given ++ w ∷ []) 0 (item_of met.slot) → Meets given (given ++ w ∷ []) new (Some met)
-  unfolding slots_at
   meets_one met at place ended held some address =
-      let i : Item = item_of met.slot in
-      let hand : List ℕ = hand_of given ++ w ∷ [] in
-      let size = ends_here (hand_of given) w i (walked.unfinished going) some in
-      let more = slots_met given (w ∷ []) i some size in
-      let words : all_words (slots (given ++ w ∷ [])) ≡ all_words (slots given) + length hand = ap all_words more ∙ all_words-append (slots given) (i ∷ []) ∙ omega (arith, size) in
-      let long : all_words (slots given) + length hand ≡ length (given ++ w ∷ []) =
-      omega (arith, slots_within given, length-drop (all_words (slots given)) given, length-append (hand_of given) (w ∷ []), length-append given (w ∷ [])) in
-      let nothing : hand_of (given ++ w ∷ []) ≡ [] = drop_all (all_words (slots (given ++ w ∷ []))) (given ++ w ∷ []) (omega (arith, words, long)) in
-      let stands : address_at (given ++ w ∷ []) (all_words (slots given)) i ≡ address_of met.slot =
-      sym (address_at-drop (given ++ w ∷ []) (all_words (slots given)) i) ∙ ap (λ l. address_at l 0 i) (hand_more given (w ∷ [])) ∙ sym address in
-      record {
-        walked = walked_open (given ++ w ∷ []) new [] (place ∙ ap (λ (n : ℕ). n + length hand) walked.place ∙ sym words) nothing held (λ some. absurd (omega (arith, some))) ended;
-        slots = placed_more given (w ∷ []) (i ∷ []) more ∙ ap (λ (s : SlotAt). placed_slots given ++ s ∷ []) (λ j. record { place = (sym walked.place ∙ sym at) j; item = i; address = stands j });
-      }
+      meets_more given (w ∷ []) old new walked met at place ended held some (ends_here (hand_of given) w (item_of met.slot) (walked.unfinished going) some) address

@@ -1,14 +1,16 @@
--- What one word does to the fields of a walk.
-use Rattle.std.proofs.Common.{◌≡◌, ℕ, ◌+◌, ◌%◌, ◌<◌, ◌≤◌, min, Bool, true, false, List, [], ◌∷◌, ◌++◌, length, take, get_or, Some, None, refl, sym, ap, ◌∙◌, arith}
-use Rattle.std.proofs.lemmas.List.{get_or-take, take-take, length_push}
-use Rattle.pack_model.specs.reading.Slots.{first_length, slot_at}
+-- What one word, or a slot that is read where it stands, does to the fields of a walk.
+use Rattle.std.proofs.Common.{◌≡◌, ℕ, ◌+◌, ◌%◌, ◌<◌, ◌≤◌, min, Bool, true, false, List, [], ◌∷◌, ◌++◌, length, take, get_or, Some, None, refl, sym, ap, ◌∙◌, subst, arith}
+use Rattle.std.specs.List.{slice_get}
+use Rattle.std.proofs.lemmas.List.{get_or-take, length-take, take-take, length_push}
+use Rattle.pack_model.specs.reading.Slots.{item_words, first_length, slot_at}
 use Rattle.pack_model.specs.reading.SlotWords.{address_at}
+use Rattle.dir_slots.specs.declared.slot.Slot.{Slot}
 use Rattle.dir_slots.specs.declared.walk.PlacedSlot.{PlacedSlot}
 use Rattle.dir_slots.specs.Items.{item_of, address_of}
 use Rattle.dir_slots.specs.Walks.{Walking, Walked, Meets}
 use Rattle.dir_slots.proofs.Slots.{front_of}
-use Rattle.dir_slots.proofs.Hands.{hand_of}
-use Rattle.dir_slots.proofs.Meeting.{goes_on, ends, meets_one}
+use Rattle.dir_slots.proofs.Hands.{hand_of, whole_is}
+use Rattle.dir_slots.proofs.Meeting.{goes_on, ends, meets_one, meets_more}
 
 -- what is seen of a walk with these fields
 abbrev pub walking : ℕ → ℕ → List ℕ → Bool → Walking
@@ -44,3 +46,36 @@ module _ (given : List ℕ) (w : ℕ) (place held : ℕ) (front fresh : List ℕ
       → Meets given (given ++ w ∷ []) (walking (place + (held + 1)) 0 fresh ended) (Some met)
   step_meets met at some address =
       meets_one given w (walking place held front ended) (walking (place + (held + 1)) 0 fresh ended) walked going met at (ap (λ (n : ℕ). place + n) long_now) going (record { held = refl; front = refl }) (sym some) address
+
+-- ---- a slot that is read where it stands
+nothing_is : (l : List ℕ) → 0 ≡ length l → l ≡ []
+nothing_is [] e = refl
+nothing_is (x ∷ l) e = absurd (omega (arith, e))
+
+first_word : (words : List ℕ) (w : ℕ) → Some w ≡ slice_get words 0 → get_or words 0 0 ≡ w
+first_word [] w some = absurd (let no : Some w ≡ None = some in cc)
+first_word (x ∷ words) w some = let same : Some w ≡ Some x = some in cc
+
+-- words that begin with the whole of a slot, whose first word says that it has n
+module _ (words : List ℕ) (first n : ℕ) (slot : Slot) (begins : Some first ≡ slice_get words 0) (long : n ≡ first % 1024) (within : n ≤ length words) (some : Some (item_of slot) ≡ slot_at (take n words)) (least : 0 < n) where
+  whole_long : length (take n words) ≡ n
+  whole_long = let e = length-take n words in omega (arith, e, within)
+
+  pub whole_size : item_words (item_of slot) ≡ n
+  whole_size =
+      let head : first_length (take n words) ≡ n = ap (λ (x : ℕ). x % 1024) (get_or-take n words 0 0 least ∙ first_word words first begins) ∙ sym long in
+      whole_is (take n words) (item_of slot) (head ∙ sym whole_long) (sym some) ∙ whole_long
+
+  -- what it does to the fields of a walk that has no word in hand
+  pub whole_meets : (given : List ℕ) (place held : ℕ) (front : List ℕ) (ended : Bool) → Walked given (walking place held front ended) → ended ≡ false → held ≡ 0
+      → address_of slot ≡ address_at (take n words) 0 (item_of slot)
+      → Meets given (given ++ take (item_words (item_of slot)) words) (walking (place + n) held front ended) (Some (record { place = place; slot = slot }))
+  whole_meets given place held front ended walked going none address =
+      let was = walked.held going in
+      let empty : hand_of given ≡ [] = nothing_is (hand_of given) (sym none ∙ was.held) in
+      let joined : hand_of given ++ take n words ≡ take n words = ap (λ l. l ++ take n words) empty in
+      let size : length (hand_of given ++ take n words) ≡ n = ap (λ (l : List ℕ). length l) joined ∙ whole_long in
+      let met : PlacedSlot = record { place = place; slot = slot } in
+      subst (λ (k : ℕ). Meets given (given ++ take k words) (walking (place + n) held front ended) (Some met)) (sym whole_size)
+      (meets_more given (take n words) (walking place held front ended) (walking (place + n) held front ended) walked met refl (ap (λ (k : ℕ). place + k) (sym size)) going
+      (record { held = none; front = ap (λ (k : ℕ). take k front) none }) (ap slot_at joined ∙ sym some) (whole_size ∙ sym size) (address ∙ ap (λ l. address_at l 0 (item_of slot)) (sym joined)))

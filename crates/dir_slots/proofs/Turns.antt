@@ -1,7 +1,8 @@
 -- Calls one after another.
-use Rattle.std.proofs.Common.{◌≡◌, ℕ, ◌+◌, ◌<◌, ◌≤◌, true, false, List, [], ◌∷◌, ◌++◌, length, take, drop, set, get_or, Option, None, sym, ap, ◌∙◌, arith, append_assoc, append-nil, length-append}
+use Rattle.std.proofs.Common.{◌≡◌, ℕ, ◌+◌, ◌-◌, ◌<◌, ◌≤◌, true, false, List, [], ◌∷◌, ◌++◌, length, take, drop, set, get_or, Option, None, sym, ap, ◌∙◌, arith, append_assoc, append-nil, length-append}
 use Rattle.std.specs.Option.{option_map, option_to_list}
-use Rattle.std.proofs.lemmas.List.{take_all, take-append-le, take-append-drop, take_more, take_more_set}
+use Rattle.std.proofs.lemmas.List.{length-take, take-take, take_all, take-append-le, take-append-drop, take_more, take_more_set}
+use Rattle.std.proofs.Math.Seq.{take-append-add}
 use Rattle.pack_model.specs.reading.Slots.{all_words, slots}
 use Rattle.pack_model.specs.reading.SlotWords.{slots_at}
 use Rattle.dir_slots.specs.declared.walk.PlacedSlot.{PlacedSlot}
@@ -57,3 +58,10 @@ one_more given page from d within = append_assoc given (take from page) (get_or 
 
 pub rest_of_page : (given page : List ℕ) (from : ℕ) → (given ++ take from page) ++ drop from page ≡ given ++ take (length page) page
 rest_of_page given page from = append_assoc given (take from page) (drop from page) ∙ ap (λ l. given ++ l) (take-append-drop from page ∙ sym (take_all (length page) page (omega arith)))
+
+pub more_of_page : (given page : List ℕ) (from n : ℕ) → from ≤ length page → n ≤ length page - from → (given ++ take from page) ++ take n (take (length page - from) (drop from page)) ≡ given ++ take (from + n) page
+more_of_page given page from n within few =
+    let long : length (take from page) ≡ from = let e = length-take from page in omega (arith, e, within) in
+    append_assoc given (take from page) (take n (take (length page - from) (drop from page)))
+    ∙ ap (λ l. given ++ l)
+    (ap (λ l. take from page ++ l) (take-take n (length page - from) (drop from page) few) ∙ sym (take-append-add (take from page) (drop from page) n) ∙ ap (λ (k : ℕ). take (k + n) (take from page ++ drop from page)) long ∙ ap (λ l. take (from + n) l) (take-append-drop from page))

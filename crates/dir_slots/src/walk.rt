@@ -42,8 +42,8 @@ impl Model for Walk {
 impl Walk {
     ghost use Rattle.std.specs.Prelude.{◌≡◌, ℕ, List, [], ◌∷◌, ◌++◌, ◌+◌, ◌<◌, ◌≤◌, ◌^◌, false, IsTrue, length, take, IfSome, IfNone};
     ghost use Rattle.std.specs.Option.{MatchOption};
-    ghost use Rattle.pack_model.specs.reading.Slots.{slots, all_words};
-    ghost use Rattle.dir_slots.specs.Items.{IsInRange};
+    ghost use Rattle.pack_model.specs.reading.Slots.{item_words, slots, all_words};
+    ghost use Rattle.dir_slots.specs.Items.{IsInRange, item_of};
     ghost use Rattle.dir_slots.specs.Laws.{HasStoredName};
     ghost use Rattle.dir_slots.specs.Walks.{Walking, Walked, Meets, placed_slots};
 
@@ -75,6 +75,25 @@ impl Walk {
         ensures in_range { IfSome result (λ met. IsInRange met.slot × HasStoredName met.slot) }
         ensures taken { self.new.place + self.new.held + from.old ≤ self.old.place + self.old.held + from.new }
     {
+        if let Some(met) = self.take_whole(&page[*from..]) {
+            *from += met.slot.words() as usize;
+            return Some(met);
+        }
+        self.next_by_words(page, from)
+    }
+
+    /// The next slot that ends in this page, as at `next`, taken word by word.
+    fn next_by_words(&mut self, page: &[u16], from: &mut usize) -> Option<PlacedSlot>
+        requires within { from.old ≤ length page.now }
+        requires fits { self.old.place + self.old.held + length page.now < 2 ^ 32 + from.old }
+        ensures meets { (given : List ℕ) → Walked (given ++ take from.old page.now) self.old → Meets (given ++ take from.old page.now) (given ++ take from.new page.now) self.new result }
+        ensures place { MatchOption result (self.new.place ≡ self.old.place) (λ met. met.place ≡ self.old.place) }
+        ensures some { IfSome result (λ met. from.old < from.new) }
+        ensures none { IfNone result (from.new ≡ length page.now) }
+        ensures within { from.new ≤ length page.now }
+        ensures in_range { IfSome result (λ met. IsInRange met.slot × HasStoredName met.slot) }
+        ensures taken { self.new.place + self.new.held + from.old ≤ self.old.place + self.old.held + from.new }
+    {
         while *from < page.len() && !self.ended {
             let word = page[*from];
             *from += 1;
@@ -85,6 +104,31 @@ impl Walk {
         // words after a slot that can't be read say nothing
         *from = page.len();
         None
+    }
+
+    /// The slot that these words begin with, if none is in hand and all of it is here. It is read where it stands, and no word of it is
+    /// kept.
+    fn take_whole(&mut self, words: &[u16]) -> Option<PlacedSlot>
+        requires fits { self.old.place + self.old.held + length words.now < 2 ^ 32 }
+        ensures meets { IfSome result (λ met. (given : List ℕ) → Walked given self.old → Meets given (given ++ take (item_words (item_of met.slot)) words.now) self.new result) }
+        ensures place { IfSome result (λ met. met.place ≡ self.old.place) }
+        ensures least { IfSome result (λ met. 1 ≤ item_words (item_of met.slot)) }
+        ensures within { IfSome result (λ met. item_words (item_of met.slot) ≤ length words.now) }
+        ensures in_range { IfSome result (λ met. IsInRange met.slot × HasStoredName met.slot) }
+        ensures taken { IfSome result (λ met. self.new.place + self.new.held ≡ self.old.place + self.old.held + item_words (item_of met.slot)) }
+        ensures none { IfNone result (self.new ≡ self.old) }
+    {
+        if self.ended || self.held != 0 {
+            return None;
+        }
+        let length = (*words.first()? % ENTRY_TYPE) as usize;
+        if length > words.len() {
+            return None;
+        }
+        let slot = slot_here(&words[..length.min(MAX_ENTRY_WORDS)], length)?;
+        let place = self.place;
+        self.place += length as u32;
+        Some(PlacedSlot { place, slot })
     }
 
     /// Takes all words of a page, and passes over the slots that end in it.

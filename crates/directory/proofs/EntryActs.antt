@@ -12,12 +12,12 @@ use Rattle.disk_records.specs.declared.records.Event.{Event}
 use Rattle.laws_call.proofs.writing.Laws.{written_acts}
 use Rattle.laws_call.specs.Acting.{Around, Operates, begun}
 use Rattle.laws_call.specs.Writing.{Written, entering_writes, enters}
-use Rattle.laws_lookup.proofs.entering.Laws.{apart_entry_may_be_entered}
-use Rattle.laws_lookup.proofs.slots.Laws.{absent_name_is_open, lookup_is_the_models}
+use Rattle.file_pages.specs.laws_lookup.proofs.entering.Laws.{apart_entry_may_be_entered}
+use Rattle.file_pages.specs.laws_lookup.proofs.slots.Laws.{absent_name_is_open, lookup_is_the_models}
 use Rattle.laws_operation.proofs.enter.Laws.{free_name_is_apart_for_a_nameless_file}
 use Rattle.laws_operation.proofs.entries.Laws.{items_are_slots}
 use Rattle.laws_operation.specs.DirectoryWords.{CanEnter, left_in}
-use Rattle.laws_record.specs.EnterLaws.{MayEnter}
+use Rattle.file_pages.specs.laws_record.specs.EnterLaws.{MayEnter}
 use Rattle.pack_model.specs.operations.Committing.{moves_of, page_of_word}
 use Rattle.pack_model.specs.operations.Entering.{found_room}
 use Rattle.pack_model.specs.operations.Operations.Move.{commits, quiet}

@@ -17,7 +17,7 @@ use Rattle.disk_records.specs.declared.records.Tally.{Tally}
 use Rattle.hint_cache.specs.Caches.{Cached}
 use Rattle.laws_call.specs.Acting.{Operates}
 use Rattle.laws_call.specs.Writing.{Written, entering_writes}
-use Rattle.laws_contents.proofs.pages.Laws.{carried_once_is_in_place}
+use Rattle.file_pages.specs.laws_contents.proofs.pages.Laws.{carried_once_is_in_place}
 use Rattle.pack_model.specs.hints.Links.{dir_words}
 use Rattle.pack_model.specs.operations.Committing.{page_of_byte, page_of_word}
 use Rattle.pack_model.specs.operations.PageWords.{in_page, later}

@@ -10,7 +10,7 @@ use Rattle.alto_words.specs.declared.fid.Fid.{Fid}
 use Rattle.disk_records.specs.declared.records.Page.{Page}
 use Rattle.disk_records.specs.declared.records.Place.{Place}
 use Rattle.laws_operation.specs.PlaceLaws.{SamePlaces}
-use Rattle.pack_laws.proofs.guards.Laws.{value_writes_keep_the_page}
+use Rattle.file_pages.specs.pack_laws.proofs.guards.Laws.{value_writes_keep_the_page}
 use Rattle.page_seeking.specs.Seeking.{page_number}
 use Rattle.directory.specs.declared.errors.DirError.{DirError}
 use Rattle.directory.specs.Entering.{next_page}

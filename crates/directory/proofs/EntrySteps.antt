@@ -13,8 +13,8 @@ use Rattle.disk_records.specs.declared.records.Tally.{Tally}
 use Rattle.file_pages.specs.Values.{WroteValue}
 use Rattle.laws_call.proofs.counts.Laws.{count_of_a_call}
 use Rattle.laws_call.specs.Acting.{around}
-use Rattle.pack_laws.proofs.tallies.Laws.{one_commit_is_counted, quiet_moves_are_not_counted, tallies_join, tally_by_the_count}
-use Rattle.pack_laws.specs.TallyLaws.{operations_in}
+use Rattle.file_pages.specs.pack_laws.proofs.tallies.Laws.{one_commit_is_counted, quiet_moves_are_not_counted, tallies_join, tally_by_the_count}
+use Rattle.file_pages.specs.pack_laws.specs.TallyLaws.{operations_in}
 use Rattle.pack_model.specs.operations.Operations.{enter_moves, one_move, quiet_moves}
 use Rattle.pack_model.specs.operations.Step.{Operation}
 use Rattle.pack_model.specs.sessions.Tallies.{counted, took_effect}

@@ -8,7 +8,7 @@ use Rattle.disk_records.specs.declared.records.Event.{Event}
 use Rattle.disk_records.specs.declared.records.Page.{Page}
 use Rattle.disk_records.specs.declared.records.Sector.{Sector}
 use Rattle.laws_call.specs.Writing.{entering_writes}
-use Rattle.pack_laws.proofs.guards.Laws.{value_writes_keep_the_page}
+use Rattle.file_pages.specs.pack_laws.proofs.guards.Laws.{value_writes_keep_the_page}
 use Rattle.pack_model.specs.operations.Commands.{values_writes}
 use Rattle.pack_model.specs.operations.Committing.{page_of_word}
 use Rattle.pack_model.specs.operations.Entering.{EntryRoom}

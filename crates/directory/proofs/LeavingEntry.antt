@@ -17,9 +17,9 @@ use Rattle.hint_cache.specs.Caches.{Cached}
 use Rattle.laws_call.proofs.writing.Laws.{written_acts}
 use Rattle.laws_call.specs.Acting.{Around}
 use Rattle.laws_call.specs.Writing.{entry_freed, leaves}
-use Rattle.laws_contents.proofs.pages.Laws.{carried_once_is_in_place}
-use Rattle.laws_lookup.proofs.slots.Laws.{found_entry_has_the_name, found_entry_splits_the_slots}
-use Rattle.laws_midway.proofs.found.Laws.{found_entry_may_go}
+use Rattle.file_pages.specs.laws_contents.proofs.pages.Laws.{carried_once_is_in_place}
+use Rattle.file_pages.specs.laws_lookup.proofs.slots.Laws.{found_entry_has_the_name, found_entry_splits_the_slots}
+use Rattle.file_pages.specs.laws_midway.proofs.found.Laws.{found_entry_may_go}
 use Rattle.pack_model.specs.hints.Links.{dir_slots, dir_words}
 use Rattle.pack_model.specs.operations.Committing.{page_of_byte, page_of_word}
 use Rattle.pack_model.specs.operations.PageWords.{freed_value}

@@ -5,7 +5,7 @@ use Rattle.std.specs.Option.{option_map}
 use Rattle.std.proofs.lemmas.Fn.{chained_keeps}
 use Rattle.alto_words.specs.declared.wanted.Wanted.{Wanted}
 use Rattle.alto_words.specs.declared.wanted.Wanted.TheVariants.{Newest}
-use Rattle.laws_lookup.proofs.slots.Laws.{held_goes_on, lookup_goes_on}
+use Rattle.file_pages.specs.laws_lookup.proofs.slots.Laws.{held_goes_on, lookup_goes_on}
 use Rattle.pack_model.specs.reading.Lookup.{entry_at, holds_base, is_held_at, meant_by}
 use Rattle.pack_model.specs.reading.SlotWords.{SlotAt}
 use Rattle.directory.specs.declared.finding.Finding.{Finding}

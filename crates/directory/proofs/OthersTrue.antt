@@ -28,22 +28,22 @@ use Rattle.pack_model.specs.reading.Slots.Item.{entry, space}
 use Rattle.pack_model.specs.reading.SlotWords.{SlotAt, address_at, slots_at}
 use Rattle.pack_model.specs.sessions.Maps.{map_values}
 use Rattle.pack_model.specs.states.Whole.{TidyBut, Whole, living_too}
-use Rattle.pack_laws.proofs.Guarding.{carried_parts}
-use Rattle.pack_laws.proofs.Keys.{fid_same, fid_total, same_fid}
-use Rattle.pack_laws.proofs.Mapping.{get-map_values}
-use Rattle.laws_record.proofs.Carried.{carried_place}
-use Rattle.laws_record.proofs.Copying.{place_carried}
-use Rattle.laws_record.proofs.DirReads.{has_leader, not_descriptor}
-use Rattle.laws_record.proofs.Dropping.{files_other, gone}
-use Rattle.laws_record.proofs.Heads.{and_left, and_right}
-use Rattle.laws_record.proofs.Keeping.{get-where}
-use Rattle.laws_record.proofs.Reading.{get_by}
-use Rattle.laws_contents.proofs.pages.Laws.{formed_pages_have_256_words}
+use Rattle.file_pages.specs.pack_laws.proofs.Guarding.{carried_parts}
+use Rattle.file_pages.specs.pack_laws.proofs.Keys.{fid_same, fid_total, same_fid}
+use Rattle.file_pages.specs.pack_laws.proofs.Mapping.{get-map_values}
+use Rattle.file_pages.specs.laws_record.proofs.Carried.{carried_place}
+use Rattle.file_pages.specs.laws_record.proofs.Copying.{place_carried}
+use Rattle.file_pages.specs.laws_record.proofs.DirReads.{has_leader, not_descriptor}
+use Rattle.file_pages.specs.laws_record.proofs.Dropping.{files_other, gone}
+use Rattle.file_pages.specs.laws_record.proofs.Heads.{and_left, and_right}
+use Rattle.file_pages.specs.laws_record.proofs.Keeping.{get-where}
+use Rattle.file_pages.specs.laws_record.proofs.Reading.{get_by}
+use Rattle.file_pages.specs.laws_contents.proofs.pages.Laws.{formed_pages_have_256_words}
 use Rattle.laws_operation.proofs.lengths.Laws.{full_page_is_not_the_last, placed_pages_are_those_up_to_the_last}
 use Rattle.laws_operation.proofs.links.Laws.{next_link_names_the_page_after}
 use Rattle.laws_operation.specs.LengthLaws.{CountsPage}
-use Rattle.laws_lookup.proofs.hints.Laws.{true_hints_never_mislead}
-use Rattle.laws_lookup.specs.HintLaws.{HasFullValues}
+use Rattle.file_pages.specs.laws_lookup.proofs.hints.Laws.{true_hints_never_mislead}
+use Rattle.file_pages.specs.laws_lookup.specs.HintLaws.{HasFullValues}
 use Rattle.page_seeking.specs.Refs.{MisledBy}
 use Rattle.page_seeking.specs.Seeking.{page_number}
 use Rattle.page_seeking.specs.declared.refs.FileRef.{FileRef}

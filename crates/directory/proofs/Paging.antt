@@ -12,12 +12,12 @@ use Rattle.disk_records.specs.declared.shape.Shape.{Shape}
 use Rattle.disk_records.specs.Packs.{Pack, sector_at}
 use Rattle.disk_records.specs.Words.{word}
 use Rattle.disk_records.proofs.Bytes.{length-words_of}
-use Rattle.label_check.specs.declared.errors.PageInfo.{PageInfo}
-use Rattle.laws_contents.proofs.ends.Laws.{last_page_ends_the_file, missing_page_ends_the_file}
-use Rattle.laws_contents.proofs.pages.Laws.{full_before_the_next, labels_count, none_before_the_first, page_numbers_are_words}
-use Rattle.laws_contents.proofs.words.Laws.{page_words_go_on}
-use Rattle.laws_contents.specs.PageLaws.{FullBefore, bytes_at}
-use Rattle.laws_contents.specs.WordContents.{file_words, words_at}
+use Rattle.file_pages.specs.label_check.specs.declared.errors.PageInfo.{PageInfo}
+use Rattle.file_pages.specs.laws_contents.proofs.ends.Laws.{last_page_ends_the_file, missing_page_ends_the_file}
+use Rattle.file_pages.specs.laws_contents.proofs.pages.Laws.{full_before_the_next, labels_count, none_before_the_first, page_numbers_are_words}
+use Rattle.file_pages.specs.laws_contents.proofs.words.Laws.{page_words_go_on}
+use Rattle.file_pages.specs.laws_contents.specs.PageLaws.{FullBefore, bytes_at}
+use Rattle.file_pages.specs.laws_contents.specs.WordContents.{file_words, words_at}
 use Rattle.pack_model.specs.hints.Links.{dir_slots}
 use Rattle.pack_model.specs.operations.Committing.{page_of_byte}
 use Rattle.pack_model.specs.reading.Files.{file_bytes, place}

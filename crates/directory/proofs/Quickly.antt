@@ -6,7 +6,7 @@ use Rattle.disk_records.specs.Packs.{Pack, carried, sector_at}
 use Rattle.disk_records.specs.Tapes.{Taped}
 use Rattle.disk_records.specs.Words.{word}
 use Rattle.hint_cache.specs.Caches.{Cached, address_in}
-use Rattle.laws_contents.proofs.pages.Laws.{page_numbers_are_words}
+use Rattle.file_pages.specs.laws_contents.proofs.pages.Laws.{page_numbers_are_words}
 use Rattle.laws_operation.proofs.links.Laws.{next_link_names_the_page_after}
 use Rattle.pack_model.specs.hints.Links.{LinksTrue, link_to}
 use Rattle.pack_model.specs.reading.Files.{place}

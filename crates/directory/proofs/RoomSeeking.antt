@@ -8,8 +8,8 @@ use Rattle.alto_words.specs.declared.fid.Fid.{Fid}
 use Rattle.dir_slots.proofs.Rooms.{room_from-none}
 use Rattle.dir_slots.proofs.Slots.{all_words-append}
 use Rattle.dir_slots.specs.Inside.{AreFree}
-use Rattle.laws_midway.proofs.rooms.Laws.{found_room_stays, room_goes_on}
-use Rattle.laws_midway.specs.RoomLaws.{EndsWithEntry, RowBegins}
+use Rattle.file_pages.specs.laws_midway.proofs.rooms.Laws.{found_room_stays, room_goes_on}
+use Rattle.file_pages.specs.laws_midway.specs.RoomLaws.{EndsWithEntry, RowBegins}
 use Rattle.pack_model.specs.operations.Rooms.{find_room, room_from}
 use Rattle.pack_model.specs.reading.SlotWords.{SlotAt, address_at, slots_at}
 use Rattle.pack_model.specs.reading.Slots.Item.{entry, space}

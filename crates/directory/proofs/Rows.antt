@@ -11,10 +11,10 @@ use Rattle.dir_slots.specs.Items.{address_of, items_of}
 use Rattle.dir_slots.proofs.Hands.{slots_within}
 use Rattle.disk_records.specs.Packs.{Pack}
 use Rattle.disk_records.proofs.Bytes.{length-words_of}
-use Rattle.laws_contents.proofs.ends.Laws.{each_file_has_its_end}
-use Rattle.laws_contents.proofs.pages.Laws.{page_numbers_are_words}
-use Rattle.laws_midway.proofs.rooms.Laws.{most_words_go_on}
-use Rattle.laws_midway.specs.RoomLaws.{row_words, words_at_end}
+use Rattle.file_pages.specs.laws_contents.proofs.ends.Laws.{each_file_has_its_end}
+use Rattle.file_pages.specs.laws_contents.proofs.pages.Laws.{page_numbers_are_words}
+use Rattle.file_pages.specs.laws_midway.proofs.rooms.Laws.{most_words_go_on}
+use Rattle.file_pages.specs.laws_midway.specs.RoomLaws.{row_words, words_at_end}
 use Rattle.pack_model.specs.hints.Links.{dir_slots, dir_words}
 use Rattle.pack_model.specs.operations.Rooms.{largest_run, words_free}
 use Rattle.pack_model.specs.reading.Files.{file_bytes}

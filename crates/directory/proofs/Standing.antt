@@ -6,12 +6,12 @@ use Rattle.alto_words.specs.declared.fid.Fid.{Fid}
 use Rattle.disk_records.specs.Addresses.{pages_of, real_of}
 use Rattle.disk_records.specs.Packs.{Pack, carried, sector_at}
 use Rattle.disk_records.specs.Words.{word}
-use Rattle.laws_contents.proofs.bytes.Laws.{page_is_a_slice}
-use Rattle.laws_contents.proofs.pages.Laws.{carried_once_is_in_place, labels_count}
-use Rattle.laws_contents.specs.PageLaws.{FullBefore, bytes_at}
-use Rattle.laws_record.proofs.Carried.{carried_once}
-use Rattle.pack_laws.proofs.Placing.{page_of_place}
-use Rattle.pack_laws.proofs.Sighted.{length-sights, shows_page, sights-get}
+use Rattle.file_pages.specs.laws_contents.proofs.bytes.Laws.{page_is_a_slice}
+use Rattle.file_pages.specs.laws_contents.proofs.pages.Laws.{carried_once_is_in_place, labels_count}
+use Rattle.file_pages.specs.laws_contents.specs.PageLaws.{FullBefore, bytes_at}
+use Rattle.file_pages.specs.laws_record.proofs.Carried.{carried_once}
+use Rattle.file_pages.specs.pack_laws.proofs.Placing.{page_of_place}
+use Rattle.file_pages.specs.pack_laws.proofs.Sighted.{length-sights, shows_page, sights-get}
 use Rattle.pack_model.specs.reading.Files.{file_bytes, place}
 use Rattle.pack_model.specs.reading.Sights.{sights}
 use Rattle.pack_model.specs.reading.Sights.Sight.{hidden}

@@ -12,9 +12,9 @@ use Rattle.disk_records.specs.Packs.{Pack, carried, sector_at}
 use Rattle.disk_records.specs.Tapes.{Taped}
 use Rattle.disk_records.specs.Words.{word}
 use Rattle.hint_cache.specs.Caches.{Cached, address_in}
-use Rattle.label_check.specs.declared.errors.PageInfo.{PageInfo}
-use Rattle.laws_contents.specs.PageLaws.{FullBefore, bytes_at}
-use Rattle.laws_contents.specs.WordContents.{file_words, words_at}
+use Rattle.file_pages.specs.label_check.specs.declared.errors.PageInfo.{PageInfo}
+use Rattle.file_pages.specs.laws_contents.specs.PageLaws.{FullBefore, bytes_at}
+use Rattle.file_pages.specs.laws_contents.specs.WordContents.{file_words, words_at}
 use Rattle.pack_model.specs.hints.Links.{LinksTrue, dir_slots}
 use Rattle.pack_model.specs.operations.Committing.{page_of_byte}
 use Rattle.pack_model.specs.reading.Files.{place}

@@ -9,7 +9,7 @@ use Rattle.disk_records.specs.declared.records.Event.{Event}
 use Rattle.disk_records.specs.declared.records.Page.{Page}
 use Rattle.hint_cache.specs.Caches.{Cached}
 use Rattle.laws_call.specs.Acting.{Around}
-use Rattle.laws_lookup.specs.EnteringLaws.{IsEnterable}
+use Rattle.file_pages.specs.laws_lookup.specs.EnteringLaws.{IsEnterable}
 use Rattle.pack_model.specs.operations.Committing.{page_of_byte}
 use Rattle.pack_model.specs.operations.Operations.{enter_moves}
 use Rattle.pack_model.specs.operations.PageWords.{entered_words, freed_value, in_page, later, near}

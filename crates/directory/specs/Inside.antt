@@ -2,7 +2,7 @@
 use Rattle.std.specs.Prelude.{◌≡◌, ◌-◌, ◌^◌, ◌++◌, ◌||◌, min, max, [], ◌∷◌, map}
 use Rattle.std.specs.Option.{option_map}
 use Rattle.dir_slots.specs.Items.{address_of, items_of}
-use Rattle.laws_midway.specs.RoomLaws.{row_words}
+use Rattle.file_pages.specs.laws_midway.specs.RoomLaws.{row_words}
 use Rattle.pack_model.specs.reading.Lookup.{EntryAt, holds_base, meant_by}
 use Rattle.pack_model.specs.reading.SlotWords.{SlotAt}
 use Rattle.directory.specs.declared.entry.EntryFound.{EntryFound}

@@ -12,3 +12,11 @@ pub mod Places
 pub mod Seeking
 pub mod Visits
 pub mod Widening
+pub use Rattle.file_pages.specs.pack_laws
+pub use Rattle.file_pages.specs.laws_record
+pub use Rattle.file_pages.specs.laws_contents
+pub use Rattle.file_pages.specs.laws_lookup
+pub use Rattle.file_pages.specs.laws_room
+pub use Rattle.file_pages.specs.laws_line
+pub use Rattle.file_pages.specs.laws_midway
+pub use Rattle.laws_call

@@ -10,8 +10,8 @@ use Rattle.disk_records.specs.Packs.{after, carried, label_found}
 use Rattle.disk_records.specs.Tapes.{DiskAlone, Grown, Taped, added, pack}
 use Rattle.disk_records.specs.declared.records.Event.{Event}
 use Rattle.disk_records.specs.declared.shape.Shape.{Shape}
-use Rattle.laws_operation.proofs.CloseLaw.{last_value}
-use Rattle.laws_record.proofs.Carried.{values_carried}
+use Rattle.laws_format.specs.laws_operation.proofs.CloseLaw.{last_value}
+use Rattle.laws_format.specs.laws_record.proofs.Carried.{values_carried}
 use Rattle.pack_model.specs.operations.Commands.{values_writes}
 use Rattle.pack_model.specs.sessions.Descriptor.{closed_values, descriptor_value}
 use Rattle.pack_model.specs.states.Sound.{mark_clean}

@@ -8,8 +8,8 @@ use Rattle.disk_records.specs.Causes.{HasCause}
 use Rattle.disk_records.specs.Packs.{AreFormed, Pack}
 use Rattle.disk_records.specs.Tapes.{Taped}
 use Rattle.disk_records.specs.Words.{word}
-use Rattle.laws_contents.proofs.pages.Laws.{formed_pages_have_256_words}
-use Rattle.laws_lookup.proofs.hints.Laws.{true_hints_never_mislead}
+use Rattle.laws_format.specs.laws_contents.proofs.pages.Laws.{formed_pages_have_256_words}
+use Rattle.laws_format.specs.laws_lookup.proofs.hints.Laws.{true_hints_never_mislead}
 use Rattle.pack_model.specs.hints.Links.{LinksTrue}
 use Rattle.pack_model.specs.reading.Model.{descriptor_words}
 use Rattle.pack_model.specs.reading.Sights.{sights}

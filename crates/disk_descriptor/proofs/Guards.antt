@@ -15,7 +15,7 @@ use Rattle.disk_records.specs.declared.shape.Shape.{Shape}
 use Rattle.label_check.specs.Guarded.{Carries, Guarded}
 use Rattle.label_check.specs.declared.errors.GuardError.TheVariants as guard
 use Rattle.label_check.specs.declared.errors.GuardError.{GuardError}
-use Rattle.pack_laws.proofs.Guarding.{front_from}
+use Rattle.laws_format.specs.pack_laws.proofs.Guarding.{front_from}
 use Rattle.pack_model.specs.operations.Commands.{values_writes}
 use Rattle.disk_descriptor.proofs.Writings.{look_before, writes_all, writes_stop}
 use Rattle.disk_descriptor.specs.Answers.{IfHeld, error_at}

@@ -14,11 +14,11 @@ use Rattle.disk_records.specs.Tapes.{Grown, Taped, added, pack}
 use Rattle.disk_records.specs.declared.records.Event.{Event}
 use Rattle.disk_records.specs.declared.shape.Shape.{Shape}
 use Rattle.laws_hint.specs.LineLinks.{opening_writes}
-use Rattle.laws_line.proofs.fits.Laws.{descriptor_fits_on, fitting_descriptor_may_close}
-use Rattle.laws_operation.proofs.descriptor.Laws.{close_carries_out, open_carries_out, serial_carries_out}
-use Rattle.laws_operation.specs.DescriptorLaws.{MayClose}
-use Rattle.pack_laws.proofs.Guarding.{carried_parts, usable_within}
-use Rattle.pack_laws.proofs.files.Laws.{places_are_lowest}
+use Rattle.laws_format.specs.laws_line.proofs.fits.Laws.{descriptor_fits_on, fitting_descriptor_may_close}
+use Rattle.laws_format.specs.laws_operation.proofs.descriptor.Laws.{close_carries_out, open_carries_out, serial_carries_out}
+use Rattle.laws_format.specs.laws_operation.specs.DescriptorLaws.{MayClose}
+use Rattle.laws_format.specs.pack_laws.proofs.Guarding.{carried_parts, usable_within}
+use Rattle.laws_format.specs.pack_laws.proofs.files.Laws.{places_are_lowest}
 use Rattle.pack_model.specs.operations.Commands.{values_writes}
 use Rattle.pack_model.specs.operations.Step.Operation.{drop_file}
 use Rattle.pack_model.specs.reading.Files.{place}

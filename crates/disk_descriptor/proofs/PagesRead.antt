@@ -17,11 +17,11 @@ use Rattle.disk_records.specs.declared.records.Sector.{Sector}
 use Rattle.disk_records.specs.declared.shape.Shape.{Shape}
 use Rattle.hint_cache.specs.Caches.{Cached}
 use Rattle.label_check.specs.declared.errors.PageInfo.{PageInfo}
-use Rattle.laws_contents.proofs.ends.Laws.{last_page_ends_the_file, missing_page_ends_the_file}
-use Rattle.laws_contents.proofs.pages.Laws.{carried_once_is_in_place, full_before_the_next, labels_count, none_before_the_first, page_numbers_are_words}
-use Rattle.laws_contents.proofs.words.Laws.{page_words_go_on}
-use Rattle.laws_contents.specs.PageLaws.{FullBefore, bytes_at}
-use Rattle.laws_contents.specs.WordContents.{file_words, words_at}
+use Rattle.laws_format.specs.laws_contents.proofs.ends.Laws.{last_page_ends_the_file, missing_page_ends_the_file}
+use Rattle.laws_format.specs.laws_contents.proofs.pages.Laws.{carried_once_is_in_place, full_before_the_next, labels_count, none_before_the_first, page_numbers_are_words}
+use Rattle.laws_format.specs.laws_contents.proofs.words.Laws.{page_words_go_on}
+use Rattle.laws_format.specs.laws_contents.specs.PageLaws.{FullBefore, bytes_at}
+use Rattle.laws_format.specs.laws_contents.specs.WordContents.{file_words, words_at}
 use Rattle.pack_model.specs.reading.Bytes.{put_at}
 use Rattle.pack_model.specs.reading.Files.{file_bytes, place}
 use Rattle.pack_model.specs.reading.Sights.{sights}

@@ -12,11 +12,11 @@ use Rattle.disk_records.specs.declared.shape.Shape.{Shape}
 use Rattle.laws_hint.proofs.closing.Laws.{closing_describes_its_map}
 use Rattle.laws_hint.specs.LineLinks.{opening_writes}
 use Rattle.laws_hint.specs.MapClosing.{Describes}
-use Rattle.laws_line.proofs.fits.Laws.{fitting_descriptor_may_close}
-use Rattle.laws_operation.proofs.descriptor.Laws.{close_carries_out, close_keeps_links, open_carries_out, open_keeps_links, serial_carries_out, serial_keeps_links}
-use Rattle.laws_operation.specs.DescriptorLaws.{MayClose}
-use Rattle.laws_operation.proofs.places.Laws.{serial_keeps_places}
-use Rattle.pack_laws.proofs.Moving.{stands_last}
+use Rattle.laws_format.specs.laws_line.proofs.fits.Laws.{fitting_descriptor_may_close}
+use Rattle.laws_format.specs.laws_operation.proofs.descriptor.Laws.{close_carries_out, close_keeps_links, open_carries_out, open_keeps_links, serial_carries_out, serial_keeps_links}
+use Rattle.laws_format.specs.laws_operation.specs.DescriptorLaws.{MayClose}
+use Rattle.laws_format.specs.laws_operation.proofs.places.Laws.{serial_keeps_places}
+use Rattle.laws_format.specs.pack_laws.proofs.Moving.{stands_last}
 use Rattle.pack_model.specs.hints.Links.{LinksTrue}
 use Rattle.pack_model.specs.operations.Commands.{values_writes}
 use Rattle.pack_model.specs.operations.Operations.{quiet_moves}

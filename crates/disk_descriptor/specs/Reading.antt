@@ -2,7 +2,7 @@
 use Rattle.std.specs.Prelude.{List, Some, get_or, take, ℕ, ◌+◌, ◌/◌, ◌<◌, ◌≡◌, ◌≤◌}
 use Rattle.alto_words.specs.declared.fid.Fid.{Fid}
 use Rattle.disk_records.specs.Packs.{Pack}
-use Rattle.laws_contents.specs.WordContents.{file_words}
+use Rattle.laws_format.specs.laws_contents.specs.WordContents.{file_words}
 use Rattle.pack_model.specs.reading.Files.{place}
 use Rattle.pack_model.specs.reading.Sights.{sights}
 use Rattle.page_seeking.specs.Seeking.{file_length}

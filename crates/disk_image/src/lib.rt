@@ -29,6 +29,7 @@ mod kept;
 pub mod laws;
 mod machine;
 mod pair;
+mod placed;
 mod reach;
 mod records;
 mod spot;

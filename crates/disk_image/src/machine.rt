@@ -1,13 +1,13 @@
 // The machine over a pack file, or two of them for two drives, standard input and standard output: the edge to the outside.
 //
-// Sectors that were read are kept in memory (kept.rt), and a sector command on one that is kept makes no read call. Else it seeks to the
+// Sectors that were read are kept in memory (kept.rt), and a sector command on one that is kept makes no read call. Else it goes to the
 // sector's cylinder, in the file of its drive, makes one read call for all of it, and keeps it: until another cylinder is read for the
-// first time, or for good where it was read before. Where there is no memory for that, or the cylinder can't be read whole, it seeks to
+// first time, or for good where it was read before. Where there is no memory for that, or the cylinder can't be read whole, it goes to
 // the sector and makes one read call for the records before its first Write. A command that begins with a Write reads nothing. Writes
-// are never kept back: a command that writes seeks to its first Write and makes one write call for all records that it writes, which stand
-// side by side in the file, in their order. What is kept of the sector is changed after it, and after a fault it is kept no longer. That is
-// said of calls that are neither short nor interrupted by a signal, here and in records.rt: after a short one another does the rest, and an
-// interrupted one is made again.
+// are never kept back: a command that writes goes to its first Write and makes one write call for all records that it writes, which stand
+// side by side in the file, in their order. What is kept of the sector is changed after it, and after a fault it is kept no longer. To go
+// to a place makes no call: each read and write call names its place (placed.rt). That is said of calls that are neither short nor
+// interrupted by a signal, here and in records.rt: after a short one another does the rest, and an interrupted one is made again.
 //
 // That a process which is stopped leaves a prefix of its record writes in the files, each of them whole, is a premise. It holds for one
 // that is stopped between two calls, of which the first wasn't short, and for one that a signal kills within a write call unless a
@@ -29,10 +29,12 @@ ghost use Rattle.disk_records.specs.Addresses.{disks_of};
 use crate::command::obey_in_file;
 use crate::drives::{OnDrive, drive_of};
 use crate::kept::KeptSectors;
+use crate::placed::Placed;
 use disk_records::{Console, ConsoleError, Disk, DiskError, Machine, Plan, Sector, Shape, Tape};
 use std::alloc::Global;
 use std::io;
 use std::io::{BufRead, BufReader, Error, ErrorKind, Input, Print, Read};
+use std::os::unix::fs::FileExt;
 use std::rt::Files;
 
 /// How often at most a read of keys is tried that a signal interrupts each time.
@@ -47,9 +49,9 @@ const MOST_TRIES: u64 = u64::MAX;
 #[derive(Drop)]
 pub struct FileMachine<'a, R: Files + Input + Print> {
     rt: &'a R,
-    // the file of each drive; a position in it means nothing between two commands
-    first: R::File,
-    second: Option<R::File>,
+    // the file of each drive; the place in it means nothing between two commands
+    first: Placed<R::File>,
+    second: Option<Placed<R::File>>,
     shape: Shape,
     // what was read of the files and is read from memory
     kept: KeptSectors,
@@ -69,7 +71,10 @@ impl<'a, R: Files + Input + Print> Tape for FileMachine<'a, R> {
     ghost tape = { λ m. record { form = m.shape; base = []; events = []; keys = []; disk_faults = m.disk_faults; key_faults = m.key_faults; show_faults = m.show_faults; runs = 0; writes = m.writes; spare = 0 } };
 }
 
-impl<'a, R: Files + Input + Print> Disk for FileMachine<'a, R> {
+impl<'a, R: Files + Input + Print> Disk for FileMachine<'a, R>
+where
+    R::File: FileExt,
+{
     ghost use Rattle.std.specs.Prelude.{◌≡◌, ◌<◌, OnOk, IsErrOf, IsTrue};
     ghost use Rattle.std.proofs.lemmas.Bool.{false≢true};
     ghost use Rattle.disk_records.specs.Addresses.{pages_of};
@@ -163,17 +168,14 @@ impl<'a, R: Files + Input + Print> Console for FileMachine<'a, R> {
     }
 }
 
-impl<'a, R: Files + Input + Print> Machine for FileMachine<'a, R> {}
+impl<'a, R: Files + Input + Print> Machine for FileMachine<'a, R>
+where
+    R::File: FileExt,
+{}
 
 impl<'a, R: Files + Input + Print> FileMachine<'a, R> {
-    ghost use Rattle.std.specs.Prelude.{◌≡◌, ◌<◌, ◌≤◌, IfOk, IfSome, IfNone, IsTrue};
-    ghost use Rattle.disk_records.specs.Addresses.{pages_of};
-    ghost use Rattle.disk_records.specs.Checks.{is_legal, is_checked};
-    ghost use Rattle.disk_records.specs.Tapes.{DiskAlone};
-    ghost use Rattle.disk_image.specs.Images.{first_drive};
-    ghost use Rattle.disk_image.specs.Kept.{ObeysKept};
+    ghost use Rattle.std.specs.Prelude.{◌≡◌};
     ghost use Rattle.disk_image.specs.Machines.{IsUntouched};
-    ghost use Rattle.disk_image.specs.Records.{writes_after_all};
 
     /// A machine over the files of a pack of this shape, before its first call. Where the shape has two drives there is a second file.
     /// Where no memory is left for the sectors of the pack, none will be kept.
@@ -191,8 +193,8 @@ impl<'a, R: Files + Input + Print> FileMachine<'a, R> {
     {
         FileMachine {
             rt,
-            first,
-            second,
+            first: Placed::new(first),
+            second: second.map(Placed::new),
             shape,
             kept: KeptSectors::none_of(alloc, shape),
             keys,
@@ -202,6 +204,19 @@ impl<'a, R: Files + Input + Print> FileMachine<'a, R> {
             show_faults: 0,
         }
     }
+}
+
+impl<'a, R: Files + Input + Print> FileMachine<'a, R>
+where
+    R::File: FileExt,
+{
+    ghost use Rattle.std.specs.Prelude.{◌≡◌, ◌<◌, ◌≤◌, IfOk, IfSome, IfNone, IsTrue};
+    ghost use Rattle.disk_records.specs.Addresses.{pages_of};
+    ghost use Rattle.disk_records.specs.Checks.{is_legal, is_checked};
+    ghost use Rattle.disk_records.specs.Tapes.{DiskAlone};
+    ghost use Rattle.disk_image.specs.Images.{first_drive};
+    ghost use Rattle.disk_image.specs.Kept.{ObeysKept};
+    ghost use Rattle.disk_image.specs.Records.{writes_after_all};
 
     /// Does one sector command on a sector that is kept, or in the file of its drive, and answers the first word that differs, if one
     /// does. The other drive's file isn't touched, and what is kept of other cylinders was kept before.

@@ -9,3 +9,4 @@ pub mod Commands
 pub mod Tapes
 pub mod Causes
 pub mod Laws
+pub use Rattle.alto_words

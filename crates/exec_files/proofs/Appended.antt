@@ -16,8 +16,8 @@ use Rattle.exec_words.specs.declared.line.Path.{Path}
 use Rattle.exec_words.specs.declared.line.Target.{Target}
 use Rattle.exec_words.specs.declared.line.Target.TheVariants.{ByPath, BySerial}
 use Rattle.exec_words.specs.declared.reply.Refusal.TheVariants as refusal
-use Rattle.laws_hint.specs.TableLaws.{TableReserves}
-use Rattle.page_alloc.specs.Free.{IsReserved}
+use Rattle.exec_steps.specs.laws_hint.specs.TableLaws.{TableReserves}
+use Rattle.exec_steps.specs.page_alloc.specs.Free.{IsReserved}
 use Rattle.page_seeking.specs.Seeking.{LastNamed, Quick, all_listed, file_length}
 use Rattle.pack_model.specs.hints.Tables.{TableTrue}
 use Rattle.pack_model.specs.operations.Committing.{length_of, page_of_byte, pages_added}

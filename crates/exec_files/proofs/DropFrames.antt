@@ -13,7 +13,7 @@ use Rattle.pack_model.specs.sessions.Tallies.{counted}
 use Rattle.session_model.specs.Answering.{Answered, Answers}
 use Rattle.session_model.specs.Keeping.{Formed, Kept}
 use Rattle.session_model.specs.Turning.{State, cue_moves, typed}
-use Rattle.world_model.specs.Levels.{IsAtLevel}
+use Rattle.exec_steps.specs.world_model.specs.Levels.{IsAtLevel}
 use Rattle.exec_session.proofs.Looking.{same_but_looked}
 use Rattle.exec_session.proofs.Turning.{same_world}
 use Rattle.exec_session.specs.Meant.{Looked, Stays, kept}

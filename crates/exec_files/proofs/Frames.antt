@@ -8,7 +8,7 @@ use Rattle.exec_session.proofs.Turning.{same_world}
 use Rattle.exec_session.specs.declared.session.Session.{Session}
 use Rattle.exec_steps.specs.Asked.{Works}
 use Rattle.session_model.specs.Keeping.{Formed}
-use Rattle.world_model.specs.Levels.{IsAtLevel}
+use Rattle.exec_steps.specs.world_model.specs.Levels.{IsAtLevel}
 
 -- ---- what stays
 pub works_looked : {one two : Session} → Looked one two → Works one two

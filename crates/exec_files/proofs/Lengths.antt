@@ -2,8 +2,8 @@
 use Rattle.std.proofs.Common.{◌≡◌, ◌∙◌, sym, true}
 use Rattle.disk_records.specs.Packs.{Pack}
 use Rattle.exec_words.specs.declared.line.Target.{Target}
-use Rattle.laws_contents.proofs.model.Laws.{model_lengths_are_of_bytes}
-use Rattle.laws_midway.proofs.found.Laws.{found_file_lives}
+use Rattle.exec_steps.specs.laws_contents.proofs.model.Laws.{model_lengths_are_of_bytes}
+use Rattle.exec_steps.specs.laws_midway.proofs.found.Laws.{found_file_lives}
 use Rattle.page_seeking.specs.Refs.{FileIsFrom}
 use Rattle.page_seeking.specs.Seeking.{file_length}
 use Rattle.page_seeking.specs.declared.refs.FileRef.{FileRef}

@@ -11,7 +11,7 @@ use Rattle.disk_records.specs.Tapes.{DiskAlone, Taped, added, capped, pack}
 use Rattle.exec_words.specs.declared.line.Line.{Line}
 use Rattle.exec_words.specs.declared.line.Target.{Target}
 use Rattle.exec_words.specs.declared.reply.Refusal.{Refusal}
-use Rattle.laws_hint.proofs.tables.Laws.{table_without_reserved}
+use Rattle.exec_steps.specs.laws_hint.proofs.tables.Laws.{table_without_reserved}
 use Rattle.pack_model.specs.hints.Tables.{TableTrue}
 use Rattle.pack_model.specs.reading.Model.{read_as}
 use Rattle.pack_model.specs.states.Sound.{Sound}

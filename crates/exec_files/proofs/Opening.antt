@@ -5,9 +5,9 @@ use Rattle.alto_words.specs.declared.fid.Fid.{Fid}
 use Rattle.disk_records.specs.Packs.{Pack}
 use Rattle.disk_records.specs.Tapes.{Taped, added, pack}
 use Rattle.exec_words.specs.declared.line.Line.{Line}
-use Rattle.laws_call.specs.SoundCalls.{LineFits}
-use Rattle.laws_steps.specs.LineKeepingLaws.{StaysFoundOver}
-use Rattle.laws_midway.proofs.found.Laws.{found_file_lives}
+use Rattle.exec_steps.specs.laws_call.specs.SoundCalls.{LineFits}
+use Rattle.exec_steps.specs.laws_steps.specs.LineKeepingLaws.{StaysFoundOver}
+use Rattle.exec_steps.specs.laws_midway.proofs.found.Laws.{found_file_lives}
 use Rattle.page_seeking.specs.Refs.{FileIsFrom}
 use Rattle.page_seeking.specs.declared.refs.FileRef.{FileRef}
 use Rattle.pack_model.specs.operations.Step.{Operation}

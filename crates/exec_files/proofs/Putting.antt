@@ -8,10 +8,10 @@ use Rattle.disk_records.specs.Tapes.{Taped, pack}
 use Rattle.disk_records.specs.declared.records.Event.{Event}
 use Rattle.disk_records.specs.declared.records.Place.{Place}
 use Rattle.file_pages.specs.Putting.{EndsBefore}
-use Rattle.laws_call.specs.Acting.{Around}
-use Rattle.laws_line.specs.Ready.{steps_of}
-use Rattle.laws_steps.proofs.lengths.Laws.{put_keeps_the_length}
-use Rattle.laws_steps.specs.LineKeepingLaws.{StaysFoundOver}
+use Rattle.exec_steps.specs.laws_call.specs.Acting.{Around}
+use Rattle.exec_steps.specs.laws_line.specs.Ready.{steps_of}
+use Rattle.exec_steps.specs.laws_steps.proofs.lengths.Laws.{put_keeps_the_length}
+use Rattle.exec_steps.specs.laws_steps.specs.LineKeepingLaws.{StaysFoundOver}
 use Rattle.page_seeking.specs.Refs as refs
 use Rattle.page_seeking.specs.Refs.{MisledBy}
 use Rattle.page_seeking.specs.Seeking.{file_length}

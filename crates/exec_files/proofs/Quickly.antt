@@ -5,7 +5,7 @@ use Rattle.alto_words.specs.Fid.{disk_descriptor}
 use Rattle.disk_records.proofs.Growing.{pack-after}
 use Rattle.disk_records.specs.Tapes.{Taped, pack}
 use Rattle.file_pages.specs.Calls.{StaysHandy}
-use Rattle.hint_cache.specs.Caches.{Cached}
+use Rattle.exec_steps.specs.hint_cache.specs.Caches.{Cached}
 use Rattle.page_seeking.specs.Seeking.{LastNamed, NamedNearEnd, Quick, QuickCache, Refused, all_listed}
 use Rattle.page_seeking.specs.declared.refs.FileRef.{FileRef}
 use Rattle.pack_model.specs.hints.Links.{LinksTrue}

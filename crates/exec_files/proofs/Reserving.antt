@@ -6,8 +6,8 @@ use Rattle.disk_records.proofs.Growing.{alone_twice, pack-silent, silent_twice}
 use Rattle.disk_records.specs.Events.{writes_in}
 use Rattle.disk_records.specs.Packs.{AreFormed, Pack, is_free_at}
 use Rattle.disk_records.specs.Tapes.{DiskAlone, Looks, Taped, added, capped, pack}
-use Rattle.laws_hint.specs.TableLaws.{TableReserves}
-use Rattle.page_alloc.specs.Free.{IsReserved}
+use Rattle.exec_steps.specs.laws_hint.specs.TableLaws.{TableReserves}
+use Rattle.exec_steps.specs.page_alloc.specs.Free.{IsReserved}
 use Rattle.pack_model.specs.hints.Tables.{TableTrue}
 use Rattle.pack_model.specs.states.Sound.{Sound}
 use Rattle.exec_session.specs.Meant.{IsSameButTable, LooksAbout, kept}

@@ -4,7 +4,7 @@ use Rattle.std.specs.Result.{IsErrAnd}
 use Rattle.std.proofs.lemmas.List.Elements.{Contains-append_cases}
 use Rattle.alto_words.specs.declared.fid.Fid.{Fid}
 use Rattle.disk_records.specs.Tapes.{Taped, pack}
-use Rattle.laws_steps.specs.LineKeepingLaws.{StaysFoundOver}
+use Rattle.exec_steps.specs.laws_steps.specs.LineKeepingLaws.{StaysFoundOver}
 use Rattle.page_seeking.specs.declared.refs.FileRef.{FileRef}
 use Rattle.pack_model.specs.operations.Step.{Operation}
 use Rattle.pack_model.specs.reading.Model.{Model}

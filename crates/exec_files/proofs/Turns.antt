@@ -12,12 +12,12 @@ use Rattle.exec_words.specs.declared.reply.Refusal.{Refusal}
 use Rattle.exec_words.specs.declared.reply.Refusal.TheVariants as refusal
 use Rattle.exec_words.specs.declared.reply.Reply.{Reply}
 use Rattle.exec_words.specs.declared.reply.Reply.TheVariants as reply
-use Rattle.laws_call.specs.SoundCalls.{LineFits}
-use Rattle.laws_contents.proofs.pages.Laws.{formed_pages_have_256_words}
-use Rattle.laws_hint.specs.TableLaws.{TableReserves}
-use Rattle.laws_line.specs.SoundLines.{IsKindOfLine}
-use Rattle.laws_room.proofs.rooms.Laws.{free_is_the_room}
-use Rattle.laws_session.specs.LineAnswers.{GoesOnWith}
+use Rattle.exec_steps.specs.laws_call.specs.SoundCalls.{LineFits}
+use Rattle.exec_steps.specs.laws_contents.proofs.pages.Laws.{formed_pages_have_256_words}
+use Rattle.exec_steps.specs.laws_hint.specs.TableLaws.{TableReserves}
+use Rattle.exec_steps.specs.laws_line.specs.SoundLines.{IsKindOfLine}
+use Rattle.exec_steps.specs.laws_room.proofs.rooms.Laws.{free_is_the_room}
+use Rattle.exec_steps.specs.laws_session.specs.LineAnswers.{GoesOnWith}
 use Rattle.pack_model.specs.hints.Tables.{TableTrue}
 use Rattle.pack_model.specs.hints.Truth.{Truthful}
 use Rattle.pack_model.specs.operations.Committing.{pages_for_operations}

@@ -3,7 +3,7 @@ use Rattle.std.specs.Prelude.{◌≡◌, ℕ, List, [], Result, OnErr, OnOk}
 use Rattle.alto_words.specs.declared.fid.Fid.{Fid}
 use Rattle.disk_records.specs.Tapes.{Taped, added, pack}
 use Rattle.exec_words.specs.declared.line.Line.{Line}
-use Rattle.laws_call.specs.SoundCalls.{LineFits}
+use Rattle.exec_steps.specs.laws_call.specs.SoundCalls.{LineFits}
 use Rattle.pack_model.specs.operations.Step.{Operation}
 use Rattle.session_model.specs.Keeping.{Kept}
 use Rattle.session_model.specs.Turning.{HintFailing, State}

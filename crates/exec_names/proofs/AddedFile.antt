@@ -6,11 +6,11 @@ use Rattle.disk_records.specs.Packs.{Pack, is_free_at}
 use Rattle.disk_records.specs.Events.{writes_in}
 use Rattle.disk_records.specs.Tapes.{DiskAlone, Taped, added, capped, pack}
 use Rattle.exec_words.specs.declared.line.Line.{Line}
-use Rattle.laws_call.specs.SoundCalls.{LineFits}
+use Rattle.exec_steps.specs.laws_call.specs.SoundCalls.{LineFits}
 use Rattle.laws_hint.specs.TableLaws.{TableReserves}
-use Rattle.laws_line.specs.SoundLines.{IsKindOfLine}
-use Rattle.laws_session.proofs.unrefused.Laws.{unrefused_lines_have_their_pages}
-use Rattle.laws_session.specs.UnrefusedLaws.{ops_on}
+use Rattle.exec_steps.specs.laws_line.specs.SoundLines.{IsKindOfLine}
+use Rattle.exec_steps.specs.laws_session.proofs.unrefused.Laws.{unrefused_lines_have_their_pages}
+use Rattle.exec_steps.specs.laws_session.specs.UnrefusedLaws.{ops_on}
 use Rattle.page_alloc.specs.Free.{IsReserved}
 use Rattle.pack_model.specs.hints.Tables.{TableTrue}
 use Rattle.pack_model.specs.operations.Committing.{pages_for_operations}

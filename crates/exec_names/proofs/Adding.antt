@@ -9,10 +9,10 @@ use Rattle.disk_records.specs.Packs.{Pack, is_free_at}
 use Rattle.disk_records.specs.Tapes.{Taped, pack}
 use Rattle.exec_words.specs.declared.line.Line.{Line}
 use Rattle.exec_words.specs.declared.reply.Refusal.{Refusal}
-use Rattle.laws_line.specs.Ready.{steps_of}
+use Rattle.exec_steps.specs.laws_line.specs.Ready.{steps_of}
 use Rattle.laws_operation.proofs.places.Laws.{none_above_the_last_serial}
 use Rattle.laws_operation.specs.EntryLaws.{IsOpenTo}
-use Rattle.laws_session.specs.UnrefusedLaws.{MakesFile}
+use Rattle.exec_steps.specs.laws_session.specs.UnrefusedLaws.{MakesFile}
 use Rattle.page_alloc.specs.Free.{IsReserved}
 use Rattle.pack_model.specs.hints.Tables.{TableTrue}
 use Rattle.pack_model.specs.operations.Rooms.{largest_run}
@@ -39,7 +39,7 @@ use Rattle.exec_session.specs.declared.session.Session.{Session}
 use Rattle.exec_steps.proofs.Calling.{dir_stands_still}
 use Rattle.exec_steps.specs.Asked.{MayMakeEntered, first_widenings, made_entered, made_fid}
 use Rattle.exec_steps.specs.Midway.{AreFree, Arrived}
-use Rattle.laws_lookup.specs.HintLaws.{HasFullValues}
+use Rattle.exec_steps.specs.laws_lookup.specs.HintLaws.{HasFullValues}
 use Rattle.session_model.specs.Keeping.{Keeping}
 use Rattle.exec_session.specs.Turned.{SameBut}
 

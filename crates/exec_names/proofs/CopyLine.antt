@@ -10,30 +10,30 @@ use Rattle.disk_records.specs.Tapes.{DiskAlone, Taped, added, pack}
 use Rattle.disk_records.specs.declared.records.Event.{Event}
 use Rattle.disk_records.specs.declared.records.Page.{Page}
 use Rattle.disk_records.specs.declared.records.Place.{Place}
-use Rattle.hint_cache.specs.declared.hints.Hints.{Hints}
+use Rattle.exec_steps.specs.hint_cache.specs.declared.hints.Hints.{Hints}
 use Rattle.exec_words.specs.declared.line.Line.{Line}
 use Rattle.exec_words.specs.declared.line.Line.TheVariants as line
 use Rattle.exec_words.specs.declared.line.Path.{Path}
 use Rattle.exec_words.specs.declared.line.Target.{Target}
 use Rattle.exec_words.specs.declared.reply.Refusal.{Refusal}
 use Rattle.exec_words.specs.declared.reply.Reply.TheVariants as reply
-use Rattle.laws_call.specs.SoundCalls.{LineFits}
-use Rattle.laws_contents.proofs.model.Laws.{ordinary_file_is_its_pages}
+use Rattle.exec_steps.specs.laws_call.specs.SoundCalls.{LineFits}
+use Rattle.exec_steps.specs.laws_contents.proofs.model.Laws.{ordinary_file_is_its_pages}
 use Rattle.laws_hint.specs.MapMeanings.{HasEachSector}
 use Rattle.laws_hint.specs.TableLaws.{TableReserves}
-use Rattle.laws_line.specs.Ready.{steps_of}
-use Rattle.laws_line.specs.SoundLines.{IsKindOfLine}
-use Rattle.laws_midway.proofs.found.Laws.{found_file_lives}
+use Rattle.exec_steps.specs.laws_line.specs.Ready.{steps_of}
+use Rattle.exec_steps.specs.laws_line.specs.SoundLines.{IsKindOfLine}
+use Rattle.exec_steps.specs.laws_midway.proofs.found.Laws.{found_file_lives}
 use Rattle.laws_operation.proofs.places.Laws.{file_lives_in_a_place}
 use Rattle.laws_operation.specs.ByteLaws.{IsOrdinary}
-use Rattle.laws_record.proofs.FilePages.{changed_pages}
-use Rattle.laws_room.proofs.rooms.Laws.{free_is_the_room}
-use Rattle.laws_session.proofs.unrefused.Laws.{copy_may_begin, unrefused_lines_have_their_pages}
-use Rattle.laws_session.specs.UnrefusedLaws.{MakesFile}
-use Rattle.laws_steps.proofs.hints.Laws.{no_hint_means_an_absent_file}
-use Rattle.laws_steps.proofs.lengths.Laws.{new_file_is_empty}
-use Rattle.laws_steps.proofs.parts.Laws.{pages_of_both_parts}
-use Rattle.pack_laws.proofs.Sighted.{length-sights}
+use Rattle.exec_steps.specs.laws_record.proofs.FilePages.{changed_pages}
+use Rattle.exec_steps.specs.laws_room.proofs.rooms.Laws.{free_is_the_room}
+use Rattle.exec_steps.specs.laws_session.proofs.unrefused.Laws.{copy_may_begin, unrefused_lines_have_their_pages}
+use Rattle.exec_steps.specs.laws_session.specs.UnrefusedLaws.{MakesFile}
+use Rattle.exec_steps.specs.laws_steps.proofs.hints.Laws.{no_hint_means_an_absent_file}
+use Rattle.exec_steps.specs.laws_steps.proofs.lengths.Laws.{new_file_is_empty}
+use Rattle.exec_steps.specs.laws_steps.proofs.parts.Laws.{pages_of_both_parts}
+use Rattle.exec_steps.specs.pack_laws.proofs.Sighted.{length-sights}
 use Rattle.page_alloc.specs.Free.{IsReserved}
 use Rattle.page_seeking.specs.Refs.{MisledBy}
 use Rattle.page_seeking.specs.Seeking.{file_length}

@@ -8,12 +8,12 @@ use Rattle.disk_records.specs.Packs.{Pack}
 use Rattle.disk_records.specs.Tapes.{Taped, pack}
 use Rattle.disk_records.specs.declared.records.Place.{Place}
 use Rattle.disk_records.specs.declared.records.Place.TheVariants.{Held}
-use Rattle.laws_contents.proofs.model.Laws.{model_lengths_are_of_bytes}
-use Rattle.laws_line.specs.Ready.{steps_of}
-use Rattle.laws_midway.proofs.found.Laws.{found_file_lives}
-use Rattle.laws_steps.proofs.lengths.Laws.{new_file_is_empty}
-use Rattle.laws_steps.specs.LineKeepingLaws.{StaysFoundOver}
-use Rattle.pack_laws.proofs.Keys.{same_fid}
+use Rattle.exec_steps.specs.laws_contents.proofs.model.Laws.{model_lengths_are_of_bytes}
+use Rattle.exec_steps.specs.laws_line.specs.Ready.{steps_of}
+use Rattle.exec_steps.specs.laws_midway.proofs.found.Laws.{found_file_lives}
+use Rattle.exec_steps.specs.laws_steps.proofs.lengths.Laws.{new_file_is_empty}
+use Rattle.exec_steps.specs.laws_steps.specs.LineKeepingLaws.{StaysFoundOver}
+use Rattle.exec_steps.specs.pack_laws.proofs.Keys.{same_fid}
 use Rattle.page_seeking.specs.Refs.{FileIsFrom}
 use Rattle.page_seeking.specs.Seeking.{file_length}
 use Rattle.page_seeking.specs.declared.refs.FileRef.{FileRef}

@@ -10,8 +10,8 @@ use Rattle.exec_words.specs.declared.reply.Refusal.{Refusal}
 use Rattle.exec_words.specs.declared.reply.Refusal.TheVariants as refusal
 use Rattle.exec_words.specs.declared.reply.Reply.{Reply}
 use Rattle.exec_words.specs.declared.reply.Reply.TheVariants as reply
-use Rattle.laws_contents.proofs.pages.Laws.{formed_pages_have_256_words}
-use Rattle.laws_session.specs.LineAnswers.{GoesOnWith}
+use Rattle.exec_steps.specs.laws_contents.proofs.pages.Laws.{formed_pages_have_256_words}
+use Rattle.exec_steps.specs.laws_session.specs.LineAnswers.{GoesOnWith}
 use Rattle.pack_model.specs.reading.Files.{first}
 use Rattle.pack_model.specs.reading.Model.{Model, read_as}
 use Rattle.pack_model.specs.sessions.Descriptor.{DescriptorFits}

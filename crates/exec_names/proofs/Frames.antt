@@ -6,7 +6,7 @@ use Rattle.disk_records.proofs.Looking.{looks_within}
 use Rattle.disk_records.specs.Addresses.{pages_of}
 use Rattle.disk_records.specs.Tapes.{Taped}
 use Rattle.session_model.specs.Keeping.{Formed, StreamFormed}
-use Rattle.world_model.specs.Levels.{IsAtLevel}
+use Rattle.exec_steps.specs.world_model.specs.Levels.{IsAtLevel}
 use Rattle.exec_session.specs.declared.session.Session.{Session}
 use Rattle.exec_session.specs.Meant.{IsSameButTable, Looked, LooksAbout, Stays, kept}
 use Rattle.exec_session.specs.Turned.{SameWorld}

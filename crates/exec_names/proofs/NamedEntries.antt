@@ -19,8 +19,8 @@ use Rattle.exec_words.specs.declared.line.Path.{Path}
 use Rattle.exec_words.specs.declared.line.Target.TheVariants.{ByPath}
 use Rattle.exec_words.specs.declared.reply.Refusal.{Refusal}
 use Rattle.exec_words.specs.declared.reply.Refusal.TheVariants as refusal
-use Rattle.laws_session.proofs.unrefused.Laws.{make_dir_may_begin, make_may_begin}
-use Rattle.laws_session.specs.UnrefusedLaws.{MakesFile, StatesStored}
+use Rattle.exec_steps.specs.laws_session.proofs.unrefused.Laws.{make_dir_may_begin, make_may_begin}
+use Rattle.exec_steps.specs.laws_session.specs.UnrefusedLaws.{MakesFile, StatesStored}
 use Rattle.page_seeking.specs.Refs.{FileIsFrom}
 use Rattle.page_seeking.specs.declared.refs.FileRef.{FileRef}
 use Rattle.pack_model.specs.operations.Committing.{pages_for_operations}

@@ -14,14 +14,14 @@ use Rattle.exec_words.specs.declared.line.Target.TheVariants.{ByPath}
 use Rattle.exec_words.specs.declared.reply.Refusal.{Refusal}
 use Rattle.exec_words.specs.declared.reply.Refusal.TheVariants as refusal
 use Rattle.exec_words.specs.declared.reply.Reply.TheVariants as reply
-use Rattle.laws_call.specs.SoundCalls.{LineFits}
+use Rattle.exec_steps.specs.laws_call.specs.SoundCalls.{LineFits}
 use Rattle.laws_hint.specs.TableLaws.{TableReserves}
-use Rattle.laws_line.specs.LineLaws.{IsEntered}
-use Rattle.laws_line.specs.Ready.{steps_of}
-use Rattle.laws_line.specs.SoundLines.{IsKindOfLine}
+use Rattle.exec_steps.specs.laws_line.specs.LineLaws.{IsEntered}
+use Rattle.exec_steps.specs.laws_line.specs.Ready.{steps_of}
+use Rattle.exec_steps.specs.laws_line.specs.SoundLines.{IsKindOfLine}
 use Rattle.laws_operation.specs.EntryLaws.{IsOpenTo}
-use Rattle.laws_session.proofs.unrefused.Laws.{rename_may_begin, unrefused_lines_have_their_pages}
-use Rattle.laws_session.specs.UnrefusedLaws.{RenamesFile, TakesName}
+use Rattle.exec_steps.specs.laws_session.proofs.unrefused.Laws.{rename_may_begin, unrefused_lines_have_their_pages}
+use Rattle.exec_steps.specs.laws_session.specs.UnrefusedLaws.{RenamesFile, TakesName}
 use Rattle.page_alloc.specs.Free.{IsReserved}
 use Rattle.pack_model.specs.hints.Tables.{TableTrue}
 use Rattle.pack_model.specs.operations.Committing.{pages_for_operations}

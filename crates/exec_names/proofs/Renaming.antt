@@ -9,18 +9,18 @@ use Rattle.disk_records.specs.Packs.{Pack, carried}
 use Rattle.disk_records.specs.Tapes.{Taped, pack}
 use Rattle.disk_records.specs.declared.records.Place.{Place}
 use Rattle.disk_records.specs.declared.records.Place.TheVariants.{Entry, Held, Next, Root}
-use Rattle.laws_line.specs.LineLaws.{IsEntered}
-use Rattle.laws_line.specs.Ready.{steps_of}
-use Rattle.laws_lookup.proofs.names.Laws.{slots_stay}
-use Rattle.laws_midway.proofs.found.Laws.{found_file_lives}
+use Rattle.exec_steps.specs.laws_line.specs.LineLaws.{IsEntered}
+use Rattle.exec_steps.specs.laws_line.specs.Ready.{steps_of}
+use Rattle.exec_steps.specs.laws_lookup.proofs.names.Laws.{slots_stay}
+use Rattle.exec_steps.specs.laws_midway.proofs.found.Laws.{found_file_lives}
 use Rattle.laws_operation.proofs.leave.Laws.{leave_takes_the_only_entry}
 use Rattle.laws_operation.proofs.places.Laws.{carried_in_place, file_lives_in_a_place}
 use Rattle.laws_operation.specs.EntryLaws.{HasName}
-use Rattle.laws_steps.proofs.entries.Laws.{entered_is_meant, entered_stays}
-use Rattle.laws_steps.proofs.names.Laws.{absent_name_stays_absent, leave_keeps_room}
-use Rattle.laws_steps.specs.KeepingLaws.{IfByEntry}
-use Rattle.laws_steps.specs.LineKeepingLaws.{StaysFoundOver}
-use Rattle.pack_laws.proofs.files.Laws.{places_are_lowest}
+use Rattle.exec_steps.specs.laws_steps.proofs.entries.Laws.{entered_is_meant, entered_stays}
+use Rattle.exec_steps.specs.laws_steps.proofs.names.Laws.{absent_name_stays_absent, leave_keeps_room}
+use Rattle.exec_steps.specs.laws_steps.specs.KeepingLaws.{IfByEntry}
+use Rattle.exec_steps.specs.laws_steps.specs.LineKeepingLaws.{StaysFoundOver}
+use Rattle.exec_steps.specs.pack_laws.proofs.files.Laws.{places_are_lowest}
 use Rattle.page_seeking.specs.Refs.{FileIsFrom, FileStands}
 use Rattle.page_seeking.specs.declared.refs.FileRef.{FileRef}
 use Rattle.pack_model.specs.hints.Misled.{leader_page}

@@ -10,7 +10,7 @@ use Rattle.disk_records.specs.declared.records.Page.{Page}
 use Rattle.disk_records.specs.declared.records.Place.{Place}
 use Rattle.exec_words.specs.declared.line.Line.{Line}
 use Rattle.exec_words.specs.declared.reply.Reply.{Reply}
-use Rattle.laws_call.specs.SoundCalls.{LineFits}
+use Rattle.exec_steps.specs.laws_call.specs.SoundCalls.{LineFits}
 use Rattle.pack_model.specs.hints.Truth.{Truthful}
 use Rattle.pack_model.specs.operations.Step.{Operation}
 use Rattle.pack_model.specs.sessions.Meanings.{session}

@@ -12,7 +12,7 @@ use Rattle.exec_words.specs.declared.line.Line.TheVariants as line
 use Rattle.exec_words.specs.declared.line.Path.{Path}
 use Rattle.exec_words.specs.declared.reply.Refusal.{Refusal}
 use Rattle.exec_words.specs.declared.reply.Refusal.TheVariants as refusal
-use Rattle.laws_session.specs.UnrefusedLaws.{IsUnrefused, MakesFile}
+use Rattle.exec_steps.specs.laws_session.specs.UnrefusedLaws.{IsUnrefused, MakesFile}
 use Rattle.page_seeking.specs.declared.refs.FileRef.{FileRef}
 use Rattle.pack_model.specs.reading.Files.{first}
 use Rattle.pack_model.specs.reading.Model.{read_as, room}

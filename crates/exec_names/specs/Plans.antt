@@ -12,10 +12,10 @@ use Rattle.exec_words.specs.declared.line.Path.{Path}
 use Rattle.exec_words.specs.declared.line.Target.{Target}
 use Rattle.exec_words.specs.declared.reply.Refusal.{Refusal}
 use Rattle.exec_words.specs.declared.reply.Refusal.TheVariants as refusal
-use Rattle.laws_line.specs.LineLaws.{IsEntered}
-use Rattle.laws_lookup.specs.EnteringLaws.{IsEnterable}
+use Rattle.exec_steps.specs.laws_line.specs.LineLaws.{IsEntered}
+use Rattle.exec_steps.specs.laws_lookup.specs.EnteringLaws.{IsEnterable}
 use Rattle.laws_operation.specs.ByteLaws.{IsOrdinary}
-use Rattle.laws_session.specs.UnrefusedLaws.{TakesName}
+use Rattle.exec_steps.specs.laws_session.specs.UnrefusedLaws.{TakesName}
 use Rattle.page_seeking.specs.Refs.{FileStands}
 use Rattle.pack_model.specs.operations.Rooms.{largest_run}
 use Rattle.pack_model.specs.operations.Step.{Operation}

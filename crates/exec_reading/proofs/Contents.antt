@@ -9,10 +9,10 @@ use Rattle.exec_words.specs.Texts.{stat_text, type_text}
 use Rattle.exec_words.specs.declared.line.Line.TheVariants as line
 use Rattle.exec_words.specs.declared.line.Target.{Target}
 use Rattle.exec_words.specs.declared.reply.Refusal.TheVariants as refusal
-use Rattle.laws_contents.proofs.model.Laws.{directory_is_its_pages, leader_is_its_value, model_lengths_are_of_bytes, ordinary_file_is_its_pages}
-use Rattle.laws_operation.proofs.places.Laws.{carried_in_place, file_lives_in_a_place}
-use Rattle.laws_operation.specs.ByteLaws.{IsOrdinary}
-use Rattle.laws_midway.proofs.found.Laws.{found_file_lives}
+use Rattle.exec_session.specs.laws_contents.proofs.model.Laws.{directory_is_its_pages, leader_is_its_value, model_lengths_are_of_bytes, ordinary_file_is_its_pages}
+use Rattle.exec_session.specs.laws_operation.proofs.places.Laws.{carried_in_place, file_lives_in_a_place}
+use Rattle.exec_session.specs.laws_operation.specs.ByteLaws.{IsOrdinary}
+use Rattle.exec_session.specs.laws_midway.proofs.found.Laws.{found_file_lives}
 use Rattle.page_seeking.specs.Refs.{FileIsFrom}
 use Rattle.page_seeking.specs.declared.refs.FileRef.{FileRef}
 use Rattle.page_seeking.specs.Seeking.{file_length, page_number}

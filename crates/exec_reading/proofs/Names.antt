@@ -13,9 +13,9 @@ use Rattle.disk_records.specs.Packs.{Pack}
 use Rattle.exec_words.specs.Texts.{list_text}
 use Rattle.exec_words.specs.declared.line.Line.TheVariants as line
 use Rattle.exec_words.specs.declared.reply.Refusal.TheVariants as refusal
-use Rattle.laws_operation.proofs.entries.Laws.{items_are_slots}
-use Rattle.pack_laws.proofs.Inserting.{in_order-none, in_order-cons, map-insert_key}
-use Rattle.pack_laws.proofs.Orders.{name_total}
+use Rattle.exec_session.specs.laws_operation.proofs.entries.Laws.{items_are_slots}
+use Rattle.exec_session.specs.pack_laws.proofs.Inserting.{in_order-none, in_order-cons, map-insert_key}
+use Rattle.exec_session.specs.pack_laws.proofs.Orders.{name_total}
 use Rattle.pack_model.specs.reading.Files.{lives}
 use Rattle.pack_model.specs.reading.Model.{dir_items, read_as}
 use Rattle.pack_model.specs.reading.Namings.{namings_in}

@@ -19,8 +19,8 @@ use Rattle.exec_words.specs.declared.line.Path.{Path}
 use Rattle.exec_words.specs.declared.line.Target.{Target}
 use Rattle.exec_words.specs.declared.line.Target.TheVariants.{ByPath, BySerial}
 use Rattle.exec_words.specs.declared.reply.Refusal.{Refusal}
-use Rattle.label_check.specs.declared.errors.LookError.{LookError}
-use Rattle.label_check.specs.declared.errors.LookError.TheVariants as look
+use Rattle.exec_session.specs.label_check.specs.declared.errors.LookError.{LookError}
+use Rattle.exec_session.specs.label_check.specs.declared.errors.LookError.TheVariants as look
 use Rattle.page_seeking.specs.Refs.{MisledBy}
 use Rattle.page_seeking.specs.declared.refs.FileError.TheVariants as fault
 use Rattle.pack_model.specs.hints.Handy.{CachedAt, Handy}

@@ -14,8 +14,8 @@ use Rattle.pack_model.specs.reading.Model.{Model, read_as, room}
 use Rattle.pack_model.specs.states.Sound.{Sound}
 use Rattle.disk_records.specs.Packs.{Pack}
 use Rattle.exec_session.proofs.OrdinaryFiles.{directory_of}
-use Rattle.laws_session.proofs.refused.Laws.{refused_by_tests}
-use Rattle.laws_session.specs.RefusedLaws.{first_of}
+use Rattle.exec_session.specs.laws_session.proofs.refused.Laws.{refused_by_tests}
+use Rattle.exec_session.specs.laws_session.specs.RefusedLaws.{first_of}
 use Rattle.session_model.specs.Finding.{dir_of, file_at}
 use Rattle.session_model.specs.Operands.{Operand, Use, in_root, listed, no_directory, some_file}
 use Rattle.session_model.specs.Refusals.{dir_at, left_in, not_empty, of_taken_name, taken_target, when, when_found, when_missing, wrong_kind, wrong_system}

@@ -5,7 +5,7 @@ use Rattle.std.specs.declared.cmp.Ordering.{Ordering}
 use Rattle.std.specs.Ordering.{on}
 use Rattle.std.specs.Cmp.{IsTotalOrder, on_total}
 use Rattle.alto_words.specs.Names.{folded_cmp}
-use Rattle.pack_laws.proofs.Orders.{name_total}
+use Rattle.exec_session.specs.pack_laws.proofs.Orders.{name_total}
 use Rattle.dir_slots.specs.declared.slot.Slot.{Slot}
 use Rattle.dir_slots.specs.declared.slot.Slot.TheVariants.{Free, Entry}
 use Rattle.exec_reading.specs.declared.order.Listed.{Listed}

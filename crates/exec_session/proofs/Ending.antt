@@ -17,16 +17,16 @@ use Rattle.exec_words.specs.declared.reply.Reply.{Reply}
 use Rattle.exec_words.specs.declared.reply.Reply.TheVariants as reply
 use Rattle.laws_hint.specs.ClosingLaws.{closing_writes}
 use Rattle.laws_hint.proofs.truth.Laws.{truth_at_closing}
-use Rattle.laws_line.proofs.ending.Laws.{ending_on_a_sound_pack}
-use Rattle.laws_line.proofs.fits.Laws.{fitting_descriptor_may_close}
-use Rattle.laws_line.specs.EndLaws.{EndsSession, idle}
+use Rattle.directory.specs.laws_line.proofs.ending.Laws.{ending_on_a_sound_pack}
+use Rattle.directory.specs.laws_line.proofs.fits.Laws.{fitting_descriptor_may_close}
+use Rattle.directory.specs.laws_line.specs.EndLaws.{EndsSession, idle}
 use Rattle.laws_operation.specs.DescriptorLaws.{MayClose}
 use Rattle.laws_session.proofs.ends.Laws.{lines_keep_need}
 use Rattle.laws_session.proofs.lines.Laws.{ends_in_need_answer, ends_on_a_sound_pack_answer, prefixes_answer}
 use Rattle.laws_session.specs.LineAnswers.{PrefixAnswers, plain_state}
-use Rattle.pack_laws.proofs.Guarding.{carried_parts, usable_within}
-use Rattle.pack_laws.proofs.files.Laws.{places_are_lowest}
-use Rattle.pack_laws.proofs.Moving.{MadeFirst, obeys_first}
+use Rattle.directory.specs.pack_laws.proofs.Guarding.{carried_parts, usable_within}
+use Rattle.directory.specs.pack_laws.proofs.files.Laws.{places_are_lowest}
+use Rattle.directory.specs.pack_laws.proofs.Moving.{MadeFirst, obeys_first}
 use Rattle.pack_model.specs.hints.Tables.{HintsTrue}
 use Rattle.pack_model.specs.hints.Truth.{Truthful}
 use Rattle.pack_model.specs.operations.Committing.{line_moves, units}

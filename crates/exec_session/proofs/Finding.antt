@@ -25,10 +25,10 @@ use Rattle.page_seeking.specs.declared.refs.FileRef.{FileRef}
 use Rattle.page_seeking.proofs.Once.{once_of_whole}
 use Rattle.directory.specs.Asked.{DirIsFound}
 use Rattle.directory.specs.Found.{IsAbsent, IsLookedUp, file_of}
-use Rattle.laws_lookup.proofs.dropping.Laws.{ordinary_file_is_bare}
-use Rattle.laws_lookup.proofs.slots.Laws.{lookup_is_the_models}
-use Rattle.laws_lookup.proofs.sources.Laws.{looked_up_file_is_found}
-use Rattle.laws_midway.proofs.found.Laws.{found_file_lives}
+use Rattle.directory.specs.laws_lookup.proofs.dropping.Laws.{ordinary_file_is_bare}
+use Rattle.directory.specs.laws_lookup.proofs.slots.Laws.{lookup_is_the_models}
+use Rattle.directory.specs.laws_lookup.proofs.sources.Laws.{looked_up_file_is_found}
+use Rattle.directory.specs.laws_midway.proofs.found.Laws.{found_file_lives}
 use Rattle.exec_words.specs.declared.line.Path.{Path}
 use Rattle.session_model.specs.Finding.{dir_of, entry_in, entry_meant}
 use Rattle.session_model.specs.Turning.{HintFailing}

@@ -1,9 +1,9 @@
 -- The words of a fresh memory: zeros, of which one is the size of the zone's one free block.
 use Rattle.std.proofs.Common.{◌≡◌, ◌≤◌, ℕ, zero, suc, ◌+◌, ◌-◌, List, [], ◌∷◌, ◌++◌, refl, sym, ◌∙◌, ap, append_assoc, replicate, set, arith}
 use Rattle.std.proofs.lemmas.List.{append-nil, replicate-append-replicate}
-use Rattle.world_model.specs.Levels.{all_levels, level_base}
-use Rattle.world_model.specs.ZoneWords.{memory_length, zone_start, zone_words}
-use Rattle.world_model.specs.Zones.{gap}
+use Rattle.laws_steps.specs.world_model.specs.Levels.{all_levels, level_base}
+use Rattle.laws_steps.specs.world_model.specs.ZoneWords.{memory_length, zone_start, zone_words}
+use Rattle.laws_steps.specs.world_model.specs.Zones.{gap}
 use Rattle.session_model.specs.Worlds.{fresh_world, memory_words}
 
 -- one word among zeros

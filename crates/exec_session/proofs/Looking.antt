@@ -15,8 +15,8 @@ use Rattle.pack_model.specs.reading.Model.{read_as}
 use Rattle.pack_model.specs.reading.Sights.{sights}
 use Rattle.pack_model.specs.states.Sound.{Sound}
 use Rattle.page_seeking.specs.Seeking.{KeepsHandy, Quick, Refused, all_listed, file_length}
-use Rattle.laws_contents.proofs.model.Laws.{model_lengths_are_of_bytes}
-use Rattle.laws_record.proofs.DirReads.{not_descriptor}
+use Rattle.directory.specs.laws_contents.proofs.model.Laws.{model_lengths_are_of_bytes}
+use Rattle.directory.specs.laws_record.proofs.DirReads.{not_descriptor}
 use Rattle.pack_model.specs.hints.Tables.{TableTrue}
 use Rattle.session_model.specs.Bounds.{AllHandy, pages_of_dir}
 use Rattle.session_model.specs.Keeping.{Formed}

@@ -17,7 +17,7 @@ use Rattle.page_seeking.specs.declared.refs.FileRef.{FileRef}
 use Rattle.directory.specs.Asked.{DirIsFound, DirStands}
 use Rattle.directory.specs.Found.{IsAbsent, IsGreatest, IsLookedUp}
 use Rattle.directory.specs.declared.versions.VersionFound.{VersionFound}
-use Rattle.laws_lookup.proofs.slots.Laws.{greatest_is_the_models, held_is_the_models, lookup_is_the_models}
+use Rattle.directory.specs.laws_lookup.proofs.slots.Laws.{greatest_is_the_models, held_is_the_models, lookup_is_the_models}
 use Rattle.exec_words.specs.declared.reply.Refusal.{Refusal}
 use Rattle.exec_words.specs.declared.reply.Refusal.TheVariants as refusal
 use Rattle.exec_session.specs.declared.stop.Stop.{Stop}

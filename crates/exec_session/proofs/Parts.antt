@@ -6,7 +6,7 @@ use Rattle.alto_words.specs.declared.fid.Fid.{Fid}
 use Rattle.disk_records.specs.Packs.{Pack}
 use Rattle.disk_records.specs.Tapes.{Taped, pack}
 use Rattle.hint_cache.specs.Caches.{Cached}
-use Rattle.laws_midway.proofs.growing.Laws.{last_page_has_a_number}
+use Rattle.directory.specs.laws_midway.proofs.growing.Laws.{last_page_has_a_number}
 use Rattle.page_seeking.specs.Parts.{IsListed, IsWithinPart, ListsNext}
 use Rattle.page_seeking.specs.Seeking.{Refused, file_length}
 use Rattle.pack_model.specs.operations.Committing.{page_of_byte}

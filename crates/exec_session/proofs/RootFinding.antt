@@ -9,11 +9,11 @@ use Rattle.disk_records.specs.declared.records.Page.{Page}
 use Rattle.directory.specs.Asked.{DirIsFound}
 use Rattle.directory.specs.Found.{IsAbsent, IsLookedUp}
 use Rattle.disk_descriptor.specs.Opening.{MayBeOpened}
-use Rattle.laws_contents.proofs.pages.Laws.{carried_once_is_in_place}
-use Rattle.laws_lookup.proofs.slots.Laws.{entry_at_is_the_entry_wanted}
-use Rattle.laws_lookup.proofs.sources.Laws.{looked_up_file_is_found}
+use Rattle.directory.specs.laws_contents.proofs.pages.Laws.{carried_once_is_in_place}
+use Rattle.directory.specs.laws_lookup.proofs.slots.Laws.{entry_at_is_the_entry_wanted}
+use Rattle.directory.specs.laws_lookup.proofs.sources.Laws.{looked_up_file_is_found}
 use Rattle.laws_operation.proofs.places.Laws.{file_lives_in_a_place}
-use Rattle.pack_laws.proofs.Keys.{same_fid}
+use Rattle.directory.specs.pack_laws.proofs.Keys.{same_fid}
 use Rattle.pack_model.specs.hints.Links.{dir_slots, dir_words}
 use Rattle.pack_model.specs.hints.Misled.{leader_page}
 use Rattle.pack_model.specs.reading.Lookup.{EntryAt, entered, entry_at}

@@ -14,7 +14,7 @@ use Rattle.exec_words.specs.declared.reply.Refusal.{Refusal}
 use Rattle.exec_words.specs.declared.reply.Refusal.TheVariants as refusal
 use Rattle.laws_hint.proofs.meanings.Laws.{whole_pack_has_one_kind_of_true_table}
 use Rattle.laws_hint.specs.MapMeanings.{HasEachSector}
-use Rattle.laws_room.proofs.rooms.Laws.{free_is_the_room, free_sectors_are_those_found}
+use Rattle.directory.specs.laws_room.proofs.rooms.Laws.{free_is_the_room, free_sectors_are_those_found}
 use Rattle.pack_model.specs.hints.Tables.{TableTrue}
 use Rattle.pack_model.specs.reading.Model.{read_as, room}
 use Rattle.pack_model.specs.states.Sound.{Sound}

@@ -9,10 +9,10 @@ use Rattle.hint_cache.specs.Caches.{Cached}
 use Rattle.hint_cache.specs.declared.hints.Hints.{Hints}
 use Rattle.disk_descriptor.specs.declared.errors.OpenError.{OpenError}
 use Rattle.disk_descriptor.specs.declared.errors.OpenError.TheVariants as error
-use Rattle.laws_contents.proofs.pages.Laws.{formed_pages_have_256_words}
+use Rattle.directory.specs.laws_contents.proofs.pages.Laws.{formed_pages_have_256_words}
 use Rattle.laws_hint.proofs.truth.Laws.{truth_at_opening}
 use Rattle.laws_hint.specs.MapMeanings.{HasEachSector}
-use Rattle.laws_lookup.proofs.hints.Laws.{true_hints_never_mislead}
+use Rattle.directory.specs.laws_lookup.proofs.hints.Laws.{true_hints_never_mislead}
 use Rattle.laws_session.proofs.begins.Laws.{fresh_memory_is_kept, sessions_begin, sound_packs_are_ready}
 use Rattle.laws_session.proofs.ends.Laws.{sound_packs_begin}
 use Rattle.laws_session.proofs.zones.Laws.{fresh_worlds_have_a_memory, zones_read_back}
@@ -27,7 +27,7 @@ use Rattle.session_model.specs.Opening.{Begun, Renewed, Unready, goes_on, not_cl
 use Rattle.session_model.specs.Streams.{Stream}
 use Rattle.session_model.specs.Turning.{State}
 use Rattle.session_model.specs.Worlds.{fresh_world, memory_words, mended_world}
-use Rattle.world_model.specs.Levels.{IsAtLevel, all_levels}
+use Rattle.laws_steps.specs.world_model.specs.Levels.{IsAtLevel, all_levels}
 use Rattle.exec_session.specs.Meant.{kept}
 use Rattle.exec_session.specs.Opens.{IsFresh, Mended, Refuses, RenewsNot}
 use Rattle.exec_session.specs.declared.session.Session.{Session}

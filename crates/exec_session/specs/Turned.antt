@@ -6,7 +6,7 @@ use Rattle.exec_words.specs.declared.line.Line.{Line}
 use Rattle.exec_words.specs.declared.reply.Refusal.{Refusal}
 use Rattle.exec_words.specs.declared.reply.Reply.{Reply}
 use Rattle.exec_words.specs.declared.reply.Reply.TheVariants as reply
-use Rattle.laws_lookup.specs.HintLaws.{HasFullValues}
+use Rattle.directory.specs.laws_lookup.specs.HintLaws.{HasFullValues}
 use Rattle.laws_session.specs.LineAnswers.{GoesOnWith}
 use Rattle.pack_model.specs.hints.Tables.{TableTrue}
 use Rattle.pack_model.specs.hints.Truth.{Truthful}

@@ -8,7 +8,7 @@ use Rattle.disk_records.specs.Tapes.{Taped, added}
 use Rattle.disk_records.specs.declared.records.Event.{Event}
 use Rattle.disk_records.specs.declared.records.Page.{Page}
 use Rattle.disk_records.specs.declared.records.Place.{Place}
-use Rattle.laws_call.specs.Acting.{Around, IsQuiet, Operates, begun, refused}
+use Rattle.exec_session.specs.laws_call.specs.Acting.{Around, IsQuiet, Operates, begun, refused}
 use Rattle.page_seeking.specs.Causes.{cause_of_length}
 use Rattle.page_seeking.specs.Refs as refs
 use Rattle.page_seeking.specs.Refs.{MisledBy}

@@ -7,11 +7,11 @@ use Rattle.disk_records.specs.Packs.{Pack}
 use Rattle.disk_records.specs.Tapes.{DiskAlone, Taped, added, capped, pack}
 use Rattle.disk_records.specs.declared.records.Place.{Place}
 use Rattle.disk_records.specs.declared.records.Tally.{Tally}
-use Rattle.hint_cache.specs.declared.hints.Hints.{Hints}
-use Rattle.laws_call.proofs.counts.Laws.{count_of_a_call}
-use Rattle.laws_call.specs.Acting.{Operates, around}
-use Rattle.laws_midway.proofs.found.Laws.{found_file_lives}
-use Rattle.laws_steps.specs.LineKeepingLaws.{StaysFoundOver}
+use Rattle.exec_session.specs.hint_cache.specs.declared.hints.Hints.{Hints}
+use Rattle.exec_session.specs.laws_call.proofs.counts.Laws.{count_of_a_call}
+use Rattle.exec_session.specs.laws_call.specs.Acting.{Operates, around}
+use Rattle.exec_session.specs.laws_midway.proofs.found.Laws.{found_file_lives}
+use Rattle.exec_session.specs.laws_steps.specs.LineKeepingLaws.{StaysFoundOver}
 use Rattle.page_seeking.specs.Refs.{FileIsFrom}
 use Rattle.page_seeking.specs.declared.refs.FileRef.{FileRef}
 use Rattle.pack_model.specs.hints.Misled.{AnswersMisled}

@@ -4,7 +4,7 @@ use Rattle.disk_records.specs.Events.{IsFirstOf}
 use Rattle.disk_records.specs.Packs.{Pack, after}
 use Rattle.disk_records.specs.declared.records.Event.{Event}
 use Rattle.disk_records.specs.declared.records.Tally.{Tally}
-use Rattle.laws_steps.proofs.runs.Laws as runs
+use Rattle.exec_session.specs.laws_steps.proofs.runs.Laws as runs
 use Rattle.pack_model.specs.operations.Operations.Move.{commits, mends, quiet}
 use Rattle.pack_model.specs.operations.Operations.{Move}
 use Rattle.pack_model.specs.sessions.Moves.{Meaning, Obeys, rest, steps, write}

@@ -10,18 +10,18 @@ use Rattle.alto_words.specs.declared.wanted.Wanted.TheVariants.{Exact}
 use Rattle.disk_records.specs.Packs.{Pack}
 use Rattle.directory.specs.Asked.{DirStands}
 use Rattle.directory.specs.Places.{HasNoRoom, IsTaken}
-use Rattle.laws_line.proofs.after.Laws.{directories_are_read}
-use Rattle.laws_line.specs.AfterLaws.{IsDirectory}
-use Rattle.laws_line.specs.Ready.{steps_of}
-use Rattle.laws_lookup.proofs.names.Laws.{slots_stay}
-use Rattle.laws_lookup.proofs.slots.Laws.{lookup_is_the_models}
-use Rattle.laws_midway.proofs.rooms.Laws.{room_is_found_in_a_run}
-use Rattle.laws_operation.proofs.entries.Laws.{items_are_slots}
-use Rattle.laws_operation.proofs.places.Laws.{model_has_the_living}
-use Rattle.laws_record.proofs.DirReads.{not_descriptor}
+use Rattle.exec_session.specs.laws_line.proofs.after.Laws.{directories_are_read}
+use Rattle.exec_session.specs.laws_line.specs.AfterLaws.{IsDirectory}
+use Rattle.exec_session.specs.laws_line.specs.Ready.{steps_of}
+use Rattle.exec_session.specs.laws_lookup.proofs.names.Laws.{slots_stay}
+use Rattle.exec_session.specs.laws_lookup.proofs.slots.Laws.{lookup_is_the_models}
+use Rattle.exec_session.specs.laws_midway.proofs.rooms.Laws.{room_is_found_in_a_run}
+use Rattle.exec_session.specs.laws_operation.proofs.entries.Laws.{items_are_slots}
+use Rattle.exec_session.specs.laws_operation.proofs.places.Laws.{model_has_the_living}
+use Rattle.exec_session.specs.laws_record.proofs.DirReads.{not_descriptor}
 use Rattle.page_seeking.specs.declared.refs.FileRef.{FileRef}
-use Rattle.pack_laws.proofs.Keys.{fid_same, fid_total, same_fid}
-use Rattle.pack_laws.proofs.Mapping.{get-update}
+use Rattle.exec_session.specs.pack_laws.proofs.Keys.{fid_same, fid_total, same_fid}
+use Rattle.exec_session.specs.pack_laws.proofs.Mapping.{get-update}
 use Rattle.pack_model.specs.operations.Rooms.{find_room, largest_run}
 use Rattle.pack_model.specs.operations.Step.Operation.{make, widen}
 use Rattle.pack_model.specs.operations.Step.{body_slots, on_items, step}

@@ -6,7 +6,7 @@ use Rattle.disk_records.specs.Packs.{Pack}
 use Rattle.disk_records.specs.Tapes.{Taped, pack}
 use Rattle.file_pages.specs.Calls.{StaysHandy}
 use Rattle.file_pages.specs.Growing.{MayBeGrown, of_file}
-use Rattle.hint_cache.specs.Caches.{Cached}
+use Rattle.exec_session.specs.hint_cache.specs.Caches.{Cached}
 use Rattle.page_seeking.specs.Seeking.{NamedNearEnd, file_length}
 use Rattle.page_seeking.specs.declared.refs.FileRef.{FileRef}
 use Rattle.pack_model.specs.operations.Committing.{pages_added}

@@ -8,12 +8,12 @@ use Rattle.disk_records.proofs.FirstOnes.{first_all}
 use Rattle.disk_records.specs.Packs.{Pack}
 use Rattle.disk_records.specs.Tapes.{Taped, added, pack}
 use Rattle.disk_records.specs.declared.records.Event.{Event}
-use Rattle.laws_call.proofs.going.Laws.{line_stops}
-use Rattle.laws_call.specs.Going.{Goes}
-use Rattle.laws_line.specs.Ready.{steps_of}
-use Rattle.laws_steps.proofs.lines.Laws.{later_keeps_found, none_keeps_found}
-use Rattle.laws_steps.specs.LineKeepingLaws.{KeepsFound}
-use Rattle.pack_laws.proofs.Moving.{start_self}
+use Rattle.exec_session.specs.laws_call.proofs.going.Laws.{line_stops}
+use Rattle.exec_session.specs.laws_call.specs.Going.{Goes}
+use Rattle.exec_session.specs.laws_line.specs.Ready.{steps_of}
+use Rattle.exec_session.specs.laws_steps.proofs.lines.Laws.{later_keeps_found, none_keeps_found}
+use Rattle.exec_session.specs.laws_steps.specs.LineKeepingLaws.{KeepsFound}
+use Rattle.exec_session.specs.pack_laws.proofs.Moving.{start_self}
 use Rattle.pack_model.specs.operations.Committing.{moves_of_all}
 use Rattle.pack_model.specs.operations.Operations.{Move}
 use Rattle.pack_model.specs.operations.Step.{Operation}

@@ -9,23 +9,23 @@ use Rattle.disk_records.specs.Commands.{value_writes}
 use Rattle.disk_records.specs.Packs.{Pack, after, sector_at}
 use Rattle.disk_records.specs.Tapes.{DiskAlone, Taped, added, pack}
 use Rattle.disk_records.specs.declared.records.Tally.{Tally}
-use Rattle.exec_words.specs.declared.line.Line.{Line}
-use Rattle.exec_words.specs.declared.reply.Reply.{Reply}
-use Rattle.laws_call.proofs.going.Laws.{line_stops as calls_stop}
-use Rattle.laws_call.proofs.sound.Laws.{calls_on_a_sound_pack}
-use Rattle.laws_call.specs.Going.{Goes}
-use Rattle.laws_call.specs.SoundCalls.{LineFits}
-use Rattle.laws_hint.proofs.tables.Laws.{table_without_reserved}
-use Rattle.laws_hint.specs.LineLinks.{opening_writes}
-use Rattle.laws_line.proofs.parts.Laws.{line_moves_lead_to_the_model}
-use Rattle.laws_line.specs.Ready.{steps_of}
-use Rattle.laws_line.specs.SoundLines.{LineOnSound}
-use Rattle.laws_line.specs.SoundParts.{BreaksOnSound}
-use Rattle.laws_lookup.proofs.hints.Laws.{true_hints_never_mislead}
-use Rattle.laws_session.proofs.ends.Laws.{failed_turns_keep}
-use Rattle.laws_session.proofs.lines.Laws.{lines_on_a_sound_pack_answer, prefixes_answer}
-use Rattle.laws_session.specs.LineAnswers.{PrefixAnswers, plain_state, state_in_need}
-use Rattle.pack_laws.proofs.Moving.{start_self}
+use Rattle.exec_session.specs.exec_words.specs.declared.line.Line.{Line}
+use Rattle.exec_session.specs.exec_words.specs.declared.reply.Reply.{Reply}
+use Rattle.exec_session.specs.laws_call.proofs.going.Laws.{line_stops as calls_stop}
+use Rattle.exec_session.specs.laws_call.proofs.sound.Laws.{calls_on_a_sound_pack}
+use Rattle.exec_session.specs.laws_call.specs.Going.{Goes}
+use Rattle.exec_session.specs.laws_call.specs.SoundCalls.{LineFits}
+use Rattle.exec_session.specs.laws_hint.proofs.tables.Laws.{table_without_reserved}
+use Rattle.exec_session.specs.laws_hint.specs.LineLinks.{opening_writes}
+use Rattle.exec_session.specs.laws_line.proofs.parts.Laws.{line_moves_lead_to_the_model}
+use Rattle.exec_session.specs.laws_line.specs.Ready.{steps_of}
+use Rattle.exec_session.specs.laws_line.specs.SoundLines.{LineOnSound}
+use Rattle.exec_session.specs.laws_line.specs.SoundParts.{BreaksOnSound}
+use Rattle.exec_session.specs.laws_lookup.proofs.hints.Laws.{true_hints_never_mislead}
+use Rattle.exec_session.specs.laws_session.proofs.ends.Laws.{failed_turns_keep}
+use Rattle.exec_session.specs.laws_session.proofs.lines.Laws.{lines_on_a_sound_pack_answer, prefixes_answer}
+use Rattle.exec_session.specs.laws_session.specs.LineAnswers.{PrefixAnswers, plain_state, state_in_need}
+use Rattle.exec_session.specs.pack_laws.proofs.Moving.{start_self}
 use Rattle.pack_model.specs.hints.Links.{LinksTrue}
 use Rattle.pack_model.specs.hints.Sources.{IsFrom}
 use Rattle.pack_model.specs.operations.Committing.{line_moves, moves_of_all, open_moves}

@@ -8,13 +8,13 @@ use Rattle.disk_records.specs.Packs.{Pack, carried}
 use Rattle.disk_records.specs.Tapes.{Taped, pack}
 use Rattle.disk_records.specs.declared.records.Place.{Place}
 use Rattle.disk_records.specs.declared.records.Place.TheVariants.{Held}
-use Rattle.laws_line.specs.Ready.{steps_of}
-use Rattle.laws_operation.proofs.make.Laws.{make_leaves_no_name}
-use Rattle.laws_operation.proofs.places.Laws.{file_lives_in_a_place}
-use Rattle.laws_steps.specs.LineKeepingLaws.{StaysFoundOver}
+use Rattle.exec_session.specs.laws_line.specs.Ready.{steps_of}
+use Rattle.exec_session.specs.laws_operation.proofs.make.Laws.{make_leaves_no_name}
+use Rattle.exec_session.specs.laws_operation.proofs.places.Laws.{file_lives_in_a_place}
+use Rattle.exec_session.specs.laws_steps.specs.LineKeepingLaws.{StaysFoundOver}
 use Rattle.page_seeking.specs.Refs.{FileIsFrom}
-use Rattle.pack_laws.proofs.Keys.{same_fid}
-use Rattle.pack_laws.proofs.files.Laws.{places_are_lowest}
+use Rattle.exec_session.specs.pack_laws.proofs.Keys.{same_fid}
+use Rattle.exec_session.specs.pack_laws.proofs.files.Laws.{places_are_lowest}
 use Rattle.pack_model.specs.hints.Misled.{leader_page}
 use Rattle.pack_model.specs.operations.Rooms.{largest_run}
 use Rattle.pack_model.specs.operations.Step.Operation.{enter, make}

@@ -15,11 +15,11 @@ use Rattle.disk_descriptor.specs.Writing.{Writes}
 use Rattle.disk_descriptor.specs.declared.errors.DescError.{DescError}
 use Rattle.disk_descriptor.specs.declared.errors.DescError.TheVariants as desc
 use Rattle.file_pages.specs.Calls.{MayBeMade}
-use Rattle.hint_cache.specs.declared.hints.Hints.{Hints}
-use Rattle.laws_call.proofs.counts.Laws.{count_of_a_call}
-use Rattle.laws_call.specs.Acting.{Operates, around}
-use Rattle.laws_line.specs.CrashLaws.{with_serial}
-use Rattle.laws_operation.specs.FileWords.{CanMake}
+use Rattle.exec_session.specs.hint_cache.specs.declared.hints.Hints.{Hints}
+use Rattle.exec_session.specs.laws_call.proofs.counts.Laws.{count_of_a_call}
+use Rattle.exec_session.specs.laws_call.specs.Acting.{Operates, around}
+use Rattle.exec_session.specs.laws_line.specs.CrashLaws.{with_serial}
+use Rattle.exec_session.specs.laws_operation.specs.FileWords.{CanMake}
 use Rattle.page_seeking.specs.Causes.{cause_of_length}
 use Rattle.page_seeking.specs.Refs as refs
 use Rattle.page_seeking.specs.declared.refs.FileError.{FileError}

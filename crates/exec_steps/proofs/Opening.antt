@@ -7,25 +7,25 @@ use Rattle.disk_records.specs.Events.{writes_in}
 use Rattle.disk_records.specs.Packs.{Pack, after, is_free_at, sector_at}
 use Rattle.disk_records.specs.Tapes.{Grown, Taped, added, capped, pack}
 use Rattle.disk_records.specs.declared.records.Event.{Event}
-use Rattle.laws_call.proofs.counts.Laws.{quiet_call_is_counted}
-use Rattle.laws_call.specs.Acting.{around}
-use Rattle.laws_call.specs.CountLaws.{CountedSoFar, CountsOn}
-use Rattle.laws_hint.proofs.changes.Laws.{descriptor_writes_leave_the_map}
-use Rattle.laws_hint.specs.LineLinks.{opening_writes}
-use Rattle.laws_hint.specs.MapChanges.{marked}
-use Rattle.laws_hint.specs.TableLaws.{TableReserves}
-use Rattle.laws_line.specs.CrashLaws.{over}
-use Rattle.laws_lookup.proofs.others.Laws.{place_is_of_its_file}
-use Rattle.laws_lookup.proofs.stays.Laws.{values_misled_before}
-use Rattle.laws_lookup.specs.StayLaws.{MisledBefore}
-use Rattle.laws_operation.proofs.descriptor.Laws.{open_carries_out, open_keeps_links}
-use Rattle.laws_operation.proofs.values.Laws.{values_leave_free_sectors}
-use Rattle.laws_operation.specs.DescriptorLaws.{OpensMark}
-use Rattle.laws_operation.specs.FreeLaws.{SameFree}
-use Rattle.laws_operation.specs.LinkLaws.{KeepsLinks}
-use Rattle.laws_steps.proofs.keeping.Laws.{opening_keeps_found}
-use Rattle.laws_steps.specs.LineKeepingLaws.{KeepsFound}
-use Rattle.pack_laws.specs.TallyLaws.{operations_in}
+use Rattle.exec_session.specs.laws_call.proofs.counts.Laws.{quiet_call_is_counted}
+use Rattle.exec_session.specs.laws_call.specs.Acting.{around}
+use Rattle.exec_session.specs.laws_call.specs.CountLaws.{CountedSoFar, CountsOn}
+use Rattle.exec_session.specs.laws_hint.proofs.changes.Laws.{descriptor_writes_leave_the_map}
+use Rattle.exec_session.specs.laws_hint.specs.LineLinks.{opening_writes}
+use Rattle.exec_session.specs.laws_hint.specs.MapChanges.{marked}
+use Rattle.exec_session.specs.laws_hint.specs.TableLaws.{TableReserves}
+use Rattle.exec_session.specs.laws_line.specs.CrashLaws.{over}
+use Rattle.exec_session.specs.laws_lookup.proofs.others.Laws.{place_is_of_its_file}
+use Rattle.exec_session.specs.laws_lookup.proofs.stays.Laws.{values_misled_before}
+use Rattle.exec_session.specs.laws_lookup.specs.StayLaws.{MisledBefore}
+use Rattle.exec_session.specs.laws_operation.proofs.descriptor.Laws.{open_carries_out, open_keeps_links}
+use Rattle.exec_session.specs.laws_operation.proofs.values.Laws.{values_leave_free_sectors}
+use Rattle.exec_session.specs.laws_operation.specs.DescriptorLaws.{OpensMark}
+use Rattle.exec_session.specs.laws_operation.specs.FreeLaws.{SameFree}
+use Rattle.exec_session.specs.laws_operation.specs.LinkLaws.{KeepsLinks}
+use Rattle.exec_session.specs.laws_steps.proofs.keeping.Laws.{opening_keeps_found}
+use Rattle.exec_session.specs.laws_steps.specs.LineKeepingLaws.{KeepsFound}
+use Rattle.exec_session.specs.pack_laws.specs.TallyLaws.{operations_in}
 use Rattle.pack_model.specs.hints.Sources.{IsFrom}
 use Rattle.pack_model.specs.hints.Tables.{TableTrue, true_table}
 use Rattle.pack_model.specs.operations.Committing.{open_moves}

@@ -5,15 +5,15 @@ use Rattle.alto_words.specs.declared.fid.Fid.{Fid}
 use Rattle.disk_records.specs.Packs.{Pack, is_free_at, sector_at}
 use Rattle.disk_records.specs.Words.{word}
 use Rattle.disk_records.specs.declared.records.Event.{Event}
-use Rattle.laws_call.proofs.writing.Laws.{written_acts}
-use Rattle.laws_call.specs.Writing.{makes}
-use Rattle.laws_line.specs.CrashLaws.{StaysMendable, with_serial}
-use Rattle.laws_operation.proofs.descriptor.Laws.{serial_carries_out}
-use Rattle.laws_operation.proofs.places.Laws.{serial_keeps_places}
-use Rattle.laws_operation.proofs.values.Laws.{values_leave_free_sectors}
-use Rattle.laws_operation.specs.DescriptorLaws.{GivesSerial}
-use Rattle.laws_operation.specs.FileWords.{CanMake}
-use Rattle.pack_laws.proofs.Keys.{same_fid}
+use Rattle.exec_session.specs.laws_call.proofs.writing.Laws.{written_acts}
+use Rattle.exec_session.specs.laws_call.specs.Writing.{makes}
+use Rattle.exec_session.specs.laws_line.specs.CrashLaws.{StaysMendable, with_serial}
+use Rattle.exec_session.specs.laws_operation.proofs.descriptor.Laws.{serial_carries_out}
+use Rattle.exec_session.specs.laws_operation.proofs.places.Laws.{serial_keeps_places}
+use Rattle.exec_session.specs.laws_operation.proofs.values.Laws.{values_leave_free_sectors}
+use Rattle.exec_session.specs.laws_operation.specs.DescriptorLaws.{GivesSerial}
+use Rattle.exec_session.specs.laws_operation.specs.FileWords.{CanMake}
+use Rattle.exec_session.specs.pack_laws.proofs.Keys.{same_fid}
 use Rattle.pack_model.specs.operations.Commands.{first_page_claim, leader_claim}
 use Rattle.pack_model.specs.operations.Operations.{make_writes}
 use Rattle.pack_model.specs.operations.Step.Operation.{make}

@@ -13,34 +13,34 @@ use Rattle.disk_records.specs.Tapes.{Grown, Taped, added, pack}
 use Rattle.disk_records.specs.Words.{word}
 use Rattle.disk_records.specs.declared.records.Event.{Event}
 use Rattle.disk_records.specs.declared.records.Tally.{Tally}
-use Rattle.laws_call.proofs.counts.Laws.{call_is_counted, call_is_counted_on, quiet_call_is_counted}
-use Rattle.laws_call.proofs.going.Laws.{serial_and_make_join}
-use Rattle.laws_call.proofs.writing.Laws.{written_stays_known}
-use Rattle.laws_call.specs.Acting.{BeganToWrite, Operates, around, begun, refused}
-use Rattle.laws_call.specs.CountLaws.{CountedSoFar, CountsOn}
-use Rattle.laws_call.specs.Going.{Goes}
-use Rattle.laws_call.specs.GoingLaws.{MakeJoins}
-use Rattle.laws_call.specs.Writing.{Written}
-use Rattle.laws_hint.proofs.changes.Laws.{descriptor_writes_leave_the_map}
-use Rattle.laws_hint.proofs.lines.Laws.{links_join}
-use Rattle.laws_hint.proofs.tables.Laws.{operations_use_the_table, reserved_in_any_order}
-use Rattle.laws_hint.specs.LineLinks.{opening_writes}
-use Rattle.laws_hint.specs.MapChanges.{marked}
-use Rattle.laws_hint.specs.TableLaws.{TableReserves}
-use Rattle.laws_line.proofs.fits.Laws.{descriptor_fits_on}
-use Rattle.laws_line.specs.CrashLaws.{Batch, StaysMendable, with_serial}
-use Rattle.laws_lookup.proofs.others.Laws.{place_is_of_its_file}
-use Rattle.laws_lookup.proofs.stays.Laws.{values_misled_before}
-use Rattle.laws_lookup.specs.StayLaws.{MisledBefore}
-use Rattle.laws_midway.proofs.lines.Laws.{later_misled_before}
-use Rattle.laws_operation.proofs.descriptor.Laws.{serial_carries_out, serial_keeps_links}
-use Rattle.laws_operation.proofs.values.Laws.{values_leave_free_sectors}
-use Rattle.laws_operation.specs.DescriptorLaws.{GivesSerial}
-use Rattle.laws_operation.specs.LinkLaws.{KeepsLinks}
-use Rattle.laws_steps.proofs.lines.Laws.{make_keeps_found}
-use Rattle.laws_steps.specs.LineKeepingLaws.{KeepsFound}
-use Rattle.pack_laws.proofs.Moving.{start_self}
-use Rattle.pack_laws.proofs.tallies.Laws.{tallies_join}
+use Rattle.exec_session.specs.laws_call.proofs.counts.Laws.{call_is_counted, call_is_counted_on, quiet_call_is_counted}
+use Rattle.exec_session.specs.laws_call.proofs.going.Laws.{serial_and_make_join}
+use Rattle.exec_session.specs.laws_call.proofs.writing.Laws.{written_stays_known}
+use Rattle.exec_session.specs.laws_call.specs.Acting.{BeganToWrite, Operates, around, begun, refused}
+use Rattle.exec_session.specs.laws_call.specs.CountLaws.{CountedSoFar, CountsOn}
+use Rattle.exec_session.specs.laws_call.specs.Going.{Goes}
+use Rattle.exec_session.specs.laws_call.specs.GoingLaws.{MakeJoins}
+use Rattle.exec_session.specs.laws_call.specs.Writing.{Written}
+use Rattle.exec_session.specs.laws_hint.proofs.changes.Laws.{descriptor_writes_leave_the_map}
+use Rattle.exec_session.specs.laws_hint.proofs.lines.Laws.{links_join}
+use Rattle.exec_session.specs.laws_hint.proofs.tables.Laws.{operations_use_the_table, reserved_in_any_order}
+use Rattle.exec_session.specs.laws_hint.specs.LineLinks.{opening_writes}
+use Rattle.exec_session.specs.laws_hint.specs.MapChanges.{marked}
+use Rattle.exec_session.specs.laws_hint.specs.TableLaws.{TableReserves}
+use Rattle.exec_session.specs.laws_line.proofs.fits.Laws.{descriptor_fits_on}
+use Rattle.exec_session.specs.laws_line.specs.CrashLaws.{Batch, StaysMendable, with_serial}
+use Rattle.exec_session.specs.laws_lookup.proofs.others.Laws.{place_is_of_its_file}
+use Rattle.exec_session.specs.laws_lookup.proofs.stays.Laws.{values_misled_before}
+use Rattle.exec_session.specs.laws_lookup.specs.StayLaws.{MisledBefore}
+use Rattle.exec_session.specs.laws_midway.proofs.lines.Laws.{later_misled_before}
+use Rattle.exec_session.specs.laws_operation.proofs.descriptor.Laws.{serial_carries_out, serial_keeps_links}
+use Rattle.exec_session.specs.laws_operation.proofs.values.Laws.{values_leave_free_sectors}
+use Rattle.exec_session.specs.laws_operation.specs.DescriptorLaws.{GivesSerial}
+use Rattle.exec_session.specs.laws_operation.specs.LinkLaws.{KeepsLinks}
+use Rattle.exec_session.specs.laws_steps.proofs.lines.Laws.{make_keeps_found}
+use Rattle.exec_session.specs.laws_steps.specs.LineKeepingLaws.{KeepsFound}
+use Rattle.exec_session.specs.pack_laws.proofs.Moving.{start_self}
+use Rattle.exec_session.specs.pack_laws.proofs.tallies.Laws.{tallies_join}
 use Rattle.pack_model.specs.hints.Tables.{TableTrue, true_table}
 use Rattle.pack_model.specs.operations.Committing.{moves_of}
 use Rattle.pack_model.specs.operations.Operations.Move.{quiet}

@@ -12,25 +12,25 @@ use Rattle.disk_records.specs.declared.records.Event.{Event}
 use Rattle.disk_records.specs.declared.records.Page.{Page}
 use Rattle.disk_records.specs.declared.records.Place.{Place}
 use Rattle.disk_records.specs.declared.records.Tally.{Tally}
-use Rattle.laws_call.proofs.counts.Laws.{call_is_counted, call_is_counted_on}
-use Rattle.laws_call.proofs.going.Laws.{call_joins}
-use Rattle.laws_call.proofs.writing.Laws.{written_stays_known}
-use Rattle.laws_call.specs.Acting.{BeganToWrite, Operates, around, begun, refused}
-use Rattle.laws_call.specs.CountLaws.{CountedSoFar}
-use Rattle.laws_call.specs.Going.{Goes}
-use Rattle.laws_hint.proofs.lines.Laws.{links_join}
-use Rattle.laws_hint.proofs.tables.Laws.{operations_use_the_table}
-use Rattle.laws_hint.specs.LineLinks.{opening_writes}
-use Rattle.laws_hint.specs.TableLaws.{TableReserves}
-use Rattle.laws_line.specs.CrashLaws.{Batch}
-use Rattle.laws_line.specs.Ready.{steps_of}
-use Rattle.laws_lookup.specs.StayLaws.{MisledBefore}
-use Rattle.laws_midway.proofs.lines.Laws.{later_answer_misled_before, later_misled_before}
-use Rattle.laws_operation.specs.FreeLaws.{StayFreeBut}
-use Rattle.laws_operation.specs.LinkLaws.{KeepsLinks}
-use Rattle.laws_steps.proofs.lines.Laws.{one_call_keeps_found}
-use Rattle.laws_steps.specs.LineKeepingLaws.{KeepsFound}
-use Rattle.pack_laws.proofs.Moving.{start_self}
+use Rattle.exec_session.specs.laws_call.proofs.counts.Laws.{call_is_counted, call_is_counted_on}
+use Rattle.exec_session.specs.laws_call.proofs.going.Laws.{call_joins}
+use Rattle.exec_session.specs.laws_call.proofs.writing.Laws.{written_stays_known}
+use Rattle.exec_session.specs.laws_call.specs.Acting.{BeganToWrite, Operates, around, begun, refused}
+use Rattle.exec_session.specs.laws_call.specs.CountLaws.{CountedSoFar}
+use Rattle.exec_session.specs.laws_call.specs.Going.{Goes}
+use Rattle.exec_session.specs.laws_hint.proofs.lines.Laws.{links_join}
+use Rattle.exec_session.specs.laws_hint.proofs.tables.Laws.{operations_use_the_table}
+use Rattle.exec_session.specs.laws_hint.specs.LineLinks.{opening_writes}
+use Rattle.exec_session.specs.laws_hint.specs.TableLaws.{TableReserves}
+use Rattle.exec_session.specs.laws_line.specs.CrashLaws.{Batch}
+use Rattle.exec_session.specs.laws_line.specs.Ready.{steps_of}
+use Rattle.exec_session.specs.laws_lookup.specs.StayLaws.{MisledBefore}
+use Rattle.exec_session.specs.laws_midway.proofs.lines.Laws.{later_answer_misled_before, later_misled_before}
+use Rattle.exec_session.specs.laws_operation.specs.FreeLaws.{StayFreeBut}
+use Rattle.exec_session.specs.laws_operation.specs.LinkLaws.{KeepsLinks}
+use Rattle.exec_session.specs.laws_steps.proofs.lines.Laws.{one_call_keeps_found}
+use Rattle.exec_session.specs.laws_steps.specs.LineKeepingLaws.{KeepsFound}
+use Rattle.exec_session.specs.pack_laws.proofs.Moving.{start_self}
 use Rattle.pack_model.specs.hints.Misled.{AnswersMisled}
 use Rattle.pack_model.specs.operations.Committing.{moves_of, moves_of_all, open_moves, serial_moves}
 use Rattle.pack_model.specs.operations.Operations.{Move}

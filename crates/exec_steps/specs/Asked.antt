@@ -6,9 +6,9 @@ use Rattle.alto_words.specs.Names.{is_stored_name}
 use Rattle.disk_records.specs.Packs.{Pack}
 use Rattle.disk_records.specs.declared.records.Place.TheVariants.{Held}
 use Rattle.directory.specs.Asked.{DirStands}
-use Rattle.laws_lookup.specs.EnteringLaws.{IsEnterable}
-use Rattle.laws_operation.specs.ByteLaws.{IsOrdinary}
-use Rattle.laws_operation.specs.EntryLaws.{IsOpenTo}
+use Rattle.exec_session.specs.laws_lookup.specs.EnteringLaws.{IsEnterable}
+use Rattle.exec_session.specs.laws_operation.specs.ByteLaws.{IsOrdinary}
+use Rattle.exec_session.specs.laws_operation.specs.EntryLaws.{IsOpenTo}
 use Rattle.page_seeking.specs.Refs.{FileStands}
 use Rattle.page_seeking.specs.Seeking.{file_length}
 use Rattle.page_seeking.specs.declared.refs.FileRef.{FileRef}
@@ -21,7 +21,7 @@ use Rattle.pack_model.specs.reading.Model.{read_as, dir_items, is_named}
 use Rattle.pack_model.specs.reading.Sights.{sights}
 use Rattle.pack_model.specs.reading.Slots.{entry_length}
 use Rattle.pack_model.specs.reading.Versions.{exact}
-use Rattle.laws_line.specs.Ready.{steps_of}
+use Rattle.exec_session.specs.laws_line.specs.Ready.{steps_of}
 use Rattle.pack_model.specs.sessions.Descriptor.{DescriptorFits}
 use Rattle.pack_model.specs.states.Whole.{Tidy, Whole}
 use Rattle.session_model.specs.Effects.{widenings}

@@ -2,8 +2,8 @@
 use Rattle.std.specs.Prelude.{◌≡◌, ℕ, List, [], ◌++◌, Result, Err}
 use Rattle.alto_words.specs.declared.fid.Fid.{Fid}
 use Rattle.disk_records.specs.Tapes.{DiskAlone, Taped, added, pack}
-use Rattle.exec_words.specs.declared.line.Line.{Line}
-use Rattle.laws_call.specs.SoundCalls.{LineFits}
+use Rattle.exec_session.specs.exec_words.specs.declared.line.Line.{Line}
+use Rattle.exec_session.specs.laws_call.specs.SoundCalls.{LineFits}
 use Rattle.pack_model.specs.operations.Committing.{line_moves}
 use Rattle.pack_model.specs.operations.Operations.{Move}
 use Rattle.pack_model.specs.operations.Step.{Operation}

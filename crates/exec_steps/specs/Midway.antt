@@ -16,17 +16,17 @@ use Rattle.pack_model.specs.reading.Sights.{sights}
 use Rattle.pack_model.specs.sessions.Tallies.{Tells, counted}
 use Rattle.pack_model.specs.states.Sound.{Sound, mark_of, mark_open}
 use Rattle.pack_model.specs.states.Whole.{Whole, Tidy}
-use Rattle.laws_call.specs.Acting.{around}
-use Rattle.laws_call.specs.CountLaws.{CountedSoFar}
-use Rattle.laws_call.specs.Going.{Goes}
-use Rattle.laws_hint.specs.LineLinks.{opening_writes}
-use Rattle.laws_hint.specs.TableLaws.{TableReserves}
-use Rattle.laws_line.specs.CrashLaws.{Batch}
-use Rattle.laws_line.specs.Ready.{steps_of}
-use Rattle.laws_line.specs.SoundParts.{begun_moves}
-use Rattle.laws_lookup.specs.StayLaws.{MisledBefore}
-use Rattle.laws_operation.specs.LinkLaws.{KeepsLinks}
-use Rattle.laws_steps.specs.LineKeepingLaws.{KeepsFound}
+use Rattle.exec_session.specs.laws_call.specs.Acting.{around}
+use Rattle.exec_session.specs.laws_call.specs.CountLaws.{CountedSoFar}
+use Rattle.exec_session.specs.laws_call.specs.Going.{Goes}
+use Rattle.exec_session.specs.laws_hint.specs.LineLinks.{opening_writes}
+use Rattle.exec_session.specs.laws_hint.specs.TableLaws.{TableReserves}
+use Rattle.exec_session.specs.laws_line.specs.CrashLaws.{Batch}
+use Rattle.exec_session.specs.laws_line.specs.Ready.{steps_of}
+use Rattle.exec_session.specs.laws_line.specs.SoundParts.{begun_moves}
+use Rattle.exec_session.specs.laws_lookup.specs.StayLaws.{MisledBefore}
+use Rattle.exec_session.specs.laws_operation.specs.LinkLaws.{KeepsLinks}
+use Rattle.exec_session.specs.laws_steps.specs.LineKeepingLaws.{KeepsFound}
 use Rattle.session_model.specs.Keeping.{Kept}
 use Rattle.session_model.specs.Turning.{HintFailing}
 use Rattle.pack_model.specs.sessions.Descriptor.{DescriptorFits}

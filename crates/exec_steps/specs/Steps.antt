@@ -7,8 +7,8 @@ use Rattle.pack_model.specs.hints.Misled.{AnswersMisled}
 use Rattle.pack_model.specs.operations.Committing.{serial_moves}
 use Rattle.pack_model.specs.operations.Step.{Operation}
 use Rattle.pack_model.specs.sessions.Descriptor.{DescriptorFits}
-use Rattle.laws_call.specs.Acting.{Operates, around}
-use Rattle.laws_call.specs.CountLaws.{CountsOn}
+use Rattle.exec_session.specs.laws_call.specs.Acting.{Operates, around}
+use Rattle.exec_session.specs.laws_call.specs.CountLaws.{CountsOn}
 use Rattle.session_model.specs.Keeping.{Kept}
 use Rattle.exec_steps.specs.Midway.{Arrived, StepsOn}
 use Rattle.exec_session.specs.Meant.{IfHint}

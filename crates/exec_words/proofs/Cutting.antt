@@ -1,6 +1,6 @@
 -- Texts that are cut at the first such byte, and the words of a text.
-use Rattle.std.proofs.Common.{◌≡◌, ℕ, ◌+◌, ◌-◌, ◌<◌, ◌≤◌, Bool, true, false, cond, not, List, [], ◌∷◌, length, take, drop, Option, Some, None, position, refl, sym, ◌∙◌, ap, arith, nat_lt, length-drop, one-add, add-one}
-use Rattle.std.specs.List.{position_or_len, onto_first}
+use Rattle.std.proofs.Common.{◌≡◌, ℕ, ◌+◌, ◌-◌, ◌<◌, ◌≤◌, Bool, true, false, cond, not, ◌||◌, ◌==◌, List, [], ◌∷◌, length, take, drop, Option, Some, None, position, refl, sym, ◌∙◌, ap, arith, nat_lt, length-drop, one-add, add-one}
+use Rattle.std.specs.List.{position_or_len, list_any, onto_first}
 use Rattle.std.proofs.lemmas.List.{take_all}
 use Rattle.std.proofs.lemmas.Bool.{ltb-true, ltb-false}
 use Rattle.exec_words.specs.Grammar.{is_byte, before, after, words_in}
@@ -23,6 +23,13 @@ unfound n size e = by (nat_lt n size) refl e
     by : (b : Bool) → nat_lt n size ≡ b → None ≡ cond b (Some n) None → size ≤ n
     by true t f = let g : None ≡ Some n = f in cc
     by false t f = ltb-false n size t
+
+none_within : (n size : ℕ) → size ≤ n → None ≡ cond (nat_lt n size) (Some n) None
+none_within n size past = by (nat_lt n size) refl
+  where
+    by : (b : Bool) → nat_lt n size ≡ b → None ≡ cond b (Some n) None
+    by true t = absurd (omega (arith, ltb-true n size t, past))
+    by false t = refl
 
 module _ (byte : ℕ) where
   abbrev place : List ℕ → ℕ
@@ -54,6 +61,18 @@ module _ (byte : ℕ) where
       by : (b : Bool) → length (c ∷ text) ≤ cond (not b) (1 + place text) 0 → (length text ≤ place text → None ≡ after byte text) → None ≡ cond b (Some text) (after byte text)
       by true k more = absurd (omega (arith, k))
       by false k more = more (omega (arith, k))
+
+  -- no such byte is found where there is none
+  place_past : (text : List ℕ) → list_any (λ c. c == byte) text ≡ false → length text ≤ place text
+  place_past [] none = omega arith
+  place_past (c ∷ text) none = by (is_byte byte c) none (place_past text)
+    where
+      by : (b : Bool) → (b || list_any (λ x. x == byte) text) ≡ false → (list_any (λ x. x == byte) text ≡ false → length text ≤ place text) → length (c ∷ text) ≤ cond (not b) (1 + place text) 0
+      by true k more = absurd (let no : true ≡ false = k in cc)
+      by false k more = omega (arith, more k)
+
+  pub none_found : (text : List ℕ) → list_any (λ c. c == byte) text ≡ false → None ≡ position (is_byte byte) text
+  none_found text none = none_within (place text) (length text) (place_past text none)
 
   -- ---- where the first such byte is found, and where none is
   module _ (text : List ℕ) where

@@ -4,3 +4,6 @@ pub mod Laws
 pub mod Reading
 pub mod Texts
 pub mod Typed
+pub use Rattle.alto_words
+pub use Rattle.disk_records
+pub use Rattle.pack_model

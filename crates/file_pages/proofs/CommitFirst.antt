@@ -14,7 +14,7 @@ use Rattle.disk_records.specs.declared.records.Tally.{Tally}
 use Rattle.label_check.specs.Guarded.{Guarded}
 use Rattle.label_check.specs.declared.errors.GuardError.TheVariants as guard
 use Rattle.label_check.specs.declared.errors.GuardError.{GuardError}
-use Rattle.pack_laws.proofs.tallies.Laws.{count_tells_what_was_written}
+use Rattle.laws_call.specs.pack_laws.proofs.tallies.Laws.{count_tells_what_was_written}
 use Rattle.pack_model.specs.operations.Commands.{releases_writes}
 use Rattle.pack_model.specs.operations.Committing.{units}
 use Rattle.pack_model.specs.operations.Operations.Move.{commits, quiet}

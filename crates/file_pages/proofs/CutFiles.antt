@@ -15,14 +15,14 @@ use Rattle.label_check.specs.declared.errors.PageInfo.{PageInfo}
 use Rattle.laws_call.proofs.writing.Laws.{written_acts}
 use Rattle.laws_call.specs.Acting.{Operates, around, begun}
 use Rattle.laws_call.specs.Writing.{cuts}
-use Rattle.laws_contents.proofs.pages.Laws.{page_numbers_are_words}
+use Rattle.laws_call.specs.laws_contents.proofs.pages.Laws.{page_numbers_are_words}
 use Rattle.laws_hint.specs.MapChanges.{marked}
 use Rattle.laws_midway.proofs.cutting.Laws.{whole_file_may_be_cut}
 use Rattle.laws_midway.proofs.found.Laws.{found_file_lives}
 use Rattle.laws_operation.proofs.lengths.Laws.{full_page_is_not_the_last, placed_pages_are_those_up_to_the_last}
 use Rattle.laws_operation.specs.ByteLaws.{IsOrdinary}
 use Rattle.laws_operation.specs.FileWords.{CanCut}
-use Rattle.laws_record.proofs.Carried.{carried_place}
+use Rattle.laws_call.specs.laws_record.proofs.Carried.{carried_place}
 use Rattle.pack_model.specs.hints.Links.{no_link}
 use Rattle.pack_model.specs.operations.Commands.{cut_label}
 use Rattle.pack_model.specs.operations.Committing.{length_of, page_of_byte, pages_cut}

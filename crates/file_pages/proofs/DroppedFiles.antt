@@ -18,7 +18,7 @@ use Rattle.laws_lookup.proofs.others.Laws.{release_leaves_others}
 use Rattle.laws_midway.proofs.found.Laws.{found_file_lives}
 use Rattle.laws_operation.proofs.drop.Laws.{release_carries_out, release_keeps_links, release_takes_no_sector}
 use Rattle.laws_operation.specs.LifeLaws.{MayDrop}
-use Rattle.laws_record.proofs.Carried.{carried_place}
+use Rattle.laws_call.specs.laws_record.proofs.Carried.{carried_place}
 use Rattle.pack_model.specs.operations.Committing.{length_of, page_of_byte}
 use Rattle.pack_model.specs.operations.Operations.{release_file_writes}
 use Rattle.pack_model.specs.operations.Step.Operation.{drop_file}

@@ -12,8 +12,8 @@ use Rattle.label_check.specs.Guarded.{info_of}
 use Rattle.label_check.specs.declared.errors.PageInfo.{PageInfo}
 use Rattle.laws_operation.proofs.lengths.Laws.{full_page_is_not_the_last, length_by_the_last_page}
 use Rattle.laws_operation.proofs.places.Laws.{carried_in_place}
-use Rattle.laws_record.proofs.Copying.{place_carried}
-use Rattle.pack_laws.proofs.Sighted.{counted}
+use Rattle.laws_call.specs.laws_record.proofs.Copying.{place_carried}
+use Rattle.laws_call.specs.pack_laws.proofs.Sighted.{counted}
 use Rattle.pack_model.specs.operations.Committing.{page_of_byte}
 use Rattle.pack_model.specs.reading.Files.{place}
 use Rattle.pack_model.specs.reading.Sights.{sights}

@@ -13,8 +13,8 @@ use Rattle.disk_records.specs.declared.shape.Shape.{Shape}
 use Rattle.label_check.specs.Guarded.{info_of}
 use Rattle.label_check.specs.declared.errors.PageInfo.{PageInfo}
 use Rattle.laws_lookup.proofs.hints.Laws.{link_means_the_next_page}
-use Rattle.pack_laws.specs.GuardLaws.{ComesToHold}
-use Rattle.pack_laws.proofs.guards.Laws.{relabel_keeps_the_page, release_frees_at_the_label}
+use Rattle.laws_call.specs.pack_laws.specs.GuardLaws.{ComesToHold}
+use Rattle.laws_call.specs.pack_laws.proofs.guards.Laws.{relabel_keeps_the_page, release_frees_at_the_label}
 use Rattle.pack_model.specs.hints.Misled.{NamesSector, StandsAt}
 use Rattle.page_seeking.specs.Seeking.{IsFull, Links, Seen, Stands, page_after, page_number}
 use Rattle.file_pages.specs.Releasing.{IsKnown, Follows, MisledSince, OnlyGo}

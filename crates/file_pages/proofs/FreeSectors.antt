@@ -6,7 +6,7 @@ use Rattle.disk_records.specs.Addresses.{pages_of, real_of}
 use Rattle.disk_records.specs.Packs.{Pack, is_free_at, sector_at}
 use Rattle.disk_records.specs.Words.{word}
 use Rattle.disk_records.specs.declared.shape.Shape.{Shape}
-use Rattle.pack_laws.proofs.Guarding.{free_parts}
+use Rattle.laws_call.specs.pack_laws.proofs.Guarding.{free_parts}
 use Rattle.file_pages.specs.Growing.{IsSector}
 
 pub is_no_sector : (shape : Shape) (at : ℕ) → (at ≡ 0) ⊎ (pages_of shape ≤ at) → IsSector shape at → ⊥

@@ -13,8 +13,8 @@ use Rattle.hint_cache.specs.declared.cache.Entry.{Entry}
 use Rattle.label_check.specs.Guarded.{FoundWrong, IfWrong}
 use Rattle.label_check.specs.declared.errors.GuardError.TheVariants as guard
 use Rattle.label_check.specs.declared.errors.GuardError.{GuardError}
-use Rattle.laws_record.proofs.Carried.{carried_place}
-use Rattle.laws_record.proofs.Copying.{place_carried}
+use Rattle.laws_call.specs.laws_record.proofs.Carried.{carried_place}
+use Rattle.laws_call.specs.laws_record.proofs.Copying.{place_carried}
 use Rattle.pack_model.specs.hints.Handy.{CachedAt, HandyCache, IsRightOrIdle}
 use Rattle.pack_model.specs.hints.Misled.{Finds}
 use Rattle.pack_model.specs.reading.Files.{place}

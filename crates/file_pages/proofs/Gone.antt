@@ -11,7 +11,7 @@ use Rattle.disk_records.specs.declared.records.Event.TheVariants.{Wrote}
 use Rattle.disk_records.specs.declared.records.Event.{Event}
 use Rattle.disk_records.specs.declared.records.Page.{Page}
 use Rattle.hint_cache.specs.Caches.{Cached, address_in}
-use Rattle.pack_laws.proofs.guards.Laws.{relabel_keeps_the_page, release_frees_at_the_label}
+use Rattle.laws_call.specs.pack_laws.proofs.guards.Laws.{relabel_keeps_the_page, release_frees_at_the_label}
 use Rattle.page_seeking.specs.Parts.{IsListed}
 use Rattle.page_seeking.specs.Seeking.{Refused}
 use Rattle.file_pages.proofs.Following.{same_or_not}

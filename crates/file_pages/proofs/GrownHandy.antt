@@ -12,7 +12,7 @@ use Rattle.hint_cache.specs.Caches.{Cached}
 use Rattle.hint_cache.specs.declared.cache.Entry.{Entry}
 use Rattle.laws_operation.specs.ByteLaws.{Bear}
 use Rattle.page_seeking.specs.Seeking.{KeepsHandy, NamedNearEnd, as_listed, file_length}
-use Rattle.pack_laws.proofs.Keys.{same_fid}
+use Rattle.laws_call.specs.pack_laws.proofs.Keys.{same_fid}
 use Rattle.pack_model.specs.hints.Handy.{HandyCache, IsRightOrIdle, last_at_word, last_number_word, leader_word}
 use Rattle.pack_model.specs.operations.Committing.{page_of_byte}
 use Rattle.pack_model.specs.reading.Files.{place}

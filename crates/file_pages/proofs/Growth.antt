@@ -15,8 +15,8 @@ use Rattle.disk_records.specs.declared.records.Tally.{Tally}
 use Rattle.laws_call.specs.Acting.{around, Operates, begun}
 use Rattle.laws_call.specs.Writing.{grown_writes}
 use Rattle.laws_hint.specs.MapChanges.{marked}
-use Rattle.pack_laws.proofs.tallies.Laws.{one_commit_is_counted}
-use Rattle.pack_laws.specs.TallyLaws.{operations_in}
+use Rattle.laws_call.specs.pack_laws.proofs.tallies.Laws.{one_commit_is_counted}
+use Rattle.laws_call.specs.pack_laws.specs.TallyLaws.{operations_in}
 use Rattle.pack_model.specs.operations.Commands.{Claim, claims_of, claims_writes, grown_claims, grown_label, grown_value}
 use Rattle.pack_model.specs.operations.Operations.Move.{commits, quiet}
 use Rattle.pack_model.specs.operations.Operations.{Move, claims_moves, grow_moves, weight_of}

@@ -10,18 +10,18 @@ use Rattle.disk_records.specs.declared.shape.Shape.{Shape}
 use Rattle.laws_call.proofs.writing.Laws.{written_acts}
 use Rattle.laws_call.specs.Acting.{Acts}
 use Rattle.laws_call.specs.Writing.{Written, grown_writes, grows, widens}
-use Rattle.laws_contents.proofs.model.Laws.{model_lengths_are_of_bytes}
+use Rattle.laws_call.specs.laws_contents.proofs.model.Laws.{model_lengths_are_of_bytes}
 use Rattle.laws_operation.proofs.Grown.{few_pages}
 use Rattle.laws_operation.proofs.Rows.{claims_units}
 use Rattle.laws_operation.proofs.grow.Laws.{grow_words_fit}
 use Rattle.laws_operation.proofs.places.Laws.{file_that_does_not_live_has_no_page}
 use Rattle.laws_operation.proofs.widen.Laws.{widen_words_fit}
 use Rattle.laws_operation.specs.FileWords.{CanGrow}
-use Rattle.laws_record.proofs.DirReads.{not_descriptor}
+use Rattle.laws_call.specs.laws_record.proofs.DirReads.{not_descriptor}
 use Rattle.page_seeking.specs.Seeking.{Stands, file_length, page_number}
 use Rattle.page_seeking.specs.Seeking.{IsLast}
 use Rattle.page_seeking.specs.declared.ends.LastPage.{LastPage}
-use Rattle.pack_laws.proofs.Joining.{most_is}
+use Rattle.laws_call.specs.pack_laws.proofs.Joining.{most_is}
 use Rattle.pack_model.specs.operations.Commands.{Claimable, all_claimed, claims_of, grown_claims, last_room, past_last}
 use Rattle.pack_model.specs.operations.Committing.{length_of, moves_of, page_of_byte, pages_added, units}
 use Rattle.pack_model.specs.operations.Operations.Move.{commits, quiet}

@@ -8,7 +8,7 @@ use Rattle.disk_records.specs.Labels.{in_range, page_of, tag}
 use Rattle.disk_records.specs.Words.{word}
 use Rattle.disk_records.specs.declared.records.Page.{Page}
 use Rattle.laws_operation.proofs.Making.{named_page}
-use Rattle.laws_record.proofs.Heads.{and_left}
+use Rattle.laws_call.specs.laws_record.proofs.Heads.{and_left}
 
 -- ---- what a label says that names a page
 middle_three : (a b c d e : Bool) → (a && b && c && d && e) ≡ true → (b && c && d) ≡ true

@@ -15,8 +15,8 @@ use Rattle.disk_records.specs.declared.records.Tally.{Tally}
 use Rattle.label_check.specs.Guarded.{Carries, DoneWhole, Guarded}
 use Rattle.label_check.specs.declared.errors.GuardError.TheVariants as guard
 use Rattle.label_check.specs.declared.errors.GuardError.{GuardError}
-use Rattle.pack_laws.proofs.guards.Laws.{value_writes_keep_the_page}
-use Rattle.pack_laws.proofs.tallies.Laws.{count_tells_what_was_written}
+use Rattle.laws_call.specs.pack_laws.proofs.guards.Laws.{value_writes_keep_the_page}
+use Rattle.laws_call.specs.pack_laws.proofs.tallies.Laws.{count_tells_what_was_written}
 use Rattle.pack_model.specs.sessions.Tallies.{is_among, took_effect}
 use Rattle.page_seeking.specs.declared.refs.FileError.TheVariants as file
 use Rattle.page_seeking.specs.declared.refs.FileError.{FileError}

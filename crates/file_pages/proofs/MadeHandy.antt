@@ -10,7 +10,7 @@ use Rattle.hint_cache.specs.declared.cache.Entry.{Entry}
 use Rattle.laws_lookup.specs.OtherLaws.{LeavesOthers}
 use Rattle.laws_operation.specs.PlaceLaws.{HasTwoPages}
 use Rattle.page_seeking.specs.Seeking.{Refused, page_number}
-use Rattle.pack_laws.proofs.Keys.{same_fid}
+use Rattle.laws_call.specs.pack_laws.proofs.Keys.{same_fid}
 use Rattle.pack_model.specs.hints.Handy.{IsRightOrIdle}
 use Rattle.pack_model.specs.reading.Files.{place}
 use Rattle.pack_model.specs.reading.Sights.{sights}

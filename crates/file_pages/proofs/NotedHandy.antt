@@ -8,7 +8,7 @@ use Rattle.disk_records.specs.declared.records.Page.{Page}
 use Rattle.hint_cache.proofs.Pages.{is_page-itself}
 use Rattle.hint_cache.specs.Caches.{Cached, address_in, noted}
 use Rattle.hint_cache.specs.declared.cache.Entry.{Entry}
-use Rattle.laws_record.proofs.Carried.{carried_place}
+use Rattle.laws_call.specs.laws_record.proofs.Carried.{carried_place}
 use Rattle.page_seeking.specs.Parts.{IsListed}
 use Rattle.page_seeking.specs.Seeking.{KeepsHandy, Refused}
 use Rattle.pack_model.specs.reading.Files.{place}

@@ -10,7 +10,7 @@ use Rattle.disk_records.specs.declared.records.Tally.{Tally}
 use Rattle.label_check.specs.Guarded.{Carries, Guarded}
 use Rattle.label_check.specs.declared.errors.GuardError.TheVariants as guard
 use Rattle.label_check.specs.declared.errors.GuardError.{GuardError}
-use Rattle.pack_laws.proofs.tallies.Laws.{count_tells_what_was_written}
+use Rattle.laws_call.specs.pack_laws.proofs.tallies.Laws.{count_tells_what_was_written}
 use Rattle.pack_model.specs.operations.Operations.{one_move}
 use Rattle.pack_model.specs.operations.Step.{Operation}
 use Rattle.pack_model.specs.sessions.Tallies.{counted, is_among, took_effect}

@@ -6,11 +6,11 @@ use Rattle.disk_records.specs.Packs.{Pack, carried, is_usable, sector_at}
 use Rattle.disk_records.specs.Words.{word}
 use Rattle.disk_records.specs.declared.records.Page.{Page}
 use Rattle.label_check.specs.declared.errors.PageInfo.{PageInfo}
-use Rattle.laws_contents.proofs.pages.Laws.{page_numbers_are_words}
+use Rattle.laws_call.specs.laws_contents.proofs.pages.Laws.{page_numbers_are_words}
 use Rattle.laws_hint.specs.MapChanges.{marked}
 use Rattle.laws_operation.proofs.lengths.Laws.{full_page_is_not_the_last, length_by_the_last_page}
-use Rattle.laws_record.proofs.Carried.{carried_place}
-use Rattle.pack_laws.proofs.Sighted.{counted}
+use Rattle.laws_call.specs.laws_record.proofs.Carried.{carried_place}
+use Rattle.laws_call.specs.pack_laws.proofs.Sighted.{counted}
 use Rattle.pack_model.specs.operations.Commands.{releases_writes}
 use Rattle.pack_model.specs.operations.Committing.{page_of_byte}
 use Rattle.pack_model.specs.reading.Files.{place}

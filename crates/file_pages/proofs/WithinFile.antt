@@ -11,7 +11,7 @@ use Rattle.laws_call.specs.Acting.{Around, IsQuiet}
 use Rattle.laws_operation.proofs.lengths.Laws.{full_page_is_not_the_last, length_by_the_last_page}
 use Rattle.laws_operation.proofs.places.Laws.{carried_in_place}
 use Rattle.laws_operation.specs.LengthLaws.{CountsPage}
-use Rattle.pack_laws.proofs.Sighted.{counted}
+use Rattle.laws_call.specs.pack_laws.proofs.Sighted.{counted}
 use Rattle.pack_model.specs.operations.Committing.{page_of_byte}
 use Rattle.pack_model.specs.states.Whole.{Whole}
 use Rattle.page_seeking.proofs.Ending.{ranged}

@@ -8,3 +8,11 @@ pub mod Inside
 pub mod Putting
 pub mod Releasing
 pub mod Values
+pub use Rattle.label_check
+pub use Rattle.laws_call.specs.pack_laws
+pub use Rattle.laws_call.specs.laws_record
+pub use Rattle.laws_call.specs.laws_contents
+pub use Rattle.laws_lookup
+pub use Rattle.laws_call.specs.laws_room
+pub use Rattle.laws_call.specs.laws_line
+pub use Rattle.laws_midway

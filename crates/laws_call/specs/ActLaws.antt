@@ -1,28 +1,28 @@
 -- What all record writes of each operation do, for a caller who knows what it can know.
 use Rattle.std.specs.Prelude.{List, Some, [], true, ℕ, ◌∷◌, ◌≡◌}
-use Rattle.alto_words.specs.Fid.{is_directory}
-use Rattle.alto_words.specs.declared.fid.Fid.{Fid}
-use Rattle.disk_records.specs.Commands.{value_writes}
-use Rattle.disk_records.specs.Packs.{Pack, sector_at}
-use Rattle.disk_records.specs.Words.{word}
-use Rattle.pack_model.specs.operations.Commands.{cut_label, first_page_claim, grown_claims, grown_label, grown_value, leader_claim}
-use Rattle.pack_model.specs.operations.Entering.{entry_value, values_first}
-use Rattle.pack_model.specs.operations.Operations.{cut_writes, drop_writes, enter_writes, grow_writes, make_writes}
-use Rattle.pack_model.specs.operations.PageWords.{freed_value, widening_bytes}
-use Rattle.pack_model.specs.operations.Step.Operation.{cut, drop_file, enter, grow, leave, make, put, stamp, title, widen}
-use Rattle.pack_model.specs.reading.Files.{place}
-use Rattle.pack_model.specs.reading.Sights.{sights}
-use Rattle.pack_model.specs.reading.SlotWords.{address_word}
-use Rattle.pack_model.specs.reading.Slots.Item.{entry}
-use Rattle.pack_model.specs.reading.Slots.{Item, all_words, item_words}
-use Rattle.pack_model.specs.states.Whole.{Tidy, Whole}
+use Rattle.laws_hint.specs.alto_words.specs.Fid.{is_directory}
+use Rattle.laws_hint.specs.alto_words.specs.declared.fid.Fid.{Fid}
+use Rattle.laws_hint.specs.disk_records.specs.Commands.{value_writes}
+use Rattle.laws_hint.specs.disk_records.specs.Packs.{Pack, sector_at}
+use Rattle.laws_hint.specs.disk_records.specs.Words.{word}
+use Rattle.laws_hint.specs.pack_model.specs.operations.Commands.{cut_label, first_page_claim, grown_claims, grown_label, grown_value, leader_claim}
+use Rattle.laws_hint.specs.pack_model.specs.operations.Entering.{entry_value, values_first}
+use Rattle.laws_hint.specs.pack_model.specs.operations.Operations.{cut_writes, drop_writes, enter_writes, grow_writes, make_writes}
+use Rattle.laws_hint.specs.pack_model.specs.operations.PageWords.{freed_value, widening_bytes}
+use Rattle.laws_hint.specs.pack_model.specs.operations.Step.Operation.{cut, drop_file, enter, grow, leave, make, put, stamp, title, widen}
+use Rattle.laws_hint.specs.pack_model.specs.reading.Files.{place}
+use Rattle.laws_hint.specs.pack_model.specs.reading.Sights.{sights}
+use Rattle.laws_hint.specs.pack_model.specs.reading.SlotWords.{address_word}
+use Rattle.laws_hint.specs.pack_model.specs.reading.Slots.Item.{entry}
+use Rattle.laws_hint.specs.pack_model.specs.reading.Slots.{Item, all_words, item_words}
+use Rattle.laws_hint.specs.pack_model.specs.states.Whole.{Tidy, Whole}
 use Rattle.laws_call.specs.Acting.{Acts}
-use Rattle.laws_operation.specs.ByteLaws.{IsOrdinary, MayPut}
-use Rattle.laws_operation.specs.FileWords.{CanCut, CanGrow, CanMake}
-use Rattle.laws_operation.specs.LeaderLaws.{MayWriteLeader, stamped, titled}
-use Rattle.laws_operation.specs.LifeLaws.{MayDrop}
-use Rattle.laws_operation.specs.NameLaws.{MayEnterAt, MayLeave, entry_room}
-use Rattle.laws_record.specs.DirLaws.{Frees}
+use Rattle.laws_hint.specs.laws_operation.specs.ByteLaws.{IsOrdinary, MayPut}
+use Rattle.laws_hint.specs.laws_operation.specs.FileWords.{CanCut, CanGrow, CanMake}
+use Rattle.laws_hint.specs.laws_operation.specs.LeaderLaws.{MayWriteLeader, stamped, titled}
+use Rattle.laws_hint.specs.laws_operation.specs.LifeLaws.{MayDrop}
+use Rattle.laws_hint.specs.laws_operation.specs.NameLaws.{MayEnterAt, MayLeave, entry_room}
+use Rattle.laws_hint.specs.laws_record.specs.DirLaws.{Frees}
 
 -- The words of `pack_model` for each operation, with the sectors that it claims and releases.
 pub record EachActs (p : Pack) : Type 0 where

@@ -1,23 +1,23 @@
 -- What a caller sees of an operation: all of its record writes, and what they do; and a call that is to do it.
 use Rattle.std.specs.Prelude.{Bool, IsErrOf, List, OnOk, Result, [], false, length, take, true, ℕ, ◌<◌, ◌∷◌, ◌≡◌}
-use Rattle.alto_words.specs.declared.fid.Fid.{Fid}
-use Rattle.disk_records.specs.Events.{IsFirstOf}
-use Rattle.disk_records.specs.Packs.{Pack, after}
-use Rattle.disk_records.specs.Tapes.{Taped, added, pack}
-use Rattle.disk_records.specs.declared.records.Event.{Event}
-use Rattle.disk_records.specs.declared.records.Tally.{Tally}
-use Rattle.pack_model.specs.operations.Committing.{moves_of}
-use Rattle.pack_model.specs.operations.Operations.{release_file_writes}
-use Rattle.pack_model.specs.operations.Step.{Operation}
-use Rattle.pack_model.specs.reading.Model.{read_as}
-use Rattle.pack_model.specs.sessions.Tallies.{CountsMoves}
+use Rattle.laws_hint.specs.alto_words.specs.declared.fid.Fid.{Fid}
+use Rattle.laws_hint.specs.disk_records.specs.Events.{IsFirstOf}
+use Rattle.laws_hint.specs.disk_records.specs.Packs.{Pack, after}
+use Rattle.laws_hint.specs.disk_records.specs.Tapes.{Taped, added, pack}
+use Rattle.laws_hint.specs.disk_records.specs.declared.records.Event.{Event}
+use Rattle.laws_hint.specs.disk_records.specs.declared.records.Tally.{Tally}
+use Rattle.laws_hint.specs.pack_model.specs.operations.Committing.{moves_of}
+use Rattle.laws_hint.specs.pack_model.specs.operations.Operations.{release_file_writes}
+use Rattle.laws_hint.specs.pack_model.specs.operations.Step.{Operation}
+use Rattle.laws_hint.specs.pack_model.specs.reading.Model.{read_as}
+use Rattle.laws_hint.specs.pack_model.specs.sessions.Tallies.{CountsMoves}
 use Rattle.laws_call.specs.Writing.{Written}
 use Rattle.laws_hint.specs.MapChanges.{MarksMap, marked}
-use Rattle.laws_line.specs.CrashLaws.{StaysMendable}
-use Rattle.laws_operation.specs.FreeLaws.{StayFreeBut}
-use Rattle.laws_operation.specs.LifeLaws.{MayDrop, first_moves}
-use Rattle.laws_operation.specs.LinkLaws.{KeepsLinks}
-use Rattle.laws_operation.specs.Outcomes.{KeepsDescriptor, StillFits}
+use Rattle.laws_hint.specs.laws_line.specs.CrashLaws.{StaysMendable}
+use Rattle.laws_hint.specs.laws_operation.specs.FreeLaws.{StayFreeBut}
+use Rattle.laws_hint.specs.laws_operation.specs.LifeLaws.{MayDrop, first_moves}
+use Rattle.laws_hint.specs.laws_operation.specs.LinkLaws.{KeepsLinks}
+use Rattle.laws_hint.specs.laws_operation.specs.Outcomes.{KeepsDescriptor, StillFits}
 
 -- ---- all record writes of an operation
 -- On a whole and tidy pack they make its moves, each crash point is viewed as the model there and can be scavenged where the models are

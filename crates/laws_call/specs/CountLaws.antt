@@ -1,18 +1,18 @@
 -- The tally over the calls of a line.
 use Rattle.std.specs.Prelude.{List, Result, length, take, ℕ, ◌++◌, ◌+◌, ◌<◌, ◌^◌, ◌≡◌}
-use Rattle.alto_words.specs.declared.fid.Fid.{Fid}
-use Rattle.disk_records.specs.Events.{writes_in}
-use Rattle.disk_records.specs.Tapes.{Grown, Taped, added, capped, pack}
-use Rattle.disk_records.specs.declared.records.Tally.{Tally}
-use Rattle.pack_model.specs.operations.Committing.{moves_of}
-use Rattle.pack_model.specs.operations.Operations.{Move}
-use Rattle.pack_model.specs.operations.Step.{Operation}
-use Rattle.pack_model.specs.reading.Model.{read_as}
-use Rattle.pack_model.specs.sessions.Tallies.{Tells, counted}
+use Rattle.laws_hint.specs.alto_words.specs.declared.fid.Fid.{Fid}
+use Rattle.laws_hint.specs.disk_records.specs.Events.{writes_in}
+use Rattle.laws_hint.specs.disk_records.specs.Tapes.{Grown, Taped, added, capped, pack}
+use Rattle.laws_hint.specs.disk_records.specs.declared.records.Tally.{Tally}
+use Rattle.laws_hint.specs.pack_model.specs.operations.Committing.{moves_of}
+use Rattle.laws_hint.specs.pack_model.specs.operations.Operations.{Move}
+use Rattle.laws_hint.specs.pack_model.specs.operations.Step.{Operation}
+use Rattle.laws_hint.specs.pack_model.specs.reading.Model.{read_as}
+use Rattle.laws_hint.specs.pack_model.specs.sessions.Tallies.{Tells, counted}
 use Rattle.laws_call.specs.Acting.{Around, Operates, Releases}
-use Rattle.laws_operation.specs.LifeLaws.{first_moves}
-use Rattle.pack_laws.specs.TallyLaws.{operations_in}
-use Rattle.pack_model.specs.states.Whole.{Tidy, Whole}
+use Rattle.laws_hint.specs.laws_operation.specs.LifeLaws.{first_moves}
+use Rattle.laws_hint.specs.pack_laws.specs.TallyLaws.{operations_in}
+use Rattle.laws_hint.specs.pack_model.specs.states.Whole.{Tidy, Whole}
 
 -- A machine had w record writes and the tally t as a line began, and has made these moves of it since: its count and its tally say so.
 pub record CountedSoFar (w : ℕ) (t : Tally) (moves : List Move) (now : Around) : Type 0 where

@@ -1,21 +1,21 @@
 -- How calls join to a line: a call that does an operation, one that writes nothing, a new serial with its make, and an end.
 use Rattle.std.specs.Prelude.{Err, List, Ok, OnOk, Result, Some, [], ℕ, ◌++◌, ◌∷◌, ◌≡◌, ◌≤◌}
-use Rattle.alto_words.specs.Fid.{disk_descriptor}
-use Rattle.alto_words.specs.declared.fid.Fid.{Fid}
-use Rattle.disk_records.specs.Events.{IsFirstOf}
-use Rattle.disk_records.specs.Packs.{Pack, after, sector_at}
-use Rattle.disk_records.specs.Tapes.{added, pack}
-use Rattle.disk_records.specs.declared.records.Event.{Event}
-use Rattle.pack_model.specs.operations.Committing.{serial_moves}
-use Rattle.pack_model.specs.operations.Step.Operation.{make}
-use Rattle.pack_model.specs.operations.Step.{Operation}
-use Rattle.pack_model.specs.reading.Files.{place}
-use Rattle.pack_model.specs.reading.Model.{read_as}
-use Rattle.pack_model.specs.reading.Sights.{sights}
-use Rattle.pack_model.specs.sessions.Descriptor.{serial_writes}
+use Rattle.laws_hint.specs.alto_words.specs.Fid.{disk_descriptor}
+use Rattle.laws_hint.specs.alto_words.specs.declared.fid.Fid.{Fid}
+use Rattle.laws_hint.specs.disk_records.specs.Events.{IsFirstOf}
+use Rattle.laws_hint.specs.disk_records.specs.Packs.{Pack, after, sector_at}
+use Rattle.laws_hint.specs.disk_records.specs.Tapes.{added, pack}
+use Rattle.laws_hint.specs.disk_records.specs.declared.records.Event.{Event}
+use Rattle.laws_hint.specs.pack_model.specs.operations.Committing.{serial_moves}
+use Rattle.laws_hint.specs.pack_model.specs.operations.Step.Operation.{make}
+use Rattle.laws_hint.specs.pack_model.specs.operations.Step.{Operation}
+use Rattle.laws_hint.specs.pack_model.specs.reading.Files.{place}
+use Rattle.laws_hint.specs.pack_model.specs.reading.Model.{read_as}
+use Rattle.laws_hint.specs.pack_model.specs.reading.Sights.{sights}
+use Rattle.laws_hint.specs.pack_model.specs.sessions.Descriptor.{serial_writes}
 use Rattle.laws_call.specs.Acting.{Around, Operates}
 use Rattle.laws_call.specs.Going.{Goes}
-use Rattle.laws_line.specs.CrashLaws.{StaysMendable, with_serial}
+use Rattle.laws_hint.specs.laws_line.specs.CrashLaws.{StaysMendable, with_serial}
 
 -- no call yet
 abbrev pub NoCallYet : Type 0 → Type 0 → Type 0

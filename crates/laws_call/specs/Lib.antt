@@ -6,3 +6,15 @@ pub mod GoingLaws
 pub mod SoundCalls
 pub mod Writing
 pub mod WritingLaws
+pub use Rattle.laws_hint.specs.alto_words
+pub use Rattle.laws_hint.specs.disk_records
+pub use Rattle.laws_hint.specs.label_check
+pub use Rattle.laws_hint.specs.pack_model
+pub use Rattle.laws_hint.specs.pack_laws
+pub use Rattle.laws_hint.specs.laws_record
+pub use Rattle.laws_hint.specs.laws_contents
+pub use Rattle.laws_hint.specs.laws_operation
+pub use Rattle.laws_hint.specs.laws_lookup
+pub use Rattle.laws_hint.specs.laws_room
+pub use Rattle.laws_hint.specs.laws_line
+pub use Rattle.laws_hint

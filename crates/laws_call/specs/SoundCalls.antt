@@ -1,20 +1,20 @@
 -- Calls that are a line from a sound pack, once the mark is open.
 use Rattle.std.specs.Prelude.{List, OnOk, Result, Some, length, ℕ, ◌++◌, ◌<◌, ◌≡◌, ◌≤◌}
-use Rattle.alto_words.specs.Fid.{disk_descriptor}
-use Rattle.disk_records.specs.Events.{IsFirstOf}
-use Rattle.disk_records.specs.Packs.{Pack, after}
-use Rattle.disk_records.specs.declared.records.Event.{Event}
-use Rattle.pack_model.specs.operations.Committing.{pages_for_operations}
-use Rattle.pack_model.specs.operations.Step.{Operation}
-use Rattle.pack_model.specs.reading.Files.{place}
-use Rattle.pack_model.specs.reading.Model.{read_as}
-use Rattle.pack_model.specs.reading.Sights.{sights}
-use Rattle.pack_model.specs.states.InUse.{free_sector_count}
-use Rattle.pack_model.specs.states.Sound.{Sound}
+use Rattle.laws_hint.specs.alto_words.specs.Fid.{disk_descriptor}
+use Rattle.laws_hint.specs.disk_records.specs.Events.{IsFirstOf}
+use Rattle.laws_hint.specs.disk_records.specs.Packs.{Pack, after}
+use Rattle.laws_hint.specs.disk_records.specs.declared.records.Event.{Event}
+use Rattle.laws_hint.specs.pack_model.specs.operations.Committing.{pages_for_operations}
+use Rattle.laws_hint.specs.pack_model.specs.operations.Step.{Operation}
+use Rattle.laws_hint.specs.pack_model.specs.reading.Files.{place}
+use Rattle.laws_hint.specs.pack_model.specs.reading.Model.{read_as}
+use Rattle.laws_hint.specs.pack_model.specs.reading.Sights.{sights}
+use Rattle.laws_hint.specs.pack_model.specs.states.InUse.{free_sector_count}
+use Rattle.laws_hint.specs.pack_model.specs.states.Sound.{Sound}
 use Rattle.laws_call.specs.Going.{Goes}
 use Rattle.laws_hint.specs.LineLinks.{opening_writes}
-use Rattle.laws_line.specs.SoundLines.{IsKindOfLine, LineOnSound}
-use Rattle.laws_line.specs.SoundParts.{BreaksOnSound}
+use Rattle.laws_hint.specs.laws_line.specs.SoundLines.{IsKindOfLine, LineOnSound}
+use Rattle.laws_hint.specs.laws_line.specs.SoundParts.{BreaksOnSound}
 
 -- The operations of a line of the operating system, and the sectors that it needs, on a sound pack.
 pub record LineFits (p : Pack) (at : ℕ) (ops : List Operation) : Type 0 where

@@ -1,28 +1,28 @@
 -- All record writes of each operation by the words of `pack_model`, with the sectors that it claims and releases.
 use Rattle.std.specs.Prelude.{List, Some, [], false, length, true, ℕ, ◌%◌, ◌∷◌, ◌≡◌}
-use Rattle.alto_words.specs.Fid.{is_directory, is_system}
-use Rattle.alto_words.specs.Names.{is_same_name, is_stored_name}
-use Rattle.alto_words.specs.declared.fid.Fid.{Fid}
-use Rattle.disk_records.specs.Commands.{value_writes}
-use Rattle.disk_records.specs.Packs.{Pack, sector_at}
-use Rattle.disk_records.specs.declared.records.Event.{Event}
-use Rattle.laws_operation.specs.ByteLaws.{IsOrdinary}
-use Rattle.laws_operation.specs.DirectoryWords.{CanEnter, HasEntry, left_in}
-use Rattle.laws_operation.specs.FileWords.{ArePastTheEnd, CanCut, CanGrow, CanMake, CanPut, CanWriteLeader}
-use Rattle.laws_operation.specs.LifeLaws.{MayDrop}
-use Rattle.pack_model.specs.operations.Commands.{cut_label, first_page_claim, grown_claims, grown_label, grown_value, leader_claim}
-use Rattle.pack_model.specs.operations.Committing.{page_of_byte}
-use Rattle.pack_model.specs.operations.Entering.{EntryRoom, entry_value, found_room, values_first}
-use Rattle.pack_model.specs.operations.Operations.{cut_writes, drop_writes, enter_writes, grow_writes, make_writes}
-use Rattle.pack_model.specs.operations.PageWords.{entered_words, freed_value, put_value, stamped_value, titled_value, widening_bytes}
-use Rattle.pack_model.specs.operations.Rooms.{Room}
-use Rattle.pack_model.specs.operations.Step.Operation.{cut, drop_file, enter, grow, leave, make, put, stamp, title, widen}
-use Rattle.pack_model.specs.operations.Step.{Operation}
-use Rattle.pack_model.specs.reading.Files.{file_bytes, place}
-use Rattle.pack_model.specs.reading.Model.{dir_items, read_as}
-use Rattle.pack_model.specs.reading.Sights.{sights}
-use Rattle.pack_model.specs.reading.Slots.Item.{entry}
-use Rattle.pack_model.specs.reading.Slots.{Item, all_words, item_words}
+use Rattle.laws_hint.specs.alto_words.specs.Fid.{is_directory, is_system}
+use Rattle.laws_hint.specs.alto_words.specs.Names.{is_same_name, is_stored_name}
+use Rattle.laws_hint.specs.alto_words.specs.declared.fid.Fid.{Fid}
+use Rattle.laws_hint.specs.disk_records.specs.Commands.{value_writes}
+use Rattle.laws_hint.specs.disk_records.specs.Packs.{Pack, sector_at}
+use Rattle.laws_hint.specs.disk_records.specs.declared.records.Event.{Event}
+use Rattle.laws_hint.specs.laws_operation.specs.ByteLaws.{IsOrdinary}
+use Rattle.laws_hint.specs.laws_operation.specs.DirectoryWords.{CanEnter, HasEntry, left_in}
+use Rattle.laws_hint.specs.laws_operation.specs.FileWords.{ArePastTheEnd, CanCut, CanGrow, CanMake, CanPut, CanWriteLeader}
+use Rattle.laws_hint.specs.laws_operation.specs.LifeLaws.{MayDrop}
+use Rattle.laws_hint.specs.pack_model.specs.operations.Commands.{cut_label, first_page_claim, grown_claims, grown_label, grown_value, leader_claim}
+use Rattle.laws_hint.specs.pack_model.specs.operations.Committing.{page_of_byte}
+use Rattle.laws_hint.specs.pack_model.specs.operations.Entering.{EntryRoom, entry_value, found_room, values_first}
+use Rattle.laws_hint.specs.pack_model.specs.operations.Operations.{cut_writes, drop_writes, enter_writes, grow_writes, make_writes}
+use Rattle.laws_hint.specs.pack_model.specs.operations.PageWords.{entered_words, freed_value, put_value, stamped_value, titled_value, widening_bytes}
+use Rattle.laws_hint.specs.pack_model.specs.operations.Rooms.{Room}
+use Rattle.laws_hint.specs.pack_model.specs.operations.Step.Operation.{cut, drop_file, enter, grow, leave, make, put, stamp, title, widen}
+use Rattle.laws_hint.specs.pack_model.specs.operations.Step.{Operation}
+use Rattle.laws_hint.specs.pack_model.specs.reading.Files.{file_bytes, place}
+use Rattle.laws_hint.specs.pack_model.specs.reading.Model.{dir_items, read_as}
+use Rattle.laws_hint.specs.pack_model.specs.reading.Sights.{sights}
+use Rattle.laws_hint.specs.pack_model.specs.reading.Slots.Item.{entry}
+use Rattle.laws_hint.specs.pack_model.specs.reading.Slots.{Item, all_words, item_words}
 
 -- the words of a growth of a file of b bytes: its claims, and the label and the value of the old last page
 abbrev pub grown_writes : Pack → Fid → ℕ → ℕ → List ℕ → List ℕ → List ℕ → List Event

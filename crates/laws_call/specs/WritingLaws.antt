@@ -1,15 +1,15 @@
 -- What all record writes of an operation do, and what stays known over them.
 use Rattle.std.specs.Prelude.{All, List, false, ℕ, ◌≡◌}
-use Rattle.alto_words.specs.declared.fid.Fid.{Fid}
-use Rattle.disk_records.specs.Packs.{Pack, after, is_free_at}
-use Rattle.disk_records.specs.declared.records.Event.{Event}
+use Rattle.laws_hint.specs.alto_words.specs.declared.fid.Fid.{Fid}
+use Rattle.laws_hint.specs.disk_records.specs.Packs.{Pack, after, is_free_at}
+use Rattle.laws_hint.specs.disk_records.specs.declared.records.Event.{Event}
 use Rattle.laws_call.specs.Acting.{Acts}
 use Rattle.laws_call.specs.Writing.{Written}
-use Rattle.laws_lookup.specs.OtherLaws.{KeepsPages, LeavesOthers}
-use Rattle.laws_lookup.specs.StayLaws.{MisledBefore}
-use Rattle.pack_model.specs.operations.Step.Operation.{cut, drop_file, enter, grow, leave, make, put, stamp, title, widen}
-use Rattle.pack_model.specs.operations.Step.{Operation}
-use Rattle.pack_model.specs.states.Whole.{Tidy, Whole}
+use Rattle.laws_hint.specs.laws_lookup.specs.OtherLaws.{KeepsPages, LeavesOthers}
+use Rattle.laws_hint.specs.laws_lookup.specs.StayLaws.{MisledBefore}
+use Rattle.laws_hint.specs.pack_model.specs.operations.Step.Operation.{cut, drop_file, enter, grow, leave, make, put, stamp, title, widen}
+use Rattle.laws_hint.specs.pack_model.specs.operations.Step.{Operation}
+use Rattle.laws_hint.specs.pack_model.specs.states.Whole.{Tidy, Whole}
 
 abbrev pub WrittenActs : Type 0
 WrittenActs = (p : Pack) (o : Operation) (claimed released : List ℕ) (writes : List Event) → Whole p → Tidy p → Written p o claimed released writes → Acts p o claimed released writes

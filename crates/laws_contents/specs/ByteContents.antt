@@ -1,11 +1,11 @@
 -- The bytes of a file by the values of its pages, on any pack.
 use Rattle.std.specs.Prelude.{Some, drop, get_or, length, min, suc, take, List, [], ℕ, ◌%◌, ◌*◌, ◌++◌, ◌+◌, ◌-◌, ◌/◌, ◌<◌, ◌∷◌, ◌≡◌, ◌≤◌}
-use Rattle.alto_words.specs.declared.fid.Fid.{Fid}
-use Rattle.disk_records.specs.Packs.{Pack, sector_at}
-use Rattle.pack_model.specs.operations.Committing.{page_of_byte}
-use Rattle.pack_model.specs.reading.Bytes.{bytes_of}
-use Rattle.pack_model.specs.reading.Files.{file_bytes, place}
-use Rattle.pack_model.specs.reading.Sights.{sights}
+use Rattle.laws_record.specs.alto_words.specs.declared.fid.Fid.{Fid}
+use Rattle.laws_record.specs.disk_records.specs.Packs.{Pack, sector_at}
+use Rattle.laws_record.specs.pack_model.specs.operations.Committing.{page_of_byte}
+use Rattle.laws_record.specs.pack_model.specs.reading.Bytes.{bytes_of}
+use Rattle.laws_record.specs.pack_model.specs.reading.Files.{file_bytes, place}
+use Rattle.laws_record.specs.pack_model.specs.reading.Sights.{sights}
 use Rattle.laws_contents.specs.PageLaws.{FullBefore, bytes_at}
 
 -- ---- one page

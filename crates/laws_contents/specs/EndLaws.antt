@@ -1,11 +1,11 @@
 -- Where a file ends: with a page that isn't full, or because a page is missing.
 use Rattle.std.specs.Prelude.{None, Some, drop, length, suc, true, ℕ, ◌%◌, ◌*◌, ◌+◌, ◌/◌, ◌<◌, ◌≡◌, ◌⊎◌}
-use Rattle.alto_words.specs.declared.fid.Fid.{Fid}
-use Rattle.disk_records.specs.Packs.{Pack}
-use Rattle.pack_model.specs.operations.Committing.{page_of_byte}
-use Rattle.pack_model.specs.reading.Files.{file_bytes, lives, place}
-use Rattle.pack_model.specs.reading.Sights.{sights}
-use Rattle.pack_model.specs.states.Whole.{Whole}
+use Rattle.laws_record.specs.alto_words.specs.declared.fid.Fid.{Fid}
+use Rattle.laws_record.specs.disk_records.specs.Packs.{Pack}
+use Rattle.laws_record.specs.pack_model.specs.operations.Committing.{page_of_byte}
+use Rattle.laws_record.specs.pack_model.specs.reading.Files.{file_bytes, lives, place}
+use Rattle.laws_record.specs.pack_model.specs.reading.Sights.{sights}
+use Rattle.laws_record.specs.pack_model.specs.states.Whole.{Whole}
 use Rattle.laws_contents.specs.PageLaws.{FullBefore, bytes_at}
 
 -- ---- on any pack

@@ -3,3 +3,8 @@ pub mod EndLaws
 pub mod ModelContents
 pub mod PageLaws
 pub mod WordContents
+pub use Rattle.laws_record.specs.alto_words
+pub use Rattle.laws_record.specs.disk_records
+pub use Rattle.laws_record.specs.pack_model
+pub use Rattle.laws_record.specs.pack_laws
+pub use Rattle.laws_record

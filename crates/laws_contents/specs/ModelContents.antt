@@ -1,18 +1,18 @@
 -- The files of the model by the values of their pages.
 use Rattle.std.specs.FinMap.{get}
 use Rattle.std.specs.Prelude.{Some, false, length, true, ℕ, ◌*◌, ◌≡◌}
-use Rattle.alto_words.specs.Fid.{disk_descriptor, is_directory, is_fid}
-use Rattle.alto_words.specs.declared.fid.Fid.{Fid}
-use Rattle.disk_records.specs.Packs.{Pack, sector_at}
-use Rattle.pack_model.specs.hints.Links.{dir_words}
-use Rattle.pack_model.specs.operations.Committing.{length_of}
-use Rattle.pack_model.specs.reading.Bodies.Body.{data_of, items_of}
-use Rattle.pack_model.specs.reading.Files.{file_bytes, leader, lives, place}
-use Rattle.pack_model.specs.reading.Leaders.{is_readable, leader_of, leader_words}
-use Rattle.pack_model.specs.reading.Model.{dir_items, read_as}
-use Rattle.pack_model.specs.reading.Sights.{sights}
-use Rattle.pack_model.specs.reading.Slots.{all_words, slots}
-use Rattle.pack_model.specs.states.Whole.{Tidy, Whole}
+use Rattle.laws_record.specs.alto_words.specs.Fid.{disk_descriptor, is_directory, is_fid}
+use Rattle.laws_record.specs.alto_words.specs.declared.fid.Fid.{Fid}
+use Rattle.laws_record.specs.disk_records.specs.Packs.{Pack, sector_at}
+use Rattle.laws_record.specs.pack_model.specs.hints.Links.{dir_words}
+use Rattle.laws_record.specs.pack_model.specs.operations.Committing.{length_of}
+use Rattle.laws_record.specs.pack_model.specs.reading.Bodies.Body.{data_of, items_of}
+use Rattle.laws_record.specs.pack_model.specs.reading.Files.{file_bytes, leader, lives, place}
+use Rattle.laws_record.specs.pack_model.specs.reading.Leaders.{is_readable, leader_of, leader_words}
+use Rattle.laws_record.specs.pack_model.specs.reading.Model.{dir_items, read_as}
+use Rattle.laws_record.specs.pack_model.specs.reading.Sights.{sights}
+use Rattle.laws_record.specs.pack_model.specs.reading.Slots.{all_words, slots}
+use Rattle.laws_record.specs.pack_model.specs.states.Whole.{Tidy, Whole}
 
 -- ---- leaders
 -- A file lives, and its leader is what this value says.

@@ -1,13 +1,13 @@
 -- Where the pages of a file are, and which of a sector's bytes count.
 use Rattle.std.specs.Prelude.{List, None, Some, length, suc, ℕ, ◌<◌, ◌≡◌, ◌≤◌, ◌↔◌}
-use Rattle.alto_words.specs.declared.fid.Fid.{Fid}
-use Rattle.disk_records.specs.Packs.{AreFormed, Pack, carried, sector_at}
-use Rattle.disk_records.specs.Words.{word}
-use Rattle.disk_records.specs.declared.records.Page.{Page}
-use Rattle.pack_model.specs.reading.Files.{page, place}
-use Rattle.pack_model.specs.reading.Sights.{sights}
-use Rattle.pack_model.specs.states.Sentences.{EachOnce}
-use Rattle.pack_model.specs.states.Whole.{Whole}
+use Rattle.laws_record.specs.alto_words.specs.declared.fid.Fid.{Fid}
+use Rattle.laws_record.specs.disk_records.specs.Packs.{AreFormed, Pack, carried, sector_at}
+use Rattle.laws_record.specs.disk_records.specs.Words.{word}
+use Rattle.laws_record.specs.disk_records.specs.declared.records.Page.{Page}
+use Rattle.laws_record.specs.pack_model.specs.reading.Files.{page, place}
+use Rattle.laws_record.specs.pack_model.specs.reading.Sights.{sights}
+use Rattle.laws_record.specs.pack_model.specs.states.Sentences.{EachOnce}
+use Rattle.laws_record.specs.pack_model.specs.states.Whole.{Whole}
 use Rattle.laws_record.specs.QuietLaws.{counted_of}
 
 -- ---- where a page is

@@ -1,15 +1,15 @@
 -- The words of a file by the values of its pages, on any pack: those of a directory, and those of DiskDescriptor.
 use Rattle.std.specs.Prelude.{List, Some, drop, length, suc, take, ℕ, ◌%◌, ◌*◌, ◌++◌, ◌+◌, ◌/◌, ◌<◌, ◌≡◌, ◌≤◌}
-use Rattle.alto_words.specs.Fid.{disk_descriptor}
-use Rattle.alto_words.specs.declared.fid.Fid.{Fid}
-use Rattle.disk_records.specs.Packs.{Pack, sector_at}
-use Rattle.disk_records.specs.Words.{double, word}
-use Rattle.pack_model.specs.hints.HintWords.{IsWordOf}
-use Rattle.pack_model.specs.reading.Bytes.{words_of}
-use Rattle.pack_model.specs.reading.Files.{file_bytes, place}
-use Rattle.pack_model.specs.reading.Model.{read_as}
-use Rattle.pack_model.specs.reading.Sights.{sights}
-use Rattle.pack_model.specs.states.Sound.{mark_of}
+use Rattle.laws_record.specs.alto_words.specs.Fid.{disk_descriptor}
+use Rattle.laws_record.specs.alto_words.specs.declared.fid.Fid.{Fid}
+use Rattle.laws_record.specs.disk_records.specs.Packs.{Pack, sector_at}
+use Rattle.laws_record.specs.disk_records.specs.Words.{double, word}
+use Rattle.laws_record.specs.pack_model.specs.hints.HintWords.{IsWordOf}
+use Rattle.laws_record.specs.pack_model.specs.reading.Bytes.{words_of}
+use Rattle.laws_record.specs.pack_model.specs.reading.Files.{file_bytes, place}
+use Rattle.laws_record.specs.pack_model.specs.reading.Model.{read_as}
+use Rattle.laws_record.specs.pack_model.specs.reading.Sights.{sights}
+use Rattle.laws_record.specs.pack_model.specs.states.Sound.{mark_of}
 use Rattle.laws_contents.specs.PageLaws.{FullBefore, bytes_at}
 
 -- the words of any file: `dir_words` of a directory, `descriptor_words` of DiskDescriptor

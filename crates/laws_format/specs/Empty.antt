@@ -1,16 +1,16 @@
 -- The model without files, as formatting leaves it.
 use Rattle.std.specs.Prelude.{ℕ, ◌-◌, List, [], ◌∷◌}
 use Rattle.std.specs.FinMap.{from_entries}
-use Rattle.alto_words.specs.Fid.{sys_dir, disk_descriptor}
-use Rattle.disk_records.specs.declared.shape.Shape.{Shape}
-use Rattle.disk_records.specs.Addresses.{pages_of}
-use Rattle.pack_model.specs.reading.Namings.{sys_dir_name, descriptor_name}
-use Rattle.pack_model.specs.reading.Slots.{Item}
-use Rattle.pack_model.specs.reading.Slots.Item.{space, entry}
-use Rattle.pack_model.specs.reading.Bodies.{File}
-use Rattle.pack_model.specs.reading.Bodies.Body.{items_of}
-use Rattle.pack_model.specs.reading.Model.{Model}
-use Rattle.pack_model.specs.operations.Step.{new_leader}
+use Rattle.laws_hint.specs.alto_words.specs.Fid.{sys_dir, disk_descriptor}
+use Rattle.laws_hint.specs.disk_records.specs.declared.shape.Shape.{Shape}
+use Rattle.laws_hint.specs.disk_records.specs.Addresses.{pages_of}
+use Rattle.laws_hint.specs.pack_model.specs.reading.Namings.{sys_dir_name, descriptor_name}
+use Rattle.laws_hint.specs.pack_model.specs.reading.Slots.{Item}
+use Rattle.laws_hint.specs.pack_model.specs.reading.Slots.Item.{space, entry}
+use Rattle.laws_hint.specs.pack_model.specs.reading.Bodies.{File}
+use Rattle.laws_hint.specs.pack_model.specs.reading.Bodies.Body.{items_of}
+use Rattle.laws_hint.specs.pack_model.specs.reading.Model.{Model}
+use Rattle.laws_hint.specs.pack_model.specs.operations.Step.{new_leader}
 
 -- SysDir's slots: both system files and 231 free words
 abbrev pub empty_items : List Item

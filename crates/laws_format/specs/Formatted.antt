@@ -2,22 +2,22 @@
 use Rattle.std.specs.FinMap.{from_entries}
 use Rattle.std.specs.List.{range_with_len}
 use Rattle.std.specs.Prelude.{◌≡◌, ℕ, ◌&&◌, nat_le, nat_lt, List, [], length}
-use Rattle.alto_words.specs.declared.fid.Fid.{Fid}
-use Rattle.disk_records.specs.declared.shape.Shape.{Shape}
-use Rattle.disk_records.specs.Addresses.{pages_of}
-use Rattle.disk_records.specs.Packs.{Pack, is_free_at}
-use Rattle.page_alloc.specs.Free.{IsTrueTable, free_addresses}
-use Rattle.pack_model.specs.hints.Handy.{CachedAt, Handy, HandyCache}
-use Rattle.pack_model.specs.hints.Tables.{HintsTrue, TableTrue, described_table}
-use Rattle.pack_model.specs.reading.Model.{read_as, room}
-use Rattle.pack_model.specs.reading.Sights.{sights}
-use Rattle.pack_model.specs.sessions.Descriptor.{DescriptorFits, data_pages}
-use Rattle.pack_model.specs.sessions.Format.{format_table, formatted, free_after_format, sectors_used}
-use Rattle.pack_model.specs.showing.Settling.{show}
-use Rattle.pack_model.specs.showing.View.{View}
-use Rattle.pack_model.specs.states.InUse.{available, free_sector_count}
-use Rattle.pack_model.specs.states.Sound.{Clean, Sound, mark_clean}
-use Rattle.laws_operation.specs.OnceLaws.{CarriedOnce}
+use Rattle.laws_hint.specs.alto_words.specs.declared.fid.Fid.{Fid}
+use Rattle.laws_hint.specs.disk_records.specs.declared.shape.Shape.{Shape}
+use Rattle.laws_hint.specs.disk_records.specs.Addresses.{pages_of}
+use Rattle.laws_hint.specs.disk_records.specs.Packs.{Pack, is_free_at}
+use Rattle.laws_hint.specs.page_alloc.specs.Free.{IsTrueTable, free_addresses}
+use Rattle.laws_hint.specs.pack_model.specs.hints.Handy.{CachedAt, Handy, HandyCache}
+use Rattle.laws_hint.specs.pack_model.specs.hints.Tables.{HintsTrue, TableTrue, described_table}
+use Rattle.laws_hint.specs.pack_model.specs.reading.Model.{read_as, room}
+use Rattle.laws_hint.specs.pack_model.specs.reading.Sights.{sights}
+use Rattle.laws_hint.specs.pack_model.specs.sessions.Descriptor.{DescriptorFits, data_pages}
+use Rattle.laws_hint.specs.pack_model.specs.sessions.Format.{format_table, formatted, free_after_format, sectors_used}
+use Rattle.laws_hint.specs.pack_model.specs.showing.Settling.{show}
+use Rattle.laws_hint.specs.pack_model.specs.showing.View.{View}
+use Rattle.laws_hint.specs.pack_model.specs.states.InUse.{available, free_sector_count}
+use Rattle.laws_hint.specs.pack_model.specs.states.Sound.{Clean, Sound, mark_clean}
+use Rattle.laws_hint.specs.laws_operation.specs.OnceLaws.{CarriedOnce}
 use Rattle.laws_format.specs.Empty.{empty_model}
 
 -- A pack where a session may begin: it is sound and clean, all its hints are true, and no page is carried twice.

@@ -2,3 +2,12 @@ pub mod Empty
 pub mod Formatted
 pub mod Preparing
 pub mod Writing
+pub use Rattle.laws_hint.specs.alto_words
+pub use Rattle.laws_hint.specs.disk_records
+pub use Rattle.laws_hint.specs.pack_model
+pub use Rattle.laws_hint.specs.pack_laws
+pub use Rattle.laws_record
+pub use Rattle.laws_hint.specs.laws_contents
+pub use Rattle.laws_hint.specs.laws_operation
+pub use Rattle.laws_hint.specs.laws_lookup
+pub use Rattle.laws_hint.specs.laws_line

@@ -1,17 +1,17 @@
 -- Preparing the second drive of a pack: its record writes, what each kind of them leaves on any pack, and what all of them leave.
 use Rattle.std.specs.Prelude.{List, None, [], length, suc, true, zero, ℕ, ◌*◌, ◌+◌, ◌++◌, ◌<◌, ◌∷◌, ◌≡◌, ◌≤◌}
-use Rattle.disk_records.specs.Addresses.{cylinders_of, pages_of}
-use Rattle.disk_records.specs.Commands.{ones, release_writes}
-use Rattle.disk_records.specs.Labels.{is_free, tag}
-use Rattle.disk_records.specs.Packs.{Pack, after, carried, crash, is_free_at, sector_at}
-use Rattle.disk_records.specs.declared.records.Event.TheVariants.{Wrote}
-use Rattle.disk_records.specs.declared.records.Event.{Event}
-use Rattle.disk_records.specs.declared.records.Sector.{Sector}
-use Rattle.disk_records.specs.declared.shape.Shape.{Shape}
+use Rattle.laws_hint.specs.disk_records.specs.Addresses.{cylinders_of, pages_of}
+use Rattle.laws_hint.specs.disk_records.specs.Commands.{ones, release_writes}
+use Rattle.laws_hint.specs.disk_records.specs.Labels.{is_free, tag}
+use Rattle.laws_hint.specs.disk_records.specs.Packs.{Pack, after, carried, crash, is_free_at, sector_at}
+use Rattle.laws_hint.specs.disk_records.specs.declared.records.Event.TheVariants.{Wrote}
+use Rattle.laws_hint.specs.disk_records.specs.declared.records.Event.{Event}
+use Rattle.laws_hint.specs.disk_records.specs.declared.records.Sector.{Sector}
+use Rattle.laws_hint.specs.disk_records.specs.declared.shape.Shape.{Shape}
 use Rattle.laws_format.specs.Writing.{headed}
 use Rattle.laws_record.specs.QuietLaws.{Relation, with_value}
-use Rattle.pack_model.specs.sessions.Format.{sector_writes}
-use Rattle.pack_model.specs.showing.Settling.{show}
+use Rattle.laws_hint.specs.pack_model.specs.sessions.Format.{sector_writes}
+use Rattle.laws_hint.specs.pack_model.specs.showing.Settling.{show}
 
 -- ---- kinds of record writes, on any pack
 -- any value of a sector that carries no page

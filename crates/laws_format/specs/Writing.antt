@@ -1,14 +1,14 @@
 -- The record writes of whole sectors, one after another, as formatting makes them; and the sectors of its pack, by their place.
 use Rattle.std.specs.Prelude.{◌≡◌, ℕ, ◌+◌, ◌%◌, ◌<◌, ◌≤◌, List, ◌∷◌, [], ◌++◌, length, take, drop, replicate}
-use Rattle.alto_words.specs.Fid.{disk_descriptor, sys_dir}
-use Rattle.disk_records.specs.declared.records.Sector.{Sector}
-use Rattle.disk_records.specs.declared.shape.Shape.{Shape}
-use Rattle.disk_records.specs.Addresses.{descriptor_length, pages_of, real_of}
-use Rattle.disk_records.specs.Commands.{ones}
-use Rattle.disk_records.specs.Packs.{Pack, after, sector_at}
-use Rattle.pack_model.specs.reading.Namings.{descriptor_name, sys_dir_name}
-use Rattle.pack_model.specs.sessions.Descriptor.{data_pages}
-use Rattle.pack_model.specs.sessions.Format.{Written, format_leader, format_page, format_root, format_writes, formatted, sector_writes, sectors_used, sectors_writes}
+use Rattle.laws_hint.specs.alto_words.specs.Fid.{disk_descriptor, sys_dir}
+use Rattle.laws_hint.specs.disk_records.specs.declared.records.Sector.{Sector}
+use Rattle.laws_hint.specs.disk_records.specs.declared.shape.Shape.{Shape}
+use Rattle.laws_hint.specs.disk_records.specs.Addresses.{descriptor_length, pages_of, real_of}
+use Rattle.laws_hint.specs.disk_records.specs.Commands.{ones}
+use Rattle.laws_hint.specs.disk_records.specs.Packs.{Pack, after, sector_at}
+use Rattle.laws_hint.specs.pack_model.specs.reading.Namings.{descriptor_name, sys_dir_name}
+use Rattle.laws_hint.specs.pack_model.specs.sessions.Descriptor.{data_pages}
+use Rattle.laws_hint.specs.pack_model.specs.sessions.Format.{Written, format_leader, format_page, format_root, format_writes, formatted, sector_writes, sectors_used, sectors_writes}
 
 -- ---- record writes
 -- whole sectors that are written come in the place of others, on any pack that has as many

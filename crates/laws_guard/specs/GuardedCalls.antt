@@ -1,24 +1,24 @@
 -- How the answer of a guarded command makes that of a call that is to do an operation.
 use Rattle.std.specs.Prelude.{Bool, IsErrOf, List, Ok, OnOk, Result, [], false, length, take, true, ℕ, ◌++◌, ◌<◌, ◌∷◌, ◌≡◌}
-use Rattle.alto_words.specs.declared.fid.Fid.{Fid}
-use Rattle.disk_records.specs.Events.{IsFirstOf, writes_in}
-use Rattle.disk_records.specs.Packs.{Pack}
-use Rattle.disk_records.specs.Tapes.{Grown, Taped, added, capped, pack}
-use Rattle.disk_records.specs.declared.records.Event.{Event}
-use Rattle.disk_records.specs.declared.records.Tally.{Tally}
-use Rattle.label_check.specs.Guarded.{Guarded}
-use Rattle.label_check.specs.declared.errors.GuardError.TheVariants as guard
-use Rattle.label_check.specs.declared.errors.GuardError.{GuardError}
+use Rattle.laws_call.specs.alto_words.specs.declared.fid.Fid.{Fid}
+use Rattle.laws_call.specs.disk_records.specs.Events.{IsFirstOf, writes_in}
+use Rattle.laws_call.specs.disk_records.specs.Packs.{Pack}
+use Rattle.laws_call.specs.disk_records.specs.Tapes.{Grown, Taped, added, capped, pack}
+use Rattle.laws_call.specs.disk_records.specs.declared.records.Event.{Event}
+use Rattle.laws_call.specs.disk_records.specs.declared.records.Tally.{Tally}
+use Rattle.laws_call.specs.label_check.specs.Guarded.{Guarded}
+use Rattle.laws_call.specs.label_check.specs.declared.errors.GuardError.TheVariants as guard
+use Rattle.laws_call.specs.label_check.specs.declared.errors.GuardError.{GuardError}
 use Rattle.laws_call.specs.Acting.{Around, Operates, Releases}
 use Rattle.laws_call.specs.Writing.{Written}
-use Rattle.laws_hint.specs.MapChanges.{marked}
-use Rattle.laws_operation.specs.LifeLaws.{MayDrop, first_moves}
-use Rattle.pack_model.specs.operations.Committing.{moves_of}
-use Rattle.pack_model.specs.operations.Operations.{release_file_writes}
-use Rattle.pack_model.specs.operations.Step.{Operation}
-use Rattle.pack_model.specs.reading.Model.{read_as}
-use Rattle.pack_model.specs.sessions.Tallies.{CountsMoves}
-use Rattle.pack_model.specs.states.Whole.{Tidy, Whole}
+use Rattle.laws_call.specs.laws_hint.specs.MapChanges.{marked}
+use Rattle.laws_call.specs.laws_operation.specs.LifeLaws.{MayDrop, first_moves}
+use Rattle.laws_call.specs.pack_model.specs.operations.Committing.{moves_of}
+use Rattle.laws_call.specs.pack_model.specs.operations.Operations.{release_file_writes}
+use Rattle.laws_call.specs.pack_model.specs.operations.Step.{Operation}
+use Rattle.laws_call.specs.pack_model.specs.reading.Model.{read_as}
+use Rattle.laws_call.specs.pack_model.specs.sessions.Tallies.{CountsMoves}
+use Rattle.laws_call.specs.pack_model.specs.states.Whole.{Tidy, Whole}
 
 -- ---- a part of a list of record writes
 -- From the first state to the last there is a prefix of the list; after an Ok of the part's command, all up to the end of the part. It is

@@ -1,15 +1,15 @@
 -- Closing with the true map leaves all hints true.
 use Rattle.std.specs.Prelude.{Bool, List, [], ℕ, ◌≡◌, ◌≢◌}
-use Rattle.disk_records.specs.Packs.{Pack, after}
-use Rattle.disk_records.specs.declared.records.Event.{Event}
-use Rattle.pack_model.specs.sessions.Descriptor.{close_writes}
-use Rattle.pack_model.specs.hints.Links.{LinksTrue}
-use Rattle.pack_model.specs.reading.Model.{read_as}
-use Rattle.pack_model.specs.reading.Sights.{sights}
-use Rattle.pack_model.specs.states.Sound.{Clean, Sound, mark_clean, mark_of}
-use Rattle.pack_model.specs.hints.Tables.{HintsTrue, TableTrue}
-use Rattle.pack_model.specs.states.Whole.{Tidy, Whole}
-use Rattle.laws_operation.specs.DescriptorLaws.{MayClose}
+use Rattle.laws_line.specs.disk_records.specs.Packs.{Pack, after}
+use Rattle.laws_line.specs.disk_records.specs.declared.records.Event.{Event}
+use Rattle.laws_line.specs.pack_model.specs.sessions.Descriptor.{close_writes}
+use Rattle.laws_line.specs.pack_model.specs.hints.Links.{LinksTrue}
+use Rattle.laws_line.specs.pack_model.specs.reading.Model.{read_as}
+use Rattle.laws_line.specs.pack_model.specs.reading.Sights.{sights}
+use Rattle.laws_line.specs.pack_model.specs.states.Sound.{Clean, Sound, mark_clean, mark_of}
+use Rattle.laws_line.specs.pack_model.specs.hints.Tables.{HintsTrue, TableTrue}
+use Rattle.laws_line.specs.pack_model.specs.states.Whole.{Tidy, Whole}
+use Rattle.laws_line.specs.laws_operation.specs.DescriptorLaws.{MayClose}
 
 -- the record writes by which this pack is closed, with this map, in these sectors of DiskDescriptor's data pages
 abbrev pub closing_writes : Pack → List Bool → List ℕ → List Event

@@ -1,17 +1,17 @@
 -- Handy hints stay handy over the operations of a session.
 use Rattle.std.specs.Prelude.{All, List, None, Some, [], false, length, true, ℕ, ◌∷◌, ◌≡◌, ◌≢◌, ◌≤◌, ◌⊎◌}
-use Rattle.alto_words.specs.Fid.{is_fid}
-use Rattle.alto_words.specs.declared.fid.Fid.{Fid}
-use Rattle.disk_records.specs.Packs.{Pack, after, sector_at}
-use Rattle.pack_model.specs.hints.Handy.{CachedAt, Handy, IsRightOrIdle, NamesLastPage, last_at_word, last_number_word, leader_word, row_word}
-use Rattle.pack_model.specs.operations.Commands.{Claim, values_writes}
-use Rattle.pack_model.specs.operations.Committing.{page_of_byte}
-use Rattle.pack_model.specs.operations.Operations.{cut_writes, grow_writes}
-use Rattle.pack_model.specs.reading.Files.{file_bytes, lives, place}
-use Rattle.pack_model.specs.reading.Sights.{sights}
-use Rattle.pack_model.specs.states.Whole.{Tidy, Whole}
-use Rattle.laws_operation.specs.ByteLaws.{MayCut, MayGrow}
-use Rattle.laws_operation.specs.NameLaws.{MayWiden}
+use Rattle.laws_line.specs.alto_words.specs.Fid.{is_fid}
+use Rattle.laws_line.specs.alto_words.specs.declared.fid.Fid.{Fid}
+use Rattle.laws_line.specs.disk_records.specs.Packs.{Pack, after, sector_at}
+use Rattle.laws_line.specs.pack_model.specs.hints.Handy.{CachedAt, Handy, IsRightOrIdle, NamesLastPage, last_at_word, last_number_word, leader_word, row_word}
+use Rattle.laws_line.specs.pack_model.specs.operations.Commands.{Claim, values_writes}
+use Rattle.laws_line.specs.pack_model.specs.operations.Committing.{page_of_byte}
+use Rattle.laws_line.specs.pack_model.specs.operations.Operations.{cut_writes, grow_writes}
+use Rattle.laws_line.specs.pack_model.specs.reading.Files.{file_bytes, lives, place}
+use Rattle.laws_line.specs.pack_model.specs.reading.Sights.{sights}
+use Rattle.laws_line.specs.pack_model.specs.states.Whole.{Tidy, Whole}
+use Rattle.laws_line.specs.laws_operation.specs.ByteLaws.{MayCut, MayGrow}
+use Rattle.laws_line.specs.laws_operation.specs.NameLaws.{MayWiden}
 use Rattle.laws_lookup.specs.OtherLaws.{LeavesOthers}
 
 -- the flag and the last-page words of the leader in this sector are as they were

@@ -7,3 +7,15 @@ pub mod MapMeanings
 pub mod MapWords
 pub mod TableLaws
 pub mod TruthLaws
+pub use Rattle.laws_line.specs.alto_words
+pub use Rattle.laws_line.specs.disk_records
+pub use Rattle.laws_line.specs.label_check
+pub use Rattle.laws_line.specs.page_alloc
+pub use Rattle.laws_line.specs.pack_model
+pub use Rattle.laws_line.specs.pack_laws
+pub use Rattle.laws_line.specs.laws_record
+pub use Rattle.laws_line.specs.laws_contents
+pub use Rattle.laws_line.specs.laws_operation
+pub use Rattle.laws_lookup
+pub use Rattle.laws_line.specs.laws_room
+pub use Rattle.laws_line

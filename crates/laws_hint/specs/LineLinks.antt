@@ -1,19 +1,19 @@
 -- The links of a line as a whole, and of a line and the closing after it.
 use Rattle.std.specs.Prelude.{Bool, List, Some, ℕ, ◌++◌, ◌≡◌}
-use Rattle.alto_words.specs.Fid.{disk_descriptor}
-use Rattle.disk_records.specs.Packs.{Pack, after, sector_at}
-use Rattle.disk_records.specs.declared.records.Event.{Event}
-use Rattle.pack_model.specs.sessions.Descriptor.{open_writes}
-use Rattle.pack_model.specs.reading.Files.{place}
-use Rattle.pack_model.specs.hints.Links.{LinksTrue}
-use Rattle.pack_model.specs.reading.Sights.{sights}
-use Rattle.pack_model.specs.states.Sound.{mark_of}
-use Rattle.pack_model.specs.operations.Step.{Operation}
-use Rattle.pack_model.specs.hints.Tables.{TableTrue}
-use Rattle.pack_model.specs.states.Whole.{Tidy, Whole}
-use Rattle.laws_operation.specs.DescriptorLaws.{MayClose}
+use Rattle.laws_line.specs.alto_words.specs.Fid.{disk_descriptor}
+use Rattle.laws_line.specs.disk_records.specs.Packs.{Pack, after, sector_at}
+use Rattle.laws_line.specs.disk_records.specs.declared.records.Event.{Event}
+use Rattle.laws_line.specs.pack_model.specs.sessions.Descriptor.{open_writes}
+use Rattle.laws_line.specs.pack_model.specs.reading.Files.{place}
+use Rattle.laws_line.specs.pack_model.specs.hints.Links.{LinksTrue}
+use Rattle.laws_line.specs.pack_model.specs.reading.Sights.{sights}
+use Rattle.laws_line.specs.pack_model.specs.states.Sound.{mark_of}
+use Rattle.laws_line.specs.pack_model.specs.operations.Step.{Operation}
+use Rattle.laws_line.specs.pack_model.specs.hints.Tables.{TableTrue}
+use Rattle.laws_line.specs.pack_model.specs.states.Whole.{Tidy, Whole}
+use Rattle.laws_line.specs.laws_operation.specs.DescriptorLaws.{MayClose}
 use Rattle.laws_line.specs.CrashLaws.{Batch, does, makes, over, with_serial}
-use Rattle.laws_operation.specs.LinkLaws.{KeepsLinks}
+use Rattle.laws_line.specs.laws_operation.specs.LinkLaws.{KeepsLinks}
 use Rattle.laws_hint.specs.ClosingLaws.{ClosedTrue, closing_writes}
 
 -- ---- a line

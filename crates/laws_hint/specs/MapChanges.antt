@@ -2,33 +2,33 @@
 -- and releases; on any pack a claim, a release and a value change none of the map of the free sectors but that of their own sector.
 use Rattle.std.specs.List.{list_any}
 use Rattle.std.specs.Prelude.{Bool, List, Some, [], cond, false, length, set, true, ℕ, ◌<◌, ◌==◌, ◌∷◌, ◌≡◌, ◌≤◌}
-use Rattle.alto_words.specs.Fid.{disk_descriptor}
-use Rattle.alto_words.specs.declared.fid.Fid.{Fid}
-use Rattle.disk_records.specs.Commands.{claim_writes, release_writes, value_writes}
-use Rattle.disk_records.specs.Labels.{page_of}
-use Rattle.disk_records.specs.Packs.{Pack, after, is_usable, sector_at}
-use Rattle.disk_records.specs.declared.records.Event.{Event}
-use Rattle.disk_records.specs.declared.records.Page.{Page}
-use Rattle.hint_cache.specs.Bits.{busy_at}
-use Rattle.pack_model.specs.operations.Commands.{Claim, all_claimed, sectors_of}
-use Rattle.pack_model.specs.sessions.Descriptor.{close_writes, open_writes, serial_writes}
-use Rattle.pack_model.specs.operations.Entering.{entry_value, values_first}
-use Rattle.pack_model.specs.reading.Files.{place}
-use Rattle.pack_model.specs.reading.Model.{read_as}
-use Rattle.pack_model.specs.operations.Operations.{cut_writes, drop_writes, enter_writes, release_file_writes, grow_writes, make_writes}
-use Rattle.pack_model.specs.operations.PageWords.{freed_value}
-use Rattle.pack_model.specs.reading.Sights.{sights}
-use Rattle.pack_model.specs.reading.Slots.{Item, all_words, item_words}
-use Rattle.pack_model.specs.reading.Slots.Item.{entry}
-use Rattle.pack_model.specs.states.Sound.{mark_of}
-use Rattle.pack_model.specs.hints.Tables.{free_table, true_table}
-use Rattle.pack_model.specs.states.Whole.{Tidy, Whole}
-use Rattle.laws_record.specs.DirLaws.{Frees}
-use Rattle.laws_operation.specs.ByteLaws.{MayCut, MayGrow, MayPut}
-use Rattle.laws_operation.specs.DescriptorLaws.{MayClose}
-use Rattle.laws_operation.specs.LeaderLaws.{MayWriteLeader, stamped, titled}
-use Rattle.laws_operation.specs.LifeLaws.{MayDrop, MayMake}
-use Rattle.laws_operation.specs.NameLaws.{MayEnterAt, MayLeave, MayWiden, entry_room}
+use Rattle.laws_line.specs.alto_words.specs.Fid.{disk_descriptor}
+use Rattle.laws_line.specs.alto_words.specs.declared.fid.Fid.{Fid}
+use Rattle.laws_line.specs.disk_records.specs.Commands.{claim_writes, release_writes, value_writes}
+use Rattle.laws_line.specs.disk_records.specs.Labels.{page_of}
+use Rattle.laws_line.specs.disk_records.specs.Packs.{Pack, after, is_usable, sector_at}
+use Rattle.laws_line.specs.disk_records.specs.declared.records.Event.{Event}
+use Rattle.laws_line.specs.disk_records.specs.declared.records.Page.{Page}
+use Rattle.laws_line.specs.hint_cache.specs.Bits.{busy_at}
+use Rattle.laws_line.specs.pack_model.specs.operations.Commands.{Claim, all_claimed, sectors_of}
+use Rattle.laws_line.specs.pack_model.specs.sessions.Descriptor.{close_writes, open_writes, serial_writes}
+use Rattle.laws_line.specs.pack_model.specs.operations.Entering.{entry_value, values_first}
+use Rattle.laws_line.specs.pack_model.specs.reading.Files.{place}
+use Rattle.laws_line.specs.pack_model.specs.reading.Model.{read_as}
+use Rattle.laws_line.specs.pack_model.specs.operations.Operations.{cut_writes, drop_writes, enter_writes, release_file_writes, grow_writes, make_writes}
+use Rattle.laws_line.specs.pack_model.specs.operations.PageWords.{freed_value}
+use Rattle.laws_line.specs.pack_model.specs.reading.Sights.{sights}
+use Rattle.laws_line.specs.pack_model.specs.reading.Slots.{Item, all_words, item_words}
+use Rattle.laws_line.specs.pack_model.specs.reading.Slots.Item.{entry}
+use Rattle.laws_line.specs.pack_model.specs.states.Sound.{mark_of}
+use Rattle.laws_line.specs.pack_model.specs.hints.Tables.{free_table, true_table}
+use Rattle.laws_line.specs.pack_model.specs.states.Whole.{Tidy, Whole}
+use Rattle.laws_line.specs.laws_record.specs.DirLaws.{Frees}
+use Rattle.laws_line.specs.laws_operation.specs.ByteLaws.{MayCut, MayGrow, MayPut}
+use Rattle.laws_line.specs.laws_operation.specs.DescriptorLaws.{MayClose}
+use Rattle.laws_line.specs.laws_operation.specs.LeaderLaws.{MayWriteLeader, stamped, titled}
+use Rattle.laws_line.specs.laws_operation.specs.LifeLaws.{MayDrop, MayMake}
+use Rattle.laws_line.specs.laws_operation.specs.NameLaws.{MayEnterAt, MayLeave, MayWiden, entry_room}
 
 -- ---- marks
 -- a table with these sectors busy, or with these sectors free, and all others as they were

@@ -1,15 +1,15 @@
 -- Closing with any map: what DiskDescriptor says after it.
 use Rattle.std.specs.Prelude.{Bool, List, length, not, ℕ, ◌↔◌, ◌≡◌, ◌≢◌}
-use Rattle.disk_records.specs.Addresses.{pages_of, table_words}
-use Rattle.disk_records.specs.Packs.{Pack, after}
-use Rattle.pack_model.specs.sessions.Descriptor.{descriptor_text}
-use Rattle.pack_model.specs.states.InUse.{how_many}
-use Rattle.pack_model.specs.reading.Model.{descriptor_words, read_as}
-use Rattle.pack_model.specs.reading.Sights.{sights}
-use Rattle.pack_model.specs.states.Sound.{mark_clean, mark_of}
-use Rattle.pack_model.specs.hints.Tables.{TableTrue, WordsTrue, described_free, described_table, table_in, words_of_bits}
-use Rattle.pack_model.specs.states.Whole.{Tidy, Whole}
-use Rattle.laws_operation.specs.DescriptorLaws.{MayClose}
+use Rattle.laws_line.specs.disk_records.specs.Addresses.{pages_of, table_words}
+use Rattle.laws_line.specs.disk_records.specs.Packs.{Pack, after}
+use Rattle.laws_line.specs.pack_model.specs.sessions.Descriptor.{descriptor_text}
+use Rattle.laws_line.specs.pack_model.specs.states.InUse.{how_many}
+use Rattle.laws_line.specs.pack_model.specs.reading.Model.{descriptor_words, read_as}
+use Rattle.laws_line.specs.pack_model.specs.reading.Sights.{sights}
+use Rattle.laws_line.specs.pack_model.specs.states.Sound.{mark_clean, mark_of}
+use Rattle.laws_line.specs.pack_model.specs.hints.Tables.{TableTrue, WordsTrue, described_free, described_table, table_in, words_of_bits}
+use Rattle.laws_line.specs.pack_model.specs.states.Whole.{Tidy, Whole}
+use Rattle.laws_line.specs.laws_operation.specs.DescriptorLaws.{MayClose}
 use Rattle.laws_hint.specs.ClosingLaws.{closing_writes}
 use Rattle.laws_hint.specs.MapMeanings.{HasEachSector}
 

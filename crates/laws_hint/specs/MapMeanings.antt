@@ -1,11 +1,11 @@
 -- What it is for a table of busy bits to be true, in page_alloc's term and in pack_model's.
 use Rattle.std.specs.Prelude.{Bool, List, false, length, ℕ, ◌↔◌, ◌≡◌}
-use Rattle.disk_records.specs.Addresses.{pages_of}
-use Rattle.disk_records.specs.Packs.{Pack}
-use Rattle.hint_cache.specs.Bits.{busy_at}
-use Rattle.page_alloc.specs.Free.{IsTrueTable}
-use Rattle.pack_model.specs.hints.Tables.{TableTrue, free_table, true_table}
-use Rattle.pack_model.specs.states.Whole.{Whole}
+use Rattle.laws_line.specs.disk_records.specs.Addresses.{pages_of}
+use Rattle.laws_line.specs.disk_records.specs.Packs.{Pack}
+use Rattle.laws_line.specs.hint_cache.specs.Bits.{busy_at}
+use Rattle.laws_line.specs.page_alloc.specs.Free.{IsTrueTable}
+use Rattle.laws_line.specs.pack_model.specs.hints.Tables.{TableTrue, free_table, true_table}
+use Rattle.laws_line.specs.pack_model.specs.states.Whole.{Whole}
 
 -- a pack has a sector for each address of its shape
 abbrev pub HasEachSector : Pack → Type 0

@@ -1,15 +1,15 @@
 -- Tables of busy bits as words: hint_cache's way of reading and writing them, and pack_model's.
 use Rattle.std.specs.List.{range_with_len}
 use Rattle.std.specs.Prelude.{Bool, List, [], drop, false, length, map, replicate, true, ℕ, ◌*◌, ◌+◌, ◌≡◌, ◌≤◌}
-use Rattle.disk_records.specs.Addresses.{pages_of, table_words}
-use Rattle.disk_records.specs.Packs.{Pack}
-use Rattle.disk_records.specs.declared.shape.Shape.{Shape}
-use Rattle.hint_cache.specs.Bits.{bits_in, word_of}
-use Rattle.pack_model.specs.sessions.Descriptor.{descriptor_text}
-use Rattle.pack_model.specs.reading.Model.{descriptor_words}
-use Rattle.pack_model.specs.reading.Sights.{sights}
-use Rattle.pack_model.specs.hints.Tables.{bits_from, described_table, table_in, words_of_bits}
-use Rattle.pack_model.specs.states.Whole.{Whole}
+use Rattle.laws_line.specs.disk_records.specs.Addresses.{pages_of, table_words}
+use Rattle.laws_line.specs.disk_records.specs.Packs.{Pack}
+use Rattle.laws_line.specs.disk_records.specs.declared.shape.Shape.{Shape}
+use Rattle.laws_line.specs.hint_cache.specs.Bits.{bits_in, word_of}
+use Rattle.laws_line.specs.pack_model.specs.sessions.Descriptor.{descriptor_text}
+use Rattle.laws_line.specs.pack_model.specs.reading.Model.{descriptor_words}
+use Rattle.laws_line.specs.pack_model.specs.reading.Sights.{sights}
+use Rattle.laws_line.specs.pack_model.specs.hints.Tables.{bits_from, described_table, table_in, words_of_bits}
+use Rattle.laws_line.specs.pack_model.specs.states.Whole.{Whole}
 
 -- the first words that a table gives, one by one
 abbrev pub words_given : ℕ → List Bool → List ℕ

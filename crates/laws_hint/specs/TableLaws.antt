@@ -1,15 +1,15 @@
 -- The table in memory over a line: it was true before; sectors are reserved, claimed and released; and it is true afterwards.
 use Rattle.std.specs.List.{list_any}
 use Rattle.std.specs.Prelude.{All, Bool, List, [], false, length, true, ℕ, ◌++◌, ◌==◌, ◌≡◌, ◌≢◌}
-use Rattle.disk_records.specs.Packs.{Pack, after, is_free_at}
-use Rattle.disk_records.specs.declared.records.Event.{Event}
-use Rattle.hint_cache.specs.Bits.{busy_at}
-use Rattle.page_alloc.specs.Free.{IsCorrected, IsCorrectedBut}
-use Rattle.pack_model.specs.hints.Tables.{TableTrue, true_table}
-use Rattle.pack_model.specs.states.Whole.{Whole}
+use Rattle.laws_line.specs.disk_records.specs.Packs.{Pack, after, is_free_at}
+use Rattle.laws_line.specs.disk_records.specs.declared.records.Event.{Event}
+use Rattle.laws_line.specs.hint_cache.specs.Bits.{busy_at}
+use Rattle.laws_line.specs.page_alloc.specs.Free.{IsCorrected, IsCorrectedBut}
+use Rattle.laws_line.specs.pack_model.specs.hints.Tables.{TableTrue, true_table}
+use Rattle.laws_line.specs.pack_model.specs.states.Whole.{Whole}
 use Rattle.laws_hint.specs.MapChanges.{MarksMap, marked}
 use Rattle.laws_hint.specs.MapMeanings.{HasEachSector}
-use Rattle.laws_operation.specs.FreeLaws.{StayFreeBut}
+use Rattle.laws_line.specs.laws_operation.specs.FreeLaws.{StayFreeBut}
 
 -- The table is the true map with these sectors busy besides. They are free, and reserved for operations to come.
 pub record TableReserves (p : Pack) (busy : List Bool) (reserved : List ℕ) : Type 0 where

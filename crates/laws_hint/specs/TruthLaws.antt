@@ -1,17 +1,17 @@
 -- True hints from the opening of a pack to its closing.
 use Rattle.std.specs.Prelude.{Bool, List, ℕ}
-use Rattle.disk_records.specs.Addresses.{pages_of}
-use Rattle.disk_records.specs.Packs.{Pack, after}
-use Rattle.disk_records.specs.declared.records.Event.{Event}
-use Rattle.hint_cache.specs.Bits.{bits_in}
-use Rattle.pack_model.specs.hints.Tables.{HintsTrue, TableTrue, table_in}
-use Rattle.pack_model.specs.hints.Truth.{Truthful}
-use Rattle.pack_model.specs.scavenger.Scavenging.{Unmarked}
-use Rattle.pack_model.specs.states.Whole.{Tidy, Whole}
+use Rattle.laws_line.specs.disk_records.specs.Addresses.{pages_of}
+use Rattle.laws_line.specs.disk_records.specs.Packs.{Pack, after}
+use Rattle.laws_line.specs.disk_records.specs.declared.records.Event.{Event}
+use Rattle.laws_line.specs.hint_cache.specs.Bits.{bits_in}
+use Rattle.laws_line.specs.pack_model.specs.hints.Tables.{HintsTrue, TableTrue, table_in}
+use Rattle.laws_line.specs.pack_model.specs.hints.Truth.{Truthful}
+use Rattle.laws_line.specs.pack_model.specs.scavenger.Scavenging.{Unmarked}
+use Rattle.laws_line.specs.pack_model.specs.states.Whole.{Tidy, Whole}
 use Rattle.laws_hint.specs.ClosingLaws.{closing_writes}
 use Rattle.laws_hint.specs.MapMeanings.{HasEachSector}
-use Rattle.laws_operation.specs.DescriptorLaws.{MayClose}
-use Rattle.laws_operation.specs.LinkLaws.{KeepsLinks}
+use Rattle.laws_line.specs.laws_operation.specs.DescriptorLaws.{MayClose}
+use Rattle.laws_line.specs.laws_operation.specs.LinkLaws.{KeepsLinks}
 
 -- if all hints are true, they are so with the table that is read from DiskDescriptor
 abbrev pub TruthAtOpening : Type 0

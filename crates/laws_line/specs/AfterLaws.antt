@@ -1,8 +1,8 @@
 -- What is so after a line: every file has a name again, as the next line needs it, and directories are still there with their slots.
 use Rattle.std.specs.FinMap.{contains_key, get}
 use Rattle.std.specs.Prelude.{All, List, Some, [], false, length, true, ℕ, ◌++◌, ◌∷◌, ◌≡◌, ◌≤◌}
-use Rattle.alto_words.specs.Fid.{is_directory, is_system, sys_dir}
-use Rattle.alto_words.specs.declared.fid.Fid.{Fid}
+use Rattle.laws_room.specs.alto_words.specs.Fid.{is_directory, is_system, sys_dir}
+use Rattle.laws_room.specs.alto_words.specs.declared.fid.Fid.{Fid}
 use Rattle.disk_records.specs.Packs.{Pack}
 use Rattle.pack_model.specs.reading.Bodies.Body.{items_of}
 use Rattle.pack_model.specs.operations.Committing.{pages_for_operations}

@@ -2,8 +2,8 @@
 use Rattle.std.specs.Prelude.{List, Some, [], length, ℕ, ◌++◌, ◌<◌, ◌∷◌, ◌≡◌, ◌≤◌}
 use Rattle.disk_records.specs.declared.records.Event.{Event}
 use Rattle.disk_records.specs.Packs.{Pack, after, sector_at}
-use Rattle.alto_words.specs.Fid.{disk_descriptor}
-use Rattle.alto_words.specs.declared.fid.Fid.{Fid}
+use Rattle.laws_room.specs.alto_words.specs.Fid.{disk_descriptor}
+use Rattle.laws_room.specs.alto_words.specs.declared.fid.Fid.{Fid}
 use Rattle.pack_model.specs.operations.Committing.{line_moves, moves_of, moves_of_all, serial_moves}
 use Rattle.pack_model.specs.sessions.Descriptor.{open_writes, serial_writes}
 use Rattle.pack_model.specs.operations.Entering.{entry_value, values_first}
@@ -20,8 +20,8 @@ use Rattle.pack_model.specs.operations.Step.{Operation, step}
 use Rattle.pack_model.specs.operations.Step.Operation.{enter, make}
 use Rattle.pack_model.specs.states.Whole.{Tidy, Whole}
 use Rattle.laws_line.specs.Ready.{Ready, ReadyThroughout, steps_of}
-use Rattle.laws_operation.specs.NameLaws.{MayEnterAt, entry_room}
-use Rattle.laws_operation.specs.Outcomes.{CarriesOut}
+use Rattle.laws_room.specs.laws_operation.specs.NameLaws.{MayEnterAt, entry_room}
+use Rattle.laws_room.specs.laws_operation.specs.Outcomes.{CarriesOut}
 use Rattle.laws_line.specs.SystemLaws.{LeavesSystem}
 
 -- ---- the mark

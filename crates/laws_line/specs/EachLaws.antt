@@ -1,6 +1,6 @@
 -- Each operation of a line, by the record writes that its own law names: every cut of it can be scavenged.
 use Rattle.std.specs.Prelude.{List, [], ℕ, ◌∷◌}
-use Rattle.alto_words.specs.declared.fid.Fid.{Fid}
+use Rattle.laws_room.specs.alto_words.specs.declared.fid.Fid.{Fid}
 use Rattle.disk_records.specs.Commands.{value_writes}
 use Rattle.disk_records.specs.Packs.{Pack, sector_at}
 use Rattle.pack_model.specs.operations.Commands.{Claim}
@@ -10,11 +10,11 @@ use Rattle.pack_model.specs.reading.Slots.{Item, all_words, item_words}
 use Rattle.pack_model.specs.reading.Slots.Item.{entry}
 use Rattle.pack_model.specs.operations.Step.Operation.{cut, drop_file, grow, leave, make, put, stamp, title, widen}
 use Rattle.pack_model.specs.states.Whole.{Tidy, Whole}
-use Rattle.laws_record.specs.DirLaws.{Frees}
-use Rattle.laws_operation.specs.ByteLaws.{MayCut, MayGrow, MayPut}
-use Rattle.laws_operation.specs.LeaderLaws.{MayWriteLeader, stamped, titled}
-use Rattle.laws_operation.specs.LifeLaws.{MayDrop, MayMake}
-use Rattle.laws_operation.specs.NameLaws.{MayLeave, MayWiden}
+use Rattle.laws_room.specs.laws_record.specs.DirLaws.{Frees}
+use Rattle.laws_room.specs.laws_operation.specs.ByteLaws.{MayCut, MayGrow, MayPut}
+use Rattle.laws_room.specs.laws_operation.specs.LeaderLaws.{MayWriteLeader, stamped, titled}
+use Rattle.laws_room.specs.laws_operation.specs.LifeLaws.{MayDrop, MayMake}
+use Rattle.laws_room.specs.laws_operation.specs.NameLaws.{MayLeave, MayWiden}
 use Rattle.laws_line.specs.CrashLaws.{StaysMendable}
 
 -- The bytes of a file, its leader, a file that comes or goes, an entry that leaves, and a wider directory.

@@ -13,7 +13,7 @@ use Rattle.pack_model.specs.sessions.Moves.{Obeys}
 use Rattle.pack_model.specs.states.Sound.{Clean, Sound, mark_of}
 use Rattle.laws_line.specs.Ready.{steps_of}
 use Rattle.laws_line.specs.SoundLines.{LineOnSound}
-use Rattle.laws_operation.specs.DescriptorLaws.{MayClose}
+use Rattle.laws_room.specs.laws_operation.specs.DescriptorLaws.{MayClose}
 
 -- Each crash point is viewed and shown as the model and can be scavenged; afterwards the pack is sound and clean, and is read as before.
 pub record ClosesSound (q : Pack) (events : List Event) (moves : List Move) : Type 0 where

@@ -1,6 +1,6 @@
 -- What a session keeps of DiskDescriptor fits the disk after each record write of it.
 use Rattle.std.specs.Prelude.{All, Bool, List, Some, length, ℕ, ◌≡◌, ◌≤◌}
-use Rattle.alto_words.specs.Fid.{disk_descriptor}
+use Rattle.laws_room.specs.alto_words.specs.Fid.{disk_descriptor}
 use Rattle.disk_records.specs.Packs.{Pack, after, sector_at}
 use Rattle.disk_records.specs.declared.shape.Shape.{Shape}
 use Rattle.pack_model.specs.reading.Files.{place}
@@ -9,7 +9,7 @@ use Rattle.pack_model.specs.sessions.Descriptor.{DescriptorFits, close_writes, o
 use Rattle.pack_model.specs.states.Sound.{mark_clean, mark_open}
 use Rattle.pack_model.specs.states.Whole.{Tidy, Whole}
 use Rattle.laws_line.specs.CrashLaws.{with_serial}
-use Rattle.laws_operation.specs.DescriptorLaws.{MayClose}
+use Rattle.laws_room.specs.laws_operation.specs.DescriptorLaws.{MayClose}
 
 -- Of a whole and tidy pack that these fit: what fits after the opening of the mark, a new serial and closing.
 pub record FitsOn (p : Pack) (shape : Shape) (last mark : ℕ) (pages : List ℕ) : Type 0 where

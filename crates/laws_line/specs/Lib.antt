@@ -9,3 +9,14 @@ pub mod Ready
 pub mod SoundLines
 pub mod SoundParts
 pub mod SystemLaws
+pub use Rattle.laws_room.specs.alto_words
+pub use Rattle.disk_records
+pub use Rattle.laws_room.specs.label_check
+pub use Rattle.laws_room.specs.hint_cache
+pub use Rattle.laws_room.specs.page_alloc
+pub use Rattle.pack_model
+pub use Rattle.laws_room.specs.pack_laws
+pub use Rattle.laws_room.specs.laws_record
+pub use Rattle.laws_room.specs.laws_contents
+pub use Rattle.laws_room.specs.laws_operation
+pub use Rattle.laws_room

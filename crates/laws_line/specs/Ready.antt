@@ -1,8 +1,8 @@
 -- Models that a pack can be read as at the crash points of a line, and be scavenged: the files have room, and so have the names that lack.
 use Rattle.std.specs.FinMap.{contains_key, entries, get}
 use Rattle.std.specs.Prelude.{◌+◌, ◌≡◌, ◌⊎◌, ◌≤◌, All, List, Some, [], ◌∷◌, false, length, true}
-use Rattle.alto_words.specs.Fid.{disk_descriptor, is_fid, sys_dir}
-use Rattle.alto_words.specs.declared.fid.Fid.{Fid}
+use Rattle.laws_room.specs.alto_words.specs.Fid.{disk_descriptor, is_fid, sys_dir}
+use Rattle.laws_room.specs.alto_words.specs.declared.fid.Fid.{Fid}
 use Rattle.pack_model.specs.reading.Bodies.{File}
 use Rattle.pack_model.specs.reading.Bodies.Body.{items_of}
 use Rattle.pack_model.specs.reading.Leaders.{Leader}

@@ -1,6 +1,6 @@
 -- The first operations of a line from a sound pack, the last of them perhaps broken off.
 use Rattle.std.specs.Prelude.{List, Some, false, length, take, ℕ, ◌++◌, ◌<◌, ◌≡◌, ◌≤◌}
-use Rattle.alto_words.specs.Fid.{disk_descriptor}
+use Rattle.laws_room.specs.alto_words.specs.Fid.{disk_descriptor}
 use Rattle.disk_records.specs.Events.{IsFirstOf}
 use Rattle.disk_records.specs.Packs.{Pack, after, sector_at}
 use Rattle.disk_records.specs.declared.records.Event.{Event}

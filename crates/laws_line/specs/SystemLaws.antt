@@ -1,7 +1,7 @@
 -- The record writes of an operation leave SysDir's leader and DiskDescriptor alone.
 use Rattle.std.specs.Prelude.{All, List, Some, false, ℕ, ◌≡◌, ◌≢◌, ◌⊎◌}
-use Rattle.alto_words.specs.Fid.{disk_descriptor, is_fid}
-use Rattle.alto_words.specs.declared.fid.Fid.{Fid}
+use Rattle.laws_room.specs.alto_words.specs.Fid.{disk_descriptor, is_fid}
+use Rattle.laws_room.specs.alto_words.specs.declared.fid.Fid.{Fid}
 use Rattle.disk_records.specs.Commands.{value_writes}
 use Rattle.disk_records.specs.declared.records.Event.{Event}
 use Rattle.disk_records.specs.declared.records.Event.TheVariants.{Shown, Wrote}
@@ -14,11 +14,11 @@ use Rattle.pack_model.specs.reading.Leaders.{Leader}
 use Rattle.pack_model.specs.operations.Operations.{cut_writes, drop_writes, enter_writes, release_file_writes, grow_writes, make_writes}
 use Rattle.pack_model.specs.reading.Slots.{Item}
 use Rattle.pack_model.specs.states.Whole.{Whole}
-use Rattle.laws_record.specs.DirLaws.{Frees}
-use Rattle.laws_operation.specs.ByteLaws.{MayCut, MayGrow, MayPut}
-use Rattle.laws_operation.specs.LeaderLaws.{MayWriteLeader}
-use Rattle.laws_operation.specs.LifeLaws.{MayDrop, MayMake}
-use Rattle.laws_operation.specs.NameLaws.{MayEnterAt, MayWiden, entry_room}
+use Rattle.laws_room.specs.laws_record.specs.DirLaws.{Frees}
+use Rattle.laws_room.specs.laws_operation.specs.ByteLaws.{MayCut, MayGrow, MayPut}
+use Rattle.laws_room.specs.laws_operation.specs.LeaderLaws.{MayWriteLeader}
+use Rattle.laws_room.specs.laws_operation.specs.LifeLaws.{MayDrop, MayMake}
+use Rattle.laws_room.specs.laws_operation.specs.NameLaws.{MayEnterAt, MayWiden, entry_room}
 
 -- The sector is another one than the first usable one, and no page of DiskDescriptor's; the record is a value, or a label of another
 -- file's page or of none.

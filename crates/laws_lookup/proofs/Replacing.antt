@@ -2,17 +2,17 @@
 use Rattle.std.proofs.Common.{List, [], ap, arith, inl, inr, length, refl, subst, sym, ℕ, ◌++◌, ◌+◌, ◌<◌, ◌∙◌, ◌∷◌, ◌≡◌, ◌≤◌, ◌⊎◌}
 use Rattle.std.proofs.lemmas.List.Elements.{Contains-append_cases, Contains-append_left, Contains-append_right}
 use Rattle.std.specs.Prelude.{Contains}
-use Rattle.alto_words.specs.declared.fid.Fid.{Fid}
-use Rattle.disk_records.specs.Packs.{Pack}
-use Rattle.disk_records.specs.Words.{word}
-use Rattle.disk_records.specs.declared.records.Page.{Page}
-use Rattle.pack_model.specs.hints.Links.{dir_slots, dir_words}
-use Rattle.pack_model.specs.hints.Misled.{StandsInEntry}
-use Rattle.pack_model.specs.reading.Namings.{Naming, namings_in}
-use Rattle.pack_model.specs.reading.SlotWords.{SlotAt, address_at, slots_at}
-use Rattle.pack_model.specs.reading.Slots.{Item, all_words, entry_length, item_words}
-use Rattle.pack_model.specs.reading.Slots.Item.{entry, space}
-use Rattle.laws_record.proofs.Addressing.{entry_words_many}
+use Rattle.laws_operation.specs.alto_words.specs.declared.fid.Fid.{Fid}
+use Rattle.laws_operation.specs.disk_records.specs.Packs.{Pack}
+use Rattle.laws_operation.specs.disk_records.specs.Words.{word}
+use Rattle.laws_operation.specs.disk_records.specs.declared.records.Page.{Page}
+use Rattle.laws_operation.specs.pack_model.specs.hints.Links.{dir_slots, dir_words}
+use Rattle.laws_operation.specs.pack_model.specs.hints.Misled.{StandsInEntry}
+use Rattle.laws_operation.specs.pack_model.specs.reading.Namings.{Naming, namings_in}
+use Rattle.laws_operation.specs.pack_model.specs.reading.SlotWords.{SlotAt, address_at, slots_at}
+use Rattle.laws_operation.specs.pack_model.specs.reading.Slots.{Item, all_words, entry_length, item_words}
+use Rattle.laws_operation.specs.pack_model.specs.reading.Slots.Item.{entry, space}
+use Rattle.laws_operation.specs.laws_record.proofs.Addressing.{entry_words_many}
 use Rattle.laws_lookup.specs.OwnLaws.{EntryBesideStands, EntryStandsOutsideOfFreeSlots, ReplacesSlots, ReplacingTurnsRound}
 use Rattle.laws_lookup.proofs.inside.Found.{in_cases, none_in}
 

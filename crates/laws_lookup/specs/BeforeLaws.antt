@@ -1,29 +1,29 @@
 -- Hints that mislead after a whole operation misled before it.
 use Rattle.std.specs.Prelude.{List, Some, [], false, length, ℕ, ◌∷◌, ◌≡◌}
-use Rattle.alto_words.specs.Fid.{is_fid}
-use Rattle.alto_words.specs.declared.fid.Fid.{Fid}
-use Rattle.disk_records.specs.Commands.{value_writes}
-use Rattle.disk_records.specs.Packs.{Pack, after, sector_at}
-use Rattle.disk_records.specs.Words.{word}
-use Rattle.disk_records.specs.declared.records.Page.{Page}
-use Rattle.disk_records.specs.declared.records.Place.{Place}
-use Rattle.pack_model.specs.hints.Misled.{IsOnDisk, Misled}
-use Rattle.pack_model.specs.operations.Commands.{first_page_claim, grown_claims, grown_label, grown_value, leader_claim}
-use Rattle.pack_model.specs.operations.Committing.{pages_added}
-use Rattle.pack_model.specs.operations.Entering.{entry_value, values_first}
-use Rattle.pack_model.specs.operations.Operations.{cut_writes, drop_writes, enter_writes, release_file_writes, grow_writes, make_writes}
-use Rattle.pack_model.specs.operations.PageWords.{freed_value}
-use Rattle.pack_model.specs.reading.Bytes.{bytes_of}
-use Rattle.pack_model.specs.reading.Files.{file_bytes, place}
-use Rattle.pack_model.specs.reading.Sights.{sights}
-use Rattle.pack_model.specs.reading.SlotWords.{address_word}
-use Rattle.pack_model.specs.reading.Slots.{Item, all_words, item_words}
-use Rattle.pack_model.specs.reading.Slots.Item.{entry}
-use Rattle.pack_model.specs.states.Whole.{Tidy, Whole}
+use Rattle.laws_operation.specs.alto_words.specs.Fid.{is_fid}
+use Rattle.laws_operation.specs.alto_words.specs.declared.fid.Fid.{Fid}
+use Rattle.laws_operation.specs.disk_records.specs.Commands.{value_writes}
+use Rattle.laws_operation.specs.disk_records.specs.Packs.{Pack, after, sector_at}
+use Rattle.laws_operation.specs.disk_records.specs.Words.{word}
+use Rattle.laws_operation.specs.disk_records.specs.declared.records.Page.{Page}
+use Rattle.laws_operation.specs.disk_records.specs.declared.records.Place.{Place}
+use Rattle.laws_operation.specs.pack_model.specs.hints.Misled.{IsOnDisk, Misled}
+use Rattle.laws_operation.specs.pack_model.specs.operations.Commands.{first_page_claim, grown_claims, grown_label, grown_value, leader_claim}
+use Rattle.laws_operation.specs.pack_model.specs.operations.Committing.{pages_added}
+use Rattle.laws_operation.specs.pack_model.specs.operations.Entering.{entry_value, values_first}
+use Rattle.laws_operation.specs.pack_model.specs.operations.Operations.{cut_writes, drop_writes, enter_writes, release_file_writes, grow_writes, make_writes}
+use Rattle.laws_operation.specs.pack_model.specs.operations.PageWords.{freed_value}
+use Rattle.laws_operation.specs.pack_model.specs.reading.Bytes.{bytes_of}
+use Rattle.laws_operation.specs.pack_model.specs.reading.Files.{file_bytes, place}
+use Rattle.laws_operation.specs.pack_model.specs.reading.Sights.{sights}
+use Rattle.laws_operation.specs.pack_model.specs.reading.SlotWords.{address_word}
+use Rattle.laws_operation.specs.pack_model.specs.reading.Slots.{Item, all_words, item_words}
+use Rattle.laws_operation.specs.pack_model.specs.reading.Slots.Item.{entry}
+use Rattle.laws_operation.specs.pack_model.specs.states.Whole.{Tidy, Whole}
 use Rattle.laws_operation.specs.ByteLaws.{MayCut, MayGrow}
 use Rattle.laws_operation.specs.LifeLaws.{MayDrop, MayMake}
 use Rattle.laws_operation.specs.NameLaws.{MayEnterAt, MayWiden, entry_room}
-use Rattle.laws_record.specs.DirLaws.{Frees}
+use Rattle.laws_operation.specs.laws_record.specs.DirLaws.{Frees}
 use Rattle.laws_lookup.specs.StayLaws.{MisledBefore}
 
 -- a leaving, and the last value of a drop, after which the pack is whole

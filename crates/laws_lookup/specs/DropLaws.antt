@@ -1,17 +1,17 @@
 -- What a caller knows before it drops a file: that it has no entries of its own, and where its pages are.
 use Rattle.std.specs.List.{list_any}
 use Rattle.std.specs.Prelude.{Bool, List, [], false, true, ℕ, ◌≡◌}
-use Rattle.alto_words.specs.Fid.{is_directory, is_system}
-use Rattle.alto_words.specs.declared.fid.Fid.{Fid}
-use Rattle.disk_records.specs.Packs.{Pack}
-use Rattle.pack_model.specs.hints.Links.{dir_words}
-use Rattle.pack_model.specs.reading.Files.{lives}
-use Rattle.pack_model.specs.reading.Model.{dir_items, read_as}
-use Rattle.pack_model.specs.reading.Namings.{namings_in}
-use Rattle.pack_model.specs.reading.Sights.{sights}
-use Rattle.pack_model.specs.reading.Slots.{Item, slots}
-use Rattle.pack_model.specs.reading.Slots.Item.{entry, space}
-use Rattle.pack_model.specs.states.Whole.{Tidy, Whole}
+use Rattle.laws_operation.specs.alto_words.specs.Fid.{is_directory, is_system}
+use Rattle.laws_operation.specs.alto_words.specs.declared.fid.Fid.{Fid}
+use Rattle.laws_operation.specs.disk_records.specs.Packs.{Pack}
+use Rattle.laws_operation.specs.pack_model.specs.hints.Links.{dir_words}
+use Rattle.laws_operation.specs.pack_model.specs.reading.Files.{lives}
+use Rattle.laws_operation.specs.pack_model.specs.reading.Model.{dir_items, read_as}
+use Rattle.laws_operation.specs.pack_model.specs.reading.Namings.{namings_in}
+use Rattle.laws_operation.specs.pack_model.specs.reading.Sights.{sights}
+use Rattle.laws_operation.specs.pack_model.specs.reading.Slots.{Item, slots}
+use Rattle.laws_operation.specs.pack_model.specs.reading.Slots.Item.{entry, space}
+use Rattle.laws_operation.specs.pack_model.specs.states.Whole.{Tidy, Whole}
 use Rattle.laws_operation.specs.LifeLaws.{MayDrop}
 
 -- ---- no entries of its own

@@ -1,15 +1,15 @@
 -- What a caller knows before it enters a name: that the entry may stand.
 use Rattle.std.specs.Prelude.{List, false, true, ℕ, ◌≡◌}
-use Rattle.alto_words.specs.Fid.{is_directory, is_fid, is_system, sys_dir}
-use Rattle.alto_words.specs.declared.fid.Fid.{Fid}
-use Rattle.disk_records.specs.Packs.{Pack}
-use Rattle.pack_model.specs.reading.Files.{lives}
-use Rattle.pack_model.specs.reading.Model.{read_as}
-use Rattle.pack_model.specs.reading.Namings.{fits}
-use Rattle.pack_model.specs.reading.Sights.{sights}
-use Rattle.pack_model.specs.states.Whole.{Whole}
+use Rattle.laws_operation.specs.alto_words.specs.Fid.{is_directory, is_fid, is_system, sys_dir}
+use Rattle.laws_operation.specs.alto_words.specs.declared.fid.Fid.{Fid}
+use Rattle.laws_operation.specs.disk_records.specs.Packs.{Pack}
+use Rattle.laws_operation.specs.pack_model.specs.reading.Files.{lives}
+use Rattle.laws_operation.specs.pack_model.specs.reading.Model.{read_as}
+use Rattle.laws_operation.specs.pack_model.specs.reading.Namings.{fits}
+use Rattle.laws_operation.specs.pack_model.specs.reading.Sights.{sights}
+use Rattle.laws_operation.specs.pack_model.specs.states.Whole.{Whole}
 use Rattle.laws_operation.specs.EntryLaws.{IsApart}
-use Rattle.laws_record.specs.EnterLaws.{MayEnter}
+use Rattle.laws_operation.specs.laws_record.specs.EnterLaws.{MayEnter}
 
 -- A file that is no system file, and a directory only if the entry is in SysDir.
 pub record IsEnterable (d f : Fid) : Type 0 where

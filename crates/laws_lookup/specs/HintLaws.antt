@@ -1,15 +1,15 @@
 -- Hints that mislead, and hints that never do.
 use Rattle.std.specs.Prelude.{None, Some, length, ℕ, ◌+◌, ◌≡◌, ◌⊎◌, List}
-use Rattle.disk_records.specs.Packs.{Pack, after, carried, label_found, sector_at}
-use Rattle.disk_records.specs.Words.{word}
-use Rattle.disk_records.specs.declared.records.Event.{Event}
-use Rattle.disk_records.specs.declared.records.Page.{Page}
-use Rattle.disk_records.specs.declared.records.Place.{Place}
-use Rattle.disk_records.specs.declared.records.Place.TheVariants.{Held, Next, Root}
-use Rattle.disk_records.specs.declared.shape.Shape.{Shape}
-use Rattle.pack_model.specs.hints.Links.{LinksTrue}
-use Rattle.pack_model.specs.hints.Misled.{AnswersMisled, IsOnDisk, Misled, NamesSector, StandsAt}
-use Rattle.pack_model.specs.states.Whole.{Tidy, Whole}
+use Rattle.laws_operation.specs.disk_records.specs.Packs.{Pack, after, carried, label_found, sector_at}
+use Rattle.laws_operation.specs.disk_records.specs.Words.{word}
+use Rattle.laws_operation.specs.disk_records.specs.declared.records.Event.{Event}
+use Rattle.laws_operation.specs.disk_records.specs.declared.records.Page.{Page}
+use Rattle.laws_operation.specs.disk_records.specs.declared.records.Place.{Place}
+use Rattle.laws_operation.specs.disk_records.specs.declared.records.Place.TheVariants.{Held, Next, Root}
+use Rattle.laws_operation.specs.disk_records.specs.declared.shape.Shape.{Shape}
+use Rattle.laws_operation.specs.pack_model.specs.hints.Links.{LinksTrue}
+use Rattle.laws_operation.specs.pack_model.specs.hints.Misled.{AnswersMisled, IsOnDisk, Misled, NamesSector, StandsAt}
+use Rattle.laws_operation.specs.pack_model.specs.states.Whole.{Tidy, Whole}
 
 -- ---- hints that never mislead
 -- each page's value has 256 words, as on the pack of every machine

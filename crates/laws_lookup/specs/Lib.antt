@@ -9,3 +9,6 @@ pub mod OwnLaws
 pub mod SlotLaws
 pub mod SourceLaws
 pub mod StayLaws
+pub use Rattle.laws_operation.specs.pack_laws
+pub use Rattle.laws_operation.specs.laws_record
+pub use Rattle.laws_operation

@@ -1,11 +1,11 @@
 -- What stays known of a directory's slots and of names that are free in it over the operations of a line, on any model.
 use Rattle.std.specs.Prelude.{Bool, List, false, not, true, ℕ, ◌&&◌, ◌≡◌}
-use Rattle.alto_words.specs.Fid.{is_fid}
-use Rattle.alto_words.specs.Names.{is_same_name}
-use Rattle.alto_words.specs.declared.fid.Fid.{Fid}
-use Rattle.pack_model.specs.operations.Step.{Operation, step}
-use Rattle.pack_model.specs.operations.Step.Operation.{cut, drop_file, enter, grow, leave, make, put, stamp, title, widen}
-use Rattle.pack_model.specs.reading.Model.{Model, dir_items}
+use Rattle.laws_operation.specs.alto_words.specs.Fid.{is_fid}
+use Rattle.laws_operation.specs.alto_words.specs.Names.{is_same_name}
+use Rattle.laws_operation.specs.alto_words.specs.declared.fid.Fid.{Fid}
+use Rattle.laws_operation.specs.pack_model.specs.operations.Step.{Operation, step}
+use Rattle.laws_operation.specs.pack_model.specs.operations.Step.Operation.{cut, drop_file, enter, grow, leave, make, put, stamp, title, widen}
+use Rattle.laws_operation.specs.pack_model.specs.reading.Model.{Model, dir_items}
 use Rattle.laws_operation.specs.EntryLaws.{IsOpenTo}
 
 -- an operation that changes no slot of this directory; a drop frees those of its file wherever they are

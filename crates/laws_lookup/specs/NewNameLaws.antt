@@ -1,19 +1,19 @@
 -- The name that a new entry gets: no entry has it, and it can be stored.
 use Rattle.std.specs.List.{list_all}
 use Rattle.std.specs.Prelude.{Bool, List, None, Some, true, ℕ, ◌≡◌}
-use Rattle.alto_words.specs.Fid.{is_directory}
-use Rattle.alto_words.specs.Names.{is_bare_name, is_stored_name}
-use Rattle.alto_words.specs.declared.fid.Fid.{Fid}
-use Rattle.alto_words.specs.declared.wanted.Wanted.{Wanted}
-use Rattle.alto_words.specs.declared.wanted.Wanted.TheVariants.{Exact, Newest}
-use Rattle.disk_records.specs.Packs.{Pack}
-use Rattle.pack_model.specs.reading.Files.{lives}
-use Rattle.pack_model.specs.reading.Model.{dir_items, read_as}
-use Rattle.pack_model.specs.reading.Sights.{sights}
-use Rattle.pack_model.specs.reading.Slots.{Item, slots}
-use Rattle.pack_model.specs.reading.Slots.Item.{entry, space}
-use Rattle.pack_model.specs.reading.Versions.{exact, new_name}
-use Rattle.pack_model.specs.states.Whole.{Tidy}
+use Rattle.laws_operation.specs.alto_words.specs.Fid.{is_directory}
+use Rattle.laws_operation.specs.alto_words.specs.Names.{is_bare_name, is_stored_name}
+use Rattle.laws_operation.specs.alto_words.specs.declared.fid.Fid.{Fid}
+use Rattle.laws_operation.specs.alto_words.specs.declared.wanted.Wanted.{Wanted}
+use Rattle.laws_operation.specs.alto_words.specs.declared.wanted.Wanted.TheVariants.{Exact, Newest}
+use Rattle.laws_operation.specs.disk_records.specs.Packs.{Pack}
+use Rattle.laws_operation.specs.pack_model.specs.reading.Files.{lives}
+use Rattle.laws_operation.specs.pack_model.specs.reading.Model.{dir_items, read_as}
+use Rattle.laws_operation.specs.pack_model.specs.reading.Sights.{sights}
+use Rattle.laws_operation.specs.pack_model.specs.reading.Slots.{Item, slots}
+use Rattle.laws_operation.specs.pack_model.specs.reading.Slots.Item.{entry, space}
+use Rattle.laws_operation.specs.pack_model.specs.reading.Versions.{exact, new_name}
+use Rattle.laws_operation.specs.pack_model.specs.states.Whole.{Tidy}
 
 -- ---- names of entries
 -- the slot is a free one, or the entry of a stored name

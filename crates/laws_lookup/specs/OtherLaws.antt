@@ -1,15 +1,15 @@
 -- What an operation on one file leaves of all others, and which pages of its own it leaves.
 use Rattle.std.specs.Prelude.{List, Some, [], false, length, ℕ, ◌∷◌, ◌≡◌, ◌≤◌}
-use Rattle.alto_words.specs.Fid.{is_fid}
-use Rattle.alto_words.specs.declared.fid.Fid.{Fid}
-use Rattle.disk_records.specs.Packs.{Pack, after, carried, sector_at}
-use Rattle.disk_records.specs.declared.records.Page.{Page}
-use Rattle.pack_model.specs.operations.Commands.{Claim, values_writes}
-use Rattle.pack_model.specs.operations.Committing.{page_of_byte}
-use Rattle.pack_model.specs.operations.Operations.{cut_writes, release_file_writes, grow_writes, make_writes}
-use Rattle.pack_model.specs.reading.Files.{file_bytes, lives, place}
-use Rattle.pack_model.specs.reading.Sights.{sights}
-use Rattle.pack_model.specs.states.Whole.{Tidy, Whole}
+use Rattle.laws_operation.specs.alto_words.specs.Fid.{is_fid}
+use Rattle.laws_operation.specs.alto_words.specs.declared.fid.Fid.{Fid}
+use Rattle.laws_operation.specs.disk_records.specs.Packs.{Pack, after, carried, sector_at}
+use Rattle.laws_operation.specs.disk_records.specs.declared.records.Page.{Page}
+use Rattle.laws_operation.specs.pack_model.specs.operations.Commands.{Claim, values_writes}
+use Rattle.laws_operation.specs.pack_model.specs.operations.Committing.{page_of_byte}
+use Rattle.laws_operation.specs.pack_model.specs.operations.Operations.{cut_writes, release_file_writes, grow_writes, make_writes}
+use Rattle.laws_operation.specs.pack_model.specs.reading.Files.{file_bytes, lives, place}
+use Rattle.laws_operation.specs.pack_model.specs.reading.Sights.{sights}
+use Rattle.laws_operation.specs.pack_model.specs.states.Whole.{Tidy, Whole}
 use Rattle.laws_operation.specs.ByteLaws.{MayCut, MayGrow}
 use Rattle.laws_operation.specs.LifeLaws.{MayDrop, MayMake}
 use Rattle.laws_operation.specs.NameLaws.{MayWiden}

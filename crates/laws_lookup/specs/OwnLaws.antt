@@ -1,26 +1,26 @@
 -- What becomes of a directory's own slots in a leaving, an entering and a widening, and of the entries beside them.
 use Rattle.std.specs.Prelude.{List, [], ℕ, ◌++◌, ◌+◌, ◌<◌, ◌∷◌, ◌≡◌, ◌≤◌, ◌⊎◌}
-use Rattle.alto_words.specs.declared.fid.Fid.{Fid}
-use Rattle.disk_records.specs.Commands.{value_writes}
-use Rattle.disk_records.specs.Packs.{Pack, after, sector_at}
-use Rattle.disk_records.specs.Words.{word}
-use Rattle.disk_records.specs.declared.records.Page.{Page}
-use Rattle.pack_model.specs.hints.Links.{dir_words}
-use Rattle.pack_model.specs.hints.Misled.{StandsInEntry}
-use Rattle.pack_model.specs.operations.Commands.{Claim}
-use Rattle.pack_model.specs.operations.Entering.{entry_value, values_first}
-use Rattle.pack_model.specs.operations.Operations.{enter_writes, grow_writes}
-use Rattle.pack_model.specs.operations.PageWords.{freed_value}
-use Rattle.pack_model.specs.operations.Rooms.{left_over}
-use Rattle.pack_model.specs.reading.Files.{lives}
-use Rattle.pack_model.specs.reading.Namings.{namings_in}
-use Rattle.pack_model.specs.reading.Sights.{sights}
-use Rattle.pack_model.specs.reading.SlotWords.{address_word}
-use Rattle.pack_model.specs.reading.Slots.{Item, all_words, item_words, slots}
-use Rattle.pack_model.specs.reading.Slots.Item.{entry, space}
-use Rattle.pack_model.specs.states.Whole.{Tidy, Whole}
+use Rattle.laws_operation.specs.alto_words.specs.declared.fid.Fid.{Fid}
+use Rattle.laws_operation.specs.disk_records.specs.Commands.{value_writes}
+use Rattle.laws_operation.specs.disk_records.specs.Packs.{Pack, after, sector_at}
+use Rattle.laws_operation.specs.disk_records.specs.Words.{word}
+use Rattle.laws_operation.specs.disk_records.specs.declared.records.Page.{Page}
+use Rattle.laws_operation.specs.pack_model.specs.hints.Links.{dir_words}
+use Rattle.laws_operation.specs.pack_model.specs.hints.Misled.{StandsInEntry}
+use Rattle.laws_operation.specs.pack_model.specs.operations.Commands.{Claim}
+use Rattle.laws_operation.specs.pack_model.specs.operations.Entering.{entry_value, values_first}
+use Rattle.laws_operation.specs.pack_model.specs.operations.Operations.{enter_writes, grow_writes}
+use Rattle.laws_operation.specs.pack_model.specs.operations.PageWords.{freed_value}
+use Rattle.laws_operation.specs.pack_model.specs.operations.Rooms.{left_over}
+use Rattle.laws_operation.specs.pack_model.specs.reading.Files.{lives}
+use Rattle.laws_operation.specs.pack_model.specs.reading.Namings.{namings_in}
+use Rattle.laws_operation.specs.pack_model.specs.reading.Sights.{sights}
+use Rattle.laws_operation.specs.pack_model.specs.reading.SlotWords.{address_word}
+use Rattle.laws_operation.specs.pack_model.specs.reading.Slots.{Item, all_words, item_words, slots}
+use Rattle.laws_operation.specs.pack_model.specs.reading.Slots.Item.{entry, space}
+use Rattle.laws_operation.specs.pack_model.specs.states.Whole.{Tidy, Whole}
 use Rattle.laws_operation.specs.NameLaws.{MayEnterAt, MayWiden, entry_room}
-use Rattle.laws_record.specs.DirLaws.{Frees, freed}
+use Rattle.laws_operation.specs.laws_record.specs.DirLaws.{Frees, freed}
 
 -- ---- slots in the place of others
 -- Those before them and after them stand where they stood, with the same words; those that come have as many words as those that go,

@@ -1,24 +1,24 @@
 -- The entry that an operand means, by the slots of a directory that are met one at a time.
 use Rattle.std.specs.Prelude.{Contains, List, None, Some, [], drop, true, ℕ, ◌++◌, ◌+◌, ◌||◌, ◌∷◌, ◌≡◌}
 use Rattle.std.specs.Option.{option_map}
-use Rattle.alto_words.specs.Fid.{is_directory}
-use Rattle.alto_words.specs.Names.{is_same_name}
-use Rattle.alto_words.specs.declared.fid.Fid.{Fid}
-use Rattle.alto_words.specs.declared.wanted.Wanted.{Wanted}
-use Rattle.alto_words.specs.declared.wanted.Wanted.TheVariants.{Exact, Newest}
-use Rattle.disk_records.specs.Packs.{Pack}
-use Rattle.disk_records.specs.Words.{word}
-use Rattle.pack_model.specs.hints.Links.{dir_slots}
-use Rattle.pack_model.specs.hints.Misled.{StandsInEntry, leader_page}
-use Rattle.pack_model.specs.reading.Files.{lives}
-use Rattle.pack_model.specs.reading.Lookup.{EntryAt, entered, entry_at, holds_base, is_held_at, meant_by, slot_of_entry, version_met}
-use Rattle.pack_model.specs.reading.Model.{Model, dir_items, read_as}
-use Rattle.pack_model.specs.reading.Sights.{sights}
-use Rattle.pack_model.specs.reading.SlotWords.{SlotAt, address_at, address_word, slots_at}
-use Rattle.pack_model.specs.reading.Slots.{Item, all_words, item_words, slot_at, slots}
-use Rattle.pack_model.specs.reading.Slots.Item.{entry}
-use Rattle.pack_model.specs.reading.Versions.{entry_wanted, exact, greatest_version, has_base, is_held}
-use Rattle.pack_model.specs.states.Whole.{Tidy}
+use Rattle.laws_operation.specs.alto_words.specs.Fid.{is_directory}
+use Rattle.laws_operation.specs.alto_words.specs.Names.{is_same_name}
+use Rattle.laws_operation.specs.alto_words.specs.declared.fid.Fid.{Fid}
+use Rattle.laws_operation.specs.alto_words.specs.declared.wanted.Wanted.{Wanted}
+use Rattle.laws_operation.specs.alto_words.specs.declared.wanted.Wanted.TheVariants.{Exact, Newest}
+use Rattle.laws_operation.specs.disk_records.specs.Packs.{Pack}
+use Rattle.laws_operation.specs.disk_records.specs.Words.{word}
+use Rattle.laws_operation.specs.pack_model.specs.hints.Links.{dir_slots}
+use Rattle.laws_operation.specs.pack_model.specs.hints.Misled.{StandsInEntry, leader_page}
+use Rattle.laws_operation.specs.pack_model.specs.reading.Files.{lives}
+use Rattle.laws_operation.specs.pack_model.specs.reading.Lookup.{EntryAt, entered, entry_at, holds_base, is_held_at, meant_by, slot_of_entry, version_met}
+use Rattle.laws_operation.specs.pack_model.specs.reading.Model.{Model, dir_items, read_as}
+use Rattle.laws_operation.specs.pack_model.specs.reading.Sights.{sights}
+use Rattle.laws_operation.specs.pack_model.specs.reading.SlotWords.{SlotAt, address_at, address_word, slots_at}
+use Rattle.laws_operation.specs.pack_model.specs.reading.Slots.{Item, all_words, item_words, slot_at, slots}
+use Rattle.laws_operation.specs.pack_model.specs.reading.Slots.Item.{entry}
+use Rattle.laws_operation.specs.pack_model.specs.reading.Versions.{entry_wanted, exact, greatest_version, has_base, is_held}
+use Rattle.laws_operation.specs.pack_model.specs.states.Whole.{Tidy}
 use Rattle.laws_operation.specs.EntryLaws.{IsOpenTo}
 
 -- ---- a walk that meets one slot at a time

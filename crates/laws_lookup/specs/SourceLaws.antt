@@ -1,22 +1,22 @@
 -- Files that were found, by where the addresses of their leaders came from: they stay found, and a leader that isn't there shows that the
 -- hint misleads.
 use Rattle.std.specs.Prelude.{List, Some, false, true, ℕ, ◌+◌, ◌<◌, ◌≡◌, ◌≤◌, ◌⊎◌}
-use Rattle.alto_words.specs.Fid.{is_directory, is_fid}
-use Rattle.alto_words.specs.declared.fid.Fid.{Fid}
-use Rattle.alto_words.specs.declared.wanted.Wanted.{Wanted}
-use Rattle.disk_records.specs.Packs.{Pack, after, carried, label_found}
-use Rattle.disk_records.specs.declared.records.Event.{Event}
-use Rattle.disk_records.specs.declared.records.Place.{Place}
-use Rattle.disk_records.specs.declared.records.Place.TheVariants.{Entry, Held, Next, Root}
-use Rattle.pack_model.specs.hints.Links.{dir_slots}
-use Rattle.pack_model.specs.hints.Misled.{AnswersMisled, leader_page}
-use Rattle.pack_model.specs.hints.Sources.{IsFrom}
-use Rattle.pack_model.specs.reading.Files.{lives}
-use Rattle.pack_model.specs.reading.Lookup.{EntryAt, entry_at}
-use Rattle.pack_model.specs.reading.SlotWords.{address_word}
-use Rattle.pack_model.specs.reading.Sights.{sights}
-use Rattle.pack_model.specs.reading.Slots.{Item, all_words}
-use Rattle.pack_model.specs.states.Whole.{Whole}
+use Rattle.laws_operation.specs.alto_words.specs.Fid.{is_directory, is_fid}
+use Rattle.laws_operation.specs.alto_words.specs.declared.fid.Fid.{Fid}
+use Rattle.laws_operation.specs.alto_words.specs.declared.wanted.Wanted.{Wanted}
+use Rattle.laws_operation.specs.disk_records.specs.Packs.{Pack, after, carried, label_found}
+use Rattle.laws_operation.specs.disk_records.specs.declared.records.Event.{Event}
+use Rattle.laws_operation.specs.disk_records.specs.declared.records.Place.{Place}
+use Rattle.laws_operation.specs.disk_records.specs.declared.records.Place.TheVariants.{Entry, Held, Next, Root}
+use Rattle.laws_operation.specs.pack_model.specs.hints.Links.{dir_slots}
+use Rattle.laws_operation.specs.pack_model.specs.hints.Misled.{AnswersMisled, leader_page}
+use Rattle.laws_operation.specs.pack_model.specs.hints.Sources.{IsFrom}
+use Rattle.laws_operation.specs.pack_model.specs.reading.Files.{lives}
+use Rattle.laws_operation.specs.pack_model.specs.reading.Lookup.{EntryAt, entry_at}
+use Rattle.laws_operation.specs.pack_model.specs.reading.SlotWords.{address_word}
+use Rattle.laws_operation.specs.pack_model.specs.reading.Sights.{sights}
+use Rattle.laws_operation.specs.pack_model.specs.reading.Slots.{Item, all_words}
+use Rattle.laws_operation.specs.pack_model.specs.states.Whole.{Whole}
 use Rattle.laws_lookup.specs.OtherLaws.{KeepsPages, LeavesOthers}
 use Rattle.laws_lookup.specs.OwnLaws.{ReplacesSlots}
 

@@ -1,16 +1,16 @@
 -- What stays known of entries and of hints over an operation: on another file, and on a directory's own slots.
 use Rattle.std.specs.Prelude.{List, Some, false, ℕ, ◌≡◌, ◌⊎◌, ◌↔◌}
-use Rattle.alto_words.specs.Fid.{is_directory, is_fid}
-use Rattle.alto_words.specs.declared.fid.Fid.{Fid}
-use Rattle.disk_records.specs.Packs.{Pack, after, carried}
-use Rattle.disk_records.specs.declared.records.Event.{Event}
-use Rattle.disk_records.specs.declared.records.Page.{Page}
-use Rattle.disk_records.specs.declared.records.Place.{Place}
-use Rattle.disk_records.specs.declared.records.Place.TheVariants.{Entry, Next}
-use Rattle.pack_model.specs.hints.Links.{dir_slots}
-use Rattle.pack_model.specs.hints.Misled.{IsOnDisk, Misled, StandsInEntry}
-use Rattle.pack_model.specs.operations.Commands.{values_writes}
-use Rattle.pack_model.specs.states.Whole.{Whole}
+use Rattle.laws_operation.specs.alto_words.specs.Fid.{is_directory, is_fid}
+use Rattle.laws_operation.specs.alto_words.specs.declared.fid.Fid.{Fid}
+use Rattle.laws_operation.specs.disk_records.specs.Packs.{Pack, after, carried}
+use Rattle.laws_operation.specs.disk_records.specs.declared.records.Event.{Event}
+use Rattle.laws_operation.specs.disk_records.specs.declared.records.Page.{Page}
+use Rattle.laws_operation.specs.disk_records.specs.declared.records.Place.{Place}
+use Rattle.laws_operation.specs.disk_records.specs.declared.records.Place.TheVariants.{Entry, Next}
+use Rattle.laws_operation.specs.pack_model.specs.hints.Links.{dir_slots}
+use Rattle.laws_operation.specs.pack_model.specs.hints.Misled.{IsOnDisk, Misled, StandsInEntry}
+use Rattle.laws_operation.specs.pack_model.specs.operations.Commands.{values_writes}
+use Rattle.laws_operation.specs.pack_model.specs.states.Whole.{Whole}
 use Rattle.laws_lookup.specs.OtherLaws.{AreOfFile, KeepsPages, LeavesOthers}
 
 -- ---- entries of another directory

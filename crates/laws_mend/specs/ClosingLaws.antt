@@ -1,16 +1,16 @@
 -- DiskDescriptor's words are written once pages and names are mended.
 use Rattle.std.specs.Prelude.{◌≡◌, ℕ, suc, ◌<◌, ◌≤◌, true, Bool, List, get_or, length, reverse, Some}
-use Rattle.alto_words.specs.declared.fid.Fid.{Fid}
-use Rattle.alto_words.specs.Fid.{disk_descriptor, serial_of}
-use Rattle.disk_records.specs.Packs.{Pack, after}
-use Rattle.pack_model.specs.hints.Tables.{HintsTrue, free_table}
-use Rattle.pack_model.specs.operations.Commands.{values_writes}
-use Rattle.pack_model.specs.reading.Files.{lives, place}
-use Rattle.pack_model.specs.reading.Model.{read_as}
-use Rattle.pack_model.specs.reading.Sights.{sights}
-use Rattle.pack_model.specs.scavenger.Reports.{NamesMended}
-use Rattle.pack_model.specs.sessions.Descriptor.{closed_values, data_pages}
-use Rattle.pack_model.specs.states.Sound.{Clean, Sound}
+use Rattle.laws_room.specs.alto_words.specs.declared.fid.Fid.{Fid}
+use Rattle.laws_room.specs.alto_words.specs.Fid.{disk_descriptor, serial_of}
+use Rattle.laws_room.specs.disk_records.specs.Packs.{Pack, after}
+use Rattle.laws_room.specs.pack_model.specs.hints.Tables.{HintsTrue, free_table}
+use Rattle.laws_room.specs.pack_model.specs.operations.Commands.{values_writes}
+use Rattle.laws_room.specs.pack_model.specs.reading.Files.{lives, place}
+use Rattle.laws_room.specs.pack_model.specs.reading.Model.{read_as}
+use Rattle.laws_room.specs.pack_model.specs.reading.Sights.{sights}
+use Rattle.laws_room.specs.pack_model.specs.scavenger.Reports.{NamesMended}
+use Rattle.laws_room.specs.pack_model.specs.sessions.Descriptor.{closed_values, data_pages}
+use Rattle.laws_room.specs.pack_model.specs.states.Sound.{Clean, Sound}
 use Rattle.laws_lookup.specs.HintLaws.{HasFullValues}
 
 -- Of p names are mended. These are the sectors of DiskDescriptor's data pages, no living serial is above this last one, and these sectors are

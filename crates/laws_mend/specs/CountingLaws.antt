@@ -1,19 +1,19 @@
 -- Which pages count, which sectors are in use by them, and how far the pages of a file go.
 use Rattle.std.specs.Prelude.{◌≡◌, ◌↔◌, ℕ, suc, ◌*◌, ◌/◌, ◌<◌, ◌&&◌, nat_le, true, false, length, Some}
 use Rattle.std.specs.Option.{is_some}
-use Rattle.alto_words.specs.declared.fid.Fid.{Fid}
-use Rattle.alto_words.specs.Fid.{is_fid, disk_descriptor}
-use Rattle.disk_records.specs.Addresses.{pages_of}
-use Rattle.disk_records.specs.declared.records.Page.{Page}
-use Rattle.disk_records.specs.Packs.{Pack, carried}
-use Rattle.pack_model.specs.hints.Links.{dir_words}
-use Rattle.pack_model.specs.reading.Files.{lives, file_bytes, place}
-use Rattle.pack_model.specs.reading.Sights.{sights}
-use Rattle.pack_model.specs.reading.Slots.{SlotsReachEnd, all_words, slots}
-use Rattle.pack_model.specs.sessions.Descriptor.{data_pages}
-use Rattle.pack_model.specs.states.InUse.{counts}
-use Rattle.pack_model.specs.states.Sentences.{EachOnce, IsUsed}
-use Rattle.laws_contents.specs.PageLaws.{FullBefore}
+use Rattle.laws_room.specs.alto_words.specs.declared.fid.Fid.{Fid}
+use Rattle.laws_room.specs.alto_words.specs.Fid.{is_fid, disk_descriptor}
+use Rattle.laws_room.specs.disk_records.specs.Addresses.{pages_of}
+use Rattle.laws_room.specs.disk_records.specs.declared.records.Page.{Page}
+use Rattle.laws_room.specs.disk_records.specs.Packs.{Pack, carried}
+use Rattle.laws_room.specs.pack_model.specs.hints.Links.{dir_words}
+use Rattle.laws_room.specs.pack_model.specs.reading.Files.{lives, file_bytes, place}
+use Rattle.laws_room.specs.pack_model.specs.reading.Sights.{sights}
+use Rattle.laws_room.specs.pack_model.specs.reading.Slots.{SlotsReachEnd, all_words, slots}
+use Rattle.laws_room.specs.pack_model.specs.sessions.Descriptor.{data_pages}
+use Rattle.laws_room.specs.pack_model.specs.states.InUse.{counts}
+use Rattle.laws_room.specs.pack_model.specs.states.Sentences.{IsUsed}
+use Rattle.laws_room.specs.laws_contents.specs.PageLaws.{FullBefore}
 use Rattle.laws_mend.specs.Parts.{Cleared, Ended, Lasting}
 
 -- ---- pages that count
@@ -26,11 +26,8 @@ abbrev pub CountsByItsFormat : Type 0
 CountsByItsFormat = (p : Pack) (n : ℕ) → counts p.shape (sights p) disk_descriptor n ≡ (lives (sights p) disk_descriptor && nat_le n (data_pages p.shape))
 
 -- ---- sectors in use
--- where no page is carried twice, a sector that carries one is in use if and only if its page counts
-abbrev pub UsedBySight : Type 0
-UsedBySight = (p : Pack) (at : ℕ) (page : Page) → EachOnce (sights p) → carried p at ≡ Some page → IsUsed p.shape (sights p) at ↔ (counts p.shape (sights p) page.fid page.number ≡ true)
-
--- and where each label is free or in range too, any sector is free or in use, or isn't good, if and only if its page counts, if it has one
+-- where no page is carried twice and each label is free or in range, any sector is free or in use, or isn't good, if and only if its page
+-- counts, if it has one
 abbrev pub UsedByItsPage : Type 0
 UsedByItsPage = (p : Pack) (at : ℕ) → Cleared p → IsUsed p.shape (sights p) at ↔ ((page : Page) → carried p at ≡ Some page → counts p.shape (sights p) page.fid page.number ≡ true)
 

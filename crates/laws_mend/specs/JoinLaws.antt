@@ -1,13 +1,12 @@
 -- Mendings one after another, broken off, and what they come to.
-use Rattle.std.specs.Prelude.{◌≡◌, ◌∷◌, [], ℕ, List}
-use Rattle.disk_records.specs.declared.records.Event.{Event}
-use Rattle.disk_records.specs.declared.records.Event.TheVariants.{Wrote}
-use Rattle.disk_records.specs.Events.{IsFirstOf}
-use Rattle.disk_records.specs.Packs.{Pack, after}
-use Rattle.pack_model.specs.scavenger.Reports.{adopted_files}
-use Rattle.pack_model.specs.scavenger.Scavenging.{Keeps, Throughout, Unmarked}
-use Rattle.pack_model.specs.states.Sound.{Clean}
-use Rattle.laws_record.specs.ChainLaws.{KeptTogether}
+use Rattle.std.specs.Prelude.{◌≡◌, [], List}
+use Rattle.laws_room.specs.disk_records.specs.declared.records.Event.{Event}
+use Rattle.laws_room.specs.disk_records.specs.Events.{IsFirstOf}
+use Rattle.laws_room.specs.disk_records.specs.Packs.{Pack, after}
+use Rattle.laws_room.specs.pack_model.specs.scavenger.Reports.{adopted_files}
+use Rattle.laws_room.specs.pack_model.specs.scavenger.Scavenging.{Keeps, Throughout, Unmarked}
+use Rattle.laws_room.specs.pack_model.specs.states.Sound.{Clean}
+use Rattle.laws_room.specs.laws_record.specs.ChainLaws.{KeptTogether}
 use Rattle.laws_mend.specs.Tending.{Tends, AllTends}
 
 -- with no record write, and from one pack to the next and on
@@ -24,10 +23,6 @@ TendsJoin = KeptTogether Tends
 -- a run that breaks off
 abbrev pub TendsBreaksOff : Type 0
 TendsBreaksOff = (p : Pack) (events some : List Event) → IsFirstOf events some → AllTends p events → AllTends p some
-
--- one record write, by the pack that it leaves
-abbrev pub OneTends : Type 0
-OneTends = (p : Pack) (at part : ℕ) (words : List ℕ) → Tends p (after p (Wrote at part words ∷ [])) → AllTends p (Wrote at part words ∷ [])
 
 -- What a run of a mending comes to: the last pack tends so, and gives names to as many files; each crash point keeps what a scavenge keeps,
 -- and none is clean where there was no clean mark.

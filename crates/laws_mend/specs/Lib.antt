@@ -8,3 +8,12 @@ pub mod RunLaws
 pub mod SlotLaws
 pub mod Tending
 pub mod WidenLaws
+pub use Rattle.laws_room.specs.alto_words
+pub use Rattle.laws_room.specs.disk_records
+pub use Rattle.laws_room.specs.pack_model
+pub use Rattle.laws_room.specs.pack_laws
+pub use Rattle.laws_room.specs.laws_record
+pub use Rattle.laws_room.specs.laws_contents
+pub use Rattle.laws_room.specs.laws_operation
+pub use Rattle.laws_lookup
+pub use Rattle.laws_room

@@ -1,22 +1,21 @@
 -- Free and available sectors while the pages of a pack are mended.
 use Rattle.std.specs.Prelude.{◌≡◌, ◌≢◌, ◌⊎◌, ℕ, suc, ◌+◌, ◌*◌, ◌/◌, ◌<◌, ◌≤◌, true, false, List, length, Some, None}
-use Rattle.alto_words.specs.declared.fid.Fid.{Fid}
-use Rattle.alto_words.specs.Fid.{is_directory, is_fid, sys_dir, disk_descriptor}
-use Rattle.disk_records.specs.declared.records.Page.{Page}
-use Rattle.disk_records.specs.Commands.{relabel_writes, release_writes}
-use Rattle.disk_records.specs.Labels.{page_of, tag}
-use Rattle.disk_records.specs.Packs.{Pack, after, carried, is_free_at, is_usable, sector_at}
-use Rattle.pack_model.specs.hints.Links.{dir_words}
-use Rattle.pack_model.specs.reading.Files.{lives, file_bytes, place}
-use Rattle.pack_model.specs.reading.Sights.{sights}
-use Rattle.pack_model.specs.reading.Slots.{all_words, slots}
-use Rattle.pack_model.specs.scavenger.Needed.{needed}
-use Rattle.pack_model.specs.scavenger.Reports.{freed_sectors}
-use Rattle.pack_model.specs.scavenger.Scavenging.{Scavengeable}
-use Rattle.pack_model.specs.sessions.Descriptor.{data_pages}
-use Rattle.pack_model.specs.states.InUse.{available, counts, free_sector_count}
-use Rattle.pack_model.specs.states.Sentences.{EachOnce}
-use Rattle.laws_record.specs.QuietLaws.{IsUnread}
+use Rattle.laws_room.specs.alto_words.specs.declared.fid.Fid.{Fid}
+use Rattle.laws_room.specs.alto_words.specs.Fid.{is_directory, is_fid, sys_dir, disk_descriptor}
+use Rattle.laws_room.specs.disk_records.specs.declared.records.Page.{Page}
+use Rattle.laws_room.specs.disk_records.specs.Commands.{relabel_writes, release_writes}
+use Rattle.laws_room.specs.disk_records.specs.Labels.{page_of, tag}
+use Rattle.laws_room.specs.disk_records.specs.Packs.{Pack, after, carried, is_free_at, is_usable, sector_at}
+use Rattle.laws_room.specs.pack_model.specs.hints.Links.{dir_words}
+use Rattle.laws_room.specs.pack_model.specs.reading.Files.{lives, file_bytes, place}
+use Rattle.laws_room.specs.pack_model.specs.reading.Sights.{sights}
+use Rattle.laws_room.specs.pack_model.specs.reading.Slots.{all_words, slots}
+use Rattle.laws_room.specs.pack_model.specs.scavenger.Needed.{needed}
+use Rattle.laws_room.specs.pack_model.specs.scavenger.Reports.{freed_sectors}
+use Rattle.laws_room.specs.pack_model.specs.scavenger.Scavenging.{Scavengeable}
+use Rattle.laws_room.specs.pack_model.specs.sessions.Descriptor.{data_pages}
+use Rattle.laws_room.specs.pack_model.specs.states.InUse.{available, counts, free_sector_count}
+use Rattle.laws_room.specs.pack_model.specs.states.Sentences.{EachOnce}
 use Rattle.laws_mend.specs.Parts.{FreesMore, Rooted, RootedBut, Used}
 
 -- on any pack the available sectors are the free ones and those that are freed
@@ -69,14 +68,6 @@ StrayReleaseFrees = (p : Pack) (at : ℕ) → is_usable p.shape at (sector_at p 
 -- of a page that isn't within its file's end, where no page is carried twice
 abbrev pub UnusedReleaseFrees : Type 0
 UnusedReleaseFrees = (p : Pack) (at : ℕ) (page : Page) → EachOnce (sights p) → carried p at ≡ Some page → counts p.shape (sights p) page.fid page.number ≡ false → FreesMore p (after p (release_writes at)) 1
-
--- so it is of a page that isn't read, except of DiskDescriptor, whose pages are within its end by its format
-abbrev pub UnreadReleaseFrees : Type 0
-UnreadReleaseFrees = (p : Pack) (at : ℕ) (page : Page) → EachOnce (sights p) → carried p at ≡ Some page → IsUnread (sights p) page.fid page.number → is_fid page.fid disk_descriptor ≡ false → FreesMore p (after p (release_writes at)) 1
-
--- and of a data page of DiskDescriptor past those of its format
-abbrev pub DescriptorReleaseFrees : Type 0
-DescriptorReleaseFrees = (p : Pack) (at n : ℕ) → EachOnce (sights p) → carried p at ≡ Some (record { fid = disk_descriptor; number = suc n }) → data_pages p.shape ≤ n → FreesMore p (after p (release_writes at)) 1
 
 -- a label by which a directory ends with its slots frees none
 abbrev pub DirectoryCutFrees : Type 0

@@ -1,28 +1,28 @@
 -- The parts of a mended pack: what the record writes of guarded commands leave of them, and how they are put together.
 use Rattle.std.specs.Prelude.{◌≡◌, ◌≢◌, ℕ, suc, ◌+◌, ◌-◌, ◌*◌, ◌/◌, ◌<◌, ◌∷◌, [], min, Bool, true, false, List, drop, get_or, length, Some, None}
-use Rattle.alto_words.specs.declared.fid.Fid.{Fid}
-use Rattle.alto_words.specs.Fid.{is_directory, is_fid, sys_dir, disk_descriptor}
-use Rattle.disk_records.specs.Addresses.{descriptor_length}
-use Rattle.disk_records.specs.declared.records.Page.{Page}
-use Rattle.disk_records.specs.Commands.{claim_writes, ones, relabel_writes, release_writes, value_writes}
-use Rattle.disk_records.specs.Labels.{page_of, tag}
-use Rattle.disk_records.specs.Packs.{Pack, after, carried, is_free_at, is_usable, sector_at}
-use Rattle.disk_records.specs.Words.{word}
-use Rattle.pack_model.specs.hints.Links.{HasLinks, LinksTrue, PageLinks, dir_words, next_link, previous_link}
-use Rattle.pack_model.specs.reading.Files.{lives, file_bytes, place}
-use Rattle.pack_model.specs.reading.Leaders.{Leader, is_readable, leader_words}
-use Rattle.pack_model.specs.reading.Sights.{sights}
-use Rattle.pack_model.specs.reading.Sights.Sight.{free, hidden, leads}
-use Rattle.pack_model.specs.reading.Slots.{SlotsReachEnd, all_words, slots}
-use Rattle.pack_model.specs.reading.Slots.Item.{space}
-use Rattle.pack_model.specs.scavenger.Reports.{NamesMended, PagesMended}
-use Rattle.pack_model.specs.sessions.Descriptor.{data_pages}
-use Rattle.pack_model.specs.states.InUse.{counts}
-use Rattle.pack_model.specs.states.Sentences.{EachOnce, HasLastPage, HasReadableName, IsUsed}
-use Rattle.pack_model.specs.states.Sound.{Sound}
-use Rattle.pack_model.specs.states.Whole.{Whole}
-use Rattle.pack_laws.specs.GuardLaws.{ChangesOne, with_words}
-use Rattle.laws_contents.specs.PageLaws.{bytes_at}
+use Rattle.laws_room.specs.alto_words.specs.declared.fid.Fid.{Fid}
+use Rattle.laws_room.specs.alto_words.specs.Fid.{is_directory, is_fid, sys_dir, disk_descriptor}
+use Rattle.laws_room.specs.disk_records.specs.Addresses.{descriptor_length}
+use Rattle.laws_room.specs.disk_records.specs.declared.records.Page.{Page}
+use Rattle.laws_room.specs.disk_records.specs.Commands.{claim_writes, ones, relabel_writes, release_writes, value_writes}
+use Rattle.laws_room.specs.disk_records.specs.Labels.{page_of, tag}
+use Rattle.laws_room.specs.disk_records.specs.Packs.{Pack, after, carried, is_free_at, is_usable, sector_at}
+use Rattle.laws_room.specs.disk_records.specs.Words.{word}
+use Rattle.laws_room.specs.pack_model.specs.hints.Links.{HasLinks, LinksTrue, PageLinks, dir_words, next_link, previous_link}
+use Rattle.laws_room.specs.pack_model.specs.reading.Files.{lives, file_bytes, place}
+use Rattle.laws_room.specs.pack_model.specs.reading.Leaders.{Leader, is_readable, leader_words}
+use Rattle.laws_room.specs.pack_model.specs.reading.Sights.{sights}
+use Rattle.laws_room.specs.pack_model.specs.reading.Sights.Sight.{free, hidden, leads}
+use Rattle.laws_room.specs.pack_model.specs.reading.Slots.{SlotsReachEnd, all_words, slots}
+use Rattle.laws_room.specs.pack_model.specs.reading.Slots.Item.{space}
+use Rattle.laws_room.specs.pack_model.specs.scavenger.Reports.{NamesMended, PagesMended}
+use Rattle.laws_room.specs.pack_model.specs.sessions.Descriptor.{data_pages}
+use Rattle.laws_room.specs.pack_model.specs.states.InUse.{counts}
+use Rattle.laws_room.specs.pack_model.specs.states.Sentences.{EachOnce, HasLastPage, HasReadableName, IsUsed}
+use Rattle.laws_room.specs.pack_model.specs.states.Sound.{Sound}
+use Rattle.laws_room.specs.pack_model.specs.states.Whole.{Whole}
+use Rattle.laws_room.specs.pack_laws.specs.GuardLaws.{ChangesOne, with_words}
+use Rattle.laws_room.specs.laws_contents.specs.PageLaws.{bytes_at}
 use Rattle.laws_mend.specs.Parts.{Cleared, Ended, Lasting, Rooted, RootedBut, SameFiles, Used}
 
 -- ---- releases

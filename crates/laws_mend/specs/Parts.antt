@@ -1,17 +1,17 @@
 -- The parts of a mended pack, each with those before it.
 use Rattle.std.specs.Prelude.{◌≡◌, ◌⊎◌, ℕ, suc, ◌+◌, ◌<◌, Bool, true, length, get_or, Some}
-use Rattle.alto_words.specs.declared.fid.Fid.{Fid}
-use Rattle.alto_words.specs.Fid.{is_directory, sys_dir, disk_descriptor}
-use Rattle.disk_records.specs.Addresses.{descriptor_length}
-use Rattle.disk_records.specs.Packs.{Pack, carried}
-use Rattle.pack_model.specs.reading.Files.{lives, file_bytes, place}
-use Rattle.pack_model.specs.reading.Leaders.{Leader}
-use Rattle.pack_model.specs.reading.Sights.{sights}
-use Rattle.pack_model.specs.reading.Sights.Sight.{hidden, stray, leads}
-use Rattle.pack_model.specs.reading.Slots.{SlotsReachEnd}
-use Rattle.pack_model.specs.sessions.Descriptor.{data_pages}
-use Rattle.pack_model.specs.states.InUse.{available, free_sector_count}
-use Rattle.pack_model.specs.states.Sentences.{EachOnce, HasLastPage, IsUsed}
+use Rattle.laws_room.specs.alto_words.specs.declared.fid.Fid.{Fid}
+use Rattle.laws_room.specs.alto_words.specs.Fid.{is_directory, sys_dir, disk_descriptor}
+use Rattle.laws_room.specs.disk_records.specs.Addresses.{descriptor_length}
+use Rattle.laws_room.specs.disk_records.specs.Packs.{Pack, carried}
+use Rattle.laws_room.specs.pack_model.specs.reading.Files.{lives, file_bytes, place}
+use Rattle.laws_room.specs.pack_model.specs.reading.Leaders.{Leader}
+use Rattle.laws_room.specs.pack_model.specs.reading.Sights.{sights}
+use Rattle.laws_room.specs.pack_model.specs.reading.Sights.Sight.{hidden, stray, leads}
+use Rattle.laws_room.specs.pack_model.specs.reading.Slots.{SlotsReachEnd}
+use Rattle.laws_room.specs.pack_model.specs.sessions.Descriptor.{data_pages}
+use Rattle.laws_room.specs.pack_model.specs.states.InUse.{available, free_sector_count}
+use Rattle.laws_room.specs.pack_model.specs.states.Sentences.{EachOnce, HasLastPage, IsUsed}
 
 -- no page is carried twice, and each label is free or in range
 pub record Cleared (p : Pack) : Type 0 where

@@ -1,20 +1,20 @@
 -- The record writes of guarded sector commands by which the pages of a pack are mended, each run from any pack of its kind.
 use Rattle.std.specs.Prelude.{◌≡◌, ◌≢◌, ◌∷◌, [], ℕ, suc, ◌+◌, ◌*◌, ◌/◌, ◌<◌, true, false, drop, List, length, Some, None}
-use Rattle.alto_words.specs.declared.fid.Fid.{Fid}
-use Rattle.alto_words.specs.Fid.{is_directory, is_fid, is_system, sys_dir, disk_descriptor}
-use Rattle.disk_records.specs.declared.records.Page.{Page}
-use Rattle.disk_records.specs.Commands.{claim_writes, relabel_writes, release_writes, value_writes}
-use Rattle.disk_records.specs.Labels.{page_of, tag}
-use Rattle.disk_records.specs.Packs.{Pack, carried, is_free_at, is_usable, sector_at}
-use Rattle.pack_model.specs.hints.Links.{dir_words}
-use Rattle.pack_model.specs.reading.Files.{file_bytes, leader, place}
-use Rattle.pack_model.specs.reading.Leaders.{leader_of}
-use Rattle.pack_model.specs.reading.Sights.{sights}
-use Rattle.pack_model.specs.reading.Slots.{all_words, slots}
-use Rattle.pack_model.specs.reading.Slots.Item.{space}
-use Rattle.pack_model.specs.states.InUse.{counts}
-use Rattle.pack_model.specs.states.Sentences.{EachOnce}
-use Rattle.laws_record.specs.QuietLaws.{IsUnread}
+use Rattle.laws_room.specs.alto_words.specs.declared.fid.Fid.{Fid}
+use Rattle.laws_room.specs.alto_words.specs.Fid.{is_directory, is_fid, is_system, sys_dir, disk_descriptor}
+use Rattle.laws_room.specs.disk_records.specs.declared.records.Page.{Page}
+use Rattle.laws_room.specs.disk_records.specs.Commands.{claim_writes, relabel_writes, release_writes, value_writes}
+use Rattle.laws_room.specs.disk_records.specs.Labels.{page_of, tag}
+use Rattle.laws_room.specs.disk_records.specs.Packs.{Pack, carried, is_free_at, is_usable, sector_at}
+use Rattle.laws_room.specs.pack_model.specs.hints.Links.{dir_words}
+use Rattle.laws_room.specs.pack_model.specs.reading.Files.{file_bytes, leader, place}
+use Rattle.laws_room.specs.pack_model.specs.reading.Leaders.{leader_of}
+use Rattle.laws_room.specs.pack_model.specs.reading.Sights.{sights}
+use Rattle.laws_room.specs.pack_model.specs.reading.Slots.{all_words, slots}
+use Rattle.laws_room.specs.pack_model.specs.reading.Slots.Item.{space}
+use Rattle.laws_room.specs.pack_model.specs.states.InUse.{counts}
+use Rattle.laws_room.specs.pack_model.specs.states.Sentences.{EachOnce}
+use Rattle.laws_room.specs.laws_record.specs.QuietLaws.{IsUnread}
 use Rattle.laws_room.specs.MarkLaws.{OtherMark}
 use Rattle.laws_mend.specs.Tending.{AllTends}
 
@@ -26,14 +26,6 @@ CopyReleaseTends = (p : Pack) (at lower : ℕ) (page : Page) → carried p at �
 -- of a label that is neither free nor in range
 abbrev pub StrayReleaseTends : Type 0
 StrayReleaseTends = (p : Pack) (at : ℕ) → is_usable p.shape at (sector_at p at) ≡ true → carried p at ≡ None → AllTends p (release_writes at)
-
--- of a page that isn't read, where no page is carried twice
-abbrev pub UnreadReleaseTends : Type 0
-UnreadReleaseTends = (p : Pack) (at : ℕ) (page : Page) → EachOnce (sights p) → carried p at ≡ Some page → IsUnread (sights p) page.fid page.number → AllTends p (release_writes at)
-
--- of a data page of DiskDescriptor, where no page is carried twice
-abbrev pub DescriptorReleaseTends : Type 0
-DescriptorReleaseTends = (p : Pack) (at n : ℕ) → EachOnce (sights p) → carried p at ≡ Some (record { fid = disk_descriptor; number = suc n }) → AllTends p (release_writes at)
 
 -- of a page that isn't within its file's end, where no page is carried twice
 abbrev pub UnusedReleaseTends : Type 0

@@ -1,16 +1,16 @@
 -- The slots of directories while names are mended, on any pack: no premise asks that it is whole.
 use Rattle.std.specs.Prelude.{◌≡◌, ◌++◌, ◌+◌, ◌<◌, ◌≤◌, ◌∷◌, [], ℕ, false, List, length}
-use Rattle.alto_words.specs.declared.fid.Fid.{Fid}
-use Rattle.alto_words.specs.Fid.{is_fid}
-use Rattle.disk_records.specs.Packs.{Pack}
-use Rattle.pack_model.specs.hints.Links.{dir_words}
-use Rattle.pack_model.specs.operations.Rooms.{left_over}
-use Rattle.pack_model.specs.reading.Files.{file_bytes, lives, place}
-use Rattle.pack_model.specs.reading.Sights.{sights}
-use Rattle.pack_model.specs.reading.Slots.{Item, SlotsReachEnd, all_words, entry_length, slots}
-use Rattle.pack_model.specs.reading.Slots.Item.{entry, space}
-use Rattle.pack_model.specs.scavenger.Reports.{PagesMended}
-use Rattle.laws_record.specs.DirLaws.{DirWrite, Enters, IsLooseWord, dir_written, entered}
+use Rattle.laws_room.specs.alto_words.specs.declared.fid.Fid.{Fid}
+use Rattle.laws_room.specs.alto_words.specs.Fid.{is_fid}
+use Rattle.laws_room.specs.disk_records.specs.Packs.{Pack}
+use Rattle.laws_room.specs.pack_model.specs.hints.Links.{dir_words}
+use Rattle.laws_room.specs.pack_model.specs.operations.Rooms.{left_over}
+use Rattle.laws_room.specs.pack_model.specs.reading.Files.{file_bytes, lives, place}
+use Rattle.laws_room.specs.pack_model.specs.reading.Sights.{sights}
+use Rattle.laws_room.specs.pack_model.specs.reading.Slots.{Item, SlotsReachEnd, all_words, entry_length, slots}
+use Rattle.laws_room.specs.pack_model.specs.reading.Slots.Item.{entry, space}
+use Rattle.laws_room.specs.pack_model.specs.scavenger.Reports.{PagesMended}
+use Rattle.laws_room.specs.laws_record.specs.DirLaws.{DirWrite, Enters, IsLooseWord, dir_written, entered}
 use Rattle.laws_lookup.specs.OwnLaws.{ReplacesSlots}
 
 -- an entry comes in the place of a free slot

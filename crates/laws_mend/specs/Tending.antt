@@ -1,10 +1,10 @@
 -- What a mending of pages keeps at each crash point.
 use Rattle.std.specs.Prelude.{◌≡◌, List}
-use Rattle.disk_records.specs.declared.records.Event.{Event}
-use Rattle.disk_records.specs.Packs.{Pack}
-use Rattle.pack_model.specs.reading.Model.{read_as}
-use Rattle.pack_model.specs.scavenger.Scavenging.{Keeps, Throughout, Unmarked}
-use Rattle.pack_model.specs.showing.View.{view}
+use Rattle.laws_room.specs.disk_records.specs.declared.records.Event.{Event}
+use Rattle.laws_room.specs.disk_records.specs.Packs.{Pack}
+use Rattle.laws_room.specs.pack_model.specs.reading.Model.{read_as}
+use Rattle.laws_room.specs.pack_model.specs.scavenger.Scavenging.{Keeps, Throughout, Unmarked}
+use Rattle.laws_room.specs.pack_model.specs.showing.View.{view}
 
 -- The pack q, at some crash point of a mending of p: what a scavenge keeps is kept, it is viewed as before, and it has no clean mark if it
 -- had none.

@@ -1,28 +1,28 @@
 -- A directory gets a page more while names are mended: pages are mended, but the pack isn't whole yet.
 use Rattle.std.specs.Prelude.{◌≡◌, ◌≢◌, ◌++◌, ◌+◌, ◌*◌, ◌/◌, ◌%◌, ◌≤◌, ◌∷◌, [], ℕ, suc, true, false, List, length, replicate, take, Some, None}
-use Rattle.alto_words.specs.declared.fid.Fid.{Fid}
-use Rattle.alto_words.specs.Fid.{is_directory, is_fid, sys_dir}
-use Rattle.disk_records.specs.declared.records.Event.{Event}
-use Rattle.disk_records.specs.Addresses.{real_of}
-use Rattle.disk_records.specs.Commands.{claim_writes}
-use Rattle.disk_records.specs.Labels.{label_of, page_of}
-use Rattle.disk_records.specs.Packs.{Pack, after, is_free_at, sector_at}
-use Rattle.disk_records.specs.Words.{word}
-use Rattle.pack_model.specs.hints.Links.{dir_slots, dir_words, no_link}
-use Rattle.pack_model.specs.operations.Commands.{grown_claims, grown_label, grown_value}
-use Rattle.pack_model.specs.operations.Committing.{page_of_byte}
-use Rattle.pack_model.specs.operations.Operations.{grow_writes}
-use Rattle.pack_model.specs.operations.PageWords.{filled, page_number, widening_bytes}
-use Rattle.pack_model.specs.operations.Rooms.{placed}
-use Rattle.pack_model.specs.reading.Files.{file_bytes, leader, place}
-use Rattle.pack_model.specs.reading.Model.{root_items}
-use Rattle.pack_model.specs.reading.Sights.{sights}
-use Rattle.pack_model.specs.reading.SlotWords.{space_words}
-use Rattle.pack_model.specs.reading.Slots.{all_words, entry_length, slots}
-use Rattle.pack_model.specs.reading.Slots.Item.{entry, space}
-use Rattle.pack_model.specs.scavenger.Reports.{PagesMended}
-use Rattle.pack_model.specs.states.Whole.{Tidy}
-use Rattle.laws_operation.specs.FileWords.{CanGrow}
+use Rattle.laws_room.specs.alto_words.specs.declared.fid.Fid.{Fid}
+use Rattle.laws_room.specs.alto_words.specs.Fid.{is_directory, is_fid, sys_dir}
+use Rattle.laws_room.specs.disk_records.specs.declared.records.Event.{Event}
+use Rattle.laws_room.specs.disk_records.specs.Addresses.{real_of}
+use Rattle.laws_room.specs.disk_records.specs.Commands.{claim_writes}
+use Rattle.laws_room.specs.disk_records.specs.Labels.{label_of, page_of}
+use Rattle.laws_room.specs.disk_records.specs.Packs.{Pack, after, is_free_at, sector_at}
+use Rattle.laws_room.specs.disk_records.specs.Words.{word}
+use Rattle.laws_room.specs.pack_model.specs.hints.Links.{dir_slots, dir_words, no_link}
+use Rattle.laws_room.specs.pack_model.specs.operations.Commands.{grown_claims, grown_label, grown_value}
+use Rattle.laws_room.specs.pack_model.specs.operations.Committing.{page_of_byte}
+use Rattle.laws_room.specs.pack_model.specs.operations.Operations.{grow_writes}
+use Rattle.laws_room.specs.pack_model.specs.operations.PageWords.{filled, page_number, widening_bytes}
+use Rattle.laws_room.specs.pack_model.specs.operations.Rooms.{placed}
+use Rattle.laws_room.specs.pack_model.specs.reading.Files.{file_bytes, leader, place}
+use Rattle.laws_room.specs.pack_model.specs.reading.Model.{root_items}
+use Rattle.laws_room.specs.pack_model.specs.reading.Sights.{sights}
+use Rattle.laws_room.specs.pack_model.specs.reading.SlotWords.{space_words}
+use Rattle.laws_room.specs.pack_model.specs.reading.Slots.{all_words, entry_length, slots}
+use Rattle.laws_room.specs.pack_model.specs.reading.Slots.Item.{entry, space}
+use Rattle.laws_room.specs.pack_model.specs.scavenger.Reports.{PagesMended}
+use Rattle.laws_room.specs.pack_model.specs.states.Whole.{Tidy}
+use Rattle.laws_room.specs.laws_operation.specs.FileWords.{CanGrow}
 use Rattle.laws_lookup.specs.OwnLaws.{ReplacesSlots}
 use Rattle.laws_room.specs.NextLaws.{LackingNext, mended_pack}
 use Rattle.laws_mend.specs.Tending.{AllTends}

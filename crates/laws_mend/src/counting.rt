@@ -1,6 +1,6 @@
 //! Which pages count, which sectors are in use by them, and how far the pages of a file go.
 
-ghost use Rattle.laws_mend.specs.CountingLaws.{CountsByItsEnd, CountsByItsFormat, DirectoryReachesItsEnd, FullPagesAreFew, LastingFileHasItsPages, UsedByItsPage, UsedBySight};
+ghost use Rattle.laws_mend.specs.CountingLaws.{CountsByItsEnd, CountsByItsFormat, DirectoryReachesItsEnd, FullPagesAreFew, LastingFileHasItsPages, UsedByItsPage};
 
 /// The pages of a living file, except DiskDescriptor, count up to the one that the end of its bytes is in, if no page is carried twice, no
 /// label is out of range, and each directory ends with its slots.
@@ -11,11 +11,6 @@ pub fn counts_by_its_end()
 /// The pages of DiskDescriptor, if it lives, count up to the last data page of its format.
 pub fn counts_by_its_format()
     ensures { CountsByItsFormat }
-{}
-
-/// A sector that carries a page is in use if and only if the page is within its file's end, if no page is carried twice.
-pub fn used_by_sight()
-    ensures { UsedBySight }
 {}
 
 /// A sector is free, in use or not good if and only if the page that it carries, if any, is within its file's end, if no page is carried

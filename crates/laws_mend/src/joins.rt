@@ -1,7 +1,7 @@
 //! Mendings one after another, broken off, and what they come to. What a mending keeps is what a scavenge keeps, what is viewed, and that
 //! there is no clean mark where there was none.
 
-ghost use Rattle.laws_mend.specs.JoinLaws.{NothingTends, OneTends, TendingEnds, TendsBreaksOff, TendsJoin, TendsOn};
+ghost use Rattle.laws_mend.specs.JoinLaws.{NothingTends, TendingEnds, TendsBreaksOff, TendsJoin, TendsOn};
 
 /// A pack to which nothing is written keeps what a mending keeps.
 pub fn nothing_tends()
@@ -22,11 +22,6 @@ pub fn tends_join()
 /// Record writes that keep at each crash point what a mending keeps do so if they break off.
 pub fn tends_breaks_off()
     ensures { TendsBreaksOff }
-{}
-
-/// One record write keeps at each crash point what a mending keeps, if the pack that it leaves does.
-pub fn one_tends()
-    ensures { OneTends }
 {}
 
 /// Record writes that keep at each crash point what a mending keeps leave as many names to give, keep at each crash point what a scavenge

@@ -1,6 +1,6 @@
 //! Free and available sectors while the pages of a pack are mended.
 
-ghost use Rattle.laws_mend.specs.NumberLaws.{CopyReleaseFrees, DescriptorReleaseFrees, DirectoryCutFrees, FirstSectorIsFree, FreedAndFree, FreesJoin, LackingDescriptorPageIsFree, LackingPageIsFree, NeededIsFree, RootNeedsTwo, StrayReleaseFrees, TwoNeededAreFree, UnreadReleaseFrees, UnusedReleaseFrees, UsedAvailableIsFree};
+ghost use Rattle.laws_mend.specs.NumberLaws.{CopyReleaseFrees, DirectoryCutFrees, FirstSectorIsFree, FreedAndFree, FreesJoin, LackingDescriptorPageIsFree, LackingPageIsFree, NeededIsFree, RootNeedsTwo, StrayReleaseFrees, TwoNeededAreFree, UnusedReleaseFrees, UsedAvailableIsFree};
 
 /// Sectors that become free one after another, as many being available as before, become free together.
 pub fn frees_join()
@@ -65,18 +65,6 @@ pub fn stray_release_frees()
 /// available, if no page is carried twice.
 pub fn unused_release_frees()
     ensures { UnusedReleaseFrees }
-{}
-
-/// A release of a page that isn't read, except of DiskDescriptor, frees one sector more, and as many are available, if no page is carried
-/// twice.
-pub fn unread_release_frees()
-    ensures { UnreadReleaseFrees }
-{}
-
-/// A release of a data page of DiskDescriptor past those of its format frees one sector more, and as many are available, if no page is
-/// carried twice.
-pub fn descriptor_release_frees()
-    ensures { DescriptorReleaseFrees }
 {}
 
 /// A label by which a directory ends with its slots, and then the value that stands there, leave as many sectors free, and as many

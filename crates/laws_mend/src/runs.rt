@@ -1,7 +1,7 @@
 //! The record writes of guarded sector commands by which the pages of a pack are mended. What a mending keeps is what a scavenge keeps,
 //! what is viewed, and that there is no clean mark where there was none.
 
-ghost use Rattle.laws_mend.specs.RunLaws.{CopyReleaseTends, DescriptorClaimTends, DescriptorCountTends, DescriptorLeaderTends, DescriptorReleaseTends, DirectoryCutTends, LastClaimTends, LostNameTends, OtherLinksTend, RootCopyTends, RootLeaderTends, StrayReleaseTends, SystemNameTends, UnreadClaimTends, UnreadReleaseTends, UnusedReleaseTends};
+ghost use Rattle.laws_mend.specs.RunLaws.{CopyReleaseTends, DescriptorClaimTends, DescriptorCountTends, DescriptorLeaderTends, DirectoryCutTends, LastClaimTends, LostNameTends, OtherLinksTend, RootCopyTends, RootLeaderTends, StrayReleaseTends, SystemNameTends, UnreadClaimTends, UnusedReleaseTends};
 
 /// A release of a page that a lower sector carries keeps at each crash point what a mending keeps.
 pub fn copy_release_tends()
@@ -12,17 +12,6 @@ pub fn copy_release_tends()
 /// mending keeps.
 pub fn stray_release_tends()
     ensures { StrayReleaseTends }
-{}
-
-/// A release of a page past its file's end, or of a file without a leader page, keeps at each crash point what a mending keeps, if no page
-/// is carried twice.
-pub fn unread_release_tends()
-    ensures { UnreadReleaseTends }
-{}
-
-/// A release of a data page of DiskDescriptor keeps at each crash point what a mending keeps, if no page is carried twice.
-pub fn descriptor_release_tends()
-    ensures { DescriptorReleaseTends }
 {}
 
 /// A release of a page that isn't within its file's end, or of a file without a leader page, keeps at each crash point what a mending keeps,

@@ -1,27 +1,27 @@
 -- A small pack whose SysDir has two pages, and an entering there that goes over the end of the first.
 use Rattle.std.specs.Prelude.{ℕ, zero, suc, ◌+◌, ◌≡◌, List, [], ◌∷◌, ◌++◌, codes, length, replicate, take, drop}
-use Rattle.alto_words.specs.declared.fid.Fid.{Fid}
-use Rattle.alto_words.specs.Fid.{disk_descriptor, ordinary_fid, sys_dir}
-use Rattle.disk_records.specs.Addresses.{real_of}
-use Rattle.disk_records.specs.Commands.{ones}
-use Rattle.disk_records.specs.Labels.{label_of}
-use Rattle.disk_records.specs.Packs.{Pack}
-use Rattle.pack_model.specs.hints.Links.{no_link}
-use Rattle.pack_model.specs.operations.Entering.{EntryRoom}
-use Rattle.pack_model.specs.operations.PageWords.{entered_words, later, leader_label, new_leader_value, page_number, page_value}
-use Rattle.pack_model.specs.operations.Rooms.{Room}
-use Rattle.pack_model.specs.operations.Step.Operation.{enter}
-use Rattle.pack_model.specs.reading.Bytes.{bytes_of}
-use Rattle.pack_model.specs.reading.Namings.{descriptor_name, sys_dir_name}
-use Rattle.pack_model.specs.reading.SlotWords.{entry_words, space_words}
-use Rattle.pack_model.specs.reading.Slots.{Item}
-use Rattle.pack_model.specs.reading.Slots.Item.{entry, space}
-use Rattle.pack_model.specs.sessions.Descriptor.{descriptor_text}
-use Rattle.pack_model.specs.sessions.Format.{with_headers}
-use Rattle.pack_model.specs.states.Sound.{mark_open}
-use Rattle.pack_model.specs.states.Whole.{Tidy, Whole}
-use Rattle.laws_operation.specs.DirectoryWords.{CanEnter}
-use Rattle.laws_call.specs.Writing.{Written, entering_writes}
+use Rattle.laws_steps.specs.alto_words.specs.declared.fid.Fid.{Fid}
+use Rattle.laws_steps.specs.alto_words.specs.Fid.{disk_descriptor, ordinary_fid, sys_dir}
+use Rattle.laws_steps.specs.disk_records.specs.Addresses.{real_of}
+use Rattle.laws_steps.specs.disk_records.specs.Commands.{ones}
+use Rattle.laws_steps.specs.disk_records.specs.Labels.{label_of}
+use Rattle.laws_steps.specs.disk_records.specs.Packs.{Pack}
+use Rattle.laws_steps.specs.pack_model.specs.hints.Links.{no_link}
+use Rattle.laws_steps.specs.pack_model.specs.operations.Entering.{EntryRoom}
+use Rattle.laws_steps.specs.pack_model.specs.operations.PageWords.{entered_words, later, leader_label, new_leader_value, page_number, page_value}
+use Rattle.laws_steps.specs.pack_model.specs.operations.Rooms.{Room}
+use Rattle.laws_steps.specs.pack_model.specs.operations.Step.Operation.{enter}
+use Rattle.laws_steps.specs.pack_model.specs.reading.Bytes.{bytes_of}
+use Rattle.laws_steps.specs.pack_model.specs.reading.Namings.{descriptor_name, sys_dir_name}
+use Rattle.laws_steps.specs.pack_model.specs.reading.SlotWords.{entry_words, space_words}
+use Rattle.laws_steps.specs.pack_model.specs.reading.Slots.{Item}
+use Rattle.laws_steps.specs.pack_model.specs.reading.Slots.Item.{entry, space}
+use Rattle.laws_steps.specs.pack_model.specs.sessions.Descriptor.{descriptor_text}
+use Rattle.laws_steps.specs.pack_model.specs.sessions.Format.{with_headers}
+use Rattle.laws_steps.specs.pack_model.specs.states.Sound.{mark_open}
+use Rattle.laws_steps.specs.pack_model.specs.states.Whole.{Tidy, Whole}
+use Rattle.laws_steps.specs.laws_operation.specs.DirectoryWords.{CanEnter}
+use Rattle.laws_steps.specs.laws_call.specs.Writing.{Written, entering_writes}
 use Rattle.laws_met.specs.Peopled.{small}
 
 -- ---- sectors: a label and a value

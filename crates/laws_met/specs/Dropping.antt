@@ -1,16 +1,16 @@
 -- The premises of a drop by two calls are met, and those of a file that was found and whose entry leaves.
 use Rattle.std.specs.Prelude.{[], ◌∷◌}
-use Rattle.alto_words.specs.Fid.{sys_dir}
-use Rattle.disk_records.specs.Commands.{value_writes}
-use Rattle.disk_records.specs.Packs.{Pack, after}
-use Rattle.disk_records.specs.declared.records.Place.TheVariants.{Held}
-use Rattle.laws_call.specs.Writing.{entry_freed}
-use Rattle.laws_operation.specs.DirectoryWords.{HasEntry}
+use Rattle.laws_steps.specs.alto_words.specs.Fid.{sys_dir}
+use Rattle.laws_steps.specs.disk_records.specs.Commands.{value_writes}
+use Rattle.laws_steps.specs.disk_records.specs.Packs.{Pack, after}
+use Rattle.laws_steps.specs.disk_records.specs.declared.records.Place.TheVariants.{Held}
+use Rattle.laws_steps.specs.laws_call.specs.Writing.{entry_freed}
+use Rattle.laws_steps.specs.laws_operation.specs.DirectoryWords.{HasEntry}
 use Rattle.laws_steps.specs.DroppingLaws.{DropJoins, StandsReleased, released_pack}
 use Rattle.laws_steps.specs.LineKeepingLaws.{KeepsFound}
-use Rattle.pack_model.specs.hints.Sources.{IsFrom}
-use Rattle.pack_model.specs.operations.Step.Operation.{leave}
-use Rattle.pack_model.specs.reading.Slots.Item.{entry, space}
+use Rattle.laws_steps.specs.pack_model.specs.hints.Sources.{IsFrom}
+use Rattle.laws_steps.specs.pack_model.specs.operations.Step.Operation.{leave}
+use Rattle.laws_steps.specs.pack_model.specs.reading.Slots.Item.{entry, space}
 use Rattle.laws_met.specs.Peopled.{dir_d, file_a, file_b, name_a, name_b, name_d, peopled}
 use Rattle.laws_met.specs.Premises.{system_items}
 

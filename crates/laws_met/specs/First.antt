@@ -1,14 +1,14 @@
 -- A session on the pack that formatting writes: its first line and its end may come.
 use Rattle.std.specs.Prelude.{Bool, List, [], set, true, ℕ, ◌∷◌}
-use Rattle.alto_words.specs.Fid.{sys_dir}
-use Rattle.disk_records.specs.Packs.{Pack}
-use Rattle.disk_records.specs.declared.shape.Shape.{Shape}
-use Rattle.pack_model.specs.hints.Truth.{Truthful}
-use Rattle.pack_model.specs.operations.Step.Operation.{widen}
-use Rattle.pack_model.specs.sessions.Format.{format_table, formatted, sectors_used}
-use Rattle.laws_call.specs.SoundCalls.{LineFits}
-use Rattle.laws_hint.specs.TableLaws.{TableReserves}
-use Rattle.laws_line.specs.EndLaws.{LastLine}
+use Rattle.laws_steps.specs.alto_words.specs.Fid.{sys_dir}
+use Rattle.laws_steps.specs.disk_records.specs.Packs.{Pack}
+use Rattle.laws_steps.specs.disk_records.specs.declared.shape.Shape.{Shape}
+use Rattle.laws_steps.specs.pack_model.specs.hints.Truth.{Truthful}
+use Rattle.laws_steps.specs.pack_model.specs.operations.Step.Operation.{widen}
+use Rattle.laws_steps.specs.pack_model.specs.sessions.Format.{format_table, formatted, sectors_used}
+use Rattle.laws_steps.specs.laws_call.specs.SoundCalls.{LineFits}
+use Rattle.laws_steps.specs.laws_hint.specs.TableLaws.{TableReserves}
+use Rattle.laws_steps.specs.laws_line.specs.EndLaws.{LastLine}
 
 -- Hints are true with this table; with the first free sector marked it has that one reserved; a line may widen SysDir; and the session may
 -- end without an operation.

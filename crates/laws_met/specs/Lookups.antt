@@ -1,12 +1,12 @@
 -- The premises of what a call knew before other operations of its line are met: an entry, a name that no entry has, bytes within a file.
 use Rattle.std.specs.Prelude.{None, Some, [], ◌∷◌, ◌≡◌}
-use Rattle.alto_words.specs.Fid.{sys_dir}
-use Rattle.laws_line.specs.LineLaws.{IsEntered}
-use Rattle.pack_model.specs.operations.Committing.{length_of}
-use Rattle.pack_model.specs.operations.Step.{step}
-use Rattle.pack_model.specs.operations.Step.Operation.{leave, put, title, widen}
-use Rattle.pack_model.specs.reading.Model.{Model, dir_items, read_as}
-use Rattle.pack_model.specs.reading.Versions.{exact}
+use Rattle.laws_steps.specs.alto_words.specs.Fid.{sys_dir}
+use Rattle.laws_steps.specs.laws_line.specs.LineLaws.{IsEntered}
+use Rattle.laws_steps.specs.pack_model.specs.operations.Committing.{length_of}
+use Rattle.laws_steps.specs.pack_model.specs.operations.Step.{step}
+use Rattle.laws_steps.specs.pack_model.specs.operations.Step.Operation.{leave, put, title, widen}
+use Rattle.laws_steps.specs.pack_model.specs.reading.Model.{Model, dir_items, read_as}
+use Rattle.laws_steps.specs.pack_model.specs.reading.Versions.{exact}
 use Rattle.laws_met.specs.Peopled.{dir_d, file_a, file_b, name_a, name_b, name_c, peopled}
 
 -- The directory's entry is the one that its name means, and is entered so once the directory has a page more; no entry of the directory has

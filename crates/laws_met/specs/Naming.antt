@@ -1,16 +1,16 @@
 -- Names are mended on the small pack whose SysDir has two pages: one entry is lacking, and comes in three values.
 use Rattle.std.specs.Prelude.{◌≡◌, ◌∷◌, [], List, get_or, length}
-use Rattle.alto_words.specs.Fid.{disk_descriptor, ordinary_fid, sys_dir}
-use Rattle.disk_records.specs.Packs.{Pack}
-use Rattle.pack_model.specs.operations.PageWords.{later, near}
-use Rattle.pack_model.specs.reading.Model.{dir_items}
-use Rattle.pack_model.specs.reading.Namings.{descriptor_name, sys_dir_name}
-use Rattle.pack_model.specs.reading.Slots.{Item, item_words}
-use Rattle.pack_model.specs.reading.Slots.Item.{entry, space}
-use Rattle.pack_model.specs.scavenger.Reports.{PagesMended}
-use Rattle.pack_model.specs.states.Whole.{Tidy}
-use Rattle.laws_record.specs.DirLaws.{Frees, dir_written, entered, freed}
-use Rattle.laws_room.specs.NextLaws.{LackingNext, mended_pack}
+use Rattle.laws_steps.specs.alto_words.specs.Fid.{disk_descriptor, ordinary_fid, sys_dir}
+use Rattle.laws_steps.specs.disk_records.specs.Packs.{Pack}
+use Rattle.laws_steps.specs.pack_model.specs.operations.PageWords.{later, near}
+use Rattle.laws_steps.specs.pack_model.specs.reading.Model.{dir_items}
+use Rattle.laws_steps.specs.pack_model.specs.reading.Namings.{descriptor_name, sys_dir_name}
+use Rattle.laws_steps.specs.pack_model.specs.reading.Slots.{Item, item_words}
+use Rattle.laws_steps.specs.pack_model.specs.reading.Slots.Item.{entry, space}
+use Rattle.laws_steps.specs.pack_model.specs.scavenger.Reports.{PagesMended}
+use Rattle.laws_steps.specs.pack_model.specs.states.Whole.{Tidy}
+use Rattle.laws_steps.specs.laws_record.specs.DirLaws.{Frees, dir_written, entered, freed}
+use Rattle.laws_steps.specs.laws_room.specs.NextLaws.{LackingNext, mended_pack}
 use Rattle.laws_names.specs.WriteLaws.{CanBeEntered, EntryIsEntered, RoomIsOne, RoomIsWritten, SlotIsFreed}
 use Rattle.laws_met.specs.Crowded.{before_i, crowded, eight, file_i, free_i, letters, name_i, words_i}
 

@@ -1,22 +1,22 @@
 -- A small pack with two files and a directory, made from a formatted one by three lines.
 use Rattle.std.specs.Prelude.{ℕ, ◌-◌, ◌%◌, List, [], ◌∷◌, codes, length, replicate}
 use Rattle.std.proofs.Common.{arith}
-use Rattle.alto_words.specs.declared.fid.Fid.{Fid}
-use Rattle.alto_words.specs.Fid.{directory_fid, ordinary_fid}
-use Rattle.disk_records.specs.declared.records.Event.{Event}
-use Rattle.disk_records.specs.declared.shape.Shape.{Shape}
-use Rattle.disk_records.specs.Commands.{value_writes}
-use Rattle.disk_records.specs.Packs.{Pack, after, sector_at}
-use Rattle.pack_model.specs.operations.Commands.{cut_label, first_page_claim, grown_claims, grown_label, grown_value, leader_claim}
-use Rattle.pack_model.specs.operations.Entering.{EntryRoom, entry_value, values_first}
-use Rattle.pack_model.specs.operations.Operations.{cut_writes, drop_writes, enter_writes, grow_writes, make_writes}
-use Rattle.pack_model.specs.operations.PageWords.{entered_words, freed_value, put_value, stamped_value, titled_value, widening_bytes}
-use Rattle.pack_model.specs.reading.Sights.{sights}
-use Rattle.pack_model.specs.reading.Slots.{entry_length}
-use Rattle.pack_model.specs.sessions.Descriptor.{open_writes}
-use Rattle.pack_model.specs.sessions.Format.{formatted}
-use Rattle.pack_model.specs.states.Sound.{mark_of}
-use Rattle.laws_line.specs.CrashLaws.{with_serial}
+use Rattle.laws_steps.specs.alto_words.specs.declared.fid.Fid.{Fid}
+use Rattle.laws_steps.specs.alto_words.specs.Fid.{directory_fid, ordinary_fid}
+use Rattle.laws_steps.specs.disk_records.specs.declared.records.Event.{Event}
+use Rattle.laws_steps.specs.disk_records.specs.declared.shape.Shape.{Shape}
+use Rattle.laws_steps.specs.disk_records.specs.Commands.{value_writes}
+use Rattle.laws_steps.specs.disk_records.specs.Packs.{Pack, after, sector_at}
+use Rattle.laws_steps.specs.pack_model.specs.operations.Commands.{cut_label, first_page_claim, grown_claims, grown_label, grown_value, leader_claim}
+use Rattle.laws_steps.specs.pack_model.specs.operations.Entering.{EntryRoom, entry_value, values_first}
+use Rattle.laws_steps.specs.pack_model.specs.operations.Operations.{cut_writes, drop_writes, enter_writes, grow_writes, make_writes}
+use Rattle.laws_steps.specs.pack_model.specs.operations.PageWords.{entered_words, freed_value, put_value, stamped_value, titled_value, widening_bytes}
+use Rattle.laws_steps.specs.pack_model.specs.reading.Sights.{sights}
+use Rattle.laws_steps.specs.pack_model.specs.reading.Slots.{entry_length}
+use Rattle.laws_steps.specs.pack_model.specs.sessions.Descriptor.{open_writes}
+use Rattle.laws_steps.specs.pack_model.specs.sessions.Format.{formatted}
+use Rattle.laws_steps.specs.pack_model.specs.states.Sound.{mark_of}
+use Rattle.laws_steps.specs.laws_line.specs.CrashLaws.{with_serial}
 
 -- one drive of two cylinders: 48 sectors
 abbrev pub small : Shape

@@ -1,33 +1,33 @@
 -- The premises of the laws of operations and of lines are met.
 use Rattle.std.specs.Prelude.{◌≡◌, ◌≤◌, List, [], ◌∷◌, ◌++◌, Some}
-use Rattle.alto_words.specs.Fid.{disk_descriptor, sys_dir}
-use Rattle.disk_records.specs.Packs.{Pack, after, sector_at}
-use Rattle.disk_records.specs.declared.records.Event.{Event}
-use Rattle.pack_model.specs.hints.Links.{LinksTrue}
-use Rattle.pack_model.specs.hints.Tables.{true_table}
-use Rattle.pack_model.specs.operations.Committing.{pages_for_operations}
-use Rattle.pack_model.specs.operations.PageWords.{entered_words, widening_bytes}
-use Rattle.pack_model.specs.operations.Rooms.{Room}
-use Rattle.pack_model.specs.operations.Step.{Operation}
-use Rattle.pack_model.specs.operations.Step.Operation.{cut, drop_file, enter, grow, leave, make, put, stamp, title, widen}
-use Rattle.pack_model.specs.reading.Files.{file_bytes, place}
-use Rattle.pack_model.specs.reading.Model.{dir_items, read_as}
-use Rattle.pack_model.specs.reading.Namings.{descriptor_name, sys_dir_name}
-use Rattle.pack_model.specs.reading.Sights.{sights}
-use Rattle.pack_model.specs.reading.Slots.{Item}
-use Rattle.pack_model.specs.reading.Slots.Item.{entry, space}
-use Rattle.pack_model.specs.sessions.Descriptor.{serial_writes}
-use Rattle.pack_model.specs.states.InUse.{free_sector_count}
-use Rattle.pack_model.specs.states.Sound.{Sound, mark_of, mark_open}
-use Rattle.laws_operation.specs.ByteLaws.{Bear}
-use Rattle.laws_operation.specs.DescriptorLaws.{MayClose}
-use Rattle.laws_operation.specs.DirectoryWords.{CanEnter, HasEntry, left_in}
-use Rattle.laws_operation.specs.FileWords.{ArePastTheEnd, CanCut, CanGrow, CanMake, CanPut, CanWriteLeader}
-use Rattle.laws_operation.specs.LifeLaws.{MayDrop}
-use Rattle.laws_line.specs.CrashLaws.{Batch}
-use Rattle.laws_line.specs.SoundLines.{IsKindOfLine, LineOnSound}
-use Rattle.laws_hint.specs.ClosingLaws.{ClosedTrue, closing_writes}
-use Rattle.laws_hint.specs.LineLinks.{EachKeepsLinks}
+use Rattle.laws_steps.specs.alto_words.specs.Fid.{disk_descriptor, sys_dir}
+use Rattle.laws_steps.specs.disk_records.specs.Packs.{Pack, after, sector_at}
+use Rattle.laws_steps.specs.disk_records.specs.declared.records.Event.{Event}
+use Rattle.laws_steps.specs.pack_model.specs.hints.Links.{LinksTrue}
+use Rattle.laws_steps.specs.pack_model.specs.hints.Tables.{true_table}
+use Rattle.laws_steps.specs.pack_model.specs.operations.Committing.{pages_for_operations}
+use Rattle.laws_steps.specs.pack_model.specs.operations.PageWords.{entered_words, widening_bytes}
+use Rattle.laws_steps.specs.pack_model.specs.operations.Rooms.{Room}
+use Rattle.laws_steps.specs.pack_model.specs.operations.Step.{Operation}
+use Rattle.laws_steps.specs.pack_model.specs.operations.Step.Operation.{cut, drop_file, enter, grow, leave, make, put, stamp, title, widen}
+use Rattle.laws_steps.specs.pack_model.specs.reading.Files.{file_bytes, place}
+use Rattle.laws_steps.specs.pack_model.specs.reading.Model.{dir_items, read_as}
+use Rattle.laws_steps.specs.pack_model.specs.reading.Namings.{descriptor_name, sys_dir_name}
+use Rattle.laws_steps.specs.pack_model.specs.reading.Sights.{sights}
+use Rattle.laws_steps.specs.pack_model.specs.reading.Slots.{Item}
+use Rattle.laws_steps.specs.pack_model.specs.reading.Slots.Item.{entry, space}
+use Rattle.laws_steps.specs.pack_model.specs.sessions.Descriptor.{serial_writes}
+use Rattle.laws_steps.specs.pack_model.specs.states.InUse.{free_sector_count}
+use Rattle.laws_steps.specs.pack_model.specs.states.Sound.{Sound, mark_of, mark_open}
+use Rattle.laws_steps.specs.laws_operation.specs.ByteLaws.{Bear}
+use Rattle.laws_steps.specs.laws_operation.specs.DescriptorLaws.{MayClose}
+use Rattle.laws_steps.specs.laws_operation.specs.DirectoryWords.{CanEnter, HasEntry, left_in}
+use Rattle.laws_steps.specs.laws_operation.specs.FileWords.{ArePastTheEnd, CanCut, CanGrow, CanMake, CanPut, CanWriteLeader}
+use Rattle.laws_steps.specs.laws_operation.specs.LifeLaws.{MayDrop}
+use Rattle.laws_steps.specs.laws_line.specs.CrashLaws.{Batch}
+use Rattle.laws_steps.specs.laws_line.specs.SoundLines.{IsKindOfLine, LineOnSound}
+use Rattle.laws_steps.specs.laws_hint.specs.ClosingLaws.{ClosedTrue, closing_writes}
+use Rattle.laws_steps.specs.laws_hint.specs.LineLinks.{EachKeepsLinks}
 use Rattle.laws_met.specs.Peopled.{bytes_a, bytes_more, after_cut, cutting, dir_d, dropping, entered_a, entered_d, entering, file_a, file_b, formatted_pack, after_growth, grown_a, growing, leaving, left, left_b, made_a, made_b, made_d, making, name_a, name_b, name_c, name_d, name_e, name_z, numbered_a, numbered_b, numbered_d, opened, opening, peopled, after_put, putting, retitled, retitled_b, room_a, room_b, room_c, room_d, room_e, after_stamp, stamping, after_title, titling}
 
 -- ---- one pack

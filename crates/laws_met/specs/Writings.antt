@@ -1,14 +1,14 @@
 -- The premises of calls are met: operations by all their record writes, values of 256 words, and a cache that lists a new file's pages.
 use Rattle.std.specs.Prelude.{◌%◌, List, [], ◌∷◌}
-use Rattle.disk_records.specs.Commands.{value_writes}
-use Rattle.disk_records.specs.Packs.{AreFormed, Pack, sector_at}
-use Rattle.pack_model.specs.hints.Handy.{CachedAt, Handy}
-use Rattle.pack_model.specs.operations.Operations.{drop_writes}
-use Rattle.pack_model.specs.operations.PageWords.{put_value, widening_bytes}
-use Rattle.pack_model.specs.operations.Step.Operation.{cut, drop_file, grow, leave, make, put, stamp, title, widen}
-use Rattle.laws_call.specs.Writing.{Written, entry_freed, grown_writes}
-use Rattle.laws_lookup.specs.HintLaws.{HasFullValues}
-use Rattle.laws_midway.specs.MadeLaws.{ListsNewPages}
+use Rattle.laws_steps.specs.disk_records.specs.Commands.{value_writes}
+use Rattle.laws_steps.specs.disk_records.specs.Packs.{AreFormed, Pack, sector_at}
+use Rattle.laws_steps.specs.pack_model.specs.hints.Handy.{CachedAt, Handy}
+use Rattle.laws_steps.specs.pack_model.specs.operations.Operations.{drop_writes}
+use Rattle.laws_steps.specs.pack_model.specs.operations.PageWords.{put_value, widening_bytes}
+use Rattle.laws_steps.specs.pack_model.specs.operations.Step.Operation.{cut, drop_file, grow, leave, make, put, stamp, title, widen}
+use Rattle.laws_steps.specs.laws_call.specs.Writing.{Written, entry_freed, grown_writes}
+use Rattle.laws_steps.specs.laws_lookup.specs.HintLaws.{HasFullValues}
+use Rattle.laws_steps.specs.laws_midway.specs.MadeLaws.{ListsNewPages}
 use Rattle.laws_met.specs.Premises.{system_items}
 use Rattle.laws_met.specs.Peopled.{bytes_more, cutting, dir_d, file_a, file_b, made_b, making, name_a, name_b, name_z, numbered_b, peopled, stamping, titling}
 

@@ -1,12 +1,12 @@
 -- What a caller knows before it cuts a file: where the pages are that stay the last or go.
 use Rattle.std.specs.Prelude.{List, length, true, ℕ, ◌≡◌, ◌≤◌}
-use Rattle.alto_words.specs.declared.fid.Fid.{Fid}
-use Rattle.disk_records.specs.Packs.{Pack}
-use Rattle.laws_operation.specs.ByteLaws.{IsOrdinary}
-use Rattle.laws_operation.specs.FileWords.{CanCut}
-use Rattle.pack_model.specs.reading.Files.{file_bytes, lives}
-use Rattle.pack_model.specs.reading.Sights.{sights}
-use Rattle.pack_model.specs.states.Whole.{Whole}
+use Rattle.laws_hint.specs.alto_words.specs.declared.fid.Fid.{Fid}
+use Rattle.laws_hint.specs.disk_records.specs.Packs.{Pack}
+use Rattle.laws_hint.specs.laws_operation.specs.ByteLaws.{IsOrdinary}
+use Rattle.laws_hint.specs.laws_operation.specs.FileWords.{CanCut}
+use Rattle.laws_hint.specs.pack_model.specs.reading.Files.{file_bytes, lives}
+use Rattle.laws_hint.specs.pack_model.specs.reading.Sights.{sights}
+use Rattle.laws_hint.specs.pack_model.specs.states.Whole.{Whole}
 
 -- The sector of the page that becomes the last where the first n bytes are kept, and those of all later pages.
 pub record HasCut (p : Pack) (f : Fid) (n : ℕ) : Type 0 where

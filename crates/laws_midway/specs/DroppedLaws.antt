@@ -1,17 +1,17 @@
 -- What a whole drop leaves: the releases of a file's sectors, and then the value that frees the slot of its entry.
 use Rattle.std.specs.Prelude.{List, Some, false, ℕ, ◌≡◌}
-use Rattle.alto_words.specs.Fid.{is_fid}
-use Rattle.alto_words.specs.declared.fid.Fid.{Fid}
-use Rattle.disk_records.specs.Packs.{Pack, after, sector_at}
-use Rattle.laws_operation.specs.DirectoryWords.{HasEntry}
-use Rattle.laws_operation.specs.LifeLaws.{MayDrop}
-use Rattle.pack_model.specs.operations.Operations.{drop_writes}
-use Rattle.pack_model.specs.operations.PageWords.{freed_value}
-use Rattle.pack_model.specs.reading.Files.{file_bytes, lives, place}
-use Rattle.pack_model.specs.reading.Sights.{sights}
-use Rattle.pack_model.specs.reading.Slots.Item.{entry}
-use Rattle.pack_model.specs.reading.Slots.{Item, all_words, item_words}
-use Rattle.pack_model.specs.states.Whole.{Tidy, Whole}
+use Rattle.laws_hint.specs.alto_words.specs.Fid.{is_fid}
+use Rattle.laws_hint.specs.alto_words.specs.declared.fid.Fid.{Fid}
+use Rattle.laws_hint.specs.disk_records.specs.Packs.{Pack, after, sector_at}
+use Rattle.laws_hint.specs.laws_operation.specs.DirectoryWords.{HasEntry}
+use Rattle.laws_hint.specs.laws_operation.specs.LifeLaws.{MayDrop}
+use Rattle.laws_hint.specs.pack_model.specs.operations.Operations.{drop_writes}
+use Rattle.laws_hint.specs.pack_model.specs.operations.PageWords.{freed_value}
+use Rattle.laws_hint.specs.pack_model.specs.reading.Files.{file_bytes, lives, place}
+use Rattle.laws_hint.specs.pack_model.specs.reading.Sights.{sights}
+use Rattle.laws_hint.specs.pack_model.specs.reading.Slots.Item.{entry}
+use Rattle.laws_hint.specs.pack_model.specs.reading.Slots.{Item, all_words, item_words}
+use Rattle.laws_hint.specs.pack_model.specs.states.Whole.{Tidy, Whole}
 
 -- All files except f and d are as they were, as in `LeavesOthers`, and the pages of d have their places.
 pub record LeavesOthersOfTwo (f d : Fid) (p q : Pack) : Type 0 where

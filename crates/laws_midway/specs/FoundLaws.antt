@@ -1,25 +1,25 @@
 -- What a caller knows of an entry that it looked up, and of its file.
 use Rattle.std.specs.Prelude.{List, Some, false, true, ℕ, ◌++◌, ◌+◌, ◌<◌, ◌∷◌, ◌≡◌, ◌≤◌, ◌⊎◌}
-use Rattle.alto_words.specs.Fid.{is_directory, is_fid}
-use Rattle.alto_words.specs.Names.{is_same_name}
-use Rattle.alto_words.specs.declared.fid.Fid.{Fid}
-use Rattle.alto_words.specs.declared.wanted.Wanted.{Wanted}
-use Rattle.disk_records.specs.Packs.{Pack}
-use Rattle.disk_records.specs.declared.records.Place.{Place}
-use Rattle.laws_line.specs.LineLaws.{IsEntered}
-use Rattle.laws_operation.specs.DirectoryWords.{HasEntry}
-use Rattle.laws_operation.specs.EntryLaws.{HasName}
-use Rattle.pack_model.specs.hints.Links.{dir_slots}
-use Rattle.pack_model.specs.hints.Sources.{IsFrom}
-use Rattle.pack_model.specs.operations.Committing.{page_of_word}
-use Rattle.pack_model.specs.reading.Files.{lives, place}
-use Rattle.pack_model.specs.reading.Lookup.{EntryAt, entry_at}
-use Rattle.pack_model.specs.reading.Model.{dir_items, read_as}
-use Rattle.pack_model.specs.reading.Sights.{sights}
-use Rattle.pack_model.specs.reading.SlotWords.{address_word, slots_at}
-use Rattle.pack_model.specs.reading.Slots.Item.{entry}
-use Rattle.pack_model.specs.reading.Slots.{Item, all_words, item_words, slots}
-use Rattle.pack_model.specs.states.Whole.{Tidy, Whole}
+use Rattle.laws_hint.specs.alto_words.specs.Fid.{is_directory, is_fid}
+use Rattle.laws_hint.specs.alto_words.specs.Names.{is_same_name}
+use Rattle.laws_hint.specs.alto_words.specs.declared.fid.Fid.{Fid}
+use Rattle.laws_hint.specs.alto_words.specs.declared.wanted.Wanted.{Wanted}
+use Rattle.laws_hint.specs.disk_records.specs.Packs.{Pack}
+use Rattle.laws_hint.specs.disk_records.specs.declared.records.Place.{Place}
+use Rattle.laws_hint.specs.laws_line.specs.LineLaws.{IsEntered}
+use Rattle.laws_hint.specs.laws_operation.specs.DirectoryWords.{HasEntry}
+use Rattle.laws_hint.specs.laws_operation.specs.EntryLaws.{HasName}
+use Rattle.laws_hint.specs.pack_model.specs.hints.Links.{dir_slots}
+use Rattle.laws_hint.specs.pack_model.specs.hints.Sources.{IsFrom}
+use Rattle.laws_hint.specs.pack_model.specs.operations.Committing.{page_of_word}
+use Rattle.laws_hint.specs.pack_model.specs.reading.Files.{lives, place}
+use Rattle.laws_hint.specs.pack_model.specs.reading.Lookup.{EntryAt, entry_at}
+use Rattle.laws_hint.specs.pack_model.specs.reading.Model.{dir_items, read_as}
+use Rattle.laws_hint.specs.pack_model.specs.reading.Sights.{sights}
+use Rattle.laws_hint.specs.pack_model.specs.reading.SlotWords.{address_word, slots_at}
+use Rattle.laws_hint.specs.pack_model.specs.reading.Slots.Item.{entry}
+use Rattle.laws_hint.specs.pack_model.specs.reading.Slots.{Item, all_words, item_words, slots}
+use Rattle.laws_hint.specs.pack_model.specs.states.Whole.{Tidy, Whole}
 
 -- ---- it lives
 -- on any pack a file with an entry in the model does

@@ -1,21 +1,21 @@
 -- Where the pages of a file are after a growth, or those of a directory after a widening, and how long it is then.
 use Rattle.std.specs.Prelude.{List, None, Some, length, suc, true, ℕ, ◌+◌, ◌/◌, ◌<◌, ◌≡◌, ◌≢◌, ◌≤◌}
-use Rattle.alto_words.specs.Fid.{is_directory}
-use Rattle.alto_words.specs.declared.fid.Fid.{Fid}
-use Rattle.disk_records.specs.Packs.{Pack, after, sector_at}
-use Rattle.laws_lookup.specs.OtherLaws.{KeepsPages, LeavesOthers}
-use Rattle.laws_operation.specs.ByteLaws.{Bear, IsOrdinary}
-use Rattle.laws_operation.specs.FileWords.{CanGrow}
-use Rattle.pack_model.specs.operations.Commands.{grown_claims, grown_label, grown_value}
-use Rattle.pack_model.specs.operations.Committing.{length_of, page_of_byte}
-use Rattle.pack_model.specs.operations.Operations.{grow_writes}
-use Rattle.pack_model.specs.operations.PageWords.{widening_bytes}
-use Rattle.pack_model.specs.operations.Step.Operation.{grow, widen}
-use Rattle.pack_model.specs.operations.Step.{step}
-use Rattle.pack_model.specs.reading.Files.{file_bytes, lives, place}
-use Rattle.pack_model.specs.reading.Model.{read_as}
-use Rattle.pack_model.specs.reading.Sights.{sights}
-use Rattle.pack_model.specs.states.Whole.{Tidy, Whole}
+use Rattle.laws_hint.specs.alto_words.specs.Fid.{is_directory}
+use Rattle.laws_hint.specs.alto_words.specs.declared.fid.Fid.{Fid}
+use Rattle.laws_hint.specs.disk_records.specs.Packs.{Pack, after, sector_at}
+use Rattle.laws_hint.specs.laws_lookup.specs.OtherLaws.{KeepsPages, LeavesOthers}
+use Rattle.laws_hint.specs.laws_operation.specs.ByteLaws.{Bear, IsOrdinary}
+use Rattle.laws_hint.specs.laws_operation.specs.FileWords.{CanGrow}
+use Rattle.laws_hint.specs.pack_model.specs.operations.Commands.{grown_claims, grown_label, grown_value}
+use Rattle.laws_hint.specs.pack_model.specs.operations.Committing.{length_of, page_of_byte}
+use Rattle.laws_hint.specs.pack_model.specs.operations.Operations.{grow_writes}
+use Rattle.laws_hint.specs.pack_model.specs.operations.PageWords.{widening_bytes}
+use Rattle.laws_hint.specs.pack_model.specs.operations.Step.Operation.{grow, widen}
+use Rattle.laws_hint.specs.pack_model.specs.operations.Step.{step}
+use Rattle.laws_hint.specs.pack_model.specs.reading.Files.{file_bytes, lives, place}
+use Rattle.laws_hint.specs.pack_model.specs.reading.Model.{read_as}
+use Rattle.laws_hint.specs.pack_model.specs.reading.Sights.{sights}
+use Rattle.laws_hint.specs.pack_model.specs.states.Whole.{Tidy, Whole}
 
 -- ---- lengths
 -- the last page of each file of a whole pack has a number, so that the page after a full one has

@@ -1,12 +1,12 @@
 -- Hints in the middle of a line.
 use Rattle.std.specs.Prelude.{List, Option, ℕ, ◌++◌}
-use Rattle.disk_records.specs.Packs.{Pack, after}
-use Rattle.disk_records.specs.declared.records.Event.{Event}
-use Rattle.disk_records.specs.declared.records.Page.{Page}
-use Rattle.disk_records.specs.declared.records.Place.{Place}
-use Rattle.laws_lookup.specs.StayLaws.{MisledBefore}
-use Rattle.pack_model.specs.hints.Misled.{AnswersMisled}
-use Rattle.pack_model.specs.states.Whole.{Whole}
+use Rattle.laws_hint.specs.disk_records.specs.Packs.{Pack, after}
+use Rattle.laws_hint.specs.disk_records.specs.declared.records.Event.{Event}
+use Rattle.laws_hint.specs.disk_records.specs.declared.records.Page.{Page}
+use Rattle.laws_hint.specs.disk_records.specs.declared.records.Place.{Place}
+use Rattle.laws_hint.specs.laws_lookup.specs.StayLaws.{MisledBefore}
+use Rattle.laws_hint.specs.pack_model.specs.hints.Misled.{AnswersMisled}
+use Rattle.laws_hint.specs.pack_model.specs.states.Whole.{Whole}
 
 -- each hint that misleads after two lists of record writes misled before both, if it did so over each of them
 abbrev pub LaterMisledBefore : Type 0

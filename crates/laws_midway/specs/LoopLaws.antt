@@ -1,14 +1,14 @@
 -- What stays known of the sectors to come midway in a call's own loop.
 use Rattle.std.specs.Prelude.{All, List, Some, drop, length, take, true, ℕ, ◌+◌, ◌≡◌, ◌≢◌, ◌≤◌}
-use Rattle.alto_words.specs.declared.fid.Fid.{Fid}
-use Rattle.disk_records.specs.Commands.{relabel_writes}
-use Rattle.disk_records.specs.Packs.{Pack, after, carried, is_free_at, sector_at}
-use Rattle.disk_records.specs.declared.records.Event.{Event}
-use Rattle.disk_records.specs.declared.records.Page.{Page}
+use Rattle.laws_hint.specs.alto_words.specs.declared.fid.Fid.{Fid}
+use Rattle.laws_hint.specs.disk_records.specs.Commands.{relabel_writes}
+use Rattle.laws_hint.specs.disk_records.specs.Packs.{Pack, after, carried, is_free_at, sector_at}
+use Rattle.laws_hint.specs.disk_records.specs.declared.records.Event.{Event}
+use Rattle.laws_hint.specs.disk_records.specs.declared.records.Page.{Page}
 use Rattle.laws_hint.specs.MapMeanings.{HasEachSector}
-use Rattle.laws_operation.specs.ByteLaws.{Bear}
-use Rattle.pack_model.specs.operations.Commands.{Claim, all_claimed, claims_writes, releases_writes, sectors_of}
-use Rattle.pack_model.specs.reading.Sights.{sights}
+use Rattle.laws_hint.specs.laws_operation.specs.ByteLaws.{Bear}
+use Rattle.laws_hint.specs.pack_model.specs.operations.Commands.{Claim, all_claimed, claims_writes, releases_writes, sectors_of}
+use Rattle.laws_hint.specs.pack_model.specs.reading.Sights.{sights}
 
 -- ---- releases, and claims
 -- the sector is none of these

@@ -1,12 +1,12 @@
 -- Hints for a new file, once it is made.
 use Rattle.std.specs.Prelude.{All, List, ℕ, ◌≡◌}
-use Rattle.alto_words.specs.declared.fid.Fid.{Fid}
-use Rattle.disk_records.specs.Packs.{Pack, after}
-use Rattle.laws_operation.specs.FileWords.{CanMake}
-use Rattle.pack_model.specs.hints.Handy.{CachedAt, Handy}
-use Rattle.pack_model.specs.operations.Commands.{first_page_claim, leader_claim}
-use Rattle.pack_model.specs.operations.Operations.{make_writes}
-use Rattle.pack_model.specs.states.Whole.{Tidy, Whole}
+use Rattle.laws_hint.specs.alto_words.specs.declared.fid.Fid.{Fid}
+use Rattle.laws_hint.specs.disk_records.specs.Packs.{Pack, after}
+use Rattle.laws_hint.specs.laws_operation.specs.FileWords.{CanMake}
+use Rattle.laws_hint.specs.pack_model.specs.hints.Handy.{CachedAt, Handy}
+use Rattle.laws_hint.specs.pack_model.specs.operations.Commands.{first_page_claim, leader_claim}
+use Rattle.laws_hint.specs.pack_model.specs.operations.Operations.{make_writes}
+use Rattle.laws_hint.specs.pack_model.specs.states.Whole.{Tidy, Whole}
 
 -- where the cache lists the leader of the new file it does so at this sector, and its page 1 at that one
 abbrev pub ListsNewPages : Fid → ℕ → ℕ → List CachedAt → Type 0

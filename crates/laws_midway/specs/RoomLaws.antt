@@ -1,9 +1,9 @@
 -- Room for an entry, by the slots of a directory that are met one at a time.
 use Rattle.std.specs.Prelude.{All, List, None, Some, [], fold, length, max, ℕ, ◌++◌, ◌+◌, ◌<◌, ◌∷◌, ◌≡◌, ◌≢◌, ◌≤◌, ◌↔◌}
-use Rattle.laws_record.specs.SlotLaws.{IsSpace}
-use Rattle.pack_model.specs.operations.Rooms.{Room, find_room, largest_run, most_free, room_from}
-use Rattle.pack_model.specs.reading.Slots.Item.{entry, space}
-use Rattle.pack_model.specs.reading.Slots.{Item, all_words, item_words}
+use Rattle.laws_hint.specs.laws_record.specs.SlotLaws.{IsSpace}
+use Rattle.laws_hint.specs.pack_model.specs.operations.Rooms.{Room, find_room, largest_run, most_free, room_from}
+use Rattle.laws_hint.specs.pack_model.specs.reading.Slots.Item.{entry, space}
+use Rattle.laws_hint.specs.pack_model.specs.reading.Slots.{Item, all_words, item_words}
 
 -- ---- the most free words in a row
 -- the words of the row that ends with this slot, by those of the row that ends before it

@@ -1,23 +1,23 @@
 -- Entries that stand where they stood while names are mended, and those that come.
 use Rattle.std.specs.Prelude.{◌≡◌, ◌⊎◌, ◌++◌, ◌∷◌, ℕ, false, true, All, List, [], Contains}
 use Rattle.std.specs.FinMap.{entries}
-use Rattle.alto_words.specs.declared.fid.Fid.{Fid}
-use Rattle.alto_words.specs.Fid.{is_directory, is_fid}
-use Rattle.disk_records.specs.Packs.{Pack}
-use Rattle.pack_model.specs.hints.Links.{IsTrueAddress, dir_slots, dir_words}
-use Rattle.pack_model.specs.reading.Bodies.{File, found}
-use Rattle.pack_model.specs.reading.Files.{leader, lives, place}
-use Rattle.pack_model.specs.reading.Leaders.{Leader}
-use Rattle.pack_model.specs.reading.Model.{IsNamed, read_as}
-use Rattle.pack_model.specs.reading.Namings.{namings_in}
-use Rattle.pack_model.specs.reading.Sights.{sights}
-use Rattle.pack_model.specs.reading.SlotWords.{SlotAt, slots_at}
-use Rattle.pack_model.specs.reading.Slots.{Item, all_words, slots}
-use Rattle.pack_model.specs.reading.Slots.Item.{entry}
-use Rattle.pack_model.specs.scavenger.Reports.{NamesMended, PagesMended}
-use Rattle.pack_model.specs.sessions.Maps.{map_entries}
-use Rattle.pack_model.specs.states.Whole.{Tidy}
-use Rattle.laws_lookup.specs.OwnLaws.{ReplacesSlots}
+use Rattle.laws_mend.specs.alto_words.specs.declared.fid.Fid.{Fid}
+use Rattle.laws_mend.specs.alto_words.specs.Fid.{is_directory, is_fid}
+use Rattle.laws_mend.specs.disk_records.specs.Packs.{Pack}
+use Rattle.laws_mend.specs.pack_model.specs.hints.Links.{IsTrueAddress, dir_slots, dir_words}
+use Rattle.laws_mend.specs.pack_model.specs.reading.Bodies.{File, found}
+use Rattle.laws_mend.specs.pack_model.specs.reading.Files.{leader, lives, place}
+use Rattle.laws_mend.specs.pack_model.specs.reading.Leaders.{Leader}
+use Rattle.laws_mend.specs.pack_model.specs.reading.Model.{IsNamed, read_as}
+use Rattle.laws_mend.specs.pack_model.specs.reading.Namings.{namings_in}
+use Rattle.laws_mend.specs.pack_model.specs.reading.Sights.{sights}
+use Rattle.laws_mend.specs.pack_model.specs.reading.SlotWords.{SlotAt, slots_at}
+use Rattle.laws_mend.specs.pack_model.specs.reading.Slots.{Item, all_words, slots}
+use Rattle.laws_mend.specs.pack_model.specs.reading.Slots.Item.{entry}
+use Rattle.laws_mend.specs.pack_model.specs.scavenger.Reports.{NamesMended, PagesMended}
+use Rattle.laws_mend.specs.pack_model.specs.sessions.Maps.{map_entries}
+use Rattle.laws_mend.specs.pack_model.specs.states.Whole.{Tidy}
+use Rattle.laws_mend.specs.laws_lookup.specs.OwnLaws.{ReplacesSlots}
 use Rattle.laws_mend.specs.WidenLaws.{DirectoryIsWidened}
 
 -- Each leader page has its place, each entry of p stands where it stood with the same address, and each other one has a true address.

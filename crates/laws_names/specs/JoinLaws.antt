@@ -1,12 +1,12 @@
 -- Mendings of names one after another, broken off, and what they come to.
 use Rattle.std.specs.Prelude.{◌∷◌, [], ℕ, List}
-use Rattle.disk_records.specs.declared.records.Event.{Event}
-use Rattle.disk_records.specs.declared.records.Event.TheVariants.{Wrote}
-use Rattle.disk_records.specs.Events.{IsFirstOf}
-use Rattle.disk_records.specs.Packs.{Pack, after}
-use Rattle.pack_model.specs.scavenger.Scavenging.{Keeps, Throughout, Unmarked}
-use Rattle.pack_model.specs.states.Sound.{Clean}
-use Rattle.laws_record.specs.ChainLaws.{KeptTogether}
+use Rattle.laws_mend.specs.disk_records.specs.declared.records.Event.{Event}
+use Rattle.laws_mend.specs.disk_records.specs.declared.records.Event.TheVariants.{Wrote}
+use Rattle.laws_mend.specs.disk_records.specs.Events.{IsFirstOf}
+use Rattle.laws_mend.specs.disk_records.specs.Packs.{Pack, after}
+use Rattle.laws_mend.specs.pack_model.specs.scavenger.Scavenging.{Keeps, Throughout, Unmarked}
+use Rattle.laws_mend.specs.pack_model.specs.states.Sound.{Clean}
+use Rattle.laws_mend.specs.laws_record.specs.ChainLaws.{KeptTogether}
 use Rattle.laws_mend.specs.Tending.{AllTends}
 use Rattle.laws_names.specs.Keeping.{AllKeepOpen, KeepsOpen}
 

@@ -1,22 +1,22 @@
 -- Entries that are lacking on a pack whose pages are mended: which may be entered, and the page more that one may need.
 use Rattle.std.specs.Prelude.{◌≡◌, ◌≢◌, ◌≤◌, [], ℕ, true, List, length, not, None}
-use Rattle.alto_words.specs.declared.fid.Fid.{Fid}
-use Rattle.alto_words.specs.Fid.{is_system, sys_dir}
-use Rattle.disk_records.specs.Packs.{Pack, after, is_free_at}
-use Rattle.pack_model.specs.hints.Links.{dir_words}
-use Rattle.pack_model.specs.operations.Rooms.{find_room, placed}
-use Rattle.pack_model.specs.reading.Files.{lives}
-use Rattle.pack_model.specs.reading.Model.{IsNamed, read_as, root_items}
-use Rattle.pack_model.specs.reading.Sights.{sights}
-use Rattle.pack_model.specs.reading.Slots.{entry_length, slots}
-use Rattle.pack_model.specs.reading.Slots.Item.{entry}
-use Rattle.pack_model.specs.scavenger.Mended.{lacking}
-use Rattle.pack_model.specs.scavenger.Reports.{PagesMended, adopted_files}
-use Rattle.pack_model.specs.scavenger.Scavenging.{Scavengeable}
-use Rattle.pack_model.specs.states.InUse.{how_many}
-use Rattle.pack_model.specs.states.Whole.{Tidy}
+use Rattle.laws_mend.specs.alto_words.specs.declared.fid.Fid.{Fid}
+use Rattle.laws_mend.specs.alto_words.specs.Fid.{is_system, sys_dir}
+use Rattle.laws_mend.specs.disk_records.specs.Packs.{Pack, after, is_free_at}
+use Rattle.laws_mend.specs.pack_model.specs.hints.Links.{dir_words}
+use Rattle.laws_mend.specs.pack_model.specs.operations.Rooms.{find_room, placed}
+use Rattle.laws_mend.specs.pack_model.specs.reading.Files.{lives}
+use Rattle.laws_mend.specs.pack_model.specs.reading.Model.{IsNamed, read_as, root_items}
+use Rattle.laws_mend.specs.pack_model.specs.reading.Sights.{sights}
+use Rattle.laws_mend.specs.pack_model.specs.reading.Slots.{entry_length, slots}
+use Rattle.laws_mend.specs.pack_model.specs.reading.Slots.Item.{entry}
+use Rattle.laws_mend.specs.pack_model.specs.scavenger.Mended.{lacking}
+use Rattle.laws_mend.specs.pack_model.specs.scavenger.Reports.{PagesMended, adopted_files}
+use Rattle.laws_mend.specs.pack_model.specs.scavenger.Scavenging.{Scavengeable}
+use Rattle.laws_mend.specs.pack_model.specs.states.InUse.{how_many}
+use Rattle.laws_mend.specs.pack_model.specs.states.Whole.{Tidy}
 use Rattle.laws_mend.specs.WidenLaws.{CanWiden, DirectoryIsWidened, widening_writes}
-use Rattle.laws_room.specs.NextLaws.{Lacking, LackingNext, MayBeEntered, mended_pack}
+use Rattle.laws_mend.specs.laws_room.specs.NextLaws.{Lacking, LackingNext, MayBeEntered, mended_pack}
 use Rattle.laws_names.specs.EntriesLaws.{EntriesStay}
 use Rattle.laws_names.specs.Keeping.{AllKeepOpen}
 

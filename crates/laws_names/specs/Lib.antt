@@ -5,3 +5,4 @@ pub mod LackingLaws
 pub mod ModelLaws
 pub mod PartLaws
 pub mod WriteLaws
+pub use Rattle.laws_mend

@@ -1,22 +1,22 @@
 -- The files of a pack whose pages are mended, as the Scavenger finds them when it enters names: those that the pack is read as.
 use Rattle.std.specs.Prelude.{◌≡◌, ◌++◌, ◌∷◌, [], ℕ, true, Bool, List, cond, get_or, length}
 use Rattle.std.specs.FinMap.{entries}
-use Rattle.alto_words.specs.declared.fid.Fid.{Fid}
-use Rattle.alto_words.specs.Fid.{is_directory}
-use Rattle.disk_records.specs.Packs.{Pack}
-use Rattle.pack_model.specs.hints.Links.{dir_words}
-use Rattle.pack_model.specs.reading.Bodies.{File, found}
-use Rattle.pack_model.specs.reading.Files.{lives}
-use Rattle.pack_model.specs.reading.Model.{dir_items, read_as}
-use Rattle.pack_model.specs.reading.Namings.{Naming, is_kept, items_kept, kept_after, kept_after_body, namings}
-use Rattle.pack_model.specs.reading.Sights.{sights}
-use Rattle.pack_model.specs.reading.Slots.{Item, item_words, slots}
-use Rattle.pack_model.specs.reading.Slots.Item.{entry, space}
-use Rattle.pack_model.specs.scavenger.Mended.{lacking, rooted, with_system}
-use Rattle.pack_model.specs.scavenger.Reports.{PagesMended}
-use Rattle.pack_model.specs.showing.View.{view}
-use Rattle.pack_model.specs.states.Whole.{Tidy}
-use Rattle.laws_room.specs.NextLaws.{mended_pack}
+use Rattle.laws_mend.specs.alto_words.specs.declared.fid.Fid.{Fid}
+use Rattle.laws_mend.specs.alto_words.specs.Fid.{is_directory}
+use Rattle.laws_mend.specs.disk_records.specs.Packs.{Pack}
+use Rattle.laws_mend.specs.pack_model.specs.hints.Links.{dir_words}
+use Rattle.laws_mend.specs.pack_model.specs.reading.Bodies.{File, found}
+use Rattle.laws_mend.specs.pack_model.specs.reading.Files.{lives}
+use Rattle.laws_mend.specs.pack_model.specs.reading.Model.{dir_items, read_as}
+use Rattle.laws_mend.specs.pack_model.specs.reading.Namings.{Naming, is_kept, items_kept, kept_after, kept_after_body, namings}
+use Rattle.laws_mend.specs.pack_model.specs.reading.Sights.{sights}
+use Rattle.laws_mend.specs.pack_model.specs.reading.Slots.{Item, item_words, slots}
+use Rattle.laws_mend.specs.pack_model.specs.reading.Slots.Item.{entry, space}
+use Rattle.laws_mend.specs.pack_model.specs.scavenger.Mended.{lacking, rooted, with_system}
+use Rattle.laws_mend.specs.pack_model.specs.scavenger.Reports.{PagesMended}
+use Rattle.laws_mend.specs.pack_model.specs.showing.View.{view}
+use Rattle.laws_mend.specs.pack_model.specs.states.Whole.{Tidy}
+use Rattle.laws_mend.specs.laws_room.specs.NextLaws.{mended_pack}
 
 -- ---- what is read
 -- The model is the one that the pack is read as, with another leader of SysDir, which counts nowhere: it has the same slots of each

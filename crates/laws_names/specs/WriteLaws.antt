@@ -1,25 +1,25 @@
 -- The record writes of a mending of names, each a value of one page of a directory: what they keep and what they leave.
 use Rattle.std.specs.Prelude.{◌≡◌, ◌⊎◌, ◌++◌, ◌+◌, ◌/◌, ◌<◌, ◌≤◌, ◌∷◌, [], ℕ, false, true, List, Contains, drop, get_or, length, take, Some}
-use Rattle.alto_words.specs.declared.fid.Fid.{Fid}
-use Rattle.alto_words.specs.Fid.{is_fid, is_full_name, sys_dir}
-use Rattle.alto_words.specs.Names.{is_stored_name}
-use Rattle.disk_records.specs.Packs.{Pack, is_free_at, sector_at}
-use Rattle.pack_model.specs.hints.Links.{dir_slots, dir_words}
-use Rattle.pack_model.specs.operations.PageWords.{entered_words, in_page}
-use Rattle.pack_model.specs.operations.Rooms.{Room, find_room, items_entered}
-use Rattle.pack_model.specs.reading.Bytes.{put_at}
-use Rattle.pack_model.specs.reading.Files.{file_bytes, leader, place}
-use Rattle.pack_model.specs.reading.Model.{dir_items, read_as}
-use Rattle.pack_model.specs.reading.Sights.{sights}
-use Rattle.pack_model.specs.reading.SlotWords.{SlotAt, address_word}
-use Rattle.pack_model.specs.reading.Slots.{Item, all_words, entry_length, item_words, slots}
-use Rattle.pack_model.specs.reading.Slots.Item.{entry, space}
-use Rattle.pack_model.specs.scavenger.Reports.{PagesMended}
-use Rattle.pack_model.specs.states.Whole.{Tidy}
-use Rattle.laws_record.specs.DirLaws.{DirWrite, Frees, IsLooseWord, dir_written, entered, freed}
-use Rattle.laws_lookup.specs.OwnLaws.{ReplacesSlots}
-use Rattle.laws_operation.specs.NameLaws.{IsRoom}
-use Rattle.laws_room.specs.NextLaws.{Lacking, LackingNext, MayBeEntered, mended_pack}
+use Rattle.laws_mend.specs.alto_words.specs.declared.fid.Fid.{Fid}
+use Rattle.laws_mend.specs.alto_words.specs.Fid.{is_fid, is_full_name, sys_dir}
+use Rattle.laws_mend.specs.alto_words.specs.Names.{is_stored_name}
+use Rattle.laws_mend.specs.disk_records.specs.Packs.{Pack, is_free_at, sector_at}
+use Rattle.laws_mend.specs.pack_model.specs.hints.Links.{dir_slots, dir_words}
+use Rattle.laws_mend.specs.pack_model.specs.operations.PageWords.{entered_words, in_page}
+use Rattle.laws_mend.specs.pack_model.specs.operations.Rooms.{Room, find_room, items_entered}
+use Rattle.laws_mend.specs.pack_model.specs.reading.Bytes.{put_at}
+use Rattle.laws_mend.specs.pack_model.specs.reading.Files.{file_bytes, leader, place}
+use Rattle.laws_mend.specs.pack_model.specs.reading.Model.{dir_items, read_as}
+use Rattle.laws_mend.specs.pack_model.specs.reading.Sights.{sights}
+use Rattle.laws_mend.specs.pack_model.specs.reading.SlotWords.{SlotAt, address_word}
+use Rattle.laws_mend.specs.pack_model.specs.reading.Slots.{Item, all_words, entry_length, item_words, slots}
+use Rattle.laws_mend.specs.pack_model.specs.reading.Slots.Item.{entry, space}
+use Rattle.laws_mend.specs.pack_model.specs.scavenger.Reports.{PagesMended}
+use Rattle.laws_mend.specs.pack_model.specs.states.Whole.{Tidy}
+use Rattle.laws_mend.specs.laws_record.specs.DirLaws.{DirWrite, Frees, IsLooseWord, dir_written, entered, freed}
+use Rattle.laws_mend.specs.laws_lookup.specs.OwnLaws.{ReplacesSlots}
+use Rattle.laws_mend.specs.laws_operation.specs.NameLaws.{IsRoom}
+use Rattle.laws_mend.specs.laws_room.specs.NextLaws.{Lacking, LackingNext, MayBeEntered, mended_pack}
 use Rattle.laws_names.specs.EntriesLaws.{EntriesStay}
 use Rattle.laws_names.specs.Keeping.{KeepsOpen}
 

@@ -1,18 +1,18 @@
 -- Where a page of a whole file stands among its pages, and what a change of it makes.
 use Rattle.std.proofs.Common.{Bool, List, Some, [], ap, arith, false, get_or, inl, inr, length, refl, set, subst, suc, sym, true, ℕ, ◌*◌, ◌++◌, ◌+◌, ◌<◌, ◌∙◌, ◌∷◌, ◌≡◌, ◌≤◌}
 use Rattle.std.proofs.lemmas.List.{get_or-set_same, length-append}
-use Rattle.alto_words.specs.Fid.{disk_descriptor, is_directory, is_fid}
-use Rattle.alto_words.specs.declared.fid.Fid.{Fid}
-use Rattle.disk_records.specs.declared.shape.Shape.{Shape}
-use Rattle.pack_model.specs.reading.Bodies.{File}
-use Rattle.pack_model.specs.reading.Files.{file_bytes, leader, most_pages}
-use Rattle.pack_model.specs.reading.Leaders.{Leader}
-use Rattle.pack_model.specs.reading.Model.{good_one, read_sights}
-use Rattle.pack_model.specs.reading.Sights.{Sight}
-use Rattle.pack_model.specs.reading.Sights.Sight.{hidden, holds, leads}
-use Rattle.pack_model.specs.operations.Step.{update_file}
-use Rattle.pack_model.specs.states.Whole.{HasPages, FileWhole, IsLaid, IsSeat, Leads, PageAt, TidySights, WholeSights, absent, present}
-use Rattle.laws_record.proofs.Keeping.{plain}
+use Rattle.laws_contents.specs.alto_words.specs.Fid.{disk_descriptor, is_directory, is_fid}
+use Rattle.laws_contents.specs.alto_words.specs.declared.fid.Fid.{Fid}
+use Rattle.laws_contents.specs.disk_records.specs.declared.shape.Shape.{Shape}
+use Rattle.laws_contents.specs.pack_model.specs.reading.Bodies.{File}
+use Rattle.laws_contents.specs.pack_model.specs.reading.Files.{file_bytes, leader, most_pages}
+use Rattle.laws_contents.specs.pack_model.specs.reading.Leaders.{Leader}
+use Rattle.laws_contents.specs.pack_model.specs.reading.Model.{good_one, read_sights}
+use Rattle.laws_contents.specs.pack_model.specs.reading.Sights.{Sight}
+use Rattle.laws_contents.specs.pack_model.specs.reading.Sights.Sight.{hidden, holds, leads}
+use Rattle.laws_contents.specs.pack_model.specs.operations.Step.{update_file}
+use Rattle.laws_contents.specs.pack_model.specs.states.Whole.{HasPages, FileWhole, IsLaid, IsSeat, Leads, PageAt, TidySights, WholeSights, absent, present}
+use Rattle.laws_contents.specs.laws_record.proofs.Keeping.{plain}
 use Rattle.laws_operation.proofs.inside.Elsewhere.{MayBe, SameBut, same_set}
 use Rattle.laws_operation.proofs.Lying.{bytes_laid, seated_right, shows_set, within}
 use Rattle.laws_operation.proofs.inside.OneFile.{file_step, tidy_after, whole_after}

@@ -4,24 +4,24 @@ use Rattle.std.proofs.lemmas.Bool.{cases_lt}
 use Rattle.std.proofs.lemmas.List.{length-append, take-append-le, take_all}
 use Rattle.std.specs.Prelude.{All, reverse, ◌==◌}
 use mathlib.Core.List.{reverse-cons}
-use Rattle.alto_words.specs.Fid.{disk_descriptor}
-use Rattle.disk_records.proofs.Growing.{after-append}
-use Rattle.disk_records.specs.Commands.{value_writes}
-use Rattle.disk_records.specs.Packs.{Pack, after, crash, sector_at}
-use Rattle.disk_records.specs.declared.records.Event.{Event}
-use Rattle.disk_records.specs.declared.records.Event.TheVariants.{Wrote}
-use Rattle.disk_records.specs.declared.shape.Shape.{Shape}
-use Rattle.pack_model.specs.operations.Commands.{values_writes}
-use Rattle.pack_model.specs.sessions.Descriptor.{closed_values, descriptor_value}
-use Rattle.pack_model.specs.sessions.Meanings.{meaning, reading}
-use Rattle.pack_model.specs.reading.Model.{Model, read_as}
-use Rattle.pack_model.specs.sessions.Moves.{Meaning, Obeys, rest, steps, write}
-use Rattle.pack_model.specs.operations.Operations.{Move, quiet_moves}
-use Rattle.pack_model.specs.operations.Operations.Move.{quiet}
-use Rattle.pack_model.specs.reading.Sights.{sights}
-use Rattle.pack_model.specs.states.Sound.{mark_clean, mark_of}
-use Rattle.pack_model.specs.states.Whole.{Tidy, Whole}
-use Rattle.pack_laws.proofs.Moving.{crash_of_run, obeys_then, stands_last}
+use Rattle.laws_contents.specs.alto_words.specs.Fid.{disk_descriptor}
+use Rattle.laws_contents.specs.disk_records.proofs.Growing.{after-append}
+use Rattle.laws_contents.specs.disk_records.specs.Commands.{value_writes}
+use Rattle.laws_contents.specs.disk_records.specs.Packs.{Pack, after, crash, sector_at}
+use Rattle.laws_contents.specs.disk_records.specs.declared.records.Event.{Event}
+use Rattle.laws_contents.specs.disk_records.specs.declared.records.Event.TheVariants.{Wrote}
+use Rattle.laws_contents.specs.disk_records.specs.declared.shape.Shape.{Shape}
+use Rattle.laws_contents.specs.pack_model.specs.operations.Commands.{values_writes}
+use Rattle.laws_contents.specs.pack_model.specs.sessions.Descriptor.{closed_values, descriptor_value}
+use Rattle.laws_contents.specs.pack_model.specs.sessions.Meanings.{meaning, reading}
+use Rattle.laws_contents.specs.pack_model.specs.reading.Model.{Model, read_as}
+use Rattle.laws_contents.specs.pack_model.specs.sessions.Moves.{Meaning, Obeys, rest, steps, write}
+use Rattle.laws_contents.specs.pack_model.specs.operations.Operations.{Move, quiet_moves}
+use Rattle.laws_contents.specs.pack_model.specs.operations.Operations.Move.{quiet}
+use Rattle.laws_contents.specs.pack_model.specs.reading.Sights.{sights}
+use Rattle.laws_contents.specs.pack_model.specs.states.Sound.{mark_clean, mark_of}
+use Rattle.laws_contents.specs.pack_model.specs.states.Whole.{Tidy, Whole}
+use Rattle.laws_contents.specs.pack_laws.proofs.Moving.{crash_of_run, obeys_then, stands_last}
 use Rattle.laws_operation.proofs.inside.Closed.{Marks, close_value_size, first_page}
 use Rattle.laws_operation.proofs.inside.Closing.{Mid, later_page, mid_itself, mid_twice}
 use Rattle.laws_operation.proofs.EnterMoves.{values-append}

@@ -1,21 +1,21 @@
 -- The sector commands, cut by cut: what they show and what is read.
 use Rattle.std.proofs.Common.{List, None, [], ap, cond, get_or, refl, set, sym, true, ℕ, ◌∙◌, ◌∷◌, ◌≡◌, ◌≢◌}
 use Rattle.std.proofs.lemmas.List.{set-get_or}
-use Rattle.disk_records.specs.Commands.{claim_writes, ones, relabel_writes, release_writes, value_writes}
-use Rattle.disk_records.specs.Labels.{in_range, is_free, page_of, tag}
-use Rattle.disk_records.specs.Packs.{Pack, after, is_usable, no_sector, sector_at, with_part}
-use Rattle.disk_records.specs.declared.records.Event.TheVariants.{Wrote}
-use Rattle.pack_model.specs.operations.Committing.{MakesMove}
-use Rattle.pack_model.specs.sessions.Meanings.{reading}
-use Rattle.pack_model.specs.reading.Model.{Model, good_one, read_as, read_sights}
-use Rattle.pack_model.specs.sessions.Moves.{Obeys, rest, write}
-use Rattle.pack_model.specs.operations.Operations.{Move, moved}
-use Rattle.pack_model.specs.operations.Operations.Move.{quiet}
-use Rattle.pack_model.specs.reading.Sights.{Sight, sight, sights, tag_sight}
-use Rattle.pack_model.specs.reading.Sights.Sight.{free, hidden}
-use Rattle.pack_laws.proofs.Guarding.{free_shown, here_written, other_kept}
-use Rattle.pack_laws.proofs.Sighted.{sights-write}
-use Rattle.laws_record.proofs.Unseen.{sights_kept}
+use Rattle.laws_contents.specs.disk_records.specs.Commands.{claim_writes, ones, relabel_writes, release_writes, value_writes}
+use Rattle.laws_contents.specs.disk_records.specs.Labels.{in_range, is_free, page_of, tag}
+use Rattle.laws_contents.specs.disk_records.specs.Packs.{Pack, after, is_usable, no_sector, sector_at, with_part}
+use Rattle.laws_contents.specs.disk_records.specs.declared.records.Event.TheVariants.{Wrote}
+use Rattle.laws_contents.specs.pack_model.specs.operations.Committing.{MakesMove}
+use Rattle.laws_contents.specs.pack_model.specs.sessions.Meanings.{reading}
+use Rattle.laws_contents.specs.pack_model.specs.reading.Model.{Model, good_one, read_as, read_sights}
+use Rattle.laws_contents.specs.pack_model.specs.sessions.Moves.{Obeys, rest, write}
+use Rattle.laws_contents.specs.pack_model.specs.operations.Operations.{Move, moved}
+use Rattle.laws_contents.specs.pack_model.specs.operations.Operations.Move.{quiet}
+use Rattle.laws_contents.specs.pack_model.specs.reading.Sights.{Sight, sight, sights, tag_sight}
+use Rattle.laws_contents.specs.pack_model.specs.reading.Sights.Sight.{free, hidden}
+use Rattle.laws_contents.specs.pack_laws.proofs.Guarding.{free_shown, here_written, other_kept}
+use Rattle.laws_contents.specs.pack_laws.proofs.Sighted.{sights-write}
+use Rattle.laws_contents.specs.laws_record.proofs.Unseen.{sights_kept}
 use Rattle.laws_operation.proofs.Showing.{free_is, is_here, usable_is}
 
 -- the value of a free sector isn't shown

@@ -3,30 +3,30 @@ use Rattle.std.proofs.Common.{List, Some, [], ap, append-nil, append_assoc, arit
 use Rattle.std.proofs.lemmas.Bool.{lt-ltb}
 use Rattle.std.proofs.lemmas.List.{length-append, length-take, length-take-le, take-append-le, take-take}
 use Rattle.std.specs.Prelude.{nat_lt}
-use Rattle.alto_words.specs.declared.fid.Fid.{Fid}
-use Rattle.disk_records.proofs.Growing.{after-append}
-use Rattle.disk_records.specs.Commands.{relabel_writes}
-use Rattle.disk_records.specs.Labels.{Tag, tag}
-use Rattle.disk_records.specs.Packs.{Pack, after, sector_at}
-use Rattle.pack_model.specs.reading.Bytes.{bytes_of}
-use Rattle.pack_model.specs.operations.Commands.{releases_writes, sectors_of}
-use Rattle.pack_model.specs.operations.Committing.{length_of, moves_of, pages_cut}
-use Rattle.pack_model.specs.reading.Files.{file_bytes, most_pages}
-use Rattle.pack_model.specs.sessions.Meanings.{reading}
-use Rattle.pack_model.specs.reading.Model.{Model, good_one, read_as, read_sights}
-use Rattle.pack_model.specs.sessions.Moves.{Obeys, steps}
-use Rattle.pack_model.specs.operations.Operations.{cut_moves, cut_writes}
-use Rattle.pack_model.specs.operations.Operations.Move.{commits, quiet}
-use Rattle.pack_model.specs.operations.PageWords.{page_number}
-use Rattle.pack_model.specs.reading.Sights.{Sight, sights, tag_sight}
-use Rattle.pack_model.specs.reading.Sights.Sight.{hidden, holds, leads}
-use Rattle.pack_model.specs.operations.Step.{Operation, on_bytes, step}
-use Rattle.pack_model.specs.operations.Step.Operation.{cut}
-use Rattle.pack_model.specs.states.Whole.{HasPages, IsLaid, Leads, PageAt, Seated, Tidy, Whole, present}
-use Rattle.pack_laws.proofs.Guarding.{named_shown}
-use Rattle.pack_laws.proofs.Moving.{obeys_then}
-use Rattle.pack_laws.proofs.Placing.{page_of_place}
-use Rattle.laws_record.proofs.Keeping.{plain}
+use Rattle.laws_contents.specs.alto_words.specs.declared.fid.Fid.{Fid}
+use Rattle.laws_contents.specs.disk_records.proofs.Growing.{after-append}
+use Rattle.laws_contents.specs.disk_records.specs.Commands.{relabel_writes}
+use Rattle.laws_contents.specs.disk_records.specs.Labels.{Tag, tag}
+use Rattle.laws_contents.specs.disk_records.specs.Packs.{Pack, after, sector_at}
+use Rattle.laws_contents.specs.pack_model.specs.reading.Bytes.{bytes_of}
+use Rattle.laws_contents.specs.pack_model.specs.operations.Commands.{releases_writes, sectors_of}
+use Rattle.laws_contents.specs.pack_model.specs.operations.Committing.{length_of, moves_of, pages_cut}
+use Rattle.laws_contents.specs.pack_model.specs.reading.Files.{file_bytes, most_pages}
+use Rattle.laws_contents.specs.pack_model.specs.sessions.Meanings.{reading}
+use Rattle.laws_contents.specs.pack_model.specs.reading.Model.{Model, good_one, read_as, read_sights}
+use Rattle.laws_contents.specs.pack_model.specs.sessions.Moves.{Obeys, steps}
+use Rattle.laws_contents.specs.pack_model.specs.operations.Operations.{cut_moves, cut_writes}
+use Rattle.laws_contents.specs.pack_model.specs.operations.Operations.Move.{commits, quiet}
+use Rattle.laws_contents.specs.pack_model.specs.operations.PageWords.{page_number}
+use Rattle.laws_contents.specs.pack_model.specs.reading.Sights.{Sight, sights, tag_sight}
+use Rattle.laws_contents.specs.pack_model.specs.reading.Sights.Sight.{hidden, holds, leads}
+use Rattle.laws_contents.specs.pack_model.specs.operations.Step.{Operation, on_bytes, step}
+use Rattle.laws_contents.specs.pack_model.specs.operations.Step.Operation.{cut}
+use Rattle.laws_contents.specs.pack_model.specs.states.Whole.{HasPages, IsLaid, Leads, PageAt, Seated, Tidy, Whole, present}
+use Rattle.laws_contents.specs.pack_laws.proofs.Guarding.{named_shown}
+use Rattle.laws_contents.specs.pack_laws.proofs.Moving.{obeys_then}
+use Rattle.laws_contents.specs.pack_laws.proofs.Placing.{page_of_place}
+use Rattle.laws_contents.specs.laws_record.proofs.Keeping.{plain}
 use Rattle.laws_operation.proofs.Changing.{Changed, Placed, leaves, length-one, length-together, seat_of}
 use Rattle.laws_operation.proofs.Commanding.{relabel_obeys, relabel_shows}
 use Rattle.laws_operation.proofs.inside.Elsewhere.{MayBe, SameBut, but_trans, same_set}

@@ -3,25 +3,25 @@ use Rattle.std.proofs.Common.{List, Some, ap, get_or, length, refl, set, subst, 
 use Rattle.std.proofs.lemmas.List.{get_or-set_other, length-append}
 use Rattle.std.specs.FinMap.{entries, get, insert}
 use Rattle.std.specs.List.{list_any}
-use Rattle.alto_words.specs.Fid.{disk_descriptor, is_fid, is_system, sys_dir}
-use Rattle.alto_words.specs.declared.fid.Fid.{Fid}
-use Rattle.disk_records.specs.Packs.{Pack}
-use Rattle.pack_model.specs.reading.Bodies.{described}
-use Rattle.pack_model.specs.reading.Bytes.{put_at, words_of}
-use Rattle.pack_model.specs.reading.Files.{file_bytes, lives}
-use Rattle.pack_model.specs.reading.Leaders.{Leader}
-use Rattle.pack_model.specs.hints.Links.{dir_words}
-use Rattle.pack_model.specs.reading.Model.{IsNamed, read_as, read_sights}
-use Rattle.pack_model.specs.reading.Namings.{IsTidy, namings}
-use Rattle.pack_model.specs.reading.Sights.{sights}
-use Rattle.pack_model.specs.reading.Sights.Sight.{hidden, holds, leads}
-use Rattle.pack_model.specs.reading.Slots.{Item, Reads, SlotsReachEnd, all_words, slots}
-use Rattle.pack_model.specs.states.Whole.{Tidy, TidySights, Whole, WholeSights}
-use Rattle.pack_laws.proofs.Bytes.{length-put_at}
-use Rattle.laws_record.proofs.DirWords.{new_bytes, new_size, page_by_bytes, written_sights, written_words}
-use Rattle.laws_record.proofs.Entered.{directory}
-use Rattle.laws_record.proofs.Heads.{all_read, reads_all}
-use Rattle.laws_record.specs.DirLaws.{DirWrite, dir_written}
+use Rattle.laws_contents.specs.alto_words.specs.Fid.{disk_descriptor, is_fid, is_system, sys_dir}
+use Rattle.laws_contents.specs.alto_words.specs.declared.fid.Fid.{Fid}
+use Rattle.laws_contents.specs.disk_records.specs.Packs.{Pack}
+use Rattle.laws_contents.specs.pack_model.specs.reading.Bodies.{described}
+use Rattle.laws_contents.specs.pack_model.specs.reading.Bytes.{put_at, words_of}
+use Rattle.laws_contents.specs.pack_model.specs.reading.Files.{file_bytes, lives}
+use Rattle.laws_contents.specs.pack_model.specs.reading.Leaders.{Leader}
+use Rattle.laws_contents.specs.pack_model.specs.hints.Links.{dir_words}
+use Rattle.laws_contents.specs.pack_model.specs.reading.Model.{IsNamed, read_as, read_sights}
+use Rattle.laws_contents.specs.pack_model.specs.reading.Namings.{IsTidy, namings}
+use Rattle.laws_contents.specs.pack_model.specs.reading.Sights.{sights}
+use Rattle.laws_contents.specs.pack_model.specs.reading.Sights.Sight.{hidden, holds, leads}
+use Rattle.laws_contents.specs.pack_model.specs.reading.Slots.{Item, Reads, SlotsReachEnd, all_words, slots}
+use Rattle.laws_contents.specs.pack_model.specs.states.Whole.{Tidy, TidySights, Whole, WholeSights}
+use Rattle.laws_contents.specs.pack_laws.proofs.Bytes.{length-put_at}
+use Rattle.laws_contents.specs.laws_record.proofs.DirWords.{new_bytes, new_size, page_by_bytes, written_sights, written_words}
+use Rattle.laws_contents.specs.laws_record.proofs.Entered.{directory}
+use Rattle.laws_contents.specs.laws_record.proofs.Heads.{all_read, reads_all}
+use Rattle.laws_contents.specs.laws_record.specs.DirLaws.{DirWrite, dir_written}
 use Rattle.laws_operation.proofs.Changing.{Changed, Placed, page_changed, seat_of}
 use Rattle.laws_operation.proofs.inside.Elsewhere.{SameBut}
 use Rattle.laws_operation.proofs.inside.Evens.{even_by, even_half}

@@ -2,37 +2,37 @@
 use Rattle.std.proofs.Common.{Bool, List, None, Some, [], ap, arith, cond, false, get_or, inl, inr, length, not, refl, set, subst, sym, true, ℕ, ◌<◌, ◌∙◌, ◌∷◌, ◌≡◌, ◌≤◌}
 use Rattle.std.specs.FinMap.{get}
 use Rattle.std.specs.Option.{is_some}
-use Rattle.alto_words.specs.Fid.{disk_descriptor, is_directory, is_fid}
-use Rattle.alto_words.specs.declared.fid.Fid.{Fid}
-use Rattle.disk_records.proofs.Growing.{after-append}
-use Rattle.disk_records.specs.Commands.{ones, release_writes}
-use Rattle.disk_records.specs.Packs.{Pack, after, sector_at}
-use Rattle.pack_model.specs.reading.Bodies.{Body, File, body_items, body_length, described, found, is_described, items_in}
-use Rattle.pack_model.specs.reading.Bodies.Body.{data_of, items_of}
-use Rattle.pack_model.specs.reading.Bytes.{words_of}
-use Rattle.pack_model.specs.operations.Commands.{releases_writes, sectors_of}
-use Rattle.pack_model.specs.operations.Committing.{length_in, length_of, page_of_byte}
-use Rattle.pack_model.specs.reading.Files.{file_bytes, leader, lives}
-use Rattle.pack_model.specs.reading.Leaders.{Leader}
-use Rattle.pack_model.specs.sessions.Meanings.{reading}
-use Rattle.pack_model.specs.reading.Model.{Model, good_one, read_as, read_sights}
-use Rattle.pack_model.specs.sessions.Moves.{Obeys, steps}
-use Rattle.pack_model.specs.reading.Namings.{body_namings, namings_in}
-use Rattle.pack_model.specs.operations.Operations.{release_file_moves, release_file_writes}
-use Rattle.pack_model.specs.operations.Operations.Move.{commits, quiet}
-use Rattle.pack_model.specs.reading.Sights.{Sight, sights}
-use Rattle.pack_model.specs.reading.Sights.Sight.{free, hidden, holds, leads}
-use Rattle.pack_model.specs.reading.Slots.{all_words, slots}
-use Rattle.pack_model.specs.operations.Step.{Operation, step}
-use Rattle.pack_model.specs.operations.Step.Operation.{drop_file}
-use Rattle.pack_model.specs.states.Whole.{HasPages, Headless, PageAt, Tidy, TidyBut, Whole, absent}
-use Rattle.pack_laws.proofs.Guarding.{ones_free}
-use Rattle.pack_laws.proofs.Moving.{obeys_then, stands_last}
-use Rattle.pack_laws.proofs.Placing.{leader_of_place}
-use Rattle.laws_record.proofs.Heads.{all_read}
-use Rattle.laws_record.proofs.Keeping.{get-where}
-use Rattle.laws_record.proofs.Reading.{get_by, read_file}
-use Rattle.laws_record.proofs.Tidying.{tidy_same}
+use Rattle.laws_contents.specs.alto_words.specs.Fid.{disk_descriptor, is_directory, is_fid}
+use Rattle.laws_contents.specs.alto_words.specs.declared.fid.Fid.{Fid}
+use Rattle.laws_contents.specs.disk_records.proofs.Growing.{after-append}
+use Rattle.laws_contents.specs.disk_records.specs.Commands.{ones, release_writes}
+use Rattle.laws_contents.specs.disk_records.specs.Packs.{Pack, after, sector_at}
+use Rattle.laws_contents.specs.pack_model.specs.reading.Bodies.{Body, File, body_items, body_length, described, found, is_described, items_in}
+use Rattle.laws_contents.specs.pack_model.specs.reading.Bodies.Body.{data_of, items_of}
+use Rattle.laws_contents.specs.pack_model.specs.reading.Bytes.{words_of}
+use Rattle.laws_contents.specs.pack_model.specs.operations.Commands.{releases_writes, sectors_of}
+use Rattle.laws_contents.specs.pack_model.specs.operations.Committing.{length_in, length_of, page_of_byte}
+use Rattle.laws_contents.specs.pack_model.specs.reading.Files.{file_bytes, leader, lives}
+use Rattle.laws_contents.specs.pack_model.specs.reading.Leaders.{Leader}
+use Rattle.laws_contents.specs.pack_model.specs.sessions.Meanings.{reading}
+use Rattle.laws_contents.specs.pack_model.specs.reading.Model.{Model, good_one, read_as, read_sights}
+use Rattle.laws_contents.specs.pack_model.specs.sessions.Moves.{Obeys, steps}
+use Rattle.laws_contents.specs.pack_model.specs.reading.Namings.{body_namings, namings_in}
+use Rattle.laws_contents.specs.pack_model.specs.operations.Operations.{release_file_moves, release_file_writes}
+use Rattle.laws_contents.specs.pack_model.specs.operations.Operations.Move.{commits, quiet}
+use Rattle.laws_contents.specs.pack_model.specs.reading.Sights.{Sight, sights}
+use Rattle.laws_contents.specs.pack_model.specs.reading.Sights.Sight.{free, hidden, holds, leads}
+use Rattle.laws_contents.specs.pack_model.specs.reading.Slots.{all_words, slots}
+use Rattle.laws_contents.specs.pack_model.specs.operations.Step.{Operation, step}
+use Rattle.laws_contents.specs.pack_model.specs.operations.Step.Operation.{drop_file}
+use Rattle.laws_contents.specs.pack_model.specs.states.Whole.{HasPages, Headless, PageAt, Tidy, TidyBut, Whole, absent}
+use Rattle.laws_contents.specs.pack_laws.proofs.Guarding.{ones_free}
+use Rattle.laws_contents.specs.pack_laws.proofs.Moving.{obeys_then, stands_last}
+use Rattle.laws_contents.specs.pack_laws.proofs.Placing.{leader_of_place}
+use Rattle.laws_contents.specs.laws_record.proofs.Heads.{all_read}
+use Rattle.laws_contents.specs.laws_record.proofs.Keeping.{get-where}
+use Rattle.laws_contents.specs.laws_record.proofs.Reading.{get_by, read_file}
+use Rattle.laws_contents.specs.laws_record.proofs.Tidying.{tidy_same}
 use Rattle.laws_operation.proofs.Changing.{headed}
 use Rattle.laws_operation.proofs.Commanding.{release_apart, release_obeys, release_shows}
 use Rattle.laws_operation.proofs.inside.Elsewhere.{MayBe, SameBut, but_trans, not_same, same_at, same_set}

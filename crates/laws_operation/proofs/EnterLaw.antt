@@ -4,38 +4,38 @@ use Rattle.std.specs.FinMap.{entries, get, get-insert, insert}
 use Rattle.std.specs.List.{list_any}
 use Rattle.std.specs.Option.{is_some}
 use Rattle.std.specs.Prelude.{◌==◌}
-use Rattle.alto_words.specs.Fid.{is_directory}
-use Rattle.alto_words.specs.declared.fid.Fid.{Fid}
-use Rattle.disk_records.specs.Commands.{value_writes}
-use Rattle.disk_records.specs.Packs.{Pack, after, sector_at}
-use Rattle.pack_model.specs.reading.Bodies.{body_items, items_in}
-use Rattle.pack_model.specs.reading.Bodies.Body.{data_of, items_of}
-use Rattle.pack_model.specs.reading.Bytes.{put_at}
-use Rattle.pack_model.specs.operations.Commands.{values_writes}
-use Rattle.pack_model.specs.operations.Committing.{page_of_word}
-use Rattle.pack_model.specs.operations.Entering.{overlapping}
-use Rattle.pack_model.specs.reading.Files.{file_bytes, lives, place}
-use Rattle.pack_model.specs.reading.Leaders.{Leader}
-use Rattle.pack_model.specs.hints.Links.{dir_words}
-use Rattle.pack_model.specs.reading.Model.{Model, dir_items, read_as}
-use Rattle.pack_model.specs.reading.Namings.{clashes, namings, namings_in}
-use Rattle.pack_model.specs.operations.PageWords.{freed_value, in_page, near}
-use Rattle.pack_model.specs.operations.Rooms.{find_room, items_entered, left_over, run}
-use Rattle.pack_model.specs.reading.Sights.{sights}
-use Rattle.pack_model.specs.reading.Slots.{Item, all_words, entry_length, item_words, slots}
-use Rattle.pack_model.specs.reading.Slots.Item.{entry, space}
-use Rattle.pack_model.specs.operations.Step.{step}
-use Rattle.pack_model.specs.operations.Step.Operation.{enter}
-use Rattle.pack_model.specs.states.Whole.{Tidy, Whole}
-use Rattle.pack_laws.proofs.Keys.{fid_total, is_fid-itself}
-use Rattle.laws_record.proofs.Addressing.{entry_words_many}
-use Rattle.laws_record.proofs.DirReads.{has_leader, not_descriptor}
-use Rattle.laws_record.proofs.DirWords.{dir_change}
-use Rattle.laws_record.proofs.Entered.{directory, namings_in-append}
-use Rattle.laws_record.proofs.Heads.{all_within}
-use Rattle.laws_record.proofs.Roomy.{run_enough, run_one}
-use Rattle.laws_record.proofs.Slotwise.{words-append}
-use Rattle.laws_record.specs.DirLaws.{Frees, freed}
+use Rattle.laws_contents.specs.alto_words.specs.Fid.{is_directory}
+use Rattle.laws_contents.specs.alto_words.specs.declared.fid.Fid.{Fid}
+use Rattle.laws_contents.specs.disk_records.specs.Commands.{value_writes}
+use Rattle.laws_contents.specs.disk_records.specs.Packs.{Pack, after, sector_at}
+use Rattle.laws_contents.specs.pack_model.specs.reading.Bodies.{body_items, items_in}
+use Rattle.laws_contents.specs.pack_model.specs.reading.Bodies.Body.{data_of, items_of}
+use Rattle.laws_contents.specs.pack_model.specs.reading.Bytes.{put_at}
+use Rattle.laws_contents.specs.pack_model.specs.operations.Commands.{values_writes}
+use Rattle.laws_contents.specs.pack_model.specs.operations.Committing.{page_of_word}
+use Rattle.laws_contents.specs.pack_model.specs.operations.Entering.{overlapping}
+use Rattle.laws_contents.specs.pack_model.specs.reading.Files.{file_bytes, lives, place}
+use Rattle.laws_contents.specs.pack_model.specs.reading.Leaders.{Leader}
+use Rattle.laws_contents.specs.pack_model.specs.hints.Links.{dir_words}
+use Rattle.laws_contents.specs.pack_model.specs.reading.Model.{Model, dir_items, read_as}
+use Rattle.laws_contents.specs.pack_model.specs.reading.Namings.{clashes, namings, namings_in}
+use Rattle.laws_contents.specs.pack_model.specs.operations.PageWords.{freed_value, in_page, near}
+use Rattle.laws_contents.specs.pack_model.specs.operations.Rooms.{find_room, items_entered, left_over, run}
+use Rattle.laws_contents.specs.pack_model.specs.reading.Sights.{sights}
+use Rattle.laws_contents.specs.pack_model.specs.reading.Slots.{Item, all_words, entry_length, item_words, slots}
+use Rattle.laws_contents.specs.pack_model.specs.reading.Slots.Item.{entry, space}
+use Rattle.laws_contents.specs.pack_model.specs.operations.Step.{step}
+use Rattle.laws_contents.specs.pack_model.specs.operations.Step.Operation.{enter}
+use Rattle.laws_contents.specs.pack_model.specs.states.Whole.{Tidy, Whole}
+use Rattle.laws_contents.specs.pack_laws.proofs.Keys.{fid_total, is_fid-itself}
+use Rattle.laws_contents.specs.laws_record.proofs.Addressing.{entry_words_many}
+use Rattle.laws_contents.specs.laws_record.proofs.DirReads.{has_leader, not_descriptor}
+use Rattle.laws_contents.specs.laws_record.proofs.DirWords.{dir_change}
+use Rattle.laws_contents.specs.laws_record.proofs.Entered.{directory, namings_in-append}
+use Rattle.laws_contents.specs.laws_record.proofs.Heads.{all_within}
+use Rattle.laws_contents.specs.laws_record.proofs.Roomy.{run_enough, run_one}
+use Rattle.laws_contents.specs.laws_record.proofs.Slotwise.{words-append}
+use Rattle.laws_contents.specs.laws_record.specs.DirLaws.{Frees, freed}
 use Rattle.laws_operation.proofs.DirValue.{dir_lead}
 use Rattle.laws_operation.proofs.Dropped.{read_there}
 use Rattle.laws_operation.proofs.EnterStages.{EntersBy, Joined, alike_slots, join_stage, quiet_first}

@@ -2,28 +2,28 @@
 use Rattle.std.proofs.Common.{Bool, List, [], ap, append_assoc, arith, eq-eqb, false, get_or, length, min, not, refl, subst, suc, sym, true, zero, ℕ, ◌++◌, ◌+◌, ◌-◌, ◌<◌, ◌∙◌, ◌∷◌, ◌≡◌}
 use Rattle.std.proofs.lemmas.Bool.{ne_eqb}
 use Rattle.std.specs.Prelude.{◌==◌}
-use Rattle.disk_records.proofs.Growing.{after-append}
-use Rattle.disk_records.specs.Commands.{value_writes}
-use Rattle.disk_records.specs.Packs.{after, sector_at}
-use Rattle.disk_records.specs.declared.records.Event.{Event}
-use Rattle.pack_model.specs.reading.Bytes.{put_at}
-use Rattle.pack_model.specs.operations.Commands.{values_writes}
-use Rattle.pack_model.specs.operations.Committing.{moves_of, page_of_word, units, values_before}
-use Rattle.pack_model.specs.operations.Entering.{EntryRoom, entry_value, after_joining, joining, overlapping, values_first}
-use Rattle.pack_model.specs.states.InUse.{one_if}
-use Rattle.pack_model.specs.sessions.Meanings.{viewing}
-use Rattle.pack_model.specs.reading.Model.{Model, dir_items, read_as}
-use Rattle.pack_model.specs.sessions.Moves.{Obeys, steps}
-use Rattle.pack_model.specs.operations.Operations.{enter_moves, enter_writes}
-use Rattle.pack_model.specs.operations.PageWords.{in_page, near}
-use Rattle.pack_model.specs.operations.Rooms.{find_room}
-use Rattle.pack_model.specs.reading.Slots.{Item, all_words, entry_length, item_words}
-use Rattle.pack_model.specs.reading.Slots.Item.{space}
-use Rattle.pack_model.specs.operations.Step.{Operation, step}
-use Rattle.pack_model.specs.operations.Step.Operation.{enter}
-use Rattle.pack_laws.proofs.Moving.{crash_of_run}
-use Rattle.laws_record.proofs.Addressing.{entry_words_many}
-use Rattle.laws_record.proofs.DirReads.{not_descriptor}
+use Rattle.laws_contents.specs.disk_records.proofs.Growing.{after-append}
+use Rattle.laws_contents.specs.disk_records.specs.Commands.{value_writes}
+use Rattle.laws_contents.specs.disk_records.specs.Packs.{after, sector_at}
+use Rattle.laws_contents.specs.disk_records.specs.declared.records.Event.{Event}
+use Rattle.laws_contents.specs.pack_model.specs.reading.Bytes.{put_at}
+use Rattle.laws_contents.specs.pack_model.specs.operations.Commands.{values_writes}
+use Rattle.laws_contents.specs.pack_model.specs.operations.Committing.{moves_of, page_of_word, units, values_before}
+use Rattle.laws_contents.specs.pack_model.specs.operations.Entering.{EntryRoom, entry_value, after_joining, joining, overlapping, values_first}
+use Rattle.laws_contents.specs.pack_model.specs.states.InUse.{one_if}
+use Rattle.laws_contents.specs.pack_model.specs.sessions.Meanings.{viewing}
+use Rattle.laws_contents.specs.pack_model.specs.reading.Model.{Model, dir_items, read_as}
+use Rattle.laws_contents.specs.pack_model.specs.sessions.Moves.{Obeys, steps}
+use Rattle.laws_contents.specs.pack_model.specs.operations.Operations.{enter_moves, enter_writes}
+use Rattle.laws_contents.specs.pack_model.specs.operations.PageWords.{in_page, near}
+use Rattle.laws_contents.specs.pack_model.specs.operations.Rooms.{find_room}
+use Rattle.laws_contents.specs.pack_model.specs.reading.Slots.{Item, all_words, entry_length, item_words}
+use Rattle.laws_contents.specs.pack_model.specs.reading.Slots.Item.{space}
+use Rattle.laws_contents.specs.pack_model.specs.operations.Step.{Operation, step}
+use Rattle.laws_contents.specs.pack_model.specs.operations.Step.Operation.{enter}
+use Rattle.laws_contents.specs.pack_laws.proofs.Moving.{crash_of_run}
+use Rattle.laws_contents.specs.laws_record.proofs.Addressing.{entry_words_many}
+use Rattle.laws_contents.specs.laws_record.proofs.DirReads.{not_descriptor}
 use Rattle.laws_operation.proofs.EnterLaw.{all_stages, all_ticks}
 use Rattle.laws_operation.proofs.EnterStages.{EntersBy}
 use Rattle.laws_operation.proofs.inside.Kept.{descriptor_kept, fits_still}

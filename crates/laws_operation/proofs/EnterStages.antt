@@ -3,46 +3,46 @@ use Rattle.std.proofs.Common.{List, Some, [], ap, arith, cond, inl, inr, length,
 use Rattle.std.proofs.lemmas.Bool.{cases_lt}
 use Rattle.std.specs.FinMap.{entries, get, get-insert, insert}
 use Rattle.std.specs.List.{list_any}
-use Rattle.alto_words.specs.Fid.{is_fid}
-use Rattle.alto_words.specs.declared.fid.Fid.{Fid}
-use Rattle.disk_records.specs.Commands.{value_writes}
-use Rattle.disk_records.specs.Packs.{Pack, after, sector_at}
-use Rattle.disk_records.specs.declared.records.Event.{Event}
-use Rattle.disk_records.specs.declared.records.Event.TheVariants.{Wrote}
-use Rattle.pack_model.specs.reading.Bodies.{Files, described}
-use Rattle.pack_model.specs.reading.Bytes.{put_at}
-use Rattle.pack_model.specs.reading.Files.{leader, lives}
-use Rattle.pack_model.specs.reading.Leaders.{Leader}
-use Rattle.pack_model.specs.hints.Links.{dir_words}
-use Rattle.pack_model.specs.sessions.Maps.{update_found}
-use Rattle.pack_model.specs.sessions.Meanings.{reading, viewing}
-use Rattle.pack_model.specs.reading.Model.{Model, read_as, read_sights}
-use Rattle.pack_model.specs.sessions.Moves.{Obeys, rest, write}
-use Rattle.pack_model.specs.reading.Namings.{AllKept, IsTidy, is_kept, namings, namings_in, tidied}
-use Rattle.pack_model.specs.operations.Operations.{Move, enter_moves}
-use Rattle.pack_model.specs.operations.Operations.Move.{commits, mends, quiet}
-use Rattle.pack_model.specs.operations.PageWords.{in_page}
-use Rattle.pack_model.specs.reading.Sights.{Sight, sights}
-use Rattle.pack_model.specs.reading.Slots.{Item, all_words, slots}
-use Rattle.pack_model.specs.reading.Slots.Item.{space}
-use Rattle.pack_model.specs.operations.Step.{Operation, on_items, step, update_file}
-use Rattle.pack_model.specs.showing.View.{view}
-use Rattle.pack_model.specs.states.Whole.{Tidy, Whole}
-use Rattle.pack_laws.proofs.Bytes.{length-put_at}
-use Rattle.pack_laws.proofs.Keys.{fid_total, is_fid-itself}
-use Rattle.laws_record.proofs.Addressing.{LooseIn, slots_kept}
-use Rattle.laws_record.proofs.DirReads.{dir_reads, dir_same, has_leader, insert_same}
-use Rattle.laws_record.proofs.DirWords.{dir_change}
-use Rattle.laws_record.proofs.Entered.{directory, namings_in-append}
-use Rattle.laws_record.proofs.Slotwise.{put_before, put_after, slots_freed}
-use Rattle.laws_record.proofs.Tidying.{tidy_same}
-use Rattle.laws_record.specs.DirLaws.{DirWrite, Frees, dir_written, freed}
+use Rattle.laws_contents.specs.alto_words.specs.Fid.{is_fid}
+use Rattle.laws_contents.specs.alto_words.specs.declared.fid.Fid.{Fid}
+use Rattle.laws_contents.specs.disk_records.specs.Commands.{value_writes}
+use Rattle.laws_contents.specs.disk_records.specs.Packs.{Pack, after, sector_at}
+use Rattle.laws_contents.specs.disk_records.specs.declared.records.Event.{Event}
+use Rattle.laws_contents.specs.disk_records.specs.declared.records.Event.TheVariants.{Wrote}
+use Rattle.laws_contents.specs.pack_model.specs.reading.Bodies.{Files, described}
+use Rattle.laws_contents.specs.pack_model.specs.reading.Bytes.{put_at}
+use Rattle.laws_contents.specs.pack_model.specs.reading.Files.{leader, lives}
+use Rattle.laws_contents.specs.pack_model.specs.reading.Leaders.{Leader}
+use Rattle.laws_contents.specs.pack_model.specs.hints.Links.{dir_words}
+use Rattle.laws_contents.specs.pack_model.specs.sessions.Maps.{update_found}
+use Rattle.laws_contents.specs.pack_model.specs.sessions.Meanings.{reading, viewing}
+use Rattle.laws_contents.specs.pack_model.specs.reading.Model.{Model, read_as, read_sights}
+use Rattle.laws_contents.specs.pack_model.specs.sessions.Moves.{Obeys, rest, write}
+use Rattle.laws_contents.specs.pack_model.specs.reading.Namings.{AllKept, IsTidy, is_kept, namings, namings_in, tidied}
+use Rattle.laws_contents.specs.pack_model.specs.operations.Operations.{Move, enter_moves}
+use Rattle.laws_contents.specs.pack_model.specs.operations.Operations.Move.{commits, mends, quiet}
+use Rattle.laws_contents.specs.pack_model.specs.operations.PageWords.{in_page}
+use Rattle.laws_contents.specs.pack_model.specs.reading.Sights.{Sight, sights}
+use Rattle.laws_contents.specs.pack_model.specs.reading.Slots.{Item, all_words, slots}
+use Rattle.laws_contents.specs.pack_model.specs.reading.Slots.Item.{space}
+use Rattle.laws_contents.specs.pack_model.specs.operations.Step.{Operation, on_items, step, update_file}
+use Rattle.laws_contents.specs.pack_model.specs.showing.View.{view}
+use Rattle.laws_contents.specs.pack_model.specs.states.Whole.{Tidy, Whole}
+use Rattle.laws_contents.specs.pack_laws.proofs.Bytes.{length-put_at}
+use Rattle.laws_contents.specs.pack_laws.proofs.Keys.{fid_total, is_fid-itself}
+use Rattle.laws_contents.specs.laws_record.proofs.Addressing.{LooseIn, slots_kept}
+use Rattle.laws_contents.specs.laws_record.proofs.DirReads.{dir_reads, dir_same, has_leader, insert_same}
+use Rattle.laws_contents.specs.laws_record.proofs.DirWords.{dir_change}
+use Rattle.laws_contents.specs.laws_record.proofs.Entered.{directory, namings_in-append}
+use Rattle.laws_contents.specs.laws_record.proofs.Slotwise.{put_before, put_after, slots_freed}
+use Rattle.laws_contents.specs.laws_record.proofs.Tidying.{tidy_same}
+use Rattle.laws_contents.specs.laws_record.specs.DirLaws.{DirWrite, Frees, dir_written, freed}
 use Rattle.laws_operation.proofs.DirValue.{dir_before, dir_lead, dir_read, value_change, value_same, value_tidy, value_whole}
 use Rattle.laws_operation.proofs.inside.Elsewhere.{SameBut, but_trans}
 use Rattle.laws_operation.proofs.Leaving.{words_alike}
 use Rattle.laws_operation.proofs.OneDirectory.{slots_namings}
-use Rattle.laws_record.proofs.Rooting.{insert_twice}
-use Rattle.laws_record.proofs.directories.Laws.{free_slots_made_one}
+use Rattle.laws_contents.specs.laws_record.proofs.Rooting.{insert_twice}
+use Rattle.laws_contents.specs.laws_record.proofs.directories.Laws.{free_slots_made_one}
 
 -- ---- moves from another model
 -- moves that come to the same from two models

@@ -6,37 +6,37 @@ use Rattle.std.specs.FinMap.{entries}
 use Rattle.std.specs.List.{list_any}
 use Rattle.std.specs.Option.{is_some}
 use Rattle.std.specs.Prelude.{◌==◌}
-use Rattle.alto_words.specs.Fid.{is_directory, is_system}
-use Rattle.alto_words.specs.declared.fid.Fid.{Fid}
-use Rattle.disk_records.specs.Commands.{value_writes}
-use Rattle.disk_records.specs.Packs.{Pack, after, sector_at}
-use Rattle.disk_records.specs.declared.records.Event.{Event}
-use Rattle.pack_model.specs.reading.Bytes.{put_at}
-use Rattle.pack_model.specs.operations.Commands.{values_writes}
-use Rattle.pack_model.specs.operations.Committing.{page_of_word}
-use Rattle.pack_model.specs.operations.Entering.{overlapping}
-use Rattle.pack_model.specs.reading.Files.{carries_page, lives, place}
-use Rattle.pack_model.specs.hints.Links.{dir_words}
-use Rattle.pack_model.specs.sessions.Meanings.{reading}
-use Rattle.pack_model.specs.reading.Model.{dir_items}
-use Rattle.pack_model.specs.reading.Namings.{clashes, namings}
-use Rattle.pack_model.specs.operations.PageWords.{in_page, later, near}
-use Rattle.pack_model.specs.operations.Rooms.{find_room}
-use Rattle.pack_model.specs.reading.Sights.{sights}
-use Rattle.pack_model.specs.reading.Sights.Sight.{hidden, holds}
-use Rattle.pack_model.specs.reading.Slots.{Item, all_words, entry_length, slots}
-use Rattle.pack_model.specs.reading.Slots.Item.{space}
-use Rattle.pack_model.specs.operations.Step.{Operation}
-use Rattle.pack_model.specs.operations.Step.Operation.{enter}
-use Rattle.pack_model.specs.states.Whole.{Tidy, Whole}
-use Rattle.pack_laws.proofs.Moving.{stands_last}
-use Rattle.pack_laws.proofs.Placing.{place_same}
-use Rattle.laws_record.proofs.Addressing.{LooseIn, entry_words_many}
-use Rattle.laws_record.proofs.DirWords.{dir_change, new_bytes, page_by_bytes, written_sights}
-use Rattle.laws_record.proofs.Heads.{all_within}
-use Rattle.laws_record.proofs.Slotwise.{words-append}
-use Rattle.laws_record.specs.DirLaws.{DirWrite, dir_written}
-use Rattle.laws_record.specs.EnterLaws.{IsItsRoom, MayEnter}
+use Rattle.laws_contents.specs.alto_words.specs.Fid.{is_directory, is_system}
+use Rattle.laws_contents.specs.alto_words.specs.declared.fid.Fid.{Fid}
+use Rattle.laws_contents.specs.disk_records.specs.Commands.{value_writes}
+use Rattle.laws_contents.specs.disk_records.specs.Packs.{Pack, after, sector_at}
+use Rattle.laws_contents.specs.disk_records.specs.declared.records.Event.{Event}
+use Rattle.laws_contents.specs.pack_model.specs.reading.Bytes.{put_at}
+use Rattle.laws_contents.specs.pack_model.specs.operations.Commands.{values_writes}
+use Rattle.laws_contents.specs.pack_model.specs.operations.Committing.{page_of_word}
+use Rattle.laws_contents.specs.pack_model.specs.operations.Entering.{overlapping}
+use Rattle.laws_contents.specs.pack_model.specs.reading.Files.{carries_page, lives, place}
+use Rattle.laws_contents.specs.pack_model.specs.hints.Links.{dir_words}
+use Rattle.laws_contents.specs.pack_model.specs.sessions.Meanings.{reading}
+use Rattle.laws_contents.specs.pack_model.specs.reading.Model.{dir_items}
+use Rattle.laws_contents.specs.pack_model.specs.reading.Namings.{clashes, namings}
+use Rattle.laws_contents.specs.pack_model.specs.operations.PageWords.{in_page, later, near}
+use Rattle.laws_contents.specs.pack_model.specs.operations.Rooms.{find_room}
+use Rattle.laws_contents.specs.pack_model.specs.reading.Sights.{sights}
+use Rattle.laws_contents.specs.pack_model.specs.reading.Sights.Sight.{hidden, holds}
+use Rattle.laws_contents.specs.pack_model.specs.reading.Slots.{Item, all_words, entry_length, slots}
+use Rattle.laws_contents.specs.pack_model.specs.reading.Slots.Item.{space}
+use Rattle.laws_contents.specs.pack_model.specs.operations.Step.{Operation}
+use Rattle.laws_contents.specs.pack_model.specs.operations.Step.Operation.{enter}
+use Rattle.laws_contents.specs.pack_model.specs.states.Whole.{Tidy, Whole}
+use Rattle.laws_contents.specs.pack_laws.proofs.Moving.{stands_last}
+use Rattle.laws_contents.specs.pack_laws.proofs.Placing.{place_same}
+use Rattle.laws_contents.specs.laws_record.proofs.Addressing.{LooseIn, entry_words_many}
+use Rattle.laws_contents.specs.laws_record.proofs.DirWords.{dir_change, new_bytes, page_by_bytes, written_sights}
+use Rattle.laws_contents.specs.laws_record.proofs.Heads.{all_within}
+use Rattle.laws_contents.specs.laws_record.proofs.Slotwise.{words-append}
+use Rattle.laws_contents.specs.laws_record.specs.DirLaws.{DirWrite, dir_written}
+use Rattle.laws_contents.specs.laws_record.specs.EnterLaws.{IsItsRoom, MayEnter}
 use Rattle.laws_operation.proofs.EnterStages.{EntersBy, later_first, loose_stage, views_of}
 use Rattle.laws_operation.proofs.EntryWrite.{EntersLast, enters_of, last_stage, loose_in, put_drop}
 use Rattle.laws_operation.specs.NameLaws.{EntryWords}

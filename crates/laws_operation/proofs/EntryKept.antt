@@ -2,21 +2,21 @@
 use Rattle.std.proofs.Common.{Bool, List, Some, [], ap, false, not, refl, subst, sym, true, ℕ, ◌&&◌, ◌++◌, ◌∙◌, ◌∷◌, ◌≡◌}
 use Rattle.std.specs.FinMap.{entries, get, insert}
 use Rattle.std.specs.List.{list_any}
-use Rattle.alto_words.specs.Fid.{is_fid, is_system}
-use Rattle.alto_words.specs.declared.fid.Fid.{Fid}
-use Rattle.pack_model.specs.reading.Bodies.{Files}
-use Rattle.pack_model.specs.reading.Leaders.{Leader}
-use Rattle.pack_model.specs.reading.Namings.{AllKept, IsTidy, Naming, clashes, is_kept, may_stand, namings, namings_in}
-use Rattle.pack_model.specs.operations.Rooms.{left_over}
-use Rattle.pack_model.specs.reading.Slots.{Item}
-use Rattle.pack_model.specs.reading.Slots.Item.{entry, space}
-use Rattle.laws_record.proofs.Beside.{any_first, any_second}
-use Rattle.laws_record.proofs.Entered.{directory, namings_in-append, spot}
-use Rattle.laws_record.proofs.Tidying.{NoneClashes, and_not, onto, or_false, or_false_left, or_false_right, any_more}
+use Rattle.laws_contents.specs.alto_words.specs.Fid.{is_fid, is_system}
+use Rattle.laws_contents.specs.alto_words.specs.declared.fid.Fid.{Fid}
+use Rattle.laws_contents.specs.pack_model.specs.reading.Bodies.{Files}
+use Rattle.laws_contents.specs.pack_model.specs.reading.Leaders.{Leader}
+use Rattle.laws_contents.specs.pack_model.specs.reading.Namings.{AllKept, IsTidy, Naming, clashes, is_kept, may_stand, namings, namings_in}
+use Rattle.laws_contents.specs.pack_model.specs.operations.Rooms.{left_over}
+use Rattle.laws_contents.specs.pack_model.specs.reading.Slots.{Item}
+use Rattle.laws_contents.specs.pack_model.specs.reading.Slots.Item.{entry, space}
+use Rattle.laws_contents.specs.laws_record.proofs.Beside.{any_first, any_second}
+use Rattle.laws_contents.specs.laws_record.proofs.Entered.{directory, namings_in-append, spot}
+use Rattle.laws_contents.specs.laws_record.proofs.Tidying.{NoneClashes, and_not, onto, or_false, or_false_left, or_false_right, any_more}
 use Rattle.laws_operation.proofs.Leaving.{names_apart}
 use Rattle.laws_operation.proofs.OneDirectory.{slots_namings}
-use Rattle.laws_record.proofs.EnterScan.{none_of_any}
-use Rattle.laws_record.proofs.SystemEntries.{left_names}
+use Rattle.laws_contents.specs.laws_record.proofs.EnterScan.{none_of_any}
+use Rattle.laws_contents.specs.laws_record.proofs.SystemEntries.{left_names}
 
 -- ---- one entry more among those that are kept
 -- none of those put onto others passes a test

@@ -3,46 +3,46 @@ use Rattle.std.proofs.Common.{List, Some, [], add-one, ap, append_assoc, arith, 
 use Rattle.std.proofs.lemmas.List.{get_or-take, get_or_append_left, length-append, length-take-le, take-append-drop, take-append-le}
 use Rattle.std.specs.FinMap.{entries, get, insert}
 use Rattle.std.specs.List.{list_any}
-use Rattle.alto_words.specs.Fid.{is_system}
-use Rattle.alto_words.specs.declared.fid.Fid.{Fid}
-use Rattle.disk_records.specs.Commands.{value_writes}
-use Rattle.disk_records.specs.Packs.{Pack, after, sector_at}
-use Rattle.disk_records.specs.Words.{word}
-use Rattle.disk_records.specs.declared.records.Event.{Event}
-use Rattle.pack_model.specs.reading.Bodies.{Files, described}
-use Rattle.pack_model.specs.reading.Bytes.{put_at}
-use Rattle.pack_model.specs.operations.Committing.{page_of_word, room_place}
-use Rattle.pack_model.specs.reading.Files.{lives, place}
-use Rattle.pack_model.specs.reading.Leaders.{Leader}
-use Rattle.pack_model.specs.hints.Links.{dir_words}
-use Rattle.pack_model.specs.sessions.Meanings.{reading}
-use Rattle.pack_model.specs.reading.Model.{dir_items, read_as, read_sights}
-use Rattle.pack_model.specs.sessions.Moves.{Obeys, rest, write}
-use Rattle.pack_model.specs.reading.Namings.{IsTidy, Naming, clashes, may_stand, namings}
-use Rattle.pack_model.specs.operations.Operations.{one_move}
-use Rattle.pack_model.specs.operations.PageWords.{in_page}
-use Rattle.pack_model.specs.operations.Rooms.{find_room, left_over}
-use Rattle.pack_model.specs.reading.Sights.{Sight, sights}
-use Rattle.pack_model.specs.reading.Slots.{Item, all_words, entry_length, item_words, slot_of, slots}
-use Rattle.pack_model.specs.reading.Slots.Item.{entry, space}
-use Rattle.pack_model.specs.operations.Step.{Operation}
-use Rattle.pack_model.specs.operations.Step.Operation.{enter}
-use Rattle.pack_model.specs.states.Whole.{Tidy, Whole}
-use Rattle.pack_laws.proofs.Bytes.{put_at-later}
-use Rattle.laws_record.proofs.Addressing.{LooseIn}
-use Rattle.laws_record.proofs.Addressing.{entry_words_many}
-use Rattle.laws_record.proofs.EnterSlots.{slots_entered}
-use Rattle.laws_record.proofs.Entered.{directory}
-use Rattle.laws_record.proofs.Slotwise.{words-append}
-use Rattle.laws_record.proofs.SystemEntries.{left_words}
-use Rattle.laws_record.proofs.Tidying.{tidy_same}
-use Rattle.laws_record.specs.DirLaws.{DirWrite, Enters}
-use Rattle.laws_record.specs.EnterLaws.{IsItsRoom, MayEnter}
+use Rattle.laws_contents.specs.alto_words.specs.Fid.{is_system}
+use Rattle.laws_contents.specs.alto_words.specs.declared.fid.Fid.{Fid}
+use Rattle.laws_contents.specs.disk_records.specs.Commands.{value_writes}
+use Rattle.laws_contents.specs.disk_records.specs.Packs.{Pack, after, sector_at}
+use Rattle.laws_contents.specs.disk_records.specs.Words.{word}
+use Rattle.laws_contents.specs.disk_records.specs.declared.records.Event.{Event}
+use Rattle.laws_contents.specs.pack_model.specs.reading.Bodies.{Files, described}
+use Rattle.laws_contents.specs.pack_model.specs.reading.Bytes.{put_at}
+use Rattle.laws_contents.specs.pack_model.specs.operations.Committing.{page_of_word, room_place}
+use Rattle.laws_contents.specs.pack_model.specs.reading.Files.{lives, place}
+use Rattle.laws_contents.specs.pack_model.specs.reading.Leaders.{Leader}
+use Rattle.laws_contents.specs.pack_model.specs.hints.Links.{dir_words}
+use Rattle.laws_contents.specs.pack_model.specs.sessions.Meanings.{reading}
+use Rattle.laws_contents.specs.pack_model.specs.reading.Model.{dir_items, read_as, read_sights}
+use Rattle.laws_contents.specs.pack_model.specs.sessions.Moves.{Obeys, rest, write}
+use Rattle.laws_contents.specs.pack_model.specs.reading.Namings.{IsTidy, Naming, clashes, may_stand, namings}
+use Rattle.laws_contents.specs.pack_model.specs.operations.Operations.{one_move}
+use Rattle.laws_contents.specs.pack_model.specs.operations.PageWords.{in_page}
+use Rattle.laws_contents.specs.pack_model.specs.operations.Rooms.{find_room, left_over}
+use Rattle.laws_contents.specs.pack_model.specs.reading.Sights.{Sight, sights}
+use Rattle.laws_contents.specs.pack_model.specs.reading.Slots.{Item, all_words, entry_length, item_words, slot_of, slots}
+use Rattle.laws_contents.specs.pack_model.specs.reading.Slots.Item.{entry, space}
+use Rattle.laws_contents.specs.pack_model.specs.operations.Step.{Operation}
+use Rattle.laws_contents.specs.pack_model.specs.operations.Step.Operation.{enter}
+use Rattle.laws_contents.specs.pack_model.specs.states.Whole.{Tidy, Whole}
+use Rattle.laws_contents.specs.pack_laws.proofs.Bytes.{put_at-later}
+use Rattle.laws_contents.specs.laws_record.proofs.Addressing.{LooseIn}
+use Rattle.laws_contents.specs.laws_record.proofs.Addressing.{entry_words_many}
+use Rattle.laws_contents.specs.laws_record.proofs.EnterSlots.{slots_entered}
+use Rattle.laws_contents.specs.laws_record.proofs.Entered.{directory}
+use Rattle.laws_contents.specs.laws_record.proofs.Slotwise.{words-append}
+use Rattle.laws_contents.specs.laws_record.proofs.SystemEntries.{left_words}
+use Rattle.laws_contents.specs.laws_record.proofs.Tidying.{tidy_same}
+use Rattle.laws_contents.specs.laws_record.specs.DirLaws.{DirWrite, Enters}
+use Rattle.laws_contents.specs.laws_record.specs.EnterLaws.{IsItsRoom, MayEnter}
 use Rattle.laws_operation.proofs.DirValue.{dir_before, dir_lead, value_same, value_tidy, value_whole}
 use Rattle.laws_operation.proofs.inside.Elsewhere.{SameBut}
 use Rattle.laws_operation.proofs.EntryKept.{entry_names, entry_tidy}
 use Rattle.laws_operation.specs.NameLaws.{EntryWords}
-use Rattle.laws_record.proofs.entries.Laws.{entry_is_the_step}
+use Rattle.laws_contents.specs.laws_record.proofs.entries.Laws.{entry_is_the_step}
 
 -- a tidy pack is read as it stands
 pub read_files : (p : Pack) → Tidy p → (read_as p).files ≡ described (sights p)

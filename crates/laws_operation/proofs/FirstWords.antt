@@ -1,20 +1,20 @@
 -- Words of DiskDescriptor's first data page: opening the mark, and a new serial.
 use Rattle.std.proofs.Common.{List, Some, [], ap, arith, get_or, length, set, subst, sym, take, ℕ, ◌*◌, ◌++◌, ◌+◌, ◌/◌, ◌∙◌, ◌∷◌, ◌≡◌, ◌≤◌}
-use Rattle.alto_words.specs.Fid.{disk_descriptor}
-use Rattle.disk_records.specs.Addresses.{descriptor_length}
-use Rattle.disk_records.specs.Commands.{value_writes}
-use Rattle.disk_records.specs.Labels.{tag}
-use Rattle.disk_records.specs.Packs.{Pack, after, sector_at}
-use Rattle.pack_model.specs.reading.Bytes.{bytes_of, put_at, words_of}
-use Rattle.pack_model.specs.reading.Files.{file_bytes, lives, place}
-use Rattle.pack_model.specs.reading.Model.{descriptor_words, is_named, last_serial, read_as, read_sights}
-use Rattle.pack_model.specs.reading.Sights.{Sight, sights}
-use Rattle.pack_model.specs.reading.Sights.Sight.{hidden, holds}
-use Rattle.pack_model.specs.states.Whole.{PageAt, SaysShape, Tidy, TidySights, Whole, WholeSights}
-use Rattle.pack_laws.proofs.Bytes.{length-bytes_of, length-put_at, length-words_of, take-put_at}
-use Rattle.pack_laws.proofs.Placing.{page_of_place}
-use Rattle.laws_record.proofs.DirWords.{put_bytes, put_words}
-use Rattle.laws_record.specs.QuietLaws.{counted_of}
+use Rattle.laws_contents.specs.alto_words.specs.Fid.{disk_descriptor}
+use Rattle.laws_contents.specs.disk_records.specs.Addresses.{descriptor_length}
+use Rattle.laws_contents.specs.disk_records.specs.Commands.{value_writes}
+use Rattle.laws_contents.specs.disk_records.specs.Labels.{tag}
+use Rattle.laws_contents.specs.disk_records.specs.Packs.{Pack, after, sector_at}
+use Rattle.laws_contents.specs.pack_model.specs.reading.Bytes.{bytes_of, put_at, words_of}
+use Rattle.laws_contents.specs.pack_model.specs.reading.Files.{file_bytes, lives, place}
+use Rattle.laws_contents.specs.pack_model.specs.reading.Model.{descriptor_words, is_named, last_serial, read_as, read_sights}
+use Rattle.laws_contents.specs.pack_model.specs.reading.Sights.{Sight, sights}
+use Rattle.laws_contents.specs.pack_model.specs.reading.Sights.Sight.{hidden, holds}
+use Rattle.laws_contents.specs.pack_model.specs.states.Whole.{PageAt, SaysShape, Tidy, TidySights, Whole, WholeSights}
+use Rattle.laws_contents.specs.pack_laws.proofs.Bytes.{length-bytes_of, length-put_at, length-words_of, take-put_at}
+use Rattle.laws_contents.specs.pack_laws.proofs.Placing.{page_of_place}
+use Rattle.laws_contents.specs.laws_record.proofs.DirWords.{put_bytes, put_words}
+use Rattle.laws_contents.specs.laws_record.specs.QuietLaws.{counted_of}
 use Rattle.laws_operation.proofs.Changing.{seat_of}
 use Rattle.laws_operation.proofs.inside.DescriptorValue.{OnePage, descriptor_reads, descriptor_tidy, descriptor_whole, lives_still, one_page_of, page_stays}
 use Rattle.laws_operation.proofs.Grown.{old_counted}

@@ -2,31 +2,31 @@
 use Rattle.std.proofs.Common.{List, None, Some, [], ap, append_assoc, arith, cond, get_or, length, refl, set, subst, suc, sym, take, true, ℕ, ◌++◌, ◌+◌, ◌/◌, ◌<◌, ◌∙◌, ◌∷◌, ◌≡◌, ◌≤◌}
 use Rattle.std.proofs.lemmas.List.{append-nil, length-append, nil_from_length}
 use Rattle.std.specs.Prelude.{nat_lt}
-use Rattle.alto_words.specs.declared.fid.Fid.{Fid}
-use Rattle.disk_records.specs.Labels.{Tag, page_of, tag}
-use Rattle.disk_records.specs.Packs.{Pack, after, sector_at}
-use Rattle.disk_records.specs.Words.{word}
-use Rattle.disk_records.specs.declared.records.Event.TheVariants.{Wrote}
-use Rattle.pack_model.specs.reading.Bytes.{bytes_of}
-use Rattle.pack_model.specs.operations.Commands.{Claim, Claimable, all_claimed, claims_writes}
-use Rattle.pack_model.specs.operations.Committing.{MakesMove, length_of, moves_of, page_of_byte, pages_added}
-use Rattle.pack_model.specs.reading.Files.{file_bytes, most_pages, place}
-use Rattle.pack_model.specs.sessions.Meanings.{reading}
-use Rattle.pack_model.specs.reading.Model.{good_one, read_as}
-use Rattle.pack_model.specs.sessions.Moves.{Obeys, steps}
-use Rattle.pack_model.specs.operations.Operations.{grow_moves, grow_writes}
-use Rattle.pack_model.specs.operations.Operations.Move.{commits, quiet}
-use Rattle.pack_model.specs.operations.PageWords.{page_number}
-use Rattle.pack_model.specs.reading.Sights.{Sight, sights, tag_sight}
-use Rattle.pack_model.specs.reading.Sights.Sight.{hidden, holds}
-use Rattle.pack_model.specs.operations.Step.{Operation, on_bytes}
-use Rattle.pack_model.specs.operations.Step.Operation.{grow}
-use Rattle.pack_model.specs.states.Whole.{FileWhole, IsLaid, PageAt, Tidy, TidySights, Whole, WholeSights}
-use Rattle.pack_laws.proofs.Joining.{most_is}
-use Rattle.pack_laws.proofs.Placing.{page_of_place}
-use Rattle.laws_record.proofs.Keeping.{plain}
-use Rattle.laws_record.proofs.Recording.{number_below}
-use Rattle.laws_record.specs.QuietLaws.{counted_of}
+use Rattle.laws_contents.specs.alto_words.specs.declared.fid.Fid.{Fid}
+use Rattle.laws_contents.specs.disk_records.specs.Labels.{Tag, page_of, tag}
+use Rattle.laws_contents.specs.disk_records.specs.Packs.{Pack, after, sector_at}
+use Rattle.laws_contents.specs.disk_records.specs.Words.{word}
+use Rattle.laws_contents.specs.disk_records.specs.declared.records.Event.TheVariants.{Wrote}
+use Rattle.laws_contents.specs.pack_model.specs.reading.Bytes.{bytes_of}
+use Rattle.laws_contents.specs.pack_model.specs.operations.Commands.{Claim, Claimable, all_claimed, claims_writes}
+use Rattle.laws_contents.specs.pack_model.specs.operations.Committing.{MakesMove, length_of, moves_of, page_of_byte, pages_added}
+use Rattle.laws_contents.specs.pack_model.specs.reading.Files.{file_bytes, most_pages, place}
+use Rattle.laws_contents.specs.pack_model.specs.sessions.Meanings.{reading}
+use Rattle.laws_contents.specs.pack_model.specs.reading.Model.{good_one, read_as}
+use Rattle.laws_contents.specs.pack_model.specs.sessions.Moves.{Obeys, steps}
+use Rattle.laws_contents.specs.pack_model.specs.operations.Operations.{grow_moves, grow_writes}
+use Rattle.laws_contents.specs.pack_model.specs.operations.Operations.Move.{commits, quiet}
+use Rattle.laws_contents.specs.pack_model.specs.operations.PageWords.{page_number}
+use Rattle.laws_contents.specs.pack_model.specs.reading.Sights.{Sight, sights, tag_sight}
+use Rattle.laws_contents.specs.pack_model.specs.reading.Sights.Sight.{hidden, holds}
+use Rattle.laws_contents.specs.pack_model.specs.operations.Step.{Operation, on_bytes}
+use Rattle.laws_contents.specs.pack_model.specs.operations.Step.Operation.{grow}
+use Rattle.laws_contents.specs.pack_model.specs.states.Whole.{FileWhole, IsLaid, PageAt, Tidy, TidySights, Whole, WholeSights}
+use Rattle.laws_contents.specs.pack_laws.proofs.Joining.{most_is}
+use Rattle.laws_contents.specs.pack_laws.proofs.Placing.{page_of_place}
+use Rattle.laws_contents.specs.laws_record.proofs.Keeping.{plain}
+use Rattle.laws_contents.specs.laws_record.proofs.Recording.{number_below}
+use Rattle.laws_contents.specs.laws_record.specs.QuietLaws.{counted_of}
 use Rattle.laws_operation.proofs.Changing.{Placed, leaves, seat_of}
 use Rattle.laws_operation.proofs.inside.Elsewhere.{SameBut}
 use Rattle.laws_operation.proofs.inside.Growing.{grow_changed, grow_obeys, grow_shows, old_place, read_before}

@@ -2,42 +2,42 @@
 use Rattle.std.proofs.Common.{List, Some, [], add-one, ap, arith, cond, false, map, refl, subst, sym, true, ℕ, ◌&&◌, ◌++◌, ◌+◌, ◌/◌, ◌||◌, ◌∙◌, ◌∷◌, ◌≡◌}
 use Rattle.std.specs.FinMap.{entries, get, insert}
 use Rattle.std.specs.List.{list_any}
-use Rattle.alto_words.specs.Fid.{is_fid, is_system}
-use Rattle.alto_words.specs.Names.{fold_case, is_same_name}
-use Rattle.alto_words.specs.declared.fid.Fid.{Fid}
-use Rattle.disk_records.specs.Commands.{value_writes}
-use Rattle.disk_records.specs.Packs.{Pack, sector_at}
-use Rattle.pack_model.specs.reading.Bodies.{Files, described, items_in}
-use Rattle.pack_model.specs.reading.Bytes.{put_at}
-use Rattle.pack_model.specs.operations.Committing.{entry_place, page_of_word}
-use Rattle.pack_model.specs.reading.Files.{lives, place}
-use Rattle.pack_model.specs.reading.Leaders.{Leader}
-use Rattle.pack_model.specs.hints.Links.{dir_words}
-use Rattle.pack_model.specs.reading.Model.{dir_items, read_as}
-use Rattle.pack_model.specs.sessions.Moves.{rest, write}
-use Rattle.pack_model.specs.reading.Namings.{IsTidy, clashes, namings, namings_in}
-use Rattle.pack_model.specs.operations.PageWords.{freed_value, in_page}
-use Rattle.pack_model.specs.reading.Sights.{Sight, sights}
-use Rattle.pack_model.specs.reading.Slots.{Item, all_words, item_words, slots}
-use Rattle.pack_model.specs.reading.Slots.Item.{entry, space}
-use Rattle.pack_model.specs.operations.Step.{items_left, step}
-use Rattle.pack_model.specs.operations.Step.Operation.{leave}
-use Rattle.pack_model.specs.states.Whole.{Tidy, Whole}
-use Rattle.pack_laws.proofs.Keys.{is_fid-itself, same_fid}
-use Rattle.laws_record.proofs.DirReads.{insert_same, not_descriptor}
-use Rattle.laws_record.proofs.DirSteps.{apart_before}
-use Rattle.laws_record.proofs.Entered.{directory, leave_tidy, spot}
-use Rattle.laws_record.proofs.Entering.{on_slots}
-use Rattle.laws_record.proofs.Fitting.{same_equiv, same_sym, same_trans}
-use Rattle.laws_record.proofs.Slotwise.{slots_freed, words-append}
-use Rattle.laws_record.proofs.Tidying.{or_false_left, or_false_right}
-use Rattle.laws_record.specs.DirLaws.{dir_written}
+use Rattle.laws_contents.specs.alto_words.specs.Fid.{is_fid, is_system}
+use Rattle.laws_contents.specs.alto_words.specs.Names.{fold_case, is_same_name}
+use Rattle.laws_contents.specs.alto_words.specs.declared.fid.Fid.{Fid}
+use Rattle.laws_contents.specs.disk_records.specs.Commands.{value_writes}
+use Rattle.laws_contents.specs.disk_records.specs.Packs.{Pack, sector_at}
+use Rattle.laws_contents.specs.pack_model.specs.reading.Bodies.{Files, described, items_in}
+use Rattle.laws_contents.specs.pack_model.specs.reading.Bytes.{put_at}
+use Rattle.laws_contents.specs.pack_model.specs.operations.Committing.{entry_place, page_of_word}
+use Rattle.laws_contents.specs.pack_model.specs.reading.Files.{lives, place}
+use Rattle.laws_contents.specs.pack_model.specs.reading.Leaders.{Leader}
+use Rattle.laws_contents.specs.pack_model.specs.hints.Links.{dir_words}
+use Rattle.laws_contents.specs.pack_model.specs.reading.Model.{dir_items, read_as}
+use Rattle.laws_contents.specs.pack_model.specs.sessions.Moves.{rest, write}
+use Rattle.laws_contents.specs.pack_model.specs.reading.Namings.{IsTidy, clashes, namings, namings_in}
+use Rattle.laws_contents.specs.pack_model.specs.operations.PageWords.{freed_value, in_page}
+use Rattle.laws_contents.specs.pack_model.specs.reading.Sights.{Sight, sights}
+use Rattle.laws_contents.specs.pack_model.specs.reading.Slots.{Item, all_words, item_words, slots}
+use Rattle.laws_contents.specs.pack_model.specs.reading.Slots.Item.{entry, space}
+use Rattle.laws_contents.specs.pack_model.specs.operations.Step.{items_left, step}
+use Rattle.laws_contents.specs.pack_model.specs.operations.Step.Operation.{leave}
+use Rattle.laws_contents.specs.pack_model.specs.states.Whole.{Tidy, Whole}
+use Rattle.laws_contents.specs.pack_laws.proofs.Keys.{is_fid-itself, same_fid}
+use Rattle.laws_contents.specs.laws_record.proofs.DirReads.{insert_same, not_descriptor}
+use Rattle.laws_contents.specs.laws_record.proofs.DirSteps.{apart_before}
+use Rattle.laws_contents.specs.laws_record.proofs.Entered.{directory, leave_tidy, spot}
+use Rattle.laws_contents.specs.laws_record.proofs.Entering.{on_slots}
+use Rattle.laws_contents.specs.laws_record.proofs.Fitting.{same_equiv, same_sym, same_trans}
+use Rattle.laws_contents.specs.laws_record.proofs.Slotwise.{slots_freed, words-append}
+use Rattle.laws_contents.specs.laws_record.proofs.Tidying.{or_false_left, or_false_right}
+use Rattle.laws_contents.specs.laws_record.specs.DirLaws.{dir_written}
 use Rattle.laws_operation.proofs.DirValue.{dir_before, dir_lead, dir_read, value_same, value_tidy, value_whole}
 use Rattle.laws_operation.proofs.inside.Kept.{carries_out}
 use Rattle.laws_operation.proofs.OneDirectory.{named_apart}
 use Rattle.laws_operation.specs.NameLaws.{MayLeave}
 use Rattle.laws_operation.specs.Outcomes.{CarriesOut}
-use Rattle.laws_record.proofs.steps.Laws.{leave_is_the_step}
+use Rattle.laws_contents.specs.laws_record.proofs.steps.Laws.{leave_is_the_step}
 
 -- an entry's name stands only once in its directory, whatever its case
 module _ (d f : Fid) (own name : List ℕ) (same : is_same_name own name ≡ true) where

@@ -3,17 +3,17 @@ use Rattle.std.proofs.Common.{Bool, List, None, Option, Some, [], ap, append-nil
 use Rattle.std.proofs.lemmas.Bool.{cases_eq}
 use Rattle.std.proofs.lemmas.List.{get_or-set_other, get_or-set_same, get_or_default, set-get_or}
 use Rattle.std.specs.Prelude.{nat_lt, ◌==◌}
-use Rattle.alto_words.specs.Fid.{is_fid}
-use Rattle.alto_words.specs.declared.fid.Fid.{Fid}
-use Rattle.pack_model.specs.reading.Files.{file_bytes, first, joined, most_pages, page, page_at}
-use Rattle.pack_model.specs.reading.Model.{good_one}
-use Rattle.pack_model.specs.reading.Sights.{Sight}
-use Rattle.pack_model.specs.reading.Sights.Sight.{free, hidden, holds, leads, stray}
-use Rattle.pack_model.specs.states.Whole.{HasPages, IsLaid, IsSeat, PageAt, Seated}
-use Rattle.pack_laws.proofs.Firsts.{first_alone}
-use Rattle.pack_laws.proofs.Joining.{continue, joined-suc}
-use Rattle.pack_laws.proofs.Keys.{is_fid-itself, same_fid}
-use Rattle.laws_record.proofs.Seats.{seat_once, seat_range}
+use Rattle.laws_contents.specs.alto_words.specs.Fid.{is_fid}
+use Rattle.laws_contents.specs.alto_words.specs.declared.fid.Fid.{Fid}
+use Rattle.laws_contents.specs.pack_model.specs.reading.Files.{file_bytes, first, joined, most_pages, page, page_at}
+use Rattle.laws_contents.specs.pack_model.specs.reading.Model.{good_one}
+use Rattle.laws_contents.specs.pack_model.specs.reading.Sights.{Sight}
+use Rattle.laws_contents.specs.pack_model.specs.reading.Sights.Sight.{free, hidden, holds, leads, stray}
+use Rattle.laws_contents.specs.pack_model.specs.states.Whole.{HasPages, IsLaid, IsSeat, PageAt, Seated}
+use Rattle.laws_contents.specs.pack_laws.proofs.Firsts.{first_alone}
+use Rattle.laws_contents.specs.pack_laws.proofs.Joining.{continue, joined-suc}
+use Rattle.laws_contents.specs.pack_laws.proofs.Keys.{is_fid-itself, same_fid}
+use Rattle.laws_contents.specs.laws_record.proofs.Seats.{seat_once, seat_range}
 use Rattle.laws_operation.specs.ByteLaws.{together}
 
 -- what shows something is within

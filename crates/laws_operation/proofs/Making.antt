@@ -3,42 +3,42 @@ use Rattle.std.proofs.Common.{Bool, List, None, Some, [], ap, arith, cond, eq-eq
 use Rattle.std.proofs.lemmas.Bool.{lt-ltb}
 use Rattle.std.proofs.lemmas.List.{append-nil, get_or-set_other, get_or-set_same, length-replicate}
 use Rattle.std.specs.Prelude.{nat_lt, replicate}
-use Rattle.alto_words.specs.Fid.{disk_descriptor, is_directory, sys_dir}
-use Rattle.alto_words.specs.declared.fid.Fid.{Fid}
-use Rattle.disk_records.specs.Labels.{in_range, page_of, tag}
-use Rattle.disk_records.specs.Packs.{Pack, after}
-use Rattle.disk_records.specs.Words.{word}
-use Rattle.disk_records.specs.declared.records.Event.TheVariants.{Wrote}
-use Rattle.disk_records.specs.declared.records.Page.{Page}
-use Rattle.pack_model.specs.reading.Bodies.{body_of}
-use Rattle.pack_model.specs.reading.Bodies.Body.{data_of, items_of}
-use Rattle.pack_model.specs.reading.Bytes.{bytes_of, words_of}
-use Rattle.pack_model.specs.operations.Commands.{Claim, claimed, claims_writes}
-use Rattle.pack_model.specs.operations.Committing.{MakesMove}
-use Rattle.pack_model.specs.reading.Files.{file_bytes, leader, most_pages, place}
-use Rattle.pack_model.specs.reading.Leaders.{Leader}
-use Rattle.pack_model.specs.sessions.Meanings.{reading}
-use Rattle.pack_model.specs.reading.Model.{Model, good_one, read_as, read_sights}
-use Rattle.pack_model.specs.reading.Namings.{body_namings}
-use Rattle.pack_model.specs.operations.Operations.{make_writes}
-use Rattle.pack_model.specs.operations.Operations.Move.{commits}
-use Rattle.pack_model.specs.operations.PageWords.{page_number}
-use Rattle.pack_model.specs.reading.Sights.{Sight, sights, tag_sight}
-use Rattle.pack_model.specs.reading.Sights.Sight.{free, hidden, holds, leads}
-use Rattle.pack_model.specs.reading.SlotWords.{space_words}
-use Rattle.pack_model.specs.reading.Slots.{IsSlot, Reads, SlotsReachEnd, is_entry, slot_fid, slot_name, slots}
-use Rattle.pack_model.specs.reading.Slots.Item.{entry, space}
-use Rattle.pack_model.specs.reading.Slots.Reads.{next, none}
-use Rattle.pack_model.specs.operations.Step.{new_body, new_file, new_leader, step}
-use Rattle.pack_model.specs.operations.Step.Operation.{make}
-use Rattle.pack_model.specs.states.Whole.{HasPages, FileWhole, Headless, IsLaid, Leads, PageAt, Tidy, TidySights, Whole, WholeSights, absent, present}
-use Rattle.pack_laws.proofs.Bytes.{length-bytes_of, words_of-bytes_of}
-use Rattle.pack_laws.proofs.Guarding.{named_shown}
-use Rattle.pack_laws.proofs.Joining.{most_is}
-use Rattle.pack_laws.proofs.Moving.{obeys_then, stands_last}
-use Rattle.pack_laws.proofs.Placing.{leader_of_place, none_of_false, place_of_leader}
-use Rattle.laws_record.proofs.Heads.{all_read}
-use Rattle.laws_record.proofs.Reading.{read_file}
+use Rattle.laws_contents.specs.alto_words.specs.Fid.{disk_descriptor, is_directory, sys_dir}
+use Rattle.laws_contents.specs.alto_words.specs.declared.fid.Fid.{Fid}
+use Rattle.laws_contents.specs.disk_records.specs.Labels.{in_range, page_of, tag}
+use Rattle.laws_contents.specs.disk_records.specs.Packs.{Pack, after}
+use Rattle.laws_contents.specs.disk_records.specs.Words.{word}
+use Rattle.laws_contents.specs.disk_records.specs.declared.records.Event.TheVariants.{Wrote}
+use Rattle.laws_contents.specs.disk_records.specs.declared.records.Page.{Page}
+use Rattle.laws_contents.specs.pack_model.specs.reading.Bodies.{body_of}
+use Rattle.laws_contents.specs.pack_model.specs.reading.Bodies.Body.{data_of, items_of}
+use Rattle.laws_contents.specs.pack_model.specs.reading.Bytes.{bytes_of, words_of}
+use Rattle.laws_contents.specs.pack_model.specs.operations.Commands.{Claim, claimed, claims_writes}
+use Rattle.laws_contents.specs.pack_model.specs.operations.Committing.{MakesMove}
+use Rattle.laws_contents.specs.pack_model.specs.reading.Files.{file_bytes, leader, most_pages, place}
+use Rattle.laws_contents.specs.pack_model.specs.reading.Leaders.{Leader}
+use Rattle.laws_contents.specs.pack_model.specs.sessions.Meanings.{reading}
+use Rattle.laws_contents.specs.pack_model.specs.reading.Model.{Model, good_one, read_as, read_sights}
+use Rattle.laws_contents.specs.pack_model.specs.reading.Namings.{body_namings}
+use Rattle.laws_contents.specs.pack_model.specs.operations.Operations.{make_writes}
+use Rattle.laws_contents.specs.pack_model.specs.operations.Operations.Move.{commits}
+use Rattle.laws_contents.specs.pack_model.specs.operations.PageWords.{page_number}
+use Rattle.laws_contents.specs.pack_model.specs.reading.Sights.{Sight, sights, tag_sight}
+use Rattle.laws_contents.specs.pack_model.specs.reading.Sights.Sight.{free, hidden, holds, leads}
+use Rattle.laws_contents.specs.pack_model.specs.reading.SlotWords.{space_words}
+use Rattle.laws_contents.specs.pack_model.specs.reading.Slots.{IsSlot, Reads, SlotsReachEnd, is_entry, slot_fid, slot_name, slots}
+use Rattle.laws_contents.specs.pack_model.specs.reading.Slots.Item.{entry, space}
+use Rattle.laws_contents.specs.pack_model.specs.reading.Slots.Reads.{next, none}
+use Rattle.laws_contents.specs.pack_model.specs.operations.Step.{new_body, new_file, new_leader, step}
+use Rattle.laws_contents.specs.pack_model.specs.operations.Step.Operation.{make}
+use Rattle.laws_contents.specs.pack_model.specs.states.Whole.{HasPages, FileWhole, Headless, IsLaid, Leads, PageAt, Tidy, TidySights, Whole, WholeSights, absent, present}
+use Rattle.laws_contents.specs.pack_laws.proofs.Bytes.{length-bytes_of, words_of-bytes_of}
+use Rattle.laws_contents.specs.pack_laws.proofs.Guarding.{named_shown}
+use Rattle.laws_contents.specs.pack_laws.proofs.Joining.{most_is}
+use Rattle.laws_contents.specs.pack_laws.proofs.Moving.{obeys_then, stands_last}
+use Rattle.laws_contents.specs.pack_laws.proofs.Placing.{leader_of_place, none_of_false, place_of_leader}
+use Rattle.laws_contents.specs.laws_record.proofs.Heads.{all_read}
+use Rattle.laws_contents.specs.laws_record.proofs.Reading.{read_file}
 use Rattle.laws_operation.proofs.inside.Coming.{make_reads, make_tidy, make_whole}
 use Rattle.laws_operation.proofs.Commanding.{claim_label, claim_obeys, claim_shows}
 use Rattle.laws_operation.proofs.inside.Elsewhere.{MayBe, SameBut, but_trans, not_same, same_set, there}
@@ -49,7 +49,7 @@ use Rattle.laws_operation.proofs.Seating.{carries_join, carries_none, carries_se
 use Rattle.laws_operation.proofs.inside.Standing.{claims_go}
 use Rattle.laws_operation.specs.LifeLaws.{MayMake, first_bytes}
 use Rattle.laws_operation.specs.Outcomes.{CarriesOut}
-use Rattle.laws_record.proofs.Recording.{free_sight}
+use Rattle.laws_contents.specs.laws_record.proofs.Recording.{free_sight}
 
 -- what isn't there
 pub record Missing (ss : List Sight) (f : Fid) : Type 0 where

@@ -4,29 +4,29 @@ use Rattle.std.specs.FinMap.{entries, get, insert, retain_keys}
 use Rattle.std.specs.List.{list_any}
 use Rattle.std.specs.Option.{is_some}
 use mathlib.Core.Path.{fun_ext}
-use Rattle.alto_words.specs.Fid.{disk_descriptor, is_directory, is_fid, is_system, serial_of, sys_dir}
-use Rattle.alto_words.specs.declared.fid.Fid.{Fid}
-use Rattle.disk_records.specs.declared.shape.Shape.{Shape}
-use Rattle.pack_model.specs.reading.Bodies.{Files, described, found, is_described}
-use Rattle.pack_model.specs.reading.Bodies.Body.{data_of, items_of}
-use Rattle.pack_model.specs.reading.Bytes.{words_of}
-use Rattle.pack_model.specs.reading.Files.{file_bytes, leader, lives}
-use Rattle.pack_model.specs.reading.Leaders.{Leader}
-use Rattle.pack_model.specs.reading.Model.{IsNamed, is_named, last_serial, read_sights}
-use Rattle.pack_model.specs.reading.Namings.{IsTidy, Naming, namings, namings_in, tidied}
-use Rattle.pack_model.specs.reading.Sights.{Sight}
-use Rattle.pack_model.specs.reading.Sights.Sight.{hidden, leads}
-use Rattle.pack_model.specs.reading.Slots.{Item, Reads, SlotsReachEnd, slots}
-use Rattle.pack_model.specs.reading.Slots.Reads.{next, none}
-use Rattle.pack_model.specs.states.Whole.{FileWhole, Fits, TidySights, WholeSights}
-use Rattle.pack_laws.proofs.Keys.{fid_same, fid_total, is_fid-sym, same_fid}
-use Rattle.laws_record.proofs.Around.{around}
-use Rattle.laws_record.proofs.DirReads.{insert_same, not_descriptor}
-use Rattle.laws_record.proofs.Entered.{directory, namings_around}
-use Rattle.laws_record.proofs.Framing.{model_same}
-use Rattle.laws_record.proofs.Keeping.{get-where, kept_insert}
-use Rattle.laws_record.proofs.Reading.{get_alike, get_by, insert_from_get, read_file}
-use Rattle.laws_record.proofs.Tidying.{tidy_same}
+use Rattle.laws_contents.specs.alto_words.specs.Fid.{disk_descriptor, is_directory, is_fid, is_system, serial_of, sys_dir}
+use Rattle.laws_contents.specs.alto_words.specs.declared.fid.Fid.{Fid}
+use Rattle.laws_contents.specs.disk_records.specs.declared.shape.Shape.{Shape}
+use Rattle.laws_contents.specs.pack_model.specs.reading.Bodies.{Files, described, found, is_described}
+use Rattle.laws_contents.specs.pack_model.specs.reading.Bodies.Body.{data_of, items_of}
+use Rattle.laws_contents.specs.pack_model.specs.reading.Bytes.{words_of}
+use Rattle.laws_contents.specs.pack_model.specs.reading.Files.{file_bytes, leader, lives}
+use Rattle.laws_contents.specs.pack_model.specs.reading.Leaders.{Leader}
+use Rattle.laws_contents.specs.pack_model.specs.reading.Model.{IsNamed, is_named, last_serial, read_sights}
+use Rattle.laws_contents.specs.pack_model.specs.reading.Namings.{IsTidy, Naming, namings, namings_in, tidied}
+use Rattle.laws_contents.specs.pack_model.specs.reading.Sights.{Sight}
+use Rattle.laws_contents.specs.pack_model.specs.reading.Sights.Sight.{hidden, leads}
+use Rattle.laws_contents.specs.pack_model.specs.reading.Slots.{Item, Reads, SlotsReachEnd, slots}
+use Rattle.laws_contents.specs.pack_model.specs.reading.Slots.Reads.{next, none}
+use Rattle.laws_contents.specs.pack_model.specs.states.Whole.{FileWhole, Fits, TidySights, WholeSights}
+use Rattle.laws_contents.specs.pack_laws.proofs.Keys.{fid_same, fid_total, is_fid-sym, same_fid}
+use Rattle.laws_contents.specs.laws_record.proofs.Around.{around}
+use Rattle.laws_contents.specs.laws_record.proofs.DirReads.{insert_same, not_descriptor}
+use Rattle.laws_contents.specs.laws_record.proofs.Entered.{directory, namings_around}
+use Rattle.laws_contents.specs.laws_record.proofs.Framing.{model_same}
+use Rattle.laws_contents.specs.laws_record.proofs.Keeping.{get-where, kept_insert}
+use Rattle.laws_contents.specs.laws_record.proofs.Reading.{get_alike, get_by, insert_from_get, read_file}
+use Rattle.laws_contents.specs.laws_record.proofs.Tidying.{tidy_same}
 use Rattle.laws_operation.proofs.inside.Elsewhere.{SameBut, not_same, other_bytes, other_file, other_leader, other_used, same_good}
 
 -- slots one after another

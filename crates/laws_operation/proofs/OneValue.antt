@@ -1,29 +1,29 @@
 -- The operations that are one value write to an ordinary file: put, title and stamp.
 use Rattle.std.proofs.Common.{List, [], ap, arith, get_or, length, refl, set, subst, sym, true, ℕ, ◌%◌, ◌*◌, ◌++◌, ◌+◌, ◌/◌, ◌∙◌, ◌∷◌, ◌≡◌, ◌≤◌}
 use Rattle.std.proofs.lemmas.List.{append-nil, length-append}
-use Rattle.alto_words.specs.declared.fid.Fid.{Fid}
-use Rattle.disk_records.specs.Commands.{value_writes}
-use Rattle.disk_records.specs.Labels.{Tag, tag}
-use Rattle.disk_records.specs.Packs.{Pack, after, sector_at}
-use Rattle.disk_records.specs.declared.records.Event.TheVariants.{Wrote}
-use Rattle.pack_model.specs.reading.Bytes.{put_at}
-use Rattle.pack_model.specs.operations.Committing.{MakesMove, moves_of}
-use Rattle.pack_model.specs.reading.Files.{file_bytes}
-use Rattle.pack_model.specs.reading.Leaders.{Leader, is_readable, leader_of, leader_words}
-use Rattle.pack_model.specs.sessions.Meanings.{reading}
-use Rattle.pack_model.specs.reading.Model.{Model, good_one, read_as}
-use Rattle.pack_model.specs.sessions.Moves.{Obeys, steps}
-use Rattle.pack_model.specs.operations.Operations.{one_move}
-use Rattle.pack_model.specs.operations.Operations.Move.{commits}
-use Rattle.pack_model.specs.reading.Sights.{Sight, sights, tag_sight}
-use Rattle.pack_model.specs.reading.Sights.Sight.{hidden, holds, leads}
-use Rattle.pack_model.specs.operations.Step.{Operation, on_bytes, on_leader, step, update_file}
-use Rattle.pack_model.specs.operations.Step.Operation.{put, stamp, title}
-use Rattle.pack_model.specs.states.Whole.{IsLaid, PageAt, Tidy, TidySights, Whole, WholeSights}
-use Rattle.pack_laws.proofs.Bytes.{length-put_at, put_at-append_left, put_at-append_right}
-use Rattle.pack_laws.proofs.Placing.{leader_of_place, page_of_place}
-use Rattle.laws_record.proofs.Keeping.{plain}
-use Rattle.laws_record.specs.QuietLaws.{counted_of}
+use Rattle.laws_contents.specs.alto_words.specs.declared.fid.Fid.{Fid}
+use Rattle.laws_contents.specs.disk_records.specs.Commands.{value_writes}
+use Rattle.laws_contents.specs.disk_records.specs.Labels.{Tag, tag}
+use Rattle.laws_contents.specs.disk_records.specs.Packs.{Pack, after, sector_at}
+use Rattle.laws_contents.specs.disk_records.specs.declared.records.Event.TheVariants.{Wrote}
+use Rattle.laws_contents.specs.pack_model.specs.reading.Bytes.{put_at}
+use Rattle.laws_contents.specs.pack_model.specs.operations.Committing.{MakesMove, moves_of}
+use Rattle.laws_contents.specs.pack_model.specs.reading.Files.{file_bytes}
+use Rattle.laws_contents.specs.pack_model.specs.reading.Leaders.{Leader, is_readable, leader_of, leader_words}
+use Rattle.laws_contents.specs.pack_model.specs.sessions.Meanings.{reading}
+use Rattle.laws_contents.specs.pack_model.specs.reading.Model.{Model, good_one, read_as}
+use Rattle.laws_contents.specs.pack_model.specs.sessions.Moves.{Obeys, steps}
+use Rattle.laws_contents.specs.pack_model.specs.operations.Operations.{one_move}
+use Rattle.laws_contents.specs.pack_model.specs.operations.Operations.Move.{commits}
+use Rattle.laws_contents.specs.pack_model.specs.reading.Sights.{Sight, sights, tag_sight}
+use Rattle.laws_contents.specs.pack_model.specs.reading.Sights.Sight.{hidden, holds, leads}
+use Rattle.laws_contents.specs.pack_model.specs.operations.Step.{Operation, on_bytes, on_leader, step, update_file}
+use Rattle.laws_contents.specs.pack_model.specs.operations.Step.Operation.{put, stamp, title}
+use Rattle.laws_contents.specs.pack_model.specs.states.Whole.{IsLaid, PageAt, Tidy, TidySights, Whole, WholeSights}
+use Rattle.laws_contents.specs.pack_laws.proofs.Bytes.{length-put_at, put_at-append_left, put_at-append_right}
+use Rattle.laws_contents.specs.pack_laws.proofs.Placing.{leader_of_place, page_of_place}
+use Rattle.laws_contents.specs.laws_record.proofs.Keeping.{plain}
+use Rattle.laws_contents.specs.laws_record.specs.QuietLaws.{counted_of}
 use Rattle.laws_operation.proofs.Changing.{headed, leader_changed, leaves, length-together, page_changed, seat_of}
 use Rattle.laws_operation.proofs.Commanding.{value_obeys, value_shows}
 use Rattle.laws_operation.proofs.inside.Elsewhere.{SameBut}

@@ -3,11 +3,11 @@ use Rattle.std.proofs.Common.{Bool, List, None, Option, Some, [], ap, arith, con
 use Rattle.std.proofs.lemmas.Bool.{le-leb, lt-leb}
 use Rattle.std.specs.Option.{option_map, option_or, unwrap_or}
 use Rattle.std.specs.Prelude.{nat_le}
-use Rattle.pack_model.specs.operations.Rooms.{Room, find_room, in_run, items_entered, left_over, most_free, placed, room_from, room_here, run}
-use Rattle.pack_model.specs.reading.Slots.{Item, all_words, item_words}
-use Rattle.pack_model.specs.reading.Slots.Item.{entry, space}
-use Rattle.laws_record.proofs.RoomPlaced.{run_is}
-use Rattle.laws_record.proofs.Roomy.{run_enough}
+use Rattle.laws_contents.specs.pack_model.specs.operations.Rooms.{Room, find_room, in_run, items_entered, left_over, most_free, placed, room_from, room_here, run}
+use Rattle.laws_contents.specs.pack_model.specs.reading.Slots.{Item, all_words, item_words}
+use Rattle.laws_contents.specs.pack_model.specs.reading.Slots.Item.{entry, space}
+use Rattle.laws_contents.specs.laws_record.proofs.RoomPlaced.{run_is}
+use Rattle.laws_contents.specs.laws_record.proofs.Roomy.{run_enough}
 use Rattle.laws_operation.proofs.inside.Rooming.{FailsAll, placed_past, room_after, room_past, shorter_run}
 use Rattle.laws_operation.specs.NameLaws.{IsRoom}
 

@@ -1,24 +1,24 @@
 -- The pages of a whole file in a row: where each is, and how many there are.
 use Rattle.std.proofs.Common.{List, Some, [], ap, arith, get_or, inl, inr, length, ltb-true, refl, suc, sym, zero, ℕ, ◌++◌, ◌+◌, ◌/◌, ◌<◌, ◌∙◌, ◌∷◌, ◌≡◌}
 use Rattle.std.proofs.lemmas.List.{append-nil, length-append}
-use Rattle.alto_words.specs.declared.fid.Fid.{Fid}
-use Rattle.disk_records.specs.declared.shape.Shape.{Shape}
-use Rattle.pack_model.specs.reading.Bodies.{described}
-use Rattle.pack_model.specs.operations.Commands.{sectors_of}
-use Rattle.pack_model.specs.operations.Committing.{length_in, length_of, units}
-use Rattle.pack_model.specs.reading.Files.{file_bytes, leader, lives, place}
-use Rattle.pack_model.specs.reading.Leaders.{Leader}
-use Rattle.pack_model.specs.sessions.Meanings.{reading}
-use Rattle.pack_model.specs.reading.Model.{Model, read_sights}
-use Rattle.pack_model.specs.sessions.Moves.{steps}
-use Rattle.pack_model.specs.operations.Operations.{Move, claims_moves, releases_moves}
-use Rattle.pack_model.specs.operations.Operations.Move.{quiet}
-use Rattle.pack_model.specs.reading.Sights.{Sight}
-use Rattle.pack_model.specs.reading.Sights.Sight.{hidden, holds}
-use Rattle.pack_model.specs.states.Whole.{HasPages, IsLaid, IsSeat, PageAt, Seated}
-use Rattle.pack_laws.proofs.Placing.{page_of_place, place_of_page}
-use Rattle.laws_record.proofs.Keeping.{get-tidied_plain, plain}
-use Rattle.laws_record.proofs.Seats.{seat_once}
+use Rattle.laws_contents.specs.alto_words.specs.declared.fid.Fid.{Fid}
+use Rattle.laws_contents.specs.disk_records.specs.declared.shape.Shape.{Shape}
+use Rattle.laws_contents.specs.pack_model.specs.reading.Bodies.{described}
+use Rattle.laws_contents.specs.pack_model.specs.operations.Commands.{sectors_of}
+use Rattle.laws_contents.specs.pack_model.specs.operations.Committing.{length_in, length_of, units}
+use Rattle.laws_contents.specs.pack_model.specs.reading.Files.{file_bytes, leader, lives, place}
+use Rattle.laws_contents.specs.pack_model.specs.reading.Leaders.{Leader}
+use Rattle.laws_contents.specs.pack_model.specs.sessions.Meanings.{reading}
+use Rattle.laws_contents.specs.pack_model.specs.reading.Model.{Model, read_sights}
+use Rattle.laws_contents.specs.pack_model.specs.sessions.Moves.{steps}
+use Rattle.laws_contents.specs.pack_model.specs.operations.Operations.{Move, claims_moves, releases_moves}
+use Rattle.laws_contents.specs.pack_model.specs.operations.Operations.Move.{quiet}
+use Rattle.laws_contents.specs.pack_model.specs.reading.Sights.{Sight}
+use Rattle.laws_contents.specs.pack_model.specs.reading.Sights.Sight.{hidden, holds}
+use Rattle.laws_contents.specs.pack_model.specs.states.Whole.{HasPages, IsLaid, IsSeat, PageAt, Seated}
+use Rattle.laws_contents.specs.pack_laws.proofs.Placing.{page_of_place, place_of_page}
+use Rattle.laws_contents.specs.laws_record.proofs.Keeping.{get-tidied_plain, plain}
+use Rattle.laws_contents.specs.laws_record.proofs.Seats.{seat_once}
 use Rattle.laws_operation.proofs.inside.Elsewhere.{same_refl}
 use Rattle.laws_operation.proofs.Lying.{page_alone}
 use Rattle.laws_operation.proofs.inside.OneFile.{described_was}

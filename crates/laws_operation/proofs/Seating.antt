@@ -1,16 +1,16 @@
 -- The pages that carry a file, when one is claimed, written or released.
 use Rattle.std.proofs.Common.{Bool, List, None, Some, [], ap, arith, cond, false, get_or, inl, inr, length, refl, set, subst, suc, sym, true, ℕ, ◌++◌, ◌+◌, ◌<◌, ◌∙◌, ◌∷◌, ◌≡◌, ◌≤◌, ◌⊎◌}
 use Rattle.std.proofs.lemmas.List.{get_or-set_other, get_or-set_same, get_or_default, length-append, set-get_or}
-use Rattle.alto_words.specs.Fid.{is_fid}
-use Rattle.alto_words.specs.declared.fid.Fid.{Fid}
-use Rattle.pack_model.specs.reading.Files.{first, leader, leader_at}
-use Rattle.pack_model.specs.reading.Leaders.{Leader}
-use Rattle.pack_model.specs.reading.Model.{good_one}
-use Rattle.pack_model.specs.reading.Sights.{Sight}
-use Rattle.pack_model.specs.reading.Sights.Sight.{free, hidden, holds, leads, stray}
-use Rattle.pack_model.specs.states.Whole.{HasPages, Headless, IsLaid, IsSeat, Leads, PageAt, Seated}
-use Rattle.pack_laws.proofs.Firsts.{first_alone, first_none}
-use Rattle.pack_laws.proofs.Keys.{is_fid-itself, same_fid}
+use Rattle.laws_contents.specs.alto_words.specs.Fid.{is_fid}
+use Rattle.laws_contents.specs.alto_words.specs.declared.fid.Fid.{Fid}
+use Rattle.laws_contents.specs.pack_model.specs.reading.Files.{first, leader, leader_at}
+use Rattle.laws_contents.specs.pack_model.specs.reading.Leaders.{Leader}
+use Rattle.laws_contents.specs.pack_model.specs.reading.Model.{good_one}
+use Rattle.laws_contents.specs.pack_model.specs.reading.Sights.{Sight}
+use Rattle.laws_contents.specs.pack_model.specs.reading.Sights.Sight.{free, hidden, holds, leads, stray}
+use Rattle.laws_contents.specs.pack_model.specs.states.Whole.{HasPages, Headless, IsLaid, IsSeat, Leads, PageAt, Seated}
+use Rattle.laws_contents.specs.pack_laws.proofs.Firsts.{first_alone, first_none}
+use Rattle.laws_contents.specs.pack_laws.proofs.Keys.{is_fid-itself, same_fid}
 use Rattle.laws_operation.proofs.Lying.{same_number, seat_left, seat_right, seat_split, seated_join, seated_left, seated_right, seated_set, shows_set, within}
 
 module _ (ss : List Sight) (f : Fid) (pages : List PageAt) (lo : ℕ) (loose : List PageAt) (c : HasPages ss f pages lo loose) where

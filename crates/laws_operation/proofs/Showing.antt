@@ -1,14 +1,14 @@
 -- What the sight of a sector tells of its words.
 use Rattle.std.proofs.Common.{Bool, List, ap, cond, false, get_or, length, refl, subst, suc, sym, take, true, zero, ℕ, ◌<◌, ◌∙◌, ◌≡◌}
-use Rattle.alto_words.specs.declared.fid.Fid.{Fid}
-use Rattle.disk_records.specs.Labels.{Tag, in_range, is_free, tag}
-use Rattle.disk_records.specs.Packs.{Pack, is_usable, sector_at}
-use Rattle.pack_model.specs.reading.Bytes.{bytes_of}
-use Rattle.pack_model.specs.reading.Leaders.{Leader, is_readable, leader_of, leader_words}
-use Rattle.pack_model.specs.reading.Model.{good_one}
-use Rattle.pack_model.specs.reading.Sights.{Sight, page_sight, sight, sights, tag_sight}
-use Rattle.pack_model.specs.reading.Sights.Sight.{free, hidden, holds, leads, stray}
-use Rattle.pack_laws.proofs.Sighted.{length-sights, sights-get}
+use Rattle.laws_contents.specs.alto_words.specs.declared.fid.Fid.{Fid}
+use Rattle.laws_contents.specs.disk_records.specs.Labels.{Tag, in_range, is_free, tag}
+use Rattle.laws_contents.specs.disk_records.specs.Packs.{Pack, is_usable, sector_at}
+use Rattle.laws_contents.specs.pack_model.specs.reading.Bytes.{bytes_of}
+use Rattle.laws_contents.specs.pack_model.specs.reading.Leaders.{Leader, is_readable, leader_of, leader_words}
+use Rattle.laws_contents.specs.pack_model.specs.reading.Model.{good_one}
+use Rattle.laws_contents.specs.pack_model.specs.reading.Sights.{Sight, page_sight, sight, sights, tag_sight}
+use Rattle.laws_contents.specs.pack_model.specs.reading.Sights.Sight.{free, hidden, holds, leads, stray}
+use Rattle.laws_contents.specs.pack_laws.proofs.Sighted.{length-sights, sights-get}
 use Rattle.laws_operation.proofs.Lying.{within}
 
 -- ---- what a sector shows tells of its words

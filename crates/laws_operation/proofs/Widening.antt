@@ -4,38 +4,38 @@ use Rattle.std.proofs.lemmas.List.{append-nil, get_or-set_other, length-append}
 use Rattle.std.specs.FinMap.{insert}
 use Rattle.std.specs.List.{list_any}
 use Rattle.std.specs.Option.{is_some}
-use Rattle.alto_words.specs.Fid.{is_fid, sys_dir}
-use Rattle.alto_words.specs.declared.fid.Fid.{Fid}
-use Rattle.disk_records.specs.Labels.{tag}
-use Rattle.disk_records.specs.Packs.{Pack, after, sector_at}
-use Rattle.disk_records.specs.declared.records.Event.TheVariants.{Wrote}
-use Rattle.pack_model.specs.reading.Bodies.{body_length, described}
-use Rattle.pack_model.specs.reading.Bodies.Body.{items_of}
-use Rattle.pack_model.specs.reading.Bytes.{bytes_of, words_of}
-use Rattle.pack_model.specs.operations.Commands.{Claim, all_claimed, claims_writes}
-use Rattle.pack_model.specs.operations.Committing.{MakesMove, length_in, length_of, moves_of, page_of_byte, pages_added}
-use Rattle.pack_model.specs.reading.Files.{file_bytes, lives, most_pages, place}
-use Rattle.pack_model.specs.reading.Leaders.{Leader}
-use Rattle.pack_model.specs.sessions.Meanings.{reading}
-use Rattle.pack_model.specs.reading.Model.{read_as, read_sights}
-use Rattle.pack_model.specs.sessions.Moves.{Obeys, steps}
-use Rattle.pack_model.specs.reading.Namings.{AllKept, IsTidy, is_kept, namings_in}
-use Rattle.pack_model.specs.operations.Operations.{grow_moves, grow_writes}
-use Rattle.pack_model.specs.operations.Operations.Move.{commits, quiet}
-use Rattle.pack_model.specs.reading.Sights.{Sight, sights}
-use Rattle.pack_model.specs.reading.Sights.Sight.{free, hidden, holds, leads}
-use Rattle.pack_model.specs.reading.Slots.{IsEven, Item, Reads, all_words, slots}
-use Rattle.pack_model.specs.reading.Slots.Item.{space}
-use Rattle.pack_model.specs.reading.Slots.Reads.{next, none}
-use Rattle.pack_model.specs.operations.Step.{Operation, step}
-use Rattle.pack_model.specs.operations.Step.Operation.{widen}
-use Rattle.pack_model.specs.states.Whole.{Tidy, TidySights, Whole, WholeSights}
-use Rattle.pack_laws.proofs.Bytes.{length-bytes_of, length-words_of, words_of-bytes_of}
-use Rattle.laws_record.proofs.DirReads.{not_descriptor}
-use Rattle.laws_record.proofs.Entered.{directory, namings_in-append}
-use Rattle.laws_record.proofs.Entering.{on_slots}
-use Rattle.laws_record.proofs.Heads.{all_read}
-use Rattle.laws_record.specs.QuietLaws.{counted_of}
+use Rattle.laws_contents.specs.alto_words.specs.Fid.{is_fid, sys_dir}
+use Rattle.laws_contents.specs.alto_words.specs.declared.fid.Fid.{Fid}
+use Rattle.laws_contents.specs.disk_records.specs.Labels.{tag}
+use Rattle.laws_contents.specs.disk_records.specs.Packs.{Pack, after, sector_at}
+use Rattle.laws_contents.specs.disk_records.specs.declared.records.Event.TheVariants.{Wrote}
+use Rattle.laws_contents.specs.pack_model.specs.reading.Bodies.{body_length, described}
+use Rattle.laws_contents.specs.pack_model.specs.reading.Bodies.Body.{items_of}
+use Rattle.laws_contents.specs.pack_model.specs.reading.Bytes.{bytes_of, words_of}
+use Rattle.laws_contents.specs.pack_model.specs.operations.Commands.{Claim, all_claimed, claims_writes}
+use Rattle.laws_contents.specs.pack_model.specs.operations.Committing.{MakesMove, length_in, length_of, moves_of, page_of_byte, pages_added}
+use Rattle.laws_contents.specs.pack_model.specs.reading.Files.{file_bytes, lives, most_pages, place}
+use Rattle.laws_contents.specs.pack_model.specs.reading.Leaders.{Leader}
+use Rattle.laws_contents.specs.pack_model.specs.sessions.Meanings.{reading}
+use Rattle.laws_contents.specs.pack_model.specs.reading.Model.{read_as, read_sights}
+use Rattle.laws_contents.specs.pack_model.specs.sessions.Moves.{Obeys, steps}
+use Rattle.laws_contents.specs.pack_model.specs.reading.Namings.{AllKept, IsTidy, is_kept, namings_in}
+use Rattle.laws_contents.specs.pack_model.specs.operations.Operations.{grow_moves, grow_writes}
+use Rattle.laws_contents.specs.pack_model.specs.operations.Operations.Move.{commits, quiet}
+use Rattle.laws_contents.specs.pack_model.specs.reading.Sights.{Sight, sights}
+use Rattle.laws_contents.specs.pack_model.specs.reading.Sights.Sight.{free, hidden, holds, leads}
+use Rattle.laws_contents.specs.pack_model.specs.reading.Slots.{IsEven, Item, Reads, all_words, slots}
+use Rattle.laws_contents.specs.pack_model.specs.reading.Slots.Item.{space}
+use Rattle.laws_contents.specs.pack_model.specs.reading.Slots.Reads.{next, none}
+use Rattle.laws_contents.specs.pack_model.specs.operations.Step.{Operation, step}
+use Rattle.laws_contents.specs.pack_model.specs.operations.Step.Operation.{widen}
+use Rattle.laws_contents.specs.pack_model.specs.states.Whole.{Tidy, TidySights, Whole, WholeSights}
+use Rattle.laws_contents.specs.pack_laws.proofs.Bytes.{length-bytes_of, length-words_of, words_of-bytes_of}
+use Rattle.laws_contents.specs.laws_record.proofs.DirReads.{not_descriptor}
+use Rattle.laws_contents.specs.laws_record.proofs.Entered.{directory, namings_in-append}
+use Rattle.laws_contents.specs.laws_record.proofs.Entering.{on_slots}
+use Rattle.laws_contents.specs.laws_record.proofs.Heads.{all_read}
+use Rattle.laws_contents.specs.laws_record.specs.QuietLaws.{counted_of}
 use Rattle.laws_operation.proofs.inside.Elsewhere.{SameBut}
 use Rattle.laws_operation.proofs.inside.Evens.{even_by, even_half, words_of-append}
 use Rattle.laws_operation.proofs.inside.Growing.{all_claims, grow_changed, grow_obeys, grow_shows, old_place, read_before, still_here}

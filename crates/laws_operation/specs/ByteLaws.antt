@@ -1,20 +1,20 @@
 -- The operations on the bytes of an ordinary file: put, grow and cut.
 use Rattle.std.specs.Prelude.{List, Some, [], false, length, suc, take, ℕ, ◌%◌, ◌++◌, ◌+◌, ◌∷◌, ◌≡◌, ◌≤◌}
-use Rattle.alto_words.specs.Fid.{disk_descriptor, is_directory, is_fid}
-use Rattle.alto_words.specs.declared.fid.Fid.{Fid}
-use Rattle.disk_records.specs.Commands.{value_writes}
-use Rattle.disk_records.specs.Labels.{page_of, tag}
-use Rattle.disk_records.specs.Packs.{Pack, sector_at}
-use Rattle.pack_model.specs.reading.Bytes.{bytes_of, put_at}
-use Rattle.pack_model.specs.operations.Commands.{Claim, Claimable, all_claimed}
-use Rattle.pack_model.specs.operations.Committing.{page_of_byte, pages_cut}
-use Rattle.pack_model.specs.reading.Files.{file_bytes, place}
-use Rattle.pack_model.specs.operations.Operations.{cut_writes, grow_writes}
-use Rattle.pack_model.specs.operations.PageWords.{page_number}
-use Rattle.pack_model.specs.reading.Sights.{Sight, sights}
-use Rattle.pack_model.specs.operations.Step.Operation.{cut, grow, put}
-use Rattle.pack_model.specs.states.Whole.{IsLaid, PageAt, Tidy, Whole}
-use Rattle.laws_record.specs.QuietLaws.{counted_of}
+use Rattle.laws_contents.specs.alto_words.specs.Fid.{disk_descriptor, is_directory, is_fid}
+use Rattle.laws_contents.specs.alto_words.specs.declared.fid.Fid.{Fid}
+use Rattle.laws_contents.specs.disk_records.specs.Commands.{value_writes}
+use Rattle.laws_contents.specs.disk_records.specs.Labels.{page_of, tag}
+use Rattle.laws_contents.specs.disk_records.specs.Packs.{Pack, sector_at}
+use Rattle.laws_contents.specs.pack_model.specs.reading.Bytes.{bytes_of, put_at}
+use Rattle.laws_contents.specs.pack_model.specs.operations.Commands.{Claim, Claimable, all_claimed}
+use Rattle.laws_contents.specs.pack_model.specs.operations.Committing.{page_of_byte, pages_cut}
+use Rattle.laws_contents.specs.pack_model.specs.reading.Files.{file_bytes, place}
+use Rattle.laws_contents.specs.pack_model.specs.operations.Operations.{cut_writes, grow_writes}
+use Rattle.laws_contents.specs.pack_model.specs.operations.PageWords.{page_number}
+use Rattle.laws_contents.specs.pack_model.specs.reading.Sights.{Sight, sights}
+use Rattle.laws_contents.specs.pack_model.specs.operations.Step.Operation.{cut, grow, put}
+use Rattle.laws_contents.specs.pack_model.specs.states.Whole.{IsLaid, PageAt, Tidy, Whole}
+use Rattle.laws_contents.specs.laws_record.specs.QuietLaws.{counted_of}
 use Rattle.laws_operation.specs.Outcomes.{CarriesOut}
 
 -- An ordinary file that is in models.

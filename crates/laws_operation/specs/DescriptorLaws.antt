@@ -1,20 +1,20 @@
 -- Opening the mark, a new serial, and closing: what they leave at every crash.
 use Rattle.std.specs.Prelude.{All, Bool, List, Some, [], length, ℕ, ◌<◌, ◌∷◌, ◌≡◌, ◌≤◌}
-use Rattle.alto_words.specs.Fid.{disk_descriptor}
-use Rattle.disk_records.specs.Packs.{Pack, after, crash, sector_at}
-use Rattle.disk_records.specs.declared.records.Event.{Event}
-use Rattle.pack_model.specs.operations.Committing.{open_moves}
-use Rattle.pack_model.specs.sessions.Descriptor.{close_moves, close_writes, data_pages, open_writes, serial_writes}
-use Rattle.pack_model.specs.reading.Files.{place}
-use Rattle.pack_model.specs.sessions.Meanings.{reading, viewing}
-use Rattle.pack_model.specs.reading.Model.{read_as}
-use Rattle.pack_model.specs.sessions.Moves.{Obeys}
-use Rattle.pack_model.specs.operations.Operations.{Move}
-use Rattle.pack_model.specs.operations.Operations.Move.{quiet}
-use Rattle.pack_model.specs.reading.Sights.{sights}
-use Rattle.pack_model.specs.states.Sound.{Sound, mark_clean, mark_of, mark_open}
-use Rattle.pack_model.specs.operations.Step.{Operation}
-use Rattle.pack_model.specs.states.Whole.{Tidy, Whole}
+use Rattle.laws_contents.specs.alto_words.specs.Fid.{disk_descriptor}
+use Rattle.laws_contents.specs.disk_records.specs.Packs.{Pack, after, crash, sector_at}
+use Rattle.laws_contents.specs.disk_records.specs.declared.records.Event.{Event}
+use Rattle.laws_contents.specs.pack_model.specs.operations.Committing.{open_moves}
+use Rattle.laws_contents.specs.pack_model.specs.sessions.Descriptor.{close_moves, close_writes, data_pages, open_writes, serial_writes}
+use Rattle.laws_contents.specs.pack_model.specs.reading.Files.{place}
+use Rattle.laws_contents.specs.pack_model.specs.sessions.Meanings.{reading, viewing}
+use Rattle.laws_contents.specs.pack_model.specs.reading.Model.{read_as}
+use Rattle.laws_contents.specs.pack_model.specs.sessions.Moves.{Obeys}
+use Rattle.laws_contents.specs.pack_model.specs.operations.Operations.{Move}
+use Rattle.laws_contents.specs.pack_model.specs.operations.Operations.Move.{quiet}
+use Rattle.laws_contents.specs.pack_model.specs.reading.Sights.{sights}
+use Rattle.laws_contents.specs.pack_model.specs.states.Sound.{Sound, mark_clean, mark_of, mark_open}
+use Rattle.laws_contents.specs.pack_model.specs.operations.Step.{Operation}
+use Rattle.laws_contents.specs.pack_model.specs.states.Whole.{Tidy, Whole}
 use Rattle.laws_operation.specs.ByteLaws.{Bear}
 
 -- ---- words of the first data page

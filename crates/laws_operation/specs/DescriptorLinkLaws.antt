@@ -1,14 +1,14 @@
 -- Links that were true are true at every crash of the values of DiskDescriptor.
 use Rattle.std.specs.Prelude.{Bool, List, Some, ℕ, ◌≡◌, ◌≤◌}
-use Rattle.alto_words.specs.Fid.{disk_descriptor}
-use Rattle.disk_records.specs.Packs.{Pack, crash, sector_at}
-use Rattle.pack_model.specs.sessions.Descriptor.{close_writes, open_writes, serial_writes}
-use Rattle.pack_model.specs.reading.Files.{place}
-use Rattle.pack_model.specs.hints.Links.{LinksTrue}
-use Rattle.pack_model.specs.reading.Model.{read_as}
-use Rattle.pack_model.specs.reading.Sights.{sights}
-use Rattle.pack_model.specs.states.Sound.{mark_of}
-use Rattle.pack_model.specs.states.Whole.{Tidy, Whole}
+use Rattle.laws_contents.specs.alto_words.specs.Fid.{disk_descriptor}
+use Rattle.laws_contents.specs.disk_records.specs.Packs.{Pack, crash, sector_at}
+use Rattle.laws_contents.specs.pack_model.specs.sessions.Descriptor.{close_writes, open_writes, serial_writes}
+use Rattle.laws_contents.specs.pack_model.specs.reading.Files.{place}
+use Rattle.laws_contents.specs.pack_model.specs.hints.Links.{LinksTrue}
+use Rattle.laws_contents.specs.pack_model.specs.reading.Model.{read_as}
+use Rattle.laws_contents.specs.pack_model.specs.reading.Sights.{sights}
+use Rattle.laws_contents.specs.pack_model.specs.states.Sound.{mark_of}
+use Rattle.laws_contents.specs.pack_model.specs.states.Whole.{Tidy, Whole}
 use Rattle.laws_operation.specs.DescriptorLaws.{MayClose}
 use Rattle.laws_operation.specs.LinkLaws.{KeepsLinks}
 

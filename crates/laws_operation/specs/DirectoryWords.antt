@@ -1,24 +1,24 @@
 -- What a calling program can know before it writes a directory, and the words that the laws of operations want then.
 use Rattle.std.specs.Prelude.{List, Some, [], false, length, suc, true, ℕ, ◌++◌, ◌-◌, ◌<◌, ◌∷◌, ◌≡◌}
-use Rattle.alto_words.specs.Fid.{is_directory, is_full_name, is_system}
-use Rattle.alto_words.specs.Names.{is_same_name, is_stored_name}
-use Rattle.alto_words.specs.declared.fid.Fid.{Fid}
-use Rattle.disk_records.specs.Packs.{Pack, sector_at}
-use Rattle.pack_model.specs.operations.Commands.{grown_claims, grown_label, grown_value}
-use Rattle.pack_model.specs.operations.Committing.{page_of_word}
-use Rattle.pack_model.specs.operations.Entering.{found_room}
-use Rattle.pack_model.specs.reading.Files.{lives, place}
-use Rattle.pack_model.specs.hints.Links.{dir_words}
-use Rattle.pack_model.specs.reading.Model.{dir_items, read_as}
-use Rattle.pack_model.specs.operations.PageWords.{entered_words, later, widening_bytes}
-use Rattle.pack_model.specs.operations.Rooms.{Room, find_room}
-use Rattle.pack_model.specs.reading.Sights.{sights}
-use Rattle.pack_model.specs.reading.SlotWords.{space_words}
-use Rattle.pack_model.specs.reading.Slots.{Item, all_words, entry_length, slots}
-use Rattle.pack_model.specs.reading.Slots.Item.{entry}
-use Rattle.pack_model.specs.states.Whole.{Whole}
-use Rattle.laws_record.specs.DirLaws.{Frees}
-use Rattle.laws_record.specs.EnterLaws.{MayEnter}
+use Rattle.laws_contents.specs.alto_words.specs.Fid.{is_directory, is_full_name, is_system}
+use Rattle.laws_contents.specs.alto_words.specs.Names.{is_same_name, is_stored_name}
+use Rattle.laws_contents.specs.alto_words.specs.declared.fid.Fid.{Fid}
+use Rattle.laws_contents.specs.disk_records.specs.Packs.{Pack, sector_at}
+use Rattle.laws_contents.specs.pack_model.specs.operations.Commands.{grown_claims, grown_label, grown_value}
+use Rattle.laws_contents.specs.pack_model.specs.operations.Committing.{page_of_word}
+use Rattle.laws_contents.specs.pack_model.specs.operations.Entering.{found_room}
+use Rattle.laws_contents.specs.pack_model.specs.reading.Files.{lives, place}
+use Rattle.laws_contents.specs.pack_model.specs.hints.Links.{dir_words}
+use Rattle.laws_contents.specs.pack_model.specs.reading.Model.{dir_items, read_as}
+use Rattle.laws_contents.specs.pack_model.specs.operations.PageWords.{entered_words, later, widening_bytes}
+use Rattle.laws_contents.specs.pack_model.specs.operations.Rooms.{Room, find_room}
+use Rattle.laws_contents.specs.pack_model.specs.reading.Sights.{sights}
+use Rattle.laws_contents.specs.pack_model.specs.reading.SlotWords.{space_words}
+use Rattle.laws_contents.specs.pack_model.specs.reading.Slots.{Item, all_words, entry_length, slots}
+use Rattle.laws_contents.specs.pack_model.specs.reading.Slots.Item.{entry}
+use Rattle.laws_contents.specs.pack_model.specs.states.Whole.{Whole}
+use Rattle.laws_contents.specs.laws_record.specs.DirLaws.{Frees}
+use Rattle.laws_contents.specs.laws_record.specs.EnterLaws.{MayEnter}
 use Rattle.laws_operation.specs.NameLaws.{EntryWords, MayEnterAt, MayLeave, MayWiden, entry_room}
 use Rattle.laws_operation.specs.FileWords.{CanGrow}
 

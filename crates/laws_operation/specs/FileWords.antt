@@ -1,18 +1,18 @@
 -- What a calling program can know before it makes a file or writes one, and the words that the laws of operations want then.
 use Rattle.std.specs.List.{AllPairs}
 use Rattle.std.specs.Prelude.{All, List, Some, [], false, length, suc, true, ℕ, ◌%◌, ◌+◌, ◌<◌, ◌≡◌, ◌≢◌, ◌≤◌, ◌⊎◌}
-use Rattle.alto_words.specs.Fid.{disk_descriptor, is_fid, is_full_name, serial_of}
-use Rattle.alto_words.specs.Names.{is_stored_name}
-use Rattle.alto_words.specs.declared.fid.Fid.{Fid}
-use Rattle.disk_records.specs.Packs.{Pack, is_free_at, sector_at}
-use Rattle.pack_model.specs.reading.Bytes.{bytes_of}
-use Rattle.pack_model.specs.operations.Commands.{cut_label, first_page_claim, grown_claims, grown_label, grown_value, leader_claim}
-use Rattle.pack_model.specs.operations.Committing.{page_of_byte, pages_added, pages_cut}
-use Rattle.pack_model.specs.reading.Files.{file_bytes, lives, place}
-use Rattle.pack_model.specs.reading.Model.{read_as}
-use Rattle.pack_model.specs.operations.PageWords.{put_value, stamped_value, titled_value}
-use Rattle.pack_model.specs.reading.Sights.{sights}
-use Rattle.pack_model.specs.states.Whole.{Whole}
+use Rattle.laws_contents.specs.alto_words.specs.Fid.{disk_descriptor, is_fid, is_full_name, serial_of}
+use Rattle.laws_contents.specs.alto_words.specs.Names.{is_stored_name}
+use Rattle.laws_contents.specs.alto_words.specs.declared.fid.Fid.{Fid}
+use Rattle.laws_contents.specs.disk_records.specs.Packs.{Pack, is_free_at, sector_at}
+use Rattle.laws_contents.specs.pack_model.specs.reading.Bytes.{bytes_of}
+use Rattle.laws_contents.specs.pack_model.specs.operations.Commands.{cut_label, first_page_claim, grown_claims, grown_label, grown_value, leader_claim}
+use Rattle.laws_contents.specs.pack_model.specs.operations.Committing.{page_of_byte, pages_added, pages_cut}
+use Rattle.laws_contents.specs.pack_model.specs.reading.Files.{file_bytes, lives, place}
+use Rattle.laws_contents.specs.pack_model.specs.reading.Model.{read_as}
+use Rattle.laws_contents.specs.pack_model.specs.operations.PageWords.{put_value, stamped_value, titled_value}
+use Rattle.laws_contents.specs.pack_model.specs.reading.Sights.{sights}
+use Rattle.laws_contents.specs.pack_model.specs.states.Whole.{Whole}
 use Rattle.laws_operation.specs.ByteLaws.{Bear, IsOrdinary, MayCut, MayGrow, MayPut}
 use Rattle.laws_operation.specs.LeaderLaws.{MayWriteLeader, stamped, titled}
 use Rattle.laws_operation.specs.LifeLaws.{MayMake}

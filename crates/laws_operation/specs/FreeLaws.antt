@@ -1,12 +1,12 @@
 -- Free sectors after the record writes of operations, on any pack.
 use Rattle.std.specs.Prelude.{All, List, Some, [], true, ℕ, ◌∷◌, ◌≡◌, ◌≢◌}
-use Rattle.alto_words.specs.declared.fid.Fid.{Fid}
-use Rattle.disk_records.specs.Packs.{Pack, after, is_free_at}
-use Rattle.disk_records.specs.declared.records.Event.{Event}
-use Rattle.pack_model.specs.operations.Commands.{claims_writes, Claim, all_claimed, releases_writes, sectors_of, values_writes}
-use Rattle.pack_model.specs.reading.Files.{place}
-use Rattle.pack_model.specs.operations.Operations.{cut_writes, drop_writes, enter_writes, release_file_writes, grow_writes, make_writes}
-use Rattle.pack_model.specs.reading.Sights.{sights}
+use Rattle.laws_contents.specs.alto_words.specs.declared.fid.Fid.{Fid}
+use Rattle.laws_contents.specs.disk_records.specs.Packs.{Pack, after, is_free_at}
+use Rattle.laws_contents.specs.disk_records.specs.declared.records.Event.{Event}
+use Rattle.laws_contents.specs.pack_model.specs.operations.Commands.{claims_writes, Claim, all_claimed, releases_writes, sectors_of, values_writes}
+use Rattle.laws_contents.specs.pack_model.specs.reading.Files.{place}
+use Rattle.laws_contents.specs.pack_model.specs.operations.Operations.{cut_writes, drop_writes, enter_writes, release_file_writes, grow_writes, make_writes}
+use Rattle.laws_contents.specs.pack_model.specs.reading.Sights.{sights}
 use Rattle.laws_operation.specs.ByteLaws.{Bear}
 
 -- each sector that was free, and is none of these, is free still

@@ -16,3 +16,9 @@ pub mod Outcomes
 pub mod PageLinkLaws
 pub mod PlaceLaws
 pub mod WordLaws
+pub use Rattle.laws_contents.specs.alto_words
+pub use Rattle.laws_contents.specs.disk_records
+pub use Rattle.laws_contents.specs.pack_model
+pub use Rattle.laws_contents.specs.pack_laws
+pub use Rattle.laws_contents.specs.laws_record
+pub use Rattle.laws_contents

@@ -1,30 +1,30 @@
 -- The operations by which a file comes to live or goes: make and drop.
 use Rattle.std.specs.Prelude.{List, Some, [], cond, false, length, true, ℕ, ◌∷◌, ◌≡◌, ◌≢◌}
-use Rattle.alto_words.specs.Fid.{disk_descriptor, is_directory, is_fid, is_system, serial_of}
-use Rattle.alto_words.specs.declared.fid.Fid.{Fid}
-use Rattle.disk_records.specs.Commands.{value_writes}
-use Rattle.disk_records.specs.Labels.{page_of}
-use Rattle.disk_records.specs.Packs.{Pack, after, is_free_at, sector_at}
-use Rattle.disk_records.specs.declared.records.Event.{Event}
-use Rattle.pack_model.specs.reading.Bytes.{bytes_of}
-use Rattle.pack_model.specs.operations.Commands.{Claim, claimed}
-use Rattle.pack_model.specs.operations.Committing.{length_of, page_of_byte, units}
-use Rattle.pack_model.specs.reading.Files.{file_bytes, lives, place}
-use Rattle.pack_model.specs.reading.Leaders.{is_readable, leader_of, leader_words}
-use Rattle.pack_model.specs.sessions.Meanings.{Drops, Meets}
-use Rattle.pack_model.specs.reading.Model.{dir_items, read_as}
-use Rattle.pack_model.specs.reading.Namings.{namings_in}
-use Rattle.pack_model.specs.operations.Operations.{Move, drop_writes, release_file_moves, release_file_writes, make_writes}
-use Rattle.pack_model.specs.operations.Operations.Move.{quiet}
-use Rattle.pack_model.specs.operations.PageWords.{freed_value, page_number}
-use Rattle.pack_model.specs.reading.Sights.{sights}
-use Rattle.pack_model.specs.reading.SlotWords.{space_words}
-use Rattle.pack_model.specs.reading.Slots.{Item, all_words, item_words}
-use Rattle.pack_model.specs.reading.Slots.Item.{entry}
-use Rattle.pack_model.specs.operations.Step.{new_leader, step}
-use Rattle.pack_model.specs.operations.Step.Operation.{drop_file, make}
-use Rattle.pack_model.specs.states.Whole.{Tidy, TidyBut, Whole}
-use Rattle.laws_record.specs.DirLaws.{Frees}
+use Rattle.laws_contents.specs.alto_words.specs.Fid.{disk_descriptor, is_directory, is_fid, is_system, serial_of}
+use Rattle.laws_contents.specs.alto_words.specs.declared.fid.Fid.{Fid}
+use Rattle.laws_contents.specs.disk_records.specs.Commands.{value_writes}
+use Rattle.laws_contents.specs.disk_records.specs.Labels.{page_of}
+use Rattle.laws_contents.specs.disk_records.specs.Packs.{Pack, after, is_free_at, sector_at}
+use Rattle.laws_contents.specs.disk_records.specs.declared.records.Event.{Event}
+use Rattle.laws_contents.specs.pack_model.specs.reading.Bytes.{bytes_of}
+use Rattle.laws_contents.specs.pack_model.specs.operations.Commands.{Claim, claimed}
+use Rattle.laws_contents.specs.pack_model.specs.operations.Committing.{length_of, page_of_byte, units}
+use Rattle.laws_contents.specs.pack_model.specs.reading.Files.{file_bytes, lives, place}
+use Rattle.laws_contents.specs.pack_model.specs.reading.Leaders.{is_readable, leader_of, leader_words}
+use Rattle.laws_contents.specs.pack_model.specs.sessions.Meanings.{Drops, Meets}
+use Rattle.laws_contents.specs.pack_model.specs.reading.Model.{dir_items, read_as}
+use Rattle.laws_contents.specs.pack_model.specs.reading.Namings.{namings_in}
+use Rattle.laws_contents.specs.pack_model.specs.operations.Operations.{Move, drop_writes, release_file_moves, release_file_writes, make_writes}
+use Rattle.laws_contents.specs.pack_model.specs.operations.Operations.Move.{quiet}
+use Rattle.laws_contents.specs.pack_model.specs.operations.PageWords.{freed_value, page_number}
+use Rattle.laws_contents.specs.pack_model.specs.reading.Sights.{sights}
+use Rattle.laws_contents.specs.pack_model.specs.reading.SlotWords.{space_words}
+use Rattle.laws_contents.specs.pack_model.specs.reading.Slots.{Item, all_words, item_words}
+use Rattle.laws_contents.specs.pack_model.specs.reading.Slots.Item.{entry}
+use Rattle.laws_contents.specs.pack_model.specs.operations.Step.{new_leader, step}
+use Rattle.laws_contents.specs.pack_model.specs.operations.Step.Operation.{drop_file, make}
+use Rattle.laws_contents.specs.pack_model.specs.states.Whole.{Tidy, TidyBut, Whole}
+use Rattle.laws_contents.specs.laws_record.specs.DirLaws.{Frees}
 use Rattle.laws_operation.specs.ByteLaws.{Bear}
 use Rattle.laws_operation.specs.Outcomes.{CarriesOut, CutsAreViewed, KeepsDescriptor, StillFits}
 

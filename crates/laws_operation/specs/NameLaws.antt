@@ -1,29 +1,29 @@
 -- The operations on the slots of directories: leave, widen and enter.
 use Rattle.std.specs.Prelude.{List, Some, [], false, get_or, length, min, suc, take, true, ℕ, ◌++◌, ◌+◌, ◌<◌, ◌∷◌, ◌≡◌, ◌≤◌}
-use Rattle.alto_words.specs.Fid.{is_directory, is_system}
-use Rattle.alto_words.specs.Names.{is_same_name}
-use Rattle.alto_words.specs.declared.fid.Fid.{Fid}
-use Rattle.disk_records.specs.Commands.{value_writes}
-use Rattle.disk_records.specs.Labels.{page_of, tag}
-use Rattle.disk_records.specs.Packs.{Pack, sector_at}
-use Rattle.disk_records.specs.Words.{word}
-use Rattle.pack_model.specs.reading.Bytes.{bytes_of}
-use Rattle.pack_model.specs.operations.Commands.{Claim, Claimable, all_claimed}
-use Rattle.pack_model.specs.operations.Committing.{page_of_byte, page_of_word}
-use Rattle.pack_model.specs.operations.Entering.{EntryRoom, entry_value, values_first}
-use Rattle.pack_model.specs.reading.Files.{file_bytes, lives, place}
-use Rattle.pack_model.specs.reading.Model.{dir_items, read_as}
-use Rattle.pack_model.specs.operations.Operations.{enter_writes, grow_writes}
-use Rattle.pack_model.specs.operations.PageWords.{freed_value, later, page_number}
-use Rattle.pack_model.specs.operations.Rooms.{find_room, run}
-use Rattle.pack_model.specs.reading.Sights.{sights}
-use Rattle.pack_model.specs.reading.Slots.{IsSlot, Item, all_words, entry_length, item_words}
-use Rattle.pack_model.specs.reading.Slots.Item.{entry, space}
-use Rattle.pack_model.specs.operations.Step.Operation.{enter, leave, widen}
-use Rattle.pack_model.specs.states.Whole.{IsLaid, Tidy, Whole}
-use Rattle.laws_record.specs.DirLaws.{Frees}
-use Rattle.laws_record.specs.EnterLaws.{MayEnter}
-use Rattle.laws_record.specs.QuietLaws.{counted_of}
+use Rattle.laws_contents.specs.alto_words.specs.Fid.{is_directory, is_system}
+use Rattle.laws_contents.specs.alto_words.specs.Names.{is_same_name}
+use Rattle.laws_contents.specs.alto_words.specs.declared.fid.Fid.{Fid}
+use Rattle.laws_contents.specs.disk_records.specs.Commands.{value_writes}
+use Rattle.laws_contents.specs.disk_records.specs.Labels.{page_of, tag}
+use Rattle.laws_contents.specs.disk_records.specs.Packs.{Pack, sector_at}
+use Rattle.laws_contents.specs.disk_records.specs.Words.{word}
+use Rattle.laws_contents.specs.pack_model.specs.reading.Bytes.{bytes_of}
+use Rattle.laws_contents.specs.pack_model.specs.operations.Commands.{Claim, Claimable, all_claimed}
+use Rattle.laws_contents.specs.pack_model.specs.operations.Committing.{page_of_byte, page_of_word}
+use Rattle.laws_contents.specs.pack_model.specs.operations.Entering.{EntryRoom, entry_value, values_first}
+use Rattle.laws_contents.specs.pack_model.specs.reading.Files.{file_bytes, lives, place}
+use Rattle.laws_contents.specs.pack_model.specs.reading.Model.{dir_items, read_as}
+use Rattle.laws_contents.specs.pack_model.specs.operations.Operations.{enter_writes, grow_writes}
+use Rattle.laws_contents.specs.pack_model.specs.operations.PageWords.{freed_value, later, page_number}
+use Rattle.laws_contents.specs.pack_model.specs.operations.Rooms.{find_room, run}
+use Rattle.laws_contents.specs.pack_model.specs.reading.Sights.{sights}
+use Rattle.laws_contents.specs.pack_model.specs.reading.Slots.{IsSlot, Item, all_words, entry_length, item_words}
+use Rattle.laws_contents.specs.pack_model.specs.reading.Slots.Item.{entry, space}
+use Rattle.laws_contents.specs.pack_model.specs.operations.Step.Operation.{enter, leave, widen}
+use Rattle.laws_contents.specs.pack_model.specs.states.Whole.{IsLaid, Tidy, Whole}
+use Rattle.laws_contents.specs.laws_record.specs.DirLaws.{Frees}
+use Rattle.laws_contents.specs.laws_record.specs.EnterLaws.{MayEnter}
+use Rattle.laws_contents.specs.laws_record.specs.QuietLaws.{counted_of}
 use Rattle.laws_operation.specs.ByteLaws.{together}
 use Rattle.laws_operation.specs.Outcomes.{CarriesOut, IsSeenAs}
 

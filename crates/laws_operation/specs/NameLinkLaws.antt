@@ -1,23 +1,23 @@
 -- Links that were true are true again once the words of a directory are written.
 use Rattle.std.specs.Prelude.{List, Some, [], false, length, ℕ, ◌++◌, ◌+◌, ◌<◌, ◌∷◌, ◌≡◌, ◌≤◌}
-use Rattle.alto_words.specs.declared.fid.Fid.{Fid}
-use Rattle.disk_records.specs.Commands.{value_writes}
-use Rattle.disk_records.specs.Packs.{Pack, sector_at}
-use Rattle.disk_records.specs.Words.{word}
-use Rattle.pack_model.specs.reading.Bytes.{bytes_of, put_at}
-use Rattle.pack_model.specs.operations.Commands.{grown_claims, grown_label, grown_value}
-use Rattle.pack_model.specs.operations.Entering.{entry_value, values_first}
-use Rattle.pack_model.specs.reading.Files.{file_bytes, lives, place}
-use Rattle.pack_model.specs.hints.Links.{dir_words}
-use Rattle.pack_model.specs.reading.Namings.{namings_in}
-use Rattle.pack_model.specs.operations.Operations.{drop_writes, enter_writes, grow_writes}
-use Rattle.pack_model.specs.operations.PageWords.{freed_value, in_page}
-use Rattle.pack_model.specs.reading.Sights.{sights}
-use Rattle.pack_model.specs.reading.SlotWords.{address_word}
-use Rattle.pack_model.specs.reading.Slots.{Item, all_words, item_words, slots}
-use Rattle.pack_model.specs.reading.Slots.Item.{entry, space}
-use Rattle.pack_model.specs.states.Whole.{Tidy, TidyBut, Whole}
-use Rattle.laws_record.specs.DirLaws.{DirWrite, Frees}
+use Rattle.laws_contents.specs.alto_words.specs.declared.fid.Fid.{Fid}
+use Rattle.laws_contents.specs.disk_records.specs.Commands.{value_writes}
+use Rattle.laws_contents.specs.disk_records.specs.Packs.{Pack, sector_at}
+use Rattle.laws_contents.specs.disk_records.specs.Words.{word}
+use Rattle.laws_contents.specs.pack_model.specs.reading.Bytes.{bytes_of, put_at}
+use Rattle.laws_contents.specs.pack_model.specs.operations.Commands.{grown_claims, grown_label, grown_value}
+use Rattle.laws_contents.specs.pack_model.specs.operations.Entering.{entry_value, values_first}
+use Rattle.laws_contents.specs.pack_model.specs.reading.Files.{file_bytes, lives, place}
+use Rattle.laws_contents.specs.pack_model.specs.hints.Links.{dir_words}
+use Rattle.laws_contents.specs.pack_model.specs.reading.Namings.{namings_in}
+use Rattle.laws_contents.specs.pack_model.specs.operations.Operations.{drop_writes, enter_writes, grow_writes}
+use Rattle.laws_contents.specs.pack_model.specs.operations.PageWords.{freed_value, in_page}
+use Rattle.laws_contents.specs.pack_model.specs.reading.Sights.{sights}
+use Rattle.laws_contents.specs.pack_model.specs.reading.SlotWords.{address_word}
+use Rattle.laws_contents.specs.pack_model.specs.reading.Slots.{Item, all_words, item_words, slots}
+use Rattle.laws_contents.specs.pack_model.specs.reading.Slots.Item.{entry, space}
+use Rattle.laws_contents.specs.pack_model.specs.states.Whole.{Tidy, TidyBut, Whole}
+use Rattle.laws_contents.specs.laws_record.specs.DirLaws.{DirWrite, Frees}
 use Rattle.laws_operation.specs.LifeLaws.{MayDrop}
 use Rattle.laws_operation.specs.NameLaws.{MayEnterAt, MayLeave, MayWiden, entry_room}
 use Rattle.laws_operation.specs.LinkLaws.{KeepsLinks}

@@ -1,15 +1,15 @@
 -- No page is carried twice, at any cut of an operation on a whole pack.
 use Rattle.std.specs.Prelude.{Bool, List, Some, ℕ, ◌≡◌}
-use Rattle.alto_words.specs.declared.fid.Fid.{Fid}
-use Rattle.disk_records.specs.Packs.{Pack, carried}
-use Rattle.disk_records.specs.declared.records.Event.{Event}
-use Rattle.disk_records.specs.declared.records.Page.{Page}
-use Rattle.disk_records.specs.declared.shape.Shape.{Shape}
-use Rattle.pack_model.specs.operations.Commands.{Claim, values_writes}
-use Rattle.pack_model.specs.sessions.Descriptor.{close_writes, open_writes}
-use Rattle.pack_model.specs.operations.Operations.{cut_writes, drop_writes, enter_writes, release_file_writes, grow_writes, make_writes}
-use Rattle.pack_model.specs.scavenger.Scavenging.{Throughout}
-use Rattle.pack_model.specs.states.Whole.{Whole}
+use Rattle.laws_contents.specs.alto_words.specs.declared.fid.Fid.{Fid}
+use Rattle.laws_contents.specs.disk_records.specs.Packs.{Pack, carried}
+use Rattle.laws_contents.specs.disk_records.specs.declared.records.Event.{Event}
+use Rattle.laws_contents.specs.disk_records.specs.declared.records.Page.{Page}
+use Rattle.laws_contents.specs.disk_records.specs.declared.shape.Shape.{Shape}
+use Rattle.laws_contents.specs.pack_model.specs.operations.Commands.{Claim, values_writes}
+use Rattle.laws_contents.specs.pack_model.specs.sessions.Descriptor.{close_writes, open_writes}
+use Rattle.laws_contents.specs.pack_model.specs.operations.Operations.{cut_writes, drop_writes, enter_writes, release_file_writes, grow_writes, make_writes}
+use Rattle.laws_contents.specs.pack_model.specs.scavenger.Scavenging.{Throughout}
+use Rattle.laws_contents.specs.pack_model.specs.states.Whole.{Whole}
 use Rattle.laws_operation.specs.ByteLaws.{MayCut, MayGrow}
 use Rattle.laws_operation.specs.LifeLaws.{MayMake}
 use Rattle.laws_operation.specs.NameLaws.{MayWiden}

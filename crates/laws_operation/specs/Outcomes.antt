@@ -1,19 +1,19 @@
 -- What the record writes of a whole operation do to a whole and tidy pack.
 use Rattle.std.specs.Prelude.{◌≡◌, ◌↔◌, List, take, ℕ}
-use Rattle.alto_words.specs.Fid.{disk_descriptor}
-use Rattle.disk_records.specs.Packs.{Pack, after, crash}
-use Rattle.disk_records.specs.declared.records.Event.{Event}
-use Rattle.disk_records.specs.declared.shape.Shape.{Shape}
-use Rattle.pack_model.specs.operations.Committing.{moves_of}
-use Rattle.pack_model.specs.sessions.Descriptor.{DescriptorFits}
-use Rattle.pack_model.specs.reading.Files.{file_bytes, place}
-use Rattle.pack_model.specs.sessions.Meanings.{Meets, Sees, Views, viewing}
-use Rattle.pack_model.specs.reading.Model.{read_as}
-use Rattle.pack_model.specs.sessions.Moves.{steps}
-use Rattle.pack_model.specs.operations.Operations.{Move}
-use Rattle.pack_model.specs.reading.Sights.{sights}
-use Rattle.pack_model.specs.states.Sound.{Clean}
-use Rattle.pack_model.specs.operations.Step.{Operation, step}
+use Rattle.laws_contents.specs.alto_words.specs.Fid.{disk_descriptor}
+use Rattle.laws_contents.specs.disk_records.specs.Packs.{Pack, after, crash}
+use Rattle.laws_contents.specs.disk_records.specs.declared.records.Event.{Event}
+use Rattle.laws_contents.specs.disk_records.specs.declared.shape.Shape.{Shape}
+use Rattle.laws_contents.specs.pack_model.specs.operations.Committing.{moves_of}
+use Rattle.laws_contents.specs.pack_model.specs.sessions.Descriptor.{DescriptorFits}
+use Rattle.laws_contents.specs.pack_model.specs.reading.Files.{file_bytes, place}
+use Rattle.laws_contents.specs.pack_model.specs.sessions.Meanings.{Meets, Sees, Views, viewing}
+use Rattle.laws_contents.specs.pack_model.specs.reading.Model.{read_as}
+use Rattle.laws_contents.specs.pack_model.specs.sessions.Moves.{steps}
+use Rattle.laws_contents.specs.pack_model.specs.operations.Operations.{Move}
+use Rattle.laws_contents.specs.pack_model.specs.reading.Sights.{sights}
+use Rattle.laws_contents.specs.pack_model.specs.states.Sound.{Clean}
+use Rattle.laws_contents.specs.pack_model.specs.operations.Step.{Operation, step}
 
 -- ---- DiskDescriptor stays
 -- Its pages are borne by the same sectors, its bytes are the same, and so are the last serial and the mark.

@@ -2,19 +2,19 @@
 use Rattle.std.specs.FinMap.{get}
 use Rattle.std.specs.Option.{is_some}
 use Rattle.std.specs.Prelude.{List, None, Some, false, length, suc, ℕ, ◌<◌, ◌≡◌, ◌≢◌}
-use Rattle.alto_words.specs.Fid.{disk_descriptor, is_fid, serial_of}
-use Rattle.alto_words.specs.declared.fid.Fid.{Fid}
-use Rattle.disk_records.specs.Addresses.{pages_of}
-use Rattle.disk_records.specs.Packs.{Pack, after, carried}
-use Rattle.disk_records.specs.declared.records.Page.{Page}
-use Rattle.pack_model.specs.operations.Commands.{Claim, all_claimed, sectors_of, values_writes}
-use Rattle.pack_model.specs.operations.Committing.{page_of_byte}
-use Rattle.pack_model.specs.operations.Operations.{grow_writes, make_writes}
-use Rattle.pack_model.specs.sessions.Descriptor.{serial_writes}
-use Rattle.pack_model.specs.reading.Files.{file_bytes, lives, place}
-use Rattle.pack_model.specs.reading.Model.{read_as}
-use Rattle.pack_model.specs.reading.Sights.{sights}
-use Rattle.pack_model.specs.states.Whole.{Tidy, Whole}
+use Rattle.laws_contents.specs.alto_words.specs.Fid.{disk_descriptor, is_fid, serial_of}
+use Rattle.laws_contents.specs.alto_words.specs.declared.fid.Fid.{Fid}
+use Rattle.laws_contents.specs.disk_records.specs.Addresses.{pages_of}
+use Rattle.laws_contents.specs.disk_records.specs.Packs.{Pack, after, carried}
+use Rattle.laws_contents.specs.disk_records.specs.declared.records.Page.{Page}
+use Rattle.laws_contents.specs.pack_model.specs.operations.Commands.{Claim, all_claimed, sectors_of, values_writes}
+use Rattle.laws_contents.specs.pack_model.specs.operations.Committing.{page_of_byte}
+use Rattle.laws_contents.specs.pack_model.specs.operations.Operations.{grow_writes, make_writes}
+use Rattle.laws_contents.specs.pack_model.specs.sessions.Descriptor.{serial_writes}
+use Rattle.laws_contents.specs.pack_model.specs.reading.Files.{file_bytes, lives, place}
+use Rattle.laws_contents.specs.pack_model.specs.reading.Model.{read_as}
+use Rattle.laws_contents.specs.pack_model.specs.reading.Sights.{sights}
+use Rattle.laws_contents.specs.pack_model.specs.states.Whole.{Tidy, Whole}
 use Rattle.laws_operation.specs.ByteLaws.{Bear, MayGrow}
 use Rattle.laws_operation.specs.LifeLaws.{MayMake}
 use Rattle.laws_operation.specs.NameLaws.{MayWiden}

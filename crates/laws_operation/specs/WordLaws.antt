@@ -1,11 +1,11 @@
 -- The words that are written, as the laws of operations want them.
 use Rattle.std.specs.Prelude.{All, List, Some, [], length, ℕ, ◌+◌, ◌<◌, ◌≡◌, ◌≤◌}
-use Rattle.disk_records.specs.Labels.{page_of, tag}
-use Rattle.disk_records.specs.Packs.{Pack, sector_at}
-use Rattle.disk_records.specs.declared.records.Page.{Page}
-use Rattle.pack_model.specs.reading.Bytes.{put_at}
-use Rattle.pack_model.specs.operations.PageWords.{put_value, relabelled}
-use Rattle.laws_record.specs.QuietLaws.{counted_of}
+use Rattle.laws_contents.specs.disk_records.specs.Labels.{page_of, tag}
+use Rattle.laws_contents.specs.disk_records.specs.Packs.{Pack, sector_at}
+use Rattle.laws_contents.specs.disk_records.specs.declared.records.Page.{Page}
+use Rattle.laws_contents.specs.pack_model.specs.reading.Bytes.{put_at}
+use Rattle.laws_contents.specs.pack_model.specs.operations.PageWords.{put_value, relabelled}
+use Rattle.laws_contents.specs.laws_record.specs.QuietLaws.{counted_of}
 
 -- another count and another next link: the label names the page that it named
 abbrev pub LabelWithAnotherCount : Type 0

@@ -2,10 +2,10 @@
 use Rattle.std.proofs.Common.{◌%◌, ◌+◌, ◌-◌, ◌<◌, ◌==◌, ◌∙◌, ◌∷◌, ◌≡◌, ◌≢◌, ◌≤◌, ◌⊎◌, Bool, List, None, Some, [], ap, arith, cond, drop, eq-eqb, eqb-true, false, get_or, get_or-drop, inl, inr, length, length-drop, length-take, min, nat_eq, refl, set, slice_index_or, subst, suc, sym, take, true, zero, ℕ}
 use Rattle.std.proofs.lemmas.Grind.{same_number_lists}
 use Rattle.std.proofs.lemmas.List.{drop-drop, get_or-set_other, get_or-set_same, get_or-take, length-set, length-take-le}
-use Rattle.disk_records.specs.Words.{word}
-use Rattle.pack_model.specs.reading.SlotWords.{SlotAt, slots_at}
-use Rattle.pack_model.specs.reading.Slots.{Item, entry_length, is_entry, item_words, slot_at, slot_fid, slot_name, slot_of, slots}
-use Rattle.pack_model.specs.reading.Slots.Item.{entry, space}
+use Rattle.pack_laws.specs.disk_records.specs.Words.{word}
+use Rattle.pack_laws.specs.pack_model.specs.reading.SlotWords.{SlotAt, slots_at}
+use Rattle.pack_laws.specs.pack_model.specs.reading.Slots.{Item, entry_length, is_entry, item_words, slot_at, slot_fid, slot_name, slot_of, slots}
+use Rattle.pack_laws.specs.pack_model.specs.reading.Slots.Item.{entry, space}
 use Rattle.laws_record.proofs.Heads.{head_of, head_reads, slot_size, slots_cons, slots_some}
 
 -- ---- words that differ at most in some places

@@ -1,15 +1,15 @@
 -- Where each file lies as a whole one does, all sectors say the sentences.
 use Rattle.std.proofs.Common.{List, None, Option, Some, [], ap, arith, eq-eqb, get_or, inl, inr, le-leb, le-ltb, length, not, refl, suc, sym, true, zero, ℕ, ◌&&◌, ◌+◌, ◌/◌, ◌<◌, ◌∙◌, ◌≡◌, ◌≤◌, ◌⊎◌}
 use Rattle.std.specs.Option.{is_some}
-use Rattle.alto_words.specs.declared.fid.Fid.{Fid}
-use Rattle.disk_records.specs.Packs.{Pack}
-use Rattle.pack_model.specs.reading.Files.{carries_page, file_bytes, leader, lives, most_pages, page, place}
-use Rattle.pack_model.specs.states.InUse.{counts, in_use, is_good, is_place}
-use Rattle.pack_model.specs.reading.Leaders.{Leader}
-use Rattle.pack_model.specs.states.Sentences.{HasLastPage, HasReadableName, IsWholeBySentences}
-use Rattle.pack_model.specs.reading.Sights.{Sight, sights}
-use Rattle.pack_model.specs.reading.Sights.Sight.{free, hidden, holds, leads, stray}
-use Rattle.pack_model.specs.states.Whole.{HasPages, FileWhole, Headless, IsLaid, Leads, PageAt, Whole, absent, present}
+use Rattle.pack_laws.specs.alto_words.specs.declared.fid.Fid.{Fid}
+use Rattle.pack_laws.specs.disk_records.specs.Packs.{Pack}
+use Rattle.pack_laws.specs.pack_model.specs.reading.Files.{carries_page, file_bytes, leader, lives, most_pages, page, place}
+use Rattle.pack_laws.specs.pack_model.specs.states.InUse.{counts, in_use, is_good, is_place}
+use Rattle.pack_laws.specs.pack_model.specs.reading.Leaders.{Leader}
+use Rattle.pack_laws.specs.pack_model.specs.states.Sentences.{HasLastPage, HasReadableName, IsWholeBySentences}
+use Rattle.pack_laws.specs.pack_model.specs.reading.Sights.{Sight, sights}
+use Rattle.pack_laws.specs.pack_model.specs.reading.Sights.Sight.{free, hidden, holds, leads, stray}
+use Rattle.pack_laws.specs.pack_model.specs.states.Whole.{HasPages, FileWhole, Headless, IsLaid, Leads, PageAt, Whole, absent, present}
 use Rattle.pack_laws.proofs.Joining.{Reaches, is_full, length-joined}
 use Rattle.pack_laws.proofs.Keys.{is_fid-itself}
 use Rattle.pack_laws.proofs.Placing.{carries-holds, leader_of_place, page_of_place, place_of_leader, short_pages, shows_carried, shows_led}

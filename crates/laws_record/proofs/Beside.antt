@@ -1,12 +1,12 @@
 -- An entry that clashes with none that is kept: the scan keeps every other entry as before.
 use Rattle.std.proofs.Common.{◌&&◌, ◌++◌, ◌∙◌, ◌∷◌, ◌≡◌, Bool, List, [], ap, cond, false, not, refl, subst, sym, true}
 use Rattle.std.specs.List.{list_any}
-use Rattle.alto_words.specs.declared.fid.Fid.{Fid}
-use Rattle.pack_model.specs.reading.Bodies.{Body, File}
-use Rattle.pack_model.specs.reading.Bodies.Body.{data_of, items_of}
-use Rattle.pack_model.specs.reading.Namings.{Naming, body_kept, body_namings, clashes, files_kept, is_kept, items_kept, kept_after, kept_after_body, may_stand, namings, namings_in}
-use Rattle.pack_model.specs.reading.Slots.{Item, item_words}
-use Rattle.pack_model.specs.reading.Slots.Item.{entry, space}
+use Rattle.pack_laws.specs.alto_words.specs.declared.fid.Fid.{Fid}
+use Rattle.pack_laws.specs.pack_model.specs.reading.Bodies.{Body, File}
+use Rattle.pack_laws.specs.pack_model.specs.reading.Bodies.Body.{data_of, items_of}
+use Rattle.pack_laws.specs.pack_model.specs.reading.Namings.{Naming, body_kept, body_namings, clashes, files_kept, is_kept, items_kept, kept_after, kept_after_body, may_stand, namings, namings_in}
+use Rattle.pack_laws.specs.pack_model.specs.reading.Slots.{Item, item_words}
+use Rattle.pack_laws.specs.pack_model.specs.reading.Slots.Item.{entry, space}
 use Rattle.laws_record.proofs.Tidying.{NoneClashes, any_less, any_more, or_false, or_false_left, or_false_right}
 use Rattle.laws_record.proofs.Unkept.{after_files}
 

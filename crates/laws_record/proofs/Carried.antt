@@ -2,16 +2,16 @@
 use Rattle.std.proofs.Common.{◌<◌, ◌∙◌, ◌∷◌, ◌≡◌, List, None, Option, Some, [], ap, arith, eqb-true, get_or, inl, inr, length, refl, suc, sym, true, zero, ℕ}
 use Rattle.std.proofs.lemmas.Bool.{false_from_ne_true}
 use Rattle.std.proofs.lemmas.List.{get_or_default}
-use Rattle.alto_words.specs.declared.fid.Fid.{Fid}
-use Rattle.disk_records.specs.Packs.{Pack, after, carried}
-use Rattle.disk_records.specs.declared.records.Event.TheVariants.{Wrote}
-use Rattle.disk_records.specs.declared.records.Page.{Page}
-use Rattle.pack_model.specs.operations.Commands.{values_writes}
-use Rattle.pack_model.specs.reading.Files.{carries_page, place}
-use Rattle.pack_model.specs.states.InUse.{is_place}
-use Rattle.pack_model.specs.reading.Sights.{Sight, sights}
-use Rattle.pack_model.specs.reading.Sights.Sight.{hidden, holds}
-use Rattle.pack_model.specs.states.Whole.{HasPages, FileWhole, IsSeat, PageAt, Whole, absent, present}
+use Rattle.pack_laws.specs.alto_words.specs.declared.fid.Fid.{Fid}
+use Rattle.pack_laws.specs.disk_records.specs.Packs.{Pack, after, carried}
+use Rattle.pack_laws.specs.disk_records.specs.declared.records.Event.TheVariants.{Wrote}
+use Rattle.pack_laws.specs.disk_records.specs.declared.records.Page.{Page}
+use Rattle.pack_laws.specs.pack_model.specs.operations.Commands.{values_writes}
+use Rattle.pack_laws.specs.pack_model.specs.reading.Files.{carries_page, place}
+use Rattle.pack_laws.specs.pack_model.specs.states.InUse.{is_place}
+use Rattle.pack_laws.specs.pack_model.specs.reading.Sights.{Sight, sights}
+use Rattle.pack_laws.specs.pack_model.specs.reading.Sights.Sight.{hidden, holds}
+use Rattle.pack_laws.specs.pack_model.specs.states.Whole.{HasPages, FileWhole, IsSeat, PageAt, Whole, absent, present}
 use Rattle.pack_laws.proofs.Carrying.{sight_carries}
 use Rattle.pack_laws.proofs.Guarding.{carried_parts, usable_within, value_page}
 use Rattle.pack_laws.proofs.Placing.{place_from, shows_carried, shows_led}

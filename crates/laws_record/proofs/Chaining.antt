@@ -1,11 +1,11 @@
 -- Runs of record writes, one after another.
 use Rattle.std.proofs.Common.{◌++◌, ◌∙◌, ◌∷◌, List, [], ap, arith, subst, suc, sym, zero, ℕ}
-use Rattle.disk_records.proofs.Growing.{after-append}
-use Rattle.disk_records.specs.Events.{IsFirstOf}
-use Rattle.disk_records.specs.Packs.{Pack, after, crash}
-use Rattle.disk_records.specs.declared.records.Event.{Event}
-use Rattle.pack_model.specs.sessions.Moves.{Meaning, Obeys, steps}
-use Rattle.pack_model.specs.scavenger.Scavenging.{Keeps, Mends, Throughout}
+use Rattle.pack_laws.specs.disk_records.proofs.Growing.{after-append}
+use Rattle.pack_laws.specs.disk_records.specs.Events.{IsFirstOf}
+use Rattle.pack_laws.specs.disk_records.specs.Packs.{Pack, after, crash}
+use Rattle.pack_laws.specs.disk_records.specs.declared.records.Event.{Event}
+use Rattle.pack_laws.specs.pack_model.specs.sessions.Moves.{Meaning, Obeys, steps}
+use Rattle.pack_laws.specs.pack_model.specs.scavenger.Scavenging.{Keeps, Mends, Throughout}
 use Rattle.pack_laws.proofs.Moving.{obeys_then, steps-append}
 use Rattle.laws_record.specs.ChainLaws.{MakesRun, KeptTogether, RunsChain, ScavengesJoin, ShowsSame}
 

@@ -1,16 +1,16 @@
 -- Pages that are told twice, and a last page that is missing.
 use Rattle.std.proofs.Common.{◌&&◌, ◌<◌, ◌==◌, ◌∙◌, ◌≡◌, ◌≢◌, ◌⊎◌, Bool, List, None, Some, ap, arith, cond, false, get_or, inl, inr, length, refl, set, subst, suc, sym, take, true, zero, ℕ}
-use Rattle.alto_words.specs.Fid.{is_fid}
-use Rattle.alto_words.specs.declared.fid.Fid.{Fid}
-use Rattle.disk_records.specs.Labels.{tag}
-use Rattle.disk_records.specs.Packs.{Pack, carried, sector_at}
-use Rattle.disk_records.specs.declared.records.Page.{Page}
-use Rattle.pack_model.specs.reading.Bytes.{bytes_of}
-use Rattle.pack_model.specs.reading.Files.{carries_page, leader, leader_at, page, page_at, place}
-use Rattle.pack_model.specs.reading.Leaders.{Leader, leader_of}
-use Rattle.pack_model.specs.reading.Model.{good_one}
-use Rattle.pack_model.specs.reading.Sights.{Sight, page_sight, sights}
-use Rattle.pack_model.specs.reading.Sights.Sight.{free, hidden, holds, leads}
+use Rattle.pack_laws.specs.alto_words.specs.Fid.{is_fid}
+use Rattle.pack_laws.specs.alto_words.specs.declared.fid.Fid.{Fid}
+use Rattle.pack_laws.specs.disk_records.specs.Labels.{tag}
+use Rattle.pack_laws.specs.disk_records.specs.Packs.{Pack, carried, sector_at}
+use Rattle.pack_laws.specs.disk_records.specs.declared.records.Page.{Page}
+use Rattle.pack_laws.specs.pack_model.specs.reading.Bytes.{bytes_of}
+use Rattle.pack_laws.specs.pack_model.specs.reading.Files.{carries_page, leader, leader_at, page, page_at, place}
+use Rattle.pack_laws.specs.pack_model.specs.reading.Leaders.{Leader, leader_of}
+use Rattle.pack_laws.specs.pack_model.specs.reading.Model.{good_one}
+use Rattle.pack_laws.specs.pack_model.specs.reading.Sights.{Sight, page_sight, sights}
+use Rattle.pack_laws.specs.pack_model.specs.reading.Sights.Sight.{free, hidden, holds, leads}
 use Rattle.pack_laws.proofs.Carrying.{carried_shown}
 use Rattle.pack_laws.proofs.Firsts.{first_again, first_copy, first_moves, first_same}
 use Rattle.pack_laws.proofs.Guarding.{carried_parts, free_parts}

@@ -1,13 +1,13 @@
 -- What DiskDescriptor's pages hold isn't shown.
 use Rattle.std.proofs.Common.{◌∙◌, ◌≡◌, List, None, ap, false, get_or, set, sym, ℕ}
-use Rattle.alto_words.specs.Fid.{disk_descriptor, is_fid}
-use Rattle.alto_words.specs.declared.fid.Fid.{Fid}
-use Rattle.pack_model.specs.reading.Bodies.{described}
-use Rattle.pack_model.specs.reading.Files.{file_bytes, leader, leader_at, page_at}
-use Rattle.pack_model.specs.reading.Model.{Model}
-use Rattle.pack_model.specs.reading.Sights.{Sight}
-use Rattle.pack_model.specs.reading.Sights.Sight.{hidden}
-use Rattle.pack_model.specs.showing.View.{view}
+use Rattle.pack_laws.specs.alto_words.specs.Fid.{disk_descriptor, is_fid}
+use Rattle.pack_laws.specs.alto_words.specs.declared.fid.Fid.{Fid}
+use Rattle.pack_laws.specs.pack_model.specs.reading.Bodies.{described}
+use Rattle.pack_laws.specs.pack_model.specs.reading.Files.{file_bytes, leader, leader_at, page_at}
+use Rattle.pack_laws.specs.pack_model.specs.reading.Model.{Model}
+use Rattle.pack_laws.specs.pack_model.specs.reading.Sights.{Sight}
+use Rattle.pack_laws.specs.pack_model.specs.reading.Sights.Sight.{hidden}
+use Rattle.pack_laws.specs.pack_model.specs.showing.View.{view}
 use Rattle.pack_laws.proofs.Firsts.{first_same}
 use Rattle.laws_record.proofs.Framing.{bytes_same}
 use Rattle.laws_record.proofs.Keeping.{described_kept}

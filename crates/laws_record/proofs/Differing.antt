@@ -3,9 +3,9 @@ use Rattle.std.proofs.Common.{◌*◌, ◌++◌, ◌+◌, ◌-◌, ◌/◌, ◌<
 use Rattle.std.proofs.lemmas.Bool.{cases_lt}
 use Rattle.std.proofs.lemmas.Grind.{same_number_lists}
 use Rattle.std.proofs.lemmas.List.{get_or-append_right, get_or_append_left}
-use Rattle.disk_records.specs.Words.{word}
-use Rattle.pack_model.specs.reading.Bytes.{words_of}
-use Rattle.pack_model.specs.reading.Files.{joined}
+use Rattle.pack_laws.specs.disk_records.specs.Words.{word}
+use Rattle.pack_laws.specs.pack_model.specs.reading.Bytes.{words_of}
+use Rattle.pack_laws.specs.pack_model.specs.reading.Files.{joined}
 use Rattle.pack_laws.proofs.Bytes.{length-words_of}
 use Rattle.pack_laws.proofs.Joining.{AreShort, continue, joined-suc, joined-zero}
 

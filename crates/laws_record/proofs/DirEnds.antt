@@ -1,19 +1,19 @@
 -- A directory ends at its slots, and pages that aren't in use are made free.
 use Rattle.std.proofs.Common.{◌*◌, ◌+◌, ◌<◌, ◌∙◌, ◌≡◌, ◌≤◌, List, None, Option, Some, ap, arith, false, inl, inr, length, length-take, min, refl, set, suc, sym, take, take-take, true, ℕ}
 use Rattle.std.proofs.lemmas.Bool.{cases_lt}
-use Rattle.alto_words.specs.Fid.{disk_descriptor, is_directory, is_fid}
-use Rattle.alto_words.specs.declared.fid.Fid.{Fid}
-use Rattle.disk_records.specs.Labels.{tag}
-use Rattle.disk_records.specs.Packs.{Pack, carried, sector_at}
-use Rattle.disk_records.specs.declared.records.Page.{Page}
-use Rattle.pack_model.specs.reading.Bytes.{bytes_of, words_of}
-use Rattle.pack_model.specs.reading.Files.{file_bytes, leader, most_pages, page}
-use Rattle.pack_model.specs.reading.Leaders.{Leader}
-use Rattle.pack_model.specs.hints.Links.{dir_words}
-use Rattle.pack_model.specs.reading.Model.{good_one, good_sectors}
-use Rattle.pack_model.specs.reading.Sights.{Sight, sights}
-use Rattle.pack_model.specs.reading.Sights.Sight.{hidden, holds}
-use Rattle.pack_model.specs.reading.Slots.{all_words, slots}
+use Rattle.pack_laws.specs.alto_words.specs.Fid.{disk_descriptor, is_directory, is_fid}
+use Rattle.pack_laws.specs.alto_words.specs.declared.fid.Fid.{Fid}
+use Rattle.pack_laws.specs.disk_records.specs.Labels.{tag}
+use Rattle.pack_laws.specs.disk_records.specs.Packs.{Pack, carried, sector_at}
+use Rattle.pack_laws.specs.disk_records.specs.declared.records.Page.{Page}
+use Rattle.pack_laws.specs.pack_model.specs.reading.Bytes.{bytes_of, words_of}
+use Rattle.pack_laws.specs.pack_model.specs.reading.Files.{file_bytes, leader, most_pages, page}
+use Rattle.pack_laws.specs.pack_model.specs.reading.Leaders.{Leader}
+use Rattle.pack_laws.specs.pack_model.specs.hints.Links.{dir_words}
+use Rattle.pack_laws.specs.pack_model.specs.reading.Model.{good_one, good_sectors}
+use Rattle.pack_laws.specs.pack_model.specs.reading.Sights.{Sight, sights}
+use Rattle.pack_laws.specs.pack_model.specs.reading.Sights.Sight.{hidden, holds}
+use Rattle.pack_laws.specs.pack_model.specs.reading.Slots.{all_words, slots}
 use Rattle.pack_laws.proofs.Bytes.{length-words_of}
 use Rattle.pack_laws.proofs.Guarding.{carried_parts}
 use Rattle.pack_laws.proofs.Joining.{Reaches, most_is}

@@ -3,20 +3,20 @@ use Rattle.std.proofs.Common.{Bool, List, Some, [], ap, arith, cond, false, get_
 use Rattle.std.proofs.lemmas.Bool.{cases_lt}
 use Rattle.std.specs.FinMap.{find, get, get-insert, insert}
 use Rattle.std.specs.Option.{option_map}
-use Rattle.alto_words.specs.Fid.{fid_cmp, is_directory, is_fid, is_system}
-use Rattle.alto_words.specs.declared.fid.Fid.{Fid}
-use Rattle.disk_records.specs.Packs.{Pack}
-use Rattle.pack_model.specs.reading.Bodies.{Files, described, items_in}
-use Rattle.pack_model.specs.reading.Bytes.{put_at}
-use Rattle.pack_model.specs.reading.Files.{leader, lives}
-use Rattle.pack_model.specs.reading.Leaders.{Leader}
-use Rattle.pack_model.specs.hints.Links.{dir_words}
-use Rattle.pack_model.specs.reading.Model.{dir_items, read_as, read_sights}
-use Rattle.pack_model.specs.reading.Namings.{Naming, is_kept, item_kept, items_kept, kept_after, kept_by, namings_in, tidied}
-use Rattle.pack_model.specs.reading.Sights.{sights}
-use Rattle.pack_model.specs.reading.Slots.{Item, all_words, item_words, slots}
-use Rattle.pack_model.specs.reading.Slots.Item.{entry, space}
-use Rattle.pack_model.specs.showing.View.{homes, seen_of, view}
+use Rattle.pack_laws.specs.alto_words.specs.Fid.{fid_cmp, is_directory, is_fid, is_system}
+use Rattle.pack_laws.specs.alto_words.specs.declared.fid.Fid.{Fid}
+use Rattle.pack_laws.specs.disk_records.specs.Packs.{Pack}
+use Rattle.pack_laws.specs.pack_model.specs.reading.Bodies.{Files, described, items_in}
+use Rattle.pack_laws.specs.pack_model.specs.reading.Bytes.{put_at}
+use Rattle.pack_laws.specs.pack_model.specs.reading.Files.{leader, lives}
+use Rattle.pack_laws.specs.pack_model.specs.reading.Leaders.{Leader}
+use Rattle.pack_laws.specs.pack_model.specs.hints.Links.{dir_words}
+use Rattle.pack_laws.specs.pack_model.specs.reading.Model.{dir_items, read_as, read_sights}
+use Rattle.pack_laws.specs.pack_model.specs.reading.Namings.{Naming, is_kept, item_kept, items_kept, kept_after, kept_by, namings_in, tidied}
+use Rattle.pack_laws.specs.pack_model.specs.reading.Sights.{sights}
+use Rattle.pack_laws.specs.pack_model.specs.reading.Slots.{Item, all_words, item_words, slots}
+use Rattle.pack_laws.specs.pack_model.specs.reading.Slots.Item.{entry, space}
+use Rattle.pack_laws.specs.pack_model.specs.showing.View.{homes, seen_of, view}
 use Rattle.pack_laws.proofs.Bytes.{length-put_at}
 use Rattle.pack_laws.proofs.Keys.{fid_total, same_fid}
 use Rattle.laws_record.proofs.Addressing.{IsLoose, LooseIn, loose_among, slots_kept}

@@ -2,19 +2,19 @@
 use Rattle.std.proofs.Common.{◌∙◌, ◌≡◌, List, None, Option, Some, ap, cond, false, not, refl, sym, true, ℕ}
 use Rattle.std.specs.FinMap.{FinMap, get, get-insert, insert, retain_keys, same_map}
 use Rattle.std.specs.Option.{is_some}
-use Rattle.alto_words.specs.Fid.{disk_descriptor, fid_cmp, is_directory, is_fid}
-use Rattle.alto_words.specs.declared.fid.Fid.{Fid}
-use Rattle.disk_records.specs.Packs.{Pack}
-use Rattle.pack_model.specs.reading.Bodies.{Files, described, found, is_described}
-use Rattle.pack_model.specs.reading.Bodies.Body.{data_of, items_of}
-use Rattle.pack_model.specs.reading.Bytes.{words_of}
-use Rattle.pack_model.specs.reading.Files.{file_bytes, leader, lives}
-use Rattle.pack_model.specs.reading.Leaders.{Leader}
-use Rattle.pack_model.specs.hints.Links.{dir_words}
-use Rattle.pack_model.specs.reading.Model.{last_serial, read_as, read_sights}
-use Rattle.pack_model.specs.reading.Namings.{tidied}
-use Rattle.pack_model.specs.reading.Sights.{Sight, sights}
-use Rattle.pack_model.specs.reading.Slots.{slots}
+use Rattle.pack_laws.specs.alto_words.specs.Fid.{disk_descriptor, fid_cmp, is_directory, is_fid}
+use Rattle.pack_laws.specs.alto_words.specs.declared.fid.Fid.{Fid}
+use Rattle.pack_laws.specs.disk_records.specs.Packs.{Pack}
+use Rattle.pack_laws.specs.pack_model.specs.reading.Bodies.{Files, described, found, is_described}
+use Rattle.pack_laws.specs.pack_model.specs.reading.Bodies.Body.{data_of, items_of}
+use Rattle.pack_laws.specs.pack_model.specs.reading.Bytes.{words_of}
+use Rattle.pack_laws.specs.pack_model.specs.reading.Files.{file_bytes, leader, lives}
+use Rattle.pack_laws.specs.pack_model.specs.reading.Leaders.{Leader}
+use Rattle.pack_laws.specs.pack_model.specs.hints.Links.{dir_words}
+use Rattle.pack_laws.specs.pack_model.specs.reading.Model.{last_serial, read_as, read_sights}
+use Rattle.pack_laws.specs.pack_model.specs.reading.Namings.{tidied}
+use Rattle.pack_laws.specs.pack_model.specs.reading.Sights.{Sight, sights}
+use Rattle.pack_laws.specs.pack_model.specs.reading.Slots.{slots}
 use Rattle.pack_laws.proofs.Keys.{fid_same, fid_total, is_fid-sym, same_fid}
 use Rattle.laws_record.proofs.DirWords.{DirChange}
 use Rattle.laws_record.proofs.Entered.{directory}

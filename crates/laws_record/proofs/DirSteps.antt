@@ -3,23 +3,23 @@ use Rattle.std.proofs.Common.{◌&&◌, ◌++◌, ◌/◌, ◌∙◌, ◌∷◌,
 use Rattle.std.proofs.lemmas.Bool.{not-true}
 use Rattle.std.specs.FinMap.{entries, find, from_entries, get, get-from_entries, get-insert, insert, same_map}
 use Rattle.std.specs.List.{list_any}
-use Rattle.alto_words.specs.Fid.{fid_cmp, is_directory, is_fid}
-use Rattle.alto_words.specs.Names.{fold_case, is_same_name}
-use Rattle.alto_words.specs.declared.fid.Fid.{Fid}
-use Rattle.disk_records.specs.Labels.{page_of, tag}
-use Rattle.disk_records.specs.Packs.{Pack, sector_at}
-use Rattle.pack_model.specs.reading.Bodies.{File, Files, described}
-use Rattle.pack_model.specs.reading.Bytes.{bytes_of, put_at}
-use Rattle.pack_model.specs.reading.Files.{file_bytes, leader, lives, place}
-use Rattle.pack_model.specs.reading.Leaders.{Leader}
-use Rattle.pack_model.specs.hints.Links.{dir_words}
-use Rattle.pack_model.specs.reading.Model.{read_as, read_sights}
-use Rattle.pack_model.specs.reading.Namings.{AllKept, IsTidy, Naming, clashes, files_kept, is_kept, items_kept, kept_after, may_stand, namings, namings_in, tidied}
-use Rattle.pack_model.specs.reading.Sights.{sights}
-use Rattle.pack_model.specs.reading.Slots.{Item, SlotsReachEnd, all_words, item_words, slots}
-use Rattle.pack_model.specs.reading.Slots.Item.{entry, space}
-use Rattle.pack_model.specs.operations.Step.{items_left, step}
-use Rattle.pack_model.specs.operations.Step.Operation.{widen}
+use Rattle.pack_laws.specs.alto_words.specs.Fid.{fid_cmp, is_directory, is_fid}
+use Rattle.pack_laws.specs.alto_words.specs.Names.{fold_case, is_same_name}
+use Rattle.pack_laws.specs.alto_words.specs.declared.fid.Fid.{Fid}
+use Rattle.pack_laws.specs.disk_records.specs.Labels.{page_of, tag}
+use Rattle.pack_laws.specs.disk_records.specs.Packs.{Pack, sector_at}
+use Rattle.pack_laws.specs.pack_model.specs.reading.Bodies.{File, Files, described}
+use Rattle.pack_laws.specs.pack_model.specs.reading.Bytes.{bytes_of, put_at}
+use Rattle.pack_laws.specs.pack_model.specs.reading.Files.{file_bytes, leader, lives, place}
+use Rattle.pack_laws.specs.pack_model.specs.reading.Leaders.{Leader}
+use Rattle.pack_laws.specs.pack_model.specs.hints.Links.{dir_words}
+use Rattle.pack_laws.specs.pack_model.specs.reading.Model.{read_as, read_sights}
+use Rattle.pack_laws.specs.pack_model.specs.reading.Namings.{AllKept, IsTidy, Naming, clashes, files_kept, is_kept, items_kept, kept_after, may_stand, namings, namings_in, tidied}
+use Rattle.pack_laws.specs.pack_model.specs.reading.Sights.{sights}
+use Rattle.pack_laws.specs.pack_model.specs.reading.Slots.{Item, SlotsReachEnd, all_words, item_words, slots}
+use Rattle.pack_laws.specs.pack_model.specs.reading.Slots.Item.{entry, space}
+use Rattle.pack_laws.specs.pack_model.specs.operations.Step.{items_left, step}
+use Rattle.pack_laws.specs.pack_model.specs.operations.Step.Operation.{widen}
 use Rattle.laws_record.proofs.Around.{around}
 use Rattle.laws_record.proofs.Beside.{any_second}
 use Rattle.laws_record.proofs.DirReads.{dir_reads, dir_was, has_leader, insert_same}

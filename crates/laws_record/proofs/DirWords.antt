@@ -1,16 +1,16 @@
 -- Words in place within the value of one page of a directory are words in place within the directory.
 use Rattle.std.proofs.Common.{◌%◌, ◌*◌, ◌++◌, ◌+◌, ◌/◌, ◌<◌, ◌∙◌, ◌∷◌, ◌≡◌, ◌≤◌, List, [], ap, arith, drop, false, length, refl, set, subst, suc, sym, take, zero, ℕ}
-use Rattle.alto_words.specs.Fid.{is_fid}
-use Rattle.alto_words.specs.declared.fid.Fid.{Fid}
-use Rattle.disk_records.specs.Labels.{tag}
-use Rattle.disk_records.specs.Packs.{Pack, sector_at}
-use Rattle.pack_model.specs.reading.Bytes.{bytes_of, put_at, words_of}
-use Rattle.pack_model.specs.reading.Files.{file_bytes, leader}
-use Rattle.pack_model.specs.hints.Links.{dir_words}
-use Rattle.pack_model.specs.reading.Model.{good_one, good_sectors}
-use Rattle.pack_model.specs.operations.PageWords.{in_page}
-use Rattle.pack_model.specs.reading.Sights.{sights}
-use Rattle.pack_model.specs.reading.Sights.Sight.{hidden, holds}
+use Rattle.pack_laws.specs.alto_words.specs.Fid.{is_fid}
+use Rattle.pack_laws.specs.alto_words.specs.declared.fid.Fid.{Fid}
+use Rattle.pack_laws.specs.disk_records.specs.Labels.{tag}
+use Rattle.pack_laws.specs.disk_records.specs.Packs.{Pack, sector_at}
+use Rattle.pack_laws.specs.pack_model.specs.reading.Bytes.{bytes_of, put_at, words_of}
+use Rattle.pack_laws.specs.pack_model.specs.reading.Files.{file_bytes, leader}
+use Rattle.pack_laws.specs.pack_model.specs.hints.Links.{dir_words}
+use Rattle.pack_laws.specs.pack_model.specs.reading.Model.{good_one, good_sectors}
+use Rattle.pack_laws.specs.pack_model.specs.operations.PageWords.{in_page}
+use Rattle.pack_laws.specs.pack_model.specs.reading.Sights.{sights}
+use Rattle.pack_laws.specs.pack_model.specs.reading.Sights.Sight.{hidden, holds}
 use Rattle.pack_laws.proofs.Bytes.{length-bytes_of, length-put_at, length-words_of, put_at-here, put_at-later, take-put_at}
 use Rattle.laws_record.proofs.Framing.{good_set}
 use Rattle.pack_laws.proofs.Paging.{bytes_after, other_files, page_fits, same_leaders}

@@ -2,15 +2,15 @@
 use Rattle.std.proofs.Common.{◌&&◌, ◌++◌, ◌∙◌, ◌∷◌, ◌≡◌, Bool, List, [], ap, cond, false, not, refl, true}
 use Rattle.std.specs.FinMap.{entries, from_entries, remove}
 use Rattle.std.specs.List.{list_any}
-use Rattle.alto_words.specs.Fid.{fid_cmp, is_fid}
-use Rattle.alto_words.specs.declared.fid.Fid.{Fid}
-use Rattle.pack_model.specs.reading.Bodies.{Body, File, Files}
-use Rattle.pack_model.specs.reading.Bodies.Body.{data_of, items_of}
-use Rattle.pack_model.specs.sessions.Maps.{map_entries, map_values}
-use Rattle.pack_model.specs.reading.Namings.{AllKept, IsTidy, Naming, body_kept, body_namings, clashes, files_kept, fits, is_kept, items_kept, kept_after, kept_after_body, namings, namings_in, tidied}
-use Rattle.pack_model.specs.reading.Slots.{Item, item_words}
-use Rattle.pack_model.specs.reading.Slots.Item.{entry, space}
-use Rattle.pack_model.specs.operations.Step.{body_without, file_without, item_without, items_without}
+use Rattle.pack_laws.specs.alto_words.specs.Fid.{fid_cmp, is_fid}
+use Rattle.pack_laws.specs.alto_words.specs.declared.fid.Fid.{Fid}
+use Rattle.pack_laws.specs.pack_model.specs.reading.Bodies.{Body, File, Files}
+use Rattle.pack_laws.specs.pack_model.specs.reading.Bodies.Body.{data_of, items_of}
+use Rattle.pack_laws.specs.pack_model.specs.sessions.Maps.{map_entries, map_values}
+use Rattle.pack_laws.specs.pack_model.specs.reading.Namings.{AllKept, IsTidy, Naming, body_kept, body_namings, clashes, files_kept, fits, is_kept, items_kept, kept_after, kept_after_body, namings, namings_in, tidied}
+use Rattle.pack_laws.specs.pack_model.specs.reading.Slots.{Item, item_words}
+use Rattle.pack_laws.specs.pack_model.specs.reading.Slots.Item.{entry, space}
+use Rattle.pack_laws.specs.pack_model.specs.operations.Step.{body_without, file_without, item_without, items_without}
 use Rattle.laws_record.proofs.Tidying.{and_not, onto, or_false, or_false_left, or_false_right, split_kept}
 
 -- entries of other files

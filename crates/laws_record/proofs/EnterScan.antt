@@ -3,14 +3,14 @@ use Rattle.std.proofs.Common.{◌&&◌, ◌++◌, ◌||◌, ◌∙◌, ◌∷◌
 use Rattle.std.specs.FinMap.{entries, find, from_entries, get, get-from_entries, get-insert, insert, same_map}
 use Rattle.std.specs.List.{list_any}
 use Rattle.std.specs.Option.{option_or}
-use Rattle.alto_words.specs.Fid.{fid_cmp, is_fid}
-use Rattle.alto_words.specs.declared.fid.Fid.{Fid}
-use Rattle.pack_model.specs.reading.Bodies.{File, Files}
-use Rattle.pack_model.specs.reading.Leaders.{Leader}
-use Rattle.pack_model.specs.reading.Namings.{Naming, clashes, files_kept, is_kept, item_kept, items_kept, kept_after, kept_by, may_stand, namings, namings_in, tidied}
-use Rattle.pack_model.specs.operations.Rooms.{left_over}
-use Rattle.pack_model.specs.reading.Slots.{Item, item_words}
-use Rattle.pack_model.specs.reading.Slots.Item.{entry, space}
+use Rattle.pack_laws.specs.alto_words.specs.Fid.{fid_cmp, is_fid}
+use Rattle.pack_laws.specs.alto_words.specs.declared.fid.Fid.{Fid}
+use Rattle.pack_laws.specs.pack_model.specs.reading.Bodies.{File, Files}
+use Rattle.pack_laws.specs.pack_model.specs.reading.Leaders.{Leader}
+use Rattle.pack_laws.specs.pack_model.specs.reading.Namings.{Naming, clashes, files_kept, is_kept, item_kept, items_kept, kept_after, kept_by, may_stand, namings, namings_in, tidied}
+use Rattle.pack_laws.specs.pack_model.specs.operations.Rooms.{left_over}
+use Rattle.pack_laws.specs.pack_model.specs.reading.Slots.{Item, item_words}
+use Rattle.pack_laws.specs.pack_model.specs.reading.Slots.Item.{entry, space}
 use Rattle.laws_record.proofs.Around.{around}
 use Rattle.laws_record.proofs.Beside.{Beside, any_first, any_second, files_beside, files_clear, items_beside, items_clear}
 use Rattle.laws_record.proofs.DirReads.{insert_same}

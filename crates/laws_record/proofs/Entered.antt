@@ -1,15 +1,15 @@
 -- Directories of tidy files: an entry leaves or enters.
 use Rattle.std.proofs.Common.{◌++◌, ◌∙◌, ◌∷◌, ◌≡◌, Bool, List, None, Option, Some, [], ap, append_assoc, cond, false, refl, subst, sym, true, ℕ}
 use Rattle.std.specs.FinMap.{entries, entries-insert, find, from_entries, get, get-from_entries, get-insert, insert, same_map}
-use Rattle.alto_words.specs.Fid.{fid_cmp, is_fid}
-use Rattle.alto_words.specs.declared.fid.Fid.{Fid}
-use Rattle.pack_model.specs.reading.Bodies.{File, Files}
-use Rattle.pack_model.specs.reading.Bodies.Body.{items_of}
-use Rattle.pack_model.specs.reading.Leaders.{Leader}
-use Rattle.pack_model.specs.reading.Namings.{AllKept, IsTidy, Naming, body_namings, is_kept, namings, namings_in}
-use Rattle.pack_model.specs.reading.Slots.{Item}
-use Rattle.pack_model.specs.reading.Slots.Item.{entry, space}
-use Rattle.pack_model.specs.showing.View.{Home, homes, names_of}
+use Rattle.pack_laws.specs.alto_words.specs.Fid.{fid_cmp, is_fid}
+use Rattle.pack_laws.specs.alto_words.specs.declared.fid.Fid.{Fid}
+use Rattle.pack_laws.specs.pack_model.specs.reading.Bodies.{File, Files}
+use Rattle.pack_laws.specs.pack_model.specs.reading.Bodies.Body.{items_of}
+use Rattle.pack_laws.specs.pack_model.specs.reading.Leaders.{Leader}
+use Rattle.pack_laws.specs.pack_model.specs.reading.Namings.{AllKept, IsTidy, Naming, body_namings, is_kept, namings, namings_in}
+use Rattle.pack_laws.specs.pack_model.specs.reading.Slots.{Item}
+use Rattle.pack_laws.specs.pack_model.specs.reading.Slots.Item.{entry, space}
+use Rattle.pack_laws.specs.pack_model.specs.showing.View.{Home, homes, names_of}
 use Rattle.laws_record.proofs.Around.{Around, around}
 use Rattle.pack_laws.proofs.Keys.{fid_same, fid_total, is_fid-sym, same_fid}
 use Rattle.laws_record.proofs.Tidying.{remove_kept}

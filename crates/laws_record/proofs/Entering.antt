@@ -3,21 +3,21 @@ use Rattle.std.proofs.Common.{Bool, List, Some, [], ap, arith, false, length, re
 use Rattle.std.specs.FinMap.{entries, get, insert}
 use Rattle.std.specs.List.{list_any}
 use Rattle.std.specs.Option.{unwrap_or}
-use Rattle.alto_words.specs.declared.fid.Fid.{Fid}
-use Rattle.disk_records.specs.Packs.{Pack}
-use Rattle.pack_model.specs.reading.Bodies.{Files, described, items_in}
-use Rattle.pack_model.specs.reading.Bytes.{put_at}
-use Rattle.pack_model.specs.reading.Files.{leader, lives}
-use Rattle.pack_model.specs.reading.Leaders.{Leader}
-use Rattle.pack_model.specs.hints.Links.{dir_words}
-use Rattle.pack_model.specs.sessions.Maps.{update_found}
-use Rattle.pack_model.specs.reading.Model.{Model, read_as, read_sights}
-use Rattle.pack_model.specs.reading.Namings.{clashes, files_kept, is_kept, may_stand, namings, tidied}
-use Rattle.pack_model.specs.operations.Rooms.{find_room, items_entered, left_over, placed}
-use Rattle.pack_model.specs.reading.Sights.{sights}
-use Rattle.pack_model.specs.reading.Slots.{Item, all_words, entry_length}
-use Rattle.pack_model.specs.reading.Slots.Item.{entry, space}
-use Rattle.pack_model.specs.operations.Step.{on_items, update_file}
+use Rattle.pack_laws.specs.alto_words.specs.declared.fid.Fid.{Fid}
+use Rattle.pack_laws.specs.disk_records.specs.Packs.{Pack}
+use Rattle.pack_laws.specs.pack_model.specs.reading.Bodies.{Files, described, items_in}
+use Rattle.pack_laws.specs.pack_model.specs.reading.Bytes.{put_at}
+use Rattle.pack_laws.specs.pack_model.specs.reading.Files.{leader, lives}
+use Rattle.pack_laws.specs.pack_model.specs.reading.Leaders.{Leader}
+use Rattle.pack_laws.specs.pack_model.specs.hints.Links.{dir_words}
+use Rattle.pack_laws.specs.pack_model.specs.sessions.Maps.{update_found}
+use Rattle.pack_laws.specs.pack_model.specs.reading.Model.{Model, read_as, read_sights}
+use Rattle.pack_laws.specs.pack_model.specs.reading.Namings.{clashes, files_kept, is_kept, may_stand, namings, tidied}
+use Rattle.pack_laws.specs.pack_model.specs.operations.Rooms.{find_room, items_entered, left_over, placed}
+use Rattle.pack_laws.specs.pack_model.specs.reading.Sights.{sights}
+use Rattle.pack_laws.specs.pack_model.specs.reading.Slots.{Item, all_words, entry_length}
+use Rattle.pack_laws.specs.pack_model.specs.reading.Slots.Item.{entry, space}
+use Rattle.pack_laws.specs.pack_model.specs.operations.Step.{on_items, update_file}
 use Rattle.laws_record.proofs.DirReads.{dir_reads, dir_was, has_leader}
 use Rattle.laws_record.proofs.DirWords.{DirChange, dir_change}
 use Rattle.laws_record.proofs.EnterScan.{back_items, enter_scan, front_items, kept_was, length-items_kept}

@@ -3,10 +3,10 @@ use Rattle.std.proofs.Common.{◌++◌, ◌+◌, ◌∙◌, ◌∷◌, ◌≡◌
 use Rattle.std.specs.FinMap.{entries, entries-insert, find, get, get-entries, insert}
 use Rattle.std.specs.FinMap.Entries.{by_order, put}
 use Rattle.std.specs.Ordering.{is_eq}
-use Rattle.alto_words.specs.Fid.{fid_cmp}
-use Rattle.alto_words.specs.declared.fid.Fid.{Fid}
-use Rattle.pack_model.specs.reading.Bodies.{File, Files, body_length, pages_for}
-use Rattle.pack_model.specs.reading.Model.{files_pages}
+use Rattle.pack_laws.specs.alto_words.specs.Fid.{fid_cmp}
+use Rattle.pack_laws.specs.alto_words.specs.declared.fid.Fid.{Fid}
+use Rattle.pack_laws.specs.pack_model.specs.reading.Bodies.{File, Files, body_length, pages_for}
+use Rattle.pack_laws.specs.pack_model.specs.reading.Model.{files_pages}
 use Rattle.pack_laws.proofs.Keys.{fid_same, fid_total}
 use Rattle.laws_record.proofs.Around.{around}
 

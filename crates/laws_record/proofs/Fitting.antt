@@ -2,9 +2,9 @@
 use Rattle.std.proofs.Common.{◌||◌, ◌≡◌, Bool, List, false, map, nat_eq, not, refl, sym, true, ℕ}
 use Rattle.std.specs.Cmp.{IsEquivalence, nat_eq_equiv}
 use Rattle.std.specs.Cmp.Lexicographic.{lists_equiv, pointwise}
-use Rattle.alto_words.specs.Fid.{disk_descriptor, is_directory, is_fid, sys_dir}
-use Rattle.alto_words.specs.Names.{fold_case, is_same_name}
-use Rattle.pack_model.specs.reading.Namings.{Naming, alike, descriptor_name, fits, is_own, keeps_system, sys_dir_name}
+use Rattle.pack_laws.specs.alto_words.specs.Fid.{disk_descriptor, is_directory, is_fid, sys_dir}
+use Rattle.pack_laws.specs.alto_words.specs.Names.{fold_case, is_same_name}
+use Rattle.pack_laws.specs.pack_model.specs.reading.Namings.{Naming, alike, descriptor_name, fits, is_own, keeps_system, sys_dir_name}
 use Rattle.laws_record.proofs.Heads.{and_left, and_right}
 
 -- ---- names are the same or not

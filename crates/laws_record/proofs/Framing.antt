@@ -3,16 +3,16 @@ use Rattle.std.proofs.Common.{◌&&◌, ◌+◌, ◌==◌, ◌∙◌, ◌∷◌,
 use mathlib.Core.Path.{fun_ext}
 use Rattle.std.specs.FinMap.{retain_keys}
 use Rattle.std.specs.Option.{is_some}
-use Rattle.alto_words.specs.Fid.{disk_descriptor, is_fid}
-use Rattle.alto_words.specs.declared.fid.Fid.{Fid}
-use Rattle.disk_records.specs.declared.shape.Shape.{Shape}
-use Rattle.pack_model.specs.reading.Bodies.{Files, described, is_described}
-use Rattle.pack_model.specs.reading.Bytes.{words_of}
-use Rattle.pack_model.specs.reading.Files.{file_bytes, leader, leader_at, lives, most_pages, page, page_at}
-use Rattle.pack_model.specs.reading.Model.{Model, good_one, good_sectors, last_serial, read_sights}
-use Rattle.pack_model.specs.reading.Namings.{tidied}
-use Rattle.pack_model.specs.reading.Sights.{Sight}
-use Rattle.pack_model.specs.reading.Sights.Sight.{free, hidden, holds}
+use Rattle.pack_laws.specs.alto_words.specs.Fid.{disk_descriptor, is_fid}
+use Rattle.pack_laws.specs.alto_words.specs.declared.fid.Fid.{Fid}
+use Rattle.pack_laws.specs.disk_records.specs.declared.shape.Shape.{Shape}
+use Rattle.pack_laws.specs.pack_model.specs.reading.Bodies.{Files, described, is_described}
+use Rattle.pack_laws.specs.pack_model.specs.reading.Bytes.{words_of}
+use Rattle.pack_laws.specs.pack_model.specs.reading.Files.{file_bytes, leader, leader_at, lives, most_pages, page, page_at}
+use Rattle.pack_laws.specs.pack_model.specs.reading.Model.{Model, good_one, good_sectors, last_serial, read_sights}
+use Rattle.pack_laws.specs.pack_model.specs.reading.Namings.{tidied}
+use Rattle.pack_laws.specs.pack_model.specs.reading.Sights.{Sight}
+use Rattle.pack_laws.specs.pack_model.specs.reading.Sights.Sight.{free, hidden, holds}
 use Rattle.pack_laws.proofs.Firsts.{first_same}
 use Rattle.pack_laws.proofs.Joining.{Reaches, joined_frame}
 use Rattle.pack_laws.proofs.Keys.{same_fid}

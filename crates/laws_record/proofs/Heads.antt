@@ -2,10 +2,10 @@
 use Rattle.std.proofs.Common.{◌%◌, ◌&&◌, ◌++◌, ◌+◌, ◌-◌, ◌<◌, ◌==◌, ◌∙◌, ◌∷◌, ◌≡◌, ◌≤◌, Bool, List, None, Option, Some, [], ap, append-nil, arith, cond, drop, eqb-true, false, le-leb, leb-true, length, length-append, length-drop, nat_le, refl, suc, sym, take, take-append-drop, true, zero, ℕ}
 use Rattle.std.proofs.lemmas.List.{get_or-take, length-take-le}
 use Rattle.std.specs.Prelude.{is_none}
-use Rattle.disk_records.specs.Words.{word}
-use Rattle.pack_model.specs.reading.Slots.{IsSlot, Item, Reads, all_words, and_then, entry_length, first_length, is_entry, item_words, slot_at, slot_fid, slot_name, slot_of, slots, slots_after}
-use Rattle.pack_model.specs.reading.Slots.Item.{entry, space}
-use Rattle.pack_model.specs.reading.Slots.Reads.{next, none}
+use Rattle.pack_laws.specs.disk_records.specs.Words.{word}
+use Rattle.pack_laws.specs.pack_model.specs.reading.Slots.{IsSlot, Item, Reads, all_words, and_then, entry_length, first_length, is_entry, item_words, slot_at, slot_fid, slot_name, slot_of, slots, slots_after}
+use Rattle.pack_laws.specs.pack_model.specs.reading.Slots.Item.{entry, space}
+use Rattle.pack_laws.specs.pack_model.specs.reading.Slots.Reads.{next, none}
 use Rattle.laws_record.proofs.Slotting.{slots_reads}
 
 -- ---- tests

@@ -3,13 +3,13 @@ use Rattle.std.proofs.Common.{◌∙◌, ◌∷◌, ◌≡◌, Bool, Equal, Grea
 use Rattle.std.specs.FinMap.{FinMap, entries, entries-insert, find, get, get-entries, get-from_entries, get-insert, get-retain_keys, insert, retain_keys, same_map}
 use Rattle.std.specs.FinMap.Entries.{by_order, find-put, put}
 use Rattle.std.specs.Ordering.{is_eq}
-use Rattle.alto_words.specs.Fid.{disk_descriptor, fid_cmp, is_fid}
-use Rattle.alto_words.specs.declared.fid.Fid.{Fid}
-use Rattle.pack_model.specs.reading.Bodies.{File, Files, described, found, is_described}
-use Rattle.pack_model.specs.reading.Bodies.Body.{data_of}
-use Rattle.pack_model.specs.reading.Leaders.{Leader}
-use Rattle.pack_model.specs.reading.Namings.{Naming, body_kept, files_kept, is_kept, kept_after_body, tidied}
-use Rattle.pack_model.specs.reading.Sights.{Sight}
+use Rattle.pack_laws.specs.alto_words.specs.Fid.{disk_descriptor, fid_cmp, is_fid}
+use Rattle.pack_laws.specs.alto_words.specs.declared.fid.Fid.{Fid}
+use Rattle.pack_laws.specs.pack_model.specs.reading.Bodies.{File, Files, described, found, is_described}
+use Rattle.pack_laws.specs.pack_model.specs.reading.Bodies.Body.{data_of}
+use Rattle.pack_laws.specs.pack_model.specs.reading.Leaders.{Leader}
+use Rattle.pack_laws.specs.pack_model.specs.reading.Namings.{Naming, body_kept, files_kept, is_kept, kept_after_body, tidied}
+use Rattle.pack_laws.specs.pack_model.specs.reading.Sights.{Sight}
 use Rattle.pack_laws.proofs.Keys.{fid_same, fid_total, same_fid}
 
 -- an ordinary file

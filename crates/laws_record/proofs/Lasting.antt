@@ -1,14 +1,14 @@
 -- A missing last page comes, and a leader is written that says the same.
 use Rattle.std.proofs.Common.{◌%◌, ◌&&◌, ◌*◌, ◌++◌, ◌+◌, ◌-◌, ◌/◌, ◌<◌, ◌==◌, ◌∙◌, ◌≡◌, ◌≤◌, Bool, List, None, Some, [], ap, arith, cond, false, get_or, le-ltb, length, not, refl, set, subst, suc, sym, take, true, zero, ℕ}
-use Rattle.alto_words.specs.Fid.{is_fid}
-use Rattle.alto_words.specs.declared.fid.Fid.{Fid}
-use Rattle.disk_records.specs.Labels.{tag}
-use Rattle.disk_records.specs.Packs.{sector_at}
-use Rattle.pack_model.specs.reading.Bytes.{bytes_of}
-use Rattle.pack_model.specs.reading.Files.{file_bytes, joined, leader_at, most_pages, page, page_at, place}
-use Rattle.pack_model.specs.reading.Model.{good_one}
-use Rattle.pack_model.specs.reading.Sights.{Sight, page_sight, sights}
-use Rattle.pack_model.specs.reading.Sights.Sight.{free, hidden, holds}
+use Rattle.pack_laws.specs.alto_words.specs.Fid.{is_fid}
+use Rattle.pack_laws.specs.alto_words.specs.declared.fid.Fid.{Fid}
+use Rattle.pack_laws.specs.disk_records.specs.Labels.{tag}
+use Rattle.pack_laws.specs.disk_records.specs.Packs.{sector_at}
+use Rattle.pack_laws.specs.pack_model.specs.reading.Bytes.{bytes_of}
+use Rattle.pack_laws.specs.pack_model.specs.reading.Files.{file_bytes, joined, leader_at, most_pages, page, page_at, place}
+use Rattle.pack_laws.specs.pack_model.specs.reading.Model.{good_one}
+use Rattle.pack_laws.specs.pack_model.specs.reading.Sights.{Sight, page_sight, sights}
+use Rattle.pack_laws.specs.pack_model.specs.reading.Sights.Sight.{free, hidden, holds}
 use Rattle.pack_laws.proofs.Firsts.{first_new, first_same}
 use Rattle.pack_laws.proofs.Guarding.{free_parts}
 use Rattle.pack_laws.proofs.Joining.{AreShort, Reaches, Reaches-more, Reaches-none, continue, front, is_full, joined_at, joined_change, most_is, skip}

@@ -3,21 +3,21 @@ use Rattle.std.proofs.Common.{◌++◌, ◌∙◌, ◌∷◌, ◌≡◌, Bool, L
 use mathlib.Core.Path.{fun_ext}
 use Rattle.std.specs.FinMap.{entries, entries-insert, find, from_entries, get, get-from_entries, get-insert, insert, retain_keys, same_map}
 use Rattle.std.specs.Option.{is_some}
-use Rattle.alto_words.specs.Fid.{disk_descriptor, fid_cmp, is_fid}
-use Rattle.alto_words.specs.declared.fid.Fid.{Fid}
-use Rattle.disk_records.specs.Labels.{tag}
-use Rattle.disk_records.specs.Packs.{Pack, carried, sector_at}
-use Rattle.disk_records.specs.declared.records.Page.{Page}
-use Rattle.pack_model.specs.reading.Bodies.{Body, File, Files, described, found, is_described}
-use Rattle.pack_model.specs.reading.Bytes.{words_of}
-use Rattle.pack_model.specs.reading.Files.{file_bytes, leader, leader_at, lives, page_at, place}
-use Rattle.pack_model.specs.reading.Leaders.{Leader, is_readable, leader_of, leader_words}
-use Rattle.pack_model.specs.sessions.Maps.{update_found}
-use Rattle.pack_model.specs.reading.Model.{good_one, last_serial, read_as, read_sights}
-use Rattle.pack_model.specs.reading.Namings.{Naming, body_kept, files_kept, is_kept, kept_after_body, tidied}
-use Rattle.pack_model.specs.reading.Sights.{Sight, page_sight, sights}
-use Rattle.pack_model.specs.reading.Sights.Sight.{hidden, leads}
-use Rattle.pack_model.specs.operations.Step.{on_leader, update_file}
+use Rattle.pack_laws.specs.alto_words.specs.Fid.{disk_descriptor, fid_cmp, is_fid}
+use Rattle.pack_laws.specs.alto_words.specs.declared.fid.Fid.{Fid}
+use Rattle.pack_laws.specs.disk_records.specs.Labels.{tag}
+use Rattle.pack_laws.specs.disk_records.specs.Packs.{Pack, carried, sector_at}
+use Rattle.pack_laws.specs.disk_records.specs.declared.records.Page.{Page}
+use Rattle.pack_laws.specs.pack_model.specs.reading.Bodies.{Body, File, Files, described, found, is_described}
+use Rattle.pack_laws.specs.pack_model.specs.reading.Bytes.{words_of}
+use Rattle.pack_laws.specs.pack_model.specs.reading.Files.{file_bytes, leader, leader_at, lives, page_at, place}
+use Rattle.pack_laws.specs.pack_model.specs.reading.Leaders.{Leader, is_readable, leader_of, leader_words}
+use Rattle.pack_laws.specs.pack_model.specs.sessions.Maps.{update_found}
+use Rattle.pack_laws.specs.pack_model.specs.reading.Model.{good_one, last_serial, read_as, read_sights}
+use Rattle.pack_laws.specs.pack_model.specs.reading.Namings.{Naming, body_kept, files_kept, is_kept, kept_after_body, tidied}
+use Rattle.pack_laws.specs.pack_model.specs.reading.Sights.{Sight, page_sight, sights}
+use Rattle.pack_laws.specs.pack_model.specs.reading.Sights.Sight.{hidden, leads}
+use Rattle.pack_laws.specs.pack_model.specs.operations.Step.{on_leader, update_file}
 use Rattle.laws_record.proofs.Around.{around}
 use Rattle.laws_record.proofs.Copying.{place_carried}
 use Rattle.laws_record.proofs.DirReads.{insert_same}

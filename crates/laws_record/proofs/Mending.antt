@@ -5,19 +5,19 @@ use Rattle.std.specs.FinMap.{entries, entries-insert, entries_sorted, find, from
 use Rattle.std.specs.FinMap.Entries.{below_all, by_order, put, same_entries}
 use Rattle.std.specs.Option.{option_map}
 use Rattle.std.specs.Ordering.{is_eq, is_lt}
-use Rattle.alto_words.specs.Fid.{disk_descriptor, fid_cmp, is_fid, is_system, sys_dir}
-use Rattle.alto_words.specs.declared.fid.Fid.{Fid}
-use Rattle.disk_records.specs.declared.shape.Shape.{Shape}
-use Rattle.pack_model.specs.reading.Bodies.{Body, File, Files, described}
-use Rattle.pack_model.specs.reading.Bodies.Body.{data_of, items_of}
-use Rattle.pack_model.specs.reading.Files.{lives}
-use Rattle.pack_model.specs.sessions.Maps.{map_values}
-use Rattle.pack_model.specs.scavenger.Mended.{mended, root_body, root_file, rooted, with_system}
-use Rattle.pack_model.specs.reading.Model.{read_sights}
-use Rattle.pack_model.specs.reading.Namings.{Naming, body_kept, body_namings, descriptor_name, files_kept, fits, is_kept, is_own, kept_after_body, namings, sys_dir_name, tidied}
-use Rattle.pack_model.specs.reading.Sights.{Sight}
-use Rattle.pack_model.specs.showing.View.{Home, homes, seen_body, seen_of, view}
-use Rattle.pack_model.specs.states.Whole.{living_too}
+use Rattle.pack_laws.specs.alto_words.specs.Fid.{disk_descriptor, fid_cmp, is_fid, is_system, sys_dir}
+use Rattle.pack_laws.specs.alto_words.specs.declared.fid.Fid.{Fid}
+use Rattle.pack_laws.specs.disk_records.specs.declared.shape.Shape.{Shape}
+use Rattle.pack_laws.specs.pack_model.specs.reading.Bodies.{Body, File, Files, described}
+use Rattle.pack_laws.specs.pack_model.specs.reading.Bodies.Body.{data_of, items_of}
+use Rattle.pack_laws.specs.pack_model.specs.reading.Files.{lives}
+use Rattle.pack_laws.specs.pack_model.specs.sessions.Maps.{map_values}
+use Rattle.pack_laws.specs.pack_model.specs.scavenger.Mended.{mended, root_body, root_file, rooted, with_system}
+use Rattle.pack_laws.specs.pack_model.specs.reading.Model.{read_sights}
+use Rattle.pack_laws.specs.pack_model.specs.reading.Namings.{Naming, body_kept, body_namings, descriptor_name, files_kept, fits, is_kept, is_own, kept_after_body, namings, sys_dir_name, tidied}
+use Rattle.pack_laws.specs.pack_model.specs.reading.Sights.{Sight}
+use Rattle.pack_laws.specs.pack_model.specs.showing.View.{Home, homes, seen_body, seen_of, view}
+use Rattle.pack_laws.specs.pack_model.specs.states.Whole.{living_too}
 use Rattle.laws_record.proofs.Around.{around}
 use Rattle.laws_record.proofs.Dropping.{others}
 use Rattle.laws_record.proofs.Fitting.{fits_own, fits_root}

@@ -2,13 +2,13 @@
 use Rattle.std.proofs.Common.{◌∙◌, ◌≡◌, List, None, Some, ap, cond, false, refl, sym, true, ℕ}
 use Rattle.std.specs.FinMap.{FinMap, get, get-insert, insert, same_map}
 use Rattle.std.specs.Option.{option_map}
-use Rattle.alto_words.specs.Fid.{fid_cmp, is_fid}
-use Rattle.alto_words.specs.declared.fid.Fid.{Fid}
-use Rattle.pack_model.specs.reading.Bodies.{File, body_of, file_of, found}
-use Rattle.pack_model.specs.reading.Files.{file_bytes, leader}
-use Rattle.pack_model.specs.reading.Leaders.{Leader}
-use Rattle.pack_model.specs.reading.Sights.{Sight}
-use Rattle.pack_model.specs.reading.Stored.{files_shown, stored_file}
+use Rattle.pack_laws.specs.alto_words.specs.Fid.{fid_cmp, is_fid}
+use Rattle.pack_laws.specs.alto_words.specs.declared.fid.Fid.{Fid}
+use Rattle.pack_laws.specs.pack_model.specs.reading.Bodies.{File, body_of, file_of, found}
+use Rattle.pack_laws.specs.pack_model.specs.reading.Files.{file_bytes, leader}
+use Rattle.pack_laws.specs.pack_model.specs.reading.Leaders.{Leader}
+use Rattle.pack_laws.specs.pack_model.specs.reading.Sights.{Sight}
+use Rattle.pack_laws.specs.pack_model.specs.reading.Stored.{files_shown, stored_file}
 use Rattle.pack_laws.proofs.Keys.{fid_same, fid_total, same_fid}
 use Rattle.pack_laws.proofs.Mapping.{get-map_values}
 use Rattle.pack_laws.proofs.Storing.{get-files_shown}

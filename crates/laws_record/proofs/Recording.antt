@@ -1,11 +1,11 @@
 -- What sectors show before and after a record is written, by what they carry.
 use Rattle.std.proofs.Common.{◌<◌, ◌∙◌, ◌≡◌, List, Some, ap, get_or, length, ltb-true, nat_lt, set, subst, sym, true, ℕ}
 use Rattle.std.proofs.lemmas.Option.{cond_some}
-use Rattle.disk_records.specs.Labels.{Tag, in_range, is_free, page_of, tag}
-use Rattle.disk_records.specs.Packs.{Pack, carried, is_free_at, is_usable, sector_at, with_part}
-use Rattle.disk_records.specs.declared.records.Page.{Page}
-use Rattle.pack_model.specs.reading.Sights.{page_sight, sights}
-use Rattle.pack_model.specs.reading.Sights.Sight.{free, hidden}
+use Rattle.pack_laws.specs.disk_records.specs.Labels.{Tag, in_range, is_free, page_of, tag}
+use Rattle.pack_laws.specs.disk_records.specs.Packs.{Pack, carried, is_free_at, is_usable, sector_at, with_part}
+use Rattle.pack_laws.specs.disk_records.specs.declared.records.Page.{Page}
+use Rattle.pack_laws.specs.pack_model.specs.reading.Sights.{page_sight, sights}
+use Rattle.pack_laws.specs.pack_model.specs.reading.Sights.Sight.{free, hidden}
 use Rattle.pack_laws.proofs.Guarding.{carried_parts, free_parts, free_shown, named_shown, usable_shown, usable_within}
 use Rattle.pack_laws.proofs.Sighted.{length-sights, sights-get, sights-write}
 use Rattle.laws_record.specs.QuietLaws.{with_label, with_value}

@@ -3,9 +3,9 @@ use Rattle.std.proofs.Common.{◌++◌, ◌+◌, ◌-◌, ◌∙◌, ◌∷◌, 
 use Rattle.std.specs.Option.{option_map, option_or}
 use Rattle.std.specs.Prelude.{All}
 use Rattle.std.proofs.lemmas.List.Elements.{All-cons, All-nil}
-use Rattle.pack_model.specs.operations.Rooms.{Room, find_room, in_run, left_over, most_free, placed, room_from, room_here, run}
-use Rattle.pack_model.specs.reading.Slots.{Item, all_words, item_words}
-use Rattle.pack_model.specs.reading.Slots.Item.{entry, space}
+use Rattle.pack_laws.specs.pack_model.specs.operations.Rooms.{Room, find_room, in_run, left_over, most_free, placed, room_from, room_here, run}
+use Rattle.pack_laws.specs.pack_model.specs.reading.Slots.{Item, all_words, item_words}
+use Rattle.pack_laws.specs.pack_model.specs.reading.Slots.Item.{entry, space}
 use Rattle.laws_record.specs.SlotLaws.{FoundIsPlaced, IsPlacedIn, IsSpace}
 
 -- ---- a run

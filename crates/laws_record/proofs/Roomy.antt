@@ -1,9 +1,9 @@
 -- The room that is found for an entry, and where it is placed.
 use Rattle.std.proofs.Common.{◌++◌, ◌+◌, ◌-◌, ◌∙◌, ◌∷◌, ◌≡◌, ◌≤◌, Bool, List, None, Option, Some, [], ap, arith, cond, false, leb-false, leb-true, length, nat_le, refl, suc, sym, true, ℕ}
 use Rattle.std.specs.Option.{option_map, option_or}
-use Rattle.pack_model.specs.operations.Rooms.{Room, in_run, left_over, most_free, placed, room_from, room_here, run}
-use Rattle.pack_model.specs.reading.Slots.{Item, item_words}
-use Rattle.pack_model.specs.reading.Slots.Item.{entry, space}
+use Rattle.pack_laws.specs.pack_model.specs.operations.Rooms.{Room, in_run, left_over, most_free, placed, room_from, room_here, run}
+use Rattle.pack_laws.specs.pack_model.specs.reading.Slots.{Item, item_words}
+use Rattle.pack_laws.specs.pack_model.specs.reading.Slots.Item.{entry, space}
 
 -- a run has at least the words that are asked for
 pub run_enough : (n : ℕ) (is : List Item) (r : ℕ × List Item) → run n is ≡ Some r → n ≤ r.0

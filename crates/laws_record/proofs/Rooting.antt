@@ -2,20 +2,20 @@
 use Rattle.std.proofs.Common.{◌++◌, ◌∙◌, ◌∷◌, ◌≡◌, Bool, List, None, Some, [], ap, cond, false, refl, sym, true, ℕ}
 use Rattle.std.specs.FinMap.{entries, entries-insert, find, get, get-insert, insert, same_map}
 use Rattle.std.specs.Option.{option_map}
-use Rattle.alto_words.specs.Fid.{disk_descriptor, fid_cmp, is_fid, is_system, sys_dir}
-use Rattle.alto_words.specs.declared.fid.Fid.{Fid}
-use Rattle.disk_records.specs.declared.shape.Shape.{Shape}
-use Rattle.pack_model.specs.reading.Bodies.{File, Files, described}
-use Rattle.pack_model.specs.reading.Bodies.Body.{items_of}
-use Rattle.pack_model.specs.reading.Files.{lives}
-use Rattle.pack_model.specs.reading.Leaders.{Leader}
-use Rattle.pack_model.specs.scavenger.Mended.{mended, root_body, root_file, rooted, with_system}
-use Rattle.pack_model.specs.reading.Model.{descriptor_words, good_sectors, last_serial, read_sights}
-use Rattle.pack_model.specs.reading.Namings.{Naming, body_kept, body_namings, files_kept, is_kept, items_kept, kept_after, kept_after_body, namings, namings_in, tidied}
-use Rattle.pack_model.specs.reading.Sights.{Sight}
-use Rattle.pack_model.specs.reading.Slots.{Item}
-use Rattle.pack_model.specs.reading.Slots.Item.{entry, space}
-use Rattle.pack_model.specs.showing.View.{homes, seen_of, view}
+use Rattle.pack_laws.specs.alto_words.specs.Fid.{disk_descriptor, fid_cmp, is_fid, is_system, sys_dir}
+use Rattle.pack_laws.specs.alto_words.specs.declared.fid.Fid.{Fid}
+use Rattle.pack_laws.specs.disk_records.specs.declared.shape.Shape.{Shape}
+use Rattle.pack_laws.specs.pack_model.specs.reading.Bodies.{File, Files, described}
+use Rattle.pack_laws.specs.pack_model.specs.reading.Bodies.Body.{items_of}
+use Rattle.pack_laws.specs.pack_model.specs.reading.Files.{lives}
+use Rattle.pack_laws.specs.pack_model.specs.reading.Leaders.{Leader}
+use Rattle.pack_laws.specs.pack_model.specs.scavenger.Mended.{mended, root_body, root_file, rooted, with_system}
+use Rattle.pack_laws.specs.pack_model.specs.reading.Model.{descriptor_words, good_sectors, last_serial, read_sights}
+use Rattle.pack_laws.specs.pack_model.specs.reading.Namings.{Naming, body_kept, body_namings, files_kept, is_kept, items_kept, kept_after, kept_after_body, namings, namings_in, tidied}
+use Rattle.pack_laws.specs.pack_model.specs.reading.Sights.{Sight}
+use Rattle.pack_laws.specs.pack_model.specs.reading.Slots.{Item}
+use Rattle.pack_laws.specs.pack_model.specs.reading.Slots.Item.{entry, space}
+use Rattle.pack_laws.specs.pack_model.specs.showing.View.{homes, seen_of, view}
 use Rattle.laws_record.proofs.Around.{around}
 use Rattle.pack_laws.proofs.Keys.{fid_same, fid_total, is_fid-itself}
 use Rattle.laws_record.proofs.Mending.{mended_view}

@@ -3,14 +3,14 @@ use Rattle.std.proofs.Common.{◌++◌, ◌∙◌, ◌∷◌, ◌≡◌, Bool, L
 use Rattle.std.specs.FinMap.{entries, entries-insert, find, from_entries, get, get-from_entries, insert}
 use Rattle.std.specs.FinMap.Entries.{find-put}
 use Rattle.std.specs.Option.{option_or}
-use Rattle.alto_words.specs.Fid.{fid_cmp, is_fid}
-use Rattle.alto_words.specs.declared.fid.Fid.{Fid}
-use Rattle.pack_model.specs.reading.Bodies.{Body, File, Files}
-use Rattle.pack_model.specs.reading.Bodies.Body.{data_of, items_of}
-use Rattle.pack_model.specs.reading.Leaders.{Leader}
-use Rattle.pack_model.specs.reading.Namings.{Naming, body_kept, files_kept, is_kept, items_kept, kept_after, kept_after_body, kept_by, namings, namings_in, tidied}
-use Rattle.pack_model.specs.reading.Slots.{Item, item_words}
-use Rattle.pack_model.specs.reading.Slots.Item.{entry, space}
+use Rattle.pack_laws.specs.alto_words.specs.Fid.{fid_cmp, is_fid}
+use Rattle.pack_laws.specs.alto_words.specs.declared.fid.Fid.{Fid}
+use Rattle.pack_laws.specs.pack_model.specs.reading.Bodies.{Body, File, Files}
+use Rattle.pack_laws.specs.pack_model.specs.reading.Bodies.Body.{data_of, items_of}
+use Rattle.pack_laws.specs.pack_model.specs.reading.Leaders.{Leader}
+use Rattle.pack_laws.specs.pack_model.specs.reading.Namings.{Naming, body_kept, files_kept, is_kept, items_kept, kept_after, kept_after_body, kept_by, namings, namings_in, tidied}
+use Rattle.pack_laws.specs.pack_model.specs.reading.Slots.{Item, item_words}
+use Rattle.pack_laws.specs.pack_model.specs.reading.Slots.Item.{entry, space}
 use Rattle.laws_record.proofs.Around.{Around, around}
 use Rattle.laws_record.proofs.DirReads.{insert_same}
 use Rattle.laws_record.proofs.Entered.{directory, namings-append}

@@ -1,6 +1,6 @@
 -- The seats of a file's pages: each page has one.
 use Rattle.std.proofs.Common.{◌+◌, ◌<◌, ◌∙◌, ◌∷◌, ◌≡◌, ◌≤◌, List, [], arith, inl, inr, length, suc, sym, ℕ}
-use Rattle.pack_model.specs.states.Whole.{IsSeat, PageAt}
+use Rattle.pack_laws.specs.pack_model.specs.states.Whole.{IsSeat, PageAt}
 
 -- a seat's number is one of theirs
 pub seat_range : (k : ℕ) (cs : List PageAt) (m i : ℕ) → IsSeat k cs m i → (k ≤ m) × (m < k + length cs)

@@ -2,10 +2,10 @@
 use Rattle.std.proofs.Common.{◌++◌, ◌∙◌, ◌∷◌, ◌≡◌, Bool, List, None, Option, Some, [], ap, cond, false, refl, sym, true}
 use Rattle.std.specs.FinMap.{FinMap, contains_key, get, get-insert, insert}
 use Rattle.std.specs.Option.{is_some}
-use Rattle.alto_words.specs.Fid.{fid_cmp, is_fid}
-use Rattle.alto_words.specs.declared.fid.Fid.{Fid}
-use Rattle.pack_model.specs.showing.Settling.{given, settle, settled}
-use Rattle.pack_model.specs.showing.View.{Home, Seen, View}
+use Rattle.pack_laws.specs.alto_words.specs.Fid.{fid_cmp, is_fid}
+use Rattle.pack_laws.specs.alto_words.specs.declared.fid.Fid.{Fid}
+use Rattle.pack_laws.specs.pack_model.specs.showing.Settling.{given, settle, settled}
+use Rattle.pack_laws.specs.pack_model.specs.showing.View.{Home, Seen, View}
 use Rattle.pack_laws.proofs.Keys.{fid_total, is_fid-itself}
 use Rattle.laws_record.specs.EnterLaws.{AllNamed, IsNext}
 

@@ -1,8 +1,8 @@
 -- The slots of words, when one slot changes.
 use Rattle.std.proofs.Common.{◌&&◌, ◌++◌, ◌-◌, ◌∙◌, ◌∷◌, ◌≡◌, ◌≤◌, List, None, Some, [], ap, append_assoc, arith, cond, drop, le-leb, length, length-append, nat_le, refl, suc, take, zero, ℕ}
 use Rattle.std.proofs.lemmas.List.{drop_at, take_at}
-use Rattle.pack_model.specs.reading.Slots.{IsSlot, Item, Reads, and_then, slot_at, slot_of, slots, slots_after}
-use Rattle.pack_model.specs.reading.Slots.Reads.{next, none}
+use Rattle.pack_laws.specs.pack_model.specs.reading.Slots.{IsSlot, Item, Reads, and_then, slot_at, slot_of, slots, slots_after}
+use Rattle.pack_laws.specs.pack_model.specs.reading.Slots.Reads.{next, none}
 
 -- words that are passed over
 passed : (k : ℕ) (ws : List ℕ) → slots_after k ws ≡ slots (drop k ws)

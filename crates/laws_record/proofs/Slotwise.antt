@@ -1,11 +1,11 @@
 -- Slots in the place of slots: those before and after stay.
 use Rattle.std.proofs.Common.{◌%◌, ◌++◌, ◌+◌, ◌-◌, ◌<◌, ◌∙◌, ◌∷◌, ◌≡◌, ◌≤◌, List, None, Some, [], ap, append_assoc, arith, cond, drop, eq-eqb, get_or-drop, inl, length, length-append, length-drop, refl, sym, take, ℕ}
 use Rattle.std.proofs.lemmas.List.{drop-drop, get_or-append_right, get_or-take, get_or_append_left, length-take-le}
-use Rattle.alto_words.specs.declared.fid.Fid.{Fid}
-use Rattle.disk_records.specs.Words.{word}
-use Rattle.pack_model.specs.reading.Bytes.{put_at}
-use Rattle.pack_model.specs.reading.Slots.{Item, all_words, is_entry, item_words, slot_at, slot_fid, slot_name, slots}
-use Rattle.pack_model.specs.reading.Slots.Item.{entry, space}
+use Rattle.pack_laws.specs.alto_words.specs.declared.fid.Fid.{Fid}
+use Rattle.pack_laws.specs.disk_records.specs.Words.{word}
+use Rattle.pack_laws.specs.pack_model.specs.reading.Bytes.{put_at}
+use Rattle.pack_laws.specs.pack_model.specs.reading.Slots.{Item, all_words, is_entry, item_words, slot_at, slot_fid, slot_name, slots}
+use Rattle.pack_laws.specs.pack_model.specs.reading.Slots.Item.{entry, space}
 use Rattle.laws_record.proofs.Addressing.{drop_same, slot_kept}
 use Rattle.pack_laws.proofs.Bytes.{length-put_at}
 use Rattle.laws_record.proofs.Heads.{all_within, head_reads, slots_cons, slots_some}

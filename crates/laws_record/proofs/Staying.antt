@@ -1,12 +1,12 @@
 -- The same files are found: then a pack is read as before.
 use Rattle.std.proofs.Common.{◌∙◌, ◌≡◌, List, ap, inl, refl, sym}
 use Rattle.std.specs.FinMap.{retain_keys}
-use Rattle.alto_words.specs.declared.fid.Fid.{Fid}
-use Rattle.disk_records.specs.Packs.{Pack}
-use Rattle.pack_model.specs.reading.Bodies.{described, is_described}
-use Rattle.pack_model.specs.reading.Files.{leader}
-use Rattle.pack_model.specs.reading.Model.{good_sectors, read_sights}
-use Rattle.pack_model.specs.reading.Sights.{Sight, sights}
+use Rattle.pack_laws.specs.alto_words.specs.declared.fid.Fid.{Fid}
+use Rattle.pack_laws.specs.disk_records.specs.Packs.{Pack}
+use Rattle.pack_laws.specs.pack_model.specs.reading.Bodies.{described, is_described}
+use Rattle.pack_laws.specs.pack_model.specs.reading.Files.{leader}
+use Rattle.pack_laws.specs.pack_model.specs.reading.Model.{good_sectors, read_sights}
+use Rattle.pack_laws.specs.pack_model.specs.reading.Sights.{Sight, sights}
 use Rattle.laws_record.proofs.Framing.{SameBytes, SameCounted, counted_bytes, read_bytes}
 use Rattle.laws_record.proofs.Reading.{found_frame}
 use Rattle.laws_record.specs.QuietLaws.{ReadsSame}

@@ -3,24 +3,24 @@ use Rattle.std.proofs.Common.{Bool, List, None, Option, Some, [], ap, cond, fals
 use Rattle.std.proofs.lemmas.List.{get_or-set_same, length-set}
 use Rattle.std.specs.FinMap.{get}
 use Rattle.std.specs.Option.{option_map}
-use Rattle.alto_words.specs.Fid.{disk_descriptor, is_fid, sys_dir}
-use Rattle.alto_words.specs.declared.fid.Fid.{Fid}
-use Rattle.disk_records.specs.Labels.{tag}
-use Rattle.disk_records.specs.Packs.{Pack, after, sector_at, with_part}
-use Rattle.disk_records.specs.declared.records.Event.TheVariants.{Wrote}
-use Rattle.disk_records.specs.declared.records.Page.{Page}
-use Rattle.pack_model.specs.reading.Bodies.{described}
-use Rattle.pack_model.specs.reading.Bodies.Body.{items_of}
-use Rattle.pack_model.specs.reading.Bytes.{bytes_of}
-use Rattle.pack_model.specs.reading.Files.{file_bytes, leader, leader_at}
-use Rattle.pack_model.specs.reading.Leaders.{Leader, is_readable, leader_of, leader_words}
-use Rattle.pack_model.specs.hints.Links.{dir_words}
-use Rattle.pack_model.specs.scavenger.Mended.{root_body}
-use Rattle.pack_model.specs.reading.Model.{good_one, good_sectors, read_sights}
-use Rattle.pack_model.specs.reading.Sights.{Sight, page_sight, sight, sights}
-use Rattle.pack_model.specs.reading.Sights.Sight.{hidden, leads}
-use Rattle.pack_model.specs.reading.Slots.{slots}
-use Rattle.pack_model.specs.showing.View.{view}
+use Rattle.pack_laws.specs.alto_words.specs.Fid.{disk_descriptor, is_fid, sys_dir}
+use Rattle.pack_laws.specs.alto_words.specs.declared.fid.Fid.{Fid}
+use Rattle.pack_laws.specs.disk_records.specs.Labels.{tag}
+use Rattle.pack_laws.specs.disk_records.specs.Packs.{Pack, after, sector_at, with_part}
+use Rattle.pack_laws.specs.disk_records.specs.declared.records.Event.TheVariants.{Wrote}
+use Rattle.pack_laws.specs.disk_records.specs.declared.records.Page.{Page}
+use Rattle.pack_laws.specs.pack_model.specs.reading.Bodies.{described}
+use Rattle.pack_laws.specs.pack_model.specs.reading.Bodies.Body.{items_of}
+use Rattle.pack_laws.specs.pack_model.specs.reading.Bytes.{bytes_of}
+use Rattle.pack_laws.specs.pack_model.specs.reading.Files.{file_bytes, leader, leader_at}
+use Rattle.pack_laws.specs.pack_model.specs.reading.Leaders.{Leader, is_readable, leader_of, leader_words}
+use Rattle.pack_laws.specs.pack_model.specs.hints.Links.{dir_words}
+use Rattle.pack_laws.specs.pack_model.specs.scavenger.Mended.{root_body}
+use Rattle.pack_laws.specs.pack_model.specs.reading.Model.{good_one, good_sectors, read_sights}
+use Rattle.pack_laws.specs.pack_model.specs.reading.Sights.{Sight, page_sight, sight, sights}
+use Rattle.pack_laws.specs.pack_model.specs.reading.Sights.Sight.{hidden, leads}
+use Rattle.pack_laws.specs.pack_model.specs.reading.Slots.{slots}
+use Rattle.pack_laws.specs.pack_model.specs.showing.View.{view}
 use Rattle.pack_laws.proofs.Firsts.{first_new, none_each}
 use Rattle.pack_laws.proofs.Guarding.{free_parts}
 use Rattle.pack_laws.proofs.Keys.{same_fid}

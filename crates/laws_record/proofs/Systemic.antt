@@ -3,18 +3,18 @@ use Rattle.std.proofs.Common.{◌∙◌, ◌≡◌, Bool, List, None, Some, ap, 
 use mathlib.Core.Path.{fun_ext}
 use Rattle.std.specs.FinMap.{get, get-insert, same_map}
 use Rattle.std.specs.Option.{is_some}
-use Rattle.alto_words.specs.Fid.{disk_descriptor, is_fid, is_system, sys_dir}
-use Rattle.alto_words.specs.declared.fid.Fid.{Fid}
-use Rattle.disk_records.specs.Packs.{Pack}
-use Rattle.pack_model.specs.reading.Bodies.{Files, described, found, is_described}
-use Rattle.pack_model.specs.reading.Files.{file_bytes, leader, leader_at, lives, page_at}
-use Rattle.pack_model.specs.reading.Leaders.{Leader}
-use Rattle.pack_model.specs.scavenger.Mended.{mended, root_body, root_file, rooted, with_system}
-use Rattle.pack_model.specs.reading.Model.{good_sectors, read_sights}
-use Rattle.pack_model.specs.reading.Namings.{tidied}
-use Rattle.pack_model.specs.reading.Sights.{Sight, sights}
-use Rattle.pack_model.specs.reading.Sights.Sight.{free, hidden, leads}
-use Rattle.pack_model.specs.showing.View.{view}
+use Rattle.pack_laws.specs.alto_words.specs.Fid.{disk_descriptor, is_fid, is_system, sys_dir}
+use Rattle.pack_laws.specs.alto_words.specs.declared.fid.Fid.{Fid}
+use Rattle.pack_laws.specs.disk_records.specs.Packs.{Pack}
+use Rattle.pack_laws.specs.pack_model.specs.reading.Bodies.{Files, described, found, is_described}
+use Rattle.pack_laws.specs.pack_model.specs.reading.Files.{file_bytes, leader, leader_at, lives, page_at}
+use Rattle.pack_laws.specs.pack_model.specs.reading.Leaders.{Leader}
+use Rattle.pack_laws.specs.pack_model.specs.scavenger.Mended.{mended, root_body, root_file, rooted, with_system}
+use Rattle.pack_laws.specs.pack_model.specs.reading.Model.{good_sectors, read_sights}
+use Rattle.pack_laws.specs.pack_model.specs.reading.Namings.{tidied}
+use Rattle.pack_laws.specs.pack_model.specs.reading.Sights.{Sight, sights}
+use Rattle.pack_laws.specs.pack_model.specs.reading.Sights.Sight.{free, hidden, leads}
+use Rattle.pack_laws.specs.pack_model.specs.showing.View.{view}
 use Rattle.pack_laws.proofs.Firsts.{first_same}
 use Rattle.pack_laws.proofs.Keys.{fid_same, fid_total, same_fid}
 use Rattle.laws_record.proofs.Describing.{view_files}

@@ -3,13 +3,13 @@ use Rattle.std.proofs.Common.{◌&&◌, ◌++◌, ◌||◌, ◌∙◌, ◌∷◌
 use Rattle.std.specs.FinMap.{entries, find, get-entries, get-from_entries, same_map}
 use Rattle.std.specs.List.{list_any}
 use Rattle.std.specs.Option.{is_some, option_map}
-use Rattle.alto_words.specs.Fid.{fid_cmp}
-use Rattle.alto_words.specs.declared.fid.Fid.{Fid}
-use Rattle.pack_model.specs.reading.Bodies.{Body, File, Files}
-use Rattle.pack_model.specs.reading.Bodies.Body.{data_of, items_of}
-use Rattle.pack_model.specs.reading.Namings.{AllKept, IsTidy, Naming, body_kept, body_namings, clashes, files_kept, is_kept, items_kept, kept_after, kept_after_body, may_stand, namings, namings_in, tidied}
-use Rattle.pack_model.specs.reading.Slots.{Item, item_words}
-use Rattle.pack_model.specs.reading.Slots.Item.{entry, space}
+use Rattle.pack_laws.specs.alto_words.specs.Fid.{fid_cmp}
+use Rattle.pack_laws.specs.alto_words.specs.declared.fid.Fid.{Fid}
+use Rattle.pack_laws.specs.pack_model.specs.reading.Bodies.{Body, File, Files}
+use Rattle.pack_laws.specs.pack_model.specs.reading.Bodies.Body.{data_of, items_of}
+use Rattle.pack_laws.specs.pack_model.specs.reading.Namings.{AllKept, IsTidy, Naming, body_kept, body_namings, clashes, files_kept, is_kept, items_kept, kept_after, kept_after_body, may_stand, namings, namings_in, tidied}
+use Rattle.pack_laws.specs.pack_model.specs.reading.Slots.{Item, item_words}
+use Rattle.pack_laws.specs.pack_model.specs.reading.Slots.Item.{entry, space}
 use Rattle.pack_laws.proofs.Keys.{fid_same, fid_total}
 
 -- what is kept, the newest first

@@ -1,10 +1,10 @@
 -- A slot whose entry isn't kept, on any pack.
 use Rattle.std.proofs.Common.{◌++◌, ◌∷◌, ◌≡◌, Bool, List, [], ap, cond, false, refl, ℕ}
-use Rattle.alto_words.specs.declared.fid.Fid.{Fid}
-use Rattle.pack_model.specs.reading.Bodies.{File}
-use Rattle.pack_model.specs.reading.Namings.{Naming, body_kept, files_kept, item_kept, items_kept, kept_after, kept_after_body, kept_by}
-use Rattle.pack_model.specs.reading.Slots.{Item, item_words}
-use Rattle.pack_model.specs.reading.Slots.Item.{entry, space}
+use Rattle.pack_laws.specs.alto_words.specs.declared.fid.Fid.{Fid}
+use Rattle.pack_laws.specs.pack_model.specs.reading.Bodies.{File}
+use Rattle.pack_laws.specs.pack_model.specs.reading.Namings.{Naming, body_kept, files_kept, item_kept, items_kept, kept_after, kept_after_body, kept_by}
+use Rattle.pack_laws.specs.pack_model.specs.reading.Slots.{Item, item_words}
+use Rattle.pack_laws.specs.pack_model.specs.reading.Slots.Item.{entry, space}
 
 -- the entries kept once these files are passed
 abbrev pub after_files : (List Naming → Naming → Bool) → List Naming → List (Fid × File) → List Naming

@@ -1,16 +1,16 @@
 -- Pages that aren't read come and go.
 use Rattle.std.proofs.Common.{◌*◌, ◌+◌, ◌-◌, ◌<◌, ◌∙◌, ◌≡◌, ◌≤◌, ◌⊎◌, Bool, List, None, Option, Some, ap, arith, cond, false, get_or, inl, inr, length, length-append, refl, set, subst, suc, sym, true, zero, ℕ}
-use Rattle.alto_words.specs.Fid.{disk_descriptor, is_fid}
-use Rattle.alto_words.specs.declared.fid.Fid.{Fid}
-use Rattle.disk_records.specs.Labels.{in_range, is_free, page_of, tag}
-use Rattle.disk_records.specs.Packs.{Pack, carried, is_usable, sector_at, with_part}
-use Rattle.disk_records.specs.declared.records.Page.{Page}
-use Rattle.disk_records.specs.declared.records.Sector.{Sector}
-use Rattle.disk_records.specs.declared.shape.Shape.{Shape}
-use Rattle.pack_model.specs.reading.Files.{file_bytes, joined, leader_at, most_pages, page, page_at}
-use Rattle.pack_model.specs.reading.Model.{good_one}
-use Rattle.pack_model.specs.reading.Sights.{Sight, page_sight, sight, sights, tag_sight}
-use Rattle.pack_model.specs.reading.Sights.Sight.{free, hidden, stray}
+use Rattle.pack_laws.specs.alto_words.specs.Fid.{disk_descriptor, is_fid}
+use Rattle.pack_laws.specs.alto_words.specs.declared.fid.Fid.{Fid}
+use Rattle.pack_laws.specs.disk_records.specs.Labels.{in_range, is_free, page_of, tag}
+use Rattle.pack_laws.specs.disk_records.specs.Packs.{Pack, carried, is_usable, sector_at, with_part}
+use Rattle.pack_laws.specs.disk_records.specs.declared.records.Page.{Page}
+use Rattle.pack_laws.specs.disk_records.specs.declared.records.Sector.{Sector}
+use Rattle.pack_laws.specs.disk_records.specs.declared.shape.Shape.{Shape}
+use Rattle.pack_laws.specs.pack_model.specs.reading.Files.{file_bytes, joined, leader_at, most_pages, page, page_at}
+use Rattle.pack_laws.specs.pack_model.specs.reading.Model.{good_one}
+use Rattle.pack_laws.specs.pack_model.specs.reading.Sights.{Sight, page_sight, sight, sights, tag_sight}
+use Rattle.pack_laws.specs.pack_model.specs.reading.Sights.Sight.{free, hidden, stray}
 use Rattle.pack_laws.proofs.Guarding.{carried_parts, free_parts, usable_shown, usable_within}
 use Rattle.pack_laws.proofs.Joining.{AreShort, Reaches, continue, front, joined_at, length-front, most_is, skip}
 use Rattle.pack_laws.proofs.Keys.{is_fid-itself}

@@ -1,16 +1,16 @@
 -- Writes after which a sector shows what it showed, or a leader page with the same leader.
 use Rattle.std.proofs.Common.{◌+◌, ◌<◌, ◌∙◌, ◌∷◌, ◌≡◌, List, [], ap, arith, cond, drop, get_or, get_or-drop, refl, set, suc, sym, take, zero, ℕ}
-use Rattle.alto_words.specs.declared.fid.Fid.{Fid}
-use Rattle.disk_records.specs.Labels.{tag}
-use Rattle.disk_records.specs.Packs.{Pack, after, is_usable, no_sector, sector_at, with_part}
-use Rattle.disk_records.specs.Words.{double, word}
-use Rattle.disk_records.specs.declared.records.Event.TheVariants.{Wrote}
-use Rattle.disk_records.specs.declared.records.Sector.{Sector}
-use Rattle.disk_records.specs.declared.shape.Shape.{Shape}
-use Rattle.pack_model.specs.reading.Bytes.{bytes_of}
-use Rattle.pack_model.specs.reading.Leaders.{is_readable, leader_name, leader_of, leader_words}
-use Rattle.pack_model.specs.reading.Sights.{page_sight, sight, sights, sights_from, tag_sight}
-use Rattle.pack_model.specs.reading.Sights.Sight.{hidden, holds, leads}
+use Rattle.pack_laws.specs.alto_words.specs.declared.fid.Fid.{Fid}
+use Rattle.pack_laws.specs.disk_records.specs.Labels.{tag}
+use Rattle.pack_laws.specs.disk_records.specs.Packs.{Pack, after, is_usable, no_sector, sector_at, with_part}
+use Rattle.pack_laws.specs.disk_records.specs.Words.{double, word}
+use Rattle.pack_laws.specs.disk_records.specs.declared.records.Event.TheVariants.{Wrote}
+use Rattle.pack_laws.specs.disk_records.specs.declared.records.Sector.{Sector}
+use Rattle.pack_laws.specs.disk_records.specs.declared.shape.Shape.{Shape}
+use Rattle.pack_laws.specs.pack_model.specs.reading.Bytes.{bytes_of}
+use Rattle.pack_laws.specs.pack_model.specs.reading.Leaders.{is_readable, leader_name, leader_of, leader_words}
+use Rattle.pack_laws.specs.pack_model.specs.reading.Sights.{page_sight, sight, sights, sights_from, tag_sight}
+use Rattle.pack_laws.specs.pack_model.specs.reading.Sights.Sight.{hidden, holds, leads}
 use Rattle.pack_laws.proofs.Guarding.{carried_parts, free_parts, free_shown, named_shown}
 use Rattle.laws_record.proofs.Staying.{Stays, stay_sights}
 use Rattle.laws_record.specs.QuietLaws.{EqualValue, FreeValue, LeaderHints, OtherLinks, PastCount, with_label, with_value}

@@ -2,23 +2,23 @@
 use Rattle.std.proofs.Common.{◌&&◌, ◌*◌, ◌/◌, ◌<◌, ◌==◌, ◌∙◌, ◌≡◌, ◌≢◌, Bool, List, None, Option, Some, ap, arith, cond, eq-eqb, false, get_or, inl, inr, le-leb, leb-false, length, nat_le, refl, set, subst, suc, sym, take, true, zero, ℕ}
 use Rattle.std.proofs.lemmas.Bool.{cases_lt}
 use Rattle.std.specs.Option.{is_some, option_map}
-use Rattle.alto_words.specs.Fid.{disk_descriptor, is_directory, is_fid}
-use Rattle.alto_words.specs.declared.fid.Fid.{Fid}
-use Rattle.disk_records.specs.Addresses.{descriptor_length}
-use Rattle.disk_records.specs.Labels.{is_free, tag}
-use Rattle.disk_records.specs.Packs.{Pack, carried, is_free_at, is_usable, sector_at}
-use Rattle.disk_records.specs.declared.records.Page.{Page}
-use Rattle.pack_model.specs.reading.Bodies.{Body, body_length, body_of}
-use Rattle.pack_model.specs.reading.Bodies.Body.{data_of, items_of}
-use Rattle.pack_model.specs.reading.Bytes.{words_of}
-use Rattle.pack_model.specs.reading.Files.{carries_page, file_bytes, leader, leader_at, most_pages, page, page_at, place}
-use Rattle.pack_model.specs.states.InUse.{counts, in_use, is_place, is_within, last_page}
-use Rattle.pack_model.specs.reading.Leaders.{Leader}
-use Rattle.pack_model.specs.hints.Links.{dir_words}
-use Rattle.pack_model.specs.reading.Model.{good_one, good_sectors}
-use Rattle.pack_model.specs.reading.Sights.{Sight, page_sight, sights}
-use Rattle.pack_model.specs.reading.Sights.Sight.{free, hidden}
-use Rattle.pack_model.specs.reading.Slots.{all_words, slots}
+use Rattle.pack_laws.specs.alto_words.specs.Fid.{disk_descriptor, is_directory, is_fid}
+use Rattle.pack_laws.specs.alto_words.specs.declared.fid.Fid.{Fid}
+use Rattle.pack_laws.specs.disk_records.specs.Addresses.{descriptor_length}
+use Rattle.pack_laws.specs.disk_records.specs.Labels.{is_free, tag}
+use Rattle.pack_laws.specs.disk_records.specs.Packs.{Pack, carried, is_free_at, is_usable, sector_at}
+use Rattle.pack_laws.specs.disk_records.specs.declared.records.Page.{Page}
+use Rattle.pack_laws.specs.pack_model.specs.reading.Bodies.{Body, body_length, body_of}
+use Rattle.pack_laws.specs.pack_model.specs.reading.Bodies.Body.{data_of, items_of}
+use Rattle.pack_laws.specs.pack_model.specs.reading.Bytes.{words_of}
+use Rattle.pack_laws.specs.pack_model.specs.reading.Files.{carries_page, file_bytes, leader, leader_at, most_pages, page, page_at, place}
+use Rattle.pack_laws.specs.pack_model.specs.states.InUse.{counts, in_use, is_place, is_within, last_page}
+use Rattle.pack_laws.specs.pack_model.specs.reading.Leaders.{Leader}
+use Rattle.pack_laws.specs.pack_model.specs.hints.Links.{dir_words}
+use Rattle.pack_laws.specs.pack_model.specs.reading.Model.{good_one, good_sectors}
+use Rattle.pack_laws.specs.pack_model.specs.reading.Sights.{Sight, page_sight, sights}
+use Rattle.pack_laws.specs.pack_model.specs.reading.Sights.Sight.{free, hidden}
+use Rattle.pack_laws.specs.pack_model.specs.reading.Slots.{all_words, slots}
 use Rattle.pack_laws.proofs.Carrying.{carried_shown, sight_carries}
 use Rattle.pack_laws.proofs.Firsts.{first_alone, first_same}
 use Rattle.pack_laws.proofs.Guarding.{carried_parts, here_written, usable_within}

@@ -2,18 +2,18 @@
 use Rattle.std.proofs.Common.{◌++◌, ◌∙◌, ◌∷◌, ◌≡◌, List, None, Some, ap, cond, false, not, refl, sym, true, ℕ}
 use Rattle.std.specs.FinMap.{FinMap, from_entries, get, get-insert, insert, retain_keys, same_map}
 use Rattle.std.specs.Option.{option_map}
-use Rattle.alto_words.specs.Fid.{fid_cmp, is_fid, is_system, sys_dir}
-use Rattle.alto_words.specs.declared.fid.Fid.{Fid}
-use Rattle.disk_records.specs.declared.shape.Shape.{Shape}
-use Rattle.pack_model.specs.reading.Bodies.{Files}
-use Rattle.pack_model.specs.reading.Leaders.{Leader}
-use Rattle.pack_model.specs.sessions.Maps.{map_values}
-use Rattle.pack_model.specs.reading.Model.{Model}
-use Rattle.pack_model.specs.reading.Namings.{namings, namings_in}
-use Rattle.pack_model.specs.showing.Settling.{chosen, settle}
-use Rattle.pack_model.specs.reading.Slots.{Item}
-use Rattle.pack_model.specs.reading.Slots.Item.{entry, space}
-use Rattle.pack_model.specs.showing.View.{Home, Seen, View, homes, names_of, seen_of, view}
+use Rattle.pack_laws.specs.alto_words.specs.Fid.{fid_cmp, is_fid, is_system, sys_dir}
+use Rattle.pack_laws.specs.alto_words.specs.declared.fid.Fid.{Fid}
+use Rattle.pack_laws.specs.disk_records.specs.declared.shape.Shape.{Shape}
+use Rattle.pack_laws.specs.pack_model.specs.reading.Bodies.{Files}
+use Rattle.pack_laws.specs.pack_model.specs.reading.Leaders.{Leader}
+use Rattle.pack_laws.specs.pack_model.specs.sessions.Maps.{map_values}
+use Rattle.pack_laws.specs.pack_model.specs.reading.Model.{Model}
+use Rattle.pack_laws.specs.pack_model.specs.reading.Namings.{namings, namings_in}
+use Rattle.pack_laws.specs.pack_model.specs.showing.Settling.{chosen, settle}
+use Rattle.pack_laws.specs.pack_model.specs.reading.Slots.{Item}
+use Rattle.pack_laws.specs.pack_model.specs.reading.Slots.Item.{entry, space}
+use Rattle.pack_laws.specs.pack_model.specs.showing.View.{Home, Seen, View, homes, names_of, seen_of, view}
 use Rattle.laws_record.proofs.Around.{around}
 use Rattle.laws_record.proofs.Entered.{directory, enter_names, namings_around}
 use Rattle.laws_record.proofs.Keeping.{kept_insert}

@@ -1,10 +1,10 @@
 -- Runs of record writes that carry out lists of moves, or show nothing new, one after another.
 use Rattle.std.specs.Prelude.{◌++◌, ◌≡◌, List, ℕ}
-use Rattle.disk_records.specs.Packs.{Pack, after, crash}
-use Rattle.disk_records.specs.declared.records.Event.{Event}
-use Rattle.pack_model.specs.sessions.Moves.{Meaning, Obeys, steps}
-use Rattle.pack_model.specs.scavenger.Scavenging.{Keeps, Mends, Throughout}
-use Rattle.pack_model.specs.showing.Settling.{show}
+use Rattle.pack_laws.specs.disk_records.specs.Packs.{Pack, after, crash}
+use Rattle.pack_laws.specs.disk_records.specs.declared.records.Event.{Event}
+use Rattle.pack_laws.specs.pack_model.specs.sessions.Moves.{Meaning, Obeys, steps}
+use Rattle.pack_laws.specs.pack_model.specs.scavenger.Scavenging.{Keeps, Mends, Throughout}
+use Rattle.pack_laws.specs.pack_model.specs.showing.Settling.{show}
 
 -- ---- lists of moves
 -- They make these moves, in lockstep, and each crash stands for the model there; at the end the pack is read as the last model.

@@ -1,25 +1,25 @@
 -- Record writes of the words of a directory, on any pack: what becomes of its slots, and of what is read and viewed.
 use Rattle.std.specs.Prelude.{Contains, List, Some, [], drop, false, get_or, length, min, suc, take, true, ℕ, ◌*◌, ◌++◌, ◌+◌, ◌/◌, ◌<◌, ◌∷◌, ◌≡◌, ◌≤◌}
-use Rattle.alto_words.specs.Fid.{is_directory, is_system}
-use Rattle.alto_words.specs.declared.fid.Fid.{Fid}
-use Rattle.disk_records.specs.Labels.{is_free, page_of, tag}
-use Rattle.disk_records.specs.Packs.{Pack, carried, sector_at}
-use Rattle.disk_records.specs.Words.{word}
-use Rattle.disk_records.specs.declared.records.Page.{Page}
-use Rattle.pack_model.specs.reading.Bytes.{put_at}
-use Rattle.pack_model.specs.reading.Files.{lives, place}
-use Rattle.pack_model.specs.hints.HintWords.{IsAddressWord}
-use Rattle.pack_model.specs.states.InUse.{in_use}
-use Rattle.pack_model.specs.hints.Links.{dir_slots, dir_words}
-use Rattle.pack_model.specs.reading.Model.{dir_items, read_as}
-use Rattle.pack_model.specs.reading.Namings.{namings_in}
-use Rattle.pack_model.specs.operations.PageWords.{in_page}
-use Rattle.pack_model.specs.operations.Rooms.{most_free}
-use Rattle.pack_model.specs.reading.Sights.{sights}
-use Rattle.pack_model.specs.reading.Sights.Sight.{hidden}
-use Rattle.pack_model.specs.reading.SlotWords.{SlotAt}
-use Rattle.pack_model.specs.reading.Slots.{Item, all_words, entry_length, first_length, item_words, slot_of, slots}
-use Rattle.pack_model.specs.reading.Slots.Item.{entry, space}
+use Rattle.pack_laws.specs.alto_words.specs.Fid.{is_directory, is_system}
+use Rattle.pack_laws.specs.alto_words.specs.declared.fid.Fid.{Fid}
+use Rattle.pack_laws.specs.disk_records.specs.Labels.{is_free, page_of, tag}
+use Rattle.pack_laws.specs.disk_records.specs.Packs.{Pack, carried, sector_at}
+use Rattle.pack_laws.specs.disk_records.specs.Words.{word}
+use Rattle.pack_laws.specs.disk_records.specs.declared.records.Page.{Page}
+use Rattle.pack_laws.specs.pack_model.specs.reading.Bytes.{put_at}
+use Rattle.pack_laws.specs.pack_model.specs.reading.Files.{lives, place}
+use Rattle.pack_laws.specs.pack_model.specs.hints.HintWords.{IsAddressWord}
+use Rattle.pack_laws.specs.pack_model.specs.states.InUse.{in_use}
+use Rattle.pack_laws.specs.pack_model.specs.hints.Links.{dir_slots, dir_words}
+use Rattle.pack_laws.specs.pack_model.specs.reading.Model.{dir_items, read_as}
+use Rattle.pack_laws.specs.pack_model.specs.reading.Namings.{namings_in}
+use Rattle.pack_laws.specs.pack_model.specs.operations.PageWords.{in_page}
+use Rattle.pack_laws.specs.pack_model.specs.operations.Rooms.{most_free}
+use Rattle.pack_laws.specs.pack_model.specs.reading.Sights.{sights}
+use Rattle.pack_laws.specs.pack_model.specs.reading.Sights.Sight.{hidden}
+use Rattle.pack_laws.specs.pack_model.specs.reading.SlotWords.{SlotAt}
+use Rattle.pack_laws.specs.pack_model.specs.reading.Slots.{Item, all_words, entry_length, first_length, item_words, slot_of, slots}
+use Rattle.pack_laws.specs.pack_model.specs.reading.Slots.Item.{entry, space}
 use Rattle.laws_record.specs.QuietLaws.{ReadsSame, Relation, with_label, with_value}
 use Rattle.laws_record.specs.ViewLaws.{ViewsSame}
 

@@ -2,19 +2,19 @@
 use Rattle.std.specs.FinMap.{FinMap, contains_key, entries, get}
 use Rattle.std.specs.List.{list_any}
 use Rattle.std.specs.Prelude.{List, None, Some, [], false, length, true, ℕ, ◌++◌, ◌+◌, ◌∷◌, ◌≡◌}
-use Rattle.alto_words.specs.Fid.{fid_cmp, is_system, sys_dir}
-use Rattle.alto_words.specs.declared.fid.Fid.{Fid}
-use Rattle.disk_records.specs.Packs.{Pack}
-use Rattle.pack_model.specs.reading.Files.{lives}
-use Rattle.pack_model.specs.reading.Model.{dir_items, read_as}
-use Rattle.pack_model.specs.reading.Namings.{clashes, fits, namings}
-use Rattle.pack_model.specs.operations.Rooms.{find_room}
-use Rattle.pack_model.specs.showing.Settling.{chosen}
-use Rattle.pack_model.specs.reading.Sights.{sights}
-use Rattle.pack_model.specs.reading.Slots.{Item, all_words, entry_length}
-use Rattle.pack_model.specs.operations.Step.{step}
-use Rattle.pack_model.specs.operations.Step.Operation.{enter}
-use Rattle.pack_model.specs.showing.View.{Home, Seen, View, view}
+use Rattle.pack_laws.specs.alto_words.specs.Fid.{fid_cmp, is_system, sys_dir}
+use Rattle.pack_laws.specs.alto_words.specs.declared.fid.Fid.{Fid}
+use Rattle.pack_laws.specs.disk_records.specs.Packs.{Pack}
+use Rattle.pack_laws.specs.pack_model.specs.reading.Files.{lives}
+use Rattle.pack_laws.specs.pack_model.specs.reading.Model.{dir_items, read_as}
+use Rattle.pack_laws.specs.pack_model.specs.reading.Namings.{clashes, fits, namings}
+use Rattle.pack_laws.specs.pack_model.specs.operations.Rooms.{find_room}
+use Rattle.pack_laws.specs.pack_model.specs.showing.Settling.{chosen}
+use Rattle.pack_laws.specs.pack_model.specs.reading.Sights.{sights}
+use Rattle.pack_laws.specs.pack_model.specs.reading.Slots.{Item, all_words, entry_length}
+use Rattle.pack_laws.specs.pack_model.specs.operations.Step.{step}
+use Rattle.pack_laws.specs.pack_model.specs.operations.Step.Operation.{enter}
+use Rattle.pack_laws.specs.pack_model.specs.showing.View.{Home, Seen, View, view}
 use Rattle.laws_record.specs.ChainLaws.{ShowsSame}
 use Rattle.laws_record.specs.DirLaws.{Enters, entered}
 

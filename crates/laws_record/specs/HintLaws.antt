@@ -1,10 +1,10 @@
 -- What packs that differ in hint words alone have in common.
 use Rattle.std.specs.Prelude.{List, get_or, length, ℕ, ◌↔◌, ◌≡◌, ◌⊎◌}
-use Rattle.disk_records.specs.Packs.{Pack, sector_at}
-use Rattle.pack_model.specs.reading.Bytes.{bytes_of}
-use Rattle.pack_model.specs.hints.HintWords.{IsHintByte, SameButHints, byte_at}
-use Rattle.pack_model.specs.reading.Model.{read_as}
-use Rattle.pack_model.specs.states.Sound.{Clean, Sound}
+use Rattle.pack_laws.specs.disk_records.specs.Packs.{Pack, sector_at}
+use Rattle.pack_laws.specs.pack_model.specs.reading.Bytes.{bytes_of}
+use Rattle.pack_laws.specs.pack_model.specs.hints.HintWords.{IsHintByte, SameButHints, byte_at}
+use Rattle.pack_laws.specs.pack_model.specs.reading.Model.{read_as}
+use Rattle.pack_laws.specs.pack_model.specs.states.Sound.{Clean, Sound}
 use Rattle.laws_record.specs.QuietLaws.{with_value}
 
 -- They are read the same, and one is sound or clean if and only if the other is.

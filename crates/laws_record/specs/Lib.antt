@@ -7,3 +7,7 @@ pub mod SlotLaws
 pub mod StepLaws
 pub mod ViewLaws
 pub mod WholeLaws
+pub use Rattle.pack_laws.specs.alto_words
+pub use Rattle.pack_laws.specs.disk_records
+pub use Rattle.pack_laws.specs.pack_model
+pub use Rattle.pack_laws

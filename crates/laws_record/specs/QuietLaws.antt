@@ -1,16 +1,16 @@
 -- Record writes after which a pack is read as before, on any pack: what they leave out is a hint, or isn't read, or is told twice.
 use Rattle.std.specs.Prelude.{◌/◌, ◌<◌, ◌∷◌, ◌≡◌, ◌≢◌, List, None, Some, [], drop, false, length, suc, take, true, ℕ}
-use Rattle.alto_words.specs.Fid.{disk_descriptor, is_fid}
-use Rattle.alto_words.specs.declared.fid.Fid.{Fid}
-use Rattle.disk_records.specs.Labels.{is_free, page_of, tag}
-use Rattle.disk_records.specs.Packs.{Pack, after, carried, is_free_at, sector_at}
-use Rattle.disk_records.specs.declared.records.Event.TheVariants.{Wrote}
-use Rattle.disk_records.specs.declared.records.Page.{Page}
-use Rattle.pack_model.specs.reading.Bytes.{bytes_of}
-use Rattle.pack_model.specs.reading.Files.{file_bytes, leader, place}
-use Rattle.pack_model.specs.reading.Leaders.{leader_of, leader_words}
-use Rattle.pack_model.specs.reading.Model.{read_as}
-use Rattle.pack_model.specs.reading.Sights.{Sight, sights}
+use Rattle.pack_laws.specs.alto_words.specs.Fid.{disk_descriptor, is_fid}
+use Rattle.pack_laws.specs.alto_words.specs.declared.fid.Fid.{Fid}
+use Rattle.pack_laws.specs.disk_records.specs.Labels.{is_free, page_of, tag}
+use Rattle.pack_laws.specs.disk_records.specs.Packs.{Pack, after, carried, is_free_at, sector_at}
+use Rattle.pack_laws.specs.disk_records.specs.declared.records.Event.TheVariants.{Wrote}
+use Rattle.pack_laws.specs.disk_records.specs.declared.records.Page.{Page}
+use Rattle.pack_laws.specs.pack_model.specs.reading.Bytes.{bytes_of}
+use Rattle.pack_laws.specs.pack_model.specs.reading.Files.{file_bytes, leader, place}
+use Rattle.pack_laws.specs.pack_model.specs.reading.Leaders.{leader_of, leader_words}
+use Rattle.pack_laws.specs.pack_model.specs.reading.Model.{read_as}
+use Rattle.pack_laws.specs.pack_model.specs.reading.Sights.{Sight, sights}
 
 -- ---- one record write
 abbrev pub with_label : Pack → ℕ → List ℕ → Pack

@@ -1,12 +1,12 @@
 -- What the definitions of slots say of one another: how far words are slots, when a reader knows the next slot, and where an entry's
 -- room is.
 use Rattle.std.specs.Prelude.{◌++◌, ◌-◌, ◌<◌, ◌∷◌, ◌≡◌, ◌↔◌, All, List, None, Some, drop, length, take, ℕ}
-use Rattle.alto_words.specs.declared.fid.Fid.{Fid}
-use Rattle.disk_records.specs.Words.{word}
-use Rattle.pack_model.specs.operations.Rooms.{Room, find_room, left_over, placed}
-use Rattle.pack_model.specs.reading.SlotWords.{entry_words}
-use Rattle.pack_model.specs.reading.Slots.{Item, Reads, ReadsLongest, all_words, and_then, entry_length, item_words, slot_at, slots}
-use Rattle.pack_model.specs.reading.Slots.Item.{entry, space}
+use Rattle.pack_laws.specs.alto_words.specs.declared.fid.Fid.{Fid}
+use Rattle.pack_laws.specs.disk_records.specs.Words.{word}
+use Rattle.pack_laws.specs.pack_model.specs.operations.Rooms.{Room, find_room, left_over, placed}
+use Rattle.pack_laws.specs.pack_model.specs.reading.SlotWords.{entry_words}
+use Rattle.pack_laws.specs.pack_model.specs.reading.Slots.{Item, Reads, ReadsLongest, all_words, and_then, entry_length, item_words, slot_at, slots}
+use Rattle.pack_laws.specs.pack_model.specs.reading.Slots.Item.{entry, space}
 
 -- ---- how far words are slots
 -- the longest prefix that slots fill is as long as they are

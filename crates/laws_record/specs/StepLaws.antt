@@ -2,24 +2,24 @@
 use Rattle.std.specs.FinMap.{entries}
 use Rattle.std.specs.List.{list_any}
 use Rattle.std.specs.Prelude.{◌%◌, ◌*◌, ◌++◌, ◌+◌, ◌/◌, ◌<◌, ◌∷◌, ◌≡◌, ◌≤◌, List, None, Some, [], drop, false, length, suc, true, ℕ}
-use Rattle.alto_words.specs.Fid.{disk_descriptor, is_directory, is_fid, serial_of}
-use Rattle.alto_words.specs.declared.fid.Fid.{Fid}
-use Rattle.disk_records.specs.Labels.{is_free, page_of, tag}
-use Rattle.disk_records.specs.Packs.{Pack, after, carried, is_free_at, sector_at}
-use Rattle.disk_records.specs.declared.records.Event.TheVariants.{Wrote}
-use Rattle.pack_model.specs.reading.Bodies.{body_of, described}
-use Rattle.pack_model.specs.reading.Files.{file_bytes, leader, lives, place}
-use Rattle.pack_model.specs.reading.Leaders.{leader_of}
-use Rattle.pack_model.specs.hints.Links.{dir_words}
-use Rattle.pack_model.specs.reading.Model.{read_as}
-use Rattle.pack_model.specs.reading.Namings.{namings}
-use Rattle.pack_model.specs.operations.Puts.{Put, WritesValue}
-use Rattle.pack_model.specs.reading.Sights.{sights}
-use Rattle.pack_model.specs.reading.Slots.{Item, SlotsReachEnd, slots}
-use Rattle.pack_model.specs.reading.Slots.Item.{entry, space}
-use Rattle.pack_model.specs.operations.Step.{new_body, new_leader, step}
-use Rattle.pack_model.specs.operations.Step.Operation.{cut, drop_file, grow, leave, make, put, stamp, title, widen}
-use Rattle.pack_model.specs.states.Whole.{Tidy}
+use Rattle.pack_laws.specs.alto_words.specs.Fid.{disk_descriptor, is_directory, is_fid, serial_of}
+use Rattle.pack_laws.specs.alto_words.specs.declared.fid.Fid.{Fid}
+use Rattle.pack_laws.specs.disk_records.specs.Labels.{is_free, page_of, tag}
+use Rattle.pack_laws.specs.disk_records.specs.Packs.{Pack, after, carried, is_free_at, sector_at}
+use Rattle.pack_laws.specs.disk_records.specs.declared.records.Event.TheVariants.{Wrote}
+use Rattle.pack_laws.specs.pack_model.specs.reading.Bodies.{body_of, described}
+use Rattle.pack_laws.specs.pack_model.specs.reading.Files.{file_bytes, leader, lives, place}
+use Rattle.pack_laws.specs.pack_model.specs.reading.Leaders.{leader_of}
+use Rattle.pack_laws.specs.pack_model.specs.hints.Links.{dir_words}
+use Rattle.pack_laws.specs.pack_model.specs.reading.Model.{read_as}
+use Rattle.pack_laws.specs.pack_model.specs.reading.Namings.{namings}
+use Rattle.pack_laws.specs.pack_model.specs.operations.Puts.{Put, WritesValue}
+use Rattle.pack_laws.specs.pack_model.specs.reading.Sights.{sights}
+use Rattle.pack_laws.specs.pack_model.specs.reading.Slots.{Item, SlotsReachEnd, slots}
+use Rattle.pack_laws.specs.pack_model.specs.reading.Slots.Item.{entry, space}
+use Rattle.pack_laws.specs.pack_model.specs.operations.Step.{new_body, new_leader, step}
+use Rattle.pack_laws.specs.pack_model.specs.operations.Step.Operation.{cut, drop_file, grow, leave, make, put, stamp, title, widen}
+use Rattle.pack_laws.specs.pack_model.specs.states.Whole.{Tidy}
 use Rattle.laws_record.specs.DirLaws.{Frees, freed}
 use Rattle.pack_laws.specs.PutLaws.{StaysWithin}
 use Rattle.laws_record.specs.QuietLaws.{with_label, with_value}

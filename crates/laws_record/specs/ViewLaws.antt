@@ -1,17 +1,17 @@
 -- Record writes after which a pack is viewed as before, on any pack: they concern the system files.
 use Rattle.std.specs.Prelude.{List, None, Some, [], suc, true, ℕ, ◌∷◌, ◌≡◌}
-use Rattle.alto_words.specs.Fid.{disk_descriptor, is_system, sys_dir}
-use Rattle.alto_words.specs.declared.fid.Fid.{Fid}
-use Rattle.disk_records.specs.Labels.{page_of}
-use Rattle.disk_records.specs.Packs.{Pack, after, carried, is_free_at}
-use Rattle.disk_records.specs.declared.records.Event.TheVariants.{Wrote}
-use Rattle.pack_model.specs.reading.Files.{leader}
-use Rattle.pack_model.specs.hints.Links.{dir_words}
-use Rattle.pack_model.specs.reading.Model.{read_as}
-use Rattle.pack_model.specs.reading.Namings.{namings_in}
-use Rattle.pack_model.specs.reading.Sights.{sights}
-use Rattle.pack_model.specs.reading.Slots.{slots}
-use Rattle.pack_model.specs.showing.View.{view}
+use Rattle.pack_laws.specs.alto_words.specs.Fid.{disk_descriptor, is_system, sys_dir}
+use Rattle.pack_laws.specs.alto_words.specs.declared.fid.Fid.{Fid}
+use Rattle.pack_laws.specs.disk_records.specs.Labels.{page_of}
+use Rattle.pack_laws.specs.disk_records.specs.Packs.{Pack, after, carried, is_free_at}
+use Rattle.pack_laws.specs.disk_records.specs.declared.records.Event.TheVariants.{Wrote}
+use Rattle.pack_laws.specs.pack_model.specs.reading.Files.{leader}
+use Rattle.pack_laws.specs.pack_model.specs.hints.Links.{dir_words}
+use Rattle.pack_laws.specs.pack_model.specs.reading.Model.{read_as}
+use Rattle.pack_laws.specs.pack_model.specs.reading.Namings.{namings_in}
+use Rattle.pack_laws.specs.pack_model.specs.reading.Sights.{sights}
+use Rattle.pack_laws.specs.pack_model.specs.reading.Slots.{slots}
+use Rattle.pack_laws.specs.pack_model.specs.showing.View.{view}
 use Rattle.laws_record.specs.QuietLaws.{Relation, with_label, with_value}
 
 -- the second pack is viewed as the first

@@ -2,9 +2,9 @@
 use Rattle.std.proofs.Common.{◌∙◌, ◌∷◌, ◌≡◌, Bool, List, None, Some, T, [], ap, cond, false, refl, sym, true}
 use Rattle.std.specs.FinMap.{FinMap, entries, entries_sorted, find, get, get-entries, is_sorted}
 use Rattle.std.specs.FinMap.Entries.{below_all}
-use Rattle.alto_words.specs.Fid.{fid_cmp, is_fid}
-use Rattle.alto_words.specs.declared.fid.Fid.{Fid}
-use Rattle.pack_laws.proofs.Keys.{is_fid-itself, same_fid}
+use Rattle.laws_operation.specs.alto_words.specs.Fid.{fid_cmp, is_fid}
+use Rattle.laws_operation.specs.alto_words.specs.declared.fid.Fid.{Fid}
+use Rattle.laws_operation.specs.pack_laws.proofs.Keys.{is_fid-itself, same_fid}
 use Rattle.laws_record.proofs.Around.{first_part, not_below, second_part}
 
 -- it holds of each entry

@@ -1,12 +1,12 @@
 -- The pages of files together, where one file changes, comes or goes.
 use Rattle.std.proofs.Common.{◌+◌, ◌∙◌, ◌≡◌, Bool, None, Option, Some, ap, arith, cond, false, refl, sym, true, ℕ}
 use Rattle.std.specs.FinMap.{entries, get, get-insert, get-remove, insert, remove, same_map}
-use Rattle.alto_words.specs.Fid.{is_fid}
-use Rattle.alto_words.specs.declared.fid.Fid.{Fid}
-use Rattle.pack_model.specs.reading.Bodies.{File, Files, body_length, pages_for}
-use Rattle.pack_model.specs.sessions.Maps.{update, update_found}
-use Rattle.pack_model.specs.reading.Model.{files_pages}
-use Rattle.pack_laws.proofs.Keys.{fid_same, fid_total, is_fid-itself, same_fid}
+use Rattle.laws_operation.specs.alto_words.specs.Fid.{is_fid}
+use Rattle.laws_operation.specs.alto_words.specs.declared.fid.Fid.{Fid}
+use Rattle.laws_operation.specs.pack_model.specs.reading.Bodies.{File, Files, body_length, pages_for}
+use Rattle.laws_operation.specs.pack_model.specs.sessions.Maps.{update, update_found}
+use Rattle.laws_operation.specs.pack_model.specs.reading.Model.{files_pages}
+use Rattle.laws_operation.specs.pack_laws.proofs.Keys.{fid_same, fid_total, is_fid-itself, same_fid}
 use Rattle.laws_record.proofs.FilePages.{changed_pages, new_pages}
 
 -- the pages of one file

@@ -5,14 +5,14 @@ use Rattle.std.specs.List.{range_with_len}
 use Rattle.std.proofs.lemmas.Bool.{cases_lt}
 use Rattle.std.proofs.lemmas.Bool.Decides.{nat_tests}
 use Rattle.std.proofs.lemmas.List.{get_or_past}
-use Rattle.disk_records.specs.Addresses.{pages_of}
-use Rattle.disk_records.specs.Labels.{Tag, in_range, is_free, tag}
-use Rattle.disk_records.specs.Packs.{Pack, is_free_at, is_usable, sector_at}
-use Rattle.pack_model.specs.states.InUse.{how_many, is_free_sight, one_if}
-use Rattle.pack_model.specs.reading.Sights.{Sight, page_sight, sight, sights, tag_sight}
-use Rattle.pack_model.specs.reading.Sights.Sight.{free, hidden, stray}
-use Rattle.pack_laws.proofs.Guarding.{free_parts}
-use Rattle.pack_laws.proofs.Sighted.{length-sights, sights-get}
+use Rattle.laws_operation.specs.disk_records.specs.Addresses.{pages_of}
+use Rattle.laws_operation.specs.disk_records.specs.Labels.{Tag, in_range, is_free, tag}
+use Rattle.laws_operation.specs.disk_records.specs.Packs.{Pack, is_free_at, is_usable, sector_at}
+use Rattle.laws_operation.specs.pack_model.specs.states.InUse.{how_many, is_free_sight, one_if}
+use Rattle.laws_operation.specs.pack_model.specs.reading.Sights.{Sight, page_sight, sight, sights, tag_sight}
+use Rattle.laws_operation.specs.pack_model.specs.reading.Sights.Sight.{free, hidden, stray}
+use Rattle.laws_operation.specs.pack_laws.proofs.Guarding.{free_parts}
+use Rattle.laws_operation.specs.pack_laws.proofs.Sighted.{length-sights, sights-get}
 use Rattle.laws_record.proofs.Recording.{free_sight}
 use Rattle.laws_room.specs.RoomLaws.{FreeSectorsAreThoseFound}
 

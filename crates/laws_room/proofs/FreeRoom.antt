@@ -1,16 +1,16 @@
 -- The free sectors of a whole pack are as many as its model has room.
 use Rattle.std.proofs.Common.{List, ap, arith, cond, true, ℕ, ◌+◌, ◌≡◌}
 use Rattle.std.specs.FinMap.{entries}
-use Rattle.alto_words.specs.Fid.{disk_descriptor, sys_dir}
-use Rattle.disk_records.specs.Packs.{Pack}
-use Rattle.disk_records.specs.declared.shape.Shape.{Shape}
-use Rattle.pack_model.specs.reading.Files.{lives, numbered}
-use Rattle.pack_model.specs.states.InUse.{free_sector_count, how_many, in_use}
-use Rattle.pack_model.specs.scavenger.Mended.{needs}
-use Rattle.pack_model.specs.reading.Model.{descriptor_pages, files_pages, good_sectors, read_as, read_sights}
-use Rattle.pack_model.specs.scavenger.Needed.{needed}
-use Rattle.pack_model.specs.reading.Sights.{Sight, sights}
-use Rattle.pack_model.specs.states.Whole.{Whole, WholeSights}
+use Rattle.laws_operation.specs.alto_words.specs.Fid.{disk_descriptor, sys_dir}
+use Rattle.laws_operation.specs.disk_records.specs.Packs.{Pack}
+use Rattle.laws_operation.specs.disk_records.specs.declared.shape.Shape.{Shape}
+use Rattle.laws_operation.specs.pack_model.specs.reading.Files.{lives, numbered}
+use Rattle.laws_operation.specs.pack_model.specs.states.InUse.{free_sector_count, how_many, in_use}
+use Rattle.laws_operation.specs.pack_model.specs.scavenger.Mended.{needs}
+use Rattle.laws_operation.specs.pack_model.specs.reading.Model.{descriptor_pages, files_pages, good_sectors, read_as, read_sights}
+use Rattle.laws_operation.specs.pack_model.specs.scavenger.Needed.{needed}
+use Rattle.laws_operation.specs.pack_model.specs.reading.Sights.{Sight, sights}
+use Rattle.laws_operation.specs.pack_model.specs.states.Whole.{Whole, WholeSights}
 use Rattle.laws_room.proofs.inside.Rooming.{counting_theorem}
 use Rattle.laws_record.proofs.DirReads.{has_leader}
 use Rattle.laws_room.proofs.SystemFiles.{leader_shown, pages_read}

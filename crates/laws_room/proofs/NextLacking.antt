@@ -1,26 +1,26 @@
 -- The next entry that is lacking comes: what is shown stays, and the others are lacking then.
 use Rattle.std.proofs.Common.{◌++◌, ◌||◌, ◌∙◌, ◌∷◌, ◌≡◌, Bool, List, None, Some, [], ap, cond, false, not, refl, sym, true, ℕ}
 use Rattle.std.specs.FinMap.{FinMap, contains_key, entries, find, get, get-entries, insert}
-use Rattle.alto_words.specs.Fid.{disk_descriptor, fid_cmp, is_fid, is_system, sys_dir}
-use Rattle.alto_words.specs.declared.fid.Fid.{Fid}
-use Rattle.disk_records.specs.declared.shape.Shape.{Shape}
-use Rattle.pack_model.specs.reading.Bodies.{Files}
-use Rattle.pack_model.specs.reading.Leaders.{Leader}
-use Rattle.pack_model.specs.sessions.Maps.{map_values}
-use Rattle.pack_model.specs.scavenger.Mended.{lacking}
-use Rattle.pack_model.specs.reading.Model.{Model, is_named}
-use Rattle.pack_model.specs.reading.Namings.{descriptor_name, sys_dir_name}
-use Rattle.pack_model.specs.showing.Settling.{chosen, given, given_names, settle, unless}
-use Rattle.pack_model.specs.reading.Slots.{Item}
-use Rattle.pack_model.specs.showing.View.{Home, Seen, View, seen_of, view}
+use Rattle.laws_operation.specs.alto_words.specs.Fid.{disk_descriptor, fid_cmp, is_fid, is_system, sys_dir}
+use Rattle.laws_operation.specs.alto_words.specs.declared.fid.Fid.{Fid}
+use Rattle.laws_operation.specs.disk_records.specs.declared.shape.Shape.{Shape}
+use Rattle.laws_operation.specs.pack_model.specs.reading.Bodies.{Files}
+use Rattle.laws_operation.specs.pack_model.specs.reading.Leaders.{Leader}
+use Rattle.laws_operation.specs.pack_model.specs.sessions.Maps.{map_values}
+use Rattle.laws_operation.specs.pack_model.specs.scavenger.Mended.{lacking}
+use Rattle.laws_operation.specs.pack_model.specs.reading.Model.{Model, is_named}
+use Rattle.laws_operation.specs.pack_model.specs.reading.Namings.{descriptor_name, sys_dir_name}
+use Rattle.laws_operation.specs.pack_model.specs.showing.Settling.{chosen, given, given_names, settle, unless}
+use Rattle.laws_operation.specs.pack_model.specs.reading.Slots.{Item}
+use Rattle.laws_operation.specs.pack_model.specs.showing.View.{Home, Seen, View, seen_of, view}
 use Rattle.laws_room.proofs.inside.Lacking.{named_now, ordinary_view, system_view}
 use Rattle.laws_room.proofs.Standing.{Stands}
-use Rattle.pack_laws.proofs.Keys.{is_fid-itself}
+use Rattle.laws_operation.specs.pack_laws.proofs.Keys.{is_fid-itself}
 use Rattle.laws_record.proofs.Entered.{directory}
 use Rattle.laws_record.proofs.Keeping.{get-where}
 use Rattle.laws_record.proofs.Settles.{has_name, named_insert, next_settles}
 use Rattle.laws_record.specs.EnterLaws.{AllNamed}
-use Rattle.pack_laws.proofs.Placing.{none_of_false}
+use Rattle.laws_operation.specs.pack_laws.proofs.Placing.{none_of_false}
 
 pub record FirstGiven (names : FinMap fid_cmp Home) (es : List (Fid × Seen)) (f : Fid) (n : List ℕ) (rest : List (Fid × List ℕ)) : Type 0 where
   pub x : Seen

@@ -3,26 +3,26 @@ use Rattle.std.proofs.Common.{◌∙◌, ◌∷◌, ◌≡◌, ◌||◌, Bool, L
 use Rattle.std.specs.FinMap.{FinMap, contains_key, entries, find, get, get-from_entries, retain_keys}
 use Rattle.std.specs.List.{list_any}
 use Rattle.std.specs.Option.{is_some, option_map}
-use Rattle.alto_words.specs.Fid.{disk_descriptor, fid_cmp, is_fid, is_system, sys_dir}
-use Rattle.alto_words.specs.declared.fid.Fid.{Fid}
-use Rattle.disk_records.specs.Packs.{Pack}
-use Rattle.disk_records.specs.declared.shape.Shape.{Shape}
-use Rattle.pack_model.specs.reading.Bodies.{File, described, found, is_described}
-use Rattle.pack_model.specs.reading.Files.{file_bytes, leader, lives}
-use Rattle.pack_model.specs.reading.Leaders.{Leader}
-use Rattle.pack_model.specs.sessions.Maps.{map_values}
-use Rattle.pack_model.specs.scavenger.Mended.{lacking, mended, widens}
-use Rattle.pack_model.specs.reading.Model.{IsNamed, Model, descriptor_pages, read_as, read_sights, root_items}
-use Rattle.pack_model.specs.reading.Namings.{Naming, descriptor_name, namings, sys_dir_name}
-use Rattle.pack_model.specs.scavenger.Needed.{needed}
-use Rattle.pack_model.specs.scavenger.Scavenging.{root_stands}
-use Rattle.pack_model.specs.showing.Settling.{chosen, given, given_names, unless}
-use Rattle.pack_model.specs.reading.Sights.{Sight, sights}
-use Rattle.pack_model.specs.reading.Slots.{Item}
-use Rattle.pack_model.specs.showing.View.{Home, Seen, homes, names_of, seen_of, view}
-use Rattle.pack_model.specs.states.Whole.{Whole, WholeSights}
-use Rattle.pack_laws.proofs.Keys.{fid_same, fid_total, is_fid-sym}
-use Rattle.pack_laws.proofs.Mapping.{get-map_values}
+use Rattle.laws_operation.specs.alto_words.specs.Fid.{disk_descriptor, fid_cmp, is_fid, is_system, sys_dir}
+use Rattle.laws_operation.specs.alto_words.specs.declared.fid.Fid.{Fid}
+use Rattle.laws_operation.specs.disk_records.specs.Packs.{Pack}
+use Rattle.laws_operation.specs.disk_records.specs.declared.shape.Shape.{Shape}
+use Rattle.laws_operation.specs.pack_model.specs.reading.Bodies.{File, described, found, is_described}
+use Rattle.laws_operation.specs.pack_model.specs.reading.Files.{file_bytes, leader, lives}
+use Rattle.laws_operation.specs.pack_model.specs.reading.Leaders.{Leader}
+use Rattle.laws_operation.specs.pack_model.specs.sessions.Maps.{map_values}
+use Rattle.laws_operation.specs.pack_model.specs.scavenger.Mended.{lacking, mended, widens}
+use Rattle.laws_operation.specs.pack_model.specs.reading.Model.{IsNamed, Model, descriptor_pages, read_as, read_sights, root_items}
+use Rattle.laws_operation.specs.pack_model.specs.reading.Namings.{Naming, descriptor_name, namings, sys_dir_name}
+use Rattle.laws_operation.specs.pack_model.specs.scavenger.Needed.{needed}
+use Rattle.laws_operation.specs.pack_model.specs.scavenger.Scavenging.{root_stands}
+use Rattle.laws_operation.specs.pack_model.specs.showing.Settling.{chosen, given, given_names, unless}
+use Rattle.laws_operation.specs.pack_model.specs.reading.Sights.{Sight, sights}
+use Rattle.laws_operation.specs.pack_model.specs.reading.Slots.{Item}
+use Rattle.laws_operation.specs.pack_model.specs.showing.View.{Home, Seen, homes, names_of, seen_of, view}
+use Rattle.laws_operation.specs.pack_model.specs.states.Whole.{Whole, WholeSights}
+use Rattle.laws_operation.specs.pack_laws.proofs.Keys.{fid_same, fid_total, is_fid-sym}
+use Rattle.laws_operation.specs.pack_laws.proofs.Mapping.{get-map_values}
 use Rattle.laws_record.proofs.DirReads.{has_leader}
 use Rattle.laws_record.proofs.Keeping.{get-where}
 use Rattle.laws_record.proofs.Mending.{get-seen}

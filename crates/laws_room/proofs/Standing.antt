@@ -1,13 +1,13 @@
 -- Where an item comes to stand among slots: entries and words.
 use Rattle.std.proofs.Common.{◌++◌, ◌+◌, ◌-◌, ◌∙◌, ◌∷◌, ◌≡◌, ◌≤◌, Bool, List, None, Option, Some, [], ap, arith, cond, false, le-leb, nat_le, refl, subst, sym, true, ℕ}
 use Rattle.std.specs.Option.{is_some, option_map, option_or}
-use Rattle.alto_words.specs.declared.fid.Fid.{Fid}
-use Rattle.pack_model.specs.scavenger.Mended.{with_page}
-use Rattle.pack_model.specs.reading.Namings.{namings_in}
-use Rattle.pack_model.specs.operations.Rooms.{in_run, left_over, placed, run}
-use Rattle.pack_model.specs.reading.Slots.{Item, all_words, item_words}
-use Rattle.pack_model.specs.reading.Slots.Item.{entry, space}
-use Rattle.pack_laws.proofs.Placing.{none_of_false}
+use Rattle.laws_operation.specs.alto_words.specs.declared.fid.Fid.{Fid}
+use Rattle.laws_operation.specs.pack_model.specs.scavenger.Mended.{with_page}
+use Rattle.laws_operation.specs.pack_model.specs.reading.Namings.{namings_in}
+use Rattle.laws_operation.specs.pack_model.specs.operations.Rooms.{in_run, left_over, placed, run}
+use Rattle.laws_operation.specs.pack_model.specs.reading.Slots.{Item, all_words, item_words}
+use Rattle.laws_operation.specs.pack_model.specs.reading.Slots.Item.{entry, space}
+use Rattle.laws_operation.specs.pack_laws.proofs.Placing.{none_of_false}
 use Rattle.laws_record.proofs.Roomy.{run_enough}
 use Rattle.laws_record.proofs.SystemEntries.{left_names, left_words}
 use Rattle.laws_record.proofs.Tidying.{some_map}

@@ -3,30 +3,30 @@ use Rattle.std.proofs.Common.{◌++◌, ◌*◌, ◌+◌, ◌∙◌, ◌∷◌, 
 use Rattle.std.proofs.lemmas.List.{length-take-le}
 use Rattle.std.specs.FinMap.{entries, get, remove}
 use Rattle.std.specs.Option.{is_some, unwrap_or}
-use Rattle.alto_words.specs.Fid.{is_directory, is_fid}
-use Rattle.alto_words.specs.Names.{is_same_name}
-use Rattle.alto_words.specs.declared.fid.Fid.{Fid}
-use Rattle.pack_model.specs.reading.Bodies.{Body, File, body_length, pages_for}
-use Rattle.pack_model.specs.reading.Bodies.Body.{data_of, items_of}
-use Rattle.pack_model.specs.reading.Bytes.{put_at}
-use Rattle.pack_model.specs.operations.Committing.{length_in, length_of, pages_added, pages_cut, pages_for_operation}
-use Rattle.pack_model.specs.sessions.Maps.{map_entries, update}
-use Rattle.pack_model.specs.reading.Model.{Model, files_pages}
-use Rattle.pack_model.specs.operations.Rooms.{items_entered, placed}
-use Rattle.pack_model.specs.reading.Slots.{Item, all_words, item_words}
-use Rattle.pack_model.specs.reading.Slots.Item.{entry, space}
-use Rattle.pack_model.specs.operations.Step.{Operation, body_bytes, body_slots, file_without, item_without, items_left, items_without, new_body, new_file, on_bytes, on_items, on_leader, step}
-use Rattle.pack_model.specs.operations.Step.Operation.{make, put, grow, cut, title, stamp, drop_file, leave, enter, widen}
+use Rattle.laws_operation.specs.alto_words.specs.Fid.{is_directory, is_fid}
+use Rattle.laws_operation.specs.alto_words.specs.Names.{is_same_name}
+use Rattle.laws_operation.specs.alto_words.specs.declared.fid.Fid.{Fid}
+use Rattle.laws_operation.specs.pack_model.specs.reading.Bodies.{Body, File, body_length, pages_for}
+use Rattle.laws_operation.specs.pack_model.specs.reading.Bodies.Body.{data_of, items_of}
+use Rattle.laws_operation.specs.pack_model.specs.reading.Bytes.{put_at}
+use Rattle.laws_operation.specs.pack_model.specs.operations.Committing.{length_in, length_of, pages_added, pages_cut, pages_for_operation}
+use Rattle.laws_operation.specs.pack_model.specs.sessions.Maps.{map_entries, update}
+use Rattle.laws_operation.specs.pack_model.specs.reading.Model.{Model, files_pages}
+use Rattle.laws_operation.specs.pack_model.specs.operations.Rooms.{items_entered, placed}
+use Rattle.laws_operation.specs.pack_model.specs.reading.Slots.{Item, all_words, item_words}
+use Rattle.laws_operation.specs.pack_model.specs.reading.Slots.Item.{entry, space}
+use Rattle.laws_operation.specs.pack_model.specs.operations.Step.{Operation, body_bytes, body_slots, file_without, item_without, items_left, items_without, new_body, new_file, on_bytes, on_items, on_leader, step}
+use Rattle.laws_operation.specs.pack_model.specs.operations.Step.Operation.{make, put, grow, cut, title, stamp, drop_file, leave, enter, widen}
 use Rattle.laws_room.proofs.Standing.{placed_words}
-use Rattle.pack_laws.proofs.Bytes.{length-put_at}
-use Rattle.pack_laws.proofs.Keys.{fid_same, fid_total}
-use Rattle.pack_laws.proofs.Mapping.{entries-map_values}
+use Rattle.laws_operation.specs.pack_laws.proofs.Bytes.{length-put_at}
+use Rattle.laws_operation.specs.pack_laws.proofs.Keys.{fid_same, fid_total}
+use Rattle.laws_operation.specs.pack_laws.proofs.Mapping.{entries-map_values}
 use Rattle.laws_record.proofs.FilePages.{new_pages}
 use Rattle.laws_record.proofs.Slotwise.{words-append}
 use Rattle.laws_room.proofs.FilesPages.{gone_pages, pages_of, updated_pages}
 use Rattle.laws_room.proofs.inside.BodyKinds.{HasKinds, is_data}
 use Rattle.laws_room.specs.UseLaws.{MayBeDone, pages_freed}
-use Rattle.pack_laws.proofs.Placing.{none_of_false}
+use Rattle.laws_operation.specs.pack_laws.proofs.Placing.{none_of_false}
 
 -- ---- slots keep their words
 -- where an entry leaves

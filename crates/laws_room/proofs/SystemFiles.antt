@@ -6,26 +6,26 @@ use Rattle.std.proofs.lemmas.Bool.{cases_lt}
 use Rattle.std.proofs.lemmas.List.{get_or_past}
 use Rattle.std.specs.FinMap.{entries, entries-insert, get, get-insert, insert}
 use Rattle.std.specs.Option.{is_some}
-use Rattle.alto_words.specs.Fid.{disk_descriptor, is_fid, sys_dir}
-use Rattle.alto_words.specs.declared.fid.Fid.{Fid}
-use Rattle.disk_records.specs.declared.shape.Shape.{Shape}
-use Rattle.pack_model.specs.reading.Bodies.{File, Files, described, items_in}
-use Rattle.pack_model.specs.reading.Files.{file_bytes, leader, leader_at, lives}
-use Rattle.pack_model.specs.reading.Leaders.{Leader}
-use Rattle.pack_model.specs.scavenger.Mended.{HasRoom, lacking, mended, needs, root_body, root_file, rooted, widens, with_system}
-use Rattle.pack_model.specs.reading.Model.{Model, descriptor_pages, files_pages, read_sights, root_items}
-use Rattle.pack_model.specs.reading.Namings.{namings, tidied}
-use Rattle.pack_model.specs.scavenger.Scavenging.{root_stands}
-use Rattle.pack_model.specs.reading.Sights.{Sight, sights}
-use Rattle.pack_model.specs.reading.Sights.Sight.{hidden, leads}
-use Rattle.pack_model.specs.reading.Slots.{Item}
-use Rattle.pack_model.specs.showing.View.{view}
+use Rattle.laws_operation.specs.alto_words.specs.Fid.{disk_descriptor, is_fid, sys_dir}
+use Rattle.laws_operation.specs.alto_words.specs.declared.fid.Fid.{Fid}
+use Rattle.laws_operation.specs.disk_records.specs.declared.shape.Shape.{Shape}
+use Rattle.laws_operation.specs.pack_model.specs.reading.Bodies.{File, Files, described, items_in}
+use Rattle.laws_operation.specs.pack_model.specs.reading.Files.{file_bytes, leader, leader_at, lives}
+use Rattle.laws_operation.specs.pack_model.specs.reading.Leaders.{Leader}
+use Rattle.laws_operation.specs.pack_model.specs.scavenger.Mended.{HasRoom, lacking, mended, needs, root_body, root_file, rooted, widens, with_system}
+use Rattle.laws_operation.specs.pack_model.specs.reading.Model.{Model, descriptor_pages, files_pages, read_sights, root_items}
+use Rattle.laws_operation.specs.pack_model.specs.reading.Namings.{namings, tidied}
+use Rattle.laws_operation.specs.pack_model.specs.scavenger.Scavenging.{root_stands}
+use Rattle.laws_operation.specs.pack_model.specs.reading.Sights.{Sight, sights}
+use Rattle.laws_operation.specs.pack_model.specs.reading.Sights.Sight.{hidden, leads}
+use Rattle.laws_operation.specs.pack_model.specs.reading.Slots.{Item}
+use Rattle.laws_operation.specs.pack_model.specs.showing.View.{view}
 use Rattle.laws_room.proofs.inside.DirRooted.{zeros}
 use Rattle.laws_room.proofs.inside.Needing.{pages_around}
 use Rattle.laws_room.proofs.inside.Rooming.{counting_theorem}
-use Rattle.pack_laws.proofs.Firsts.{none_each}
-use Rattle.pack_laws.proofs.Keys.{fid_same, fid_total, is_fid-itself, same_fid}
-use Rattle.pack_laws.proofs.Placing.{leader_at-leads}
+use Rattle.laws_operation.specs.pack_laws.proofs.Firsts.{none_each}
+use Rattle.laws_operation.specs.pack_laws.proofs.Keys.{fid_same, fid_total, is_fid-itself, same_fid}
+use Rattle.laws_operation.specs.pack_laws.proofs.Placing.{leader_at-leads}
 use Rattle.laws_record.proofs.Around.{around}
 use Rattle.laws_record.proofs.DirReads.{has_leader}
 use Rattle.laws_record.proofs.Entered.{directory, namings-append}

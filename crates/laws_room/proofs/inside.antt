@@ -13,6 +13,7 @@ pub mod Needing
 pub mod NeedsNext
 pub mod NextEntry
 pub mod Pages
+pub mod Refused
 pub mod Rooming
 pub mod RootEntries
 pub mod RootStanding

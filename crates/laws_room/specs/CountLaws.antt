@@ -2,16 +2,16 @@
 use Rattle.std.specs.FinMap.{entries}
 use Rattle.std.specs.Option.{is_some}
 use Rattle.std.specs.Prelude.{◌+◌, ◌↔◌, ◌∷◌, ◌≡◌, ◌≤◌, List, [], suc, zero, ℕ}
-use Rattle.alto_words.specs.declared.fid.Fid.{Fid}
-use Rattle.disk_records.specs.Packs.{Pack}
-use Rattle.disk_records.specs.declared.shape.Shape.{Shape}
-use Rattle.pack_model.specs.reading.Bodies.{File, found}
-use Rattle.pack_model.specs.reading.Files.{numbered, place}
-use Rattle.pack_model.specs.states.InUse.{available, how_many, in_use, last_page, one_if}
-use Rattle.pack_model.specs.scavenger.Mended.{HasRoom, mended, needs}
-use Rattle.pack_model.specs.reading.Model.{descriptor_pages, good_sectors}
-use Rattle.pack_model.specs.scavenger.Needed.{needed}
-use Rattle.pack_model.specs.reading.Sights.{Sight, sights}
+use Rattle.laws_operation.specs.alto_words.specs.declared.fid.Fid.{Fid}
+use Rattle.laws_operation.specs.disk_records.specs.Packs.{Pack}
+use Rattle.laws_operation.specs.disk_records.specs.declared.shape.Shape.{Shape}
+use Rattle.laws_operation.specs.pack_model.specs.reading.Bodies.{File, found}
+use Rattle.laws_operation.specs.pack_model.specs.reading.Files.{numbered, place}
+use Rattle.laws_operation.specs.pack_model.specs.states.InUse.{available, how_many, in_use, last_page, one_if}
+use Rattle.laws_operation.specs.pack_model.specs.scavenger.Mended.{HasRoom, mended, needs}
+use Rattle.laws_operation.specs.pack_model.specs.reading.Model.{descriptor_pages, good_sectors}
+use Rattle.laws_operation.specs.pack_model.specs.scavenger.Needed.{needed}
+use Rattle.laws_operation.specs.pack_model.specs.reading.Sights.{Sight, sights}
 
 -- ---- pages that are carried
 -- of a file's leader and its first n data pages, how many some sector carries

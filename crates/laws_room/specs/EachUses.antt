@@ -1,20 +1,20 @@
 -- Each operation, by the record writes that its own law names: it may be done, and takes as many sectors into use as the model says.
 use Rattle.std.specs.Prelude.{List, [], ℕ, ◌+◌, ◌∷◌, ◌≡◌}
-use Rattle.alto_words.specs.declared.fid.Fid.{Fid}
-use Rattle.disk_records.specs.Commands.{value_writes}
-use Rattle.disk_records.specs.Packs.{Pack, after, sector_at}
-use Rattle.disk_records.specs.declared.records.Event.{Event}
-use Rattle.pack_model.specs.operations.Commands.{Claim}
-use Rattle.pack_model.specs.operations.Committing.{pages_for_operation}
-use Rattle.pack_model.specs.operations.Entering.{entry_value, values_first}
-use Rattle.pack_model.specs.reading.Model.{read_as}
-use Rattle.pack_model.specs.operations.Operations.{cut_writes, drop_writes, enter_writes, release_file_writes, grow_writes, make_writes}
-use Rattle.pack_model.specs.operations.PageWords.{freed_value}
-use Rattle.pack_model.specs.reading.Slots.{Item, all_words, item_words}
-use Rattle.pack_model.specs.reading.Slots.Item.{entry}
-use Rattle.pack_model.specs.operations.Step.{Operation}
-use Rattle.pack_model.specs.operations.Step.Operation.{cut, drop_file, enter, grow, leave, make, put, stamp, title, widen}
-use Rattle.pack_model.specs.states.Whole.{Tidy, Whole}
+use Rattle.laws_operation.specs.alto_words.specs.declared.fid.Fid.{Fid}
+use Rattle.laws_operation.specs.disk_records.specs.Commands.{value_writes}
+use Rattle.laws_operation.specs.disk_records.specs.Packs.{Pack, after, sector_at}
+use Rattle.laws_operation.specs.disk_records.specs.declared.records.Event.{Event}
+use Rattle.laws_operation.specs.pack_model.specs.operations.Commands.{Claim}
+use Rattle.laws_operation.specs.pack_model.specs.operations.Committing.{pages_for_operation}
+use Rattle.laws_operation.specs.pack_model.specs.operations.Entering.{entry_value, values_first}
+use Rattle.laws_operation.specs.pack_model.specs.reading.Model.{read_as}
+use Rattle.laws_operation.specs.pack_model.specs.operations.Operations.{cut_writes, drop_writes, enter_writes, release_file_writes, grow_writes, make_writes}
+use Rattle.laws_operation.specs.pack_model.specs.operations.PageWords.{freed_value}
+use Rattle.laws_operation.specs.pack_model.specs.reading.Slots.{Item, all_words, item_words}
+use Rattle.laws_operation.specs.pack_model.specs.reading.Slots.Item.{entry}
+use Rattle.laws_operation.specs.pack_model.specs.operations.Step.{Operation}
+use Rattle.laws_operation.specs.pack_model.specs.operations.Step.Operation.{cut, drop_file, enter, grow, leave, make, put, stamp, title, widen}
+use Rattle.laws_operation.specs.pack_model.specs.states.Whole.{Tidy, Whole}
 use Rattle.laws_record.specs.DirLaws.{Frees}
 use Rattle.laws_operation.specs.ByteLaws.{MayCut, MayGrow, MayPut}
 use Rattle.laws_operation.specs.LeaderLaws.{MayWriteLeader, stamped, titled}

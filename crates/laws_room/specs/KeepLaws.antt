@@ -1,14 +1,14 @@
 -- Record writes that keep, of any pack, what a scavenge keeps: what is shown, and the available sectors less the needed ones.
 use Rattle.std.specs.Prelude.{List, None, Some, [], true, ℕ, ◌∷◌, ◌≡◌}
-use Rattle.alto_words.specs.Fid.{sys_dir}
-use Rattle.disk_records.specs.Labels.{page_of}
-use Rattle.disk_records.specs.Packs.{Pack, carried, is_free_at, is_usable, sector_at}
-use Rattle.pack_model.specs.reading.Files.{leader}
-use Rattle.pack_model.specs.hints.Links.{dir_words}
-use Rattle.pack_model.specs.scavenger.Scavenging.{Keeps, RootStands}
-use Rattle.pack_model.specs.reading.Sights.{sights}
-use Rattle.pack_model.specs.reading.Slots.{slots}
-use Rattle.pack_model.specs.reading.Slots.Item.{space}
+use Rattle.laws_operation.specs.alto_words.specs.Fid.{sys_dir}
+use Rattle.laws_operation.specs.disk_records.specs.Labels.{page_of}
+use Rattle.laws_operation.specs.disk_records.specs.Packs.{Pack, carried, is_free_at, is_usable, sector_at}
+use Rattle.laws_operation.specs.pack_model.specs.reading.Files.{leader}
+use Rattle.laws_operation.specs.pack_model.specs.hints.Links.{dir_words}
+use Rattle.laws_operation.specs.pack_model.specs.scavenger.Scavenging.{Keeps, RootStands}
+use Rattle.laws_operation.specs.pack_model.specs.reading.Sights.{sights}
+use Rattle.laws_operation.specs.pack_model.specs.reading.Slots.{slots}
+use Rattle.laws_operation.specs.pack_model.specs.reading.Slots.Item.{space}
 use Rattle.laws_record.specs.QuietLaws.{Relation, with_label}
 
 -- Sector 1 has the page that it had, or none, or SysDir's leader: so it may become SysDir's leader afterwards if it might before.

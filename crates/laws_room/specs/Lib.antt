@@ -6,3 +6,13 @@ pub mod NextLaws
 pub mod RoomLaws
 pub mod ShownLaws
 pub mod UseLaws
+pub use Rattle.laws_operation.specs.alto_words
+pub use Rattle.laws_operation.specs.disk_records
+pub use Rattle.page_alloc.specs.label_check
+pub use Rattle.page_alloc.specs.hint_cache
+pub use Rattle.page_alloc
+pub use Rattle.laws_operation.specs.pack_model
+pub use Rattle.laws_operation.specs.pack_laws
+pub use Rattle.laws_record
+pub use Rattle.laws_operation.specs.laws_contents
+pub use Rattle.laws_operation

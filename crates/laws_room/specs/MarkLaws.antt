@@ -1,14 +1,14 @@
 -- The mark of DiskDescriptor while a pack is scavenged.
 use Rattle.std.specs.Prelude.{List, Some, [], ℕ, ◌∷◌, ◌≡◌, ◌≢◌}
-use Rattle.alto_words.specs.Fid.{disk_descriptor}
-use Rattle.disk_records.specs.Packs.{Pack, after, carried, sector_at}
-use Rattle.disk_records.specs.Words.{word}
-use Rattle.disk_records.specs.declared.records.Event.TheVariants.{Wrote}
-use Rattle.disk_records.specs.declared.records.Page.{Page}
-use Rattle.pack_model.specs.reading.Files.{place}
-use Rattle.pack_model.specs.scavenger.Scavenging.{Unmarked}
-use Rattle.pack_model.specs.reading.Sights.{sights}
-use Rattle.pack_model.specs.states.Sound.{Clean, mark_clean}
+use Rattle.laws_operation.specs.alto_words.specs.Fid.{disk_descriptor}
+use Rattle.laws_operation.specs.disk_records.specs.Packs.{Pack, after, carried, sector_at}
+use Rattle.laws_operation.specs.disk_records.specs.Words.{word}
+use Rattle.laws_operation.specs.disk_records.specs.declared.records.Event.TheVariants.{Wrote}
+use Rattle.laws_operation.specs.disk_records.specs.declared.records.Page.{Page}
+use Rattle.laws_operation.specs.pack_model.specs.reading.Files.{place}
+use Rattle.laws_operation.specs.pack_model.specs.scavenger.Scavenging.{Unmarked}
+use Rattle.laws_operation.specs.pack_model.specs.reading.Sights.{sights}
+use Rattle.laws_operation.specs.pack_model.specs.states.Sound.{Clean, mark_clean}
 use Rattle.laws_record.specs.QuietLaws.{with_value}
 
 -- the page whose value has the mark

@@ -2,19 +2,19 @@
 use Rattle.std.specs.FinMap.{entries}
 use Rattle.std.specs.List.{list_any}
 use Rattle.std.specs.Prelude.{List, None, Some, [], false, get_or, length, suc, true, ℕ, ◌++◌, ◌+◌, ◌/◌, ◌∷◌, ◌≡◌, ◌≤◌}
-use Rattle.alto_words.specs.Fid.{sys_dir}
-use Rattle.alto_words.specs.declared.fid.Fid.{Fid}
-use Rattle.disk_records.specs.Labels.{page_of}
-use Rattle.disk_records.specs.Packs.{Pack}
-use Rattle.pack_model.specs.reading.Files.{file_bytes, lives, place}
-use Rattle.pack_model.specs.hints.Links.{dir_words}
-use Rattle.pack_model.specs.scavenger.Mended.{lacking, mended, with_system}
-use Rattle.pack_model.specs.reading.Model.{Model, dir_items, root_items}
-use Rattle.pack_model.specs.reading.Namings.{clashes, fits, namings, namings_in}
-use Rattle.pack_model.specs.operations.Rooms.{find_room, placed}
-use Rattle.pack_model.specs.reading.Sights.{sights}
-use Rattle.pack_model.specs.reading.Slots.{Item, SlotsReachEnd, all_words, entry_length, item_words, slots}
-use Rattle.pack_model.specs.reading.Slots.Item.{entry, space}
+use Rattle.laws_operation.specs.alto_words.specs.Fid.{sys_dir}
+use Rattle.laws_operation.specs.alto_words.specs.declared.fid.Fid.{Fid}
+use Rattle.laws_operation.specs.disk_records.specs.Labels.{page_of}
+use Rattle.laws_operation.specs.disk_records.specs.Packs.{Pack}
+use Rattle.laws_operation.specs.pack_model.specs.reading.Files.{file_bytes, lives, place}
+use Rattle.laws_operation.specs.pack_model.specs.hints.Links.{dir_words}
+use Rattle.laws_operation.specs.pack_model.specs.scavenger.Mended.{lacking, mended, with_system}
+use Rattle.laws_operation.specs.pack_model.specs.reading.Model.{Model, dir_items, root_items}
+use Rattle.laws_operation.specs.pack_model.specs.reading.Namings.{clashes, fits, namings, namings_in}
+use Rattle.laws_operation.specs.pack_model.specs.operations.Rooms.{find_room, placed}
+use Rattle.laws_operation.specs.pack_model.specs.reading.Sights.{sights}
+use Rattle.laws_operation.specs.pack_model.specs.reading.Slots.{Item, SlotsReachEnd, all_words, entry_length, item_words, slots}
+use Rattle.laws_operation.specs.pack_model.specs.reading.Slots.Item.{entry, space}
 use Rattle.laws_room.specs.KeepLaws.{KeepsAside, KeepsWithRoot}
 use Rattle.laws_record.specs.DirLaws.{Enters, Frees, entered, freed}
 use Rattle.laws_record.specs.QuietLaws.{with_label}

@@ -1,20 +1,20 @@
 -- Which packs the Scavenger takes, by the model that they are read as; and the free sectors of whole packs.
 use Rattle.std.specs.FinMap.{entries}
-use Rattle.std.specs.Prelude.{Bool, List, get_or, length, not, true, ℕ, ◌&&◌, ◌+◌, ◌↔◌, ◌≡◌}
-use Rattle.alto_words.specs.Fid.{disk_descriptor, sys_dir}
-use Rattle.disk_records.specs.Packs.{Pack}
-use Rattle.pack_model.specs.reading.Files.{lives, numbered}
+use Rattle.std.specs.Prelude.{Bool, List, None, get_or, length, not, true, ℕ, ◌&&◌, ◌+◌, ◌↔◌, ◌≡◌}
+use Rattle.laws_operation.specs.alto_words.specs.Fid.{disk_descriptor, sys_dir}
+use Rattle.laws_operation.specs.disk_records.specs.Packs.{Pack}
+use Rattle.laws_operation.specs.pack_model.specs.reading.Files.{lives, numbered}
 use Rattle.page_alloc.specs.Free.{free_addresses as sectors_found}
-use Rattle.pack_model.specs.states.InUse.{available, free_sector_count, how_many, in_use, is_available, is_free_sight, is_good}
-use Rattle.pack_model.specs.reading.Leaders.{Leader}
-use Rattle.pack_model.specs.scavenger.Mended.{HasRoom}
-use Rattle.pack_model.specs.reading.Model.{descriptor_pages, files_pages, read_as, room}
-use Rattle.pack_model.specs.scavenger.Needed.{needed}
-use Rattle.pack_model.specs.scavenger.Scavenging.{Scavengeable}
-use Rattle.pack_model.specs.reading.Sights.{Sight, sights}
-use Rattle.pack_model.specs.reading.Sights.Sight.{hidden, leads}
-use Rattle.pack_model.specs.states.Sound.{Sound}
-use Rattle.pack_model.specs.states.Whole.{Whole}
+use Rattle.laws_operation.specs.pack_model.specs.states.InUse.{available, free_sector_count, how_many, in_use, is_available, is_free_sight, is_good}
+use Rattle.laws_operation.specs.pack_model.specs.reading.Leaders.{Leader}
+use Rattle.laws_operation.specs.pack_model.specs.scavenger.Mended.{HasRoom}
+use Rattle.laws_operation.specs.pack_model.specs.reading.Model.{descriptor_pages, files_pages, read_as, room}
+use Rattle.laws_operation.specs.pack_model.specs.scavenger.Needed.{needed}
+use Rattle.laws_operation.specs.pack_model.specs.scavenger.Scavenging.{Scavengeable, first_refusal}
+use Rattle.laws_operation.specs.pack_model.specs.reading.Sights.{Sight, sights}
+use Rattle.laws_operation.specs.pack_model.specs.reading.Sights.Sight.{hidden, leads}
+use Rattle.laws_operation.specs.pack_model.specs.states.Sound.{Sound}
+use Rattle.laws_operation.specs.pack_model.specs.states.Whole.{Whole}
 
 -- Sector 1 shows SysDir's leader, and DiskDescriptor lives.
 pub record SystemStands (ss : List Sight) : Type 0 where
@@ -51,3 +51,7 @@ FreeSectorsAreThoseFound = (p : Pack) → length (sectors_found p) ≡ free_sect
 -- a sound pack needs nothing, and so it is scavengeable
 abbrev pub SoundNeedsNothing : Type 0
 SoundNeedsNothing = (p : Pack) → Sound p → (needed p.shape (sights p) ≡ 0) × Scavengeable p
+
+-- any pack is scavengeable if and only if none of the refusals of a scavenge holds
+abbrev pub ScavengeableIsUnrefused : Type 0
+ScavengeableIsUnrefused = (p : Pack) → Scavengeable p ↔ (first_refusal p ≡ None)

@@ -1,12 +1,12 @@
 -- What is shown of models and packs on which each file has a name.
 use Rattle.std.specs.FinMap.{contains_key}
 use Rattle.std.specs.Prelude.{true, ◌≡◌}
-use Rattle.alto_words.specs.declared.fid.Fid.{Fid}
-use Rattle.disk_records.specs.Packs.{Pack}
-use Rattle.pack_model.specs.reading.Model.{IsNamed, Model, read_as}
-use Rattle.pack_model.specs.showing.Settling.{settle, show}
-use Rattle.pack_model.specs.showing.View.{View, view}
-use Rattle.pack_model.specs.states.Sound.{Sound}
+use Rattle.laws_operation.specs.alto_words.specs.declared.fid.Fid.{Fid}
+use Rattle.laws_operation.specs.disk_records.specs.Packs.{Pack}
+use Rattle.laws_operation.specs.pack_model.specs.reading.Model.{IsNamed, Model, read_as}
+use Rattle.laws_operation.specs.pack_model.specs.showing.Settling.{settle, show}
+use Rattle.laws_operation.specs.pack_model.specs.showing.View.{View, view}
+use Rattle.laws_operation.specs.pack_model.specs.states.Sound.{Sound}
 
 -- a view that was settled has a name for each file: settling it again changes nothing
 abbrev pub SettlingAgainChangesNothing : Type 0

@@ -1,20 +1,20 @@
 -- The sectors in use, before and after an operation, and a claim that a scavenge makes.
 use Rattle.std.specs.Prelude.{List, None, Some, false, length, suc, true, ℕ, ◌+◌, ◌/◌, ◌≡◌, ◌≤◌}
 use Rattle.std.specs.FinMap.{contains_key}
-use Rattle.alto_words.specs.Fid.{disk_descriptor, is_directory}
-use Rattle.disk_records.specs.Labels.{page_of, tag}
-use Rattle.disk_records.specs.Packs.{Pack, is_free_at}
-use Rattle.disk_records.specs.declared.records.Page.{Page}
-use Rattle.pack_model.specs.operations.Committing.{length_of, pages_cut, pages_for_operation}
-use Rattle.pack_model.specs.reading.Files.{file_bytes, numbered, place}
-use Rattle.pack_model.specs.states.InUse.{available, counts, how_many, in_use}
-use Rattle.pack_model.specs.reading.Model.{Model, read_as}
-use Rattle.pack_model.specs.scavenger.Needed.{needed}
-use Rattle.pack_model.specs.reading.Bodies.{pages_for}
-use Rattle.pack_model.specs.reading.Sights.{sights}
-use Rattle.pack_model.specs.operations.Step.{Operation, step}
-use Rattle.pack_model.specs.operations.Step.Operation.{cut, drop_file, enter, grow, leave, make, put, stamp, title, widen}
-use Rattle.pack_model.specs.states.Whole.{Whole}
+use Rattle.laws_operation.specs.alto_words.specs.Fid.{disk_descriptor, is_directory}
+use Rattle.laws_operation.specs.disk_records.specs.Labels.{page_of, tag}
+use Rattle.laws_operation.specs.disk_records.specs.Packs.{Pack, is_free_at}
+use Rattle.laws_operation.specs.disk_records.specs.declared.records.Page.{Page}
+use Rattle.laws_operation.specs.pack_model.specs.operations.Committing.{length_of, pages_cut, pages_for_operation}
+use Rattle.laws_operation.specs.pack_model.specs.reading.Files.{file_bytes, numbered, place}
+use Rattle.laws_operation.specs.pack_model.specs.states.InUse.{available, counts, how_many, in_use}
+use Rattle.laws_operation.specs.pack_model.specs.reading.Model.{Model, read_as}
+use Rattle.laws_operation.specs.pack_model.specs.scavenger.Needed.{needed}
+use Rattle.laws_operation.specs.pack_model.specs.reading.Bodies.{pages_for}
+use Rattle.laws_operation.specs.pack_model.specs.reading.Sights.{sights}
+use Rattle.laws_operation.specs.pack_model.specs.operations.Step.{Operation, step}
+use Rattle.laws_operation.specs.pack_model.specs.operations.Step.Operation.{cut, drop_file, enter, grow, leave, make, put, stamp, title, widen}
+use Rattle.laws_operation.specs.pack_model.specs.states.Whole.{Whole}
 use Rattle.laws_record.specs.QuietLaws.{with_label}
 
 -- how many sectors are in use

@@ -1,10 +1,15 @@
 //! Which packs the Scavenger takes, by the model that they are read as, and the free sectors of whole packs.
 
-ghost use Rattle.laws_room.specs.RoomLaws.{EachSectorIsUsedOrFree, FreeIsTheRoom, FreeSectorsAreThoseFound, ScavengeableByModel, SoundNeedsNothing};
+ghost use Rattle.laws_room.specs.RoomLaws.{EachSectorIsUsedOrFree, FreeIsTheRoom, FreeSectorsAreThoseFound, ScavengeableByModel, ScavengeableIsUnrefused, SoundNeedsNothing};
 
 /// Where sector 1 shows SysDir's leader and DiskDescriptor lives, a pack is scavengeable if and only if its model has room.
 pub fn scavengeable_by_model()
     ensures { ScavengeableByModel }
+{}
+
+/// Any pack is scavengeable if and only if none of the refusals of a scavenge holds.
+pub fn scavengeable_is_unrefused()
+    ensures { ScavengeableIsUnrefused }
 {}
 
 /// The free sectors of a whole pack are the available ones, and as many as its model has room.

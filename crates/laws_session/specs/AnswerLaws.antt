@@ -1,15 +1,15 @@
 -- The answer of a call, and then its text, as a turn.
 use Rattle.std.specs.Prelude.{◌≡◌, ℕ, false, List, ◌++◌}
-use Rattle.disk_records.specs.declared.records.Event.{Event}
-use Rattle.disk_records.specs.Events.{IsFirstOf, shown_events}
-use Rattle.disk_records.specs.Packs.{Pack}
-use Rattle.pack_model.specs.operations.Operations.{Move}
-use Rattle.pack_model.specs.sessions.Meanings.{session}
-use Rattle.pack_model.specs.sessions.Moves.{IsStartOf, Obeys}
-use Rattle.pack_model.specs.sessions.Turns.{Turn}
-use Rattle.exec_words.specs.declared.reply.Reply.{Reply}
-use Rattle.exec_words.specs.declared.reply.Reply.TheVariants as reply
-use Rattle.exec_words.specs.Texts.{reply_text}
+use Rattle.laws_line.specs.disk_records.specs.declared.records.Event.{Event}
+use Rattle.laws_line.specs.disk_records.specs.Events.{IsFirstOf, shown_events}
+use Rattle.laws_line.specs.disk_records.specs.Packs.{Pack}
+use Rattle.laws_line.specs.pack_model.specs.operations.Operations.{Move}
+use Rattle.laws_line.specs.pack_model.specs.sessions.Meanings.{session}
+use Rattle.laws_line.specs.pack_model.specs.sessions.Moves.{IsStartOf, Obeys}
+use Rattle.laws_line.specs.pack_model.specs.sessions.Turns.{Turn}
+use Rattle.session_model.specs.exec_words.specs.declared.reply.Reply.{Reply}
+use Rattle.session_model.specs.exec_words.specs.declared.reply.Reply.TheVariants as reply
+use Rattle.session_model.specs.exec_words.specs.Texts.{reply_text}
 use Rattle.session_model.specs.Answering.{Answered, StopsEarly}
 use Rattle.session_model.specs.Histories.{BrokenTurn, WholeTurn, aloud}
 use Rattle.session_model.specs.Turning.{State, Cue, TurnMade, turn_of, cue_moves}

@@ -1,10 +1,10 @@
 -- What a session keeps as it begins.
 use Rattle.std.specs.Prelude.{◌≡◌, ◌==◌, ℕ, false, []}
-use Rattle.disk_records.specs.Packs.{Pack}
-use Rattle.pack_model.specs.sessions.Descriptor.{DescriptorFits}
-use Rattle.pack_model.specs.reading.Sights.{sights}
-use Rattle.pack_model.specs.states.Sound.{Sound, mark_clean, mark_of}
-use Rattle.world_model.specs.Levels.{all_levels}
+use Rattle.laws_line.specs.disk_records.specs.Packs.{Pack}
+use Rattle.laws_line.specs.pack_model.specs.sessions.Descriptor.{DescriptorFits}
+use Rattle.laws_line.specs.pack_model.specs.reading.Sights.{sights}
+use Rattle.laws_line.specs.pack_model.specs.states.Sound.{Sound, mark_clean, mark_of}
+use Rattle.session_model.specs.world_model.specs.Levels.{all_levels}
 use Rattle.session_model.specs.Keeping.{Kept, Keeping, world_of}
 use Rattle.session_model.specs.Opening.{unready, unless_so, not_clean}
 use Rattle.session_model.specs.Turning.{opening}

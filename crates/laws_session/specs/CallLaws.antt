@@ -1,18 +1,18 @@
 -- The calls of a session one after another, and true hints from its beginning to its end.
 use Rattle.std.specs.Prelude.{◌≡◌, ℕ, true, false, List, [], Option, Some}
-use Rattle.disk_records.specs.Packs.{Pack}
-use Rattle.disk_records.specs.Tapes.{Taped, added, pack}
-use Rattle.disk_records.specs.declared.records.Event.{Event}
-use Rattle.disk_records.specs.declared.records.Page.{Page}
-use Rattle.disk_records.specs.declared.records.Place.{Place}
-use Rattle.exec_words.specs.declared.line.Line.{Line}
-use Rattle.exec_words.specs.declared.reply.Refusal.TheVariants as refusal
-use Rattle.exec_words.specs.declared.reply.Reply.{Reply}
-use Rattle.exec_words.specs.declared.reply.Reply.TheVariants as reply
-use Rattle.pack_model.specs.hints.Tables.{HintsTrue}
-use Rattle.pack_model.specs.hints.Truth.{Truthful}
-use Rattle.pack_model.specs.operations.Operations.{Move}
-use Rattle.pack_model.specs.reading.Model.{Model}
+use Rattle.laws_line.specs.disk_records.specs.Packs.{Pack}
+use Rattle.laws_line.specs.disk_records.specs.Tapes.{Taped, added, pack}
+use Rattle.laws_line.specs.disk_records.specs.declared.records.Event.{Event}
+use Rattle.laws_line.specs.disk_records.specs.declared.records.Page.{Page}
+use Rattle.laws_line.specs.disk_records.specs.declared.records.Place.{Place}
+use Rattle.session_model.specs.exec_words.specs.declared.line.Line.{Line}
+use Rattle.session_model.specs.exec_words.specs.declared.reply.Refusal.TheVariants as refusal
+use Rattle.session_model.specs.exec_words.specs.declared.reply.Reply.{Reply}
+use Rattle.session_model.specs.exec_words.specs.declared.reply.Reply.TheVariants as reply
+use Rattle.laws_line.specs.pack_model.specs.hints.Tables.{HintsTrue}
+use Rattle.laws_line.specs.pack_model.specs.hints.Truth.{Truthful}
+use Rattle.laws_line.specs.pack_model.specs.operations.Operations.{Move}
+use Rattle.laws_line.specs.pack_model.specs.reading.Model.{Model}
 use Rattle.session_model.specs.Answering.{Answers, IsAnswer, ReadsOnly, Replied, TakesTurn}
 use Rattle.session_model.specs.Histories.{IsUnfailed}
 use Rattle.session_model.specs.Keeping.{Kept, Keeping}

@@ -1,15 +1,15 @@
 -- What a history leaves, as it goes on and at its end; and what one begins with.
 use Rattle.std.specs.Prelude.{◌≡◌, ℕ, true, false, List, []}
-use Rattle.disk_records.specs.declared.records.Event.{Event}
-use Rattle.disk_records.specs.Packs.{Pack, after}
-use Rattle.pack_model.specs.operations.Operations.{Move}
-use Rattle.pack_model.specs.reading.Model.{Model, read_as}
-use Rattle.pack_model.specs.sessions.Meanings.{session, SessionCut}
-use Rattle.pack_model.specs.sessions.Moves.{Obeys, steps}
-use Rattle.pack_model.specs.sessions.Turns.{Turn, ops_of}
-use Rattle.pack_model.specs.states.Sound.{Sound, Clean}
+use Rattle.laws_line.specs.disk_records.specs.declared.records.Event.{Event}
+use Rattle.laws_line.specs.disk_records.specs.Packs.{Pack, after}
+use Rattle.laws_line.specs.pack_model.specs.operations.Operations.{Move}
+use Rattle.laws_line.specs.pack_model.specs.reading.Model.{Model, read_as}
+use Rattle.laws_line.specs.pack_model.specs.sessions.Meanings.{session, SessionCut}
+use Rattle.laws_line.specs.pack_model.specs.sessions.Moves.{Obeys, steps}
+use Rattle.laws_line.specs.pack_model.specs.sessions.Turns.{Turn, ops_of}
+use Rattle.laws_line.specs.pack_model.specs.states.Sound.{Sound, Clean}
 use Rattle.laws_lookup.specs.HintLaws.{HasFullValues}
-use Rattle.exec_words.specs.declared.line.Line.{Line}
+use Rattle.session_model.specs.exec_words.specs.declared.line.Line.{Line}
 use Rattle.session_model.specs.Histories.{LinksTrueThroughout, NoneFailed, TurnsOf, begun, then, aloud}
 use Rattle.session_model.specs.Keeping.{Kept, Keeping}
 use Rattle.session_model.specs.Replies.{next}

@@ -1,15 +1,15 @@
 -- Histories as turns one after another, and what each crash point of one is.
 use Rattle.std.specs.Prelude.{◌≡◌, ℕ, List, length, Option}
-use Rattle.disk_records.specs.declared.records.Event.{Event}
-use Rattle.disk_records.specs.Events.{shown_bytes, writes_in}
-use Rattle.disk_records.specs.Packs.{Pack}
-use Rattle.pack_model.specs.operations.Operations.{Move, weight_of}
-use Rattle.pack_model.specs.reading.Model.{Model}
-use Rattle.pack_model.specs.sessions.Meanings.{session, SessionCut}
-use Rattle.pack_model.specs.sessions.Turns.{CutAt, Talks, Turn, ops_of, texts_of}
-use Rattle.pack_model.specs.showing.Settling.{settle}
-use Rattle.pack_model.specs.showing.View.{View}
-use Rattle.pack_laws.specs.TallyLaws.{RulesTurns}
+use Rattle.laws_line.specs.disk_records.specs.declared.records.Event.{Event}
+use Rattle.laws_line.specs.disk_records.specs.Events.{shown_bytes, writes_in}
+use Rattle.laws_line.specs.disk_records.specs.Packs.{Pack}
+use Rattle.laws_line.specs.pack_model.specs.operations.Operations.{Move, weight_of}
+use Rattle.laws_line.specs.pack_model.specs.reading.Model.{Model}
+use Rattle.laws_line.specs.pack_model.specs.sessions.Meanings.{session, SessionCut}
+use Rattle.laws_line.specs.pack_model.specs.sessions.Turns.{CutAt, Talks, Turn, ops_of, texts_of}
+use Rattle.laws_line.specs.pack_model.specs.showing.Settling.{settle}
+use Rattle.laws_line.specs.pack_model.specs.showing.View.{View}
+use Rattle.laws_line.specs.pack_laws.specs.TallyLaws.{RulesTurns}
 use Rattle.session_model.specs.Histories.{HistoryOf, aloud, ShowsRuled}
 use Rattle.session_model.specs.Turning.{State, Cue}
 

@@ -9,3 +9,4 @@ pub mod ScavengeLaws
 pub mod StreamLaws
 pub mod UnrefusedLaws
 pub mod ZoneLaws
+pub use Rattle.session_model

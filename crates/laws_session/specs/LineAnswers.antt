@@ -1,15 +1,15 @@
 -- A line, by what its operations do to the pack, as the answer of a call.
 use Rattle.std.specs.Prelude.{◌≡◌, ℕ, true, false, List, [], Option}
-use Rattle.disk_records.specs.declared.records.Event.{Event}
-use Rattle.disk_records.specs.declared.records.Page.{Page}
-use Rattle.disk_records.specs.declared.records.Place.{Place}
-use Rattle.disk_records.specs.Packs.{Pack}
-use Rattle.pack_model.specs.operations.Operations.{Move}
-use Rattle.pack_model.specs.sessions.Meanings.{session, SessionCut}
-use Rattle.pack_model.specs.sessions.Moves.{IsStartOf, Obeys, steps}
-use Rattle.exec_words.specs.declared.line.Line.{Line}
-use Rattle.exec_words.specs.declared.reply.Refusal.TheVariants as refusal
-use Rattle.exec_words.specs.declared.reply.Reply.TheVariants as reply
+use Rattle.laws_line.specs.disk_records.specs.declared.records.Event.{Event}
+use Rattle.laws_line.specs.disk_records.specs.declared.records.Page.{Page}
+use Rattle.laws_line.specs.disk_records.specs.declared.records.Place.{Place}
+use Rattle.laws_line.specs.disk_records.specs.Packs.{Pack}
+use Rattle.laws_line.specs.pack_model.specs.operations.Operations.{Move}
+use Rattle.laws_line.specs.pack_model.specs.sessions.Meanings.{session, SessionCut}
+use Rattle.laws_line.specs.pack_model.specs.sessions.Moves.{IsStartOf, Obeys, steps}
+use Rattle.session_model.specs.exec_words.specs.declared.line.Line.{Line}
+use Rattle.session_model.specs.exec_words.specs.declared.reply.Refusal.TheVariants as refusal
+use Rattle.session_model.specs.exec_words.specs.declared.reply.Reply.TheVariants as reply
 use Rattle.laws_line.specs.EndLaws.{EndsSession}
 use Rattle.laws_line.specs.SoundLines.{LineOnSound}
 use Rattle.laws_line.specs.SoundParts.{BreaksOnSound}

@@ -1,22 +1,22 @@
 -- A scavenge as a turn of a session.
 use Rattle.std.specs.Prelude.{◌≡◌, ℕ, true, false, List, [], ◌∷◌, ◌++◌, length}
-use Rattle.disk_records.specs.declared.records.Event.{Event}
-use Rattle.disk_records.specs.declared.records.Event.TheVariants.{Wrote}
-use Rattle.disk_records.specs.Events.{shown_bytes}
-use Rattle.disk_records.specs.Packs.{Pack, after}
-use Rattle.pack_model.specs.hints.Tables.{HintsTrue}
-use Rattle.pack_model.specs.operations.Committing.{units, EndsScavenge}
-use Rattle.pack_model.specs.operations.Operations.{Move, quiet_moves}
-use Rattle.pack_model.specs.reading.Model.{Model, read_as}
-use Rattle.pack_model.specs.scavenger.Reports.{report_of, Scavenged}
-use Rattle.pack_model.specs.scavenger.Scavenging.{Mends, Throughout}
-use Rattle.pack_model.specs.sessions.Meanings.{session, SessionCut}
-use Rattle.pack_model.specs.sessions.Moves.{Obeys}
-use Rattle.pack_model.specs.sessions.Turns.{Turn}
-use Rattle.pack_model.specs.showing.Settling.{settle}
-use Rattle.pack_model.specs.showing.View.{view}
-use Rattle.pack_model.specs.states.Sound.{Sound}
-use Rattle.exec_words.specs.Texts.{report_text}
+use Rattle.laws_line.specs.disk_records.specs.declared.records.Event.{Event}
+use Rattle.laws_line.specs.disk_records.specs.declared.records.Event.TheVariants.{Wrote}
+use Rattle.laws_line.specs.disk_records.specs.Events.{shown_bytes}
+use Rattle.laws_line.specs.disk_records.specs.Packs.{Pack, after}
+use Rattle.laws_line.specs.pack_model.specs.hints.Tables.{HintsTrue}
+use Rattle.laws_line.specs.pack_model.specs.operations.Committing.{units, EndsScavenge}
+use Rattle.laws_line.specs.pack_model.specs.operations.Operations.{Move, quiet_moves}
+use Rattle.laws_line.specs.pack_model.specs.reading.Model.{Model, read_as}
+use Rattle.laws_line.specs.pack_model.specs.scavenger.Reports.{report_of, Scavenged}
+use Rattle.laws_line.specs.pack_model.specs.scavenger.Scavenging.{Mends, Throughout}
+use Rattle.laws_line.specs.pack_model.specs.sessions.Meanings.{session, SessionCut}
+use Rattle.laws_line.specs.pack_model.specs.sessions.Moves.{IsStartOf, Obeys}
+use Rattle.laws_line.specs.pack_model.specs.sessions.Turns.{Turn}
+use Rattle.laws_line.specs.pack_model.specs.showing.Settling.{settle}
+use Rattle.laws_line.specs.pack_model.specs.showing.View.{view}
+use Rattle.laws_line.specs.pack_model.specs.states.Sound.{Sound}
+use Rattle.session_model.specs.exec_words.specs.Texts.{report_text}
 use Rattle.session_model.specs.Histories.{WholeTurn}
 use Rattle.session_model.specs.Turning.{State, Cue, TurnMade, turn_of, scavenge_moves, asks_scavenge}
 use Rattle.session_model.specs.Worlds.{mended_world}
@@ -44,9 +44,9 @@ mended_state s n = record { model = n; world = mended_world s.world; over = fals
 abbrev pub ScavengesAreTurns : Type 0
 ScavengesAreTurns = (p : Pack) (s : State) (cue : Cue) (wrote : List Event) (k : ℕ) (n : Model) → asks_scavenge s cue ≡ true → Scavenged p (after p wrote) → read_as (after p wrote) ≡ n → TurnMade p s cue wrote (turn_of (scavenge_moves k n) (report_text (report_of p))) (mended_state s n)
 
--- one that stops before its last record write broke off
+-- One without an answer broke off, after any prefix of its moves, all of them too.
 abbrev pub ScavengesBreakOff : Type 0
-ScavengesBreakOff = (p : Pack) (s : State) (cue : Cue) (wrote : List Event) (k : ℕ) → s.over ≡ false → asks_scavenge s cue ≡ true → Obeys session s.model p wrote (quiet_moves (units k)) → BreaksOff p s cue wrote
+ScavengesBreakOff = (p : Pack) (s : State) (cue : Cue) (wrote : List Event) (k : ℕ) (n : Model) (moves : List Move) → s.over ≡ false → asks_scavenge s cue ≡ true → IsStartOf moves (scavenge_moves k n) → Obeys session s.model p wrote moves → BreaksOff p s cue wrote
 
 -- After a scavenge that wasn't refused the pack is sound and read as the new model, which is viewed as what was shown before, so that no
 -- file is lost; no hint misleads, and no scavenge is needed.

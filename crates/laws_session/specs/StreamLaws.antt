@@ -1,15 +1,15 @@
 -- From a line on a stream that isn't refused, and from the end of a session, to what the laws of lines ask for; and what lines leave of
 -- open streams.
 use Rattle.std.specs.Prelude.{◌≡◌, ℕ, false, All, List, Some}
-use Rattle.alto_words.specs.Fid.{is_fid}
-use Rattle.disk_records.specs.declared.shape.Shape.{Shape}
-use Rattle.disk_records.specs.Packs.{Pack}
-use Rattle.pack_model.specs.reading.Model.{Model, read_as}
-use Rattle.pack_model.specs.states.Sound.{Sound}
-use Rattle.laws_operation.specs.ByteLaws.{IsOrdinary}
+use Rattle.laws_line.specs.alto_words.specs.Fid.{is_fid}
+use Rattle.laws_line.specs.disk_records.specs.declared.shape.Shape.{Shape}
+use Rattle.laws_line.specs.disk_records.specs.Packs.{Pack}
+use Rattle.laws_line.specs.pack_model.specs.reading.Model.{Model, read_as}
+use Rattle.laws_line.specs.pack_model.specs.states.Sound.{Sound}
+use Rattle.laws_line.specs.laws_operation.specs.ByteLaws.{IsOrdinary}
 use Rattle.laws_line.specs.Ready.{steps_of}
 use Rattle.laws_line.specs.SoundLines.{IsKindOfLine}
-use Rattle.exec_words.specs.declared.line.Line.{Line}
+use Rattle.session_model.specs.exec_words.specs.declared.line.Line.{Line}
 use Rattle.session_model.specs.Effects.{ending_ops}
 use Rattle.session_model.specs.Keeping.{AreApart, Formed, Keeping, Kept, StreamFits}
 use Rattle.session_model.specs.Refusals.{stream_named}

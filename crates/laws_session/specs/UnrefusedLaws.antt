@@ -1,36 +1,36 @@
 -- From a line on files that isn't refused to what the laws of lines and of operations ask for.
 use Rattle.std.specs.Prelude.{◌≡◌, ◌≤◌, ◌⊎◌, ℕ, ◌+◌, true, false, List, length, Some, None}
-use Rattle.alto_words.specs.declared.fid.Fid.{Fid}
-use Rattle.alto_words.specs.declared.wanted.Wanted.{Wanted}
-use Rattle.alto_words.specs.declared.wanted.Wanted.TheVariants.{Exact, Newest}
-use Rattle.alto_words.specs.Fid.{is_directory, is_full_name, is_system, serial_of, sys_dir}
-use Rattle.alto_words.specs.Names.{is_stored_name}
-use Rattle.disk_records.specs.Packs.{Pack}
-use Rattle.pack_model.specs.operations.Committing.{pages_for_operations}
-use Rattle.pack_model.specs.operations.Rooms.{largest_run}
-use Rattle.pack_model.specs.operations.Step.{Operation}
-use Rattle.pack_model.specs.reading.Files.{file_bytes, lives}
-use Rattle.pack_model.specs.reading.Model.{Model, dir_items, read_as, room}
-use Rattle.pack_model.specs.reading.Sights.{sights}
-use Rattle.pack_model.specs.reading.Slots.{entry_length}
-use Rattle.pack_model.specs.reading.Versions.{exact}
-use Rattle.pack_model.specs.states.InUse.{free_sector_count}
-use Rattle.pack_model.specs.states.Sound.{Sound}
-use Rattle.pack_model.specs.states.Whole.{Whole}
-use Rattle.laws_operation.specs.ByteLaws.{IsOrdinary}
-use Rattle.laws_operation.specs.EntryLaws.{HasName, IsOpenTo}
+use Rattle.laws_line.specs.alto_words.specs.declared.fid.Fid.{Fid}
+use Rattle.laws_line.specs.alto_words.specs.declared.wanted.Wanted.{Wanted}
+use Rattle.laws_line.specs.alto_words.specs.declared.wanted.Wanted.TheVariants.{Exact, Newest}
+use Rattle.laws_line.specs.alto_words.specs.Fid.{is_directory, is_full_name, is_system, serial_of, sys_dir}
+use Rattle.laws_line.specs.alto_words.specs.Names.{is_stored_name}
+use Rattle.laws_line.specs.disk_records.specs.Packs.{Pack}
+use Rattle.laws_line.specs.pack_model.specs.operations.Committing.{pages_for_operations}
+use Rattle.laws_line.specs.pack_model.specs.operations.Rooms.{largest_run}
+use Rattle.laws_line.specs.pack_model.specs.operations.Step.{Operation}
+use Rattle.laws_line.specs.pack_model.specs.reading.Files.{file_bytes, lives}
+use Rattle.laws_line.specs.pack_model.specs.reading.Model.{Model, dir_items, read_as, room}
+use Rattle.laws_line.specs.pack_model.specs.reading.Sights.{sights}
+use Rattle.laws_line.specs.pack_model.specs.reading.Slots.{entry_length}
+use Rattle.laws_line.specs.pack_model.specs.reading.Versions.{exact}
+use Rattle.laws_line.specs.pack_model.specs.states.InUse.{free_sector_count}
+use Rattle.laws_line.specs.pack_model.specs.states.Sound.{Sound}
+use Rattle.laws_line.specs.pack_model.specs.states.Whole.{Whole}
+use Rattle.laws_line.specs.laws_operation.specs.ByteLaws.{IsOrdinary}
+use Rattle.laws_line.specs.laws_operation.specs.EntryLaws.{HasName, IsOpenTo}
 use Rattle.laws_lookup.specs.DropLaws.{HasDrop, IsBare}
 use Rattle.laws_lookup.specs.EnteringLaws.{IsEnterable}
 use Rattle.laws_line.specs.Ready.{steps_of}
 use Rattle.laws_line.specs.SoundLines.{IsKindOfLine}
-use Rattle.exec_words.specs.declared.line.Line.{Line}
-use Rattle.exec_words.specs.declared.line.Line.TheVariants as line
-use Rattle.exec_words.specs.declared.line.Path.{Path}
-use Rattle.exec_words.specs.declared.line.Target.{Target}
-use Rattle.exec_words.specs.declared.line.Target.TheVariants.{ByPath}
-use Rattle.exec_words.specs.declared.reply.Refusal.TheVariants as refusal_of
+use Rattle.session_model.specs.exec_words.specs.declared.line.Line.{Line}
+use Rattle.session_model.specs.exec_words.specs.declared.line.Line.TheVariants as line
+use Rattle.session_model.specs.exec_words.specs.declared.line.Path.{Path}
+use Rattle.session_model.specs.exec_words.specs.declared.line.Target.{Target}
+use Rattle.session_model.specs.exec_words.specs.declared.line.Target.TheVariants.{ByPath}
+use Rattle.session_model.specs.exec_words.specs.declared.reply.Refusal.TheVariants as refusal_of
 use Rattle.session_model.specs.Effects.{effect, listed_dir, next_directory, next_file, widenings}
-use Rattle.world_model.specs.StateFiles.{state_length}
+use Rattle.session_model.specs.world_model.specs.StateFiles.{state_length}
 use Rattle.session_model.specs.Finding.{file_at, is_there, name_given, own_name, the_dir, the_file}
 use Rattle.session_model.specs.Replies.{ops, refusal}
 use Rattle.session_model.specs.Worlds.{World}

@@ -1,12 +1,12 @@
 -- The zone of a world in the words of its memory.
 use Rattle.std.specs.Prelude.{◌≡◌, ◌≤◌, ℕ, ◌+◌, Bool, true, false, map, List, [], ◌∷◌, length, take, Some, None}
-use Rattle.pack_model.specs.reading.Bytes.{words_of}
-use Rattle.pack_model.specs.reading.Model.{Model}
-use Rattle.exec_words.specs.declared.line.Line.{Line}
-use Rattle.world_model.specs.Levels.{IsAtLevel, all_levels, level_base, used_by_levels}
-use Rattle.world_model.specs.Zones.{Block, Taken, gap, live, block_size, given_back, size_for, taken, zone_set}
-use Rattle.world_model.specs.StateFiles.{message_length}
-use Rattle.world_model.specs.ZoneWords.{tag_size, zone_in, zone_start}
+use Rattle.laws_line.specs.pack_model.specs.reading.Bytes.{words_of}
+use Rattle.laws_line.specs.pack_model.specs.reading.Model.{Model}
+use Rattle.session_model.specs.exec_words.specs.declared.line.Line.{Line}
+use Rattle.session_model.specs.world_model.specs.Levels.{IsAtLevel, all_levels, level_base, used_by_levels}
+use Rattle.session_model.specs.world_model.specs.Zones.{Block, Taken, gap, live, block_size, given_back, size_for, taken, zone_set}
+use Rattle.session_model.specs.world_model.specs.StateFiles.{message_length}
+use Rattle.session_model.specs.world_model.specs.ZoneWords.{tag_size, zone_in, zone_start}
 use Rattle.session_model.specs.Keeping.{Kept, stream_of, world_of}
 use Rattle.session_model.specs.Refusals.{no_world}
 use Rattle.session_model.specs.Replies.{next}

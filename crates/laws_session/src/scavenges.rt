@@ -22,7 +22,7 @@ pub fn scavenges_are_turns()
     ensures { ScavengesAreTurns }
 {}
 
-/// A scavenge that stops before its last record write is a turn that broke off.
+/// A scavenge that stops after any prefix of its record writes, all of them too, and shows nothing is a turn that broke off.
 pub fn scavenges_break_off()
     ensures { ScavengesBreakOff }
 {}

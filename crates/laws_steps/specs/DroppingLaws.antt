@@ -1,26 +1,26 @@
 -- A drop by two calls, and what stands between them.
 use Rattle.std.specs.Prelude.{Err, List, Ok, OnOk, Result, [], false, true, ℕ, ◌++◌, ◌∷◌, ◌≡◌}
-use Rattle.alto_words.specs.Fid.{is_fid}
-use Rattle.alto_words.specs.declared.fid.Fid.{Fid}
-use Rattle.disk_records.specs.Commands.{value_writes}
-use Rattle.disk_records.specs.Events.{IsFirstOf}
-use Rattle.disk_records.specs.Packs.{Pack, after}
-use Rattle.disk_records.specs.declared.records.Event.{Event}
-use Rattle.disk_records.specs.declared.records.Place.{Place}
+use Rattle.laws_call.specs.alto_words.specs.Fid.{is_fid}
+use Rattle.laws_call.specs.alto_words.specs.declared.fid.Fid.{Fid}
+use Rattle.laws_call.specs.disk_records.specs.Commands.{value_writes}
+use Rattle.laws_call.specs.disk_records.specs.Events.{IsFirstOf}
+use Rattle.laws_call.specs.disk_records.specs.Packs.{Pack, after}
+use Rattle.laws_call.specs.disk_records.specs.declared.records.Event.{Event}
+use Rattle.laws_call.specs.disk_records.specs.declared.records.Place.{Place}
 use Rattle.laws_call.specs.Acting.{Acts}
 use Rattle.laws_call.specs.Going.{Goes}
 use Rattle.laws_call.specs.Writing.{Written, entry_freed}
-use Rattle.laws_operation.specs.DirectoryWords.{HasEntry}
-use Rattle.laws_operation.specs.LifeLaws.{MayDrop}
-use Rattle.pack_model.specs.hints.Links.{dir_slots}
-use Rattle.pack_model.specs.hints.Sources.{IsFrom}
-use Rattle.pack_model.specs.operations.Operations.{release_file_writes}
-use Rattle.pack_model.specs.operations.Step.Operation.{drop_file}
-use Rattle.pack_model.specs.operations.Step.{Operation}
-use Rattle.pack_model.specs.reading.Files.{lives}
-use Rattle.pack_model.specs.reading.Sights.{sights}
-use Rattle.pack_model.specs.reading.Slots.{Item}
-use Rattle.pack_model.specs.states.Whole.{Tidy, Whole}
+use Rattle.laws_call.specs.laws_operation.specs.DirectoryWords.{HasEntry}
+use Rattle.laws_call.specs.laws_operation.specs.LifeLaws.{MayDrop}
+use Rattle.laws_call.specs.pack_model.specs.hints.Links.{dir_slots}
+use Rattle.laws_call.specs.pack_model.specs.hints.Sources.{IsFrom}
+use Rattle.laws_call.specs.pack_model.specs.operations.Operations.{release_file_writes}
+use Rattle.laws_call.specs.pack_model.specs.operations.Step.Operation.{drop_file}
+use Rattle.laws_call.specs.pack_model.specs.operations.Step.{Operation}
+use Rattle.laws_call.specs.pack_model.specs.reading.Files.{lives}
+use Rattle.laws_call.specs.pack_model.specs.reading.Sights.{sights}
+use Rattle.laws_call.specs.pack_model.specs.reading.Slots.{Item}
+use Rattle.laws_call.specs.pack_model.specs.states.Whole.{Tidy, Whole}
 
 -- the pack after the releases of a file's sectors
 abbrev pub released_pack : Pack → ℕ → List ℕ → Pack

@@ -1,11 +1,11 @@
 -- The entry that a name means in the model, and over operations that keep entries.
 use Rattle.std.specs.Prelude.{List, Some, true, ℕ, ◌≡◌}
-use Rattle.alto_words.specs.declared.fid.Fid.{Fid}
-use Rattle.laws_line.specs.LineLaws.{IsEntered}
-use Rattle.laws_operation.specs.EntryLaws.{keeps_entries}
-use Rattle.pack_model.specs.operations.Step.{Operation, step}
-use Rattle.pack_model.specs.reading.Model.{Model, dir_items}
-use Rattle.pack_model.specs.reading.Versions.{exact}
+use Rattle.laws_call.specs.alto_words.specs.declared.fid.Fid.{Fid}
+use Rattle.laws_call.specs.laws_line.specs.LineLaws.{IsEntered}
+use Rattle.laws_call.specs.laws_operation.specs.EntryLaws.{keeps_entries}
+use Rattle.laws_call.specs.pack_model.specs.operations.Step.{Operation, step}
+use Rattle.laws_call.specs.pack_model.specs.reading.Model.{Model, dir_items}
+use Rattle.laws_call.specs.pack_model.specs.reading.Versions.{exact}
 
 -- a file that is entered under a name is the one that the name means
 abbrev pub EnteredIsMeant : Type 0

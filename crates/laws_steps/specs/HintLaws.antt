@@ -1,18 +1,18 @@
 -- Hints on the disk: the files that they mean, and one hint over a part of a line.
 use Rattle.std.specs.Prelude.{List, Option, false, true, ℕ, ◌++◌, ◌≡◌}
-use Rattle.alto_words.specs.Fid.{is_fid}
-use Rattle.alto_words.specs.declared.fid.Fid.{Fid}
-use Rattle.disk_records.specs.Packs.{Pack, after}
-use Rattle.disk_records.specs.declared.records.Event.{Event}
-use Rattle.disk_records.specs.declared.records.Page.{Page}
-use Rattle.disk_records.specs.declared.records.Place.{Place}
-use Rattle.laws_lookup.specs.StayLaws.{MisledBefore}
-use Rattle.laws_operation.specs.LifeLaws.{MayDrop}
-use Rattle.pack_model.specs.hints.Misled.{AnswersMisled, IsOnDisk, Misled, StandsAt}
-use Rattle.pack_model.specs.operations.Operations.{release_file_writes}
-use Rattle.pack_model.specs.reading.Files.{lives}
-use Rattle.pack_model.specs.reading.Sights.{sights}
-use Rattle.pack_model.specs.states.Whole.{Tidy, Whole}
+use Rattle.laws_call.specs.alto_words.specs.Fid.{is_fid}
+use Rattle.laws_call.specs.alto_words.specs.declared.fid.Fid.{Fid}
+use Rattle.laws_call.specs.disk_records.specs.Packs.{Pack, after}
+use Rattle.laws_call.specs.disk_records.specs.declared.records.Event.{Event}
+use Rattle.laws_call.specs.disk_records.specs.declared.records.Page.{Page}
+use Rattle.laws_call.specs.disk_records.specs.declared.records.Place.{Place}
+use Rattle.laws_call.specs.laws_lookup.specs.StayLaws.{MisledBefore}
+use Rattle.laws_call.specs.laws_operation.specs.LifeLaws.{MayDrop}
+use Rattle.laws_call.specs.pack_model.specs.hints.Misled.{AnswersMisled, IsOnDisk, Misled, StandsAt}
+use Rattle.laws_call.specs.pack_model.specs.operations.Operations.{release_file_writes}
+use Rattle.laws_call.specs.pack_model.specs.reading.Files.{lives}
+use Rattle.laws_call.specs.pack_model.specs.reading.Sights.{sights}
+use Rattle.laws_call.specs.pack_model.specs.states.Whole.{Tidy, Whole}
 
 -- ---- the files that are meant
 -- on a whole and tidy pack each entry and each next link means a page of a file that lives: no hint means one of a file to come

@@ -1,25 +1,25 @@
 -- Files that were found stay found over the operations of a line.
 use Rattle.std.specs.Prelude.{List, Some, false, ℕ, ◌≡◌, ◌≤◌}
-use Rattle.alto_words.specs.Fid.{disk_descriptor, is_fid}
-use Rattle.alto_words.specs.declared.fid.Fid.{Fid}
-use Rattle.alto_words.specs.declared.wanted.Wanted.TheVariants.{Exact}
-use Rattle.disk_records.specs.Commands.{value_writes}
-use Rattle.disk_records.specs.Packs.{Pack, after, sector_at}
-use Rattle.disk_records.specs.declared.records.Event.{Event}
-use Rattle.disk_records.specs.declared.records.Place.TheVariants.{Entry, Held, Next, Root}
-use Rattle.disk_records.specs.declared.records.Place.{Place}
+use Rattle.laws_call.specs.alto_words.specs.Fid.{disk_descriptor, is_fid}
+use Rattle.laws_call.specs.alto_words.specs.declared.fid.Fid.{Fid}
+use Rattle.laws_call.specs.alto_words.specs.declared.wanted.Wanted.TheVariants.{Exact}
+use Rattle.laws_call.specs.disk_records.specs.Commands.{value_writes}
+use Rattle.laws_call.specs.disk_records.specs.Packs.{Pack, after, sector_at}
+use Rattle.laws_call.specs.disk_records.specs.declared.records.Event.{Event}
+use Rattle.laws_call.specs.disk_records.specs.declared.records.Place.TheVariants.{Entry, Held, Next, Root}
+use Rattle.laws_call.specs.disk_records.specs.declared.records.Place.{Place}
 use Rattle.laws_call.specs.Writing.{Written}
-use Rattle.pack_model.specs.hints.Links.{dir_slots}
-use Rattle.pack_model.specs.hints.Sources.{IsFrom}
-use Rattle.pack_model.specs.operations.Step.Operation.{cut, drop_file, enter, grow, leave, make, put, stamp, title, widen}
-use Rattle.pack_model.specs.operations.Step.{Operation}
-use Rattle.pack_model.specs.reading.Files.{place}
-use Rattle.pack_model.specs.reading.Lookup.{EntryAt, entry_at}
-use Rattle.pack_model.specs.reading.Model.{read_as}
-use Rattle.pack_model.specs.reading.Sights.{sights}
-use Rattle.pack_model.specs.sessions.Descriptor.{open_writes, serial_writes}
-use Rattle.pack_model.specs.states.Sound.{mark_of}
-use Rattle.pack_model.specs.states.Whole.{Tidy, Whole}
+use Rattle.laws_call.specs.pack_model.specs.hints.Links.{dir_slots}
+use Rattle.laws_call.specs.pack_model.specs.hints.Sources.{IsFrom}
+use Rattle.laws_call.specs.pack_model.specs.operations.Step.Operation.{cut, drop_file, enter, grow, leave, make, put, stamp, title, widen}
+use Rattle.laws_call.specs.pack_model.specs.operations.Step.{Operation}
+use Rattle.laws_call.specs.pack_model.specs.reading.Files.{place}
+use Rattle.laws_call.specs.pack_model.specs.reading.Lookup.{EntryAt, entry_at}
+use Rattle.laws_call.specs.pack_model.specs.reading.Model.{read_as}
+use Rattle.laws_call.specs.pack_model.specs.reading.Sights.{sights}
+use Rattle.laws_call.specs.pack_model.specs.sessions.Descriptor.{open_writes, serial_writes}
+use Rattle.laws_call.specs.pack_model.specs.states.Sound.{mark_of}
+use Rattle.laws_call.specs.pack_model.specs.states.Whole.{Tidy, Whole}
 
 -- asked of a file that was found by an entry, and of no other
 abbrev pub IfByEntry : Place → Type 0 → Type 0

@@ -1,13 +1,13 @@
 -- Lengths of files within a line, on any model, and the last page that a leader names.
 use Rattle.std.specs.Prelude.{List, false, length, ℕ, ◌+◌, ◌≡◌, ◌≤◌}
-use Rattle.alto_words.specs.Fid.{is_directory, is_fid}
-use Rattle.alto_words.specs.declared.fid.Fid.{Fid}
-use Rattle.disk_records.specs.Packs.{Pack}
-use Rattle.laws_lookup.specs.OtherLaws.{LeavesOthers}
-use Rattle.pack_model.specs.operations.Committing.{length_of}
-use Rattle.pack_model.specs.operations.Step.Operation.{enter, make, put}
-use Rattle.pack_model.specs.operations.Step.{step}
-use Rattle.pack_model.specs.reading.Model.{Model}
+use Rattle.laws_call.specs.alto_words.specs.Fid.{is_directory, is_fid}
+use Rattle.laws_call.specs.alto_words.specs.declared.fid.Fid.{Fid}
+use Rattle.laws_call.specs.disk_records.specs.Packs.{Pack}
+use Rattle.laws_call.specs.laws_lookup.specs.OtherLaws.{LeavesOthers}
+use Rattle.laws_call.specs.pack_model.specs.operations.Committing.{length_of}
+use Rattle.laws_call.specs.pack_model.specs.operations.Step.Operation.{enter, make, put}
+use Rattle.laws_call.specs.pack_model.specs.operations.Step.{step}
+use Rattle.laws_call.specs.pack_model.specs.reading.Model.{Model}
 use Rattle.page_seeking.specs.Seeking.{NamedNearEnd}
 
 -- bytes that are put within a file leave its length

@@ -8,3 +8,17 @@ pub mod NameLaws
 pub mod PartLaws
 pub mod RunLaws
 pub mod SerialLaws
+pub use Rattle.laws_call.specs.alto_words
+pub use Rattle.laws_call.specs.disk_records
+pub use Rattle.laws_call.specs.pack_model
+pub use Rattle.session_model.specs.world_model
+pub use Rattle.pack_laws
+pub use Rattle.laws_call.specs.laws_record
+pub use Rattle.laws_call.specs.laws_contents
+pub use Rattle.laws_call.specs.laws_operation
+pub use Rattle.laws_call.specs.laws_lookup
+pub use Rattle.laws_call.specs.laws_room
+pub use Rattle.laws_call.specs.laws_line
+pub use Rattle.laws_call.specs.laws_hint
+pub use Rattle.laws_midway
+pub use Rattle.laws_call

@@ -1,26 +1,26 @@
 -- Files that were found, over several operations of a line, by the model.
 use Rattle.std.specs.Prelude.{List, Ok, OnOk, Result, Some, [], false, ℕ, ◌++◌, ◌∷◌, ◌≡◌, ◌≤◌}
-use Rattle.alto_words.specs.Fid.{disk_descriptor, is_fid}
-use Rattle.alto_words.specs.declared.fid.Fid.{Fid}
-use Rattle.disk_records.specs.Packs.{Pack, after, sector_at}
-use Rattle.disk_records.specs.Tapes.{added, pack}
-use Rattle.disk_records.specs.declared.records.Event.{Event}
-use Rattle.disk_records.specs.declared.records.Place.{Place}
+use Rattle.laws_call.specs.alto_words.specs.Fid.{disk_descriptor, is_fid}
+use Rattle.laws_call.specs.alto_words.specs.declared.fid.Fid.{Fid}
+use Rattle.laws_call.specs.disk_records.specs.Packs.{Pack, after, sector_at}
+use Rattle.laws_call.specs.disk_records.specs.Tapes.{added, pack}
+use Rattle.laws_call.specs.disk_records.specs.declared.records.Event.{Event}
+use Rattle.laws_call.specs.disk_records.specs.declared.records.Place.{Place}
 use Rattle.laws_call.specs.Acting.{Around, Operates}
 use Rattle.laws_call.specs.Going.{Goes}
 use Rattle.laws_call.specs.Writing.{Written}
-use Rattle.laws_line.specs.CrashLaws.{with_serial}
-use Rattle.laws_line.specs.Ready.{steps_of}
-use Rattle.pack_model.specs.hints.Sources.{IsFrom}
-use Rattle.pack_model.specs.operations.Step.Operation.{cut, drop_file, enter, grow, leave, make, put, stamp, title, widen}
-use Rattle.pack_model.specs.operations.Step.{Operation, step}
-use Rattle.pack_model.specs.reading.Files.{place}
-use Rattle.pack_model.specs.reading.Model.{Model, dir_items, read_as}
-use Rattle.pack_model.specs.reading.Sights.{sights}
-use Rattle.pack_model.specs.reading.Versions.{Entered, exact}
-use Rattle.pack_model.specs.scavenger.Scavenging.{Unmarked}
-use Rattle.pack_model.specs.sessions.Descriptor.{serial_writes}
-use Rattle.pack_model.specs.states.Whole.{Tidy, Whole}
+use Rattle.laws_call.specs.laws_line.specs.CrashLaws.{with_serial}
+use Rattle.laws_call.specs.laws_line.specs.Ready.{steps_of}
+use Rattle.laws_call.specs.pack_model.specs.hints.Sources.{IsFrom}
+use Rattle.laws_call.specs.pack_model.specs.operations.Step.Operation.{cut, drop_file, enter, grow, leave, make, put, stamp, title, widen}
+use Rattle.laws_call.specs.pack_model.specs.operations.Step.{Operation, step}
+use Rattle.laws_call.specs.pack_model.specs.reading.Files.{place}
+use Rattle.laws_call.specs.pack_model.specs.reading.Model.{Model, dir_items, read_as}
+use Rattle.laws_call.specs.pack_model.specs.reading.Sights.{sights}
+use Rattle.laws_call.specs.pack_model.specs.reading.Versions.{Entered, exact}
+use Rattle.laws_call.specs.pack_model.specs.scavenger.Scavenging.{Unmarked}
+use Rattle.laws_call.specs.pack_model.specs.sessions.Descriptor.{serial_writes}
+use Rattle.laws_call.specs.pack_model.specs.states.Whole.{Tidy, Whole}
 use Rattle.laws_steps.specs.KeepingLaws.{IfByEntry, StaysEntered}
 
 -- ---- by the model

@@ -1,12 +1,12 @@
 -- Names that no entry has, and room for them, over operations, on any model.
 use Rattle.std.specs.Prelude.{List, None, false, ℕ, ◌≡◌, ◌≤◌}
-use Rattle.alto_words.specs.declared.fid.Fid.{Fid}
-use Rattle.laws_lookup.specs.NameStayLaws.{enters_name}
-use Rattle.pack_model.specs.operations.Rooms.{largest_run}
-use Rattle.pack_model.specs.operations.Step.Operation.{leave}
-use Rattle.pack_model.specs.operations.Step.{Operation, step}
-use Rattle.pack_model.specs.reading.Model.{Model, dir_items}
-use Rattle.pack_model.specs.reading.Versions.{exact}
+use Rattle.laws_call.specs.alto_words.specs.declared.fid.Fid.{Fid}
+use Rattle.laws_call.specs.laws_lookup.specs.NameStayLaws.{enters_name}
+use Rattle.laws_call.specs.pack_model.specs.operations.Rooms.{largest_run}
+use Rattle.laws_call.specs.pack_model.specs.operations.Step.Operation.{leave}
+use Rattle.laws_call.specs.pack_model.specs.operations.Step.{Operation, step}
+use Rattle.laws_call.specs.pack_model.specs.reading.Model.{Model, dir_items}
+use Rattle.laws_call.specs.pack_model.specs.reading.Versions.{exact}
 
 -- a name that no entry of a directory has is one that none has after an operation that doesn't enter it there
 abbrev pub AbsentNameStaysAbsent : Type 0

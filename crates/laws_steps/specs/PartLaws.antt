@@ -1,9 +1,9 @@
 -- A line in two parts, on any model.
 use Rattle.std.specs.Prelude.{List, ◌++◌, ◌+◌, ◌≡◌}
-use Rattle.laws_line.specs.Ready.{steps_of}
-use Rattle.pack_model.specs.operations.Committing.{pages_for_operations}
-use Rattle.pack_model.specs.operations.Step.{Operation}
-use Rattle.pack_model.specs.reading.Model.{Model}
+use Rattle.laws_call.specs.laws_line.specs.Ready.{steps_of}
+use Rattle.laws_call.specs.pack_model.specs.operations.Committing.{pages_for_operations}
+use Rattle.laws_call.specs.pack_model.specs.operations.Step.{Operation}
+use Rattle.laws_call.specs.pack_model.specs.reading.Model.{Model}
 
 -- the model after all operations is that after the others, from the model after the first ones
 abbrev pub StepsOfBothParts : Type 0

@@ -2,15 +2,15 @@
 use Rattle.std.specs.Ordering.{is_lt}
 use Rattle.std.specs.Option.{option_map}
 use Rattle.std.specs.Prelude.{IfSome, None, Option, Some, cond, fold, ℕ, ◌==◌, ◌≡◌}
-use Rattle.alto_words.specs.Fid.{fid_cmp, serial_of}
-use Rattle.alto_words.specs.declared.fid.Fid.{Fid}
-use Rattle.disk_records.specs.Packs.{Pack, carried}
-use Rattle.pack_model.specs.hints.Misled.{leader_page}
-use Rattle.pack_model.specs.reading.Files.{numbered}
-use Rattle.pack_model.specs.reading.Model.{read_as}
-use Rattle.pack_model.specs.reading.Sights.Sight.{free, hidden, holds, leads, stray}
-use Rattle.pack_model.specs.reading.Sights.{Sight, sights}
-use Rattle.pack_model.specs.states.Whole.{Whole}
+use Rattle.laws_call.specs.alto_words.specs.Fid.{fid_cmp, serial_of}
+use Rattle.laws_call.specs.alto_words.specs.declared.fid.Fid.{Fid}
+use Rattle.laws_call.specs.disk_records.specs.Packs.{Pack, carried}
+use Rattle.laws_call.specs.pack_model.specs.hints.Misled.{leader_page}
+use Rattle.laws_call.specs.pack_model.specs.reading.Files.{numbered}
+use Rattle.laws_call.specs.pack_model.specs.reading.Model.{read_as}
+use Rattle.laws_call.specs.pack_model.specs.reading.Sights.Sight.{free, hidden, holds, leads, stray}
+use Rattle.laws_call.specs.pack_model.specs.reading.Sights.{Sight, sights}
+use Rattle.laws_call.specs.pack_model.specs.states.Whole.{Whole}
 use Rattle.session_model.specs.Finding.{by_serial}
 
 -- a file, and the sector where its leader was met

@@ -7,11 +7,11 @@ use Rattle.std.specs.Option.{is_some}
 use Rattle.std.specs.Cmp.{IsTotalOrder}
 use Rattle.std.specs.FinMap.{FinMap, IsAntisymmetric, len-entries, len-empty, find, get-entries, get-retain_keys, entries, entries_sorted, entries-insert, contains_key, from_entries, retain_keys}
 use Rattle.std.specs.FinMap.Entries.{same_entries, put, where_key, is_sorted-where_key, find-where_key}
-use Rattle.alto_words.specs.declared.fid.Fid.{Fid}
-use Rattle.alto_words.specs.Fid.{fid_cmp, is_fid, is_system, sys_dir}
-use Rattle.alto_words.specs.Names.{is_same_name}
-use Rattle.disk_records.specs.declared.shape.Shape.{Shape}
-use Rattle.disk_records.specs.Packs.{Pack}
+use Rattle.pack_model.specs.alto_words.specs.declared.fid.Fid.{Fid}
+use Rattle.pack_model.specs.alto_words.specs.Fid.{fid_cmp, is_fid, is_system, sys_dir}
+use Rattle.pack_model.specs.alto_words.specs.Names.{is_same_name}
+use Rattle.pack_model.specs.disk_records.specs.declared.shape.Shape.{Shape}
+use Rattle.pack_model.specs.disk_records.specs.Packs.{Pack}
 use Rattle.pack_model.specs.reading.Sights.{Sight, sights}
 use Rattle.pack_model.specs.reading.Files.{lives}
 use Rattle.pack_model.specs.sessions.Maps.{map_entries}

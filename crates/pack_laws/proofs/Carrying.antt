@@ -1,11 +1,11 @@
 -- Sectors that carry a page, by their labels and by what they show.
 use Rattle.std.proofs.Common.{◌≡◌, ℕ, zero, suc, ◌<◌, Bool, true, false, cond, length, get_or, take, Some, None, refl, sym, ap, ◌∙◌}
-use Rattle.alto_words.specs.declared.fid.Fid.{Fid}
-use Rattle.disk_records.specs.declared.shape.Shape.{Shape}
-use Rattle.disk_records.specs.declared.records.Sector.{Sector}
-use Rattle.disk_records.specs.declared.records.Page.{Page}
-use Rattle.disk_records.specs.Labels.{tag, in_range, is_free, page_of}
-use Rattle.disk_records.specs.Packs.{Pack, sector_at, is_usable, carried}
+use Rattle.pack_model.specs.alto_words.specs.declared.fid.Fid.{Fid}
+use Rattle.pack_model.specs.disk_records.specs.declared.shape.Shape.{Shape}
+use Rattle.pack_model.specs.disk_records.specs.declared.records.Sector.{Sector}
+use Rattle.pack_model.specs.disk_records.specs.declared.records.Page.{Page}
+use Rattle.pack_model.specs.disk_records.specs.Labels.{tag, in_range, is_free, page_of}
+use Rattle.pack_model.specs.disk_records.specs.Packs.{Pack, sector_at, is_usable, carried}
 use Rattle.pack_model.specs.reading.Bytes.{bytes_of}
 use Rattle.pack_model.specs.reading.Leaders.{leader_of, leader_words, is_readable}
 use Rattle.pack_model.specs.reading.Sights.{Sight, sight, sights, tag_sight, page_sight}

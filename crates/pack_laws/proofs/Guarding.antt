@@ -4,15 +4,15 @@ use Rattle.std.specs.Prelude.{◌&&◌}
 use Rattle.std.proofs.lemmas.List.{get_or-set_same, get_or-set_other}
 use Rattle.std.proofs.lemmas.Option.{cond_some}
 use Rattle.std.proofs.lemmas.Bool.Decides.{nat_tests}
-use Rattle.disk_records.specs.declared.shape.Shape.{Shape}
-use Rattle.disk_records.specs.declared.records.Page.{Page}
-use Rattle.disk_records.specs.declared.records.Sector.{Sector}
-use Rattle.disk_records.specs.declared.records.Event.TheVariants.{Wrote}
-use Rattle.disk_records.specs.Addresses.{is_right_header}
-use Rattle.disk_records.specs.Commands.{ones}
-use Rattle.disk_records.specs.Labels.{Tag, tag, in_range, is_free, page_of}
-use Rattle.disk_records.specs.Packs.{Pack, after, sector_at, no_sector, with_part, is_usable, carried, is_free_at}
-use Rattle.disk_records.proofs.Reals.{real_of-above}
+use Rattle.pack_model.specs.disk_records.specs.declared.shape.Shape.{Shape}
+use Rattle.pack_model.specs.disk_records.specs.declared.records.Page.{Page}
+use Rattle.pack_model.specs.disk_records.specs.declared.records.Sector.{Sector}
+use Rattle.pack_model.specs.disk_records.specs.declared.records.Event.TheVariants.{Wrote}
+use Rattle.pack_model.specs.disk_records.specs.Addresses.{is_right_header}
+use Rattle.pack_model.specs.disk_records.specs.Commands.{ones}
+use Rattle.pack_model.specs.disk_records.specs.Labels.{Tag, tag, in_range, is_free, page_of}
+use Rattle.pack_model.specs.disk_records.specs.Packs.{Pack, after, sector_at, no_sector, with_part, is_usable, carried, is_free_at}
+use Rattle.pack_model.specs.disk_records.proofs.Reals.{real_of-above}
 use Rattle.pack_model.specs.reading.Sights.{sight, tag_sight, page_sight}
 use Rattle.pack_model.specs.reading.Sights.Sight.{hidden, free, stray}
 

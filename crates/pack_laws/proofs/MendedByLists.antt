@@ -4,10 +4,10 @@ use Rattle.std.specs.Prelude.{◌&&◌, nat_le, length, get_or, max}
 use Rattle.std.specs.List.{list_any}
 use Rattle.std.specs.FinMap.{find, get, get-entries, entries, entries-insert}
 use Rattle.std.specs.FinMap.Entries.{put}
-use Rattle.alto_words.specs.declared.fid.Fid.{Fid}
-use Rattle.alto_words.specs.Fid.{fid_cmp, is_fid, serial_of, sys_dir, disk_descriptor}
-use Rattle.disk_records.specs.declared.shape.Shape.{Shape}
-use Rattle.disk_records.specs.Packs.{Pack, sector_at}
+use Rattle.pack_model.specs.alto_words.specs.declared.fid.Fid.{Fid}
+use Rattle.pack_model.specs.alto_words.specs.Fid.{fid_cmp, is_fid, serial_of, sys_dir, disk_descriptor}
+use Rattle.pack_model.specs.disk_records.specs.declared.shape.Shape.{Shape}
+use Rattle.pack_model.specs.disk_records.specs.Packs.{Pack, sector_at}
 use Rattle.pack_model.specs.reading.Sights.{Sight, sights}
 use Rattle.pack_model.specs.reading.Sights.Sight.{hidden, free, stray, leads, holds}
 use Rattle.pack_model.specs.reading.Files.{lives, file_bytes, numbered}

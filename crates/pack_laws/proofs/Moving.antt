@@ -1,10 +1,10 @@
 -- Record writes that make moves of a model, one after another.
 use Rattle.std.proofs.Common.{◌≡◌, ℕ, ◌≤◌, zero, suc, List, [], ◌∷◌, ◌++◌, length, take, refl, sym, subst, ◌∙◌, ap, arith, Result, Ok, Err, OnOk}
-use Rattle.disk_records.specs.declared.records.Event.{Event}
-use Rattle.disk_records.specs.Events.{IsFirstOf}
-use Rattle.disk_records.specs.Packs.{Pack, after}
-use Rattle.disk_records.specs.Tapes.{Taped, pack, added}
-use Rattle.disk_records.proofs.Growing.{after-append, nothing_added}
+use Rattle.pack_model.specs.disk_records.specs.declared.records.Event.{Event}
+use Rattle.pack_model.specs.disk_records.specs.Events.{IsFirstOf}
+use Rattle.pack_model.specs.disk_records.specs.Packs.{Pack, after}
+use Rattle.pack_model.specs.disk_records.specs.Tapes.{Taped, pack, added}
+use Rattle.pack_model.specs.disk_records.proofs.Growing.{after-append, nothing_added}
 use Rattle.pack_model.specs.sessions.Moves.{Meaning, steps, Obeys, rest, write, IsStartOf, Does}
 
 -- ---- prefixes of lists

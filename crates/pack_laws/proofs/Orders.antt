@@ -5,8 +5,8 @@ use Rattle.std.specs.declared.cmp.Ordering.TheVariants.{Less, Equal, Greater}
 use Rattle.std.specs.Ordering.{is_eq, ordering_then}
 use Rattle.std.specs.Cmp.{IsTotalOrder, then_total, on_total}
 use Rattle.std.specs.Cmp.Lexicographic.{options_total}
-use Rattle.alto_words.specs.Names.{folded_cmp}
-use Rattle.alto_words.proofs.Folding.{folded_cmp-total}
+use Rattle.pack_model.specs.alto_words.specs.Names.{folded_cmp}
+use Rattle.pack_model.specs.alto_words.proofs.Folding.{folded_cmp-total}
 use Rattle.pack_model.specs.showing.Listing.{naming_cmp, listed_cmp}
 use Rattle.pack_laws.proofs.Keys.{fid_total}
 

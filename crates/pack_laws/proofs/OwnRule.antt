@@ -1,13 +1,13 @@
 -- By the rule of stored names itself, the readings by a rule are the ones that stand.
 use Rattle.std.proofs.Common.{◌≡◌, ℕ, zero, suc, ◌-◌, ◌≤◌, cond, List, [], ◌∷◌, refl, ap, sym, subst, ◌∙◌}
 use Rattle.std.specs.FinMap.{retain_keys}
-use Rattle.alto_words.specs.declared.fid.Fid.{Fid}
-use Rattle.alto_words.specs.Fid.{is_directory, serial_of, sys_dir, disk_descriptor}
-use Rattle.alto_words.specs.Names.{is_stored_name}
-use Rattle.disk_records.specs.declared.shape.Shape.{Shape}
-use Rattle.disk_records.specs.declared.records.Sector.{Sector}
-use Rattle.disk_records.specs.Labels.{tag, in_range, is_free}
-use Rattle.disk_records.specs.Packs.{Pack, is_usable}
+use Rattle.pack_model.specs.alto_words.specs.declared.fid.Fid.{Fid}
+use Rattle.pack_model.specs.alto_words.specs.Fid.{is_directory, serial_of, sys_dir, disk_descriptor}
+use Rattle.pack_model.specs.alto_words.specs.Names.{is_stored_name}
+use Rattle.pack_model.specs.disk_records.specs.declared.shape.Shape.{Shape}
+use Rattle.pack_model.specs.disk_records.specs.declared.records.Sector.{Sector}
+use Rattle.pack_model.specs.disk_records.specs.Labels.{tag, in_range, is_free}
+use Rattle.pack_model.specs.disk_records.specs.Packs.{Pack, is_usable}
 use Rattle.pack_model.specs.reading.Bytes.{words_of}
 use Rattle.pack_model.specs.reading.Leaders.{leader_of, leader_name, is_readable}
 use Rattle.pack_model.specs.reading.Sights.Sight.{hidden, free, stray}

@@ -1,10 +1,10 @@
 -- The law of a put: a value write with bytes in their place makes the put of the living files.
 use Rattle.std.proofs.Common.{All, List, [], ap, arith, length, min, refl, set, subst, sym, take, ℕ, ◌%◌, ◌+◌, ◌/◌, ◌<◌, ◌∙◌, ◌∷◌, ◌≡◌, ◌≤◌}
 use Rattle.std.proofs.lemmas.List.{length-take}
-use Rattle.alto_words.specs.declared.fid.Fid.{Fid}
-use Rattle.disk_records.specs.declared.records.Event.TheVariants.{Wrote}
-use Rattle.disk_records.specs.Labels.{tag}
-use Rattle.disk_records.specs.Packs.{Pack, after, sector_at}
+use Rattle.pack_model.specs.alto_words.specs.declared.fid.Fid.{Fid}
+use Rattle.pack_model.specs.disk_records.specs.declared.records.Event.TheVariants.{Wrote}
+use Rattle.pack_model.specs.disk_records.specs.Labels.{tag}
+use Rattle.pack_model.specs.disk_records.specs.Packs.{Pack, after, sector_at}
 use Rattle.pack_model.specs.reading.Bytes.{bytes_of, put_at, words_of}
 use Rattle.pack_model.specs.reading.Sights.{sights}
 use Rattle.pack_model.specs.reading.Sights.Sight.{hidden, holds}

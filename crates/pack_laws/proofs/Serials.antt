@@ -8,9 +8,9 @@ use Rattle.std.specs.FinMap.{entries, entries_sorted, entries-insert, from_entri
 use Rattle.std.specs.FinMap.Entries.{below_all, by_order}
 use Rattle.std.proofs.lemmas.List.{nil_from_length, take_all}
 use Rattle.std.proofs.lemmas.List.Sums.{fold_more}
-use Rattle.alto_words.specs.declared.fid.Fid.{Fid}
-use Rattle.alto_words.specs.Fid.{fid_cmp, serial_of}
-use Rattle.disk_records.specs.Packs.{Pack, sector_at}
+use Rattle.pack_model.specs.alto_words.specs.declared.fid.Fid.{Fid}
+use Rattle.pack_model.specs.alto_words.specs.Fid.{fid_cmp, serial_of}
+use Rattle.pack_model.specs.disk_records.specs.Packs.{Pack, sector_at}
 use Rattle.pack_model.specs.reading.Sights.{Sight, sight, sights}
 use Rattle.pack_model.specs.reading.Sights.Sight.{hidden, free, stray, leads, holds}
 use Rattle.pack_model.specs.sessions.Maps.{map_entries}

@@ -2,12 +2,12 @@
 use Rattle.std.proofs.Common.{◌≡◌, ℕ, zero, suc, ◌+◌, ◌<◌, ◌≤◌, Bool, true, false, cond, List, [], ◌∷◌, length, get_or, set, take, refl, sym, ap, ◌∙◌, arith, leb-true, min}
 use Rattle.std.specs.Prelude.{◌&&◌}
 use Rattle.std.proofs.lemmas.List.{set-get_or, length-take}
-use Rattle.alto_words.specs.declared.fid.Fid.{Fid}
-use Rattle.disk_records.specs.declared.shape.Shape.{Shape}
-use Rattle.disk_records.specs.declared.records.Sector.{Sector}
-use Rattle.disk_records.specs.declared.records.Event.TheVariants.{Wrote}
-use Rattle.disk_records.specs.Labels.{Tag, tag, in_range, is_free}
-use Rattle.disk_records.specs.Packs.{Pack, after, sector_at, with_part, no_sector, is_usable}
+use Rattle.pack_model.specs.alto_words.specs.declared.fid.Fid.{Fid}
+use Rattle.pack_model.specs.disk_records.specs.declared.shape.Shape.{Shape}
+use Rattle.pack_model.specs.disk_records.specs.declared.records.Sector.{Sector}
+use Rattle.pack_model.specs.disk_records.specs.declared.records.Event.TheVariants.{Wrote}
+use Rattle.pack_model.specs.disk_records.specs.Labels.{Tag, tag, in_range, is_free}
+use Rattle.pack_model.specs.disk_records.specs.Packs.{Pack, after, sector_at, with_part, no_sector, is_usable}
 use Rattle.pack_model.specs.reading.Bytes.{bytes_of}
 use Rattle.pack_model.specs.reading.Sights.{Sight, sight, sights, sights_from, tag_sight, page_sight}
 use Rattle.pack_model.specs.reading.Sights.Sight.{hidden, free, stray, holds}

@@ -4,12 +4,12 @@ use Rattle.std.proofs.lemmas.Bool.{cases_lt}
 use Rattle.std.proofs.lemmas.List.{take-append-le, take_all, append-nil}
 use Rattle.std.proofs.lemmas.List.Sums.{sum_by-append}
 use Rattle.std.proofs.Math.Seq.{take-append-add}
-use Rattle.disk_records.specs.declared.records.Event.{Event}
-use Rattle.disk_records.specs.declared.records.Event.TheVariants.{Wrote, Shown}
-use Rattle.disk_records.specs.Events.{shown_events, shown_bytes, writes_in}
-use Rattle.disk_records.specs.Packs.{Pack, after, crash}
-use Rattle.disk_records.specs.Tapes.{Taped, Grown, pack, added}
-use Rattle.disk_records.proofs.Growing.{after-append, after-shown, shown-append, shown-events, writes-append, writes-shown, added-twice, nothing_added, pack-after}
+use Rattle.pack_model.specs.disk_records.specs.declared.records.Event.{Event}
+use Rattle.pack_model.specs.disk_records.specs.declared.records.Event.TheVariants.{Wrote, Shown}
+use Rattle.pack_model.specs.disk_records.specs.Events.{shown_events, shown_bytes, writes_in}
+use Rattle.pack_model.specs.disk_records.specs.Packs.{Pack, after, crash}
+use Rattle.pack_model.specs.disk_records.specs.Tapes.{Taped, Grown, pack, added}
+use Rattle.pack_model.specs.disk_records.proofs.Growing.{after-append, after-shown, shown-append, shown-events, writes-append, writes-shown, added-twice, nothing_added, pack-after}
 use Rattle.pack_model.specs.sessions.Moves.{Meaning, steps, Obeys, rest, write, IsStartOf}
 use Rattle.pack_model.specs.sessions.Turns.{Turn, ops_of, texts_of, Talks, begun, spoken, IsTurn, acknowledged, CutAt, moves_at}
 use Rattle.pack_laws.specs.TurnLaws.{acknowledged_moves}

@@ -1,12 +1,12 @@
 -- Calls that are turns: whole, cut within their text, and broken off.
 use Rattle.std.proofs.Common.{◌≡◌, ◌≢◌, ℕ, List, [], ◌∷◌, ◌++◌, refl, sym, subst, ◌∙◌, ap, Ok, Err, false}
 use Rattle.std.proofs.lemmas.List.{append-nil}
-use Rattle.disk_records.specs.declared.records.Event.{Event}
-use Rattle.disk_records.specs.declared.records.Event.TheVariants.{Shown}
-use Rattle.disk_records.specs.Events.{IsFirstOf, shown_events}
-use Rattle.disk_records.specs.Packs.{Pack}
-use Rattle.disk_records.specs.Tapes.{Taped, Grown, pack, added}
-use Rattle.disk_records.proofs.Growing.{added-twice}
+use Rattle.pack_model.specs.disk_records.specs.declared.records.Event.{Event}
+use Rattle.pack_model.specs.disk_records.specs.declared.records.Event.TheVariants.{Shown}
+use Rattle.pack_model.specs.disk_records.specs.Events.{IsFirstOf, shown_events}
+use Rattle.pack_model.specs.disk_records.specs.Packs.{Pack}
+use Rattle.pack_model.specs.disk_records.specs.Tapes.{Taped, Grown, pack, added}
+use Rattle.pack_model.specs.disk_records.proofs.Growing.{added-twice}
 use Rattle.pack_model.specs.sessions.Moves.{Meaning, Obeys, IsStartOf, Does}
 use Rattle.pack_model.specs.sessions.Turns.{Turn, IsTurn}
 use Rattle.pack_laws.proofs.Moving.{start_self}

@@ -4,14 +4,14 @@ use Rattle.std.specs.Prelude.{◌==◌, length}
 use Rattle.std.specs.Option.{option_map, is_some}
 use Rattle.std.specs.FinMap.{get, retain_keys, same_map}
 use Rattle.std.proofs.lemmas.Bool.{and_from, and_parts}
-use Rattle.alto_words.specs.declared.fid.Fid.{Fid}
-use Rattle.alto_words.specs.Fid.{fid_cmp, is_directory, serial_of, sys_dir, disk_descriptor}
-use Rattle.alto_words.specs.Names.{lost}
-use Rattle.disk_records.specs.declared.shape.Shape.{Shape}
-use Rattle.disk_records.specs.declared.records.Sector.{Sector}
-use Rattle.disk_records.specs.Labels.{tag, in_range, is_free}
-use Rattle.disk_records.specs.Packs.{Pack, is_usable}
-use Rattle.disk_records.specs.Words.{word, double}
+use Rattle.pack_model.specs.alto_words.specs.declared.fid.Fid.{Fid}
+use Rattle.pack_model.specs.alto_words.specs.Fid.{fid_cmp, is_directory, serial_of, sys_dir, disk_descriptor}
+use Rattle.pack_model.specs.alto_words.specs.Names.{lost}
+use Rattle.pack_model.specs.disk_records.specs.declared.shape.Shape.{Shape}
+use Rattle.pack_model.specs.disk_records.specs.declared.records.Sector.{Sector}
+use Rattle.pack_model.specs.disk_records.specs.Labels.{tag, in_range, is_free}
+use Rattle.pack_model.specs.disk_records.specs.Packs.{Pack, is_usable}
+use Rattle.pack_model.specs.disk_records.specs.Words.{word, double}
 use Rattle.pack_model.specs.reading.Bytes.{words_of}
 use Rattle.pack_model.specs.reading.Leaders.{Leader, name_bytes, spelled_name, leader_words}
 use Rattle.pack_model.specs.reading.Sights.{Sight}

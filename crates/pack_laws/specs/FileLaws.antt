@@ -2,9 +2,9 @@
 use Rattle.std.specs.Prelude.{◌≡◌, ◌≢◌, ℕ, ◌<◌, List, Option, Some, None}
 use Rattle.std.specs.Option.{is_some}
 use Rattle.std.specs.FinMap.{get}
-use Rattle.alto_words.specs.declared.fid.Fid.{Fid}
-use Rattle.disk_records.specs.declared.records.Page.{Page}
-use Rattle.disk_records.specs.Packs.{Pack, carried}
+use Rattle.pack_model.specs.alto_words.specs.declared.fid.Fid.{Fid}
+use Rattle.pack_model.specs.disk_records.specs.declared.records.Page.{Page}
+use Rattle.pack_model.specs.disk_records.specs.Packs.{Pack, carried}
 use Rattle.pack_model.specs.reading.Leaders.{Leader}
 use Rattle.pack_model.specs.reading.Sights.{Sight, sights}
 use Rattle.pack_model.specs.reading.Files.{first, leader_at, page_at, leader, lives, file_bytes, place, Bears}

@@ -2,11 +2,11 @@
 -- free, what the sectors show, and which words they hold, links and bytes after the count among them. The crash before the first
 -- write is the pack itself.
 use Rattle.std.specs.Prelude.{◌≡◌, ◌≢◌, ℕ, ◌<◌, ◌≤◌, Bool, true, false, cond, nat_lt, List, set, Option, Some, None}
-use Rattle.disk_records.specs.declared.records.Page.{Page}
-use Rattle.disk_records.specs.declared.records.Sector.{Sector}
-use Rattle.disk_records.specs.Commands.{value_writes, relabel_writes, claim_writes, release_writes, ones}
-use Rattle.disk_records.specs.Labels.{tag, page_of}
-use Rattle.disk_records.specs.Packs.{Pack, crash, sector_at, carried, is_free_at}
+use Rattle.pack_model.specs.disk_records.specs.declared.records.Page.{Page}
+use Rattle.pack_model.specs.disk_records.specs.declared.records.Sector.{Sector}
+use Rattle.pack_model.specs.disk_records.specs.Commands.{value_writes, relabel_writes, claim_writes, release_writes, ones}
+use Rattle.pack_model.specs.disk_records.specs.Labels.{tag, page_of}
+use Rattle.pack_model.specs.disk_records.specs.Packs.{Pack, crash, sector_at, carried, is_free_at}
 use Rattle.pack_model.specs.reading.Sights.{Sight, page_sight, sights}
 use Rattle.pack_model.specs.reading.Sights.Sight.{free}
 

@@ -6,3 +6,6 @@ pub mod NameLaws
 pub mod PutLaws
 pub mod TallyLaws
 pub mod TurnLaws
+pub use Rattle.pack_model.specs.alto_words
+pub use Rattle.pack_model.specs.disk_records
+pub use Rattle.pack_model

@@ -1,8 +1,8 @@
 -- Which record writes make which moves.
 use Rattle.std.specs.Prelude.{List, [], ◌∷◌}
-use Rattle.disk_records.specs.declared.records.Event.{Event}
-use Rattle.disk_records.specs.declared.records.Event.TheVariants.{Wrote, Shown}
-use Rattle.disk_records.specs.Packs.{Pack, after}
+use Rattle.pack_model.specs.disk_records.specs.declared.records.Event.{Event}
+use Rattle.pack_model.specs.disk_records.specs.declared.records.Event.TheVariants.{Wrote, Shown}
+use Rattle.pack_model.specs.disk_records.specs.Packs.{Pack, after}
 use Rattle.pack_model.specs.sessions.Moves.{Meaning}
 
 -- Each record write makes the next move on the pack before it, shown bytes make none, and no move is left.

@@ -1,7 +1,7 @@
 -- Readings of a pack by a rule of stored names: by the rule itself, and by that of the time when names had no versions.
 use Rattle.std.specs.Prelude.{◌≡◌, ◌↔◌}
-use Rattle.alto_words.specs.Names.{is_bare_name, is_stored_name}
-use Rattle.disk_records.specs.Packs.{Pack}
+use Rattle.pack_model.specs.alto_words.specs.Names.{is_bare_name, is_stored_name}
+use Rattle.pack_model.specs.disk_records.specs.Packs.{Pack}
 use Rattle.pack_model.specs.reading.Sights.{sights}
 use Rattle.pack_model.specs.reading.Model.{read_as}
 use Rattle.pack_model.specs.states.Sound.{Sound}

@@ -1,7 +1,7 @@
 -- The law of a put, as a statement.
 use Rattle.std.specs.Prelude.{ℕ, ◌+◌, ◌%◌, ◌<◌, ◌≤◌, List, [], ◌∷◌, length, All}
-use Rattle.disk_records.specs.declared.records.Event.TheVariants.{Wrote}
-use Rattle.disk_records.specs.Packs.{Pack}
+use Rattle.pack_model.specs.disk_records.specs.declared.records.Event.TheVariants.{Wrote}
+use Rattle.pack_model.specs.disk_records.specs.Packs.{Pack}
 use Rattle.pack_model.specs.reading.Sights.{sights}
 use Rattle.pack_model.specs.reading.Files.{file_bytes}
 use Rattle.pack_model.specs.reading.Stored.{stored_files}

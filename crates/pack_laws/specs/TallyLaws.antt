@@ -1,10 +1,10 @@
 -- How tallies add up, and what a caller finds out by the machine's count of record writes.
 use Rattle.std.specs.Prelude.{◌≡◌, ℕ, suc, ◌+◌, ◌-◌, ◌<◌, ◌^◌, cond, nat_le, nat_lt, List, ◌∷◌, ◌++◌, length, take, sum_by}
-use Rattle.disk_records.specs.declared.records.Event.{Event}
-use Rattle.disk_records.specs.declared.records.Tally.{Tally}
-use Rattle.disk_records.specs.Events.{place_of_write, writes_in}
-use Rattle.disk_records.specs.Packs.{Pack}
-use Rattle.disk_records.specs.Tapes.{Grown, Taped, added, capped}
+use Rattle.pack_model.specs.disk_records.specs.declared.records.Event.{Event}
+use Rattle.pack_model.specs.disk_records.specs.declared.records.Tally.{Tally}
+use Rattle.pack_model.specs.disk_records.specs.Events.{place_of_write, writes_in}
+use Rattle.pack_model.specs.disk_records.specs.Packs.{Pack}
+use Rattle.pack_model.specs.disk_records.specs.Tapes.{Grown, Taped, added, capped}
 use Rattle.pack_model.specs.operations.Operations.{Move, weight_of}
 use Rattle.pack_model.specs.operations.Operations.Move.{commits}
 use Rattle.pack_model.specs.operations.Step.{Operation}

@@ -1,10 +1,10 @@
 -- The laws of moves and turns, of any meaning of moves.
 use Rattle.std.specs.Prelude.{Bool, Err, List, Ok, OnOk, Result, Some, [], cond, drop, false, length, slice_get, sum_by, take, true, ℕ, ◌&&◌, ◌++◌, ◌+◌, ◌∷◌, ◌≡◌, ◌≤◌}
-use Rattle.disk_records.specs.declared.records.Event.{Event}
-use Rattle.disk_records.specs.declared.records.Event.TheVariants.{Shown, Wrote}
-use Rattle.disk_records.specs.Events.{IsFirstOf, shown_bytes, shown_events, writes_in}
-use Rattle.disk_records.specs.Packs.{Pack, after, crash}
-use Rattle.disk_records.specs.Tapes.{Grown, Taped, added, pack}
+use Rattle.pack_model.specs.disk_records.specs.declared.records.Event.{Event}
+use Rattle.pack_model.specs.disk_records.specs.declared.records.Event.TheVariants.{Shown, Wrote}
+use Rattle.pack_model.specs.disk_records.specs.Events.{IsFirstOf, shown_bytes, shown_events, writes_in}
+use Rattle.pack_model.specs.disk_records.specs.Packs.{Pack, after, crash}
+use Rattle.pack_model.specs.disk_records.specs.Tapes.{Grown, Taped, added, pack}
 use Rattle.pack_model.specs.sessions.Moves.{Does, IsStartOf, Meaning, Obeys, steps}
 use Rattle.pack_model.specs.sessions.Turns.{BreaksAt, CutAt, IsTurn, Talks, Turn, is_whole, moves_at, ops_of, ruler, texts_of}
 use Rattle.pack_laws.specs.Made.{AllMade}

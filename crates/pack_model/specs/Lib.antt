@@ -5,3 +5,5 @@ pub mod sessions
 pub mod states
 pub mod hints
 pub mod scavenger
+pub use Rattle.disk_records.specs.alto_words
+pub use Rattle.disk_records

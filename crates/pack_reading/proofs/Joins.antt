@@ -14,7 +14,7 @@ use Rattle.alto_words.specs.declared.fid.Fid.{Fid}
 use Rattle.alto_words.specs.Fid.{fid_cmp, is_fid}
 use Rattle.disk_records.specs.declared.records.Page.{Page}
 use Rattle.pack_model.specs.reading.Files.{joined, most_pages}
-use Rattle.pack_laws.proofs.Keys.{is_fid-sym}
+use Rattle.label_sweep.specs.pack_laws.proofs.Keys.{is_fid-sym}
 use Rattle.pack_reading.specs.declared.swept.Pages.{Pages}
 use Rattle.pack_reading.specs.Kept.{page_cmp, page_kept, bytes_kept, KeepsOthers}
 use Rattle.pack_reading.proofs.Tests.{tie_pages}

@@ -7,7 +7,7 @@ use Rattle.alto_words.specs.declared.fid.Fid.{Fid}
 use Rattle.alto_words.specs.Fid.{is_fid}
 use Rattle.pack_model.specs.reading.Bytes.{bytes_of}
 use Rattle.pack_model.specs.reading.Sights.{page_sight}
-use Rattle.pack_laws.proofs.Firsts.{or_none}
+use Rattle.label_sweep.specs.pack_laws.proofs.Firsts.{or_none}
 use Rattle.pack_reading.specs.declared.swept.Pages.{Pages}
 use Rattle.pack_reading.specs.declared.swept.Swept.{Swept}
 use Rattle.pack_reading.specs.Kept.{leader_kept, page_kept, KeepsSight}

@@ -22,8 +22,8 @@ use Rattle.pack_model.specs.reading.Model.{read_sights}
 use Rattle.pack_model.specs.showing.View.{Home, Seen, view, seen_of, seen_body}
 use Rattle.pack_model.specs.showing.Settling.{settle, settled, adopted}
 use Rattle.pack_model.specs.showing.Listing.{naming_of, naming_cmp, in_order}
-use Rattle.pack_laws.proofs.Keys.{same_fid}
-use Rattle.pack_laws.proofs.ByLists.{is_shown as shows}
+use Rattle.label_sweep.specs.pack_laws.proofs.Keys.{same_fid}
+use Rattle.label_sweep.specs.pack_laws.proofs.ByLists.{is_shown as shows}
 use Rattle.kept_names.specs.Homes.{considered}
 use Rattle.pack_reading.specs.declared.shown.Shown.{Shown}
 use Rattle.pack_reading.specs.declared.shown.ShownLengths.{ShownLengths}

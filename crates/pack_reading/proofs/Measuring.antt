@@ -11,8 +11,8 @@ use Rattle.pack_model.specs.reading.Bytes.{bytes_of}
 use Rattle.pack_model.specs.reading.Sights.{Sight, sights, page_sight}
 use Rattle.pack_model.specs.reading.Sights.Sight.{hidden, holds}
 use Rattle.pack_model.specs.reading.Files.{page, page_at, file_bytes, joined, most_pages}
-use Rattle.pack_laws.proofs.Keys.{is_fid-sym}
-use Rattle.pack_laws.proofs.Firsts.{first_more, or_none}
+use Rattle.label_sweep.specs.pack_laws.proofs.Keys.{is_fid-sym}
+use Rattle.label_sweep.specs.pack_laws.proofs.Firsts.{first_more, or_none}
 use Rattle.label_sweep.specs.Swept as sweeps
 use Rattle.label_sweep.proofs.Visiting.{kept_by_steps}
 use Rattle.pack_reading.specs.declared.counts.Counts.{Counts}

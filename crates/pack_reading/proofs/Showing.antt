@@ -20,8 +20,8 @@ use Rattle.pack_model.specs.reading.Model.{Model, read_sights}
 use Rattle.pack_model.specs.showing.View.{Home, View, view, homes, names_of}
 use Rattle.pack_model.specs.showing.Settling.{settle, settled}
 use Rattle.pack_model.specs.showing.Listing.{naming_of, naming_cmp, in_order}
-use Rattle.pack_laws.proofs.Keys.{fid_total, fid_same}
-use Rattle.pack_laws.proofs.ByLists.{is_shown as shows}
+use Rattle.label_sweep.specs.pack_laws.proofs.Keys.{fid_total, fid_same}
+use Rattle.label_sweep.specs.pack_laws.proofs.ByLists.{is_shown as shows}
 use Rattle.kept_names.specs.declared.names.Entry.{Entry}
 use Rattle.kept_names.specs.declared.names.Names.{Names}
 use Rattle.kept_names.specs.Homes.{naming_at, considered, StandsFor}

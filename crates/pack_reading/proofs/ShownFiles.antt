@@ -28,10 +28,10 @@ use Rattle.pack_model.specs.reading.Bodies.Body.{data_of, items_of}
 use Rattle.pack_model.specs.reading.Namings.{Naming, is_kept, files_kept, body_kept, kept_after_body}
 use Rattle.pack_model.specs.reading.Model.{read_sights}
 use Rattle.pack_model.specs.showing.View.{Seen, view, seen_of, seen_body}
-use Rattle.pack_laws.proofs.Keys.{fid_total, fid_same}
-use Rattle.pack_laws.proofs.Mapping.{entries-map_values, get-map_values}
-use Rattle.pack_laws.proofs.Storing.{get-files_shown}
-use Rattle.pack_laws.proofs.ByLists.{seen_list, is_shown as shows}
+use Rattle.label_sweep.specs.pack_laws.proofs.Keys.{fid_total, fid_same}
+use Rattle.label_sweep.specs.pack_laws.proofs.Mapping.{entries-map_values, get-map_values}
+use Rattle.label_sweep.specs.pack_laws.proofs.Storing.{get-files_shown}
+use Rattle.label_sweep.specs.pack_laws.proofs.ByLists.{seen_list, is_shown as shows}
 use Rattle.pack_reading.specs.declared.swept.Leaders.{Leaders}
 use Rattle.pack_reading.specs.declared.swept.Pages.{Pages}
 use Rattle.pack_reading.specs.declared.swept.Swept.{Swept}

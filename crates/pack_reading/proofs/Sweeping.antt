@@ -6,7 +6,7 @@ use Rattle.disk_records.specs.Tapes.{Taped, pack}
 use Rattle.pack_model.specs.reading.Sights.{Sight, sights}
 use Rattle.pack_model.specs.reading.Sights.Sight.{hidden}
 use Rattle.pack_model.specs.reading.Files.{first, leader_at, page_at}
-use Rattle.pack_laws.proofs.Firsts.{first_more}
+use Rattle.label_sweep.specs.pack_laws.proofs.Firsts.{first_more}
 use Rattle.label_sweep.specs.Swept as sweeps
 use Rattle.label_sweep.proofs.Visiting.{kept_by_steps}
 use Rattle.pack_reading.specs.declared.swept.Swept.{Swept}

@@ -9,7 +9,7 @@ use Rattle.std.proofs.lemmas.Bool.Decides.{nat_tests}
 use Rattle.alto_words.specs.declared.fid.Fid.{Fid}
 use Rattle.alto_words.specs.Fid.{fid_cmp, is_fid}
 use Rattle.disk_records.specs.declared.records.Page.{Page}
-use Rattle.pack_laws.proofs.Keys.{is_fid-sym, same_fid}
+use Rattle.label_sweep.specs.pack_laws.proofs.Keys.{is_fid-sym, same_fid}
 use Rattle.kept_names.proofs.Tests.{tie_then}
 use Rattle.pack_reading.specs.Kept.{page_cmp}
 

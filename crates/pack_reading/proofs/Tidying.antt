@@ -14,9 +14,9 @@ use Rattle.pack_model.specs.reading.Stored.{StoredFile, files_shown}
 use Rattle.pack_model.specs.reading.Bodies.{File, Files, found, file_of, body_of, described, is_described}
 use Rattle.pack_model.specs.reading.Namings.{Naming, is_kept, tidied, files_kept, kept_after_body, namings, body_namings}
 use Rattle.pack_model.specs.reading.Model.{read_sights}
-use Rattle.pack_laws.proofs.Keys.{fid_total, fid_same, same_fid}
-use Rattle.pack_laws.proofs.Mapping.{entries-map_values, entries-from_entries}
-use Rattle.pack_laws.proofs.ByLists.{entries-retain_keys}
+use Rattle.label_sweep.specs.pack_laws.proofs.Keys.{fid_total, fid_same, same_fid}
+use Rattle.label_sweep.specs.pack_laws.proofs.Mapping.{entries-map_values, entries-from_entries}
+use Rattle.label_sweep.specs.pack_laws.proofs.ByLists.{entries-retain_keys}
 
 -- ---- the files that are read
 module _ (ok : List Naming → Naming → Bool) where

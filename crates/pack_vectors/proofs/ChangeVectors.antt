@@ -3,18 +3,18 @@ use Rattle.std.proofs.Common.{◌≡◌, ℕ, List, [], ◌∷◌, Some, refl, a
 use Rattle.std.specs.Prelude.{cond, nat_le, codes}
 use Rattle.std.specs.Option.{option_map}
 use Rattle.std.specs.FinMap.{get, from_entries, get-from_entries}
-use Rattle.alto_words.specs.declared.fid.Fid.{Fid}
-use Rattle.alto_words.specs.Fid.{sys_dir, ordinary_fid}
-use Rattle.pack_model.specs.sessions.Maps.{update}
-use Rattle.pack_model.specs.reading.Slots.{Item}
-use Rattle.pack_model.specs.reading.Slots.Item.{space, entry}
-use Rattle.pack_model.specs.reading.Bodies.{File, items_in}
-use Rattle.pack_model.specs.reading.Bodies.Body.{items_of}
-use Rattle.pack_model.specs.reading.Namings.{sys_dir_name}
-use Rattle.pack_model.specs.reading.Model.{Model, dir_items}
-use Rattle.pack_model.specs.operations.Rooms.{placed, largest_run}
-use Rattle.pack_model.specs.operations.Step.{step, new_leader, spare_widening, room_widening}
-use Rattle.pack_model.specs.operations.Step.Operation.{put, grow, cut, title, leave, enter, widen}
+use Rattle.pack_laws.specs.alto_words.specs.declared.fid.Fid.{Fid}
+use Rattle.pack_laws.specs.alto_words.specs.Fid.{sys_dir, ordinary_fid}
+use Rattle.pack_laws.specs.pack_model.specs.sessions.Maps.{update}
+use Rattle.pack_laws.specs.pack_model.specs.reading.Slots.{Item}
+use Rattle.pack_laws.specs.pack_model.specs.reading.Slots.Item.{space, entry}
+use Rattle.pack_laws.specs.pack_model.specs.reading.Bodies.{File, items_in}
+use Rattle.pack_laws.specs.pack_model.specs.reading.Bodies.Body.{items_of}
+use Rattle.pack_laws.specs.pack_model.specs.reading.Namings.{sys_dir_name}
+use Rattle.pack_laws.specs.pack_model.specs.reading.Model.{Model, dir_items}
+use Rattle.pack_laws.specs.pack_model.specs.operations.Rooms.{placed, largest_run}
+use Rattle.pack_laws.specs.pack_model.specs.operations.Step.{step, new_leader, spare_widening, room_widening}
+use Rattle.pack_laws.specs.pack_model.specs.operations.Step.Operation.{put, grow, cut, title, leave, enter, widen}
 use Rattle.pack_laws.proofs.Keys.{fid_total, fid_same}
 use Rattle.pack_laws.proofs.Mapping.{get-update}
 use Rattle.pack_vectors.proofs.Shapes.{small}

@@ -3,29 +3,29 @@ use Rattle.std.proofs.Common.{◌≡◌, ℕ, true, [], ◌∷◌, refl, sym, ap
 use Rattle.std.specs.Prelude.{get_or, length}
 use Rattle.std.specs.Fmt.{digits}
 use Rattle.std.specs.FinMap.{entries, same_entries_map}
-use Rattle.alto_words.specs.Fid.{disk_descriptor}
-use Rattle.alto_words.specs.Names.{is_stored_name, suffixed}
-use Rattle.disk_records.specs.declared.records.Event.{Event}
-use Rattle.disk_records.specs.declared.records.Event.TheVariants.{Wrote}
-use Rattle.disk_records.specs.Addresses.{real_of}
-use Rattle.disk_records.specs.Labels.{in_range, is_free}
-use Rattle.disk_records.specs.Packs.{Pack, after}
-use Rattle.pack_model.specs.reading.Bytes.{bytes_of}
-use Rattle.pack_model.specs.reading.Leaders.{leader_of, leader_name, is_readable}
-use Rattle.pack_model.specs.reading.Sights.{sight, sights, sights_from}
-use Rattle.pack_model.specs.reading.Sights.Sight.{hidden, stray}
-use Rattle.pack_model.specs.reading.Files.{first, joined, most_pages, file_bytes, lives}
-use Rattle.pack_model.specs.reading.Slots.{slots_after, slot_at, is_entry}
-use Rattle.pack_model.specs.reading.Namings.{keeps_system}
-use Rattle.pack_model.specs.operations.PageWords.{page_value}
-use Rattle.pack_model.specs.reading.Model.{Model, read_sights, read_as}
-use Rattle.pack_model.specs.showing.View.{view}
-use Rattle.pack_model.specs.showing.Settling.{most_suffixes, settle, settled, show}
-use Rattle.pack_model.specs.states.Sound.{Sound, Clean, mark_of}
-use Rattle.pack_model.specs.sessions.Descriptor.{descriptor_value}
-use Rattle.pack_model.specs.sessions.Format.{format_table, formatted}
-use Rattle.pack_model.specs.operations.Operations.Move.{mends}
-use Rattle.pack_model.specs.operations.Committing.{MakesMove}
+use Rattle.pack_laws.specs.alto_words.specs.Fid.{disk_descriptor}
+use Rattle.pack_laws.specs.alto_words.specs.Names.{is_stored_name, suffixed}
+use Rattle.pack_laws.specs.disk_records.specs.declared.records.Event.{Event}
+use Rattle.pack_laws.specs.disk_records.specs.declared.records.Event.TheVariants.{Wrote}
+use Rattle.pack_laws.specs.disk_records.specs.Addresses.{real_of}
+use Rattle.pack_laws.specs.disk_records.specs.Labels.{in_range, is_free}
+use Rattle.pack_laws.specs.disk_records.specs.Packs.{Pack, after}
+use Rattle.pack_laws.specs.pack_model.specs.reading.Bytes.{bytes_of}
+use Rattle.pack_laws.specs.pack_model.specs.reading.Leaders.{leader_of, leader_name, is_readable}
+use Rattle.pack_laws.specs.pack_model.specs.reading.Sights.{sight, sights, sights_from}
+use Rattle.pack_laws.specs.pack_model.specs.reading.Sights.Sight.{hidden, stray}
+use Rattle.pack_laws.specs.pack_model.specs.reading.Files.{first, joined, most_pages, file_bytes, lives}
+use Rattle.pack_laws.specs.pack_model.specs.reading.Slots.{slots_after, slot_at, is_entry}
+use Rattle.pack_laws.specs.pack_model.specs.reading.Namings.{keeps_system}
+use Rattle.pack_laws.specs.pack_model.specs.operations.PageWords.{page_value}
+use Rattle.pack_laws.specs.pack_model.specs.reading.Model.{Model, read_sights, read_as}
+use Rattle.pack_laws.specs.pack_model.specs.showing.View.{view}
+use Rattle.pack_laws.specs.pack_model.specs.showing.Settling.{most_suffixes, settle, settled, show}
+use Rattle.pack_laws.specs.pack_model.specs.states.Sound.{Sound, Clean, mark_of}
+use Rattle.pack_laws.specs.pack_model.specs.sessions.Descriptor.{descriptor_value}
+use Rattle.pack_laws.specs.pack_model.specs.sessions.Format.{format_table, formatted}
+use Rattle.pack_laws.specs.pack_model.specs.operations.Operations.Move.{mends}
+use Rattle.pack_laws.specs.pack_model.specs.operations.Committing.{MakesMove}
 use Rattle.pack_laws.proofs.ByLists.{read_by, read_list, seen_by, seen_list, names_by, names_list, shown_list}
 use Rattle.pack_vectors.proofs.StateVectors.{sound_fresh, clean_fresh}
 use Rattle.pack_vectors.proofs.Shapes.{small}

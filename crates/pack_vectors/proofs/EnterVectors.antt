@@ -2,22 +2,22 @@
 use Rattle.std.proofs.Common.{◌≡◌, ℕ, zero, suc, ◌+◌, List, [], ◌∷◌, ◌++◌, Some, refl, ap}
 use Rattle.std.specs.Prelude.{codes, length, replicate, take}
 use Rattle.std.specs.Option.{option_map}
-use Rattle.alto_words.specs.Fid.{sys_dir, disk_descriptor, ordinary_fid}
-use Rattle.alto_words.specs.Names.{is_stored_name}
-use Rattle.disk_records.specs.declared.records.Event.TheVariants.{Wrote}
-use Rattle.disk_records.specs.Addresses.{real_of}
-use Rattle.disk_records.specs.Packs.{Pack, sector_at, crash}
-use Rattle.pack_model.specs.reading.Slots.{Item, slots, slots_after, slot_at, is_entry}
-use Rattle.pack_model.specs.reading.Slots.Item.{space, entry}
-use Rattle.pack_model.specs.reading.SlotWords.{entry_words, space_words}
-use Rattle.pack_model.specs.reading.Namings.{sys_dir_name, descriptor_name}
-use Rattle.pack_model.specs.operations.Rooms.{find_room}
-use Rattle.pack_model.specs.operations.PageWords.{entered_words}
-use Rattle.pack_model.specs.operations.Commands.{values_writes}
-use Rattle.pack_model.specs.operations.Committing.{values_before}
-use Rattle.pack_model.specs.operations.Operations.{enter_writes}
-use Rattle.pack_model.specs.operations.Entering.{EntryRoom, found_room, values_first, entry_value, entered_values}
-use Rattle.pack_model.specs.sessions.Format.{Written}
+use Rattle.pack_laws.specs.alto_words.specs.Fid.{sys_dir, disk_descriptor, ordinary_fid}
+use Rattle.pack_laws.specs.alto_words.specs.Names.{is_stored_name}
+use Rattle.pack_laws.specs.disk_records.specs.declared.records.Event.TheVariants.{Wrote}
+use Rattle.pack_laws.specs.disk_records.specs.Addresses.{real_of}
+use Rattle.pack_laws.specs.disk_records.specs.Packs.{Pack, sector_at, crash}
+use Rattle.pack_laws.specs.pack_model.specs.reading.Slots.{Item, slots, slots_after, slot_at, is_entry}
+use Rattle.pack_laws.specs.pack_model.specs.reading.Slots.Item.{space, entry}
+use Rattle.pack_laws.specs.pack_model.specs.reading.SlotWords.{entry_words, space_words}
+use Rattle.pack_laws.specs.pack_model.specs.reading.Namings.{sys_dir_name, descriptor_name}
+use Rattle.pack_laws.specs.pack_model.specs.operations.Rooms.{find_room}
+use Rattle.pack_laws.specs.pack_model.specs.operations.PageWords.{entered_words}
+use Rattle.pack_laws.specs.pack_model.specs.operations.Commands.{values_writes}
+use Rattle.pack_laws.specs.pack_model.specs.operations.Committing.{values_before}
+use Rattle.pack_laws.specs.pack_model.specs.operations.Operations.{enter_writes}
+use Rattle.pack_laws.specs.pack_model.specs.operations.Entering.{EntryRoom, found_room, values_first, entry_value, entered_values}
+use Rattle.pack_laws.specs.pack_model.specs.sessions.Format.{Written}
 use Rattle.pack_vectors.proofs.SmallPacks.{pack_of, system, root_words, its_words, file_in, page_in}
 
 -- ---- a SysDir that was widened

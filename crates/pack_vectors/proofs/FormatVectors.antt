@@ -3,21 +3,21 @@
 use Rattle.std.proofs.Common.{◌≡◌, ℕ, Bool, true, false, List, [], ◌∷◌, ◌++◌, refl, arith}
 use Rattle.std.specs.Prelude.{◌+◌, ◌*◌, ◌-◌, codes, replicate, length, take, drop, get_or}
 use Rattle.std.specs.Fmt.{digits}
-use Rattle.alto_words.specs.Names.{lost, is_stored_name}
-use Rattle.disk_records.specs.declared.shape.Shape.{Shape}
-use Rattle.disk_records.specs.declared.records.Sector.{Sector}
-use Rattle.disk_records.specs.Addresses.{real_of, descriptor_length}
-use Rattle.disk_records.specs.Labels.{in_range, is_free}
-use Rattle.disk_records.specs.Packs.{Pack}
-use Rattle.pack_model.specs.reading.Bytes.{words_of, put_at}
-use Rattle.pack_model.specs.reading.Files.{first, joined, most_pages, file_bytes}
-use Rattle.pack_model.specs.reading.Leaders.{Leader, leader_of, leader_name, is_readable}
-use Rattle.pack_model.specs.reading.Sights.{sight, sights_from}
-use Rattle.pack_model.specs.reading.Sights.Sight.{leads}
-use Rattle.pack_model.specs.reading.Slots.{slots_after, slot_at, is_entry}
-use Rattle.pack_model.specs.sessions.Descriptor.{data_pages, descriptor_value}
-use Rattle.pack_model.specs.sessions.Format.{format_page, formatted_sectors, sectors_used, free_after_format, with_headers}
-use Rattle.pack_model.specs.scavenger.Reports.{old_serial, mended_serial}
+use Rattle.pack_laws.specs.alto_words.specs.Names.{lost, is_stored_name}
+use Rattle.pack_laws.specs.disk_records.specs.declared.shape.Shape.{Shape}
+use Rattle.pack_laws.specs.disk_records.specs.declared.records.Sector.{Sector}
+use Rattle.pack_laws.specs.disk_records.specs.Addresses.{real_of, descriptor_length}
+use Rattle.pack_laws.specs.disk_records.specs.Labels.{in_range, is_free}
+use Rattle.pack_laws.specs.disk_records.specs.Packs.{Pack}
+use Rattle.pack_laws.specs.pack_model.specs.reading.Bytes.{words_of, put_at}
+use Rattle.pack_laws.specs.pack_model.specs.reading.Files.{first, joined, most_pages, file_bytes}
+use Rattle.pack_laws.specs.pack_model.specs.reading.Leaders.{Leader, leader_of, leader_name, is_readable}
+use Rattle.pack_laws.specs.pack_model.specs.reading.Sights.{sight, sights_from}
+use Rattle.pack_laws.specs.pack_model.specs.reading.Sights.Sight.{leads}
+use Rattle.pack_laws.specs.pack_model.specs.reading.Slots.{slots_after, slot_at, is_entry}
+use Rattle.pack_laws.specs.pack_model.specs.sessions.Descriptor.{data_pages, descriptor_value}
+use Rattle.pack_laws.specs.pack_model.specs.sessions.Format.{format_page, formatted_sectors, sectors_used, free_after_format, with_headers}
+use Rattle.pack_laws.specs.pack_model.specs.scavenger.Reports.{old_serial, mended_serial}
 use Rattle.pack_laws.proofs.MendedByLists.{serial_is}
 use Rattle.pack_vectors.proofs.Shapes.{one_of, two_of, small, model_31, model_44, two_31, two_44}
 use Rattle.pack_vectors.proofs.SmallPacks.{file_3, free_sector, described_by_words, words_of_9}

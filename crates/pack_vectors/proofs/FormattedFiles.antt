@@ -2,19 +2,19 @@
 use Rattle.std.proofs.Common.{◌≡◌, ◌⊎◌, ℕ, zero, suc, Bool, true, false, cond, List, [], ◌∷◌, Option, Some, None, refl, sym, ap, subst, ◌∙◌, arith, inl}
 use Rattle.std.specs.Prelude.{replicate, get_or}
 use Rattle.std.specs.Option.{is_some, option_or}
-use Rattle.alto_words.specs.declared.fid.Fid.{Fid}
-use Rattle.alto_words.specs.Fid.{is_fid, sys_dir, disk_descriptor}
-use Rattle.pack_model.specs.reading.Bytes.{bytes_of}
-use Rattle.pack_model.specs.reading.Leaders.{Leader}
-use Rattle.pack_model.specs.reading.Sights.{Sight}
-use Rattle.pack_model.specs.reading.Sights.Sight.{hidden, free, stray, leads, holds}
-use Rattle.pack_model.specs.reading.Files.{first, most_pages, leader, lives}
-use Rattle.pack_model.specs.reading.Namings.{sys_dir_name, descriptor_name}
-use Rattle.pack_model.specs.operations.Step.{new_leader}
-use Rattle.pack_model.specs.states.Whole.{Leads, Headless, HasPages, IsSeat, FileWhole}
-use Rattle.pack_model.specs.states.Whole.FileWhole.{absent, present}
-use Rattle.pack_model.specs.sessions.Descriptor.{descriptor_text}
-use Rattle.pack_model.specs.sessions.Format.{format_slots, format_table}
+use Rattle.pack_laws.specs.alto_words.specs.declared.fid.Fid.{Fid}
+use Rattle.pack_laws.specs.alto_words.specs.Fid.{is_fid, sys_dir, disk_descriptor}
+use Rattle.pack_laws.specs.pack_model.specs.reading.Bytes.{bytes_of}
+use Rattle.pack_laws.specs.pack_model.specs.reading.Leaders.{Leader}
+use Rattle.pack_laws.specs.pack_model.specs.reading.Sights.{Sight}
+use Rattle.pack_laws.specs.pack_model.specs.reading.Sights.Sight.{hidden, free, stray, leads, holds}
+use Rattle.pack_laws.specs.pack_model.specs.reading.Files.{first, most_pages, leader, lives}
+use Rattle.pack_laws.specs.pack_model.specs.reading.Namings.{sys_dir_name, descriptor_name}
+use Rattle.pack_laws.specs.pack_model.specs.operations.Step.{new_leader}
+use Rattle.pack_laws.specs.pack_model.specs.states.Whole.{Leads, Headless, HasPages, IsSeat, FileWhole}
+use Rattle.pack_laws.specs.pack_model.specs.states.Whole.FileWhole.{absent, present}
+use Rattle.pack_laws.specs.pack_model.specs.sessions.Descriptor.{descriptor_text}
+use Rattle.pack_laws.specs.pack_model.specs.sessions.Format.{format_slots, format_table}
 use Rattle.pack_laws.proofs.Keys.{is_fid-itself, same_fid}
 use Rattle.pack_vectors.proofs.Shapes.{small}
 

@@ -4,24 +4,24 @@ use Rattle.std.specs.Prelude.{◌||◌}
 use Rattle.std.specs.List.{list_any}
 use Rattle.std.specs.Option.{option_map}
 use Rattle.std.specs.FinMap.{find, get, get-from_entries, get-insert, get-retain_keys, from_entries, entries, same_map}
-use Rattle.alto_words.specs.declared.fid.Fid.{Fid}
-use Rattle.alto_words.specs.Fid.{fid_cmp, is_fid, is_system, sys_dir, disk_descriptor}
-use Rattle.alto_words.specs.Names.{is_stored_name}
-use Rattle.pack_model.specs.reading.Files.{first, joined, most_pages, file_bytes, lives}
-use Rattle.pack_model.specs.reading.Slots.{slots_after, slot_at, is_entry}
-use Rattle.pack_model.specs.reading.Stored.{stored_file}
-use Rattle.pack_model.specs.reading.Bodies.{File, found, file_of, described}
-use Rattle.pack_model.specs.reading.Bodies.Body.{data_of}
-use Rattle.pack_model.specs.reading.Namings.{sys_dir_name, descriptor_name, tidied, files_kept, is_kept, keeps_system, namings}
-use Rattle.pack_model.specs.reading.Model.{is_named, root_items}
-use Rattle.pack_model.specs.states.InUse.{available}
-use Rattle.pack_model.specs.showing.View.{Seen, view, seen_of}
-use Rattle.pack_model.specs.showing.Settling.{unless, given_names}
-use Rattle.pack_model.specs.scavenger.Mended.{mended, with_system, rooted, root_body, root_file as root_file_of, lacking, widens}
-use Rattle.pack_model.specs.scavenger.Needed.{needed, files_lack, root_lacks, descriptor_lacks, root_widens}
-use Rattle.pack_model.specs.scavenger.Scavenging.{RootStands, Scavengeable}
-use Rattle.pack_model.specs.sessions.Maps.{map_values}
-use Rattle.pack_model.specs.sessions.Format.{formatted}
+use Rattle.pack_laws.specs.alto_words.specs.declared.fid.Fid.{Fid}
+use Rattle.pack_laws.specs.alto_words.specs.Fid.{fid_cmp, is_fid, is_system, sys_dir, disk_descriptor}
+use Rattle.pack_laws.specs.alto_words.specs.Names.{is_stored_name}
+use Rattle.pack_laws.specs.pack_model.specs.reading.Files.{first, joined, most_pages, file_bytes, lives}
+use Rattle.pack_laws.specs.pack_model.specs.reading.Slots.{slots_after, slot_at, is_entry}
+use Rattle.pack_laws.specs.pack_model.specs.reading.Stored.{stored_file}
+use Rattle.pack_laws.specs.pack_model.specs.reading.Bodies.{File, found, file_of, described}
+use Rattle.pack_laws.specs.pack_model.specs.reading.Bodies.Body.{data_of}
+use Rattle.pack_laws.specs.pack_model.specs.reading.Namings.{sys_dir_name, descriptor_name, tidied, files_kept, is_kept, keeps_system, namings}
+use Rattle.pack_laws.specs.pack_model.specs.reading.Model.{is_named, root_items}
+use Rattle.pack_laws.specs.pack_model.specs.states.InUse.{available}
+use Rattle.pack_laws.specs.pack_model.specs.showing.View.{Seen, view, seen_of}
+use Rattle.pack_laws.specs.pack_model.specs.showing.Settling.{unless, given_names}
+use Rattle.pack_laws.specs.pack_model.specs.scavenger.Mended.{mended, with_system, rooted, root_body, root_file as root_file_of, lacking, widens}
+use Rattle.pack_laws.specs.pack_model.specs.scavenger.Needed.{needed, files_lack, root_lacks, descriptor_lacks, root_widens}
+use Rattle.pack_laws.specs.pack_model.specs.scavenger.Scavenging.{RootStands, Scavengeable}
+use Rattle.pack_laws.specs.pack_model.specs.sessions.Maps.{map_values}
+use Rattle.pack_laws.specs.pack_model.specs.sessions.Format.{formatted}
 use Rattle.pack_laws.proofs.Keys.{fid_total, fid_same}
 use Rattle.pack_laws.proofs.Mapping.{entries-from_entries, get-map_values}
 use Rattle.pack_laws.proofs.Uses.{file_by, found_is, available_is}

@@ -3,21 +3,21 @@ use Rattle.std.proofs.Common.{◌≡◌, ℕ, true, not, cond, List, [], ◌∷�
 use Rattle.std.specs.List.{list_any}
 use Rattle.std.specs.Option.{option_map}
 use Rattle.std.specs.FinMap.{find, get-from_entries, get-retain_keys, from_entries, entries, same_map}
-use Rattle.alto_words.specs.declared.fid.Fid.{Fid}
-use Rattle.alto_words.specs.Fid.{fid_cmp, is_fid, sys_dir, disk_descriptor}
-use Rattle.alto_words.specs.Names.{is_stored_name}
-use Rattle.pack_model.specs.reading.Bytes.{bytes_of}
-use Rattle.pack_model.specs.reading.Files.{first, joined, most_pages, file_bytes, lives}
-use Rattle.pack_model.specs.reading.Slots.{Reads, IsEven, SlotsReachEnd, slots_after, slot_at, is_entry}
-use Rattle.pack_model.specs.reading.Slots.Item.{space, entry}
-use Rattle.pack_model.specs.reading.SlotWords.{entry_words, space_words}
-use Rattle.pack_model.specs.reading.Stored.{stored_file}
-use Rattle.pack_model.specs.reading.Bodies.{File, found, file_of, described, is_described}
-use Rattle.pack_model.specs.reading.Bodies.Body.{items_of}
-use Rattle.pack_model.specs.reading.Namings.{sys_dir_name, descriptor_name, tidied, files_kept, is_kept, keeps_system, namings, AllKept}
-use Rattle.pack_model.specs.reading.Model.{IsNamed, read_sights}
-use Rattle.pack_model.specs.states.Whole.{TidySights, Fits}
-use Rattle.pack_model.specs.sessions.Format.{format_slots}
+use Rattle.pack_laws.specs.alto_words.specs.declared.fid.Fid.{Fid}
+use Rattle.pack_laws.specs.alto_words.specs.Fid.{fid_cmp, is_fid, sys_dir, disk_descriptor}
+use Rattle.pack_laws.specs.alto_words.specs.Names.{is_stored_name}
+use Rattle.pack_laws.specs.pack_model.specs.reading.Bytes.{bytes_of}
+use Rattle.pack_laws.specs.pack_model.specs.reading.Files.{first, joined, most_pages, file_bytes, lives}
+use Rattle.pack_laws.specs.pack_model.specs.reading.Slots.{Reads, IsEven, SlotsReachEnd, slots_after, slot_at, is_entry}
+use Rattle.pack_laws.specs.pack_model.specs.reading.Slots.Item.{space, entry}
+use Rattle.pack_laws.specs.pack_model.specs.reading.SlotWords.{entry_words, space_words}
+use Rattle.pack_laws.specs.pack_model.specs.reading.Stored.{stored_file}
+use Rattle.pack_laws.specs.pack_model.specs.reading.Bodies.{File, found, file_of, described, is_described}
+use Rattle.pack_laws.specs.pack_model.specs.reading.Bodies.Body.{items_of}
+use Rattle.pack_laws.specs.pack_model.specs.reading.Namings.{sys_dir_name, descriptor_name, tidied, files_kept, is_kept, keeps_system, namings, AllKept}
+use Rattle.pack_laws.specs.pack_model.specs.reading.Model.{IsNamed, read_sights}
+use Rattle.pack_laws.specs.pack_model.specs.states.Whole.{TidySights, Fits}
+use Rattle.pack_laws.specs.pack_model.specs.sessions.Format.{format_slots}
 use Rattle.pack_laws.proofs.Keys.{fid_total, fid_same}
 use Rattle.pack_laws.proofs.Mapping.{entries-from_entries}
 use Rattle.pack_laws.proofs.Uses.{file_by, found_is}

@@ -4,20 +4,20 @@ use Rattle.std.proofs.lemmas.Option.{none-some}
 use Rattle.std.proofs.lemmas.List.Elements.{All-cons, All-nil}
 use Rattle.std.specs.Prelude.{◌==◌, codes, replicate}
 use Rattle.std.specs.Option.{option_or}
-use Rattle.alto_words.specs.declared.fid.Fid.{Fid}
-use Rattle.alto_words.specs.Fid.{sys_dir}
-use Rattle.alto_words.specs.Names.{is_stored_name}
-use Rattle.disk_records.specs.Addresses.{real_of}
-use Rattle.disk_records.specs.Labels.{in_range, is_free, label_of}
-use Rattle.disk_records.specs.Packs.{Pack}
-use Rattle.pack_model.specs.reading.Leaders.{leader_of, leader_name, is_readable}
-use Rattle.pack_model.specs.reading.Sights.{sight, sights, sights_from}
-use Rattle.pack_model.specs.reading.Files.{first, place}
-use Rattle.pack_model.specs.operations.PageWords.{page_number, page_value, leader_label, leader_value}
-use Rattle.pack_model.specs.operations.Step.{new_leader}
-use Rattle.pack_model.specs.hints.Links.{no_link}
-use Rattle.pack_model.specs.sessions.Format.{Written, formatted}
-use Rattle.pack_model.specs.hints.Handy.{Handy, HandyCache, LiesInARow, NamesLastPage, IsRightOrIdle, CachedAt, leader_word, row_word, last_at_word, last_number_word}
+use Rattle.pack_laws.specs.alto_words.specs.declared.fid.Fid.{Fid}
+use Rattle.pack_laws.specs.alto_words.specs.Fid.{sys_dir}
+use Rattle.pack_laws.specs.alto_words.specs.Names.{is_stored_name}
+use Rattle.pack_laws.specs.disk_records.specs.Addresses.{real_of}
+use Rattle.pack_laws.specs.disk_records.specs.Labels.{in_range, is_free, label_of}
+use Rattle.pack_laws.specs.disk_records.specs.Packs.{Pack}
+use Rattle.pack_laws.specs.pack_model.specs.reading.Leaders.{leader_of, leader_name, is_readable}
+use Rattle.pack_laws.specs.pack_model.specs.reading.Sights.{sight, sights, sights_from}
+use Rattle.pack_laws.specs.pack_model.specs.reading.Files.{first, place}
+use Rattle.pack_laws.specs.pack_model.specs.operations.PageWords.{page_number, page_value, leader_label, leader_value}
+use Rattle.pack_laws.specs.pack_model.specs.operations.Step.{new_leader}
+use Rattle.pack_laws.specs.pack_model.specs.hints.Links.{no_link}
+use Rattle.pack_laws.specs.pack_model.specs.sessions.Format.{Written, formatted}
+use Rattle.pack_laws.specs.pack_model.specs.hints.Handy.{Handy, HandyCache, LiesInARow, NamesLastPage, IsRightOrIdle, CachedAt, leader_word, row_word, last_at_word, last_number_word}
 use Rattle.pack_vectors.proofs.Shapes.{small}
 use Rattle.pack_vectors.proofs.SmallPacks.{free_sector, pack_of, system, words_a, its_words, some_or, file_3}
 

@@ -2,24 +2,24 @@
 use Rattle.std.proofs.Common.{◌≡◌, ◌⊎◌, ℕ, ◌+◌, ◌/◌, ◌%◌, Bool, true, false, cond, List, [], ◌∷◌, length, get_or, Some, None, refl, sym, ap, subst, ◌∙◌, arith, inl, inr, add-one}
 use Rattle.std.specs.Prelude.{◌&&◌, ◌==◌}
 use Rattle.std.specs.Option.{option_or}
-use Rattle.alto_words.specs.declared.fid.Fid.{Fid}
-use Rattle.alto_words.specs.Fid.{is_fid, is_directory, sys_dir, disk_descriptor}
-use Rattle.alto_words.specs.Names.{is_stored_name}
-use Rattle.disk_records.specs.Addresses.{real_of}
-use Rattle.disk_records.specs.Labels.{in_range, is_free}
-use Rattle.disk_records.specs.Packs.{sector_at}
-use Rattle.pack_model.specs.reading.Leaders.{leader_of, leader_name, is_readable}
-use Rattle.pack_model.specs.reading.Sights.{Sight, sight, sights, sights_from}
-use Rattle.pack_model.specs.reading.Sights.Sight.{hidden, free, stray, leads, holds}
-use Rattle.pack_model.specs.reading.Files.{first, joined, most_pages, file_bytes, place}
-use Rattle.pack_model.specs.reading.Slots.{slots_after, slot_at, is_entry}
-use Rattle.pack_model.specs.reading.Slots.Item.{entry}
-use Rattle.pack_model.specs.reading.SlotWords.{slots_at}
-use Rattle.pack_model.specs.reading.Namings.{sys_dir_name}
-use Rattle.pack_model.specs.reading.Model.{descriptor_words}
-use Rattle.pack_model.specs.states.InUse.{is_free_sight}
-use Rattle.pack_model.specs.hints.HintWords.{IsAddressWord, IsHintByte, SameButHints}
-use Rattle.pack_model.specs.hints.HintWords.IsHintByte.{of_free, of_leader, past_count, of_entry, of_map}
+use Rattle.pack_laws.specs.alto_words.specs.declared.fid.Fid.{Fid}
+use Rattle.pack_laws.specs.alto_words.specs.Fid.{is_fid, is_directory, sys_dir, disk_descriptor}
+use Rattle.pack_laws.specs.alto_words.specs.Names.{is_stored_name}
+use Rattle.pack_laws.specs.disk_records.specs.Addresses.{real_of}
+use Rattle.pack_laws.specs.disk_records.specs.Labels.{in_range, is_free}
+use Rattle.pack_laws.specs.disk_records.specs.Packs.{sector_at}
+use Rattle.pack_laws.specs.pack_model.specs.reading.Leaders.{leader_of, leader_name, is_readable}
+use Rattle.pack_laws.specs.pack_model.specs.reading.Sights.{Sight, sight, sights, sights_from}
+use Rattle.pack_laws.specs.pack_model.specs.reading.Sights.Sight.{hidden, free, stray, leads, holds}
+use Rattle.pack_laws.specs.pack_model.specs.reading.Files.{first, joined, most_pages, file_bytes, place}
+use Rattle.pack_laws.specs.pack_model.specs.reading.Slots.{slots_after, slot_at, is_entry}
+use Rattle.pack_laws.specs.pack_model.specs.reading.Slots.Item.{entry}
+use Rattle.pack_laws.specs.pack_model.specs.reading.SlotWords.{slots_at}
+use Rattle.pack_laws.specs.pack_model.specs.reading.Namings.{sys_dir_name}
+use Rattle.pack_laws.specs.pack_model.specs.reading.Model.{descriptor_words}
+use Rattle.pack_laws.specs.pack_model.specs.states.InUse.{is_free_sight}
+use Rattle.pack_laws.specs.pack_model.specs.hints.HintWords.{IsAddressWord, IsHintByte, SameButHints}
+use Rattle.pack_laws.specs.pack_model.specs.hints.HintWords.IsHintByte.{of_free, of_leader, past_count, of_entry, of_map}
 use Rattle.pack_laws.proofs.Placing.{both_test}
 use Rattle.pack_vectors.proofs.ChangedHints.{with_sector, with_word, with_links, changed, linked, itself}
 use Rattle.pack_vectors.proofs.SmallPacks.{formatted_pack, some_or}

@@ -1,20 +1,20 @@
 -- All record writes of a make and of a drop, and what they leave of small packs.
 use Rattle.std.proofs.Common.{◌≡◌, ℕ, List, [], ◌∷◌, ◌++◌, refl}
 use Rattle.std.specs.Prelude.{codes, length, replicate}
-use Rattle.alto_words.specs.declared.fid.Fid.{Fid}
-use Rattle.alto_words.specs.Fid.{sys_dir, disk_descriptor, directory_fid}
-use Rattle.disk_records.specs.declared.shape.Shape.{Shape}
-use Rattle.disk_records.specs.declared.records.Event.TheVariants.{Wrote}
-use Rattle.disk_records.specs.Addresses.{real_of}
-use Rattle.disk_records.specs.Packs.{Pack, sector_at, after, crash}
-use Rattle.pack_model.specs.reading.Bytes.{put_at}
-use Rattle.pack_model.specs.reading.SlotWords.{entry_words, space_words}
-use Rattle.pack_model.specs.reading.Namings.{sys_dir_name, descriptor_name}
-use Rattle.pack_model.specs.operations.PageWords.{freed_value}
-use Rattle.pack_model.specs.operations.Commands.{Claim, claims_writes, first_page_claim, leader_claim, make_claims}
-use Rattle.pack_model.specs.operations.Operations.{make_writes, drop_writes, drop_moves}
-use Rattle.pack_model.specs.operations.Committing.{units}
-use Rattle.pack_model.specs.operations.Step.Operation.{drop_file}
+use Rattle.pack_laws.specs.alto_words.specs.declared.fid.Fid.{Fid}
+use Rattle.pack_laws.specs.alto_words.specs.Fid.{sys_dir, disk_descriptor, directory_fid}
+use Rattle.pack_laws.specs.disk_records.specs.declared.shape.Shape.{Shape}
+use Rattle.pack_laws.specs.disk_records.specs.declared.records.Event.TheVariants.{Wrote}
+use Rattle.pack_laws.specs.disk_records.specs.Addresses.{real_of}
+use Rattle.pack_laws.specs.disk_records.specs.Packs.{Pack, sector_at, after, crash}
+use Rattle.pack_laws.specs.pack_model.specs.reading.Bytes.{put_at}
+use Rattle.pack_laws.specs.pack_model.specs.reading.SlotWords.{entry_words, space_words}
+use Rattle.pack_laws.specs.pack_model.specs.reading.Namings.{sys_dir_name, descriptor_name}
+use Rattle.pack_laws.specs.pack_model.specs.operations.PageWords.{freed_value}
+use Rattle.pack_laws.specs.pack_model.specs.operations.Commands.{Claim, claims_writes, first_page_claim, leader_claim, make_claims}
+use Rattle.pack_laws.specs.pack_model.specs.operations.Operations.{make_writes, drop_writes, drop_moves}
+use Rattle.pack_laws.specs.pack_model.specs.operations.Committing.{units}
+use Rattle.pack_laws.specs.pack_model.specs.operations.Step.Operation.{drop_file}
 use Rattle.pack_vectors.proofs.Shapes.{small}
 use Rattle.pack_vectors.proofs.SmallPacks.{pack_of, system, its_words, words_a, made_6, made_7, appended_9, file_3}
 

@@ -3,21 +3,21 @@ use Rattle.std.proofs.Common.{◌≡◌, ℕ, Bool, true, false, List, [], ◌�
 use Rattle.std.specs.Prelude.{codes, length, replicate}
 use Rattle.std.specs.Option.{option_map}
 use Rattle.std.specs.FinMap.{get, from_entries, get-from_entries, get-insert}
-use Rattle.alto_words.specs.declared.fid.Fid.{Fid}
-use Rattle.alto_words.specs.Fid.{sys_dir, disk_descriptor, ordinary_fid}
-use Rattle.disk_records.specs.declared.records.Event.TheVariants.{Wrote}
-use Rattle.pack_model.specs.reading.Slots.Item.{space, entry}
-use Rattle.pack_model.specs.reading.Bodies.{File, items_in}
-use Rattle.pack_model.specs.reading.Bodies.Body.{items_of}
-use Rattle.pack_model.specs.reading.Namings.{sys_dir_name, descriptor_name}
-use Rattle.pack_model.specs.reading.Model.{Model}
-use Rattle.pack_model.specs.operations.Step.{Operation, new_leader, new_file, on_items}
-use Rattle.pack_model.specs.operations.Step.Operation.{make, put, grow, stamp, drop_file, enter, widen}
-use Rattle.pack_model.specs.operations.Operations.{Move, make_moves, grow_moves, drop_moves, enter_moves}
-use Rattle.pack_model.specs.operations.Operations.Move.{quiet, commits}
-use Rattle.pack_model.specs.operations.Rooms.{find_room}
-use Rattle.pack_model.specs.operations.Committing.{units, length_in, values_before, pages_added, page_of_byte, moves_of_all, line_moves}
-use Rattle.pack_model.specs.sessions.Descriptor.{descriptor_value, open_writes, close_writes, close_moves, mark_after, ending_moves}
+use Rattle.pack_laws.specs.alto_words.specs.declared.fid.Fid.{Fid}
+use Rattle.pack_laws.specs.alto_words.specs.Fid.{sys_dir, disk_descriptor, ordinary_fid}
+use Rattle.pack_laws.specs.disk_records.specs.declared.records.Event.TheVariants.{Wrote}
+use Rattle.pack_laws.specs.pack_model.specs.reading.Slots.Item.{space, entry}
+use Rattle.pack_laws.specs.pack_model.specs.reading.Bodies.{File, items_in}
+use Rattle.pack_laws.specs.pack_model.specs.reading.Bodies.Body.{items_of}
+use Rattle.pack_laws.specs.pack_model.specs.reading.Namings.{sys_dir_name, descriptor_name}
+use Rattle.pack_laws.specs.pack_model.specs.reading.Model.{Model}
+use Rattle.pack_laws.specs.pack_model.specs.operations.Step.{Operation, new_leader, new_file, on_items}
+use Rattle.pack_laws.specs.pack_model.specs.operations.Step.Operation.{make, put, grow, stamp, drop_file, enter, widen}
+use Rattle.pack_laws.specs.pack_model.specs.operations.Operations.{Move, make_moves, grow_moves, drop_moves, enter_moves}
+use Rattle.pack_laws.specs.pack_model.specs.operations.Operations.Move.{quiet, commits}
+use Rattle.pack_laws.specs.pack_model.specs.operations.Rooms.{find_room}
+use Rattle.pack_laws.specs.pack_model.specs.operations.Committing.{units, length_in, values_before, pages_added, page_of_byte, moves_of_all, line_moves}
+use Rattle.pack_laws.specs.pack_model.specs.sessions.Descriptor.{descriptor_value, open_writes, close_writes, close_moves, mark_after, ending_moves}
 use Rattle.pack_laws.proofs.Keys.{fid_total, fid_same}
 use Rattle.pack_laws.proofs.Mapping.{get-update}
 use Rattle.pack_vectors.proofs.StepVectors.{entries_with, model_with, done_after}

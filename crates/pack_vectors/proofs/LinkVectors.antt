@@ -2,19 +2,19 @@
 use Rattle.std.proofs.Common.{◌≡◌, ℕ, true, List, [], ◌∷◌, Option, Some, None, refl, sym, ap, ◌∙◌, arith, inl, inr}
 use Rattle.std.proofs.lemmas.Option.{none-some}
 use Rattle.std.specs.Prelude.{codes, replicate, get_or}
-use Rattle.alto_words.specs.Fid.{sys_dir}
-use Rattle.disk_records.specs.declared.records.Page.{Page}
-use Rattle.disk_records.specs.declared.records.Place.TheVariants.{Root, Next, Held}
-use Rattle.disk_records.specs.declared.records.Event.{Event}
-use Rattle.disk_records.specs.Addresses.{real_of}
-use Rattle.disk_records.specs.Labels.{in_range, is_free, label_of}
-use Rattle.disk_records.specs.Commands.{ones}
-use Rattle.disk_records.specs.Packs.{Pack, carried, label_found}
-use Rattle.pack_model.specs.reading.Sights.{sight, sights, sights_from}
-use Rattle.pack_model.specs.reading.Sights.Sight.{hidden, free, leads}
-use Rattle.pack_model.specs.states.Whole.{Whole}
-use Rattle.pack_model.specs.operations.PageWords.{page_number, page_value, new_leader_value}
-use Rattle.pack_model.specs.hints.Misled.{Misled, Finds, AnswersMisled, NamesSector, StandsInLink}
+use Rattle.pack_laws.specs.alto_words.specs.Fid.{sys_dir}
+use Rattle.pack_laws.specs.disk_records.specs.declared.records.Page.{Page}
+use Rattle.pack_laws.specs.disk_records.specs.declared.records.Place.TheVariants.{Root, Next, Held}
+use Rattle.pack_laws.specs.disk_records.specs.declared.records.Event.{Event}
+use Rattle.pack_laws.specs.disk_records.specs.Addresses.{real_of}
+use Rattle.pack_laws.specs.disk_records.specs.Labels.{in_range, is_free, label_of}
+use Rattle.pack_laws.specs.disk_records.specs.Commands.{ones}
+use Rattle.pack_laws.specs.disk_records.specs.Packs.{Pack, carried, label_found}
+use Rattle.pack_laws.specs.pack_model.specs.reading.Sights.{sight, sights, sights_from}
+use Rattle.pack_laws.specs.pack_model.specs.reading.Sights.Sight.{hidden, free, leads}
+use Rattle.pack_laws.specs.pack_model.specs.states.Whole.{Whole}
+use Rattle.pack_laws.specs.pack_model.specs.operations.PageWords.{page_number, page_value, new_leader_value}
+use Rattle.pack_laws.specs.pack_model.specs.hints.Misled.{Misled, Finds, AnswersMisled, NamesSector, StandsInLink}
 use Rattle.pack_vectors.proofs.StateVectors.{sound_fresh}
 use Rattle.pack_vectors.proofs.Shapes.{small}
 use Rattle.pack_vectors.proofs.SmallPacks.{pack_of, system, words_a, its_words, all_free, formatted_pack, file_3}

@@ -6,24 +6,24 @@ use Rattle.std.specs.declared.cmp.Ordering.{Ordering}
 use Rattle.std.specs.Option.{option_map}
 use Rattle.std.specs.Cmp.{IsTotalOrder}
 use Rattle.std.specs.FinMap.{find, get-entries, entries}
-use Rattle.alto_words.specs.declared.fid.Fid.{Fid}
-use Rattle.alto_words.specs.Fid.{fid_cmp, sys_dir, ordinary_fid, directory_fid}
-use Rattle.alto_words.specs.Names.{is_stored_name, suffixed}
-use Rattle.disk_records.specs.Addresses.{real_of}
-use Rattle.disk_records.specs.Labels.{in_range, is_free}
-use Rattle.disk_records.specs.Commands.{value_writes}
-use Rattle.disk_records.specs.Packs.{Pack, after, sector_at}
-use Rattle.pack_model.specs.operations.Operations.{drop_writes}
-use Rattle.pack_model.specs.operations.PageWords.{freed_value}
-use Rattle.pack_model.specs.reading.Leaders.{leader_of, leader_name, is_readable}
-use Rattle.pack_model.specs.reading.Sights.{sight, sights, sights_from}
-use Rattle.pack_model.specs.reading.Files.{first, joined, most_pages, file_bytes}
-use Rattle.pack_model.specs.reading.Slots.{slots_after, slot_at, is_entry}
-use Rattle.pack_model.specs.reading.Namings.{Naming, keeps_system}
-use Rattle.pack_model.specs.reading.Model.{read_as}
-use Rattle.pack_model.specs.showing.View.{Home, Seen, View}
-use Rattle.pack_model.specs.showing.Settling.{most_suffixes, settle, show}
-use Rattle.pack_model.specs.showing.Listing.{Listed, in_order, naming_of, naming_cmp, listed_cmp, size_of, line_of, shown_names, listing}
+use Rattle.pack_laws.specs.alto_words.specs.declared.fid.Fid.{Fid}
+use Rattle.pack_laws.specs.alto_words.specs.Fid.{fid_cmp, sys_dir, ordinary_fid, directory_fid}
+use Rattle.pack_laws.specs.alto_words.specs.Names.{is_stored_name, suffixed}
+use Rattle.pack_laws.specs.disk_records.specs.Addresses.{real_of}
+use Rattle.pack_laws.specs.disk_records.specs.Labels.{in_range, is_free}
+use Rattle.pack_laws.specs.disk_records.specs.Commands.{value_writes}
+use Rattle.pack_laws.specs.disk_records.specs.Packs.{Pack, after, sector_at}
+use Rattle.pack_laws.specs.pack_model.specs.operations.Operations.{drop_writes}
+use Rattle.pack_laws.specs.pack_model.specs.operations.PageWords.{freed_value}
+use Rattle.pack_laws.specs.pack_model.specs.reading.Leaders.{leader_of, leader_name, is_readable}
+use Rattle.pack_laws.specs.pack_model.specs.reading.Sights.{sight, sights, sights_from}
+use Rattle.pack_laws.specs.pack_model.specs.reading.Files.{first, joined, most_pages, file_bytes}
+use Rattle.pack_laws.specs.pack_model.specs.reading.Slots.{slots_after, slot_at, is_entry}
+use Rattle.pack_laws.specs.pack_model.specs.reading.Namings.{Naming, keeps_system}
+use Rattle.pack_laws.specs.pack_model.specs.reading.Model.{read_as}
+use Rattle.pack_laws.specs.pack_model.specs.showing.View.{Home, Seen, View}
+use Rattle.pack_laws.specs.pack_model.specs.showing.Settling.{most_suffixes, settle, show}
+use Rattle.pack_laws.specs.pack_model.specs.showing.Listing.{Listed, in_order, naming_of, naming_cmp, listed_cmp, size_of, line_of, shown_names, listing}
 use Rattle.pack_laws.proofs.ByLists.{puts, entries-puts, read_by, read_list, seen_by, seen_list, shown_by, shown_list}
 use Rattle.pack_laws.proofs.Orders.{listed_total, naming_total}
 use Rattle.pack_vectors.proofs.SmallPacks.{three_x, in_d, versions}

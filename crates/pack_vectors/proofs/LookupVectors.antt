@@ -1,13 +1,13 @@
 -- Small cases of look-up where slots stand: the entry that an operand means, with its place and its address, and bases that are held.
 use Rattle.std.proofs.Common.{◌≡◌, ℕ, true, false, List, [], ◌∷◌, ◌++◌, Some, None, refl}
 use Rattle.std.specs.Prelude.{codes}
-use Rattle.alto_words.specs.Fid.{sys_dir, disk_descriptor, ordinary_fid, directory_fid}
-use Rattle.alto_words.specs.declared.wanted.Wanted.TheVariants.{Exact, Newest}
-use Rattle.pack_model.specs.reading.Slots.{Item}
-use Rattle.pack_model.specs.reading.Slots.Item.{space, entry}
-use Rattle.pack_model.specs.reading.SlotWords.{SlotAt, entry_words, slots_at, space_words}
-use Rattle.pack_model.specs.reading.Namings.{sys_dir_name, descriptor_name}
-use Rattle.pack_model.specs.reading.Lookup.{EntryAt, entry_at, is_held_at, meant_by}
+use Rattle.pack_laws.specs.alto_words.specs.Fid.{sys_dir, disk_descriptor, ordinary_fid, directory_fid}
+use Rattle.pack_laws.specs.alto_words.specs.declared.wanted.Wanted.TheVariants.{Exact, Newest}
+use Rattle.pack_laws.specs.pack_model.specs.reading.Slots.{Item}
+use Rattle.pack_laws.specs.pack_model.specs.reading.Slots.Item.{space, entry}
+use Rattle.pack_laws.specs.pack_model.specs.reading.SlotWords.{SlotAt, entry_words, slots_at, space_words}
+use Rattle.pack_laws.specs.pack_model.specs.reading.Namings.{sys_dir_name, descriptor_name}
+use Rattle.pack_laws.specs.pack_model.specs.reading.Lookup.{EntryAt, entry_at, is_held_at, meant_by}
 
 -- SysDir's own entry, three versions of one name with four free words between them, a directory, and DiskDescriptor's
 -- entry: in words 0, 10, 18, 22, 31, 40 and 48

@@ -3,29 +3,29 @@ use Rattle.std.proofs.Common.{◌≡◌, ℕ, List, [], ◌∷◌, ◌++◌, Som
 use Rattle.std.specs.Prelude.{codes, replicate, take}
 use Rattle.std.specs.Fmt.{digits}
 use Rattle.std.specs.FinMap.{entries}
-use Rattle.alto_words.specs.declared.fid.Fid.{Fid}
-use Rattle.alto_words.specs.Fid.{sys_dir, disk_descriptor, ordinary_fid}
-use Rattle.alto_words.specs.Names.{is_stored_name, suffixed}
-use Rattle.disk_records.specs.Addresses.{real_of}
-use Rattle.disk_records.specs.Labels.{in_range, is_free}
-use Rattle.disk_records.specs.Packs.{Pack}
-use Rattle.pack_model.specs.reading.Bytes.{put_at}
-use Rattle.pack_model.specs.reading.Leaders.{leader_of, leader_name, is_readable}
-use Rattle.pack_model.specs.reading.Sights.{sight, sights, sights_from}
-use Rattle.pack_model.specs.reading.Files.{first, joined, most_pages, file_bytes}
-use Rattle.pack_model.specs.reading.Slots.{slots_after, slot_at, is_entry}
-use Rattle.pack_model.specs.reading.Slots.Item.{space, entry}
-use Rattle.pack_model.specs.reading.Bodies.Body.{data_of, items_of}
-use Rattle.pack_model.specs.reading.Namings.{sys_dir_name, descriptor_name, keeps_system}
-use Rattle.pack_model.specs.showing.Settling.{most_suffixes}
-use Rattle.pack_model.specs.operations.Rooms.{placed}
-use Rattle.pack_model.specs.operations.Step.{new_leader}
-use Rattle.pack_model.specs.states.InUse.{available}
-use Rattle.pack_model.specs.scavenger.Mended.{mended, root_file, lacking, widens, needs}
-use Rattle.pack_model.specs.scavenger.Needed.{needed}
-use Rattle.pack_model.specs.scavenger.Scavenging.{first_refusal}
-use Rattle.pack_model.specs.scavenger.Scavenging.Refusal.{root_bad, root_taken, pack_full}
-use Rattle.pack_model.specs.scavenger.Reports.{Report, report_of, mended_serial}
+use Rattle.pack_laws.specs.alto_words.specs.declared.fid.Fid.{Fid}
+use Rattle.pack_laws.specs.alto_words.specs.Fid.{sys_dir, disk_descriptor, ordinary_fid}
+use Rattle.pack_laws.specs.alto_words.specs.Names.{is_stored_name, suffixed}
+use Rattle.pack_laws.specs.disk_records.specs.Addresses.{real_of}
+use Rattle.pack_laws.specs.disk_records.specs.Labels.{in_range, is_free}
+use Rattle.pack_laws.specs.disk_records.specs.Packs.{Pack}
+use Rattle.pack_laws.specs.pack_model.specs.reading.Bytes.{put_at}
+use Rattle.pack_laws.specs.pack_model.specs.reading.Leaders.{leader_of, leader_name, is_readable}
+use Rattle.pack_laws.specs.pack_model.specs.reading.Sights.{sight, sights, sights_from}
+use Rattle.pack_laws.specs.pack_model.specs.reading.Files.{first, joined, most_pages, file_bytes}
+use Rattle.pack_laws.specs.pack_model.specs.reading.Slots.{slots_after, slot_at, is_entry}
+use Rattle.pack_laws.specs.pack_model.specs.reading.Slots.Item.{space, entry}
+use Rattle.pack_laws.specs.pack_model.specs.reading.Bodies.Body.{data_of, items_of}
+use Rattle.pack_laws.specs.pack_model.specs.reading.Namings.{sys_dir_name, descriptor_name, keeps_system}
+use Rattle.pack_laws.specs.pack_model.specs.showing.Settling.{most_suffixes}
+use Rattle.pack_laws.specs.pack_model.specs.operations.Rooms.{placed}
+use Rattle.pack_laws.specs.pack_model.specs.operations.Step.{new_leader}
+use Rattle.pack_laws.specs.pack_model.specs.states.InUse.{available}
+use Rattle.pack_laws.specs.pack_model.specs.scavenger.Mended.{mended, root_file, lacking, widens, needs}
+use Rattle.pack_laws.specs.pack_model.specs.scavenger.Needed.{needed}
+use Rattle.pack_laws.specs.pack_model.specs.scavenger.Scavenging.{first_refusal}
+use Rattle.pack_laws.specs.pack_model.specs.scavenger.Scavenging.Refusal.{root_bad, root_taken, pack_full}
+use Rattle.pack_laws.specs.pack_model.specs.scavenger.Reports.{Report, report_of, mended_serial}
 use Rattle.pack_laws.proofs.Uses.{available_is}
 use Rattle.pack_laws.proofs.MendedByLists.{mended_list, lacking_list, needed_is, needs_is, refusal_is, report_is, serial_is}
 use Rattle.pack_vectors.proofs.Shapes.{small}

@@ -1,26 +1,26 @@
 -- A pack on which a hint misleads, and what a call finds there.
 use Rattle.std.proofs.Common.{◌≡◌, ℕ, List, [], ◌∷◌, ◌++◌, Some, refl, sym, ap, ◌∙◌, arith}
 use Rattle.std.specs.Prelude.{codes, replicate}
-use Rattle.alto_words.specs.Fid.{sys_dir, disk_descriptor}
-use Rattle.alto_words.specs.Names.{is_stored_name}
-use Rattle.disk_records.specs.declared.records.Page.{Page}
-use Rattle.disk_records.specs.declared.records.Place.TheVariants.{Entry}
-use Rattle.disk_records.specs.declared.records.Event.TheVariants.{Wrote, Shown}
-use Rattle.disk_records.specs.Addresses.{real_of}
-use Rattle.disk_records.specs.Labels.{in_range, is_free, label_of}
-use Rattle.disk_records.specs.Commands.{ones}
-use Rattle.disk_records.specs.Packs.{Pack, carried, label_found, after}
-use Rattle.pack_model.specs.reading.Leaders.{leader_of, leader_name, is_readable}
-use Rattle.pack_model.specs.reading.Sights.{sight, sights_from}
-use Rattle.pack_model.specs.reading.Files.{first, joined, most_pages, file_bytes}
-use Rattle.pack_model.specs.reading.Slots.{slots_after, slot_at, is_entry}
-use Rattle.pack_model.specs.reading.Slots.Item.{space, entry}
-use Rattle.pack_model.specs.reading.SlotWords.{SlotAt, entry_words, space_words, slots_at}
-use Rattle.pack_model.specs.reading.Namings.{sys_dir_name, descriptor_name}
-use Rattle.pack_model.specs.operations.PageWords.{filled, page_number, new_leader_value, leader_label}
-use Rattle.pack_model.specs.hints.Links.{no_link, dir_slots}
-use Rattle.pack_model.specs.sessions.Format.{Written, format_leader, format_page, with_headers}
-use Rattle.pack_model.specs.hints.Misled.{Misled, AnswersMisled, StandsInEntry}
+use Rattle.pack_laws.specs.alto_words.specs.Fid.{sys_dir, disk_descriptor}
+use Rattle.pack_laws.specs.alto_words.specs.Names.{is_stored_name}
+use Rattle.pack_laws.specs.disk_records.specs.declared.records.Page.{Page}
+use Rattle.pack_laws.specs.disk_records.specs.declared.records.Place.TheVariants.{Entry}
+use Rattle.pack_laws.specs.disk_records.specs.declared.records.Event.TheVariants.{Wrote, Shown}
+use Rattle.pack_laws.specs.disk_records.specs.Addresses.{real_of}
+use Rattle.pack_laws.specs.disk_records.specs.Labels.{in_range, is_free, label_of}
+use Rattle.pack_laws.specs.disk_records.specs.Commands.{ones}
+use Rattle.pack_laws.specs.disk_records.specs.Packs.{Pack, carried, label_found, after}
+use Rattle.pack_laws.specs.pack_model.specs.reading.Leaders.{leader_of, leader_name, is_readable}
+use Rattle.pack_laws.specs.pack_model.specs.reading.Sights.{sight, sights_from}
+use Rattle.pack_laws.specs.pack_model.specs.reading.Files.{first, joined, most_pages, file_bytes}
+use Rattle.pack_laws.specs.pack_model.specs.reading.Slots.{slots_after, slot_at, is_entry}
+use Rattle.pack_laws.specs.pack_model.specs.reading.Slots.Item.{space, entry}
+use Rattle.pack_laws.specs.pack_model.specs.reading.SlotWords.{SlotAt, entry_words, space_words, slots_at}
+use Rattle.pack_laws.specs.pack_model.specs.reading.Namings.{sys_dir_name, descriptor_name}
+use Rattle.pack_laws.specs.pack_model.specs.operations.PageWords.{filled, page_number, new_leader_value, leader_label}
+use Rattle.pack_laws.specs.pack_model.specs.hints.Links.{no_link, dir_slots}
+use Rattle.pack_laws.specs.pack_model.specs.sessions.Format.{Written, format_leader, format_page, with_headers}
+use Rattle.pack_laws.specs.pack_model.specs.hints.Misled.{Misled, AnswersMisled, StandsInEntry}
 use Rattle.pack_vectors.proofs.Shapes.{small}
 use Rattle.pack_vectors.proofs.SmallPacks.{file_3}
 use Rattle.pack_vectors.proofs.LinkVectors.{number_in}

@@ -2,7 +2,7 @@
 use Rattle.std.proofs.Common.{◌≡◌, true, false, List, [], ◌++◌, Some, None, Less, Equal, Greater, refl}
 use Rattle.std.specs.Prelude.{ℕ, codes, replicate}
 use Rattle.std.specs.Fmt.{digits}
-use Rattle.alto_words.specs.Names.{is_stored_name, is_same_name, folded_cmp, base_of, version_of, versioned, name_in, suffixed}
+use Rattle.pack_laws.specs.alto_words.specs.Names.{is_stored_name, is_same_name, folded_cmp, base_of, version_of, versioned, name_in, suffixed}
 
 -- so many letters
 abbrev letters : ℕ → List ℕ

@@ -1,20 +1,20 @@
 -- The pack that formatting writes was sound when names had no versions.
 use Rattle.std.proofs.Common.{◌≡◌, ◌≤◌, true, false, [], ◌∷◌, ◌++◌, refl, sym, ap, subst, ◌∙◌, arith}
-use Rattle.alto_words.specs.declared.fid.Fid.{Fid}
-use Rattle.alto_words.specs.Fid.{is_directory, serial_of, sys_dir, disk_descriptor}
-use Rattle.alto_words.specs.Names.{is_bare_name, is_stored_name}
-use Rattle.alto_words.proofs.Versions.{is_stored_name-bare}
-use Rattle.disk_records.specs.Addresses.{real_of}
-use Rattle.disk_records.specs.Labels.{in_range, is_free}
-use Rattle.pack_model.specs.reading.Files.{file_bytes, lives}
-use Rattle.pack_model.specs.reading.Slots.Item.{space, entry}
-use Rattle.pack_model.specs.reading.SlotWords.{entry_words, space_words}
-use Rattle.pack_model.specs.reading.Bodies.{described}
-use Rattle.pack_model.specs.reading.Namings.{sys_dir_name, descriptor_name, IsTidy}
-use Rattle.pack_model.specs.reading.Model.{IsNamed, read_sights}
-use Rattle.pack_model.specs.sessions.Format.{formatted}
-use Rattle.pack_model.specs.reading.OtherNames.{sights_by, described_by, read_sights_by, SlotsReachEndBy, WholeSightsBy, SoundBy}
-use Rattle.pack_model.specs.reading.OtherNames.ReadsBy.{none, next}
+use Rattle.pack_laws.specs.alto_words.specs.declared.fid.Fid.{Fid}
+use Rattle.pack_laws.specs.alto_words.specs.Fid.{is_directory, serial_of, sys_dir, disk_descriptor}
+use Rattle.pack_laws.specs.alto_words.specs.Names.{is_bare_name, is_stored_name}
+use Rattle.pack_laws.specs.alto_words.proofs.Versions.{is_stored_name-bare}
+use Rattle.pack_laws.specs.disk_records.specs.Addresses.{real_of}
+use Rattle.pack_laws.specs.disk_records.specs.Labels.{in_range, is_free}
+use Rattle.pack_laws.specs.pack_model.specs.reading.Files.{file_bytes, lives}
+use Rattle.pack_laws.specs.pack_model.specs.reading.Slots.Item.{space, entry}
+use Rattle.pack_laws.specs.pack_model.specs.reading.SlotWords.{entry_words, space_words}
+use Rattle.pack_laws.specs.pack_model.specs.reading.Bodies.{described}
+use Rattle.pack_laws.specs.pack_model.specs.reading.Namings.{sys_dir_name, descriptor_name, IsTidy}
+use Rattle.pack_laws.specs.pack_model.specs.reading.Model.{IsNamed, read_sights}
+use Rattle.pack_laws.specs.pack_model.specs.sessions.Format.{formatted}
+use Rattle.pack_laws.specs.pack_model.specs.reading.OtherNames.{sights_by, described_by, read_sights_by, SlotsReachEndBy, WholeSightsBy, SoundBy}
+use Rattle.pack_laws.specs.pack_model.specs.reading.OtherNames.ReadsBy.{none, next}
 use Rattle.pack_laws.proofs.OwnRule.{own_described, own_model}
 use Rattle.pack_laws.proofs.WiderRule.{same_described, same_model}
 use Rattle.pack_vectors.proofs.FormattedFiles.{root_bytes, fresh, whole_file, by_living}

@@ -2,29 +2,29 @@
 use Rattle.std.proofs.Common.{◌≡◌, ℕ, true, false, List, [], ◌∷◌, ◌++◌, Some, None, refl}
 use Rattle.std.specs.Prelude.{◌-◌, codes, replicate, length}
 use Rattle.std.specs.Fmt.{digits}
-use Rattle.alto_words.specs.Fid.{sys_dir, disk_descriptor}
-use Rattle.alto_words.specs.Names.{lost, is_stored_name}
-use Rattle.disk_records.specs.declared.records.Sector.{Sector}
-use Rattle.disk_records.specs.Addresses.{descriptor_length, real_of}
-use Rattle.disk_records.specs.Labels.{in_range, is_free, label_of}
-use Rattle.pack_model.specs.reading.Bytes.{bytes_of, words_of}
-use Rattle.pack_model.specs.reading.Leaders.{leader_of, leader_name, is_readable}
-use Rattle.pack_model.specs.reading.Sights.{Sight, sight, sights, sights_from}
-use Rattle.pack_model.specs.reading.Sights.Sight.{hidden, free, stray, leads, holds}
-use Rattle.pack_model.specs.reading.Files.{first, joined, most_pages, file_bytes, place, leader}
-use Rattle.pack_model.specs.reading.Slots.{slots_after, slot_at, is_entry}
-use Rattle.pack_model.specs.reading.Slots.Item.{space, entry}
-use Rattle.pack_model.specs.reading.Namings.{sys_dir_name, descriptor_name}
-use Rattle.pack_model.specs.reading.Model.{good_sectors, descriptor_pages, descriptor_words, last_serial}
-use Rattle.pack_model.specs.states.InUse.{free_sector_count, bad_sectors}
-use Rattle.pack_model.specs.reading.SlotWords.{slots_at}
-use Rattle.pack_model.specs.hints.Links.{HasLinks, dir_slots, next_link, previous_link}
-use Rattle.pack_model.specs.states.Sound.{mark_of}
-use Rattle.pack_model.specs.hints.Tables.{is_busy, bits_from, words_of_bits, described_table, described_free}
-use Rattle.pack_model.specs.operations.Step.{new_leader}
-use Rattle.pack_model.specs.operations.PageWords.{leader_value, page_number}
-use Rattle.pack_model.specs.sessions.Descriptor.{descriptor_text}
-use Rattle.pack_model.specs.sessions.Format.{formatted, format_slots, format_table, free_after_format, sectors_used}
+use Rattle.pack_laws.specs.alto_words.specs.Fid.{sys_dir, disk_descriptor}
+use Rattle.pack_laws.specs.alto_words.specs.Names.{lost, is_stored_name}
+use Rattle.pack_laws.specs.disk_records.specs.declared.records.Sector.{Sector}
+use Rattle.pack_laws.specs.disk_records.specs.Addresses.{descriptor_length, real_of}
+use Rattle.pack_laws.specs.disk_records.specs.Labels.{in_range, is_free, label_of}
+use Rattle.pack_laws.specs.pack_model.specs.reading.Bytes.{bytes_of, words_of}
+use Rattle.pack_laws.specs.pack_model.specs.reading.Leaders.{leader_of, leader_name, is_readable}
+use Rattle.pack_laws.specs.pack_model.specs.reading.Sights.{Sight, sight, sights, sights_from}
+use Rattle.pack_laws.specs.pack_model.specs.reading.Sights.Sight.{hidden, free, stray, leads, holds}
+use Rattle.pack_laws.specs.pack_model.specs.reading.Files.{first, joined, most_pages, file_bytes, place, leader}
+use Rattle.pack_laws.specs.pack_model.specs.reading.Slots.{slots_after, slot_at, is_entry}
+use Rattle.pack_laws.specs.pack_model.specs.reading.Slots.Item.{space, entry}
+use Rattle.pack_laws.specs.pack_model.specs.reading.Namings.{sys_dir_name, descriptor_name}
+use Rattle.pack_laws.specs.pack_model.specs.reading.Model.{good_sectors, descriptor_pages, descriptor_words, last_serial}
+use Rattle.pack_laws.specs.pack_model.specs.states.InUse.{free_sector_count, bad_sectors}
+use Rattle.pack_laws.specs.pack_model.specs.reading.SlotWords.{slots_at}
+use Rattle.pack_laws.specs.pack_model.specs.hints.Links.{HasLinks, dir_slots, next_link, previous_link}
+use Rattle.pack_laws.specs.pack_model.specs.states.Sound.{mark_of}
+use Rattle.pack_laws.specs.pack_model.specs.hints.Tables.{is_busy, bits_from, words_of_bits, described_table, described_free}
+use Rattle.pack_laws.specs.pack_model.specs.operations.Step.{new_leader}
+use Rattle.pack_laws.specs.pack_model.specs.operations.PageWords.{leader_value, page_number}
+use Rattle.pack_laws.specs.pack_model.specs.sessions.Descriptor.{descriptor_text}
+use Rattle.pack_laws.specs.pack_model.specs.sessions.Format.{formatted, format_slots, format_table, free_after_format, sectors_used}
 use Rattle.pack_vectors.proofs.Shapes.{model_31, small}
 use Rattle.pack_vectors.proofs.SmallPacks.{leader_a, file_3}
 

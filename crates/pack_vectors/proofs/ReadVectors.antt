@@ -3,25 +3,25 @@ use Rattle.std.proofs.Common.{◌≡◌, ℕ, List, [], ◌∷◌, Option, Some,
 use Rattle.std.specs.Prelude.{◌==◌, codes, find, replicate}
 use Rattle.std.specs.Fmt.{digits}
 use Rattle.std.specs.FinMap.{entries, from_entries}
-use Rattle.alto_words.specs.declared.fid.Fid.{Fid}
-use Rattle.alto_words.specs.Fid.{fid_cmp, serial_of, sys_dir, disk_descriptor, ordinary_fid, directory_fid}
-use Rattle.alto_words.specs.Names.{is_stored_name, suffixed}
-use Rattle.disk_records.specs.Addresses.{real_of}
-use Rattle.disk_records.specs.Labels.{in_range, is_free}
-use Rattle.disk_records.specs.Packs.{Pack}
-use Rattle.pack_model.specs.reading.Leaders.{leader_of, leader_name, is_readable}
-use Rattle.pack_model.specs.reading.Sights.{sight, sights, sights_from}
-use Rattle.pack_model.specs.reading.Files.{first, joined, most_pages, file_bytes}
-use Rattle.pack_model.specs.reading.Slots.{Item, slots_after, slot_at, is_entry}
-use Rattle.pack_model.specs.reading.Slots.Item.{space, entry}
-use Rattle.pack_model.specs.reading.Stored.{StoredFile, file_of_serial}
-use Rattle.pack_model.specs.reading.Bodies.{File}
-use Rattle.pack_model.specs.reading.Bodies.Body.{items_of}
-use Rattle.pack_model.specs.reading.Namings.{sys_dir_name, descriptor_name, keeps_system}
-use Rattle.pack_model.specs.reading.Model.{read_sights, read_as, room}
-use Rattle.pack_model.specs.showing.View.{Home, view}
-use Rattle.pack_model.specs.showing.Settling.{most_suffixes, show}
-use Rattle.pack_model.specs.operations.Step.{new_leader}
+use Rattle.pack_laws.specs.alto_words.specs.declared.fid.Fid.{Fid}
+use Rattle.pack_laws.specs.alto_words.specs.Fid.{fid_cmp, serial_of, sys_dir, disk_descriptor, ordinary_fid, directory_fid}
+use Rattle.pack_laws.specs.alto_words.specs.Names.{is_stored_name, suffixed}
+use Rattle.pack_laws.specs.disk_records.specs.Addresses.{real_of}
+use Rattle.pack_laws.specs.disk_records.specs.Labels.{in_range, is_free}
+use Rattle.pack_laws.specs.disk_records.specs.Packs.{Pack}
+use Rattle.pack_laws.specs.pack_model.specs.reading.Leaders.{leader_of, leader_name, is_readable}
+use Rattle.pack_laws.specs.pack_model.specs.reading.Sights.{sight, sights, sights_from}
+use Rattle.pack_laws.specs.pack_model.specs.reading.Files.{first, joined, most_pages, file_bytes}
+use Rattle.pack_laws.specs.pack_model.specs.reading.Slots.{Item, slots_after, slot_at, is_entry}
+use Rattle.pack_laws.specs.pack_model.specs.reading.Slots.Item.{space, entry}
+use Rattle.pack_laws.specs.pack_model.specs.reading.Stored.{StoredFile, file_of_serial}
+use Rattle.pack_laws.specs.pack_model.specs.reading.Bodies.{File}
+use Rattle.pack_laws.specs.pack_model.specs.reading.Bodies.Body.{items_of}
+use Rattle.pack_laws.specs.pack_model.specs.reading.Namings.{sys_dir_name, descriptor_name, keeps_system}
+use Rattle.pack_laws.specs.pack_model.specs.reading.Model.{read_sights, read_as, room}
+use Rattle.pack_laws.specs.pack_model.specs.showing.View.{Home, view}
+use Rattle.pack_laws.specs.pack_model.specs.showing.Settling.{most_suffixes, show}
+use Rattle.pack_laws.specs.pack_model.specs.operations.Step.{new_leader}
 use Rattle.pack_laws.proofs.Keys.{fid_total}
 use Rattle.pack_laws.proofs.ByLists.{puts, entries-puts, read_list, room_is, seen_by, seen_list, shown_list}
 use Rattle.pack_vectors.proofs.Shapes.{small}

@@ -2,17 +2,17 @@
 use Rattle.std.proofs.Common.{◌≡◌, ℕ, Bool, true, List, [], ◌∷◌, ◌++◌, Some, None, refl, ap}
 use Rattle.std.specs.Prelude.{not, codes, replicate}
 use Rattle.std.specs.FinMap.{from_entries}
-use Rattle.alto_words.specs.declared.fid.Fid.{Fid}
-use Rattle.alto_words.specs.Fid.{is_fid, sys_dir, disk_descriptor, ordinary_fid, directory_fid}
-use Rattle.pack_model.specs.reading.Slots.{Item}
-use Rattle.pack_model.specs.reading.Slots.Item.{space, entry}
-use Rattle.pack_model.specs.reading.Bodies.{File}
-use Rattle.pack_model.specs.reading.Bodies.Body.{items_of}
-use Rattle.pack_model.specs.reading.Namings.{sys_dir_name, descriptor_name, is_kept, keeps_system, items_kept, files_kept, tidied}
-use Rattle.pack_model.specs.operations.Rooms.{find_room, placed, largest_run, items_entered}
-use Rattle.pack_model.specs.operations.Step.{items_left, new_leader}
-use Rattle.pack_model.specs.scavenger.Mended.{widens}
-use Rattle.pack_model.specs.operations.Committing.{values_before, pages_added, pages_cut, entry_place}
+use Rattle.pack_laws.specs.alto_words.specs.declared.fid.Fid.{Fid}
+use Rattle.pack_laws.specs.alto_words.specs.Fid.{is_fid, sys_dir, disk_descriptor, ordinary_fid, directory_fid}
+use Rattle.pack_laws.specs.pack_model.specs.reading.Slots.{Item}
+use Rattle.pack_laws.specs.pack_model.specs.reading.Slots.Item.{space, entry}
+use Rattle.pack_laws.specs.pack_model.specs.reading.Bodies.{File}
+use Rattle.pack_laws.specs.pack_model.specs.reading.Bodies.Body.{items_of}
+use Rattle.pack_laws.specs.pack_model.specs.reading.Namings.{sys_dir_name, descriptor_name, is_kept, keeps_system, items_kept, files_kept, tidied}
+use Rattle.pack_laws.specs.pack_model.specs.operations.Rooms.{find_room, placed, largest_run, items_entered}
+use Rattle.pack_laws.specs.pack_model.specs.operations.Step.{items_left, new_leader}
+use Rattle.pack_laws.specs.pack_model.specs.scavenger.Mended.{widens}
+use Rattle.pack_laws.specs.pack_model.specs.operations.Committing.{values_before, pages_added, pages_cut, entry_place}
 use Rattle.pack_laws.proofs.Keys.{fid_total, fid_same}
 use Rattle.pack_laws.proofs.Mapping.{entries-from_entries}
 use Rattle.pack_vectors.proofs.SmallPacks.{file_3}

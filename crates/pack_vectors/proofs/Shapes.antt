@@ -1,7 +1,7 @@
 -- Shapes of one drive and of two: the small one, models 31 and 44.
 use Rattle.std.proofs.Common.{ℕ, arith}
 use Rattle.std.specs.Prelude.{◌≤◌}
-use Rattle.disk_records.specs.declared.shape.Shape.{Shape}
+use Rattle.pack_laws.specs.disk_records.specs.declared.shape.Shape.{Shape}
 
 -- one drive of so many cylinders, and two of as many
 abbrev pub one_of : (cylinders : ℕ) → 2 ≤ cylinders → cylinders ≤ 406 → Shape

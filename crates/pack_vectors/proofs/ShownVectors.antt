@@ -6,14 +6,14 @@ use Rattle.std.specs.declared.cmp.Ordering.TheVariants.{Less, Greater}
 use Rattle.std.specs.List.{list_any}
 use Rattle.std.specs.Option.{is_some}
 use Rattle.std.specs.FinMap.{from_entries, get-from_entries, find, is_sorted}
-use Rattle.alto_words.specs.declared.fid.Fid.{Fid}
-use Rattle.alto_words.specs.Fid.{fid_cmp, is_fid, sys_dir, ordinary_fid, directory_fid}
-use Rattle.alto_words.specs.Names.{suffixed, is_same_name}
-use Rattle.pack_model.specs.reading.Namings.{sys_dir_name, descriptor_name}
-use Rattle.pack_model.specs.showing.View.{Home, Seen, View}
-use Rattle.pack_model.specs.showing.Settling.{is_taken, chosen, chosen_from, most_suffixes, given, adopted, settled, settle}
-use Rattle.pack_model.specs.showing.Listing.{Listed, listed_cmp}
-use Rattle.pack_model.specs.operations.Step.{new_leader}
+use Rattle.pack_laws.specs.alto_words.specs.declared.fid.Fid.{Fid}
+use Rattle.pack_laws.specs.alto_words.specs.Fid.{fid_cmp, is_fid, sys_dir, ordinary_fid, directory_fid}
+use Rattle.pack_laws.specs.alto_words.specs.Names.{suffixed, is_same_name}
+use Rattle.pack_laws.specs.pack_model.specs.reading.Namings.{sys_dir_name, descriptor_name}
+use Rattle.pack_laws.specs.pack_model.specs.showing.View.{Home, Seen, View}
+use Rattle.pack_laws.specs.pack_model.specs.showing.Settling.{is_taken, chosen, chosen_from, most_suffixes, given, adopted, settled, settle}
+use Rattle.pack_laws.specs.pack_model.specs.showing.Listing.{Listed, listed_cmp}
+use Rattle.pack_laws.specs.pack_model.specs.operations.Step.{new_leader}
 use Rattle.pack_laws.proofs.Keys.{fid_total, fid_same}
 use Rattle.pack_laws.proofs.Mapping.{entries-from_entries}
 use Rattle.pack_laws.proofs.ByLists.{taken_by}

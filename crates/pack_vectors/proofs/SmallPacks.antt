@@ -1,24 +1,24 @@
 -- Small packs of 48 sectors: the cases by which reading and mending are checked.
 use Rattle.std.proofs.Common.{ℕ, zero, suc, ◌-◌, List, [], ◌∷◌, ◌++◌, None, Option, Some}
 use Rattle.std.specs.Prelude.{codes, replicate, length, take, set}
-use Rattle.alto_words.specs.declared.fid.Fid.{Fid}
-use Rattle.alto_words.specs.Fid.{sys_dir, disk_descriptor, ordinary_fid, directory_fid}
-use Rattle.disk_records.specs.Addresses.{real_of}
-use Rattle.disk_records.specs.Labels.{label_of}
-use Rattle.disk_records.specs.Commands.{ones}
-use Rattle.disk_records.specs.declared.records.Sector.{Sector}
-use Rattle.disk_records.specs.Packs.{Pack, sector_at}
-use Rattle.pack_model.specs.reading.Bytes.{bytes_of, put_at}
-use Rattle.pack_model.specs.reading.SlotWords.{entry_words, space_words}
-use Rattle.pack_model.specs.reading.Namings.{sys_dir_name, descriptor_name}
-use Rattle.pack_model.specs.hints.Links.{no_link}
-use Rattle.pack_model.specs.operations.PageWords.{page_number, page_value, leader_label, new_leader_value}
-use Rattle.pack_model.specs.sessions.Descriptor.{descriptor_text}
-use Rattle.pack_model.specs.sessions.Format.{Written, with_headers, formatted}
-use Rattle.pack_model.specs.operations.Step.{new_leader}
-use Rattle.pack_model.specs.reading.Leaders.{Leader}
-use Rattle.pack_model.specs.reading.Bodies.Body.{data_of}
-use Rattle.pack_model.specs.reading.Bodies.{File}
+use Rattle.pack_laws.specs.alto_words.specs.declared.fid.Fid.{Fid}
+use Rattle.pack_laws.specs.alto_words.specs.Fid.{sys_dir, disk_descriptor, ordinary_fid, directory_fid}
+use Rattle.pack_laws.specs.disk_records.specs.Addresses.{real_of}
+use Rattle.pack_laws.specs.disk_records.specs.Labels.{label_of}
+use Rattle.pack_laws.specs.disk_records.specs.Commands.{ones}
+use Rattle.pack_laws.specs.disk_records.specs.declared.records.Sector.{Sector}
+use Rattle.pack_laws.specs.disk_records.specs.Packs.{Pack, sector_at}
+use Rattle.pack_laws.specs.pack_model.specs.reading.Bytes.{bytes_of, put_at}
+use Rattle.pack_laws.specs.pack_model.specs.reading.SlotWords.{entry_words, space_words}
+use Rattle.pack_laws.specs.pack_model.specs.reading.Namings.{sys_dir_name, descriptor_name}
+use Rattle.pack_laws.specs.pack_model.specs.hints.Links.{no_link}
+use Rattle.pack_laws.specs.pack_model.specs.operations.PageWords.{page_number, page_value, leader_label, new_leader_value}
+use Rattle.pack_laws.specs.pack_model.specs.sessions.Descriptor.{descriptor_text}
+use Rattle.pack_laws.specs.pack_model.specs.sessions.Format.{Written, with_headers, formatted}
+use Rattle.pack_laws.specs.pack_model.specs.operations.Step.{new_leader}
+use Rattle.pack_laws.specs.pack_model.specs.reading.Leaders.{Leader}
+use Rattle.pack_laws.specs.pack_model.specs.reading.Bodies.Body.{data_of}
+use Rattle.pack_laws.specs.pack_model.specs.reading.Bodies.{File}
 use Rattle.pack_vectors.proofs.Shapes.{small}
 
 abbrev pub file_of_bytes : List ℕ → List ℕ → File

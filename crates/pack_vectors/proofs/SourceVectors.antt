@@ -1,12 +1,12 @@
 -- Where the addresses of leaders came from, on a pack on which one misleads.
 use Rattle.std.proofs.Common.{◌≡◌, Some, ap, arith, refl}
-use Rattle.alto_words.specs.Fid.{sys_dir}
-use Rattle.disk_records.specs.declared.records.Place.TheVariants.{Root, Entry, Next, Held}
-use Rattle.disk_records.specs.Addresses.{real_of}
-use Rattle.disk_records.specs.Labels.{in_range}
-use Rattle.disk_records.specs.Packs.{carried}
-use Rattle.pack_model.specs.hints.Misled.{leader_page}
-use Rattle.pack_model.specs.hints.Sources.{IsFrom}
+use Rattle.pack_laws.specs.alto_words.specs.Fid.{sys_dir}
+use Rattle.pack_laws.specs.disk_records.specs.declared.records.Place.TheVariants.{Root, Entry, Next, Held}
+use Rattle.pack_laws.specs.disk_records.specs.Addresses.{real_of}
+use Rattle.pack_laws.specs.disk_records.specs.Labels.{in_range}
+use Rattle.pack_laws.specs.disk_records.specs.Packs.{carried}
+use Rattle.pack_laws.specs.pack_model.specs.hints.Misled.{leader_page}
+use Rattle.pack_laws.specs.pack_model.specs.hints.Sources.{IsFrom}
 use Rattle.pack_vectors.proofs.LinkVectors.{number_in}
 use Rattle.pack_vectors.proofs.MisledVectors.{wrong, wrong_stands}
 use Rattle.pack_vectors.proofs.SmallPacks.{file_3}

@@ -2,28 +2,28 @@
 -- commit.
 use Rattle.std.proofs.Common.{◌≡◌, ◌⊎◌, ℕ, zero, suc, ◌+◌, Bool, true, cond, List, [], ◌∷◌, refl, sym, ap, subst, ◌∙◌, arith, inl, inr}
 use Rattle.std.specs.Prelude.{◌<◌, codes, get_or, slice_get}
-use Rattle.alto_words.specs.declared.fid.Fid.{Fid}
-use Rattle.alto_words.specs.Fid.{is_fid, sys_dir, disk_descriptor}
-use Rattle.alto_words.specs.Names.{is_stored_name}
-use Rattle.disk_records.specs.declared.records.Event.TheVariants.{Wrote}
-use Rattle.disk_records.specs.Addresses.{real_of}
-use Rattle.disk_records.specs.Labels.{in_range, is_free}
-use Rattle.disk_records.specs.Commands.{ones}
-use Rattle.pack_model.specs.reading.Leaders.{Leader, leader_of, leader_name, is_readable}
-use Rattle.pack_model.specs.reading.Sights.{Sight, sight, sights_from}
-use Rattle.pack_model.specs.reading.Sights.Sight.{hidden, free, stray, leads, holds}
-use Rattle.pack_model.specs.reading.Files.{first, joined, most_pages, file_bytes, carries_page, place}
-use Rattle.pack_model.specs.reading.Slots.{slots_after, slot_at, is_entry}
-use Rattle.pack_model.specs.reading.Model.{read_sights, read_as}
-use Rattle.pack_model.specs.states.InUse.{in_use, is_good}
-use Rattle.pack_model.specs.states.Sentences.{IsUsed, EachOnce, HasLastPage, WholeBySentences, IsWholeBySentences}
-use Rattle.pack_model.specs.states.Sound.{mark_of}
-use Rattle.pack_model.specs.operations.PageWords.{leader_label}
-use Rattle.pack_model.specs.sessions.Descriptor.{DescriptorFits}
-use Rattle.pack_model.specs.operations.Step.Operation.{make, title, put, drop_file}
-use Rattle.pack_model.specs.operations.Operations.Move.{commits}
-use Rattle.pack_model.specs.operations.Committing.{MakesMove}
-use Rattle.pack_model.specs.sessions.Meanings.{Mendable, OperationCut, SessionCut}
+use Rattle.pack_laws.specs.alto_words.specs.declared.fid.Fid.{Fid}
+use Rattle.pack_laws.specs.alto_words.specs.Fid.{is_fid, sys_dir, disk_descriptor}
+use Rattle.pack_laws.specs.alto_words.specs.Names.{is_stored_name}
+use Rattle.pack_laws.specs.disk_records.specs.declared.records.Event.TheVariants.{Wrote}
+use Rattle.pack_laws.specs.disk_records.specs.Addresses.{real_of}
+use Rattle.pack_laws.specs.disk_records.specs.Labels.{in_range, is_free}
+use Rattle.pack_laws.specs.disk_records.specs.Commands.{ones}
+use Rattle.pack_laws.specs.pack_model.specs.reading.Leaders.{Leader, leader_of, leader_name, is_readable}
+use Rattle.pack_laws.specs.pack_model.specs.reading.Sights.{Sight, sight, sights_from}
+use Rattle.pack_laws.specs.pack_model.specs.reading.Sights.Sight.{hidden, free, stray, leads, holds}
+use Rattle.pack_laws.specs.pack_model.specs.reading.Files.{first, joined, most_pages, file_bytes, carries_page, place}
+use Rattle.pack_laws.specs.pack_model.specs.reading.Slots.{slots_after, slot_at, is_entry}
+use Rattle.pack_laws.specs.pack_model.specs.reading.Model.{read_sights, read_as}
+use Rattle.pack_laws.specs.pack_model.specs.states.InUse.{in_use, is_good}
+use Rattle.pack_laws.specs.pack_model.specs.states.Sentences.{IsUsed, EachOnce, HasLastPage, WholeBySentences, IsWholeBySentences}
+use Rattle.pack_laws.specs.pack_model.specs.states.Sound.{mark_of}
+use Rattle.pack_laws.specs.pack_model.specs.operations.PageWords.{leader_label}
+use Rattle.pack_laws.specs.pack_model.specs.sessions.Descriptor.{DescriptorFits}
+use Rattle.pack_laws.specs.pack_model.specs.operations.Step.Operation.{make, title, put, drop_file}
+use Rattle.pack_laws.specs.pack_model.specs.operations.Operations.Move.{commits}
+use Rattle.pack_laws.specs.pack_model.specs.operations.Committing.{MakesMove}
+use Rattle.pack_laws.specs.pack_model.specs.sessions.Meanings.{Mendable, OperationCut, SessionCut}
 use Rattle.pack_laws.proofs.Keys.{same_fid}
 use Rattle.pack_laws.proofs.Placing.{both_test}
 use Rattle.pack_laws.proofs.Uses.{used_is}

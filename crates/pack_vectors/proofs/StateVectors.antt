@@ -3,26 +3,26 @@ use Rattle.std.proofs.Common.{◌≡◌, ℕ, ◌≤◌, true, false, not, List,
 use Rattle.std.proofs.lemmas.List.Elements.{All-cons, All-nil}
 use Rattle.std.specs.Prelude.{◌&&◌, All, map, take, drop, get_or}
 use Rattle.std.specs.FinMap.{get, get-from_entries}
-use Rattle.alto_words.specs.declared.fid.Fid.{Fid}
-use Rattle.alto_words.specs.Fid.{is_directory, serial_of, sys_dir, disk_descriptor}
-use Rattle.alto_words.specs.Names.{is_stored_name}
-use Rattle.disk_records.specs.Words.{word}
-use Rattle.pack_model.specs.reading.Bytes.{words_of}
-use Rattle.pack_model.specs.reading.Sights.{Sight}
-use Rattle.pack_model.specs.reading.Sights.Sight.{hidden, stray}
-use Rattle.pack_model.specs.reading.Files.{first, joined, most_pages, file_bytes, lives, numbered}
-use Rattle.pack_model.specs.reading.Slots.{SlotsReachEnd, slots_after, slot_at, is_entry}
-use Rattle.pack_model.specs.reading.Slots.Item.{space, entry}
-use Rattle.pack_model.specs.reading.SlotWords.{SlotAt, slots_at}
-use Rattle.pack_model.specs.reading.Bodies.{items_in}
-use Rattle.pack_model.specs.reading.Namings.{sys_dir_name, descriptor_name}
-use Rattle.pack_model.specs.reading.Model.{IsNamed, read_sights, descriptor_words}
-use Rattle.pack_model.specs.states.InUse.{in_use, is_good, is_available, free_sector_count}
-use Rattle.pack_model.specs.hints.Links.{HasLinks, IsTrueAddress}
-use Rattle.pack_model.specs.hints.Tables.{words_of_bits, HintsTrue}
-use Rattle.pack_model.specs.states.Whole.{WholeSights, TidySights}
-use Rattle.pack_model.specs.states.Sound.{Sound, Clean, mark_of, mark_clean}
-use Rattle.pack_model.specs.sessions.Format.{formatted}
+use Rattle.pack_laws.specs.alto_words.specs.declared.fid.Fid.{Fid}
+use Rattle.pack_laws.specs.alto_words.specs.Fid.{is_directory, serial_of, sys_dir, disk_descriptor}
+use Rattle.pack_laws.specs.alto_words.specs.Names.{is_stored_name}
+use Rattle.pack_laws.specs.disk_records.specs.Words.{word}
+use Rattle.pack_laws.specs.pack_model.specs.reading.Bytes.{words_of}
+use Rattle.pack_laws.specs.pack_model.specs.reading.Sights.{Sight}
+use Rattle.pack_laws.specs.pack_model.specs.reading.Sights.Sight.{hidden, stray}
+use Rattle.pack_laws.specs.pack_model.specs.reading.Files.{first, joined, most_pages, file_bytes, lives, numbered}
+use Rattle.pack_laws.specs.pack_model.specs.reading.Slots.{SlotsReachEnd, slots_after, slot_at, is_entry}
+use Rattle.pack_laws.specs.pack_model.specs.reading.Slots.Item.{space, entry}
+use Rattle.pack_laws.specs.pack_model.specs.reading.SlotWords.{SlotAt, slots_at}
+use Rattle.pack_laws.specs.pack_model.specs.reading.Bodies.{items_in}
+use Rattle.pack_laws.specs.pack_model.specs.reading.Namings.{sys_dir_name, descriptor_name}
+use Rattle.pack_laws.specs.pack_model.specs.reading.Model.{IsNamed, read_sights, descriptor_words}
+use Rattle.pack_laws.specs.pack_model.specs.states.InUse.{in_use, is_good, is_available, free_sector_count}
+use Rattle.pack_laws.specs.pack_model.specs.hints.Links.{HasLinks, IsTrueAddress}
+use Rattle.pack_laws.specs.pack_model.specs.hints.Tables.{words_of_bits, HintsTrue}
+use Rattle.pack_laws.specs.pack_model.specs.states.Whole.{WholeSights, TidySights}
+use Rattle.pack_laws.specs.pack_model.specs.states.Sound.{Sound, Clean, mark_of, mark_clean}
+use Rattle.pack_laws.specs.pack_model.specs.sessions.Format.{formatted}
 use Rattle.pack_laws.proofs.Keys.{fid_total}
 use Rattle.pack_laws.proofs.Uses.{used_is}
 use Rattle.pack_vectors.proofs.PackVectors.{formatted_sights, formatted_links}

@@ -3,17 +3,17 @@ use Rattle.std.proofs.Common.{◌≡◌, ℕ, List, [], ◌∷◌, Some, None, r
 use Rattle.std.specs.Prelude.{codes, length, replicate, sum_by, take}
 use Rattle.std.specs.Option.{option_map}
 use Rattle.std.specs.FinMap.{get, from_entries, get-from_entries, get-remove}
-use Rattle.alto_words.specs.declared.fid.Fid.{Fid}
-use Rattle.alto_words.specs.Fid.{sys_dir, disk_descriptor, ordinary_fid, directory_fid}
-use Rattle.pack_model.specs.reading.Slots.Item.{space, entry}
-use Rattle.pack_model.specs.reading.Bodies.{File, Files}
-use Rattle.pack_model.specs.reading.Bodies.Body.{data_of, items_of}
-use Rattle.pack_model.specs.reading.Namings.{sys_dir_name, descriptor_name}
-use Rattle.pack_model.specs.reading.Model.{Model}
-use Rattle.pack_model.specs.operations.Step.{Operation, step, new_leader, new_file, file_without, on_leader}
-use Rattle.pack_model.specs.operations.Step.Operation.{make, title, stamp, drop_file}
-use Rattle.pack_model.specs.operations.Operations.{Move, weight_of, make_moves, grow_moves, cut_moves, drop_moves, enter_moves}
-use Rattle.pack_model.specs.operations.Committing.{units, pages_added, page_of_byte, pages_cut}
+use Rattle.pack_laws.specs.alto_words.specs.declared.fid.Fid.{Fid}
+use Rattle.pack_laws.specs.alto_words.specs.Fid.{sys_dir, disk_descriptor, ordinary_fid, directory_fid}
+use Rattle.pack_laws.specs.pack_model.specs.reading.Slots.Item.{space, entry}
+use Rattle.pack_laws.specs.pack_model.specs.reading.Bodies.{File, Files}
+use Rattle.pack_laws.specs.pack_model.specs.reading.Bodies.Body.{data_of, items_of}
+use Rattle.pack_laws.specs.pack_model.specs.reading.Namings.{sys_dir_name, descriptor_name}
+use Rattle.pack_laws.specs.pack_model.specs.reading.Model.{Model}
+use Rattle.pack_laws.specs.pack_model.specs.operations.Step.{Operation, step, new_leader, new_file, file_without, on_leader}
+use Rattle.pack_laws.specs.pack_model.specs.operations.Step.Operation.{make, title, stamp, drop_file}
+use Rattle.pack_laws.specs.pack_model.specs.operations.Operations.{Move, weight_of, make_moves, grow_moves, cut_moves, drop_moves, enter_moves}
+use Rattle.pack_laws.specs.pack_model.specs.operations.Committing.{units, pages_added, page_of_byte, pages_cut}
 use Rattle.pack_laws.proofs.Keys.{fid_total, fid_same}
 use Rattle.pack_laws.proofs.Mapping.{get-map_values, get-update}
 use Rattle.pack_vectors.proofs.Shapes.{small}

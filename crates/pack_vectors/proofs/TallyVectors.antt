@@ -1,12 +1,12 @@
 -- Tallies, and turns that broke off.
 use Rattle.std.proofs.Common.{◌≡◌, ℕ, ◌-◌, ◌^◌, true, false, List, [], ◌∷◌, refl, arith}
-use Rattle.disk_records.specs.declared.records.Tally.{Tally}
-use Rattle.pack_model.specs.operations.Operations.{Move}
-use Rattle.pack_model.specs.operations.Operations.Move.{quiet, commits}
-use Rattle.pack_model.specs.operations.Step.Operation.{widen}
-use Rattle.pack_model.specs.sessions.Tallies.{counted, is_among, no_tally, took_effect}
-use Rattle.pack_model.specs.sessions.Turns.{BreaksAt, Turn}
-use Rattle.alto_words.specs.Fid.{sys_dir}
+use Rattle.pack_laws.specs.disk_records.specs.declared.records.Tally.{Tally}
+use Rattle.pack_laws.specs.pack_model.specs.operations.Operations.{Move}
+use Rattle.pack_laws.specs.pack_model.specs.operations.Operations.Move.{quiet, commits}
+use Rattle.pack_laws.specs.pack_model.specs.operations.Step.Operation.{widen}
+use Rattle.pack_laws.specs.pack_model.specs.sessions.Tallies.{counted, is_among, no_tally, took_effect}
+use Rattle.pack_laws.specs.pack_model.specs.sessions.Turns.{BreaksAt, Turn}
+use Rattle.pack_laws.specs.alto_words.specs.Fid.{sys_dir}
 
 -- two operations, by the record writes 5 and 7 of a machine that had three before
 two_done : List Move

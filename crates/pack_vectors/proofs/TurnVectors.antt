@@ -3,24 +3,24 @@ use Rattle.std.proofs.Common.{◌≡◌, ℕ, Bool, true, false, List, [], ◌�
 use Rattle.std.specs.Prelude.{codes, replicate}
 use Rattle.std.specs.Option.{option_map}
 use Rattle.std.specs.FinMap.{find, get, from_entries, get-from_entries}
-use Rattle.alto_words.specs.declared.fid.Fid.{Fid}
-use Rattle.alto_words.specs.Fid.{fid_cmp, sys_dir, ordinary_fid}
-use Rattle.disk_records.specs.declared.records.Event.{Event}
-use Rattle.disk_records.specs.declared.records.Event.TheVariants.{Wrote, Shown}
-use Rattle.pack_model.specs.sessions.Lines.{lines, ended_lines, is_too_long, most_keys, longest_line}
-use Rattle.pack_model.specs.sessions.Turns.{Turn, acknowledged, ruler}
-use Rattle.pack_model.specs.operations.Step.{Operation}
-use Rattle.pack_model.specs.operations.Step.Operation.{make, put, grow, cut, title, stamp, drop_file, leave, enter, widen}
-use Rattle.pack_model.specs.operations.Committing.{commit_of, label_record, value_record, length_in, page_of_byte, page_of_word, entry_place, room_place, pages_for_operation, pages_for_operations, pages_added}
-use Rattle.pack_model.specs.reading.Slots.{entry_length}
-use Rattle.pack_model.specs.reading.Slots.Item.{space, entry}
-use Rattle.pack_model.specs.operations.Rooms.{find_room}
-use Rattle.pack_model.specs.reading.Bodies.{File, items_in}
-use Rattle.pack_model.specs.reading.Bodies.Body.{data_of, items_of}
-use Rattle.pack_model.specs.operations.Step.{new_leader, step, on_bytes}
-use Rattle.pack_model.specs.reading.Model.{Model}
-use Rattle.pack_model.specs.operations.Operations.{Move, weight_of}
-use Rattle.pack_model.specs.operations.Operations.Move.{quiet, commits}
+use Rattle.pack_laws.specs.alto_words.specs.declared.fid.Fid.{Fid}
+use Rattle.pack_laws.specs.alto_words.specs.Fid.{fid_cmp, sys_dir, ordinary_fid}
+use Rattle.pack_laws.specs.disk_records.specs.declared.records.Event.{Event}
+use Rattle.pack_laws.specs.disk_records.specs.declared.records.Event.TheVariants.{Wrote, Shown}
+use Rattle.pack_laws.specs.pack_model.specs.sessions.Lines.{lines, ended_lines, is_too_long, most_keys, longest_line}
+use Rattle.pack_laws.specs.pack_model.specs.sessions.Turns.{Turn, acknowledged, ruler}
+use Rattle.pack_laws.specs.pack_model.specs.operations.Step.{Operation}
+use Rattle.pack_laws.specs.pack_model.specs.operations.Step.Operation.{make, put, grow, cut, title, stamp, drop_file, leave, enter, widen}
+use Rattle.pack_laws.specs.pack_model.specs.operations.Committing.{commit_of, label_record, value_record, length_in, page_of_byte, page_of_word, entry_place, room_place, pages_for_operation, pages_for_operations, pages_added}
+use Rattle.pack_laws.specs.pack_model.specs.reading.Slots.{entry_length}
+use Rattle.pack_laws.specs.pack_model.specs.reading.Slots.Item.{space, entry}
+use Rattle.pack_laws.specs.pack_model.specs.operations.Rooms.{find_room}
+use Rattle.pack_laws.specs.pack_model.specs.reading.Bodies.{File, items_in}
+use Rattle.pack_laws.specs.pack_model.specs.reading.Bodies.Body.{data_of, items_of}
+use Rattle.pack_laws.specs.pack_model.specs.operations.Step.{new_leader, step, on_bytes}
+use Rattle.pack_laws.specs.pack_model.specs.reading.Model.{Model}
+use Rattle.pack_laws.specs.pack_model.specs.operations.Operations.{Move, weight_of}
+use Rattle.pack_laws.specs.pack_model.specs.operations.Operations.Move.{quiet, commits}
 use Rattle.pack_laws.proofs.Keys.{fid_total, fid_same}
 use Rattle.pack_laws.proofs.Mapping.{get-update}
 use Rattle.pack_vectors.proofs.Shapes.{small}

@@ -1,16 +1,16 @@
 -- Small cases of sectors in use, and of pages that are lacking.
 use Rattle.std.proofs.Common.{◌≡◌, true, List, [], ◌∷◌, refl}
 use Rattle.std.specs.Prelude.{codes, replicate}
-use Rattle.alto_words.specs.Fid.{ordinary_fid, disk_descriptor}
-use Rattle.pack_model.specs.reading.Sights.{Sight}
-use Rattle.pack_model.specs.reading.Sights.Sight.{hidden, free, stray, leads, holds}
-use Rattle.pack_model.specs.reading.Files.{first, joined, most_pages, file_bytes}
-use Rattle.pack_model.specs.reading.Slots.{slots_after, slot_at}
-use Rattle.pack_model.specs.reading.Slots.Item.{space}
-use Rattle.pack_model.specs.reading.Bodies.Body.{data_of, items_of}
-use Rattle.pack_model.specs.reading.Model.{good_sectors}
-use Rattle.pack_model.specs.states.InUse.{end_of, last_page, available, bad_sectors}
-use Rattle.pack_model.specs.scavenger.Needed.{file_lacks, root_lacks, descriptor_lacks}
+use Rattle.pack_laws.specs.alto_words.specs.Fid.{ordinary_fid, disk_descriptor}
+use Rattle.pack_laws.specs.pack_model.specs.reading.Sights.{Sight}
+use Rattle.pack_laws.specs.pack_model.specs.reading.Sights.Sight.{hidden, free, stray, leads, holds}
+use Rattle.pack_laws.specs.pack_model.specs.reading.Files.{first, joined, most_pages, file_bytes}
+use Rattle.pack_laws.specs.pack_model.specs.reading.Slots.{slots_after, slot_at}
+use Rattle.pack_laws.specs.pack_model.specs.reading.Slots.Item.{space}
+use Rattle.pack_laws.specs.pack_model.specs.reading.Bodies.Body.{data_of, items_of}
+use Rattle.pack_laws.specs.pack_model.specs.reading.Model.{good_sectors}
+use Rattle.pack_laws.specs.pack_model.specs.states.InUse.{end_of, last_page, available, bad_sectors}
+use Rattle.pack_laws.specs.pack_model.specs.scavenger.Needed.{file_lacks, root_lacks, descriptor_lacks}
 use Rattle.pack_laws.proofs.Uses.{available_is}
 use Rattle.pack_vectors.proofs.Shapes.{model_31, small}
 use Rattle.pack_vectors.proofs.SmallPacks.{dir_4, file_3, leader_a}

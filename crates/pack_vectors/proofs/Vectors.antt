@@ -2,14 +2,14 @@
 use Rattle.std.proofs.Common.{◌≡◌, ℕ, Bool, List, [], ◌∷◌, ◌++◌, refl}
 use Rattle.std.specs.Prelude.{◌||◌, codes, replicate}
 use Rattle.std.specs.Fmt.{digits}
-use Rattle.alto_words.specs.Fid.{sys_dir}
-use Rattle.alto_words.specs.Names.{suffixed, lost, is_stored_name, is_same_name}
-use Rattle.pack_model.specs.reading.Bytes.{bytes_of, words_of, put_at}
-use Rattle.pack_model.specs.reading.Slots.{slots, slots_after, slot_at, is_entry}
-use Rattle.pack_model.specs.reading.Slots.Item.{space, entry}
-use Rattle.pack_model.specs.reading.SlotWords.{entry_words, space_words, slots_at}
-use Rattle.pack_model.specs.reading.Namings.{sys_dir_name}
-use Rattle.pack_model.specs.showing.Settling.{chosen_from}
+use Rattle.pack_laws.specs.alto_words.specs.Fid.{sys_dir}
+use Rattle.pack_laws.specs.alto_words.specs.Names.{suffixed, lost, is_stored_name, is_same_name}
+use Rattle.pack_laws.specs.pack_model.specs.reading.Bytes.{bytes_of, words_of, put_at}
+use Rattle.pack_laws.specs.pack_model.specs.reading.Slots.{slots, slots_after, slot_at, is_entry}
+use Rattle.pack_laws.specs.pack_model.specs.reading.Slots.Item.{space, entry}
+use Rattle.pack_laws.specs.pack_model.specs.reading.SlotWords.{entry_words, space_words, slots_at}
+use Rattle.pack_laws.specs.pack_model.specs.reading.Namings.{sys_dir_name}
+use Rattle.pack_laws.specs.pack_model.specs.showing.Settling.{chosen_from}
 use Rattle.pack_vectors.proofs.SmallPacks.{file_3, dir_4}
 
 -- ---- bytes and words

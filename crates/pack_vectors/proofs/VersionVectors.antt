@@ -2,13 +2,13 @@
 use Rattle.std.proofs.Common.{◌≡◌, ℕ, true, false, List, [], ◌∷◌, ◌++◌, Some, None, refl}
 use Rattle.std.specs.Prelude.{codes, replicate}
 use Rattle.std.specs.Fmt.{digits}
-use Rattle.alto_words.specs.Fid.{sys_dir, disk_descriptor, ordinary_fid, directory_fid}
-use Rattle.alto_words.specs.declared.wanted.Wanted.TheVariants.{Exact, Newest}
-use Rattle.pack_model.specs.reading.Slots.{Item}
-use Rattle.pack_model.specs.reading.Slots.Item.{space, entry}
-use Rattle.pack_model.specs.reading.Namings.{sys_dir_name, descriptor_name}
-use Rattle.pack_model.specs.reading.Versions.{newest, greatest_version, exact, entry_wanted, is_held, new_name, is_name_taken, is_base_taken}
-use Rattle.pack_model.specs.operations.Step.{items_left}
+use Rattle.pack_laws.specs.alto_words.specs.Fid.{sys_dir, disk_descriptor, ordinary_fid, directory_fid}
+use Rattle.pack_laws.specs.alto_words.specs.declared.wanted.Wanted.TheVariants.{Exact, Newest}
+use Rattle.pack_laws.specs.pack_model.specs.reading.Slots.{Item}
+use Rattle.pack_laws.specs.pack_model.specs.reading.Slots.Item.{space, entry}
+use Rattle.pack_laws.specs.pack_model.specs.reading.Namings.{sys_dir_name, descriptor_name}
+use Rattle.pack_laws.specs.pack_model.specs.reading.Versions.{newest, greatest_version, exact, entry_wanted, is_held, new_name, is_name_taken, is_base_taken}
+use Rattle.pack_laws.specs.pack_model.specs.operations.Step.{items_left}
 
 -- the entry of an ordinary file with this serial
 abbrev file : ℕ → List ℕ → Item

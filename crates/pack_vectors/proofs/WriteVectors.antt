@@ -1,19 +1,19 @@
 -- Small cases of the words that record writes leave.
 use Rattle.std.proofs.Common.{◌≡◌, ℕ, List, [], ◌∷◌, ◌++◌, refl}
 use Rattle.std.specs.Prelude.{codes, map, replicate, take}
-use Rattle.alto_words.specs.Fid.{directory_fid}
-use Rattle.alto_words.specs.Names.{is_stored_name}
-use Rattle.disk_records.specs.declared.records.Event.{Event}
-use Rattle.disk_records.specs.declared.records.Event.TheVariants.{Wrote, Shown}
-use Rattle.disk_records.specs.Addresses.{real_of}
-use Rattle.pack_model.specs.reading.Slots.{slots, slots_after, slot_at, is_entry}
-use Rattle.pack_model.specs.reading.Slots.Item.{space, entry}
-use Rattle.pack_model.specs.reading.SlotWords.{space_words}
-use Rattle.pack_model.specs.reading.Bytes.{put_at}
-use Rattle.pack_model.specs.operations.PageWords.{leader_value, titled_value, stamped_value, freed_value, entered_words, put_value, first_page_value, new_leader_value, widening_bytes, near, later}
-use Rattle.pack_model.specs.operations.Operations.{make_writes, grow_writes, cut_writes, drop_writes, enter_writes}
-use Rattle.pack_model.specs.operations.Commands.{Claim, claims_of, all_claimed, grown_claims, grown_label, grown_value, cut_label}
-use Rattle.pack_model.specs.sessions.Descriptor.{opened_value, serial_value}
+use Rattle.pack_laws.specs.alto_words.specs.Fid.{directory_fid}
+use Rattle.pack_laws.specs.alto_words.specs.Names.{is_stored_name}
+use Rattle.pack_laws.specs.disk_records.specs.declared.records.Event.{Event}
+use Rattle.pack_laws.specs.disk_records.specs.declared.records.Event.TheVariants.{Wrote, Shown}
+use Rattle.pack_laws.specs.disk_records.specs.Addresses.{real_of}
+use Rattle.pack_laws.specs.pack_model.specs.reading.Slots.{slots, slots_after, slot_at, is_entry}
+use Rattle.pack_laws.specs.pack_model.specs.reading.Slots.Item.{space, entry}
+use Rattle.pack_laws.specs.pack_model.specs.reading.SlotWords.{space_words}
+use Rattle.pack_laws.specs.pack_model.specs.reading.Bytes.{put_at}
+use Rattle.pack_laws.specs.pack_model.specs.operations.PageWords.{leader_value, titled_value, stamped_value, freed_value, entered_words, put_value, first_page_value, new_leader_value, widening_bytes, near, later}
+use Rattle.pack_laws.specs.pack_model.specs.operations.Operations.{make_writes, grow_writes, cut_writes, drop_writes, enter_writes}
+use Rattle.pack_laws.specs.pack_model.specs.operations.Commands.{Claim, claims_of, all_claimed, grown_claims, grown_label, grown_value, cut_label}
+use Rattle.pack_laws.specs.pack_model.specs.sessions.Descriptor.{opened_value, serial_value}
 use Rattle.pack_vectors.proofs.Shapes.{small}
 use Rattle.pack_vectors.proofs.SmallPacks.{file_3, leader_a}
 

@@ -13,10 +13,10 @@ use Rattle.hint_cache.specs.declared.cache.Entry.{Entry}
 use Rattle.hint_cache.specs.Caches.{Cached, address_in}
 use Rattle.label_check.specs.declared.errors.LookError.{LookError}
 use Rattle.laws_contents.proofs.pages.Laws.{full_before_each_of_a_whole_pack}
-use Rattle.laws_record.proofs.Carried.{carried_place, place_of_carried, seat_in}
-use Rattle.laws_record.proofs.Copying.{place_carried}
-use Rattle.pack_laws.proofs.Keys.{is_fid-itself}
-use Rattle.pack_laws.proofs.Placing.{page_of_place}
+use Rattle.laws_lookup.specs.laws_record.proofs.Carried.{carried_place, place_of_carried, seat_in}
+use Rattle.laws_lookup.specs.laws_record.proofs.Copying.{place_carried}
+use Rattle.laws_lookup.specs.pack_laws.proofs.Keys.{is_fid-itself}
+use Rattle.laws_lookup.specs.pack_laws.proofs.Placing.{page_of_place}
 use Rattle.pack_model.specs.hints.Handy.{HandyCache, IsRightOrIdle, NamesLastPage, last_at_word, last_number_word, leader_word, row_word}
 use Rattle.pack_model.specs.hints.Links.{LinksTrue}
 use Rattle.pack_model.specs.reading.Files.{carries_page, place}

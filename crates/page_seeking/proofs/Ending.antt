@@ -10,8 +10,8 @@ use Rattle.disk_records.specs.Words.{word}
 use Rattle.label_check.specs.declared.errors.PageInfo.{PageInfo}
 use Rattle.laws_contents.proofs.ends.Laws.{last_page_ends_the_file}
 use Rattle.laws_contents.proofs.pages.Laws.{full_before_each_of_a_whole_pack, labels_count}
-use Rattle.laws_record.proofs.Carried.{carried_place}
-use Rattle.pack_laws.proofs.Sighted.{counted}
+use Rattle.laws_lookup.specs.laws_record.proofs.Carried.{carried_place}
+use Rattle.laws_lookup.specs.pack_laws.proofs.Sighted.{counted}
 use Rattle.pack_model.specs.reading.Files.{place}
 use Rattle.pack_model.specs.reading.Sights.{sights}
 use Rattle.pack_model.specs.states.Whole.{Whole}

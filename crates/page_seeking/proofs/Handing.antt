@@ -12,10 +12,10 @@ use Rattle.disk_records.proofs.Reals.{at_of-back}
 use Rattle.hint_cache.specs.declared.cache.Entry.{Entry}
 use Rattle.label_check.specs.declared.errors.PageInfo.{PageInfo}
 use Rattle.label_check.specs.Guarded.{info_of}
-use Rattle.laws_operation.proofs.links.Laws.{next_link_names_the_page_after}
-use Rattle.laws_record.proofs.Carried.{carried_place}
-use Rattle.pack_laws.proofs.Placing.{page_of_place}
-use Rattle.pack_laws.proofs.Sighted.{length-sights, shows_page, sights-get}
+use Rattle.laws_lookup.specs.laws_operation.proofs.links.Laws.{next_link_names_the_page_after}
+use Rattle.laws_lookup.specs.laws_record.proofs.Carried.{carried_place}
+use Rattle.laws_lookup.specs.pack_laws.proofs.Placing.{page_of_place}
+use Rattle.laws_lookup.specs.pack_laws.proofs.Sighted.{length-sights, shows_page, sights-get}
 use Rattle.pack_model.specs.reading.Files.{place}
 use Rattle.pack_model.specs.hints.Links.{LinksTrue, link_to}
 use Rattle.pack_model.specs.reading.Sights.{sights}

@@ -11,8 +11,8 @@ use Rattle.laws_contents.proofs.model.Laws.{leader_is_its_value}
 use Rattle.laws_contents.proofs.pages.Laws.{full_before_each_of_a_whole_pack, labels_count, page_numbers_are_words}
 use Rattle.laws_contents.specs.EndLaws.{EndsInAPage}
 use Rattle.laws_contents.specs.PageLaws.{bytes_at}
-use Rattle.laws_record.proofs.Carried.{carried_place}
-use Rattle.laws_record.proofs.Copying.{place_carried}
+use Rattle.laws_lookup.specs.laws_record.proofs.Carried.{carried_place}
+use Rattle.laws_lookup.specs.laws_record.proofs.Copying.{place_carried}
 use Rattle.pack_model.specs.hints.Handy.{leader_word}
 use Rattle.pack_model.specs.operations.Committing.{page_of_byte}
 use Rattle.pack_model.specs.reading.Files.{place}

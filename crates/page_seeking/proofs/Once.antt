@@ -9,7 +9,7 @@ use Rattle.label_check.specs.declared.errors.PageInfo.{PageInfo}
 use Rattle.laws_contents.proofs.ends.Laws.{each_file_has_its_end, last_page_ends_the_file}
 use Rattle.laws_contents.proofs.pages.Laws.{carried_once_is_in_place, full_before_each_of_a_whole_pack, full_before_the_next, labels_count, once_is_by_labels, page_numbers_are_words}
 use Rattle.laws_contents.specs.PageLaws.{FullBefore, bytes_at}
-use Rattle.laws_record.proofs.Carried.{carried_place}
+use Rattle.laws_lookup.specs.laws_record.proofs.Carried.{carried_place}
 use Rattle.pack_model.specs.reading.Files.{place}
 use Rattle.pack_model.specs.reading.Sights.{sights}
 use Rattle.pack_model.specs.states.Sentences.{EachOnce}

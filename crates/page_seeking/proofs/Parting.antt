@@ -16,7 +16,7 @@ use Rattle.label_check.specs.Guarded.{HoldsPage, info_of}
 use Rattle.label_check.specs.declared.errors.PageInfo.{PageInfo}
 use Rattle.laws_contents.proofs.bytes.Laws.{bytes_stand_in_their_page, page_is_a_slice}
 use Rattle.laws_contents.specs.PageLaws.{FullBefore}
-use Rattle.pack_laws.proofs.Sighted.{counted}
+use Rattle.laws_lookup.specs.pack_laws.proofs.Sighted.{counted}
 use Rattle.pack_model.specs.reading.Files.{file_bytes, place}
 use Rattle.pack_model.specs.reading.Sights.{sights}
 use Rattle.pack_model.specs.states.Sentences.{EachOnce}

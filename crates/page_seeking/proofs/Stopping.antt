@@ -11,8 +11,8 @@ use Rattle.label_check.specs.declared.errors.PageInfo.{PageInfo}
 use Rattle.laws_contents.proofs.bytes.Laws.{page_is_a_slice}
 use Rattle.laws_contents.proofs.ends.Laws.{each_file_has_its_end}
 use Rattle.laws_contents.proofs.pages.Laws.{page_numbers_are_words}
-use Rattle.laws_operation.proofs.links.Laws.{next_link_names_the_page_after}
-use Rattle.laws_record.proofs.Copying.{place_carried}
+use Rattle.laws_lookup.specs.laws_operation.proofs.links.Laws.{next_link_names_the_page_after}
+use Rattle.laws_lookup.specs.laws_record.proofs.Copying.{place_carried}
 use Rattle.pack_model.specs.hints.Links.{LinksTrue, link_to}
 use Rattle.pack_model.specs.operations.Committing.{page_of_byte}
 use Rattle.pack_model.specs.reading.Files.{place}

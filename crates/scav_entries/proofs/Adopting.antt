@@ -8,11 +8,11 @@ use Rattle.std.proofs.lemmas.List.{drop_all}
 use Rattle.alto_words.specs.declared.fid.Fid.{Fid}
 use Rattle.alto_words.specs.Fid.{disk_descriptor, fid_cmp, is_fid, is_system, sys_dir}
 use Rattle.disk_records.specs.Packs.{Pack}
-use Rattle.laws_record.proofs.Mending.{entries-tidied, mended_view}
+use Rattle.scav_pages.specs.laws_record.proofs.Mending.{entries-tidied, mended_view}
 use Rattle.laws_room.specs.NextLaws.{mended_pack}
-use Rattle.pack_laws.proofs.ByLists.{described_list, found_list, is_shown, puts, seen_list}
-use Rattle.pack_laws.proofs.Keys.{same_fid}
-use Rattle.pack_laws.proofs.Placing.{leader_of_place}
+use Rattle.scav_pages.specs.pack_laws.proofs.ByLists.{described_list, found_list, is_shown, puts, seen_list}
+use Rattle.scav_pages.specs.pack_laws.proofs.Keys.{same_fid}
+use Rattle.scav_pages.specs.pack_laws.proofs.Placing.{leader_of_place}
 use Rattle.pack_model.specs.reading.Bodies.{File, described, file_of, found, is_described}
 use Rattle.pack_model.specs.reading.Files.{lives, place}
 use Rattle.pack_model.specs.reading.Leaders.{Leader}

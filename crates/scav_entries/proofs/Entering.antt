@@ -10,8 +10,8 @@ use Rattle.pack_model.specs.operations.Rooms.{Room, find_room, items_entered, la
 use Rattle.pack_model.specs.reading.Slots.{Item, all_words, item_words}
 use Rattle.pack_model.specs.reading.Slots.Item.{space, entry}
 use Rattle.dir_slots.proofs.Slots.{all_words-append}
-use Rattle.laws_record.specs.SlotLaws.{IsPlacedIn}
-use Rattle.laws_record.proofs.slots.Laws.{found_is_placed}
+use Rattle.scav_pages.specs.laws_record.specs.SlotLaws.{IsPlacedIn}
+use Rattle.scav_pages.specs.laws_record.proofs.slots.Laws.{found_is_placed}
 use Rattle.scav_entries.specs.declared.rooms.EntryRoom.{EntryRoom}
 use Rattle.scav_entries.specs.declared.rooms.Rooms.{Rooms}
 use Rattle.scav_entries.specs.Rooms.{HasRooms, IsFirstRoom, IsPassedOver, IsRow, IsSize, free_slots}

@@ -9,7 +9,7 @@ use Rattle.pack_model.specs.reading.Slots.{Item, all_words, item_words}
 use Rattle.pack_model.specs.reading.Slots.Item.{space, entry}
 use Rattle.dir_slots.proofs.Rooms.{AreShort, none_found}
 use Rattle.dir_slots.proofs.Slots.{all_words-append}
-use Rattle.laws_record.specs.SlotLaws.{IsSpace}
+use Rattle.scav_pages.specs.laws_record.specs.SlotLaws.{IsSpace}
 use Rattle.alto_words.specs.declared.fid.Fid.{Fid}
 use Rattle.scav_entries.specs.Rooms.{BeginsNamed, IsPassedOver, IsSize}
 use Rattle.scav_entries.proofs.Keys.{all_right}

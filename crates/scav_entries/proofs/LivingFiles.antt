@@ -15,7 +15,7 @@ use Rattle.disk_records.specs.Packs.{Pack}
 use Rattle.pack_model.specs.reading.Bodies.{File, found}
 use Rattle.pack_model.specs.reading.Files.{file_bytes, leader, lives}
 use Rattle.pack_model.specs.reading.Sights.{Sight, sights}
-use Rattle.laws_record.proofs.Reading.{get-found, read_file}
+use Rattle.scav_pages.specs.laws_record.proofs.Reading.{get-found, read_file}
 use Rattle.scav_entries.specs.Living.{Rises, lives_in, living_files, living_in, living_of}
 use Rattle.scav_entries.specs.Parting.{lives_then}
 

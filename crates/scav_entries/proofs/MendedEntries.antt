@@ -9,11 +9,11 @@ use Rattle.std.proofs.lemmas.List.{map-append}
 use Rattle.alto_words.specs.declared.fid.Fid.{Fid}
 use Rattle.alto_words.specs.Fid.{disk_descriptor, fid_cmp, is_directory, is_fid, is_system, sys_dir}
 use Rattle.disk_records.specs.Packs.{Pack}
-use Rattle.laws_record.proofs.Around.{around}
-use Rattle.laws_record.proofs.Mending.{entries-tidied}
+use Rattle.scav_pages.specs.laws_record.proofs.Around.{around}
+use Rattle.scav_pages.specs.laws_record.proofs.Mending.{entries-tidied}
 use Rattle.laws_room.specs.NextLaws.{mended_pack}
-use Rattle.pack_laws.proofs.ByLists.{described_list, found_list, is_shown, puts}
-use Rattle.pack_laws.proofs.Keys.{fid_same, fid_total, same_fid}
+use Rattle.scav_pages.specs.pack_laws.proofs.ByLists.{described_list, found_list, is_shown, puts}
+use Rattle.scav_pages.specs.pack_laws.proofs.Keys.{fid_same, fid_total, same_fid}
 use Rattle.pack_model.specs.hints.Links.{dir_slots, dir_words}
 use Rattle.pack_model.specs.reading.Bodies.{File, Files, body_of, described, file_of, found, is_described}
 use Rattle.pack_model.specs.reading.Bodies.Body.{data_of, items_of}

@@ -13,7 +13,7 @@ use Rattle.alto_words.specs.Fid.{fid_cmp, is_directory, is_fid, is_system, sys_d
 use Rattle.alto_words.specs.Names.{is_same_name}
 use Rattle.pack_model.specs.reading.Namings.{Naming, alike, clashes, descriptor_name, fits, is_kept, is_own, keeps_system, may_stand, sys_dir_name}
 use Rattle.pack_model.specs.showing.View.{Home}
-use Rattle.pack_laws.proofs.Keys.{is_fid-sym, same_fid}
+use Rattle.scav_pages.specs.pack_laws.proofs.Keys.{is_fid-sym, same_fid}
 use Rattle.kept_names.specs.Homes.{StandsFor, considered, is_let, is_taken_in}
 use Rattle.kept_names.proofs.Following.{Follows, follow_all, follows_none, let_is_kept}
 use Rattle.kept_names.proofs.Scanned.{after, scanned}

@@ -12,8 +12,8 @@ use Rattle.pack_model.specs.reading.Slots.Item.{space, entry}
 use Rattle.pack_model.specs.scavenger.Mended.{on_room, widens, with_page}
 use Rattle.dir_slots.proofs.Rooms.{none_found}
 use Rattle.dir_slots.proofs.Slots.{all_words-append}
-use Rattle.laws_record.specs.SlotLaws.{IsPlacedIn}
-use Rattle.laws_record.proofs.slots.Laws.{found_is_placed}
+use Rattle.scav_pages.specs.laws_record.specs.SlotLaws.{IsPlacedIn}
+use Rattle.scav_pages.specs.laws_record.proofs.slots.Laws.{found_is_placed}
 use Rattle.scav_entries.specs.declared.living.Living.{Living}
 use Rattle.scav_entries.specs.Lacking.{entry_for}
 use Rattle.scav_entries.specs.declared.rooms.Rooms.{Rooms}

@@ -12,10 +12,10 @@ use Rattle.alto_words.specs.declared.fid.Fid.{Fid}
 use Rattle.alto_words.specs.Fid.{fid_cmp, is_fid}
 use Rattle.disk_records.specs.declared.records.Page.{Page}
 use Rattle.disk_records.specs.Packs.{Pack, carried, sector_at}
-use Rattle.laws_record.proofs.Recording.{carried_sight}
-use Rattle.laws_record.proofs.Reading.{get-found, read_file}
-use Rattle.pack_laws.proofs.Keys.{fid_same, fid_total, is_fid-itself, same_fid}
-use Rattle.pack_laws.proofs.Placing.{IsLeaderAt, leader_of_place, no_leader, one_page}
+use Rattle.scav_pages.specs.laws_record.proofs.Recording.{carried_sight}
+use Rattle.scav_pages.specs.laws_record.proofs.Reading.{get-found, read_file}
+use Rattle.scav_pages.specs.pack_laws.proofs.Keys.{fid_same, fid_total, is_fid-itself, same_fid}
+use Rattle.scav_pages.specs.pack_laws.proofs.Placing.{IsLeaderAt, leader_of_place, no_leader, one_page}
 use Rattle.pack_model.specs.reading.Bodies.{File, found}
 use Rattle.pack_model.specs.reading.Files.{file_bytes, place}
 use Rattle.pack_model.specs.reading.Leaders.{is_readable, leader_of, leader_words}

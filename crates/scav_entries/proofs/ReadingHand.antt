@@ -5,8 +5,8 @@ use Rattle.alto_words.specs.declared.fid.Fid.{Fid}
 use Rattle.alto_words.specs.Fid.{is_fid}
 use Rattle.disk_records.specs.declared.records.Page.{Page}
 use Rattle.disk_records.specs.Packs.{Pack}
-use Rattle.pack_laws.proofs.Keys.{is_fid-itself, same_fid}
-use Rattle.pack_laws.proofs.files.Laws.{places_are_lowest}
+use Rattle.scav_pages.specs.pack_laws.proofs.Keys.{is_fid-itself, same_fid}
+use Rattle.scav_pages.specs.pack_laws.proofs.files.Laws.{places_are_lowest}
 use Rattle.pack_model.specs.reading.Files.{lives, place}
 use Rattle.pack_model.specs.reading.Sights.{sights}
 use Rattle.scav_pages.specs.declared.files.FileWalk.{FileWalk}

@@ -14,12 +14,12 @@ use Rattle.disk_records.specs.declared.shape.Shape.{Shape}
 use Rattle.disk_records.specs.Addresses.{pages_of}
 use Rattle.disk_records.specs.Packs.{Pack, sector_at}
 use Rattle.disk_records.specs.Words.{word}
-use Rattle.laws_contents.specs.PageLaws.{FullBefore}
-use Rattle.laws_contents.specs.WordContents.{words_at}
-use Rattle.laws_contents.proofs.pages.Laws.{formed_pages_have_256_words, labels_count}
-use Rattle.laws_contents.proofs.words.Laws.{page_words_go_on}
-use Rattle.pack_laws.proofs.Keys.{is_fid-itself, same_fid}
-use Rattle.pack_laws.proofs.Placing.{leader_of_place}
+use Rattle.scav_pages.specs.laws_contents.specs.PageLaws.{FullBefore}
+use Rattle.scav_pages.specs.laws_contents.specs.WordContents.{words_at}
+use Rattle.scav_pages.specs.laws_contents.proofs.pages.Laws.{formed_pages_have_256_words, labels_count}
+use Rattle.scav_pages.specs.laws_contents.proofs.words.Laws.{page_words_go_on}
+use Rattle.scav_pages.specs.pack_laws.proofs.Keys.{is_fid-itself, same_fid}
+use Rattle.scav_pages.specs.pack_laws.proofs.Placing.{leader_of_place}
 use Rattle.pack_model.specs.hints.Links.{dir_words}
 use Rattle.pack_model.specs.reading.Bodies.{File}
 use Rattle.pack_model.specs.reading.Files.{place}

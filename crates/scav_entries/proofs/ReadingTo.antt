@@ -13,7 +13,7 @@ use Rattle.dir_slots.proofs.Turns.{none_placed}
 use Rattle.disk_records.specs.declared.records.Page.{Page}
 use Rattle.disk_records.specs.Packs.{Pack}
 use Rattle.disk_records.proofs.Bytes.{length-words_of}
-use Rattle.laws_record.proofs.Heads.{all_read}
+use Rattle.scav_pages.specs.laws_record.proofs.Heads.{all_read}
 use Rattle.pack_model.specs.hints.Links.{dir_slots, dir_words}
 use Rattle.pack_model.specs.reading.Bodies.{File, found}
 use Rattle.pack_model.specs.reading.Files.{file_bytes, lives, place}

@@ -13,13 +13,13 @@ use Rattle.alto_words.specs.declared.fid.Fid.{Fid}
 use Rattle.alto_words.specs.Fid.{disk_descriptor, fid_cmp, is_directory, is_fid, sys_dir}
 use Rattle.disk_records.specs.Packs.{Pack}
 use Rattle.dir_slots.proofs.Slots.{all_words-append}
-use Rattle.laws_record.proofs.Around.{around}
-use Rattle.laws_record.proofs.Mending.{entries-tidied}
+use Rattle.scav_pages.specs.laws_record.proofs.Around.{around}
+use Rattle.scav_pages.specs.laws_record.proofs.Mending.{entries-tidied}
 use Rattle.laws_room.specs.NextLaws.{mended_pack}
-use Rattle.laws_record.proofs.Reading.{get-found, read_file}
-use Rattle.laws_record.proofs.Systemic.{described_get}
-use Rattle.pack_laws.proofs.ByLists.{described_list, found_list, puts}
-use Rattle.pack_laws.proofs.Keys.{fid_same, fid_total, is_fid-sym, same_fid}
+use Rattle.scav_pages.specs.laws_record.proofs.Reading.{get-found, read_file}
+use Rattle.scav_pages.specs.laws_record.proofs.Systemic.{described_get}
+use Rattle.scav_pages.specs.pack_laws.proofs.ByLists.{described_list, found_list, puts}
+use Rattle.scav_pages.specs.pack_laws.proofs.Keys.{fid_same, fid_total, is_fid-sym, same_fid}
 use Rattle.pack_model.specs.hints.Links.{dir_slots, dir_words}
 use Rattle.pack_model.specs.reading.Bodies.{File, body_items, body_of, described, file_of, found, is_described, items_in}
 use Rattle.pack_model.specs.reading.Bodies.Body.{data_of, items_of}

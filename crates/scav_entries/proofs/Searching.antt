@@ -10,7 +10,7 @@ use Rattle.std.proofs.lemmas.Bool.{cases_lt}
 use Rattle.std.proofs.lemmas.Map.Keys.{sorted_head, sorted_tail}
 use Rattle.alto_words.specs.declared.fid.Fid.{Fid}
 use Rattle.alto_words.specs.Fid.{fid_cmp}
-use Rattle.pack_laws.proofs.Keys.{fid_total, fid_same}
+use Rattle.scav_pages.specs.pack_laws.proofs.Keys.{fid_total, fid_same}
 use Rattle.scav_entries.specs.declared.living.Living.{Living}
 use Rattle.scav_entries.specs.Living.{Rises, living_in}
 

@@ -9,7 +9,7 @@ use Rattle.pack_model.specs.operations.Rooms.{left_over}
 use Rattle.pack_model.specs.reading.Slots.{Item, all_words}
 use Rattle.pack_model.specs.reading.Slots.Item.{space, entry}
 use Rattle.dir_slots.proofs.Slots.{all_words-append}
-use Rattle.laws_record.specs.SlotLaws.{IsSpace}
+use Rattle.scav_pages.specs.laws_record.specs.SlotLaws.{IsSpace}
 use Rattle.scav_entries.specs.declared.rooms.EntryRoom.{EntryRoom}
 use Rattle.scav_entries.specs.Rooms.{IsRow, IsSize, free_slots}
 use Rattle.scav_entries.proofs.FreeSlots.{free_above, free_append, free_below}

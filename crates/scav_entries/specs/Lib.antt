@@ -5,3 +5,10 @@ pub mod Living
 pub mod Parting
 pub mod Readings
 pub mod Rooms
+pub use Rattle.scav_pages.specs.pack_laws
+pub use Rattle.scav_pages.specs.laws_record
+pub use Rattle.scav_pages.specs.laws_contents
+pub use Rattle.scav_pages.specs.laws_operation
+pub use Rattle.scav_pages.specs.laws_lookup
+pub use Rattle.laws_room
+pub use Rattle.scav_pages.specs.laws_mend

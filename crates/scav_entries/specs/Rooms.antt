@@ -6,7 +6,7 @@ use Rattle.pack_model.specs.reading.Slots.{Item, all_words, item_words}
 use Rattle.pack_model.specs.reading.Slots.Item.{space, entry}
 use Rattle.pack_model.specs.scavenger.Mended.{with_page}
 use Rattle.std.specs.Option.{is_none}
-use Rattle.laws_record.specs.SlotLaws.{IsSpace}
+use Rattle.scav_pages.specs.laws_record.specs.SlotLaws.{IsSpace}
 use Rattle.scav_entries.specs.declared.rooms.EntryRoom.{EntryRoom}
 use Rattle.scav_entries.specs.declared.rooms.Rooms.{Rooms}
 

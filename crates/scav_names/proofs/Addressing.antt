@@ -1,5 +1,5 @@
 -- Addresses of entries, made true one after another.
-use Rattle.std.proofs.Common.{◌≡◌, ◌≢◌, ◌⊎◌, inl, inr, ℕ, zero, suc, ◌+◌, ◌/◌, ◌^◌, ◌<◌, ◌≤◌, ◌==◌, Bool, true, false, cond, List, [], ◌∷◌, ◌++◌, length, get_or, Option, Some, None, refl, sym, ap, subst, ◌∙◌, arith}
+use Rattle.std.proofs.Common.{◌≡◌, ◌⊎◌, inl, inr, ℕ, zero, suc, ◌+◌, ◌/◌, ◌^◌, ◌<◌, ◌≤◌, ◌==◌, Bool, true, false, cond, List, [], ◌∷◌, ◌++◌, length, get_or, Option, Some, None, refl, sym, ap, subst, ◌∙◌, arith}
 use Rattle.std.specs.Prelude.{All, Contains}
 use Rattle.std.specs.Option.{is_some, option_map, option_map_or, option_to_list}
 use Rattle.std.specs.Cmp.{tied_itself}
@@ -7,26 +7,24 @@ use Rattle.std.specs.declared.cmp.Ordering.TheVariants.{Less, Equal}
 use Rattle.std.proofs.lemmas.Bool.Decides.{nat_tests}
 use Rattle.std.proofs.lemmas.List.Elements.{All-append, All-cons, All-contains, All-contains_itself, All-head, All-nil, All-tail}
 use Rattle.alto_words.specs.declared.fid.Fid.{Fid}
-use Rattle.alto_words.specs.Fid.{fid_cmp, is_directory, is_fid}
+use Rattle.alto_words.specs.Fid.{fid_cmp, is_fid}
 use Rattle.dir_slots.proofs.Hands.{slots_within}
 use Rattle.dir_slots.proofs.Slots.{all_words-append}
 use Rattle.disk_records.specs.Packs.{Pack, after}
 use Rattle.disk_records.proofs.Growing.{after-append}
-use Rattle.laws_contents.proofs.pages.Laws.{page_numbers_are_words}
-use Rattle.laws_contents.proofs.words.Laws.{each_word_has_its_page}
-use Rattle.laws_lookup.proofs.Replacing.{range}
-use Rattle.laws_names.specs.EntriesLaws.{SplitsAt}
-use Rattle.laws_names.specs.Keeping.{AllKeepOpen, KeepsOpen}
+use Rattle.scav_entries.specs.laws_contents.proofs.pages.Laws.{page_numbers_are_words}
+use Rattle.scav_entries.specs.laws_contents.proofs.words.Laws.{each_word_has_its_page}
+use Rattle.scav_entries.specs.laws_lookup.proofs.Replacing.{range}
+use Rattle.laws_names.specs.Keeping.{AllKeepOpen}
 use Rattle.laws_names.specs.WriteLaws.{AddressIsSet}
 use Rattle.laws_names.proofs.entries.Laws.{names_are_mended, slot_splits}
 use Rattle.laws_names.proofs.lacking.Laws.{none_lacking_is_named}
 use Rattle.laws_names.proofs.joins.Laws.{keeps_open_join, nothing_keeps_open}
 use Rattle.laws_names.proofs.writes.Laws.{address_is_written}
 use Rattle.laws_names.proofs.parts.Laws.{mended_has_parts}
-use Rattle.laws_operation.proofs.places.Laws.{file_lives_in_a_place}
-use Rattle.laws_record.specs.DirLaws.{DirWrite, dir_written}
-use Rattle.laws_room.specs.NextLaws.{Lacking, mended_pack}
-use Rattle.pack_laws.proofs.Keys.{fid_total, is_fid-itself, same_fid}
+use Rattle.scav_entries.specs.laws_operation.proofs.places.Laws.{file_lives_in_a_place}
+use Rattle.scav_entries.specs.laws_record.specs.DirLaws.{DirWrite, dir_written}
+use Rattle.scav_entries.specs.pack_laws.proofs.Keys.{fid_total, is_fid-itself, same_fid}
 use Rattle.pack_model.specs.hints.Links.{IsTrueAddress, dir_slots, dir_words}
 use Rattle.pack_model.specs.operations.PageWords.{in_page}
 use Rattle.pack_model.specs.reading.Files.{lives, place}

@@ -1,5 +1,5 @@
 -- How many files get a name: as many as are lacking, the system files aside, and fewer than sectors.
-use Rattle.std.proofs.Common.{◌≡◌, ℕ, suc, ◌+◌, ◌<◌, ◌≤◌, Bool, true, false, cond, not, List, [], ◌∷◌, length, map, Less, Equal, Greater, refl, sym, ap, subst, ◌∙◌, arith}
+use Rattle.std.proofs.Common.{◌≡◌, ℕ, suc, ◌+◌, ◌≤◌, Bool, true, false, cond, not, List, [], ◌∷◌, length, map, Less, Equal, Greater, refl, ap, ◌∙◌, arith}
 use Rattle.std.specs.declared.cmp.Ordering.{Ordering}
 use Rattle.std.specs.FinMap.{FinMap, contains_key, entries}
 use Rattle.std.specs.FinMap.Entries.{by_order, put, where_key}
@@ -8,10 +8,10 @@ use Rattle.alto_words.specs.Fid.{disk_descriptor, fid_cmp, is_system, sys_dir}
 use Rattle.disk_records.specs.Packs.{Pack}
 use Rattle.laws_names.proofs.lacking.Laws.{lacking_are_adopted}
 use Rattle.laws_names.proofs.models.Laws.{mended_is_read}
-use Rattle.laws_record.proofs.Mending.{entries-tidied}
-use Rattle.laws_room.specs.NextLaws.{mended_pack}
-use Rattle.pack_laws.proofs.ByLists.{described_list, found_by, is_shown, puts, seen_list}
-use Rattle.pack_laws.proofs.Sighted.{length-sights}
+use Rattle.scav_entries.specs.laws_record.proofs.Mending.{entries-tidied}
+use Rattle.scav_entries.specs.laws_room.specs.NextLaws.{mended_pack}
+use Rattle.scav_entries.specs.pack_laws.proofs.ByLists.{described_list, found_by, is_shown, puts, seen_list}
+use Rattle.scav_entries.specs.pack_laws.proofs.Sighted.{length-sights}
 use Rattle.pack_model.specs.reading.Bodies.{File, described, file_of, is_described}
 use Rattle.pack_model.specs.reading.Leaders.{Leader}
 use Rattle.pack_model.specs.reading.Model.{Model, is_named, read_as, read_sights}

@@ -1,5 +1,5 @@
 -- What may be entered in SysDir once the slots that aren't kept are free.
-use Rattle.std.proofs.Common.{◌≡◌, ℕ, zero, suc, ◌+◌, ◌/◌, ◌<◌, Bool, true, false, cond, List, [], ◌∷◌, ◌++◌, length, get_or, map, Option, Some, None, refl, sym, ap, subst, ◌∙◌, arith}
+use Rattle.std.proofs.Common.{◌≡◌, ℕ, zero, suc, ◌+◌, ◌/◌, ◌<◌, Bool, true, false, cond, List, [], ◌∷◌, length, get_or, map, Option, Some, None, refl, sym, ap, subst, ◌∙◌, arith}
 use Rattle.std.specs.Prelude.{All}
 use Rattle.std.specs.Option.{is_some, option_map, option_map_or}
 use Rattle.std.specs.FinMap.{FinMap, contains_key, entries, find, get-entries}
@@ -10,22 +10,22 @@ use Rattle.alto_words.specs.Fid.{disk_descriptor, fid_cmp, is_fid, sys_dir}
 use Rattle.disk_records.specs.Packs.{Pack, is_free_at}
 use Rattle.disk_records.proofs.Bytes.{length-words_of}
 use Rattle.laws_names.proofs.models.Laws.{mended_is_read, mended_slots, tidy_mended_is_read}
-use Rattle.laws_operation.proofs.places.Laws.{file_lives_in_a_place}
-use Rattle.laws_record.proofs.Around.{around}
-use Rattle.laws_record.proofs.DirReads.{has_leader}
-use Rattle.laws_record.proofs.Heads.{all_read}
-use Rattle.laws_record.proofs.Mending.{entries-tidied}
-use Rattle.laws_record.proofs.Reading.{get-found, read_file}
-use Rattle.laws_room.proofs.SystemFiles.{leader_shown}
-use Rattle.laws_room.specs.NextLaws.{mended_pack}
-use Rattle.pack_laws.proofs.ByLists.{described_list, found_by, found_list, is_shown, seen_list}
-use Rattle.pack_laws.proofs.Keys.{fid_same, fid_total, is_fid-itself}
+use Rattle.scav_entries.specs.laws_operation.proofs.places.Laws.{file_lives_in_a_place}
+use Rattle.scav_entries.specs.laws_record.proofs.Around.{around}
+use Rattle.scav_entries.specs.laws_record.proofs.DirReads.{has_leader}
+use Rattle.scav_entries.specs.laws_record.proofs.Heads.{all_read}
+use Rattle.scav_entries.specs.laws_record.proofs.Mending.{entries-tidied}
+use Rattle.scav_entries.specs.laws_record.proofs.Reading.{get-found, read_file}
+use Rattle.scav_entries.specs.laws_room.proofs.SystemFiles.{leader_shown}
+use Rattle.scav_entries.specs.laws_room.specs.NextLaws.{mended_pack}
+use Rattle.scav_entries.specs.pack_laws.proofs.ByLists.{described_list, found_by, found_list, is_shown, seen_list}
+use Rattle.scav_entries.specs.pack_laws.proofs.Keys.{fid_same, fid_total, is_fid-itself}
 use Rattle.pack_model.specs.hints.Links.{dir_words}
 use Rattle.pack_model.specs.reading.Bodies.{File, described, found, is_described}
 use Rattle.pack_model.specs.reading.Files.{file_bytes, leader, lives, place}
 use Rattle.pack_model.specs.reading.Model.{Model, is_named, read_as, read_sights, root_items}
 use Rattle.pack_model.specs.reading.Namings.{Naming, body_kept, descriptor_name, files_kept, is_kept, items_kept, kept_after_body, kept_by, sys_dir_name}
-use Rattle.pack_model.specs.reading.Sights.{Sight, sights}
+use Rattle.pack_model.specs.reading.Sights.{sights}
 use Rattle.pack_model.specs.reading.Slots.{Item, SlotsReachEnd, all_words, item_words, slots}
 use Rattle.pack_model.specs.reading.Slots.Item.{space, entry}
 use Rattle.pack_model.specs.scavenger.Mended.{lacking}
@@ -34,13 +34,11 @@ use Rattle.pack_model.specs.showing.Settling.{adopted, chosen, given_names, unle
 use Rattle.pack_model.specs.showing.View.{Home, Seen, seen_of, view}
 use Rattle.pack_model.specs.scavenger.Reports.{PagesMended}
 use Rattle.scav_entries.specs.declared.catalogue.Catalogue.{Catalogue}
-use Rattle.scav_entries.specs.declared.living.Living.{Living}
 use Rattle.scav_entries.specs.declared.rooms.Rooms.{Rooms}
 use Rattle.scav_entries.specs.Catalogues.{HoldsNames, root_slots}
 use Rattle.scav_entries.specs.Lacking.{entry_for, lacking_file, lacking_files}
 use Rattle.scav_entries.specs.Living.{leader_sector}
 use Rattle.scav_entries.specs.Rooms.{HasRooms, HasSlots}
-use Rattle.scav_names.specs.declared.root.Root.{Root}
 use Rattle.scav_names.specs.Parts.{UnkeptFreed}
 use Rattle.scav_names.specs.Roots.{IsLed, MayBeEntered}
 

@@ -1,5 +1,5 @@
 -- The entries of a tidy pack, each where it stands, in the order of the scan, and what stays of them while names are entered.
-use Rattle.std.proofs.Common.{◌≡◌, ◌⊎◌, inl, inr, ℕ, zero, suc, ◌+◌, ◌<◌, ◌≤◌, Bool, true, false, cond, not, List, [], ◌∷◌, ◌++◌, length, get_or, map, Option, Some, None, refl, sym, ap, subst, ◌∙◌, append_assoc, arith}
+use Rattle.std.proofs.Common.{◌≡◌, inl, inr, ℕ, zero, suc, ◌+◌, ◌<◌, Bool, true, false, cond, not, List, [], ◌∷◌, ◌++◌, length, get_or, map, Option, Some, None, refl, sym, ap, subst, ◌∙◌, append_assoc, arith}
 use Rattle.std.specs.Prelude.{All, Contains, T, ◌&&◌}
 use Rattle.std.specs.List.{list_any}
 use Rattle.std.specs.Option.{is_some, option_map, option_map_or}
@@ -7,24 +7,23 @@ use Rattle.std.specs.Ordering.{is_lt}
 use Rattle.std.specs.declared.cmp.Ordering.TheVariants.{Less}
 use Rattle.std.specs.FinMap.{entries, entries_sorted, find, get-entries, is_sorted}
 use Rattle.std.specs.FinMap.Entries.{below_all}
-use Rattle.std.proofs.lemmas.List.Elements.{All-append, All-cons, All-contains, All-head, All-nil, All-tail, Contains-append_cases, Contains-append_left, Contains-append_right, Contains-get_or}
+use Rattle.std.proofs.lemmas.List.Elements.{All-append, All-cons, All-head, All-nil, All-tail, Contains-append_left, Contains-append_right, Contains-get_or}
 use Rattle.alto_words.specs.declared.fid.Fid.{Fid}
 use Rattle.alto_words.specs.Fid.{fid_cmp, is_directory, is_fid}
 use Rattle.disk_records.specs.Packs.{Pack}
-use Rattle.laws_lookup.proofs.Replacing.{range}
-use Rattle.laws_names.specs.EntriesLaws.{EntriesStay}
+use Rattle.scav_entries.specs.laws_lookup.proofs.Replacing.{range}
 use Rattle.laws_names.proofs.models.Laws.{mended_lives}
-use Rattle.laws_operation.proofs.places.Laws.{file_lives_in_a_place}
-use Rattle.laws_record.proofs.Addressing.{entry_words_many}
-use Rattle.laws_record.proofs.Around.{around, first_part, is_less, second_part}
-use Rattle.laws_record.proofs.DirReads.{has_leader}
-use Rattle.laws_record.proofs.Reading.{get-found, read_file}
-use Rattle.pack_laws.proofs.Keys.{fid_same, fid_total, is_fid-itself, same_fid}
+use Rattle.scav_entries.specs.laws_operation.proofs.places.Laws.{file_lives_in_a_place}
+use Rattle.scav_entries.specs.laws_record.proofs.Addressing.{entry_words_many}
+use Rattle.scav_entries.specs.laws_record.proofs.Around.{around, first_part, is_less, second_part}
+use Rattle.scav_entries.specs.laws_record.proofs.DirReads.{has_leader}
+use Rattle.scav_entries.specs.laws_record.proofs.Reading.{get-found, read_file}
+use Rattle.scav_entries.specs.pack_laws.proofs.Keys.{fid_same, fid_total, same_fid}
 use Rattle.pack_model.specs.hints.Links.{IsTrueAddress, dir_slots, dir_words}
-use Rattle.pack_model.specs.reading.Bodies.{File, described, found}
+use Rattle.pack_model.specs.reading.Bodies.{File, found}
 use Rattle.pack_model.specs.reading.Files.{file_bytes, leader, lives, place}
 use Rattle.pack_model.specs.reading.Leaders.{Leader}
-use Rattle.pack_model.specs.reading.Namings.{AllKept, Naming, clashes, fits, is_kept, namings}
+use Rattle.pack_model.specs.reading.Namings.{AllKept, Naming, clashes, fits, is_kept}
 use Rattle.pack_model.specs.reading.Sights.{Sight, sights}
 use Rattle.pack_model.specs.reading.SlotWords.{SlotAt, address_at, slots_at}
 use Rattle.pack_model.specs.reading.Slots.{Item, item_words, slots}
@@ -35,10 +34,10 @@ use Rattle.scav_entries.specs.declared.living.Living.{Living}
 use Rattle.scav_entries.specs.declared.placed.PlacedEntry.{PlacedEntry}
 use Rattle.scav_entries.specs.Catalogues.{entries_among, entries_of, file_entries, naming_of, pack_entries, with_entry}
 use Rattle.scav_entries.specs.Living.{leader_sector, living_files, living_in, living_of}
-use Rattle.scav_entries.specs.Parting.{kept_among, kept_entries, lives_then}
+use Rattle.scav_entries.specs.Parting.{kept_among, kept_entries}
 use Rattle.scav_entries.proofs.LivingFiles.{living_found, living_rise}
 use Rattle.scav_entries.proofs.MendedEntries.{described_named}
-use Rattle.scav_names.specs.Parts.{AreInOrder, IsAlive, IsTrueBut, MayBeAddressed, StandsBefore, StandsThere, slot_of}
+use Rattle.scav_names.specs.Parts.{AreInOrder, IsAlive, MayBeAddressed, StandsBefore, StandsThere, slot_of}
 use Rattle.scav_names.specs.Roots.{AllEntered}
 use Rattle.scav_names.proofs.EnteringFirst.{found_live}
 

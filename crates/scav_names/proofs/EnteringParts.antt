@@ -1,15 +1,14 @@
 -- The parts of a mending of names, one after another.
-use Rattle.std.proofs.Common.{◌≡◌, ℕ, ◌+◌, ◌<◌, ◌^◌, List, [], length, Result, Ok, Err, refl, sym, ap, subst, ◌∙◌, arith}
+use Rattle.std.proofs.Common.{◌≡◌, ℕ, ◌+◌, ◌<◌, ◌^◌, List, [], length, Result, Ok, Err, sym, ap, subst, ◌∙◌, arith}
 use Rattle.std.specs.Prelude.{IfOk, IsErrOf}
-use Rattle.disk_records.specs.declared.records.Event.{Event}
 use Rattle.disk_records.specs.Packs.{Pack, after}
 use Rattle.disk_records.specs.Tapes.{Grown, Taped, added, pack}
 use Rattle.disk_records.proofs.Growing.{pack-after}
 use Rattle.laws_names.specs.Keeping.{AllKeepOpen}
 use Rattle.laws_names.proofs.joins.Laws.{nothing_keeps_open}
-use Rattle.laws_room.specs.NextLaws.{mended_pack}
+use Rattle.scav_entries.specs.laws_room.specs.NextLaws.{mended_pack}
 use Rattle.pack_model.specs.reading.Model.{root_items}
-use Rattle.pack_model.specs.scavenger.Reports.{NamesMended, adopted_files}
+use Rattle.pack_model.specs.scavenger.Reports.{NamesMended}
 use Rattle.scav_entries.specs.declared.catalogue.Catalogue.{Catalogue}
 use Rattle.scav_entries.specs.declared.living.Living.{Living}
 use Rattle.scav_entries.specs.declared.parted.Parted.{Parted}
@@ -19,6 +18,7 @@ use Rattle.scav_entries.specs.Lacking.{adopted_among, lacking_files}
 use Rattle.scav_entries.specs.Living.{living_files}
 use Rattle.scav_entries.specs.Parting.{IsParted, kept_entries, unkept_entries}
 use Rattle.scav_entries.specs.Rooms.{HasSlots}
+use Rattle.scav_pages.specs.Changes.{AllChange}
 use Rattle.scav_pages.specs.declared.errors.Stop.{Stop}
 use Rattle.scav_pages.specs.declared.errors.Stop.TheVariants.{Astray}
 use Rattle.scav_names.specs.Does.{Does}
@@ -39,6 +39,7 @@ read_does {a} {b} result grown silent found holds = record {
   leaves = by result holds;
   found = found;
   keeps = subst (AllKeepOpen (pack a)) (sym silent) (nothing_keeps_open (pack a));
+  changes = subst (AllChange (pack a)) (sym silent) tt;
 }
   where
     by : (r : Result Catalogue Stop) → IfOk r (HoldsNames (pack a)) → IfOk r (AreRead (pack a) (pack b))

@@ -1,5 +1,5 @@
 -- The words of the next entry, in its room.
-use Rattle.std.proofs.Common.{◌≡◌, ℕ, ◌+◌, ◌-◌, ◌/◌, ◌%◌, ◌<◌, ◌≤◌, Bool, true, false, cond, List, [], ◌∷◌, ◌++◌, length, drop, take, map, get_or, Option, Some, None, Result, Ok, Err, refl, sym, ap, subst, ◌∙◌, arith}
+use Rattle.std.proofs.Common.{◌≡◌, ℕ, ◌+◌, ◌-◌, ◌/◌, ◌<◌, ◌≤◌, Bool, true, false, cond, List, [], ◌∷◌, ◌++◌, length, drop, take, map, get_or, Option, Some, None, Result, Ok, Err, refl, sym, ap, subst, ◌∙◌, arith}
 use Rattle.std.specs.Prelude.{IfOk}
 use Rattle.std.specs.Option.{is_some}
 use Rattle.std.proofs.lemmas.Bool.Decides.{nat_tests}
@@ -11,23 +11,23 @@ use Rattle.dir_slots.proofs.Slots.{all_words-append}
 use Rattle.disk_records.specs.declared.records.Page.{Page}
 use Rattle.disk_records.specs.Packs.{Pack, after, carried, sector_at}
 use Rattle.disk_records.specs.Labels.{Tag, in_range, tag}
-use Rattle.laws_contents.proofs.pages.Laws.{page_numbers_are_words}
+use Rattle.scav_entries.specs.laws_contents.proofs.pages.Laws.{page_numbers_are_words}
 use Rattle.laws_names.specs.Keeping.{AllKeepOpen, KeepsOpen}
 use Rattle.laws_names.specs.WriteLaws.{CanBeEntered, EntryIsEntered, RoomIsWritten}
 use Rattle.laws_names.proofs.entries.Laws.{entries_stay_on, nothing_keeps_entries}
 use Rattle.laws_names.proofs.lacking.Laws.{next_may_be_entered}
 use Rattle.laws_names.proofs.parts.Laws.{mended_has_parts}
 use Rattle.laws_names.proofs.writes.Laws.{next_entry_is_entered, room_words_leave, written_words_stand}
-use Rattle.laws_operation.specs.NameLaws.{IsRoom}
-use Rattle.laws_operation.proofs.places.Laws.{file_lives_in_a_place}
-use Rattle.laws_record.proofs.Carried.{carries_within}
-use Rattle.laws_record.proofs.Roomy.{run_enough}
-use Rattle.laws_record.specs.DirLaws.{DirWrite, dir_written, entered}
-use Rattle.pack_laws.proofs.Carrying.{carried_shown}
-use Rattle.pack_laws.proofs.Guarding.{carried_parts}
-use Rattle.pack_laws.proofs.Keys.{is_fid-itself}
-use Rattle.pack_laws.proofs.Sighted.{length-sights}
-use Rattle.pack_laws.proofs.files.Laws.{places_are_lowest}
+use Rattle.scav_entries.specs.laws_operation.specs.NameLaws.{IsRoom}
+use Rattle.scav_entries.specs.laws_operation.proofs.places.Laws.{file_lives_in_a_place}
+use Rattle.scav_entries.specs.laws_record.proofs.Carried.{carries_within}
+use Rattle.scav_entries.specs.laws_record.proofs.Roomy.{run_enough}
+use Rattle.scav_entries.specs.laws_record.specs.DirLaws.{DirWrite, dir_written, entered}
+use Rattle.scav_entries.specs.pack_laws.proofs.Carrying.{carried_shown}
+use Rattle.scav_entries.specs.pack_laws.proofs.Guarding.{carried_parts}
+use Rattle.scav_entries.specs.pack_laws.proofs.Keys.{is_fid-itself}
+use Rattle.scav_entries.specs.pack_laws.proofs.Sighted.{length-sights}
+use Rattle.scav_entries.specs.pack_laws.proofs.files.Laws.{places_are_lowest}
 use Rattle.pack_model.specs.hints.Links.{dir_words}
 use Rattle.pack_model.specs.operations.PageWords.{in_page}
 use Rattle.pack_model.specs.operations.Rooms.{items_entered}

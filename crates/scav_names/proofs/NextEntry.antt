@@ -1,27 +1,23 @@
 -- Entries that SysDir lacks, entered one after another.
-use Rattle.std.proofs.Common.{◌≡◌, ℕ, suc, ◌+◌, ◌<◌, ◌≤◌, Bool, true, false, List, [], ◌∷◌, length, drop, get_or, add-one, drop-cons, map, Option, Some, None, Result, Ok, Err, refl, sym, ap, subst, ◌∙◌}
-use Rattle.std.specs.Prelude.{All}
+use Rattle.std.proofs.Common.{◌≡◌, ℕ, ◌+◌, ◌<◌, ◌≤◌, List, [], ◌∷◌, length, drop, get_or, add-one, drop-cons, None, Ok, refl, sym, ap, subst, ◌∙◌}
 use Rattle.std.proofs.lemmas.List.Elements.{All-tail}
 use Rattle.alto_words.specs.Fid.{sys_dir}
-use Rattle.alto_words.specs.declared.fid.Fid.{Fid}
 use Rattle.disk_records.specs.Packs.{Pack}
 use Rattle.disk_records.specs.Tapes.{Grown, Taped, pack}
 use Rattle.laws_names.specs.EntriesLaws.{EntriesStay}
 use Rattle.laws_names.proofs.entries.Laws.{entries_stay_on, nothing_keeps_entries}
 use Rattle.pack_model.specs.hints.Links.{dir_words}
 use Rattle.pack_model.specs.operations.Rooms.{find_room, items_entered}
-use Rattle.pack_model.specs.reading.Slots.{Item, entry_length, item_words, slots}
+use Rattle.pack_model.specs.reading.Slots.{entry_length, slots}
 use Rattle.pack_model.specs.reading.Slots.Item.{entry}
 use Rattle.scav_entries.specs.declared.living.Living.{Living}
 use Rattle.scav_entries.specs.declared.rooms.EntryRoom.{EntryRoom}
-use Rattle.scav_entries.specs.declared.rooms.Rooms.{Rooms}
 use Rattle.scav_entries.specs.Catalogues.{ArePagesOf}
 use Rattle.scav_entries.specs.Rooms.{HasRooms, IsFirstRoom}
-use Rattle.pack_model.specs.reading.Files.{place}
 use Rattle.scav_pages.specs.Free.{NoneFreeBelow}
 use Rattle.scav_names.specs.declared.root.Root.{Root}
 use Rattle.scav_names.specs.Does.{Does}
-use Rattle.scav_names.specs.Roots.{AllEntered, Entered, IsLed, EntryWritten, MayBeEntered, MayBeWidened, MayBeWritten, RoomMade, Widened}
+use Rattle.scav_names.specs.Roots.{AllEntered, Entered, IsLed, EntryWritten, MayBeEntered, MayBeWidened, RoomMade, Widened}
 use Rattle.scav_names.proofs.Going.{SoFar, so_far_does, so_far_here}
 
 -- ---- room for the next one

@@ -1,32 +1,29 @@
 -- The room for the next entry, made one free slot.
-use Rattle.std.proofs.Common.{◌≡◌, ℕ, suc, ◌+◌, ◌/◌, ◌<◌, ◌≤◌, List, [], ◌∷◌, ◌++◌, length, map, get_or, Some, refl, sym, ap, subst, ◌∙◌, arith}
+use Rattle.std.proofs.Common.{◌≡◌, ℕ, suc, ◌+◌, ◌/◌, ◌<◌, ◌≤◌, List, [], ◌∷◌, ◌++◌, length, map, get_or, refl, sym, ap, subst, ◌∙◌, arith}
 use Rattle.std.proofs.lemmas.List.Elements.{All-head}
 use Rattle.alto_words.specs.Fid.{sys_dir}
 use Rattle.dir_slots.proofs.Hands.{slots_within}
 use Rattle.dir_slots.proofs.Slots.{all_words-append}
 use Rattle.disk_records.specs.Packs.{Pack, after}
-use Rattle.laws_names.specs.EntriesLaws.{EntriesStay}
 use Rattle.laws_names.specs.Keeping.{AllKeepOpen, KeepsOpen}
 use Rattle.laws_names.specs.WriteLaws.{FoundRoom, NamesWritten, RoomIsOne}
 use Rattle.laws_names.proofs.entries.Laws.{nothing_keeps_entries}
 use Rattle.laws_names.proofs.writes.Laws.{room_is_found, room_is_made_one}
-use Rattle.laws_operation.specs.NameLaws.{IsRoom}
-use Rattle.laws_record.proofs.Roomy.{run_enough}
-use Rattle.laws_record.specs.DirLaws.{dir_written, freed}
-use Rattle.laws_room.specs.NextLaws.{LackingNext}
-use Rattle.pack_laws.proofs.Bytes.{length-put_at}
+use Rattle.scav_entries.specs.laws_operation.specs.NameLaws.{IsRoom}
+use Rattle.scav_entries.specs.laws_record.proofs.Roomy.{run_enough}
+use Rattle.scav_entries.specs.laws_record.specs.DirLaws.{dir_written, freed}
+use Rattle.scav_entries.specs.pack_laws.proofs.Bytes.{length-put_at}
 use Rattle.pack_model.specs.hints.Links.{dir_words}
 use Rattle.pack_model.specs.operations.PageWords.{in_page}
-use Rattle.pack_model.specs.operations.Rooms.{items_entered}
 use Rattle.pack_model.specs.reading.Files.{place}
 use Rattle.pack_model.specs.reading.Sights.{sights}
-use Rattle.pack_model.specs.reading.Slots.{Item, all_words, entry_length, item_words, slots}
-use Rattle.pack_model.specs.reading.Slots.Item.{entry, space}
+use Rattle.pack_model.specs.reading.Slots.{all_words, entry_length, slots}
+use Rattle.pack_model.specs.reading.Slots.Item.{space}
 use Rattle.scav_entries.specs.declared.living.Living.{Living}
 use Rattle.scav_entries.specs.declared.rooms.EntryRoom.{EntryRoom}
 use Rattle.scav_entries.specs.Lacking.{entry_for}
 use Rattle.scav_names.specs.declared.root.Root.{Root}
-use Rattle.scav_names.specs.Roots.{IsLed, KnowsPages, MayBeFilled, MayBeWritten, RoomMadeOne}
+use Rattle.scav_names.specs.Roots.{IsLed, KnowsPages, MayBeWritten, RoomMadeOne}
 use Rattle.scav_names.specs.Words.{page_writes}
 use Rattle.scav_names.proofs.Order.{divided}
 use Rattle.scav_names.proofs.RootPages.{root_page}

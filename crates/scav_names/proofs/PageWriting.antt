@@ -1,6 +1,6 @@
 -- Words of directories that stand in the page of one row, written one after another.
-use Rattle.std.proofs.Common.{◌≡◌, ◌≢◌, ℕ, suc, ◌+◌, ◌/◌, ◌≤◌, Bool, true, false, IsTrue, List, [], ◌∷◌, ◌++◌, append_assoc, Option, Some, None, Result, Ok, Err, refl, sym, ap, subst, ◌∙◌, arith}
-use Rattle.std.specs.Prelude.{IsErrAnd, IsErrOf, OnOk, cond, drop, length, nat_eq, nat_le, take}
+use Rattle.std.proofs.Common.{◌≡◌, ◌≢◌, ℕ, ◌+◌, ◌/◌, Bool, true, false, List, [], ◌∷◌, ◌++◌, append_assoc, Some, None, Result, Ok, Err, refl, sym, ap, subst, ◌∙◌, arith}
+use Rattle.std.specs.Prelude.{IsErrAnd, cond, drop, length, nat_eq, nat_le, take}
 use Rattle.std.specs.Cmp.Lexicographic.{pointwise}
 use Rattle.std.specs.Option.{option_map_or}
 use Rattle.alto_words.specs.declared.fid.Fid.{Fid}
@@ -12,10 +12,10 @@ use Rattle.disk_records.specs.Packs.{Pack, after, carried, sector_at}
 use Rattle.disk_records.specs.Tapes.{Grown, Taped, added, pack}
 use Rattle.disk_records.proofs.FirstOnes.{first_all, first_front, first_then}
 use Rattle.disk_records.proofs.Growing.{added-twice, grown_here, grown_twice, nothing_added, pack-after}
-use Rattle.laws_operation.specs.PlaceLaws.{SamePlaces}
-use Rattle.laws_operation.proofs.places.Laws.{values_keep_places}
-use Rattle.pack_laws.proofs.guards.Laws.{value_writes_keep_the_page}
-use Rattle.pack_laws.proofs.files.Laws.{places_are_lowest}
+use Rattle.scav_entries.specs.laws_operation.specs.PlaceLaws.{SamePlaces}
+use Rattle.scav_entries.specs.laws_operation.proofs.places.Laws.{values_keep_places}
+use Rattle.scav_entries.specs.pack_laws.proofs.guards.Laws.{value_writes_keep_the_page}
+use Rattle.scav_entries.specs.pack_laws.proofs.files.Laws.{places_are_lowest}
 use Rattle.pack_model.specs.operations.PageWords.{in_page}
 use Rattle.pack_model.specs.reading.Bytes.{put_at}
 use Rattle.pack_model.specs.reading.Files.{place}
@@ -28,7 +28,7 @@ use Rattle.scav_pages.proofs.Doing.{error_is}
 use Rattle.scav_pages.proofs.Passing.{value_at, writes_here, writes_twice}
 use Rattle.scav_table.specs.declared.row.Row.{Row}
 use Rattle.scav_names.specs.declared.words.DirWord.{DirWord}
-use Rattle.scav_names.specs.Words.{IsInWords, PageIsWritten, WritesInPage, WritesPageWords, page_with, page_writes, word_writes, words_writes}
+use Rattle.scav_names.specs.Words.{IsInWords, WritesInPage, WritesPageWords, page_with, page_writes, word_writes, words_writes}
 
 -- ---- the record writes of one word
 -- the page with a word
@@ -66,6 +66,10 @@ page_written_more {b = b} {c = c} at from words page x grown is =
     let now : pack c ≡ after (pack b) (page_writes (pack b) at from words) = pack-after grown ∙ ap (after (pack b)) is in
     let more = subst (WritesPage at page (pack b)) (sym now) (page_written (pack b) at from words page x.carries) in
     record { written = writes_twice x.written more.written; was = x.was; carries = more.carries }
+
+-- a call that does all of its record writes
+pub all_done : {T : Type 0} {a b : Taped} {writes : List Event} (value : T) → added a b ≡ writes → WritesPageWords writes a b (Ok value)
+all_done {a = a} {b = b} {writes = writes} value is = record { some = subst (IsFirstOf writes) (sym is) (first_all writes); ok = is; found = λ astray. cc }
 
 -- ---- so far
 -- those from the one numbered `done` up to the one numbered `more` are written

@@ -1,12 +1,12 @@
 -- The sectors of SysDir's data pages, in memory.
-use Rattle.std.proofs.Common.{◌≡◌, ◌≢◌, ℕ, suc, ◌+◌, ◌/◌, ◌<◌, ◌≤◌, List, length, get_or, add-one, Some, None, refl, sym, ap, ◌∙◌, arith}
+use Rattle.std.proofs.Common.{◌≡◌, ℕ, ◌+◌, ◌/◌, ◌<◌, ◌≤◌, List, length, get_or, add-one, Some, refl, ap, ◌∙◌}
 use Rattle.alto_words.specs.Fid.{sys_dir}
 use Rattle.disk_records.specs.declared.records.Page.{Page}
 use Rattle.disk_records.specs.Addresses.{pages_of}
 use Rattle.disk_records.specs.Packs.{Pack, carried, sector_at}
 use Rattle.disk_records.specs.Words.{word}
-use Rattle.laws_contents.proofs.pages.Laws.{page_numbers_are_words}
-use Rattle.pack_laws.proofs.files.Laws.{places_are_lowest}
+use Rattle.scav_entries.specs.laws_contents.proofs.pages.Laws.{page_numbers_are_words}
+use Rattle.scav_entries.specs.pack_laws.proofs.files.Laws.{places_are_lowest}
 use Rattle.pack_model.specs.reading.Files.{place}
 use Rattle.pack_model.specs.reading.Sights.{sights}
 use Rattle.scav_entries.specs.Catalogues.{ArePagesOf}

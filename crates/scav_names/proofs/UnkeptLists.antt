@@ -1,13 +1,12 @@
 -- Entries in order, and the first of them that isn't kept.
-use Rattle.std.proofs.Common.{◌≡◌, ◌⊎◌, inl, inr, ℕ, zero, suc, ◌<◌, Bool, true, false, cond, List, [], ◌∷◌, ◌++◌, length, refl, sym, ap, subst, ◌∙◌, arith}
+use Rattle.std.proofs.Common.{◌≡◌, ◌⊎◌, inl, inr, zero, suc, Bool, true, false, cond, List, [], ◌∷◌, ◌++◌, refl, sym, ap, subst, ◌∙◌, arith}
 use Rattle.std.specs.Prelude.{All, Contains}
 use Rattle.std.specs.Cmp.{tied_itself}
-use Rattle.std.specs.declared.cmp.Ordering.{Ordering}
 use Rattle.std.specs.declared.cmp.Ordering.TheVariants.{Less, Equal}
 use Rattle.std.proofs.lemmas.List.Elements.{All-cons, All-contains, All-head, All-tail, Contains-append_cases, Contains-append_left, Contains-append_right}
 use Rattle.alto_words.specs.declared.fid.Fid.{Fid}
 use Rattle.alto_words.specs.Fid.{fid_cmp}
-use Rattle.pack_laws.proofs.Keys.{fid_total}
+use Rattle.scav_entries.specs.pack_laws.proofs.Keys.{fid_total}
 use Rattle.pack_model.specs.reading.Namings.{Naming, is_kept}
 use Rattle.scav_entries.specs.declared.placed.PlacedEntry.{PlacedEntry}
 use Rattle.scav_entries.specs.Catalogues.{naming_of}

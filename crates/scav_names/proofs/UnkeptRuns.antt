@@ -1,5 +1,5 @@
 -- All slots of entries that aren't kept are made free, one after another.
-use Rattle.std.proofs.Common.{◌≡◌, inl, inr, ℕ, ◌+◌, ◌/◌, ◌<◌, ◌≤◌, Bool, true, false, cond, List, [], ◌∷◌, ◌++◌, length, get_or, map, refl, sym, ap, subst, ◌∙◌, arith}
+use Rattle.std.proofs.Common.{◌≡◌, inl, inr, ℕ, ◌+◌, ◌/◌, Bool, true, false, cond, List, [], ◌∷◌, length, map, refl, sym, ap, subst, ◌∙◌, arith}
 use Rattle.std.specs.Prelude.{All}
 use Rattle.std.specs.Option.{option_map_or}
 use Rattle.std.specs.FinMap.{entries}
@@ -9,15 +9,12 @@ use Rattle.dir_slots.proofs.Hands.{slots_within}
 use Rattle.dir_slots.proofs.Slots.{all_words-append}
 use Rattle.disk_records.specs.Packs.{Pack, after}
 use Rattle.disk_records.proofs.Growing.{after-append}
-use Rattle.laws_names.specs.EntriesLaws.{SplitsAt}
 use Rattle.laws_names.specs.Keeping.{AllKeepOpen}
 use Rattle.laws_names.proofs.entries.Laws.{leaders_are_listed, slot_splits}
 use Rattle.laws_names.proofs.joins.Laws.{keeps_open_join, nothing_keeps_open}
 use Rattle.laws_names.proofs.models.Laws.{mended_lives}
 use Rattle.laws_names.proofs.parts.Laws.{mended_has_parts}
-use Rattle.laws_record.proofs.Addressing.{entry_words_many}
-use Rattle.laws_record.specs.DirLaws.{Frees}
-use Rattle.laws_room.specs.NextLaws.{mended_pack}
+use Rattle.scav_entries.specs.laws_record.proofs.Addressing.{entry_words_many}
 use Rattle.pack_model.specs.hints.Links.{dir_words}
 use Rattle.pack_model.specs.operations.PageWords.{in_page}
 use Rattle.pack_model.specs.reading.Bodies.{File, found}
@@ -26,10 +23,10 @@ use Rattle.pack_model.specs.reading.Leaders.{Leader}
 use Rattle.pack_model.specs.reading.Model.{root_items}
 use Rattle.pack_model.specs.reading.Namings.{AllKept, Naming, is_kept}
 use Rattle.pack_model.specs.reading.Sights.{sights}
-use Rattle.pack_model.specs.reading.Slots.{Item, all_words, item_words, slots}
+use Rattle.pack_model.specs.reading.Slots.{all_words, item_words, slots}
 use Rattle.pack_model.specs.reading.Slots.Item.{entry}
 use Rattle.pack_model.specs.scavenger.Mended.{lacking}
-use Rattle.pack_model.specs.scavenger.Reports.{PagesMended, adopted_files}
+use Rattle.pack_model.specs.scavenger.Reports.{PagesMended}
 use Rattle.pack_model.specs.sessions.Maps.{map_entries}
 use Rattle.pack_model.specs.showing.Settling.{given_names}
 use Rattle.pack_model.specs.showing.View.{view}
@@ -45,8 +42,8 @@ use Rattle.scav_names.specs.Parts.{AreInOrder, MayBeNamed, StandsBefore, StandsT
 use Rattle.scav_names.specs.Words as words
 use Rattle.scav_names.specs.Words.{AreWordsOf, ComesFirst, IsWordOf, freeing_word, page_writes, word_writes, words_writes}
 use Rattle.scav_names.proofs.EnteringLeft.{entries_stand}
-use Rattle.scav_names.proofs.UnkeptLists.{FirstUnkept, all_unkept, first_unkept, unkept_order}
-use Rattle.scav_names.proofs.UnkeptSlots.{StandsUnkept, kept_now, order_of, pack_freed, slot_freed, stands_unkept, unkept_frees, unkept_now}
+use Rattle.scav_names.proofs.UnkeptLists.{all_unkept, first_unkept, unkept_order}
+use Rattle.scav_names.proofs.UnkeptSlots.{kept_now, order_of, pack_freed, slot_freed, stands_unkept, unkept_frees, unkept_now}
 use Rattle.scav_names.proofs.WordRuns.{page_keeps, page_left}
 
 -- ---- none is left

@@ -1,36 +1,36 @@
 -- The slot of the first entry that isn't kept is made free: which entries the pack has then.
-use Rattle.std.proofs.Common.{◌≡◌, ◌⊎◌, inl, inr, ℕ, suc, ◌+◌, ◌/◌, ◌<◌, ◌≤◌, Bool, true, false, cond, List, [], ◌∷◌, ◌++◌, length, get_or, drop, map, refl, sym, ap, subst, ◌∙◌, append_assoc, arith}
+use Rattle.std.proofs.Common.{◌≡◌, inl, inr, ℕ, ◌+◌, ◌<◌, ◌≤◌, Bool, true, false, cond, List, [], ◌∷◌, ◌++◌, length, get_or, drop, refl, sym, ap, subst, ◌∙◌, append_assoc, arith}
 use Rattle.std.specs.Prelude.{All, Contains}
-use Rattle.std.specs.Option.{is_some, option_map, option_map_or}
+use Rattle.std.specs.Option.{is_some, option_map}
 use Rattle.std.specs.FinMap.{entries, entries_sorted}
 use Rattle.std.proofs.lemmas.List.Elements.{All-cons, All-contains, All-head, All-nil, All-tail, Contains-append_cases, Contains-append_right}
 use Rattle.alto_words.specs.declared.fid.Fid.{Fid}
-use Rattle.alto_words.specs.Fid.{fid_cmp, is_directory, is_fid}
+use Rattle.alto_words.specs.Fid.{fid_cmp, is_fid}
 use Rattle.dir_slots.proofs.Hands.{slots_within}
 use Rattle.dir_slots.proofs.Slots.{all_words-append}
 use Rattle.disk_records.specs.Packs.{Pack}
-use Rattle.laws_contents.proofs.words.Laws.{each_word_has_its_page}
-use Rattle.laws_lookup.proofs.Replacing.{range, replacing_turns_round, split_at, still}
+use Rattle.scav_entries.specs.laws_contents.proofs.words.Laws.{each_word_has_its_page}
+use Rattle.scav_entries.specs.laws_lookup.proofs.Replacing.{range, replacing_turns_round, split_at, still}
 use Rattle.laws_names.specs.ModelLaws.{kept_past}
 use Rattle.laws_names.specs.WriteLaws.{SlotIsFreed}
 use Rattle.laws_names.proofs.entries.Laws.{slot_splits}
 use Rattle.laws_names.proofs.models.Laws.{mended_lives, mended_slot}
 use Rattle.laws_names.proofs.writes.Laws.{unkept_slot_is_freed}
-use Rattle.laws_operation.proofs.places.Laws.{file_lives_in_a_place}
-use Rattle.laws_record.proofs.Addressing.{entry_words_many}
-use Rattle.laws_record.proofs.Around.{around}
-use Rattle.laws_record.proofs.DirReads.{has_leader}
-use Rattle.laws_record.proofs.Heads.{head_of, slots_cons}
-use Rattle.laws_record.proofs.Reading.{get-found, read_file}
-use Rattle.laws_record.specs.DirLaws.{Frees, freed}
-use Rattle.laws_room.specs.NextLaws.{mended_pack}
-use Rattle.pack_laws.proofs.ByLists.{found_list, puts}
-use Rattle.pack_laws.proofs.Keys.{fid_same, fid_total, same_fid}
+use Rattle.scav_entries.specs.laws_operation.proofs.places.Laws.{file_lives_in_a_place}
+use Rattle.scav_entries.specs.laws_record.proofs.Addressing.{entry_words_many}
+use Rattle.scav_entries.specs.laws_record.proofs.Around.{around}
+use Rattle.scav_entries.specs.laws_record.proofs.DirReads.{has_leader}
+use Rattle.scav_entries.specs.laws_record.proofs.Heads.{head_of, slots_cons}
+use Rattle.scav_entries.specs.laws_record.proofs.Reading.{get-found, read_file}
+use Rattle.scav_entries.specs.laws_record.specs.DirLaws.{Frees, freed}
+use Rattle.scav_entries.specs.laws_room.specs.NextLaws.{mended_pack}
+use Rattle.scav_entries.specs.pack_laws.proofs.ByLists.{found_list, puts}
+use Rattle.scav_entries.specs.pack_laws.proofs.Keys.{fid_same, fid_total, same_fid}
 use Rattle.pack_model.specs.hints.Links.{dir_slots, dir_words}
 use Rattle.pack_model.specs.operations.Rooms.{most_free}
 use Rattle.pack_model.specs.reading.Bodies.{File, body_of, file_of, found}
 use Rattle.pack_model.specs.reading.Bytes.{words_of}
-use Rattle.pack_model.specs.reading.Files.{file_bytes, lives, place}
+use Rattle.pack_model.specs.reading.Files.{file_bytes, lives}
 use Rattle.pack_model.specs.reading.Leaders.{Leader}
 use Rattle.pack_model.specs.reading.Model.{dir_items}
 use Rattle.pack_model.specs.reading.Namings.{Naming, is_kept, kept_after, kept_after_body}

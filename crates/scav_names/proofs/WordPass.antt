@@ -1,22 +1,20 @@
 -- A pass that writes words of directories: those in the pages up to the row in hand are written.
-use Rattle.std.proofs.Common.{◌≡◌, ◌≢◌, ◌⊎◌, inl, inr, ℕ, suc, ◌+◌, ◌*◌, ◌/◌, ◌<◌, ◌≤◌, ◌==◌, nat_le, Bool, true, false, cond, IsTrue, List, [], ◌∷◌, ◌++◌, length, drop, get_or, add-one, drop-cons, append_assoc, Option, Some, None, Result, Ok, Err, refl, sym, ap, subst, ◌∙◌, arith}
-use Rattle.std.specs.Prelude.{IsErrAnd, IsErrOf}
+use Rattle.std.proofs.Common.{◌≡◌, ◌≢◌, ℕ, suc, ◌+◌, ◌*◌, ◌/◌, ◌<◌, ◌≤◌, ◌==◌, nat_le, Bool, true, false, cond, IsTrue, List, ◌∷◌, ◌++◌, length, drop, get_or, drop-cons, append_assoc, Option, Some, None, Result, Ok, refl, sym, ap, subst, ◌∙◌, arith}
+use Rattle.std.specs.Prelude.{IsErrAnd}
 use Rattle.std.proofs.lemmas.Bool.Decides.{nat_tests}
 use Rattle.std.proofs.lemmas.List.{append-nil, drop_all}
-use Rattle.disk_records.specs.declared.records.Event.{Event}
 use Rattle.disk_records.specs.declared.records.Page.{Page}
 use Rattle.disk_records.specs.Events.{IsFirstOf}
 use Rattle.disk_records.specs.Labels.{page_of}
 use Rattle.disk_records.specs.Packs.{Pack, carried, is_usable, sector_at}
 use Rattle.disk_records.specs.Tapes.{Grown, Looks, Taped, added, pack}
 use Rattle.disk_records.specs.Words.{word}
-use Rattle.disk_records.proofs.FirstOnes.{first_all, first_front, first_then}
-use Rattle.disk_records.proofs.Growing.{added-twice, grown_here, grown_twice, nothing_added}
+use Rattle.disk_records.proofs.FirstOnes.{first_then}
+use Rattle.disk_records.proofs.Growing.{added-twice, grown_twice}
 use Rattle.disk_records.proofs.Looking.{looks_pack}
-use Rattle.laws_contents.proofs.pages.Laws.{carried_once_is_in_place, once_is_by_labels, page_numbers_are_words}
-use Rattle.laws_contents.proofs.words.Laws.{each_word_has_its_page}
-use Rattle.pack_laws.proofs.files.Laws.{places_are_lowest}
-use Rattle.pack_model.specs.reading.Files.{place}
+use Rattle.scav_entries.specs.laws_contents.proofs.pages.Laws.{carried_once_is_in_place, once_is_by_labels, page_numbers_are_words}
+use Rattle.scav_entries.specs.laws_contents.proofs.words.Laws.{each_word_has_its_page}
+use Rattle.scav_entries.specs.pack_laws.proofs.files.Laws.{places_are_lowest}
 use Rattle.pack_model.specs.reading.Sights.{sights}
 use Rattle.pack_model.specs.states.Sentences.{EachOnce}
 use Rattle.scav_pages.specs.declared.errors.Stop.{Stop}
@@ -25,15 +23,15 @@ use Rattle.scav_pages.specs.Links.{WritesPage}
 use Rattle.scav_pages.specs.Walks.{AreWords, IsSeated}
 use Rattle.scav_pages.proofs.Doing.{error_is}
 use Rattle.scav_pages.proofs.Passing.{carried_row, contrary, passed_page, row_carried, row_stays, stands_over}
-use Rattle.scav_pages.proofs.Ranking.{isnt_lower, page_rank, rank_is, row_ranged, same_pages, same_sector, words_of}
-use Rattle.scav_table.specs.Laws.{IsFirstAbove, IsNextRow, WritesAt}
+use Rattle.scav_pages.proofs.Ranking.{isnt_lower, page_rank, rank_is, row_ranged, same_pages, same_sector}
+use Rattle.scav_table.specs.Laws.{IsFirstAbove, IsNextRow}
 use Rattle.scav_table.specs.Passes.{IsPassed, Stands}
-use Rattle.scav_table.specs.Rows.{is_above, is_below, rank, row_at}
+use Rattle.scav_table.specs.Rows.{is_above, is_below, row_at}
 use Rattle.scav_table.specs.Windows.{Window}
 use Rattle.scav_table.specs.declared.pass.Pass.{Pass as RowPass}
 use Rattle.scav_table.specs.declared.row.Row.{Row}
 use Rattle.scav_names.specs.declared.words.DirWord.{DirWord}
-use Rattle.scav_names.specs.Words.{AreWordsOf, IsInWords, IsWordOf, PageIsWritten, WritesInPage, WritesPageWords, WritesWords, page_with, word_page, words_writes}
+use Rattle.scav_names.specs.Words.{AreWordsOf, IsInWords, IsWordOf, WritesInPage, WritesWords, page_with, word_page, words_writes}
 use Rattle.scav_names.proofs.Order.{page_rises, rises_at}
 
 -- ---- words that are still to come
@@ -207,10 +205,6 @@ words_part {a} {b} {c} {words = words} {done = done} e result x grown some found
   ok = tt;
   found = λ astray. (let same : e ≡ Astray = cc in found same);
 })
-
--- or all of them
-pub words_all : {T : Type 0} {a b : Taped} (words : List DirWord) (value : T) → added a b ≡ words_writes (pack a) words → WritesWords words a b (Ok value)
-words_all {a = a} {b = b} words value is = record { some = subst (IsFirstOf (words_writes (pack a) words)) (sym is) (first_all (words_writes (pack a) words)); ok = is; found = λ astray. cc }
 
 -- none are, in a call that only looks
 pub words_quiet : {told : Bool} {most done : ℕ} {a b c : Taped} {T : Type 0} {words : List DirWord} {last : Option Row} (e : Stop) (result : Result T Stop) → WordsPassed words a b last done → Looks told most b c → IsTrue told → (e ≡ Astray → ⊥) → IsErrAnd result (λ s. s ≡ e) → WritesWords words a c result

@@ -3,3 +3,9 @@ pub mod Mending
 pub mod Parts
 pub mod Roots
 pub mod Words
+pub use Rattle.scav_entries.specs.pack_laws
+pub use Rattle.scav_entries.specs.laws_record
+pub use Rattle.scav_entries.specs.laws_contents
+pub use Rattle.scav_entries.specs.laws_operation
+pub use Rattle.scav_entries.specs.laws_room
+pub use Rattle.scav_entries.specs.laws_mend

@@ -5,7 +5,7 @@ use Rattle.std.specs.declared.cmp.Ordering.TheVariants.{Less}
 use Rattle.alto_words.specs.declared.fid.Fid.{Fid}
 use Rattle.alto_words.specs.Fid.{fid_cmp, is_directory}
 use Rattle.disk_records.specs.Packs.{Pack}
-use Rattle.laws_room.specs.NextLaws.{Lacking, mended_pack}
+use Rattle.scav_entries.specs.laws_room.specs.NextLaws.{Lacking, mended_pack}
 use Rattle.pack_model.specs.hints.Links.{IsTrueAddress, dir_slots}
 use Rattle.pack_model.specs.reading.Files.{lives, place}
 use Rattle.pack_model.specs.reading.Model.{root_items}

@@ -5,19 +5,18 @@ use Rattle.alto_words.specs.Fid.{is_full_name, sys_dir}
 use Rattle.alto_words.specs.Names.{is_stored_name}
 use Rattle.disk_records.specs.declared.records.Event.{Event}
 use Rattle.disk_records.specs.declared.records.Page.{Page}
-use Rattle.disk_records.specs.Commands.{claim_writes}
+use Rattle.disk_records.specs.Commands.{relabel_writes}
 use Rattle.disk_records.specs.Labels.{label_of}
 use Rattle.disk_records.specs.Packs.{Pack, sector_at}
 use Rattle.disk_records.specs.Words.{word}
 use Rattle.laws_names.specs.EntriesLaws.{EntriesStay}
-use Rattle.laws_operation.specs.NameLaws.{IsRoom}
-use Rattle.laws_room.specs.NextLaws.{Lacking, LackingNext}
-use Rattle.pack_model.specs.hints.Links.{IsTrueAddress, dir_slots, dir_words}
+use Rattle.scav_entries.specs.laws_operation.specs.NameLaws.{IsRoom}
+use Rattle.scav_entries.specs.laws_room.specs.NextLaws.{Lacking, LackingNext}
+use Rattle.pack_model.specs.hints.Links.{dir_words}
 use Rattle.pack_model.specs.operations.PageWords.{entered_words, filled}
 use Rattle.pack_model.specs.operations.Rooms.{find_room, items_entered}
-use Rattle.pack_model.specs.reading.Files.{lives, place}
+use Rattle.pack_model.specs.reading.Files.{place}
 use Rattle.pack_model.specs.reading.Sights.{sights}
-use Rattle.pack_model.specs.reading.SlotWords.{SlotAt}
 use Rattle.pack_model.specs.reading.Slots.{Item, all_words, entry_length, slots}
 use Rattle.pack_model.specs.reading.Slots.Item.{entry, space}
 use Rattle.pack_model.specs.scavenger.Reports.{PagesMended}
@@ -27,10 +26,10 @@ use Rattle.scav_entries.specs.declared.living.Living.{Living}
 use Rattle.scav_entries.specs.declared.rooms.EntryRoom.{EntryRoom}
 use Rattle.scav_entries.specs.Catalogues.{ArePagesOf}
 use Rattle.scav_entries.specs.Lacking.{entry_for}
-use Rattle.scav_entries.specs.Living.{living_files}
 use Rattle.scav_entries.specs.Rooms.{HasRooms, IsFirstRoom}
 use Rattle.scav_pages.specs.Free.{NoneFreeBelow}
 use Rattle.scav_names.specs.declared.root.Root.{Root}
+use Rattle.scav_names.specs.Words.{changed_writes}
 
 -- ---- what is known of it
 -- in memory are the sectors of all its data pages, and a sector below which none is free
@@ -69,10 +68,16 @@ pub record Widened (old new : Root) (todo : List Living) (p q : Pack) (done : Un
   pub stay : EntriesStay p q
   pub room : (next : Living) (rest : List Living) → todo ≡ next ∷ rest → find_room (entry_length (length next.name)) (slots (dir_words q sys_dir)) ≢ None
 
--- A last page, of whose words so many count, gets a free slot of 256 words after them: the value with its first word and zeros, and then a
+-- the value of a page of whose words so many count, with the first word of a free slot of 256 words after them, and zeros after that
+abbrev pub lengthened_value : ℕ → List ℕ → List ℕ
+lengthened_value used value = filled 256 (take used value ++ 256 ∷ [])
+
+-- A last page, of whose words so many count, gets a free slot of 256 words after them: that value, unless it stands there already, and then a
 -- label that counts all words and names this next page, with the equal value again.
 abbrev pub lengthening_writes : Pack → ℕ → Page → ℕ → ℕ → List Event
-lengthening_writes p at page used next = claim_writes at (label_of page 512 next (word (sector_at p at).label 1)) (filled 256 (take used (sector_at p at).value ++ 256 ∷ []))
+lengthening_writes p at page used next =
+    let value : List ℕ = lengthened_value used (sector_at p at).value in
+    changed_writes at (sector_at p at).value value ++ relabel_writes at (label_of page 512 next (word (sector_at p at).label 1)) value
 
 -- a room was found for the first one that is lacking
 pub record MayBeWritten (p : Pack) (root : Root) (next : Living) (todo : List Living) (room : EntryRoom) : Type 0 where

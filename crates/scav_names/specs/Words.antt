@@ -40,6 +40,10 @@ word_page w = record { fid = w.dir; number = w.place / 256 + 1 }
 abbrev pub page_writes : Pack → ℕ → ℕ → List ℕ → List Event
 page_writes p at from words = cond (pointwise nat_eq (take (length words) (drop from (sector_at p at).value)) words) [] (value_writes at (put_at from words (sector_at p at).value))
 
+-- another value of a sector: none where that one stands there
+abbrev pub changed_writes : ℕ → List ℕ → List ℕ → List Event
+changed_writes at old new = cond (pointwise nat_eq old new) [] (value_writes at new)
+
 -- one word of a directory, in the sector of its page
 abbrev pub word_writes : Pack → DirWord → List Event
 word_writes p w = page_writes p (option_map_or (λ at. at) (place (sights p) w.dir (w.place / 256 + 1)) 0) (in_page w.place) (w.word ∷ [])

@@ -6,7 +6,9 @@
 //! 1. At each crash point, whatever the answer, also between two entries, what is shown is as before, and so are the available sectors less
 //!    the needed ones; the pack can be scavenged; it isn't clean if it had no clean mark before (`kept`, `unclean`).
 //! 2. At Ok the pages are mended still, every entry is kept, every living file has one, and every address is true (`mended`).
-//! 3. The answer is the number of files that got a name, the system files aside (`adopted`).
+//! 3. The answer is the number of files that got a name, the system files aside (`adopted_is`).
+//! 4. Whatever the answer, each record write changes what stands: no label is written that stands already, and no value either, except in a
+//!    free sector or with its sector's label (`changes`).
 //!
 //! On every machine a fault is answered only if its count rose (`cause`).
 //! Not promised: that no list of pages is kept beside names and slots; which memory it takes is said by no clause. On a machine that isn't

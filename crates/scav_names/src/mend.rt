@@ -38,11 +38,12 @@ fn count_adopted(files: &[Living]) -> u32
 /// Mends the names of a pack that can be scavenged and whose pages are mended, at whatever window the table is: makes the slots of entries
 /// free that aren't kept, enters the system files in SysDir if they have no entry there, and then each nameless file by rising full name, under its
 /// leader's name or the first suffix of that which isn't taken, and makes the addresses of all entries true. SysDir gets a page more for an
-/// entry that has no room. Answers how many files got a name, the system files aside. A record write that would change nothing isn't made.
-/// What it keeps in memory are names and slots.
+/// entry that has no room. Answers how many files got a name, the system files aside. No label is written that stands already, and no value
+/// either, except in a free sector or with its sector's label. What it keeps in memory are names and slots.
 ///
-/// DiskFault: the disk failed. Memory: none was left for names and slots, or for record writes of the disk. After either of them a prefix of the
-/// work is done, and the pack can be scavenged again.
+/// DiskFault: the disk failed. Memory: none was left for names and slots, or for record writes of the disk; or, on a disk that isn't modelled, a
+/// sector shows another page than a moment ago, or none is free where one has to be. After either of them a prefix of the work is done, and the
+/// pack can be scavenged again.
 pub fn mend_names<D: Disk>(
     alloc: Global,
     disk: &mut D,
@@ -54,7 +55,7 @@ pub fn mend_names<D: Disk>(
 {
     match mend(alloc, disk, table) {
         Ok(adopted) => Ok(adopted),
-        // on a machine that isn't modelled: nothing more is written
+        // this never comes of a machine that is modelled
         Err(Stop::Astray) => Err(SweepError::Memory),
         Err(Stop::DiskFault) => Err(SweepError::DiskFault),
         Err(Stop::Memory) => Err(SweepError::Memory),

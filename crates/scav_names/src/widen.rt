@@ -1,6 +1,5 @@
 // SysDir gets a page more.
-ghost use Rattle.std.specs.Prelude.{◌≡◌, ◌≤◌, ◌<◌, ◌+◌, ◌^◌, ◌∷◌, ◌++◌, [], take, true, Some, IsTrue, IfErr, OnOk};
-ghost use Rattle.pack_model.specs.operations.PageWords.{filled};
+ghost use Rattle.std.specs.Prelude.{◌≡◌, ◌≤◌, ◌<◌, ◌+◌, ◌^◌, ◌∷◌, ◌++◌, [], true, Some, IsTrue, IfErr, OnOk};
 ghost use Rattle.pack_model.specs.reading.Slots.{Item, all_words};
 ghost use Rattle.pack_model.specs.scavenger.Mended.{with_page};
 ghost use Rattle.scav_entries.specs.Rooms.{HasRooms};
@@ -12,21 +11,21 @@ ghost use Rattle.disk_records.specs.Tapes.{DiskAlone, pack};
 ghost use Rattle.scav_entries.specs.declared.living.Living.{Living as File};
 ghost use Rattle.scav_pages.specs.Stops.{cause_of_stop};
 ghost use Rattle.scav_names.specs.Does.{Does};
-ghost use Rattle.scav_names.specs.Roots.{MayBeWidened, Widened, lengthening_writes};
+ghost use Rattle.scav_names.specs.Roots.{MayBeWidened, Widened, lengthened_value, lengthening_writes};
 ghost use Rattle.scav_names.specs.Words.{WritesPageWords};
 ghost use Rattle.std.specs.Prelude.{List};
 
 use crate::root::Root;
-use crate::words::PAGE_WORDS;
+use crate::words::{PAGE_WORDS, put_value};
 use disk_records::{Disk, PAGE_BYTES, Page, Sector, label_of};
-use label_check::{claim, read_page, relabel, write_value};
+use label_check::{claim, read_page, relabel};
 use scav_pages::{Stop, next_free};
 
 /// A link at either end of a file.
 const NO_LINK: u16 = 0xFFFF;
 
 /// Gives SysDir a page more, a free slot of 256 words after all others: the new last page is claimed at the lowest free sector, the words are
-/// written in the old one past its count, and then its label counts them.
+/// written in the old one past its count unless they stand there, and then its label counts them.
 pub(crate) fn widen_root<D: Disk>(disk: &mut D, root: &mut Root) -> Result<(), Stop>
     requires first { 1 ≤ root.old.from }
     ensures does { IsTrue D.told → (todo : List File) → MayBeWidened (pack (D.tape disk.old)) root.old todo → Does (Widened root.old root.new todo) (D.tape disk.old) (D.tape disk.new) result }
@@ -52,8 +51,8 @@ pub(crate) fn widen_root<D: Disk>(disk: &mut D, root: &mut Root) -> Result<(), S
     push_page(root, fresh)
 }
 
-/// Puts a free slot of 256 words after the words of a last page that count, and then gives it a label that counts all of its words, with a
-/// link to the page after it.
+/// Puts a free slot of 256 words after the words of a last page that count, if none stands there, and then gives it a label that counts all
+/// of its words, with a link to the page after it.
 fn lengthen<D: Disk>(disk: &mut D, at: u16, page: Page, used: u16, next: u16) -> Result<(), Stop>
     requires first { 1 ≤ at }
     requires place { at < pages_of (D.tape disk.old).form }
@@ -65,7 +64,8 @@ fn lengthen<D: Disk>(disk: &mut D, at: u16, page: Page, used: u16, next: u16) ->
 {
     let mut buf = Sector::ZEROS;
     let info = read_page(disk, at, page, &mut buf)?;
-    write_value(disk, at, page, &with_space(&buf.value, used))?;
+    let words = with_space(&buf.value, used);
+    put_value(disk, at, page, &buf.value, &words)?;
     let label = label_of(page, PAGE_BYTES, next, info.previous);
     relabel(disk, at, page, label)?;
     Ok(())
@@ -74,7 +74,7 @@ fn lengthen<D: Disk>(disk: &mut D, at: u16, page: Page, used: u16, next: u16) ->
 /// The value of a page with the first word of a free slot of 256 words at this word of it, and zeros after that.
 fn with_space(value: &[u16; 256], used: u16) -> [u16; 256]
     requires used { used < 256 }
-    ensures { result ≡ filled 256 (take used value.now ++ 256 ∷ []) }
+    ensures { result ≡ lengthened_value used value.now }
 {
     let used = usize::from(used);
     let mut words = [0; 256];

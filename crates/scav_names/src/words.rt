@@ -9,7 +9,7 @@ ghost use Rattle.pack_model.specs.reading.Bytes.{put_at};
 ghost use Rattle.scav_pages.specs.Stops.{cause_of_stop};
 ghost use Rattle.scav_pages.specs.Links.{WritesPage};
 ghost use Rattle.scav_pages.specs.Walks.{IsSeated};
-ghost use Rattle.scav_names.specs.Words.{AreWordsOf, IsInWords, WritesInPage, WritesPageWords, WritesWords, page_writes, page_with};
+ghost use Rattle.scav_names.specs.Words.{AreWordsOf, IsInWords, WritesInPage, WritesPageWords, WritesWords, changed_writes, page_writes, page_with};
 
 use alto_words::Fid;
 use disk_records::{Disk, Page, Sector};
@@ -75,6 +75,26 @@ fn put_in_value(value: &mut [u16; 256], from: usize, words: &[u16]) -> bool
     let same = *old == *words;
     old.copy_from_slice(words);
     !same
+}
+
+/// Writes a page's value, given the one that stands there: one value write, and none if they are equal.
+pub(crate) fn put_value<D: Disk>(
+    disk: &mut D,
+    at: u16,
+    page: Page,
+    old: &[u16; 256],
+    new: &[u16; 256],
+) -> Result<(), Stop>
+    requires first { 1 ≤ at }
+    requires place { at < pages_of (D.tape disk.old).form }
+    ensures writes { IsTrue D.told → carried (pack (D.tape disk.old)) at ≡ Some page → WritesPageWords (changed_writes at old.now new.now) (D.tape disk.old) (D.tape disk.new) result }
+    ensures cause { HasCause cause_of_stop (D.tape disk.old) (D.tape disk.new) result }
+    ensures alone { DiskAlone (D.tape disk.old) (D.tape disk.new) }
+{
+    if *old != *new {
+        write_value(disk, at, page, new)?;
+    }
+    Ok(())
 }
 
 /// Writes those of these words from the one numbered `done` on that stand in the page of a row. Answers how many are done then.

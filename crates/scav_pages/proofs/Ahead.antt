@@ -3,7 +3,7 @@ use Rattle.std.proofs.Common.{◌≡◌, ℕ, ◌+◌, ◌-◌, ◌<◌, ◌≤�
 use Rattle.disk_records.specs.Addresses.{pages_of}
 use Rattle.disk_records.specs.Packs.{Pack}
 use Rattle.disk_records.specs.Tapes.{Taped, pack}
-use Rattle.pack_laws.proofs.Sighted.{length-sights}
+use Rattle.laws_mend.specs.pack_laws.proofs.Sighted.{length-sights}
 use Rattle.pack_model.specs.reading.Sights.{sights}
 use Rattle.pack_model.specs.states.InUse.{free_sector_count, how_many, is_free_sight, one_if}
 use Rattle.laws_mend.specs.Parts.{FreesMore}

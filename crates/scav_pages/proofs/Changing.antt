@@ -11,7 +11,7 @@ use Rattle.disk_records.specs.Events.{IsFirstOf}
 use Rattle.disk_records.specs.Labels.{is_free, page_of, tag}
 use Rattle.disk_records.specs.Packs.{Pack, after, carried, is_free_at, is_usable, no_sector, sector_at, with_part}
 use Rattle.disk_records.specs.Words.{word}
-use Rattle.pack_laws.proofs.Guarding.{carried_parts, free_parts, free_unnamed, ones_free, usable_within}
+use Rattle.laws_mend.specs.pack_laws.proofs.Guarding.{carried_parts, free_parts, free_unnamed, ones_free, usable_within}
 use Rattle.laws_mend.proofs.joins.Laws.{nothing_tends, tends_breaks_off, tends_join}
 use Rattle.scav_pages.specs.Changes.{AllChange, AllMend, ChangeAfter, labelled_by}
 
@@ -22,12 +22,12 @@ after_label labelled p [] all = tt
 after_label labelled p (Wrote at part words ∷ events) all = (record { label = all.0.label; value = λ is busy apart. all.0.value is busy (λ none. cc) }, all.1)
 after_label labelled p (Shown byte ∷ events) all = after_label labelled p events all
 
-change_join : (labelled : Option ℕ) (p : Pack) (a b : List Event) → ChangeAfter labelled p a → AllChange (after p a) b → ChangeAfter labelled p (a ++ b)
+pub change_join : (labelled : Option ℕ) (p : Pack) (a b : List Event) → ChangeAfter labelled p a → AllChange (after p a) b → ChangeAfter labelled p (a ++ b)
 change_join labelled p [] b one two = after_label labelled p b two
 change_join labelled p (Wrote at part words ∷ a) b one two = (one.0, change_join (labelled_by at part) (after p (Wrote at part words ∷ [])) a b one.1 two)
 change_join labelled p (Shown byte ∷ a) b one two = change_join labelled p a b one two
 
-change_first : (labelled : Option ℕ) (p : Pack) (events some : List Event) → IsFirstOf events some → ChangeAfter labelled p events → ChangeAfter labelled p some
+pub change_first : (labelled : Option ℕ) (p : Pack) (events some : List Event) → IsFirstOf events some → ChangeAfter labelled p events → ChangeAfter labelled p some
 change_first labelled p events [] is all = tt
 change_first labelled p [] (e ∷ some) is all = absurd is
 change_first labelled p (Wrote at part words ∷ events) (e ∷ some) is all =
@@ -74,15 +74,15 @@ busy_release_changes p at usable busy = relabel_changes p at (ones 8) (ones 256)
     let wrong : true ≡ false = sym (λ i. cond (usable i) (free i) false) ∙ busy in
     cc))
 
--- the label of a free sector whose value is written stays
-label_stays : (p : Pack) (at : ℕ) (value : List ℕ) → is_free_at p at ≡ true → (sector_at (after p (value_writes at value)) at).label ≡ (sector_at p at).label
-label_stays p at value free = ap (λ (s : Sector). s.label) (get_or-set_same p.sectors at (with_part 2 value (sector_at p at)) no_sector (usable_within p at (free_parts p at free).0))
+-- the label of a sector whose value is written stays
+pub label_stays : (p : Pack) (at : ℕ) (value : List ℕ) → is_usable p.shape at (sector_at p at) ≡ true → (sector_at (after p (value_writes at value)) at).label ≡ (sector_at p at).label
+label_stays p at value usable = ap (λ (s : Sector). s.label) (get_or-set_same p.sectors at (with_part 2 value (sector_at p at)) no_sector (usable_within p at usable))
 
 pub claim_changes : (p : Pack) (at : ℕ) (page : Page) (label value : List ℕ) → is_free_at p at ≡ true → page_of label ≡ Some page → AllChange p (claim_writes at label value)
 claim_changes p at page label value free names = (
   record { label = λ is. absurd (omega (arith, is)); value = λ is busy. (let wrong : true ≡ false = sym free ∙ busy in cc) },
   relabel_changes (after p (value_writes at value)) at label value (λ same.
-      named_not_free label (sector_at p at).label page names (free_unnamed (sector_at p at).label (free_parts p at free).1) (sym (same ∙ label_stays p at value free))),
+      named_not_free label (sector_at p at).label page names (free_unnamed (sector_at p at).label (free_parts p at free).1) (sym (same ∙ label_stays p at value (free_parts p at free).0))),
 )
 
 -- the label and the value that stand are no change

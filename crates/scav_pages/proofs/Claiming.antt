@@ -17,15 +17,15 @@ use Rattle.pack_model.specs.reading.Model.{good_one}
 use Rattle.pack_model.specs.reading.Sights.{sights}
 use Rattle.pack_model.specs.reading.Sights.Sight.{hidden, leads}
 use Rattle.pack_model.specs.scavenger.Scavenging.{Scavengeable}
-use Rattle.pack_laws.specs.GuardLaws.{ComesToHold}
-use Rattle.pack_laws.proofs.Carrying.{carried_shown}
-use Rattle.pack_laws.proofs.Guarding.{carried_parts, named_taken}
-use Rattle.pack_laws.proofs.guards.Laws.{claim_takes_at_the_label}
-use Rattle.pack_laws.proofs.Keys.{is_fid-itself}
-use Rattle.pack_laws.proofs.Sighted.{length-sights}
-use Rattle.laws_record.proofs.DirReads.{not_descriptor}
-use Rattle.laws_operation.proofs.Lying.{within}
-use Rattle.laws_room.specs.MarkLaws.{OtherMark}
+use Rattle.laws_mend.specs.pack_laws.specs.GuardLaws.{ComesToHold}
+use Rattle.laws_mend.specs.pack_laws.proofs.Carrying.{carried_shown}
+use Rattle.laws_mend.specs.pack_laws.proofs.Guarding.{carried_parts, named_taken}
+use Rattle.laws_mend.specs.pack_laws.proofs.guards.Laws.{claim_takes_at_the_label}
+use Rattle.laws_mend.specs.pack_laws.proofs.Keys.{is_fid-itself}
+use Rattle.laws_mend.specs.pack_laws.proofs.Sighted.{length-sights}
+use Rattle.laws_mend.specs.laws_record.proofs.DirReads.{not_descriptor}
+use Rattle.laws_mend.specs.laws_operation.proofs.Lying.{within}
+use Rattle.laws_mend.specs.laws_room.specs.MarkLaws.{OtherMark}
 use Rattle.laws_mend.proofs.joins.Laws.{tending_ends}
 use Rattle.laws_mend.proofs.parts.Laws.{last_claim_leaves}
 use Rattle.laws_mend.proofs.runs.Laws.{descriptor_claim_tends, last_claim_tends}

@@ -9,7 +9,7 @@ use Rattle.disk_records.specs.Words.{word}
 use Rattle.disk_records.proofs.Growing.{alone_twice}
 use Rattle.disk_records.proofs.Looking.{looks_pack}
 use Rattle.label_check.specs.Guarded.{Carries, DoneWhole}
-use Rattle.laws_contents.proofs.pages.Laws.{once_is_by_labels}
+use Rattle.laws_mend.specs.laws_contents.proofs.pages.Laws.{once_is_by_labels}
 use Rattle.laws_mend.specs.Parts.{FreesMore}
 use Rattle.laws_mend.proofs.numbers.Laws.{copy_release_frees, frees_join}
 use Rattle.laws_mend.proofs.parts.Laws.{copy_release_leaves}

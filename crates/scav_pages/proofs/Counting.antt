@@ -5,9 +5,9 @@ use Rattle.std.proofs.lemmas.Bool.Decides.{nat_tests}
 use Rattle.alto_words.specs.declared.fid.Fid.{Fid}
 use Rattle.alto_words.specs.Fid.{disk_descriptor, is_fid}
 use Rattle.disk_records.specs.Packs.{Pack, carried}
-use Rattle.laws_contents.specs.PageLaws.{FullBefore, bytes_at}
-use Rattle.laws_contents.proofs.ends.Laws.{each_file_has_its_end}
-use Rattle.laws_contents.proofs.pages.Laws.{once_is_by_labels}
+use Rattle.laws_mend.specs.laws_contents.specs.PageLaws.{FullBefore, bytes_at}
+use Rattle.laws_mend.specs.laws_contents.proofs.ends.Laws.{each_file_has_its_end}
+use Rattle.laws_mend.specs.laws_contents.proofs.pages.Laws.{once_is_by_labels}
 use Rattle.laws_mend.specs.Parts.{Ended}
 use Rattle.laws_mend.proofs.counting.Laws.{counts_by_its_end, counts_by_its_format}
 use Rattle.pack_model.specs.reading.Files.{file_bytes, lives, place}

@@ -15,12 +15,12 @@ use Rattle.pack_model.specs.reading.Bytes.{words_of}
 use Rattle.pack_model.specs.reading.Files.{file_bytes, lives, place}
 use Rattle.pack_model.specs.reading.Sights.{sights}
 use Rattle.pack_model.specs.reading.Slots.{SlotsReachEnd, all_words, slots}
-use Rattle.pack_laws.proofs.files.Laws.{places_are_lowest}
-use Rattle.pack_laws.proofs.guards.Laws.{relabel_keeps_the_page}
-use Rattle.pack_laws.proofs.Keys.{same_fid}
-use Rattle.laws_record.proofs.Heads.{all_read}
-use Rattle.laws_contents.proofs.pages.Laws.{page_numbers_are_words}
-use Rattle.laws_operation.proofs.Widening.{directory_length}
+use Rattle.laws_mend.specs.pack_laws.proofs.files.Laws.{places_are_lowest}
+use Rattle.laws_mend.specs.pack_laws.proofs.guards.Laws.{relabel_keeps_the_page}
+use Rattle.laws_mend.specs.pack_laws.proofs.Keys.{same_fid}
+use Rattle.laws_mend.specs.laws_record.proofs.Heads.{all_read}
+use Rattle.laws_mend.specs.laws_contents.proofs.pages.Laws.{page_numbers_are_words}
+use Rattle.laws_mend.specs.laws_operation.proofs.Widening.{directory_length}
 use Rattle.laws_mend.specs.PartLaws.{DirectoryIsCut}
 use Rattle.laws_mend.specs.Parts.{Cleared, FreesMore}
 use Rattle.laws_mend.proofs.counting.Laws.{directory_reaches_its_end}

@@ -18,16 +18,16 @@ use Rattle.pack_model.specs.reading.Sights.{sights}
 use Rattle.pack_model.specs.scavenger.Scavenging.{Scavengeable}
 use Rattle.pack_model.specs.sessions.Descriptor.{data_pages}
 use Rattle.pack_model.specs.states.Sentences.{HasLastPage}
-use Rattle.pack_laws.specs.GuardLaws.{ComesToHold}
-use Rattle.pack_laws.proofs.files.Laws.{places_are_lowest}
-use Rattle.pack_laws.proofs.guards.Laws.{relabel_keeps_the_page}
-use Rattle.pack_laws.proofs.Guarding.{carried_parts}
-use Rattle.pack_laws.proofs.Keys.{is_fid-itself}
-use Rattle.laws_record.proofs.Copying.{place_carried}
-use Rattle.laws_record.proofs.DirReads.{not_descriptor}
-use Rattle.laws_contents.specs.PageLaws.{bytes_at}
-use Rattle.laws_contents.proofs.pages.Laws.{formed_pages_have_256_words, labels_count}
-use Rattle.laws_operation.proofs.places.Laws.{file_lives_in_a_place}
+use Rattle.laws_mend.specs.pack_laws.specs.GuardLaws.{ComesToHold}
+use Rattle.laws_mend.specs.pack_laws.proofs.files.Laws.{places_are_lowest}
+use Rattle.laws_mend.specs.pack_laws.proofs.guards.Laws.{relabel_keeps_the_page}
+use Rattle.laws_mend.specs.pack_laws.proofs.Guarding.{carried_parts}
+use Rattle.laws_mend.specs.pack_laws.proofs.Keys.{is_fid-itself}
+use Rattle.laws_mend.specs.laws_record.proofs.Copying.{place_carried}
+use Rattle.laws_mend.specs.laws_record.proofs.DirReads.{not_descriptor}
+use Rattle.laws_mend.specs.laws_contents.specs.PageLaws.{bytes_at}
+use Rattle.laws_mend.specs.laws_contents.proofs.pages.Laws.{formed_pages_have_256_words, labels_count}
+use Rattle.laws_mend.specs.laws_operation.proofs.places.Laws.{file_lives_in_a_place}
 use Rattle.laws_mend.specs.PartLaws.{DescriptorPageWritten, IsDescribed, IsDescribedWhole}
 use Rattle.laws_mend.specs.Parts.{Lasting}
 use Rattle.laws_mend.proofs.numbers.Laws.{lacking_descriptor_page_is_free}

@@ -15,10 +15,10 @@ use Rattle.pack_model.specs.hints.Links.{dir_words}
 use Rattle.pack_model.specs.reading.Files.{file_bytes, lives, place}
 use Rattle.pack_model.specs.reading.Sights.{sights}
 use Rattle.pack_model.specs.reading.Slots.{all_words, slots}
-use Rattle.pack_laws.proofs.Keys.{is_fid-itself, same_fid}
-use Rattle.laws_contents.specs.PageLaws.{FullBefore, bytes_at}
-use Rattle.laws_contents.specs.WordContents.{words_at}
-use Rattle.laws_contents.proofs.pages.Laws.{formed_pages_have_256_words, labels_count}
+use Rattle.laws_mend.specs.pack_laws.proofs.Keys.{is_fid-itself, same_fid}
+use Rattle.laws_mend.specs.laws_contents.specs.PageLaws.{FullBefore, bytes_at}
+use Rattle.laws_mend.specs.laws_contents.specs.WordContents.{words_at}
+use Rattle.laws_mend.specs.laws_contents.proofs.pages.Laws.{formed_pages_have_256_words, labels_count}
 use Rattle.scav_table.specs.declared.row.Row.{Row}
 use Rattle.scav_table.specs.Laws.{IsFirstAbove}
 use Rattle.scav_table.specs.Rows.{row_at}

@@ -10,9 +10,9 @@ use Rattle.disk_records.specs.Packs.{Pack, carried, is_free_at, sector_at}
 use Rattle.pack_model.specs.reading.Files.{file_bytes, lives, place}
 use Rattle.pack_model.specs.reading.Sights.{sights}
 use Rattle.pack_model.specs.states.Sentences.{HasLastPage}
-use Rattle.pack_laws.proofs.Guarding.{carried_parts, free_parts, free_unnamed}
-use Rattle.pack_laws.proofs.Keys.{same_fid}
-use Rattle.laws_contents.proofs.ends.Laws.{each_file_has_its_end}
+use Rattle.laws_mend.specs.pack_laws.proofs.Guarding.{carried_parts, free_parts, free_unnamed}
+use Rattle.laws_mend.specs.pack_laws.proofs.Keys.{same_fid}
+use Rattle.laws_mend.specs.laws_contents.proofs.ends.Laws.{each_file_has_its_end}
 use Rattle.laws_mend.specs.PartLaws as part_laws
 use Rattle.laws_mend.proofs.counting.Laws.{full_pages_are_few}
 use Rattle.laws_mend.proofs.numbers.Laws.{lacking_page_is_free}

@@ -16,14 +16,14 @@ use Rattle.pack_model.specs.reading.Sights.{Sight, page_sight, sights}
 use Rattle.pack_model.specs.reading.Sights.Sight.{hidden}
 use Rattle.pack_model.specs.reading.Slots.{slots}
 use Rattle.pack_model.specs.reading.Slots.Item.{space}
-use Rattle.pack_laws.specs.GuardLaws.{ComesToHold}
-use Rattle.pack_laws.proofs.files.Laws.{places_are_lowest}
-use Rattle.pack_laws.proofs.guards.Laws.{claim_takes_at_the_label, release_frees_at_the_label}
-use Rattle.pack_laws.proofs.Firsts.{first_same}
-use Rattle.pack_laws.proofs.Keys.{same_fid}
-use Rattle.laws_record.proofs.Framing.{bytes_same}
-use Rattle.laws_record.proofs.Recording.{free_sight}
-use Rattle.laws_operation.proofs.places.Laws.{file_lives_in_a_place}
+use Rattle.laws_mend.specs.pack_laws.specs.GuardLaws.{ComesToHold}
+use Rattle.laws_mend.specs.pack_laws.proofs.files.Laws.{places_are_lowest}
+use Rattle.laws_mend.specs.pack_laws.proofs.guards.Laws.{claim_takes_at_the_label, release_frees_at_the_label}
+use Rattle.laws_mend.specs.pack_laws.proofs.Firsts.{first_same}
+use Rattle.laws_mend.specs.pack_laws.proofs.Keys.{same_fid}
+use Rattle.laws_mend.specs.laws_record.proofs.Framing.{bytes_same}
+use Rattle.laws_mend.specs.laws_record.proofs.Recording.{free_sight}
+use Rattle.laws_mend.specs.laws_operation.proofs.places.Laws.{file_lives_in_a_place}
 use Rattle.laws_mend.specs.Parts.{SameFiles}
 use Rattle.scav_pages.specs.Changes.{AllMend}
 use Rattle.scav_pages.specs.Fresh.{fresh_leader}

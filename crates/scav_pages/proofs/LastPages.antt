@@ -13,9 +13,9 @@ use Rattle.pack_model.specs.reading.Sights.{sights}
 use Rattle.pack_model.specs.scavenger.Scavenging.{Scavengeable}
 use Rattle.pack_model.specs.states.InUse.{counts}
 use Rattle.pack_model.specs.states.Sentences.{EachOnce, HasLastPage}
-use Rattle.pack_laws.proofs.Keys.{is_fid-itself, same_fid}
-use Rattle.laws_record.proofs.Copying.{place_carried}
-use Rattle.laws_contents.proofs.pages.Laws.{carried_once_is_in_place}
+use Rattle.laws_mend.specs.pack_laws.proofs.Keys.{is_fid-itself, same_fid}
+use Rattle.laws_mend.specs.laws_record.proofs.Copying.{place_carried}
+use Rattle.laws_mend.specs.laws_contents.proofs.pages.Laws.{carried_once_is_in_place}
 use Rattle.laws_mend.specs.Parts.{Rooted, RootedBut}
 use Rattle.laws_mend.proofs.counting.Laws.{counts_by_its_end, used_by_its_page}
 use Rattle.scav_table.specs.declared.pass.Pass.{Pass as RowPass}

@@ -15,12 +15,12 @@ use Rattle.pack_model.specs.reading.Files.{lives, place}
 use Rattle.pack_model.specs.reading.Leaders.{Leader, is_readable, leader_of, leader_words}
 use Rattle.pack_model.specs.reading.Sights.{Sight, page_sight, sights}
 use Rattle.pack_model.specs.reading.Sights.Sight.{hidden}
-use Rattle.pack_laws.specs.GuardLaws.{ChangesOne, ComesToHold}
-use Rattle.pack_laws.proofs.files.Laws.{places_are_lowest}
-use Rattle.pack_laws.proofs.guards.Laws.{claim_takes_at_the_label}
-use Rattle.pack_laws.proofs.Guarding.{carried_parts, free_parts, free_unnamed, usable_within}
-use Rattle.pack_laws.proofs.Keys.{is_fid-itself, same_fid}
-use Rattle.pack_laws.proofs.Sighted.{length-sights}
+use Rattle.laws_mend.specs.pack_laws.specs.GuardLaws.{ChangesOne, ComesToHold}
+use Rattle.laws_mend.specs.pack_laws.proofs.files.Laws.{places_are_lowest}
+use Rattle.laws_mend.specs.pack_laws.proofs.guards.Laws.{claim_takes_at_the_label}
+use Rattle.laws_mend.specs.pack_laws.proofs.Guarding.{carried_parts, free_parts, free_unnamed, usable_within}
+use Rattle.laws_mend.specs.pack_laws.proofs.Keys.{is_fid-itself, same_fid}
+use Rattle.laws_mend.specs.pack_laws.proofs.Sighted.{length-sights}
 use Rattle.scav_pages.specs.Fresh.{fresh_leader, own_name}
 use Rattle.scav_pages.specs.Keeping.{KeepsLeaders, Leads}
 

@@ -1,5 +1,5 @@
 pub mod Ahead
-mod Changing
+pub mod Changing
 mod Claiming
 mod Copying
 pub mod Counting

@@ -17,11 +17,11 @@ use Rattle.pack_model.specs.reading.Sights.Sight.{free, hidden, holds, leads, st
 use Rattle.pack_model.specs.scavenger.Reports.{PagesMended}
 use Rattle.pack_model.specs.states.InUse.{in_use}
 use Rattle.pack_model.specs.states.Sentences.{HasReadableName}
-use Rattle.pack_laws.proofs.Carrying.{carried_shown}
-use Rattle.pack_laws.proofs.Keys.{is_fid-itself}
-use Rattle.pack_laws.proofs.Placing.{carries-holds}
-use Rattle.pack_laws.proofs.Sighted.{length-sights}
-use Rattle.laws_record.proofs.Carried.{carries_within}
+use Rattle.laws_mend.specs.pack_laws.proofs.Carrying.{carried_shown}
+use Rattle.laws_mend.specs.pack_laws.proofs.Keys.{is_fid-itself}
+use Rattle.laws_mend.specs.pack_laws.proofs.Placing.{carries-holds}
+use Rattle.laws_mend.specs.pack_laws.proofs.Sighted.{length-sights}
+use Rattle.laws_mend.specs.laws_record.proofs.Carried.{carries_within}
 use Rattle.laws_mend.specs.Parts.{Lasting}
 use Rattle.laws_mend.proofs.parts.Laws.{parts_are_mended}
 use Rattle.scav_table.specs.declared.pass.Pass.{Pass as RowPass}

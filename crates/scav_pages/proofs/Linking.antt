@@ -10,8 +10,8 @@ use Rattle.pack_model.specs.hints.Links.{next_link, previous_link}
 use Rattle.pack_model.specs.reading.Files.{place}
 use Rattle.pack_model.specs.reading.Sights.{sights}
 use Rattle.pack_model.specs.reading.Sights.Sight.{hidden}
-use Rattle.pack_laws.proofs.Guarding.{carried_parts, usable_within}
-use Rattle.pack_laws.proofs.guards.Laws.{relabel_keeps_the_page}
+use Rattle.laws_mend.specs.pack_laws.proofs.Guarding.{carried_parts, usable_within}
+use Rattle.laws_mend.specs.pack_laws.proofs.guards.Laws.{relabel_keeps_the_page}
 use Rattle.laws_mend.specs.Parts.{Lasting}
 use Rattle.laws_mend.specs.PartLaws.{LinksWritten}
 use Rattle.laws_mend.proofs.parts.Laws.{other_links_leave}

@@ -1,7 +1,7 @@
 -- All pages of a pack: what the passes free together, and what is mended in the end.
 use Rattle.std.proofs.Common.{◌≡◌, ◌≤◌, ◌<◌, ◌+◌, ◌⊎◌, ◌||◌, Bool, cond, Err, Ok, ap, arith, length, false, inl, inr, min, refl, subst, sym, true, ◌∙◌, ℕ}
 use Rattle.std.specs.Option.{is_some}
-use Rattle.std.specs.Prelude.{IfSome, Option}
+use Rattle.std.specs.Prelude.{IfSome, Option, Result}
 use Rattle.alto_words.specs.Fid.{disk_descriptor, is_fid, is_system, sys_dir}
 use Rattle.alto_words.specs.declared.fid.Fid.{Fid}
 use Rattle.disk_records.specs.Addresses.{pages_of}
@@ -13,8 +13,8 @@ use Rattle.pack_model.specs.reading.Leaders.{Leader}
 use Rattle.pack_model.specs.reading.Sights.{sights}
 use Rattle.pack_model.specs.scavenger.Reports.{PagesMended, adopted_files, freed_sectors}
 use Rattle.pack_model.specs.scavenger.Scavenging.{Scavengeable}
-use Rattle.pack_laws.proofs.Keys.{same_fid}
-use Rattle.laws_operation.proofs.places.Laws.{file_lives_in_a_place}
+use Rattle.laws_mend.specs.pack_laws.proofs.Keys.{same_fid}
+use Rattle.laws_mend.specs.laws_operation.proofs.places.Laws.{file_lives_in_a_place}
 use Rattle.laws_mend.specs.JoinLaws.{Ends}
 use Rattle.laws_mend.specs.Parts.{FreesMore}
 use Rattle.laws_mend.specs.Tending.{Tends}
@@ -109,13 +109,17 @@ are_mended a b c unused x released mended = record {
 }
 
 -- ---- as the answer of a sweep
-module _ (a b : Taped) (grown : Grown a b) where
-  pub mends_ok : (freed : ℕ) → Does AreMended a b (Ok freed) → MendsPages a b (Ok freed)
-  mends_ok freed does =
+module _ (a b : Taped) (grown : Grown a b) (freed : ℕ) where
+  -- what all passes say, where so many sectors were freed
+  abbrev pub DoesMend : Result (Unit {0}) Stop → Type 0
+  DoesMend result = Does (λ p q done. AreMended p q freed) a b result
+
+  pub mends_ok : DoesMend (Ok tt) → MendsPages a b (Ok freed)
+  mends_ok does =
       let ends = mending_ends a b does.mends in
       record { mended = does.leaves; want = λ is. cc; kept = ends.kept; unclean = ends.unclean; unmarked = (tended a b grown does.mends).unmarked; changes = does.mends.changes }
 
-  mends_err : (stop : Stop) (error : SweepError) → (error ≡ sweep.Memory → stop ≡ Memory) → Does AreMended a b (Err stop) → MendsPages a b (Err error)
+  mends_err : (stop : Stop) (error : SweepError) → (error ≡ sweep.Memory → stop ≡ Memory) → DoesMend (Err stop) → MendsPages a b (Err error)
   mends_err stop error room does =
       let ends = mending_ends a b does.mends in
       record {
@@ -127,12 +131,12 @@ module _ (a b : Taped) (grown : Grown a b) where
         changes = does.mends.changes;
       }
 
-  pub mends_fault : Does AreMended a b (Err DiskFault) → MendsPages a b (Err sweep.DiskFault)
+  pub mends_fault : DoesMend (Err DiskFault) → MendsPages a b (Err sweep.DiskFault)
   mends_fault does = mends_err DiskFault sweep.DiskFault (λ is. cc) does
 
-  pub mends_memory : Does AreMended a b (Err Memory) → MendsPages a b (Err sweep.Memory)
+  pub mends_memory : DoesMend (Err Memory) → MendsPages a b (Err sweep.Memory)
   mends_memory does = mends_err Memory sweep.Memory (λ is. refl) does
 
   -- a sector is always found as it has to be
-  pub mends_astray : Does AreMended a b (Err Astray) → MendsPages a b (Err sweep.Memory)
+  pub mends_astray : DoesMend (Err Astray) → MendsPages a b (Ok freed)
   mends_astray does = absurd (does.found refl)

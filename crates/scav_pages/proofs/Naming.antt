@@ -19,12 +19,12 @@ use Rattle.pack_model.specs.reading.Leaders.{Leader, is_readable, leader_name, l
 use Rattle.pack_model.specs.reading.Files.{carries_page, place}
 use Rattle.pack_model.specs.reading.Sights.{page_sight, sight, sights}
 use Rattle.pack_model.specs.reading.Sights.Sight.{free, hidden, leads, stray}
-use Rattle.pack_laws.specs.GuardLaws.{ComesToHold}
-use Rattle.pack_laws.proofs.Carrying.{sight_carries}
-use Rattle.pack_laws.proofs.Guarding.{carried_parts, usable_within}
-use Rattle.pack_laws.proofs.Sighted.{length-sights, sights-get}
-use Rattle.pack_laws.proofs.guards.Laws.{value_writes_keep_the_page}
-use Rattle.laws_record.proofs.Recording.{carried_sight}
+use Rattle.laws_mend.specs.pack_laws.specs.GuardLaws.{ComesToHold}
+use Rattle.laws_mend.specs.pack_laws.proofs.Carrying.{sight_carries}
+use Rattle.laws_mend.specs.pack_laws.proofs.Guarding.{carried_parts, usable_within}
+use Rattle.laws_mend.specs.pack_laws.proofs.Sighted.{length-sights, sights-get}
+use Rattle.laws_mend.specs.pack_laws.proofs.guards.Laws.{value_writes_keep_the_page}
+use Rattle.laws_mend.specs.laws_record.proofs.Recording.{carried_sight}
 use Rattle.laws_mend.specs.PartLaws.{LeaderWritten}
 use Rattle.laws_mend.proofs.parts.Laws.{leader_value_leaves}
 use Rattle.laws_mend.proofs.runs.Laws.{lost_name_tends, system_name_tends}

@@ -13,12 +13,12 @@ use Rattle.pack_model.specs.hints.Links.{link_to, next_link, no_link, previous_l
 use Rattle.pack_model.specs.reading.Files.{file_bytes, lives, place}
 use Rattle.pack_model.specs.reading.Sights.{Sight, page_sight, sights}
 use Rattle.pack_model.specs.reading.Sights.Sight.{hidden}
-use Rattle.pack_laws.proofs.Keys.{is_fid-itself, same_fid}
-use Rattle.laws_record.proofs.Heads.{and_left, and_right}
-use Rattle.laws_record.proofs.Recording.{carried_sight}
-use Rattle.laws_contents.specs.PageLaws.{bytes_at}
-use Rattle.laws_contents.proofs.ends.Laws.{each_file_has_its_end}
-use Rattle.laws_contents.proofs.pages.Laws.{carried_once_is_in_place}
+use Rattle.laws_mend.specs.pack_laws.proofs.Keys.{is_fid-itself, same_fid}
+use Rattle.laws_mend.specs.laws_record.proofs.Heads.{and_left, and_right}
+use Rattle.laws_mend.specs.laws_record.proofs.Recording.{carried_sight}
+use Rattle.laws_mend.specs.laws_contents.specs.PageLaws.{bytes_at}
+use Rattle.laws_mend.specs.laws_contents.proofs.ends.Laws.{each_file_has_its_end}
+use Rattle.laws_mend.specs.laws_contents.proofs.pages.Laws.{carried_once_is_in_place}
 use Rattle.laws_mend.specs.Parts.{Lasting}
 use Rattle.laws_mend.proofs.counting.Laws.{lasting_file_has_its_pages}
 use Rattle.scav_table.specs.declared.row.Row.{Row}

@@ -5,8 +5,8 @@ use Rattle.disk_records.specs.Packs.{Pack, after, sector_at}
 use Rattle.disk_records.specs.Tapes.{DiskAlone, Looks, Taped, pack}
 use Rattle.disk_records.proofs.Looking.{looks_pack}
 use Rattle.label_check.specs.Guarded.{Carries, DoneWhole}
-use Rattle.pack_laws.specs.GuardLaws.{ChangesOne, released}
-use Rattle.pack_laws.proofs.guards.Laws.{release_frees_at_the_label}
+use Rattle.laws_mend.specs.pack_laws.specs.GuardLaws.{ChangesOne, released}
+use Rattle.laws_mend.specs.pack_laws.proofs.guards.Laws.{release_frees_at_the_label}
 use Rattle.pack_model.specs.reading.Sights.Sight.{free}
 use Rattle.scav_table.specs.declared.pass.Pass.{Pass as RowPass}
 use Rattle.scav_table.specs.declared.row.Row.{Row}

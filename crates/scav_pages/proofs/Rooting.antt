@@ -18,13 +18,13 @@ use Rattle.pack_model.specs.reading.Sights.Sight.{hidden, leads}
 use Rattle.pack_model.specs.reading.Sights.{sights}
 use Rattle.pack_model.specs.reading.Slots.Item.{space}
 use Rattle.pack_model.specs.reading.Slots.{slots}
-use Rattle.pack_laws.specs.GuardLaws.{ComesToHold}
-use Rattle.pack_laws.proofs.Keys.{same_fid}
-use Rattle.pack_laws.proofs.files.Laws.{places_are_lowest}
-use Rattle.pack_laws.proofs.guards.Laws.{claim_takes_at_the_label}
-use Rattle.laws_record.proofs.Recording.{carried_sight}
-use Rattle.laws_record.specs.QuietLaws.IsUnread.{leaderless}
-use Rattle.laws_operation.proofs.places.Laws.{file_lives_in_a_place, uncarried_page_has_no_place}
+use Rattle.laws_mend.specs.pack_laws.specs.GuardLaws.{ComesToHold}
+use Rattle.laws_mend.specs.pack_laws.proofs.Keys.{same_fid}
+use Rattle.laws_mend.specs.pack_laws.proofs.files.Laws.{places_are_lowest}
+use Rattle.laws_mend.specs.pack_laws.proofs.guards.Laws.{claim_takes_at_the_label}
+use Rattle.laws_mend.specs.laws_record.proofs.Recording.{carried_sight}
+use Rattle.laws_mend.specs.laws_record.specs.QuietLaws.IsUnread.{leaderless}
+use Rattle.laws_mend.specs.laws_operation.proofs.places.Laws.{file_lives_in_a_place, uncarried_page_has_no_place}
 use Rattle.laws_mend.specs.PartLaws.{RootMade}
 use Rattle.laws_mend.specs.Parts.{Rooted}
 use Rattle.laws_mend.proofs.numbers.Laws.{first_sector_is_free, root_needs_two, two_needed_are_free}

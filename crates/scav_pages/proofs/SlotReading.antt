@@ -14,10 +14,10 @@ use Rattle.dir_slots.specs.Walks as slot_walk
 use Rattle.dir_slots.proofs.Hands.{first_stays, hand_of, slots_on, slots_within}
 use Rattle.dir_slots.proofs.Heads.{slot_at-is}
 use Rattle.dir_slots.proofs.Slots.{all_words-append, slots-none, slots-some}
-use Rattle.laws_contents.specs.PageLaws.{FullBefore, IsFullPage, bytes_at}
-use Rattle.laws_contents.specs.WordContents.{words_at}
-use Rattle.laws_contents.proofs.bytes.Laws.{page_goes_on}
-use Rattle.laws_contents.proofs.words.Laws.{page_words_go_on}
+use Rattle.laws_mend.specs.laws_contents.specs.PageLaws.{FullBefore, IsFullPage, bytes_at}
+use Rattle.laws_mend.specs.laws_contents.specs.WordContents.{words_at}
+use Rattle.laws_mend.specs.laws_contents.proofs.bytes.Laws.{page_goes_on}
+use Rattle.laws_mend.specs.laws_contents.proofs.words.Laws.{page_words_go_on}
 use Rattle.scav_pages.specs.declared.directory.Directory.{Directory}
 use Rattle.scav_pages.specs.Directories.{HasRead}
 

@@ -22,8 +22,8 @@ use Rattle.pack_model.specs.reading.Sights.{page_sight, sight, sights}
 use Rattle.pack_model.specs.reading.Sights.Sight.{free, hidden, stray}
 use Rattle.pack_model.specs.states.InUse.{one_if}
 use Rattle.pack_model.specs.states.Sentences.{EachOnce}
-use Rattle.pack_laws.proofs.Guarding.{usable_within}
-use Rattle.pack_laws.proofs.Sighted.{length-sights, sights-get}
+use Rattle.laws_mend.specs.pack_laws.proofs.Guarding.{usable_within}
+use Rattle.laws_mend.specs.pack_laws.proofs.Sighted.{length-sights, sights-get}
 use Rattle.laws_mend.specs.Parts.{FreesMore}
 use Rattle.laws_mend.proofs.numbers.Laws.{frees_join, stray_release_frees}
 use Rattle.laws_mend.proofs.parts.Laws.{stray_release_leaves}

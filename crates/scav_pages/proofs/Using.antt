@@ -12,10 +12,10 @@ use Rattle.disk_records.specs.Words.{word}
 use Rattle.disk_records.proofs.Growing.{alone_twice}
 use Rattle.disk_records.proofs.Looking.{looks_pack}
 use Rattle.label_check.specs.Guarded.{Carries, DoneWhole}
-use Rattle.pack_laws.proofs.guards.Laws.{release_frees_at_the_label}
-use Rattle.laws_record.proofs.DirReads.{not_descriptor}
-use Rattle.laws_contents.proofs.pages.Laws.{carried_once_is_in_place, once_is_by_labels}
-use Rattle.laws_operation.proofs.places.Laws.{file_lives_in_a_place}
+use Rattle.laws_mend.specs.pack_laws.proofs.guards.Laws.{release_frees_at_the_label}
+use Rattle.laws_mend.specs.laws_record.proofs.DirReads.{not_descriptor}
+use Rattle.laws_mend.specs.laws_contents.proofs.pages.Laws.{carried_once_is_in_place, once_is_by_labels}
+use Rattle.laws_mend.specs.laws_operation.proofs.places.Laws.{file_lives_in_a_place}
 use Rattle.laws_mend.specs.PartLaws.{UnusedGone}
 use Rattle.laws_mend.specs.Parts.{Ended, FreesMore}
 use Rattle.laws_mend.proofs.counting.Laws.{used_by_its_page}

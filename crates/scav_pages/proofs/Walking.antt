@@ -5,13 +5,13 @@ use Rattle.std.proofs.lemmas.Bool.Decides.{nat_tests}
 use Rattle.alto_words.specs.declared.fid.Fid.{Fid}
 use Rattle.disk_records.specs.declared.records.Page.{Page}
 use Rattle.disk_records.specs.Packs.{AreFormed, Pack, carried, sector_at}
-use Rattle.laws_contents.specs.PageLaws.{FullBefore, bytes_at}
-use Rattle.laws_contents.proofs.ends.Laws.{last_page_ends_the_file, missing_page_ends_the_file}
-use Rattle.laws_contents.proofs.pages.Laws.{formed_pages_have_256_words, full_before_the_next, labels_count, none_before_the_first}
+use Rattle.laws_mend.specs.laws_contents.specs.PageLaws.{FullBefore, bytes_at}
+use Rattle.laws_mend.specs.laws_contents.proofs.ends.Laws.{last_page_ends_the_file, missing_page_ends_the_file}
+use Rattle.laws_mend.specs.laws_contents.proofs.pages.Laws.{formed_pages_have_256_words, full_before_the_next, labels_count, none_before_the_first}
 use Rattle.alto_words.specs.Fid.{is_fid}
-use Rattle.pack_laws.proofs.Keys.{is_fid-itself, same_fid}
-use Rattle.pack_laws.proofs.Placing.{leader_of_place, no_leader}
-use Rattle.pack_laws.proofs.files.Laws.{places_are_lowest}
+use Rattle.laws_mend.specs.pack_laws.proofs.Keys.{is_fid-itself, same_fid}
+use Rattle.laws_mend.specs.pack_laws.proofs.Placing.{leader_of_place, no_leader}
+use Rattle.laws_mend.specs.pack_laws.proofs.files.Laws.{places_are_lowest}
 use Rattle.pack_model.specs.reading.Files.{file_bytes, lives, place}
 use Rattle.pack_model.specs.reading.Sights.{sights}
 use Rattle.scav_table.specs.declared.row.Row.{Row}

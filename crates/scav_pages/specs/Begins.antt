@@ -1,7 +1,7 @@
 -- A walk before the next row is taken.
 use Rattle.std.specs.Prelude.{◌≡◌, ◌≢◌, ◌⊎◌, ℕ, suc, ◌*◌, ◌<◌, true, false, Option, Some}
 use Rattle.disk_records.specs.Packs.{AreFormed, Pack}
-use Rattle.laws_contents.specs.PageLaws.{FullBefore}
+use Rattle.laws_mend.specs.laws_contents.specs.PageLaws.{FullBefore}
 use Rattle.pack_model.specs.reading.Files.{lives, place}
 use Rattle.pack_model.specs.reading.Sights.{sights}
 use Rattle.scav_table.specs.declared.row.Row.{Row}

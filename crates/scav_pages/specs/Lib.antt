@@ -13,3 +13,9 @@ pub mod Parts
 pub mod Stops
 pub mod WalkLaws
 pub mod Walks
+pub use Rattle.laws_mend.specs.pack_laws
+pub use Rattle.laws_mend.specs.laws_record
+pub use Rattle.laws_mend.specs.laws_contents
+pub use Rattle.laws_mend.specs.laws_operation
+pub use Rattle.laws_mend.specs.laws_lookup
+pub use Rattle.laws_mend

@@ -4,7 +4,7 @@ use Rattle.std.specs.Option.{is_some, option_map, option_map_or}
 use Rattle.alto_words.specs.declared.fid.Fid.{Fid}
 use Rattle.disk_records.specs.declared.records.Page.{Page}
 use Rattle.disk_records.specs.Packs.{AreFormed, Pack, carried}
-use Rattle.laws_contents.specs.PageLaws.{FullBefore}
+use Rattle.laws_mend.specs.laws_contents.specs.PageLaws.{FullBefore}
 use Rattle.pack_model.specs.reading.Files.{lives, file_bytes, place}
 use Rattle.pack_model.specs.reading.Sights.{sights}
 use Rattle.scav_table.specs.declared.row.Row.{Row}

@@ -23,9 +23,9 @@
 //! What the rest of the Scavenger shares with these parts is open to it: a `Stop` says why a part ended early, `next_row` and `next_free`
 //! give the next row of a pass and the next free sector, `own_name` and `data_pages` the name and the pages of a file that is made.
 //!
-//! On every machine a fault is answered only if its count rose (`cause`).
+//! On every machine a fault is answered only if its count rose (`cause`), and out of memory only where a sector command was.
 //! Not promised: anything of a pack that can't be scavenged. On a machine that isn't modelled, a sector that shows another page than a
-//! moment ago ends the work early, as out of memory.
+//! moment ago ends the work early, as if it were done.
 #![tactic(auto)]
 
 mod copies;

@@ -26,33 +26,39 @@ use scav_table::{SweepError, Table};
 /// claims last pages that are missing and what DiskDescriptor lacks, and makes links true and names of leader pages readable. Answers the
 /// number of sectors that were neither in use nor free and had a right header. It takes no memory.
 ///
-/// DiskFault: the disk failed. Memory: the disk wanted memory for record writes, and had none; or, on a disk that isn't modelled, a sector
-/// shows another page than a moment ago. After either of them a prefix of the work is done, and the pack can be scavenged and mended again.
+/// DiskFault: the disk failed. Memory: the disk wanted memory for a sector command, and had none; nothing else is answered so, on any disk.
+/// After either of them a prefix of the work is done, and the pack can be scavenged and mended again.
+///
+/// On a disk that isn't modelled a sector may show another page than a moment ago. The work ends there as if it were done, and the answer is
+/// the number of released sectors, or 0 if not all of them were released yet. So it is of a pack that can't be scavenged, where a free sector
+/// lacks.
 pub fn mend_pages<D: Disk>(disk: &mut D, table: &mut Table) -> Result<u32, SweepError>
     ensures mends { IsTrue D.told → Scavengeable (pack (D.tape disk.old)) → MendsPages (D.tape disk.old) (D.tape disk.new) result }
     ensures cause { HasCause cause_of_sweep (D.tape disk.old) (D.tape disk.new) result }
     ensures alone { DiskAlone (D.tape disk.old) (D.tape disk.new) }
 {
-    match mend(disk, table) {
-        Ok(freed) => Ok(freed),
+    let mut freed = 0;
+    match mend(disk, table, &mut freed) {
+        Ok(()) => Ok(freed),
         Err(Stop::DiskFault) => Err(SweepError::DiskFault),
         Err(Stop::Memory) => Err(SweepError::Memory),
-        // this never comes of a machine that is modelled
-        Err(Stop::Astray) => Err(SweepError::Memory),
+        // no memory was refused, and on a machine that is modelled this never comes
+        Err(Stop::Astray) => Ok(freed),
     }
 }
 
-/// The passes, one after another.
-fn mend<D: Disk>(disk: &mut D, table: &mut Table) -> Result<u32, Stop>
-    ensures does { IsTrue D.told → Scavengeable (pack (D.tape disk.old)) → Does AreMended (D.tape disk.old) (D.tape disk.new) result }
+/// The passes, one after another. Once all releases are done `freed` is the number of sectors that they freed; before it is as it was.
+fn mend<D: Disk>(disk: &mut D, table: &mut Table, freed: &mut u32) -> Result<(), Stop>
+    ensures does { IsTrue D.told → Scavengeable (pack (D.tape disk.old)) → Does (λ p q done. AreMended p q freed.new) (D.tape disk.old) (D.tape disk.new) result }
     ensures cause { HasCause cause_of_stop (D.tape disk.old) (D.tape disk.new) result }
     ensures alone { DiskAlone (D.tape disk.old) (D.tape disk.new) }
 {
     let unused = release_available(disk, table)?;
+    *freed = unused.freed;
     mend_root(disk, unused.root)?;
     mend_ends(disk, table)?;
     mend_links(disk, table)?;
-    Ok(unused.freed)
+    Ok(())
 }
 
 /// Releases each sector that is neither free nor in use, of any pack, and cuts directories at the end of their slots in between. Answers how
@@ -72,3 +78,6 @@ fn release_available<D: Disk>(disk: &mut D, table: &mut Table) -> Result<Unused,
         root: unused.root,
     })
 }
+
+#[cfg(test)]
+mod tests;

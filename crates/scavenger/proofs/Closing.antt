@@ -6,9 +6,9 @@ use Rattle.alto_words.specs.declared.fid.Fid.{Fid}
 use Rattle.alto_words.specs.Fid.{disk_descriptor, fid_cmp, is_directory, is_fid, is_system, serial_of, sys_dir}
 use Rattle.disk_records.specs.declared.records.Page.{Page}
 use Rattle.disk_records.specs.Packs.{Pack, carried}
-use Rattle.laws_record.proofs.Reading.{get-found, read_file}
-use Rattle.laws_room.specs.CountLaws.{count_placed, placed_pages}
-use Rattle.pack_laws.proofs.Keys.{is_fid-sym, same_fid}
+use Rattle.scav_names.specs.laws_record.proofs.Reading.{get-found, read_file}
+use Rattle.scav_names.specs.laws_room.specs.CountLaws.{count_placed, placed_pages}
+use Rattle.scav_names.specs.pack_laws.proofs.Keys.{is_fid-sym, same_fid}
 use Rattle.pack_model.specs.hints.Links.{dir_words}
 use Rattle.pack_model.specs.reading.Bodies.{File, found, body_of}
 use Rattle.pack_model.specs.reading.Files.{file_bytes, leader, lives, place}

@@ -4,7 +4,7 @@ use Rattle.alto_words.specs.declared.fid.Fid.{Fid}
 use Rattle.alto_words.specs.Fid.{disk_descriptor, is_fid}
 use Rattle.disk_records.specs.declared.records.Page.{Page}
 use Rattle.disk_records.specs.Packs.{AreFormed, Pack}
-use Rattle.pack_laws.proofs.Keys.{is_fid-itself, same_fid}
+use Rattle.scav_names.specs.pack_laws.proofs.Keys.{is_fid-itself, same_fid}
 use Rattle.pack_model.specs.reading.Files.{place}
 use Rattle.pack_model.specs.reading.Sights.{sights}
 use Rattle.scav_pages.specs.declared.directory.Directory.{Directory}

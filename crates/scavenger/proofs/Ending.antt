@@ -3,10 +3,10 @@ use Rattle.std.proofs.Common.{◌≡◌, ◌⊎◌, inl, inr, ◌&&◌, ◌||◌
 use Rattle.std.specs.FinMap.{entries, find, get, get-entries, get-retain_keys}
 use Rattle.std.proofs.lemmas.Bool.{cases_lt}
 use Rattle.std.proofs.lemmas.List.{reverse-append}
-use Rattle.laws_operation.proofs.EnterMoves.{values-append}
-use Rattle.laws_record.proofs.Reading.{get-found, read_file}
-use Rattle.pack_laws.proofs.Keys.{fid_same, fid_total, same_fid}
-use Rattle.pack_laws.proofs.Mapping.{get-map_values}
+use Rattle.scav_names.specs.laws_operation.proofs.EnterMoves.{values-append}
+use Rattle.scav_names.specs.laws_record.proofs.Reading.{get-found, read_file}
+use Rattle.scav_names.specs.pack_laws.proofs.Keys.{fid_same, fid_total, same_fid}
+use Rattle.scav_names.specs.pack_laws.proofs.Mapping.{get-map_values}
 use Rattle.pack_model.specs.reading.Bodies.{File, found}
 use Rattle.pack_model.specs.reading.Leaders.{Leader}
 use Rattle.pack_model.specs.sessions.Maps.{map_values}
@@ -36,20 +36,22 @@ use Rattle.scav_pages.specs.declared.errors.Stop.{Stop}
 use Rattle.scav_pages.specs.declared.errors.Stop.TheVariants as stop
 use Rattle.scav_table.specs.declared.errors.SweepError.{SweepError}
 use Rattle.scav_table.specs.declared.errors.SweepError.TheVariants as sweep
-use Rattle.laws_contents.proofs.ends.Laws.{each_file_has_its_end}
-use Rattle.laws_contents.proofs.pages.Laws.{formed_pages_have_256_words}
-use Rattle.laws_mend.specs.ClosingLaws.{IsDescribedSound, MayBeDescribed}
-use Rattle.laws_mend.proofs.closing.Laws.{described_is_sound}
-use Rattle.laws_mend.proofs.numbers.Laws.{used_available_is_free}
-use Rattle.laws_mend.proofs.parts.Laws.{whole_is_lasting}
-use Rattle.laws_operation.proofs.places.Laws.{model_has_the_living}
-use Rattle.laws_record.specs.ViewLaws.IsDescriptorPage.{claimed}
-use Rattle.laws_record.proofs.Copying.{place_carried}
-use Rattle.laws_room.specs.KeepLaws.RootMay.{as_before}
-use Rattle.laws_room.proofs.keeping.Laws.{descriptor_pages_keeps_aside}
-use Rattle.laws_room.proofs.marks.Laws.{unmarked_is_unclean, unmarked_stays}
-use Rattle.laws_room.proofs.rooms.Laws.{sound_needs_nothing}
-use Rattle.pack_laws.proofs.Guarding.{front_from, value_page}
+use Rattle.scav_names.specs.laws_contents.proofs.ends.Laws.{each_file_has_its_end}
+use Rattle.scav_names.specs.laws_contents.proofs.pages.Laws.{formed_pages_have_256_words}
+use Rattle.scav_names.specs.laws_mend.specs.ClosingLaws.{IsDescribedSound, MayBeDescribed}
+use Rattle.scav_names.specs.laws_mend.proofs.closing.Laws.{described_is_sound}
+use Rattle.scav_names.specs.laws_mend.proofs.joins.Laws.{nothing_tends}
+use Rattle.scav_names.specs.laws_mend.proofs.numbers.Laws.{used_available_is_free}
+use Rattle.scav_names.specs.laws_mend.proofs.parts.Laws.{whole_is_lasting}
+use Rattle.scav_names.specs.laws_operation.proofs.places.Laws.{model_has_the_living}
+use Rattle.scav_names.specs.laws_record.specs.ViewLaws.IsDescriptorPage.{claimed}
+use Rattle.scav_names.specs.laws_record.proofs.Chaining.{at_end, broken_off, keeps_trans, run_on, throughout_map}
+use Rattle.scav_names.specs.laws_record.proofs.Copying.{place_carried}
+use Rattle.scav_names.specs.laws_room.specs.KeepLaws.RootMay.{as_before}
+use Rattle.scav_names.specs.laws_room.proofs.keeping.Laws.{descriptor_pages_keeps_aside}
+use Rattle.scav_names.specs.laws_room.proofs.marks.Laws.{unmarked_is_unclean, unmarked_stays}
+use Rattle.scav_names.specs.laws_room.proofs.rooms.Laws.{sound_needs_nothing}
+use Rattle.scav_names.specs.pack_laws.proofs.Guarding.{front_from, value_page}
 use Rattle.pack_model.specs.hints.Tables.{free_table}
 use Rattle.pack_model.specs.operations.Commands.{values_writes}
 use Rattle.pack_model.specs.reading.Files.{file_bytes, leader, lives, place}
@@ -66,41 +68,14 @@ use Rattle.scavenger.specs.Runs.{AllMend, EndsIt, ScavengeWrites}
 use Rattle.scavenger.specs.Runs.ScavengeWrites.{all as all_of, some as some_of}
 
 -- ---- runs
-run_on : (P : Pack → Type 0) (p : Pack) (a b : List Event) → Throughout P p a → Throughout P (after p a) b → Throughout P p (a ++ b)
-run_on P p [] b r s = s
-run_on P p (e ∷ a) b r s = (r.0, run_on P (after p (e ∷ [])) a b r.1 s)
-
-run_end : (P : Pack → Type 0) (p : Pack) (events : List Event) → Throughout P p events → P (after p events)
-run_end P p [] r = r
-run_end P p (e ∷ events) r = run_end P (after p (e ∷ [])) events r.1
-
-run_map : (P Q : Pack → Type 0) → ((q : Pack) → P q → Q q) → (p : Pack) (events : List Event) → Throughout P p events → Throughout Q p events
-run_map P Q g p [] r = g p r
-run_map P Q g p (e ∷ events) r = (g p r.0, run_map P Q g (after p (e ∷ [])) events r.1)
-
+-- two properties of each crash point
 run_both : (P Q : Pack → Type 0) (p : Pack) (events : List Event) → Throughout P p events → Throughout Q p events → Throughout (λ q. P q × Q q) p events
 run_both P Q p [] r s = (r, s)
 run_both P Q p (e ∷ events) r s = ((r.0, s.0), run_both P Q (after p (e ∷ [])) events r.1 s.1)
 
-run_breaks : (P : Pack → Type 0) (p : Pack) (wanted events : List Event) → IsFirstOf wanted events → Throughout P p wanted → Throughout P p events
-run_breaks P p [] [] first r = r
-run_breaks P p (w ∷ wanted) [] first r = r.0
-run_breaks P p [] (e ∷ events) first r = absurd first
-run_breaks P p (w ∷ wanted) (e ∷ events) first r = (r.0, subst (λ x. Throughout P (after p (x ∷ [])) events) (sym first.0) (run_breaks P (after p (w ∷ [])) wanted events first.1 r.1))
-
 -- ---- what a scavenge keeps, on and on
-pub keeps_on : (p q r : Pack) → Keeps p q → Keeps q r → Keeps p r
-keeps_on p q r a b = record {
-  shown = b.shown ∙ a.shown;
-  balance = let x = a.balance in let y = b.balance in omega (arith, x, y);
-  scavengeable = λ s. b.scavengeable (a.scavengeable s);
-}
-
-pub keeps_here : (p : Pack) → Keeps p p
-keeps_here p = record { shown = refl; balance = refl; scavengeable = λ s. s }
-
 pub mending : (p q : Pack) (events : List Event) → Keeps p q → Throughout (Keeps q) q events → Throughout (λ r. Clean r → ⊥) q events → Throughout (Mends p) q events
-mending p q events k keeps unclean = run_map (λ r. Keeps q r × (Clean r → ⊥)) (Mends p) (λ r both. record { keeps = keeps_on p q r k both.0; unclean = both.1 }) q events (run_both (Keeps q) (λ r. Clean r → ⊥) q events keeps unclean)
+mending p q events k keeps unclean = throughout_map (λ r. Keeps q r × (Clean r → ⊥)) (Mends p) (λ r both. record { keeps = keeps_trans p q r k both.0; unclean = both.1 }) q events (run_both (Keeps q) (λ r. Clean r → ⊥) q events keeps unclean)
 
 pub all_on : (p : Pack) (xs ys : List Event) → AllMend p xs → Throughout (Mends p) (after p xs) ys → AllMend p (xs ++ ys)
 all_on p [] [] a r = tt
@@ -143,7 +118,7 @@ one_later p at n value here unmarked = record {
     other e = let same : suc (suc n) ≡ 1 = ap (λ o. option_map_or (λ (x : Page). x.number) o 0) e in omega (arith, same)
 
 stands_on : (p q r : Pack) → StandsBy p q → StandsBy q r → StandsBy p r
-stands_on p q r a b = record { shape = b.shape ∙ a.shape; keeps = keeps_on p q r a.keeps b.keeps; unmarked = b.unmarked; pages = λ i. b.pages i ∙ a.pages i }
+stands_on p q r a b = record { shape = b.shape ∙ a.shape; keeps = keeps_trans p q r a.keeps b.keeps; unmarked = b.unmarked; pages = λ i. b.pages i ∙ a.pages i }
 
 later_writes : (p q : Pack) (values : List (ℕ × List ℕ)) → AreLater p values → StandsBy p q → Throughout (StandsBy p) q (values_writes values)
 later_writes p q [] later s = s
@@ -262,21 +237,21 @@ module _ (p q : Pack) (last : ℕ) (pages : List ℕ) (keeps : Keeps p q) (unmar
     k,
     (let many : suc k < length pages = (let long = ap length is in omega (arith, few, long)) in
         place_carried q (record { fid = disk_descriptor; number = suc (suc k) }) (get_or rest k 0) (in_it.1 (suc k) many ∙ ap (λ l. Some (get_or l (suc k) 0)) is)),
-  )))) (record { shape = refl; keeps = keeps_here q; unmarked = unmarked; pages = λ i. refl })
+  )))) (record { shape = refl; keeps = (nothing_tends q).keeps; unmarked = unmarked; pages = λ i. refl })
 
   mends_before : (at : ℕ) (rest : List ℕ) → pages ≡ at ∷ rest → Throughout (Mends p) q (values_writes (reverse (closed_values q.shape last (free_table q) 1 rest)))
-  mends_before at rest is = run_map (StandsBy q) (Mends p) (λ r s. record { keeps = keeps_on p q r keeps s.keeps; unclean = unmarked_is_unclean r s.unmarked }) q (values_writes (reverse (closed_values q.shape last (free_table q) 1 rest))) (before_stands at rest is)
+  mends_before at rest is = throughout_map (StandsBy q) (Mends p) (λ r s. record { keeps = keeps_trans p q r keeps s.keeps; unclean = unmarked_is_unclean r s.unmarked }) q (values_writes (reverse (closed_values q.shape last (free_table q) 1 rest))) (before_stands at rest is)
 
   ended_keeps : (at : ℕ) (rest : List ℕ) → pages ≡ at ∷ rest → Keeps p (after q (closing q.shape last (free_table q) pages))
   ended_keeps at rest is =
       let r : Pack = after q (values_writes (reverse (closed_values q.shape last (free_table q) 1 rest))) in
-      let s : StandsBy q r = run_end (StandsBy q) q (values_writes (reverse (closed_values q.shape last (free_table q) 1 rest))) (before_stands at rest is) in
+      let s : StandsBy q r = at_end (StandsBy q) q (values_writes (reverse (closed_values q.shape last (free_table q) 1 rest))) (before_stands at rest is) in
       let some : 0 < length pages = (let long = ap length is in omega (arith, long)) in
       let here : carried q at ≡ Some (record { fid = disk_descriptor; number = 1 }) = place_carried q (record { fid = disk_descriptor; number = 1 }) at (in_it.1 0 some ∙ ap (λ l. Some (get_or l 0 0)) is) in
       let last_one = value_keeps r at 0 (descriptor_value q.shape last mark_clean (free_table q) 0) (s.pages at ∙ here) in
       let whole : after q (closing q.shape last (free_table q) pages) ≡ after r (Wrote at 2 (descriptor_value q.shape last mark_clean (free_table q) 0) ∷ []) =
       ap (λ l. after q (closing q.shape last (free_table q) l)) is ∙ ap (after q) (closing_splits q.shape last (free_table q) at rest) ∙ after-append q (values_writes (reverse (closed_values q.shape last (free_table q) 1 rest))) (Wrote at 2 (descriptor_value q.shape last mark_clean (free_table q) 0) ∷ []) in
-      subst (Keeps p) (sym whole) (keeps_on p q (after r (Wrote at 2 (descriptor_value q.shape last mark_clean (free_table q) 0) ∷ [])) keeps (keeps_on q r (after r (Wrote at 2 (descriptor_value q.shape last mark_clean (free_table q) 0) ∷ [])) s.keeps last_one))
+      subst (Keeps p) (sym whole) (keeps_trans p q (after r (Wrote at 2 (descriptor_value q.shape last mark_clean (free_table q) 0) ∷ [])) keeps (keeps_trans q r (after r (Wrote at 2 (descriptor_value q.shape last mark_clean (free_table q) 0) ∷ [])) s.keeps last_one))
 
   scavenged : (at : ℕ) (rest : List ℕ) → pages ≡ at ∷ rest → Scavenged p (after q (closing q.shape last (free_table q) pages))
   scavenged at rest is =
@@ -301,7 +276,7 @@ pub writes_end : (p : Pack) (events xs : List Event) (last : ℕ) (pages : List 
 writes_end p events xs last [] mends keeps unmarked mended full last_is in_it first = absurd (let size = in_it.0 in omega (arith, size))
 writes_end p events xs last (at ∷ rest) mends keeps unmarked mended full last_is in_it first = (
   elim cases [
-    | inl before ↦ some_of (all_on p events xs mends (run_breaks (Mends p) (after p events) (values_writes (reverse (closed_values p.shape last (free_table (after p events)) 1 rest))) xs before mending_writes))
+    | inl before ↦ some_of (all_on p events xs mends (broken_off (Mends p) (after p events) (values_writes (reverse (closed_values p.shape last (free_table (after p events)) 1 rest))) xs before mending_writes))
     | inr whole ↦ all_of (ends (whole ∙ sym splits))
   ],
   ends,
@@ -345,7 +320,7 @@ pub mid_on : {a b c : Taped} → Midway a b → Grown b c → Throughout (Keeps 
 mid_on {a} {b} {c} m now kept unclean unmarked = record {
   grown = grown_twice m.grown now;
   mends = mid_stop m now kept unclean;
-  keeps = keeps_on (pack a) (pack b) (pack c) m.keeps (subst (Keeps (pack b)) (sym (pack-after now)) (run_end (Keeps (pack b)) (pack b) (added b c) kept));
+  keeps = keeps_trans (pack a) (pack b) (pack c) m.keeps (subst (Keeps (pack b)) (sym (pack-after now)) (at_end (Keeps (pack b)) (pack b) (added b c) kept));
   unmarked = unmarked;
 }
 

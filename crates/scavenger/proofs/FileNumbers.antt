@@ -8,13 +8,13 @@ use Rattle.alto_words.specs.Fid.{disk_descriptor, is_directory, is_fid}
 use Rattle.disk_records.specs.Addresses.{descriptor_length}
 use Rattle.disk_records.specs.declared.shape.Shape.{Shape}
 use Rattle.disk_records.specs.Packs.{Pack}
-use Rattle.laws_contents.proofs.ends.Laws.{each_file_has_its_end}
-use Rattle.laws_operation.proofs.places.Laws.{file_lives_in_a_place}
-use Rattle.laws_record.proofs.Heads.{all_within}
-use Rattle.laws_room.specs.CountLaws.{placed_pages}
-use Rattle.pack_laws.proofs.Bytes.{length-words_of}
-use Rattle.pack_laws.proofs.Keys.{same_fid}
-use Rattle.pack_laws.proofs.Placing.{no_page, page_of_place}
+use Rattle.scav_names.specs.laws_contents.proofs.ends.Laws.{each_file_has_its_end}
+use Rattle.scav_names.specs.laws_operation.proofs.places.Laws.{file_lives_in_a_place}
+use Rattle.scav_names.specs.laws_record.proofs.Heads.{all_within}
+use Rattle.scav_names.specs.laws_room.specs.CountLaws.{placed_pages}
+use Rattle.scav_names.specs.pack_laws.proofs.Bytes.{length-words_of}
+use Rattle.scav_names.specs.pack_laws.proofs.Keys.{same_fid}
+use Rattle.scav_names.specs.pack_laws.proofs.Placing.{no_page, page_of_place}
 use Rattle.pack_model.specs.hints.Links.{dir_words}
 use Rattle.pack_model.specs.reading.Bodies.{body_length, body_of}
 use Rattle.pack_model.specs.reading.Bodies.Body.{data_of, items_of}

@@ -6,9 +6,9 @@ use Rattle.std.specs.List.{filter}
 use Rattle.alto_words.specs.declared.fid.Fid.{Fid}
 use Rattle.alto_words.specs.Fid.{fid_cmp, is_fid, serial_of}
 use Rattle.disk_records.specs.declared.shape.Shape.{Shape}
-use Rattle.laws_room.specs.CountLaws.{count_placed, placed_pages}
-use Rattle.laws_record.proofs.Around.{first_part, not_below, second_part}
-use Rattle.pack_laws.proofs.Keys.{is_fid-itself, is_fid-sym, same_fid}
+use Rattle.scav_names.specs.laws_room.specs.CountLaws.{count_placed, placed_pages}
+use Rattle.scav_names.specs.laws_record.proofs.Around.{first_part, not_below, second_part}
+use Rattle.scav_names.specs.pack_laws.proofs.Keys.{is_fid-itself, is_fid-sym, same_fid}
 use Rattle.pack_model.specs.reading.Bodies.{File}
 use Rattle.pack_model.specs.reading.Sights.{Sight}
 use Rattle.pack_model.specs.scavenger.Needed.{file_lacks, files_lack}

@@ -10,7 +10,7 @@ use Rattle.disk_records.specs.declared.shape.Shape.{Shape}
 use Rattle.disk_records.specs.Tapes.{Taped, pack}
 use Rattle.label_sweep.specs.Swept.{Swept}
 use Rattle.label_sweep.proofs.Visiting.{kept_at_each, kept_by_steps, numbered-append}
-use Rattle.pack_laws.proofs.Firsts.{or_assoc, or_none}
+use Rattle.scav_names.specs.pack_laws.proofs.Firsts.{or_assoc, or_none}
 use Rattle.pack_model.specs.reading.Files.{carries_page, first, numbered, place, place_at}
 use Rattle.pack_model.specs.reading.Sights.{Sight}
 use Rattle.pack_model.specs.reading.Sights.Sight.{hidden}

@@ -12,7 +12,7 @@ use Rattle.disk_records.specs.declared.records.Page.{Page}
 use Rattle.disk_records.specs.Packs.{Pack, carried, sector_at}
 use Rattle.disk_records.specs.Labels.{tag}
 use Rattle.pack_model.specs.scavenger.Scavenging.{root_stands}
-use Rattle.laws_room.specs.NextLaws.{mended_pack}
+use Rattle.scav_names.specs.laws_room.specs.NextLaws.{mended_pack}
 use Rattle.pack_model.specs.operations.Rooms.{placed}
 use Rattle.pack_model.specs.reading.Bodies.{items_in, pages_for}
 use Rattle.pack_model.specs.reading.Bodies.Body.{data_of, items_of}
@@ -20,22 +20,22 @@ use Rattle.pack_model.specs.reading.Model.{Model, files_pages, good_sectors}
 use Rattle.pack_model.specs.reading.Slots.{Item, all_words}
 use Rattle.pack_model.specs.reading.Slots.Item.{entry}
 use Rattle.pack_model.specs.scavenger.Mended.{lacking, mended, needs, on_room, root_body, root_file, rooted, widens, with_page, with_system}
-use Rattle.laws_contents.proofs.ends.Laws.{missing_page_ends_the_file}
-use Rattle.laws_contents.proofs.pages.Laws.{none_before_the_first}
-use Rattle.laws_operation.proofs.places.Laws.{file_lives_in_a_place}
-use Rattle.laws_record.proofs.Around.{second_part}
-use Rattle.laws_record.proofs.Mending.{entries-tidied}
-use Rattle.laws_record.proofs.Reading.{get-found, read_file}
-use Rattle.laws_record.proofs.Unread.{no_page_shown}
-use Rattle.laws_room.specs.CountLaws.{count_placed, placed_pages}
-use Rattle.laws_room.proofs.numbers.Laws.{counting_theorem}
-use Rattle.pack_laws.proofs.ByLists.{entries-retain_keys, is_shown, seen_by, seen_list}
-use Rattle.pack_laws.proofs.Keys.{fid_same, fid_total, is_fid-itself, same_fid}
-use Rattle.pack_laws.proofs.Placing.{place_none}
-use Rattle.laws_operation.proofs.Showing.{is_here, usable_is}
-use Rattle.laws_record.proofs.Recording.{carried_sight}
+use Rattle.scav_names.specs.laws_contents.proofs.ends.Laws.{missing_page_ends_the_file}
+use Rattle.scav_names.specs.laws_contents.proofs.pages.Laws.{none_before_the_first}
+use Rattle.scav_names.specs.laws_operation.proofs.places.Laws.{file_lives_in_a_place}
+use Rattle.scav_names.specs.laws_record.proofs.Around.{second_part}
+use Rattle.scav_names.specs.laws_record.proofs.Mending.{entries-tidied}
+use Rattle.scav_names.specs.laws_record.proofs.Reading.{get-found, read_file}
+use Rattle.scav_names.specs.laws_record.proofs.Unread.{no_page_shown}
+use Rattle.scav_names.specs.laws_room.specs.CountLaws.{count_placed, placed_pages}
+use Rattle.scav_names.specs.laws_room.proofs.numbers.Laws.{counting_theorem}
+use Rattle.scav_names.specs.pack_laws.proofs.ByLists.{entries-retain_keys, is_shown, seen_by, seen_list}
+use Rattle.scav_names.specs.pack_laws.proofs.Keys.{fid_same, fid_total, is_fid-itself, same_fid}
+use Rattle.scav_names.specs.pack_laws.proofs.Placing.{place_none}
+use Rattle.scav_names.specs.laws_operation.proofs.Showing.{is_here, usable_is}
+use Rattle.scav_names.specs.laws_record.proofs.Recording.{carried_sight}
 use Rattle.scavenger.proofs.Closing.{counts_page}
-use Rattle.pack_laws.proofs.Sighted.{length-sights}
+use Rattle.scav_names.specs.pack_laws.proofs.Sighted.{length-sights}
 use Rattle.pack_model.specs.reading.Bodies.{Body, File, body_items, body_length, body_of, described, found, is_described}
 use Rattle.pack_model.specs.reading.Files.{carries_page, file_bytes, leader, lives, numbered, page, place}
 use Rattle.pack_model.specs.reading.Leaders.{Leader}
@@ -57,6 +57,7 @@ use Rattle.scavenger.specs.Counting.{Counted, CountsAll, MetAll, living}
 use Rattle.scavenger.specs.Descriptors.{IsSystem, old_serial_of}
 use Rattle.scavenger.specs.InUse.{is_root, lacking_of, last_in_use}
 use Rattle.scavenger.proofs.FileNumbers.{its_end, lacks_by_body, lacks_by_format, placed_or_missing}
+use Rattle.scav_pages.proofs.Ahead.{few_pass}
 use Rattle.scavenger.proofs.Filtering.{all_met, found_first, found_later}
 use Rattle.scavenger.proofs.OldSerial.{none_said, said_long}
 
@@ -76,14 +77,6 @@ all_living : (p : Pack) (met : Fid → Bool) → MetAll p met → living p met �
 all_living p met all = all_met met (entries (found (sights p))) (entries_sorted (found (sights p))) (λ f x is. all.0 f (lives_found p f x is).0)
 
 -- ---- how many there can be
-few_pass : {X : Type 0} (test : X → Bool) (xs : List X) → how_many test xs ≤ length xs
-few_pass test [] = omega arith
-few_pass test (x ∷ xs) = let rest = few_pass test xs in let one = at_most (test x) in omega (arith, rest, one)
-  where
-    at_most : (b : Bool) → one_if b ≤ 1
-    at_most true = omega arith
-    at_most false = omega arith
-
 length-numbered : (from : ℕ) (ss : List Sight) → length (numbered from ss) ≡ length ss
 length-numbered from [] = refl
 length-numbered from (s ∷ ss) = ap suc (length-numbered (suc from) ss)

@@ -4,7 +4,7 @@ use Rattle.std.specs.Option.{is_some, option_map_or}
 use Rattle.std.proofs.lemmas.Bool.Decides.{nat_tests}
 use Rattle.alto_words.specs.Fid.{disk_descriptor}
 use Rattle.disk_records.specs.Packs.{Pack}
-use Rattle.pack_laws.proofs.Placing.{no_page, page_of_place}
+use Rattle.scav_names.specs.pack_laws.proofs.Placing.{no_page, page_of_place}
 use Rattle.pack_model.specs.reading.Files.{place}
 use Rattle.pack_model.specs.reading.Sights.{sights}
 use Rattle.pack_model.specs.scavenger.Needed.{missing, page_lacks}

@@ -14,3 +14,4 @@ mod Opening
 mod Refusals
 mod Safety
 mod Starting
+mod Turning

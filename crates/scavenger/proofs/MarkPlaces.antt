@@ -5,7 +5,7 @@ use Rattle.alto_words.specs.Fid.{disk_descriptor}
 use Rattle.disk_records.specs.Packs.{Pack, carried}
 use Rattle.pack_model.specs.reading.Files.{place}
 use Rattle.pack_model.specs.reading.Sights.{sights}
-use Rattle.laws_record.proofs.Copying.{place_carried}
+use Rattle.scav_names.specs.laws_record.proofs.Copying.{place_carried}
 use Rattle.scav_pages.proofs.Describing.{placed_first}
 use Rattle.scavenger.specs.Descriptors.{mark_sector}
 

@@ -7,9 +7,9 @@ use Rattle.disk_records.specs.declared.shape.Shape.{Shape}
 use Rattle.disk_records.specs.Addresses.{cylinders_of, disks_of}
 use Rattle.disk_records.specs.Packs.{Pack, sector_at}
 use Rattle.disk_records.specs.Words.{double, word}
-use Rattle.laws_contents.specs.WordContents.{HasWordOf, file_words}
-use Rattle.laws_contents.proofs.words.Laws.{each_word_has_its_page, word_stands_in_its_page}
-use Rattle.pack_laws.proofs.Bytes.{length-words_of}
+use Rattle.scav_names.specs.laws_contents.specs.WordContents.{HasWordOf, file_words}
+use Rattle.scav_names.specs.laws_contents.proofs.words.Laws.{each_word_has_its_page, word_stands_in_its_page}
+use Rattle.scav_names.specs.pack_laws.proofs.Bytes.{length-words_of}
 use Rattle.pack_model.specs.reading.Files.{file_bytes, place}
 use Rattle.pack_model.specs.reading.Model.{descriptor_words, last_serial}
 use Rattle.pack_model.specs.reading.Sights.{sights}

@@ -15,20 +15,21 @@ use Rattle.disk_records.specs.declared.shape.Shape.{Shape}
 use Rattle.disk_records.specs.Labels.{tag}
 use Rattle.disk_records.specs.Packs.{Pack, after, carried, is_usable, sector_at, with_part}
 use Rattle.disk_records.specs.Words.{word}
-use Rattle.laws_mend.proofs.counting.Laws.{counts_by_its_format}
-use Rattle.laws_operation.proofs.places.Laws.{values_keep_places}
-use Rattle.laws_record.specs.ViewLaws.IsDescriptorPage.{claimed}
-use Rattle.laws_record.proofs.Recording.{carried_sight}
-use Rattle.laws_record.proofs.Staying.{FilesStay}
-use Rattle.laws_record.proofs.SystemWrites.{descriptor_pages}
-use Rattle.laws_record.proofs.Systemic.{described_get}
-use Rattle.laws_record.proofs.views.Laws.{descriptor_pages_views_same}
-use Rattle.laws_room.specs.KeepLaws.RootMay.{as_before}
-use Rattle.laws_room.proofs.keeping.Laws.{descriptor_pages_keeps_aside}
-use Rattle.laws_room.proofs.marks.Laws.{opened_is_unmarked, unmarked_is_unclean}
-use Rattle.pack_laws.proofs.Guarding.{front_from, value_page}
-use Rattle.pack_laws.proofs.Keys.{same_fid}
-use Rattle.pack_laws.proofs.Sighted.{sights-write}
+use Rattle.scav_names.specs.laws_mend.proofs.counting.Laws.{counts_by_its_format}
+use Rattle.scav_names.specs.laws_mend.proofs.joins.Laws.{nothing_tends}
+use Rattle.scav_names.specs.laws_operation.proofs.places.Laws.{values_keep_places}
+use Rattle.scav_names.specs.laws_record.specs.ViewLaws.IsDescriptorPage.{claimed}
+use Rattle.scav_names.specs.laws_record.proofs.Recording.{carried_sight}
+use Rattle.scav_names.specs.laws_record.proofs.Staying.{FilesStay}
+use Rattle.scav_names.specs.laws_record.proofs.SystemWrites.{descriptor_pages}
+use Rattle.scav_names.specs.laws_record.proofs.Systemic.{described_get}
+use Rattle.scav_names.specs.laws_record.proofs.views.Laws.{descriptor_pages_views_same}
+use Rattle.scav_names.specs.laws_room.specs.KeepLaws.RootMay.{as_before}
+use Rattle.scav_names.specs.laws_room.proofs.keeping.Laws.{descriptor_pages_keeps_aside}
+use Rattle.scav_names.specs.laws_room.proofs.marks.Laws.{opened_is_unmarked, unmarked_is_unclean}
+use Rattle.scav_names.specs.pack_laws.proofs.Guarding.{front_from, value_page}
+use Rattle.scav_names.specs.pack_laws.proofs.Keys.{same_fid}
+use Rattle.scav_names.specs.pack_laws.proofs.Sighted.{sights-write}
 use Rattle.pack_model.specs.reading.Files.{lives, numbered, place}
 use Rattle.pack_model.specs.reading.Sights.{Sight, page_sight, sight, sights}
 use Rattle.pack_model.specs.reading.Sights.Sight.{hidden}
@@ -145,7 +146,7 @@ module _ (p : Pack) (at : ℕ) (value : List ℕ) (here : carried p at ≡ Some 
 -- where no sector has it nothing is written
 pub mark_absent : (p : Pack) → mark_sector p ≡ 0 → MarkOpened p p
 mark_absent p none = record {
-  keeps = record { shown = refl; balance = refl; scavengeable = λ s. s };
+  keeps = (nothing_tends p).keeps;
   unmarked = λ at is mark. no_mark_sector p at none is;
   freed = refl;
   adopted = refl;

@@ -10,7 +10,7 @@ use Rattle.disk_descriptor.specs.Fields.{AreSectors}
 use Rattle.disk_records.specs.Addresses.{pages_of}
 use Rattle.disk_records.specs.Packs.{Pack, carried}
 use Rattle.disk_records.specs.declared.shape.Shape.{Shape}
-use Rattle.laws_record.proofs.Copying.{place_carried}
+use Rattle.scav_names.specs.laws_record.proofs.Copying.{place_carried}
 use Rattle.pack_model.specs.reading.Files.{place}
 use Rattle.pack_model.specs.reading.Sights.{sights}
 use Rattle.pack_model.specs.sessions.Descriptor.{closed_values, data_pages}

@@ -4,8 +4,8 @@ use Rattle.std.proofs.lemmas.Bool.Decides.{nat_tests}
 use Rattle.disk_records.specs.Addresses.{is_right_header, pages_of}
 use Rattle.disk_records.specs.Labels.{Tag, in_range, is_free, tag}
 use Rattle.disk_records.specs.Packs.{Pack, sector_at}
-use Rattle.laws_room.proofs.numbers.Laws.{counting_theorem}
-use Rattle.pack_laws.proofs.Sighted.{length-sights, sights-get}
+use Rattle.scav_names.specs.laws_room.proofs.numbers.Laws.{counting_theorem}
+use Rattle.scav_names.specs.pack_laws.proofs.Sighted.{length-sights, sights-get}
 use Rattle.pack_model.specs.reading.Model.{good_one, good_sectors}
 use Rattle.pack_model.specs.reading.Sights.{Sight, page_sight, sight, sights, tag_sight}
 use Rattle.pack_model.specs.reading.Sights.Sight.{free, hidden, holds, leads, stray}

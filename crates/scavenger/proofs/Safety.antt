@@ -1,23 +1,21 @@
 -- Each crash point of a scavenge.
-use Rattle.std.proofs.Common.{◌≡◌, inl, inr, ℕ, zero, suc, ◌<◌, Bool, true, false, not, cond, nat_le, List, [], ◌∷◌, ◌++◌, get_or, length, take, Some, None, Result, Ok, Err, OnOk, IfOk, refl, sym, ap, subst, ◌∙◌, arith}
+use Rattle.std.proofs.Common.{◌≡◌, inl, inr, ℕ, zero, suc, ◌<◌, List, [], ◌∷◌, ◌++◌, length, take, Some, None, Result, Ok, Err, OnOk, IfOk, refl, sym, ap, subst, ◌∙◌, arith}
 use Rattle.std.proofs.lemmas.Bool.{cases_lt}
-use Rattle.std.proofs.lemmas.Bool.Decides.{nat_tests}
 use Rattle.std.proofs.lemmas.List.{length-append, take-append-le, take_all}
 use Rattle.disk_records.specs.declared.records.Event.{Event}
 use Rattle.disk_records.specs.declared.records.Event.TheVariants.{Wrote}
 use Rattle.disk_records.specs.Events.{writes_in}
-use Rattle.disk_records.specs.Packs.{Pack, after, sector_at}
+use Rattle.disk_records.specs.Packs.{Pack, after}
 use Rattle.disk_records.specs.Tapes.{Taped, added, pack}
-use Rattle.laws_room.proofs.rooms.Laws.{sound_needs_nothing}
+use Rattle.scav_names.specs.laws_record.proofs.Chaining.{at_cut}
+use Rattle.scav_names.specs.laws_room.proofs.rooms.Laws.{scavengeable_is_unrefused, sound_needs_nothing}
 use Rattle.pack_model.specs.reading.Sights.{sights}
-use Rattle.pack_model.specs.reading.Sights.Sight.{hidden}
 use Rattle.pack_model.specs.scavenger.Needed.{needed}
 use Rattle.pack_model.specs.scavenger.Reports.{freed_sectors, adopted_files}
-use Rattle.pack_model.specs.scavenger.Scavenging.{Mends, Scavengeable, Throughout, first_refusal, root_stands}
-use Rattle.pack_model.specs.scavenger.Scavenging.Refusal.{pack_full, root_bad, root_taken}
+use Rattle.pack_model.specs.scavenger.Scavenging.{Mends, Scavengeable, first_refusal}
 use Rattle.pack_model.specs.showing.Settling.{show}
 use Rattle.pack_model.specs.states.Sound.{Clean, Sound}
-use Rattle.pack_model.specs.states.InUse.{available, bad_sectors, is_good}
+use Rattle.pack_model.specs.states.InUse.{bad_sectors}
 use Rattle.scavenger.specs.declared.counts.Counts.{Counts}
 use Rattle.scavenger.specs.declared.errors.Report.{Report}
 use Rattle.scavenger.specs.declared.errors.ScavError.{ScavError}
@@ -34,12 +32,6 @@ use Rattle.scavenger.specs.Runs.ScavengeWrites.{all as all_of, some as some_of}
 use Rattle.scavenger.specs.Scavenges.{IsSafe, IsUnrefused, MendsAll, Scavenges}
 
 -- ---- crash points
-at_point : (P : Pack → Type 0) (q : Pack) (events : List Event) (k : ℕ) → Throughout P q events → P (after q (take k events))
-at_point P q [] zero r = r
-at_point P q [] (suc k) r = r
-at_point P q (e ∷ events) zero r = r.0
-at_point P q (e ∷ events) (suc k) r = at_point P (after q (e ∷ [])) events k r.1
-
 -- what is said of the pack after these of the events
 record SafeAfter (p : Pack) (done : List Event) : Type 0 where
   shown : show (after p done) ≡ show p
@@ -57,7 +49,7 @@ safe_mends p [] zero mends = safe_none p
 safe_mends p [] (suc k) mends = safe_none p
 safe_mends p (e ∷ events) zero mends = safe_none p
 safe_mends p (e ∷ events) (suc k) mends =
-    let m : Mends p (after p (e ∷ take k events)) = at_point (Mends p) (after p (e ∷ [])) events k mends in
+    let m : Mends p (after p (e ∷ take k events)) = at_cut (Mends p) (after p (e ∷ [])) events mends k in
     record { shown = m.keeps.shown; scavengeable = m.keeps.scavengeable; clean = λ some clean. absurd (m.unclean clean) }
 
 safe_ends : (p : Pack) (events : List Event) (k : ℕ) → EndsIt p events → SafeAfter p (take k events)
@@ -107,16 +99,6 @@ refused_answers p DiskFault is = tt
 refused_answers p Memory is = tt
 
 -- ---- a pack that isn't refused
-pub unrefused_may : (p : Pack) → first_refusal p ≡ None → Scavengeable p
-unrefused_may p none = by (is_good (get_or (sights p) 1 hidden)) (root_stands p.shape (sights p) (get_or (sights p) 1 hidden)) (nat_le (needed p.shape (sights p)) (available p.shape (sights p))) refl refl none
-  where
-    by : (g r n : Bool) → root_stands p.shape (sights p) (get_or (sights p) 1 hidden) ≡ r → nat_le (needed p.shape (sights p)) (available p.shape (sights p)) ≡ n
-        → cond (not g) (Some (root_bad (sector_at p 1).header)) (cond (not r) (Some (root_taken (sector_at p 1).label)) (cond n None (Some (pack_full (needed p.shape (sights p)) (available p.shape (sights p)))))) ≡ None → Scavengeable p
-    by true true true x y h = record { root = x; room = grind (arith, nat_tests, y) }
-    by true true false x y h = absurd cc
-    by true false n x y h = absurd cc
-    by false r n x y h = absurd cc
-
 pub scavenges_all : {a b : Taped} (counts : Counts) (bad : ℕ) (result : Result Report ScavError) → first_refusal (pack a) ≡ None → Counted (pack a) counts → bad ≡ bad_sectors (sights (pack a)) → MendsAll counts bad a b result → Scavenges a b result
 scavenges_all {a} {b} counts bad result none counted bad_is mends = record {
   answers = answer result mends.unrefused mends.report;
@@ -153,7 +135,7 @@ scavenges_after {a} {b} {c} counts bad result before now silent none counted bad
     same = added-twice before now ∙ ap (λ l. l ++ added b c) silent
 
     m : MendsAll counts bad b c result
-    m = mends (subst Scavengeable (sym here) (unrefused_may (pack a) none)) (subst (λ q. Counted q counts) (sym here) counted)
+    m = mends (subst Scavengeable (sym here) ((scavengeable_is_unrefused (pack a)).1 none)) (subst (λ q. Counted q counts) (sym here) counted)
 
     by : (r : Result Report ScavError) → OnOk r (EndsIt (pack b) (added b c)) → OnOk r (EndsIt (pack a) (added a c))
     by (Ok report) e = subst (EndsIt (pack a)) (sym same) (subst (λ q. EndsIt q (added b c)) here e)

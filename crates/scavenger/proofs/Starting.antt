@@ -5,7 +5,7 @@ use Rattle.std.specs.Option.{option_map_or}
 use Rattle.alto_words.specs.Fid.{is_system}
 use Rattle.disk_records.specs.declared.records.Page.{Page}
 use Rattle.disk_records.specs.Packs.{Pack, carried}
-use Rattle.laws_room.specs.CountLaws.{count_placed}
+use Rattle.scav_names.specs.laws_room.specs.CountLaws.{count_placed}
 use Rattle.pack_model.specs.reading.Bodies.{found}
 use Rattle.pack_model.specs.reading.Sights.{sights}
 use Rattle.pack_model.specs.scavenger.Needed.{files_lack}

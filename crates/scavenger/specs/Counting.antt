@@ -7,7 +7,7 @@ use Rattle.alto_words.specs.declared.fid.Fid.{Fid}
 use Rattle.alto_words.specs.Fid.{is_fid, is_system, serial_of, sys_dir, disk_descriptor}
 use Rattle.disk_records.specs.declared.records.Page.{Page}
 use Rattle.disk_records.specs.Packs.{Pack, carried}
-use Rattle.laws_room.specs.CountLaws.{count_placed}
+use Rattle.scav_names.specs.laws_room.specs.CountLaws.{count_placed}
 use Rattle.pack_model.specs.reading.Bodies.{File, found}
 use Rattle.pack_model.specs.reading.Files.{lives, numbered, place}
 use Rattle.pack_model.specs.reading.Sights.{sights}

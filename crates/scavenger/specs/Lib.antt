@@ -6,3 +6,7 @@ pub mod InUse
 pub mod Marks
 pub mod Runs
 pub mod Scavenges
+pub mod Turning
+pub use Rattle.scav_names.specs.laws_room
+pub use Rattle.laws_session
+pub use Rattle.laws_session.specs.session_model

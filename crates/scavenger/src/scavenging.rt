@@ -27,8 +27,8 @@ use std::alloc::Global;
 /// greatest of those of living files and of the old one, where the old DiskDescriptor says this shape, or one drive with as many cylinders.
 ///
 /// RootBad, RootTaken, PackFull, in this order: the pack can't be scavenged, and nothing was written. DiskFault: the disk failed. Memory: none
-/// was left; or, on a disk that isn't modelled, a sector shows another page than a moment ago. After either of these two a prefix of the work is
-/// done, and the pack can be scavenged if it could be before.
+/// was left; or, on a disk that isn't modelled, a sector shows another page than a moment ago while pages are counted, names are mended or
+/// DiskDescriptor is written. After either of these two a prefix of the work is done, and the pack can be scavenged if it could be before.
 pub fn scavenge<D: Disk>(alloc: Global, disk: &mut D) -> Result<Report, ScavError>
     ensures scavenges { IsTrue D.told → Scavenges (D.tape disk.old) (D.tape disk.new) result }
     ensures cause { HasCause cause_of_scav (D.tape disk.old) (D.tape disk.new) result }

@@ -14,13 +14,13 @@ use Rattle.exec_words.specs.declared.line.Line.TheVariants as line
 use Rattle.exec_words.specs.declared.reply.Refusal.{Refusal}
 use Rattle.exec_words.specs.declared.reply.Reply.{Reply}
 use Rattle.exec_words.specs.declared.reply.Reply.TheVariants as reply
-use Rattle.pack_laws.proofs.Moving.{start_self}
-use Rattle.pack_laws.proofs.TurnCalls.{shown_first}
-use Rattle.pack_model.specs.hints.Tables.{HintsTrue}
-use Rattle.pack_model.specs.hints.Truth.{Truthful}
-use Rattle.pack_model.specs.operations.Operations.{Move}
-use Rattle.pack_model.specs.sessions.Moves.{rest}
-use Rattle.pack_model.specs.sessions.Turns.{Turn}
+use Rattle.executive.specs.pack_laws.proofs.Moving.{start_self}
+use Rattle.executive.specs.pack_laws.proofs.TurnCalls.{shown_first}
+use Rattle.executive.specs.pack_model.specs.hints.Tables.{HintsTrue}
+use Rattle.executive.specs.pack_model.specs.hints.Truth.{Truthful}
+use Rattle.executive.specs.pack_model.specs.operations.Operations.{Move}
+use Rattle.executive.specs.pack_model.specs.sessions.Moves.{rest}
+use Rattle.executive.specs.pack_model.specs.sessions.Turns.{Turn}
 use Rattle.session_model.specs.Answering.{Answers, IsAnswer, Replied, TakesTurn, TakesTurns, TellsWrites, count_end, reply_of, reply_unless}
 use Rattle.session_model.specs.Keeping.{Kept, Keeping}
 use Rattle.session_model.specs.Replies.{refusal as refusal_to, reply_to, unless_refused}

@@ -6,16 +6,16 @@ use Rattle.disk_records.specs.Events.{writes_in}
 use Rattle.disk_records.specs.Packs.{Pack, after}
 use Rattle.disk_records.specs.Tapes.{Grown, KeysAlone, Taped, added, capped, pack}
 use Rattle.disk_records.proofs.Growing.{added-twice, grown_twice, pack-after}
-use Rattle.laws_session.proofs.ends.Laws.{sessions_leave_closed, sound_packs_begin}
-use Rattle.laws_session.proofs.histories.Laws.{crashes_of_a_history, crashes_show_the_ruled_model, histories_are_shown}
-use Rattle.pack_laws.proofs.tallies.Laws.{tally_by_the_count}
-use Rattle.pack_model.specs.hints.Tables.{HintsTrue}
-use Rattle.pack_model.specs.operations.Operations.{Move}
-use Rattle.pack_model.specs.reading.Model.{read_as}
-use Rattle.pack_model.specs.sessions.Moves.{IsStartOf}
-use Rattle.pack_model.specs.sessions.Tallies.{counted, no_tally}
-use Rattle.pack_model.specs.sessions.Turns.{Turn, ops_of}
-use Rattle.pack_model.specs.states.Sound.{Clean, Sound}
+use Rattle.executive.specs.laws_session.proofs.ends.Laws.{sessions_leave_closed, sound_packs_begin}
+use Rattle.executive.specs.laws_session.proofs.histories.Laws.{crashes_of_a_history, crashes_show_the_ruled_model, histories_are_shown}
+use Rattle.executive.specs.pack_laws.proofs.tallies.Laws.{tally_by_the_count}
+use Rattle.executive.specs.pack_model.specs.hints.Tables.{HintsTrue}
+use Rattle.executive.specs.pack_model.specs.operations.Operations.{Move}
+use Rattle.executive.specs.pack_model.specs.reading.Model.{read_as}
+use Rattle.executive.specs.pack_model.specs.sessions.Moves.{IsStartOf}
+use Rattle.executive.specs.pack_model.specs.sessions.Tallies.{counted, no_tally}
+use Rattle.executive.specs.pack_model.specs.sessions.Turns.{Turn, ops_of}
+use Rattle.executive.specs.pack_model.specs.states.Sound.{Clean, Sound}
 use Rattle.session_model.specs.Answering.{count_end}
 use Rattle.session_model.specs.Ending.{EndsBy, SessionOf, Stop, TookKeys, cues_of, disk_failed, display_failed, done, keys_failed, needs_scavenge, no_memory}
 use Rattle.session_model.specs.Histories.{BrokenIsTakenUp, BrokenTurn, HistoryOf, IsUnfailed, MadeAll, NoneFailedIn, aloud, broken, broken_text, whole}

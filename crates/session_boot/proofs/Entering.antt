@@ -2,8 +2,8 @@
 use Rattle.std.proofs.Common.{◌≡◌, ◌⊎◌, ◌==◌, ◌≤◌, Bool, arith, true, false, ℕ, List, [], ◌++◌, Option, Some, None, inl, inr, refl, sym, subst, ap, ◌∙◌, eq-eqb}
 use Rattle.std.proofs.lemmas.Bool.{ne_eqb}
 use Rattle.alto_words.specs.declared.fid.Fid.{Fid}
-use Rattle.disk_descriptor.specs.declared.errors.OpenError.{OpenError}
-use Rattle.disk_descriptor.specs.declared.errors.OpenError.TheVariants as error
+use Rattle.executive.specs.disk_descriptor.specs.declared.errors.OpenError.{OpenError}
+use Rattle.executive.specs.disk_descriptor.specs.declared.errors.OpenError.TheVariants as error
 use Rattle.disk_records.specs.declared.records.Event.{Event}
 use Rattle.disk_records.specs.declared.records.Tally.{Tally}
 use Rattle.disk_records.specs.Packs.{AreFormed, Pack}
@@ -11,17 +11,17 @@ use Rattle.disk_records.specs.Causes.{IsCause}
 use Rattle.disk_records.specs.Tapes.{DiskAlone, Grown, Rose, ShowAlone, Taped, added, pack}
 use Rattle.disk_records.proofs.Growing.{added-twice}
 use Rattle.exec_session.specs.Opens.{MayMislead, Refuses, cause_of_open}
-use Rattle.laws_contents.proofs.pages.Laws.{formed_pages_have_256_words}
-use Rattle.laws_lookup.proofs.hints.Laws.{true_hints_never_mislead}
-use Rattle.laws_record.proofs.sentences.Laws.{sentences_hold}
-use Rattle.laws_session.proofs.begins.Laws.{sound_packs_are_ready}
-use Rattle.pack_model.specs.hints.Tables.{HintsTrue}
-use Rattle.pack_model.specs.operations.Operations.{Move}
-use Rattle.pack_model.specs.reading.Sights.{sights}
-use Rattle.pack_model.specs.sessions.Tallies.{no_tally}
-use Rattle.pack_model.specs.sessions.Turns.{Turn}
-use Rattle.pack_model.specs.states.Sentences.{EachOnce}
-use Rattle.pack_model.specs.states.Sound.{Clean, Sound, mark_clean, mark_of}
+use Rattle.executive.specs.laws_contents.proofs.pages.Laws.{formed_pages_have_256_words}
+use Rattle.executive.specs.laws_lookup.proofs.hints.Laws.{true_hints_never_mislead}
+use Rattle.executive.specs.laws_record.proofs.sentences.Laws.{sentences_hold}
+use Rattle.executive.specs.laws_session.proofs.begins.Laws.{sound_packs_are_ready}
+use Rattle.executive.specs.pack_model.specs.hints.Tables.{HintsTrue}
+use Rattle.executive.specs.pack_model.specs.operations.Operations.{Move}
+use Rattle.executive.specs.pack_model.specs.reading.Sights.{sights}
+use Rattle.executive.specs.pack_model.specs.sessions.Tallies.{no_tally}
+use Rattle.executive.specs.pack_model.specs.sessions.Turns.{Turn}
+use Rattle.executive.specs.pack_model.specs.states.Sentences.{EachOnce}
+use Rattle.executive.specs.pack_model.specs.states.Sound.{Clean, Sound, mark_clean, mark_of}
 use Rattle.session_model.specs.Ending.{BootOf, CanStop, IsOver, IsPastRoot, NotBegun, NotEntered, ShowsWhy, Stop, Unentered, disk_failed, display_failed, done, keys_failed, misled, needs_scavenge, no_memory, opened, reasoned, stopped, unopened}
 use Rattle.session_model.specs.Histories.{HistoryOf, NoneFailed, NoneFailedIn, TurnsOf, aloud, begun, broken, then, whole}
 use Rattle.session_model.specs.Keeping.{Kept}

@@ -3,9 +3,9 @@ use Rattle.std.proofs.Common.{◌≡◌, ◌+◌, ◌<◌, ◌≤◌, ◌^◌, �
 use Rattle.disk_records.specs.declared.records.Tally.{Tally}
 use Rattle.disk_records.specs.Tapes.{Grown, KeysAlone, Taped, added, pack}
 use Rattle.disk_records.proofs.Growing.{grown_twice}
-use Rattle.pack_laws.proofs.Lining.{most_keys-is}
-use Rattle.pack_model.specs.hints.Truth.{Truthful}
-use Rattle.pack_model.specs.states.Sound.{Sound}
+use Rattle.executive.specs.pack_laws.proofs.Lining.{most_keys-is}
+use Rattle.executive.specs.pack_model.specs.hints.Truth.{Truthful}
+use Rattle.executive.specs.pack_model.specs.states.Sound.{Sound}
 use Rattle.session_model.specs.Ending.{cue_of}
 use Rattle.session_model.specs.Keeping.{Kept, Keeping}
 use Rattle.session_boot.specs.Turns.{KeysSpent, LineTaken, TurnTaken, is_over}

@@ -2,8 +2,8 @@
 use Rattle.std.proofs.Common.{◌≡◌, ◌≢◌, ℕ, ◌≤◌, List, [], ◌∷◌, ◌++◌, length, take, refl, sym, ◌∙◌, ap, arith, append_assoc, cond}
 use Rattle.std.proofs.lemmas.List.{append-nil, length-append}
 use Rattle.std.proofs.lemmas.Bool.{ne_eqb}
-use Rattle.pack_model.specs.sessions.Lines.{lines, lines_from, ended_lines, ended_from, most_keys, keys_of}
-use Rattle.pack_laws.proofs.Lining.{rest_from, lines_split, ended-join}
+use Rattle.executive.specs.pack_model.specs.sessions.Lines.{lines, lines_from, ended_lines, ended_from, most_keys, keys_of}
+use Rattle.executive.specs.pack_laws.proofs.Lining.{rest_from, lines_split, ended-join}
 use Rattle.session_boot.specs.Keys.{IsUnbroken}
 
 pub unbroken_ended : (line keys : List ℕ) → IsUnbroken keys → ended_from line keys ≡ []

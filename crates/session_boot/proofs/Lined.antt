@@ -2,7 +2,7 @@
 use Rattle.std.proofs.Common.{◌≡◌, ◌⊎◌, inl, inr, ℕ, ◌+◌, ◌≤◌, List, [], ◌∷◌, ◌++◌, length, take, drop, refl, sym, ◌∙◌, ap, subst, arith}
 use Rattle.std.proofs.lemmas.List.{append-nil}
 use Rattle.std.proofs.lemmas.Bool.{cases_lt}
-use Rattle.pack_model.specs.sessions.Lines.{lines, lines_from, ended_lines, keys_of, TookLines}
+use Rattle.executive.specs.pack_model.specs.sessions.Lines.{lines, lines_from, ended_lines, keys_of, TookLines}
 use Rattle.session_boot.specs.Keys.{kept_of, TookEnded, TookRest, TookLast, TookPart}
 use Rattle.session_boot.proofs.Live.{Live, Over, split_more, live_lines, live_keys, live_part, live_ahead, live_after, live_rest, live_ended, live_last}
 

@@ -6,9 +6,9 @@ use Rattle.std.proofs.lemmas.Bool.{cases_lt, le-leb}
 use Rattle.disk_records.specs.Tapes.{Taped}
 use Rattle.exec_words.specs.Grammar.{line_in, typed_in, read_by, grammar, words_in}
 use Rattle.exec_words.specs.declared.line.Line.TheVariants as line
-use Rattle.pack_laws.proofs.Moving.{start_after}
-use Rattle.pack_model.specs.sessions.Lines.{is_too_long, lines, longest_line, TookLines}
-use Rattle.pack_model.specs.sessions.Moves.{IsStartOf}
+use Rattle.executive.specs.pack_laws.proofs.Moving.{start_after}
+use Rattle.executive.specs.pack_model.specs.sessions.Lines.{is_too_long, lines, longest_line, TookLines}
+use Rattle.executive.specs.pack_model.specs.sessions.Moves.{IsStartOf}
 use Rattle.session_model.specs.Ending.{Stop, TookKeys, cue_of, cues_of, keys_failed, no_memory, typed_cues}
 use Rattle.session_model.specs.Turning.{Cue, cue_for, ended}
 use Rattle.session_boot.specs.Keys.{TookPart, kept_of}

@@ -3,8 +3,8 @@ use Rattle.std.proofs.Common.{◌≡◌, ◌+◌, ◌<◌, ◌^◌, ℕ, Option,
 use Rattle.disk_records.specs.declared.records.Tally.{Tally}
 use Rattle.disk_records.specs.Events.{writes_in}
 use Rattle.disk_records.specs.Tapes.{Grown, Taped, capped, pack}
-use Rattle.pack_laws.proofs.Lining.{most_keys-is}
-use Rattle.pack_model.specs.states.Sound.{Sound}
+use Rattle.executive.specs.pack_laws.proofs.Lining.{most_keys-is}
+use Rattle.executive.specs.pack_model.specs.states.Sound.{Sound}
 use Rattle.session_model.specs.Keeping.{Kept}
 use Rattle.session_model.specs.Opening.{Begun}
 use Rattle.session_boot.specs.Boots.{LastsTo, OpenedBy}

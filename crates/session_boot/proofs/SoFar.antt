@@ -7,21 +7,21 @@ use Rattle.disk_records.specs.Events.{writes_in}
 use Rattle.disk_records.specs.Packs.{AreFormed, Pack, after}
 use Rattle.disk_records.specs.Tapes.{Grown, Taped, added, capped, pack}
 use Rattle.disk_records.proofs.Growing.{added-twice, pack-after, pack-silent, writes-append}
-use Rattle.laws_contents.proofs.pages.Laws.{formed_pages_have_256_words}
-use Rattle.laws_lookup.proofs.hints.Laws.{true_hints_never_mislead}
-use Rattle.laws_session.proofs.ends.Laws.{lines_keep_need, sound_packs_begin}
-use Rattle.laws_session.proofs.histories.Laws.{histories_are_shown}
-use Rattle.pack_laws.proofs.tallies.Laws.{tallies_of_turns_join, tally_by_the_count, tally_in_numbers}
-use Rattle.pack_model.specs.hints.Links.{LinksTrue}
-use Rattle.pack_model.specs.hints.Tables.{HintsTrue}
-use Rattle.pack_model.specs.hints.Truth.{Truthful}
-use Rattle.pack_model.specs.operations.Operations.{Move}
-use Rattle.pack_model.specs.reading.Model.{read_as}
-use Rattle.pack_model.specs.sessions.Lines.{most_keys}
-use Rattle.pack_model.specs.sessions.Meanings.{SessionCut}
-use Rattle.pack_model.specs.sessions.Tallies.{counted, no_tally}
-use Rattle.pack_model.specs.sessions.Turns.{Turn, ops_of}
-use Rattle.pack_model.specs.states.Sound.{Sound}
+use Rattle.executive.specs.laws_contents.proofs.pages.Laws.{formed_pages_have_256_words}
+use Rattle.executive.specs.laws_lookup.proofs.hints.Laws.{true_hints_never_mislead}
+use Rattle.executive.specs.laws_session.proofs.ends.Laws.{lines_keep_need, sound_packs_begin}
+use Rattle.executive.specs.laws_session.proofs.histories.Laws.{histories_are_shown}
+use Rattle.executive.specs.pack_laws.proofs.tallies.Laws.{tallies_of_turns_join, tally_by_the_count, tally_in_numbers}
+use Rattle.executive.specs.pack_model.specs.hints.Links.{LinksTrue}
+use Rattle.executive.specs.pack_model.specs.hints.Tables.{HintsTrue}
+use Rattle.executive.specs.pack_model.specs.hints.Truth.{Truthful}
+use Rattle.executive.specs.pack_model.specs.operations.Operations.{Move}
+use Rattle.executive.specs.pack_model.specs.reading.Model.{read_as}
+use Rattle.executive.specs.pack_model.specs.sessions.Lines.{most_keys}
+use Rattle.executive.specs.pack_model.specs.sessions.Meanings.{SessionCut}
+use Rattle.executive.specs.pack_model.specs.sessions.Tallies.{counted, no_tally}
+use Rattle.executive.specs.pack_model.specs.sessions.Turns.{Turn, ops_of}
+use Rattle.executive.specs.pack_model.specs.states.Sound.{Sound}
 use Rattle.session_model.specs.Histories.{IsUnfailed, NoneFailed, TurnsOf, WholeTurn, aloud, begun, then, whole}
 use Rattle.session_model.specs.Keeping.{Kept, Keeping}
 use Rattle.session_model.specs.Opening.{Begun}

@@ -6,10 +6,10 @@ use Rattle.disk_records.specs.declared.records.Tally.{Tally}
 use Rattle.disk_records.specs.Events.{writes_in}
 use Rattle.disk_records.specs.Tapes.{Grown, Rose, Taped, added, capped, pack}
 use Rattle.exec_session.specs.Opens.{MisledOpening}
-use Rattle.pack_model.specs.hints.Tables.{HintsTrue}
-use Rattle.pack_model.specs.reading.Sights.{sights}
-use Rattle.pack_model.specs.states.Sentences.{EachOnce}
-use Rattle.pack_model.specs.states.Sound.{Clean, Sound, mark_of}
+use Rattle.executive.specs.pack_model.specs.hints.Tables.{HintsTrue}
+use Rattle.executive.specs.pack_model.specs.reading.Sights.{sights}
+use Rattle.executive.specs.pack_model.specs.states.Sentences.{EachOnce}
+use Rattle.executive.specs.pack_model.specs.states.Sound.{Clean, Sound, mark_of}
 use Rattle.session_model.specs.Ending.{BootOf, EndsBy, NotBegun, NotEntered, SessionOf, ShowsWhy, Stop, Unentered, done, needs_scavenge, disk_failed, display_failed, keys_failed, no_memory}
 use Rattle.session_model.specs.Keeping.{Kept}
 use Rattle.session_model.specs.Opening.{Begun, Unready, not_clean, unready, unready_text}

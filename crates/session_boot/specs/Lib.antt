@@ -3,3 +3,4 @@ pub mod Faults
 pub mod Keys
 pub mod Opening
 pub mod Turns
+pub use Rattle.executive.specs.pack_laws

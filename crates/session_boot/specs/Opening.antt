@@ -1,8 +1,8 @@
 -- Why a pack isn't entered, as it is shown.
 use Rattle.std.specs.Prelude.{◌≡◌, ℕ, List, [], Result, Ok, Err, Vec}
 use Rattle.std.specs.declared.alloc.Global.{Global}
-use Rattle.disk_descriptor.specs.declared.errors.OpenError.{OpenError}
-use Rattle.disk_descriptor.specs.declared.errors.OpenError.TheVariants as error
+use Rattle.executive.specs.disk_descriptor.specs.declared.errors.OpenError.{OpenError}
+use Rattle.executive.specs.disk_descriptor.specs.declared.errors.OpenError.TheVariants as error
 use Rattle.disk_records.specs.Events.{IsFirstOf, shown_events}
 use Rattle.disk_records.specs.Tapes.{Taped, Rose, added}
 use Rattle.session_model.specs.Opening.{no_root, no_descriptor, wrong_length, bad_descriptor, not_clean, unready_text}

@@ -5,11 +5,11 @@ use Rattle.disk_records.specs.Packs.{Pack}
 use Rattle.disk_records.specs.Tapes.{Taped, KeysAlone, added, pack}
 use Rattle.exec_words.specs.declared.reply.Reply.{Reply}
 use Rattle.exec_words.specs.declared.reply.Reply.TheVariants as reply
-use Rattle.pack_model.specs.hints.Tables.{HintsTrue}
-use Rattle.pack_model.specs.hints.Truth.{Truthful}
-use Rattle.pack_model.specs.operations.Operations.{Move}
-use Rattle.pack_model.specs.sessions.Tallies.{counted}
-use Rattle.pack_model.specs.sessions.Turns.{Turn}
+use Rattle.executive.specs.pack_model.specs.hints.Tables.{HintsTrue}
+use Rattle.executive.specs.pack_model.specs.hints.Truth.{Truthful}
+use Rattle.executive.specs.pack_model.specs.operations.Operations.{Move}
+use Rattle.executive.specs.pack_model.specs.sessions.Tallies.{counted}
+use Rattle.executive.specs.pack_model.specs.sessions.Turns.{Turn}
 use Rattle.session_model.specs.Answering.{count_end}
 use Rattle.session_model.specs.Ending.{cue_of}
 use Rattle.session_model.specs.Histories.{BrokenTurn, WholeTurn, aloud}

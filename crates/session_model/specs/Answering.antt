@@ -1,20 +1,20 @@
 -- One call on a session: a line that is obeyed, or the end of the session. Its text isn't shown yet.
 -- How calls are stated as turns is this project's choice.
 use Rattle.std.specs.Prelude.{◌≡◌, ◌⊎◌, ◌<◌, ℕ, ◌-◌, ◌^◌, Bool, true, false, cond, List, [], ◌∷◌, Option, Some, None, Result, Ok, Err, drop}
-use Rattle.disk_records.specs.declared.records.Event.{Event}
-use Rattle.disk_records.specs.Packs.{Pack}
-use Rattle.disk_records.specs.Tapes.{Taped, pack, added}
-use Rattle.alto_words.specs.declared.fid.Fid.{Fid}
-use Rattle.alto_words.specs.Fid.{sys_dir}
-use Rattle.pack_model.specs.hints.Tables.{HintsTrue}
-use Rattle.pack_model.specs.hints.Truth.{Truthful}
-use Rattle.pack_model.specs.operations.Operations.{Move}
-use Rattle.pack_model.specs.reading.Bytes.{words_of}
-use Rattle.pack_model.specs.reading.Model.{Model}
-use Rattle.pack_model.specs.sessions.Meanings.{session}
-use Rattle.pack_model.specs.sessions.Moves.{Obeys, IsStartOf}
-use Rattle.pack_model.specs.sessions.Tallies.{counted}
-use Rattle.pack_model.specs.sessions.Turns.{Turn}
+use Rattle.exec_words.specs.disk_records.specs.declared.records.Event.{Event}
+use Rattle.exec_words.specs.disk_records.specs.Packs.{Pack}
+use Rattle.exec_words.specs.disk_records.specs.Tapes.{Taped, pack, added}
+use Rattle.exec_words.specs.alto_words.specs.declared.fid.Fid.{Fid}
+use Rattle.exec_words.specs.alto_words.specs.Fid.{sys_dir}
+use Rattle.exec_words.specs.pack_model.specs.hints.Tables.{HintsTrue}
+use Rattle.exec_words.specs.pack_model.specs.hints.Truth.{Truthful}
+use Rattle.exec_words.specs.pack_model.specs.operations.Operations.{Move}
+use Rattle.exec_words.specs.pack_model.specs.reading.Bytes.{words_of}
+use Rattle.exec_words.specs.pack_model.specs.reading.Model.{Model}
+use Rattle.exec_words.specs.pack_model.specs.sessions.Meanings.{session}
+use Rattle.exec_words.specs.pack_model.specs.sessions.Moves.{Obeys, IsStartOf}
+use Rattle.exec_words.specs.pack_model.specs.sessions.Tallies.{counted}
+use Rattle.exec_words.specs.pack_model.specs.sessions.Turns.{Turn}
 use Rattle.exec_words.specs.declared.line.Line.{Line}
 use Rattle.exec_words.specs.declared.line.Line.TheVariants as line
 use Rattle.exec_words.specs.declared.line.Target.TheVariants.{ByPath}

@@ -1,17 +1,17 @@
 -- How many sector commands a line may take where all hints on its way are handy.
 -- The bounds are this project's choice.
 use Rattle.std.specs.Prelude.{◌≡◌, ◌≤◌, ℕ, ◌+◌, ◌*◌, ◌/◌, Bool, List, length, Option, Some, None, All}
-use Rattle.alto_words.specs.declared.fid.Fid.{Fid}
-use Rattle.alto_words.specs.Fid.{sys_dir}
-use Rattle.disk_records.specs.Packs.{Pack}
-use Rattle.pack_model.specs.hints.Handy.{Handy, CachedAt, leader_word, last_at_word, last_number_word}
-use Rattle.pack_model.specs.hints.Links.{LinksTrue}
-use Rattle.pack_model.specs.hints.Tables.{TableTrue}
-use Rattle.pack_model.specs.operations.Committing.{length_of, page_of_byte, pages_added}
-use Rattle.pack_model.specs.reading.Files.{place}
-use Rattle.pack_model.specs.reading.Model.{Model}
-use Rattle.pack_model.specs.reading.Sights.{sights}
-use Rattle.pack_model.specs.states.Sound.{Sound}
+use Rattle.exec_words.specs.alto_words.specs.declared.fid.Fid.{Fid}
+use Rattle.exec_words.specs.alto_words.specs.Fid.{sys_dir}
+use Rattle.exec_words.specs.disk_records.specs.Packs.{Pack}
+use Rattle.exec_words.specs.pack_model.specs.hints.Handy.{Handy, CachedAt, leader_word, last_at_word, last_number_word}
+use Rattle.exec_words.specs.pack_model.specs.hints.Links.{LinksTrue}
+use Rattle.exec_words.specs.pack_model.specs.hints.Tables.{TableTrue}
+use Rattle.exec_words.specs.pack_model.specs.operations.Committing.{length_of, page_of_byte, pages_added}
+use Rattle.exec_words.specs.pack_model.specs.reading.Files.{place}
+use Rattle.exec_words.specs.pack_model.specs.reading.Model.{Model}
+use Rattle.exec_words.specs.pack_model.specs.reading.Sights.{sights}
+use Rattle.exec_words.specs.pack_model.specs.states.Sound.{Sound}
 use Rattle.exec_words.specs.declared.line.Line.{Line}
 use Rattle.exec_words.specs.declared.line.Line.TheVariants as line
 use Rattle.exec_words.specs.declared.line.Path.{Path}

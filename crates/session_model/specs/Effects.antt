@@ -3,15 +3,15 @@
 use Rattle.std.specs.Prelude.{ℕ, ◌+◌, ◌==◌, cond, map, List, [], ◌∷◌, ◌++◌, length, take, drop, Option, Some, None}
 use Rattle.std.specs.Option.{unwrap_or}
 use Rattle.std.specs.FinMap.{get}
-use Rattle.alto_words.specs.declared.fid.Fid.{Fid}
-use Rattle.alto_words.specs.Fid.{sys_dir, ordinary_fid, directory_fid}
-use Rattle.pack_model.specs.reading.Bytes.{words_of}
-use Rattle.pack_model.specs.reading.Bodies.{File}
-use Rattle.pack_model.specs.reading.Leaders.{Leader}
-use Rattle.pack_model.specs.reading.Model.{Model, room}
-use Rattle.pack_model.specs.operations.Committing.{length_of}
-use Rattle.pack_model.specs.operations.Step.{Operation, spare_widening, room_widening, new_leader}
-use Rattle.pack_model.specs.operations.Step.Operation.{make, put, cut, title, stamp, drop_file, leave, enter}
+use Rattle.exec_words.specs.alto_words.specs.declared.fid.Fid.{Fid}
+use Rattle.exec_words.specs.alto_words.specs.Fid.{sys_dir, ordinary_fid, directory_fid}
+use Rattle.exec_words.specs.pack_model.specs.reading.Bytes.{words_of}
+use Rattle.exec_words.specs.pack_model.specs.reading.Bodies.{File}
+use Rattle.exec_words.specs.pack_model.specs.reading.Leaders.{Leader}
+use Rattle.exec_words.specs.pack_model.specs.reading.Model.{Model, room}
+use Rattle.exec_words.specs.pack_model.specs.operations.Committing.{length_of}
+use Rattle.exec_words.specs.pack_model.specs.operations.Step.{Operation, spare_widening, room_widening, new_leader}
+use Rattle.exec_words.specs.pack_model.specs.operations.Step.Operation.{make, put, cut, title, stamp, drop_file, leave, enter}
 use Rattle.exec_words.specs.declared.line.Path.{Path}
 use Rattle.exec_words.specs.declared.line.Target.TheVariants.{ByPath}
 use Rattle.exec_words.specs.declared.line.Line.{Line}

@@ -1,23 +1,23 @@
 -- A whole session over typed bytes: which lines have turns, how it ends, and what it leaves.
 -- How a session ends is this project's choice.
 use Rattle.std.specs.Prelude.{◌≡◌, ◌≢◌, ◌≤◌, ℕ, suc, Bool, true, false, map, List, [], ◌∷◌, ◌++◌, length, drop, Option, Some, None}
-use Rattle.disk_records.specs.declared.records.Event.{Event}
-use Rattle.disk_records.specs.declared.records.Page.{Page}
-use Rattle.disk_records.specs.declared.records.Place.{Place}
-use Rattle.disk_records.specs.declared.records.Tally.{Tally}
-use Rattle.disk_records.specs.Events.{IsFirstOf, shown_events, shown_bytes}
-use Rattle.disk_records.specs.Tapes.{Taped, pack, added}
-use Rattle.pack_model.specs.hints.Tables.{HintsTrue}
-use Rattle.pack_model.specs.operations.Operations.{Move, weight_of}
-use Rattle.pack_model.specs.reading.Model.{read_as}
-use Rattle.pack_model.specs.sessions.Lines.{TookLines, lines, ended_lines, most_keys}
-use Rattle.pack_model.specs.sessions.Meanings.{session}
-use Rattle.pack_model.specs.sessions.Moves.{IsStartOf}
-use Rattle.pack_model.specs.sessions.Tallies.{no_tally, counted}
-use Rattle.pack_model.specs.sessions.Turns.{Turn, CutAt, ops_of, texts_of}
-use Rattle.pack_model.specs.reading.Sights.{sights}
-use Rattle.pack_model.specs.states.Sentences.{EachOnce}
-use Rattle.pack_model.specs.states.Sound.{Sound, Clean}
+use Rattle.exec_words.specs.disk_records.specs.declared.records.Event.{Event}
+use Rattle.exec_words.specs.disk_records.specs.declared.records.Page.{Page}
+use Rattle.exec_words.specs.disk_records.specs.declared.records.Place.{Place}
+use Rattle.exec_words.specs.disk_records.specs.declared.records.Tally.{Tally}
+use Rattle.exec_words.specs.disk_records.specs.Events.{IsFirstOf, shown_events, shown_bytes}
+use Rattle.exec_words.specs.disk_records.specs.Tapes.{Taped, pack, added}
+use Rattle.exec_words.specs.pack_model.specs.hints.Tables.{HintsTrue}
+use Rattle.exec_words.specs.pack_model.specs.operations.Operations.{Move, weight_of}
+use Rattle.exec_words.specs.pack_model.specs.reading.Model.{read_as}
+use Rattle.exec_words.specs.pack_model.specs.sessions.Lines.{TookLines, lines, ended_lines, most_keys}
+use Rattle.exec_words.specs.pack_model.specs.sessions.Meanings.{session}
+use Rattle.exec_words.specs.pack_model.specs.sessions.Moves.{IsStartOf}
+use Rattle.exec_words.specs.pack_model.specs.sessions.Tallies.{no_tally, counted}
+use Rattle.exec_words.specs.pack_model.specs.sessions.Turns.{Turn, CutAt, ops_of, texts_of}
+use Rattle.exec_words.specs.pack_model.specs.reading.Sights.{sights}
+use Rattle.exec_words.specs.pack_model.specs.states.Sentences.{EachOnce}
+use Rattle.exec_words.specs.pack_model.specs.states.Sound.{Sound, Clean}
 use Rattle.exec_words.specs.Grammar.{line_in}
 use Rattle.session_model.specs.Turning.{State, Cue, typed, ended, cue_for, opening, HintFailing, hint_text}
 use Rattle.session_model.specs.Histories.{HistoryOf, aloud, broken_text, BrokenIsTakenUp, MadeAll, NoneFailedIn, ShowsRuled}

@@ -3,12 +3,12 @@
 use Rattle.std.specs.Prelude.{ℕ, ◌==◌, Bool, cond, nat_lt, List, [], length, Option, Some, None}
 use Rattle.std.specs.Option.{option_map, is_some, unwrap_or}
 use Rattle.std.specs.FinMap.{entries}
-use Rattle.alto_words.specs.declared.fid.Fid.{Fid}
-use Rattle.alto_words.specs.Fid.{serial_of, sys_dir, disk_descriptor}
-use Rattle.pack_model.specs.reading.Files.{first}
-use Rattle.pack_model.specs.reading.Model.{Model, dir_items, root_items}
-use Rattle.pack_model.specs.reading.Namings.{Naming, namings_in}
-use Rattle.pack_model.specs.reading.Versions.{Entered, exact, entry_wanted, new_name, is_name_taken, is_base_taken}
+use Rattle.exec_words.specs.alto_words.specs.declared.fid.Fid.{Fid}
+use Rattle.exec_words.specs.alto_words.specs.Fid.{serial_of, sys_dir, disk_descriptor}
+use Rattle.exec_words.specs.pack_model.specs.reading.Files.{first}
+use Rattle.exec_words.specs.pack_model.specs.reading.Model.{Model, dir_items, root_items}
+use Rattle.exec_words.specs.pack_model.specs.reading.Namings.{Naming, namings_in}
+use Rattle.exec_words.specs.pack_model.specs.reading.Versions.{Entered, exact, entry_wanted, new_name, is_name_taken, is_base_taken}
 use Rattle.exec_words.specs.declared.line.Path.{Path}
 use Rattle.exec_words.specs.declared.line.Target.{Target}
 use Rattle.exec_words.specs.declared.line.Target.TheVariants.{ByPath, BySerial}

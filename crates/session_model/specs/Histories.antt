@@ -1,18 +1,18 @@
 -- The history of a session: its turns, one after another.
 -- How a session and its turns are stated is this project's choice.
 use Rattle.std.specs.Prelude.{◌≡◌, ℕ, zero, suc, Bool, false, List, [], ◌∷◌, ◌++◌, Option, Some, None}
-use Rattle.disk_records.specs.declared.records.Event.{Event}
-use Rattle.disk_records.specs.Events.{shown_events}
-use Rattle.disk_records.specs.Packs.{Pack, after, crash}
-use Rattle.pack_model.specs.hints.Links.{LinksTrue}
-use Rattle.pack_model.specs.operations.Operations.{Move, weight_of}
-use Rattle.pack_model.specs.operations.Operations.Move.{quiet, commits, mends}
-use Rattle.pack_model.specs.reading.Model.{Model}
-use Rattle.pack_model.specs.sessions.Meanings.{session}
-use Rattle.pack_model.specs.sessions.Moves.{Obeys, steps}
-use Rattle.pack_model.specs.sessions.Turns.{Turn, BrokeOff, ops_of, ruler}
-use Rattle.pack_model.specs.showing.Settling.{settle, show}
-use Rattle.pack_model.specs.showing.View.{view}
+use Rattle.exec_words.specs.disk_records.specs.declared.records.Event.{Event}
+use Rattle.exec_words.specs.disk_records.specs.Events.{shown_events}
+use Rattle.exec_words.specs.disk_records.specs.Packs.{Pack, after, crash}
+use Rattle.exec_words.specs.pack_model.specs.hints.Links.{LinksTrue}
+use Rattle.exec_words.specs.pack_model.specs.operations.Operations.{Move, weight_of}
+use Rattle.exec_words.specs.pack_model.specs.operations.Operations.Move.{quiet, commits, mends}
+use Rattle.exec_words.specs.pack_model.specs.reading.Model.{Model}
+use Rattle.exec_words.specs.pack_model.specs.sessions.Meanings.{session}
+use Rattle.exec_words.specs.pack_model.specs.sessions.Moves.{Obeys, steps}
+use Rattle.exec_words.specs.pack_model.specs.sessions.Turns.{Turn, BrokeOff, ops_of, ruler}
+use Rattle.exec_words.specs.pack_model.specs.showing.Settling.{settle, show}
+use Rattle.exec_words.specs.pack_model.specs.showing.View.{view}
 use Rattle.session_model.specs.Worlds.{World}
 use Rattle.session_model.specs.Turning.{State, Cue, TurnKind, plain, failed, scavenged, TurnMade, IsTakenUp}
 

@@ -2,19 +2,19 @@
 -- What is kept is this project's choice.
 use Rattle.std.specs.Prelude.{◌≡◌, ◌≢◌, ◌≤◌, ◌<◌, ℕ, ◌+◌, ◌-◌, ◌*◌, ◌/◌, Bool, true, false, map, List, [], ◌∷◌, length, take, All}
 use Rattle.std.specs.FinMap.{contains_key}
-use Rattle.alto_words.specs.declared.fid.Fid.{Fid}
-use Rattle.alto_words.specs.Fid.{is_directory, is_fid, disk_descriptor}
-use Rattle.disk_records.specs.declared.shape.Shape.{Shape}
-use Rattle.disk_records.specs.declared.records.Place.{Place}
-use Rattle.disk_records.specs.declared.records.Tally.{Tally}
-use Rattle.disk_records.specs.Addresses.{pages_of}
-use Rattle.disk_records.specs.Packs.{Pack}
-use Rattle.pack_model.specs.hints.Handy.{CachedAt}
-use Rattle.pack_model.specs.hints.Sources.{IsFrom}
-use Rattle.pack_model.specs.operations.Committing.{length_of}
-use Rattle.pack_model.specs.reading.Model.{Model}
-use Rattle.pack_model.specs.sessions.Descriptor.{DescriptorFits}
-use Rattle.pack_model.specs.sessions.Meanings.{SessionCut}
+use Rattle.exec_words.specs.alto_words.specs.declared.fid.Fid.{Fid}
+use Rattle.exec_words.specs.alto_words.specs.Fid.{is_directory, is_fid, disk_descriptor}
+use Rattle.exec_words.specs.disk_records.specs.declared.shape.Shape.{Shape}
+use Rattle.exec_words.specs.disk_records.specs.declared.records.Place.{Place}
+use Rattle.exec_words.specs.disk_records.specs.declared.records.Tally.{Tally}
+use Rattle.exec_words.specs.disk_records.specs.Addresses.{pages_of}
+use Rattle.exec_words.specs.disk_records.specs.Packs.{Pack}
+use Rattle.exec_words.specs.pack_model.specs.hints.Handy.{CachedAt}
+use Rattle.exec_words.specs.pack_model.specs.hints.Sources.{IsFrom}
+use Rattle.exec_words.specs.pack_model.specs.operations.Committing.{length_of}
+use Rattle.exec_words.specs.pack_model.specs.reading.Model.{Model}
+use Rattle.exec_words.specs.pack_model.specs.sessions.Descriptor.{DescriptorFits}
+use Rattle.exec_words.specs.pack_model.specs.sessions.Meanings.{SessionCut}
 use Rattle.world_model.specs.ZoneWords.{zone_start, zone_in}
 use Rattle.world_model.specs.Levels.{level_base, IsAtLevel}
 use Rattle.session_model.specs.Streams.{Stream, pending_from}

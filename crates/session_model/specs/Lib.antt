@@ -13,3 +13,5 @@ pub mod Bounds
 pub mod Answering
 pub mod Opening
 pub mod Ending
+pub use Rattle.exec_words
+pub use Rattle.world_model

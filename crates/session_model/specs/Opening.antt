@@ -2,23 +2,23 @@
 -- When a pack opens is this project's choice.
 use Rattle.std.specs.Prelude.{◌≡◌, ℕ, ◌==◌, ◌&&◌, Bool, false, cond, codes, List, [], ◌∷◌, ◌++◌, length, Option, Some, None}
 use Rattle.std.specs.Option.{option_map}
-use Rattle.alto_words.specs.declared.fid.Fid.{Fid}
-use Rattle.alto_words.specs.Fid.{is_fid, sys_dir, disk_descriptor}
-use Rattle.disk_records.specs.declared.records.Page.{Page}
-use Rattle.disk_records.specs.Addresses.{disks_of, cylinders_of, table_words, descriptor_length}
-use Rattle.disk_records.specs.Packs.{Pack, carried, label_found}
-use Rattle.disk_records.specs.Words.{word}
-use Rattle.pack_model.specs.hints.Tables.{HintsTrue}
-use Rattle.pack_model.specs.hints.Truth.{Truthful}
-use Rattle.pack_model.specs.reading.Bytes.{words_of}
-use Rattle.pack_model.specs.reading.Files.{first, file_bytes}
-use Rattle.pack_model.specs.reading.Model.{read_as, descriptor_words}
-use Rattle.pack_model.specs.reading.Namings.{descriptor_name}
-use Rattle.pack_model.specs.reading.Sights.{sights}
-use Rattle.pack_model.specs.reading.Slots.{Item, slots}
-use Rattle.pack_model.specs.reading.Versions.{exact}
-use Rattle.pack_model.specs.sessions.Tallies.{no_tally}
-use Rattle.pack_model.specs.states.Sound.{mark_clean, mark_of}
+use Rattle.exec_words.specs.alto_words.specs.declared.fid.Fid.{Fid}
+use Rattle.exec_words.specs.alto_words.specs.Fid.{is_fid, sys_dir, disk_descriptor}
+use Rattle.exec_words.specs.disk_records.specs.declared.records.Page.{Page}
+use Rattle.exec_words.specs.disk_records.specs.Addresses.{disks_of, cylinders_of, table_words, descriptor_length}
+use Rattle.exec_words.specs.disk_records.specs.Packs.{Pack, carried, label_found}
+use Rattle.exec_words.specs.disk_records.specs.Words.{word}
+use Rattle.exec_words.specs.pack_model.specs.hints.Tables.{HintsTrue}
+use Rattle.exec_words.specs.pack_model.specs.hints.Truth.{Truthful}
+use Rattle.exec_words.specs.pack_model.specs.reading.Bytes.{words_of}
+use Rattle.exec_words.specs.pack_model.specs.reading.Files.{first, file_bytes}
+use Rattle.exec_words.specs.pack_model.specs.reading.Model.{read_as, descriptor_words}
+use Rattle.exec_words.specs.pack_model.specs.reading.Namings.{descriptor_name}
+use Rattle.exec_words.specs.pack_model.specs.reading.Sights.{sights}
+use Rattle.exec_words.specs.pack_model.specs.reading.Slots.{Item, slots}
+use Rattle.exec_words.specs.pack_model.specs.reading.Versions.{exact}
+use Rattle.exec_words.specs.pack_model.specs.sessions.Tallies.{no_tally}
+use Rattle.exec_words.specs.pack_model.specs.states.Sound.{mark_clean, mark_of}
 use Rattle.exec_words.specs.Texts.{line_of, with_number, found_text}
 use Rattle.session_model.specs.Worlds.{mended_world}
 use Rattle.session_model.specs.Turning.{State, opening}

@@ -1,7 +1,7 @@
 -- The operands of typed lines, what a line wants of each, and the level that a line needs.
 -- The lines, and what each may name, are this project's choice.
 use Rattle.std.specs.Prelude.{ℕ, Bool, true, false, List, [], ◌∷◌, ◌++◌, Option, Some, None}
-use Rattle.alto_words.specs.declared.wanted.Wanted.TheVariants.{Exact}
+use Rattle.exec_words.specs.alto_words.specs.declared.wanted.Wanted.TheVariants.{Exact}
 use Rattle.exec_words.specs.declared.line.Path.{Path}
 use Rattle.exec_words.specs.declared.line.Target.{Target}
 use Rattle.exec_words.specs.declared.line.Target.TheVariants.{ByPath}

@@ -3,15 +3,15 @@
 use Rattle.std.specs.Prelude.{ℕ, ◌+◌, ◌==◌, ◌&&◌, ◌||◌, Bool, true, false, cond, not, nat_le, nat_lt, List, [], ◌∷◌, ◌++◌, length, map, Option, Some, None}
 use Rattle.std.specs.Option.{option_map, option_or}
 use Rattle.std.specs.List.{list_any}
-use Rattle.alto_words.specs.declared.fid.Fid.{Fid}
-use Rattle.alto_words.specs.Fid.{is_fid, is_directory, sys_dir, disk_descriptor}
-use Rattle.alto_words.specs.declared.wanted.Wanted.{Wanted}
-use Rattle.alto_words.specs.declared.wanted.Wanted.TheVariants.{Exact, Newest}
-use Rattle.pack_model.specs.reading.Bytes.{words_of}
-use Rattle.pack_model.specs.reading.Files.{first}
-use Rattle.pack_model.specs.reading.Model.{Model, room}
-use Rattle.pack_model.specs.operations.Committing.{length_of, pages_for_operations}
-use Rattle.pack_model.specs.operations.Step.{Operation}
+use Rattle.exec_words.specs.alto_words.specs.declared.fid.Fid.{Fid}
+use Rattle.exec_words.specs.alto_words.specs.Fid.{is_fid, is_directory, sys_dir, disk_descriptor}
+use Rattle.exec_words.specs.alto_words.specs.declared.wanted.Wanted.{Wanted}
+use Rattle.exec_words.specs.alto_words.specs.declared.wanted.Wanted.TheVariants.{Exact, Newest}
+use Rattle.exec_words.specs.pack_model.specs.reading.Bytes.{words_of}
+use Rattle.exec_words.specs.pack_model.specs.reading.Files.{first}
+use Rattle.exec_words.specs.pack_model.specs.reading.Model.{Model, room}
+use Rattle.exec_words.specs.pack_model.specs.operations.Committing.{length_of, pages_for_operations}
+use Rattle.exec_words.specs.pack_model.specs.operations.Step.{Operation}
 use Rattle.exec_words.specs.declared.line.Path.{Path}
 use Rattle.exec_words.specs.declared.line.Target.{Target}
 use Rattle.exec_words.specs.declared.line.Target.TheVariants.{ByPath, BySerial}

@@ -1,8 +1,8 @@
 -- The reply to a line, its operations, and the world after it; of a line that is refused none, and the world as it was.
 -- The replies are this project's choice.
 use Rattle.std.specs.Prelude.{ℕ, List, [], Option, Some, None}
-use Rattle.pack_model.specs.operations.Step.{Operation}
-use Rattle.pack_model.specs.reading.Model.{Model}
+use Rattle.exec_words.specs.pack_model.specs.operations.Step.{Operation}
+use Rattle.exec_words.specs.pack_model.specs.reading.Model.{Model}
 use Rattle.exec_words.specs.declared.line.Line.{Line}
 use Rattle.exec_words.specs.declared.reply.Refusal.{Refusal}
 use Rattle.exec_words.specs.Texts.{refusal_text}

@@ -2,14 +2,14 @@
 -- Streams of bytes over disk files are those of the SOSP 1979 paper; when pending bytes are written is this project's choice.
 use Rattle.std.specs.Prelude.{ℕ, zero, suc, ◌+◌, ◌-◌, ◌*◌, ◌/◌, ◌%◌, ◌==◌, ◌||◌, Bool, true, false, cond, nat_le, nat_lt, min, max, List, [], ◌∷◌, ◌++◌, length, take, drop, Option, Some, None}
 use Rattle.std.specs.FinMap.{get}
-use Rattle.alto_words.specs.declared.fid.Fid.{Fid}
-use Rattle.pack_model.specs.reading.Bytes.{put_at}
-use Rattle.pack_model.specs.reading.Bodies.{Body, File}
-use Rattle.pack_model.specs.reading.Bodies.Body.{data_of, items_of}
-use Rattle.pack_model.specs.reading.Model.{Model}
-use Rattle.pack_model.specs.operations.Committing.{length_of}
-use Rattle.pack_model.specs.operations.Step.{Operation}
-use Rattle.pack_model.specs.operations.Step.Operation.{put, grow, stamp}
+use Rattle.exec_words.specs.alto_words.specs.declared.fid.Fid.{Fid}
+use Rattle.exec_words.specs.pack_model.specs.reading.Bytes.{put_at}
+use Rattle.exec_words.specs.pack_model.specs.reading.Bodies.{Body, File}
+use Rattle.exec_words.specs.pack_model.specs.reading.Bodies.Body.{data_of, items_of}
+use Rattle.exec_words.specs.pack_model.specs.reading.Model.{Model}
+use Rattle.exec_words.specs.pack_model.specs.operations.Committing.{length_of}
+use Rattle.exec_words.specs.pack_model.specs.operations.Step.{Operation}
+use Rattle.exec_words.specs.pack_model.specs.operations.Step.Operation.{put, grow, stamp}
 
 -- ---- bytes of files
 abbrev pub body_data : Body → List ℕ

@@ -2,10 +2,10 @@
 -- Which files a line touches is this project's choice.
 use Rattle.std.specs.Prelude.{ℕ, map, List, [], ◌∷◌, ◌++◌, Option, Some, None}
 use Rattle.std.specs.List.{flat_map}
-use Rattle.alto_words.specs.declared.fid.Fid.{Fid}
-use Rattle.alto_words.specs.Fid.{sys_dir}
-use Rattle.pack_model.specs.reading.Files.{first}
-use Rattle.pack_model.specs.reading.Model.{Model}
+use Rattle.exec_words.specs.alto_words.specs.declared.fid.Fid.{Fid}
+use Rattle.exec_words.specs.alto_words.specs.Fid.{sys_dir}
+use Rattle.exec_words.specs.pack_model.specs.reading.Files.{first}
+use Rattle.exec_words.specs.pack_model.specs.reading.Model.{Model}
 use Rattle.exec_words.specs.declared.line.Target.{Target}
 use Rattle.exec_words.specs.declared.line.Target.TheVariants.{ByPath, BySerial}
 use Rattle.exec_words.specs.declared.line.Line.{Line}

@@ -1,25 +1,25 @@
 -- A turn of a session: over a typed line, or over the end of the keys.
 -- The kinds of turns are this project's choice.
 use Rattle.std.specs.Prelude.{◌≡◌, ℕ, Bool, true, false, cond, List, [], ◌∷◌, ◌++◌, Option, None, Contains}
-use Rattle.alto_words.specs.declared.fid.Fid.{Fid}
-use Rattle.disk_records.specs.declared.records.Page.{Page}
-use Rattle.disk_records.specs.declared.records.Place.{Place}
-use Rattle.disk_records.specs.declared.records.Event.{Event}
-use Rattle.disk_records.specs.Packs.{Pack, after}
-use Rattle.pack_model.specs.reading.Files.{first}
-use Rattle.pack_model.specs.reading.Sights.{sights}
-use Rattle.pack_model.specs.reading.Model.{Model, read_as}
-use Rattle.pack_model.specs.states.Sound.{Sound, Clean, mark_of}
-use Rattle.pack_model.specs.operations.Step.{Operation}
-use Rattle.pack_model.specs.operations.Operations.{Move, quiet_moves}
-use Rattle.pack_model.specs.operations.Operations.Move.{mends}
-use Rattle.pack_model.specs.operations.Committing.{units, line_moves}
-use Rattle.pack_model.specs.hints.Misled.{IsOnDisk, AnswersMisled}
-use Rattle.pack_model.specs.scavenger.Reports.{Scavenged, report_of}
-use Rattle.pack_model.specs.sessions.Descriptor.{ending_moves}
-use Rattle.pack_model.specs.sessions.Meanings.{session}
-use Rattle.pack_model.specs.sessions.Moves.{IsStartOf, steps}
-use Rattle.pack_model.specs.sessions.Turns.{Turn}
+use Rattle.exec_words.specs.alto_words.specs.declared.fid.Fid.{Fid}
+use Rattle.exec_words.specs.disk_records.specs.declared.records.Page.{Page}
+use Rattle.exec_words.specs.disk_records.specs.declared.records.Place.{Place}
+use Rattle.exec_words.specs.disk_records.specs.declared.records.Event.{Event}
+use Rattle.exec_words.specs.disk_records.specs.Packs.{Pack, after}
+use Rattle.exec_words.specs.pack_model.specs.reading.Files.{first}
+use Rattle.exec_words.specs.pack_model.specs.reading.Sights.{sights}
+use Rattle.exec_words.specs.pack_model.specs.reading.Model.{Model, read_as}
+use Rattle.exec_words.specs.pack_model.specs.states.Sound.{Sound, Clean, mark_of}
+use Rattle.exec_words.specs.pack_model.specs.operations.Step.{Operation}
+use Rattle.exec_words.specs.pack_model.specs.operations.Operations.{Move, quiet_moves}
+use Rattle.exec_words.specs.pack_model.specs.operations.Operations.Move.{mends}
+use Rattle.exec_words.specs.pack_model.specs.operations.Committing.{units, line_moves}
+use Rattle.exec_words.specs.pack_model.specs.hints.Misled.{IsOnDisk, AnswersMisled}
+use Rattle.exec_words.specs.pack_model.specs.scavenger.Reports.{Scavenged, report_of}
+use Rattle.exec_words.specs.pack_model.specs.sessions.Descriptor.{ending_moves}
+use Rattle.exec_words.specs.pack_model.specs.sessions.Meanings.{session}
+use Rattle.exec_words.specs.pack_model.specs.sessions.Moves.{IsStartOf, steps}
+use Rattle.exec_words.specs.pack_model.specs.sessions.Turns.{Turn}
 use Rattle.exec_words.specs.Built.{as_built}
 use Rattle.exec_words.specs.declared.line.Line.{Line}
 use Rattle.exec_words.specs.declared.line.Line.TheVariants as line

@@ -2,8 +2,8 @@
 -- OutLoad and InLoad are those of the SOSP 1979 paper; what a world is, is this project's choice.
 use Rattle.std.specs.Prelude.{ℕ, ◌-◌, Bool, true, false, cond, nat_le, nat_lt, List, [], ◌∷◌, take, replicate, set, Option, Some}
 use Rattle.std.specs.Option.{unwrap_or}
-use Rattle.alto_words.specs.Fid.{sys_dir}
-use Rattle.disk_records.specs.Words.{word}
+use Rattle.exec_words.specs.alto_words.specs.Fid.{sys_dir}
+use Rattle.exec_words.specs.disk_records.specs.Words.{word}
 use Rattle.world_model.specs.Zones.{Block, gap, zone_word, zone_set}
 use Rattle.world_model.specs.ZoneWords.{zone_start, zone_in, memory_of}
 use Rattle.world_model.specs.Levels.{all_levels, level_base, level_kept, zone_kept, zone_below_all}

@@ -2,20 +2,20 @@
 use Rattle.std.proofs.Common.{◌≡◌, ℕ, List, [], ◌∷◌, refl, sym, ap, subst, ◌∙◌, arith}
 use Rattle.std.proofs.lemmas.List.Elements.{All-cons, All-nil}
 use Rattle.std.specs.Prelude.{codes, replicate}
-use Rattle.alto_words.specs.Fid.{sys_dir}
-use Rattle.alto_words.specs.Names.{is_stored_name}
-use Rattle.disk_records.specs.Addresses.{real_of}
-use Rattle.disk_records.specs.Labels.{in_range, is_free, label_of}
-use Rattle.disk_records.specs.Packs.{Pack}
-use Rattle.pack_model.specs.hints.Handy.{Handy, leader_word, last_number_word}
-use Rattle.pack_model.specs.hints.Links.{no_link}
-use Rattle.pack_model.specs.operations.Committing.{length_of, page_of_byte}
-use Rattle.pack_model.specs.operations.PageWords.{page_number, page_value, leader_label, leader_value}
-use Rattle.pack_model.specs.operations.Step.{new_leader}
-use Rattle.pack_model.specs.reading.Files.{first}
-use Rattle.pack_model.specs.reading.Leaders.{leader_of, leader_name, is_readable}
-use Rattle.pack_model.specs.reading.Sights.{sight, sights_from}
-use Rattle.pack_model.specs.sessions.Format.{format_table, formatted}
+use Rattle.laws_format.specs.alto_words.specs.Fid.{sys_dir}
+use Rattle.laws_format.specs.alto_words.specs.Names.{is_stored_name}
+use Rattle.laws_format.specs.disk_records.specs.Addresses.{real_of}
+use Rattle.laws_format.specs.disk_records.specs.Labels.{in_range, is_free, label_of}
+use Rattle.laws_format.specs.disk_records.specs.Packs.{Pack}
+use Rattle.laws_format.specs.pack_model.specs.hints.Handy.{Handy, leader_word, last_number_word}
+use Rattle.laws_format.specs.pack_model.specs.hints.Links.{no_link}
+use Rattle.laws_format.specs.pack_model.specs.operations.Committing.{length_of, page_of_byte}
+use Rattle.laws_format.specs.pack_model.specs.operations.PageWords.{page_number, page_value, leader_label, leader_value}
+use Rattle.laws_format.specs.pack_model.specs.operations.Step.{new_leader}
+use Rattle.laws_format.specs.pack_model.specs.reading.Files.{first}
+use Rattle.laws_format.specs.pack_model.specs.reading.Leaders.{leader_of, leader_name, is_readable}
+use Rattle.laws_format.specs.pack_model.specs.reading.Sights.{sight, sights_from}
+use Rattle.laws_format.specs.pack_model.specs.sessions.Format.{format_table, formatted}
 use Rattle.laws_format.proofs.formatted.Laws.{formatted_leaders_are_handy, formatted_pack_begins_a_session, formatted_pack_has_free_sectors}
 use Rattle.pack_vectors.proofs.Shapes.{small}
 use Rattle.pack_vectors.proofs.SmallPacks.{pack_of, system, words_a, its_words, some_or}

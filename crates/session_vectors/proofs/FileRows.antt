@@ -2,15 +2,15 @@
 use Rattle.std.proofs.Common.{◌≡◌, ℕ, List, [], ◌∷◌, refl}
 use Rattle.std.specs.Prelude.{codes, replicate, length}
 use Rattle.std.specs.Fmt.{digits}
-use Rattle.alto_words.specs.Fid.{sys_dir}
-use Rattle.alto_words.specs.Names.{is_stored_name}
-use Rattle.alto_words.specs.Numbers.{number_in, bytes_in_hex}
-use Rattle.pack_model.specs.operations.Step.Operation.{make, put, grow, cut, stamp, enter}
-use Rattle.pack_model.specs.reading.Files.{first}
-use Rattle.pack_model.specs.sessions.Lines.{longest_line}
-use Rattle.exec_words.specs.declared.line.Target.TheVariants.{BySerial}
-use Rattle.exec_words.specs.declared.line.Line.TheVariants as line
-use Rattle.exec_words.specs.Grammar.{line_in}
+use Rattle.laws_format.specs.alto_words.specs.Fid.{sys_dir}
+use Rattle.laws_format.specs.alto_words.specs.Names.{is_stored_name}
+use Rattle.laws_format.specs.alto_words.specs.Numbers.{number_in, bytes_in_hex}
+use Rattle.laws_format.specs.pack_model.specs.operations.Step.Operation.{make, put, grow, cut, stamp, enter}
+use Rattle.laws_format.specs.pack_model.specs.reading.Files.{first}
+use Rattle.laws_format.specs.pack_model.specs.sessions.Lines.{longest_line}
+use Rattle.session_model.specs.exec_words.specs.declared.line.Target.TheVariants.{BySerial}
+use Rattle.session_model.specs.exec_words.specs.declared.line.Line.TheVariants as line
+use Rattle.session_model.specs.exec_words.specs.Grammar.{line_in}
 use Rattle.session_model.specs.Effects.{stat_of, names_in}
 use Rattle.session_model.specs.Refusals.{most_serials}
 use Rattle.session_model.specs.Replies.{reply_to, ops, next}

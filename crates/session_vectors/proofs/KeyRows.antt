@@ -1,12 +1,12 @@
 -- Typed bytes as the lines of a session, and what they leave of the keys.
 use Rattle.std.proofs.Common.{◌≡◌, [], ◌∷◌, refl}
 use Rattle.std.specs.Prelude.{codes}
-use Rattle.alto_words.specs.Names.{is_stored_name}
-use Rattle.alto_words.specs.Numbers.{number_in, bytes_in_hex}
-use Rattle.pack_model.specs.sessions.Lines.{longest_line, most_keys, keys_of}
-use Rattle.exec_words.specs.declared.line.Line.TheVariants as line
-use Rattle.exec_words.specs.declared.line.Target.TheVariants.{BySerial}
-use Rattle.exec_words.specs.Grammar.{line_in}
+use Rattle.laws_format.specs.alto_words.specs.Names.{is_stored_name}
+use Rattle.laws_format.specs.alto_words.specs.Numbers.{number_in, bytes_in_hex}
+use Rattle.laws_format.specs.pack_model.specs.sessions.Lines.{longest_line, most_keys, keys_of}
+use Rattle.session_model.specs.exec_words.specs.declared.line.Line.TheVariants as line
+use Rattle.session_model.specs.exec_words.specs.declared.line.Target.TheVariants.{BySerial}
+use Rattle.session_model.specs.exec_words.specs.Grammar.{line_in}
 use Rattle.session_model.specs.Ending.{cues_of, typed_cues}
 use Rattle.session_model.specs.Turning.{typed, ended}
 

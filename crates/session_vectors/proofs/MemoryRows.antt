@@ -2,16 +2,16 @@
 use Rattle.std.proofs.Common.{◌≡◌, ℕ, List, [], ◌∷◌, Some, refl}
 use Rattle.std.specs.Prelude.{codes, replicate, length}
 use Rattle.std.specs.Fmt.{digits}
-use Rattle.alto_words.specs.Fid.{sys_dir}
-use Rattle.alto_words.specs.Names.{is_stored_name}
-use Rattle.pack_model.specs.operations.Step.Operation.{make, put, grow, stamp, enter}
-use Rattle.pack_model.specs.reading.Bytes.{words_of}
-use Rattle.pack_model.specs.reading.Files.{first}
-use Rattle.exec_words.specs.declared.line.Line.TheVariants as line
-use Rattle.world_model.specs.Levels.{level_base}
-use Rattle.world_model.specs.StateFiles.{mark_whole, state_bytes, state_mark, spoilt_word, with_message}
-use Rattle.world_model.specs.Zones.{Block, gap, live}
-use Rattle.exec_words.specs.declared.reply.Refusal.TheVariants as refusal
+use Rattle.laws_format.specs.alto_words.specs.Fid.{sys_dir}
+use Rattle.laws_format.specs.alto_words.specs.Names.{is_stored_name}
+use Rattle.laws_format.specs.pack_model.specs.operations.Step.Operation.{make, put, grow, stamp, enter}
+use Rattle.laws_format.specs.pack_model.specs.reading.Bytes.{words_of}
+use Rattle.laws_format.specs.pack_model.specs.reading.Files.{first}
+use Rattle.session_model.specs.exec_words.specs.declared.line.Line.TheVariants as line
+use Rattle.session_model.specs.world_model.specs.Levels.{level_base}
+use Rattle.session_model.specs.world_model.specs.StateFiles.{mark_whole, state_bytes, state_mark, spoilt_word, with_message}
+use Rattle.session_model.specs.world_model.specs.Zones.{Block, gap, live}
+use Rattle.session_model.specs.exec_words.specs.declared.reply.Refusal.TheVariants as refusal
 use Rattle.session_model.specs.Effects.{effect, world_puts}
 use Rattle.session_model.specs.Refusals.{by_world}
 use Rattle.session_model.specs.Replies.{reply_to, ops, next}

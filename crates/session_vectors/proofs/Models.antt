@@ -2,22 +2,22 @@
 use Rattle.std.proofs.Common.{◌≡◌, ℕ, true, List, [], ◌∷◌, Some, None}
 use Rattle.std.specs.Prelude.{codes}
 use Rattle.std.specs.FinMap.{get, entries, from_entries, get-from_entries}
-use Rattle.alto_words.specs.declared.fid.Fid.{Fid}
-use Rattle.alto_words.specs.Fid.{fid_cmp, sys_dir, disk_descriptor, ordinary_fid, directory_fid}
-use Rattle.alto_words.specs.declared.wanted.Wanted.TheVariants.{Exact, Newest}
-use Rattle.pack_model.specs.operations.Step.{new_leader}
-use Rattle.pack_model.specs.reading.Bodies.{File}
-use Rattle.pack_model.specs.reading.Bodies.Body.{data_of, items_of}
-use Rattle.pack_model.specs.reading.Model.{Model}
-use Rattle.pack_model.specs.reading.Namings.{sys_dir_name, descriptor_name}
-use Rattle.pack_model.specs.reading.Slots.{Item}
-use Rattle.pack_model.specs.reading.Slots.Item.{space, entry}
-use Rattle.pack_laws.proofs.Keys.{fid_total, fid_same}
-use Rattle.pack_laws.proofs.Mapping.{entries-from_entries}
+use Rattle.laws_format.specs.alto_words.specs.declared.fid.Fid.{Fid}
+use Rattle.laws_format.specs.alto_words.specs.Fid.{fid_cmp, sys_dir, disk_descriptor, ordinary_fid, directory_fid}
+use Rattle.laws_format.specs.alto_words.specs.declared.wanted.Wanted.TheVariants.{Exact, Newest}
+use Rattle.laws_format.specs.pack_model.specs.operations.Step.{new_leader}
+use Rattle.laws_format.specs.pack_model.specs.reading.Bodies.{File}
+use Rattle.laws_format.specs.pack_model.specs.reading.Bodies.Body.{data_of, items_of}
+use Rattle.laws_format.specs.pack_model.specs.reading.Model.{Model}
+use Rattle.laws_format.specs.pack_model.specs.reading.Namings.{sys_dir_name, descriptor_name}
+use Rattle.laws_format.specs.pack_model.specs.reading.Slots.{Item}
+use Rattle.laws_format.specs.pack_model.specs.reading.Slots.Item.{space, entry}
+use Rattle.laws_format.specs.pack_laws.proofs.Keys.{fid_total, fid_same}
+use Rattle.laws_format.specs.pack_laws.proofs.Mapping.{entries-from_entries}
 use Rattle.pack_vectors.proofs.Shapes.{small}
-use Rattle.exec_words.specs.declared.line.Path.{Path}
-use Rattle.exec_words.specs.declared.line.Target.{Target}
-use Rattle.exec_words.specs.declared.line.Target.TheVariants.{ByPath}
+use Rattle.session_model.specs.exec_words.specs.declared.line.Path.{Path}
+use Rattle.session_model.specs.exec_words.specs.declared.line.Target.{Target}
+use Rattle.session_model.specs.exec_words.specs.declared.line.Target.TheVariants.{ByPath}
 use Rattle.session_model.specs.Streams.{Stream}
 use Rattle.session_model.specs.Worlds.{World, fresh_world}
 

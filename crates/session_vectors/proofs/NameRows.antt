@@ -2,13 +2,13 @@
 use Rattle.std.proofs.Common.{◌≡◌, [], ◌∷◌, Some, refl}
 use Rattle.std.specs.Prelude.{codes}
 use Rattle.std.specs.Fmt.{digits}
-use Rattle.alto_words.specs.Fid.{sys_dir, directory_fid}
-use Rattle.alto_words.specs.Names.{is_stored_name}
-use Rattle.pack_model.specs.operations.Step.Operation.{make, grow, title, stamp, drop_file, leave, enter}
-use Rattle.pack_model.specs.reading.Files.{first}
-use Rattle.pack_model.specs.sessions.Lines.{longest_line}
-use Rattle.exec_words.specs.declared.line.Target.TheVariants.{ByPath}
-use Rattle.exec_words.specs.declared.line.Line.TheVariants as line
+use Rattle.laws_format.specs.alto_words.specs.Fid.{sys_dir, directory_fid}
+use Rattle.laws_format.specs.alto_words.specs.Names.{is_stored_name}
+use Rattle.laws_format.specs.pack_model.specs.operations.Step.Operation.{make, grow, title, stamp, drop_file, leave, enter}
+use Rattle.laws_format.specs.pack_model.specs.reading.Files.{first}
+use Rattle.laws_format.specs.pack_model.specs.sessions.Lines.{longest_line}
+use Rattle.session_model.specs.exec_words.specs.declared.line.Target.TheVariants.{ByPath}
+use Rattle.session_model.specs.exec_words.specs.declared.line.Line.TheVariants as line
 use Rattle.session_model.specs.Effects.{effect}
 use Rattle.session_model.specs.Refusals.{most_serials}
 use Rattle.session_model.specs.Replies.{reply_to, ops}

@@ -2,19 +2,19 @@
 use Rattle.std.proofs.Common.{◌≡◌, ℕ, List, [], ◌∷◌, ◌++◌, Some, None, refl}
 use Rattle.std.specs.Prelude.{codes}
 use Rattle.std.specs.Fmt.{digits}
-use Rattle.alto_words.specs.Fid.{sys_dir, disk_descriptor, ordinary_fid}
-use Rattle.alto_words.specs.Names.{is_stored_name}
-use Rattle.disk_records.specs.Addresses.{real_of}
-use Rattle.disk_records.specs.Commands.{ones}
-use Rattle.disk_records.specs.Labels.{in_range, is_free}
-use Rattle.disk_records.specs.Packs.{Pack}
-use Rattle.pack_model.specs.reading.Bytes.{bytes_of, put_at}
-use Rattle.pack_model.specs.reading.Files.{first, joined, most_pages, file_bytes}
-use Rattle.pack_model.specs.reading.Leaders.{leader_of, leader_name, is_readable}
-use Rattle.pack_model.specs.reading.Namings.{sys_dir_name, descriptor_name}
-use Rattle.pack_model.specs.reading.Sights.{sight, sights_from}
-use Rattle.pack_model.specs.reading.SlotWords.{entry_words, space_words}
-use Rattle.pack_model.specs.reading.Slots.{is_entry, slot_at, slots_after}
+use Rattle.laws_format.specs.alto_words.specs.Fid.{sys_dir, disk_descriptor, ordinary_fid}
+use Rattle.laws_format.specs.alto_words.specs.Names.{is_stored_name}
+use Rattle.laws_format.specs.disk_records.specs.Addresses.{real_of}
+use Rattle.laws_format.specs.disk_records.specs.Commands.{ones}
+use Rattle.laws_format.specs.disk_records.specs.Labels.{in_range, is_free}
+use Rattle.laws_format.specs.disk_records.specs.Packs.{Pack}
+use Rattle.laws_format.specs.pack_model.specs.reading.Bytes.{bytes_of, put_at}
+use Rattle.laws_format.specs.pack_model.specs.reading.Files.{first, joined, most_pages, file_bytes}
+use Rattle.laws_format.specs.pack_model.specs.reading.Leaders.{leader_of, leader_name, is_readable}
+use Rattle.laws_format.specs.pack_model.specs.reading.Namings.{sys_dir_name, descriptor_name}
+use Rattle.laws_format.specs.pack_model.specs.reading.Sights.{sight, sights_from}
+use Rattle.laws_format.specs.pack_model.specs.reading.SlotWords.{entry_words, space_words}
+use Rattle.laws_format.specs.pack_model.specs.reading.Slots.{is_entry, slot_at, slots_after}
 use Rattle.session_model.specs.Opening.{unready, unready_text}
 use Rattle.session_model.specs.Opening.Unready.{no_root, no_descriptor, wrong_length, bad_descriptor, not_clean}
 use Rattle.pack_vectors.proofs.SmallPacks.{described_by_words, its_words, root_header, root_label, pack_of, file_in}

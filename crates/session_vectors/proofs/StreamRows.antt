@@ -2,11 +2,11 @@
 use Rattle.std.proofs.Common.{◌≡◌, ℕ, List, [], ◌∷◌, refl}
 use Rattle.std.specs.Prelude.{codes, replicate}
 use Rattle.std.specs.Fmt.{digits}
-use Rattle.alto_words.specs.Names.{is_stored_name}
-use Rattle.pack_model.specs.operations.Step.Operation.{put, grow, stamp}
-use Rattle.pack_model.specs.reading.Files.{first}
-use Rattle.pack_model.specs.sessions.Lines.{longest_line}
-use Rattle.exec_words.specs.declared.line.Line.TheVariants as line
+use Rattle.laws_format.specs.alto_words.specs.Names.{is_stored_name}
+use Rattle.laws_format.specs.pack_model.specs.operations.Step.Operation.{put, grow, stamp}
+use Rattle.laws_format.specs.pack_model.specs.reading.Files.{first}
+use Rattle.laws_format.specs.pack_model.specs.sessions.Lines.{longest_line}
+use Rattle.session_model.specs.exec_words.specs.declared.line.Line.TheVariants as line
 use Rattle.session_model.specs.Effects.{ending_ops}
 use Rattle.session_model.specs.Refusals.{most_serials}
 use Rattle.session_model.specs.Replies.{reply_to, ops, next}

@@ -3,19 +3,19 @@ use Rattle.std.proofs.Common.{◌≡◌, ℕ, List, [], ◌∷◌, ◌++◌, Som
 use Rattle.std.specs.Prelude.{codes, replicate}
 use Rattle.std.specs.FinMap.{get, entries, from_entries, get-from_entries}
 use Rattle.std.specs.Fmt.{digits}
-use Rattle.alto_words.specs.declared.fid.Fid.{Fid}
-use Rattle.alto_words.specs.Fid.{fid_cmp, sys_dir, ordinary_fid}
-use Rattle.alto_words.specs.Names.{is_stored_name}
-use Rattle.pack_model.specs.operations.Step.Operation.{make, grow, title, stamp, drop_file, leave, enter}
-use Rattle.pack_model.specs.reading.Bodies.{File}
-use Rattle.pack_model.specs.reading.Files.{first}
-use Rattle.pack_model.specs.reading.Model.{Model}
-use Rattle.pack_model.specs.reading.Slots.Item.{space, entry}
-use Rattle.pack_model.specs.sessions.Lines.{longest_line}
-use Rattle.pack_laws.proofs.Keys.{fid_total, fid_same}
-use Rattle.pack_laws.proofs.Mapping.{entries-from_entries}
-use Rattle.exec_words.specs.declared.line.Line.TheVariants as line
-use Rattle.exec_words.specs.declared.line.Target.TheVariants.{ByPath}
+use Rattle.laws_format.specs.alto_words.specs.declared.fid.Fid.{Fid}
+use Rattle.laws_format.specs.alto_words.specs.Fid.{fid_cmp, sys_dir, ordinary_fid}
+use Rattle.laws_format.specs.alto_words.specs.Names.{is_stored_name}
+use Rattle.laws_format.specs.pack_model.specs.operations.Step.Operation.{make, grow, title, stamp, drop_file, leave, enter}
+use Rattle.laws_format.specs.pack_model.specs.reading.Bodies.{File}
+use Rattle.laws_format.specs.pack_model.specs.reading.Files.{first}
+use Rattle.laws_format.specs.pack_model.specs.reading.Model.{Model}
+use Rattle.laws_format.specs.pack_model.specs.reading.Slots.Item.{space, entry}
+use Rattle.laws_format.specs.pack_model.specs.sessions.Lines.{longest_line}
+use Rattle.laws_format.specs.pack_laws.proofs.Keys.{fid_total, fid_same}
+use Rattle.laws_format.specs.pack_laws.proofs.Mapping.{entries-from_entries}
+use Rattle.session_model.specs.exec_words.specs.declared.line.Line.TheVariants as line
+use Rattle.session_model.specs.exec_words.specs.declared.line.Target.TheVariants.{ByPath}
 use Rattle.session_model.specs.Effects.{effect}
 use Rattle.session_model.specs.Refusals.{most_serials}
 use Rattle.session_model.specs.Replies.{reply_to, ops}

@@ -1,9 +1,9 @@
 -- Small cases of zones and levels.
 use Rattle.std.proofs.Common.{◌≡◌, false, List, [], ◌∷◌, Some, None, refl}
 use Rattle.std.specs.Prelude.{replicate}
-use Rattle.world_model.specs.Zones.{Block, gap, live, size_for, taken, largest_gap, freed, given_back, zone_word, zone_set}
-use Rattle.world_model.specs.ZoneWords.{zone_words, blocks_in, first_wrong, zone_start}
-use Rattle.world_model.specs.Levels.{all_levels, level_base, level_kept, zone_kept, used_by_levels, zone_below_all}
+use Rattle.session_model.specs.world_model.specs.Zones.{Block, gap, live, size_for, taken, largest_gap, freed, given_back, zone_word, zone_set}
+use Rattle.session_model.specs.world_model.specs.ZoneWords.{zone_words, blocks_in, first_wrong, zone_start}
+use Rattle.session_model.specs.world_model.specs.Levels.{all_levels, level_base, level_kept, zone_kept, used_by_levels, zone_below_all}
 
 -- ---- the bases of the levels
 bases :

@@ -7,6 +7,7 @@ use std::cell::{Cell, RefCell};
 use std::fmt::Display;
 use std::fs::{File, Metadata, OpenFile, OpenOptions};
 use std::io::{BufRead, Error, ErrorKind, Input, Lines, Print, Read, Seek, SeekFrom, Write};
+use std::os::unix::fs::FileExt;
 use std::rt::Files;
 use std::{fs, io};
 
@@ -82,12 +83,15 @@ impl Calls {
     }
 }
 
-/// One call of a file, with the place that it seeks, or how many bytes it was to read or write.
+/// One call of a file, with the place that it seeks, or how many bytes it was to read or write and from which place on: without one, from
+/// the file's position on.
 #[derive(Clone, Copy, Debug, PartialEq, Eq)]
 pub enum FileCall {
     Seek(SeekFrom),
     Read(usize),
     Write(usize),
+    ReadAt(u64, usize),
+    WriteAt(u64, usize),
 }
 
 /// How many calls of files are kept.
@@ -265,52 +269,89 @@ impl BufRead for Keys<'_> {
 pub struct Logged<'a> {
     file: File,
     broken: Broken,
-    calls: Calls,
+    calls: Cell<Calls>,
     // how many bytes it still takes
-    room: usize,
+    room: Cell<usize>,
     log: &'a Log,
 }
 
 impl Logged<'_> {
-    /// How many bytes a write call does of those that it is asked. StorageFull: there is room for none.
-    fn take_room(&mut self, asked: usize) -> io::Result<usize>
+    /// How many bytes the next call does of those that it is asked. Interrupted: none, this time.
+    fn next_length(&self, asked: usize) -> io::Result<usize>
         ensures most { IfOk result (λ length. length ≤ asked) }
     {
-        if self.room == 0 {
+        let mut calls = self.calls.get();
+        let length = calls.next_length(asked);
+        self.calls.set(calls);
+        length
+    }
+
+    /// How many bytes a write call does of those that it is asked. StorageFull: there is room for none.
+    fn take_room(&self, asked: usize) -> io::Result<usize>
+        ensures most { IfOk result (λ length. length ≤ asked) }
+    {
+        let room = self.room.get();
+        if room == 0 {
             return Err(Error::from(ErrorKind::StorageFull));
         }
-        let length = asked.min(self.room);
-        self.room -= length;
+        let length = asked.min(room);
+        self.room.set(room - length);
         Ok(length)
+    }
+
+    /// How many bytes a read call that is noted so does of those that it is asked.
+    fn length_to_read(&self, call: FileCall, asked: usize) -> io::Result<usize>
+        ensures most { IfOk result (λ length. length ≤ asked) }
+    {
+        self.log.note_file_call(call)?;
+        let number = self.log.note_file_read();
+        if self.broken == Broken::Reading || self.broken == Broken::ReadCall(number) {
+            return Err(Error::from(ErrorKind::Other));
+        }
+        self.next_length(asked)
+    }
+
+    /// How many bytes a write call that is noted so does of those that it is asked.
+    fn length_to_write(&self, call: FileCall, asked: usize) -> io::Result<usize>
+        ensures most { IfOk result (λ length. length ≤ asked) }
+    {
+        self.log.note_file_call(call)?;
+        let number = self.log.note_file_write();
+        if self.broken == Broken::WriteCall(number) {
+            return Err(Error::from(ErrorKind::StorageFull));
+        }
+        let length = self.next_length(asked)?;
+        self.take_room(length)
     }
 }
 
 impl Read for Logged<'_> {
     fn read(&mut self, buf: &mut [u8]) -> io::Result<usize> {
-        self.log.note_file_call(FileCall::Read(buf.len()))?;
-        let number = self.log.note_file_read();
-        if self.broken == Broken::Reading || self.broken == Broken::ReadCall(number) {
-            return Err(Error::from(ErrorKind::Other));
-        }
-        let length = self.calls.next_length(buf.len())?;
+        let length = self.length_to_read(FileCall::Read(buf.len()), buf.len())?;
         self.file.read(&mut buf[..length])
     }
 }
 
 impl Write for Logged<'_> {
     fn write(&mut self, buf: &[u8]) -> io::Result<usize> {
-        self.log.note_file_call(FileCall::Write(buf.len()))?;
-        let number = self.log.note_file_write();
-        if self.broken == Broken::WriteCall(number) {
-            return Err(Error::from(ErrorKind::StorageFull));
-        }
-        let asked = self.calls.next_length(buf.len())?;
-        let length = self.take_room(asked)?;
+        let length = self.length_to_write(FileCall::Write(buf.len()), buf.len())?;
         self.file.write(&buf[..length])
     }
 
     fn flush(&mut self) -> io::Result<()> {
         self.file.flush()
+    }
+}
+
+impl FileExt for Logged<'_> {
+    fn read_at(&self, buf: &mut [u8], offset: u64) -> io::Result<usize> {
+        let length = self.length_to_read(FileCall::ReadAt(offset, buf.len()), buf.len())?;
+        self.file.read_at(&mut buf[..length], offset)
+    }
+
+    fn write_at(&self, buf: &[u8], offset: u64) -> io::Result<usize> {
+        let length = self.length_to_write(FileCall::WriteAt(offset, buf.len()), buf.len())?;
+        self.file.write_at(&buf[..length], offset)
     }
 }
 
@@ -389,11 +430,11 @@ impl<'a> Files for Outside<'a> {
         Ok(Logged {
             file: self.opened(how, path)?,
             broken: self.broken,
-            calls: Calls::of(self.broken),
-            room: match self.broken {
+            calls: Cell::new(Calls::of(self.broken)),
+            room: Cell::new(match self.broken {
                 Broken::Full(room) => room,
                 _ => usize::MAX,
-            },
+            }),
             log: self.log,
         })
     }

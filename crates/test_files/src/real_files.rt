@@ -171,19 +171,15 @@ fn makes_calls(
 #[test]
 fn a_sector_command_is_few_calls(rt: HostRuntime) -> Result<(), Fail> {
     // the second cylinder begins at byte 12,768, and its sector 7 is 3,724 bytes further on
-    let cylinder = [
-        FileCall::Seek(SeekFrom::Start(12_768)),
-        FileCall::Read(12_768),
-    ];
-    let seek = |byte| FileCall::Seek(SeekFrom::Start(byte));
+    let cylinder = [FileCall::ReadAt(12_768, 12_768)];
     // the file's length is asked first; the records that are written stand side by side, and one call writes them
     let end = FileCall::Seek(SeekFrom::End(0));
     assert!(rt; makes_calls(&rt, Plan::READ, &cylinder, &[])?);
-    let all = [end, seek(16_492), FileCall::Write(532)];
+    let all = [end, FileCall::WriteAt(16_492, 532)];
     assert!(rt; makes_calls(&rt, Plan::WRITE_ALL, &[], &all)?);
-    let label = [end, seek(16_496), FileCall::Write(528)];
+    let label = [end, FileCall::WriteAt(16_496, 528)];
     assert!(rt; makes_calls(&rt, Plan::WRITE_LABEL, &cylinder, &label)?);
-    let value = [end, seek(16_512), FileCall::Write(512)];
+    let value = [end, FileCall::WriteAt(16_512, 512)];
     assert!(rt; makes_calls(&rt, Plan::WRITE_VALUE, &cylinder, &value)?);
     Ok(())
 }
@@ -191,26 +187,21 @@ fn a_sector_command_is_few_calls(rt: HostRuntime) -> Result<(), Fail> {
 #[test]
 fn a_cylinder_is_read_twice_at_most_and_else_by_sectors(rt: HostRuntime) -> Result<(), Fail> {
     let alloc = rt.alloc();
-    let seek = |byte| FileCall::Seek(SeekFrom::Start(byte));
-    let cylinder = FileCall::Read(12_768);
-    let sector = FileCall::Read(532);
+    let cylinder = |byte| FileCall::ReadAt(byte, 12_768);
+    let sector = |byte| FileCall::ReadAt(byte, 532);
     // after the first pass the second cylinder alone is kept, and after the next one both are
-    let twice_at_most = [seek(0), cylinder, seek(12_768), cylinder, seek(0), cylinder];
+    let twice_at_most = [cylinder(0), cylinder(12_768), cylinder(0)];
     // the second time the cylinder can be read, and is kept
-    let one_by_one = [seek(0), cylinder, seek(3_192), sector, seek(0), cylinder];
+    let one_by_one = [cylinder(0), sector(3_192), cylinder(0)];
     // of the cylinder a byte is missing, and none comes for it
-    let rest = FileCall::Read(1);
+    let rest = FileCall::ReadAt(25_535, 1);
     let cut_short = [
-        seek(12_768),
-        cylinder,
+        cylinder(12_768),
         rest,
-        seek(24_472),
-        sector,
-        seek(12_768),
-        cylinder,
+        sector(24_472),
+        cylinder(12_768),
         rest,
-        seek(24_472),
-        sector,
+        sector(24_472),
     ];
     // the first sector that is read in turn, the one after the last, how often, and the calls for it
     let rows = [

@@ -5,7 +5,6 @@ use alto_top::{Status, format_pack};
 use disk_image::{FileMachine, ReachError, encode_two};
 use disk_records::{Disk, Plan, Sector, Shape};
 use std::fs;
-use std::io::SeekFrom;
 use std::process::Abort;
 use std::test::Fail;
 use test_packs::{Placed, set_page};
@@ -158,19 +157,16 @@ fn a_command_on_the_second_drive_goes_to_its_file(rt: HostRuntime) -> Result<(),
         (50, Some(0), BACK_DATA.label, [1, 0x2002]),
         (70, None, BACK_LEADER.label, [1, 0xA006]),
     ];
-    for (at, seek, label, header) in rows {
+    for (at, begin, label, header) in rows {
         let mut sector = ZEROS;
         assert!(rt; at < machine.shape().pages());
         machine.run(at, Plan::READ, &mut sector)?;
         assert!(rt; sector.label == label, "{at}");
         assert!(rt; sector.header == header, "{at}");
         let calls = log.take_file_calls(alloc)?;
-        match seek {
+        match begin {
             Some(from) => {
-                let wanted = [
-                    FileCall::Seek(SeekFrom::Start(from)),
-                    FileCall::Read(12_768),
-                ];
+                let wanted = [FileCall::ReadAt(from, 12_768)];
                 assert!(rt; calls.as_slice() == wanted.as_slice(), "{at}");
             }
             None => assert!(rt; calls.is_empty(), "{at}"),

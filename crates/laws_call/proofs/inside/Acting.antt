@@ -1,42 +1,42 @@
 -- What all record writes of each operation do, by the laws of the operations.
 use Rattle.std.proofs.Common.{List, [], ap, refl, subst, suc, sym, true, ℕ, ◌∙◌, ◌∷◌, ◌≡◌}
 use Rattle.std.specs.Prelude.{drop as drop_front, length}
-use Rattle.alto_words.specs.Fid.{is_directory}
-use Rattle.alto_words.specs.declared.fid.Fid.{Fid}
-use Rattle.disk_records.specs.Packs.{Pack, sector_at}
-use Rattle.disk_records.specs.declared.shape.Shape.{Shape}
-use Rattle.pack_model.specs.operations.Commands.{Claim, all_claimed, claims_of, cut_label, first_page_claim, grown_claims, grown_label, grown_value, leader_claim, sectors_of}
-use Rattle.pack_model.specs.operations.Committing.{page_of_byte}
-use Rattle.pack_model.specs.operations.Entering.{entry_value, values_first}
-use Rattle.pack_model.specs.operations.Operations.{grow_writes}
-use Rattle.pack_model.specs.operations.PageWords.{freed_value, widening_bytes}
-use Rattle.pack_model.specs.operations.Step.Operation.{grow, widen}
-use Rattle.pack_model.specs.reading.Files.{file_bytes}
-use Rattle.pack_model.specs.reading.SlotWords.{space_words}
-use Rattle.pack_model.specs.reading.Sights.{sights}
-use Rattle.pack_model.specs.reading.Slots.Item.{entry}
-use Rattle.pack_model.specs.reading.Slots.{all_words, item_words}
-use Rattle.pack_model.specs.states.Whole.{Tidy, Whole}
+use Rattle.laws_hint.specs.alto_words.specs.Fid.{is_directory}
+use Rattle.laws_hint.specs.alto_words.specs.declared.fid.Fid.{Fid}
+use Rattle.laws_hint.specs.disk_records.specs.Packs.{Pack, sector_at}
+use Rattle.laws_hint.specs.disk_records.specs.declared.shape.Shape.{Shape}
+use Rattle.laws_hint.specs.pack_model.specs.operations.Commands.{Claim, all_claimed, claims_of, cut_label, first_page_claim, grown_claims, grown_label, grown_value, leader_claim, sectors_of}
+use Rattle.laws_hint.specs.pack_model.specs.operations.Committing.{page_of_byte}
+use Rattle.laws_hint.specs.pack_model.specs.operations.Entering.{entry_value, values_first}
+use Rattle.laws_hint.specs.pack_model.specs.operations.Operations.{grow_writes}
+use Rattle.laws_hint.specs.pack_model.specs.operations.PageWords.{freed_value, widening_bytes}
+use Rattle.laws_hint.specs.pack_model.specs.operations.Step.Operation.{grow, widen}
+use Rattle.laws_hint.specs.pack_model.specs.reading.Files.{file_bytes}
+use Rattle.laws_hint.specs.pack_model.specs.reading.SlotWords.{space_words}
+use Rattle.laws_hint.specs.pack_model.specs.reading.Sights.{sights}
+use Rattle.laws_hint.specs.pack_model.specs.reading.Slots.Item.{entry}
+use Rattle.laws_hint.specs.pack_model.specs.reading.Slots.{all_words, item_words}
+use Rattle.laws_hint.specs.pack_model.specs.states.Whole.{Tidy, Whole}
 use Rattle.laws_call.specs.ActLaws.{ActsOfEachOperation}
 use Rattle.laws_call.specs.Acting.{Acts}
 use Rattle.laws_hint.proofs.changes.Laws.{claims_mark_the_map, releases_mark_the_map, values_leave_the_map}
 use Rattle.laws_hint.specs.MapChanges.{ReleasesMark, ValuesLeave}
-use Rattle.laws_line.proofs.crashes.Laws.{crashes_of_each_operation, crashes_of_enter}
-use Rattle.laws_line.specs.EachLaws.{EachStays}
-use Rattle.laws_operation.proofs.cut.Laws.{cut_carries_out, cut_keeps_links, cut_takes_no_sector, cut_words_fit}
-use Rattle.laws_operation.proofs.drop.Laws.{drop_carries_out, drop_keeps_links, drop_takes_no_sector}
-use Rattle.laws_operation.proofs.enter.Laws.{enter_carries_out, enter_keeps_links, enter_leaves_free_sectors}
-use Rattle.laws_operation.proofs.grow.Laws.{grow_carries_out, grow_keeps_links, grow_keeps_unclaimed_free, grow_words_fit}
-use Rattle.laws_operation.proofs.leave.Laws.{leave_carries_out, leave_keeps_links}
-use Rattle.laws_operation.proofs.make.Laws.{make_carries_out, make_keeps_links, make_keeps_unclaimed_free, make_words_fit}
-use Rattle.laws_operation.proofs.put.Laws.{put_carries_out, put_keeps_links}
-use Rattle.laws_operation.proofs.stamp.Laws.{stamp_carries_out, stamp_keeps_links}
-use Rattle.laws_operation.proofs.title.Laws.{title_carries_out, title_keeps_links}
-use Rattle.laws_operation.proofs.values.Laws.{values_leave_free_sectors}
-use Rattle.laws_operation.proofs.widen.Laws.{widen_carries_out, widen_keeps_links, widen_words_fit}
-use Rattle.laws_operation.specs.ByteLaws.{IsOrdinary}
-use Rattle.laws_operation.specs.FileWords.{CanGrow}
-use Rattle.laws_operation.specs.NameLaws.{entry_room}
+use Rattle.laws_hint.specs.laws_line.proofs.crashes.Laws.{crashes_of_each_operation, crashes_of_enter}
+use Rattle.laws_hint.specs.laws_line.specs.EachLaws.{EachStays}
+use Rattle.laws_hint.specs.laws_operation.proofs.cut.Laws.{cut_carries_out, cut_keeps_links, cut_takes_no_sector, cut_words_fit}
+use Rattle.laws_hint.specs.laws_operation.proofs.drop.Laws.{drop_carries_out, drop_keeps_links, drop_takes_no_sector}
+use Rattle.laws_hint.specs.laws_operation.proofs.enter.Laws.{enter_carries_out, enter_keeps_links, enter_leaves_free_sectors}
+use Rattle.laws_hint.specs.laws_operation.proofs.grow.Laws.{grow_carries_out, grow_keeps_links, grow_keeps_unclaimed_free, grow_words_fit}
+use Rattle.laws_hint.specs.laws_operation.proofs.leave.Laws.{leave_carries_out, leave_keeps_links}
+use Rattle.laws_hint.specs.laws_operation.proofs.make.Laws.{make_carries_out, make_keeps_links, make_keeps_unclaimed_free, make_words_fit}
+use Rattle.laws_hint.specs.laws_operation.proofs.put.Laws.{put_carries_out, put_keeps_links}
+use Rattle.laws_hint.specs.laws_operation.proofs.stamp.Laws.{stamp_carries_out, stamp_keeps_links}
+use Rattle.laws_hint.specs.laws_operation.proofs.title.Laws.{title_carries_out, title_keeps_links}
+use Rattle.laws_hint.specs.laws_operation.proofs.values.Laws.{values_leave_free_sectors}
+use Rattle.laws_hint.specs.laws_operation.proofs.widen.Laws.{widen_carries_out, widen_keeps_links, widen_words_fit}
+use Rattle.laws_hint.specs.laws_operation.specs.ByteLaws.{IsOrdinary}
+use Rattle.laws_hint.specs.laws_operation.specs.FileWords.{CanGrow}
+use Rattle.laws_hint.specs.laws_operation.specs.NameLaws.{entry_room}
 
 -- the sectors of claims are those that were given for them
 claimed_are : (shape : Shape) (f : Fid) (number previous : ℕ) (bytes past fresh : List ℕ) → sectors_of (all_claimed (claims_of shape f number previous bytes past fresh)) ≡ fresh

@@ -1,23 +1,23 @@
 -- The tally over the calls of a line.
 use Rattle.std.proofs.Common.{List, Result, [], ap, arith, length, refl, subst, suc, sym, take, ℕ, ◌++◌, ◌+◌, ◌<◌, ◌^◌, ◌∙◌, ◌∷◌, ◌≡◌}
 use Rattle.std.proofs.lemmas.List.{append-nil, length-append}
-use Rattle.disk_records.proofs.Growing.{writes-append}
-use Rattle.disk_records.specs.Events.{IsFirstOf, writes_in}
-use Rattle.disk_records.specs.Packs.{Pack}
-use Rattle.disk_records.specs.Tapes.{added, capped, pack}
-use Rattle.disk_records.specs.declared.records.Event.{Event}
-use Rattle.disk_records.specs.declared.records.Tally.{Tally}
+use Rattle.laws_hint.specs.disk_records.proofs.Growing.{writes-append}
+use Rattle.laws_hint.specs.disk_records.specs.Events.{IsFirstOf, writes_in}
+use Rattle.laws_hint.specs.disk_records.specs.Packs.{Pack}
+use Rattle.laws_hint.specs.disk_records.specs.Tapes.{added, capped, pack}
+use Rattle.laws_hint.specs.disk_records.specs.declared.records.Event.{Event}
+use Rattle.laws_hint.specs.disk_records.specs.declared.records.Tally.{Tally}
 use Rattle.laws_call.specs.Acting.{Around, begun, refused, releasing, unreleased}
 use Rattle.laws_call.specs.CountLaws.{CallIsCounted, CallIsCountedOn, CountOfACall, CountedSoFar, CountsOn, QuietCallIsCounted, ReleasesAreCounted}
-use Rattle.laws_operation.proofs.drop.Laws.{release_carries_out}
-use Rattle.laws_operation.specs.LifeLaws.{first_moves}
-use Rattle.pack_laws.proofs.tallies.Laws.{quiet_moves_are_not_counted, tallies_join, tally_by_the_count}
-use Rattle.pack_model.specs.operations.Committing.{moves_of}
-use Rattle.pack_model.specs.operations.Operations.Move.{commits, mends, quiet}
-use Rattle.pack_model.specs.operations.Operations.{Move}
-use Rattle.pack_model.specs.reading.Model.{read_as}
-use Rattle.pack_model.specs.sessions.Moves.{Meaning, Obeys, rest, write}
-use Rattle.pack_model.specs.sessions.Tallies.{CountsMoves, Tells, counted, took_effect}
+use Rattle.laws_hint.specs.laws_operation.proofs.drop.Laws.{release_carries_out}
+use Rattle.laws_hint.specs.laws_operation.specs.LifeLaws.{first_moves}
+use Rattle.laws_hint.specs.pack_laws.proofs.tallies.Laws.{quiet_moves_are_not_counted, tallies_join, tally_by_the_count}
+use Rattle.laws_hint.specs.pack_model.specs.operations.Committing.{moves_of}
+use Rattle.laws_hint.specs.pack_model.specs.operations.Operations.Move.{commits, mends, quiet}
+use Rattle.laws_hint.specs.pack_model.specs.operations.Operations.{Move}
+use Rattle.laws_hint.specs.pack_model.specs.reading.Model.{read_as}
+use Rattle.laws_hint.specs.pack_model.specs.sessions.Moves.{Meaning, Obeys, rest, write}
+use Rattle.laws_hint.specs.pack_model.specs.sessions.Tallies.{CountsMoves, Tells, counted, took_effect}
 
 -- a tally keeps its limit
 limit_stays : (w : ℕ) (moves : List Move) (t : Tally) → (counted w moves t).limit ≡ t.limit

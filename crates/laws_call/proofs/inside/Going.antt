@@ -1,27 +1,27 @@
 -- Calls one after another as the operations of a line.
 use Rattle.std.proofs.Common.{Err, List, Ok, OnOk, Result, Some, [], ap, refl, subst, sym, ℕ, ◌++◌, ◌∙◌, ◌∷◌, ◌≡◌, ◌≤◌}
 use Rattle.std.proofs.lemmas.List.{append-nil}
-use Rattle.alto_words.specs.Fid.{disk_descriptor}
-use Rattle.alto_words.specs.declared.fid.Fid.{Fid}
-use Rattle.disk_records.proofs.FirstOnes.{first_all, first_front, first_then}
-use Rattle.disk_records.specs.Events.{IsFirstOf}
-use Rattle.disk_records.specs.Packs.{Pack, after, sector_at}
-use Rattle.disk_records.specs.Tapes.{added, pack}
-use Rattle.disk_records.specs.declared.records.Event.{Event}
-use Rattle.pack_model.specs.operations.Committing.{serial_moves}
-use Rattle.pack_model.specs.operations.Step.Operation.{make}
-use Rattle.pack_model.specs.operations.Step.{Operation}
-use Rattle.pack_model.specs.reading.Files.{place}
-use Rattle.pack_model.specs.reading.Model.{read_as}
-use Rattle.pack_model.specs.reading.Sights.{sights}
-use Rattle.pack_model.specs.sessions.Descriptor.{serial_writes}
-use Rattle.pack_model.specs.sessions.Moves.{IsStartOf}
-use Rattle.pack_laws.proofs.Moving.{start_self}
+use Rattle.laws_hint.specs.alto_words.specs.Fid.{disk_descriptor}
+use Rattle.laws_hint.specs.alto_words.specs.declared.fid.Fid.{Fid}
+use Rattle.laws_hint.specs.disk_records.proofs.FirstOnes.{first_all, first_front, first_then}
+use Rattle.laws_hint.specs.disk_records.specs.Events.{IsFirstOf}
+use Rattle.laws_hint.specs.disk_records.specs.Packs.{Pack, after, sector_at}
+use Rattle.laws_hint.specs.disk_records.specs.Tapes.{added, pack}
+use Rattle.laws_hint.specs.disk_records.specs.declared.records.Event.{Event}
+use Rattle.laws_hint.specs.pack_model.specs.operations.Committing.{serial_moves}
+use Rattle.laws_hint.specs.pack_model.specs.operations.Step.Operation.{make}
+use Rattle.laws_hint.specs.pack_model.specs.operations.Step.{Operation}
+use Rattle.laws_hint.specs.pack_model.specs.reading.Files.{place}
+use Rattle.laws_hint.specs.pack_model.specs.reading.Model.{read_as}
+use Rattle.laws_hint.specs.pack_model.specs.reading.Sights.{sights}
+use Rattle.laws_hint.specs.pack_model.specs.sessions.Descriptor.{serial_writes}
+use Rattle.laws_hint.specs.pack_model.specs.sessions.Moves.{IsStartOf}
+use Rattle.laws_hint.specs.pack_laws.proofs.Moving.{start_self}
 use Rattle.laws_call.specs.Acting.{Around, Operates, begun, refused}
 use Rattle.laws_call.specs.GoingLaws.{CallJoins, LineStops, NoCallYet, OperationJoins, SerialAndMakeJoin, SilentCallJoins}
 use Rattle.laws_call.specs.Going.{Goes}
-use Rattle.laws_line.proofs.crashes.Laws.{lines_join}
-use Rattle.laws_line.specs.CrashLaws.{Batch, StaysMendable, does, makes, over, with_serial}
+use Rattle.laws_hint.specs.laws_line.proofs.crashes.Laws.{lines_join}
+use Rattle.laws_hint.specs.laws_line.specs.CrashLaws.{Batch, StaysMendable, does, makes, over, with_serial}
 
 -- ---- prefixes and answers
 start_front : {X : Type 0} (a b : List X) → IsStartOf a (a ++ b)

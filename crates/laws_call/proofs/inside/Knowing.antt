@@ -2,48 +2,48 @@
 use Rattle.std.proofs.Common.{All, List, Some, [], ap, arith, false, length, subst, suc, sym, true, ℕ, ◌%◌, ◌++◌, ◌∙◌, ◌∷◌, ◌≡◌}
 use Rattle.std.proofs.lemmas.List.Elements.{All-cons, All-nil}
 use Rattle.std.specs.Prelude.{cond}
-use Rattle.alto_words.specs.Fid.{is_directory}
-use Rattle.alto_words.specs.declared.fid.Fid.{Fid}
-use Rattle.disk_records.specs.Commands.{value_writes}
-use Rattle.disk_records.specs.Labels.{is_free, tag}
-use Rattle.disk_records.specs.Packs.{Pack, after, is_free_at, sector_at}
-use Rattle.disk_records.specs.Words.{word}
-use Rattle.disk_records.specs.declared.records.Event.{Event}
+use Rattle.laws_hint.specs.alto_words.specs.Fid.{is_directory}
+use Rattle.laws_hint.specs.alto_words.specs.declared.fid.Fid.{Fid}
+use Rattle.laws_hint.specs.disk_records.specs.Commands.{value_writes}
+use Rattle.laws_hint.specs.disk_records.specs.Labels.{is_free, tag}
+use Rattle.laws_hint.specs.disk_records.specs.Packs.{Pack, after, is_free_at, sector_at}
+use Rattle.laws_hint.specs.disk_records.specs.Words.{word}
+use Rattle.laws_hint.specs.disk_records.specs.declared.records.Event.{Event}
 use Rattle.laws_call.proofs.inside.Writing.{written_acts}
 use Rattle.laws_call.specs.WritingLaws.{StaysKnown, WrittenStaysKnown}
 use Rattle.laws_call.specs.Writing.{Written, cuts, drops, entering_writes, enters, entry_freed, grown_writes, grows, leaves, makes, puts, stamps, titles, widens}
-use Rattle.laws_line.proofs.crashes.Laws.{crashes_of_enter}
-use Rattle.laws_lookup.proofs.before.Laws.{cut_misled_before, drop_misled_before, enter_misled_before, grow_misled_before, leave_misled_before, make_misled_before, widen_misled_before}
-use Rattle.laws_lookup.proofs.others.Laws.{cut_keeps_pages, cut_leaves_others, grow_keeps_pages, grow_leaves_others, make_leaves_others, place_is_of_its_file, values_leave_others, widen_keeps_pages, widen_leaves_others}
-use Rattle.laws_lookup.proofs.stays.Laws.{values_misled_before}
-use Rattle.laws_lookup.specs.OtherLaws.{AreOfFile, KeepsPages, LeavesOthers}
-use Rattle.laws_lookup.specs.StayLaws.{MisledBefore}
-use Rattle.laws_operation.proofs.Concerning.{AllOf, events_are, values_of}
-use Rattle.laws_operation.proofs.cut.Laws.{cut_words_fit}
-use Rattle.laws_operation.proofs.drop.Laws.{slot_words_fit}
-use Rattle.laws_operation.proofs.enter.Laws.{enter_words_fit}
-use Rattle.laws_operation.proofs.grow.Laws.{grow_words_fit}
-use Rattle.laws_operation.proofs.make.Laws.{make_words_fit}
-use Rattle.laws_operation.proofs.places.Laws.{file_that_does_not_live_has_no_page, values_keep_places}
-use Rattle.laws_operation.proofs.widen.Laws.{widen_words_fit}
-use Rattle.laws_operation.specs.ByteLaws.{Bear, IsOrdinary}
-use Rattle.laws_operation.specs.DirectoryWords.{left_in}
-use Rattle.laws_operation.specs.FileWords.{CanCut, CanGrow, CanMake}
-use Rattle.laws_operation.specs.NameLaws.{MayEnterAt, entry_room}
-use Rattle.laws_record.proofs.Copying.{place_carried}
-use Rattle.pack_laws.proofs.Guarding.{carried_parts, named_taken}
-use Rattle.pack_model.specs.operations.Commands.{Claim, cut_label, first_page_claim, grown_claims, grown_label, grown_value, leader_claim, values_writes}
-use Rattle.pack_model.specs.operations.Committing.{page_of_byte, page_of_word}
-use Rattle.pack_model.specs.operations.Entering.{EntryRoom, entry_value, values_first}
-use Rattle.pack_model.specs.operations.Operations.{cut_writes, make_writes}
-use Rattle.pack_model.specs.operations.PageWords.{entered_words, page_number, put_value, stamped_value, titled_value, widening_bytes}
-use Rattle.pack_model.specs.operations.Step.Operation.{cut, enter, grow, make, widen}
-use Rattle.pack_model.specs.operations.Step.{Operation}
-use Rattle.pack_model.specs.reading.Files.{file_bytes, place}
-use Rattle.pack_model.specs.reading.Sights.{sights}
-use Rattle.pack_model.specs.reading.SlotWords.{address_word, space_words}
-use Rattle.pack_model.specs.reading.Slots.{Item, all_words}
-use Rattle.pack_model.specs.states.Whole.{Tidy, Whole}
+use Rattle.laws_hint.specs.laws_line.proofs.crashes.Laws.{crashes_of_enter}
+use Rattle.laws_hint.specs.laws_lookup.proofs.before.Laws.{cut_misled_before, drop_misled_before, enter_misled_before, grow_misled_before, leave_misled_before, make_misled_before, widen_misled_before}
+use Rattle.laws_hint.specs.laws_lookup.proofs.others.Laws.{cut_keeps_pages, cut_leaves_others, grow_keeps_pages, grow_leaves_others, make_leaves_others, place_is_of_its_file, values_leave_others, widen_keeps_pages, widen_leaves_others}
+use Rattle.laws_hint.specs.laws_lookup.proofs.stays.Laws.{values_misled_before}
+use Rattle.laws_hint.specs.laws_lookup.specs.OtherLaws.{AreOfFile, KeepsPages, LeavesOthers}
+use Rattle.laws_hint.specs.laws_lookup.specs.StayLaws.{MisledBefore}
+use Rattle.laws_hint.specs.laws_operation.proofs.Concerning.{AllOf, events_are, values_of}
+use Rattle.laws_hint.specs.laws_operation.proofs.cut.Laws.{cut_words_fit}
+use Rattle.laws_hint.specs.laws_operation.proofs.drop.Laws.{slot_words_fit}
+use Rattle.laws_hint.specs.laws_operation.proofs.enter.Laws.{enter_words_fit}
+use Rattle.laws_hint.specs.laws_operation.proofs.grow.Laws.{grow_words_fit}
+use Rattle.laws_hint.specs.laws_operation.proofs.make.Laws.{make_words_fit}
+use Rattle.laws_hint.specs.laws_operation.proofs.places.Laws.{file_that_does_not_live_has_no_page, values_keep_places}
+use Rattle.laws_hint.specs.laws_operation.proofs.widen.Laws.{widen_words_fit}
+use Rattle.laws_hint.specs.laws_operation.specs.ByteLaws.{Bear, IsOrdinary}
+use Rattle.laws_hint.specs.laws_operation.specs.DirectoryWords.{left_in}
+use Rattle.laws_hint.specs.laws_operation.specs.FileWords.{CanCut, CanGrow, CanMake}
+use Rattle.laws_hint.specs.laws_operation.specs.NameLaws.{MayEnterAt, entry_room}
+use Rattle.laws_hint.specs.laws_record.proofs.Copying.{place_carried}
+use Rattle.laws_hint.specs.pack_laws.proofs.Guarding.{carried_parts, named_taken}
+use Rattle.laws_hint.specs.pack_model.specs.operations.Commands.{Claim, cut_label, first_page_claim, grown_claims, grown_label, grown_value, leader_claim, values_writes}
+use Rattle.laws_hint.specs.pack_model.specs.operations.Committing.{page_of_byte, page_of_word}
+use Rattle.laws_hint.specs.pack_model.specs.operations.Entering.{EntryRoom, entry_value, values_first}
+use Rattle.laws_hint.specs.pack_model.specs.operations.Operations.{cut_writes, make_writes}
+use Rattle.laws_hint.specs.pack_model.specs.operations.PageWords.{entered_words, page_number, put_value, stamped_value, titled_value, widening_bytes}
+use Rattle.laws_hint.specs.pack_model.specs.operations.Step.Operation.{cut, enter, grow, make, widen}
+use Rattle.laws_hint.specs.pack_model.specs.operations.Step.{Operation}
+use Rattle.laws_hint.specs.pack_model.specs.reading.Files.{file_bytes, place}
+use Rattle.laws_hint.specs.pack_model.specs.reading.Sights.{sights}
+use Rattle.laws_hint.specs.pack_model.specs.reading.SlotWords.{address_word, space_words}
+use Rattle.laws_hint.specs.pack_model.specs.reading.Slots.{Item, all_words}
+use Rattle.laws_hint.specs.pack_model.specs.states.Whole.{Tidy, Whole}
 
 -- ---- sectors that aren't free
 place_held : (p : Pack) (f : Fid) (n at : ℕ) → place (sights p) f n ≡ Some at → is_free_at p at ≡ false

@@ -1,18 +1,18 @@
 -- Calls that are a line from a sound pack.
 use Rattle.std.proofs.Common.{Err, List, Ok, OnOk, Result, [], refl, subst, sym, ℕ, ◌++◌, ◌∷◌, ◌≡◌}
-use Rattle.disk_records.proofs.FirstOnes.{first_front, first_then}
-use Rattle.disk_records.specs.Events.{IsFirstOf}
-use Rattle.disk_records.specs.Packs.{Pack, after}
-use Rattle.disk_records.specs.declared.records.Event.{Event}
-use Rattle.pack_model.specs.operations.Step.{Operation}
-use Rattle.pack_model.specs.sessions.Moves.{IsStartOf}
+use Rattle.laws_hint.specs.disk_records.proofs.FirstOnes.{first_front, first_then}
+use Rattle.laws_hint.specs.disk_records.specs.Events.{IsFirstOf}
+use Rattle.laws_hint.specs.disk_records.specs.Packs.{Pack, after}
+use Rattle.laws_hint.specs.disk_records.specs.declared.records.Event.{Event}
+use Rattle.laws_hint.specs.pack_model.specs.operations.Step.{Operation}
+use Rattle.laws_hint.specs.pack_model.specs.sessions.Moves.{IsStartOf}
 use Rattle.laws_call.specs.Going.{Goes}
 use Rattle.laws_call.specs.SoundCalls.{CallsOnASoundPack, LineFits}
 use Rattle.laws_hint.specs.LineLinks.{opening_writes}
-use Rattle.laws_line.proofs.sound.Laws.{broken_line_on_a_sound_pack, crashes_of_a_line_on_a_sound_pack, part_of_a_line_on_a_sound_pack}
-use Rattle.laws_line.specs.CrashLaws.{Batch, over}
-use Rattle.laws_line.specs.SoundLines.{LineOnSound}
-use Rattle.laws_line.specs.SoundParts.{BreaksOnSound, PartOnSound}
+use Rattle.laws_hint.specs.laws_line.proofs.sound.Laws.{broken_line_on_a_sound_pack, crashes_of_a_line_on_a_sound_pack, part_of_a_line_on_a_sound_pack}
+use Rattle.laws_hint.specs.laws_line.specs.CrashLaws.{Batch, over}
+use Rattle.laws_hint.specs.laws_line.specs.SoundLines.{LineOnSound}
+use Rattle.laws_hint.specs.laws_line.specs.SoundParts.{BreaksOnSound, PartOnSound}
 
 -- what is left of a list after a prefix
 record Rest {X : Type 0} (a all : List X) : Type 0 where

@@ -1,20 +1,20 @@
 -- All record writes of an operation do what it does.
 use Rattle.std.proofs.Common.{List, [], subst, ℕ, ◌%◌}
-use Rattle.disk_records.specs.Packs.{sector_at}
+use Rattle.laws_hint.specs.disk_records.specs.Packs.{sector_at}
 use Rattle.laws_call.proofs.inside.Acting.{acts_of_each_operation}
 use Rattle.laws_call.specs.Acting.{Acts}
 use Rattle.laws_call.specs.WritingLaws.{WrittenActs}
 use Rattle.laws_call.specs.Writing.{cuts, drops, entering_writes, enters, grows, leaves, makes, puts, stamps, titles, widens}
-use Rattle.laws_operation.proofs.drop.Laws.{slot_words_fit}
-use Rattle.laws_operation.proofs.enter.Laws.{enter_words_fit}
-use Rattle.laws_operation.proofs.leave.Laws.{leave_words_fit}
-use Rattle.laws_operation.proofs.put.Laws.{put_past_words_fit}
-use Rattle.laws_operation.proofs.stamp.Laws.{stamp_words_fit}
-use Rattle.laws_operation.proofs.title.Laws.{title_words_fit}
-use Rattle.laws_operation.specs.DirectoryWords.{left_in}
-use Rattle.pack_model.specs.operations.Committing.{page_of_byte}
-use Rattle.pack_model.specs.operations.PageWords.{entered_words, put_value, stamped_value, titled_value}
-use Rattle.pack_model.specs.operations.Step.Operation.{enter}
+use Rattle.laws_hint.specs.laws_operation.proofs.drop.Laws.{slot_words_fit}
+use Rattle.laws_hint.specs.laws_operation.proofs.enter.Laws.{enter_words_fit}
+use Rattle.laws_hint.specs.laws_operation.proofs.leave.Laws.{leave_words_fit}
+use Rattle.laws_hint.specs.laws_operation.proofs.put.Laws.{put_past_words_fit}
+use Rattle.laws_hint.specs.laws_operation.proofs.stamp.Laws.{stamp_words_fit}
+use Rattle.laws_hint.specs.laws_operation.proofs.title.Laws.{title_words_fit}
+use Rattle.laws_hint.specs.laws_operation.specs.DirectoryWords.{left_in}
+use Rattle.laws_hint.specs.pack_model.specs.operations.Committing.{page_of_byte}
+use Rattle.laws_hint.specs.pack_model.specs.operations.PageWords.{entered_words, put_value, stamped_value, titled_value}
+use Rattle.laws_hint.specs.pack_model.specs.operations.Step.Operation.{enter}
 
 pub written_acts : WrittenActs
 written_acts p o claimed released writes w t (puts {f = f} {offset = offset} {at = at} {new = new} {past = past} can past_end) =

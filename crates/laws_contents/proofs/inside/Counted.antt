@@ -3,19 +3,19 @@ use Rattle.std.proofs.Common.{false, cond, None, Some, ap, arith, length, ltb-tr
 use Rattle.std.proofs.lemmas.Bool.{false_from_ne_true}
 use Rattle.std.proofs.lemmas.List.{get_or_default, length-take}
 use Rattle.std.specs.Prelude.{nat_lt, get_or}
-use Rattle.alto_words.specs.declared.fid.Fid.{Fid}
-use Rattle.disk_records.specs.Labels.{Tag, in_range, tag}
-use Rattle.disk_records.specs.Packs.{Pack, carried, no_sector, sector_at}
-use Rattle.pack_model.specs.operations.PageWords.{page_number}
-use Rattle.pack_model.specs.reading.Bytes.{bytes_of}
-use Rattle.pack_model.specs.reading.Files.{carries_page, page, place}
-use Rattle.pack_model.specs.reading.Sights.{sights}
-use Rattle.pack_model.specs.reading.Sights.Sight.{hidden}
-use Rattle.pack_laws.proofs.Bytes.{length-bytes_of}
-use Rattle.pack_laws.proofs.Carrying.{carried_shown}
-use Rattle.pack_laws.proofs.Guarding.{carried_parts, usable_within}
-use Rattle.pack_laws.proofs.Placing.{no_page, page_of_place, place_from}
-use Rattle.pack_laws.proofs.Sighted.{ShowsPage, counted, length-sights, shows_page, sights-get}
+use Rattle.laws_record.specs.alto_words.specs.declared.fid.Fid.{Fid}
+use Rattle.laws_record.specs.disk_records.specs.Labels.{Tag, in_range, tag}
+use Rattle.laws_record.specs.disk_records.specs.Packs.{Pack, carried, no_sector, sector_at}
+use Rattle.laws_record.specs.pack_model.specs.operations.PageWords.{page_number}
+use Rattle.laws_record.specs.pack_model.specs.reading.Bytes.{bytes_of}
+use Rattle.laws_record.specs.pack_model.specs.reading.Files.{carries_page, page, place}
+use Rattle.laws_record.specs.pack_model.specs.reading.Sights.{sights}
+use Rattle.laws_record.specs.pack_model.specs.reading.Sights.Sight.{hidden}
+use Rattle.laws_record.specs.pack_laws.proofs.Bytes.{length-bytes_of}
+use Rattle.laws_record.specs.pack_laws.proofs.Carrying.{carried_shown}
+use Rattle.laws_record.specs.pack_laws.proofs.Guarding.{carried_parts, usable_within}
+use Rattle.laws_record.specs.pack_laws.proofs.Placing.{no_page, page_of_place, place_from}
+use Rattle.laws_record.specs.pack_laws.proofs.Sighted.{ShowsPage, counted, length-sights, shows_page, sights-get}
 use Rattle.laws_record.proofs.Carried.{carried_shows, carries_within}
 use Rattle.laws_record.proofs.Copying.{place_carried}
 use Rattle.laws_record.proofs.Heads.{and_right}

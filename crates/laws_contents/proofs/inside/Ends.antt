@@ -2,13 +2,13 @@
 use Rattle.std.proofs.Common.{List, None, Option, Some, [], ap, append-nil, arith, drop, inl, inr, length, refl, suc, sym, true, zero, ℕ, ◌%◌, ◌*◌, ◌++◌, ◌+◌, ◌/◌, ◌<◌, ◌∙◌, ◌≡◌, ◌≤◌, ◌⊎◌}
 use Rattle.std.proofs.lemmas.List.{length-drop}
 use Rattle.std.specs.Option.{is_some}
-use Rattle.alto_words.specs.declared.fid.Fid.{Fid}
-use Rattle.disk_records.specs.Packs.{Pack}
-use Rattle.pack_model.specs.operations.Committing.{page_of_byte}
-use Rattle.pack_model.specs.reading.Files.{file_bytes, most_pages, page, place}
-use Rattle.pack_model.specs.reading.Sights.{sights}
-use Rattle.pack_model.specs.states.Whole.{Whole}
-use Rattle.pack_laws.proofs.Placing.{short_pages}
+use Rattle.laws_record.specs.alto_words.specs.declared.fid.Fid.{Fid}
+use Rattle.laws_record.specs.disk_records.specs.Packs.{Pack}
+use Rattle.laws_record.specs.pack_model.specs.operations.Committing.{page_of_byte}
+use Rattle.laws_record.specs.pack_model.specs.reading.Files.{file_bytes, most_pages, page, place}
+use Rattle.laws_record.specs.pack_model.specs.reading.Sights.{sights}
+use Rattle.laws_record.specs.pack_model.specs.states.Whole.{Whole}
+use Rattle.laws_record.specs.pack_laws.proofs.Placing.{short_pages}
 use Rattle.laws_record.proofs.Lasting.{reaches_end}
 use Rattle.laws_record.proofs.sentences.Laws.{sentences_hold}
 use Rattle.laws_contents.proofs.inside.Counted.{pages_are_their_counted_bytes}

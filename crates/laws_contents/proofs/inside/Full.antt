@@ -2,12 +2,12 @@
 use Rattle.std.proofs.Common.{None, Option, Some, [], ap, arith, length, refl, suc, sym, true, zero, ℕ, ◌<◌, ◌∙◌, ◌≡◌, Bool, List, cond, inl, inr, not, ltb-false, append-nil, false, subst, ◌++◌, ◌*◌, ◌-◌}
 use Rattle.std.proofs.lemmas.Bool.{not-true, cases_lt}
 use Rattle.std.specs.Prelude.{nat_lt}
-use Rattle.alto_words.specs.declared.fid.Fid.{Fid}
-use Rattle.disk_records.specs.Packs.{Pack}
-use Rattle.pack_model.specs.reading.Files.{file_bytes, joined, most_pages, page, place}
-use Rattle.pack_model.specs.reading.Sights.{sights}
-use Rattle.pack_laws.proofs.Joining.{Reaches, continue, front, is_full, joined-suc, joined-zero, joined_at, length-front, most_is, skip}
-use Rattle.pack_laws.proofs.Placing.{place_of_page, short_pages}
+use Rattle.laws_record.specs.alto_words.specs.declared.fid.Fid.{Fid}
+use Rattle.laws_record.specs.disk_records.specs.Packs.{Pack}
+use Rattle.laws_record.specs.pack_model.specs.reading.Files.{file_bytes, joined, most_pages, page, place}
+use Rattle.laws_record.specs.pack_model.specs.reading.Sights.{sights}
+use Rattle.laws_record.specs.pack_laws.proofs.Joining.{Reaches, continue, front, is_full, joined-suc, joined-zero, joined_at, length-front, most_is, skip}
+use Rattle.laws_record.specs.pack_laws.proofs.Placing.{place_of_page, short_pages}
 use Rattle.laws_contents.proofs.inside.Counted.{labels_count, page_numbers_are_words, pages_are_their_counted_bytes}
 use Rattle.laws_contents.proofs.inside.Parts.{Parts}
 use Rattle.laws_contents.specs.PageLaws.{FullBefore, FullBeforeTheNext, IsFullPage, NoneBeforeTheFirst, bytes_at}

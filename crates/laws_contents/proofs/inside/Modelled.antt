@@ -2,25 +2,25 @@
 use Rattle.std.proofs.Common.{Bool, List, None, Some, [], ap, arith, cond, false, get_or, length, not, refl, subst, sym, true, ℕ, ◌*◌, ◌<◌, ◌∙◌, ◌≡◌}
 use Rattle.std.specs.FinMap.{get}
 use Rattle.std.specs.Option.{is_some}
-use Rattle.alto_words.specs.Fid.{disk_descriptor, is_directory, is_fid}
-use Rattle.alto_words.specs.declared.fid.Fid.{Fid}
-use Rattle.disk_records.specs.Packs.{Pack, sector_at}
-use Rattle.pack_model.specs.hints.Links.{dir_words}
-use Rattle.pack_model.specs.operations.Committing.{length_in}
-use Rattle.pack_model.specs.reading.Bodies.{body_length, described, found, is_described, items_in}
-use Rattle.pack_model.specs.reading.Bodies.Body.{data_of, items_of}
-use Rattle.pack_model.specs.reading.Bytes.{words_of}
-use Rattle.pack_model.specs.reading.Files.{carries_page, file_bytes, lives, place}
-use Rattle.pack_model.specs.reading.Leaders.{Leader, is_readable, leader_of, leader_words}
-use Rattle.pack_model.specs.reading.Model.{read_sights}
-use Rattle.pack_model.specs.reading.Sights.{sights}
-use Rattle.pack_model.specs.reading.Sights.Sight.{hidden, leads}
-use Rattle.pack_model.specs.reading.Slots.{IsEven, all_words, slots}
-use Rattle.pack_model.specs.reading.Slots.IsEven.{none, two}
-use Rattle.pack_model.specs.states.Whole.{Whole}
-use Rattle.pack_laws.proofs.Carrying.{leader_shown, names_of_sight}
-use Rattle.pack_laws.proofs.Placing.{leader_of_place, place_is, place_of_leader}
-use Rattle.pack_laws.proofs.Sighted.{length-sights, sights-get}
+use Rattle.laws_record.specs.alto_words.specs.Fid.{disk_descriptor, is_directory, is_fid}
+use Rattle.laws_record.specs.alto_words.specs.declared.fid.Fid.{Fid}
+use Rattle.laws_record.specs.disk_records.specs.Packs.{Pack, sector_at}
+use Rattle.laws_record.specs.pack_model.specs.hints.Links.{dir_words}
+use Rattle.laws_record.specs.pack_model.specs.operations.Committing.{length_in}
+use Rattle.laws_record.specs.pack_model.specs.reading.Bodies.{body_length, described, found, is_described, items_in}
+use Rattle.laws_record.specs.pack_model.specs.reading.Bodies.Body.{data_of, items_of}
+use Rattle.laws_record.specs.pack_model.specs.reading.Bytes.{words_of}
+use Rattle.laws_record.specs.pack_model.specs.reading.Files.{carries_page, file_bytes, lives, place}
+use Rattle.laws_record.specs.pack_model.specs.reading.Leaders.{Leader, is_readable, leader_of, leader_words}
+use Rattle.laws_record.specs.pack_model.specs.reading.Model.{read_sights}
+use Rattle.laws_record.specs.pack_model.specs.reading.Sights.{sights}
+use Rattle.laws_record.specs.pack_model.specs.reading.Sights.Sight.{hidden, leads}
+use Rattle.laws_record.specs.pack_model.specs.reading.Slots.{IsEven, all_words, slots}
+use Rattle.laws_record.specs.pack_model.specs.reading.Slots.IsEven.{none, two}
+use Rattle.laws_record.specs.pack_model.specs.states.Whole.{Whole}
+use Rattle.laws_record.specs.pack_laws.proofs.Carrying.{leader_shown, names_of_sight}
+use Rattle.laws_record.specs.pack_laws.proofs.Placing.{leader_of_place, place_is, place_of_leader}
+use Rattle.laws_record.specs.pack_laws.proofs.Sighted.{length-sights, sights-get}
 use Rattle.laws_record.proofs.DirReads.{has_leader, not_descriptor}
 use Rattle.laws_record.proofs.Entered.{directory}
 use Rattle.laws_record.proofs.Heads.{all_read}

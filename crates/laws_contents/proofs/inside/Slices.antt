@@ -2,13 +2,13 @@
 use Rattle.std.proofs.Common.{List, Some, [], ap, arith, drop, length, min, refl, suc, sym, take, ℕ, ◌%◌, ◌*◌, ◌++◌, ◌+◌, ◌/◌, ◌∙◌, ◌∷◌, ◌≡◌, ◌≤◌}
 use Rattle.std.proofs.Math.Seq.{drop-append_seam, take-append-add}
 use Rattle.std.proofs.lemmas.List.{length-append, length-drop, length-take, take-append-drop}
-use Rattle.disk_records.specs.Labels.{tag}
-use Rattle.disk_records.specs.Packs.{Pack, sector_at}
-use Rattle.pack_model.specs.reading.Bytes.{bytes_of}
-use Rattle.pack_model.specs.reading.Files.{file_bytes}
-use Rattle.pack_model.specs.reading.Sights.{sights}
-use Rattle.pack_laws.proofs.Paging.{byte_of_file}
-use Rattle.pack_laws.proofs.Placing.{place_of_page, short_pages}
+use Rattle.laws_record.specs.disk_records.specs.Labels.{tag}
+use Rattle.laws_record.specs.disk_records.specs.Packs.{Pack, sector_at}
+use Rattle.laws_record.specs.pack_model.specs.reading.Bytes.{bytes_of}
+use Rattle.laws_record.specs.pack_model.specs.reading.Files.{file_bytes}
+use Rattle.laws_record.specs.pack_model.specs.reading.Sights.{sights}
+use Rattle.laws_record.specs.pack_laws.proofs.Paging.{byte_of_file}
+use Rattle.laws_record.specs.pack_laws.proofs.Placing.{place_of_page, short_pages}
 use Rattle.laws_contents.proofs.inside.Counted.{labels_count, pages_are_their_counted_bytes}
 use Rattle.laws_contents.proofs.inside.Full.{full_before, full_before_the_next, split_at}
 use Rattle.laws_contents.proofs.inside.Parts.{drop_first, drop_parts, first_item, items_of_part, length-parts, part_goes_on, part_is_next, take_part}

@@ -1,12 +1,12 @@
 -- The pages of a whole file: full ones before each.
 use Rattle.std.proofs.Common.{List, Some, [], ap, arith, get_or, length, subst, suc, sym, zero, ℕ, ◌+◌, ◌<◌, ◌∙◌, ◌∷◌, ◌≡◌}
-use Rattle.alto_words.specs.declared.fid.Fid.{Fid}
-use Rattle.disk_records.specs.Packs.{Pack}
-use Rattle.pack_model.specs.reading.Files.{carries_page}
-use Rattle.pack_model.specs.reading.Sights.{Sight, sights}
-use Rattle.pack_model.specs.reading.Sights.Sight.{hidden, holds}
-use Rattle.pack_model.specs.states.Whole.{FileWhole, IsLaid, PageAt, Seated, absent, present}
-use Rattle.pack_laws.proofs.Placing.{carries-holds, page_of_place}
+use Rattle.laws_record.specs.alto_words.specs.declared.fid.Fid.{Fid}
+use Rattle.laws_record.specs.disk_records.specs.Packs.{Pack}
+use Rattle.laws_record.specs.pack_model.specs.reading.Files.{carries_page}
+use Rattle.laws_record.specs.pack_model.specs.reading.Sights.{Sight, sights}
+use Rattle.laws_record.specs.pack_model.specs.reading.Sights.Sight.{hidden, holds}
+use Rattle.laws_record.specs.pack_model.specs.states.Whole.{FileWhole, IsLaid, PageAt, Seated, absent, present}
+use Rattle.laws_record.specs.pack_laws.proofs.Placing.{carries-holds, page_of_place}
 use Rattle.laws_record.proofs.Carried.{place_of_carried, seat_in}
 use Rattle.laws_record.proofs.Seats.{seat_range}
 use Rattle.laws_contents.proofs.inside.Counted.{pages_are_their_counted_bytes}

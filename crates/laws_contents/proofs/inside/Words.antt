@@ -3,16 +3,16 @@ use Rattle.std.proofs.Common.{List, Some, [], add-one, ap, append-nil, arith, co
 use Rattle.std.proofs.lemmas.Bool.{cases_lt, le-leb}
 use Rattle.std.proofs.lemmas.List.{length-take, take-append-drop}
 use Rattle.std.specs.Prelude.{nat_le}
-use Rattle.alto_words.specs.Fid.{disk_descriptor}
-use Rattle.alto_words.specs.declared.fid.Fid.{Fid}
-use Rattle.disk_records.specs.Labels.{tag}
-use Rattle.disk_records.specs.Packs.{Pack, sector_at}
-use Rattle.disk_records.specs.Words.{double, word}
-use Rattle.pack_model.specs.reading.Bytes.{bytes_of, words_of}
-use Rattle.pack_model.specs.reading.Files.{file_bytes, place}
-use Rattle.pack_model.specs.reading.Model.{read_sights}
-use Rattle.pack_model.specs.reading.Sights.{sights}
-use Rattle.pack_laws.proofs.Bytes.{length-words_of}
+use Rattle.laws_record.specs.alto_words.specs.Fid.{disk_descriptor}
+use Rattle.laws_record.specs.alto_words.specs.declared.fid.Fid.{Fid}
+use Rattle.laws_record.specs.disk_records.specs.Labels.{tag}
+use Rattle.laws_record.specs.disk_records.specs.Packs.{Pack, sector_at}
+use Rattle.laws_record.specs.disk_records.specs.Words.{double, word}
+use Rattle.laws_record.specs.pack_model.specs.reading.Bytes.{bytes_of, words_of}
+use Rattle.laws_record.specs.pack_model.specs.reading.Files.{file_bytes, place}
+use Rattle.laws_record.specs.pack_model.specs.reading.Model.{read_sights}
+use Rattle.laws_record.specs.pack_model.specs.reading.Sights.{sights}
+use Rattle.laws_record.specs.pack_laws.proofs.Bytes.{length-words_of}
 use Rattle.laws_contents.proofs.inside.Counted.{labels_count}
 use Rattle.laws_contents.proofs.inside.Ends.{at_least}
 use Rattle.laws_contents.proofs.inside.Full.{none_before_the_first, split_at}

@@ -3,12 +3,12 @@ use Rattle.std.proofs.Common.{◌≡◌, ℕ, zero, suc, ◌+◌, ◌<◌, ◌�
 use Rattle.std.specs.List.{range_with_len}
 use Rattle.std.specs.Prelude.{filter, ◌&&◌, nat_lt}
 use Rattle.std.proofs.lemmas.Bool.{le-leb, lt-leb, lt-ltb}
-use Rattle.disk_records.specs.declared.shape.Shape.{Shape}
-use Rattle.disk_records.specs.Addresses.{pages_of}
-use Rattle.disk_records.specs.Packs.{Pack, is_free_at}
-use Rattle.page_alloc.specs.Free.{IsTrueTable, free_addresses}
-use Rattle.pack_model.specs.sessions.Format.{Written, formatted, free_after_format, sectors_used, with_headers}
-use Rattle.laws_room.proofs.rooms.Laws.{free_is_the_room}
+use Rattle.laws_hint.specs.disk_records.specs.declared.shape.Shape.{Shape}
+use Rattle.laws_hint.specs.disk_records.specs.Addresses.{pages_of}
+use Rattle.laws_hint.specs.disk_records.specs.Packs.{Pack, is_free_at}
+use Rattle.laws_hint.specs.page_alloc.specs.Free.{IsTrueTable, free_addresses}
+use Rattle.laws_hint.specs.pack_model.specs.sessions.Format.{Written, formatted, free_after_format, sectors_used, with_headers}
+use Rattle.laws_hint.specs.laws_room.proofs.rooms.Laws.{free_is_the_room}
 use Rattle.laws_hint.proofs.meanings.Laws.{free_table_is_true}
 use Rattle.laws_format.specs.Formatted.{FreeAfterUsed}
 use Rattle.laws_format.proofs.inside.Describing.{map_is}

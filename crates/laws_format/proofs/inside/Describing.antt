@@ -4,21 +4,21 @@ use Rattle.std.specs.List.{slice_get}
 use Rattle.std.proofs.lemmas.List.{length-append, length-replicate, take_all}
 use Rattle.std.proofs.lemmas.List.FromFn.{get_or-range_with_len, length-range_with_len}
 use Rattle.std.proofs.lemmas.Option.{slice_get-get_or}
-use Rattle.alto_words.specs.declared.fid.Fid.{Fid}
-use Rattle.alto_words.specs.Fid.{sys_dir, disk_descriptor}
-use Rattle.disk_records.specs.declared.shape.Shape.{Shape}
-use Rattle.disk_records.specs.Addresses.{pages_of, table_words}
-use Rattle.disk_records.specs.Packs.{Pack}
-use Rattle.disk_records.specs.Words.{word}
-use Rattle.pack_model.specs.reading.Files.{leader, place}
-use Rattle.pack_model.specs.reading.Model.{descriptor_words}
-use Rattle.pack_model.specs.reading.Sights.{Sight, sights}
-use Rattle.pack_model.specs.hints.Handy.{CachedAt, Handy, HandyCache, NamesLastPage, last_at_word, last_number_word, leader_word, row_word}
-use Rattle.pack_model.specs.hints.Tables.{HintsTrue, bits_from, described_table, table_in, true_table, words_of_bits}
-use Rattle.pack_model.specs.sessions.Descriptor.{data_pages}
-use Rattle.pack_model.specs.sessions.Format.{format_table, formatted, free_after_format, sectors_used, with_headers, Written}
-use Rattle.pack_laws.proofs.Placing.{leader_of_place}
-use Rattle.laws_operation.proofs.places.Laws.{whole_pack_carries_once}
+use Rattle.laws_hint.specs.alto_words.specs.declared.fid.Fid.{Fid}
+use Rattle.laws_hint.specs.alto_words.specs.Fid.{sys_dir, disk_descriptor}
+use Rattle.laws_hint.specs.disk_records.specs.declared.shape.Shape.{Shape}
+use Rattle.laws_hint.specs.disk_records.specs.Addresses.{pages_of, table_words}
+use Rattle.laws_hint.specs.disk_records.specs.Packs.{Pack}
+use Rattle.laws_hint.specs.disk_records.specs.Words.{word}
+use Rattle.laws_hint.specs.pack_model.specs.reading.Files.{leader, place}
+use Rattle.laws_hint.specs.pack_model.specs.reading.Model.{descriptor_words}
+use Rattle.laws_hint.specs.pack_model.specs.reading.Sights.{Sight, sights}
+use Rattle.laws_hint.specs.pack_model.specs.hints.Handy.{CachedAt, Handy, HandyCache, NamesLastPage, last_at_word, last_number_word, leader_word, row_word}
+use Rattle.laws_hint.specs.pack_model.specs.hints.Tables.{HintsTrue, bits_from, described_table, table_in, true_table, words_of_bits}
+use Rattle.laws_hint.specs.pack_model.specs.sessions.Descriptor.{data_pages}
+use Rattle.laws_hint.specs.pack_model.specs.sessions.Format.{format_table, formatted, free_after_format, sectors_used, with_headers, Written}
+use Rattle.laws_hint.specs.pack_laws.proofs.Placing.{leader_of_place}
+use Rattle.laws_hint.specs.laws_operation.proofs.places.Laws.{whole_pack_carries_once}
 use Rattle.laws_hint.proofs.meanings.Laws.{true_table_is_free_table}
 use Rattle.laws_hint.proofs.words.Laws.{words_give_the_map_back}
 use Rattle.laws_format.specs.Formatted.{DescribesIt, SessionBegins, descriptor_sectors}

@@ -2,16 +2,16 @@
 use Rattle.std.proofs.Common.{◌≡◌, ℕ, zero, suc, ◌<◌, Bool, true, false, not, List, ◌∷◌, ◌++◌, refl, sym, ap, subst, ◌∙◌, arith, replicate, map, get_or}
 use Rattle.std.specs.Prelude.{◌&&◌, nat_le, nat_lt}
 use Rattle.std.proofs.lemmas.Bool.{le-leb, lt-leb, lt-ltb}
-use Rattle.disk_records.specs.declared.shape.Shape.{Shape}
-use Rattle.disk_records.specs.Addresses.{pages_of}
-use Rattle.disk_records.specs.Packs.{Pack, is_free_at}
-use Rattle.pack_model.specs.reading.Sights.{Sight, sights}
-use Rattle.pack_model.specs.reading.Sights.Sight.{hidden, free}
-use Rattle.pack_model.specs.states.InUse.{free_sector_count, how_many, is_free_sight}
-use Rattle.pack_model.specs.hints.Tables.{free_table}
-use Rattle.pack_model.specs.sessions.Descriptor.{data_pages}
-use Rattle.pack_model.specs.sessions.Format.{format_table, formatted, free_after_format, sectors_used}
-use Rattle.laws_room.proofs.Found.{found_shown}
+use Rattle.laws_hint.specs.disk_records.specs.declared.shape.Shape.{Shape}
+use Rattle.laws_hint.specs.disk_records.specs.Addresses.{pages_of}
+use Rattle.laws_hint.specs.disk_records.specs.Packs.{Pack, is_free_at}
+use Rattle.laws_hint.specs.pack_model.specs.reading.Sights.{Sight, sights}
+use Rattle.laws_hint.specs.pack_model.specs.reading.Sights.Sight.{hidden, free}
+use Rattle.laws_hint.specs.pack_model.specs.states.InUse.{free_sector_count, how_many, is_free_sight}
+use Rattle.laws_hint.specs.pack_model.specs.hints.Tables.{free_table}
+use Rattle.laws_hint.specs.pack_model.specs.sessions.Descriptor.{data_pages}
+use Rattle.laws_hint.specs.pack_model.specs.sessions.Format.{format_table, formatted, free_after_format, sectors_used}
+use Rattle.laws_hint.specs.laws_room.proofs.Found.{found_shown}
 use Rattle.laws_format.proofs.inside.Pages.{its_bytes}
 use Rattle.laws_format.proofs.inside.Shown.{each, later_shown, sector_of, shown}
 use Rattle.laws_format.proofs.inside.Sighting.{formatted_sights, used_few}

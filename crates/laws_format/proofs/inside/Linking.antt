@@ -4,26 +4,26 @@ use Rattle.std.proofs.lemmas.List.Elements.{All-cons, All-nil}
 use Rattle.std.specs.Prelude.{All, nat_lt}
 use Rattle.std.specs.FinMap.{get, get-from_entries}
 use Rattle.std.proofs.lemmas.Bool.{cases_eq, lt-ltb, lt-leb}
-use Rattle.alto_words.specs.declared.fid.Fid.{Fid}
-use Rattle.alto_words.specs.Fid.{is_directory, sys_dir, disk_descriptor}
-use Rattle.disk_records.specs.declared.shape.Shape.{Shape}
-use Rattle.disk_records.specs.Addresses.{real_of}
-use Rattle.disk_records.specs.Words.{word}
-use Rattle.disk_records.specs.Packs.{Pack, sector_at, no_sector}
-use Rattle.pack_model.specs.reading.Bytes.{words_of}
-use Rattle.pack_model.specs.reading.Files.{file_bytes, first, lives, place}
-use Rattle.pack_model.specs.reading.Sights.{Sight}
-use Rattle.pack_model.specs.reading.Sights.Sight.{hidden, holds}
-use Rattle.pack_model.specs.reading.Slots.Item.{space, entry}
-use Rattle.pack_model.specs.reading.SlotWords.{SlotAt, slots_at}
-use Rattle.pack_model.specs.reading.Bodies.{items_in}
-use Rattle.pack_model.specs.reading.Namings.{sys_dir_name, descriptor_name}
-use Rattle.pack_model.specs.reading.Model.{read_sights}
-use Rattle.pack_model.specs.states.InUse.{in_use}
-use Rattle.pack_model.specs.hints.Links.{IsTrueAddress, LinksTrue, PageLinks, link_to, next_link, no_link, previous_link}
-use Rattle.pack_model.specs.sessions.Descriptor.{data_pages}
-use Rattle.pack_model.specs.sessions.Format.{Written, format_next, format_page, format_pages, formatted, free_after_format, sectors_used, with_headers}
-use Rattle.pack_laws.proofs.Keys.{fid_total}
+use Rattle.laws_hint.specs.alto_words.specs.declared.fid.Fid.{Fid}
+use Rattle.laws_hint.specs.alto_words.specs.Fid.{is_directory, sys_dir, disk_descriptor}
+use Rattle.laws_hint.specs.disk_records.specs.declared.shape.Shape.{Shape}
+use Rattle.laws_hint.specs.disk_records.specs.Addresses.{real_of}
+use Rattle.laws_hint.specs.disk_records.specs.Words.{word}
+use Rattle.laws_hint.specs.disk_records.specs.Packs.{Pack, sector_at, no_sector}
+use Rattle.laws_hint.specs.pack_model.specs.reading.Bytes.{words_of}
+use Rattle.laws_hint.specs.pack_model.specs.reading.Files.{file_bytes, first, lives, place}
+use Rattle.laws_hint.specs.pack_model.specs.reading.Sights.{Sight}
+use Rattle.laws_hint.specs.pack_model.specs.reading.Sights.Sight.{hidden, holds}
+use Rattle.laws_hint.specs.pack_model.specs.reading.Slots.Item.{space, entry}
+use Rattle.laws_hint.specs.pack_model.specs.reading.SlotWords.{SlotAt, slots_at}
+use Rattle.laws_hint.specs.pack_model.specs.reading.Bodies.{items_in}
+use Rattle.laws_hint.specs.pack_model.specs.reading.Namings.{sys_dir_name, descriptor_name}
+use Rattle.laws_hint.specs.pack_model.specs.reading.Model.{read_sights}
+use Rattle.laws_hint.specs.pack_model.specs.states.InUse.{in_use}
+use Rattle.laws_hint.specs.pack_model.specs.hints.Links.{IsTrueAddress, LinksTrue, PageLinks, link_to, next_link, no_link, previous_link}
+use Rattle.laws_hint.specs.pack_model.specs.sessions.Descriptor.{data_pages}
+use Rattle.laws_hint.specs.pack_model.specs.sessions.Format.{Written, format_next, format_page, format_pages, formatted, free_after_format, sectors_used, with_headers}
+use Rattle.laws_hint.specs.pack_laws.proofs.Keys.{fid_total}
 use Rattle.laws_format.specs.Empty.{empty_root}
 use Rattle.laws_format.specs.Writing.{headed}
 use Rattle.laws_format.proofs.inside.Living.{by_living, its_place, root_read}

@@ -2,19 +2,19 @@
 use Rattle.std.proofs.Common.{◌≡◌, ◌⊎◌, ℕ, suc, ◌<◌, ◌≤◌, true, false, List, [], ◌∷◌, refl, sym, ap, subst, ◌∙◌, arith, Some, None, get_or, inl}
 use Rattle.std.proofs.lemmas.List.{append-nil}
 use Rattle.std.specs.Option.{is_some}
-use Rattle.alto_words.specs.declared.fid.Fid.{Fid}
-use Rattle.alto_words.specs.Fid.{is_fid, sys_dir, disk_descriptor}
-use Rattle.pack_model.specs.reading.Leaders.{Leader}
-use Rattle.pack_model.specs.reading.Files.{carries_page, file_bytes, leader, lives, most_pages, place}
-use Rattle.pack_model.specs.reading.Sights.{Sight}
-use Rattle.pack_model.specs.reading.Sights.Sight.{hidden, leads, holds, stray}
-use Rattle.pack_model.specs.states.Whole.{Leads, Headless, HasPages, IsSeat, IsLaid, FileWhole}
-use Rattle.pack_model.specs.states.Whole.FileWhole.{absent, present}
-use Rattle.pack_laws.proofs.Placing.{carries-holds}
+use Rattle.laws_hint.specs.alto_words.specs.declared.fid.Fid.{Fid}
+use Rattle.laws_hint.specs.alto_words.specs.Fid.{is_fid, sys_dir, disk_descriptor}
+use Rattle.laws_hint.specs.pack_model.specs.reading.Leaders.{Leader}
+use Rattle.laws_hint.specs.pack_model.specs.reading.Files.{carries_page, file_bytes, leader, lives, most_pages, place}
+use Rattle.laws_hint.specs.pack_model.specs.reading.Sights.{Sight}
+use Rattle.laws_hint.specs.pack_model.specs.reading.Sights.Sight.{hidden, leads, holds, stray}
+use Rattle.laws_hint.specs.pack_model.specs.states.Whole.{Leads, Headless, HasPages, IsSeat, IsLaid, FileWhole}
+use Rattle.laws_hint.specs.pack_model.specs.states.Whole.FileWhole.{absent, present}
+use Rattle.laws_hint.specs.pack_laws.proofs.Placing.{carries-holds}
 use Rattle.laws_record.proofs.Carried.{place_of_carried}
-use Rattle.laws_operation.specs.ByteLaws.{together}
-use Rattle.laws_operation.proofs.Lying.{bytes_laid}
-use Rattle.laws_operation.proofs.Seating.{leader_is, leader_none_is}
+use Rattle.laws_hint.specs.laws_operation.specs.ByteLaws.{together}
+use Rattle.laws_hint.specs.laws_operation.proofs.Lying.{bytes_laid}
+use Rattle.laws_hint.specs.laws_operation.proofs.Seating.{leader_is, leader_none_is}
 use Rattle.laws_format.proofs.inside.Shown.{by_file, each, fid_in, its_leader, its_pages, its_seat, its_seated, length-its_pages, other, page_in, page_shown_at, root_bytes, root_leader, sector_of, shown}
 
 module _ (moment : ℕ) (b : ℕ → List ℕ) (k frees : ℕ) where

@@ -1,17 +1,17 @@
 -- The bytes of DiskDescriptor's pages, as formatting writes them.
 use Rattle.std.proofs.Common.{◌≡◌, ℕ, zero, suc, ◌+◌, ◌-◌, ◌*◌, ◌/◌, ◌%◌, ◌<◌, ◌≤◌, Bool, List, [], ◌∷◌, ◌++◌, length, take, drop, min, refl, sym, ap, subst, ◌∙◌, arith, replicate}
 use Rattle.std.proofs.lemmas.List.{append-nil, drop-drop, length-append, length-drop, length-replicate, length-take, take-append-drop, take-append-le, take_all}
-use Rattle.disk_records.specs.declared.shape.Shape.{Shape}
-use Rattle.disk_records.specs.Addresses.{table_words, descriptor_length}
-use Rattle.pack_model.specs.hints.Tables.{words_of_bits}
-use Rattle.pack_model.specs.reading.Bytes.{bytes_of}
-use Rattle.pack_model.specs.operations.PageWords.{filled}
-use Rattle.pack_model.specs.states.Sound.{mark_clean}
-use Rattle.pack_model.specs.sessions.Descriptor.{data_pages, descriptor_text, descriptor_value}
-use Rattle.pack_model.specs.sessions.Format.{format_table}
-use Rattle.pack_laws.proofs.Bytes.{length-bytes_of}
-use Rattle.laws_operation.specs.ByteLaws.{together}
-use Rattle.pack_model.specs.states.Whole.{IsLaid}
+use Rattle.laws_hint.specs.disk_records.specs.declared.shape.Shape.{Shape}
+use Rattle.laws_hint.specs.disk_records.specs.Addresses.{table_words, descriptor_length}
+use Rattle.laws_hint.specs.pack_model.specs.hints.Tables.{words_of_bits}
+use Rattle.laws_hint.specs.pack_model.specs.reading.Bytes.{bytes_of}
+use Rattle.laws_hint.specs.pack_model.specs.operations.PageWords.{filled}
+use Rattle.laws_hint.specs.pack_model.specs.states.Sound.{mark_clean}
+use Rattle.laws_hint.specs.pack_model.specs.sessions.Descriptor.{data_pages, descriptor_text, descriptor_value}
+use Rattle.laws_hint.specs.pack_model.specs.sessions.Format.{format_table}
+use Rattle.laws_hint.specs.pack_laws.proofs.Bytes.{length-bytes_of}
+use Rattle.laws_hint.specs.laws_operation.specs.ByteLaws.{together}
+use Rattle.laws_hint.specs.pack_model.specs.states.Whole.{IsLaid}
 use Rattle.laws_format.proofs.inside.Shown.{its_laid, its_pages}
 
 -- ---- bytes of words

@@ -4,25 +4,25 @@ use Rattle.std.proofs.lemmas.Bool.{cases_lt}
 use Rattle.std.proofs.lemmas.List.{append-nil}
 use Rattle.std.proofs.Math.ListN.{length-set}
 use Rattle.std.specs.FinMap.{retain_keys}
-use Rattle.alto_words.specs.declared.fid.Fid.{Fid}
-use Rattle.disk_records.specs.Addresses.{cylinders_of, pages_of}
-use Rattle.disk_records.specs.Commands.{ones}
-use Rattle.disk_records.specs.Labels.{in_range, is_free, page_of, tag}
-use Rattle.disk_records.specs.Packs.{Pack, after, carried, crash, is_usable, sector_at, with_part}
-use Rattle.disk_records.specs.declared.records.Page.{Page}
-use Rattle.disk_records.specs.declared.records.Sector.{Sector}
-use Rattle.disk_records.specs.declared.shape.Shape.{Shape}
-use Rattle.pack_model.specs.reading.Bodies.{Files, described, is_described}
-use Rattle.pack_model.specs.reading.Files.{file_bytes, leader, leader_at, lives, page_at}
-use Rattle.pack_model.specs.reading.Model.{read_sights}
-use Rattle.pack_model.specs.reading.Namings.{tidied}
-use Rattle.pack_model.specs.reading.Sights.{Sight, page_sight, sight, sights, tag_sight}
-use Rattle.pack_model.specs.reading.Sights.Sight.{free, hidden, stray}
-use Rattle.pack_model.specs.showing.Settling.{settle}
-use Rattle.pack_model.specs.showing.View.{view}
-use Rattle.pack_laws.proofs.Firsts.{first_same}
-use Rattle.pack_laws.proofs.Guarding.{free_shown, free_unnamed, here_written, ones_free, other_kept}
-use Rattle.pack_laws.proofs.Sighted.{length-sights, sights-get, sights-write}
+use Rattle.laws_hint.specs.alto_words.specs.declared.fid.Fid.{Fid}
+use Rattle.laws_hint.specs.disk_records.specs.Addresses.{cylinders_of, pages_of}
+use Rattle.laws_hint.specs.disk_records.specs.Commands.{ones}
+use Rattle.laws_hint.specs.disk_records.specs.Labels.{in_range, is_free, page_of, tag}
+use Rattle.laws_hint.specs.disk_records.specs.Packs.{Pack, after, carried, crash, is_usable, sector_at, with_part}
+use Rattle.laws_hint.specs.disk_records.specs.declared.records.Page.{Page}
+use Rattle.laws_hint.specs.disk_records.specs.declared.records.Sector.{Sector}
+use Rattle.laws_hint.specs.disk_records.specs.declared.shape.Shape.{Shape}
+use Rattle.laws_hint.specs.pack_model.specs.reading.Bodies.{Files, described, is_described}
+use Rattle.laws_hint.specs.pack_model.specs.reading.Files.{file_bytes, leader, leader_at, lives, page_at}
+use Rattle.laws_hint.specs.pack_model.specs.reading.Model.{read_sights}
+use Rattle.laws_hint.specs.pack_model.specs.reading.Namings.{tidied}
+use Rattle.laws_hint.specs.pack_model.specs.reading.Sights.{Sight, page_sight, sight, sights, tag_sight}
+use Rattle.laws_hint.specs.pack_model.specs.reading.Sights.Sight.{free, hidden, stray}
+use Rattle.laws_hint.specs.pack_model.specs.showing.Settling.{settle}
+use Rattle.laws_hint.specs.pack_model.specs.showing.View.{view}
+use Rattle.laws_hint.specs.pack_laws.proofs.Firsts.{first_same}
+use Rattle.laws_hint.specs.pack_laws.proofs.Guarding.{free_shown, free_unnamed, here_written, ones_free, other_kept}
+use Rattle.laws_hint.specs.pack_laws.proofs.Sighted.{length-sights, sights-get, sights-write}
 use Rattle.laws_record.proofs.Framing.{bytes_same, lives_same}
 use Rattle.laws_record.proofs.Reading.{found_frame}
 use Rattle.laws_record.proofs.Unread.{stray_release}

@@ -3,16 +3,16 @@ use Rattle.std.proofs.Common.{◌≡◌, ℕ, true, false, not, cond, List, [], 
 use Rattle.std.specs.Prelude.{◌||◌}
 use Rattle.std.specs.Option.{option_map}
 use Rattle.std.specs.FinMap.{get, get-from_entries, get-retain_keys, from_entries, same_map}
-use Rattle.alto_words.specs.declared.fid.Fid.{Fid}
-use Rattle.alto_words.specs.Fid.{is_fid, is_system, sys_dir, disk_descriptor}
-use Rattle.disk_records.specs.declared.shape.Shape.{Shape}
-use Rattle.pack_model.specs.reading.Namings.{sys_dir_name, descriptor_name, namings}
-use Rattle.pack_model.specs.sessions.Maps.{map_values}
-use Rattle.pack_model.specs.showing.View.{Home, Seen, View, homes, names_of, seen_of, view}
-use Rattle.pack_model.specs.showing.Settling.{settle, settled, show}
-use Rattle.pack_model.specs.sessions.Format.{formatted}
-use Rattle.pack_laws.proofs.Keys.{fid_total, fid_same}
-use Rattle.pack_laws.proofs.Mapping.{entries-from_entries, get-map_values}
+use Rattle.laws_hint.specs.alto_words.specs.declared.fid.Fid.{Fid}
+use Rattle.laws_hint.specs.alto_words.specs.Fid.{is_fid, is_system, sys_dir, disk_descriptor}
+use Rattle.laws_hint.specs.disk_records.specs.declared.shape.Shape.{Shape}
+use Rattle.laws_hint.specs.pack_model.specs.reading.Namings.{sys_dir_name, descriptor_name, namings}
+use Rattle.laws_hint.specs.pack_model.specs.sessions.Maps.{map_values}
+use Rattle.laws_hint.specs.pack_model.specs.showing.View.{Home, Seen, View, homes, names_of, seen_of, view}
+use Rattle.laws_hint.specs.pack_model.specs.showing.Settling.{settle, settled, show}
+use Rattle.laws_hint.specs.pack_model.specs.sessions.Format.{formatted}
+use Rattle.laws_hint.specs.pack_laws.proofs.Keys.{fid_total, fid_same}
+use Rattle.laws_hint.specs.pack_laws.proofs.Mapping.{entries-from_entries, get-map_values}
 use Rattle.laws_format.specs.Empty.{empty_model, empty_root}
 use Rattle.laws_format.specs.Formatted.{nothing_shown}
 use Rattle.laws_format.proofs.inside.Reading.{root_entries}

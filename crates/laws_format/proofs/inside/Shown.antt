@@ -2,17 +2,17 @@
 -- DiskDescriptor's pages, and then free sectors. Their bytes and numbers are any here.
 use Rattle.std.proofs.Common.{◌≡◌, ℕ, zero, suc, ◌+◌, ◌<◌, ◌≤◌, true, false, List, [], ◌∷◌, ◌++◌, length, refl, ap, subst, ◌∙◌, arith, replicate, get_or, inl, inr}
 use Rattle.std.proofs.lemmas.Bool.{lt-ltb, cases_eq}
-use Rattle.alto_words.specs.declared.fid.Fid.{Fid}
-use Rattle.alto_words.specs.Fid.{is_fid, sys_dir, disk_descriptor}
-use Rattle.pack_model.specs.reading.Bytes.{bytes_of}
-use Rattle.pack_model.specs.reading.Leaders.{Leader}
-use Rattle.pack_model.specs.reading.Namings.{sys_dir_name, descriptor_name}
-use Rattle.pack_model.specs.reading.Sights.{Sight}
-use Rattle.pack_model.specs.reading.Sights.Sight.{hidden, free, stray, leads, holds}
-use Rattle.pack_model.specs.operations.Step.{new_leader}
-use Rattle.pack_model.specs.sessions.Format.{format_slots}
-use Rattle.pack_model.specs.states.Whole.{PageAt, Seated, IsSeat, IsLaid}
-use Rattle.pack_laws.proofs.Keys.{is_fid-itself, same_fid}
+use Rattle.laws_hint.specs.alto_words.specs.declared.fid.Fid.{Fid}
+use Rattle.laws_hint.specs.alto_words.specs.Fid.{is_fid, sys_dir, disk_descriptor}
+use Rattle.laws_hint.specs.pack_model.specs.reading.Bytes.{bytes_of}
+use Rattle.laws_hint.specs.pack_model.specs.reading.Leaders.{Leader}
+use Rattle.laws_hint.specs.pack_model.specs.reading.Namings.{sys_dir_name, descriptor_name}
+use Rattle.laws_hint.specs.pack_model.specs.reading.Sights.{Sight}
+use Rattle.laws_hint.specs.pack_model.specs.reading.Sights.Sight.{hidden, free, stray, leads, holds}
+use Rattle.laws_hint.specs.pack_model.specs.operations.Step.{new_leader}
+use Rattle.laws_hint.specs.pack_model.specs.sessions.Format.{format_slots}
+use Rattle.laws_hint.specs.pack_model.specs.states.Whole.{PageAt, Seated, IsSeat, IsLaid}
+use Rattle.laws_hint.specs.pack_laws.proofs.Keys.{is_fid-itself, same_fid}
 
 -- DiskDescriptor's pages from page n on, counted from 0
 abbrev pub pages_shown : (ℕ → List ℕ) → ℕ → ℕ → List Sight

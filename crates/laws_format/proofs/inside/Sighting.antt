@@ -3,19 +3,19 @@ use Rattle.std.proofs.Common.{◌≡◌, ℕ, zero, suc, ◌+◌, ◌-◌, ◌*�
 use Rattle.std.specs.Prelude.{◌&&◌, ◌==◌, nat_le}
 use Rattle.std.proofs.lemmas.Bool.{lt-ltb, le-leb}
 use Rattle.std.proofs.lemmas.List.{length-append, length-replicate}
-use Rattle.alto_words.specs.Fid.{sys_dir, disk_descriptor}
-use Rattle.alto_words.specs.Names.{is_stored_name}
-use Rattle.disk_records.specs.declared.shape.Shape.{Shape}
-use Rattle.disk_records.specs.Addresses.{pages_of, real_of, descriptor_length}
-use Rattle.disk_records.specs.Commands.{ones}
-use Rattle.disk_records.specs.Labels.{tag, in_range, is_free}
-use Rattle.disk_records.specs.Packs.{is_usable}
-use Rattle.pack_model.specs.reading.Leaders.{leader_of, leader_name, is_readable}
-use Rattle.pack_model.specs.reading.Namings.{sys_dir_name, descriptor_name}
-use Rattle.pack_model.specs.reading.Sights.{Sight, sight, sights, sights_from, tag_sight}
-use Rattle.pack_model.specs.reading.Sights.Sight.{hidden, free, stray, leads, holds}
-use Rattle.pack_model.specs.sessions.Descriptor.{data_pages}
-use Rattle.pack_model.specs.sessions.Format.{Written, format_leader, format_root, format_page, format_pages, formatted, free_after_format, sectors_used, with_headers}
+use Rattle.laws_hint.specs.alto_words.specs.Fid.{sys_dir, disk_descriptor}
+use Rattle.laws_hint.specs.alto_words.specs.Names.{is_stored_name}
+use Rattle.laws_hint.specs.disk_records.specs.declared.shape.Shape.{Shape}
+use Rattle.laws_hint.specs.disk_records.specs.Addresses.{pages_of, real_of, descriptor_length}
+use Rattle.laws_hint.specs.disk_records.specs.Commands.{ones}
+use Rattle.laws_hint.specs.disk_records.specs.Labels.{tag, in_range, is_free}
+use Rattle.laws_hint.specs.disk_records.specs.Packs.{is_usable}
+use Rattle.laws_hint.specs.pack_model.specs.reading.Leaders.{leader_of, leader_name, is_readable}
+use Rattle.laws_hint.specs.pack_model.specs.reading.Namings.{sys_dir_name, descriptor_name}
+use Rattle.laws_hint.specs.pack_model.specs.reading.Sights.{Sight, sight, sights, sights_from, tag_sight}
+use Rattle.laws_hint.specs.pack_model.specs.reading.Sights.Sight.{hidden, free, stray, leads, holds}
+use Rattle.laws_hint.specs.pack_model.specs.sessions.Descriptor.{data_pages}
+use Rattle.laws_hint.specs.pack_model.specs.sessions.Format.{Written, format_leader, format_root, format_page, format_pages, formatted, free_after_format, sectors_used, with_headers}
 use Rattle.laws_format.specs.Writing.{headed}
 use Rattle.laws_format.proofs.inside.Pages.{its_bytes}
 use Rattle.laws_format.proofs.inside.Shown.{its_leader, later_shown, root_bytes, root_leader, shown}

@@ -1,10 +1,10 @@
 -- The sectors of a formatted pack, by their place.
 use Rattle.std.proofs.Common.{◌≡◌, ℕ, zero, suc, ◌+◌, ◌-◌, ◌<◌, ◌≤◌, ◌++◌, refl, ap, subst, arith, replicate, get_or}
-use Rattle.disk_records.specs.declared.shape.Shape.{Shape}
-use Rattle.disk_records.specs.Commands.{ones}
-use Rattle.disk_records.specs.Packs.{no_sector, sector_at}
-use Rattle.pack_model.specs.sessions.Descriptor.{data_pages}
-use Rattle.pack_model.specs.sessions.Format.{Written, format_page, format_pages, formatted, free_after_format, with_headers}
+use Rattle.laws_hint.specs.disk_records.specs.declared.shape.Shape.{Shape}
+use Rattle.laws_hint.specs.disk_records.specs.Commands.{ones}
+use Rattle.laws_hint.specs.disk_records.specs.Packs.{no_sector, sector_at}
+use Rattle.laws_hint.specs.pack_model.specs.sessions.Descriptor.{data_pages}
+use Rattle.laws_hint.specs.pack_model.specs.sessions.Format.{Written, format_page, format_pages, formatted, free_after_format, with_headers}
 use Rattle.laws_format.specs.Writing.{FormattedSectorsStand, headed}
 use Rattle.laws_format.proofs.inside.Linking.{its_sector}
 use Rattle.laws_format.proofs.inside.Shown.{sector_of}

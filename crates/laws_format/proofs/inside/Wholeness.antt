@@ -1,22 +1,22 @@
 -- A formatted pack is whole, tidy, sound and clean, and is read as the model without files.
 use Rattle.std.proofs.Common.{◌≡◌, ℕ, zero, suc, ◌+◌, ◌-◌, ◌≤◌, true, false, cond, List, length, refl, sym, ap, subst, ◌∙◌, arith, replicate}
 use Rattle.std.proofs.lemmas.Bool.{le-leb}
-use Rattle.alto_words.specs.declared.fid.Fid.{Fid}
-use Rattle.alto_words.specs.Fid.{is_directory, serial_of, sys_dir, disk_descriptor}
-use Rattle.disk_records.specs.declared.shape.Shape.{Shape}
-use Rattle.disk_records.specs.Addresses.{pages_of}
-use Rattle.disk_records.specs.Words.{double, word}
-use Rattle.pack_model.specs.reading.Bytes.{bytes_of, words_of}
-use Rattle.pack_model.specs.reading.Files.{file_bytes, first, lives}
-use Rattle.pack_model.specs.reading.Sights.{Sight}
-use Rattle.pack_model.specs.reading.Sights.Sight.{free}
-use Rattle.pack_model.specs.reading.Slots.{SlotsReachEnd}
-use Rattle.pack_model.specs.reading.Model.{IsNamed, descriptor_words, good_sectors, last_serial, read_as, read_sights}
-use Rattle.pack_model.specs.states.Whole.{Fits, SaysShape, TidySights, WholeSights}
-use Rattle.pack_model.specs.states.Sound.{Clean, Sound, mark_clean, mark_of}
-use Rattle.pack_model.specs.sessions.Descriptor.{data_pages}
-use Rattle.pack_model.specs.sessions.Format.{formatted, free_after_format}
-use Rattle.pack_laws.proofs.Bytes.{length-bytes_of, words_of-bytes_of}
+use Rattle.laws_hint.specs.alto_words.specs.declared.fid.Fid.{Fid}
+use Rattle.laws_hint.specs.alto_words.specs.Fid.{is_directory, serial_of, sys_dir, disk_descriptor}
+use Rattle.laws_hint.specs.disk_records.specs.declared.shape.Shape.{Shape}
+use Rattle.laws_hint.specs.disk_records.specs.Addresses.{pages_of}
+use Rattle.laws_hint.specs.disk_records.specs.Words.{double, word}
+use Rattle.laws_hint.specs.pack_model.specs.reading.Bytes.{bytes_of, words_of}
+use Rattle.laws_hint.specs.pack_model.specs.reading.Files.{file_bytes, first, lives}
+use Rattle.laws_hint.specs.pack_model.specs.reading.Sights.{Sight}
+use Rattle.laws_hint.specs.pack_model.specs.reading.Sights.Sight.{free}
+use Rattle.laws_hint.specs.pack_model.specs.reading.Slots.{SlotsReachEnd}
+use Rattle.laws_hint.specs.pack_model.specs.reading.Model.{IsNamed, descriptor_words, good_sectors, last_serial, read_as, read_sights}
+use Rattle.laws_hint.specs.pack_model.specs.states.Whole.{Fits, SaysShape, TidySights, WholeSights}
+use Rattle.laws_hint.specs.pack_model.specs.states.Sound.{Clean, Sound, mark_clean, mark_of}
+use Rattle.laws_hint.specs.pack_model.specs.sessions.Descriptor.{data_pages}
+use Rattle.laws_hint.specs.pack_model.specs.sessions.Format.{formatted, free_after_format}
+use Rattle.laws_hint.specs.pack_laws.proofs.Bytes.{length-bytes_of, words_of-bytes_of}
 use Rattle.laws_format.specs.Empty.{empty_model}
 use Rattle.laws_format.proofs.inside.Living.{by_living, its_read, no_stray, root_read, whole_file}
 use Rattle.laws_format.proofs.inside.Pages.{its_bytes, its_text, pages_hold_text, pages_laid, text_many}

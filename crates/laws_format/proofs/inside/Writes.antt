@@ -1,9 +1,9 @@
 -- Whole sectors that are written come in the place of others.
 use Rattle.std.proofs.Common.{◌≡◌, ℕ, zero, suc, ◌+◌, ◌<◌, ◌≤◌, List, [], ◌∷◌, ◌++◌, length, length-set, take, drop, set, refl, sym, ap, ◌∙◌, arith, get_or}
 use Rattle.std.proofs.lemmas.List.{take-append-drop, drop_all, append-nil}
-use Rattle.disk_records.specs.declared.records.Sector.{Sector}
-use Rattle.disk_records.specs.Packs.{after_all, no_sector}
-use Rattle.pack_model.specs.sessions.Format.{formatted, sector_writes, sectors_writes}
+use Rattle.laws_hint.specs.disk_records.specs.declared.records.Sector.{Sector}
+use Rattle.laws_hint.specs.disk_records.specs.Packs.{after_all, no_sector}
+use Rattle.laws_hint.specs.pack_model.specs.sessions.Format.{formatted, sector_writes, sectors_writes}
 use Rattle.laws_format.specs.Writing.{FormattingGoesOn, FormattingLeavesItsPack, SectorsComeInPlace}
 use Rattle.laws_format.proofs.inside.Counting.{sectors_many}
 

@@ -1,19 +1,19 @@
 -- Calls by their guarded commands.
 use Rattle.std.proofs.Common.{Err, List, Ok, OnOk, Result, ap, arith, length, subst, sym, take, ◌++◌, ◌+◌, ◌<◌, ◌∙◌, ◌≡◌}
 use Rattle.std.proofs.lemmas.List.{append-nil, length-append}
-use Rattle.disk_records.proofs.FirstOnes.{first_front, first_then}
-use Rattle.disk_records.proofs.Growing.{added-twice, pack-silent}
-use Rattle.disk_records.specs.Events.{IsFirstOf, writes_in}
-use Rattle.disk_records.specs.Packs.{Pack}
-use Rattle.disk_records.specs.Tapes.{Taped, added, capped, pack}
-use Rattle.disk_records.specs.declared.records.Event.{Event}
+use Rattle.laws_call.specs.disk_records.proofs.FirstOnes.{first_front, first_then}
+use Rattle.laws_call.specs.disk_records.proofs.Growing.{added-twice, pack-silent}
+use Rattle.laws_call.specs.disk_records.specs.Events.{IsFirstOf, writes_in}
+use Rattle.laws_call.specs.disk_records.specs.Packs.{Pack}
+use Rattle.laws_call.specs.disk_records.specs.Tapes.{Taped, added, capped, pack}
+use Rattle.laws_call.specs.disk_records.specs.declared.records.Event.{Event}
 use Rattle.laws_call.proofs.writing.Laws.{written_acts}
 use Rattle.laws_call.specs.Acting.{Acts, begun, refused, releasing}
 use Rattle.laws_call.specs.Writing.{Written}
 use Rattle.laws_guard.specs.GuardedCalls.{ByPart, EndsWith, GuardedCallOperates, GuardedCallReleases, LookBeforeOperates, NextPart}
-use Rattle.pack_model.specs.operations.Committing.{moves_of}
-use Rattle.pack_model.specs.reading.Model.{read_as}
-use Rattle.pack_model.specs.sessions.Tallies.{counted}
+use Rattle.laws_call.specs.pack_model.specs.operations.Committing.{moves_of}
+use Rattle.laws_call.specs.pack_model.specs.reading.Model.{read_as}
+use Rattle.laws_call.specs.pack_model.specs.sessions.Tallies.{counted}
 
 -- ---- answers
 on_ok : {T E : Type 0} (P Q : Type 0) (result : Result T E) → (P → Q) → OnOk result P → OnOk result Q

@@ -1,10 +1,10 @@
 -- What a guarded command says of its record writes alone.
 use Rattle.std.proofs.Common.{Err, List, Ok, OnOk, Result, ℕ, ◌≡◌}
-use Rattle.disk_records.specs.Packs.{Pack}
-use Rattle.disk_records.specs.Tapes.{Taped, added}
-use Rattle.disk_records.specs.declared.records.Event.{Event}
-use Rattle.label_check.specs.Guarded.{DoneWhole}
-use Rattle.label_check.specs.declared.errors.GuardError.{GuardError}
+use Rattle.laws_call.specs.disk_records.specs.Packs.{Pack}
+use Rattle.laws_call.specs.disk_records.specs.Tapes.{Taped, added}
+use Rattle.laws_call.specs.disk_records.specs.declared.records.Event.{Event}
+use Rattle.laws_call.specs.label_check.specs.Guarded.{DoneWhole}
+use Rattle.laws_call.specs.label_check.specs.declared.errors.GuardError.{GuardError}
 use Rattle.laws_guard.specs.GuardedCalls.{GuardedWrites}
 
 done_wrote : (guards : Pack → Type 0) (writes : List Event) (count : ℕ) (a b : Taped) (inner : Result (Unit {0}) GuardError) → OnOk inner (DoneWhole guards writes count a b) → OnOk inner (added a b ≡ writes)

@@ -1,11 +1,11 @@
 -- The bytes of DiskDescriptor, where each of its data pages has its value, are those of its words.
 use Rattle.std.proofs.Common.{List, [], ap, arith, drop, length, ltb-true, refl, replicate, suc, sym, take, ℕ, ◌*◌, ◌++◌, ◌+◌, ◌-◌, ◌/◌, ◌%◌, ◌<◌, ◌∙◌, ◌∷◌, ◌≡◌, ◌≤◌}
 use Rattle.std.proofs.lemmas.List.{append-nil, drop-drop, length-append, length-drop, length-replicate, length-take, take-append-drop, take-append-le, take_all}
-use Rattle.pack_laws.proofs.Bytes.{length-bytes_of}
-use Rattle.pack_model.specs.reading.Bytes.{bytes_of}
-use Rattle.pack_model.specs.operations.PageWords.{filled}
-use Rattle.pack_model.specs.states.Whole.{IsLaid, PageAt}
-use Rattle.laws_operation.specs.ByteLaws.{together}
+use Rattle.laws_line.specs.pack_laws.proofs.Bytes.{length-bytes_of}
+use Rattle.laws_line.specs.pack_model.specs.reading.Bytes.{bytes_of}
+use Rattle.laws_line.specs.pack_model.specs.operations.PageWords.{filled}
+use Rattle.laws_line.specs.pack_model.specs.states.Whole.{IsLaid, PageAt}
+use Rattle.laws_line.specs.laws_operation.specs.ByteLaws.{together}
 use Rattle.std.proofs.Math.Seq.{take-append-add}
 
 -- the bytes of words, one after another

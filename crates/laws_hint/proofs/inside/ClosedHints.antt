@@ -2,27 +2,27 @@
 use Rattle.std.proofs.Common.{Bool, List, Some, [], ap, arith, cond, drop, eqb-true, false, length, not, refl, reverse, subst, suc, sym, take, true, ℕ, ◌+◌, ◌<◌, ◌∙◌, ◌≡◌, ◌≢◌}
 use Rattle.std.proofs.lemmas.List.{take_all}
 use Rattle.std.specs.Prelude.{◌==◌}
-use Rattle.alto_words.specs.Fid.{disk_descriptor}
-use Rattle.disk_records.specs.Addresses.{table_words}
-use Rattle.disk_records.specs.Packs.{Pack, after, crash, sector_at}
-use Rattle.disk_records.specs.Words.{word}
-use Rattle.disk_records.specs.declared.records.Event.{Event}
-use Rattle.pack_model.specs.operations.Commands.{values_writes}
-use Rattle.pack_model.specs.sessions.Descriptor.{close_writes, closed_values, data_pages, descriptor_text, descriptor_value}
-use Rattle.pack_model.specs.reading.Files.{place}
-use Rattle.pack_model.specs.states.InUse.{free_sector_count, how_many}
-use Rattle.pack_model.specs.hints.Links.{LinksTrue}
-use Rattle.pack_model.specs.reading.Model.{descriptor_words, read_as}
-use Rattle.pack_model.specs.reading.Sights.{sights}
-use Rattle.pack_model.specs.states.Sound.{mark_clean, mark_of}
-use Rattle.pack_model.specs.hints.Tables.{TableTrue, WordsTrue, described_free, true_table, words_of_bits}
-use Rattle.pack_model.specs.states.Whole.{Tidy, Whole}
-use Rattle.laws_operation.specs.DescriptorLaws.{KeepsSound, MayClose}
+use Rattle.laws_line.specs.alto_words.specs.Fid.{disk_descriptor}
+use Rattle.laws_line.specs.disk_records.specs.Addresses.{table_words}
+use Rattle.laws_line.specs.disk_records.specs.Packs.{Pack, after, crash, sector_at}
+use Rattle.laws_line.specs.disk_records.specs.Words.{word}
+use Rattle.laws_line.specs.disk_records.specs.declared.records.Event.{Event}
+use Rattle.laws_line.specs.pack_model.specs.operations.Commands.{values_writes}
+use Rattle.laws_line.specs.pack_model.specs.sessions.Descriptor.{close_writes, closed_values, data_pages, descriptor_text, descriptor_value}
+use Rattle.laws_line.specs.pack_model.specs.reading.Files.{place}
+use Rattle.laws_line.specs.pack_model.specs.states.InUse.{free_sector_count, how_many}
+use Rattle.laws_line.specs.pack_model.specs.hints.Links.{LinksTrue}
+use Rattle.laws_line.specs.pack_model.specs.reading.Model.{descriptor_words, read_as}
+use Rattle.laws_line.specs.pack_model.specs.reading.Sights.{sights}
+use Rattle.laws_line.specs.pack_model.specs.states.Sound.{mark_clean, mark_of}
+use Rattle.laws_line.specs.pack_model.specs.hints.Tables.{TableTrue, WordsTrue, described_free, true_table, words_of_bits}
+use Rattle.laws_line.specs.pack_model.specs.states.Whole.{Tidy, Whole}
+use Rattle.laws_line.specs.laws_operation.specs.DescriptorLaws.{KeepsSound, MayClose}
 use Rattle.laws_hint.proofs.inside.ClosedValues.{closed_value}
 use Rattle.laws_hint.proofs.inside.ClosedWords.{closed_words, words_many}
 use Rattle.laws_hint.proofs.inside.TrueMap.{true_is_free, true_many, values_free}
 use Rattle.laws_hint.specs.ClosingLaws.{ClosedTrue, ClosingLeavesACleanPack, ClosingLeavesHintsTrue, closing_writes}
-use Rattle.laws_operation.proofs.descriptor.Laws.{close_carries_out, close_keeps_links}
+use Rattle.laws_line.specs.laws_operation.proofs.descriptor.Laws.{close_carries_out, close_keeps_links}
 
 -- what holds at each crash holds after all record writes
 pub at_end : (P : Pack → Type 0) (p : Pack) (events : List Event) → ((k : ℕ) → P (crash p events k)) → P (after p events)

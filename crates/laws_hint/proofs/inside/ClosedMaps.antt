@@ -1,10 +1,10 @@
 -- What DiskDescriptor says after closing with any map.
 use Rattle.std.proofs.Common.{Bool, List, ap, arith, drop, length, sym, take, ◌*◌, ◌∙◌, ◌≡◌, ◌≤◌}
 use Rattle.std.proofs.lemmas.List.{take_all}
-use Rattle.disk_records.specs.Addresses.{pages_of, table_words}
-use Rattle.disk_records.specs.Packs.{Pack}
-use Rattle.disk_records.specs.Words.{word}
-use Rattle.pack_model.specs.hints.Tables.{bits_from, true_table, words_of_bits}
+use Rattle.laws_line.specs.disk_records.specs.Addresses.{pages_of, table_words}
+use Rattle.laws_line.specs.disk_records.specs.Packs.{Pack}
+use Rattle.laws_line.specs.disk_records.specs.Words.{word}
+use Rattle.laws_line.specs.pack_model.specs.hints.Tables.{bits_from, true_table, words_of_bits}
 use Rattle.laws_hint.proofs.inside.ClosedHints.{closing_text}
 use Rattle.laws_hint.proofs.inside.ClosedWords.{words_many}
 use Rattle.laws_hint.proofs.inside.TrueMap.{true_is_free}

@@ -1,20 +1,20 @@
 -- After closing each data page of DiskDescriptor has its value.
 use Rattle.std.proofs.Common.{Bool, List, Some, [], ap, arith, length, length-set, refl, reverse, suc, sym, zero, ℕ, ◌+◌, ◌<◌, ◌∙◌, ◌∷◌, ◌≡◌}
-use Rattle.alto_words.specs.Fid.{disk_descriptor}
-use Rattle.disk_records.proofs.Growing.{after-append}
-use Rattle.disk_records.specs.Commands.{value_writes}
-use Rattle.disk_records.specs.Packs.{Pack, after, sector_at}
-use Rattle.disk_records.specs.declared.records.Event.TheVariants.{Wrote}
-use Rattle.pack_model.specs.operations.Commands.{values_writes}
-use Rattle.pack_model.specs.sessions.Descriptor.{closed_values, descriptor_value}
-use Rattle.pack_model.specs.reading.Files.{place}
-use Rattle.pack_model.specs.reading.Sights.{sights}
-use Rattle.pack_model.specs.states.Sound.{mark_clean}
-use Rattle.pack_laws.proofs.Placing.{one_page, page_of_place}
-use Rattle.pack_laws.proofs.Sighted.{length-sights}
-use Rattle.laws_operation.specs.ByteLaws.{Bear}
-use Rattle.laws_operation.proofs.CloseLaw.{last_value}
-use Rattle.pack_laws.proofs.Guarding.{here_written, other_kept}
+use Rattle.laws_line.specs.alto_words.specs.Fid.{disk_descriptor}
+use Rattle.laws_line.specs.disk_records.proofs.Growing.{after-append}
+use Rattle.laws_line.specs.disk_records.specs.Commands.{value_writes}
+use Rattle.laws_line.specs.disk_records.specs.Packs.{Pack, after, sector_at}
+use Rattle.laws_line.specs.disk_records.specs.declared.records.Event.TheVariants.{Wrote}
+use Rattle.laws_line.specs.pack_model.specs.operations.Commands.{values_writes}
+use Rattle.laws_line.specs.pack_model.specs.sessions.Descriptor.{closed_values, descriptor_value}
+use Rattle.laws_line.specs.pack_model.specs.reading.Files.{place}
+use Rattle.laws_line.specs.pack_model.specs.reading.Sights.{sights}
+use Rattle.laws_line.specs.pack_model.specs.states.Sound.{mark_clean}
+use Rattle.laws_line.specs.pack_laws.proofs.Placing.{one_page, page_of_place}
+use Rattle.laws_line.specs.pack_laws.proofs.Sighted.{length-sights}
+use Rattle.laws_line.specs.laws_operation.specs.ByteLaws.{Bear}
+use Rattle.laws_line.specs.laws_operation.proofs.CloseLaw.{last_value}
+use Rattle.laws_line.specs.pack_laws.proofs.Guarding.{here_written, other_kept}
 
 -- values keep the number of sectors
 length_values : (vs : List (ℕ × List ℕ)) (p : Pack) → length (after p (values_writes vs)).sectors ≡ length p.sectors

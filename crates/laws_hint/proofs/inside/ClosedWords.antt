@@ -1,30 +1,30 @@
 -- The words of DiskDescriptor after closing.
 use Rattle.std.proofs.Common.{Bool, List, Some, [], ap, arith, drop, get_or, inl, inr, length, refl, suc, sym, take, zero, ℕ, ◌*◌, ◌+◌, ◌/◌, ◌<◌, ◌∙◌, ◌∷◌, ◌≡◌, ◌≤◌}
 use Rattle.std.proofs.lemmas.List.{take_all}
-use Rattle.alto_words.specs.Fid.{disk_descriptor}
-use Rattle.disk_records.specs.Addresses.{descriptor_length, table_words}
-use Rattle.disk_records.specs.Labels.{tag}
-use Rattle.disk_records.specs.Packs.{Pack, sector_at}
-use Rattle.disk_records.specs.declared.shape.Shape.{Shape}
-use Rattle.pack_laws.proofs.Bytes.{length-bytes_of, words_of-bytes_of}
-use Rattle.pack_laws.proofs.Placing.{leader_of_place, place_of_leader}
-use Rattle.pack_model.specs.reading.Bytes.{bytes_of, words_of}
-use Rattle.pack_model.specs.sessions.Descriptor.{data_pages, descriptor_text, descriptor_value}
-use Rattle.pack_model.specs.reading.Files.{file_bytes, place}
-use Rattle.pack_model.specs.reading.Model.{descriptor_words}
-use Rattle.pack_model.specs.reading.Sights.{sights}
-use Rattle.pack_model.specs.reading.Sights.Sight.{hidden, holds}
-use Rattle.pack_model.specs.states.Sound.{mark_clean}
-use Rattle.pack_model.specs.hints.Tables.{words_of_bits}
-use Rattle.pack_model.specs.states.Whole.{HasPages, IsSeat, PageAt, Seated, Whole}
-use Rattle.laws_record.proofs.DirReads.{has_leader}
-use Rattle.laws_record.proofs.Seats.{seat_once}
-use Rattle.laws_operation.proofs.Changing.{headed}
-use Rattle.laws_operation.proofs.Grown.{old_counted}
-use Rattle.laws_operation.proofs.Lying.{bytes_laid}
-use Rattle.laws_operation.proofs.Rows.{pages_by_bytes, place_alone}
-use Rattle.laws_operation.proofs.Seating.{carries_none}
-use Rattle.laws_operation.specs.ByteLaws.{together}
+use Rattle.laws_line.specs.alto_words.specs.Fid.{disk_descriptor}
+use Rattle.laws_line.specs.disk_records.specs.Addresses.{descriptor_length, table_words}
+use Rattle.laws_line.specs.disk_records.specs.Labels.{tag}
+use Rattle.laws_line.specs.disk_records.specs.Packs.{Pack, sector_at}
+use Rattle.laws_line.specs.disk_records.specs.declared.shape.Shape.{Shape}
+use Rattle.laws_line.specs.pack_laws.proofs.Bytes.{length-bytes_of, words_of-bytes_of}
+use Rattle.laws_line.specs.pack_laws.proofs.Placing.{leader_of_place, place_of_leader}
+use Rattle.laws_line.specs.pack_model.specs.reading.Bytes.{bytes_of, words_of}
+use Rattle.laws_line.specs.pack_model.specs.sessions.Descriptor.{data_pages, descriptor_text, descriptor_value}
+use Rattle.laws_line.specs.pack_model.specs.reading.Files.{file_bytes, place}
+use Rattle.laws_line.specs.pack_model.specs.reading.Model.{descriptor_words}
+use Rattle.laws_line.specs.pack_model.specs.reading.Sights.{sights}
+use Rattle.laws_line.specs.pack_model.specs.reading.Sights.Sight.{hidden, holds}
+use Rattle.laws_line.specs.pack_model.specs.states.Sound.{mark_clean}
+use Rattle.laws_line.specs.pack_model.specs.hints.Tables.{words_of_bits}
+use Rattle.laws_line.specs.pack_model.specs.states.Whole.{HasPages, IsSeat, PageAt, Seated, Whole}
+use Rattle.laws_line.specs.laws_record.proofs.DirReads.{has_leader}
+use Rattle.laws_line.specs.laws_record.proofs.Seats.{seat_once}
+use Rattle.laws_line.specs.laws_operation.proofs.Changing.{headed}
+use Rattle.laws_line.specs.laws_operation.proofs.Grown.{old_counted}
+use Rattle.laws_line.specs.laws_operation.proofs.Lying.{bytes_laid}
+use Rattle.laws_line.specs.laws_operation.proofs.Rows.{pages_by_bytes, place_alone}
+use Rattle.laws_line.specs.laws_operation.proofs.Seating.{carries_none}
+use Rattle.laws_line.specs.laws_operation.specs.ByteLaws.{together}
 use Rattle.laws_hint.proofs.inside.ClosedBytes.{Shows, shown_bytes}
 
 -- as many words as are asked for

@@ -3,31 +3,31 @@ use Rattle.std.proofs.Common.{List, None, Option, Some, [], ap, arith, eq-eqb, e
 use Rattle.std.proofs.lemmas.Bool.{le-leb}
 use Rattle.std.proofs.lemmas.List.{get_or-set_other}
 use Rattle.std.specs.Option.{is_some}
-use Rattle.alto_words.specs.declared.fid.Fid.{Fid}
-use Rattle.disk_records.specs.Commands.{claim_writes, relabel_writes, release_writes}
-use Rattle.disk_records.specs.Packs.{Pack, after, carried, no_sector, sector_at, with_part}
-use Rattle.disk_records.specs.Words.{word}
-use Rattle.disk_records.specs.declared.records.Event.TheVariants.{Shown, Wrote}
-use Rattle.disk_records.specs.declared.records.Event.{Event}
-use Rattle.disk_records.specs.declared.records.Page.{Page}
-use Rattle.pack_model.specs.hints.Handy.{CachedAt, Handy, last_at_word, last_number_word, row_word}
-use Rattle.pack_model.specs.operations.Commands.{Claim, Claimable, claims_writes, releases_writes}
-use Rattle.pack_model.specs.operations.Committing.{page_of_byte}
-use Rattle.pack_model.specs.operations.Operations.{cut_writes, grow_writes}
-use Rattle.pack_model.specs.operations.PageWords.{page_number}
-use Rattle.pack_model.specs.reading.Files.{carries_page, file_bytes, lives, place}
-use Rattle.pack_model.specs.reading.Sights.Sight.{free, hidden}
-use Rattle.pack_model.specs.reading.Sights.{Sight, sights}
-use Rattle.pack_model.specs.states.Whole.{Whole}
-use Rattle.pack_laws.proofs.guards.Laws.{relabel_keeps_the_page, release_frees_at_the_label}
+use Rattle.laws_line.specs.alto_words.specs.declared.fid.Fid.{Fid}
+use Rattle.laws_line.specs.disk_records.specs.Commands.{claim_writes, relabel_writes, release_writes}
+use Rattle.laws_line.specs.disk_records.specs.Packs.{Pack, after, carried, no_sector, sector_at, with_part}
+use Rattle.laws_line.specs.disk_records.specs.Words.{word}
+use Rattle.laws_line.specs.disk_records.specs.declared.records.Event.TheVariants.{Shown, Wrote}
+use Rattle.laws_line.specs.disk_records.specs.declared.records.Event.{Event}
+use Rattle.laws_line.specs.disk_records.specs.declared.records.Page.{Page}
+use Rattle.laws_line.specs.pack_model.specs.hints.Handy.{CachedAt, Handy, last_at_word, last_number_word, row_word}
+use Rattle.laws_line.specs.pack_model.specs.operations.Commands.{Claim, Claimable, claims_writes, releases_writes}
+use Rattle.laws_line.specs.pack_model.specs.operations.Committing.{page_of_byte}
+use Rattle.laws_line.specs.pack_model.specs.operations.Operations.{cut_writes, grow_writes}
+use Rattle.laws_line.specs.pack_model.specs.operations.PageWords.{page_number}
+use Rattle.laws_line.specs.pack_model.specs.reading.Files.{carries_page, file_bytes, lives, place}
+use Rattle.laws_line.specs.pack_model.specs.reading.Sights.Sight.{free, hidden}
+use Rattle.laws_line.specs.pack_model.specs.reading.Sights.{Sight, sights}
+use Rattle.laws_line.specs.pack_model.specs.states.Whole.{Whole}
+use Rattle.laws_line.specs.pack_laws.proofs.guards.Laws.{relabel_keeps_the_page, release_frees_at_the_label}
 use Rattle.laws_hint.proofs.inside.HandyStaying.{handy_where_pages_come, handy_where_pages_stay_or_go}
 use Rattle.laws_hint.specs.HandyLaws.{HandyAfterCut, HandyAfterGrowth, HandyAfterWidening, HandyOfOthers, SameHandyWords, SpeaksUpTo}
-use Rattle.laws_operation.proofs.lengths.Laws.{placed_pages_are_those_up_to_the_last}
+use Rattle.laws_line.specs.laws_operation.proofs.lengths.Laws.{placed_pages_are_those_up_to_the_last}
 use Rattle.laws_lookup.proofs.others.Laws.{grow_keeps_pages, widen_keeps_pages}
-use Rattle.laws_operation.proofs.places.Laws.{carried_in_place}
-use Rattle.laws_operation.specs.ByteLaws.{Bear}
-use Rattle.laws_record.proofs.Copying.{place_carried}
-use Rattle.pack_laws.proofs.Placing.{place_is}
+use Rattle.laws_line.specs.laws_operation.proofs.places.Laws.{carried_in_place}
+use Rattle.laws_line.specs.laws_operation.specs.ByteLaws.{Bear}
+use Rattle.laws_line.specs.laws_record.proofs.Copying.{place_carried}
+use Rattle.laws_line.specs.pack_laws.proofs.Placing.{place_is}
 
 -- the number of a page, or this one
 abbrev number_in : ℕ → Option Page → ℕ

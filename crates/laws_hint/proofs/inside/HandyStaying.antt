@@ -2,17 +2,17 @@
 use Rattle.std.proofs.Common.{All, List, None, Option, Some, [], ap, arith, inl, inr, refl, subst, sym, ℕ, ◌∙◌, ◌∷◌, ◌≡◌, ◌≢◌, ◌≤◌}
 use Rattle.std.proofs.lemmas.List.Elements.{All-tail}
 use Rattle.std.proofs.lemmas.List.{get_or-set_other}
-use Rattle.alto_words.specs.declared.fid.Fid.{Fid}
-use Rattle.disk_records.specs.Commands.{value_writes}
-use Rattle.disk_records.specs.Packs.{Pack, after, no_sector, sector_at, with_part}
-use Rattle.disk_records.specs.Words.{word}
-use Rattle.pack_model.specs.hints.Handy.{IsRightOrIdle, NamesLastPage, last_at_word, last_number_word, leader_word, row_word}
-use Rattle.pack_model.specs.operations.Commands.{values_writes}
-use Rattle.pack_model.specs.reading.Files.{place}
-use Rattle.pack_model.specs.reading.Sights.{Sight, sights}
+use Rattle.laws_line.specs.alto_words.specs.declared.fid.Fid.{Fid}
+use Rattle.laws_line.specs.disk_records.specs.Commands.{value_writes}
+use Rattle.laws_line.specs.disk_records.specs.Packs.{Pack, after, no_sector, sector_at, with_part}
+use Rattle.laws_line.specs.disk_records.specs.Words.{word}
+use Rattle.laws_line.specs.pack_model.specs.hints.Handy.{IsRightOrIdle, NamesLastPage, last_at_word, last_number_word, leader_word, row_word}
+use Rattle.laws_line.specs.pack_model.specs.operations.Commands.{values_writes}
+use Rattle.laws_line.specs.pack_model.specs.reading.Files.{place}
+use Rattle.laws_line.specs.pack_model.specs.reading.Sights.{Sight, sights}
 use Rattle.laws_hint.specs.HandyLaws.{HandyAfterLeaderValue, HandyAfterValues, HandyWherePagesCome, HandyWherePagesStayOrGo}
-use Rattle.laws_operation.proofs.places.Laws.{values_keep_places}
-use Rattle.laws_operation.specs.PlaceLaws.{SamePlaces}
+use Rattle.laws_line.specs.laws_operation.proofs.places.Laws.{values_keep_places}
+use Rattle.laws_line.specs.laws_operation.specs.PlaceLaws.{SamePlaces}
 
 -- ---- pages stay or go
 -- an address that was right is so still, or no sector bears the page

@@ -1,27 +1,27 @@
 -- A line keeps links where its operations do, and closing after it leaves all hints true.
 use Rattle.std.proofs.Common.{List, Some, [], subst, sym, ℕ, ◌++◌, ◌≡◌}
-use Rattle.alto_words.specs.Fid.{disk_descriptor}
-use Rattle.disk_records.proofs.Growing.{after-append}
-use Rattle.disk_records.specs.Packs.{Pack, after, sector_at}
-use Rattle.disk_records.specs.declared.records.Event.{Event}
-use Rattle.pack_model.specs.operations.Committing.{moves_of_all}
-use Rattle.pack_model.specs.sessions.Descriptor.{serial_writes}
-use Rattle.pack_model.specs.reading.Files.{place}
-use Rattle.pack_model.specs.hints.Links.{LinksTrue}
-use Rattle.pack_model.specs.reading.Model.{read_as}
-use Rattle.pack_model.specs.scavenger.Scavenging.{Unmarked}
-use Rattle.pack_model.specs.reading.Sights.{sights}
-use Rattle.pack_model.specs.operations.Step.{Operation}
-use Rattle.pack_model.specs.operations.Step.Operation.{drop_file}
-use Rattle.pack_model.specs.states.Whole.{Tidy, Whole}
-use Rattle.laws_operation.specs.DescriptorLaws.{KeepsSound}
-use Rattle.laws_operation.specs.LinkLaws.{KeepsLinks}
+use Rattle.laws_line.specs.alto_words.specs.Fid.{disk_descriptor}
+use Rattle.laws_line.specs.disk_records.proofs.Growing.{after-append}
+use Rattle.laws_line.specs.disk_records.specs.Packs.{Pack, after, sector_at}
+use Rattle.laws_line.specs.disk_records.specs.declared.records.Event.{Event}
+use Rattle.laws_line.specs.pack_model.specs.operations.Committing.{moves_of_all}
+use Rattle.laws_line.specs.pack_model.specs.sessions.Descriptor.{serial_writes}
+use Rattle.laws_line.specs.pack_model.specs.reading.Files.{place}
+use Rattle.laws_line.specs.pack_model.specs.hints.Links.{LinksTrue}
+use Rattle.laws_line.specs.pack_model.specs.reading.Model.{read_as}
+use Rattle.laws_line.specs.pack_model.specs.scavenger.Scavenging.{Unmarked}
+use Rattle.laws_line.specs.pack_model.specs.reading.Sights.{sights}
+use Rattle.laws_line.specs.pack_model.specs.operations.Step.{Operation}
+use Rattle.laws_line.specs.pack_model.specs.operations.Step.Operation.{drop_file}
+use Rattle.laws_line.specs.pack_model.specs.states.Whole.{Tidy, Whole}
+use Rattle.laws_line.specs.laws_operation.specs.DescriptorLaws.{KeepsSound}
+use Rattle.laws_line.specs.laws_operation.specs.LinkLaws.{KeepsLinks}
 use Rattle.laws_line.specs.CrashLaws.{Batch, LineStays, does, makes, over, with_serial}
 use Rattle.laws_hint.proofs.inside.ClosedHints.{closing_leaves_hints_true}
 use Rattle.laws_hint.specs.LineLinks.{EachKeepsLinks, LineClosesWithTrueHints, LineKeepsLinks, LinksJoin, OpenedLineKeepsLinks, opening_writes}
 use Rattle.laws_line.proofs.crashes.Laws.{crashes_of_an_unmarked_line, open_pack_is_unmarked}
-use Rattle.laws_operation.proofs.descriptor.Laws.{open_carries_out, open_keeps_links, serial_keeps_links}
-use Rattle.laws_room.proofs.marks.Laws.{unmarked_is_unclean}
+use Rattle.laws_line.specs.laws_operation.proofs.descriptor.Laws.{open_carries_out, open_keeps_links, serial_keeps_links}
+use Rattle.laws_line.specs.laws_room.proofs.marks.Laws.{unmarked_is_unclean}
 
 -- ---- links
 -- one after another

@@ -2,57 +2,57 @@
 use Rattle.std.proofs.Common.{Bool, List, Some, [], ap, cond, false, get_or, length, not, refl, reverse, set, suc, sym, take, true, zero, ℕ, ◌++◌, ◌∙◌, ◌∷◌, ◌≡◌}
 use Rattle.std.specs.Prelude.{◌==◌}
 use Rattle.std.proofs.lemmas.Option.{cond_some}
-use Rattle.alto_words.specs.Fid.{disk_descriptor}
-use Rattle.alto_words.specs.declared.fid.Fid.{Fid}
-use Rattle.disk_records.proofs.Growing.{after-append}
-use Rattle.disk_records.specs.Commands.{claim_writes, relabel_writes, value_writes}
-use Rattle.disk_records.specs.Labels.{in_range, page_of, tag}
-use Rattle.disk_records.specs.Packs.{Pack, after, is_usable, sector_at}
-use Rattle.disk_records.specs.Words.{word}
-use Rattle.disk_records.specs.declared.records.Event.{Event}
-use Rattle.disk_records.specs.declared.records.Event.TheVariants.{Wrote}
-use Rattle.disk_records.specs.declared.records.Page.{Page}
-use Rattle.hint_cache.specs.Bits.{busy_at}
-use Rattle.pack_model.specs.operations.Commands.{Claim, Claimable, all_claimed, claims_writes, sectors_of, values_writes}
-use Rattle.pack_model.specs.operations.Committing.{page_of_byte}
-use Rattle.pack_model.specs.reading.Bytes.{bytes_of}
-use Rattle.pack_model.specs.sessions.Descriptor.{close_writes, closed_values, open_writes, opened_value, serial_value, serial_writes}
-use Rattle.pack_model.specs.operations.Entering.{EntryRoom, entry_value, values_first}
-use Rattle.pack_model.specs.reading.Files.{file_bytes, place}
-use Rattle.pack_model.specs.states.InUse.{is_free_sight}
-use Rattle.pack_model.specs.reading.Model.{good_one, read_as}
-use Rattle.pack_model.specs.operations.Operations.{cut_writes, enter_writes, release_file_writes, grow_writes}
-use Rattle.pack_model.specs.reading.Sights.{Sight, sights}
-use Rattle.pack_model.specs.operations.PageWords.{freed_value, page_number}
-use Rattle.pack_model.specs.reading.Sights.Sight.{hidden, holds}
-use Rattle.pack_model.specs.reading.Slots.{all_words, item_words}
-use Rattle.pack_model.specs.reading.Slots.Item.{entry}
-use Rattle.pack_model.specs.states.Sound.{mark_clean, mark_of, mark_open}
-use Rattle.pack_model.specs.operations.Step.{Operation}
-use Rattle.pack_model.specs.operations.Step.Operation.{drop_file}
-use Rattle.pack_model.specs.hints.Tables.{free_table}
-use Rattle.pack_model.specs.states.Whole.{Tidy, Whole}
-use Rattle.pack_laws.proofs.Placing.{leader_of_place, page_of_place}
-use Rattle.laws_operation.proofs.Cutting.{cut_law}
-use Rattle.laws_operation.proofs.Dropped.{release_law}
-use Rattle.laws_operation.proofs.Grown.{grow_law}
-use Rattle.laws_operation.proofs.Leaving.{leave_law}
-use Rattle.laws_operation.proofs.Making.{make_law}
-use Rattle.laws_operation.proofs.OneValue.{put_law, stamp_law, title_law}
-use Rattle.laws_operation.proofs.Showing.{usable_is}
-use Rattle.laws_operation.proofs.Widening.{widen_law}
-use Rattle.laws_operation.specs.ByteLaws.{Bear}
-use Rattle.laws_operation.specs.NameLaws.{entry_room}
-use Rattle.laws_operation.specs.Outcomes.{CarriesOut}
-use Rattle.laws_operation.specs.DescriptorLaws.{KeepsSound}
+use Rattle.laws_line.specs.alto_words.specs.Fid.{disk_descriptor}
+use Rattle.laws_line.specs.alto_words.specs.declared.fid.Fid.{Fid}
+use Rattle.laws_line.specs.disk_records.proofs.Growing.{after-append}
+use Rattle.laws_line.specs.disk_records.specs.Commands.{claim_writes, relabel_writes, value_writes}
+use Rattle.laws_line.specs.disk_records.specs.Labels.{in_range, page_of, tag}
+use Rattle.laws_line.specs.disk_records.specs.Packs.{Pack, after, is_usable, sector_at}
+use Rattle.laws_line.specs.disk_records.specs.Words.{word}
+use Rattle.laws_line.specs.disk_records.specs.declared.records.Event.{Event}
+use Rattle.laws_line.specs.disk_records.specs.declared.records.Event.TheVariants.{Wrote}
+use Rattle.laws_line.specs.disk_records.specs.declared.records.Page.{Page}
+use Rattle.laws_line.specs.hint_cache.specs.Bits.{busy_at}
+use Rattle.laws_line.specs.pack_model.specs.operations.Commands.{Claim, Claimable, all_claimed, claims_writes, sectors_of, values_writes}
+use Rattle.laws_line.specs.pack_model.specs.operations.Committing.{page_of_byte}
+use Rattle.laws_line.specs.pack_model.specs.reading.Bytes.{bytes_of}
+use Rattle.laws_line.specs.pack_model.specs.sessions.Descriptor.{close_writes, closed_values, open_writes, opened_value, serial_value, serial_writes}
+use Rattle.laws_line.specs.pack_model.specs.operations.Entering.{EntryRoom, entry_value, values_first}
+use Rattle.laws_line.specs.pack_model.specs.reading.Files.{file_bytes, place}
+use Rattle.laws_line.specs.pack_model.specs.states.InUse.{is_free_sight}
+use Rattle.laws_line.specs.pack_model.specs.reading.Model.{good_one, read_as}
+use Rattle.laws_line.specs.pack_model.specs.operations.Operations.{cut_writes, enter_writes, release_file_writes, grow_writes}
+use Rattle.laws_line.specs.pack_model.specs.reading.Sights.{Sight, sights}
+use Rattle.laws_line.specs.pack_model.specs.operations.PageWords.{freed_value, page_number}
+use Rattle.laws_line.specs.pack_model.specs.reading.Sights.Sight.{hidden, holds}
+use Rattle.laws_line.specs.pack_model.specs.reading.Slots.{all_words, item_words}
+use Rattle.laws_line.specs.pack_model.specs.reading.Slots.Item.{entry}
+use Rattle.laws_line.specs.pack_model.specs.states.Sound.{mark_clean, mark_of, mark_open}
+use Rattle.laws_line.specs.pack_model.specs.operations.Step.{Operation}
+use Rattle.laws_line.specs.pack_model.specs.operations.Step.Operation.{drop_file}
+use Rattle.laws_line.specs.pack_model.specs.hints.Tables.{free_table}
+use Rattle.laws_line.specs.pack_model.specs.states.Whole.{Tidy, Whole}
+use Rattle.laws_line.specs.pack_laws.proofs.Placing.{leader_of_place, page_of_place}
+use Rattle.laws_line.specs.laws_operation.proofs.Cutting.{cut_law}
+use Rattle.laws_line.specs.laws_operation.proofs.Dropped.{release_law}
+use Rattle.laws_line.specs.laws_operation.proofs.Grown.{grow_law}
+use Rattle.laws_line.specs.laws_operation.proofs.Leaving.{leave_law}
+use Rattle.laws_line.specs.laws_operation.proofs.Making.{make_law}
+use Rattle.laws_line.specs.laws_operation.proofs.OneValue.{put_law, stamp_law, title_law}
+use Rattle.laws_line.specs.laws_operation.proofs.Showing.{usable_is}
+use Rattle.laws_line.specs.laws_operation.proofs.Widening.{widen_law}
+use Rattle.laws_line.specs.laws_operation.specs.ByteLaws.{Bear}
+use Rattle.laws_line.specs.laws_operation.specs.NameLaws.{entry_room}
+use Rattle.laws_line.specs.laws_operation.specs.Outcomes.{CarriesOut}
+use Rattle.laws_line.specs.laws_operation.specs.DescriptorLaws.{KeepsSound}
 use Rattle.laws_hint.proofs.inside.ClosedHints.{at_end}
 use Rattle.laws_hint.proofs.inside.TrueMap.{true_is_free, values_free}
 use Rattle.laws_hint.proofs.inside.Marking.{AreRanged, AreUsable, claim_bit, claims_bits, label_bit, releases_bits, set_again, usable_stays, value_bit}
 use Rattle.laws_hint.proofs.inside.Meaning.{busy_at-free}
 use Rattle.laws_hint.specs.MapChanges.{ClaimsMarkTheMap, DescriptorWritesLeaveTheMap, LeavesMap, MarksMap, ReleasesMarkTheMap, ValuesLeaveTheMap, marked}
-use Rattle.laws_operation.proofs.descriptor.Laws.{close_carries_out, open_carries_out, serial_carries_out}
-use Rattle.laws_operation.proofs.drop.Laws.{drop_carries_out}
-use Rattle.laws_operation.proofs.enter.Laws.{enter_carries_out}
+use Rattle.laws_line.specs.laws_operation.proofs.descriptor.Laws.{close_carries_out, open_carries_out, serial_carries_out}
+use Rattle.laws_line.specs.laws_operation.proofs.drop.Laws.{drop_carries_out}
+use Rattle.laws_line.specs.laws_operation.proofs.enter.Laws.{enter_carries_out}
 
 -- ---- pages that are borne
 -- The sector of one is good, and not free.

@@ -4,20 +4,20 @@ use Rattle.std.specs.List.{list_any}
 use Rattle.std.specs.Prelude.{◌==◌, ◌||◌}
 use Rattle.std.proofs.lemmas.List.{get_or-set_other, get_or-set_same, map-set}
 use Rattle.std.proofs.lemmas.Option.{cond_some}
-use Rattle.disk_records.specs.Commands.{claim_writes, ones, release_writes}
-use Rattle.disk_records.specs.Labels.{in_range, is_free, tag}
-use Rattle.disk_records.specs.Packs.{Pack, after, is_usable, no_sector, sector_at, with_part}
-use Rattle.disk_records.specs.declared.records.Event.TheVariants.{Wrote}
-use Rattle.disk_records.specs.declared.records.Sector.{Sector}
-use Rattle.disk_records.specs.declared.shape.Shape.{Shape}
-use Rattle.hint_cache.specs.Bits.{busy_at}
-use Rattle.pack_model.specs.operations.Commands.{Claim, all_claimed, claims_writes, releases_writes, sectors_of}
-use Rattle.pack_model.specs.states.InUse.{is_free_sight}
-use Rattle.pack_model.specs.reading.Sights.{page_sight, sight, sights}
-use Rattle.pack_model.specs.reading.Sights.Sight.{free, hidden, stray}
-use Rattle.pack_model.specs.hints.Tables.{free_table}
-use Rattle.pack_laws.proofs.Guarding.{free_shown, ones_free, usable_shown}
-use Rattle.pack_laws.proofs.Sighted.{sights-write}
+use Rattle.laws_line.specs.disk_records.specs.Commands.{claim_writes, ones, release_writes}
+use Rattle.laws_line.specs.disk_records.specs.Labels.{in_range, is_free, tag}
+use Rattle.laws_line.specs.disk_records.specs.Packs.{Pack, after, is_usable, no_sector, sector_at, with_part}
+use Rattle.laws_line.specs.disk_records.specs.declared.records.Event.TheVariants.{Wrote}
+use Rattle.laws_line.specs.disk_records.specs.declared.records.Sector.{Sector}
+use Rattle.laws_line.specs.disk_records.specs.declared.shape.Shape.{Shape}
+use Rattle.laws_line.specs.hint_cache.specs.Bits.{busy_at}
+use Rattle.laws_line.specs.pack_model.specs.operations.Commands.{Claim, all_claimed, claims_writes, releases_writes, sectors_of}
+use Rattle.laws_line.specs.pack_model.specs.states.InUse.{is_free_sight}
+use Rattle.laws_line.specs.pack_model.specs.reading.Sights.{page_sight, sight, sights}
+use Rattle.laws_line.specs.pack_model.specs.reading.Sights.Sight.{free, hidden, stray}
+use Rattle.laws_line.specs.pack_model.specs.hints.Tables.{free_table}
+use Rattle.laws_line.specs.pack_laws.proofs.Guarding.{free_shown, ones_free, usable_shown}
+use Rattle.laws_line.specs.pack_laws.proofs.Sighted.{sights-write}
 use Rattle.laws_hint.proofs.inside.TrueMap.{page_not_free, values_free}
 use Rattle.laws_hint.specs.MapChanges.{ClaimsAndReleasesMarkFreeTable, MarkingSetsListedBitsAlone, marked}
 

@@ -2,17 +2,17 @@
 use Rattle.std.proofs.Common.{Bool, List, [], ap, arith, false, length, map, not, refl, subst, suc, sym, true, zero, ℕ, ◌<◌, ◌∙◌, ◌∷◌, ◌≡◌}
 use Rattle.std.specs.Prelude.{get_or}
 use Rattle.std.proofs.lemmas.List.{length-map}
-use Rattle.disk_records.specs.Packs.{Pack}
-use Rattle.disk_records.specs.declared.shape.Shape.{Shape}
-use Rattle.hint_cache.specs.Bits.{busy_at}
-use Rattle.page_alloc.specs.Free.{IsTrueTable}
-use Rattle.pack_model.specs.reading.Files.{numbered}
-use Rattle.pack_model.specs.states.InUse.{is_available, is_free_sight}
-use Rattle.pack_model.specs.reading.Sights.{Sight, sights}
-use Rattle.pack_model.specs.reading.Sights.Sight.{free, hidden, holds, leads, stray}
-use Rattle.pack_model.specs.hints.Tables.{free_table}
-use Rattle.pack_laws.proofs.Sighted.{length-sights}
-use Rattle.laws_room.proofs.Found.{found_shown}
+use Rattle.laws_line.specs.disk_records.specs.Packs.{Pack}
+use Rattle.laws_line.specs.disk_records.specs.declared.shape.Shape.{Shape}
+use Rattle.laws_line.specs.hint_cache.specs.Bits.{busy_at}
+use Rattle.laws_line.specs.page_alloc.specs.Free.{IsTrueTable}
+use Rattle.laws_line.specs.pack_model.specs.reading.Files.{numbered}
+use Rattle.laws_line.specs.pack_model.specs.states.InUse.{is_available, is_free_sight}
+use Rattle.laws_line.specs.pack_model.specs.reading.Sights.{Sight, sights}
+use Rattle.laws_line.specs.pack_model.specs.reading.Sights.Sight.{free, hidden, holds, leads, stray}
+use Rattle.laws_line.specs.pack_model.specs.hints.Tables.{free_table}
+use Rattle.laws_line.specs.pack_laws.proofs.Sighted.{length-sights}
+use Rattle.laws_line.specs.laws_room.proofs.Found.{found_shown}
 use Rattle.laws_hint.proofs.inside.TrueMap.{true_is_free}
 use Rattle.laws_hint.specs.MapMeanings.{FreeSectorsAreAvailable, FreeTableIsTrue, OnlyFreeTableIsCompleteAndTrue, TrueTableIsFreeTable, WholePackHasOneKindOfTrueTable}
 

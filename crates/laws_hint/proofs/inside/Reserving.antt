@@ -7,11 +7,11 @@ use Rattle.std.proofs.lemmas.List.{length-set}
 use Rattle.std.proofs.lemmas.Map.Views.{Contains-from_any, list_any-from_Contains}
 use Rattle.std.specs.List.{list_any}
 use Rattle.std.specs.Prelude.{Contains, get_or, not, set, ◌||◌}
-use Rattle.disk_records.specs.Packs.{Pack, after, is_free_at}
-use Rattle.hint_cache.specs.Bits.{busy_at}
-use Rattle.page_alloc.specs.Free.{IsCorrectedAt}
-use Rattle.pack_model.specs.hints.Tables.{TableTrue, free_table, true_table}
-use Rattle.pack_model.specs.states.Whole.{Whole}
+use Rattle.laws_line.specs.disk_records.specs.Packs.{Pack, after, is_free_at}
+use Rattle.laws_line.specs.hint_cache.specs.Bits.{busy_at}
+use Rattle.laws_line.specs.page_alloc.specs.Free.{IsCorrectedAt}
+use Rattle.laws_line.specs.pack_model.specs.hints.Tables.{TableTrue, free_table, true_table}
+use Rattle.laws_line.specs.pack_model.specs.states.Whole.{Whole}
 use Rattle.laws_hint.proofs.inside.Marking.{marking_sets_listed_bits_alone}
 use Rattle.laws_hint.proofs.inside.Meaning.{free_table_is_true, length-free_table, same_bits}
 use Rattle.laws_hint.proofs.inside.TrueMap.{true_is_free}

@@ -1,19 +1,19 @@
 -- The true map of a whole pack is that of its free sectors, which no value changes.
 use Rattle.std.proofs.Common.{Bool, List, [], ap, arith, cond, false, get_or, map, not, refl, set, suc, sym, true, zero, ℕ, ◌+◌, ◌∙◌, ◌∷◌, ◌≡◌}
-use Rattle.alto_words.specs.declared.fid.Fid.{Fid}
-use Rattle.disk_records.specs.Labels.{in_range, is_free, tag}
-use Rattle.disk_records.specs.Packs.{Pack, after, is_usable, no_sector, with_part}
-use Rattle.disk_records.specs.declared.records.Event.TheVariants.{Wrote}
-use Rattle.disk_records.specs.declared.records.Sector.{Sector}
-use Rattle.disk_records.specs.declared.shape.Shape.{Shape}
-use Rattle.pack_model.specs.operations.Commands.{values_writes}
-use Rattle.pack_model.specs.reading.Files.{numbered}
-use Rattle.pack_model.specs.states.InUse.{free_sector_count, how_many, is_available, is_free_sight, one_if}
-use Rattle.pack_model.specs.reading.Sights.{Sight, page_sight, sight, sights, sights_from}
-use Rattle.pack_model.specs.reading.Sights.Sight.{free, hidden, stray}
-use Rattle.pack_model.specs.hints.Tables.{free_table, true_table}
-use Rattle.pack_model.specs.states.Whole.{Whole}
-use Rattle.laws_room.proofs.rooms.Laws.{each_sector_is_used_or_free}
+use Rattle.laws_line.specs.alto_words.specs.declared.fid.Fid.{Fid}
+use Rattle.laws_line.specs.disk_records.specs.Labels.{in_range, is_free, tag}
+use Rattle.laws_line.specs.disk_records.specs.Packs.{Pack, after, is_usable, no_sector, with_part}
+use Rattle.laws_line.specs.disk_records.specs.declared.records.Event.TheVariants.{Wrote}
+use Rattle.laws_line.specs.disk_records.specs.declared.records.Sector.{Sector}
+use Rattle.laws_line.specs.disk_records.specs.declared.shape.Shape.{Shape}
+use Rattle.laws_line.specs.pack_model.specs.operations.Commands.{values_writes}
+use Rattle.laws_line.specs.pack_model.specs.reading.Files.{numbered}
+use Rattle.laws_line.specs.pack_model.specs.states.InUse.{free_sector_count, how_many, is_available, is_free_sight, one_if}
+use Rattle.laws_line.specs.pack_model.specs.reading.Sights.{Sight, page_sight, sight, sights, sights_from}
+use Rattle.laws_line.specs.pack_model.specs.reading.Sights.Sight.{free, hidden, stray}
+use Rattle.laws_line.specs.pack_model.specs.hints.Tables.{free_table, true_table}
+use Rattle.laws_line.specs.pack_model.specs.states.Whole.{Whole}
+use Rattle.laws_line.specs.laws_room.proofs.rooms.Laws.{each_sector_is_used_or_free}
 
 -- ---- on a whole pack
 -- tests that agree on each sector make one map

@@ -1,18 +1,18 @@
 -- True hints from the opening of a pack to its closing.
 use Rattle.std.proofs.Common.{Bool, ap, arith, eq-eqb, eqb-true, false, length, refl, subst, sym, true, ◌*◌, ◌∙◌, ◌≡◌, ◌≤◌}
 use Rattle.std.specs.Prelude.{◌==◌}
-use Rattle.disk_records.specs.Addresses.{pages_of, table_words}
-use Rattle.disk_records.specs.Packs.{after}
-use Rattle.pack_model.specs.hints.Tables.{HintsTrue, bits_from, true_table, words_of_bits}
-use Rattle.pack_model.specs.reading.Sights.{sights}
-use Rattle.pack_model.specs.states.Sound.{mark_clean, mark_of}
+use Rattle.laws_line.specs.disk_records.specs.Addresses.{pages_of, table_words}
+use Rattle.laws_line.specs.disk_records.specs.Packs.{after}
+use Rattle.laws_line.specs.pack_model.specs.hints.Tables.{HintsTrue, bits_from, true_table, words_of_bits}
+use Rattle.laws_line.specs.pack_model.specs.reading.Sights.{sights}
+use Rattle.laws_line.specs.pack_model.specs.states.Sound.{mark_clean, mark_of}
 use Rattle.laws_hint.proofs.inside.ClosedHints.{closing_leaves_a_clean_pack, closing_leaves_hints_true}
 use Rattle.laws_hint.proofs.inside.Meaning.{length-free_table}
 use Rattle.laws_hint.proofs.inside.TrueMap.{true_is_free}
 use Rattle.laws_hint.proofs.inside.Wording.{whole_pack_describes_the_table_read, words_give_the_map_back}
 use Rattle.laws_hint.specs.ClosingLaws.{closing_writes}
 use Rattle.laws_hint.specs.TruthLaws.{TruthAtClosing, TruthAtOpening, TruthGoesOn}
-use Rattle.laws_room.proofs.marks.Laws.{unmarked_is_unclean}
+use Rattle.laws_line.specs.laws_room.proofs.marks.Laws.{unmarked_is_unclean}
 
 -- ---- opening
 pub truth_at_opening : TruthAtOpening

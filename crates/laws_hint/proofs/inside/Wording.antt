@@ -6,16 +6,16 @@ use Rattle.std.proofs.lemmas.List.{drop-drop, get_or_default, length-drop, lengt
 use Rattle.std.proofs.lemmas.List.FromFn.{get_or-map-range_with_len, length-map-range_with_len}
 use Rattle.std.proofs.lemmas.Nat.Bits.{bit_at-zero, bit_at_ones}
 use Rattle.std.specs.Prelude.{◌==◌}
-use Rattle.disk_records.specs.Addresses.{pages_of, table_words}
-use Rattle.hint_cache.proofs.Numbers.{is_one-number_of}
-use Rattle.hint_cache.specs.Bits.{bit_in, bits_in, digit_at, is_one, number_of, word_of}
-use Rattle.pack_model.specs.reading.Files.{file_bytes}
-use Rattle.alto_words.specs.Fid.{disk_descriptor}
-use Rattle.pack_model.specs.states.InUse.{one_if}
-use Rattle.pack_model.specs.reading.Model.{descriptor_words}
-use Rattle.pack_model.specs.reading.Sights.{sights}
-use Rattle.pack_model.specs.hints.Tables.{bits_from, bits_value, is_busy, table_in, words_of_bits}
-use Rattle.pack_laws.proofs.Bytes.{length-words_of}
+use Rattle.laws_line.specs.disk_records.specs.Addresses.{pages_of, table_words}
+use Rattle.laws_line.specs.hint_cache.proofs.Numbers.{is_one-number_of}
+use Rattle.laws_line.specs.hint_cache.specs.Bits.{bit_in, bits_in, digit_at, is_one, number_of, word_of}
+use Rattle.laws_line.specs.pack_model.specs.reading.Files.{file_bytes}
+use Rattle.laws_line.specs.alto_words.specs.Fid.{disk_descriptor}
+use Rattle.laws_line.specs.pack_model.specs.states.InUse.{one_if}
+use Rattle.laws_line.specs.pack_model.specs.reading.Model.{descriptor_words}
+use Rattle.laws_line.specs.pack_model.specs.reading.Sights.{sights}
+use Rattle.laws_line.specs.pack_model.specs.hints.Tables.{bits_from, bits_value, is_busy, table_in, words_of_bits}
+use Rattle.laws_line.specs.pack_laws.proofs.Bytes.{length-words_of}
 use Rattle.laws_hint.proofs.inside.Meaning.{same_bits}
 use Rattle.laws_hint.specs.MapWords.{AbsentMapIsReadBusyAndDescribedFree, TableGivesTheWordsOfItsBits, TableIsWritten, TableOfEnoughWordsIsTheirMap, TableReadIsDescribed, WholePackDescribesTheTableRead, WordsGiveTheMapBack, words_given}
 

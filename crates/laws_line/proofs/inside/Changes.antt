@@ -3,14 +3,14 @@ use Rattle.std.proofs.Common.{◌++◌, ◌+◌, ◌∙◌, ◌∷◌, ◌≡◌
 use Rattle.std.proofs.lemmas.List.Elements.{All-append, All-cons, All-nil}
 use Rattle.std.specs.FinMap.{get}
 use Rattle.std.specs.List.{list_any}
-use Rattle.alto_words.specs.Fid.{is_fid}
-use Rattle.alto_words.specs.declared.fid.Fid.{Fid}
+use Rattle.laws_room.specs.alto_words.specs.Fid.{is_fid}
+use Rattle.laws_room.specs.alto_words.specs.declared.fid.Fid.{Fid}
 use Rattle.laws_line.proofs.inside.FreeWords.{row_widened}
 use Rattle.laws_line.proofs.inside.Mentions.{any_first}
 use Rattle.laws_line.proofs.inside.Runs.{IsShort}
 use Rattle.laws_line.proofs.inside.Updates.{Fair, Keeps, kept_updated}
 use Rattle.laws_line.specs.LineLaws.{LeavesNames}
-use Rattle.pack_laws.proofs.Bytes.{length-put_at}
+use Rattle.laws_room.specs.pack_laws.proofs.Bytes.{length-put_at}
 use Rattle.pack_model.specs.reading.Bodies.{Body, File, body_length, pages_for}
 use Rattle.pack_model.specs.reading.Bodies.Body.{data_of, items_of}
 use Rattle.pack_model.specs.reading.Bytes.{put_at}
@@ -21,8 +21,8 @@ use Rattle.pack_model.specs.reading.Namings.{Naming, namings_in}
 use Rattle.pack_model.specs.reading.Slots.Item.{space}
 use Rattle.pack_model.specs.operations.Step.{Operation, on_bytes, on_items, on_leader, step}
 use Rattle.pack_model.specs.operations.Step.Operation.{cut, drop_file, enter, grow, leave, make, put, stamp, title, widen}
-use Rattle.laws_record.proofs.Entered.{namings_in-append}
-use Rattle.laws_record.proofs.Slotwise.{words-append}
+use Rattle.laws_room.specs.laws_record.proofs.Entered.{namings_in-append}
+use Rattle.laws_room.specs.laws_record.proofs.Slotwise.{words-append}
 
 -- other bytes of an ordinary file; a directory stays as it is
 bytes_fair : (f : Fid) (h : List ℕ → List ℕ) (more : ℕ) (l : Leader) (b : Body) → ((bytes : List ℕ) → b ≡ data_of bytes → pages_for (length (h bytes)) ≤ pages_for (length bytes) + more) → Fair f (on_bytes h) more (record { leader = l; body = b })

@@ -16,9 +16,9 @@ use Rattle.pack_model.specs.sessions.Descriptor.{close_moves, close_writes, data
 use Rattle.pack_model.specs.sessions.Meanings.{Mendable, operating, reading}
 use Rattle.pack_model.specs.sessions.Moves.{Obeys, rest, steps}
 use Rattle.pack_model.specs.states.Sound.{Clean, Sound, mark_clean, mark_of, mark_open}
-use Rattle.pack_laws.proofs.Moving.{obeys_then, stands_last}
-use Rattle.laws_operation.proofs.descriptor.Laws.{close_carries_out}
-use Rattle.laws_operation.specs.DescriptorLaws.{MayClose}
+use Rattle.laws_room.specs.pack_laws.proofs.Moving.{obeys_then, stands_last}
+use Rattle.laws_room.specs.laws_operation.proofs.descriptor.Laws.{close_carries_out}
+use Rattle.laws_room.specs.laws_operation.specs.DescriptorLaws.{MayClose}
 use Rattle.laws_room.proofs.marks.Laws.{unmarked_is_unclean}
 use Rattle.laws_line.proofs.inside.crashes.Beginning.{sound_mendable}
 use Rattle.laws_line.proofs.inside.crashes.OneCommit.{line_moves_lead_to_the_model}

@@ -4,8 +4,8 @@ use Rattle.std.specs.FinMap.{entries, get}
 use Rattle.std.specs.List.{list_any}
 use Rattle.std.specs.Option.{option_map, unwrap_or}
 use Rattle.std.specs.Prelude.{All}
-use Rattle.alto_words.specs.Fid.{disk_descriptor, is_fid, sys_dir}
-use Rattle.alto_words.specs.declared.fid.Fid.{Fid}
+use Rattle.laws_room.specs.alto_words.specs.Fid.{disk_descriptor, is_fid, sys_dir}
+use Rattle.laws_room.specs.alto_words.specs.declared.fid.Fid.{Fid}
 use Rattle.laws_room.proofs.Standing.{placed_stands, placed_words}
 use Rattle.laws_line.proofs.inside.EnteredSlots.{placed_short}
 use Rattle.laws_line.proofs.inside.Mentions.{mentions, mentions_more, mentions_own, named_there}
@@ -13,7 +13,7 @@ use Rattle.laws_line.proofs.inside.Runs.{IsShort}
 use Rattle.laws_line.proofs.inside.Spared.{Spared}
 use Rattle.laws_line.proofs.inside.Updates.{got_updated, items_updated, named_updated, names_updated, pages_updated, there_updated}
 use Rattle.laws_line.specs.Ready.{Ready}
-use Rattle.pack_laws.proofs.Keys.{same_fid}
+use Rattle.laws_room.specs.pack_laws.proofs.Keys.{same_fid}
 use Rattle.pack_model.specs.reading.Bodies.{Body, File, body_items, body_length, items_in, pages_for}
 use Rattle.pack_model.specs.reading.Bodies.Body.{data_of, items_of}
 use Rattle.pack_model.specs.reading.Model.{IsNamed, Model, files_pages, root_items}

@@ -5,15 +5,15 @@ use Rattle.std.specs.FinMap.{entries, get, get-remove, remove, same_map}
 use Rattle.std.specs.List.{list_any}
 use Rattle.std.specs.Option.{is_some, option_map}
 use Rattle.std.specs.Prelude.{All}
-use Rattle.alto_words.specs.Fid.{disk_descriptor, is_fid, sys_dir}
-use Rattle.alto_words.specs.declared.fid.Fid.{Fid}
+use Rattle.laws_room.specs.alto_words.specs.Fid.{disk_descriptor, is_fid, sys_dir}
+use Rattle.laws_room.specs.alto_words.specs.declared.fid.Fid.{Fid}
 use Rattle.laws_line.proofs.inside.Mentions.{Mentioned, mentioned, mentions, named_there}
 use Rattle.laws_line.proofs.inside.Runs.{IsShort}
 use Rattle.laws_line.proofs.inside.Throughout.{settled_ready}
 use Rattle.laws_line.specs.LineLaws.{DropLeavesRoom, MayGo}
 use Rattle.laws_line.specs.Ready.{Ready, Settled}
-use Rattle.pack_laws.proofs.Keys.{fid_same, fid_total, is_fid-sym, same_fid}
-use Rattle.pack_laws.proofs.Mapping.{entries-map_values, get-map_values}
+use Rattle.laws_room.specs.pack_laws.proofs.Keys.{fid_same, fid_total, is_fid-sym, same_fid}
+use Rattle.laws_room.specs.pack_laws.proofs.Mapping.{entries-map_values, get-map_values}
 use Rattle.pack_model.specs.reading.Bodies.{Body, File, Files, body_items, items_in}
 use Rattle.pack_model.specs.reading.Bodies.Body.{data_of, items_of}
 use Rattle.pack_model.specs.sessions.Maps.{map_values}
@@ -25,7 +25,7 @@ use Rattle.pack_model.specs.operations.Step.{body_without, file_without, item_wi
 use Rattle.pack_model.specs.operations.Step.Operation.{drop_file}
 use Rattle.laws_room.proofs.FilesPages.{gone_pages}
 use Rattle.laws_room.proofs.Stepping.{item_kept, without_pages}
-use Rattle.laws_record.proofs.Tidying.{or_false_left, or_false_right}
+use Rattle.laws_room.specs.laws_record.proofs.Tidying.{or_false_left, or_false_right}
 
 -- ---- slots without the entries of the file
 -- each has its words

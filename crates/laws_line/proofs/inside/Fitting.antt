@@ -1,7 +1,7 @@
 -- What a session keeps of DiskDescriptor, after each record write of it.
 use Rattle.std.proofs.Common.{List, [], ap, arith, length, refl, slice_get, subst, suc, sym, ℕ, ◌+◌, ◌<◌, ◌∙◌, ◌∷◌, ◌≡◌, ◌≤◌}
 use Rattle.std.proofs.lemmas.List.{take_all}
-use Rattle.alto_words.specs.Fid.{disk_descriptor}
+use Rattle.laws_room.specs.alto_words.specs.Fid.{disk_descriptor}
 use Rattle.disk_records.specs.Packs.{Pack, after, crash, sector_at}
 use Rattle.disk_records.specs.declared.records.Event.{Event}
 use Rattle.disk_records.specs.declared.shape.Shape.{Shape}
@@ -12,11 +12,11 @@ use Rattle.pack_model.specs.reading.Sights.{Sight, sights}
 use Rattle.pack_model.specs.sessions.Descriptor.{DescriptorFits, close_writes, data_pages, open_writes, serial_writes}
 use Rattle.pack_model.specs.sessions.Meanings.{reading}
 use Rattle.pack_model.specs.states.Sound.{mark_clean, mark_of, mark_open}
-use Rattle.pack_laws.proofs.Moving.{stands_last}
+use Rattle.laws_room.specs.pack_laws.proofs.Moving.{stands_last}
 use Rattle.laws_line.proofs.inside.Closing.{close_model, open_model}
 use Rattle.laws_line.specs.FitLaws.{DescriptorFitsOn, FittingDescriptorMayClose}
-use Rattle.laws_operation.proofs.descriptor.Laws.{close_carries_out, open_carries_out, serial_carries_out}
-use Rattle.laws_operation.specs.ByteLaws.{Bear}
+use Rattle.laws_room.specs.laws_operation.proofs.descriptor.Laws.{close_carries_out, open_carries_out, serial_carries_out}
+use Rattle.laws_room.specs.laws_operation.specs.ByteLaws.{Bear}
 
 -- ---- after record writes
 -- the same pages bear it, and the last serial and the mark are these

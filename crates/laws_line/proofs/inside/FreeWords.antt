@@ -1,6 +1,6 @@
 -- Free words in a row, when slots change.
 use Rattle.std.proofs.Common.{◌++◌, ◌∷◌, ◌≤◌, List, [], append-nil, arith, ap, ℕ}
-use Rattle.alto_words.specs.declared.fid.Fid.{Fid}
+use Rattle.laws_room.specs.alto_words.specs.declared.fid.Fid.{Fid}
 use Rattle.pack_model.specs.operations.Rooms.{largest_run, words_free}
 use Rattle.pack_model.specs.reading.Slots.{Item}
 use Rattle.pack_model.specs.reading.Slots.Item.{entry, space}

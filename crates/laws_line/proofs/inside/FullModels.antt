@@ -4,14 +4,14 @@ use Rattle.std.proofs.Common.{◌++◌, ◌+◌, ◌∙◌, ◌∷◌, ◌≡◌
 use Rattle.std.specs.FinMap.{entries, entries-insert, find, from_entries, get, get-entries}
 use Rattle.std.specs.FinMap.Entries.{put}
 use Rattle.std.specs.Prelude.{codes, replicate}
-use Rattle.alto_words.specs.Fid.{fid_cmp, sys_dir}
-use Rattle.alto_words.specs.declared.fid.Fid.{Fid}
+use Rattle.laws_room.specs.alto_words.specs.Fid.{fid_cmp, sys_dir}
+use Rattle.laws_room.specs.alto_words.specs.declared.fid.Fid.{Fid}
 use Rattle.disk_records.specs.declared.shape.Shape.{Shape}
 use Rattle.laws_line.proofs.inside.ListedModels.{file_3, its_needs, long_name, look, root_with, settled_by, short_with, slots_with}
 use Rattle.laws_line.specs.LineLaws.{IsEntered}
 use Rattle.laws_line.specs.Ready.{Settled}
-use Rattle.pack_laws.proofs.Keys.{fid_same, fid_total}
-use Rattle.pack_laws.proofs.Mapping.{entries-from_entries}
+use Rattle.laws_room.specs.pack_laws.proofs.Keys.{fid_same, fid_total}
+use Rattle.laws_room.specs.pack_laws.proofs.Mapping.{entries-from_entries}
 use Rattle.pack_model.specs.reading.Bodies.{File, Files, items_in}
 use Rattle.pack_model.specs.reading.Bodies.Body.{data_of}
 use Rattle.pack_model.specs.operations.Committing.{pages_for_operations}

@@ -2,13 +2,13 @@
 use Rattle.std.proofs.Common.{◌+◌, ◌∙◌, ◌∷◌, ◌≡◌, ◌≤◌, ◌⊎◌, Bool, List, [], ap, arith, cond, false, inl, inr, length, refl, suc, sym, true, zero, ℕ}
 use Rattle.std.specs.FinMap.{FinMap, contains_key, get, get-insert}
 use Rattle.std.specs.Option.{is_some}
-use Rattle.alto_words.proofs.Made.{length-suffixed}
-use Rattle.alto_words.specs.Fid.{fid_cmp, is_fid, sys_dir}
-use Rattle.alto_words.specs.declared.fid.Fid.{Fid}
-use Rattle.pack_laws.proofs.Keys.{fid_total, same_fid}
+use Rattle.laws_room.specs.alto_words.proofs.Made.{length-suffixed}
+use Rattle.laws_room.specs.alto_words.specs.Fid.{fid_cmp, is_fid, sys_dir}
+use Rattle.laws_room.specs.alto_words.specs.declared.fid.Fid.{Fid}
+use Rattle.laws_room.specs.pack_laws.proofs.Keys.{fid_total, same_fid}
 use Rattle.pack_model.specs.showing.Settling.{choice, chosen, chosen_from, given, given_names, is_taken, most_suffixes, unless}
 use Rattle.pack_model.specs.showing.View.{Home, Seen}
-use Rattle.laws_record.proofs.Settles.{has_name, some_more}
+use Rattle.laws_room.specs.laws_record.proofs.Settles.{has_name, some_more}
 use Rattle.laws_room.proofs.Each.{Each}
 
 -- ---- how long a chosen name is

@@ -4,16 +4,16 @@ use Rattle.std.proofs.lemmas.List.Elements.{All-cons, All-head, All-tail}
 use Rattle.std.specs.FinMap.{entries, get}
 use Rattle.std.specs.List.{list_any}
 use Rattle.std.specs.Prelude.{All}
-use Rattle.alto_words.specs.Fid.{disk_descriptor, is_fid, is_system, sys_dir}
-use Rattle.alto_words.specs.Names.{is_same_name}
-use Rattle.alto_words.specs.declared.fid.Fid.{Fid}
+use Rattle.laws_room.specs.alto_words.specs.Fid.{disk_descriptor, is_fid, is_system, sys_dir}
+use Rattle.laws_room.specs.alto_words.specs.Names.{is_same_name}
+use Rattle.laws_room.specs.alto_words.specs.declared.fid.Fid.{Fid}
 use Rattle.laws_line.proofs.inside.FreeWords.{row_freed}
 use Rattle.laws_line.proofs.inside.Mentions.{mentions, mentions_less}
 use Rattle.laws_line.proofs.inside.Runs.{IsShort}
 use Rattle.laws_line.proofs.inside.Spared.{Spared}
 use Rattle.laws_line.proofs.inside.Updates.{items_updated, named_updated, names_updated, pages_updated, there_updated}
 use Rattle.laws_line.specs.LineLaws.{IsEntered}
-use Rattle.pack_laws.proofs.Keys.{is_fid-sym}
+use Rattle.laws_room.specs.pack_laws.proofs.Keys.{is_fid-sym}
 use Rattle.pack_model.specs.reading.Bodies.{Body, File, body_items, body_length, items_in, pages_for}
 use Rattle.pack_model.specs.reading.Bodies.Body.{data_of, items_of}
 use Rattle.pack_model.specs.reading.Model.{IsNamed, Model, dir_items, files_pages}
@@ -23,7 +23,7 @@ use Rattle.pack_model.specs.reading.Slots.{Item, all_words, item_words}
 use Rattle.pack_model.specs.reading.Slots.Item.{entry, space}
 use Rattle.pack_model.specs.operations.Step.{body_slots, items_left, longest_entry, on_items, on_leader, step}
 use Rattle.pack_model.specs.operations.Step.Operation.{leave, title, widen}
-use Rattle.laws_record.proofs.Tidying.{or_false_left, or_false_right}
+use Rattle.laws_room.specs.laws_record.proofs.Tidying.{or_false_left, or_false_right}
 
 -- The first of these slots under this name, in whatever case, is of the file.
 pub record EntersIn (d : Fid) (name : List ℕ) (f : Fid) (is : List Item) : Type 0 where

@@ -20,10 +20,10 @@ use Rattle.pack_model.specs.operations.Step.{Operation, step}
 use Rattle.pack_model.specs.operations.Step.Operation.{make}
 use Rattle.pack_model.specs.showing.View.{view}
 use Rattle.pack_model.specs.states.Whole.{Tidy, Whole}
-use Rattle.pack_laws.proofs.Moving.{obeys_then, stands_last}
+use Rattle.laws_room.specs.pack_laws.proofs.Moving.{obeys_then, stands_last}
 use Rattle.laws_line.specs.Ready.{Ready, ReadyThroughout, steps_of}
-use Rattle.laws_operation.proofs.EnterStages.{views_of}
-use Rattle.laws_operation.specs.DescriptorLaws.{OpensMark}
+use Rattle.laws_room.specs.laws_operation.proofs.EnterStages.{views_of}
+use Rattle.laws_room.specs.laws_operation.specs.DescriptorLaws.{OpensMark}
 use Rattle.laws_line.proofs.inside.crashes.Cutting.{mendable_still}
 use Rattle.laws_line.proofs.inside.Marked.{open_pack_is_unmarked, opened_unmarked, serial_unmarked}
 use Rattle.laws_line.proofs.inside.crashes.OneCommit.{moves_step}
@@ -31,7 +31,7 @@ use Rattle.laws_line.proofs.inside.crashes.Parting.{crashes_of_both_parts}
 use Rattle.laws_line.proofs.inside.crashes.Still.{still_self}
 use Rattle.laws_line.specs.CrashLaws.{CrashesOfALine, CrashesOfAnUnmarkedLine, Batch, LineStays, LinesJoin, does, makes, over, with_serial}
 use Rattle.laws_line.proofs.inside.SettledAgain.{first_ready}
-use Rattle.laws_operation.proofs.descriptor.Laws.{open_carries_out, serial_carries_out}
+use Rattle.laws_room.specs.laws_operation.proofs.descriptor.Laws.{open_carries_out, serial_carries_out}
 use Rattle.laws_room.proofs.rooms.Laws.{sound_needs_nothing}
 
 -- ---- the last serial aside

@@ -5,13 +5,13 @@ use Rattle.std.specs.FinMap.{contains_key, entries, find, get, get-entries}
 use Rattle.std.specs.List.{list_any}
 use Rattle.std.specs.Option.{is_some}
 use Rattle.std.specs.Prelude.{◌&&◌, All, codes, replicate}
-use Rattle.alto_words.specs.Fid.{disk_descriptor, fid_cmp, is_fid, ordinary_fid, sys_dir}
-use Rattle.alto_words.specs.Names.{is_same_name}
-use Rattle.alto_words.specs.declared.fid.Fid.{Fid}
+use Rattle.laws_room.specs.alto_words.specs.Fid.{disk_descriptor, fid_cmp, is_fid, ordinary_fid, sys_dir}
+use Rattle.laws_room.specs.alto_words.specs.Names.{is_same_name}
+use Rattle.laws_room.specs.alto_words.specs.declared.fid.Fid.{Fid}
 use Rattle.laws_line.proofs.inside.Runs.{IsShort}
 use Rattle.laws_line.specs.Ready.{Settled}
-use Rattle.pack_laws.proofs.ByLists.{names_by, names_list, seen_by, seen_list}
-use Rattle.pack_laws.proofs.Keys.{same_fid}
+use Rattle.laws_room.specs.pack_laws.proofs.ByLists.{names_by, names_list, seen_by, seen_list}
+use Rattle.laws_room.specs.pack_laws.proofs.Keys.{same_fid}
 use Rattle.pack_model.specs.reading.Bodies.{File, items_in}
 use Rattle.pack_model.specs.reading.Bodies.Body.{data_of, items_of}
 use Rattle.pack_model.specs.scavenger.Mended.{lacking, needs, widens}

@@ -3,21 +3,21 @@ use Rattle.std.proofs.Common.{◌+◌, ◌∙◌, ◌≡◌, ◌≤◌, Bool, Li
 use Rattle.std.specs.FinMap.{contains_key, entries, get, get-insert}
 use Rattle.std.specs.Option.{is_some}
 use Rattle.std.specs.Prelude.{All}
-use Rattle.alto_words.specs.Fid.{disk_descriptor, is_fid, sys_dir}
-use Rattle.alto_words.specs.declared.fid.Fid.{Fid}
+use Rattle.laws_room.specs.alto_words.specs.Fid.{disk_descriptor, is_fid, sys_dir}
+use Rattle.laws_room.specs.alto_words.specs.declared.fid.Fid.{Fid}
 use Rattle.laws_line.proofs.inside.Mentions.{Mentioned, mentioned, named_there}
 use Rattle.laws_line.proofs.inside.Runs.{IsShort}
 use Rattle.laws_line.proofs.inside.Spared.{Spared}
 use Rattle.laws_line.proofs.inside.Throughout.{Pages}
-use Rattle.pack_laws.proofs.Keys.{fid_total, same_fid}
+use Rattle.laws_room.specs.pack_laws.proofs.Keys.{fid_total, same_fid}
 use Rattle.pack_model.specs.reading.Bodies.{File, items_in}
 use Rattle.pack_model.specs.reading.Model.{IsNamed, Model, files_pages, root_items}
 use Rattle.pack_model.specs.operations.Rooms.{largest_run}
 use Rattle.pack_model.specs.operations.Step.{new_file, step}
 use Rattle.pack_model.specs.operations.Step.Operation.{make}
-use Rattle.laws_record.proofs.FilePages.{new_pages}
+use Rattle.laws_room.specs.laws_record.proofs.FilePages.{new_pages}
 use Rattle.laws_room.proofs.Stepping.{first_pages}
-use Rattle.pack_laws.proofs.Placing.{none_of_false}
+use Rattle.laws_room.specs.pack_laws.proofs.Placing.{none_of_false}
 
 module _ (m : Model) (f : Fid) (name : List ℕ) (moment : ℕ) (s : Spared m f) (short : length name ≤ 39) (fresh : contains_key m.files f ≡ false) where
   -- the model then

@@ -1,7 +1,7 @@
 -- Packs without the clean mark: where it is open, where it is opened, and where a new serial is written.
 use Rattle.std.proofs.Common.{List, Some, [], ap, arith, drop, get_or, inl, inr, length, refl, suc, sym, take, zero, ℕ, ◌%◌, ◌++◌, ◌/◌, ◌<◌, ◌∙◌, ◌∷◌, ◌≡◌, ◌⊎◌}
 use Rattle.std.proofs.lemmas.List.{set-get_or}
-use Rattle.alto_words.specs.Fid.{disk_descriptor}
+use Rattle.laws_room.specs.alto_words.specs.Fid.{disk_descriptor}
 use Rattle.disk_records.specs.Commands.{value_writes}
 use Rattle.disk_records.specs.Packs.{Pack, after, no_sector, sector_at}
 use Rattle.disk_records.specs.Words.{word}
@@ -14,8 +14,8 @@ use Rattle.pack_model.specs.reading.Sights.{sights}
 use Rattle.pack_model.specs.states.Sound.{mark_clean, mark_of, mark_open}
 use Rattle.pack_model.specs.states.Whole.{Whole}
 use Rattle.laws_room.specs.MarkLaws.{OtherMark}
-use Rattle.laws_record.proofs.Slotwise.{put_here}
-use Rattle.laws_operation.proofs.FirstWords.{words_written}
+use Rattle.laws_room.specs.laws_record.proofs.Slotwise.{put_here}
+use Rattle.laws_room.specs.laws_operation.proofs.FirstWords.{words_written}
 use Rattle.laws_room.proofs.marks.Laws.{opened_is_unmarked}
 
 -- ---- words

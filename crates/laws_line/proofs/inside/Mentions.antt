@@ -3,17 +3,17 @@ use Rattle.std.proofs.Common.{◌++◌, ◌∙◌, ◌∷◌, ◌≡◌, ◌⊎�
 use Rattle.std.proofs.lemmas.Bool.{or_right}
 use Rattle.std.specs.FinMap.{entries, get}
 use Rattle.std.specs.List.{list_any}
-use Rattle.alto_words.specs.Fid.{is_fid}
-use Rattle.alto_words.specs.declared.fid.Fid.{Fid}
-use Rattle.pack_laws.proofs.Keys.{fid_same, fid_total, is_fid-itself}
+use Rattle.laws_room.specs.alto_words.specs.Fid.{is_fid}
+use Rattle.laws_room.specs.alto_words.specs.declared.fid.Fid.{Fid}
+use Rattle.laws_room.specs.pack_laws.proofs.Keys.{fid_same, fid_total, is_fid-itself}
 use Rattle.pack_model.specs.reading.Bodies.{File, Files, body_items}
 use Rattle.pack_model.specs.reading.Namings.{Naming, body_namings, namings, namings_in}
 use Rattle.pack_model.specs.reading.Slots.{Item}
 use Rattle.pack_model.specs.reading.Slots.Item.{entry, space}
-use Rattle.laws_record.proofs.Around.{around}
-use Rattle.laws_record.proofs.Entered.{namings-append, namings_in-append}
+use Rattle.laws_room.specs.laws_record.proofs.Around.{around}
+use Rattle.laws_room.specs.laws_record.proofs.Entered.{namings-append, namings_in-append}
 use Rattle.laws_room.proofs.Each.{Each, each_entry}
-use Rattle.laws_operation.proofs.Dropped.{bodies_bare}
+use Rattle.laws_room.specs.laws_operation.proofs.Dropped.{bodies_bare}
 
 -- ---- some of several entries
 -- of the first ones

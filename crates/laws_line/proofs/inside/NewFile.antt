@@ -1,7 +1,7 @@
 -- The line that makes a file.
 use Rattle.std.proofs.Common.{List, [], arith, false, length, subst, ℕ, ◌∙◌, ◌∷◌, ◌≡◌, ◌≤◌}
 use Rattle.std.specs.FinMap.{contains_key}
-use Rattle.alto_words.specs.declared.fid.Fid.{Fid}
+use Rattle.laws_room.specs.alto_words.specs.declared.fid.Fid.{Fid}
 use Rattle.laws_line.proofs.inside.Coming.{entered_pages, entered_ready}
 use Rattle.laws_line.proofs.inside.Making.{made_pages, made_spared}
 use Rattle.laws_line.proofs.inside.Spared.{Prepared, Spared, behind, front, ready_line, spared_ready, there_after}

@@ -5,14 +5,14 @@ use Rattle.std.specs.FinMap.Entries.{put}
 use Rattle.std.specs.List.{list_any}
 use Rattle.std.specs.Option.{is_some}
 use Rattle.std.specs.Prelude.{codes}
-use Rattle.alto_words.specs.Fid.{fid_cmp, is_fid, ordinary_fid, sys_dir}
-use Rattle.alto_words.specs.declared.fid.Fid.{Fid}
+use Rattle.laws_room.specs.alto_words.specs.Fid.{fid_cmp, is_fid, ordinary_fid, sys_dir}
+use Rattle.laws_room.specs.alto_words.specs.declared.fid.Fid.{Fid}
 use Rattle.disk_records.specs.declared.shape.Shape.{Shape}
 use Rattle.laws_line.proofs.inside.ListedModels.{file_3, root_with, settled_by, short_with}
 use Rattle.laws_line.specs.LineLaws.{new_file_line}
 use Rattle.laws_line.specs.Ready.{Settled, steps_of}
-use Rattle.pack_laws.proofs.Keys.{fid_same, fid_total}
-use Rattle.pack_laws.proofs.Mapping.{entries-from_entries}
+use Rattle.laws_room.specs.pack_laws.proofs.Keys.{fid_same, fid_total}
+use Rattle.laws_room.specs.pack_laws.proofs.Mapping.{entries-from_entries}
 use Rattle.pack_model.specs.reading.Bodies.{File, items_in}
 use Rattle.pack_model.specs.operations.Committing.{pages_for_operations}
 use Rattle.pack_model.specs.sessions.Maps.{update_found}

@@ -3,13 +3,13 @@ use Rattle.std.proofs.Common.{Bool, List, None, Option, Some, [], ap, cond, fals
 use Rattle.std.specs.FinMap.{get}
 use Rattle.std.specs.Option.{is_some, option_map}
 use Rattle.std.specs.Prelude.{All}
-use Rattle.alto_words.specs.Fid.{is_directory}
-use Rattle.alto_words.specs.declared.fid.Fid.{Fid}
+use Rattle.laws_room.specs.alto_words.specs.Fid.{is_directory}
+use Rattle.laws_room.specs.alto_words.specs.declared.fid.Fid.{Fid}
 use Rattle.disk_records.specs.Packs.{Pack}
 use Rattle.laws_line.proofs.inside.Runs.{IsShort}
 use Rattle.laws_line.proofs.inside.SoundSettled.{kept_short, slots_short}
 use Rattle.laws_line.specs.AfterLaws.{DirectoriesAreRead, IsDirectory}
-use Rattle.pack_laws.proofs.Keys.{fid_same, fid_total}
+use Rattle.laws_room.specs.pack_laws.proofs.Keys.{fid_same, fid_total}
 use Rattle.pack_model.specs.reading.Bodies.{Body, File, described, found, is_described}
 use Rattle.pack_model.specs.reading.Bodies.Body.{data_of, items_of}
 use Rattle.pack_model.specs.reading.Bytes.{words_of}
@@ -20,12 +20,12 @@ use Rattle.pack_model.specs.reading.Namings.{Naming, body_kept, is_kept, items_k
 use Rattle.pack_model.specs.reading.Sights.{Sight, sights}
 use Rattle.pack_model.specs.reading.Slots.{Item, slots}
 use Rattle.pack_model.specs.showing.View.{seen_of}
-use Rattle.laws_record.proofs.Around.{around}
-use Rattle.laws_record.proofs.Keeping.{get-where}
-use Rattle.laws_record.proofs.LeaderSteps.{body_left, tidied_file}
-use Rattle.laws_record.proofs.Mending.{get-seen}
-use Rattle.laws_record.proofs.Reading.{get-found, read_file}
-use Rattle.laws_record.proofs.Unkept.{after_files}
+use Rattle.laws_room.specs.laws_record.proofs.Around.{around}
+use Rattle.laws_room.specs.laws_record.proofs.Keeping.{get-where}
+use Rattle.laws_room.specs.laws_record.proofs.LeaderSteps.{body_left, tidied_file}
+use Rattle.laws_room.specs.laws_record.proofs.Mending.{get-seen}
+use Rattle.laws_room.specs.laws_record.proofs.Reading.{get-found, read_file}
+use Rattle.laws_room.specs.laws_record.proofs.Unkept.{after_files}
 
 -- A body of slots of at most 1,023 words.
 record Slots (b : Body) : Type 0 where

@@ -3,14 +3,14 @@ use Rattle.std.proofs.Common.{◌∙◌, ◌∷◌, ◌≡◌, ◌≤◌, ◌⊎
 use Rattle.std.specs.FinMap.{contains_key, entries, find, get, get-from_entries}
 use Rattle.std.specs.List.{list_any}
 use Rattle.std.specs.Option.{is_some, option_map}
-use Rattle.alto_words.specs.Fid.{disk_descriptor, fid_cmp, is_fid, is_system, sys_dir}
-use Rattle.alto_words.specs.declared.fid.Fid.{Fid}
+use Rattle.laws_room.specs.alto_words.specs.Fid.{disk_descriptor, fid_cmp, is_fid, is_system, sys_dir}
+use Rattle.laws_room.specs.alto_words.specs.declared.fid.Fid.{Fid}
 use Rattle.laws_line.proofs.inside.GivenNames.{HasName, HasNameBut, OneGiven, none_given, one_given}
 use Rattle.laws_line.proofs.inside.Runs.{placed_somewhere}
 use Rattle.laws_line.specs.LineLaws.{ReadyHasRoom}
 use Rattle.laws_line.specs.Ready.{Ready}
-use Rattle.pack_laws.proofs.Keys.{fid_same, fid_total, is_fid-sym, same_fid}
-use Rattle.pack_laws.proofs.Mapping.{get-map_values}
+use Rattle.laws_room.specs.pack_laws.proofs.Keys.{fid_same, fid_total, is_fid-sym, same_fid}
+use Rattle.laws_room.specs.pack_laws.proofs.Mapping.{get-map_values}
 use Rattle.pack_model.specs.reading.Bodies.{File}
 use Rattle.pack_model.specs.sessions.Maps.{map_values}
 use Rattle.pack_model.specs.scavenger.Mended.{lacking, needs, on_room, widens, with_page}
@@ -22,7 +22,7 @@ use Rattle.pack_model.specs.reading.Slots.{Item}
 use Rattle.pack_model.specs.reading.Slots.Item.{entry}
 use Rattle.pack_model.specs.operations.Step.{longest_entry}
 use Rattle.pack_model.specs.showing.View.{Home, Seen, homes, names_of, seen_of, view}
-use Rattle.laws_record.proofs.Keeping.{get-where}
+use Rattle.laws_room.specs.laws_record.proofs.Keeping.{get-where}
 use Rattle.laws_room.proofs.Each.{each_entry}
 use Rattle.laws_room.proofs.SoundPacks.{no_widening}
 

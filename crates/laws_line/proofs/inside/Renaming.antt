@@ -1,7 +1,7 @@
 -- The line that renames a file.
 use Rattle.std.proofs.Common.{Bool, List, [], arith, cond, false, length, nat_le, subst, sym, true, ℕ, ◌||◌, ◌∷◌, ◌≡◌, ◌≤◌}
-use Rattle.alto_words.specs.Fid.{is_fid, is_system, sys_dir}
-use Rattle.alto_words.specs.declared.fid.Fid.{Fid}
+use Rattle.laws_room.specs.alto_words.specs.Fid.{is_fid, is_system, sys_dir}
+use Rattle.laws_room.specs.alto_words.specs.declared.fid.Fid.{Fid}
 use Rattle.laws_line.proofs.inside.Changes.{keeps_step}
 use Rattle.laws_line.proofs.inside.Coming.{entered_ready}
 use Rattle.laws_line.proofs.inside.Leaving.{EntersIn, enters_in, enters_titled, enters_widened, left_spared}

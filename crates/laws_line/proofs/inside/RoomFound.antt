@@ -2,8 +2,8 @@
 use Rattle.std.proofs.Common.{◌∙◌, ◌∷◌, ◌≡◌, ◌≤◌, ◌||◌, Bool, List, None, Option, Some, [], ap, arith, cond, false, leb-true, length, nat_le, refl, subst, sym, true, ℕ}
 use Rattle.std.specs.FinMap.{contains_key, get}
 use Rattle.std.specs.Option.{is_some, option_map, unwrap_or}
-use Rattle.alto_words.specs.Fid.{is_fid, sys_dir}
-use Rattle.alto_words.specs.declared.fid.Fid.{Fid}
+use Rattle.laws_room.specs.alto_words.specs.Fid.{is_fid, sys_dir}
+use Rattle.laws_room.specs.alto_words.specs.declared.fid.Fid.{Fid}
 use Rattle.laws_room.proofs.Standing.{placed_stands}
 use Rattle.laws_line.proofs.inside.Coming.{body_enter, entering}
 use Rattle.laws_line.proofs.inside.Mentions.{mentions, mentions_own, named_there}
@@ -13,7 +13,7 @@ use Rattle.laws_line.proofs.inside.Spared.{behind, front, leaves_front, page_lea
 use Rattle.laws_line.proofs.inside.Throughout.{steps_both}
 use Rattle.laws_line.proofs.inside.Updates.{got_updated, named_updated, there_updated}
 use Rattle.laws_line.specs.Ready.{NamedBut, Settled, steps_of}
-use Rattle.pack_laws.proofs.Keys.{is_fid-itself, same_fid}
+use Rattle.laws_room.specs.pack_laws.proofs.Keys.{is_fid-itself, same_fid}
 use Rattle.pack_model.specs.reading.Bodies.{body_items}
 use Rattle.pack_model.specs.reading.Model.{IsNamed, Model, dir_items, root_items}
 use Rattle.pack_model.specs.operations.Rooms.{items_entered, largest_run, placed}

@@ -4,9 +4,9 @@ use Rattle.std.proofs.lemmas.List.Elements.{All-append, All-cons, All-head, All-
 use Rattle.std.specs.FinMap.{contains_key, get, get-insert}
 use Rattle.std.specs.Option.{option_map}
 use Rattle.std.specs.Prelude.{All}
-use Rattle.alto_words.specs.Fid.{is_fid}
-use Rattle.alto_words.specs.Names.{is_same_name}
-use Rattle.alto_words.specs.declared.fid.Fid.{Fid}
+use Rattle.laws_room.specs.alto_words.specs.Fid.{is_fid}
+use Rattle.laws_room.specs.alto_words.specs.Names.{is_same_name}
+use Rattle.laws_room.specs.alto_words.specs.declared.fid.Fid.{Fid}
 use Rattle.laws_line.proofs.inside.Coming.{slots_enter}
 use Rattle.laws_line.proofs.inside.FreeWords.{MoreFree, more_after, row_behind, row_widened}
 use Rattle.laws_line.proofs.inside.Runs.{IsShort}
@@ -14,7 +14,7 @@ use Rattle.laws_line.proofs.inside.Updates.{got_updated}
 use Rattle.laws_line.specs.AfterLaws.{IsDirectory, RootIsDirectory}
 use Rattle.laws_line.specs.LineLaws.{LeaveNames, LeavesNames}
 use Rattle.laws_line.specs.Ready.{steps_of}
-use Rattle.pack_laws.proofs.Keys.{fid_total, is_fid-itself, same_fid}
+use Rattle.laws_room.specs.pack_laws.proofs.Keys.{fid_total, is_fid-itself, same_fid}
 use Rattle.pack_model.specs.reading.Bodies.{File, items_in}
 use Rattle.pack_model.specs.reading.Bodies.Body.{items_of}
 use Rattle.pack_model.specs.reading.Bytes.{put_at}
@@ -25,7 +25,7 @@ use Rattle.pack_model.specs.reading.Slots.{Item, item_words}
 use Rattle.pack_model.specs.reading.Slots.Item.{entry, space}
 use Rattle.pack_model.specs.operations.Step.{Operation, items_left, new_file, on_bytes, on_items, on_leader, step, update_file}
 use Rattle.pack_model.specs.operations.Step.Operation.{cut, drop_file, enter, grow, leave, make, put, stamp, title, widen}
-use Rattle.pack_laws.proofs.Placing.{none_of_false}
+use Rattle.laws_room.specs.pack_laws.proofs.Placing.{none_of_false}
 
 -- Slots of at most 1,023 words, with so many free words in a row.
 pub record Slotted (k : ℕ) (x : File) : Type 0 where

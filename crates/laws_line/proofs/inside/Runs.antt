@@ -7,7 +7,7 @@ use Rattle.std.specs.Prelude.{All}
 use Rattle.pack_model.specs.operations.Rooms.{in_run, largest_run, left_over, most_free, placed, run, words_free}
 use Rattle.pack_model.specs.reading.Slots.{Item, item_words}
 use Rattle.pack_model.specs.reading.Slots.Item.{entry, space}
-use Rattle.laws_record.proofs.Tidying.{some_map}
+use Rattle.laws_room.specs.laws_record.proofs.Tidying.{some_map}
 
 -- a slot that a free slot's length could have
 abbrev pub IsShort : Item → Type 0

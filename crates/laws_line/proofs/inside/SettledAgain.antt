@@ -2,8 +2,8 @@
 use Rattle.std.proofs.Common.{List, [], ap, refl, subst, sym, true, ◌∙◌, ◌∷◌, ◌≡◌}
 use Rattle.std.specs.FinMap.{contains_key}
 use Rattle.std.specs.Option.{is_some}
-use Rattle.alto_words.specs.Fid.{sys_dir}
-use Rattle.alto_words.specs.declared.fid.Fid.{Fid}
+use Rattle.laws_room.specs.alto_words.specs.Fid.{sys_dir}
+use Rattle.laws_room.specs.alto_words.specs.declared.fid.Fid.{Fid}
 use Rattle.laws_line.proofs.inside.Roomy.{Roomy, directory_roomy, roomy_directory, roomy_steps, root_is_directory}
 use Rattle.laws_line.proofs.inside.Spared.{keeps_all}
 use Rattle.laws_line.proofs.inside.Throughout.{changes_leave_room, last_ready}

@@ -2,8 +2,8 @@
 use Rattle.std.proofs.Common.{None, Option, Some, [], ap, arith, refl, true, ◌∙◌, ◌∷◌, ◌≡◌}
 use Rattle.std.specs.FinMap.{contains_key, get}
 use Rattle.std.specs.Option.{is_some, option_map}
-use Rattle.alto_words.specs.Fid.{sys_dir}
-use Rattle.alto_words.specs.declared.fid.Fid.{Fid}
+use Rattle.laws_room.specs.alto_words.specs.Fid.{sys_dir}
+use Rattle.laws_room.specs.alto_words.specs.declared.fid.Fid.{Fid}
 use Rattle.laws_line.proofs.inside.Dropped.{drop_leaves_room, got_other, named_still, now, root_other, short_kept, stays}
 use Rattle.laws_line.proofs.inside.Roomy.{Roomy, Slotted, slotted_by}
 use Rattle.laws_line.proofs.inside.SettledAgain.{after_line}

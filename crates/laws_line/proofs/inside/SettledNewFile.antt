@@ -3,8 +3,8 @@ use Rattle.std.proofs.Common.{List, Some, [], ap, arith, cond, false, length, su
 use Rattle.std.proofs.lemmas.List.Elements.{All-cons, All-nil}
 use Rattle.std.specs.FinMap.{contains_key, get, get-insert}
 use Rattle.std.specs.Option.{is_some}
-use Rattle.alto_words.specs.Fid.{is_directory, sys_dir}
-use Rattle.alto_words.specs.declared.fid.Fid.{Fid}
+use Rattle.laws_room.specs.alto_words.specs.Fid.{is_directory, sys_dir}
+use Rattle.laws_room.specs.alto_words.specs.declared.fid.Fid.{Fid}
 use Rattle.laws_line.proofs.inside.NewFile.{entered, fresh_after, leaves_entered, made, made_after, new_file_leaves_room}
 use Rattle.laws_line.proofs.inside.RoomFound.{all_named, roomy_after}
 use Rattle.laws_line.proofs.inside.Roomy.{Roomy, directory_roomy, roomy_directory, roomy_enter, roomy_make, roomy_steps, root_is_directory}
@@ -15,7 +15,7 @@ use Rattle.laws_line.proofs.inside.Throughout.{steps_both}
 use Rattle.laws_line.specs.AfterLaws.{IsDirectory, NewDirectory, SettledAfterNewFile}
 use Rattle.laws_line.specs.LineLaws.{LeaveNames, new_file_line}
 use Rattle.laws_line.specs.Ready.{Settled, steps_of}
-use Rattle.pack_laws.proofs.Keys.{fid_total, is_fid-itself}
+use Rattle.laws_room.specs.pack_laws.proofs.Keys.{fid_total, is_fid-itself}
 use Rattle.pack_model.specs.reading.Bodies.Body.{data_of, items_of}
 use Rattle.pack_model.specs.operations.Committing.{pages_for_operations}
 use Rattle.pack_model.specs.reading.Model.{IsNamed, Model, room}

@@ -2,8 +2,8 @@
 use Rattle.std.proofs.Common.{List, ap, false, length, true, ℕ, ◌≡◌, ◌≤◌}
 use Rattle.std.specs.FinMap.{contains_key}
 use Rattle.std.specs.Option.{is_some}
-use Rattle.alto_words.specs.Fid.{is_system, sys_dir}
-use Rattle.alto_words.specs.declared.fid.Fid.{Fid}
+use Rattle.laws_room.specs.alto_words.specs.Fid.{is_system, sys_dir}
+use Rattle.laws_room.specs.alto_words.specs.declared.fid.Fid.{Fid}
 use Rattle.laws_line.proofs.inside.Renaming.{left, left_after, rename_leaves_room, rest, titled}
 use Rattle.laws_line.proofs.inside.RoomFound.{all_named, roomy_after}
 use Rattle.laws_line.proofs.inside.Roomy.{Roomy, directory_roomy, roomy_enter, roomy_leave, roomy_step, roomy_steps, root_is_directory}

@@ -4,10 +4,10 @@ use Rattle.std.proofs.lemmas.List.Elements.{All-cons, All-head, All-nil, All-tai
 use Rattle.std.specs.FinMap.{get}
 use Rattle.std.specs.Option.{is_some, option_map}
 use Rattle.std.specs.Prelude.{All}
-use Rattle.alto_words.proofs.Versions.{is_stored_name-fits}
-use Rattle.alto_words.specs.Fid.{serial_of, sys_dir}
-use Rattle.alto_words.specs.Names.{is_stored_name, lost}
-use Rattle.alto_words.specs.declared.fid.Fid.{Fid}
+use Rattle.laws_room.specs.alto_words.proofs.Versions.{is_stored_name-fits}
+use Rattle.laws_room.specs.alto_words.specs.Fid.{serial_of, sys_dir}
+use Rattle.laws_room.specs.alto_words.specs.Names.{is_stored_name, lost}
+use Rattle.laws_room.specs.alto_words.specs.declared.fid.Fid.{Fid}
 use Rattle.disk_records.specs.Labels.{in_range, is_free, tag}
 use Rattle.disk_records.specs.Packs.{Pack, is_usable, sector_at}
 use Rattle.disk_records.specs.Words.{word}
@@ -16,9 +16,9 @@ use Rattle.disk_records.specs.declared.shape.Shape.{Shape}
 use Rattle.laws_line.proofs.inside.Runs.{IsShort}
 use Rattle.laws_line.specs.LineLaws.{SoundIsSettled}
 use Rattle.laws_line.specs.Ready.{Settled}
-use Rattle.laws_operation.proofs.Changing.{headed}
-use Rattle.pack_laws.proofs.Placing.{leader_of_place, place_of_leader}
-use Rattle.pack_laws.proofs.Sighted.{length-sights, sights-get}
+use Rattle.laws_room.specs.laws_operation.proofs.Changing.{headed}
+use Rattle.laws_room.specs.pack_laws.proofs.Placing.{leader_of_place, place_of_leader}
+use Rattle.laws_room.specs.pack_laws.proofs.Sighted.{length-sights, sights-get}
 use Rattle.pack_model.specs.reading.Bodies.{File, body_items, described, found, is_described, items_in}
 use Rattle.pack_model.specs.reading.Bodies.Body.{items_of}
 use Rattle.pack_model.specs.reading.Bytes.{words_of}
@@ -32,13 +32,13 @@ use Rattle.pack_model.specs.reading.Slots.{Item, item_words, slots}
 use Rattle.pack_model.specs.reading.Slots.Item.{entry, space}
 use Rattle.pack_model.specs.states.Sound.{Sound}
 use Rattle.pack_model.specs.showing.View.{seen_of}
-use Rattle.laws_record.proofs.DirReads.{has_leader}
-use Rattle.laws_record.proofs.Heads.{and_right, head_of, slots_cons}
-use Rattle.laws_record.proofs.Keeping.{get-where}
-use Rattle.laws_record.proofs.LeaderSteps.{body_left, tidied_file}
-use Rattle.laws_record.proofs.Mending.{get-seen}
-use Rattle.laws_record.proofs.Reading.{get-found, get_by, read_file}
-use Rattle.laws_record.proofs.Systemic.{described_get}
+use Rattle.laws_room.specs.laws_record.proofs.DirReads.{has_leader}
+use Rattle.laws_room.specs.laws_record.proofs.Heads.{and_right, head_of, slots_cons}
+use Rattle.laws_room.specs.laws_record.proofs.Keeping.{get-where}
+use Rattle.laws_room.specs.laws_record.proofs.LeaderSteps.{body_left, tidied_file}
+use Rattle.laws_room.specs.laws_record.proofs.Mending.{get-seen}
+use Rattle.laws_room.specs.laws_record.proofs.Reading.{get-found, get_by, read_file}
+use Rattle.laws_room.specs.laws_record.proofs.Systemic.{described_get}
 use Rattle.laws_room.proofs.FreeRoom.{root_lives}
 use Rattle.laws_room.proofs.rooms.Laws.{free_is_the_room}
 

@@ -2,8 +2,8 @@
 use Rattle.std.proofs.Common.{◌++◌, ◌+◌, ◌∙◌, ◌∷◌, ◌≡◌, ◌≤◌, ◌||◌, Bool, List, [], ap, arith, cond, false, inr, leb-true, length, nat_le, refl, true, ℕ}
 use Rattle.std.specs.FinMap.{contains_key}
 use Rattle.std.specs.Option.{option_map}
-use Rattle.alto_words.specs.Fid.{is_fid, sys_dir}
-use Rattle.alto_words.specs.declared.fid.Fid.{Fid}
+use Rattle.laws_room.specs.alto_words.specs.Fid.{is_fid, sys_dir}
+use Rattle.laws_room.specs.alto_words.specs.declared.fid.Fid.{Fid}
 use Rattle.laws_line.proofs.inside.Changes.{keeps_step}
 use Rattle.laws_line.proofs.inside.FreeWords.{row_behind}
 use Rattle.laws_line.proofs.inside.Throughout.{Pages, named_kept, pages_both, pages_kept, pages_room, ready_changes, settled_ready, steps_both, through_both}

@@ -1,8 +1,8 @@
 -- Operations one after another.
 use Rattle.std.proofs.Common.{List, [], ap, arith, inl, inr, refl, sym, ℕ, ◌++◌, ◌+◌, ◌∙◌, ◌∷◌, ◌≡◌, ◌≤◌, ◌⊎◌}
 use Rattle.std.specs.FinMap.{entries}
-use Rattle.alto_words.specs.Fid.{disk_descriptor, sys_dir}
-use Rattle.alto_words.specs.declared.fid.Fid.{Fid}
+use Rattle.laws_room.specs.alto_words.specs.Fid.{disk_descriptor, sys_dir}
+use Rattle.laws_room.specs.alto_words.specs.declared.fid.Fid.{Fid}
 use Rattle.laws_line.proofs.inside.Changes.{keeps_step}
 use Rattle.laws_line.proofs.inside.Updates.{Keeps, fitting_kept}
 use Rattle.laws_line.specs.LineLaws.{ChangesLeaveRoom, LeaveNames}

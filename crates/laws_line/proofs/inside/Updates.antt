@@ -3,21 +3,21 @@ use Rattle.std.proofs.Common.{◌+◌, ◌∙◌, ◌≡◌, ◌≤◌, Bool, Li
 use Rattle.std.specs.FinMap.{contains_key, entries, get}
 use Rattle.std.specs.Option.{is_some, option_map}
 use Rattle.std.specs.Prelude.{All}
-use Rattle.alto_words.specs.Fid.{is_fid, sys_dir}
-use Rattle.alto_words.specs.declared.fid.Fid.{Fid}
+use Rattle.laws_room.specs.alto_words.specs.Fid.{is_fid, sys_dir}
+use Rattle.laws_room.specs.alto_words.specs.declared.fid.Fid.{Fid}
 use Rattle.laws_line.proofs.inside.Mentions.{Mentioned, mentioned, mentions, named_there}
 use Rattle.laws_line.proofs.inside.Runs.{IsShort}
 use Rattle.laws_line.specs.Ready.{Fitting}
-use Rattle.pack_laws.proofs.Keys.{fid_same, fid_total, same_fid}
-use Rattle.pack_laws.proofs.Mapping.{get-update}
+use Rattle.laws_room.specs.pack_laws.proofs.Keys.{fid_same, fid_total, same_fid}
+use Rattle.laws_room.specs.pack_laws.proofs.Mapping.{get-update}
 use Rattle.pack_model.specs.reading.Bodies.{File, body_items, body_length, items_in, pages_for}
 use Rattle.pack_model.specs.sessions.Maps.{update, update_found}
 use Rattle.pack_model.specs.reading.Model.{IsNamed, Model, descriptor_pages, dir_items, files_pages, root_items}
 use Rattle.pack_model.specs.operations.Rooms.{largest_run}
 use Rattle.pack_model.specs.reading.Slots.{Item}
 use Rattle.pack_model.specs.operations.Step.{update_file}
-use Rattle.laws_record.proofs.FilePages.{changed_pages}
-use Rattle.laws_record.proofs.Tidying.{some_map}
+use Rattle.laws_room.specs.laws_record.proofs.FilePages.{changed_pages}
+use Rattle.laws_room.specs.laws_record.proofs.Tidying.{some_map}
 
 -- ---- what the new models keep
 -- each leader's name has at most 39 characters

@@ -2,31 +2,31 @@
 use Rattle.std.proofs.Common.{Bool, List, Some, [], ap, arith, cond, false, inl, inr, refl, subst, suc, sym, true, ℕ, ◌%◌, ◌<◌, ◌∙◌, ◌∷◌, ◌≡◌, ◌⊎◌}
 use Rattle.std.proofs.lemmas.Bool.{cases_lt, cases_eq}
 use Rattle.std.specs.FinMap.{get, get-insert}
-use Rattle.alto_words.specs.Fid.{is_directory, is_fid}
-use Rattle.alto_words.specs.declared.fid.Fid.{Fid}
-use Rattle.disk_records.specs.Addresses.{real_of}
-use Rattle.disk_records.specs.Packs.{Pack, after, carried, sector_at}
-use Rattle.disk_records.specs.Words.{word}
-use Rattle.disk_records.specs.declared.records.Page.{Page}
-use Rattle.disk_records.specs.declared.records.Place.TheVariants.{Entry, Held, Next, Root}
-use Rattle.pack_model.specs.hints.Links.{dir_words}
-use Rattle.pack_model.specs.hints.Misled.{Misled, StandsInEntry, StandsInLink}
-use Rattle.pack_model.specs.operations.Commands.{Claim, first_page_claim, leader_claim}
-use Rattle.pack_model.specs.operations.Committing.{page_of_byte}
-use Rattle.pack_model.specs.operations.Operations.{cut_writes, release_file_writes, make_writes}
-use Rattle.pack_model.specs.operations.PageWords.{new_bytes, page_number}
-use Rattle.pack_model.specs.operations.Step.{new_file}
-use Rattle.pack_model.specs.reading.Bodies.{body_items, items_in}
-use Rattle.pack_model.specs.reading.Bodies.Body.{data_of, items_of}
-use Rattle.pack_model.specs.reading.Files.{lives, place}
-use Rattle.pack_model.specs.reading.Model.{dir_items, read_as}
-use Rattle.pack_model.specs.reading.Namings.{namings_in}
-use Rattle.pack_model.specs.reading.Sights.{sights}
-use Rattle.pack_model.specs.reading.Slots.{slots}
-use Rattle.pack_model.specs.reading.Slots.Item.{space}
-use Rattle.pack_model.specs.states.Whole.{Tidy, Whole}
-use Rattle.pack_laws.proofs.Keys.{fid_total, is_fid-itself, same_fid}
-use Rattle.laws_record.proofs.Copying.{place_carried}
+use Rattle.laws_operation.specs.alto_words.specs.Fid.{is_directory, is_fid}
+use Rattle.laws_operation.specs.alto_words.specs.declared.fid.Fid.{Fid}
+use Rattle.laws_operation.specs.disk_records.specs.Addresses.{real_of}
+use Rattle.laws_operation.specs.disk_records.specs.Packs.{Pack, after, carried, sector_at}
+use Rattle.laws_operation.specs.disk_records.specs.Words.{word}
+use Rattle.laws_operation.specs.disk_records.specs.declared.records.Page.{Page}
+use Rattle.laws_operation.specs.disk_records.specs.declared.records.Place.TheVariants.{Entry, Held, Next, Root}
+use Rattle.laws_operation.specs.pack_model.specs.hints.Links.{dir_words}
+use Rattle.laws_operation.specs.pack_model.specs.hints.Misled.{Misled, StandsInEntry, StandsInLink}
+use Rattle.laws_operation.specs.pack_model.specs.operations.Commands.{Claim, first_page_claim, leader_claim}
+use Rattle.laws_operation.specs.pack_model.specs.operations.Committing.{page_of_byte}
+use Rattle.laws_operation.specs.pack_model.specs.operations.Operations.{cut_writes, release_file_writes, make_writes}
+use Rattle.laws_operation.specs.pack_model.specs.operations.PageWords.{new_bytes, page_number}
+use Rattle.laws_operation.specs.pack_model.specs.operations.Step.{new_file}
+use Rattle.laws_operation.specs.pack_model.specs.reading.Bodies.{body_items, items_in}
+use Rattle.laws_operation.specs.pack_model.specs.reading.Bodies.Body.{data_of, items_of}
+use Rattle.laws_operation.specs.pack_model.specs.reading.Files.{lives, place}
+use Rattle.laws_operation.specs.pack_model.specs.reading.Model.{dir_items, read_as}
+use Rattle.laws_operation.specs.pack_model.specs.reading.Namings.{namings_in}
+use Rattle.laws_operation.specs.pack_model.specs.reading.Sights.{sights}
+use Rattle.laws_operation.specs.pack_model.specs.reading.Slots.{slots}
+use Rattle.laws_operation.specs.pack_model.specs.reading.Slots.Item.{space}
+use Rattle.laws_operation.specs.pack_model.specs.states.Whole.{Tidy, Whole}
+use Rattle.laws_operation.specs.pack_laws.proofs.Keys.{fid_total, is_fid-itself, same_fid}
+use Rattle.laws_operation.specs.laws_record.proofs.Copying.{place_carried}
 use Rattle.laws_operation.proofs.Concerning.{ends_there, head_label, label_is, never_carried, none_there, only_two, page_label, page_there, same_front, same_places}
 use Rattle.laws_operation.proofs.Cutting.{cut_law}
 use Rattle.laws_operation.proofs.Dropped.{release_law}

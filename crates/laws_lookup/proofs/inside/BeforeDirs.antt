@@ -1,28 +1,28 @@
 -- Hints that mislead after a leaving and an entering.
 use Rattle.std.proofs.Common.{Bool, List, Some, [], ap, false, inl, inr, refl, subst, sym, true, ℕ, length, ◌++◌, ◌+◌, ◌/◌, ◌∙◌, ◌∷◌, ◌≡◌, ◌⊎◌, zero, suc}
 use Rattle.std.specs.Prelude.{Contains}
-use Rattle.alto_words.specs.Fid.{is_fid}
-use Rattle.alto_words.specs.declared.fid.Fid.{Fid}
-use Rattle.disk_records.specs.Packs.{Pack, after, carried, sector_at}
-use Rattle.disk_records.specs.Words.{word}
-use Rattle.disk_records.specs.declared.records.Page.{Page}
-use Rattle.disk_records.specs.declared.records.Place.TheVariants.{Entry, Held, Next, Root}
-use Rattle.pack_model.specs.hints.Links.{dir_words}
-use Rattle.pack_model.specs.hints.Misled.{Misled, StandsInEntry}
-use Rattle.pack_model.specs.operations.Commands.{values_writes}
-use Rattle.pack_model.specs.operations.Entering.{EntryRoom, entry_value, values_first}
-use Rattle.pack_model.specs.operations.PageWords.{freed_value}
-use Rattle.pack_model.specs.operations.Rooms.{left_over}
-use Rattle.pack_model.specs.reading.Files.{place}
-use Rattle.pack_model.specs.reading.Namings.{namings_in}
-use Rattle.pack_model.specs.reading.Sights.{sights}
-use Rattle.pack_model.specs.reading.SlotWords.{SlotAt, address_word, slots_at}
-use Rattle.pack_model.specs.reading.Slots.{Item, all_words, entry_length, item_words}
-use Rattle.pack_model.specs.reading.Slots.Item.{entry, space}
-use Rattle.pack_model.specs.states.Whole.{Whole}
-use Rattle.pack_laws.proofs.Keys.{same_fid}
-use Rattle.laws_record.proofs.Carried.{values_carried}
-use Rattle.laws_record.proofs.Copying.{place_carried}
+use Rattle.laws_operation.specs.alto_words.specs.Fid.{is_fid}
+use Rattle.laws_operation.specs.alto_words.specs.declared.fid.Fid.{Fid}
+use Rattle.laws_operation.specs.disk_records.specs.Packs.{Pack, after, carried, sector_at}
+use Rattle.laws_operation.specs.disk_records.specs.Words.{word}
+use Rattle.laws_operation.specs.disk_records.specs.declared.records.Page.{Page}
+use Rattle.laws_operation.specs.disk_records.specs.declared.records.Place.TheVariants.{Entry, Held, Next, Root}
+use Rattle.laws_operation.specs.pack_model.specs.hints.Links.{dir_words}
+use Rattle.laws_operation.specs.pack_model.specs.hints.Misled.{Misled, StandsInEntry}
+use Rattle.laws_operation.specs.pack_model.specs.operations.Commands.{values_writes}
+use Rattle.laws_operation.specs.pack_model.specs.operations.Entering.{EntryRoom, entry_value, values_first}
+use Rattle.laws_operation.specs.pack_model.specs.operations.PageWords.{freed_value}
+use Rattle.laws_operation.specs.pack_model.specs.operations.Rooms.{left_over}
+use Rattle.laws_operation.specs.pack_model.specs.reading.Files.{place}
+use Rattle.laws_operation.specs.pack_model.specs.reading.Namings.{namings_in}
+use Rattle.laws_operation.specs.pack_model.specs.reading.Sights.{sights}
+use Rattle.laws_operation.specs.pack_model.specs.reading.SlotWords.{SlotAt, address_word, slots_at}
+use Rattle.laws_operation.specs.pack_model.specs.reading.Slots.{Item, all_words, entry_length, item_words}
+use Rattle.laws_operation.specs.pack_model.specs.reading.Slots.Item.{entry, space}
+use Rattle.laws_operation.specs.pack_model.specs.states.Whole.{Whole}
+use Rattle.laws_operation.specs.pack_laws.proofs.Keys.{same_fid}
+use Rattle.laws_operation.specs.laws_record.proofs.Carried.{values_carried}
+use Rattle.laws_operation.specs.laws_record.proofs.Copying.{place_carried}
 use Rattle.laws_operation.proofs.Concerning.{events_are, values_of}
 use Rattle.laws_operation.proofs.enter.Laws.{enter_carries_out}
 use Rattle.laws_operation.proofs.places.Laws.{values_keep_places}

@@ -4,36 +4,36 @@ use Rattle.std.proofs.lemmas.List.Folds.{list_any-append}
 use Rattle.std.specs.FinMap.{get, get-remove, remove}
 use Rattle.std.specs.List.{list_any}
 use Rattle.std.specs.Option.{is_some, option_map}
-use Rattle.alto_words.specs.Fid.{disk_descriptor, is_fid, sys_dir}
-use Rattle.alto_words.specs.declared.fid.Fid.{Fid}
-use Rattle.disk_records.proofs.Growing.{after-append}
-use Rattle.disk_records.specs.Commands.{value_writes}
-use Rattle.disk_records.specs.Packs.{Pack, after, sector_at}
-use Rattle.disk_records.specs.declared.records.Event.{Event}
-use Rattle.disk_records.specs.declared.records.Page.{Page}
-use Rattle.disk_records.specs.declared.records.Place.{Place}
-use Rattle.disk_records.specs.declared.records.Place.TheVariants.{Entry, Held, Next, Root}
-use Rattle.pack_model.specs.hints.Links.{dir_words}
-use Rattle.pack_model.specs.hints.Misled.{IsOnDisk, Misled, StandsInEntry, StandsInLink}
-use Rattle.pack_model.specs.operations.Operations.{drop_writes, release_file_writes}
-use Rattle.pack_model.specs.operations.PageWords.{freed_value}
-use Rattle.pack_model.specs.operations.Step.{file_without, item_without, items_without, step}
-use Rattle.pack_model.specs.operations.Step.Operation.{drop_file}
-use Rattle.pack_model.specs.reading.Bodies.{Body, File, items_in}
-use Rattle.pack_model.specs.reading.Bodies.Body.{data_of, items_of}
-use Rattle.pack_model.specs.reading.Bytes.{words_of}
-use Rattle.pack_model.specs.reading.Files.{lives}
-use Rattle.pack_model.specs.reading.Model.{Model, dir_items, read_as}
-use Rattle.pack_model.specs.reading.Namings.{Naming, namings_in}
-use Rattle.pack_model.specs.reading.Sights.{sights}
-use Rattle.pack_model.specs.reading.Slots.{Item, all_words, item_words, slots}
-use Rattle.pack_model.specs.reading.Slots.Item.{entry, space}
-use Rattle.pack_model.specs.states.Whole.{Tidy, Whole}
-use Rattle.pack_laws.proofs.Keys.{fid_same, fid_total, is_fid-itself, same_fid}
-use Rattle.pack_laws.proofs.Mapping.{get-map_values}
-use Rattle.laws_record.proofs.Entered.{namings_in-append}
-use Rattle.laws_record.proofs.Tidying.{or_false, or_false_right}
-use Rattle.laws_record.specs.DirLaws.{Frees}
+use Rattle.laws_operation.specs.alto_words.specs.Fid.{disk_descriptor, is_fid, sys_dir}
+use Rattle.laws_operation.specs.alto_words.specs.declared.fid.Fid.{Fid}
+use Rattle.laws_operation.specs.disk_records.proofs.Growing.{after-append}
+use Rattle.laws_operation.specs.disk_records.specs.Commands.{value_writes}
+use Rattle.laws_operation.specs.disk_records.specs.Packs.{Pack, after, sector_at}
+use Rattle.laws_operation.specs.disk_records.specs.declared.records.Event.{Event}
+use Rattle.laws_operation.specs.disk_records.specs.declared.records.Page.{Page}
+use Rattle.laws_operation.specs.disk_records.specs.declared.records.Place.{Place}
+use Rattle.laws_operation.specs.disk_records.specs.declared.records.Place.TheVariants.{Entry, Held, Next, Root}
+use Rattle.laws_operation.specs.pack_model.specs.hints.Links.{dir_words}
+use Rattle.laws_operation.specs.pack_model.specs.hints.Misled.{IsOnDisk, Misled, StandsInEntry, StandsInLink}
+use Rattle.laws_operation.specs.pack_model.specs.operations.Operations.{drop_writes, release_file_writes}
+use Rattle.laws_operation.specs.pack_model.specs.operations.PageWords.{freed_value}
+use Rattle.laws_operation.specs.pack_model.specs.operations.Step.{file_without, item_without, items_without, step}
+use Rattle.laws_operation.specs.pack_model.specs.operations.Step.Operation.{drop_file}
+use Rattle.laws_operation.specs.pack_model.specs.reading.Bodies.{Body, File, items_in}
+use Rattle.laws_operation.specs.pack_model.specs.reading.Bodies.Body.{data_of, items_of}
+use Rattle.laws_operation.specs.pack_model.specs.reading.Bytes.{words_of}
+use Rattle.laws_operation.specs.pack_model.specs.reading.Files.{lives}
+use Rattle.laws_operation.specs.pack_model.specs.reading.Model.{Model, dir_items, read_as}
+use Rattle.laws_operation.specs.pack_model.specs.reading.Namings.{Naming, namings_in}
+use Rattle.laws_operation.specs.pack_model.specs.reading.Sights.{sights}
+use Rattle.laws_operation.specs.pack_model.specs.reading.Slots.{Item, all_words, item_words, slots}
+use Rattle.laws_operation.specs.pack_model.specs.reading.Slots.Item.{entry, space}
+use Rattle.laws_operation.specs.pack_model.specs.states.Whole.{Tidy, Whole}
+use Rattle.laws_operation.specs.pack_laws.proofs.Keys.{fid_same, fid_total, is_fid-itself, same_fid}
+use Rattle.laws_operation.specs.pack_laws.proofs.Mapping.{get-map_values}
+use Rattle.laws_operation.specs.laws_record.proofs.Entered.{namings_in-append}
+use Rattle.laws_operation.specs.laws_record.proofs.Tidying.{or_false, or_false_right}
+use Rattle.laws_operation.specs.laws_record.specs.DirLaws.{Frees}
 use Rattle.laws_operation.proofs.drop.Laws.{drop_carries_out, release_carries_out}
 use Rattle.laws_operation.proofs.entries.Laws.{items_are_slots}
 use Rattle.laws_operation.proofs.places.Laws.{model_has_the_living}

@@ -1,28 +1,28 @@
 -- Hints that mislead after a growth and a widening.
 use Rattle.std.proofs.Common.{List, Some, [], ap, arith, drop, false, inl, inr, length, length-drop, min, refl, subst, suc, sym, true, ℕ, ◌%◌, ◌+◌, ◌-◌, ◌/◌, ◌<◌, ◌∙◌, ◌∷◌, ◌≡◌, ◌≤◌, ◌⊎◌}
 use Rattle.std.proofs.lemmas.Bool.{cases_eq, cases_lt}
-use Rattle.alto_words.specs.Fid.{is_fid}
-use Rattle.alto_words.specs.declared.fid.Fid.{Fid}
-use Rattle.disk_records.specs.Addresses.{real_of}
-use Rattle.disk_records.specs.Labels.{page_of}
-use Rattle.disk_records.specs.Packs.{Pack, after, carried, sector_at}
-use Rattle.disk_records.specs.Words.{word}
-use Rattle.disk_records.specs.declared.records.Page.{Page}
-use Rattle.disk_records.specs.declared.records.Place.TheVariants.{Entry, Held, Next, Root}
-use Rattle.pack_model.specs.hints.Links.{dir_words}
-use Rattle.pack_model.specs.hints.Misled.{Misled, StandsInLink}
-use Rattle.pack_model.specs.operations.Commands.{Claim, Claimable, claims_of, grown_claims, grown_label, grown_value, last_room}
-use Rattle.pack_model.specs.operations.Committing.{page_of_byte, pages_added}
-use Rattle.pack_model.specs.operations.Operations.{grow_writes}
-use Rattle.pack_model.specs.operations.PageWords.{link_to_first, page_number}
-use Rattle.pack_model.specs.reading.Bytes.{bytes_of}
-use Rattle.pack_model.specs.reading.Files.{file_bytes, place}
-use Rattle.pack_model.specs.reading.Sights.{sights}
-use Rattle.pack_model.specs.reading.Slots.{slots}
-use Rattle.pack_model.specs.reading.Slots.Item.{space}
-use Rattle.pack_model.specs.states.Whole.{Whole}
-use Rattle.pack_laws.proofs.Keys.{same_fid}
-use Rattle.laws_record.proofs.Copying.{place_carried}
+use Rattle.laws_operation.specs.alto_words.specs.Fid.{is_fid}
+use Rattle.laws_operation.specs.alto_words.specs.declared.fid.Fid.{Fid}
+use Rattle.laws_operation.specs.disk_records.specs.Addresses.{real_of}
+use Rattle.laws_operation.specs.disk_records.specs.Labels.{page_of}
+use Rattle.laws_operation.specs.disk_records.specs.Packs.{Pack, after, carried, sector_at}
+use Rattle.laws_operation.specs.disk_records.specs.Words.{word}
+use Rattle.laws_operation.specs.disk_records.specs.declared.records.Page.{Page}
+use Rattle.laws_operation.specs.disk_records.specs.declared.records.Place.TheVariants.{Entry, Held, Next, Root}
+use Rattle.laws_operation.specs.pack_model.specs.hints.Links.{dir_words}
+use Rattle.laws_operation.specs.pack_model.specs.hints.Misled.{Misled, StandsInLink}
+use Rattle.laws_operation.specs.pack_model.specs.operations.Commands.{Claim, Claimable, claims_of, grown_claims, grown_label, grown_value, last_room}
+use Rattle.laws_operation.specs.pack_model.specs.operations.Committing.{page_of_byte, pages_added}
+use Rattle.laws_operation.specs.pack_model.specs.operations.Operations.{grow_writes}
+use Rattle.laws_operation.specs.pack_model.specs.operations.PageWords.{link_to_first, page_number}
+use Rattle.laws_operation.specs.pack_model.specs.reading.Bytes.{bytes_of}
+use Rattle.laws_operation.specs.pack_model.specs.reading.Files.{file_bytes, place}
+use Rattle.laws_operation.specs.pack_model.specs.reading.Sights.{sights}
+use Rattle.laws_operation.specs.pack_model.specs.reading.Slots.{slots}
+use Rattle.laws_operation.specs.pack_model.specs.reading.Slots.Item.{space}
+use Rattle.laws_operation.specs.pack_model.specs.states.Whole.{Whole}
+use Rattle.laws_operation.specs.pack_laws.proofs.Keys.{same_fid}
+use Rattle.laws_operation.specs.laws_record.proofs.Copying.{place_carried}
 use Rattle.laws_operation.proofs.Grown.{grow_law}
 use Rattle.laws_operation.proofs.GrownLinks.{IsClaim, Rowed, grown_place, label_is, later, none_behind, rows, same_front}
 use Rattle.laws_operation.proofs.Widening.{widen_law}

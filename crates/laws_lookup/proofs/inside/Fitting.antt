@@ -2,17 +2,17 @@
 use Rattle.std.proofs.Common.{Bool, List, [], ap, false, not, refl, sym, true, ℕ, ◌&&◌, ◌∙◌, ◌∷◌, ◌≡◌, ◌||◌}
 use Rattle.std.specs.FinMap.{entries}
 use Rattle.std.specs.List.{list_any}
-use Rattle.alto_words.specs.Fid.{disk_descriptor, is_directory, is_fid, sys_dir}
-use Rattle.alto_words.specs.Names.{is_same_name}
-use Rattle.alto_words.specs.declared.fid.Fid.{Fid}
-use Rattle.pack_model.specs.reading.Files.{lives}
-use Rattle.pack_model.specs.reading.Model.{read_as}
-use Rattle.pack_model.specs.reading.Namings.{AllKept, Naming, alike, clashes, descriptor_name, fits, is_kept, is_own, keeps_system, may_stand, namings, sys_dir_name}
-use Rattle.pack_model.specs.reading.Sights.{sights}
-use Rattle.pack_laws.proofs.Keys.{same_fid}
-use Rattle.laws_record.proofs.Fitting.{fits_own, fits_root, same_sym, same_trans}
-use Rattle.laws_record.proofs.Heads.{and_left, and_right}
-use Rattle.laws_record.proofs.Tidying.{or_false_left, or_false_right}
+use Rattle.laws_operation.specs.alto_words.specs.Fid.{disk_descriptor, is_directory, is_fid, sys_dir}
+use Rattle.laws_operation.specs.alto_words.specs.Names.{is_same_name}
+use Rattle.laws_operation.specs.alto_words.specs.declared.fid.Fid.{Fid}
+use Rattle.laws_operation.specs.pack_model.specs.reading.Files.{lives}
+use Rattle.laws_operation.specs.pack_model.specs.reading.Model.{read_as}
+use Rattle.laws_operation.specs.pack_model.specs.reading.Namings.{AllKept, Naming, alike, clashes, descriptor_name, fits, is_kept, is_own, keeps_system, may_stand, namings, sys_dir_name}
+use Rattle.laws_operation.specs.pack_model.specs.reading.Sights.{sights}
+use Rattle.laws_operation.specs.pack_laws.proofs.Keys.{same_fid}
+use Rattle.laws_operation.specs.laws_record.proofs.Fitting.{fits_own, fits_root, same_sym, same_trans}
+use Rattle.laws_operation.specs.laws_record.proofs.Heads.{and_left, and_right}
+use Rattle.laws_operation.specs.laws_record.proofs.Tidying.{or_false_left, or_false_right}
 use Rattle.laws_operation.proofs.entries.Laws.{read_entries_are_kept}
 use Rattle.laws_lookup.specs.EnteringLaws.{ApartEntryFits, ApartEntryMayBeEntered}
 

@@ -3,20 +3,20 @@ use Rattle.std.proofs.Common.{Bool, List, None, Option, Some, [], ap, arith, con
 use Rattle.std.proofs.lemmas.List.Elements.{Contains-append_cases, Contains-append_right, Contains-push_cases}
 use Rattle.std.specs.List.{list_any}
 use Rattle.std.specs.Prelude.{Contains, is_none, nat_lt}
-use Rattle.alto_words.specs.Fid.{is_fid}
-use Rattle.alto_words.specs.Names.{is_same_name, version_of}
-use Rattle.alto_words.specs.declared.fid.Fid.{Fid}
-use Rattle.alto_words.specs.declared.wanted.Wanted.{Wanted}
-use Rattle.alto_words.specs.declared.wanted.Wanted.TheVariants.{Exact, Newest}
-use Rattle.pack_model.specs.hints.Links.{dir_slots}
-use Rattle.pack_model.specs.reading.Lookup.{EntryAt, is_meant, meant_by, meant_item, slot_of_entry, version_met}
-use Rattle.pack_model.specs.reading.Model.{dir_items}
-use Rattle.pack_model.specs.reading.SlotWords.{SlotAt, address_at, slots_at}
-use Rattle.pack_model.specs.reading.Slots.{Item, all_words, item_words, slots}
-use Rattle.pack_model.specs.reading.Slots.Item.{entry, space}
-use Rattle.pack_model.specs.reading.Versions.{exact, has_base}
+use Rattle.laws_operation.specs.alto_words.specs.Fid.{is_fid}
+use Rattle.laws_operation.specs.alto_words.specs.Names.{is_same_name, version_of}
+use Rattle.laws_operation.specs.alto_words.specs.declared.fid.Fid.{Fid}
+use Rattle.laws_operation.specs.alto_words.specs.declared.wanted.Wanted.{Wanted}
+use Rattle.laws_operation.specs.alto_words.specs.declared.wanted.Wanted.TheVariants.{Exact, Newest}
+use Rattle.laws_operation.specs.pack_model.specs.hints.Links.{dir_slots}
+use Rattle.laws_operation.specs.pack_model.specs.reading.Lookup.{EntryAt, is_meant, meant_by, meant_item, slot_of_entry, version_met}
+use Rattle.laws_operation.specs.pack_model.specs.reading.Model.{dir_items}
+use Rattle.laws_operation.specs.pack_model.specs.reading.SlotWords.{SlotAt, address_at, slots_at}
+use Rattle.laws_operation.specs.pack_model.specs.reading.Slots.{Item, all_words, item_words, slots}
+use Rattle.laws_operation.specs.pack_model.specs.reading.Slots.Item.{entry, space}
+use Rattle.laws_operation.specs.pack_model.specs.reading.Versions.{exact, has_base}
 use Rattle.laws_operation.specs.EntryLaws.{is_of_another}
-use Rattle.laws_record.proofs.Heads.{and_left, and_right}
+use Rattle.laws_operation.specs.laws_record.proofs.Heads.{and_left, and_right}
 use Rattle.laws_lookup.specs.SlotLaws.{AbsentNameIsOpen, EntryAtIsASlot, FoundEntryHasTheName, FoundEntrySplitsTheSlots, FoundEntryStands, HasNameWanted}
 
 -- ---- slots of a list

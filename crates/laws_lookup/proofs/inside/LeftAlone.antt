@@ -1,17 +1,17 @@
 -- Record writes that concern one file leave all others as they were.
 use Rattle.std.proofs.Common.{List, [], ap, sym, ℕ, ◌∙◌, ◌∷◌, length}
 use Rattle.std.specs.Option.{is_some}
-use Rattle.alto_words.specs.declared.fid.Fid.{Fid}
-use Rattle.disk_records.specs.Packs.{Pack, after, sector_at}
-use Rattle.disk_records.specs.declared.records.Event.{Event}
-use Rattle.pack_model.specs.operations.Commands.{values_writes}
-use Rattle.pack_model.specs.operations.Committing.{page_of_byte}
-use Rattle.pack_model.specs.operations.Operations.{cut_writes, release_file_writes, grow_writes, make_writes}
-use Rattle.pack_model.specs.operations.PageWords.{page_number}
-use Rattle.pack_model.specs.reading.Files.{file_bytes}
-use Rattle.pack_model.specs.reading.Sights.{sights}
-use Rattle.pack_model.specs.states.Whole.{Whole}
-use Rattle.laws_record.proofs.Copying.{place_carried}
+use Rattle.laws_operation.specs.alto_words.specs.declared.fid.Fid.{Fid}
+use Rattle.laws_operation.specs.disk_records.specs.Packs.{Pack, after, sector_at}
+use Rattle.laws_operation.specs.disk_records.specs.declared.records.Event.{Event}
+use Rattle.laws_operation.specs.pack_model.specs.operations.Commands.{values_writes}
+use Rattle.laws_operation.specs.pack_model.specs.operations.Committing.{page_of_byte}
+use Rattle.laws_operation.specs.pack_model.specs.operations.Operations.{cut_writes, release_file_writes, grow_writes, make_writes}
+use Rattle.laws_operation.specs.pack_model.specs.operations.PageWords.{page_number}
+use Rattle.laws_operation.specs.pack_model.specs.reading.Files.{file_bytes}
+use Rattle.laws_operation.specs.pack_model.specs.reading.Sights.{sights}
+use Rattle.laws_operation.specs.pack_model.specs.states.Whole.{Whole}
+use Rattle.laws_operation.specs.laws_record.proofs.Copying.{place_carried}
 use Rattle.laws_operation.proofs.Cutting.{cut_law}
 use Rattle.laws_operation.proofs.Dropped.{release_law}
 use Rattle.laws_operation.proofs.Grown.{grow_law}

@@ -1,12 +1,12 @@
 -- Words that were followed and misled.
 use Rattle.std.proofs.Common.{ap, refl, sym, ℕ, ◌<◌, ◌∙◌, ◌≡◌}
-use Rattle.disk_records.proofs.Reals.{at_of-back}
-use Rattle.disk_records.specs.Addresses.{pages_of, real_of}
-use Rattle.disk_records.specs.Packs.{after, carried, label_found}
-use Rattle.disk_records.specs.declared.records.Place.{Place}
-use Rattle.disk_records.specs.declared.records.Place.TheVariants.{Entry, Held, Next, Root}
-use Rattle.disk_records.specs.declared.shape.Shape.{Shape}
-use Rattle.pack_model.specs.hints.Misled.{IsAddressOf}
+use Rattle.laws_operation.specs.disk_records.proofs.Reals.{at_of-back}
+use Rattle.laws_operation.specs.disk_records.specs.Addresses.{pages_of, real_of}
+use Rattle.laws_operation.specs.disk_records.specs.Packs.{after, carried, label_found}
+use Rattle.laws_operation.specs.disk_records.specs.declared.records.Place.{Place}
+use Rattle.laws_operation.specs.disk_records.specs.declared.records.Place.TheVariants.{Entry, Held, Next, Root}
+use Rattle.laws_operation.specs.disk_records.specs.declared.shape.Shape.{Shape}
+use Rattle.laws_operation.specs.pack_model.specs.hints.Misled.{IsAddressOf}
 use Rattle.laws_lookup.specs.HintLaws.{HintMisledBefore, HintNamesOneSector, LabelOfAnotherPageMisleads, LinkMeansTheNextPage, NoSectorMisleads}
 
 -- ---- one sector

@@ -3,17 +3,17 @@ use Rattle.std.proofs.Common.{Bool, List, None, Option, Some, [], ap, arith, con
 use Rattle.std.proofs.lemmas.Bool.{cases_lt, leb-true, lt-ltb}
 use Rattle.std.specs.List.{list_all}
 use Rattle.std.specs.Prelude.{is_none}
-use Rattle.alto_words.proofs.Forms.{stored_is_made}
-use Rattle.alto_words.proofs.Ordered.{same_parts}
-use Rattle.alto_words.specs.Names.{base_of, is_same_name, is_stored_name, most_version, version_of, versioned}
-use Rattle.alto_words.specs.declared.fid.Fid.{Fid}
-use Rattle.alto_words.specs.declared.wanted.Wanted.TheVariants.{Exact, Newest}
-use Rattle.disk_records.specs.Words.{word}
-use Rattle.pack_model.specs.hints.Links.{dir_words}
-use Rattle.pack_model.specs.reading.Slots.{Item, and_then, first_length, is_entry, item_words, slot_at, slot_fid, slot_name, slot_of, slots_after}
-use Rattle.pack_model.specs.reading.Slots.Item.{entry, space}
-use Rattle.pack_model.specs.reading.Versions.{Entered, exact, greatest_version, has_base, newest_from, version_found}
-use Rattle.laws_record.proofs.Heads.{and_left, and_right}
+use Rattle.laws_operation.specs.alto_words.proofs.Forms.{stored_is_made}
+use Rattle.laws_operation.specs.alto_words.proofs.Ordered.{same_parts}
+use Rattle.laws_operation.specs.alto_words.specs.Names.{base_of, is_same_name, is_stored_name, most_version, version_of, versioned}
+use Rattle.laws_operation.specs.alto_words.specs.declared.fid.Fid.{Fid}
+use Rattle.laws_operation.specs.alto_words.specs.declared.wanted.Wanted.TheVariants.{Exact, Newest}
+use Rattle.laws_operation.specs.disk_records.specs.Words.{word}
+use Rattle.laws_operation.specs.pack_model.specs.hints.Links.{dir_words}
+use Rattle.laws_operation.specs.pack_model.specs.reading.Slots.{Item, and_then, first_length, is_entry, item_words, slot_at, slot_fid, slot_name, slot_of, slots_after}
+use Rattle.laws_operation.specs.pack_model.specs.reading.Slots.Item.{entry, space}
+use Rattle.laws_operation.specs.pack_model.specs.reading.Versions.{Entered, exact, greatest_version, has_base, newest_from, version_found}
+use Rattle.laws_operation.specs.laws_record.proofs.Heads.{and_left, and_right}
 use Rattle.laws_operation.proofs.entries.Laws.{items_are_slots}
 use Rattle.laws_lookup.specs.NewNameLaws.{NewNameIsAbsent, NewNameIsAbsentInTheModel, SlotsHaveStoredNames, has_stored_name}
 

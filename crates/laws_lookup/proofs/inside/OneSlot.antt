@@ -1,16 +1,16 @@
 -- An address word is that of one slot, and a hint word means one page.
 use Rattle.std.proofs.Common.{List, Some, [], ap, arith, length, sym, ℕ, ◌+◌, ◌<◌, ◌∙◌, ◌∷◌, ◌≡◌, inl, inr}
 use Rattle.std.specs.Prelude.{Contains}
-use Rattle.alto_words.specs.declared.fid.Fid.{Fid}
-use Rattle.disk_records.specs.Packs.{Pack}
-use Rattle.disk_records.specs.declared.records.Page.{Page}
-use Rattle.disk_records.specs.declared.records.Place.TheVariants.{Entry, Held, Next, Root}
-use Rattle.pack_model.specs.hints.Links.{dir_words}
-use Rattle.pack_model.specs.hints.Misled.{StandsInEntry, StandsInLink}
-use Rattle.pack_model.specs.reading.SlotWords.{SlotAt, address_at, slots_at}
-use Rattle.pack_model.specs.reading.Slots.{Item, entry_length, item_words, slots}
-use Rattle.pack_model.specs.reading.Slots.Item.{entry}
-use Rattle.laws_record.proofs.Addressing.{entry_words_many}
+use Rattle.laws_operation.specs.alto_words.specs.declared.fid.Fid.{Fid}
+use Rattle.laws_operation.specs.disk_records.specs.Packs.{Pack}
+use Rattle.laws_operation.specs.disk_records.specs.declared.records.Page.{Page}
+use Rattle.laws_operation.specs.disk_records.specs.declared.records.Place.TheVariants.{Entry, Held, Next, Root}
+use Rattle.laws_operation.specs.pack_model.specs.hints.Links.{dir_words}
+use Rattle.laws_operation.specs.pack_model.specs.hints.Misled.{StandsInEntry, StandsInLink}
+use Rattle.laws_operation.specs.pack_model.specs.reading.SlotWords.{SlotAt, address_at, slots_at}
+use Rattle.laws_operation.specs.pack_model.specs.reading.Slots.{Item, entry_length, item_words, slots}
+use Rattle.laws_operation.specs.pack_model.specs.reading.Slots.Item.{entry}
+use Rattle.laws_operation.specs.laws_record.proofs.Addressing.{entry_words_many}
 use Rattle.laws_lookup.proofs.inside.Found.{in_cases, none_in}
 use Rattle.laws_lookup.proofs.Replacing.{range}
 use Rattle.laws_lookup.specs.HintLaws.{PlaceMeansOnePage}

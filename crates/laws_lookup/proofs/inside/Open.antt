@@ -4,21 +4,21 @@ use Rattle.std.proofs.lemmas.List.Folds.{list_any-append}
 use Rattle.std.specs.FinMap.{get, get-insert, get-remove, remove}
 use Rattle.std.specs.List.{list_any}
 use Rattle.std.specs.Option.{option_map, option_or, unwrap_or}
-use Rattle.alto_words.specs.Fid.{is_directory, is_fid}
-use Rattle.alto_words.specs.Names.{is_same_name}
-use Rattle.alto_words.specs.declared.fid.Fid.{Fid}
-use Rattle.pack_model.specs.operations.Rooms.{in_run, items_entered, left_over, most_free, placed, run}
-use Rattle.pack_model.specs.operations.Step.{body_bytes, file_without, item_without, items_left, items_without, new_body, new_file, on_items}
-use Rattle.pack_model.specs.operations.Step.Operation.{cut, drop_file, enter, grow, leave, make, put, stamp, title, widen}
-use Rattle.pack_model.specs.reading.Bodies.{Body, File, Files, body_items, items_in}
-use Rattle.pack_model.specs.reading.Bodies.Body.{data_of, items_of}
-use Rattle.pack_model.specs.reading.Slots.{Item, item_words}
-use Rattle.pack_model.specs.reading.Slots.Item.{entry, space}
-use Rattle.pack_model.specs.sessions.Maps.{update}
-use Rattle.pack_laws.proofs.Keys.{fid_same, fid_total, same_fid}
-use Rattle.pack_laws.proofs.Mapping.{get-map_values, get-update}
-use Rattle.laws_record.proofs.RoomPlaced.{run_is}
-use Rattle.laws_record.proofs.Tidying.{or_false, or_false_left, or_false_right}
+use Rattle.laws_operation.specs.alto_words.specs.Fid.{is_directory, is_fid}
+use Rattle.laws_operation.specs.alto_words.specs.Names.{is_same_name}
+use Rattle.laws_operation.specs.alto_words.specs.declared.fid.Fid.{Fid}
+use Rattle.laws_operation.specs.pack_model.specs.operations.Rooms.{in_run, items_entered, left_over, most_free, placed, run}
+use Rattle.laws_operation.specs.pack_model.specs.operations.Step.{body_bytes, file_without, item_without, items_left, items_without, new_body, new_file, on_items}
+use Rattle.laws_operation.specs.pack_model.specs.operations.Step.Operation.{cut, drop_file, enter, grow, leave, make, put, stamp, title, widen}
+use Rattle.laws_operation.specs.pack_model.specs.reading.Bodies.{Body, File, Files, body_items, items_in}
+use Rattle.laws_operation.specs.pack_model.specs.reading.Bodies.Body.{data_of, items_of}
+use Rattle.laws_operation.specs.pack_model.specs.reading.Slots.{Item, item_words}
+use Rattle.laws_operation.specs.pack_model.specs.reading.Slots.Item.{entry, space}
+use Rattle.laws_operation.specs.pack_model.specs.sessions.Maps.{update}
+use Rattle.laws_operation.specs.pack_laws.proofs.Keys.{fid_same, fid_total, same_fid}
+use Rattle.laws_operation.specs.pack_laws.proofs.Mapping.{get-map_values, get-update}
+use Rattle.laws_operation.specs.laws_record.proofs.RoomPlaced.{run_is}
+use Rattle.laws_operation.specs.laws_record.proofs.Tidying.{or_false, or_false_left, or_false_right}
 use Rattle.laws_operation.specs.EntryLaws.{is_of_another}
 use Rattle.laws_lookup.specs.NameStayLaws.{OpenNameStaysOpen, SlotsStay}
 

@@ -2,27 +2,27 @@
 use Rattle.std.proofs.Common.{List, [], ap, append-nil, arith, inl, inr, length, refl, subst, sym, true, ℕ, ◌++◌, ◌+◌, ◌-◌, ◌∙◌, ◌∷◌, ◌≡◌}
 use Rattle.std.proofs.lemmas.List.{get_or_append_left}
 use Rattle.std.specs.Option.{is_some}
-use Rattle.disk_records.specs.Commands.{value_writes}
-use Rattle.disk_records.specs.Packs.{Pack, after, sector_at}
-use Rattle.disk_records.specs.Words.{word}
-use Rattle.disk_records.specs.declared.records.Event.{Event}
-use Rattle.pack_model.specs.hints.Links.{dir_words}
-use Rattle.pack_model.specs.operations.Committing.{page_of_byte}
-use Rattle.pack_model.specs.operations.Entering.{EntryRoom, entry_value, values_first}
-use Rattle.pack_model.specs.operations.Operations.{enter_writes, grow_writes}
-use Rattle.pack_model.specs.operations.PageWords.{freed_value, page_number}
-use Rattle.pack_model.specs.operations.Rooms.{left_over}
-use Rattle.pack_model.specs.reading.Files.{file_bytes, lives, place}
-use Rattle.pack_model.specs.reading.Sights.{sights}
-use Rattle.pack_model.specs.reading.Slots.{all_words, item_words, slots}
-use Rattle.pack_model.specs.reading.Slots.Item.{entry, space}
-use Rattle.pack_model.specs.reading.Slots.Reads.{next, none}
-use Rattle.laws_record.proofs.Copying.{place_carried}
-use Rattle.laws_record.proofs.DirWords.{dir_change}
-use Rattle.laws_record.proofs.Heads.{all_read}
-use Rattle.laws_record.proofs.Slotting.{slots_reads}
-use Rattle.laws_record.proofs.Slotwise.{put_before, put_after, slots_freed}
-use Rattle.laws_record.proofs.SystemEntries.{left_split, left_words}
+use Rattle.laws_operation.specs.disk_records.specs.Commands.{value_writes}
+use Rattle.laws_operation.specs.disk_records.specs.Packs.{Pack, after, sector_at}
+use Rattle.laws_operation.specs.disk_records.specs.Words.{word}
+use Rattle.laws_operation.specs.disk_records.specs.declared.records.Event.{Event}
+use Rattle.laws_operation.specs.pack_model.specs.hints.Links.{dir_words}
+use Rattle.laws_operation.specs.pack_model.specs.operations.Committing.{page_of_byte}
+use Rattle.laws_operation.specs.pack_model.specs.operations.Entering.{EntryRoom, entry_value, values_first}
+use Rattle.laws_operation.specs.pack_model.specs.operations.Operations.{enter_writes, grow_writes}
+use Rattle.laws_operation.specs.pack_model.specs.operations.PageWords.{freed_value, page_number}
+use Rattle.laws_operation.specs.pack_model.specs.operations.Rooms.{left_over}
+use Rattle.laws_operation.specs.pack_model.specs.reading.Files.{file_bytes, lives, place}
+use Rattle.laws_operation.specs.pack_model.specs.reading.Sights.{sights}
+use Rattle.laws_operation.specs.pack_model.specs.reading.Slots.{all_words, item_words, slots}
+use Rattle.laws_operation.specs.pack_model.specs.reading.Slots.Item.{entry, space}
+use Rattle.laws_operation.specs.pack_model.specs.reading.Slots.Reads.{next, none}
+use Rattle.laws_operation.specs.laws_record.proofs.Copying.{place_carried}
+use Rattle.laws_operation.specs.laws_record.proofs.DirWords.{dir_change}
+use Rattle.laws_operation.specs.laws_record.proofs.Heads.{all_read}
+use Rattle.laws_operation.specs.laws_record.proofs.Slotting.{slots_reads}
+use Rattle.laws_operation.specs.laws_record.proofs.Slotwise.{put_before, put_after, slots_freed}
+use Rattle.laws_operation.specs.laws_record.proofs.SystemEntries.{left_split, left_words}
 use Rattle.laws_operation.proofs.Concerning.{end_is, entered_slots, entered_words_apart, events_are, widened_words}
 use Rattle.laws_operation.proofs.enter.Laws.{enter_carries_out}
 use Rattle.laws_operation.proofs.entries.Laws.{items_are_slots}

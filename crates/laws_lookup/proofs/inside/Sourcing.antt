@@ -1,17 +1,17 @@
 -- Files that were found.
 use Rattle.std.proofs.Common.{Bool, List, None, Option, Some, ap, cond, false, inl, inr, nat_lt, refl, subst, sym, true, ℕ, ◌&&◌, ◌<◌, ◌==◌, ◌∙◌, ◌≡◌, ◌⊎◌}
 use Rattle.std.proofs.lemmas.Bool.Decides.{nat_tests}
-use Rattle.alto_words.specs.Fid.{is_fid}
-use Rattle.alto_words.specs.declared.fid.Fid.{Fid}
-use Rattle.disk_records.specs.Addresses.{pages_of, real_of}
-use Rattle.disk_records.specs.Packs.{Pack, after, carried, label_found, sector_at}
-use Rattle.disk_records.specs.Words.{word}
-use Rattle.disk_records.specs.declared.records.Event.{Event}
-use Rattle.disk_records.specs.declared.records.Place.TheVariants.{Entry, Held, Next, Root}
-use Rattle.pack_model.specs.hints.Misled.{leader_page}
-use Rattle.pack_model.specs.hints.Sources.{IsFrom}
-use Rattle.pack_model.specs.states.Whole.{Whole}
-use Rattle.pack_laws.proofs.Keys.{same_fid}
+use Rattle.laws_operation.specs.alto_words.specs.Fid.{is_fid}
+use Rattle.laws_operation.specs.alto_words.specs.declared.fid.Fid.{Fid}
+use Rattle.laws_operation.specs.disk_records.specs.Addresses.{pages_of, real_of}
+use Rattle.laws_operation.specs.disk_records.specs.Packs.{Pack, after, carried, label_found, sector_at}
+use Rattle.laws_operation.specs.disk_records.specs.Words.{word}
+use Rattle.laws_operation.specs.disk_records.specs.declared.records.Event.{Event}
+use Rattle.laws_operation.specs.disk_records.specs.declared.records.Place.TheVariants.{Entry, Held, Next, Root}
+use Rattle.laws_operation.specs.pack_model.specs.hints.Misled.{leader_page}
+use Rattle.laws_operation.specs.pack_model.specs.hints.Sources.{IsFrom}
+use Rattle.laws_operation.specs.pack_model.specs.states.Whole.{Whole}
+use Rattle.laws_operation.specs.pack_laws.proofs.Keys.{same_fid}
 use Rattle.laws_lookup.proofs.inside.Found.{found_entry_stands}
 use Rattle.laws_lookup.proofs.Replacing.{entry_beside_stands}
 use Rattle.laws_lookup.proofs.inside.Staying.{entries_of_another_directory_stand, leader_stays, pages_of_another_file_stay}

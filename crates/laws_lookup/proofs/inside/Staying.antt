@@ -1,30 +1,30 @@
 -- What stays over an operation on one file.
 use Rattle.std.proofs.Common.{List, Some, [], ap, arith, false, inl, inr, refl, subst, sym, true, ℕ, Bool, cond, None, ◌∙◌, ◌∷◌, ◌≡◌, ◌⊎◌}
 use Rattle.std.specs.Prelude.{Contains}
-use Rattle.alto_words.specs.Fid.{is_directory, is_fid}
-use Rattle.alto_words.specs.declared.fid.Fid.{Fid}
-use Rattle.disk_records.specs.Labels.{page_of}
-use Rattle.disk_records.specs.Packs.{Pack, after, carried, is_usable, sector_at}
-use Rattle.disk_records.specs.Words.{word}
-use Rattle.disk_records.specs.declared.records.Event.{Event}
-use Rattle.disk_records.specs.declared.records.Event.TheVariants.{Wrote}
-use Rattle.disk_records.specs.declared.records.Page.{Page}
-use Rattle.disk_records.specs.declared.records.Place.TheVariants.{Entry, Held, Next, Root}
-use Rattle.disk_records.specs.declared.records.Sector.{Sector}
-use Rattle.pack_model.specs.hints.Links.{dir_slots}
-use Rattle.pack_model.specs.hints.Misled.{StandsInEntry, StandsInLink}
-use Rattle.pack_model.specs.operations.Commands.{values_writes}
-use Rattle.pack_model.specs.operations.PageWords.{page_number}
-use Rattle.pack_model.specs.reading.Bytes.{words_of}
-use Rattle.pack_model.specs.reading.Files.{place}
-use Rattle.pack_model.specs.reading.Sights.{sights}
-use Rattle.pack_model.specs.reading.SlotWords.{slots_at}
-use Rattle.pack_model.specs.reading.Slots.{slots}
-use Rattle.pack_model.specs.states.Whole.{Whole}
-use Rattle.pack_laws.proofs.Guarding.{front_from}
-use Rattle.pack_laws.proofs.Keys.{same_fid}
-use Rattle.laws_record.proofs.Carried.{values_carried}
-use Rattle.laws_record.proofs.Copying.{place_carried}
+use Rattle.laws_operation.specs.alto_words.specs.Fid.{is_directory, is_fid}
+use Rattle.laws_operation.specs.alto_words.specs.declared.fid.Fid.{Fid}
+use Rattle.laws_operation.specs.disk_records.specs.Labels.{page_of}
+use Rattle.laws_operation.specs.disk_records.specs.Packs.{Pack, after, carried, is_usable, sector_at}
+use Rattle.laws_operation.specs.disk_records.specs.Words.{word}
+use Rattle.laws_operation.specs.disk_records.specs.declared.records.Event.{Event}
+use Rattle.laws_operation.specs.disk_records.specs.declared.records.Event.TheVariants.{Wrote}
+use Rattle.laws_operation.specs.disk_records.specs.declared.records.Page.{Page}
+use Rattle.laws_operation.specs.disk_records.specs.declared.records.Place.TheVariants.{Entry, Held, Next, Root}
+use Rattle.laws_operation.specs.disk_records.specs.declared.records.Sector.{Sector}
+use Rattle.laws_operation.specs.pack_model.specs.hints.Links.{dir_slots}
+use Rattle.laws_operation.specs.pack_model.specs.hints.Misled.{StandsInEntry, StandsInLink}
+use Rattle.laws_operation.specs.pack_model.specs.operations.Commands.{values_writes}
+use Rattle.laws_operation.specs.pack_model.specs.operations.PageWords.{page_number}
+use Rattle.laws_operation.specs.pack_model.specs.reading.Bytes.{words_of}
+use Rattle.laws_operation.specs.pack_model.specs.reading.Files.{place}
+use Rattle.laws_operation.specs.pack_model.specs.reading.Sights.{sights}
+use Rattle.laws_operation.specs.pack_model.specs.reading.SlotWords.{slots_at}
+use Rattle.laws_operation.specs.pack_model.specs.reading.Slots.{slots}
+use Rattle.laws_operation.specs.pack_model.specs.states.Whole.{Whole}
+use Rattle.laws_operation.specs.pack_laws.proofs.Guarding.{front_from}
+use Rattle.laws_operation.specs.pack_laws.proofs.Keys.{same_fid}
+use Rattle.laws_operation.specs.laws_record.proofs.Carried.{values_carried}
+use Rattle.laws_operation.specs.laws_record.proofs.Copying.{place_carried}
 use Rattle.laws_lookup.proofs.others.Laws.{values_leave_others}
 use Rattle.laws_operation.proofs.places.Laws.{carried_in_place, values_keep_places}
 use Rattle.laws_lookup.specs.OtherLaws.{KeepsPages, LeavesOthers}

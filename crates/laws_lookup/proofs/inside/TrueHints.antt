@@ -2,31 +2,31 @@
 use Rattle.std.proofs.Common.{All, None, Option, Some, ap, arith, get_or, inl, inr, le-leb, length, ltb-true, nat_lt, refl, subst, suc, sym, true, zero, ℕ, ◌<◌, ◌∙◌, ◌≡◌, ◌≤◌, ◌⊎◌, add-one}
 use Rattle.std.proofs.lemmas.List.Elements.{All-contains}
 use Rattle.std.specs.Option.{is_some}
-use Rattle.alto_words.specs.Fid.{sys_dir}
-use Rattle.alto_words.specs.declared.fid.Fid.{Fid}
-use Rattle.disk_records.specs.Addresses.{pages_of, real_of}
-use Rattle.disk_records.specs.Packs.{Pack, carried, is_usable, sector_at}
-use Rattle.disk_records.specs.Words.{word}
-use Rattle.disk_records.specs.declared.records.Page.{Page}
-use Rattle.disk_records.specs.declared.records.Place.TheVariants.{Entry, Held, Next, Root}
-use Rattle.pack_model.specs.hints.Links.{IsTrueAddress, LinksTrue, dir_slots, dir_words, kept_slots, link_to}
-use Rattle.pack_model.specs.hints.Misled.{Misled, StandsInEntry, StandsInLink, leader_page}
-use Rattle.pack_model.specs.operations.Committing.{page_of_byte}
-use Rattle.pack_model.specs.operations.PageWords.{page_number}
-use Rattle.pack_model.specs.reading.Files.{carries_page, file_bytes, lives, place}
-use Rattle.pack_model.specs.reading.Model.{good_one}
-use Rattle.pack_model.specs.reading.SlotWords.{slots_at}
-use Rattle.pack_model.specs.reading.Sights.{sights}
-use Rattle.pack_model.specs.reading.Sights.Sight.{hidden}
-use Rattle.pack_model.specs.states.Whole.{FileWhole, Tidy, Whole, absent, present}
-use Rattle.pack_laws.proofs.Carrying.{carried_shown}
-use Rattle.pack_laws.proofs.Guarding.{carried_parts}
-use Rattle.pack_laws.proofs.Keys.{is_fid-itself}
-use Rattle.pack_laws.proofs.Placing.{shows_carried, shows_led}
-use Rattle.pack_laws.proofs.Sighted.{length-sights}
-use Rattle.laws_record.proofs.Carried.{carried_place, carried_shows, place_of_carried}
-use Rattle.laws_record.proofs.Copying.{place_carried}
-use Rattle.laws_record.proofs.Heads.{and_left, and_right}
+use Rattle.laws_operation.specs.alto_words.specs.Fid.{sys_dir}
+use Rattle.laws_operation.specs.alto_words.specs.declared.fid.Fid.{Fid}
+use Rattle.laws_operation.specs.disk_records.specs.Addresses.{pages_of, real_of}
+use Rattle.laws_operation.specs.disk_records.specs.Packs.{Pack, carried, is_usable, sector_at}
+use Rattle.laws_operation.specs.disk_records.specs.Words.{word}
+use Rattle.laws_operation.specs.disk_records.specs.declared.records.Page.{Page}
+use Rattle.laws_operation.specs.disk_records.specs.declared.records.Place.TheVariants.{Entry, Held, Next, Root}
+use Rattle.laws_operation.specs.pack_model.specs.hints.Links.{IsTrueAddress, LinksTrue, dir_slots, dir_words, kept_slots, link_to}
+use Rattle.laws_operation.specs.pack_model.specs.hints.Misled.{Misled, StandsInEntry, StandsInLink, leader_page}
+use Rattle.laws_operation.specs.pack_model.specs.operations.Committing.{page_of_byte}
+use Rattle.laws_operation.specs.pack_model.specs.operations.PageWords.{page_number}
+use Rattle.laws_operation.specs.pack_model.specs.reading.Files.{carries_page, file_bytes, lives, place}
+use Rattle.laws_operation.specs.pack_model.specs.reading.Model.{good_one}
+use Rattle.laws_operation.specs.pack_model.specs.reading.SlotWords.{slots_at}
+use Rattle.laws_operation.specs.pack_model.specs.reading.Sights.{sights}
+use Rattle.laws_operation.specs.pack_model.specs.reading.Sights.Sight.{hidden}
+use Rattle.laws_operation.specs.pack_model.specs.states.Whole.{FileWhole, Tidy, Whole, absent, present}
+use Rattle.laws_operation.specs.pack_laws.proofs.Carrying.{carried_shown}
+use Rattle.laws_operation.specs.pack_laws.proofs.Guarding.{carried_parts}
+use Rattle.laws_operation.specs.pack_laws.proofs.Keys.{is_fid-itself}
+use Rattle.laws_operation.specs.pack_laws.proofs.Placing.{shows_carried, shows_led}
+use Rattle.laws_operation.specs.pack_laws.proofs.Sighted.{length-sights}
+use Rattle.laws_operation.specs.laws_record.proofs.Carried.{carried_place, carried_shows, place_of_carried}
+use Rattle.laws_operation.specs.laws_record.proofs.Copying.{place_carried}
+use Rattle.laws_operation.specs.laws_record.proofs.Heads.{and_left, and_right}
 use Rattle.laws_operation.proofs.Lying.{within}
 use Rattle.laws_operation.proofs.entries.Laws.{items_are_slots}
 use Rattle.laws_operation.proofs.lengths.Laws.{full_page_is_not_the_last, placed_pages_are_those_up_to_the_last}

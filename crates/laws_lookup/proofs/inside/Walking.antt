@@ -2,10 +2,10 @@
 use Rattle.std.proofs.Common.{None, [], ap, append-nil, append_assoc, drop, false, refl, sym, ◌++◌, ◌+◌, ◌∙◌, ◌∷◌, ◌≡◌, ◌||◌}
 use Rattle.std.proofs.lemmas.List.{drop-drop}
 use Rattle.std.proofs.lemmas.List.Sums.{fold-append}
-use Rattle.pack_model.specs.reading.Lookup.{holds_base, meant_by}
-use Rattle.pack_model.specs.reading.SlotWords.{slots_at}
-use Rattle.pack_model.specs.reading.Slots.{item_words, slots}
-use Rattle.laws_record.proofs.Heads.{slots_none, slots_some}
+use Rattle.laws_operation.specs.pack_model.specs.reading.Lookup.{holds_base, meant_by}
+use Rattle.laws_operation.specs.pack_model.specs.reading.SlotWords.{slots_at}
+use Rattle.laws_operation.specs.pack_model.specs.reading.Slots.{item_words, slots}
+use Rattle.laws_operation.specs.laws_record.proofs.Heads.{slots_none, slots_some}
 use Rattle.laws_lookup.specs.SlotLaws.{HeldGoesOn, LookupGoesOn, WalkBegins, WalkEnds, WalkGoesOn, slot_there}
 
 pub walk_begins : WalkBegins

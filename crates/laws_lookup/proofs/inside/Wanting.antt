@@ -2,14 +2,14 @@
 use Rattle.std.proofs.Common.{Bool, List, None, Option, Some, [], ap, cond, false, length, refl, sym, true, ℕ, ◌&&◌, ◌+◌, ◌∙◌, ◌∷◌, ◌≡◌, ◌||◌}
 use Rattle.std.specs.Prelude.{fold, nat_lt}
 use Rattle.std.specs.Option.{option_map}
-use Rattle.alto_words.specs.Names.{is_same_name, version_of}
-use Rattle.alto_words.specs.declared.wanted.Wanted.TheVariants.{Exact, Newest}
-use Rattle.pack_model.specs.hints.Links.{dir_words}
-use Rattle.pack_model.specs.reading.Lookup.{EntryAt, entered, entry_at, holds_base, meant_by, meant_item, version_met}
-use Rattle.pack_model.specs.reading.SlotWords.{SlotAt, address_at, slots_at}
-use Rattle.pack_model.specs.reading.Slots.{Item, entry_length, slots}
-use Rattle.pack_model.specs.reading.Slots.Item.{entry, space}
-use Rattle.pack_model.specs.reading.Versions.{entry_wanted, exact, greatest_version, has_base, is_held, newest_from, version_found}
+use Rattle.laws_operation.specs.alto_words.specs.Names.{is_same_name, version_of}
+use Rattle.laws_operation.specs.alto_words.specs.declared.wanted.Wanted.TheVariants.{Exact, Newest}
+use Rattle.laws_operation.specs.pack_model.specs.hints.Links.{dir_words}
+use Rattle.laws_operation.specs.pack_model.specs.reading.Lookup.{EntryAt, entered, entry_at, holds_base, meant_by, meant_item, version_met}
+use Rattle.laws_operation.specs.pack_model.specs.reading.SlotWords.{SlotAt, address_at, slots_at}
+use Rattle.laws_operation.specs.pack_model.specs.reading.Slots.{Item, entry_length, slots}
+use Rattle.laws_operation.specs.pack_model.specs.reading.Slots.Item.{entry, space}
+use Rattle.laws_operation.specs.pack_model.specs.reading.Versions.{entry_wanted, exact, greatest_version, has_base, is_held, newest_from, version_found}
 use Rattle.laws_operation.proofs.entries.Laws.{items_are_slots}
 use Rattle.laws_lookup.specs.SlotLaws.{EntryAtIsTheEntryWanted, GreatestIsTheModels, HeldAtIsHeld, HeldIsTheModels, LookupIsTheModels, VersionMetIsTheGreatest}
 

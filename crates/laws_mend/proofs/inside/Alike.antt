@@ -5,28 +5,28 @@ use Rattle.std.proofs.lemmas.Bool.{cases_eq}
 use Rattle.std.proofs.lemmas.List.{get_or-set_other, get_or-set_same}
 use Rattle.std.specs.Option.{is_some, option_map}
 use Rattle.std.specs.Prelude.{cond, nat_lt}
-use Rattle.alto_words.specs.declared.fid.Fid.{Fid}
-use Rattle.alto_words.specs.Fid.{disk_descriptor}
-use Rattle.disk_records.specs.Addresses.{descriptor_length}
-use Rattle.disk_records.specs.Commands.{relabel_writes, value_writes}
-use Rattle.disk_records.specs.Labels.{tag}
-use Rattle.disk_records.specs.Packs.{Pack, after, sector_at}
-use Rattle.disk_records.specs.Words.{word}
-use Rattle.disk_records.specs.declared.records.Sector.{Sector}
-use Rattle.disk_records.specs.declared.shape.Shape.{Shape}
-use Rattle.pack_model.specs.hints.Links.{HasLinks, link_to, next_link, no_link, previous_link}
-use Rattle.pack_model.specs.reading.Files.{carries_page, file_bytes, leader, lives, place}
-use Rattle.pack_model.specs.reading.Leaders.{Leader, is_readable, leader_of, leader_words}
-use Rattle.pack_model.specs.reading.Sights.{Sight, page_sight, sights}
-use Rattle.pack_model.specs.reading.Sights.Sight.{free, hidden, holds, leads, stray}
-use Rattle.pack_model.specs.reading.Slots.{SlotsReachEnd}
-use Rattle.pack_model.specs.states.InUse.{counts, in_use, is_good, is_place, is_within}
-use Rattle.pack_laws.proofs.guards.Laws.{relabel_keeps_the_page, value_writes_keep_the_page}
-use Rattle.pack_laws.proofs.Placing.{page_of_place}
-use Rattle.pack_laws.specs.GuardLaws.{ComesToHold}
-use Rattle.laws_record.proofs.Reading.{get-found, read_file}
-use Rattle.laws_record.proofs.Recording.{carried_sight, carried_within}
-use Rattle.laws_record.proofs.Unseen.{tag_after}
+use Rattle.laws_room.specs.alto_words.specs.declared.fid.Fid.{Fid}
+use Rattle.laws_room.specs.alto_words.specs.Fid.{disk_descriptor}
+use Rattle.laws_room.specs.disk_records.specs.Addresses.{descriptor_length}
+use Rattle.laws_room.specs.disk_records.specs.Commands.{relabel_writes, value_writes}
+use Rattle.laws_room.specs.disk_records.specs.Labels.{tag}
+use Rattle.laws_room.specs.disk_records.specs.Packs.{Pack, after, sector_at}
+use Rattle.laws_room.specs.disk_records.specs.Words.{word}
+use Rattle.laws_room.specs.disk_records.specs.declared.records.Sector.{Sector}
+use Rattle.laws_room.specs.disk_records.specs.declared.shape.Shape.{Shape}
+use Rattle.laws_room.specs.pack_model.specs.hints.Links.{HasLinks, link_to, next_link, no_link, previous_link}
+use Rattle.laws_room.specs.pack_model.specs.reading.Files.{carries_page, file_bytes, leader, lives, place}
+use Rattle.laws_room.specs.pack_model.specs.reading.Leaders.{Leader, is_readable, leader_of, leader_words}
+use Rattle.laws_room.specs.pack_model.specs.reading.Sights.{Sight, page_sight, sights}
+use Rattle.laws_room.specs.pack_model.specs.reading.Sights.Sight.{free, hidden, holds, leads, stray}
+use Rattle.laws_room.specs.pack_model.specs.reading.Slots.{SlotsReachEnd}
+use Rattle.laws_room.specs.pack_model.specs.states.InUse.{counts, in_use, is_good, is_place, is_within}
+use Rattle.laws_room.specs.pack_laws.proofs.guards.Laws.{relabel_keeps_the_page, value_writes_keep_the_page}
+use Rattle.laws_room.specs.pack_laws.proofs.Placing.{page_of_place}
+use Rattle.laws_room.specs.pack_laws.specs.GuardLaws.{ComesToHold}
+use Rattle.laws_room.specs.laws_record.proofs.Reading.{get-found, read_file}
+use Rattle.laws_room.specs.laws_record.proofs.Recording.{carried_sight, carried_within}
+use Rattle.laws_room.specs.laws_record.proofs.Unseen.{tag_after}
 use Rattle.laws_mend.proofs.inside.Availing.{same_in_use}
 use Rattle.laws_mend.proofs.inside.Filed.{bytes_by_places, lives_by_place}
 use Rattle.laws_mend.proofs.inside.Freed.{rewritten_places}

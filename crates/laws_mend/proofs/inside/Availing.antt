@@ -4,15 +4,15 @@ use Rattle.std.proofs.Math.ListN.{length-set}
 use Rattle.std.proofs.lemmas.Bool.{cases_eq, cases_lt}
 use Rattle.std.proofs.lemmas.List.{get_or-set_other, get_or-set_same}
 use Rattle.std.specs.Prelude.{◌&&◌}
-use Rattle.alto_words.specs.declared.fid.Fid.{Fid}
-use Rattle.disk_records.specs.declared.shape.Shape.{Shape}
-use Rattle.pack_model.specs.reading.Files.{carries_page, numbered, place}
-use Rattle.pack_model.specs.reading.Sights.{Sight}
-use Rattle.pack_model.specs.reading.Sights.Sight.{hidden, free, stray, leads, holds}
-use Rattle.pack_model.specs.states.InUse.{available, counts, how_many, in_use, is_available, is_good, is_place, one_if}
-use Rattle.pack_model.specs.states.Sentences.{EachOnce}
-use Rattle.pack_laws.proofs.Keys.{is_fid-itself}
-use Rattle.pack_laws.proofs.Placing.{carries-holds, place_from, place_is, place_none, place_same}
+use Rattle.laws_room.specs.alto_words.specs.declared.fid.Fid.{Fid}
+use Rattle.laws_room.specs.disk_records.specs.declared.shape.Shape.{Shape}
+use Rattle.laws_room.specs.pack_model.specs.reading.Files.{carries_page, numbered, place}
+use Rattle.laws_room.specs.pack_model.specs.reading.Sights.{Sight}
+use Rattle.laws_room.specs.pack_model.specs.reading.Sights.Sight.{hidden, free, stray, leads, holds}
+use Rattle.laws_room.specs.pack_model.specs.states.InUse.{available, counts, how_many, in_use, is_available, is_good, is_place, one_if}
+use Rattle.laws_room.specs.pack_model.specs.states.Sentences.{EachOnce}
+use Rattle.laws_room.specs.pack_laws.proofs.Keys.{is_fid-itself}
+use Rattle.laws_room.specs.pack_laws.proofs.Placing.{carries-holds, place_from, place_is, place_none, place_same}
 
 -- ---- how many pass a test
 -- as many, if each passes the one test as its neighbour passes the other

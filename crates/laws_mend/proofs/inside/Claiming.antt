@@ -2,24 +2,24 @@
 use Rattle.std.proofs.Common.{◌∙◌, ◌≡◌, ◌≢◌, List, None, Some, ap, arith, false, inl, inr, refl, subst, sym, true, suc, ℕ}
 use Rattle.std.proofs.lemmas.Bool.{cases_eq}
 use Rattle.std.specs.Prelude.{cond, length, ◌/◌}
-use Rattle.alto_words.specs.Fid.{disk_descriptor, is_fid}
-use Rattle.disk_records.specs.Commands.{claim_writes}
-use Rattle.disk_records.specs.Labels.{page_of}
-use Rattle.disk_records.specs.Packs.{Pack, after, carried, is_free_at, is_usable, sector_at}
-use Rattle.disk_records.specs.declared.records.Page.{Page}
-use Rattle.pack_model.specs.reading.Files.{file_bytes, place}
-use Rattle.pack_model.specs.reading.Model.{read_as}
-use Rattle.pack_model.specs.reading.Sights.{sights}
-use Rattle.pack_model.specs.scavenger.Scavenging.{Keeps, Unmarked}
-use Rattle.pack_model.specs.showing.View.{view}
-use Rattle.pack_laws.proofs.files.Laws.{places_are_lowest}
-use Rattle.pack_laws.proofs.guards.Laws.{claim_takes_at_the_label}
-use Rattle.pack_laws.proofs.Guarding.{free_parts, free_unnamed}
-use Rattle.pack_laws.specs.GuardLaws.{ComesToHold, LooksSame}
-use Rattle.laws_record.proofs.quiet.Laws.{equal_value_reads_same, free_value_reads_same, last_claim_reads_same, unread_claim_reads_same}
-use Rattle.laws_record.proofs.views.Laws.{descriptor_pages_views_same}
-use Rattle.laws_record.specs.QuietLaws.{IsUnread, with_label, with_value}
-use Rattle.laws_record.specs.ViewLaws.IsDescriptorPage.{claimed, unclaimed}
+use Rattle.laws_room.specs.alto_words.specs.Fid.{disk_descriptor, is_fid}
+use Rattle.laws_room.specs.disk_records.specs.Commands.{claim_writes}
+use Rattle.laws_room.specs.disk_records.specs.Labels.{page_of}
+use Rattle.laws_room.specs.disk_records.specs.Packs.{Pack, after, carried, is_free_at, is_usable, sector_at}
+use Rattle.laws_room.specs.disk_records.specs.declared.records.Page.{Page}
+use Rattle.laws_room.specs.pack_model.specs.reading.Files.{file_bytes, place}
+use Rattle.laws_room.specs.pack_model.specs.reading.Model.{read_as}
+use Rattle.laws_room.specs.pack_model.specs.reading.Sights.{sights}
+use Rattle.laws_room.specs.pack_model.specs.scavenger.Scavenging.{Keeps, Unmarked}
+use Rattle.laws_room.specs.pack_model.specs.showing.View.{view}
+use Rattle.laws_room.specs.pack_laws.proofs.files.Laws.{places_are_lowest}
+use Rattle.laws_room.specs.pack_laws.proofs.guards.Laws.{claim_takes_at_the_label}
+use Rattle.laws_room.specs.pack_laws.proofs.Guarding.{free_parts, free_unnamed}
+use Rattle.laws_room.specs.pack_laws.specs.GuardLaws.{ComesToHold, LooksSame}
+use Rattle.laws_room.specs.laws_record.proofs.quiet.Laws.{equal_value_reads_same, free_value_reads_same, last_claim_reads_same, unread_claim_reads_same}
+use Rattle.laws_room.specs.laws_record.proofs.views.Laws.{descriptor_pages_views_same}
+use Rattle.laws_room.specs.laws_record.specs.QuietLaws.{IsUnread, with_label, with_value}
+use Rattle.laws_room.specs.laws_record.specs.ViewLaws.IsDescriptorPage.{claimed, unclaimed}
 use Rattle.laws_room.proofs.keeping.Laws.{descriptor_pages_keeps_aside, equal_value_keeps_aside, free_value_keeps_aside, last_claim_keeps_aside, unread_claim_keeps_aside}
 use Rattle.laws_room.proofs.marks.Laws.{unmarked_stays}
 use Rattle.laws_room.specs.KeepLaws.{RootMay}

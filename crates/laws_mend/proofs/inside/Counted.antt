@@ -1,38 +1,34 @@
 -- Pages that are within their files' ends, and those that aren't in use.
-use Rattle.std.proofs.Common.{◌/◌, ◌<◌, ◌∙◌, ◌≡◌, ◌≤◌, Bool, List, None, Option, Some, ap, arith, cond, false, le-leb, leb-true, length, nat_le, get_or, refl, suc, subst, sym, true, zero, ℕ}
+use Rattle.std.proofs.Common.{◌/◌, ◌∙◌, ◌≡◌, ◌≤◌, Bool, List, None, Option, Some, ap, arith, cond, false, le-leb, length, nat_le, get_or, refl, suc, subst, sym, true, zero, ℕ}
 use Rattle.std.specs.FinMap.{get}
 use Rattle.std.specs.Option.{is_some, option_map}
 use Rattle.std.specs.Prelude.{◌&&◌}
-use Rattle.alto_words.specs.declared.fid.Fid.{Fid}
-use Rattle.alto_words.specs.Fid.{disk_descriptor, is_directory, is_fid}
-use Rattle.disk_records.specs.Addresses.{descriptor_length}
-use Rattle.disk_records.specs.Labels.{tag}
-use Rattle.disk_records.specs.Packs.{Pack, carried, sector_at}
-use Rattle.disk_records.specs.declared.records.Page.{Page}
-use Rattle.disk_records.specs.declared.shape.Shape.{Shape}
-use Rattle.pack_model.specs.reading.Bodies.{Body, body_length, body_of}
-use Rattle.pack_model.specs.reading.Bodies.Body.{data_of, items_of}
-use Rattle.pack_model.specs.reading.Bytes.{words_of}
-use Rattle.pack_model.specs.reading.Files.{file_bytes, leader, lives, place}
-use Rattle.pack_model.specs.reading.Leaders.{Leader}
-use Rattle.pack_model.specs.reading.Sights.{Sight, page_sight, sights}
-use Rattle.pack_model.specs.reading.Sights.Sight.{hidden}
-use Rattle.pack_model.specs.reading.Slots.{slots}
-use Rattle.pack_model.specs.sessions.Descriptor.{data_pages}
-use Rattle.pack_model.specs.states.InUse.{counts, in_use, is_place, is_within, last_page}
-use Rattle.pack_model.specs.states.Sentences.{EachOnce}
-use Rattle.pack_laws.proofs.Bytes.{length-words_of}
-use Rattle.pack_laws.proofs.Keys.{same_fid}
-use Rattle.laws_record.proofs.Carried.{carried_shows}
-use Rattle.laws_record.proofs.Ends.{counts_none}
-use Rattle.laws_record.proofs.Heads.{all_read, all_within}
-use Rattle.laws_record.proofs.Reading.{get-found, get_by, read_file}
-use Rattle.laws_record.proofs.Recording.{carried_sight}
-use Rattle.laws_record.proofs.Staying.{FilesStay}
-use Rattle.laws_record.proofs.Systemic.{described_get}
-use Rattle.laws_record.specs.QuietLaws.{IsUnread}
-use Rattle.laws_record.specs.QuietLaws.IsUnread.{leaderless, past_end}
-use Rattle.laws_operation.proofs.Widening.{directory_length}
+use Rattle.laws_room.specs.alto_words.specs.declared.fid.Fid.{Fid}
+use Rattle.laws_room.specs.alto_words.specs.Fid.{disk_descriptor, is_directory, is_fid}
+use Rattle.laws_room.specs.disk_records.specs.Addresses.{descriptor_length}
+use Rattle.laws_room.specs.disk_records.specs.Labels.{tag}
+use Rattle.laws_room.specs.disk_records.specs.Packs.{Pack, carried, sector_at}
+use Rattle.laws_room.specs.disk_records.specs.declared.records.Page.{Page}
+use Rattle.laws_room.specs.disk_records.specs.declared.shape.Shape.{Shape}
+use Rattle.laws_room.specs.pack_model.specs.reading.Bodies.{body_length, body_of}
+use Rattle.laws_room.specs.pack_model.specs.reading.Bodies.Body.{data_of, items_of}
+use Rattle.laws_room.specs.pack_model.specs.reading.Bytes.{words_of}
+use Rattle.laws_room.specs.pack_model.specs.reading.Files.{file_bytes, leader, lives, place}
+use Rattle.laws_room.specs.pack_model.specs.reading.Leaders.{Leader}
+use Rattle.laws_room.specs.pack_model.specs.reading.Sights.{Sight, page_sight, sights}
+use Rattle.laws_room.specs.pack_model.specs.reading.Sights.Sight.{hidden}
+use Rattle.laws_room.specs.pack_model.specs.reading.Slots.{slots}
+use Rattle.laws_room.specs.pack_model.specs.states.InUse.{counts, in_use, is_place, is_within, last_page}
+use Rattle.laws_room.specs.pack_model.specs.states.Sentences.{EachOnce}
+use Rattle.laws_room.specs.pack_laws.proofs.Bytes.{length-words_of}
+use Rattle.laws_room.specs.pack_laws.proofs.Keys.{same_fid}
+use Rattle.laws_room.specs.laws_record.proofs.Carried.{carried_shows}
+use Rattle.laws_room.specs.laws_record.proofs.Heads.{all_read, all_within}
+use Rattle.laws_room.specs.laws_record.proofs.Reading.{get-found, get_by, read_file}
+use Rattle.laws_room.specs.laws_record.proofs.Recording.{carried_sight}
+use Rattle.laws_room.specs.laws_record.proofs.Staying.{FilesStay}
+use Rattle.laws_room.specs.laws_record.proofs.Systemic.{described_get}
+use Rattle.laws_room.specs.laws_operation.proofs.Widening.{directory_length}
 use Rattle.laws_mend.specs.Parts.{Ended}
 
 -- ---- between two packs
@@ -78,34 +74,6 @@ body_within f bytes = by (is_directory f)
     by : (b : Bool) → body_length (cond b (items_of (slots (words_of bytes))) (data_of bytes)) ≤ length bytes
     by true = let w = all_within (slots (words_of bytes)) (words_of bytes) refl in let s = length-words_of bytes in omega arith
     by false = omega arith
-
--- no number after the last one is within a file's end
-past_last : (shape : Shape) (f : Fid) (n : ℕ) (body : Body) → last_page shape f body < n → nat_le n (last_page shape f body) ≡ false
-past_last shape f n body far = by (nat_le n (last_page shape f body)) refl
-  where
-    by : (b : Bool) → nat_le n (last_page shape f body) ≡ b → nat_le n (last_page shape f body) ≡ false
-    by false e = e
-    by true e = absurd (let l : n ≤ last_page shape f body = leb-true n (last_page shape f body) e in omega arith)
-
--- a page that isn't read, except of DiskDescriptor
-pub unread_uncounted : (p : Pack) (f : Fid) (n : ℕ) → IsUnread (sights p) f n → is_fid f disk_descriptor ≡ false → counts p.shape (sights p) f n ≡ false
-unread_uncounted p f n (leaderless none ordinary data_page) other = counts_none p.shape (sights p) f n none
-unread_uncounted p f n (past_end far) other = ap (is_within p.shape f n) (get-found (sights p) f) ∙ by (leader (sights p) f)
-  where
-    by : (r : Option Leader) → is_within p.shape f n (option_map (read_file f (file_bytes (sights p) f)) r) ≡ false
-    by None = refl
-    by (Some l) =
-        let w = body_within f (file_bytes (sights p) f) in
-        let e : last_page p.shape f (body_of f (file_bytes (sights p) f)) ≡ suc (body_length (body_of f (file_bytes (sights p) f)) / 512) = ap (λ b. suc (cond b (descriptor_length p.shape) (body_length (body_of f (file_bytes (sights p) f))) / 512)) other in
-        past_last p.shape f n (body_of f (file_bytes (sights p) f)) (omega arith)
-
--- a data page of DiskDescriptor past those of its format
-pub descriptor_uncounted : (p : Pack) (n : ℕ) → data_pages p.shape ≤ n → counts p.shape (sights p) disk_descriptor (suc n) ≡ false
-descriptor_uncounted p n far = ap (is_within p.shape disk_descriptor (suc n)) (get-found (sights p) disk_descriptor) ∙ by (leader (sights p) disk_descriptor)
-  where
-    by : (r : Option Leader) → is_within p.shape disk_descriptor (suc n) (option_map (read_file disk_descriptor (file_bytes (sights p) disk_descriptor)) r) ≡ false
-    by None = refl
-    by (Some l) = past_last p.shape disk_descriptor (suc n) (body_of disk_descriptor (file_bytes (sights p) disk_descriptor)) (omega arith)
 
 -- ---- pages that count
 -- where each directory ends with its slots, the bytes of a living file, except of DiskDescriptor, are its body

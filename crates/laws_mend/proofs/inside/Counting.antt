@@ -1,12 +1,12 @@
 -- Free and available sectors, one by one.
 use Rattle.std.proofs.Common.{◌≡◌, ◌+◌, ◌∷◌, Bool, List, [], ap, arith, false, get_or, inl, inr, not, refl, subst, suc, true, ℕ}
 use Rattle.std.specs.Prelude.{◌&&◌, ◌⊎◌}
-use Rattle.disk_records.specs.declared.shape.Shape.{Shape}
-use Rattle.pack_model.specs.reading.Files.{numbered}
-use Rattle.pack_model.specs.reading.Sights.{Sight, sights}
-use Rattle.pack_model.specs.reading.Sights.Sight.{hidden, free, stray, leads, holds}
-use Rattle.pack_model.specs.scavenger.Reports.{freed_sectors}
-use Rattle.pack_model.specs.states.InUse.{available, how_many, in_use, is_available, is_free_sight, is_good, one_if}
+use Rattle.laws_room.specs.disk_records.specs.declared.shape.Shape.{Shape}
+use Rattle.laws_room.specs.pack_model.specs.reading.Files.{numbered}
+use Rattle.laws_room.specs.pack_model.specs.reading.Sights.{Sight, sights}
+use Rattle.laws_room.specs.pack_model.specs.reading.Sights.Sight.{hidden, free, stray, leads, holds}
+use Rattle.laws_room.specs.pack_model.specs.scavenger.Reports.{freed_sectors}
+use Rattle.laws_room.specs.pack_model.specs.states.InUse.{available, how_many, in_use, is_available, is_free_sight, is_good, one_if}
 use Rattle.laws_mend.specs.NumberLaws.{FreedAndFree, UsedAvailableIsFree}
 
 -- the sector is available and not free

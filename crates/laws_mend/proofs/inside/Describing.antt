@@ -4,36 +4,36 @@ use Rattle.std.proofs.lemmas.Bool.{cases_eq}
 use Rattle.std.proofs.lemmas.List.{get_or-set_other, get_or-set_same}
 use Rattle.std.specs.Option.{is_some, option_map}
 use Rattle.std.specs.Prelude.{◌&&◌}
-use Rattle.alto_words.specs.declared.fid.Fid.{Fid}
-use Rattle.alto_words.specs.Fid.{disk_descriptor, is_fid}
-use Rattle.disk_records.specs.Addresses.{descriptor_length}
-use Rattle.disk_records.specs.Commands.{claim_writes, relabel_writes}
-use Rattle.disk_records.specs.Labels.{tag}
-use Rattle.disk_records.specs.Packs.{Pack, after, carried, sector_at}
-use Rattle.disk_records.specs.declared.records.Page.{Page}
-use Rattle.disk_records.specs.declared.records.Sector.{Sector}
-use Rattle.disk_records.specs.declared.shape.Shape.{Shape}
-use Rattle.pack_model.specs.reading.Bytes.{bytes_of}
-use Rattle.pack_model.specs.reading.Files.{carries_page, file_bytes, leader, lives, place}
-use Rattle.pack_model.specs.reading.Leaders.{Leader}
-use Rattle.pack_model.specs.reading.Sights.{Sight, sights}
-use Rattle.pack_model.specs.reading.Sights.Sight.{free, hidden, holds, leads, stray}
-use Rattle.pack_model.specs.reading.Slots.{SlotsReachEnd}
-use Rattle.pack_model.specs.sessions.Descriptor.{data_pages}
-use Rattle.pack_model.specs.states.InUse.{counts, in_use, is_good, is_place, is_within}
-use Rattle.pack_model.specs.states.Sentences.{HasLastPage, IsUsed}
-use Rattle.pack_laws.proofs.guards.Laws.{claim_takes_at_the_label, relabel_keeps_the_page}
-use Rattle.pack_laws.proofs.Keys.{is_fid-itself, same_fid}
-use Rattle.pack_laws.proofs.Placing.{one_page, page_of_place, place_none}
-use Rattle.pack_laws.specs.GuardLaws.{ComesToHold}
-use Rattle.laws_contents.proofs.ends.Laws.{last_page_ends_the_file}
-use Rattle.laws_contents.specs.PageLaws.{FullBefore}
-use Rattle.laws_record.proofs.Carried.{carries_within}
-use Rattle.laws_record.proofs.Copying.{place_carried}
-use Rattle.laws_record.proofs.DirReads.{not_descriptor}
-use Rattle.laws_record.proofs.Ends.{counts_none}
-use Rattle.laws_record.proofs.Reading.{get-found, read_file}
-use Rattle.laws_record.proofs.Recording.{carried_sight, carried_within, free_sight}
+use Rattle.laws_room.specs.alto_words.specs.declared.fid.Fid.{Fid}
+use Rattle.laws_room.specs.alto_words.specs.Fid.{disk_descriptor, is_fid}
+use Rattle.laws_room.specs.disk_records.specs.Addresses.{descriptor_length}
+use Rattle.laws_room.specs.disk_records.specs.Commands.{claim_writes, relabel_writes}
+use Rattle.laws_room.specs.disk_records.specs.Labels.{tag}
+use Rattle.laws_room.specs.disk_records.specs.Packs.{Pack, after, carried, sector_at}
+use Rattle.laws_room.specs.disk_records.specs.declared.records.Page.{Page}
+use Rattle.laws_room.specs.disk_records.specs.declared.records.Sector.{Sector}
+use Rattle.laws_room.specs.disk_records.specs.declared.shape.Shape.{Shape}
+use Rattle.laws_room.specs.pack_model.specs.reading.Bytes.{bytes_of}
+use Rattle.laws_room.specs.pack_model.specs.reading.Files.{carries_page, file_bytes, leader, lives, place}
+use Rattle.laws_room.specs.pack_model.specs.reading.Leaders.{Leader}
+use Rattle.laws_room.specs.pack_model.specs.reading.Sights.{Sight, sights}
+use Rattle.laws_room.specs.pack_model.specs.reading.Sights.Sight.{free, hidden, holds, leads, stray}
+use Rattle.laws_room.specs.pack_model.specs.reading.Slots.{SlotsReachEnd}
+use Rattle.laws_room.specs.pack_model.specs.sessions.Descriptor.{data_pages}
+use Rattle.laws_room.specs.pack_model.specs.states.InUse.{counts, in_use, is_good, is_place, is_within}
+use Rattle.laws_room.specs.pack_model.specs.states.Sentences.{HasLastPage, IsUsed}
+use Rattle.laws_room.specs.pack_laws.proofs.guards.Laws.{claim_takes_at_the_label, relabel_keeps_the_page}
+use Rattle.laws_room.specs.pack_laws.proofs.Keys.{is_fid-itself, same_fid}
+use Rattle.laws_room.specs.pack_laws.proofs.Placing.{one_page, page_of_place, place_none}
+use Rattle.laws_room.specs.pack_laws.specs.GuardLaws.{ComesToHold}
+use Rattle.laws_room.specs.laws_contents.proofs.ends.Laws.{last_page_ends_the_file}
+use Rattle.laws_room.specs.laws_contents.specs.PageLaws.{FullBefore}
+use Rattle.laws_room.specs.laws_record.proofs.Carried.{carries_within}
+use Rattle.laws_room.specs.laws_record.proofs.Copying.{place_carried}
+use Rattle.laws_room.specs.laws_record.proofs.DirReads.{not_descriptor}
+use Rattle.laws_room.specs.laws_record.proofs.Ends.{counts_none}
+use Rattle.laws_room.specs.laws_record.proofs.Reading.{get-found, read_file}
+use Rattle.laws_room.specs.laws_record.proofs.Recording.{carried_sight, carried_within, free_sight}
 use Rattle.laws_mend.proofs.inside.Alike.{counts_alike}
 use Rattle.laws_mend.proofs.inside.Availing.{same_in_use}
 use Rattle.laws_mend.proofs.inside.Completed.{claimed_aside, claimed_cleared, claimed_others, claimed_place}

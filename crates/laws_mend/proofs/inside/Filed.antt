@@ -1,12 +1,12 @@
 -- Files by the places of their pages.
 use Rattle.std.proofs.Common.{◌∙◌, ◌≡◌, List, None, Option, Some, ap, get_or, refl, suc, sym, ℕ}
 use Rattle.std.specs.Option.{is_some}
-use Rattle.alto_words.specs.declared.fid.Fid.{Fid}
-use Rattle.pack_model.specs.reading.Files.{file_bytes, lives, page, place}
-use Rattle.pack_model.specs.reading.Sights.{Sight}
-use Rattle.pack_model.specs.reading.Sights.Sight.{hidden, holds}
-use Rattle.pack_laws.proofs.Placing.{leader_of_place, no_leader, no_page, page_of_place}
-use Rattle.laws_record.proofs.Framing.{bytes_frame}
+use Rattle.laws_room.specs.alto_words.specs.declared.fid.Fid.{Fid}
+use Rattle.laws_room.specs.pack_model.specs.reading.Files.{file_bytes, lives, page, place}
+use Rattle.laws_room.specs.pack_model.specs.reading.Sights.{Sight}
+use Rattle.laws_room.specs.pack_model.specs.reading.Sights.Sight.{hidden, holds}
+use Rattle.laws_room.specs.pack_laws.proofs.Placing.{leader_of_place, no_leader, no_page, page_of_place}
+use Rattle.laws_room.specs.laws_record.proofs.Framing.{bytes_frame}
 
 -- a file lives where its leader page has a place
 pub lives_place : (ss : List Sight) (f : Fid) → lives ss f ≡ is_some (place ss f 0)

@@ -1,16 +1,16 @@
 -- Whether sector 1 is free for SysDir's leader page.
 use Rattle.std.proofs.Common.{◌∙◌, ◌≡◌, ◌⊎◌, Bool, Some, ap, false, get_or, inl, inr, not, refl, suc, sym, true, ℕ}
 use Rattle.std.specs.Prelude.{◌&&◌}
-use Rattle.alto_words.specs.declared.fid.Fid.{Fid}
-use Rattle.alto_words.specs.Fid.{sys_dir}
-use Rattle.disk_records.specs.Packs.{is_free_at}
-use Rattle.pack_model.specs.reading.Files.{place}
-use Rattle.pack_model.specs.reading.Sights.{Sight, sights}
-use Rattle.pack_model.specs.reading.Sights.Sight.{free, hidden, holds, leads, stray}
-use Rattle.pack_model.specs.states.InUse.{counts, in_use, is_good, is_place}
-use Rattle.pack_model.specs.scavenger.Scavenging.{root_stands}
-use Rattle.pack_laws.proofs.Keys.{same_fid}
-use Rattle.laws_record.proofs.Carried.{place_by}
+use Rattle.laws_room.specs.alto_words.specs.declared.fid.Fid.{Fid}
+use Rattle.laws_room.specs.alto_words.specs.Fid.{sys_dir}
+use Rattle.laws_room.specs.disk_records.specs.Packs.{is_free_at}
+use Rattle.laws_room.specs.pack_model.specs.reading.Files.{place}
+use Rattle.laws_room.specs.pack_model.specs.reading.Sights.{Sight, sights}
+use Rattle.laws_room.specs.pack_model.specs.reading.Sights.Sight.{free, hidden, holds, leads, stray}
+use Rattle.laws_room.specs.pack_model.specs.states.InUse.{counts, in_use, is_good, is_place}
+use Rattle.laws_room.specs.pack_model.specs.scavenger.Scavenging.{root_stands}
+use Rattle.laws_room.specs.pack_laws.proofs.Keys.{same_fid}
+use Rattle.laws_room.specs.laws_record.proofs.Carried.{place_by}
 use Rattle.laws_mend.proofs.inside.FreeOnes.{shown_free}
 use Rattle.laws_mend.specs.NumberLaws.{FirstSectorIsFree}
 

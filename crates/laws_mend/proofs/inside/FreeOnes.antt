@@ -1,12 +1,12 @@
 -- Sectors that are needed are free.
 use Rattle.std.proofs.Common.{◌∙◌, ◌≡◌, ◌<◌, ◌≤◌, ◌∷◌, List, [], ap, arith, cond, false, get_or, refl, suc, true, zero, ℕ}
-use Rattle.disk_records.specs.Labels.{is_free, tag}
-use Rattle.disk_records.specs.Packs.{Pack, is_free_at, sector_at}
-use Rattle.pack_model.specs.reading.Model.{good_one}
-use Rattle.pack_model.specs.reading.Sights.{Sight, sights}
-use Rattle.pack_model.specs.reading.Sights.Sight.{hidden, free, stray, leads, holds}
-use Rattle.pack_model.specs.states.InUse.{how_many, is_free_sight}
-use Rattle.laws_operation.proofs.Showing.{free_is, usable_is}
+use Rattle.laws_room.specs.disk_records.specs.Labels.{is_free, tag}
+use Rattle.laws_room.specs.disk_records.specs.Packs.{Pack, is_free_at, sector_at}
+use Rattle.laws_room.specs.pack_model.specs.reading.Model.{good_one}
+use Rattle.laws_room.specs.pack_model.specs.reading.Sights.{Sight, sights}
+use Rattle.laws_room.specs.pack_model.specs.reading.Sights.Sight.{hidden, free, stray, leads, holds}
+use Rattle.laws_room.specs.pack_model.specs.states.InUse.{how_many, is_free_sight}
+use Rattle.laws_room.specs.laws_operation.proofs.Showing.{free_is, usable_is}
 use Rattle.laws_mend.proofs.inside.Counting.{used_available_is_free}
 use Rattle.laws_mend.specs.NumberLaws.{NeededIsFree, TwoNeededAreFree}
 

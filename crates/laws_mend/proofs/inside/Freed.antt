@@ -4,34 +4,33 @@ use Rattle.std.proofs.Math.ListN.{length-set}
 use Rattle.std.proofs.lemmas.Bool.{cases_eq, cases_lt}
 use Rattle.std.proofs.lemmas.List.{get_or-set_other, get_or-set_same}
 use Rattle.std.specs.Prelude.{◌&&◌, ◌==◌}
-use Rattle.alto_words.specs.declared.fid.Fid.{Fid}
-use Rattle.alto_words.specs.Fid.{disk_descriptor}
-use Rattle.disk_records.specs.Commands.{ones, relabel_writes, release_writes}
-use Rattle.disk_records.specs.Labels.{tag}
-use Rattle.disk_records.specs.Packs.{Pack, after, carried, is_usable, sector_at}
-use Rattle.disk_records.specs.declared.records.Page.{Page}
-use Rattle.pack_model.specs.reading.Files.{carries_page, place}
-use Rattle.pack_model.specs.reading.Sights.{page_sight, sights}
-use Rattle.pack_model.specs.reading.Sights.Sight.{free, hidden, stray}
-use Rattle.pack_model.specs.states.InUse.{available, counts, free_sector_count, in_use, is_available, is_free_sight, is_good, is_place, one_if}
-use Rattle.pack_laws.proofs.Carrying.{carried_shown}
-use Rattle.pack_laws.proofs.guards.Laws.{relabel_keeps_the_page}
-use Rattle.pack_laws.proofs.Guarding.{carried_parts, ones_free, usable_within}
-use Rattle.pack_laws.proofs.Placing.{place_is, place_same}
-use Rattle.pack_laws.proofs.Sighted.{length-sights}
-use Rattle.laws_record.proofs.Carried.{carried_shows}
-use Rattle.laws_record.proofs.Copying.{copy_release, place_carried}
-use Rattle.laws_record.proofs.DirEnds.{cut_at_slots}
-use Rattle.laws_record.proofs.Recording.{carried_sight, carried_within, label_sights}
-use Rattle.laws_record.proofs.Staying.{FilesStay}
-use Rattle.laws_record.proofs.Unread.{no_page_shown, stray_release}
-use Rattle.laws_record.proofs.Unused.{unused_release}
-use Rattle.laws_record.specs.QuietLaws.{with_label}
+use Rattle.laws_room.specs.alto_words.specs.declared.fid.Fid.{Fid}
+use Rattle.laws_room.specs.disk_records.specs.Commands.{ones, relabel_writes, release_writes}
+use Rattle.laws_room.specs.disk_records.specs.Labels.{tag}
+use Rattle.laws_room.specs.disk_records.specs.Packs.{Pack, after, carried, is_usable, sector_at}
+use Rattle.laws_room.specs.disk_records.specs.declared.records.Page.{Page}
+use Rattle.laws_room.specs.pack_model.specs.reading.Files.{carries_page, place}
+use Rattle.laws_room.specs.pack_model.specs.reading.Sights.{page_sight, sights}
+use Rattle.laws_room.specs.pack_model.specs.reading.Sights.Sight.{free, hidden, stray}
+use Rattle.laws_room.specs.pack_model.specs.states.InUse.{available, counts, free_sector_count, in_use, is_available, is_free_sight, is_good, is_place, one_if}
+use Rattle.laws_room.specs.pack_laws.proofs.Carrying.{carried_shown}
+use Rattle.laws_room.specs.pack_laws.proofs.guards.Laws.{relabel_keeps_the_page}
+use Rattle.laws_room.specs.pack_laws.proofs.Guarding.{carried_parts, ones_free, usable_within}
+use Rattle.laws_room.specs.pack_laws.proofs.Placing.{place_is, place_same}
+use Rattle.laws_room.specs.pack_laws.proofs.Sighted.{length-sights}
+use Rattle.laws_room.specs.laws_record.proofs.Carried.{carried_shows}
+use Rattle.laws_room.specs.laws_record.proofs.Copying.{copy_release, place_carried}
+use Rattle.laws_room.specs.laws_record.proofs.DirEnds.{cut_at_slots}
+use Rattle.laws_room.specs.laws_record.proofs.Recording.{carried_sight, carried_within, label_sights}
+use Rattle.laws_room.specs.laws_record.proofs.Staying.{FilesStay}
+use Rattle.laws_room.specs.laws_record.proofs.Unread.{no_page_shown, stray_release}
+use Rattle.laws_room.specs.laws_record.proofs.Unused.{unused_release}
+use Rattle.laws_room.specs.laws_record.specs.QuietLaws.{with_label}
 use Rattle.laws_mend.proofs.inside.Availing.{PlacesStay, available_alike, copy_place, freed_available, once_place, one_changed, same_in_use}
-use Rattle.laws_mend.proofs.inside.Counted.{carried_in_use, counts_stay, descriptor_uncounted, only_carrier, page_in_use, uncounted, unread_uncounted}
+use Rattle.laws_mend.proofs.inside.Counted.{carried_in_use, counts_stay, only_carrier, page_in_use, uncounted}
 use Rattle.laws_mend.proofs.inside.FreeOnes.{shown_free}
 use Rattle.laws_mend.proofs.inside.Releasing.{shown_once, shown_twice}
-use Rattle.laws_mend.specs.NumberLaws.{CopyReleaseFrees, DescriptorReleaseFrees, DirectoryCutFrees, StrayReleaseFrees, UnreadReleaseFrees, UnusedReleaseFrees}
+use Rattle.laws_mend.specs.NumberLaws.{CopyReleaseFrees, DirectoryCutFrees, StrayReleaseFrees, UnusedReleaseFrees}
 use Rattle.laws_mend.specs.Parts.{FreesMore}
 
 -- ---- tests
@@ -126,12 +125,6 @@ unused_release_frees p at page alone here uncounts =
     (ap is_good sight ∙ page_good page.fid page.number (tag (sector_at p at).label).bytes (sector_at p at).value)
     unused
     (λ j g m other has. ap (is_place j) (once_place p.shape (sights p) at within alone j g m other has))
-
-pub unread_release_frees : UnreadReleaseFrees
-unread_release_frees p at page alone here unread other = unused_release_frees p at page alone here (unread_uncounted p page.fid page.number unread other)
-
-pub descriptor_release_frees : DescriptorReleaseFrees
-descriptor_release_frees p at n alone here far = unused_release_frees p at (record { fid = disk_descriptor; number = suc n }) alone here (descriptor_uncounted p n far)
 
 -- ---- a sector carries its page with other words
 -- the same pages are carried

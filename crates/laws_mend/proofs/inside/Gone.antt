@@ -3,35 +3,35 @@ use Rattle.std.proofs.Common.{◌∙◌, ◌<◌, ◌≡◌, ◌≢◌, ◌⊎�
 use Rattle.std.proofs.lemmas.Bool.{cases_eq, cases_lt}
 use Rattle.std.proofs.lemmas.List.{get_or-set_other, get_or-set_same}
 use Rattle.std.specs.Option.{is_some}
-use Rattle.alto_words.specs.declared.fid.Fid.{Fid}
-use Rattle.alto_words.specs.Fid.{disk_descriptor, is_fid}
-use Rattle.disk_records.specs.Commands.{ones, release_writes}
-use Rattle.disk_records.specs.Labels.{is_free, page_of, tag}
-use Rattle.disk_records.specs.Packs.{Pack, after, carried, is_usable, sector_at}
-use Rattle.disk_records.specs.declared.records.Page.{Page}
-use Rattle.disk_records.specs.declared.records.Sector.{Sector}
-use Rattle.pack_model.specs.reading.Bytes.{bytes_of}
-use Rattle.pack_model.specs.reading.Files.{carries_page, file_bytes, lives, place}
-use Rattle.pack_model.specs.reading.Sights.{page_sight, sights}
-use Rattle.pack_model.specs.reading.Sights.Sight.{free, hidden, holds, stray}
-use Rattle.pack_model.specs.reading.Slots.{SlotsReachEnd}
-use Rattle.pack_model.specs.states.InUse.{counts, in_use, is_good, is_place}
-use Rattle.pack_model.specs.states.Sentences.{EachOnce, IsUsed}
-use Rattle.pack_laws.proofs.Carrying.{carried_shown}
-use Rattle.pack_laws.proofs.Guarding.{carried_parts, ones_free, usable_within}
-use Rattle.pack_laws.proofs.Keys.{is_fid-itself, same_fid}
-use Rattle.pack_laws.proofs.Placing.{leader_of_place, one_page, place_is, place_same}
-use Rattle.pack_laws.proofs.Sighted.{length-sights}
-use Rattle.laws_contents.proofs.pages.Laws.{carried_once_is_in_place}
-use Rattle.laws_record.proofs.Carried.{carried_shows}
-use Rattle.laws_record.proofs.Copying.{place_carried}
-use Rattle.laws_record.proofs.DirReads.{not_descriptor}
-use Rattle.laws_record.proofs.Framing.{counted_bytes, release_frame}
-use Rattle.laws_record.proofs.Recording.{carried_sight, number_below}
-use Rattle.laws_record.proofs.Unread.{no_page_shown, unread}
-use Rattle.laws_record.proofs.Unused.{unused_release}
-use Rattle.laws_record.specs.QuietLaws.{with_label}
-use Rattle.laws_record.specs.QuietLaws.IsUnread.{past_end}
+use Rattle.laws_room.specs.alto_words.specs.declared.fid.Fid.{Fid}
+use Rattle.laws_room.specs.alto_words.specs.Fid.{disk_descriptor, is_fid}
+use Rattle.laws_room.specs.disk_records.specs.Commands.{ones, release_writes}
+use Rattle.laws_room.specs.disk_records.specs.Labels.{is_free, page_of, tag}
+use Rattle.laws_room.specs.disk_records.specs.Packs.{Pack, after, carried, is_usable, sector_at}
+use Rattle.laws_room.specs.disk_records.specs.declared.records.Page.{Page}
+use Rattle.laws_room.specs.disk_records.specs.declared.records.Sector.{Sector}
+use Rattle.laws_room.specs.pack_model.specs.reading.Bytes.{bytes_of}
+use Rattle.laws_room.specs.pack_model.specs.reading.Files.{carries_page, file_bytes, lives, place}
+use Rattle.laws_room.specs.pack_model.specs.reading.Sights.{page_sight, sights}
+use Rattle.laws_room.specs.pack_model.specs.reading.Sights.Sight.{free, hidden, holds, stray}
+use Rattle.laws_room.specs.pack_model.specs.reading.Slots.{SlotsReachEnd}
+use Rattle.laws_room.specs.pack_model.specs.states.InUse.{counts, in_use, is_good, is_place}
+use Rattle.laws_room.specs.pack_model.specs.states.Sentences.{EachOnce, IsUsed}
+use Rattle.laws_room.specs.pack_laws.proofs.Carrying.{carried_shown}
+use Rattle.laws_room.specs.pack_laws.proofs.Guarding.{carried_parts, ones_free, usable_within}
+use Rattle.laws_room.specs.pack_laws.proofs.Keys.{is_fid-itself, same_fid}
+use Rattle.laws_room.specs.pack_laws.proofs.Placing.{leader_of_place, one_page, place_is, place_same}
+use Rattle.laws_room.specs.pack_laws.proofs.Sighted.{length-sights}
+use Rattle.laws_room.specs.laws_contents.proofs.pages.Laws.{carried_once_is_in_place}
+use Rattle.laws_room.specs.laws_record.proofs.Carried.{carried_shows}
+use Rattle.laws_room.specs.laws_record.proofs.Copying.{place_carried}
+use Rattle.laws_room.specs.laws_record.proofs.DirReads.{not_descriptor}
+use Rattle.laws_room.specs.laws_record.proofs.Framing.{counted_bytes, release_frame}
+use Rattle.laws_room.specs.laws_record.proofs.Recording.{carried_sight, number_below}
+use Rattle.laws_room.specs.laws_record.proofs.Unread.{no_page_shown, unread}
+use Rattle.laws_room.specs.laws_record.proofs.Unused.{unused_release}
+use Rattle.laws_room.specs.laws_record.specs.QuietLaws.{with_label}
+use Rattle.laws_room.specs.laws_record.specs.QuietLaws.IsUnread.{past_end}
 use Rattle.laws_mend.proofs.inside.Availing.{copy_place, freed_once, none_free, once_place, same_in_use}
 use Rattle.laws_mend.proofs.inside.Counted.{counts_end, counts_stay, led_counts, only_carrier, uncounted}
 use Rattle.laws_mend.proofs.inside.Filed.{bytes_by_places, lives_by_place}

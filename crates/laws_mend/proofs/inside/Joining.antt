@@ -2,12 +2,12 @@
 use Rattle.std.proofs.Common.{◌∙◌, ap, refl}
 use Rattle.std.specs.FinMap.{entries}
 use Rattle.std.specs.Prelude.{length}
-use Rattle.pack_model.specs.scavenger.Scavenging.{Keeps}
-use Rattle.pack_model.specs.showing.Settling.{given_names}
-use Rattle.pack_model.specs.states.Sound.{Clean}
-use Rattle.laws_record.proofs.Chaining.{at_end, broken_off, keeps_trans, kept_together, throughout_map}
+use Rattle.laws_room.specs.pack_model.specs.scavenger.Scavenging.{Keeps}
+use Rattle.laws_room.specs.pack_model.specs.showing.Settling.{given_names}
+use Rattle.laws_room.specs.pack_model.specs.states.Sound.{Clean}
+use Rattle.laws_room.specs.laws_record.proofs.Chaining.{at_end, broken_off, keeps_trans, kept_together, throughout_map}
 use Rattle.laws_room.proofs.marks.Laws.{unmarked_is_unclean}
-use Rattle.laws_mend.specs.JoinLaws.{NothingTends, OneTends, TendingEnds, TendsBreaksOff, TendsJoin, TendsOn}
+use Rattle.laws_mend.specs.JoinLaws.{NothingTends, TendingEnds, TendsBreaksOff, TendsJoin, TendsOn}
 use Rattle.laws_mend.specs.Tending.{Tends}
 
 -- ---- from pack to pack
@@ -31,9 +31,6 @@ tends_join = kept_together Tends tends_on
 
 pub tends_breaks_off : TendsBreaksOff
 tends_breaks_off p events some first r = broken_off (Tends p) p events some first r
-
-pub one_tends : OneTends
-one_tends p at part words t = (nothing_tends p, t)
 
 -- ---- what they come to
 pub tending_ends : TendingEnds

@@ -2,22 +2,22 @@
 use Rattle.std.proofs.Common.{[], ◌++◌, ◌/◌, ◌∙◌, ◌∷◌, ◌≡◌, ◌≢◌, ◌≤◌, Bool, List, None, Option, Some, ap, arith, cond, false, get_or, length, not, refl, subst, sym, true, ℕ}
 use Rattle.std.specs.FinMap.{entries, get}
 use Rattle.std.specs.Option.{is_some}
-use Rattle.alto_words.specs.declared.fid.Fid.{Fid}
-use Rattle.alto_words.specs.Fid.{sys_dir}
-use Rattle.disk_records.specs.Addresses.{descriptor_length}
-use Rattle.disk_records.specs.Packs.{Pack, is_free_at}
-use Rattle.disk_records.specs.declared.shape.Shape.{Shape}
-use Rattle.pack_model.specs.reading.Bodies.{File, body_length, body_of, found}
-use Rattle.pack_model.specs.reading.Files.{file_bytes, leader}
-use Rattle.pack_model.specs.reading.Leaders.{Leader}
-use Rattle.pack_model.specs.reading.Sights.{Sight, sights}
-use Rattle.pack_model.specs.reading.Sights.Sight.{hidden, leads}
-use Rattle.pack_model.specs.scavenger.Needed.{file_lacks, files_lack, missing, needed, page_lacks, root_lacks}
-use Rattle.pack_model.specs.states.InUse.{is_free_sight, last_page, one_if}
-use Rattle.pack_laws.proofs.Keys.{fid_same, fid_total}
-use Rattle.pack_laws.proofs.Placing.{no_page}
-use Rattle.laws_record.proofs.Around.{around}
-use Rattle.laws_record.proofs.Reading.{get_by, read_file}
+use Rattle.laws_room.specs.alto_words.specs.declared.fid.Fid.{Fid}
+use Rattle.laws_room.specs.alto_words.specs.Fid.{sys_dir}
+use Rattle.laws_room.specs.disk_records.specs.Addresses.{descriptor_length}
+use Rattle.laws_room.specs.disk_records.specs.Packs.{Pack, is_free_at}
+use Rattle.laws_room.specs.disk_records.specs.declared.shape.Shape.{Shape}
+use Rattle.laws_room.specs.pack_model.specs.reading.Bodies.{File, body_length, body_of, found}
+use Rattle.laws_room.specs.pack_model.specs.reading.Files.{file_bytes, leader}
+use Rattle.laws_room.specs.pack_model.specs.reading.Leaders.{Leader}
+use Rattle.laws_room.specs.pack_model.specs.reading.Sights.{Sight, sights}
+use Rattle.laws_room.specs.pack_model.specs.reading.Sights.Sight.{hidden, leads}
+use Rattle.laws_room.specs.pack_model.specs.scavenger.Needed.{file_lacks, files_lack, missing, needed, page_lacks, root_lacks}
+use Rattle.laws_room.specs.pack_model.specs.states.InUse.{is_free_sight, last_page, one_if}
+use Rattle.laws_room.specs.pack_laws.proofs.Keys.{fid_same, fid_total}
+use Rattle.laws_room.specs.pack_laws.proofs.Placing.{no_page}
+use Rattle.laws_room.specs.laws_record.proofs.Around.{around}
+use Rattle.laws_room.specs.laws_record.proofs.Reading.{get_by, read_file}
 use Rattle.laws_room.proofs.Found.{found_shown}
 use Rattle.laws_mend.proofs.inside.Counted.{body_ends}
 use Rattle.laws_mend.proofs.inside.FreeOnes.{needed_is_free}

@@ -3,25 +3,25 @@ use Rattle.std.proofs.Common.{[], ◌+◌, ◌<◌, ◌∙◌, ◌∷◌, ◌≡
 use Rattle.std.proofs.lemmas.Bool.{cases_lt}
 use Rattle.std.specs.Option.{is_some}
 use Rattle.std.specs.Prelude.{◌&&◌, ◌||◌, cond}
-use Rattle.alto_words.specs.declared.fid.Fid.{Fid}
-use Rattle.alto_words.specs.Fid.{disk_descriptor, sys_dir}
-use Rattle.disk_records.specs.Packs.{Pack, carried, is_free_at}
-use Rattle.pack_model.specs.reading.Bodies.{body_of}
-use Rattle.pack_model.specs.reading.Files.{carries_page, file_bytes, leader, lives, numbered, page, place}
-use Rattle.pack_model.specs.reading.Leaders.{Leader}
-use Rattle.pack_model.specs.reading.Model.{descriptor_pages}
-use Rattle.pack_model.specs.reading.Sights.{Sight, sights}
-use Rattle.pack_model.specs.reading.Sights.Sight.{free, hidden}
-use Rattle.pack_model.specs.scavenger.Needed.{descriptor_lacks, missing, needed, page_lacks}
-use Rattle.pack_model.specs.scavenger.Reports.{freed_sectors}
-use Rattle.pack_model.specs.scavenger.Scavenging.{Scavengeable}
-use Rattle.pack_model.specs.sessions.Descriptor.{data_pages}
-use Rattle.pack_model.specs.states.InUse.{counts, how_many, in_use, is_available, is_free_sight, is_good, is_place, is_within, last_page, one_if}
-use Rattle.pack_model.specs.states.Sentences.{EachOnce, IsUsed}
-use Rattle.pack_laws.proofs.Placing.{no_page}
-use Rattle.laws_contents.proofs.pages.Laws.{carried_once_is_in_place}
-use Rattle.laws_record.proofs.Carried.{carried_shows}
-use Rattle.laws_record.proofs.Reading.{get_by, read_file}
+use Rattle.laws_room.specs.alto_words.specs.declared.fid.Fid.{Fid}
+use Rattle.laws_room.specs.alto_words.specs.Fid.{disk_descriptor, sys_dir}
+use Rattle.laws_room.specs.disk_records.specs.Packs.{Pack, carried, is_free_at}
+use Rattle.laws_room.specs.pack_model.specs.reading.Bodies.{body_of}
+use Rattle.laws_room.specs.pack_model.specs.reading.Files.{carries_page, file_bytes, leader, lives, numbered, page, place}
+use Rattle.laws_room.specs.pack_model.specs.reading.Leaders.{Leader}
+use Rattle.laws_room.specs.pack_model.specs.reading.Model.{descriptor_pages}
+use Rattle.laws_room.specs.pack_model.specs.reading.Sights.{Sight, sights}
+use Rattle.laws_room.specs.pack_model.specs.reading.Sights.Sight.{free, hidden}
+use Rattle.laws_room.specs.pack_model.specs.scavenger.Needed.{descriptor_lacks, missing, needed, page_lacks}
+use Rattle.laws_room.specs.pack_model.specs.scavenger.Reports.{freed_sectors}
+use Rattle.laws_room.specs.pack_model.specs.scavenger.Scavenging.{Scavengeable}
+use Rattle.laws_room.specs.pack_model.specs.sessions.Descriptor.{data_pages}
+use Rattle.laws_room.specs.pack_model.specs.states.InUse.{counts, how_many, in_use, is_available, is_free_sight, is_good, is_place, is_within, last_page, one_if}
+use Rattle.laws_room.specs.pack_model.specs.states.Sentences.{EachOnce, IsUsed}
+use Rattle.laws_room.specs.pack_laws.proofs.Placing.{no_page}
+use Rattle.laws_room.specs.laws_contents.proofs.pages.Laws.{carried_once_is_in_place}
+use Rattle.laws_room.specs.laws_record.proofs.Carried.{carried_shows}
+use Rattle.laws_room.specs.laws_record.proofs.Reading.{get_by, read_file}
 use Rattle.laws_mend.proofs.inside.Counted.{carried_in_use}
 use Rattle.laws_mend.proofs.inside.Counting.{freed_and_free}
 use Rattle.laws_mend.proofs.inside.Filed.{lives_place}

@@ -2,35 +2,35 @@
 use Rattle.std.proofs.Common.{◌/◌, ◌<◌, ◌∙◌, ◌≡◌, ◌≤◌, Bool, List, None, Option, Some, ap, arith, eq-eqb, false, get_or, inl, inr, leb-true, length, nat_le, refl, subst, suc, sym, true, zero, ℕ}
 use Rattle.std.proofs.lemmas.Bool.{cases_lt}
 use Rattle.std.specs.Option.{is_some, option_map}
-use Rattle.std.specs.Prelude.{◌&&◌, ◌⊎◌}
-use Rattle.alto_words.specs.declared.fid.Fid.{Fid}
-use Rattle.alto_words.specs.Fid.{disk_descriptor, is_fid}
-use Rattle.disk_records.specs.Packs.{Pack, carried, sector_at}
-use Rattle.disk_records.specs.Labels.{tag}
-use Rattle.disk_records.specs.declared.records.Page.{Page}
-use Rattle.pack_model.specs.reading.Files.{carries_page, file_bytes, leader, lives, place}
-use Rattle.pack_model.specs.reading.Leaders.{Leader}
-use Rattle.pack_model.specs.reading.Sights.{Sight, page_sight, sights}
-use Rattle.pack_model.specs.reading.Sights.Sight.{free, hidden, holds, leads, stray}
-use Rattle.pack_model.specs.sessions.Descriptor.{data_pages}
-use Rattle.pack_model.specs.states.InUse.{counts, in_use, is_good, is_place, is_within}
-use Rattle.pack_model.specs.states.Sentences.{HasLastPage, IsUsed}
-use Rattle.pack_laws.proofs.Carrying.{carried_shown}
-use Rattle.pack_laws.proofs.Keys.{is_fid-itself, same_fid}
-use Rattle.pack_laws.proofs.Placing.{carries-holds}
-use Rattle.pack_laws.proofs.Sighted.{length-sights}
-use Rattle.laws_record.proofs.Carried.{carries_within}
-use Rattle.laws_record.proofs.Copying.{place_carried}
-use Rattle.laws_record.proofs.Ends.{counts_none}
-use Rattle.laws_record.proofs.Heads.{and_left, and_right}
-use Rattle.laws_record.proofs.Reading.{get-found, read_file}
-use Rattle.laws_record.proofs.Recording.{carried_sight}
-use Rattle.laws_contents.proofs.ends.Laws.{each_file_has_its_end}
-use Rattle.laws_contents.proofs.pages.Laws.{carried_once_is_in_place}
+use Rattle.std.specs.Prelude.{◌&&◌, ◌↔◌, ◌⊎◌}
+use Rattle.laws_room.specs.alto_words.specs.declared.fid.Fid.{Fid}
+use Rattle.laws_room.specs.alto_words.specs.Fid.{disk_descriptor, is_fid}
+use Rattle.laws_room.specs.disk_records.specs.Packs.{Pack, carried, sector_at}
+use Rattle.laws_room.specs.disk_records.specs.Labels.{tag}
+use Rattle.laws_room.specs.disk_records.specs.declared.records.Page.{Page}
+use Rattle.laws_room.specs.pack_model.specs.reading.Files.{carries_page, file_bytes, leader, lives, place}
+use Rattle.laws_room.specs.pack_model.specs.reading.Leaders.{Leader}
+use Rattle.laws_room.specs.pack_model.specs.reading.Sights.{Sight, page_sight, sights}
+use Rattle.laws_room.specs.pack_model.specs.reading.Sights.Sight.{free, hidden, holds, leads, stray}
+use Rattle.laws_room.specs.pack_model.specs.sessions.Descriptor.{data_pages}
+use Rattle.laws_room.specs.pack_model.specs.states.InUse.{counts, in_use, is_good, is_place, is_within}
+use Rattle.laws_room.specs.pack_model.specs.states.Sentences.{EachOnce, HasLastPage, IsUsed}
+use Rattle.laws_room.specs.pack_laws.proofs.Carrying.{carried_shown}
+use Rattle.laws_room.specs.pack_laws.proofs.Keys.{is_fid-itself, same_fid}
+use Rattle.laws_room.specs.pack_laws.proofs.Placing.{carries-holds}
+use Rattle.laws_room.specs.pack_laws.proofs.Sighted.{length-sights}
+use Rattle.laws_room.specs.laws_record.proofs.Carried.{carries_within}
+use Rattle.laws_room.specs.laws_record.proofs.Copying.{place_carried}
+use Rattle.laws_room.specs.laws_record.proofs.Ends.{counts_none}
+use Rattle.laws_room.specs.laws_record.proofs.Heads.{and_left, and_right}
+use Rattle.laws_room.specs.laws_record.proofs.Reading.{get-found, read_file}
+use Rattle.laws_room.specs.laws_record.proofs.Recording.{carried_sight}
+use Rattle.laws_room.specs.laws_contents.proofs.ends.Laws.{each_file_has_its_end}
+use Rattle.laws_room.specs.laws_contents.proofs.pages.Laws.{carried_once_is_in_place}
 use Rattle.laws_mend.proofs.inside.Counted.{carried_in_use, counts_end}
 use Rattle.laws_mend.proofs.inside.Filed.{lives_place}
 use Rattle.laws_mend.proofs.inside.Seats.{few_seats}
-use Rattle.laws_mend.specs.CountingLaws.{CountsByItsEnd, CountsByItsFormat, FullPagesAreFew, LastingFileHasItsPages, UsedByItsPage, UsedBySight}
+use Rattle.laws_mend.specs.CountingLaws.{CountsByItsEnd, CountsByItsFormat, FullPagesAreFew, LastingFileHasItsPages, UsedByItsPage}
 use Rattle.laws_mend.specs.Parts.{Lasting}
 
 -- ---- pages that count
@@ -58,7 +58,8 @@ page_not_free : (f : Fid) (n c : ℕ) (v : List ℕ) → page_sight f n c v ≡ 
 page_not_free f zero c v e = cc
 page_not_free f (suc n) c v e = cc
 
-pub used_by_sight : UsedBySight
+-- where no page is carried twice, a sector that carries one is in use if and only if its page counts
+used_by_sight : (p : Pack) (at : ℕ) (page : Page) → EachOnce (sights p) → carried p at ≡ Some page → IsUsed p.shape (sights p) at ↔ (counts p.shape (sights p) page.fid page.number ≡ true)
 used_by_sight p at page once here = (there, back)
   where
     s : get_or (sights p) at hidden ≡ page_sight page.fid page.number (tag (sector_at p at).label).bytes (sector_at p at).value

@@ -5,46 +5,46 @@ use Rattle.std.proofs.lemmas.List.{ext_get_or, get_or-take, length-append, lengt
 use Rattle.std.proofs.lemmas.List.Elements.{All-weaker}
 use Rattle.std.specs.Option.{is_some}
 use Rattle.std.specs.Prelude.{◌&&◌, All, replicate, reverse}
-use Rattle.alto_words.specs.declared.fid.Fid.{Fid}
-use Rattle.alto_words.specs.Fid.{disk_descriptor, is_fid, sys_dir}
-use Rattle.disk_records.proofs.Growing.{after-append}
-use Rattle.disk_records.specs.Addresses.{descriptor_length, table_words}
-use Rattle.disk_records.specs.Commands.{value_writes}
-use Rattle.disk_records.specs.Packs.{Pack, after, carried, sector_at}
-use Rattle.disk_records.specs.Words.{double, word}
-use Rattle.disk_records.specs.declared.records.Page.{Page}
-use Rattle.disk_records.specs.declared.records.Sector.{Sector}
-use Rattle.disk_records.specs.declared.shape.Shape.{Shape}
-use Rattle.pack_model.specs.hints.Links.{EntryAddresses, HasLinks, IsTrueAddress, PageLinks, dir_words, kept_slots, next_link, previous_link}
-use Rattle.pack_model.specs.hints.Tables.{HintsTrue, true_table, words_of_bits}
-use Rattle.pack_model.specs.operations.Commands.{values_writes}
-use Rattle.pack_model.specs.operations.PageWords.{filled}
-use Rattle.pack_model.specs.reading.Bodies.{described}
-use Rattle.pack_model.specs.reading.Bytes.{words_of}
-use Rattle.pack_model.specs.reading.Files.{carries_page, file_bytes, lives, numbered, place}
-use Rattle.pack_model.specs.reading.Leaders.{Leader}
-use Rattle.pack_model.specs.reading.Model.{Model, IsNamed, descriptor_words, dir_items, good_sectors, is_named, last_serial, read_as, read_sights}
-use Rattle.pack_model.specs.reading.Namings.{IsTidy, tidied}
-use Rattle.pack_model.specs.reading.Sights.{Sight, sights}
-use Rattle.pack_model.specs.reading.Sights.Sight.{free, hidden, holds, leads, stray}
-use Rattle.pack_model.specs.reading.Slots.{SlotsReachEnd, Item}
-use Rattle.pack_model.specs.reading.Slots.Item.{entry, space}
-use Rattle.pack_model.specs.reading.SlotWords.{SlotAt, slots_at}
-use Rattle.pack_model.specs.sessions.Descriptor.{closed_values, descriptor_text, descriptor_value}
-use Rattle.pack_model.specs.states.InUse.{counts, free_sector_count, how_many, in_use, is_available, is_free_sight, is_good, is_place, one_if}
-use Rattle.pack_model.specs.states.Sentences.{IsUsed, PagesWhole, WholeBySentences}
-use Rattle.pack_model.specs.states.Sound.{Clean, Sound, mark_clean}
-use Rattle.pack_model.specs.states.Whole.{SaysShape}
-use Rattle.pack_laws.proofs.Bytes.{length-words_of}
-use Rattle.pack_laws.proofs.Guarding.{carried_parts, here_written, other_kept, usable_within}
-use Rattle.pack_laws.proofs.Keys.{is_fid-itself}
-use Rattle.pack_laws.proofs.Placing.{page_of_place, place_none}
-use Rattle.laws_contents.proofs.words.Laws.{each_word_has_its_page, word_stands_in_its_page}
-use Rattle.laws_record.proofs.Copying.{place_carried}
-use Rattle.laws_record.proofs.DirReads.{not_descriptor}
-use Rattle.laws_record.proofs.Framing.{lives_same, model_same}
-use Rattle.laws_record.proofs.sentences.Laws.{by_sentences}
-use Rattle.laws_record.specs.QuietLaws.{with_value}
+use Rattle.laws_room.specs.alto_words.specs.declared.fid.Fid.{Fid}
+use Rattle.laws_room.specs.alto_words.specs.Fid.{disk_descriptor, is_fid, sys_dir}
+use Rattle.laws_room.specs.disk_records.proofs.Growing.{after-append}
+use Rattle.laws_room.specs.disk_records.specs.Addresses.{descriptor_length, table_words}
+use Rattle.laws_room.specs.disk_records.specs.Commands.{value_writes}
+use Rattle.laws_room.specs.disk_records.specs.Packs.{Pack, after, carried, sector_at}
+use Rattle.laws_room.specs.disk_records.specs.Words.{double, word}
+use Rattle.laws_room.specs.disk_records.specs.declared.records.Page.{Page}
+use Rattle.laws_room.specs.disk_records.specs.declared.records.Sector.{Sector}
+use Rattle.laws_room.specs.disk_records.specs.declared.shape.Shape.{Shape}
+use Rattle.laws_room.specs.pack_model.specs.hints.Links.{EntryAddresses, HasLinks, IsTrueAddress, PageLinks, dir_words, kept_slots, next_link, previous_link}
+use Rattle.laws_room.specs.pack_model.specs.hints.Tables.{HintsTrue, true_table, words_of_bits}
+use Rattle.laws_room.specs.pack_model.specs.operations.Commands.{values_writes}
+use Rattle.laws_room.specs.pack_model.specs.operations.PageWords.{filled}
+use Rattle.laws_room.specs.pack_model.specs.reading.Bodies.{described}
+use Rattle.laws_room.specs.pack_model.specs.reading.Bytes.{words_of}
+use Rattle.laws_room.specs.pack_model.specs.reading.Files.{carries_page, file_bytes, lives, numbered, place}
+use Rattle.laws_room.specs.pack_model.specs.reading.Leaders.{Leader}
+use Rattle.laws_room.specs.pack_model.specs.reading.Model.{Model, IsNamed, descriptor_words, dir_items, good_sectors, is_named, last_serial, read_as, read_sights}
+use Rattle.laws_room.specs.pack_model.specs.reading.Namings.{IsTidy, tidied}
+use Rattle.laws_room.specs.pack_model.specs.reading.Sights.{Sight, sights}
+use Rattle.laws_room.specs.pack_model.specs.reading.Sights.Sight.{free, hidden, holds, leads, stray}
+use Rattle.laws_room.specs.pack_model.specs.reading.Slots.{SlotsReachEnd, Item}
+use Rattle.laws_room.specs.pack_model.specs.reading.Slots.Item.{entry, space}
+use Rattle.laws_room.specs.pack_model.specs.reading.SlotWords.{SlotAt, slots_at}
+use Rattle.laws_room.specs.pack_model.specs.sessions.Descriptor.{closed_values, descriptor_text, descriptor_value}
+use Rattle.laws_room.specs.pack_model.specs.states.InUse.{counts, free_sector_count, how_many, in_use, is_available, is_free_sight, is_good, is_place, one_if}
+use Rattle.laws_room.specs.pack_model.specs.states.Sentences.{IsUsed, PagesWhole, WholeBySentences}
+use Rattle.laws_room.specs.pack_model.specs.states.Sound.{Clean, Sound, mark_clean}
+use Rattle.laws_room.specs.pack_model.specs.states.Whole.{SaysShape}
+use Rattle.laws_room.specs.pack_laws.proofs.Bytes.{length-words_of}
+use Rattle.laws_room.specs.pack_laws.proofs.Guarding.{carried_parts, here_written, other_kept, usable_within}
+use Rattle.laws_room.specs.pack_laws.proofs.Keys.{is_fid-itself}
+use Rattle.laws_room.specs.pack_laws.proofs.Placing.{page_of_place, place_none}
+use Rattle.laws_room.specs.laws_contents.proofs.words.Laws.{each_word_has_its_page, word_stands_in_its_page}
+use Rattle.laws_room.specs.laws_record.proofs.Copying.{place_carried}
+use Rattle.laws_room.specs.laws_record.proofs.DirReads.{not_descriptor}
+use Rattle.laws_room.specs.laws_record.proofs.Framing.{lives_same, model_same}
+use Rattle.laws_room.specs.laws_record.proofs.sentences.Laws.{by_sentences}
+use Rattle.laws_room.specs.laws_record.specs.QuietLaws.{with_value}
 use Rattle.laws_lookup.specs.HintLaws.{HasFullValues}
 use Rattle.laws_mend.proofs.inside.Alike.{alike_next, alike_previous}
 use Rattle.laws_mend.proofs.inside.Availing.{same_in_use}

@@ -2,25 +2,25 @@
 use Rattle.std.proofs.Common.{◌∙◌, ◌≡◌, ◌≢◌, ◌<◌, List, None, Some, ap, arith, inl, inr, subst, sym, suc, ℕ}
 use Rattle.std.proofs.lemmas.Bool.{cases_eq}
 use Rattle.std.specs.Prelude.{cond, nat_lt, ◌&&◌}
-use Rattle.disk_records.specs.Addresses.{is_right_header}
-use Rattle.alto_words.specs.Fid.{disk_descriptor}
-use Rattle.disk_records.specs.Commands.{relabel_writes}
-use Rattle.disk_records.specs.Labels.{page_of}
-use Rattle.disk_records.specs.Packs.{Pack, after, carried, is_usable, sector_at}
-use Rattle.disk_records.specs.Words.{word}
-use Rattle.disk_records.specs.declared.records.Page.{Page}
-use Rattle.pack_model.specs.reading.Model.{read_as}
-use Rattle.pack_model.specs.scavenger.Scavenging.{Keeps, Unmarked}
-use Rattle.pack_model.specs.showing.View.{view}
-use Rattle.pack_laws.proofs.files.Laws.{places_are_lowest}
-use Rattle.pack_laws.proofs.guards.Laws.{relabel_keeps_the_page, value_writes_keep_the_page}
-use Rattle.pack_laws.proofs.Guarding.{front_from, value_page}
-use Rattle.pack_laws.specs.GuardLaws.{ComesToHold}
-use Rattle.laws_record.proofs.quiet.Laws.{equal_value_reads_same, other_links_reads_same, same_leader_reads_same}
-use Rattle.laws_record.proofs.directories.Laws.{cut_at_slots_reads_same}
-use Rattle.laws_record.proofs.views.Laws.{descriptor_pages_views_same}
-use Rattle.laws_record.specs.QuietLaws.{with_label, with_value}
-use Rattle.laws_record.specs.ViewLaws.IsDescriptorPage.{claimed}
+use Rattle.laws_room.specs.disk_records.specs.Addresses.{is_right_header}
+use Rattle.laws_room.specs.alto_words.specs.Fid.{disk_descriptor}
+use Rattle.laws_room.specs.disk_records.specs.Commands.{relabel_writes}
+use Rattle.laws_room.specs.disk_records.specs.Labels.{page_of}
+use Rattle.laws_room.specs.disk_records.specs.Packs.{Pack, after, carried, is_usable, sector_at}
+use Rattle.laws_room.specs.disk_records.specs.Words.{word}
+use Rattle.laws_room.specs.disk_records.specs.declared.records.Page.{Page}
+use Rattle.laws_room.specs.pack_model.specs.reading.Model.{read_as}
+use Rattle.laws_room.specs.pack_model.specs.scavenger.Scavenging.{Keeps, Unmarked}
+use Rattle.laws_room.specs.pack_model.specs.showing.View.{view}
+use Rattle.laws_room.specs.pack_laws.proofs.files.Laws.{places_are_lowest}
+use Rattle.laws_room.specs.pack_laws.proofs.guards.Laws.{relabel_keeps_the_page, value_writes_keep_the_page}
+use Rattle.laws_room.specs.pack_laws.proofs.Guarding.{front_from, value_page}
+use Rattle.laws_room.specs.pack_laws.specs.GuardLaws.{ComesToHold}
+use Rattle.laws_room.specs.laws_record.proofs.quiet.Laws.{equal_value_reads_same, other_links_reads_same, same_leader_reads_same}
+use Rattle.laws_room.specs.laws_record.proofs.directories.Laws.{cut_at_slots_reads_same}
+use Rattle.laws_room.specs.laws_record.proofs.views.Laws.{descriptor_pages_views_same}
+use Rattle.laws_room.specs.laws_record.specs.QuietLaws.{with_label, with_value}
+use Rattle.laws_room.specs.laws_record.specs.ViewLaws.IsDescriptorPage.{claimed}
 use Rattle.laws_room.proofs.keeping.Laws.{cut_at_slots_keeps_aside, descriptor_pages_keeps_aside, equal_value_keeps_aside, other_links_keeps_aside, same_leader_keeps_aside}
 use Rattle.laws_room.specs.KeepLaws.{RootMay}
 use Rattle.laws_room.specs.KeepLaws.RootMay.{as_before}

@@ -1,38 +1,36 @@
 -- Releases of sectors while the pages of a pack are mended.
-use Rattle.std.proofs.Common.{◌∙◌, ◌≡◌, ◌≢◌, List, None, Some, ap, false, inl, inr, set, sym, true, suc, ℕ}
+use Rattle.std.proofs.Common.{◌∙◌, ◌≡◌, ◌≢◌, List, None, Some, ap, false, inl, inr, set, sym, true, ℕ}
 use Rattle.std.proofs.lemmas.Bool.{cases_eq}
 use Rattle.std.specs.Prelude.{cond}
-use Rattle.alto_words.specs.Fid.{disk_descriptor}
-use Rattle.disk_records.specs.Commands.{ones, release_writes}
-use Rattle.disk_records.specs.Labels.{is_free, page_of, tag}
-use Rattle.disk_records.specs.Packs.{Pack, after, carried, is_free_at, is_usable, sector_at}
-use Rattle.disk_records.specs.Words.{word}
-use Rattle.disk_records.specs.declared.records.Page.{Page}
-use Rattle.disk_records.specs.declared.records.Sector.{Sector}
-use Rattle.pack_model.specs.reading.Files.{place}
-use Rattle.pack_model.specs.reading.Model.{read_as}
-use Rattle.pack_model.specs.reading.Sights.{sight, sights}
-use Rattle.pack_model.specs.reading.Sights.Sight.{free, hidden}
-use Rattle.pack_model.specs.scavenger.Scavenging.{Keeps, Unmarked}
-use Rattle.pack_model.specs.showing.View.{view}
-use Rattle.pack_laws.proofs.files.Laws.{places_are_lowest}
-use Rattle.pack_laws.proofs.Guarding.{carried_parts, free_parts, free_shown, free_unnamed, here_written, ones_free, other_kept, usable_within}
-use Rattle.laws_contents.proofs.pages.Laws.{carried_once_is_in_place}
-use Rattle.laws_record.proofs.Recording.{freed_sights}
-use Rattle.laws_record.proofs.Unseen.{sights_kept}
-use Rattle.laws_record.proofs.quiet.Laws.{copy_release_reads_same, free_value_reads_same, stray_release_reads_same, unread_release_reads_same}
-use Rattle.laws_record.proofs.views.Laws.{descriptor_pages_views_same, unused_release_views_same}
-use Rattle.laws_record.specs.QuietLaws.{with_label, with_value}
-use Rattle.laws_record.specs.ViewLaws.IsDescriptorPage.{claimed, unclaimed}
-use Rattle.laws_room.proofs.keeping.Laws.{copy_release_keeps_aside, descriptor_pages_keeps_aside, free_value_keeps_aside, stray_release_keeps_aside, unread_release_keeps_aside, unused_release_keeps_aside}
+use Rattle.laws_room.specs.alto_words.specs.Fid.{disk_descriptor}
+use Rattle.laws_room.specs.disk_records.specs.Commands.{ones, release_writes}
+use Rattle.laws_room.specs.disk_records.specs.Labels.{is_free, page_of, tag}
+use Rattle.laws_room.specs.disk_records.specs.Packs.{Pack, after, carried, is_free_at, is_usable, sector_at}
+use Rattle.laws_room.specs.disk_records.specs.Words.{word}
+use Rattle.laws_room.specs.disk_records.specs.declared.records.Sector.{Sector}
+use Rattle.laws_room.specs.pack_model.specs.reading.Files.{place}
+use Rattle.laws_room.specs.pack_model.specs.reading.Model.{read_as}
+use Rattle.laws_room.specs.pack_model.specs.reading.Sights.{sight, sights}
+use Rattle.laws_room.specs.pack_model.specs.reading.Sights.Sight.{free, hidden}
+use Rattle.laws_room.specs.pack_model.specs.scavenger.Scavenging.{Keeps, Unmarked}
+use Rattle.laws_room.specs.pack_model.specs.showing.View.{view}
+use Rattle.laws_room.specs.pack_laws.proofs.files.Laws.{places_are_lowest}
+use Rattle.laws_room.specs.pack_laws.proofs.Guarding.{carried_parts, free_parts, free_shown, free_unnamed, here_written, ones_free, other_kept, usable_within}
+use Rattle.laws_room.specs.laws_contents.proofs.pages.Laws.{carried_once_is_in_place}
+use Rattle.laws_room.specs.laws_record.proofs.Recording.{freed_sights}
+use Rattle.laws_room.specs.laws_record.proofs.Unseen.{sights_kept}
+use Rattle.laws_room.specs.laws_record.proofs.quiet.Laws.{copy_release_reads_same, free_value_reads_same, stray_release_reads_same}
+use Rattle.laws_room.specs.laws_record.proofs.views.Laws.{unused_release_views_same}
+use Rattle.laws_room.specs.laws_record.specs.QuietLaws.{with_label, with_value}
+use Rattle.laws_room.proofs.keeping.Laws.{copy_release_keeps_aside, free_value_keeps_aside, stray_release_keeps_aside, unused_release_keeps_aside}
 use Rattle.laws_room.proofs.marks.Laws.{unmarked_stays}
 use Rattle.laws_room.specs.KeepLaws.{RootMay}
 use Rattle.laws_room.specs.KeepLaws.RootMay.{as_before, made_free}
 use Rattle.laws_room.specs.MarkLaws.{mark_page}
-use Rattle.pack_model.specs.states.Sentences.{EachOnce}
+use Rattle.laws_room.specs.pack_model.specs.states.Sentences.{EachOnce}
 use Rattle.laws_mend.proofs.inside.Counted.{only_carrier, uncounted}
 use Rattle.laws_mend.proofs.inside.Joining.{nothing_tends, tends_on}
-use Rattle.laws_mend.specs.RunLaws.{CopyReleaseTends, DescriptorReleaseTends, StrayReleaseTends, UnreadReleaseTends, UnusedReleaseTends}
+use Rattle.laws_mend.specs.RunLaws.{CopyReleaseTends, StrayReleaseTends, UnusedReleaseTends}
 use Rattle.laws_mend.specs.Tending.{Tends, AllTends}
 
 -- nothing is something
@@ -143,20 +141,6 @@ pub stray_release_tends : StrayReleaseTends
 stray_release_tends p at usable none =
     release_tends p at usable (stray_release_keeps_aside p at (ones 8) none ones_free) (ap view (stray_release_reads_same p at (ones 8) none ones_free))
     (unmarked_other p at usable (λ is. some_none (sym none ∙ ((places_are_lowest p mark_page).lowest at is).here)))
-
--- of a page that isn't read
-pub unread_release_tends : UnreadReleaseTends
-unread_release_tends p at page alone here unread =
-    let usable = (carried_parts p at page here).0 in
-    release_tends p at usable (unread_release_keeps_aside p at page (ones 8) here ones_free unread) (ap view (unread_release_reads_same p at page (ones 8) here ones_free unread)) (unmarked_alone p at usable alone)
-
--- of a data page of DiskDescriptor
-pub descriptor_release_tends : DescriptorReleaseTends
-descriptor_release_tends p at n alone here =
-    let page : Page = record { fid = disk_descriptor; number = suc n } in
-    let usable = (carried_parts p at page here).0 in
-    let now = free_once p at usable in
-    release_tends p at usable (descriptor_pages_keeps_aside p at 1 (ones 8) (claimed n here) (unclaimed now)) (descriptor_pages_views_same p at 1 (ones 8) (claimed n here) (unclaimed now)) (unmarked_alone p at usable alone)
 
 -- of a page that doesn't count
 pub unused_release_tends : UnusedReleaseTends

@@ -3,31 +3,31 @@ use Rattle.std.proofs.Common.{◌++◌, ◌+◌, ◌∙◌, ◌≡◌, Bool, Lis
 use Rattle.std.proofs.Math.ListN.{length-set}
 use Rattle.std.proofs.lemmas.Bool.{cases_eq}
 use Rattle.std.proofs.lemmas.List.{get_or-set_other, get_or-set_same, length-append}
-use Rattle.alto_words.specs.declared.fid.Fid.{Fid}
-use Rattle.alto_words.specs.Fid.{disk_descriptor}
-use Rattle.disk_records.specs.Labels.{tag}
-use Rattle.disk_records.specs.Packs.{Pack, carried, sector_at}
-use Rattle.disk_records.specs.declared.records.Page.{Page}
-use Rattle.disk_records.specs.declared.records.Sector.{Sector}
-use Rattle.disk_records.specs.declared.shape.Shape.{Shape}
-use Rattle.pack_model.specs.hints.Links.{link_to, next_link, no_link, previous_link}
-use Rattle.pack_model.specs.reading.Bytes.{bytes_of}
-use Rattle.pack_model.specs.reading.Files.{carries_page, file_bytes, joined, most_pages, page, place}
-use Rattle.pack_model.specs.reading.Leaders.{Leader}
-use Rattle.pack_model.specs.reading.Sights.{Sight, sights}
-use Rattle.pack_model.specs.reading.Sights.Sight.{free, hidden, holds, leads}
-use Rattle.pack_model.specs.states.InUse.{in_use, is_free_sight, is_good}
-use Rattle.pack_laws.proofs.Bytes.{length-bytes_of}
-use Rattle.pack_laws.proofs.guards.Laws.{value_writes_keep_the_page}
-use Rattle.pack_laws.proofs.Guarding.{value_page}
-use Rattle.pack_laws.proofs.Joining.{continue, joined-suc}
-use Rattle.pack_laws.proofs.Placing.{no_page, page_of_place}
-use Rattle.pack_laws.specs.GuardLaws.{ComesToHold}
-use Rattle.laws_record.proofs.Recording.{carried_sight, carried_within, value_sights}
-use Rattle.laws_record.proofs.Staying.{FilesStay}
-use Rattle.laws_record.proofs.SystemWrites.{descriptor_pages}
-use Rattle.laws_record.specs.QuietLaws.{with_value}
-use Rattle.laws_record.specs.ViewLaws.IsDescriptorPage.{claimed}
+use Rattle.laws_room.specs.alto_words.specs.declared.fid.Fid.{Fid}
+use Rattle.laws_room.specs.alto_words.specs.Fid.{disk_descriptor}
+use Rattle.laws_room.specs.disk_records.specs.Labels.{tag}
+use Rattle.laws_room.specs.disk_records.specs.Packs.{Pack, carried, sector_at}
+use Rattle.laws_room.specs.disk_records.specs.declared.records.Page.{Page}
+use Rattle.laws_room.specs.disk_records.specs.declared.records.Sector.{Sector}
+use Rattle.laws_room.specs.disk_records.specs.declared.shape.Shape.{Shape}
+use Rattle.laws_room.specs.pack_model.specs.hints.Links.{link_to, next_link, no_link, previous_link}
+use Rattle.laws_room.specs.pack_model.specs.reading.Bytes.{bytes_of}
+use Rattle.laws_room.specs.pack_model.specs.reading.Files.{carries_page, file_bytes, joined, most_pages, page, place}
+use Rattle.laws_room.specs.pack_model.specs.reading.Leaders.{Leader}
+use Rattle.laws_room.specs.pack_model.specs.reading.Sights.{Sight, sights}
+use Rattle.laws_room.specs.pack_model.specs.reading.Sights.Sight.{free, hidden, holds, leads}
+use Rattle.laws_room.specs.pack_model.specs.states.InUse.{in_use, is_free_sight, is_good}
+use Rattle.laws_room.specs.pack_laws.proofs.Bytes.{length-bytes_of}
+use Rattle.laws_room.specs.pack_laws.proofs.guards.Laws.{value_writes_keep_the_page}
+use Rattle.laws_room.specs.pack_laws.proofs.Guarding.{value_page}
+use Rattle.laws_room.specs.pack_laws.proofs.Joining.{continue, joined-suc}
+use Rattle.laws_room.specs.pack_laws.proofs.Placing.{no_page, page_of_place}
+use Rattle.laws_room.specs.pack_laws.specs.GuardLaws.{ComesToHold}
+use Rattle.laws_room.specs.laws_record.proofs.Recording.{carried_sight, carried_within, value_sights}
+use Rattle.laws_room.specs.laws_record.proofs.Staying.{FilesStay}
+use Rattle.laws_room.specs.laws_record.proofs.SystemWrites.{descriptor_pages}
+use Rattle.laws_room.specs.laws_record.specs.QuietLaws.{with_value}
+use Rattle.laws_room.specs.laws_record.specs.ViewLaws.IsDescriptorPage.{claimed}
 use Rattle.laws_lookup.specs.HintLaws.{HasFullValues}
 use Rattle.laws_mend.proofs.inside.Freed.{rewritten_places}
 

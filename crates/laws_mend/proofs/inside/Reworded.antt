@@ -3,33 +3,33 @@ use Rattle.std.proofs.Common.{◌+◌, ◌/◌, ◌*◌, ◌<◌, ◌∙◌, ◌
 use Rattle.std.proofs.lemmas.Bool.{cases_eq}
 use Rattle.std.proofs.lemmas.List.{get_or-set_other, get_or-set_same}
 use Rattle.std.specs.Option.{is_some}
-use Rattle.alto_words.specs.declared.fid.Fid.{Fid}
-use Rattle.alto_words.specs.Fid.{disk_descriptor, is_directory, is_fid, sys_dir}
-use Rattle.disk_records.specs.Packs.{Pack, carried, sector_at}
-use Rattle.disk_records.specs.Words.{word}
-use Rattle.disk_records.specs.declared.records.Page.{Page}
-use Rattle.disk_records.specs.declared.records.Sector.{Sector}
-use Rattle.pack_model.specs.hints.Links.{HasLinks, dir_words}
-use Rattle.pack_model.specs.operations.PageWords.{in_page}
-use Rattle.pack_model.specs.reading.Bytes.{put_at, words_of}
-use Rattle.pack_model.specs.reading.Files.{carries_page, file_bytes, lives, place}
-use Rattle.pack_model.specs.reading.Leaders.{Leader}
-use Rattle.pack_model.specs.reading.Sights.{Sight, sights}
-use Rattle.pack_model.specs.reading.Sights.Sight.{free, hidden, holds, leads, stray}
-use Rattle.pack_model.specs.reading.Slots.{IsEven, SlotsReachEnd, all_words, slots}
-use Rattle.pack_model.specs.reading.Slots.IsEven.{none, two}
-use Rattle.pack_model.specs.scavenger.Reports.{PagesMended}
-use Rattle.pack_model.specs.states.InUse.{counts, in_use, is_good, is_place}
-use Rattle.pack_model.specs.states.Sentences.{IsUsed}
-use Rattle.pack_laws.proofs.guards.Laws.{value_writes_keep_the_page}
-use Rattle.pack_laws.proofs.Keys.{is_fid-sym, same_fid}
-use Rattle.pack_laws.proofs.Placing.{place_same}
-use Rattle.pack_laws.specs.GuardLaws.{ComesToHold}
-use Rattle.laws_record.proofs.Copying.{place_carried}
-use Rattle.laws_record.proofs.DirReads.{not_descriptor}
-use Rattle.laws_record.proofs.DirWords.{dir_change, dir_page, new_bytes, new_size, page_by_bytes, written_sights}
-use Rattle.laws_record.proofs.Heads.{all_read}
-use Rattle.laws_record.specs.DirLaws.{DirWrite, dir_written}
+use Rattle.laws_room.specs.alto_words.specs.declared.fid.Fid.{Fid}
+use Rattle.laws_room.specs.alto_words.specs.Fid.{disk_descriptor, is_directory, is_fid, sys_dir}
+use Rattle.laws_room.specs.disk_records.specs.Packs.{Pack, carried, sector_at}
+use Rattle.laws_room.specs.disk_records.specs.Words.{word}
+use Rattle.laws_room.specs.disk_records.specs.declared.records.Page.{Page}
+use Rattle.laws_room.specs.disk_records.specs.declared.records.Sector.{Sector}
+use Rattle.laws_room.specs.pack_model.specs.hints.Links.{HasLinks, dir_words}
+use Rattle.laws_room.specs.pack_model.specs.operations.PageWords.{in_page}
+use Rattle.laws_room.specs.pack_model.specs.reading.Bytes.{put_at, words_of}
+use Rattle.laws_room.specs.pack_model.specs.reading.Files.{carries_page, file_bytes, lives, place}
+use Rattle.laws_room.specs.pack_model.specs.reading.Leaders.{Leader}
+use Rattle.laws_room.specs.pack_model.specs.reading.Sights.{Sight, sights}
+use Rattle.laws_room.specs.pack_model.specs.reading.Sights.Sight.{free, hidden, holds, leads, stray}
+use Rattle.laws_room.specs.pack_model.specs.reading.Slots.{IsEven, SlotsReachEnd, all_words, slots}
+use Rattle.laws_room.specs.pack_model.specs.reading.Slots.IsEven.{none, two}
+use Rattle.laws_room.specs.pack_model.specs.scavenger.Reports.{PagesMended}
+use Rattle.laws_room.specs.pack_model.specs.states.InUse.{counts, in_use, is_good, is_place}
+use Rattle.laws_room.specs.pack_model.specs.states.Sentences.{IsUsed}
+use Rattle.laws_room.specs.pack_laws.proofs.guards.Laws.{value_writes_keep_the_page}
+use Rattle.laws_room.specs.pack_laws.proofs.Keys.{is_fid-sym, same_fid}
+use Rattle.laws_room.specs.pack_laws.proofs.Placing.{place_same}
+use Rattle.laws_room.specs.pack_laws.specs.GuardLaws.{ComesToHold}
+use Rattle.laws_room.specs.laws_record.proofs.Copying.{place_carried}
+use Rattle.laws_room.specs.laws_record.proofs.DirReads.{not_descriptor}
+use Rattle.laws_room.specs.laws_record.proofs.DirWords.{dir_change, dir_page, new_bytes, new_size, page_by_bytes, written_sights}
+use Rattle.laws_room.specs.laws_record.proofs.Heads.{all_read}
+use Rattle.laws_room.specs.laws_record.specs.DirLaws.{DirWrite, dir_written}
 use Rattle.laws_mend.proofs.inside.Alike.{alike_next, alike_previous, counts_alike}
 use Rattle.laws_mend.proofs.inside.Availing.{same_in_use}
 use Rattle.laws_mend.proofs.inside.Counted.{counts_end}

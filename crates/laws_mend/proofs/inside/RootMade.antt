@@ -4,39 +4,39 @@ use Rattle.std.proofs.lemmas.Bool.{cases_eq}
 use Rattle.std.proofs.lemmas.List.{take_all}
 use Rattle.std.specs.Option.{is_some}
 use Rattle.std.specs.Prelude.{◌&&◌, ◌==◌}
-use Rattle.alto_words.specs.declared.fid.Fid.{Fid}
-use Rattle.alto_words.specs.Fid.{is_directory, is_fid, sys_dir}
-use Rattle.disk_records.specs.Commands.{claim_writes}
-use Rattle.disk_records.specs.Labels.{page_of, tag}
-use Rattle.disk_records.specs.Packs.{Pack, after, carried, is_free_at, sector_at}
-use Rattle.disk_records.specs.Words.{word}
-use Rattle.disk_records.specs.declared.records.Page.{Page}
-use Rattle.disk_records.specs.declared.records.Sector.{Sector}
-use Rattle.pack_model.specs.hints.Links.{dir_words}
-use Rattle.pack_model.specs.reading.Bytes.{bytes_of}
-use Rattle.pack_model.specs.reading.Files.{file_bytes, leader, lives, place}
-use Rattle.pack_model.specs.reading.Leaders.{Leader, is_readable, leader_of, leader_words}
-use Rattle.pack_model.specs.reading.Sights.{page_sight, sights}
-use Rattle.pack_model.specs.reading.Sights.Sight.{free, hidden}
-use Rattle.pack_model.specs.reading.Slots.{SlotsReachEnd, all_words, and_then, first_length, is_entry, slot_at, slot_fid, slot_name, slot_of, slots, slots_after}
-use Rattle.pack_model.specs.reading.Slots.Item.{entry, space}
-use Rattle.pack_model.specs.states.InUse.{counts, in_use, is_good, is_place, is_within}
-use Rattle.pack_model.specs.states.Sentences.{IsUsed}
-use Rattle.pack_laws.proofs.Bytes.{length-bytes_of, length-words_of}
-use Rattle.pack_laws.proofs.guards.Laws.{claim_takes_at_the_label}
-use Rattle.pack_laws.proofs.Keys.{is_fid-itself, same_fid}
-use Rattle.pack_laws.proofs.Placing.{page_of_place}
-use Rattle.pack_laws.specs.GuardLaws.{ComesToHold}
-use Rattle.laws_contents.proofs.ends.Laws.{last_page_ends_the_file}
-use Rattle.laws_contents.proofs.pages.Laws.{none_before_the_first}
-use Rattle.laws_contents.proofs.words.Laws.{page_words_are_a_slice}
-use Rattle.laws_contents.specs.PageLaws.{bytes_at}
-use Rattle.laws_contents.specs.WordContents.{words_at}
-use Rattle.laws_record.proofs.Copying.{place_carried}
-use Rattle.laws_record.proofs.Ends.{counts_none}
-use Rattle.laws_record.proofs.Reading.{get_by}
-use Rattle.laws_record.proofs.Recording.{carried_sight, free_sight}
-use Rattle.laws_record.proofs.slots.Laws.{one_by_one, reads_to_the_end}
+use Rattle.laws_room.specs.alto_words.specs.declared.fid.Fid.{Fid}
+use Rattle.laws_room.specs.alto_words.specs.Fid.{is_directory, is_fid, sys_dir}
+use Rattle.laws_room.specs.disk_records.specs.Commands.{claim_writes}
+use Rattle.laws_room.specs.disk_records.specs.Labels.{page_of, tag}
+use Rattle.laws_room.specs.disk_records.specs.Packs.{Pack, after, carried, is_free_at, sector_at}
+use Rattle.laws_room.specs.disk_records.specs.Words.{word}
+use Rattle.laws_room.specs.disk_records.specs.declared.records.Page.{Page}
+use Rattle.laws_room.specs.disk_records.specs.declared.records.Sector.{Sector}
+use Rattle.laws_room.specs.pack_model.specs.hints.Links.{dir_words}
+use Rattle.laws_room.specs.pack_model.specs.reading.Bytes.{bytes_of}
+use Rattle.laws_room.specs.pack_model.specs.reading.Files.{file_bytes, leader, lives, place}
+use Rattle.laws_room.specs.pack_model.specs.reading.Leaders.{Leader, is_readable, leader_of, leader_words}
+use Rattle.laws_room.specs.pack_model.specs.reading.Sights.{page_sight, sights}
+use Rattle.laws_room.specs.pack_model.specs.reading.Sights.Sight.{free, hidden}
+use Rattle.laws_room.specs.pack_model.specs.reading.Slots.{SlotsReachEnd, all_words, and_then, first_length, is_entry, slot_at, slot_fid, slot_name, slot_of, slots, slots_after}
+use Rattle.laws_room.specs.pack_model.specs.reading.Slots.Item.{entry, space}
+use Rattle.laws_room.specs.pack_model.specs.states.InUse.{counts, in_use, is_good, is_place, is_within}
+use Rattle.laws_room.specs.pack_model.specs.states.Sentences.{IsUsed}
+use Rattle.laws_room.specs.pack_laws.proofs.Bytes.{length-bytes_of, length-words_of}
+use Rattle.laws_room.specs.pack_laws.proofs.guards.Laws.{claim_takes_at_the_label}
+use Rattle.laws_room.specs.pack_laws.proofs.Keys.{is_fid-itself, same_fid}
+use Rattle.laws_room.specs.pack_laws.proofs.Placing.{page_of_place}
+use Rattle.laws_room.specs.pack_laws.specs.GuardLaws.{ComesToHold}
+use Rattle.laws_room.specs.laws_contents.proofs.ends.Laws.{last_page_ends_the_file}
+use Rattle.laws_room.specs.laws_contents.proofs.pages.Laws.{none_before_the_first}
+use Rattle.laws_room.specs.laws_contents.proofs.words.Laws.{page_words_are_a_slice}
+use Rattle.laws_room.specs.laws_contents.specs.PageLaws.{bytes_at}
+use Rattle.laws_room.specs.laws_contents.specs.WordContents.{words_at}
+use Rattle.laws_room.specs.laws_record.proofs.Copying.{place_carried}
+use Rattle.laws_room.specs.laws_record.proofs.Ends.{counts_none}
+use Rattle.laws_room.specs.laws_record.proofs.Reading.{get_by}
+use Rattle.laws_room.specs.laws_record.proofs.Recording.{carried_sight, free_sight}
+use Rattle.laws_room.specs.laws_record.proofs.slots.Laws.{one_by_one, reads_to_the_end}
 use Rattle.laws_mend.proofs.inside.Alike.{counts_alike}
 use Rattle.laws_mend.proofs.inside.Completed.{claimed_aside, claimed_cleared, claimed_here, claimed_others, claimed_place}
 use Rattle.laws_mend.proofs.inside.Counted.{carried_in_use}

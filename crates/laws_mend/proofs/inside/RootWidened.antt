@@ -4,48 +4,48 @@ use Rattle.std.proofs.lemmas.List.{set-get_or}
 use Rattle.std.specs.FinMap.{entries, find}
 use Rattle.std.specs.List.{list_any}
 use Rattle.std.specs.Option.{is_some}
-use Rattle.alto_words.specs.declared.fid.Fid.{Fid}
-use Rattle.alto_words.specs.Fid.{disk_descriptor, fid_cmp, is_fid, sys_dir}
-use Rattle.disk_records.specs.Commands.{claim_writes, relabel_writes, value_writes}
-use Rattle.disk_records.specs.Labels.{page_of, tag}
-use Rattle.disk_records.specs.Packs.{Pack, carried, sector_at}
-use Rattle.disk_records.specs.declared.records.Page.{Page}
-use Rattle.disk_records.specs.declared.records.Sector.{Sector}
-use Rattle.pack_model.specs.hints.Links.{dir_words}
-use Rattle.pack_model.specs.operations.Rooms.{placed}
-use Rattle.pack_model.specs.reading.Bodies.{described}
-use Rattle.pack_model.specs.reading.Bytes.{bytes_of, words_of}
-use Rattle.pack_model.specs.reading.Files.{carries_page, file_bytes, lives, place}
-use Rattle.pack_model.specs.reading.Model.{Model, root_items}
-use Rattle.pack_model.specs.reading.Namings.{Naming, descriptor_name, is_kept, items_kept, kept_after, namings, namings_in, sys_dir_name}
-use Rattle.pack_model.specs.reading.Sights.{page_sight, sights}
-use Rattle.pack_model.specs.reading.Sights.Sight.{free, hidden, holds, leads}
-use Rattle.pack_model.specs.reading.SlotWords.{space_words}
-use Rattle.pack_model.specs.reading.Slots.{Item, SlotsReachEnd, entry_length, slots}
-use Rattle.pack_model.specs.reading.Slots.Item.{entry, space}
-use Rattle.pack_model.specs.scavenger.Mended.{lacking, mended}
-use Rattle.pack_model.specs.scavenger.Reports.{PagesMended}
-use Rattle.pack_model.specs.showing.Settling.{given_names, unless}
-use Rattle.pack_model.specs.showing.View.{homes, view}
-use Rattle.pack_laws.proofs.Carrying.{carried_shown}
-use Rattle.pack_laws.proofs.Guarding.{carried_parts, value_page}
-use Rattle.pack_laws.proofs.Sighted.{length-sights}
-use Rattle.laws_record.proofs.Carried.{carries_within}
-use Rattle.laws_record.proofs.Describing.{view_files}
-use Rattle.laws_record.proofs.DirKinds.{spaces_in, view_change}
-use Rattle.laws_record.proofs.DirReads.{dir_was, has_leader}
-use Rattle.laws_record.proofs.DirSteps.{widen_change, widen_slots}
-use Rattle.laws_record.proofs.DirWords.{DirChange}
-use Rattle.laws_record.proofs.Framing.{SameCounted, claim_frame, counted_bytes}
-use Rattle.laws_record.proofs.quiet.Laws.{past_count_reads_same}
-use Rattle.laws_record.proofs.Recording.{carried_sight, label_sights}
-use Rattle.laws_record.proofs.Scanned.{kept_before, scan_same}
-use Rattle.laws_record.proofs.Staying.{Stays, stay_counted}
-use Rattle.laws_record.proofs.Systemic.{mended_stays}
-use Rattle.laws_record.proofs.Unread.{unread}
-use Rattle.laws_record.specs.QuietLaws.{IsUnread, counted_of, with_label}
-use Rattle.laws_record.specs.QuietLaws.IsUnread.{past_end}
-use Rattle.laws_record.specs.ViewLaws.{ViewsSame}
+use Rattle.laws_room.specs.alto_words.specs.declared.fid.Fid.{Fid}
+use Rattle.laws_room.specs.alto_words.specs.Fid.{disk_descriptor, fid_cmp, is_fid, sys_dir}
+use Rattle.laws_room.specs.disk_records.specs.Commands.{claim_writes, relabel_writes, value_writes}
+use Rattle.laws_room.specs.disk_records.specs.Labels.{page_of, tag}
+use Rattle.laws_room.specs.disk_records.specs.Packs.{Pack, carried, sector_at}
+use Rattle.laws_room.specs.disk_records.specs.declared.records.Page.{Page}
+use Rattle.laws_room.specs.disk_records.specs.declared.records.Sector.{Sector}
+use Rattle.laws_room.specs.pack_model.specs.hints.Links.{dir_words}
+use Rattle.laws_room.specs.pack_model.specs.operations.Rooms.{placed}
+use Rattle.laws_room.specs.pack_model.specs.reading.Bodies.{described}
+use Rattle.laws_room.specs.pack_model.specs.reading.Bytes.{bytes_of, words_of}
+use Rattle.laws_room.specs.pack_model.specs.reading.Files.{carries_page, file_bytes, lives, place}
+use Rattle.laws_room.specs.pack_model.specs.reading.Model.{Model, root_items}
+use Rattle.laws_room.specs.pack_model.specs.reading.Namings.{Naming, descriptor_name, is_kept, items_kept, kept_after, namings, namings_in, sys_dir_name}
+use Rattle.laws_room.specs.pack_model.specs.reading.Sights.{page_sight, sights}
+use Rattle.laws_room.specs.pack_model.specs.reading.Sights.Sight.{free, hidden, holds, leads}
+use Rattle.laws_room.specs.pack_model.specs.reading.SlotWords.{space_words}
+use Rattle.laws_room.specs.pack_model.specs.reading.Slots.{Item, SlotsReachEnd, entry_length, slots}
+use Rattle.laws_room.specs.pack_model.specs.reading.Slots.Item.{entry, space}
+use Rattle.laws_room.specs.pack_model.specs.scavenger.Mended.{lacking, mended}
+use Rattle.laws_room.specs.pack_model.specs.scavenger.Reports.{PagesMended}
+use Rattle.laws_room.specs.pack_model.specs.showing.Settling.{given_names, unless}
+use Rattle.laws_room.specs.pack_model.specs.showing.View.{homes, view}
+use Rattle.laws_room.specs.pack_laws.proofs.Carrying.{carried_shown}
+use Rattle.laws_room.specs.pack_laws.proofs.Guarding.{carried_parts, value_page}
+use Rattle.laws_room.specs.pack_laws.proofs.Sighted.{length-sights}
+use Rattle.laws_room.specs.laws_record.proofs.Carried.{carries_within}
+use Rattle.laws_room.specs.laws_record.proofs.Describing.{view_files}
+use Rattle.laws_room.specs.laws_record.proofs.DirKinds.{spaces_in, view_change}
+use Rattle.laws_room.specs.laws_record.proofs.DirReads.{dir_was, has_leader}
+use Rattle.laws_room.specs.laws_record.proofs.DirSteps.{widen_change, widen_slots}
+use Rattle.laws_room.specs.laws_record.proofs.DirWords.{DirChange}
+use Rattle.laws_room.specs.laws_record.proofs.Framing.{SameCounted, claim_frame, counted_bytes}
+use Rattle.laws_room.specs.laws_record.proofs.quiet.Laws.{past_count_reads_same}
+use Rattle.laws_room.specs.laws_record.proofs.Recording.{carried_sight, label_sights}
+use Rattle.laws_room.specs.laws_record.proofs.Scanned.{kept_before, scan_same}
+use Rattle.laws_room.specs.laws_record.proofs.Staying.{Stays, stay_counted}
+use Rattle.laws_room.specs.laws_record.proofs.Systemic.{mended_stays}
+use Rattle.laws_room.specs.laws_record.proofs.Unread.{unread}
+use Rattle.laws_room.specs.laws_record.specs.QuietLaws.{IsUnread, counted_of, with_label}
+use Rattle.laws_room.specs.laws_record.specs.QuietLaws.IsUnread.{past_end}
+use Rattle.laws_room.specs.laws_record.specs.ViewLaws.{ViewsSame}
 use Rattle.laws_room.proofs.entering.Laws.{more_room_keeps}
 use Rattle.laws_room.proofs.keeping.Laws.{past_count_keeps_aside}
 use Rattle.laws_room.proofs.marks.Laws.{unmarked_stays}
@@ -53,7 +53,7 @@ use Rattle.laws_room.specs.KeepLaws.{KeepsWithRoot}
 use Rattle.laws_room.specs.KeepLaws.RootMay.{as_before}
 use Rattle.laws_room.specs.MarkLaws.{mark_page}
 use Rattle.laws_room.specs.NextLaws.{LackingNext, mended_pack}
-use Rattle.pack_laws.proofs.files.Laws.{places_are_lowest}
+use Rattle.laws_room.specs.pack_laws.proofs.files.Laws.{places_are_lowest}
 use Rattle.laws_mend.proofs.inside.Claiming.{unread_claim_tends}
 use Rattle.laws_mend.proofs.inside.Joining.{nothing_tends, tends_join}
 use Rattle.laws_mend.proofs.inside.Relabelling.{pages_once, relabel_tends, usable_value}

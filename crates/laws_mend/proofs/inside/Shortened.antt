@@ -4,42 +4,42 @@ use Rattle.std.proofs.lemmas.Bool.{cases_eq, cases_lt}
 use Rattle.std.proofs.lemmas.List.{get_or-set_other, get_or-set_same}
 use Rattle.std.specs.FinMap.{get}
 use Rattle.std.specs.Option.{is_some}
-use Rattle.alto_words.specs.declared.fid.Fid.{Fid}
-use Rattle.alto_words.specs.Fid.{disk_descriptor, is_directory, is_fid}
-use Rattle.disk_records.specs.Commands.{relabel_writes}
-use Rattle.disk_records.specs.Labels.{page_of, tag}
-use Rattle.disk_records.specs.Packs.{Pack, after, carried, sector_at}
-use Rattle.disk_records.specs.declared.records.Page.{Page}
-use Rattle.disk_records.specs.declared.records.Sector.{Sector}
-use Rattle.pack_model.specs.hints.Links.{dir_words}
-use Rattle.pack_model.specs.reading.Bodies.{File, body_of, described}
-use Rattle.pack_model.specs.reading.Bodies.Body.{data_of, items_of}
-use Rattle.pack_model.specs.reading.Bytes.{bytes_of}
-use Rattle.pack_model.specs.reading.Files.{carries_page, file_bytes, leader, lives, place}
-use Rattle.pack_model.specs.reading.Leaders.{Leader}
-use Rattle.pack_model.specs.reading.Sights.{page_sight, sights}
-use Rattle.pack_model.specs.reading.Sights.Sight.{hidden, holds, stray}
-use Rattle.pack_model.specs.reading.Slots.{IsEven, SlotsReachEnd, all_words, slots}
-use Rattle.pack_model.specs.reading.Slots.IsEven.{none, two}
-use Rattle.pack_laws.proofs.Bytes.{length-words_of}
-use Rattle.pack_laws.proofs.guards.Laws.{relabel_keeps_the_page}
-use Rattle.pack_laws.proofs.Guarding.{carried_parts}
-use Rattle.pack_laws.proofs.Keys.{is_fid-itself}
-use Rattle.pack_laws.proofs.Placing.{one_page}
-use Rattle.pack_laws.specs.GuardLaws.{ComesToHold}
-use Rattle.laws_record.proofs.Copying.{place_carried}
-use Rattle.laws_record.proofs.DirEnds.{cut_at_slots}
-use Rattle.laws_record.proofs.DirReads.{not_descriptor}
-use Rattle.laws_record.proofs.Heads.{all_within}
-use Rattle.laws_record.proofs.Reading.{get_by, read_file}
-use Rattle.laws_record.proofs.Recording.{carried_sight, carried_within, label_sights}
-use Rattle.laws_record.proofs.slots.Laws.{reads_to_the_end}
-use Rattle.laws_record.proofs.Staying.{FilesStay}
-use Rattle.laws_record.proofs.Systemic.{described_get}
-use Rattle.laws_record.specs.QuietLaws.{with_label}
-use Rattle.laws_contents.proofs.ends.Laws.{each_file_has_its_end, last_page_ends_the_file}
-use Rattle.laws_contents.specs.EndLaws.{HasItsEnd}
-use Rattle.laws_contents.specs.PageLaws.{FullBefore, bytes_at}
+use Rattle.laws_room.specs.alto_words.specs.declared.fid.Fid.{Fid}
+use Rattle.laws_room.specs.alto_words.specs.Fid.{disk_descriptor, is_directory, is_fid}
+use Rattle.laws_room.specs.disk_records.specs.Commands.{relabel_writes}
+use Rattle.laws_room.specs.disk_records.specs.Labels.{page_of, tag}
+use Rattle.laws_room.specs.disk_records.specs.Packs.{Pack, after, carried, sector_at}
+use Rattle.laws_room.specs.disk_records.specs.declared.records.Page.{Page}
+use Rattle.laws_room.specs.disk_records.specs.declared.records.Sector.{Sector}
+use Rattle.laws_room.specs.pack_model.specs.hints.Links.{dir_words}
+use Rattle.laws_room.specs.pack_model.specs.reading.Bodies.{File, body_of, described}
+use Rattle.laws_room.specs.pack_model.specs.reading.Bodies.Body.{data_of, items_of}
+use Rattle.laws_room.specs.pack_model.specs.reading.Bytes.{bytes_of}
+use Rattle.laws_room.specs.pack_model.specs.reading.Files.{carries_page, file_bytes, leader, lives, place}
+use Rattle.laws_room.specs.pack_model.specs.reading.Leaders.{Leader}
+use Rattle.laws_room.specs.pack_model.specs.reading.Sights.{page_sight, sights}
+use Rattle.laws_room.specs.pack_model.specs.reading.Sights.Sight.{hidden, holds, stray}
+use Rattle.laws_room.specs.pack_model.specs.reading.Slots.{IsEven, SlotsReachEnd, all_words, slots}
+use Rattle.laws_room.specs.pack_model.specs.reading.Slots.IsEven.{none, two}
+use Rattle.laws_room.specs.pack_laws.proofs.Bytes.{length-words_of}
+use Rattle.laws_room.specs.pack_laws.proofs.guards.Laws.{relabel_keeps_the_page}
+use Rattle.laws_room.specs.pack_laws.proofs.Guarding.{carried_parts}
+use Rattle.laws_room.specs.pack_laws.proofs.Keys.{is_fid-itself}
+use Rattle.laws_room.specs.pack_laws.proofs.Placing.{one_page}
+use Rattle.laws_room.specs.pack_laws.specs.GuardLaws.{ComesToHold}
+use Rattle.laws_room.specs.laws_record.proofs.Copying.{place_carried}
+use Rattle.laws_room.specs.laws_record.proofs.DirEnds.{cut_at_slots}
+use Rattle.laws_room.specs.laws_record.proofs.DirReads.{not_descriptor}
+use Rattle.laws_room.specs.laws_record.proofs.Heads.{all_within}
+use Rattle.laws_room.specs.laws_record.proofs.Reading.{get_by, read_file}
+use Rattle.laws_room.specs.laws_record.proofs.Recording.{carried_sight, carried_within, label_sights}
+use Rattle.laws_room.specs.laws_record.proofs.slots.Laws.{reads_to_the_end}
+use Rattle.laws_room.specs.laws_record.proofs.Staying.{FilesStay}
+use Rattle.laws_room.specs.laws_record.proofs.Systemic.{described_get}
+use Rattle.laws_room.specs.laws_record.specs.QuietLaws.{with_label}
+use Rattle.laws_room.specs.laws_contents.proofs.ends.Laws.{each_file_has_its_end, last_page_ends_the_file}
+use Rattle.laws_room.specs.laws_contents.specs.EndLaws.{HasItsEnd}
+use Rattle.laws_room.specs.laws_contents.specs.PageLaws.{FullBefore, bytes_at}
 use Rattle.laws_mend.proofs.inside.Filed.{bytes_by_places, lives_by_place}
 use Rattle.laws_mend.proofs.inside.Freed.{rewritten_places, same_carried}
 use Rattle.laws_mend.specs.CountingLaws.{DirectoryReachesItsEnd}

@@ -2,28 +2,28 @@
 use Rattle.std.proofs.Common.{[], ◌++◌, ◌+◌, ◌-◌, ◌<◌, ◌≤◌, ◌∙◌, ◌∷◌, ◌≡◌, Bool, List, ap, arith, false, inl, inr, length, refl, subst, suc, sym, true, zero, ℕ}
 use Rattle.std.proofs.lemmas.Bool.{cases_lt}
 use Rattle.std.specs.Option.{is_some}
-use Rattle.alto_words.specs.declared.fid.Fid.{Fid}
-use Rattle.alto_words.specs.Fid.{is_fid}
-use Rattle.disk_records.specs.Packs.{Pack}
-use Rattle.disk_records.specs.Words.{word}
-use Rattle.pack_model.specs.hints.Links.{dir_slots, dir_words}
-use Rattle.pack_model.specs.operations.Rooms.{left_over}
-use Rattle.pack_model.specs.reading.Bytes.{put_at, words_of}
-use Rattle.pack_model.specs.reading.Files.{file_bytes}
-use Rattle.pack_model.specs.reading.Sights.{sights}
-use Rattle.pack_model.specs.reading.SlotWords.{address_at, address_word, slots_at}
-use Rattle.pack_model.specs.reading.Slots.{Item, SlotsReachEnd, all_words, item_words, slots}
-use Rattle.pack_model.specs.reading.Slots.Item.{entry, space}
-use Rattle.pack_laws.proofs.Bytes.{length-put_at}
-use Rattle.pack_laws.proofs.Keys.{same_fid}
-use Rattle.laws_record.proofs.Addressing.{IsLoose, LooseIn, loose_among, slots_kept}
-use Rattle.laws_record.proofs.DirSteps.{widen_slots}
-use Rattle.laws_record.proofs.DirWords.{dir_change}
-use Rattle.laws_record.proofs.EnterSlots.{slots_entered}
-use Rattle.laws_record.proofs.Heads.{all_read}
-use Rattle.laws_record.proofs.Slotwise.{put_after, put_before}
-use Rattle.laws_record.specs.DirLaws.{IsLooseWord, dir_written}
-use Rattle.laws_record.specs.DirLaws.IsLooseWord.{in_space, of_address}
+use Rattle.laws_room.specs.alto_words.specs.declared.fid.Fid.{Fid}
+use Rattle.laws_room.specs.alto_words.specs.Fid.{is_fid}
+use Rattle.laws_room.specs.disk_records.specs.Packs.{Pack}
+use Rattle.laws_room.specs.disk_records.specs.Words.{word}
+use Rattle.laws_room.specs.pack_model.specs.hints.Links.{dir_slots, dir_words}
+use Rattle.laws_room.specs.pack_model.specs.operations.Rooms.{left_over}
+use Rattle.laws_room.specs.pack_model.specs.reading.Bytes.{put_at, words_of}
+use Rattle.laws_room.specs.pack_model.specs.reading.Files.{file_bytes}
+use Rattle.laws_room.specs.pack_model.specs.reading.Sights.{sights}
+use Rattle.laws_room.specs.pack_model.specs.reading.SlotWords.{address_at, address_word, slots_at}
+use Rattle.laws_room.specs.pack_model.specs.reading.Slots.{Item, SlotsReachEnd, all_words, item_words, slots}
+use Rattle.laws_room.specs.pack_model.specs.reading.Slots.Item.{entry, space}
+use Rattle.laws_room.specs.pack_laws.proofs.Bytes.{length-put_at}
+use Rattle.laws_room.specs.pack_laws.proofs.Keys.{same_fid}
+use Rattle.laws_room.specs.laws_record.proofs.Addressing.{IsLoose, LooseIn, loose_among, slots_kept}
+use Rattle.laws_room.specs.laws_record.proofs.DirSteps.{widen_slots}
+use Rattle.laws_room.specs.laws_record.proofs.DirWords.{dir_change}
+use Rattle.laws_room.specs.laws_record.proofs.EnterSlots.{slots_entered}
+use Rattle.laws_room.specs.laws_record.proofs.Heads.{all_read}
+use Rattle.laws_room.specs.laws_record.proofs.Slotwise.{put_after, put_before}
+use Rattle.laws_room.specs.laws_record.specs.DirLaws.{IsLooseWord, dir_written}
+use Rattle.laws_room.specs.laws_record.specs.DirLaws.IsLooseWord.{in_space, of_address}
 use Rattle.laws_lookup.proofs.Replacing.{split_at}
 use Rattle.laws_mend.specs.SlotLaws.{EntersReplacesSlots, LooseWordsKeepSlots, MoreWordsReplaceSlots}
 

@@ -1,26 +1,26 @@
 -- Leader pages of the system files that are made, moved or given their names.
 use Rattle.std.proofs.Common.{◌∙◌, ◌≡◌, ◌≢◌, ◌∷◌, List, None, Some, [], ap, refl, subst, sym, ℕ}
-use Rattle.alto_words.specs.Fid.{disk_descriptor, sys_dir}
-use Rattle.disk_records.specs.Labels.{page_of, tag}
-use Rattle.disk_records.specs.Packs.{Pack, carried, sector_at}
-use Rattle.disk_records.specs.declared.records.Page.{Page}
-use Rattle.disk_records.specs.declared.records.Sector.{Sector}
-use Rattle.pack_model.specs.hints.Links.{dir_words}
-use Rattle.pack_model.specs.reading.Bytes.{words_of}
-use Rattle.pack_model.specs.reading.Files.{file_bytes, leader, place}
-use Rattle.pack_model.specs.reading.Namings.{namings_in}
-use Rattle.pack_model.specs.reading.Sights.{sights}
-use Rattle.pack_model.specs.reading.Slots.{slots}
-use Rattle.pack_model.specs.reading.Slots.Item.{space}
-use Rattle.pack_model.specs.scavenger.Scavenging.{RootStands, root_stands}
-use Rattle.pack_model.specs.showing.View.{view}
-use Rattle.pack_laws.proofs.files.Laws.{places_are_lowest}
-use Rattle.pack_laws.proofs.guards.Laws.{claim_takes_at_the_label}
-use Rattle.pack_laws.proofs.Guarding.{carried_parts, value_page}
-use Rattle.laws_record.proofs.Recording.{carried_sight}
-use Rattle.laws_record.proofs.quiet.Laws.{copy_claim_reads_same}
-use Rattle.laws_record.proofs.views.Laws.{descriptor_leader_views_same, first_leader_of_the_main_directory, system_leader_value_views_same}
-use Rattle.laws_record.specs.QuietLaws.{IsCopyOf, with_value}
+use Rattle.laws_room.specs.alto_words.specs.Fid.{disk_descriptor, sys_dir}
+use Rattle.laws_room.specs.disk_records.specs.Labels.{page_of, tag}
+use Rattle.laws_room.specs.disk_records.specs.Packs.{Pack, carried, sector_at}
+use Rattle.laws_room.specs.disk_records.specs.declared.records.Page.{Page}
+use Rattle.laws_room.specs.disk_records.specs.declared.records.Sector.{Sector}
+use Rattle.laws_room.specs.pack_model.specs.hints.Links.{dir_words}
+use Rattle.laws_room.specs.pack_model.specs.reading.Bytes.{words_of}
+use Rattle.laws_room.specs.pack_model.specs.reading.Files.{file_bytes, leader, place}
+use Rattle.laws_room.specs.pack_model.specs.reading.Namings.{namings_in}
+use Rattle.laws_room.specs.pack_model.specs.reading.Sights.{sights}
+use Rattle.laws_room.specs.pack_model.specs.reading.Slots.{slots}
+use Rattle.laws_room.specs.pack_model.specs.reading.Slots.Item.{space}
+use Rattle.laws_room.specs.pack_model.specs.scavenger.Scavenging.{RootStands, root_stands}
+use Rattle.laws_room.specs.pack_model.specs.showing.View.{view}
+use Rattle.laws_room.specs.pack_laws.proofs.files.Laws.{places_are_lowest}
+use Rattle.laws_room.specs.pack_laws.proofs.guards.Laws.{claim_takes_at_the_label}
+use Rattle.laws_room.specs.pack_laws.proofs.Guarding.{carried_parts, value_page}
+use Rattle.laws_room.specs.laws_record.proofs.Recording.{carried_sight}
+use Rattle.laws_room.specs.laws_record.proofs.quiet.Laws.{copy_claim_reads_same}
+use Rattle.laws_room.specs.laws_record.proofs.views.Laws.{descriptor_leader_views_same, first_leader_of_the_main_directory, system_leader_value_views_same}
+use Rattle.laws_room.specs.laws_record.specs.QuietLaws.{IsCopyOf, with_value}
 use Rattle.laws_room.proofs.keeping.Laws.{copy_claim_keeps_aside, descriptor_leader_keeps_with_root, fresh_leader_of_the_main_directory_keeps, system_leader_value_keeps_with_root}
 use Rattle.laws_room.proofs.marks.Laws.{unmarked_stays}
 use Rattle.laws_room.specs.KeepLaws.RootMay.{its_leader}

@@ -1,11 +1,11 @@
 -- Whole packs have all parts.
 use Rattle.std.proofs.Common.{◌∙◌, ◌≡◌, ap, false, get_or, inl, inr, sym, true, ℕ}
-use Rattle.disk_records.specs.Packs.{Pack}
-use Rattle.pack_model.specs.reading.Sights.{sights}
-use Rattle.pack_model.specs.reading.Sights.Sight.{free, hidden, stray}
-use Rattle.pack_model.specs.states.InUse.{in_use, is_good}
-use Rattle.pack_model.specs.states.Sentences.{PagesWhole}
-use Rattle.laws_record.proofs.sentences.Laws.{sentences_hold}
+use Rattle.laws_room.specs.disk_records.specs.Packs.{Pack}
+use Rattle.laws_room.specs.pack_model.specs.reading.Sights.{sights}
+use Rattle.laws_room.specs.pack_model.specs.reading.Sights.Sight.{free, hidden, stray}
+use Rattle.laws_room.specs.pack_model.specs.states.InUse.{in_use, is_good}
+use Rattle.laws_room.specs.pack_model.specs.states.Sentences.{PagesWhole}
+use Rattle.laws_room.specs.laws_record.proofs.sentences.Laws.{sentences_hold}
 use Rattle.laws_mend.specs.PartLaws.{SoundIsMended, WholeIsLasting}
 
 -- no good sector shows a label out of range, if each is free or in use

@@ -2,40 +2,40 @@
 use Rattle.std.proofs.Common.{[], ◌&&◌, ◌++◌, ◌+◌, ◌/◌, ◌∙◌, ◌∷◌, ◌≡◌, ◌≢◌, ◌≤◌, List, None, Option, Some, ap, arith, false, get_or, inl, inr, leb-true, length, nat_le, refl, subst, suc, sym, take, true, zero, ℕ}
 use Rattle.std.proofs.lemmas.List.{get_or-set_other, get_or-set_same, length-append}
 use Rattle.std.specs.Option.{is_some}
-use Rattle.alto_words.specs.declared.fid.Fid.{Fid}
-use Rattle.alto_words.specs.Fid.{disk_descriptor, is_fid}
-use Rattle.disk_records.specs.Commands.{claim_writes, relabel_writes}
-use Rattle.disk_records.specs.Labels.{tag}
-use Rattle.disk_records.specs.Packs.{Pack, after, carried, sector_at}
-use Rattle.disk_records.specs.declared.records.Page.{Page}
-use Rattle.disk_records.specs.declared.records.Sector.{Sector}
-use Rattle.pack_model.specs.hints.Links.{dir_words}
-use Rattle.pack_model.specs.operations.PageWords.{widening_bytes}
-use Rattle.pack_model.specs.reading.Bytes.{bytes_of, words_of}
-use Rattle.pack_model.specs.reading.Files.{file_bytes, leader, lives, place}
-use Rattle.pack_model.specs.reading.Leaders.{Leader}
-use Rattle.pack_model.specs.reading.Sights.{page_sight, sights}
-use Rattle.pack_model.specs.reading.Sights.Sight.{free, hidden, holds, stray}
-use Rattle.pack_model.specs.reading.SlotWords.{space_words}
-use Rattle.pack_model.specs.reading.Slots.{IsEven, Reads, SlotsReachEnd}
-use Rattle.pack_model.specs.reading.Slots.Item.{space}
-use Rattle.pack_model.specs.scavenger.Reports.{PagesMended}
-use Rattle.pack_model.specs.states.InUse.{counts, in_use, is_good, is_place}
-use Rattle.pack_laws.proofs.Bytes.{length-bytes_of, words_of-bytes_of}
-use Rattle.pack_laws.proofs.guards.Laws.{claim_takes_at_the_label, relabel_keeps_the_page, value_writes_keep_the_page}
-use Rattle.pack_laws.proofs.Guarding.{value_page}
-use Rattle.pack_laws.proofs.Keys.{is_fid-itself}
-use Rattle.pack_laws.proofs.Placing.{leader_of_place, one_page, page_of_place}
-use Rattle.pack_laws.specs.GuardLaws.{ComesToHold}
-use Rattle.laws_record.proofs.DirReads.{not_descriptor}
-use Rattle.laws_record.proofs.Ends.{counts_none}
-use Rattle.laws_record.proofs.Heads.{and_left}
-use Rattle.laws_record.proofs.Recording.{carried_sight, carried_within, free_sight}
-use Rattle.laws_record.specs.QuietLaws.{with_value}
-use Rattle.laws_operation.proofs.OneDirectory.{reads_append}
-use Rattle.laws_contents.proofs.ends.Laws.{each_file_has_its_end}
-use Rattle.laws_contents.proofs.pages.Laws.{pages_are_their_counted_bytes}
-use Rattle.laws_contents.specs.PageLaws.{bytes_at}
+use Rattle.laws_room.specs.alto_words.specs.declared.fid.Fid.{Fid}
+use Rattle.laws_room.specs.alto_words.specs.Fid.{disk_descriptor, is_fid}
+use Rattle.laws_room.specs.disk_records.specs.Commands.{claim_writes, relabel_writes}
+use Rattle.laws_room.specs.disk_records.specs.Labels.{tag}
+use Rattle.laws_room.specs.disk_records.specs.Packs.{Pack, after, carried, sector_at}
+use Rattle.laws_room.specs.disk_records.specs.declared.records.Page.{Page}
+use Rattle.laws_room.specs.disk_records.specs.declared.records.Sector.{Sector}
+use Rattle.laws_room.specs.pack_model.specs.hints.Links.{dir_words}
+use Rattle.laws_room.specs.pack_model.specs.operations.PageWords.{widening_bytes}
+use Rattle.laws_room.specs.pack_model.specs.reading.Bytes.{bytes_of, words_of}
+use Rattle.laws_room.specs.pack_model.specs.reading.Files.{file_bytes, leader, lives, place}
+use Rattle.laws_room.specs.pack_model.specs.reading.Leaders.{Leader}
+use Rattle.laws_room.specs.pack_model.specs.reading.Sights.{page_sight, sights}
+use Rattle.laws_room.specs.pack_model.specs.reading.Sights.Sight.{free, hidden, holds, stray}
+use Rattle.laws_room.specs.pack_model.specs.reading.SlotWords.{space_words}
+use Rattle.laws_room.specs.pack_model.specs.reading.Slots.{IsEven, Reads, SlotsReachEnd}
+use Rattle.laws_room.specs.pack_model.specs.reading.Slots.Item.{space}
+use Rattle.laws_room.specs.pack_model.specs.scavenger.Reports.{PagesMended}
+use Rattle.laws_room.specs.pack_model.specs.states.InUse.{counts, in_use, is_good, is_place}
+use Rattle.laws_room.specs.pack_laws.proofs.Bytes.{length-bytes_of, words_of-bytes_of}
+use Rattle.laws_room.specs.pack_laws.proofs.guards.Laws.{claim_takes_at_the_label, relabel_keeps_the_page, value_writes_keep_the_page}
+use Rattle.laws_room.specs.pack_laws.proofs.Guarding.{value_page}
+use Rattle.laws_room.specs.pack_laws.proofs.Keys.{is_fid-itself}
+use Rattle.laws_room.specs.pack_laws.proofs.Placing.{leader_of_place, one_page, page_of_place}
+use Rattle.laws_room.specs.pack_laws.specs.GuardLaws.{ComesToHold}
+use Rattle.laws_room.specs.laws_record.proofs.DirReads.{not_descriptor}
+use Rattle.laws_room.specs.laws_record.proofs.Ends.{counts_none}
+use Rattle.laws_room.specs.laws_record.proofs.Heads.{and_left}
+use Rattle.laws_room.specs.laws_record.proofs.Recording.{carried_sight, carried_within, free_sight}
+use Rattle.laws_room.specs.laws_record.specs.QuietLaws.{with_value}
+use Rattle.laws_room.specs.laws_operation.proofs.OneDirectory.{reads_append}
+use Rattle.laws_room.specs.laws_contents.proofs.ends.Laws.{each_file_has_its_end}
+use Rattle.laws_room.specs.laws_contents.proofs.pages.Laws.{pages_are_their_counted_bytes}
+use Rattle.laws_room.specs.laws_contents.specs.PageLaws.{bytes_at}
 use Rattle.laws_mend.proofs.inside.Completed.{claimed_here, claimed_others, claimed_place}
 use Rattle.laws_mend.proofs.inside.Counted.{counts_end}
 use Rattle.laws_mend.proofs.inside.Filed.{bytes_by_places, lives_by_place, page_by_place}

@@ -3,39 +3,39 @@ use Rattle.std.proofs.Common.{[], ◌&&◌, ◌++◌, ◌/◌, ◌<◌, ◌∙�
 use Rattle.std.proofs.lemmas.Bool.{cases_eq, lt-ltb}
 use Rattle.std.specs.FinMap.{entries}
 use Rattle.std.specs.Option.{is_some}
-use Rattle.alto_words.specs.declared.fid.Fid.{Fid}
-use Rattle.alto_words.specs.Fid.{disk_descriptor, is_directory, is_fid, sys_dir}
-use Rattle.disk_records.specs.Labels.{tag}
-use Rattle.disk_records.specs.Packs.{Pack, after, sector_at}
-use Rattle.disk_records.specs.Words.{word}
-use Rattle.disk_records.specs.declared.records.Sector.{Sector}
-use Rattle.pack_model.specs.hints.Links.{HasLinks, dir_words, link_to, next_link, no_link, previous_link}
-use Rattle.pack_model.specs.reading.Bodies.{described}
-use Rattle.pack_model.specs.reading.Files.{carries_page, file_bytes, leader, lives, place}
-use Rattle.pack_model.specs.reading.Leaders.{Leader}
-use Rattle.pack_model.specs.reading.Model.{good_one, good_sectors}
-use Rattle.pack_model.specs.reading.Namings.{AllKept, IsTidy, is_kept, namings, namings_in}
-use Rattle.pack_model.specs.reading.Sights.{Sight, page_sight, sights}
-use Rattle.pack_model.specs.reading.Sights.Sight.{free, hidden, holds, leads, stray}
-use Rattle.pack_model.specs.reading.SlotWords.{space_words}
-use Rattle.pack_model.specs.reading.Slots.{Item, SlotsReachEnd, slots}
-use Rattle.pack_model.specs.reading.Slots.Item.{space}
-use Rattle.pack_model.specs.scavenger.Reports.{PagesMended}
-use Rattle.pack_model.specs.states.InUse.{counts, in_use, is_good, is_place}
-use Rattle.pack_model.specs.states.Sentences.{EachOnce, IsUsed}
-use Rattle.pack_model.specs.states.Whole.{Tidy}
-use Rattle.pack_laws.proofs.Keys.{is_fid-itself, is_fid-sym, same_fid}
-use Rattle.pack_laws.proofs.Placing.{leader_of_place, no_leader}
-use Rattle.laws_record.proofs.Carried.{place_by}
-use Rattle.laws_record.proofs.DirReads.{dir_files, dir_lives, dir_was, has_leader}
-use Rattle.laws_record.proofs.DirSteps.{widen_slots}
-use Rattle.laws_record.proofs.DirWords.{DirChange}
-use Rattle.laws_record.proofs.Entered.{namings_in-append}
-use Rattle.laws_record.proofs.Framing.{good_set}
-use Rattle.laws_record.proofs.Heads.{and_left, and_right}
-use Rattle.laws_record.proofs.Recording.{carried_sight}
-use Rattle.laws_operation.proofs.OneDirectory.{slots_namings}
-use Rattle.laws_contents.specs.PageLaws.{bytes_at}
+use Rattle.laws_room.specs.alto_words.specs.declared.fid.Fid.{Fid}
+use Rattle.laws_room.specs.alto_words.specs.Fid.{disk_descriptor, is_directory, is_fid, sys_dir}
+use Rattle.laws_room.specs.disk_records.specs.Labels.{tag}
+use Rattle.laws_room.specs.disk_records.specs.Packs.{Pack, after, sector_at}
+use Rattle.laws_room.specs.disk_records.specs.Words.{word}
+use Rattle.laws_room.specs.disk_records.specs.declared.records.Sector.{Sector}
+use Rattle.laws_room.specs.pack_model.specs.hints.Links.{HasLinks, dir_words, link_to, next_link, no_link, previous_link}
+use Rattle.laws_room.specs.pack_model.specs.reading.Bodies.{described}
+use Rattle.laws_room.specs.pack_model.specs.reading.Files.{carries_page, file_bytes, leader, lives, place}
+use Rattle.laws_room.specs.pack_model.specs.reading.Leaders.{Leader}
+use Rattle.laws_room.specs.pack_model.specs.reading.Model.{good_one, good_sectors}
+use Rattle.laws_room.specs.pack_model.specs.reading.Namings.{AllKept, IsTidy, is_kept, namings, namings_in}
+use Rattle.laws_room.specs.pack_model.specs.reading.Sights.{Sight, page_sight, sights}
+use Rattle.laws_room.specs.pack_model.specs.reading.Sights.Sight.{free, hidden, holds, leads, stray}
+use Rattle.laws_room.specs.pack_model.specs.reading.SlotWords.{space_words}
+use Rattle.laws_room.specs.pack_model.specs.reading.Slots.{Item, SlotsReachEnd, slots}
+use Rattle.laws_room.specs.pack_model.specs.reading.Slots.Item.{space}
+use Rattle.laws_room.specs.pack_model.specs.scavenger.Reports.{PagesMended}
+use Rattle.laws_room.specs.pack_model.specs.states.InUse.{counts, in_use, is_good, is_place}
+use Rattle.laws_room.specs.pack_model.specs.states.Sentences.{EachOnce, IsUsed}
+use Rattle.laws_room.specs.pack_model.specs.states.Whole.{Tidy}
+use Rattle.laws_room.specs.pack_laws.proofs.Keys.{is_fid-itself, is_fid-sym, same_fid}
+use Rattle.laws_room.specs.pack_laws.proofs.Placing.{leader_of_place, no_leader}
+use Rattle.laws_room.specs.laws_record.proofs.Carried.{place_by}
+use Rattle.laws_room.specs.laws_record.proofs.DirReads.{dir_files, dir_lives, dir_was, has_leader}
+use Rattle.laws_room.specs.laws_record.proofs.DirSteps.{widen_slots}
+use Rattle.laws_room.specs.laws_record.proofs.DirWords.{DirChange}
+use Rattle.laws_room.specs.laws_record.proofs.Entered.{namings_in-append}
+use Rattle.laws_room.specs.laws_record.proofs.Framing.{good_set}
+use Rattle.laws_room.specs.laws_record.proofs.Heads.{and_left, and_right}
+use Rattle.laws_room.specs.laws_record.proofs.Recording.{carried_sight}
+use Rattle.laws_room.specs.laws_operation.proofs.OneDirectory.{slots_namings}
+use Rattle.laws_room.specs.laws_contents.specs.PageLaws.{bytes_at}
 use Rattle.laws_mend.proofs.inside.Alike.{counts_alike}
 use Rattle.laws_mend.proofs.inside.Completed.{claimed_once}
 use Rattle.laws_mend.proofs.inside.Counted.{carried_in_use, counts_end}

@@ -1,18 +1,18 @@
 -- The bytes and the words of a file that gets a page more.
 use Rattle.std.proofs.Common.{[], ◌*◌, ◌++◌, ◌+◌, ◌<◌, ◌∙◌, ◌∷◌, ◌≡◌, List, Option, Some, ap, append-nil, append_assoc, arith, cond, length, nat_lt, refl, suc, sym, zero, ℕ}
 use Rattle.std.proofs.lemmas.Bool.{lt-ltb}
-use Rattle.alto_words.specs.declared.fid.Fid.{Fid}
-use Rattle.disk_records.specs.Packs.{after}
-use Rattle.pack_model.specs.reading.Bytes.{bytes_of, words_of}
-use Rattle.pack_model.specs.reading.Files.{file_bytes, joined, most_pages, page}
-use Rattle.pack_model.specs.reading.Sights.{Sight}
-use Rattle.pack_model.specs.reading.SlotWords.{space_words}
-use Rattle.pack_model.specs.reading.Slots.{IsEven, IsSlot, Reads, slots}
-use Rattle.pack_model.specs.reading.Slots.IsEven.{none as no_bytes, two}
-use Rattle.pack_model.specs.reading.Slots.Item.{space}
-use Rattle.pack_model.specs.reading.Slots.Reads.{next as next_slot, none as no_slots}
-use Rattle.pack_laws.proofs.Joining.{continue, joined-suc, most_is}
-use Rattle.laws_record.proofs.Heads.{all_read}
+use Rattle.laws_room.specs.alto_words.specs.declared.fid.Fid.{Fid}
+use Rattle.laws_room.specs.disk_records.specs.Packs.{after}
+use Rattle.laws_room.specs.pack_model.specs.reading.Bytes.{bytes_of, words_of}
+use Rattle.laws_room.specs.pack_model.specs.reading.Files.{file_bytes, joined, most_pages, page}
+use Rattle.laws_room.specs.pack_model.specs.reading.Sights.{Sight}
+use Rattle.laws_room.specs.pack_model.specs.reading.SlotWords.{space_words}
+use Rattle.laws_room.specs.pack_model.specs.reading.Slots.{IsEven, IsSlot, Reads, slots}
+use Rattle.laws_room.specs.pack_model.specs.reading.Slots.IsEven.{none as no_bytes, two}
+use Rattle.laws_room.specs.pack_model.specs.reading.Slots.Item.{space}
+use Rattle.laws_room.specs.pack_model.specs.reading.Slots.Reads.{next as next_slot, none as no_slots}
+use Rattle.laws_room.specs.pack_laws.proofs.Joining.{continue, joined-suc, most_is}
+use Rattle.laws_room.specs.laws_record.proofs.Heads.{all_read}
 
 -- ---- bytes of pages
 -- a file whose last page gets full, and ends with the page after it

@@ -2,22 +2,22 @@
 use Rattle.std.proofs.Common.{[], ◌%◌, ◌*◌, ◌++◌, ◌+◌, ◌-◌, ◌/◌, ◌∙◌, ◌∷◌, ◌≡◌, ◌≤◌, List, Some, ap, append-nil, append_assoc, arith, drop, length, min, refl, suc, sym, take, zero, ℕ}
 use Rattle.std.proofs.lemmas.List.{drop_all, length-append, length-replicate, length-take-le}
 use Rattle.std.specs.Prelude.{replicate}
-use Rattle.alto_words.specs.declared.fid.Fid.{Fid}
-use Rattle.disk_records.specs.Addresses.{real_of}
-use Rattle.disk_records.specs.Commands.{claim_writes}
-use Rattle.disk_records.specs.Labels.{Tag, label_of, page_of}
-use Rattle.disk_records.specs.Packs.{Pack, sector_at}
-use Rattle.disk_records.specs.Words.{word}
-use Rattle.pack_model.specs.hints.Links.{no_link}
-use Rattle.pack_model.specs.operations.PageWords.{filled, page_number, page_value, widening_bytes}
-use Rattle.pack_model.specs.reading.Bytes.{bytes_of, put_at, words_of}
-use Rattle.pack_model.specs.reading.Files.{file_bytes}
-use Rattle.pack_model.specs.reading.Sights.{sights}
-use Rattle.pack_model.specs.reading.SlotWords.{space_words}
-use Rattle.pack_laws.proofs.Bytes.{length-bytes_of, words_of-bytes_of}
-use Rattle.pack_laws.proofs.Guarding.{carried_parts}
-use Rattle.laws_record.proofs.DirWords.{put_words}
-use Rattle.laws_operation.proofs.Making.{named_page}
+use Rattle.laws_room.specs.alto_words.specs.declared.fid.Fid.{Fid}
+use Rattle.laws_room.specs.disk_records.specs.Addresses.{real_of}
+use Rattle.laws_room.specs.disk_records.specs.Commands.{claim_writes}
+use Rattle.laws_room.specs.disk_records.specs.Labels.{Tag, label_of, page_of}
+use Rattle.laws_room.specs.disk_records.specs.Packs.{Pack, sector_at}
+use Rattle.laws_room.specs.disk_records.specs.Words.{word}
+use Rattle.laws_room.specs.pack_model.specs.hints.Links.{no_link}
+use Rattle.laws_room.specs.pack_model.specs.operations.PageWords.{filled, page_number, page_value, widening_bytes}
+use Rattle.laws_room.specs.pack_model.specs.reading.Bytes.{bytes_of, put_at, words_of}
+use Rattle.laws_room.specs.pack_model.specs.reading.Files.{file_bytes}
+use Rattle.laws_room.specs.pack_model.specs.reading.Sights.{sights}
+use Rattle.laws_room.specs.pack_model.specs.reading.SlotWords.{space_words}
+use Rattle.laws_room.specs.pack_laws.proofs.Bytes.{length-bytes_of, words_of-bytes_of}
+use Rattle.laws_room.specs.pack_laws.proofs.Guarding.{carried_parts}
+use Rattle.laws_room.specs.laws_record.proofs.DirWords.{put_words}
+use Rattle.laws_room.specs.laws_operation.proofs.Making.{named_page}
 use Rattle.laws_mend.proofs.inside.WideningWords.{all_size, far, far_all, here, last, last_label, last_named, last_value, near, next_bytes, next_label, next_named, next_value}
 use Rattle.laws_mend.specs.WidenLaws.{CanWiden, WideningInWords, last_number}
 

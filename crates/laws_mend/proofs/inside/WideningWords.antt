@@ -4,30 +4,30 @@ use Rattle.std.proofs.lemmas.Bool.{lt-ltb}
 use Rattle.std.proofs.lemmas.List.{drop_all, length-append, length-drop, length-replicate, length-take-le, take_all, take_at}
 use Rattle.std.proofs.lemmas.List.Elements.{All-append, All-cons, All-drop, All-replicate, All-take}
 use Rattle.std.specs.Prelude.{All, nat_le, nat_lt, not, replicate, ◌==◌}
-use Rattle.alto_words.specs.declared.fid.Fid.{Fid}
-use Rattle.alto_words.specs.Fid.{serial_of}
-use Rattle.disk_records.specs.Addresses.{real_of}
-use Rattle.disk_records.specs.Labels.{Tag, in_range, label_of, page_of, tag}
-use Rattle.disk_records.specs.Packs.{Pack, carried, sector_at}
-use Rattle.disk_records.specs.declared.records.Page.{Page}
-use Rattle.pack_model.specs.hints.Links.{no_link}
-use Rattle.pack_model.specs.operations.Commands.{grown_label, grown_value}
-use Rattle.pack_model.specs.operations.Committing.{page_of_byte}
-use Rattle.pack_model.specs.operations.PageWords.{filled, page_value, widening_bytes}
-use Rattle.pack_model.specs.reading.Bytes.{bytes_of, words_of}
-use Rattle.pack_model.specs.reading.Files.{file_bytes, place}
-use Rattle.pack_model.specs.reading.Sights.{sights}
-use Rattle.pack_model.specs.reading.SlotWords.{space_words}
-use Rattle.pack_laws.proofs.Bytes.{bytes_below, bytes_of-put, bytes_of-words_of, length-bytes_of, pairs_of_bytes}
-use Rattle.pack_laws.proofs.Guarding.{carried_parts}
-use Rattle.laws_record.proofs.Copying.{place_carried}
-use Rattle.laws_record.proofs.Heads.{and_left, and_right}
-use Rattle.laws_record.specs.QuietLaws.{counted_of}
-use Rattle.laws_operation.proofs.Making.{named_page}
-use Rattle.laws_operation.proofs.values.Laws.{label_with_another_count}
-use Rattle.laws_contents.proofs.ends.Laws.{each_file_has_its_end}
-use Rattle.laws_contents.specs.EndLaws.{HasItsEnd}
-use Rattle.laws_contents.specs.PageLaws.{bytes_at}
+use Rattle.laws_room.specs.alto_words.specs.declared.fid.Fid.{Fid}
+use Rattle.laws_room.specs.alto_words.specs.Fid.{serial_of}
+use Rattle.laws_room.specs.disk_records.specs.Addresses.{real_of}
+use Rattle.laws_room.specs.disk_records.specs.Labels.{Tag, in_range, label_of, page_of, tag}
+use Rattle.laws_room.specs.disk_records.specs.Packs.{Pack, carried, sector_at}
+use Rattle.laws_room.specs.disk_records.specs.declared.records.Page.{Page}
+use Rattle.laws_room.specs.pack_model.specs.hints.Links.{no_link}
+use Rattle.laws_room.specs.pack_model.specs.operations.Commands.{grown_label, grown_value}
+use Rattle.laws_room.specs.pack_model.specs.operations.Committing.{page_of_byte}
+use Rattle.laws_room.specs.pack_model.specs.operations.PageWords.{filled, page_value, widening_bytes}
+use Rattle.laws_room.specs.pack_model.specs.reading.Bytes.{bytes_of, words_of}
+use Rattle.laws_room.specs.pack_model.specs.reading.Files.{file_bytes, place}
+use Rattle.laws_room.specs.pack_model.specs.reading.Sights.{sights}
+use Rattle.laws_room.specs.pack_model.specs.reading.SlotWords.{space_words}
+use Rattle.laws_room.specs.pack_laws.proofs.Bytes.{bytes_below, bytes_of-put, bytes_of-words_of, length-bytes_of, pairs_of_bytes}
+use Rattle.laws_room.specs.pack_laws.proofs.Guarding.{carried_parts}
+use Rattle.laws_room.specs.laws_record.proofs.Copying.{place_carried}
+use Rattle.laws_room.specs.laws_record.proofs.Heads.{and_left, and_right}
+use Rattle.laws_room.specs.laws_record.specs.QuietLaws.{counted_of}
+use Rattle.laws_room.specs.laws_operation.proofs.Making.{named_page}
+use Rattle.laws_room.specs.laws_operation.proofs.values.Laws.{label_with_another_count}
+use Rattle.laws_room.specs.laws_contents.proofs.ends.Laws.{each_file_has_its_end}
+use Rattle.laws_room.specs.laws_contents.specs.EndLaws.{HasItsEnd}
+use Rattle.laws_room.specs.laws_contents.specs.PageLaws.{bytes_at}
 use Rattle.laws_mend.proofs.inside.Seats.{few_seats}
 use Rattle.laws_mend.specs.WidenLaws.{CanWiden, GrowthCanWiden, last_number}
 

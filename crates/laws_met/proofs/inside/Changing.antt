@@ -1,19 +1,19 @@
 -- The line that changes files, and the one by which a file goes.
 use Rattle.std.proofs.Common.{◌≡◌, ◌<◌, true, List, [], ◌∷◌, length, refl, sym, ap, ◌∙◌, arith}
 use Rattle.std.proofs.lemmas.List.Elements.{All-cons, All-nil}
-use Rattle.alto_words.specs.Fid.{sys_dir}
-use Rattle.disk_records.specs.Packs.{is_free_at}
-use Rattle.pack_model.specs.operations.Committing.{length_of}
-use Rattle.pack_model.specs.operations.PageWords.{widening_bytes}
-use Rattle.pack_model.specs.operations.Step.{new_leader}
-use Rattle.pack_model.specs.operations.Step.Operation.{cut, drop_file, grow, put, stamp, title, widen}
-use Rattle.pack_model.specs.reading.Model.{read_as}
-use Rattle.pack_model.specs.reading.Sights.{sights}
-use Rattle.pack_model.specs.reading.Slots.{Item}
-use Rattle.pack_model.specs.reading.Slots.Item.{entry, space}
-use Rattle.laws_operation.proofs.Rows.{ordinary_length}
-use Rattle.laws_operation.specs.DirectoryWords.{HasEntry}
-use Rattle.laws_line.specs.SoundLines.IsKindOfLine.{changes, goes}
+use Rattle.laws_steps.specs.alto_words.specs.Fid.{sys_dir}
+use Rattle.laws_steps.specs.disk_records.specs.Packs.{is_free_at}
+use Rattle.laws_steps.specs.pack_model.specs.operations.Committing.{length_of}
+use Rattle.laws_steps.specs.pack_model.specs.operations.PageWords.{widening_bytes}
+use Rattle.laws_steps.specs.pack_model.specs.operations.Step.{new_leader}
+use Rattle.laws_steps.specs.pack_model.specs.operations.Step.Operation.{cut, drop_file, grow, put, stamp, title, widen}
+use Rattle.laws_steps.specs.pack_model.specs.reading.Model.{read_as}
+use Rattle.laws_steps.specs.pack_model.specs.reading.Sights.{sights}
+use Rattle.laws_steps.specs.pack_model.specs.reading.Slots.{Item}
+use Rattle.laws_steps.specs.pack_model.specs.reading.Slots.Item.{entry, space}
+use Rattle.laws_steps.specs.laws_operation.proofs.Rows.{ordinary_length}
+use Rattle.laws_steps.specs.laws_operation.specs.DirectoryWords.{HasEntry}
+use Rattle.laws_steps.specs.laws_line.specs.SoundLines.IsKindOfLine.{changes, goes}
 use Rattle.laws_met.specs.Peopled.{bytes_more, after_cut, cutting, dir_d, dropping, file_a, after_growth, growing, name_a, name_d, name_z, peopled, after_put, putting, after_stamp, stamping, after_title, titling, after_widening}
 use Rattle.laws_met.specs.Premises.{LineRuns, changing_events, changing_line, drop_events, drop_line, system_items}
 use Rattle.laws_met.proofs.inside.FactsC.{cut_facts, grown_facts, put_facts, stamped_facts, titled_facts}

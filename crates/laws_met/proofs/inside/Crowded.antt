@@ -2,29 +2,29 @@
 use Rattle.std.proofs.Common.{◌≡◌, ◌&&◌, Bool, true, false, List, [], ◌∷◌, ◌++◌, Some, refl, ap, subst, ◌∙◌}
 use Rattle.std.specs.List.{list_any}
 use Rattle.std.specs.FinMap.{entries}
-use Rattle.alto_words.specs.Fid.{sys_dir}
-use Rattle.alto_words.specs.Names.{is_stored_name}
-use Rattle.disk_records.specs.Addresses.{real_of}
-use Rattle.disk_records.specs.Labels.{in_range, is_free}
-use Rattle.pack_model.specs.hints.Links.{dir_words}
-use Rattle.pack_model.specs.operations.Entering.{found_room}
-use Rattle.pack_model.specs.operations.Rooms.{find_room}
-use Rattle.pack_model.specs.operations.Step.Operation.{enter}
-use Rattle.pack_model.specs.reading.Bodies.{described}
-use Rattle.pack_model.specs.reading.Files.{file_bytes, first, joined, lives, most_pages, place}
-use Rattle.pack_model.specs.reading.Leaders.{is_readable, leader_name, leader_of}
-use Rattle.pack_model.specs.reading.Model.{dir_items, read_as}
-use Rattle.pack_model.specs.reading.Namings.{AllKept, Naming, clashes, is_kept, keeps_system, namings}
-use Rattle.pack_model.specs.reading.Sights.{sight, sights, sights_from}
-use Rattle.pack_model.specs.reading.Slots.{Item, is_entry, slot_at, slots, slots_after}
-use Rattle.pack_model.specs.states.Whole.{Tidy}
-use Rattle.pack_laws.proofs.ByLists.{described_by, described_list, read_by, read_list}
-use Rattle.laws_record.proofs.Heads.{and_left, and_right}
-use Rattle.laws_record.specs.EnterLaws.{MayEnter}
-use Rattle.laws_operation.proofs.entries.Laws.{items_are_slots}
-use Rattle.laws_operation.specs.DirectoryWords.{CanEnter}
-use Rattle.laws_call.specs.Writing.{Written, entering_writes}
-use Rattle.laws_call.specs.Writing.Written.{enters}
+use Rattle.laws_steps.specs.alto_words.specs.Fid.{sys_dir}
+use Rattle.laws_steps.specs.alto_words.specs.Names.{is_stored_name}
+use Rattle.laws_steps.specs.disk_records.specs.Addresses.{real_of}
+use Rattle.laws_steps.specs.disk_records.specs.Labels.{in_range, is_free}
+use Rattle.laws_steps.specs.pack_model.specs.hints.Links.{dir_words}
+use Rattle.laws_steps.specs.pack_model.specs.operations.Entering.{found_room}
+use Rattle.laws_steps.specs.pack_model.specs.operations.Rooms.{find_room}
+use Rattle.laws_steps.specs.pack_model.specs.operations.Step.Operation.{enter}
+use Rattle.laws_steps.specs.pack_model.specs.reading.Bodies.{described}
+use Rattle.laws_steps.specs.pack_model.specs.reading.Files.{file_bytes, first, joined, lives, most_pages, place}
+use Rattle.laws_steps.specs.pack_model.specs.reading.Leaders.{is_readable, leader_name, leader_of}
+use Rattle.laws_steps.specs.pack_model.specs.reading.Model.{dir_items, read_as}
+use Rattle.laws_steps.specs.pack_model.specs.reading.Namings.{AllKept, Naming, clashes, is_kept, keeps_system, namings}
+use Rattle.laws_steps.specs.pack_model.specs.reading.Sights.{sight, sights, sights_from}
+use Rattle.laws_steps.specs.pack_model.specs.reading.Slots.{Item, is_entry, slot_at, slots, slots_after}
+use Rattle.laws_steps.specs.pack_model.specs.states.Whole.{Tidy}
+use Rattle.laws_steps.specs.pack_laws.proofs.ByLists.{described_by, described_list, read_by, read_list}
+use Rattle.laws_steps.specs.laws_record.proofs.Heads.{and_left, and_right}
+use Rattle.laws_steps.specs.laws_record.specs.EnterLaws.{MayEnter}
+use Rattle.laws_steps.specs.laws_operation.proofs.entries.Laws.{items_are_slots}
+use Rattle.laws_steps.specs.laws_operation.specs.DirectoryWords.{CanEnter}
+use Rattle.laws_steps.specs.laws_call.specs.Writing.{Written, entering_writes}
+use Rattle.laws_steps.specs.laws_call.specs.Writing.Written.{enters}
 use Rattle.laws_met.proofs.inside.CrowdedWhole.{whole}
 use Rattle.laws_met.specs.Crowded.{EnteringOverAPagesEndIsWritten, before_i, crowded, file_i, found_i, free_i, name_i, room_i, words_i}
 use Rattle.laws_met.specs.Peopled.{small}

@@ -3,26 +3,26 @@ use Rattle.std.proofs.Common.{◌≡◌, ℕ, zero, suc, ◌≤◌, Bool, true, 
 use Rattle.std.specs.List.{list_any}
 use Rattle.std.specs.Option.{is_some}
 use Rattle.std.specs.Prelude.{drop, take}
-use Rattle.alto_words.specs.declared.fid.Fid.{Fid}
-use Rattle.alto_words.specs.Fid.{disk_descriptor, is_directory, is_fid, ordinary_fid, serial_of, sys_dir}
-use Rattle.alto_words.specs.Names.{is_stored_name}
-use Rattle.disk_records.specs.Addresses.{real_of}
-use Rattle.disk_records.specs.Labels.{in_range, is_free}
-use Rattle.pack_model.specs.operations.Step.{new_leader}
-use Rattle.pack_model.specs.reading.Bytes.{bytes_of, words_of}
-use Rattle.pack_model.specs.reading.Files.{file_bytes, first, joined, lives, most_pages}
-use Rattle.pack_model.specs.reading.Leaders.{is_readable, leader_name, leader_of}
-use Rattle.pack_model.specs.reading.Model.{IsNamed, read_sights}
-use Rattle.pack_model.specs.reading.Namings.{descriptor_name, keeps_system, namings, sys_dir_name}
-use Rattle.pack_model.specs.reading.Sights.{Sight, sight, sights, sights_from}
-use Rattle.pack_model.specs.reading.Sights.Sight.{free, hidden, holds, leads}
-use Rattle.pack_model.specs.reading.Slots.{IsEven, SlotsReachEnd, all_words, is_entry, slot_at, slots, slots_after}
-use Rattle.pack_model.specs.sessions.Descriptor.{descriptor_text}
-use Rattle.pack_model.specs.states.Sound.{mark_open}
-use Rattle.pack_model.specs.states.Whole.{FileWhole, Fits, Whole, WholeSights}
-use Rattle.pack_model.specs.states.Whole.FileWhole.{absent, present}
-use Rattle.pack_laws.proofs.ByLists.{read_by, read_list}
-use Rattle.laws_record.proofs.slots.Laws.{reads_to_the_end}
+use Rattle.laws_steps.specs.alto_words.specs.declared.fid.Fid.{Fid}
+use Rattle.laws_steps.specs.alto_words.specs.Fid.{disk_descriptor, is_directory, is_fid, ordinary_fid, serial_of, sys_dir}
+use Rattle.laws_steps.specs.alto_words.specs.Names.{is_stored_name}
+use Rattle.laws_steps.specs.disk_records.specs.Addresses.{real_of}
+use Rattle.laws_steps.specs.disk_records.specs.Labels.{in_range, is_free}
+use Rattle.laws_steps.specs.pack_model.specs.operations.Step.{new_leader}
+use Rattle.laws_steps.specs.pack_model.specs.reading.Bytes.{bytes_of, words_of}
+use Rattle.laws_steps.specs.pack_model.specs.reading.Files.{file_bytes, first, joined, lives, most_pages}
+use Rattle.laws_steps.specs.pack_model.specs.reading.Leaders.{is_readable, leader_name, leader_of}
+use Rattle.laws_steps.specs.pack_model.specs.reading.Model.{IsNamed, read_sights}
+use Rattle.laws_steps.specs.pack_model.specs.reading.Namings.{descriptor_name, keeps_system, namings, sys_dir_name}
+use Rattle.laws_steps.specs.pack_model.specs.reading.Sights.{Sight, sight, sights, sights_from}
+use Rattle.laws_steps.specs.pack_model.specs.reading.Sights.Sight.{free, hidden, holds, leads}
+use Rattle.laws_steps.specs.pack_model.specs.reading.Slots.{IsEven, SlotsReachEnd, all_words, is_entry, slot_at, slots, slots_after}
+use Rattle.laws_steps.specs.pack_model.specs.sessions.Descriptor.{descriptor_text}
+use Rattle.laws_steps.specs.pack_model.specs.states.Sound.{mark_open}
+use Rattle.laws_steps.specs.pack_model.specs.states.Whole.{FileWhole, Fits, Whole, WholeSights}
+use Rattle.laws_steps.specs.pack_model.specs.states.Whole.FileWhole.{absent, present}
+use Rattle.laws_steps.specs.pack_laws.proofs.ByLists.{read_by, read_list}
+use Rattle.laws_steps.specs.laws_record.proofs.slots.Laws.{reads_to_the_end}
 use Rattle.laws_met.proofs.inside.Laid.{Each, and_one, has_pages, headless, leaderless, leads_alone, nobody, of_each, pageless, spoken, unlike_any}
 use Rattle.laws_met.specs.Crowded.{crowded, file_i, letters, name_i, root_words}
 use Rattle.laws_met.specs.Peopled.{small}

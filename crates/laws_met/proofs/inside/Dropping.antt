@@ -1,25 +1,25 @@
 -- A drop by two calls, and a file whose entry leaves, on the pack with two files and a directory.
 use Rattle.std.proofs.Common.{List, Ok, Some, [], refl, ◌∷◌, ◌≡◌}
-use Rattle.alto_words.specs.Fid.{sys_dir}
-use Rattle.disk_records.specs.Addresses.{real_of}
-use Rattle.disk_records.specs.Commands.{value_writes}
-use Rattle.disk_records.specs.Labels.{in_range, is_free}
-use Rattle.disk_records.specs.Packs.{after}
-use Rattle.disk_records.specs.declared.records.Event.{Event}
-use Rattle.disk_records.specs.declared.records.Place.TheVariants.{Held}
-use Rattle.laws_call.proofs.going.Laws.{no_call_yet}
-use Rattle.laws_call.specs.Writing.{entry_freed, leaves}
-use Rattle.laws_record.proofs.Copying.{place_carried}
+use Rattle.laws_steps.specs.alto_words.specs.Fid.{sys_dir}
+use Rattle.laws_steps.specs.disk_records.specs.Addresses.{real_of}
+use Rattle.laws_steps.specs.disk_records.specs.Commands.{value_writes}
+use Rattle.laws_steps.specs.disk_records.specs.Labels.{in_range, is_free}
+use Rattle.laws_steps.specs.disk_records.specs.Packs.{after}
+use Rattle.laws_steps.specs.disk_records.specs.declared.records.Event.{Event}
+use Rattle.laws_steps.specs.disk_records.specs.declared.records.Place.TheVariants.{Held}
+use Rattle.laws_steps.specs.laws_call.proofs.going.Laws.{no_call_yet}
+use Rattle.laws_steps.specs.laws_call.specs.Writing.{entry_freed, leaves}
+use Rattle.laws_steps.specs.laws_record.proofs.Copying.{place_carried}
 use Rattle.laws_steps.proofs.dropping.Laws.{drop_is_joined, releases_leave_the_entry}
 use Rattle.laws_steps.proofs.lines.Laws.{one_keeps_found}
 use Rattle.laws_steps.specs.LineKeepingLaws.{KeepsFound}
-use Rattle.pack_model.specs.hints.Misled.{leader_page}
-use Rattle.pack_model.specs.hints.Sources.{IsFrom}
-use Rattle.pack_model.specs.operations.Step.Operation.{leave}
-use Rattle.pack_model.specs.reading.Files.{file_bytes, first, joined, most_pages, place}
-use Rattle.pack_model.specs.reading.Leaders.{is_readable, leader_name, leader_of}
-use Rattle.pack_model.specs.reading.Sights.{sight, sights, sights_from}
-use Rattle.alto_words.specs.Names.{is_stored_name}
+use Rattle.laws_steps.specs.pack_model.specs.hints.Misled.{leader_page}
+use Rattle.laws_steps.specs.pack_model.specs.hints.Sources.{IsFrom}
+use Rattle.laws_steps.specs.pack_model.specs.operations.Step.Operation.{leave}
+use Rattle.laws_steps.specs.pack_model.specs.reading.Files.{file_bytes, first, joined, most_pages, place}
+use Rattle.laws_steps.specs.pack_model.specs.reading.Leaders.{is_readable, leader_name, leader_of}
+use Rattle.laws_steps.specs.pack_model.specs.reading.Sights.{sight, sights, sights_from}
+use Rattle.laws_steps.specs.alto_words.specs.Names.{is_stored_name}
 use Rattle.laws_met.specs.Dropping.{DropByTwoCallsIsMet, HeldFileStaysFound}
 use Rattle.laws_met.specs.Peopled.{dir_d, file_a, file_b, name_a, name_b, peopled}
 use Rattle.laws_met.specs.Premises.{system_items}

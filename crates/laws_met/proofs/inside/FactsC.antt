@@ -1,16 +1,16 @@
 -- What is so on the packs of a line that changes files, and of one that renames a file, by computation.
 use Rattle.std.proofs.Common.{◌≡◌, true, [], ◌∷◌, Some, refl, length}
-use Rattle.alto_words.specs.Fid.{sys_dir}
-use Rattle.alto_words.specs.Names.{is_stored_name}
-use Rattle.disk_records.specs.Addresses.{real_of}
-use Rattle.disk_records.specs.Labels.{in_range, is_free}
-use Rattle.disk_records.specs.Packs.{is_free_at, sector_at}
-use Rattle.pack_model.specs.reading.Leaders.{leader_of, leader_name, is_readable}
-use Rattle.pack_model.specs.reading.Namings.{keeps_system}
-use Rattle.pack_model.specs.reading.Sights.{sight, sights, sights_from}
-use Rattle.pack_model.specs.reading.Slots.{is_entry, slot_at, slots_after}
-use Rattle.pack_model.specs.reading.Files.{first, joined, most_pages, file_bytes, place, lives}
-use Rattle.laws_operation.specs.ByteLaws.{Bear}
+use Rattle.laws_steps.specs.alto_words.specs.Fid.{sys_dir}
+use Rattle.laws_steps.specs.alto_words.specs.Names.{is_stored_name}
+use Rattle.laws_steps.specs.disk_records.specs.Addresses.{real_of}
+use Rattle.laws_steps.specs.disk_records.specs.Labels.{in_range, is_free}
+use Rattle.laws_steps.specs.disk_records.specs.Packs.{is_free_at, sector_at}
+use Rattle.laws_steps.specs.pack_model.specs.reading.Leaders.{leader_of, leader_name, is_readable}
+use Rattle.laws_steps.specs.pack_model.specs.reading.Namings.{keeps_system}
+use Rattle.laws_steps.specs.pack_model.specs.reading.Sights.{sight, sights, sights_from}
+use Rattle.laws_steps.specs.pack_model.specs.reading.Slots.{is_entry, slot_at, slots_after}
+use Rattle.laws_steps.specs.pack_model.specs.reading.Files.{first, joined, most_pages, file_bytes, place, lives}
+use Rattle.laws_steps.specs.laws_operation.specs.ByteLaws.{Bear}
 use Rattle.laws_met.specs.Peopled.{after_cut, dir_d, file_a, after_growth, left, name_c, name_z, after_put, retitled, room_c, after_stamp, after_title}
 use Rattle.laws_met.specs.Premises.{found_c}
 use Rattle.laws_met.proofs.inside.FactsP.{inner_items, root_items}

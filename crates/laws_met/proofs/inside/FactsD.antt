@@ -1,20 +1,20 @@
 -- What is so on the packs of the second and the third line, by computation.
 use Rattle.std.proofs.Common.{◌≡◌, ℕ, false, List, [], ◌∷◌, Some, refl}
-use Rattle.alto_words.specs.Fid.{disk_descriptor, sys_dir}
-use Rattle.alto_words.specs.Names.{is_stored_name}
-use Rattle.disk_records.specs.Addresses.{real_of}
-use Rattle.disk_records.specs.Labels.{in_range, is_free}
-use Rattle.disk_records.specs.Packs.{Pack}
-use Rattle.pack_model.specs.operations.Rooms.{Room}
-use Rattle.pack_model.specs.reading.Leaders.{leader_of, leader_name, is_readable}
-use Rattle.pack_model.specs.reading.Model.{read_as, read_sights}
-use Rattle.pack_model.specs.reading.Namings.{descriptor_name, keeps_system, sys_dir_name}
-use Rattle.pack_model.specs.reading.Sights.{sight, sights, sights_from}
-use Rattle.pack_model.specs.reading.Slots.{Item, is_entry, slot_at, slots_after}
-use Rattle.pack_model.specs.reading.Slots.Item.{entry, space}
-use Rattle.pack_model.specs.reading.Files.{first, joined, most_pages, file_bytes, place, lives}
-use Rattle.pack_model.specs.states.InUse.{free_sector_count}
-use Rattle.pack_model.specs.states.Sound.{mark_of, mark_open}
+use Rattle.laws_steps.specs.alto_words.specs.Fid.{disk_descriptor, sys_dir}
+use Rattle.laws_steps.specs.alto_words.specs.Names.{is_stored_name}
+use Rattle.laws_steps.specs.disk_records.specs.Addresses.{real_of}
+use Rattle.laws_steps.specs.disk_records.specs.Labels.{in_range, is_free}
+use Rattle.laws_steps.specs.disk_records.specs.Packs.{Pack}
+use Rattle.laws_steps.specs.pack_model.specs.operations.Rooms.{Room}
+use Rattle.laws_steps.specs.pack_model.specs.reading.Leaders.{leader_of, leader_name, is_readable}
+use Rattle.laws_steps.specs.pack_model.specs.reading.Model.{read_as, read_sights}
+use Rattle.laws_steps.specs.pack_model.specs.reading.Namings.{descriptor_name, keeps_system, sys_dir_name}
+use Rattle.laws_steps.specs.pack_model.specs.reading.Sights.{sight, sights, sights_from}
+use Rattle.laws_steps.specs.pack_model.specs.reading.Slots.{Item, is_entry, slot_at, slots_after}
+use Rattle.laws_steps.specs.pack_model.specs.reading.Slots.Item.{entry, space}
+use Rattle.laws_steps.specs.pack_model.specs.reading.Files.{first, joined, most_pages, file_bytes, place, lives}
+use Rattle.laws_steps.specs.pack_model.specs.states.InUse.{free_sector_count}
+use Rattle.laws_steps.specs.pack_model.specs.states.Sound.{mark_of, mark_open}
 use Rattle.laws_met.specs.Peopled.{dir_d, entered_d, file_a, file_b, grown_a, made_b, made_d, name_a, name_b, name_d, numbered_b, numbered_d, room_b, room_d}
 use Rattle.laws_met.specs.Premises.{found_b}
 use Rattle.laws_met.proofs.inside.NewFile.{DirectoryIs, Made, NamesFit, Numbered}

@@ -1,15 +1,15 @@
 -- What is so on the packs of a line that renames a file within its directory, by computation.
 use Rattle.std.proofs.Common.{◌≡◌, true, List, [], ◌∷◌, Some, refl, length}
-use Rattle.alto_words.specs.Names.{is_stored_name}
-use Rattle.disk_records.specs.Addresses.{real_of}
-use Rattle.disk_records.specs.Labels.{in_range, is_free}
-use Rattle.disk_records.specs.Packs.{sector_at}
-use Rattle.pack_model.specs.reading.Leaders.{leader_of, leader_name, is_readable}
-use Rattle.pack_model.specs.reading.Namings.{keeps_system}
-use Rattle.pack_model.specs.reading.Sights.{sight, sights, sights_from}
-use Rattle.pack_model.specs.reading.Slots.{Item, is_entry, slot_at, slots_after}
-use Rattle.pack_model.specs.reading.Slots.Item.{space}
-use Rattle.pack_model.specs.reading.Files.{first, joined, most_pages, file_bytes, place, lives}
+use Rattle.laws_steps.specs.alto_words.specs.Names.{is_stored_name}
+use Rattle.laws_steps.specs.disk_records.specs.Addresses.{real_of}
+use Rattle.laws_steps.specs.disk_records.specs.Labels.{in_range, is_free}
+use Rattle.laws_steps.specs.disk_records.specs.Packs.{sector_at}
+use Rattle.laws_steps.specs.pack_model.specs.reading.Leaders.{leader_of, leader_name, is_readable}
+use Rattle.laws_steps.specs.pack_model.specs.reading.Namings.{keeps_system}
+use Rattle.laws_steps.specs.pack_model.specs.reading.Sights.{sight, sights, sights_from}
+use Rattle.laws_steps.specs.pack_model.specs.reading.Slots.{Item, is_entry, slot_at, slots_after}
+use Rattle.laws_steps.specs.pack_model.specs.reading.Slots.Item.{space}
+use Rattle.laws_steps.specs.pack_model.specs.reading.Files.{first, joined, most_pages, file_bytes, place, lives}
 use Rattle.laws_met.specs.Peopled.{dir_d, file_b, left_b, name_e, peopled, retitled_b, room_e}
 use Rattle.laws_met.specs.Premises.{found_b}
 use Rattle.laws_met.proofs.inside.FactsP.{inner_items}

@@ -1,19 +1,19 @@
 -- What is so on the pack with two files and a directory, by computation.
 use Rattle.std.proofs.Common.{◌≡◌, true, List, [], ◌∷◌, Some, refl, length}
-use Rattle.alto_words.specs.Fid.{disk_descriptor, sys_dir}
-use Rattle.alto_words.specs.Names.{is_stored_name}
-use Rattle.disk_records.specs.Addresses.{real_of}
-use Rattle.disk_records.specs.Labels.{in_range, is_free}
-use Rattle.disk_records.specs.Packs.{is_free_at, sector_at}
-use Rattle.pack_model.specs.operations.Step.{new_leader}
-use Rattle.pack_model.specs.reading.Leaders.{leader_of, leader_name, is_readable}
-use Rattle.pack_model.specs.reading.Model.{read_sights}
-use Rattle.pack_model.specs.reading.Namings.{descriptor_name, sys_dir_name}
-use Rattle.pack_model.specs.reading.Sights.{sight, sights, sights_from}
-use Rattle.pack_model.specs.reading.Slots.{Item, is_entry, slot_at, slots_after}
-use Rattle.pack_model.specs.reading.Slots.Item.{entry, space}
-use Rattle.pack_model.specs.reading.Files.{first, joined, leader, most_pages, file_bytes, place}
-use Rattle.laws_operation.specs.ByteLaws.{Bear}
+use Rattle.laws_steps.specs.alto_words.specs.Fid.{disk_descriptor, sys_dir}
+use Rattle.laws_steps.specs.alto_words.specs.Names.{is_stored_name}
+use Rattle.laws_steps.specs.disk_records.specs.Addresses.{real_of}
+use Rattle.laws_steps.specs.disk_records.specs.Labels.{in_range, is_free}
+use Rattle.laws_steps.specs.disk_records.specs.Packs.{is_free_at, sector_at}
+use Rattle.laws_steps.specs.pack_model.specs.operations.Step.{new_leader}
+use Rattle.laws_steps.specs.pack_model.specs.reading.Leaders.{leader_of, leader_name, is_readable}
+use Rattle.laws_steps.specs.pack_model.specs.reading.Model.{read_sights}
+use Rattle.laws_steps.specs.pack_model.specs.reading.Namings.{descriptor_name, sys_dir_name}
+use Rattle.laws_steps.specs.pack_model.specs.reading.Sights.{sight, sights, sights_from}
+use Rattle.laws_steps.specs.pack_model.specs.reading.Slots.{Item, is_entry, slot_at, slots_after}
+use Rattle.laws_steps.specs.pack_model.specs.reading.Slots.Item.{entry, space}
+use Rattle.laws_steps.specs.pack_model.specs.reading.Files.{first, joined, leader, most_pages, file_bytes, place}
+use Rattle.laws_steps.specs.laws_operation.specs.ByteLaws.{Bear}
 use Rattle.laws_met.specs.Peopled.{bytes_a, dir_d, file_a, file_b, name_a, name_b, name_d, peopled}
 use Rattle.laws_met.proofs.inside.FactsD.{InSession}
 use Rattle.laws_met.proofs.inside.NewFile.{DirectoryIs}

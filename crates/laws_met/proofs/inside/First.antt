@@ -3,18 +3,18 @@ use Rattle.std.proofs.Common.{[], ap, arith, true, ◌&&◌, ◌<◌, ◌∙◌,
 use Rattle.std.proofs.lemmas.Bool.{le-leb, lt-ltb}
 use Rattle.std.proofs.lemmas.List.Elements.{All-cons, All-nil}
 use Rattle.std.specs.Prelude.{nat_le, nat_lt}
-use Rattle.alto_words.specs.Fid.{sys_dir}
-use Rattle.disk_records.specs.Addresses.{pages_of}
-use Rattle.disk_records.specs.Packs.{Pack, is_free_at}
-use Rattle.disk_records.specs.declared.shape.Shape.{Shape}
-use Rattle.pack_model.specs.operations.Step.Operation.{widen}
-use Rattle.pack_model.specs.sessions.Format.{formatted, sectors_used}
+use Rattle.laws_steps.specs.alto_words.specs.Fid.{sys_dir}
+use Rattle.laws_steps.specs.disk_records.specs.Addresses.{pages_of}
+use Rattle.laws_steps.specs.disk_records.specs.Packs.{Pack, is_free_at}
+use Rattle.laws_steps.specs.disk_records.specs.declared.shape.Shape.{Shape}
+use Rattle.laws_steps.specs.pack_model.specs.operations.Step.Operation.{widen}
+use Rattle.laws_steps.specs.pack_model.specs.sessions.Format.{formatted, sectors_used}
 use Rattle.laws_format.proofs.formatted.Laws.{formatted_descriptor_fits, formatted_pack_begins_a_session, formatted_pack_has_free_sectors}
 use Rattle.laws_met.specs.First.{FormattedPackTakesALine}
 use Rattle.laws_format.specs.Formatted.{FreeAfterUsed, SessionBegins}
-use Rattle.laws_hint.specs.MapChanges.{marked}
-use Rattle.laws_line.specs.EndLaws.{idle}
-use Rattle.laws_line.specs.SoundLines.{changes}
+use Rattle.laws_steps.specs.laws_hint.specs.MapChanges.{marked}
+use Rattle.laws_steps.specs.laws_line.specs.EndLaws.{idle}
+use Rattle.laws_steps.specs.laws_line.specs.SoundLines.{changes}
 
 -- a pack of any shape has a sector more than its system files take
 one_more : (shape : Shape) → sectors_used shape < pages_of shape

@@ -4,15 +4,15 @@ use Rattle.std.proofs.lemmas.Bool.{eqb-true}
 use Rattle.std.specs.List.{list_all, list_any}
 use Rattle.std.specs.Option.{option_or}
 use Rattle.std.specs.Prelude.{cond, get_or}
-use Rattle.alto_words.specs.declared.fid.Fid.{Fid}
-use Rattle.alto_words.specs.Fid.{is_fid}
-use Rattle.pack_laws.proofs.Keys.{is_fid-itself, same_fid}
-use Rattle.pack_model.specs.reading.Files.{first, leader, numbered}
-use Rattle.pack_model.specs.reading.Leaders.{Leader}
-use Rattle.pack_model.specs.reading.Sights.{Sight}
-use Rattle.pack_model.specs.reading.Sights.Sight.{free, hidden, holds, leads, stray}
-use Rattle.pack_model.specs.states.Whole.{Headless, HasPages, IsSeat, Leads, PageAt, Seated}
-use Rattle.laws_record.proofs.Heads.{and_left, and_right}
+use Rattle.laws_steps.specs.alto_words.specs.declared.fid.Fid.{Fid}
+use Rattle.laws_steps.specs.alto_words.specs.Fid.{is_fid}
+use Rattle.laws_steps.specs.pack_laws.proofs.Keys.{is_fid-itself, same_fid}
+use Rattle.laws_steps.specs.pack_model.specs.reading.Files.{first, leader, numbered}
+use Rattle.laws_steps.specs.pack_model.specs.reading.Leaders.{Leader}
+use Rattle.laws_steps.specs.pack_model.specs.reading.Sights.{Sight}
+use Rattle.laws_steps.specs.pack_model.specs.reading.Sights.Sight.{free, hidden, holds, leads, stray}
+use Rattle.laws_steps.specs.pack_model.specs.states.Whole.{Headless, HasPages, IsSeat, Leads, PageAt, Seated}
+use Rattle.laws_steps.specs.laws_record.proofs.Heads.{and_left, and_right}
 
 -- ---- what holds of each sector
 abbrev each : (ℕ → Sight → Bool) → ℕ → List Sight → Bool

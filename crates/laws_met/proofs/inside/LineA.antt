@@ -2,17 +2,17 @@
 use Rattle.std.proofs.Common.{◌≡◌, ℕ, ◌<◌, true, List, [], ◌∷◌, ◌++◌, length, refl, sym, ap, subst, ◌∙◌, arith, replicate, zero, suc}
 use Rattle.std.proofs.lemmas.List.Elements.{All-cons, All-nil}
 use Rattle.std.specs.Prelude.{All}
-use Rattle.alto_words.specs.Fid.{sys_dir}
-use Rattle.disk_records.proofs.Growing.{after-append}
-use Rattle.disk_records.specs.Packs.{after, is_free_at}
-use Rattle.disk_records.specs.declared.records.Event.{Event}
-use Rattle.pack_model.specs.hints.Links.{LinksTrue}
-use Rattle.pack_model.specs.operations.Step.Operation.{grow, make}
-use Rattle.pack_model.specs.reading.Model.{read_as}
-use Rattle.pack_model.specs.states.Sound.{Sound}
-use Rattle.laws_operation.specs.FileWords.{CanGrow}
+use Rattle.laws_steps.specs.alto_words.specs.Fid.{sys_dir}
+use Rattle.laws_steps.specs.disk_records.proofs.Growing.{after-append}
+use Rattle.laws_steps.specs.disk_records.specs.Packs.{after, is_free_at}
+use Rattle.laws_steps.specs.disk_records.specs.declared.records.Event.{Event}
+use Rattle.laws_steps.specs.pack_model.specs.hints.Links.{LinksTrue}
+use Rattle.laws_steps.specs.pack_model.specs.operations.Step.Operation.{grow, make}
+use Rattle.laws_steps.specs.pack_model.specs.reading.Model.{read_as}
+use Rattle.laws_steps.specs.pack_model.specs.states.Sound.{Sound}
+use Rattle.laws_steps.specs.laws_operation.specs.FileWords.{CanGrow}
 use Rattle.laws_format.proofs.formatted.Laws.{formatted_pack_begins_a_session, formatted_pack_has_free_sectors}
-use Rattle.laws_line.specs.SoundLines.{IsKindOfLine}
+use Rattle.laws_steps.specs.laws_line.specs.SoundLines.{IsKindOfLine}
 use Rattle.laws_met.specs.Peopled.{bytes_a, entered_a, file_a, formatted_pack, grown_a, growing, name_a, opened, opening, room_a, small}
 use Rattle.laws_met.specs.Premises.{LineRuns, file_events, file_line}
 use Rattle.laws_met.proofs.inside.FactsA.{formatted_root, found_a, in_entered, in_formatted, in_opened, items_before, made_is, made_root, names_fit_a, numbered_is, numbered_root}

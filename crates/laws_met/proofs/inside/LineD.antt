@@ -1,11 +1,11 @@
 -- The second line, which makes a directory, and the third, which makes a file in it.
 use Rattle.std.proofs.Common.{◌≡◌, [], ◌++◌, refl, subst, ◌∙◌, arith}
-use Rattle.alto_words.specs.Fid.{sys_dir}
-use Rattle.disk_records.specs.Packs.{after}
-use Rattle.pack_model.specs.hints.Links.{LinksTrue}
-use Rattle.pack_model.specs.reading.Model.{read_as}
-use Rattle.pack_model.specs.states.Sound.{Sound}
-use Rattle.laws_line.specs.SoundLines.{IsKindOfLine}
+use Rattle.laws_steps.specs.alto_words.specs.Fid.{sys_dir}
+use Rattle.laws_steps.specs.disk_records.specs.Packs.{after}
+use Rattle.laws_steps.specs.pack_model.specs.hints.Links.{LinksTrue}
+use Rattle.laws_steps.specs.pack_model.specs.reading.Model.{read_as}
+use Rattle.laws_steps.specs.pack_model.specs.states.Sound.{Sound}
+use Rattle.laws_steps.specs.laws_line.specs.SoundLines.{IsKindOfLine}
 use Rattle.laws_met.specs.Peopled.{dir_d, entered_d, file_b, grown_a, name_b, name_d, opening, peopled, room_b, room_d}
 use Rattle.laws_met.specs.Premises.{LineRuns, directory_events, directory_line, found_b, inner_events, inner_line}
 use Rattle.laws_met.proofs.inside.FactsD.{entered_dead, entered_dir, entered_root, entered_session, found_d, grown_dead, grown_root, grown_session, items_of_d, items_with_a, items_with_d, made_dir, made_is_b, made_is_d, made_root_d, names_fit_b, names_fit_d, numbered_dir, numbered_is_b, numbered_is_d, numbered_root_d}

@@ -3,27 +3,27 @@ use Rattle.std.proofs.Common.{◌≡◌, ℕ, true, false, cond, List, [], ◌�
 use Rattle.std.specs.List.{list_any}
 use Rattle.std.specs.Prelude.{◌||◌, nat_le}
 use Rattle.std.specs.FinMap.{contains_key, entries}
-use Rattle.alto_words.specs.declared.fid.Fid.{Fid}
-use Rattle.alto_words.specs.Fid.{disk_descriptor, is_directory, is_fid, sys_dir}
-use Rattle.disk_records.specs.Packs.{Pack, after}
-use Rattle.pack_model.specs.operations.Rooms.{largest_run}
-use Rattle.pack_model.specs.operations.Step.{Operation, longest_entry}
-use Rattle.pack_model.specs.operations.Step.Operation.{enter, leave, make, title, widen}
-use Rattle.pack_model.specs.hints.Links.{dir_words}
-use Rattle.pack_model.specs.reading.Files.{lives}
-use Rattle.pack_model.specs.reading.Model.{Model, dir_items, read_as}
-use Rattle.pack_model.specs.reading.Namings.{clashes, fits, namings}
-use Rattle.pack_model.specs.reading.Sights.{sights}
-use Rattle.pack_model.specs.reading.Slots.{Item, entry_length, slots}
-use Rattle.pack_model.specs.reading.Slots.Item.{entry}
-use Rattle.alto_words.specs.Names.{is_same_name}
-use Rattle.laws_record.specs.EnterLaws.{MayEnter}
-use Rattle.laws_operation.specs.EntryLaws.{is_of_another}
-use Rattle.laws_operation.proofs.entries.Laws.{items_are_slots}
-use Rattle.laws_operation.proofs.leave.Laws.{free_name_is_apart_after_leave}
-use Rattle.laws_operation.proofs.make.Laws.{free_name_is_apart_after_make}
-use Rattle.laws_operation.proofs.places.Laws.{model_has_the_living}
-use Rattle.laws_line.specs.LineLaws.{new_file_line, rename_line}
+use Rattle.laws_steps.specs.alto_words.specs.declared.fid.Fid.{Fid}
+use Rattle.laws_steps.specs.alto_words.specs.Fid.{disk_descriptor, is_directory, is_fid, sys_dir}
+use Rattle.laws_steps.specs.disk_records.specs.Packs.{Pack, after}
+use Rattle.laws_steps.specs.pack_model.specs.operations.Rooms.{largest_run}
+use Rattle.laws_steps.specs.pack_model.specs.operations.Step.{Operation, longest_entry}
+use Rattle.laws_steps.specs.pack_model.specs.operations.Step.Operation.{enter, leave, make, title, widen}
+use Rattle.laws_steps.specs.pack_model.specs.hints.Links.{dir_words}
+use Rattle.laws_steps.specs.pack_model.specs.reading.Files.{lives}
+use Rattle.laws_steps.specs.pack_model.specs.reading.Model.{Model, dir_items, read_as}
+use Rattle.laws_steps.specs.pack_model.specs.reading.Namings.{clashes, fits, namings}
+use Rattle.laws_steps.specs.pack_model.specs.reading.Sights.{sights}
+use Rattle.laws_steps.specs.pack_model.specs.reading.Slots.{Item, entry_length, slots}
+use Rattle.laws_steps.specs.pack_model.specs.reading.Slots.Item.{entry}
+use Rattle.laws_steps.specs.alto_words.specs.Names.{is_same_name}
+use Rattle.laws_steps.specs.laws_record.specs.EnterLaws.{MayEnter}
+use Rattle.laws_steps.specs.laws_operation.specs.EntryLaws.{is_of_another}
+use Rattle.laws_steps.specs.laws_operation.proofs.entries.Laws.{items_are_slots}
+use Rattle.laws_steps.specs.laws_operation.proofs.leave.Laws.{free_name_is_apart_after_leave}
+use Rattle.laws_steps.specs.laws_operation.proofs.make.Laws.{free_name_is_apart_after_make}
+use Rattle.laws_steps.specs.laws_operation.proofs.places.Laws.{model_has_the_living}
+use Rattle.laws_steps.specs.laws_line.specs.LineLaws.{new_file_line, rename_line}
 use Rattle.laws_met.specs.Peopled.{leaving, making}
 use Rattle.laws_met.proofs.inside.Operating.{Done, Stands}
 

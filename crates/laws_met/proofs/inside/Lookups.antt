@@ -1,21 +1,21 @@
 -- What a call knew on the pack with two files and a directory.
 use Rattle.std.proofs.Common.{Bool, None, Some, [], ap, arith, false, length, refl, true, ◌∙◌, ◌∷◌, ◌≡◌}
-use Rattle.alto_words.specs.Fid.{sys_dir}
-use Rattle.disk_records.specs.Packs.{Pack}
-use Rattle.laws_contents.proofs.model.Laws.{model_lengths_are_of_bytes}
-use Rattle.laws_line.specs.LineLaws.{IsEntered}
-use Rattle.laws_operation.proofs.places.Laws.{file_that_does_not_live_has_no_page}
+use Rattle.laws_steps.specs.alto_words.specs.Fid.{sys_dir}
+use Rattle.laws_steps.specs.disk_records.specs.Packs.{Pack}
+use Rattle.laws_steps.specs.laws_contents.proofs.model.Laws.{model_lengths_are_of_bytes}
+use Rattle.laws_steps.specs.laws_line.specs.LineLaws.{IsEntered}
+use Rattle.laws_steps.specs.laws_operation.proofs.places.Laws.{file_that_does_not_live_has_no_page}
 use Rattle.laws_steps.proofs.entries.Laws.{entered_is_meant, entered_stays}
 use Rattle.laws_steps.proofs.lengths.Laws.{put_keeps_the_length}
 use Rattle.laws_steps.proofs.names.Laws.{absent_name_stays_absent}
-use Rattle.pack_model.specs.operations.Committing.{length_of}
-use Rattle.pack_model.specs.operations.Step.{step}
-use Rattle.pack_model.specs.operations.Step.Operation.{leave, title, widen}
-use Rattle.pack_model.specs.reading.Files.{lives, place}
-use Rattle.pack_model.specs.reading.Model.{Model, dir_items, read_as}
-use Rattle.pack_model.specs.reading.Sights.{sights}
-use Rattle.pack_model.specs.reading.Slots.Item.{entry, space}
-use Rattle.pack_model.specs.reading.Versions.{exact}
+use Rattle.laws_steps.specs.pack_model.specs.operations.Committing.{length_of}
+use Rattle.laws_steps.specs.pack_model.specs.operations.Step.{step}
+use Rattle.laws_steps.specs.pack_model.specs.operations.Step.Operation.{leave, title, widen}
+use Rattle.laws_steps.specs.pack_model.specs.reading.Files.{lives, place}
+use Rattle.laws_steps.specs.pack_model.specs.reading.Model.{Model, dir_items, read_as}
+use Rattle.laws_steps.specs.pack_model.specs.reading.Sights.{sights}
+use Rattle.laws_steps.specs.pack_model.specs.reading.Slots.Item.{entry, space}
+use Rattle.laws_steps.specs.pack_model.specs.reading.Versions.{exact}
 use Rattle.laws_met.specs.Lookups.{LookupsAreMet, MeetsLookups}
 use Rattle.laws_met.specs.Peopled.{dir_d, file_a, file_b, name_a, name_b, name_c, peopled}
 use Rattle.laws_met.specs.Premises.{MeetsPremises}

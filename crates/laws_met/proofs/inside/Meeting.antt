@@ -2,18 +2,18 @@
 use Rattle.std.proofs.Common.{◌≡◌, ◌≢◌, ℕ, ◌<◌, true, [], ◌∷◌, length, refl, sym, ap, arith, replicate, inr}
 use Rattle.std.proofs.lemmas.List.Elements.{All-cons, All-nil}
 use Rattle.std.specs.Prelude.{All, AllPairs}
-use Rattle.disk_records.specs.Packs.{is_free_at, sector_at}
-use Rattle.pack_model.specs.operations.PageWords.{widening_bytes}
-use Rattle.pack_model.specs.operations.Step.{new_leader}
-use Rattle.pack_model.specs.reading.SlotWords.{space_words}
-use Rattle.pack_model.specs.reading.Sights.{sights}
-use Rattle.pack_model.specs.states.Sound.{mark_clean, mark_of}
-use Rattle.pack_laws.proofs.Bytes.{bytes_below}
-use Rattle.laws_operation.specs.ByteLaws.{IsOrdinary}
-use Rattle.laws_operation.specs.DescriptorLaws.{MayClose}
-use Rattle.laws_operation.specs.FileWords.{ArePastTheEnd, CanCut, CanGrow, CanPut, CanWriteLeader}
-use Rattle.laws_operation.specs.LifeLaws.{MayDrop}
-use Rattle.laws_hint.proofs.closing.Laws.{closing_leaves_hints_true}
+use Rattle.laws_steps.specs.disk_records.specs.Packs.{is_free_at, sector_at}
+use Rattle.laws_steps.specs.pack_model.specs.operations.PageWords.{widening_bytes}
+use Rattle.laws_steps.specs.pack_model.specs.operations.Step.{new_leader}
+use Rattle.laws_steps.specs.pack_model.specs.reading.SlotWords.{space_words}
+use Rattle.laws_steps.specs.pack_model.specs.reading.Sights.{sights}
+use Rattle.laws_steps.specs.pack_model.specs.states.Sound.{mark_clean, mark_of}
+use Rattle.laws_steps.specs.pack_laws.proofs.Bytes.{bytes_below}
+use Rattle.laws_steps.specs.laws_operation.specs.ByteLaws.{IsOrdinary}
+use Rattle.laws_steps.specs.laws_operation.specs.DescriptorLaws.{MayClose}
+use Rattle.laws_steps.specs.laws_operation.specs.FileWords.{ArePastTheEnd, CanCut, CanGrow, CanPut, CanWriteLeader}
+use Rattle.laws_steps.specs.laws_operation.specs.LifeLaws.{MayDrop}
+use Rattle.laws_steps.specs.laws_hint.proofs.closing.Laws.{closing_leaves_hints_true}
 use Rattle.laws_met.specs.Peopled.{bytes_a, bytes_more, dir_d, file_a, name_a, peopled}
 use Rattle.laws_met.specs.Premises.{PremisesAreMet, SessionCloses}
 use Rattle.laws_met.proofs.inside.FactsP.{directory_lies, file_is, inner_is, inner_items, session}

@@ -1,39 +1,39 @@
 -- More operations on a pack that stands, by what a caller knows.
 use Rattle.std.proofs.Common.{◌≡◌, ℕ, ◌%◌, true, false, not, cond, List, [], Some, None, length, refl, sym, ap, subst, ◌∙◌}
 use Rattle.std.specs.FinMap.{get}
-use Rattle.alto_words.specs.declared.fid.Fid.{Fid}
-use Rattle.alto_words.specs.Fid.{is_directory, is_system}
-use Rattle.alto_words.specs.Names.{is_same_name, is_stored_name}
-use Rattle.disk_records.specs.Packs.{Pack, sector_at}
-use Rattle.pack_model.specs.operations.Commands.{cut_label, grown_claims, grown_label, grown_value}
-use Rattle.pack_model.specs.operations.PageWords.{put_value, stamped_value, titled_value, widening_bytes}
-use Rattle.pack_model.specs.operations.Step.Operation.{cut, drop_file, leave, put, stamp, title, widen}
-use Rattle.pack_model.specs.reading.Bodies.{described, found, is_described, items_in}
-use Rattle.pack_model.specs.reading.Files.{file_bytes, leader, lives}
-use Rattle.pack_model.specs.reading.Leaders.{Leader}
-use Rattle.pack_model.specs.reading.Bytes.{words_of}
-use Rattle.pack_model.specs.reading.Bodies.Body.{data_of, items_of}
-use Rattle.pack_model.specs.reading.Model.{dir_items, read_as, read_sights}
-use Rattle.pack_model.specs.reading.Namings.{namings_in}
-use Rattle.pack_model.specs.reading.Sights.{sights}
-use Rattle.pack_model.specs.reading.Slots.{Item, all_words, item_words, slots}
-use Rattle.pack_model.specs.reading.Slots.Item.{entry}
-use Rattle.pack_model.specs.reading.SlotWords.{space_words}
-use Rattle.laws_record.proofs.Keeping.{get-tidied_plain, get-where, plain}
-use Rattle.laws_record.proofs.Reading.{get_by, read_file}
-use Rattle.laws_operation.specs.ByteLaws.{IsOrdinary}
-use Rattle.laws_operation.specs.DirectoryWords.{HasEntry}
-use Rattle.laws_operation.specs.FileWords.{CanCut, CanGrow, CanPut, CanWriteLeader}
-use Rattle.laws_operation.specs.LifeLaws.{MayDrop}
-use Rattle.laws_operation.specs.LinkLaws.{KeepsLinks}
-use Rattle.laws_operation.proofs.cut.Laws.{cut_keeps_links, cut_words_fit}
-use Rattle.laws_operation.proofs.drop.Laws.{drop_keeps_links, slot_words_fit}
-use Rattle.laws_operation.proofs.leave.Laws.{leave_keeps_links, leave_words_fit}
-use Rattle.laws_operation.proofs.put.Laws.{put_keeps_links, put_words_fit}
-use Rattle.laws_operation.proofs.stamp.Laws.{stamp_keeps_links, stamp_words_fit}
-use Rattle.laws_operation.proofs.title.Laws.{title_keeps_links, title_words_fit}
-use Rattle.laws_operation.proofs.widen.Laws.{widen_keeps_links, widen_words_fit}
-use Rattle.laws_line.proofs.crashes.Laws.{crashes_of_each_operation}
+use Rattle.laws_steps.specs.alto_words.specs.declared.fid.Fid.{Fid}
+use Rattle.laws_steps.specs.alto_words.specs.Fid.{is_directory, is_system}
+use Rattle.laws_steps.specs.alto_words.specs.Names.{is_same_name, is_stored_name}
+use Rattle.laws_steps.specs.disk_records.specs.Packs.{Pack, sector_at}
+use Rattle.laws_steps.specs.pack_model.specs.operations.Commands.{cut_label, grown_claims, grown_label, grown_value}
+use Rattle.laws_steps.specs.pack_model.specs.operations.PageWords.{put_value, stamped_value, titled_value, widening_bytes}
+use Rattle.laws_steps.specs.pack_model.specs.operations.Step.Operation.{cut, drop_file, leave, put, stamp, title, widen}
+use Rattle.laws_steps.specs.pack_model.specs.reading.Bodies.{described, found, is_described, items_in}
+use Rattle.laws_steps.specs.pack_model.specs.reading.Files.{file_bytes, leader, lives}
+use Rattle.laws_steps.specs.pack_model.specs.reading.Leaders.{Leader}
+use Rattle.laws_steps.specs.pack_model.specs.reading.Bytes.{words_of}
+use Rattle.laws_steps.specs.pack_model.specs.reading.Bodies.Body.{data_of, items_of}
+use Rattle.laws_steps.specs.pack_model.specs.reading.Model.{dir_items, read_as, read_sights}
+use Rattle.laws_steps.specs.pack_model.specs.reading.Namings.{namings_in}
+use Rattle.laws_steps.specs.pack_model.specs.reading.Sights.{sights}
+use Rattle.laws_steps.specs.pack_model.specs.reading.Slots.{Item, all_words, item_words, slots}
+use Rattle.laws_steps.specs.pack_model.specs.reading.Slots.Item.{entry}
+use Rattle.laws_steps.specs.pack_model.specs.reading.SlotWords.{space_words}
+use Rattle.laws_steps.specs.laws_record.proofs.Keeping.{get-tidied_plain, get-where, plain}
+use Rattle.laws_steps.specs.laws_record.proofs.Reading.{get_by, read_file}
+use Rattle.laws_steps.specs.laws_operation.specs.ByteLaws.{IsOrdinary}
+use Rattle.laws_steps.specs.laws_operation.specs.DirectoryWords.{HasEntry}
+use Rattle.laws_steps.specs.laws_operation.specs.FileWords.{CanCut, CanGrow, CanPut, CanWriteLeader}
+use Rattle.laws_steps.specs.laws_operation.specs.LifeLaws.{MayDrop}
+use Rattle.laws_steps.specs.laws_operation.specs.LinkLaws.{KeepsLinks}
+use Rattle.laws_steps.specs.laws_operation.proofs.cut.Laws.{cut_keeps_links, cut_words_fit}
+use Rattle.laws_steps.specs.laws_operation.proofs.drop.Laws.{drop_keeps_links, slot_words_fit}
+use Rattle.laws_steps.specs.laws_operation.proofs.leave.Laws.{leave_keeps_links, leave_words_fit}
+use Rattle.laws_steps.specs.laws_operation.proofs.put.Laws.{put_keeps_links, put_words_fit}
+use Rattle.laws_steps.specs.laws_operation.proofs.stamp.Laws.{stamp_keeps_links, stamp_words_fit}
+use Rattle.laws_steps.specs.laws_operation.proofs.title.Laws.{title_keeps_links, title_words_fit}
+use Rattle.laws_steps.specs.laws_operation.proofs.widen.Laws.{widen_keeps_links, widen_words_fit}
+use Rattle.laws_steps.specs.laws_line.proofs.crashes.Laws.{crashes_of_each_operation}
 use Rattle.laws_met.specs.Peopled.{cutting, dropping, growing, leaving, putting, stamping, titling}
 use Rattle.laws_met.proofs.inside.Operating.{Done, Stands}
 

@@ -5,39 +5,39 @@ use Rattle.std.proofs.lemmas.List.{get_or_past, take-append-drop}
 use Rattle.std.specs.FinMap.{find, get-entries}
 use Rattle.std.specs.Option.{is_some}
 use Rattle.std.specs.Prelude.{◌==◌}
-use Rattle.alto_words.specs.Fid.{fid_cmp, ordinary_fid, sys_dir}
-use Rattle.alto_words.specs.Names.{is_stored_name}
-use Rattle.disk_records.specs.Addresses.{real_of}
-use Rattle.disk_records.specs.Labels.{in_range, is_free}
-use Rattle.disk_records.specs.Packs.{Pack, sector_at}
-use Rattle.disk_records.specs.Words.{word}
-use Rattle.pack_laws.proofs.ByLists.{read_by, read_list}
-use Rattle.pack_laws.proofs.MendedByLists.{lacking_list}
-use Rattle.pack_model.specs.hints.Links.{PageLinks, dir_words, next_link, previous_link}
-use Rattle.pack_model.specs.operations.PageWords.{later, near}
-use Rattle.pack_model.specs.operations.Rooms.{find_room}
-use Rattle.pack_model.specs.reading.Files.{file_bytes, first, joined, lives, most_pages, place}
-use Rattle.pack_model.specs.reading.Leaders.{is_readable, leader_name, leader_of}
-use Rattle.pack_model.specs.reading.Model.{dir_items, read_as}
-use Rattle.pack_model.specs.reading.Bodies.{items_in}
-use Rattle.pack_model.specs.reading.Namings.{keeps_system}
-use Rattle.pack_model.specs.reading.Sights.{Sight, sight, sights, sights_from}
-use Rattle.pack_model.specs.reading.Sights.Sight.{free, hidden, holds, leads, stray}
-use Rattle.pack_model.specs.reading.Slots.{all_words, is_entry, item_words, slot_at, slots, slots_after}
-use Rattle.pack_model.specs.reading.Slots.Item.{entry, space}
-use Rattle.pack_model.specs.scavenger.Mended.{lacking}
-use Rattle.pack_model.specs.scavenger.Reports.{PagesMended}
-use Rattle.pack_model.specs.showing.Settling.{most_suffixes}
-use Rattle.pack_model.specs.states.InUse.{in_use}
-use Rattle.laws_record.proofs.Heads.{all_within, and_left, and_right}
-use Rattle.laws_record.proofs.sentences.Laws.{sentences_hold}
-use Rattle.laws_record.specs.DirLaws.{DirWrite, Frees}
-use Rattle.laws_operation.proofs.drop.Laws.{slot_words_fit}
-use Rattle.laws_operation.proofs.places.Laws.{file_lives_in_a_place}
-use Rattle.laws_operation.specs.NameLaws.{IsRoom}
-use Rattle.laws_room.specs.NextLaws.{LackingNext, mended_pack}
-use Rattle.laws_mend.proofs.slots.Laws.{dir_write_keeps_pages, dir_write_reaches_its_end}
-use Rattle.laws_mend.specs.SlotLaws.{DirectoryIsWritten}
+use Rattle.laws_steps.specs.alto_words.specs.Fid.{fid_cmp, ordinary_fid, sys_dir}
+use Rattle.laws_steps.specs.alto_words.specs.Names.{is_stored_name}
+use Rattle.laws_steps.specs.disk_records.specs.Addresses.{real_of}
+use Rattle.laws_steps.specs.disk_records.specs.Labels.{in_range, is_free}
+use Rattle.laws_steps.specs.disk_records.specs.Packs.{Pack, sector_at}
+use Rattle.laws_steps.specs.disk_records.specs.Words.{word}
+use Rattle.laws_steps.specs.pack_laws.proofs.ByLists.{read_by, read_list}
+use Rattle.laws_steps.specs.pack_laws.proofs.MendedByLists.{lacking_list}
+use Rattle.laws_steps.specs.pack_model.specs.hints.Links.{PageLinks, dir_words, next_link, previous_link}
+use Rattle.laws_steps.specs.pack_model.specs.operations.PageWords.{later, near}
+use Rattle.laws_steps.specs.pack_model.specs.operations.Rooms.{find_room}
+use Rattle.laws_steps.specs.pack_model.specs.reading.Files.{file_bytes, first, joined, lives, most_pages, place}
+use Rattle.laws_steps.specs.pack_model.specs.reading.Leaders.{is_readable, leader_name, leader_of}
+use Rattle.laws_steps.specs.pack_model.specs.reading.Model.{dir_items, read_as}
+use Rattle.laws_steps.specs.pack_model.specs.reading.Bodies.{items_in}
+use Rattle.laws_steps.specs.pack_model.specs.reading.Namings.{keeps_system}
+use Rattle.laws_steps.specs.pack_model.specs.reading.Sights.{Sight, sight, sights, sights_from}
+use Rattle.laws_steps.specs.pack_model.specs.reading.Sights.Sight.{free, hidden, holds, leads, stray}
+use Rattle.laws_steps.specs.pack_model.specs.reading.Slots.{all_words, is_entry, item_words, slot_at, slots, slots_after}
+use Rattle.laws_steps.specs.pack_model.specs.reading.Slots.Item.{entry, space}
+use Rattle.laws_steps.specs.pack_model.specs.scavenger.Mended.{lacking}
+use Rattle.laws_steps.specs.pack_model.specs.scavenger.Reports.{PagesMended}
+use Rattle.laws_steps.specs.pack_model.specs.showing.Settling.{most_suffixes}
+use Rattle.laws_steps.specs.pack_model.specs.states.InUse.{in_use}
+use Rattle.laws_steps.specs.laws_record.proofs.Heads.{all_within, and_left, and_right}
+use Rattle.laws_steps.specs.laws_record.proofs.sentences.Laws.{sentences_hold}
+use Rattle.laws_steps.specs.laws_record.specs.DirLaws.{DirWrite, Frees}
+use Rattle.laws_steps.specs.laws_operation.proofs.drop.Laws.{slot_words_fit}
+use Rattle.laws_steps.specs.laws_operation.proofs.places.Laws.{file_lives_in_a_place}
+use Rattle.laws_steps.specs.laws_operation.specs.NameLaws.{IsRoom}
+use Rattle.laws_steps.specs.laws_room.specs.NextLaws.{LackingNext, mended_pack}
+use Rattle.laws_names.specs.laws_mend.proofs.slots.Laws.{dir_write_keeps_pages, dir_write_reaches_its_end}
+use Rattle.laws_names.specs.laws_mend.specs.SlotLaws.{DirectoryIsWritten}
 use Rattle.laws_names.proofs.lacking.Laws.{next_may_be_entered}
 use Rattle.laws_names.proofs.models.Laws.{mended_is_read}
 use Rattle.laws_names.proofs.writes.Laws.{next_entry_is_entered, room_is_made_one, room_words_leave, unkept_slot_is_freed, written_words_stand}

@@ -2,33 +2,33 @@
 use Rattle.std.proofs.Common.{◌≡◌, ◌≢◌, ℕ, ◌≤◌, true, false, List, [], ◌∷◌, ◌++◌, Some, length, refl, ap, subst, ◌∙◌, arith}
 use Rattle.std.specs.List.{list_any}
 use Rattle.std.specs.Prelude.{◌||◌, nat_le}
-use Rattle.alto_words.specs.declared.fid.Fid.{Fid}
-use Rattle.alto_words.specs.Fid.{disk_descriptor, is_directory, is_fid, is_full_name, is_system, serial_of, sys_dir}
-use Rattle.alto_words.specs.Names.{is_stored_name}
-use Rattle.disk_records.proofs.Growing.{after-append}
-use Rattle.disk_records.specs.Packs.{Pack, after, is_free_at, sector_at}
-use Rattle.disk_records.specs.declared.records.Event.{Event}
-use Rattle.pack_model.specs.hints.Links.{dir_words}
-use Rattle.pack_model.specs.operations.Committing.{page_of_word}
-use Rattle.pack_model.specs.operations.Entering.{EntryRoom, found_room}
-use Rattle.pack_model.specs.operations.PageWords.{entered_words, later}
-use Rattle.pack_model.specs.operations.Rooms.{Room, find_room, largest_run}
-use Rattle.pack_model.specs.operations.Step.{Operation, longest_entry}
-use Rattle.pack_model.specs.operations.Step.Operation.{enter, make}
-use Rattle.pack_model.specs.reading.Files.{lives, place}
-use Rattle.pack_model.specs.reading.Model.{dir_items, read_as}
-use Rattle.pack_model.specs.reading.Namings.{fits}
-use Rattle.pack_model.specs.reading.Sights.{sights}
-use Rattle.pack_model.specs.reading.Slots.{Item, entry_length, slots}
-use Rattle.pack_model.specs.sessions.Descriptor.{serial_writes}
-use Rattle.laws_operation.specs.DirectoryWords.{CanEnter, left_in}
-use Rattle.laws_operation.specs.EntryLaws.{is_of_another}
-use Rattle.laws_operation.specs.FileWords.{CanMake}
-use Rattle.laws_line.specs.CrashLaws.{with_serial}
-use Rattle.laws_line.specs.LineLaws.{LeaveNames, with_new_file}
-use Rattle.laws_line.specs.SoundLines.{IsKindOfLine}
-use Rattle.laws_line.specs.SoundLines.IsKindOfLine.{comes}
-use Rattle.laws_line.proofs.after.Laws.{directories_are_read}
+use Rattle.laws_steps.specs.alto_words.specs.declared.fid.Fid.{Fid}
+use Rattle.laws_steps.specs.alto_words.specs.Fid.{disk_descriptor, is_directory, is_fid, is_full_name, is_system, serial_of, sys_dir}
+use Rattle.laws_steps.specs.alto_words.specs.Names.{is_stored_name}
+use Rattle.laws_steps.specs.disk_records.proofs.Growing.{after-append}
+use Rattle.laws_steps.specs.disk_records.specs.Packs.{Pack, after, is_free_at, sector_at}
+use Rattle.laws_steps.specs.disk_records.specs.declared.records.Event.{Event}
+use Rattle.laws_steps.specs.pack_model.specs.hints.Links.{dir_words}
+use Rattle.laws_steps.specs.pack_model.specs.operations.Committing.{page_of_word}
+use Rattle.laws_steps.specs.pack_model.specs.operations.Entering.{EntryRoom, found_room}
+use Rattle.laws_steps.specs.pack_model.specs.operations.PageWords.{entered_words, later}
+use Rattle.laws_steps.specs.pack_model.specs.operations.Rooms.{Room, find_room, largest_run}
+use Rattle.laws_steps.specs.pack_model.specs.operations.Step.{Operation, longest_entry}
+use Rattle.laws_steps.specs.pack_model.specs.operations.Step.Operation.{enter, make}
+use Rattle.laws_steps.specs.pack_model.specs.reading.Files.{lives, place}
+use Rattle.laws_steps.specs.pack_model.specs.reading.Model.{dir_items, read_as}
+use Rattle.laws_steps.specs.pack_model.specs.reading.Namings.{fits}
+use Rattle.laws_steps.specs.pack_model.specs.reading.Sights.{sights}
+use Rattle.laws_steps.specs.pack_model.specs.reading.Slots.{Item, entry_length, slots}
+use Rattle.laws_steps.specs.pack_model.specs.sessions.Descriptor.{serial_writes}
+use Rattle.laws_steps.specs.laws_operation.specs.DirectoryWords.{CanEnter, left_in}
+use Rattle.laws_steps.specs.laws_operation.specs.EntryLaws.{is_of_another}
+use Rattle.laws_steps.specs.laws_operation.specs.FileWords.{CanMake}
+use Rattle.laws_steps.specs.laws_line.specs.CrashLaws.{with_serial}
+use Rattle.laws_steps.specs.laws_line.specs.LineLaws.{LeaveNames, with_new_file}
+use Rattle.laws_steps.specs.laws_line.specs.SoundLines.{IsKindOfLine}
+use Rattle.laws_steps.specs.laws_line.specs.SoundLines.IsKindOfLine.{comes}
+use Rattle.laws_steps.specs.laws_line.proofs.after.Laws.{directories_are_read}
 use Rattle.laws_met.specs.Peopled.{entering, making}
 use Rattle.laws_met.proofs.inside.Lines.{is_in_model, items_of_words, may_enter_made, not_in_model, plain_line}
 use Rattle.laws_met.proofs.inside.Operating.{Done, LineDone, Stands, done_make, done_more, entered, made, stands_after, stands_numbered}

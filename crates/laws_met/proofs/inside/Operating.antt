@@ -1,40 +1,40 @@
 -- Operations on a pack that stands, by what a caller knows, and lines of them.
 use Rattle.std.proofs.Common.{◌≡◌, ℕ, ◌<◌, ◌≤◌, List, [], ◌∷◌, ◌++◌, Some, length, sym, ap, subst}
-use Rattle.alto_words.specs.declared.fid.Fid.{Fid}
-use Rattle.alto_words.specs.Fid.{disk_descriptor}
-use Rattle.disk_records.specs.Packs.{Pack, after, sector_at}
-use Rattle.disk_records.specs.declared.records.Event.{Event}
-use Rattle.pack_model.specs.hints.Links.{LinksTrue}
-use Rattle.pack_model.specs.operations.Commands.{first_page_claim, grown_claims, grown_label, grown_value, leader_claim}
-use Rattle.pack_model.specs.operations.Committing.{pages_for_operations, serial_moves}
-use Rattle.pack_model.specs.operations.Entering.{EntryRoom, entry_value, found_room, values_first}
-use Rattle.pack_model.specs.operations.Operations.{enter_writes}
-use Rattle.pack_model.specs.operations.PageWords.{entered_words}
-use Rattle.pack_model.specs.operations.Rooms.{Room}
-use Rattle.pack_model.specs.operations.Step.{Operation}
-use Rattle.pack_model.specs.operations.Step.Operation.{enter, grow, make}
-use Rattle.pack_model.specs.reading.Files.{file_bytes, place}
-use Rattle.pack_model.specs.reading.Model.{dir_items, read_as}
-use Rattle.pack_model.specs.reading.Sights.{sights}
-use Rattle.pack_model.specs.sessions.Descriptor.{open_writes, serial_writes}
-use Rattle.pack_model.specs.states.InUse.{free_sector_count}
-use Rattle.pack_model.specs.states.Sound.{Sound, mark_of, mark_open}
-use Rattle.pack_model.specs.states.Whole.{Tidy, Whole}
-use Rattle.laws_operation.specs.DirectoryWords.{CanEnter, left_in}
-use Rattle.laws_operation.specs.FileWords.{CanGrow, CanMake}
-use Rattle.laws_operation.specs.ByteLaws.{IsOrdinary}
-use Rattle.laws_operation.specs.LinkLaws.{KeepsLinks}
-use Rattle.laws_operation.specs.NameLaws.{entry_room}
-use Rattle.laws_operation.proofs.descriptor.Laws.{open_carries_out, open_keeps_links, serial_carries_out, serial_keeps_links}
-use Rattle.laws_operation.proofs.enter.Laws.{enter_keeps_links, enter_words_fit}
-use Rattle.laws_operation.proofs.grow.Laws.{grow_keeps_links, grow_words_fit}
-use Rattle.laws_operation.proofs.make.Laws.{make_keeps_links, make_words_fit}
-use Rattle.laws_line.specs.CrashLaws.{Batch, StaysMendable, does, makes, over, with_serial}
-use Rattle.laws_line.specs.SoundLines.{IsKindOfLine}
-use Rattle.laws_line.proofs.crashes.Laws.{crashes_of_each_operation, crashes_of_enter}
-use Rattle.laws_line.proofs.sound.Laws.{crashes_of_a_line_on_a_sound_pack}
-use Rattle.laws_hint.specs.LineLinks.{EachKeepsLinks}
-use Rattle.laws_hint.proofs.lines.Laws.{opened_line_keeps_links}
+use Rattle.laws_steps.specs.alto_words.specs.declared.fid.Fid.{Fid}
+use Rattle.laws_steps.specs.alto_words.specs.Fid.{disk_descriptor}
+use Rattle.laws_steps.specs.disk_records.specs.Packs.{Pack, after, sector_at}
+use Rattle.laws_steps.specs.disk_records.specs.declared.records.Event.{Event}
+use Rattle.laws_steps.specs.pack_model.specs.hints.Links.{LinksTrue}
+use Rattle.laws_steps.specs.pack_model.specs.operations.Commands.{first_page_claim, grown_claims, grown_label, grown_value, leader_claim}
+use Rattle.laws_steps.specs.pack_model.specs.operations.Committing.{pages_for_operations, serial_moves}
+use Rattle.laws_steps.specs.pack_model.specs.operations.Entering.{EntryRoom, entry_value, found_room, values_first}
+use Rattle.laws_steps.specs.pack_model.specs.operations.Operations.{enter_writes}
+use Rattle.laws_steps.specs.pack_model.specs.operations.PageWords.{entered_words}
+use Rattle.laws_steps.specs.pack_model.specs.operations.Rooms.{Room}
+use Rattle.laws_steps.specs.pack_model.specs.operations.Step.{Operation}
+use Rattle.laws_steps.specs.pack_model.specs.operations.Step.Operation.{enter, grow, make}
+use Rattle.laws_steps.specs.pack_model.specs.reading.Files.{file_bytes, place}
+use Rattle.laws_steps.specs.pack_model.specs.reading.Model.{dir_items, read_as}
+use Rattle.laws_steps.specs.pack_model.specs.reading.Sights.{sights}
+use Rattle.laws_steps.specs.pack_model.specs.sessions.Descriptor.{open_writes, serial_writes}
+use Rattle.laws_steps.specs.pack_model.specs.states.InUse.{free_sector_count}
+use Rattle.laws_steps.specs.pack_model.specs.states.Sound.{Sound, mark_of, mark_open}
+use Rattle.laws_steps.specs.pack_model.specs.states.Whole.{Tidy, Whole}
+use Rattle.laws_steps.specs.laws_operation.specs.DirectoryWords.{CanEnter, left_in}
+use Rattle.laws_steps.specs.laws_operation.specs.FileWords.{CanGrow, CanMake}
+use Rattle.laws_steps.specs.laws_operation.specs.ByteLaws.{IsOrdinary}
+use Rattle.laws_steps.specs.laws_operation.specs.LinkLaws.{KeepsLinks}
+use Rattle.laws_steps.specs.laws_operation.specs.NameLaws.{entry_room}
+use Rattle.laws_steps.specs.laws_operation.proofs.descriptor.Laws.{open_carries_out, open_keeps_links, serial_carries_out, serial_keeps_links}
+use Rattle.laws_steps.specs.laws_operation.proofs.enter.Laws.{enter_keeps_links, enter_words_fit}
+use Rattle.laws_steps.specs.laws_operation.proofs.grow.Laws.{grow_keeps_links, grow_words_fit}
+use Rattle.laws_steps.specs.laws_operation.proofs.make.Laws.{make_keeps_links, make_words_fit}
+use Rattle.laws_steps.specs.laws_line.specs.CrashLaws.{Batch, StaysMendable, does, makes, over, with_serial}
+use Rattle.laws_steps.specs.laws_line.specs.SoundLines.{IsKindOfLine}
+use Rattle.laws_steps.specs.laws_line.proofs.crashes.Laws.{crashes_of_each_operation, crashes_of_enter}
+use Rattle.laws_steps.specs.laws_line.proofs.sound.Laws.{crashes_of_a_line_on_a_sound_pack}
+use Rattle.laws_steps.specs.laws_hint.specs.LineLinks.{EachKeepsLinks}
+use Rattle.laws_steps.specs.laws_hint.proofs.lines.Laws.{opened_line_keeps_links}
 use Rattle.laws_met.specs.Peopled.{entering, growing, making, opening}
 use Rattle.laws_met.specs.Premises.{LineRuns}
 

@@ -1,15 +1,15 @@
 -- The line that renames a file, from SysDir into the directory.
 use Rattle.std.proofs.Common.{◌≡◌, [], length, refl, ap, subst, ◌∙◌, arith}
-use Rattle.alto_words.specs.Fid.{sys_dir}
-use Rattle.pack_model.specs.operations.Entering.{found_room}
-use Rattle.pack_model.specs.operations.PageWords.{entered_words, later}
-use Rattle.pack_model.specs.operations.Rooms.{find_room}
-use Rattle.pack_model.specs.operations.Step.Operation.{enter, leave, title}
-use Rattle.pack_model.specs.reading.Model.{dir_items, read_as}
-use Rattle.laws_operation.specs.DirectoryWords.{CanEnter, HasEntry, left_in}
-use Rattle.laws_line.specs.SoundLines.{IsKindOfLine}
-use Rattle.laws_line.specs.SoundLines.IsKindOfLine.{renamed}
-use Rattle.laws_line.proofs.after.Laws.{directories_are_read}
+use Rattle.laws_steps.specs.alto_words.specs.Fid.{sys_dir}
+use Rattle.laws_steps.specs.pack_model.specs.operations.Entering.{found_room}
+use Rattle.laws_steps.specs.pack_model.specs.operations.PageWords.{entered_words, later}
+use Rattle.laws_steps.specs.pack_model.specs.operations.Rooms.{find_room}
+use Rattle.laws_steps.specs.pack_model.specs.operations.Step.Operation.{enter, leave, title}
+use Rattle.laws_steps.specs.pack_model.specs.reading.Model.{dir_items, read_as}
+use Rattle.laws_steps.specs.laws_operation.specs.DirectoryWords.{CanEnter, HasEntry, left_in}
+use Rattle.laws_steps.specs.laws_line.specs.SoundLines.{IsKindOfLine}
+use Rattle.laws_steps.specs.laws_line.specs.SoundLines.IsKindOfLine.{renamed}
+use Rattle.laws_steps.specs.laws_line.proofs.after.Laws.{directories_are_read}
 use Rattle.laws_met.specs.Peopled.{dir_d, entering, file_a, leaving, left, name_a, name_c, peopled, retitled, room_c, titling}
 use Rattle.laws_met.specs.Premises.{LineRuns, found_c, renaming_events, renaming_line, system_items}
 use Rattle.laws_met.proofs.inside.Changing.{items_then}

@@ -1,17 +1,17 @@
 -- The line that renames a file within its directory, where its old slot and the free one after it are joined.
 use Rattle.std.proofs.Common.{◌≡◌, List, [], ◌∷◌, length, refl, ap, subst, ◌∙◌, arith}
-use Rattle.alto_words.specs.Fid.{sys_dir}
-use Rattle.pack_model.specs.operations.Entering.{found_room}
-use Rattle.pack_model.specs.operations.PageWords.{entered_words, later}
-use Rattle.pack_model.specs.operations.Rooms.{find_room}
-use Rattle.pack_model.specs.operations.Step.Operation.{enter, leave, title}
-use Rattle.pack_model.specs.reading.Model.{dir_items, read_as}
-use Rattle.pack_model.specs.reading.Slots.{Item}
-use Rattle.pack_model.specs.reading.Slots.Item.{space}
-use Rattle.laws_operation.specs.DirectoryWords.{CanEnter, left_in}
-use Rattle.laws_line.specs.SoundLines.{IsKindOfLine}
-use Rattle.laws_line.specs.SoundLines.IsKindOfLine.{renamed}
-use Rattle.laws_line.proofs.after.Laws.{directories_are_read}
+use Rattle.laws_steps.specs.alto_words.specs.Fid.{sys_dir}
+use Rattle.laws_steps.specs.pack_model.specs.operations.Entering.{found_room}
+use Rattle.laws_steps.specs.pack_model.specs.operations.PageWords.{entered_words, later}
+use Rattle.laws_steps.specs.pack_model.specs.operations.Rooms.{find_room}
+use Rattle.laws_steps.specs.pack_model.specs.operations.Step.Operation.{enter, leave, title}
+use Rattle.laws_steps.specs.pack_model.specs.reading.Model.{dir_items, read_as}
+use Rattle.laws_steps.specs.pack_model.specs.reading.Slots.{Item}
+use Rattle.laws_steps.specs.pack_model.specs.reading.Slots.Item.{space}
+use Rattle.laws_steps.specs.laws_operation.specs.DirectoryWords.{CanEnter, left_in}
+use Rattle.laws_steps.specs.laws_line.specs.SoundLines.{IsKindOfLine}
+use Rattle.laws_steps.specs.laws_line.specs.SoundLines.IsKindOfLine.{renamed}
+use Rattle.laws_steps.specs.laws_line.proofs.after.Laws.{directories_are_read}
 use Rattle.laws_met.specs.Peopled.{dir_d, entering, file_b, leaving, left_b, name_b, name_e, peopled, retitled_b, room_e, titling}
 use Rattle.laws_met.specs.Premises.{LineRuns, found_b, inner_renaming_events, inner_renaming_line}
 use Rattle.laws_met.proofs.inside.FactsE.{items_free, leader_b, left_facts_b, left_inner_b, names_fit_e, retitled_inner_b, retitled_page_b}

@@ -4,21 +4,21 @@ use Rattle.std.proofs.lemmas.Bool.{eqb-true}
 use Rattle.std.proofs.lemmas.List.Elements.{All-cons, All-nil}
 use Rattle.std.specs.List.{list_all}
 use Rattle.std.specs.Prelude.{All}
-use Rattle.alto_words.specs.Names.{is_stored_name}
-use Rattle.disk_records.specs.Addresses.{real_of}
-use Rattle.disk_records.specs.Labels.{in_range, is_free}
-use Rattle.disk_records.specs.Packs.{AreFormed, IsFormed}
-use Rattle.disk_records.specs.declared.records.Sector.{Sector}
-use Rattle.pack_model.specs.hints.Handy.{CachedAt}
-use Rattle.pack_model.specs.reading.Files.{file_bytes, first, joined, most_pages}
-use Rattle.pack_model.specs.reading.Leaders.{is_readable, leader_name, leader_of}
-use Rattle.pack_model.specs.reading.Model.{read_sights}
-use Rattle.pack_model.specs.reading.Sights.{sight, sights_from}
-use Rattle.laws_record.proofs.Heads.{and_left, and_right}
-use Rattle.laws_contents.proofs.pages.Laws.{formed_pages_have_256_words}
-use Rattle.laws_call.specs.Writing.{cuts, drops, grows, leaves, makes, puts, stamps, titles, widens}
-use Rattle.laws_midway.proofs.made.Laws.{handy_after_make}
-use Rattle.laws_midway.specs.MadeLaws.{ListsNewPages}
+use Rattle.laws_steps.specs.alto_words.specs.Names.{is_stored_name}
+use Rattle.laws_steps.specs.disk_records.specs.Addresses.{real_of}
+use Rattle.laws_steps.specs.disk_records.specs.Labels.{in_range, is_free}
+use Rattle.laws_steps.specs.disk_records.specs.Packs.{AreFormed, IsFormed}
+use Rattle.laws_steps.specs.disk_records.specs.declared.records.Sector.{Sector}
+use Rattle.laws_steps.specs.pack_model.specs.hints.Handy.{CachedAt}
+use Rattle.laws_steps.specs.pack_model.specs.reading.Files.{file_bytes, first, joined, most_pages}
+use Rattle.laws_steps.specs.pack_model.specs.reading.Leaders.{is_readable, leader_name, leader_of}
+use Rattle.laws_steps.specs.pack_model.specs.reading.Model.{read_sights}
+use Rattle.laws_steps.specs.pack_model.specs.reading.Sights.{sight, sights_from}
+use Rattle.laws_steps.specs.laws_record.proofs.Heads.{and_left, and_right}
+use Rattle.laws_steps.specs.laws_contents.proofs.pages.Laws.{formed_pages_have_256_words}
+use Rattle.laws_steps.specs.laws_call.specs.Writing.{cuts, drops, grows, leaves, makes, puts, stamps, titles, widens}
+use Rattle.laws_steps.specs.laws_midway.proofs.made.Laws.{handy_after_make}
+use Rattle.laws_steps.specs.laws_midway.specs.MadeLaws.{ListsNewPages}
 use Rattle.laws_met.specs.Peopled.{entered_d, file_b, name_b, name_z, numbered_b, peopled}
 use Rattle.laws_met.specs.Writings.{MakeIsWritten, NewPagesAreListed, ValuesAreFull, WritingsAreMet, cache_b}
 use Rattle.laws_met.proofs.inside.Changing.{entry_a}

@@ -1,12 +1,12 @@
 -- A sector that carries a page beside free ones that are claimed.
 use Rattle.std.proofs.Common.{None, Some, ap, cond, false, get_or, sym, true, ℕ, ◌∙◌, ◌≡◌, ◌≢◌}
-use Rattle.disk_records.specs.Labels.{is_free, page_of, tag}
-use Rattle.disk_records.specs.Packs.{Pack, carried, is_free_at, is_usable, sector_at}
-use Rattle.disk_records.specs.declared.records.Page.{Page}
-use Rattle.disk_records.specs.declared.records.Sector.{Sector}
-use Rattle.laws_operation.proofs.Making.{named_page}
-use Rattle.pack_laws.proofs.Guarding.{carried_parts, free_parts, in_range_taken}
-use Rattle.pack_model.specs.operations.Commands.{all_claimed, sectors_of}
+use Rattle.laws_hint.specs.disk_records.specs.Labels.{is_free, page_of, tag}
+use Rattle.laws_hint.specs.disk_records.specs.Packs.{Pack, carried, is_free_at, is_usable, sector_at}
+use Rattle.laws_hint.specs.disk_records.specs.declared.records.Page.{Page}
+use Rattle.laws_hint.specs.disk_records.specs.declared.records.Sector.{Sector}
+use Rattle.laws_hint.specs.laws_operation.proofs.Making.{named_page}
+use Rattle.laws_hint.specs.pack_laws.proofs.Guarding.{carried_parts, free_parts, in_range_taken}
+use Rattle.laws_hint.specs.pack_model.specs.operations.Commands.{all_claimed, sectors_of}
 use Rattle.laws_midway.proofs.inside.Looping.{claims_leave_other_sectors}
 use Rattle.laws_midway.specs.LoopLaws.{CarriedIsApartFromFree, ClaimsLeaveCarriedPages}
 

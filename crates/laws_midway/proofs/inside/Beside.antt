@@ -1,10 +1,10 @@
 -- Two entries in the same words.
 use Rattle.std.proofs.Common.{List, [], ap, arith, inl, inr, sym, ◌++◌, ◌+◌, ◌∙◌, ◌∷◌, ◌≡◌, ◌≤◌, ◌⊎◌}
-use Rattle.alto_words.specs.Fid.{is_fid}
-use Rattle.laws_lookup.proofs.slots.Laws.{found_entry_splits_the_slots}
-use Rattle.pack_laws.proofs.Keys.{is_fid-itself}
-use Rattle.pack_model.specs.reading.Slots.Item.{entry}
-use Rattle.pack_model.specs.reading.Slots.{Item, all_words, item_words}
+use Rattle.laws_hint.specs.alto_words.specs.Fid.{is_fid}
+use Rattle.laws_hint.specs.laws_lookup.proofs.slots.Laws.{found_entry_splits_the_slots}
+use Rattle.laws_hint.specs.pack_laws.proofs.Keys.{is_fid-itself}
+use Rattle.laws_hint.specs.pack_model.specs.reading.Slots.Item.{entry}
+use Rattle.laws_hint.specs.pack_model.specs.reading.Slots.{Item, all_words, item_words}
 use Rattle.laws_midway.specs.FoundLaws.{EntriesStandApart}
 
 -- of two slots of one list they are one, or one comes after the other

@@ -1,12 +1,12 @@
 -- The sectors of a cut.
 use Rattle.std.proofs.Common.{List, None, Option, Some, [], ap, arith, le-leb, length, refl, suc, sym, true, zero, ℕ, ◌+◌, ◌/◌, ◌<◌, ◌∙◌, ◌∷◌, ◌≡◌, ◌≤◌}
 use Rattle.std.specs.Option.{is_some}
-use Rattle.alto_words.specs.declared.fid.Fid.{Fid}
-use Rattle.laws_operation.proofs.lengths.Laws.{placed_pages_are_those_up_to_the_last}
-use Rattle.laws_operation.specs.ByteLaws.{Bear}
-use Rattle.pack_model.specs.operations.Committing.{page_of_byte, pages_cut}
-use Rattle.pack_model.specs.reading.Files.{file_bytes, place}
-use Rattle.pack_model.specs.reading.Sights.{Sight, sights}
+use Rattle.laws_hint.specs.alto_words.specs.declared.fid.Fid.{Fid}
+use Rattle.laws_hint.specs.laws_operation.proofs.lengths.Laws.{placed_pages_are_those_up_to_the_last}
+use Rattle.laws_hint.specs.laws_operation.specs.ByteLaws.{Bear}
+use Rattle.laws_hint.specs.pack_model.specs.operations.Committing.{page_of_byte, pages_cut}
+use Rattle.laws_hint.specs.pack_model.specs.reading.Files.{file_bytes, place}
+use Rattle.laws_hint.specs.pack_model.specs.reading.Sights.{Sight, sights}
 use Rattle.laws_midway.specs.CutLaws.{CutIsOfTheseSectors, WholeFileMayBeCut}
 
 -- ---- pages in a row that have places

@@ -1,27 +1,27 @@
 -- All other files after a whole drop.
 use Rattle.std.proofs.Common.{Bool, List, [], ap, false, refl, subst, sym, true, ℕ, ◌++◌, ◌∙◌, ◌∷◌, ◌≡◌}
-use Rattle.alto_words.specs.Fid.{is_fid}
-use Rattle.alto_words.specs.declared.fid.Fid.{Fid}
-use Rattle.disk_records.proofs.Growing.{after-append}
-use Rattle.disk_records.specs.Commands.{value_writes}
-use Rattle.disk_records.specs.Packs.{Pack, after, sector_at}
-use Rattle.laws_lookup.proofs.others.Laws.{place_is_of_its_file, release_leaves_others, values_leave_others}
-use Rattle.laws_lookup.specs.OtherLaws.{LeavesOthers}
-use Rattle.laws_operation.proofs.drop.Laws.{drop_carries_out, release_carries_out, slot_words_fit}
-use Rattle.laws_operation.proofs.entries.Laws.{items_are_slots}
-use Rattle.laws_operation.proofs.places.Laws.{values_keep_places}
-use Rattle.laws_operation.specs.DirectoryWords.{HasEntry}
-use Rattle.laws_operation.specs.LifeLaws.{MayDrop}
-use Rattle.laws_operation.specs.PlaceLaws.{SamePlaces}
-use Rattle.pack_laws.proofs.Keys.{same_fid}
-use Rattle.pack_model.specs.operations.Committing.{page_of_word}
-use Rattle.pack_model.specs.operations.Operations.{drop_writes, release_file_writes}
-use Rattle.pack_model.specs.operations.PageWords.{freed_value}
-use Rattle.pack_model.specs.reading.Model.{dir_items, read_as}
-use Rattle.pack_model.specs.reading.Namings.{namings_in}
-use Rattle.pack_model.specs.reading.Slots.Item.{entry, space}
-use Rattle.pack_model.specs.reading.Slots.{Item, all_words, item_words}
-use Rattle.pack_model.specs.states.Whole.{Tidy, Whole}
+use Rattle.laws_hint.specs.alto_words.specs.Fid.{is_fid}
+use Rattle.laws_hint.specs.alto_words.specs.declared.fid.Fid.{Fid}
+use Rattle.laws_hint.specs.disk_records.proofs.Growing.{after-append}
+use Rattle.laws_hint.specs.disk_records.specs.Commands.{value_writes}
+use Rattle.laws_hint.specs.disk_records.specs.Packs.{Pack, after, sector_at}
+use Rattle.laws_hint.specs.laws_lookup.proofs.others.Laws.{place_is_of_its_file, release_leaves_others, values_leave_others}
+use Rattle.laws_hint.specs.laws_lookup.specs.OtherLaws.{LeavesOthers}
+use Rattle.laws_hint.specs.laws_operation.proofs.drop.Laws.{drop_carries_out, release_carries_out, slot_words_fit}
+use Rattle.laws_hint.specs.laws_operation.proofs.entries.Laws.{items_are_slots}
+use Rattle.laws_hint.specs.laws_operation.proofs.places.Laws.{values_keep_places}
+use Rattle.laws_hint.specs.laws_operation.specs.DirectoryWords.{HasEntry}
+use Rattle.laws_hint.specs.laws_operation.specs.LifeLaws.{MayDrop}
+use Rattle.laws_hint.specs.laws_operation.specs.PlaceLaws.{SamePlaces}
+use Rattle.laws_hint.specs.pack_laws.proofs.Keys.{same_fid}
+use Rattle.laws_hint.specs.pack_model.specs.operations.Committing.{page_of_word}
+use Rattle.laws_hint.specs.pack_model.specs.operations.Operations.{drop_writes, release_file_writes}
+use Rattle.laws_hint.specs.pack_model.specs.operations.PageWords.{freed_value}
+use Rattle.laws_hint.specs.pack_model.specs.reading.Model.{dir_items, read_as}
+use Rattle.laws_hint.specs.pack_model.specs.reading.Namings.{namings_in}
+use Rattle.laws_hint.specs.pack_model.specs.reading.Slots.Item.{entry, space}
+use Rattle.laws_hint.specs.pack_model.specs.reading.Slots.{Item, all_words, item_words}
+use Rattle.laws_hint.specs.pack_model.specs.states.Whole.{Tidy, Whole}
 use Rattle.laws_midway.specs.DroppedLaws.{DropLeavesOthers, LeavesOthersOfTwo}
 
 -- ---- the directory isn't the file

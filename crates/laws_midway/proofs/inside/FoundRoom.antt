@@ -3,9 +3,9 @@ use Rattle.std.proofs.Common.{Bool, List, None, Option, Some, [], ap, arith, con
 use Rattle.std.proofs.lemmas.Bool.{cond-false, lt-leb}
 use Rattle.std.specs.Option.{option_map, option_or}
 use Rattle.std.specs.Prelude.{nat_le}
-use Rattle.pack_model.specs.operations.Rooms.{Room, most_free, room_from, room_here, run}
-use Rattle.pack_model.specs.reading.Slots.Item.{entry, space}
-use Rattle.pack_model.specs.reading.Slots.{Item, all_words, item_words}
+use Rattle.laws_hint.specs.pack_model.specs.operations.Rooms.{Room, most_free, room_from, room_here, run}
+use Rattle.laws_hint.specs.pack_model.specs.reading.Slots.Item.{entry, space}
+use Rattle.laws_hint.specs.pack_model.specs.reading.Slots.{Item, all_words, item_words}
 use Rattle.laws_midway.specs.RoomLaws.{EndsWithEntry, FoundRoomStays, RoomGoesOn}
 
 -- ---- a run by its words

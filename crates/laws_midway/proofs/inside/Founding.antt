@@ -5,34 +5,34 @@ use Rattle.std.specs.FinMap.{entries, get}
 use Rattle.std.specs.List.{list_any}
 use Rattle.std.specs.Option.{is_some}
 use Rattle.std.specs.Prelude.{Contains}
-use Rattle.alto_words.specs.Fid.{is_fid, sys_dir}
-use Rattle.alto_words.specs.Names.{fold_case, is_same_name}
-use Rattle.alto_words.specs.declared.fid.Fid.{Fid}
-use Rattle.disk_records.specs.declared.records.Place.TheVariants.{Entry, Held, Next, Root}
-use Rattle.laws_lookup.proofs.slots.Laws.{found_entry_splits_the_slots}
-use Rattle.laws_operation.proofs.entries.Laws.{items_are_slots, read_entries_are_kept}
-use Rattle.laws_operation.proofs.places.Laws.{file_lives_in_a_place}
-use Rattle.laws_record.proofs.Carried.{carried_place, place_of_carried}
-use Rattle.laws_record.proofs.DirReads.{insert_same}
-use Rattle.laws_record.proofs.DirSteps.{apart_before}
-use Rattle.laws_record.proofs.Entered.{directory, spot}
-use Rattle.laws_record.proofs.Fitting.{same_equiv, same_sym, same_trans}
-use Rattle.laws_record.proofs.Heads.{and_left}
-use Rattle.laws_record.proofs.Tidying.{onto, or_false, or_false_left, or_false_right, split_kept}
-use Rattle.pack_laws.proofs.Keys.{is_fid-itself}
-use Rattle.pack_model.specs.hints.Links.{dir_words}
-use Rattle.pack_model.specs.hints.Misled.{leader_page}
-use Rattle.pack_model.specs.reading.Bodies.Body.{data_of, items_of}
-use Rattle.pack_model.specs.reading.Bodies.{Body, File, items_in}
-use Rattle.pack_model.specs.operations.Committing.{page_of_word}
-use Rattle.pack_model.specs.reading.Files.{carries_page, lives, place}
-use Rattle.pack_model.specs.reading.Leaders.{Leader}
-use Rattle.pack_model.specs.reading.Model.{Model, dir_items, read_as}
-use Rattle.pack_model.specs.reading.Namings.{AllKept, Naming, clashes, fits, is_kept, may_stand, namings, namings_in}
-use Rattle.pack_model.specs.reading.Sights.{sights}
-use Rattle.pack_model.specs.reading.SlotWords.{SlotAt, address_at, slots_at}
-use Rattle.pack_model.specs.reading.Slots.Item.{entry, space}
-use Rattle.pack_model.specs.reading.Slots.{Item, item_words, slots}
+use Rattle.laws_hint.specs.alto_words.specs.Fid.{is_fid, sys_dir}
+use Rattle.laws_hint.specs.alto_words.specs.Names.{fold_case, is_same_name}
+use Rattle.laws_hint.specs.alto_words.specs.declared.fid.Fid.{Fid}
+use Rattle.laws_hint.specs.disk_records.specs.declared.records.Place.TheVariants.{Entry, Held, Next, Root}
+use Rattle.laws_hint.specs.laws_lookup.proofs.slots.Laws.{found_entry_splits_the_slots}
+use Rattle.laws_hint.specs.laws_operation.proofs.entries.Laws.{items_are_slots, read_entries_are_kept}
+use Rattle.laws_hint.specs.laws_operation.proofs.places.Laws.{file_lives_in_a_place}
+use Rattle.laws_hint.specs.laws_record.proofs.Carried.{carried_place, place_of_carried}
+use Rattle.laws_hint.specs.laws_record.proofs.DirReads.{insert_same}
+use Rattle.laws_hint.specs.laws_record.proofs.DirSteps.{apart_before}
+use Rattle.laws_hint.specs.laws_record.proofs.Entered.{directory, spot}
+use Rattle.laws_hint.specs.laws_record.proofs.Fitting.{same_equiv, same_sym, same_trans}
+use Rattle.laws_hint.specs.laws_record.proofs.Heads.{and_left}
+use Rattle.laws_hint.specs.laws_record.proofs.Tidying.{onto, or_false, or_false_left, or_false_right, split_kept}
+use Rattle.laws_hint.specs.pack_laws.proofs.Keys.{is_fid-itself}
+use Rattle.laws_hint.specs.pack_model.specs.hints.Links.{dir_words}
+use Rattle.laws_hint.specs.pack_model.specs.hints.Misled.{leader_page}
+use Rattle.laws_hint.specs.pack_model.specs.reading.Bodies.Body.{data_of, items_of}
+use Rattle.laws_hint.specs.pack_model.specs.reading.Bodies.{Body, File, items_in}
+use Rattle.laws_hint.specs.pack_model.specs.operations.Committing.{page_of_word}
+use Rattle.laws_hint.specs.pack_model.specs.reading.Files.{carries_page, lives, place}
+use Rattle.laws_hint.specs.pack_model.specs.reading.Leaders.{Leader}
+use Rattle.laws_hint.specs.pack_model.specs.reading.Model.{Model, dir_items, read_as}
+use Rattle.laws_hint.specs.pack_model.specs.reading.Namings.{AllKept, Naming, clashes, fits, is_kept, may_stand, namings, namings_in}
+use Rattle.laws_hint.specs.pack_model.specs.reading.Sights.{sights}
+use Rattle.laws_hint.specs.pack_model.specs.reading.SlotWords.{SlotAt, address_at, slots_at}
+use Rattle.laws_hint.specs.pack_model.specs.reading.Slots.Item.{entry, space}
+use Rattle.laws_hint.specs.pack_model.specs.reading.Slots.{Item, item_words, slots}
 use Rattle.laws_midway.specs.FoundLaws.{EntryNamesALivingFile, FoundEntryMayGo, FoundFileHasItsName, FoundFileIsEntered, FoundFileLives, NameIsItsOwn}
 
 -- ---- a directory with an entry

@@ -4,10 +4,10 @@ use Rattle.std.proofs.lemmas.Bool.{cases_lt, cond-false, cond-true, le-leb, lt-l
 use Rattle.std.proofs.lemmas.List.Elements.{All-head, All-tail}
 use Rattle.std.specs.Option.{is_some, option_map, option_or}
 use Rattle.std.specs.Prelude.{All, nat_le}
-use Rattle.laws_record.specs.SlotLaws.{IsSpace}
-use Rattle.pack_model.specs.operations.Rooms.{find_room, largest_run, most_free, room_from, room_here, run, words_free}
-use Rattle.pack_model.specs.reading.Slots.Item.{entry, space}
-use Rattle.pack_model.specs.reading.Slots.{Item, all_words, item_words}
+use Rattle.laws_hint.specs.laws_record.specs.SlotLaws.{IsSpace}
+use Rattle.laws_hint.specs.pack_model.specs.operations.Rooms.{find_room, largest_run, most_free, room_from, room_here, run, words_free}
+use Rattle.laws_hint.specs.pack_model.specs.reading.Slots.Item.{entry, space}
+use Rattle.laws_hint.specs.pack_model.specs.reading.Slots.{Item, all_words, item_words}
 use Rattle.laws_midway.specs.RoomLaws.{RoomIsFoundInARun, RowIsShort}
 
 abbrev IsShort : Item → Type 0

@@ -2,37 +2,37 @@
 use Rattle.std.proofs.Common.{All, List, None, Option, Some, [], ap, arith, drop, false, length, nat_le, subst, suc, sym, true, ℕ, ◌+◌, ◌/◌, ◌<◌, ◌∙◌, ◌∷◌, ◌≡◌, ◌≢◌, ◌≤◌, refl}
 use Rattle.std.proofs.lemmas.Bool.Decides.{nat_tests}
 use Rattle.std.specs.Option.{is_some}
-use Rattle.alto_words.specs.Fid.{disk_descriptor, is_directory, is_fid}
-use Rattle.alto_words.specs.declared.fid.Fid.{Fid}
-use Rattle.disk_records.proofs.Growing.{after-append}
-use Rattle.disk_records.specs.Commands.{claim_writes}
-use Rattle.disk_records.specs.Packs.{Pack, after, carried, is_free_at, sector_at}
-use Rattle.disk_records.specs.declared.records.Page.{Page}
-use Rattle.disk_records.specs.declared.shape.Shape.{Shape}
-use Rattle.laws_contents.proofs.model.Laws.{model_lengths_are_of_bytes}
-use Rattle.laws_line.proofs.crashes.Laws.{crashes_of_each_operation}
-use Rattle.laws_line.specs.CrashLaws.{StaysMendable}
-use Rattle.laws_lookup.proofs.others.Laws.{grow_keeps_pages, grow_leaves_others, widen_keeps_pages, widen_leaves_others}
-use Rattle.laws_lookup.specs.OtherLaws.{KeepsPages, LeavesOthers}
-use Rattle.laws_operation.proofs.Commanding.{claim_apart}
-use Rattle.laws_operation.proofs.grow.Laws.{grow_places_its_pages, grow_words_fit}
-use Rattle.laws_operation.proofs.lengths.Laws.{placed_pages_are_those_up_to_the_last}
-use Rattle.laws_operation.proofs.widen.Laws.{widen_places_its_pages, widen_words_fit}
-use Rattle.laws_operation.specs.ByteLaws.{Bear, IsOrdinary}
-use Rattle.laws_operation.specs.FileWords.{CanGrow}
-use Rattle.laws_record.proofs.Copying.{place_carried}
-use Rattle.laws_record.proofs.DirReads.{not_descriptor}
-use Rattle.pack_model.specs.operations.Commands.{Claim, all_claimed, claims_of, claims_writes, grown_claims, grown_label, grown_value, last_room, sectors_of}
-use Rattle.pack_model.specs.operations.Committing.{length_of, page_of_byte}
-use Rattle.pack_model.specs.operations.Operations.{grow_writes}
-use Rattle.pack_model.specs.operations.PageWords.{page_number, widening_bytes}
-use Rattle.pack_model.specs.operations.Step.Operation.{grow, widen}
-use Rattle.pack_model.specs.operations.Step.{Operation, step}
-use Rattle.pack_model.specs.reading.Files.{file_bytes, lives, place}
-use Rattle.pack_model.specs.reading.Model.{read_as}
-use Rattle.pack_model.specs.reading.Sights.{sights}
-use Rattle.pack_model.specs.reading.SlotWords.{space_words}
-use Rattle.pack_model.specs.states.Whole.{Tidy, Whole}
+use Rattle.laws_hint.specs.alto_words.specs.Fid.{disk_descriptor, is_directory, is_fid}
+use Rattle.laws_hint.specs.alto_words.specs.declared.fid.Fid.{Fid}
+use Rattle.laws_hint.specs.disk_records.proofs.Growing.{after-append}
+use Rattle.laws_hint.specs.disk_records.specs.Commands.{claim_writes}
+use Rattle.laws_hint.specs.disk_records.specs.Packs.{Pack, after, carried, is_free_at, sector_at}
+use Rattle.laws_hint.specs.disk_records.specs.declared.records.Page.{Page}
+use Rattle.laws_hint.specs.disk_records.specs.declared.shape.Shape.{Shape}
+use Rattle.laws_hint.specs.laws_contents.proofs.model.Laws.{model_lengths_are_of_bytes}
+use Rattle.laws_hint.specs.laws_line.proofs.crashes.Laws.{crashes_of_each_operation}
+use Rattle.laws_hint.specs.laws_line.specs.CrashLaws.{StaysMendable}
+use Rattle.laws_hint.specs.laws_lookup.proofs.others.Laws.{grow_keeps_pages, grow_leaves_others, widen_keeps_pages, widen_leaves_others}
+use Rattle.laws_hint.specs.laws_lookup.specs.OtherLaws.{KeepsPages, LeavesOthers}
+use Rattle.laws_hint.specs.laws_operation.proofs.Commanding.{claim_apart}
+use Rattle.laws_hint.specs.laws_operation.proofs.grow.Laws.{grow_places_its_pages, grow_words_fit}
+use Rattle.laws_hint.specs.laws_operation.proofs.lengths.Laws.{placed_pages_are_those_up_to_the_last}
+use Rattle.laws_hint.specs.laws_operation.proofs.widen.Laws.{widen_places_its_pages, widen_words_fit}
+use Rattle.laws_hint.specs.laws_operation.specs.ByteLaws.{Bear, IsOrdinary}
+use Rattle.laws_hint.specs.laws_operation.specs.FileWords.{CanGrow}
+use Rattle.laws_hint.specs.laws_record.proofs.Copying.{place_carried}
+use Rattle.laws_hint.specs.laws_record.proofs.DirReads.{not_descriptor}
+use Rattle.laws_hint.specs.pack_model.specs.operations.Commands.{Claim, all_claimed, claims_of, claims_writes, grown_claims, grown_label, grown_value, last_room, sectors_of}
+use Rattle.laws_hint.specs.pack_model.specs.operations.Committing.{length_of, page_of_byte}
+use Rattle.laws_hint.specs.pack_model.specs.operations.Operations.{grow_writes}
+use Rattle.laws_hint.specs.pack_model.specs.operations.PageWords.{page_number, widening_bytes}
+use Rattle.laws_hint.specs.pack_model.specs.operations.Step.Operation.{grow, widen}
+use Rattle.laws_hint.specs.pack_model.specs.operations.Step.{Operation, step}
+use Rattle.laws_hint.specs.pack_model.specs.reading.Files.{file_bytes, lives, place}
+use Rattle.laws_hint.specs.pack_model.specs.reading.Model.{read_as}
+use Rattle.laws_hint.specs.pack_model.specs.reading.Sights.{sights}
+use Rattle.laws_hint.specs.pack_model.specs.reading.SlotWords.{space_words}
+use Rattle.laws_hint.specs.pack_model.specs.states.Whole.{Tidy, Whole}
 use Rattle.laws_midway.proofs.inside.Apart.{carried_is_apart_from_free}
 use Rattle.laws_midway.proofs.inside.Longer.{grow_lengthens, is_lived, widen_lengthens}
 use Rattle.laws_midway.proofs.inside.Looping.{claims_leave_other_sectors}

@@ -1,7 +1,7 @@
 -- Hints in the middle of a line.
 use Rattle.std.proofs.Common.{subst, sym}
-use Rattle.disk_records.proofs.Growing.{after-append}
-use Rattle.pack_model.specs.hints.Misled.{Finds, Misled}
+use Rattle.laws_hint.specs.disk_records.proofs.Growing.{after-append}
+use Rattle.laws_hint.specs.pack_model.specs.hints.Misled.{Finds, Misled}
 use Rattle.laws_midway.specs.LineHintLaws.{LaterAnswerMisledBefore, LaterMisledBefore}
 
 pub later_misled_before : LaterMisledBefore

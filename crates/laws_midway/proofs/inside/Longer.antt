@@ -4,27 +4,27 @@ use Rattle.std.proofs.lemmas.Bool.Decides.{nat_tests}
 use Rattle.std.proofs.lemmas.List.{length-append}
 use Rattle.std.specs.FinMap.{get}
 use Rattle.std.specs.Option.{is_some, option_map}
-use Rattle.alto_words.specs.declared.fid.Fid.{Fid}
-use Rattle.disk_records.specs.Packs.{Pack, sector_at}
-use Rattle.laws_contents.proofs.ends.Laws.{each_file_has_its_end, whole_file_ends_in_a_page}
-use Rattle.laws_contents.proofs.model.Laws.{directory_is_its_pages, ordinary_file_is_its_pages}
-use Rattle.laws_contents.proofs.pages.Laws.{page_numbers_are_words}
-use Rattle.laws_operation.proofs.places.Laws.{file_lives_in_a_place, file_that_does_not_live_has_no_page}
-use Rattle.pack_laws.proofs.Keys.{fid_same, fid_total, is_fid-itself}
-use Rattle.pack_laws.proofs.Mapping.{get-update}
-use Rattle.pack_model.specs.operations.Committing.{length_in, length_of, page_of_byte}
-use Rattle.pack_model.specs.operations.Step.Operation.{widen}
-use Rattle.pack_model.specs.operations.Step.{on_bytes, on_items, step}
-use Rattle.pack_model.specs.reading.Bodies.Body.{data_of, items_of}
-use Rattle.pack_model.specs.reading.Bodies.{File, Files, body_length}
-use Rattle.pack_model.specs.reading.Files.{file_bytes, lives, place}
-use Rattle.pack_model.specs.reading.Leaders.{leader_of}
-use Rattle.pack_model.specs.reading.Model.{dir_items, read_as}
-use Rattle.pack_model.specs.reading.Sights.{sights}
-use Rattle.pack_model.specs.reading.Slots.Item.{entry, space}
-use Rattle.pack_model.specs.reading.Slots.{Item, all_words}
-use Rattle.pack_model.specs.sessions.Maps.{update}
-use Rattle.pack_model.specs.states.Whole.{Whole}
+use Rattle.laws_hint.specs.alto_words.specs.declared.fid.Fid.{Fid}
+use Rattle.laws_hint.specs.disk_records.specs.Packs.{Pack, sector_at}
+use Rattle.laws_hint.specs.laws_contents.proofs.ends.Laws.{each_file_has_its_end, whole_file_ends_in_a_page}
+use Rattle.laws_hint.specs.laws_contents.proofs.model.Laws.{directory_is_its_pages, ordinary_file_is_its_pages}
+use Rattle.laws_hint.specs.laws_contents.proofs.pages.Laws.{page_numbers_are_words}
+use Rattle.laws_hint.specs.laws_operation.proofs.places.Laws.{file_lives_in_a_place, file_that_does_not_live_has_no_page}
+use Rattle.laws_hint.specs.pack_laws.proofs.Keys.{fid_same, fid_total, is_fid-itself}
+use Rattle.laws_hint.specs.pack_laws.proofs.Mapping.{get-update}
+use Rattle.laws_hint.specs.pack_model.specs.operations.Committing.{length_in, length_of, page_of_byte}
+use Rattle.laws_hint.specs.pack_model.specs.operations.Step.Operation.{widen}
+use Rattle.laws_hint.specs.pack_model.specs.operations.Step.{on_bytes, on_items, step}
+use Rattle.laws_hint.specs.pack_model.specs.reading.Bodies.Body.{data_of, items_of}
+use Rattle.laws_hint.specs.pack_model.specs.reading.Bodies.{File, Files, body_length}
+use Rattle.laws_hint.specs.pack_model.specs.reading.Files.{file_bytes, lives, place}
+use Rattle.laws_hint.specs.pack_model.specs.reading.Leaders.{leader_of}
+use Rattle.laws_hint.specs.pack_model.specs.reading.Model.{dir_items, read_as}
+use Rattle.laws_hint.specs.pack_model.specs.reading.Sights.{sights}
+use Rattle.laws_hint.specs.pack_model.specs.reading.Slots.Item.{entry, space}
+use Rattle.laws_hint.specs.pack_model.specs.reading.Slots.{Item, all_words}
+use Rattle.laws_hint.specs.pack_model.specs.sessions.Maps.{update}
+use Rattle.laws_hint.specs.pack_model.specs.states.Whole.{Whole}
 use Rattle.laws_midway.specs.GrowingLaws.{GrowLengthens, LastPageHasANumber, WidenLengthens}
 
 -- ---- what lives

@@ -2,21 +2,21 @@
 use Rattle.std.proofs.Common.{Bool, List, Some, [], ap, arith, drop, false, get_or, length, refl, subst, suc, sym, take, true, zero, ℕ, ◌+◌, ◌<◌, ◌∙◌, ◌∷◌, ◌≡◌, ◌≢◌, ◌≤◌}
 use Rattle.std.proofs.lemmas.List.Elements.{All-head, All-tail}
 use Rattle.std.proofs.lemmas.List.{length-set}
-use Rattle.alto_words.specs.declared.fid.Fid.{Fid}
-use Rattle.disk_records.specs.Commands.{claim_writes, ones, release_writes}
-use Rattle.disk_records.specs.Packs.{Pack, after, after_all, after_one, no_sector, with_part}
-use Rattle.disk_records.specs.declared.records.Event.{Event}
-use Rattle.disk_records.specs.declared.records.Event.TheVariants.{Shown, Wrote}
-use Rattle.disk_records.specs.declared.records.Sector.{Sector}
-use Rattle.pack_laws.proofs.Guarding.{ones_free, other_kept}
-use Rattle.pack_laws.proofs.Placing.{place_is, place_same, shows_carried, shows_led}
-use Rattle.pack_model.specs.operations.Commands.{all_claimed, releases_writes, sectors_of}
-use Rattle.pack_model.specs.reading.Files.{carries_page, place}
-use Rattle.pack_model.specs.reading.Model.{good_one}
-use Rattle.pack_model.specs.reading.Sights.{Sight, sights}
-use Rattle.pack_model.specs.reading.Sights.Sight.{free, hidden, holds, leads}
-use Rattle.laws_operation.proofs.Commanding.{claim_apart, release_apart, release_shows}
-use Rattle.laws_operation.specs.ByteLaws.{Bear}
+use Rattle.laws_hint.specs.alto_words.specs.declared.fid.Fid.{Fid}
+use Rattle.laws_hint.specs.disk_records.specs.Commands.{claim_writes, ones, release_writes}
+use Rattle.laws_hint.specs.disk_records.specs.Packs.{Pack, after, after_all, after_one, no_sector, with_part}
+use Rattle.laws_hint.specs.disk_records.specs.declared.records.Event.{Event}
+use Rattle.laws_hint.specs.disk_records.specs.declared.records.Event.TheVariants.{Shown, Wrote}
+use Rattle.laws_hint.specs.disk_records.specs.declared.records.Sector.{Sector}
+use Rattle.laws_hint.specs.pack_laws.proofs.Guarding.{ones_free, other_kept}
+use Rattle.laws_hint.specs.pack_laws.proofs.Placing.{place_is, place_same, shows_carried, shows_led}
+use Rattle.laws_hint.specs.pack_model.specs.operations.Commands.{all_claimed, releases_writes, sectors_of}
+use Rattle.laws_hint.specs.pack_model.specs.reading.Files.{carries_page, place}
+use Rattle.laws_hint.specs.pack_model.specs.reading.Model.{good_one}
+use Rattle.laws_hint.specs.pack_model.specs.reading.Sights.{Sight, sights}
+use Rattle.laws_hint.specs.pack_model.specs.reading.Sights.Sight.{free, hidden, holds, leads}
+use Rattle.laws_hint.specs.laws_operation.proofs.Commanding.{claim_apart, release_apart, release_shows}
+use Rattle.laws_hint.specs.laws_operation.specs.ByteLaws.{Bear}
 use Rattle.laws_midway.specs.LoopLaws.{ClaimsLeaveOtherSectors, EachSectorStays, RelabelLeavesOtherSectors, ReleasesLeaveOtherSectors, ReleasesLeaveTheRest}
 
 -- ---- other sectors

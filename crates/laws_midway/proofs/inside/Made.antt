@@ -2,28 +2,28 @@
 use Rattle.std.proofs.Common.{List, Some, [], ap, arith, get_or, inl, inr, length, refl, suc, sym, true, zero, ℕ, ◌%◌, ◌++◌, ◌+◌, ◌-◌, ◌/◌, ◌∙◌, ◌∷◌, ◌≡◌}
 use Rattle.std.proofs.lemmas.List.{get_or-append_right, length-append, length-replicate}
 use Rattle.std.specs.Prelude.{replicate}
-use Rattle.alto_words.proofs.Versions.{is_stored_name-fits}
-use Rattle.alto_words.specs.Names.{is_stored_name}
-use Rattle.alto_words.specs.declared.fid.Fid.{Fid}
-use Rattle.disk_records.specs.Packs.{Pack, after, sector_at}
-use Rattle.disk_records.specs.Words.{word}
-use Rattle.disk_records.specs.declared.records.Event.TheVariants.{Wrote}
-use Rattle.disk_records.specs.declared.records.Event.{Event}
-use Rattle.disk_records.specs.declared.records.Page.{Page}
-use Rattle.laws_operation.proofs.make.Laws.{make_places_its_pages, make_words_fit}
-use Rattle.laws_operation.specs.FileWords.{CanMake}
-use Rattle.laws_operation.specs.PlaceLaws.{HasTwoPages}
-use Rattle.pack_laws.proofs.Bytes.{length-words_of}
-use Rattle.pack_laws.proofs.Guarding.{free_parts, here_written, usable_within}
-use Rattle.pack_model.specs.hints.Handy.{CachedAt, Handy, IsRightOrIdle, last_at_word, last_number_word, leader_word, row_word}
-use Rattle.pack_model.specs.operations.Commands.{Claim, first_page_claim, leader_claim}
-use Rattle.pack_model.specs.operations.Operations.{make_writes}
-use Rattle.pack_model.specs.operations.PageWords.{filled, last_page_hints, leader_value, name_words, new_bytes, new_leader_value}
-use Rattle.pack_model.specs.operations.Step.{new_leader}
-use Rattle.pack_model.specs.reading.Files.{place}
-use Rattle.pack_model.specs.reading.Leaders.{Leader}
-use Rattle.pack_model.specs.reading.Sights.{sights}
-use Rattle.pack_model.specs.states.Whole.{Tidy, Whole}
+use Rattle.laws_hint.specs.alto_words.proofs.Versions.{is_stored_name-fits}
+use Rattle.laws_hint.specs.alto_words.specs.Names.{is_stored_name}
+use Rattle.laws_hint.specs.alto_words.specs.declared.fid.Fid.{Fid}
+use Rattle.laws_hint.specs.disk_records.specs.Packs.{Pack, after, sector_at}
+use Rattle.laws_hint.specs.disk_records.specs.Words.{word}
+use Rattle.laws_hint.specs.disk_records.specs.declared.records.Event.TheVariants.{Wrote}
+use Rattle.laws_hint.specs.disk_records.specs.declared.records.Event.{Event}
+use Rattle.laws_hint.specs.disk_records.specs.declared.records.Page.{Page}
+use Rattle.laws_hint.specs.laws_operation.proofs.make.Laws.{make_places_its_pages, make_words_fit}
+use Rattle.laws_hint.specs.laws_operation.specs.FileWords.{CanMake}
+use Rattle.laws_hint.specs.laws_operation.specs.PlaceLaws.{HasTwoPages}
+use Rattle.laws_hint.specs.pack_laws.proofs.Bytes.{length-words_of}
+use Rattle.laws_hint.specs.pack_laws.proofs.Guarding.{free_parts, here_written, usable_within}
+use Rattle.laws_hint.specs.pack_model.specs.hints.Handy.{CachedAt, Handy, IsRightOrIdle, last_at_word, last_number_word, leader_word, row_word}
+use Rattle.laws_hint.specs.pack_model.specs.operations.Commands.{Claim, first_page_claim, leader_claim}
+use Rattle.laws_hint.specs.pack_model.specs.operations.Operations.{make_writes}
+use Rattle.laws_hint.specs.pack_model.specs.operations.PageWords.{filled, last_page_hints, leader_value, name_words, new_bytes, new_leader_value}
+use Rattle.laws_hint.specs.pack_model.specs.operations.Step.{new_leader}
+use Rattle.laws_hint.specs.pack_model.specs.reading.Files.{place}
+use Rattle.laws_hint.specs.pack_model.specs.reading.Leaders.{Leader}
+use Rattle.laws_hint.specs.pack_model.specs.reading.Sights.{sights}
+use Rattle.laws_hint.specs.pack_model.specs.states.Whole.{Tidy, Whole}
 use Rattle.laws_midway.proofs.inside.Looping.{as_many}
 use Rattle.laws_midway.specs.MadeLaws.{HandyAfterMake, ListsNewPages}
 

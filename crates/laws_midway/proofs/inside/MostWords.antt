@@ -1,9 +1,9 @@
 -- The most free words in a row, slot by slot.
 use Rattle.std.proofs.Common.{List, [], ap, arith, fold, inl, inr, max, refl, sym, ℕ, ◌++◌, ◌+◌, ◌∙◌, ◌∷◌, ◌≡◌, ◌⊎◌}
-use Rattle.alto_words.specs.declared.fid.Fid.{Fid}
-use Rattle.pack_model.specs.operations.Rooms.{largest_run, words_free}
-use Rattle.pack_model.specs.reading.Slots.Item.{entry, space}
-use Rattle.pack_model.specs.reading.Slots.{Item}
+use Rattle.laws_hint.specs.alto_words.specs.declared.fid.Fid.{Fid}
+use Rattle.laws_hint.specs.pack_model.specs.operations.Rooms.{largest_run, words_free}
+use Rattle.laws_hint.specs.pack_model.specs.reading.Slots.Item.{entry, space}
+use Rattle.laws_hint.specs.pack_model.specs.reading.Slots.{Item}
 use Rattle.laws_midway.specs.RoomLaws.{MostWordsGoOn, row_words}
 
 -- all of these are free, so that the row at the front is the row at the end

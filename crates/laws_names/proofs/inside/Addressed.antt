@@ -3,22 +3,22 @@ use Rattle.std.proofs.Common.{◌+◌, ◌<◌, ◌∙◌, ◌∷◌, ◌≡◌,
 use Rattle.std.proofs.lemmas.Bool.{cases_eq, cases_lt}
 use Rattle.std.proofs.lemmas.List.Elements.{Contains-append_cases, Contains-append_right, Contains-push_cases}
 use Rattle.std.specs.Prelude.{Contains}
-use Rattle.alto_words.specs.Fid.{is_fid}
-use Rattle.alto_words.specs.declared.fid.Fid.{Fid}
-use Rattle.disk_records.specs.Packs.{Pack}
-use Rattle.disk_records.specs.Words.{word}
-use Rattle.pack_model.specs.hints.Links.{dir_slots, dir_words}
-use Rattle.pack_model.specs.reading.Bytes.{put_at, words_of}
-use Rattle.pack_model.specs.reading.SlotWords.{SlotAt, address_at, address_word, slots_at}
-use Rattle.pack_model.specs.reading.Slots.{Item, item_words, slots}
-use Rattle.pack_model.specs.reading.Slots.Item.{entry, space}
-use Rattle.pack_model.specs.scavenger.Reports.{PagesMended}
-use Rattle.pack_laws.proofs.Keys.{is_fid-itself, same_fid}
-use Rattle.laws_record.proofs.Heads.{head_of, slots_cons}
-use Rattle.laws_record.proofs.Slotwise.{put_after, put_before, put_here}
-use Rattle.laws_record.specs.DirLaws.{DirWrite, dir_written}
-use Rattle.laws_record.specs.DirLaws.IsLooseWord.{of_address}
-use Rattle.laws_lookup.proofs.Replacing.{range}
+use Rattle.laws_mend.specs.alto_words.specs.Fid.{is_fid}
+use Rattle.laws_mend.specs.alto_words.specs.declared.fid.Fid.{Fid}
+use Rattle.laws_mend.specs.disk_records.specs.Packs.{Pack}
+use Rattle.laws_mend.specs.disk_records.specs.Words.{word}
+use Rattle.laws_mend.specs.pack_model.specs.hints.Links.{dir_slots, dir_words}
+use Rattle.laws_mend.specs.pack_model.specs.reading.Bytes.{put_at, words_of}
+use Rattle.laws_mend.specs.pack_model.specs.reading.SlotWords.{SlotAt, address_at, address_word, slots_at}
+use Rattle.laws_mend.specs.pack_model.specs.reading.Slots.{Item, item_words, slots}
+use Rattle.laws_mend.specs.pack_model.specs.reading.Slots.Item.{entry, space}
+use Rattle.laws_mend.specs.pack_model.specs.scavenger.Reports.{PagesMended}
+use Rattle.laws_mend.specs.pack_laws.proofs.Keys.{is_fid-itself, same_fid}
+use Rattle.laws_mend.specs.laws_record.proofs.Heads.{head_of, slots_cons}
+use Rattle.laws_mend.specs.laws_record.proofs.Slotwise.{put_after, put_before, put_here}
+use Rattle.laws_mend.specs.laws_record.specs.DirLaws.{DirWrite, dir_written}
+use Rattle.laws_mend.specs.laws_record.specs.DirLaws.IsLooseWord.{of_address}
+use Rattle.laws_mend.specs.laws_lookup.proofs.Replacing.{range}
 use Rattle.laws_names.proofs.inside.Freed.{loose_words_leave}
 use Rattle.laws_names.specs.WriteLaws.{AddressIsWritten, LooseWordsWritten}
 

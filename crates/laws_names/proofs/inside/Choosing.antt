@@ -6,14 +6,14 @@ use Rattle.std.proofs.lemmas.Map.Steps.{list_any_congr}
 use Rattle.std.specs.Cmp.{IsEquivalence}
 use Rattle.std.specs.FinMap.{FinMap, entries}
 use Rattle.std.specs.List.{AllByRecursion, IsDistinct, list_any}
-use Rattle.alto_words.proofs.Alike.{same_numbers}
-use Rattle.alto_words.specs.Fid.{fid_cmp, is_fid, sys_dir}
-use Rattle.alto_words.specs.Names.{fold_case, is_same_name, suffixed}
-use Rattle.alto_words.specs.declared.fid.Fid.{Fid}
-use Rattle.pack_model.specs.reading.Namings.{descriptor_name, sys_dir_name}
-use Rattle.pack_model.specs.showing.Settling.{choice, chosen, chosen_from, is_taken, most_suffixes}
-use Rattle.pack_model.specs.showing.View.{Home}
-use Rattle.laws_record.proofs.Fitting.{same_equiv, same_sym, same_trans}
+use Rattle.laws_mend.specs.alto_words.proofs.Alike.{same_numbers}
+use Rattle.laws_mend.specs.alto_words.specs.Fid.{fid_cmp, is_fid, sys_dir}
+use Rattle.laws_mend.specs.alto_words.specs.Names.{fold_case, is_same_name, suffixed}
+use Rattle.laws_mend.specs.alto_words.specs.declared.fid.Fid.{Fid}
+use Rattle.laws_mend.specs.pack_model.specs.reading.Namings.{descriptor_name, sys_dir_name}
+use Rattle.laws_mend.specs.pack_model.specs.showing.Settling.{choice, chosen, chosen_from, is_taken, most_suffixes}
+use Rattle.laws_mend.specs.pack_model.specs.showing.View.{Home}
+use Rattle.laws_mend.specs.laws_record.proofs.Fitting.{same_equiv, same_sym, same_trans}
 
 -- ---- names that are taken
 names_equiv : IsEquivalence is_same_name

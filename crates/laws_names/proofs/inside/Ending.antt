@@ -4,21 +4,21 @@ use Rattle.std.proofs.lemmas.List.Elements.{Contains-append_cases, Contains-push
 use Rattle.std.specs.FinMap.{entries, get, same_map}
 use Rattle.std.specs.Option.{option_map}
 use Rattle.std.specs.Prelude.{Contains}
-use Rattle.alto_words.specs.Fid.{fid_cmp}
-use Rattle.alto_words.specs.declared.fid.Fid.{Fid}
-use Rattle.disk_records.specs.Packs.{Pack}
-use Rattle.pack_model.specs.hints.Links.{IsTrueAddress, dir_words}
-use Rattle.pack_model.specs.reading.Bodies.{File, found}
-use Rattle.pack_model.specs.reading.Files.{file_bytes, leader}
-use Rattle.pack_model.specs.reading.Leaders.{Leader}
-use Rattle.pack_model.specs.reading.Sights.{sights}
-use Rattle.pack_model.specs.reading.SlotWords.{SlotAt, address_at, slots_at}
-use Rattle.pack_model.specs.reading.Slots.{Item, all_words, item_words, slots}
-use Rattle.pack_model.specs.sessions.Maps.{map_values}
-use Rattle.pack_laws.proofs.Keys.{fid_same, fid_total}
-use Rattle.pack_laws.proofs.Mapping.{entries-map_values, get-map_values}
-use Rattle.laws_record.proofs.Reading.{get-found, read_file}
-use Rattle.laws_operation.proofs.entries.Laws.{items_are_slots}
+use Rattle.laws_mend.specs.alto_words.specs.Fid.{fid_cmp}
+use Rattle.laws_mend.specs.alto_words.specs.declared.fid.Fid.{Fid}
+use Rattle.laws_mend.specs.disk_records.specs.Packs.{Pack}
+use Rattle.laws_mend.specs.pack_model.specs.hints.Links.{IsTrueAddress, dir_words}
+use Rattle.laws_mend.specs.pack_model.specs.reading.Bodies.{File, found}
+use Rattle.laws_mend.specs.pack_model.specs.reading.Files.{file_bytes, leader}
+use Rattle.laws_mend.specs.pack_model.specs.reading.Leaders.{Leader}
+use Rattle.laws_mend.specs.pack_model.specs.reading.Sights.{sights}
+use Rattle.laws_mend.specs.pack_model.specs.reading.SlotWords.{SlotAt, address_at, slots_at}
+use Rattle.laws_mend.specs.pack_model.specs.reading.Slots.{Item, all_words, item_words, slots}
+use Rattle.laws_mend.specs.pack_model.specs.sessions.Maps.{map_values}
+use Rattle.laws_mend.specs.pack_laws.proofs.Keys.{fid_same, fid_total}
+use Rattle.laws_mend.specs.pack_laws.proofs.Mapping.{entries-map_values, get-map_values}
+use Rattle.laws_mend.specs.laws_record.proofs.Reading.{get-found, read_file}
+use Rattle.laws_mend.specs.laws_operation.proofs.entries.Laws.{items_are_slots}
 use Rattle.laws_names.specs.EntriesLaws.{LeadersAreListed, NamesAreMended, SlotSplits}
 
 -- ---- a slot by those before it

@@ -8,24 +8,24 @@ use Rattle.std.specs.FinMap.Entries.{below_all}
 use Rattle.std.specs.List.{AllByRecursion, IsDistinct, list_any}
 use Rattle.std.specs.Option.{is_some, option_or}
 use Rattle.std.specs.Ordering.{is_eq, is_lt}
-use Rattle.alto_words.specs.Fid.{fid_cmp, is_fid, is_system}
-use Rattle.alto_words.specs.declared.fid.Fid.{Fid}
-use Rattle.disk_records.specs.Addresses.{is_right_header, pages_of}
-use Rattle.disk_records.specs.Packs.{Pack, is_usable}
-use Rattle.disk_records.specs.declared.records.Sector.{Sector}
-use Rattle.disk_records.specs.declared.shape.Shape.{Shape}
-use Rattle.pack_model.specs.reading.Files.{first, leader_at, lives}
-use Rattle.pack_model.specs.reading.Model.{read_as}
-use Rattle.pack_model.specs.reading.Namings.{AllKept, Naming, clashes, is_kept, may_stand, namings}
-use Rattle.pack_model.specs.reading.Sights.{Sight, sight, sights, sights_from}
-use Rattle.pack_model.specs.reading.Sights.Sight.{free, hidden, holds, leads, stray}
-use Rattle.pack_model.specs.showing.View.{Home, names_of, view}
-use Rattle.pack_laws.proofs.Keys.{fid_total, same_fid}
-use Rattle.laws_record.proofs.Around.{first_part, is_less, second_part}
-use Rattle.laws_record.proofs.Heads.{and_left, and_right}
-use Rattle.laws_record.proofs.Keeping.{get-where}
-use Rattle.laws_record.proofs.Unread.{dark}
-use Rattle.laws_operation.proofs.entries.Laws.{read_entries_are_kept}
+use Rattle.laws_mend.specs.alto_words.specs.Fid.{fid_cmp, is_fid, is_system}
+use Rattle.laws_mend.specs.alto_words.specs.declared.fid.Fid.{Fid}
+use Rattle.laws_mend.specs.disk_records.specs.Addresses.{is_right_header, pages_of}
+use Rattle.laws_mend.specs.disk_records.specs.Packs.{Pack, is_usable}
+use Rattle.laws_mend.specs.disk_records.specs.declared.records.Sector.{Sector}
+use Rattle.laws_mend.specs.disk_records.specs.declared.shape.Shape.{Shape}
+use Rattle.laws_mend.specs.pack_model.specs.reading.Files.{first, leader_at, lives}
+use Rattle.laws_mend.specs.pack_model.specs.reading.Model.{read_as}
+use Rattle.laws_mend.specs.pack_model.specs.reading.Namings.{AllKept, Naming, clashes, is_kept, may_stand, namings}
+use Rattle.laws_mend.specs.pack_model.specs.reading.Sights.{Sight, sight, sights, sights_from}
+use Rattle.laws_mend.specs.pack_model.specs.reading.Sights.Sight.{free, hidden, holds, leads, stray}
+use Rattle.laws_mend.specs.pack_model.specs.showing.View.{Home, names_of, view}
+use Rattle.laws_mend.specs.pack_laws.proofs.Keys.{fid_total, same_fid}
+use Rattle.laws_mend.specs.laws_record.proofs.Around.{first_part, is_less, second_part}
+use Rattle.laws_mend.specs.laws_record.proofs.Heads.{and_left, and_right}
+use Rattle.laws_mend.specs.laws_record.proofs.Keeping.{get-where}
+use Rattle.laws_mend.specs.laws_record.proofs.Unread.{dark}
+use Rattle.laws_mend.specs.laws_operation.proofs.entries.Laws.{read_entries_are_kept}
 use Rattle.laws_names.proofs.inside.Unlacking.{name_named}
 
 -- ---- files by their leader pages

@@ -1,22 +1,22 @@
 -- The slot of an entry that isn't kept is made free; words that say nothing are written.
 use Rattle.std.proofs.Common.{◌++◌, ◌∙◌, ◌∷◌, ◌≡◌, List, [], ap, arith, get_or, length, subst, sym}
 use Rattle.std.specs.Option.{is_some}
-use Rattle.alto_words.specs.declared.fid.Fid.{Fid}
-use Rattle.disk_records.specs.Packs.{Pack}
-use Rattle.pack_model.specs.hints.Links.{dir_words}
-use Rattle.pack_model.specs.reading.Model.{Model, dir_items, read_as}
-use Rattle.pack_model.specs.reading.Slots.{Item, all_words, item_words, slots}
-use Rattle.pack_model.specs.reading.Slots.Item.{entry, space}
-use Rattle.pack_model.specs.scavenger.Mended.{rooted}
-use Rattle.pack_model.specs.scavenger.Reports.{PagesMended}
-use Rattle.laws_record.proofs.directories.Laws.{loose_words_reads_same, slot_that_is_not_kept}
-use Rattle.laws_record.proofs.Slotwise.{one_word, words-append}
-use Rattle.laws_record.specs.DirLaws.{dir_written, freed}
-use Rattle.laws_lookup.proofs.own.Laws.{freeing_replaces_slots}
-use Rattle.laws_lookup.specs.OwnLaws.{ReplacesSlots}
-use Rattle.laws_room.proofs.entering.Laws.{slot_that_is_not_kept_keeps}
-use Rattle.laws_room.proofs.keeping.Laws.{loose_words_keeps_aside}
-use Rattle.laws_room.specs.NextLaws.{mended_pack}
+use Rattle.laws_mend.specs.alto_words.specs.declared.fid.Fid.{Fid}
+use Rattle.laws_mend.specs.disk_records.specs.Packs.{Pack}
+use Rattle.laws_mend.specs.pack_model.specs.hints.Links.{dir_words}
+use Rattle.laws_mend.specs.pack_model.specs.reading.Model.{Model, dir_items, read_as}
+use Rattle.laws_mend.specs.pack_model.specs.reading.Slots.{Item, all_words, item_words, slots}
+use Rattle.laws_mend.specs.pack_model.specs.reading.Slots.Item.{entry, space}
+use Rattle.laws_mend.specs.pack_model.specs.scavenger.Mended.{rooted}
+use Rattle.laws_mend.specs.pack_model.specs.scavenger.Reports.{PagesMended}
+use Rattle.laws_mend.specs.laws_record.proofs.directories.Laws.{loose_words_reads_same, slot_that_is_not_kept}
+use Rattle.laws_mend.specs.laws_record.proofs.Slotwise.{one_word, words-append}
+use Rattle.laws_mend.specs.laws_record.specs.DirLaws.{dir_written, freed}
+use Rattle.laws_mend.specs.laws_lookup.proofs.own.Laws.{freeing_replaces_slots}
+use Rattle.laws_mend.specs.laws_lookup.specs.OwnLaws.{ReplacesSlots}
+use Rattle.laws_mend.specs.laws_room.proofs.entering.Laws.{slot_that_is_not_kept_keeps}
+use Rattle.laws_mend.specs.laws_room.proofs.keeping.Laws.{loose_words_keeps_aside}
+use Rattle.laws_mend.specs.laws_room.specs.NextLaws.{mended_pack}
 use Rattle.laws_mend.proofs.slots.Laws.{loose_words_keep_slots}
 use Rattle.laws_names.proofs.inside.Models.{all_kept_is_tidy, mended_is_read, tidy_mended_is_read}
 use Rattle.laws_names.proofs.inside.Written.{names_written, root_may}

@@ -1,9 +1,9 @@
 -- Mendings of names one after another, broken off, and what they come to.
 use Rattle.std.proofs.Common.{refl}
-use Rattle.pack_model.specs.scavenger.Scavenging.{Keeps}
-use Rattle.pack_model.specs.states.Sound.{Clean}
-use Rattle.laws_record.proofs.Chaining.{at_end, broken_off, keeps_trans, kept_together, throughout_map}
-use Rattle.laws_room.proofs.marks.Laws.{unmarked_is_unclean}
+use Rattle.laws_mend.specs.pack_model.specs.scavenger.Scavenging.{Keeps}
+use Rattle.laws_mend.specs.pack_model.specs.states.Sound.{Clean}
+use Rattle.laws_mend.specs.laws_record.proofs.Chaining.{at_end, broken_off, keeps_trans, kept_together, throughout_map}
+use Rattle.laws_mend.specs.laws_room.proofs.marks.Laws.{unmarked_is_unclean}
 use Rattle.laws_mend.specs.Tending.{Tends}
 use Rattle.laws_names.specs.JoinLaws.{KeepsOpenBreaksOff, KeepsOpenEnds, KeepsOpenJoin, KeepsOpenOn, NothingKeepsOpen, OneKeepsOpen, TendingKeepsOpen}
 use Rattle.laws_names.specs.Keeping.{KeepsOpen}

@@ -2,32 +2,32 @@
 use Rattle.std.proofs.Common.{◌∙◌, ◌≡◌, Bool, List, None, Option, Some, ap, cond, false, not, refl, subst, sym, true, ℕ}
 use Rattle.std.specs.FinMap.{get, get-insert, insert, same_map}
 use Rattle.std.specs.Option.{is_some, option_map}
-use Rattle.alto_words.specs.Fid.{disk_descriptor, is_directory, is_fid, sys_dir}
-use Rattle.alto_words.specs.declared.fid.Fid.{Fid}
-use Rattle.disk_records.specs.Packs.{Pack}
-use Rattle.pack_model.specs.hints.Links.{dir_words}
-use Rattle.pack_model.specs.reading.Bodies.{Body, File, Files, body_items, described, found, is_described, items_in}
-use Rattle.pack_model.specs.reading.Bodies.Body.{data_of, items_of}
-use Rattle.pack_model.specs.reading.Bytes.{words_of}
-use Rattle.pack_model.specs.reading.Files.{file_bytes, leader, lives}
-use Rattle.pack_model.specs.reading.Leaders.{Leader}
-use Rattle.pack_model.specs.reading.Model.{descriptor_words, dir_items, good_sectors, last_serial, read_as, read_sights}
-use Rattle.pack_model.specs.reading.Namings.{IsTidy, Naming, body_kept, is_kept, tidied}
-use Rattle.pack_model.specs.reading.Sights.{sights}
-use Rattle.pack_model.specs.reading.Slots.{Item, slots}
-use Rattle.pack_model.specs.scavenger.Mended.{mended, root_body, root_file, rooted}
-use Rattle.pack_model.specs.scavenger.Reports.{PagesMended}
-use Rattle.pack_model.specs.showing.View.{seen_of}
-use Rattle.pack_laws.proofs.Keys.{fid_same, fid_total, same_fid}
-use Rattle.laws_record.proofs.DirReads.{has_leader}
-use Rattle.laws_record.proofs.Keeping.{get-where}
-use Rattle.laws_record.proofs.LeaderSteps.{body_left, tidied_file}
-use Rattle.laws_record.proofs.Mending.{get-seen, mended_view}
-use Rattle.laws_record.proofs.Reading.{get-found, get_by, read_file}
-use Rattle.laws_record.proofs.Systemic.{described_get, mended_files}
-use Rattle.laws_operation.proofs.entries.Laws.{items_are_slots, read_entries_are_kept}
-use Rattle.laws_room.proofs.SystemFiles.{alive, here, leader_shown, lacking_read, mended_is, names_read, root}
-use Rattle.laws_room.specs.NextLaws.{mended_pack}
+use Rattle.laws_mend.specs.alto_words.specs.Fid.{disk_descriptor, is_directory, is_fid, sys_dir}
+use Rattle.laws_mend.specs.alto_words.specs.declared.fid.Fid.{Fid}
+use Rattle.laws_mend.specs.disk_records.specs.Packs.{Pack}
+use Rattle.laws_mend.specs.pack_model.specs.hints.Links.{dir_words}
+use Rattle.laws_mend.specs.pack_model.specs.reading.Bodies.{Body, File, Files, body_items, described, found, is_described, items_in}
+use Rattle.laws_mend.specs.pack_model.specs.reading.Bodies.Body.{data_of, items_of}
+use Rattle.laws_mend.specs.pack_model.specs.reading.Bytes.{words_of}
+use Rattle.laws_mend.specs.pack_model.specs.reading.Files.{file_bytes, leader, lives}
+use Rattle.laws_mend.specs.pack_model.specs.reading.Leaders.{Leader}
+use Rattle.laws_mend.specs.pack_model.specs.reading.Model.{descriptor_words, dir_items, good_sectors, last_serial, read_as, read_sights}
+use Rattle.laws_mend.specs.pack_model.specs.reading.Namings.{IsTidy, Naming, body_kept, is_kept, tidied}
+use Rattle.laws_mend.specs.pack_model.specs.reading.Sights.{sights}
+use Rattle.laws_mend.specs.pack_model.specs.reading.Slots.{Item, slots}
+use Rattle.laws_mend.specs.pack_model.specs.scavenger.Mended.{mended, root_body, root_file, rooted}
+use Rattle.laws_mend.specs.pack_model.specs.scavenger.Reports.{PagesMended}
+use Rattle.laws_mend.specs.pack_model.specs.showing.View.{seen_of}
+use Rattle.laws_mend.specs.pack_laws.proofs.Keys.{fid_same, fid_total, same_fid}
+use Rattle.laws_mend.specs.laws_record.proofs.DirReads.{has_leader}
+use Rattle.laws_mend.specs.laws_record.proofs.Keeping.{get-where}
+use Rattle.laws_mend.specs.laws_record.proofs.LeaderSteps.{body_left, tidied_file}
+use Rattle.laws_mend.specs.laws_record.proofs.Mending.{get-seen, mended_view}
+use Rattle.laws_mend.specs.laws_record.proofs.Reading.{get-found, get_by, read_file}
+use Rattle.laws_mend.specs.laws_record.proofs.Systemic.{described_get, mended_files}
+use Rattle.laws_mend.specs.laws_operation.proofs.entries.Laws.{items_are_slots, read_entries_are_kept}
+use Rattle.laws_mend.specs.laws_room.proofs.SystemFiles.{alive, here, leader_shown, lacking_read, mended_is, names_read, root}
+use Rattle.laws_mend.specs.laws_room.specs.NextLaws.{mended_pack}
 use Rattle.laws_names.specs.ModelLaws.{AllKeptIsTidy, MendedIsRead, MendedLives, TidyMendedIsRead}
 
 -- ---- what is read

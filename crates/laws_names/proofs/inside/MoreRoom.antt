@@ -1,27 +1,27 @@
 -- A page more for SysDir, where the next entry has no room.
 use Rattle.std.proofs.Common.{◌<◌, ◌∙◌, ◌∷◌, ◌≡◌, List, None, ap, arith, false, refl, suc, sym, true, ℕ, cond, inl, inr, length, zero, Some}
 use Rattle.std.proofs.lemmas.Bool.{cases_eq}
-use Rattle.alto_words.specs.Fid.{sys_dir}
-use Rattle.alto_words.specs.declared.fid.Fid.{Fid}
-use Rattle.disk_records.specs.Labels.{is_free, tag}
-use Rattle.disk_records.specs.Packs.{Pack, after, is_free_at, is_usable, sector_at}
-use Rattle.disk_records.specs.declared.records.Sector.{Sector}
-use Rattle.pack_model.specs.hints.Links.{dir_words}
-use Rattle.pack_model.specs.operations.Rooms.{find_room, placed}
-use Rattle.pack_model.specs.reading.Files.{place}
-use Rattle.pack_model.specs.reading.Sights.{page_sight, sights}
-use Rattle.pack_model.specs.reading.Model.{root_items}
-use Rattle.pack_model.specs.reading.Slots.{Item, slots, entry_length}
-use Rattle.pack_model.specs.reading.Slots.Item.{entry, space}
-use Rattle.pack_model.specs.scavenger.Mended.{lacking, on_room, widens, with_page}
-use Rattle.pack_model.specs.scavenger.Needed.{needed}
-use Rattle.pack_model.specs.states.InUse.{is_free_sight}
-use Rattle.laws_record.proofs.slots.Laws.{found_is_placed}
-use Rattle.laws_record.proofs.Copying.{place_carried}
-use Rattle.laws_record.proofs.Recording.{carried_sight}
-use Rattle.laws_room.proofs.Found.{found_shown}
-use Rattle.laws_room.proofs.Standing.{page_places}
-use Rattle.laws_room.specs.NextLaws.{mended_pack}
+use Rattle.laws_mend.specs.alto_words.specs.Fid.{sys_dir}
+use Rattle.laws_mend.specs.alto_words.specs.declared.fid.Fid.{Fid}
+use Rattle.laws_mend.specs.disk_records.specs.Labels.{is_free, tag}
+use Rattle.laws_mend.specs.disk_records.specs.Packs.{Pack, after, is_free_at, is_usable, sector_at}
+use Rattle.laws_mend.specs.disk_records.specs.declared.records.Sector.{Sector}
+use Rattle.laws_mend.specs.pack_model.specs.hints.Links.{dir_words}
+use Rattle.laws_mend.specs.pack_model.specs.operations.Rooms.{find_room, placed}
+use Rattle.laws_mend.specs.pack_model.specs.reading.Files.{place}
+use Rattle.laws_mend.specs.pack_model.specs.reading.Sights.{page_sight, sights}
+use Rattle.laws_mend.specs.pack_model.specs.reading.Model.{root_items}
+use Rattle.laws_mend.specs.pack_model.specs.reading.Slots.{Item, slots, entry_length}
+use Rattle.laws_mend.specs.pack_model.specs.reading.Slots.Item.{entry, space}
+use Rattle.laws_mend.specs.pack_model.specs.scavenger.Mended.{lacking, on_room, widens, with_page}
+use Rattle.laws_mend.specs.pack_model.specs.scavenger.Needed.{needed}
+use Rattle.laws_mend.specs.pack_model.specs.states.InUse.{is_free_sight}
+use Rattle.laws_mend.specs.laws_record.proofs.slots.Laws.{found_is_placed}
+use Rattle.laws_mend.specs.laws_record.proofs.Copying.{place_carried}
+use Rattle.laws_mend.specs.laws_record.proofs.Recording.{carried_sight}
+use Rattle.laws_mend.specs.laws_room.proofs.Found.{found_shown}
+use Rattle.laws_mend.specs.laws_room.proofs.Standing.{page_places}
+use Rattle.laws_mend.specs.laws_room.specs.NextLaws.{mended_pack}
 use Rattle.laws_mend.proofs.numbers.Laws.{needed_is_free}
 use Rattle.laws_mend.proofs.widening.Laws.{root_widening_tends, widening_keeps_pages}
 use Rattle.laws_mend.specs.WidenLaws.{last_number, widening_writes}

@@ -6,39 +6,39 @@ use Rattle.std.specs.FinMap.{entries, get, insert}
 use Rattle.std.specs.List.{list_any}
 use Rattle.std.specs.Option.{is_some}
 use Rattle.std.specs.Prelude.{Contains}
-use Rattle.alto_words.specs.Fid.{sys_dir}
-use Rattle.alto_words.specs.declared.fid.Fid.{Fid}
-use Rattle.disk_records.specs.Packs.{Pack}
-use Rattle.disk_records.specs.Words.{word}
-use Rattle.pack_model.specs.hints.Links.{IsTrueAddress, dir_words}
-use Rattle.pack_model.specs.operations.PageWords.{entered_words}
-use Rattle.pack_model.specs.operations.Rooms.{find_room, items_entered, left_over}
-use Rattle.pack_model.specs.reading.Bodies.{described}
-use Rattle.pack_model.specs.reading.Bytes.{put_at, words_of}
-use Rattle.pack_model.specs.reading.Files.{lives}
-use Rattle.pack_model.specs.reading.Model.{dir_items}
-use Rattle.pack_model.specs.reading.Namings.{IsTidy, clashes, may_stand, namings}
-use Rattle.pack_model.specs.reading.Sights.{sights}
-use Rattle.pack_model.specs.reading.SlotWords.{SlotAt, address_word, slots_at}
-use Rattle.pack_model.specs.reading.Slots.{Item, all_words, entry_length, slots}
-use Rattle.pack_model.specs.reading.Slots.Item.{entry, space}
-use Rattle.pack_model.specs.scavenger.Reports.{PagesMended}
-use Rattle.pack_model.specs.states.Whole.{Tidy}
-use Rattle.laws_record.proofs.DirReads.{dir_files, dir_lives, dir_was, has_leader}
-use Rattle.laws_record.proofs.DirWords.{dir_change}
-use Rattle.laws_record.proofs.Entered.{directory}
-use Rattle.laws_record.proofs.EnterSlots.{slots_entered}
-use Rattle.laws_record.proofs.SystemEntries.{left_words}
-use Rattle.laws_record.specs.DirLaws.{Enters, entered}
-use Rattle.laws_lookup.specs.OwnLaws.{ReplacesSlots}
-use Rattle.laws_operation.proofs.enter.Laws.{entry_words_fit}
-use Rattle.laws_operation.proofs.EntryKept.{entry_tidy}
-use Rattle.laws_operation.proofs.EntryWrite.{enters_of, put_drop, read_files}
-use Rattle.laws_operation.proofs.places.Laws.{file_lives_in_a_place}
-use Rattle.laws_operation.proofs.Rejoining.{entered_there}
-use Rattle.laws_room.proofs.entering.Laws.{next_entry_keeps}
-use Rattle.laws_room.specs.KeepLaws.{KeepsAside}
-use Rattle.laws_room.specs.NextLaws.{Lacking, LackingNext, mended_pack}
+use Rattle.laws_mend.specs.alto_words.specs.Fid.{sys_dir}
+use Rattle.laws_mend.specs.alto_words.specs.declared.fid.Fid.{Fid}
+use Rattle.laws_mend.specs.disk_records.specs.Packs.{Pack}
+use Rattle.laws_mend.specs.disk_records.specs.Words.{word}
+use Rattle.laws_mend.specs.pack_model.specs.hints.Links.{IsTrueAddress, dir_words}
+use Rattle.laws_mend.specs.pack_model.specs.operations.PageWords.{entered_words}
+use Rattle.laws_mend.specs.pack_model.specs.operations.Rooms.{find_room, items_entered, left_over}
+use Rattle.laws_mend.specs.pack_model.specs.reading.Bodies.{described}
+use Rattle.laws_mend.specs.pack_model.specs.reading.Bytes.{put_at, words_of}
+use Rattle.laws_mend.specs.pack_model.specs.reading.Files.{lives}
+use Rattle.laws_mend.specs.pack_model.specs.reading.Model.{dir_items}
+use Rattle.laws_mend.specs.pack_model.specs.reading.Namings.{IsTidy, clashes, may_stand, namings}
+use Rattle.laws_mend.specs.pack_model.specs.reading.Sights.{sights}
+use Rattle.laws_mend.specs.pack_model.specs.reading.SlotWords.{SlotAt, address_word, slots_at}
+use Rattle.laws_mend.specs.pack_model.specs.reading.Slots.{Item, all_words, entry_length, slots}
+use Rattle.laws_mend.specs.pack_model.specs.reading.Slots.Item.{entry, space}
+use Rattle.laws_mend.specs.pack_model.specs.scavenger.Reports.{PagesMended}
+use Rattle.laws_mend.specs.pack_model.specs.states.Whole.{Tidy}
+use Rattle.laws_mend.specs.laws_record.proofs.DirReads.{dir_files, dir_lives, dir_was, has_leader}
+use Rattle.laws_mend.specs.laws_record.proofs.DirWords.{dir_change}
+use Rattle.laws_mend.specs.laws_record.proofs.Entered.{directory}
+use Rattle.laws_mend.specs.laws_record.proofs.EnterSlots.{slots_entered}
+use Rattle.laws_mend.specs.laws_record.proofs.SystemEntries.{left_words}
+use Rattle.laws_mend.specs.laws_record.specs.DirLaws.{Enters, entered}
+use Rattle.laws_mend.specs.laws_lookup.specs.OwnLaws.{ReplacesSlots}
+use Rattle.laws_mend.specs.laws_operation.proofs.enter.Laws.{entry_words_fit}
+use Rattle.laws_mend.specs.laws_operation.proofs.EntryKept.{entry_tidy}
+use Rattle.laws_mend.specs.laws_operation.proofs.EntryWrite.{enters_of, put_drop, read_files}
+use Rattle.laws_mend.specs.laws_operation.proofs.places.Laws.{file_lives_in_a_place}
+use Rattle.laws_mend.specs.laws_operation.proofs.Rejoining.{entered_there}
+use Rattle.laws_mend.specs.laws_room.proofs.entering.Laws.{next_entry_keeps}
+use Rattle.laws_mend.specs.laws_room.specs.KeepLaws.{KeepsAside}
+use Rattle.laws_mend.specs.laws_room.specs.NextLaws.{Lacking, LackingNext, mended_pack}
 use Rattle.laws_mend.proofs.slots.Laws.{enters_replaces_slots}
 use Rattle.laws_names.proofs.inside.Freed.{as_many}
 use Rattle.laws_names.proofs.inside.Models.{mended_is_read, tidy_mended_is_read}

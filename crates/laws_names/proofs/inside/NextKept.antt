@@ -3,31 +3,31 @@ use Rattle.std.proofs.Common.{◌&&◌, ◌++◌, ◌||◌, ◌∙◌, ◌∷◌
 use Rattle.std.specs.FinMap.{entries, find, get, get-entries, get-from_entries}
 use Rattle.std.specs.List.{list_any}
 use Rattle.std.specs.Option.{is_some, option_map}
-use Rattle.alto_words.specs.Fid.{disk_descriptor, fid_cmp, is_directory, is_fid, is_system, sys_dir}
-use Rattle.alto_words.specs.Names.{is_same_name}
-use Rattle.alto_words.specs.declared.fid.Fid.{Fid}
-use Rattle.disk_records.specs.Packs.{Pack}
-use Rattle.pack_model.specs.reading.Bodies.{File}
-use Rattle.pack_model.specs.reading.Files.{lives}
-use Rattle.pack_model.specs.reading.Model.{Model, is_named, read_as}
-use Rattle.pack_model.specs.reading.Namings.{AllKept, Naming, alike, clashes, descriptor_name, fits, is_kept, is_own, keeps_system, may_stand, namings, sys_dir_name}
-use Rattle.pack_model.specs.reading.Sights.{sights}
-use Rattle.pack_model.specs.scavenger.Mended.{lacking, with_system}
-use Rattle.pack_model.specs.scavenger.Reports.{PagesMended}
-use Rattle.pack_model.specs.sessions.Maps.{map_values}
-use Rattle.pack_model.specs.showing.Settling.{given_names, is_taken, unless}
-use Rattle.pack_model.specs.showing.View.{Home, Seen, homes, names_of, seen_of, view}
-use Rattle.pack_laws.proofs.Keys.{fid_same, fid_total, is_fid-itself, is_fid-sym}
-use Rattle.pack_laws.proofs.Mapping.{get-map_values}
-use Rattle.laws_record.proofs.Beside.{any_second}
-use Rattle.laws_record.proofs.Fitting.{fits_own, fits_root, same_sym, same_trans}
-use Rattle.laws_record.proofs.Heads.{and_left, and_right}
-use Rattle.laws_record.proofs.Keeping.{get-where}
-use Rattle.laws_record.proofs.Tidying.{onto, or_false, or_false_left, or_false_right, split_kept}
-use Rattle.laws_operation.proofs.entries.Laws.{read_entries_are_kept}
-use Rattle.laws_room.proofs.NextLacking.{first_given, shown_ordinary}
-use Rattle.laws_room.proofs.SoundPacks.{model_lives, named_find}
-use Rattle.laws_room.specs.NextLaws.{MayBeEntered}
+use Rattle.laws_mend.specs.alto_words.specs.Fid.{disk_descriptor, fid_cmp, is_directory, is_fid, is_system, sys_dir}
+use Rattle.laws_mend.specs.alto_words.specs.Names.{is_same_name}
+use Rattle.laws_mend.specs.alto_words.specs.declared.fid.Fid.{Fid}
+use Rattle.laws_mend.specs.disk_records.specs.Packs.{Pack}
+use Rattle.laws_mend.specs.pack_model.specs.reading.Bodies.{File}
+use Rattle.laws_mend.specs.pack_model.specs.reading.Files.{lives}
+use Rattle.laws_mend.specs.pack_model.specs.reading.Model.{Model, is_named, read_as}
+use Rattle.laws_mend.specs.pack_model.specs.reading.Namings.{AllKept, Naming, alike, clashes, descriptor_name, fits, is_kept, is_own, keeps_system, may_stand, namings, sys_dir_name}
+use Rattle.laws_mend.specs.pack_model.specs.reading.Sights.{sights}
+use Rattle.laws_mend.specs.pack_model.specs.scavenger.Mended.{lacking, with_system}
+use Rattle.laws_mend.specs.pack_model.specs.scavenger.Reports.{PagesMended}
+use Rattle.laws_mend.specs.pack_model.specs.sessions.Maps.{map_values}
+use Rattle.laws_mend.specs.pack_model.specs.showing.Settling.{given_names, is_taken, unless}
+use Rattle.laws_mend.specs.pack_model.specs.showing.View.{Home, Seen, homes, names_of, seen_of, view}
+use Rattle.laws_mend.specs.pack_laws.proofs.Keys.{fid_same, fid_total, is_fid-itself, is_fid-sym}
+use Rattle.laws_mend.specs.pack_laws.proofs.Mapping.{get-map_values}
+use Rattle.laws_mend.specs.laws_record.proofs.Beside.{any_second}
+use Rattle.laws_mend.specs.laws_record.proofs.Fitting.{fits_own, fits_root, same_sym, same_trans}
+use Rattle.laws_mend.specs.laws_record.proofs.Heads.{and_left, and_right}
+use Rattle.laws_mend.specs.laws_record.proofs.Keeping.{get-where}
+use Rattle.laws_mend.specs.laws_record.proofs.Tidying.{onto, or_false, or_false_left, or_false_right, split_kept}
+use Rattle.laws_mend.specs.laws_operation.proofs.entries.Laws.{read_entries_are_kept}
+use Rattle.laws_mend.specs.laws_room.proofs.NextLacking.{first_given, shown_ordinary}
+use Rattle.laws_mend.specs.laws_room.proofs.SoundPacks.{model_lives, named_find}
+use Rattle.laws_mend.specs.laws_room.specs.NextLaws.{MayBeEntered}
 use Rattle.laws_names.proofs.inside.Choosing.{chosen_is_free}
 use Rattle.laws_names.proofs.inside.FewNames.{few_names}
 use Rattle.laws_names.proofs.inside.Models.{mended_is_read}

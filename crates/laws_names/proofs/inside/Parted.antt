@@ -1,8 +1,8 @@
 -- Packs whose pages are mended have all parts.
 use Rattle.std.proofs.Common.{◌∙◌, ◌≡◌, ap, false, inl, inr, sym, true}
-use Rattle.pack_model.specs.reading.Sights.{sights}
-use Rattle.pack_model.specs.reading.Sights.Sight.{free, stray}
-use Rattle.pack_model.specs.states.InUse.{in_use, is_good}
+use Rattle.laws_mend.specs.pack_model.specs.reading.Sights.{sights}
+use Rattle.laws_mend.specs.pack_model.specs.reading.Sights.Sight.{free, stray}
+use Rattle.laws_mend.specs.pack_model.specs.states.InUse.{in_use, is_good}
 use Rattle.laws_names.specs.PartLaws.{MendedHasParts}
 
 pub mended_has_parts : MendedHasParts

@@ -5,44 +5,44 @@ use Rattle.std.proofs.lemmas.List.Elements.{Contains-append_right}
 use Rattle.std.specs.FinMap.{entries}
 use Rattle.std.specs.Option.{is_some, unwrap_or}
 use Rattle.std.specs.Prelude.{Contains}
-use Rattle.alto_words.specs.Fid.{is_directory, sys_dir}
-use Rattle.alto_words.specs.declared.fid.Fid.{Fid}
-use Rattle.disk_records.specs.Packs.{Pack}
-use Rattle.disk_records.specs.Words.{word}
-use Rattle.pack_model.specs.hints.Links.{dir_words}
-use Rattle.pack_model.specs.operations.Rooms.{items_entered, left_over, placed, run}
-use Rattle.pack_model.specs.reading.Bodies.{described}
-use Rattle.pack_model.specs.reading.Bytes.{put_at, words_of}
-use Rattle.pack_model.specs.reading.Files.{lives, place}
-use Rattle.pack_model.specs.reading.Model.{root_items}
-use Rattle.pack_model.specs.reading.Namings.{AllKept, IsTidy, is_kept, namings, namings_in}
-use Rattle.pack_model.specs.reading.Sights.{sights}
-use Rattle.pack_model.specs.reading.SlotWords.{slots_at}
-use Rattle.pack_model.specs.reading.Slots.{Item, all_words, entry_length, item_words, slots}
-use Rattle.pack_model.specs.reading.Slots.Item.{entry, space}
-use Rattle.pack_model.specs.scavenger.Reports.{PagesMended}
-use Rattle.pack_model.specs.states.Whole.{Tidy}
-use Rattle.laws_record.proofs.Addressing.{entry_words_many}
-use Rattle.laws_record.proofs.DirReads.{dir_files, dir_lives, dir_was, has_leader}
-use Rattle.laws_record.proofs.DirWords.{DirChange, dir_change}
-use Rattle.laws_record.proofs.Entered.{namings_in-append}
-use Rattle.laws_record.proofs.Heads.{all_within}
-use Rattle.laws_record.proofs.Roomy.{run_enough, run_one}
-use Rattle.laws_record.proofs.slots.Laws.{found_is_placed}
-use Rattle.laws_record.proofs.Slotwise.{put_after, put_before, words-append}
-use Rattle.laws_record.specs.DirLaws.{Frees, dir_written, freed}
-use Rattle.laws_record.specs.DirLaws.IsLooseWord.{in_space}
-use Rattle.laws_lookup.proofs.own.Laws.{freeing_replaces_slots}
-use Rattle.laws_lookup.proofs.Replacing.{split_at}
-use Rattle.laws_lookup.specs.OwnLaws.{ReplacesSlots}
-use Rattle.laws_operation.proofs.Concerning.{run_bare}
-use Rattle.laws_operation.proofs.EnterMoves.{first_slot}
-use Rattle.laws_operation.proofs.OneDirectory.{slots_namings}
-use Rattle.laws_operation.proofs.Rejoining.{Parted, enough_words, entered_there, parted, room_again}
-use Rattle.laws_operation.specs.NameLaws.{IsRoom}
-use Rattle.laws_room.proofs.entering.Laws.{free_slots_made_one_keeps}
-use Rattle.laws_room.proofs.SystemFiles.{leader_shown}
-use Rattle.laws_room.specs.NextLaws.{LackingNext, mended_pack}
+use Rattle.laws_mend.specs.alto_words.specs.Fid.{is_directory, sys_dir}
+use Rattle.laws_mend.specs.alto_words.specs.declared.fid.Fid.{Fid}
+use Rattle.laws_mend.specs.disk_records.specs.Packs.{Pack}
+use Rattle.laws_mend.specs.disk_records.specs.Words.{word}
+use Rattle.laws_mend.specs.pack_model.specs.hints.Links.{dir_words}
+use Rattle.laws_mend.specs.pack_model.specs.operations.Rooms.{items_entered, left_over, placed, run}
+use Rattle.laws_mend.specs.pack_model.specs.reading.Bodies.{described}
+use Rattle.laws_mend.specs.pack_model.specs.reading.Bytes.{put_at, words_of}
+use Rattle.laws_mend.specs.pack_model.specs.reading.Files.{lives, place}
+use Rattle.laws_mend.specs.pack_model.specs.reading.Model.{root_items}
+use Rattle.laws_mend.specs.pack_model.specs.reading.Namings.{AllKept, IsTidy, is_kept, namings, namings_in}
+use Rattle.laws_mend.specs.pack_model.specs.reading.Sights.{sights}
+use Rattle.laws_mend.specs.pack_model.specs.reading.SlotWords.{slots_at}
+use Rattle.laws_mend.specs.pack_model.specs.reading.Slots.{Item, all_words, entry_length, item_words, slots}
+use Rattle.laws_mend.specs.pack_model.specs.reading.Slots.Item.{entry, space}
+use Rattle.laws_mend.specs.pack_model.specs.scavenger.Reports.{PagesMended}
+use Rattle.laws_mend.specs.pack_model.specs.states.Whole.{Tidy}
+use Rattle.laws_mend.specs.laws_record.proofs.Addressing.{entry_words_many}
+use Rattle.laws_mend.specs.laws_record.proofs.DirReads.{dir_files, dir_lives, dir_was, has_leader}
+use Rattle.laws_mend.specs.laws_record.proofs.DirWords.{DirChange, dir_change}
+use Rattle.laws_mend.specs.laws_record.proofs.Entered.{namings_in-append}
+use Rattle.laws_mend.specs.laws_record.proofs.Heads.{all_within}
+use Rattle.laws_mend.specs.laws_record.proofs.Roomy.{run_enough, run_one}
+use Rattle.laws_mend.specs.laws_record.proofs.slots.Laws.{found_is_placed}
+use Rattle.laws_mend.specs.laws_record.proofs.Slotwise.{put_after, put_before, words-append}
+use Rattle.laws_mend.specs.laws_record.specs.DirLaws.{Frees, dir_written, freed}
+use Rattle.laws_mend.specs.laws_record.specs.DirLaws.IsLooseWord.{in_space}
+use Rattle.laws_mend.specs.laws_lookup.proofs.own.Laws.{freeing_replaces_slots}
+use Rattle.laws_mend.specs.laws_lookup.proofs.Replacing.{split_at}
+use Rattle.laws_mend.specs.laws_lookup.specs.OwnLaws.{ReplacesSlots}
+use Rattle.laws_mend.specs.laws_operation.proofs.Concerning.{run_bare}
+use Rattle.laws_mend.specs.laws_operation.proofs.EnterMoves.{first_slot}
+use Rattle.laws_mend.specs.laws_operation.proofs.OneDirectory.{slots_namings}
+use Rattle.laws_mend.specs.laws_operation.proofs.Rejoining.{Parted, enough_words, entered_there, parted, room_again}
+use Rattle.laws_mend.specs.laws_operation.specs.NameLaws.{IsRoom}
+use Rattle.laws_mend.specs.laws_room.proofs.entering.Laws.{free_slots_made_one_keeps}
+use Rattle.laws_mend.specs.laws_room.proofs.SystemFiles.{leader_shown}
+use Rattle.laws_mend.specs.laws_room.specs.NextLaws.{LackingNext, mended_pack}
 use Rattle.laws_names.proofs.inside.Freed.{as_many, loose_words_leave}
 use Rattle.laws_names.proofs.inside.Models.{tidy_mended_is_read}
 use Rattle.laws_names.proofs.inside.Staying.{free_is_true, new_slots_keep_entries}

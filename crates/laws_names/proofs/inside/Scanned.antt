@@ -5,33 +5,33 @@ use Rattle.std.specs.FinMap.{entries, entries_sorted, find, get, get-entries, is
 use Rattle.std.specs.FinMap.Entries.{below_all, where_key}
 use Rattle.std.specs.Option.{option_map}
 use Rattle.std.specs.Ordering.{is_eq, is_lt}
-use Rattle.alto_words.specs.Fid.{disk_descriptor, fid_cmp, is_directory, is_fid}
-use Rattle.alto_words.specs.declared.fid.Fid.{Fid}
-use Rattle.disk_records.specs.Packs.{Pack}
-use Rattle.pack_model.specs.hints.Links.{dir_words}
-use Rattle.pack_model.specs.reading.Bodies.{File, described, file_of, found, is_described, items_in}
-use Rattle.pack_model.specs.reading.Bodies.Body.{data_of, items_of}
-use Rattle.pack_model.specs.reading.Bytes.{words_of}
-use Rattle.pack_model.specs.reading.Files.{file_bytes, leader, lives}
-use Rattle.pack_model.specs.reading.Leaders.{Leader}
-use Rattle.pack_model.specs.reading.Model.{read_sights}
-use Rattle.pack_model.specs.reading.Namings.{Naming, is_kept, item_kept, items_kept, kept_after, kept_after_body, kept_by}
-use Rattle.pack_model.specs.reading.Sights.{sights}
-use Rattle.pack_model.specs.reading.Slots.{slots}
-use Rattle.pack_model.specs.reading.Slots.Item.{entry}
-use Rattle.pack_model.specs.reading.Stored.{StoredFile, files_shown}
-use Rattle.pack_model.specs.sessions.Maps.{map_entries}
-use Rattle.pack_laws.proofs.ByLists.{entries-retain_keys}
-use Rattle.pack_laws.proofs.Keys.{fid_same, fid_total, is_fid-itself, same_fid}
-use Rattle.pack_laws.proofs.Mapping.{entries-map_values}
-use Rattle.laws_record.proofs.Around.{around, first_part, is_less, second_part}
-use Rattle.laws_record.proofs.DirReads.{not_descriptor}
-use Rattle.laws_record.proofs.Entered.{directory}
-use Rattle.laws_record.proofs.EnterScan.{items_kept-append, length-items_kept}
-use Rattle.laws_record.proofs.Reading.{get-found, get_by, read_file}
-use Rattle.laws_record.proofs.Scanned.{kept_before, none_in_front, tidied_items}
-use Rattle.laws_record.proofs.Systemic.{described_get}
-use Rattle.laws_record.proofs.Unkept.{after_files}
+use Rattle.laws_mend.specs.alto_words.specs.Fid.{disk_descriptor, fid_cmp, is_directory, is_fid}
+use Rattle.laws_mend.specs.alto_words.specs.declared.fid.Fid.{Fid}
+use Rattle.laws_mend.specs.disk_records.specs.Packs.{Pack}
+use Rattle.laws_mend.specs.pack_model.specs.hints.Links.{dir_words}
+use Rattle.laws_mend.specs.pack_model.specs.reading.Bodies.{File, described, file_of, found, is_described, items_in}
+use Rattle.laws_mend.specs.pack_model.specs.reading.Bodies.Body.{data_of, items_of}
+use Rattle.laws_mend.specs.pack_model.specs.reading.Bytes.{words_of}
+use Rattle.laws_mend.specs.pack_model.specs.reading.Files.{file_bytes, leader, lives}
+use Rattle.laws_mend.specs.pack_model.specs.reading.Leaders.{Leader}
+use Rattle.laws_mend.specs.pack_model.specs.reading.Model.{read_sights}
+use Rattle.laws_mend.specs.pack_model.specs.reading.Namings.{Naming, is_kept, item_kept, items_kept, kept_after, kept_after_body, kept_by}
+use Rattle.laws_mend.specs.pack_model.specs.reading.Sights.{sights}
+use Rattle.laws_mend.specs.pack_model.specs.reading.Slots.{slots}
+use Rattle.laws_mend.specs.pack_model.specs.reading.Slots.Item.{entry}
+use Rattle.laws_mend.specs.pack_model.specs.reading.Stored.{StoredFile, files_shown}
+use Rattle.laws_mend.specs.pack_model.specs.sessions.Maps.{map_entries}
+use Rattle.laws_mend.specs.pack_laws.proofs.ByLists.{entries-retain_keys}
+use Rattle.laws_mend.specs.pack_laws.proofs.Keys.{fid_same, fid_total, is_fid-itself, same_fid}
+use Rattle.laws_mend.specs.pack_laws.proofs.Mapping.{entries-map_values}
+use Rattle.laws_mend.specs.laws_record.proofs.Around.{around, first_part, is_less, second_part}
+use Rattle.laws_mend.specs.laws_record.proofs.DirReads.{not_descriptor}
+use Rattle.laws_mend.specs.laws_record.proofs.Entered.{directory}
+use Rattle.laws_mend.specs.laws_record.proofs.EnterScan.{items_kept-append, length-items_kept}
+use Rattle.laws_mend.specs.laws_record.proofs.Reading.{get-found, get_by, read_file}
+use Rattle.laws_mend.specs.laws_record.proofs.Scanned.{kept_before, none_in_front, tidied_items}
+use Rattle.laws_mend.specs.laws_record.proofs.Systemic.{described_get}
+use Rattle.laws_mend.specs.laws_record.proofs.Unkept.{after_files}
 use Rattle.laws_names.proofs.inside.Models.{mended_is_read}
 use Rattle.laws_names.specs.ModelLaws.{MendedSlot, MendedSlots, kept_past}
 

@@ -3,19 +3,19 @@ use Rattle.std.proofs.Common.{◌∙◌, ◌∷◌, ◌≡◌, ◌⊎◌, Bool, 
 use Rattle.std.proofs.lemmas.List.Elements.{Contains-push_cases}
 use Rattle.std.specs.Option.{is_some}
 use Rattle.std.specs.Prelude.{Contains}
-use Rattle.alto_words.specs.Fid.{is_fid}
-use Rattle.alto_words.specs.declared.fid.Fid.{Fid}
-use Rattle.disk_records.specs.Packs.{Pack}
-use Rattle.pack_model.specs.hints.Links.{IsTrueAddress, dir_slots, dir_words}
-use Rattle.pack_model.specs.reading.Bytes.{words_of}
-use Rattle.pack_model.specs.reading.Files.{lives, place}
-use Rattle.pack_model.specs.reading.Sights.{sights}
-use Rattle.pack_model.specs.reading.SlotWords.{SlotAt, slots_at}
-use Rattle.pack_model.specs.reading.Slots.{Item, all_words, slots}
-use Rattle.pack_model.specs.reading.Slots.Item.{entry, space}
-use Rattle.pack_laws.proofs.Keys.{same_fid}
-use Rattle.laws_lookup.proofs.Replacing.{no_entry, replacing_turns_round, still}
-use Rattle.laws_operation.proofs.places.Laws.{file_lives_in_a_place}
+use Rattle.laws_mend.specs.alto_words.specs.Fid.{is_fid}
+use Rattle.laws_mend.specs.alto_words.specs.declared.fid.Fid.{Fid}
+use Rattle.laws_mend.specs.disk_records.specs.Packs.{Pack}
+use Rattle.laws_mend.specs.pack_model.specs.hints.Links.{IsTrueAddress, dir_slots, dir_words}
+use Rattle.laws_mend.specs.pack_model.specs.reading.Bytes.{words_of}
+use Rattle.laws_mend.specs.pack_model.specs.reading.Files.{lives, place}
+use Rattle.laws_mend.specs.pack_model.specs.reading.Sights.{sights}
+use Rattle.laws_mend.specs.pack_model.specs.reading.SlotWords.{SlotAt, slots_at}
+use Rattle.laws_mend.specs.pack_model.specs.reading.Slots.{Item, all_words, slots}
+use Rattle.laws_mend.specs.pack_model.specs.reading.Slots.Item.{entry, space}
+use Rattle.laws_mend.specs.pack_laws.proofs.Keys.{same_fid}
+use Rattle.laws_mend.specs.laws_lookup.proofs.Replacing.{no_entry, replacing_turns_round, still}
+use Rattle.laws_mend.specs.laws_operation.proofs.places.Laws.{file_lives_in_a_place}
 use Rattle.laws_names.specs.EntriesLaws.{EntriesStay, EntriesStayOn, NewSlotsKeepEntries, NothingKeepsEntries, WideningKeepsEntries}
 
 -- ---- from pack to pack

@@ -4,28 +4,28 @@ use Rattle.std.specs.FinMap.{FinMap, contains_key, entries, find, get, get-entri
 use Rattle.std.specs.FinMap.Entries.{where_key}
 use Rattle.std.specs.List.{list_any}
 use Rattle.std.specs.Option.{is_some, option_map}
-use Rattle.alto_words.specs.Fid.{disk_descriptor, fid_cmp, is_fid, is_system, sys_dir}
-use Rattle.alto_words.specs.declared.fid.Fid.{Fid}
-use Rattle.disk_records.specs.Packs.{Pack}
-use Rattle.pack_model.specs.reading.Bodies.{described}
-use Rattle.pack_model.specs.reading.Files.{file_bytes, lives}
-use Rattle.pack_model.specs.reading.Model.{Model, is_named, read_as, read_sights}
-use Rattle.pack_model.specs.reading.Namings.{Naming, descriptor_name, namings, sys_dir_name, tidied}
-use Rattle.pack_model.specs.reading.Sights.{sights}
-use Rattle.pack_model.specs.scavenger.Mended.{lacking}
-use Rattle.pack_model.specs.sessions.Maps.{map_entries, map_values}
-use Rattle.pack_model.specs.showing.Settling.{adopted, chosen, given, given_names, unless}
-use Rattle.pack_model.specs.showing.View.{Home, Seen, homes, names_of, seen_of, view}
-use Rattle.pack_model.specs.states.InUse.{how_many, one_if}
-use Rattle.pack_laws.proofs.ByLists.{is_shown, seen_list}
-use Rattle.pack_laws.proofs.Keys.{fid_same, fid_total, is_fid-sym, same_fid}
-use Rattle.pack_laws.proofs.Mapping.{get-map_values}
-use Rattle.laws_record.proofs.DirReads.{has_leader}
-use Rattle.laws_record.proofs.Keeping.{get-where}
-use Rattle.laws_record.proofs.Mending.{get-seen}
-use Rattle.laws_record.proofs.Reading.{get_by, read_file}
-use Rattle.laws_record.proofs.Systemic.{described_get}
-use Rattle.laws_record.proofs.Tidying.{or_false_right}
+use Rattle.laws_mend.specs.alto_words.specs.Fid.{disk_descriptor, fid_cmp, is_fid, is_system, sys_dir}
+use Rattle.laws_mend.specs.alto_words.specs.declared.fid.Fid.{Fid}
+use Rattle.laws_mend.specs.disk_records.specs.Packs.{Pack}
+use Rattle.laws_mend.specs.pack_model.specs.reading.Bodies.{described}
+use Rattle.laws_mend.specs.pack_model.specs.reading.Files.{file_bytes, lives}
+use Rattle.laws_mend.specs.pack_model.specs.reading.Model.{Model, is_named, read_as, read_sights}
+use Rattle.laws_mend.specs.pack_model.specs.reading.Namings.{Naming, descriptor_name, namings, sys_dir_name, tidied}
+use Rattle.laws_mend.specs.pack_model.specs.reading.Sights.{sights}
+use Rattle.laws_mend.specs.pack_model.specs.scavenger.Mended.{lacking}
+use Rattle.laws_mend.specs.pack_model.specs.sessions.Maps.{map_entries, map_values}
+use Rattle.laws_mend.specs.pack_model.specs.showing.Settling.{adopted, chosen, given, given_names, unless}
+use Rattle.laws_mend.specs.pack_model.specs.showing.View.{Home, Seen, homes, names_of, seen_of, view}
+use Rattle.laws_mend.specs.pack_model.specs.states.InUse.{how_many, one_if}
+use Rattle.laws_mend.specs.pack_laws.proofs.ByLists.{is_shown, seen_list}
+use Rattle.laws_mend.specs.pack_laws.proofs.Keys.{fid_same, fid_total, is_fid-sym, same_fid}
+use Rattle.laws_mend.specs.pack_laws.proofs.Mapping.{get-map_values}
+use Rattle.laws_mend.specs.laws_record.proofs.DirReads.{has_leader}
+use Rattle.laws_mend.specs.laws_record.proofs.Keeping.{get-where}
+use Rattle.laws_mend.specs.laws_record.proofs.Mending.{get-seen}
+use Rattle.laws_mend.specs.laws_record.proofs.Reading.{get_by, read_file}
+use Rattle.laws_mend.specs.laws_record.proofs.Systemic.{described_get}
+use Rattle.laws_mend.specs.laws_record.proofs.Tidying.{or_false_right}
 use Rattle.laws_names.proofs.inside.Models.{mended_is_read}
 use Rattle.laws_names.specs.LackingLaws.{LackingAreAdopted, NoneLackingIsNamed}
 

@@ -3,31 +3,31 @@ use Rattle.std.proofs.Common.{◌*◌, ◌+◌, ◌/◌, ◌∙◌, ◌≡◌, �
 use Rattle.std.proofs.lemmas.Bool.{cases_eq}
 use Rattle.std.proofs.lemmas.List.{get_or-set_other, get_or-set_same}
 use Rattle.std.specs.Prelude.{nat_lt, ◌&&◌}
-use Rattle.alto_words.specs.Fid.{disk_descriptor, is_fid}
-use Rattle.alto_words.specs.declared.fid.Fid.{Fid}
-use Rattle.disk_records.specs.Addresses.{is_right_header}
-use Rattle.disk_records.specs.Packs.{Pack, carried, is_free_at, sector_at}
-use Rattle.disk_records.specs.declared.records.Page.{Page}
-use Rattle.pack_model.specs.hints.Links.{dir_words}
-use Rattle.pack_model.specs.operations.PageWords.{in_page}
-use Rattle.pack_model.specs.reading.Bytes.{put_at}
-use Rattle.pack_model.specs.reading.Sights.{sights}
-use Rattle.pack_model.specs.reading.Sights.Sight.{hidden, holds}
-use Rattle.pack_model.specs.reading.Slots.{all_words, slots}
-use Rattle.pack_model.specs.scavenger.Reports.{PagesMended}
-use Rattle.pack_model.specs.scavenger.Scavenging.{Keeps, Unmarked}
-use Rattle.pack_model.specs.states.InUse.{is_free_sight}
-use Rattle.pack_laws.proofs.files.Laws.{places_are_lowest}
-use Rattle.pack_laws.proofs.Guarding.{front_from, value_page}
-use Rattle.laws_record.proofs.Copying.{place_carried}
-use Rattle.laws_record.proofs.DirReads.{not_descriptor}
-use Rattle.laws_record.proofs.DirWords.{dir_change, new_bytes, page_by_bytes, written_sights}
-use Rattle.laws_record.specs.DirLaws.{DirWrite, dir_written}
-use Rattle.laws_room.proofs.Found.{found_shown}
-use Rattle.laws_room.proofs.marks.Laws.{unmarked_stays}
-use Rattle.laws_room.specs.KeepLaws.{RootMay}
-use Rattle.laws_room.specs.KeepLaws.RootMay.{as_before}
-use Rattle.laws_room.specs.MarkLaws.{mark_page}
+use Rattle.laws_mend.specs.alto_words.specs.Fid.{disk_descriptor, is_fid}
+use Rattle.laws_mend.specs.alto_words.specs.declared.fid.Fid.{Fid}
+use Rattle.laws_mend.specs.disk_records.specs.Addresses.{is_right_header}
+use Rattle.laws_mend.specs.disk_records.specs.Packs.{Pack, carried, is_free_at, sector_at}
+use Rattle.laws_mend.specs.disk_records.specs.declared.records.Page.{Page}
+use Rattle.laws_mend.specs.pack_model.specs.hints.Links.{dir_words}
+use Rattle.laws_mend.specs.pack_model.specs.operations.PageWords.{in_page}
+use Rattle.laws_mend.specs.pack_model.specs.reading.Bytes.{put_at}
+use Rattle.laws_mend.specs.pack_model.specs.reading.Sights.{sights}
+use Rattle.laws_mend.specs.pack_model.specs.reading.Sights.Sight.{hidden, holds}
+use Rattle.laws_mend.specs.pack_model.specs.reading.Slots.{all_words, slots}
+use Rattle.laws_mend.specs.pack_model.specs.scavenger.Reports.{PagesMended}
+use Rattle.laws_mend.specs.pack_model.specs.scavenger.Scavenging.{Keeps, Unmarked}
+use Rattle.laws_mend.specs.pack_model.specs.states.InUse.{is_free_sight}
+use Rattle.laws_mend.specs.pack_laws.proofs.files.Laws.{places_are_lowest}
+use Rattle.laws_mend.specs.pack_laws.proofs.Guarding.{front_from, value_page}
+use Rattle.laws_mend.specs.laws_record.proofs.Copying.{place_carried}
+use Rattle.laws_mend.specs.laws_record.proofs.DirReads.{not_descriptor}
+use Rattle.laws_mend.specs.laws_record.proofs.DirWords.{dir_change, new_bytes, page_by_bytes, written_sights}
+use Rattle.laws_mend.specs.laws_record.specs.DirLaws.{DirWrite, dir_written}
+use Rattle.laws_mend.specs.laws_room.proofs.Found.{found_shown}
+use Rattle.laws_mend.specs.laws_room.proofs.marks.Laws.{unmarked_stays}
+use Rattle.laws_mend.specs.laws_room.specs.KeepLaws.{RootMay}
+use Rattle.laws_mend.specs.laws_room.specs.KeepLaws.RootMay.{as_before}
+use Rattle.laws_mend.specs.laws_room.specs.MarkLaws.{mark_page}
 use Rattle.laws_mend.proofs.slots.Laws.{dir_write_keeps_pages, dir_write_reaches_its_end}
 use Rattle.laws_names.specs.WriteLaws.{NamesWritten}
 

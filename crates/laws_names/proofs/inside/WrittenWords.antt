@@ -2,12 +2,12 @@
 use Rattle.std.proofs.Common.{◌++◌, ◌+◌, ◌∙◌, ◌≡◌, List, ap, append_assoc, drop, get_or, length, set, sym, take, ℕ}
 use Rattle.std.proofs.lemmas.List.{drop-drop, set-get_or, take-append-drop}
 use Rattle.std.proofs.Math.Seq.{take-append_seam}
-use Rattle.disk_records.specs.Packs.{no_sector, sector_at, with_part}
-use Rattle.pack_model.specs.hints.Links.{dir_words}
-use Rattle.pack_model.specs.operations.PageWords.{in_page}
-use Rattle.pack_model.specs.reading.Bytes.{put_at}
-use Rattle.laws_record.proofs.DirWords.{dir_change}
-use Rattle.laws_operation.proofs.EntryWrite.{put_drop}
+use Rattle.laws_mend.specs.disk_records.specs.Packs.{no_sector, sector_at, with_part}
+use Rattle.laws_mend.specs.pack_model.specs.hints.Links.{dir_words}
+use Rattle.laws_mend.specs.pack_model.specs.operations.PageWords.{in_page}
+use Rattle.laws_mend.specs.pack_model.specs.reading.Bytes.{put_at}
+use Rattle.laws_mend.specs.laws_record.proofs.DirWords.{dir_change}
+use Rattle.laws_mend.specs.laws_operation.proofs.EntryWrite.{put_drop}
 use Rattle.laws_names.specs.WriteLaws.{StandingWordsWriteNothing, WrittenWordsStand}
 
 pub written_words_stand : WrittenWordsStand

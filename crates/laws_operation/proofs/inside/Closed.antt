@@ -2,25 +2,25 @@
 use Rattle.std.proofs.Common.{Bool, List, Some, [], ap, arith, drop, get_or, length, refl, set, subst, suc, sym, take, ℕ, ◌%◌, ◌*◌, ◌++◌, ◌+◌, ◌-◌, ◌/◌, ◌<◌, ◌∙◌, ◌∷◌, ◌≡◌, ◌≤◌}
 use Rattle.std.proofs.lemmas.List.{get_or-take, get_or_append_left, length-append, length-replicate, length-take}
 use Rattle.std.specs.Prelude.{replicate}
-use Rattle.alto_words.specs.Fid.{disk_descriptor}
-use Rattle.disk_records.specs.Addresses.{descriptor_length}
-use Rattle.disk_records.specs.Commands.{value_writes}
-use Rattle.disk_records.specs.Labels.{tag}
-use Rattle.disk_records.specs.Packs.{Pack, after, sector_at}
-use Rattle.disk_records.specs.Words.{word}
-use Rattle.disk_records.specs.declared.shape.Shape.{Shape}
-use Rattle.pack_model.specs.reading.Bytes.{bytes_of, words_of}
-use Rattle.pack_model.specs.sessions.Descriptor.{descriptor_text, descriptor_value}
-use Rattle.pack_model.specs.reading.Files.{file_bytes, lives, place}
-use Rattle.pack_model.specs.reading.Model.{descriptor_words, is_named, last_serial, read_as, read_sights}
-use Rattle.pack_model.specs.operations.PageWords.{filled}
-use Rattle.pack_model.specs.reading.Sights.{Sight, sights}
-use Rattle.pack_model.specs.reading.Sights.Sight.{holds}
-use Rattle.pack_model.specs.states.Sound.{mark_clean, mark_of}
-use Rattle.pack_model.specs.states.Whole.{PageAt, SaysShape, Tidy, TidySights, Whole, WholeSights}
-use Rattle.pack_laws.proofs.Bytes.{length-bytes_of, length-words_of, words_of-bytes_of}
-use Rattle.laws_record.proofs.Differing.{word_bytes}
-use Rattle.laws_record.specs.QuietLaws.{counted_of}
+use Rattle.laws_contents.specs.alto_words.specs.Fid.{disk_descriptor}
+use Rattle.laws_contents.specs.disk_records.specs.Addresses.{descriptor_length}
+use Rattle.laws_contents.specs.disk_records.specs.Commands.{value_writes}
+use Rattle.laws_contents.specs.disk_records.specs.Labels.{tag}
+use Rattle.laws_contents.specs.disk_records.specs.Packs.{Pack, after, sector_at}
+use Rattle.laws_contents.specs.disk_records.specs.Words.{word}
+use Rattle.laws_contents.specs.disk_records.specs.declared.shape.Shape.{Shape}
+use Rattle.laws_contents.specs.pack_model.specs.reading.Bytes.{bytes_of, words_of}
+use Rattle.laws_contents.specs.pack_model.specs.sessions.Descriptor.{descriptor_text, descriptor_value}
+use Rattle.laws_contents.specs.pack_model.specs.reading.Files.{file_bytes, lives, place}
+use Rattle.laws_contents.specs.pack_model.specs.reading.Model.{descriptor_words, is_named, last_serial, read_as, read_sights}
+use Rattle.laws_contents.specs.pack_model.specs.operations.PageWords.{filled}
+use Rattle.laws_contents.specs.pack_model.specs.reading.Sights.{Sight, sights}
+use Rattle.laws_contents.specs.pack_model.specs.reading.Sights.Sight.{holds}
+use Rattle.laws_contents.specs.pack_model.specs.states.Sound.{mark_clean, mark_of}
+use Rattle.laws_contents.specs.pack_model.specs.states.Whole.{PageAt, SaysShape, Tidy, TidySights, Whole, WholeSights}
+use Rattle.laws_contents.specs.pack_laws.proofs.Bytes.{length-bytes_of, length-words_of, words_of-bytes_of}
+use Rattle.laws_contents.specs.laws_record.proofs.Differing.{word_bytes}
+use Rattle.laws_contents.specs.laws_record.specs.QuietLaws.{counted_of}
 use Rattle.laws_operation.proofs.inside.Closing.{sizes_same}
 use Rattle.laws_operation.proofs.inside.DescriptorValue.{descriptor_reads, descriptor_tidy, descriptor_whole, lives_still, one_page_of, page_stays}
 use Rattle.laws_operation.proofs.FirstWords.{first_page_long}

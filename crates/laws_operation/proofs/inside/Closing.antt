@@ -2,20 +2,20 @@
 use Rattle.std.proofs.Common.{List, Some, [], ap, arith, get_or, inl, inr, length, refl, set, subst, suc, sym, ℕ, ◌*◌, ◌++◌, ◌+◌, ◌/◌, ◌<◌, ◌∙◌, ◌∷◌, ◌≡◌, ◌≤◌, ◌⊎◌}
 use Rattle.std.proofs.lemmas.Bool.{cases_eq, cases_lt}
 use Rattle.std.proofs.lemmas.List.{get_or_append_left, length-append, length-take, set_past}
-use Rattle.alto_words.specs.Fid.{disk_descriptor}
-use Rattle.disk_records.specs.Addresses.{descriptor_length}
-use Rattle.disk_records.specs.Commands.{value_writes}
-use Rattle.disk_records.specs.Labels.{tag}
-use Rattle.disk_records.specs.Packs.{Pack, after, no_sector, sector_at, with_part}
-use Rattle.disk_records.specs.Words.{word}
-use Rattle.pack_model.specs.reading.Bytes.{bytes_of, words_of}
-use Rattle.pack_model.specs.reading.Files.{file_bytes, lives, place}
-use Rattle.pack_model.specs.reading.Model.{descriptor_words, is_named, last_serial, read_as, read_sights}
-use Rattle.pack_model.specs.reading.Sights.{Sight, sights}
-use Rattle.pack_model.specs.reading.Sights.Sight.{holds}
-use Rattle.pack_model.specs.states.Whole.{PageAt, SaysShape, Tidy, TidySights, Whole, WholeSights}
-use Rattle.pack_laws.proofs.Bytes.{length-bytes_of, length-words_of}
-use Rattle.laws_record.specs.QuietLaws.{counted_of}
+use Rattle.laws_contents.specs.alto_words.specs.Fid.{disk_descriptor}
+use Rattle.laws_contents.specs.disk_records.specs.Addresses.{descriptor_length}
+use Rattle.laws_contents.specs.disk_records.specs.Commands.{value_writes}
+use Rattle.laws_contents.specs.disk_records.specs.Labels.{tag}
+use Rattle.laws_contents.specs.disk_records.specs.Packs.{Pack, after, no_sector, sector_at, with_part}
+use Rattle.laws_contents.specs.disk_records.specs.Words.{word}
+use Rattle.laws_contents.specs.pack_model.specs.reading.Bytes.{bytes_of, words_of}
+use Rattle.laws_contents.specs.pack_model.specs.reading.Files.{file_bytes, lives, place}
+use Rattle.laws_contents.specs.pack_model.specs.reading.Model.{descriptor_words, is_named, last_serial, read_as, read_sights}
+use Rattle.laws_contents.specs.pack_model.specs.reading.Sights.{Sight, sights}
+use Rattle.laws_contents.specs.pack_model.specs.reading.Sights.Sight.{holds}
+use Rattle.laws_contents.specs.pack_model.specs.states.Whole.{PageAt, SaysShape, Tidy, TidySights, Whole, WholeSights}
+use Rattle.laws_contents.specs.pack_laws.proofs.Bytes.{length-bytes_of, length-words_of}
+use Rattle.laws_contents.specs.laws_record.specs.QuietLaws.{counted_of}
 use Rattle.laws_operation.proofs.inside.DescriptorValue.{descriptor_reads, descriptor_tidy, descriptor_whole, lives_still, one_page_of, page_stays}
 use Rattle.laws_operation.proofs.inside.Evens.{even_by, words_of-append}
 use Rattle.laws_operation.proofs.Lying.{together-append}
@@ -23,7 +23,7 @@ use Rattle.laws_operation.proofs.inside.OpeningMark.{last_read, last_there}
 use Rattle.laws_operation.proofs.Seating.{AllFull, laid_front}
 use Rattle.laws_operation.specs.ByteLaws.{together}
 use Rattle.laws_operation.specs.DescriptorLaws.{KeepsSound}
-use Rattle.pack_laws.proofs.Guarding.{here_written, other_kept}
+use Rattle.laws_contents.specs.pack_laws.proofs.Guarding.{here_written, other_kept}
 
 -- ---- what stays until the last record write
 -- What is read, what is whole and sound, the words before the map, and how long the values are.

@@ -5,25 +5,25 @@ use Rattle.std.specs.FinMap.Entries.{by_order}
 use Rattle.std.specs.List.{list_any}
 use Rattle.std.specs.Option.{is_some, option_map}
 use Rattle.std.specs.Ordering.{is_eq}
-use Rattle.alto_words.specs.Fid.{disk_descriptor, fid_cmp, is_directory, is_fid, serial_of, sys_dir}
-use Rattle.alto_words.specs.declared.fid.Fid.{Fid}
-use Rattle.disk_records.specs.declared.shape.Shape.{Shape}
-use Rattle.pack_model.specs.reading.Bodies.{File, Files, described, found, is_described}
-use Rattle.pack_model.specs.reading.Bytes.{words_of}
-use Rattle.pack_model.specs.reading.Files.{file_bytes, leader, lives}
-use Rattle.pack_model.specs.reading.Leaders.{Leader}
-use Rattle.pack_model.specs.reading.Model.{is_named, last_serial, read_sights}
-use Rattle.pack_model.specs.reading.Namings.{AllKept, Naming, body_namings, clashes, fits, is_kept, namings}
-use Rattle.pack_model.specs.reading.Sights.{Sight}
-use Rattle.pack_model.specs.reading.Sights.Sight.{hidden, leads}
-use Rattle.pack_model.specs.reading.Slots.{SlotsReachEnd}
-use Rattle.pack_model.specs.states.Whole.{FileWhole, Fits, TidySights, WholeSights}
-use Rattle.pack_laws.proofs.Keys.{fid_total, is_fid-sym, same_fid}
-use Rattle.laws_record.proofs.Framing.{model_same}
-use Rattle.laws_record.proofs.Heads.{and_left, and_right}
-use Rattle.laws_record.proofs.Keeping.{get-where, kept_insert}
-use Rattle.laws_record.proofs.Reading.{get-found, get_alike, get_by, insert_from_get, read_file}
-use Rattle.laws_record.proofs.Tidying.{tidy_same}
+use Rattle.laws_contents.specs.alto_words.specs.Fid.{disk_descriptor, fid_cmp, is_directory, is_fid, serial_of, sys_dir}
+use Rattle.laws_contents.specs.alto_words.specs.declared.fid.Fid.{Fid}
+use Rattle.laws_contents.specs.disk_records.specs.declared.shape.Shape.{Shape}
+use Rattle.laws_contents.specs.pack_model.specs.reading.Bodies.{File, Files, described, found, is_described}
+use Rattle.laws_contents.specs.pack_model.specs.reading.Bytes.{words_of}
+use Rattle.laws_contents.specs.pack_model.specs.reading.Files.{file_bytes, leader, lives}
+use Rattle.laws_contents.specs.pack_model.specs.reading.Leaders.{Leader}
+use Rattle.laws_contents.specs.pack_model.specs.reading.Model.{is_named, last_serial, read_sights}
+use Rattle.laws_contents.specs.pack_model.specs.reading.Namings.{AllKept, Naming, body_namings, clashes, fits, is_kept, namings}
+use Rattle.laws_contents.specs.pack_model.specs.reading.Sights.{Sight}
+use Rattle.laws_contents.specs.pack_model.specs.reading.Sights.Sight.{hidden, leads}
+use Rattle.laws_contents.specs.pack_model.specs.reading.Slots.{SlotsReachEnd}
+use Rattle.laws_contents.specs.pack_model.specs.states.Whole.{FileWhole, Fits, TidySights, WholeSights}
+use Rattle.laws_contents.specs.pack_laws.proofs.Keys.{fid_total, is_fid-sym, same_fid}
+use Rattle.laws_contents.specs.laws_record.proofs.Framing.{model_same}
+use Rattle.laws_contents.specs.laws_record.proofs.Heads.{and_left, and_right}
+use Rattle.laws_contents.specs.laws_record.proofs.Keeping.{get-where, kept_insert}
+use Rattle.laws_contents.specs.laws_record.proofs.Reading.{get-found, get_alike, get_by, insert_from_get, read_file}
+use Rattle.laws_contents.specs.laws_record.proofs.Tidying.{tidy_same}
 use Rattle.laws_operation.proofs.inside.Elsewhere.{SameBut, not_same, other_bytes, other_file, other_leader, other_used, same_good}
 use Rattle.std.proofs.lemmas.Bool.{and_from}
 

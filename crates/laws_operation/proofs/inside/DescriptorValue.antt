@@ -1,27 +1,27 @@
 -- A data page of DiskDescriptor gets another value of as many bytes, on a whole pack.
 use Rattle.std.proofs.Common.{List, Some, ap, arith, false, get_or, length, refl, set, subst, suc, sym, true, zero, ℕ, ◌++◌, ◌∙◌, ◌∷◌, ◌≡◌, ◌≤◌}
-use Rattle.alto_words.specs.Fid.{disk_descriptor, is_fid, sys_dir}
-use Rattle.alto_words.specs.declared.fid.Fid.{Fid}
-use Rattle.disk_records.specs.Commands.{value_writes}
-use Rattle.disk_records.specs.Labels.{Tag, tag}
-use Rattle.disk_records.specs.Packs.{Pack, after, sector_at}
-use Rattle.disk_records.specs.declared.shape.Shape.{Shape}
-use Rattle.pack_model.specs.reading.Bodies.{described}
-use Rattle.pack_model.specs.reading.Files.{carries_page, leader, lives, place}
-use Rattle.pack_model.specs.reading.Leaders.{Leader}
-use Rattle.pack_model.specs.reading.Model.{descriptor_words, good_one, good_sectors, is_named, last_serial, read_sights}
-use Rattle.pack_model.specs.reading.Namings.{IsTidy, tidied}
-use Rattle.pack_model.specs.reading.Sights.{Sight, sights, tag_sight}
-use Rattle.pack_model.specs.reading.Sights.Sight.{hidden, holds, leads}
-use Rattle.pack_model.specs.reading.Slots.{SlotsReachEnd}
-use Rattle.pack_model.specs.states.Whole.{FileWhole, SaysShape, TidySights, Whole, WholeSights}
-use Rattle.pack_laws.proofs.Keys.{same_fid}
-use Rattle.pack_laws.proofs.Placing.{page_of_place, place_same}
-use Rattle.laws_record.proofs.DirReads.{not_descriptor}
-use Rattle.laws_record.proofs.Framing.{lives_same, model_same}
-use Rattle.laws_record.proofs.Keeping.{described_kept}
-use Rattle.laws_record.proofs.Reading.{get_alike}
-use Rattle.laws_record.specs.QuietLaws.{counted_of}
+use Rattle.laws_contents.specs.alto_words.specs.Fid.{disk_descriptor, is_fid, sys_dir}
+use Rattle.laws_contents.specs.alto_words.specs.declared.fid.Fid.{Fid}
+use Rattle.laws_contents.specs.disk_records.specs.Commands.{value_writes}
+use Rattle.laws_contents.specs.disk_records.specs.Labels.{Tag, tag}
+use Rattle.laws_contents.specs.disk_records.specs.Packs.{Pack, after, sector_at}
+use Rattle.laws_contents.specs.disk_records.specs.declared.shape.Shape.{Shape}
+use Rattle.laws_contents.specs.pack_model.specs.reading.Bodies.{described}
+use Rattle.laws_contents.specs.pack_model.specs.reading.Files.{carries_page, leader, lives, place}
+use Rattle.laws_contents.specs.pack_model.specs.reading.Leaders.{Leader}
+use Rattle.laws_contents.specs.pack_model.specs.reading.Model.{descriptor_words, good_one, good_sectors, is_named, last_serial, read_sights}
+use Rattle.laws_contents.specs.pack_model.specs.reading.Namings.{IsTidy, tidied}
+use Rattle.laws_contents.specs.pack_model.specs.reading.Sights.{Sight, sights, tag_sight}
+use Rattle.laws_contents.specs.pack_model.specs.reading.Sights.Sight.{hidden, holds, leads}
+use Rattle.laws_contents.specs.pack_model.specs.reading.Slots.{SlotsReachEnd}
+use Rattle.laws_contents.specs.pack_model.specs.states.Whole.{FileWhole, SaysShape, TidySights, Whole, WholeSights}
+use Rattle.laws_contents.specs.pack_laws.proofs.Keys.{same_fid}
+use Rattle.laws_contents.specs.pack_laws.proofs.Placing.{page_of_place, place_same}
+use Rattle.laws_contents.specs.laws_record.proofs.DirReads.{not_descriptor}
+use Rattle.laws_contents.specs.laws_record.proofs.Framing.{lives_same, model_same}
+use Rattle.laws_contents.specs.laws_record.proofs.Keeping.{described_kept}
+use Rattle.laws_contents.specs.laws_record.proofs.Reading.{get_alike}
+use Rattle.laws_contents.specs.laws_record.specs.QuietLaws.{counted_of}
 use Rattle.laws_operation.proofs.Changing.{Changed, Placed, page_changed, seat_of}
 use Rattle.laws_operation.proofs.Commanding.{value_shows}
 use Rattle.laws_operation.proofs.inside.Elsewhere.{not_same, other_bytes, other_file, other_leader, other_used, same_good, there}

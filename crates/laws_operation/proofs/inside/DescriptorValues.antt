@@ -2,20 +2,20 @@
 use Rattle.std.proofs.Common.{Bool, List, Some, [], ap, cond, false, refl, reverse, subst, suc, sym, take, true, zero, ℕ, ◌∷◌, ◌≡◌}
 use Rattle.std.specs.Prelude.{◌==◌}
 use mathlib.Core.List.{reverse-cons}
-use Rattle.alto_words.specs.Fid.{disk_descriptor}
-use Rattle.disk_records.specs.Packs.{Pack, after, crash, sector_at}
-use Rattle.disk_records.specs.declared.records.Event.TheVariants.{Wrote}
-use Rattle.pack_model.specs.operations.Commands.{values_writes}
-use Rattle.pack_model.specs.sessions.Descriptor.{closed_values, descriptor_value, opened_value, serial_value}
-use Rattle.pack_model.specs.reading.Files.{place}
-use Rattle.pack_model.specs.hints.Links.{LinksTrue}
-use Rattle.pack_model.specs.reading.Model.{read_as}
-use Rattle.pack_model.specs.operations.PageWords.{page_number}
-use Rattle.pack_model.specs.reading.Sights.{sights}
-use Rattle.pack_model.specs.states.Sound.{mark_clean, mark_of, mark_open}
-use Rattle.pack_model.specs.operations.Step.Operation.{drop_file}
-use Rattle.pack_model.specs.states.Whole.{Tidy, Whole}
-use Rattle.laws_record.proofs.Copying.{place_carried}
+use Rattle.laws_contents.specs.alto_words.specs.Fid.{disk_descriptor}
+use Rattle.laws_contents.specs.disk_records.specs.Packs.{Pack, after, crash, sector_at}
+use Rattle.laws_contents.specs.disk_records.specs.declared.records.Event.TheVariants.{Wrote}
+use Rattle.laws_contents.specs.pack_model.specs.operations.Commands.{values_writes}
+use Rattle.laws_contents.specs.pack_model.specs.sessions.Descriptor.{closed_values, descriptor_value, opened_value, serial_value}
+use Rattle.laws_contents.specs.pack_model.specs.reading.Files.{place}
+use Rattle.laws_contents.specs.pack_model.specs.hints.Links.{LinksTrue}
+use Rattle.laws_contents.specs.pack_model.specs.reading.Model.{read_as}
+use Rattle.laws_contents.specs.pack_model.specs.operations.PageWords.{page_number}
+use Rattle.laws_contents.specs.pack_model.specs.reading.Sights.{sights}
+use Rattle.laws_contents.specs.pack_model.specs.states.Sound.{mark_clean, mark_of, mark_open}
+use Rattle.laws_contents.specs.pack_model.specs.operations.Step.Operation.{drop_file}
+use Rattle.laws_contents.specs.pack_model.specs.states.Whole.{Tidy, Whole}
+use Rattle.laws_contents.specs.laws_record.proofs.Copying.{place_carried}
 use Rattle.laws_operation.proofs.CloseLaw.{close_carries_out}
 use Rattle.laws_operation.proofs.inside.OpeningMark.{open_carries_out, serial_carries_out}
 use Rattle.laws_operation.specs.ByteLaws.{Bear}

@@ -1,38 +1,38 @@
 -- Drop: all its record writes, one after another.
 use Rattle.std.proofs.Common.{List, [], ap, cond, false, length, refl, subst, sym, true, ℕ, ◌++◌, ◌+◌, ◌/◌, ◌∙◌, ◌∷◌, ◌≡◌, ◌≤◌}
 use Rattle.std.specs.Option.{is_some}
-use Rattle.alto_words.specs.Fid.{is_fid}
-use Rattle.disk_records.proofs.Growing.{after-append}
-use Rattle.disk_records.specs.Commands.{value_writes}
-use Rattle.disk_records.specs.Packs.{Pack, after, sector_at}
-use Rattle.disk_records.specs.declared.records.Event.{Event}
-use Rattle.pack_model.specs.reading.Bodies.{body_items, items_in}
-use Rattle.pack_model.specs.reading.Bodies.Body.{data_of, items_of}
-use Rattle.pack_model.specs.reading.Bytes.{words_of}
-use Rattle.pack_model.specs.operations.Committing.{moves_of}
-use Rattle.pack_model.specs.sessions.Descriptor.{DescriptorFits}
-use Rattle.pack_model.specs.reading.Files.{file_bytes, lives}
-use Rattle.pack_model.specs.hints.Links.{dir_words}
-use Rattle.pack_model.specs.sessions.Meanings.{reading}
-use Rattle.pack_model.specs.reading.Model.{dir_items, read_as}
-use Rattle.pack_model.specs.sessions.Moves.{Obeys, steps}
-use Rattle.pack_model.specs.reading.Namings.{Naming, namings_in}
-use Rattle.pack_model.specs.operations.Operations.{release_file_writes}
-use Rattle.pack_model.specs.operations.Operations.Move.{quiet}
-use Rattle.pack_model.specs.operations.PageWords.{freed_value}
-use Rattle.pack_model.specs.reading.Sights.{Sight, sights}
-use Rattle.pack_model.specs.reading.Sights.Sight.{hidden}
-use Rattle.pack_model.specs.reading.Slots.{all_words, item_words, slot_at, slots}
-use Rattle.pack_model.specs.reading.Slots.Item.{entry}
-use Rattle.pack_model.specs.operations.Step.{Operation}
-use Rattle.pack_model.specs.operations.Step.Operation.{drop_file}
-use Rattle.pack_model.specs.states.Whole.{Tidy, Whole}
-use Rattle.pack_laws.proofs.Keys.{same_fid}
-use Rattle.pack_laws.proofs.Moving.{obeys_then, stands_last}
-use Rattle.laws_record.proofs.DirReads.{has_leader, not_descriptor}
-use Rattle.laws_record.proofs.DirWords.{dir_page}
-use Rattle.laws_record.proofs.Entered.{namings_in-append}
-use Rattle.laws_record.specs.DirLaws.{DirWrite, Frees}
+use Rattle.laws_contents.specs.alto_words.specs.Fid.{is_fid}
+use Rattle.laws_contents.specs.disk_records.proofs.Growing.{after-append}
+use Rattle.laws_contents.specs.disk_records.specs.Commands.{value_writes}
+use Rattle.laws_contents.specs.disk_records.specs.Packs.{Pack, after, sector_at}
+use Rattle.laws_contents.specs.disk_records.specs.declared.records.Event.{Event}
+use Rattle.laws_contents.specs.pack_model.specs.reading.Bodies.{body_items, items_in}
+use Rattle.laws_contents.specs.pack_model.specs.reading.Bodies.Body.{data_of, items_of}
+use Rattle.laws_contents.specs.pack_model.specs.reading.Bytes.{words_of}
+use Rattle.laws_contents.specs.pack_model.specs.operations.Committing.{moves_of}
+use Rattle.laws_contents.specs.pack_model.specs.sessions.Descriptor.{DescriptorFits}
+use Rattle.laws_contents.specs.pack_model.specs.reading.Files.{file_bytes, lives}
+use Rattle.laws_contents.specs.pack_model.specs.hints.Links.{dir_words}
+use Rattle.laws_contents.specs.pack_model.specs.sessions.Meanings.{reading}
+use Rattle.laws_contents.specs.pack_model.specs.reading.Model.{dir_items, read_as}
+use Rattle.laws_contents.specs.pack_model.specs.sessions.Moves.{Obeys, steps}
+use Rattle.laws_contents.specs.pack_model.specs.reading.Namings.{Naming, namings_in}
+use Rattle.laws_contents.specs.pack_model.specs.operations.Operations.{release_file_writes}
+use Rattle.laws_contents.specs.pack_model.specs.operations.Operations.Move.{quiet}
+use Rattle.laws_contents.specs.pack_model.specs.operations.PageWords.{freed_value}
+use Rattle.laws_contents.specs.pack_model.specs.reading.Sights.{Sight, sights}
+use Rattle.laws_contents.specs.pack_model.specs.reading.Sights.Sight.{hidden}
+use Rattle.laws_contents.specs.pack_model.specs.reading.Slots.{all_words, item_words, slot_at, slots}
+use Rattle.laws_contents.specs.pack_model.specs.reading.Slots.Item.{entry}
+use Rattle.laws_contents.specs.pack_model.specs.operations.Step.{Operation}
+use Rattle.laws_contents.specs.pack_model.specs.operations.Step.Operation.{drop_file}
+use Rattle.laws_contents.specs.pack_model.specs.states.Whole.{Tidy, Whole}
+use Rattle.laws_contents.specs.pack_laws.proofs.Keys.{same_fid}
+use Rattle.laws_contents.specs.pack_laws.proofs.Moving.{obeys_then, stands_last}
+use Rattle.laws_contents.specs.laws_record.proofs.DirReads.{has_leader, not_descriptor}
+use Rattle.laws_contents.specs.laws_record.proofs.DirWords.{dir_page}
+use Rattle.laws_contents.specs.laws_record.proofs.Entered.{namings_in-append}
+use Rattle.laws_contents.specs.laws_record.specs.DirLaws.{DirWrite, Frees}
 use Rattle.laws_operation.proofs.Dropped.{release_law, read_there}
 use Rattle.laws_operation.proofs.inside.Elsewhere.{MayBe, not_same, other_bytes, other_leader}
 use Rattle.laws_operation.proofs.inside.Freeing.{slot_carries_out}

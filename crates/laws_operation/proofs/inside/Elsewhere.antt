@@ -3,14 +3,14 @@ use Rattle.std.proofs.Common.{List, None, Option, Some, [], ap, cond, false, get
 use Rattle.std.specs.Option.{option_or}
 use Rattle.std.specs.Prelude.{◌==◌}
 use mathlib.Core.Path.{fun_ext}
-use Rattle.alto_words.specs.Fid.{is_fid}
-use Rattle.alto_words.specs.declared.fid.Fid.{Fid}
-use Rattle.pack_model.specs.reading.Files.{file_bytes, first, joined, leader, leader_at, most_pages, page_at}
-use Rattle.pack_model.specs.reading.Model.{good_one, good_sectors}
-use Rattle.pack_model.specs.reading.Sights.{Sight}
-use Rattle.pack_model.specs.reading.Sights.Sight.{free, hidden, holds, leads, stray}
-use Rattle.pack_model.specs.states.Whole.{HasPages, FileWhole, PageAt, Seated, absent, present}
-use Rattle.pack_laws.proofs.Keys.{is_fid-itself}
+use Rattle.laws_contents.specs.alto_words.specs.Fid.{is_fid}
+use Rattle.laws_contents.specs.alto_words.specs.declared.fid.Fid.{Fid}
+use Rattle.laws_contents.specs.pack_model.specs.reading.Files.{file_bytes, first, joined, leader, leader_at, most_pages, page_at}
+use Rattle.laws_contents.specs.pack_model.specs.reading.Model.{good_one, good_sectors}
+use Rattle.laws_contents.specs.pack_model.specs.reading.Sights.{Sight}
+use Rattle.laws_contents.specs.pack_model.specs.reading.Sights.Sight.{free, hidden, holds, leads, stray}
+use Rattle.laws_contents.specs.pack_model.specs.states.Whole.{HasPages, FileWhole, PageAt, Seated, absent, present}
+use Rattle.laws_contents.specs.pack_laws.proofs.Keys.{is_fid-itself}
 
 -- free, or of f
 abbrev pub MayBe : Fid → Sight → Type 0

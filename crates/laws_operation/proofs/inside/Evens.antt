@@ -1,8 +1,8 @@
 -- Bytes in whole words.
 use Rattle.std.proofs.Common.{List, [], ap, arith, length, refl, suc, zero, ℕ, ◌*◌, ◌++◌, ◌+◌, ◌∷◌, ◌≡◌}
-use Rattle.pack_model.specs.reading.Bytes.{bytes_of, words_of}
-use Rattle.pack_model.specs.reading.Slots.{IsEven}
-use Rattle.pack_model.specs.reading.Slots.IsEven.{none, two}
+use Rattle.laws_contents.specs.pack_model.specs.reading.Bytes.{bytes_of, words_of}
+use Rattle.laws_contents.specs.pack_model.specs.reading.Slots.{IsEven}
+use Rattle.laws_contents.specs.pack_model.specs.reading.Slots.IsEven.{none, two}
 
 -- the bytes of words
 pub even_words : (ws : List ℕ) → IsEven (bytes_of ws)

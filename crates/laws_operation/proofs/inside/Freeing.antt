@@ -2,40 +2,40 @@
 use Rattle.std.proofs.Common.{Bool, List, Some, [], ap, arith, cond, false, not, refl, subst, sym, true, ℕ, ◌&&◌, ◌++◌, ◌∙◌, ◌∷◌, ◌≡◌}
 use Rattle.std.specs.FinMap.{get, insert}
 use Rattle.std.specs.List.{list_any}
-use Rattle.alto_words.specs.Fid.{disk_descriptor, is_fid, sys_dir}
-use Rattle.alto_words.specs.Names.{is_same_name}
-use Rattle.alto_words.specs.declared.fid.Fid.{Fid}
-use Rattle.disk_records.specs.Commands.{value_writes}
-use Rattle.disk_records.specs.Packs.{Pack, sector_at}
-use Rattle.pack_model.specs.reading.Bodies.{Files, described}
-use Rattle.pack_model.specs.reading.Bytes.{put_at}
-use Rattle.pack_model.specs.reading.Files.{leader, lives}
-use Rattle.pack_model.specs.reading.Leaders.{Leader}
-use Rattle.pack_model.specs.hints.Links.{dir_words}
-use Rattle.pack_model.specs.reading.Model.{is_named, read_as, read_sights}
-use Rattle.pack_model.specs.sessions.Moves.{rest, write}
-use Rattle.pack_model.specs.reading.Namings.{AllKept, IsTidy, Naming, clashes, fits, is_kept, kept_after, may_stand, tidied}
-use Rattle.pack_model.specs.operations.PageWords.{in_page}
-use Rattle.pack_model.specs.reading.Sights.{Sight, sights}
-use Rattle.pack_model.specs.reading.Slots.{Item, all_words, item_words, slots}
-use Rattle.pack_model.specs.reading.Slots.Item.{entry, space}
-use Rattle.pack_model.specs.states.Whole.{Tidy, Whole, living_too}
-use Rattle.pack_laws.proofs.Keys.{is_fid-sym}
-use Rattle.laws_record.proofs.Beside.{any_second}
-use Rattle.laws_record.proofs.DirReads.{dir_reads, insert_same, not_descriptor}
-use Rattle.laws_record.proofs.DirWords.{dir_change}
-use Rattle.laws_record.proofs.Entered.{directory, spot}
-use Rattle.laws_record.proofs.Heads.{and_right}
-use Rattle.laws_record.proofs.Scanned.{kept_before, scan_tidied}
-use Rattle.laws_record.proofs.Slotwise.{slots_freed}
-use Rattle.laws_record.proofs.Tidying.{onto, or_false_left, or_false_right, remove_kept, split_kept}
-use Rattle.laws_record.proofs.Unkept.{unkept_items}
-use Rattle.laws_record.specs.DirLaws.{Frees, dir_written}
+use Rattle.laws_contents.specs.alto_words.specs.Fid.{disk_descriptor, is_fid, sys_dir}
+use Rattle.laws_contents.specs.alto_words.specs.Names.{is_same_name}
+use Rattle.laws_contents.specs.alto_words.specs.declared.fid.Fid.{Fid}
+use Rattle.laws_contents.specs.disk_records.specs.Commands.{value_writes}
+use Rattle.laws_contents.specs.disk_records.specs.Packs.{Pack, sector_at}
+use Rattle.laws_contents.specs.pack_model.specs.reading.Bodies.{Files, described}
+use Rattle.laws_contents.specs.pack_model.specs.reading.Bytes.{put_at}
+use Rattle.laws_contents.specs.pack_model.specs.reading.Files.{leader, lives}
+use Rattle.laws_contents.specs.pack_model.specs.reading.Leaders.{Leader}
+use Rattle.laws_contents.specs.pack_model.specs.hints.Links.{dir_words}
+use Rattle.laws_contents.specs.pack_model.specs.reading.Model.{is_named, read_as, read_sights}
+use Rattle.laws_contents.specs.pack_model.specs.sessions.Moves.{rest, write}
+use Rattle.laws_contents.specs.pack_model.specs.reading.Namings.{AllKept, IsTidy, Naming, clashes, fits, is_kept, kept_after, may_stand, tidied}
+use Rattle.laws_contents.specs.pack_model.specs.operations.PageWords.{in_page}
+use Rattle.laws_contents.specs.pack_model.specs.reading.Sights.{Sight, sights}
+use Rattle.laws_contents.specs.pack_model.specs.reading.Slots.{Item, all_words, item_words, slots}
+use Rattle.laws_contents.specs.pack_model.specs.reading.Slots.Item.{entry, space}
+use Rattle.laws_contents.specs.pack_model.specs.states.Whole.{Tidy, Whole, living_too}
+use Rattle.laws_contents.specs.pack_laws.proofs.Keys.{is_fid-sym}
+use Rattle.laws_contents.specs.laws_record.proofs.Beside.{any_second}
+use Rattle.laws_contents.specs.laws_record.proofs.DirReads.{dir_reads, insert_same, not_descriptor}
+use Rattle.laws_contents.specs.laws_record.proofs.DirWords.{dir_change}
+use Rattle.laws_contents.specs.laws_record.proofs.Entered.{directory, spot}
+use Rattle.laws_contents.specs.laws_record.proofs.Heads.{and_right}
+use Rattle.laws_contents.specs.laws_record.proofs.Scanned.{kept_before, scan_tidied}
+use Rattle.laws_contents.specs.laws_record.proofs.Slotwise.{slots_freed}
+use Rattle.laws_contents.specs.laws_record.proofs.Tidying.{onto, or_false_left, or_false_right, remove_kept, split_kept}
+use Rattle.laws_contents.specs.laws_record.proofs.Unkept.{unkept_items}
+use Rattle.laws_contents.specs.laws_record.specs.DirLaws.{Frees, dir_written}
 use Rattle.laws_operation.proofs.DirValue.{described_then, dir_before, dir_lead, lives_then, value_change, value_same, value_whole_by}
 use Rattle.laws_operation.proofs.inside.Kept.{descriptor_kept, fits_still}
 use Rattle.laws_operation.proofs.Leaving.{words_alike}
 use Rattle.laws_operation.specs.LifeLaws.{SlotCarriesOut, SlotFreed}
-use Rattle.laws_record.proofs.DirSteps.{onto_none}
+use Rattle.laws_contents.specs.laws_record.proofs.DirSteps.{onto_none}
 use Rattle.std.proofs.lemmas.Bool.{not-true}
 
 -- ---- entries of other files

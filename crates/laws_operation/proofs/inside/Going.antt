@@ -4,30 +4,30 @@ use Rattle.std.specs.FinMap.{FinMap, entries, get, get-insert, get-remove, inser
 use Rattle.std.specs.List.{list_any}
 use Rattle.std.specs.Option.{is_some, option_map}
 use mathlib.Core.Path.{fun_ext}
-use Rattle.alto_words.specs.Fid.{disk_descriptor, fid_cmp, is_fid, is_system, serial_of, sys_dir}
-use Rattle.alto_words.specs.declared.fid.Fid.{Fid}
-use Rattle.disk_records.specs.declared.shape.Shape.{Shape}
-use Rattle.pack_model.specs.reading.Bodies.{Body, File, Files, described, found, is_described}
-use Rattle.pack_model.specs.reading.Bodies.Body.{data_of, items_of}
-use Rattle.pack_model.specs.reading.Bytes.{words_of}
-use Rattle.pack_model.specs.reading.Files.{file_bytes, leader, lives}
-use Rattle.pack_model.specs.sessions.Maps.{map_entries, map_values}
-use Rattle.pack_model.specs.reading.Model.{is_named, last_serial, read_sights}
-use Rattle.pack_model.specs.reading.Namings.{AllKept, IsTidy, Naming, body_namings, is_kept, namings, namings_in, tidied}
-use Rattle.pack_model.specs.reading.Sights.{Sight}
-use Rattle.pack_model.specs.reading.Sights.Sight.{leads}
-use Rattle.pack_model.specs.reading.Slots.{Item, SlotsReachEnd, item_words}
-use Rattle.pack_model.specs.reading.Slots.Item.{entry, space}
-use Rattle.pack_model.specs.operations.Step.{body_without, file_without, items_without, step}
-use Rattle.pack_model.specs.operations.Step.Operation.{drop_file}
-use Rattle.pack_model.specs.states.Whole.{FileWhole, Fits, TidyBut, TidySights, WholeSights, living_too}
-use Rattle.pack_laws.proofs.Keys.{fid_same, fid_total, is_fid-itself, is_fid-sym, same_fid}
-use Rattle.pack_laws.proofs.Mapping.{entries-map_values}
-use Rattle.laws_record.proofs.Dropping.{dropped_tidied, gone, others, others-append}
-use Rattle.laws_record.proofs.Framing.{model_same}
-use Rattle.laws_record.proofs.Keeping.{get-where}
-use Rattle.laws_record.proofs.Reading.{get-found, get_alike, read_file}
-use Rattle.laws_record.proofs.Tidying.{tidy_same}
+use Rattle.laws_contents.specs.alto_words.specs.Fid.{disk_descriptor, fid_cmp, is_fid, is_system, serial_of, sys_dir}
+use Rattle.laws_contents.specs.alto_words.specs.declared.fid.Fid.{Fid}
+use Rattle.laws_contents.specs.disk_records.specs.declared.shape.Shape.{Shape}
+use Rattle.laws_contents.specs.pack_model.specs.reading.Bodies.{Body, File, Files, described, found, is_described}
+use Rattle.laws_contents.specs.pack_model.specs.reading.Bodies.Body.{data_of, items_of}
+use Rattle.laws_contents.specs.pack_model.specs.reading.Bytes.{words_of}
+use Rattle.laws_contents.specs.pack_model.specs.reading.Files.{file_bytes, leader, lives}
+use Rattle.laws_contents.specs.pack_model.specs.sessions.Maps.{map_entries, map_values}
+use Rattle.laws_contents.specs.pack_model.specs.reading.Model.{is_named, last_serial, read_sights}
+use Rattle.laws_contents.specs.pack_model.specs.reading.Namings.{AllKept, IsTidy, Naming, body_namings, is_kept, namings, namings_in, tidied}
+use Rattle.laws_contents.specs.pack_model.specs.reading.Sights.{Sight}
+use Rattle.laws_contents.specs.pack_model.specs.reading.Sights.Sight.{leads}
+use Rattle.laws_contents.specs.pack_model.specs.reading.Slots.{Item, SlotsReachEnd, item_words}
+use Rattle.laws_contents.specs.pack_model.specs.reading.Slots.Item.{entry, space}
+use Rattle.laws_contents.specs.pack_model.specs.operations.Step.{body_without, file_without, items_without, step}
+use Rattle.laws_contents.specs.pack_model.specs.operations.Step.Operation.{drop_file}
+use Rattle.laws_contents.specs.pack_model.specs.states.Whole.{FileWhole, Fits, TidyBut, TidySights, WholeSights, living_too}
+use Rattle.laws_contents.specs.pack_laws.proofs.Keys.{fid_same, fid_total, is_fid-itself, is_fid-sym, same_fid}
+use Rattle.laws_contents.specs.pack_laws.proofs.Mapping.{entries-map_values}
+use Rattle.laws_contents.specs.laws_record.proofs.Dropping.{dropped_tidied, gone, others, others-append}
+use Rattle.laws_contents.specs.laws_record.proofs.Framing.{model_same}
+use Rattle.laws_contents.specs.laws_record.proofs.Keeping.{get-where}
+use Rattle.laws_contents.specs.laws_record.proofs.Reading.{get-found, get_alike, read_file}
+use Rattle.laws_contents.specs.laws_record.proofs.Tidying.{tidy_same}
 use Rattle.laws_operation.proofs.inside.Coming.{bare_namings}
 use Rattle.laws_operation.proofs.inside.Elsewhere.{SameBut, not_same, other_bytes, other_file, other_leader, other_used, same_good, there}
 use Rattle.laws_operation.proofs.Leaving.{system_apart}

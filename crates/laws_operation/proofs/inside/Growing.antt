@@ -2,29 +2,29 @@
 use Rattle.std.proofs.Common.{List, Some, [], ap, append_assoc, arith, get_or, inl, inr, length, refl, set, subst, suc, sym, take, true, ℕ, ◌++◌, ◌+◌, ◌<◌, ◌∙◌, ◌∷◌, ◌≡◌, ◌≤◌, ◌⊎◌}
 use Rattle.std.proofs.lemmas.List.{length-append, set-get_or}
 use Rattle.std.specs.Prelude.{nat_lt}
-use Rattle.alto_words.specs.declared.fid.Fid.{Fid}
-use Rattle.disk_records.proofs.Growing.{after-append}
-use Rattle.disk_records.specs.Commands.{claim_writes}
-use Rattle.disk_records.specs.Labels.{page_of, tag}
-use Rattle.disk_records.specs.Packs.{Pack, after, sector_at}
-use Rattle.disk_records.specs.declared.records.Event.TheVariants.{Wrote}
-use Rattle.pack_model.specs.reading.Bytes.{bytes_of}
-use Rattle.pack_model.specs.operations.Commands.{Claim, Claimable, all_claimed, claims_writes}
-use Rattle.pack_model.specs.operations.Committing.{MakesMove}
-use Rattle.pack_model.specs.reading.Files.{most_pages, place}
-use Rattle.pack_model.specs.sessions.Meanings.{reading}
-use Rattle.pack_model.specs.reading.Model.{Model, good_one, read_as, read_sights}
-use Rattle.pack_model.specs.sessions.Moves.{Obeys, write}
-use Rattle.pack_model.specs.operations.Operations.{claims_moves, grow_moves, grow_writes, moved}
-use Rattle.pack_model.specs.operations.Operations.Move.{commits, quiet}
-use Rattle.pack_model.specs.operations.PageWords.{page_number}
-use Rattle.pack_model.specs.reading.Sights.{sights, tag_sight}
-use Rattle.pack_model.specs.reading.Sights.Sight.{free, hidden, holds, leads}
-use Rattle.pack_model.specs.operations.Step.{Operation}
-use Rattle.pack_model.specs.states.Whole.{HasPages, IsLaid, IsSeat, Leads, PageAt, present}
-use Rattle.pack_laws.proofs.Guarding.{named_shown, here_written}
-use Rattle.pack_laws.proofs.Moving.{obeys_then, stands_last}
-use Rattle.laws_record.proofs.Seats.{seat_once, seat_range}
+use Rattle.laws_contents.specs.alto_words.specs.declared.fid.Fid.{Fid}
+use Rattle.laws_contents.specs.disk_records.proofs.Growing.{after-append}
+use Rattle.laws_contents.specs.disk_records.specs.Commands.{claim_writes}
+use Rattle.laws_contents.specs.disk_records.specs.Labels.{page_of, tag}
+use Rattle.laws_contents.specs.disk_records.specs.Packs.{Pack, after, sector_at}
+use Rattle.laws_contents.specs.disk_records.specs.declared.records.Event.TheVariants.{Wrote}
+use Rattle.laws_contents.specs.pack_model.specs.reading.Bytes.{bytes_of}
+use Rattle.laws_contents.specs.pack_model.specs.operations.Commands.{Claim, Claimable, all_claimed, claims_writes}
+use Rattle.laws_contents.specs.pack_model.specs.operations.Committing.{MakesMove}
+use Rattle.laws_contents.specs.pack_model.specs.reading.Files.{most_pages, place}
+use Rattle.laws_contents.specs.pack_model.specs.sessions.Meanings.{reading}
+use Rattle.laws_contents.specs.pack_model.specs.reading.Model.{Model, good_one, read_as, read_sights}
+use Rattle.laws_contents.specs.pack_model.specs.sessions.Moves.{Obeys, write}
+use Rattle.laws_contents.specs.pack_model.specs.operations.Operations.{claims_moves, grow_moves, grow_writes, moved}
+use Rattle.laws_contents.specs.pack_model.specs.operations.Operations.Move.{commits, quiet}
+use Rattle.laws_contents.specs.pack_model.specs.operations.PageWords.{page_number}
+use Rattle.laws_contents.specs.pack_model.specs.reading.Sights.{sights, tag_sight}
+use Rattle.laws_contents.specs.pack_model.specs.reading.Sights.Sight.{free, hidden, holds, leads}
+use Rattle.laws_contents.specs.pack_model.specs.operations.Step.{Operation}
+use Rattle.laws_contents.specs.pack_model.specs.states.Whole.{HasPages, IsLaid, IsSeat, Leads, PageAt, present}
+use Rattle.laws_contents.specs.pack_laws.proofs.Guarding.{named_shown, here_written}
+use Rattle.laws_contents.specs.pack_laws.proofs.Moving.{obeys_then, stands_last}
+use Rattle.laws_contents.specs.laws_record.proofs.Seats.{seat_once, seat_range}
 use Rattle.laws_operation.proofs.Changing.{Changed, Placed, length-one}
 use Rattle.laws_operation.proofs.Commanding.{relabel_obeys, relabel_shows, value_shows}
 use Rattle.laws_operation.proofs.inside.Elsewhere.{MayBe, but_trans, same_set}

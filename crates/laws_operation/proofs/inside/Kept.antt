@@ -2,24 +2,24 @@
 use Rattle.std.proofs.Common.{List, None, Some, [], ap, cond, false, inl, inr, refl, suc, sym, take, zero, ℕ, ◌&&◌, ◌+◌, ◌∙◌, ◌∷◌, ◌≡◌}
 use Rattle.std.specs.Option.{is_some, option_or}
 use Rattle.std.specs.Prelude.{◌==◌}
-use Rattle.alto_words.specs.Fid.{disk_descriptor, is_fid}
-use Rattle.alto_words.specs.declared.fid.Fid.{Fid}
-use Rattle.disk_records.specs.Packs.{Pack, after}
-use Rattle.disk_records.specs.Words.{word}
-use Rattle.disk_records.specs.declared.records.Event.{Event}
-use Rattle.pack_model.specs.reading.Bytes.{words_of}
-use Rattle.pack_model.specs.operations.Committing.{moves_of}
-use Rattle.pack_model.specs.reading.Files.{carries_page, file_bytes, first, lives, numbered, place, place_at}
-use Rattle.pack_model.specs.sessions.Meanings.{Meets, reading, viewing}
-use Rattle.pack_model.specs.reading.Model.{Model, last_serial, read_as, read_sights}
-use Rattle.pack_model.specs.sessions.Moves.{Obeys, steps}
-use Rattle.pack_model.specs.operations.Operations.{Move, moved}
-use Rattle.pack_model.specs.reading.Sights.{Sight, sights}
-use Rattle.pack_model.specs.reading.Sights.Sight.{free, hidden, holds, leads, stray}
-use Rattle.pack_model.specs.operations.Step.{Operation, step}
-use Rattle.pack_model.specs.showing.View.{view}
-use Rattle.pack_laws.proofs.Keys.{is_fid-sym}
-use Rattle.pack_laws.proofs.Moving.{crash_of_run, stands_last}
+use Rattle.laws_contents.specs.alto_words.specs.Fid.{disk_descriptor, is_fid}
+use Rattle.laws_contents.specs.alto_words.specs.declared.fid.Fid.{Fid}
+use Rattle.laws_contents.specs.disk_records.specs.Packs.{Pack, after}
+use Rattle.laws_contents.specs.disk_records.specs.Words.{word}
+use Rattle.laws_contents.specs.disk_records.specs.declared.records.Event.{Event}
+use Rattle.laws_contents.specs.pack_model.specs.reading.Bytes.{words_of}
+use Rattle.laws_contents.specs.pack_model.specs.operations.Committing.{moves_of}
+use Rattle.laws_contents.specs.pack_model.specs.reading.Files.{carries_page, file_bytes, first, lives, numbered, place, place_at}
+use Rattle.laws_contents.specs.pack_model.specs.sessions.Meanings.{Meets, reading, viewing}
+use Rattle.laws_contents.specs.pack_model.specs.reading.Model.{Model, last_serial, read_as, read_sights}
+use Rattle.laws_contents.specs.pack_model.specs.sessions.Moves.{Obeys, steps}
+use Rattle.laws_contents.specs.pack_model.specs.operations.Operations.{Move, moved}
+use Rattle.laws_contents.specs.pack_model.specs.reading.Sights.{Sight, sights}
+use Rattle.laws_contents.specs.pack_model.specs.reading.Sights.Sight.{free, hidden, holds, leads, stray}
+use Rattle.laws_contents.specs.pack_model.specs.operations.Step.{Operation, step}
+use Rattle.laws_contents.specs.pack_model.specs.showing.View.{view}
+use Rattle.laws_contents.specs.pack_laws.proofs.Keys.{is_fid-sym}
+use Rattle.laws_contents.specs.pack_laws.proofs.Moving.{crash_of_run, stands_last}
 use Rattle.laws_operation.proofs.inside.Elsewhere.{MayBe, SameBut, other_bytes, other_leader}
 use Rattle.laws_operation.specs.Outcomes.{CarriesOut, CutsAreViewed, KeepsDescriptor, StillFits}
 

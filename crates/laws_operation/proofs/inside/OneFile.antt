@@ -4,29 +4,29 @@ use Rattle.std.specs.FinMap.{entries, entries-insert, get, insert, retain_keys}
 use Rattle.std.specs.List.{list_any}
 use Rattle.std.specs.Option.{is_some}
 use mathlib.Core.Path.{fun_ext}
-use Rattle.alto_words.specs.Fid.{disk_descriptor, is_directory, is_fid, serial_of, sys_dir}
-use Rattle.alto_words.specs.declared.fid.Fid.{Fid}
-use Rattle.disk_records.specs.declared.shape.Shape.{Shape}
-use Rattle.pack_model.specs.reading.Bodies.{File, Files, described, found, is_described}
-use Rattle.pack_model.specs.reading.Bodies.Body.{data_of, items_of}
-use Rattle.pack_model.specs.reading.Bytes.{words_of}
-use Rattle.pack_model.specs.reading.Files.{file_bytes, leader, lives}
-use Rattle.pack_model.specs.reading.Leaders.{Leader}
-use Rattle.pack_model.specs.sessions.Maps.{update_found}
-use Rattle.pack_model.specs.reading.Model.{is_named, last_serial, read_sights}
-use Rattle.pack_model.specs.reading.Namings.{AllKept, is_kept, namings, tidied}
-use Rattle.pack_model.specs.reading.Sights.{Sight}
-use Rattle.pack_model.specs.reading.Sights.Sight.{leads}
-use Rattle.pack_model.specs.reading.Slots.{SlotsReachEnd, slots}
-use Rattle.pack_model.specs.operations.Step.{update_file}
-use Rattle.pack_model.specs.states.Whole.{FileWhole, Fits, TidySights, WholeSights}
-use Rattle.pack_laws.proofs.Keys.{fid_same, fid_total, is_fid-sym, same_fid}
-use Rattle.laws_record.proofs.Around.{around}
-use Rattle.laws_record.proofs.Entered.{namings-append}
-use Rattle.laws_record.proofs.Framing.{model_same}
-use Rattle.laws_record.proofs.Keeping.{get-tidied_plain, get-where, kept_insert, plain, tidied_insert}
-use Rattle.laws_record.proofs.Reading.{found_frame, get_alike, get_by, insert_from_get, read_file}
-use Rattle.laws_record.proofs.Tidying.{tidy_same}
+use Rattle.laws_contents.specs.alto_words.specs.Fid.{disk_descriptor, is_directory, is_fid, serial_of, sys_dir}
+use Rattle.laws_contents.specs.alto_words.specs.declared.fid.Fid.{Fid}
+use Rattle.laws_contents.specs.disk_records.specs.declared.shape.Shape.{Shape}
+use Rattle.laws_contents.specs.pack_model.specs.reading.Bodies.{File, Files, described, found, is_described}
+use Rattle.laws_contents.specs.pack_model.specs.reading.Bodies.Body.{data_of, items_of}
+use Rattle.laws_contents.specs.pack_model.specs.reading.Bytes.{words_of}
+use Rattle.laws_contents.specs.pack_model.specs.reading.Files.{file_bytes, leader, lives}
+use Rattle.laws_contents.specs.pack_model.specs.reading.Leaders.{Leader}
+use Rattle.laws_contents.specs.pack_model.specs.sessions.Maps.{update_found}
+use Rattle.laws_contents.specs.pack_model.specs.reading.Model.{is_named, last_serial, read_sights}
+use Rattle.laws_contents.specs.pack_model.specs.reading.Namings.{AllKept, is_kept, namings, tidied}
+use Rattle.laws_contents.specs.pack_model.specs.reading.Sights.{Sight}
+use Rattle.laws_contents.specs.pack_model.specs.reading.Sights.Sight.{leads}
+use Rattle.laws_contents.specs.pack_model.specs.reading.Slots.{SlotsReachEnd, slots}
+use Rattle.laws_contents.specs.pack_model.specs.operations.Step.{update_file}
+use Rattle.laws_contents.specs.pack_model.specs.states.Whole.{FileWhole, Fits, TidySights, WholeSights}
+use Rattle.laws_contents.specs.pack_laws.proofs.Keys.{fid_same, fid_total, is_fid-sym, same_fid}
+use Rattle.laws_contents.specs.laws_record.proofs.Around.{around}
+use Rattle.laws_contents.specs.laws_record.proofs.Entered.{namings-append}
+use Rattle.laws_contents.specs.laws_record.proofs.Framing.{model_same}
+use Rattle.laws_contents.specs.laws_record.proofs.Keeping.{get-tidied_plain, get-where, kept_insert, plain, tidied_insert}
+use Rattle.laws_contents.specs.laws_record.proofs.Reading.{found_frame, get_alike, get_by, insert_from_get, read_file}
+use Rattle.laws_contents.specs.laws_record.proofs.Tidying.{tidy_same}
 use Rattle.laws_operation.proofs.inside.Elsewhere.{SameBut, not_same, other_bytes, other_file, other_leader, other_used, same_good, there}
 
 -- ---- nothing that is read changes

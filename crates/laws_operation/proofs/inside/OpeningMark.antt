@@ -2,23 +2,23 @@
 use Rattle.std.proofs.Common.{Bool, List, [], ap, arith, cond, eqb-true, false, length, refl, sym, true, ℕ, ◌%◌, ◌*◌, ◌+◌, ◌/◌, ◌∙◌, ◌∷◌, ◌≡◌, ◌≤◌}
 use Rattle.std.proofs.lemmas.Bool.{le-leb}
 use Rattle.std.specs.Prelude.{◌==◌}
-use Rattle.disk_records.specs.Commands.{value_writes}
-use Rattle.disk_records.specs.Packs.{Pack, after, sector_at}
-use Rattle.disk_records.specs.Words.{double, word}
-use Rattle.disk_records.specs.declared.shape.Shape.{Shape}
-use Rattle.pack_model.specs.reading.Bytes.{put_at}
-use Rattle.pack_model.specs.sessions.Descriptor.{opened_value, serial_writes}
-use Rattle.pack_model.specs.reading.Model.{descriptor_words, last_serial, read_as, read_sights}
-use Rattle.pack_model.specs.sessions.Moves.{rest, write}
-use Rattle.pack_model.specs.operations.Operations.Move.{quiet}
-use Rattle.pack_model.specs.operations.PageWords.{halves}
-use Rattle.pack_model.specs.reading.Sights.{sights}
-use Rattle.pack_model.specs.states.Sound.{mark_of, mark_open}
-use Rattle.pack_model.specs.showing.View.{view}
-use Rattle.pack_model.specs.states.Whole.{SaysShape, Tidy, Whole}
-use Rattle.pack_laws.proofs.Bytes.{length-put_at}
-use Rattle.laws_record.proofs.Describing.{view_files}
-use Rattle.laws_record.proofs.Slotwise.{put_before, put_after, put_here}
+use Rattle.laws_contents.specs.disk_records.specs.Commands.{value_writes}
+use Rattle.laws_contents.specs.disk_records.specs.Packs.{Pack, after, sector_at}
+use Rattle.laws_contents.specs.disk_records.specs.Words.{double, word}
+use Rattle.laws_contents.specs.disk_records.specs.declared.shape.Shape.{Shape}
+use Rattle.laws_contents.specs.pack_model.specs.reading.Bytes.{put_at}
+use Rattle.laws_contents.specs.pack_model.specs.sessions.Descriptor.{opened_value, serial_writes}
+use Rattle.laws_contents.specs.pack_model.specs.reading.Model.{descriptor_words, last_serial, read_as, read_sights}
+use Rattle.laws_contents.specs.pack_model.specs.sessions.Moves.{rest, write}
+use Rattle.laws_contents.specs.pack_model.specs.operations.Operations.Move.{quiet}
+use Rattle.laws_contents.specs.pack_model.specs.operations.PageWords.{halves}
+use Rattle.laws_contents.specs.pack_model.specs.reading.Sights.{sights}
+use Rattle.laws_contents.specs.pack_model.specs.states.Sound.{mark_of, mark_open}
+use Rattle.laws_contents.specs.pack_model.specs.showing.View.{view}
+use Rattle.laws_contents.specs.pack_model.specs.states.Whole.{SaysShape, Tidy, Whole}
+use Rattle.laws_contents.specs.pack_laws.proofs.Bytes.{length-put_at}
+use Rattle.laws_contents.specs.laws_record.proofs.Describing.{view_files}
+use Rattle.laws_contents.specs.laws_record.proofs.Slotwise.{put_before, put_after, put_here}
 use Rattle.laws_operation.proofs.FirstWords.{kept_sound, words_read, words_written}
 use Rattle.laws_operation.specs.DescriptorLaws.{KeepsSound, OpenCarriesOut, OpensMark, SerialCarriesOut}
 

@@ -3,11 +3,11 @@ use Rattle.std.proofs.Common.{Bool, List, None, Option, Some, [], ap, arith, con
 use Rattle.std.proofs.lemmas.List.{length-append}
 use Rattle.std.specs.Option.{option_map, option_or}
 use Rattle.std.specs.Prelude.{nat_le}
-use Rattle.alto_words.specs.declared.fid.Fid.{Fid}
-use Rattle.pack_model.specs.reading.Namings.{namings_in}
-use Rattle.pack_model.specs.operations.Rooms.{Room, in_run, left_over, most_free, placed, room_from, room_here, run}
-use Rattle.pack_model.specs.reading.Slots.{Item, all_words, item_words}
-use Rattle.pack_model.specs.reading.Slots.Item.{entry, space}
+use Rattle.laws_contents.specs.alto_words.specs.declared.fid.Fid.{Fid}
+use Rattle.laws_contents.specs.pack_model.specs.reading.Namings.{namings_in}
+use Rattle.laws_contents.specs.pack_model.specs.operations.Rooms.{Room, in_run, left_over, most_free, placed, room_from, room_here, run}
+use Rattle.laws_contents.specs.pack_model.specs.reading.Slots.{Item, all_words, item_words}
+use Rattle.laws_contents.specs.pack_model.specs.reading.Slots.Item.{entry, space}
 
 -- ---- runs
 -- fewer words have a run where more have one, and it isn't longer

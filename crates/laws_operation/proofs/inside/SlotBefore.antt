@@ -1,20 +1,20 @@
 -- The slot of a dropped file's entry, before its file went.
 use Rattle.std.proofs.Common.{Bool, List, [], ap, false, length, refl, subst, sym, true, ℕ, ◌+◌, ◌/◌, ◌∙◌, ◌∷◌, ◌≡◌, ◌≤◌}
 use Rattle.std.specs.Option.{is_some}
-use Rattle.alto_words.specs.Fid.{is_fid}
-use Rattle.alto_words.specs.declared.fid.Fid.{Fid}
-use Rattle.disk_records.specs.Packs.{Pack, after, sector_at}
-use Rattle.pack_model.specs.hints.Links.{dir_words}
-use Rattle.pack_model.specs.operations.Operations.{release_file_writes}
-use Rattle.pack_model.specs.reading.Bytes.{words_of}
-use Rattle.pack_model.specs.reading.Files.{file_bytes, lives}
-use Rattle.pack_model.specs.reading.Sights.{Sight, sights}
-use Rattle.pack_model.specs.reading.Sights.Sight.{hidden}
-use Rattle.pack_model.specs.reading.Slots.{all_words, slots}
-use Rattle.pack_model.specs.reading.Slots.Item.{entry}
-use Rattle.pack_laws.proofs.Keys.{same_fid}
-use Rattle.laws_record.proofs.DirWords.{dir_page}
-use Rattle.laws_record.specs.DirLaws.{DirWrite}
+use Rattle.laws_contents.specs.alto_words.specs.Fid.{is_fid}
+use Rattle.laws_contents.specs.alto_words.specs.declared.fid.Fid.{Fid}
+use Rattle.laws_contents.specs.disk_records.specs.Packs.{Pack, after, sector_at}
+use Rattle.laws_contents.specs.pack_model.specs.hints.Links.{dir_words}
+use Rattle.laws_contents.specs.pack_model.specs.operations.Operations.{release_file_writes}
+use Rattle.laws_contents.specs.pack_model.specs.reading.Bytes.{words_of}
+use Rattle.laws_contents.specs.pack_model.specs.reading.Files.{file_bytes, lives}
+use Rattle.laws_contents.specs.pack_model.specs.reading.Sights.{Sight, sights}
+use Rattle.laws_contents.specs.pack_model.specs.reading.Sights.Sight.{hidden}
+use Rattle.laws_contents.specs.pack_model.specs.reading.Slots.{all_words, slots}
+use Rattle.laws_contents.specs.pack_model.specs.reading.Slots.Item.{entry}
+use Rattle.laws_contents.specs.pack_laws.proofs.Keys.{same_fid}
+use Rattle.laws_contents.specs.laws_record.proofs.DirWords.{dir_page}
+use Rattle.laws_contents.specs.laws_record.specs.DirLaws.{DirWrite}
 use Rattle.laws_operation.proofs.Dropped.{release_law}
 use Rattle.laws_operation.proofs.Seating.{leader_none_is}
 use Rattle.laws_operation.proofs.inside.Elsewhere.{MayBe, not_same, other_bytes, other_leader}

@@ -1,28 +1,28 @@
 -- Claims and releases of pages that aren't read.
 use Rattle.std.proofs.Common.{Bool, List, None, Option, Some, [], ap, append-nil, append_assoc, arith, get_or, inl, inr, length, refl, set, subst, suc, sym, take, true, ℕ, ◌++◌, ◌+◌, ◌∙◌, ◌∷◌, ◌≡◌, ◌≢◌, ◌≤◌}
 use Rattle.std.proofs.lemmas.List.{get_or-set_other, length-append}
-use Rattle.alto_words.specs.Fid.{disk_descriptor}
-use Rattle.alto_words.specs.declared.fid.Fid.{Fid}
-use Rattle.disk_records.specs.Commands.{claim_writes, ones, release_writes}
-use Rattle.disk_records.specs.Labels.{tag}
-use Rattle.disk_records.specs.Packs.{Pack, after, sector_at}
-use Rattle.disk_records.specs.Words.{word}
-use Rattle.disk_records.specs.declared.records.Event.{Event}
-use Rattle.disk_records.specs.declared.shape.Shape.{Shape}
-use Rattle.pack_model.specs.reading.Bytes.{bytes_of}
-use Rattle.pack_model.specs.operations.Commands.{Claim, Claimable, all_claimed, claimed, claims_writes, releases_writes, sectors_of}
-use Rattle.pack_model.specs.reading.Files.{leader, most_pages}
-use Rattle.pack_model.specs.reading.Leaders.{Leader}
-use Rattle.pack_model.specs.sessions.Meanings.{reading}
-use Rattle.pack_model.specs.reading.Model.{Model, good_one, read_as, read_sights}
-use Rattle.pack_model.specs.sessions.Moves.{Obeys, rest, steps}
-use Rattle.pack_model.specs.operations.Operations.{Move, claims_moves, releases_moves}
-use Rattle.pack_model.specs.operations.Operations.Move.{quiet}
-use Rattle.pack_model.specs.reading.Sights.{Sight, sights}
-use Rattle.pack_model.specs.reading.Sights.Sight.{free, hidden, holds, leads, stray}
-use Rattle.pack_model.specs.states.Whole.{HasPages, Headless, IsLaid, Leads, PageAt}
-use Rattle.pack_laws.proofs.Guarding.{ones_free}
-use Rattle.pack_laws.proofs.Moving.{obeys_then}
+use Rattle.laws_contents.specs.alto_words.specs.Fid.{disk_descriptor}
+use Rattle.laws_contents.specs.alto_words.specs.declared.fid.Fid.{Fid}
+use Rattle.laws_contents.specs.disk_records.specs.Commands.{claim_writes, ones, release_writes}
+use Rattle.laws_contents.specs.disk_records.specs.Labels.{tag}
+use Rattle.laws_contents.specs.disk_records.specs.Packs.{Pack, after, sector_at}
+use Rattle.laws_contents.specs.disk_records.specs.Words.{word}
+use Rattle.laws_contents.specs.disk_records.specs.declared.records.Event.{Event}
+use Rattle.laws_contents.specs.disk_records.specs.declared.shape.Shape.{Shape}
+use Rattle.laws_contents.specs.pack_model.specs.reading.Bytes.{bytes_of}
+use Rattle.laws_contents.specs.pack_model.specs.operations.Commands.{Claim, Claimable, all_claimed, claimed, claims_writes, releases_writes, sectors_of}
+use Rattle.laws_contents.specs.pack_model.specs.reading.Files.{leader, most_pages}
+use Rattle.laws_contents.specs.pack_model.specs.reading.Leaders.{Leader}
+use Rattle.laws_contents.specs.pack_model.specs.sessions.Meanings.{reading}
+use Rattle.laws_contents.specs.pack_model.specs.reading.Model.{Model, good_one, read_as, read_sights}
+use Rattle.laws_contents.specs.pack_model.specs.sessions.Moves.{Obeys, rest, steps}
+use Rattle.laws_contents.specs.pack_model.specs.operations.Operations.{Move, claims_moves, releases_moves}
+use Rattle.laws_contents.specs.pack_model.specs.operations.Operations.Move.{quiet}
+use Rattle.laws_contents.specs.pack_model.specs.reading.Sights.{Sight, sights}
+use Rattle.laws_contents.specs.pack_model.specs.reading.Sights.Sight.{free, hidden, holds, leads, stray}
+use Rattle.laws_contents.specs.pack_model.specs.states.Whole.{HasPages, Headless, IsLaid, Leads, PageAt}
+use Rattle.laws_contents.specs.pack_laws.proofs.Guarding.{ones_free}
+use Rattle.laws_contents.specs.pack_laws.proofs.Moving.{obeys_then}
 use Rattle.laws_operation.proofs.Commanding.{claim_apart, claim_obeys, claim_shows, release_apart, release_obeys, release_shows}
 use Rattle.laws_operation.proofs.inside.Elsewhere.{MayBe, SameBut, but_trans, same_refl, same_set}
 use Rattle.laws_operation.proofs.Lying.{bytes_laid, within}

@@ -4,16 +4,16 @@ use Rattle.std.proofs.lemmas.Bool.{le-leb}
 use Rattle.std.proofs.lemmas.List.Elements.{All-append}
 use Rattle.std.proofs.lemmas.List.{append-nil, drop_all, length-append, length-take, take-take, take_at}
 use Rattle.std.specs.Prelude.{All, nat_le, nat_lt, ◌==◌}
-use Rattle.alto_words.specs.Fid.{serial_of}
-use Rattle.disk_records.specs.Labels.{Tag, in_range, tag}
-use Rattle.disk_records.specs.Packs.{Pack, sector_at}
-use Rattle.disk_records.specs.Words.{word}
-use Rattle.pack_model.specs.reading.Bytes.{bytes_of, put_at, words_of}
-use Rattle.pack_model.specs.reading.Files.{page}
-use Rattle.pack_model.specs.reading.Namings.{fits}
-use Rattle.pack_model.specs.operations.PageWords.{page_number, put_value, relabelled}
-use Rattle.pack_laws.proofs.Bytes.{bytes_below, bytes_of-put, take-put_at}
-use Rattle.laws_record.specs.QuietLaws.{counted_of}
+use Rattle.laws_contents.specs.alto_words.specs.Fid.{serial_of}
+use Rattle.laws_contents.specs.disk_records.specs.Labels.{Tag, in_range, tag}
+use Rattle.laws_contents.specs.disk_records.specs.Packs.{Pack, sector_at}
+use Rattle.laws_contents.specs.disk_records.specs.Words.{word}
+use Rattle.laws_contents.specs.pack_model.specs.reading.Bytes.{bytes_of, put_at, words_of}
+use Rattle.laws_contents.specs.pack_model.specs.reading.Files.{page}
+use Rattle.laws_contents.specs.pack_model.specs.reading.Namings.{fits}
+use Rattle.laws_contents.specs.pack_model.specs.operations.PageWords.{page_number, put_value, relabelled}
+use Rattle.laws_contents.specs.pack_laws.proofs.Bytes.{bytes_below, bytes_of-put, take-put_at}
+use Rattle.laws_contents.specs.laws_record.specs.QuietLaws.{counted_of}
 use Rattle.laws_operation.proofs.Making.{named_page}
 use Rattle.laws_operation.specs.WordLaws.{BytesInAValue, LabelWithAnotherCount}
 

@@ -1,21 +1,21 @@
 -- Sights that differ in hints alone: they are read the same, and one is whole where the other is.
 use Rattle.std.proofs.Common.{◌*◌, ◌+◌, ◌/◌, ◌<◌, ◌∙◌, ◌∷◌, ◌≡◌, ◌≢◌, ◌⊎◌, Bool, List, None, Option, Some, [], ap, arith, cond, false, get_or, inl, inr, length, nat_le, refl, suc, sym, true, zero, ℕ}
 use Rattle.std.specs.Option.{is_some, option_map, option_or}
-use Rattle.alto_words.specs.Fid.{disk_descriptor, is_directory, is_fid}
-use Rattle.alto_words.specs.declared.fid.Fid.{Fid}
-use Rattle.disk_records.specs.Words.{word}
-use Rattle.disk_records.specs.declared.shape.Shape.{Shape}
-use Rattle.pack_model.specs.reading.Bodies.{body_of, described}
-use Rattle.pack_model.specs.reading.Bodies.Body.{data_of, items_of}
-use Rattle.pack_model.specs.reading.Bytes.{words_of}
-use Rattle.pack_model.specs.reading.Files.{carries_page, file_bytes, first, leader, leader_at, lives, numbered, place, place_at}
-use Rattle.pack_model.specs.reading.Leaders.{Leader}
-use Rattle.pack_model.specs.reading.Model.{descriptor_words, good_one, good_sectors, last_serial, read_sights}
-use Rattle.pack_model.specs.reading.Namings.{tidied}
-use Rattle.pack_model.specs.reading.Sights.{Sight}
-use Rattle.pack_model.specs.reading.Sights.Sight.{hidden, holds, leads, stray}
-use Rattle.pack_model.specs.reading.Slots.{slots}
-use Rattle.pack_model.specs.states.Sound.{mark_of}
+use Rattle.pack_laws.specs.alto_words.specs.Fid.{disk_descriptor, is_directory, is_fid}
+use Rattle.pack_laws.specs.alto_words.specs.declared.fid.Fid.{Fid}
+use Rattle.pack_laws.specs.disk_records.specs.Words.{word}
+use Rattle.pack_laws.specs.disk_records.specs.declared.shape.Shape.{Shape}
+use Rattle.pack_laws.specs.pack_model.specs.reading.Bodies.{body_of, described}
+use Rattle.pack_laws.specs.pack_model.specs.reading.Bodies.Body.{data_of, items_of}
+use Rattle.pack_laws.specs.pack_model.specs.reading.Bytes.{words_of}
+use Rattle.pack_laws.specs.pack_model.specs.reading.Files.{carries_page, file_bytes, first, leader, leader_at, lives, numbered, place, place_at}
+use Rattle.pack_laws.specs.pack_model.specs.reading.Leaders.{Leader}
+use Rattle.pack_laws.specs.pack_model.specs.reading.Model.{descriptor_words, good_one, good_sectors, last_serial, read_sights}
+use Rattle.pack_laws.specs.pack_model.specs.reading.Namings.{tidied}
+use Rattle.pack_laws.specs.pack_model.specs.reading.Sights.{Sight}
+use Rattle.pack_laws.specs.pack_model.specs.reading.Sights.Sight.{hidden, holds, leads, stray}
+use Rattle.pack_laws.specs.pack_model.specs.reading.Slots.{slots}
+use Rattle.pack_laws.specs.pack_model.specs.states.Sound.{mark_of}
 use Rattle.pack_laws.proofs.Bytes.{length-words_of}
 use Rattle.laws_record.proofs.Framing.{lives_same, model_same}
 use Rattle.laws_record.proofs.Keeping.{described_kept}

@@ -1,22 +1,22 @@
 -- Sights that differ in hints alone: where one is whole, the other is.
 use Rattle.std.proofs.Common.{◌/◌, ◌∙◌, ◌∷◌, ◌≡◌, ◌≤◌, Bool, List, [], ap, arith, get_or, inl, inr, length, nat_lt, refl, subst, suc, sym, true, ℕ}
-use Rattle.alto_words.specs.Fid.{disk_descriptor, serial_of, sys_dir}
-use Rattle.alto_words.specs.declared.fid.Fid.{Fid}
-use Rattle.disk_records.specs.Packs.{Pack}
-use Rattle.disk_records.specs.declared.shape.Shape.{Shape}
-use Rattle.pack_model.specs.reading.Bodies.{described}
-use Rattle.pack_model.specs.reading.Bytes.{words_of}
-use Rattle.pack_model.specs.reading.Files.{file_bytes, lives, most_pages}
-use Rattle.pack_model.specs.reading.Leaders.{Leader}
-use Rattle.pack_model.specs.reading.Model.{is_named, read_as, read_sights}
-use Rattle.pack_model.specs.reading.Namings.{IsTidy}
-use Rattle.pack_model.specs.reading.Sights.{Sight, sights}
-use Rattle.pack_model.specs.reading.Sights.Sight.{free, hidden, holds, leads, stray}
-use Rattle.pack_model.specs.reading.Slots.{IsEven, SlotsReachEnd, slots}
-use Rattle.pack_model.specs.reading.Slots.IsEven.{none, two}
-use Rattle.pack_model.specs.states.Sound.{Clean, Sound}
-use Rattle.pack_model.specs.states.Whole.{HasPages, FileWhole, IsLaid, IsSeat, Leads, PageAt, Seated, TidySights, WholeSights}
-use Rattle.pack_model.specs.states.Whole.FileWhole.{absent, present}
+use Rattle.pack_laws.specs.alto_words.specs.Fid.{disk_descriptor, serial_of, sys_dir}
+use Rattle.pack_laws.specs.alto_words.specs.declared.fid.Fid.{Fid}
+use Rattle.pack_laws.specs.disk_records.specs.Packs.{Pack}
+use Rattle.pack_laws.specs.disk_records.specs.declared.shape.Shape.{Shape}
+use Rattle.pack_laws.specs.pack_model.specs.reading.Bodies.{described}
+use Rattle.pack_laws.specs.pack_model.specs.reading.Bytes.{words_of}
+use Rattle.pack_laws.specs.pack_model.specs.reading.Files.{file_bytes, lives, most_pages}
+use Rattle.pack_laws.specs.pack_model.specs.reading.Leaders.{Leader}
+use Rattle.pack_laws.specs.pack_model.specs.reading.Model.{is_named, read_as, read_sights}
+use Rattle.pack_laws.specs.pack_model.specs.reading.Namings.{IsTidy}
+use Rattle.pack_laws.specs.pack_model.specs.reading.Sights.{Sight, sights}
+use Rattle.pack_laws.specs.pack_model.specs.reading.Sights.Sight.{free, hidden, holds, leads, stray}
+use Rattle.pack_laws.specs.pack_model.specs.reading.Slots.{IsEven, SlotsReachEnd, slots}
+use Rattle.pack_laws.specs.pack_model.specs.reading.Slots.IsEven.{none, two}
+use Rattle.pack_laws.specs.pack_model.specs.states.Sound.{Clean, Sound}
+use Rattle.pack_laws.specs.pack_model.specs.states.Whole.{HasPages, FileWhole, IsLaid, IsSeat, Leads, PageAt, Seated, TidySights, WholeSights}
+use Rattle.pack_laws.specs.pack_model.specs.states.Whole.FileWhole.{absent, present}
 use Rattle.laws_record.proofs.inside.Alike.{Alike, OneAlike, described_alike, holds_alike, leads_alike, live_alike, mark_alike, one_sym, read_alike, stray_alike}
 use Rattle.pack_laws.proofs.Bytes.{length-words_of}
 use Rattle.laws_record.proofs.Heads.{all_read, reads_all}

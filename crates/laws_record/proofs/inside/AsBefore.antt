@@ -1,7 +1,7 @@
 -- Record writes after which a pack is read or viewed as before.
 use Rattle.std.proofs.Common.{[], ◌∷◌}
-use Rattle.disk_records.specs.Packs.{Pack, after}
-use Rattle.disk_records.specs.declared.records.Event.TheVariants.{Wrote}
+use Rattle.pack_laws.specs.disk_records.specs.Packs.{Pack, after}
+use Rattle.pack_laws.specs.disk_records.specs.declared.records.Event.TheVariants.{Wrote}
 use Rattle.laws_record.proofs.Copying.{copy_claim, copy_release, lowest_release}
 use Rattle.laws_record.proofs.DirEnds.{cut_at_slots}
 use Rattle.laws_record.proofs.DirKinds.{loose_words}

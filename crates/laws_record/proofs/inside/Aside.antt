@@ -2,15 +2,15 @@
 use Rattle.std.proofs.Common.{◌&&◌, ◌++◌, ◌∙◌, ◌∷◌, ◌≡◌, Bool, List, Some, [], ap, cond, false, not, refl, sym, true, ℕ}
 use Rattle.std.specs.FinMap.{entries, entries-insert, find, get, insert}
 use Rattle.std.specs.List.{list_any}
-use Rattle.alto_words.specs.Fid.{fid_cmp, is_fid}
-use Rattle.alto_words.specs.declared.fid.Fid.{Fid}
-use Rattle.pack_model.specs.reading.Bodies.{Body, File, Files}
-use Rattle.pack_model.specs.reading.Bodies.Body.{data_of, items_of}
-use Rattle.pack_model.specs.reading.Leaders.{Leader}
-use Rattle.pack_model.specs.reading.Namings.{Naming, body_kept, body_namings, clashes, files_kept, fits, is_kept, is_own, items_kept, kept_after, kept_after_body, namings, namings_in}
-use Rattle.pack_model.specs.reading.Slots.{Item, item_words}
-use Rattle.pack_model.specs.reading.Slots.Item.{entry, space}
-use Rattle.pack_model.specs.showing.View.{homes}
+use Rattle.pack_laws.specs.alto_words.specs.Fid.{fid_cmp, is_fid}
+use Rattle.pack_laws.specs.alto_words.specs.declared.fid.Fid.{Fid}
+use Rattle.pack_laws.specs.pack_model.specs.reading.Bodies.{Body, File, Files}
+use Rattle.pack_laws.specs.pack_model.specs.reading.Bodies.Body.{data_of, items_of}
+use Rattle.pack_laws.specs.pack_model.specs.reading.Leaders.{Leader}
+use Rattle.pack_laws.specs.pack_model.specs.reading.Namings.{Naming, body_kept, body_namings, clashes, files_kept, fits, is_kept, is_own, items_kept, kept_after, kept_after_body, namings, namings_in}
+use Rattle.pack_laws.specs.pack_model.specs.reading.Slots.{Item, item_words}
+use Rattle.pack_laws.specs.pack_model.specs.reading.Slots.Item.{entry, space}
+use Rattle.pack_laws.specs.pack_model.specs.showing.View.{homes}
 use Rattle.laws_record.proofs.Around.{around}
 use Rattle.laws_record.proofs.Dropping.{others, others-append}
 use Rattle.laws_record.proofs.Entered.{directory}

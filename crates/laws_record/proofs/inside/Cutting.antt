@@ -2,11 +2,11 @@
 use Rattle.std.proofs.Common.{◌%◌, ◌*◌, ◌++◌, ◌+◌, ◌-◌, ◌<◌, ◌∙◌, ◌∷◌, ◌≡◌, ◌≢◌, ◌≤◌, Bool, List, None, Option, Some, [], ap, arith, cond, drop, false, length, length-take, lt-ltb, nat_lt, refl, suc, sym, take, take-take, true, zero, ℕ}
 use Rattle.std.proofs.Math.Seq.{take-add}
 use Rattle.std.proofs.lemmas.List.{drop-take, drop_at, get_or-take, length-take-le, take-append-le, take_at}
-use Rattle.alto_words.specs.declared.fid.Fid.{Fid}
-use Rattle.pack_model.specs.reading.Bytes.{words_of}
-use Rattle.pack_model.specs.reading.Files.{file_bytes, joined, most_pages, page}
-use Rattle.pack_model.specs.reading.Sights.{Sight}
-use Rattle.pack_model.specs.reading.Slots.{Item, all_words, item_words, slot_at, slot_of, slots}
+use Rattle.pack_laws.specs.alto_words.specs.declared.fid.Fid.{Fid}
+use Rattle.pack_laws.specs.pack_model.specs.reading.Bytes.{words_of}
+use Rattle.pack_laws.specs.pack_model.specs.reading.Files.{file_bytes, joined, most_pages, page}
+use Rattle.pack_laws.specs.pack_model.specs.reading.Sights.{Sight}
+use Rattle.pack_laws.specs.pack_model.specs.reading.Slots.{Item, all_words, item_words, slot_at, slot_of, slots}
 use Rattle.laws_record.proofs.Heads.{head_of, head_reads, slots_cons, slots_nil, slots_none, slots_some}
 use Rattle.pack_laws.proofs.Joining.{AreShort, Reaches, continue, front, joined_at, joined_change, length-front, skip}
 

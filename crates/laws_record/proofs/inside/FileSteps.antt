@@ -1,15 +1,15 @@
 -- Put, cut and grow: the record write is the step.
 use Rattle.std.proofs.Common.{◌%◌, ◌*◌, ◌++◌, ◌+◌, ◌-◌, ◌/◌, ◌<◌, ◌∙◌, ◌∷◌, ◌≡◌, ◌≢◌, ◌≤◌, Bool, List, Some, [], ap, append_assoc, arith, cond, drop, false, length, length-take, lt-ltb, min, nat_lt, refl, set, subst, suc, sym, take, take-append-drop, take-take, true, ℕ}
 use Rattle.std.proofs.lemmas.List.{drop_at, take_min}
-use Rattle.alto_words.specs.Fid.{is_fid}
-use Rattle.alto_words.specs.declared.fid.Fid.{Fid}
-use Rattle.disk_records.specs.Labels.{page_of, tag}
-use Rattle.disk_records.specs.Packs.{Pack, after, sector_at}
-use Rattle.disk_records.specs.declared.records.Event.TheVariants.{Wrote}
-use Rattle.pack_model.specs.reading.Bytes.{bytes_of, put_at}
-use Rattle.pack_model.specs.reading.Files.{file_bytes, joined, most_pages, page}
-use Rattle.pack_model.specs.reading.Sights.{Sight, sights}
-use Rattle.pack_model.specs.reading.Sights.Sight.{hidden, holds}
+use Rattle.pack_laws.specs.alto_words.specs.Fid.{is_fid}
+use Rattle.pack_laws.specs.alto_words.specs.declared.fid.Fid.{Fid}
+use Rattle.pack_laws.specs.disk_records.specs.Labels.{page_of, tag}
+use Rattle.pack_laws.specs.disk_records.specs.Packs.{Pack, after, sector_at}
+use Rattle.pack_laws.specs.disk_records.specs.declared.records.Event.TheVariants.{Wrote}
+use Rattle.pack_laws.specs.pack_model.specs.reading.Bytes.{bytes_of, put_at}
+use Rattle.pack_laws.specs.pack_model.specs.reading.Files.{file_bytes, joined, most_pages, page}
+use Rattle.pack_laws.specs.pack_model.specs.reading.Sights.{Sight, sights}
+use Rattle.pack_laws.specs.pack_model.specs.reading.Sights.Sight.{hidden, holds}
 use Rattle.laws_record.proofs.inside.Cutting.{bytes_cut}
 use Rattle.laws_record.proofs.DirEnds.{enough}
 use Rattle.pack_laws.proofs.Joining.{Reaches, continue, front, joined_at, joined_change, most_is, skip}

@@ -2,19 +2,19 @@
 use Rattle.std.proofs.Common.{◌%◌, ◌*◌, ◌+◌, ◌/◌, ◌<◌, ◌∙◌, ◌≡◌, ◌≢◌, ◌≤◌, ◌⊎◌, List, None, Option, Some, ap, arith, false, get_or, inl, inr, length, length-take, map, min, refl, subst, suc, sym, take, true, ℕ}
 use Rattle.std.proofs.lemmas.Bool.{cases_lt}
 use Rattle.std.proofs.lemmas.List.{get_or-take, get_or_past}
-use Rattle.alto_words.specs.Fid.{disk_descriptor, is_directory, is_fid}
-use Rattle.alto_words.specs.declared.fid.Fid.{Fid}
-use Rattle.disk_records.specs.Labels.{tag}
-use Rattle.disk_records.specs.Packs.{Pack, sector_at}
-use Rattle.disk_records.specs.Words.{word}
-use Rattle.pack_model.specs.reading.Bytes.{bytes_of, words_of}
-use Rattle.pack_model.specs.reading.Files.{file_bytes, most_pages, page, place}
-use Rattle.pack_model.specs.hints.HintWords.{IsAddressWord, IsHintByte, IsMapWord, SameButHints}
-use Rattle.pack_model.specs.hints.HintWords.IsHintByte.{of_entry, of_free, of_leader, of_map, past_count}
-use Rattle.pack_model.specs.reading.Model.{descriptor_words}
-use Rattle.pack_model.specs.reading.Sights.{sights}
-use Rattle.pack_model.specs.reading.Sights.Sight.{free, hidden, holds, leads}
-use Rattle.pack_model.specs.reading.Slots.{slots}
+use Rattle.pack_laws.specs.alto_words.specs.Fid.{disk_descriptor, is_directory, is_fid}
+use Rattle.pack_laws.specs.alto_words.specs.declared.fid.Fid.{Fid}
+use Rattle.pack_laws.specs.disk_records.specs.Labels.{tag}
+use Rattle.pack_laws.specs.disk_records.specs.Packs.{Pack, sector_at}
+use Rattle.pack_laws.specs.disk_records.specs.Words.{word}
+use Rattle.pack_laws.specs.pack_model.specs.reading.Bytes.{bytes_of, words_of}
+use Rattle.pack_laws.specs.pack_model.specs.reading.Files.{file_bytes, most_pages, page, place}
+use Rattle.pack_laws.specs.pack_model.specs.hints.HintWords.{IsAddressWord, IsHintByte, IsMapWord, SameButHints}
+use Rattle.pack_laws.specs.pack_model.specs.hints.HintWords.IsHintByte.{of_entry, of_free, of_leader, of_map, past_count}
+use Rattle.pack_laws.specs.pack_model.specs.reading.Model.{descriptor_words}
+use Rattle.pack_laws.specs.pack_model.specs.reading.Sights.{sights}
+use Rattle.pack_laws.specs.pack_model.specs.reading.Sights.Sight.{free, hidden, holds, leads}
+use Rattle.pack_laws.specs.pack_model.specs.reading.Slots.{slots}
 use Rattle.laws_record.proofs.Addressing.{IsLoose, LooseIn, loose_among, slots_kept}
 use Rattle.laws_record.proofs.inside.Alike.{Alike}
 use Rattle.laws_record.proofs.inside.AlikeWhole.{means_alike}

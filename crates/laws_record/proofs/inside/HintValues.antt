@@ -2,9 +2,9 @@
 use Rattle.std.proofs.Common.{List, ap, drop, eq-eqb, eqb-true, false, get_or, inl, inr, length, refl, subst, sym, true, ℕ, ◌==◌, ◌∙◌, ◌≡◌, ◌⊎◌}
 use Rattle.std.proofs.lemmas.Bool.{cases_lt}
 use Rattle.std.proofs.lemmas.List.{length-set, set_past}
-use Rattle.disk_records.specs.Packs.{Pack, no_sector, sector_at, with_part}
-use Rattle.pack_model.specs.reading.Bytes.{bytes_of}
-use Rattle.pack_model.specs.hints.HintWords.{IsHintByte, SameButHints, byte_at}
+use Rattle.pack_laws.specs.disk_records.specs.Packs.{Pack, no_sector, sector_at, with_part}
+use Rattle.pack_laws.specs.pack_model.specs.reading.Bytes.{bytes_of}
+use Rattle.pack_laws.specs.pack_model.specs.hints.HintWords.{IsHintByte, SameButHints, byte_at}
 use Rattle.pack_laws.proofs.Guarding.{front_from, here_written, other_kept}
 use Rattle.laws_record.proofs.inside.HintBytes.{hints_mean_nothing}
 use Rattle.laws_record.specs.HintLaws.{ValueWithOtherHints}

@@ -2,19 +2,19 @@
 use Rattle.std.proofs.Common.{◌%◌, ◌&&◌, ◌*◌, ◌+◌, ◌/◌, ◌<◌, ◌∙◌, ◌∷◌, ◌≡◌, Bool, List, [], ap, arith, cond, false, get_or, inl, inr, length, length-take, map, min, nat_lt, refl, subst, suc, sym, take, true, zero, ℕ}
 use Rattle.std.proofs.lemmas.Bool.{cases_lt}
 use Rattle.std.proofs.lemmas.List.{get_or_past}
-use Rattle.alto_words.specs.Fid.{disk_descriptor}
-use Rattle.alto_words.specs.declared.fid.Fid.{Fid}
-use Rattle.disk_records.specs.Addresses.{is_right_header}
-use Rattle.disk_records.specs.Labels.{Tag, in_range, is_free, tag}
-use Rattle.disk_records.specs.Packs.{Pack, is_usable, sector_at}
-use Rattle.disk_records.specs.Words.{word}
-use Rattle.pack_model.specs.reading.Bytes.{bytes_of, words_of}
-use Rattle.pack_model.specs.reading.Files.{place}
-use Rattle.pack_model.specs.hints.HintWords.{IsHintByte, SameButHints}
-use Rattle.pack_model.specs.hints.HintWords.IsHintByte.{of_entry, of_free, of_leader, of_map, past_count}
-use Rattle.pack_model.specs.reading.Leaders.{Leader, is_readable, leader_of, leader_words}
-use Rattle.pack_model.specs.reading.Sights.{page_sight, sight, sights, tag_sight}
-use Rattle.pack_model.specs.reading.Sights.Sight.{free, hidden, holds, leads, stray}
+use Rattle.pack_laws.specs.alto_words.specs.Fid.{disk_descriptor}
+use Rattle.pack_laws.specs.alto_words.specs.declared.fid.Fid.{Fid}
+use Rattle.pack_laws.specs.disk_records.specs.Addresses.{is_right_header}
+use Rattle.pack_laws.specs.disk_records.specs.Labels.{Tag, in_range, is_free, tag}
+use Rattle.pack_laws.specs.disk_records.specs.Packs.{Pack, is_usable, sector_at}
+use Rattle.pack_laws.specs.disk_records.specs.Words.{word}
+use Rattle.pack_laws.specs.pack_model.specs.reading.Bytes.{bytes_of, words_of}
+use Rattle.pack_laws.specs.pack_model.specs.reading.Files.{place}
+use Rattle.pack_laws.specs.pack_model.specs.hints.HintWords.{IsHintByte, SameButHints}
+use Rattle.pack_laws.specs.pack_model.specs.hints.HintWords.IsHintByte.{of_entry, of_free, of_leader, of_map, past_count}
+use Rattle.pack_laws.specs.pack_model.specs.reading.Leaders.{Leader, is_readable, leader_of, leader_words}
+use Rattle.pack_laws.specs.pack_model.specs.reading.Sights.{page_sight, sight, sights, tag_sight}
+use Rattle.pack_laws.specs.pack_model.specs.reading.Sights.Sight.{free, hidden, holds, leads, stray}
 use Rattle.laws_record.proofs.Addressing.{take_same}
 use Rattle.laws_record.proofs.inside.Alike.{OneAlike, carry_alike, place_all}
 use Rattle.pack_laws.proofs.Bytes.{length-bytes_of}

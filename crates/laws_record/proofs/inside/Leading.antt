@@ -2,12 +2,12 @@
 use Rattle.std.proofs.Common.{◌<◌, ◌∙◌, ◌≡◌, ◌≢◌, List, None, ap, cond, false, get_or, length, refl, set, sym, true, ℕ}
 use Rattle.std.specs.FinMap.{get, get-remove, remove, same_map}
 use Rattle.std.specs.Option.{option_map}
-use Rattle.alto_words.specs.Fid.{is_fid}
-use Rattle.alto_words.specs.declared.fid.Fid.{Fid}
-use Rattle.pack_model.specs.reading.Bodies.{found}
-use Rattle.pack_model.specs.reading.Files.{file_bytes, leader, leader_at, page_at}
-use Rattle.pack_model.specs.reading.Sights.{Sight}
-use Rattle.pack_model.specs.reading.Sights.Sight.{free, hidden}
+use Rattle.pack_laws.specs.alto_words.specs.Fid.{is_fid}
+use Rattle.pack_laws.specs.alto_words.specs.declared.fid.Fid.{Fid}
+use Rattle.pack_laws.specs.pack_model.specs.reading.Bodies.{found}
+use Rattle.pack_laws.specs.pack_model.specs.reading.Files.{file_bytes, leader, leader_at, page_at}
+use Rattle.pack_laws.specs.pack_model.specs.reading.Sights.{Sight}
+use Rattle.pack_laws.specs.pack_model.specs.reading.Sights.Sight.{free, hidden}
 use Rattle.pack_laws.proofs.Firsts.{first_alone, first_same}
 use Rattle.pack_laws.proofs.Keys.{fid_same, fid_total, same_fid}
 use Rattle.laws_record.proofs.Framing.{bytes_same}

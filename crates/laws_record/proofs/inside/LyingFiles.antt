@@ -3,16 +3,16 @@ use Rattle.std.proofs.Common.{Bool, List, None, Option, Some, [], ap, arith, fal
 use Rattle.std.proofs.lemmas.Bool.{cases_eq, not-true}
 use Rattle.std.specs.Option.{is_some}
 use Rattle.std.specs.Prelude.{nat_lt}
-use Rattle.alto_words.specs.Fid.{sys_dir}
-use Rattle.alto_words.specs.declared.fid.Fid.{Fid}
-use Rattle.disk_records.specs.Packs.{Pack}
-use Rattle.pack_model.specs.reading.Files.{file_bytes, leader, lives, most_pages, page, place}
-use Rattle.pack_model.specs.states.InUse.{counts, in_use, is_good, is_place}
-use Rattle.pack_model.specs.reading.Leaders.{Leader}
-use Rattle.pack_model.specs.states.Sentences.{IsWholeBySentences}
-use Rattle.pack_model.specs.reading.Sights.{Sight, sights}
-use Rattle.pack_model.specs.reading.Sights.Sight.{free, hidden, holds, leads, stray}
-use Rattle.pack_model.specs.states.Whole.{HasPages, FileWhole, IsLaid, Whole, absent, present}
+use Rattle.pack_laws.specs.alto_words.specs.Fid.{sys_dir}
+use Rattle.pack_laws.specs.alto_words.specs.declared.fid.Fid.{Fid}
+use Rattle.pack_laws.specs.disk_records.specs.Packs.{Pack}
+use Rattle.pack_laws.specs.pack_model.specs.reading.Files.{file_bytes, leader, lives, most_pages, page, place}
+use Rattle.pack_laws.specs.pack_model.specs.states.InUse.{counts, in_use, is_good, is_place}
+use Rattle.pack_laws.specs.pack_model.specs.reading.Leaders.{Leader}
+use Rattle.pack_laws.specs.pack_model.specs.states.Sentences.{IsWholeBySentences}
+use Rattle.pack_laws.specs.pack_model.specs.reading.Sights.{Sight, sights}
+use Rattle.pack_laws.specs.pack_model.specs.reading.Sights.Sight.{free, hidden, holds, leads, stray}
+use Rattle.pack_laws.specs.pack_model.specs.states.Whole.{HasPages, FileWhole, IsLaid, Whole, absent, present}
 use Rattle.pack_laws.proofs.Joining.{Reaches, content, is_full, length-joined}
 use Rattle.pack_laws.proofs.Placing.{leader_of_place, page_of_place, place_of_leader, place_of_page, short_pages}
 use Rattle.laws_record.proofs.Heads.{and_left, and_right}

@@ -1,16 +1,16 @@
 -- The next entry that settling adds leaves what is shown.
 use Rattle.std.proofs.Common.{List, None, Some, [], ap, cond, false, length, not, refl, subst, sym, ℕ, ◌++◌, ◌+◌, ◌∙◌, ◌∷◌, ◌≡◌}
 use Rattle.std.specs.FinMap.{get, insert}
-use Rattle.alto_words.specs.Fid.{is_system, sys_dir}
-use Rattle.alto_words.specs.declared.fid.Fid.{Fid}
-use Rattle.pack_model.specs.reading.Leaders.{Leader}
-use Rattle.pack_model.specs.reading.Model.{Model, read_as}
-use Rattle.pack_model.specs.reading.Namings.{namings_in}
-use Rattle.pack_model.specs.operations.Rooms.{left_over}
-use Rattle.pack_model.specs.showing.Settling.{chosen, settle}
-use Rattle.pack_model.specs.reading.Slots.{Item, entry_length}
-use Rattle.pack_model.specs.reading.Slots.Item.{entry, space}
-use Rattle.pack_model.specs.showing.View.{Seen, names_of, view}
+use Rattle.pack_laws.specs.alto_words.specs.Fid.{is_system, sys_dir}
+use Rattle.pack_laws.specs.alto_words.specs.declared.fid.Fid.{Fid}
+use Rattle.pack_laws.specs.pack_model.specs.reading.Leaders.{Leader}
+use Rattle.pack_laws.specs.pack_model.specs.reading.Model.{Model, read_as}
+use Rattle.pack_laws.specs.pack_model.specs.reading.Namings.{namings_in}
+use Rattle.pack_laws.specs.pack_model.specs.operations.Rooms.{left_over}
+use Rattle.pack_laws.specs.pack_model.specs.showing.Settling.{chosen, settle}
+use Rattle.pack_laws.specs.pack_model.specs.reading.Slots.{Item, entry_length}
+use Rattle.pack_laws.specs.pack_model.specs.reading.Slots.Item.{entry, space}
+use Rattle.pack_laws.specs.pack_model.specs.showing.View.{Seen, names_of, view}
 use Rattle.laws_record.proofs.DirReads.{insert_same}
 use Rattle.laws_record.proofs.Entered.{directory, namings_in-append}
 use Rattle.laws_record.proofs.Entering.{back_slots, dir_leader, enter_reads, front_slots, model_dir}

@@ -1,21 +1,21 @@
 -- One ordinary file has other bytes: what is read then.
 use Rattle.std.proofs.Common.{◌∙◌, ◌≡◌, List, None, Some, ap, cond, false, not, refl, set, sym, ℕ}
 use Rattle.std.specs.FinMap.{get, insert, retain_keys}
-use Rattle.alto_words.specs.Fid.{disk_descriptor, is_fid}
-use Rattle.alto_words.specs.declared.fid.Fid.{Fid}
-use Rattle.disk_records.specs.Packs.{Pack}
-use Rattle.pack_model.specs.reading.Bodies.{described, found, is_described}
-use Rattle.pack_model.specs.reading.Bodies.Body.{data_of, items_of}
-use Rattle.pack_model.specs.reading.Bytes.{words_of}
-use Rattle.pack_model.specs.reading.Files.{file_bytes, leader, lives}
-use Rattle.pack_model.specs.reading.Leaders.{Leader}
-use Rattle.pack_model.specs.sessions.Maps.{update_found}
-use Rattle.pack_model.specs.reading.Model.{good_one, good_sectors, last_serial, read_as, read_sights}
-use Rattle.pack_model.specs.reading.Namings.{tidied}
-use Rattle.pack_model.specs.reading.Sights.{sights}
-use Rattle.pack_model.specs.reading.Sights.Sight.{hidden, holds}
-use Rattle.pack_model.specs.reading.Slots.{slots}
-use Rattle.pack_model.specs.operations.Step.{on_bytes, update_file}
+use Rattle.pack_laws.specs.alto_words.specs.Fid.{disk_descriptor, is_fid}
+use Rattle.pack_laws.specs.alto_words.specs.declared.fid.Fid.{Fid}
+use Rattle.pack_laws.specs.disk_records.specs.Packs.{Pack}
+use Rattle.pack_laws.specs.pack_model.specs.reading.Bodies.{described, found, is_described}
+use Rattle.pack_laws.specs.pack_model.specs.reading.Bodies.Body.{data_of, items_of}
+use Rattle.pack_laws.specs.pack_model.specs.reading.Bytes.{words_of}
+use Rattle.pack_laws.specs.pack_model.specs.reading.Files.{file_bytes, leader, lives}
+use Rattle.pack_laws.specs.pack_model.specs.reading.Leaders.{Leader}
+use Rattle.pack_laws.specs.pack_model.specs.sessions.Maps.{update_found}
+use Rattle.pack_laws.specs.pack_model.specs.reading.Model.{good_one, good_sectors, last_serial, read_as, read_sights}
+use Rattle.pack_laws.specs.pack_model.specs.reading.Namings.{tidied}
+use Rattle.pack_laws.specs.pack_model.specs.reading.Sights.{sights}
+use Rattle.pack_laws.specs.pack_model.specs.reading.Sights.Sight.{hidden, holds}
+use Rattle.pack_laws.specs.pack_model.specs.reading.Slots.{slots}
+use Rattle.pack_laws.specs.pack_model.specs.operations.Step.{on_bytes, update_file}
 use Rattle.laws_record.proofs.DirReads.{has_leader}
 use Rattle.laws_record.proofs.Framing.{good_set, lives_same, model_same}
 use Rattle.laws_record.proofs.Keeping.{get-tidied_plain, get-where, kept_insert, plain, tidied_insert}

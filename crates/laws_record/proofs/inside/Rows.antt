@@ -1,11 +1,11 @@
 -- The pages of a file in a row, each in its place.
 use Rattle.std.proofs.Common.{◌+◌, ◌<◌, ◌∙◌, ◌≡◌, ◌≤◌, ◌∷◌, List, None, Option, Some, [], ap, arith, get_or, inl, inr, length, lt-ltb, refl, subst, suc, sym, zero, ℕ}
 use Rattle.std.proofs.lemmas.Bool.{cases_eq}
-use Rattle.alto_words.specs.declared.fid.Fid.{Fid}
-use Rattle.pack_model.specs.reading.Files.{page, place}
-use Rattle.pack_model.specs.reading.Sights.{Sight}
-use Rattle.pack_model.specs.reading.Sights.Sight.{hidden, holds}
-use Rattle.pack_model.specs.states.Whole.{IsLaid, IsSeat, PageAt, Seated}
+use Rattle.pack_laws.specs.alto_words.specs.declared.fid.Fid.{Fid}
+use Rattle.pack_laws.specs.pack_model.specs.reading.Files.{page, place}
+use Rattle.pack_laws.specs.pack_model.specs.reading.Sights.{Sight}
+use Rattle.pack_laws.specs.pack_model.specs.reading.Sights.Sight.{hidden, holds}
+use Rattle.pack_laws.specs.pack_model.specs.states.Whole.{IsLaid, IsSeat, PageAt, Seated}
 use Rattle.pack_laws.proofs.Joining.{content}
 
 -- the sector of a page that is there

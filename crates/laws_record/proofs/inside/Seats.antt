@@ -1,9 +1,9 @@
 -- The seats of a file's pages, by their numbers.
 use Rattle.std.proofs.Common.{◌+◌, ◌<◌, ◌∙◌, ◌≡◌, ◌∷◌, List, [], ap, arith, get_or, inl, inr, length, ltb-true, refl, suc, zero, ℕ}
-use Rattle.alto_words.specs.declared.fid.Fid.{Fid}
-use Rattle.pack_model.specs.reading.Sights.{Sight}
-use Rattle.pack_model.specs.reading.Sights.Sight.{hidden, holds}
-use Rattle.pack_model.specs.states.Whole.{IsLaid, IsSeat, PageAt, Seated}
+use Rattle.pack_laws.specs.alto_words.specs.declared.fid.Fid.{Fid}
+use Rattle.pack_laws.specs.pack_model.specs.reading.Sights.{Sight}
+use Rattle.pack_laws.specs.pack_model.specs.reading.Sights.Sight.{hidden, holds}
+use Rattle.pack_laws.specs.pack_model.specs.states.Whole.{IsLaid, IsSeat, PageAt, Seated}
 
 -- page j of these
 abbrev pub seat : List PageAt → ℕ → PageAt

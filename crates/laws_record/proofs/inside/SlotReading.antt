@@ -2,7 +2,7 @@
 use Rattle.std.proofs.Common.{◌%◌, ◌++◌, ◌∙◌, ◌≡◌, ◌≤◌, List, None, Option, Some, ap, arith, drop, inl, inr, length, length-append, refl, sym, ℕ}
 use Rattle.std.proofs.lemmas.Bool.{cases_lt}
 use Rattle.std.proofs.lemmas.List.{get_or_append_left, take-append-le}
-use Rattle.pack_model.specs.reading.Slots.{Item, and_then, item_words, slot_at, slot_of, slots}
+use Rattle.pack_laws.specs.pack_model.specs.reading.Slots.{Item, and_then, item_words, slot_at, slot_of, slots}
 use Rattle.laws_record.proofs.Heads.{all_read, head_of, head_reads, reads_all, slots_none, slots_some}
 use Rattle.laws_record.proofs.Slotting.{slots_reads}
 use Rattle.laws_record.specs.SlotLaws.{LengthIsRead, MoreAfter, NotYet, OneByOne, ReadsOn, ReadsToTheEnd}

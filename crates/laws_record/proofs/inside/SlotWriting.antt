@@ -3,12 +3,12 @@ use Rattle.std.proofs.Common.{◌%◌, ◌*◌, ◌++◌, ◌+◌, ◌/◌, ◌<
 use Rattle.std.specs.List.{list_all}
 use Rattle.std.proofs.lemmas.Bool.{and_parts}
 use Rattle.std.proofs.lemmas.List.{get_or-take}
-use Rattle.alto_words.specs.declared.fid.Fid.{Fid}
-use Rattle.disk_records.specs.Words.{word}
-use Rattle.pack_model.specs.reading.Bytes.{bytes_of, words_of}
-use Rattle.pack_model.specs.reading.SlotWords.{entry_words, short_name_words}
-use Rattle.pack_model.specs.reading.Slots.{entry_length, is_entry, slot_fid, slot_name, slot_of, slot_pad}
-use Rattle.pack_model.specs.reading.Slots.Item.{entry, space}
+use Rattle.pack_laws.specs.alto_words.specs.declared.fid.Fid.{Fid}
+use Rattle.pack_laws.specs.disk_records.specs.Words.{word}
+use Rattle.pack_laws.specs.pack_model.specs.reading.Bytes.{bytes_of, words_of}
+use Rattle.pack_laws.specs.pack_model.specs.reading.SlotWords.{entry_words, short_name_words}
+use Rattle.pack_laws.specs.pack_model.specs.reading.Slots.{entry_length, is_entry, slot_fid, slot_name, slot_of, slot_pad}
+use Rattle.pack_laws.specs.pack_model.specs.reading.Slots.Item.{entry, space}
 use Rattle.pack_laws.proofs.Bytes.{length-bytes_of, words_of-bytes_of}
 use Rattle.laws_record.proofs.Heads.{head_of, slot_size}
 use Rattle.laws_record.specs.SlotLaws.{EntryWritesBack}

@@ -2,13 +2,13 @@
 use Rattle.std.proofs.Common.{◌∙◌, ◌≡◌, Bool, None, Option, [], ap, cond, false, not, refl, sym, true, ℕ}
 use Rattle.std.specs.FinMap.{entries, find, get, get-from_entries, same_map}
 use Rattle.std.specs.Option.{option_map}
-use Rattle.alto_words.specs.Fid.{fid_cmp, is_system}
-use Rattle.alto_words.specs.declared.fid.Fid.{Fid}
-use Rattle.disk_records.specs.declared.shape.Shape.{Shape}
-use Rattle.pack_model.specs.reading.Bodies.{Files}
-use Rattle.pack_model.specs.sessions.Maps.{map_values}
-use Rattle.pack_model.specs.reading.Namings.{files_kept, is_kept, namings, tidied}
-use Rattle.pack_model.specs.showing.View.{Home, homes, names_of, seen_of, view}
+use Rattle.pack_laws.specs.alto_words.specs.Fid.{fid_cmp, is_system}
+use Rattle.pack_laws.specs.alto_words.specs.declared.fid.Fid.{Fid}
+use Rattle.pack_laws.specs.disk_records.specs.declared.shape.Shape.{Shape}
+use Rattle.pack_laws.specs.pack_model.specs.reading.Bodies.{Files}
+use Rattle.pack_laws.specs.pack_model.specs.sessions.Maps.{map_values}
+use Rattle.pack_laws.specs.pack_model.specs.reading.Namings.{files_kept, is_kept, namings, tidied}
+use Rattle.pack_laws.specs.pack_model.specs.showing.View.{Home, homes, names_of, seen_of, view}
 use Rattle.laws_record.proofs.Keeping.{get-where}
 use Rattle.pack_laws.proofs.Keys.{fid_same, fid_total}
 use Rattle.pack_laws.proofs.Mapping.{get-map_values}

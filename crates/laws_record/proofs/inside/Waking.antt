@@ -1,14 +1,14 @@
 -- A system file comes alive: what is shown stays, on any pack. (As Alive, for either system file.)
 use Rattle.std.proofs.Common.{◌&&◌, ◌++◌, ◌||◌, ◌∙◌, ◌∷◌, ◌≡◌, Bool, List, [], ap, cond, false, not, refl, subst, sym, true, ℕ}
 use Rattle.std.specs.List.{list_any}
-use Rattle.alto_words.specs.Fid.{is_fid, sys_dir}
-use Rattle.alto_words.specs.Names.{is_same_name}
-use Rattle.alto_words.specs.declared.fid.Fid.{Fid}
-use Rattle.pack_model.specs.reading.Bodies.{Body, File}
-use Rattle.pack_model.specs.reading.Bodies.Body.{data_of, items_of}
-use Rattle.pack_model.specs.reading.Namings.{Naming, body_kept, body_namings, clashes, files_kept, fits, is_kept, is_own, items_kept, kept_after, kept_after_body, namings, namings_in}
-use Rattle.pack_model.specs.reading.Slots.{Item, item_words}
-use Rattle.pack_model.specs.reading.Slots.Item.{entry, space}
+use Rattle.pack_laws.specs.alto_words.specs.Fid.{is_fid, sys_dir}
+use Rattle.pack_laws.specs.alto_words.specs.Names.{is_same_name}
+use Rattle.pack_laws.specs.alto_words.specs.declared.fid.Fid.{Fid}
+use Rattle.pack_laws.specs.pack_model.specs.reading.Bodies.{Body, File}
+use Rattle.pack_laws.specs.pack_model.specs.reading.Bodies.Body.{data_of, items_of}
+use Rattle.pack_laws.specs.pack_model.specs.reading.Namings.{Naming, body_kept, body_namings, clashes, files_kept, fits, is_kept, is_own, items_kept, kept_after, kept_after_body, namings, namings_in}
+use Rattle.pack_laws.specs.pack_model.specs.reading.Slots.{Item, item_words}
+use Rattle.pack_laws.specs.pack_model.specs.reading.Slots.Item.{entry, space}
 use Rattle.laws_record.proofs.Dropping.{others, others-append}
 use Rattle.laws_record.proofs.Fitting.{same_sym, same_trans}
 use Rattle.laws_record.proofs.Heads.{and_left, and_right}

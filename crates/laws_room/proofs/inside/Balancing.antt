@@ -1,13 +1,13 @@
 -- What a scavenge keeps, by the files as it will find them.
 use Rattle.std.proofs.Common.{ap, arith, ◌+◌, ◌≡◌}
-use Rattle.disk_records.specs.Packs.{Pack}
-use Rattle.pack_model.specs.states.InUse.{available}
-use Rattle.pack_model.specs.scavenger.Mended.{lacking, mended, needs}
-use Rattle.pack_model.specs.reading.Model.{Model, descriptor_pages, good_sectors}
-use Rattle.pack_model.specs.scavenger.Needed.{needed}
-use Rattle.pack_model.specs.showing.Settling.{settle, show}
-use Rattle.pack_model.specs.reading.Sights.{sights}
-use Rattle.pack_model.specs.showing.View.{view}
+use Rattle.laws_operation.specs.disk_records.specs.Packs.{Pack}
+use Rattle.laws_operation.specs.pack_model.specs.states.InUse.{available}
+use Rattle.laws_operation.specs.pack_model.specs.scavenger.Mended.{lacking, mended, needs}
+use Rattle.laws_operation.specs.pack_model.specs.reading.Model.{Model, descriptor_pages, good_sectors}
+use Rattle.laws_operation.specs.pack_model.specs.scavenger.Needed.{needed}
+use Rattle.laws_operation.specs.pack_model.specs.showing.Settling.{settle, show}
+use Rattle.laws_operation.specs.pack_model.specs.reading.Sights.{sights}
+use Rattle.laws_operation.specs.pack_model.specs.showing.View.{view}
 use Rattle.laws_room.proofs.inside.Rooming.{counting_theorem}
 use Rattle.laws_room.specs.KeepLaws.{KeepsWithRoot}
 use Rattle.laws_record.proofs.Systemic.{MendedStay, mended_same}

@@ -2,18 +2,18 @@
 use Rattle.std.proofs.Common.{◌∙◌, ◌≡◌, Bool, List, None, Option, Some, ap, cond, false, not, refl, sym, true, ℕ}
 use Rattle.std.specs.FinMap.{get}
 use Rattle.std.specs.Option.{is_some, option_map}
-use Rattle.alto_words.specs.Fid.{is_directory}
-use Rattle.alto_words.specs.declared.fid.Fid.{Fid}
-use Rattle.disk_records.specs.declared.shape.Shape.{Shape}
-use Rattle.pack_model.specs.reading.Bodies.{Body, File, described, found, is_described}
-use Rattle.pack_model.specs.reading.Bodies.Body.{data_of, items_of}
-use Rattle.pack_model.specs.reading.Bytes.{words_of}
-use Rattle.pack_model.specs.reading.Files.{file_bytes, leader, lives}
-use Rattle.pack_model.specs.reading.Leaders.{Leader}
-use Rattle.pack_model.specs.reading.Model.{Model, read_sights}
-use Rattle.pack_model.specs.reading.Sights.{Sight}
-use Rattle.pack_model.specs.reading.Slots.{slots}
-use Rattle.pack_model.specs.showing.View.{seen_body, seen_of}
+use Rattle.laws_operation.specs.alto_words.specs.Fid.{is_directory}
+use Rattle.laws_operation.specs.alto_words.specs.declared.fid.Fid.{Fid}
+use Rattle.laws_operation.specs.disk_records.specs.declared.shape.Shape.{Shape}
+use Rattle.laws_operation.specs.pack_model.specs.reading.Bodies.{Body, File, described, found, is_described}
+use Rattle.laws_operation.specs.pack_model.specs.reading.Bodies.Body.{data_of, items_of}
+use Rattle.laws_operation.specs.pack_model.specs.reading.Bytes.{words_of}
+use Rattle.laws_operation.specs.pack_model.specs.reading.Files.{file_bytes, leader, lives}
+use Rattle.laws_operation.specs.pack_model.specs.reading.Leaders.{Leader}
+use Rattle.laws_operation.specs.pack_model.specs.reading.Model.{Model, read_sights}
+use Rattle.laws_operation.specs.pack_model.specs.reading.Sights.{Sight}
+use Rattle.laws_operation.specs.pack_model.specs.reading.Slots.{slots}
+use Rattle.laws_operation.specs.pack_model.specs.showing.View.{seen_body, seen_of}
 use Rattle.laws_record.proofs.Keeping.{get-where}
 use Rattle.laws_record.proofs.Mending.{get-seen}
 use Rattle.laws_record.proofs.Reading.{get-found, read_file}

@@ -3,23 +3,23 @@ use Rattle.std.proofs.Common.{Bool, List, None, Some, [], ap, arith, cond, eq-eq
 use Rattle.std.proofs.lemmas.Bool.{cases_lt}
 use Rattle.std.proofs.Math.ListN.{length-set}
 use Rattle.std.proofs.lemmas.List.{get_or-set_other, get_or-set_same, get_or_past}
-use Rattle.alto_words.specs.Fid.{disk_descriptor}
-use Rattle.alto_words.specs.declared.fid.Fid.{Fid}
-use Rattle.disk_records.specs.Labels.{page_of, tag}
-use Rattle.disk_records.specs.Packs.{Pack, carried, is_free_at, is_usable, sector_at}
-use Rattle.disk_records.specs.declared.records.Page.{Page}
-use Rattle.disk_records.specs.declared.shape.Shape.{Shape}
-use Rattle.pack_model.specs.reading.Files.{carries_page, numbered, place}
-use Rattle.pack_model.specs.states.InUse.{available, counts, how_many, is_available, is_place, one_if}
-use Rattle.pack_model.specs.scavenger.Mended.{mended}
-use Rattle.pack_model.specs.reading.Sights.{Sight, page_sight, sights}
-use Rattle.pack_model.specs.reading.Sights.Sight.{free, hidden, holds, leads, stray}
+use Rattle.laws_operation.specs.alto_words.specs.Fid.{disk_descriptor}
+use Rattle.laws_operation.specs.alto_words.specs.declared.fid.Fid.{Fid}
+use Rattle.laws_operation.specs.disk_records.specs.Labels.{page_of, tag}
+use Rattle.laws_operation.specs.disk_records.specs.Packs.{Pack, carried, is_free_at, is_usable, sector_at}
+use Rattle.laws_operation.specs.disk_records.specs.declared.records.Page.{Page}
+use Rattle.laws_operation.specs.disk_records.specs.declared.shape.Shape.{Shape}
+use Rattle.laws_operation.specs.pack_model.specs.reading.Files.{carries_page, numbered, place}
+use Rattle.laws_operation.specs.pack_model.specs.states.InUse.{available, counts, how_many, is_available, is_place, one_if}
+use Rattle.laws_operation.specs.pack_model.specs.scavenger.Mended.{mended}
+use Rattle.laws_operation.specs.pack_model.specs.reading.Sights.{Sight, page_sight, sights}
+use Rattle.laws_operation.specs.pack_model.specs.reading.Sights.Sight.{free, hidden, holds, leads, stray}
 use Rattle.laws_room.proofs.inside.Balancing.{needs_files}
 use Rattle.laws_room.proofs.inside.RootStanding.{within_stays}
 use Rattle.laws_room.proofs.inside.Rooming.{counting_theorem}
-use Rattle.pack_laws.proofs.Guarding.{free_parts, here_written, usable_within}
-use Rattle.pack_laws.proofs.Keys.{is_fid-itself, same_fid}
-use Rattle.pack_laws.proofs.Placing.{both_test, place_from, place_none, place_same}
+use Rattle.laws_operation.specs.pack_laws.proofs.Guarding.{free_parts, here_written, usable_within}
+use Rattle.laws_operation.specs.pack_laws.proofs.Keys.{is_fid-itself, same_fid}
+use Rattle.laws_operation.specs.pack_laws.proofs.Placing.{both_test, place_from, place_none, place_same}
 use Rattle.laws_record.proofs.Lasting.{last_claim}
 use Rattle.laws_record.proofs.Recording.{free_sight, free_within, label_sights}
 use Rattle.laws_record.proofs.Staying.{FilesStay}

@@ -2,18 +2,18 @@
 use Rattle.std.proofs.Common.{◌&&◌, ◌+◌, ◌∙◌, ◌∷◌, ◌≡◌, Bool, List, None, Some, T, [], ap, arith, cond, false, nat_le, not, refl, suc, true, ℕ}
 use Rattle.std.specs.FinMap.{entries, entries_sorted, find, get-entries, is_sorted}
 use Rattle.std.specs.FinMap.Entries.{below_all}
-use Rattle.alto_words.specs.Fid.{fid_cmp, is_fid}
-use Rattle.alto_words.specs.declared.fid.Fid.{Fid}
-use Rattle.disk_records.specs.declared.shape.Shape.{Shape}
-use Rattle.pack_model.specs.reading.Bodies.{File, found}
-use Rattle.pack_model.specs.reading.Files.{numbered, place}
-use Rattle.pack_model.specs.states.InUse.{available, counts, how_many, in_use, is_good, is_place, is_within, last_page, of_page, one_if}
-use Rattle.pack_model.specs.reading.Model.{good_one, good_sectors}
-use Rattle.pack_model.specs.reading.Sights.{Sight}
-use Rattle.pack_model.specs.reading.Sights.Sight.{free, hidden, holds, leads, stray}
+use Rattle.laws_operation.specs.alto_words.specs.Fid.{fid_cmp, is_fid}
+use Rattle.laws_operation.specs.alto_words.specs.declared.fid.Fid.{Fid}
+use Rattle.laws_operation.specs.disk_records.specs.declared.shape.Shape.{Shape}
+use Rattle.laws_operation.specs.pack_model.specs.reading.Bodies.{File, found}
+use Rattle.laws_operation.specs.pack_model.specs.reading.Files.{numbered, place}
+use Rattle.laws_operation.specs.pack_model.specs.states.InUse.{available, counts, how_many, in_use, is_good, is_place, is_within, last_page, of_page, one_if}
+use Rattle.laws_operation.specs.pack_model.specs.reading.Model.{good_one, good_sectors}
+use Rattle.laws_operation.specs.pack_model.specs.reading.Sights.{Sight}
+use Rattle.laws_operation.specs.pack_model.specs.reading.Sights.Sight.{free, hidden, holds, leads, stray}
 use Rattle.laws_room.proofs.inside.Pages.{file_many, none_many, none_page, same_many, same_page, sum_many, sum_page, up_to}
 use Rattle.laws_room.specs.CountLaws.{count_placed}
-use Rattle.pack_laws.proofs.Keys.{same_fid}
+use Rattle.laws_operation.specs.pack_laws.proofs.Keys.{same_fid}
 use Rattle.laws_record.proofs.Around.{first_part, not_below, second_part}
 
 -- ---- all files

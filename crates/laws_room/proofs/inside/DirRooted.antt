@@ -1,24 +1,24 @@
 -- The words of one directory change: the files as the Scavenger will find them, and the pages that count.
 use Rattle.std.proofs.Common.{◌*◌, ◌/◌, ◌∙◌, ◌≡◌, Bool, List, Some, [], ap, cond, false, nat_le, refl, subst, suc, sym, true, ℕ}
 use Rattle.std.specs.FinMap.{get, get-insert, insert}
-use Rattle.alto_words.specs.Fid.{is_directory, is_fid, sys_dir}
-use Rattle.alto_words.specs.declared.fid.Fid.{Fid}
-use Rattle.disk_records.specs.Addresses.{descriptor_length}
-use Rattle.disk_records.specs.Packs.{Pack}
-use Rattle.pack_model.specs.reading.Bodies.{File, Files, described}
-use Rattle.pack_model.specs.reading.Bodies.Body.{data_of, items_of}
-use Rattle.pack_model.specs.reading.Bytes.{words_of}
-use Rattle.pack_model.specs.reading.Files.{file_bytes, leader, lives}
-use Rattle.pack_model.specs.states.InUse.{counts, is_within}
-use Rattle.pack_model.specs.reading.Leaders.{Leader}
-use Rattle.pack_model.specs.hints.Links.{dir_words}
-use Rattle.pack_model.specs.scavenger.Mended.{root_file, rooted, with_system}
-use Rattle.pack_model.specs.reading.Namings.{tidied}
-use Rattle.pack_model.specs.reading.Sights.{sights}
-use Rattle.pack_model.specs.reading.Slots.{Item, all_words, slots}
+use Rattle.laws_operation.specs.alto_words.specs.Fid.{is_directory, is_fid, sys_dir}
+use Rattle.laws_operation.specs.alto_words.specs.declared.fid.Fid.{Fid}
+use Rattle.laws_operation.specs.disk_records.specs.Addresses.{descriptor_length}
+use Rattle.laws_operation.specs.disk_records.specs.Packs.{Pack}
+use Rattle.laws_operation.specs.pack_model.specs.reading.Bodies.{File, Files, described}
+use Rattle.laws_operation.specs.pack_model.specs.reading.Bodies.Body.{data_of, items_of}
+use Rattle.laws_operation.specs.pack_model.specs.reading.Bytes.{words_of}
+use Rattle.laws_operation.specs.pack_model.specs.reading.Files.{file_bytes, leader, lives}
+use Rattle.laws_operation.specs.pack_model.specs.states.InUse.{counts, is_within}
+use Rattle.laws_operation.specs.pack_model.specs.reading.Leaders.{Leader}
+use Rattle.laws_operation.specs.pack_model.specs.hints.Links.{dir_words}
+use Rattle.laws_operation.specs.pack_model.specs.scavenger.Mended.{root_file, rooted, with_system}
+use Rattle.laws_operation.specs.pack_model.specs.reading.Namings.{tidied}
+use Rattle.laws_operation.specs.pack_model.specs.reading.Sights.{sights}
+use Rattle.laws_operation.specs.pack_model.specs.reading.Slots.{Item, all_words, slots}
 use Rattle.laws_room.proofs.inside.RootStanding.{SamePagesCount}
 use Rattle.laws_room.proofs.inside.RootedAt.{counted_file, rooted_at}
-use Rattle.pack_laws.proofs.Keys.{fid_total, is_fid-itself, same_fid}
+use Rattle.laws_operation.specs.pack_laws.proofs.Keys.{fid_total, is_fid-itself, same_fid}
 use Rattle.laws_record.proofs.DirReads.{dir_files, dir_lives, dir_was, insert_same, not_descriptor}
 use Rattle.laws_record.proofs.DirWords.{DirChange}
 use Rattle.laws_record.proofs.Entered.{directory}

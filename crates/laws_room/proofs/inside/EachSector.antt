@@ -1,7 +1,7 @@
 -- Each sector of a whole pack is free or in use, where its header is right.
 use Rattle.std.proofs.Common.{get_or, refl}
-use Rattle.pack_model.specs.reading.Sights.{sights}
-use Rattle.pack_model.specs.reading.Sights.Sight.{hidden}
+use Rattle.laws_operation.specs.pack_model.specs.reading.Sights.{sights}
+use Rattle.laws_operation.specs.pack_model.specs.reading.Sights.Sight.{hidden}
 use Rattle.laws_room.proofs.inside.WholeFiles.{sector_free, sector_used}
 use Rattle.laws_room.specs.RoomLaws.{EachSectorIsUsedOrFree}
 

@@ -2,22 +2,22 @@
 use Rattle.std.proofs.Common.{Bool, List, None, Option, Some, ap, cond, false, length, refl, subst, suc, sym, true, ℕ, ◌+◌, ◌/◌, ◌∙◌, ◌≡◌, ◌≤◌}
 use Rattle.std.specs.FinMap.{contains_key, get}
 use Rattle.std.specs.Option.{is_some, option_map}
-use Rattle.alto_words.specs.Fid.{disk_descriptor, is_fid, is_system}
-use Rattle.alto_words.specs.declared.fid.Fid.{Fid}
-use Rattle.disk_records.specs.Packs.{Pack, after}
-use Rattle.disk_records.specs.declared.records.Event.{Event}
-use Rattle.pack_model.specs.reading.Bodies.{File, described, found, is_described}
-use Rattle.pack_model.specs.operations.Committing.{length_of}
-use Rattle.pack_model.specs.reading.Files.{file_bytes, leader, lives, place}
-use Rattle.pack_model.specs.reading.Leaders.{Leader}
-use Rattle.pack_model.specs.reading.Model.{read_as, read_sights}
-use Rattle.pack_model.specs.reading.Sights.{sights}
-use Rattle.pack_model.specs.reading.Sights.Sight.{hidden}
-use Rattle.pack_model.specs.operations.Step.{Operation, step}
-use Rattle.pack_model.specs.operations.Step.Operation.{drop_file, enter}
-use Rattle.pack_model.specs.showing.View.{seen_of}
-use Rattle.pack_model.specs.states.Whole.{Tidy, Whole}
-use Rattle.pack_laws.proofs.Placing.{leader_of_place, page_of_place}
+use Rattle.laws_operation.specs.alto_words.specs.Fid.{disk_descriptor, is_fid, is_system}
+use Rattle.laws_operation.specs.alto_words.specs.declared.fid.Fid.{Fid}
+use Rattle.laws_operation.specs.disk_records.specs.Packs.{Pack, after}
+use Rattle.laws_operation.specs.disk_records.specs.declared.records.Event.{Event}
+use Rattle.laws_operation.specs.pack_model.specs.reading.Bodies.{File, described, found, is_described}
+use Rattle.laws_operation.specs.pack_model.specs.operations.Committing.{length_of}
+use Rattle.laws_operation.specs.pack_model.specs.reading.Files.{file_bytes, leader, lives, place}
+use Rattle.laws_operation.specs.pack_model.specs.reading.Leaders.{Leader}
+use Rattle.laws_operation.specs.pack_model.specs.reading.Model.{read_as, read_sights}
+use Rattle.laws_operation.specs.pack_model.specs.reading.Sights.{sights}
+use Rattle.laws_operation.specs.pack_model.specs.reading.Sights.Sight.{hidden}
+use Rattle.laws_operation.specs.pack_model.specs.operations.Step.{Operation, step}
+use Rattle.laws_operation.specs.pack_model.specs.operations.Step.Operation.{drop_file, enter}
+use Rattle.laws_operation.specs.pack_model.specs.showing.View.{seen_of}
+use Rattle.laws_operation.specs.pack_model.specs.states.Whole.{Tidy, Whole}
+use Rattle.laws_operation.specs.pack_laws.proofs.Placing.{leader_of_place, page_of_place}
 use Rattle.laws_record.proofs.DirReads.{not_descriptor}
 use Rattle.laws_record.proofs.Keeping.{get-where}
 use Rattle.laws_record.proofs.Mending.{get-seen}

@@ -2,23 +2,23 @@
 use Rattle.std.proofs.Common.{List, None, Some, ap, refl, set, subst, sym, ◌∙◌, ◌≡◌}
 use Rattle.std.specs.FinMap.{get}
 use Rattle.std.specs.Option.{option_map}
-use Rattle.alto_words.specs.Fid.{sys_dir}
-use Rattle.disk_records.specs.Labels.{tag}
-use Rattle.disk_records.specs.Packs.{sector_at}
-use Rattle.disk_records.specs.declared.records.Page.{Page}
-use Rattle.pack_model.specs.reading.Bodies.{described}
-use Rattle.pack_model.specs.reading.Bodies.Body.{items_of}
-use Rattle.pack_model.specs.reading.Files.{file_bytes, leader, leader_at}
-use Rattle.pack_model.specs.reading.Leaders.{Leader, is_readable, leader_of, leader_words}
-use Rattle.pack_model.specs.hints.Links.{dir_words}
-use Rattle.pack_model.specs.scavenger.Mended.{root_body}
-use Rattle.pack_model.specs.reading.Model.{good_one}
-use Rattle.pack_model.specs.reading.Sights.{Sight, page_sight, sights}
-use Rattle.pack_model.specs.reading.Slots.{slots}
+use Rattle.laws_operation.specs.alto_words.specs.Fid.{sys_dir}
+use Rattle.laws_operation.specs.disk_records.specs.Labels.{tag}
+use Rattle.laws_operation.specs.disk_records.specs.Packs.{sector_at}
+use Rattle.laws_operation.specs.disk_records.specs.declared.records.Page.{Page}
+use Rattle.laws_operation.specs.pack_model.specs.reading.Bodies.{described}
+use Rattle.laws_operation.specs.pack_model.specs.reading.Bodies.Body.{items_of}
+use Rattle.laws_operation.specs.pack_model.specs.reading.Files.{file_bytes, leader, leader_at}
+use Rattle.laws_operation.specs.pack_model.specs.reading.Leaders.{Leader, is_readable, leader_of, leader_words}
+use Rattle.laws_operation.specs.pack_model.specs.hints.Links.{dir_words}
+use Rattle.laws_operation.specs.pack_model.specs.scavenger.Mended.{root_body}
+use Rattle.laws_operation.specs.pack_model.specs.reading.Model.{good_one}
+use Rattle.laws_operation.specs.pack_model.specs.reading.Sights.{Sight, page_sight, sights}
+use Rattle.laws_operation.specs.pack_model.specs.reading.Slots.{slots}
 use Rattle.laws_room.specs.KeepLaws.{FreshLeaderOfTheMainDirectoryKeeps}
-use Rattle.pack_laws.proofs.Firsts.{first_new}
-use Rattle.pack_laws.proofs.Guarding.{free_parts}
-use Rattle.pack_laws.proofs.Placing.{leader_at-leads}
+use Rattle.laws_operation.specs.pack_laws.proofs.Firsts.{first_new}
+use Rattle.laws_operation.specs.pack_laws.proofs.Guarding.{free_parts}
+use Rattle.laws_operation.specs.pack_laws.proofs.Placing.{leader_at-leads}
 use Rattle.laws_record.proofs.Reading.{get-found, get_by, read_file}
 use Rattle.laws_record.proofs.Recording.{free_sight, free_within, label_sights}
 use Rattle.laws_record.proofs.SystemWrites.{mended_from}

@@ -1,7 +1,7 @@
 -- Record writes that keep what a scavenge keeps.
 use Rattle.std.proofs.Common.{[], ◌∷◌}
-use Rattle.disk_records.specs.Packs.{Pack, after, sector_at}
-use Rattle.disk_records.specs.declared.records.Event.TheVariants.{Wrote}
+use Rattle.laws_operation.specs.disk_records.specs.Packs.{Pack, after, sector_at}
+use Rattle.laws_operation.specs.disk_records.specs.declared.records.Event.TheVariants.{Wrote}
 use Rattle.laws_room.proofs.inside.Balancing.{mended_keeps}
 use Rattle.laws_room.proofs.inside.FreshRoot.{fresh_root}
 use Rattle.laws_room.proofs.inside.RootStanding.{root_may, within_stays}

@@ -2,18 +2,18 @@
 use Rattle.std.proofs.Common.{◌++◌, ◌||◌, ◌∙◌, ◌∷◌, ◌≡◌, Bool, List, None, Some, [], ap, cond, false, not, refl, sym, true, ℕ}
 use Rattle.std.specs.FinMap.{FinMap, entries, find, get, get-from_entries, get-insert, insert, retain_keys, same_map}
 use Rattle.std.specs.List.{list_any}
-use Rattle.alto_words.specs.Fid.{fid_cmp, is_fid, is_system, sys_dir}
-use Rattle.alto_words.specs.declared.fid.Fid.{Fid}
-use Rattle.disk_records.specs.declared.shape.Shape.{Shape}
-use Rattle.pack_model.specs.reading.Bodies.{Files}
-use Rattle.pack_model.specs.reading.Leaders.{Leader}
-use Rattle.pack_model.specs.reading.Model.{Model, is_named}
-use Rattle.pack_model.specs.reading.Namings.{Naming, namings, namings_in}
-use Rattle.pack_model.specs.reading.Slots.{Item}
-use Rattle.pack_model.specs.reading.Slots.Item.{entry, space}
-use Rattle.pack_model.specs.showing.View.{Home, homes, names_of, view}
+use Rattle.laws_operation.specs.alto_words.specs.Fid.{fid_cmp, is_fid, is_system, sys_dir}
+use Rattle.laws_operation.specs.alto_words.specs.declared.fid.Fid.{Fid}
+use Rattle.laws_operation.specs.disk_records.specs.declared.shape.Shape.{Shape}
+use Rattle.laws_operation.specs.pack_model.specs.reading.Bodies.{Files}
+use Rattle.laws_operation.specs.pack_model.specs.reading.Leaders.{Leader}
+use Rattle.laws_operation.specs.pack_model.specs.reading.Model.{Model, is_named}
+use Rattle.laws_operation.specs.pack_model.specs.reading.Namings.{Naming, namings, namings_in}
+use Rattle.laws_operation.specs.pack_model.specs.reading.Slots.{Item}
+use Rattle.laws_operation.specs.pack_model.specs.reading.Slots.Item.{entry, space}
+use Rattle.laws_operation.specs.pack_model.specs.showing.View.{Home, homes, names_of, view}
 use Rattle.laws_room.proofs.Standing.{Stands}
-use Rattle.pack_laws.proofs.Keys.{fid_same, fid_total, is_fid-sym, same_fid}
+use Rattle.laws_operation.specs.pack_laws.proofs.Keys.{fid_same, fid_total, is_fid-sym, same_fid}
 use Rattle.laws_record.proofs.Around.{around}
 use Rattle.laws_record.proofs.DirReads.{insert_same}
 use Rattle.laws_record.proofs.Entered.{Spot, directory, enter_names, namings_around, namings_in-append, spot}
@@ -21,7 +21,7 @@ use Rattle.laws_record.proofs.Keeping.{get-where}
 use Rattle.laws_record.proofs.Tidying.{or_false_left, or_false_right}
 use Rattle.laws_record.proofs.Viewing.{same_view, seen_same, view_enter, view_slots}
 use Rattle.std.proofs.lemmas.List.Folds.{list_any-append}
-use Rattle.pack_laws.proofs.Inserting.{swap_or}
+use Rattle.laws_operation.specs.pack_laws.proofs.Inserting.{swap_or}
 
 -- ---- which files are named
 -- a file that no entry names has no home

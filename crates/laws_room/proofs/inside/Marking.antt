@@ -1,27 +1,27 @@
 -- The mark of DiskDescriptor, by its first data page.
 use Rattle.std.proofs.Common.{Bool, List, None, Option, Some, [], ap, arith, cond, eqb-true, false, get_or, inl, inr, length, ltb-false, nat_lt, refl, suc, sym, take, true, zero, ℕ, ◌&&◌, ◌*◌, ◌++◌, ◌+◌, ◌-◌, ◌<◌, ◌==◌, ◌∙◌, ◌∷◌, ◌≡◌, ◌≢◌, ◌≤◌, ◌⊎◌}
 use Rattle.std.proofs.lemmas.Bool.{cases_lt, eqb-false}
-use Rattle.alto_words.specs.Fid.{disk_descriptor}
-use Rattle.disk_records.specs.Addresses.{is_right_header}
-use Rattle.disk_records.specs.Labels.{page_of, tag}
-use Rattle.disk_records.specs.Packs.{Pack, after, carried, is_usable, sector_at}
-use Rattle.disk_records.specs.Words.{word}
-use Rattle.disk_records.specs.declared.records.Event.TheVariants.{Wrote}
-use Rattle.disk_records.specs.declared.records.Page.{Page}
-use Rattle.pack_model.specs.reading.Bytes.{bytes_of, words_of}
-use Rattle.pack_model.specs.reading.Files.{file_bytes, joined, most_pages, page, place}
-use Rattle.pack_model.specs.reading.Sights.{Sight, sights}
-use Rattle.pack_model.specs.reading.Sights.Sight.{hidden, holds}
-use Rattle.pack_model.specs.states.Sound.{mark_clean, mark_of}
+use Rattle.laws_operation.specs.alto_words.specs.Fid.{disk_descriptor}
+use Rattle.laws_operation.specs.disk_records.specs.Addresses.{is_right_header}
+use Rattle.laws_operation.specs.disk_records.specs.Labels.{page_of, tag}
+use Rattle.laws_operation.specs.disk_records.specs.Packs.{Pack, after, carried, is_usable, sector_at}
+use Rattle.laws_operation.specs.disk_records.specs.Words.{word}
+use Rattle.laws_operation.specs.disk_records.specs.declared.records.Event.TheVariants.{Wrote}
+use Rattle.laws_operation.specs.disk_records.specs.declared.records.Page.{Page}
+use Rattle.laws_operation.specs.pack_model.specs.reading.Bytes.{bytes_of, words_of}
+use Rattle.laws_operation.specs.pack_model.specs.reading.Files.{file_bytes, joined, most_pages, page, place}
+use Rattle.laws_operation.specs.pack_model.specs.reading.Sights.{Sight, sights}
+use Rattle.laws_operation.specs.pack_model.specs.reading.Sights.Sight.{hidden, holds}
+use Rattle.laws_operation.specs.pack_model.specs.states.Sound.{mark_clean, mark_of}
 use Rattle.laws_room.specs.MarkLaws.{OpenedIsUnmarked, UnmarkedIsUnclean, UnmarkedStays, mark_page}
-use Rattle.pack_laws.proofs.Guarding.{carried_parts, front_from, here_written, other_kept, usable_within}
-use Rattle.pack_laws.proofs.Joining.{Reaches-none, continue, joined_at, most_is, skip}
-use Rattle.pack_laws.proofs.Placing.{no_page, page_of_place}
-use Rattle.pack_laws.specs.FileLaws.{CarriesLowest}
+use Rattle.laws_operation.specs.pack_laws.proofs.Guarding.{carried_parts, front_from, here_written, other_kept, usable_within}
+use Rattle.laws_operation.specs.pack_laws.proofs.Joining.{Reaches-none, continue, joined_at, most_is, skip}
+use Rattle.laws_operation.specs.pack_laws.proofs.Placing.{no_page, page_of_place}
+use Rattle.laws_operation.specs.pack_laws.specs.FileLaws.{CarriesLowest}
 use Rattle.laws_record.proofs.Copying.{place_carried}
 use Rattle.laws_record.proofs.Recording.{carried_sight}
 use Rattle.laws_record.specs.QuietLaws.{with_value}
-use Rattle.pack_laws.proofs.files.Laws.{places_are_lowest}
+use Rattle.laws_operation.specs.pack_laws.proofs.files.Laws.{places_are_lowest}
 
 -- the mark in the counted bytes of a page
 abbrev mark_in : Option (List ℕ) → ℕ

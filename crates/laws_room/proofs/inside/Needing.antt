@@ -3,25 +3,25 @@ use Rattle.std.proofs.Common.{◌*◌, ◌+◌, ◌∙◌, ◌∷◌, ◌≡◌,
 use Rattle.std.specs.FinMap.{entries, entries_sorted, find, get, get-entries, insert}
 use Rattle.std.specs.FinMap.Entries.{where_key}
 use Rattle.std.specs.Option.{is_some}
-use Rattle.alto_words.specs.Fid.{disk_descriptor, fid_cmp, sys_dir}
-use Rattle.alto_words.specs.declared.fid.Fid.{Fid}
-use Rattle.disk_records.specs.declared.shape.Shape.{Shape}
-use Rattle.pack_model.specs.reading.Bodies.{Body, File, Files, body_length, described, found, is_described, pages_for}
-use Rattle.pack_model.specs.reading.Bodies.Body.{data_of, items_of}
-use Rattle.pack_model.specs.reading.Files.{file_bytes, leader, lives, page}
-use Rattle.pack_model.specs.states.InUse.{available}
-use Rattle.pack_model.specs.scavenger.Mended.{HasRoom, mended, needs, root_body, root_file, rooted, with_system}
-use Rattle.pack_model.specs.reading.Model.{descriptor_pages, files_pages, good_sectors}
-use Rattle.pack_model.specs.reading.Namings.{Naming, body_kept, files_kept, is_kept, items_kept, kept_after_body, kept_by}
-use Rattle.pack_model.specs.scavenger.Needed.{needed}
-use Rattle.pack_model.specs.reading.Sights.{Sight}
-use Rattle.pack_model.specs.reading.Slots.{Item, all_words, item_words}
-use Rattle.pack_model.specs.reading.Slots.Item.{entry, space}
+use Rattle.laws_operation.specs.alto_words.specs.Fid.{disk_descriptor, fid_cmp, sys_dir}
+use Rattle.laws_operation.specs.alto_words.specs.declared.fid.Fid.{Fid}
+use Rattle.laws_operation.specs.disk_records.specs.declared.shape.Shape.{Shape}
+use Rattle.laws_operation.specs.pack_model.specs.reading.Bodies.{Body, File, Files, body_length, described, found, is_described, pages_for}
+use Rattle.laws_operation.specs.pack_model.specs.reading.Bodies.Body.{data_of, items_of}
+use Rattle.laws_operation.specs.pack_model.specs.reading.Files.{file_bytes, leader, lives, page}
+use Rattle.laws_operation.specs.pack_model.specs.states.InUse.{available}
+use Rattle.laws_operation.specs.pack_model.specs.scavenger.Mended.{HasRoom, mended, needs, root_body, root_file, rooted, with_system}
+use Rattle.laws_operation.specs.pack_model.specs.reading.Model.{descriptor_pages, files_pages, good_sectors}
+use Rattle.laws_operation.specs.pack_model.specs.reading.Namings.{Naming, body_kept, files_kept, is_kept, items_kept, kept_after_body, kept_by}
+use Rattle.laws_operation.specs.pack_model.specs.scavenger.Needed.{needed}
+use Rattle.laws_operation.specs.pack_model.specs.reading.Sights.{Sight}
+use Rattle.laws_operation.specs.pack_model.specs.reading.Slots.{Item, all_words, item_words}
+use Rattle.laws_operation.specs.pack_model.specs.reading.Slots.Item.{entry, space}
 use Rattle.laws_room.proofs.inside.Counting.{available_is}
 use Rattle.laws_room.proofs.inside.Totals.{all_files, without_descriptor}
-use Rattle.pack_laws.proofs.ByLists.{entries-retain_keys}
-use Rattle.pack_laws.proofs.Joining.{AreShort}
-use Rattle.pack_laws.proofs.Keys.{fid_same, fid_total}
+use Rattle.laws_operation.specs.pack_laws.proofs.ByLists.{entries-retain_keys}
+use Rattle.laws_operation.specs.pack_laws.proofs.Joining.{AreShort}
+use Rattle.laws_operation.specs.pack_laws.proofs.Keys.{fid_same, fid_total}
 use Rattle.laws_record.proofs.FilePages.{changed_pages, new_pages}
 use Rattle.laws_record.proofs.Keeping.{get-where}
 use Rattle.laws_record.proofs.Mending.{entries-tidied}

@@ -1,19 +1,19 @@
 -- SysDir gets the entries that are lacking: what is needed stays.
 use Rattle.std.proofs.Common.{◌*◌, ◌+◌, ◌∙◌, ◌∷◌, ◌≡◌, ◌≤◌, List, None, Option, Some, [], ap, arith, cond, refl, suc, ℕ}
 use Rattle.std.specs.FinMap.{entries, get, get-insert, insert}
-use Rattle.alto_words.specs.Fid.{sys_dir}
-use Rattle.alto_words.specs.declared.fid.Fid.{Fid}
-use Rattle.disk_records.specs.declared.shape.Shape.{Shape}
-use Rattle.pack_model.specs.reading.Bodies.{Files, items_in, pages_for}
-use Rattle.pack_model.specs.reading.Leaders.{Leader}
-use Rattle.pack_model.specs.scavenger.Mended.{lacking, needs, on_room, widens, with_page}
-use Rattle.pack_model.specs.reading.Model.{Model, files_pages, root_items}
-use Rattle.pack_model.specs.operations.Rooms.{placed}
-use Rattle.pack_model.specs.reading.Slots.{Item, all_words, item_words}
-use Rattle.pack_model.specs.reading.Slots.Item.{entry}
+use Rattle.laws_operation.specs.alto_words.specs.Fid.{sys_dir}
+use Rattle.laws_operation.specs.alto_words.specs.declared.fid.Fid.{Fid}
+use Rattle.laws_operation.specs.disk_records.specs.declared.shape.Shape.{Shape}
+use Rattle.laws_operation.specs.pack_model.specs.reading.Bodies.{Files, items_in, pages_for}
+use Rattle.laws_operation.specs.pack_model.specs.reading.Leaders.{Leader}
+use Rattle.laws_operation.specs.pack_model.specs.scavenger.Mended.{lacking, needs, on_room, widens, with_page}
+use Rattle.laws_operation.specs.pack_model.specs.reading.Model.{Model, files_pages, root_items}
+use Rattle.laws_operation.specs.pack_model.specs.operations.Rooms.{placed}
+use Rattle.laws_operation.specs.pack_model.specs.reading.Slots.{Item, all_words, item_words}
+use Rattle.laws_operation.specs.pack_model.specs.reading.Slots.Item.{entry}
 use Rattle.laws_room.proofs.inside.Needing.{pages_around}
 use Rattle.laws_room.proofs.Standing.{page_places, placed_words}
-use Rattle.pack_laws.proofs.Keys.{fid_total, is_fid-itself}
+use Rattle.laws_operation.specs.pack_laws.proofs.Keys.{fid_total, is_fid-itself}
 use Rattle.laws_record.proofs.Entered.{directory}
 
 -- ---- an entry is made, or SysDir is widened

@@ -2,20 +2,20 @@
 use Rattle.std.proofs.Common.{Bool, List, Some, [], ap, arith, false, length, refl, sym, true, ℕ, ◌&&◌, ◌++◌, ◌+◌, ◌-◌, ◌∙◌, ◌∷◌, ◌≡◌}
 use Rattle.std.specs.FinMap.{entries, get, insert}
 use Rattle.std.specs.List.{list_any}
-use Rattle.alto_words.specs.Fid.{sys_dir}
-use Rattle.alto_words.specs.declared.fid.Fid.{Fid}
-use Rattle.disk_records.specs.Packs.{Pack}
-use Rattle.pack_model.specs.reading.Bodies.{Files, described}
-use Rattle.pack_model.specs.reading.Bytes.{put_at}
-use Rattle.pack_model.specs.reading.Files.{lives}
-use Rattle.pack_model.specs.reading.Leaders.{Leader}
-use Rattle.pack_model.specs.hints.Links.{dir_words}
-use Rattle.pack_model.specs.scavenger.Mended.{mended, rooted, with_system}
-use Rattle.pack_model.specs.reading.Namings.{clashes, files_kept, is_kept, may_stand, namings, tidied}
-use Rattle.pack_model.specs.operations.Rooms.{find_room, left_over, placed}
-use Rattle.pack_model.specs.reading.Sights.{sights}
-use Rattle.pack_model.specs.reading.Slots.{Item, all_words, entry_length, slots}
-use Rattle.pack_model.specs.reading.Slots.Item.{entry, space}
+use Rattle.laws_operation.specs.alto_words.specs.Fid.{sys_dir}
+use Rattle.laws_operation.specs.alto_words.specs.declared.fid.Fid.{Fid}
+use Rattle.laws_operation.specs.disk_records.specs.Packs.{Pack}
+use Rattle.laws_operation.specs.pack_model.specs.reading.Bodies.{Files, described}
+use Rattle.laws_operation.specs.pack_model.specs.reading.Bytes.{put_at}
+use Rattle.laws_operation.specs.pack_model.specs.reading.Files.{lives}
+use Rattle.laws_operation.specs.pack_model.specs.reading.Leaders.{Leader}
+use Rattle.laws_operation.specs.pack_model.specs.hints.Links.{dir_words}
+use Rattle.laws_operation.specs.pack_model.specs.scavenger.Mended.{mended, rooted, with_system}
+use Rattle.laws_operation.specs.pack_model.specs.reading.Namings.{clashes, files_kept, is_kept, may_stand, namings, tidied}
+use Rattle.laws_operation.specs.pack_model.specs.operations.Rooms.{find_room, left_over, placed}
+use Rattle.laws_operation.specs.pack_model.specs.reading.Sights.{sights}
+use Rattle.laws_operation.specs.pack_model.specs.reading.Slots.{Item, all_words, entry_length, slots}
+use Rattle.laws_operation.specs.pack_model.specs.reading.Slots.Item.{entry, space}
 use Rattle.laws_room.proofs.inside.DirRooted.{rooted_was, same_count, zeros}
 use Rattle.laws_room.proofs.inside.RootEntries.{RootScan, root_found, root_turns}
 use Rattle.laws_room.proofs.inside.RootStanding.{root_may}

@@ -2,14 +2,14 @@
 use Rattle.std.proofs.Common.{◌&&◌, ◌+◌, ◌<◌, ◌==◌, ◌∙◌, ◌∷◌, ◌≡◌, ◌≢◌, ◌≤◌, Bool, List, None, Some, [], ap, arith, cond, eq-eqb, eqb-true, false, le-leb, leb-false, leb-true, nat_le, ne_eqb, refl, suc, sym, true, zero, ℕ}
 use Rattle.std.proofs.lemmas.Bool.{eqb-false, lt-leb}
 use Rattle.std.specs.Option.{is_some, option_or}
-use Rattle.alto_words.specs.Fid.{is_fid}
-use Rattle.alto_words.specs.declared.fid.Fid.{Fid}
-use Rattle.pack_model.specs.reading.Files.{carries_page, first, numbered, place, place_at}
-use Rattle.pack_model.specs.states.InUse.{how_many, is_place, of_page, one_if}
-use Rattle.pack_model.specs.reading.Sights.{Sight}
-use Rattle.pack_model.specs.reading.Sights.Sight.{free, hidden, holds, leads, stray}
+use Rattle.laws_operation.specs.alto_words.specs.Fid.{is_fid}
+use Rattle.laws_operation.specs.alto_words.specs.declared.fid.Fid.{Fid}
+use Rattle.laws_operation.specs.pack_model.specs.reading.Files.{carries_page, first, numbered, place, place_at}
+use Rattle.laws_operation.specs.pack_model.specs.states.InUse.{how_many, is_place, of_page, one_if}
+use Rattle.laws_operation.specs.pack_model.specs.reading.Sights.{Sight}
+use Rattle.laws_operation.specs.pack_model.specs.reading.Sights.Sight.{free, hidden, holds, leads, stray}
 use Rattle.laws_room.specs.CountLaws.{placed_pages}
-use Rattle.pack_laws.proofs.Keys.{is_fid-sym, same_fid}
+use Rattle.laws_operation.specs.pack_laws.proofs.Keys.{is_fid-sym, same_fid}
 
 -- ---- sums
 -- a test that is the sum of two others holds as often as both together

@@ -1,9 +1,9 @@
 -- The numbers of a pack.
-use Rattle.pack_model.specs.reading.Sights.{sights}
+use Rattle.laws_operation.specs.pack_model.specs.reading.Sights.{sights}
 use Rattle.laws_room.proofs.inside.Counting.{available_is, in_use_many}
 use Rattle.laws_room.proofs.inside.Needing.{needed_is, room_is}
 use Rattle.laws_room.specs.CountLaws.{CountingTheorem}
-use Rattle.pack_laws.proofs.Placing.{short_pages}
+use Rattle.laws_operation.specs.pack_laws.proofs.Placing.{short_pages}
 
 -- the counting theorem
 pub counting_theorem : CountingTheorem

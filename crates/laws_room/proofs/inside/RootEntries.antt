@@ -1,28 +1,28 @@
 -- Record writes of directories when entries are entered, on any pack.
 use Rattle.std.proofs.Common.{Bool, List, None, Option, Some, [], ap, arith, cond, get_or, length, refl, sym, ℕ, ◌++◌, ◌+◌, ◌∙◌, ◌∷◌, ◌≡◌}
 use Rattle.std.specs.FinMap.{entries, find, from_entries, get, get-from_entries, get-insert, insert, same_map}
-use Rattle.alto_words.specs.Fid.{fid_cmp, is_fid, sys_dir}
-use Rattle.alto_words.specs.declared.fid.Fid.{Fid}
-use Rattle.disk_records.specs.Packs.{Pack}
-use Rattle.pack_model.specs.reading.Bodies.{File, Files, described, items_in}
-use Rattle.pack_model.specs.reading.Bytes.{put_at}
-use Rattle.pack_model.specs.reading.Files.{leader, lives}
-use Rattle.pack_model.specs.reading.Leaders.{Leader}
-use Rattle.pack_model.specs.hints.Links.{dir_words}
-use Rattle.pack_model.specs.scavenger.Mended.{mended, rooted, with_page, with_system}
-use Rattle.pack_model.specs.reading.Model.{root_items}
-use Rattle.pack_model.specs.reading.Namings.{Naming, files_kept, is_kept, items_kept, kept_after, namings_in, tidied}
-use Rattle.pack_model.specs.operations.Rooms.{Room, find_room, placed}
-use Rattle.pack_model.specs.reading.Sights.{sights}
-use Rattle.pack_model.specs.reading.Slots.{Item, all_words, item_words, slots}
-use Rattle.pack_model.specs.reading.Slots.Item.{entry, space}
+use Rattle.laws_operation.specs.alto_words.specs.Fid.{fid_cmp, is_fid, sys_dir}
+use Rattle.laws_operation.specs.alto_words.specs.declared.fid.Fid.{Fid}
+use Rattle.laws_operation.specs.disk_records.specs.Packs.{Pack}
+use Rattle.laws_operation.specs.pack_model.specs.reading.Bodies.{File, Files, described, items_in}
+use Rattle.laws_operation.specs.pack_model.specs.reading.Bytes.{put_at}
+use Rattle.laws_operation.specs.pack_model.specs.reading.Files.{leader, lives}
+use Rattle.laws_operation.specs.pack_model.specs.reading.Leaders.{Leader}
+use Rattle.laws_operation.specs.pack_model.specs.hints.Links.{dir_words}
+use Rattle.laws_operation.specs.pack_model.specs.scavenger.Mended.{mended, rooted, with_page, with_system}
+use Rattle.laws_operation.specs.pack_model.specs.reading.Model.{root_items}
+use Rattle.laws_operation.specs.pack_model.specs.reading.Namings.{Naming, files_kept, is_kept, items_kept, kept_after, namings_in, tidied}
+use Rattle.laws_operation.specs.pack_model.specs.operations.Rooms.{Room, find_room, placed}
+use Rattle.laws_operation.specs.pack_model.specs.reading.Sights.{sights}
+use Rattle.laws_operation.specs.pack_model.specs.reading.Slots.{Item, all_words, item_words, slots}
+use Rattle.laws_operation.specs.pack_model.specs.reading.Slots.Item.{entry, space}
 use Rattle.laws_room.proofs.inside.Balancing.{mended_keeps}
 use Rattle.laws_room.proofs.inside.DirRooted.{dir_leader, files, living, mended_now, rooted_was, same_count, turned_stay, zeros}
 use Rattle.laws_room.proofs.inside.Needing.{items_words}
 use Rattle.laws_room.proofs.inside.RootStanding.{root_may}
 use Rattle.laws_room.proofs.inside.RootTurns.{RootTurns, root_now, root_was, turn_joins, turn_widens}
 use Rattle.laws_room.specs.NextLaws.{FreeSlotsMadeOneKeeps, MoreRoomKeeps, SlotThatIsNotKeptKeeps}
-use Rattle.pack_laws.proofs.Keys.{fid_same, fid_total}
+use Rattle.laws_operation.specs.pack_laws.proofs.Keys.{fid_same, fid_total}
 use Rattle.laws_record.proofs.Around.{around}
 use Rattle.laws_record.proofs.DirKinds.{spaces_in}
 use Rattle.laws_record.proofs.DirReads.{has_leader, insert_same}

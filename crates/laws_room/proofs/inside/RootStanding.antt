@@ -4,20 +4,20 @@ use Rattle.std.proofs.lemmas.Bool.{cases_lt}
 use Rattle.std.proofs.lemmas.List.{get_or_past}
 use Rattle.std.specs.FinMap.{get}
 use Rattle.std.specs.Option.{option_map}
-use Rattle.alto_words.specs.Fid.{disk_descriptor, is_fid, sys_dir}
-use Rattle.alto_words.specs.declared.fid.Fid.{Fid}
-use Rattle.disk_records.specs.Packs.{Pack, carried, is_usable, sector_at}
-use Rattle.disk_records.specs.declared.records.Page.{Page}
-use Rattle.pack_model.specs.reading.Files.{file_bytes, leader}
-use Rattle.pack_model.specs.states.InUse.{counts, is_within}
-use Rattle.pack_model.specs.reading.Leaders.{Leader}
-use Rattle.pack_model.specs.scavenger.Scavenging.{RootStands, root_stands}
-use Rattle.pack_model.specs.reading.Sights.{page_sight, sights}
-use Rattle.pack_model.specs.reading.Sights.Sight.{hidden}
+use Rattle.laws_operation.specs.alto_words.specs.Fid.{disk_descriptor, is_fid, sys_dir}
+use Rattle.laws_operation.specs.alto_words.specs.declared.fid.Fid.{Fid}
+use Rattle.laws_operation.specs.disk_records.specs.Packs.{Pack, carried, is_usable, sector_at}
+use Rattle.laws_operation.specs.disk_records.specs.declared.records.Page.{Page}
+use Rattle.laws_operation.specs.pack_model.specs.reading.Files.{file_bytes, leader}
+use Rattle.laws_operation.specs.pack_model.specs.states.InUse.{counts, is_within}
+use Rattle.laws_operation.specs.pack_model.specs.reading.Leaders.{Leader}
+use Rattle.laws_operation.specs.pack_model.specs.scavenger.Scavenging.{RootStands, root_stands}
+use Rattle.laws_operation.specs.pack_model.specs.reading.Sights.{page_sight, sights}
+use Rattle.laws_operation.specs.pack_model.specs.reading.Sights.Sight.{hidden}
 use Rattle.laws_room.specs.KeepLaws.{RootMay}
 use Rattle.laws_room.specs.KeepLaws.RootMay.{as_before, its_leader, made_free}
-use Rattle.pack_laws.proofs.Keys.{same_fid}
-use Rattle.pack_laws.proofs.Sighted.{length-sights, sights-get}
+use Rattle.laws_operation.specs.pack_laws.proofs.Keys.{same_fid}
+use Rattle.laws_operation.specs.pack_laws.proofs.Sighted.{length-sights, sights-get}
 use Rattle.laws_record.proofs.Reading.{get-found, read_file}
 use Rattle.laws_record.proofs.Recording.{carried_sight, free_sight}
 use Rattle.laws_record.proofs.Staying.{FilesStay}

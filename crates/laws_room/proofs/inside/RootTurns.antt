@@ -2,19 +2,19 @@
 use Rattle.std.proofs.Common.{◌∙◌, ◌∷◌, ◌≡◌, ◌≤◌, List, None, Some, [], ap, append-nil, cond, refl, sym, ℕ}
 use Rattle.std.specs.FinMap.{entries, get, get-insert, insert}
 use Rattle.std.specs.List.{list_any}
-use Rattle.alto_words.specs.Fid.{disk_descriptor, is_fid, sys_dir}
-use Rattle.alto_words.specs.declared.fid.Fid.{Fid}
-use Rattle.disk_records.specs.Packs.{Pack}
-use Rattle.pack_model.specs.reading.Bodies.{Files}
-use Rattle.pack_model.specs.scavenger.Mended.{lacking, mended, needs, with_page}
-use Rattle.pack_model.specs.reading.Model.{Model, descriptor_words, good_sectors, last_serial}
-use Rattle.pack_model.specs.reading.Namings.{Naming, descriptor_name, namings, namings_in, sys_dir_name}
-use Rattle.pack_model.specs.operations.Rooms.{placed}
-use Rattle.pack_model.specs.showing.Settling.{given_names, settle, unless}
-use Rattle.pack_model.specs.reading.Sights.{sights}
-use Rattle.pack_model.specs.reading.Slots.{Item, all_words, item_words}
-use Rattle.pack_model.specs.reading.Slots.Item.{entry, space}
-use Rattle.pack_model.specs.showing.View.{View, view}
+use Rattle.laws_operation.specs.alto_words.specs.Fid.{disk_descriptor, is_fid, sys_dir}
+use Rattle.laws_operation.specs.alto_words.specs.declared.fid.Fid.{Fid}
+use Rattle.laws_operation.specs.disk_records.specs.Packs.{Pack}
+use Rattle.laws_operation.specs.pack_model.specs.reading.Bodies.{Files}
+use Rattle.laws_operation.specs.pack_model.specs.scavenger.Mended.{lacking, mended, needs, with_page}
+use Rattle.laws_operation.specs.pack_model.specs.reading.Model.{Model, descriptor_words, good_sectors, last_serial}
+use Rattle.laws_operation.specs.pack_model.specs.reading.Namings.{Naming, descriptor_name, namings, namings_in, sys_dir_name}
+use Rattle.laws_operation.specs.pack_model.specs.operations.Rooms.{placed}
+use Rattle.laws_operation.specs.pack_model.specs.showing.Settling.{given_names, settle, unless}
+use Rattle.laws_operation.specs.pack_model.specs.reading.Sights.{sights}
+use Rattle.laws_operation.specs.pack_model.specs.reading.Slots.{Item, all_words, item_words}
+use Rattle.laws_operation.specs.pack_model.specs.reading.Slots.Item.{entry, space}
+use Rattle.laws_operation.specs.pack_model.specs.showing.View.{View, view}
 use Rattle.laws_room.proofs.inside.Balancing.{needs_files, needs_keep}
 use Rattle.laws_room.proofs.inside.DirRooted.{zeros}
 use Rattle.laws_room.proofs.inside.Lacking.{same_namings}
@@ -22,7 +22,7 @@ use Rattle.laws_room.proofs.inside.NeedsNext.{enter_needs, join_needs, widen_nee
 use Rattle.laws_room.proofs.NextLacking.{entered}
 use Rattle.laws_room.proofs.Standing.{placed_stands}
 use Rattle.laws_room.specs.KeepLaws.{KeepsWithRoot}
-use Rattle.pack_laws.proofs.Keys.{fid_total, is_fid-itself}
+use Rattle.laws_operation.specs.pack_laws.proofs.Keys.{fid_total, is_fid-itself}
 use Rattle.laws_record.proofs.Describing.{view_files}
 use Rattle.laws_record.proofs.DirReads.{insert_same}
 use Rattle.laws_record.proofs.Entered.{directory, namings_in-append}

@@ -1,11 +1,11 @@
 -- One directory changes, among the files as the Scavenger will find them.
 use Rattle.std.proofs.Common.{◌∙◌, ◌≡◌, Bool, Some, ap, cond, false, refl, sym, true}
 use Rattle.std.specs.FinMap.{get, get-insert, insert, same_map}
-use Rattle.alto_words.specs.Fid.{is_fid, sys_dir}
-use Rattle.alto_words.specs.declared.fid.Fid.{Fid}
-use Rattle.pack_model.specs.reading.Bodies.{File, Files}
-use Rattle.pack_model.specs.scavenger.Mended.{root_body, root_file, rooted}
-use Rattle.pack_laws.proofs.Keys.{fid_same, fid_total, is_fid-sym, same_fid}
+use Rattle.laws_operation.specs.alto_words.specs.Fid.{is_fid, sys_dir}
+use Rattle.laws_operation.specs.alto_words.specs.declared.fid.Fid.{Fid}
+use Rattle.laws_operation.specs.pack_model.specs.reading.Bodies.{File, Files}
+use Rattle.laws_operation.specs.pack_model.specs.scavenger.Mended.{root_body, root_file, rooted}
+use Rattle.laws_operation.specs.pack_laws.proofs.Keys.{fid_same, fid_total, is_fid-sym, same_fid}
 
 -- SysDir's leader is left out
 abbrev pub counted_file : Fid → File → File

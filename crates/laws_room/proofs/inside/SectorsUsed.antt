@@ -1,8 +1,8 @@
 -- The sectors in use before and after an operation.
 use Rattle.std.proofs.Common.{ap, arith}
 use Rattle.std.specs.FinMap.{entries}
-use Rattle.pack_model.specs.reading.Model.{descriptor_pages, files_pages, read_as}
-use Rattle.pack_model.specs.reading.Sights.{sights}
+use Rattle.laws_operation.specs.pack_model.specs.reading.Model.{descriptor_pages, files_pages, read_as}
+use Rattle.laws_operation.specs.pack_model.specs.reading.Sights.{sights}
 use Rattle.laws_room.proofs.FreeRoom.{in_use_pages}
 use Rattle.laws_room.proofs.inside.BodyKinds.{read_kinds}
 use Rattle.laws_room.proofs.Stepping.{step_pages}

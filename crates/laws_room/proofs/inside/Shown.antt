@@ -2,13 +2,13 @@
 use Rattle.std.proofs.Common.{Bool, List, [], ap, cond, false, refl, true, ◌∙◌, ◌∷◌, ◌≡◌}
 use Rattle.std.specs.FinMap.{FinMap, contains_key, entries, get, get-insert}
 use Rattle.std.specs.Option.{is_some}
-use Rattle.alto_words.specs.Fid.{fid_cmp, is_fid}
-use Rattle.alto_words.specs.declared.fid.Fid.{Fid}
-use Rattle.pack_model.specs.reading.Model.{read_as}
-use Rattle.pack_model.specs.reading.Sights.{sights}
-use Rattle.pack_model.specs.showing.Settling.{adopted, given, settle, settled}
-use Rattle.pack_model.specs.showing.View.{Home, Seen, view}
-use Rattle.pack_laws.proofs.Keys.{fid_total}
+use Rattle.laws_operation.specs.alto_words.specs.Fid.{fid_cmp, is_fid}
+use Rattle.laws_operation.specs.alto_words.specs.declared.fid.Fid.{Fid}
+use Rattle.laws_operation.specs.pack_model.specs.reading.Model.{read_as}
+use Rattle.laws_operation.specs.pack_model.specs.reading.Sights.{sights}
+use Rattle.laws_operation.specs.pack_model.specs.showing.Settling.{adopted, given, settle, settled}
+use Rattle.laws_operation.specs.pack_model.specs.showing.View.{Home, Seen, view}
+use Rattle.laws_operation.specs.pack_laws.proofs.Keys.{fid_total}
 use Rattle.laws_record.proofs.Settles.{has_name, some_more}
 use Rattle.laws_room.proofs.Each.{Each, each_entry}
 use Rattle.laws_room.proofs.SoundPacks.{model_lives, names_all}

@@ -3,26 +3,26 @@ use Rattle.std.proofs.Common.{◌*◌, ◌+◌, ◌/◌, ◌∙◌, ◌∷◌, �
 use Rattle.std.specs.FinMap.{entries, entries_sorted, find, get, get-entries, is_sorted}
 use Rattle.std.specs.FinMap.Entries.{below_all, where_key}
 use Rattle.std.specs.Option.{is_some, option_map}
-use Rattle.alto_words.specs.Fid.{disk_descriptor, fid_cmp, is_directory, is_fid}
-use Rattle.alto_words.specs.declared.fid.Fid.{Fid}
-use Rattle.disk_records.specs.Addresses.{descriptor_length}
-use Rattle.disk_records.specs.declared.shape.Shape.{Shape}
-use Rattle.pack_model.specs.reading.Bodies.{Body, File, body_length, body_of, found, is_described, pages_for}
-use Rattle.pack_model.specs.reading.Bodies.Body.{data_of, items_of}
-use Rattle.pack_model.specs.reading.Bytes.{words_of}
-use Rattle.pack_model.specs.reading.Files.{file_bytes, leader, most_pages, page, place}
-use Rattle.pack_model.specs.states.InUse.{last_page, one_if}
-use Rattle.pack_model.specs.reading.Leaders.{Leader}
-use Rattle.pack_model.specs.reading.Model.{descriptor_pages, files_pages}
-use Rattle.pack_model.specs.scavenger.Needed.{file_lacks, files_lack, missing}
-use Rattle.pack_model.specs.reading.Sights.{Sight}
-use Rattle.pack_model.specs.reading.Slots.{slots}
+use Rattle.laws_operation.specs.alto_words.specs.Fid.{disk_descriptor, fid_cmp, is_directory, is_fid}
+use Rattle.laws_operation.specs.alto_words.specs.declared.fid.Fid.{Fid}
+use Rattle.laws_operation.specs.disk_records.specs.Addresses.{descriptor_length}
+use Rattle.laws_operation.specs.disk_records.specs.declared.shape.Shape.{Shape}
+use Rattle.laws_operation.specs.pack_model.specs.reading.Bodies.{Body, File, body_length, body_of, found, is_described, pages_for}
+use Rattle.laws_operation.specs.pack_model.specs.reading.Bodies.Body.{data_of, items_of}
+use Rattle.laws_operation.specs.pack_model.specs.reading.Bytes.{words_of}
+use Rattle.laws_operation.specs.pack_model.specs.reading.Files.{file_bytes, leader, most_pages, page, place}
+use Rattle.laws_operation.specs.pack_model.specs.states.InUse.{last_page, one_if}
+use Rattle.laws_operation.specs.pack_model.specs.reading.Leaders.{Leader}
+use Rattle.laws_operation.specs.pack_model.specs.reading.Model.{descriptor_pages, files_pages}
+use Rattle.laws_operation.specs.pack_model.specs.scavenger.Needed.{file_lacks, files_lack, missing}
+use Rattle.laws_operation.specs.pack_model.specs.reading.Sights.{Sight}
+use Rattle.laws_operation.specs.pack_model.specs.reading.Slots.{slots}
 use Rattle.laws_room.specs.CountLaws.{count_placed, placed_pages}
-use Rattle.pack_laws.proofs.Bytes.{length-words_of}
-use Rattle.pack_laws.proofs.Joining.{AreShort}
-use Rattle.pack_laws.proofs.ByteInPages.{has_byte}
-use Rattle.pack_laws.proofs.Keys.{is_fid-itself, is_fid-sym, same_fid}
-use Rattle.pack_laws.proofs.Placing.{leader_of_place, no_leader, no_page, page_of_place}
+use Rattle.laws_operation.specs.pack_laws.proofs.Bytes.{length-words_of}
+use Rattle.laws_operation.specs.pack_laws.proofs.Joining.{AreShort}
+use Rattle.laws_operation.specs.pack_laws.proofs.ByteInPages.{has_byte}
+use Rattle.laws_operation.specs.pack_laws.proofs.Keys.{is_fid-itself, is_fid-sym, same_fid}
+use Rattle.laws_operation.specs.pack_laws.proofs.Placing.{leader_of_place, no_leader, no_page, page_of_place}
 use Rattle.laws_record.proofs.Around.{first_part, not_below, second_part}
 use Rattle.laws_record.proofs.Heads.{all_within}
 use Rattle.laws_record.proofs.Reading.{get-found, read_file}

@@ -2,19 +2,19 @@
 use Rattle.std.proofs.Common.{◌&&◌, ◌+◌, ◌/◌, ◌∙◌, ◌∷◌, ◌≡◌, ◌≤◌, Bool, List, None, Option, Some, [], ap, arith, cond, get_or, length, not, refl, subst, suc, sym, true, false, zero, ℕ}
 use Rattle.std.specs.FinMap.{entries, get}
 use Rattle.std.specs.Option.{is_some, option_map}
-use Rattle.alto_words.specs.Fid.{disk_descriptor, is_fid}
-use Rattle.alto_words.specs.declared.fid.Fid.{Fid}
-use Rattle.disk_records.specs.Packs.{Pack}
-use Rattle.pack_model.specs.reading.Bodies.{File, found}
-use Rattle.pack_model.specs.reading.Files.{carries_page, file_bytes, leader, numbered}
-use Rattle.pack_model.specs.states.InUse.{available, free_sector_count, how_many, in_use, is_available, is_free_sight, is_good, one_if}
-use Rattle.pack_model.specs.reading.Leaders.{Leader}
-use Rattle.pack_model.specs.scavenger.Needed.{file_lacks, files_lack, missing, page_lacks}
-use Rattle.pack_model.specs.reading.Sights.{Sight, sights}
-use Rattle.pack_model.specs.reading.Sights.Sight.{free, hidden, holds, leads, stray}
-use Rattle.pack_model.specs.states.Whole.{Whole}
-use Rattle.pack_laws.proofs.Keys.{is_fid-itself}
-use Rattle.pack_laws.proofs.Placing.{carries-holds}
+use Rattle.laws_operation.specs.alto_words.specs.Fid.{disk_descriptor, is_fid}
+use Rattle.laws_operation.specs.alto_words.specs.declared.fid.Fid.{Fid}
+use Rattle.laws_operation.specs.disk_records.specs.Packs.{Pack}
+use Rattle.laws_operation.specs.pack_model.specs.reading.Bodies.{File, found}
+use Rattle.laws_operation.specs.pack_model.specs.reading.Files.{carries_page, file_bytes, leader, numbered}
+use Rattle.laws_operation.specs.pack_model.specs.states.InUse.{available, free_sector_count, how_many, in_use, is_available, is_free_sight, is_good, one_if}
+use Rattle.laws_operation.specs.pack_model.specs.reading.Leaders.{Leader}
+use Rattle.laws_operation.specs.pack_model.specs.scavenger.Needed.{file_lacks, files_lack, missing, page_lacks}
+use Rattle.laws_operation.specs.pack_model.specs.reading.Sights.{Sight, sights}
+use Rattle.laws_operation.specs.pack_model.specs.reading.Sights.Sight.{free, hidden, holds, leads, stray}
+use Rattle.laws_operation.specs.pack_model.specs.states.Whole.{Whole}
+use Rattle.laws_operation.specs.pack_laws.proofs.Keys.{is_fid-itself}
+use Rattle.laws_operation.specs.pack_laws.proofs.Placing.{carries-holds}
 use Rattle.laws_record.proofs.Reading.{get-found, read_file}
 use Rattle.laws_record.proofs.AllSectors.{carried_used, fit, has_pages}
 use Rattle.laws_record.proofs.Ends.{end_is}

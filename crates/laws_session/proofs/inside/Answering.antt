@@ -1,22 +1,21 @@
 -- The answer of a call, and then its text, as a turn.
-use Rattle.std.proofs.Common.{◌≡◌, zero, suc, ℕ, Bool, true, false, List, [], ◌∷◌, ◌++◌, inl, inr, refl, subst, ap}
-use Rattle.disk_records.specs.declared.records.Event.{Event}
-use Rattle.disk_records.specs.Packs.{Pack}
-use Rattle.pack_model.specs.operations.Committing.{units}
-use Rattle.pack_model.specs.operations.Operations.{Move, quiet_moves}
-use Rattle.pack_model.specs.operations.Operations.Move.{mends}
-use Rattle.pack_model.specs.scavenger.Reports.{report_of}
-use Rattle.pack_model.specs.sessions.Meanings.{session}
-use Rattle.pack_model.specs.sessions.Moves.{IsStartOf, Obeys}
-use Rattle.pack_laws.proofs.Moving.{start_self}
-use Rattle.pack_laws.proofs.TurnCalls.{shown_first}
-use Rattle.exec_words.specs.declared.reply.Reply.{Reply}
-use Rattle.exec_words.specs.declared.reply.Reply.TheVariants as reply
-use Rattle.exec_words.specs.Texts.{reply_text, report_text}
+use Rattle.std.proofs.Common.{◌≡◌, Bool, true, false, List, [], ◌∷◌, ◌++◌, inl, inr, refl, subst, ap}
+use Rattle.laws_line.specs.disk_records.specs.declared.records.Event.{Event}
+use Rattle.laws_line.specs.disk_records.specs.Packs.{Pack}
+use Rattle.laws_line.specs.pack_model.specs.operations.Operations.{Move}
+use Rattle.laws_line.specs.pack_model.specs.scavenger.Reports.{report_of}
+use Rattle.laws_line.specs.pack_model.specs.sessions.Meanings.{session}
+use Rattle.laws_line.specs.pack_model.specs.sessions.Moves.{IsStartOf, Obeys}
+use Rattle.laws_line.specs.pack_laws.proofs.Moving.{start_self}
+use Rattle.laws_line.specs.pack_laws.proofs.TurnCalls.{shown_first}
+use Rattle.session_model.specs.exec_words.specs.declared.reply.Reply.{Reply}
+use Rattle.session_model.specs.exec_words.specs.declared.reply.Reply.TheVariants as reply
+use Rattle.session_model.specs.exec_words.specs.Texts.{reply_text, report_text}
 use Rattle.session_model.specs.Answering.{Answers, Replied}
 use Rattle.session_model.specs.Turning.{State, Cue, plain, scavenged, turn_of, scavenge_moves, asks_scavenge, cue_moves, cue_text, cue_world, closes}
 use Rattle.session_model.specs.Worlds.{mended_world}
 use Rattle.laws_session.specs.AnswerLaws.{AnswersAreTurns, BreaksOff, CallBreaksOff, HasText, TextBreaksOff, TextMakesATurn}
+use Rattle.laws_session.specs.ScavengeLaws.{ScavengesBreakOff}
 
 append_none : {X : Type 0} (l : List X) → l ≡ l ++ []
 append_none [] = refl
@@ -58,21 +57,17 @@ stopped {p} {s} {cue} {wrote} {moves} goes_on asks each start = record {
   };
 }
 
-quiet_start : (k : ℕ) (more : List Move) → IsStartOf (quiet_moves (units k)) (quiet_moves (units k) ++ more)
-quiet_start zero more = tt
-quiet_start (suc k) more = (refl, quiet_start k more)
-
--- of a scavenge, with some record writes before its last one
-pub scavenge_stopped : {p : Pack} {s : State} {cue : Cue} {wrote : List Event} (k : ℕ) → s.over ≡ false → asks_scavenge s cue ≡ true → Obeys session s.model p wrote (quiet_moves (units k)) → BreaksOff p s cue wrote
-scavenge_stopped {p} {s} {cue} {wrote} k goes_on asks each = record {
-  made = record { ops = quiet_moves (units k); text = []; counts = false };
+-- of a scavenge, after a prefix of its record writes
+pub scavenges_break_off : ScavengesBreakOff
+scavenges_break_off p s cue wrote k n moves goes_on asks start each = record {
+  made = record { ops = moves; text = []; counts = false };
   turn = record {
     run = record { goes_on = goes_on; wrote = wrote; each = each; split = append_none wrote };
-    wanted = turn_of (scavenge_moves k s.model) (report_text (report_of p));
+    wanted = turn_of (scavenge_moves k n) (report_text (report_of p));
     world = mended_world s.world;
     over = false;
-    kind = scavenged k s.model asks;
-    off = record { start = quiet_start k (mends s.model ∷ []); text = tt; later = λ h. absurd (h refl); uncounted = refl };
+    kind = scavenged k n asks;
+    off = record { start = start; text = tt; later = λ h. absurd (h refl); uncounted = refl };
   };
 }
 
@@ -81,7 +76,7 @@ call_breaks_off p s cue wrote moves goes_on (inl asks) each start = stopped goes
 call_breaks_off p s cue wrote moves goes_on (inr none) each start = by (asks_scavenge s cue) refl where
   by : (b : Bool) → asks_scavenge s cue ≡ b → BreaksOff p s cue wrote
   by false asks = stopped goes_on asks each start
-  by true asks = scavenge_stopped 0 goes_on asks (subst (Obeys session s.model p wrote) none each)
+  by true asks = scavenges_break_off p s cue wrote 0 s.model [] goes_on asks tt (subst (Obeys session s.model p wrote) none each)
 
 -- ---- an answer
 replied : (p : Pack) (s : State) (cue : Cue) (wrote : List Event) (moves : List Move) (r : Reply) (u : State) → HasText r → Answers p s cue wrote moves r u → Replied p s cue wrote moves r u

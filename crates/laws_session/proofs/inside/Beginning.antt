@@ -1,9 +1,9 @@
 -- The world that a session keeps as it begins is the fresh one.
 use Rattle.std.proofs.Common.{◌≡◌, ◌≤◌, ℕ, ◌-◌, zero, suc, false, All, List, [], ◌∷◌, ◌++◌, refl, sym, subst, ◌∙◌, ap, length, replicate, take, drop, append_assoc, arith}
-use Rattle.world_model.specs.Zones.{Block, gap}
-use Rattle.world_model.specs.ZoneWords.{blocks_in, blocks_from, tag_size, memory_length, zone_in, zone_start, zone_words}
-use Rattle.world_model.specs.Levels.{all_levels, level_base}
-use Rattle.pack_model.specs.hints.Sources.{IsFrom}
+use Rattle.session_model.specs.world_model.specs.Zones.{Block, gap}
+use Rattle.session_model.specs.world_model.specs.ZoneWords.{blocks_in, blocks_from, tag_size, memory_length, zone_in, zone_start, zone_words}
+use Rattle.session_model.specs.world_model.specs.Levels.{all_levels, level_base}
+use Rattle.laws_line.specs.pack_model.specs.hints.Sources.{IsFrom}
 use Rattle.session_model.specs.Keeping.{OpenFile}
 use Rattle.session_model.specs.Worlds.{fresh_world, memory_words}
 use Rattle.laws_session.specs.BeginLaws.{FreshMemoryIsKept, SessionsBegin}

@@ -4,9 +4,9 @@ use Rattle.std.proofs.Math.Nat.{add-div_right, mul-div_cancel}
 use Rattle.std.proofs.lemmas.Bool.{leb-true}
 use Rattle.std.proofs.lemmas.List.{length-replicate, length-set}
 use Rattle.std.specs.Prelude.{nat_le, nat_lt}
-use Rattle.world_model.specs.Zones.{Block, Taken, gap, live, freed, join_gap, joined_gaps, left_before, size_for, taken, taken_after, taken_here, zone_set}
+use Rattle.session_model.specs.world_model.specs.Zones.{Block, Taken, gap, live, freed, join_gap, joined_gaps, left_before, size_for, taken, taken_after, taken_here, zone_set}
 use Rattle.std.specs.Option.{option_map}
-use Rattle.world_model.specs.ZoneWords.{tag_size, zone_start}
+use Rattle.session_model.specs.world_model.specs.ZoneWords.{tag_size, zone_start}
 use Rattle.laws_session.specs.ZoneLaws.{AreJoined, CanStand, EachCanStand, FillZone, GivenBackFillsTheZone, TakenFillsTheZone, WordFillsTheZone, zone_size}
 
 -- ---- even numbers

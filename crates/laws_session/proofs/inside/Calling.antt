@@ -1,14 +1,14 @@
 -- The calls of a session one after another, and true hints from its beginning to its end.
 use Rattle.std.proofs.Common.{◌≡◌, Bool, true, false, List, refl, sym, subst, ◌∙◌}
-use Rattle.disk_records.specs.Packs.{Pack}
-use Rattle.disk_records.specs.Tapes.{Taped, pack, added}
-use Rattle.disk_records.specs.declared.records.Event.{Event}
-use Rattle.exec_words.specs.declared.reply.Reply.{Reply}
-use Rattle.exec_words.specs.declared.reply.Reply.TheVariants as reply
-use Rattle.pack_model.specs.hints.Links.{LinksTrue}
-use Rattle.pack_model.specs.hints.Truth.{Truthful}
-use Rattle.pack_model.specs.operations.Operations.{Move}
-use Rattle.pack_model.specs.states.Sound.{Sound}
+use Rattle.laws_line.specs.disk_records.specs.Packs.{Pack}
+use Rattle.laws_line.specs.disk_records.specs.Tapes.{Taped, pack, added}
+use Rattle.laws_line.specs.disk_records.specs.declared.records.Event.{Event}
+use Rattle.session_model.specs.exec_words.specs.declared.reply.Reply.{Reply}
+use Rattle.session_model.specs.exec_words.specs.declared.reply.Reply.TheVariants as reply
+use Rattle.laws_line.specs.pack_model.specs.hints.Links.{LinksTrue}
+use Rattle.laws_line.specs.pack_model.specs.hints.Truth.{Truthful}
+use Rattle.laws_line.specs.pack_model.specs.operations.Operations.{Move}
+use Rattle.laws_line.specs.pack_model.specs.states.Sound.{Sound}
 use Rattle.session_model.specs.Answering.{Answers, IsAnswer}
 use Rattle.session_model.specs.Keeping.{Kept, Keeping}
 use Rattle.session_model.specs.Turning.{State, Cue, opening}

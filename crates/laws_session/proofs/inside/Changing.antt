@@ -5,17 +5,17 @@ use Rattle.std.proofs.lemmas.List.{length-take}
 use Rattle.std.proofs.Math.ListN.{drop_of_length-le}
 use Rattle.std.specs.FinMap.{get}
 use Rattle.std.specs.Option.{option_map}
-use Rattle.alto_words.specs.declared.fid.Fid.{Fid}
-use Rattle.pack_model.specs.operations.Committing.{length_in, length_of}
-use Rattle.pack_model.specs.operations.Step.{Operation, body_bytes, on_bytes, step}
-use Rattle.pack_model.specs.operations.Step.Operation.{cut, put, stamp}
-use Rattle.pack_model.specs.reading.Bodies.{Body, File, body_length}
-use Rattle.pack_model.specs.reading.Bodies.Body.{data_of, items_of}
-use Rattle.pack_model.specs.reading.Bytes.{put_at}
-use Rattle.pack_model.specs.reading.Model.{Model}
-use Rattle.pack_laws.proofs.Bytes.{length-put_at}
-use Rattle.pack_laws.proofs.Keys.{fid_same, fid_total, is_fid-itself}
-use Rattle.pack_laws.proofs.Mapping.{get-update}
+use Rattle.laws_line.specs.alto_words.specs.declared.fid.Fid.{Fid}
+use Rattle.laws_line.specs.pack_model.specs.operations.Committing.{length_in, length_of}
+use Rattle.laws_line.specs.pack_model.specs.operations.Step.{Operation, body_bytes, on_bytes, step}
+use Rattle.laws_line.specs.pack_model.specs.operations.Step.Operation.{cut, put, stamp}
+use Rattle.laws_line.specs.pack_model.specs.reading.Bodies.{Body, File, body_length}
+use Rattle.laws_line.specs.pack_model.specs.reading.Bodies.Body.{data_of, items_of}
+use Rattle.laws_line.specs.pack_model.specs.reading.Bytes.{put_at}
+use Rattle.laws_line.specs.pack_model.specs.reading.Model.{Model}
+use Rattle.laws_line.specs.pack_laws.proofs.Bytes.{length-put_at}
+use Rattle.laws_line.specs.pack_laws.proofs.Keys.{fid_same, fid_total, is_fid-itself}
+use Rattle.laws_line.specs.pack_laws.proofs.Mapping.{get-update}
 use Rattle.laws_line.specs.LineLaws.{LeaveNames}
 use Rattle.laws_line.specs.Ready.{steps_of}
 use Rattle.session_model.specs.Effects.{appended_ops, copied_ops, cut_ops}

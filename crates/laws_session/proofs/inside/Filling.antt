@@ -1,27 +1,27 @@
 -- What a line is refused for: one reason alone is for room, which asks for the pages of its operations, and none is a hint's.
 use Rattle.std.proofs.Common.{◌≡◌, ◌==◌, length, ℕ, Bool, true, false, not, nat_lt, List, [], ◌∷◌, ◌++◌, Option, Some, None, map, subst}
 use Rattle.std.specs.Option.{option_map, option_or}
-use Rattle.alto_words.specs.declared.fid.Fid.{Fid}
-use Rattle.alto_words.specs.declared.wanted.Wanted.{Wanted}
-use Rattle.alto_words.specs.declared.wanted.Wanted.TheVariants.{Exact, Newest}
-use Rattle.disk_records.specs.declared.records.Page.{Page}
-use Rattle.disk_records.specs.declared.records.Place.{Place}
-use Rattle.pack_model.specs.operations.Committing.{length_of, pages_for_operations}
-use Rattle.pack_model.specs.operations.Step.{Operation}
-use Rattle.pack_model.specs.reading.Bytes.{words_of}
-use Rattle.pack_model.specs.reading.Files.{first}
-use Rattle.pack_model.specs.reading.Model.{Model, room}
-use Rattle.exec_words.specs.declared.line.Line.{Line}
-use Rattle.exec_words.specs.declared.line.Line.TheVariants as line
-use Rattle.exec_words.specs.declared.line.Path.{Path}
-use Rattle.exec_words.specs.declared.line.Target.{Target}
-use Rattle.exec_words.specs.declared.line.Target.TheVariants.{ByPath, BySerial}
-use Rattle.exec_words.specs.declared.reply.Refusal.{Refusal}
-use Rattle.exec_words.specs.declared.reply.Refusal.TheVariants as refusal_is
-use Rattle.world_model.specs.Levels.{used_by_levels}
-use Rattle.world_model.specs.StateFiles.{mark_whole, spoilt_word, state_length, state_mark}
-use Rattle.world_model.specs.Zones.{given_back, largest_gap, size_for, taken}
-use Rattle.world_model.specs.ZoneWords.{zone_start}
+use Rattle.laws_line.specs.alto_words.specs.declared.fid.Fid.{Fid}
+use Rattle.laws_line.specs.alto_words.specs.declared.wanted.Wanted.{Wanted}
+use Rattle.laws_line.specs.alto_words.specs.declared.wanted.Wanted.TheVariants.{Exact, Newest}
+use Rattle.laws_line.specs.disk_records.specs.declared.records.Page.{Page}
+use Rattle.laws_line.specs.disk_records.specs.declared.records.Place.{Place}
+use Rattle.laws_line.specs.pack_model.specs.operations.Committing.{length_of, pages_for_operations}
+use Rattle.laws_line.specs.pack_model.specs.operations.Step.{Operation}
+use Rattle.laws_line.specs.pack_model.specs.reading.Bytes.{words_of}
+use Rattle.laws_line.specs.pack_model.specs.reading.Files.{first}
+use Rattle.laws_line.specs.pack_model.specs.reading.Model.{Model, room}
+use Rattle.session_model.specs.exec_words.specs.declared.line.Line.{Line}
+use Rattle.session_model.specs.exec_words.specs.declared.line.Line.TheVariants as line
+use Rattle.session_model.specs.exec_words.specs.declared.line.Path.{Path}
+use Rattle.session_model.specs.exec_words.specs.declared.line.Target.{Target}
+use Rattle.session_model.specs.exec_words.specs.declared.line.Target.TheVariants.{ByPath, BySerial}
+use Rattle.session_model.specs.exec_words.specs.declared.reply.Refusal.{Refusal}
+use Rattle.session_model.specs.exec_words.specs.declared.reply.Refusal.TheVariants as refusal_is
+use Rattle.session_model.specs.world_model.specs.Levels.{used_by_levels}
+use Rattle.session_model.specs.world_model.specs.StateFiles.{mark_whole, spoilt_word, state_length, state_mark}
+use Rattle.session_model.specs.world_model.specs.Zones.{given_back, largest_gap, size_for, taken}
+use Rattle.session_model.specs.world_model.specs.ZoneWords.{zone_start}
 use Rattle.session_model.specs.Effects.{effect}
 use Rattle.session_model.specs.Finding.{file_at}
 use Rattle.session_model.specs.Operands.{Operand, Use, level_of, listed, new_directory, new_file, no_directory, operands, removed, some_file, world}

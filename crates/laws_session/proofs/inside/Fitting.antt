@@ -2,26 +2,26 @@
 use Rattle.std.proofs.Common.{◌≡◌, ◌≤◌, ℕ, ◌+◌, Bool, true, false, cond, nat_le, nat_lt, All, List, [], ◌∷◌, ◌++◌, Option, Some, None, max, length, set, refl, sym, subst, ◌∙◌, ap, arith}
 use Rattle.std.proofs.lemmas.Bool.{lt-ltb, ltb-false}
 use Rattle.std.proofs.lemmas.List.Elements.{All-map}
-use Rattle.alto_words.specs.declared.fid.Fid.{Fid}
-use Rattle.alto_words.specs.Fid.{is_fid, sys_dir}
-use Rattle.disk_records.specs.Packs.{Pack}
-use Rattle.pack_model.specs.operations.Committing.{length_of}
-use Rattle.pack_model.specs.operations.Step.{Operation}
-use Rattle.pack_model.specs.operations.Step.Operation.{drop_file}
-use Rattle.pack_model.specs.reading.Files.{lives}
-use Rattle.pack_model.specs.reading.Model.{Model, read_as}
-use Rattle.pack_model.specs.reading.Sights.{sights}
-use Rattle.pack_model.specs.states.Sound.{Sound}
-use Rattle.laws_operation.specs.ByteLaws.{IsOrdinary}
+use Rattle.laws_line.specs.alto_words.specs.declared.fid.Fid.{Fid}
+use Rattle.laws_line.specs.alto_words.specs.Fid.{is_fid, sys_dir}
+use Rattle.laws_line.specs.disk_records.specs.Packs.{Pack}
+use Rattle.laws_line.specs.pack_model.specs.operations.Committing.{length_of}
+use Rattle.laws_line.specs.pack_model.specs.operations.Step.{Operation}
+use Rattle.laws_line.specs.pack_model.specs.operations.Step.Operation.{drop_file}
+use Rattle.laws_line.specs.pack_model.specs.reading.Files.{lives}
+use Rattle.laws_line.specs.pack_model.specs.reading.Model.{Model, read_as}
+use Rattle.laws_line.specs.pack_model.specs.reading.Sights.{sights}
+use Rattle.laws_line.specs.pack_model.specs.states.Sound.{Sound}
+use Rattle.laws_line.specs.laws_operation.specs.ByteLaws.{IsOrdinary}
 use Rattle.laws_line.specs.Ready.{steps_of}
-use Rattle.exec_words.specs.declared.line.Line.{Line}
-use Rattle.exec_words.specs.declared.line.Line.TheVariants as line
-use Rattle.exec_words.specs.declared.line.Target.{Target}
-use Rattle.exec_words.specs.declared.line.Target.TheVariants.{ByPath}
-use Rattle.exec_words.specs.declared.reply.Refusal.{Refusal}
-use Rattle.exec_words.specs.declared.reply.Refusal.TheVariants as refusal_is
-use Rattle.world_model.specs.Zones.{Taken, size_for, taken, zone_set}
-use Rattle.world_model.specs.ZoneWords.{zone_start}
+use Rattle.session_model.specs.exec_words.specs.declared.line.Line.{Line}
+use Rattle.session_model.specs.exec_words.specs.declared.line.Line.TheVariants as line
+use Rattle.session_model.specs.exec_words.specs.declared.line.Target.{Target}
+use Rattle.session_model.specs.exec_words.specs.declared.line.Target.TheVariants.{ByPath}
+use Rattle.session_model.specs.exec_words.specs.declared.reply.Refusal.{Refusal}
+use Rattle.session_model.specs.exec_words.specs.declared.reply.Refusal.TheVariants as refusal_is
+use Rattle.session_model.specs.world_model.specs.Zones.{Taken, size_for, taken, zone_set}
+use Rattle.session_model.specs.world_model.specs.ZoneWords.{zone_start}
 use Rattle.session_model.specs.Effects.{appended_ops, block_effect, copied_ops, cut_ops, effect, listed_dir, new_file_ops, next_directory, next_file, rename_ops}
 use Rattle.session_model.specs.Finding.{file_at, name_given, the_dir, the_file}
 use Rattle.session_model.specs.Keeping.{AreApart, StreamFormed, stream_of}

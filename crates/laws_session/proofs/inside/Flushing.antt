@@ -4,22 +4,22 @@ use Rattle.std.proofs.lemmas.List.{length-take}
 use Rattle.std.proofs.lemmas.List.Elements.{All-head, All-tail}
 use Rattle.std.specs.FinMap.{get}
 use Rattle.std.specs.Option.{option_map, unwrap_or}
-use Rattle.alto_words.specs.declared.fid.Fid.{Fid}
-use Rattle.alto_words.specs.Fid.{is_fid}
-use Rattle.pack_model.specs.operations.Committing.{length_in, length_of}
-use Rattle.pack_model.specs.operations.Step.{Operation, on_bytes, on_leader, step}
-use Rattle.pack_model.specs.operations.Step.Operation.{cut, drop_file, enter, grow, leave, make, put, stamp, title, widen}
-use Rattle.pack_model.specs.reading.Bodies.{File}
-use Rattle.pack_model.specs.reading.Bytes.{put_at}
-use Rattle.pack_model.specs.reading.Model.{Model, read_as}
-use Rattle.pack_model.specs.sessions.Maps.{update}
-use Rattle.pack_laws.proofs.Keys.{fid_same, fid_total}
-use Rattle.pack_laws.proofs.Mapping.{get-update}
+use Rattle.laws_line.specs.alto_words.specs.declared.fid.Fid.{Fid}
+use Rattle.laws_line.specs.alto_words.specs.Fid.{is_fid}
+use Rattle.laws_line.specs.pack_model.specs.operations.Committing.{length_in, length_of}
+use Rattle.laws_line.specs.pack_model.specs.operations.Step.{Operation, on_bytes, on_leader, step}
+use Rattle.laws_line.specs.pack_model.specs.operations.Step.Operation.{cut, drop_file, enter, grow, leave, make, put, stamp, title, widen}
+use Rattle.laws_line.specs.pack_model.specs.reading.Bodies.{File}
+use Rattle.laws_line.specs.pack_model.specs.reading.Bytes.{put_at}
+use Rattle.laws_line.specs.pack_model.specs.reading.Model.{Model, read_as}
+use Rattle.laws_line.specs.pack_model.specs.sessions.Maps.{update}
+use Rattle.laws_line.specs.pack_laws.proofs.Keys.{fid_same, fid_total}
+use Rattle.laws_line.specs.pack_laws.proofs.Mapping.{get-update}
 use Rattle.laws_line.specs.LineLaws.{LeaveNames}
 use Rattle.laws_line.specs.Ready.{steps_of}
 use Rattle.laws_line.specs.SoundLines.{changes}
-use Rattle.exec_words.specs.declared.line.Line.TheVariants as line
-use Rattle.exec_words.specs.declared.reply.Refusal.TheVariants as refusal_is
+use Rattle.session_model.specs.exec_words.specs.declared.line.Line.TheVariants as line
+use Rattle.session_model.specs.exec_words.specs.declared.reply.Refusal.TheVariants as refusal_is
 use Rattle.session_model.specs.Effects.{ending_ops}
 use Rattle.session_model.specs.Keeping.{AreApart, ComesBefore, StreamFits}
 use Rattle.session_model.specs.Refusals.{when_missing}

@@ -5,30 +5,30 @@ use Rattle.std.proofs.lemmas.List.{length-take}
 use Rattle.std.proofs.Math.ListN.{drop_of_length-le}
 use Rattle.std.specs.FinMap.{contains_key, get, get-insert, get-remove, remove}
 use Rattle.std.specs.Option.{is_some, option_map}
-use Rattle.alto_words.specs.declared.fid.Fid.{Fid}
-use Rattle.alto_words.specs.Fid.{is_fid}
-use Rattle.disk_records.specs.Packs.{Pack}
-use Rattle.pack_model.specs.operations.Committing.{length_in, length_of}
-use Rattle.pack_model.specs.operations.Rooms.{items_entered}
-use Rattle.pack_model.specs.operations.Step.{Operation, file_without, items_left, new_file, on_bytes, on_items, on_leader, step}
-use Rattle.pack_model.specs.operations.Step.Operation.{cut, drop_file, enter, grow, leave, make, put, stamp, title, widen}
-use Rattle.pack_model.specs.reading.Bodies.{File, described, found, is_described}
-use Rattle.pack_model.specs.reading.Bodies.Body.{data_of, items_of}
-use Rattle.pack_model.specs.reading.Bytes.{put_at, words_of}
-use Rattle.pack_model.specs.reading.Files.{file_bytes, lives}
-use Rattle.pack_model.specs.reading.Leaders.{Leader}
-use Rattle.pack_model.specs.reading.Model.{Model, read_as, read_sights}
-use Rattle.pack_model.specs.reading.Sights.{Sight, sights}
-use Rattle.pack_model.specs.reading.Slots.{Item, slots}
-use Rattle.pack_model.specs.reading.Slots.Item.{entry, space}
-use Rattle.pack_model.specs.sessions.Maps.{update}
-use Rattle.pack_laws.proofs.Bytes.{length-put_at}
-use Rattle.pack_laws.proofs.Keys.{fid_same, fid_total, is_fid-itself, same_fid}
-use Rattle.pack_laws.proofs.Mapping.{get-map_values, get-update}
-use Rattle.laws_record.proofs.DirReads.{has_leader}
-use Rattle.laws_record.proofs.Keeping.{get-tidied_plain, get-where, plain}
-use Rattle.laws_record.proofs.Reading.{get_by, read_file}
-use Rattle.laws_operation.specs.ByteLaws.{IsOrdinary}
+use Rattle.laws_line.specs.alto_words.specs.declared.fid.Fid.{Fid}
+use Rattle.laws_line.specs.alto_words.specs.Fid.{is_fid}
+use Rattle.laws_line.specs.disk_records.specs.Packs.{Pack}
+use Rattle.laws_line.specs.pack_model.specs.operations.Committing.{length_in, length_of}
+use Rattle.laws_line.specs.pack_model.specs.operations.Rooms.{items_entered}
+use Rattle.laws_line.specs.pack_model.specs.operations.Step.{Operation, file_without, items_left, new_file, on_bytes, on_items, on_leader, step}
+use Rattle.laws_line.specs.pack_model.specs.operations.Step.Operation.{cut, drop_file, enter, grow, leave, make, put, stamp, title, widen}
+use Rattle.laws_line.specs.pack_model.specs.reading.Bodies.{File, described, found, is_described}
+use Rattle.laws_line.specs.pack_model.specs.reading.Bodies.Body.{data_of, items_of}
+use Rattle.laws_line.specs.pack_model.specs.reading.Bytes.{put_at, words_of}
+use Rattle.laws_line.specs.pack_model.specs.reading.Files.{file_bytes, lives}
+use Rattle.laws_line.specs.pack_model.specs.reading.Leaders.{Leader}
+use Rattle.laws_line.specs.pack_model.specs.reading.Model.{Model, read_as, read_sights}
+use Rattle.laws_line.specs.pack_model.specs.reading.Sights.{Sight, sights}
+use Rattle.laws_line.specs.pack_model.specs.reading.Slots.{Item, slots}
+use Rattle.laws_line.specs.pack_model.specs.reading.Slots.Item.{entry, space}
+use Rattle.laws_line.specs.pack_model.specs.sessions.Maps.{update}
+use Rattle.laws_line.specs.pack_laws.proofs.Bytes.{length-put_at}
+use Rattle.laws_line.specs.pack_laws.proofs.Keys.{fid_same, fid_total, is_fid-itself, same_fid}
+use Rattle.laws_line.specs.pack_laws.proofs.Mapping.{get-map_values, get-update}
+use Rattle.laws_line.specs.laws_record.proofs.DirReads.{has_leader}
+use Rattle.laws_line.specs.laws_record.proofs.Keeping.{get-tidied_plain, get-where, plain}
+use Rattle.laws_line.specs.laws_record.proofs.Reading.{get_by, read_file}
+use Rattle.laws_line.specs.laws_operation.specs.ByteLaws.{IsOrdinary}
 use Rattle.laws_line.specs.Ready.{steps_of}
 use Rattle.session_model.specs.Streams.{Stream, bytes_in, data_in, flush_ops, grows, pending_from, puts, puts_from, written_ops}
 

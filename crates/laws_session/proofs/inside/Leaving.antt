@@ -4,16 +4,16 @@ use Rattle.std.proofs.lemmas.Bool.{leb-true}
 use Rattle.std.proofs.lemmas.List.{length-set}
 use Rattle.std.specs.Option.{unwrap_or}
 use Rattle.std.specs.Prelude.{nat_le}
-use Rattle.pack_model.specs.reading.Model.{Model}
-use Rattle.exec_words.specs.declared.line.Line.{Line}
-use Rattle.exec_words.specs.declared.line.Line.TheVariants as line
-use Rattle.exec_words.specs.declared.line.Target.TheVariants.{ByPath}
-use Rattle.exec_words.specs.declared.reply.Refusal.{Refusal}
-use Rattle.exec_words.specs.declared.reply.Refusal.TheVariants as refusal_is
-use Rattle.exec_words.specs.Typed.{is_typed_path}
-use Rattle.world_model.specs.Levels.{level_base, used_by_levels}
-use Rattle.world_model.specs.Zones.{Block, Taken, given_back, size_for, taken, zone_set}
-use Rattle.world_model.specs.ZoneWords.{zone_start}
+use Rattle.laws_line.specs.pack_model.specs.reading.Model.{Model}
+use Rattle.session_model.specs.exec_words.specs.declared.line.Line.{Line}
+use Rattle.session_model.specs.exec_words.specs.declared.line.Line.TheVariants as line
+use Rattle.session_model.specs.exec_words.specs.declared.line.Target.TheVariants.{ByPath}
+use Rattle.session_model.specs.exec_words.specs.declared.reply.Refusal.{Refusal}
+use Rattle.session_model.specs.exec_words.specs.declared.reply.Refusal.TheVariants as refusal_is
+use Rattle.session_model.specs.exec_words.specs.Typed.{is_typed_path}
+use Rattle.session_model.specs.world_model.specs.Levels.{level_base, used_by_levels}
+use Rattle.session_model.specs.world_model.specs.Zones.{Block, Taken, given_back, size_for, taken, zone_set}
+use Rattle.session_model.specs.world_model.specs.ZoneWords.{zone_start}
 use Rattle.session_model.specs.Effects.{block_effect, effect}
 use Rattle.session_model.specs.Finding.{file_at, the_file}
 use Rattle.session_model.specs.Refusals.{dir_at, no_world, when_missing}

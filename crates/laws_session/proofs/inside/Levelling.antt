@@ -4,9 +4,9 @@ use Rattle.std.proofs.lemmas.Bool.{leb-false, leb-true, ltb-false}
 use Rattle.std.proofs.lemmas.List.{take-take}
 use Rattle.std.proofs.lemmas.List.Sums.{sum_by-take-le}
 use Rattle.std.specs.Prelude.{nat_le, nat_lt, sum_by}
-use Rattle.world_model.specs.Levels.{all_levels, level_base, level_kept, level_words}
-use Rattle.world_model.specs.Zones.{Block, gap, live, block_size, grown, left_before, shrunk, used_above}
-use Rattle.world_model.specs.ZoneWords.{tag_size, zone_start}
+use Rattle.session_model.specs.world_model.specs.Levels.{all_levels, level_base, level_kept, level_words}
+use Rattle.session_model.specs.world_model.specs.Zones.{Block, gap, live, block_size, grown, left_before, shrunk, used_above}
+use Rattle.session_model.specs.world_model.specs.ZoneWords.{tag_size, zone_start}
 use Rattle.laws_session.specs.ZoneLaws.{AreJoined, CanStand, CounterJuntaFillsTheZone, EachCanStand, JuntaFillsTheZone, zone_size}
 use Rattle.laws_session.proofs.inside.Blocking.{Stand, Stay, even_rest, joined_stay}
 use Rattle.laws_session.proofs.inside.Remembering.{above_start}

@@ -1,28 +1,28 @@
 -- A line, by what its operations do to the pack, as the answer of a call.
 use Rattle.std.proofs.Common.{◌≡◌, ℕ, zero, suc, ◌==◌, Bool, true, false, cond, List, [], Option, Some, None, inl, refl, sym, subst, ◌∙◌, ap}
-use Rattle.disk_records.specs.declared.records.Event.{Event}
-use Rattle.disk_records.specs.Packs.{Pack}
-use Rattle.pack_model.specs.operations.Committing.{line_moves, units}
-use Rattle.pack_model.specs.operations.Operations.{Move, quiet_moves}
-use Rattle.pack_model.specs.operations.Step.{Operation}
-use Rattle.pack_model.specs.reading.Model.{Model}
-use Rattle.pack_model.specs.reading.Sights.{sights}
-use Rattle.pack_model.specs.sessions.Descriptor.{close_moves, data_pages, ending_moves, mark_after}
-use Rattle.pack_model.specs.sessions.Meanings.{session}
-use Rattle.pack_model.specs.sessions.Moves.{IsStartOf, Obeys, rest, steps}
-use Rattle.pack_model.specs.states.Sound.{mark_clean, mark_of}
-use Rattle.pack_laws.proofs.Moving.{start_self, steps-append}
-use Rattle.exec_words.specs.declared.line.Line.{Line}
-use Rattle.exec_words.specs.declared.reply.Refusal.{Refusal}
-use Rattle.exec_words.specs.declared.reply.Reply.{Reply}
-use Rattle.exec_words.specs.declared.reply.Reply.TheVariants as reply
-use Rattle.exec_words.specs.Texts.{reply_text}
+use Rattle.laws_line.specs.disk_records.specs.declared.records.Event.{Event}
+use Rattle.laws_line.specs.disk_records.specs.Packs.{Pack}
+use Rattle.laws_line.specs.pack_model.specs.operations.Committing.{line_moves, units}
+use Rattle.laws_line.specs.pack_model.specs.operations.Operations.{Move, quiet_moves}
+use Rattle.laws_line.specs.pack_model.specs.operations.Step.{Operation}
+use Rattle.laws_line.specs.pack_model.specs.reading.Model.{Model}
+use Rattle.laws_line.specs.pack_model.specs.reading.Sights.{sights}
+use Rattle.laws_line.specs.pack_model.specs.sessions.Descriptor.{close_moves, data_pages, ending_moves, mark_after}
+use Rattle.laws_line.specs.pack_model.specs.sessions.Meanings.{session}
+use Rattle.laws_line.specs.pack_model.specs.sessions.Moves.{IsStartOf, Obeys, rest, steps}
+use Rattle.laws_line.specs.pack_model.specs.states.Sound.{mark_clean, mark_of}
+use Rattle.laws_line.specs.pack_laws.proofs.Moving.{start_self, steps-append}
+use Rattle.session_model.specs.exec_words.specs.declared.line.Line.{Line}
+use Rattle.session_model.specs.exec_words.specs.declared.reply.Refusal.{Refusal}
+use Rattle.session_model.specs.exec_words.specs.declared.reply.Reply.{Reply}
+use Rattle.session_model.specs.exec_words.specs.declared.reply.Reply.TheVariants as reply
+use Rattle.session_model.specs.exec_words.specs.Texts.{reply_text}
 use Rattle.laws_line.proofs.parts.Laws.{line_moves_lead_to_the_model}
 use Rattle.laws_line.specs.Ready.{steps_of}
-use Rattle.exec_words.specs.declared.line.Line.TheVariants as line
-use Rattle.disk_records.specs.Packs.{after}
-use Rattle.pack_model.specs.states.Sound.{Clean}
-use Rattle.exec_words.specs.Texts.{done_text}
+use Rattle.session_model.specs.exec_words.specs.declared.line.Line.TheVariants as line
+use Rattle.laws_line.specs.disk_records.specs.Packs.{after}
+use Rattle.laws_line.specs.pack_model.specs.states.Sound.{Clean}
+use Rattle.session_model.specs.exec_words.specs.Texts.{done_text}
 use Rattle.session_model.specs.Answering.{Answered, Answers, Replied, reply_of, reply_unless, plain_reply}
 use Rattle.session_model.specs.Effects.{effect}
 use Rattle.session_model.specs.Replies.{ops, reply_to, refusal, text_unless, unless_refused}

@@ -4,13 +4,13 @@ use Rattle.std.proofs.lemmas.Bool.{eqb-true, leb-true}
 use Rattle.std.proofs.lemmas.List.{length-append, length-drop, length-replicate}
 use Rattle.std.specs.Option.{option_map, option_or}
 use Rattle.std.specs.Prelude.{nat_le}
-use Rattle.pack_model.specs.reading.Bytes.{words_of}
-use Rattle.pack_laws.proofs.Bytes.{length-put_at, length-words_of}
-use Rattle.exec_words.specs.declared.reply.Refusal.{Refusal}
-use Rattle.exec_words.specs.declared.reply.Refusal.TheVariants as refusal_is
-use Rattle.world_model.specs.Levels.{IsAtLevel, all_levels, level_base}
-use Rattle.world_model.specs.StateFiles.{mark_whole, message_bytes, message_length, spoilt_memory, spoilt_word, state_length, state_level, state_mark, state_memory}
-use Rattle.world_model.specs.ZoneWords.{first_broken, memory_length, tag_size, zone_start}
+use Rattle.laws_line.specs.pack_model.specs.reading.Bytes.{words_of}
+use Rattle.laws_line.specs.pack_laws.proofs.Bytes.{length-put_at, length-words_of}
+use Rattle.session_model.specs.exec_words.specs.declared.reply.Refusal.{Refusal}
+use Rattle.session_model.specs.exec_words.specs.declared.reply.Refusal.TheVariants as refusal_is
+use Rattle.session_model.specs.world_model.specs.Levels.{IsAtLevel, all_levels, level_base}
+use Rattle.session_model.specs.world_model.specs.StateFiles.{mark_whole, message_bytes, message_length, spoilt_memory, spoilt_word, state_length, state_level, state_mark, state_memory}
+use Rattle.session_model.specs.world_model.specs.ZoneWords.{first_broken, memory_length, tag_size, zone_start}
 use Rattle.session_model.specs.Refusals.{no_world, when}
 use Rattle.laws_session.specs.ZoneLaws.{FreshWorldsHaveAMemory, KeptWorldsHaveAMemory, LoadedWorldsHaveAMemory}
 use Rattle.laws_session.proofs.inside.Blocking.{even_rest}

@@ -3,37 +3,37 @@ use Rattle.std.proofs.Common.{◌≡◌, ◌⊎◌, ℕ, ◌==◌, ◌&&◌, ◌
 use Rattle.std.specs.FinMap.{entries, get}
 use Rattle.std.specs.List.{list_any}
 use Rattle.std.specs.Option.{is_some, option_map, option_or, unwrap_or}
-use Rattle.alto_words.specs.declared.fid.Fid.{Fid}
-use Rattle.alto_words.specs.declared.wanted.Wanted.{Wanted}
-use Rattle.alto_words.specs.declared.wanted.Wanted.TheVariants.{Exact, Newest}
-use Rattle.alto_words.specs.Fid.{disk_descriptor, is_fid, serial_of, sys_dir}
-use Rattle.alto_words.specs.Names.{fold_case, is_same_name, version_of}
-use Rattle.disk_records.specs.Packs.{Pack}
-use Rattle.pack_model.specs.reading.Bodies.{Body, File, items_in}
-use Rattle.pack_model.specs.reading.Bodies.Body.{data_of, items_of}
-use Rattle.pack_model.specs.reading.Files.{first, lives}
-use Rattle.pack_model.specs.reading.Leaders.{Leader}
-use Rattle.pack_model.specs.reading.Model.{Model, dir_items, is_named, read_as, root_items}
-use Rattle.pack_model.specs.reading.Namings.{Naming, clashes, namings, namings_in}
-use Rattle.pack_model.specs.reading.Sights.{sights}
-use Rattle.pack_model.specs.reading.Slots.{Item}
-use Rattle.pack_model.specs.reading.Slots.Item.{entry, space}
-use Rattle.pack_model.specs.reading.Versions.{Entered, entry_wanted, exact, has_base, newest_from, version_found}
-use Rattle.pack_model.specs.states.Whole.{Whole}
-use Rattle.pack_laws.proofs.Keys.{is_fid-itself, same_fid}
-use Rattle.laws_record.proofs.DirReads.{insert_same}
-use Rattle.laws_record.proofs.DirSteps.{apart_before}
-use Rattle.laws_record.proofs.Entered.{directory, spot}
-use Rattle.laws_record.proofs.Fitting.{same_equiv, same_sym}
-use Rattle.laws_record.proofs.Tidying.{or_false, or_false_left, or_false_right}
-use Rattle.laws_operation.proofs.entries.Laws.{entries_name_living_files, read_entries_are_kept}
-use Rattle.laws_operation.proofs.places.Laws.{model_has_the_living}
-use Rattle.laws_room.proofs.Each.{Each, each_entry}
-use Rattle.laws_room.proofs.FreeRoom.{root_lives}
+use Rattle.laws_line.specs.alto_words.specs.declared.fid.Fid.{Fid}
+use Rattle.laws_line.specs.alto_words.specs.declared.wanted.Wanted.{Wanted}
+use Rattle.laws_line.specs.alto_words.specs.declared.wanted.Wanted.TheVariants.{Exact, Newest}
+use Rattle.laws_line.specs.alto_words.specs.Fid.{disk_descriptor, is_fid, serial_of, sys_dir}
+use Rattle.laws_line.specs.alto_words.specs.Names.{fold_case, is_same_name, version_of}
+use Rattle.laws_line.specs.disk_records.specs.Packs.{Pack}
+use Rattle.laws_line.specs.pack_model.specs.reading.Bodies.{Body, File, items_in}
+use Rattle.laws_line.specs.pack_model.specs.reading.Bodies.Body.{data_of, items_of}
+use Rattle.laws_line.specs.pack_model.specs.reading.Files.{first, lives}
+use Rattle.laws_line.specs.pack_model.specs.reading.Leaders.{Leader}
+use Rattle.laws_line.specs.pack_model.specs.reading.Model.{Model, dir_items, is_named, read_as, root_items}
+use Rattle.laws_line.specs.pack_model.specs.reading.Namings.{Naming, clashes, namings, namings_in}
+use Rattle.laws_line.specs.pack_model.specs.reading.Sights.{sights}
+use Rattle.laws_line.specs.pack_model.specs.reading.Slots.{Item}
+use Rattle.laws_line.specs.pack_model.specs.reading.Slots.Item.{entry, space}
+use Rattle.laws_line.specs.pack_model.specs.reading.Versions.{Entered, entry_wanted, exact, has_base, newest_from, version_found}
+use Rattle.laws_line.specs.pack_model.specs.states.Whole.{Whole}
+use Rattle.laws_line.specs.pack_laws.proofs.Keys.{is_fid-itself, same_fid}
+use Rattle.laws_line.specs.laws_record.proofs.DirReads.{insert_same}
+use Rattle.laws_line.specs.laws_record.proofs.DirSteps.{apart_before}
+use Rattle.laws_line.specs.laws_record.proofs.Entered.{directory, spot}
+use Rattle.laws_line.specs.laws_record.proofs.Fitting.{same_equiv, same_sym}
+use Rattle.laws_line.specs.laws_record.proofs.Tidying.{or_false, or_false_left, or_false_right}
+use Rattle.laws_line.specs.laws_operation.proofs.entries.Laws.{entries_name_living_files, read_entries_are_kept}
+use Rattle.laws_line.specs.laws_operation.proofs.places.Laws.{model_has_the_living}
+use Rattle.laws_line.specs.laws_room.proofs.Each.{Each, each_entry}
+use Rattle.laws_line.specs.laws_room.proofs.FreeRoom.{root_lives}
 use Rattle.laws_line.specs.LineLaws.{IsEntered}
-use Rattle.exec_words.specs.declared.line.Path.{Path}
-use Rattle.exec_words.specs.declared.line.Target.{Target}
-use Rattle.exec_words.specs.declared.line.Target.TheVariants.{ByPath, BySerial}
+use Rattle.session_model.specs.exec_words.specs.declared.line.Path.{Path}
+use Rattle.session_model.specs.exec_words.specs.declared.line.Target.{Target}
+use Rattle.session_model.specs.exec_words.specs.declared.line.Target.TheVariants.{ByPath, BySerial}
 use Rattle.session_model.specs.Finding.{dir_of, entry_in, fid_of, file_at, own_name}
 
 -- ---- an entry among slots

@@ -1,14 +1,14 @@
 -- An answer that names a hint that misled is that of a turn that failed.
 use Rattle.std.proofs.Common.{◌≡◌, ℕ, Bool, true, false, cond, List, Option, Some, None, refl, subst}
-use Rattle.disk_records.specs.declared.records.Event.{Event}
-use Rattle.disk_records.specs.declared.records.Page.{Page}
-use Rattle.disk_records.specs.declared.records.Place.{Place}
-use Rattle.disk_records.specs.Packs.{Pack}
-use Rattle.pack_model.specs.operations.Operations.{Move}
-use Rattle.pack_model.specs.sessions.Turns.{Turn}
-use Rattle.exec_words.specs.declared.reply.Refusal.{Refusal}
-use Rattle.exec_words.specs.declared.reply.Refusal.TheVariants as refusal
-use Rattle.exec_words.specs.declared.reply.Reply.TheVariants as reply
+use Rattle.laws_line.specs.disk_records.specs.declared.records.Event.{Event}
+use Rattle.laws_line.specs.disk_records.specs.declared.records.Page.{Page}
+use Rattle.laws_line.specs.disk_records.specs.declared.records.Place.{Place}
+use Rattle.laws_line.specs.disk_records.specs.Packs.{Pack}
+use Rattle.laws_line.specs.pack_model.specs.operations.Operations.{Move}
+use Rattle.laws_line.specs.pack_model.specs.sessions.Turns.{Turn}
+use Rattle.session_model.specs.exec_words.specs.declared.reply.Refusal.{Refusal}
+use Rattle.session_model.specs.exec_words.specs.declared.reply.Refusal.TheVariants as refusal
+use Rattle.session_model.specs.exec_words.specs.declared.reply.Reply.TheVariants as reply
 use Rattle.session_model.specs.Answering.{plain_reply, reply_of, reply_unless}
 use Rattle.session_model.specs.Replies.{refusal as refusal_to, reply_to}
 use Rattle.session_model.specs.Turning.{State, Cue, typed, ended, HintFailing, TurnKind, plain, failed, scavenged, cue_files, is_quit}

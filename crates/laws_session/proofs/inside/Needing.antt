@@ -1,20 +1,20 @@
 -- Where no scavenge is needed none is, as long as no turn fails; and where links are true none does.
 use Rattle.std.proofs.Common.{◌≡◌, Bool, true, false, List, Option, Some, None, refl, ◌∙◌}
 use Rattle.std.specs.Prelude.{nat_le, cond, set}
-use Rattle.disk_records.specs.declared.records.Event.{Event}
-use Rattle.disk_records.specs.Packs.{Pack}
-use Rattle.pack_model.specs.hints.Links.{LinksTrue}
-use Rattle.pack_model.specs.operations.Operations.{Move}
-use Rattle.pack_model.specs.reading.Model.{Model}
-use Rattle.pack_model.specs.sessions.Turns.{Turn}
-use Rattle.pack_model.specs.states.Sound.{Sound}
-use Rattle.exec_words.specs.declared.line.Line.{Line}
-use Rattle.exec_words.specs.declared.line.Line.TheVariants as line
-use Rattle.exec_words.specs.declared.reply.Refusal.{Refusal}
+use Rattle.laws_line.specs.disk_records.specs.declared.records.Event.{Event}
+use Rattle.laws_line.specs.disk_records.specs.Packs.{Pack}
+use Rattle.laws_line.specs.pack_model.specs.hints.Links.{LinksTrue}
+use Rattle.laws_line.specs.pack_model.specs.operations.Operations.{Move}
+use Rattle.laws_line.specs.pack_model.specs.reading.Model.{Model}
+use Rattle.laws_line.specs.pack_model.specs.sessions.Turns.{Turn}
+use Rattle.laws_line.specs.pack_model.specs.states.Sound.{Sound}
+use Rattle.session_model.specs.exec_words.specs.declared.line.Line.{Line}
+use Rattle.session_model.specs.exec_words.specs.declared.line.Line.TheVariants as line
+use Rattle.session_model.specs.exec_words.specs.declared.reply.Refusal.{Refusal}
 use Rattle.laws_lookup.proofs.hints.Laws.{true_hints_never_mislead}
 use Rattle.laws_lookup.specs.HintLaws.{HasFullValues}
-use Rattle.world_model.specs.Zones.{Taken, zone_set, size_for, taken}
-use Rattle.world_model.specs.ZoneWords.{zone_start}
+use Rattle.session_model.specs.world_model.specs.Zones.{Taken, zone_set, size_for, taken}
+use Rattle.session_model.specs.world_model.specs.ZoneWords.{zone_start}
 use Rattle.session_model.specs.Effects.{effect, block_effect}
 use Rattle.session_model.specs.Histories.{IsUnfailed, LinksTrueThroughout, NoneFailed, TurnsOf, begun, then}
 use Rattle.session_model.specs.Replies.{unless_refused, refusal}

@@ -5,45 +5,45 @@ use Rattle.std.specs.FinMap.{contains_key}
 use Rattle.std.specs.List.{list_any}
 use Rattle.std.specs.Option.{unwrap_or}
 use Rattle.std.specs.Prelude.{is_none}
-use Rattle.alto_words.proofs.Marks.{but_last-push}
-use Rattle.alto_words.proofs.Names.{stem_of}
-use Rattle.alto_words.proofs.Versions.{is_stored_name-fits}
-use Rattle.alto_words.specs.declared.fid.Fid.{Fid}
-use Rattle.alto_words.specs.declared.wanted.Wanted.{Wanted}
-use Rattle.alto_words.specs.declared.wanted.Wanted.TheVariants.{Exact, Newest}
-use Rattle.alto_words.specs.Fid.{directory_fid, disk_descriptor, is_directory, is_fid, is_full_name, is_system, ordinary_fid, serial_of, sys_dir}
-use Rattle.alto_words.specs.Names.{is_bare_name, is_same_name, version_text, versioned}
-use Rattle.alto_words.specs.Wanted.{base_wanted}
-use Rattle.disk_records.specs.Packs.{Pack}
-use Rattle.pack_model.specs.operations.Step.{Operation}
-use Rattle.pack_model.specs.operations.Step.Operation.{enter, make}
-use Rattle.pack_model.specs.reading.Files.{lives}
-use Rattle.pack_model.specs.reading.Model.{Model, dir_items, read_as, root_items}
-use Rattle.pack_model.specs.reading.Sights.{sights}
-use Rattle.pack_model.specs.reading.Slots.{Item}
-use Rattle.pack_model.specs.reading.Slots.Item.{entry, space}
-use Rattle.pack_model.specs.reading.Versions.{exact, greatest_version, is_held, new_name}
-use Rattle.pack_model.specs.states.Sound.{Sound}
-use Rattle.pack_model.specs.states.Whole.{Whole}
-use Rattle.pack_laws.proofs.Keys.{same_fid}
-use Rattle.laws_record.proofs.Heads.{and_right}
-use Rattle.laws_record.proofs.Tidying.{or_false, or_false_left}
-use Rattle.laws_operation.proofs.places.Laws.{model_has_the_living, none_above_the_last_serial}
-use Rattle.laws_operation.specs.EntryLaws.{HasName, is_of_another}
+use Rattle.laws_line.specs.alto_words.proofs.Marks.{but_last-push}
+use Rattle.laws_line.specs.alto_words.proofs.Names.{stem_of}
+use Rattle.laws_line.specs.alto_words.proofs.Versions.{is_stored_name-fits}
+use Rattle.laws_line.specs.alto_words.specs.declared.fid.Fid.{Fid}
+use Rattle.laws_line.specs.alto_words.specs.declared.wanted.Wanted.{Wanted}
+use Rattle.laws_line.specs.alto_words.specs.declared.wanted.Wanted.TheVariants.{Exact, Newest}
+use Rattle.laws_line.specs.alto_words.specs.Fid.{directory_fid, disk_descriptor, is_directory, is_fid, is_full_name, is_system, ordinary_fid, serial_of, sys_dir}
+use Rattle.laws_line.specs.alto_words.specs.Names.{is_bare_name, is_same_name, version_text, versioned}
+use Rattle.laws_line.specs.alto_words.specs.Wanted.{base_wanted}
+use Rattle.laws_line.specs.disk_records.specs.Packs.{Pack}
+use Rattle.laws_line.specs.pack_model.specs.operations.Step.{Operation}
+use Rattle.laws_line.specs.pack_model.specs.operations.Step.Operation.{enter, make}
+use Rattle.laws_line.specs.pack_model.specs.reading.Files.{lives}
+use Rattle.laws_line.specs.pack_model.specs.reading.Model.{Model, dir_items, read_as, root_items}
+use Rattle.laws_line.specs.pack_model.specs.reading.Sights.{sights}
+use Rattle.laws_line.specs.pack_model.specs.reading.Slots.{Item}
+use Rattle.laws_line.specs.pack_model.specs.reading.Slots.Item.{entry, space}
+use Rattle.laws_line.specs.pack_model.specs.reading.Versions.{exact, greatest_version, is_held, new_name}
+use Rattle.laws_line.specs.pack_model.specs.states.Sound.{Sound}
+use Rattle.laws_line.specs.pack_model.specs.states.Whole.{Whole}
+use Rattle.laws_line.specs.pack_laws.proofs.Keys.{same_fid}
+use Rattle.laws_line.specs.laws_record.proofs.Heads.{and_right}
+use Rattle.laws_line.specs.laws_record.proofs.Tidying.{or_false, or_false_left}
+use Rattle.laws_line.specs.laws_operation.proofs.places.Laws.{model_has_the_living, none_above_the_last_serial}
+use Rattle.laws_line.specs.laws_operation.specs.EntryLaws.{HasName, is_of_another}
 use Rattle.laws_lookup.proofs.names.Laws.{new_name_is_absent_in_the_model}
 use Rattle.laws_lookup.specs.EnteringLaws.{IsEnterable}
 use Rattle.laws_lookup.specs.NewNameLaws.{CanBeWanted}
-use Rattle.laws_room.proofs.FreeRoom.{root_lives}
+use Rattle.laws_line.specs.laws_room.proofs.FreeRoom.{root_lives}
 use Rattle.laws_line.proofs.after.Laws.{directories_are_read}
 use Rattle.laws_line.specs.AfterLaws.{IsDirectory}
 use Rattle.laws_line.specs.LineLaws.{IsEntered, LeaveNames, new_file_line, with_new_file}
 use Rattle.laws_line.specs.SoundLines.{IsKindOfLine, comes, renamed}
-use Rattle.exec_words.specs.declared.line.Line.{Line}
-use Rattle.exec_words.specs.declared.line.Line.TheVariants as line
-use Rattle.exec_words.specs.declared.line.Path.{Path}
-use Rattle.exec_words.specs.declared.line.Target.TheVariants.{ByPath}
-use Rattle.exec_words.specs.declared.reply.Refusal.TheVariants as refusal_is
-use Rattle.exec_words.specs.Typed.{is_typed_dir, is_typed_file, is_typed_path, is_typed_wanted}
+use Rattle.session_model.specs.exec_words.specs.declared.line.Line.{Line}
+use Rattle.session_model.specs.exec_words.specs.declared.line.Line.TheVariants as line
+use Rattle.session_model.specs.exec_words.specs.declared.line.Path.{Path}
+use Rattle.session_model.specs.exec_words.specs.declared.line.Target.TheVariants.{ByPath}
+use Rattle.session_model.specs.exec_words.specs.declared.reply.Refusal.TheVariants as refusal_is
+use Rattle.session_model.specs.exec_words.specs.Typed.{is_typed_dir, is_typed_file, is_typed_path, is_typed_wanted}
 use Rattle.session_model.specs.Effects.{copied_ops, effect, new_file_ops, next_directory, next_file, widenings}
 use Rattle.session_model.specs.Finding.{dir_of, file_at, is_dir_taken, is_path_taken, name_given, own_name, the_dir, the_file}
 use Rattle.session_model.specs.Operands.{Operand, new_file}

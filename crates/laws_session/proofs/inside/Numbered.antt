@@ -2,9 +2,9 @@
 use Rattle.std.proofs.Common.{◌≡◌, ◌≤◌, ◌<◌, ℕ, ◌==◌, Bool, true, false, cond, nat_lt, All, List, [], ◌∷◌, Some, None, refl, sym, subst, ◌∙◌, ap, arith, eqb-true}
 use Rattle.std.proofs.lemmas.Bool.{eqb-false, ltb-false, ltb-true}
 use Rattle.std.proofs.lemmas.List.Elements.{All-cons, All-head, All-nil, All-tail}
-use Rattle.alto_words.specs.declared.fid.Fid.{Fid}
-use Rattle.alto_words.specs.Fid.{is_fid}
-use Rattle.pack_laws.proofs.Keys.{is_fid-sym}
+use Rattle.laws_line.specs.alto_words.specs.declared.fid.Fid.{Fid}
+use Rattle.laws_line.specs.alto_words.specs.Fid.{is_fid}
+use Rattle.laws_line.specs.pack_laws.proofs.Keys.{is_fid-sym}
 use Rattle.session_model.specs.Keeping.{AreApart, ComesBefore}
 use Rattle.session_model.specs.Streams.{Stream, stream_at, with_stream, without_stream}
 use Rattle.laws_session.specs.StreamLaws.{StreamsStayApart}

@@ -2,31 +2,31 @@
 use Rattle.std.proofs.Common.{◌≡◌, ◌≤◌, ◌+◌, ◌||◌, ℕ, Bool, true, false, not, nat_lt, List, [], ◌∷◌, Option, Some, None, length, refl, sym, subst, ◌∙◌, ap, arith}
 use Rattle.std.proofs.lemmas.Bool.{lt-ltb}
 use Rattle.std.specs.Option.{unwrap_or}
-use Rattle.alto_words.specs.declared.fid.Fid.{Fid}
-use Rattle.alto_words.specs.Fid.{disk_descriptor, is_directory, is_fid, is_system, sys_dir}
-use Rattle.disk_records.specs.Packs.{Pack}
-use Rattle.pack_model.specs.operations.Committing.{length_of}
-use Rattle.pack_model.specs.operations.Step.Operation.{drop_file}
-use Rattle.pack_model.specs.reading.Files.{lives}
-use Rattle.pack_model.specs.reading.Model.{Model, dir_items, read_as}
-use Rattle.pack_model.specs.reading.Namings.{Naming, namings_in}
-use Rattle.pack_model.specs.reading.Sights.{sights}
-use Rattle.pack_model.specs.states.Sound.{Sound}
-use Rattle.pack_model.specs.states.Whole.{Whole}
-use Rattle.pack_laws.proofs.Keys.{same_fid}
-use Rattle.laws_record.proofs.DirReads.{has_leader}
-use Rattle.laws_record.proofs.Tidying.{or_false, or_false_left, or_false_right}
-use Rattle.laws_operation.proofs.Rows.{ordinary_length}
-use Rattle.laws_operation.specs.ByteLaws.{IsOrdinary}
+use Rattle.laws_line.specs.alto_words.specs.declared.fid.Fid.{Fid}
+use Rattle.laws_line.specs.alto_words.specs.Fid.{disk_descriptor, is_directory, is_fid, is_system, sys_dir}
+use Rattle.laws_line.specs.disk_records.specs.Packs.{Pack}
+use Rattle.laws_line.specs.pack_model.specs.operations.Committing.{length_of}
+use Rattle.laws_line.specs.pack_model.specs.operations.Step.Operation.{drop_file}
+use Rattle.laws_line.specs.pack_model.specs.reading.Files.{lives}
+use Rattle.laws_line.specs.pack_model.specs.reading.Model.{Model, dir_items, read_as}
+use Rattle.laws_line.specs.pack_model.specs.reading.Namings.{Naming, namings_in}
+use Rattle.laws_line.specs.pack_model.specs.reading.Sights.{sights}
+use Rattle.laws_line.specs.pack_model.specs.states.Sound.{Sound}
+use Rattle.laws_line.specs.pack_model.specs.states.Whole.{Whole}
+use Rattle.laws_line.specs.pack_laws.proofs.Keys.{same_fid}
+use Rattle.laws_line.specs.laws_record.proofs.DirReads.{has_leader}
+use Rattle.laws_line.specs.laws_record.proofs.Tidying.{or_false, or_false_left, or_false_right}
+use Rattle.laws_line.specs.laws_operation.proofs.Rows.{ordinary_length}
+use Rattle.laws_line.specs.laws_operation.specs.ByteLaws.{IsOrdinary}
 use Rattle.laws_lookup.proofs.dropping.Laws.{bare_file_may_be_dropped, ordinary_file_is_bare}
 use Rattle.laws_lookup.specs.DropLaws.{IsBare}
 use Rattle.laws_line.specs.SoundLines.{IsKindOfLine, changes, goes}
-use Rattle.exec_words.specs.declared.line.Line.{Line}
-use Rattle.exec_words.specs.declared.line.Line.TheVariants as line
-use Rattle.exec_words.specs.declared.line.Target.{Target}
-use Rattle.exec_words.specs.declared.line.Target.TheVariants.{ByPath}
-use Rattle.exec_words.specs.declared.reply.Refusal.{Refusal}
-use Rattle.exec_words.specs.declared.reply.Refusal.TheVariants as refusal_is
+use Rattle.session_model.specs.exec_words.specs.declared.line.Line.{Line}
+use Rattle.session_model.specs.exec_words.specs.declared.line.Line.TheVariants as line
+use Rattle.session_model.specs.exec_words.specs.declared.line.Target.{Target}
+use Rattle.session_model.specs.exec_words.specs.declared.line.Target.TheVariants.{ByPath}
+use Rattle.session_model.specs.exec_words.specs.declared.reply.Refusal.{Refusal}
+use Rattle.session_model.specs.exec_words.specs.declared.reply.Refusal.TheVariants as refusal_is
 use Rattle.session_model.specs.Effects.{appended_ops, cut_ops, effect}
 use Rattle.session_model.specs.Finding.{file_at, has_entry, the_file}
 use Rattle.session_model.specs.Operands.{Operand, in_root, no_directory, removed}

@@ -3,30 +3,30 @@ use Rattle.std.proofs.Common.{◌≡◌, ◌⊎◌, ◌||◌, ◌==◌, Bool, tr
 use Rattle.std.specs.FinMap.{entries, get}
 use Rattle.std.specs.List.{list_any}
 use Rattle.std.specs.Option.{option_map, option_or}
-use Rattle.alto_words.specs.declared.fid.Fid.{Fid}
-use Rattle.alto_words.specs.Fid.{is_fid, sys_dir, disk_descriptor}
-use Rattle.alto_words.specs.Names.{is_same_name}
-use Rattle.disk_records.specs.Packs.{Pack, carried}
-use Rattle.pack_laws.proofs.Keys.{same_fid}
-use Rattle.pack_model.specs.hints.Misled.{leader_page}
-use Rattle.pack_model.specs.reading.Bodies.{File, Files, body_items, items_in}
-use Rattle.pack_model.specs.reading.Files.{carries_page, first}
-use Rattle.pack_model.specs.reading.Model.{read_as, read_sights, dir_items}
-use Rattle.pack_model.specs.reading.Namings.{Naming, AllKept, alike, body_namings, descriptor_name, fits, is_kept, is_own, keeps_system, may_stand, namings, namings_in}
-use Rattle.pack_model.specs.reading.Sights.{sights}
-use Rattle.pack_model.specs.reading.Slots.{Item}
-use Rattle.pack_model.specs.reading.Slots.Item.{entry, space}
-use Rattle.pack_model.specs.reading.Versions.{exact}
-use Rattle.pack_model.specs.states.Sound.{mark_clean, mark_of}
-use Rattle.pack_model.specs.states.Whole.{Tidy, Whole}
-use Rattle.laws_record.proofs.Carried.{place_of_carried}
-use Rattle.laws_record.proofs.Copying.{place_carried}
-use Rattle.laws_record.proofs.Heads.{and_left, and_right}
-use Rattle.laws_record.proofs.Tidying.{tidy_same}
-use Rattle.laws_room.proofs.Each.{Each, each_entry}
-use Rattle.laws_room.proofs.FreeRoom.{root_lives}
-use Rattle.laws_operation.proofs.Dropped.{bodies_bare}
-use Rattle.laws_operation.proofs.entries.Laws.{items_are_slots}
+use Rattle.laws_line.specs.alto_words.specs.declared.fid.Fid.{Fid}
+use Rattle.laws_line.specs.alto_words.specs.Fid.{is_fid, sys_dir, disk_descriptor}
+use Rattle.laws_line.specs.alto_words.specs.Names.{is_same_name}
+use Rattle.laws_line.specs.disk_records.specs.Packs.{Pack, carried}
+use Rattle.laws_line.specs.pack_laws.proofs.Keys.{same_fid}
+use Rattle.laws_line.specs.pack_model.specs.hints.Misled.{leader_page}
+use Rattle.laws_line.specs.pack_model.specs.reading.Bodies.{File, Files, body_items, items_in}
+use Rattle.laws_line.specs.pack_model.specs.reading.Files.{carries_page, first}
+use Rattle.laws_line.specs.pack_model.specs.reading.Model.{read_as, read_sights, dir_items}
+use Rattle.laws_line.specs.pack_model.specs.reading.Namings.{Naming, AllKept, alike, body_namings, descriptor_name, fits, is_kept, is_own, keeps_system, may_stand, namings, namings_in}
+use Rattle.laws_line.specs.pack_model.specs.reading.Sights.{sights}
+use Rattle.laws_line.specs.pack_model.specs.reading.Slots.{Item}
+use Rattle.laws_line.specs.pack_model.specs.reading.Slots.Item.{entry, space}
+use Rattle.laws_line.specs.pack_model.specs.reading.Versions.{exact}
+use Rattle.laws_line.specs.pack_model.specs.states.Sound.{mark_clean, mark_of}
+use Rattle.laws_line.specs.pack_model.specs.states.Whole.{Tidy, Whole}
+use Rattle.laws_line.specs.laws_record.proofs.Carried.{place_of_carried}
+use Rattle.laws_line.specs.laws_record.proofs.Copying.{place_carried}
+use Rattle.laws_line.specs.laws_record.proofs.Heads.{and_left, and_right}
+use Rattle.laws_line.specs.laws_record.proofs.Tidying.{tidy_same}
+use Rattle.laws_line.specs.laws_room.proofs.Each.{Each, each_entry}
+use Rattle.laws_line.specs.laws_room.proofs.FreeRoom.{root_lives}
+use Rattle.laws_line.specs.laws_operation.proofs.Dropped.{bodies_bare}
+use Rattle.laws_line.specs.laws_operation.proofs.entries.Laws.{items_are_slots}
 use Rattle.session_model.specs.Opening.{Unready, unless_so, is_root, is_descriptor, descriptor_entry, not_clean}
 use Rattle.laws_session.specs.BeginLaws.{SoundPacksAreReady}
 

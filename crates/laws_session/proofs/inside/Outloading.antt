@@ -2,29 +2,29 @@
 use Rattle.std.proofs.Common.{◌≡◌, ◌≤◌, ◌⊎◌, ℕ, ◌+◌, ◌==◌, ◌&&◌, ◌||◌, Bool, true, false, cond, not, List, [], ◌∷◌, ◌++◌, Option, Some, None, inl, inr, length, take, drop, refl, sym, subst, ◌∙◌, ap, arith, append_assoc, eqb-true, length-drop}
 use Rattle.std.proofs.lemmas.List.{length-take}
 use Rattle.std.specs.Option.{is_some, unwrap_or}
-use Rattle.alto_words.specs.declared.fid.Fid.{Fid}
-use Rattle.alto_words.specs.Fid.{disk_descriptor, is_directory, is_fid, sys_dir}
-use Rattle.disk_records.proofs.Bytes.{length-bytes_of}
-use Rattle.disk_records.specs.Packs.{Pack}
-use Rattle.pack_model.specs.operations.Committing.{length_of}
-use Rattle.pack_model.specs.operations.Step.{step}
-use Rattle.pack_model.specs.operations.Step.Operation.{put, stamp}
-use Rattle.pack_model.specs.reading.Model.{Model, read_as}
-use Rattle.pack_model.specs.reading.Sights.{sights}
-use Rattle.pack_model.specs.states.Sound.{Sound}
-use Rattle.laws_record.proofs.DirReads.{has_leader}
-use Rattle.laws_operation.proofs.Rows.{ordinary_length}
+use Rattle.laws_line.specs.alto_words.specs.declared.fid.Fid.{Fid}
+use Rattle.laws_line.specs.alto_words.specs.Fid.{disk_descriptor, is_directory, is_fid, sys_dir}
+use Rattle.laws_line.specs.disk_records.proofs.Bytes.{length-bytes_of}
+use Rattle.laws_line.specs.disk_records.specs.Packs.{Pack}
+use Rattle.laws_line.specs.pack_model.specs.operations.Committing.{length_of}
+use Rattle.laws_line.specs.pack_model.specs.operations.Step.{step}
+use Rattle.laws_line.specs.pack_model.specs.operations.Step.Operation.{put, stamp}
+use Rattle.laws_line.specs.pack_model.specs.reading.Model.{Model, read_as}
+use Rattle.laws_line.specs.pack_model.specs.reading.Sights.{sights}
+use Rattle.laws_line.specs.pack_model.specs.states.Sound.{Sound}
+use Rattle.laws_line.specs.laws_record.proofs.DirReads.{has_leader}
+use Rattle.laws_line.specs.laws_operation.proofs.Rows.{ordinary_length}
 use Rattle.laws_line.specs.LineLaws.{LeaveNames, with_new_file}
 use Rattle.laws_line.specs.Ready.{steps_of}
 use Rattle.laws_line.specs.SoundLines.{IsKindOfLine, changes}
-use Rattle.exec_words.specs.declared.line.Line.{Line}
-use Rattle.exec_words.specs.declared.line.Line.TheVariants as line
-use Rattle.exec_words.specs.declared.line.Path.{Path}
-use Rattle.exec_words.specs.declared.line.Target.{Target}
-use Rattle.exec_words.specs.declared.line.Target.TheVariants.{ByPath}
-use Rattle.exec_words.specs.declared.reply.Refusal.TheVariants as refusal_is
-use Rattle.world_model.specs.StateFiles.{mark_begun, mark_whole, state_length}
-use Rattle.world_model.specs.ZoneWords.{memory_length}
+use Rattle.session_model.specs.exec_words.specs.declared.line.Line.{Line}
+use Rattle.session_model.specs.exec_words.specs.declared.line.Line.TheVariants as line
+use Rattle.session_model.specs.exec_words.specs.declared.line.Path.{Path}
+use Rattle.session_model.specs.exec_words.specs.declared.line.Target.{Target}
+use Rattle.session_model.specs.exec_words.specs.declared.line.Target.TheVariants.{ByPath}
+use Rattle.session_model.specs.exec_words.specs.declared.reply.Refusal.TheVariants as refusal_is
+use Rattle.session_model.specs.world_model.specs.StateFiles.{mark_begun, mark_whole, state_length}
+use Rattle.session_model.specs.world_model.specs.ZoneWords.{memory_length}
 use Rattle.session_model.specs.Effects.{appended_ops, made_ops, next_file, outload_ops, world_ops, world_puts}
 use Rattle.session_model.specs.Finding.{dir_of, file_at, is_path_taken, is_there, name_given, the_dir, the_file}
 use Rattle.session_model.specs.Operands.{Operand, world}

@@ -1,20 +1,20 @@
 -- What is so where a line isn't refused: none of its reasons holds.
 use Rattle.std.proofs.Common.{◌≡◌, ◌≤◌, ℕ, Bool, true, false, not, nat_lt, List, [], ◌∷◌, ◌++◌, Option, Some, None, map, refl, ap, arith}
 use Rattle.std.specs.Option.{option_or}
-use Rattle.pack_model.specs.operations.Committing.{pages_for_operations}
-use Rattle.pack_model.specs.operations.Step.{Operation}
-use Rattle.pack_model.specs.reading.Files.{first}
-use Rattle.pack_model.specs.reading.Model.{Model, read_as, room}
-use Rattle.exec_words.specs.declared.line.Line.{Line}
-use Rattle.exec_words.specs.declared.reply.Refusal.{Refusal}
-use Rattle.exec_words.specs.declared.reply.Refusal.TheVariants as refusal_is
-use Rattle.exec_words.specs.Typed.{is_typed}
+use Rattle.laws_line.specs.pack_model.specs.operations.Committing.{pages_for_operations}
+use Rattle.laws_line.specs.pack_model.specs.operations.Step.{Operation}
+use Rattle.laws_line.specs.pack_model.specs.reading.Files.{first}
+use Rattle.laws_line.specs.pack_model.specs.reading.Model.{Model, read_as, room}
+use Rattle.session_model.specs.exec_words.specs.declared.line.Line.{Line}
+use Rattle.session_model.specs.exec_words.specs.declared.reply.Refusal.{Refusal}
+use Rattle.session_model.specs.exec_words.specs.declared.reply.Refusal.TheVariants as refusal_is
+use Rattle.session_model.specs.exec_words.specs.Typed.{is_typed}
 use Rattle.session_model.specs.Effects.{effect}
 use Rattle.session_model.specs.Operands.{Operand, operands}
 use Rattle.session_model.specs.Refusals.{beyond, by_line, by_memory, by_operands, by_world, is_bad, meets_stream, missing, no_such_stream, not_empty, of_system, of_taken_name, of_wrong_kind, reasons, spent, when}
 use Rattle.session_model.specs.Replies.{ops, refusal, unless_refused}
 use Rattle.session_model.specs.Worlds.{World}
-use Rattle.laws_room.proofs.rooms.Laws.{free_is_the_room}
+use Rattle.laws_line.specs.laws_room.proofs.rooms.Laws.{free_is_the_room}
 use Rattle.laws_session.specs.UnrefusedLaws.{UnrefusedLinesHaveTheirPages}
 
 -- ---- lists of tests

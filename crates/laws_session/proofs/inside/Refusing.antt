@@ -1,9 +1,9 @@
 -- What a line is refused for, by the tests that it made.
 use Rattle.std.proofs.Common.{List, None, Option, Some, [], ap, refl, ◌++◌, ◌∙◌, ◌∷◌, ◌≡◌}
-use Rattle.exec_words.specs.declared.line.Line.{Line}
-use Rattle.exec_words.specs.declared.reply.Refusal.{Refusal}
-use Rattle.pack_model.specs.reading.Files.{first}
-use Rattle.pack_model.specs.reading.Model.{Model}
+use Rattle.session_model.specs.exec_words.specs.declared.line.Line.{Line}
+use Rattle.session_model.specs.exec_words.specs.declared.reply.Refusal.{Refusal}
+use Rattle.laws_line.specs.pack_model.specs.reading.Files.{first}
+use Rattle.laws_line.specs.pack_model.specs.reading.Model.{Model}
 use Rattle.session_model.specs.Effects.{effect}
 use Rattle.session_model.specs.Refusals.{by_line, by_room, reasons}
 use Rattle.session_model.specs.Replies.{refusal}

@@ -4,9 +4,9 @@ use Rattle.std.proofs.lemmas.Bool.{eqb-false, eqb-true, ltb-false}
 use Rattle.std.proofs.lemmas.List.{length-drop, length-take-le}
 use Rattle.std.specs.Option.{option_or}
 use Rattle.std.specs.Prelude.{nat_lt}
-use Rattle.world_model.specs.Levels.{all_levels, level_base}
-use Rattle.world_model.specs.Zones.{Block, gap, live}
-use Rattle.world_model.specs.ZoneWords.{blocks_from, first_set, first_wrong, is_gap_tag, is_wrong_tag, memory_length, tag_size, wrong_in_gap, zone_part, zone_start}
+use Rattle.session_model.specs.world_model.specs.Levels.{all_levels, level_base}
+use Rattle.session_model.specs.world_model.specs.Zones.{Block, gap, live}
+use Rattle.session_model.specs.world_model.specs.ZoneWords.{blocks_from, first_set, first_wrong, is_gap_tag, is_wrong_tag, memory_length, tag_size, wrong_in_gap, zone_part, zone_start}
 use Rattle.laws_session.proofs.inside.Blocking.{Stay, twice}
 use Rattle.laws_session.proofs.inside.Zoning.{below_memory}
 use Rattle.laws_session.specs.ZoneLaws.{MemoriesHaveSuchZones}

@@ -3,22 +3,22 @@ use Rattle.std.proofs.Common.{◌≡◌, ℕ, ◌+◌, zero, suc, Bool, true, fa
 use Rattle.std.proofs.lemmas.List.{append_assoc}
 use Rattle.std.proofs.lemmas.List.Sums.{sum_by-cons}
 use Rattle.std.specs.FinMap.{FinMap, contains_key, entries}
-use Rattle.alto_words.specs.Fid.{fid_cmp}
-use Rattle.alto_words.specs.declared.fid.Fid.{Fid}
-use Rattle.disk_records.specs.declared.records.Event.{Event}
-use Rattle.disk_records.specs.Packs.{Pack}
-use Rattle.pack_model.specs.operations.Operations.{Move, weight_of}
-use Rattle.pack_model.specs.operations.Operations.Move.{quiet, commits, mends}
-use Rattle.pack_model.specs.operations.Step.{step}
-use Rattle.pack_model.specs.reading.Model.{Model}
-use Rattle.pack_model.specs.sessions.Meanings.{session}
-use Rattle.pack_model.specs.sessions.Moves.{Obeys, rest, write, steps}
-use Rattle.pack_model.specs.sessions.Turns.{Turn, Talks, begun, spoken, ops_of}
-use Rattle.pack_model.specs.showing.Settling.{given, adopted, settle, settled}
-use Rattle.pack_model.specs.showing.View.{Home, Seen, View, view}
-use Rattle.pack_laws.proofs.turns.Laws.{turns_are_shown}
-use Rattle.laws_record.specs.EnterLaws.{AllNamed}
-use Rattle.laws_record.proofs.Settles.{named_insert, has_name}
+use Rattle.laws_line.specs.alto_words.specs.Fid.{fid_cmp}
+use Rattle.laws_line.specs.alto_words.specs.declared.fid.Fid.{Fid}
+use Rattle.laws_line.specs.disk_records.specs.declared.records.Event.{Event}
+use Rattle.laws_line.specs.disk_records.specs.Packs.{Pack}
+use Rattle.laws_line.specs.pack_model.specs.operations.Operations.{Move, weight_of}
+use Rattle.laws_line.specs.pack_model.specs.operations.Operations.Move.{quiet, commits, mends}
+use Rattle.laws_line.specs.pack_model.specs.operations.Step.{step}
+use Rattle.laws_line.specs.pack_model.specs.reading.Model.{Model}
+use Rattle.laws_line.specs.pack_model.specs.sessions.Meanings.{session}
+use Rattle.laws_line.specs.pack_model.specs.sessions.Moves.{Obeys, rest, write, steps}
+use Rattle.laws_line.specs.pack_model.specs.sessions.Turns.{Turn, Talks, begun, spoken, ops_of}
+use Rattle.laws_line.specs.pack_model.specs.showing.Settling.{given, adopted, settle, settled}
+use Rattle.laws_line.specs.pack_model.specs.showing.View.{Home, Seen, View, view}
+use Rattle.laws_line.specs.pack_laws.proofs.turns.Laws.{turns_are_shown}
+use Rattle.laws_line.specs.laws_record.specs.EnterLaws.{AllNamed}
+use Rattle.laws_line.specs.laws_record.proofs.Settles.{named_insert, has_name}
 use Rattle.session_model.specs.Histories.{moves_up_to}
 use Rattle.laws_session.specs.HistoryLaws.{CrashesShowTheRuledModel, SettledOnceIsSettled}
 use Rattle.laws_session.proofs.inside.Talking.{histories_are_turns, crashes_of_a_history}

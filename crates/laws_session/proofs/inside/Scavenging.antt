@@ -1,32 +1,31 @@
 -- A scavenge as a turn of a session.
 use Rattle.std.proofs.Common.{◌≡◌, ◌<◌, ℕ, zero, suc, Bool, true, false, List, [], ◌∷◌, Option, Some, None, Contains, arith, refl, sym, subst, ◌∙◌, ap, length}
-use Rattle.alto_words.specs.declared.fid.Fid.{Fid}
-use Rattle.disk_records.specs.declared.records.Event.{Event}
-use Rattle.disk_records.specs.declared.records.Event.TheVariants.{Wrote, Shown}
-use Rattle.disk_records.specs.Events.{shown_events}
-use Rattle.disk_records.specs.Packs.{Pack, after}
-use Rattle.disk_records.proofs.Growing.{after-append, after-shown}
-use Rattle.pack_model.specs.operations.Committing.{units}
-use Rattle.pack_model.specs.operations.Operations.{Move, quiet_moves}
-use Rattle.pack_model.specs.operations.Operations.Move.{mends}
-use Rattle.pack_model.specs.reading.Model.{Model, read_as}
-use Rattle.pack_model.specs.sessions.Meanings.{session}
-use Rattle.pack_model.specs.sessions.Moves.{Obeys, rest, write, steps}
-use Rattle.pack_model.specs.sessions.Turns.{Turn}
-use Rattle.pack_model.specs.showing.Settling.{settle}
-use Rattle.pack_model.specs.showing.View.{view}
-use Rattle.pack_model.specs.states.Sound.{Sound}
-use Rattle.pack_model.specs.hints.Tables.{HintsTrue}
-use Rattle.pack_laws.proofs.turns.Laws.{runs_join}
-use Rattle.exec_words.specs.declared.line.Line.{Line}
-use Rattle.exec_words.specs.declared.line.Line.TheVariants as line
-use Rattle.exec_words.specs.declared.reply.Refusal.{Refusal}
+use Rattle.laws_line.specs.alto_words.specs.declared.fid.Fid.{Fid}
+use Rattle.laws_line.specs.disk_records.specs.declared.records.Event.{Event}
+use Rattle.laws_line.specs.disk_records.specs.declared.records.Event.TheVariants.{Wrote, Shown}
+use Rattle.laws_line.specs.disk_records.specs.Events.{shown_events}
+use Rattle.laws_line.specs.disk_records.specs.Packs.{Pack, after}
+use Rattle.laws_line.specs.disk_records.proofs.Growing.{after-append, after-shown}
+use Rattle.laws_line.specs.pack_model.specs.operations.Committing.{units}
+use Rattle.laws_line.specs.pack_model.specs.operations.Operations.{Move, quiet_moves}
+use Rattle.laws_line.specs.pack_model.specs.operations.Operations.Move.{mends}
+use Rattle.laws_line.specs.pack_model.specs.reading.Model.{Model, read_as}
+use Rattle.laws_line.specs.pack_model.specs.sessions.Meanings.{session}
+use Rattle.laws_line.specs.pack_model.specs.sessions.Moves.{Obeys, rest, write, steps}
+use Rattle.laws_line.specs.pack_model.specs.sessions.Turns.{Turn}
+use Rattle.laws_line.specs.pack_model.specs.showing.Settling.{settle}
+use Rattle.laws_line.specs.pack_model.specs.showing.View.{view}
+use Rattle.laws_line.specs.pack_model.specs.states.Sound.{Sound}
+use Rattle.laws_line.specs.pack_model.specs.hints.Tables.{HintsTrue}
+use Rattle.laws_line.specs.pack_laws.proofs.turns.Laws.{runs_join}
+use Rattle.session_model.specs.exec_words.specs.declared.line.Line.{Line}
+use Rattle.session_model.specs.exec_words.specs.declared.line.Line.TheVariants as line
+use Rattle.session_model.specs.exec_words.specs.declared.reply.Refusal.{Refusal}
 use Rattle.session_model.specs.Replies.{refusal, unless_refused}
 use Rattle.session_model.specs.Touched.{touched}
 use Rattle.session_model.specs.Turning.{State, Cue, typed, ended, TurnKind, plain, failed, scavenged, asks_scavenge, cue_files, is_scavenge, scavenge_moves}
 use Rattle.session_model.specs.Worlds.{World}
-use Rattle.laws_session.specs.ScavengeLaws.{CrashesOfAScavenge, QuietWritesObey, ScavengesAreTurns, ScavengesBreakOff, ScavengesCure, ScavengesObey}
-use Rattle.laws_session.proofs.inside.Answering.{scavenge_stopped}
+use Rattle.laws_session.specs.ScavengeLaws.{CrashesOfAScavenge, QuietWritesObey, ScavengesAreTurns, ScavengesCure, ScavengesObey}
 
 -- ---- its record writes
 pub crashes_of_a_scavenge : CrashesOfAScavenge
@@ -63,9 +62,6 @@ scavenges_are_turns p s cue wrote k n asks done reads = record {
   closed = λ over need. cc;
   mended = λ is. done;
 }
-
-pub scavenges_break_off : ScavengesBreakOff
-scavenges_break_off p s cue wrote k goes_on asks each = scavenge_stopped k goes_on asks each
 
 -- ---- and what it cures
 never : (r : Option Refusal) → unless_refused r false false ≡ true → ⊥

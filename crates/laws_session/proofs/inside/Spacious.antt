@@ -2,17 +2,17 @@
 use Rattle.std.proofs.Common.{◌≡◌, ◌≤◌, ◌||◌, Bool, true, false, cond, nat_le, List, [], ◌∷◌, ◌++◌, ℕ, length, refl, sym, subst, ◌∙◌, ap, arith, leb-true}
 use Rattle.std.specs.FinMap.{get}
 use Rattle.std.specs.Option.{option_map}
-use Rattle.alto_words.specs.declared.fid.Fid.{Fid}
-use Rattle.alto_words.specs.Fid.{is_fid, sys_dir}
-use Rattle.pack_model.specs.operations.Rooms.{largest_run}
-use Rattle.pack_model.specs.operations.Step.{Operation, longest_entry, on_items, room_widening, spare_widening, step}
-use Rattle.pack_model.specs.operations.Step.Operation.{widen}
-use Rattle.pack_model.specs.reading.Bodies.{items_in}
-use Rattle.pack_model.specs.reading.Model.{Model, dir_items, root_items}
-use Rattle.pack_model.specs.reading.Slots.{Item, entry_length}
-use Rattle.pack_model.specs.reading.Slots.Item.{space}
-use Rattle.pack_laws.proofs.Keys.{fid_same, fid_total, is_fid-itself, same_fid}
-use Rattle.pack_laws.proofs.Mapping.{get-update}
+use Rattle.laws_line.specs.alto_words.specs.declared.fid.Fid.{Fid}
+use Rattle.laws_line.specs.alto_words.specs.Fid.{is_fid, sys_dir}
+use Rattle.laws_line.specs.pack_model.specs.operations.Rooms.{largest_run}
+use Rattle.laws_line.specs.pack_model.specs.operations.Step.{Operation, longest_entry, on_items, room_widening, spare_widening, step}
+use Rattle.laws_line.specs.pack_model.specs.operations.Step.Operation.{widen}
+use Rattle.laws_line.specs.pack_model.specs.reading.Bodies.{items_in}
+use Rattle.laws_line.specs.pack_model.specs.reading.Model.{Model, dir_items, root_items}
+use Rattle.laws_line.specs.pack_model.specs.reading.Slots.{Item, entry_length}
+use Rattle.laws_line.specs.pack_model.specs.reading.Slots.Item.{space}
+use Rattle.laws_line.specs.pack_laws.proofs.Keys.{fid_same, fid_total, is_fid-itself, same_fid}
+use Rattle.laws_line.specs.pack_laws.proofs.Mapping.{get-update}
 use Rattle.laws_line.specs.AfterLaws.{IsDirectory}
 use Rattle.laws_line.specs.Ready.{steps_of}
 use Rattle.session_model.specs.Effects.{widenings}

@@ -1,13 +1,13 @@
 -- Operations of lines that spare a file: it keeps its bytes.
 use Rattle.std.proofs.Common.{◌≡◌, ℕ, ◌==◌, ◌||◌, Bool, true, false, cond, nat_le, List, [], ◌∷◌, ◌++◌, ◌∙◌, ap}
-use Rattle.alto_words.specs.declared.fid.Fid.{Fid}
-use Rattle.alto_words.specs.Fid.{is_fid, sys_dir}
-use Rattle.pack_model.specs.operations.Committing.{length_of}
-use Rattle.pack_model.specs.operations.Step.{Operation, room_widening, spare_widening}
-use Rattle.pack_model.specs.operations.Step.Operation.{cut, drop_file, enter, grow, leave, make, put, stamp, title, widen}
-use Rattle.pack_model.specs.reading.Model.{Model}
-use Rattle.exec_words.specs.declared.line.Path.{Path}
-use Rattle.exec_words.specs.declared.line.Target.TheVariants.{ByPath}
+use Rattle.laws_line.specs.alto_words.specs.declared.fid.Fid.{Fid}
+use Rattle.laws_line.specs.alto_words.specs.Fid.{is_fid, sys_dir}
+use Rattle.laws_line.specs.pack_model.specs.operations.Committing.{length_of}
+use Rattle.laws_line.specs.pack_model.specs.operations.Step.{Operation, room_widening, spare_widening}
+use Rattle.laws_line.specs.pack_model.specs.operations.Step.Operation.{cut, drop_file, enter, grow, leave, make, put, stamp, title, widen}
+use Rattle.laws_line.specs.pack_model.specs.reading.Model.{Model}
+use Rattle.session_model.specs.exec_words.specs.declared.line.Path.{Path}
+use Rattle.session_model.specs.exec_words.specs.declared.line.Target.TheVariants.{ByPath}
 use Rattle.session_model.specs.Effects.{appended_ops, copied_ops, cut_ops, new_file_ops, rename_ops, widenings}
 use Rattle.session_model.specs.Finding.{name_given, own_name, the_dir, the_file}
 use Rattle.session_model.specs.Streams.{grows}

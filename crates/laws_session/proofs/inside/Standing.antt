@@ -1,17 +1,17 @@
 -- What a history begins with, keeps and leaves.
 use Rattle.std.proofs.Common.{◌≡◌, ℕ, true, false, All, List, ◌++◌, arith, refl, sym, subst, ap, ◌∙◌}
-use Rattle.disk_records.specs.declared.records.Event.{Event}
-use Rattle.disk_records.specs.Events.{shown_events}
-use Rattle.disk_records.specs.Packs.{Pack, after}
-use Rattle.disk_records.proofs.Growing.{after-append, after-shown}
-use Rattle.pack_model.specs.hints.Sources.{IsFrom}
-use Rattle.pack_model.specs.operations.Operations.{Move}
-use Rattle.pack_model.specs.sessions.Meanings.{session}
-use Rattle.pack_model.specs.sessions.Turns.{Turn}
-use Rattle.pack_model.specs.states.Sound.{Clean}
-use Rattle.pack_laws.proofs.Moving.{stands_last}
-use Rattle.pack_laws.proofs.turns.Laws.{turns_are_shown}
-use Rattle.laws_room.proofs.rooms.Laws.{sound_needs_nothing}
+use Rattle.laws_line.specs.disk_records.specs.declared.records.Event.{Event}
+use Rattle.laws_line.specs.disk_records.specs.Events.{shown_events}
+use Rattle.laws_line.specs.disk_records.specs.Packs.{Pack, after}
+use Rattle.laws_line.specs.disk_records.proofs.Growing.{after-append, after-shown}
+use Rattle.laws_line.specs.pack_model.specs.hints.Sources.{IsFrom}
+use Rattle.laws_line.specs.pack_model.specs.operations.Operations.{Move}
+use Rattle.laws_line.specs.pack_model.specs.sessions.Meanings.{session}
+use Rattle.laws_line.specs.pack_model.specs.sessions.Turns.{Turn}
+use Rattle.laws_line.specs.pack_model.specs.states.Sound.{Clean}
+use Rattle.laws_line.specs.pack_laws.proofs.Moving.{stands_last}
+use Rattle.laws_line.specs.pack_laws.proofs.turns.Laws.{turns_are_shown}
+use Rattle.laws_line.specs.laws_room.proofs.rooms.Laws.{sound_needs_nothing}
 use Rattle.session_model.specs.Histories.{TurnsOf, begun, then, aloud}
 use Rattle.session_model.specs.Keeping.{Kept, OpenFile, world_of}
 use Rattle.session_model.specs.Turning.{State, Cue, StandsOn}

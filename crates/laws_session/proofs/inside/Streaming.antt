@@ -3,17 +3,17 @@ use Rattle.std.proofs.Common.{◌≡◌, ◌≤◌, ℕ, ◌+◌, ◌-◌, ◌*�
 use Rattle.std.proofs.lemmas.List.{length-take}
 use Rattle.std.specs.FinMap.{contains_key}
 use Rattle.std.specs.List.{list_any}
-use Rattle.alto_words.specs.declared.fid.Fid.{Fid}
-use Rattle.alto_words.specs.Fid.{is_directory, is_fid}
-use Rattle.disk_records.specs.Packs.{Pack}
-use Rattle.pack_model.specs.operations.Committing.{length_of}
-use Rattle.pack_model.specs.operations.Step.{Operation}
-use Rattle.pack_model.specs.reading.Bytes.{put_at}
-use Rattle.pack_model.specs.reading.Model.{Model, read_as}
-use Rattle.pack_laws.proofs.Keys.{same_fid}
-use Rattle.laws_record.proofs.Tidying.{or_false_left, or_false_right}
-use Rattle.laws_operation.proofs.places.Laws.{model_has_the_living}
-use Rattle.laws_operation.specs.ByteLaws.{IsOrdinary}
+use Rattle.laws_line.specs.alto_words.specs.declared.fid.Fid.{Fid}
+use Rattle.laws_line.specs.alto_words.specs.Fid.{is_directory, is_fid}
+use Rattle.laws_line.specs.disk_records.specs.Packs.{Pack}
+use Rattle.laws_line.specs.pack_model.specs.operations.Committing.{length_of}
+use Rattle.laws_line.specs.pack_model.specs.operations.Step.{Operation}
+use Rattle.laws_line.specs.pack_model.specs.reading.Bytes.{put_at}
+use Rattle.laws_line.specs.pack_model.specs.reading.Model.{Model, read_as}
+use Rattle.laws_line.specs.pack_laws.proofs.Keys.{same_fid}
+use Rattle.laws_line.specs.laws_record.proofs.Tidying.{or_false_left, or_false_right}
+use Rattle.laws_line.specs.laws_operation.proofs.places.Laws.{model_has_the_living}
+use Rattle.laws_line.specs.laws_operation.specs.ByteLaws.{IsOrdinary}
 use Rattle.laws_line.specs.Ready.{steps_of}
 use Rattle.session_model.specs.Keeping.{StreamFits}
 use Rattle.session_model.specs.Refusals.{is_streamed}

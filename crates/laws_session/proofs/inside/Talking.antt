@@ -1,14 +1,14 @@
 -- Histories as turns that are spoken one after another.
 use Rattle.std.proofs.Common.{List, [], ◌∷◌, ◌++◌, Option}
-use Rattle.disk_records.specs.declared.records.Event.{Event}
-use Rattle.disk_records.specs.Packs.{Pack, after}
-use Rattle.pack_model.specs.operations.Operations.{Move, weight_of}
-use Rattle.pack_model.specs.reading.Model.{Model}
-use Rattle.pack_model.specs.sessions.Meanings.{session, SessionCut}
-use Rattle.pack_model.specs.sessions.Moves.{steps}
-use Rattle.pack_model.specs.sessions.Turns.{Turn, Talks, spoken, begun as none_yet}
-use Rattle.pack_laws.proofs.turns.Laws.{crash_of_turns, turns_are_shown}
-use Rattle.pack_laws.proofs.tallies.Laws.{tally_is_the_ruler}
+use Rattle.laws_line.specs.disk_records.specs.declared.records.Event.{Event}
+use Rattle.laws_line.specs.disk_records.specs.Packs.{Pack, after}
+use Rattle.laws_line.specs.pack_model.specs.operations.Operations.{Move, weight_of}
+use Rattle.laws_line.specs.pack_model.specs.reading.Model.{Model}
+use Rattle.laws_line.specs.pack_model.specs.sessions.Meanings.{session, SessionCut}
+use Rattle.laws_line.specs.pack_model.specs.sessions.Moves.{steps}
+use Rattle.laws_line.specs.pack_model.specs.sessions.Turns.{Turn, Talks, spoken, begun as none_yet}
+use Rattle.laws_line.specs.pack_laws.proofs.turns.Laws.{crash_of_turns, turns_are_shown}
+use Rattle.laws_line.specs.pack_laws.proofs.tallies.Laws.{tally_is_the_ruler}
 use Rattle.laws_session.specs.HistoryLaws.{IsTalk, HistoriesAreTurns, HistoriesAreShown, CrashesOfAHistory, TallyOfAHistory}
 use Rattle.session_model.specs.Histories.{WholeTurn, BrokenTurn, TurnsOf, begun, then, HistoryOf, whole, broken, aloud}
 use Rattle.session_model.specs.Turning.{State, Cue}

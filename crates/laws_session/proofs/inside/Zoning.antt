@@ -7,9 +7,9 @@ use Rattle.std.proofs.lemmas.List.{length-append, length-replicate}
 use Rattle.std.specs.Int.Bits.{block_half}
 use Rattle.std.specs.Option.{option_or}
 use Rattle.std.specs.Prelude.{nat_lt}
-use Rattle.world_model.specs.Levels.{level_base}
-use Rattle.world_model.specs.Zones.{Block, gap, live, block_size}
-use Rattle.world_model.specs.ZoneWords.{IsMemory, block_of, block_words, blocks_from, blocks_in, first_set, first_wrong, is_gap_tag, is_wrong_tag, memory_length, memory_of, tag_size, wrong_in_gap, zone_in, zone_part, zone_start, zone_words}
+use Rattle.session_model.specs.world_model.specs.Levels.{level_base}
+use Rattle.session_model.specs.world_model.specs.Zones.{Block, gap, live, block_size}
+use Rattle.session_model.specs.world_model.specs.ZoneWords.{IsMemory, block_of, block_words, blocks_from, blocks_in, first_set, first_wrong, is_gap_tag, is_wrong_tag, memory_length, memory_of, tag_size, wrong_in_gap, zone_in, zone_part, zone_start, zone_words}
 use Rattle.laws_session.specs.ZoneLaws.{AreJoined, CanStand, EachCanStand, FillZone, WorldsAreKept, ZonesReadBack, zone_size}
 
 -- ---- tags

@@ -3,22 +3,22 @@ use Rattle.std.proofs.Common.{Bool, List, None, Option, Some, [], ap, arith, con
 use Rattle.std.specs.FinMap.{get}
 use Rattle.std.specs.List.{list_any}
 use Rattle.std.specs.Option.{option_map}
-use Rattle.alto_words.specs.Fid.{disk_descriptor, is_fid, sys_dir}
-use Rattle.alto_words.specs.Names.{is_same_name}
-use Rattle.laws_lookup.proofs.names.Laws.{open_name_stays_open}
-use Rattle.laws_lookup.proofs.slots.Laws.{absent_name_is_open}
-use Rattle.laws_operation.specs.EntryLaws.{is_of_another}
-use Rattle.laws_record.proofs.Tidying.{or_false_left, or_false_right}
+use Rattle.laws_call.specs.alto_words.specs.Fid.{disk_descriptor, is_fid, sys_dir}
+use Rattle.laws_call.specs.alto_words.specs.Names.{is_same_name}
+use Rattle.laws_call.specs.laws_lookup.proofs.names.Laws.{open_name_stays_open}
+use Rattle.laws_call.specs.laws_lookup.proofs.slots.Laws.{absent_name_is_open}
+use Rattle.laws_call.specs.laws_operation.specs.EntryLaws.{is_of_another}
+use Rattle.laws_call.specs.laws_record.proofs.Tidying.{or_false_left, or_false_right}
 use Rattle.pack_laws.proofs.Keys.{fid_same, fid_total, is_fid-itself, same_fid}
 use Rattle.pack_laws.proofs.Mapping.{get-update}
-use Rattle.pack_model.specs.operations.Rooms.{largest_run, words_free}
-use Rattle.pack_model.specs.operations.Step.{items_left, on_items, step}
-use Rattle.pack_model.specs.reading.Bodies.Body.{data_of, items_of}
-use Rattle.pack_model.specs.reading.Bodies.{Body, File, body_items, items_in}
-use Rattle.pack_model.specs.reading.Model.{dir_items}
-use Rattle.pack_model.specs.reading.Slots.Item.{entry, space}
-use Rattle.pack_model.specs.reading.Slots.{Item, item_words}
-use Rattle.pack_model.specs.reading.Versions.{exact}
+use Rattle.laws_call.specs.pack_model.specs.operations.Rooms.{largest_run, words_free}
+use Rattle.laws_call.specs.pack_model.specs.operations.Step.{items_left, on_items, step}
+use Rattle.laws_call.specs.pack_model.specs.reading.Bodies.Body.{data_of, items_of}
+use Rattle.laws_call.specs.pack_model.specs.reading.Bodies.{Body, File, body_items, items_in}
+use Rattle.laws_call.specs.pack_model.specs.reading.Model.{dir_items}
+use Rattle.laws_call.specs.pack_model.specs.reading.Slots.Item.{entry, space}
+use Rattle.laws_call.specs.pack_model.specs.reading.Slots.{Item, item_words}
+use Rattle.laws_call.specs.pack_model.specs.reading.Versions.{exact}
 use Rattle.laws_steps.specs.NameLaws.{AbsentNameStaysAbsent, LeaveKeepsRoom}
 
 -- ---- names

@@ -3,25 +3,25 @@ use Rattle.std.proofs.Common.{List, Some, [], ap, arith, cond, false, inl, inr, 
 use Rattle.std.proofs.lemmas.List.Elements.{Contains-append_cases, Contains-push_cases}
 use Rattle.std.specs.List.{list_any}
 use Rattle.std.specs.Prelude.{Contains}
-use Rattle.alto_words.specs.Fid.{is_fid}
-use Rattle.alto_words.specs.Names.{is_same_name}
-use Rattle.alto_words.specs.declared.fid.Fid.{Fid}
-use Rattle.disk_records.specs.Packs.{Pack}
-use Rattle.disk_records.specs.declared.records.Place.{Place}
-use Rattle.disk_records.specs.declared.records.Place.TheVariants.{Entry, Held, Next, Root}
-use Rattle.laws_lookup.specs.SourceLaws.{IsBeside}
-use Rattle.laws_record.proofs.Addressing.{entry_words_many}
-use Rattle.laws_record.proofs.Fitting.{same_sym, same_trans}
-use Rattle.laws_record.proofs.Tidying.{or_false_left, or_false_right}
+use Rattle.laws_call.specs.alto_words.specs.Fid.{is_fid}
+use Rattle.laws_call.specs.alto_words.specs.Names.{is_same_name}
+use Rattle.laws_call.specs.alto_words.specs.declared.fid.Fid.{Fid}
+use Rattle.laws_call.specs.disk_records.specs.Packs.{Pack}
+use Rattle.laws_call.specs.disk_records.specs.declared.records.Place.{Place}
+use Rattle.laws_call.specs.disk_records.specs.declared.records.Place.TheVariants.{Entry, Held, Next, Root}
+use Rattle.laws_call.specs.laws_lookup.specs.SourceLaws.{IsBeside}
+use Rattle.laws_call.specs.laws_record.proofs.Addressing.{entry_words_many}
+use Rattle.laws_call.specs.laws_record.proofs.Fitting.{same_sym, same_trans}
+use Rattle.laws_call.specs.laws_record.proofs.Tidying.{or_false_left, or_false_right}
 use Rattle.pack_laws.proofs.Keys.{is_fid-itself, same_fid}
-use Rattle.pack_model.specs.hints.Links.{dir_words}
-use Rattle.pack_model.specs.hints.Misled.{StandsInEntry, leader_page}
-use Rattle.pack_model.specs.hints.Sources.{IsFrom}
-use Rattle.pack_model.specs.reading.Namings.{Naming, clashes, namings_in}
-use Rattle.pack_model.specs.reading.SlotWords.{SlotAt, address_at, address_word, slots_at}
-use Rattle.pack_model.specs.reading.Slots.Item.{entry, space}
-use Rattle.pack_model.specs.reading.Slots.{Item, all_words, entry_length, item_words, slots}
-use Rattle.pack_model.specs.reading.Versions.{exact}
+use Rattle.laws_call.specs.pack_model.specs.hints.Links.{dir_words}
+use Rattle.laws_call.specs.pack_model.specs.hints.Misled.{StandsInEntry, leader_page}
+use Rattle.laws_call.specs.pack_model.specs.hints.Sources.{IsFrom}
+use Rattle.laws_call.specs.pack_model.specs.reading.Namings.{Naming, clashes, namings_in}
+use Rattle.laws_call.specs.pack_model.specs.reading.SlotWords.{SlotAt, address_at, address_word, slots_at}
+use Rattle.laws_call.specs.pack_model.specs.reading.Slots.Item.{entry, space}
+use Rattle.laws_call.specs.pack_model.specs.reading.Slots.{Item, all_words, entry_length, item_words, slots}
+use Rattle.laws_call.specs.pack_model.specs.reading.Versions.{exact}
 use Rattle.laws_steps.specs.KeepingLaws.{IfByEntry}
 
 -- ---- slots of a list

@@ -5,22 +5,22 @@ use Rattle.std.specs.FinMap.Entries.{where_key}
 use Rattle.std.specs.FinMap.{entries}
 use Rattle.std.specs.Option.{option_map, option_or}
 use Rattle.std.specs.Prelude.{find}
-use Rattle.alto_words.specs.Fid.{disk_descriptor, fid_cmp, is_fid, serial_of}
-use Rattle.alto_words.specs.declared.fid.Fid.{Fid}
-use Rattle.disk_records.specs.Packs.{Pack}
-use Rattle.laws_record.proofs.Mending.{entries-tidied}
+use Rattle.laws_call.specs.alto_words.specs.Fid.{disk_descriptor, fid_cmp, is_fid, serial_of}
+use Rattle.laws_call.specs.alto_words.specs.declared.fid.Fid.{Fid}
+use Rattle.laws_call.specs.disk_records.specs.Packs.{Pack}
+use Rattle.laws_call.specs.laws_record.proofs.Mending.{entries-tidied}
 use Rattle.pack_laws.proofs.ByLists.{entries-retain_keys}
 use Rattle.pack_laws.proofs.Keys.{fid_same, fid_total, same_fid}
 use Rattle.pack_laws.proofs.Mapping.{entries-map_values}
 use Rattle.pack_laws.proofs.Serials.{file_of_serial-fold}
 use Rattle.pack_laws.specs.Least.{least_shown}
-use Rattle.pack_model.specs.reading.Bodies.{File, described, file_of, found, is_described}
-use Rattle.pack_model.specs.reading.Files.{first, lives}
-use Rattle.pack_model.specs.reading.Model.{read_as, read_sights}
-use Rattle.pack_model.specs.reading.Namings.{Naming, files_kept, is_kept, kept_after_body}
-use Rattle.pack_model.specs.reading.Sights.{Sight, sights}
-use Rattle.pack_model.specs.reading.Stored.{files_shown}
-use Rattle.pack_model.specs.sessions.Maps.{map_entries}
+use Rattle.laws_call.specs.pack_model.specs.reading.Bodies.{File, described, file_of, found, is_described}
+use Rattle.laws_call.specs.pack_model.specs.reading.Files.{first, lives}
+use Rattle.laws_call.specs.pack_model.specs.reading.Model.{read_as, read_sights}
+use Rattle.laws_call.specs.pack_model.specs.reading.Namings.{Naming, files_kept, is_kept, kept_after_body}
+use Rattle.laws_call.specs.pack_model.specs.reading.Sights.{Sight, sights}
+use Rattle.laws_call.specs.pack_model.specs.reading.Stored.{files_shown}
+use Rattle.laws_call.specs.pack_model.specs.sessions.Maps.{map_entries}
 
 -- ---- the entries of maps
 -- the first full name with a serial

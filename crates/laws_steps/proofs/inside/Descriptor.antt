@@ -1,18 +1,18 @@
 -- Files that were found, over the record writes of DiskDescriptor.
 use Rattle.std.proofs.Common.{Bool, List, [], cond, false, inr, refl, true, ℕ, ◌∙◌, ◌∷◌, ◌==◌}
-use Rattle.alto_words.specs.Fid.{disk_descriptor, is_directory, sys_dir}
-use Rattle.disk_records.specs.Commands.{value_writes}
-use Rattle.disk_records.specs.Packs.{after, sector_at}
-use Rattle.laws_lookup.proofs.others.Laws.{place_is_of_its_file, values_leave_others}
-use Rattle.laws_lookup.proofs.sources.Laws.{found_file_stays_found}
-use Rattle.laws_operation.proofs.descriptor.Laws.{open_carries_out, serial_carries_out}
-use Rattle.laws_operation.proofs.places.Laws.{values_keep_places}
-use Rattle.pack_model.specs.hints.Sources.{IsFrom}
-use Rattle.pack_model.specs.operations.Step.Operation.{widen}
-use Rattle.pack_model.specs.reading.Sights.{sights}
-use Rattle.pack_model.specs.sessions.Descriptor.{opened_value, serial_value}
-use Rattle.pack_model.specs.states.Sound.{mark_of, mark_open}
-use Rattle.pack_model.specs.states.Whole.{Whole}
+use Rattle.laws_call.specs.alto_words.specs.Fid.{disk_descriptor, is_directory, sys_dir}
+use Rattle.laws_call.specs.disk_records.specs.Commands.{value_writes}
+use Rattle.laws_call.specs.disk_records.specs.Packs.{after, sector_at}
+use Rattle.laws_call.specs.laws_lookup.proofs.others.Laws.{place_is_of_its_file, values_leave_others}
+use Rattle.laws_call.specs.laws_lookup.proofs.sources.Laws.{found_file_stays_found}
+use Rattle.laws_call.specs.laws_operation.proofs.descriptor.Laws.{open_carries_out, serial_carries_out}
+use Rattle.laws_call.specs.laws_operation.proofs.places.Laws.{values_keep_places}
+use Rattle.laws_call.specs.pack_model.specs.hints.Sources.{IsFrom}
+use Rattle.laws_call.specs.pack_model.specs.operations.Step.Operation.{widen}
+use Rattle.laws_call.specs.pack_model.specs.reading.Sights.{sights}
+use Rattle.laws_call.specs.pack_model.specs.sessions.Descriptor.{opened_value, serial_value}
+use Rattle.laws_call.specs.pack_model.specs.states.Sound.{mark_of, mark_open}
+use Rattle.laws_call.specs.pack_model.specs.states.Whole.{Whole}
 use Rattle.laws_steps.proofs.inside.Released.{elsewhere}
 use Rattle.laws_steps.specs.KeepingLaws.{DescriptorKeepsFound, OpeningKeepsFound, SerialKeepsFound}
 use Rattle.laws_steps.proofs.inside.Keeping.{apart_by}

@@ -4,20 +4,20 @@ use Rattle.std.proofs.lemmas.Bool.Decides.{nat_tests}
 use Rattle.std.specs.Option.{is_some, option_or}
 use Rattle.std.specs.Ordering.{is_lt, ordering_reverse, ordering_then}
 use Rattle.std.specs.Prelude.{IfSome, nat_le, nat_lt}
-use Rattle.alto_words.specs.Fid.{disk_descriptor, fid_cmp, is_fid, serial_of}
-use Rattle.alto_words.specs.declared.fid.Fid.{Fid}
-use Rattle.disk_records.specs.Labels.{in_range, tag}
-use Rattle.disk_records.specs.Packs.{Pack, carried, sector_at}
-use Rattle.laws_operation.proofs.Making.{named_page}
+use Rattle.laws_call.specs.alto_words.specs.Fid.{disk_descriptor, fid_cmp, is_fid, serial_of}
+use Rattle.laws_call.specs.alto_words.specs.declared.fid.Fid.{Fid}
+use Rattle.laws_call.specs.disk_records.specs.Labels.{in_range, tag}
+use Rattle.laws_call.specs.disk_records.specs.Packs.{Pack, carried, sector_at}
+use Rattle.laws_call.specs.laws_operation.proofs.Making.{named_page}
 use Rattle.pack_laws.proofs.Guarding.{carried_parts}
 use Rattle.pack_laws.proofs.Keys.{fid_same, fid_total, same_fid}
 use Rattle.pack_laws.specs.Least.{least, least_shown}
-use Rattle.pack_model.specs.hints.Misled.{leader_page}
-use Rattle.pack_model.specs.reading.Bodies.{found}
-use Rattle.pack_model.specs.reading.Files.{first, leader}
-use Rattle.pack_model.specs.reading.Sights.Sight.{free, hidden, holds, leads, stray}
-use Rattle.pack_model.specs.reading.Sights.{Sight, sights}
-use Rattle.pack_model.specs.states.Whole.{Whole}
+use Rattle.laws_call.specs.pack_model.specs.hints.Misled.{leader_page}
+use Rattle.laws_call.specs.pack_model.specs.reading.Bodies.{found}
+use Rattle.laws_call.specs.pack_model.specs.reading.Files.{first, leader}
+use Rattle.laws_call.specs.pack_model.specs.reading.Sights.Sight.{free, hidden, holds, leads, stray}
+use Rattle.laws_call.specs.pack_model.specs.reading.Sights.{Sight, sights}
+use Rattle.laws_call.specs.pack_model.specs.states.Whole.{Whole}
 use Rattle.laws_steps.proofs.inside.Leaders.{AreLed, all_led, first_led, rest_led}
 
 -- ---- DiskDescriptor

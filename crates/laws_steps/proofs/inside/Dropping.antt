@@ -1,29 +1,29 @@
 -- A drop by two calls.
 use Rattle.std.proofs.Common.{Err, List, [], ap, false, refl, subst, sym, ℕ, ◌++◌, ◌∷◌, ◌≡◌}
 use Rattle.std.proofs.lemmas.Result.{on_ok_weaker}
-use Rattle.alto_words.specs.Fid.{is_fid}
-use Rattle.alto_words.specs.declared.fid.Fid.{Fid}
-use Rattle.disk_records.proofs.FirstOnes.{first_front, first_then}
-use Rattle.disk_records.specs.Commands.{value_writes}
-use Rattle.disk_records.specs.Packs.{Pack, after, sector_at}
-use Rattle.disk_records.specs.declared.records.Event.{Event}
-use Rattle.disk_records.specs.declared.records.Sector.{Sector}
+use Rattle.laws_call.specs.alto_words.specs.Fid.{is_fid}
+use Rattle.laws_call.specs.alto_words.specs.declared.fid.Fid.{Fid}
+use Rattle.laws_call.specs.disk_records.proofs.FirstOnes.{first_front, first_then}
+use Rattle.laws_call.specs.disk_records.specs.Commands.{value_writes}
+use Rattle.laws_call.specs.disk_records.specs.Packs.{Pack, after, sector_at}
+use Rattle.laws_call.specs.disk_records.specs.declared.records.Event.{Event}
+use Rattle.laws_call.specs.disk_records.specs.declared.records.Sector.{Sector}
 use Rattle.laws_call.proofs.going.Laws.{operation_joins}
 use Rattle.laws_call.proofs.writing.Laws.{written_acts}
 use Rattle.laws_call.specs.Acting.{Acts}
 use Rattle.laws_call.specs.Writing.{Written, drops}
-use Rattle.laws_lookup.proofs.stays.Laws.{slots_of_another_directory_stay}
+use Rattle.laws_call.specs.laws_lookup.proofs.stays.Laws.{slots_of_another_directory_stay}
 use Rattle.laws_midway.proofs.dropped.Laws.{drop_leaves_others}
-use Rattle.laws_operation.proofs.drop.Laws.{release_carries_out}
-use Rattle.laws_operation.specs.DirectoryWords.{HasEntry}
-use Rattle.laws_operation.specs.LifeLaws.{MayDrop}
-use Rattle.pack_model.specs.operations.Committing.{page_of_word}
-use Rattle.pack_model.specs.operations.Operations.{release_file_writes}
-use Rattle.pack_model.specs.operations.PageWords.{freed_value}
-use Rattle.pack_model.specs.operations.Step.Operation.{drop_file}
-use Rattle.pack_model.specs.reading.Slots.Item.{entry}
-use Rattle.pack_model.specs.reading.Slots.{Item, all_words, item_words}
-use Rattle.pack_model.specs.states.Whole.{Tidy, Whole}
+use Rattle.laws_call.specs.laws_operation.proofs.drop.Laws.{release_carries_out}
+use Rattle.laws_call.specs.laws_operation.specs.DirectoryWords.{HasEntry}
+use Rattle.laws_call.specs.laws_operation.specs.LifeLaws.{MayDrop}
+use Rattle.laws_call.specs.pack_model.specs.operations.Committing.{page_of_word}
+use Rattle.laws_call.specs.pack_model.specs.operations.Operations.{release_file_writes}
+use Rattle.laws_call.specs.pack_model.specs.operations.PageWords.{freed_value}
+use Rattle.laws_call.specs.pack_model.specs.operations.Step.Operation.{drop_file}
+use Rattle.laws_call.specs.pack_model.specs.reading.Slots.Item.{entry}
+use Rattle.laws_call.specs.pack_model.specs.reading.Slots.{Item, all_words, item_words}
+use Rattle.laws_call.specs.pack_model.specs.states.Whole.{Tidy, Whole}
 use Rattle.laws_steps.proofs.inside.Released.{entry_stays, entry_stood, found_released, others}
 use Rattle.laws_steps.specs.DroppingLaws.{DropIsJoined, ReleasesLeaveTheEntry, released_pack, slot_writes}
 

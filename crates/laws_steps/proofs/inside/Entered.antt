@@ -3,23 +3,23 @@ use Rattle.std.proofs.Common.{Bool, List, None, Option, Some, [], ap, append_ass
 use Rattle.std.specs.FinMap.{get}
 use Rattle.std.specs.List.{list_any}
 use Rattle.std.specs.Option.{option_map}
-use Rattle.alto_words.specs.Fid.{is_fid}
-use Rattle.alto_words.specs.Names.{is_same_name}
-use Rattle.alto_words.specs.declared.fid.Fid.{Fid}
-use Rattle.laws_line.specs.LineLaws.{IsEntered}
-use Rattle.laws_lookup.proofs.names.Laws.{slots_stay}
-use Rattle.laws_record.proofs.Tidying.{or_false_left, or_false_right}
+use Rattle.laws_call.specs.alto_words.specs.Fid.{is_fid}
+use Rattle.laws_call.specs.alto_words.specs.Names.{is_same_name}
+use Rattle.laws_call.specs.alto_words.specs.declared.fid.Fid.{Fid}
+use Rattle.laws_call.specs.laws_line.specs.LineLaws.{IsEntered}
+use Rattle.laws_call.specs.laws_lookup.proofs.names.Laws.{slots_stay}
+use Rattle.laws_call.specs.laws_record.proofs.Tidying.{or_false_left, or_false_right}
 use Rattle.pack_laws.proofs.Keys.{fid_same, fid_total, same_fid}
 use Rattle.pack_laws.proofs.Mapping.{get-update}
-use Rattle.pack_model.specs.operations.Step.Operation.{cut, drop_file, enter, grow, leave, make, put, stamp, title, widen}
-use Rattle.pack_model.specs.operations.Step.{on_items, step}
-use Rattle.pack_model.specs.reading.Bodies.Body.{data_of, items_of}
-use Rattle.pack_model.specs.reading.Bodies.{Body, File, body_items, items_in}
-use Rattle.pack_model.specs.reading.Model.{Model, dir_items}
-use Rattle.pack_model.specs.reading.Namings.{namings_in}
-use Rattle.pack_model.specs.reading.Slots.Item.{entry, space}
-use Rattle.pack_model.specs.reading.Slots.{Item}
-use Rattle.pack_model.specs.reading.Versions.{exact}
+use Rattle.laws_call.specs.pack_model.specs.operations.Step.Operation.{cut, drop_file, enter, grow, leave, make, put, stamp, title, widen}
+use Rattle.laws_call.specs.pack_model.specs.operations.Step.{on_items, step}
+use Rattle.laws_call.specs.pack_model.specs.reading.Bodies.Body.{data_of, items_of}
+use Rattle.laws_call.specs.pack_model.specs.reading.Bodies.{Body, File, body_items, items_in}
+use Rattle.laws_call.specs.pack_model.specs.reading.Model.{Model, dir_items}
+use Rattle.laws_call.specs.pack_model.specs.reading.Namings.{namings_in}
+use Rattle.laws_call.specs.pack_model.specs.reading.Slots.Item.{entry, space}
+use Rattle.laws_call.specs.pack_model.specs.reading.Slots.{Item}
+use Rattle.laws_call.specs.pack_model.specs.reading.Versions.{exact}
 use Rattle.laws_steps.specs.EnteredLaws.{EnteredIsMeant, EnteredStays}
 
 -- ---- the one that is meant

@@ -1,19 +1,19 @@
 -- The files that hints mean, and one hint over a part of a line.
 use Rattle.std.proofs.Common.{Bool, None, Some, ap, false, refl, subst, sym, true, ℕ, ◌++◌, ◌∙◌, ◌≡◌}
-use Rattle.disk_records.proofs.Growing.{after-append}
-use Rattle.disk_records.specs.Packs.{Pack, after, carried}
-use Rattle.disk_records.specs.declared.records.Page.{Page}
-use Rattle.disk_records.specs.declared.records.Place.TheVariants.{Entry, Held, Next, Root}
-use Rattle.laws_lookup.proofs.before.Laws.{release_misled_before}
+use Rattle.laws_call.specs.disk_records.proofs.Growing.{after-append}
+use Rattle.laws_call.specs.disk_records.specs.Packs.{Pack, after, carried}
+use Rattle.laws_call.specs.disk_records.specs.declared.records.Page.{Page}
+use Rattle.laws_call.specs.disk_records.specs.declared.records.Place.TheVariants.{Entry, Held, Next, Root}
+use Rattle.laws_call.specs.laws_lookup.proofs.before.Laws.{release_misled_before}
 use Rattle.laws_midway.proofs.found.Laws.{found_file_lives}
-use Rattle.laws_operation.proofs.drop.Laws.{release_carries_out}
-use Rattle.laws_operation.proofs.places.Laws.{file_that_does_not_live_has_no_page}
-use Rattle.laws_record.proofs.Carried.{carried_place}
-use Rattle.pack_model.specs.hints.Misled.{Finds, Misled}
-use Rattle.pack_model.specs.operations.Operations.{release_file_writes}
-use Rattle.pack_model.specs.reading.Files.{lives, place}
-use Rattle.pack_model.specs.reading.Sights.{sights}
-use Rattle.pack_model.specs.states.Whole.{Whole}
+use Rattle.laws_call.specs.laws_operation.proofs.drop.Laws.{release_carries_out}
+use Rattle.laws_call.specs.laws_operation.proofs.places.Laws.{file_that_does_not_live_has_no_page}
+use Rattle.laws_call.specs.laws_record.proofs.Carried.{carried_place}
+use Rattle.laws_call.specs.pack_model.specs.hints.Misled.{Finds, Misled}
+use Rattle.laws_call.specs.pack_model.specs.operations.Operations.{release_file_writes}
+use Rattle.laws_call.specs.pack_model.specs.reading.Files.{lives, place}
+use Rattle.laws_call.specs.pack_model.specs.reading.Sights.{sights}
+use Rattle.laws_call.specs.pack_model.specs.states.Whole.{Whole}
 use Rattle.laws_steps.specs.HintLaws.{NoHintMeansAnAbsentFile, OneLaterAnswerMisledBefore, OneLaterMisledBefore, ReleasedAnswerMisledBefore, ReleasedOthersMisledBefore}
 
 -- ---- the files that are meant

@@ -2,61 +2,61 @@
 use Rattle.std.proofs.Common.{Bool, List, None, Option, Some, [], ap, cond, false, inr, length, refl, subst, sym, true, ℕ, ◌++◌, ◌∙◌, ◌∷◌, ◌≡◌}
 use Rattle.std.specs.FinMap.{get}
 use Rattle.std.specs.Option.{option_map}
-use Rattle.alto_words.specs.Fid.{is_directory, is_fid}
-use Rattle.alto_words.specs.Names.{is_same_name}
-use Rattle.alto_words.specs.declared.fid.Fid.{Fid}
-use Rattle.alto_words.specs.declared.wanted.Wanted.TheVariants.{Exact}
-use Rattle.disk_records.proofs.Growing.{after-append}
-use Rattle.disk_records.specs.Commands.{value_writes}
-use Rattle.disk_records.specs.Packs.{Pack, after, sector_at}
-use Rattle.disk_records.specs.declared.records.Event.{Event}
-use Rattle.disk_records.specs.declared.records.Place.{Place}
-use Rattle.disk_records.specs.declared.records.Sector.{Sector}
-use Rattle.disk_records.specs.declared.records.Place.TheVariants.{Entry, Held, Next, Root}
+use Rattle.laws_call.specs.alto_words.specs.Fid.{is_directory, is_fid}
+use Rattle.laws_call.specs.alto_words.specs.Names.{is_same_name}
+use Rattle.laws_call.specs.alto_words.specs.declared.fid.Fid.{Fid}
+use Rattle.laws_call.specs.alto_words.specs.declared.wanted.Wanted.TheVariants.{Exact}
+use Rattle.laws_call.specs.disk_records.proofs.Growing.{after-append}
+use Rattle.laws_call.specs.disk_records.specs.Commands.{value_writes}
+use Rattle.laws_call.specs.disk_records.specs.Packs.{Pack, after, sector_at}
+use Rattle.laws_call.specs.disk_records.specs.declared.records.Event.{Event}
+use Rattle.laws_call.specs.disk_records.specs.declared.records.Place.{Place}
+use Rattle.laws_call.specs.disk_records.specs.declared.records.Sector.{Sector}
+use Rattle.laws_call.specs.disk_records.specs.declared.records.Place.TheVariants.{Entry, Held, Next, Root}
 use Rattle.laws_call.proofs.writing.Laws.{written_acts, written_stays_known}
 use Rattle.laws_call.specs.WritingLaws.{IsOnOne, StaysKnown, written_file}
 use Rattle.laws_call.specs.Writing.{Written, cuts, drops, entering_writes, enters, entry_freed, grows, leaves, makes, puts, stamps, titles, widens}
-use Rattle.laws_lookup.proofs.others.Laws.{place_is_of_its_file, release_leaves_others, values_leave_others}
-use Rattle.laws_lookup.proofs.own.Laws.{enter_replaces_slots, entry_stands_outside_of_free_slots, leave_replaces_slots, widen_replaces_slots}
-use Rattle.laws_lookup.proofs.slots.Laws.{lookup_is_the_models}
-use Rattle.laws_lookup.proofs.sources.Laws.{found_file_stays_found, found_file_stays_found_beside_slots}
-use Rattle.laws_lookup.specs.OtherLaws.{KeepsPages, LeavesOthers}
-use Rattle.laws_lookup.specs.OwnLaws.{ReplacesSlots}
+use Rattle.laws_call.specs.laws_lookup.proofs.others.Laws.{place_is_of_its_file, release_leaves_others, values_leave_others}
+use Rattle.laws_call.specs.laws_lookup.proofs.own.Laws.{enter_replaces_slots, entry_stands_outside_of_free_slots, leave_replaces_slots, widen_replaces_slots}
+use Rattle.laws_call.specs.laws_lookup.proofs.slots.Laws.{lookup_is_the_models}
+use Rattle.laws_call.specs.laws_lookup.proofs.sources.Laws.{found_file_stays_found, found_file_stays_found_beside_slots}
+use Rattle.laws_call.specs.laws_lookup.specs.OtherLaws.{KeepsPages, LeavesOthers}
+use Rattle.laws_call.specs.laws_lookup.specs.OwnLaws.{ReplacesSlots}
 use Rattle.laws_midway.proofs.dropped.Laws.{drop_leaves_others}
-use Rattle.laws_operation.proofs.Concerning.{run_bare}
-use Rattle.laws_operation.proofs.Dropped.{read_there}
-use Rattle.laws_operation.proofs.drop.Laws.{drop_carries_out, release_carries_out, slot_words_fit}
-use Rattle.laws_operation.proofs.enter.Laws.{enter_words_fit}
-use Rattle.laws_operation.proofs.entries.Laws.{items_are_slots, read_entries_are_kept}
-use Rattle.laws_operation.proofs.places.Laws.{values_keep_places}
-use Rattle.laws_operation.proofs.widen.Laws.{widen_words_fit}
-use Rattle.laws_operation.specs.DirectoryWords.{HasEntry, left_in}
-use Rattle.laws_operation.specs.LifeLaws.{MayDrop}
-use Rattle.laws_record.proofs.DirReads.{has_leader, not_descriptor}
-use Rattle.laws_record.proofs.DirSteps.{apart_before}
-use Rattle.laws_record.proofs.Entered.{directory}
+use Rattle.laws_call.specs.laws_operation.proofs.Concerning.{run_bare}
+use Rattle.laws_call.specs.laws_operation.proofs.Dropped.{read_there}
+use Rattle.laws_call.specs.laws_operation.proofs.drop.Laws.{drop_carries_out, release_carries_out, slot_words_fit}
+use Rattle.laws_call.specs.laws_operation.proofs.enter.Laws.{enter_words_fit}
+use Rattle.laws_call.specs.laws_operation.proofs.entries.Laws.{items_are_slots, read_entries_are_kept}
+use Rattle.laws_call.specs.laws_operation.proofs.places.Laws.{values_keep_places}
+use Rattle.laws_call.specs.laws_operation.proofs.widen.Laws.{widen_words_fit}
+use Rattle.laws_call.specs.laws_operation.specs.DirectoryWords.{HasEntry, left_in}
+use Rattle.laws_call.specs.laws_operation.specs.LifeLaws.{MayDrop}
+use Rattle.laws_call.specs.laws_record.proofs.DirReads.{has_leader, not_descriptor}
+use Rattle.laws_call.specs.laws_record.proofs.DirSteps.{apart_before}
+use Rattle.laws_call.specs.laws_record.proofs.Entered.{directory}
 use Rattle.pack_laws.proofs.Keys.{same_fid}
-use Rattle.pack_model.specs.hints.Links.{dir_slots, dir_words}
-use Rattle.pack_model.specs.hints.Misled.{StandsInEntry, leader_page}
-use Rattle.pack_model.specs.hints.Sources.{IsFrom}
-use Rattle.pack_model.specs.operations.Commands.{grown_claims, grown_label, grown_value}
-use Rattle.pack_model.specs.operations.Committing.{page_of_word}
-use Rattle.pack_model.specs.operations.Operations.{drop_writes, release_file_writes}
-use Rattle.pack_model.specs.operations.PageWords.{entered_words, freed_value, widening_bytes}
-use Rattle.pack_model.specs.operations.Rooms.{left_over}
-use Rattle.pack_model.specs.operations.Step.Operation.{leave}
-use Rattle.pack_model.specs.operations.Step.{Operation}
-use Rattle.pack_model.specs.reading.Bodies.Body.{data_of, items_of}
-use Rattle.pack_model.specs.reading.Files.{file_bytes, lives}
-use Rattle.pack_model.specs.reading.Lookup.{EntryAt, entered, entry_at}
-use Rattle.pack_model.specs.reading.Model.{dir_items, read_as}
-use Rattle.pack_model.specs.reading.Namings.{namings_in}
-use Rattle.pack_model.specs.reading.Sights.{sights}
-use Rattle.pack_model.specs.reading.Slots.Item.{entry, space}
-use Rattle.pack_model.specs.reading.SlotWords.{space_words}
-use Rattle.pack_model.specs.reading.Slots.{Item, all_words, entry_length, item_words, slots}
-use Rattle.pack_model.specs.reading.Versions.{Entered, exact}
-use Rattle.pack_model.specs.states.Whole.{Tidy, Whole}
+use Rattle.laws_call.specs.pack_model.specs.hints.Links.{dir_slots, dir_words}
+use Rattle.laws_call.specs.pack_model.specs.hints.Misled.{StandsInEntry, leader_page}
+use Rattle.laws_call.specs.pack_model.specs.hints.Sources.{IsFrom}
+use Rattle.laws_call.specs.pack_model.specs.operations.Commands.{grown_claims, grown_label, grown_value}
+use Rattle.laws_call.specs.pack_model.specs.operations.Committing.{page_of_word}
+use Rattle.laws_call.specs.pack_model.specs.operations.Operations.{drop_writes, release_file_writes}
+use Rattle.laws_call.specs.pack_model.specs.operations.PageWords.{entered_words, freed_value, widening_bytes}
+use Rattle.laws_call.specs.pack_model.specs.operations.Rooms.{left_over}
+use Rattle.laws_call.specs.pack_model.specs.operations.Step.Operation.{leave}
+use Rattle.laws_call.specs.pack_model.specs.operations.Step.{Operation}
+use Rattle.laws_call.specs.pack_model.specs.reading.Bodies.Body.{data_of, items_of}
+use Rattle.laws_call.specs.pack_model.specs.reading.Files.{file_bytes, lives}
+use Rattle.laws_call.specs.pack_model.specs.reading.Lookup.{EntryAt, entered, entry_at}
+use Rattle.laws_call.specs.pack_model.specs.reading.Model.{dir_items, read_as}
+use Rattle.laws_call.specs.pack_model.specs.reading.Namings.{namings_in}
+use Rattle.laws_call.specs.pack_model.specs.reading.Sights.{sights}
+use Rattle.laws_call.specs.pack_model.specs.reading.Slots.Item.{entry, space}
+use Rattle.laws_call.specs.pack_model.specs.reading.SlotWords.{space_words}
+use Rattle.laws_call.specs.pack_model.specs.reading.Slots.{Item, all_words, entry_length, item_words, slots}
+use Rattle.laws_call.specs.pack_model.specs.reading.Versions.{Entered, exact}
+use Rattle.laws_call.specs.pack_model.specs.states.Whole.{Tidy, Whole}
 use Rattle.laws_steps.proofs.inside.Beside.{exact_here, found_beside}
 use Rattle.laws_steps.proofs.inside.Released.{elsewhere, entry_stays, found_released}
 use Rattle.laws_steps.specs.KeepingLaws.{IfByEntry, StaysEntered, WrittenKeepsFound}

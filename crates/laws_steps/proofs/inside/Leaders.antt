@@ -4,19 +4,19 @@ use Rattle.std.proofs.lemmas.List.{get_or_default}
 use Rattle.std.specs.Option.{option_map}
 use Rattle.std.specs.Ordering.{is_lt}
 use Rattle.std.specs.Prelude.{IfSome}
-use Rattle.alto_words.specs.Fid.{fid_cmp, serial_of}
-use Rattle.alto_words.specs.declared.fid.Fid.{Fid}
-use Rattle.disk_records.specs.Packs.{Pack, carried}
-use Rattle.laws_record.proofs.Carried.{place_of_carried}
-use Rattle.laws_record.proofs.Copying.{place_carried}
+use Rattle.laws_call.specs.alto_words.specs.Fid.{fid_cmp, serial_of}
+use Rattle.laws_call.specs.alto_words.specs.declared.fid.Fid.{Fid}
+use Rattle.laws_call.specs.disk_records.specs.Packs.{Pack, carried}
+use Rattle.laws_call.specs.laws_record.proofs.Carried.{place_of_carried}
+use Rattle.laws_call.specs.laws_record.proofs.Copying.{place_carried}
 use Rattle.pack_laws.proofs.Keys.{is_fid-itself}
 use Rattle.pack_laws.specs.Least.{least, least_shown}
-use Rattle.pack_model.specs.hints.Misled.{leader_page}
-use Rattle.pack_model.specs.reading.Files.{carries_page, numbered}
-use Rattle.pack_model.specs.reading.Leaders.{Leader}
-use Rattle.pack_model.specs.reading.Sights.Sight.{free, hidden, holds, leads, stray}
-use Rattle.pack_model.specs.reading.Sights.{Sight, sights}
-use Rattle.pack_model.specs.states.Whole.{Whole}
+use Rattle.laws_call.specs.pack_model.specs.hints.Misled.{leader_page}
+use Rattle.laws_call.specs.pack_model.specs.reading.Files.{carries_page, numbered}
+use Rattle.laws_call.specs.pack_model.specs.reading.Leaders.{Leader}
+use Rattle.laws_call.specs.pack_model.specs.reading.Sights.Sight.{free, hidden, holds, leads, stray}
+use Rattle.laws_call.specs.pack_model.specs.reading.Sights.{Sight, sights}
+use Rattle.laws_call.specs.pack_model.specs.states.Whole.{Whole}
 use Rattle.laws_steps.specs.SerialLaws.{LeaderMet, least_leader, lesser_leader}
 
 -- ---- leaders that sectors show

@@ -2,18 +2,18 @@
 use Rattle.std.proofs.Common.{Bool, List, None, Option, Some, [], ap, cond, false, length, refl, sym, true, ℕ, ◌+◌, ◌∙◌, ◌∷◌, ◌≡◌, ◌≤◌}
 use Rattle.std.specs.FinMap.{get, get-insert, insert}
 use Rattle.std.specs.Option.{option_map}
-use Rattle.alto_words.specs.Fid.{is_fid}
+use Rattle.laws_call.specs.alto_words.specs.Fid.{is_fid}
 use Rattle.pack_laws.proofs.Bytes.{length-put_at}
 use Rattle.pack_laws.proofs.Keys.{fid_same, fid_total, is_fid-itself, same_fid}
 use Rattle.pack_laws.proofs.Mapping.{get-update}
-use Rattle.pack_model.specs.operations.Committing.{length_in}
-use Rattle.pack_model.specs.operations.Rooms.{items_entered}
-use Rattle.pack_model.specs.operations.Step.{body_bytes, body_slots, new_file, on_bytes, on_items}
-use Rattle.pack_model.specs.reading.Bodies.Body.{data_of, items_of}
-use Rattle.pack_model.specs.reading.Bodies.{Body, File, Files, body_length}
-use Rattle.pack_model.specs.reading.Bytes.{put_at}
-use Rattle.pack_model.specs.reading.Slots.Item.{entry, space}
-use Rattle.pack_model.specs.reading.Slots.{Item}
+use Rattle.laws_call.specs.pack_model.specs.operations.Committing.{length_in}
+use Rattle.laws_call.specs.pack_model.specs.operations.Rooms.{items_entered}
+use Rattle.laws_call.specs.pack_model.specs.operations.Step.{body_bytes, body_slots, new_file, on_bytes, on_items}
+use Rattle.laws_call.specs.pack_model.specs.reading.Bodies.Body.{data_of, items_of}
+use Rattle.laws_call.specs.pack_model.specs.reading.Bodies.{Body, File, Files, body_length}
+use Rattle.laws_call.specs.pack_model.specs.reading.Bytes.{put_at}
+use Rattle.laws_call.specs.pack_model.specs.reading.Slots.Item.{entry, space}
+use Rattle.laws_call.specs.pack_model.specs.reading.Slots.{Item}
 use Rattle.laws_steps.specs.LengthLaws.{NewFileIsEmpty, PutKeepsTheLength}
 
 -- ---- bytes that are put

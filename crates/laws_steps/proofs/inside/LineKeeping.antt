@@ -2,32 +2,32 @@
 use Rattle.std.proofs.Common.{Err, List, Ok, OnOk, Result, Some, [], ap, false, subst, sym, ℕ, ◌++◌, ◌∙◌, ◌∷◌, ◌≡◌}
 use Rattle.std.proofs.lemmas.Result.{on_ok_weaker}
 use Rattle.std.specs.Option.{option_map}
-use Rattle.alto_words.specs.Fid.{is_fid}
-use Rattle.alto_words.specs.declared.fid.Fid.{Fid}
-use Rattle.alto_words.specs.declared.wanted.Wanted.TheVariants.{Exact}
-use Rattle.disk_records.proofs.Growing.{after-append}
-use Rattle.disk_records.specs.Packs.{Pack, after, sector_at}
-use Rattle.disk_records.specs.Tapes.{pack}
-use Rattle.disk_records.specs.declared.records.Event.{Event}
-use Rattle.disk_records.specs.declared.records.Place.{Place}
-use Rattle.disk_records.specs.declared.records.Place.TheVariants.{Entry, Held, Next, Root}
+use Rattle.laws_call.specs.alto_words.specs.Fid.{is_fid}
+use Rattle.laws_call.specs.alto_words.specs.declared.fid.Fid.{Fid}
+use Rattle.laws_call.specs.alto_words.specs.declared.wanted.Wanted.TheVariants.{Exact}
+use Rattle.laws_call.specs.disk_records.proofs.Growing.{after-append}
+use Rattle.laws_call.specs.disk_records.specs.Packs.{Pack, after, sector_at}
+use Rattle.laws_call.specs.disk_records.specs.Tapes.{pack}
+use Rattle.laws_call.specs.disk_records.specs.declared.records.Event.{Event}
+use Rattle.laws_call.specs.disk_records.specs.declared.records.Place.{Place}
+use Rattle.laws_call.specs.disk_records.specs.declared.records.Place.TheVariants.{Entry, Held, Next, Root}
 use Rattle.laws_call.specs.Acting.{begun, refused}
 use Rattle.laws_call.specs.Going.{Goes}
 use Rattle.laws_call.specs.Writing.{Written, cuts, drops, enters, grows, leaves, makes, puts, stamps, titles, widens}
-use Rattle.laws_line.proofs.crashes.Laws.{crashes_of_an_unmarked_line}
-use Rattle.laws_line.specs.CrashLaws.{Batch, LineStays, with_serial}
-use Rattle.laws_line.specs.Ready.{steps_of}
-use Rattle.laws_lookup.proofs.slots.Laws.{lookup_is_the_models}
-use Rattle.laws_operation.proofs.descriptor.Laws.{serial_carries_out}
-use Rattle.pack_model.specs.operations.Committing.{moves_of_all}
-use Rattle.pack_model.specs.operations.Step.Operation.{make}
-use Rattle.pack_model.specs.operations.Step.{Operation, step}
-use Rattle.pack_model.specs.reading.Lookup.{entered}
-use Rattle.pack_model.specs.reading.Model.{Model, dir_items, read_as}
-use Rattle.pack_model.specs.reading.Versions.{Entered, exact}
-use Rattle.pack_model.specs.scavenger.Scavenging.{Unmarked}
-use Rattle.pack_model.specs.sessions.Descriptor.{serial_writes}
-use Rattle.pack_model.specs.states.Whole.{Tidy, Whole}
+use Rattle.laws_call.specs.laws_line.proofs.crashes.Laws.{crashes_of_an_unmarked_line}
+use Rattle.laws_call.specs.laws_line.specs.CrashLaws.{Batch, LineStays, with_serial}
+use Rattle.laws_call.specs.laws_line.specs.Ready.{steps_of}
+use Rattle.laws_call.specs.laws_lookup.proofs.slots.Laws.{lookup_is_the_models}
+use Rattle.laws_call.specs.laws_operation.proofs.descriptor.Laws.{serial_carries_out}
+use Rattle.laws_call.specs.pack_model.specs.operations.Committing.{moves_of_all}
+use Rattle.laws_call.specs.pack_model.specs.operations.Step.Operation.{make}
+use Rattle.laws_call.specs.pack_model.specs.operations.Step.{Operation, step}
+use Rattle.laws_call.specs.pack_model.specs.reading.Lookup.{entered}
+use Rattle.laws_call.specs.pack_model.specs.reading.Model.{Model, dir_items, read_as}
+use Rattle.laws_call.specs.pack_model.specs.reading.Versions.{Entered, exact}
+use Rattle.laws_call.specs.pack_model.specs.scavenger.Scavenging.{Unmarked}
+use Rattle.laws_call.specs.pack_model.specs.sessions.Descriptor.{serial_writes}
+use Rattle.laws_call.specs.pack_model.specs.states.Whole.{Tidy, Whole}
 use Rattle.laws_steps.proofs.inside.Descriptor.{serial_keeps_found}
 use Rattle.laws_steps.proofs.inside.Keeping.{written_keeps_found}
 use Rattle.laws_steps.specs.KeepingLaws.{IfByEntry, StaysEntered}

@@ -1,15 +1,15 @@
 -- The last page that a leader names, where record writes leave all files but another one as they were.
 use Rattle.std.proofs.Common.{◌≡◌, ◌∙◌, ◌+◌, ◌≤◌, ℕ, Some, List, false, ap, length, subst, sym}
-use Rattle.alto_words.specs.declared.fid.Fid.{Fid}
-use Rattle.alto_words.specs.Fid.{is_fid}
-use Rattle.disk_records.specs.Packs.{Pack, sector_at}
-use Rattle.disk_records.specs.Words.{word}
-use Rattle.disk_records.specs.declared.records.Sector.{Sector}
-use Rattle.laws_lookup.specs.OtherLaws.{LeavesOthers}
-use Rattle.pack_model.specs.hints.Handy.{last_at_word, last_number_word, leader_word}
-use Rattle.pack_model.specs.operations.Committing.{page_of_byte}
-use Rattle.pack_model.specs.reading.Files.{place}
-use Rattle.pack_model.specs.reading.Sights.{sights}
+use Rattle.laws_call.specs.alto_words.specs.declared.fid.Fid.{Fid}
+use Rattle.laws_call.specs.alto_words.specs.Fid.{is_fid}
+use Rattle.laws_call.specs.disk_records.specs.Packs.{Pack, sector_at}
+use Rattle.laws_call.specs.disk_records.specs.Words.{word}
+use Rattle.laws_call.specs.disk_records.specs.declared.records.Sector.{Sector}
+use Rattle.laws_call.specs.laws_lookup.specs.OtherLaws.{LeavesOthers}
+use Rattle.laws_call.specs.pack_model.specs.hints.Handy.{last_at_word, last_number_word, leader_word}
+use Rattle.laws_call.specs.pack_model.specs.operations.Committing.{page_of_byte}
+use Rattle.laws_call.specs.pack_model.specs.reading.Files.{place}
+use Rattle.laws_call.specs.pack_model.specs.reading.Sights.{sights}
 use Rattle.page_seeking.specs.Seeking.{NamedNearEnd, file_length}
 
 pub named_page_stays : (p q : Pack) (f g : Fid) (more : ℕ) → LeavesOthers f p q → is_fid g f ≡ false → NamedNearEnd p g more → NamedNearEnd q g more

@@ -1,7 +1,7 @@
 -- A line in two parts.
 use Rattle.std.proofs.Common.{[], arith, refl, ◌∷◌}
 use Rattle.laws_steps.specs.PartLaws.{PagesOfBothParts, StepsOfBothParts}
-use Rattle.pack_model.specs.operations.Step.{step}
+use Rattle.laws_call.specs.pack_model.specs.operations.Step.{step}
 
 pub steps_of_both_parts : StepsOfBothParts
 steps_of_both_parts m [] more = refl

@@ -1,28 +1,28 @@
 -- After the releases of a drop, before its entry's slot is freed.
 use Rattle.std.proofs.Common.{Bool, List, [], ap, false, inl, refl, subst, sym, true, ℕ, ◌∙◌, ◌≡◌}
-use Rattle.alto_words.specs.Fid.{is_fid}
-use Rattle.alto_words.specs.declared.fid.Fid.{Fid}
-use Rattle.disk_records.specs.Packs.{Pack, after}
-use Rattle.disk_records.specs.declared.records.Place.{Place}
-use Rattle.disk_records.specs.declared.records.Place.TheVariants.{Entry, Held, Next, Root}
-use Rattle.laws_lookup.proofs.others.Laws.{release_leaves_others}
-use Rattle.laws_lookup.proofs.sources.Laws.{found_file_stays_found}
-use Rattle.laws_lookup.specs.OtherLaws.{LeavesOthers}
-use Rattle.laws_lookup.specs.SourceLaws.{IsElsewhere}
-use Rattle.laws_operation.proofs.entries.Laws.{items_are_slots}
-use Rattle.laws_operation.specs.DirectoryWords.{HasEntry}
-use Rattle.laws_operation.specs.LifeLaws.{MayDrop}
+use Rattle.laws_call.specs.alto_words.specs.Fid.{is_fid}
+use Rattle.laws_call.specs.alto_words.specs.declared.fid.Fid.{Fid}
+use Rattle.laws_call.specs.disk_records.specs.Packs.{Pack, after}
+use Rattle.laws_call.specs.disk_records.specs.declared.records.Place.{Place}
+use Rattle.laws_call.specs.disk_records.specs.declared.records.Place.TheVariants.{Entry, Held, Next, Root}
+use Rattle.laws_call.specs.laws_lookup.proofs.others.Laws.{release_leaves_others}
+use Rattle.laws_call.specs.laws_lookup.proofs.sources.Laws.{found_file_stays_found}
+use Rattle.laws_call.specs.laws_lookup.specs.OtherLaws.{LeavesOthers}
+use Rattle.laws_call.specs.laws_lookup.specs.SourceLaws.{IsElsewhere}
+use Rattle.laws_call.specs.laws_operation.proofs.entries.Laws.{items_are_slots}
+use Rattle.laws_call.specs.laws_operation.specs.DirectoryWords.{HasEntry}
+use Rattle.laws_call.specs.laws_operation.specs.LifeLaws.{MayDrop}
 use Rattle.pack_laws.proofs.Keys.{same_fid}
-use Rattle.pack_model.specs.hints.Links.{dir_words}
-use Rattle.pack_model.specs.hints.Misled.{StandsInEntry, leader_page}
-use Rattle.pack_model.specs.hints.Sources.{IsFrom}
-use Rattle.pack_model.specs.operations.Committing.{page_of_word}
-use Rattle.pack_model.specs.operations.Operations.{release_file_writes}
-use Rattle.pack_model.specs.reading.Bytes.{words_of}
-use Rattle.pack_model.specs.reading.Model.{dir_items, read_as}
-use Rattle.pack_model.specs.reading.Namings.{namings_in}
-use Rattle.pack_model.specs.reading.Slots.{Item, all_words, slots}
-use Rattle.pack_model.specs.states.Whole.{Tidy, Whole}
+use Rattle.laws_call.specs.pack_model.specs.hints.Links.{dir_words}
+use Rattle.laws_call.specs.pack_model.specs.hints.Misled.{StandsInEntry, leader_page}
+use Rattle.laws_call.specs.pack_model.specs.hints.Sources.{IsFrom}
+use Rattle.laws_call.specs.pack_model.specs.operations.Committing.{page_of_word}
+use Rattle.laws_call.specs.pack_model.specs.operations.Operations.{release_file_writes}
+use Rattle.laws_call.specs.pack_model.specs.reading.Bytes.{words_of}
+use Rattle.laws_call.specs.pack_model.specs.reading.Model.{dir_items, read_as}
+use Rattle.laws_call.specs.pack_model.specs.reading.Namings.{namings_in}
+use Rattle.laws_call.specs.pack_model.specs.reading.Slots.{Item, all_words, slots}
+use Rattle.laws_call.specs.pack_model.specs.states.Whole.{Tidy, Whole}
 use Rattle.laws_steps.proofs.inside.Beside.{no_entry}
 
 -- a file that was found elsewhere than in an entry of this one

@@ -1,10 +1,10 @@
 -- The least leader with a serial is the file that the model has by it.
 use Rattle.std.proofs.Common.{Bool, None, Some, ap, cond, eqb-true, false, fold, refl, true, ◌==◌, ◌∙◌, ◌≡◌}
 use Rattle.std.specs.FinMap.{entries}
-use Rattle.alto_words.specs.Fid.{disk_descriptor, serial_of}
+use Rattle.laws_call.specs.alto_words.specs.Fid.{disk_descriptor, serial_of}
 use Rattle.pack_laws.specs.Least.{least_shown}
-use Rattle.pack_model.specs.reading.Model.{read_as}
-use Rattle.pack_model.specs.reading.Sights.{sights}
+use Rattle.laws_call.specs.pack_model.specs.reading.Model.{read_as}
+use Rattle.laws_call.specs.pack_model.specs.reading.Sights.{sights}
 use Rattle.laws_steps.specs.SerialLaws.{SerialIsTheModels}
 use Rattle.laws_steps.proofs.inside.ByEntries.{of_serial, other_serial}
 use Rattle.laws_steps.proofs.inside.DescriptorLeast.{descriptor_is_least}

@@ -1,12 +1,12 @@
 -- What the record writes of guarded sector commands leave.
 use Rattle.std.proofs.Common.{Bool, List, None, Option, Some, [], ap, arith, cond, false, nat_lt, refl, set, suc, sym, true, zero, ℕ, ◌<◌, ◌∙◌, ◌∷◌, ◌≡◌}
 use Rattle.std.proofs.lemmas.Bool.{le-ltb}
-use Rattle.disk_records.specs.declared.records.Page.{Page}
-use Rattle.disk_records.specs.declared.records.Sector.{Sector}
-use Rattle.disk_records.specs.declared.records.Event.TheVariants.{Wrote}
-use Rattle.disk_records.specs.Commands.{ones, relabel_writes, release_writes, value_writes}
-use Rattle.disk_records.specs.Labels.{Tag, is_free, page_of, tag}
-use Rattle.disk_records.specs.Packs.{Pack, after, carried, crash, is_free_at, is_usable, sector_at, with_part}
+use Rattle.pack_model.specs.disk_records.specs.declared.records.Page.{Page}
+use Rattle.pack_model.specs.disk_records.specs.declared.records.Sector.{Sector}
+use Rattle.pack_model.specs.disk_records.specs.declared.records.Event.TheVariants.{Wrote}
+use Rattle.pack_model.specs.disk_records.specs.Commands.{ones, relabel_writes, release_writes, value_writes}
+use Rattle.pack_model.specs.disk_records.specs.Labels.{Tag, is_free, page_of, tag}
+use Rattle.pack_model.specs.disk_records.specs.Packs.{Pack, after, carried, crash, is_free_at, is_usable, sector_at, with_part}
 use Rattle.pack_model.specs.reading.Sights.{Sight, sights, tag_sight}
 use Rattle.pack_model.specs.reading.Sights.Sight.{free}
 use Rattle.pack_laws.specs.GuardLaws.{ChangesOne, ComesToHold, LooksSame, TakesAtTheLabel, released, with_words}

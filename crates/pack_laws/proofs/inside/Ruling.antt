@@ -3,10 +3,10 @@ use Rattle.std.proofs.Common.{◌≡◌, ℕ, ◌+◌, ◌<◌, ◌≤◌, zero,
 use Rattle.std.proofs.lemmas.Option.{same_Some}
 use Rattle.std.proofs.lemmas.List.{take_all}
 use Rattle.std.proofs.lemmas.List.Sums.{sum_by-cons}
-use Rattle.disk_records.specs.declared.records.Event.{Event}
-use Rattle.disk_records.specs.declared.records.Event.TheVariants.{Wrote, Shown}
-use Rattle.disk_records.specs.Events.{shown_events, writes_in}
-use Rattle.disk_records.specs.Packs.{Pack, after, crash}
+use Rattle.pack_model.specs.disk_records.specs.declared.records.Event.{Event}
+use Rattle.pack_model.specs.disk_records.specs.declared.records.Event.TheVariants.{Wrote, Shown}
+use Rattle.pack_model.specs.disk_records.specs.Events.{shown_events, writes_in}
+use Rattle.pack_model.specs.disk_records.specs.Packs.{Pack, after, crash}
 use Rattle.pack_model.specs.sessions.Moves.{Meaning, Obeys, rest, write}
 use Rattle.pack_model.specs.sessions.Turns.{Turn, ops_of, Talks, begun, spoken, ruler}
 use Rattle.pack_laws.specs.Made.{AllMade}

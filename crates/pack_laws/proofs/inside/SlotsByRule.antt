@@ -5,8 +5,8 @@ use Rattle.std.specs.List.{list_all}
 use Rattle.std.proofs.lemmas.Bool.{and_parts, cond-true}
 use Rattle.std.proofs.lemmas.Bool.Decides.{nat_tests}
 use Rattle.std.proofs.lemmas.List.{length-append, take_at, get_or_append_left}
-use Rattle.alto_words.specs.Fid.{is_full_name}
-use Rattle.disk_records.specs.Words.{word}
+use Rattle.pack_model.specs.alto_words.specs.Fid.{is_full_name}
+use Rattle.pack_model.specs.disk_records.specs.Words.{word}
 use Rattle.pack_model.specs.reading.Slots.{Item, item_words, and_then, first_length, entry_length, slot_bytes, slot_name, slot_pad, slot_fid}
 use Rattle.pack_model.specs.reading.Slots.Item.{space, entry}
 use Rattle.pack_model.specs.reading.OtherNames.{Rule, is_entry_by, slot_of_by, slot_at_by, slots_after_by, slots_by, IsSlotBy, ReadsBy}

@@ -4,12 +4,12 @@ use Rattle.std.proofs.lemmas.Bool.Decides.{nat_tests}
 use Rattle.std.proofs.lemmas.List.Sums.{sum_by-append}
 use Rattle.std.proofs.lemmas.List.{take_min}
 use Rattle.std.proofs.Math.Seq.{take-append-add}
-use Rattle.disk_records.proofs.Growing.{writes-append}
-use Rattle.disk_records.specs.Events.{place_of_write, writes_in}
-use Rattle.disk_records.specs.Tapes.{added, capped}
-use Rattle.disk_records.specs.declared.records.Event.{Event}
-use Rattle.disk_records.specs.declared.records.Event.TheVariants.{Shown, Wrote}
-use Rattle.disk_records.specs.declared.records.Tally.{Tally}
+use Rattle.pack_model.specs.disk_records.proofs.Growing.{writes-append}
+use Rattle.pack_model.specs.disk_records.specs.Events.{place_of_write, writes_in}
+use Rattle.pack_model.specs.disk_records.specs.Tapes.{added, capped}
+use Rattle.pack_model.specs.disk_records.specs.declared.records.Event.{Event}
+use Rattle.pack_model.specs.disk_records.specs.declared.records.Event.TheVariants.{Shown, Wrote}
+use Rattle.pack_model.specs.disk_records.specs.declared.records.Tally.{Tally}
 use Rattle.pack_model.specs.operations.Operations.Move.{commits, mends, quiet}
 use Rattle.pack_model.specs.operations.Operations.{Move, weight_of}
 use Rattle.pack_model.specs.operations.Step.{Operation}

@@ -1,7 +1,7 @@
 -- Hints that may be passed over: the words of a leader page that help to find pages, and the cache of addresses.
 -- Hints in a leader page are those of the SOSP 1979 paper; which words they are, and when they are handy, is this project's choice.
 use Rattle.std.specs.Prelude.{◌≡◌, ◌⊎◌, ℕ, ◌+◌, List, Some, None, All}
-use Rattle.alto_words.specs.declared.fid.Fid.{Fid}
+use Rattle.disk_records.specs.alto_words.specs.declared.fid.Fid.{Fid}
 use Rattle.disk_records.specs.declared.records.Page.{Page}
 use Rattle.disk_records.specs.Words.{word}
 use Rattle.disk_records.specs.Packs.{Pack, sector_at}

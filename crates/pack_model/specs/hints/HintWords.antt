@@ -1,8 +1,8 @@
 -- The hint words of a pack, and packs that differ in them alone.
 -- What is a hint and what can be trusted is from the SOSP 1979 paper; which words and bytes these are is this project's choice.
 use Rattle.std.specs.Prelude.{◌≡◌, ◌⊎◌, ℕ, ◌+◌, ◌*◌, ◌/◌, ◌%◌, ◌≤◌, ◌<◌, true, List, length, drop, get_or, Some, Contains}
-use Rattle.alto_words.specs.declared.fid.Fid.{Fid}
-use Rattle.alto_words.specs.Fid.{is_directory, disk_descriptor}
+use Rattle.disk_records.specs.alto_words.specs.declared.fid.Fid.{Fid}
+use Rattle.disk_records.specs.alto_words.specs.Fid.{is_directory, disk_descriptor}
 use Rattle.disk_records.specs.Packs.{Pack, sector_at}
 use Rattle.pack_model.specs.reading.Bytes.{bytes_of}
 use Rattle.pack_model.specs.reading.Sights.{sights}

@@ -2,8 +2,8 @@
 -- Links of labels to the next and the previous page, as hints, are those of the SOSP 1979 paper; the link at an end is this
 -- project's choice.
 use Rattle.std.specs.Prelude.{◌≡◌, ℕ, suc, true, cond, nat_lt, List, length, get_or, Option, Some, None, All}
-use Rattle.alto_words.specs.declared.fid.Fid.{Fid}
-use Rattle.alto_words.specs.Fid.{is_directory}
+use Rattle.disk_records.specs.alto_words.specs.declared.fid.Fid.{Fid}
+use Rattle.disk_records.specs.alto_words.specs.Fid.{is_directory}
 use Rattle.disk_records.specs.declared.shape.Shape.{Shape}
 use Rattle.disk_records.specs.Addresses.{real_of}
 use Rattle.disk_records.specs.Words.{word}

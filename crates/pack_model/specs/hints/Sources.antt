@@ -1,8 +1,8 @@
 -- Where the address of a file's leader came from.
 -- Addresses that are kept as hints are those of the SOSP 1979 paper; which sources there are is this project's choice.
 use Rattle.std.specs.Prelude.{◌≡◌, ℕ, Some}
-use Rattle.alto_words.specs.declared.fid.Fid.{Fid}
-use Rattle.alto_words.specs.Fid.{sys_dir}
+use Rattle.disk_records.specs.alto_words.specs.declared.fid.Fid.{Fid}
+use Rattle.disk_records.specs.alto_words.specs.Fid.{sys_dir}
 use Rattle.disk_records.specs.declared.records.Place.{Place}
 use Rattle.disk_records.specs.declared.records.Place.TheVariants.{Root, Entry, Next, Held}
 use Rattle.disk_records.specs.Packs.{Pack, carried}

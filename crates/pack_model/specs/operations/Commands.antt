@@ -2,7 +2,7 @@
 -- That a free page is checked before it is claimed is from the SOSP 1979 paper, and that a command which writes a record writes all
 -- later ones from the Alto Hardware Manual; the words are this project's choice.
 use Rattle.std.specs.Prelude.{◌≡◌, ℕ, suc, ◌+◌, ◌-◌, ◌/◌, ◌%◌, true, min, List, [], ◌∷◌, ◌++◌, length, take, drop, get_or, set}
-use Rattle.alto_words.specs.declared.fid.Fid.{Fid}
+use Rattle.disk_records.specs.alto_words.specs.declared.fid.Fid.{Fid}
 use Rattle.disk_records.specs.declared.shape.Shape.{Shape}
 use Rattle.disk_records.specs.declared.records.Event.{Event}
 use Rattle.disk_records.specs.Addresses.{real_of}

@@ -2,8 +2,8 @@
 -- Which record write commits an operation is this project's choice.
 use Rattle.std.specs.Prelude.{◌≡◌, ℕ, suc, ◌+◌, ◌-◌, ◌/◌, ◌==◌, cond, not, List, [], ◌∷◌, ◌++◌, length, replicate, get_or, Option, Some, None}
 use Rattle.std.specs.FinMap.{get}
-use Rattle.alto_words.specs.declared.fid.Fid.{Fid}
-use Rattle.alto_words.specs.Names.{is_same_name}
+use Rattle.disk_records.specs.alto_words.specs.declared.fid.Fid.{Fid}
+use Rattle.disk_records.specs.alto_words.specs.Names.{is_same_name}
 use Rattle.disk_records.specs.declared.records.Event.{Event}
 use Rattle.disk_records.specs.declared.records.Event.TheVariants.{Wrote, Shown}
 use Rattle.disk_records.specs.Packs.{Pack, after}

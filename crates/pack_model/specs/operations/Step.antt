@@ -2,9 +2,9 @@
 -- The operations, and what each does, are this project's choice.
 use Rattle.std.specs.Prelude.{ℕ, ◌||◌, cond, nat_le, List, [], ◌∷◌, ◌++◌, length, take, replicate}
 use Rattle.std.specs.FinMap.{insert, remove}
-use Rattle.alto_words.specs.declared.fid.Fid.{Fid}
-use Rattle.alto_words.specs.Fid.{is_fid, is_directory, serial_of, sys_dir}
-use Rattle.alto_words.specs.Names.{is_same_name}
+use Rattle.disk_records.specs.alto_words.specs.declared.fid.Fid.{Fid}
+use Rattle.disk_records.specs.alto_words.specs.Fid.{is_fid, is_directory, serial_of, sys_dir}
+use Rattle.disk_records.specs.alto_words.specs.Names.{is_same_name}
 use Rattle.pack_model.specs.reading.Bytes.{put_at}
 use Rattle.pack_model.specs.reading.Leaders.{Leader}
 use Rattle.pack_model.specs.sessions.Maps.{map_values, update}

@@ -1,9 +1,9 @@
 -- What a leader page says: its words 0 to 245. The words from 246 on are hints.
 -- A leader page with dates, a name and hints is that of the SOSP 1979 paper; its layout is this project's choice.
 use Rattle.std.specs.Prelude.{ℕ, ◌==◌, ◌&&◌, Bool, cond, List, length, take, drop}
-use Rattle.alto_words.specs.declared.fid.Fid.{Fid}
-use Rattle.alto_words.specs.Fid.{serial_of}
-use Rattle.alto_words.specs.Names.{is_stored_name, lost}
+use Rattle.disk_records.specs.alto_words.specs.declared.fid.Fid.{Fid}
+use Rattle.disk_records.specs.alto_words.specs.Fid.{serial_of}
+use Rattle.disk_records.specs.alto_words.specs.Names.{is_stored_name, lost}
 use Rattle.disk_records.specs.Words.{word, double}
 use Rattle.pack_model.specs.reading.Bytes.{bytes_of}
 

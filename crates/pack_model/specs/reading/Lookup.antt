@@ -1,11 +1,11 @@
 -- The entry that an operand means, where it stands in a directory: its slot, its place and its address.
 -- Versions of names, and which of them a line means, are this project's choice.
 use Rattle.std.specs.Prelude.{◌&&◌, ◌||◌, ℕ, Bool, false, cond, nat_lt, List, fold, Option, Some, None, is_none}
-use Rattle.alto_words.specs.declared.fid.Fid.{Fid}
-use Rattle.alto_words.specs.Fid.{is_directory, is_system}
-use Rattle.alto_words.specs.Names.{is_same_name, version_of}
-use Rattle.alto_words.specs.declared.wanted.Wanted.{Wanted}
-use Rattle.alto_words.specs.declared.wanted.Wanted.TheVariants.{Exact, Newest}
+use Rattle.disk_records.specs.alto_words.specs.declared.fid.Fid.{Fid}
+use Rattle.disk_records.specs.alto_words.specs.Fid.{is_directory, is_system}
+use Rattle.disk_records.specs.alto_words.specs.Names.{is_same_name, version_of}
+use Rattle.disk_records.specs.alto_words.specs.declared.wanted.Wanted.{Wanted}
+use Rattle.disk_records.specs.alto_words.specs.declared.wanted.Wanted.TheVariants.{Exact, Newest}
 use Rattle.pack_model.specs.reading.Slots.{Item}
 use Rattle.pack_model.specs.reading.Slots.Item.{space, entry}
 use Rattle.pack_model.specs.reading.SlotWords.{SlotAt}

@@ -3,8 +3,8 @@
 use Rattle.std.specs.Prelude.{◌≡◌, ℕ, ◌+◌, ◌-◌, true, Bool, cond, nat_le, List, [], ◌∷◌, length}
 use Rattle.std.specs.List.{list_any}
 use Rattle.std.specs.FinMap.{entries, get}
-use Rattle.alto_words.specs.declared.fid.Fid.{Fid}
-use Rattle.alto_words.specs.Fid.{is_fid, sys_dir, disk_descriptor}
+use Rattle.disk_records.specs.alto_words.specs.declared.fid.Fid.{Fid}
+use Rattle.disk_records.specs.alto_words.specs.Fid.{is_fid, sys_dir, disk_descriptor}
 use Rattle.disk_records.specs.declared.shape.Shape.{Shape}
 use Rattle.disk_records.specs.Addresses.{descriptor_length}
 use Rattle.disk_records.specs.Words.{double}

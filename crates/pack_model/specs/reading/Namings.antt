@@ -3,9 +3,9 @@
 use Rattle.std.specs.Prelude.{◌≡◌, ℕ, ◌&&◌, ◌||◌, Bool, true, false, cond, not, codes, List, [], ◌∷◌, ◌++◌}
 use Rattle.std.specs.List.{list_any}
 use Rattle.std.specs.FinMap.{from_entries, entries}
-use Rattle.alto_words.specs.declared.fid.Fid.{Fid}
-use Rattle.alto_words.specs.Fid.{is_fid, is_directory, sys_dir, disk_descriptor}
-use Rattle.alto_words.specs.Names.{is_same_name}
+use Rattle.disk_records.specs.alto_words.specs.declared.fid.Fid.{Fid}
+use Rattle.disk_records.specs.alto_words.specs.Fid.{is_fid, is_directory, sys_dir, disk_descriptor}
+use Rattle.disk_records.specs.alto_words.specs.Names.{is_same_name}
 use Rattle.pack_model.specs.reading.Slots.{Item, item_words}
 use Rattle.pack_model.specs.reading.Slots.Item.{space, entry}
 use Rattle.pack_model.specs.reading.Bodies.{Body, File, Files}

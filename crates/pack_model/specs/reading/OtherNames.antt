@@ -3,9 +3,9 @@
 use Rattle.std.specs.Prelude.{◌≡◌, ℕ, zero, suc, ◌+◌, ◌-◌, ◌<◌, ◌≤◌, ◌==◌, ◌&&◌, Bool, true, cond, nat_le, List, [], ◌∷◌, ◌++◌, length, take, drop, get_or, Option, Some, None}
 use Rattle.std.specs.List.{list_all}
 use Rattle.std.specs.FinMap.{retain_keys}
-use Rattle.alto_words.specs.declared.fid.Fid.{Fid}
-use Rattle.alto_words.specs.Fid.{is_directory, is_full_name, serial_of, sys_dir, disk_descriptor}
-use Rattle.alto_words.specs.Names.{lost}
+use Rattle.disk_records.specs.alto_words.specs.declared.fid.Fid.{Fid}
+use Rattle.disk_records.specs.alto_words.specs.Fid.{is_directory, is_full_name, serial_of, sys_dir, disk_descriptor}
+use Rattle.disk_records.specs.alto_words.specs.Names.{lost}
 use Rattle.disk_records.specs.declared.shape.Shape.{Shape}
 use Rattle.disk_records.specs.declared.records.Sector.{Sector}
 use Rattle.disk_records.specs.Labels.{tag, in_range, is_free}

@@ -3,7 +3,7 @@
 -- Labels whose file, page number and count can be trusted are those of the SOSP 1979 paper; what is in range or free is this
 -- project's choice.
 use Rattle.std.specs.Prelude.{ℕ, zero, suc, Bool, cond, List, [], ◌∷◌, take}
-use Rattle.alto_words.specs.declared.fid.Fid.{Fid}
+use Rattle.disk_records.specs.alto_words.specs.declared.fid.Fid.{Fid}
 use Rattle.disk_records.specs.declared.records.Sector.{Sector}
 use Rattle.disk_records.specs.declared.shape.Shape.{Shape}
 use Rattle.disk_records.specs.Labels.{Tag, tag, in_range, is_free}

@@ -1,7 +1,7 @@
 -- The words that slots are written as, and slots with the addresses that stand in them.
 -- An address beside each full name, as a hint, is that of the SOSP 1979 paper; the layout of slots is this project's choice.
 use Rattle.std.specs.Prelude.{ℕ, ◌+◌, ◌-◌, List, [], ◌∷◌, ◌++◌, length, replicate}
-use Rattle.alto_words.specs.declared.fid.Fid.{Fid}
+use Rattle.disk_records.specs.alto_words.specs.declared.fid.Fid.{Fid}
 use Rattle.disk_records.specs.Words.{word}
 use Rattle.pack_model.specs.reading.Bytes.{words_of}
 use Rattle.pack_model.specs.reading.Slots.{Item, entry_length, item_words}

@@ -2,9 +2,9 @@
 -- A directory of names and full names is that of the SOSP 1979 paper; the layout of slots is this project's choice.
 use Rattle.std.specs.Prelude.{◌≡◌, ℕ, zero, suc, ◌+◌, ◌-◌, ◌/◌, ◌%◌, ◌<◌, ◌≤◌, ◌==◌, ◌&&◌, Bool, cond, nat_le, List, [], ◌∷◌, ◌++◌, length, take, drop, Option, Some, None}
 use Rattle.std.specs.List.{list_all}
-use Rattle.alto_words.specs.declared.fid.Fid.{Fid}
-use Rattle.alto_words.specs.Fid.{is_full_name}
-use Rattle.alto_words.specs.Names.{is_stored_name}
+use Rattle.disk_records.specs.alto_words.specs.declared.fid.Fid.{Fid}
+use Rattle.disk_records.specs.alto_words.specs.Fid.{is_full_name}
+use Rattle.disk_records.specs.alto_words.specs.Names.{is_stored_name}
 use Rattle.disk_records.specs.Words.{word}
 use Rattle.pack_model.specs.reading.Bytes.{bytes_of, words_of}
 

@@ -2,8 +2,8 @@
 -- The files are those that the labels of the SOSP 1979 paper give; this form of them is this project's choice.
 use Rattle.std.specs.Prelude.{ℕ, ◌==◌, List, [], ◌∷◌, Option, find}
 use Rattle.std.specs.FinMap.{FinMap, from_entries, entries}
-use Rattle.alto_words.specs.declared.fid.Fid.{Fid}
-use Rattle.alto_words.specs.Fid.{fid_cmp, serial_of}
+use Rattle.disk_records.specs.alto_words.specs.declared.fid.Fid.{Fid}
+use Rattle.disk_records.specs.alto_words.specs.Fid.{fid_cmp, serial_of}
 use Rattle.disk_records.specs.Packs.{Pack}
 use Rattle.pack_model.specs.reading.Bytes.{put_at}
 use Rattle.pack_model.specs.reading.Leaders.{Leader}

@@ -1,12 +1,12 @@
 -- Entries of one base, and the names that a line means by them.
 -- Versions of names, and which of them a line means, are this project's choice.
 use Rattle.std.specs.Prelude.{ℕ, ◌+◌, ◌&&◌, ◌||◌, Bool, false, cond, nat_lt, List, [], ◌∷◌, Option, Some, None, is_none}
-use Rattle.alto_words.specs.declared.fid.Fid.{Fid}
-use Rattle.alto_words.specs.Fid.{is_directory, is_system}
-use Rattle.alto_words.specs.Names.{is_same_name, base_of, version_of, most_version, with_version}
-use Rattle.alto_words.specs.declared.wanted.Wanted.{Wanted}
-use Rattle.alto_words.specs.declared.wanted.Wanted.TheVariants.{Exact, Newest}
-use Rattle.alto_words.specs.Wanted.{base_wanted}
+use Rattle.disk_records.specs.alto_words.specs.declared.fid.Fid.{Fid}
+use Rattle.disk_records.specs.alto_words.specs.Fid.{is_directory, is_system}
+use Rattle.disk_records.specs.alto_words.specs.Names.{is_same_name, base_of, version_of, most_version, with_version}
+use Rattle.disk_records.specs.alto_words.specs.declared.wanted.Wanted.{Wanted}
+use Rattle.disk_records.specs.alto_words.specs.declared.wanted.Wanted.TheVariants.{Exact, Newest}
+use Rattle.disk_records.specs.alto_words.specs.Wanted.{base_wanted}
 use Rattle.pack_model.specs.reading.Slots.{Item}
 use Rattle.pack_model.specs.reading.Slots.Item.{space, entry}
 

@@ -2,8 +2,8 @@
 -- The Scavenger is that of the SOSP 1979 paper; what it enters, and its room, are this project's choice.
 use Rattle.std.specs.Prelude.{ℕ, suc, ◌+◌, ◌≤◌, Bool, true, cond, List, [], ◌∷◌, ◌++◌, Option, Some, None}
 use Rattle.std.specs.FinMap.{entries, get, insert}
-use Rattle.alto_words.specs.declared.fid.Fid.{Fid}
-use Rattle.alto_words.specs.Fid.{is_system, sys_dir, disk_descriptor}
+use Rattle.disk_records.specs.alto_words.specs.declared.fid.Fid.{Fid}
+use Rattle.disk_records.specs.alto_words.specs.Fid.{is_system, sys_dir, disk_descriptor}
 use Rattle.disk_records.specs.declared.shape.Shape.{Shape}
 use Rattle.pack_model.specs.reading.Sights.{Sight}
 use Rattle.pack_model.specs.reading.Files.{lives}

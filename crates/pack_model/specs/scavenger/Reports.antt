@@ -2,8 +2,8 @@
 -- The Scavenger is that of the SOSP 1979 paper; its report is this project's choice.
 use Rattle.std.specs.Prelude.{◌≡◌, ℕ, ◌+◌, ◌*◌, ◌/◌, ◌==◌, ◌&&◌, ◌||◌, true, Bool, cond, not, max, List, [], ◌∷◌, length}
 use Rattle.std.specs.FinMap.{entries}
-use Rattle.alto_words.specs.declared.fid.Fid.{Fid}
-use Rattle.alto_words.specs.Fid.{serial_of, disk_descriptor}
+use Rattle.disk_records.specs.alto_words.specs.declared.fid.Fid.{Fid}
+use Rattle.disk_records.specs.alto_words.specs.Fid.{serial_of, disk_descriptor}
 use Rattle.disk_records.specs.declared.shape.Shape.{Shape}
 use Rattle.disk_records.specs.Addresses.{disks_of, cylinders_of}
 use Rattle.disk_records.specs.Words.{word}

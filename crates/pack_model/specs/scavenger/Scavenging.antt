@@ -1,7 +1,7 @@
 -- Which packs the Scavenger takes, what it refuses, and what it keeps at every crash point.
 -- The Scavenger is that of the SOSP 1979 paper; what it refuses, and what it keeps at each crash point, are this project's choice.
 use Rattle.std.specs.Prelude.{◌≡◌, ℕ, ◌+◌, ◌≤◌, suc, Bool, true, false, cond, not, nat_le, List, [], ◌∷◌, get_or, Option, Some, None}
-use Rattle.alto_words.specs.Fid.{is_fid, sys_dir, disk_descriptor}
+use Rattle.disk_records.specs.alto_words.specs.Fid.{is_fid, sys_dir, disk_descriptor}
 use Rattle.disk_records.specs.declared.shape.Shape.{Shape}
 use Rattle.disk_records.specs.declared.records.Event.{Event}
 use Rattle.disk_records.specs.Words.{word}

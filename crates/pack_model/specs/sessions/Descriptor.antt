@@ -2,7 +2,7 @@
 -- A descriptor with the shape, and the map as a hint, is that of the SOSP 1979 paper; its layout, the mark and the last serial are
 -- this project's choice.
 use Rattle.std.specs.Prelude.{◌≡◌, ℕ, suc, ◌+◌, ◌*◌, ◌/◌, ◌<◌, ◌==◌, Bool, true, false, cond, not, List, [], ◌∷◌, ◌++◌, length, slice_get, take, drop, replicate, reverse}
-use Rattle.alto_words.specs.Fid.{disk_descriptor}
+use Rattle.disk_records.specs.alto_words.specs.Fid.{disk_descriptor}
 use Rattle.disk_records.specs.declared.shape.Shape.{Shape}
 use Rattle.disk_records.specs.declared.records.Event.{Event}
 use Rattle.disk_records.specs.Addresses.{disks_of, cylinders_of, table_words, descriptor_length}

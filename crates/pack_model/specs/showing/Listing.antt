@@ -5,9 +5,9 @@ use Rattle.std.specs.declared.cmp.Ordering.{Ordering}
 use Rattle.std.specs.Ordering.{then_cmp, on}
 use Rattle.std.specs.Option.{option_map, option_cmp}
 use Rattle.std.specs.FinMap.{from_entries, entries, keys, get}
-use Rattle.alto_words.specs.declared.fid.Fid.{Fid}
-use Rattle.alto_words.specs.Fid.{fid_cmp}
-use Rattle.alto_words.specs.Names.{folded_cmp}
+use Rattle.disk_records.specs.alto_words.specs.declared.fid.Fid.{Fid}
+use Rattle.disk_records.specs.alto_words.specs.Fid.{fid_cmp}
+use Rattle.disk_records.specs.alto_words.specs.Names.{folded_cmp}
 use Rattle.pack_model.specs.reading.Namings.{Naming}
 use Rattle.pack_model.specs.showing.View.{Home, Seen, View}
 

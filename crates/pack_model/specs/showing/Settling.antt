@@ -4,9 +4,9 @@
 use Rattle.std.specs.Prelude.{ℕ, zero, suc, ◌&&◌, ◌||◌, Bool, true, false, cond, List, [], ◌∷◌}
 use Rattle.std.specs.List.{list_any}
 use Rattle.std.specs.FinMap.{FinMap, entries, insert, contains_key}
-use Rattle.alto_words.specs.declared.fid.Fid.{Fid}
-use Rattle.alto_words.specs.Fid.{fid_cmp, is_fid, sys_dir}
-use Rattle.alto_words.specs.Names.{is_same_name, suffixed}
+use Rattle.disk_records.specs.alto_words.specs.declared.fid.Fid.{Fid}
+use Rattle.disk_records.specs.alto_words.specs.Fid.{fid_cmp, is_fid, sys_dir}
+use Rattle.disk_records.specs.alto_words.specs.Names.{is_same_name, suffixed}
 use Rattle.disk_records.specs.Packs.{Pack}
 use Rattle.pack_model.specs.reading.Namings.{sys_dir_name, descriptor_name}
 use Rattle.pack_model.specs.reading.Model.{read_as}

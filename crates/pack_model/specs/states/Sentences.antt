@@ -2,8 +2,8 @@
 -- What a whole pack is, is this project's choice, over the labels of the SOSP 1979 paper.
 use Rattle.std.specs.Prelude.{◌≡◌, ◌⊎◌, ℕ, suc, ◌/◌, ◌≤◌, Bool, true, List, length, get_or, Some}
 use Rattle.std.specs.Option.{is_some}
-use Rattle.alto_words.specs.declared.fid.Fid.{Fid}
-use Rattle.alto_words.specs.Fid.{is_directory, serial_of, sys_dir, disk_descriptor}
+use Rattle.disk_records.specs.alto_words.specs.declared.fid.Fid.{Fid}
+use Rattle.disk_records.specs.alto_words.specs.Fid.{is_directory, serial_of, sys_dir, disk_descriptor}
 use Rattle.disk_records.specs.declared.shape.Shape.{Shape}
 use Rattle.disk_records.specs.Addresses.{descriptor_length}
 use Rattle.disk_records.specs.Packs.{Pack}

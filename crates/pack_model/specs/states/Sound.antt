@@ -1,8 +1,8 @@
 -- Sound packs, and clean ones.
 -- What a sound pack is, and the mark, are this project's choice.
 use Rattle.std.specs.Prelude.{◌≡◌, ℕ, true, List}
-use Rattle.alto_words.specs.declared.fid.Fid.{Fid}
-use Rattle.alto_words.specs.Fid.{disk_descriptor}
+use Rattle.disk_records.specs.alto_words.specs.declared.fid.Fid.{Fid}
+use Rattle.disk_records.specs.alto_words.specs.Fid.{disk_descriptor}
 use Rattle.disk_records.specs.Words.{word}
 use Rattle.disk_records.specs.Packs.{Pack}
 use Rattle.pack_model.specs.reading.Sights.{Sight, sights}

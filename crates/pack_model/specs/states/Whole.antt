@@ -1,8 +1,8 @@
 -- Whole and tidy packs: what the operations keep.
 -- What a whole pack is, is this project's choice, over the labels of the SOSP 1979 paper.
 use Rattle.std.specs.Prelude.{◌≡◌, ◌⊎◌, ℕ, suc, ◌≤◌, Bool, true, cond, nat_lt, List, [], ◌∷◌, length, get_or}
-use Rattle.alto_words.specs.declared.fid.Fid.{Fid}
-use Rattle.alto_words.specs.Fid.{is_fid, is_directory, serial_of, sys_dir, disk_descriptor}
+use Rattle.disk_records.specs.alto_words.specs.declared.fid.Fid.{Fid}
+use Rattle.disk_records.specs.alto_words.specs.Fid.{is_fid, is_directory, serial_of, sys_dir, disk_descriptor}
 use Rattle.disk_records.specs.declared.shape.Shape.{Shape}
 use Rattle.disk_records.specs.Addresses.{disks_of, cylinders_of, table_words, descriptor_length}
 use Rattle.disk_records.specs.Words.{word}

@@ -3,7 +3,7 @@ use Rattle.disk_records.proofs.Looking.{looks_pack, looks_twice}
 use Rattle.disk_records.specs.Packs.{Pack}
 use Rattle.disk_records.specs.Tapes.{pack}
 use Rattle.alto_words.specs.declared.wanted.Wanted.TheVariants.{Exact}
-use Rattle.label_check.specs.declared.errors.PageInfo.{PageInfo}
+use Rattle.file_pages.specs.label_check.specs.declared.errors.PageInfo.{PageInfo}
 use Rattle.pack_model.specs.states.Whole.{Whole}
 use Rattle.page_seeking.specs.Refs.{FileIsFrom, IsOwnHint, MisledBy}
 use Rattle.page_seeking.specs.Seeking.{IsLengthBelow, Quick, Stands, page_number}

@@ -4,7 +4,7 @@ use Rattle.disk_records.proofs.Looking.{looks_none, looks_pack, looks_twice}
 use Rattle.disk_records.specs.Packs.{Pack, carried}
 use Rattle.disk_records.specs.Tapes.{pack}
 use Rattle.hint_cache.specs.Caches.{Cached}
-use Rattle.label_check.specs.declared.errors.PageInfo.{PageInfo}
+use Rattle.file_pages.specs.label_check.specs.declared.errors.PageInfo.{PageInfo}
 use Rattle.pack_model.specs.hints.Links.{LinksTrue, dir_slots}
 use Rattle.pack_model.specs.hints.Misled.{IsOnDisk}
 use Rattle.page_seeking.specs.Refs.{FileIsFrom, FileIsRooted, FileStands, IfBeyond, IsOwnHint, MisledBy}

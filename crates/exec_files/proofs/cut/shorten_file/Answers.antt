@@ -1,6 +1,6 @@
 use Rattle.std.proofs.Common.{List, Ok, Result, [], arith, refl, subst, sym, ◌∙◌, ◌∷◌}
 use Rattle.disk_records.specs.Tapes.{added, pack}
-use Rattle.laws_call.specs.Acting.{around}
+use Rattle.exec_steps.specs.laws_call.specs.Acting.{around}
 use Rattle.pack_model.specs.operations.Step.Operation.{cut}
 use Rattle.pack_model.specs.operations.Step.{Operation}
 use Rattle.exec_session.specs.Meant.{kept}

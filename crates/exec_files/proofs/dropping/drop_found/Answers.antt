@@ -1,7 +1,7 @@
 use Rattle.std.proofs.Common.{Bool, Contains, Err, List, Result, [], arith, refl, subst, sym, ◌∷◌}
 use Rattle.disk_records.proofs.Growing.{alone_twice}
 use Rattle.disk_records.specs.Tapes.{added, pack}
-use Rattle.laws_call.specs.Acting.{Operates, around}
+use Rattle.exec_steps.specs.laws_call.specs.Acting.{Operates, around}
 use Rattle.page_seeking.specs.Refs.{FileStands}
 use Rattle.pack_model.specs.hints.Misled.{AnswersMisled}
 use Rattle.pack_model.specs.operations.Step.Operation.{drop_file}

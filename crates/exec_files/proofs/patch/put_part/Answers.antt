@@ -1,7 +1,7 @@
 use Rattle.std.proofs.Common.{◌+◌, ◌-◌, ◌%◌, ◌∷◌, List, Ok, Err, Result, [], ℕ, arith, inl, length, refl, subst, sym, take}
 use Rattle.std.proofs.lemmas.List.{length-take}
 use Rattle.disk_records.specs.Tapes.{added, pack}
-use Rattle.laws_call.specs.Acting.{around}
+use Rattle.exec_steps.specs.laws_call.specs.Acting.{around}
 use Rattle.pack_model.specs.operations.Step.Operation.{put}
 use Rattle.exec_session.specs.Meant.{kept}
 use Rattle.exec_session.specs.Stops.{stop_written}

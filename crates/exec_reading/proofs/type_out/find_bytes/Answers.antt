@@ -4,7 +4,7 @@ use Rattle.disk_records.specs.Tapes.{pack}
 use Rattle.exec_words.specs.Texts.{type_text}
 use Rattle.exec_words.specs.declared.line.Line.TheVariants as line
 use Rattle.exec_words.specs.declared.line.Target.TheVariants.{ByPath}
-use Rattle.laws_contents.proofs.model.Laws.{model_lengths_are_of_bytes}
+use Rattle.exec_session.specs.laws_contents.proofs.model.Laws.{model_lengths_are_of_bytes}
 use Rattle.page_seeking.proofs.Erring.{on_ok_map}
 use Rattle.page_seeking.specs.Refs.{FileIsFrom, MisledBy}
 use Rattle.page_seeking.specs.Seeking.{Quick, all_listed, file_length}

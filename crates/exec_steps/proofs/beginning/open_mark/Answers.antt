@@ -4,8 +4,8 @@ use Rattle.disk_records.specs.Events.{IsFirstOf}
 use Rattle.disk_records.specs.Tapes.{added, pack}
 use Rattle.disk_records.specs.declared.records.Event.{Event}
 use Rattle.disk_descriptor.specs.Fields.{FitsDisk}
-use Rattle.laws_call.proofs.counts.Laws.{count_of_a_call}
-use Rattle.laws_hint.specs.LineLinks.{opening_writes}
+use Rattle.exec_session.specs.laws_call.proofs.counts.Laws.{count_of_a_call}
+use Rattle.exec_session.specs.laws_hint.specs.LineLinks.{opening_writes}
 use Rattle.exec_session.specs.Meant.{kept}
 use Rattle.exec_steps.proofs.Opening.{found_opened, midway_opened, none_when_open, same_place}
 use Rattle.exec_steps.proofs.beginning.open_mark.Goals as goal

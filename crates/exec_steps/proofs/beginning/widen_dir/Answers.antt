@@ -3,7 +3,7 @@ use Rattle.disk_records.specs.Causes.{HasCause, never}
 use Rattle.disk_records.specs.Tapes.{added, pack}
 use Rattle.directory.specs.Errors.{cause_of}
 use Rattle.directory.specs.declared.errors.DirError.{DirError}
-use Rattle.laws_call.specs.Acting.{around}
+use Rattle.exec_session.specs.laws_call.specs.Acting.{around}
 use Rattle.pack_model.specs.operations.Step.Operation.{widen}
 use Rattle.exec_session.specs.Meant.{kept}
 use Rattle.exec_session.specs.Stops.{stop_entered}

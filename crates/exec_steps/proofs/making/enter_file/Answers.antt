@@ -1,7 +1,7 @@
 use Rattle.std.proofs.Common.{Result, [], arith, refl, subst, sym, ◌∷◌}
 use Rattle.disk_records.specs.Causes.{other}
 use Rattle.disk_records.specs.Tapes.{added, pack}
-use Rattle.laws_call.specs.Acting.{around}
+use Rattle.exec_session.specs.laws_call.specs.Acting.{around}
 use Rattle.pack_model.specs.operations.Step.Operation.{enter}
 use Rattle.exec_session.specs.Meant.{kept}
 use Rattle.exec_session.specs.Stops.{stop_entered}

@@ -1,6 +1,6 @@
 use Rattle.std.proofs.Common.{List, Result, [], arith, refl, subst, sym, ◌∷◌}
 use Rattle.disk_records.specs.Tapes.{added, pack}
-use Rattle.laws_call.specs.Acting.{around}
+use Rattle.exec_session.specs.laws_call.specs.Acting.{around}
 use Rattle.pack_model.specs.operations.Step.Operation.{grow}
 use Rattle.pack_model.specs.operations.Step.{Operation}
 use Rattle.session_model.specs.Streams.{grows}

@@ -1,7 +1,7 @@
 -- The first operations of a line from a sound pack, where the rest isn't done.
 use Rattle.std.proofs.Common.{Bool, List, Some, [], append_assoc, arith, ap, cond, eqb-true, false, length, refl, subst, suc, sym, take, true, ℕ, ◌++◌, ◌<◌, ◌∙◌, ◌∷◌, ◌≡◌}
 use Rattle.std.specs.Prelude.{◌==◌}
-use Rattle.alto_words.specs.Fid.{disk_descriptor}
+use Rattle.laws_room.specs.alto_words.specs.Fid.{disk_descriptor}
 use Rattle.disk_records.specs.Commands.{value_writes}
 use Rattle.disk_records.specs.Packs.{Pack, after, sector_at}
 use Rattle.disk_records.specs.declared.records.Event.{Event}
@@ -16,10 +16,10 @@ use Rattle.pack_model.specs.sessions.Descriptor.{close_moves, data_pages, mark_a
 use Rattle.pack_model.specs.sessions.Meanings.{Mendable, operating, reading, viewing}
 use Rattle.pack_model.specs.sessions.Moves.{IsStartOf, Obeys, rest, write}
 use Rattle.pack_model.specs.states.Sound.{Sound, mark_of, mark_open}
-use Rattle.pack_laws.proofs.Moving.{obeys_first, obeys_then, stands_last, start_after}
-use Rattle.laws_operation.proofs.EnterStages.{views_of}
-use Rattle.laws_operation.proofs.descriptor.Laws.{open_carries_out}
-use Rattle.laws_operation.specs.DescriptorLaws.{OpensMark}
+use Rattle.laws_room.specs.pack_laws.proofs.Moving.{obeys_first, obeys_then, stands_last, start_after}
+use Rattle.laws_room.specs.laws_operation.proofs.EnterStages.{views_of}
+use Rattle.laws_room.specs.laws_operation.proofs.descriptor.Laws.{open_carries_out}
+use Rattle.laws_room.specs.laws_operation.specs.DescriptorLaws.{OpensMark}
 use Rattle.laws_room.proofs.rooms.Laws.{free_is_the_room, sound_needs_nothing}
 use Rattle.laws_line.proofs.inside.Lining.{crashes_of_an_unmarked_line}
 use Rattle.laws_line.proofs.inside.Marked.{open_pack_is_unmarked, opened_unmarked}

@@ -14,15 +14,15 @@ use Rattle.pack_model.specs.operations.Step.{Operation, step}
 use Rattle.pack_model.specs.states.Whole.{Whole}
 use Rattle.laws_line.proofs.inside.ReadyRoom.{ready_has_room}
 use Rattle.laws_line.specs.Ready.{Ready}
-use Rattle.laws_operation.proofs.EnterStages.{views_of}
-use Rattle.laws_operation.specs.NameLaws.{entry_room}
+use Rattle.laws_room.specs.laws_operation.proofs.EnterStages.{views_of}
+use Rattle.laws_room.specs.laws_operation.specs.NameLaws.{entry_room}
 use Rattle.laws_line.proofs.inside.crashes.EnterCuts.{ReadsReady, enter_ready}
 use Rattle.laws_line.proofs.inside.crashes.OneCommit.{Once, Quiets, moves_once}
 use Rattle.laws_line.proofs.inside.crashes.Spared.{enter_leaves_the_system}
 use Rattle.laws_line.proofs.inside.crashes.Still.{Still, still_after, still_throughout, system_still, unmarked_still}
 use Rattle.laws_line.specs.CrashLaws.{CrashesOfAnOperation, CrashesOfEnter}
 use Rattle.laws_line.specs.SystemLaws.{LeavesSystem}
-use Rattle.laws_operation.proofs.enter.Laws.{enter_carries_out}
+use Rattle.laws_room.specs.laws_operation.proofs.enter.Laws.{enter_carries_out}
 use Rattle.laws_room.proofs.marks.Laws.{unmarked_is_unclean}
 use Rattle.laws_room.proofs.rooms.Laws.{scavengeable_by_model}
 

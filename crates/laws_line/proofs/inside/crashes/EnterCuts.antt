@@ -3,7 +3,7 @@ use Rattle.std.proofs.Common.{Bool, List, [], ap, append_assoc, arith, cond, eq-
 use Rattle.std.proofs.lemmas.Bool.{cases_lt}
 use Rattle.std.proofs.lemmas.List.{length-take}
 use Rattle.std.specs.Prelude.{◌==◌}
-use Rattle.alto_words.specs.declared.fid.Fid.{Fid}
+use Rattle.laws_room.specs.alto_words.specs.declared.fid.Fid.{Fid}
 use Rattle.disk_records.proofs.Growing.{after-append}
 use Rattle.disk_records.specs.Commands.{value_writes}
 use Rattle.disk_records.specs.Packs.{Pack, after, sector_at}
@@ -23,16 +23,16 @@ use Rattle.pack_model.specs.reading.Slots.Item.{space}
 use Rattle.pack_model.specs.operations.Step.{step}
 use Rattle.pack_model.specs.operations.Step.Operation.{enter}
 use Rattle.pack_model.specs.states.Whole.{Tidy, Whole}
-use Rattle.laws_record.proofs.Addressing.{LooseIn}
-use Rattle.laws_record.specs.DirLaws.{DirWrite, freed}
+use Rattle.laws_room.specs.laws_record.proofs.Addressing.{LooseIn}
+use Rattle.laws_room.specs.laws_record.specs.DirLaws.{DirWrite, freed}
 use Rattle.laws_line.specs.Ready.{Ready}
-use Rattle.laws_operation.proofs.DirValue.{dir_lead}
-use Rattle.laws_operation.proofs.EnterLaw.{bare, frees, ready_alone, ready_joined as may_joined, same_step, stage}
-use Rattle.laws_operation.proofs.EnterMoves.{values-append}
-use Rattle.laws_operation.proofs.EnterStages.{loose_stage}
-use Rattle.laws_operation.proofs.Entering.{Ready as MayWrite, second_stage, words_within}
-use Rattle.laws_operation.proofs.EntryWrite.{loose_in}
-use Rattle.laws_operation.specs.NameLaws.{MayEnterAt, entry_room}
+use Rattle.laws_room.specs.laws_operation.proofs.DirValue.{dir_lead}
+use Rattle.laws_room.specs.laws_operation.proofs.EnterLaw.{bare, frees, ready_alone, ready_joined as may_joined, same_step, stage}
+use Rattle.laws_room.specs.laws_operation.proofs.EnterMoves.{values-append}
+use Rattle.laws_room.specs.laws_operation.proofs.EnterStages.{loose_stage}
+use Rattle.laws_room.specs.laws_operation.proofs.Entering.{Ready as MayWrite, second_stage, words_within}
+use Rattle.laws_room.specs.laws_operation.proofs.EntryWrite.{loose_in}
+use Rattle.laws_room.specs.laws_operation.specs.NameLaws.{MayEnterAt, entry_room}
 use Rattle.laws_line.proofs.inside.crashes.Rejoined.{ready_joined}
 
 -- a pack that is read as a ready model

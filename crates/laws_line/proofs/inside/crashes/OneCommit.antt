@@ -12,7 +12,7 @@ use Rattle.pack_model.specs.reading.Slots.{entry_length}
 use Rattle.pack_model.specs.states.Sound.{mark_open}
 use Rattle.pack_model.specs.operations.Step.{Operation, step}
 use Rattle.pack_model.specs.operations.Step.Operation.{cut, drop_file, enter, grow, leave, make, put, stamp, title, widen}
-use Rattle.pack_laws.proofs.Moving.{steps-append}
+use Rattle.laws_room.specs.pack_laws.proofs.Moving.{steps-append}
 use Rattle.laws_line.specs.Ready.{steps_of}
 use Rattle.laws_line.specs.PartLaws.{LineMovesLeadToTheModel}
 

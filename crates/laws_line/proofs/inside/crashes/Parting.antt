@@ -7,7 +7,7 @@ use Rattle.pack_model.specs.sessions.Moves.{rest, write}
 use Rattle.pack_model.specs.scavenger.Scavenging.{Throughout}
 use Rattle.pack_model.specs.showing.Settling.{settle}
 use Rattle.pack_model.specs.showing.View.{view}
-use Rattle.laws_record.proofs.Chaining.{at_cut}
+use Rattle.laws_room.specs.laws_record.proofs.Chaining.{at_cut}
 use Rattle.laws_line.specs.PartLaws.{CrashByCrash, CrashesOfBothParts, CrashesOfParts, OperationsAreInSession, ReadAndMendableOperates, ViewedAndMendableInSession, ViewedAndMendableOperates}
 
 -- ---- a property of packs

@@ -5,8 +5,8 @@ use Rattle.std.specs.FinMap.{contains_key, entries, get, get-insert, insert}
 use Rattle.std.specs.List.{list_any}
 use Rattle.std.specs.Option.{is_some}
 use Rattle.std.specs.Prelude.{All}
-use Rattle.alto_words.specs.Fid.{disk_descriptor, is_fid, sys_dir}
-use Rattle.alto_words.specs.declared.fid.Fid.{Fid}
+use Rattle.laws_room.specs.alto_words.specs.Fid.{disk_descriptor, is_fid, sys_dir}
+use Rattle.laws_room.specs.alto_words.specs.declared.fid.Fid.{Fid}
 use Rattle.pack_model.specs.reading.Bodies.{File, Files, body_length, items_in, pages_for}
 use Rattle.pack_model.specs.reading.Leaders.{Leader}
 use Rattle.pack_model.specs.reading.Model.{IsNamed, Model, files_pages, root_items}
@@ -14,12 +14,12 @@ use Rattle.pack_model.specs.reading.Namings.{namings_in}
 use Rattle.pack_model.specs.operations.Rooms.{largest_run, most_free, words_free}
 use Rattle.pack_model.specs.reading.Slots.{Item, all_words, item_words}
 use Rattle.pack_model.specs.reading.Slots.Item.{entry, space}
-use Rattle.pack_laws.proofs.Keys.{fid_total, same_fid}
-use Rattle.laws_record.proofs.Entered.{directory, namings_in-append}
-use Rattle.laws_record.proofs.FilePages.{changed_pages}
+use Rattle.laws_room.specs.pack_laws.proofs.Keys.{fid_total, same_fid}
+use Rattle.laws_room.specs.laws_record.proofs.Entered.{directory, namings_in-append}
+use Rattle.laws_room.specs.laws_record.proofs.FilePages.{changed_pages}
 use Rattle.laws_line.specs.Ready.{Ready}
-use Rattle.laws_operation.proofs.Leaving.{words_alike}
-use Rattle.laws_operation.proofs.OneDirectory.{slots_namings}
+use Rattle.laws_room.specs.laws_operation.proofs.Leaving.{words_alike}
+use Rattle.laws_room.specs.laws_operation.proofs.OneDirectory.{slots_namings}
 
 -- ---- lengths
 -- a file of the same length

@@ -2,8 +2,8 @@
 use Rattle.std.proofs.Common.{Bool, List, None, Option, Some, ap, arith, cond, false, not, refl, subst, sym, true, ◌∙◌, ◌≡◌, ◌≤◌}
 use Rattle.std.specs.FinMap.{contains_key, get}
 use Rattle.std.specs.Option.{is_some, option_map}
-use Rattle.alto_words.specs.Fid.{disk_descriptor, is_fid}
-use Rattle.alto_words.specs.declared.fid.Fid.{Fid}
+use Rattle.laws_room.specs.alto_words.specs.Fid.{disk_descriptor, is_fid}
+use Rattle.laws_room.specs.alto_words.specs.declared.fid.Fid.{Fid}
 use Rattle.disk_records.specs.Packs.{Pack, after}
 use Rattle.disk_records.specs.declared.records.Event.{Event}
 use Rattle.disk_records.specs.declared.shape.Shape.{Shape}
@@ -17,10 +17,10 @@ use Rattle.pack_model.specs.reading.Sights.{Sight, sights}
 use Rattle.pack_model.specs.states.Sound.{Sound}
 use Rattle.pack_model.specs.operations.Step.{Operation}
 use Rattle.pack_model.specs.showing.View.{seen_of}
-use Rattle.pack_laws.proofs.Keys.{same_fid}
-use Rattle.laws_record.proofs.Keeping.{get-where}
-use Rattle.laws_record.proofs.Mending.{get-seen}
-use Rattle.laws_record.proofs.Reading.{get-found, read_file}
+use Rattle.laws_room.specs.pack_laws.proofs.Keys.{same_fid}
+use Rattle.laws_room.specs.laws_record.proofs.Keeping.{get-where}
+use Rattle.laws_room.specs.laws_record.proofs.Mending.{get-seen}
+use Rattle.laws_room.specs.laws_record.proofs.Reading.{get-found, read_file}
 use Rattle.laws_line.proofs.inside.SettledAgain.{settled_after_changes}
 use Rattle.laws_line.proofs.inside.SettledDrop.{settled_after_drop}
 use Rattle.laws_line.proofs.inside.SettledNewFile.{settled_after_new_file}

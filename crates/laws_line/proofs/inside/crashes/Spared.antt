@@ -3,8 +3,8 @@ use Rattle.std.proofs.Common.{Bool, List, None, Some, [], ap, arith, cond, eq-eq
 use Rattle.std.proofs.lemmas.Bool.{cases_lt, or_parts}
 use Rattle.std.proofs.lemmas.List.Elements.{All-append, All-nil}
 use Rattle.std.specs.Prelude.{◌==◌}
-use Rattle.alto_words.specs.Fid.{disk_descriptor, is_directory, is_fid, sys_dir}
-use Rattle.alto_words.specs.declared.fid.Fid.{Fid}
+use Rattle.laws_room.specs.alto_words.specs.Fid.{disk_descriptor, is_directory, is_fid, sys_dir}
+use Rattle.laws_room.specs.alto_words.specs.declared.fid.Fid.{Fid}
 use Rattle.disk_records.specs.Commands.{claim_writes, relabel_writes, release_writes, value_writes}
 use Rattle.disk_records.specs.Labels.{Tag, in_range, page_of, tag}
 use Rattle.disk_records.specs.Packs.{Pack, sector_at}
@@ -22,12 +22,12 @@ use Rattle.pack_model.specs.reading.Sights.{Sight, sights}
 use Rattle.pack_model.specs.reading.Sights.Sight.{free, hidden, holds}
 use Rattle.pack_model.specs.reading.Slots.{all_words}
 use Rattle.pack_model.specs.states.Whole.{Whole}
-use Rattle.pack_laws.proofs.Keys.{same_fid}
-use Rattle.laws_record.proofs.Copying.{place_carried}
-use Rattle.laws_record.proofs.DirReads.{not_descriptor}
-use Rattle.laws_operation.proofs.EnterMoves.{values-append}
-use Rattle.laws_operation.proofs.Lying.{shows_set, within}
-use Rattle.laws_operation.specs.NameLaws.{entry_room}
+use Rattle.laws_room.specs.pack_laws.proofs.Keys.{same_fid}
+use Rattle.laws_room.specs.laws_record.proofs.Copying.{place_carried}
+use Rattle.laws_room.specs.laws_record.proofs.DirReads.{not_descriptor}
+use Rattle.laws_room.specs.laws_operation.proofs.EnterMoves.{values-append}
+use Rattle.laws_room.specs.laws_operation.proofs.Lying.{shows_set, within}
+use Rattle.laws_room.specs.laws_operation.specs.NameLaws.{entry_room}
 use Rattle.laws_line.proofs.inside.crashes.Sparing.{IsElse, claim_spares, names_else, reclaim_spares, relabel_spares, release_spares, releases_spare, shown_free, value_alone}
 use Rattle.laws_line.specs.SystemLaws.{CutLeavesTheSystem, DropLeavesTheSystem, EnterLeavesTheSystem, GrowLeavesTheSystem, LeaderLeavesTheSystem, MakeLeavesTheSystem, PutLeavesTheSystem, ReleaseLeavesTheSystem, SlotLeavesTheSystem, LeavesSystem, LeavesSystemAt, WidenLeavesTheSystem}
 

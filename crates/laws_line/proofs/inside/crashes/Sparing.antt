@@ -1,8 +1,8 @@
 -- Record writes in sectors of other pages than SysDir's leader and DiskDescriptor's: they leave both alone.
 use Rattle.std.proofs.Common.{List, None, Some, [], ap, arith, cond, false, get_or, inl, inr, refl, suc, sym, true, ℕ, ◌<◌, ◌∙◌, ◌∷◌, ◌≡◌, ◌≢◌, ◌⊎◌}
 use Rattle.std.proofs.lemmas.List.Elements.{All-append, All-cons, All-nil}
-use Rattle.alto_words.specs.Fid.{disk_descriptor, is_fid, sys_dir}
-use Rattle.alto_words.specs.declared.fid.Fid.{Fid}
+use Rattle.laws_room.specs.alto_words.specs.Fid.{disk_descriptor, is_fid, sys_dir}
+use Rattle.laws_room.specs.alto_words.specs.declared.fid.Fid.{Fid}
 use Rattle.disk_records.specs.Commands.{claim_writes, ones, release_writes, relabel_writes, value_writes}
 use Rattle.disk_records.specs.Labels.{is_free, page_of, tag}
 use Rattle.disk_records.specs.Packs.{Pack, carried, is_free_at, sector_at}
@@ -15,14 +15,14 @@ use Rattle.pack_model.specs.operations.PageWords.{page_number}
 use Rattle.pack_model.specs.reading.Sights.{sights}
 use Rattle.pack_model.specs.reading.Sights.Sight.{free, hidden, leads}
 use Rattle.pack_model.specs.operations.Commands.{releases_writes}
-use Rattle.pack_laws.proofs.Carrying.{carried_shown}
-use Rattle.pack_laws.proofs.Guarding.{carried_parts, free_parts, free_unnamed}
-use Rattle.pack_laws.proofs.Keys.{is_fid-itself}
-use Rattle.laws_record.proofs.Copying.{place_carried}
-use Rattle.laws_record.proofs.Recording.{free_sight}
-use Rattle.laws_operation.proofs.Commanding.{ones_none}
-use Rattle.laws_operation.proofs.Showing.{free_is, is_here, usable_is}
-use Rattle.laws_operation.specs.ByteLaws.{Bear}
+use Rattle.laws_room.specs.pack_laws.proofs.Carrying.{carried_shown}
+use Rattle.laws_room.specs.pack_laws.proofs.Guarding.{carried_parts, free_parts, free_unnamed}
+use Rattle.laws_room.specs.pack_laws.proofs.Keys.{is_fid-itself}
+use Rattle.laws_room.specs.laws_record.proofs.Copying.{place_carried}
+use Rattle.laws_room.specs.laws_record.proofs.Recording.{free_sight}
+use Rattle.laws_room.specs.laws_operation.proofs.Commanding.{ones_none}
+use Rattle.laws_room.specs.laws_operation.proofs.Showing.{free_is, is_here, usable_is}
+use Rattle.laws_room.specs.laws_operation.specs.ByteLaws.{Bear}
 use Rattle.laws_line.specs.SystemLaws.{LeavesSystem, RecordLeavesSystem, LeavesSystemAt}
 
 -- a page of another file than DiskDescriptor, and not SysDir's leader

@@ -7,17 +7,17 @@ use Rattle.pack_model.specs.operations.PageWords.{freed_value}
 use Rattle.pack_model.specs.reading.Slots.{all_words, item_words}
 use Rattle.pack_model.specs.reading.Slots.Item.{entry}
 use Rattle.pack_model.specs.operations.Step.Operation.{cut, drop_file, grow, leave, make, put, stamp, title, widen}
-use Rattle.laws_operation.proofs.Cutting.{cut_law}
-use Rattle.laws_operation.proofs.Grown.{grow_law}
-use Rattle.laws_operation.proofs.Leaving.{leave_law}
-use Rattle.laws_operation.proofs.Making.{make_law}
-use Rattle.laws_operation.proofs.OneValue.{put_law, stamp_law, title_law}
-use Rattle.laws_operation.proofs.Widening.{widen_law}
-use Rattle.laws_operation.specs.LeaderLaws.{stamped, titled}
+use Rattle.laws_room.specs.laws_operation.proofs.Cutting.{cut_law}
+use Rattle.laws_room.specs.laws_operation.proofs.Grown.{grow_law}
+use Rattle.laws_room.specs.laws_operation.proofs.Leaving.{leave_law}
+use Rattle.laws_room.specs.laws_operation.proofs.Making.{make_law}
+use Rattle.laws_room.specs.laws_operation.proofs.OneValue.{put_law, stamp_law, title_law}
+use Rattle.laws_room.specs.laws_operation.proofs.Widening.{widen_law}
+use Rattle.laws_room.specs.laws_operation.specs.LeaderLaws.{stamped, titled}
 use Rattle.laws_line.proofs.inside.crashes.Cutting.{crashes_of_an_operation}
 use Rattle.laws_line.proofs.inside.crashes.Spared.{cut_leaves_the_system, drop_leaves_the_system, grow_leaves_the_system, leader_leaves_the_system, make_leaves_the_system, put_leaves_the_system, slot_leaves_the_system, widen_leaves_the_system}
 use Rattle.laws_line.specs.EachLaws.{CrashesOfEachOperation}
-use Rattle.laws_operation.proofs.drop.Laws.{drop_carries_out}
+use Rattle.laws_room.specs.laws_operation.proofs.drop.Laws.{drop_carries_out}
 
 pub crashes_of_each_operation : CrashesOfEachOperation
 crashes_of_each_operation p w t = record {

@@ -4,7 +4,7 @@ use Rattle.std.proofs.Math.ListN.{length-set}
 use Rattle.std.proofs.lemmas.Bool.{eqb-false}
 use Rattle.std.proofs.lemmas.List.Elements.{All-head, All-tail}
 use Rattle.std.specs.Option.{is_some}
-use Rattle.alto_words.specs.Fid.{disk_descriptor, is_fid, sys_dir}
+use Rattle.laws_room.specs.alto_words.specs.Fid.{disk_descriptor, is_fid, sys_dir}
 use Rattle.disk_records.specs.Labels.{page_of}
 use Rattle.disk_records.specs.Packs.{Pack, after, carried, is_usable, sector_at, with_part}
 use Rattle.disk_records.specs.Words.{word}
@@ -18,14 +18,14 @@ use Rattle.pack_model.specs.scavenger.Scavenging.{Throughout, Unmarked}
 use Rattle.pack_model.specs.reading.Sights.{sights}
 use Rattle.pack_model.specs.states.Whole.{Whole}
 use Rattle.laws_room.specs.MarkLaws.{mark_page}
-use Rattle.pack_laws.proofs.Guarding.{carried_parts, here_written, other_kept, usable_within, value_page}
-use Rattle.pack_laws.proofs.Placing.{leader_of_place, place_of_leader}
-use Rattle.laws_record.proofs.Copying.{place_carried}
-use Rattle.laws_record.proofs.Recording.{carried_sight}
+use Rattle.laws_room.specs.pack_laws.proofs.Guarding.{carried_parts, here_written, other_kept, usable_within, value_page}
+use Rattle.laws_room.specs.pack_laws.proofs.Placing.{leader_of_place, place_of_leader}
+use Rattle.laws_room.specs.laws_record.proofs.Copying.{place_carried}
+use Rattle.laws_room.specs.laws_record.proofs.Recording.{carried_sight}
 use Rattle.laws_room.specs.RoomLaws.{SystemStands}
 use Rattle.laws_line.proofs.inside.crashes.Sparing.{root_carried}
 use Rattle.laws_line.specs.SystemLaws.{LeavesSystem, RecordLeavesSystem, LeavesSystemAt}
-use Rattle.pack_laws.proofs.files.Laws.{places_are_lowest}
+use Rattle.laws_room.specs.pack_laws.proofs.files.Laws.{places_are_lowest}
 
 -- Sector 1 and each sector with a page of DiskDescriptor are as they were, and no other has one.
 pub record Still (p q : Pack) : Type 0 where

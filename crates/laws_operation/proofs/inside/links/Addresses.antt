@@ -1,18 +1,18 @@
 -- The addresses of entries in the words of a directory.
 use Rattle.std.proofs.Common.{All, List, Some, [], cond, arith, false, length, refl, subst, sym, true, ℕ, ◌++◌, ◌+◌, ◌<◌, ◌∷◌, ◌≡◌, ◌≤◌, suc, zero}
 use Rattle.std.proofs.lemmas.List.Elements.{All-cons, All-head, All-nil, All-tail}
-use Rattle.alto_words.specs.Fid.{is_fid}
-use Rattle.alto_words.specs.declared.fid.Fid.{Fid}
-use Rattle.disk_records.specs.Words.{word}
-use Rattle.pack_model.specs.reading.Files.{place}
-use Rattle.pack_model.specs.hints.Links.{IsTrueAddress}
-use Rattle.pack_model.specs.operations.Rooms.{left_over}
-use Rattle.pack_model.specs.reading.Sights.{Sight}
-use Rattle.pack_model.specs.reading.SlotWords.{SlotAt, address_at, slots_at}
-use Rattle.pack_model.specs.reading.Slots.{Item, all_words, item_words}
-use Rattle.pack_model.specs.reading.Slots.Item.{entry, space}
-use Rattle.pack_model.specs.operations.Step.{items_without}
-use Rattle.laws_record.proofs.Addressing.{entry_words_many}
+use Rattle.laws_contents.specs.alto_words.specs.Fid.{is_fid}
+use Rattle.laws_contents.specs.alto_words.specs.declared.fid.Fid.{Fid}
+use Rattle.laws_contents.specs.disk_records.specs.Words.{word}
+use Rattle.laws_contents.specs.pack_model.specs.reading.Files.{place}
+use Rattle.laws_contents.specs.pack_model.specs.hints.Links.{IsTrueAddress}
+use Rattle.laws_contents.specs.pack_model.specs.operations.Rooms.{left_over}
+use Rattle.laws_contents.specs.pack_model.specs.reading.Sights.{Sight}
+use Rattle.laws_contents.specs.pack_model.specs.reading.SlotWords.{SlotAt, address_at, slots_at}
+use Rattle.laws_contents.specs.pack_model.specs.reading.Slots.{Item, all_words, item_words}
+use Rattle.laws_contents.specs.pack_model.specs.reading.Slots.Item.{entry, space}
+use Rattle.laws_contents.specs.pack_model.specs.operations.Step.{items_without}
+use Rattle.laws_contents.specs.laws_record.proofs.Addressing.{entry_words_many}
 
 -- the addresses of these slots, which begin with this word, are true
 abbrev pub AllTrue : List Sight → List ℕ → ℕ → List Item → Type 0

@@ -1,18 +1,18 @@
 -- A free sector gets a page: its value, its label, and its value again.
 use Rattle.std.proofs.Common.{List, Some, [], ap, false, get_or, inl, inr, sym, true, ℕ, ◌&&◌, ◌∙◌, ◌∷◌, ◌≡◌, ◌⊎◌}
 use Rattle.std.specs.Prelude.{nat_lt}
-use Rattle.alto_words.specs.declared.fid.Fid.{Fid}
-use Rattle.disk_records.specs.Addresses.{is_right_header}
-use Rattle.disk_records.specs.Commands.{claim_writes}
-use Rattle.disk_records.specs.Labels.{page_of}
-use Rattle.disk_records.specs.Packs.{Pack, after, carried, is_usable, sector_at}
-use Rattle.disk_records.specs.declared.records.Event.TheVariants.{Wrote}
-use Rattle.disk_records.specs.declared.records.Page.{Page}
-use Rattle.pack_model.specs.reading.Files.{carries_page}
-use Rattle.pack_model.specs.reading.Sights.{sights}
-use Rattle.pack_model.specs.reading.Sights.Sight.{free, hidden}
-use Rattle.pack_laws.proofs.Guarding.{front_from, usable_within, value_page}
-use Rattle.laws_record.proofs.Carried.{carried_shows}
+use Rattle.laws_contents.specs.alto_words.specs.declared.fid.Fid.{Fid}
+use Rattle.laws_contents.specs.disk_records.specs.Addresses.{is_right_header}
+use Rattle.laws_contents.specs.disk_records.specs.Commands.{claim_writes}
+use Rattle.laws_contents.specs.disk_records.specs.Labels.{page_of}
+use Rattle.laws_contents.specs.disk_records.specs.Packs.{Pack, after, carried, is_usable, sector_at}
+use Rattle.laws_contents.specs.disk_records.specs.declared.records.Event.TheVariants.{Wrote}
+use Rattle.laws_contents.specs.disk_records.specs.declared.records.Page.{Page}
+use Rattle.laws_contents.specs.pack_model.specs.reading.Files.{carries_page}
+use Rattle.laws_contents.specs.pack_model.specs.reading.Sights.{sights}
+use Rattle.laws_contents.specs.pack_model.specs.reading.Sights.Sight.{free, hidden}
+use Rattle.laws_contents.specs.pack_laws.proofs.Guarding.{front_from, usable_within, value_page}
+use Rattle.laws_contents.specs.laws_record.proofs.Carried.{carried_shows}
 use Rattle.laws_operation.proofs.inside.links.Framing.{AllConcern, OfOne}
 use Rattle.laws_operation.proofs.inside.links.Relabelled.{relabel_carried, relabel_concern, relabel_here, relabel_label}
 

@@ -2,26 +2,26 @@
 use Rattle.std.proofs.Common.{Bool, List, None, Option, Some, ap, false, get_or, refl, subst, suc, sym, true, ℕ, ◌∙◌, ◌≡◌}
 use Rattle.std.specs.Option.{is_some}
 use mathlib.Core.Path.{fun_ext}
-use Rattle.alto_words.specs.Fid.{is_directory, is_fid}
-use Rattle.alto_words.specs.declared.fid.Fid.{Fid}
-use Rattle.disk_records.specs.Labels.{tag}
-use Rattle.disk_records.specs.Packs.{Pack, after, carried, sector_at}
-use Rattle.disk_records.specs.declared.records.Event.{Event}
-use Rattle.disk_records.specs.declared.records.Page.{Page}
-use Rattle.pack_model.specs.reading.Bytes.{words_of}
-use Rattle.pack_model.specs.reading.Files.{file_bytes, joined, lives, most_pages, page, place}
-use Rattle.pack_model.specs.hints.Links.{EntryAddresses, dir_words}
-use Rattle.pack_model.specs.reading.Model.{dir_items, read_as}
-use Rattle.pack_model.specs.operations.PageWords.{page_number}
-use Rattle.pack_model.specs.reading.Sights.{Sight, page_sight, sights}
-use Rattle.pack_model.specs.reading.Sights.Sight.{hidden, holds}
-use Rattle.pack_model.specs.reading.Slots.{slots}
-use Rattle.pack_model.specs.states.Whole.{Tidy, Whole}
-use Rattle.pack_laws.proofs.Keys.{same_fid}
-use Rattle.pack_laws.proofs.Placing.{leader_of_place, no_page, page_of_place, place_of_leader}
-use Rattle.laws_record.proofs.Copying.{place_carried}
-use Rattle.laws_record.proofs.DirReads.{has_leader}
-use Rattle.laws_record.proofs.Recording.{carried_sight}
+use Rattle.laws_contents.specs.alto_words.specs.Fid.{is_directory, is_fid}
+use Rattle.laws_contents.specs.alto_words.specs.declared.fid.Fid.{Fid}
+use Rattle.laws_contents.specs.disk_records.specs.Labels.{tag}
+use Rattle.laws_contents.specs.disk_records.specs.Packs.{Pack, after, carried, sector_at}
+use Rattle.laws_contents.specs.disk_records.specs.declared.records.Event.{Event}
+use Rattle.laws_contents.specs.disk_records.specs.declared.records.Page.{Page}
+use Rattle.laws_contents.specs.pack_model.specs.reading.Bytes.{words_of}
+use Rattle.laws_contents.specs.pack_model.specs.reading.Files.{file_bytes, joined, lives, most_pages, page, place}
+use Rattle.laws_contents.specs.pack_model.specs.hints.Links.{EntryAddresses, dir_words}
+use Rattle.laws_contents.specs.pack_model.specs.reading.Model.{dir_items, read_as}
+use Rattle.laws_contents.specs.pack_model.specs.operations.PageWords.{page_number}
+use Rattle.laws_contents.specs.pack_model.specs.reading.Sights.{Sight, page_sight, sights}
+use Rattle.laws_contents.specs.pack_model.specs.reading.Sights.Sight.{hidden, holds}
+use Rattle.laws_contents.specs.pack_model.specs.reading.Slots.{slots}
+use Rattle.laws_contents.specs.pack_model.specs.states.Whole.{Tidy, Whole}
+use Rattle.laws_contents.specs.pack_laws.proofs.Keys.{same_fid}
+use Rattle.laws_contents.specs.pack_laws.proofs.Placing.{leader_of_place, no_page, page_of_place, place_of_leader}
+use Rattle.laws_contents.specs.laws_record.proofs.Copying.{place_carried}
+use Rattle.laws_contents.specs.laws_record.proofs.DirReads.{has_leader}
+use Rattle.laws_contents.specs.laws_record.proofs.Recording.{carried_sight}
 use Rattle.laws_operation.proofs.EnterLaw.{items_are}
 use Rattle.laws_operation.proofs.inside.links.Addresses.{AllTrue, from_slots, to_slots, true_more}
 use Rattle.laws_operation.proofs.inside.links.Framing.{AllConcern, other_place, other_sector}

@@ -2,28 +2,28 @@
 use Rattle.std.proofs.Common.{List, None, Option, Some, ap, cond, false, inl, inr, refl, subst, suc, sym, true, zero, ℕ, ◌∙◌, ◌∷◌, ◌≡◌}
 use Rattle.std.specs.FinMap.{get, get-remove, remove}
 use Rattle.std.specs.Option.{option_map}
-use Rattle.alto_words.specs.Fid.{is_fid}
-use Rattle.alto_words.specs.declared.fid.Fid.{Fid}
-use Rattle.disk_records.specs.Packs.{Pack, after}
-use Rattle.disk_records.specs.declared.records.Event.{Event}
-use Rattle.pack_model.specs.reading.Bodies.{Body, File, body_items, items_in}
-use Rattle.pack_model.specs.reading.Bodies.Body.{data_of, items_of}
-use Rattle.pack_model.specs.reading.Bytes.{words_of}
-use Rattle.pack_model.specs.reading.Files.{place}
-use Rattle.pack_model.specs.hints.Links.{dir_words}
-use Rattle.pack_model.specs.reading.Model.{Model, dir_items, read_as}
-use Rattle.pack_model.specs.operations.Operations.{release_file_writes}
-use Rattle.pack_model.specs.operations.PageWords.{page_number}
-use Rattle.pack_model.specs.reading.Sights.{Sight, sights}
-use Rattle.pack_model.specs.reading.Sights.Sight.{hidden}
-use Rattle.pack_model.specs.operations.Step.{body_without, file_without, items_without, step}
-use Rattle.pack_model.specs.operations.Step.Operation.{drop_file}
-use Rattle.pack_model.specs.states.Whole.{FileWhole, Headless, Whole, absent, present}
-use Rattle.pack_laws.proofs.Keys.{fid_same, fid_total, same_fid}
-use Rattle.pack_laws.proofs.Mapping.{get-map_values}
-use Rattle.pack_laws.proofs.Placing.{leader_of_place, page_of_place, place_of_leader}
-use Rattle.laws_record.proofs.Copying.{place_carried}
-use Rattle.laws_record.proofs.DirReads.{has_leader}
+use Rattle.laws_contents.specs.alto_words.specs.Fid.{is_fid}
+use Rattle.laws_contents.specs.alto_words.specs.declared.fid.Fid.{Fid}
+use Rattle.laws_contents.specs.disk_records.specs.Packs.{Pack, after}
+use Rattle.laws_contents.specs.disk_records.specs.declared.records.Event.{Event}
+use Rattle.laws_contents.specs.pack_model.specs.reading.Bodies.{Body, File, body_items, items_in}
+use Rattle.laws_contents.specs.pack_model.specs.reading.Bodies.Body.{data_of, items_of}
+use Rattle.laws_contents.specs.pack_model.specs.reading.Bytes.{words_of}
+use Rattle.laws_contents.specs.pack_model.specs.reading.Files.{place}
+use Rattle.laws_contents.specs.pack_model.specs.hints.Links.{dir_words}
+use Rattle.laws_contents.specs.pack_model.specs.reading.Model.{Model, dir_items, read_as}
+use Rattle.laws_contents.specs.pack_model.specs.operations.Operations.{release_file_writes}
+use Rattle.laws_contents.specs.pack_model.specs.operations.PageWords.{page_number}
+use Rattle.laws_contents.specs.pack_model.specs.reading.Sights.{Sight, sights}
+use Rattle.laws_contents.specs.pack_model.specs.reading.Sights.Sight.{hidden}
+use Rattle.laws_contents.specs.pack_model.specs.operations.Step.{body_without, file_without, items_without, step}
+use Rattle.laws_contents.specs.pack_model.specs.operations.Step.Operation.{drop_file}
+use Rattle.laws_contents.specs.pack_model.specs.states.Whole.{FileWhole, Headless, Whole, absent, present}
+use Rattle.laws_contents.specs.pack_laws.proofs.Keys.{fid_same, fid_total, same_fid}
+use Rattle.laws_contents.specs.pack_laws.proofs.Mapping.{get-map_values}
+use Rattle.laws_contents.specs.pack_laws.proofs.Placing.{leader_of_place, page_of_place, place_of_leader}
+use Rattle.laws_contents.specs.laws_record.proofs.Copying.{place_carried}
+use Rattle.laws_contents.specs.laws_record.proofs.DirReads.{has_leader}
 use Rattle.laws_operation.proofs.Dropped.{release_law}
 use Rattle.laws_operation.specs.LifeLaws.{MayDrop}
 use Rattle.laws_operation.proofs.inside.links.Addresses.{AllTrue, true_without}

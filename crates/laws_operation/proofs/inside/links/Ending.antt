@@ -1,14 +1,14 @@
 -- A page that isn't full is the last of a whole file.
 use Rattle.std.proofs.Common.{List, Some, [], ap, arith, get_or, inl, inr, length, suc, true, ℕ, ◌++◌, ◌<◌, ◌∙◌, ◌∷◌, ◌≡◌}
 use Rattle.std.specs.Prelude.{nat_lt}
-use Rattle.alto_words.specs.declared.fid.Fid.{Fid}
-use Rattle.pack_model.specs.reading.Files.{place}
-use Rattle.pack_model.specs.reading.Sights.{Sight}
-use Rattle.pack_model.specs.reading.Sights.Sight.{hidden, holds}
-use Rattle.pack_model.specs.states.Whole.{FileWhole}
-use Rattle.pack_laws.proofs.Placing.{page_of_place}
+use Rattle.laws_contents.specs.alto_words.specs.declared.fid.Fid.{Fid}
+use Rattle.laws_contents.specs.pack_model.specs.reading.Files.{place}
+use Rattle.laws_contents.specs.pack_model.specs.reading.Sights.{Sight}
+use Rattle.laws_contents.specs.pack_model.specs.reading.Sights.Sight.{hidden, holds}
+use Rattle.laws_contents.specs.pack_model.specs.states.Whole.{FileWhole}
+use Rattle.laws_contents.specs.pack_laws.proofs.Placing.{page_of_place}
 use Rattle.laws_operation.proofs.Changing.{length-one, seat_of}
-use Rattle.laws_record.proofs.Seats.{seat_range}
+use Rattle.laws_contents.specs.laws_record.proofs.Seats.{seat_range}
 use Rattle.laws_operation.proofs.Seating.{laid_back}
 use Rattle.laws_operation.proofs.inside.Growing.{laid_last}
 

@@ -2,21 +2,21 @@
 use Rattle.std.proofs.Common.{Bool, List, Some, [], add-one, ap, arith, cond, eqb-true, eq-eqb, false, get_or-drop, get_or-take, inl, inr, length, length-drop, length-take, min, refl, subst, suc, sym, true, ℕ, ◌+◌, ◌-◌, ◌/◌, ◌<◌, ◌==◌, ◌∙◌, ◌∷◌, ◌≡◌, ◌≢◌, ◌≤◌}
 use Rattle.std.proofs.lemmas.Bool.{cases_lt}
 use Rattle.std.specs.Option.{is_some}
-use Rattle.alto_words.specs.Fid.{is_directory}
-use Rattle.alto_words.specs.declared.fid.Fid.{Fid}
-use Rattle.disk_records.specs.Packs.{Pack, after, sector_at}
-use Rattle.disk_records.specs.Words.{word}
-use Rattle.pack_model.specs.reading.Bytes.{put_at}
-use Rattle.pack_model.specs.operations.Commands.{values_writes}
-use Rattle.pack_model.specs.operations.Committing.{page_of_word}
-use Rattle.pack_model.specs.reading.Files.{lives, place}
-use Rattle.pack_model.specs.hints.Links.{dir_words}
-use Rattle.pack_model.specs.operations.PageWords.{freed_value, in_page, later, near}
-use Rattle.pack_model.specs.reading.Sights.{sights}
-use Rattle.pack_laws.proofs.Bytes.{length-put_at}
-use Rattle.laws_record.proofs.DirWords.{dir_change}
-use Rattle.laws_record.proofs.Slotwise.{put_before, put_after, put_here}
-use Rattle.laws_record.specs.DirLaws.{DirWrite, dir_written}
+use Rattle.laws_contents.specs.alto_words.specs.Fid.{is_directory}
+use Rattle.laws_contents.specs.alto_words.specs.declared.fid.Fid.{Fid}
+use Rattle.laws_contents.specs.disk_records.specs.Packs.{Pack, after, sector_at}
+use Rattle.laws_contents.specs.disk_records.specs.Words.{word}
+use Rattle.laws_contents.specs.pack_model.specs.reading.Bytes.{put_at}
+use Rattle.laws_contents.specs.pack_model.specs.operations.Commands.{values_writes}
+use Rattle.laws_contents.specs.pack_model.specs.operations.Committing.{page_of_word}
+use Rattle.laws_contents.specs.pack_model.specs.reading.Files.{lives, place}
+use Rattle.laws_contents.specs.pack_model.specs.hints.Links.{dir_words}
+use Rattle.laws_contents.specs.pack_model.specs.operations.PageWords.{freed_value, in_page, later, near}
+use Rattle.laws_contents.specs.pack_model.specs.reading.Sights.{sights}
+use Rattle.laws_contents.specs.pack_laws.proofs.Bytes.{length-put_at}
+use Rattle.laws_contents.specs.laws_record.proofs.DirWords.{dir_change}
+use Rattle.laws_contents.specs.laws_record.proofs.Slotwise.{put_before, put_after, put_here}
+use Rattle.laws_contents.specs.laws_record.specs.DirLaws.{DirWrite, dir_written}
 use Rattle.laws_operation.proofs.Entering.{sector_still}
 
 -- Where words go in a directory: so many words from one on, and the sectors of the page where they begin and of the next one.

@@ -1,40 +1,40 @@
 -- An entering: the address of the file's leader comes with its entry.
 use Rattle.std.proofs.Common.{List, Some, [], ap, arith, cond, false, get_or, length, refl, subst, suc, sym, ℕ, ◌++◌, ◌+◌, ◌-◌, ◌<◌, ◌==◌, ◌∙◌, ◌∷◌, ◌≡◌, ◌≤◌}
 use Rattle.std.specs.FinMap.{get, get-insert}
-use Rattle.alto_words.specs.declared.fid.Fid.{Fid}
-use Rattle.disk_records.proofs.Growing.{after-append}
-use Rattle.disk_records.specs.Commands.{value_writes}
-use Rattle.disk_records.specs.Packs.{Pack, after, sector_at}
-use Rattle.disk_records.specs.Words.{word}
-use Rattle.pack_model.specs.reading.Bodies.{items_in}
-use Rattle.pack_model.specs.reading.Bodies.Body.{data_of, items_of}
-use Rattle.pack_model.specs.reading.Bytes.{put_at}
-use Rattle.pack_model.specs.operations.Commands.{values_writes}
-use Rattle.pack_model.specs.operations.Committing.{page_of_word}
-use Rattle.pack_model.specs.operations.Entering.{EntryRoom, entry_value, after_joining, joining, overlapping, values_first}
-use Rattle.pack_model.specs.reading.Files.{file_bytes, place}
-use Rattle.pack_model.specs.reading.Leaders.{Leader}
-use Rattle.pack_model.specs.hints.Links.{LinksTrue, dir_words}
-use Rattle.pack_model.specs.reading.Model.{Model, dir_items, read_as}
-use Rattle.pack_model.specs.operations.Operations.{enter_writes}
-use Rattle.pack_model.specs.operations.PageWords.{freed_value, in_page, later, near, page_number}
-use Rattle.pack_model.specs.operations.Rooms.{items_entered, left_over}
-use Rattle.pack_model.specs.reading.Sights.{sights}
-use Rattle.pack_model.specs.reading.SlotWords.{address_at, address_word}
-use Rattle.pack_model.specs.reading.Slots.{Item, all_words, entry_length, item_words, slots}
-use Rattle.pack_model.specs.reading.Slots.Item.{entry, space}
-use Rattle.pack_model.specs.operations.Step.{step}
-use Rattle.pack_model.specs.operations.Step.Operation.{enter}
-use Rattle.pack_model.specs.states.Whole.{Tidy, Whole}
-use Rattle.pack_laws.proofs.Keys.{fid_total, is_fid-itself}
-use Rattle.laws_record.proofs.Addressing.{entry_words_many}
-use Rattle.laws_record.proofs.Copying.{place_carried}
-use Rattle.laws_record.proofs.DirReads.{has_leader, not_descriptor}
-use Rattle.laws_record.proofs.Entered.{directory}
-use Rattle.laws_record.proofs.Entering.{on_slots}
-use Rattle.laws_record.proofs.Heads.{all_within}
-use Rattle.laws_record.proofs.Slotwise.{words-append}
-use Rattle.laws_record.specs.DirLaws.{dir_written}
+use Rattle.laws_contents.specs.alto_words.specs.declared.fid.Fid.{Fid}
+use Rattle.laws_contents.specs.disk_records.proofs.Growing.{after-append}
+use Rattle.laws_contents.specs.disk_records.specs.Commands.{value_writes}
+use Rattle.laws_contents.specs.disk_records.specs.Packs.{Pack, after, sector_at}
+use Rattle.laws_contents.specs.disk_records.specs.Words.{word}
+use Rattle.laws_contents.specs.pack_model.specs.reading.Bodies.{items_in}
+use Rattle.laws_contents.specs.pack_model.specs.reading.Bodies.Body.{data_of, items_of}
+use Rattle.laws_contents.specs.pack_model.specs.reading.Bytes.{put_at}
+use Rattle.laws_contents.specs.pack_model.specs.operations.Commands.{values_writes}
+use Rattle.laws_contents.specs.pack_model.specs.operations.Committing.{page_of_word}
+use Rattle.laws_contents.specs.pack_model.specs.operations.Entering.{EntryRoom, entry_value, after_joining, joining, overlapping, values_first}
+use Rattle.laws_contents.specs.pack_model.specs.reading.Files.{file_bytes, place}
+use Rattle.laws_contents.specs.pack_model.specs.reading.Leaders.{Leader}
+use Rattle.laws_contents.specs.pack_model.specs.hints.Links.{LinksTrue, dir_words}
+use Rattle.laws_contents.specs.pack_model.specs.reading.Model.{Model, dir_items, read_as}
+use Rattle.laws_contents.specs.pack_model.specs.operations.Operations.{enter_writes}
+use Rattle.laws_contents.specs.pack_model.specs.operations.PageWords.{freed_value, in_page, later, near, page_number}
+use Rattle.laws_contents.specs.pack_model.specs.operations.Rooms.{items_entered, left_over}
+use Rattle.laws_contents.specs.pack_model.specs.reading.Sights.{sights}
+use Rattle.laws_contents.specs.pack_model.specs.reading.SlotWords.{address_at, address_word}
+use Rattle.laws_contents.specs.pack_model.specs.reading.Slots.{Item, all_words, entry_length, item_words, slots}
+use Rattle.laws_contents.specs.pack_model.specs.reading.Slots.Item.{entry, space}
+use Rattle.laws_contents.specs.pack_model.specs.operations.Step.{step}
+use Rattle.laws_contents.specs.pack_model.specs.operations.Step.Operation.{enter}
+use Rattle.laws_contents.specs.pack_model.specs.states.Whole.{Tidy, Whole}
+use Rattle.laws_contents.specs.pack_laws.proofs.Keys.{fid_total, is_fid-itself}
+use Rattle.laws_contents.specs.laws_record.proofs.Addressing.{entry_words_many}
+use Rattle.laws_contents.specs.laws_record.proofs.Copying.{place_carried}
+use Rattle.laws_contents.specs.laws_record.proofs.DirReads.{has_leader, not_descriptor}
+use Rattle.laws_contents.specs.laws_record.proofs.Entered.{directory}
+use Rattle.laws_contents.specs.laws_record.proofs.Entering.{on_slots}
+use Rattle.laws_contents.specs.laws_record.proofs.Heads.{all_within}
+use Rattle.laws_contents.specs.laws_record.proofs.Slotwise.{words-append}
+use Rattle.laws_contents.specs.laws_record.specs.DirLaws.{dir_written}
 use Rattle.laws_operation.proofs.Dropped.{read_there}
 use Rattle.laws_operation.proofs.EnterLaw.{items_are}
 use Rattle.laws_operation.proofs.EnterMoves.{enter_carries_out, values-append}
@@ -47,7 +47,7 @@ use Rattle.laws_operation.proofs.inside.links.EnterWords.{Apart, Spot, Stage, ap
 use Rattle.laws_operation.proofs.inside.links.Framing.{AllConcern, OfOne}
 use Rattle.laws_operation.proofs.inside.links.Values.{AllOf, of_carried, of_join, of_one, values_concern}
 use Rattle.laws_operation.specs.NameLinkLaws.{EnterKeepsLinks}
-use Rattle.laws_record.proofs.SystemEntries.{left_split, left_words}
+use Rattle.laws_contents.specs.laws_record.proofs.SystemEntries.{left_split, left_words}
 
 -- a directory's slots in the model after an entering
 entered_items : (m : Model) (d f : Fid) (name : List ℕ) (l : Leader) (is : List Item) → get m.files d ≡ Some (directory l is) → dir_items (step m (enter d name f)) d ≡ items_entered (entry f name) is

@@ -1,13 +1,13 @@
 -- An ordinary file grows.
 use Rattle.std.proofs.Common.{List, Some, ap, arith, drop, length, refl, suc, zero, ℕ, ◌+◌, ◌/◌, ◌<◌, ◌∙◌, ◌≡◌}
-use Rattle.alto_words.specs.declared.fid.Fid.{Fid}
-use Rattle.disk_records.specs.Packs.{Pack, after, sector_at}
-use Rattle.pack_model.specs.operations.Commands.{Claim, claims_of, grown_claims, grown_label, grown_value, last_room}
-use Rattle.pack_model.specs.operations.Committing.{page_of_byte}
-use Rattle.pack_model.specs.reading.Files.{file_bytes, place}
-use Rattle.pack_model.specs.operations.Operations.{grow_writes}
-use Rattle.pack_model.specs.reading.Sights.{sights}
-use Rattle.pack_model.specs.states.Whole.{Whole}
+use Rattle.laws_contents.specs.alto_words.specs.declared.fid.Fid.{Fid}
+use Rattle.laws_contents.specs.disk_records.specs.Packs.{Pack, after, sector_at}
+use Rattle.laws_contents.specs.pack_model.specs.operations.Commands.{Claim, claims_of, grown_claims, grown_label, grown_value, last_room}
+use Rattle.laws_contents.specs.pack_model.specs.operations.Committing.{page_of_byte}
+use Rattle.laws_contents.specs.pack_model.specs.reading.Files.{file_bytes, place}
+use Rattle.laws_contents.specs.pack_model.specs.operations.Operations.{grow_writes}
+use Rattle.laws_contents.specs.pack_model.specs.reading.Sights.{sights}
+use Rattle.laws_contents.specs.pack_model.specs.states.Whole.{Whole}
 use Rattle.laws_operation.proofs.Grown.{grow_law, last_page}
 use Rattle.laws_operation.proofs.inside.links.Ending.{none_later}
 use Rattle.laws_operation.proofs.inside.links.Growing.{grow_concerns, grown_links, grown_place}

@@ -1,13 +1,13 @@
 -- Values of an ordinary file's pages.
 use Rattle.std.proofs.Common.{List, [], false, ℕ, ◌∙◌, ◌∷◌, ◌≡◌}
-use Rattle.alto_words.specs.Fid.{is_directory}
-use Rattle.alto_words.specs.declared.fid.Fid.{Fid}
-use Rattle.disk_records.specs.Packs.{Pack, after}
-use Rattle.pack_model.specs.operations.Commands.{values_writes}
-use Rattle.pack_model.specs.operations.Committing.{page_of_byte}
-use Rattle.pack_model.specs.operations.PageWords.{page_number}
-use Rattle.pack_model.specs.states.Whole.{Tidy, Whole}
-use Rattle.laws_record.proofs.Copying.{place_carried}
+use Rattle.laws_contents.specs.alto_words.specs.Fid.{is_directory}
+use Rattle.laws_contents.specs.alto_words.specs.declared.fid.Fid.{Fid}
+use Rattle.laws_contents.specs.disk_records.specs.Packs.{Pack, after}
+use Rattle.laws_contents.specs.pack_model.specs.operations.Commands.{values_writes}
+use Rattle.laws_contents.specs.pack_model.specs.operations.Committing.{page_of_byte}
+use Rattle.laws_contents.specs.pack_model.specs.operations.PageWords.{page_number}
+use Rattle.laws_contents.specs.pack_model.specs.states.Whole.{Tidy, Whole}
+use Rattle.laws_contents.specs.laws_record.proofs.Copying.{place_carried}
 use Rattle.laws_operation.proofs.OneValue.{put_law, stamp_law, title_law}
 use Rattle.laws_operation.proofs.inside.links.Linked.{file_links}
 use Rattle.laws_operation.proofs.inside.links.OneFile.{ordinary_true}

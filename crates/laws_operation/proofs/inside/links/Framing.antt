@@ -1,25 +1,25 @@
 -- Record writes in sectors of one file, or of none: the other files stay, with their links.
 use Rattle.std.proofs.Common.{List, None, Option, Some, [], ap, false, inl, inr, refl, subst, suc, sym, zero, ℕ, ◌++◌, ◌∙◌, ◌∷◌, ◌≡◌, ◌⊎◌}
 use Rattle.std.proofs.lemmas.Bool.{cases_eq}
-use Rattle.alto_words.specs.Fid.{is_fid}
-use Rattle.alto_words.specs.declared.fid.Fid.{Fid}
-use Rattle.disk_records.specs.Labels.{page_of}
-use Rattle.disk_records.specs.Packs.{Pack, after, carried, sector_at}
-use Rattle.disk_records.specs.Words.{word}
-use Rattle.disk_records.specs.declared.records.Event.{Event}
-use Rattle.disk_records.specs.declared.records.Event.TheVariants.{Shown, Wrote}
-use Rattle.disk_records.specs.declared.records.Page.{Page}
-use Rattle.pack_model.specs.reading.Files.{place}
-use Rattle.pack_model.specs.hints.Links.{link_to}
-use Rattle.pack_model.specs.operations.PageWords.{page_number}
-use Rattle.pack_model.specs.reading.Sights.{sights}
-use Rattle.pack_model.specs.states.Whole.{Whole}
-use Rattle.laws_record.proofs.Copying.{place_carried}
-use Rattle.laws_record.proofs.Carried.{carried_place}
+use Rattle.laws_contents.specs.alto_words.specs.Fid.{is_fid}
+use Rattle.laws_contents.specs.alto_words.specs.declared.fid.Fid.{Fid}
+use Rattle.laws_contents.specs.disk_records.specs.Labels.{page_of}
+use Rattle.laws_contents.specs.disk_records.specs.Packs.{Pack, after, carried, sector_at}
+use Rattle.laws_contents.specs.disk_records.specs.Words.{word}
+use Rattle.laws_contents.specs.disk_records.specs.declared.records.Event.{Event}
+use Rattle.laws_contents.specs.disk_records.specs.declared.records.Event.TheVariants.{Shown, Wrote}
+use Rattle.laws_contents.specs.disk_records.specs.declared.records.Page.{Page}
+use Rattle.laws_contents.specs.pack_model.specs.reading.Files.{place}
+use Rattle.laws_contents.specs.pack_model.specs.hints.Links.{link_to}
+use Rattle.laws_contents.specs.pack_model.specs.operations.PageWords.{page_number}
+use Rattle.laws_contents.specs.pack_model.specs.reading.Sights.{sights}
+use Rattle.laws_contents.specs.pack_model.specs.states.Whole.{Whole}
+use Rattle.laws_contents.specs.laws_record.proofs.Copying.{place_carried}
+use Rattle.laws_contents.specs.laws_record.proofs.Carried.{carried_place}
 use Rattle.laws_operation.proofs.inside.Elsewhere.{not_same}
 use Rattle.laws_operation.proofs.inside.links.Linked.{FileLinks, link_before}
 use Rattle.laws_operation.proofs.inside.links.Records.{carried_same, label_carried}
-use Rattle.pack_laws.proofs.Guarding.{other_kept, value_page}
+use Rattle.laws_contents.specs.pack_laws.proofs.Guarding.{other_kept, value_page}
 
 -- ---- record writes that concern one file
 -- the sector carries nothing, or a page of f

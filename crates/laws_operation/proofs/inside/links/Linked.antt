@@ -1,21 +1,21 @@
 -- The links of pages in use, by the places of a file's pages.
 use Rattle.std.proofs.Common.{Bool, List, None, Option, Some, ap, arith, cond, false, get_or, length, refl, suc, sym, true, zero, ℕ, ◌∙◌, ◌≡◌}
 use Rattle.std.specs.Prelude.{nat_lt}
-use Rattle.alto_words.specs.declared.fid.Fid.{Fid}
-use Rattle.disk_records.specs.Packs.{Pack, sector_at}
-use Rattle.disk_records.specs.Words.{word}
-use Rattle.disk_records.specs.declared.shape.Shape.{Shape}
-use Rattle.pack_model.specs.reading.Files.{carries_page, place}
-use Rattle.pack_model.specs.states.InUse.{counts, in_use, is_place}
-use Rattle.pack_model.specs.hints.Links.{HasLinks, PageLinks, link_to, next_link, no_link, previous_link}
-use Rattle.pack_model.specs.reading.Sights.{Sight, sights}
-use Rattle.pack_model.specs.reading.Sights.Sight.{free, hidden, holds, leads, stray}
-use Rattle.pack_model.specs.states.Whole.{Whole}
-use Rattle.pack_laws.proofs.Keys.{is_fid-itself}
-use Rattle.pack_laws.proofs.Placing.{carries-holds, leader_of_place, page_of_place}
-use Rattle.laws_record.proofs.Heads.{and_right}
-use Rattle.laws_record.proofs.AllSectors.{carried_used}
-use Rattle.laws_record.proofs.Carried.{place_by}
+use Rattle.laws_contents.specs.alto_words.specs.declared.fid.Fid.{Fid}
+use Rattle.laws_contents.specs.disk_records.specs.Packs.{Pack, sector_at}
+use Rattle.laws_contents.specs.disk_records.specs.Words.{word}
+use Rattle.laws_contents.specs.disk_records.specs.declared.shape.Shape.{Shape}
+use Rattle.laws_contents.specs.pack_model.specs.reading.Files.{carries_page, place}
+use Rattle.laws_contents.specs.pack_model.specs.states.InUse.{counts, in_use, is_place}
+use Rattle.laws_contents.specs.pack_model.specs.hints.Links.{HasLinks, PageLinks, link_to, next_link, no_link, previous_link}
+use Rattle.laws_contents.specs.pack_model.specs.reading.Sights.{Sight, sights}
+use Rattle.laws_contents.specs.pack_model.specs.reading.Sights.Sight.{free, hidden, holds, leads, stray}
+use Rattle.laws_contents.specs.pack_model.specs.states.Whole.{Whole}
+use Rattle.laws_contents.specs.pack_laws.proofs.Keys.{is_fid-itself}
+use Rattle.laws_contents.specs.pack_laws.proofs.Placing.{carries-holds, leader_of_place, page_of_place}
+use Rattle.laws_contents.specs.laws_record.proofs.Heads.{and_right}
+use Rattle.laws_contents.specs.laws_record.proofs.AllSectors.{carried_used}
+use Rattle.laws_contents.specs.laws_record.proofs.Carried.{place_by}
 use Rattle.laws_operation.proofs.inside.links.Ending.{none_later}
 
 -- ---- links by places

@@ -1,33 +1,33 @@
 -- A make.
 use Rattle.std.proofs.Common.{List, None, Option, Some, [], ap, arith, cond, false, inl, inr, refl, subst, sym, true, ℕ, ◌∙◌, ◌∷◌, ◌≡◌, ◌⊎◌}
 use Rattle.std.specs.FinMap.{get, get-insert}
-use Rattle.alto_words.specs.Fid.{is_directory, is_fid}
-use Rattle.alto_words.specs.declared.fid.Fid.{Fid}
-use Rattle.disk_records.specs.Addresses.{real_of}
-use Rattle.disk_records.specs.Commands.{claim_writes}
-use Rattle.disk_records.specs.Labels.{page_of}
-use Rattle.disk_records.specs.Packs.{Pack, after, carried, is_usable, sector_at}
-use Rattle.disk_records.specs.Words.{word}
-use Rattle.disk_records.specs.declared.records.Event.{Event}
-use Rattle.disk_records.specs.declared.records.Page.{Page}
-use Rattle.pack_model.specs.reading.Bodies.{body_items, items_in}
-use Rattle.pack_model.specs.reading.Bodies.Body.{data_of, items_of}
-use Rattle.pack_model.specs.operations.Commands.{Claim, first_page_claim, leader_claim}
-use Rattle.pack_model.specs.reading.Files.{leader, lives, place}
-use Rattle.pack_model.specs.hints.Links.{LinksTrue, dir_words, link_to, no_link}
-use Rattle.pack_model.specs.reading.Model.{dir_items, read_as}
-use Rattle.pack_model.specs.operations.Operations.{make_writes}
-use Rattle.pack_model.specs.operations.PageWords.{page_number}
-use Rattle.pack_model.specs.reading.Sights.{sights}
-use Rattle.pack_model.specs.reading.Slots.Item.{space}
-use Rattle.pack_model.specs.operations.Step.{new_file, step}
-use Rattle.pack_model.specs.operations.Step.Operation.{make}
-use Rattle.pack_model.specs.states.Whole.{Tidy, Whole}
-use Rattle.pack_laws.proofs.Guarding.{free_parts}
-use Rattle.pack_laws.proofs.Keys.{fid_total, is_fid-itself, same_fid}
-use Rattle.pack_laws.proofs.Placing.{none_of_false}
-use Rattle.laws_record.proofs.Copying.{place_carried}
-use Rattle.laws_record.proofs.Carried.{carried_place}
+use Rattle.laws_contents.specs.alto_words.specs.Fid.{is_directory, is_fid}
+use Rattle.laws_contents.specs.alto_words.specs.declared.fid.Fid.{Fid}
+use Rattle.laws_contents.specs.disk_records.specs.Addresses.{real_of}
+use Rattle.laws_contents.specs.disk_records.specs.Commands.{claim_writes}
+use Rattle.laws_contents.specs.disk_records.specs.Labels.{page_of}
+use Rattle.laws_contents.specs.disk_records.specs.Packs.{Pack, after, carried, is_usable, sector_at}
+use Rattle.laws_contents.specs.disk_records.specs.Words.{word}
+use Rattle.laws_contents.specs.disk_records.specs.declared.records.Event.{Event}
+use Rattle.laws_contents.specs.disk_records.specs.declared.records.Page.{Page}
+use Rattle.laws_contents.specs.pack_model.specs.reading.Bodies.{body_items, items_in}
+use Rattle.laws_contents.specs.pack_model.specs.reading.Bodies.Body.{data_of, items_of}
+use Rattle.laws_contents.specs.pack_model.specs.operations.Commands.{Claim, first_page_claim, leader_claim}
+use Rattle.laws_contents.specs.pack_model.specs.reading.Files.{leader, lives, place}
+use Rattle.laws_contents.specs.pack_model.specs.hints.Links.{LinksTrue, dir_words, link_to, no_link}
+use Rattle.laws_contents.specs.pack_model.specs.reading.Model.{dir_items, read_as}
+use Rattle.laws_contents.specs.pack_model.specs.operations.Operations.{make_writes}
+use Rattle.laws_contents.specs.pack_model.specs.operations.PageWords.{page_number}
+use Rattle.laws_contents.specs.pack_model.specs.reading.Sights.{sights}
+use Rattle.laws_contents.specs.pack_model.specs.reading.Slots.Item.{space}
+use Rattle.laws_contents.specs.pack_model.specs.operations.Step.{new_file, step}
+use Rattle.laws_contents.specs.pack_model.specs.operations.Step.Operation.{make}
+use Rattle.laws_contents.specs.pack_model.specs.states.Whole.{Tidy, Whole}
+use Rattle.laws_contents.specs.pack_laws.proofs.Guarding.{free_parts}
+use Rattle.laws_contents.specs.pack_laws.proofs.Keys.{fid_total, is_fid-itself, same_fid}
+use Rattle.laws_contents.specs.pack_laws.proofs.Placing.{none_of_false}
+use Rattle.laws_contents.specs.laws_record.proofs.Copying.{place_carried}
+use Rattle.laws_contents.specs.laws_record.proofs.Carried.{carried_place}
 use Rattle.laws_operation.proofs.Commanding.{claim_apart}
 use Rattle.laws_operation.proofs.Making.{make_law, missing}
 use Rattle.laws_operation.specs.LifeLaws.{MayMake}
@@ -40,7 +40,7 @@ use Rattle.laws_operation.proofs.inside.links.Linked.{FileLinks, Linked}
 use Rattle.laws_operation.proofs.inside.links.OneFile.{pages_true}
 use Rattle.laws_operation.proofs.inside.links.Records.{carried_same, names_one, number_one}
 use Rattle.laws_operation.specs.LinkLaws.{MakeKeepsLinks}
-use Rattle.laws_record.proofs.Recording.{free_sight}
+use Rattle.laws_contents.specs.laws_record.proofs.Recording.{free_sight}
 
 -- a file that doesn't live has no page in a whole pack
 pub never_carried : (p : Pack) → Whole p → (f : Fid) → lives (sights p) f ≡ false → (m i : ℕ) → carried p i ≡ Some (page_number f m) → ⊥

@@ -1,17 +1,17 @@
 -- No page is carried twice, record write by record write.
 use Rattle.std.proofs.Common.{List, Some, [], inl, inr, suc, sym, zero, ℕ, ◌++◌, ◌∙◌, ◌∷◌, ◌≡◌}
-use Rattle.disk_records.specs.Commands.{claim_writes, ones, relabel_writes}
-use Rattle.disk_records.specs.Labels.{page_of}
-use Rattle.disk_records.specs.Packs.{Pack, after, carried}
-use Rattle.disk_records.specs.declared.records.Event.{Event}
-use Rattle.disk_records.specs.declared.records.Event.TheVariants.{Shown, Wrote}
-use Rattle.disk_records.specs.declared.records.Page.{Page}
-use Rattle.pack_model.specs.operations.Commands.{releases_writes, values_writes}
-use Rattle.pack_model.specs.scavenger.Scavenging.{Throughout}
+use Rattle.laws_contents.specs.disk_records.specs.Commands.{claim_writes, ones, relabel_writes}
+use Rattle.laws_contents.specs.disk_records.specs.Labels.{page_of}
+use Rattle.laws_contents.specs.disk_records.specs.Packs.{Pack, after, carried}
+use Rattle.laws_contents.specs.disk_records.specs.declared.records.Event.{Event}
+use Rattle.laws_contents.specs.disk_records.specs.declared.records.Event.TheVariants.{Shown, Wrote}
+use Rattle.laws_contents.specs.disk_records.specs.declared.records.Page.{Page}
+use Rattle.laws_contents.specs.pack_model.specs.operations.Commands.{releases_writes, values_writes}
+use Rattle.laws_contents.specs.pack_model.specs.scavenger.Scavenging.{Throughout}
 use Rattle.laws_operation.proofs.inside.links.Records.{label_carried}
 use Rattle.laws_operation.proofs.inside.links.Releases.{ones_not}
 use Rattle.laws_operation.specs.OnceLaws.{CarriedOnce}
-use Rattle.pack_laws.proofs.Guarding.{value_page}
+use Rattle.laws_contents.specs.pack_laws.proofs.Guarding.{value_page}
 
 -- a label names no page that another sector carries
 abbrev pub NamesAlone : Pack → ℕ → List ℕ → Type 0

@@ -1,19 +1,19 @@
 -- No page is carried twice where pages come after the last page of a file.
 use Rattle.std.proofs.Common.{List, Some, [], ap, arith, inl, inr, length, subst, suc, ℕ, ◌<◌, ◌∙◌, ◌∷◌, ◌≡◌, ◌⊎◌}
-use Rattle.alto_words.specs.declared.fid.Fid.{Fid}
-use Rattle.disk_records.specs.Commands.{claim_writes}
-use Rattle.disk_records.specs.Labels.{page_of}
-use Rattle.disk_records.specs.Packs.{Pack, after, carried}
-use Rattle.disk_records.specs.declared.records.Page.{Page}
-use Rattle.pack_model.specs.operations.Commands.{Claim, Claimable, claims_writes}
-use Rattle.pack_model.specs.operations.Committing.{page_of_byte}
-use Rattle.pack_model.specs.reading.Files.{file_bytes, place}
-use Rattle.pack_model.specs.operations.Operations.{grow_writes}
-use Rattle.pack_model.specs.operations.PageWords.{page_number}
-use Rattle.pack_model.specs.reading.Sights.{sights}
-use Rattle.pack_model.specs.states.Whole.{Whole}
-use Rattle.laws_record.proofs.Copying.{place_carried}
-use Rattle.laws_record.proofs.Carried.{carried_place, whole_once}
+use Rattle.laws_contents.specs.alto_words.specs.declared.fid.Fid.{Fid}
+use Rattle.laws_contents.specs.disk_records.specs.Commands.{claim_writes}
+use Rattle.laws_contents.specs.disk_records.specs.Labels.{page_of}
+use Rattle.laws_contents.specs.disk_records.specs.Packs.{Pack, after, carried}
+use Rattle.laws_contents.specs.disk_records.specs.declared.records.Page.{Page}
+use Rattle.laws_contents.specs.pack_model.specs.operations.Commands.{Claim, Claimable, claims_writes}
+use Rattle.laws_contents.specs.pack_model.specs.operations.Committing.{page_of_byte}
+use Rattle.laws_contents.specs.pack_model.specs.reading.Files.{file_bytes, place}
+use Rattle.laws_contents.specs.pack_model.specs.operations.Operations.{grow_writes}
+use Rattle.laws_contents.specs.pack_model.specs.operations.PageWords.{page_number}
+use Rattle.laws_contents.specs.pack_model.specs.reading.Sights.{sights}
+use Rattle.laws_contents.specs.pack_model.specs.states.Whole.{Whole}
+use Rattle.laws_contents.specs.laws_record.proofs.Copying.{place_carried}
+use Rattle.laws_contents.specs.laws_record.proofs.Carried.{carried_place, whole_once}
 use Rattle.laws_operation.proofs.inside.links.Claims.{claim_carried}
 use Rattle.laws_operation.proofs.inside.links.ClaimsRow.{IsClaim, claim_names, claim_range, claims_carried, next_able}
 use Rattle.laws_operation.proofs.inside.links.FileGrowth.{none_behind}

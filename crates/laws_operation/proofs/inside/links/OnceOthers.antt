@@ -1,18 +1,18 @@
 -- No page is carried twice: whole packs, values, cuts, makes and drops.
 use Rattle.std.proofs.Common.{Bool, Some, [], ap, arith, cond, false, inl, inr, true, ℕ, ◌++◌, ◌∙◌, ◌∷◌, ◌≡◌}
 use Rattle.std.specs.Prelude.{reverse, ◌==◌}
-use Rattle.disk_records.specs.Commands.{claim_writes, relabel_writes, value_writes}
-use Rattle.disk_records.specs.Labels.{page_of}
-use Rattle.disk_records.specs.Packs.{Pack, after, carried}
-use Rattle.disk_records.specs.declared.records.Page.{Page}
-use Rattle.pack_model.specs.operations.Commands.{releases_writes, values_writes}
-use Rattle.pack_model.specs.operations.Committing.{page_of_byte}
-use Rattle.pack_model.specs.sessions.Descriptor.{closed_values, opened_value}
-use Rattle.pack_model.specs.operations.Operations.{cut_writes, drop_writes, enter_writes, release_file_writes, make_writes}
-use Rattle.pack_model.specs.operations.PageWords.{page_number}
-use Rattle.pack_model.specs.states.Sound.{mark_clean, mark_open}
-use Rattle.laws_record.proofs.Copying.{place_carried}
-use Rattle.laws_record.proofs.Carried.{whole_once}
+use Rattle.laws_contents.specs.disk_records.specs.Commands.{claim_writes, relabel_writes, value_writes}
+use Rattle.laws_contents.specs.disk_records.specs.Labels.{page_of}
+use Rattle.laws_contents.specs.disk_records.specs.Packs.{Pack, after, carried}
+use Rattle.laws_contents.specs.disk_records.specs.declared.records.Page.{Page}
+use Rattle.laws_contents.specs.pack_model.specs.operations.Commands.{releases_writes, values_writes}
+use Rattle.laws_contents.specs.pack_model.specs.operations.Committing.{page_of_byte}
+use Rattle.laws_contents.specs.pack_model.specs.sessions.Descriptor.{closed_values, opened_value}
+use Rattle.laws_contents.specs.pack_model.specs.operations.Operations.{cut_writes, drop_writes, enter_writes, release_file_writes, make_writes}
+use Rattle.laws_contents.specs.pack_model.specs.operations.PageWords.{page_number}
+use Rattle.laws_contents.specs.pack_model.specs.states.Sound.{mark_clean, mark_open}
+use Rattle.laws_contents.specs.laws_record.proofs.Copying.{place_carried}
+use Rattle.laws_contents.specs.laws_record.proofs.Carried.{whole_once}
 use Rattle.laws_operation.proofs.inside.links.Claims.{claim_carried}
 use Rattle.laws_operation.proofs.inside.links.Making.{never_carried}
 use Rattle.laws_operation.proofs.inside.links.NamedAlone.{NamesAlone, all_once, alone_join, claim_alone, relabel_alone, releases_alone, values_alone}

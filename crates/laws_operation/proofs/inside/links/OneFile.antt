@@ -1,16 +1,16 @@
 -- Links are true again where they are so of the one file that record writes concern.
 use Rattle.std.proofs.Common.{Bool, List, Some, ap, arith, false, inl, inr, refl, subst, suc, sym, true, zero, ℕ, ◌<◌, ◌∙◌, ◌≡◌, ◌≤◌}
 use Rattle.std.proofs.lemmas.Bool.{cases_eq}
-use Rattle.alto_words.specs.Fid.{is_directory, is_fid}
-use Rattle.alto_words.specs.declared.fid.Fid.{Fid}
-use Rattle.disk_records.specs.Packs.{Pack, after, sector_at}
-use Rattle.disk_records.specs.Words.{word}
-use Rattle.disk_records.specs.declared.records.Event.{Event}
-use Rattle.pack_model.specs.reading.Files.{place}
-use Rattle.pack_model.specs.hints.Links.{LinksTrue, PageLinks, link_to}
-use Rattle.pack_model.specs.reading.Sights.{sights}
-use Rattle.pack_model.specs.states.Whole.{Tidy, Whole}
-use Rattle.pack_laws.proofs.Keys.{same_fid}
+use Rattle.laws_contents.specs.alto_words.specs.Fid.{is_directory, is_fid}
+use Rattle.laws_contents.specs.alto_words.specs.declared.fid.Fid.{Fid}
+use Rattle.laws_contents.specs.disk_records.specs.Packs.{Pack, after, sector_at}
+use Rattle.laws_contents.specs.disk_records.specs.Words.{word}
+use Rattle.laws_contents.specs.disk_records.specs.declared.records.Event.{Event}
+use Rattle.laws_contents.specs.pack_model.specs.reading.Files.{place}
+use Rattle.laws_contents.specs.pack_model.specs.hints.Links.{LinksTrue, PageLinks, link_to}
+use Rattle.laws_contents.specs.pack_model.specs.reading.Sights.{sights}
+use Rattle.laws_contents.specs.pack_model.specs.states.Whole.{Tidy, Whole}
+use Rattle.laws_contents.specs.pack_laws.proofs.Keys.{same_fid}
 use Rattle.laws_operation.proofs.inside.links.Directories.{all_dirs, dirs_true, other_dir, other_lives}
 use Rattle.laws_operation.proofs.inside.links.Framing.{AllConcern, other_links}
 use Rattle.laws_operation.proofs.inside.links.Linked.{FileLinks, Linked, file_links, link_before, page_links}

@@ -1,14 +1,14 @@
 -- What a record write leaves of sectors, and of the pages that they carry.
 use Rattle.std.proofs.Common.{List, Some, [], ap, get_or, inl, inr, refl, set, suc, sym, zero, ℕ, ◌∙◌, ◌∷◌, ◌≡◌, ◌⊎◌}
 use Rattle.std.proofs.lemmas.Bool.{cases_eq}
-use Rattle.alto_words.specs.declared.fid.Fid.{Fid}
-use Rattle.disk_records.specs.Labels.{page_of}
-use Rattle.disk_records.specs.Packs.{Pack, after, carried, no_sector, sector_at, with_part}
-use Rattle.disk_records.specs.declared.records.Event.TheVariants.{Wrote}
-use Rattle.disk_records.specs.declared.records.Page.{Page}
-use Rattle.disk_records.specs.declared.records.Sector.{Sector}
-use Rattle.pack_model.specs.operations.PageWords.{page_number}
-use Rattle.pack_laws.proofs.Guarding.{carried_parts, front_from, other_kept, page_on}
+use Rattle.laws_contents.specs.alto_words.specs.declared.fid.Fid.{Fid}
+use Rattle.laws_contents.specs.disk_records.specs.Labels.{page_of}
+use Rattle.laws_contents.specs.disk_records.specs.Packs.{Pack, after, carried, no_sector, sector_at, with_part}
+use Rattle.laws_contents.specs.disk_records.specs.declared.records.Event.TheVariants.{Wrote}
+use Rattle.laws_contents.specs.disk_records.specs.declared.records.Page.{Page}
+use Rattle.laws_contents.specs.disk_records.specs.declared.records.Sector.{Sector}
+use Rattle.laws_contents.specs.pack_model.specs.operations.PageWords.{page_number}
+use Rattle.laws_contents.specs.pack_laws.proofs.Guarding.{carried_parts, front_from, other_kept, page_on}
 
 -- ---- one record
 -- the sector with the record, or past the end none

@@ -1,12 +1,12 @@
 -- A page gets another label, and its value again.
 use Rattle.std.proofs.Common.{List, None, Some, [], ap, cond, inl, inr, length, sym, true, ℕ, ◌<◌, ◌∙◌, ◌∷◌, ◌≡◌, ◌≢◌, ◌⊎◌}
-use Rattle.alto_words.specs.declared.fid.Fid.{Fid}
-use Rattle.disk_records.specs.Commands.{relabel_writes}
-use Rattle.disk_records.specs.Labels.{page_of}
-use Rattle.disk_records.specs.Packs.{Pack, after, carried, is_usable, sector_at}
-use Rattle.disk_records.specs.declared.records.Event.TheVariants.{Wrote}
-use Rattle.disk_records.specs.declared.records.Page.{Page}
-use Rattle.pack_laws.proofs.Guarding.{here_written, other_kept, usable_within, value_page}
+use Rattle.laws_contents.specs.alto_words.specs.declared.fid.Fid.{Fid}
+use Rattle.laws_contents.specs.disk_records.specs.Commands.{relabel_writes}
+use Rattle.laws_contents.specs.disk_records.specs.Labels.{page_of}
+use Rattle.laws_contents.specs.disk_records.specs.Packs.{Pack, after, carried, is_usable, sector_at}
+use Rattle.laws_contents.specs.disk_records.specs.declared.records.Event.TheVariants.{Wrote}
+use Rattle.laws_contents.specs.disk_records.specs.declared.records.Page.{Page}
+use Rattle.laws_contents.specs.pack_laws.proofs.Guarding.{here_written, other_kept, usable_within, value_page}
 use Rattle.laws_operation.proofs.inside.links.Framing.{AllConcern, OfOne}
 use Rattle.laws_operation.proofs.inside.links.Records.{label_carried, value_label}
 

@@ -1,18 +1,18 @@
 -- Sectors that are released carry nothing, and all others stay.
 use Rattle.std.proofs.Common.{List, None, Some, [], ap, inl, inr, length, refl, subst, suc, sym, ℕ, ◌<◌, ◌∙◌, ◌∷◌, ◌≡◌, ◌≢◌}
-use Rattle.alto_words.specs.declared.fid.Fid.{Fid}
-use Rattle.disk_records.specs.Commands.{ones, release_writes}
-use Rattle.disk_records.specs.Labels.{page_of}
-use Rattle.disk_records.specs.Packs.{Pack, after, carried, sector_at}
-use Rattle.disk_records.specs.declared.records.Event.TheVariants.{Wrote}
-use Rattle.disk_records.specs.declared.records.Page.{Page}
-use Rattle.pack_model.specs.operations.Commands.{releases_writes}
-use Rattle.pack_model.specs.operations.PageWords.{page_number}
-use Rattle.pack_model.specs.reading.Sights.{sights}
-use Rattle.pack_laws.proofs.Guarding.{carried_parts, here_written, value_page}
-use Rattle.pack_laws.proofs.Sighted.{length-sights}
-use Rattle.laws_record.proofs.Copying.{place_carried}
-use Rattle.laws_record.proofs.Recording.{carried_within}
+use Rattle.laws_contents.specs.alto_words.specs.declared.fid.Fid.{Fid}
+use Rattle.laws_contents.specs.disk_records.specs.Commands.{ones, release_writes}
+use Rattle.laws_contents.specs.disk_records.specs.Labels.{page_of}
+use Rattle.laws_contents.specs.disk_records.specs.Packs.{Pack, after, carried, sector_at}
+use Rattle.laws_contents.specs.disk_records.specs.declared.records.Event.TheVariants.{Wrote}
+use Rattle.laws_contents.specs.disk_records.specs.declared.records.Page.{Page}
+use Rattle.laws_contents.specs.pack_model.specs.operations.Commands.{releases_writes}
+use Rattle.laws_contents.specs.pack_model.specs.operations.PageWords.{page_number}
+use Rattle.laws_contents.specs.pack_model.specs.reading.Sights.{sights}
+use Rattle.laws_contents.specs.pack_laws.proofs.Guarding.{carried_parts, here_written, value_page}
+use Rattle.laws_contents.specs.pack_laws.proofs.Sighted.{length-sights}
+use Rattle.laws_contents.specs.laws_record.proofs.Copying.{place_carried}
+use Rattle.laws_contents.specs.laws_record.proofs.Recording.{carried_within}
 use Rattle.laws_operation.proofs.Commanding.{ones_none, release_apart}
 use Rattle.laws_operation.specs.ByteLaws.{Bear}
 use Rattle.laws_operation.proofs.inside.links.Framing.{AllConcern, OfOne}

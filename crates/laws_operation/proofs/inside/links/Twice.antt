@@ -1,12 +1,12 @@
 -- A page that a free sector gets while another one carries it is carried twice.
 use Rattle.std.proofs.Common.{List, Some, [], refl, subst, ℕ, ◌∙◌, ◌∷◌, ◌≡◌, true}
-use Rattle.disk_records.specs.Commands.{claim_writes}
-use Rattle.disk_records.specs.Labels.{page_of}
-use Rattle.disk_records.specs.Packs.{Pack, after, carried, is_free_at}
-use Rattle.disk_records.specs.declared.records.Event.TheVariants.{Wrote}
-use Rattle.disk_records.specs.declared.records.Page.{Page}
-use Rattle.pack_laws.proofs.Guarding.{free_parts, other_kept, value_page}
-use Rattle.laws_record.proofs.Recording.{free_sight}
+use Rattle.laws_contents.specs.disk_records.specs.Commands.{claim_writes}
+use Rattle.laws_contents.specs.disk_records.specs.Labels.{page_of}
+use Rattle.laws_contents.specs.disk_records.specs.Packs.{Pack, after, carried, is_free_at}
+use Rattle.laws_contents.specs.disk_records.specs.declared.records.Event.TheVariants.{Wrote}
+use Rattle.laws_contents.specs.disk_records.specs.declared.records.Page.{Page}
+use Rattle.laws_contents.specs.pack_laws.proofs.Guarding.{free_parts, other_kept, value_page}
+use Rattle.laws_contents.specs.laws_record.proofs.Recording.{free_sight}
 use Rattle.laws_operation.proofs.inside.links.Claims.{claim_here, free_none}
 use Rattle.laws_operation.proofs.inside.links.Records.{carried_same}
 use Rattle.laws_operation.specs.OnceLaws.{CarriedOnce}

@@ -1,20 +1,20 @@
 -- Values leave labels, the pages that are carried, and so all links of pages.
 use Rattle.std.proofs.Common.{List, Some, [], ap, refl, suc, sym, zero, ℕ, ◌++◌, ◌∙◌, ◌∷◌, ◌≡◌, Bool, cond, false, true}
-use Rattle.alto_words.specs.declared.fid.Fid.{Fid}
-use Rattle.disk_records.specs.Packs.{Pack, after, carried, sector_at}
-use Rattle.disk_records.specs.Words.{word}
-use Rattle.disk_records.specs.declared.records.Event.TheVariants.{Wrote}
-use Rattle.pack_model.specs.operations.Commands.{values_writes}
-use Rattle.pack_model.specs.reading.Files.{place}
-use Rattle.pack_model.specs.hints.Links.{PageLinks, link_to}
-use Rattle.pack_model.specs.operations.PageWords.{page_number}
-use Rattle.pack_model.specs.reading.Sights.{sights}
-use Rattle.pack_model.specs.states.Whole.{Whole}
-use Rattle.laws_record.proofs.Carried.{values_carried}
+use Rattle.laws_contents.specs.alto_words.specs.declared.fid.Fid.{Fid}
+use Rattle.laws_contents.specs.disk_records.specs.Packs.{Pack, after, carried, sector_at}
+use Rattle.laws_contents.specs.disk_records.specs.Words.{word}
+use Rattle.laws_contents.specs.disk_records.specs.declared.records.Event.TheVariants.{Wrote}
+use Rattle.laws_contents.specs.pack_model.specs.operations.Commands.{values_writes}
+use Rattle.laws_contents.specs.pack_model.specs.reading.Files.{place}
+use Rattle.laws_contents.specs.pack_model.specs.hints.Links.{PageLinks, link_to}
+use Rattle.laws_contents.specs.pack_model.specs.operations.PageWords.{page_number}
+use Rattle.laws_contents.specs.pack_model.specs.reading.Sights.{sights}
+use Rattle.laws_contents.specs.pack_model.specs.states.Whole.{Whole}
+use Rattle.laws_contents.specs.laws_record.proofs.Carried.{values_carried}
 use Rattle.laws_operation.proofs.inside.links.Framing.{AllConcern, OfOne, places_alike}
 use Rattle.laws_operation.proofs.inside.links.Linked.{FileLinks, file_links, link_before, page_links}
 use Rattle.laws_operation.proofs.inside.links.Records.{value_label}
-use Rattle.pack_laws.proofs.Guarding.{value_page}
+use Rattle.laws_contents.specs.pack_laws.proofs.Guarding.{value_page}
 
 -- the label of each sector stays
 pub values_label : (vs : List (ℕ × List ℕ)) (p : Pack) (i : ℕ) → (sector_at (after p (values_writes vs)) i).label ≡ (sector_at p i).label

@@ -6,19 +6,19 @@ use Rattle.std.specs.FinMap.Entries.{below_all}
 use Rattle.std.specs.List.{list_any}
 use Rattle.std.specs.Ordering.{is_eq, is_lt}
 use Rattle.std.specs.declared.cmp.Ordering.{Ordering}
-use Rattle.alto_words.specs.Fid.{fid_cmp, is_fid}
-use Rattle.alto_words.specs.Names.{is_same_name}
-use Rattle.alto_words.specs.declared.fid.Fid.{Fid}
-use Rattle.pack_model.specs.reading.Bodies.{Body, File, body_items, items_in}
-use Rattle.pack_model.specs.reading.Bodies.Body.{data_of, items_of}
-use Rattle.pack_model.specs.reading.Namings.{Naming, body_namings, clashes, namings, namings_in}
-use Rattle.pack_model.specs.reading.Slots.{Item}
-use Rattle.pack_model.specs.reading.Slots.Item.{entry, space}
-use Rattle.pack_laws.proofs.Keys.{fid_same, is_fid-sym}
-use Rattle.laws_record.proofs.Around.{first_part, is_less, second_part}
-use Rattle.laws_record.proofs.Beside.{any_first, any_second}
-use Rattle.laws_record.proofs.Fitting.{same_sym}
-use Rattle.laws_record.proofs.Tidying.{or_false, or_false_left, or_false_right}
+use Rattle.laws_contents.specs.alto_words.specs.Fid.{fid_cmp, is_fid}
+use Rattle.laws_contents.specs.alto_words.specs.Names.{is_same_name}
+use Rattle.laws_contents.specs.alto_words.specs.declared.fid.Fid.{Fid}
+use Rattle.laws_contents.specs.pack_model.specs.reading.Bodies.{Body, File, body_items, items_in}
+use Rattle.laws_contents.specs.pack_model.specs.reading.Bodies.Body.{data_of, items_of}
+use Rattle.laws_contents.specs.pack_model.specs.reading.Namings.{Naming, body_namings, clashes, namings, namings_in}
+use Rattle.laws_contents.specs.pack_model.specs.reading.Slots.{Item}
+use Rattle.laws_contents.specs.pack_model.specs.reading.Slots.Item.{entry, space}
+use Rattle.laws_contents.specs.pack_laws.proofs.Keys.{fid_same, is_fid-sym}
+use Rattle.laws_contents.specs.laws_record.proofs.Around.{first_part, is_less, second_part}
+use Rattle.laws_contents.specs.laws_record.proofs.Beside.{any_first, any_second}
+use Rattle.laws_contents.specs.laws_record.proofs.Fitting.{same_sym}
+use Rattle.laws_contents.specs.laws_record.proofs.Tidying.{or_false, or_false_left, or_false_right}
 use Rattle.laws_operation.specs.EntryLaws.{FreeNameIsApartForANamelessFile, is_of_another}
 
 -- neither of two lists passes a test

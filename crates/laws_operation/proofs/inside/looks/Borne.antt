@@ -1,23 +1,23 @@
 -- Places by labels, and places after values.
 use Rattle.std.proofs.Common.{None, Option, Some, [], ap, arith, ltb-true, nat_lt, refl, sym, true, ℕ, ◌<◌, ◌∙◌, ◌∷◌, ◌≡◌}
 use Rattle.std.specs.Option.{is_some}
-use Rattle.alto_words.specs.Fid.{serial_of}
-use Rattle.disk_records.specs.Addresses.{pages_of}
-use Rattle.disk_records.specs.Packs.{Pack, after, carried, is_usable, sector_at}
-use Rattle.disk_records.specs.declared.records.Page.{Page}
-use Rattle.pack_model.specs.operations.Commands.{values_writes}
-use Rattle.pack_model.specs.sessions.Descriptor.{serial_value}
-use Rattle.pack_model.specs.reading.Files.{lives, place}
-use Rattle.pack_model.specs.operations.PageWords.{page_number}
-use Rattle.pack_model.specs.reading.Sights.{sights}
-use Rattle.pack_laws.proofs.Guarding.{carried_parts}
-use Rattle.pack_laws.proofs.Placing.{leader_of_place, no_leader}
-use Rattle.laws_record.proofs.Copying.{place_carried}
-use Rattle.laws_record.proofs.Heads.{and_left, and_right}
-use Rattle.laws_record.proofs.Carried.{carried_place, values_carried}
+use Rattle.laws_contents.specs.alto_words.specs.Fid.{serial_of}
+use Rattle.laws_contents.specs.disk_records.specs.Addresses.{pages_of}
+use Rattle.laws_contents.specs.disk_records.specs.Packs.{Pack, after, carried, is_usable, sector_at}
+use Rattle.laws_contents.specs.disk_records.specs.declared.records.Page.{Page}
+use Rattle.laws_contents.specs.pack_model.specs.operations.Commands.{values_writes}
+use Rattle.laws_contents.specs.pack_model.specs.sessions.Descriptor.{serial_value}
+use Rattle.laws_contents.specs.pack_model.specs.reading.Files.{lives, place}
+use Rattle.laws_contents.specs.pack_model.specs.operations.PageWords.{page_number}
+use Rattle.laws_contents.specs.pack_model.specs.reading.Sights.{sights}
+use Rattle.laws_contents.specs.pack_laws.proofs.Guarding.{carried_parts}
+use Rattle.laws_contents.specs.pack_laws.proofs.Placing.{leader_of_place, no_leader}
+use Rattle.laws_contents.specs.laws_record.proofs.Copying.{place_carried}
+use Rattle.laws_contents.specs.laws_record.proofs.Heads.{and_left, and_right}
+use Rattle.laws_contents.specs.laws_record.proofs.Carried.{carried_place, values_carried}
 use Rattle.laws_operation.specs.PlaceLaws.{CarriedInPlace, FileLivesInAPlace, NewSerialNamesNoLivingFile, NoneAboveTheLastSerial, SamePlaces, SerialKeepsPlaces, UncarriedPageHasNoPlace, ValuesKeepPlaces}
 use Rattle.std.proofs.lemmas.Bool.{false_from_ne_true}
-use Rattle.pack_laws.proofs.files.Laws.{places_are_lowest}
+use Rattle.laws_contents.specs.pack_laws.proofs.files.Laws.{places_are_lowest}
 
 -- ---- on any pack
 pub file_lives_in_a_place : FileLivesInAPlace

@@ -3,22 +3,22 @@ use Rattle.std.proofs.Common.{Bool, List, None, Option, Some, [], ap, arith, fal
 use Rattle.std.proofs.lemmas.Bool.{le-leb}
 use Rattle.std.proofs.lemmas.List.{append-nil, length-append, length-take}
 use Rattle.std.specs.Option.{is_some}
-use Rattle.alto_words.specs.declared.fid.Fid.{Fid}
-use Rattle.disk_records.specs.Labels.{tag}
-use Rattle.disk_records.specs.Packs.{Pack, sector_at}
-use Rattle.disk_records.specs.declared.records.Sector.{Sector}
-use Rattle.disk_records.specs.declared.shape.Shape.{Shape}
-use Rattle.pack_model.specs.reading.Bytes.{bytes_of}
-use Rattle.pack_model.specs.operations.Committing.{page_of_byte}
-use Rattle.pack_model.specs.reading.Files.{carries_page, file_bytes, lives, place}
-use Rattle.pack_model.specs.reading.Model.{good_one}
-use Rattle.pack_model.specs.reading.Sights.{Sight, sight, sights}
-use Rattle.pack_model.specs.reading.Sights.Sight.{hidden, holds}
-use Rattle.pack_model.specs.states.Whole.{HasPages, FileWhole, IsLaid, PageAt, Whole, absent, present}
-use Rattle.pack_laws.proofs.Bytes.{length-bytes_of}
-use Rattle.pack_laws.proofs.Placing.{carries-holds, page_of_place, place_none}
-use Rattle.pack_laws.proofs.Sighted.{counted, shows_page}
-use Rattle.laws_record.proofs.Seats.{seat_range}
+use Rattle.laws_contents.specs.alto_words.specs.declared.fid.Fid.{Fid}
+use Rattle.laws_contents.specs.disk_records.specs.Labels.{tag}
+use Rattle.laws_contents.specs.disk_records.specs.Packs.{Pack, sector_at}
+use Rattle.laws_contents.specs.disk_records.specs.declared.records.Sector.{Sector}
+use Rattle.laws_contents.specs.disk_records.specs.declared.shape.Shape.{Shape}
+use Rattle.laws_contents.specs.pack_model.specs.reading.Bytes.{bytes_of}
+use Rattle.laws_contents.specs.pack_model.specs.operations.Committing.{page_of_byte}
+use Rattle.laws_contents.specs.pack_model.specs.reading.Files.{carries_page, file_bytes, lives, place}
+use Rattle.laws_contents.specs.pack_model.specs.reading.Model.{good_one}
+use Rattle.laws_contents.specs.pack_model.specs.reading.Sights.{Sight, sight, sights}
+use Rattle.laws_contents.specs.pack_model.specs.reading.Sights.Sight.{hidden, holds}
+use Rattle.laws_contents.specs.pack_model.specs.states.Whole.{HasPages, FileWhole, IsLaid, PageAt, Whole, absent, present}
+use Rattle.laws_contents.specs.pack_laws.proofs.Bytes.{length-bytes_of}
+use Rattle.laws_contents.specs.pack_laws.proofs.Placing.{carries-holds, page_of_place, place_none}
+use Rattle.laws_contents.specs.pack_laws.proofs.Sighted.{counted, shows_page}
+use Rattle.laws_contents.specs.laws_record.proofs.Seats.{seat_range}
 use Rattle.laws_operation.proofs.Changing.{length-together, seat_of}
 use Rattle.laws_operation.proofs.Lying.{bytes_laid, seat_here, together-append, within}
 use Rattle.laws_operation.proofs.Rows.{pages_by_bytes}

@@ -3,22 +3,22 @@ use Rattle.std.proofs.Common.{All, List, Some, [], ap, arith, cond, false, get_o
 use Rattle.std.proofs.lemmas.Bool.{cases_eq}
 use Rattle.std.proofs.lemmas.Option.{cond_some}
 use Rattle.std.proofs.lemmas.List.Elements.{All-cons}
-use Rattle.alto_words.specs.declared.fid.Fid.{Fid}
-use Rattle.disk_records.specs.Addresses.{is_right_header}
-use Rattle.disk_records.specs.Commands.{claim_writes, ones, relabel_writes, release_writes, value_writes}
-use Rattle.disk_records.specs.Labels.{in_range, is_free, tag}
-use Rattle.disk_records.specs.Packs.{Pack, after, is_free_at, is_usable, sector_at}
-use Rattle.disk_records.specs.declared.records.Event.{Event}
-use Rattle.disk_records.specs.declared.records.Event.TheVariants.{Wrote}
-use Rattle.disk_records.specs.declared.records.Sector.{Sector}
-use Rattle.disk_records.proofs.Growing.{after-append}
-use Rattle.pack_model.specs.operations.Commands.{Claim, all_claimed, claims_writes, releases_writes, sectors_of, values_writes}
-use Rattle.pack_model.specs.reading.Files.{place}
-use Rattle.pack_model.specs.operations.Operations.{release_file_writes}
-use Rattle.pack_model.specs.operations.PageWords.{page_number}
-use Rattle.pack_model.specs.reading.Sights.{sights}
-use Rattle.pack_laws.proofs.Guarding.{carried_parts, free_parts, front_from, here_written, in_range_taken, ones_free, other_kept, usable_within}
-use Rattle.laws_record.proofs.Copying.{place_carried}
+use Rattle.laws_contents.specs.alto_words.specs.declared.fid.Fid.{Fid}
+use Rattle.laws_contents.specs.disk_records.specs.Addresses.{is_right_header}
+use Rattle.laws_contents.specs.disk_records.specs.Commands.{claim_writes, ones, relabel_writes, release_writes, value_writes}
+use Rattle.laws_contents.specs.disk_records.specs.Labels.{in_range, is_free, tag}
+use Rattle.laws_contents.specs.disk_records.specs.Packs.{Pack, after, is_free_at, is_usable, sector_at}
+use Rattle.laws_contents.specs.disk_records.specs.declared.records.Event.{Event}
+use Rattle.laws_contents.specs.disk_records.specs.declared.records.Event.TheVariants.{Wrote}
+use Rattle.laws_contents.specs.disk_records.specs.declared.records.Sector.{Sector}
+use Rattle.laws_contents.specs.disk_records.proofs.Growing.{after-append}
+use Rattle.laws_contents.specs.pack_model.specs.operations.Commands.{Claim, all_claimed, claims_writes, releases_writes, sectors_of, values_writes}
+use Rattle.laws_contents.specs.pack_model.specs.reading.Files.{place}
+use Rattle.laws_contents.specs.pack_model.specs.operations.Operations.{release_file_writes}
+use Rattle.laws_contents.specs.pack_model.specs.operations.PageWords.{page_number}
+use Rattle.laws_contents.specs.pack_model.specs.reading.Sights.{sights}
+use Rattle.laws_contents.specs.pack_laws.proofs.Guarding.{carried_parts, free_parts, front_from, here_written, in_range_taken, ones_free, other_kept, usable_within}
+use Rattle.laws_contents.specs.laws_record.proofs.Copying.{place_carried}
 use Rattle.laws_operation.specs.ByteLaws.{Bear}
 use Rattle.laws_operation.specs.FreeLaws.{ClaimsKeepUnclaimedFree, CutFreesItsPages, CutTakesNoSector, DropFreesItsPages, DropTakesNoSector, EnterLeavesFreeSectors, GrowKeepsUnclaimedFree, MakeKeepsUnclaimedFree, ReleaseFreesItsPages, ReleaseTakesNoSector, SameFree, StayFree, StayFreeBut, ValuesLeaveFreeSectors}
 

@@ -1,15 +1,15 @@
 -- The entries that the scan of all directories leaves are all kept, whatever files it scans.
 use Rattle.std.proofs.Common.{Bool, List, [], cond, false, refl, subst, sym, true, ◌∷◌, ◌≡◌}
 use Rattle.std.specs.FinMap.{entries}
-use Rattle.alto_words.specs.declared.fid.Fid.{Fid}
-use Rattle.pack_model.specs.reading.Bodies.{Body, File, Files}
-use Rattle.pack_model.specs.reading.Bodies.Body.{data_of, items_of}
-use Rattle.pack_model.specs.reading.Namings.{AllKept, IsTidy, Naming, body_kept, body_namings, files_kept, is_kept, items_kept, kept_after, kept_after_body, namings, namings_in, tidied}
-use Rattle.pack_model.specs.reading.Slots.{Item, item_words}
-use Rattle.pack_model.specs.reading.Slots.Item.{entry, space}
-use Rattle.laws_record.proofs.DropSteps.{join_kept}
-use Rattle.laws_record.proofs.Mending.{entries-tidied}
-use Rattle.laws_record.proofs.Tidying.{onto}
+use Rattle.laws_contents.specs.alto_words.specs.declared.fid.Fid.{Fid}
+use Rattle.laws_contents.specs.pack_model.specs.reading.Bodies.{Body, File, Files}
+use Rattle.laws_contents.specs.pack_model.specs.reading.Bodies.Body.{data_of, items_of}
+use Rattle.laws_contents.specs.pack_model.specs.reading.Namings.{AllKept, IsTidy, Naming, body_kept, body_namings, files_kept, is_kept, items_kept, kept_after, kept_after_body, namings, namings_in, tidied}
+use Rattle.laws_contents.specs.pack_model.specs.reading.Slots.{Item, item_words}
+use Rattle.laws_contents.specs.pack_model.specs.reading.Slots.Item.{entry, space}
+use Rattle.laws_contents.specs.laws_record.proofs.DropSteps.{join_kept}
+use Rattle.laws_contents.specs.laws_record.proofs.Mending.{entries-tidied}
+use Rattle.laws_contents.specs.laws_record.proofs.Tidying.{onto}
 
 module _ (ok : List Naming → Naming → Bool) where
   -- the slots of a directory as they are left, and what is kept after them

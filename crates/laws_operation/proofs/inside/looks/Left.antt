@@ -2,27 +2,27 @@
 use Rattle.std.proofs.Common.{Bool, List, None, Option, Some, [], ap, cond, false, not, refl, subst, sym, true, ℕ, ◌++◌, ◌∙◌, ◌∷◌, ◌≡◌}
 use Rattle.std.specs.FinMap.{entries, get, get-insert, insert}
 use Rattle.std.specs.List.{list_any}
-use Rattle.alto_words.specs.Fid.{is_fid}
-use Rattle.alto_words.specs.declared.fid.Fid.{Fid}
-use Rattle.disk_records.specs.Packs.{Pack}
-use Rattle.pack_model.specs.reading.Bodies.{Body, File, items_in}
-use Rattle.pack_model.specs.reading.Bodies.Body.{data_of, items_of}
-use Rattle.pack_model.specs.reading.Files.{lives}
-use Rattle.pack_model.specs.reading.Leaders.{Leader}
-use Rattle.pack_model.specs.reading.Model.{Model, dir_items, is_named, read_as}
-use Rattle.pack_model.specs.reading.Namings.{AllKept, Naming, clashes, is_kept, may_stand, namings}
-use Rattle.pack_model.specs.reading.Sights.{sights}
-use Rattle.pack_model.specs.reading.Slots.{Item, item_words}
-use Rattle.pack_model.specs.reading.Slots.Item.{entry, space}
-use Rattle.pack_model.specs.operations.Step.{items_left, step}
-use Rattle.pack_model.specs.operations.Step.Operation.{leave}
-use Rattle.pack_laws.proofs.Keys.{fid_total, is_fid-sym, same_fid}
-use Rattle.laws_record.proofs.DirReads.{insert_same}
-use Rattle.laws_record.proofs.DirSteps.{apart_before, onto_none}
-use Rattle.laws_record.proofs.Entered.{Spot, directory, spot}
-use Rattle.laws_record.proofs.Entering.{on_slots}
-use Rattle.laws_record.proofs.Heads.{and_right}
-use Rattle.laws_record.proofs.Tidying.{onto, or_false, or_false_left, or_false_right, split_kept}
+use Rattle.laws_contents.specs.alto_words.specs.Fid.{is_fid}
+use Rattle.laws_contents.specs.alto_words.specs.declared.fid.Fid.{Fid}
+use Rattle.laws_contents.specs.disk_records.specs.Packs.{Pack}
+use Rattle.laws_contents.specs.pack_model.specs.reading.Bodies.{Body, File, items_in}
+use Rattle.laws_contents.specs.pack_model.specs.reading.Bodies.Body.{data_of, items_of}
+use Rattle.laws_contents.specs.pack_model.specs.reading.Files.{lives}
+use Rattle.laws_contents.specs.pack_model.specs.reading.Leaders.{Leader}
+use Rattle.laws_contents.specs.pack_model.specs.reading.Model.{Model, dir_items, is_named, read_as}
+use Rattle.laws_contents.specs.pack_model.specs.reading.Namings.{AllKept, Naming, clashes, is_kept, may_stand, namings}
+use Rattle.laws_contents.specs.pack_model.specs.reading.Sights.{sights}
+use Rattle.laws_contents.specs.pack_model.specs.reading.Slots.{Item, item_words}
+use Rattle.laws_contents.specs.pack_model.specs.reading.Slots.Item.{entry, space}
+use Rattle.laws_contents.specs.pack_model.specs.operations.Step.{items_left, step}
+use Rattle.laws_contents.specs.pack_model.specs.operations.Step.Operation.{leave}
+use Rattle.laws_contents.specs.pack_laws.proofs.Keys.{fid_total, is_fid-sym, same_fid}
+use Rattle.laws_contents.specs.laws_record.proofs.DirReads.{insert_same}
+use Rattle.laws_contents.specs.laws_record.proofs.DirSteps.{apart_before, onto_none}
+use Rattle.laws_contents.specs.laws_record.proofs.Entered.{Spot, directory, spot}
+use Rattle.laws_contents.specs.laws_record.proofs.Entering.{on_slots}
+use Rattle.laws_contents.specs.laws_record.proofs.Heads.{and_right}
+use Rattle.laws_contents.specs.laws_record.proofs.Tidying.{onto, or_false, or_false_left, or_false_right, split_kept}
 use Rattle.laws_operation.proofs.Leaving.{left_here}
 use Rattle.laws_operation.proofs.inside.looks.Apart.{any_both, free_name_is_apart_for_a_nameless_file}
 use Rattle.laws_operation.proofs.inside.looks.ReadFiles.{read_tidy}

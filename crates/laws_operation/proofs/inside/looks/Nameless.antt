@@ -2,20 +2,20 @@
 use Rattle.std.proofs.Common.{Bool, List, Some, [], ap, cond, false, not, refl, sym, true, ℕ, ◌∙◌, ◌∷◌, ◌≡◌}
 use Rattle.std.specs.FinMap.{entries, get, get-insert}
 use Rattle.std.specs.List.{list_any}
-use Rattle.alto_words.specs.Fid.{is_directory, is_fid}
-use Rattle.alto_words.specs.declared.fid.Fid.{Fid}
-use Rattle.pack_model.specs.reading.Bodies.{body_items, items_in}
-use Rattle.pack_model.specs.reading.Bodies.Body.{data_of, items_of}
-use Rattle.pack_model.specs.reading.Files.{lives}
-use Rattle.pack_model.specs.reading.Model.{read_as}
-use Rattle.pack_model.specs.reading.Namings.{AllKept, Naming, clashes, fits, is_kept, may_stand, namings}
-use Rattle.pack_model.specs.reading.Sights.{sights}
-use Rattle.pack_model.specs.reading.Slots.Item.{space}
-use Rattle.pack_model.specs.operations.Step.{new_body, new_file, step}
-use Rattle.pack_model.specs.operations.Step.Operation.{make}
-use Rattle.pack_laws.proofs.Keys.{fid_total, same_fid}
-use Rattle.laws_record.proofs.Heads.{and_left}
-use Rattle.laws_record.proofs.Tidying.{or_false}
+use Rattle.laws_contents.specs.alto_words.specs.Fid.{is_directory, is_fid}
+use Rattle.laws_contents.specs.alto_words.specs.declared.fid.Fid.{Fid}
+use Rattle.laws_contents.specs.pack_model.specs.reading.Bodies.{body_items, items_in}
+use Rattle.laws_contents.specs.pack_model.specs.reading.Bodies.Body.{data_of, items_of}
+use Rattle.laws_contents.specs.pack_model.specs.reading.Files.{lives}
+use Rattle.laws_contents.specs.pack_model.specs.reading.Model.{read_as}
+use Rattle.laws_contents.specs.pack_model.specs.reading.Namings.{AllKept, Naming, clashes, fits, is_kept, may_stand, namings}
+use Rattle.laws_contents.specs.pack_model.specs.reading.Sights.{sights}
+use Rattle.laws_contents.specs.pack_model.specs.reading.Slots.Item.{space}
+use Rattle.laws_contents.specs.pack_model.specs.operations.Step.{new_body, new_file, step}
+use Rattle.laws_contents.specs.pack_model.specs.operations.Step.Operation.{make}
+use Rattle.laws_contents.specs.pack_laws.proofs.Keys.{fid_total, same_fid}
+use Rattle.laws_contents.specs.laws_record.proofs.Heads.{and_left}
+use Rattle.laws_contents.specs.laws_record.proofs.Tidying.{or_false}
 use Rattle.laws_operation.proofs.inside.Coming.{bare_namings}
 use Rattle.laws_operation.proofs.inside.looks.Apart.{free_name_is_apart_for_a_nameless_file}
 use Rattle.laws_operation.proofs.inside.looks.ReadFiles.{not_read, read_tidy}

@@ -1,16 +1,16 @@
 -- Where the pages are that a make, a growth or a widening brings.
 use Rattle.std.proofs.Common.{List, None, Option, Some, [], arith, inl, inr, length, refl, suc, ℕ, ◌<◌, ◌∷◌, ◌≡◌}
-use Rattle.alto_words.specs.declared.fid.Fid.{Fid}
-use Rattle.disk_records.specs.Packs.{Pack, after}
-use Rattle.pack_model.specs.operations.Commands.{Claim, all_claimed, sectors_of}
-use Rattle.pack_model.specs.operations.Committing.{page_of_byte}
-use Rattle.pack_model.specs.operations.Operations.{grow_writes, make_writes}
-use Rattle.pack_model.specs.operations.PageWords.{page_number}
-use Rattle.pack_model.specs.reading.Files.{file_bytes, place}
-use Rattle.pack_model.specs.reading.Sights.{sights}
-use Rattle.pack_model.specs.states.Whole.{Whole}
-use Rattle.laws_record.proofs.Carried.{carried_place}
-use Rattle.laws_record.proofs.Copying.{place_carried}
+use Rattle.laws_contents.specs.alto_words.specs.declared.fid.Fid.{Fid}
+use Rattle.laws_contents.specs.disk_records.specs.Packs.{Pack, after}
+use Rattle.laws_contents.specs.pack_model.specs.operations.Commands.{Claim, all_claimed, sectors_of}
+use Rattle.laws_contents.specs.pack_model.specs.operations.Committing.{page_of_byte}
+use Rattle.laws_contents.specs.pack_model.specs.operations.Operations.{grow_writes, make_writes}
+use Rattle.laws_contents.specs.pack_model.specs.operations.PageWords.{page_number}
+use Rattle.laws_contents.specs.pack_model.specs.reading.Files.{file_bytes, place}
+use Rattle.laws_contents.specs.pack_model.specs.reading.Sights.{sights}
+use Rattle.laws_contents.specs.pack_model.specs.states.Whole.{Whole}
+use Rattle.laws_contents.specs.laws_record.proofs.Carried.{carried_place}
+use Rattle.laws_contents.specs.laws_record.proofs.Copying.{place_carried}
 use Rattle.laws_operation.proofs.Grown.{grow_law}
 use Rattle.laws_operation.proofs.Widening.{widen_law}
 use Rattle.laws_operation.proofs.inside.links.ClaimsRow.{Rowed}

@@ -2,19 +2,19 @@
 use Rattle.std.proofs.Common.{Bool, None, Option, ap, cond, false, not, refl, sym, true, ◌∙◌, ◌≡◌}
 use Rattle.std.specs.FinMap.{get}
 use Rattle.std.specs.Option.{is_some, option_map}
-use Rattle.alto_words.specs.declared.fid.Fid.{Fid}
-use Rattle.disk_records.specs.Packs.{Pack}
-use Rattle.pack_model.specs.reading.Bodies.{File, described, found, is_described}
-use Rattle.pack_model.specs.reading.Files.{file_bytes, leader, lives}
-use Rattle.pack_model.specs.reading.Model.{read_as, read_sights}
-use Rattle.pack_model.specs.reading.Namings.{IsTidy}
-use Rattle.pack_model.specs.reading.Sights.{sights}
-use Rattle.pack_model.specs.showing.View.{seen_of}
-use Rattle.pack_laws.proofs.Placing.{none_of_false}
-use Rattle.laws_record.proofs.Keeping.{get-where}
-use Rattle.laws_record.proofs.Mending.{get-seen}
-use Rattle.laws_record.proofs.Reading.{get-found, read_file}
-use Rattle.laws_record.proofs.Tidying.{some_map}
+use Rattle.laws_contents.specs.alto_words.specs.declared.fid.Fid.{Fid}
+use Rattle.laws_contents.specs.disk_records.specs.Packs.{Pack}
+use Rattle.laws_contents.specs.pack_model.specs.reading.Bodies.{File, described, found, is_described}
+use Rattle.laws_contents.specs.pack_model.specs.reading.Files.{file_bytes, leader, lives}
+use Rattle.laws_contents.specs.pack_model.specs.reading.Model.{read_as, read_sights}
+use Rattle.laws_contents.specs.pack_model.specs.reading.Namings.{IsTidy}
+use Rattle.laws_contents.specs.pack_model.specs.reading.Sights.{sights}
+use Rattle.laws_contents.specs.pack_model.specs.showing.View.{seen_of}
+use Rattle.laws_contents.specs.pack_laws.proofs.Placing.{none_of_false}
+use Rattle.laws_contents.specs.laws_record.proofs.Keeping.{get-where}
+use Rattle.laws_contents.specs.laws_record.proofs.Mending.{get-seen}
+use Rattle.laws_contents.specs.laws_record.proofs.Reading.{get-found, read_file}
+use Rattle.laws_contents.specs.laws_record.proofs.Tidying.{some_map}
 use Rattle.laws_operation.proofs.EnterLaw.{items_are}
 use Rattle.laws_operation.proofs.inside.looks.Kept.{tidied_is_tidy}
 use Rattle.laws_operation.specs.EntryLaws.{ItemsAreSlots, ReadEntriesAreKept}

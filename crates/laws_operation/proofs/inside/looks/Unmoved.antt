@@ -2,17 +2,17 @@
 use Rattle.std.proofs.Common.{List, None, Option, Some, [], ap, refl, sym, ℕ, ◌++◌, ◌∙◌, ◌∷◌, ◌≡◌}
 use Rattle.std.proofs.lemmas.List.{append-nil}
 use Rattle.std.specs.FinMap.{entries, entries-insert, get, insert}
-use Rattle.alto_words.specs.declared.fid.Fid.{Fid}
-use Rattle.pack_model.specs.reading.Bodies.{Body, File, Files}
-use Rattle.pack_model.specs.reading.Bodies.Body.{data_of, items_of}
-use Rattle.pack_model.specs.sessions.Maps.{update, update_found}
-use Rattle.pack_model.specs.reading.Namings.{body_namings, namings, namings_in}
-use Rattle.pack_model.specs.reading.Slots.Item.{space}
-use Rattle.pack_model.specs.operations.Step.{body_bytes, body_slots}
-use Rattle.pack_model.specs.operations.Step.Operation.{cut, drop_file, enter, grow, leave, make, put, stamp, title, widen}
-use Rattle.pack_laws.proofs.Keys.{fid_same, fid_total}
-use Rattle.laws_record.proofs.Around.{around}
-use Rattle.laws_record.proofs.Entered.{namings-append, namings_in-append}
+use Rattle.laws_contents.specs.alto_words.specs.declared.fid.Fid.{Fid}
+use Rattle.laws_contents.specs.pack_model.specs.reading.Bodies.{Body, File, Files}
+use Rattle.laws_contents.specs.pack_model.specs.reading.Bodies.Body.{data_of, items_of}
+use Rattle.laws_contents.specs.pack_model.specs.sessions.Maps.{update, update_found}
+use Rattle.laws_contents.specs.pack_model.specs.reading.Namings.{body_namings, namings, namings_in}
+use Rattle.laws_contents.specs.pack_model.specs.reading.Slots.Item.{space}
+use Rattle.laws_contents.specs.pack_model.specs.operations.Step.{body_bytes, body_slots}
+use Rattle.laws_contents.specs.pack_model.specs.operations.Step.Operation.{cut, drop_file, enter, grow, leave, make, put, stamp, title, widen}
+use Rattle.laws_contents.specs.pack_laws.proofs.Keys.{fid_same, fid_total}
+use Rattle.laws_contents.specs.laws_record.proofs.Around.{around}
+use Rattle.laws_contents.specs.laws_record.proofs.Entered.{namings-append, namings_in-append}
 use Rattle.laws_operation.specs.EntryLaws.{BytesLeadersAndWideningsKeepEntries}
 
 -- another file of the same entries in the place of one

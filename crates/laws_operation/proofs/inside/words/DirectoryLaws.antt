@@ -1,15 +1,15 @@
 -- The words of a widening and of a freed slot.
 use Rattle.std.proofs.Common.{List, [], ap, arith, drop, length, refl, subst, ℕ, ◌++◌, ◌+◌, ◌/◌, ◌∙◌, ◌∷◌, ◌≡◌, ◌≤◌}
-use Rattle.pack_model.specs.operations.Committing.{page_of_word}
-use Rattle.pack_model.specs.reading.Files.{place}
-use Rattle.pack_model.specs.hints.Links.{dir_words}
-use Rattle.pack_model.specs.operations.PageWords.{widening_bytes}
-use Rattle.pack_model.specs.reading.Sights.{sights}
-use Rattle.pack_model.specs.reading.SlotWords.{space_words}
-use Rattle.pack_model.specs.reading.Slots.{IsSlot, Item, all_words, entry_length, slots}
-use Rattle.pack_model.specs.reading.Slots.Item.{entry, space}
-use Rattle.laws_record.proofs.Heads.{all_within, head_of, slots_cons}
-use Rattle.laws_record.proofs.Slotwise.{slots_behind, words-append}
+use Rattle.laws_contents.specs.pack_model.specs.operations.Committing.{page_of_word}
+use Rattle.laws_contents.specs.pack_model.specs.reading.Files.{place}
+use Rattle.laws_contents.specs.pack_model.specs.hints.Links.{dir_words}
+use Rattle.laws_contents.specs.pack_model.specs.operations.PageWords.{widening_bytes}
+use Rattle.laws_contents.specs.pack_model.specs.reading.Sights.{sights}
+use Rattle.laws_contents.specs.pack_model.specs.reading.SlotWords.{space_words}
+use Rattle.laws_contents.specs.pack_model.specs.reading.Slots.{IsSlot, Item, all_words, entry_length, slots}
+use Rattle.laws_contents.specs.pack_model.specs.reading.Slots.Item.{entry, space}
+use Rattle.laws_contents.specs.laws_record.proofs.Heads.{all_within, head_of, slots_cons}
+use Rattle.laws_contents.specs.laws_record.proofs.Slotwise.{slots_behind, words-append}
 use Rattle.laws_operation.proofs.inside.words.GrownPages.{grows}
 use Rattle.laws_operation.specs.DirectoryWords.{LeaveWordsFit, SlotWordsFit, WidenWordsFit}
 

@@ -5,15 +5,15 @@ use Rattle.std.proofs.lemmas.List.Elements.{All-append, All-cons, All-nil}
 use Rattle.std.proofs.Math.Seq.{take-append-add}
 use Rattle.std.specs.List.{list_all}
 use Rattle.std.specs.Prelude.{All}
-use Rattle.alto_words.specs.Fid.{is_full_name}
-use Rattle.alto_words.specs.Names.{is_stored_name}
-use Rattle.alto_words.specs.declared.fid.Fid.{Fid}
-use Rattle.disk_records.specs.Words.{word}
-use Rattle.pack_model.specs.reading.Bytes.{bytes_of, words_of}
-use Rattle.pack_model.specs.reading.SlotWords.{entry_words, short_name_words}
-use Rattle.pack_model.specs.reading.Slots.{IsSlot, entry_length, is_entry, slot_bytes, slot_fid, slot_name, slot_of, slot_pad}
-use Rattle.pack_model.specs.reading.Slots.Item.{entry, space}
-use Rattle.pack_laws.proofs.Bytes.{length-words_of}
+use Rattle.laws_contents.specs.alto_words.specs.Fid.{is_full_name}
+use Rattle.laws_contents.specs.alto_words.specs.Names.{is_stored_name}
+use Rattle.laws_contents.specs.alto_words.specs.declared.fid.Fid.{Fid}
+use Rattle.laws_contents.specs.disk_records.specs.Words.{word}
+use Rattle.laws_contents.specs.pack_model.specs.reading.Bytes.{bytes_of, words_of}
+use Rattle.laws_contents.specs.pack_model.specs.reading.SlotWords.{entry_words, short_name_words}
+use Rattle.laws_contents.specs.pack_model.specs.reading.Slots.{IsSlot, entry_length, is_entry, slot_bytes, slot_fid, slot_name, slot_of, slot_pad}
+use Rattle.laws_contents.specs.pack_model.specs.reading.Slots.Item.{entry, space}
+use Rattle.laws_contents.specs.pack_laws.proofs.Bytes.{length-words_of}
 use Rattle.laws_operation.proofs.inside.words.NameWords.{spelled_below, stored_short}
 use Rattle.laws_operation.specs.DirectoryWords.{EntryWordsFit}
 

@@ -9,17 +9,17 @@ use Rattle.std.proofs.lemmas.Map.Made.{IsDistinct-from_AllPairs}
 use Rattle.std.proofs.lemmas.Map.Steps.{length-le_from_distinct_below}
 use Rattle.std.specs.List.{AllPairs, list_any}
 use Rattle.std.specs.Prelude.{All, nat_lt, ◌||◌}
-use Rattle.alto_words.specs.declared.fid.Fid.{Fid}
-use Rattle.disk_records.specs.Addresses.{pages_of}
-use Rattle.disk_records.specs.Packs.{Pack, is_usable, sector_at}
-use Rattle.pack_model.specs.operations.Commands.{sectors_of}
-use Rattle.pack_model.specs.operations.Committing.{page_of_byte}
-use Rattle.pack_model.specs.reading.Files.{file_bytes, place}
-use Rattle.pack_model.specs.reading.Model.{good_one}
-use Rattle.pack_model.specs.reading.Sights.{Sight, sights}
-use Rattle.pack_model.specs.reading.Sights.Sight.{free, hidden, holds}
-use Rattle.pack_model.specs.states.Whole.{PageAt, Seated, Whole}
-use Rattle.laws_record.proofs.Heads.{and_left, and_right}
+use Rattle.laws_contents.specs.alto_words.specs.declared.fid.Fid.{Fid}
+use Rattle.laws_contents.specs.disk_records.specs.Addresses.{pages_of}
+use Rattle.laws_contents.specs.disk_records.specs.Packs.{Pack, is_usable, sector_at}
+use Rattle.laws_contents.specs.pack_model.specs.operations.Commands.{sectors_of}
+use Rattle.laws_contents.specs.pack_model.specs.operations.Committing.{page_of_byte}
+use Rattle.laws_contents.specs.pack_model.specs.reading.Files.{file_bytes, place}
+use Rattle.laws_contents.specs.pack_model.specs.reading.Model.{good_one}
+use Rattle.laws_contents.specs.pack_model.specs.reading.Sights.{Sight, sights}
+use Rattle.laws_contents.specs.pack_model.specs.reading.Sights.Sight.{free, hidden, holds}
+use Rattle.laws_contents.specs.pack_model.specs.states.Whole.{PageAt, Seated, Whole}
+use Rattle.laws_contents.specs.laws_record.proofs.Heads.{and_left, and_right}
 use Rattle.laws_operation.proofs.Grown.{last_page}
 use Rattle.laws_operation.proofs.Lying.{bytes_laid, same_number}
 use Rattle.laws_operation.proofs.Rows.{pages_by_bytes}

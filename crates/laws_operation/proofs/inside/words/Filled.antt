@@ -3,9 +3,9 @@ use Rattle.std.proofs.Common.{List, ap, append_assoc, arith, drop, drop-drop, le
 use Rattle.std.proofs.lemmas.List.{drop_at, length-append, length-replicate, length-take-le, take_at}
 use Rattle.std.proofs.lemmas.List.Elements.{All-append, All-replicate}
 use Rattle.std.specs.Prelude.{All, replicate}
-use Rattle.pack_model.specs.reading.Bytes.{bytes_of, put_at, words_of}
-use Rattle.pack_model.specs.operations.PageWords.{filled, page_value}
-use Rattle.pack_laws.proofs.Bytes.{bytes_below, bytes_of-words_of, pairs_of_bytes}
+use Rattle.laws_contents.specs.pack_model.specs.reading.Bytes.{bytes_of, put_at, words_of}
+use Rattle.laws_contents.specs.pack_model.specs.operations.PageWords.{filled, page_value}
+use Rattle.laws_contents.specs.pack_laws.proofs.Bytes.{bytes_below, bytes_of-words_of, pairs_of_bytes}
 
 -- as many as are wanted
 pub length-filled : (n : ℕ) (items : List ℕ) → length items ≤ n → length (filled n items) ≡ n

@@ -5,21 +5,21 @@ use Rattle.std.proofs.lemmas.List.{get_or-set_other, length-drop, length-take, l
 use Rattle.std.proofs.lemmas.List.Elements.{All-drop, All-take}
 use Rattle.std.specs.List.{AllPairs}
 use Rattle.std.specs.Prelude.{All}
-use Rattle.alto_words.specs.Fid.{is_full_name}
-use Rattle.alto_words.specs.declared.fid.Fid.{Fid}
-use Rattle.disk_records.specs.Addresses.{real_of}
-use Rattle.disk_records.specs.Packs.{Pack, is_free_at}
-use Rattle.disk_records.specs.declared.shape.Shape.{Shape}
-use Rattle.pack_model.specs.reading.Bytes.{bytes_of}
-use Rattle.pack_model.specs.operations.Commands.{Claimable, all_claimed, claims_of, past_last}
-use Rattle.pack_model.specs.operations.PageWords.{link_to_first, page_value}
-use Rattle.pack_model.specs.reading.Sights.{Sight, sights}
-use Rattle.pack_model.specs.reading.Sights.Sight.{free, hidden}
-use Rattle.pack_model.specs.states.Whole.{IsLaid, PageAt}
+use Rattle.laws_contents.specs.alto_words.specs.Fid.{is_full_name}
+use Rattle.laws_contents.specs.alto_words.specs.declared.fid.Fid.{Fid}
+use Rattle.laws_contents.specs.disk_records.specs.Addresses.{real_of}
+use Rattle.laws_contents.specs.disk_records.specs.Packs.{Pack, is_free_at}
+use Rattle.laws_contents.specs.disk_records.specs.declared.shape.Shape.{Shape}
+use Rattle.laws_contents.specs.pack_model.specs.reading.Bytes.{bytes_of}
+use Rattle.laws_contents.specs.pack_model.specs.operations.Commands.{Claimable, all_claimed, claims_of, past_last}
+use Rattle.laws_contents.specs.pack_model.specs.operations.PageWords.{link_to_first, page_value}
+use Rattle.laws_contents.specs.pack_model.specs.reading.Sights.{Sight, sights}
+use Rattle.laws_contents.specs.pack_model.specs.reading.Sights.Sight.{free, hidden}
+use Rattle.laws_contents.specs.pack_model.specs.states.Whole.{IsLaid, PageAt}
 use Rattle.laws_operation.specs.ByteLaws.{together}
 use Rattle.laws_operation.proofs.inside.words.Filled.{page_counted}
 use Rattle.laws_operation.proofs.inside.words.Labels.{label_range}
-use Rattle.laws_record.proofs.Recording.{free_sight}
+use Rattle.laws_contents.specs.laws_record.proofs.Recording.{free_sight}
 
 -- ---- their sectors
 -- each of them is free in these sights

@@ -2,18 +2,18 @@
 use Rattle.std.proofs.Common.{Bool, List, None, Some, ap, cond, le-leb, not, sym, true, false, ℕ, ◌&&◌, ◌<◌, ◌∙◌, ◌≡◌, ◌≤◌}
 use Rattle.std.proofs.lemmas.Bool.{lt-ltb}
 use Rattle.std.specs.Prelude.{nat_le, nat_lt, ◌==◌}
-use Rattle.alto_words.specs.Fid.{is_full_name, serial_of}
-use Rattle.alto_words.specs.declared.fid.Fid.{Fid}
-use Rattle.disk_records.specs.Labels.{in_range, label_of, page_of, tag}
-use Rattle.disk_records.specs.Packs.{Pack, sector_at}
-use Rattle.pack_model.specs.reading.Files.{lives, place}
-use Rattle.pack_model.specs.operations.PageWords.{page_number}
-use Rattle.pack_model.specs.reading.Sights.{sights}
-use Rattle.pack_laws.proofs.Guarding.{carried_parts}
-use Rattle.pack_laws.proofs.Placing.{place_of_leader}
-use Rattle.laws_record.proofs.Copying.{place_carried}
-use Rattle.laws_record.proofs.DirReads.{has_leader}
-use Rattle.laws_record.proofs.Heads.{and_left}
+use Rattle.laws_contents.specs.alto_words.specs.Fid.{is_full_name, serial_of}
+use Rattle.laws_contents.specs.alto_words.specs.declared.fid.Fid.{Fid}
+use Rattle.laws_contents.specs.disk_records.specs.Labels.{in_range, label_of, page_of, tag}
+use Rattle.laws_contents.specs.disk_records.specs.Packs.{Pack, sector_at}
+use Rattle.laws_contents.specs.pack_model.specs.reading.Files.{lives, place}
+use Rattle.laws_contents.specs.pack_model.specs.operations.PageWords.{page_number}
+use Rattle.laws_contents.specs.pack_model.specs.reading.Sights.{sights}
+use Rattle.laws_contents.specs.pack_laws.proofs.Guarding.{carried_parts}
+use Rattle.laws_contents.specs.pack_laws.proofs.Placing.{place_of_leader}
+use Rattle.laws_contents.specs.laws_record.proofs.Copying.{place_carried}
+use Rattle.laws_contents.specs.laws_record.proofs.DirReads.{has_leader}
+use Rattle.laws_contents.specs.laws_record.proofs.Heads.{and_left}
 use Rattle.laws_operation.proofs.Making.{named_page}
 
 -- a full name that can be given, with a count and a number, is in range

@@ -1,15 +1,15 @@
 -- Values of leader pages: a new one, one with another name, and one with another written date.
 use Rattle.std.proofs.Common.{List, [], ap, append_assoc, arith, cond, drop, length, refl, sym, take, true, ℕ, ◌%◌, ◌&&◌, ◌*◌, ◌++◌, ◌+◌, ◌/◌, ◌<◌, ◌==◌, ◌∙◌, ◌∷◌, ◌≡◌, ◌≤◌}
 use Rattle.std.proofs.lemmas.List.{drop_at, length-append, length-take-le, take-append-le, take-take, take_at}
-use Rattle.alto_words.specs.Fid.{serial_of}
-use Rattle.alto_words.specs.Names.{is_stored_name, lost}
-use Rattle.alto_words.specs.declared.fid.Fid.{Fid}
-use Rattle.disk_records.specs.Words.{double, word}
-use Rattle.pack_model.specs.reading.Bytes.{bytes_of, put_at}
-use Rattle.pack_model.specs.reading.Leaders.{Leader, is_readable, leader_name, leader_of, leader_words, name_bytes}
-use Rattle.pack_model.specs.operations.PageWords.{halves, leader_value, name_words, stamped_value, titled_value}
-use Rattle.pack_laws.proofs.Bytes.{length-put_at, take-put_at}
-use Rattle.laws_record.proofs.Slotwise.{put_before, put_after, put_here}
+use Rattle.laws_contents.specs.alto_words.specs.Fid.{serial_of}
+use Rattle.laws_contents.specs.alto_words.specs.Names.{is_stored_name, lost}
+use Rattle.laws_contents.specs.alto_words.specs.declared.fid.Fid.{Fid}
+use Rattle.laws_contents.specs.disk_records.specs.Words.{double, word}
+use Rattle.laws_contents.specs.pack_model.specs.reading.Bytes.{bytes_of, put_at}
+use Rattle.laws_contents.specs.pack_model.specs.reading.Leaders.{Leader, is_readable, leader_name, leader_of, leader_words, name_bytes}
+use Rattle.laws_contents.specs.pack_model.specs.operations.PageWords.{halves, leader_value, name_words, stamped_value, titled_value}
+use Rattle.laws_contents.specs.pack_laws.proofs.Bytes.{length-put_at, take-put_at}
+use Rattle.laws_contents.specs.laws_record.proofs.Slotwise.{put_before, put_after, put_here}
 use Rattle.laws_operation.specs.LeaderLaws.{stamped, titled}
 use Rattle.laws_operation.proofs.inside.words.Filled.{drop-put_at, take-drop-put_at}
 use Rattle.laws_operation.proofs.inside.words.NameWords.{length-name_words, name_named, readable_named}

@@ -6,15 +6,15 @@ use Rattle.std.proofs.lemmas.List.{take_at}
 use Rattle.std.proofs.lemmas.List.Elements.{All-cons, All-nil}
 use Rattle.std.specs.List.{list_all}
 use Rattle.std.specs.Prelude.{All, replicate}
-use Rattle.alto_words.specs.Fid.{serial_of}
-use Rattle.alto_words.proofs.Versions.{is_stored_character, is_stored_name-fits, is_stored_name-characters}
-use Rattle.alto_words.specs.Names.{is_stored_name, lost}
-use Rattle.alto_words.specs.declared.fid.Fid.{Fid}
-use Rattle.disk_records.specs.Words.{word}
-use Rattle.pack_model.specs.reading.Bytes.{bytes_of, words_of}
-use Rattle.pack_model.specs.reading.Leaders.{is_readable, leader_name, name_bytes, spelled_name}
-use Rattle.pack_model.specs.operations.PageWords.{filled, name_words}
-use Rattle.pack_laws.proofs.Bytes.{length-words_of}
+use Rattle.laws_contents.specs.alto_words.specs.Fid.{serial_of}
+use Rattle.laws_contents.specs.alto_words.proofs.Versions.{is_stored_character, is_stored_name-fits, is_stored_name-characters}
+use Rattle.laws_contents.specs.alto_words.specs.Names.{is_stored_name, lost}
+use Rattle.laws_contents.specs.alto_words.specs.declared.fid.Fid.{Fid}
+use Rattle.laws_contents.specs.disk_records.specs.Words.{word}
+use Rattle.laws_contents.specs.pack_model.specs.reading.Bytes.{bytes_of, words_of}
+use Rattle.laws_contents.specs.pack_model.specs.reading.Leaders.{is_readable, leader_name, name_bytes, spelled_name}
+use Rattle.laws_contents.specs.pack_model.specs.operations.PageWords.{filled, name_words}
+use Rattle.laws_contents.specs.pack_laws.proofs.Bytes.{length-words_of}
 use Rattle.laws_operation.proofs.inside.words.Filled.{filled_back, length-filled}
 
 -- ---- stored names

@@ -1,13 +1,13 @@
 -- The room that was found for an entry, among the slots of its directory.
 use Rattle.std.proofs.Common.{List, Some, ap, arith, get_or, length, subst, suc, sym, ℕ, ◌++◌, ◌<◌, ◌∙◌, ◌≡◌, ◌≤◌}
-use Rattle.pack_model.specs.operations.Committing.{page_of_word}
-use Rattle.pack_model.specs.reading.Files.{place}
-use Rattle.pack_model.specs.reading.Model.{dir_items, read_as}
-use Rattle.pack_model.specs.operations.PageWords.{entered_words, later}
-use Rattle.pack_model.specs.reading.Sights.{sights}
-use Rattle.pack_model.specs.reading.Slots.{Item, all_words, entry_length, item_words}
-use Rattle.pack_model.specs.reading.Slots.Item.{space}
-use Rattle.laws_record.proofs.Roomy.{run_enough}
+use Rattle.laws_contents.specs.pack_model.specs.operations.Committing.{page_of_word}
+use Rattle.laws_contents.specs.pack_model.specs.reading.Files.{place}
+use Rattle.laws_contents.specs.pack_model.specs.reading.Model.{dir_items, read_as}
+use Rattle.laws_contents.specs.pack_model.specs.operations.PageWords.{entered_words, later}
+use Rattle.laws_contents.specs.pack_model.specs.reading.Sights.{sights}
+use Rattle.laws_contents.specs.pack_model.specs.reading.Slots.{Item, all_words, entry_length, item_words}
+use Rattle.laws_contents.specs.pack_model.specs.reading.Slots.Item.{space}
+use Rattle.laws_contents.specs.laws_record.proofs.Roomy.{run_enough}
 use Rattle.laws_operation.proofs.inside.words.EntryBytes.{entry_words_fit}
 use Rattle.laws_operation.proofs.inside.words.Labels.{living_name}
 use Rattle.laws_operation.proofs.Rejoining.{parted}

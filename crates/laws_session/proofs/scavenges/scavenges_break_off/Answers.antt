@@ -1,4 +1,4 @@
-use Rattle.laws_session.proofs.inside.Scavenging.{scavenges_break_off}
+use Rattle.laws_session.proofs.inside.Answering.{scavenges_break_off}
 use Rattle.laws_session.proofs.scavenges.scavenges_break_off.Goals as goal
 
 pub returns : goal.returns

@@ -5,7 +5,7 @@ use Rattle.disk_records.proofs.Looking.{looks_pack}
 use Rattle.page_seeking.proofs.Easing.{eases_later, eases_leader, finds_eased, leads_to}
 use Rattle.page_seeking.proofs.Seeking.{confirmed_before, end_before, known_later, known_of, misled_before, sought_more, sought_twice}
 use Rattle.disk_records.specs.Tapes.{pack}
-use Rattle.laws_record.proofs.Copying.{place_carried}
+use Rattle.laws_lookup.specs.laws_record.proofs.Copying.{place_carried}
 use Rattle.page_seeking.specs.Seeking.{Stands, page_number}
 use Rattle.page_seeking.proofs.pages.seek_from_leader.Goals as goal
 

@@ -3,7 +3,7 @@ use Rattle.disk_records.specs.Tapes.{pack}
 use Rattle.scav_names.specs.Parts.{AddressesTrue}
 use Rattle.scav_names.specs.Words.{AreWordsOf, WritesWords, address_words}
 use Rattle.scav_names.proofs.Addressing.{are_words, few_places, run_addresses}
-use Rattle.scav_names.proofs.WordRuns.{does_writes}
+use Rattle.scav_names.proofs.WordRuns.{does_writes, words_change}
 use Rattle.scav_names.proofs.addresses.mend_addresses.Goals as goal
 
 pub returns-clause-does : goal.returns-clause-does
@@ -15,4 +15,4 @@ returns-clause-does g c = λ told may.
     let runs = run_addresses (pack a) files kept may in
     let wrote : WritesWords (address_words files kept) a (g.D.Tape.tape c.write_words.new.disk) c.write_words.result =
     subst (λ ws. WritesWords ws a (g.D.Tape.tape c.write_words.new.disk) c.write_words.result) is (c.write_words.ensures.writes told (subst (AreWordsOf (pack a)) (sym is) (are_words (pack a) files kept may))) in
-    does_writes {Leaves = AddressesTrue} c.write_words.result c.write_words.ensures.alone.grown wrote runs.keeps runs.mended
+    does_writes {Leaves = AddressesTrue} c.write_words.result c.write_words.ensures.alone.grown wrote runs.keeps (words_change (pack a) (address_words files kept)) runs.mended

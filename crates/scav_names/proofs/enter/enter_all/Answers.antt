@@ -1,10 +1,10 @@
-use Rattle.std.proofs.Common.{◌≡◌, ◌+◌, suc, ◌∷◌, drop, get_or, add-one, drop-cons, sym, ap, subst, ◌∙◌, arith}
+use Rattle.std.proofs.Common.{◌+◌, drop, subst, arith}
 use Rattle.std.proofs.lemmas.List.{drop_all}
 use Rattle.disk_records.specs.Tapes.{pack}
 use Rattle.disk_records.proofs.Growing.{alone_here, alone_twice}
-use Rattle.scav_names.specs.Roots.{AllEntered, MayBeEntered}
-use Rattle.scav_names.proofs.Going.{does_ok, does_part, so_far_here}
-use Rattle.scav_names.proofs.NextEntry.{EnteredTo, all_entered, entered_more, first_left, none_entered}
+use Rattle.scav_names.specs.Roots.{MayBeEntered}
+use Rattle.scav_names.proofs.Going.{does_ok, does_part}
+use Rattle.scav_names.proofs.NextEntry.{all_entered, entered_more, first_left, none_entered}
 use Rattle.scav_names.proofs.enter.enter_all.Goals as goal
 
 pub loop-file-init : goal.loop-file-init

@@ -1,6 +1,9 @@
+use Rattle.std.proofs.Common.{◌/◌, [], ◌∷◌, get_or}
+use Rattle.disk_records.specs.Tapes.{pack}
+use Rattle.pack_model.specs.operations.PageWords.{in_page}
 use Rattle.scav_names.proofs.Going.{does_ok, so_far_here}
 use Rattle.scav_names.proofs.OneRoom.{one_already, place_known, several_keep, several_made}
-use Rattle.scav_names.proofs.WordRuns.{does_writes}
+use Rattle.scav_names.proofs.WordRuns.{does_writes, page_changes}
 use Rattle.scav_names.specs.Roots.{RoomMadeOne}
 use Rattle.scav_names.proofs.entering.make_one.Goals as goal
 
@@ -9,4 +12,4 @@ returns-then-room-clause-does g c = λ told next todo may. does_ok tt (so_far_he
 
 pub returns-clause-does : goal.returns-clause-does
 returns-clause-does g c = λ told next todo may.
-    does_writes {Leaves = RoomMadeOne c.args.root.now next todo c.args.room.now} c.put_in_root.result c.put_in_root.ensures.alone.grown (c.put_in_root.ensures.writes told may.may.known.pages (place_known may)) (several_keep may) (several_made may)
+    does_writes {Leaves = RoomMadeOne c.args.root.now next todo c.args.room.now} c.put_in_root.result c.put_in_root.ensures.alone.grown (c.put_in_root.ensures.writes told may.may.known.pages (place_known may)) (several_keep may) (page_changes (pack (g.D.Tape.tape c.args.disk.now)) (get_or c.args.root.now.pages (c.args.room.now.place / 256) 0) (in_page c.args.room.now.place) (c.args.room.now.total ∷ [])) (several_made may)

@@ -8,7 +8,7 @@ use Rattle.scav_names.specs.Roots.{EntryWritten, IsLater}
 use Rattle.scav_names.specs.Words.{WritesPageWords, page_writes}
 use Rattle.scav_names.proofs.FillRoom.{entry_written, first_keeps, first_known}
 use Rattle.scav_names.proofs.Going.{does_last, does_part, so_far_does, so_far_here}
-use Rattle.scav_names.proofs.WordRuns.{does_writes}
+use Rattle.scav_names.proofs.WordRuns.{does_writes, page_changes}
 use Rattle.scav_names.proofs.entering.put_entry.Goals as goal
 
 pub returns-in_err-put_later-clause-does : goal.returns-in_err-put_later-clause-does
@@ -51,5 +51,6 @@ returns-clause-does g c = λ told next todo room may are at.
     does_last {Part = λ (p : Pack) (r : Pack). EntryWritten root next todo room (pack a) r} {Leaves = EntryWritten root next todo room} c.put_in_root.result (so_far_does (so_far_here a) c.in_ok-put_later.ensures.alone.grown wrote) c.put_in_root.ensures.alone.grown
     (does_writes {Leaves = λ (p : Pack) (r : Pack). EntryWritten root next todo room (pack a) r} c.put_in_root.result c.put_in_root.ensures.alone.grown puts
     (first_keeps n first later c.args.words.now are split long wrote.leaves (omega (arith, near, some)) one)
+    (page_changes (pack b) (get_or root.pages (room.place / 256) 0) (in_page room.place) first)
     (entry_written n first later c.args.words.now are split long wrote.leaves (omega (arith, near, some)) one))
     (λ ok. ok)

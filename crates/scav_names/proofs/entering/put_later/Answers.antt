@@ -6,7 +6,7 @@ use Rattle.scav_names.specs.Words.{WritesPageWords, page_writes}
 use Rattle.scav_names.proofs.FillRoom.{later_keeps, later_written, none_later, place_few, room_within}
 use Rattle.scav_names.proofs.Going.{does_ok, so_far_here}
 use Rattle.scav_names.proofs.OneRoom.{word_known}
-use Rattle.scav_names.proofs.WordRuns.{does_writes}
+use Rattle.scav_names.proofs.WordRuns.{does_writes, page_changes}
 use Rattle.scav_names.proofs.entering.put_later.Goals as goal
 
 empty_is : (l : List ℕ) → length l ≡ 0 → l ≡ []
@@ -44,4 +44,4 @@ returns-clause-does g c = λ told next todo room may is.
     let wrote : WritesPageWords (page_writes (pack a) (get_or pages ((room.place + near) / 256) 0) (in_page (room.place + near)) later) a b c.put_in_root.result =
     subst (λ w. WritesPageWords (page_writes (pack a) (get_or pages (w / 256) 0) (in_page w) later) a b c.put_in_root.result) e (c.put_in_root.ensures.writes told may.known.pages known) in
     let there : IsLater room room.place near later = record { place_is = refl; some = is.some; fits = is.fits } in
-    does_writes {Leaves = LaterWritten c.args.root.now next todo room near later} c.put_in_root.result c.put_in_root.ensures.alone.grown wrote (later_keeps may near later there some one) (later_written may near later there some one)
+    does_writes {Leaves = LaterWritten c.args.root.now next todo room near later} c.put_in_root.result c.put_in_root.ensures.alone.grown wrote (later_keeps may near later there some one) (page_changes (pack a) (get_or pages ((room.place + near) / 256) 0) (in_page (room.place + near)) later) (later_written may near later there some one)

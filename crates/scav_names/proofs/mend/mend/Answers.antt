@@ -1,4 +1,4 @@
-use Rattle.std.proofs.Common.{length, ◌+◌, ◌<◌, Err, Ok, sym, ap, subst, ◌∙◌, arith}
+use Rattle.std.proofs.Common.{length, ◌+◌, ◌<◌, Err, Ok, sym, ◌∙◌, arith}
 use Rattle.disk_records.specs.Tapes.{pack}
 use Rattle.disk_records.proofs.Growing.{alone_twice, length-pack}
 use Rattle.scav_pages.specs.declared.errors.Stop.TheVariants.{Memory}

@@ -3,7 +3,7 @@ use Rattle.disk_records.specs.Tapes.{pack}
 use Rattle.scav_names.specs.Parts.{UnkeptFreed}
 use Rattle.scav_names.specs.Words.{AreWordsOf, WritesWords, freeing_word}
 use Rattle.scav_names.proofs.UnkeptRuns.{are_freeing_words, run_unkept}
-use Rattle.scav_names.proofs.WordRuns.{does_writes}
+use Rattle.scav_names.proofs.WordRuns.{does_writes, words_change}
 use Rattle.scav_names.proofs.unkept.free_unkept.Goals as goal
 
 pub returns-clause-does : goal.returns-clause-does
@@ -14,4 +14,4 @@ returns-clause-does g c = λ told may are.
     let runs = run_unkept (pack a) unkept may (sym are) in
     let wrote : WritesWords (map freeing_word unkept) a (g.D.Tape.tape c.write_words.new.disk) c.write_words.result =
     subst (λ ws. WritesWords ws a (g.D.Tape.tape c.write_words.new.disk) c.write_words.result) is (c.write_words.ensures.writes told (subst (AreWordsOf (pack a)) (sym is) (are_freeing_words (pack a) unkept may (sym are)))) in
-    does_writes {Leaves = UnkeptFreed} c.write_words.result c.write_words.ensures.alone.grown wrote runs.keeps runs.leaves
+    does_writes {Leaves = UnkeptFreed} c.write_words.result c.write_words.ensures.alone.grown wrote runs.keeps (words_change (pack a) (map freeing_word unkept)) runs.leaves

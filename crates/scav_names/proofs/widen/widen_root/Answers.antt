@@ -8,7 +8,7 @@ use Rattle.disk_records.specs.Packs.{carried, is_free_at}
 use Rattle.disk_records.specs.Tapes.{added, pack}
 use Rattle.disk_records.proofs.Growing.{alone_twice}
 use Rattle.disk_records.proofs.Looking.{looks_pack}
-use Rattle.laws_operation.proofs.Making.{named_page}
+use Rattle.scav_entries.specs.laws_operation.proofs.Making.{named_page}
 use Rattle.pack_model.specs.hints.Links.{dir_words}
 use Rattle.pack_model.specs.reading.Slots.{slots}
 use Rattle.scav_pages.specs.Stops.{stop_of_guard}

@@ -10,7 +10,8 @@ use Rattle.scav_pages.proofs.Passing.{carried_row}
 use Rattle.scav_table.specs.Laws.{IsFirstAbove, IsNextRow}
 use Rattle.scav_table.specs.Passes.{IsNext}
 use Rattle.scav_names.specs.Words.{AreWordsOf}
-use Rattle.scav_names.proofs.WordPass.{WordsPassed, passed_looks, passed_next, row_is_seated, stands_words, words_all, words_end, words_part, words_quiet}
+use Rattle.scav_names.proofs.PageWriting.{all_done}
+use Rattle.scav_names.proofs.WordPass.{WordsPassed, passed_looks, passed_next, row_is_seated, stands_words, words_end, words_part, words_quiet}
 use Rattle.scav_names.proofs.words.write_words.Goals as goal
 
 pub returns-in_err-row-clause-writes : goal.returns-in_err-row-clause-writes
@@ -72,7 +73,7 @@ returns-clause-writes g c = λ told are.
     let read = c.in_ok-row.ensures in
     let now = g.D.Tape.tape c.loop-row.disk in
     let none : IsNextRow (pack now) c.loop-row.pass.last None = subst (IsNextRow (pack now) c.loop-row.pass.last) c.in_default.is (read.next told) in
-    words_all c.args.words.now tt (words_end are (passed_looks (c.loop-row.invariant.passed told are) read.looks told) (subst (λ p. IsNextRow p c.loop-row.pass.last None) (sym (looks_pack read.looks told)) none))
+    all_done tt (words_end are (passed_looks (c.loop-row.invariant.passed told are) read.looks told) (subst (λ p. IsNextRow p c.loop-row.pass.last None) (sym (looks_pack read.looks told)) none))
 
 pub returns-clause-alone : goal.returns-clause-alone
 returns-clause-alone g c = alone_twice c.loop-row.invariant.alone c.in_ok-row.ensures.looks.alone

@@ -77,7 +77,7 @@ returns-clause-does g c = λ told ready.
     let third = three.does told (ready_midway a d y ready) second.leaves in
     let fourth = four.does told third.leaves in
     let z = going_does (going_does y three.alone.grown third) four.alone.grown fourth in
-    does_ok c.in_ok-unused.unused.freed z (are_mended a b e c.in_ok-unused.unused z first.leaves fourth.leaves)
+    does_ok tt z (are_mended a b e c.in_ok-unused.unused z first.leaves fourth.leaves)
 
 pub returns-clause-alone : goal.returns-clause-alone
 returns-clause-alone g c = alone_twice (alone_twice (alone_twice c.in_ok-unused.ensures.alone c.in_ok-mend_root.ensures.alone) c.in_ok-mend_ends.ensures.alone) c.in_ok-mend_links.ensures.alone

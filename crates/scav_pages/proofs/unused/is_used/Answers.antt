@@ -1,5 +1,5 @@
 use Rattle.std.proofs.Common.{◌≡◌, ◌&&◌, not, refl, sym, ap, ◌∙◌}
-use Rattle.pack_laws.proofs.Keys.{same_fid}
+use Rattle.laws_mend.specs.pack_laws.proofs.Keys.{same_fid}
 use Rattle.pack_model.specs.reading.Sights.{sights}
 use Rattle.pack_model.specs.states.InUse.{counts}
 use Rattle.alto_words.specs.Fid.{disk_descriptor}

@@ -3,7 +3,7 @@ use Rattle.std.specs.Prelude.{IfOk}
 use Rattle.std.proofs.lemmas.List.{length-map}
 use Rattle.alto_words.specs.declared.fid.Fid.{Fid}
 use Rattle.disk_records.specs.Packs.{Pack}
-use Rattle.laws_room.specs.NextLaws.{mended_pack}
+use Rattle.scav_names.specs.laws_room.specs.NextLaws.{mended_pack}
 use Rattle.pack_model.specs.reading.Model.{root_items}
 use Rattle.pack_model.specs.reading.Slots.{all_words}
 use Rattle.pack_model.specs.scavenger.Mended.{lacking, widens}

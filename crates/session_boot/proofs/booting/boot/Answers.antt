@@ -1,7 +1,7 @@
 use Rattle.std.proofs.Common.{arith, sym, subst, ap, ◌<◌, ◌^◌, ◌∙◌}
 use Rattle.disk_records.specs.Tapes.{pack}
 use Rattle.exec_session.specs.Meant.{kept}
-use Rattle.pack_model.specs.sessions.Tallies.{no_tally}
+use Rattle.executive.specs.pack_model.specs.sessions.Tallies.{no_tally}
 use Rattle.session_model.specs.Opening.{Begun}
 use Rattle.session_boot.specs.Boots.{Booted, OpenedBy}
 use Rattle.session_boot.specs.Faults.{status_of, status_of_need}

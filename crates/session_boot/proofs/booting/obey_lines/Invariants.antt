@@ -2,7 +2,7 @@ use Rattle.std.proofs.Common.{◌≡◌, ◌<◌, ◌^◌, ℕ, IsTrue}
 use Rattle.disk_records.specs.declared.records.Tally.{Tally}
 use Rattle.disk_records.specs.Tapes.{Grown, Taped, pack}
 use Rattle.exec_session.specs.Meant.{kept}
-use Rattle.pack_model.specs.states.Sound.{Sound}
+use Rattle.executive.specs.pack_model.specs.states.Sound.{Sound}
 use Rattle.session_model.specs.Keeping.{Formed}
 use Rattle.session_model.specs.Opening.{Begun}
 use Rattle.session_boot.specs.Boots.{OpenedBy}

@@ -1,7 +1,7 @@
 use Rattle.std.proofs.Common.{ap, refl, sym, ◌∙◌}
 use Rattle.disk_records.specs.Addresses.{pages_of}
 use Rattle.disk_records.specs.Tapes.{first_pack, pack}
-use Rattle.laws_midway.proofs.loops.Laws.{each_sector_stays}
+use Rattle.directory.specs.laws_midway.proofs.loops.Laws.{each_sector_stays}
 use Rattle.exec_session.proofs.Sessions.{IsMade, begun_of, is_begun, is_formed, is_fresh}
 use Rattle.exec_session.proofs.session.Session.begin.Goals as goal
 

@@ -1,7 +1,7 @@
 use Rattle.std.proofs.Common.{ap, subst, sym}
 use Rattle.disk_records.specs.Tapes.{first_pack, pack}
 use Rattle.hint_cache.specs.Caches.{Cached}
-use Rattle.laws_midway.proofs.loops.Laws.{each_sector_stays}
+use Rattle.directory.specs.laws_midway.proofs.loops.Laws.{each_sector_stays}
 use Rattle.page_seeking.proofs.Once.{once_of_whole}
 use Rattle.exec_session.specs.Meant.{kept}
 use Rattle.exec_session.specs.Opens.{OpensAgain, Renews}

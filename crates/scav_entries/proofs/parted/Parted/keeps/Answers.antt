@@ -2,7 +2,7 @@ use Rattle.std.proofs.Common.{◌≡◌, ◌∙◌, not, refl, sym, ap}
 use Rattle.std.specs.Prelude.{◌&&◌}
 use Rattle.alto_words.specs.Fid.{is_fid, sys_dir, disk_descriptor}
 use Rattle.alto_words.specs.Names.{is_same_name}
-use Rattle.pack_laws.proofs.Keys.{same_fid}
+use Rattle.scav_pages.specs.pack_laws.proofs.Keys.{same_fid}
 use Rattle.pack_model.specs.reading.Namings.{descriptor_name, sys_dir_name}
 use Rattle.kept_names.proofs.Tests.{fid_eq}
 use Rattle.scav_entries.proofs.Parting.{judged_descriptor, judged_by, judged_root}

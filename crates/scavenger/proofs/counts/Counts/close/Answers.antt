@@ -1,6 +1,6 @@
 use Rattle.std.proofs.Common.{◌≡◌, true, false, length, Some, sym, ap, ◌∙◌, subst, rules}
 use Rattle.alto_words.specs.Fid.{disk_descriptor}
-use Rattle.pack_laws.proofs.Keys.{same_fid}
+use Rattle.scav_names.specs.pack_laws.proofs.Keys.{same_fid}
 use Rattle.pack_model.specs.reading.Files.{file_bytes, lives}
 use Rattle.pack_model.specs.reading.Sights.{sights}
 use Rattle.scav_pages.specs.Walks.{file_in_hand}

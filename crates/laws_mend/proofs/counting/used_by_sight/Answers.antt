@@ -1,5 +1,0 @@
-use Rattle.laws_mend.proofs.inside.Pages.{used_by_sight}
-use Rattle.laws_mend.proofs.counting.used_by_sight.Goals as goal
-
-pub returns : goal.returns
-returns c = used_by_sight
