@@ -55,7 +55,7 @@ pub fn mend_names<D: Disk>(
 {
     match mend(alloc, disk, table) {
         Ok(adopted) => Ok(adopted),
-        // this never comes of a machine that is modelled
+        // it comes only of a pack that can't be scavenged or whose pages aren't mended, or on a machine that isn't modelled
         Err(Stop::Astray) => Err(SweepError::Memory),
         Err(Stop::DiskFault) => Err(SweepError::DiskFault),
         Err(Stop::Memory) => Err(SweepError::Memory),

@@ -1,7 +1,7 @@
 -- All pages of a pack: what the passes free together, and what is mended in the end.
 use Rattle.std.proofs.Common.{◌≡◌, ◌≤◌, ◌<◌, ◌+◌, ◌⊎◌, ◌||◌, Bool, cond, Err, Ok, ap, arith, length, false, inl, inr, min, refl, subst, sym, true, ◌∙◌, ℕ}
 use Rattle.std.specs.Option.{is_some}
-use Rattle.std.specs.Prelude.{IfSome, Option, Result}
+use Rattle.std.specs.Prelude.{IfSome, IsErrAnd, Option, Result}
 use Rattle.alto_words.specs.Fid.{disk_descriptor, is_fid, is_system, sys_dir}
 use Rattle.alto_words.specs.declared.fid.Fid.{Fid}
 use Rattle.disk_records.specs.Addresses.{pages_of}
@@ -29,11 +29,11 @@ use Rattle.scav_pages.specs.declared.errors.Stop.{Stop}
 use Rattle.scav_pages.specs.declared.errors.Stop.TheVariants.{DiskFault, Memory, Astray}
 use Rattle.scav_pages.specs.declared.unused.Unused.{Unused}
 use Rattle.scav_pages.specs.Does.{Does}
-use Rattle.scav_pages.specs.Mending.{AreMended, MendsPages}
+use Rattle.scav_pages.specs.Mending.{AreMended, MendsOrStops, MendsPages}
 use Rattle.scav_pages.specs.Parts.{CopiesReleased, DirectoriesEnd, MayMoveRoot, StraysReleased, UnusedReleased}
 use Rattle.scav_pages.proofs.Ahead.{free_few}
 use Rattle.scav_pages.proofs.Claiming.{root_carried}
-use Rattle.scav_pages.proofs.Doing.{Going}
+use Rattle.scav_pages.proofs.Doing.{Going, error_is}
 use Rattle.scav_pages.proofs.Keeping.{carried_lives}
 
 -- ---- how many are freed
@@ -140,3 +140,15 @@ module _ (a b : Taped) (grown : Grown a b) (freed : ℕ) where
   -- a sector is always found as it has to be
   pub mends_astray : DoesMend (Err Astray) → MendsPages a b (Ok freed)
   mends_astray does = absurd (does.found refl)
+
+  -- the same with a word for going astray
+  pub mends_or_ends : DoesMend (Ok tt) → MendsOrStops a b (Ok freed)
+  mends_or_ends does = record { mends = mends_ok does; found = λ is. cc }
+
+  stops_so : (stop : Stop) → DoesMend (Err stop) → MendsOrStops a b (Err stop)
+  stops_so DiskFault does = record { mends = mends_fault does; found = λ is. cc }
+  stops_so Memory does = record { mends = mends_memory does; found = λ is. cc }
+  stops_so Astray does = absurd (does.found refl)
+
+  pub mends_or_stops : (stop : Stop) (result : Result ℕ Stop) → DoesMend (Err stop) → IsErrAnd result (λ s. s ≡ stop) → MendsOrStops a b result
+  mends_or_stops stop result does is = subst (MendsOrStops a b) (sym (error_is result is)) (stops_so stop does)

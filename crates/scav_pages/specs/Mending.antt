@@ -1,5 +1,5 @@
 -- What a mending of all pages says.
-use Rattle.std.specs.Prelude.{◌≡◌, ℕ, ◌<◌, ◌+◌, ◌∷◌, [], Bool, true, false, cond, length, Result, IfOk, IsErrOf}
+use Rattle.std.specs.Prelude.{◌≡◌, ℕ, ◌<◌, ◌+◌, ◌∷◌, [], Bool, true, false, cond, length, Result, Ok, Err, IfOk, IsErrOf}
 use Rattle.alto_words.specs.Fid.{is_directory, is_system, sys_dir}
 use Rattle.alto_words.specs.declared.fid.Fid.{Fid}
 use Rattle.disk_records.specs.Packs.{Pack}
@@ -14,10 +14,12 @@ use Rattle.pack_model.specs.scavenger.Reports.{PagesMended, adopted_files, freed
 use Rattle.pack_model.specs.scavenger.Scavenging.{Keeps, Throughout, Unmarked}
 use Rattle.pack_model.specs.states.Sound.{Clean}
 use Rattle.scav_table.specs.declared.errors.SweepError.{SweepError}
-use Rattle.scav_table.specs.declared.errors.SweepError.TheVariants.{Memory}
+use Rattle.scav_table.specs.declared.errors.SweepError.TheVariants.{DiskFault, Memory}
 use Rattle.scav_pages.specs.Changes.{AllChange}
 use Rattle.scav_pages.specs.Fresh.{fresh_leader, own_name}
 use Rattle.scav_pages.specs.Keeping.{Leads}
+use Rattle.scav_pages.specs.declared.errors.Stop.{Stop}
+use Rattle.scav_pages.specs.declared.errors.Stop.TheVariants as stop
 
 -- The pages of q are mended. So many sectors of p were available and not free, q gives names to as many files, and as many sectors are
 -- available less those needed. Each directory has the slots that it had, and SysDir, if it is made, one free slot of 255 words. Each
@@ -42,3 +44,15 @@ pub record MendsPages (old new : Taped) (result : Result ℕ SweepError) : Type 
   pub unclean : Unmarked (pack old) → Throughout (λ q. Clean q → ⊥) (pack old) (added old new)
   pub unmarked : Unmarked (pack old) → Unmarked (pack new)
   pub changes : AllChange (pack old) (added old new)
+
+-- what a mending that may stop answers, with no word for going astray: that is out of memory here
+abbrev pub as_swept : Result ℕ Stop → Result ℕ SweepError
+as_swept (Ok freed) = Ok freed
+as_swept (Err stop.DiskFault) = Err DiskFault
+as_swept (Err stop.Memory) = Err Memory
+as_swept (Err stop.Astray) = Err Memory
+
+-- The same of a mending that may stop: it never goes astray.
+pub record MendsOrStops (old new : Taped) (result : Result ℕ Stop) : Type 0 where
+  pub mends : MendsPages old new (as_swept result)
+  pub found : IsErrOf result stop.Astray → ⊥

@@ -25,7 +25,7 @@
 //!
 //! On every machine a fault is answered only if its count rose (`cause`), and out of memory only where a sector command was.
 //! Not promised: anything of a pack that can't be scavenged. On a machine that isn't modelled, a sector that shows another page than a
-//! moment ago ends the work early, as if it were done.
+//! moment ago ends the work early: `mend_pages` answers as if it were done, and `mend_pages_or_stop`, which does the same otherwise, tells it.
 #![tactic(auto)]
 
 mod copies;
@@ -50,6 +50,6 @@ pub use directory::Directory;
 pub use errors::Stop;
 pub use files::{FileWalk, Met};
 pub use free::next_free;
-pub use mend::mend_pages;
+pub use mend::{mend_pages, mend_pages_or_stop};
 pub use root::own_name;
 pub use rows::next_row;

@@ -6,7 +6,7 @@ ghost use Rattle.disk_records.specs.Tapes.{DiskAlone, pack};
 ghost use Rattle.pack_model.specs.scavenger.Scavenging.{Scavengeable};
 ghost use Rattle.scav_table.specs.Causes.{cause_of_sweep};
 ghost use Rattle.scav_pages.specs.Does.{Does};
-ghost use Rattle.scav_pages.specs.Mending.{AreMended, MendsPages};
+ghost use Rattle.scav_pages.specs.Mending.{AreMended, MendsOrStops, MendsPages};
 ghost use Rattle.scav_pages.specs.Parts.{UnusedReleased};
 ghost use Rattle.scav_pages.specs.Stops.{cause_of_stop};
 
@@ -31,7 +31,7 @@ use scav_table::{SweepError, Table};
 ///
 /// On a disk that isn't modelled a sector may show another page than a moment ago. The work ends there as if it were done, and the answer is
 /// the number of released sectors, or 0 if not all of them were released yet. So it is of a pack that can't be scavenged, where a free sector
-/// lacks.
+/// lacks. Call `mend_pages_or_stop` to be told of it.
 pub fn mend_pages<D: Disk>(disk: &mut D, table: &mut Table) -> Result<u32, SweepError>
     ensures mends { IsTrue D.told → Scavengeable (pack (D.tape disk.old)) → MendsPages (D.tape disk.old) (D.tape disk.new) result }
     ensures cause { HasCause cause_of_sweep (D.tape disk.old) (D.tape disk.new) result }
@@ -42,9 +42,25 @@ pub fn mend_pages<D: Disk>(disk: &mut D, table: &mut Table) -> Result<u32, Sweep
         Ok(()) => Ok(freed),
         Err(Stop::DiskFault) => Err(SweepError::DiskFault),
         Err(Stop::Memory) => Err(SweepError::Memory),
-        // no memory was refused, and on a machine that is modelled this never comes
+        // no memory was refused; it comes only of a pack that can't be scavenged, or on a machine that isn't modelled
         Err(Stop::Astray) => Ok(freed),
     }
+}
+
+/// Mends the pages of a pack that can be scavenged as `mend_pages` does, with an error of its own where a sector isn't found as it has to be.
+/// Answers the number of sectors that were neither in use nor free and had a right header. It takes no memory.
+///
+/// DiskFault: the disk failed. Memory: the disk wanted memory for a sector command, and had none. Astray: a sector shows another page than a
+/// moment ago, on a disk that isn't modelled; or a free sector lacks, on a pack that can't be scavenged. After each of them a prefix of the
+/// work is done, and after the first two the pack can be scavenged and mended again.
+pub fn mend_pages_or_stop<D: Disk>(disk: &mut D, table: &mut Table) -> Result<u32, Stop>
+    ensures mends { IsTrue D.told → Scavengeable (pack (D.tape disk.old)) → MendsOrStops (D.tape disk.old) (D.tape disk.new) result }
+    ensures cause { HasCause cause_of_stop (D.tape disk.old) (D.tape disk.new) result }
+    ensures alone { DiskAlone (D.tape disk.old) (D.tape disk.new) }
+{
+    let mut freed = 0;
+    mend(disk, table, &mut freed)?;
+    Ok(freed)
 }
 
 /// The passes, one after another. Once all releases are done `freed` is the number of sectors that they freed; before it is as it was.
@@ -78,6 +94,3 @@ fn release_available<D: Disk>(disk: &mut D, table: &mut Table) -> Result<Unused,
         root: unused.root,
     })
 }
-
-#[cfg(test)]
-mod tests;

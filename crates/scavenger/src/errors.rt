@@ -29,7 +29,8 @@ pub enum ScavError {
     PackFull { needed: u32, free: u32 },
     /// The disk failed, and its count of faults rose. A prefix of the work is done, and the pack can be scavenged again.
     DiskFault,
-    /// No memory was left. A prefix of the work is done, and the pack can be scavenged again.
+    /// No memory was left, or a sector shows another page than a moment ago, on a machine that isn't modelled. A prefix of the work is done,
+    /// and the pack can be scavenged again.
     Memory,
 }
 

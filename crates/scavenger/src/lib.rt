@@ -17,7 +17,7 @@
 //!
 //! On every machine a fault is answered only if its count rose (`cause`).
 //! Not promised: that memory is left; how long it takes. On a machine that isn't modelled, a sector that shows another page than a moment ago
-//! ends the mending of pages early, as if it were done, and any other work as out of memory.
+//! ends the work early, as out of memory.
 #![tactic(auto)]
 
 mod counting;

@@ -16,7 +16,7 @@ use crate::mark::open_mark;
 use crate::refusing::refuse;
 use disk_records::Disk;
 use scav_names::mend_names;
-use scav_pages::mend_pages;
+use scav_pages::mend_pages_or_stop;
 use scav_table::{Table, sweep};
 use std::alloc::Global;
 
@@ -27,8 +27,8 @@ use std::alloc::Global;
 /// greatest of those of living files and of the old one, where the old DiskDescriptor says this shape, or one drive with as many cylinders.
 ///
 /// RootBad, RootTaken, PackFull, in this order: the pack can't be scavenged, and nothing was written. DiskFault: the disk failed. Memory: none
-/// was left; or, on a disk that isn't modelled, a sector shows another page than a moment ago while pages are counted, names are mended or
-/// DiskDescriptor is written. After either of these two a prefix of the work is done, and the pack can be scavenged if it could be before.
+/// was left; or, on a disk that isn't modelled, a sector shows another page than a moment ago while pages are counted, pages or names are mended
+/// or DiskDescriptor is written. After either of these two a prefix of the work is done, and the pack can be scavenged if it could be before.
 pub fn scavenge<D: Disk>(alloc: Global, disk: &mut D) -> Result<Report, ScavError>
     ensures scavenges { IsTrue D.told → Scavenges (D.tape disk.old) (D.tape disk.new) result }
     ensures cause { HasCause cause_of_scav (D.tape disk.old) (D.tape disk.new) result }
@@ -57,7 +57,7 @@ fn mend<D: Disk>(
     ensures alone { DiskAlone (D.tape disk.old) (D.tape disk.new) }
 {
     open_mark(disk, counts.mark_at)?;
-    let freed = mend_pages(disk, table)?;
+    let freed = mend_pages_or_stop(disk, table)?;
     let adopted = mend_names(alloc, disk, table)?;
     describe(alloc, disk, counts.last)?;
     Ok(Report {

@@ -21,14 +21,14 @@ pub returns-in_err-freed-clause-mends : goal.returns-in_err-freed-clause-mends
 returns-in_err-freed-clause-mends g c = λ told may counted.
     let opens = c.in_ok-open_mark.ensures.opens told counted.mark in
     let one = mid_open c.in_ok-open_mark.ensures.alone.grown opens.mends opens.opened in
-    let mends = c.in_err-freed.ensures.mends told (one.keeps.scavengeable may) in
-    ends_early c.args.counts.now c.args.bad (error_of_sweep c.in_err-freed.field-0.0) c.from_residual-in_err-freed.result (search rules) (of_sweep c.in_err-freed.field-0.0) (not_ended (mid_stop one c.in_err-freed.ensures.alone.grown mends.kept (mends.unclean one.unmarked)))
+    let mends = (c.in_err-freed.ensures.mends told (one.keeps.scavengeable may)).mends in
+    ends_early c.args.counts.now c.args.bad (error_of_stop c.in_err-freed.field-0.0) c.from_residual-in_err-freed.result (search rules) (of_stop c.in_err-freed.field-0.0) (not_ended (mid_stop one c.in_err-freed.ensures.alone.grown mends.kept (mends.unclean one.unmarked)))
 
 pub returns-in_err-adopted-clause-mends : goal.returns-in_err-adopted-clause-mends
 returns-in_err-adopted-clause-mends g c = λ told may counted.
     let opens = c.in_ok-open_mark.ensures.opens told counted.mark in
     let one = mid_open c.in_ok-open_mark.ensures.alone.grown opens.mends opens.opened in
-    let pages = c.in_ok-freed.ensures.mends told (one.keeps.scavengeable may) in
+    let pages = (c.in_ok-freed.ensures.mends told (one.keeps.scavengeable may)).mends in
     let two = mid_on one c.in_ok-freed.ensures.alone.grown pages.kept (pages.unclean one.unmarked) (pages.unmarked one.unmarked) in
     let mends = c.in_err-adopted.ensures.mends told (two.keeps.scavengeable may) pages.mended.mended in
     ends_early c.args.counts.now c.args.bad (error_of_sweep c.in_err-adopted.field-0.0) c.from_residual-in_err-adopted.result (search rules) (of_sweep c.in_err-adopted.field-0.0) (not_ended (mid_stop two c.in_err-adopted.ensures.alone.grown mends.kept (mends.unclean two.unmarked)))
@@ -37,7 +37,7 @@ pub returns-in_err-describe-clause-mends : goal.returns-in_err-describe-clause-m
 returns-in_err-describe-clause-mends g c = λ told may counted.
     let opens = c.in_ok-open_mark.ensures.opens told counted.mark in
     let one = mid_open c.in_ok-open_mark.ensures.alone.grown opens.mends opens.opened in
-    let pages = c.in_ok-freed.ensures.mends told (one.keeps.scavengeable may) in
+    let pages = (c.in_ok-freed.ensures.mends told (one.keeps.scavengeable may)).mends in
     let two = mid_on one c.in_ok-freed.ensures.alone.grown pages.kept (pages.unclean one.unmarked) (pages.unmarked one.unmarked) in
     let names = c.in_ok-adopted.ensures.mends told (two.keeps.scavengeable may) pages.mended.mended in
     let three = mid_on two c.in_ok-adopted.ensures.alone.grown names.kept (names.unclean two.unmarked) (names.unmarked two.unmarked) in
@@ -50,7 +50,7 @@ pub returns-clause-mends : goal.returns-clause-mends
 returns-clause-mends g c = λ told may counted.
     let opens = c.in_ok-open_mark.ensures.opens told counted.mark in
     let one = mid_open c.in_ok-open_mark.ensures.alone.grown opens.mends opens.opened in
-    let pages = c.in_ok-freed.ensures.mends told (one.keeps.scavengeable may) in
+    let pages = (c.in_ok-freed.ensures.mends told (one.keeps.scavengeable may)).mends in
     let two = mid_on one c.in_ok-freed.ensures.alone.grown pages.kept (pages.unclean one.unmarked) (pages.unmarked one.unmarked) in
     let names = c.in_ok-adopted.ensures.mends told (two.keeps.scavengeable may) pages.mended.mended in
     let three = mid_on two c.in_ok-adopted.ensures.alone.grown names.kept (names.unclean two.unmarked) (names.unmarked two.unmarked) in

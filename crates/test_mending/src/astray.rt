@@ -2,8 +2,8 @@
 ghost use Rattle.std.specs.Prelude.{[], false};
 ghost use Rattle.std.proofs.lemmas.Bool.{false≢true};
 
-use super::mend_pages;
 use disk_records::{Act, Disk, DiskError, Plan, Sector, Shape, Tape};
+use scav_pages::{Stop, mend_pages, mend_pages_or_stop};
 use scav_table::sweep;
 use std::test::Fail;
 
@@ -53,5 +53,18 @@ fn a_changing_page_is_not_out_of_memory(rt: HostRuntime) -> Result<(), Fail> {
     let mut table = sweep(alloc, &mut disk)?;
     assert_eq!(rt; table.rows().len(), 47);
     assert_eq!(rt; mend_pages(&mut disk, &mut table)?, 0);
+    Ok(())
+}
+
+#[test]
+fn a_changing_page_is_told(rt: HostRuntime) -> Result<(), Fail> {
+    let alloc = rt.alloc();
+    let shape = Shape::new(1, 2).ok_or("no shape")?;
+    let mut disk = Unsteady { shape };
+    let mut table = sweep(alloc, &mut disk)?;
+    assert_eq!(rt;
+        mend_pages_or_stop(&mut disk, &mut table),
+        Err(Stop::Astray)
+    );
     Ok(())
 }

@@ -1,0 +1,14 @@
+use Rattle.scav_pages.proofs.Mending.{DoesMend, mends_or_ends, mends_or_stops}
+use Rattle.scav_pages.proofs.mend.mend_pages_or_stop.Goals as goal
+
+pub returns-clause-mends : goal.returns-clause-mends
+returns-clause-mends g c = λ told ready.
+    let a = g.D.Tape.tape c.args.disk.now in
+    let b = g.D.Tape.tape c.mend.new.disk in
+    mends_or_ends a b c.in_ok-mend.ensures.alone.grown c.mend.new.freed (c.in_ok-mend.ensures.does told ready)
+
+pub returns-in_err-mend-clause-mends : goal.returns-in_err-mend-clause-mends
+returns-in_err-mend-clause-mends g c = λ told ready.
+    let a = g.D.Tape.tape c.args.disk.now in
+    let b = g.D.Tape.tape c.mend.new.disk in
+    mends_or_stops a b c.in_err-mend.ensures.alone.grown c.mend.new.freed c.in_err-mend.field-0.0 c.from_residual.result (c.in_err-mend.ensures.does told ready) c.from_residual.ensures.1
