@@ -10,6 +10,7 @@ ghost use Rattle.alto_top.specs.Formats.{AnswersFormat, FormatsDisk, FormatsPack
 ghost use Rattle.alto_top.specs.Showing.{KeepsKeys};
 
 use crate::faults::fault_of_format;
+use crate::flushing::flush_disk;
 use alto_words::{Memory, push_number};
 use disk_descriptor::format;
 use disk_records::{Disk, Machine};
@@ -43,6 +44,7 @@ fn format_disk<D: Disk>(
         Ok(free) => free,
         Err(error) => return Err(fault_of_format(error)),
     };
+    flush_disk(disk)?;
     Ok(text_of(alloc, free)?)
 }
 

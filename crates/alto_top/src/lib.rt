@@ -24,6 +24,7 @@
 #![tactic(auto)]
 
 mod faults;
+mod flushing;
 mod formatting;
 mod listing;
 mod preparing;

@@ -9,6 +9,7 @@ ghost use Rattle.alto_top.specs.Formats.{AnswersFormat, PreparesDisk, PreparesPa
 ghost use Rattle.alto_top.specs.Showing.{KeepsKeys};
 
 use crate::faults::fault_of_format;
+use crate::flushing::flush_disk;
 use alto_words::{Memory, push_number};
 use disk_descriptor::prepare;
 use disk_records::{Disk, Machine};
@@ -39,6 +40,7 @@ fn prepare_disk<D: Disk>(alloc: Global, disk: &mut D, number: u16) -> Result<Vec
         Ok(pages) => pages,
         Err(error) => return Err(fault_of_format(error)),
     };
+    flush_disk(disk)?;
     Ok(text_of(alloc, pages)?)
 }
 

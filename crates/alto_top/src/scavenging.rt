@@ -6,6 +6,7 @@ ghost use Rattle.alto_top.specs.Scavenging.{AnswersScavenge, HasRefusal, Scaveng
 ghost use Rattle.alto_top.specs.Showing.{KeepsKeys};
 ghost use Rattle.session_boot.specs.Faults.{HasStatusCause};
 
+use crate::flushing::flush_disk;
 use disk_records::{Disk, Machine};
 use exec_words::report_text;
 use scavenger::{ScavError, scavenge};
@@ -78,6 +79,7 @@ fn scavenge_disk<D: Disk>(alloc: Global, disk: &mut D) -> Result<Told, Fault>
 {
     match scavenge(alloc, disk) {
         Ok(report) => {
+            flush_disk(disk)?;
             let text = report_text(
                 alloc,
                 report.files,

@@ -1,19 +1,27 @@
--- The records before the first one that is written, and those from it on.
-use Rattle.std.proofs.Common.{◌≡◌, ℕ, ◌-◌, ◌*◌, ◌≤◌, Bool, true, false, cond, ◌&&◌, List, [], ◌++◌, length, take, drop, refl, sym, ap, ◌∙◌, arith, IsTrue, Option}
+-- The records before the first one that is written.
+use Rattle.std.proofs.Common.{◌≡◌, ℕ, ◌*◌, Bool, true, false, cond, ◌&&◌, List, [], ◌++◌, length, refl, sym, ap, ◌∙◌, arith, IsTrue, Option}
 use Rattle.std.proofs.lemmas.Bool.{false≢true}
-use Rattle.std.proofs.lemmas.List.{append_assoc, append-nil, length-append, length-drop, take_all}
-use Rattle.std.proofs.Math.Seq.{drop-append_seam}
-use Rattle.std.specs.Io.KnownBytes.{Consumes, Appends}
+use Rattle.std.proofs.lemmas.List.{append_assoc, append-nil, length-append}
+use Rattle.std.specs.Io.KnownBytes.{Consumes}
 use Rattle.disk_records.specs.declared.records.Act.{Act}
 use Rattle.disk_records.specs.declared.records.Act.TheVariants.{Read, Check, Write}
 use Rattle.disk_records.specs.declared.records.Plan.{Plan}
 use Rattle.disk_records.specs.declared.records.Sector.{Sector}
 use Rattle.disk_records.specs.Checks.{is_write, may_follow, is_legal}
 use Rattle.disk_image.specs.Images.{sector_bytes, IsWhole}
-use Rattle.disk_image.specs.Records.{read_bytes, read_length, written_bytes, front_bytes, front_length, back_bytes}
-use Rattle.disk_image.proofs.Inverses.{fronts_same, length-sector_bytes}
+use Rattle.disk_image.specs.Records.{read_bytes, read_length, front_bytes, front_length}
+use Rattle.disk_image.proofs.Inverses.{fronts_same}
 use Rattle.disk_records.specs.Bytes.{bytes_of}
 use Rattle.disk_records.proofs.Bytes.{length-bytes_of}
+
+-- the other records
+abbrev written_bytes : Act → List ℕ → List ℕ
+written_bytes Read words = []
+written_bytes Check words = []
+written_bytes Write words = bytes_of words
+
+abbrev back_bytes : Plan → Sector → List ℕ
+back_bytes plan sector = written_bytes plan.header sector.header ++ (written_bytes plan.label sector.label ++ written_bytes plan.value sector.value)
 
 read_bytes-cond : (act : Act) (words : List ℕ) → read_bytes act words ≡ cond (is_write act) [] (bytes_of words)
 read_bytes-cond Read words = refl
@@ -70,11 +78,3 @@ pub front_read : (a b : Option (List ℕ)) (plan : Plan) (s : Sector) (front res
 front_read a b plan s front rest legal whole len are consumes =
     let same : front_bytes plan s ≡ front = fronts_same (front_bytes plan s) (back_bytes plan s) front rest (length-front_bytes plan s whole ∙ sym len) (fronts_and_backs plan s legal ∙ are) in
     rw same consumes
-
--- what was written to a file from there on are the bytes of the records from the first Write on
-pub back_written : (a b : Option (List ℕ)) (plan : Plan) (s : Sector) (bytes : List ℕ) (n : ℕ) → IsTrue (is_legal plan) → IsWhole s → bytes ≡ sector_bytes s → n ≡ front_length plan → Appends a b (take (532 - n) (drop n bytes)) → Appends a b (back_bytes plan s)
-back_written a b plan s bytes n legal whole are at appends =
-    let long : n ≡ length (front_bytes plan s) = at ∙ sym (length-front_bytes plan s whole) in
-    let rest : length (drop n bytes) ≤ 532 - n = omega (arith, length-drop n bytes, ap length are, length-sector_bytes s whole) in
-    let same : drop n bytes ≡ back_bytes plan s = ap (drop n) (are ∙ sym (fronts_and_backs plan s legal)) ∙ ap (λ m. drop m (front_bytes plan s ++ back_bytes plan s)) long ∙ drop-append_seam (front_bytes plan s) (back_bytes plan s) in
-    rw (← same, ← take_all (532 - n) (drop n bytes) rest) appends

@@ -5,3 +5,5 @@ mod Pairs
 mod Fronts
 mod Filling
 mod Keeping
+mod Holds
+mod KeysOfLine

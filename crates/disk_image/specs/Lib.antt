@@ -1,4 +1,5 @@
 pub mod Drives
+pub mod Holding
 pub mod Images
 pub mod Kept
 pub mod Laws

@@ -1,4 +1,4 @@
--- What one sector command reads of a file and writes to it.
+-- What one sector command reads of a file, and what it counts.
 use Rattle.std.specs.Prelude.{ℕ, ◌+◌, List, [], ◌++◌}
 use Rattle.disk_records.specs.declared.records.Act.{Act}
 use Rattle.disk_records.specs.declared.records.Act.TheVariants.{Read, Check, Write}
@@ -7,23 +7,15 @@ use Rattle.disk_records.specs.declared.records.Sector.{Sector}
 use Rattle.disk_records.specs.Tapes.{capped}
 use Rattle.disk_records.specs.Bytes.{bytes_of}
 
--- the bytes of a record that a command reads, and of one that it writes
+-- the bytes of a record that a command reads
 abbrev pub read_bytes : Act → List ℕ → List ℕ
 read_bytes Read words = bytes_of words
 read_bytes Check words = bytes_of words
 read_bytes Write words = []
 
-abbrev pub written_bytes : Act → List ℕ → List ℕ
-written_bytes Read words = []
-written_bytes Check words = []
-written_bytes Write words = bytes_of words
-
--- the same of a sector: since a Write is followed by Writes alone, what is read stands before what is written
+-- the same of a sector: since a Write is followed by Writes alone, they are its first bytes
 abbrev pub front_bytes : Plan → Sector → List ℕ
 front_bytes plan sector = read_bytes plan.header sector.header ++ (read_bytes plan.label sector.label ++ read_bytes plan.value sector.value)
-
-abbrev pub back_bytes : Plan → Sector → List ℕ
-back_bytes plan sector = written_bytes plan.header sector.header ++ (written_bytes plan.label sector.label ++ written_bytes plan.value sector.value)
 
 -- the count of record writes after an act; it stands at 2^64 - 1 once there
 abbrev pub writes_after : Act → ℕ → ℕ

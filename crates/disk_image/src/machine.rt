@@ -3,34 +3,49 @@
 // Sectors that were read are kept in memory (kept.rt), and a sector command on one that is kept makes no read call. Else it goes to the
 // sector's cylinder, in the file of its drive, makes one read call for all of it, and keeps it: until another cylinder is read for the
 // first time, or for good where it was read before. Where there is no memory for that, or the cylinder can't be read whole, it goes to
-// the sector and makes one read call for the records before its first Write. A command that begins with a Write reads nothing. Writes
-// are never kept back: a command that writes goes to its first Write and makes one write call for all records that it writes, which stand
-// side by side in the file, in their order. What is kept of the sector is changed after it, and after a fault it is kept no longer. To go
-// to a place makes no call: each read and write call names its place (placed.rt). That is said of calls that are neither short nor
-// interrupted by a signal, here and in records.rt: after a short one another does the rest, and an interrupted one is made again.
+// the sector and makes one read call for the records before its first Write. A command that begins with a Write reads nothing. To go
+// to a place makes no call: each read and write call names its place (placed.rt).
+//
+// A command that writes hands its sector on whole. The records before its first Write were read or compared just before, so memory has
+// them as they stand. The bytes are held back (held.rt) as long as those of one command after another touch or overlap and are all in one
+// page of 4,096 bytes of one file. They are written by one call before a command writes elsewhere, in this file or in the other drive's,
+// before a cylinder or a sector is read from this file, and at `flush`. A sector that crosses a multiple of 4,096 bytes isn't held back: it
+// is written at once, by a call of its own. Where no memory was left to hold bytes each sector is. What is kept of a sector is changed with
+// the command that writes it, and after a fault of that command it is kept no longer. What is said here and in records.rt of the number
+// of calls holds for calls that are neither short nor interrupted by a signal: after a short one another does the rest, and an interrupted
+// one is made again.
 //
 // That a process which is stopped leaves a prefix of its record writes in the files, each of them whole, is a premise. It holds for one
-// that is stopped between two calls, of which the first wasn't short, and for one that a signal kills within a write call unless a
-// record of it crosses a multiple of 4,096 bytes in its file: Linux writes the bytes of a call in rising order and looks for such a signal
-// between two pages of memory, and the record may be torn there. About one sector in 8 has such a record; the value of a file's sector 7,
-// at the bytes 3,744 to 4,255, is the first. It doesn't hold where a call writes a part of a record and the one for the rest fails, or is
-// stopped by a limit on the size of files. Nothing is synced to the device, so a power failure may leave less.
+// that is stopped between two calls, of which the first wasn't short: the record writes that are held back are the last ones, and none of
+// them stands. It holds for one that a signal kills within a write call unless a record of it crosses a multiple of 4,096 bytes in its
+// file: Linux writes the bytes of a call in rising order and looks for such a signal between two pages of memory. So the bytes that were
+// held back, which are of one page, stand all or none, in whichever order the commands wrote them; a record that crosses may be torn.
+// About one sector in 8 has such a record; the value of a file's sector 7, at the bytes 3,744 to 4,255, is the first. The premise doesn't
+// hold where a call writes a part of a record and the one for the rest fails, or is stopped by a limit on the size of files. Nothing is
+// synced to the device, so a power failure may leave less.
 //
-// Before it writes a command asks for the file's length, by a seek to its end, so that no write makes the file longer, unless another
-// process shortens the file between the question and the write.
-ghost use Rattle.std.specs.Prelude.{◌≡◌, ◌≢◌, ◌<◌, false, [], ◌∷◌, length, take, IfOk, IfErr, IfNone, IfSome, OnErr};
+// Before each write call the file's length is asked for, by a seek to its end, so that no write makes the file longer, unless another
+// process shortens the file between the question and the write. Where the file is too short, or the call fails, the command fails in
+// which that was tried, or the flush; what is held back stays so and is tried again first, so nothing goes ahead of it.
+//
+// Keys are read ahead. Those of one line that were are taken at once, and none past the line's end (`read_line`).
+ghost use Rattle.std.specs.Prelude.{◌≡◌, ◌≢◌, ◌-◌, ◌<◌, ◌≤◌, false, [], length, take, IfOk, IfErr, OnErr};
 ghost use Rattle.std.specs.Option.{ForNone};
 ghost use Rattle.std.specs.Io.{ReadsAtMost};
 ghost use Rattle.std.specs.Io.Buffered.{reader_remaining};
 ghost use Rattle.std.specs.Io.KnownBytes.{Consumes, IsAtEnd, Keeps};
 ghost use Rattle.std.specs.IoError.{error_kind};
 ghost use Rattle.disk_records.specs.Addresses.{disks_of};
+ghost use Rattle.disk_records.specs.Tapes.{IsUnbroken};
 
-use crate::command::obey_in_file;
+use crate::command::{read_in_file, write_in_file};
 use crate::drives::{OnDrive, drive_of};
 use crate::kept::KeptSectors;
 use crate::placed::Placed;
-use disk_records::{Console, ConsoleError, Disk, DiskError, Machine, Plan, Sector, Shape, Tape};
+use disk_records::{
+    Act, Console, ConsoleError, Disk, DiskError, LINE_END, Machine, Plan, Sector, Shape, Tape,
+};
+use memchr::memchr;
 use std::alloc::Global;
 use std::io;
 use std::io::{BufRead, BufReader, Error, ErrorKind, Input, Print, Read};
@@ -41,21 +56,21 @@ use std::rt::Files;
 const MOST_TRIES: u64 = u64::MAX;
 
 /// A machine over a pack file, or over two of them for two drives, standard input and standard output. It isn't modelled: contracts see its
-/// shape and its counts, and nothing of what the files, the keys and the display hold. Each fault of the outside, as a read past a file's
-/// end, raises the count of its device by one and is answered by Failed; a count stands at 2^64 - 1 once there. Without faults each
-/// cylinder is read twice at most, and from the second time on kept in memory for all sectors of the pack that is taken as the machine is
-/// made; where that memory is refused, each sector is read from its file each time. No call takes memory, and a sector that is kept meets
-/// no fault of a read.
+/// shape and its counts, and nothing of what the files, the keys and the display hold. The last record writes may be held back until
+/// `flush`. Each fault of the outside, as a read past a file's end, raises the count of its device by one and is answered by Failed; a
+/// count stands at 2^64 - 1 once there. Without faults each cylinder is read twice at most, and from the second time on kept in memory for
+/// all sectors of the pack that is taken as the machine is made; where that memory is refused, each sector is read from its file each
+/// time. No call takes memory, and a sector that is kept meets no fault of a read.
 #[derive(Drop)]
 pub struct FileMachine<'a, R: Files + Input + Print> {
     rt: &'a R,
-    // the file of each drive; the place in it means nothing between two commands
+    // the file of each drive; the place in it means nothing between two commands, and one of them at most holds bytes back
     first: Placed<R::File>,
     second: Option<Placed<R::File>>,
     shape: Shape,
     // what was read of the files and is read from memory
     kept: KeptSectors,
-    // standard input, read ahead, so that a read of one key is cheap
+    // standard input, read ahead, so that few calls of the outside bring many keys
     keys: BufReader<R::Reader>,
     // record writes of the commands that did all of theirs
     writes: u64,
@@ -75,11 +90,12 @@ impl<'a, R: Files + Input + Print> Disk for FileMachine<'a, R>
 where
     R::File: FileExt,
 {
-    ghost use Rattle.std.specs.Prelude.{◌≡◌, ◌<◌, OnOk, IsErrOf, IsTrue};
+    ghost use Rattle.std.specs.Prelude.{◌≡◌, ◌<◌, OnOk, OnErr, IfErr, IfSome, IsOk, IsErrOf, IsTrue};
     ghost use Rattle.std.proofs.lemmas.Bool.{false≢true};
     ghost use Rattle.disk_records.specs.Addresses.{pages_of};
     ghost use Rattle.disk_records.specs.Checks.{is_legal, is_checked};
     ghost use Rattle.disk_records.specs.Tapes.{DiskAlone, IfMismatch, Ran, Rose};
+    ghost use Rattle.disk_image.specs.Holding.{HoldsNone};
     ghost use Rattle.disk_image.specs.Machines.{CountsFault};
     ghost use Rattle.disk_image.specs.Records.{writes_after_all};
 
@@ -115,6 +131,28 @@ where
         }
     }
 
+    /// It hands on the bytes that are held back of a drive's file, by one write call, and takes no memory. After Failed they are held back
+    /// still, until a call hands them on.
+    fn flush(&mut self) -> Result<(), DiskError>
+        ensures alone { DiskAlone (⟦<FileMachine<'a, R> as Tape>⟧.tape self.old) (⟦<FileMachine<'a, R> as Tape>⟧.tape self.new) }
+        ensures failed { OnErr result (Rose (⟦<FileMachine<'a, R> as Tape>⟧.tape self.old).disk_faults (⟦<FileMachine<'a, R> as Tape>⟧.tape self.new).disk_faults) }
+        ensures only { IfErr result (λ error. error ≡ DiskError.Failed) }
+        ensures told { IsTrue ⟦<FileMachine<'a, R> as Tape>⟧.told → IsOk result × ((⟦<FileMachine<'a, R> as Tape>⟧.tape self.new) ≡ (⟦<FileMachine<'a, R> as Tape>⟧.tape self.old)) }
+
+        // What is counted, and what is held back.
+        ensures fault { CountsFault (IsErrOf result DiskError.Failed) (⟦<FileMachine<'a, R> as Tape>⟧.tape self.old).disk_faults (⟦<FileMachine<'a, R> as Tape>⟧.tape self.new).disk_faults }
+        ensures same_writes { (⟦<FileMachine<'a, R> as Tape>⟧.tape self.new).writes ≡ (⟦<FileMachine<'a, R> as Tape>⟧.tape self.old).writes }
+        ensures none_held { OnOk result (HoldsNone self.new.first.held × IfSome self.new.second (λ file. HoldsNone file.held)) }
+    {
+        match self.hand_on() {
+            Ok(()) => Ok(()),
+            Err(_) => {
+                self.disk_faults = self.disk_faults.saturating_add(1);
+                Err(DiskError::Failed)
+            }
+        }
+    }
+
     ghost counted = { λ m told. absurd (false≢true told) };
 
     ghost sized = { λ m told. absurd (false≢true told) };
@@ -123,8 +161,8 @@ where
 }
 
 impl<'a, R: Files + Input + Print> Console for FileMachine<'a, R> {
-    ghost use Rattle.std.specs.Prelude.{◌<◌, ◌≤◌, length, IfOk, IsErrOf, IsTrue};
-    ghost use Rattle.disk_records.specs.Tapes.{KeysAlone, ShowAlone, HasRead, HasShown, Rose};
+    ghost use Rattle.std.specs.Prelude.{◌-◌, ◌<◌, ◌≤◌, length, take, IfOk, IsErrOf, IsTrue};
+    ghost use Rattle.disk_records.specs.Tapes.{KeysAlone, ShowAlone, HasRead, HasShown, IsUnbroken, Rose};
     ghost use Rattle.disk_image.specs.Machines.{CountsFault};
 
     /// A read that a signal interrupts is made again. It takes no memory.
@@ -145,6 +183,26 @@ impl<'a, R: Files + Input + Print> Console for FileMachine<'a, R> {
                 self.key_faults = self.key_faults.saturating_add(1);
                 Err(ConsoleError::Failed)
             }
+        }
+    }
+
+    /// It takes all keys of the line that were read ahead and that `buf` has place for, and one key where none is left of them. A read that a
+    /// signal interrupts is made again. It takes no memory.
+    fn read_line(&mut self, buf: &mut [u8]) -> Result<usize, ConsoleError>
+        requires { 0 < length buf.old }
+        ensures alone { KeysAlone (⟦<FileMachine<'a, R> as Tape>⟧.tape self.old) (⟦<FileMachine<'a, R> as Tape>⟧.tape self.new) }
+        ensures failed { IsErrOf result ConsoleError.Failed → Rose (⟦<FileMachine<'a, R> as Tape>⟧.tape self.old).key_faults (⟦<FileMachine<'a, R> as Tape>⟧.tape self.new).key_faults }
+        ensures fits { IfOk result (λ n. n ≤ length buf.old) }
+        ensures read { IsTrue ⟦<FileMachine<'a, R> as Tape>⟧.told → HasRead buf.old buf.new (⟦<FileMachine<'a, R> as Tape>⟧.tape self.old) (⟦<FileMachine<'a, R> as Tape>⟧.tape self.new) result }
+        ensures unbroken { IsTrue ⟦<FileMachine<'a, R> as Tape>⟧.told → IfOk result (λ n. IsUnbroken (take (n - 1) buf.new)) }
+
+        // What is counted, and what never comes.
+        ensures fault { CountsFault (IsErrOf result ConsoleError.Failed) (⟦<FileMachine<'a, R> as Tape>⟧.tape self.old).key_faults (⟦<FileMachine<'a, R> as Tape>⟧.tape self.new).key_faults }
+        ensures no_want { IsErrOf result ConsoleError.Memory → ⊥ }
+    {
+        match take_read_ahead(&mut self.keys, buf) {
+            0 => self.read(&mut buf[..1]),
+            count => Ok(count),
         }
     }
 
@@ -193,8 +251,8 @@ impl<'a, R: Files + Input + Print> FileMachine<'a, R> {
     {
         FileMachine {
             rt,
-            first: Placed::new(first),
-            second: second.map(Placed::new),
+            first: Placed::new(alloc, first),
+            second: second.map(|file| Placed::new(alloc, file)),
             shape,
             kept: KeptSectors::none_of(alloc, shape),
             keys,
@@ -210,16 +268,19 @@ impl<'a, R: Files + Input + Print> FileMachine<'a, R>
 where
     R::File: FileExt,
 {
-    ghost use Rattle.std.specs.Prelude.{◌≡◌, ◌<◌, ◌≤◌, IfOk, IfSome, IfNone, IsTrue};
+    ghost use Rattle.std.specs.Prelude.{◌≡◌, ◌≢◌, ◌<◌, ◌≤◌, IfOk, IfSome, IfNone, IsTrue, OnOk};
+    ghost use Rattle.disk_records.specs.declared.records.Act.TheVariants.{Write};
     ghost use Rattle.disk_records.specs.Addresses.{pages_of};
     ghost use Rattle.disk_records.specs.Checks.{is_legal, is_checked};
     ghost use Rattle.disk_records.specs.Tapes.{DiskAlone};
+    ghost use Rattle.disk_image.specs.Holding.{HoldsNone};
     ghost use Rattle.disk_image.specs.Images.{first_drive};
-    ghost use Rattle.disk_image.specs.Kept.{ObeysKept};
+    ghost use Rattle.disk_image.specs.Kept.{ReadsKept, ObeysKept};
     ghost use Rattle.disk_image.specs.Records.{writes_after_all};
 
     /// Does one sector command on a sector that is kept, or in the file of its drive, and answers the first word that differs, if one
-    /// does. The other drive's file isn't touched, and what is kept of other cylinders was kept before.
+    /// does. The other drive's file isn't touched, except by a command that writes: what is held back of it goes ahead. What is kept of
+    /// other cylinders was kept before.
     fn obey(&mut self, at: u16, plan: Plan, buf: &mut Sector) -> io::Result<Option<(u8, u16)>>
         requires place { at < pages_of (⟦<FileMachine<'a, R> as Tape>⟧.tape self.old).form }
         requires legal { IsTrue (is_legal plan) }
@@ -227,35 +288,123 @@ where
         ensures same_faults { (⟦<FileMachine<'a, R> as Tape>⟧.tape self.new).disk_faults ≡ (⟦<FileMachine<'a, R> as Tape>⟧.tape self.old).disk_faults }
         ensures checked { IfOk result (λ found. IfSome found (λ place. IsTrue (is_checked plan place.0))) }
         ensures wrote { IfOk result (λ found. IfNone found ((⟦<FileMachine<'a, R> as Tape>⟧.tape self.new).writes ≡ writes_after_all plan (⟦<FileMachine<'a, R> as Tape>⟧.tape self.old).writes)) }
+        ensures first_kept { first_drive self.old.shape ≤ at → plan.value ≢ Write → self.new.first ≡ self.old.first }
+        ensures second_kept { at < first_drive self.old.shape → plan.value ≢ Write → self.new.second ≡ self.old.second }
+        ensures first_ahead { first_drive self.old.shape ≤ at → plan.value ≡ Write → IfOk result (λ found. IfNone found (HoldsNone self.new.first.held)) }
+        ensures second_ahead { at < first_drive self.old.shape → plan.value ≡ Write → IfOk result (λ found. IfNone found (IfSome self.new.second (λ file. HoldsNone file.held))) }
+        ensures kept { ObeysKept at plan buf.old buf.new self.old.kept self.new.kept result }
+    {
+        let found = self.read_on_drive(at, plan, buf)?;
+        if found.is_some() || plan.value != Act::Write {
+            return Ok(found);
+        }
+        match self.write_on_drive(at, plan, buf) {
+            Ok(()) => {
+                self.kept.replace(at, buf);
+                Ok(None)
+            }
+            Err(error) => {
+                self.kept.forget(at);
+                Err(error)
+            }
+        }
+    }
+
+    /// Does what a sector command reads, and answers the first word that differs, if one does. The other drive's file isn't touched.
+    fn read_on_drive(
+        &mut self,
+        at: u16,
+        plan: Plan,
+        buf: &mut Sector,
+    ) -> io::Result<Option<(u8, u16)>>
+        requires place { at < pages_of (⟦<FileMachine<'a, R> as Tape>⟧.tape self.old).form }
+        requires legal { IsTrue (is_legal plan) }
+        ensures same { (⟦<FileMachine<'a, R> as Tape>⟧.tape self.new) ≡ (⟦<FileMachine<'a, R> as Tape>⟧.tape self.old) }
+        ensures checked { IfOk result (λ found. IfSome found (λ place. IsTrue (is_checked plan place.0))) }
         ensures first_kept { first_drive self.old.shape ≤ at → self.new.first ≡ self.old.first }
         ensures second_kept { at < first_drive self.old.shape → self.new.second ≡ self.old.second }
-        ensures kept { ObeysKept at plan buf.old buf.new self.old.kept self.new.kept result }
+        ensures kept { ReadsKept at plan buf.old buf.new self.old.kept self.new.kept result }
     {
         match drive_of(self.shape, at) {
             OnDrive::First(spot) => {
-                let file = &mut self.first;
-                obey_in_file(file, spot, plan, buf, &mut self.kept, &mut self.writes)
+                read_in_file(&mut self.first, spot, plan, buf, &mut self.kept)
             }
             OnDrive::Second(spot) => match &mut self.second {
-                Some(file) => obey_in_file(file, spot, plan, buf, &mut self.kept, &mut self.writes),
+                Some(file) => read_in_file(file, spot, plan, buf, &mut self.kept),
                 None => unreachable!(),
             },
         }
     }
+
+    /// Writes a sector as a command does, and counts its record writes. What is held back of the other drive's file goes ahead of it.
+    fn write_on_drive(&mut self, at: u16, plan: Plan, sector: &Sector) -> io::Result<()>
+        requires place { at < pages_of (⟦<FileMachine<'a, R> as Tape>⟧.tape self.old).form }
+        ensures alone { DiskAlone (⟦<FileMachine<'a, R> as Tape>⟧.tape self.old) (⟦<FileMachine<'a, R> as Tape>⟧.tape self.new) }
+        ensures same_faults { (⟦<FileMachine<'a, R> as Tape>⟧.tape self.new).disk_faults ≡ (⟦<FileMachine<'a, R> as Tape>⟧.tape self.old).disk_faults }
+        ensures wrote { OnOk result ((⟦<FileMachine<'a, R> as Tape>⟧.tape self.new).writes ≡ writes_after_all plan (⟦<FileMachine<'a, R> as Tape>⟧.tape self.old).writes) }
+        ensures first_ahead { first_drive self.old.shape ≤ at → OnOk result (HoldsNone self.new.first.held) }
+        ensures second_ahead { at < first_drive self.old.shape → OnOk result (IfSome self.new.second (λ file. HoldsNone file.held)) }
+        ensures kept { self.new.kept ≡ self.old.kept }
+    {
+        match drive_of(self.shape, at) {
+            OnDrive::First(spot) => {
+                if let Some(other) = &mut self.second {
+                    other.hand_on()?;
+                }
+                let file = &mut self.first;
+                write_in_file(file, spot.ahead, plan, sector, &mut self.writes)
+            }
+            OnDrive::Second(spot) => match &mut self.second {
+                Some(file) => {
+                    self.first.hand_on()?;
+                    write_in_file(file, spot.ahead, plan, sector, &mut self.writes)
+                }
+                None => unreachable!(),
+            },
+        }
+    }
+
+    /// Hands on what is held back of the files. At most one of them has any, as a command that writes hands on that of the other drive.
+    fn hand_on(&mut self) -> io::Result<()>
+        ensures same { (⟦<FileMachine<'a, R> as Tape>⟧.tape self.new) ≡ (⟦<FileMachine<'a, R> as Tape>⟧.tape self.old) }
+        ensures first { OnOk result (HoldsNone self.new.first.held) }
+        ensures second { OnOk result (IfSome self.new.second (λ file. HoldsNone file.held)) }
+    {
+        if let Some(second) = &mut self.second {
+            second.hand_on()?;
+        }
+        self.first.hand_on()
+    }
 }
 
-/// Takes the next key of those that were read ahead. None where none is left of them.
-fn take_read_ahead<R: Read>(keys: &mut BufReader<R>) -> Option<u8>
-    ensures some { IfSome result (λ key. Consumes (reader_remaining R.remaining keys.old) (reader_remaining R.remaining keys.new) (key ∷ [])) }
-    ensures none { IfNone result (keys.new ≡ keys.old) }
+/// Counts the keys of the line that these begin with: up to its end, or all of them if none ends it.
+fn keys_of_line(keys: &[u8]) -> usize
+    ensures fits { result ≤ length keys.now }
+    ensures some { 0 < length keys.now → 0 < result }
+    ensures unbroken { IsUnbroken (take (result - 1) keys.now) }
 {
-    let key = *keys.buffer().first()?;
-    keys.consume(1);
-    Some(key)
+    match memchr(LINE_END, keys) {
+        Some(end) => end + 1,
+        None => keys.len(),
+    }
 }
 
-/// Reads keys, and again where a signal interrupted the call, as std's own calls do that read more than once. One key that was read ahead
-/// is taken by itself: std's read copies bytes of any number.
+/// Moves keys of one line that were read ahead to the front of `buf`, as many as it has place for, and answers how many: 0 where none is
+/// left of them.
+fn take_read_ahead<R: Read>(keys: &mut BufReader<R>, buf: &mut [u8]) -> usize
+    ensures fits { result ≤ length buf.old }
+    ensures taken { Consumes (reader_remaining R.remaining keys.old) (reader_remaining R.remaining keys.new) (take result buf.new) }
+    ensures unbroken { IsUnbroken (take (result - 1) buf.new) }
+{
+    let ready = keys.buffer();
+    let most = ready.len().min(buf.len());
+    let count = keys_of_line(&ready[..most]);
+    buf[..count].copy_from_slice(&ready[..count]);
+    keys.consume(count);
+    count
+}
+
+/// Reads keys, and again where a signal interrupted the call, as std's own calls do that read more than once.
 fn read_keys<R: Read>(keys: &mut BufReader<R>, buf: &mut [u8]) -> io::Result<usize>
     ensures bound { ReadsAtMost result buf.new }
     ensures ok { IfOk result (λ count. Consumes (reader_remaining R.remaining keys.old) (reader_remaining R.remaining keys.new) (take count buf.new)) }
@@ -263,12 +412,6 @@ fn read_keys<R: Read>(keys: &mut BufReader<R>, buf: &mut [u8]) -> io::Result<usi
     ensures err { OnErr result (Keeps (reader_remaining R.remaining keys.old) (reader_remaining R.remaining keys.new)) }
     ensures retried { IfErr result (λ error. error_kind error ≢ ErrorKind.Interrupted) }
 {
-    if let [place] = buf {
-        if let Some(key) = take_read_ahead(keys) {
-            *place = key;
-            return Ok(1);
-        }
-    }
     for _ in 0..MOST_TRIES {
         match keys.read(buf) {
             Ok(count) => return Ok(count),

@@ -1,9 +1,13 @@
 // A file that is read and written at a place that is kept in memory: a seek to a place makes no call of the outside, and each read and
-// write names its place in the call that it makes.
-ghost use Rattle.std.specs.Prelude.{◌≡◌};
+// write names its place in the call that it makes. Bytes that are written are held back as long as they follow each other within one page
+// of memory of the file (held.rt), and go ahead of all that is read or written after them.
+ghost use Rattle.std.specs.Prelude.{◌≡◌, ◌↔◌, ◌+◌, ◌≤◌, IsTrue, OnOk, OnErr};
+ghost use Rattle.disk_image.specs.Holding.{HoldsNone, HoldsNoMore};
 
+use crate::held::Held;
+use std::alloc::Global;
 use std::io;
-use std::io::{ErrorKind, Read, Seek, SeekFrom, Write};
+use std::io::{Error, ErrorKind, Read, Seek, SeekFrom, Write};
 use std::os::unix::fs::FileExt;
 
 /// An open file with the place in it of the next byte that is read or written. The position that the outside has for it means nothing.
@@ -12,33 +16,83 @@ pub(crate) struct Placed<F> {
     file: F,
     // counted in bytes from 0
     at: u64,
+    // what was written and isn't in the file yet
+    held: Held,
 }
 
 impl<F> Placed<F> {
-    /// A file at its first byte.
-    pub(crate) fn new(file: F) -> Placed<F>
-        ensures { result.at ≡ 0 }
+    /// A file at its first byte, of which nothing is held back.
+    pub(crate) fn new(alloc: Global, file: F) -> Placed<F>
+        ensures place { result.at ≡ 0 }
+        ensures none { HoldsNone result.held }
     {
-        Placed { file, at: 0 }
+        Placed {
+            file,
+            at: 0,
+            held: Held::new(alloc),
+        }
     }
 }
 
-impl<F: FileExt> Read for Placed<F> {
+impl<F: FileExt + Seek> Placed<F> {
+    /// Hands on to the file what is held back of it, by one write call. Where that fails it is held back still, and nothing goes ahead
+    /// of it later.
+    pub(crate) fn hand_on(&mut self) -> io::Result<()>
+        ensures ok { OnOk result (HoldsNone self.new.held) }
+        ensures err { OnErr result (self.new.held ≡ self.old.held) }
+        ensures no_more { HoldsNoMore self.old.held self.new.held }
+        ensures place { self.new.at ≡ self.old.at }
+    {
+        if self.held.is_empty() {
+            return Ok(());
+        }
+        write_in_file(&mut self.file, self.held.place(), self.held.bytes())?;
+        self.held.clear();
+        Ok(())
+    }
+}
+
+/// Whether a file of so many bytes has all of these many from a place on.
+fn has_bytes(length: u64, at: u64, count: usize) -> bool
+    ensures { IsTrue result ↔ at + count ≤ length }
+{
+    at <= length && count as u64 <= length - at
+}
+
+/// Writes bytes to their place in a file that has the whole of it, by one write call. UnexpectedEof: it no longer has. Records written
+/// there would make the file longer again, and those that were lost would be read as zeros. That holds for the moment of the question:
+/// another process can shorten the file after it.
+fn write_in_file<F: FileExt + Seek>(file: &mut F, at: u64, bytes: &[u8]) -> io::Result<()> {
+    if !has_bytes(file.seek(SeekFrom::End(0))?, at, bytes.len()) {
+        return Err(Error::from(ErrorKind::UnexpectedEof));
+    }
+    file.write_all_at(bytes, at)
+}
+
+impl<F: FileExt + Seek> Read for Placed<F> {
     fn read(&mut self, buf: &mut [u8]) -> io::Result<usize> {
+        self.hand_on()?;
         let count = self.file.read_at(buf, self.at)?;
         self.at = self.at.saturating_add(count as u64);
         Ok(count)
     }
 }
 
-impl<F: FileExt + Write> Write for Placed<F> {
+impl<F: FileExt + Write + Seek> Write for Placed<F> {
+    /// All bytes are held back, or they are written by a call of their own, where they aren't all in one page.
     fn write(&mut self, buf: &[u8]) -> io::Result<usize> {
-        let count = self.file.write_at(buf, self.at)?;
-        self.at = self.at.saturating_add(count as u64);
-        Ok(count)
+        if !self.held.put(self.at, buf) {
+            self.hand_on()?;
+            if !self.held.put(self.at, buf) {
+                write_in_file(&mut self.file, self.at, buf)?;
+            }
+        }
+        self.at = self.at.saturating_add(buf.len() as u64);
+        Ok(buf.len())
     }
 
     fn flush(&mut self) -> io::Result<()> {
+        self.hand_on()?;
         self.file.flush()
     }
 }

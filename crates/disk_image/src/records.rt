@@ -1,10 +1,11 @@
 // The records of one sector, read from a file and written to it where the file stands.
-ghost use Rattle.std.specs.Prelude.{◌≡◌, ◌+◌, ◌*◌, ◌/◌, ◌≤◌, length, replicate, IfOk, OnOk, OnErr, IsTrue};
+ghost use Rattle.std.specs.Prelude.{◌≡◌, ◌*◌, ◌/◌, ◌≤◌, length, replicate, IfOk, OnOk, OnErr, IsTrue};
 ghost use Rattle.std.specs.Io.KnownBytes.{Consumes, Appends};
 ghost use Rattle.std.specs.Io.Seek.{MovesTo};
 ghost use Rattle.disk_records.specs.Checks.{is_legal};
 ghost use Rattle.disk_image.specs.Kept.{HasRoom, ReadsCylinder};
-ghost use Rattle.disk_image.specs.Records.{read_length, front_length, front_bytes, back_bytes, writes_after, writes_after_all};
+ghost use Rattle.disk_image.specs.Images.{sector_bytes};
+ghost use Rattle.disk_image.specs.Records.{read_length, front_length, front_bytes, writes_after, writes_after_all};
 
 use crate::codec::{
     CYLINDER_BYTES, HEADER_BYTES, LABEL_BYTES, SECTOR_BYTES, VALUE_BYTES, read_sector, write_sector,
@@ -35,35 +36,19 @@ fn front_length(plan: Plan) -> usize
         + (read_length(plan.label, LABEL_BYTES) + read_length(plan.value, VALUE_BYTES))
 }
 
-/// Brings a file to a byte of the sector that has so many sectors of the file ahead of it.
-fn seek_into<F: Seek>(file: &mut F, ahead: u16, bytes: usize) -> io::Result<()>
-    requires { bytes ≤ 532 }
-    ensures { MovesTo (F.stream_position file.old) (F.stream_position file.new) (ahead * 532 + bytes) result }
-{
-    let sector = ahead as u64 * SECTOR_BYTES as u64;
-    file.seek(SeekFrom::Start(sector + bytes as u64))?;
-    Ok(())
-}
-
 /// Brings a file to the first byte of the sector with so many sectors of the file ahead of it, as at the calls below.
 pub(crate) fn seek_to<F: Seek>(file: &mut F, ahead: u16) -> io::Result<()>
     ensures { MovesTo (F.stream_position file.old) (F.stream_position file.new) (ahead * 532) result }
 {
-    seek_into(file, ahead, 0)
+    file.seek(SeekFrom::Start(ahead as u64 * SECTOR_BYTES as u64))?;
+    Ok(())
 }
 
 /// Brings a file to the first byte of a sector's cylinder.
 pub(crate) fn seek_to_cylinder<F: Seek>(file: &mut F, ahead: u16) -> io::Result<()>
     ensures { MovesTo (F.stream_position file.old) (F.stream_position file.new) (ahead / 24 * 12768) result }
 {
-    seek_into(file, ahead / CYLINDER_SECTORS * CYLINDER_SECTORS, 0)
-}
-
-/// Brings a file to the first byte of a sector that the command writes, past the records before its first Write.
-pub(crate) fn seek_to_back<F: Seek>(file: &mut F, ahead: u16, plan: Plan) -> io::Result<()>
-    ensures { MovesTo (F.stream_position file.old) (F.stream_position file.new) (ahead * 532 + front_length plan) result }
-{
-    seek_into(file, ahead, front_length(plan))
+    seek_to(file, ahead / CYLINDER_SECTORS * CYLINDER_SECTORS)
 }
 
 /// Reads the records before the first Write, by one read call, or by none where there are none. The other records are zeros.
@@ -104,23 +89,22 @@ fn writes_after(act: Act, writes: u64) -> u64
     }
 }
 
-/// Writes the records whose act is Write, which are a sector's last ones, by one write call, and counts them. After a fault none of them is
-/// counted.
+/// Writes a sector whole, where the file stands, by one write call, and counts the records whose act is Write. The others have to be as
+/// they stand in the file. After a fault none is counted.
 pub(crate) fn write_back<F: Write>(
     file: &mut F,
     plan: Plan,
     sector: &Sector,
     writes: &mut u64,
 ) -> io::Result<()>
-    requires { IsTrue (is_legal plan) }
-    ensures bytes { OnOk result (Appends (F.contents file.old) (F.contents file.new) (back_bytes plan sector.now)) }
+    ensures bytes { OnOk result (Appends (F.contents file.old) (F.contents file.new) (sector_bytes sector.now)) }
     ensures count { OnOk result (writes.new ≡ writes_after_all plan writes.old) }
     ensures err { OnErr result (writes.new ≡ writes.old) }
     ensures rise { writes.old ≤ writes.new }
 {
     let mut bytes = [0; SECTOR_BYTES];
     write_sector(sector, &mut bytes);
-    file.write_all(&bytes[front_length(plan)..])?;
+    file.write_all(&bytes)?;
     *writes = writes_after(
         plan.value,
         writes_after(plan.label, writes_after(plan.header, *writes)),

@@ -2,6 +2,7 @@
 use Rattle.std.proofs.Common.{◌≡◌, ℕ, zero, suc, ◌+◌, ◌*◌, ◌/◌, ◌%◌, ◌<◌, ◌≤◌, List, [], ◌∷◌, ◌++◌, length, take, drop, get_or, refl, sym, ◌∙◌, ap, arith, append_assoc}
 use Rattle.std.proofs.lemmas.List.{length-append, length-take, drop-drop, take_more, take_all}
 use Rattle.std.proofs.Math.ListN.{set}
+use borrow.Rule.Slice.PartMut.{put_mid}
 use Rattle.disk_records.specs.Bytes.{bytes_of, words_of, put_at}
 use Rattle.disk_records.proofs.Bytes.{put_at-nil, put_at-later, put_at-here, put_at-append_right, words_of-bytes_of, length-bytes_of, length-put_at}
 
@@ -107,6 +108,40 @@ module _ (at i : ℕ) (bytes words old : List ℕ) (put : bytes_of words ≡ put
 bytes_of-append : (a b : List ℕ) → bytes_of (a ++ b) ≡ bytes_of a ++ bytes_of b
 bytes_of-append [] b = refl
 bytes_of-append (w ∷ a) b = ap (λ l. w / 256 ∷ w % 256 ∷ l) (bytes_of-append a b)
+
+taken : (k : ℕ) (words : List ℕ) → bytes_of (take k words) ≡ take (twice k) (bytes_of words)
+unfolding twice
+taken zero words = refl
+taken (suc k) [] = refl
+taken (suc k) (w ∷ words) = ap (λ l. w / 256 ∷ w % 256 ∷ l) (taken k words)
+
+dropped : (k : ℕ) (words : List ℕ) → bytes_of (drop k words) ≡ drop (twice k) (bytes_of words)
+unfolding twice
+dropped zero words = refl
+dropped (suc k) [] = refl
+dropped (suc k) (w ∷ words) = dropped k words
+
+-- whole words in the place of others, and then the bytes after them
+pub put_pairs : (at whole k : ℕ) (pairs rest bytes words old later : List ℕ) → at % 2 ≡ 0 → at + length bytes ≤ 2 * length old → k ≡ whole → bytes ≡ pairs ++ rest → bytes_of words ≡ pairs → length pairs ≡ 2 * whole
+    → bytes_of later ≡ put_at (at + 2 * whole) rest (bytes_of (put_mid (at / 2) k old words))
+    → bytes_of later ≡ put_at at bytes (bytes_of old)
+put_pairs at whole k pairs rest bytes words old later even fits many all are size next =
+    let front : twice (at / 2) ≡ at = omega (arith, twice-is (at / 2)) in
+    let past : twice (at / 2 + k) ≡ at + length pairs = omega (arith, twice-is (at / 2 + k), size, many) in
+    let behind = drop (at / 2 + k) old in
+    let one : bytes_of (take (at / 2) old) ≡ take at (bytes_of old) = taken (at / 2) old ∙ ap (λ n. take n (bytes_of old)) front in
+    let two : bytes_of behind ≡ drop (at + length pairs) (bytes_of old) = dropped (at / 2 + k) old ∙ ap (λ n. drop n (bytes_of old)) past in
+    let put : bytes_of (put_mid (at / 2) k old words) ≡ put_at at pairs (bytes_of old) =
+    ap (λ l. bytes_of (take (at / 2) old ++ (words ++ l))) (drop-drop k (at / 2) old)
+    ∙ bytes_of-append (take (at / 2) old) (words ++ behind)
+    ∙ ap (λ l. l ++ bytes_of (words ++ behind)) one
+    ∙ ap (λ l. take at (bytes_of old) ++ l) (bytes_of-append words behind ∙ ap (λ l. l ++ bytes_of behind) are ∙ ap (λ l. pairs ++ l) two)
+    ∙ sym (append_assoc (take at (bytes_of old)) pairs (drop (at + length pairs) (bytes_of old))) in
+    next
+    ∙ ap (put_at (at + 2 * whole) rest) put
+    ∙ ap (λ n. put_at (at + n) rest (put_at at pairs (bytes_of old))) (sym size)
+    ∙ sym (put_at-joined at pairs rest (bytes_of old) (omega (arith, length-bytes_of old)))
+    ∙ ap (λ l. put_at at l (bytes_of old)) (sym all)
 
 -- one word more
 pub next_word : (at i : ℕ) (bytes past words later old : List ℕ) → i < length past → at ≤ length old → bytes_of words ≡ put_at at (bytes ++ bytes_of (take i past)) old

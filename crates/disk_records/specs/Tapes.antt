@@ -1,5 +1,5 @@
 -- What a machine holds and what has happened to it.
-use Rattle.std.specs.Prelude.{◌≡◌, ◌≢◌, ℕ, ◌+◌, ◌-◌, ◌^◌, ◌<◌, ◌≤◌, ◌↔◌, min, Bool, IsTrue, List, [], ◌++◌, length, take, drop, Some, None, Result, Ok, Err, IsErrOf, OnOk, OnErr, IfOk}
+use Rattle.std.specs.Prelude.{◌≡◌, ◌≢◌, ℕ, ◌+◌, ◌-◌, ◌^◌, ◌<◌, ◌≤◌, ◌↔◌, min, Bool, IsTrue, List, [], ◌∷◌, ◌++◌, length, take, drop, Some, None, Result, Ok, Err, IsErrOf, OnOk, OnErr, IfOk}
 use Rattle.disk_records.specs.declared.records.Sector.{Sector}
 use Rattle.disk_records.specs.declared.records.Plan.{Plan}
 use Rattle.disk_records.specs.declared.records.Event.{Event}
@@ -124,6 +124,11 @@ pub record Ran (at : ℕ) (plan : Plan) (memory buffer : Sector) (old new : Tape
   pub mismatch : IfMismatch result (RanAgainst at plan memory (pack old) (added old new))
   pub want : IsErrOf result Memory → RanShort at plan memory old new
   pub runs : new.runs ≡ capped (old.runs + 1)
+
+-- no key of these ends a line: none is the byte 10
+abbrev pub IsUnbroken : List ℕ → Type 0
+IsUnbroken [] = Unit {0}
+IsUnbroken (key ∷ keys) = (key ≢ 10) × IsUnbroken keys
 
 -- Ok(n) moves the first n keys to the front of the buffer; n is 0 exactly at the end of input
 pub record ReadKeys (after : List ℕ) (old new : Taped) (n : ℕ) : Type 0 where

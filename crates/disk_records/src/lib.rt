@@ -32,5 +32,5 @@ pub use label::{
 pub use laws::label_reads_back;
 pub use records::{Act, Event, Page, Place, Plan, Sector, Tally};
 pub use shape::Shape;
-pub use traits::{Console, ConsoleError, Disk, DiskError, Machine, Tape};
+pub use traits::{Console, ConsoleError, Disk, DiskError, LINE_END, Machine, Tape};
 pub use words::{PAGE_BYTES, bytes_into_words, put_in_words, words_into_bytes};

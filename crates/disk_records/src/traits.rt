@@ -1,10 +1,10 @@
 // The machine as the layers above see it.
-ghost use Rattle.std.specs.Prelude.{◌≡◌, ◌<◌, ◌≤◌, Bool, IsTrue, IsErrOf, IfOk, length};
+ghost use Rattle.std.specs.Prelude.{◌≡◌, ◌-◌, ◌<◌, ◌≤◌, Bool, IsTrue, IsOk, IsErrOf, IfOk, IfErr, OnErr, length, take};
 ghost use Rattle.disk_records.specs.Addresses.{pages_of};
 ghost use Rattle.disk_records.specs.Checks.{is_legal, is_checked};
 ghost use Rattle.disk_records.specs.Events.{writes_in};
 ghost use Rattle.disk_records.specs.Packs.{AreFormed};
-ghost use Rattle.disk_records.specs.Tapes.{Taped, DiskAlone, KeysAlone, ShowAlone, HasRead, HasShown, Rose, Ran, IfMismatch, capped, pack};
+ghost use Rattle.disk_records.specs.Tapes.{Taped, DiskAlone, KeysAlone, ShowAlone, HasRead, HasShown, IsUnbroken, Rose, Ran, IfMismatch, capped, pack};
 
 use crate::{Plan, Sector, Shape};
 
@@ -59,6 +59,18 @@ pub trait Disk: Tape {
         ensures checked { IfMismatch result (λ part word. IsTrue (is_checked plan part)) }
         ensures ran { IsTrue Self.told → Ran at plan buf.old buf.new (Self.tape self.old) (Self.tape self.new) result };
 
+    /// Hands on to the device the record writes that the machine holds back, so that they stand on the pack if the process stops. A machine
+    /// may hold back those of its last sector commands, in their order, until the next call of this one; one that is modelled holds none
+    /// back. After Failed some of them may be lost, the last ones; no other error comes.
+    fn flush(&mut self) -> Result<(), DiskError>
+        ensures alone { DiskAlone (Self.tape self.old) (Self.tape self.new) }
+        ensures failed { OnErr result (Rose (Self.tape self.old).disk_faults (Self.tape self.new).disk_faults) }
+        ensures only { IfErr result (λ error. error ≡ DiskError.Failed) }
+        ensures told { IsTrue Self.told → IsOk result × (Self.tape self.new ≡ Self.tape self.old) }
+    {
+        Ok(())
+    }
+
     /// Where the machine is modelled, the count is that of its events.
     ghost counted: { (d : Self) → IsTrue Self.told → (Self.tape d).writes ≡ capped (writes_in (Self.tape d).events) };
 
@@ -69,6 +81,9 @@ pub trait Disk: Tape {
     ghost formed: { (d : Self) → IsTrue Self.told → AreFormed (pack (Self.tape d)) };
 }
 
+/// The key that ends a line.
+pub const LINE_END: u8 = 10;
+
 /// A keyboard and a display.
 pub trait Console: Tape {
     /// Moves keys to the front of `buf` and answers how many: 0 exactly at the end of input.
@@ -78,6 +93,19 @@ pub trait Console: Tape {
         ensures failed { IsErrOf result ConsoleError.Failed → Rose (Self.tape self.old).key_faults (Self.tape self.new).key_faults }
         ensures fits { IfOk result (λ n. n ≤ length buf.old) }
         ensures read { IsTrue Self.told → HasRead buf.old buf.new (Self.tape self.old) (Self.tape self.new) result };
+
+    /// Moves keys of one line to the front of `buf` and answers how many: 0 exactly at the end of input. At most the last of them
+    /// ends the line. Unless a machine does it otherwise, each call takes one key by one `read`.
+    fn read_line(&mut self, buf: &mut [u8]) -> Result<usize, ConsoleError>
+        requires { 0 < length buf.old }
+        ensures alone { KeysAlone (Self.tape self.old) (Self.tape self.new) }
+        ensures failed { IsErrOf result ConsoleError.Failed → Rose (Self.tape self.old).key_faults (Self.tape self.new).key_faults }
+        ensures fits { IfOk result (λ n. n ≤ length buf.old) }
+        ensures read { IsTrue Self.told → HasRead buf.old buf.new (Self.tape self.old) (Self.tape self.new) result }
+        ensures unbroken { IsTrue Self.told → IfOk result (λ n. IsUnbroken (take (n - 1) buf.new)) }
+    {
+        self.read(&mut buf[..1])
+    }
 
     /// Shows these bytes.
     fn show(&mut self, bytes: &[u8]) -> Result<(), ConsoleError>

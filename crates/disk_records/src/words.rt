@@ -27,8 +27,8 @@ pub fn bytes_into_words(bytes: &[u8], words: &mut [u16])
     BigEndian::read_u16_into(bytes, words);
 }
 
-/// Puts bytes in the place of others in the value of a page, from this byte of the page on.
-fn put_bytes(value: &mut [u16; 256], offset: usize, bytes: &[u8])
+/// Puts bytes in the place of others in the value of a page, one after another from this byte of the page on.
+fn put_each(value: &mut [u16; 256], offset: usize, bytes: &[u8])
     requires { offset + length bytes.now ≤ 512 }
     ensures { bytes_of value.new ≡ put_at offset bytes.now (bytes_of value.old) }
 {
@@ -41,6 +41,22 @@ fn put_bytes(value: &mut [u16; 256], offset: usize, bytes: &[u8])
             word / 256 * 256 + *byte as u16
         };
     }
+}
+
+/// Puts bytes in the place of others in the value of a page, from this byte of the page on: those that are whole words as words.
+fn put_bytes(value: &mut [u16; 256], offset: usize, bytes: &[u8])
+    requires { offset + length bytes.now ≤ 512 }
+    ensures { bytes_of value.new ≡ put_at offset bytes.now (bytes_of value.old) }
+{
+    if offset % 2 != 0 {
+        put_each(value, offset, bytes);
+        return;
+    }
+    let whole = bytes.len() / 2;
+    let (pairs, rest) = bytes.split_at(2 * whole);
+    let first = offset / 2;
+    bytes_into_words(pairs, &mut value[first..first + whole]);
+    put_each(value, offset + 2 * whole, rest);
 }
 
 /// Puts bytes in the place of others in the value of a page, from this byte of the page on, and then the bytes of these words after

@@ -4,7 +4,7 @@ use Rattle.std.proofs.lemmas.List.{append-nil, length-append}
 use Rattle.std.proofs.lemmas.Bool.{ne_eqb}
 use Rattle.executive.specs.pack_model.specs.sessions.Lines.{lines, lines_from, ended_lines, ended_from, most_keys, keys_of}
 use Rattle.executive.specs.pack_laws.proofs.Lining.{rest_from, lines_split, ended-join}
-use Rattle.session_boot.specs.Keys.{IsUnbroken}
+use Rattle.disk_records.specs.Tapes.{IsUnbroken}
 
 pub unbroken_ended : (line keys : List ℕ) → IsUnbroken keys → ended_from line keys ≡ []
 unbroken_ended line [] h = refl

@@ -4,7 +4,8 @@ use Rattle.std.proofs.lemmas.List.{take_all, append-nil, length-append, length-t
 use Rattle.std.proofs.Math.Seq.{take-append-add, drop-append-add}
 use Rattle.executive.specs.pack_model.specs.sessions.Lines.{lines, lines_from, ended_lines, ended_from, most_keys, keys_of}
 use Rattle.executive.specs.pack_laws.proofs.Lining.{rest_from, lines-append, ended-append, rest-append, lines_split}
-use Rattle.session_boot.specs.Keys.{IsUnbroken, TookEnded, TookRest, TookLast}
+use Rattle.disk_records.specs.Tapes.{IsUnbroken}
+use Rattle.session_boot.specs.Keys.{TookEnded, TookRest, TookLast}
 use Rattle.session_boot.proofs.LineEnds.{unbroken_ended, unbroken_rest, whole_line, keys_of-push, ended_few}
 
 -- All lines so far have ended, and so many keys still count.

@@ -1,24 +1,34 @@
--- Keys taken one at a time, and as lines.
+-- Keys taken in pieces of lines, and as lines.
 use Rattle.std.specs.Prelude.{◌≡◌, ◌≢◌, ◌⊎◌, ℕ, ◌+◌, ◌<◌, ◌≤◌, List, [], ◌∷◌, ◌++◌, length, take, drop, Option, Some, None, Result, Ok, Err, OnOk, IfErr, Vec}
 use Rattle.std.specs.declared.alloc.Global.{Global}
 use Rattle.disk_records.specs.Events.{IsFirstOf, shown_events}
-use Rattle.disk_records.specs.Tapes.{Taped, added}
+use Rattle.disk_records.specs.Tapes.{Taped, IsUnbroken, added}
+use Rattle.session_boot.specs.declared.keys.Piece.{Piece}
+use Rattle.session_boot.specs.declared.keys.Piece.TheVariants.{End, Part, Last}
 use Rattle.session_boot.specs.declared.status.Fault.{Fault}
 use Rattle.session_boot.specs.declared.status.Fault.TheVariants.{Display}
 
-abbrev pub TookKey : List ℕ → List ℕ → Result (Option ℕ) Fault → Type 0
-TookKey old new (Ok (Some key)) = old ≡ key ∷ new
-TookKey old new (Ok None) = (old ≡ []) × (new ≡ [])
-TookKey old new (Err e) = new ≡ old
+-- keys of one line were taken, and these stood after them
+pub record TookSome (old rest part : List ℕ) : Type 0 where
+  pub unbroken : IsUnbroken part
+  pub split : old ≡ part ++ rest
+
+-- what one call took of a line, at the front of the buffer; with a line's last piece the byte 10 was taken that ends it
+abbrev pub TookPiece : List ℕ → List ℕ → List ℕ → Result Piece Fault → Type 0
+TookPiece old new buf (Ok End) = (old ≡ []) × (new ≡ [])
+TookPiece old new buf (Ok (Part count)) = TookSome old new (take count buf)
+TookPiece old new buf (Ok (Last count)) = TookSome old (10 ∷ new) (take count buf)
+TookPiece old new buf (Err e) = new ≡ old
+
+-- a piece has at least one key and so many at most, the one that ends the line among them
+abbrev pub FitsIn : ℕ → Piece → Type 0
+FitsIn most End = Unit {0}
+FitsIn most (Part count) = (0 < count) × (count ≤ most)
+FitsIn most (Last count) = count < most
 
 -- as much of a line as is kept: one byte more than a line may have
 abbrev pub kept_of : List ℕ → List ℕ
 kept_of line = take 4097 line
-
--- no key of these ends a line
-abbrev pub IsUnbroken : List ℕ → Type 0
-IsUnbroken [] = Unit {0}
-IsUnbroken (key ∷ keys) = (key ≢ 10) × IsUnbroken keys
 
 -- a line that ended with a byte 10, where `before` keys counted and `after` still do
 pub record TookEnded (old new : List ℕ) (before after : ℕ) (line : List ℕ) : Type 0 where

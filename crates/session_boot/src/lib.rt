@@ -1,4 +1,4 @@
-//! A session from the opening of a pack to its closing: typed lines are taken key by key, obeyed in order, and each reply is shown.
+//! A session from the opening of a pack to its closing: typed lines are taken and obeyed in order, and each reply is shown.
 //!
 //! Come here when you change how a pack is opened, how lines are taken, or how a session ends. Below it stand the Executive, which obeys one
 //! line, and the laws of sessions, by which the turns of the lines are a history. To the layers above, of each machine that is modelled:

@@ -1,18 +1,21 @@
 // One turn: a line that is obeyed, or the end of the session, and its text.
-ghost use Rattle.disk_records.specs.Tapes.{Grown};
+ghost use Rattle.disk_records.specs.Causes.{IsCause};
+ghost use Rattle.disk_records.specs.Tapes.{DiskAlone, Grown};
+ghost use Rattle.exec_session.specs.Ends.{cause_of_reply};
 ghost use Rattle.exec_session.specs.Meant.{kept};
 ghost use Rattle.session_boot.specs.Faults.{HasFaultCause};
-ghost use Rattle.session_boot.specs.Turns.{EndsTurnBy, NextTurn, TakesTurnBy, next_after};
+ghost use Rattle.session_boot.specs.Turns.{EndsTurnBy, IsSameOrFailed, NextTurn, TakesTurnBy, next_after};
+ghost use Rattle.session_model.specs.Answering.{TakesTurns};
 ghost use Rattle.session_model.specs.Ending.{cue_of};
 ghost use Rattle.session_model.specs.Keeping.{Formed};
-ghost use Rattle.session_model.specs.Turning.{ended};
-ghost use Rattle.std.specs.Prelude.{IsErrOf, IsTrue, OnOk, ◌≡◌};
+ghost use Rattle.session_model.specs.Turning.{cue_for, ended};
+ghost use Rattle.std.specs.Prelude.{IsErrOf, IsTrue, ◌≡◌};
 
 use crate::console::show_reply;
 use crate::keys::take_line;
 use crate::status::Fault;
-use disk_records::Machine;
-use executive::{Reply, Session, obey, read_line};
+use disk_records::{Disk, Machine};
+use executive::{Line, Reply, Session, obey, read_line};
 use std::alloc::Global;
 
 /// What comes after a turn.
@@ -36,6 +39,48 @@ fn next_after(reply: &Reply) -> Result<Next, Fault>
     }
 }
 
+/// The reply, once the disk has handed on the record writes that it holds back: so what a reply tells stands on the pack before it is shown.
+/// DiskFault where that fails. After a fault and out of memory, which end the session without a reply, nothing is asked of the disk. On a
+/// disk that is modelled nothing is held back.
+fn after_flush<D: Disk>(disk: &mut D, reply: Reply) -> Reply
+    ensures told { IsTrue D.told → (result ≡ reply) × (D.tape disk.new ≡ D.tape disk.old) }
+    ensures cause { IsSameOrFailed (D.tape disk.old) (D.tape disk.new) reply result }
+    ensures alone { DiskAlone (D.tape disk.old) (D.tape disk.new) }
+{
+    if next_after(&reply).is_err() {
+        return reply;
+    }
+    match disk.flush() {
+        Ok(()) => reply,
+        Err(_) => Reply::DiskFault,
+    }
+}
+
+/// Obeys a line, with all that it writes handed on to the device. The errors are those of `obey`.
+fn obey_whole<D: Disk>(alloc: Global, session: &mut Session, disk: &mut D, line: &Line) -> Reply
+    requires formed { Formed (D.tape disk.old).form (kept session.old) }
+    ensures turns { IsTrue D.told → TakesTurns (D.tape disk.old) (D.tape disk.new) (kept session.old) (kept session.new) (cue_for line.now) result }
+    ensures limit { (kept session.new).tally.limit ≡ (kept session.old).tally.limit }
+    ensures formed { Formed (D.tape disk.new).form (kept session.new) }
+    ensures cause { IsCause (D.tape disk.old) (D.tape disk.new) (cause_of_reply result) }
+    ensures alone { DiskAlone (D.tape disk.old) (D.tape disk.new) }
+{
+    let reply = obey(alloc, session, disk, line);
+    after_flush(disk, reply)
+}
+
+/// Ends the session, with all that it wrote handed on to the device. The errors are those of `Session::end`.
+fn end_whole<D: Disk>(alloc: Global, session: &mut Session, disk: &mut D) -> Reply
+    requires formed { Formed (D.tape disk.old).form (kept session.old) }
+    ensures turns { IsTrue D.told → TakesTurns (D.tape disk.old) (D.tape disk.new) (kept session.old) (kept session.new) ended result }
+    ensures limit { (kept session.new).tally.limit ≡ (kept session.old).tally.limit }
+    ensures cause { IsCause (D.tape disk.old) (D.tape disk.new) (cause_of_reply result) }
+    ensures alone { DiskAlone (D.tape disk.old) (D.tape disk.new) }
+{
+    let reply = session.end(alloc, disk);
+    after_flush(disk, reply)
+}
+
 /// Obeys a typed line, given without the byte 10 that ends it, and then shows its reply.
 ///
 /// Disk: the disk failed; a prefix of the line's record writes is made, and nothing is shown. Display: the display failed; all of them are
@@ -57,7 +102,7 @@ fn answer_line<M: Machine>(
     ensures keys { (M.tape machine.new).keys ≡ (M.tape machine.old).keys }
 {
     let line = read_line(alloc, text)?;
-    let reply = obey(alloc, session, machine, &line);
+    let reply = obey_whole(alloc, session, machine, &line);
     let next = next_after(&reply)?;
     show_reply(alloc, machine, &reply)?;
     Ok(next)
@@ -100,7 +145,7 @@ pub(crate) fn end_session<M: Machine>(
     ensures grown { Grown (M.tape machine.old) (M.tape machine.new) }
     ensures keys { (M.tape machine.new).keys ≡ (M.tape machine.old).keys }
 {
-    let reply = session.end(alloc, machine);
+    let reply = end_whole(alloc, session, machine);
     next_after(&reply)?;
     show_reply(alloc, machine, &reply)
 }

@@ -143,8 +143,8 @@ const NUMBERED: Sector = Sector {
     value: [3; 256],
 };
 
-/// Whether one sector command on sector 31 of a new pack makes these calls of the file to read, and then these to write, and the same
-/// command once more makes those to write alone.
+/// Whether one sector command on sector 31 of a new pack makes these calls of the file, the flush after it those to write, and the same
+/// command and flush once more the latter alone.
 fn makes_calls(
     host: &HostRuntime,
     plan: Plan,
@@ -159,28 +159,121 @@ fn makes_calls(
     let mut machine = FileMachine::create(&outside, alloc, "called", 2)?;
     drop(log.take_file_calls(alloc)?);
     machine.run(31, plan, &mut ZEROS)?;
-    let calls = log.take_file_calls(alloc)?;
+    let first = log.take_file_calls(alloc)?;
+    machine.flush()?;
+    let flushed = log.take_file_calls(alloc)?;
     machine.run(31, plan, &mut ZEROS)?;
+    machine.flush()?;
     let again = log.take_file_calls(alloc)?;
     fs::remove_file(host, "called")?;
-    let mut wanted = read.to_vec(alloc)?;
-    wanted.extend_from_slice(written)?;
-    Ok(calls.as_slice() == wanted.as_slice() && again.as_slice() == written)
+    Ok(first.as_slice() == read && flushed.as_slice() == written && again.as_slice() == written)
 }
 
 #[test]
 fn a_sector_command_is_few_calls(rt: HostRuntime) -> Result<(), Fail> {
     // the second cylinder begins at byte 12,768, and its sector 7 is 3,724 bytes further on
     let cylinder = [FileCall::ReadAt(12_768, 12_768)];
-    // the file's length is asked first; the records that are written stand side by side, and one call writes them
-    let end = FileCall::Seek(SeekFrom::End(0));
+    // the file's length is asked first; the sector is written whole, whichever records the command writes
+    let sector = [
+        FileCall::Seek(SeekFrom::End(0)),
+        FileCall::WriteAt(16_492, 532),
+    ];
     assert!(rt; makes_calls(&rt, Plan::READ, &cylinder, &[])?);
-    let all = [end, FileCall::WriteAt(16_492, 532)];
-    assert!(rt; makes_calls(&rt, Plan::WRITE_ALL, &[], &all)?);
-    let label = [end, FileCall::WriteAt(16_496, 528)];
-    assert!(rt; makes_calls(&rt, Plan::WRITE_LABEL, &cylinder, &label)?);
-    let value = [end, FileCall::WriteAt(16_512, 512)];
-    assert!(rt; makes_calls(&rt, Plan::WRITE_VALUE, &cylinder, &value)?);
+    assert!(rt; makes_calls(&rt, Plan::WRITE_ALL, &[], &sector)?);
+    assert!(rt; makes_calls(&rt, Plan::WRITE_LABEL, &cylinder, &sector)?);
+    assert!(rt; makes_calls(&rt, Plan::WRITE_VALUE, &cylinder, &sector)?);
+    Ok(())
+}
+
+#[test]
+fn writes_within_a_page_are_handed_on_by_one_call(rt: HostRuntime) -> Result<(), Fail> {
+    let alloc = rt.alloc();
+    let log = Log::new(alloc);
+    let outside = Outside::new(&rt, b"", Broken::Nothing, &log);
+    let mut machine = FileMachine::create(&outside, alloc, "joined", 2)?;
+    drop(log.take_file_calls(alloc)?);
+    let end = FileCall::Seek(SeekFrom::End(0));
+    let three = [end, FileCall::WriteAt(0, 1_596)];
+    let two = [end, FileCall::WriteAt(532, 1_064)];
+    let fifth = [end, FileCall::WriteAt(2_128, 532)];
+    let both = [
+        end,
+        FileCall::WriteAt(4_256, 532),
+        end,
+        FileCall::WriteAt(3_724, 532),
+    ];
+    // the sector that is written, or none where the machine is flushed, and the calls for it
+    let rows = [
+        (Some(0u16), [].as_slice()),
+        (Some(1), &[]),
+        (Some(2), &[]),
+        (None, &three),
+        (None, &[]),
+        // over it again, and the one ahead of it
+        (Some(2), &[]),
+        (Some(2), &[]),
+        (Some(1), &[]),
+        // sector 3 is left out
+        (Some(4), &two),
+        // sector 8 begins the next page
+        (Some(8), &fifth),
+        // sector 7 crosses byte 4,096
+        (Some(7), &both),
+        (None, &[]),
+        (Some(0), &[]),
+    ];
+    for (sector, calls) in rows {
+        match sector {
+            Some(at) => {
+                assert!(rt; at < machine.shape().pages());
+                machine.run(at, Plan::WRITE_ALL, &mut NUMBERED)?;
+            }
+            None => machine.flush()?,
+        }
+        assert!(rt;
+            log.take_file_calls(alloc)?.as_slice() == calls,
+            "{sector:?}"
+        );
+    }
+    // what is held back goes ahead of a cylinder that is read
+    let read = [end, FileCall::WriteAt(0, 532), FileCall::ReadAt(0, 12_768)];
+    let mut sector = ZEROS;
+    machine.run(1, Plan::READ, &mut sector)?;
+    assert!(rt; log.take_file_calls(alloc)?.as_slice() == read.as_slice());
+    assert!(rt; sector == NUMBERED);
+    fs::remove_file(&rt, "joined")?;
+    Ok(())
+}
+
+#[test]
+fn what_cannot_be_handed_on_is_a_fault_and_stays(rt: HostRuntime) -> Result<(), Fail> {
+    let alloc = rt.alloc();
+    let made = FileMachine::create(&rt, alloc, "stuck", 2)?;
+    drop(made);
+    // the first write call fails, in the command on the next page or in a flush
+    for is_flushed in [false, true] {
+        let log = Log::new(alloc);
+        let outside = Outside::new(&rt, b"", Broken::WriteCall(0), &log);
+        let mut machine = FileMachine::reach(&outside, alloc, "stuck")?;
+        assert!(rt; 8 < machine.shape().pages());
+        machine.run(0, Plan::WRITE_ALL, &mut NUMBERED)?;
+        let failed = if is_flushed {
+            machine.flush()
+        } else {
+            machine.run(8, Plan::WRITE_ALL, &mut NUMBERED)
+        };
+        assert!(rt; failed == Err(DiskError::Failed), "{is_flushed}");
+        assert_eq!(rt; machine.writes(), 3, "{is_flushed}");
+        // the sector is held back still, and is written now
+        let calls = [FileCall::Seek(SeekFrom::End(0)), FileCall::WriteAt(0, 532)];
+        drop(log.take_file_calls(alloc)?);
+        machine.flush()?;
+        assert!(rt;
+            log.take_file_calls(alloc)?.as_slice() == calls.as_slice(),
+            "{is_flushed}"
+        );
+    }
+    fs::remove_file(&rt, "stuck")?;
     Ok(())
 }
 

@@ -5,6 +5,7 @@ use alto_top::{Status, format_pack};
 use disk_image::{FileMachine, ReachError, encode_two};
 use disk_records::{Disk, Plan, Sector, Shape};
 use std::fs;
+use std::io::SeekFrom;
 use std::process::Abort;
 use std::test::Fail;
 use test_packs::{Placed, set_page};
@@ -173,6 +174,40 @@ fn a_command_on_the_second_drive_goes_to_its_file(rt: HostRuntime) -> Result<(),
         }
     }
     assert!(rt; stood(&rt, &pair)?);
+    Ok(())
+}
+
+#[test]
+fn writes_of_the_other_drive_go_ahead(rt: HostRuntime) -> Result<(), Fail> {
+    let alloc = rt.alloc();
+    let log = Log::new(alloc);
+    let outside = Outside::new(&rt, b"", Broken::Nothing, &log);
+    let mut machine = FileMachine::create_two(&outside, alloc, "first", "second", 2)?;
+    drop(log.take_file_calls(alloc)?);
+    let end = FileCall::Seek(SeekFrom::End(0));
+    let of_first = [end, FileCall::WriteAt(0, 532)];
+    let of_second = [end, FileCall::WriteAt(532, 1_064)];
+    // the sector that is written, and the calls for it: sector 48 is the first one of the second file
+    let rows = [
+        (0u16, [].as_slice()),
+        (49, &of_first),
+        (50, &[]),
+        (0, &of_second),
+    ];
+    for (at, calls) in rows {
+        assert!(rt; at < machine.shape().pages());
+        machine.run(at, Plan::WRITE_ALL, &mut ZEROS)?;
+        assert!(rt; log.take_file_calls(alloc)?.as_slice() == calls, "{at}");
+    }
+    // a command that only reads leaves what is held back of the other file
+    assert!(rt; 72 < machine.shape().pages());
+    machine.run(72, Plan::READ, &mut ZEROS)?;
+    let read = [FileCall::ReadAt(12_768, 12_768)];
+    assert!(rt; log.take_file_calls(alloc)?.as_slice() == read.as_slice());
+    machine.flush()?;
+    assert!(rt; log.take_file_calls(alloc)?.as_slice() == of_first.as_slice());
+    fs::remove_file(&rt, "first")?;
+    fs::remove_file(&rt, "second")?;
     Ok(())
 }
 

@@ -31,6 +31,7 @@ fn records_are_written_in_place(rt: HostRuntime) -> Result<(), Fail> {
     assert!(rt; memory == filled(0x0102, 0x0304, 0x0708));
     assert_eq!(rt; machine.writes(), 4);
 
+    machine.flush()?;
     let bytes = fs::read(&rt, "written")?;
     assert_eq!(rt; bytes.len(), 25_536);
     for (place, byte) in bytes.iter().enumerate() {
@@ -61,6 +62,7 @@ fn every_byte_of_two_files_is_read_and_written_back(rt: HostRuntime) -> Result<(
         again.run(at, Plan::WRITE_ALL, &mut sector)?;
     }
     assert_eq!(rt; again.writes(), 3 * 96);
+    again.flush()?;
     for (path, wanted) in [
         ("front", &front),
         ("back", &back),

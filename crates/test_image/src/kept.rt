@@ -70,19 +70,20 @@ fn a_cylinder_that_is_read_again_stays(rt: HostRuntime) -> Result<(), Fail> {
 #[test]
 fn a_sector_is_forgotten_after_a_fault(rt: HostRuntime) -> Result<(), Fail> {
     let mut machine = FileMachine::create(&rt, rt.alloc(), "forgotten", 2)?;
-    machine.run(5, Plan::WRITE_ALL, &mut filled(1, 2, 3))?;
+    // sector 7 crosses byte 4,096, so that it is written at once
+    machine.run(7, Plan::WRITE_ALL, &mut filled(1, 2, 3))?;
     machine.run(6, Plan::WRITE_ALL, &mut filled(4, 5, 6))?;
-    assert!(rt; read_at(&mut machine, 5) == Ok(filled(1, 2, 3)));
+    assert!(rt; read_at(&mut machine, 7) == Ok(filled(1, 2, 3)));
     let file = OpenOptions::new().write(true).open(&rt, "forgotten")?;
     file.set_len(0)?;
-    let failed = machine.run(5, Plan::WRITE_VALUE, &mut filled(0, 0, 7));
+    let failed = machine.run(7, Plan::WRITE_VALUE, &mut filled(0, 0, 7));
     assert!(rt; failed == Err(DiskError::Failed));
-    assert!(rt; read_at(&mut machine, 5) == Err(DiskError::Failed));
+    assert!(rt; read_at(&mut machine, 7) == Err(DiskError::Failed));
     assert!(rt; read_at(&mut machine, 6) == Ok(filled(4, 5, 6)));
     assert!(rt; fs::read(&rt, "forgotten")?.is_empty());
     // now it is read again, with its cylinder
     file.set_len(25_536)?;
-    assert!(rt; read_at(&mut machine, 5) == Ok(filled(0, 0, 0)));
+    assert!(rt; read_at(&mut machine, 7) == Ok(filled(0, 0, 0)));
     assert!(rt; read_at(&mut machine, 6) == Ok(filled(0, 0, 0)));
     assert_eq!(rt; machine.writes(), 6);
     fs::remove_file(&rt, "forgotten")?;
@@ -142,22 +143,52 @@ fn a_kept_sector_is_the_one_of_its_drive(rt: HostRuntime) -> Result<(), Fail> {
 
 #[test]
 fn a_write_at_a_lost_sector_is_a_fault(rt: HostRuntime) -> Result<(), Fail> {
-    let mut machine = FileMachine::create(&rt, rt.alloc(), "lost", 2)?;
+    let alloc = rt.alloc();
+    fs::write(&rt, "lost", bytes_of(alloc, 0, 25_536)?.as_slice())?;
     let file = OpenOptions::new().write(true).open(&rt, "lost")?;
-    // sector 2 ends at byte 1,596; sector 3 is cut short, and sector 4 lost
-    for length in [2_127u64, 1_700, 1_596] {
+    // sector 2 ends at byte 1,596; sector 3 is cut short, and sectors 4 and 47 are lost
+    for (length, at) in [
+        (2_127u64, 3u16),
+        (1_700, 3),
+        (1_596, 3),
+        (2_127, 4),
+        (1_596, 4),
+        (1_596, 47),
+    ] {
+        let mut machine = FileMachine::reach(&rt, alloc, "lost")?;
         file.set_len(length)?;
-        for at in [3u16, 4, 47] {
-            for plan in [Plan::WRITE_ALL, Plan::WRITE_VALUE] {
-                let failed = machine.run(at, plan, &mut filled(0, 0, 7));
-                assert!(rt; failed == Err(DiskError::Failed), "{at} of {length}");
-            }
-        }
+        assert!(rt; at < machine.shape().pages() && 7 < machine.shape().pages());
         machine.run(2, Plan::WRITE_ALL, &mut filled(0, 0, 7))?;
-        machine.run(2, Plan::WRITE_VALUE, &mut filled(0, 0, 7))?;
+        machine.flush()?;
+        // the bytes are held back, until they can't be written
+        machine.run(at, Plan::WRITE_ALL, &mut filled(0, 0, 7))?;
+        assert!(rt;
+            machine.flush() == Err(DiskError::Failed),
+            "{at} of {length}"
+        );
+        assert!(rt;
+            machine.flush() == Err(DiskError::Failed),
+            "{at} of {length}"
+        );
+        // nothing goes ahead of them, and sector 7, which crosses byte 4,096, is lost too
+        for plan in [Plan::WRITE_ALL, Plan::WRITE_VALUE] {
+            let failed = machine.run(7, plan, &mut filled(0, 0, 7));
+            assert!(rt; failed == Err(DiskError::Failed), "{at} of {length}");
+        }
         assert!(rt; fs::read(&rt, "lost")?.len() as u64 == length);
+        assert_eq!(rt; machine.writes(), 6);
+        // where the file is whole again they can be written
+        file.set_len(25_536)?;
+        machine.flush()?;
+        let bytes = fs::read(&rt, "lost")?;
+        for (place, byte) in bytes.iter().enumerate() {
+            let number = (place / 532) as u16;
+            let is_written = (number == 2 || number == at) && place % 532 >= 20;
+            let wanted = if is_written && place % 2 == 1 { 7 } else { 0 };
+            assert!(rt; *byte == wanted, "{place} of {length}");
+        }
+        fs::write(&rt, "lost", bytes_of(alloc, 0, 25_536)?.as_slice())?;
     }
-    assert_eq!(rt; machine.writes(), 12);
     fs::remove_file(&rt, "lost")?;
     Ok(())
 }

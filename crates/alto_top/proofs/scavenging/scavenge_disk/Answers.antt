@@ -1,3 +1,4 @@
+use Rattle.disk_records.proofs.Growing.{alone_twice}
 use Rattle.disk_records.specs.Tapes.{pack}
 use Rattle.alto_top.proofs.Scavenged.{refused, reported, writes_of_scavenge}
 use Rattle.alto_top.proofs.scavenging.scavenge_disk.Goals as goal
@@ -5,10 +6,11 @@ use Rattle.alto_top.proofs.scavenging.scavenge_disk.Goals as goal
 pub returns-in_ok-text-in-Ok-clause-scavenges : goal.returns-in_ok-text-in-Ok-clause-scavenges
 returns-in_ok-text-in-Ok-clause-scavenges g c = λ told.
     let all = c.in-Ok.ensures.scavenges told in
-    record {
+    let same = (c.flush_disk.ensures.told told).1 in
+    rw same (record {
       writes = writes_of_scavenge all;
       tells = (record { taken = all.answers.0; ends = all.done }, reported (pack (g.D.Tape.tape c.args.disk.now)) c.in-Ok.report c.in_ok-text-in-Ok.text.items all.answers c.in_ok-text-in-Ok.ensures);
-    }
+    })
 
 pub returns-in_ok-refusal_text-in-Err-clause-scavenges :
     goal.returns-in_ok-refusal_text-in-Err-clause-scavenges
@@ -18,3 +20,12 @@ returns-in_ok-refusal_text-in-Err-clause-scavenges g c = λ told.
       writes = writes_of_scavenge all;
       tells = refused (pack (g.D.Tape.tape c.args.disk.now)) c.in-Err.error c.in_ok-refusal_text-in-Err.field-0.items all.answers c.in_ok-refusal_text-in-Err.ensures;
     }
+
+pub returns-in_err-flush_disk-in-Ok-clause-alone : goal.returns-in_err-flush_disk-in-Ok-clause-alone
+returns-in_err-flush_disk-in-Ok-clause-alone g c = alone_twice c.in-Ok.ensures.alone c.flush_disk.ensures.alone
+
+pub returns-in_err-text-in-Ok-clause-alone : goal.returns-in_err-text-in-Ok-clause-alone
+returns-in_err-text-in-Ok-clause-alone g c = alone_twice c.in-Ok.ensures.alone c.flush_disk.ensures.alone
+
+pub returns-in_ok-text-in-Ok-clause-alone : goal.returns-in_ok-text-in-Ok-clause-alone
+returns-in_ok-text-in-Ok-clause-alone g c = alone_twice c.in-Ok.ensures.alone c.flush_disk.ensures.alone

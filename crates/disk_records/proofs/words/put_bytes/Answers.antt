@@ -1,19 +1,12 @@
-use Rattle.std.proofs.Common.{◌≤◌, ◌+◌, ◌*◌, length, arith}
-use Rattle.disk_records.proofs.InPlace.{next_high, next_low, put_whole}
+use Rattle.std.proofs.Common.{◌*◌, ◌/◌, length, arith, sym}
+use Rattle.std.proofs.lemmas.List.{take-append-drop}
+use Rattle.disk_records.proofs.InPlace.{put_pairs}
 use Rattle.disk_records.proofs.words.put_bytes.Goals as goal
-use Rattle.disk_records.proofs.words.put_bytes.Goals.{then-place-eq0, else-place-eq0}
-
-pub loop-i-preserved : goal.loop-i-preserved
-loop-i-preserved c =
-    let long = c.told-value in
-    let fits : c.args.offset + length c.args.bytes.now ≤ 2 * length c.args.value.now = omega arith in
-    elim c.if-place-eq0.branch [
-      | then-place-eq0 w ↦
-          next_high c.args.offset c.loop-i.i c.args.bytes.now c.loop-i.value c.args.value.now c.loop-i.invariant c.loop-i-test.true fits c.if-place-eq0.value w.if-place-eq0.true w.value-is
-      | else-place-eq0 w ↦
-          next_low c.args.offset c.loop-i.i c.args.bytes.now c.loop-i.value c.args.value.now c.loop-i.invariant c.loop-i-test.true fits c.if-place-eq0.value w.if-place-eq0.false
-          (omega (arith, c.type_inv.bytes c.loop-i.i)) w.value-is
-    ]
 
 pub returns : goal.returns
-returns c = put_whole c.args.offset c.loop-i.i c.args.bytes.now c.loop-i.value c.args.value.now c.loop-i.invariant c.loop-i-test.false
+returns c =
+    let long = c.told-value in
+    let pairs = c.split_at.result.0.now in
+    let rest = c.split_at.result.1.now in
+    put_pairs c.args.offset (length c.args.bytes.now / 2) _ pairs rest c.args.bytes.now c.bytes_into_words.new.words c.args.value.now c.put_each-2.new.value
+    (omega (arith, c.if-offset-ne0.false)) (omega (arith, c.requires, long)) (omega arith) (rw (c.split_at.ensures.front, c.split_at.ensures.back) (sym (take-append-drop (2 * (length c.args.bytes.now / 2)) c.args.bytes.now))) c.bytes_into_words.ensures.bytes c.split_at.ensures.front_len c.put_each-2.ensures

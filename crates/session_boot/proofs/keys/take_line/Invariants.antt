@@ -3,10 +3,14 @@ use Rattle.disk_records.specs.Tapes.{KeysAlone}
 use Rattle.session_boot.proofs.Typing.{Taking}
 use Rattle.session_boot.proofs.keys.take_line.Given as goal
 
-abbrev pub invariant-loop-taken : goal.invariant-loop-taken
-invariant-loop-taken g l = record {
+abbrev pub invariant-loop-left : goal.invariant-loop-left
+invariant-loop-left g l = record {
   alone : KeysAlone (g.C.Tape.tape l.fn.console) (g.C.Tape.tape l.console);
-  left : l.left ≡ l.before;
+  left : l.left ≤ l.fn.left;
   short : length l.line.items ≤ 4097;
-  line : IsTrue g.C.Tape.told → Taking (g.C.Tape.tape l.fn.console).keys (g.C.Tape.tape l.console).keys l.taken l.line.items;
+  buffer : length l.buf ≡ 1024;
+  line : IsTrue g.C.Tape.told → Taking (g.C.Tape.tape l.fn.console).keys (g.C.Tape.tape l.console).keys l.fn.left l.left l.line.items;
 }
+
+abbrev pub decreases-loop-left : goal.decreases-loop-left
+decreases-loop-left g l = l.left
