@@ -1,7 +1,8 @@
 -- The bytes of a file that are read in parts, and how many sector commands they take.
-use Rattle.std.proofs.Common.{◌≡◌, ◌⊎◌, ◌≤◌, ◌<◌, ◌+◌, ◌-◌, ◌*◌, ◌/◌, ℕ, zero, suc, Bool, IsTrue, List, [], ◌∷◌, ◌++◌, length, take, drop, inl, inr, refl, sym, ap, subst, ◌∙◌, arith}
+use Rattle.std.proofs.Common.{◌≡◌, ◌⊎◌, ◌≤◌, ◌<◌, ◌+◌, ◌-◌, ◌*◌, ◌/◌, ℕ, zero, suc, Bool, IsTrue, List, [], ◌∷◌, ◌++◌, length, take, drop, inl, inr, Result, Ok, Err, IfOk, refl, sym, ap, subst, ◌∙◌, arith}
 use Rattle.std.proofs.Math.Seq.{take-add, take-append_seam}
 use Rattle.std.proofs.lemmas.List.{length-take-le, take_all, take_at}
+use Rattle.std.specs.Result.{IsErrAnd}
 use Rattle.alto_words.specs.declared.fid.Fid.{Fid}
 use Rattle.disk_records.specs.Packs.{Pack}
 use Rattle.disk_records.specs.Tapes.{Taped, pack}
@@ -12,6 +13,12 @@ use Rattle.page_seeking.specs.Seeking.{Refused, file_length}
 use Rattle.pack_model.specs.operations.Committing.{page_of_byte}
 use Rattle.pack_model.specs.states.Whole.{Whole}
 use Rattle.exec_session.specs.Contents.{FewForParts, HasParts, IsNextPart, IsNoted}
+use Rattle.exec_session.specs.declared.stop.Stop.{Stop}
+
+-- an error says nothing of what Ok gives
+pub ok_of_error : {U : Type 0} (P : Stop → Type 0) (Q : U → Type 0) (r : Result U Stop) → IsErrAnd r P → IfOk r Q
+ok_of_error P Q (Ok x) is = absurd is
+ok_of_error P Q (Err x) is = tt
 
 -- ---- bytes
 pub parts_more : (bytes : List ℕ) (k n : ℕ) (read now : List ℕ) → HasParts bytes k read → IsNextPart bytes (k * 4096) read now n → n ≡ 4096 → HasParts bytes (k + 1) now

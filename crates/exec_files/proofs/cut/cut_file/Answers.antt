@@ -135,3 +135,7 @@ returns-in_err-length_text-clause-alone g c = alone_twice c.find_measured.ensure
 
 pub returns-clause-alone : goal.returns-clause-alone
 returns-clause-alone g c = alone_twice c.find_measured.ensures.looks.looks.alone c.write_cut.ensures.alone
+
+-- no fault is told here
+pub returns-clause-cause : goal.returns-clause-cause
+returns-clause-cause g c = tt

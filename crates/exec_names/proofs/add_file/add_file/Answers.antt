@@ -106,3 +106,7 @@ returns-in_err-file-clause-alone g c = alone_twice (alone_twice c.in_ok-fresh.en
 
 pub returns-clause-alone : goal.returns-clause-alone
 returns-clause-alone g c = alone_twice (alone_twice c.in_ok-fresh.ensures.looks.alone c.in_ok-open_mark.ensures.alone) c.in_ok-file.ensures.alone
+
+-- no fault is told here
+pub returns-clause-cause : goal.returns-clause-cause
+returns-clause-cause g c = tt

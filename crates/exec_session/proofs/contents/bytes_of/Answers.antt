@@ -6,11 +6,26 @@ use Rattle.pack_model.specs.reading.Sights.{sights}
 use Rattle.pack_model.specs.states.Whole.{Whole}
 use Rattle.exec_session.specs.Contents.{IsNextPart}
 use Rattle.exec_session.proofs.Looking.{looks_about_twice, quick_stays}
-use Rattle.exec_session.proofs.Parts.{few_end, few_more, parts_more, too_many_parts}
+use Rattle.exec_session.proofs.Parts.{few_end, few_more, ok_of_error, parts_end, parts_more, too_many_parts}
 use Rattle.exec_session.proofs.contents.bytes_of.Goals as goal
 
 pub returns-in_err-count-clause-looks : goal.returns-in_err-count-clause-looks
 returns-in_err-count-clause-looks g c = looks_about_twice (8192 * 65588) (omega arith) c.loop-k.invariant.looks c.append_part.ensures.looks
+
+pub returns-in_err-count-clause-read : goal.returns-in_err-count-clause-read
+returns-in_err-count-clause-read g c = λ told sound. ok_of_error _ _ c.from_residual.result c.from_residual.ensures.1
+
+pub returns-in_err-count-clause-most : goal.returns-in_err-count-clause-most
+returns-in_err-count-clause-most g c = ok_of_error _ _ c.from_residual.result c.from_residual.ensures.1
+
+pub returns-then-count-lt-PART-clause-read : goal.returns-then-count-lt-PART-clause-read
+returns-then-count-lt-PART-clause-read g c = λ told sound.
+    let old = g.D.Tape.tape c.args.disk.now in
+    let f = c.args.file.now.fid in
+    let same = looks_pack c.loop-k.invariant.looks.looks told in
+    let next = c.in_ok-count.ensures.read told (subst Whole (sym same) sound.whole) in
+    let mine = subst (λ p. IsNextPart (file_bytes (sights p) f) (c.loop-k.k * 4096) c.loop-k.bytes.items c.append_part.new.bytes.items c.in_ok-count.count) same next in
+    parts_end (file_bytes (sights (pack old)) f) c.loop-k.k c.in_ok-count.count c.loop-k.bytes.items c.append_part.new.bytes.items (c.loop-k.invariant.read told sound.whole) mine c.if-count-lt-PART.true
 
 pub returns-then-count-lt-PART-clause-looks : goal.returns-then-count-lt-PART-clause-looks
 returns-then-count-lt-PART-clause-looks g c = looks_about_twice (8192 * 65588) (omega arith) c.loop-k.invariant.looks c.append_part.ensures.looks

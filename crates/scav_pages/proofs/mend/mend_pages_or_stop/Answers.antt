@@ -7,6 +7,10 @@ returns-clause-mends g c = λ told ready.
     let b = g.D.Tape.tape c.mend.new.disk in
     mends_or_ends a b c.in_ok-mend.ensures.alone.grown c.mend.new.freed (c.in_ok-mend.ensures.does told ready)
 
+-- no fault is told here
+pub returns-clause-cause : goal.returns-clause-cause
+returns-clause-cause g c = tt
+
 pub returns-in_err-mend-clause-mends : goal.returns-in_err-mend-clause-mends
 returns-in_err-mend-clause-mends g c = λ told ready.
     let a = g.D.Tape.tape c.args.disk.now in

@@ -68,3 +68,7 @@ returns-clause-mends g c = λ told may counted.
 
 pub returns-in_err-open_mark-clause-mends : goal.returns-in_err-open_mark-clause-mends
 returns-in_err-open_mark-clause-mends g c = λ told may counted. ends_early c.args.counts.now c.args.bad (error_of_stop c.in_err-open_mark.field-0.0) c.from_residual.result (search rules) (of_stop c.in_err-open_mark.field-0.0) (not_ended (c.in_err-open_mark.ensures.opens told counted.mark).mends)
+
+-- no fault is told here
+pub returns-clause-cause : goal.returns-clause-cause
+returns-clause-cause g c = tt
