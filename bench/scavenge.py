@@ -2,8 +2,9 @@
 """Times `scavenge` of large packs, beside `e2fsck -fy` of ext2 images with the same files, and counts the calls of the system.
 
 The packs: that of an office (bench/office.py), 60 files of 8,000 bytes, every other one deleted; one of model 31 and one of two drives of
-406 cylinders, nine tenths of whose sectors have files of 100 bytes that no directory names; and one of model 31 whose SysDir fills half of
-it with free slots of one word, with 1,216 such files, which has to be scavenged in less than a second. The images have half as many KiB
+406 cylinders, each full of files of 100 bytes that no directory names: one more, and the pack is refused, since SysDir couldn't get an
+entry for each; and one of model 31 whose SysDir fills half of it with free slots of one word, with 1,216 such files, which has to be
+scavenged in less than a second. The images have half as many KiB
 more, and the same files; where the pack has no entry for them, `debugfs` took their names away, so that they get one in lost+found.
 
 A time is the median of the runs, of whole processes from their start to their end, the two programs in turn, each over a fresh copy of its
@@ -31,8 +32,8 @@ CONTENT = bytes(range(100))
 LIMIT = 1.0
 # how many names of calls are told
 TOLD = 4
-# exit codes of e2fsck: nothing was wrong, and all is mended
-MENDED = (0, 1)
+# exit codes of e2fsck: nothing was wrong, and all is mended; and of a scavenge that is refused
+MENDED, REFUSED = (0, 1), 7
 
 # what is scavenged, its files, the report, the names and bytes of the files of its image, if there is one, and whether these lost their
 # entries there
@@ -70,6 +71,15 @@ def nameless_case(name, drives, cylinders, count, root_pages=1, has_image=True):
     return Case(name, packs.drive_files(sectors, drives, cylinders), report(2 + count, count), contents, True)
 
 
+def full_case(program, folder, name, drives, cylinders, count):
+    """A pack that is full of files without an entry: with one more it is refused, and can be scavenged with so many."""
+    more = Alto(folder, program, nameless_case(name, drives, cylinders, count + 1, has_image=False))
+    more.write_files()
+    refused = subprocess.run(more.command(), stdout=subprocess.PIPE)
+    assert refused.returncode == REFUSED and refused.stdout.startswith(b"pack full: "), "one more file is refused"
+    return nameless_case(name, drives, cylinders, count)
+
+
 class Mender:
     """A program that mends an image, each time a fresh copy of it."""
 
@@ -77,13 +87,16 @@ class Mender:
         self.paths, self.contents = [folder / f"{name}{number}" for number in range(len(contents))], contents
         self.counts = folder / "counts"
 
-    def run(self, ahead=()):
-        """The time of a run, of which nothing is left to be synced before."""
+    def write_files(self):
         for path, content in zip(self.paths, self.contents):
             with open(path, "wb") as file:
                 file.write(content)
                 file.flush()
                 os.fsync(file.fileno())
+
+    def run(self, ahead=()):
+        """The time of a run, of which nothing is left to be synced before."""
+        self.write_files()
         streams = {"stdin": subprocess.DEVNULL, "stdout": subprocess.PIPE, "stderr": subprocess.DEVNULL}
         time, shown = timed([*ahead, *self.command()], self.codes, **streams)
         self.compare(shown)
@@ -186,8 +199,8 @@ def main():
     print(machine())
     cases = [
         partial(office_case, options.program),
-        lambda _: nameless_case("model 31, 2,189 files without an entry", 1, 203, 2_189),
-        lambda _: nameless_case("two drives of 406 cylinders, 8,765 files without an entry", 2, 406, 8_765),
+        lambda folder: full_case(options.program, folder, "model 31, full: 2,382 files without an entry", 1, 203, 2_382),
+        lambda folder: full_case(options.program, folder, "two drives of 406 cylinders, full: 9,535 files without an entry", 2, 406, 9_535),
         lambda _: nameless_case(HALF_ROOT, 1, 203, 1_216, 2_430, has_image=False),
     ]
     for make in cases:

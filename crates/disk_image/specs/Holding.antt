@@ -1,5 +1,5 @@
 -- Which bytes of a file are held back on their way to it.
-use Rattle.std.specs.Prelude.{◌≡◌, ◌≢◌, ◌⊎◌, ℕ, ◌+◌, ◌-◌, ◌*◌, ◌/◌, ◌%◌, ◌<◌, ◌==◌, ◌&&◌, Bool, nat_lt, nat_le, if◌then◌else◌, List, length, get_or, Option, Some, None, IfSome, vec_len}
+use Rattle.std.specs.Prelude.{◌≡◌, ◌≢◌, ◌⊎◌, ℕ, ◌+◌, ◌-◌, ◌*◌, ◌/◌, ◌%◌, ◌<◌, ◌==◌, ◌&&◌, Bool, nat_lt, nat_le, if◌then◌else◌, List, length, get_or, Option, Some, None, vec_len}
 use Rattle.disk_image.specs.declared.held.Held.{Held}
 
 -- whether a place is one of so many from another one on
@@ -28,7 +28,3 @@ first_place held = held.number * 4096 + held.from
 
 abbrev pub HoldsNone : Held → Type 0
 HoldsNone held = (k : ℕ) → held_at held k ≡ None
-
--- what is held was held before, the same
-abbrev pub HoldsNoMore : Held → Held → Type 0
-HoldsNoMore old new = (k : ℕ) → IfSome (held_at new k) (λ byte. held_at old k ≡ Some byte)

@@ -6,7 +6,7 @@ ghost use Rattle.std.specs.Prelude.{◌<◌, ◌≤◌, vec_len};
 
 use std::alloc::Global;
 
-/// The bytes of a page of memory.
+/// The bytes of a page of memory: of the smallest that Linux has on x86-64.
 const PAGE_OF_MEMORY: usize = 4096;
 
 /// Bytes that are held back of one page of a file, all side by side.

@@ -21,8 +21,9 @@
 // file: Linux writes the bytes of a call in rising order and looks for such a signal between two pages of memory. So the bytes that were
 // held back, which are of one page, stand all or none, in whichever order the commands wrote them; a record that crosses may be torn.
 // About one sector in 8 has such a record; the value of a file's sector 7, at the bytes 3,744 to 4,255, is the first. The premise doesn't
-// hold where a call writes a part of a record and the one for the rest fails, or is stopped by a limit on the size of files. Nothing is
-// synced to the device, so a power failure may leave less.
+// hold where a call writes a part of its bytes and the one for the rest fails, or is stopped by a limit on the size of files that lies within
+// them: they stand in the order of the file, which needn't be that of the commands. Nothing is synced to the device, so a power failure may
+// leave less; and a machine that is dropped without a flush takes along what it holds back.
 //
 // Before each write call the file's length is asked for, by a seek to its end, so that no write makes the file longer, unless another
 // process shortens the file between the question and the write. Where the file is too short, or the call fails, the command fails in
@@ -275,7 +276,7 @@ where
     ghost use Rattle.disk_records.specs.Tapes.{DiskAlone};
     ghost use Rattle.disk_image.specs.Holding.{HoldsNone};
     ghost use Rattle.disk_image.specs.Images.{first_drive};
-    ghost use Rattle.disk_image.specs.Kept.{ReadsKept, ObeysKept};
+    ghost use Rattle.disk_image.specs.Kept.{ReadsKept, ObeysKept, kept_at};
     ghost use Rattle.disk_image.specs.Records.{writes_after_all};
 
     /// Does one sector command on a sector that is kept, or in the file of its drive, and answers the first word that differs, if one
@@ -310,7 +311,15 @@ where
         }
     }
 
-    /// Does what a sector command reads, and answers the first word that differs, if one does. The other drive's file isn't touched.
+    /// Whether a sector command reads the file of its drive: it reads or checks a record of a sector that isn't kept.
+    fn reads_file(&self, at: u16, plan: Plan) -> bool
+        ensures { IsTrue result → kept_at self.now.kept at ≡ None }
+    {
+        plan.header != Act::Write && self.kept.sector(at).is_none()
+    }
+
+    /// Does what a sector command reads, and answers the first word that differs, if one does. What is held back of the file goes ahead where
+    /// it is read. The other drive's file isn't touched.
     fn read_on_drive(
         &mut self,
         at: u16,
@@ -325,12 +334,21 @@ where
         ensures second_kept { at < first_drive self.old.shape → self.new.second ≡ self.old.second }
         ensures kept { ReadsKept at plan buf.old buf.new self.old.kept self.new.kept result }
     {
+        let reads = self.reads_file(at, plan);
         match drive_of(self.shape, at) {
             OnDrive::First(spot) => {
+                if reads {
+                    self.first.hand_on()?;
+                }
                 read_in_file(&mut self.first, spot, plan, buf, &mut self.kept)
             }
             OnDrive::Second(spot) => match &mut self.second {
-                Some(file) => read_in_file(file, spot, plan, buf, &mut self.kept),
+                Some(file) => {
+                    if reads {
+                        file.hand_on()?;
+                    }
+                    read_in_file(file, spot, plan, buf, &mut self.kept)
+                }
                 None => unreachable!(),
             },
         }

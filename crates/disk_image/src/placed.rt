@@ -2,7 +2,7 @@
 // write names its place in the call that it makes. Bytes that are written are held back as long as they follow each other within one page
 // of memory of the file (held.rt), and go ahead of all that is read or written after them.
 ghost use Rattle.std.specs.Prelude.{◌≡◌, ◌↔◌, ◌+◌, ◌≤◌, IsTrue, OnOk, OnErr};
-ghost use Rattle.disk_image.specs.Holding.{HoldsNone, HoldsNoMore};
+ghost use Rattle.disk_image.specs.Holding.{HoldsNone};
 
 use crate::held::Held;
 use std::alloc::Global;
@@ -40,13 +40,12 @@ impl<F: FileExt + Seek> Placed<F> {
     pub(crate) fn hand_on(&mut self) -> io::Result<()>
         ensures ok { OnOk result (HoldsNone self.new.held) }
         ensures err { OnErr result (self.new.held ≡ self.old.held) }
-        ensures no_more { HoldsNoMore self.old.held self.new.held }
         ensures place { self.new.at ≡ self.old.at }
     {
         if self.held.is_empty() {
             return Ok(());
         }
-        write_in_file(&mut self.file, self.held.place(), self.held.bytes())?;
+        write_at_place(&mut self.file, self.held.place(), self.held.bytes())?;
         self.held.clear();
         Ok(())
     }
@@ -62,7 +61,7 @@ fn has_bytes(length: u64, at: u64, count: usize) -> bool
 /// Writes bytes to their place in a file that has the whole of it, by one write call. UnexpectedEof: it no longer has. Records written
 /// there would make the file longer again, and those that were lost would be read as zeros. That holds for the moment of the question:
 /// another process can shorten the file after it.
-fn write_in_file<F: FileExt + Seek>(file: &mut F, at: u64, bytes: &[u8]) -> io::Result<()> {
+fn write_at_place<F: FileExt + Seek>(file: &mut F, at: u64, bytes: &[u8]) -> io::Result<()> {
     if !has_bytes(file.seek(SeekFrom::End(0))?, at, bytes.len()) {
         return Err(Error::from(ErrorKind::UnexpectedEof));
     }
@@ -79,12 +78,13 @@ impl<F: FileExt + Seek> Read for Placed<F> {
 }
 
 impl<F: FileExt + Write + Seek> Write for Placed<F> {
-    /// All bytes are held back, or they are written by a call of their own, where they aren't all in one page.
+    /// Bytes that are all in one page of memory of the file are held back, those that are held and stand elsewhere going ahead of them. Others are
+    /// written by a call of their own, after those that are held; and so are all where there is no memory to hold any.
     fn write(&mut self, buf: &[u8]) -> io::Result<usize> {
         if !self.held.put(self.at, buf) {
             self.hand_on()?;
             if !self.held.put(self.at, buf) {
-                write_in_file(&mut self.file, self.at, buf)?;
+                write_at_place(&mut self.file, self.at, buf)?;
             }
         }
         self.at = self.at.saturating_add(buf.len() as u64);
@@ -102,7 +102,7 @@ impl<F: Seek> Seek for Placed<F> {
 
     ghost stream_position = { λ placed. Some placed.at };
 
-    /// Where the place is counted from the file's end, the outside is asked for that.
+    /// Where the place is counted from the file's end, the outside is asked for that. The program counts each place from the file's start.
     fn seek(&mut self, to: SeekFrom) -> io::Result<u64> {
         let at = match to {
             SeekFrom::Start(at) => at,

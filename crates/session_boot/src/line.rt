@@ -57,7 +57,7 @@ fn after_flush<D: Disk>(disk: &mut D, reply: Reply) -> Reply
 }
 
 /// Obeys a line, with all that it writes handed on to the device. The errors are those of `obey`.
-fn obey_whole<D: Disk>(alloc: Global, session: &mut Session, disk: &mut D, line: &Line) -> Reply
+fn obey_and_flush<D: Disk>(alloc: Global, session: &mut Session, disk: &mut D, line: &Line) -> Reply
     requires formed { Formed (D.tape disk.old).form (kept session.old) }
     ensures turns { IsTrue D.told → TakesTurns (D.tape disk.old) (D.tape disk.new) (kept session.old) (kept session.new) (cue_for line.now) result }
     ensures limit { (kept session.new).tally.limit ≡ (kept session.old).tally.limit }
@@ -70,7 +70,7 @@ fn obey_whole<D: Disk>(alloc: Global, session: &mut Session, disk: &mut D, line:
 }
 
 /// Ends the session, with all that it wrote handed on to the device. The errors are those of `Session::end`.
-fn end_whole<D: Disk>(alloc: Global, session: &mut Session, disk: &mut D) -> Reply
+fn end_and_flush<D: Disk>(alloc: Global, session: &mut Session, disk: &mut D) -> Reply
     requires formed { Formed (D.tape disk.old).form (kept session.old) }
     ensures turns { IsTrue D.told → TakesTurns (D.tape disk.old) (D.tape disk.new) (kept session.old) (kept session.new) ended result }
     ensures limit { (kept session.new).tally.limit ≡ (kept session.old).tally.limit }
@@ -102,7 +102,7 @@ fn answer_line<M: Machine>(
     ensures keys { (M.tape machine.new).keys ≡ (M.tape machine.old).keys }
 {
     let line = read_line(alloc, text)?;
-    let reply = obey_whole(alloc, session, machine, &line);
+    let reply = obey_and_flush(alloc, session, machine, &line);
     let next = next_after(&reply)?;
     show_reply(alloc, machine, &reply)?;
     Ok(next)
@@ -145,7 +145,7 @@ pub(crate) fn end_session<M: Machine>(
     ensures grown { Grown (M.tape machine.old) (M.tape machine.new) }
     ensures keys { (M.tape machine.new).keys ≡ (M.tape machine.old).keys }
 {
-    let reply = end_whole(alloc, session, machine);
+    let reply = end_and_flush(alloc, session, machine);
     next_after(&reply)?;
     show_reply(alloc, machine, &reply)
 }

@@ -250,27 +250,27 @@ fn what_cannot_be_handed_on_is_a_fault_and_stays(rt: HostRuntime) -> Result<(), 
     let alloc = rt.alloc();
     let made = FileMachine::create(&rt, alloc, "stuck", 2)?;
     drop(made);
-    // the first write call fails, in the command on the next page or in a flush
-    for is_flushed in [false, true] {
+    // the first write call fails: in a flush, in a command on the next page, or in one that reads another cylinder
+    for way in 0..3u8 {
         let log = Log::new(alloc);
         let outside = Outside::new(&rt, b"", Broken::WriteCall(0), &log);
         let mut machine = FileMachine::reach(&outside, alloc, "stuck")?;
-        assert!(rt; 8 < machine.shape().pages());
+        assert!(rt; 24 < machine.shape().pages());
         machine.run(0, Plan::WRITE_ALL, &mut NUMBERED)?;
-        let failed = if is_flushed {
-            machine.flush()
-        } else {
-            machine.run(8, Plan::WRITE_ALL, &mut NUMBERED)
+        let failed = match way {
+            0 => machine.flush(),
+            1 => machine.run(8, Plan::WRITE_ALL, &mut NUMBERED),
+            _ => machine.run(24, Plan::READ, &mut NUMBERED),
         };
-        assert!(rt; failed == Err(DiskError::Failed), "{is_flushed}");
-        assert_eq!(rt; machine.writes(), 3, "{is_flushed}");
+        assert!(rt; failed == Err(DiskError::Failed), "{way}");
+        assert_eq!(rt; machine.writes(), 3, "{way}");
         // the sector is held back still, and is written now
         let calls = [FileCall::Seek(SeekFrom::End(0)), FileCall::WriteAt(0, 532)];
         drop(log.take_file_calls(alloc)?);
         machine.flush()?;
         assert!(rt;
             log.take_file_calls(alloc)?.as_slice() == calls.as_slice(),
-            "{is_flushed}"
+            "{way}"
         );
     }
     fs::remove_file(&rt, "stuck")?;

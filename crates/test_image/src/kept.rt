@@ -182,8 +182,8 @@ fn a_write_at_a_lost_sector_is_a_fault(rt: HostRuntime) -> Result<(), Fail> {
         machine.flush()?;
         let bytes = fs::read(&rt, "lost")?;
         for (place, byte) in bytes.iter().enumerate() {
-            let number = (place / 532) as u16;
-            let is_written = (number == 2 || number == at) && place % 532 >= 20;
+            let number = place / 532;
+            let is_written = (number == 2 || number == at as usize) && place % 532 >= 20;
             let wanted = if is_written && place % 2 == 1 { 7 } else { 0 };
             assert!(rt; *byte == wanted, "{place} of {length}");
         }

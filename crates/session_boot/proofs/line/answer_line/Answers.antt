@@ -16,37 +16,37 @@ returns-in_err-line-clause-turn g c = λ told.
 pub returns-in_err-next-clause-turn : goal.returns-in_err-next-clause-turn
 returns-in_err-next-clause-turn g c = λ told.
     let x = g.M.Tape.tape c.args.machine.now in
-    let y = g.M.Tape.tape c.obey_whole-reply.new.disk in
+    let y = g.M.Tape.tape c.obey_and_flush-reply.new.disk in
     let one = kept c.args.session.now in
-    let two = kept c.obey_whole-reply.new.session in
+    let two = kept c.obey_and_flush-reply.new.session in
     let l = c.in_ok-line.line in
     let result = c.from_residual-in_err-next.result in
     subst (λ k. TurnsFrom is_over (pack x) (added x y) x.writes y one two (cue_for k) result) c.in_ok-line.ensures
-    (answer_stopped is_over x y one two (cue_for l) c.obey_whole-reply.result (line_never_asks l) (c.obey_whole-reply.ensures.turns told) c.in_err-next.field-0.0 (sym c.in_err-next.ensures) result (err_is result c.in_err-next.field-0.0 c.from_residual-in_err-next.ensures.1))
+    (answer_stopped is_over x y one two (cue_for l) c.obey_and_flush-reply.result (line_never_asks l) (c.obey_and_flush-reply.ensures.turns told) c.in_err-next.field-0.0 (sym c.in_err-next.ensures) result (err_is result c.in_err-next.field-0.0 c.from_residual-in_err-next.ensures.1))
 
 pub returns-in_err-show_reply-clause-turn : goal.returns-in_err-show_reply-clause-turn
 returns-in_err-show_reply-clause-turn g c = λ told.
     let x = g.M.Tape.tape c.args.machine.now in
-    let y = g.M.Tape.tape c.obey_whole-reply.new.disk in
+    let y = g.M.Tape.tape c.obey_and_flush-reply.new.disk in
     let z = g.M.Tape.tape c.show_reply.new.console in
     let one = kept c.args.session.now in
-    let two = kept c.obey_whole-reply.new.session in
+    let two = kept c.obey_and_flush-reply.new.session in
     let l = c.in_ok-line.line in
     let result = c.from_residual-in_err-show_reply.result in
     let fault = c.in_err-show_reply.field-0.0 in
     subst (λ k. TurnsFrom is_over (pack x) (added x z) x.writes z one two (cue_for k) result) c.in_ok-line.ensures
-    (answer_cut is_over x y one two (cue_for l) c.obey_whole-reply.result (line_never_asks l) (c.obey_whole-reply.ensures.turns told) z c.obey_whole-reply.ensures.alone.grown c.in_err-show_reply.ensures.alone.grown
+    (answer_cut is_over x y one two (cue_for l) c.obey_and_flush-reply.result (line_never_asks l) (c.obey_and_flush-reply.ensures.turns told) z c.obey_and_flush-reply.ensures.alone.grown c.in_err-show_reply.ensures.alone.grown
     c.in_ok-next.next (sym c.in_ok-next.ensures) fault (c.in_err-show_reply.ensures.shown told) c.in_err-show_reply.ensures.cause result (err_is result fault c.from_residual-in_err-show_reply.ensures.1))
 
 pub returns-clause-turn : goal.returns-clause-turn
 returns-clause-turn g c = λ told s keeping.
     let x = g.M.Tape.tape c.args.machine.now in
-    let y = g.M.Tape.tape c.obey_whole-reply.new.disk in
+    let y = g.M.Tape.tape c.obey_and_flush-reply.new.disk in
     let z = g.M.Tape.tape c.show_reply.new.console in
     let one = kept c.args.session.now in
-    let two = kept c.obey_whole-reply.new.session in
+    let two = kept c.obey_and_flush-reply.new.session in
     let l = c.in_ok-line.line in
     subst (λ k. TurnTaken (pack x) (added x z) x.writes z one two s (cue_for k) (is_over c.in_ok-next.next)) c.in_ok-line.ensures
-    (subst (TurnTaken (pack x) (added x z) x.writes z one two s (cue_for l)) (next_over c.obey_whole-reply.result c.in_ok-next.next (sym c.in_ok-next.ensures))
-    (answer_shown is_over x y one two (cue_for l) c.obey_whole-reply.result (line_never_asks l) (c.obey_whole-reply.ensures.turns told) z c.obey_whole-reply.ensures.alone.grown c.in_ok-show_reply.ensures.alone.grown
+    (subst (TurnTaken (pack x) (added x z) x.writes z one two s (cue_for l)) (next_over c.obey_and_flush-reply.result c.in_ok-next.next (sym c.in_ok-next.ensures))
+    (answer_shown is_over x y one two (cue_for l) c.obey_and_flush-reply.result (line_never_asks l) (c.obey_and_flush-reply.ensures.turns told) z c.obey_and_flush-reply.ensures.alone.grown c.in_ok-show_reply.ensures.alone.grown
     c.in_ok-next.next (sym c.in_ok-next.ensures) (c.in_ok-show_reply.ensures.shown told).ok s keeping))

@@ -1,6 +1,6 @@
 use Rattle.disk_records.proofs.Growing.{alone_twice}
 use Rattle.session_boot.proofs.Flushed.{flushed_cause}
-use Rattle.session_boot.proofs.line.obey_whole.Goals as goal
+use Rattle.session_boot.proofs.line.obey_and_flush.Goals as goal
 
 pub returns-clause-turns : goal.returns-clause-turns
 returns-clause-turns g c told = let same = c.after_flush.ensures.told told in rw (same.0, same.1) (c.obey-reply.ensures.turns told)
