@@ -208,6 +208,7 @@ impl Runs for Marking {
         if machine.shape().pages() > 0 && machine.run(0, READ_ALL, &mut memory).is_ok() {
             self.found.set(Some(memory.header[0]));
             let _ = machine.run(0, WRITE_ALL, &mut filled(self.mark));
+            let _ = machine.flush();
         }
         Status::Memory
     }
