@@ -50,6 +50,7 @@ fn machine_of<'a, R: Files + Input + Print + AllocGlobal>(
 ) -> Result<FileMachine<'a, R>, ReachError>
     requires range { HasRange call }
     ensures untouched { IfOk result (λ machine. IsUntouched (⟦<FileMachine<'a, R> as Tape>⟧.tape machine)) }
+    ensures handed_on { IfOk result (λ machine. ⟦<FileMachine<'a, R> as Tape>⟧.handed_on machine) }
     ensures disks { IfOk result (λ machine. disks_of (⟦<FileMachine<'a, R> as Tape>⟧.tape machine).form ≡ drives (is_some call.entry.second)) }
     ensures form { IfSome call.entry.cylinders (λ cylinders. IfOk result (λ machine. cylinders_of (⟦<FileMachine<'a, R> as Tape>⟧.tape machine).form ≡ cylinders)) }
     ensures err { IfErr result (IsRefusal call.entry.cylinders (is_some call.entry.second)) }

@@ -10,7 +10,8 @@ use std::alloc::Global;
 
 /// Runs what the words after PACK ask for on a machine. The program's is `alto`; a test has its own, to see at which moment it is called.
 pub trait Runs {
-    /// Runs what these words ask for. `moment` is the time now, in seconds since the start of 1901.
+    /// Runs what these words ask for. `moment` is the time now, in seconds since the start of 1901. The machine holds no record write back, as
+    /// a new one.
     fn run<M: Machine>(
         &self,
         alloc: Global,
@@ -18,6 +19,7 @@ pub trait Runs {
         moment: u32,
         machine: &mut M,
     ) -> Status
+        requires handed_on { M.handed_on machine.old }
         ensures cause { HasStatusCause (M.tape machine.old) (M.tape machine.new) result }
         ensures answer { AnswersTo (map string_bytes words.now) (disks_of (M.tape machine.old).form) result };
 }

@@ -5,7 +5,7 @@ ghost use Rattle.disk_records.specs.Tapes.{DiskAlone, Grown, pack};
 ghost use Rattle.pack_model.specs.sessions.Format.{format_writes, free_after_format};
 ghost use Rattle.disk_descriptor.specs.Formatting.{IsFormatted};
 ghost use Rattle.alto_top.specs.Faults.{HasDiskCause};
-ghost use Rattle.session_boot.specs.Faults.{HasStatusCause};
+ghost use Rattle.session_boot.specs.Faults.{HasStatusCause, UnlessStopped};
 ghost use Rattle.alto_top.specs.Formats.{AnswersFormat, FormatsDisk, FormatsPack, format_text};
 ghost use Rattle.alto_top.specs.Showing.{KeepsKeys};
 
@@ -28,7 +28,9 @@ fn text_of(alloc: Global, free: u16) -> Result<Vec<u8>, Memory>
     Ok(text)
 }
 
-/// Formats the pack, and gives the text that tells it.
+/// Formats the pack, and gives the text that tells it, once all record writes are handed on.
+///
+/// Disk: the disk failed, or didn't hand on what it held back. Memory: none was left, for the writes or for the text.
 fn format_disk<D: Disk>(
     alloc: Global,
     disk: &mut D,
@@ -38,6 +40,7 @@ fn format_disk<D: Disk>(
     ensures text { IfOk result (λ text. text.items ≡ format_text (free_after_format (D.tape disk.old).form)) }
     ensures formats { IsTrue D.told → FormatsDisk number moment (D.tape disk.old) (D.tape disk.new) result }
     ensures cause { HasDiskCause (D.tape disk.old) (D.tape disk.new) result }
+    ensures handed_on { OnOk result (D.handed_on disk.new) }
     ensures alone { DiskAlone (D.tape disk.old) (D.tape disk.new) }
 {
     let free = match format(disk, number, moment) {
@@ -59,6 +62,7 @@ pub fn format_pack<M: Machine>(alloc: Global, number: u16, moment: u32, machine:
     ensures answer { AnswersFormat result }
     ensures formats { IsTrue M.told → FormatsPack number moment (M.tape machine.old) (M.tape machine.new) result }
     ensures cause { HasStatusCause (M.tape machine.old) (M.tape machine.new) result }
+    ensures handed_on { UnlessStopped result (M.handed_on machine.new) }
     ensures grown { Grown (M.tape machine.old) (M.tape machine.new) }
     ensures keys { KeepsKeys (M.tape machine.old) (M.tape machine.new) }
 {

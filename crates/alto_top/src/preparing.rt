@@ -1,10 +1,10 @@
 // The word `prepare`: the second drive of a pack is prepared.
-ghost use Rattle.std.specs.Prelude.{◌≡◌, IsTrue, IfOk};
+ghost use Rattle.std.specs.Prelude.{◌≡◌, IsTrue, IfOk, OnOk};
 ghost use Rattle.disk_records.specs.Addresses.{disks_of};
 ghost use Rattle.disk_records.specs.Tapes.{DiskAlone, Grown};
 ghost use Rattle.laws_format.specs.Preparing.{drive_pages};
 ghost use Rattle.alto_top.specs.Faults.{HasDiskCause};
-ghost use Rattle.session_boot.specs.Faults.{HasStatusCause};
+ghost use Rattle.session_boot.specs.Faults.{HasStatusCause, UnlessStopped};
 ghost use Rattle.alto_top.specs.Formats.{AnswersFormat, PreparesDisk, PreparesPack, ShowsThroughout, prepare_text};
 ghost use Rattle.alto_top.specs.Showing.{KeepsKeys};
 
@@ -27,13 +27,16 @@ fn text_of(alloc: Global, pages: u16) -> Result<Vec<u8>, Memory>
     Ok(text)
 }
 
-/// Prepares the second drive, and gives the text that tells it.
+/// Prepares the second drive, and gives the text that tells it, once all record writes are handed on.
+///
+/// Disk: the disk failed, or didn't hand on what it held back. Memory: none was left, for the writes or for the text.
 fn prepare_disk<D: Disk>(alloc: Global, disk: &mut D, number: u16) -> Result<Vec<u8>, Fault>
     requires two { disks_of (D.tape disk.old).form ≡ 2 }
     ensures text { IfOk result (λ text. text.items ≡ prepare_text (drive_pages (D.tape disk.old).form)) }
     ensures prepares { IsTrue D.told → PreparesDisk number (D.tape disk.old) (D.tape disk.new) result }
     ensures shows { IsTrue D.told → ShowsThroughout (D.tape disk.old) (D.tape disk.new) }
     ensures cause { HasDiskCause (D.tape disk.old) (D.tape disk.new) result }
+    ensures handed_on { OnOk result (D.handed_on disk.new) }
     ensures alone { DiskAlone (D.tape disk.old) (D.tape disk.new) }
 {
     let pages = match prepare(disk, number) {
@@ -57,6 +60,7 @@ pub fn prepare_pack<M: Machine>(alloc: Global, number: u16, machine: &mut M) -> 
     ensures prepares { IsTrue M.told → PreparesPack number (M.tape machine.old) (M.tape machine.new) result }
     ensures shows { IsTrue M.told → ShowsThroughout (M.tape machine.old) (M.tape machine.new) }
     ensures cause { HasStatusCause (M.tape machine.old) (M.tape machine.new) result }
+    ensures handed_on { UnlessStopped result (M.handed_on machine.new) }
     ensures grown { Grown (M.tape machine.old) (M.tape machine.new) }
     ensures keys { KeepsKeys (M.tape machine.old) (M.tape machine.new) }
 {

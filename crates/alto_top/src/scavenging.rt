@@ -1,10 +1,10 @@
 // The word `scavenge`: the pack is scavenged, and what was found and done is told, or why it can't be.
-ghost use Rattle.std.specs.Prelude.{IsTrue, ◌≡◌};
+ghost use Rattle.std.specs.Prelude.{IsTrue, OnOk, ◌≡◌};
 ghost use Rattle.disk_records.specs.Tapes.{DiskAlone, Grown};
 ghost use Rattle.alto_top.specs.Faults.{HasDiskCause};
 ghost use Rattle.alto_top.specs.Scavenging.{AnswersScavenge, HasRefusal, ScavengesDisk, ScavengesPack, status_in, text_in};
 ghost use Rattle.alto_top.specs.Showing.{KeepsKeys};
-ghost use Rattle.session_boot.specs.Faults.{HasStatusCause};
+ghost use Rattle.session_boot.specs.Faults.{HasStatusCause, UnlessStopped};
 
 use crate::flushing::flush_disk;
 use disk_records::{Disk, Machine};
@@ -71,10 +71,13 @@ fn refusal_text(alloc: Global, error: ScavError) -> Result<Vec<u8>, Fault>
     Ok(out)
 }
 
-/// Scavenges the pack, and gives the text that tells it.
+/// Scavenges the pack, and gives the text that tells it, once all record writes are handed on.
+///
+/// Disk: the disk failed, or didn't hand on what it held back. Memory: none was left, for the scavenge or for the text.
 fn scavenge_disk<D: Disk>(alloc: Global, disk: &mut D) -> Result<Told, Fault>
     ensures scavenges { IsTrue D.told → ScavengesDisk (D.tape disk.old) (D.tape disk.new) result }
     ensures cause { HasDiskCause (D.tape disk.old) (D.tape disk.new) result }
+    ensures handed_on { OnOk result (D.handed_on disk.new) }
     ensures alone { DiskAlone (D.tape disk.old) (D.tape disk.new) }
 {
     match scavenge(alloc, disk) {
@@ -89,7 +92,11 @@ fn scavenge_disk<D: Disk>(alloc: Global, disk: &mut D) -> Result<Told, Fault>
             )?;
             Ok(Told::Report(text))
         }
-        Err(error) => Ok(Told::Refusal(refusal_text(alloc, error)?)),
+        Err(error) => {
+            let text = refusal_text(alloc, error)?;
+            flush_disk(disk)?;
+            Ok(Told::Refusal(text))
+        }
     }
 }
 
@@ -104,6 +111,7 @@ pub fn scavenge_pack<M: Machine>(alloc: Global, machine: &mut M) -> Status
     ensures answer { AnswersScavenge result }
     ensures scavenges { IsTrue M.told → ScavengesPack (M.tape machine.old) (M.tape machine.new) result }
     ensures cause { HasStatusCause (M.tape machine.old) (M.tape machine.new) result }
+    ensures handed_on { UnlessStopped result (M.handed_on machine.new) }
     ensures grown { Grown (M.tape machine.old) (M.tape machine.new) }
     ensures keys { KeepsKeys (M.tape machine.old) (M.tape machine.new) }
 {

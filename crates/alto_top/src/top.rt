@@ -3,7 +3,7 @@ ghost use Rattle.std.specs.Prelude.{◌≡◌, ◌≢◌, [], ◌∷◌, codes, 
 ghost use Rattle.disk_records.specs.Addresses.{disks_of};
 ghost use Rattle.disk_records.specs.Tapes.{Grown, ShowAlone};
 ghost use Rattle.session_boot.specs.Boots.{AnswersBoot};
-ghost use Rattle.session_boot.specs.Faults.{HasStatusCause};
+ghost use Rattle.session_boot.specs.Faults.{HasStatusCause, UnlessStopped};
 ghost use Rattle.alto_top.specs.Showing.{KeepsKeys};
 ghost use Rattle.alto_top.specs.Top.{AnswersPrepare, AnswersTo, AnswersUsage, AsksFor, BootedAlone, DoesAsAsked, PreparesOrUsage, ShowsUsage, Touches, pack_number};
 
@@ -81,9 +81,11 @@ fn pack_number(word: &[u8]) -> Option<u16>
 
 /// Shows `usage`.
 fn show_usage<C: Console>(console: &mut C) -> Status
+    requires handed_on { C.handed_on console.old }
     ensures shown { IsTrue C.told → ShowsUsage (C.tape console.old) (C.tape console.new) result }
     ensures answer { AnswersUsage result }
     ensures cause { HasStatusCause (C.tape console.old) (C.tape console.new) result }
+    ensures handed_on { C.handed_on console.new }
     ensures alone { ShowAlone (C.tape console.old) (C.tape console.new) }
 {
     match show_all(console, b"usage\n") {
@@ -94,9 +96,11 @@ fn show_usage<C: Console>(console: &mut C) -> Status
 
 /// Prepares the second drive of a pack of two; of a pack of one shows `usage`.
 fn prepare_or_usage<M: Machine>(alloc: Global, number: u16, machine: &mut M) -> Status
+    requires handed_on { M.handed_on machine.old }
     ensures prepares { IsTrue M.told → PreparesOrUsage number (M.tape machine.old) (M.tape machine.new) result }
     ensures answers { AnswersPrepare (disks_of (M.tape machine.old).form) result }
     ensures cause { HasStatusCause (M.tape machine.old) (M.tape machine.new) result }
+    ensures handed_on { UnlessStopped result (M.handed_on machine.new) }
     ensures grown { Grown (M.tape machine.old) (M.tape machine.new) }
     ensures keys { KeepsKeys (M.tape machine.old) (M.tape machine.new) }
     ensures unprepared { disks_of (M.tape machine.old).form ≢ 2 → ShowAlone (M.tape machine.old) (M.tape machine.new) }
@@ -113,6 +117,7 @@ fn boot_uncounted<M: Machine>(alloc: Global, moment: u32, machine: &mut M) -> St
     ensures booted { IsTrue M.told → BootedAlone moment (M.tape machine.old) (M.tape machine.new) result }
     ensures answers { AnswersBoot result }
     ensures cause { HasStatusCause (M.tape machine.old) (M.tape machine.new) result }
+    ensures handed_on { UnlessStopped result (M.handed_on machine.new) }
     ensures grown { Grown (M.tape machine.old) (M.tape machine.new) }
 {
     let mut tally = Tally {
@@ -125,7 +130,8 @@ fn boot_uncounted<M: Machine>(alloc: Global, moment: u32, machine: &mut M) -> St
 
 /// Does what the words of a command line ask for on this machine. The words are `boot`, `show` or `scavenge` alone, or `format` or `prepare`
 /// and the pack's number, 1 to 65,535; with any others, and with `prepare` on one drive, `usage` is shown and nothing else happens. `moment`
-/// is the time now, in seconds since the start of 1901.
+/// is the time now, in seconds since the start of 1901. The machine holds no record write back, as a new one; and none at the end, unless a
+/// fault or out of memory is answered.
 ///
 /// Done: the session was ended, the listing was shown, the pack was scavenged or formatted, or its second drive prepared. Usage: the
 /// words are others, or `prepare` on one drive, and `usage` was shown. NeedsScavenge: of `boot` alone; the pack isn't entered, or a
@@ -135,9 +141,11 @@ fn boot_uncounted<M: Machine>(alloc: Global, moment: u32, machine: &mut M) -> St
 /// that was sound and clean; a pack that was being scavenged shows what it showed and is to be scavenged again, one that was being formatted
 /// is to be formatted again, and a drive that was being prepared to be prepared again.
 pub fn alto<M: Machine>(alloc: Global, words: &[String], moment: u32, machine: &mut M) -> Status
+    requires handed_on { M.handed_on machine.old }
     ensures does { IsTrue M.told → DoesAsAsked (map string_bytes words.now) moment (M.tape machine.old) (M.tape machine.new) result }
     ensures answers { AnswersTo (map string_bytes words.now) (disks_of (M.tape machine.old).form) result }
     ensures cause { HasStatusCause (M.tape machine.old) (M.tape machine.new) result }
+    ensures handed_on { UnlessStopped result (M.handed_on machine.new) }
     ensures touches { Touches (map string_bytes words.now) (M.tape machine.old) (M.tape machine.new) }
 {
     match asked_of(words) {

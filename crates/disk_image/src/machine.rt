@@ -29,7 +29,7 @@
 // process shortens the file between the question and the write. Where the file is too short, or the call fails, the command fails in
 // which that was tried, or the flush; what is held back stays so and is tried again first, so nothing goes ahead of it.
 //
-// Keys are read ahead. Those of one line that were are taken at once, and none past the line's end (`read_line`).
+// Keys are read ahead. Those of one line that were are taken at once, and none past the line's end (`read_piece`).
 ghost use Rattle.std.specs.Prelude.{◌≡◌, ◌≢◌, ◌-◌, ◌<◌, ◌≤◌, false, [], length, take, IfOk, IfErr, OnErr};
 ghost use Rattle.std.specs.Option.{ForNone};
 ghost use Rattle.std.specs.Io.{ReadsAtMost};
@@ -82,21 +82,25 @@ pub struct FileMachine<'a, R: Files + Input + Print> {
 }
 
 impl<'a, R: Files + Input + Print> Tape for FileMachine<'a, R> {
+    ghost use Rattle.std.specs.Prelude.{IfSome};
+    ghost use Rattle.disk_image.specs.Holding.{HoldsNone};
+
     ghost told = { false };
 
     ghost tape = { λ m. record { form = m.shape; base = []; events = []; keys = []; disk_faults = m.disk_faults; key_faults = m.key_faults; show_faults = m.show_faults; runs = 0; writes = m.writes; spare = 0 } };
+
+    ghost handed_on = { λ m. HoldsNone m.first.held × IfSome m.second (λ file. HoldsNone file.held) };
 }
 
 impl<'a, R: Files + Input + Print> Disk for FileMachine<'a, R>
 where
     R::File: FileExt,
 {
-    ghost use Rattle.std.specs.Prelude.{◌≡◌, ◌<◌, OnOk, OnErr, IfErr, IfSome, IsOk, IsErrOf, IsTrue};
+    ghost use Rattle.std.specs.Prelude.{◌≡◌, ◌<◌, OnOk, OnErr, IfErr, IsOk, IsErrOf, IsTrue};
     ghost use Rattle.std.proofs.lemmas.Bool.{false≢true};
     ghost use Rattle.disk_records.specs.Addresses.{pages_of};
     ghost use Rattle.disk_records.specs.Checks.{is_legal, is_checked};
     ghost use Rattle.disk_records.specs.Tapes.{DiskAlone, IfMismatch, Ran, Rose};
-    ghost use Rattle.disk_image.specs.Holding.{HoldsNone};
     ghost use Rattle.disk_image.specs.Machines.{CountsFault};
     ghost use Rattle.disk_image.specs.Records.{writes_after_all};
 
@@ -135,15 +139,15 @@ where
     /// It hands on the bytes that are held back of a drive's file, by one write call, and takes no memory. After Failed they are held back
     /// still, until a call hands them on.
     fn flush(&mut self) -> Result<(), DiskError>
+        ensures handed_on { OnOk result (⟦<FileMachine<'a, R> as Tape>⟧.handed_on self.new) }
         ensures alone { DiskAlone (⟦<FileMachine<'a, R> as Tape>⟧.tape self.old) (⟦<FileMachine<'a, R> as Tape>⟧.tape self.new) }
         ensures failed { OnErr result (Rose (⟦<FileMachine<'a, R> as Tape>⟧.tape self.old).disk_faults (⟦<FileMachine<'a, R> as Tape>⟧.tape self.new).disk_faults) }
         ensures only { IfErr result (λ error. error ≡ DiskError.Failed) }
         ensures told { IsTrue ⟦<FileMachine<'a, R> as Tape>⟧.told → IsOk result × ((⟦<FileMachine<'a, R> as Tape>⟧.tape self.new) ≡ (⟦<FileMachine<'a, R> as Tape>⟧.tape self.old)) }
 
-        // What is counted, and what is held back.
+        // What is counted.
         ensures fault { CountsFault (IsErrOf result DiskError.Failed) (⟦<FileMachine<'a, R> as Tape>⟧.tape self.old).disk_faults (⟦<FileMachine<'a, R> as Tape>⟧.tape self.new).disk_faults }
         ensures same_writes { (⟦<FileMachine<'a, R> as Tape>⟧.tape self.new).writes ≡ (⟦<FileMachine<'a, R> as Tape>⟧.tape self.old).writes }
-        ensures none_held { OnOk result (HoldsNone self.new.first.held × IfSome self.new.second (λ file. HoldsNone file.held)) }
     {
         match self.hand_on() {
             Ok(()) => Ok(()),
@@ -189,7 +193,7 @@ impl<'a, R: Files + Input + Print> Console for FileMachine<'a, R> {
 
     /// It takes all keys of the line that were read ahead and that `buf` has place for, and one key where none is left of them. A read that a
     /// signal interrupts is made again. It takes no memory.
-    fn read_line(&mut self, buf: &mut [u8]) -> Result<usize, ConsoleError>
+    fn read_piece(&mut self, buf: &mut [u8]) -> Result<usize, ConsoleError>
         requires { 0 < length buf.old }
         ensures alone { KeysAlone (⟦<FileMachine<'a, R> as Tape>⟧.tape self.old) (⟦<FileMachine<'a, R> as Tape>⟧.tape self.new) }
         ensures failed { IsErrOf result ConsoleError.Failed → Rose (⟦<FileMachine<'a, R> as Tape>⟧.tape self.old).key_faults (⟦<FileMachine<'a, R> as Tape>⟧.tape self.new).key_faults }
@@ -209,6 +213,8 @@ impl<'a, R: Files + Input + Print> Console for FileMachine<'a, R> {
 
     /// It hands the bytes on in one write call and keeps none back. It takes no memory.
     fn show(&mut self, bytes: &[u8]) -> Result<(), ConsoleError>
+        requires handed_on { ⟦<FileMachine<'a, R> as Tape>⟧.handed_on self.old }
+        ensures handed_on { ⟦<FileMachine<'a, R> as Tape>⟧.handed_on self.new }
         ensures alone { ShowAlone (⟦<FileMachine<'a, R> as Tape>⟧.tape self.old) (⟦<FileMachine<'a, R> as Tape>⟧.tape self.new) }
         ensures failed { IsErrOf result ConsoleError.Failed → Rose (⟦<FileMachine<'a, R> as Tape>⟧.tape self.old).show_faults (⟦<FileMachine<'a, R> as Tape>⟧.tape self.new).show_faults }
         ensures shown { IsTrue ⟦<FileMachine<'a, R> as Tape>⟧.told → HasShown bytes.now (⟦<FileMachine<'a, R> as Tape>⟧.tape self.old) (⟦<FileMachine<'a, R> as Tape>⟧.tape self.new) result }
@@ -248,6 +254,7 @@ impl<'a, R: Files + Input + Print> FileMachine<'a, R> {
     ) -> FileMachine<'a, R>
         requires { ForNone second (disks_of shape ≡ 1) }
         ensures untouched { IsUntouched (⟦<FileMachine<'a, R> as Tape>⟧.tape result) }
+        ensures handed_on { ⟦<FileMachine<'a, R> as Tape>⟧.handed_on result }
         ensures form { (⟦<FileMachine<'a, R> as Tape>⟧.tape result).form ≡ shape }
     {
         FileMachine {
@@ -269,7 +276,7 @@ impl<'a, R: Files + Input + Print> FileMachine<'a, R>
 where
     R::File: FileExt,
 {
-    ghost use Rattle.std.specs.Prelude.{◌≡◌, ◌≢◌, ◌<◌, ◌≤◌, IfOk, IfSome, IfNone, IsTrue, OnOk};
+    ghost use Rattle.std.specs.Prelude.{◌≡◌, ◌≢◌, ◌<◌, ◌≤◌, ◌↔◌, IfOk, IfSome, IfNone, IsTrue, OnOk};
     ghost use Rattle.disk_records.specs.declared.records.Act.TheVariants.{Write};
     ghost use Rattle.disk_records.specs.Addresses.{pages_of};
     ghost use Rattle.disk_records.specs.Checks.{is_legal, is_checked};
@@ -313,7 +320,7 @@ where
 
     /// Whether a sector command reads the file of its drive: it reads or checks a record of a sector that isn't kept.
     fn reads_file(&self, at: u16, plan: Plan) -> bool
-        ensures { IsTrue result → kept_at self.now.kept at ≡ None }
+        ensures { IsTrue result ↔ (plan.header ≢ Write) × (kept_at self.now.kept at ≡ None) }
     {
         plan.header != Act::Write && self.kept.sector(at).is_none()
     }

@@ -26,6 +26,7 @@ impl<'a, R: Files + Input + Print> FileMachine<'a, R> {
     /// 406 cylinders. Unlike never comes. Memory: none was left for the buffer of the keys.
     pub fn reach(rt: &'a R, alloc: Global, path: &str) -> Result<FileMachine<'a, R>, ReachError>
         ensures untouched { IfOk result (λ machine. IsUntouched (⟦<FileMachine<'a, R> as Tape>⟧.tape machine)) }
+        ensures handed_on { IfOk result (λ machine. ⟦<FileMachine<'a, R> as Tape>⟧.handed_on machine) }
         ensures disks { IfOk result (λ machine. disks_of (⟦<FileMachine<'a, R> as Tape>⟧.tape machine).form ≡ 1) }
         ensures err { IfErr result IsReaching }
     {
@@ -51,6 +52,7 @@ impl<'a, R: Files + Input + Print> FileMachine<'a, R> {
         second: &str,
     ) -> Result<FileMachine<'a, R>, ReachError>
         ensures untouched { IfOk result (λ machine. IsUntouched (⟦<FileMachine<'a, R> as Tape>⟧.tape machine)) }
+        ensures handed_on { IfOk result (λ machine. ⟦<FileMachine<'a, R> as Tape>⟧.handed_on machine) }
         ensures disks { IfOk result (λ machine. disks_of (⟦<FileMachine<'a, R> as Tape>⟧.tape machine).form ≡ 2) }
         ensures err { IfErr result IsReachingTwo }
     {
@@ -78,6 +80,7 @@ impl<'a, R: Files + Input + Print> FileMachine<'a, R> {
         requires least { 2 ≤ cylinders }
         requires most { cylinders ≤ 406 }
         ensures untouched { IfOk result (λ machine. IsUntouched (⟦<FileMachine<'a, R> as Tape>⟧.tape machine)) }
+        ensures handed_on { IfOk result (λ machine. ⟦<FileMachine<'a, R> as Tape>⟧.handed_on machine) }
         ensures disks { IfOk result (λ machine. disks_of (⟦<FileMachine<'a, R> as Tape>⟧.tape machine).form ≡ 1) }
         ensures cylinders { IfOk result (λ machine. cylinders_of (⟦<FileMachine<'a, R> as Tape>⟧.tape machine).form ≡ cylinders) }
         ensures err { IfErr result IsMaking }
@@ -106,6 +109,7 @@ impl<'a, R: Files + Input + Print> FileMachine<'a, R> {
         requires least { 2 ≤ cylinders }
         requires most { cylinders ≤ 406 }
         ensures untouched { IfOk result (λ machine. IsUntouched (⟦<FileMachine<'a, R> as Tape>⟧.tape machine)) }
+        ensures handed_on { IfOk result (λ machine. ⟦<FileMachine<'a, R> as Tape>⟧.handed_on machine) }
         ensures disks { IfOk result (λ machine. disks_of (⟦<FileMachine<'a, R> as Tape>⟧.tape machine).form ≡ 2) }
         ensures cylinders { IfOk result (λ machine. cylinders_of (⟦<FileMachine<'a, R> as Tape>⟧.tape machine).form ≡ cylinders) }
         ensures err { IfErr result IsMaking }

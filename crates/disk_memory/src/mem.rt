@@ -26,6 +26,8 @@ impl Tape for MemMachine {
     ghost told = { true };
 
     ghost tape = { λ m. record (⟦<SureMachine as Tape>⟧.tape m.machine) { disk_faults = m.disk_faults; key_faults = m.key_faults; show_faults = m.show_faults } };
+
+    ghost handed_on = { λ m. Unit {0} };
 }
 
 impl Disk for MemMachine {
@@ -63,6 +65,11 @@ impl Disk for MemMachine {
             None => self.machine.obey(at, plan, buf),
             Some(after) => self.run_failing(at, plan, buf, after),
         }
+    }
+
+    /// It holds nothing back, so it always answers Ok.
+    fn flush(&mut self) -> Result<(), DiskError> {
+        Ok(())
     }
 
     ghost counted = { λ m told. m.machine.counted };

@@ -49,6 +49,8 @@ impl Tape for SureMachine {
     ghost told = { true };
 
     ghost tape = { λ m. record { form = m.shape; base = m.base.items; events = m.events.items; keys = drop m.taken m.keys.items; disk_faults = 0; key_faults = 0; show_faults = 0; runs = m.runs; writes = m.writes; spare = min (vec_capacity m.events - vec_len m.events) (vec_len m.blocks) } };
+
+    ghost handed_on = { λ m. Unit {0} };
 }
 
 impl Disk for SureMachine {
@@ -62,6 +64,11 @@ impl Disk for SureMachine {
 
     fn run(&mut self, at: u16, plan: Plan, buf: &mut Sector) -> Result<(), DiskError> {
         self.obey(at, plan, buf)
+    }
+
+    /// It holds nothing back, so it always answers Ok.
+    fn flush(&mut self) -> Result<(), DiskError> {
+        Ok(())
     }
 
     ghost counted = { λ m told. m.counted };

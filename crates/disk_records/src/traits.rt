@@ -1,5 +1,5 @@
 // The machine as the layers above see it.
-ghost use Rattle.std.specs.Prelude.{◌≡◌, ◌-◌, ◌<◌, ◌≤◌, Bool, IsTrue, IsOk, IsErrOf, IfOk, IfErr, OnErr, length, take};
+ghost use Rattle.std.specs.Prelude.{◌≡◌, ◌-◌, ◌<◌, ◌≤◌, Bool, IsTrue, IsOk, IsErrOf, IfOk, IfErr, OnErr, OnOk, length, take};
 ghost use Rattle.disk_records.specs.Addresses.{pages_of};
 ghost use Rattle.disk_records.specs.Checks.{is_legal, is_checked};
 ghost use Rattle.disk_records.specs.Events.{writes_in};
@@ -13,7 +13,8 @@ use crate::{Plan, Sector, Shape};
 pub enum DiskError {
     /// A checked word that isn't 0 differs, first at this record (0 header, 1 label, 2 value) and word. Nothing was written.
     Mismatch { part: u8, word: u16 },
-    /// The device failed, and the count of disk faults rose. The record writes done are a prefix of the command's.
+    /// The device failed, and the count of disk faults rose. The record writes done are a prefix of the command's; of those that the machine
+    /// held back the last ones may be lost.
     Failed,
     /// No memory was left for the record writes of a sector that matched. Nothing was written.
     Memory,
@@ -37,6 +38,10 @@ pub trait Tape {
 
     /// What it holds and what has happened to it.
     ghost tape: { Self → Taped };
+
+    /// Whether all record writes so far were handed on to the device, so that they stand on the pack if the process stops. A machine in memory
+    /// holds none back, and has always handed them on.
+    ghost handed_on: { Self → Type 0 };
 }
 
 /// A disk drive with one pack in it.
@@ -45,12 +50,13 @@ pub trait Disk: Tape {
     fn shape(&self) -> Shape
         ensures { result ≡ (Self.tape self.now).form };
 
-    /// The number of record writes so far. It stands at 2^64 - 1 once there.
+    /// The number of record writes so far, with those that are held back or were lost after that. It stands at 2^64 - 1 once there.
     fn writes(&self) -> u64
         ensures { result ≡ (Self.tape self.now).writes };
 
     /// One sector command at the virtual address `at`: the records of the sector are read to `buf`, checked against it or
-    /// written from it, in order. After an error what `buf` holds is open.
+    /// written from it, in order. What it writes may be held back until `flush`, and is seen by the next commands all the same. After an error
+    /// what `buf` holds is open.
     fn run(&mut self, at: u16, plan: Plan, buf: &mut Sector) -> Result<(), DiskError>
         requires place { at < pages_of (Self.tape self.old).form }
         requires legal { IsTrue (is_legal plan) }
@@ -63,13 +69,11 @@ pub trait Disk: Tape {
     /// may hold back those of its last sector commands, in their order, until the next call of this one; one that is modelled holds none
     /// back. After Failed some of them may be lost, the last ones; no other error comes.
     fn flush(&mut self) -> Result<(), DiskError>
+        ensures handed_on { OnOk result (Self.handed_on self.new) }
         ensures alone { DiskAlone (Self.tape self.old) (Self.tape self.new) }
         ensures failed { OnErr result (Rose (Self.tape self.old).disk_faults (Self.tape self.new).disk_faults) }
         ensures only { IfErr result (λ error. error ≡ DiskError.Failed) }
-        ensures told { IsTrue Self.told → IsOk result × (Self.tape self.new ≡ Self.tape self.old) }
-    {
-        Ok(())
-    }
+        ensures told { IsTrue Self.told → IsOk result × (Self.tape self.new ≡ Self.tape self.old) };
 
     /// Where the machine is modelled, the count is that of its events.
     ghost counted: { (d : Self) → IsTrue Self.told → (Self.tape d).writes ≡ capped (writes_in (Self.tape d).events) };
@@ -81,7 +85,7 @@ pub trait Disk: Tape {
     ghost formed: { (d : Self) → IsTrue Self.told → AreFormed (pack (Self.tape d)) };
 }
 
-/// The key that ends a line.
+/// The key that ends a line: the byte 10.
 pub const LINE_END: u8 = 10;
 
 /// A keyboard and a display.
@@ -95,8 +99,8 @@ pub trait Console: Tape {
         ensures read { IsTrue Self.told → HasRead buf.old buf.new (Self.tape self.old) (Self.tape self.new) result };
 
     /// Moves keys of one line to the front of `buf` and answers how many: 0 exactly at the end of input. At most the last of them
-    /// ends the line. Unless a machine does it otherwise, each call takes one key by one `read`.
-    fn read_line(&mut self, buf: &mut [u8]) -> Result<usize, ConsoleError>
+    /// ends the line. Unless a machine does it otherwise, each call takes one key by one `read`. The errors are those of `read`.
+    fn read_piece(&mut self, buf: &mut [u8]) -> Result<usize, ConsoleError>
         requires { 0 < length buf.old }
         ensures alone { KeysAlone (Self.tape self.old) (Self.tape self.new) }
         ensures failed { IsErrOf result ConsoleError.Failed → Rose (Self.tape self.old).key_faults (Self.tape self.new).key_faults }
@@ -107,8 +111,10 @@ pub trait Console: Tape {
         self.read(&mut buf[..1])
     }
 
-    /// Shows these bytes.
+    /// Shows these bytes. Whoever sees them may rely on what was written before, so all record writes have to be handed on by then.
     fn show(&mut self, bytes: &[u8]) -> Result<(), ConsoleError>
+        requires handed_on { Self.handed_on self.old }
+        ensures handed_on { Self.handed_on self.new }
         ensures alone { ShowAlone (Self.tape self.old) (Self.tape self.new) }
         ensures failed { IsErrOf result ConsoleError.Failed → Rose (Self.tape self.old).show_faults (Self.tape self.new).show_faults }
         ensures shown { IsTrue Self.told → HasShown bytes.now (Self.tape self.old) (Self.tape self.new) result };

@@ -1,7 +1,7 @@
 -- Faults by their causes: each but out of memory has its own count risen.
-use Rattle.std.specs.Prelude.{Bool, true, false, Result}
+use Rattle.std.specs.Prelude.{◌≡◌, ◌⊎◌, Bool, true, false, Result}
 use Rattle.disk_records.specs.Causes.{Cause, disk, keyboard, display, other, IsCause, HasCause, of_keyboard, of_display}
-use Rattle.disk_records.specs.Tapes.{Taped}
+use Rattle.disk_records.specs.Tapes.{Taped, Rose}
 use Rattle.session_model.specs.Ending.{Stop, done, needs_scavenge, disk_failed, display_failed, keys_failed, no_memory}
 use Rattle.session_boot.specs.declared.status.Fault.{Fault}
 use Rattle.session_boot.specs.declared.status.Fault.TheVariants.{Disk, Key, Display, Memory}
@@ -37,6 +37,21 @@ HasKeyCause old new result = HasCause (λ fault. of_keyboard (cause_of_fault fau
 -- a call that shows bytes
 abbrev pub HasShowCause : {T : Type 0} → Taped → Taped → Result T Fault → Type 0
 HasShowCause old new result = HasCause (λ fault. of_display (cause_of_fault fault)) old new result
+
+-- what is answered once the disk has handed on what it held back: the answer meant, or where that failed this fault of the disk
+abbrev pub IsSameOrFailed : {T : Type 0} → T → Taped → Taped → T → T → Type 0
+IsSameOrFailed fault old new meant result = (result ≡ meant) ⊎ ((result ≡ fault) × Rose old.disk_faults new.disk_faults)
+
+-- a fact that holds unless a fault or out of memory is answered
+abbrev pub UnlessStopped : Status → Type 0 → Type 0
+UnlessStopped status.Done holds = holds
+UnlessStopped status.Usage holds = holds
+UnlessStopped status.NeedsScavenge holds = holds
+UnlessStopped status.DiskFault holds = Unit {0}
+UnlessStopped status.KeyFault holds = Unit {0}
+UnlessStopped status.DisplayFault holds = Unit {0}
+UnlessStopped status.Memory holds = Unit {0}
+UnlessStopped status.CannotScavenge holds = holds
 
 abbrev pub HasStatusCause : Taped → Taped → Status → Type 0
 HasStatusCause old new answer = IsCause old new (cause_of_status answer)

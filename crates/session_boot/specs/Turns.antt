@@ -2,7 +2,7 @@
 use Rattle.std.specs.Prelude.{◌≡◌, ◌≢◌, ◌⊎◌, ◌<◌, ℕ, Bool, true, false, List, [], Option, Some, None, Result, Ok, Err}
 use Rattle.disk_records.specs.declared.records.Event.{Event}
 use Rattle.disk_records.specs.Packs.{Pack}
-use Rattle.disk_records.specs.Tapes.{Taped, KeysAlone, Rose, added, pack}
+use Rattle.disk_records.specs.Tapes.{Taped, KeysAlone, added, pack}
 use Rattle.exec_words.specs.declared.reply.Reply.{Reply}
 use Rattle.exec_words.specs.declared.reply.Reply.TheVariants as reply
 use Rattle.executive.specs.pack_model.specs.hints.Tables.{HintsTrue}
@@ -21,10 +21,6 @@ use Rattle.session_boot.specs.declared.status.Fault.{Fault}
 use Rattle.session_boot.specs.declared.status.Fault.TheVariants.{Disk, Key, Display, Memory}
 use Rattle.session_boot.specs.Faults.{KeyFaultCause}
 use Rattle.session_boot.specs.Keys.{TookPart, TookRest, TookWhole}
-
--- a reply, or a fault of the disk in its place
-abbrev pub IsSameOrFailed : Taped → Taped → Reply → Reply → Type 0
-IsSameOrFailed old new said result = (result ≡ said) ⊎ ((result ≡ reply.DiskFault) × Rose old.disk_faults new.disk_faults)
 
 -- ---- what comes after a reply
 abbrev pub next_after : Reply → Result Next Fault

@@ -2,13 +2,13 @@
 ghost use Rattle.disk_records.specs.Tapes.{Grown};
 ghost use Rattle.exec_session.specs.Meant.{kept};
 ghost use Rattle.session_boot.specs.Boots.{AnswersBoot, Booted, Lasts};
-ghost use Rattle.session_boot.specs.Faults.{HasFaultCause, HasStatusCause};
+ghost use Rattle.session_boot.specs.Faults.{HasFaultCause, HasStatusCause, UnlessStopped};
 ghost use Rattle.session_model.specs.Keeping.{Formed};
-ghost use Rattle.std.specs.Prelude.{IsTrue, ◌≡◌};
+ghost use Rattle.std.specs.Prelude.{IsTrue, OnOk, ◌≡◌};
 
 use crate::keys::MOST_KEYS;
 use crate::line::{Next, answer_next, end_session};
-use crate::opening::refuse_pack;
+use crate::opening::{begin_and_flush, refuse_pack};
 use crate::status::{Fault, Status, status_of_need};
 use disk_records::{Machine, Tally};
 use executive::Session;
@@ -31,6 +31,7 @@ fn obey_lines<M: Machine>(
     ensures lasts { IsTrue M.told → Lasts (M.tape machine.old) (M.tape machine.new) (kept session.old) (kept session.new) result }
     ensures limit { (kept session.new).tally.limit ≡ (kept session.old).tally.limit }
     ensures cause { HasFaultCause (M.tape machine.old) (M.tape machine.new) result }
+    ensures handed_on { OnOk result (M.handed_on machine.new) }
     ensures grown { Grown (M.tape machine.old) (M.tape machine.new) }
 {
     let mut left = MOST_KEYS;
@@ -57,6 +58,7 @@ pub fn boot<M: Machine>(alloc: Global, moment: u32, tally: &mut Tally, machine: 
     ensures answers { AnswersBoot result }
     ensures limit { tally.new.limit ≡ tally.old.limit }
     ensures cause { HasStatusCause (M.tape machine.old) (M.tape machine.new) result }
+    ensures handed_on { UnlessStopped result (M.handed_on machine.new) }
     ensures grown { Grown (M.tape machine.old) (M.tape machine.new) }
 {
     let limit = limit_of(tally);
@@ -65,7 +67,7 @@ pub fn boot<M: Machine>(alloc: Global, moment: u32, tally: &mut Tally, machine: 
         passed: 0,
         all: 0,
     };
-    let mut session = match Session::begin(alloc, machine, moment, limit) {
+    let mut session = match begin_and_flush(alloc, machine, moment, limit) {
         Ok(session) => session,
         Err(error) => return refuse_pack(alloc, machine, error),
     };

@@ -10,10 +10,12 @@ use disk_records::{Console, ConsoleError};
 use executive::{Reply, reply_text};
 use std::alloc::Global;
 
-/// Shows these bytes. If there are none, nothing is asked of the display.
+/// Shows these bytes, once all record writes are handed on. If there are none, nothing is asked of the display.
 pub fn show_all<C: Console>(console: &mut C, bytes: &[u8]) -> Result<(), Fault>
+    requires handed_on { C.handed_on console.old }
     ensures shown { IsTrue C.told → ShownAll bytes.now (C.tape console.old) (C.tape console.new) result }
     ensures cause { HasShowCause (C.tape console.old) (C.tape console.new) result }
+    ensures handed_on { C.handed_on console.new }
     ensures alone { ShowAlone (C.tape console.old) (C.tape console.new) }
 {
     if bytes.is_empty() {
@@ -32,8 +34,10 @@ pub(crate) fn show_reply<C: Console>(
     console: &mut C,
     reply: &Reply,
 ) -> Result<(), Fault>
+    requires handed_on { C.handed_on console.old }
     ensures shown { IsTrue C.told → ShownAll (reply_text reply.now) (C.tape console.old) (C.tape console.new) result }
     ensures cause { HasShowCause (C.tape console.old) (C.tape console.new) result }
+    ensures handed_on { C.handed_on console.new }
     ensures alone { ShowAlone (C.tape console.old) (C.tape console.new) }
 {
     let text = reply_text(alloc, reply)?;

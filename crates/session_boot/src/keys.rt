@@ -35,7 +35,7 @@ fn next_piece<C: Console>(console: &mut C, buf: &mut [u8]) -> Result<Piece, Faul
     ensures cause { HasKeyCause (C.tape console.old) (C.tape console.new) result }
     ensures alone { KeysAlone (C.tape console.old) (C.tape console.new) }
 {
-    match console.read_line(buf) {
+    match console.read_piece(buf) {
         Ok(0) => Ok(Piece::End),
         Ok(n) if buf[n - 1] == LINE_END => Ok(Piece::Last(n - 1)),
         Ok(n) => Ok(Piece::Part(n)),
@@ -58,7 +58,7 @@ fn keep(line: &mut Vec<u8>, keys: &[u8])
     }
 }
 
-/// Takes the keys of one line by `read_line`, which never goes past its end, and answers its first 4,097 bytes, without the
+/// Takes the keys of one line by `read_piece`, which never goes past its end, and answers its first 4,097 bytes, without the
 /// byte 10 that ends it. The last line may end with the input. `left` is the number of keys that still count; None where no
 /// key is left of them, and from then on. Memory for the keys is taken before they are, so a line that was taken whole is
 /// never lost.

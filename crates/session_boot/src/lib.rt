@@ -10,7 +10,8 @@
 //! 4. On a pack that isn't ready and carries no page twice, as a sound one whose mark isn't clean, one text says why, a prefix of it where the
 //!    display failed, and none where the disk failed or no memory was left; nothing is written and no key is taken.
 //!
-//! And of every machine: DiskFault, KeyFault and DisplayFault come only where their own count rose (`cause`); Usage and CannotScavenge,
+//! And of every machine: no text is shown while record writes are held back, and unless a fault or out of memory is answered all are handed on
+//! at the end (`handed_on`). DiskFault, KeyFault and DisplayFault come only where their own count rose (`cause`); Usage and CannotScavenge,
 //! which are statuses of other words, are never answered (`answers`).
 //! Not promised: that memory is left; that no command follows a failed one, which a tape doesn't tell.
 #![tactic(auto)]

@@ -3,13 +3,13 @@ ghost use Rattle.disk_records.specs.Causes.{IsCause};
 ghost use Rattle.disk_records.specs.Tapes.{DiskAlone, Grown};
 ghost use Rattle.exec_session.specs.Ends.{cause_of_reply};
 ghost use Rattle.exec_session.specs.Meant.{kept};
-ghost use Rattle.session_boot.specs.Faults.{HasFaultCause};
-ghost use Rattle.session_boot.specs.Turns.{EndsTurnBy, IsSameOrFailed, NextTurn, TakesTurnBy, next_after};
+ghost use Rattle.session_boot.specs.Faults.{HasFaultCause, IsSameOrFailed};
+ghost use Rattle.session_boot.specs.Turns.{EndsTurnBy, NextTurn, TakesTurnBy, next_after};
 ghost use Rattle.session_model.specs.Answering.{TakesTurns};
 ghost use Rattle.session_model.specs.Ending.{cue_of};
 ghost use Rattle.session_model.specs.Keeping.{Formed};
 ghost use Rattle.session_model.specs.Turning.{cue_for, ended};
-ghost use Rattle.std.specs.Prelude.{IsErrOf, IsTrue, ◌≡◌};
+ghost use Rattle.std.specs.Prelude.{IfOk, IfSome, IsErrOf, IsTrue, OnOk, ◌≡◌};
 
 use crate::console::show_reply;
 use crate::keys::take_line;
@@ -44,7 +44,8 @@ fn next_after(reply: &Reply) -> Result<Next, Fault>
 /// disk that is modelled nothing is held back.
 fn after_flush<D: Disk>(disk: &mut D, reply: Reply) -> Reply
     ensures told { IsTrue D.told → (result ≡ reply) × (D.tape disk.new ≡ D.tape disk.old) }
-    ensures cause { IsSameOrFailed (D.tape disk.old) (D.tape disk.new) reply result }
+    ensures cause { IsSameOrFailed Reply.DiskFault (D.tape disk.old) (D.tape disk.new) reply result }
+    ensures handed_on { IfOk (next_after result) (λ next. D.handed_on disk.new) }
     ensures alone { DiskAlone (D.tape disk.old) (D.tape disk.new) }
 {
     if next_after(&reply).is_err() {
@@ -63,6 +64,7 @@ fn obey_and_flush<D: Disk>(alloc: Global, session: &mut Session, disk: &mut D, l
     ensures limit { (kept session.new).tally.limit ≡ (kept session.old).tally.limit }
     ensures formed { Formed (D.tape disk.new).form (kept session.new) }
     ensures cause { IsCause (D.tape disk.old) (D.tape disk.new) (cause_of_reply result) }
+    ensures handed_on { IfOk (next_after result) (λ next. D.handed_on disk.new) }
     ensures alone { DiskAlone (D.tape disk.old) (D.tape disk.new) }
 {
     let reply = obey(alloc, session, disk, line);
@@ -75,6 +77,7 @@ fn end_and_flush<D: Disk>(alloc: Global, session: &mut Session, disk: &mut D) ->
     ensures turns { IsTrue D.told → TakesTurns (D.tape disk.old) (D.tape disk.new) (kept session.old) (kept session.new) ended result }
     ensures limit { (kept session.new).tally.limit ≡ (kept session.old).tally.limit }
     ensures cause { IsCause (D.tape disk.old) (D.tape disk.new) (cause_of_reply result) }
+    ensures handed_on { IfOk (next_after result) (λ next. D.handed_on disk.new) }
     ensures alone { DiskAlone (D.tape disk.old) (D.tape disk.new) }
 {
     let reply = session.end(alloc, disk);
@@ -97,6 +100,7 @@ fn answer_line<M: Machine>(
     ensures limit { (kept session.new).tally.limit ≡ (kept session.old).tally.limit }
     ensures formed { Formed (M.tape machine.new).form (kept session.new) }
     ensures cause { HasFaultCause (M.tape machine.old) (M.tape machine.new) result }
+    ensures handed_on { OnOk result (M.handed_on machine.new) }
     ensures no_key { IsErrOf result Fault.Key → ⊥ }
     ensures grown { Grown (M.tape machine.old) (M.tape machine.new) }
     ensures keys { (M.tape machine.new).keys ≡ (M.tape machine.old).keys }
@@ -120,6 +124,7 @@ pub(crate) fn answer_next<M: Machine>(
     ensures limit { (kept session.new).tally.limit ≡ (kept session.old).tally.limit }
     ensures formed { Formed (M.tape machine.new).form (kept session.new) }
     ensures cause { HasFaultCause (M.tape machine.old) (M.tape machine.new) result }
+    ensures handed_on { IfOk result (λ next. IfSome next (λ over. M.handed_on machine.new)) }
     ensures grown { Grown (M.tape machine.old) (M.tape machine.new) }
 {
     let Some(text) = take_line(alloc, machine, left)? else {
@@ -141,6 +146,7 @@ pub(crate) fn end_session<M: Machine>(
     ensures turn { IsTrue M.told → EndsTurnBy (M.tape machine.old) (M.tape machine.new) (kept session.old) (kept session.new) ended result }
     ensures limit { (kept session.new).tally.limit ≡ (kept session.old).tally.limit }
     ensures cause { HasFaultCause (M.tape machine.old) (M.tape machine.new) result }
+    ensures handed_on { OnOk result (M.handed_on machine.new) }
     ensures no_key { IsErrOf result Fault.Key → ⊥ }
     ensures grown { Grown (M.tape machine.old) (M.tape machine.new) }
     ensures keys { (M.tape machine.new).keys ≡ (M.tape machine.old).keys }

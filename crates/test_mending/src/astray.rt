@@ -18,6 +18,8 @@ impl Tape for Unsteady {
     ghost told = { false };
 
     ghost tape = { λ d. record { form = d.shape; base = []; events = []; keys = []; disk_faults = 0; key_faults = 0; show_faults = 0; runs = 0; writes = 0; spare = 0 } };
+
+    ghost handed_on = { λ d. Unit {0} };
 }
 
 impl Disk for Unsteady {
@@ -35,6 +37,10 @@ impl Disk for Unsteady {
         }
         buf.header = [1, self.shape.real_of(at)];
         buf.label = [0xFFFF, 0xFFFF, 0, 512, 0, 1, 0, 100];
+        Ok(())
+    }
+
+    fn flush(&mut self) -> Result<(), DiskError> {
         Ok(())
     }
 

@@ -20,6 +20,8 @@ impl Tape for Changing {
     ghost told = { false };
 
     ghost tape = { λ d. record { form = d.shape; base = []; events = []; keys = []; disk_faults = 0; key_faults = 0; show_faults = 0; runs = 0; writes = 0; spare = 0 } };
+
+    ghost handed_on = { λ d. Unit {0} };
 }
 
 impl Disk for Changing {
@@ -42,6 +44,10 @@ impl Disk for Changing {
         update_memory(plan, buf, sector);
         // what it doesn't write is as on the disk now
         *sector = *buf;
+        Ok(())
+    }
+
+    fn flush(&mut self) -> Result<(), DiskError> {
         Ok(())
     }
 

@@ -12,14 +12,15 @@ returns-in_ok-text-in-Ok-clause-scavenges g c = λ told.
       tells = (record { taken = all.answers.0; ends = all.done }, reported (pack (g.D.Tape.tape c.args.disk.now)) c.in-Ok.report c.in_ok-text-in-Ok.text.items all.answers c.in_ok-text-in-Ok.ensures);
     })
 
-pub returns-in_ok-refusal_text-in-Err-clause-scavenges :
-    goal.returns-in_ok-refusal_text-in-Err-clause-scavenges
-returns-in_ok-refusal_text-in-Err-clause-scavenges g c = λ told.
+pub returns-in_ok-flush_disk-in-Err-clause-scavenges :
+    goal.returns-in_ok-flush_disk-in-Err-clause-scavenges
+returns-in_ok-flush_disk-in-Err-clause-scavenges g c = λ told.
     let all = c.in-Err.ensures.scavenges told in
-    record {
+    let same = (c.flush_disk-in-Err.ensures.told told).1 in
+    rw same (record {
       writes = writes_of_scavenge all;
-      tells = refused (pack (g.D.Tape.tape c.args.disk.now)) c.in-Err.error c.in_ok-refusal_text-in-Err.field-0.items all.answers c.in_ok-refusal_text-in-Err.ensures;
-    }
+      tells = refused (pack (g.D.Tape.tape c.args.disk.now)) c.in-Err.error c.in_ok-text-in-Err.text.items all.answers c.in_ok-text-in-Err.ensures;
+    })
 
 pub returns-in_err-flush_disk-in-Ok-clause-alone : goal.returns-in_err-flush_disk-in-Ok-clause-alone
 returns-in_err-flush_disk-in-Ok-clause-alone g c = alone_twice c.in-Ok.ensures.alone c.flush_disk.ensures.alone
@@ -29,3 +30,11 @@ returns-in_err-text-in-Ok-clause-alone g c = alone_twice c.in-Ok.ensures.alone c
 
 pub returns-in_ok-text-in-Ok-clause-alone : goal.returns-in_ok-text-in-Ok-clause-alone
 returns-in_ok-text-in-Ok-clause-alone g c = alone_twice c.in-Ok.ensures.alone c.flush_disk.ensures.alone
+
+pub returns-in_err-flush_disk-in-Err-clause-alone :
+    goal.returns-in_err-flush_disk-in-Err-clause-alone
+returns-in_err-flush_disk-in-Err-clause-alone g c = alone_twice c.in-Err.ensures.alone c.flush_disk-in-Err.ensures.alone
+
+pub returns-in_ok-flush_disk-in-Err-clause-alone :
+    goal.returns-in_ok-flush_disk-in-Err-clause-alone
+returns-in_ok-flush_disk-in-Err-clause-alone g c = alone_twice c.in-Err.ensures.alone c.flush_disk-in-Err.ensures.alone

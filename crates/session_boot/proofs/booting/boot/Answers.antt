@@ -11,25 +11,25 @@ use Rattle.session_boot.proofs.booting.boot.Goals as goal
 pub returns-in-Err-clause-booted : goal.returns-in-Err-clause-booted
 returns-in-Err-clause-booted g c = λ told.
     let x = g.M.Tape.tape c.args.machine.now in
-    let y = g.M.Tape.tape c.begin.new.disk in
+    let y = g.M.Tape.tape c.begin_and_flush.new.disk in
     let z = g.M.Tape.tape c.refuse_pack.new.console in
     let e = c.in-Err.error in
     let answer = c.refuse_pack.result in
-    refused_boots e c.args.tally.now (no_tally c.limit_of-limit.result) c.begin.ensures.alone.grown c.refuse_pack.ensures.alone.grown (c.begin.ensures.silent told) (c.refuse_pack.ensures.alone.keys ∙ c.begin.ensures.alone.keys) (ap no_tally c.limit_of-limit.ensures)
+    refused_boots e c.args.tally.now (no_tally c.limit_of-limit.result) c.begin_and_flush.ensures.alone.grown c.refuse_pack.ensures.alone.grown (c.begin_and_flush.ensures.silent told) (c.refuse_pack.ensures.alone.keys ∙ c.begin_and_flush.ensures.alone.keys) (ap no_tally c.limit_of-limit.ensures)
     c.args.moment answer (g.met.M.Disk.formed c.args.machine.now told) (c.in-Err.ensures.opens told) c.refuse_pack.ensures.refused (c.refuse_pack.ensures.shown told)
-    (refused_cause x y z e answer c.begin.ensures.alone c.refuse_pack.ensures.alone c.in-Err.ensures.cause c.refuse_pack.ensures.refused)
+    (refused_cause x y z e answer c.begin_and_flush.ensures.alone c.refuse_pack.ensures.alone c.in-Err.ensures.cause c.refuse_pack.ensures.refused)
 
 pub returns-in-Ok-ended-clause-booted : goal.returns-in-Ok-ended-clause-booted
 returns-in-Ok-ended-clause-booted g c = λ told.
     let x = g.M.Tape.tape c.args.machine.now in
-    let y = g.M.Tape.tape c.begin.new.disk in
+    let y = g.M.Tape.tape c.begin_and_flush.new.disk in
     let z = g.M.Tape.tape c.obey_lines-ended.new.machine in
     let moment = c.args.moment in
     let given = c.args.tally.now in
     let one = kept c.in-Ok.session in
     let two = kept c.obey_lines-ended.new.session in
     let limit = c.limit_of-limit.ensures in
-    let by_opening : OpenedBy x y = record { grown = c.begin.ensures.alone.grown; silent = c.begin.ensures.silent told; keys = c.begin.ensures.alone.keys; counts = g.met.M.Disk.counted c.args.machine.now told } in
+    let by_opening : OpenedBy x y = record { grown = c.begin_and_flush.ensures.alone.grown; silent = c.begin_and_flush.ensures.silent told; keys = c.begin_and_flush.ensures.alone.keys; counts = g.met.M.Disk.counted c.args.machine.now told } in
     let most : given.limit < 2 ^ 64 = omega (arith, limit) in
     let all : Booted moment x z given two.tally (status_of_need two.need) =
     opened_boots moment x z given two.tally (status_of_need two.need) (g.met.M.Disk.formed c.args.machine.now told) (need_answers two.need) (λ once. (c.in-Ok.ensures.opens told once).0)
@@ -41,7 +41,7 @@ returns-in-Ok-ended-clause-booted g c = λ told.
 pub returns-clause-booted : goal.returns-clause-booted
 returns-clause-booted g c = λ told.
     let x = g.M.Tape.tape c.args.machine.now in
-    let y = g.M.Tape.tape c.begin.new.disk in
+    let y = g.M.Tape.tape c.begin_and_flush.new.disk in
     let z = g.M.Tape.tape c.obey_lines-ended.new.machine in
     let moment = c.args.moment in
     let given = c.args.tally.now in
@@ -49,11 +49,11 @@ returns-clause-booted g c = λ told.
     let two = kept c.obey_lines-ended.new.session in
     let limit = c.limit_of-limit.ensures in
     let fault = c.in-Err-ended.fault in
-    let by_opening : OpenedBy x y = record { grown = c.begin.ensures.alone.grown; silent = c.begin.ensures.silent told; keys = c.begin.ensures.alone.keys; counts = g.met.M.Disk.counted c.args.machine.now told } in
+    let by_opening : OpenedBy x y = record { grown = c.begin_and_flush.ensures.alone.grown; silent = c.begin_and_flush.ensures.silent told; keys = c.begin_and_flush.ensures.alone.keys; counts = g.met.M.Disk.counted c.args.machine.now told } in
     let most : given.limit < 2 ^ 64 = omega (arith, limit) in
     let all : Booted moment x z given two.tally (status_of fault) =
     opened_boots moment x z given two.tally (status_of fault) (g.met.M.Disk.formed c.args.machine.now told) (fault_answers fault) (λ once. (c.in-Ok.ensures.opens told once).0)
     (λ sound. failed_boots moment x z given two.tally fault (c.in-Err-ended.ensures.lasts told moment x given most by_opening sound (subst (Begun (pack x) one moment) limit ((c.in-Ok.ensures.opens told (sound_once (pack x) sound)).1 sound))))
-    (fault_cause x y z fault c.begin.ensures.alone.grown c.in-Err-ended.ensures.cause) in
+    (fault_cause x y z fault c.begin_and_flush.ensures.alone.grown c.in-Err-ended.ensures.cause) in
     subst (Booted moment x z given c.tally.result) (sym c.status.ensures)
     (subst (λ t. Booted moment x z given t (status_of fault)) (sym c.tally.ensures) all)

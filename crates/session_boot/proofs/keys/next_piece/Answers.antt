@@ -5,4 +5,4 @@ use Rattle.session_boot.proofs.keys.next_piece.Goals as goal
 pub returns-in-Ok-2-clause-piece : goal.returns-in-Ok-2-clause-piece
 returns-in-Ok-2-clause-piece g c told =
     let n = c.in-Ok.n in
-    piece_part c.read_line.new.buf n (omega arith) (omega (arith, c.in-Ok.ensures.fits, c.read_line.auto.buf)) c.if-buf-n-eq-LINE_END.false (c.in-Ok.ensures.read told).ok.moved (c.in-Ok.ensures.unbroken told)
+    piece_part c.read_piece.new.buf n (omega arith) (omega (arith, c.in-Ok.ensures.fits, c.read_piece.auto.buf)) c.if-buf-n-eq-LINE_END.false (c.in-Ok.ensures.read told).ok.moved (c.in-Ok.ensures.unbroken told)
