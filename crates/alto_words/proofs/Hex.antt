@@ -1,64 +1,52 @@
 -- Bytes in hexadecimal: the crate `hex` reads and writes what the definitions say.
-use Rattle.std.proofs.Common.{◌≡◌, ◌≢◌, ℕ, suc, ◌+◌, ◌*◌, ◌/◌, ◌%◌, ◌<◌, get_or, Bool, true, false, ◌==◌, ◌&&◌, nat_eq, List, [], ◌∷◌, length, Option, Some, None, Result, Ok, Err, refl, ap, sym, ◌∙◌, arith}
-use Rattle.std.specs.Bool.{if◌then◌else◌}
+use Rattle.std.proofs.Common.{◌≡◌, ◌≢◌, ℕ, suc, ◌+◌, ◌*◌, ◌/◌, ◌%◌, ◌<◌, get_or, set, take, Bool, true, false, ◌==◌, ◌&&◌, nat_eq, List, [], ◌∷◌, ◌++◌, length, Option, Some, None, refl, ap, sym, ◌∙◌, append_assoc, arith}
 use Rattle.std.specs.Fmt.{digit_glyph}
 use Rattle.std.specs.Char.{is_ascii_hexdigit}
 use Rattle.std.specs.List.{All, list_all}
 use Rattle.std.specs.Option.{is_some}
-use Rattle.std.proofs.lemmas.Bool.{agree_below_at, eqb-true, false≢true}
+use Rattle.std.proofs.lemmas.Bool.{agree_below_at, and_parts, eqb-true, false≢true}
+use Rattle.std.proofs.lemmas.Grind.{take_at_read}
+use Rattle.std.proofs.lemmas.List.{take_more_set}
 use Rattle.std.proofs.lemmas.List.Elements.{All-head, All-tail}
 use Rattle.std.specs.Cmp.Lexicographic.{pointwise}
-use Rattle.std.specs.Result.{result_ok}
 use Rattle.std.proofs.lemmas.Bool.Decides.{nat_tests}
-use Rattle.hex.specs.Hex.{encode_lower, encode_with, lower_digits, decode_of, decode_pairs, hex_digit_value, digit_or_error, ◌>>=◌}
-use Rattle.hex.specs.declared.error.FromHexError.{FromHexError}
-use Rattle.hex.specs.declared.error.FromHexError.TheVariants.{OddLength}
+use Rattle.hex.specs.Hex.{encode_lower, encode_with, lower_digits}
 use Rattle.alto_words.specs.Numbers.{hex_digit, hex_byte, hex_pairs, bytes_in_hex, hex_of}
 
--- the two tables of digits are one
-hex_digit-value : (c : ℕ) → hex_digit_value c ≡ hex_digit c
-hex_digit-value c = grind (arith, nat_tests)
+-- two digits more after those that were read
+one_more : (high low : Option ℕ) (rest more : Option (List ℕ)) (bytes : List ℕ) (v : ℕ) → ((tail : List ℕ) → rest ≡ Some tail → more ≡ Some (tail ++ v ∷ []))
+    → hex_byte high low rest ≡ Some bytes → hex_byte high low more ≡ Some (bytes ++ v ∷ [])
+one_more None low rest more bytes v next e = absurd cc
+one_more (Some high) None rest more bytes v next e = absurd cc
+one_more (Some high) (Some low) None more bytes v next e = absurd cc
+one_more (Some high) (Some low) (Some tail) more bytes v next e =
+    let is : (high * 16 + low) ∷ tail ≡ bytes = cc in
+    ap (hex_byte (Some high) (Some low)) (next tail refl) ∙ ap (λ (t : List ℕ). Some (t ++ v ∷ [])) is
 
--- two digits and the bytes of the rest
-hex_byte-result : (high low : Option ℕ) (a b i : ℕ) (rest : Result (List ℕ) FromHexError)
-    → result_ok ((digit_or_error a i high >>= (λ h. digit_or_error b (i + 1) low >>= (λ l. Ok (h * 16 + l)))) >>= (λ byte. rest >>= (λ bytes. Ok (byte ∷ bytes))))
-    ≡ hex_byte high low (result_ok rest)
-hex_byte-result None low a b i rest = refl
-hex_byte-result (Some high) None a b i rest = refl
-hex_byte-result (Some high) (Some low) a b i (Ok bytes) = refl
-hex_byte-result (Some high) (Some low) a b i (Err e) = refl
+pairs_pushed : (text bytes : List ℕ) (a b high low : ℕ) → hex_pairs text ≡ Some bytes → hex_digit a ≡ Some high → hex_digit b ≡ Some low
+    → hex_pairs (text ++ a ∷ b ∷ []) ≡ Some (bytes ++ (high * 16 + low) ∷ [])
+pairs_pushed [] bytes a b high low read first second =
+    let none : [] ≡ bytes = cc in
+    (λ i. hex_byte (first i) (second i) (Some [])) ∙ ap (λ (t : List ℕ). Some (t ++ (high * 16 + low) ∷ [])) none
+pairs_pushed (x ∷ []) bytes a b high low read first second = absurd cc
+pairs_pushed (x ∷ y ∷ text) bytes a b high low read first second =
+    one_more (hex_digit x) (hex_digit y) (hex_pairs text) (hex_pairs (text ++ a ∷ b ∷ [])) bytes (high * 16 + low)
+    (λ tail is. pairs_pushed text tail a b high low is first second) read
 
--- the bytes of pairs
-hex_pairs-result : (i : ℕ) (text : List ℕ) → result_ok (decode_pairs i text) ≡ hex_pairs text
-unfolding decode_pairs
-hex_pairs-result i [] = refl
-hex_pairs-result i (a ∷ []) = refl
-hex_pairs-result i (a ∷ b ∷ text) =
-    hex_byte-result (hex_digit_value a) (hex_digit_value b) a b i (decode_pairs (i + 2) text)
-    ∙ ap (λ r. hex_byte (hex_digit_value a) (hex_digit_value b) r) (hex_pairs-result (i + 2) text)
-    ∙ ap (λ h. hex_byte h (hex_digit_value b) (hex_pairs text)) (hex_digit-value a)
-    ∙ ap (λ l. hex_byte (hex_digit a) l (hex_pairs text)) (hex_digit-value b)
-
-hex_byte-none : (high low : Option ℕ) → hex_byte high low None ≡ None
-hex_byte-none None low = refl
-hex_byte-none (Some high) None = refl
-hex_byte-none (Some high) (Some low) = refl
-
--- an odd number of digits is no bytes
-hex_pairs-odd : (text : List ℕ) → length text % 2 ≡ 1 → hex_pairs text ≡ None
-hex_pairs-odd [] odd = absurd (omega arith)
-hex_pairs-odd (a ∷ []) odd = refl
-hex_pairs-odd (a ∷ b ∷ text) odd =
-    ap (hex_byte (hex_digit a) (hex_digit b)) (hex_pairs-odd text (omega arith)) ∙ hex_byte-none (hex_digit a) (hex_digit b)
-
-decoded : (text : List ℕ) (odd : Bool) → (length text % 2 == 1) ≡ odd
-    → result_ok {E = FromHexError} (if odd then Err OddLength else decode_pairs 0 text) ≡ hex_pairs text
-decoded text true odd = sym (hex_pairs-odd text (grind (arith, nat_tests)))
-decoded text false odd = hex_pairs-result 0 text
-
--- what `decode` answers is the bytes, except memory
-pub hex_pairs-decode : (text : List ℕ) → result_ok (decode_of text) ≡ hex_pairs text
-hex_pairs-decode text = decoded text (length text % 2 == 1) refl
+-- a byte more is read of its two digits
+pub pairs_read : (text bytes : List ℕ) (at high low : ℕ) → 2 * at + 1 < length text → at < length bytes
+    → hex_pairs (take (2 * at) text) ≡ Some (take at bytes) → hex_digit (get_or text (2 * at) 0) ≡ Some high → hex_digit (get_or text (2 * at + 1) 0) ≡ Some low
+    → hex_pairs (take (2 * (at + 1)) text) ≡ Some (take (at + 1) (set bytes at (high * 16 + low)))
+pairs_read text bytes at high low within room read first second =
+    let a = get_or text (2 * at) 0 in
+    let b = get_or text (2 * at + 1) 0 in
+    let n : 2 * (at + 1) ≡ 2 * at + 1 + 1 = omega arith in
+    let one = (take_at_read text (2 * at) 0 (omega (arith, within))).1 in
+    let two = (take_at_read text (2 * at + 1) 0 within).1 in
+    ap (λ k. hex_pairs (take k text)) n
+    ∙ ap hex_pairs (two ∙ ap (λ (t : List ℕ). t ++ b ∷ []) one ∙ append_assoc (take (2 * at) text) (a ∷ []) (b ∷ []))
+    ∙ pairs_pushed (take (2 * at) text) (take at bytes) a b high low read first second
+    ∙ ap (λ (t : List ℕ). Some t) (sym (take_more_set bytes at (high * 16 + low) room))
 
 -- a text other than no byte and `-` is read in pairs
 bytes_in_hex-pairs : (text : List ℕ) → (length text == 0) ≡ false → pointwise nat_eq text (45 ∷ []) ≡ false → bytes_in_hex text ≡ hex_pairs text
@@ -67,9 +55,10 @@ bytes_in_hex-pairs [] some other = absurd cc
 bytes_in_hex-pairs (a ∷ []) some other = grind (arith, nat_tests)
 bytes_in_hex-pairs (a ∷ b ∷ text) some other = refl
 
+-- what is read in pairs are its bytes
 pub bytes_in_hex-ok : (text bytes : List ℕ) → (length text == 0) ≡ false → pointwise nat_eq text (45 ∷ []) ≡ false
-    → decode_of text ≡ Ok bytes → bytes_in_hex text ≡ Some bytes
-bytes_in_hex-ok text bytes some other e = bytes_in_hex-pairs text some other ∙ sym (hex_pairs-decode text) ∙ ap result_ok e
+    → hex_pairs text ≡ Some bytes → bytes_in_hex text ≡ Some bytes
+bytes_in_hex-ok text bytes some other e = bytes_in_hex-pairs text some other ∙ e
 
 is_some-none : (o : Option (List ℕ)) → is_some o ≡ false → o ≡ None
 is_some-none None e = refl
@@ -117,6 +106,12 @@ is_some-hex_pairs (a ∷ b ∷ text) =
     ∙ (λ i. is_some-hex_digit a i && (is_some-hex_digit b i && is_some-hex_pairs text i))
     ∙ swap_front (is_ascii_hexdigit a) (is_ascii_hexdigit b) (length text % 2 == 0) (list_all is_ascii_hexdigit text)
     ∙ ap (λ even. even && (is_ascii_hexdigit a && (is_ascii_hexdigit b && list_all is_ascii_hexdigit text))) (sym (two_more (length text)))
+
+-- digits in pairs are digits, and their number is even
+pub pairs_told : (text : List ℕ) → is_some (hex_pairs text) ≡ true → (list_all is_ascii_hexdigit text ≡ true) × (length text % 2 ≡ 0)
+pairs_told text some =
+    let parts = and_parts (length text % 2 == 0) (list_all is_ascii_hexdigit text) (sym (is_some-hex_pairs text) ∙ some) in
+    (parts.1, eqb-true (length text % 2) 0 parts.0)
 
 -- no digits at all
 pub bytes_in_hex-empty : (text : List ℕ) → (length text == 0) ≡ true → bytes_in_hex text ≡ None

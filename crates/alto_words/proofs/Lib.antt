@@ -13,4 +13,5 @@ pub mod Parsed
 pub mod Reading
 pub mod Stems
 pub mod Texts
+pub mod Unmarked
 pub mod Versions

@@ -77,8 +77,11 @@ impl Name {
     pub fn stored(bytes: &[u8]) -> Option<Name>
         ensures { result ≡ stored_in bytes.now }
     {
+        if has_name_characters(bytes) {
+            return Name::unmarked(bytes);
+        }
         match mark_in(bytes) {
-            None => Name::with_stem(bytes.strip_suffix(b".".as_slice())?, 1),
+            None => None,
             Some(at) => {
                 let version = version_in(bytes[at + 1..].strip_suffix(b".".as_slice())?)?;
                 if version == 1 {
@@ -87,6 +90,21 @@ impl Name {
                 Name::with_stem(&bytes[..at], version)
             }
         }
+    }
+
+    /// The name that is stored as these name characters, a bare one. None if and only if they
+    /// aren't one.
+    fn unmarked(bytes: &[u8]) -> Option<Name>
+        requires { list_all is_name_character bytes.now ≡ true }
+        ensures { result ≡ stored_in bytes.now }
+    {
+        let stem = bytes.strip_suffix(b".".as_slice())?;
+        if stem.is_empty() || stem.len() > MAX_STEM {
+            return None;
+        }
+        let mut text = ShortText::new();
+        text.push(bytes);
+        Some(Name { text })
     }
 
     /// The name of these bytes, a version and a final `.`. None if and only if that isn't a stored
@@ -247,16 +265,21 @@ fn without_dot(text: &[u8]) -> &[u8]
     text.strip_suffix(b".".as_slice()).unwrap_or(text)
 }
 
-/// Whether all of these may stand in a name.
+/// Whether all of these may stand in a name. It goes over all of them, and has no branch on one:
+/// which comes next no processor can tell.
 fn has_name_characters(text: &[u8]) -> bool
     ensures { result ≡ list_all is_name_character text.now }
 {
-    text.iter().all(|c| is_name_character(*c))
+    let mut all = true;
+    for c in text {
+        all &= is_name_character(*c);
+    }
+    all
 }
 
 /// Whether this may stand in a name.
 fn is_name_character(c: u8) -> bool
     ensures { result ≡ is_name_character c }
 {
-    matches!(c, b'A'..=b'Z' | b'a'..=b'z' | b'0'..=b'9' | b'+' | b'-' | b'.' | b'$')
+    c.is_ascii_alphanumeric() | (c == b'+') | (c == b'-') | (c == b'.') | (c == b'$')
 }

@@ -1,12 +1,12 @@
 // Numbers and bytes in text: decimal digits, and hexadecimal digits in pairs.
-ghost use Rattle.std.specs.Prelude.{◌≡◌, ◌++◌, Some, None, IfOk, OnOk, OnErr, is_some, decimal};
+ghost use Rattle.std.specs.Prelude.{◌≡◌, ◌++◌, ◌*◌, ◌%◌, ◌≤◌, length, true, Some, None, IfOk, OnOk, OnErr, is_some, decimal};
 ghost use Rattle.std.specs.Char.{is_ascii_hexdigit};
 ghost use Rattle.std.specs.List.{list_all};
-ghost use Rattle.alto_words.specs.Numbers.{number_in, bytes_in_hex, hex_pairs, hex_of};
+ghost use Rattle.alto_words.specs.Numbers.{number_in, bytes_in_hex, hex_digit, hex_pairs, hex_of};
 
 use crate::memory::Memory;
 use itoa::Buffer;
-use std::alloc::Global;
+use std::alloc::{AllocError, Global};
 
 /// Why `read_hex` gives no bytes.
 #[derive(Clone, Copy, Debug, PartialEq, Eq)]
@@ -54,11 +54,42 @@ pub fn read_hex(alloc: Global, text: &[u8]) -> Result<Vec<u8>, HexError>
     if text.is_empty() || !has_hex_pairs(text) {
         return Err(HexError::Bad);
     }
-    match hex::decode(alloc, text) {
+    match read_pairs(alloc, text) {
         Ok(bytes) => Ok(bytes),
-        // Digits in pairs are decoded unless memory runs out.
         Err(_) => Err(HexError::Memory),
     }
+}
+
+/// The bytes that digits in pairs give.
+fn read_pairs(alloc: Global, text: &[u8]) -> Result<Vec<u8>, AllocError>
+    requires digits { list_all is_ascii_hexdigit text.now ≡ true }
+    requires even { length text.now % 2 ≡ 0 }
+    ensures { IfOk result (λ bytes. hex_pairs text.now ≡ Some bytes.items) }
+{
+    let mut bytes = vec![in alloc; 0; text.len() / 2]?;
+    decode_pairs(text, &mut bytes);
+    Ok(bytes)
+}
+
+/// Puts the bytes that digits in pairs give in the place of others. It has no branch on a digit, as `hex::decode` has: which one comes next
+/// no processor can tell, and a guess that is wrong takes it as long as many digits.
+fn decode_pairs(text: &[u8], bytes: &mut [u8])
+    requires digits { list_all is_ascii_hexdigit text.now ≡ true }
+    requires pairs { length text.now ≡ 2 * length bytes.old }
+    ensures { hex_pairs text.now ≡ Some bytes.new }
+{
+    for at in 0..bytes.len() {
+        bytes[at] = digit_value(text[2 * at]) * 16 + digit_value(text[2 * at + 1]);
+    }
+}
+
+/// The value of a hexadecimal digit: its low four bits are that, or 9 less where it is a letter, which bit 6 tells.
+fn digit_value(digit: u8) -> u8
+    requires { is_ascii_hexdigit digit ≡ true }
+    ensures value { hex_digit digit ≡ Some result }
+    ensures most { result ≤ 15 }
+{
+    digit % 16 + 9 * (digit / 64)
 }
 
 /// Whether a text is hexadecimal digits in pairs, or empty.

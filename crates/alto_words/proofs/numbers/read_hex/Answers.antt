@@ -1,5 +1,5 @@
 use Rattle.std.proofs.Common.{sym, ◌∙◌, ap, Some}
-use Rattle.alto_words.proofs.Hex.{bytes_in_hex-empty, bytes_in_hex-dash, bytes_in_hex-ok, bytes_in_hex-refused, bytes_in_hex-accepted}
+use Rattle.alto_words.proofs.Hex.{bytes_in_hex-empty, bytes_in_hex-dash, bytes_in_hex-ok, bytes_in_hex-refused, bytes_in_hex-accepted, pairs_told}
 use Rattle.alto_words.proofs.numbers.read_hex.Goals as goal
 use Rattle.alto_words.proofs.numbers.read_hex.Goals.{then-is_empty-via-then-is_empty, then-is_empty-via-else-is_empty+then-not-has_hex_pairs}
 
@@ -25,7 +25,7 @@ returns-then-is_empty-clause-bad c =
 pub returns-in-Ok-clause-ok : goal.returns-in-Ok-clause-ok
 returns-in-Ok-clause-ok c =
     let other = rw c.as_slice.ensures at c.if-eq.ensures in
-    bytes_in_hex-ok c.args.text.now c.in-Ok.bytes.items (sym c.if-is_empty.ensures) (sym other) c.in-Ok.ensures.ok
+    bytes_in_hex-ok c.args.text.now c.in-Ok.bytes.items (sym c.if-is_empty.ensures) (sym other) c.in-Ok.ensures
 
 pub returns-in-Ok-clause-refused : goal.returns-in-Ok-clause-refused
 returns-in-Ok-clause-refused c =
@@ -36,3 +36,9 @@ pub returns-in-Err-clause-refused : goal.returns-in-Err-clause-refused
 returns-in-Err-clause-refused c =
     let other = rw c.as_slice.ensures at c.if-eq.ensures in
     λ none. absurd (bytes_in_hex-accepted c.args.text.now (sym c.if-is_empty.ensures) (sym other) (sym c.if-not-has_hex_pairs.ensures) none)
+
+pub read_pairs-requires-clause-digits : goal.read_pairs-requires-clause-digits
+read_pairs-requires-clause-digits c = (pairs_told c.args.text.now (sym c.if-not-has_hex_pairs.ensures)).0
+
+pub read_pairs-requires-clause-even : goal.read_pairs-requires-clause-even
+read_pairs-requires-clause-even c = (pairs_told c.args.text.now (sym c.if-not-has_hex_pairs.ensures)).1
