@@ -4,6 +4,7 @@ use Rattle.std.proofs.lemmas.Bool.{le-ltb}
 use Rattle.std.proofs.lemmas.List.Elements.{All-from_get_or, All-get_or}
 use Rattle.std.proofs.lemmas.Option.{slice_get-get_or}
 use Rattle.disk_records.proofs.Growing.{nothing_added, pack-after}
+use Rattle.disk_records.specs.Causes.{IsCause}
 use Rattle.disk_records.specs.Events.{IsFirstOf}
 use Rattle.disk_records.specs.Packs.{AreFormed, IsFormed, Pack, after, carried, no_sector, sector_at}
 use Rattle.disk_records.specs.Tapes.{Grown, Taped, added, pack}
@@ -51,7 +52,9 @@ use Rattle.session_model.specs.Streams.{closing_ops}
 use Rattle.session_model.specs.Turning.{Cue, IsTakenUp, State, asks_scavenge, closes, cue_line, cue_moves, cue_ops, cue_world, ended, typed}
 use Rattle.session_model.specs.Worlds.{World}
 use Rattle.disk_records.specs.declared.shape.Shape.{Shape}
+use Rattle.exec_session.specs.Ends.{IsEndAnswer, cause_of_reply}
 use Rattle.exec_session.specs.Meant.{IfHint, IfRefused, kept, kept_stopped, stopped}
+use Rattle.exec_session.specs.Stops.{cause_of_stop}
 use Rattle.exec_session.specs.declared.session.Session.{Session}
 use Rattle.exec_session.specs.declared.stop.Stop.{Stop}
 use Rattle.exec_session.specs.declared.stop.Stop.TheVariants as stop
@@ -273,3 +276,25 @@ never_by_model (stop.Refused r) unrefused by = unrefused
 never_by_model (stop.Misled place at wanted found) unrefused by = by
 never_by_model stop.DiskFault unrefused by = by
 never_by_model stop.Memory unrefused by = by
+
+-- ---- what else is so at the end
+pub limit_after : (one two : Session) → (one.need ≡ true → two ≡ one) → (one.need ≡ false → two ≡ record one { descriptor = closed one.descriptor }) → two.tally.limit ≡ one.tally.limit
+limit_after one two same done = by_need one.need (λ is. ap (λ (s : Session). s.tally.limit) (same is)) (λ none. ap (λ (s : Session). s.tally.limit) (done none))
+
+pub stopped_formed : (form : Shape) (x : Stop) (k : Kept) → Formed form k → Formed form (kept_stopped x k)
+stopped_formed form (stop.Refused r) k h = h
+stopped_formed form (stop.Misled place at wanted found) k h = record { shape = h.shape; bits = h.bits; memory = h.memory; streams = h.streams; apart = h.apart }
+stopped_formed form stop.DiskFault k h = h
+stopped_formed form stop.Memory k h = h
+
+pub stopped_cause : (a b : Taped) (x : Stop) → IsCause a b (cause_of_stop x) → IsCause a b (cause_of_reply (stopped x))
+stopped_cause a b (stop.Refused r) h = tt
+stopped_cause a b (stop.Misled place at wanted found) h = tt
+stopped_cause a b stop.DiskFault h = h
+stopped_cause a b stop.Memory h = tt
+
+pub stops_end : (x : Stop) → IfRefused {T = Unit {0}} (Err x) (λ r. ⊥) → IsEndAnswer (stopped x)
+stops_end (stop.Refused r) unrefused = absurd unrefused
+stops_end (stop.Misled place at wanted found) unrefused = tt
+stops_end stop.DiskFault unrefused = tt
+stops_end stop.Memory unrefused = tt

@@ -12,4 +12,5 @@ pub mod SectorTaking
 mod SerialFiles
 mod Sessions
 pub mod Stopping
+pub mod TakingUp
 pub mod Turning

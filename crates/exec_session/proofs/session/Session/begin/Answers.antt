@@ -1,6 +1,14 @@
-use Rattle.std.proofs.Common.{ap, refl, sym, ◌∙◌}
+use Rattle.std.proofs.Common.{IfOk, Result, ap, refl, subst, sym, ◌∙◌}
+use Rattle.disk_descriptor.specs.declared.errors.OpenError.{OpenError}
+use Rattle.disk_records.proofs.Growing.{alone_here, nothing_added}
 use Rattle.disk_records.specs.Addresses.{pages_of}
+use Rattle.disk_records.specs.Causes.{HasCause}
 use Rattle.disk_records.specs.Tapes.{first_pack, pack}
+use Rattle.session_model.specs.Keeping.{Formed}
+use Rattle.exec_session.specs.Meant.{kept}
+use Rattle.exec_session.specs.Opens.{IsFresh, Opens, cause_of_open}
+use Rattle.exec_session.specs.declared.session.Session.{Session}
+use Rattle.exec_session.proofs.PackOpening.{answer_is}
 use Rattle.directory.specs.laws_midway.proofs.loops.Laws.{each_sector_stays}
 use Rattle.exec_session.proofs.Sessions.{IsMade, begun_of, is_begun, is_formed, is_fresh}
 use Rattle.exec_session.proofs.session.Session.begin.Goals as goal
@@ -28,3 +36,41 @@ returns-clause-formed g c =
     let formed = c.in_ok-opened.ensures.formed in
     is_formed c.args.moment c.args.limit s (record { memory = c.in-Ok.ensures; moment_is = refl; level = refl; need = refl; limit_is = refl })
     (g.D.Tape.tape c.open_pack.new.disk).form (formed.0 ∙ sym form) (formed.1 ∙ ap pages_of (sym form))
+
+-- ---- no memory is left for the memory
+pub returns-in-Err-clause-silent : goal.returns-in-Err-clause-silent
+returns-in-Err-clause-silent g c = λ told. nothing_added (g.D.Tape.tape c.args.disk.now).events
+
+pub returns-in-Err-clause-alone : goal.returns-in-Err-clause-alone
+returns-in-Err-clause-alone g c = alone_here (g.D.Tape.tape c.args.disk.now)
+
+-- ---- the pack isn't opened
+pub returns-in_err-opened-clause-opens : goal.returns-in_err-opened-clause-opens
+returns-in_err-opened-clause-opens g c = λ told once.
+    subst (Opens (pack (g.D.Tape.tape c.args.disk.now)) c.args.moment c.args.limit) (sym (answer_is c.from_residual.result c.from_residual.ensures.1)) (c.in_err-opened.ensures.refused told once)
+
+pub returns-in_err-opened-clause-silent : goal.returns-in_err-opened-clause-silent
+returns-in_err-opened-clause-silent g c = c.in_err-opened.ensures.looks.silent
+
+pub returns-in_err-opened-clause-fresh : goal.returns-in_err-opened-clause-fresh
+returns-in_err-opened-clause-fresh g c = subst (λ (r : Result Session OpenError). IfOk r (λ s. IsFresh c.args.moment c.args.limit (kept s))) (sym (answer_is c.from_residual.result c.from_residual.ensures.1)) tt
+
+pub returns-in_err-opened-clause-formed : goal.returns-in_err-opened-clause-formed
+returns-in_err-opened-clause-formed g c = subst (λ (r : Result Session OpenError). IfOk r (λ s. Formed (g.D.Tape.tape c.open_pack.new.disk).form (kept s))) (sym (answer_is c.from_residual.result c.from_residual.ensures.1)) tt
+
+pub returns-in_err-opened-clause-cause : goal.returns-in_err-opened-clause-cause
+returns-in_err-opened-clause-cause g c =
+    subst (λ (r : Result Session OpenError). HasCause cause_of_open (g.D.Tape.tape c.args.disk.now) (g.D.Tape.tape c.open_pack.new.disk) r) (sym (answer_is c.from_residual.result c.from_residual.ensures.1)) c.in_err-opened.ensures.cause
+
+pub returns-in_err-opened-clause-alone : goal.returns-in_err-opened-clause-alone
+returns-in_err-opened-clause-alone g c = c.in_err-opened.ensures.looks.alone
+
+-- ---- it is
+pub returns-clause-silent : goal.returns-clause-silent
+returns-clause-silent g c = c.in_ok-opened.ensures.looks.silent
+
+pub returns-clause-cause : goal.returns-clause-cause
+returns-clause-cause g c = tt
+
+pub returns-clause-alone : goal.returns-clause-alone
+returns-clause-alone g c = c.in_ok-opened.ensures.looks.alone

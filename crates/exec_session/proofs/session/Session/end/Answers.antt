@@ -1,10 +1,14 @@
 use Rattle.std.proofs.Common.{ap, subst, sym, ◌∙◌}
+use Rattle.disk_records.specs.Causes.{IsCause}
 use Rattle.disk_records.specs.Tapes.{pack}
 use Rattle.exec_words.specs.declared.reply.Reply.TheVariants as reply
 use Rattle.session_model.specs.Answering.{TakesTurn}
+use Rattle.session_model.specs.Keeping.{Formed}
 use Rattle.session_model.specs.Turning.{ended}
+use Rattle.exec_session.specs.Ends.{IsEndAnswer, cause_of_reply}
 use Rattle.exec_session.specs.Meant.{kept}
-use Rattle.exec_session.proofs.Ending.{ended_ends, formed_after, no_streams, some_level, stopped_tally, turns_broken, turns_closed}
+use Rattle.exec_session.specs.declared.session.Session.{Session}
+use Rattle.exec_session.proofs.Ending.{ended_ends, formed_after, limit_after, no_streams, some_level, stopped_cause, stopped_formed, stopped_tally, stops_end, turns_broken, turns_closed}
 use Rattle.exec_session.proofs.session.Session.end.Goals as goal
 
 pub returns-in-Ok-clause-turns : goal.returns-in-Ok-clause-turns
@@ -37,3 +41,42 @@ returns-in-Err-clause-turns g c = λ told s keeping.
     (turns_broken a b one c.stopped.new.session s ended keeping (ended_ends s none least) (g.met.D.Disk.formed c.args.disk.now told) h.alone.grown
     x (λ is. (h.in_need is).0) (h.closes told) (h.unfailing told) h.unrefused
     (ap (λ k. k.tally) c.stopped.ensures.kept ∙ stopped_tally x (kept c.close.new.session) ∙ ap (λ z. z.tally) h.left))
+
+-- ---- the pack is closed, or nothing was to be done
+pub returns-in-Ok-clause-answers : goal.returns-in-Ok-clause-answers
+returns-in-Ok-clause-answers g c = c.from_vec.ensures ∙ c.new.ensures.items
+
+pub returns-in-Ok-clause-idle : goal.returns-in-Ok-clause-idle
+returns-in-Ok-clause-idle g c = λ is. (c.in-Ok.ensures.in_need is).1
+
+pub returns-in-Ok-clause-limit : goal.returns-in-Ok-clause-limit
+returns-in-Ok-clause-limit g c = limit_after c.args.self.now c.close.new.session (λ is. (c.in-Ok.ensures.in_need is).2) c.in-Ok.ensures.kept
+
+pub returns-in-Ok-clause-cause : goal.returns-in-Ok-clause-cause
+returns-in-Ok-clause-cause g c = tt
+
+pub returns-in-Ok-clause-alone : goal.returns-in-Ok-clause-alone
+returns-in-Ok-clause-alone g c = c.in-Ok.ensures.alone
+
+-- ---- it broke off
+pub returns-in-Err-clause-answers : goal.returns-in-Err-clause-answers
+returns-in-Err-clause-answers g c = subst IsEndAnswer (sym c.stopped.ensures.reply) (stops_end c.in-Err.stop c.in-Err.ensures.unrefused)
+
+pub returns-in-Err-clause-idle : goal.returns-in-Err-clause-idle
+returns-in-Err-clause-idle g c = λ is. absurd (c.in-Err.ensures.in_need is).0
+
+pub returns-in-Err-clause-limit : goal.returns-in-Err-clause-limit
+returns-in-Err-clause-limit g c = ap (λ k. k.tally.limit) c.stopped.ensures.kept ∙ ap (λ t. t.limit) (stopped_tally c.in-Err.stop (kept c.close.new.session)) ∙ ap (λ z. z.tally.limit) c.in-Err.ensures.left
+
+pub returns-in-Err-clause-formed : goal.returns-in-Err-clause-formed
+returns-in-Err-clause-formed g c =
+    let h = c.in-Err.ensures in
+    subst (Formed (g.D.Tape.tape c.close.new.disk).form) (sym c.stopped.ensures.kept)
+    (stopped_formed (g.D.Tape.tape c.close.new.disk).form c.in-Err.stop (kept c.close.new.session)
+    (subst (λ (s : Session). Formed (g.D.Tape.tape c.close.new.disk).form (kept s)) (sym h.left) (subst (λ f. Formed f (kept c.args.self.now)) (sym h.alone.grown.form) c.requires.formed)))
+
+pub returns-in-Err-clause-cause : goal.returns-in-Err-clause-cause
+returns-in-Err-clause-cause g c = subst (λ r. IsCause (g.D.Tape.tape c.args.disk.now) (g.D.Tape.tape c.close.new.disk) (cause_of_reply r)) (sym c.stopped.ensures.reply) (stopped_cause (g.D.Tape.tape c.args.disk.now) (g.D.Tape.tape c.close.new.disk) c.in-Err.stop c.in-Err.ensures.cause)
+
+pub returns-in-Err-clause-alone : goal.returns-in-Err-clause-alone
+returns-in-Err-clause-alone g c = c.in-Err.ensures.alone
