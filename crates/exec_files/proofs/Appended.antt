@@ -47,7 +47,7 @@ use Rattle.exec_steps.specs.Midway.{AreFree, MayStart}
 use Rattle.exec_files.specs.Measured.{IsMeasured}
 use Rattle.exec_files.specs.declared.measuring.Measured.{Measured}
 use Rattle.exec_files.proofs.Appending.{append_full, append_plans, append_writes, few_bytes, few_pages, may_grow}
-use Rattle.exec_files.proofs.Frames.{same_world_worked, works_looked, works_reserved, works_twice}
+use Rattle.exec_steps.proofs.Frames.{world_worked, works_looked, works_reserved, works_twice}
 use Rattle.exec_files.proofs.Lengths.{measured_length}
 use Rattle.exec_files.proofs.Reserving.{alone_both, ready_reserved, reserved_free, same_but_reserved, silent_both, table_was}
 use Rattle.exec_files.proofs.Touching.{follows_file, handy_front, handy_of, named}
@@ -128,7 +128,7 @@ module _ {told : Bool} {most few : ℕ} (old mid at : Taped) (s t u : Session) (
           let mine : Quick p f s.hints.cache = record { whole = right.whole; links = handy.links; handy = handy_of p s.hints.table (all_listed s.hints.cache) (files_followed p (operand target no_directory)) f handy (follows_file m target f there.at.is) } in
           let cache : u.hints.cache ≡ t.hints.cache = ap (λ (y : Session). y.hints.cache) same in
           let quick : Quick (pack at) f u.hints.cache = subst (Quick (pack at) f) (sym cache) (subst (λ q. Quick q f t.hints.cache) (sym next_same) (quick_stays f about is_told mine)) in
-          let start = may_start old s l (append_writes target bytes) may st keeping at new u v fresh append_ready alone (same_world_worked all_work) (appended_ops f bytes s.moment) (length_text (x.length + length bytes)) (f ∷ []) (append_planned right) in
+          let start = may_start old s l (append_writes target bytes) may st keeping at new u v fresh append_ready alone (world_worked all_work) (appended_ops f bytes s.moment) (length_text (x.length + length bytes)) (f ∷ []) (append_planned right) in
           let c = last (kept s) _ (append_may right) start quick (subst (λ q. LastNamed q f) (sym (next_same ∙ first_same)) ends) in
           let number = many in
           let low = few_come in

@@ -38,18 +38,11 @@ use Rattle.exec_files.specs.Writing.{WritesAll}
 use Rattle.exec_files.specs.declared.measuring.Measured.{Measured}
 use Rattle.exec_files.proofs.Lengths.{is_file, measured_length, model_length}
 use Rattle.exec_files.proofs.Opening.{file_stands_still, opens_and_steps}
-use Rattle.exec_files.proofs.Reasons.{first_of, has_room, lacks_room, none_streamed, operand_refused, operand_taken, room_comes, tests_of}
+use Rattle.exec_steps.specs.laws_session.specs.RefusedLaws.{first_of}
+use Rattle.exec_files.proofs.Reasons.{has_room, lacks_room, none_streamed, operand_refused, operand_taken, room_comes, tests_of}
+use Rattle.exec_session.proofs.TakingUp.{typed_line}
 use Rattle.exec_files.proofs.Touching.{named, touches_file}
 use Rattle.exec_files.proofs.Turns.{AreOfALine, IsWriting, Plans}
-
--- ---- a line that is taken up is typed
-pub is_typed_line : (l : Line) (w : World) → IsTakenUpBy w l → is_typed l ≡ true
-unfolding first
-is_typed_line l w taken = by (is_typed l) (w.need && not (is_obeyed_in_need l)) (nat_lt w.level (level_of l)) taken
-  where
-    by : (typed need low : Bool) → first (λ r. r) (when (not typed) refusal.BadLine ∷ when need refusal.NeedsScavenge ∷ when low (refusal.NoService (level_of l)) ∷ []) ≡ None → typed ≡ true
-    by true need low e = refl
-    by false need low e = cc
 
 both_hold : (a b : Bool) → (a && b) ≡ true → b ≡ true
 both_hold true b e = e
@@ -59,7 +52,7 @@ at_most : (n most : ℕ) → nat_le n most ≡ true → n ≤ most
 at_most n most e = grind (arith, nat_tests)
 
 pub few_bytes : (w : World) (target : Target) (bytes : List ℕ) → IsTakenUpBy w (line.Append target bytes) → length bytes ≤ 2000
-few_bytes w target bytes taken = at_most (length bytes) 2000 (both_hold (is_typed_file target) (nat_le (length bytes) 2000) (is_typed_line (line.Append target bytes) w taken))
+few_bytes w target bytes taken = at_most (length bytes) 2000 (both_hold (is_typed_file target) (nat_le (length bytes) 2000) (typed_line (line.Append target bytes) w taken))
 
 -- ---- its operations
 no_pages : (b : ℕ) → pages_added b 0 ≡ 0

@@ -43,7 +43,8 @@ use Rattle.exec_files.specs.Measured.{IsMeasured}
 use Rattle.exec_files.specs.declared.measuring.Measured.{Measured}
 use Rattle.exec_files.proofs.Lengths.{is_file, measured_length, model_length}
 use Rattle.exec_files.proofs.Opening.{file_stands_still, opens_and_steps}
-use Rattle.exec_files.proofs.Reasons.{beyond_comes, first_of, has_room, is_beyond, is_within, none_streamed, operand_refused, operand_taken, room_comes, tests_of}
+use Rattle.exec_steps.specs.laws_session.specs.RefusedLaws.{first_of}
+use Rattle.exec_files.proofs.Reasons.{beyond_comes, has_room, is_beyond, is_within, none_streamed, operand_refused, operand_taken, room_comes, tests_of}
 use Rattle.exec_files.proofs.Touching.{named, touches_file}
 use Rattle.exec_files.proofs.Turns.{AreOfALine, IsWriting, Plans}
 

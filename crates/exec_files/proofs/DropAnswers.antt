@@ -30,6 +30,7 @@ use Rattle.session_model.specs.Turning.{HintFailing, IsTakenUp, State, is_quit, 
 use Rattle.session_model.specs.Worlds.{World}
 use Rattle.exec_session.proofs.Looking.{same_but_looked}
 use Rattle.exec_session.proofs.Stopping.{error_is}
+use Rattle.exec_session.proofs.TakingUp.{few_none, goes_on, need_none, plain_text}
 use Rattle.exec_session.proofs.Turning.{line_is_refused, line_stops_unwritten, turned_is_a_turn}
 use Rattle.exec_session.specs.Meant.{IfHint, IfRefused, IsTakenUpBy, LooksAbout, MayObey, TakesLine, kept, kept_replied, kept_stopped, replied, stopped}
 use Rattle.exec_session.specs.Turned.{Begins, SameBut, Turned}
@@ -37,7 +38,7 @@ use Rattle.exec_session.specs.declared.operands.Found.{Found}
 use Rattle.exec_session.specs.declared.session.Session.{Session}
 use Rattle.exec_session.specs.declared.stop.Stop.{Stop}
 use Rattle.exec_session.specs.declared.stop.Stop.TheVariants as stop
-use Rattle.exec_files.proofs.DropFrames.{same_writes, turned_since}
+use Rattle.exec_steps.proofs.LookedBefore.{looked_before, same_count}
 use Rattle.exec_files.specs.Drops.{DropsFound, FindsDropped, IsDropped}
 use Rattle.exec_files.specs.Dropping.{MayDropFound, to_drop}
 
@@ -51,30 +52,6 @@ pub record IsDropping (l : Line) : Type 0 where
   pub needs : is_obeyed_in_need l ≡ false
   pub bound : (p : Pack) (m : Model) (n : ℕ) → DoneWithin p m l n
 
--- so no scavenge is needed as it is taken up
-unneeded : (l : Line) (w : World) → is_obeyed_in_need l ≡ false → IsTakenUpBy w l → w.need ≡ false
-unfolding first
-unneeded l w obeyed taken =
-    by (is_bad l) w.need (nat_lt w.level (level_of l))
-    (subst (λ b. first (λ r. r) (when (is_bad l) refusal.BadLine ∷ when (w.need && not b) refusal.NeedsScavenge ∷ when (nat_lt w.level (level_of l)) (refusal.NoService (level_of l)) ∷ []) ≡ None) obeyed taken)
-  where
-    by : (bad need low : Bool) → first (λ r. r) (when bad refusal.BadLine ∷ when (need && not false) refusal.NeedsScavenge ∷ when low (refusal.NoService (level_of l)) ∷ []) ≡ None → need ≡ false
-    by bad false low e = refl
-    by true true low e = cc
-    by false true low e = cc
-
-unless_false : (r : Option Refusal) (b : Bool) → b ≡ false → unless_refused r b false ≡ false
-unless_false None b e = e
-unless_false (Some x) b e = refl
-
-few : (p : Pack) (m : Model) (l : Line) (r : Reply) (n : ℕ) → IsDropping l → RunsWithin p m l r n
-few p m l (reply.Done text) n d = d.bound p m n
-few p m l (reply.Refused r) n d = tt
-few p m l reply.Quit n d = tt
-few p m l reply.Scavenge n d = tt
-few p m l reply.DiskFault n d = tt
-few p m l reply.Memory n d = tt
-
 -- ---- a state for which what is kept is right
 module _ (old : Taped) (one : Session) (l : Line) (dropping : IsDropping l) (may : MayObey old one l) (s : State) (keeping : Keeping (pack old) (kept one) s) where
   abbrev m : Model
@@ -87,16 +64,13 @@ module _ (old : Taped) (one : Session) (l : Line) (dropping : IsDropping l) (may
   taken = subst (λ x. IsTakenUpBy x l) (sym keeping.world) may.taken_up
 
   no_need : s.world.need ≡ false
-  no_need = unneeded l s.world dropping.needs taken
+  no_need = need_none l s.world dropping.needs taken
 
   sound : Sound (pack old)
   sound = keeping.stands.sound no_need
 
   reads : read_as (pack old) ≡ s.model
   reads = keeping.stands.reads no_need
-
-  goes_on : GoesOnWith s l
-  goes_on = record { stays = unless_false (refusal_to l m w) (is_quit l) dropping.quit; asks = unless_false (refusal_to l m w) (is_scavenge l) dropping.scavenge }
 
   -- what is so of the pack is so of the state
   of_state : (P : Model → World → Type 0) → P (read_as (pack old)) (world_of (kept one)) → P s.model s.world
@@ -113,10 +87,7 @@ module _ (old : Taped) (one : Session) (l : Line) (dropping : IsDropping l) (may
       record {
         ops = ap (λ x. unless_refused x (effect l m w).ops []) unrefused ∙ of_state (λ x y. (effect l x y).ops ≡ to_drop found.file.fid ∷ []) is.ops;
         leaves = ap (λ x. unless_refused x (effect l m w).world w) unrefused ∙ dropping.world m w;
-        says =
-            ap (λ x. reply_unless x (cond (is_quit l) reply.Quit (reply.Done (text_unless x (effect l m w).text)))) unrefused
-            ∙ ap (λ b. cond b reply.Quit (reply.Done (effect l m w).text)) dropping.quit
-            ∙ ap reply.Done (dropping.text m w);
+        says = plain_text l s dropping.quit unrefused ∙ ap reply.Done (dropping.text m w);
         file = subst (λ fs. Contains fs found.file.fid) (sym files) (of_state (λ x y. Contains (files_touched l x y) found.file.fid) is.file);
         dir = subst (λ fs. Contains fs found.dir.fid) (sym files) (of_state (λ x y. Contains (files_touched l x y) found.dir.fid) is.dir);
       }
@@ -131,7 +102,7 @@ module _ (old : Taped) (one : Session) (l : Line) (dropping : IsDropping l) (may
 
     stops : (e : Stop) → IfRefused {T = Unit {0}} (Err e) (λ r. ⊥) → IfHint {T = Unit {0}} (Err e) (HintFailing (pack old) [] (files_touched l m w)) → Turned old new (kept one) (kept_stopped e (kept two)) s l (stopped e)
     stops e unrefused hint =
-        line_stops_unwritten old new (kept one) (kept two) s l e keeping goes_on taken about.looks.alone silent same unrefused
+        line_stops_unwritten old new (kept one) (kept two) s l e keeping (goes_on l s dropping.quit dropping.scavenge) taken about.looks.alone silent same unrefused
         (subst (λ files. IfHint {T = Unit {0}} (Err e) (HintFailing (pack old) [] files)) (sym (ap (λ x. unless_refused x (files_touched l m w) []) taken)) hint)
 
     unfound : (e : Stop) → IfRefused {T = Unit {0}} (Err e) (λ r. refusal_to l m w ≡ Some r) → IfHint {T = Unit {0}} (Err e) (HintFailing (pack old) [] (files_touched l m w)) → Turned old new (kept one) (kept_stopped e (kept two)) s l (stopped e)
@@ -162,7 +133,7 @@ stops_unfound {Z} old new one two l e r dropping told may about is finds = λ s 
     turned_is_a_turn old new (kept one) (kept_replied r (kept two)) s l (replied r)
     (subst (λ (x : Result (Vec ℕ Z) Stop). Turned old new (kept one) (kept_replied x (kept two)) s l (replied x)) (sym (error_is r is))
     (unfound_turned old one l dropping may s keeping new two told about e (finds (sound old one l dropping may s keeping) may.taken_up)))
-    (λ handy none. few (pack old) s.model l (replied r) (new.runs - old.runs) dropping)
+    (λ handy none. few_none l dropping.bound (pack old) s.model (replied r) (new.runs - old.runs))
 
 -- it is found, and the line goes on from there
 pub goes_on_found : {Z : Type 0} {told : Bool} {most : ℕ} (old mid new : Taped) (one two three : Session) (l : Line) (found : Found) (r : Result (Vec ℕ Z) Stop) → IsDropping l → IsTrue told → MayObey old one l → LooksAbout told most old mid one two → DiskAlone mid new
@@ -175,17 +146,17 @@ goes_on_found {told = told} old mid new one two three l found r dropping is_told
     let here : pack mid ≡ pack old = pack-silent about.looks.alone.grown quiet in
     let is : IsDropped (pack old) l (world_of (kept one)) found = (finds (sound old one l dropping may s keeping) may.taken_up).found in
     turned_is_a_turn old new (kept one) (kept_replied r (kept three)) s l (replied r)
-    (turned_since old mid new (kept one) (kept_replied r (kept three)) s l (replied r) about.looks.alone.grown alone.grown quiet (same_writes old mid about.looks.alone.grown quiet first last)
+    (looked_before old mid new (kept one) (kept_replied r (kept three)) s l (replied r) about.looks.alone alone quiet (same_count old mid about.looks.alone quiet first last)
     (turned s
     (record {
       keeping = subst (λ p. Keeping p (kept one) s) (sym here) keeping;
       unneeded = sym (ap (λ x. x.need) keeping.world) ∙ no_need old one l dropping may s keeping;
-      stays = goes_on old one l dropping may s keeping;
+      stays = goes_on l s dropping.quit dropping.scavenge;
       taken_up = taken old one l dropping may s keeping;
       full = λ i page e. formed_pages_have_256_words (pack mid) i page formed e;
     })
     (same_but_looked mid mid about.looked refl) (drops old one l dropping may s keeping found is) (subst (λ p. MayDropFound p found) (sym here) is.may)))
-    (λ handy none. few (pack old) s.model l (replied r) (new.runs - old.runs) dropping)
+    (λ handy none. few_none l dropping.bound (pack old) s.model (replied r) (new.runs - old.runs))
 
 -- ---- the two lines
 pub delete_drops : (path : Path) → IsDropping (line.Delete path)

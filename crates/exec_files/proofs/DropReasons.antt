@@ -11,6 +11,8 @@ use Rattle.exec_words.specs.declared.line.Path.{Path}
 use Rattle.exec_words.specs.declared.line.Target.TheVariants.{ByPath}
 use Rattle.exec_words.specs.declared.reply.Refusal.{Refusal}
 use Rattle.exec_words.specs.declared.reply.Refusal.TheVariants as refusal
+use Rattle.exec_steps.specs.laws_session.proofs.refused.Laws.{refused_by_tests}
+use Rattle.exec_steps.specs.laws_session.specs.RefusedLaws.{first_of}
 use Rattle.laws_lookup.specs.DropLaws.{is_an_entry}
 use Rattle.pack_model.specs.reading.Files.{first}
 use Rattle.pack_model.specs.reading.Model.{Model, room}
@@ -25,25 +27,6 @@ use Rattle.session_model.specs.Replies.{refusal as refusal_to}
 use Rattle.session_model.specs.Worlds.{World}
 use Rattle.exec_session.specs.Found.{operand, operand_tests}
 use Rattle.exec_session.specs.Meant.{IsTakenUpBy}
-
-abbrev first_of : List (Option Refusal) → Option Refusal
-first_of rs = first (λ r. r) rs
-
--- ---- lists of reasons
-skip : (rs more : List (Option Refusal)) → first_of rs ≡ None → first_of (rs ++ more) ≡ first_of more
-unfolding first
-skip [] more e = refl
-skip (None ∷ rs) more e = skip rs more e
-skip (Some r ∷ rs) more e = absurd (let n : Some r ≡ None = e in cc)
-
-ends : (rs more : List (Option Refusal)) → first_of more ≡ None → first_of (rs ++ more) ≡ first_of rs
-unfolding first
-ends [] more e = e
-ends (None ∷ rs) more e = ends rs more e
-ends (Some r ∷ rs) more e = refl
-
-by_tests : (l : Line) (m : Model) (w : World) (tests more : List (Option Refusal)) → IsTakenUpBy w l → reasons l m w (effect l m w).ops ≡ by_line l w ++ (tests ++ more) → first_of more ≡ None → refusal_to l m w ≡ first_of tests
-by_tests l m w tests more taken are none = ap first_of are ∙ skip (by_line l w) (tests ++ more) taken ∙ ends tests more none
 
 -- no stream is open, and no page comes
 others_none : (m : Model) (streamed : Bool) → streamed ≡ false → first_of (None ∷ None ∷ None ∷ when streamed refusal.StreamsOpen ∷ None ∷ None ∷ None ∷ when (nat_lt (room m) 0) (refusal.Full 0 (room m)) ∷ []) ≡ None
@@ -74,7 +57,7 @@ pub delete_refused : (m : Model) (w : World) (path : Path) → w.streams ≡ [] 
 delete_refused m w path none taken =
     let o = operand (ByPath path) no_directory in
     let streamed = is_streamed w (file_at m (ByPath path)) in
-    by_tests (line.Delete path) m w (operand_tests m o)
+    refused_by_tests (line.Delete path) m w (operand_tests m o)
     (of_taken_name m o ∷ not_empty m o ∷ None ∷ None ∷ None ∷ when streamed refusal.StreamsOpen ∷ None ∷ None ∷ None ∷ when (nat_lt (room m) 0) (refusal.Full 0 (room m)) ∷ []) taken refl
     (more_none m (of_taken_name m o) (not_empty m o) streamed refl (left_none m (file_at m (ByPath path))) (unstreamed w (file_at m (ByPath path)) none))
 
@@ -95,7 +78,7 @@ removed_tests m f = first_of (
 pub rmdir_refused : (m : Model) (w : World) (name : List ℕ) → IsTakenUpBy w (line.RemoveDir name) → refusal_to (line.RemoveDir name) m w ≡ removed_tests m (file_at m (ByPath (in_root name)))
 rmdir_refused m w name taken =
     let o = removed_operand name in
-    by_tests (line.RemoveDir name) m w (missing m o ∷ of_wrong_kind m o ∷ of_system m o ∷ of_taken_name m o ∷ not_empty m o ∷ [])
+    refused_by_tests (line.RemoveDir name) m w (missing m o ∷ of_wrong_kind m o ∷ of_system m o ∷ of_taken_name m o ∷ not_empty m o ∷ [])
     (None ∷ None ∷ None ∷ when false refusal.StreamsOpen ∷ None ∷ None ∷ None ∷ when (nat_lt (room m) 0) (refusal.Full 0 (room m)) ∷ []) taken refl
     (others_none m false refl)
 

@@ -1,5 +1,5 @@
 -- A line that opens the mark and drops one file, as a turn.
-use Rattle.std.proofs.Common.{◌≡◌, ◌≢◌, ◌<◌, ◌∙◌, All, AllPairs, Contains, Err, List, Ok, Result, Some, [], ◌∷◌, ap, arith, length, subst, sym, suc, true, zero, ℕ}
+use Rattle.std.proofs.Common.{◌≡◌, ◌≢◌, ◌<◌, ◌∙◌, All, AllPairs, Contains, Err, List, Ok, Result, Some, [], ◌∷◌, ap, arith, length, refl, subst, sym, suc, true, zero, ℕ}
 use Rattle.std.specs.List.{slice_get}
 use Rattle.alto_words.specs.Fid.{disk_descriptor}
 use Rattle.alto_words.specs.declared.fid.Fid.{Fid}
@@ -35,9 +35,19 @@ use Rattle.exec_steps.specs.Lines.{BreaksOff}
 use Rattle.exec_steps.specs.Midway.{MayStart, Midway, Started, Stepped, StepsOn}
 use Rattle.exec_steps.proofs.Stepping.{if_hint_weaker}
 use Rattle.exec_steps.proofs.laws.Laws.{line_is_done, line_stops, lines_break_off}
-use Rattle.exec_files.proofs.DropFrames.{world_worked}
 use Rattle.exec_files.specs.Drops.{DropsFound}
 use Rattle.exec_files.specs.Dropping.{MayDropFound}
+
+-- ---- the world of a session that looked, and of steps after that
+world_worked : (one : Kept) (s t : Session) → SameWorld one (kept s) → Works s t → SameWorld one (kept t)
+world_worked one s t same works = record {
+  moment = works.moment ∙ same.moment;
+  level = works.level ∙ same.level;
+  memory = works.memory ∙ same.memory;
+  before = same.before;
+  streams = refl;
+  need = works.need ∙ same.need;
+}
 
 -- ---- where the mark is
 record MarkAt (p : Pack) : Type 0 where

@@ -3,11 +3,9 @@ mod Appending
 mod Cutting
 mod DropAnswers
 mod DropFinding
-mod DropFrames
 mod DropReasons
 mod DropTurn
 mod EntryFound
-mod Frames
 mod Handing
 mod Lengths
 mod Looked

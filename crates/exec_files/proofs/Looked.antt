@@ -27,6 +27,7 @@ use Rattle.exec_session.specs.declared.stop.Stop.{Stop}
 use Rattle.exec_session.specs.declared.stop.Stop.TheVariants as stop
 use Rattle.exec_session.proofs.Looking.{same_but_looked}
 use Rattle.exec_session.proofs.Stopping.{error_is, hint_of_stop, refused_of_stop}
+use Rattle.exec_steps.proofs.LookedBefore.{same_count}
 use Rattle.exec_files.proofs.Turns.{IsWriting, ReadyToWrite, unwritten_turns}
 
 -- ---- it isn't done
@@ -54,9 +55,6 @@ module _ {Z : Type 0} {told : Bool} {most : ℕ} (old new : Taped) (one two : Se
 none_free : (p : Pack) → All (λ i. is_free_at p i ≡ true) [] × AllPairs {X = ℕ} (λ i j. i ≢ j) []
 none_free p = (All-nil (λ i. is_free_at p i ≡ true), λ i j d lt within. absurd (omega (arith, within)))
 
-pub same_writes : (old mid : Taped) → DiskAlone old mid → added old mid ≡ [] → old.writes ≡ capped (writes_in old.events) → mid.writes ≡ capped (writes_in mid.events) → mid.writes ≡ old.writes
-same_writes old mid alone silent first next = next ∙ ap (λ es. capped (writes_in es)) (alone.grown.events ∙ ap (λ es. old.events ++ es) silent ∙ append-nil old.events) ∙ sym first
-
 -- hints alone are others
 pub hints_alone : {one now : Session} → Looked one now → now ≡ record one { hints = now.hints }
 hints_alone {one} {now} looked = looked.same ∙ ap (λ h. record one { hints = h }) (sym (ap (λ (s : Session). s.hints) looked.same))
@@ -67,7 +65,7 @@ ready_looked old mid one now told about first next formed =
     record {
       looked = about.looks.alone;
       silent = silent;
-      writes = same_writes old mid about.looks.alone silent first next;
+      writes = same_count old mid about.looks.alone silent first next;
       formed = formed;
       same = hints_alone about.looked;
       free = λ sound. none_free (pack old);

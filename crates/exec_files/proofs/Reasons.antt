@@ -7,6 +7,8 @@ use Rattle.exec_words.specs.declared.line.Target.{Target}
 use Rattle.exec_words.specs.declared.line.Target.TheVariants.{ByPath, BySerial}
 use Rattle.exec_words.specs.declared.reply.Refusal.{Refusal}
 use Rattle.exec_words.specs.declared.reply.Refusal.TheVariants as refusal
+use Rattle.exec_steps.specs.laws_session.proofs.refused.Laws.{refused_in_order}
+use Rattle.exec_steps.specs.laws_session.specs.RefusedLaws.{IsRefusedInOrder, first_of}
 use Rattle.pack_model.specs.operations.Committing.{pages_for_operations}
 use Rattle.pack_model.specs.operations.Step.{Operation}
 use Rattle.pack_model.specs.reading.Files.{first}
@@ -19,22 +21,6 @@ use Rattle.session_model.specs.Replies.{refusal as refusal_to}
 use Rattle.session_model.specs.Worlds.{World}
 use Rattle.exec_session.specs.Found.{operand, operand_tests}
 use Rattle.exec_session.specs.Meant.{IsTakenUpBy}
-
-abbrev pub first_of : List (Option Refusal) → Option Refusal
-first_of rs = first (λ r. r) rs
-
--- ---- lists of reasons
-skip : (rs more : List (Option Refusal)) → first_of rs ≡ None → first_of (rs ++ more) ≡ first_of more
-unfolding first
-skip [] more e = refl
-skip (None ∷ rs) more e = skip rs more e
-skip (Some r ∷ rs) more e = absurd (let n : Some r ≡ None = e in cc)
-
-comes : (rs more : List (Option Refusal)) (r : Refusal) → first_of rs ≡ Some r → first_of (rs ++ more) ≡ Some r
-unfolding first
-comes [] more r e = absurd (let n : None ≡ Some r = e in cc)
-comes (None ∷ rs) more r e = comes rs more r e
-comes (Some x ∷ rs) more r e = e
 
 -- ---- the tests of the operand
 abbrev pub tests_of : Model → Target → List (Option Refusal)
@@ -59,17 +45,15 @@ two_none None (Some r) more e f = absurd (let n : Some r ≡ None = f in cc)
 module _ (l : Line) (m : Model) (w : World) (target : Target) (beyond streams : Option Refusal) (taken : IsTakenUpBy w l)
     (are : reasons l m w (effect l m w).ops ≡ by_line l w ++ (tests_of m target ++ (of_taken_name m (operand target no_directory) ∷ not_empty m (operand target no_directory) ∷ None ∷ beyond ∷ None ∷ streams ∷ None ∷ None ∷ None ∷ by_room m (effect l m w).ops ∷ [])))
   where
+    in_order : IsRefusedInOrder l m w (tests_of m target) (of_taken_name m (operand target no_directory) ∷ not_empty m (operand target no_directory) ∷ None ∷ beyond ∷ None ∷ streams ∷ None ∷ None ∷ None ∷ by_room m (effect l m w).ops ∷ [])
+    in_order = refused_in_order l m w (tests_of m target) (of_taken_name m (operand target no_directory) ∷ not_empty m (operand target no_directory) ∷ None ∷ beyond ∷ None ∷ streams ∷ None ∷ None ∷ None ∷ by_room m (effect l m w).ops ∷ []) taken are
+
     pub operand_refused : (r : Refusal) → first_of (tests_of m target) ≡ Some r → refusal_to l m w ≡ Some r
-    operand_refused r e =
-        ap first_of are
-        ∙ skip (by_line l w) (tests_of m target ++ (of_taken_name m (operand target no_directory) ∷ not_empty m (operand target no_directory) ∷ None ∷ beyond ∷ None ∷ streams ∷ None ∷ None ∷ None ∷ by_room m (effect l m w).ops ∷ [])) taken
-        ∙ comes (tests_of m target) (of_taken_name m (operand target no_directory) ∷ not_empty m (operand target no_directory) ∷ None ∷ beyond ∷ None ∷ streams ∷ None ∷ None ∷ None ∷ by_room m (effect l m w).ops ∷ []) r e
+    operand_refused r e = in_order.here r e
 
     pub operand_taken : first_of (tests_of m target) ≡ None → refusal_to l m w ≡ first_of (None ∷ beyond ∷ None ∷ streams ∷ None ∷ None ∷ None ∷ by_room m (effect l m w).ops ∷ [])
     operand_taken e =
-        ap first_of are
-        ∙ skip (by_line l w) (tests_of m target ++ (of_taken_name m (operand target no_directory) ∷ not_empty m (operand target no_directory) ∷ None ∷ beyond ∷ None ∷ streams ∷ None ∷ None ∷ None ∷ by_room m (effect l m w).ops ∷ [])) taken
-        ∙ skip (tests_of m target) (of_taken_name m (operand target no_directory) ∷ not_empty m (operand target no_directory) ∷ None ∷ beyond ∷ None ∷ streams ∷ None ∷ None ∷ None ∷ by_room m (effect l m w).ops ∷ []) e
+        in_order.later e
         ∙ two_none (of_taken_name m (operand target no_directory)) (not_empty m (operand target no_directory)) (None ∷ beyond ∷ None ∷ streams ∷ None ∷ None ∷ None ∷ by_room m (effect l m w).ops ∷ []) (taken_none m target) (empty_none m (file_at m target))
 
 -- ---- the tests after it

@@ -14,7 +14,8 @@ use Rattle.exec_session.specs.Meant.{IsSameButTable, LooksAbout, kept}
 use Rattle.exec_session.specs.Turned.{SameBut}
 use Rattle.exec_session.specs.declared.session.Session.{Session}
 use Rattle.exec_steps.specs.Midway.{AreFree}
-use Rattle.exec_files.proofs.Looked.{hints_alone, same_writes}
+use Rattle.exec_steps.proofs.LookedBefore.{same_count}
+use Rattle.exec_files.proofs.Looked.{hints_alone}
 use Rattle.exec_files.proofs.Turns.{ReadyToWrite}
 
 apart : (xs : List ℕ) → IsStrictlyIncreasing xs → AllPairs (λ i j. i ≢ j) xs
@@ -47,7 +48,7 @@ module _ {told : Bool} {most few : ℕ} (old mid new : Taped) (one s t : Session
   ready_reserved fresh first next formed free table = record {
     looked = alone_both;
     silent = silent_both;
-    writes = same_writes old new alone_both silent_both first next;
+    writes = same_count old new alone_both silent_both first next;
     formed = formed;
     same = both_same;
     free = λ sound. subst (λ p. AreFree p fresh) first_same free;

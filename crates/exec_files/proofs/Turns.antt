@@ -44,13 +44,15 @@ use Rattle.exec_session.specs.declared.stop.Stop.TheVariants as stop
 use Rattle.exec_session.specs.Meant.{IfHint, IfRefused, IsTakenUpBy, MayObey, TakesLine, kept, kept_replied, kept_stopped, replied, stopped}
 use Rattle.exec_session.specs.Turned.{Begins, FewRuns, LeavesWorld, SameBut, SameWorld, Turned, line_ops}
 use Rattle.exec_session.proofs.Stopping.{error_is}
+use Rattle.exec_session.proofs.TakingUp.{goes_on, need_none, plain_text}
 use Rattle.exec_session.proofs.Turning.{line_is_refused, line_stops_unwritten, line_writes_nothing, turned_is_a_turn}
 use Rattle.exec_steps.specs.Lines.{BrokeOff}
 use Rattle.exec_steps.specs.Midway.{AreFree, MayStart, Midway}
 use Rattle.exec_steps.proofs.laws.Laws.{line_is_done, line_stops, lines_break_off}
 use Rattle.exec_steps.specs.Asked.{Works}
 use Rattle.exec_files.specs.Writing.{WritesAll, Wrote}
-use Rattle.exec_files.proofs.Frames.{same_world_worked}
+use Rattle.exec_steps.proofs.Frames.{world_worked}
+use Rattle.exec_steps.proofs.LookedBefore.{looked_before}
 
 -- ---- lines that write files
 -- It leaves the world, goes on with the session, and isn't obeyed while a scavenge is needed.
@@ -90,51 +92,12 @@ pub record ReadyToWrite (old mid : Taped) (one now : Session) (reserved : List �
   pub table : Sound (pack old) → TableTrue (pack old) one.hints.table → TableReserves (pack old) now.hints.table reserved
 
 -- ---- as it is taken up
--- no scavenge is needed
-need_none : (l : Line) (w : World) → is_obeyed_in_need l ≡ false → IsTakenUpBy w l → w.need ≡ false
-unfolding first
-need_none l w obeyed taken =
-    by (is_bad l) w.need (nat_lt w.level (level_of l))
-    (subst (λ b. first (λ r. r) (when (is_bad l) refusal.BadLine ∷ when (w.need && not b) refusal.NeedsScavenge ∷ when (nat_lt w.level (level_of l)) (refusal.NoService (level_of l)) ∷ []) ≡ None) obeyed taken)
-  where
-    by : (bad need low : Bool) → first (λ r. r) (when bad refusal.BadLine ∷ when (need && not false) refusal.NeedsScavenge ∷ when low (refusal.NoService (level_of l)) ∷ []) ≡ None → need ≡ false
-    by bad false low e = refl
-    by true true low e = cc
-    by false true low e = cc
-
-unless_false : (r : Option Refusal) (b : Bool) → b ≡ false → unless_refused r b false ≡ false
-unless_false None b e = e
-unless_false (Some x) b e = refl
-
 -- a stopped line has no bound on its sector commands
 few_stopped : (p : Pack) (m : Model) (l : Line) (error : Stop) (n : ℕ) → RunsWithin p m l (stopped error) n
 few_stopped p m l (stop.Refused x) n = tt
 few_stopped p m l (stop.Misled place at wanted found) n = tt
 few_stopped p m l stop.DiskFault n = tt
 few_stopped p m l stop.Memory n = tt
-
--- ---- a line that looked first
--- what a turn owes, by the pack and the events alone
-record Owed (p : Pack) (events : List Event) (writes : ℕ) (new : Taped) (one two : Kept) (s : State) (l : Line) (r : Reply) : Type 0 where
-  state : State
-  goes_on : state.over ≡ false
-  answered : Answered p s (typed l) events r state
-  need : IsAnswer r → two.need ≡ state.world.need
-  keeping : IsAnswer r → Keeping (pack new) two state
-  tally : TellsWrites r new → two.tally ≡ counted writes answered.moves one.tally
-  truthful : Truthful p one.busy → IsAnswer r → Truthful (pack new) two.busy
-
--- looks before it change nothing of that
-pub turned_from : (old mid new : Taped) (one two : Kept) (s : State) (l : Line) (r : Reply) → DiskAlone old mid → added old mid ≡ [] → mid.writes ≡ old.writes → DiskAlone mid new → Turned mid new one two s l r → Turned old new one two s l r
-turned_from old mid new one two s l r looked silent writes alone t =
-    let events : added mid new ≡ added old new = sym (added-twice looked.grown alone.grown ∙ ap (λ es. es ++ added mid new) silent) in
-    let owed : Owed (pack mid) (added mid new) mid.writes new one two s l r = record { state = t.state; goes_on = t.goes_on; answered = t.answered; need = t.need; keeping = t.keeping; tally = t.tally; truthful = t.truthful } in
-    let here : Owed (pack old) (added old new) old.writes new one two s l r =
-    subst (λ n. Owed (pack old) (added old new) n new one two s l r) writes
-    (subst (λ es. Owed (pack old) es mid.writes new one two s l r) events
-    (subst (λ p. Owed p (added mid new) mid.writes new one two s l r) (pack-silent looked.grown silent) owed))
-    in
-    record { state = here.state; goes_on = here.goes_on; answered = here.answered; need = here.need; keeping = here.keeping; tally = here.tally; truthful = here.truthful }
 
 -- ---- the first page of DiskDescriptor
 slice_first : (pages : List ℕ) → 0 < length pages → (at : ℕ) × (slice_get pages 0 ≡ Some at)
@@ -163,7 +126,7 @@ module _ (old : Taped) (one : Session) (l : Line) (writing : IsWriting l) (may :
   sound = keeping.stands.sound unneeded
 
   goes : GoesOnWith s l
-  goes = record { stays = unless_false (refusal_to l s.model s.world) (is_quit l) writing.quit; asks = unless_false (refusal_to l s.model s.world) (is_scavenge l) writing.scavenge }
+  goes = goes_on l s writing.quit writing.scavenge
 
   -- what is so of the pack's model and the world that is kept is so of the state
   at_state : (P : Model → World → Type 0) → P (read_as (pack old)) w → P s.model s.world
@@ -177,10 +140,7 @@ module _ (old : Taped) (one : Session) (l : Line) (writing : IsWriting l) (may :
 
   -- its plain reply
   plain_of : (text : List ℕ) (ops : List Operation) → Unrefused s.model l s.world ops text → plain_reply s (typed l) ≡ reply.Done text
-  plain_of text ops h =
-      ap (λ x. reply_unless x (cond (is_quit l) reply.Quit (reply.Done (text_unless x (effect l s.model s.world).text)))) h.unrefused
-      ∙ ap (λ b. cond b reply.Quit (reply.Done (effect l s.model s.world).text)) writing.quit
-      ∙ ap reply.Done h.text_is
+  plain_of text ops h = plain_text l s writing.quit h.unrefused ∙ ap reply.Done h.text_is
 
   -- ---- before the first record write
   module _ (new : Taped) (two : Session) (alone : DiskAlone old new) (silent : added old new ≡ []) (same : SameBut old new (kept one) (kept two)) where
@@ -256,7 +216,7 @@ module _ (old : Taped) (one : Session) (l : Line) (writing : IsWriting l) (may :
     stops : (error : Stop) → BrokeOff {T = Unit {0}} mid new (kept one) (kept two) s l (Err error) → IfRefused {T = Unit {0}} (Err error) (λ r. ⊥) → IfHint {T = Unit {0}} (Err error) (HintFailing (pack mid) (added mid new) (cue_files s (typed l)))
         → Turned old new (kept one) (kept_stopped error (kept two)) s l (stopped error)
     stops error broke unrefused hint =
-        turned_from old mid new (kept one) (kept_stopped error (kept two)) s l (stopped error) ready.looked ready.silent ready.writes alone (line_stops mid new (kept one) (kept two) s l error begins worked alone broke unrefused hint)
+        looked_before old mid new (kept one) (kept_stopped error (kept two)) s l (stopped error) ready.looked alone ready.silent ready.writes (line_stops mid new (kept one) (kept two) s l error begins worked alone broke unrefused hint)
 
     wider : (error : Stop) → IfHint {T = Unit {0}} (Err error) (HintFailing (pack mid) (added mid new) files) → IfHint {T = Unit {0}} (Err error) (HintFailing (pack mid) (added mid new) (files_touched l (read_as (pack old)) w))
     wider (stop.Refused r) h = tt
@@ -279,7 +239,7 @@ module _ (old : Taped) (one : Session) (l : Line) (writing : IsWriting l) (may :
 
     done : {x : Unit {0}} → Wrote mid new (kept one) (kept two) at ops files (Ok x) → Turned old new (kept one) (kept two) s l (reply.Done text)
     done wrote =
-        turned_from old mid new (kept one) (kept two) s l (reply.Done text) ready.looked ready.silent ready.writes alone
+        looked_before old mid new (kept one) (kept two) s l (reply.Done text) ready.looked alone ready.silent ready.writes
         (subst (Turned mid new (kept one) (kept two) s l) (plain_of text ops planned)
         (line_is_done mid new (kept one) (kept two) s l at begins leaves worked (subst (LineFits (pack mid) at) (sym ops_are) fits) (midway wrote)))
 
@@ -302,7 +262,7 @@ nothing_turns old new one two l text writing may alone silent same plan few = λ
 module _ (old mid new : Taped) (one now two : Session) (l : Line) (writing : IsWriting l) (may : MayObey old one l) (reserved : List ℕ) (ready : ReadyToWrite old mid one now reserved) (alone : DiskAlone mid new) (works : Works one two) (ops : List Operation) (text : List ℕ) (files : List Fid)
     (plans : Sound (pack old) → Plans (read_as (pack old)) l (world_of (kept one)) ops text files) where
   abbrev worked : SameWorld (kept one) (kept two)
-  worked = same_world_worked works
+  worked = world_worked works
 
   -- broken off
   pub broke_turns : {Z : Type 0} (e : Stop) (r : Result (Vec ℕ Z) Stop) → IsErrAnd r (λ x. x ≡ e) → (Sound (pack old) → WritesAll {T = Unit {0}} mid new (kept now) (kept two) ops reserved files (Err e)) → IfRefused {T = Unit {0}} (Err e) (λ r. ⊥) → TakesLine old new one two l r

@@ -1,16 +1,17 @@
-use Rattle.std.proofs.Common.{◌∙◌, ◌+◌, ◌∷◌, [], length, Ok, Err, arith, refl, subst}
-use Rattle.disk_records.proofs.Growing.{alone_twice}
-use Rattle.disk_records.specs.Tapes.{pack}
+use Rattle.std.proofs.Common.{◌≡◌, ◌∙◌, ◌+◌, ◌∷◌, [], length, Ok, Err, arith, refl, subst}
+use Rattle.disk_records.proofs.Growing.{alone_twice, silent_twice}
+use Rattle.disk_records.specs.Tapes.{added, pack}
 use Rattle.exec_words.specs.Texts.{length_text}
 use Rattle.exec_words.specs.declared.line.Line.TheVariants as line
 use Rattle.session_model.specs.Effects.{appended_ops}
 use Rattle.session_model.specs.Keeping.{world_of}
 use Rattle.exec_session.specs.Meant.{kept}
+use Rattle.exec_session.specs.declared.stop.Stop.TheVariants as stop
 use Rattle.exec_files.specs.Writing.{WritesAll}
 use Rattle.exec_files.specs.declared.measuring.Measured.{Measured}
 use Rattle.exec_files.proofs.Appended.{append_few, append_may, append_planned, append_ready, unreserved_turns}
 use Rattle.exec_files.proofs.Appending.{append_unfound, append_writes, few_bytes}
-use Rattle.exec_files.proofs.Frames.{stays_worked, works_looked, works_reserved, works_twice}
+use Rattle.exec_steps.proofs.Frames.{cause_after, cause_passed, if_refused, never_refused, stays_worked, works_looked, works_reserved, works_twice}
 use Rattle.exec_files.proofs.Looked.{unfound_turns}
 use Rattle.exec_files.proofs.Turns.{broke_turns, done_turns, late_turns}
 use Rattle.exec_files.proofs.append.append_bytes.Goals as goal
@@ -179,3 +180,37 @@ returns-in_err-length_text-clause-alone g c = alone_twice (alone_twice c.find_me
 
 pub returns-clause-alone : goal.returns-clause-alone
 returns-clause-alone g c = alone_twice (alone_twice c.find_measured.ensures.looks.looks.alone c.reserve_pages.ensures.looks.alone) c.write_append.ensures.alone
+
+-- ---- a refusal comes before the first record write
+pub returns-in_err-found-clause-unwritten : goal.returns-in_err-found-clause-unwritten
+returns-in_err-found-clause-unwritten g c = λ told. if_refused (added (g.D.Tape.tape c.args.disk.now) (g.D.Tape.tape c.find_measured.new.disk) ≡ []) c.from_residual.result (c.find_measured.ensures.looks.looks.silent told)
+
+pub returns-in_err-fresh-clause-unwritten : goal.returns-in_err-fresh-clause-unwritten
+returns-in_err-fresh-clause-unwritten g c = λ told.
+    let h = c.find_measured.ensures.looks.looks in
+    let r = c.reserve_pages.ensures.looks in
+    if_refused (added (g.D.Tape.tape c.args.disk.now) (g.D.Tape.tape c.reserve_pages.new.disk) ≡ []) c.from_residual-in_err-fresh.result (silent_twice h.alone.grown r.alone.grown (h.silent told) (r.silent told))
+
+pub returns-in_err-write_append-clause-unwritten : goal.returns-in_err-write_append-clause-unwritten
+returns-in_err-write_append-clause-unwritten g c = λ told.
+    never_refused (Unit {0}) (λ x. added (g.D.Tape.tape c.args.disk.now) (g.D.Tape.tape c.write_append.new.disk) ≡ []) c.in_err-write_append.field-0.0 c.from_residual-in_err-write_append.result c.from_residual-in_err-write_append.ensures.1 c.in_err-write_append.ensures.unrefused
+
+pub returns-in_err-length_text-clause-unwritten : goal.returns-in_err-length_text-clause-unwritten
+returns-in_err-length_text-clause-unwritten g c = λ told.
+    never_refused (Unit {0}) (λ x. added (g.D.Tape.tape c.args.disk.now) (g.D.Tape.tape c.write_append.new.disk) ≡ []) stop.Memory c.from_residual-in_err-length_text.result c.from_residual-in_err-length_text.ensures.1 tt
+
+-- ---- the cause of a fault
+pub returns-in_err-found-clause-cause : goal.returns-in_err-found-clause-cause
+returns-in_err-found-clause-cause g c = cause_passed (g.D.Tape.tape c.args.disk.now) (g.D.Tape.tape c.find_measured.new.disk) c.in_err-found.field-0.0 c.from_residual.result c.from_residual.ensures.1 c.in_err-found.ensures.cause
+
+pub returns-in_err-fresh-clause-cause : goal.returns-in_err-fresh-clause-cause
+returns-in_err-fresh-clause-cause g c =
+    cause_after (g.D.Tape.tape c.args.disk.now) (g.D.Tape.tape c.find_measured.new.disk) (g.D.Tape.tape c.reserve_pages.new.disk) c.in_err-fresh.field-0.0 c.from_residual-in_err-fresh.result c.from_residual-in_err-fresh.ensures.1 c.find_measured.ensures.looks.looks.alone.grown c.in_err-fresh.ensures.cause
+
+pub returns-in_err-write_append-clause-cause : goal.returns-in_err-write_append-clause-cause
+returns-in_err-write_append-clause-cause g c =
+    cause_after (g.D.Tape.tape c.args.disk.now) (g.D.Tape.tape c.reserve_pages.new.disk) (g.D.Tape.tape c.write_append.new.disk) c.in_err-write_append.field-0.0 c.from_residual-in_err-write_append.result c.from_residual-in_err-write_append.ensures.1
+    (alone_twice c.find_measured.ensures.looks.looks.alone c.reserve_pages.ensures.looks.alone).grown c.in_err-write_append.ensures.cause
+
+pub returns-in_err-length_text-clause-cause : goal.returns-in_err-length_text-clause-cause
+returns-in_err-length_text-clause-cause g c = cause_passed (g.D.Tape.tape c.args.disk.now) (g.D.Tape.tape c.write_append.new.disk) stop.Memory c.from_residual-in_err-length_text.result c.from_residual-in_err-length_text.ensures.1 tt

@@ -2,7 +2,7 @@ use Rattle.disk_records.proofs.Growing.{alone_twice}
 use Rattle.exec_words.specs.declared.line.Line.TheVariants as line
 use Rattle.exec_session.proofs.Looking.{stays_looked}
 use Rattle.exec_files.proofs.DropAnswers.{delete_drops, goes_on_found, stops_unfound}
-use Rattle.exec_files.proofs.DropFrames.{stays_worked}
+use Rattle.exec_steps.proofs.Frames.{stays_worked, works_looked, works_twice}
 use Rattle.exec_files.proofs.delete.delete_file.Goals as goal
 
 pub returns-in_err-found-clause-turns : goal.returns-in_err-found-clause-turns
@@ -24,7 +24,7 @@ returns-in_err-found-clause-stays g c = stays_looked (g.D.Tape.tape c.args.disk.
 pub returns-clause-stays : goal.returns-clause-stays
 returns-clause-stays g c =
     let alone = alone_twice c.find_deleted.ensures.looks.looks.alone c.drop_line.ensures.alone in
-    stays_worked (g.D.Tape.tape c.args.disk.now) (g.D.Tape.tape c.drop_line.new.disk) c.args.session.now c.find_deleted.new.session c.drop_line.new.session c.find_deleted.ensures.looks.looked c.drop_line.ensures.works alone.grown.form c.requires.obeys.formed
+    stays_worked (g.D.Tape.tape c.args.disk.now) (g.D.Tape.tape c.drop_line.new.disk) (works_twice (works_looked c.find_deleted.ensures.looks.looked) c.drop_line.ensures.works) alone.grown.form c.requires.obeys.formed
 
 pub returns-clause-alone : goal.returns-clause-alone
 returns-clause-alone g c = alone_twice c.find_deleted.ensures.looks.looks.alone c.drop_line.ensures.alone
