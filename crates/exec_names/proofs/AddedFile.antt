@@ -44,9 +44,10 @@ use Rattle.exec_session.specs.Turned.{Turned}
 use Rattle.exec_steps.proofs.Stepping.{if_hint_weaker}
 use Rattle.exec_steps.specs.Asked.{Works}
 use Rattle.exec_names.proofs.Ends.{begins_fits, begins_model, begins_sound, files_are, stops_unwritten}
-use Rattle.exec_names.proofs.Frames.{world_worked}
+use Rattle.exec_steps.proofs.Frames.{world_worked}
 use Rattle.exec_names.proofs.NewSectors.{refused_then}
-use Rattle.exec_names.proofs.Writing.{looked_before, same_count, opening_stops, steps_done, steps_stop}
+use Rattle.exec_steps.proofs.LookedBefore.{looked_before, same_count}
+use Rattle.exec_names.proofs.Writing.{opening_stops, steps_done, steps_stop}
 use Rattle.exec_names.specs.Writes.{IsWritten}
 use Rattle.exec_names.proofs.Adding.{are_free, begins_there, first_placed, may_make, same_but_reserved, some_made, touched_pair, unless_same, unrefused_ops}
 

@@ -79,12 +79,13 @@ use Rattle.exec_names.specs.declared.copy.Copying.{Copying}
 use Rattle.exec_names.proofs.Adding.{are_free, begins_there, first_placed, may_make, unrefused_ops}
 use Rattle.exec_names.proofs.Copying.{few_serials, unmarked}
 use Rattle.exec_names.proofs.Ends.{files_are, stops_unwritten}
-use Rattle.exec_names.proofs.Frames.{world_worked}
+use Rattle.exec_steps.proofs.Frames.{world_worked}
 use Rattle.exec_names.proofs.NamedEntries.{dir_is, dir_stands, given_is, ops_made, pages_made, states, widens_as_planned}
 use Rattle.exec_names.proofs.NewSectors.{below_most, refused_then, serials_spent}
 use Rattle.exec_names.proofs.NewPlaces.{names_place, names_source}
 use Rattle.exec_names.proofs.Refusing.{copy_refused}
-use Rattle.exec_names.proofs.Writing.{MayWrite, looked_before, opened, opening_stops, steps_done}
+use Rattle.exec_steps.proofs.LookedBefore.{looked_before}
+use Rattle.exec_names.proofs.Writing.{MayWrite, opened, opening_stops, steps_done}
 
 -- ---- the refusals that are left
 refusals_meet : (last x y left : ℕ) → (last < most_serials → x ≡ y) → new_refusal last x left ≡ new_refusal last y left

@@ -28,6 +28,7 @@ use Rattle.session_model.specs.Turning.{HintFailing, IsTakenUp, State, cue_files
 use Rattle.session_model.specs.Worlds.{World}
 use Rattle.exec_session.proofs.Looking.{same_but_looked}
 use Rattle.exec_session.proofs.Stopping.{error_is}
+use Rattle.exec_session.proofs.TakingUp.{few_none, goes_on, need_none, plain_text}
 use Rattle.exec_session.proofs.Turning.{line_is_refused, line_stops_unwritten, turned_is_a_turn}
 use Rattle.exec_session.specs.Meant.{IfHint, IfRefused, IsTakenUpBy, Looked, LooksAbout, MayObey, TakesLine, kept, kept_replied, kept_stopped, replied, stopped}
 use Rattle.exec_session.specs.Turned.{Begins, SameBut, Turned}
@@ -35,10 +36,12 @@ use Rattle.exec_session.specs.declared.session.Session.{Session}
 use Rattle.exec_session.specs.declared.stop.Stop.{Stop}
 use Rattle.exec_session.specs.declared.stop.Stop.TheVariants as stop
 use Rattle.exec_names.proofs.NewSectors.{refused_then}
-use Rattle.exec_names.proofs.Reasons.{first_of, refused_by_operands}
+use Rattle.exec_steps.specs.laws_session.specs.RefusedLaws.{first_of}
+use Rattle.exec_names.proofs.Reasons.{refused_by_operands}
 use Rattle.exec_names.specs.Entries.{OperandsRefuse}
 use Rattle.exec_names.specs.Writes.{IsWritten}
-use Rattle.exec_names.proofs.Writing.{kept_before, looked_before}
+use Rattle.exec_steps.proofs.LookedBefore.{looked_before}
+use Rattle.exec_names.proofs.Writing.{kept_before}
 
 -- ---- lines on files
 -- It goes on with the session, isn't obeyed while a scavenge is needed, follows hints of the files that it names, and has no bound on sector
@@ -49,25 +52,6 @@ pub record IsOnFiles (l : Line) : Type 0 where
   pub needs : is_obeyed_in_need l ≡ false
   pub touched : (m : Model) (w : World) → files_touched l m w ≡ files_named l m
   pub few : (p : Pack) (m : Model) (n : ℕ) → DoneWithin p m l n
-
--- so no scavenge is needed as it is taken up
-need_none : (l : Line) (w : World) → is_obeyed_in_need l ≡ false → IsTakenUpBy w l → w.need ≡ false
-unfolding first
-need_none l w obeyed taken =
-    by (is_bad l) w.need (nat_lt w.level (level_of l))
-    (subst (λ b. first (λ r. r) (when (is_bad l) refusal.BadLine ∷ when (w.need && not b) refusal.NeedsScavenge ∷ when (nat_lt w.level (level_of l)) (refusal.NoService (level_of l)) ∷ []) ≡ None) obeyed taken)
-  where
-    by : (bad need low : Bool) → first (λ r. r) (when bad refusal.BadLine ∷ when (need && not false) refusal.NeedsScavenge ∷ when low (refusal.NoService (level_of l)) ∷ []) ≡ None → need ≡ false
-    by bad false low e = refl
-    by true true low e = cc
-    by false true low e = cc
-
-unless_false : (r : Option Refusal) (b : Bool) → b ≡ false → unless_refused r b false ≡ false
-unless_false None b e = e
-unless_false (Some x) b e = refl
-
-pub goes_on : (l : Line) (s : State) → IsOnFiles l → GoesOnWith s l
-goes_on l s on = record { stays = unless_false (refusal_to l s.model s.world) (is_quit l) on.quit; asks = unless_false (refusal_to l s.model s.world) (is_scavenge l) on.scavenge }
 
 -- ---- as it begins, and once it has looked
 pub taken : (old : Taped) (zero : Session) (l : Line) → MayObey old zero l → (s : State) → Keeping (pack old) (kept zero) s → IsTakenUp s (typed l)
@@ -97,7 +81,7 @@ module _ (old mid : Taped) (zero one : Session) (l : Line) (on : IsOnFiles l) (m
           refs = keeping.refs;
         });
     unneeded = unneeded;
-    stays = goes_on l s on;
+    stays = goes_on l s on.quit on.scavenge;
     taken_up = up;
     full = λ i page e. formed_pages_have_256_words (pack mid) i page formed e;
   })
@@ -111,14 +95,6 @@ stops_unwritten T old new one two s l stop.DiskFault keeping goes taken alone si
 stops_unwritten T old new one two s l stop.Memory keeping goes taken alone silent same refused hint = line_stops_unwritten old new one two s l stop.Memory keeping goes taken alone silent same tt tt
 
 -- ---- its end
-few_none : (l : Line) → ((p : Pack) (m : Model) (n : ℕ) → DoneWithin p m l n) → (p : Pack) (m : Model) (r : Reply) (n : ℕ) → RunsWithin p m l r n
-few_none l h p m (reply.Done text) n = h p m n
-few_none l h p m (reply.Refused r) n = tt
-few_none l h p m reply.Quit n = tt
-few_none l h p m reply.Scavenge n = tt
-few_none l h p m reply.DiskFault n = tt
-few_none l h p m reply.Memory n = tt
-
 pub as_turn : (old new : Taped) (one two : Kept) (s : State) (l : Line) (r : Reply) → IsOnFiles l → Turned old new one two s l r → TakesTurn old new one two s (typed l) r
 as_turn old new one two s l r on t = turned_is_a_turn old new one two s l r t (λ handy none. few_none l on.few (pack old) s.model r (new.runs - old.runs))
 
@@ -129,12 +105,6 @@ as_turn_after old mid new zero one two s l r on first next silent writes looked 
     as_turn old new (kept zero) two s l r on
     (looked_before old mid new (kept zero) two s l r first next silent writes
     (kept_before mid new (kept zero) (kept one) two s l r (ap (λ k. k.tally) looked.same) (ap (λ k. k.hints.table) looked.same) t))
-
--- its text, where it isn't refused
-pub plain_text : (l : Line) (s : State) → IsOnFiles l → refusal_to l s.model s.world ≡ None → plain_reply s (typed l) ≡ reply.Done (effect l s.model s.world).text
-plain_text l s on none =
-    ap (λ x. reply_unless x (cond (is_quit l) reply.Quit (reply.Done (text_unless x (effect l s.model s.world).text)))) none
-    ∙ ap (λ b. cond b reply.Quit (reply.Done (effect l s.model s.world).text)) on.quit
 
 -- ---- as it ends from its beginning
 -- its operands refuse it, or it stopped as they were found
@@ -149,7 +119,7 @@ planning_stops T {Z} old new zero one l e r on told may about is refused hint = 
     let silent = about.looks.silent told in
     subst (λ (y : Result (Vec ℕ Z) Stop). TakesTurn old new (kept zero) (kept_replied y (kept one)) s (typed l) (replied y)) (sym (error_is r is))
     (as_turn old new (kept zero) (kept_stopped e (kept one)) s l (stopped e) on
-    (stops_unwritten T old new (kept zero) (kept one) s l e keeping (goes_on l s on) up about.looks.alone silent (same_but_looked old new about.looked (pack-silent about.looks.alone.grown silent))
+    (stops_unwritten T old new (kept zero) (kept one) s l e keeping (goes_on l s on.quit on.scavenge) up about.looks.alone silent (same_but_looked old new about.looked (pack-silent about.looks.alone.grown silent))
     (refused_then {T = T} (OperandsRefuse (pack old) l) (λ x. refusal_to l s.model w ≡ Some x) (Err e) (λ x h. refused_by_operands l s.model w x up (ap (λ m. first_of (by_operands l m)) (sym reads) ∙ h)) (refused sound))
     (subst (λ files. IfHint {T = T} (Err e) (HintFailing (pack old) [] files)) (ap (λ m. files_named l m) reads ∙ sym (on.touched s.model w) ∙ sym (files_are l s up)) (hint sound))))
 
@@ -171,7 +141,7 @@ module _ {told : Bool} {most : ℕ} (old mid new : Taped) (zero one two : Sessio
 
   -- its text is made
   pub writing_done : {Z : Type 0} (text : Vec ℕ Z) → ((s : State) → Begins mid (kept one) s l → IsWritten mid new (kept one) (kept two) s l) → ((s : State) → Begins mid (kept one) s l → text.items ≡ (effect l s.model s.world).text) → TakesLine old new zero two l (Ok text)
-  writing_done text h says = writing_ends (Ok text) (λ s b. subst (Turned mid new (kept one) (kept two) s l) (plain_text l s on (h s b).unrefused ∙ ap reply.Done (sym (says s b))) (h s b).plain)
+  writing_done text h says = writing_ends (Ok text) (λ s b. subst (Turned mid new (kept one) (kept two) s l) (plain_text l s on.quit (h s b).unrefused ∙ ap reply.Done (sym (says s b))) (h s b).plain)
 
 -- ---- what is known as it begins
 begins_needless : {t : Taped} {k : Kept} {s : State} {l : Line} → Begins t k s l → s.world.need ≡ false

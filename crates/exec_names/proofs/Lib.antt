@@ -3,7 +3,6 @@ pub mod Adding
 pub mod CopyLine
 pub mod Copying
 pub mod Ends
-pub mod Frames
 pub mod Leaving
 pub mod NamedEntries
 pub mod NewPlaces

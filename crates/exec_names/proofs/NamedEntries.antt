@@ -48,7 +48,8 @@ use Rattle.exec_session.specs.declared.rooms.NewEntry.{NewEntry}
 use Rattle.exec_steps.specs.Asked.{first_widenings, made_entered}
 use Rattle.exec_names.proofs.Adding.{root_stands}
 use Rattle.exec_names.proofs.Ends.{IsOnFiles, begins_sound}
-use Rattle.exec_names.proofs.Reasons.{first_of, last_two, refused_later}
+use Rattle.exec_steps.specs.laws_session.specs.RefusedLaws.{first_of}
+use Rattle.exec_names.proofs.Reasons.{last_two, refused_later}
 use Rattle.exec_names.specs.Entries.{AddsFile, PlansDir, PlansPath, new_refusal}
 
 -- ---- the operand of `make`, by its directory, the file that is there, and whether the name is taken

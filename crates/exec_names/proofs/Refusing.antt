@@ -27,20 +27,13 @@ use Rattle.exec_session.specs.Meant.{IsTakenUpBy}
 use Rattle.exec_session.proofs.OrdinaryFiles.{directory_of}
 use Rattle.exec_names.specs.Entries.{new_refusal}
 use Rattle.exec_names.specs.Plans.{kinds_refusal, place_refusal}
-use Rattle.exec_names.proofs.Reasons.{first_of, last_two, refused_later}
+use Rattle.exec_steps.specs.laws_session.specs.RefusedLaws.{first_of}
+use Rattle.exec_names.proofs.Reasons.{last_two, refused_later}
 
--- ---- a line that is taken up is typed
+-- ---- two tests
 pub both : (a b : Bool) → (a && b) ≡ true → b ≡ true
 both true b e = e
 both false b e = absurd (let n : false ≡ true = e in cc)
-
-pub taken_typed : (l : Line) (w : World) → IsTakenUpBy w l → is_typed l ≡ true
-unfolding first
-taken_typed l w taken = by (is_typed l) taken
-  where
-    by : (b : Bool) → first_of (when (not b) refusal.BadLine ∷ when (w.need && not (is_obeyed_in_need l)) refusal.NeedsScavenge ∷ when (nat_lt w.level (level_of l)) (refusal.NoService (level_of l)) ∷ []) ≡ None → b ≡ true
-    by true e = refl
-    by false e = absurd (let n : Some refusal.BadLine ≡ None = e in cc)
 
 -- ---- the serial and the room
 abbrev pub copy_line : Target → Path → Line

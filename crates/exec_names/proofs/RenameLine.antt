@@ -61,14 +61,15 @@ use Rattle.exec_names.specs.Writes.{WritesLine}
 use Rattle.exec_names.specs.declared.rename.Renaming.{Renaming}
 use Rattle.exec_names.proofs.Adding.{are_free, begins_there, first_placed, root_stands, same_but_reserved, unrefused_ops}
 use Rattle.exec_names.proofs.Ends.{files_are, stops_unwritten}
-use Rattle.exec_names.proofs.Frames.{world_worked}
+use Rattle.exec_steps.proofs.Frames.{world_worked}
 use Rattle.exec_names.proofs.Leaving.{path_entered}
 use Rattle.exec_names.proofs.NamedEntries.{dir_is, dir_stands, given_is, states, widens_as_planned}
 use Rattle.exec_names.proofs.NewSectors.{few_planned, refused_then}
 use Rattle.exec_names.proofs.NewPlaces.{names_place, names_source, names_source_dirs}
 use Rattle.exec_names.proofs.Refusing.{rename_refused}
 use Rattle.exec_names.proofs.Renaming.{leader_stays}
-use Rattle.exec_names.proofs.Writing.{MayWrite, looked_before, opened, opening_stops, steps_done, steps_stop}
+use Rattle.exec_steps.proofs.LookedBefore.{looked_before}
+use Rattle.exec_names.proofs.Writing.{MayWrite, opened, opening_stops, steps_done, steps_stop}
 
 -- ---- the pages that are planned, as a number of the machine
 full_as_planned : (p : Pack) (e : NewEntry) (n : ℕ) → n ≡ pages_planned e → (r : Refusal) → (r ≡ refusal.Full (min n 65535) (room (read_as p))) × (room (read_as p) < n) → (r ≡ refusal.Full (min (pages_planned e) 65535) (room (read_as p))) × (room (read_as p) < pages_planned e)

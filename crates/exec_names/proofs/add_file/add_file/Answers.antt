@@ -1,9 +1,9 @@
-use Rattle.std.proofs.Common.{◌+◌, ◌∷◌, ℕ, List, [], Result, Ok, Err, get_or, take, sym, subst}
+use Rattle.std.proofs.Common.{◌+◌, ◌≡◌, ◌∷◌, ℕ, List, [], Result, Ok, Err, get_or, take, sym, subst}
 use Rattle.alto_words.specs.Fid.{sys_dir}
 use Rattle.alto_words.specs.declared.fid.Fid.{Fid}
 use Rattle.disk_records.proofs.Growing.{alone_twice}
 use Rattle.disk_records.specs.Addresses.{pages_of}
-use Rattle.disk_records.specs.Tapes.{pack}
+use Rattle.disk_records.specs.Tapes.{added, pack}
 use Rattle.page_seeking.specs.declared.refs.FileRef.{FileRef}
 use Rattle.exec_session.proofs.Stopping.{error_is}
 use Rattle.exec_session.specs.Meant.{kept}
@@ -13,7 +13,7 @@ use Rattle.exec_steps.specs.Asked.{MayMakeEntered, made_entered, made_fid}
 use Rattle.exec_steps.specs.Midway.{StepsOn}
 use Rattle.exec_names.proofs.AddedFile.{asks, file_done, file_stops, has_sectors, mark_stops, may, reserve_stops}
 use Rattle.exec_names.proofs.Ends.{begins_sound}
-use Rattle.exec_names.proofs.Frames.{works_reserved, works_twice}
+use Rattle.exec_steps.proofs.Frames.{cause_after, cause_passed, if_refused, never_refused, works_reserved, works_twice}
 use Rattle.exec_names.specs.Writes.{WritesLine}
 use Rattle.exec_names.proofs.add_file.add_file.Goals as goal
 
@@ -110,3 +110,39 @@ returns-clause-alone g c = alone_twice (alone_twice c.in_ok-fresh.ensures.looks.
 -- no fault is told here
 pub returns-clause-cause : goal.returns-clause-cause
 returns-clause-cause g c = tt
+
+-- ---- a refusal comes before the first record write
+pub returns-in_err-fresh-clause-unwritten : goal.returns-in_err-fresh-clause-unwritten
+returns-in_err-fresh-clause-unwritten g c = λ told. if_refused (added (g.D.Tape.tape c.args.disk.now) (g.D.Tape.tape c.reserve_new.new.disk) ≡ []) c.from_residual.result (c.in_err-fresh.ensures.looks.silent told)
+
+pub returns-in_err-open_mark-clause-unwritten : goal.returns-in_err-open_mark-clause-unwritten
+returns-in_err-open_mark-clause-unwritten g c = λ told. never_refused (Unit {0}) (λ x. added (g.D.Tape.tape c.args.disk.now) (g.D.Tape.tape c.open_mark.new.disk) ≡ []) c.in_err-open_mark.field-0.0 c.from_residual-in_err-open_mark.result c.from_residual-in_err-open_mark.ensures.1 c.in_err-open_mark.ensures.unrefused
+
+pub returns-in_err-file-clause-unwritten : goal.returns-in_err-file-clause-unwritten
+returns-in_err-file-clause-unwritten g c = λ told. never_refused FileRef (λ x. added (g.D.Tape.tape c.args.disk.now) (g.D.Tape.tape c.make_entered.new.disk) ≡ []) c.in_err-file.field-0.0 c.from_residual-in_err-file.result c.from_residual-in_err-file.ensures.1 c.in_err-file.ensures.unrefused
+
+-- ---- the session
+pub returns-in_err-fresh-clause-works : goal.returns-in_err-fresh-clause-works
+returns-in_err-fresh-clause-works g c = let r = c.in_err-fresh.ensures in works_reserved r.same r.sized
+
+pub returns-in_err-open_mark-clause-works : goal.returns-in_err-open_mark-clause-works
+returns-in_err-open_mark-clause-works g c = let r = c.in_ok-fresh.ensures in works_twice (works_reserved r.same r.sized) c.in_err-open_mark.ensures.works
+
+pub returns-in_err-file-clause-works : goal.returns-in_err-file-clause-works
+returns-in_err-file-clause-works g c = let r = c.in_ok-fresh.ensures in works_twice (works_twice (works_reserved r.same r.sized) c.in_ok-open_mark.ensures.works) c.in_err-file.ensures.works
+
+pub returns-clause-works : goal.returns-clause-works
+returns-clause-works g c = let r = c.in_ok-fresh.ensures in works_twice (works_twice (works_reserved r.same r.sized) c.in_ok-open_mark.ensures.works) c.in_ok-file.ensures.works
+
+-- ---- the cause of a fault
+pub returns-in_err-fresh-clause-cause : goal.returns-in_err-fresh-clause-cause
+returns-in_err-fresh-clause-cause g c = cause_passed (g.D.Tape.tape c.args.disk.now) (g.D.Tape.tape c.reserve_new.new.disk) c.in_err-fresh.field-0.0 c.from_residual.result c.from_residual.ensures.1 c.in_err-fresh.ensures.cause
+
+pub returns-in_err-open_mark-clause-cause : goal.returns-in_err-open_mark-clause-cause
+returns-in_err-open_mark-clause-cause g c =
+    cause_after (g.D.Tape.tape c.args.disk.now) (g.D.Tape.tape c.reserve_new.new.disk) (g.D.Tape.tape c.open_mark.new.disk) c.in_err-open_mark.field-0.0 c.from_residual-in_err-open_mark.result c.from_residual-in_err-open_mark.ensures.1 c.in_ok-fresh.ensures.looks.alone.grown c.in_err-open_mark.ensures.cause
+
+pub returns-in_err-file-clause-cause : goal.returns-in_err-file-clause-cause
+returns-in_err-file-clause-cause g c =
+    cause_after (g.D.Tape.tape c.args.disk.now) (g.D.Tape.tape c.open_mark.new.disk) (g.D.Tape.tape c.make_entered.new.disk) c.in_err-file.field-0.0 c.from_residual-in_err-file.result c.from_residual-in_err-file.ensures.1
+    (alone_twice c.in_ok-fresh.ensures.looks.alone c.in_ok-open_mark.ensures.alone).grown c.in_err-file.ensures.cause

@@ -5,7 +5,7 @@ use Rattle.disk_records.proofs.Growing.{alone_twice, silent_twice}
 use Rattle.disk_records.proofs.Looking.{looks_pack}
 use Rattle.disk_records.specs.Addresses.{pages_of}
 use Rattle.disk_records.specs.Packs.{is_free_at}
-use Rattle.disk_records.specs.Tapes.{pack}
+use Rattle.disk_records.specs.Tapes.{added, pack}
 use Rattle.std.specs.declared.alloc.Global.{Global}
 use Rattle.exec_words.specs.declared.line.Line.TheVariants as line
 use Rattle.page_alloc.specs.Free.{IsReserved}
@@ -24,9 +24,9 @@ use Rattle.exec_names.specs.Plans.{MayCopy, copied}
 use Rattle.exec_names.specs.Writes.{WritesLine}
 use Rattle.exec_names.proofs.CopyLine.{asks, copying_ends, left_before, looked_hints, mark_stops, may, pages_asked, reading_stops, refusal_before, reserved_hints, reserves_before, reserving_stops, source_lives, true_before}
 use Rattle.exec_names.proofs.Ends.{begins_sound}
-use Rattle.exec_names.proofs.Frames.{works_looked, works_reserved, works_twice}
+use Rattle.exec_steps.proofs.Frames.{cause_after, cause_passed, if_refused, never_refused, works_looked, works_reserved, works_twice}
 use Rattle.exec_names.proofs.NewSectors.{refused_then}
-use Rattle.exec_names.proofs.Writing.{same_count}
+use Rattle.exec_steps.proofs.LookedBefore.{same_count}
 use Rattle.exec_names.proofs.copy.apply_copy.Goals as goal
 
 -- ---- the disk alone
@@ -161,3 +161,45 @@ returns-clause-writes g c = λ s target path told begins is.
     let asked = asks a b s0 s2 s target path plan begins is alone silent hints bytes read count fresh end reserved free left enough table d s3 c.in_ok-open_mark.field-0 started o.same in
     copying_ends a b s0 s2 s target path plan begins is alone silent hints bytes read count fresh end reserved free left enough table d s3 c.in_ok-open_mark.field-0 started o.same Fid z s4 c.write_copy.result
     (works_twice worked (works_twice o.works w.works)) (alone_twice o.alone w.alone) w.unrefused (steps asked)
+
+-- ---- a refusal comes before the first record write
+pub returns-in_err-bytes-clause-unwritten : goal.returns-in_err-bytes-clause-unwritten
+returns-in_err-bytes-clause-unwritten g c = λ told. if_refused (added (g.D.Tape.tape c.args.disk.now) (g.D.Tape.tape c.bytes_of.new.disk) ≡ []) c.from_residual.result (c.in_err-bytes.ensures.looks.looks.silent told)
+
+pub returns-in_err-fresh-clause-unwritten : goal.returns-in_err-fresh-clause-unwritten
+returns-in_err-fresh-clause-unwritten g c = λ told.
+    let h = c.in_ok-bytes.ensures.looks.looks in
+    let r = c.in_err-fresh.ensures.looks in
+    if_refused (added (g.D.Tape.tape c.args.disk.now) (g.D.Tape.tape c.reserve_new.new.disk) ≡ []) c.from_residual-in_err-fresh.result (silent_twice h.alone.grown r.alone.grown (h.silent told) (r.silent told))
+
+pub returns-in_err-open_mark-clause-unwritten : goal.returns-in_err-open_mark-clause-unwritten
+returns-in_err-open_mark-clause-unwritten g c = λ told. never_refused (Unit {0}) (λ x. added (g.D.Tape.tape c.args.disk.now) (g.D.Tape.tape c.open_mark.new.disk) ≡ []) c.in_err-open_mark.field-0.0 c.from_residual-in_err-open_mark.result c.from_residual-in_err-open_mark.ensures.1 c.in_err-open_mark.ensures.unrefused
+
+pub returns-clause-unwritten : goal.returns-clause-unwritten
+returns-clause-unwritten g c = λ told. refused_then (λ x. ⊥) (λ x. added (g.D.Tape.tape c.args.disk.now) (g.D.Tape.tape c.write_copy.new.disk) ≡ []) c.write_copy.result (λ x none. absurd none) c.write_copy.ensures.unrefused
+
+-- ---- the session
+pub returns-in_err-bytes-clause-works : goal.returns-in_err-bytes-clause-works
+returns-in_err-bytes-clause-works g c = works_looked c.in_err-bytes.ensures.looks.looked
+
+pub returns-in_err-fresh-clause-works : goal.returns-in_err-fresh-clause-works
+returns-in_err-fresh-clause-works g c = let r = c.in_err-fresh.ensures in works_twice (works_looked c.in_ok-bytes.ensures.looks.looked) (works_reserved r.same r.sized)
+
+pub returns-in_err-open_mark-clause-works : goal.returns-in_err-open_mark-clause-works
+returns-in_err-open_mark-clause-works g c = let r = c.in_ok-fresh.ensures in works_twice (works_twice (works_looked c.in_ok-bytes.ensures.looks.looked) (works_reserved r.same r.sized)) c.in_err-open_mark.ensures.works
+
+pub returns-clause-works : goal.returns-clause-works
+returns-clause-works g c = let r = c.in_ok-fresh.ensures in works_twice (works_twice (works_twice (works_looked c.in_ok-bytes.ensures.looks.looked) (works_reserved r.same r.sized)) c.in_ok-open_mark.ensures.works) c.write_copy.ensures.works
+
+-- ---- the cause of a fault
+pub returns-in_err-bytes-clause-cause : goal.returns-in_err-bytes-clause-cause
+returns-in_err-bytes-clause-cause g c = cause_passed (g.D.Tape.tape c.args.disk.now) (g.D.Tape.tape c.bytes_of.new.disk) c.in_err-bytes.field-0.0 c.from_residual.result c.from_residual.ensures.1 c.in_err-bytes.ensures.cause
+
+pub returns-in_err-fresh-clause-cause : goal.returns-in_err-fresh-clause-cause
+returns-in_err-fresh-clause-cause g c =
+    cause_after (g.D.Tape.tape c.args.disk.now) (g.D.Tape.tape c.bytes_of.new.disk) (g.D.Tape.tape c.reserve_new.new.disk) c.in_err-fresh.field-0.0 c.from_residual-in_err-fresh.result c.from_residual-in_err-fresh.ensures.1 c.in_ok-bytes.ensures.looks.looks.alone.grown c.in_err-fresh.ensures.cause
+
+pub returns-in_err-open_mark-clause-cause : goal.returns-in_err-open_mark-clause-cause
+returns-in_err-open_mark-clause-cause g c =
+    cause_after (g.D.Tape.tape c.args.disk.now) (g.D.Tape.tape c.reserve_new.new.disk) (g.D.Tape.tape c.open_mark.new.disk) c.in_err-open_mark.field-0.0 c.from_residual-in_err-open_mark.result c.from_residual-in_err-open_mark.ensures.1
+    (alone_twice c.in_ok-bytes.ensures.looks.looks.alone c.in_ok-fresh.ensures.looks.alone).grown c.in_err-open_mark.ensures.cause

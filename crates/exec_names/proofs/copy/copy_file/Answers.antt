@@ -16,10 +16,11 @@ use Rattle.exec_steps.specs.Asked.{made_fid}
 use Rattle.exec_names.specs.Plans.{IsCopying}
 use Rattle.exec_names.specs.declared.copy.Copying.{Copying}
 use Rattle.exec_names.proofs.Ends.{begins_last, begins_sound, planning_stops, text_missing, writing_done, writing_stops}
-use Rattle.exec_names.proofs.Frames.{stays_worked, works_looked, works_twice}
-use Rattle.exec_names.proofs.Refusing.{both, taken_typed}
+use Rattle.exec_steps.proofs.Frames.{stays_worked, works_looked, works_twice}
+use Rattle.exec_session.proofs.TakingUp.{typed_line}
+use Rattle.exec_names.proofs.Refusing.{both}
 use Rattle.exec_names.proofs.Sorts.{copy_on}
-use Rattle.exec_names.proofs.Writing.{same_count}
+use Rattle.exec_steps.proofs.LookedBefore.{same_count}
 use Rattle.exec_names.proofs.copy.copy_file.Goals as goal
 
 -- what is planned, on the pack that is as it was
@@ -28,7 +29,7 @@ planned_there a b {k} {s} {target} {path} {plan} same begins planned = subst (λ
 
 -- ---- the plan
 pub plan_copy-requires : goal.plan_copy-requires
-plan_copy-requires g c = record { typed = both (is_typed_file c.args.target.now) (is_typed_path c.args.path.now) (taken_typed (line.Copy c.args.target.now c.args.path.now) (world_of (kept c.args.session.now)) c.requires.obeys.taken_up) }
+plan_copy-requires g c = record { typed = both (is_typed_file c.args.target.now) (is_typed_path c.args.path.now) (typed_line (line.Copy c.args.target.now c.args.path.now) (world_of (kept c.args.session.now)) c.requires.obeys.taken_up) }
 
 pub returns-in_err-plan-clause-turns : goal.returns-in_err-plan-clause-turns
 returns-in_err-plan-clause-turns g c = λ told.

@@ -9,10 +9,10 @@ use Rattle.exec_session.specs.Meant.{kept}
 use Rattle.exec_session.specs.declared.rooms.NewEntry.{NewEntry}
 use Rattle.exec_steps.specs.Asked.{made_fid}
 use Rattle.exec_names.proofs.Ends.{begins_last, planning_stops, text_missing, writing_done, writing_stops}
-use Rattle.exec_names.proofs.Frames.{stays_worked, works_looked, works_twice}
+use Rattle.exec_steps.proofs.Frames.{stays_worked, works_looked, works_twice}
 use Rattle.exec_names.proofs.NamedEntries.{make_dir_adds_there, make_dir_on}
-use Rattle.exec_names.proofs.Reasons.{typed_line}
-use Rattle.exec_names.proofs.Writing.{same_count}
+use Rattle.exec_session.proofs.TakingUp.{typed_line}
+use Rattle.exec_steps.proofs.LookedBefore.{same_count}
 use Rattle.exec_names.proofs.mkdir.make_dir.Goals as goal
 
 pub plan_dir-requires : goal.plan_dir-requires

@@ -23,7 +23,7 @@ use Rattle.exec_session.specs.declared.stop.Stop.{Stop}
 use Rattle.exec_steps.proofs.Stepping.{if_hint_weaker}
 use Rattle.exec_names.specs.Entries.{OperandsRefuse, PlansDir}
 use Rattle.exec_names.proofs.Adding.{root_stands, touched_pair}
-use Rattle.exec_names.proofs.Frames.{looks_about_within}
+use Rattle.exec_steps.proofs.Frames.{looks_about_within}
 use Rattle.exec_names.proofs.NamedEntries.{failing_more, make_dir_operand, root_touched}
 use Rattle.exec_names.proofs.NewSectors.{refused_then}
 use Rattle.exec_names.proofs.mkdir.plan_dir.Goals as goal

@@ -23,7 +23,7 @@ use Rattle.exec_session.specs.Rooms.{IsPlanned}
 use Rattle.exec_session.specs.declared.rooms.NewEntry.{NewEntry}
 use Rattle.exec_session.specs.declared.stop.Stop.{Stop}
 use Rattle.exec_names.specs.Entries.{IsNewEntry}
-use Rattle.exec_names.proofs.Frames.{looks_about_within}
+use Rattle.exec_steps.proofs.Frames.{looks_about_within}
 use Rattle.exec_names.proofs.NewSectors.{refused_then}
 use Rattle.exec_names.proofs.new_entry.plan_named.Goals as goal
 

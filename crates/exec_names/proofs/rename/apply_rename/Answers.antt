@@ -10,9 +10,9 @@ use Rattle.exec_steps.specs.Midway.{StepsOn}
 use Rattle.exec_names.specs.Plans.{MayRename, renamed}
 use Rattle.exec_names.specs.Writes.{WritesLine}
 use Rattle.exec_names.proofs.Ends.{begins_sound}
-use Rattle.exec_names.proofs.Frames.{works_reserved, works_twice}
+use Rattle.exec_steps.proofs.Frames.{works_reserved, works_twice}
 use Rattle.exec_names.proofs.RenameLine.{asks, enough_as_planned, files, mark_stops, may, renaming_ends, reserved_as_planned, reserving_stops}
-use Rattle.exec_names.proofs.Writing.{same_count}
+use Rattle.exec_steps.proofs.LookedBefore.{same_count}
 use Rattle.exec_names.proofs.rename.apply_rename.Goals as goal
 
 pub returns-in_err-fresh-clause-writes : goal.returns-in_err-fresh-clause-writes

@@ -13,10 +13,11 @@ use Rattle.exec_session.specs.Turned.{Begins}
 use Rattle.exec_names.specs.Plans.{IsRenaming}
 use Rattle.exec_names.specs.declared.rename.Renaming.{Renaming}
 use Rattle.exec_names.proofs.Ends.{begins_sound, planning_stops, text_missing, writing_done, writing_stops}
-use Rattle.exec_names.proofs.Frames.{stays_worked, works_looked, works_twice}
-use Rattle.exec_names.proofs.Refusing.{both, taken_typed}
+use Rattle.exec_steps.proofs.Frames.{stays_worked, works_looked, works_twice}
+use Rattle.exec_session.proofs.TakingUp.{typed_line}
+use Rattle.exec_names.proofs.Refusing.{both}
 use Rattle.exec_names.proofs.Sorts.{rename_on}
-use Rattle.exec_names.proofs.Writing.{same_count}
+use Rattle.exec_steps.proofs.LookedBefore.{same_count}
 use Rattle.exec_names.proofs.rename.rename_file.Goals as goal
 
 -- what is planned, on the pack that is as it was
@@ -25,7 +26,7 @@ planned_there a b {k} {s} {old} {new} {plan} same begins planned = subst (λ p. 
 
 -- ---- the plan
 pub plan_rename-requires : goal.plan_rename-requires
-plan_rename-requires g c = record { typed = both (is_typed_path c.args.old_path.now) (is_typed_path c.args.new_path.now) (taken_typed (line.Rename c.args.old_path.now c.args.new_path.now) (world_of (kept c.args.session.now)) c.requires.obeys.taken_up) }
+plan_rename-requires g c = record { typed = both (is_typed_path c.args.old_path.now) (is_typed_path c.args.new_path.now) (typed_line (line.Rename c.args.old_path.now c.args.new_path.now) (world_of (kept c.args.session.now)) c.requires.obeys.taken_up) }
 
 pub returns-in_err-plan-clause-turns : goal.returns-in_err-plan-clause-turns
 returns-in_err-plan-clause-turns g c = λ told.
