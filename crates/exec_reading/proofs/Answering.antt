@@ -31,6 +31,7 @@ use Rattle.exec_session.specs.Meant.{IfHint, IfRefused, IsTakenUpBy, LooksAbout,
 use Rattle.exec_session.specs.Turned.{FewRuns, SameBut, Turned}
 use Rattle.exec_session.proofs.Looking.{same_but_looked}
 use Rattle.exec_session.proofs.Stopping.{error_is}
+use Rattle.exec_session.proofs.TakingUp.{goes_on, need_none, plain_text}
 use Rattle.exec_session.proofs.laws.Laws.{line_is_refused, line_stops_unwritten, line_writes_nothing, turned_is_a_turn}
 use Rattle.exec_reading.specs.Reads.{IsSaid, ReadsAs, ReadsRight}
 
@@ -42,31 +43,6 @@ pub record IsReading (l : Line) : Type 0 where
   pub quit : is_quit l ≡ false
   pub scavenge : is_scavenge l ≡ false
   pub needs : is_obeyed_in_need l ≡ false
-
--- so no scavenge is needed as it is taken up
-pub need_none : (l : Line) (w : World) → is_obeyed_in_need l ≡ false → IsTakenUpBy w l → w.need ≡ false
-unfolding first
-need_none l w obeyed taken =
-    by (is_bad l) w.need (nat_lt w.level (level_of l))
-    (subst (λ b. first (λ r. r) (when (is_bad l) refusal.BadLine ∷ when (w.need && not b) refusal.NeedsScavenge ∷ when (nat_lt w.level (level_of l)) (refusal.NoService (level_of l)) ∷ []) ≡ None) obeyed taken)
-  where
-    by : (bad need low : Bool) → first (λ r. r) (when bad refusal.BadLine ∷ when (need && not false) refusal.NeedsScavenge ∷ when low (refusal.NoService (level_of l)) ∷ []) ≡ None → need ≡ false
-    by bad false low e = refl
-    by true true low e = cc
-    by false true low e = cc
-
-unless_false : (r : Option Refusal) (b : Bool) → b ≡ false → unless_refused r b false ≡ false
-unless_false None b e = e
-unless_false (Some x) b e = refl
-
--- ---- few sector commands: of no line but `type` and `append`
-pub few_none : (l : Line) → ((p : Pack) (m : Model) (n : ℕ) → DoneWithin p m l n) → (p : Pack) (m : Model) (r : Reply) (n : ℕ) → RunsWithin p m l r n
-few_none l h p m (reply.Done text) n = h p m n
-few_none l h p m (reply.Refused r) n = tt
-few_none l h p m reply.Quit n = tt
-few_none l h p m reply.Scavenge n = tt
-few_none l h p m reply.DiskFault n = tt
-few_none l h p m reply.Memory n = tt
 
 -- ---- the turn
 module _ {told : Bool} {most : ℕ} (old new : Taped) (one two : Session) (l : Line) (reading : IsReading l) (is_told : IsTrue told) (may : MayObey old one l) (about : LooksAbout told most old new one two)
@@ -86,7 +62,7 @@ module _ {told : Bool} {most : ℕ} (old new : Taped) (one two : Session) (l : L
   stops : (Z : Type 0) (e : Stop) → IfRefused {T = Unit {0}} (Err e) (λ r. ⊥) → IfHint {T = Unit {0}} (Err e) (HintFailing (pack old) [] (files_touched l s.model s.world)) → Turned old new (kept one) (kept_replied {T = Vec ℕ Z} (Err e) (kept two)) s l (replied {Z = Z} (Err e))
   stops Z e unrefused hint =
       line_stops_unwritten old new (kept one) (kept two) s l e keeping
-      (record { stays = unless_false (refusal_to l s.model s.world) (is_quit l) reading.quit; asks = unless_false (refusal_to l s.model s.world) (is_scavenge l) reading.scavenge })
+      (goes_on l s reading.quit reading.scavenge)
       taken about.looks.alone silent same unrefused
       (subst (λ files. IfHint {T = Unit {0}} (Err e) (HintFailing (pack old) [] files)) (sym (ap (λ x. unless_refused x (files_touched l s.model s.world) []) taken)) hint)
 
@@ -95,13 +71,11 @@ module _ {told : Bool} {most : ℕ} (old new : Taped) (one two : Session) (l : L
       let m = s.model in
       let w = s.world in
       let plain : plain_reply s (typed l) ≡ reply.Done text.items =
-      ap (λ x. reply_unless x (cond (is_quit l) reply.Quit (reply.Done (text_unless x (effect l m w).text)))) unrefused
-      ∙ ap (λ b. cond b reply.Quit (reply.Done (effect l m w).text)) reading.quit
-      ∙ ap reply.Done (sym is)
+      plain_text l s reading.quit unrefused ∙ ap reply.Done (sym is)
       in
       subst (Turned old new (kept one) (kept two) s l) plain
       (line_writes_nothing old new (kept one) (kept two) s l keeping
-      (record { stays = unless_false (refusal_to l m w) (is_quit l) reading.quit; asks = unless_false (refusal_to l m w) (is_scavenge l) reading.scavenge })
+      (goes_on l s reading.quit reading.scavenge)
       (ap (λ x. unless_refused x (effect l m w).world w) unrefused ∙ reading.world m w)
       (ap (λ x. unless_refused x (effect l m w).ops []) unrefused ∙ reading.ops m w)
       about.looks.alone silent same)

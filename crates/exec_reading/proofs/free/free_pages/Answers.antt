@@ -5,7 +5,8 @@ use Rattle.exec_words.specs.declared.line.Line.TheVariants as line
 use Rattle.pack_model.specs.reading.Model.{read_as}
 use Rattle.exec_session.specs.Meant.{replied}
 use Rattle.exec_session.proofs.SectorTaking.{free_room}
-use Rattle.exec_reading.proofs.Answering.{few_none, free_reads, passes_memory, reading_turns}
+use Rattle.exec_session.proofs.TakingUp.{few_none}
+use Rattle.exec_reading.proofs.Answering.{free_reads, passes_memory, reading_turns}
 use Rattle.exec_reading.proofs.Passing.{looks_alone, uncounted}
 use Rattle.exec_reading.proofs.Untaken.{free_refused}
 use Rattle.exec_reading.proofs.free.free_pages.Goals as goal

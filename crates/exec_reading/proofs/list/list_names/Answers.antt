@@ -7,7 +7,8 @@ use Rattle.alto_words.specs.Names.{folded_cmp}
 use Rattle.pack_model.specs.showing.Listing.{in_order}
 use Rattle.exec_session.specs.Meant.{replied}
 use Rattle.exec_session.proofs.Looking.{stays_looked}
-use Rattle.exec_reading.proofs.Answering.{few_none, list_reads, passes_memory, passes_stop, reading_turns}
+use Rattle.exec_session.proofs.TakingUp.{few_none}
+use Rattle.exec_reading.proofs.Answering.{list_reads, passes_memory, passes_stop, reading_turns}
 use Rattle.exec_reading.proofs.Names.{names_among}
 use Rattle.exec_reading.proofs.list.list_names.Goals as goal
 

@@ -5,7 +5,8 @@ use Rattle.exec_words.specs.declared.line.Line.TheVariants as line
 use Rattle.exec_words.specs.declared.reply.Stat.{Stat}
 use Rattle.exec_session.specs.Meant.{replied}
 use Rattle.exec_session.proofs.Looking.{stays_looked}
-use Rattle.exec_reading.proofs.Answering.{few_none, passes_memory, passes_stop, reading_turns, stat_reads}
+use Rattle.exec_session.proofs.TakingUp.{few_none}
+use Rattle.exec_reading.proofs.Answering.{passes_memory, passes_stop, reading_turns, stat_reads}
 use Rattle.exec_reading.proofs.stat.stat_file.Goals as goal
 
 pub returns-in_err-stat-clause-turns : goal.returns-in_err-stat-clause-turns

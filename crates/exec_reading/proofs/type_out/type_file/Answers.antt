@@ -5,7 +5,8 @@ use Rattle.exec_words.specs.declared.line.Line.TheVariants as line
 use Rattle.exec_session.specs.Meant.{IsTakenUpBy}
 use Rattle.exec_session.specs.declared.stop.Stop.TheVariants as stop
 use Rattle.exec_session.proofs.Looking.{stays_looked}
-use Rattle.exec_reading.proofs.Answering.{need_none, passes_memory, passes_stop, reading_turns, type_reads}
+use Rattle.exec_session.proofs.TakingUp.{need_none}
+use Rattle.exec_reading.proofs.Answering.{passes_memory, passes_stop, reading_turns, type_reads}
 use Rattle.exec_reading.proofs.Passing.{few_stopped, type_few}
 use Rattle.exec_reading.proofs.type_out.type_file.Goals as goal
 
