@@ -1,12 +1,12 @@
 -- Bytes after those of a file: their line by the model, and what is asked of its step.
-use Rattle.std.proofs.Common.{◌≡◌, ◌≤◌, ◌<◌, ◌∙◌, ◌∷◌, ◌++◌, ◌+◌, ◌-◌, ◌/◌, ◌&&◌, ℕ, Bool, true, false, not, nat_le, nat_lt, List, [], length, Option, Some, None, Result, Ok, append-nil, arith, ap, refl, sym, subst}
+use Rattle.std.proofs.Common.{◌≡◌, ◌≤◌, ◌<◌, ◌∙◌, ◌∷◌, ◌++◌, ◌+◌, ◌-◌, ◌/◌, ◌&&◌, ℕ, Bool, true, false, nat_le, List, [], length, Option, Some, None, Result, Ok, append-nil, arith, ap, refl, sym, subst}
 use Rattle.std.proofs.lemmas.Bool.Decides.{nat_tests}
 use Rattle.alto_words.specs.declared.fid.Fid.{Fid}
 use Rattle.disk_records.specs.Packs.{Pack}
 use Rattle.disk_records.specs.Tapes.{Taped, pack}
 use Rattle.disk_records.specs.declared.records.Place.{Place}
 use Rattle.exec_words.specs.Texts.{length_text}
-use Rattle.exec_words.specs.Typed.{is_typed, is_typed_file}
+use Rattle.exec_words.specs.Typed.{is_typed_file}
 use Rattle.exec_words.specs.declared.line.Line.{Line}
 use Rattle.exec_words.specs.declared.line.Line.TheVariants as line
 use Rattle.exec_words.specs.declared.line.Target.{Target}
@@ -18,14 +18,12 @@ use Rattle.page_seeking.specs.Seeking.{file_length}
 use Rattle.page_seeking.specs.declared.refs.FileRef.{FileRef}
 use Rattle.pack_model.specs.operations.Committing.{length_of, pages_added, pages_for_operations}
 use Rattle.pack_model.specs.operations.Step.Operation.{grow, stamp}
-use Rattle.pack_model.specs.reading.Files.{first}
 use Rattle.pack_model.specs.reading.Model.{Model, read_as, room}
 use Rattle.pack_model.specs.states.Sound.{Sound}
 use Rattle.session_model.specs.Effects.{appended_ops, effect}
 use Rattle.session_model.specs.Finding.{file_at, the_file}
 use Rattle.session_model.specs.Keeping.{Kept}
-use Rattle.session_model.specs.Operands.{level_of}
-use Rattle.session_model.specs.Refusals.{by_room, is_obeyed_in_need, is_streamed, when}
+use Rattle.session_model.specs.Refusals.{by_room, is_streamed, when}
 use Rattle.session_model.specs.Replies.{refusal as refusal_to}
 use Rattle.session_model.specs.Streams.{grows}
 use Rattle.session_model.specs.Worlds.{World}

@@ -1,5 +1,5 @@
 -- A line that drops one file, from the call that finds it, as a turn.
-use Rattle.std.proofs.Common.{◌≡◌, ◌&&◌, ◌-◌, ◌∷◌, ◌∙◌, Bool, Contains, Err, IsTrue, List, None, Ok, Option, Result, Some, Vec, [], ap, cond, false, nat_lt, not, refl, subst, sym, true, ℕ}
+use Rattle.std.proofs.Common.{◌≡◌, ◌-◌, ◌∷◌, ◌∙◌, Bool, Contains, Err, IsTrue, List, None, Ok, Result, Some, Vec, [], ap, false, refl, subst, sym, ℕ}
 use Rattle.std.specs.Result.{IsErrAnd}
 use Rattle.disk_records.proofs.Growing.{pack-silent}
 use Rattle.disk_records.specs.Events.{writes_in}
@@ -9,22 +9,16 @@ use Rattle.exec_words.specs.Texts.{done_text}
 use Rattle.exec_words.specs.declared.line.Line.{Line}
 use Rattle.exec_words.specs.declared.line.Line.TheVariants as line
 use Rattle.exec_words.specs.declared.line.Path.{Path}
-use Rattle.exec_words.specs.declared.reply.Refusal.{Refusal}
-use Rattle.exec_words.specs.declared.reply.Refusal.TheVariants as refusal
-use Rattle.exec_words.specs.declared.reply.Reply.{Reply}
 use Rattle.exec_words.specs.declared.reply.Reply.TheVariants as reply
 use Rattle.exec_steps.specs.laws_contents.proofs.pages.Laws.{formed_pages_have_256_words}
-use Rattle.exec_steps.specs.laws_session.specs.LineAnswers.{GoesOnWith}
 use Rattle.pack_model.specs.reading.Files.{first}
 use Rattle.pack_model.specs.reading.Model.{Model, read_as}
 use Rattle.pack_model.specs.states.Sound.{Sound}
-use Rattle.session_model.specs.Answering.{reply_unless}
-use Rattle.session_model.specs.Bounds.{DoneWithin, RunsWithin}
+use Rattle.session_model.specs.Bounds.{DoneWithin}
 use Rattle.session_model.specs.Effects.{effect}
 use Rattle.session_model.specs.Keeping.{Keeping, world_of}
-use Rattle.session_model.specs.Operands.{level_of}
-use Rattle.session_model.specs.Refusals.{is_bad, is_obeyed_in_need, when}
-use Rattle.session_model.specs.Replies.{refusal as refusal_to, text_unless, unless_refused}
+use Rattle.session_model.specs.Refusals.{is_obeyed_in_need}
+use Rattle.session_model.specs.Replies.{refusal as refusal_to, unless_refused}
 use Rattle.session_model.specs.Touched.{files_touched}
 use Rattle.session_model.specs.Turning.{HintFailing, IsTakenUp, State, is_quit, is_scavenge, typed}
 use Rattle.session_model.specs.Worlds.{World}

@@ -1,11 +1,10 @@
 -- What `delete` and `rmdir` are refused for: the tests of their operand, in their order, and nothing else.
-use Rattle.std.proofs.Common.{◌≡◌, ◌||◌, ◌∷◌, ◌++◌, ◌∙◌, Bool, List, None, Option, Some, [], ap, arith, false, length, nat_lt, not, refl, true, ℕ}
+use Rattle.std.proofs.Common.{◌≡◌, ◌||◌, ◌∷◌, ◌∙◌, Bool, List, None, Option, Some, [], ap, arith, false, length, nat_lt, not, refl, true, ℕ}
 use Rattle.std.proofs.lemmas.Bool.{le-ltb, lt-ltb}
 use Rattle.std.specs.List.{list_any}
 use Rattle.std.specs.Option.{option_or}
 use Rattle.alto_words.specs.declared.fid.Fid.{Fid}
 use Rattle.alto_words.specs.Fid.{disk_descriptor, is_directory, is_fid, is_system, sys_dir}
-use Rattle.exec_words.specs.declared.line.Line.{Line}
 use Rattle.exec_words.specs.declared.line.Line.TheVariants as line
 use Rattle.exec_words.specs.declared.line.Path.{Path}
 use Rattle.exec_words.specs.declared.line.Target.TheVariants.{ByPath}
@@ -19,10 +18,9 @@ use Rattle.pack_model.specs.reading.Model.{Model, room}
 use Rattle.pack_model.specs.reading.Namings.{namings_in}
 use Rattle.pack_model.specs.reading.Slots.{Item}
 use Rattle.pack_model.specs.reading.Slots.Item.{entry, space}
-use Rattle.session_model.specs.Effects.{effect}
 use Rattle.session_model.specs.Finding.{file_at, has_entry}
 use Rattle.session_model.specs.Operands.{Operand, in_root, no_directory, removed}
-use Rattle.session_model.specs.Refusals.{by_line, is_streamed, left_in, not_empty, of_system, of_taken_name, of_wrong_kind, missing, reasons, when, when_found, when_missing, wrong_kind, wrong_system}
+use Rattle.session_model.specs.Refusals.{is_streamed, left_in, not_empty, of_system, of_taken_name, of_wrong_kind, missing, when, when_found, when_missing, wrong_kind, wrong_system}
 use Rattle.session_model.specs.Replies.{refusal as refusal_to}
 use Rattle.session_model.specs.Worlds.{World}
 use Rattle.exec_session.specs.Found.{operand, operand_tests}

@@ -7,7 +7,7 @@ use Rattle.alto_words.specs.Fid.{sys_dir}
 use Rattle.disk_records.proofs.Growing.{pack-silent}
 use Rattle.disk_records.specs.Events.{writes_in}
 use Rattle.disk_records.specs.Packs.{AreFormed, Pack, is_free_at}
-use Rattle.disk_records.specs.Tapes.{DiskAlone, Taped, added, capped, pack}
+use Rattle.disk_records.specs.Tapes.{Taped, capped, pack}
 use Rattle.exec_words.specs.declared.line.Line.{Line}
 use Rattle.exec_words.specs.declared.line.Target.{Target}
 use Rattle.exec_words.specs.declared.reply.Refusal.{Refusal}

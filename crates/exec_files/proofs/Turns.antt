@@ -1,16 +1,13 @@
 -- A line that writes, as a turn: refused or stopped before its first record write, broken off, or done.
-use Rattle.std.proofs.Common.{◌≡◌, ◌≤◌, ◌<◌, ◌∙◌, ◌-◌, ◌&&◌, ◌++◌, ◌∷◌, ℕ, Bool, true, false, cond, not, nat_lt, List, [], length, slice_get, Contains, Option, Some, None, Vec, Result, Ok, Err, refl, sym, subst, ap, append-nil, arith}
+use Rattle.std.proofs.Common.{◌≡◌, ◌≤◌, ◌<◌, ◌∙◌, ◌-◌, ◌∷◌, ℕ, false, List, [], length, slice_get, Contains, Some, None, Vec, Result, Ok, Err, refl, sym, subst, ap, append-nil, arith}
 use Rattle.std.specs.Result.{IsErrAnd}
 use Rattle.alto_words.specs.declared.fid.Fid.{Fid}
 use Rattle.alto_words.specs.Fid.{disk_descriptor}
-use Rattle.disk_records.proofs.Growing.{added-twice, pack-silent}
+use Rattle.disk_records.proofs.Growing.{pack-silent}
 use Rattle.disk_records.specs.Packs.{AreFormed, Pack}
 use Rattle.disk_records.specs.Tapes.{DiskAlone, Taped, added, pack}
 use Rattle.disk_records.specs.declared.records.Event.{Event}
 use Rattle.exec_words.specs.declared.line.Line.{Line}
-use Rattle.exec_words.specs.declared.reply.Refusal.{Refusal}
-use Rattle.exec_words.specs.declared.reply.Refusal.TheVariants as refusal
-use Rattle.exec_words.specs.declared.reply.Reply.{Reply}
 use Rattle.exec_words.specs.declared.reply.Reply.TheVariants as reply
 use Rattle.exec_steps.specs.laws_call.specs.SoundCalls.{LineFits}
 use Rattle.exec_steps.specs.laws_contents.proofs.pages.Laws.{formed_pages_have_256_words}
@@ -19,22 +16,19 @@ use Rattle.exec_steps.specs.laws_line.specs.SoundLines.{IsKindOfLine}
 use Rattle.exec_steps.specs.laws_room.proofs.rooms.Laws.{free_is_the_room}
 use Rattle.exec_steps.specs.laws_session.specs.LineAnswers.{GoesOnWith}
 use Rattle.pack_model.specs.hints.Tables.{TableTrue}
-use Rattle.pack_model.specs.hints.Truth.{Truthful}
 use Rattle.pack_model.specs.operations.Committing.{pages_for_operations}
 use Rattle.pack_model.specs.operations.Step.{Operation}
-use Rattle.pack_model.specs.reading.Files.{first, place}
+use Rattle.pack_model.specs.reading.Files.{place}
 use Rattle.pack_model.specs.reading.Model.{Model, read_as, room}
 use Rattle.pack_model.specs.reading.Sights.{sights}
 use Rattle.pack_model.specs.sessions.Descriptor.{DescriptorFits}
-use Rattle.pack_model.specs.sessions.Tallies.{counted}
 use Rattle.pack_model.specs.states.Sound.{Sound}
-use Rattle.session_model.specs.Answering.{Answered, IsAnswer, TakesTurn, TellsWrites, plain_reply, reply_unless}
+use Rattle.session_model.specs.Answering.{TakesTurn, plain_reply}
 use Rattle.session_model.specs.Bounds.{RunsWithin}
 use Rattle.session_model.specs.Effects.{effect}
 use Rattle.session_model.specs.Keeping.{Keeping, Kept, world_of}
-use Rattle.session_model.specs.Operands.{level_of}
-use Rattle.session_model.specs.Refusals.{is_bad, is_obeyed_in_need, when}
-use Rattle.session_model.specs.Replies.{refusal as refusal_to, text_unless, unless_refused}
+use Rattle.session_model.specs.Refusals.{is_obeyed_in_need}
+use Rattle.session_model.specs.Replies.{refusal as refusal_to, unless_refused}
 use Rattle.session_model.specs.Touched.{files_touched}
 use Rattle.session_model.specs.Turning.{HintFailing, IsTakenUp, State, cue_files, is_quit, is_scavenge, typed}
 use Rattle.session_model.specs.Worlds.{World}

@@ -1,13 +1,11 @@
 -- A line on files as a turn of the session: as it begins, when it is stopped before it wrote, and at its end.
-use Rattle.std.proofs.Common.{◌≡◌, ◌&&◌, ℕ, Bool, true, false, cond, not, nat_lt, [], ◌∷◌, Option, Some, None, Vec, Result, Ok, Err, ◌-◌, refl, sym, subst, ap, ◌∙◌}
+use Rattle.std.proofs.Common.{◌≡◌, ℕ, Bool, false, [], Some, Vec, Result, Ok, Err, ◌-◌, sym, subst, ap, ◌∙◌}
 use Rattle.std.specs.Prelude.{IsTrue}
 use Rattle.std.specs.Result.{IsErrAnd}
 use Rattle.disk_records.proofs.Growing.{pack-silent}
 use Rattle.disk_records.specs.Packs.{AreFormed, Pack}
 use Rattle.disk_records.specs.Tapes.{DiskAlone, Taped, added, pack}
 use Rattle.exec_words.specs.declared.line.Line.{Line}
-use Rattle.exec_words.specs.declared.reply.Refusal.{Refusal}
-use Rattle.exec_words.specs.declared.reply.Refusal.TheVariants as refusal
 use Rattle.exec_words.specs.declared.reply.Reply.{Reply}
 use Rattle.exec_words.specs.declared.reply.Reply.TheVariants as reply
 use Rattle.exec_steps.specs.laws_contents.proofs.pages.Laws.{formed_pages_have_256_words}
@@ -16,13 +14,12 @@ use Rattle.pack_model.specs.reading.Files.{first}
 use Rattle.pack_model.specs.reading.Model.{Model, read_as}
 use Rattle.pack_model.specs.sessions.Descriptor.{DescriptorFits}
 use Rattle.pack_model.specs.states.Sound.{Sound}
-use Rattle.session_model.specs.Answering.{TakesTurn, plain_reply, reply_unless}
-use Rattle.session_model.specs.Bounds.{DoneWithin, RunsWithin}
+use Rattle.session_model.specs.Answering.{TakesTurn}
+use Rattle.session_model.specs.Bounds.{DoneWithin}
 use Rattle.session_model.specs.Effects.{effect}
 use Rattle.session_model.specs.Keeping.{Keeping, Kept}
-use Rattle.session_model.specs.Operands.{level_of}
-use Rattle.session_model.specs.Refusals.{by_operands, is_bad, is_obeyed_in_need, when}
-use Rattle.session_model.specs.Replies.{refusal as refusal_to, text_unless, unless_refused}
+use Rattle.session_model.specs.Refusals.{by_operands, is_obeyed_in_need}
+use Rattle.session_model.specs.Replies.{refusal as refusal_to, unless_refused}
 use Rattle.session_model.specs.Touched.{files_named, files_touched}
 use Rattle.session_model.specs.Turning.{HintFailing, IsTakenUp, State, cue_files, is_quit, is_scavenge, typed}
 use Rattle.session_model.specs.Worlds.{World}

@@ -1,7 +1,6 @@
 -- What lines are refused for, in order: by their operands, and by what comes after these.
-use Rattle.std.proofs.Common.{◌≡◌, ◌&&◌, nat_lt, Bool, true, false, not, List, [], ◌∷◌, ◌++◌, Option, Some, None, refl, ap, ◌∙◌}
+use Rattle.std.proofs.Common.{◌≡◌, List, [], ◌∷◌, Option, Some, None, refl}
 use Rattle.std.specs.Option.{option_or}
-use Rattle.exec_words.specs.Typed.{is_typed}
 use Rattle.exec_words.specs.declared.line.Line.{Line}
 use Rattle.exec_words.specs.declared.reply.Refusal.{Refusal}
 use Rattle.exec_words.specs.declared.reply.Refusal.TheVariants as refusal
@@ -11,8 +10,7 @@ use Rattle.pack_model.specs.operations.Step.{Operation}
 use Rattle.pack_model.specs.reading.Files.{first}
 use Rattle.pack_model.specs.reading.Model.{Model}
 use Rattle.session_model.specs.Effects.{effect}
-use Rattle.session_model.specs.Operands.{level_of}
-use Rattle.session_model.specs.Refusals.{beyond, by_line, by_memory, by_operands, by_room, by_world, is_obeyed_in_need, meets_stream, no_such_stream, reasons, spent, too_many, when}
+use Rattle.session_model.specs.Refusals.{beyond, by_memory, by_operands, by_room, by_world, meets_stream, no_such_stream, spent, too_many, when}
 use Rattle.session_model.specs.Replies.{refusal as refusal_to}
 use Rattle.session_model.specs.Worlds.{World}
 use Rattle.exec_session.specs.Meant.{IsTakenUpBy}

@@ -1,10 +1,9 @@
 -- What `copy` and `rename` are refused for: the tests of their operands in their order, then the serial and the room, and nothing else.
-use Rattle.std.proofs.Common.{◌≡◌, ◌&&◌, Bool, true, false, not, nat_le, nat_lt, [], ◌∷◌, Option, Some, None, refl, ap, ◌∙◌}
+use Rattle.std.proofs.Common.{◌≡◌, ◌&&◌, Bool, true, false, not, nat_le, [], ◌∷◌, Option, Some, None, refl, ap, ◌∙◌}
 use Rattle.std.specs.Option.{option_or}
 use Rattle.alto_words.specs.declared.fid.Fid.{Fid}
 use Rattle.alto_words.specs.Fid.{disk_descriptor, is_directory, is_fid}
 use Rattle.disk_records.specs.Packs.{Pack}
-use Rattle.exec_words.specs.Typed.{is_typed}
 use Rattle.exec_words.specs.declared.line.Line.{Line}
 use Rattle.exec_words.specs.declared.line.Line.TheVariants as line
 use Rattle.exec_words.specs.declared.line.Path.{Path}
@@ -18,8 +17,8 @@ use Rattle.pack_model.specs.reading.Model.{Model, read_as, room}
 use Rattle.pack_model.specs.states.Sound.{Sound}
 use Rattle.session_model.specs.Effects.{effect}
 use Rattle.session_model.specs.Finding.{dir_of, file_at, is_path_taken}
-use Rattle.session_model.specs.Operands.{level_of, new_file, no_directory}
-use Rattle.session_model.specs.Refusals.{by_operands, by_room, dir_at, is_obeyed_in_need, is_streamed, left_in, most_serials, of_taken_name, taken_target, when, when_found, when_missing, wrong_kind, wrong_system}
+use Rattle.session_model.specs.Operands.{new_file, no_directory}
+use Rattle.session_model.specs.Refusals.{by_operands, by_room, dir_at, is_streamed, left_in, most_serials, of_taken_name, taken_target, when, when_found, when_missing, wrong_kind, wrong_system}
 use Rattle.session_model.specs.Replies.{refusal as refusal_to}
 use Rattle.session_model.specs.Worlds.{World}
 use Rattle.exec_session.specs.Found.{operand}

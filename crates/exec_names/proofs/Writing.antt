@@ -1,11 +1,7 @@
 -- A line that has found its operands and reserved its sectors: how it ends as a turn, over the opening of the mark and its steps.
-use Rattle.std.proofs.Common.{◌≡◌, ◌<◌, ◌++◌, ℕ, Contains, List, [], ◌∷◌, Option, None, Result, Ok, Err, append-nil, length, sym, subst, ap, ◌∙◌, arith}
+use Rattle.std.proofs.Common.{◌≡◌, ◌<◌, ℕ, Contains, List, [], ◌∷◌, Option, None, Result, Ok, Err, append-nil, length, sym, subst, ap, ◌∙◌, arith}
 use Rattle.alto_words.specs.declared.fid.Fid.{Fid}
-use Rattle.disk_records.proofs.Growing.{added-twice, pack-silent}
-use Rattle.disk_records.specs.Packs.{Pack}
-use Rattle.disk_records.specs.Events.{writes_in}
-use Rattle.disk_records.specs.Tapes.{DiskAlone, Taped, added, capped, pack}
-use Rattle.disk_records.specs.declared.records.Event.{Event}
+use Rattle.disk_records.specs.Tapes.{DiskAlone, Taped, added, pack}
 use Rattle.disk_records.specs.declared.records.Page.{Page}
 use Rattle.disk_records.specs.declared.records.Place.{Place}
 use Rattle.exec_words.specs.declared.line.Line.{Line}
@@ -13,13 +9,10 @@ use Rattle.exec_words.specs.declared.reply.Reply.{Reply}
 use Rattle.exec_steps.specs.laws_call.specs.SoundCalls.{LineFits}
 use Rattle.pack_model.specs.hints.Truth.{Truthful}
 use Rattle.pack_model.specs.operations.Step.{Operation}
-use Rattle.pack_model.specs.sessions.Meanings.{session}
-use Rattle.pack_model.specs.sessions.Moves.{IsStartOf, Obeys}
 use Rattle.pack_model.specs.sessions.Tallies.{counted}
-use Rattle.session_model.specs.Answering.{Answered, Answers}
 use Rattle.session_model.specs.Keeping.{Kept}
 use Rattle.session_model.specs.Replies.{refusal as refusal_to}
-use Rattle.session_model.specs.Turning.{HintFailing, State, cue_files, cue_moves, typed}
+use Rattle.session_model.specs.Turning.{HintFailing, State, cue_files, typed}
 use Rattle.exec_session.specs.Meant.{IfHint, IfRefused, kept_stopped, stopped}
 use Rattle.exec_session.specs.Turned.{Begins, LeavesWorld, SameWorld, Turned, line_ops}
 use Rattle.exec_session.specs.declared.stop.Stop.{Stop}

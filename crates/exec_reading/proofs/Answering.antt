@@ -1,5 +1,5 @@
 -- The call of a line that only reads, as a turn.
-use Rattle.std.proofs.Common.{◌≡◌, ◌&&◌, ℕ, Bool, true, false, cond, not, nat_lt, List, [], ◌∷◌, Option, Some, None, Vec, Result, Ok, Err, IfOk, IsTrue, refl, sym, subst, ap, ◌∙◌}
+use Rattle.std.proofs.Common.{◌≡◌, ℕ, Bool, false, List, [], Option, Some, None, Vec, Result, Ok, Err, IfOk, IsTrue, refl, sym, subst, ap, ◌∙◌}
 use Rattle.std.specs.Result.{IsErrAnd}
 use Rattle.disk_records.proofs.Growing.{pack-silent}
 use Rattle.disk_records.specs.Packs.{Pack}
@@ -7,20 +7,14 @@ use Rattle.disk_records.specs.Tapes.{Taped, added, pack}
 use Rattle.exec_words.specs.declared.line.Line.{Line}
 use Rattle.exec_words.specs.declared.line.Line.TheVariants as line
 use Rattle.exec_words.specs.declared.line.Target.{Target}
-use Rattle.exec_words.specs.declared.reply.Refusal.{Refusal}
-use Rattle.exec_words.specs.declared.reply.Refusal.TheVariants as refusal
-use Rattle.exec_words.specs.declared.reply.Reply.{Reply}
 use Rattle.exec_words.specs.declared.reply.Reply.TheVariants as reply
-use Rattle.pack_model.specs.reading.Files.{first}
 use Rattle.pack_model.specs.reading.Model.{Model, read_as}
 use Rattle.pack_model.specs.states.Sound.{Sound}
-use Rattle.session_model.specs.Answering.{plain_reply, reply_unless}
-use Rattle.session_model.specs.Bounds.{DoneWithin, RunsWithin}
+use Rattle.session_model.specs.Answering.{plain_reply}
 use Rattle.session_model.specs.Effects.{effect}
 use Rattle.session_model.specs.Keeping.{Keeping, world_of}
-use Rattle.session_model.specs.Operands.{level_of}
-use Rattle.session_model.specs.Refusals.{is_bad, is_obeyed_in_need, when}
-use Rattle.session_model.specs.Replies.{refusal as refusal_to, text_unless, unless_refused}
+use Rattle.session_model.specs.Refusals.{is_obeyed_in_need}
+use Rattle.session_model.specs.Replies.{refusal as refusal_to, unless_refused}
 use Rattle.session_model.specs.Touched.{files_touched}
 use Rattle.session_model.specs.Turning.{HintFailing, IsTakenUp, State, is_quit, is_scavenge, typed}
 use Rattle.session_model.specs.Worlds.{World}

@@ -1,14 +1,14 @@
 -- The bytes of a file that are read in parts, and how many sector commands they take.
-use Rattle.std.proofs.Common.{◌≡◌, ◌⊎◌, ◌≤◌, ◌<◌, ◌+◌, ◌-◌, ◌*◌, ◌/◌, ℕ, zero, suc, Bool, IsTrue, List, [], ◌∷◌, ◌++◌, length, take, drop, inl, inr, Result, Ok, Err, IfOk, refl, sym, ap, subst, ◌∙◌, arith}
-use Rattle.std.proofs.Math.Seq.{take-add, take-append_seam}
-use Rattle.std.proofs.lemmas.List.{length-take-le, take_all, take_at}
+use Rattle.std.proofs.Common.{◌≡◌, ◌⊎◌, ◌≤◌, ◌<◌, ◌+◌, ◌-◌, ◌*◌, ◌/◌, ℕ, zero, suc, Bool, List, ◌++◌, length, take, drop, inl, inr, Result, Ok, Err, IfOk, refl, sym, ap, subst, ◌∙◌, arith}
+use Rattle.std.proofs.Math.Seq.{take-add}
+use Rattle.std.proofs.lemmas.List.{take_all}
 use Rattle.std.specs.Result.{IsErrAnd}
 use Rattle.alto_words.specs.declared.fid.Fid.{Fid}
 use Rattle.disk_records.specs.Packs.{Pack}
 use Rattle.disk_records.specs.Tapes.{Taped, pack}
 use Rattle.hint_cache.specs.Caches.{Cached}
 use Rattle.directory.specs.laws_midway.proofs.growing.Laws.{last_page_has_a_number}
-use Rattle.page_seeking.specs.Parts.{IsListed, IsWithinPart, ListsNext}
+use Rattle.page_seeking.specs.Parts.{ListsNext}
 use Rattle.page_seeking.specs.Seeking.{Refused, file_length}
 use Rattle.pack_model.specs.operations.Committing.{page_of_byte}
 use Rattle.pack_model.specs.states.Whole.{Whole}

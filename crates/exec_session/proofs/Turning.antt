@@ -1,5 +1,5 @@
 -- A line that writes nothing as a turn: what is kept stays right, and the tally and hints are as they were.
-use Rattle.std.proofs.Common.{◌≡◌, ℕ, Bool, true, false, cond, List, [], Err, map, refl, sym, subst, ap, ◌∙◌, All, arith}
+use Rattle.std.proofs.Common.{◌≡◌, Bool, true, false, cond, List, [], map, refl, sym, subst, ap, ◌∙◌, All, arith}
 use Rattle.disk_records.proofs.Growing.{pack-silent}
 use Rattle.disk_records.specs.Packs.{Pack}
 use Rattle.disk_records.specs.declared.records.Event.{Event}
@@ -10,7 +10,7 @@ use Rattle.exec_words.specs.declared.reply.Reply.TheVariants as reply
 use Rattle.laws_session.proofs.ends.Laws.{failed_turns_keep}
 use Rattle.laws_session.proofs.lines.Laws.{prefixes_answer, silent_lines_answer}
 use Rattle.laws_session.specs.LineAnswers.{GoesOnWith, PrefixAnswers, plain_state, state_in_need}
-use Rattle.pack_model.specs.hints.Tables.{HintsTrue, TableTrue}
+use Rattle.pack_model.specs.hints.Tables.{HintsTrue}
 use Rattle.pack_model.specs.hints.Links.{LinksTrue}
 use Rattle.pack_model.specs.hints.Sources.{IsFrom}
 use Rattle.pack_model.specs.hints.Truth.{Truthful}
@@ -23,15 +23,12 @@ use Rattle.pack_model.specs.sessions.Meanings.{SessionCut, session}
 use Rattle.pack_model.specs.sessions.Moves.{Obeys, rest, steps, write}
 use Rattle.pack_model.specs.sessions.Tallies.{counted}
 use Rattle.pack_model.specs.states.Sound.{Sound, mark_clean, mark_of}
-use Rattle.session_model.specs.Answering.{Answered, IsAnswer, plain_reply, reply_unless}
+use Rattle.session_model.specs.Answering.{Answered, plain_reply, reply_unless}
 use Rattle.session_model.specs.Keeping.{Keeping, Kept, StreamFits, stream_of, world_of}
 use Rattle.session_model.specs.Effects.{effect}
 use Rattle.session_model.specs.Replies.{ops, reply_to, unless_refused}
-use Rattle.session_model.specs.Turning.{HintFailing, IsTakenUp, State, cue_files, cue_moves, is_quit, is_scavenge, typed}
-use Rattle.session_model.specs.Worlds.{World}
-use Rattle.exec_session.specs.declared.stop.Stop.{Stop}
+use Rattle.session_model.specs.Turning.{State, cue_moves, is_quit, is_scavenge, typed}
 use Rattle.exec_session.specs.declared.stop.Stop.TheVariants as stop
-use Rattle.exec_session.specs.Meant.{IfHint, IfRefused, kept_stopped, stopped}
 use Rattle.exec_session.specs.Turned.{LineIsRefused, LineStopsUnwritten, LineWritesNothing, SameBut, SameWorld, Turned, TurnedIsATurn}
 
 -- ---- with few sector commands it is a turn

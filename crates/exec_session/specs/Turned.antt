@@ -1,6 +1,6 @@
 -- What a line owes as a turn, and how a line is answered that writes nothing.
 -- How the turn of a line is put together is this project's choice.
-use Rattle.std.specs.Prelude.{◌≡◌, ◌-◌, false, List, [], Some, Result, Err}
+use Rattle.std.specs.Prelude.{◌≡◌, ◌-◌, false, List, [], Some, Err}
 use Rattle.disk_records.specs.Tapes.{DiskAlone, Taped, added, pack}
 use Rattle.exec_words.specs.declared.line.Line.{Line}
 use Rattle.exec_words.specs.declared.reply.Refusal.{Refusal}
