@@ -4,7 +4,9 @@ ghost use Rattle.disk_records.specs.Causes.{HasCause};
 ghost use Rattle.disk_records.specs.Tapes.{DiskAlone, pack};
 ghost use Rattle.pack_model.specs.scavenger.Reports.{PagesMended};
 ghost use Rattle.pack_model.specs.scavenger.Scavenging.{Scavengeable};
+ghost use Rattle.scav_entries.specs.Catalogues.{HoldsNames};
 ghost use Rattle.scav_entries.specs.Lacking.{adopted_among};
+ghost use Rattle.scav_entries.specs.Parting.{IsParted};
 ghost use Rattle.scav_pages.specs.Stops.{cause_of_stop};
 ghost use Rattle.scav_table.specs.Causes.{cause_of_sweep};
 ghost use Rattle.scav_names.specs.Does.{Does};
@@ -17,7 +19,7 @@ use crate::root::Root;
 use crate::unkept::free_unkept;
 use disk_records::Disk;
 use kept_names::is_system;
-use scav_entries::{Catalogue, Living, lacking, part_entries, read_names, root_rooms};
+use scav_entries::{Catalogue, Living, Parted, lacking, part_entries, read_names, root_rooms};
 use scav_pages::Stop;
 use scav_table::{SweepError, Table};
 use std::alloc::Global;
@@ -62,17 +64,32 @@ pub fn mend_names<D: Disk>(
     }
 }
 
-/// The parts, one after another.
+/// The names are read and parted, and then mended.
 fn mend<D: Disk>(alloc: Global, disk: &mut D, table: &mut Table) -> Result<u32, Stop>
     ensures does { IsTrue D.told → MayBeNamed (pack (D.tape disk.old)) → Does AreMended (D.tape disk.old) (D.tape disk.new) result }
     ensures cause { HasCause cause_of_stop (D.tape disk.old) (D.tape disk.new) result }
     ensures alone { DiskAlone (D.tape disk.old) (D.tape disk.new) }
 {
-    let mut names = read_names(alloc, disk, table)?;
+    let names = read_names(alloc, disk, table)?;
     let mut parted = part_entries(alloc, &names)?;
+    mend_parted(alloc, disk, table, names, &mut parted)
+}
+
+/// Mends the names of a pack that were read and parted, one part after another.
+fn mend_parted<D: Disk>(
+    alloc: Global,
+    disk: &mut D,
+    table: &mut Table,
+    mut names: Catalogue,
+    parted: &mut Parted,
+) -> Result<u32, Stop>
+    ensures does { IsTrue D.told → MayBeNamed (pack (D.tape disk.old)) → HoldsNames (pack (D.tape disk.old)) names → IsParted (pack (D.tape disk.old)) parted.old → Does AreMended (D.tape disk.old) (D.tape disk.new) result }
+    ensures cause { HasCause cause_of_stop (D.tape disk.old) (D.tape disk.new) result }
+    ensures alone { DiskAlone (D.tape disk.old) (D.tape disk.new) }
+{
     free_unkept(alloc, disk, table, parted.unkept.as_slice())?;
-    root_rooms(&mut names, &parted)?;
-    let files = lacking(alloc, names.living.as_slice(), &mut parted)?;
+    root_rooms(&mut names, parted)?;
+    let files = lacking(alloc, names.living.as_slice(), parted)?;
     let Catalogue {
         living,
         rooms,

@@ -7,7 +7,7 @@ use scav_entries::Rooms;
 use scav_pages::Stop;
 
 /// A page of a directory, and the sector that carries it.
-#[derive(Clone, Copy, Debug, PartialEq, Eq)]
+#[derive(Clone, Copy)]
 pub(crate) struct PageSector {
     /// The page.
     pub(crate) page: Page,

@@ -21,7 +21,7 @@ use scav_table::{Pass, Row, Table};
 pub(crate) const PAGE_WORDS: u32 = 256;
 
 /// A word of a directory, and what it is to be.
-#[derive(Clone, Copy, Debug, PartialEq, Eq)]
+#[derive(Clone, Copy)]
 pub(crate) struct DirWord {
     /// The directory.
     pub(crate) dir: Fid,

@@ -1,12 +1,17 @@
-use Rattle.std.proofs.Common.{length, ◌+◌, ◌<◌, Err, Ok, sym, ◌∙◌, arith}
-use Rattle.disk_records.specs.Tapes.{pack}
-use Rattle.disk_records.proofs.Growing.{alone_twice, length-pack}
-use Rattle.scav_pages.specs.declared.errors.Stop.TheVariants.{Memory}
-use Rattle.scav_names.proofs.EnteringParts.{entered_may, freed_may, names_are_mended_so, read_does, read_freed, read_may, read_unkept}
-use Rattle.scav_names.proofs.Going.{does_ok, does_part, does_stop, so_far_does, so_far_here}
+use Rattle.std.proofs.Common.{ℕ, Result, Ok, Err, IfOk, sym, subst, arith}
+use Rattle.disk_records.specs.Causes.{HasCause}
+use Rattle.disk_records.specs.Tapes.{Grown, Taped, pack}
+use Rattle.disk_records.proofs.Growing.{alone_twice}
+use Rattle.scav_entries.specs.Catalogues.{HoldsNames}
+use Rattle.scav_entries.specs.Parting.{IsParted}
+use Rattle.scav_pages.specs.declared.errors.Stop.{Stop}
+use Rattle.scav_pages.specs.declared.errors.Stop.TheVariants.{DiskFault, Memory, Astray}
+use Rattle.scav_pages.specs.Stops.{cause_of_stop}
+use Rattle.scav_names.specs.Mending.{AreMended}
+use Rattle.scav_names.proofs.EnteringParts.{read_does, read_may}
+use Rattle.scav_names.proofs.Going.{does_last, does_part, does_stop, so_far_does, so_far_here}
 use Rattle.scav_names.proofs.mend.mend.Goals as goal
 
--- ---- a part stopped
 pub returns-in_err-names-clause-does : goal.returns-in_err-names-clause-does
 returns-in_err-names-clause-does g c = λ told may.
     let a = g.D.Tape.tape c.args.disk.now in
@@ -22,106 +27,6 @@ returns-in_err-parted-clause-does g c = λ told may.
     let x = so_far_does (so_far_here a) one.alone.grown read in
     does_stop Memory c.from_residual-in_err-parted.result x (λ astray. cc) c.from_residual-in_err-parted.ensures.1
 
-pub returns-in_err-free_unkept-clause-does : goal.returns-in_err-free_unkept-clause-does
-returns-in_err-free_unkept-clause-does g c = λ told may.
-    let a = g.D.Tape.tape c.args.disk.now in
-    let one = c.in_ok-names.ensures in
-    let names = c.in_ok-names.names in
-    let read = read_does (Ok names) one.alone.grown (one.silent told) (one.found told) (one.names told) in
-    let holds = read.leaves.holds in
-    let x = so_far_does (so_far_here a) one.alone.grown read in
-    let parted = c.in_ok-parted.ensures (pack a) holds in
-    let unkept = read_unkept c.as_slice.result.now c.in_ok-parted.parted read.leaves parted c.as_slice.ensures in
-    does_part c.in_err-free_unkept.field-0.0 c.from_residual-in_err-free_unkept.result x c.in_err-free_unkept.ensures.alone.grown (c.in_err-free_unkept.ensures.does told (read_may read.leaves may) unkept) c.from_residual-in_err-free_unkept.ensures.1
-
-pub returns-in_err-free_unkept-clause-alone : goal.returns-in_err-free_unkept-clause-alone
-returns-in_err-free_unkept-clause-alone g c = alone_twice c.in_ok-names.ensures.alone c.in_err-free_unkept.ensures.alone
-
-pub returns-in_err-root_rooms-clause-does : goal.returns-in_err-root_rooms-clause-does
-returns-in_err-root_rooms-clause-does g c = λ told may.
-    let a = g.D.Tape.tape c.args.disk.now in
-    let one = c.in_ok-names.ensures in
-    let names = c.in_ok-names.names in
-    let read = read_does (Ok names) one.alone.grown (one.silent told) (one.found told) (one.names told) in
-    let holds = read.leaves.holds in
-    let x = so_far_does (so_far_here a) one.alone.grown read in
-    let parted = c.in_ok-parted.ensures (pack a) holds in
-    let unkept = read_unkept c.as_slice.result.now c.in_ok-parted.parted read.leaves parted c.as_slice.ensures in
-    let two = c.in_ok-free_unkept.ensures in
-    let second = two.does told (read_may read.leaves may) unkept in
-    let y = so_far_does x two.alone.grown second in
-    does_stop Memory c.from_residual-in_err-root_rooms.result y (λ astray. cc) c.from_residual-in_err-root_rooms.ensures.1
-
-pub returns-in_err-root_rooms-clause-alone : goal.returns-in_err-root_rooms-clause-alone
-returns-in_err-root_rooms-clause-alone g c = alone_twice c.in_ok-names.ensures.alone c.in_ok-free_unkept.ensures.alone
-
-pub returns-in_err-files-clause-does : goal.returns-in_err-files-clause-does
-returns-in_err-files-clause-does g c = λ told may.
-    let a = g.D.Tape.tape c.args.disk.now in
-    let one = c.in_ok-names.ensures in
-    let names = c.in_ok-names.names in
-    let read = read_does (Ok names) one.alone.grown (one.silent told) (one.found told) (one.names told) in
-    let holds = read.leaves.holds in
-    let x = so_far_does (so_far_here a) one.alone.grown read in
-    let parted = c.in_ok-parted.ensures (pack a) holds in
-    let unkept = read_unkept c.as_slice.result.now c.in_ok-parted.parted read.leaves parted c.as_slice.ensures in
-    let two = c.in_ok-free_unkept.ensures in
-    let second = two.does told (read_may read.leaves may) unkept in
-    let y = so_far_does x two.alone.grown second in
-    does_stop Memory c.from_residual-in_err-files.result y (λ astray. cc) c.from_residual-in_err-files.ensures.1
-
-pub returns-in_err-files-clause-alone : goal.returns-in_err-files-clause-alone
-returns-in_err-files-clause-alone g c = alone_twice c.in_ok-names.ensures.alone c.in_ok-free_unkept.ensures.alone
-
-pub returns-in_err-enter_all-clause-does : goal.returns-in_err-enter_all-clause-does
-returns-in_err-enter_all-clause-does g c = λ told may.
-    let a = g.D.Tape.tape c.args.disk.now in
-    let one = c.in_ok-names.ensures in
-    let names = c.in_ok-names.names in
-    let read = read_does (Ok names) one.alone.grown (one.silent told) (one.found told) (one.names told) in
-    let holds = read.leaves.holds in
-    let x = so_far_does (so_far_here a) one.alone.grown read in
-    let parted = c.in_ok-parted.ensures (pack a) holds in
-    let unkept = read_unkept c.as_slice.result.now c.in_ok-parted.parted read.leaves parted c.as_slice.ensures in
-    let two = c.in_ok-free_unkept.ensures in
-    let second = two.does told (read_may read.leaves may) unkept in
-    let freed = read_freed read.leaves second.leaves in
-    let y = so_far_does x two.alone.grown second in
-    let rooms = c.in_ok-root_rooms.ensures.rooms (pack a) holds parted in
-    let files = c.as_slice-3.ensures ∙ c.in_ok-files.ensures.files (pack a) (c.as_slice-2.ensures ∙ c.in_ok-root_rooms.ensures.living ∙ holds.living) parted in
-    let first = freed_may c.root_rooms.new.names c.as_slice-3.result.now may holds freed rooms c.in_ok-root_rooms.ensures.pages files in
-    does_part c.in_err-enter_all.field-0.0 c.from_residual-in_err-enter_all.result y c.in_err-enter_all.ensures.alone.grown (c.in_err-enter_all.ensures.does told first) c.from_residual-in_err-enter_all.ensures.1
-
-pub returns-in_err-enter_all-clause-alone : goal.returns-in_err-enter_all-clause-alone
-returns-in_err-enter_all-clause-alone g c = alone_twice (alone_twice c.in_ok-names.ensures.alone c.in_ok-free_unkept.ensures.alone) c.in_err-enter_all.ensures.alone
-
-pub returns-in_err-mend_addresses-clause-does : goal.returns-in_err-mend_addresses-clause-does
-returns-in_err-mend_addresses-clause-does g c = λ told may.
-    let a = g.D.Tape.tape c.args.disk.now in
-    let one = c.in_ok-names.ensures in
-    let names = c.in_ok-names.names in
-    let read = read_does (Ok names) one.alone.grown (one.silent told) (one.found told) (one.names told) in
-    let holds = read.leaves.holds in
-    let x = so_far_does (so_far_here a) one.alone.grown read in
-    let parted = c.in_ok-parted.ensures (pack a) holds in
-    let unkept = read_unkept c.as_slice.result.now c.in_ok-parted.parted read.leaves parted c.as_slice.ensures in
-    let two = c.in_ok-free_unkept.ensures in
-    let second = two.does told (read_may read.leaves may) unkept in
-    let freed = read_freed read.leaves second.leaves in
-    let y = so_far_does x two.alone.grown second in
-    let rooms = c.in_ok-root_rooms.ensures.rooms (pack a) holds parted in
-    let files = c.as_slice-3.ensures ∙ c.in_ok-files.ensures.files (pack a) (c.as_slice-2.ensures ∙ c.in_ok-root_rooms.ensures.living ∙ holds.living) parted in
-    let first = freed_may c.root_rooms.new.names c.as_slice-3.result.now may holds freed rooms c.in_ok-root_rooms.ensures.pages files in
-    let three = c.in_ok-enter_all.ensures in
-    let third = three.does told first in
-    let z = so_far_does y three.alone.grown third in
-    let then = entered_may c.as_slice-4.result.now c.as_slice-5.result.now freed third.leaves (c.as_slice-4.ensures ∙ c.in_ok-root_rooms.ensures.living ∙ holds.living) (c.as_slice-5.ensures ∙ c.in_ok-files.ensures.kept ∙ parted.kept) in
-    does_part c.in_err-mend_addresses.field-0.0 c.from_residual-in_err-mend_addresses.result z c.in_err-mend_addresses.ensures.alone.grown (c.in_err-mend_addresses.ensures.does told then) c.from_residual-in_err-mend_addresses.ensures.1
-
-pub returns-in_err-mend_addresses-clause-alone : goal.returns-in_err-mend_addresses-clause-alone
-returns-in_err-mend_addresses-clause-alone g c = alone_twice (alone_twice (alone_twice c.in_ok-names.ensures.alone c.in_ok-free_unkept.ensures.alone) c.in_ok-enter_all.ensures.alone) c.in_err-mend_addresses.ensures.alone
-
--- ---- all are done
 pub returns-clause-does : goal.returns-clause-does
 returns-clause-does g c = λ told may.
     let a = g.D.Tape.tape c.args.disk.now in
@@ -129,28 +34,22 @@ returns-clause-does g c = λ told may.
     let names = c.in_ok-names.names in
     let read = read_does (Ok names) one.alone.grown (one.silent told) (one.found told) (one.names told) in
     let holds = read.leaves.holds in
+    let same = read.leaves.same in
     let x = so_far_does (so_far_here a) one.alone.grown read in
     let parted = c.in_ok-parted.ensures (pack a) holds in
-    let unkept = read_unkept c.as_slice.result.now c.in_ok-parted.parted read.leaves parted c.as_slice.ensures in
-    let two = c.in_ok-free_unkept.ensures in
-    let second = two.does told (read_may read.leaves may) unkept in
-    let freed = read_freed read.leaves second.leaves in
-    let y = so_far_does x two.alone.grown second in
-    let rooms = c.in_ok-root_rooms.ensures.rooms (pack a) holds parted in
-    let files = c.as_slice-3.ensures ∙ c.in_ok-files.ensures.files (pack a) (c.as_slice-2.ensures ∙ c.in_ok-root_rooms.ensures.living ∙ holds.living) parted in
-    let first = freed_may c.root_rooms.new.names c.as_slice-3.result.now may holds freed rooms c.in_ok-root_rooms.ensures.pages files in
-    let three = c.in_ok-enter_all.ensures in
-    let third = three.does told first in
-    let z = so_far_does y three.alone.grown third in
-    let then = entered_may c.as_slice-4.result.now c.as_slice-5.result.now freed third.leaves (c.as_slice-4.ensures ∙ c.in_ok-root_rooms.ensures.living ∙ holds.living) (c.as_slice-5.ensures ∙ c.in_ok-files.ensures.kept ∙ parted.kept) in
-    let size = length-pack a in
-    let sized = g.met.D.Disk.sized c.args.disk.now told in
-    let most = a.form.most_pages in
-    let low : length (pack a).sectors + 2 < 4294967296 = omega arith in
-    let four = c.in_ok-mend_addresses.ensures in
-    let fourth = four.does told then in
-    does_ok c.count_adopted.result (so_far_does z four.alone.grown fourth)
-    (names_are_mended_so c.as_slice-6.result.now c.count_adopted.result may fourth.leaves (c.as_slice-6.ensures ∙ sym c.as_slice-3.ensures ∙ files) low c.count_adopted.ensures)
+    let then = c.mend_parted.ensures in
+    let rest = then.does told (read_may read.leaves may) (subst (λ p. HoldsNames p names) (sym same) holds) (subst (λ p. IsParted p c.in_ok-parted.parted) (sym same) parted) in
+    does_last c.mend_parted.result x then.alone.grown rest (λ l. subst (λ p. IfOk c.mend_parted.result (AreMended p (pack (g.D.Tape.tape c.mend_parted.new.disk)))) same l)
+
+-- a fault of the rest comes in the call
+cause_sooner : (first a b : Taped) (r : Result ℕ Stop) → Grown first a → HasCause cause_of_stop a b r → HasCause cause_of_stop first b r
+cause_sooner first a b (Ok n) grown h = tt
+cause_sooner first a b (Err DiskFault) grown h = let less = grown.disk_faults in omega (arith, less, h)
+cause_sooner first a b (Err Memory) grown h = tt
+cause_sooner first a b (Err Astray) grown h = tt
+
+pub returns-clause-cause : goal.returns-clause-cause
+returns-clause-cause g c = cause_sooner (g.D.Tape.tape c.args.disk.now) (g.D.Tape.tape c.read_names.new.disk) (g.D.Tape.tape c.mend_parted.new.disk) c.mend_parted.result c.in_ok-names.ensures.alone.grown c.mend_parted.ensures.cause
 
 pub returns-clause-alone : goal.returns-clause-alone
-returns-clause-alone g c = alone_twice (alone_twice (alone_twice c.in_ok-names.ensures.alone c.in_ok-free_unkept.ensures.alone) c.in_ok-enter_all.ensures.alone) c.in_ok-mend_addresses.ensures.alone
+returns-clause-alone g c = alone_twice c.in_ok-names.ensures.alone c.mend_parted.ensures.alone
