@@ -61,11 +61,13 @@ fn fill_items<D: Disk>(
     ensures want { IsTrue D.told → IsErrOf result SweepError.Memory → ⊥ }
     ensures looks { Looks D.told (pages_of (D.tape disk.old).form - 1) (D.tape disk.old) (D.tape disk.new) }
 {
-    let filled = fill(disk, above, items.as_vec().as_mut_slice());
-    if filled.is_err() {
-        clear(items);
+    match fill(disk, above, items.as_vec().as_mut_slice()) {
+        Ok(bad) => Ok(bad),
+        Err(error) => {
+            clear(items);
+            Err(error)
+        }
     }
-    filled
 }
 
 /// The same of a window.
