@@ -33,7 +33,7 @@ const NAME: usize = 6;
 const REST: usize = 26;
 
 /// A row whose next one isn't known yet, and the link to the page before it.
-#[derive(Clone, Copy, Debug, PartialEq, Eq, Drop)]
+#[derive(Clone, Copy, Drop)]
 pub(crate) struct Pending {
     pub(crate) row: Row,
     pub(crate) previous: u16,

@@ -31,7 +31,7 @@ pub(crate) const ROOT: Page = Page {
 };
 
 /// What is found while pages that aren't in use are released.
-#[derive(Clone, Copy, Debug, PartialEq, Eq, Drop)]
+#[derive(Clone, Copy, Drop)]
 pub(crate) struct Unused {
     /// How many they were.
     pub(crate) freed: u32,
