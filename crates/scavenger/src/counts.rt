@@ -18,7 +18,7 @@ use scav_pages::{Directory, data_pages};
 const PAGE_WORDS: u32 = 256;
 
 /// What a pass along all rows counts, without memory.
-#[derive(Clone, Copy, Debug, PartialEq, Eq)]
+#[derive(Clone, Copy)]
 pub(crate) struct Counts {
     /// The sectors in use.
     pub(crate) in_use: u32,

@@ -18,7 +18,7 @@ use scav_pages::{Stop, data_pages};
 const HEADING: usize = 9;
 
 /// What a pack has where its system files are to be.
-#[derive(Clone, Copy, Debug, PartialEq, Eq)]
+#[derive(Clone, Copy)]
 pub(crate) struct System {
     /// The page in sector 1, if it carries one.
     pub(crate) first: Option<Page>,
