@@ -8,6 +8,18 @@ use Rattle.scav_pages.proofs.Doing.{does_ok, does_stop_part, going_does}
 use Rattle.scav_pages.proofs.Describing.{described_lasts}
 use Rattle.scav_pages.proofs.descriptor.mend_descriptor.Goals as goal
 
+pub mend_data_page-requires-clause-most : goal.mend_data_page-requires-clause-most
+mend_data_page-requires-clause-most g c = let many = c.data_pages-last.ensures.pages ∙ ap data_pages (c.shape.ensures ∙ sym c.loop-number.invariant.alone.grown.form) in omega (arith, many)
+
+pub mend_data_page-requires-clause-within : goal.mend_data_page-requires-clause-within
+mend_data_page-requires-clause-within g c = subst (λ s. AreWithin (pages_of s) c.loop-number.places) (sym c.loop-number.invariant.alone.grown.form) c.loop-number.invariant.within
+
+pub make_leader-requires-clause-within : goal.make_leader-requires-clause-within
+make_leader-requires-clause-within g c = subst (λ s. AreWithin (pages_of s) c.loop-number.places) (sym c.loop-number.invariant.alone.grown.form) c.loop-number.invariant.within
+
+pub returns-else-places-eq0-clause-alone : goal.returns-else-places-eq0-clause-alone
+returns-else-places-eq0-clause-alone g c = c.loop-number.invariant.alone
+
 pub returns-in_err-mend_data_page-clause-alone : goal.returns-in_err-mend_data_page-clause-alone
 returns-in_err-mend_data_page-clause-alone g c = alone_twice c.loop-number.invariant.alone c.in_err-mend_data_page.ensures.alone
 
