@@ -1,13 +1,17 @@
-use Rattle.std.proofs.Common.{◌≡◌, ◌<◌, ◌≤◌, true, IfSome, IsTrue, None, Some, arith, ap, sym, subst, ◌∙◌}
+use Rattle.std.proofs.Common.{◌≡◌, ◌<◌, ◌≤◌, true, IfSome, IsTrue, None, Some, Result, Ok, Err, arith, ap, sym, subst, ◌∙◌}
 use Rattle.std.specs.Option.{option_or}
 use Rattle.disk_records.specs.Addresses.{pages_of}
-use Rattle.disk_records.specs.Tapes.{pack}
+use Rattle.disk_records.specs.Causes.{HasCause}
+use Rattle.disk_records.specs.Tapes.{Grown, Taped, pack}
 use Rattle.disk_records.proofs.Growing.{alone_twice}
 use Rattle.disk_records.proofs.Looking.{looks_pack}
 use Rattle.laws_mend.specs.Parts.{Lasting}
 use Rattle.scav_table.specs.Laws.{IsFirstAbove, IsNextRow}
 use Rattle.scav_table.specs.Passes.{IsNext}
 use Rattle.scav_table.specs.Rows.{is_above}
+use Rattle.scav_pages.specs.declared.errors.Stop.{Stop}
+use Rattle.scav_pages.specs.declared.errors.Stop.TheVariants.{DiskFault, Memory, Astray}
+use Rattle.scav_pages.specs.Stops.{cause_of_stop}
 use Rattle.scav_pages.specs.Links.{MayMeet, MendedTo, last_row}
 use Rattle.scav_pages.specs.Walks.{AreWords}
 use Rattle.scav_pages.proofs.Doing.{does_stop_part, going_does, going_looks}
@@ -55,6 +59,20 @@ loop-row-preserved g c =
       going = λ told lasting. going_does (going_looks (inv.going told lasting) read.looks told) met.alone.grown (met.does told (may told lasting));
       mended = λ told lasting. (met.does told (may told lasting)).leaves;
     }
+
+-- a fault of the last part comes in the call
+cause_sooner : (first a b : Taped) (r : Result (Unit {0}) Stop) → Grown first a → HasCause cause_of_stop a b r → HasCause cause_of_stop first b r
+cause_sooner first a b (Ok x) grown h = tt
+cause_sooner first a b (Err DiskFault) grown h = let less = grown.disk_faults in omega (arith, less, h)
+cause_sooner first a b (Err Memory) grown h = tt
+cause_sooner first a b (Err Astray) grown h = tt
+
+pub returns-in-Some-pending-clause-cause : goal.returns-in-Some-pending-clause-cause
+returns-in-Some-pending-clause-cause g c =
+    cause_sooner (g.D.Tape.tape c.args.disk.now) (g.D.Tape.tape c.next_row.new.disk) (g.D.Tape.tape c.mend_page.new.disk) c.mend_page.result (alone_twice c.loop-row.invariant.alone c.in_ok-row.ensures.looks.alone).grown c.mend_page.ensures.cause
+
+pub returns-in-None-clause-cause : goal.returns-in-None-clause-cause
+returns-in-None-clause-cause g c = tt
 
 pub returns-in-Some-pending-clause-alone : goal.returns-in-Some-pending-clause-alone
 returns-in-Some-pending-clause-alone g c = alone_twice (alone_twice c.loop-row.invariant.alone c.in_ok-row.ensures.looks.alone) c.mend_page.ensures.alone
