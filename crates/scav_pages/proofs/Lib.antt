@@ -1,4 +1,5 @@
 pub mod Ahead
+pub mod Causing
 pub mod Changing
 mod Claiming
 mod Copying

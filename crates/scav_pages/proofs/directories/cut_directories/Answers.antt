@@ -7,6 +7,7 @@ use Rattle.scav_table.specs.Laws.{IsNextRow}
 use Rattle.scav_table.specs.Passes.{IsNext}
 use Rattle.scav_table.specs.Rows.{is_above}
 use Rattle.scav_pages.specs.Walks.{AreWords, IsOtherFile}
+use Rattle.scav_pages.proofs.Causing.{cause_sooner}
 use Rattle.scav_pages.proofs.DirectoryPass.{CutsTo, Ready, cuts_done, cuts_left, cuts_look, cuts_row, cuts_start, cuts_stopped, left_at, left_last, may_begin, passed_on, row_there, stands_relabels}
 use Rattle.scav_pages.proofs.Doing.{does_stop_looking}
 use Rattle.scav_pages.proofs.Passing.{contrary, first_above_stays, stands_same}
@@ -147,6 +148,10 @@ returns-in_err-meet_page-clause-does g c = λ told cleared.
     ] in
     does_stop_looking c.in_err-meet_page.field-0.0 c.from_residual-in_err-meet_page.result (ready.cuts.going told cleared) c.in_err-meet_page.ensures.looks told
     (c.in_err-meet_page.ensures.found told (row_there (ready.cuts.stays told) (first_of_all told)).1) (c.in_err-meet_page.ensures.want told) c.from_residual-in_err-meet_page.ensures.1
+
+pub returns-clause-cause : goal.returns-clause-cause
+returns-clause-cause g c =
+    cause_sooner (g.D.Tape.tape c.args.disk.now) (g.D.Tape.tape c.next_row.new.disk) (g.D.Tape.tape c.cut_directory-2.new.disk) c.cut_directory-2.result (alone_twice c.loop-row.invariant.alone c.in_ok-row.ensures.looks.alone).grown c.cut_directory-2.ensures.cause
 
 pub returns-clause-alone : goal.returns-clause-alone
 returns-clause-alone g c = alone_twice (alone_twice c.loop-row.invariant.alone c.in_ok-row.ensures.looks.alone) c.cut_directory-2.ensures.alone

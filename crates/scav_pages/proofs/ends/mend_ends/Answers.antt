@@ -12,6 +12,7 @@ use Rattle.scav_table.specs.Passes.{IsNext}
 use Rattle.scav_table.specs.Rows.{is_above}
 use Rattle.scav_pages.specs.Ends.{AreWithin}
 use Rattle.scav_pages.specs.Walks.{AreWords, IsOtherFile, sector_in_hand}
+use Rattle.scav_pages.proofs.Causing.{cause_sooner}
 use Rattle.scav_pages.proofs.Ahead.{ahead, ahead_falls}
 use Rattle.scav_pages.proofs.Doing.{does_last, does_stop_looking, does_stop_part}
 use Rattle.scav_pages.proofs.EndsPass.{IsReadyFor, claims_end, claims_look, claims_row, claims_start, last_left, left_may, ready_left, ready_same, row_left}
@@ -115,6 +116,10 @@ returns-in_err-claim_last-2-clause-does g c = λ told can rooted.
 
 pub mend_descriptor-requires-clause-within : goal.mend_descriptor-requires-clause-within
 mend_descriptor-requires-clause-within g c = subst (λ s. AreWithin (pages_of s) c.loop-row.places) (sym (alone_twice (alone_twice c.loop-row.invariant.alone c.in_ok-row.ensures.looks.alone) c.in_ok-claim_last-2.ensures.alone).grown.form) c.loop-row.invariant.within
+
+pub returns-clause-cause : goal.returns-clause-cause
+returns-clause-cause g c =
+    cause_sooner (g.D.Tape.tape c.args.disk.now) (g.D.Tape.tape c.claim_last-2.new.disk) (g.D.Tape.tape c.mend_descriptor.new.disk) c.mend_descriptor.result (alone_twice (alone_twice c.loop-row.invariant.alone c.in_ok-row.ensures.looks.alone) c.in_ok-claim_last-2.ensures.alone).grown c.mend_descriptor.ensures.cause
 
 pub returns-clause-alone : goal.returns-clause-alone
 returns-clause-alone g c = alone_twice (alone_twice (alone_twice c.loop-row.invariant.alone c.in_ok-row.ensures.looks.alone) c.in_ok-claim_last-2.ensures.alone) c.mend_descriptor.ensures.alone

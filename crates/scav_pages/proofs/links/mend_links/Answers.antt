@@ -1,19 +1,16 @@
-use Rattle.std.proofs.Common.{◌≡◌, ◌<◌, ◌≤◌, true, IfSome, IsTrue, None, Some, Result, Ok, Err, arith, ap, sym, subst, ◌∙◌}
+use Rattle.std.proofs.Common.{◌≡◌, ◌<◌, ◌≤◌, true, IfSome, IsTrue, None, Some, arith, ap, sym, subst, ◌∙◌}
 use Rattle.std.specs.Option.{option_or}
 use Rattle.disk_records.specs.Addresses.{pages_of}
-use Rattle.disk_records.specs.Causes.{HasCause}
-use Rattle.disk_records.specs.Tapes.{Grown, Taped, pack}
+use Rattle.disk_records.specs.Tapes.{pack}
 use Rattle.disk_records.proofs.Growing.{alone_twice}
 use Rattle.disk_records.proofs.Looking.{looks_pack}
 use Rattle.laws_mend.specs.Parts.{Lasting}
 use Rattle.scav_table.specs.Laws.{IsFirstAbove, IsNextRow}
 use Rattle.scav_table.specs.Passes.{IsNext}
 use Rattle.scav_table.specs.Rows.{is_above}
-use Rattle.scav_pages.specs.declared.errors.Stop.{Stop}
-use Rattle.scav_pages.specs.declared.errors.Stop.TheVariants.{DiskFault, Memory, Astray}
-use Rattle.scav_pages.specs.Stops.{cause_of_stop}
 use Rattle.scav_pages.specs.Links.{MayMeet, MendedTo, last_row}
 use Rattle.scav_pages.specs.Walks.{AreWords}
+use Rattle.scav_pages.proofs.Causing.{cause_sooner}
 use Rattle.scav_pages.proofs.Doing.{does_stop_part, going_does, going_looks}
 use Rattle.scav_pages.proofs.LinkPass.{links_last, links_none, may_meet, stands_met}
 use Rattle.scav_pages.proofs.links.mend_links.Goals as goal
@@ -59,13 +56,6 @@ loop-row-preserved g c =
       going = λ told lasting. going_does (going_looks (inv.going told lasting) read.looks told) met.alone.grown (met.does told (may told lasting));
       mended = λ told lasting. (met.does told (may told lasting)).leaves;
     }
-
--- a fault of the last part comes in the call
-cause_sooner : (first a b : Taped) (r : Result (Unit {0}) Stop) → Grown first a → HasCause cause_of_stop a b r → HasCause cause_of_stop first b r
-cause_sooner first a b (Ok x) grown h = tt
-cause_sooner first a b (Err DiskFault) grown h = let less = grown.disk_faults in omega (arith, less, h)
-cause_sooner first a b (Err Memory) grown h = tt
-cause_sooner first a b (Err Astray) grown h = tt
 
 pub returns-in-Some-pending-clause-cause : goal.returns-in-Some-pending-clause-cause
 returns-in-Some-pending-clause-cause g c =
