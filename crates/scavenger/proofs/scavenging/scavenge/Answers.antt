@@ -1,12 +1,16 @@
-use Rattle.std.proofs.Common.{◌≡◌, None, IfSome, ap, sym, subst, ◌∙◌}
+use Rattle.std.proofs.Common.{◌≡◌, None, IfSome, Result, Ok, Err, ap, sym, subst, ◌∙◌, arith}
 use Rattle.disk_records.specs.Packs.{Pack}
-use Rattle.disk_records.specs.Tapes.{pack}
+use Rattle.disk_records.specs.Causes.{HasCause}
+use Rattle.disk_records.specs.Tapes.{Grown, Taped, pack}
 use Rattle.disk_records.proofs.Growing.{alone_twice, pack-silent, silent_twice}
 use Rattle.disk_records.proofs.Looking.{looks_pack}
 use Rattle.pack_model.specs.reading.Sights.{sights}
 use Rattle.pack_model.specs.scavenger.Scavenging.{first_refusal}
 use Rattle.pack_model.specs.states.InUse.{bad_sectors}
-use Rattle.scavenger.specs.Answers.{IsRefusal, refused}
+use Rattle.scavenger.specs.declared.errors.Report.{Report}
+use Rattle.scavenger.specs.declared.errors.ScavError.{ScavError}
+use Rattle.scavenger.specs.declared.errors.ScavError.TheVariants.{RootBad, RootTaken, PackFull, DiskFault, Memory}
+use Rattle.scavenger.specs.Answers.{IsRefusal, cause_of_scav, refused}
 use Rattle.scavenger.specs.Counting.{Counted}
 use Rattle.scavenger.proofs.Safety.{refusal_cause, refused_answers, scavenges_after, scavenges_none}
 use Rattle.scavenger.proofs.scavenging.scavenge.Goals as goal
@@ -19,6 +23,19 @@ returns-in_err-refusal-clause-alone g c = alone_twice (alone_twice c.in_ok-table
 
 pub returns-in-Some-clause-alone : goal.returns-in-Some-clause-alone
 returns-in-Some-clause-alone g c = alone_twice (alone_twice c.in_ok-table.ensures.looks.alone c.in_ok-counts.ensures.alone) c.in_ok-refusal.ensures.alone
+
+-- a fault while the pack is mended comes in the call
+cause_sooner : (first a b : Taped) (r : Result Report ScavError) → Grown first a → HasCause cause_of_scav a b r → HasCause cause_of_scav first b r
+cause_sooner first a b (Ok report) grown h = tt
+cause_sooner first a b (Err (RootBad header)) grown h = tt
+cause_sooner first a b (Err (RootTaken found)) grown h = tt
+cause_sooner first a b (Err (PackFull needed free)) grown h = tt
+cause_sooner first a b (Err DiskFault) grown h = let less = grown.disk_faults in omega (arith, less, h)
+cause_sooner first a b (Err Memory) grown h = tt
+
+pub returns-clause-cause : goal.returns-clause-cause
+returns-clause-cause g c =
+    cause_sooner (g.D.Tape.tape c.args.disk.now) (g.D.Tape.tape c.refuse.new.disk) (g.D.Tape.tape c.mend.new.disk) c.mend.result (alone_twice (alone_twice c.in_ok-table.ensures.looks.alone c.in_ok-counts.ensures.alone) c.in_ok-refusal.ensures.alone).grown c.mend.ensures.cause
 
 pub returns-clause-alone : goal.returns-clause-alone
 returns-clause-alone g c = alone_twice (alone_twice (alone_twice c.in_ok-table.ensures.looks.alone c.in_ok-counts.ensures.alone) c.in_ok-refusal.ensures.alone) c.mend.ensures.alone
