@@ -22,6 +22,8 @@ import packs
 SECONDS = 10
 DONE, USAGE, IN_NEED, DISK_FAILED, KEYS_FAILED, DISPLAY_FAILED, NO_MEMORY, CANNOT_SCAVENGE, NO_SESSION = range(9)
 SMALL = 25_536
+# where the last sector of such a file begins, which alone is held back as all sectors were written
+LAST = 25_004
 THREE = 38_304
 LARGEST = 5_183_808
 # dates are in seconds since the start of 1901, and stand after a sector's header and label
@@ -331,6 +333,9 @@ def check_format(program):
     stopped = Run(program, format_1, {"pack": pack}, before=limited(1_000))
     stopped.gives(-signal.SIGXFSZ, left=stopped.left)
     without_dates(Run(program, format_1, stopped.left)).gives(DONE, FORMATTED, left={"pack": formatted})
+    # it fails as the last sector, which is held back until then, is handed on: nothing is told
+    refused = without_dates(Run(program, format_1, {"pack": pack}, before=refused_past(LAST)))
+    refused.gives(DISK_FAILED, left={"pack": formatted[:LAST] + pack[LAST:]})
     # larger ones, and two drives, each drive whole: headers, labels and values
     for cylinders, free in [(160, 3834), (203, 4866), (406, 9737)]:
         run = without_dates(Run(program, ["--cylinders", str(cylinders), "new", "format", "4660"]))
@@ -367,6 +372,8 @@ def check_prepare(program):
     stopped = Run(program, [*both, "prepare", "1"], twice, before=limited(1_000))
     stopped.gives(-signal.SIGXFSZ, left=stopped.left)
     Run(program, [*both, "prepare", "1"], stopped.left).gives(DONE, PREPARED, left=prepared)
+    refused = Run(program, [*both, "prepare", "1"], twice, before=refused_past(LAST))
+    refused.gives(DISK_FAILED, left={"one": pack, "two": prepared["two"][:LAST] + pack[LAST:]})
     # an old pack of one drive, of each size, and another number
     for cylinders, pages in [(203, 4872), (406, 9744)]:
         (one,) = packs.formatted(1, cylinders, 1)
@@ -402,7 +409,9 @@ def check_scavenge(program):
         Run(program, scavenge, {"pack": opened}, redirect=redirect).gives(DISPLAY_FAILED, left={"pack": pack})
         Run(program, scavenge, {"pack": made}, redirect=redirect).gives(DISPLAY_FAILED, left={"pack": made})
         Run(program, [*scavenge, "extra"], {"pack": opened}, redirect=redirect).gives(DISPLAY_FAILED, left={"pack": opened})
-    # the disk fails: at the first write, which is that of the mark on sector 4, before byte 3,000, or at the release of sector 20
+    # the disk fails: as the clean mark, which is held back until then, is handed on; nothing is told
+    Run(program, scavenge, {"pack": opened}, before=refused_past(1_000)).gives(DISK_FAILED, left={"pack": opened})
+    # at the first write, which is that of the mark on sector 4, before byte 3,000, or at the release of sector 20
     Run(program, scavenge, {"pack": pack}, before=refused_past(1_000)).gives(DISK_FAILED, left={"pack": pack})
     stray, halfway, freed = ({"pack": strayed(packs.CLEAN)}, {"pack": strayed(packs.OPEN)}, SCAVENGED.replace(b"freed 0", b"freed 1"))
     Run(program, scavenge, stray, before=refused_past(3_000)).gives(DISK_FAILED, left=halfway)

@@ -35,6 +35,10 @@ MISLED = "hint failed: entry #1 word 29 at 6 wanted #3 v 1 page 0 found 65535 20
 NEWER = "made #3|length 1|made #4|length 2|A.|A!2.|DiskDescriptor.|SysDir.|4 entries|01|1 bytes|done"
 NO_ROOT = "no root: found 65535 65535 65535 65535 65535 65535 65535 65535"
 NO_LINK = "hint failed: next of 5 at 65535 wanted #3 v 1 page 1 found none"
+# of the entry of a directory, and of its second page
+OF_DIRECTORY = f"hint failed: entry #1 word 29 at 7 wanted #3 v 1 page 0 found {packs.real_of(8)} 65535 0 512 0 1 0 4"
+NO_SECOND = "hint failed: next of 6 at 65535 wanted #3 v 1 page 2 found none"
+SPENT = "serials spent: last 2147483646"
 CROWDED = f"#12 length 11776 pages 25 created 0 written 0 read 0 name {'N' * 26}."
 DATES, NO_DATES = "created 1000 written 1000 read 1000", "created 0 written 0 read 0"
 # texts of packs that aren't entered
@@ -112,6 +116,11 @@ def leaders(count):
     return change
 
 
+def each_alone(typed, shown):
+    """Sessions of one of these lines each, which is answered by a hint that failed and writes nothing."""
+    return [Boot(line, shown, 2, writes=False) for line in typed.split("|")]
+
+
 # the name of a row, the drives and the cylinders of each, and what is done
 ROWS = [
     ("a formatted pack", 1, 2, [Boot("free", "43 pages free"), Boot("list", "DiskDescriptor.|SysDir.|2 entries"), Show("0 files")]),
@@ -177,6 +186,48 @@ ROWS = [
             Boot("free|list", "43 pages free|DiskDescriptor.|SysDir.|2 entries", writes=False),
         ],
     ),
+    (
+        "the address of a directory is that of another page",
+        1,
+        2,
+        [
+            Boot("mkdir D|make D>A|append D>A 41|make B", "made #3|made #4|length 1|made #5"),
+            # the leader of A. is on sector 7
+            Set(2, {29: 7}),
+            *each_alone(
+                "list D|type D>A|stat D>A|stat D|make D>C|append D>A 42|patch D>A 0 42|cut D>A 0|copy D>A C|copy B D>C|rename D>A C|rename B D>C"
+                "|delete D>A|rmdir D",
+                OF_DIRECTORY,
+            ),
+            Boot("type B|type #4|mkdir D|make D", "0 bytes|41|1 bytes|name taken|name taken", writes=False),
+        ],
+    ),
+    (
+        "no link to the last page, which the leader doesn't name",
+        1,
+        2,
+        [
+            Boot("make A|append A 41", "made #3|length 1"),
+            Set(5, {253: 65535, 256: 65535}),
+            *each_alone("type A|stat A|append A 42|patch A 0 42|cut A 0|copy A B|type #3|append #3 42", NO_LINK),
+        ],
+    ),
+    (
+        "no link to the second page of a directory",
+        1,
+        2,
+        [
+            # of its 256 words each name takes 26; its first page is on sector 6
+            Boot("mkdir D|" + "|".join(f"make D>{letter}*38" for letter in "abcdefghij") + "|make B", "|".join(f"made #{n}" for n in range(3, 15))),
+            Set(6, {256: 65535}),
+            *each_alone(
+                "list D|type D>A|stat D>A|make D>A|append D>A 41|patch D>A 0 41|cut D>A 0|copy D>A C|copy B D>A|rename D>A C|rename B D>A"
+                "|delete D>A|rmdir D",
+                NO_SECOND,
+            ),
+            Boot("type B|type #4|mkdir D", "0 bytes|0 bytes|name taken", writes=False),
+        ],
+    ),
     ("all busy", 1, 2, [Set(4, {16: 65535, 17: 65535, 18: 65535}), Boot("make B", "made #3")]),
     ("all free", 1, 2, [Set(4, {16: 0, 17: 0, 18: 0}), Boot("make B", "made #3"), Show("SysDir>B. length 0|1 files")]),
     (
@@ -204,6 +255,37 @@ ROWS = [
             Boot("free", "41 pages free", writes=False),
         ],
     ),
+    (
+        "a session stays as it is over each line",
+        1,
+        2,
+        [
+            Boot(
+                "make A|append A 4142|patch A 0 43|cut A 1|copy A B|rename B C|delete C|mkdir D|rmdir D|list|type A|stat A|make A!1|free|make Z|stat Z",
+                "made #3|length 2|done|length 1|made #4|done|done|made #5|done|A.|DiskDescriptor.|SysDir.|3 entries|43|1 bytes"
+                f"|#3 length 1 pages 2 {DATES} name A.|name taken|41 pages free|made #6|#6 length 0 pages 2 {DATES} name Z.",
+            ),
+        ],
+    ),
+    (
+        "one serial is left",
+        1,
+        2,
+        [
+            Set(4, {4: 0x7FFF, 5: 0xFFFD}),
+            Boot("make A|make B", f"made #2147483646|{SPENT}"),
+            Boot("make B|mkdir D|copy A B|make A!1", f"{SPENT}|{SPENT}|{SPENT}|name taken", writes=False),
+        ],
+    ),
+    (
+        "a file whose bytes are those of an entry is no directory",
+        1,
+        2,
+        [
+            Boot(f"make A|append A {packs.slot(packs.ordinary(3), b'B.', 5).hex()}", "made #3|length 16"),
+            Boot("type A>B|stat A>B|cut A>B 0|delete A>B|make A>C|list A", "no such name|" * 4 + "not a directory|not a directory", writes=False),
+        ],
+    ),
     ("a cut past the end", 1, 2, [Boot("make A|append A 41*512", "made #3|length 512"), Boot("cut A 1000", "beyond length 512")]),
     (
         "a patch",
@@ -224,7 +306,31 @@ ROWS = [
                 f"made #3|length 2|#3 length 2 pages 2 {DATES} name A.|made #4|is a directory|system file|no such name|not a directory",
             ),
             Show("SysDir>A. length 2|SysDir>a!2. length 0|2 files"),
+            # each line is refused before the mark is opened
+            Boot(
+                "delete SysDir|delete DiskDescriptor|delete B|delete A>B|delete A!3|rmdir SysDir|rmdir A|rmdir B|type A>A|list A|stat DiskDescriptor",
+                "is a directory|system file|no such name|no such name|no such name|system file|not a directory|no such name|no such name"
+                "|not a directory|system file",
+                writes=False,
+            ),
+            Boot(
+                "copy SysDir B|copy A Z>B|copy A a>B|copy B C|rename SysDir B|rename A Z>B|rename A a>B|rename B C|rename A SysDir|copy A a!2",
+                "is a directory|no such name|not a directory|no such name|is a directory|no such name|not a directory|no such name|name taken|name taken",
+                writes=False,
+            ),
+            Boot(
+                "append SysDir 41|append B 41|patch A!1 2 41|patch DiskDescriptor 0 41|cut A!1 3|cut B 0|make A!2|make a>B|mkdir A|free|stat A!1|type A!1|list",
+                f"is a directory|no such name|beyond length 2|system file|beyond length 2|no such name|name taken|not a directory|name taken|39 pages free"
+                f"|#3 length 2 pages 2 {DATES} name A.|0102|2 bytes|A.|a!2.|DiskDescriptor.|SysDir.|4 entries",
+                writes=False,
+            ),
         ],
+    ),
+    (
+        "a name that only a later version has",
+        1,
+        2,
+        [Boot("make A|make A|delete A!1|mkdir A|make A!2|free|list", "made #3|made #4|done|name taken|name taken|41 pages free|A!2.|DiskDescriptor.|SysDir.|3 entries")],
     ),
     ("bad lines", 1, 2, [Boot("Free||free  |x*4097|scavenge", "bad line|bad line|bad line|bad line|bad line", writes=False)]),
     (

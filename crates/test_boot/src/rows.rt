@@ -30,7 +30,7 @@ struct Row {
     steps: &'static [Step],
 }
 
-const ROWS: [Row; 21] = [
+const ROWS: [Row; 22] = [
     Row {
         name: "a formatted pack",
         disks: 1,
@@ -269,6 +269,39 @@ const ROWS: [Row; 21] = [
                 typed: "free",
                 shown: "pack not clean: mark 2",
                 status: Status::NeedsScavenge,
+            }),
+        ],
+    },
+    Row {
+        name: "the mark is opened once in a session",
+        disks: 1,
+        cylinders: 2,
+        steps: &[
+            Step::Call(Call {
+                words: "format 1",
+                typed: "",
+                shown: "formatted: 43 pages free",
+                status: Status::Done,
+            }),
+            Step::Call(Call {
+                words: "boot",
+                typed: "make A\nappend A 4142",
+                shown: "made #3\nlength 2",
+                status: Status::Done,
+            }),
+            // the mark, and then one value for each line
+            Step::Cut("patch A 0 43\npatch A 1 44", 3),
+            Step::Call(Call {
+                words: "scavenge",
+                typed: "",
+                shown: "scavenged: files 3, freed 0, bad 0, adopted 0",
+                status: Status::Done,
+            }),
+            Step::Call(Call {
+                words: "boot",
+                typed: "type A",
+                shown: "4344\n2 bytes",
+                status: Status::Done,
             }),
         ],
     },

@@ -1,7 +1,7 @@
 // Bytes put in the place of others in a file of five bytes, whose leader is on sector 5 and whose page 1 is on sector 6.
 use alto_words::Fid;
-use disk_records::{Disk, Place, Sector, Tally};
-use file_pages::{FileError, FileRef, put};
+use disk_records::{Disk, Page, Place, Sector, Tally};
+use file_pages::{FileError, FileRef, put, write_page};
 use hint_cache::{BitTable, HintCache, Hints};
 use std::test::Fail;
 use test_packs::{DATA, LEADER, sectors_of, sure_machine};
@@ -22,7 +22,7 @@ const FILE: FileRef = FileRef {
 const PAST: [u32; 4] = [4, 5, 512, 33_553_920];
 
 /// One record write is made, and counts up to a limit of 1: `BCDE` from byte 1 on, and then `BF` with a word after it. Bytes that would end
-/// after the file are refused with its length, and nothing is written.
+/// after the file are refused with its length, and a page that the sector doesn't carry with the label there; and nothing is written.
 #[test]
 fn bytes_in_a_page(rt: HostRuntime) -> Result<(), Fail> {
     let mut machine = sure_machine(rt.alloc(), sectors_of(rt.alloc(), &[LEADER, DATA])?, b"")?;
@@ -81,6 +81,21 @@ fn bytes_in_a_page(rt: HostRuntime) -> Result<(), Fail> {
         );
         assert_eq!(rt; answer, Err(FileError::Beyond { length: 5 }));
     }
+    let wanted = Page {
+        fid: FILE.fid,
+        number: 2,
+    };
+    let misled = FileError::Misled {
+        place: Place::Held { at: 6 },
+        at: 6,
+        wanted,
+        found: Some(DATA.label),
+    };
+    assert!(rt; 6 < machine.shape().pages());
+    assert_eq!(rt;
+        write_page(&mut machine, &mut tally, 6, wanted, &buf.value),
+        Err(misled)
+    );
     assert_eq!(rt; machine.writes(), 2);
     assert_eq!(rt; tally.all, 2);
     Ok(())

@@ -1,4 +1,4 @@
-// A new file in sectors 5 and 6 that is given bytes, with pages in sectors 7, 8 and 9.
+// A new file in sectors 5 and 6 that is given bytes, with pages in sectors 7, 8 and 47, the last one.
 use alto_words::{Fid, Name};
 use disk_memory::MemMachine;
 use disk_records::{Disk, Page, Place, Sector, Tally};
@@ -39,9 +39,9 @@ fn letters() -> [u8; 1200] {
 
 /// What a session holds beside the machine.
 #[derive(Drop)]
-struct Held {
-    hints: Hints,
-    tally: Tally,
+pub(crate) struct Held {
+    pub(crate) hints: Hints,
+    pub(crate) tally: Tally,
 }
 
 /// The file is made, by six record writes in four calls of the machine.
@@ -137,14 +137,17 @@ fn a_file_that_grows(rt: HostRuntime) -> Result<(), Fail> {
         );
         assert_eq!(rt; size(&mut machine, &mut held)?, 1210);
 
-        grown(&mut machine, &mut held, &[0x45; 326], &[], &[9])?;
+        grown(&mut machine, &mut held, &[0x45; 326], &[], &[47])?;
         assert_eq!(rt; machine.writes(), 24);
         assert_eq!(rt;
             machine.sector(8).label,
-            [0x9000, 0x7000, 0, 512, 3, 1, 0, 3]
+            [0xB00C, 0x7000, 0, 512, 3, 1, 0, 3]
         );
-        assert_eq!(rt; machine.sector(9).label, [0xFFFF, 0x8000, 0, 0, 4, 1, 0, 3]);
-        assert_eq!(rt; machine.sector(9).value, [0; 256]);
+        assert_eq!(rt;
+            machine.sector(47).label,
+            [0xFFFF, 0x8000, 0, 0, 4, 1, 0, 3]
+        );
+        assert_eq!(rt; machine.sector(47).value, [0; 256]);
         assert_eq!(rt;
             &machine.sector(8).value[92..94],
             [0x4444, 0x4545].as_slice()
@@ -152,6 +155,8 @@ fn a_file_that_grows(rt: HostRuntime) -> Result<(), Fail> {
         assert_eq!(rt; machine.sector(8).value[255], 0x4545);
         assert_eq!(rt; size(&mut machine, &mut held)?, 1536);
         assert_eq!(rt; held.tally.all, 4);
+        // the leader names the page that was the last as the file was made
+        assert_eq!(rt; &machine.sector(5).value[253..256], [6, 1, 0].as_slice());
     }
     Ok(())
 }
@@ -164,7 +169,15 @@ const FAULTS: [(u64, u8, u64, u64, u32); 3] = [
     (13, 1, 14, 2, 1200),
 ];
 
-/// A growth that fails at a claim, at the label, and after the label.
+/// Sectors that can't be given: the first that can't carry a page, and the last page as the one that is wanted; or the first that isn't free,
+/// here the leader's, and the page that was to come there, after three record writes for page 2.
+const UNUSABLE: [([u16; 2], u16, u16, Option<[u16; 8]>, u64); 3] = [
+    ([7, 48], 48, 1, None, 6),
+    ([0, 48], 0, 1, None, 6),
+    ([7, 5], 5, 3, Some([0x6000, 0xFFFF, 0, 512, 0, 1, 0, 3]), 9),
+];
+
+/// A growth that fails at a claim, at the label, and after the label; and one in sectors that it can't be given.
 #[test]
 fn a_growth_that_fails(rt: HostRuntime) -> Result<(), Fail> {
     for (call, after, writes, all, bytes) in FAULTS {
@@ -175,6 +188,19 @@ fn a_growth_that_fails(rt: HostRuntime) -> Result<(), Fail> {
         assert_eq!(rt; machine.writes(), writes);
         assert_eq!(rt; held.tally.all, all);
         assert_eq!(rt; size(&mut machine, &mut held)?, bytes);
+        assert_eq!(rt; held.hints.table.word(0), 0x0600);
+    }
+    for (fresh, at, number, found, writes) in UNUSABLE {
+        let (mut machine, mut held) = made(rt.alloc(), 0)?;
+        let answer = grown(&mut machine, &mut held, &letters(), &[], &fresh);
+        let misled = FileError::Misled {
+            place: Place::Held { at },
+            at,
+            wanted: Page { fid: FID, number },
+            found,
+        };
+        assert_eq!(rt; answer, Err(misled));
+        assert_eq!(rt; machine.writes(), writes);
         assert_eq!(rt; held.hints.table.word(0), 0x0600);
     }
     Ok(())

@@ -6,6 +6,8 @@
 #[cfg(test)]
 mod bytes_put;
 #[cfg(test)]
+mod calls_not_done;
+#[cfg(test)]
 mod growing_files;
 #[cfg(test)]
 mod new_files;

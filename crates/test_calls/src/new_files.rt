@@ -1,10 +1,12 @@
 // A new file in sectors 5 and 6 of a pack of free sectors.
 use alto_words::{Fid, Name};
-use disk_records::{Disk, Page, Tally};
-use file_pages::make;
+use disk_memory::MemMachine;
+use disk_records::{Disk, Page, Place, Tally};
+use file_pages::{FileError, make};
 use hint_cache::{BitTable, HintCache, Hints};
+use std::alloc::Global;
 use std::test::Fail;
-use test_packs::{sectors_of, sure_machine};
+use test_packs::{DATA, Placed, failing_machine, sectors_of, sure_machine};
 
 /// The file that is made: an ordinary one with serial 3.
 const FID: Fid = Fid {
@@ -72,6 +74,70 @@ fn a_new_file(rt: HostRuntime) -> Result<(), Fail> {
             }),
             Some(6)
         );
+    }
+    Ok(())
+}
+
+/// What making the file in these sectors of a pack with a page answers, where the sector command with this number fails, counted from 0; and
+/// the machine then. The table is as before, and nothing is counted.
+fn made_in(
+    alloc: Global,
+    page: Placed,
+    fresh: [u16; 2],
+    fails: u64,
+) -> Result<(Result<(), FileError>, MemMachine), Fail> {
+    let name = Name::parse(b"Memo").ok_or("no name")?;
+    let mut machine = failing_machine(alloc, sectors_of(alloc, &[page])?, b"")?;
+    machine.fail_at(alloc, fails, 0)?;
+    let mut hints = Hints {
+        cache: HintCache::new(alloc)?,
+        table: BitTable::from_words(alloc, machine.shape().pages(), &[0; 3])?,
+    };
+    let mut tally = Tally {
+        limit: 0,
+        passed: 0,
+        all: 0,
+    };
+    let answer = make(&mut machine, &mut hints, &mut tally, FID, &name, 1, fresh);
+    if answer.is_err() && (hints.table.word(0) != 0 || tally.all != 0) {
+        return Err("the table or the tally is another".into());
+    }
+    Ok((answer, machine))
+}
+
+/// Where the file isn't made: the page's sector on the pack, the sectors for the leader and for page 1, the address that misleads, the number
+/// of the page that is wanted there, whether a label was found, and the record writes. A call takes four sector commands at most: the next one
+/// would fail.
+const REFUSED: [(u16, [u16; 2], u16, u16, bool, u64); 5] = [
+    (6, [0, 5], 0, 0, false, 0),
+    (6, [5, 48], 48, 1, false, 0),
+    (6, [48, 0], 48, 0, false, 0),
+    (6, [5, 6], 6, 1, true, 0),
+    (5, [5, 6], 5, 0, true, 3),
+];
+
+/// A file isn't made in a sector that can't carry a page or isn't free, nor where the disk fails; it is in the first and the last sector.
+#[test]
+fn a_file_that_is_not_made(rt: HostRuntime) -> Result<(), Fail> {
+    for (at, fresh, misled, number, found, writes) in REFUSED {
+        let (answer, machine) = made_in(rt.alloc(), Placed { at, ..DATA }, fresh, 4)?;
+        let wanted = FileError::Misled {
+            place: Place::Held { at: misled },
+            at: misled,
+            wanted: Page { fid: FID, number },
+            found: found.then_some(DATA.label),
+        };
+        assert_eq!(rt; answer, Err(wanted));
+        assert_eq!(rt; machine.writes(), writes);
+    }
+    for fails in 0..4 {
+        let (answer, _) = made_in(rt.alloc(), DATA, [5, 47], fails)?;
+        assert_eq!(rt; answer, Err(FileError::DiskFault));
+    }
+    for fresh in [[1, 47], [47, 1]] {
+        let (answer, machine) = made_in(rt.alloc(), DATA, fresh, 4)?;
+        assert_eq!(rt; answer, Ok(()));
+        assert_eq!(rt; machine.writes(), 6);
     }
     Ok(())
 }

@@ -7,7 +7,7 @@ use std::test::Fail;
 use test_packs::{Placed, sectors_of, sure_machine};
 
 /// The file with serial 3, named by the sector of its leader.
-const FILE: FileRef = FileRef {
+pub(crate) const FILE: FileRef = FileRef {
     fid: Fid {
         high: 0,
         low: 3,
@@ -24,12 +24,12 @@ const FIRST: [u16; 8] = [0x7000, 0x5000, 0, 512, 1, 1, 0, 3];
 
 const SECOND: [u16; 8] = [0x8000, 0x6000, 0, 512, 2, 1, 0, 3];
 
-const THIRD: [u16; 8] = [0xFFFF, 0x7000, 0, 176, 3, 1, 0, 3];
+pub(crate) const THIRD: [u16; 8] = [0xFFFF, 0x7000, 0, 176, 3, 1, 0, 3];
 
 /// The label of a page that isn't the file's: page 3 of the file with serial 4.
-const STRANGE: [u16; 8] = [0xFFFF, 0x7000, 0, 176, 3, 1, 0, 4];
+pub(crate) const STRANGE: [u16; 8] = [0xFFFF, 0x7000, 0, 176, 3, 1, 0, 4];
 
-const FREE: [u16; 8] = [0xFFFF; 8];
+pub(crate) const FREE: [u16; 8] = [0xFFFF; 8];
 
 /// A page in a sector, by its label, with zeros for a value.
 fn placed(at: u16, label: [u16; 8]) -> Placed {
@@ -41,7 +41,7 @@ fn placed(at: u16, label: [u16; 8]) -> Placed {
 }
 
 /// The file on its pack, with this label in the sector of page 3.
-fn pages(last: [u16; 8]) -> [Placed; 4] {
+pub(crate) fn pages(last: [u16; 8]) -> [Placed; 4] {
     [
         placed(5, LEADER),
         placed(6, FIRST),
@@ -59,13 +59,15 @@ fn no_tally() -> Tally {
     }
 }
 
-/// Cuts to each length: the record writes, the operations that were counted, the labels of pages 1 to 3, and the bits of the table.
+/// Cuts to each length: the page that is the last then, which is listed; the record writes, the operations that were counted, the labels of
+/// pages 1 to 3, and the bits of the table.
 #[test]
 fn cuts(rt: HostRuntime) -> Result<(), Fail> {
-    let rows: [(u32, u64, u64, [[u16; 8]; 3], u16); 5] = [
-        (1200, 0, 0, [FIRST, SECOND, THIRD], 0x0780),
+    let rows: [(u32, u16, u64, u64, [[u16; 8]; 3], u16); 5] = [
+        (1200, 3, 0, 0, [FIRST, SECOND, THIRD], 0x0780),
         (
             1024,
+            3,
             2,
             1,
             [FIRST, SECOND, [0xFFFF, 0x7000, 0, 0, 3, 1, 0, 3]],
@@ -73,6 +75,7 @@ fn cuts(rt: HostRuntime) -> Result<(), Fail> {
         ),
         (
             512,
+            2,
             4,
             1,
             [FIRST, [0xFFFF, 0x6000, 0, 0, 2, 1, 0, 3], FREE],
@@ -80,6 +83,7 @@ fn cuts(rt: HostRuntime) -> Result<(), Fail> {
         ),
         (
             100,
+            1,
             6,
             1,
             [[0xFFFF, 0x5000, 0, 100, 1, 1, 0, 3], FREE, FREE],
@@ -87,13 +91,14 @@ fn cuts(rt: HostRuntime) -> Result<(), Fail> {
         ),
         (
             0,
+            1,
             6,
             1,
             [[0xFFFF, 0x5000, 0, 0, 1, 1, 0, 3], FREE, FREE],
             0x0600,
         ),
     ];
-    for (length, writes, operations, labels, busy) in rows {
+    for (length, number, writes, operations, labels, busy) in rows {
         let sectors = sectors_of(rt.alloc(), &pages(THIRD))?;
         let mut machine = sure_machine(rt.alloc(), sectors, b"")?;
         let mut hints = Hints {
@@ -118,6 +123,11 @@ fn cuts(rt: HostRuntime) -> Result<(), Fail> {
         assert_eq!(rt; machine.sector(7).label, labels[1]);
         assert_eq!(rt; machine.sector(8).label, labels[2]);
         assert_eq!(rt; hints.table.word(0), busy);
+        let page = Page {
+            fid: FILE.fid,
+            number,
+        };
+        assert_eq!(rt; hints.cache.recall(page), number.checked_add(5));
     }
     Ok(())
 }

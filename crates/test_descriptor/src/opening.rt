@@ -14,7 +14,7 @@ use std::test::Fail;
 use test_names::{ROOT, formatted};
 
 /// DiskDescriptor, by its entry in SysDir.
-const DESCRIPTOR: FileRef = FileRef {
+pub(crate) const DESCRIPTOR: FileRef = FileRef {
     fid: Fid::DISK_DESCRIPTOR,
     leader_at: 3,
     from: Place::Entry {
@@ -59,12 +59,14 @@ fn change<A: Abort>(
     Ok(())
 }
 
-/// The last serial, the mark and the map are those that formatting writes. Once the mark is open the pack isn't clean.
+/// The last serial, the mark and the map are those that formatting writes, and nothing is written. Once the mark is open the pack isn't clean.
 #[test]
 fn formatted_pack(rt: HostRuntime) -> Result<(), Fail> {
     let (mut machine, mut hints) = formatted(rt.alloc())?;
     assert!(rt; hints.table.pages() == machine.shape().pages());
+    let events = machine.event_count();
     let mut kept = enter_pack(&mut machine, &mut hints, &DESCRIPTOR)?;
+    assert_eq!(rt; machine.event_count(), events);
     assert_eq!(rt; kept.last(), 2);
     assert_eq!(rt; kept.mark(), 1);
     assert_eq!(rt; hints.table.word(0), 0xF800);
@@ -209,7 +211,7 @@ fn misled_by_a_link(rt: HostRuntime) -> Result<(), Fail> {
 
 /// A formatted pack of 160 cylinders, and 240 words of ones as the table. DiskDescriptor has 512 bytes, so that its second data page, in
 /// sector 5, is empty; sectors 0 to 5 are used, of 3,840.
-fn formatted_large(alloc: Global) -> Result<(SureMachine, Hints), Fail> {
+pub(crate) fn formatted_large(alloc: Global) -> Result<(SureMachine, Hints), Fail> {
     let shape = Shape::new(1, 160).ok_or("no shape")?;
     let mut sectors = Vec::new(alloc);
     for _ in 0..3840 {

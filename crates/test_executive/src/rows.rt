@@ -13,7 +13,7 @@ struct Row {
     turns: &'static [Turn],
 }
 
-const ROWS: [Row; 13] = [
+const ROWS: [Row; 15] = [
     Row {
         name: "free pages of a large pack",
         cylinders: 203,
@@ -166,6 +166,63 @@ const ROWS: [Row; 13] = [
                 "#3 length 1 pages 2 created 1000 written 1000 read 1000 name A.",
             ),
             ("make A!1", "name taken"),
+        ],
+    },
+    Row {
+        name: "lines that are refused or only read, before anything is written",
+        cylinders: 2,
+        earlier: &["make A", "append A 0102"],
+        changed: &[],
+        turns: &[
+            ("type A", "0102\n2 bytes"),
+            (
+                "stat A",
+                "#3 length 2 pages 2 created 1000 written 1000 read 1000 name A.",
+            ),
+            ("list", "A.\nDiskDescriptor.\nSysDir.\n3 entries"),
+            ("free", "41 pages free"),
+            ("type B", "no such name"),
+            ("stat DiskDescriptor", "system file"),
+            ("list A", "not a directory"),
+            ("append SysDir 41", "is a directory"),
+            ("patch A 2 41", "beyond length 2"),
+            ("cut A 3", "beyond length 2"),
+            ("copy A A!1", "name taken"),
+            ("copy A B>C", "no such name"),
+            ("rename A A!1", "name taken"),
+            ("rename A A>B", "not a directory"),
+            ("delete SysDir", "is a directory"),
+            ("delete A>B", "no such name"),
+            ("rmdir A", "not a directory"),
+            ("rmdir SysDir", "system file"),
+            ("make SysDir", "name taken"),
+            ("make A>B", "not a directory"),
+            ("mkdir A", "name taken"),
+        ],
+    },
+    Row {
+        name: "a pack that was full as the session began",
+        cylinders: 2,
+        earlier: &[
+            "make A",
+            "append A 41*2000",
+            "append A 41*2000",
+            "append A 41*2000",
+            "append A 41*2000",
+            "append A 41*2000",
+            "append A 41*2000",
+            "append A 41*2000",
+            "append A 41*2000",
+            "append A 41*2000",
+            "append A 41*2000",
+            "append A 41*480",
+        ],
+        changed: &[],
+        turns: &[
+            ("make C", "full: needed 2 free 1"),
+            ("mkdir D", "full: needed 2 free 1"),
+            ("append A 41*1024", "full: needed 2 free 1"),
+            ("copy A C", "full: needed 42 free 1"),
         ],
     },
     Row {

@@ -8,7 +8,7 @@ use crate::packs::MOMENT;
 use alto_words::read_number;
 use disk_memory::MemMachine;
 use disk_records::{Disk, Sector, Shape};
-use executive::{Reply, Session, obey, read_line, reply_text};
+use executive::{Line, Reply, Session, obey, read_line, reply_text};
 use std::alloc::Global;
 use std::test::Fail;
 
@@ -46,11 +46,30 @@ pub(crate) fn begin(alloc: Global, shape: Shape, pack: &[Sector]) -> Result<Sess
     ensures formed { IfOk result (λ session. Formed shape (kept session)) }
 {
     let mut machine = MemMachine::new(alloc, shape, pack.to_vec(alloc)?, Vec::new(alloc))?;
-    Ok(Session::begin(alloc, &mut machine, MOMENT, 0)?)
+    Ok(Session::begin(alloc, &mut machine, MOMENT, 7)?)
 }
 
-/// Types a line in a session on this pack: the text that is shown. The device fails after so many sector commands. A line that is refused
-/// writes nothing.
+/// Whether a line only reads.
+fn only_reads(line: &Line) -> bool {
+    matches!(
+        line,
+        Line::ListNames { .. } | Line::TypeOut { .. } | Line::Stat { .. } | Line::Free
+    )
+}
+
+/// Passes if a session has all levels, the whole memory, a bit for each sector, and the limit that it began with.
+fn expect_same_size(shape: Shape, session: &Session) -> Result<(), Fail> {
+    expect(session.level() == 8, "a level is gone")?;
+    expect(session.tally().limit == 7, "another limit")?;
+    expect(session.memory.as_slice().len() == 65_536, "another memory")?;
+    expect(
+        session.hints.table.pages() == shape.pages(),
+        "another table",
+    )
+}
+
+/// Types a line in a session on this pack: the text that is shown. The device fails after so many sector commands. A line that only reads or
+/// is refused writes nothing, and a session keeps no more after a line than before.
 pub(crate) fn say(
     alloc: Global,
     shape: Shape,
@@ -66,9 +85,10 @@ pub(crate) fn say(
     let mut machine = MemMachine::new(alloc, shape, pack.to_vec(alloc)?, Vec::new(alloc))?;
     machine.fail_at(alloc, most, 0)?;
     let reply = obey(alloc, session, &mut machine, &line);
-    if matches!(reply, Reply::Refused { .. }) {
-        expect(machine.writes() == 0, "a line that is refused wrote")?;
+    if only_reads(&line) || matches!(reply, Reply::Refused { .. }) {
+        expect(machine.writes() == 0, "it wrote")?;
     }
+    expect_same_size(shape, session)?;
     *pack = machine.into_sectors();
     Ok(reply_text(alloc, &reply)?)
 }
@@ -117,6 +137,7 @@ pub(crate) fn earlier_session(
     let mut machine = MemMachine::new(alloc, shape, pack.to_vec(alloc)?, Vec::new(alloc))?;
     let reply = session.end(alloc, &mut machine);
     *pack = machine.into_sectors();
+    expect_same_size(shape, &session)?;
     expect(
         matches!(reply, Reply::Done { .. }),
         "the session isn't ended",

@@ -4,6 +4,8 @@
 #![tactic(auto)]
 
 #[cfg(test)]
+mod calls_not_done;
+#[cfg(test)]
 mod entering;
 #[cfg(test)]
 mod leaving;

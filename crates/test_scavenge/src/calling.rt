@@ -49,7 +49,9 @@ pub(crate) fn text_of(alloc: Global, shown: &str) -> Result<Vec<u8>, Fail> {
 }
 
 /// Does what these words ask for on a machine.
-pub(crate) fn run<M: Machine>(alloc: Global, words: &str, machine: &mut M) -> Result<Status, Fail> {
+pub(crate) fn run<M: Machine>(alloc: Global, words: &str, machine: &mut M) -> Result<Status, Fail>
+    requires handed_on { M.handed_on machine.old }
+{
     let mut list = Vec::new(alloc);
     for word in words.split(' ') {
         list.push(String::from_str(alloc, word)?)?;

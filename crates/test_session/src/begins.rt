@@ -3,7 +3,7 @@ use alto_words::Fid;
 use disk_descriptor::format;
 use disk_memory::SureMachine;
 use disk_records::{Disk, Page, Place, Sector};
-use exec_session::{OpenError, Session};
+use exec_session::{OpenError, Session, reserve_pages};
 use std::alloc::Global;
 use std::process::Abort;
 use std::test::Fail;
@@ -91,13 +91,19 @@ fn changed(alloc: Global, row: &Row) -> Result<SureMachine, Fail> {
     Ok(sure_machine(alloc, sectors, b"")?)
 }
 
-/// All levels are there, nothing is counted, and the pack is entered again. Nothing is written.
+/// All levels are there, nothing is counted, and the pack is entered again. Nothing is written. Of the first 16 sectors 0 to 4 are busy in the
+/// table, and then the three besides that were reserved; it stays where none is reserved.
 #[test]
 fn formatted_pack(rt: HostRuntime) -> Result<(), Fail> {
     let alloc = rt.alloc();
     let mut machine = sure_machine(alloc, formatted(alloc)?, b"")?;
     let mut session = Session::begin(alloc, &mut machine, 1000, 0)?;
     assert!(rt; session.level() == 8 && !session.needs_scavenge() && session.tally().all == 0);
+    assert_eq!(rt; session.hints.table.word(0), 0xF800);
+    reserve_pages(alloc, &mut session, &mut machine, 3)?;
+    assert_eq!(rt; session.hints.table.word(0), 0xFF00);
+    reserve_pages(alloc, &mut session, &mut machine, 0)?;
+    assert_eq!(rt; session.hints.table.word(0), 0xFF00);
     session.renew(alloc, &mut machine)?;
     assert!(rt; !session.needs_scavenge());
     assert_eq!(rt; machine.event_count(), 0);

@@ -6,7 +6,9 @@ use std::process::Abort;
 use std::test::Fail;
 
 /// Does what these words ask for, at moment 1000.
-pub fn obey<M: Machine>(alloc: Global, words: &[&str], machine: &mut M) -> Result<Status, Fail> {
+pub fn obey<M: Machine>(alloc: Global, words: &[&str], machine: &mut M) -> Result<Status, Fail>
+    requires handed_on { M.handed_on machine.old }
+{
     let mut list = Vec::new(alloc);
     for word in words {
         list.push(String::from_str(alloc, word)?)?;
