@@ -1,4 +1,4 @@
--- Bytes in hexadecimal: the crate `hex` reads and writes what the definitions say.
+-- Bytes in hexadecimal: digits are read in pairs, and what the crate `hex` writes is what the definitions say.
 use Rattle.std.proofs.Common.{◌≡◌, ◌≢◌, ℕ, suc, ◌+◌, ◌*◌, ◌/◌, ◌%◌, ◌<◌, get_or, set, take, Bool, true, false, ◌==◌, ◌&&◌, nat_eq, List, [], ◌∷◌, ◌++◌, length, Option, Some, None, refl, ap, sym, ◌∙◌, append_assoc, arith}
 use Rattle.std.specs.Fmt.{digit_glyph}
 use Rattle.std.specs.Char.{is_ascii_hexdigit}

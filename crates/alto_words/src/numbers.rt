@@ -63,7 +63,7 @@ pub fn read_hex(alloc: Global, text: &[u8]) -> Result<Vec<u8>, HexError>
     }
 }
 
-/// The bytes that digits in pairs give.
+/// The bytes that digits in pairs give. Its only error is that no memory was left.
 fn read_pairs(alloc: Global, text: &[u8]) -> Result<Vec<u8>, AllocError>
     requires digits { list_all is_ascii_hexdigit text.now ≡ true }
     requires even { length text.now % 2 ≡ 0 }
@@ -74,8 +74,8 @@ fn read_pairs(alloc: Global, text: &[u8]) -> Result<Vec<u8>, AllocError>
     Ok(bytes)
 }
 
-/// Puts the bytes that digits in pairs give in the place of others. It has no branch on a digit, as `hex::decode` has: which one comes next
-/// no processor can tell, and a guess that is wrong takes it as long as many digits.
+/// Puts the bytes that digits in pairs give in the place of others. `hex::decode` branches on each digit, and this doesn't: which one comes
+/// next no processor can tell, and a guess that is wrong takes it as long as many digits.
 fn decode_pairs(text: &[u8], bytes: &mut [u8])
     requires digits { list_all is_ascii_hexdigit text.now ≡ true }
     requires pairs { length text.now ≡ 2 * length bytes.old }

@@ -39,8 +39,8 @@ pub trait Tape {
     /// What it holds and what has happened to it.
     ghost tape: { Self → Taped };
 
-    /// Whether all record writes so far were handed on to the device, so that they stand on the pack if the process stops. A machine in memory
-    /// holds none back, and has always handed them on.
+    /// Whether all record writes so far, except those that were lost at a fault, were handed on to the device, so that they stand on the pack
+    /// if the process stops. A machine in memory holds none back, and has always handed them on.
     ghost handed_on: { Self → Type 0 };
 }
 
