@@ -1,52 +1,31 @@
 -- Bytes in hexadecimal: digits are read in pairs, and what the crate `hex` writes is what the definitions say.
-use Rattle.std.proofs.Common.{◌≡◌, ◌≢◌, ℕ, suc, ◌+◌, ◌*◌, ◌/◌, ◌%◌, ◌<◌, get_or, set, take, Bool, true, false, ◌==◌, ◌&&◌, nat_eq, List, [], ◌∷◌, ◌++◌, length, Option, Some, None, refl, ap, sym, ◌∙◌, append_assoc, arith}
+use Rattle.std.proofs.Common.{◌≡◌, ◌≢◌, ℕ, suc, ◌+◌, ◌*◌, ◌/◌, ◌%◌, ◌<◌, get_or, Bool, true, false, ◌==◌, ◌&&◌, nat_eq, List, [], ◌∷◌, length, Option, Some, None, refl, ap, sym, ◌∙◌, arith}
 use Rattle.std.specs.Fmt.{digit_glyph}
 use Rattle.std.specs.Char.{is_ascii_hexdigit}
 use Rattle.std.specs.List.{All, list_all}
 use Rattle.std.specs.Option.{is_some}
 use Rattle.std.proofs.lemmas.Bool.{agree_below_at, and_parts, eqb-true, false≢true}
-use Rattle.std.proofs.lemmas.Grind.{take_at_read}
-use Rattle.std.proofs.lemmas.List.{take_more_set}
 use Rattle.std.proofs.lemmas.List.Elements.{All-head, All-tail}
 use Rattle.std.specs.Cmp.Lexicographic.{pointwise}
 use Rattle.std.proofs.lemmas.Bool.Decides.{nat_tests}
 use Rattle.hex.specs.Hex.{encode_lower, encode_with, lower_digits}
 use Rattle.alto_words.specs.Numbers.{hex_digit, hex_byte, hex_pairs, bytes_in_hex, hex_of}
 
--- two digits more after those that were read
-one_more : (high low : Option ℕ) (rest more : Option (List ℕ)) (bytes : List ℕ) (v : ℕ) → ((tail : List ℕ) → rest ≡ Some tail → more ≡ Some (tail ++ v ∷ []))
-    → hex_byte high low rest ≡ Some bytes → hex_byte high low more ≡ Some (bytes ++ v ∷ [])
-one_more None low rest more bytes v next e = absurd cc
-one_more (Some high) None rest more bytes v next e = absurd cc
-one_more (Some high) (Some low) None more bytes v next e = absurd cc
-one_more (Some high) (Some low) (Some tail) more bytes v next e =
-    let is : (high * 16 + low) ∷ tail ≡ bytes = cc in
-    ap (hex_byte (Some high) (Some low)) (next tail refl) ∙ ap (λ (t : List ℕ). Some (t ++ v ∷ [])) is
-
-pairs_pushed : (text bytes : List ℕ) (a b high low : ℕ) → hex_pairs text ≡ Some bytes → hex_digit a ≡ Some high → hex_digit b ≡ Some low
-    → hex_pairs (text ++ a ∷ b ∷ []) ≡ Some (bytes ++ (high * 16 + low) ∷ [])
-pairs_pushed [] bytes a b high low read first second =
-    let none : [] ≡ bytes = cc in
-    (λ i. hex_byte (first i) (second i) (Some [])) ∙ ap (λ (t : List ℕ). Some (t ++ (high * 16 + low) ∷ [])) none
-pairs_pushed (x ∷ []) bytes a b high low read first second = absurd cc
-pairs_pushed (x ∷ y ∷ text) bytes a b high low read first second =
-    one_more (hex_digit x) (hex_digit y) (hex_pairs text) (hex_pairs (text ++ a ∷ b ∷ [])) bytes (high * 16 + low)
-    (λ tail is. pairs_pushed text tail a b high low is first second) read
-
--- a byte more is read of its two digits
-pub pairs_read : (text bytes : List ℕ) (at high low : ℕ) → 2 * at + 1 < length text → at < length bytes
-    → hex_pairs (take (2 * at) text) ≡ Some (take at bytes) → hex_digit (get_or text (2 * at) 0) ≡ Some high → hex_digit (get_or text (2 * at + 1) 0) ≡ Some low
-    → hex_pairs (take (2 * (at + 1)) text) ≡ Some (take (at + 1) (set bytes at (high * 16 + low)))
-pairs_read text bytes at high low within room read first second =
-    let a = get_or text (2 * at) 0 in
-    let b = get_or text (2 * at + 1) 0 in
-    let n : 2 * (at + 1) ≡ 2 * at + 1 + 1 = omega arith in
-    let one = (take_at_read text (2 * at) 0 (omega (arith, within))).1 in
-    let two = (take_at_read text (2 * at + 1) 0 within).1 in
-    ap (λ k. hex_pairs (take k text)) n
-    ∙ ap hex_pairs (two ∙ ap (λ (t : List ℕ). t ++ b ∷ []) one ∙ append_assoc (take (2 * at) text) (a ∷ []) (b ∷ []))
-    ∙ pairs_pushed (take (2 * at) text) (take at bytes) a b high low read first second
-    ∙ ap (λ (t : List ℕ). Some t) (sym (take_more_set bytes at (high * 16 + low) room))
+-- digits in pairs give the bytes that are made of their values
+pub pairs_joined : (text bytes : List ℕ) (value : ℕ → ℕ) → length text ≡ 2 * length bytes → ((k : ℕ) → k < length text → hex_digit (get_or text k 0) ≡ Some (value k))
+    → ((k : ℕ) → k < length bytes → get_or bytes k 0 ≡ value (2 * k) * 16 + value (2 * k + 1)) → hex_pairs text ≡ Some bytes
+pairs_joined [] [] value long each joined = refl
+pairs_joined [] (b ∷ bytes) value long each joined = absurd (omega (arith, long))
+pairs_joined (x ∷ []) bytes value long each joined = absurd (omega (arith, long))
+pairs_joined (x ∷ y ∷ text) [] value long each joined = absurd (omega (arith, long))
+pairs_joined (x ∷ y ∷ text) (b ∷ bytes) value long each joined =
+    let rest : hex_pairs text ≡ Some bytes =
+    pairs_joined text bytes (λ k. value (suc (suc k))) (omega (arith, long)) (λ k within. each (suc (suc k)) (omega (arith, within)))
+    (λ k within.
+    let even : 2 * suc k ≡ suc (suc (2 * k)) = omega arith in
+    let odd : 2 * suc k + 1 ≡ suc (suc (2 * k + 1)) = omega arith in
+    joined (suc k) (omega (arith, within)) ∙ (λ i. value (even i) * 16 + value (odd i))) in
+    (λ i. hex_byte (each 0 (omega arith) i) (each 1 (omega arith) i) (rest i)) ∙ ap (λ (n : ℕ). Some (n ∷ bytes)) (sym (joined 0 (omega arith)))
 
 -- a text other than no byte and `-` is read in pairs
 bytes_in_hex-pairs : (text : List ℕ) → (length text == 0) ≡ false → pointwise nat_eq text (45 ∷ []) ≡ false → bytes_in_hex text ≡ hex_pairs text

@@ -1,8 +1,9 @@
 // Numbers and bytes in text: decimal digits, and hexadecimal digits in pairs.
-ghost use Rattle.std.specs.Prelude.{◌≡◌, ◌++◌, ◌*◌, ◌%◌, ◌≤◌, length, true, Some, None, IfOk, OnOk, OnErr, is_some, decimal};
+ghost use Rattle.std.specs.Prelude.{◌≡◌, ◌++◌, ◌+◌, ◌*◌, ◌%◌, ◌<◌, ◌≤◌, length, true, false, Some, None, IfOk, OnOk, OnErr, is_some, decimal};
 ghost use Rattle.std.specs.Char.{is_ascii_hexdigit};
-ghost use Rattle.std.specs.List.{list_all};
-ghost use Rattle.alto_words.specs.Numbers.{number_in, bytes_in_hex, hex_digit, hex_pairs, hex_of};
+ghost use Rattle.std.specs.Fmt.{digit_glyph};
+ghost use Rattle.std.specs.List.{All, list_all};
+ghost use Rattle.alto_words.specs.Numbers.{AreValues, AreJoined, number_in, bytes_in_hex, hex_digit, hex_pairs, hex_of};
 
 use crate::memory::Memory;
 use itoa::Buffer;
@@ -69,21 +70,46 @@ fn read_pairs(alloc: Global, text: &[u8]) -> Result<Vec<u8>, AllocError>
     requires even { length text.now % 2 ≡ 0 }
     ensures { IfOk result (λ bytes. hex_pairs text.now ≡ Some bytes.items) }
 {
+    let mut values = vec![in alloc; 0; text.len()]?;
+    put_values(text, &mut values);
     let mut bytes = vec![in alloc; 0; text.len() / 2]?;
-    decode_pairs(text, &mut bytes);
+    join_pairs(&values, &mut bytes);
     Ok(bytes)
 }
 
-/// Puts the bytes that digits in pairs give in the place of others. `hex::decode` branches on each digit, and this doesn't: which one comes
-/// next no processor can tell, and a guess that is wrong takes it as long as many digits.
-fn decode_pairs(text: &[u8], bytes: &mut [u8])
+/// Puts the values of hexadecimal digits in the place of as many bytes. `hex::decode` branches on each digit, and this doesn't: which one
+/// comes next no processor can tell, and a guess that is wrong takes it as long as many digits.
+fn put_values(text: &[u8], values: &mut [u8])
     requires digits { list_all is_ascii_hexdigit text.now ≡ true }
-    requires pairs { length text.now ≡ 2 * length bytes.old }
-    ensures { hex_pairs text.now ≡ Some bytes.new }
+    requires length { length text.now ≡ length values.old }
+    ensures length { length values.new ≡ length text.now }
+    ensures values { AreValues (length text.now) text.now values.new }
+{
+    for at in 0..values.len() {
+        values[at] = digit_value(text[at]);
+    }
+}
+
+/// Puts the bytes that have these values of digits in pairs in the place of others.
+fn join_pairs(values: &[u8], bytes: &mut [u8])
+    requires small { All (λ value. value ≤ 15) values.now }
+    requires pairs { length values.now ≡ 2 * length bytes.old }
+    ensures length { 2 * length bytes.new ≡ length values.now }
+    ensures bytes { AreJoined (length bytes.new) values.now bytes.new }
 {
     for at in 0..bytes.len() {
-        bytes[at] = digit_value(text[2 * at]) * 16 + digit_value(text[2 * at + 1]);
+        bytes[at] = join_pair(values[2 * at], values[2 * at + 1]);
     }
+}
+
+/// The byte of two digits, by their values. Both stand in one word, which is shifted over itself: so a processor does it for many pairs at
+/// once.
+fn join_pair(high: u8, low: u8) -> u8
+    requires high { high ≤ 15 }
+    requires low { low ≤ 15 }
+    ensures { result ≡ high * 16 + low }
+{
+    ((u32::from(high) + 256 * u32::from(low)) * 4097 / 256 % 256) as u8
 }
 
 /// The value of a hexadecimal digit: its low four bits are that, or 9 less where it is a letter, which bit 6 tells.
@@ -147,10 +173,31 @@ fn push_digits(out: &mut Vec<u8>, bytes: &[u8]) -> Result<(), Memory>
 {
     let mut digits = [0; 2 * BYTES_AT_ONCE];
     let digits = &mut digits[..2 * bytes.len()];
-    match hex::encode_to_slice(bytes, digits) {
-        Ok(()) => {}
-        Err(_) => unreachable!(),
-    }
+    put_digits(bytes, digits);
     out.extend_from_slice(digits)?;
     Ok(())
+}
+
+/// Puts the digits of bytes, two a byte, in the place of others. `hex::encode_to_slice` looks each of them up in a table, and this makes
+/// many at once.
+fn put_digits(bytes: &[u8], digits: &mut [u8])
+    requires { length digits.old ≡ 2 * length bytes.now }
+    ensures { digits.new ≡ hex_of bytes.now }
+{
+    for at in 0..bytes.len() {
+        digits[2 * at] = digit_of(bytes[at] / 16);
+        digits[2 * at + 1] = digit_of(bytes[at] % 16);
+    }
+}
+
+/// The hexadecimal digit that has this value, in lower case.
+fn digit_of(value: u8) -> u8
+    requires { value < 16 }
+    ensures { result ≡ digit_glyph false value }
+{
+    if value < 10 {
+        b'0' + value
+    } else {
+        b'a' + (value - 10)
+    }
 }
