@@ -37,12 +37,28 @@ pub(crate) fn read_in_file<F: Read + Seek>(
     if let Some(disk) = kept.sector(spot.at) {
         return Ok(compare(plan, buf, disk));
     }
+    compare_in_file(file, spot, plan, buf)
+}
+
+/// Reads and checks the records before the first Write, of a sector that isn't kept. Like the call below it stands apart from the commands
+/// on what is kept, which are far more and would else clear its memory each time.
+#[inline(never)]
+fn compare_in_file<F: Read + Seek>(
+    file: &mut F,
+    spot: Spot,
+    plan: Plan,
+    buf: &mut Sector,
+) -> io::Result<Option<(u8, u16)>>
+    requires { IsTrue (is_legal plan) }
+    ensures { IfOk result (λ found. IfSome found (λ place. IsTrue (is_checked plan place.0))) }
+{
     seek_to(file, spot.ahead)?;
     let disk = read_front(file, plan)?;
     Ok(compare(plan, buf, &disk))
 }
 
 /// Keeps the cylinder of a sector. Where there is no memory for it, or it can't be read whole, all that is kept stays as it was.
+#[inline(never)]
 fn keep_cylinder_of<F: Read + Seek>(file: &mut F, spot: Spot, kept: &mut KeptSectors)
     ensures { NoOtherChanges (spot.at / 24) kept.old kept.new }
 {

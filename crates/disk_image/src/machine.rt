@@ -25,9 +25,10 @@
 // them: they stand in the order of the file, which needn't be that of the commands. Nothing is synced to the device, so a power failure may
 // leave less; and a machine that is dropped without a flush takes along what it holds back.
 //
-// Before each write call the file's length is asked for, by a seek to its end, so that no write makes the file longer, unless another
-// process shortens the file between the question and the write. Where the file is too short, or the call fails, the command fails in
-// which that was tried, or the flush; what is held back stays so and is tried again first, so nothing goes ahead of it.
+// Before its write calls, of which there are two at most, a command or a flush asks for the file's length, by a seek to its end, so that no
+// write makes the file longer, unless another process shortens the file between the question and the write. Where the file is too short,
+// or the call fails, the command fails in which that was tried, or the flush; what is held back stays so and is tried again first, so
+// nothing goes ahead of it.
 //
 // Keys are read ahead. Those of one line that were are taken at once, and none past the line's end (`read_piece`).
 ghost use Rattle.std.specs.Prelude.{◌≡◌, ◌≢◌, ◌-◌, ◌<◌, ◌≤◌, false, [], length, take, IfOk, IfErr, OnErr};

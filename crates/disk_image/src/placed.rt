@@ -42,12 +42,23 @@ impl<F: FileExt + Seek> Placed<F> {
         ensures err { OnErr result (self.new.held ≡ self.old.held) }
         ensures place { self.new.at ≡ self.old.at }
     {
-        if self.held.is_empty() {
-            return Ok(());
-        }
-        write_at_place(&mut self.file, self.held.place(), self.held.bytes())?;
-        self.held.clear();
+        self.hand_on_asking()?;
         Ok(())
+    }
+
+    /// Hands on what is held back, as the call above, and answers the file's length if it was asked for.
+    fn hand_on_asking(&mut self) -> io::Result<Option<u64>>
+        ensures ok { OnOk result (HoldsNone self.new.held) }
+        ensures err { OnErr result (self.new.held ≡ self.old.held) }
+        ensures place { self.new.at ≡ self.old.at }
+    {
+        if self.held.is_empty() {
+            return Ok(None);
+        }
+        let length = self.file.seek(SeekFrom::End(0))?;
+        write_at_place(&mut self.file, length, self.held.place(), self.held.bytes())?;
+        self.held.clear();
+        Ok(Some(length))
     }
 }
 
@@ -58,11 +69,11 @@ fn has_bytes(length: u64, at: u64, count: usize) -> bool
     at <= length && count as u64 <= length - at
 }
 
-/// Writes bytes to their place in a file that has the whole of it, by one write call. UnexpectedEof: it no longer has. Records written
-/// there would make the file longer again, and those that were lost would be read as zeros. That holds for the moment of the question:
-/// another process can shorten the file after it.
-fn write_at_place<F: FileExt + Seek>(file: &mut F, at: u64, bytes: &[u8]) -> io::Result<()> {
-    if !has_bytes(file.seek(SeekFrom::End(0))?, at, bytes.len()) {
+/// Writes bytes to their place in a file that has the whole of it, as its length was told just before, by one write call. UnexpectedEof:
+/// it no longer has. Records written there would make the file longer again, and those that were lost would be read as zeros. That holds
+/// for the moment of the question: another process can shorten the file after it.
+fn write_at_place<F: FileExt>(file: &mut F, length: u64, at: u64, bytes: &[u8]) -> io::Result<()> {
+    if !has_bytes(length, at, bytes.len()) {
         return Err(Error::from(ErrorKind::UnexpectedEof));
     }
     file.write_all_at(bytes, at)
@@ -79,12 +90,17 @@ impl<F: FileExt + Seek> Read for Placed<F> {
 
 impl<F: FileExt + Write + Seek> Write for Placed<F> {
     /// Bytes that are all in one page of memory of the file are held back, those that are held and stand elsewhere going ahead of them. Others are
-    /// written by a call of their own, after those that are held; and so are all where there is no memory to hold any.
+    /// written by a call of their own, after those that are held; and so are all where there is no memory to hold any. For both calls the
+    /// file's length is asked once.
     fn write(&mut self, buf: &[u8]) -> io::Result<usize> {
         if !self.held.put(self.at, buf) {
-            self.hand_on()?;
+            let asked = self.hand_on_asking()?;
             if !self.held.put(self.at, buf) {
-                write_at_place(&mut self.file, self.at, buf)?;
+                let length = match asked {
+                    Some(length) => length,
+                    None => self.file.seek(SeekFrom::End(0))?,
+                };
+                write_at_place(&mut self.file, length, self.at, buf)?;
             }
         }
         self.at = self.at.saturating_add(buf.len() as u64);

@@ -19,6 +19,9 @@ use std::os::unix::fs::MetadataExt;
 use std::rt::Files;
 use std::{fs, io};
 
+/// The most keys that are read ahead.
+const KEYS_AHEAD: usize = 65536;
+
 impl<'a, R: Files + Input + Print> FileMachine<'a, R> {
     /// A machine of one drive over the pack file at this path, which is opened for reading and writing. The file isn't read yet.
     ///
@@ -133,7 +136,7 @@ impl<'a, R: Files + Input + Print> FileMachine<'a, R> {
 fn reader_of_keys<R: Input>(rt: &R, alloc: Global) -> Result<BufReader<R::Reader>, ReachError>
     ensures err { IfErr result (λ error. error ≡ ReachError.Memory) }
 {
-    match BufReader::new(alloc, rt.reader()) {
+    match BufReader::with_capacity(alloc, KEYS_AHEAD, rt.reader()) {
         Ok(keys) => Ok(keys),
         Err(_) => Err(ReachError::Memory),
     }

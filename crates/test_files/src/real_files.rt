@@ -196,10 +196,10 @@ fn writes_within_a_page_are_handed_on_by_one_call(rt: HostRuntime) -> Result<(),
     let three = [end, FileCall::WriteAt(0, 1_596)];
     let two = [end, FileCall::WriteAt(532, 1_064)];
     let fifth = [end, FileCall::WriteAt(2_128, 532)];
+    // the length is asked once for both
     let both = [
         end,
         FileCall::WriteAt(4_256, 532),
-        end,
         FileCall::WriteAt(3_724, 532),
     ];
     // the sector that is written, or none where the machine is flushed, and the calls for it
@@ -394,8 +394,8 @@ fn a_write_that_breaks_off_leaves_the_records_ahead(rt: HostRuntime) -> Result<(
 #[test]
 fn keys_are_read_ahead_and_replies_shown_whole(rt: HostRuntime) -> Result<(), Fail> {
     let alloc = rt.alloc();
-    // a pair of lines has 1,017 keys: 19,323 of them in three reads and one that finds the end, and 67,122 in nine and one
-    for (pairs, most_reads) in [(19u64, 4), (66, 10)] {
+    // a pair of lines has 1,017 keys: 19,323 of them in one read and one that finds the end, and 67,122 in two and one
+    for (pairs, most_reads) in [(19u64, 2), (66, 3)] {
         let mut keys = Vec::new(alloc);
         let mut replies = Vec::new(alloc);
         for _ in 0..pairs {
