@@ -77,7 +77,7 @@ spelled name =
       }
     ]
 
-after_name : (name pad : List ℕ) → IsSplitAt (name ++ pad) (length name) name pad
+pub after_name : (name pad : List ℕ) → IsSplitAt (name ++ pad) (length name) name pad
 after_name name pad =
     let long = length-append name pad in
     (omega arith, sym (take_at name pad (length name) refl), sym (drop_at name pad (length name) refl), refl, omega arith)

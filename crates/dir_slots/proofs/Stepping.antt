@@ -48,11 +48,11 @@ module _ (given : List ℕ) (w : ℕ) (place held : ℕ) (front fresh : List ℕ
       meets_one given w (walking place held front ended) (walking (place + (held + 1)) 0 fresh ended) walked going met at (ap (λ (n : ℕ). place + n) long_now) going (record { held = refl; front = refl }) (sym some) address
 
 -- ---- a slot that is read where it stands
-nothing_is : (l : List ℕ) → 0 ≡ length l → l ≡ []
+pub nothing_is : (l : List ℕ) → 0 ≡ length l → l ≡ []
 nothing_is [] e = refl
 nothing_is (x ∷ l) e = absurd (omega (arith, e))
 
-first_word : (words : List ℕ) (w : ℕ) → Some w ≡ slice_get words 0 → get_or words 0 0 ≡ w
+pub first_word : (words : List ℕ) (w : ℕ) → Some w ≡ slice_get words 0 → get_or words 0 0 ≡ w
 first_word [] w some = absurd (let no : Some w ≡ None = some in cc)
 first_word (x ∷ words) w some = let same : Some w ≡ Some x = some in cc
 

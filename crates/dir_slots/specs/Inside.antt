@@ -1,11 +1,17 @@
 -- What the steps of reading a slot answer, and of looking for room.
-use Rattle.std.specs.Prelude.{ℕ, ◌+◌, ◌==◌, ◌&&◌, cond, List, [], ◌∷◌, length, take, drop, Option, Some, None}
+use Rattle.std.specs.Prelude.{◌≡◌, ℕ, ◌+◌, ◌/◌, ◌%◌, ◌≤◌, ◌==◌, ◌&&◌, Bool, true, false, cond, List, [], ◌∷◌, length, take, drop, Option, Some, None}
 use Rattle.std.specs.List.{list_all}
-use Rattle.alto_words.specs.Names.{is_stored_name}
+use Rattle.alto_words.specs.Names.{is_bare_name, is_name_character, is_same_name, is_stored_name}
 use Rattle.disk_records.specs.Words.{word}
-use Rattle.pack_model.specs.reading.Slots.{Item, entry_length, is_entry, slot_fid, slot_name}
+use Rattle.pack_model.specs.reading.Bytes.{bytes_of}
+use Rattle.pack_model.specs.reading.Slots.{Item, entry_length, first_length, is_entry, slot_at, slot_fid, slot_name}
 use Rattle.pack_model.specs.reading.Slots.Item.{space, entry}
+use Rattle.pack_model.specs.reading.SlotWords.{address_at}
+use Rattle.dir_slots.specs.Items.{address_of, item_of}
+use Rattle.dir_slots.specs.Others.{IsOther}
+use Rattle.dir_slots.specs.Walks.{Walking}
 use Rattle.dir_slots.specs.declared.room.Room.{Room}
+use Rattle.dir_slots.specs.declared.slot.Slot.{Slot}
 
 -- the characters that a byte with their number begins, and the bytes after them
 abbrev pub counted_name : List ℕ → List ℕ
@@ -33,3 +39,40 @@ AreFree (entry f name ∷ is) = ⊥
 abbrev pub row_after : Room → ℕ → Item → Room
 row_after row at (space n) = record { first = row.first; place = row.place; total = row.total + n }
 row_after row at (entry f name) = record { first = at + 1; place = row.place + row.total + entry_length (length name); total = 0 }
+
+-- ---- slots that are passed over
+-- both bytes of a word may stand in a bare name
+abbrev pub is_pair : ℕ → Bool
+is_pair w = is_name_character (w / 256) && is_name_character (w % 256)
+
+-- a walk with no word in hand, so many words further on
+abbrev pub further : Walking → ℕ → Walking
+further walk n = record { place = walk.place + n; held = walk.held; front = walk.front; ended = walk.ended }
+
+-- These words spell a bare name after its length.
+pub record IsBareSpelled (words : List ℕ) : Type 0 where
+  pub name : List ℕ
+  pub named : name_of (bytes_of words) ≡ Some name
+  pub bare : is_bare_name name ≡ true
+  pub size : length words ≡ (length name + 2) / 2
+
+-- These words, and no more, are the entry of a bare name.
+pub record IsBareEntry (words : List ℕ) : Type 0 where
+  pub is : is_entry words ≡ true
+  pub bare : is_bare_name (slot_name words) ≡ true
+  pub size : length words ≡ entry_length (word words 6 / 256)
+
+-- and that name isn't this one
+pub record IsOtherEntry (name words : List ℕ) : Type 0 where
+  pub entry : IsBareEntry words
+  pub other : is_same_name (slot_name words) name ≡ false
+
+-- The first n of these words are a slot that a scan for this name may pass over.
+pub record IsOtherAt (name words : List ℕ) (n : ℕ) : Type 0 where
+  pub slot : Slot
+  pub least : 1 ≤ n
+  pub within : n ≤ length words
+  pub states : first_length words ≡ n
+  pub reads : Some (item_of slot) ≡ slot_at (take n words)
+  pub address : address_of slot ≡ address_at (take n words) 0 (item_of slot)
+  pub other : IsOther name (item_of slot)

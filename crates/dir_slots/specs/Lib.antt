@@ -1,4 +1,5 @@
 pub mod Inside
 pub mod Items
 pub mod Laws
+pub mod Others
 pub mod Walks

@@ -4,7 +4,7 @@ ghost use Rattle.std.specs.List.{list_all};
 ghost use Rattle.std.specs.Option.{option_map};
 ghost use Rattle.disk_records.specs.Words.{word};
 ghost use Rattle.pack_model.specs.reading.Bytes.{bytes_of};
-ghost use Rattle.pack_model.specs.reading.Slots.{item_words, slot_at};
+ghost use Rattle.pack_model.specs.reading.Slots.{item_words, slot_at, slot_fid};
 ghost use Rattle.pack_model.specs.reading.SlotWords.{address_at};
 ghost use Rattle.dir_slots.specs.Inside.{name_of, entry_of};
 ghost use Rattle.dir_slots.specs.Items.{item_of, address_of, IsInRange};
@@ -27,13 +27,13 @@ const ZERO: usize = 4;
 
 const LEADER_AT: usize = 5;
 
-const NAME: usize = 6;
+pub(crate) const NAME: usize = 6;
 
 /// Word 0 of an entry less its length: the type 1 times 1,024. That of a free slot is its length alone.
 pub(crate) const ENTRY_TYPE: u16 = 1024;
 
 /// The fewest words of an entry: those of one whose name has 2 characters.
-const MIN_ENTRY_WORDS: usize = 8;
+pub(crate) const MIN_ENTRY_WORDS: usize = 8;
 
 /// The most bytes of a name with its length: those of the words after word 5.
 const MAX_NAME_BYTES: usize = 40;
@@ -87,11 +87,7 @@ fn read_entry(words: &[u16]) -> Option<Slot>
     if !is_entry_head(words) {
         return None;
     }
-    let fid = Fid {
-        high: words[SERIAL_HIGH],
-        low: words[SERIAL_LOW],
-        version: words[VERSION],
-    };
+    let fid = fid_of(words);
     if !fid.is_full_name() {
         return None;
     }
@@ -106,8 +102,20 @@ fn read_entry(words: &[u16]) -> Option<Slot>
     })
 }
 
+/// The full name in the words of an entry.
+pub(crate) fn fid_of(words: &[u16]) -> Fid
+    requires { 4 ≤ length words.now }
+    ensures { result ≡ slot_fid words.now }
+{
+    Fid {
+        high: words[SERIAL_HIGH],
+        low: words[SERIAL_LOW],
+        version: words[VERSION],
+    }
+}
+
 /// Whether word 0 is the type of an entry with the length, and word 4 is 0.
-fn is_entry_head(words: &[u16]) -> bool
+pub(crate) fn is_entry_head(words: &[u16]) -> bool
     requires { 5 ≤ length words.now }
     ensures { result ≡ (word words.now 0 == 1024 + length words.now && word words.now 4 == 0) }
 {

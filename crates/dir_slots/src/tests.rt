@@ -236,3 +236,22 @@ fn a_walk_goes_over_the_end_of_a_page(rt: HostRuntime) -> Result<(), Fail> {
     assert_eq!(rt; walk.place(), 560);
     Ok(())
 }
+
+#[test]
+fn a_walk_passes_over_other_names(rt: HostRuntime) -> Result<(), Fail> {
+    // a free slot, the entries of B and A, and then one of A!2
+    let mut page = [0; 256];
+    page[0] = 5;
+    page[5..13].copy_from_slice(&ENTRY_OF_A);
+    page[11] = 0x0242;
+    page[13..21].copy_from_slice(&ENTRY_OF_A);
+    page[21..30].copy_from_slice(&ENTRY_WITH_A_VERSION);
+    let (mut walk, mut from) = (Walk::new(), 0);
+    walk.pass_others(&page, &mut from, &Name::parse(b"a").ok_or("a name")?);
+    assert_eq!(rt; from, 13);
+    walk.pass_others(&page, &mut from, &Name::parse(b"b").ok_or("a name")?);
+    // a version is met
+    assert_eq!(rt; from, 21);
+    assert_eq!(rt; walk.place(), 21);
+    Ok(())
+}

@@ -2,7 +2,9 @@
 ghost use Rattle.std.specs.Prelude.{◌≡◌, ℕ, List, [], ◌∷◌, ◌++◌, ◌+◌, length, take};
 
 use crate::codec::{ENTRY_TYPE, slot_here};
+use crate::others::others_end;
 use crate::slot::{MAX_ENTRY_WORDS, Slot};
+use alto_words::Name;
 use std::marker::Model;
 
 /// A slot, and the place of its first word among the words of its directory, counted from 0.
@@ -45,6 +47,7 @@ impl Walk {
     ghost use Rattle.pack_model.specs.reading.Slots.{item_words, slots, all_words};
     ghost use Rattle.dir_slots.specs.Items.{IsInRange, item_of};
     ghost use Rattle.dir_slots.specs.Laws.{HasStoredName};
+    ghost use Rattle.dir_slots.specs.Others.{Passes};
     ghost use Rattle.dir_slots.specs.Walks.{Walking, Walked, Meets, placed_slots};
 
     /// A walk that stands before the first word of a directory.
@@ -129,6 +132,25 @@ impl Walk {
         let place = self.place;
         self.place += length as u32;
         Some(PlacedSlot { place, slot })
+    }
+
+    /// Passes over slots that end in the rest of this page and can't be the entry of this name or of a version of it: free ones, and entries
+    /// of other bare names. It may stop earlier, and while a slot is in hand it passes over none. `from` is as for `next`, and goes on to
+    /// the word after them.
+    pub fn pass_others(&mut self, page: &[u16], from: &mut usize, name: &Name)
+        requires within { from.old ≤ length page.now }
+        requires fits { self.old.place + self.old.held + length page.now < 2 ^ 32 + from.old }
+        ensures passes { (given : List ℕ) → Walked (given ++ take from.old page.now) self.old → Passes name.now (given ++ take from.old page.now) (given ++ take from.new page.now) self.new }
+        ensures on { from.old ≤ from.new }
+        ensures within { from.new ≤ length page.now }
+        ensures taken { self.new.place + self.new.held + from.old ≡ self.old.place + self.old.held + from.new }
+    {
+        if self.ended || self.held != 0 {
+            return;
+        }
+        let at = others_end(page, *from, name);
+        self.place += (at - *from) as u32;
+        *from = at;
     }
 
     /// Takes all words of a page, and passes over the slots that end in it.

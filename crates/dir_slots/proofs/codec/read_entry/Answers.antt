@@ -1,7 +1,9 @@
-use Rattle.std.proofs.Common.{sym, ap, ◌∙◌, eq-eqb}
+use Rattle.std.proofs.Common.{Some, sym, ap, ◌∙◌, eq-eqb}
 use Rattle.std.specs.Option.{option_map}
 use Rattle.std.proofs.lemmas.Bool.{both_ways, and_from, and_parts, eqb-true}
 use Rattle.std.proofs.lemmas.Option.{none-some}
+use Rattle.alto_words.specs.Fid.{is_full_name}
+use Rattle.pack_model.specs.reading.Slots.Item.{entry}
 use Rattle.dir_slots.specs.Inside.{name_of}
 use Rattle.dir_slots.specs.Items.{item_of}
 use Rattle.dir_slots.proofs.Words.{name_after}
@@ -17,7 +19,7 @@ returns-then-not-is_entry_head-clause-item c =
 
 pub returns-then-not-is_full_name-clause-item : goal.returns-then-not-is_full_name-clause-item
 returns-then-not-is_full_name-clause-item c =
-    sym (entry_of-none c.args.words.now (λ parts. both_ways _ (sym c.is_full_name.ensures ∙ c.if-not-is_full_name.true) parts.full))
+    sym (entry_of-none c.args.words.now (λ parts. both_ways _ (sym c.is_full_name.ensures ∙ c.if-not-is_full_name.true) (ap is_full_name c.fid_of-fid.ensures ∙ parts.full)))
 
 pub returns-in_err-name-clause-item : goal.returns-in_err-name-clause-item
 returns-in_err-name-clause-item c =
@@ -30,12 +32,13 @@ returns-then-entry_words-words-clause-item c =
 pub returns-clause-item : goal.returns-clause-item
 returns-clause-item c =
     let same = and_parts _ _ (sym c.is_entry_head.ensures ∙ c.if-not-is_entry_head.false) in
-    sym (entry_of-some c.args.words.now c.in_ok-name.name (record {
+    ap (λ f. Some (entry f c.in_ok-name.name)) c.fid_of-fid.ensures
+    ∙ sym (entry_of-some c.args.words.now c.in_ok-name.name (record {
       first = eqb-true _ _ same.0;
       size = sym c.if-entry_words-words.false ∙ c.entry_words.ensures.words;
       named = sym (c.in_ok-name.ensures ∙ ap name_of (name_after c.args.words.now));
       zero = eqb-true _ _ same.1;
-      full = sym c.is_full_name.ensures ∙ c.if-not-is_full_name.false;
+      full = sym (ap is_full_name c.fid_of-fid.ensures) ∙ sym c.is_full_name.ensures ∙ c.if-not-is_full_name.false;
     }))
 
 pub returns-clause-stored : goal.returns-clause-stored
