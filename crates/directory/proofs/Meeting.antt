@@ -5,6 +5,7 @@ use Rattle.std.specs.Option.{option_map}
 use Rattle.std.proofs.lemmas.Fn.{chained_keeps}
 use Rattle.alto_words.specs.declared.wanted.Wanted.{Wanted}
 use Rattle.alto_words.specs.declared.wanted.Wanted.TheVariants.{Newest}
+use Rattle.alto_words.specs.Wanted.{base_wanted}
 use Rattle.file_pages.specs.laws_lookup.proofs.slots.Laws.{held_goes_on, lookup_goes_on}
 use Rattle.pack_model.specs.reading.Lookup.{entry_at, holds_base, is_held_at, meant_by}
 use Rattle.pack_model.specs.reading.SlotWords.{SlotAt}
@@ -28,17 +29,15 @@ all_meant w slots u v wanted none folds = chained_keeps MeetsMeant (HasMeant w) 
 
 -- ---- the greatest version, and whether the base is held
 pub record HasVersion (base : List ℕ) (met : List SlotAt) (u : Versions) : Type 0 where
-  pub base_is : u.base ≡ base
   pub newest : HasMeant (Newest base) met u.newest
   pub held : u.held ≡ is_held_at base met
 
 version_more : (base : List ℕ) (met : List SlotAt) (u : Versions) (s : SlotAt) (v : Versions) → HasVersion base met u → MeetsVersion u s v → HasVersion base (met ++ s ∷ []) v
 version_more base met u s v so_far step = record {
-  base_is = step.base ∙ so_far.base_is;
   newest = meant_more (Newest base) met u.newest s v.newest so_far.newest step.newest;
-  held = step.held ∙ ap (λ b. u.held || holds_base b s.item) so_far.base_is ∙ ap (λ h. h || holds_base base s.item) so_far.held ∙ sym (held_goes_on base met s);
+  held = step.held ∙ ap (λ w. u.held || holds_base (base_wanted w) s.item) so_far.newest.wanted ∙ ap (λ h. h || holds_base base s.item) so_far.held ∙ sym (held_goes_on base met s);
 }
 
-pub all_versions : (base : List ℕ) (slots : List SlotAt) (u v : Versions) → u.base ≡ base → u.newest.wanted ≡ Newest base → u.newest.best ≡ None → u.held ≡ false → FoldsTo MeetsVersion u slots v → HasVersion base slots v
-all_versions base slots u v is wanted none unheld folds =
-    chained_keeps MeetsVersion (HasVersion base) (version_more base) slots u v (record { base_is = is; newest = record { wanted = wanted; best = ap (option_map found_at) none }; held = unheld }) folds
+pub all_versions : (base : List ℕ) (slots : List SlotAt) (u v : Versions) → u.newest.wanted ≡ Newest base → u.newest.best ≡ None → u.held ≡ false → FoldsTo MeetsVersion u slots v → HasVersion base slots v
+all_versions base slots u v wanted none unheld folds =
+    chained_keeps MeetsVersion (HasVersion base) (version_more base) slots u v (record { newest = record { wanted = wanted; best = ap (option_map found_at) none }; held = unheld }) folds

@@ -1,10 +1,11 @@
 -- The slots of a directory, page by page.
-use Rattle.std.proofs.Common.{◌≡◌, ℕ, zero, suc, ◌+◌, ◌*◌, ◌/◌, ◌<◌, ◌≤◌, List, [], ◌∷◌, ◌++◌, length, take, Option, Some, None, refl, sym, ◌∙◌, ap, subst, inl, arith, append_assoc}
-use Rattle.std.specs.List.{FoldsTo}
+use Rattle.std.proofs.Common.{◌≡◌, ℕ, zero, suc, ◌+◌, ◌*◌, ◌/◌, ◌<◌, ◌≤◌, List, [], ◌∷◌, ◌++◌, length, take, get_or, Option, Some, None, refl, sym, ◌∙◌, ap, subst, inl, arith, append_assoc}
+use Rattle.std.specs.List.{All, FoldsTo}
 use Rattle.std.proofs.lemmas.Fn.{FoldsTo-push}
 use Rattle.std.proofs.lemmas.List.{append-nil, length-take-le, take_all}
 use Rattle.alto_words.specs.declared.fid.Fid.{Fid}
 use Rattle.dir_slots.specs.declared.walk.PlacedSlot.{PlacedSlot}
+use Rattle.dir_slots.specs.Others.{IsOther, Passes}
 use Rattle.dir_slots.specs.Walks.{Meets, Walked, Walking, placed_slots, slot_met}
 use Rattle.disk_records.specs.declared.records.Page.{Page}
 use Rattle.disk_records.specs.declared.records.Sector.{Sector}
@@ -32,10 +33,6 @@ pub folds_on : {V A : Type 0} (step : V → A → V → Type 0) (xs ys : List A)
 folds_on step [] ys u v w first next = subst (λ x. FoldsTo step x ys w) (sym first) next
 folds_on step (x ∷ xs) ys u v w first next = (first.0, first.1, folds_on step xs ys first.0 v w first.2 next)
 
--- after nothing a visitor is as it was
-pub visits_none : {V : Type 0} (step : V → SlotAt → V → Type 0) (given : List ℕ) (walk : Walking) (v : V) → Walked given walk → Visits step given given walk v v
-visits_none step given walk v walked = record { walked = walked; seen = []; slots = sym (append-nil (placed_slots given)); folds = refl }
-
 -- one slot more
 pub visits_next : {V : Type 0} (step : V → SlotAt → V → Type 0) (given mid later : List ℕ) (old walk : Walking) (u v w : V) (met : PlacedSlot) → Visits step given mid old u v → Meets mid later walk (Some met) → step v (slot_met met) w → Visits step given later walk u w
 visits_next step given mid later old walk u v w met before meets on = record {
@@ -48,6 +45,23 @@ visits_next step given mid later old walk u v w met before meets on = record {
 -- no slot ends in what is left
 pub visits_end : {V : Type 0} (step : V → SlotAt → V → Type 0) (given mid later : List ℕ) (old walk : Walking) (u v : V) → Visits step given mid old u v → Meets mid later walk None → Visits step given later walk u v
 visits_end step given mid later old walk u v before meets = record { walked = meets.walked; seen = before.seen; slots = meets.slots ∙ append-nil (placed_slots mid) ∙ before.slots; folds = before.folds }
+
+-- slots at which a visitor stays as it is
+stays : {V A : Type 0} (step : V → A → V → Type 0) (v : V) (xs : List A) → All (λ x. step v x v) xs → FoldsTo step v xs v
+stays step v [] all = refl
+stays step v (x ∷ xs) all = (v, all 0 x (omega arith), stays step v xs (λ k d l. all (suc k) d (omega (arith, l))))
+
+pub visits_passed : {V : Type 0} (step : V → SlotAt → V → Type 0) (name given later : List ℕ) (walk : Walking) (v : V) → ((s : SlotAt) → IsOther name s.item → step v s v) → Passes name given later walk → Visits step given later walk v v
+visits_passed step name given later walk v same passes = record { walked = passes.walked; seen = passes.seen; slots = passes.slots; folds = stays step v passes.seen (λ k d l. same (get_or passes.seen k d) (passes.others k d l)) }
+
+-- words after others
+pub visits_on : {V : Type 0} (step : V → SlotAt → V → Type 0) (given mid later : List ℕ) (old walk : Walking) (u v w : V) → Visits step given mid old u v → Visits step mid later walk v w → Visits step given later walk u w
+visits_on step given mid later old walk u v w first next = record {
+  walked = next.walked;
+  seen = first.seen ++ next.seen;
+  slots = next.slots ∙ ap (λ l. l ++ next.seen) first.slots ∙ append_assoc (placed_slots given) first.seen next.seen;
+  folds = folds_on step first.seen next.seen u v w first.folds next.folds;
+}
 
 -- ---- pages of a directory
 -- The first k data pages are full, and the slots that end in them were taken.

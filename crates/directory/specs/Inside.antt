@@ -1,6 +1,7 @@
 -- What the private functions say: entries that were met, and a step of each visitor.
 use Rattle.std.specs.Prelude.{◌≡◌, ◌-◌, ◌^◌, ◌++◌, ◌||◌, min, max, [], ◌∷◌, map}
 use Rattle.std.specs.Option.{option_map}
+use Rattle.alto_words.specs.Wanted.{base_wanted}
 use Rattle.dir_slots.specs.Items.{address_of, items_of}
 use Rattle.file_pages.specs.laws_midway.specs.RoomLaws.{row_words}
 use Rattle.pack_model.specs.reading.Lookup.{EntryAt, holds_base, meant_by}
@@ -23,9 +24,8 @@ pub record MeetsMeant (old : Finding) (s : SlotAt) (new : Finding) : Type 0 wher
 
 -- that of the greatest version, and whether the base is held
 pub record MeetsVersion (old : Versions) (s : SlotAt) (new : Versions) : Type 0 where
-  pub base : new.base ≡ old.base
   pub newest : MeetsMeant old.newest s new.newest
-  pub held : new.held ≡ (old.held || holds_base old.base s.item)
+  pub held : new.held ≡ (old.held || holds_base (base_wanted old.newest.wanted) s.item)
 
 -- the free words in the row that ends with it, as far as they are counted, and the most
 pub record MeetsRow (old : Runs) (s : SlotAt) (new : Runs) : Type 0 where

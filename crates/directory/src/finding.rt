@@ -83,6 +83,13 @@ impl Visit for Finding {
 
     ghost takes_memory = { false };
 
+    fn sought(&self) -> Option<&Name> {
+        match &self.wanted {
+            Wanted::Exact { name } => Some(name),
+            Wanted::Newest { base } => Some(base),
+        }
+    }
+
     fn visit(&mut self, met: PlacedSlot) -> Result<(), Memory> {
         self.best = best_with(&self.wanted, self.best, &met);
         Ok(())

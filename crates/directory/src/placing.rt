@@ -84,6 +84,10 @@ impl Visit for Placing {
 
     ghost takes_memory = { false };
 
+    fn sought(&self) -> Option<&Name> {
+        None
+    }
+
     fn visit(&mut self, met: PlacedSlot) -> Result<(), Memory> {
         self.seeking.seek(&met);
         self.runs.count(&met);

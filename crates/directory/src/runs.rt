@@ -14,7 +14,7 @@ ghost use Rattle.directory.specs.Found.{IsQuick, ListsLastPage};
 
 use crate::walk::{Visit, visit_slots};
 use crate::{DirError, FileRef};
-use alto_words::Memory;
+use alto_words::{Memory, Name};
 use dir_slots::{PlacedSlot, Slot};
 use disk_records::{Disk, Sector};
 use hint_cache::Hints;
@@ -48,6 +48,10 @@ impl Visit for Runs {
     ghost step = { MeetsRow };
 
     ghost takes_memory = { false };
+
+    fn sought(&self) -> Option<&Name> {
+        None
+    }
 
     fn visit(&mut self, met: PlacedSlot) -> Result<(), Memory> {
         self.count(&met);

@@ -11,7 +11,7 @@ ghost use Rattle.directory.specs.Found.{AreSlots, IsQuick, ListsLastPage};
 
 use crate::walk::{Visit, visit_slots};
 use crate::{FileRef, ListError};
-use alto_words::Memory;
+use alto_words::{Memory, Name};
 use dir_slots::{PlacedSlot, Slot};
 use disk_records::{Disk, Sector};
 use hint_cache::Hints;
@@ -30,6 +30,10 @@ impl Visit for Slots {
     ghost step = { MeetsSlot };
 
     ghost takes_memory = { true };
+
+    fn sought(&self) -> Option<&Name> {
+        None
+    }
 
     fn visit(&mut self, met: PlacedSlot) -> Result<(), Memory> {
         self.slots.push(met.slot)?;

@@ -33,7 +33,6 @@ pub struct VersionFound {
 /// The entry with the greatest version of a base, and whether the base is held, of the slots met so far.
 #[derive(Drop)]
 struct Versions {
-    base: Name,
     newest: Finding,
     held: bool,
 }
@@ -63,8 +62,16 @@ impl Visit for Versions {
 
     ghost takes_memory = { false };
 
+    fn sought(&self) -> Option<&Name> {
+        match &self.newest.wanted {
+            // an entry of the base itself counts then, too
+            Wanted::Exact { .. } => None,
+            Wanted::Newest { base } => Some(base),
+        }
+    }
+
     fn visit(&mut self, met: PlacedSlot) -> Result<(), Memory> {
-        if holds_base(&self.base, &met.slot) {
+        if holds_base(&self.newest.wanted.base(), &met.slot) {
             self.held = true;
         }
         self.newest.visit(met)
@@ -98,7 +105,6 @@ pub fn greatest<D: Disk>(
     ensures handy { IsTrue D.told → KeepsHandy (pack (D.tape disk.old)) hints.old.cache hints.new.cache }
 {
     let mut versions = Versions {
-        base: *base,
         newest: Finding {
             wanted: Wanted::Newest { base: *base },
             best: None,

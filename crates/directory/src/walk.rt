@@ -1,10 +1,11 @@
 // The slots of a directory one after another, for a visitor.
-ghost use Rattle.std.specs.Prelude.{◌≡◌, ℕ, ◌+◌, ◌*◌, ◌<◌, ◌≤◌, ◌++◌, Bool, IsTrue, IsErrOf, OnOk, OnErr, List, [], length};
+ghost use Rattle.std.specs.Prelude.{◌≡◌, ℕ, ◌+◌, ◌*◌, ◌^◌, ◌<◌, ◌≤◌, ◌++◌, Bool, IfSome, IsTrue, IsErrOf, OnOk, OnErr, List, [], length, take};
 ghost use Rattle.std.specs.List.{FoldsTo};
 ghost use Rattle.disk_records.specs.Causes.{HasCause};
 ghost use Rattle.disk_records.specs.Tapes.{Looks, pack};
 ghost use Rattle.dir_slots.specs.Items.{IsInRange, item_of};
 ghost use Rattle.dir_slots.specs.Laws.{HasStoredName};
+ghost use Rattle.dir_slots.specs.Others.{IsOther};
 ghost use Rattle.dir_slots.specs.Walks.{Walked, slot_met};
 ghost use Rattle.pack_model.specs.hints.Links.{LinksTrue, dir_slots};
 ghost use Rattle.pack_model.specs.hints.Misled.{IsOnDisk};
@@ -18,7 +19,7 @@ ghost use Rattle.directory.specs.Bounds.{most_words};
 ghost use Rattle.directory.specs.Found.{IsQuick, ListsLastPage};
 ghost use Rattle.directory.specs.Visits.{Visits, ended};
 
-use alto_words::Memory;
+use alto_words::{Memory, Name};
 use dir_slots::{PlacedSlot, Walk};
 use disk_records::{Disk, PAGE_BYTES, Sector};
 use hint_cache::Hints;
@@ -32,6 +33,11 @@ pub(crate) trait Visit {
     /// Whether a step takes memory: a constant of the type.
     ghost takes_memory: { Bool };
 
+    /// The name that it seeks, if it would stay as it is at each free slot and at each entry of another bare name: it need not be handed
+    /// those.
+    fn sought(&self) -> Option<&Name>
+        ensures { IfSome result (λ name. (s : SlotAt) → IsOther name.now s.item → step self.now s self.now) };
+
     /// Takes the next slot of the directory. Memory: no memory was left.
     fn visit(&mut self, met: PlacedSlot) -> Result<(), Memory>
         requires within { met.place + item_words (item_of met.slot) ≤ most_words }
@@ -41,7 +47,21 @@ pub(crate) trait Visit {
         ensures want { OnErr result (IsTrue takes_memory) };
 }
 
-/// Hands each slot that ends in these words, the next ones of the directory, to the visitor.
+/// Passes over slots of these words that the visitor need not be handed.
+fn pass_for<V: Visit>(walk: &mut Walk, words: &[u16], from: &mut usize, visitor: &V)
+    requires within { from.old ≤ length words.now }
+    requires fits { walk.old.place + walk.old.held + length words.now < 2 ^ 32 + from.old }
+    ensures visits { (given : List ℕ) → Walked (given ++ take from.old words.now) walk.old → Visits V.step (given ++ take from.old words.now) (given ++ take from.new words.now) walk.new visitor.now visitor.now }
+    ensures on { from.old ≤ from.new }
+    ensures within { from.new ≤ length words.now }
+    ensures taken { walk.new.place + walk.new.held + from.old ≡ walk.old.place + walk.old.held + from.new }
+{
+    if let Some(name) = visitor.sought() {
+        walk.pass_others(words, from, name);
+    }
+}
+
+/// Hands each slot that ends in these words, the next ones of the directory, to the visitor, except slots that it need not be handed.
 fn visit_words<V: Visit>(walk: &mut Walk, words: &[u16], visitor: &mut V) -> Result<(), Memory>
     requires walks { (given : List ℕ) × Walked given walk.old }
     requires fits { walk.old.place + walk.old.held + length words.now ≤ most_words }
@@ -50,8 +70,10 @@ fn visit_words<V: Visit>(walk: &mut Walk, words: &[u16], visitor: &mut V) -> Res
     ensures want { OnErr result (IsTrue V.takes_memory) }
 {
     let mut from = 0;
+    pass_for(walk, words, &mut from, visitor);
     while let Some(met) = walk.next(words, &mut from) {
         visitor.visit(met)?;
+        pass_for(walk, words, &mut from, visitor);
     }
     Ok(())
 }
@@ -78,8 +100,8 @@ fn ended(error: FileError) -> Result<(), FileError>
     }
 }
 
-/// Hands each slot of a directory to the visitor, in order. Its pages are located one after another; `buf` holds the last one then. It
-/// takes no memory of its own.
+/// Hands each slot of a directory to the visitor, in order, except those that it need not be handed (`sought`). Its pages are located one
+/// after another; `buf` holds the last one then. It takes no memory of its own.
 ///
 /// Misled and DiskFault come as from `locate`, and Beyond never. Memory: none was left for the visitor. After each of them the visitor has
 /// met some first slots.

@@ -7,5 +7,5 @@ use Rattle.directory.proofs.versions.greatest.Goals as goal
 
 pub returns-in-Ok-clause-found : goal.returns-in-Ok-clause-found
 returns-in-Ok-clause-found g c = λ told found.
-    let all = all_versions c.args.base.now (dir_slots (pack (g.D.Tape.tape c.args.disk.now)) c.args.dir.now.fid) _ c.visit_slots.new.visitor refl refl refl refl (c.in-Ok.ensures.visited told found) in
+    let all = all_versions c.args.base.now (dir_slots (pack (g.D.Tape.tape c.args.disk.now)) c.args.dir.now.fid) _ c.visit_slots.new.visitor refl refl refl (c.in-Ok.ensures.visited told found) in
     record { version = c.version_met.ensures ∙ ap version_met all.newest.best; held = all.held }

@@ -1,16 +1,22 @@
 use Rattle.std.proofs.Common.{◌≡◌, ◌∙◌, ◌++◌, length, take, sym, ap, subst, arith}
 use Rattle.std.proofs.lemmas.List.{append-nil, take_all}
+use Rattle.dir_slots.specs.Walks.{Walked}
 use Rattle.directory.specs.Visits.{Visits}
 use Rattle.directory.proofs.Items.{met_ends}
-use Rattle.directory.proofs.Paging.{visits_end, visits_next, visits_none}
+use Rattle.directory.proofs.Paging.{visits_end, visits_next, visits_on}
 use Rattle.directory.proofs.walk.visit_words.Goals as goal
 
 pub loop-met-init : goal.loop-met-init
-loop-met-init g c = record {
-  within = omega arith;
-  taken = omega arith;
-  visits = λ given walked. subst (λ l. Visits g.V.Visit.step given l c.args.walk.now c.args.visitor.now c.args.visitor.now) (sym (append-nil given)) (visits_none g.V.Visit.step given c.args.walk.now c.args.visitor.now walked);
-}
+loop-met-init g c =
+    let words = c.args.words.now in
+    let taken = c.pass_for.ensures.taken in
+    record {
+      within = c.pass_for.ensures.within;
+      taken = omega (arith, taken);
+      visits = λ given walked.
+          subst (λ l. Visits g.V.Visit.step l (given ++ take c.pass_for.new.from words) c.pass_for.new.walk c.args.visitor.now c.args.visitor.now) (append-nil given)
+          (c.pass_for.ensures.visits given (subst (λ l. Walked l c.args.walk.now) (sym (append-nil given)) walked));
+    }
 
 pub visit-requires-clause-within : goal.visit-requires-clause-within
 visit-requires-clause-within g c =
@@ -25,14 +31,17 @@ visit-requires-clause-within g c =
 
 pub loop-met-preserved : goal.loop-met-preserved
 loop-met-preserved g c =
+    let words = c.args.words.now in
     let inv = c.loop-met.invariant in
     let next = c.in-Some.ensures in
+    let pass = c.pass_for-in-Some.ensures in
     record {
-      within = next.within;
-      taken = omega (arith, inv.taken, next.taken);
+      within = pass.within;
+      taken = omega (arith, inv.taken, next.taken, pass.taken);
       visits = λ given walked.
           let before = inv.visits given walked in
-          visits_next g.V.Visit.step given _ _ c.loop-met.walk c.next.new.self c.args.visitor.now c.loop-met.visitor c.visit.new.self c.in-Some.met before (next.meets given before.walked) c.in_ok-visit.ensures.step;
+          let met = visits_next g.V.Visit.step given _ _ c.loop-met.walk c.next.new.self c.args.visitor.now c.loop-met.visitor c.visit.new.self c.in-Some.met before (next.meets given before.walked) c.in_ok-visit.ensures.step in
+          visits_on g.V.Visit.step given (given ++ take c.next.new.from words) (given ++ take c.pass_for-in-Some.new.from words) c.next.new.self c.pass_for-in-Some.new.walk c.args.visitor.now c.visit.new.self c.visit.new.self met (pass.visits given met.walked);
     }
 
 pub returns-clause-visits : goal.returns-clause-visits
