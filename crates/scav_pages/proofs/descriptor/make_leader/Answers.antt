@@ -3,8 +3,9 @@ use Rattle.disk_records.specs.Labels.{page_of}
 use Rattle.disk_records.specs.Packs.{after, is_free_at}
 use Rattle.disk_records.specs.Commands.{claim_writes}
 use Rattle.disk_records.specs.Tapes.{pack}
-use Rattle.disk_records.proofs.Growing.{alone_twice}
+use Rattle.disk_records.proofs.Growing.{alone_here, alone_twice}
 use Rattle.disk_records.proofs.Looking.{looks_pack}
+use Rattle.scav_pages.proofs.Causing.{cause_of_guarded, cause_of_part}
 use Rattle.scav_pages.proofs.Doing.{does_ok, does_stop_claim, does_stop_looking, going_done, going_here, going_looks, pack_done}
 use Rattle.scav_pages.proofs.Claiming.{named_ranged, names_its_page}
 use Rattle.scav_pages.proofs.Describing.{its_page, leader_lasts, leader_place_free, leader_mends}
@@ -17,8 +18,14 @@ returns-in_err-at-clause-does g c = λ told may.
     (λ astray. leader_place_free (pack (g.D.Tape.tape c.args.disk.now)) c.args.places.now c.args.from.now may c.requires.lacks (c.in_err-at.ensures.none told astray))
     (c.in_err-at.ensures.want told) c.from_residual.ensures.1
 
+pub returns-in_err-at-clause-cause : goal.returns-in_err-at-clause-cause
+returns-in_err-at-clause-cause g c = cause_of_part c.in_err-at.field-0.0 c.from_residual.result (alone_here _) c.in_err-at.ensures.looks.alone c.in_err-at.ensures.cause c.from_residual.ensures.1
+
 pub claim-requires-clause-label : goal.claim-requires-clause-label
 claim-requires-clause-label g c = named_ranged c.label_of-label.result (its_page 0) (ap page_of c.label_of-label.ensures ∙ names_its_page (its_page 0) 512 c.real_of.result 65535 refl (omega arith) (omega arith))
+
+pub returns-in_err-claim-clause-cause : goal.returns-in_err-claim-clause-cause
+returns-in_err-claim-clause-cause g c = cause_of_guarded c.in_err-claim.field-0.0 c.from_residual-in_err-claim.result c.in_ok-at.ensures.looks.alone c.in_err-claim.ensures.alone c.in_err-claim.ensures.cause c.from_residual-in_err-claim.ensures.1
 
 pub returns-in_err-claim-clause-alone : goal.returns-in_err-claim-clause-alone
 returns-in_err-claim-clause-alone g c = alone_twice c.in_ok-at.ensures.looks.alone c.in_err-claim.ensures.alone

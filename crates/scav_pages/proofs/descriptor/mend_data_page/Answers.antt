@@ -6,9 +6,10 @@ use Rattle.disk_records.specs.Packs.{after, carried, sector_at}
 use Rattle.disk_records.specs.Commands.{relabel_writes}
 use Rattle.disk_records.specs.Tapes.{pack}
 use Rattle.disk_records.specs.Words.{word}
-use Rattle.disk_records.proofs.Growing.{alone_twice}
+use Rattle.disk_records.proofs.Growing.{alone_here, alone_twice}
 use Rattle.disk_records.proofs.Looking.{looks_pack}
 use Rattle.scav_pages.specs.Ends.{MayDescribePage}
+use Rattle.scav_pages.proofs.Causing.{cause_of_guarded, cause_of_part}
 use Rattle.scav_pages.proofs.Changing.{other_word}
 use Rattle.scav_pages.proofs.Doing.{does_ok, does_stop_part, does_stop_two, going_does, going_done, going_here, going_looks, pack_done}
 use Rattle.scav_pages.proofs.Claiming.{going_scavengeable, names_its_page}
@@ -23,6 +24,9 @@ returns-in_err-places-clause-does g c = λ told may.
     let none : get_or places c.args.number 0 ≡ 0 = ap (λ i. get_or places i 0) (sym c.from-index.ensures) ∙ c.if-at-eq0.true in
     let d = c.in_err-places.ensures.does told (may_claim_data (pack a) c.args.number c.args.from.now places may c.requires.one c.requires.most c.page_bytes-bytes.result none) in
     does_stop_part c.in_err-places.field-0.0 c.from_residual.result (going_here a) c.in_err-places.ensures.alone.grown d c.from_residual.ensures.1
+
+pub returns-in_err-places-clause-cause : goal.returns-in_err-places-clause-cause
+returns-in_err-places-clause-cause g c = cause_of_part c.in_err-places.field-0.0 c.from_residual.result (alone_here _) c.in_err-places.ensures.alone c.in_err-places.ensures.cause c.from_residual.ensures.1
 
 pub returns-then-at-eq0-clause-does : goal.returns-then-at-eq0-clause-does
 returns-then-at-eq0-clause-does g c = λ told may.
@@ -51,11 +55,17 @@ returns-in_err-info-clause-does g c = λ told may.
     (carries_page_there (pack a) c.args.number c.args.from.now places may c.requires.one c.requires.most at noted c.if-at-eq0.false) (mends_nothing (pack a)) (omega arith)
     (c.in_err-info.ensures.guarded told) c.from_residual-in_err-info.ensures.1
 
+pub returns-in_err-info-clause-cause : goal.returns-in_err-info-clause-cause
+returns-in_err-info-clause-cause g c = cause_of_guarded c.in_err-info.field-0.0 c.from_residual-in_err-info.result (alone_here _) c.in_err-info.ensures.looks.alone c.in_err-info.ensures.cause c.from_residual-in_err-info.ensures.1
+
 pub relabel-requires-clause-same : goal.relabel-requires-clause-same
 relabel-requires-clause-same g c =
     let most = few_data_pages (g.D.Tape.tape c.args.disk.now).form in
     let few : c.page_bytes-bytes.result ≤ 512 = omega (arith, c.page_bytes-bytes.ensures) in
     ap page_of c.label_of-label.ensures ∙ names_its_page (its_page c.args.number) c.page_bytes-bytes.result c.in_ok-info.info.next c.in_ok-info.info.previous refl (omega (arith, most, c.requires.most)) few
+
+pub returns-in_err-relabel-clause-cause : goal.returns-in_err-relabel-clause-cause
+returns-in_err-relabel-clause-cause g c = cause_of_guarded c.in_err-relabel.field-0.0 c.from_residual-in_err-relabel.result c.in_ok-info.ensures.looks.alone c.in_err-relabel.ensures.alone c.in_err-relabel.ensures.cause c.from_residual-in_err-relabel.ensures.1
 
 pub returns-in_err-relabel-clause-alone : goal.returns-in_err-relabel-clause-alone
 returns-in_err-relabel-clause-alone g c = alone_twice c.in_ok-info.ensures.looks.alone c.in_err-relabel.ensures.alone

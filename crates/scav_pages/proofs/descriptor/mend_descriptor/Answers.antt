@@ -4,6 +4,7 @@ use Rattle.disk_records.specs.Tapes.{pack}
 use Rattle.disk_records.proofs.Growing.{alone_twice}
 use Rattle.pack_model.specs.sessions.Descriptor.{data_pages}
 use Rattle.scav_pages.specs.Ends.{AreWithin, MayDescribePage}
+use Rattle.scav_pages.proofs.Causing.{cause_of_part}
 use Rattle.scav_pages.proofs.Doing.{does_ok, does_stop_part, going_does}
 use Rattle.scav_pages.proofs.Describing.{described_lasts}
 use Rattle.scav_pages.proofs.descriptor.mend_descriptor.Goals as goal
@@ -20,8 +21,14 @@ make_leader-requires-clause-within g c = subst (λ s. AreWithin (pages_of s) c.l
 pub returns-else-places-eq0-clause-alone : goal.returns-else-places-eq0-clause-alone
 returns-else-places-eq0-clause-alone g c = c.loop-number.invariant.alone
 
+pub returns-in_err-mend_data_page-clause-cause : goal.returns-in_err-mend_data_page-clause-cause
+returns-in_err-mend_data_page-clause-cause g c = cause_of_part c.in_err-mend_data_page.field-0.0 c.from_residual.result c.loop-number.invariant.alone c.in_err-mend_data_page.ensures.alone c.in_err-mend_data_page.ensures.cause c.from_residual.ensures.1
+
 pub returns-in_err-mend_data_page-clause-alone : goal.returns-in_err-mend_data_page-clause-alone
 returns-in_err-mend_data_page-clause-alone g c = alone_twice c.loop-number.invariant.alone c.in_err-mend_data_page.ensures.alone
+
+pub returns-in_err-make_leader-clause-cause : goal.returns-in_err-make_leader-clause-cause
+returns-in_err-make_leader-clause-cause g c = cause_of_part c.in_err-make_leader.field-0.0 c.from_residual-in_err-make_leader.result c.loop-number.invariant.alone c.in_err-make_leader.ensures.alone c.in_err-make_leader.ensures.cause c.from_residual-in_err-make_leader.ensures.1
 
 pub returns-in_err-make_leader-clause-alone : goal.returns-in_err-make_leader-clause-alone
 returns-in_err-make_leader-clause-alone g c = alone_twice c.loop-number.invariant.alone c.in_err-make_leader.ensures.alone

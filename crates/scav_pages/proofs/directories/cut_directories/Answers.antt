@@ -1,18 +1,21 @@
 use Rattle.std.proofs.Common.{◌≡◌, true, IsTrue, Some, IfSome, refl, ap, sym, subst, ◌∙◌, rules}
 use Rattle.std.specs.Option.{option_or}
-use Rattle.disk_records.specs.Tapes.{pack}
-use Rattle.disk_records.proofs.Growing.{alone_twice}
+use Rattle.disk_records.specs.Tapes.{DiskAlone, pack}
+use Rattle.disk_records.proofs.Growing.{alone_here, alone_twice}
 use Rattle.disk_records.proofs.Looking.{looks_pack}
 use Rattle.scav_table.specs.Laws.{IsNextRow}
 use Rattle.scav_table.specs.Passes.{IsNext}
 use Rattle.scav_table.specs.Rows.{is_above}
 use Rattle.scav_pages.specs.Walks.{AreWords, IsOtherFile}
-use Rattle.scav_pages.proofs.Causing.{cause_sooner}
+use Rattle.scav_pages.proofs.Causing.{cause_of_part, cause_of_swept, cause_sooner}
 use Rattle.scav_pages.proofs.DirectoryPass.{CutsTo, Ready, cuts_done, cuts_left, cuts_look, cuts_row, cuts_start, cuts_stopped, left_at, left_last, may_begin, passed_on, row_there, stands_relabels}
 use Rattle.scav_pages.proofs.Doing.{does_stop_looking}
 use Rattle.scav_pages.proofs.Passing.{contrary, first_above_stays, stands_same}
 use Rattle.scav_pages.proofs.directories.cut_directories.Goals as goal
 use Rattle.scav_pages.proofs.directories.cut_directories.Goals.{then-leaves+in_ok-cut_directory, else-leaves}
+
+pub returns-in_err-pass-clause-cause : goal.returns-in_err-pass-clause-cause
+returns-in_err-pass-clause-cause g c = cause_of_swept c.in_err-pass.field-0.0 c.from_residual.result (alone_here _) c.in_err-pass.ensures.looks.alone c.in_err-pass.ensures.cause c.from_residual.ensures.1
 
 pub loop-row-init : goal.loop-row-init
 loop-row-init g c = record {
@@ -22,6 +25,9 @@ loop-row-init g c = record {
       (cuts_start c.new-dir.result c.in_ok-pass.ensures.looks (λ k. g.met.D.Disk.formed c.args.disk.now k) c.new-dir.ensures.none c.new-dir.ensures.start);
 }
 
+pub returns-in_err-row-clause-cause : goal.returns-in_err-row-clause-cause
+returns-in_err-row-clause-cause g c = cause_of_part c.in_err-row.field-0.0 c.from_residual-in_err-row.result c.loop-row.invariant.alone c.in_err-row.ensures.looks.alone c.in_err-row.ensures.cause c.from_residual-in_err-row.ensures.1
+
 pub returns-in_err-row-clause-alone : goal.returns-in_err-row-clause-alone
 returns-in_err-row-clause-alone g c = alone_twice c.loop-row.invariant.alone c.in_err-row.ensures.looks.alone
 
@@ -29,6 +35,9 @@ pub returns-in_err-row-clause-does : goal.returns-in_err-row-clause-does
 returns-in_err-row-clause-does g c = λ told cleared.
     let read = c.in_err-row.ensures in
     does_stop_looking c.in_err-row.field-0.0 c.from_residual-in_err-row.result (c.loop-row.invariant.cuts.going told cleared) read.looks told (read.found told) (read.want told) c.from_residual-in_err-row.ensures.1
+
+pub returns-in_err-cut_directory-clause-cause : goal.returns-in_err-cut_directory-clause-cause
+returns-in_err-cut_directory-clause-cause g c = cause_of_part c.in_err-cut_directory.field-0.0 c.from_residual-in_err-cut_directory.result (alone_twice c.loop-row.invariant.alone c.in_ok-row.ensures.looks.alone) c.in_err-cut_directory.ensures.alone c.in_err-cut_directory.ensures.cause c.from_residual-in_err-cut_directory.ensures.1
 
 pub returns-in_err-cut_directory-clause-alone : goal.returns-in_err-cut_directory-clause-alone
 returns-in_err-cut_directory-clause-alone g c = alone_twice (alone_twice c.loop-row.invariant.alone c.in_ok-row.ensures.looks.alone) c.in_err-cut_directory.ensures.alone
@@ -79,6 +88,16 @@ loop-row-preserved g c =
       cuts = subst (λ l. CutsTo g.D.Tape.told (g.D.Tape.tape c.args.disk.now) (g.D.Tape.tape c.meet_page.new.disk) l c.meet_page.new.dir) (sym last_is)
           (cuts_row ready.cuts c.in_ok-meet_page.ensures.looks first_of_all ready.same c.in_ok-meet_page.ensures.hand (λ k. c.in_ok-meet_page.ensures.read k (pack (g.D.Tape.tape c.args.disk.now)) c.loop-row.pass.last (ready.cuts.read k) (first_of_all k) (row_there (ready.cuts.stays k) (first_of_all k)).0));
     }
+
+pub returns-in_err-meet_page-clause-cause : goal.returns-in_err-meet_page-clause-cause
+returns-in_err-meet_page-clause-cause g c =
+    let a = g.D.Tape.tape c.args.disk.now in
+    let read = alone_twice c.loop-row.invariant.alone c.in_ok-row.ensures.looks.alone in
+    let before : DiskAlone a (g.D.Tape.tape c.if-leaves.disk) = elim c.if-leaves.branch [
+      | then-leaves+in_ok-cut_directory w ↦ subst (λ d. DiskAlone a (g.D.Tape.tape d)) (sym w.disk-is) (alone_twice read w.in_ok-cut_directory.ensures.alone)
+      | else-leaves w ↦ subst (λ d. DiskAlone a (g.D.Tape.tape d)) (sym w.disk-is) read
+    ] in
+    cause_of_part c.in_err-meet_page.field-0.0 c.from_residual-in_err-meet_page.result before c.in_err-meet_page.ensures.looks.alone c.in_err-meet_page.ensures.cause c.from_residual-in_err-meet_page.ensures.1
 
 pub returns-in_err-meet_page-clause-alone : goal.returns-in_err-meet_page-clause-alone
 returns-in_err-meet_page-clause-alone g c =

@@ -4,10 +4,11 @@ use Rattle.disk_records.specs.Commands.{relabel_writes}
 use Rattle.disk_records.specs.Labels.{tag}
 use Rattle.disk_records.specs.Packs.{after, carried, sector_at}
 use Rattle.disk_records.specs.Tapes.{pack}
-use Rattle.disk_records.proofs.Growing.{alone_twice}
+use Rattle.disk_records.proofs.Growing.{alone_here, alone_twice}
 use Rattle.disk_records.proofs.Looking.{looks_pack}
 use Rattle.scav_pages.specs.Parts.{RelabelsHand}
 use Rattle.scav_pages.specs.Walks.{file_in_hand}
+use Rattle.scav_pages.proofs.Causing.{cause_of_guarded}
 use Rattle.scav_pages.proofs.Cutting.{carried_here, cut_ends, cut_mends, dead_alone, file_alone, made_names, no_word, number_low, placed_here, relabels_hand, whole_alone, word_of}
 use Rattle.scav_pages.proofs.Doing.{does_ok, does_stop_two, going_done, going_here, going_looks, pack_done}
 use Rattle.scav_pages.proofs.Keeping.{Mends, mends_nothing}
@@ -57,9 +58,15 @@ returns-in_err-info-clause-does g c = λ told cleared may.
     (carried_here (pack a) dir c.in-Some.fid cleared hand may (sym c.lives.ensures ∙ c.if-not-lives.false) (sym c.is_directory.ensures ∙ c.if-not-is_directory.false) (let other = c.if-end-length.false in let is = c.length.ensures in let at = c.place-end.ensures.place in (λ same. other (omega (arith, same, is, at)))) c.in-Ok.number number)
     (mends_nothing (pack a)) (omega arith) (c.in_err-info.ensures.guarded told) c.from_residual.ensures.1
 
+pub returns-in_err-info-clause-cause : goal.returns-in_err-info-clause-cause
+returns-in_err-info-clause-cause g c = cause_of_guarded c.in_err-info.field-0.0 c.from_residual.result (alone_here _) c.in_err-info.ensures.looks.alone c.in_err-info.ensures.cause c.from_residual.ensures.1
+
 pub relabel-requires-clause-same : goal.relabel-requires-clause-same
 relabel-requires-clause-same g c =
     made_names c.read_page.new.buf.label (record { fid = c.in-Some.fid; number = c.in-Ok.number }) (2 * c.place-end.result % c.from.result) 65535 c.in_ok-info.info.previous c.in_ok-info.ensures.page.names c.label_of-label.ensures (let is = c.from.ensures in let low : 2 * c.place-end.result % c.from.result < c.from.result = omega (arith, is) in omega (arith, is, low))
+
+pub returns-in_err-relabel-clause-cause : goal.returns-in_err-relabel-clause-cause
+returns-in_err-relabel-clause-cause g c = cause_of_guarded c.in_err-relabel.field-0.0 c.from_residual-in_err-relabel.result c.in_ok-info.ensures.looks.alone c.in_err-relabel.ensures.alone c.in_err-relabel.ensures.cause c.from_residual-in_err-relabel.ensures.1
 
 pub returns-in_err-relabel-clause-alone : goal.returns-in_err-relabel-clause-alone
 returns-in_err-relabel-clause-alone g c = alone_twice c.in_ok-info.ensures.looks.alone c.in_err-relabel.ensures.alone

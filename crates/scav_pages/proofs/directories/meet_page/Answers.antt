@@ -1,7 +1,9 @@
 use Rattle.std.proofs.Common.{◌≡◌, ℕ, List, ◌++◌, take, ap, ◌∙◌, refl, sym, subst, arith, length-take}
 use Rattle.alto_words.specs.Fid.{is_directory}
+use Rattle.disk_records.proofs.Growing.{alone_here}
 use Rattle.dir_slots.specs.Walks as slot_walk
 use Rattle.scav_pages.specs.declared.files.Met.TheVariants.{Next}
+use Rattle.scav_pages.proofs.Causing.{cause_of_guarded}
 use Rattle.scav_pages.proofs.Cutting.{label_counts}
 use Rattle.scav_pages.proofs.DirectoryReading.{going_of, next_of, not_next, number_of, read_fed, read_other, read_past}
 use Rattle.scav_pages.proofs.directories.meet_page.Goals as goal
@@ -74,3 +76,6 @@ returns-else-page-from-clause-read g c = λ told p last is first at.
     let walks = λ (given : List ℕ) (w : slot_walk.Walked given c.args.dir.now.slots). subst (λ k. slot_walk.Walked (given ++ take k c.read_page.new.buf.value) c.feed.new.self) c.from.ensures (c.feed.ensures.walked given w) in
     read_fed p last c.args.row.now c.args.dir.now _ is same walked c.meet.ensures.hand c.meet.result pages bytes next goes first (c.meet.ensures.met p last is.walked first) c.read_page.new.buf c.in_ok-info.info.bytes holds tells (going_of c.meet.new.self.lives (is_directory c.args.row.now.page.fid) c.args.dir.now.slots.ended wanted) walks
     (λ here. absurd (let one = c.if-page-from.false in one (omega (arith, here, place, from, number)))) (λ other. refl)
+
+pub returns-in_err-info-clause-cause : goal.returns-in_err-info-clause-cause
+returns-in_err-info-clause-cause g c = cause_of_guarded c.in_err-info.field-0.0 c.from_residual.result (alone_here _) c.in_err-info.ensures.looks.alone c.in_err-info.ensures.cause c.from_residual.ensures.1

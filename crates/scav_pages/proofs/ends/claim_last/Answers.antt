@@ -1,9 +1,11 @@
 use Rattle.std.proofs.Common.{◌≡◌, ◌<◌, ◌+◌, Some, true, false, ◌∙◌, sym, subst, arith}
 use Rattle.alto_words.specs.Fid.{is_fid, disk_descriptor}
 use Rattle.disk_records.specs.Tapes.{pack}
+use Rattle.disk_records.proofs.Growing.{alone_here}
 use Rattle.scav_pages.specs.Ends.{MayClaim}
 use Rattle.scav_pages.specs.Parts.{PageClaimed}
 use Rattle.scav_pages.specs.Walks.{file_in_hand}
+use Rattle.scav_pages.proofs.Causing.{cause_of_part}
 use Rattle.scav_pages.proofs.Doing.{does_ok, does_stop_part, going_does, going_here}
 use Rattle.scav_pages.proofs.Ending.{claims_for_hand, few_pages, last_was_claimed, may_claim_last_page, other_by_words}
 use Rattle.scav_pages.proofs.ends.claim_last.Goals as goal
@@ -24,6 +26,9 @@ returns-in_err-claim_page-clause-does g c = λ told may.
     let number : c.in-Some-checked_add.number ≡ c.args.walk.now.pages + 1 = omega (arith, c.in-Some-checked_add.ensures, c.pages.ensures) in
     let wants = subst (λ n. MayClaim (pack a) (record { fid = c.in-Some.fid; number = n }) 0 c.args.from.now) (sym number) (may_claim_last_page (pack a) c.args.walk.now c.args.from.now may c.in-Some.fid hand (other_by_words c.in-Some.fid (sym c.eq.ensures ∙ c.if-eq.false)) on) in
     does_stop_part c.in_err-claim_page.field-0.0 c.from_residual.result (going_here a) c.in_err-claim_page.ensures.alone.grown (c.in_err-claim_page.ensures.does told wants) c.from_residual.ensures.1
+
+pub returns-in_err-claim_page-clause-cause : goal.returns-in_err-claim_page-clause-cause
+returns-in_err-claim_page-clause-cause g c = cause_of_part c.in_err-claim_page.field-0.0 c.from_residual.result (alone_here _) c.in_err-claim_page.ensures.alone c.in_err-claim_page.ensures.cause c.from_residual.ensures.1
 
 pub returns-clause-does : goal.returns-clause-does
 returns-clause-does g c = λ told may.

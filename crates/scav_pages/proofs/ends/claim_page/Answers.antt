@@ -4,9 +4,10 @@ use Rattle.disk_records.specs.Packs.{after, is_free_at}
 use Rattle.disk_records.specs.Commands.{claim_writes}
 use Rattle.disk_records.specs.Tapes.{pack}
 use Rattle.disk_records.specs.Words.{word}
-use Rattle.disk_records.proofs.Growing.{alone_twice}
+use Rattle.disk_records.proofs.Growing.{alone_here, alone_twice}
 use Rattle.disk_records.proofs.Looking.{looks_pack}
 use Rattle.scav_pages.specs.Free.{NoneFreeBelow}
+use Rattle.scav_pages.proofs.Causing.{cause_of_guarded, cause_of_part}
 use Rattle.scav_pages.proofs.Doing.{does_ok, does_stop_claim, going_done, going_here, going_looks, pack_done}
 use Rattle.scav_pages.proofs.Claiming.{claim_mends, named_ranged, names_its_page, none_below_claimed}
 use Rattle.scav_pages.proofs.Keeping.{Mends}
@@ -19,6 +20,12 @@ pub returns-then-not-names-clause-does : goal.returns-then-not-names-clause-does
 returns-then-not-names-clause-does g c = λ told may.
     let names : page_of c.label_of-label.result ≡ Some c.args.page = ap page_of c.label_of-label.ensures ∙ names_its_page c.args.page c.args.bytes 65535 c.match-before.previous may.named may.number c.requires.bytes in
     absurd (let no : false ≡ true = sym c.if-not-names.true ∙ (c.names.ensures).1 names in cc)
+
+pub returns-in_err-at-clause-cause : goal.returns-in_err-at-clause-cause
+returns-in_err-at-clause-cause g c = cause_of_part c.in_err-at.field-0.0 c.from_residual.result (alone_here _) c.in_err-at.ensures.looks.alone c.in_err-at.ensures.cause c.from_residual.ensures.1
+
+pub returns-in_err-claim-clause-cause : goal.returns-in_err-claim-clause-cause
+returns-in_err-claim-clause-cause g c = cause_of_guarded c.in_err-claim.field-0.0 c.from_residual-in_err-claim.result c.in_ok-at.ensures.looks.alone c.in_err-claim.ensures.alone c.in_err-claim.ensures.cause c.from_residual-in_err-claim.ensures.1
 
 pub returns-in_err-claim-clause-alone : goal.returns-in_err-claim-clause-alone
 returns-in_err-claim-clause-alone g c = alone_twice c.in_ok-at.ensures.looks.alone c.in_err-claim.ensures.alone

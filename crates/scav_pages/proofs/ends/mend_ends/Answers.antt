@@ -4,7 +4,7 @@ use Rattle.std.proofs.lemmas.List.{get_or-replicate}
 use Rattle.std.proofs.lemmas.List.Elements.{All-replicate}
 use Rattle.disk_records.specs.Addresses.{pages_of}
 use Rattle.disk_records.specs.Tapes.{pack}
-use Rattle.disk_records.proofs.Growing.{alone_twice}
+use Rattle.disk_records.proofs.Growing.{alone_here, alone_twice}
 use Rattle.disk_records.proofs.Looking.{looks_pack}
 use Rattle.scav_table.specs.declared.row.Row.{Row}
 use Rattle.scav_table.specs.Laws.{IsNextRow}
@@ -12,7 +12,7 @@ use Rattle.scav_table.specs.Passes.{IsNext}
 use Rattle.scav_table.specs.Rows.{is_above}
 use Rattle.scav_pages.specs.Ends.{AreWithin}
 use Rattle.scav_pages.specs.Walks.{AreWords, IsOtherFile, sector_in_hand}
-use Rattle.scav_pages.proofs.Causing.{cause_sooner}
+use Rattle.scav_pages.proofs.Causing.{cause_of_part, cause_of_swept, cause_sooner}
 use Rattle.scav_pages.proofs.Ahead.{ahead, ahead_falls}
 use Rattle.scav_pages.proofs.Doing.{does_last, does_stop_looking, does_stop_part}
 use Rattle.scav_pages.proofs.EndsPass.{IsReadyFor, claims_end, claims_look, claims_row, claims_start, last_left, left_may, ready_left, ready_same, row_left}
@@ -20,6 +20,9 @@ use Rattle.scav_pages.proofs.LastPages.{may_begin}
 use Rattle.scav_pages.proofs.Passing.{contrary, first_above_stays}
 use Rattle.scav_pages.proofs.ends.mend_ends.Goals as goal
 use Rattle.scav_pages.proofs.ends.mend_ends.Goals.{then-leaves+in_ok-claim_last, else-leaves}
+
+pub returns-in_err-pass-clause-cause : goal.returns-in_err-pass-clause-cause
+returns-in_err-pass-clause-cause g c = cause_of_swept c.in_err-pass.field-0.0 c.from_residual.result (alone_here _) c.in_err-pass.ensures.looks.alone c.in_err-pass.ensures.cause c.from_residual.ensures.1
 
 pub loop-row-init : goal.loop-row-init
 loop-row-init g c =
@@ -36,6 +39,9 @@ loop-row-init g c =
           (λ k. c.new-walk.ensures.start (pack a) c.in_ok-pass.pass.last (g.met.D.Disk.formed c.args.disk.now k) (may_begin (pack a) c.in_ok-pass.pass.last c.in_ok-pass.ensures.first)) (λ n few. get_or-replicate {A = ℕ} 6 n 0 0 few);
     }
 
+pub returns-in_err-row-clause-cause : goal.returns-in_err-row-clause-cause
+returns-in_err-row-clause-cause g c = cause_of_part c.in_err-row.field-0.0 c.from_residual-in_err-row.result c.loop-row.invariant.alone c.in_err-row.ensures.looks.alone c.in_err-row.ensures.cause c.from_residual-in_err-row.ensures.1
+
 pub returns-in_err-row-clause-alone : goal.returns-in_err-row-clause-alone
 returns-in_err-row-clause-alone g c = alone_twice c.loop-row.invariant.alone c.in_err-row.ensures.looks.alone
 
@@ -46,6 +52,9 @@ returns-in_err-row-clause-does g c = λ told can rooted.
 
 pub claim_last-requires-clause-place : goal.claim_last-requires-clause-place
 claim_last-requires-clause-place g c = subst (λ s. sector_in_hand c.loop-row.walk < pages_of s) (sym (alone_twice c.loop-row.invariant.alone c.in_ok-row.ensures.looks.alone).grown.form) c.loop-row.invariant.sector
+
+pub returns-in_err-claim_last-clause-cause : goal.returns-in_err-claim_last-clause-cause
+returns-in_err-claim_last-clause-cause g c = cause_of_part c.in_err-claim_last.field-0.0 c.from_residual-in_err-claim_last.result (alone_twice c.loop-row.invariant.alone c.in_ok-row.ensures.looks.alone) c.in_err-claim_last.ensures.alone c.in_err-claim_last.ensures.cause c.from_residual-in_err-claim_last.ensures.1
 
 pub returns-in_err-claim_last-clause-alone : goal.returns-in_err-claim_last-clause-alone
 returns-in_err-claim_last-clause-alone g c = alone_twice (alone_twice c.loop-row.invariant.alone c.in_ok-row.ensures.looks.alone) c.in_err-claim_last.ensures.alone
@@ -103,6 +112,9 @@ loop-row-preserved g c =
 
 pub claim_last-requires-2-clause-place : goal.claim_last-requires-2-clause-place
 claim_last-requires-2-clause-place g c = subst (λ s. sector_in_hand c.loop-row.walk < pages_of s) (sym (alone_twice c.loop-row.invariant.alone c.in_ok-row.ensures.looks.alone).grown.form) c.loop-row.invariant.sector
+
+pub returns-in_err-claim_last-2-clause-cause : goal.returns-in_err-claim_last-2-clause-cause
+returns-in_err-claim_last-2-clause-cause g c = cause_of_part c.in_err-claim_last-2.field-0.0 c.from_residual-in_err-claim_last-2.result (alone_twice c.loop-row.invariant.alone c.in_ok-row.ensures.looks.alone) c.in_err-claim_last-2.ensures.alone c.in_err-claim_last-2.ensures.cause c.from_residual-in_err-claim_last-2.ensures.1
 
 pub returns-in_err-claim_last-2-clause-alone : goal.returns-in_err-claim_last-2-clause-alone
 returns-in_err-claim_last-2-clause-alone g c = alone_twice (alone_twice c.loop-row.invariant.alone c.in_ok-row.ensures.looks.alone) c.in_err-claim_last-2.ensures.alone

@@ -3,9 +3,10 @@ use Rattle.disk_records.specs.Commands.{relabel_writes}
 use Rattle.disk_records.specs.Packs.{after, carried, sector_at}
 use Rattle.disk_records.specs.Tapes.{pack}
 use Rattle.disk_records.specs.Words.{word}
-use Rattle.disk_records.proofs.Growing.{alone_twice}
+use Rattle.disk_records.proofs.Growing.{alone_here, alone_twice}
 use Rattle.disk_records.proofs.Looking.{looks_pack}
 use Rattle.scav_pages.specs.Links.{PageLinked, WritesPage}
+use Rattle.scav_pages.proofs.Causing.{cause_of_guarded}
 use Rattle.scav_pages.proofs.Changing.{other_word}
 use Rattle.scav_pages.proofs.Doing.{does_ok, does_stop_two, going_done, going_here, going_looks, pack_done}
 use Rattle.scav_pages.proofs.Cutting.{made_names}
@@ -19,6 +20,12 @@ pub label_of-label-requires : goal.label_of-label-requires
 label_of-label-requires g c =
     let h = c.in_ok-info.ensures in
     subst (λ n. n ≤ 512) (sym (ap (λ i. i.bytes) h.tells)) (page_ranged c.read_page.new.buf.label c.args.page.now.row.page h.page.names).1
+
+pub returns-in_err-info-clause-cause : goal.returns-in_err-info-clause-cause
+returns-in_err-info-clause-cause g c = cause_of_guarded c.in_err-info.field-0.0 c.from_residual.result (alone_here _) c.in_err-info.ensures.looks.alone c.in_err-info.ensures.cause c.from_residual.ensures.1
+
+pub returns-in_err-relabel-clause-cause : goal.returns-in_err-relabel-clause-cause
+returns-in_err-relabel-clause-cause g c = cause_of_guarded c.in_err-relabel.field-0.0 c.from_residual-in_err-relabel.result c.in_ok-info.ensures.looks.alone c.in_err-relabel.ensures.alone c.in_err-relabel.ensures.cause c.from_residual-in_err-relabel.ensures.1
 
 pub returns-in_err-relabel-clause-alone : goal.returns-in_err-relabel-clause-alone
 returns-in_err-relabel-clause-alone g c = alone_twice c.in_ok-info.ensures.looks.alone c.in_err-relabel.ensures.alone

@@ -1,6 +1,8 @@
 use Rattle.std.proofs.Common.{subst}
 use Rattle.disk_records.specs.Tapes.{pack}
+use Rattle.disk_records.proofs.Growing.{alone_here}
 use Rattle.scav_pages.specs.Links.{MayMeet}
+use Rattle.scav_pages.proofs.Causing.{cause_of_part}
 use Rattle.scav_pages.proofs.Doing.{does_ok, does_stop_part, going_does, going_here}
 use Rattle.scav_pages.proofs.LinkPass.{first_met, may_mend, next_met}
 use Rattle.scav_pages.proofs.links.mend_before.Goals as goal
@@ -16,6 +18,9 @@ returns-in_err-mend_page-clause-does g c = λ told may.
     let meets = subst (λ o. MayMeet (pack a) o c.args.row) c.in-Some.is may in
     let page = c.in_err-mend_page.ensures in
     does_stop_part c.in_err-mend_page.field-0.0 c.from_residual.result (going_here a) page.alone.grown (page.does told (may_mend c.link_between.result meets c.shape-shape.ensures c.link_between.ensures)) c.from_residual.ensures.1
+
+pub returns-in_err-mend_page-clause-cause : goal.returns-in_err-mend_page-clause-cause
+returns-in_err-mend_page-clause-cause g c = cause_of_part c.in_err-mend_page.field-0.0 c.from_residual.result (alone_here _) c.in_err-mend_page.ensures.alone c.in_err-mend_page.ensures.cause c.from_residual.ensures.1
 
 pub returns-clause-does : goal.returns-clause-does
 returns-clause-does g c = λ told may.

@@ -2,7 +2,7 @@ use Rattle.std.proofs.Common.{◌≡◌, ◌<◌, ◌≤◌, true, IfSome, IsTru
 use Rattle.std.specs.Option.{option_or}
 use Rattle.disk_records.specs.Addresses.{pages_of}
 use Rattle.disk_records.specs.Tapes.{pack}
-use Rattle.disk_records.proofs.Growing.{alone_twice}
+use Rattle.disk_records.proofs.Growing.{alone_here, alone_twice}
 use Rattle.disk_records.proofs.Looking.{looks_pack}
 use Rattle.laws_mend.specs.Parts.{Lasting}
 use Rattle.scav_table.specs.Laws.{IsFirstAbove, IsNextRow}
@@ -10,13 +10,22 @@ use Rattle.scav_table.specs.Passes.{IsNext}
 use Rattle.scav_table.specs.Rows.{is_above}
 use Rattle.scav_pages.specs.Links.{MayMeet, MendedTo, last_row}
 use Rattle.scav_pages.specs.Walks.{AreWords}
-use Rattle.scav_pages.proofs.Causing.{cause_sooner}
+use Rattle.scav_pages.proofs.Causing.{cause_of_part, cause_of_swept, cause_sooner}
 use Rattle.scav_pages.proofs.Doing.{does_stop_part, going_does, going_looks}
 use Rattle.scav_pages.proofs.LinkPass.{links_last, links_none, may_meet, stands_met}
 use Rattle.scav_pages.proofs.links.mend_links.Goals as goal
 
+pub returns-in_err-pass-clause-cause : goal.returns-in_err-pass-clause-cause
+returns-in_err-pass-clause-cause g c = cause_of_swept c.in_err-pass.field-0.0 c.from_residual.result (alone_here _) c.in_err-pass.ensures.looks.alone c.in_err-pass.ensures.cause c.from_residual.ensures.1
+
+pub returns-in_err-row-clause-cause : goal.returns-in_err-row-clause-cause
+returns-in_err-row-clause-cause g c = cause_of_part c.in_err-row.field-0.0 c.from_residual-in_err-row.result c.loop-row.invariant.alone c.in_err-row.ensures.looks.alone c.in_err-row.ensures.cause c.from_residual-in_err-row.ensures.1
+
 pub returns-in_err-row-clause-alone : goal.returns-in_err-row-clause-alone
 returns-in_err-row-clause-alone g c = alone_twice c.loop-row.invariant.alone c.in_err-row.ensures.looks.alone
+
+pub returns-in_err-mend_before-clause-cause : goal.returns-in_err-mend_before-clause-cause
+returns-in_err-mend_before-clause-cause g c = cause_of_part c.in_err-mend_before.field-0.0 c.from_residual-in_err-mend_before.result (alone_twice c.loop-row.invariant.alone c.in_ok-row.ensures.looks.alone) c.in_err-mend_before.ensures.alone c.in_err-mend_before.ensures.cause c.from_residual-in_err-mend_before.ensures.1
 
 pub returns-in_err-mend_before-clause-alone : goal.returns-in_err-mend_before-clause-alone
 returns-in_err-mend_before-clause-alone g c = alone_twice (alone_twice c.loop-row.invariant.alone c.in_ok-row.ensures.looks.alone) c.in_err-mend_before.ensures.alone

@@ -4,11 +4,13 @@ use Rattle.std.specs.Option.{is_some}
 use Rattle.disk_records.specs.Commands.{value_writes}
 use Rattle.disk_records.specs.Packs.{after}
 use Rattle.disk_records.specs.Tapes.{pack}
+use Rattle.disk_records.proofs.Growing.{alone_here}
 use Rattle.leader_page.specs.declared.leader.Leader.{Leader}
 use Rattle.leader_page.specs.Laws.{SaysTitled}
 use Rattle.leader_page.specs.Pages.{IsDecoded}
 use Rattle.pack_model.specs.reading.Leaders.{is_readable, leader_words}
 use Rattle.scav_pages.specs.Fresh.{own_name}
+use Rattle.scav_pages.proofs.Causing.{cause_of_guarded}
 use Rattle.scav_pages.proofs.Doing.{does_ok, does_stop_two, going_done, going_here, pack_done}
 use Rattle.scav_pages.proofs.Keeping.{Mends}
 use Rattle.scav_pages.proofs.Naming.{name_mends, name_written, named_already, named_page}
@@ -31,6 +33,9 @@ returns-in_err-write_value-clause-does g c = λ told may.
     let mends = name_mends (pack a) row value may c.requires.leader named (unread value c.decode.result c.is_none.result c.decode.ensures c.is_none.ensures c.if-is_none.true) in
     does_stop_two c.in_err-write_value.field-0.0 c.from_residual.result (going_here a) c.in_err-write_value.ensures.alone.grown may.carries
     (subst (λ v. Mends (pack a) (value_writes row.at v)) (sym c.put_name.ensures.value) mends) (omega arith) (c.in_err-write_value.ensures.guarded told) c.from_residual.ensures.1
+
+pub returns-in_err-write_value-clause-cause : goal.returns-in_err-write_value-clause-cause
+returns-in_err-write_value-clause-cause g c = cause_of_guarded c.in_err-write_value.field-0.0 c.from_residual.result (alone_here _) c.in_err-write_value.ensures.alone c.in_err-write_value.ensures.cause c.from_residual.ensures.1
 
 pub returns-in_ok-write_value-clause-does : goal.returns-in_ok-write_value-clause-does
 returns-in_ok-write_value-clause-does g c = λ told may.

@@ -1,4 +1,5 @@
-use Rattle.disk_records.proofs.Growing.{alone_twice}
+use Rattle.disk_records.proofs.Growing.{alone_here, alone_twice}
+use Rattle.scav_pages.proofs.Causing.{cause_of_part}
 use Rattle.scav_pages.proofs.Doing.{does_ok, does_stop_part, going_does, going_here}
 use Rattle.scav_pages.proofs.Mending.{are_mended, may_move, ready_midway}
 use Rattle.scav_pages.proofs.mend.mend.Goals as goal
@@ -10,6 +11,9 @@ returns-in_err-unused-clause-does g c = λ told ready.
     let b = g.D.Tape.tape c.release_available.new.disk in
     does_stop_part c.in_err-unused.field-0.0 c.from_residual.result (going_here a) c.in_err-unused.ensures.alone.grown (c.in_err-unused.ensures.does told) c.from_residual.ensures.1
 
+pub returns-in_err-unused-clause-cause : goal.returns-in_err-unused-clause-cause
+returns-in_err-unused-clause-cause g c = cause_of_part c.in_err-unused.field-0.0 c.from_residual.result (alone_here _) c.in_err-unused.ensures.alone c.in_err-unused.ensures.cause c.from_residual.ensures.1
+
 pub returns-in_err-mend_root-clause-does : goal.returns-in_err-mend_root-clause-does
 returns-in_err-mend_root-clause-does g c = λ told ready.
     let a = g.D.Tape.tape c.args.disk.now in
@@ -19,6 +23,9 @@ returns-in_err-mend_root-clause-does g c = λ told ready.
     let first = one.does told in
     let x = going_does (going_here a) one.alone.grown first in
     does_stop_part c.in_err-mend_root.field-0.0 c.from_residual-in_err-mend_root.result x c.in_err-mend_root.ensures.alone.grown (c.in_err-mend_root.ensures.does told (may_move a b c.in_ok-unused.unused x ready first.leaves)) c.from_residual-in_err-mend_root.ensures.1
+
+pub returns-in_err-mend_root-clause-cause : goal.returns-in_err-mend_root-clause-cause
+returns-in_err-mend_root-clause-cause g c = cause_of_part c.in_err-mend_root.field-0.0 c.from_residual-in_err-mend_root.result c.in_ok-unused.ensures.alone c.in_err-mend_root.ensures.alone c.in_err-mend_root.ensures.cause c.from_residual-in_err-mend_root.ensures.1
 
 pub returns-in_err-mend_root-clause-alone : goal.returns-in_err-mend_root-clause-alone
 returns-in_err-mend_root-clause-alone g c = alone_twice c.in_ok-unused.ensures.alone c.in_err-mend_root.ensures.alone
@@ -36,6 +43,9 @@ returns-in_err-mend_ends-clause-does g c = λ told ready.
     let second = two.does told (may_move a b c.in_ok-unused.unused x ready first.leaves) in
     let y = going_does x two.alone.grown second in
     does_stop_part c.in_err-mend_ends.field-0.0 c.from_residual-in_err-mend_ends.result y c.in_err-mend_ends.ensures.alone.grown (c.in_err-mend_ends.ensures.does told (ready_midway a d y ready) second.leaves) c.from_residual-in_err-mend_ends.ensures.1
+
+pub returns-in_err-mend_ends-clause-cause : goal.returns-in_err-mend_ends-clause-cause
+returns-in_err-mend_ends-clause-cause g c = cause_of_part c.in_err-mend_ends.field-0.0 c.from_residual-in_err-mend_ends.result (alone_twice c.in_ok-unused.ensures.alone c.in_ok-mend_root.ensures.alone) c.in_err-mend_ends.ensures.alone c.in_err-mend_ends.ensures.cause c.from_residual-in_err-mend_ends.ensures.1
 
 pub returns-in_err-mend_ends-clause-alone : goal.returns-in_err-mend_ends-clause-alone
 returns-in_err-mend_ends-clause-alone g c = alone_twice (alone_twice c.in_ok-unused.ensures.alone c.in_ok-mend_root.ensures.alone) c.in_err-mend_ends.ensures.alone
@@ -55,6 +65,9 @@ returns-in_err-mend_links-clause-does g c = λ told ready.
     let y = going_does x two.alone.grown second in
     let third = three.does told (ready_midway a d y ready) second.leaves in
     does_stop_part c.in_err-mend_links.field-0.0 c.from_residual-in_err-mend_links.result (going_does y three.alone.grown third) c.in_err-mend_links.ensures.alone.grown (c.in_err-mend_links.ensures.does told third.leaves) c.from_residual-in_err-mend_links.ensures.1
+
+pub returns-in_err-mend_links-clause-cause : goal.returns-in_err-mend_links-clause-cause
+returns-in_err-mend_links-clause-cause g c = cause_of_part c.in_err-mend_links.field-0.0 c.from_residual-in_err-mend_links.result (alone_twice (alone_twice c.in_ok-unused.ensures.alone c.in_ok-mend_root.ensures.alone) c.in_ok-mend_ends.ensures.alone) c.in_err-mend_links.ensures.alone c.in_err-mend_links.ensures.cause c.from_residual-in_err-mend_links.ensures.1
 
 pub returns-in_err-mend_links-clause-alone : goal.returns-in_err-mend_links-clause-alone
 returns-in_err-mend_links-clause-alone g c = alone_twice (alone_twice (alone_twice c.in_ok-unused.ensures.alone c.in_ok-mend_root.ensures.alone) c.in_ok-mend_ends.ensures.alone) c.in_err-mend_links.ensures.alone

@@ -1,6 +1,7 @@
 use Rattle.std.proofs.Common.{◌<◌, arith, length}
 use Rattle.disk_records.specs.Tapes.{pack}
-use Rattle.disk_records.proofs.Growing.{alone_twice, length-pack}
+use Rattle.disk_records.proofs.Growing.{alone_here, alone_twice, length-pack}
+use Rattle.scav_pages.proofs.Causing.{cause_of_part}
 use Rattle.scav_pages.proofs.Doing.{does_ok, does_stop_part, going_does, going_here}
 use Rattle.scav_pages.proofs.Mending.{all_released, root_within}
 use Rattle.scav_pages.proofs.mend.release_available.Goals as goal
@@ -12,6 +13,9 @@ returns-in_err-copies-clause-does g c = λ told.
     let b = g.D.Tape.tape c.release_copies.new.disk in
     does_stop_part c.in_err-copies.field-0.0 c.from_residual.result (going_here a) c.in_err-copies.ensures.alone.grown (c.in_err-copies.ensures.does told) c.from_residual.ensures.1
 
+pub returns-in_err-copies-clause-cause : goal.returns-in_err-copies-clause-cause
+returns-in_err-copies-clause-cause g c = cause_of_part c.in_err-copies.field-0.0 c.from_residual.result (alone_here _) c.in_err-copies.ensures.alone c.in_err-copies.ensures.cause c.from_residual.ensures.1
+
 pub returns-in_err-strays-clause-does : goal.returns-in_err-strays-clause-does
 returns-in_err-strays-clause-does g c = λ told.
     let a = g.D.Tape.tape c.args.disk.now in
@@ -20,6 +24,9 @@ returns-in_err-strays-clause-does g c = λ told.
     let first = one.does told in
     let x = going_does (going_here a) one.alone.grown first in
     does_stop_part c.in_err-strays.field-0.0 c.from_residual-in_err-strays.result x c.in_err-strays.ensures.alone.grown (c.in_err-strays.ensures.does told first.leaves.once) c.from_residual-in_err-strays.ensures.1
+
+pub returns-in_err-strays-clause-cause : goal.returns-in_err-strays-clause-cause
+returns-in_err-strays-clause-cause g c = cause_of_part c.in_err-strays.field-0.0 c.from_residual-in_err-strays.result c.in_ok-copies.ensures.alone c.in_err-strays.ensures.alone c.in_err-strays.ensures.cause c.from_residual-in_err-strays.ensures.1
 
 pub returns-in_err-strays-clause-alone : goal.returns-in_err-strays-clause-alone
 returns-in_err-strays-clause-alone g c = alone_twice c.in_ok-copies.ensures.alone c.in_err-strays.ensures.alone
@@ -34,6 +41,9 @@ returns-in_err-cut_directories-clause-does g c = λ told.
     let second = two.does told first.leaves.once in
     let x = going_does (going_does (going_here a) one.alone.grown first) two.alone.grown second in
     does_stop_part c.in_err-cut_directories.field-0.0 c.from_residual-in_err-cut_directories.result x c.in_err-cut_directories.ensures.alone.grown (c.in_err-cut_directories.ensures.does told second.leaves.cleared) c.from_residual-in_err-cut_directories.ensures.1
+
+pub returns-in_err-cut_directories-clause-cause : goal.returns-in_err-cut_directories-clause-cause
+returns-in_err-cut_directories-clause-cause g c = cause_of_part c.in_err-cut_directories.field-0.0 c.from_residual-in_err-cut_directories.result (alone_twice c.in_ok-copies.ensures.alone c.in_ok-strays.ensures.alone) c.in_err-cut_directories.ensures.alone c.in_err-cut_directories.ensures.cause c.from_residual-in_err-cut_directories.ensures.1
 
 pub returns-in_err-cut_directories-clause-alone : goal.returns-in_err-cut_directories-clause-alone
 returns-in_err-cut_directories-clause-alone g c = alone_twice (alone_twice c.in_ok-copies.ensures.alone c.in_ok-strays.ensures.alone) c.in_err-cut_directories.ensures.alone
@@ -50,6 +60,9 @@ returns-in_err-unused-clause-does g c = λ told.
     let third = three.does told second.leaves.cleared in
     let x = going_does (going_does (going_does (going_here a) one.alone.grown first) two.alone.grown second) three.alone.grown third in
     does_stop_part c.in_err-unused.field-0.0 c.from_residual-in_err-unused.result x c.in_err-unused.ensures.alone.grown (c.in_err-unused.ensures.does told third.leaves.ended) c.from_residual-in_err-unused.ensures.1
+
+pub returns-in_err-unused-clause-cause : goal.returns-in_err-unused-clause-cause
+returns-in_err-unused-clause-cause g c = cause_of_part c.in_err-unused.field-0.0 c.from_residual-in_err-unused.result (alone_twice (alone_twice c.in_ok-copies.ensures.alone c.in_ok-strays.ensures.alone) c.in_ok-cut_directories.ensures.alone) c.in_err-unused.ensures.alone c.in_err-unused.ensures.cause c.from_residual-in_err-unused.ensures.1
 
 pub returns-in_err-unused-clause-alone : goal.returns-in_err-unused-clause-alone
 returns-in_err-unused-clause-alone g c = alone_twice (alone_twice (alone_twice c.in_ok-copies.ensures.alone c.in_ok-strays.ensures.alone) c.in_ok-cut_directories.ensures.alone) c.in_err-unused.ensures.alone

@@ -3,8 +3,9 @@ use Rattle.disk_records.specs.Commands.{claim_writes}
 use Rattle.disk_records.specs.Labels.{tag}
 use Rattle.disk_records.specs.Packs.{after, is_free_at}
 use Rattle.disk_records.specs.Tapes.{pack}
-use Rattle.disk_records.proofs.Growing.{alone_twice}
+use Rattle.disk_records.proofs.Growing.{alone_here, alone_twice}
 use Rattle.disk_records.proofs.Looking.{looks_pack}
+use Rattle.scav_pages.proofs.Causing.{cause_of_guarded, cause_of_part}
 use Rattle.scav_pages.proofs.Doing.{does_ok, does_stop_claim, does_stop_looking, going_done, going_here, going_looks, pack_done}
 use Rattle.scav_pages.proofs.Keeping.{Mends}
 use Rattle.scav_pages.proofs.Rooting.{first_in_range, first_names, leader_in_range, leader_names, leader_mends, not_none, one_still_free, page_mends, root_made, root_words}
@@ -16,14 +17,23 @@ returns-in_err-at-clause-does g c = λ told may.
     does_stop_looking c.in_err-at.field-0.0 c.from_residual.result (going_here a) c.in_err-at.ensures.looks told
     (λ astray. not_none (pack a) may (c.in_err-at.ensures.none told astray)) (c.in_err-at.ensures.want told) c.from_residual.ensures.1
 
+pub returns-in_err-at-clause-cause : goal.returns-in_err-at-clause-cause
+returns-in_err-at-clause-cause g c = cause_of_part c.in_err-at.field-0.0 c.from_residual.result (alone_here _) c.in_err-at.ensures.looks.alone c.in_err-at.ensures.cause c.from_residual.ensures.1
+
 pub claim-requires-clause-label : goal.claim-requires-clause-label
 claim-requires-clause-label g c = first_in_range 65535 c.real_of.result c.label_of-label.ensures
+
+pub returns-in_err-claim-clause-cause : goal.returns-in_err-claim-clause-cause
+returns-in_err-claim-clause-cause g c = cause_of_guarded c.in_err-claim.field-0.0 c.from_residual-in_err-claim.result c.in_ok-at.ensures.looks.alone c.in_err-claim.ensures.alone c.in_err-claim.ensures.cause c.from_residual-in_err-claim.ensures.1
 
 pub returns-in_err-claim-clause-alone : goal.returns-in_err-claim-clause-alone
 returns-in_err-claim-clause-alone g c = alone_twice c.in_ok-at.ensures.looks.alone c.in_err-claim.ensures.alone
 
 pub claim-requires-2-clause-label : goal.claim-requires-2-clause-label
 claim-requires-2-clause-label g c = leader_in_range c.real_of-2.result 65535 c.label_of-label-2.ensures
+
+pub returns-in_err-claim-2-clause-cause : goal.returns-in_err-claim-2-clause-cause
+returns-in_err-claim-2-clause-cause g c = cause_of_guarded c.in_err-claim-2.field-0.0 c.from_residual-in_err-claim-2.result (alone_twice c.in_ok-at.ensures.looks.alone c.in_ok-claim.ensures.alone) c.in_err-claim-2.ensures.alone c.in_err-claim-2.ensures.cause c.from_residual-in_err-claim-2.ensures.1
 
 pub returns-in_err-claim-2-clause-alone : goal.returns-in_err-claim-2-clause-alone
 returns-in_err-claim-2-clause-alone g c = alone_twice (alone_twice c.in_ok-at.ensures.looks.alone c.in_ok-claim.ensures.alone) c.in_err-claim-2.ensures.alone

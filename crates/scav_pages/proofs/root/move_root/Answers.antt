@@ -2,8 +2,9 @@ use Rattle.std.proofs.Common.{◌≡◌, true, ap, ◌∙◌, sym, subst, arith}
 use Rattle.disk_records.specs.Commands.{claim_writes}
 use Rattle.disk_records.specs.Packs.{after, is_free_at}
 use Rattle.disk_records.specs.Tapes.{pack}
-use Rattle.disk_records.proofs.Growing.{alone_twice}
+use Rattle.disk_records.proofs.Growing.{alone_here, alone_twice}
 use Rattle.disk_records.proofs.Looking.{looks_pack}
+use Rattle.scav_pages.proofs.Causing.{cause_of_guarded}
 use Rattle.scav_pages.proofs.Doing.{does_ok, does_stop_claim, does_stop_two, going_done, going_here, going_looks, pack_done}
 use Rattle.scav_pages.proofs.Keeping.{Mends, mends_nothing}
 use Rattle.scav_pages.proofs.Rooting.{copy_mends, first_free, moved, old_mends, root_carried, still_carried}
@@ -14,8 +15,17 @@ returns-in_err-read_page-clause-does g c = λ told may.
     let a = g.D.Tape.tape c.args.disk.now in
     does_stop_two c.in_err-read_page.field-0.0 c.from_residual.result (going_here a) c.in_err-read_page.ensures.looks.alone.grown (root_carried (pack a) c.args.old may c.requires.first) (mends_nothing (pack a)) (omega arith) (c.in_err-read_page.ensures.guarded told) c.from_residual.ensures.1
 
+pub returns-in_err-read_page-clause-cause : goal.returns-in_err-read_page-clause-cause
+returns-in_err-read_page-clause-cause g c = cause_of_guarded c.in_err-read_page.field-0.0 c.from_residual.result (alone_here _) c.in_err-read_page.ensures.looks.alone c.in_err-read_page.ensures.cause c.from_residual.ensures.1
+
+pub returns-in_err-claim-clause-cause : goal.returns-in_err-claim-clause-cause
+returns-in_err-claim-clause-cause g c = cause_of_guarded c.in_err-claim.field-0.0 c.from_residual-in_err-claim.result c.in_ok-read_page.ensures.looks.alone c.in_err-claim.ensures.alone c.in_err-claim.ensures.cause c.from_residual-in_err-claim.ensures.1
+
 pub returns-in_err-claim-clause-alone : goal.returns-in_err-claim-clause-alone
 returns-in_err-claim-clause-alone g c = alone_twice c.in_ok-read_page.ensures.looks.alone c.in_err-claim.ensures.alone
+
+pub returns-in_err-release-clause-cause : goal.returns-in_err-release-clause-cause
+returns-in_err-release-clause-cause g c = cause_of_guarded c.in_err-release.field-0.0 c.from_residual-in_err-release.result (alone_twice c.in_ok-read_page.ensures.looks.alone c.in_ok-claim.ensures.alone) c.in_err-release.ensures.alone c.in_err-release.ensures.cause c.from_residual-in_err-release.ensures.1
 
 pub returns-in_err-release-clause-alone : goal.returns-in_err-release-clause-alone
 returns-in_err-release-clause-alone g c = alone_twice (alone_twice c.in_ok-read_page.ensures.looks.alone c.in_ok-claim.ensures.alone) c.in_err-release.ensures.alone

@@ -1,7 +1,9 @@
 use Rattle.std.proofs.Common.{None, Some, ap, ◌∙◌, arith}
 use Rattle.disk_records.specs.Addresses.{pages_of}
 use Rattle.disk_records.specs.Tapes.{pack}
+use Rattle.disk_records.proofs.Growing.{alone_here}
 use Rattle.scav_table.specs.Laws.{IsFirstAbove}
+use Rattle.scav_pages.proofs.Causing.{cause_of_swept}
 use Rattle.scav_pages.proofs.Passing.{next_is, row_placed}
 use Rattle.scav_pages.proofs.rows.next_row.Goals as goal
 use Rattle.scav_pages.proofs.rows.next_row.Goals.{then-row-lt1-via-then-row-lt1, then-row-lt1-via-else-row-lt1+then-row-pages}
@@ -20,3 +22,6 @@ returns-then-row-lt1-clause-found g c = λ k _.
       | then-row-lt1-via-then-row-lt1 w ↦ omega (arith, placed.1, w.if-row-lt1.true)
       | then-row-lt1-via-else-row-lt1+then-row-pages w ↦ omega (arith, placed.2, w.if-row-pages.true, w.pages.ensures ∙ ap pages_of (w.shape.ensures ∙ c.in_ok-row.ensures.looks.alone.grown.form))
     ]
+
+pub returns-in_err-row-clause-cause : goal.returns-in_err-row-clause-cause
+returns-in_err-row-clause-cause g c = cause_of_swept c.in_err-row.field-0.0 c.from_residual.result (alone_here _) c.in_err-row.ensures.looks.alone c.in_err-row.ensures.cause c.from_residual.ensures.1

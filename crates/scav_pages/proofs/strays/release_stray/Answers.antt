@@ -2,7 +2,8 @@ use Rattle.std.proofs.Common.{◌≡◌, None, Some, sym, ap, ◌∙◌, refl}
 use Rattle.std.specs.Option.{is_some}
 use Rattle.disk_records.specs.Commands.{ones}
 use Rattle.disk_records.specs.Tapes.{pack}
-use Rattle.disk_records.proofs.Growing.{alone_twice}
+use Rattle.disk_records.proofs.Growing.{alone_here, alone_twice}
+use Rattle.scav_pages.proofs.Causing.{cause_of_looked}
 use Rattle.scav_pages.proofs.Straying.{bad_no_stray, free_no_stray, half_released, header_matches, is_stray, none_released, nothing_released, one_released, page_no_stray}
 use Rattle.scav_pages.proofs.strays.release_stray.Goals as goal
 use Rattle.scav_pages.proofs.strays.release_stray.Goals.{then-not-branch-via-then-not-branch, then-not-branch-via-else-not-branch+then-is_some, then-not-branch-via-else-not-branch+else-is_some+then-is_free_label}
@@ -63,3 +64,6 @@ returns-in-Err-Memory-clause-does g c = λ told once.
     let ran = rw c.in-Err-Memory.field-0-is at (c.in-Err-Memory.ensures.ran told) in
     let short = ran.want refl in
     none_released c.args.at read.looks c.run.ensures.alone told is ran.some short.less
+
+pub returns-in_err-look-clause-cause : goal.returns-in_err-look-clause-cause
+returns-in_err-look-clause-cause g c = cause_of_looked c.in_err-look.field-0.0 c.from_residual.result (alone_here _) c.in_err-look.ensures.looks.alone c.in_err-look.ensures.cause c.from_residual.ensures.1

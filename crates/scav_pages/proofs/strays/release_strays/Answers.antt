@@ -3,6 +3,7 @@ use Rattle.disk_records.specs.Addresses.{pages_of}
 use Rattle.disk_records.specs.Tapes.{pack}
 use Rattle.disk_records.proofs.Growing.{alone_here, alone_twice, length-pack}
 use Rattle.pack_model.specs.states.InUse.{one_if}
+use Rattle.scav_pages.proofs.Causing.{cause_of_part}
 use Rattle.scav_pages.proofs.Doing.{does_stop_part}
 use Rattle.scav_pages.proofs.Straying.{StraysTo, strays_all, strays_more, strays_none}
 use Rattle.scav_pages.proofs.strays.release_strays.Goals as goal
@@ -17,6 +18,9 @@ loop-at-init g c =
       alone = alone_here first;
       released = λ told once. strays_none first once;
     }
+
+pub returns-in_err-release_stray-clause-cause : goal.returns-in_err-release_stray-clause-cause
+returns-in_err-release_stray-clause-cause g c = cause_of_part c.in_err-release_stray.field-0.0 c.from_residual.result c.loop-at.invariant.alone c.in_err-release_stray.ensures.alone c.in_err-release_stray.ensures.cause c.from_residual.ensures.1
 
 pub returns-in_err-release_stray-clause-alone : goal.returns-in_err-release_stray-clause-alone
 returns-in_err-release_stray-clause-alone g c = alone_twice c.loop-at.invariant.alone c.in_err-release_stray.ensures.alone

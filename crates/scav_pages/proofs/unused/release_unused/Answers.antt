@@ -2,7 +2,7 @@ use Rattle.std.proofs.Common.{◌≡◌, ◌≢◌, ◌<◌, ◌≤◌, IfSome, 
 use Rattle.std.specs.Option.{option_or}
 use Rattle.disk_records.specs.Addresses.{pages_of}
 use Rattle.disk_records.specs.Tapes.{pack}
-use Rattle.disk_records.proofs.Growing.{alone_twice}
+use Rattle.disk_records.proofs.Growing.{alone_here, alone_twice}
 use Rattle.laws_mend.specs.Parts.{Ended}
 use Rattle.pack_model.specs.sessions.Descriptor.{data_pages}
 use Rattle.pack_model.specs.states.InUse.{counts}
@@ -10,6 +10,7 @@ use Rattle.pack_model.specs.reading.Sights.{sights}
 use Rattle.scav_table.specs.Laws.{IsFirstAbove, IsNextRow}
 use Rattle.scav_table.specs.Passes.{IsNext}
 use Rattle.scav_pages.specs.Walks.{Walked}
+use Rattle.scav_pages.proofs.Causing.{cause_of_guarded, cause_of_part, cause_of_swept}
 use Rattle.scav_pages.proofs.Ahead.{ahead, ahead_falls, counts_on}
 use Rattle.scav_pages.proofs.Doing.{does_stop_looking, does_stop_two, going_looks}
 use Rattle.scav_pages.proofs.Rooting.{root_page}
@@ -17,10 +18,16 @@ use Rattle.scav_pages.proofs.Using.{count_is, keeps_it, pass_none, releases_it, 
 use Rattle.scav_pages.proofs.Using.IsNoted.{noted, other}
 use Rattle.scav_pages.proofs.unused.release_unused.Goals as goal
 
+pub returns-in_err-pass-clause-cause : goal.returns-in_err-pass-clause-cause
+returns-in_err-pass-clause-cause g c = cause_of_swept c.in_err-pass.field-0.0 c.from_residual.result (alone_here _) c.in_err-pass.ensures.looks.alone c.in_err-pass.ensures.cause c.from_residual.ensures.1
+
 pub loop-row-init : goal.loop-row-init
 loop-row-init g c =
     let read = c.in_ok-pass.ensures in
     record { pass = pass_none c.new-walk.result read.looks read.stands read.first (λ told. c.new-walk.ensures.start (pack (g.D.Tape.tape c.args.disk.now)) None (g.met.D.Disk.formed c.args.disk.now told) (λ r is. cc)) }
+
+pub returns-in_err-row-clause-cause : goal.returns-in_err-row-clause-cause
+returns-in_err-row-clause-cause g c = cause_of_part c.in_err-row.field-0.0 c.from_residual-in_err-row.result c.loop-row.invariant.pass.alone c.in_err-row.ensures.looks.alone c.in_err-row.ensures.cause c.from_residual-in_err-row.ensures.1
 
 pub returns-in_err-row-clause-alone : goal.returns-in_err-row-clause-alone
 returns-in_err-row-clause-alone g c = alone_twice c.loop-row.invariant.pass.alone c.in_err-row.ensures.looks.alone
@@ -29,6 +36,9 @@ pub returns-in_err-row-clause-does : goal.returns-in_err-row-clause-does
 returns-in_err-row-clause-does g c = λ told ended.
     let read = c.in_err-row.ensures in
     does_stop_looking c.in_err-row.field-0.0 c.from_residual-in_err-row.result (c.loop-row.invariant.pass.released told ended).going read.looks told (read.found told) (read.want told) c.from_residual-in_err-row.ensures.1
+
+pub returns-in_err-release-clause-cause : goal.returns-in_err-release-clause-cause
+returns-in_err-release-clause-cause g c = cause_of_guarded c.in_err-release.field-0.0 c.from_residual-in_err-release.result (alone_twice c.loop-row.invariant.pass.alone c.in_ok-row.ensures.looks.alone) c.in_err-release.ensures.alone c.in_err-release.ensures.cause c.from_residual-in_err-release.ensures.1
 
 pub returns-in_err-release-clause-alone : goal.returns-in_err-release-clause-alone
 returns-in_err-release-clause-alone g c = alone_twice (alone_twice c.loop-row.invariant.pass.alone c.in_ok-row.ensures.looks.alone) c.in_err-release.ensures.alone
