@@ -1,4 +1,5 @@
 pub mod Belonging
+mod Causing
 mod Filling
 mod Given
 mod Naming

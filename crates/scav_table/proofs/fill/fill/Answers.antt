@@ -1,5 +1,6 @@
 use Rattle.std.proofs.Common.{◌≡◌, ◌+◌, ◌≤◌, length, replicate, Some, None, arith, rules, sym, ap, ◌∙◌}
 use Rattle.disk_records.proofs.Looking.{looks_none, looks_twice}
+use Rattle.scav_table.proofs.Causing.{cause_of_looked, want_of_looked}
 use Rattle.scav_table.proofs.Filling.{seen_none, seen_more, seen_rises, seen_all, seen_as}
 use Rattle.scav_table.proofs.Reading.{met_row, met_bad}
 use Rattle.scav_table.specs.Rows.{no_row}
@@ -53,3 +54,10 @@ loop-at-preserved g c =
 
 pub returns-clause-filled : goal.returns-clause-filled
 returns-clause-filled g c = let end = c.loop-at.invariant.end in seen_all (omega (arith, end)) (omega arith) (g.met.D.Disk.sized c.args.disk.now) c.loop-at.invariant.seen
+
+pub returns-in_err-look-clause-cause : goal.returns-in_err-look-clause-cause
+returns-in_err-look-clause-cause g c =
+    cause_of_looked (g.D.Tape.tape c.args.disk.now) (g.D.Tape.tape c.loop-at.disk) (g.D.Tape.tape c.look.new.disk) c.in_err-look.field-0.0 c.from_residual.result c.loop-at.invariant.looks.alone.grown c.in_err-look.ensures.cause c.from_residual.ensures.1
+
+pub returns-in_err-look-clause-want : goal.returns-in_err-look-clause-want
+returns-in_err-look-clause-want g c = want_of_looked c.in_err-look.field-0.0 c.from_residual.result c.in_err-look.ensures.want c.from_residual.ensures.1
