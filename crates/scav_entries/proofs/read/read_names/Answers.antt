@@ -4,11 +4,12 @@ use Rattle.std.proofs.lemmas.List.Elements.{All-nil}
 use Rattle.disk_records.specs.Addresses.{pages_of}
 use Rattle.disk_records.specs.Packs.{Pack, carried}
 use Rattle.disk_records.specs.Tapes.{pack}
-use Rattle.disk_records.proofs.Growing.{alone_twice, pack-silent, silent_twice}
 use Rattle.disk_records.proofs.Looking.{looks_pack}
+use Rattle.disk_records.proofs.Growing.{alone_here, alone_twice, pack-silent, silent_twice}
 use Rattle.scav_table.specs.Laws.{IsFirstAbove, IsNextRow}
 use Rattle.scav_pages.specs.Walks.{AreWords}
 use Rattle.scav_pages.proofs.Passing.{carried_row, stands_same}
+use Rattle.scav_pages.proofs.Causing.{cause_of_part, cause_of_swept}
 use Rattle.scav_entries.specs.Catalogues.{AreSectors}
 use Rattle.scav_entries.specs.Readings.{HasReadTo}
 use Rattle.scav_entries.proofs.ReadingTo.{read_end}
@@ -74,3 +75,12 @@ returns-clause-names g c = λ k.
 
 pub returns-clause-alone : goal.returns-clause-alone
 returns-clause-alone g c = alone_twice c.loop-reading.invariant.alone c.in_ok-row.ensures.looks.alone
+
+pub returns-in_err-pass-clause-cause : goal.returns-in_err-pass-clause-cause
+returns-in_err-pass-clause-cause g c = cause_of_swept c.in_err-pass.field-0.0 c.from_residual.result (alone_here _) c.in_err-pass.ensures.looks.alone c.in_err-pass.ensures.cause c.from_residual.ensures.1
+
+pub returns-in_err-row-clause-cause : goal.returns-in_err-row-clause-cause
+returns-in_err-row-clause-cause g c = cause_of_part c.in_err-row.field-0.0 c.from_residual-in_err-row.result c.loop-reading.invariant.alone c.in_err-row.ensures.looks.alone c.in_err-row.ensures.cause c.from_residual-in_err-row.ensures.1
+
+pub returns-in_err-meet-clause-cause : goal.returns-in_err-meet-clause-cause
+returns-in_err-meet-clause-cause g c = cause_of_part c.in_err-meet.field-0.0 c.from_residual-in_err-meet.result (alone_twice c.loop-reading.invariant.alone c.in_ok-row.ensures.looks.alone) c.in_err-meet.ensures.looks.alone c.in_err-meet.ensures.cause c.from_residual-in_err-meet.ensures.1

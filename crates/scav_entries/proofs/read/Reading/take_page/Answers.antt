@@ -5,11 +5,14 @@ use Rattle.disk_records.specs.declared.records.Sector.{Sector}
 use Rattle.disk_records.specs.Packs.{Pack, sector_at}
 use Rattle.disk_records.specs.Tapes.{pack}
 use Rattle.disk_records.specs.Words.{word}
+use Rattle.disk_records.proofs.Growing.{alone_here}
 use Rattle.label_check.specs.declared.errors.PageInfo.{PageInfo}
 use Rattle.label_check.specs.Guarded.{info_of}
 use Rattle.kept_names.proofs.Tests.{fid_eq}
+use Rattle.scav_pages.specs.declared.errors.Stop.TheVariants.{Memory}
 use Rattle.scav_entries.specs.Readings.{MeetsSlots, counted_words}
 use Rattle.scav_pages.proofs.Ranking.{page_ranged}
+use Rattle.scav_pages.proofs.Causing.{cause_of_guarded, cause_of_part}
 use Rattle.scav_entries.proofs.ReadingSlots.{slots_end, slots_more, slots_none}
 use Rattle.scav_entries.proofs.read.Reading.take_page.Goals as goal
 
@@ -100,3 +103,12 @@ returns-else-eq-clause-sectors g c =
     let d = c.args.row.now.page.fid in
     let other : is_fid d sys_dir ≡ false = fid_eq d sys_dir ∙ sym c.eq.ensures ∙ c.if-eq.false in
     inv.pages ∙ sym (append-nil c.args.self.now.catalogue.root_pages) ∙ ap (λ b. c.args.self.now.catalogue.root_pages ++ cond b (c.args.row.now.at ∷ []) []) (sym other)
+
+pub returns-in_err-info-clause-cause : goal.returns-in_err-info-clause-cause
+returns-in_err-info-clause-cause g c = cause_of_guarded c.in_err-info.field-0.0 c.from_residual.result (alone_here _) c.in_err-info.ensures.looks.alone c.in_err-info.ensures.cause c.from_residual.ensures.1
+
+pub returns-in_err-take-clause-cause : goal.returns-in_err-take-clause-cause
+returns-in_err-take-clause-cause g c = cause_of_part Memory c.from_residual-in_err-take.result c.in_ok-info.ensures.looks.alone (alone_here _) tt c.from_residual-in_err-take.ensures.1
+
+pub returns-in_err-push-clause-cause : goal.returns-in_err-push-clause-cause
+returns-in_err-push-clause-cause g c = cause_of_part Memory c.from_residual-in_err-push.result c.in_ok-info.ensures.looks.alone (alone_here _) tt c.from_residual-in_err-push.ensures.1
