@@ -1,5 +1,8 @@
 use Rattle.std.proofs.Common.{◌≡◌, get_or, sym, subst, ◌∙◌}
 use Rattle.disk_records.specs.Tapes.{pack}
+use Rattle.disk_records.proofs.Growing.{alone_here}
+use Rattle.scav_pages.specs.declared.errors.Stop.TheVariants.{Memory}
+use Rattle.scav_pages.proofs.Causing.{cause_of_part}
 use Rattle.scav_names.specs.Parts.{AddressesTrue}
 use Rattle.scav_names.specs.Words.{AreWordsOf, WritesWords, address_words}
 use Rattle.scav_names.proofs.Addressing.{are_words, few_places, run_addresses}
@@ -16,3 +19,9 @@ returns-clause-does g c = λ told may.
     let wrote : WritesWords (address_words files kept) a (g.D.Tape.tape c.write_words.new.disk) c.write_words.result =
     subst (λ ws. WritesWords ws a (g.D.Tape.tape c.write_words.new.disk) c.write_words.result) is (c.write_words.ensures.writes told (subst (AreWordsOf (pack a)) (sym is) (are_words (pack a) files kept may))) in
     does_writes {Leaves = AddressesTrue} c.write_words.result c.write_words.ensures.alone.grown wrote runs.keeps (words_change (pack a) (address_words files kept)) runs.mended
+
+pub returns-in_err-words-clause-cause : goal.returns-in_err-words-clause-cause
+returns-in_err-words-clause-cause g c = cause_of_part Memory c.from_residual.result (alone_here (g.D.Tape.tape c.args.disk.now)) (alone_here _) tt c.from_residual.ensures.1
+
+pub returns-clause-cause : goal.returns-clause-cause
+returns-clause-cause g c = c.write_words.ensures.cause

@@ -1,11 +1,12 @@
 use Rattle.std.proofs.Common.{refl, sym, subst}
 use Rattle.alto_words.specs.Fid.{sys_dir}
 use Rattle.disk_records.specs.Tapes.{pack}
-use Rattle.disk_records.proofs.Growing.{alone_twice}
+use Rattle.disk_records.proofs.Growing.{alone_here, alone_twice}
 use Rattle.pack_model.specs.hints.Links.{dir_words}
 use Rattle.pack_model.specs.reading.Slots.{slots}
-use Rattle.scav_entries.specs.Rooms.{IsFirstRoom}
 use Rattle.scav_pages.specs.declared.errors.Stop.TheVariants.{Memory}
+use Rattle.scav_pages.proofs.Causing.{cause_of_part}
+use Rattle.scav_entries.specs.Rooms.{IsFirstRoom}
 use Rattle.scav_names.proofs.Going.{does_ok, does_part, does_stop, so_far_does, so_far_here}
 use Rattle.scav_names.proofs.NextEntry.{entered, entered_after}
 use Rattle.scav_names.proofs.enter.enter.Goals as goal
@@ -46,3 +47,12 @@ returns-clause-does g c = λ told todo may.
     let rooms = c.in_ok-fill.ensures is made.leaves.may.may.rooms first file.fid file.name (sym words) in
     does_ok tt (so_far_does (so_far_does (so_far_here a) c.in_ok-room.ensures.alone.grown made) c.in_ok-write_entry.ensures.alone.grown wrote)
     (entered_after made.leaves.stay (entered made.leaves.may.may wrote.leaves refl refl rooms))
+
+pub returns-in_err-room-clause-cause : goal.returns-in_err-room-clause-cause
+returns-in_err-room-clause-cause g c = cause_of_part c.in_err-room.field-0.0 c.from_residual.result (alone_here _) c.in_err-room.ensures.alone c.in_err-room.ensures.cause c.from_residual.ensures.1
+
+pub returns-in_err-write_entry-clause-cause : goal.returns-in_err-write_entry-clause-cause
+returns-in_err-write_entry-clause-cause g c = cause_of_part c.in_err-write_entry.field-0.0 c.from_residual-in_err-write_entry.result c.in_ok-room.ensures.alone c.in_err-write_entry.ensures.alone c.in_err-write_entry.ensures.cause c.from_residual-in_err-write_entry.ensures.1
+
+pub returns-in_err-fill-clause-cause : goal.returns-in_err-fill-clause-cause
+returns-in_err-fill-clause-cause g c = cause_of_part Memory c.from_residual-in_err-fill.result (alone_twice c.in_ok-room.ensures.alone c.in_ok-write_entry.ensures.alone) (alone_here _) tt c.from_residual-in_err-fill.ensures.1

@@ -2,6 +2,7 @@ use Rattle.std.proofs.Common.{◌+◌, drop, subst, arith}
 use Rattle.std.proofs.lemmas.List.{drop_all}
 use Rattle.disk_records.specs.Tapes.{pack}
 use Rattle.disk_records.proofs.Growing.{alone_here, alone_twice}
+use Rattle.scav_pages.proofs.Causing.{cause_of_part}
 use Rattle.scav_names.specs.Roots.{MayBeEntered}
 use Rattle.scav_names.proofs.Going.{does_ok, does_part}
 use Rattle.scav_names.proofs.NextEntry.{all_entered, entered_more, first_left, none_entered}
@@ -39,3 +40,6 @@ returns-clause-does g c = λ told may.
     let so_far = c.loop-file.invariant.entered told may in
     let none = drop_all c.loop-file.file-index c.args.files.now (let t = c.loop-file-test.false in omega (arith, t)) in
     does_ok tt so_far.so_far (all_entered so_far.stay (subst (MayBeEntered (pack (g.D.Tape.tape c.loop-file.disk)) c.loop-file.root) none so_far.may))
+
+pub returns-in_err-enter-clause-cause : goal.returns-in_err-enter-clause-cause
+returns-in_err-enter-clause-cause g c = cause_of_part c.in_err-enter.field-0.0 c.from_residual.result c.loop-file.invariant.alone c.in_err-enter.ensures.alone c.in_err-enter.ensures.cause c.from_residual.ensures.1

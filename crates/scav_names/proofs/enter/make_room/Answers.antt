@@ -1,8 +1,10 @@
 use Rattle.std.proofs.Common.{◌∷◌, arith}
 use Rattle.alto_words.specs.Fid.{sys_dir}
 use Rattle.disk_records.specs.Tapes.{pack}
+use Rattle.disk_records.proofs.Growing.{alone_here}
 use Rattle.pack_model.specs.hints.Links.{dir_words}
 use Rattle.pack_model.specs.reading.Slots.{slots}
+use Rattle.scav_pages.proofs.Causing.{cause_of_part}
 use Rattle.scav_names.proofs.Going.{does_ok, does_part, so_far_does, so_far_here}
 use Rattle.scav_names.proofs.NextEntry.{none_there, room_comes, room_then}
 use Rattle.scav_names.proofs.enter.make_room.Goals as goal
@@ -29,3 +31,6 @@ returns-in-None-clause-does g c = λ told next todo is may.
     let none = c.in_default.ensures.room (slots (dir_words (pack a) sys_dir)) may.rooms in
     let wide = c.in_ok-widen_root.ensures.does told (next ∷ todo) (none_there c.args.words is (let few = c.requires.most in omega (arith, few)) may none) in
     absurd (room_comes c.args.words is wide.leaves (c.in-None.ensures.room (slots (dir_words (pack b) sys_dir)) wide.leaves.may.rooms))
+
+pub returns-in_err-widen_root-clause-cause : goal.returns-in_err-widen_root-clause-cause
+returns-in_err-widen_root-clause-cause g c = cause_of_part c.in_err-widen_root.field-0.0 c.from_residual.result (alone_here _) c.in_err-widen_root.ensures.alone c.in_err-widen_root.ensures.cause c.from_residual.ensures.1

@@ -13,3 +13,6 @@ returns-then-room-clause-does g c = λ told next todo may. does_ok tt (so_far_he
 pub returns-clause-does : goal.returns-clause-does
 returns-clause-does g c = λ told next todo may.
     does_writes {Leaves = RoomMadeOne c.args.root.now next todo c.args.room.now} c.put_in_root.result c.put_in_root.ensures.alone.grown (c.put_in_root.ensures.writes told may.may.known.pages (place_known may)) (several_keep may) (page_changes (pack (g.D.Tape.tape c.args.disk.now)) (get_or c.args.root.now.pages (c.args.room.now.place / 256) 0) (in_page c.args.room.now.place) (c.args.room.now.total ∷ [])) (several_made may)
+
+pub returns-clause-cause : goal.returns-clause-cause
+returns-clause-cause g c = c.put_in_root.ensures.cause

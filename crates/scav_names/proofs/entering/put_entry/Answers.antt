@@ -2,8 +2,9 @@ use Rattle.std.proofs.Common.{◌≡◌, ◌+◌, ◌/◌, ◌<◌, ◌≤◌, �
 use Rattle.std.proofs.lemmas.List.{length-append, take-append-drop}
 use Rattle.disk_records.specs.Packs.{Pack}
 use Rattle.disk_records.specs.Tapes.{pack}
-use Rattle.disk_records.proofs.Growing.{alone_twice}
+use Rattle.disk_records.proofs.Growing.{alone_here, alone_twice}
 use Rattle.pack_model.specs.operations.PageWords.{in_page}
+use Rattle.scav_pages.proofs.Causing.{cause_of_part, cause_sooner}
 use Rattle.scav_names.specs.Roots.{EntryWritten, IsLater}
 use Rattle.scav_names.specs.Words.{WritesPageWords, page_writes}
 use Rattle.scav_names.proofs.FillRoom.{entry_written, first_keeps, first_known}
@@ -54,3 +55,9 @@ returns-clause-does g c = λ told next todo room may are at.
     (page_changes (pack b) (get_or root.pages (room.place / 256) 0) (in_page room.place) first)
     (entry_written n first later c.args.words.now are split long wrote.leaves (omega (arith, near, some)) one))
     (λ ok. ok)
+
+pub returns-in_err-put_later-clause-cause : goal.returns-in_err-put_later-clause-cause
+returns-in_err-put_later-clause-cause g c = cause_of_part c.in_err-put_later.field-0.0 c.from_residual.result (alone_here _) c.in_err-put_later.ensures.alone c.in_err-put_later.ensures.cause c.from_residual.ensures.1
+
+pub returns-clause-cause : goal.returns-clause-cause
+returns-clause-cause g c = cause_sooner (g.D.Tape.tape c.args.disk.now) (g.D.Tape.tape c.put_later.new.disk) (g.D.Tape.tape c.put_in_root.new.disk) c.put_in_root.result c.in_ok-put_later.ensures.alone.grown c.put_in_root.ensures.cause

@@ -2,9 +2,13 @@ use Rattle.std.proofs.Common.{◌≡◌, ◌≢◌, ◌+◌, ◌/◌, ◌<◌, g
 use Rattle.disk_records.specs.Addresses.{pages_of}
 use Rattle.disk_records.specs.Packs.{carried}
 use Rattle.disk_records.specs.Tapes.{pack}
+use Rattle.disk_records.specs.Causes.{IsCause}
+use Rattle.disk_records.proofs.Growing.{alone_here}
 use Rattle.scav_names.specs.Words.{WritesPageWords, page_writes, page_with}
 use Rattle.pack_model.specs.operations.PageWords.{in_page}
 use Rattle.alto_words.specs.Fid.{sys_dir}
+use Rattle.scav_pages.specs.Stops.{cause_of_stop}
+use Rattle.scav_pages.proofs.Causing.{cause_of_part}
 use Rattle.scav_names.proofs.RootPages.{root_page}
 use Rattle.scav_names.proofs.entering.put_in_root.Goals as goal
 
@@ -24,3 +28,9 @@ returns-clause-writes g c = λ told pages within.
     let page : Some found.page ≡ Some (record { fid = sys_dir; number = c.args.place / 256 + 1 }) = sym c.in_ok-found.ensures.page ∙ h.page in
     let here : carried (pack a) found.at ≡ Some found.page = ap (carried (pack a)) at ∙ h.carries ∙ sym page in
     subst (λ i. WritesPageWords (page_writes (pack a) i (in_page c.args.place) c.args.words.now) a (g.D.Tape.tape c.put_words.new.disk) c.put_words.result) at (c.put_words.ensures.writes told here)
+
+pub returns-in_err-found-clause-cause : goal.returns-in_err-found-clause-cause
+returns-in_err-found-clause-cause g c = cause_of_part c.in_err-found.field-0.0 c.from_residual.result (alone_here (g.D.Tape.tape c.args.disk.now)) (alone_here _) (subst (λ s. IsCause (g.D.Tape.tape c.args.disk.now) (g.D.Tape.tape c.args.disk.now) (cause_of_stop s)) (sym c.in_err-found.ensures.astray) tt) c.from_residual.ensures.1
+
+pub returns-clause-cause : goal.returns-clause-cause
+returns-clause-cause g c = c.put_words.ensures.cause

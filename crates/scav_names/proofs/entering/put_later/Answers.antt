@@ -45,3 +45,6 @@ returns-clause-does g c = λ told next todo room may is.
     subst (λ w. WritesPageWords (page_writes (pack a) (get_or pages (w / 256) 0) (in_page w) later) a b c.put_in_root.result) e (c.put_in_root.ensures.writes told may.known.pages known) in
     let there : IsLater room room.place near later = record { place_is = refl; some = is.some; fits = is.fits } in
     does_writes {Leaves = LaterWritten c.args.root.now next todo room near later} c.put_in_root.result c.put_in_root.ensures.alone.grown wrote (later_keeps may near later there some one) (page_changes (pack a) (get_or pages ((room.place + near) / 256) 0) (in_page (room.place + near)) later) (later_written may near later there some one)
+
+pub returns-clause-cause : goal.returns-clause-cause
+returns-clause-cause g c = c.put_in_root.ensures.cause

@@ -2,7 +2,9 @@ use Rattle.std.proofs.Common.{◌≡◌, ◌≤◌, false, true, length, refl, s
 use Rattle.alto_words.specs.Fid.{is_full_name}
 use Rattle.std.proofs.lemmas.List.Elements.{All-head}
 use Rattle.disk_records.specs.Tapes.{pack}
-use Rattle.disk_records.proofs.Growing.{alone_twice}
+use Rattle.disk_records.proofs.Growing.{alone_here, alone_twice}
+use Rattle.scav_pages.specs.declared.errors.Stop.TheVariants.{Memory}
+use Rattle.scav_pages.proofs.Causing.{cause_of_part, cause_sooner}
 use Rattle.scav_names.specs.Roots.{AreEntryWords, EntryWritten, IsLed}
 use Rattle.scav_names.proofs.FillRoom.{entry_if, led_is_full, room_enough}
 use Rattle.scav_names.proofs.Going.{does_last, does_part, so_far_does, so_far_here}
@@ -43,3 +45,12 @@ returns-clause-does g c = λ told todo may.
     } in
     does_last {Part = EntryWritten root file todo room} {Leaves = EntryWritten root file todo room} c.put_entry.result (so_far_does (so_far_here a) c.in_ok-make_one.ensures.alone.grown one) c.put_entry.ensures.alone.grown
     (c.put_entry.ensures.does told file todo room one.leaves.may are refl) (entry_if (pack (g.D.Tape.tape c.put_entry.new.disk)) c.put_entry.result one.leaves)
+
+pub returns-in_err-words-clause-cause : goal.returns-in_err-words-clause-cause
+returns-in_err-words-clause-cause g c = cause_of_part Memory c.from_residual.result (alone_here (g.D.Tape.tape c.args.disk.now)) (alone_here _) tt c.from_residual.ensures.1
+
+pub returns-in_err-make_one-clause-cause : goal.returns-in_err-make_one-clause-cause
+returns-in_err-make_one-clause-cause g c = cause_of_part c.in_err-make_one.field-0.0 c.from_residual-in_err-make_one.result (alone_here _) c.in_err-make_one.ensures.alone c.in_err-make_one.ensures.cause c.from_residual-in_err-make_one.ensures.1
+
+pub returns-clause-cause : goal.returns-clause-cause
+returns-clause-cause g c = cause_sooner (g.D.Tape.tape c.args.disk.now) (g.D.Tape.tape c.make_one.new.disk) (g.D.Tape.tape c.put_entry.new.disk) c.put_entry.result c.in_ok-make_one.ensures.alone.grown c.put_entry.ensures.cause

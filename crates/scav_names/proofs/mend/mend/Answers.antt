@@ -1,12 +1,10 @@
-use Rattle.std.proofs.Common.{ℕ, Result, Ok, Err, IfOk, sym, subst, arith}
-use Rattle.disk_records.specs.Causes.{HasCause}
-use Rattle.disk_records.specs.Tapes.{Grown, Taped, pack}
-use Rattle.disk_records.proofs.Growing.{alone_twice}
+use Rattle.std.proofs.Common.{Ok, Err, IfOk, sym, subst}
+use Rattle.disk_records.specs.Tapes.{pack}
+use Rattle.disk_records.proofs.Growing.{alone_here, alone_twice}
+use Rattle.scav_pages.specs.declared.errors.Stop.TheVariants.{Memory}
+use Rattle.scav_pages.proofs.Causing.{cause_of_part, cause_sooner}
 use Rattle.scav_entries.specs.Catalogues.{HoldsNames}
 use Rattle.scav_entries.specs.Parting.{IsParted}
-use Rattle.scav_pages.specs.declared.errors.Stop.{Stop}
-use Rattle.scav_pages.specs.declared.errors.Stop.TheVariants.{DiskFault, Memory, Astray}
-use Rattle.scav_pages.specs.Stops.{cause_of_stop}
 use Rattle.scav_names.specs.Mending.{AreMended}
 use Rattle.scav_names.proofs.EnteringParts.{read_does, read_may}
 use Rattle.scav_names.proofs.Going.{does_last, does_part, does_stop, so_far_does, so_far_here}
@@ -41,15 +39,14 @@ returns-clause-does g c = λ told may.
     let rest = then.does told (read_may read.leaves may) (subst (λ p. HoldsNames p names) (sym same) holds) (subst (λ p. IsParted p c.in_ok-parted.parted) (sym same) parted) in
     does_last c.mend_parted.result x then.alone.grown rest (λ l. subst (λ p. IfOk c.mend_parted.result (AreMended p (pack (g.D.Tape.tape c.mend_parted.new.disk)))) same l)
 
--- a fault of the rest comes in the call
-cause_sooner : (first a b : Taped) (r : Result ℕ Stop) → Grown first a → HasCause cause_of_stop a b r → HasCause cause_of_stop first b r
-cause_sooner first a b (Ok n) grown h = tt
-cause_sooner first a b (Err DiskFault) grown h = let less = grown.disk_faults in omega (arith, less, h)
-cause_sooner first a b (Err Memory) grown h = tt
-cause_sooner first a b (Err Astray) grown h = tt
-
 pub returns-clause-cause : goal.returns-clause-cause
 returns-clause-cause g c = cause_sooner (g.D.Tape.tape c.args.disk.now) (g.D.Tape.tape c.read_names.new.disk) (g.D.Tape.tape c.mend_parted.new.disk) c.mend_parted.result c.in_ok-names.ensures.alone.grown c.mend_parted.ensures.cause
 
 pub returns-clause-alone : goal.returns-clause-alone
 returns-clause-alone g c = alone_twice c.in_ok-names.ensures.alone c.mend_parted.ensures.alone
+
+pub returns-in_err-names-clause-cause : goal.returns-in_err-names-clause-cause
+returns-in_err-names-clause-cause g c = cause_of_part c.in_err-names.field-0.0 c.from_residual.result (alone_here _) c.in_err-names.ensures.alone c.in_err-names.ensures.cause c.from_residual.ensures.1
+
+pub returns-in_err-parted-clause-cause : goal.returns-in_err-parted-clause-cause
+returns-in_err-parted-clause-cause g c = cause_of_part Memory c.from_residual-in_err-parted.result c.in_ok-names.ensures.alone (alone_here _) tt c.from_residual-in_err-parted.ensures.1

@@ -1,7 +1,8 @@
 use Rattle.std.proofs.Common.{length, ◌+◌, ◌<◌, sym, ◌∙◌, arith}
 use Rattle.disk_records.specs.Tapes.{pack}
-use Rattle.disk_records.proofs.Growing.{alone_twice, length-pack}
+use Rattle.disk_records.proofs.Growing.{alone_here, alone_twice, length-pack}
 use Rattle.scav_pages.specs.declared.errors.Stop.TheVariants.{Memory}
+use Rattle.scav_pages.proofs.Causing.{cause_of_part}
 use Rattle.scav_names.proofs.EnteringParts.{entered_may, freed_may, names_are_mended_so}
 use Rattle.scav_names.proofs.Going.{does_ok, does_part, does_stop, so_far_does, so_far_here}
 use Rattle.scav_names.proofs.mend.mend_parted.Goals as goal
@@ -106,3 +107,18 @@ returns-clause-does g c = λ told may holds parted.
 
 pub returns-clause-alone : goal.returns-clause-alone
 returns-clause-alone g c = alone_twice (alone_twice c.in_ok-free_unkept.ensures.alone c.in_ok-enter_all.ensures.alone) c.in_ok-mend_addresses.ensures.alone
+
+pub returns-in_err-free_unkept-clause-cause : goal.returns-in_err-free_unkept-clause-cause
+returns-in_err-free_unkept-clause-cause g c = cause_of_part c.in_err-free_unkept.field-0.0 c.from_residual.result (alone_here _) c.in_err-free_unkept.ensures.alone c.in_err-free_unkept.ensures.cause c.from_residual.ensures.1
+
+pub returns-in_err-root_rooms-clause-cause : goal.returns-in_err-root_rooms-clause-cause
+returns-in_err-root_rooms-clause-cause g c = cause_of_part Memory c.from_residual-in_err-root_rooms.result c.in_ok-free_unkept.ensures.alone (alone_here _) tt c.from_residual-in_err-root_rooms.ensures.1
+
+pub returns-in_err-files-clause-cause : goal.returns-in_err-files-clause-cause
+returns-in_err-files-clause-cause g c = cause_of_part Memory c.from_residual-in_err-files.result c.in_ok-free_unkept.ensures.alone (alone_here _) tt c.from_residual-in_err-files.ensures.1
+
+pub returns-in_err-enter_all-clause-cause : goal.returns-in_err-enter_all-clause-cause
+returns-in_err-enter_all-clause-cause g c = cause_of_part c.in_err-enter_all.field-0.0 c.from_residual-in_err-enter_all.result c.in_ok-free_unkept.ensures.alone c.in_err-enter_all.ensures.alone c.in_err-enter_all.ensures.cause c.from_residual-in_err-enter_all.ensures.1
+
+pub returns-in_err-mend_addresses-clause-cause : goal.returns-in_err-mend_addresses-clause-cause
+returns-in_err-mend_addresses-clause-cause g c = cause_of_part c.in_err-mend_addresses.field-0.0 c.from_residual-in_err-mend_addresses.result (alone_twice c.in_ok-free_unkept.ensures.alone c.in_ok-enter_all.ensures.alone) c.in_err-mend_addresses.ensures.alone c.in_err-mend_addresses.ensures.cause c.from_residual-in_err-mend_addresses.ensures.1

@@ -5,9 +5,10 @@ use Rattle.disk_records.specs.Events.{IsFirstOf}
 use Rattle.disk_records.specs.Labels.{label_of, page_of}
 use Rattle.disk_records.specs.Packs.{carried, sector_at}
 use Rattle.disk_records.specs.Tapes.{added, pack}
-use Rattle.disk_records.proofs.Growing.{alone_twice}
 use Rattle.disk_records.proofs.Looking.{looks_pack}
+use Rattle.disk_records.proofs.Growing.{alone_here, alone_twice}
 use Rattle.scav_pages.proofs.Ranking.{page_ranged}
+use Rattle.scav_pages.proofs.Causing.{cause_of_guarded, cause_of_part}
 use Rattle.scav_names.specs.Roots.{lengthening_writes}
 use Rattle.scav_names.specs.Words.{changed_writes}
 use Rattle.scav_names.proofs.PageWriting.{all_done}
@@ -85,3 +86,12 @@ returns-clause-writes g c = λ told here.
     let holds : (sector_at (pack (g.D.Tape.tape c.read_page.new.disk)) at).value ≡ old = ap (λ p. (sector_at p at).value) same ∙ ap (λ (s : Sector). s.value) (sym read.holds) in
     let done = (x.writes told held).ok in
     all_done tt (label_all at c.args.page old label value looks.alone.grown (looks.silent told) held holds x.alone.grown done y.alone.grown (y.guarded told).ok.wrote ∙ is)
+
+pub returns-in_err-info-clause-cause : goal.returns-in_err-info-clause-cause
+returns-in_err-info-clause-cause g c = cause_of_guarded c.in_err-info.field-0.0 c.from_residual.result (alone_here _) c.in_err-info.ensures.looks.alone c.in_err-info.ensures.cause c.from_residual.ensures.1
+
+pub returns-in_err-put_value-clause-cause : goal.returns-in_err-put_value-clause-cause
+returns-in_err-put_value-clause-cause g c = cause_of_part c.in_err-put_value.field-0.0 c.from_residual-in_err-put_value.result c.in_ok-info.ensures.looks.alone c.in_err-put_value.ensures.alone c.in_err-put_value.ensures.cause c.from_residual-in_err-put_value.ensures.1
+
+pub returns-in_err-relabel-clause-cause : goal.returns-in_err-relabel-clause-cause
+returns-in_err-relabel-clause-cause g c = cause_of_guarded c.in_err-relabel.field-0.0 c.from_residual-in_err-relabel.result (alone_twice c.in_ok-info.ensures.looks.alone c.in_ok-put_value.ensures.alone) c.in_err-relabel.ensures.alone c.in_err-relabel.ensures.cause c.from_residual-in_err-relabel.ensures.1

@@ -6,12 +6,14 @@ use Rattle.disk_records.specs.Events.{IsFirstOf}
 use Rattle.disk_records.specs.Labels.{page_of}
 use Rattle.disk_records.specs.Packs.{carried, is_free_at}
 use Rattle.disk_records.specs.Tapes.{added, pack}
-use Rattle.disk_records.proofs.Growing.{alone_twice}
+use Rattle.disk_records.specs.Causes.{IsCause}
 use Rattle.disk_records.proofs.Looking.{looks_pack}
+use Rattle.disk_records.proofs.Growing.{alone_here, alone_twice}
 use Rattle.scav_entries.specs.laws_operation.proofs.Making.{named_page}
 use Rattle.pack_model.specs.hints.Links.{dir_words}
 use Rattle.pack_model.specs.reading.Slots.{slots}
-use Rattle.scav_pages.specs.Stops.{stop_of_guard}
+use Rattle.scav_pages.specs.Stops.{cause_of_stop, stop_of_guard}
+use Rattle.scav_pages.proofs.Causing.{cause_of_guarded, cause_of_part}
 use Rattle.scav_names.specs.Roots.{Widened}
 use Rattle.scav_names.specs.Words.{page_with}
 use Rattle.scav_names.proofs.Going.{does_stop, so_far_here}
@@ -128,3 +130,15 @@ returns-clause-does g c = λ told todo may.
     (so_far_lengthen a root todo may c.in_ok-fresh.fresh free formed c.label_of-label.result is looks.alone.grown (looks.silent told) x.alone.grown done y.alone.grown (subst (λ l. IsFirstOf l (added b d)) same wrote.some))
     c.push_page.ensures.memory c.push_page.ensures.pages (c.push_page.ensures.rooms (slots (dir_words (pack a) sys_dir)) may.may.rooms (few_words a root todo may))
     (λ pages rooms. subst (λ q. Widened root new todo (pack a) q tt) (sym left) (widened a root todo may c.in_ok-fresh.fresh free formed new pages (c.push_page.ensures.from ∙ c.in_ok-fresh.ensures.next) rooms))
+
+pub returns-in_err-last-clause-cause : goal.returns-in_err-last-clause-cause
+returns-in_err-last-clause-cause g c = cause_of_part c.in_err-last.field-0.0 c.from_residual.result (alone_here (g.D.Tape.tape c.args.disk.now)) (alone_here _) (subst (λ s. IsCause (g.D.Tape.tape c.args.disk.now) (g.D.Tape.tape c.args.disk.now) (cause_of_stop s)) (sym c.in_err-last.ensures.astray) tt) c.from_residual.ensures.1
+
+pub returns-in_err-fresh-clause-cause : goal.returns-in_err-fresh-clause-cause
+returns-in_err-fresh-clause-cause g c = cause_of_part c.in_err-fresh.field-0.0 c.from_residual-in_err-fresh.result (alone_here _) c.in_err-fresh.ensures.looks.alone c.in_err-fresh.ensures.cause c.from_residual-in_err-fresh.ensures.1
+
+pub returns-in_err-claim-clause-cause : goal.returns-in_err-claim-clause-cause
+returns-in_err-claim-clause-cause g c = cause_of_guarded c.in_err-claim.field-0.0 c.from_residual-in_err-claim.result c.in_ok-fresh.ensures.looks.alone c.in_err-claim.ensures.alone c.in_err-claim.ensures.cause c.from_residual-in_err-claim.ensures.1
+
+pub returns-in_err-lengthen-clause-cause : goal.returns-in_err-lengthen-clause-cause
+returns-in_err-lengthen-clause-cause g c = cause_of_part c.in_err-lengthen.field-0.0 c.from_residual-in_err-lengthen.result (alone_twice c.in_ok-fresh.ensures.looks.alone c.in_ok-claim.ensures.alone) c.in_err-lengthen.ensures.alone c.in_err-lengthen.ensures.cause c.from_residual-in_err-lengthen.ensures.1

@@ -3,6 +3,7 @@ use Rattle.std.proofs.lemmas.List.{drop_all}
 use Rattle.disk_records.specs.Tapes.{pack}
 use Rattle.disk_records.proofs.Growing.{alone_twice}
 use Rattle.pack_model.specs.operations.PageWords.{in_page}
+use Rattle.scav_pages.proofs.Causing.{cause_of_part}
 use Rattle.scav_names.specs.declared.words.DirWord.{DirWord}
 use Rattle.scav_names.specs.Words.{IsInWords, page_with}
 use Rattle.scav_names.proofs.PageWriting.{carries_seated, page_written_more, words_done, words_next, words_stop}
@@ -56,3 +57,6 @@ returns-else-eq-clause-writes g c = λ told seated. words_done (c.loop-more.inva
 
 pub returns-after-loop-more-clause-writes : goal.returns-after-loop-more-clause-writes
 returns-after-loop-more-clause-writes g c = λ told seated. words_done (c.loop-more.invariant.words told seated) (λ w ws is. (let t = c.loop-more-test.false in let none = drop_all c.loop-more.more c.args.words.now (omega (arith, t)) in cc))
+
+pub returns-in_err-put_words-clause-cause : goal.returns-in_err-put_words-clause-cause
+returns-in_err-put_words-clause-cause g c = cause_of_part c.in_err-put_words.field-0.0 c.from_residual.result c.loop-more.invariant.alone c.in_err-put_words.ensures.alone c.in_err-put_words.ensures.cause c.from_residual.ensures.1

@@ -1,12 +1,13 @@
 use Rattle.std.proofs.Common.{◌≡◌, Err, IfSome, IsTrue, None, Some, ap, arith, sym, subst, ◌∙◌}
 use Rattle.std.specs.Option.{option_or}
 use Rattle.disk_records.specs.Tapes.{pack}
-use Rattle.disk_records.proofs.Growing.{alone_twice}
 use Rattle.disk_records.proofs.Looking.{looks_pack}
+use Rattle.disk_records.proofs.Growing.{alone_here, alone_twice}
 use Rattle.scav_pages.specs.Walks.{AreWords, IsSeated}
 use Rattle.scav_pages.specs.Links.{WritesPage}
 use Rattle.scav_pages.proofs.Ahead.{ahead_falls}
 use Rattle.scav_pages.proofs.Passing.{carried_row}
+use Rattle.scav_pages.proofs.Causing.{cause_of_part, cause_of_swept}
 use Rattle.scav_table.specs.Laws.{IsFirstAbove, IsNextRow}
 use Rattle.scav_table.specs.Passes.{IsNext}
 use Rattle.scav_names.specs.Words.{AreWordsOf}
@@ -77,3 +78,12 @@ returns-clause-writes g c = λ told are.
 
 pub returns-clause-alone : goal.returns-clause-alone
 returns-clause-alone g c = alone_twice c.loop-row.invariant.alone c.in_ok-row.ensures.looks.alone
+
+pub returns-in_err-pass-clause-cause : goal.returns-in_err-pass-clause-cause
+returns-in_err-pass-clause-cause g c = cause_of_swept c.in_err-pass.field-0.0 c.from_residual.result (alone_here _) c.in_err-pass.ensures.looks.alone c.in_err-pass.ensures.cause c.from_residual.ensures.1
+
+pub returns-in_err-row-clause-cause : goal.returns-in_err-row-clause-cause
+returns-in_err-row-clause-cause g c = cause_of_part c.in_err-row.field-0.0 c.from_residual-in_err-row.result c.loop-row.invariant.alone c.in_err-row.ensures.looks.alone c.in_err-row.ensures.cause c.from_residual-in_err-row.ensures.1
+
+pub returns-in_err-done-clause-cause : goal.returns-in_err-done-clause-cause
+returns-in_err-done-clause-cause g c = cause_of_part c.in_err-done.field-0.0 c.from_residual-in_err-done.result (alone_twice c.loop-row.invariant.alone c.in_ok-row.ensures.looks.alone) c.in_err-done.ensures.alone c.in_err-done.ensures.cause c.from_residual-in_err-done.ensures.1
