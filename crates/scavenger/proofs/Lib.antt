@@ -1,3 +1,4 @@
+mod Causing
 mod Closing
 mod CountPass
 mod OwnPages

@@ -9,6 +9,7 @@ ghost use Rattle.pack_model.specs.scavenger.Needed.{root_widens};
 ghost use Rattle.pack_model.specs.scavenger.Scavenging.{first_refusal};
 ghost use Rattle.pack_model.specs.states.InUse.{bad_sectors};
 ghost use Rattle.scav_entries.specs.Catalogues.{HoldsNames};
+ghost use Rattle.scav_entries.specs.Parting.{IsParted};
 ghost use Rattle.scav_pages.specs.Stops.{cause_of_stop};
 ghost use Rattle.scavenger.specs.Answers.{IsRefusal, refused};
 ghost use Rattle.scavenger.specs.Counting.{Counted};
@@ -18,7 +19,7 @@ use crate::errors::ScavError;
 use alto_words::Memory;
 use disk_records::{Disk, Sector};
 use label_check::look;
-use scav_entries::{Catalogue, lacking, part_entries, read_names, root_rooms, widens};
+use scav_entries::{Catalogue, Parted, lacking, part_entries, read_names, root_rooms, widens};
 use scav_pages::Stop;
 use scav_table::Table;
 use std::alloc::Global;
@@ -28,8 +29,15 @@ fn count_widens(alloc: Global, mut names: Catalogue) -> Result<u32, Memory>
     ensures { (p : Pack) → length p.sectors ≡ pages_of p.shape → HoldsNames p names → IfOk result (λ n. n ≡ root_widens p.shape (sights p)) }
 {
     let mut parted = part_entries(alloc, &names)?;
-    root_rooms(&mut names, &parted)?;
-    let files = lacking(alloc, names.living.as_slice(), &mut parted)?;
+    widens_parted(alloc, &mut names, &mut parted)
+}
+
+/// The pages that SysDir gets more, by these names, which are parted.
+fn widens_parted(alloc: Global, names: &mut Catalogue, parted: &mut Parted) -> Result<u32, Memory>
+    ensures { (p : Pack) → length p.sectors ≡ pages_of p.shape → HoldsNames p names.old → IsParted p parted.old → IfOk result (λ n. n ≡ root_widens p.shape (sights p)) }
+{
+    root_rooms(names, parted)?;
+    let files = lacking(alloc, names.living.as_slice(), parted)?;
     widens(&mut names.rooms, files.as_slice())
 }
 

@@ -3,12 +3,13 @@ use Rattle.std.specs.Option.{option_or}
 use Rattle.disk_records.specs.Addresses.{pages_of}
 use Rattle.disk_records.specs.Packs.{Pack, carried, sector_at}
 use Rattle.disk_records.specs.Tapes.{pack}
-use Rattle.disk_records.proofs.Growing.{alone_twice, length-pack, pack-silent, silent_twice}
 use Rattle.disk_records.proofs.Looking.{looks_pack}
+use Rattle.disk_records.proofs.Growing.{alone_here, alone_twice, length-pack, pack-silent, silent_twice}
 use Rattle.scav_table.specs.Laws.{IsFirstAbove, IsNextRow}
 use Rattle.scav_pages.specs.Directories.{IsReadTo}
 use Rattle.scav_pages.specs.Walks.{AreWords, IsOtherFile, file_in_hand}
 use Rattle.scav_pages.proofs.Passing.{carried_row, contrary, stands_same}
+use Rattle.scav_pages.proofs.Causing.{cause_of_part, cause_of_swept}
 use Rattle.scavenger.proofs.CountPass.{CountedTo, MayMeet, counted_meet, met_last, met_left, met_same, met_start}
 use Rattle.scavenger.proofs.counting.count_pages.Goals as goal
 use Rattle.scavenger.proofs.counting.count_pages.Goals.{then-leaves, else-leaves}
@@ -84,3 +85,15 @@ returns-clause-counted g c = λ k.
 
 pub returns-clause-alone : goal.returns-clause-alone
 returns-clause-alone g c = alone_twice c.loop-row.invariant.alone c.in_ok-row.ensures.looks.alone
+
+pub returns-in_err-system-clause-cause : goal.returns-in_err-system-clause-cause
+returns-in_err-system-clause-cause g c = cause_of_part c.in_err-system.field-0.0 c.from_residual.result (alone_here _) c.in_err-system.ensures.looks.alone c.in_err-system.ensures.cause c.from_residual.ensures.1
+
+pub returns-in_err-pass-clause-cause : goal.returns-in_err-pass-clause-cause
+returns-in_err-pass-clause-cause g c = cause_of_swept c.in_err-pass.field-0.0 c.from_residual-in_err-pass.result c.in_ok-system.ensures.looks.alone c.in_err-pass.ensures.looks.alone c.in_err-pass.ensures.cause c.from_residual-in_err-pass.ensures.1
+
+pub returns-in_err-row-clause-cause : goal.returns-in_err-row-clause-cause
+returns-in_err-row-clause-cause g c = cause_of_part c.in_err-row.field-0.0 c.from_residual-in_err-row.result c.loop-row.invariant.alone c.in_err-row.ensures.looks.alone c.in_err-row.ensures.cause c.from_residual-in_err-row.ensures.1
+
+pub returns-in_err-meet_page-clause-cause : goal.returns-in_err-meet_page-clause-cause
+returns-in_err-meet_page-clause-cause g c = cause_of_part c.in_err-meet_page.field-0.0 c.from_residual-in_err-meet_page.result (alone_twice c.loop-row.invariant.alone c.in_ok-row.ensures.looks.alone) c.in_err-meet_page.ensures.looks.alone c.in_err-meet_page.ensures.cause c.from_residual-in_err-meet_page.ensures.1

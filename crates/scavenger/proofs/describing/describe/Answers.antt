@@ -4,14 +4,18 @@ use Rattle.std.specs.Prelude.{◌==◌}
 use Rattle.disk_descriptor.specs.Fields.{AreSectors}
 use Rattle.disk_records.specs.declared.shape.Shape.{Shape}
 use Rattle.disk_records.specs.Tapes.{pack}
-use Rattle.disk_records.proofs.Growing.{alone_twice}
 use Rattle.disk_records.proofs.Looking.{looks_pack}
 use Rattle.pack_model.specs.sessions.Descriptor.{data_pages}
 use Rattle.disk_records.specs.Packs.{Pack}
+use Rattle.disk_records.specs.Causes.{IsCause}
+use Rattle.disk_records.proofs.Growing.{alone_here, alone_twice}
 use Rattle.scav_pages.specs.declared.errors.Stop.TheVariants.{Astray}
+use Rattle.scav_pages.specs.Stops.{cause_of_stop}
+use Rattle.scav_pages.proofs.Causing.{cause_of_part, cause_sooner}
 use Rattle.scavenger.specs.Answers.{stop_of_write}
 use Rattle.scavenger.specs.Describing.{IsDescriptorIn}
 use Rattle.scavenger.proofs.OwnPages.{all_sectors, closes_so, known_sectors, mine, mine_is, never_held}
+use Rattle.scavenger.proofs.Causing.{cause_of_write}
 use Rattle.scavenger.proofs.describing.describe.Goals as goal
 
 pub write_pages-requires-clause-sectors : goal.write_pages-requires-clause-sectors
@@ -71,3 +75,13 @@ returns-clause-found g c = λ told pages in_it astray.
     let stop : c.stop_of_write.result ≡ Astray = cc in
     let is : stop_of_write c.in-Err.error ≡ Astray = sym c.stop_of_write.ensures ∙ stop in
     never_held (g.D.Tape.tape c.map_sectors.new.disk) (g.D.Tape.tape c.write_pages.new.disk) (pack (g.D.Tape.tape c.map_sectors.new.disk)) (mine (c.from-end.result + 1 - 1) c.in_ok-map.map.places) _ c.in-Err.error here c.in-Err.ensures.cause (c.in-Err.ensures.guarded told).held is
+
+pub returns-in_err-map-clause-cause : goal.returns-in_err-map-clause-cause
+returns-in_err-map-clause-cause g c = cause_of_part c.in_err-map.field-0.0 c.from_residual.result (alone_here _) c.in_err-map.ensures.looks.alone c.in_err-map.ensures.cause c.from_residual.ensures.1
+
+pub returns-clause-cause : goal.returns-clause-cause
+returns-clause-cause g c =
+    let here = g.D.Tape.tape c.map_sectors.new.disk in
+    let now = g.D.Tape.tape c.write_pages.new.disk in
+    cause_sooner {T = Unit {0}} (g.D.Tape.tape c.args.disk.now) here now (Err c.stop_of_write.result) c.in_ok-map.ensures.looks.alone.grown
+    (subst (λ s. IsCause here now (cause_of_stop s)) (sym c.stop_of_write.ensures) (cause_of_write here now c.in-Err.error c.in-Err.ensures.cause))

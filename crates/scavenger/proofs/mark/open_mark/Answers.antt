@@ -1,8 +1,9 @@
 use Rattle.std.proofs.Common.{◌≡◌, ◌≢◌, Err, Ok, sym, subst, ◌∙◌, rules}
 use Rattle.disk_records.specs.Tapes.{pack}
-use Rattle.disk_records.proofs.Growing.{alone_twice}
-use Rattle.scavenger.specs.Runs.{Opens}
+use Rattle.disk_records.proofs.Growing.{alone_here, alone_twice}
 use Rattle.scav_pages.specs.Stops.{stop_of_guard}
+use Rattle.scav_pages.proofs.Causing.{cause_of_guarded}
+use Rattle.scavenger.specs.Runs.{Opens}
 use Rattle.scavenger.proofs.MarkPlaces.{mark_carried, mark_place}
 use Rattle.scavenger.proofs.Opening.{opened_mark, opens_none, opens_wrote}
 use Rattle.scavenger.proofs.mark.open_mark.Goals as goal
@@ -31,3 +32,9 @@ returns-clause-opens g c = λ told is.
     let guarded = c.in_ok-write_value.ensures.guarded told in
     opens_wrote (Ok tt) c.args.at _ c.in_ok-read_page.ensures.looks.alone.grown c.in_ok-write_value.ensures.alone.grown (c.in_ok-read_page.ensures.looks.silent told)
     (mark_carried (pack (g.D.Tape.tape c.args.disk.now)) c.args.at is some) (mark_place (pack (g.D.Tape.tape c.args.disk.now)) c.args.at is some) (opened_mark _ c.in_ok-read_page.ensures.whole) guarded.some guarded.ok.wrote
+
+pub returns-in_err-read_page-clause-cause : goal.returns-in_err-read_page-clause-cause
+returns-in_err-read_page-clause-cause g c = cause_of_guarded c.in_err-read_page.field-0.0 c.from_residual.result (alone_here _) c.in_err-read_page.ensures.looks.alone c.in_err-read_page.ensures.cause c.from_residual.ensures.1
+
+pub returns-in_err-write_value-clause-cause : goal.returns-in_err-write_value-clause-cause
+returns-in_err-write_value-clause-cause g c = cause_of_guarded c.in_err-write_value.field-0.0 c.from_residual-in_err-write_value.result c.in_ok-read_page.ensures.looks.alone c.in_err-write_value.ensures.alone c.in_err-write_value.ensures.cause c.from_residual-in_err-write_value.ensures.1

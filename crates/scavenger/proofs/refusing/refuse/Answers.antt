@@ -3,7 +3,6 @@ use Rattle.disk_records.specs.Addresses.{is_right_header, pages_of}
 use Rattle.disk_records.specs.declared.records.Sector.{Sector}
 use Rattle.disk_records.specs.Packs.{Pack}
 use Rattle.disk_records.specs.Tapes.{pack}
-use Rattle.disk_records.proofs.Growing.{alone_twice, length-pack}
 use Rattle.pack_model.specs.reading.Sights.{sights}
 use Rattle.pack_model.specs.reading.Sights.Sight.{hidden}
 use Rattle.pack_model.specs.scavenger.Scavenging.{root_stands}
@@ -11,6 +10,9 @@ use Rattle.pack_model.specs.scavenger.Scavenging.Refusal.{root_bad, root_taken}
 use Rattle.pack_model.specs.states.InUse.{available, is_good}
 use Rattle.pack_model.specs.scavenger.Needed.{needed, root_widens}
 use Rattle.disk_records.proofs.Looking.{looks_pack}
+use Rattle.disk_records.proofs.Growing.{alone_here, alone_twice, length-pack}
+use Rattle.scav_pages.specs.declared.errors.Stop.TheVariants.{Memory}
+use Rattle.scav_pages.proofs.Causing.{cause_of_looked, cause_of_part}
 use Rattle.scav_entries.specs.Catalogues.{HoldsNames}
 use Rattle.scavenger.proofs.Finishing.{few_needed}
 use Rattle.scavenger.proofs.Refusals.{available_is, first_bad, first_full, first_none, first_taken, good_header}
@@ -95,3 +97,12 @@ returns-clause-refuses g c = λ told counted bad.
     let e = c.saturating_sub-free.ensures in
     let free : c.saturating_sub-free.result ≡ available (g.D.Tape.tape c.args.disk.now).form (sights (pack (g.D.Tape.tape c.args.disk.now))) = omega (arith, frees, form, pages, a, b, d, e) in
     first_none (pack (g.D.Tape.tape c.args.disk.now)) good stands c.saturating_add-needed.result c.saturating_sub-free.result needs free c.if-needed-free.false
+
+pub returns-in_err-look-clause-cause : goal.returns-in_err-look-clause-cause
+returns-in_err-look-clause-cause g c = cause_of_looked c.in_err-look.field-0.0 c.from_residual.result (alone_here _) c.in_err-look.ensures.looks.alone c.in_err-look.ensures.cause c.from_residual.ensures.1
+
+pub returns-in_err-names-clause-cause : goal.returns-in_err-names-clause-cause
+returns-in_err-names-clause-cause g c = cause_of_part c.in_err-names.field-0.0 c.from_residual-in_err-names.result c.in_ok-look.ensures.looks.alone c.in_err-names.ensures.alone c.in_err-names.ensures.cause c.from_residual-in_err-names.ensures.1
+
+pub returns-in_err-more-clause-cause : goal.returns-in_err-more-clause-cause
+returns-in_err-more-clause-cause g c = cause_of_part Memory c.from_residual-in_err-more.result (alone_twice c.in_ok-look.ensures.looks.alone c.in_ok-names.ensures.alone) (alone_here _) tt c.from_residual-in_err-more.ensures.1

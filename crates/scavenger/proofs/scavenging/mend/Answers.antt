@@ -1,8 +1,9 @@
 use Rattle.std.proofs.Common.{◌∙◌, rules}
 use Rattle.disk_records.specs.Tapes.{pack}
-use Rattle.disk_records.proofs.Growing.{alone_twice}
+use Rattle.disk_records.proofs.Growing.{alone_here, alone_twice}
 use Rattle.scavenger.specs.Answers.{error_of_stop, error_of_sweep}
 use Rattle.scavenger.proofs.Ending.{ends_early, has_pages, its_pages, last_part, mid_on, mid_open, mid_stop, not_ended, of_stop, of_sweep}
+use Rattle.scavenger.proofs.Causing.{cause_of_stopped, cause_of_unswept}
 use Rattle.scavenger.proofs.scavenging.mend.Goals as goal
 
 pub returns-in_err-freed-clause-alone : goal.returns-in_err-freed-clause-alone
@@ -72,3 +73,16 @@ returns-in_err-open_mark-clause-mends g c = λ told may counted. ends_early c.ar
 -- no fault is told here
 pub returns-clause-cause : goal.returns-clause-cause
 returns-clause-cause g c = tt
+
+-- ---- an error that a part answered
+pub returns-in_err-open_mark-clause-cause : goal.returns-in_err-open_mark-clause-cause
+returns-in_err-open_mark-clause-cause g c = cause_of_stopped c.in_err-open_mark.field-0.0 c.from_residual.result (alone_here _) c.in_err-open_mark.ensures.alone c.in_err-open_mark.ensures.cause c.from_residual.ensures.1
+
+pub returns-in_err-freed-clause-cause : goal.returns-in_err-freed-clause-cause
+returns-in_err-freed-clause-cause g c = cause_of_stopped c.in_err-freed.field-0.0 c.from_residual-in_err-freed.result c.in_ok-open_mark.ensures.alone c.in_err-freed.ensures.alone c.in_err-freed.ensures.cause c.from_residual-in_err-freed.ensures.1
+
+pub returns-in_err-adopted-clause-cause : goal.returns-in_err-adopted-clause-cause
+returns-in_err-adopted-clause-cause g c = cause_of_unswept c.in_err-adopted.field-0.0 c.from_residual-in_err-adopted.result (alone_twice c.in_ok-open_mark.ensures.alone c.in_ok-freed.ensures.alone) c.in_err-adopted.ensures.alone c.in_err-adopted.ensures.cause c.from_residual-in_err-adopted.ensures.1
+
+pub returns-in_err-describe-clause-cause : goal.returns-in_err-describe-clause-cause
+returns-in_err-describe-clause-cause g c = cause_of_stopped c.in_err-describe.field-0.0 c.from_residual-in_err-describe.result (alone_twice (alone_twice c.in_ok-open_mark.ensures.alone c.in_ok-freed.ensures.alone) c.in_ok-adopted.ensures.alone) c.in_err-describe.ensures.alone c.in_err-describe.ensures.cause c.from_residual-in_err-describe.ensures.1

@@ -1,18 +1,16 @@
-use Rattle.std.proofs.Common.{◌≡◌, None, IfSome, Result, Ok, Err, ap, sym, subst, ◌∙◌, arith}
+use Rattle.std.proofs.Common.{◌≡◌, None, IfSome, ap, sym, subst, ◌∙◌}
 use Rattle.disk_records.specs.Packs.{Pack}
-use Rattle.disk_records.specs.Causes.{HasCause}
-use Rattle.disk_records.specs.Tapes.{Grown, Taped, pack}
-use Rattle.disk_records.proofs.Growing.{alone_twice, pack-silent, silent_twice}
+use Rattle.disk_records.specs.Tapes.{pack}
 use Rattle.disk_records.proofs.Looking.{looks_pack}
+use Rattle.disk_records.proofs.Growing.{alone_here, alone_twice, pack-silent, silent_twice}
 use Rattle.pack_model.specs.reading.Sights.{sights}
 use Rattle.pack_model.specs.scavenger.Scavenging.{first_refusal}
 use Rattle.pack_model.specs.states.InUse.{bad_sectors}
-use Rattle.scavenger.specs.declared.errors.Report.{Report}
-use Rattle.scavenger.specs.declared.errors.ScavError.{ScavError}
-use Rattle.scavenger.specs.declared.errors.ScavError.TheVariants.{RootBad, RootTaken, PackFull, DiskFault, Memory}
-use Rattle.scavenger.specs.Answers.{IsRefusal, cause_of_scav, refused}
+use Rattle.scavenger.specs.Answers.{IsRefusal, error_of_stop, error_of_sweep, refused}
 use Rattle.scavenger.specs.Counting.{Counted}
-use Rattle.scavenger.proofs.Safety.{refusal_cause, refused_answers, scavenges_after, scavenges_none}
+use Rattle.scavenger.proofs.Ending.{of_stop, of_sweep}
+use Rattle.scavenger.proofs.Safety.{refusal_cause, refused_answers, scavenges_after, scavenges_none, stops_none}
+use Rattle.scavenger.proofs.Causing.{cause_of_stopped, cause_of_unswept, cause_sooner}
 use Rattle.scavenger.proofs.scavenging.scavenge.Goals as goal
 
 pub returns-in_err-counts-clause-alone : goal.returns-in_err-counts-clause-alone
@@ -23,15 +21,6 @@ returns-in_err-refusal-clause-alone g c = alone_twice (alone_twice c.in_ok-table
 
 pub returns-in-Some-clause-alone : goal.returns-in-Some-clause-alone
 returns-in-Some-clause-alone g c = alone_twice (alone_twice c.in_ok-table.ensures.looks.alone c.in_ok-counts.ensures.alone) c.in_ok-refusal.ensures.alone
-
--- a fault while the pack is mended comes in the call
-cause_sooner : (first a b : Taped) (r : Result Report ScavError) → Grown first a → HasCause cause_of_scav a b r → HasCause cause_of_scav first b r
-cause_sooner first a b (Ok report) grown h = tt
-cause_sooner first a b (Err (RootBad header)) grown h = tt
-cause_sooner first a b (Err (RootTaken found)) grown h = tt
-cause_sooner first a b (Err (PackFull needed free)) grown h = tt
-cause_sooner first a b (Err DiskFault) grown h = let less = grown.disk_faults in omega (arith, less, h)
-cause_sooner first a b (Err Memory) grown h = tt
 
 pub returns-clause-cause : goal.returns-clause-cause
 returns-clause-cause g c =
@@ -69,3 +58,28 @@ returns-clause-scavenges g c = λ told.
     let refuses = c.in_ok-refusal.ensures.refuses told counted bad in
     let none : first_refusal (pack (g.D.Tape.tape c.args.disk.now)) ≡ None = sym (sym (ap refused c.in_default.is) ∙ refuses ∙ ap first_refusal here) in
     scavenges_after c.in_ok-counts.counts c.bad-bad.result c.mend.result both.grown c.mend.ensures.alone.grown all none first at_first (λ may now. c.mend.ensures.mends told may now)
+
+-- ---- it ends before its first record write
+pub returns-in_err-table-clause-cause : goal.returns-in_err-table-clause-cause
+returns-in_err-table-clause-cause g c = cause_of_unswept c.in_err-table.field-0.0 c.from_residual.result (alone_here _) c.in_err-table.ensures.looks.alone c.in_err-table.ensures.cause c.from_residual.ensures.1
+
+pub returns-in_err-table-clause-scavenges : goal.returns-in_err-table-clause-scavenges
+returns-in_err-table-clause-scavenges g c = λ told. stops_none (error_of_sweep c.in_err-table.field-0.0) c.from_residual.result c.from_residual.ensures.1 (c.in_err-table.ensures.looks.silent told) (of_sweep c.in_err-table.field-0.0)
+
+pub returns-in_err-counts-clause-cause : goal.returns-in_err-counts-clause-cause
+returns-in_err-counts-clause-cause g c = cause_of_stopped c.in_err-counts.field-0.0 c.from_residual-in_err-counts.result c.in_ok-table.ensures.looks.alone c.in_err-counts.ensures.alone c.in_err-counts.ensures.cause c.from_residual-in_err-counts.ensures.1
+
+pub returns-in_err-counts-clause-scavenges : goal.returns-in_err-counts-clause-scavenges
+returns-in_err-counts-clause-scavenges g c = λ told.
+    let quiet = silent_twice c.in_ok-table.ensures.looks.alone.grown c.in_err-counts.ensures.alone.grown (c.in_ok-table.ensures.looks.silent told) (c.in_err-counts.ensures.silent told) in
+    stops_none (error_of_stop c.in_err-counts.field-0.0) c.from_residual-in_err-counts.result c.from_residual-in_err-counts.ensures.1 quiet (of_stop c.in_err-counts.field-0.0)
+
+pub returns-in_err-refusal-clause-cause : goal.returns-in_err-refusal-clause-cause
+returns-in_err-refusal-clause-cause g c = cause_of_stopped c.in_err-refusal.field-0.0 c.from_residual-in_err-refusal.result (alone_twice c.in_ok-table.ensures.looks.alone c.in_ok-counts.ensures.alone) c.in_err-refusal.ensures.alone c.in_err-refusal.ensures.cause c.from_residual-in_err-refusal.ensures.1
+
+pub returns-in_err-refusal-clause-scavenges : goal.returns-in_err-refusal-clause-scavenges
+returns-in_err-refusal-clause-scavenges g c = λ told.
+    let before = alone_twice c.in_ok-table.ensures.looks.alone c.in_ok-counts.ensures.alone in
+    let quiet = silent_twice c.in_ok-table.ensures.looks.alone.grown c.in_ok-counts.ensures.alone.grown (c.in_ok-table.ensures.looks.silent told) (c.in_ok-counts.ensures.silent told) in
+    let all = silent_twice before.grown c.in_err-refusal.ensures.alone.grown quiet (c.in_err-refusal.ensures.silent told) in
+    stops_none (error_of_stop c.in_err-refusal.field-0.0) c.from_residual-in_err-refusal.result c.from_residual-in_err-refusal.ensures.1 all (of_stop c.in_err-refusal.field-0.0)
