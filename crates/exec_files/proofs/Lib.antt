@@ -1,5 +1,6 @@
 mod Appended
 mod Appending
+mod Causing
 mod Cutting
 mod DropAnswers
 mod DropFinding

@@ -21,7 +21,7 @@ use exec_session::{FileRef, Session, Stop, find_ordinary, length_of};
 use exec_words::Target;
 
 /// A file that was found, and its length.
-#[derive(Clone, Copy, Debug, PartialEq, Eq)]
+#[derive(Clone, Copy)]
 pub(crate) struct Measured {
     /// The file.
     pub file: FileRef,

@@ -8,6 +8,7 @@ use Rattle.alto_words.specs.Fid.{sys_dir}
 use Rattle.directory.specs.Errors.{IfListMisled, cause_of_list}
 use Rattle.directory.specs.declared.errors.ListError.{ListError}
 use Rattle.directory.specs.declared.errors.ListError.TheVariants as listing
+use Rattle.disk_records.proofs.Looking.{looks_within}
 use Rattle.disk_records.specs.Causes.{IsCause}
 use Rattle.disk_records.specs.Packs.{Pack}
 use Rattle.disk_records.specs.Tapes.{Looks, Taped, pack}
@@ -49,6 +50,10 @@ use Rattle.exec_reading.proofs.Answering.{passes_stop}
 -- ---- the frame of a call that is lent the disk alone
 pub looks_alone : {told : Bool} {most : ℕ} {x y : Taped} (s : Session) → Looks told most x y → LooksAbout told most x y s s
 looks_alone s looks = record { looks = looks; looked = record { same = refl; refused = omega arith }; handy = λ told whole links f handy. handy }
+
+-- in fewer sector commands than it may
+pub looks_most : {told : Bool} {few : ℕ} {x y : Taped} {a b : Session} (most : ℕ) → few ≤ most → LooksAbout told few x y a b → LooksAbout told most x y a b
+looks_most most within about = record { looks = looks_within most about.looks within; looked = about.looked; handy = about.handy }
 
 -- ---- the files that a line touches
 -- a hint that failed of some of these files

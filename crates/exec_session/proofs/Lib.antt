@@ -1,3 +1,4 @@
+pub mod Causing
 mod Ending
 pub mod Finding
 mod FreshMemory
@@ -5,7 +6,7 @@ pub mod Looking
 mod NewNaming
 pub mod OrdinaryFiles
 mod PackOpening
-mod Parts
+pub mod Parts
 mod RoomPlanning
 mod RootFinding
 pub mod SectorTaking

@@ -5,7 +5,7 @@ use Rattle.alto_words.specs.declared.fid.Fid.{Fid}
 use Rattle.alto_words.specs.Fid.{is_directory}
 use Rattle.disk_records.specs.Packs.{Pack}
 use Rattle.disk_records.specs.Tapes.{Taped, Looks, pack}
-use Rattle.disk_records.proofs.Looking.{looks_pack, looks_twice}
+use Rattle.disk_records.proofs.Looking.{looks_pack, looks_twice, looks_within}
 use Rattle.hint_cache.specs.Caches.{Cached}
 use Rattle.hint_cache.specs.declared.hints.Hints.{Hints}
 use Rattle.pack_model.specs.hints.Handy.{Handy}
@@ -58,6 +58,9 @@ looks_about_twice {x = x} {y = y} {a = a} {b = b} {c = c} most within one two = 
   looked = looked_twice one.looked two.looked;
   handy = λ told. handy_twice (pack x) (pack y) a.hints.cache b.hints.cache c.hints.cache (looks_pack one.looks told) (one.handy told) (two.handy told);
 }
+
+pub looks_about_within : {told : Bool} {few : ℕ} {x y : Taped} {a b : Session} (most : ℕ) → few ≤ most → LooksAbout told few x y a b → LooksAbout told most x y a b
+looks_about_within most within about = record { looks = looks_within most about.looks within; looked = about.looked; handy = about.handy }
 
 -- what is kept after a call that looked
 pub same_but_looked : (old new : Taped) {one two : Session} → Looked one two → pack new ≡ pack old → SameBut old new (kept one) (kept two)

@@ -1,12 +1,16 @@
 -- The names that new entries get, by the slots of a directory.
-use Rattle.std.proofs.Common.{◌≡◌, ◌+◌, ◌||◌, ℕ, Bool, true, false, cond, nat_lt, List, Option, Some, None, Result, Ok, Err, IfOk, refl, sym, ap, subst, ◌∙◌}
+use Rattle.std.proofs.Common.{◌≡◌, ◌+◌, ◌||◌, ℕ, Bool, true, false, cond, nat_lt, List, Option, Some, None, Result, Ok, Err, IfOk, IsErrOf, refl, sym, ap, subst, ◌∙◌}
 use Rattle.std.specs.Option.{is_none, option_map}
 use Rattle.alto_words.specs.declared.fid.Fid.{Fid}
 use Rattle.alto_words.specs.declared.wanted.Wanted.{Wanted}
 use Rattle.alto_words.specs.declared.wanted.Wanted.TheVariants.{Exact, Newest}
 use Rattle.alto_words.specs.Names.{most_version, with_version}
 use Rattle.alto_words.specs.Wanted.{base_wanted}
+use Rattle.disk_records.specs.Causes.{HasCause}
 use Rattle.disk_records.specs.Packs.{Pack}
+use Rattle.disk_records.specs.Tapes.{Taped}
+use Rattle.disk_records.specs.declared.records.Page.{Page}
+use Rattle.disk_records.specs.declared.records.Place.{Place}
 use Rattle.pack_model.specs.hints.Links.{dir_slots}
 use Rattle.pack_model.specs.reading.Lookup.{EntryAt, entered, entry_at}
 use Rattle.pack_model.specs.reading.Model.{dir_items, read_as}
@@ -23,7 +27,8 @@ use Rattle.exec_words.specs.declared.reply.Refusal.TheVariants as refusal
 use Rattle.exec_session.specs.declared.stop.Stop.{Stop}
 use Rattle.exec_session.specs.declared.stop.Stop.TheVariants as stop
 use Rattle.exec_session.specs.declared.stop.Stop.TheVariants.{Refused}
-use Rattle.exec_session.specs.Meant.{IfRefused}
+use Rattle.exec_session.specs.Meant.{IfHint, IfRefused}
+use Rattle.exec_session.specs.Stops.{cause_of_stop}
 use Rattle.exec_session.specs.NewNames.{IsGiven, IsTaken, named_or_taken, version_after}
 
 -- ---- a directory that stands is one that was found
@@ -84,6 +89,32 @@ after_taken : (t : Bool) (v : Option (List ℕ)) → IfRefused (cond t (named_or
 after_taken true None = (refl, refl)
 after_taken true (Some name) = tt
 after_taken false v = (refl, refl)
+
+-- whatever it is, it is no hint, no fault and not out of memory
+module _ (base : List ℕ) (n : ℕ) where
+  pub after_hint : (P : Place → ℕ → Page → Option (List ℕ) → Type 0) → IfHint (version_after base n) P
+  after_hint P = by (nat_lt n most_version) (with_version base (n + 1))
+    where
+      by : (t : Bool) (v : Option (List ℕ)) → IfHint (cond t (named_or_taken v) (Err (Refused refusal.NameTaken))) P
+      by true None = tt
+      by true (Some name) = tt
+      by false v = tt
+
+  pub after_cause : (a b : Taped) → HasCause cause_of_stop a b (version_after base n)
+  after_cause a b = by (nat_lt n most_version) (with_version base (n + 1))
+    where
+      by : (t : Bool) (v : Option (List ℕ)) → HasCause cause_of_stop a b (cond t (named_or_taken v) (Err (Refused refusal.NameTaken)))
+      by true None = tt
+      by true (Some name) = tt
+      by false v = tt
+
+  pub after_unwanted : IsErrOf (version_after base n) stop.Memory → ⊥
+  after_unwanted = by (nat_lt n most_version) (with_version base (n + 1))
+    where
+      by : (t : Bool) (v : Option (List ℕ)) → IsErrOf (cond t (named_or_taken v) (Err (Refused refusal.NameTaken))) stop.Memory → ⊥
+      by true None is = cc
+      by true (Some name) is = cc
+      by false v is = cc
 
 if_ok_then : {A : Type 0} {P Q : A → Type 0} (r : Result A Stop) → IfOk r P → ((x : A) → P x → Q x) → IfOk r Q
 if_ok_then (Ok x) h f = f x h

@@ -29,6 +29,14 @@ error_is (Err x) is = ap Err is
 pub refused_as : {U : Type 0} (P : Refusal → Type 0) (r : Result U Stop) (x : Refusal) → r ≡ Err (stop.Refused x) → P x → IfRefused r P
 refused_as P r x is h = subst (λ y. IfRefused y P) (sym is) h
 
+-- what is so whatever is refused
+pub if_refused : {U : Type 0} (P : Type 0) (r : Result U Stop) → P → IfRefused r (λ x. P)
+if_refused P (Ok x) h = tt
+if_refused P (Err (stop.Refused x)) h = h
+if_refused P (Err (stop.Misled place at wanted found)) h = tt
+if_refused P (Err stop.DiskFault) h = tt
+if_refused P (Err stop.Memory) h = tt
+
 -- no scavenge is asked for
 pub stopped_unscavenged : (x : Stop) → stopped x ≢ reply.Scavenge
 stopped_unscavenged (stop.Refused r) is = cc
@@ -55,6 +63,16 @@ unrefused_file U P a b fault.Memory h = tt
 
 pub unrefused_by_file : {U : Type 0} (P : Refusal → Type 0) (a b : Taped) (e : FileError) (r : Result U Stop) → IsErrAnd r (λ s. s ≡ stop_of_file e) → IsCause a b (cause_of_length e) → IfRefused r P
 unrefused_by_file {U} P a b e r is h = subst (λ x. IfRefused x P) (sym (error_is r is)) (unrefused_file U P a b e h)
+
+-- one that answers Beyond only under a condition that never holds
+unrefused_past : (T U : Type 0) (Q : ℕ → Type 0) (e : FileError) → ((n : ℕ) → Q n → ⊥) → refs.IfBeyond {T = T} (Err e) Q → IfRefused {T = U} (Err (stop_of_file e)) (λ r. ⊥)
+unrefused_past T U Q (fault.Misled place at wanted found) f h = tt
+unrefused_past T U Q (fault.Beyond length) f h = f length h
+unrefused_past T U Q fault.DiskFault f h = tt
+unrefused_past T U Q fault.Memory f h = tt
+
+pub unrefused_within : (T : Type 0) {U : Type 0} (Q : ℕ → Type 0) (e : FileError) (r : Result U Stop) → IsErrAnd r (λ s. s ≡ stop_of_file e) → ((n : ℕ) → Q n → ⊥) → refs.IfBeyond {T = T} (Err e) Q → IfRefused r (λ r. ⊥)
+unrefused_within T {U} Q e r is f h = subst (λ x. IfRefused x (λ r. ⊥)) (sym (error_is r is)) (unrefused_past T U Q e f h)
 
 -- ---- of a call that looks a name up
 hint_by_dir : (T U : Type 0) (P Q : Place → ℕ → Page → Option (List ℕ) → Type 0) (e : DirError) → ((place : Place) (at : ℕ) (wanted : Page) (found : Option (List ℕ)) → P place at wanted found → Q place at wanted found) → IfMisled {T = T} (Err e) P → IfHint {T = U} (Err (stop_of_dir e)) Q

@@ -28,7 +28,7 @@ pub const ROOT: FileRef = FileRef {
 };
 
 /// A file that was found by its name.
-#[derive(Clone, Copy, Debug, PartialEq, Eq)]
+#[derive(Clone, Copy)]
 pub struct Found {
     /// The file.
     pub file: FileRef,

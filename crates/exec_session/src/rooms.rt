@@ -27,7 +27,7 @@ use page_seeking::FileRef;
 const LONGEST_ENTRY: u32 = 26;
 
 /// An entry that is to come: its directory and its name, and what comes before it.
-#[derive(Clone, Copy, Debug, PartialEq, Eq)]
+#[derive(Clone, Copy)]
 pub struct NewEntry {
     /// The directory.
     pub dir: FileRef,

@@ -19,7 +19,7 @@ use label_sweep::{Sight, Visit, sweep};
 use page_seeking::FileRef;
 
 /// A leader page that was met, and the virtual address of its sector.
-#[derive(Clone, Copy, Debug, PartialEq, Eq)]
+#[derive(Clone, Copy)]
 pub(crate) struct LeaderAt {
     pub fid: Fid,
     pub at: u16,

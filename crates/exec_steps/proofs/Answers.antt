@@ -26,7 +26,7 @@ use Rattle.pack_model.specs.hints.Misled.{AnswersMisled}
 use Rattle.pack_model.specs.operations.Step.{Operation}
 use Rattle.session_model.specs.Refusals.{most_serials}
 use Rattle.exec_session.specs.Meant.{IfHint, IfRefused}
-use Rattle.exec_session.specs.Stops.{stop_entered, stop_of_desc, stop_writing, stop_written}
+use Rattle.exec_session.specs.Stops.{cause_of_stop, stop_entered, stop_of_desc, stop_writing, stop_written}
 use Rattle.exec_session.specs.declared.stop.Stop.{Stop}
 use Rattle.exec_session.specs.declared.stop.Stop.TheVariants as stop
 
@@ -115,6 +115,35 @@ module _ (p : Pack) (events : List Event) (f : Fid) (files : List Fid) (there : 
   entered_hints dir taken full (Err NameTaken) cause untaken roomy h silent = absurd (untaken refl)
   entered_hints dir taken full (Err (NoSlot largest)) cause untaken roomy h silent = absurd roomy
   entered_hints dir taken full (Err (File e)) cause untaken roomy h silent = entered_hint dir e cause h silent
+
+-- ---- of every answer of a call that wrote: it isn't refused, and has its cause
+pub written_unrefused : (file : FileRef) (result : Result (Unit {0}) FileError) → IfRefused (stop_written file result) (λ r. ⊥)
+written_unrefused file (Ok x) = tt
+written_unrefused file (Err (fault.Misled place at wanted found)) = tt
+written_unrefused file (Err (fault.Beyond length)) = tt
+written_unrefused file (Err fault.DiskFault) = tt
+written_unrefused file (Err fault.Memory) = tt
+
+pub written_cause : (a b : Taped) (file : FileRef) (result : Result (Unit {0}) FileError) → HasCause cause_of_length a b result → HasCause cause_of_stop a b (stop_written file result)
+written_cause a b file (Ok x) h = tt
+written_cause a b file (Err (fault.Misled place at wanted found)) h = tt
+written_cause a b file (Err (fault.Beyond length)) h = tt
+written_cause a b file (Err fault.DiskFault) h = h
+written_cause a b file (Err fault.Memory) h = tt
+
+pub entered_unrefused : (dir : FileRef) (result : Result (Unit {0}) DirError) → IfRefused (stop_entered dir result) (λ r. ⊥)
+entered_unrefused dir (Ok x) = tt
+entered_unrefused dir (Err NoSuchName) = tt
+entered_unrefused dir (Err NameTaken) = tt
+entered_unrefused dir (Err (NoSlot largest)) = tt
+entered_unrefused dir (Err (File e)) = written_unrefused dir (Err e)
+
+pub entered_cause : (absent taken full : Cause) (a b : Taped) (dir : FileRef) (result : Result (Unit {0}) DirError) → HasCause (cause_of absent taken full) a b result → HasCause cause_of_stop a b (stop_entered dir result)
+entered_cause absent taken full a b dir (Ok x) h = tt
+entered_cause absent taken full a b dir (Err NoSuchName) h = tt
+entered_cause absent taken full a b dir (Err NameTaken) h = tt
+entered_cause absent taken full a b dir (Err (NoSlot largest)) h = tt
+entered_cause absent taken full a b dir (Err (File e)) h = written_cause a b dir (Err e) h
 
 -- ---- what is said of other answers
 pub misled_silent : (X : Type 0) (result : Result (Unit {0}) FileError) → ((IsErrOf result fault.DiskFault → ⊥) → OnErr result X) → refs.IfMisled result (λ place at wanted found. X)

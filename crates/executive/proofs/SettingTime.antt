@@ -2,6 +2,7 @@
 use Rattle.std.proofs.Common.{◌≡◌, ℕ, Bool, true, false, cond, nat_lt, List, [], ◌∷◌, None, Vec, Result, Ok, Err, IfOk, IfErr, OnOk, OnErr, refl, sym, subst, ap, ◌∙◌, arith}
 use Rattle.std.proofs.lemmas.Bool.{le-ltb}
 use Rattle.disk_records.proofs.Growing.{alone_here, nothing_added}
+use Rattle.disk_records.specs.Causes.{HasCause}
 use Rattle.disk_records.specs.Packs.{Pack}
 use Rattle.disk_records.specs.Tapes.{Taped, added, pack}
 use Rattle.disk_records.specs.declared.records.Event.{Event}
@@ -14,6 +15,7 @@ use Rattle.exec_session.specs.declared.session.Session.{Session}
 use Rattle.exec_session.specs.declared.stop.Stop.{Stop}
 use Rattle.exec_session.specs.declared.stop.Stop.TheVariants as stop
 use Rattle.exec_session.specs.Meant.{IsTakenUpBy, MayObey, TakesLine, kept}
+use Rattle.exec_session.specs.Stops.{cause_of_stop}
 use Rattle.exec_session.proofs.Turning.{line_stops_unwritten, turned_is_a_turn}
 use Rattle.exec_names.specs.laws_session.proofs.lines.Laws.{silent_lines_answer}
 use Rattle.exec_names.specs.laws_session.specs.LineAnswers.{GoesOnWith, plain_state}
@@ -131,3 +133,7 @@ time_turns {Z} t one two moment (Err e) may done memory set left =
 pub time_formed : {Z : Type 0} (form : Shape) (one two : Session) (moment : ℕ) (result : Result (Vec ℕ Z) Stop) → Formed form (kept one) → OnOk result (two ≡ record one { moment = moment }) → OnErr result (two ≡ one) → Formed form (kept two)
 time_formed form one two moment (Ok text) formed set left = subst (λ x. Formed form (kept x)) (sym set) (record { shape = formed.shape; bits = formed.bits; memory = formed.memory; streams = formed.streams; apart = formed.apart })
 time_formed form one two moment (Err e) formed set left = subst (λ x. Formed form (kept x)) (sym left) formed
+
+pub time_cause : {Z : Type 0} (t : Taped) (result : Result (Vec ℕ Z) Stop) → IfErr result (λ e. e ≡ stop.Memory) → HasCause cause_of_stop t t result
+time_cause t (Ok text) memory = tt
+time_cause {Z} t (Err e) memory = subst (λ x. HasCause {T = Vec ℕ Z} cause_of_stop t t (Err x)) (sym memory) tt

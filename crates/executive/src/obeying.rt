@@ -16,7 +16,7 @@ use disk_records::Disk;
 use exec_files::{append_bytes, cut_file, delete_file, patch_bytes, remove_dir};
 use exec_names::{copy_file, make_dir, make_file, rename_file};
 use exec_reading::{free_pages, list_names, stat_file, type_file};
-use exec_session::{Session, Stop, answer, limit_of, quit, refused, stopped};
+use exec_session::{Session, Stop, answer, limit_of, quit, stopped};
 use exec_words::{Line, Refusal, Reply};
 use std::alloc::Global;
 
@@ -72,7 +72,9 @@ fn obey_line<D: Disk>(
         | Line::InLoad { .. }
         | Line::Scavenge
         | Line::Quit
-        | Line::Bad => refused(Refusal::BadLine),
+        | Line::Bad => Err(Stop::Refused {
+            refusal: Refusal::BadLine,
+        }),
     }
 }
 

@@ -4,6 +4,8 @@ use Rattle.exec_session.specs.Meant.{kept}
 use Rattle.exec_files.proofs.Appending.{appends_stay}
 use Rattle.exec_files.proofs.Quickly.{grown_quickly}
 use Rattle.exec_files.proofs.Stamping.{stamped_after, unstamped}
+use Rattle.exec_session.proofs.Causing.{cause_sooner}
+use Rattle.exec_steps.proofs.Frames.{cause_passed, never_refused, works_twice}
 use Rattle.exec_files.proofs.append.grow_and_stamp.Goals as goal
 
 pub returns-in_err-grow_file-clause-steps : goal.returns-in_err-grow_file-clause-steps
@@ -40,3 +42,24 @@ returns-clause-quick g c = λ old one at done all rest told may midway links qui
 
 pub returns-clause-alone : goal.returns-clause-alone
 returns-clause-alone g c = alone_twice c.grow_file.ensures.alone c.stamp_file.ensures.alone
+
+pub returns-in_err-grow_file-clause-unrefused : goal.returns-in_err-grow_file-clause-unrefused
+returns-in_err-grow_file-clause-unrefused g c = never_refused (Unit {0}) (λ r. ⊥) c.in_err-grow_file.field-0.0 c.from_residual.result c.from_residual.ensures.1 c.in_err-grow_file.ensures.unrefused
+
+pub returns-in_err-grow_file-clause-cause : goal.returns-in_err-grow_file-clause-cause
+returns-in_err-grow_file-clause-cause g c = cause_passed (g.D.Tape.tape c.args.disk.now) (g.D.Tape.tape c.grow_file.new.disk) c.in_err-grow_file.field-0.0 c.from_residual.result c.from_residual.ensures.1 c.in_err-grow_file.ensures.cause
+
+pub returns-in_err-grow_file-clause-works : goal.returns-in_err-grow_file-clause-works
+returns-in_err-grow_file-clause-works g c = c.in_err-grow_file.ensures.works
+
+pub returns-in_err-grow_file-clause-alone : goal.returns-in_err-grow_file-clause-alone
+returns-in_err-grow_file-clause-alone g c = c.in_err-grow_file.ensures.alone
+
+pub returns-clause-unrefused : goal.returns-clause-unrefused
+returns-clause-unrefused g c = c.stamp_file.ensures.unrefused
+
+pub returns-clause-cause : goal.returns-clause-cause
+returns-clause-cause g c = cause_sooner (g.D.Tape.tape c.args.disk.now) (g.D.Tape.tape c.grow_file.new.disk) (g.D.Tape.tape c.stamp_file.new.disk) c.stamp_file.result c.in_ok-grow_file.ensures.alone.grown c.stamp_file.ensures.cause
+
+pub returns-clause-works : goal.returns-clause-works
+returns-clause-works g c = works_twice c.in_ok-grow_file.ensures.works c.stamp_file.ensures.works

@@ -1,7 +1,7 @@
-use Rattle.std.proofs.Common.{◌∙◌, Ok, Err, [], ◌∷◌, refl, subst}
+use Rattle.std.proofs.Common.{◌∙◌, Ok, Err, [], ◌∷◌, refl, subst, ◌≡◌, sym}
 use Rattle.disk_records.proofs.Looking.{looks_pack}
 use Rattle.disk_records.proofs.Growing.{alone_twice}
-use Rattle.disk_records.specs.Tapes.{pack}
+use Rattle.disk_records.specs.Tapes.{pack, added}
 use Rattle.exec_words.specs.Texts.{length_text}
 use Rattle.exec_words.specs.declared.line.Line.TheVariants as line
 use Rattle.exec_words.specs.declared.reply.Refusal.TheVariants as refusal
@@ -11,9 +11,12 @@ use Rattle.exec_files.specs.Cutting.{cuts_and_stamps}
 use Rattle.exec_files.specs.Writing.{WritesAll}
 use Rattle.exec_files.specs.declared.measuring.Measured.{Measured}
 use Rattle.exec_files.proofs.Cutting.{cut_beyond, cut_plans, cut_unfound, cut_writes, may_cut}
-use Rattle.exec_steps.proofs.Frames.{stays_worked, works_looked, works_twice}
+use Rattle.exec_steps.proofs.Frames.{stays_worked, works_looked, works_twice, cause_after, cause_passed, if_refused, never_refused}
 use Rattle.exec_files.proofs.Looked.{ready_looked, refused_turns, unfound_turns}
 use Rattle.exec_files.proofs.Turns.{broke_turns, done_turns, late_turns}
+use Rattle.exec_session.specs.declared.stop.Stop.TheVariants as stop
+use Rattle.disk_records.specs.Causes.{HasCause}
+use Rattle.exec_session.specs.Stops.{cause_of_stop}
 use Rattle.exec_files.proofs.cut.cut_file.Goals as goal
 
 pub returns-in_err-found-clause-turns : goal.returns-in_err-found-clause-turns
@@ -139,3 +142,39 @@ returns-clause-alone g c = alone_twice c.find_measured.ensures.looks.looks.alone
 -- no fault is told here
 pub returns-clause-cause : goal.returns-clause-cause
 returns-clause-cause g c = tt
+
+pub returns-in_err-found-clause-unwritten : goal.returns-in_err-found-clause-unwritten
+returns-in_err-found-clause-unwritten g c = λ told. if_refused (added (g.D.Tape.tape c.args.disk.now) (g.D.Tape.tape c.find_measured.new.disk) ≡ []) c.from_residual.result (c.in_err-found.ensures.looks.looks.silent told)
+
+pub returns-in_err-found-clause-cause : goal.returns-in_err-found-clause-cause
+returns-in_err-found-clause-cause g c = cause_passed (g.D.Tape.tape c.args.disk.now) (g.D.Tape.tape c.find_measured.new.disk) c.in_err-found.field-0.0 c.from_residual.result c.from_residual.ensures.1 c.in_err-found.ensures.cause
+
+pub returns-in_err-found-clause-alone : goal.returns-in_err-found-clause-alone
+returns-in_err-found-clause-alone g c = c.in_err-found.ensures.looks.looks.alone
+
+pub returns-in_err-write_cut-clause-unwritten : goal.returns-in_err-write_cut-clause-unwritten
+returns-in_err-write_cut-clause-unwritten g c =
+    λ told. never_refused (Unit {0}) (λ x. added (g.D.Tape.tape c.args.disk.now) (g.D.Tape.tape c.write_cut.new.disk) ≡ []) c.in_err-write_cut.field-0.0 c.from_residual-in_err-write_cut.result c.from_residual-in_err-write_cut.ensures.1 c.in_err-write_cut.ensures.unrefused
+
+pub returns-in_err-write_cut-clause-cause : goal.returns-in_err-write_cut-clause-cause
+returns-in_err-write_cut-clause-cause g c =
+    cause_after (g.D.Tape.tape c.args.disk.now) (g.D.Tape.tape c.find_measured.new.disk) (g.D.Tape.tape c.write_cut.new.disk) c.in_err-write_cut.field-0.0 c.from_residual-in_err-write_cut.result c.from_residual-in_err-write_cut.ensures.1 c.in_ok-found.ensures.looks.looks.alone.grown c.in_err-write_cut.ensures.cause
+
+pub returns-in_err-length_text-clause-unwritten : goal.returns-in_err-length_text-clause-unwritten
+returns-in_err-length_text-clause-unwritten g c =
+    λ told. never_refused (Unit {0}) (λ x. added (g.D.Tape.tape c.args.disk.now) (g.D.Tape.tape c.write_cut.new.disk) ≡ []) stop.Memory c.from_residual-in_err-length_text.result c.from_residual-in_err-length_text.ensures.1 tt
+
+pub returns-in_err-length_text-clause-cause : goal.returns-in_err-length_text-clause-cause
+returns-in_err-length_text-clause-cause g c = cause_passed (g.D.Tape.tape c.args.disk.now) (g.D.Tape.tape c.write_cut.new.disk) stop.Memory c.from_residual-in_err-length_text.result c.from_residual-in_err-length_text.ensures.1 tt
+
+pub returns-clause-unwritten : goal.returns-clause-unwritten
+returns-clause-unwritten g c = λ told. tt
+
+pub returns-then-found-length-clause-alone : goal.returns-then-found-length-clause-alone
+returns-then-found-length-clause-alone g c = c.in_ok-found.ensures.looks.looks.alone
+
+pub returns-then-found-length-clause-unwritten : goal.returns-then-found-length-clause-unwritten
+returns-then-found-length-clause-unwritten g c = λ told. if_refused (added (g.D.Tape.tape c.args.disk.now) (g.D.Tape.tape c.find_measured.new.disk) ≡ []) c.refused.result (c.find_measured.ensures.looks.looks.silent told)
+
+pub returns-then-found-length-clause-cause : goal.returns-then-found-length-clause-cause
+returns-then-found-length-clause-cause g c = subst (HasCause cause_of_stop (g.D.Tape.tape c.args.disk.now) (g.D.Tape.tape c.find_measured.new.disk)) (sym c.refused.ensures) tt

@@ -4,6 +4,8 @@ use Rattle.exec_session.specs.Meant.{kept}
 use Rattle.exec_files.specs.Cutting.{cuts_and_stamps}
 use Rattle.exec_files.proofs.Cutting.{cut_opens}
 use Rattle.exec_files.proofs.Opening.{opening_fails}
+use Rattle.exec_session.proofs.Causing.{cause_sooner}
+use Rattle.exec_steps.proofs.Frames.{cause_passed, never_refused, works_twice}
 use Rattle.exec_files.proofs.cut.write_cut.Goals as goal
 
 pub returns-in_err-open_mark-clause-writes : goal.returns-in_err-open_mark-clause-writes
@@ -28,3 +30,24 @@ returns-clause-writes g c = λ told may.
 
 pub returns-clause-alone : goal.returns-clause-alone
 returns-clause-alone g c = alone_twice c.open_mark.ensures.alone c.shorten_and_stamp.ensures.alone
+
+pub returns-in_err-open_mark-clause-unrefused : goal.returns-in_err-open_mark-clause-unrefused
+returns-in_err-open_mark-clause-unrefused g c = never_refused (Unit {0}) (λ r. ⊥) c.in_err-open_mark.field-0.0 c.from_residual.result c.from_residual.ensures.1 c.in_err-open_mark.ensures.unrefused
+
+pub returns-in_err-open_mark-clause-cause : goal.returns-in_err-open_mark-clause-cause
+returns-in_err-open_mark-clause-cause g c = cause_passed (g.D.Tape.tape c.args.disk.now) (g.D.Tape.tape c.open_mark.new.disk) c.in_err-open_mark.field-0.0 c.from_residual.result c.from_residual.ensures.1 c.in_err-open_mark.ensures.cause
+
+pub returns-in_err-open_mark-clause-works : goal.returns-in_err-open_mark-clause-works
+returns-in_err-open_mark-clause-works g c = c.in_err-open_mark.ensures.works
+
+pub returns-in_err-open_mark-clause-alone : goal.returns-in_err-open_mark-clause-alone
+returns-in_err-open_mark-clause-alone g c = c.in_err-open_mark.ensures.alone
+
+pub returns-clause-unrefused : goal.returns-clause-unrefused
+returns-clause-unrefused g c = c.shorten_and_stamp.ensures.unrefused
+
+pub returns-clause-cause : goal.returns-clause-cause
+returns-clause-cause g c = cause_sooner (g.D.Tape.tape c.args.disk.now) (g.D.Tape.tape c.open_mark.new.disk) (g.D.Tape.tape c.shorten_and_stamp.new.disk) c.shorten_and_stamp.result c.in_ok-open_mark.ensures.alone.grown c.shorten_and_stamp.ensures.cause
+
+pub returns-clause-works : goal.returns-clause-works
+returns-clause-works g c = works_twice c.in_ok-open_mark.ensures.works c.shorten_and_stamp.ensures.works

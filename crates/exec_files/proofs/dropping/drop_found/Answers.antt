@@ -1,12 +1,12 @@
-use Rattle.std.proofs.Common.{Bool, Contains, Err, List, Result, [], arith, refl, subst, sym, ◌∷◌}
+use Rattle.std.proofs.Common.{Bool, Contains, Err, List, Result, [], arith, refl, subst, sym, ◌∷◌, ◌∙◌, ap, length}
 use Rattle.disk_records.proofs.Growing.{alone_twice}
 use Rattle.disk_records.specs.Tapes.{added, pack}
 use Rattle.exec_steps.specs.laws_call.specs.Acting.{Operates, around}
 use Rattle.page_seeking.specs.Refs.{FileStands}
 use Rattle.pack_model.specs.hints.Misled.{AnswersMisled}
 use Rattle.pack_model.specs.operations.Step.Operation.{drop_file}
-use Rattle.exec_session.specs.Meant.{IfHint, kept}
-use Rattle.exec_session.specs.Stops.{stop_entered}
+use Rattle.exec_session.specs.Meant.{IfHint, kept, IfRefused}
+use Rattle.exec_session.specs.Stops.{stop_entered, cause_of_stop}
 use Rattle.exec_session.specs.declared.stop.Stop.{Stop}
 use Rattle.exec_session.specs.declared.stop.Stop.TheVariants as stop
 use Rattle.exec_steps.specs.Midway.{StepsOn}
@@ -14,6 +14,10 @@ use Rattle.exec_steps.proofs.Answers.{error_is}
 use Rattle.exec_steps.proofs.Calling.{hints_step}
 use Rattle.exec_files.proofs.EntryFound.{found_by}
 use Rattle.exec_files.proofs.OneDrop.{dir_left, drop_breaks, drop_ends, file_hints, slot_hints, went, whole_left}
+use Rattle.exec_session.proofs.Causing.{cause_sooner}
+use Rattle.exec_steps.proofs.Answers.{entered_cause, entered_unrefused, written_cause, written_unrefused}
+use Rattle.exec_steps.proofs.Frames.{cause_passed, never_refused}
+use Rattle.disk_records.specs.Causes.{HasCause, never, other}
 use Rattle.exec_files.proofs.dropping.drop_found.Goals as goal
 
 pub returns-in_err-written-clause-steps : goal.returns-in_err-written-clause-steps
@@ -67,3 +71,38 @@ returns-clause-steps g c = λ told may.
 
 pub returns-clause-alone : goal.returns-clause-alone
 returns-clause-alone g c = alone_twice c.drop_file-dropped.ensures.alone c.free_slot-freed.ensures.alone
+
+pub returns-in_err-written-clause-unrefused : goal.returns-in_err-written-clause-unrefused
+returns-in_err-written-clause-unrefused g c = never_refused (Unit {0}) (λ r. ⊥) c.in_err-written.field-0.0 c.from_residual.result c.from_residual.ensures.1 (subst (λ (r : Result (Unit {0}) Stop). IfRefused r (λ x. ⊥)) (sym c.in_err-written.ensures) (written_unrefused c.args.found.now.file c.drop_file-dropped.result))
+
+pub returns-in_err-written-clause-cause : goal.returns-in_err-written-clause-cause
+returns-in_err-written-clause-cause g c =
+    cause_passed (g.D.Tape.tape c.args.disk.now) (g.D.Tape.tape c.drop_file-dropped.new.disk) c.in_err-written.field-0.0 c.from_residual.result c.from_residual.ensures.1 (subst (λ (r : Result (Unit {0}) Stop). HasCause cause_of_stop (g.D.Tape.tape c.args.disk.now) (g.D.Tape.tape c.drop_file-dropped.new.disk) r) (sym c.in_err-written.ensures) (written_cause (g.D.Tape.tape c.args.disk.now) (g.D.Tape.tape c.drop_file-dropped.new.disk) c.args.found.now.file c.drop_file-dropped.result c.drop_file-dropped.ensures.cause))
+
+pub returns-in_err-written-clause-works : goal.returns-in_err-written-clause-works
+returns-in_err-written-clause-works g c = let e = c.drop_file-dropped.ensures in record { shape = refl; sized = e.sized; moment = refl; level = refl; memory = refl; need = refl; refused = e.refused }
+
+pub returns-in_err-written-clause-descriptor : goal.returns-in_err-written-clause-descriptor
+returns-in_err-written-clause-descriptor g c = refl
+
+pub returns-in_err-written-clause-alone : goal.returns-in_err-written-clause-alone
+returns-in_err-written-clause-alone g c = c.drop_file-dropped.ensures.alone
+
+pub returns-clause-unrefused : goal.returns-clause-unrefused
+returns-clause-unrefused g c = subst (λ (r : Result (Unit {0}) Stop). IfRefused r (λ x. ⊥)) (sym c.entered.ensures) (entered_unrefused c.args.found.now.dir c.free_slot-freed.result)
+
+pub returns-clause-cause : goal.returns-clause-cause
+returns-clause-cause g c =
+    cause_sooner (g.D.Tape.tape c.args.disk.now) (g.D.Tape.tape c.drop_file-dropped.new.disk) (g.D.Tape.tape c.free_slot-freed.new.disk) c.entered.result c.drop_file-dropped.ensures.alone.grown
+    (subst (λ (r : Result (Unit {0}) Stop). HasCause cause_of_stop (g.D.Tape.tape c.drop_file-dropped.new.disk) (g.D.Tape.tape c.free_slot-freed.new.disk) r) (sym c.entered.ensures) (entered_cause other never never (g.D.Tape.tape c.drop_file-dropped.new.disk) (g.D.Tape.tape c.free_slot-freed.new.disk) c.args.found.now.dir c.free_slot-freed.result c.free_slot-freed.ensures.cause))
+
+pub returns-clause-works : goal.returns-clause-works
+returns-clause-works g c =
+    let one = c.drop_file-dropped.ensures in
+    let two = c.free_slot-freed.ensures in
+    let first = one.refused in
+    let next = two.refused in
+    record { shape = refl; sized = ap length two.table ∙ one.sized; moment = refl; level = refl; memory = refl; need = refl; refused = omega (arith, first, next) }
+
+pub returns-clause-descriptor : goal.returns-clause-descriptor
+returns-clause-descriptor g c = refl

@@ -4,6 +4,8 @@ use Rattle.exec_session.specs.Meant.{kept, kept_replied, replied}
 use Rattle.exec_session.specs.Turned.{Turned}
 use Rattle.exec_steps.proofs.Answers.{error_is}
 use Rattle.exec_files.proofs.DropTurn.{dropped, may_drop, may_start, starts_at, undropped, unopened, unsaid}
+use Rattle.exec_steps.proofs.Frames.{cause_after, cause_passed, never_refused, works_twice}
+use Rattle.exec_session.specs.declared.stop.Stop.TheVariants as stop
 use Rattle.exec_files.proofs.dropping.drop_line.Goals as goal
 
 pub returns-in_err-open_mark-clause-turned : goal.returns-in_err-open_mark-clause-turned
@@ -76,3 +78,43 @@ returns-in_err-done_text-clause-alone g c = alone_twice c.open_mark.ensures.alon
 
 pub returns-clause-alone : goal.returns-clause-alone
 returns-clause-alone g c = alone_twice c.open_mark.ensures.alone c.drop_found.ensures.alone
+
+pub returns-in_err-open_mark-clause-unrefused : goal.returns-in_err-open_mark-clause-unrefused
+returns-in_err-open_mark-clause-unrefused g c = never_refused (Unit {0}) (λ r. ⊥) c.in_err-open_mark.field-0.0 c.from_residual.result c.from_residual.ensures.1 c.in_err-open_mark.ensures.unrefused
+
+pub returns-in_err-open_mark-clause-cause : goal.returns-in_err-open_mark-clause-cause
+returns-in_err-open_mark-clause-cause g c = cause_passed (g.D.Tape.tape c.args.disk.now) (g.D.Tape.tape c.open_mark.new.disk) c.in_err-open_mark.field-0.0 c.from_residual.result c.from_residual.ensures.1 c.in_err-open_mark.ensures.cause
+
+pub returns-in_err-open_mark-clause-works : goal.returns-in_err-open_mark-clause-works
+returns-in_err-open_mark-clause-works g c = c.in_err-open_mark.ensures.works
+
+pub returns-in_err-open_mark-clause-alone : goal.returns-in_err-open_mark-clause-alone
+returns-in_err-open_mark-clause-alone g c = c.in_err-open_mark.ensures.alone
+
+pub returns-in_err-drop_found-clause-unrefused : goal.returns-in_err-drop_found-clause-unrefused
+returns-in_err-drop_found-clause-unrefused g c = never_refused (Unit {0}) (λ r. ⊥) c.in_err-drop_found.field-0.0 c.from_residual-in_err-drop_found.result c.from_residual-in_err-drop_found.ensures.1 c.in_err-drop_found.ensures.unrefused
+
+pub returns-in_err-drop_found-clause-cause : goal.returns-in_err-drop_found-clause-cause
+returns-in_err-drop_found-clause-cause g c =
+    cause_after (g.D.Tape.tape c.args.disk.now) (g.D.Tape.tape c.open_mark.new.disk) (g.D.Tape.tape c.drop_found.new.disk) c.in_err-drop_found.field-0.0 c.from_residual-in_err-drop_found.result c.from_residual-in_err-drop_found.ensures.1 c.in_ok-open_mark.ensures.alone.grown c.in_err-drop_found.ensures.cause
+
+pub returns-in_err-drop_found-clause-works : goal.returns-in_err-drop_found-clause-works
+returns-in_err-drop_found-clause-works g c = works_twice c.in_ok-open_mark.ensures.works c.in_err-drop_found.ensures.works
+
+pub returns-in_err-done_text-clause-unrefused : goal.returns-in_err-done_text-clause-unrefused
+returns-in_err-done_text-clause-unrefused g c = never_refused (Unit {0}) (λ r. ⊥) stop.Memory c.from_residual-in_err-done_text.result c.from_residual-in_err-done_text.ensures.1 tt
+
+pub returns-in_err-done_text-clause-cause : goal.returns-in_err-done_text-clause-cause
+returns-in_err-done_text-clause-cause g c = cause_passed (g.D.Tape.tape c.args.disk.now) (g.D.Tape.tape c.drop_found.new.disk) stop.Memory c.from_residual-in_err-done_text.result c.from_residual-in_err-done_text.ensures.1 tt
+
+pub returns-in_err-done_text-clause-works : goal.returns-in_err-done_text-clause-works
+returns-in_err-done_text-clause-works g c = works_twice c.in_ok-open_mark.ensures.works c.in_ok-drop_found.ensures.works
+
+pub returns-clause-unrefused : goal.returns-clause-unrefused
+returns-clause-unrefused g c = tt
+
+pub returns-clause-cause : goal.returns-clause-cause
+returns-clause-cause g c = tt
+
+pub returns-clause-works : goal.returns-clause-works
+returns-clause-works g c = works_twice c.in_ok-open_mark.ensures.works c.in_ok-drop_found.ensures.works

@@ -1,7 +1,7 @@
-use Rattle.std.proofs.Common.{◌∙◌, [], ◌∷◌, refl, sym}
+use Rattle.std.proofs.Common.{◌∙◌, [], ◌∷◌, refl, sym, ◌≡◌, subst}
 use Rattle.disk_records.proofs.Growing.{alone_twice, pack-silent}
 use Rattle.disk_records.proofs.Looking.{looks_pack}
-use Rattle.disk_records.specs.Tapes.{pack}
+use Rattle.disk_records.specs.Tapes.{pack, added}
 use Rattle.exec_words.specs.Texts.{done_text}
 use Rattle.exec_words.specs.declared.line.Line.TheVariants as line
 use Rattle.exec_words.specs.declared.reply.Refusal.TheVariants as refusal
@@ -12,10 +12,12 @@ use Rattle.exec_session.specs.declared.stop.Stop.TheVariants as stop
 use Rattle.exec_session.proofs.Looking.{same_but_looked}
 use Rattle.exec_session.proofs.Stopping.{error_is}
 use Rattle.exec_files.specs.declared.measuring.Measured.{Measured}
-use Rattle.exec_steps.proofs.Frames.{works_looked, works_twice}
+use Rattle.exec_steps.proofs.Frames.{works_looked, works_twice, cause_after, cause_passed, if_refused, never_refused, stays_worked}
 use Rattle.exec_files.proofs.Looked.{ready_looked, refused_turns, unfound_turns}
 use Rattle.exec_files.proofs.Patching.{may_patch, patch_answers, patch_beyond, patch_plans, patch_unfound, patch_writes, when_none, when_some}
 use Rattle.exec_files.proofs.Turns.{broke_turns, done_turns, late_turns, nothing_turns, unwritten_turns}
+use Rattle.disk_records.specs.Causes.{HasCause}
+use Rattle.exec_session.specs.Stops.{cause_of_stop}
 use Rattle.exec_files.proofs.patch.patch_bytes.Goals as goal
 
 pub returns-in_err-found-clause-turns : goal.returns-in_err-found-clause-turns
@@ -146,3 +148,88 @@ returns-in_err-done_text-2-clause-alone g c = alone_twice c.find_measured.ensure
 
 pub returns-clause-alone : goal.returns-clause-alone
 returns-clause-alone g c = alone_twice c.find_measured.ensures.looks.looks.alone c.write_patch.ensures.alone
+
+pub returns-in_err-found-clause-unwritten : goal.returns-in_err-found-clause-unwritten
+returns-in_err-found-clause-unwritten g c = λ told. if_refused (added (g.D.Tape.tape c.args.disk.now) (g.D.Tape.tape c.find_measured.new.disk) ≡ []) c.from_residual.result (c.in_err-found.ensures.looks.looks.silent told)
+
+pub returns-in_err-found-clause-cause : goal.returns-in_err-found-clause-cause
+returns-in_err-found-clause-cause g c = cause_passed (g.D.Tape.tape c.args.disk.now) (g.D.Tape.tape c.find_measured.new.disk) c.in_err-found.field-0.0 c.from_residual.result c.from_residual.ensures.1 c.in_err-found.ensures.cause
+
+pub returns-in_err-found-clause-alone : goal.returns-in_err-found-clause-alone
+returns-in_err-found-clause-alone g c = c.in_err-found.ensures.looks.looks.alone
+
+pub returns-in_err-done_text-clause-unwritten : goal.returns-in_err-done_text-clause-unwritten
+returns-in_err-done_text-clause-unwritten g c =
+    λ told. never_refused (Unit {0}) (λ x. added (g.D.Tape.tape c.args.disk.now) (g.D.Tape.tape c.find_measured.new.disk) ≡ []) stop.Memory c.from_residual-in_err-done_text.result c.from_residual-in_err-done_text.ensures.1 tt
+
+pub returns-in_err-done_text-clause-cause : goal.returns-in_err-done_text-clause-cause
+returns-in_err-done_text-clause-cause g c = cause_passed (g.D.Tape.tape c.args.disk.now) (g.D.Tape.tape c.find_measured.new.disk) stop.Memory c.from_residual-in_err-done_text.result c.from_residual-in_err-done_text.ensures.1 tt
+
+pub returns-in_err-done_text-clause-alone : goal.returns-in_err-done_text-clause-alone
+returns-in_err-done_text-clause-alone g c = c.in_ok-found.ensures.looks.looks.alone
+
+pub returns-in_err-write_patch-clause-unwritten : goal.returns-in_err-write_patch-clause-unwritten
+returns-in_err-write_patch-clause-unwritten g c =
+    λ told. never_refused (Unit {0}) (λ x. added (g.D.Tape.tape c.args.disk.now) (g.D.Tape.tape c.write_patch.new.disk) ≡ []) c.in_err-write_patch.field-0.0 c.from_residual-in_err-write_patch.result c.from_residual-in_err-write_patch.ensures.1 c.in_err-write_patch.ensures.unrefused
+
+pub returns-in_err-write_patch-clause-cause : goal.returns-in_err-write_patch-clause-cause
+returns-in_err-write_patch-clause-cause g c =
+    cause_after (g.D.Tape.tape c.args.disk.now) (g.D.Tape.tape c.find_measured.new.disk) (g.D.Tape.tape c.write_patch.new.disk) c.in_err-write_patch.field-0.0 c.from_residual-in_err-write_patch.result c.from_residual-in_err-write_patch.ensures.1 c.in_ok-found.ensures.looks.looks.alone.grown c.in_err-write_patch.ensures.cause
+
+pub returns-in_err-done_text-2-clause-unwritten : goal.returns-in_err-done_text-2-clause-unwritten
+returns-in_err-done_text-2-clause-unwritten g c =
+    λ told. never_refused (Unit {0}) (λ x. added (g.D.Tape.tape c.args.disk.now) (g.D.Tape.tape c.write_patch.new.disk) ≡ []) stop.Memory c.from_residual-in_err-done_text-2.result c.from_residual-in_err-done_text-2.ensures.1 tt
+
+pub returns-in_err-done_text-2-clause-cause : goal.returns-in_err-done_text-2-clause-cause
+returns-in_err-done_text-2-clause-cause g c = cause_passed (g.D.Tape.tape c.args.disk.now) (g.D.Tape.tape c.write_patch.new.disk) stop.Memory c.from_residual-in_err-done_text-2.result c.from_residual-in_err-done_text-2.ensures.1 tt
+
+pub returns-clause-unwritten : goal.returns-clause-unwritten
+returns-clause-unwritten g c = λ told. tt
+
+pub returns-clause-cause : goal.returns-clause-cause
+returns-clause-cause g c = tt
+
+pub returns-then-is_empty-clause-unwritten : goal.returns-then-is_empty-clause-unwritten
+returns-then-is_empty-clause-unwritten g c = λ told. tt
+
+pub returns-then-is_empty-clause-cause : goal.returns-then-is_empty-clause-cause
+returns-then-is_empty-clause-cause g c = tt
+
+pub returns-then-is_empty-clause-alone : goal.returns-then-is_empty-clause-alone
+returns-then-is_empty-clause-alone g c = c.in_ok-found.ensures.looks.looks.alone
+
+pub returns-in_err-found-clause-stays : goal.returns-in_err-found-clause-stays
+returns-in_err-found-clause-stays g c = let about = c.find_measured.ensures.looks in stays_worked (g.D.Tape.tape c.args.disk.now) (g.D.Tape.tape c.find_measured.new.disk) (works_looked about.looked) about.looks.alone.grown.form c.requires.obeys.formed
+
+pub returns-then-length-offset-clause-stays : goal.returns-then-length-offset-clause-stays
+returns-then-length-offset-clause-stays g c = let about = c.find_measured.ensures.looks in stays_worked (g.D.Tape.tape c.args.disk.now) (g.D.Tape.tape c.find_measured.new.disk) (works_looked about.looked) about.looks.alone.grown.form c.requires.obeys.formed
+
+pub returns-in_err-done_text-clause-stays : goal.returns-in_err-done_text-clause-stays
+returns-in_err-done_text-clause-stays g c = let about = c.find_measured.ensures.looks in stays_worked (g.D.Tape.tape c.args.disk.now) (g.D.Tape.tape c.find_measured.new.disk) (works_looked about.looked) about.looks.alone.grown.form c.requires.obeys.formed
+
+pub returns-then-is_empty-clause-stays : goal.returns-then-is_empty-clause-stays
+returns-then-is_empty-clause-stays g c = let about = c.find_measured.ensures.looks in stays_worked (g.D.Tape.tape c.args.disk.now) (g.D.Tape.tape c.find_measured.new.disk) (works_looked about.looked) about.looks.alone.grown.form c.requires.obeys.formed
+
+pub returns-in_err-write_patch-clause-stays : goal.returns-in_err-write_patch-clause-stays
+returns-in_err-write_patch-clause-stays g c =
+    let about = c.find_measured.ensures.looks in
+    stays_worked (g.D.Tape.tape c.args.disk.now) (g.D.Tape.tape c.write_patch.new.disk) (works_twice (works_looked about.looked) c.write_patch.ensures.works) (c.write_patch.ensures.alone.grown.form ∙ about.looks.alone.grown.form) c.requires.obeys.formed
+
+pub returns-in_err-done_text-2-clause-stays : goal.returns-in_err-done_text-2-clause-stays
+returns-in_err-done_text-2-clause-stays g c =
+    let about = c.find_measured.ensures.looks in
+    stays_worked (g.D.Tape.tape c.args.disk.now) (g.D.Tape.tape c.write_patch.new.disk) (works_twice (works_looked about.looked) c.write_patch.ensures.works) (c.write_patch.ensures.alone.grown.form ∙ about.looks.alone.grown.form) c.requires.obeys.formed
+
+pub returns-clause-stays : goal.returns-clause-stays
+returns-clause-stays g c =
+    let about = c.find_measured.ensures.looks in
+    stays_worked (g.D.Tape.tape c.args.disk.now) (g.D.Tape.tape c.write_patch.new.disk) (works_twice (works_looked about.looked) c.write_patch.ensures.works) (c.write_patch.ensures.alone.grown.form ∙ about.looks.alone.grown.form) c.requires.obeys.formed
+
+pub returns-then-length-offset-clause-unwritten : goal.returns-then-length-offset-clause-unwritten
+returns-then-length-offset-clause-unwritten g c = λ told. if_refused (added (g.D.Tape.tape c.args.disk.now) (g.D.Tape.tape c.find_measured.new.disk) ≡ []) c.refused.result (c.find_measured.ensures.looks.looks.silent told)
+
+pub returns-then-length-offset-clause-cause : goal.returns-then-length-offset-clause-cause
+returns-then-length-offset-clause-cause g c = subst (HasCause cause_of_stop (g.D.Tape.tape c.args.disk.now) (g.D.Tape.tape c.find_measured.new.disk)) (sym c.refused.ensures) tt
+
+pub returns-then-length-offset-clause-alone : goal.returns-then-length-offset-clause-alone
+returns-then-length-offset-clause-alone g c = c.find_measured.ensures.looks.looks.alone

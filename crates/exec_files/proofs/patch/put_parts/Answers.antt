@@ -8,7 +8,7 @@ use Rattle.exec_session.specs.declared.stop.Stop.{Stop}
 use Rattle.exec_session.proofs.Stopping.{error_is}
 use Rattle.exec_steps.specs.Midway.{StepsOn}
 use Rattle.exec_files.specs.Patching.{MayPatchFile}
-use Rattle.exec_steps.proofs.Frames.{works_here, works_twice}
+use Rattle.exec_steps.proofs.Frames.{works_here, works_twice, cause_after, never_refused}
 use Rattle.exec_files.proofs.Putting.{none_put, puts_end, puts_more, puts_stop, tail_is}
 use Rattle.exec_files.proofs.patch.put_parts.Goals as goal
 
@@ -70,3 +70,24 @@ returns-in_err-done-clause-alone g c = alone_twice c.loop-done.invariant.alone c
 pub returns-clause-steps : goal.returns-clause-steps
 returns-clause-steps g c = λ told may.
     puts_end (g.D.Tape.tape c.args.disk.now) (g.D.Tape.tape c.loop-done.disk) (kept c.args.session.now) (kept c.loop-done.session) c.args.file.now c.args.offset c.args.bytes.now c.loop-done.done c.loop-done-test.false (c.loop-done.invariant.puts told may)
+
+pub returns-in_err-done-clause-unrefused : goal.returns-in_err-done-clause-unrefused
+returns-in_err-done-clause-unrefused g c = never_refused ℕ (λ r. ⊥) c.in_err-done.field-0.0 c.from_residual.result c.from_residual.ensures.1 c.in_err-done.ensures.unrefused
+
+pub returns-in_err-done-clause-cause : goal.returns-in_err-done-clause-cause
+returns-in_err-done-clause-cause g c = cause_after (g.D.Tape.tape c.args.disk.now) (g.D.Tape.tape c.loop-done.disk) (g.D.Tape.tape c.put_part.new.disk) c.in_err-done.field-0.0 c.from_residual.result c.from_residual.ensures.1 c.loop-done.invariant.alone.grown c.in_err-done.ensures.cause
+
+pub returns-in_err-done-clause-works : goal.returns-in_err-done-clause-works
+returns-in_err-done-clause-works g c = works_twice c.loop-done.invariant.works c.in_err-done.ensures.works
+
+pub returns-clause-unrefused : goal.returns-clause-unrefused
+returns-clause-unrefused g c = tt
+
+pub returns-clause-cause : goal.returns-clause-cause
+returns-clause-cause g c = tt
+
+pub returns-clause-works : goal.returns-clause-works
+returns-clause-works g c = c.loop-done.invariant.works
+
+pub returns-clause-alone : goal.returns-clause-alone
+returns-clause-alone g c = c.loop-done.invariant.alone

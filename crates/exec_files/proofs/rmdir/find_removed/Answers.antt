@@ -11,10 +11,12 @@ use Rattle.page_seeking.specs.Refs.{MisledBy}
 use Rattle.session_model.specs.Keeping.{world_of}
 use Rattle.session_model.specs.Operands.{in_root}
 use Rattle.exec_session.proofs.Looking.{looks_about_twice}
-use Rattle.exec_session.proofs.OrdinaryFiles.{ok_test}
+use Rattle.exec_session.proofs.OrdinaryFiles.{ok_test, by_test}
 use Rattle.exec_session.specs.Meant.{IfHint, IfRefused, kept}
 use Rattle.exec_files.specs.Dropping.{HasEntries}
 use Rattle.exec_files.proofs.DropFinding.{is_directory_found, rmdir_absent, rmdir_entries, rmdir_found, rmdir_no_directory, rmdir_system, test_refused, unfound, unlisted}
+use Rattle.exec_session.proofs.Causing.{cause_refused}
+use Rattle.exec_steps.proofs.Frames.{cause_after, cause_passed, looks_about_within}
 use Rattle.exec_files.proofs.rmdir.find_removed.Goals as goal
 
 pub returns-in_err-found-clause-finds : goal.returns-in_err-found-clause-finds
@@ -78,3 +80,30 @@ returns-in_err-refuse_entries-clause-looks g c = looks_about_twice (65588 * 1966
 
 pub returns-clause-looks : goal.returns-clause-looks
 returns-clause-looks g c = looks_about_twice (65588 * 196608) (omega arith) c.find_path.ensures.looks c.refuse_entries.ensures.looks
+
+pub returns-in_err-found-clause-cause : goal.returns-in_err-found-clause-cause
+returns-in_err-found-clause-cause g c = cause_passed (g.D.Tape.tape c.args.disk.now) (g.D.Tape.tape c.find_path.new.disk) c.in_err-found.field-0.0 c.from_residual.result c.from_residual.ensures.1 c.in_err-found.ensures.cause
+
+pub returns-in_err-require_directory-clause-cause : goal.returns-in_err-require_directory-clause-cause
+returns-in_err-require_directory-clause-cause g c =
+    cause_refused (g.D.Tape.tape c.args.disk.now) (g.D.Tape.tape c.find_path.new.disk) c.in_err-require_directory.field-0.0 refusal.NotADirectory c.from_residual-in_err-require_directory.result c.from_residual-in_err-require_directory.ensures.1 (by_test (not (is_directory c.in_ok-found.found.file.fid)) c.in_err-require_directory.field-0.0 refusal.NotADirectory c.in_err-require_directory.ensures).1
+
+pub returns-in_err-refuse_system-clause-cause : goal.returns-in_err-refuse_system-clause-cause
+returns-in_err-refuse_system-clause-cause g c =
+    cause_refused (g.D.Tape.tape c.args.disk.now) (g.D.Tape.tape c.find_path.new.disk) c.in_err-refuse_system.field-0.0 refusal.SystemFile c.from_residual-in_err-refuse_system.result c.from_residual-in_err-refuse_system.ensures.1 (by_test (is_system c.in_ok-found.found.file.fid) c.in_err-refuse_system.field-0.0 refusal.SystemFile c.in_err-refuse_system.ensures).1
+
+pub returns-in_err-refuse_entries-clause-cause : goal.returns-in_err-refuse_entries-clause-cause
+returns-in_err-refuse_entries-clause-cause g c =
+    cause_after (g.D.Tape.tape c.args.disk.now) (g.D.Tape.tape c.find_path.new.disk) (g.D.Tape.tape c.refuse_entries.new.disk) c.in_err-refuse_entries.field-0.0 c.from_residual-in_err-refuse_entries.result c.from_residual-in_err-refuse_entries.ensures.1 c.in_ok-found.ensures.looks.looks.alone.grown c.in_err-refuse_entries.ensures.cause
+
+pub returns-clause-cause : goal.returns-clause-cause
+returns-clause-cause g c = tt
+
+pub returns-in_err-found-clause-looks : goal.returns-in_err-found-clause-looks
+returns-in_err-found-clause-looks g c = looks_about_within (65588 * 196608) (omega arith) c.in_err-found.ensures.looks
+
+pub returns-in_err-require_directory-clause-looks : goal.returns-in_err-require_directory-clause-looks
+returns-in_err-require_directory-clause-looks g c = looks_about_within (65588 * 196608) (omega arith) c.in_ok-found.ensures.looks
+
+pub returns-in_err-refuse_system-clause-looks : goal.returns-in_err-refuse_system-clause-looks
+returns-in_err-refuse_system-clause-looks g c = looks_about_within (65588 * 196608) (omega arith) c.in_ok-found.ensures.looks

@@ -1,8 +1,12 @@
+use Rattle.std.proofs.Common.{[], ◌≡◌}
 use Rattle.disk_records.proofs.Growing.{alone_twice}
 use Rattle.exec_words.specs.declared.line.Line.TheVariants as line
 use Rattle.exec_session.proofs.Looking.{stays_looked}
 use Rattle.exec_files.proofs.DropAnswers.{goes_on_found, rmdir_drops, stops_unfound}
-use Rattle.exec_steps.proofs.Frames.{stays_worked, works_looked, works_twice}
+use Rattle.exec_steps.proofs.Frames.{stays_worked, works_looked, works_twice, cause_passed, if_refused}
+use Rattle.disk_records.specs.Tapes.{added}
+use Rattle.exec_session.proofs.Causing.{cause_sooner}
+use Rattle.exec_files.proofs.Causing.{refuses_none}
 use Rattle.exec_files.proofs.rmdir.remove_dir.Goals as goal
 
 pub returns-in_err-found-clause-turns : goal.returns-in_err-found-clause-turns
@@ -28,3 +32,18 @@ returns-clause-stays g c =
 
 pub returns-clause-alone : goal.returns-clause-alone
 returns-clause-alone g c = alone_twice c.find_removed.ensures.looks.looks.alone c.drop_line.ensures.alone
+
+pub returns-in_err-found-clause-unwritten : goal.returns-in_err-found-clause-unwritten
+returns-in_err-found-clause-unwritten g c = λ told. if_refused (added (g.D.Tape.tape c.args.disk.now) (g.D.Tape.tape c.find_removed.new.disk) ≡ []) c.from_residual.result (c.in_err-found.ensures.looks.looks.silent told)
+
+pub returns-in_err-found-clause-cause : goal.returns-in_err-found-clause-cause
+returns-in_err-found-clause-cause g c = cause_passed (g.D.Tape.tape c.args.disk.now) (g.D.Tape.tape c.find_removed.new.disk) c.in_err-found.field-0.0 c.from_residual.result c.from_residual.ensures.1 c.in_err-found.ensures.cause
+
+pub returns-in_err-found-clause-alone : goal.returns-in_err-found-clause-alone
+returns-in_err-found-clause-alone g c = c.in_err-found.ensures.looks.looks.alone
+
+pub returns-clause-unwritten : goal.returns-clause-unwritten
+returns-clause-unwritten g c = λ told. refuses_none (λ r. added (g.D.Tape.tape c.args.disk.now) (g.D.Tape.tape c.drop_line.new.disk) ≡ []) c.drop_line.result c.drop_line.ensures.unrefused
+
+pub returns-clause-cause : goal.returns-clause-cause
+returns-clause-cause g c = cause_sooner (g.D.Tape.tape c.args.disk.now) (g.D.Tape.tape c.find_removed.new.disk) (g.D.Tape.tape c.drop_line.new.disk) c.drop_line.result c.in_ok-found.ensures.looks.looks.alone.grown c.drop_line.ensures.cause

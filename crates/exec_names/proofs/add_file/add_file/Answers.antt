@@ -15,6 +15,7 @@ use Rattle.exec_names.proofs.AddedFile.{asks, file_done, file_stops, has_sectors
 use Rattle.exec_names.proofs.Ends.{begins_sound}
 use Rattle.exec_steps.proofs.Frames.{cause_after, cause_passed, if_refused, never_refused, works_reserved, works_twice}
 use Rattle.exec_names.specs.Writes.{WritesLine}
+use Rattle.exec_session.proofs.Parts.{ok_of_error}
 use Rattle.exec_names.proofs.add_file.add_file.Goals as goal
 
 -- ---- no serial or no room is left
@@ -146,3 +147,18 @@ pub returns-in_err-file-clause-cause : goal.returns-in_err-file-clause-cause
 returns-in_err-file-clause-cause g c =
     cause_after (g.D.Tape.tape c.args.disk.now) (g.D.Tape.tape c.open_mark.new.disk) (g.D.Tape.tape c.make_entered.new.disk) c.in_err-file.field-0.0 c.from_residual-in_err-file.result c.from_residual-in_err-file.ensures.1
     (alone_twice c.in_ok-fresh.ensures.looks.alone c.in_ok-open_mark.ensures.alone).grown c.in_err-file.ensures.cause
+
+pub returns-in_err-fresh-clause-made : goal.returns-in_err-fresh-clause-made
+returns-in_err-fresh-clause-made g c = ok_of_error (λ s. s ≡ c.in_err-fresh.field-0.0) _ c.from_residual.result c.from_residual.ensures.1
+
+pub returns-in_err-fresh-clause-alone : goal.returns-in_err-fresh-clause-alone
+returns-in_err-fresh-clause-alone g c = c.in_err-fresh.ensures.looks.alone
+
+pub returns-in_err-open_mark-clause-made : goal.returns-in_err-open_mark-clause-made
+returns-in_err-open_mark-clause-made g c = ok_of_error (λ s. s ≡ c.in_err-open_mark.field-0.0) _ c.from_residual-in_err-open_mark.result c.from_residual-in_err-open_mark.ensures.1
+
+pub returns-in_err-file-clause-made : goal.returns-in_err-file-clause-made
+returns-in_err-file-clause-made g c = ok_of_error (λ s. s ≡ c.in_err-file.field-0.0) _ c.from_residual-in_err-file.result c.from_residual-in_err-file.ensures.1
+
+pub returns-clause-unwritten : goal.returns-clause-unwritten
+returns-clause-unwritten g c = λ told. tt

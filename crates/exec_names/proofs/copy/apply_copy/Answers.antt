@@ -27,6 +27,8 @@ use Rattle.exec_names.proofs.Ends.{begins_sound}
 use Rattle.exec_steps.proofs.Frames.{cause_after, cause_passed, if_refused, never_refused, works_looked, works_reserved, works_twice}
 use Rattle.exec_names.proofs.NewSectors.{refused_then}
 use Rattle.exec_steps.proofs.LookedBefore.{same_count}
+use Rattle.exec_session.proofs.Causing.{cause_sooner}
+use Rattle.exec_session.proofs.Parts.{ok_of_error}
 use Rattle.exec_names.proofs.copy.apply_copy.Goals as goal
 
 -- ---- the disk alone
@@ -203,3 +205,19 @@ pub returns-in_err-open_mark-clause-cause : goal.returns-in_err-open_mark-clause
 returns-in_err-open_mark-clause-cause g c =
     cause_after (g.D.Tape.tape c.args.disk.now) (g.D.Tape.tape c.reserve_new.new.disk) (g.D.Tape.tape c.open_mark.new.disk) c.in_err-open_mark.field-0.0 c.from_residual-in_err-open_mark.result c.from_residual-in_err-open_mark.ensures.1
     (alone_twice c.in_ok-bytes.ensures.looks.looks.alone c.in_ok-fresh.ensures.looks.alone).grown c.in_err-open_mark.ensures.cause
+
+pub returns-in_err-bytes-clause-made : goal.returns-in_err-bytes-clause-made
+returns-in_err-bytes-clause-made g c = ok_of_error (λ s. s ≡ c.in_err-bytes.field-0.0) _ c.from_residual.result c.from_residual.ensures.1
+
+pub returns-in_err-bytes-clause-alone : goal.returns-in_err-bytes-clause-alone
+returns-in_err-bytes-clause-alone g c = c.in_err-bytes.ensures.looks.looks.alone
+
+pub returns-in_err-fresh-clause-made : goal.returns-in_err-fresh-clause-made
+returns-in_err-fresh-clause-made g c = ok_of_error (λ s. s ≡ c.in_err-fresh.field-0.0) _ c.from_residual-in_err-fresh.result c.from_residual-in_err-fresh.ensures.1
+
+pub returns-in_err-open_mark-clause-made : goal.returns-in_err-open_mark-clause-made
+returns-in_err-open_mark-clause-made g c = ok_of_error (λ s. s ≡ c.in_err-open_mark.field-0.0) _ c.from_residual-in_err-open_mark.result c.from_residual-in_err-open_mark.ensures.1
+
+pub returns-clause-cause : goal.returns-clause-cause
+returns-clause-cause g c =
+    cause_sooner (g.D.Tape.tape c.args.disk.now) (g.D.Tape.tape c.open_mark.new.disk) (g.D.Tape.tape c.write_copy.new.disk) c.write_copy.result (alone_twice (alone_twice c.in_ok-bytes.ensures.looks.looks.alone c.in_ok-fresh.ensures.looks.alone) c.in_ok-open_mark.ensures.alone).grown c.write_copy.ensures.cause

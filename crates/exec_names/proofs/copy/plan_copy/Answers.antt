@@ -14,10 +14,12 @@ use Rattle.exec_session.specs.Found.{IsNoneAt, dirs_followed}
 use Rattle.exec_session.specs.declared.rooms.NewEntry.{NewEntry}
 use Rattle.exec_names.specs.Entries.{OperandsRefuse}
 use Rattle.exec_names.specs.Plans.{IsPlaced, place_refusal}
-use Rattle.exec_steps.proofs.Frames.{looks_about_within}
+use Rattle.exec_steps.proofs.Frames.{looks_about_within, cause_after, cause_passed}
 use Rattle.exec_names.proofs.NamedEntries.{failing_more}
 use Rattle.exec_names.proofs.NewPlaces.{names_place, names_source_dirs}
 use Rattle.exec_names.proofs.Refusing.{source_absent, source_found}
+use Rattle.exec_session.proofs.Causing.{not_wanted}
+use Rattle.exec_session.proofs.Parts.{ok_of_error}
 use Rattle.exec_names.proofs.copy.plan_copy.Goals as goal
 
 -- ---- the file isn't there
@@ -90,3 +92,25 @@ returns-clause-planned g c = λ told sound.
 
 pub returns-clause-looks : goal.returns-clause-looks
 returns-clause-looks g c = looks_about_twice (65588 * 524288) (omega arith) c.in_ok-source.ensures.looks c.in_ok-entry.ensures.looks
+
+pub returns-in_err-source-clause-planned : goal.returns-in_err-source-clause-planned
+returns-in_err-source-clause-planned g c = λ told sound. ok_of_error (λ s. s ≡ c.in_err-source.field-0.0) _ c.from_residual.result c.from_residual.ensures.1
+
+pub returns-in_err-source-clause-cause : goal.returns-in_err-source-clause-cause
+returns-in_err-source-clause-cause g c = cause_passed (g.D.Tape.tape c.args.disk.now) (g.D.Tape.tape c.find_target.new.disk) c.in_err-source.field-0.0 c.from_residual.result c.from_residual.ensures.1 c.in_err-source.ensures.cause
+
+pub returns-in_err-source-clause-want : goal.returns-in_err-source-clause-want
+returns-in_err-source-clause-want g c = λ told. not_wanted FileRef c.in_err-source.field-0.0 c.from_residual.result c.from_residual.ensures.1 (c.in_err-source.ensures.want told)
+
+pub returns-in_err-entry-clause-planned : goal.returns-in_err-entry-clause-planned
+returns-in_err-entry-clause-planned g c = λ told sound. ok_of_error (λ s. s ≡ c.in_err-entry.field-0.0) _ c.from_residual-in_err-entry.result c.from_residual-in_err-entry.ensures.1
+
+pub returns-in_err-entry-clause-cause : goal.returns-in_err-entry-clause-cause
+returns-in_err-entry-clause-cause g c =
+    cause_after (g.D.Tape.tape c.args.disk.now) (g.D.Tape.tape c.find_target.new.disk) (g.D.Tape.tape c.plan_place.new.disk) c.in_err-entry.field-0.0 c.from_residual-in_err-entry.result c.from_residual-in_err-entry.ensures.1 c.in_ok-source.ensures.looks.looks.alone.grown c.in_err-entry.ensures.cause
+
+pub returns-in_err-entry-clause-want : goal.returns-in_err-entry-clause-want
+returns-in_err-entry-clause-want g c = λ told. not_wanted NewEntry c.in_err-entry.field-0.0 c.from_residual-in_err-entry.result c.from_residual-in_err-entry.ensures.1 (c.in_err-entry.ensures.want told)
+
+pub returns-clause-cause : goal.returns-clause-cause
+returns-clause-cause g c = tt

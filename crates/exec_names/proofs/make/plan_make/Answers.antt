@@ -28,9 +28,11 @@ use Rattle.exec_session.specs.declared.stop.Stop.{Stop}
 use Rattle.exec_steps.proofs.Stepping.{if_hint_weaker}
 use Rattle.exec_names.specs.Entries.{IsNewEntry, OperandsRefuse, PlansPath}
 use Rattle.exec_names.proofs.Adding.{root_stands, touched_pair}
-use Rattle.exec_steps.proofs.Frames.{looks_about_within}
+use Rattle.exec_steps.proofs.Frames.{looks_about_within, cause_passed}
 use Rattle.exec_names.proofs.NamedEntries.{dir_stands, failing_more, make_absent, make_found, path_touches, root_touched, root_touches}
 use Rattle.exec_names.proofs.NewSectors.{refused_then}
+use Rattle.exec_session.proofs.Causing.{cause_refused, cause_sooner, not_wanted, not_wanted_refused}
+use Rattle.exec_session.proofs.Parts.{ok_of_error}
 use Rattle.exec_names.proofs.make.plan_make.Goals as goal
 
 -- ---- the directory isn't there
@@ -151,3 +153,29 @@ returns-clause-misled g c = λ told sound.
 
 pub returns-clause-looks : goal.returns-clause-looks
 returns-clause-looks g c = looks_about_twice (65588 * 327680) (omega arith) c.in_ok-dir.ensures.looks c.plan_named.ensures.looks
+
+pub returns-in_err-dir-clause-planned : goal.returns-in_err-dir-clause-planned
+returns-in_err-dir-clause-planned g c = λ told sound. ok_of_error (λ s. s ≡ c.in_err-dir.field-0.0) _ c.from_residual.result c.from_residual.ensures.1
+
+pub returns-in_err-dir-clause-cause : goal.returns-in_err-dir-clause-cause
+returns-in_err-dir-clause-cause g c = cause_passed (g.D.Tape.tape c.args.disk.now) (g.D.Tape.tape c.find_dir.new.disk) c.in_err-dir.field-0.0 c.from_residual.result c.from_residual.ensures.1 c.in_err-dir.ensures.cause
+
+pub returns-in_err-dir-clause-want : goal.returns-in_err-dir-clause-want
+returns-in_err-dir-clause-want g c = λ told. not_wanted FileRef c.in_err-dir.field-0.0 c.from_residual.result c.from_residual.ensures.1 (c.in_err-dir.ensures.want told)
+
+pub returns-in_err-require_directory-clause-planned : goal.returns-in_err-require_directory-clause-planned
+returns-in_err-require_directory-clause-planned g c = λ told sound. ok_of_error (λ s. s ≡ c.in_err-require_directory.field-0.0) _ c.from_residual-in_err-require_directory.result c.from_residual-in_err-require_directory.ensures.1
+
+pub returns-in_err-require_directory-clause-cause : goal.returns-in_err-require_directory-clause-cause
+returns-in_err-require_directory-clause-cause g c =
+    cause_refused (g.D.Tape.tape c.args.disk.now) (g.D.Tape.tape c.find_dir.new.disk) c.in_err-require_directory.field-0.0 refusal.NotADirectory c.from_residual-in_err-require_directory.result c.from_residual-in_err-require_directory.ensures.1 (by_test (not (is_directory c.in_ok-dir.dir.fid)) c.in_err-require_directory.field-0.0 refusal.NotADirectory c.in_err-require_directory.ensures).1
+
+pub returns-in_err-require_directory-clause-want : goal.returns-in_err-require_directory-clause-want
+returns-in_err-require_directory-clause-want g c =
+    λ told. not_wanted_refused c.in_err-require_directory.field-0.0 refusal.NotADirectory c.from_residual-in_err-require_directory.result c.from_residual-in_err-require_directory.ensures.1 (by_test (not (is_directory c.in_ok-dir.dir.fid)) c.in_err-require_directory.field-0.0 refusal.NotADirectory c.in_err-require_directory.ensures).1
+
+pub returns-clause-cause : goal.returns-clause-cause
+returns-clause-cause g c = cause_sooner (g.D.Tape.tape c.args.disk.now) (g.D.Tape.tape c.find_dir.new.disk) (g.D.Tape.tape c.plan_named.new.disk) c.plan_named.result c.in_ok-dir.ensures.looks.looks.alone.grown c.plan_named.ensures.cause
+
+pub returns-clause-want : goal.returns-clause-want
+returns-clause-want g c = c.plan_named.ensures.want

@@ -1,7 +1,7 @@
-use Rattle.std.proofs.Common.{◌+◌, true, sym, ap, ◌∙◌}
-use Rattle.disk_records.proofs.Growing.{alone_twice}
+use Rattle.std.proofs.Common.{◌+◌, true, sym, ap, ◌∙◌, [], ◌≡◌}
+use Rattle.disk_records.proofs.Growing.{alone_twice, silent_twice}
 use Rattle.disk_records.proofs.Looking.{looks_pack}
-use Rattle.disk_records.specs.Tapes.{pack}
+use Rattle.disk_records.specs.Tapes.{pack, added}
 use Rattle.exec_words.specs.Texts.{made_text}
 use Rattle.exec_words.specs.declared.line.Line.TheVariants as line
 use Rattle.session_model.specs.Keeping.{world_of}
@@ -9,10 +9,13 @@ use Rattle.exec_session.specs.Meant.{kept}
 use Rattle.exec_session.specs.declared.rooms.NewEntry.{NewEntry}
 use Rattle.exec_steps.specs.Asked.{made_fid}
 use Rattle.exec_names.proofs.Ends.{begins_last, planning_stops, text_missing, writing_done, writing_stops}
-use Rattle.exec_steps.proofs.Frames.{stays_worked, works_looked, works_twice}
+use Rattle.exec_steps.proofs.Frames.{stays_worked, works_looked, works_twice, cause_after, cause_passed, if_refused, never_refused}
 use Rattle.exec_names.proofs.NamedEntries.{make_dir_adds_there, make_dir_on}
 use Rattle.exec_session.proofs.TakingUp.{typed_line}
 use Rattle.exec_steps.proofs.LookedBefore.{same_count}
+use Rattle.alto_words.specs.declared.fid.Fid.{Fid}
+use Rattle.exec_session.proofs.Stopping.{refused_of_stop}
+use Rattle.exec_session.specs.declared.stop.Stop.TheVariants as stop
 use Rattle.exec_names.proofs.mkdir.make_dir.Goals as goal
 
 pub plan_dir-requires : goal.plan_dir-requires
@@ -86,3 +89,33 @@ returns-in_err-made_text-clause-alone g c = alone_twice c.in_ok-entry.ensures.lo
 
 pub returns-clause-alone : goal.returns-clause-alone
 returns-clause-alone g c = alone_twice c.in_ok-entry.ensures.looks.looks.alone c.in_ok-fid.ensures.alone
+
+pub returns-in_err-entry-clause-unwritten : goal.returns-in_err-entry-clause-unwritten
+returns-in_err-entry-clause-unwritten g c = λ told. if_refused (added (g.D.Tape.tape c.args.disk.now) (g.D.Tape.tape c.plan_dir.new.disk) ≡ []) c.from_residual.result (c.in_err-entry.ensures.looks.looks.silent told)
+
+pub returns-in_err-entry-clause-cause : goal.returns-in_err-entry-clause-cause
+returns-in_err-entry-clause-cause g c = cause_passed (g.D.Tape.tape c.args.disk.now) (g.D.Tape.tape c.plan_dir.new.disk) c.in_err-entry.field-0.0 c.from_residual.result c.from_residual.ensures.1 c.in_err-entry.ensures.cause
+
+pub returns-in_err-entry-clause-alone : goal.returns-in_err-entry-clause-alone
+returns-in_err-entry-clause-alone g c = c.in_err-entry.ensures.looks.looks.alone
+
+pub returns-in_err-fid-clause-unwritten : goal.returns-in_err-fid-clause-unwritten
+returns-in_err-fid-clause-unwritten g c = λ told. refused_of_stop Fid (λ r. added (g.D.Tape.tape c.plan_dir.new.disk) (g.D.Tape.tape c.add_file.new.disk) ≡ []) (λ r. added (g.D.Tape.tape c.args.disk.now) (g.D.Tape.tape c.add_file.new.disk) ≡ []) c.in_err-fid.field-0.0 c.from_residual-in_err-fid.result c.from_residual-in_err-fid.ensures.1
+    (λ r none. silent_twice c.in_ok-entry.ensures.looks.looks.alone.grown c.in_err-fid.ensures.alone.grown (c.in_ok-entry.ensures.looks.looks.silent told) none) (c.in_err-fid.ensures.unwritten told)
+
+pub returns-in_err-fid-clause-cause : goal.returns-in_err-fid-clause-cause
+returns-in_err-fid-clause-cause g c =
+    cause_after (g.D.Tape.tape c.args.disk.now) (g.D.Tape.tape c.plan_dir.new.disk) (g.D.Tape.tape c.add_file.new.disk) c.in_err-fid.field-0.0 c.from_residual-in_err-fid.result c.from_residual-in_err-fid.ensures.1 c.in_ok-entry.ensures.looks.looks.alone.grown c.in_err-fid.ensures.cause
+
+pub returns-in_err-made_text-clause-unwritten : goal.returns-in_err-made_text-clause-unwritten
+returns-in_err-made_text-clause-unwritten g c =
+    λ told. never_refused (Unit {0}) (λ x. added (g.D.Tape.tape c.args.disk.now) (g.D.Tape.tape c.add_file.new.disk) ≡ []) stop.Memory c.from_residual-in_err-made_text.result c.from_residual-in_err-made_text.ensures.1 tt
+
+pub returns-in_err-made_text-clause-cause : goal.returns-in_err-made_text-clause-cause
+returns-in_err-made_text-clause-cause g c = cause_passed (g.D.Tape.tape c.args.disk.now) (g.D.Tape.tape c.add_file.new.disk) stop.Memory c.from_residual-in_err-made_text.result c.from_residual-in_err-made_text.ensures.1 tt
+
+pub returns-clause-unwritten : goal.returns-clause-unwritten
+returns-clause-unwritten g c = λ told. tt
+
+pub returns-clause-cause : goal.returns-clause-cause
+returns-clause-cause g c = tt

@@ -23,9 +23,11 @@ use Rattle.exec_session.specs.declared.stop.Stop.{Stop}
 use Rattle.exec_steps.proofs.Stepping.{if_hint_weaker}
 use Rattle.exec_names.specs.Entries.{OperandsRefuse, PlansDir}
 use Rattle.exec_names.proofs.Adding.{root_stands, touched_pair}
-use Rattle.exec_steps.proofs.Frames.{looks_about_within}
+use Rattle.exec_steps.proofs.Frames.{looks_about_within, cause_passed}
 use Rattle.exec_names.proofs.NamedEntries.{failing_more, make_dir_operand, root_touched}
 use Rattle.exec_names.proofs.NewSectors.{refused_then}
+use Rattle.exec_session.proofs.Causing.{cause_sooner, not_wanted}
+use Rattle.exec_session.proofs.Parts.{ok_of_error}
 use Rattle.exec_names.proofs.mkdir.plan_dir.Goals as goal
 
 -- ---- the name is taken
@@ -79,3 +81,19 @@ returns-clause-misled g c = λ told sound.
 
 pub returns-clause-looks : goal.returns-clause-looks
 returns-clause-looks g c = looks_about_twice (65588 * 196608) (omega arith) c.in_ok-refuse_held_base.ensures.looks c.plan_entry.ensures.looks
+
+pub returns-in_err-refuse_held_base-clause-planned : goal.returns-in_err-refuse_held_base-clause-planned
+returns-in_err-refuse_held_base-clause-planned g c = λ told sound. ok_of_error (λ s. s ≡ c.in_err-refuse_held_base.field-0.0) _ c.from_residual.result c.from_residual.ensures.1
+
+pub returns-in_err-refuse_held_base-clause-cause : goal.returns-in_err-refuse_held_base-clause-cause
+returns-in_err-refuse_held_base-clause-cause g c =
+    cause_passed (g.D.Tape.tape c.args.disk.now) (g.D.Tape.tape c.refuse_held_base.new.disk) c.in_err-refuse_held_base.field-0.0 c.from_residual.result c.from_residual.ensures.1 c.in_err-refuse_held_base.ensures.cause
+
+pub returns-in_err-refuse_held_base-clause-want : goal.returns-in_err-refuse_held_base-clause-want
+returns-in_err-refuse_held_base-clause-want g c = λ told. not_wanted (Unit {0}) c.in_err-refuse_held_base.field-0.0 c.from_residual.result c.from_residual.ensures.1 (c.in_err-refuse_held_base.ensures.want told)
+
+pub returns-clause-cause : goal.returns-clause-cause
+returns-clause-cause g c = cause_sooner (g.D.Tape.tape c.args.disk.now) (g.D.Tape.tape c.refuse_held_base.new.disk) (g.D.Tape.tape c.plan_entry.new.disk) c.plan_entry.result c.in_ok-refuse_held_base.ensures.looks.looks.alone.grown c.plan_entry.ensures.cause
+
+pub returns-clause-want : goal.returns-clause-want
+returns-clause-want g c = c.plan_entry.ensures.want

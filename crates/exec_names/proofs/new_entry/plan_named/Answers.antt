@@ -23,8 +23,10 @@ use Rattle.exec_session.specs.Rooms.{IsPlanned}
 use Rattle.exec_session.specs.declared.rooms.NewEntry.{NewEntry}
 use Rattle.exec_session.specs.declared.stop.Stop.{Stop}
 use Rattle.exec_names.specs.Entries.{IsNewEntry}
-use Rattle.exec_steps.proofs.Frames.{looks_about_within}
+use Rattle.exec_steps.proofs.Frames.{looks_about_within, cause_passed}
 use Rattle.exec_names.proofs.NewSectors.{refused_then}
+use Rattle.exec_session.proofs.Causing.{cause_sooner, not_wanted}
+use Rattle.exec_session.proofs.Parts.{ok_of_error}
 use Rattle.exec_names.proofs.new_entry.plan_named.Goals as goal
 
 -- a hint of the directory that misled
@@ -81,3 +83,18 @@ returns-clause-misled g c = λ told root stands.
 
 pub returns-clause-looks : goal.returns-clause-looks
 returns-clause-looks g c = looks_about_twice (65588 * 262144) (omega arith) c.in_ok-name.ensures.looks c.plan_entry.ensures.looks
+
+pub returns-in_err-name-clause-planned : goal.returns-in_err-name-clause-planned
+returns-in_err-name-clause-planned g c = λ told root dir. ok_of_error (λ s. s ≡ c.in_err-name.field-0.0) _ c.from_residual.result c.from_residual.ensures.1
+
+pub returns-in_err-name-clause-cause : goal.returns-in_err-name-clause-cause
+returns-in_err-name-clause-cause g c = cause_passed (g.D.Tape.tape c.args.disk.now) (g.D.Tape.tape c.name_given.new.disk) c.in_err-name.field-0.0 c.from_residual.result c.from_residual.ensures.1 c.in_err-name.ensures.cause
+
+pub returns-in_err-name-clause-want : goal.returns-in_err-name-clause-want
+returns-in_err-name-clause-want g c = λ told. not_wanted (List ℕ) c.in_err-name.field-0.0 c.from_residual.result c.from_residual.ensures.1 (c.in_err-name.ensures.want told)
+
+pub returns-clause-cause : goal.returns-clause-cause
+returns-clause-cause g c = cause_sooner (g.D.Tape.tape c.args.disk.now) (g.D.Tape.tape c.name_given.new.disk) (g.D.Tape.tape c.plan_entry.new.disk) c.plan_entry.result c.in_ok-name.ensures.looks.looks.alone.grown c.plan_entry.ensures.cause
+
+pub returns-clause-want : goal.returns-clause-want
+returns-clause-want g c = c.plan_entry.ensures.want

@@ -24,11 +24,13 @@ use Rattle.exec_steps.proofs.Stepping.{if_hint_weaker}
 use Rattle.exec_names.specs.Entries.{IsNewEntry}
 use Rattle.exec_names.specs.Plans.{kinds_refusal, place_refusal}
 use Rattle.exec_names.proofs.Adding.{root_stands}
-use Rattle.exec_steps.proofs.Frames.{looks_about_within}
+use Rattle.exec_steps.proofs.Frames.{looks_about_within, cause_passed}
 use Rattle.exec_names.proofs.NewSectors.{refused_then}
 use Rattle.exec_names.proofs.NamedEntries.{dir_stands}
 use Rattle.exec_names.proofs.NewPlaces.{if_ok_then, is_placed, kinds_pass, name_refuses, passed_by, place_absent, place_there, refused_by}
 use Rattle.exec_names.proofs.Refusing.{both}
+use Rattle.exec_session.proofs.Causing.{cause_refused, cause_sooner, not_wanted, not_wanted_refused}
+use Rattle.exec_session.proofs.Parts.{ok_of_error}
 use Rattle.exec_names.proofs.placing.plan_place.Goals as goal
 
 pub returns-in_err-dir-clause-refused : goal.returns-in_err-dir-clause-refused
@@ -119,3 +121,29 @@ returns-clause-misled g c = λ told sound.
 
 pub returns-clause-looks : goal.returns-clause-looks
 returns-clause-looks g c = looks_about_twice (65588 * 327680) (omega arith) c.in_ok-dir.ensures.looks c.plan_named.ensures.looks
+
+pub returns-in_err-dir-clause-placed : goal.returns-in_err-dir-clause-placed
+returns-in_err-dir-clause-placed g c = λ told sound. ok_of_error (λ s. s ≡ c.in_err-dir.field-0.0) _ c.from_residual.result c.from_residual.ensures.1
+
+pub returns-in_err-dir-clause-cause : goal.returns-in_err-dir-clause-cause
+returns-in_err-dir-clause-cause g c = cause_passed (g.D.Tape.tape c.args.disk.now) (g.D.Tape.tape c.find_dir.new.disk) c.in_err-dir.field-0.0 c.from_residual.result c.from_residual.ensures.1 c.in_err-dir.ensures.cause
+
+pub returns-in_err-dir-clause-want : goal.returns-in_err-dir-clause-want
+returns-in_err-dir-clause-want g c = λ told. not_wanted FileRef c.in_err-dir.field-0.0 c.from_residual.result c.from_residual.ensures.1 (c.in_err-dir.ensures.want told)
+
+pub returns-in_err-refuse_kinds-clause-placed : goal.returns-in_err-refuse_kinds-clause-placed
+returns-in_err-refuse_kinds-clause-placed g c = λ told sound. ok_of_error (λ s. s ≡ c.in_err-refuse_kinds.field-0.0) _ c.from_residual-in_err-refuse_kinds.result c.from_residual-in_err-refuse_kinds.ensures.1
+
+pub returns-in_err-refuse_kinds-clause-cause : goal.returns-in_err-refuse_kinds-clause-cause
+returns-in_err-refuse_kinds-clause-cause g c =
+    cause_refused (g.D.Tape.tape c.args.disk.now) (g.D.Tape.tape c.find_dir.new.disk) c.in_err-refuse_kinds.field-0.0 (refused_by (kinds_refusal c.args.file c.in_ok-dir.dir.fid) c.in_err-refuse_kinds.field-0.0 c.in_err-refuse_kinds.ensures).refusal c.from_residual-in_err-refuse_kinds.result c.from_residual-in_err-refuse_kinds.ensures.1 (refused_by (kinds_refusal c.args.file c.in_ok-dir.dir.fid) c.in_err-refuse_kinds.field-0.0 c.in_err-refuse_kinds.ensures).stop_is
+
+pub returns-in_err-refuse_kinds-clause-want : goal.returns-in_err-refuse_kinds-clause-want
+returns-in_err-refuse_kinds-clause-want g c =
+    λ told. not_wanted_refused c.in_err-refuse_kinds.field-0.0 (refused_by (kinds_refusal c.args.file c.in_ok-dir.dir.fid) c.in_err-refuse_kinds.field-0.0 c.in_err-refuse_kinds.ensures).refusal c.from_residual-in_err-refuse_kinds.result c.from_residual-in_err-refuse_kinds.ensures.1 (refused_by (kinds_refusal c.args.file c.in_ok-dir.dir.fid) c.in_err-refuse_kinds.field-0.0 c.in_err-refuse_kinds.ensures).stop_is
+
+pub returns-clause-cause : goal.returns-clause-cause
+returns-clause-cause g c = cause_sooner (g.D.Tape.tape c.args.disk.now) (g.D.Tape.tape c.find_dir.new.disk) (g.D.Tape.tape c.plan_named.new.disk) c.plan_named.result c.in_ok-dir.ensures.looks.looks.alone.grown c.plan_named.ensures.cause
+
+pub returns-clause-want : goal.returns-clause-want
+returns-clause-want g c = c.plan_named.ensures.want

@@ -1,15 +1,16 @@
-use Rattle.std.proofs.Common.{Result, [], arith, refl, subst, sym, ◌∷◌}
-use Rattle.disk_records.specs.Causes.{other}
+use Rattle.std.proofs.Common.{Result, [], arith, refl, subst, sym, ◌∷◌, ap, length}
+use Rattle.disk_records.specs.Causes.{other, HasCause, never}
 use Rattle.disk_records.specs.Tapes.{added, pack}
 use Rattle.exec_steps.specs.laws_call.specs.Acting.{around}
 use Rattle.pack_model.specs.operations.Step.Operation.{leave}
-use Rattle.exec_session.specs.Meant.{kept}
-use Rattle.exec_session.specs.Stops.{stop_entered}
+use Rattle.exec_session.specs.Meant.{kept, IfRefused}
+use Rattle.exec_session.specs.Stops.{stop_entered, cause_of_stop}
 use Rattle.exec_session.specs.declared.stop.Stop.{Stop}
 use Rattle.exec_steps.specs.Midway.{StepsOn}
 use Rattle.exec_steps.proofs.Answers.{entered_hints, entered_operates, misled_quiet}
 use Rattle.exec_steps.proofs.Calling.{hints_step, in_one}
 use Rattle.exec_names.proofs.Leaving.{leaving_cause, leaving_roomy, leaving_untaken, never_absent, ordinary_entry}
+use Rattle.exec_steps.proofs.Answers.{entered_cause, entered_unrefused}
 use Rattle.exec_names.proofs.rename.leave_dir.Goals as goal
 
 pub returns-clause-steps : goal.returns-clause-steps
@@ -29,3 +30,18 @@ returns-clause-steps g c = λ told may.
     (leaving_cause a b c.leave-left.result e.cause (λ is. never_absent (pack a) found may (e.absent told may.dir is)))
     (leaving_untaken a b c.leave-left.result e.cause) (leaving_roomy a b c.leave-left.result e.cause)
     (e.misled told may.dir) (misled_quiet (around a s.hints.table s.tally) (around b c.leave-left.new.hints.table c.leave-left.new.tally) c.leave-left.result (e.quiet told))))
+
+pub returns-clause-unrefused : goal.returns-clause-unrefused
+returns-clause-unrefused g c = subst (λ (r : Result (Unit {0}) Stop). IfRefused r (λ x. ⊥)) (sym c.entered.ensures) (entered_unrefused c.args.found.now.dir c.leave-left.result)
+
+pub returns-clause-cause : goal.returns-clause-cause
+returns-clause-cause g c = subst (λ (r : Result (Unit {0}) Stop). HasCause cause_of_stop (g.D.Tape.tape c.args.disk.now) (g.D.Tape.tape c.leave-left.new.disk) r) (sym c.entered.ensures) (entered_cause other never never (g.D.Tape.tape c.args.disk.now) (g.D.Tape.tape c.leave-left.new.disk) c.args.found.now.dir c.leave-left.result c.leave-left.ensures.cause)
+
+pub returns-clause-works : goal.returns-clause-works
+returns-clause-works g c = record { shape = refl; sized = ap length c.leave-left.ensures.table; moment = refl; level = refl; memory = refl; need = refl; refused = c.leave-left.ensures.refused }
+
+pub returns-clause-descriptor : goal.returns-clause-descriptor
+returns-clause-descriptor g c = refl
+
+pub returns-clause-alone : goal.returns-clause-alone
+returns-clause-alone g c = c.leave-left.ensures.alone

@@ -19,10 +19,13 @@ use Rattle.exec_session.specs.declared.operands.Found.{Found}
 use Rattle.exec_session.specs.declared.rooms.NewEntry.{NewEntry}
 use Rattle.exec_names.specs.Entries.{OperandsRefuse}
 use Rattle.exec_names.specs.Plans.{IsPlaced, place_refusal}
-use Rattle.exec_steps.proofs.Frames.{looks_about_within}
+use Rattle.exec_steps.proofs.Frames.{looks_about_within, cause_after, cause_passed}
 use Rattle.exec_names.proofs.NamedEntries.{failing_more}
 use Rattle.exec_names.proofs.NewPlaces.{names_place, names_source, names_source_dirs}
 use Rattle.exec_names.proofs.Refusing.{source_absent, source_found}
+use Rattle.disk_records.proofs.Growing.{alone_twice}
+use Rattle.exec_session.proofs.Causing.{not_wanted}
+use Rattle.exec_session.proofs.Parts.{ok_of_error}
 use Rattle.exec_names.proofs.rename.plan_rename.Goals as goal
 
 pub returns-in_err-found-clause-refused : goal.returns-in_err-found-clause-refused
@@ -116,3 +119,35 @@ returns-clause-planned g c = λ told sound.
         entry = placed.entry;
       };
     }
+
+pub returns-in_err-found-clause-planned : goal.returns-in_err-found-clause-planned
+returns-in_err-found-clause-planned g c = λ told sound. ok_of_error (λ s. s ≡ c.in_err-found.field-0.0) _ c.from_residual.result c.from_residual.ensures.1
+
+pub returns-in_err-found-clause-cause : goal.returns-in_err-found-clause-cause
+returns-in_err-found-clause-cause g c = cause_passed (g.D.Tape.tape c.args.disk.now) (g.D.Tape.tape c.find_path.new.disk) c.in_err-found.field-0.0 c.from_residual.result c.from_residual.ensures.1 c.in_err-found.ensures.cause
+
+pub returns-in_err-found-clause-want : goal.returns-in_err-found-clause-want
+returns-in_err-found-clause-want g c = λ told. not_wanted Found c.in_err-found.field-0.0 c.from_residual.result c.from_residual.ensures.1 (c.in_err-found.ensures.want told)
+
+pub returns-in_err-entry-clause-planned : goal.returns-in_err-entry-clause-planned
+returns-in_err-entry-clause-planned g c = λ told sound. ok_of_error (λ s. s ≡ c.in_err-entry.field-0.0) _ c.from_residual-in_err-entry.result c.from_residual-in_err-entry.ensures.1
+
+pub returns-in_err-entry-clause-cause : goal.returns-in_err-entry-clause-cause
+returns-in_err-entry-clause-cause g c =
+    cause_after (g.D.Tape.tape c.args.disk.now) (g.D.Tape.tape c.find_path.new.disk) (g.D.Tape.tape c.plan_place.new.disk) c.in_err-entry.field-0.0 c.from_residual-in_err-entry.result c.from_residual-in_err-entry.ensures.1 c.in_ok-found.ensures.looks.looks.alone.grown c.in_err-entry.ensures.cause
+
+pub returns-in_err-entry-clause-want : goal.returns-in_err-entry-clause-want
+returns-in_err-entry-clause-want g c = λ told. not_wanted NewEntry c.in_err-entry.field-0.0 c.from_residual-in_err-entry.result c.from_residual-in_err-entry.ensures.1 (c.in_err-entry.ensures.want told)
+
+pub returns-in_err-leader_at-clause-planned : goal.returns-in_err-leader_at-clause-planned
+returns-in_err-leader_at-clause-planned g c = λ told sound. ok_of_error (λ s. s ≡ c.in_err-leader_at.field-0.0) _ c.from_residual-in_err-leader_at.result c.from_residual-in_err-leader_at.ensures.1
+
+pub returns-in_err-leader_at-clause-cause : goal.returns-in_err-leader_at-clause-cause
+returns-in_err-leader_at-clause-cause g c =
+    cause_after (g.D.Tape.tape c.args.disk.now) (g.D.Tape.tape c.plan_place.new.disk) (g.D.Tape.tape c.leader_of.new.disk) c.in_err-leader_at.field-0.0 c.from_residual-in_err-leader_at.result c.from_residual-in_err-leader_at.ensures.1 (alone_twice c.in_ok-found.ensures.looks.looks.alone c.in_ok-entry.ensures.looks.looks.alone).grown c.in_err-leader_at.ensures.cause
+
+pub returns-in_err-leader_at-clause-want : goal.returns-in_err-leader_at-clause-want
+returns-in_err-leader_at-clause-want g c = λ told. not_wanted ℕ c.in_err-leader_at.field-0.0 c.from_residual-in_err-leader_at.result c.from_residual-in_err-leader_at.ensures.1 (c.in_err-leader_at.ensures.want told)
+
+pub returns-clause-cause : goal.returns-clause-cause
+returns-clause-cause g c = tt

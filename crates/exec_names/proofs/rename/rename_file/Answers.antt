@@ -1,7 +1,7 @@
-use Rattle.std.proofs.Common.{◌≡◌, subst, sym}
-use Rattle.disk_records.proofs.Growing.{alone_twice}
+use Rattle.std.proofs.Common.{◌≡◌, subst, sym, []}
+use Rattle.disk_records.proofs.Growing.{alone_twice, silent_twice}
 use Rattle.disk_records.proofs.Looking.{looks_pack}
-use Rattle.disk_records.specs.Tapes.{Taped, pack}
+use Rattle.disk_records.specs.Tapes.{Taped, pack, added}
 use Rattle.exec_words.specs.Typed.{is_typed_path}
 use Rattle.exec_words.specs.declared.line.Line.TheVariants as line
 use Rattle.exec_words.specs.declared.line.Path.{Path}
@@ -13,11 +13,13 @@ use Rattle.exec_session.specs.Turned.{Begins}
 use Rattle.exec_names.specs.Plans.{IsRenaming}
 use Rattle.exec_names.specs.declared.rename.Renaming.{Renaming}
 use Rattle.exec_names.proofs.Ends.{begins_sound, planning_stops, text_missing, writing_done, writing_stops}
-use Rattle.exec_steps.proofs.Frames.{stays_worked, works_looked, works_twice}
+use Rattle.exec_steps.proofs.Frames.{stays_worked, works_looked, works_twice, cause_after, cause_passed, if_refused, never_refused}
 use Rattle.exec_session.proofs.TakingUp.{typed_line}
 use Rattle.exec_names.proofs.Refusing.{both}
 use Rattle.exec_names.proofs.Sorts.{rename_on}
 use Rattle.exec_steps.proofs.LookedBefore.{same_count}
+use Rattle.exec_session.proofs.Stopping.{refused_of_stop}
+use Rattle.exec_session.specs.declared.stop.Stop.TheVariants as stop
 use Rattle.exec_names.proofs.rename.rename_file.Goals as goal
 
 -- what is planned, on the pack that is as it was
@@ -110,3 +112,33 @@ returns-clause-stays g c =
     let h = c.in_ok-plan.ensures in
     let w = c.in_ok-apply_rename.ensures in
     stays_worked (g.D.Tape.tape c.args.disk.now) (g.D.Tape.tape c.apply_rename.new.disk) (works_twice (works_looked h.looks.looked) w.works) (alone_twice h.looks.looks.alone w.alone).grown.form c.requires.obeys.formed
+
+pub returns-in_err-plan-clause-unwritten : goal.returns-in_err-plan-clause-unwritten
+returns-in_err-plan-clause-unwritten g c = λ told. if_refused (added (g.D.Tape.tape c.args.disk.now) (g.D.Tape.tape c.plan_rename.new.disk) ≡ []) c.from_residual.result (c.in_err-plan.ensures.looks.looks.silent told)
+
+pub returns-in_err-plan-clause-cause : goal.returns-in_err-plan-clause-cause
+returns-in_err-plan-clause-cause g c = cause_passed (g.D.Tape.tape c.args.disk.now) (g.D.Tape.tape c.plan_rename.new.disk) c.in_err-plan.field-0.0 c.from_residual.result c.from_residual.ensures.1 c.in_err-plan.ensures.cause
+
+pub returns-in_err-plan-clause-alone : goal.returns-in_err-plan-clause-alone
+returns-in_err-plan-clause-alone g c = c.in_err-plan.ensures.looks.looks.alone
+
+pub returns-in_err-apply_rename-clause-unwritten : goal.returns-in_err-apply_rename-clause-unwritten
+returns-in_err-apply_rename-clause-unwritten g c = λ told. refused_of_stop (Unit {0}) (λ r. added (g.D.Tape.tape c.plan_rename.new.disk) (g.D.Tape.tape c.apply_rename.new.disk) ≡ []) (λ r. added (g.D.Tape.tape c.args.disk.now) (g.D.Tape.tape c.apply_rename.new.disk) ≡ []) c.in_err-apply_rename.field-0.0 c.from_residual-in_err-apply_rename.result c.from_residual-in_err-apply_rename.ensures.1
+    (λ r none. silent_twice c.in_ok-plan.ensures.looks.looks.alone.grown c.in_err-apply_rename.ensures.alone.grown (c.in_ok-plan.ensures.looks.looks.silent told) none) (c.in_err-apply_rename.ensures.unwritten told)
+
+pub returns-in_err-apply_rename-clause-cause : goal.returns-in_err-apply_rename-clause-cause
+returns-in_err-apply_rename-clause-cause g c =
+    cause_after (g.D.Tape.tape c.args.disk.now) (g.D.Tape.tape c.plan_rename.new.disk) (g.D.Tape.tape c.apply_rename.new.disk) c.in_err-apply_rename.field-0.0 c.from_residual-in_err-apply_rename.result c.from_residual-in_err-apply_rename.ensures.1 c.in_ok-plan.ensures.looks.looks.alone.grown c.in_err-apply_rename.ensures.cause
+
+pub returns-in_err-done_text-clause-unwritten : goal.returns-in_err-done_text-clause-unwritten
+returns-in_err-done_text-clause-unwritten g c =
+    λ told. never_refused (Unit {0}) (λ x. added (g.D.Tape.tape c.args.disk.now) (g.D.Tape.tape c.apply_rename.new.disk) ≡ []) stop.Memory c.from_residual-in_err-done_text.result c.from_residual-in_err-done_text.ensures.1 tt
+
+pub returns-in_err-done_text-clause-cause : goal.returns-in_err-done_text-clause-cause
+returns-in_err-done_text-clause-cause g c = cause_passed (g.D.Tape.tape c.args.disk.now) (g.D.Tape.tape c.apply_rename.new.disk) stop.Memory c.from_residual-in_err-done_text.result c.from_residual-in_err-done_text.ensures.1 tt
+
+pub returns-clause-unwritten : goal.returns-clause-unwritten
+returns-clause-unwritten g c = λ told. tt
+
+pub returns-clause-cause : goal.returns-clause-cause
+returns-clause-cause g c = tt

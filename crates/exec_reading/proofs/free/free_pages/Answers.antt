@@ -9,6 +9,9 @@ use Rattle.exec_session.proofs.TakingUp.{few_none}
 use Rattle.exec_reading.proofs.Answering.{free_reads, passes_memory, reading_turns}
 use Rattle.exec_reading.proofs.Passing.{looks_alone, uncounted}
 use Rattle.exec_reading.proofs.Untaken.{free_refused}
+use Rattle.exec_session.proofs.Causing.{cause_by_look, cause_passed}
+use Rattle.exec_session.specs.Stops.{stop_of_look}
+use Rattle.exec_session.specs.declared.stop.Stop.TheVariants as stop
 use Rattle.exec_reading.proofs.free.free_pages.Goals as goal
 
 pub returns-in_err-free-clause-turns : goal.returns-in_err-free-clause-turns
@@ -44,3 +47,30 @@ returns-clause-turns g c = λ told.
       misled = tt;
     })
     (λ u keeping handy none. few_none line.Free (λ p m n. tt) (pack old) u.model (replied (Ok c.in_ok-free_text.field-0)) (new.runs - old.runs))
+
+pub returns-in_err-free-clause-silent : goal.returns-in_err-free-clause-silent
+returns-in_err-free-clause-silent g c = c.count_free.ensures.looks.silent
+
+pub returns-in_err-free_text-clause-silent : goal.returns-in_err-free_text-clause-silent
+returns-in_err-free_text-clause-silent g c = c.count_free.ensures.looks.silent
+
+pub returns-clause-silent : goal.returns-clause-silent
+returns-clause-silent g c = c.count_free.ensures.looks.silent
+
+pub returns-in_err-free-clause-alone : goal.returns-in_err-free-clause-alone
+returns-in_err-free-clause-alone g c = c.count_free.ensures.looks.alone
+
+pub returns-in_err-free_text-clause-alone : goal.returns-in_err-free_text-clause-alone
+returns-in_err-free_text-clause-alone g c = c.count_free.ensures.looks.alone
+
+pub returns-clause-alone : goal.returns-clause-alone
+returns-clause-alone g c = c.count_free.ensures.looks.alone
+
+pub returns-in_err-free-clause-cause : goal.returns-in_err-free-clause-cause
+returns-in_err-free-clause-cause g c = cause_passed (g.D.Tape.tape c.args.disk.now) (g.D.Tape.tape c.count_free.new.disk) (stop_of_look c.in_err-free.field-0.0) c.from_residual.result c.from_residual.ensures.1 (cause_by_look (g.D.Tape.tape c.args.disk.now) (g.D.Tape.tape c.count_free.new.disk) c.in_err-free.field-0.0 c.in_err-free.ensures.cause)
+
+pub returns-in_err-free_text-clause-cause : goal.returns-in_err-free_text-clause-cause
+returns-in_err-free_text-clause-cause g c = cause_passed (g.D.Tape.tape c.args.disk.now) (g.D.Tape.tape c.count_free.new.disk) stop.Memory c.from_residual-in_err-free_text.result c.from_residual-in_err-free_text.ensures.1 tt
+
+pub returns-clause-cause : goal.returns-clause-cause
+returns-clause-cause g c = tt

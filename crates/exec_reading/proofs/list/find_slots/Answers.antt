@@ -15,9 +15,10 @@ use Rattle.directory.specs.Found.{AreSlots}
 use Rattle.exec_session.specs.Found.{IsNoDirOf}
 use Rattle.exec_session.proofs.Finding.{dir_found}
 use Rattle.exec_session.proofs.Looking.{hints_looked, looks_about_twice}
-use Rattle.exec_session.proofs.OrdinaryFiles.{ok_test}
+use Rattle.exec_session.proofs.OrdinaryFiles.{ok_test, by_test}
 use Rattle.exec_reading.proofs.Names.{is_dir, list_said, names_among, no_dir_refused, wrong_dir_refused}
-use Rattle.exec_reading.proofs.Passing.{root_touches, test_refused, touches_dir, unfound, unlisted}
+use Rattle.exec_reading.proofs.Passing.{root_touches, test_refused, touches_dir, unfound, unlisted, looks_most}
+use Rattle.exec_session.proofs.Causing.{cause_passed, cause_refused}
 use Rattle.exec_reading.proofs.list.find_slots.Goals as goal
 
 pub returns-in_err-dir-clause-reads : goal.returns-in_err-dir-clause-reads
@@ -70,3 +71,19 @@ returns-in_err-list-clause-looks g c = looks_about_twice (65588 * 131072) (omega
 
 pub returns-clause-looks : goal.returns-clause-looks
 returns-clause-looks g c = looks_about_twice (65588 * 131072) (omega arith) c.find_dir.ensures.looks (hints_looked c.find_dir.new.session c.list.new.hints c.list.ensures.looks c.list.ensures.table c.list.ensures.refused c.list.ensures.handy)
+
+pub returns-in_err-dir-clause-cause : goal.returns-in_err-dir-clause-cause
+returns-in_err-dir-clause-cause g c = cause_passed (g.D.Tape.tape c.args.disk.now) (g.D.Tape.tape c.find_dir.new.disk) c.in_err-dir.field-0.0 c.from_residual.result c.from_residual.ensures.1 c.in_err-dir.ensures.cause
+
+pub returns-in_err-require_directory-clause-cause : goal.returns-in_err-require_directory-clause-cause
+returns-in_err-require_directory-clause-cause g c =
+    cause_refused (g.D.Tape.tape c.args.disk.now) (g.D.Tape.tape c.find_dir.new.disk) c.in_err-require_directory.field-0.0 refusal.NotADirectory c.from_residual-in_err-require_directory.result c.from_residual-in_err-require_directory.ensures.1 (by_test (not (is_directory c.in_ok-dir.dir.fid)) c.in_err-require_directory.field-0.0 refusal.NotADirectory c.in_err-require_directory.ensures).1
+
+pub returns-in_err-dir-clause-looks : goal.returns-in_err-dir-clause-looks
+returns-in_err-dir-clause-looks g c = looks_most (65588 * 131072) (omega arith) c.in_err-dir.ensures.looks
+
+pub returns-in_err-require_directory-clause-looks : goal.returns-in_err-require_directory-clause-looks
+returns-in_err-require_directory-clause-looks g c = looks_most (65588 * 131072) (omega arith) c.in_ok-dir.ensures.looks
+
+pub returns-clause-cause : goal.returns-clause-cause
+returns-clause-cause g c = tt

@@ -10,6 +10,8 @@ use Rattle.exec_session.proofs.Looking.{stays_looked}
 use Rattle.exec_session.proofs.TakingUp.{few_none}
 use Rattle.exec_reading.proofs.Answering.{list_reads, passes_memory, passes_stop, reading_turns}
 use Rattle.exec_reading.proofs.Names.{names_among}
+use Rattle.exec_session.proofs.Causing.{cause_passed}
+use Rattle.exec_session.specs.declared.stop.Stop.TheVariants as stop
 use Rattle.exec_reading.proofs.list.list_names.Goals as goal
 
 pub returns-in_err-slots-clause-turns : goal.returns-in_err-slots-clause-turns
@@ -65,3 +67,39 @@ returns-in_err-names-clause-stays g c = stays_looked (g.D.Tape.tape c.args.disk.
 
 pub returns-in_err-text_of-clause-stays : goal.returns-in_err-text_of-clause-stays
 returns-in_err-text_of-clause-stays g c = stays_looked (g.D.Tape.tape c.args.disk.now) (g.D.Tape.tape c.find_slots.new.disk) c.find_slots.ensures.looks.looked c.find_slots.ensures.looks.looks.alone.grown.form c.requires.obeys.formed
+
+pub returns-in_err-slots-clause-silent : goal.returns-in_err-slots-clause-silent
+returns-in_err-slots-clause-silent g c = c.in_err-slots.ensures.looks.looks.silent
+
+pub returns-in_err-slots-clause-cause : goal.returns-in_err-slots-clause-cause
+returns-in_err-slots-clause-cause g c = cause_passed (g.D.Tape.tape c.args.disk.now) (g.D.Tape.tape c.find_slots.new.disk) c.in_err-slots.field-0.0 c.from_residual.result c.from_residual.ensures.1 c.in_err-slots.ensures.cause
+
+pub returns-in_err-slots-clause-alone : goal.returns-in_err-slots-clause-alone
+returns-in_err-slots-clause-alone g c = c.in_err-slots.ensures.looks.looks.alone
+
+pub returns-in_err-names-clause-silent : goal.returns-in_err-names-clause-silent
+returns-in_err-names-clause-silent g c = c.in_ok-slots.ensures.looks.looks.silent
+
+pub returns-in_err-names-clause-cause : goal.returns-in_err-names-clause-cause
+returns-in_err-names-clause-cause g c = cause_passed (g.D.Tape.tape c.args.disk.now) (g.D.Tape.tape c.find_slots.new.disk) stop.Memory c.from_residual-in_err-names.result c.from_residual-in_err-names.ensures.1 tt
+
+pub returns-in_err-names-clause-alone : goal.returns-in_err-names-clause-alone
+returns-in_err-names-clause-alone g c = c.in_ok-slots.ensures.looks.looks.alone
+
+pub returns-in_err-text_of-clause-silent : goal.returns-in_err-text_of-clause-silent
+returns-in_err-text_of-clause-silent g c = c.in_ok-slots.ensures.looks.looks.silent
+
+pub returns-in_err-text_of-clause-cause : goal.returns-in_err-text_of-clause-cause
+returns-in_err-text_of-clause-cause g c = cause_passed (g.D.Tape.tape c.args.disk.now) (g.D.Tape.tape c.find_slots.new.disk) stop.Memory c.from_residual-in_err-text_of.result c.from_residual-in_err-text_of.ensures.1 tt
+
+pub returns-in_err-text_of-clause-alone : goal.returns-in_err-text_of-clause-alone
+returns-in_err-text_of-clause-alone g c = c.in_ok-slots.ensures.looks.looks.alone
+
+pub returns-clause-silent : goal.returns-clause-silent
+returns-clause-silent g c = c.in_ok-slots.ensures.looks.looks.silent
+
+pub returns-clause-cause : goal.returns-clause-cause
+returns-clause-cause g c = tt
+
+pub returns-clause-alone : goal.returns-clause-alone
+returns-clause-alone g c = c.in_ok-slots.ensures.looks.looks.alone

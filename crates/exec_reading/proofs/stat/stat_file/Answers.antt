@@ -7,6 +7,8 @@ use Rattle.exec_session.specs.Meant.{replied}
 use Rattle.exec_session.proofs.Looking.{stays_looked}
 use Rattle.exec_session.proofs.TakingUp.{few_none}
 use Rattle.exec_reading.proofs.Answering.{passes_memory, passes_stop, reading_turns, stat_reads}
+use Rattle.exec_session.proofs.Causing.{cause_passed}
+use Rattle.exec_session.specs.declared.stop.Stop.TheVariants as stop
 use Rattle.exec_reading.proofs.stat.stat_file.Goals as goal
 
 pub returns-in_err-stat-clause-turns : goal.returns-in_err-stat-clause-turns
@@ -46,3 +48,30 @@ returns-in_err-stat_text-clause-stays g c = stays_looked (g.D.Tape.tape c.args.d
 
 pub returns-clause-stays : goal.returns-clause-stays
 returns-clause-stays g c = stays_looked (g.D.Tape.tape c.args.disk.now) (g.D.Tape.tape c.find_stat.new.disk) c.find_stat.ensures.looks.looked c.find_stat.ensures.looks.looks.alone.grown.form c.requires.obeys.formed
+
+pub returns-in_err-stat-clause-silent : goal.returns-in_err-stat-clause-silent
+returns-in_err-stat-clause-silent g c = c.in_err-stat.ensures.looks.looks.silent
+
+pub returns-in_err-stat-clause-cause : goal.returns-in_err-stat-clause-cause
+returns-in_err-stat-clause-cause g c = cause_passed (g.D.Tape.tape c.args.disk.now) (g.D.Tape.tape c.find_stat.new.disk) c.in_err-stat.field-0.0 c.from_residual.result c.from_residual.ensures.1 c.in_err-stat.ensures.cause
+
+pub returns-in_err-stat-clause-alone : goal.returns-in_err-stat-clause-alone
+returns-in_err-stat-clause-alone g c = c.in_err-stat.ensures.looks.looks.alone
+
+pub returns-in_err-stat_text-clause-silent : goal.returns-in_err-stat_text-clause-silent
+returns-in_err-stat_text-clause-silent g c = c.in_ok-stat.ensures.looks.looks.silent
+
+pub returns-in_err-stat_text-clause-cause : goal.returns-in_err-stat_text-clause-cause
+returns-in_err-stat_text-clause-cause g c = cause_passed (g.D.Tape.tape c.args.disk.now) (g.D.Tape.tape c.find_stat.new.disk) stop.Memory c.from_residual-in_err-stat_text.result c.from_residual-in_err-stat_text.ensures.1 tt
+
+pub returns-in_err-stat_text-clause-alone : goal.returns-in_err-stat_text-clause-alone
+returns-in_err-stat_text-clause-alone g c = c.in_ok-stat.ensures.looks.looks.alone
+
+pub returns-clause-silent : goal.returns-clause-silent
+returns-clause-silent g c = c.in_ok-stat.ensures.looks.looks.silent
+
+pub returns-clause-cause : goal.returns-clause-cause
+returns-clause-cause g c = tt
+
+pub returns-clause-alone : goal.returns-clause-alone
+returns-clause-alone g c = c.in_ok-stat.ensures.looks.looks.alone

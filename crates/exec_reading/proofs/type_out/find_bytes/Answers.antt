@@ -22,8 +22,10 @@ use Rattle.exec_session.specs.Found.{dirs_followed, files_followed, operand, ope
 use Rattle.exec_session.specs.Meant.{IfHint}
 use Rattle.exec_session.proofs.Looking.{looks_about_twice, quick_stays, soon_twice}
 use Rattle.exec_reading.proofs.Contents.{file_lives, named, type_said}
-use Rattle.exec_reading.proofs.Passing.{follows_file, handy_front, handy_of, ok_then, reads_of, touches_dirs, touches_file, unfound}
+use Rattle.exec_reading.proofs.Passing.{follows_file, handy_front, handy_of, ok_then, reads_of, touches_dirs, touches_file, unfound, looks_most}
 use Rattle.exec_reading.proofs.Untaken.{type_refused}
+use Rattle.exec_session.proofs.Causing.{cause_passed, cause_sooner}
+use Rattle.exec_session.proofs.Parts.{ok_of_error}
 use Rattle.exec_reading.proofs.type_out.find_bytes.Goals as goal
 
 pub returns-in_err-file-clause-reads : goal.returns-in_err-file-clause-reads
@@ -75,3 +77,15 @@ returns-clause-quick g c = λ path told is handy.
     on_ok_map c.bytes_of.result
     (λ next. soon_twice (sought_pages m path + 2) (file_length (pack mid) f / 512 + 3) (type_runs m path) old mid new (omega (arith, there)) about.looked c.bytes_of.ensures.looks.looked first next)
     (c.bytes_of.ensures.quick told (quick_stays f about told mine))
+
+pub returns-in_err-file-clause-cause : goal.returns-in_err-file-clause-cause
+returns-in_err-file-clause-cause g c = cause_passed (g.D.Tape.tape c.args.disk.now) (g.D.Tape.tape c.find_ordinary.new.disk) c.in_err-file.field-0.0 c.from_residual.result c.from_residual.ensures.1 c.in_err-file.ensures.cause
+
+pub returns-clause-cause : goal.returns-clause-cause
+returns-clause-cause g c = cause_sooner (g.D.Tape.tape c.args.disk.now) (g.D.Tape.tape c.find_ordinary.new.disk) (g.D.Tape.tape c.bytes_of.new.disk) c.bytes_of.result c.in_ok-file.ensures.looks.looks.alone.grown c.bytes_of.ensures.cause
+
+pub returns-in_err-file-clause-looks : goal.returns-in_err-file-clause-looks
+returns-in_err-file-clause-looks g c = looks_most (65588 * 139264) (omega arith) c.in_err-file.ensures.looks
+
+pub returns-in_err-file-clause-quick : goal.returns-in_err-file-clause-quick
+returns-in_err-file-clause-quick g c = λ path told is handy. ok_of_error (λ s. s ≡ c.in_err-file.field-0.0) _ c.from_residual.result c.from_residual.ensures.1

@@ -8,6 +8,7 @@ use Rattle.exec_session.proofs.Looking.{stays_looked}
 use Rattle.exec_session.proofs.TakingUp.{need_none}
 use Rattle.exec_reading.proofs.Answering.{passes_memory, passes_stop, reading_turns, type_reads}
 use Rattle.exec_reading.proofs.Passing.{few_stopped, type_few}
+use Rattle.exec_session.proofs.Causing.{cause_passed}
 use Rattle.exec_reading.proofs.type_out.type_file.Goals as goal
 
 pub returns-in_err-bytes-clause-turns : goal.returns-in_err-bytes-clause-turns
@@ -51,3 +52,30 @@ returns-in_err-type_text-clause-stays g c = stays_looked (g.D.Tape.tape c.args.d
 
 pub returns-clause-stays : goal.returns-clause-stays
 returns-clause-stays g c = stays_looked (g.D.Tape.tape c.args.disk.now) (g.D.Tape.tape c.find_bytes.new.disk) c.find_bytes.ensures.looks.looked c.find_bytes.ensures.looks.looks.alone.grown.form c.requires.obeys.formed
+
+pub returns-in_err-bytes-clause-silent : goal.returns-in_err-bytes-clause-silent
+returns-in_err-bytes-clause-silent g c = c.in_err-bytes.ensures.looks.looks.silent
+
+pub returns-in_err-bytes-clause-cause : goal.returns-in_err-bytes-clause-cause
+returns-in_err-bytes-clause-cause g c = cause_passed (g.D.Tape.tape c.args.disk.now) (g.D.Tape.tape c.find_bytes.new.disk) c.in_err-bytes.field-0.0 c.from_residual.result c.from_residual.ensures.1 c.in_err-bytes.ensures.cause
+
+pub returns-in_err-bytes-clause-alone : goal.returns-in_err-bytes-clause-alone
+returns-in_err-bytes-clause-alone g c = c.in_err-bytes.ensures.looks.looks.alone
+
+pub returns-in_err-type_text-clause-silent : goal.returns-in_err-type_text-clause-silent
+returns-in_err-type_text-clause-silent g c = c.in_ok-bytes.ensures.looks.looks.silent
+
+pub returns-in_err-type_text-clause-cause : goal.returns-in_err-type_text-clause-cause
+returns-in_err-type_text-clause-cause g c = cause_passed (g.D.Tape.tape c.args.disk.now) (g.D.Tape.tape c.find_bytes.new.disk) stop.Memory c.from_residual-in_err-type_text.result c.from_residual-in_err-type_text.ensures.1 tt
+
+pub returns-in_err-type_text-clause-alone : goal.returns-in_err-type_text-clause-alone
+returns-in_err-type_text-clause-alone g c = c.in_ok-bytes.ensures.looks.looks.alone
+
+pub returns-clause-silent : goal.returns-clause-silent
+returns-clause-silent g c = c.in_ok-bytes.ensures.looks.looks.silent
+
+pub returns-clause-cause : goal.returns-clause-cause
+returns-clause-cause g c = tt
+
+pub returns-clause-alone : goal.returns-clause-alone
+returns-clause-alone g c = c.in_ok-bytes.ensures.looks.looks.alone

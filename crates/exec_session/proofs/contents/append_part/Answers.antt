@@ -1,6 +1,23 @@
-use Rattle.std.proofs.Common.{arith}
+use Rattle.std.proofs.Common.{◌≤◌, arith, [], ℕ}
+use Rattle.alto_words.specs.declared.fid.Fid.{Fid}
+use Rattle.disk_records.specs.Packs.{Pack}
+use Rattle.page_seeking.specs.Seeking.{file_length}
 use Rattle.exec_session.proofs.Parts.{ok_of_error}
+use Rattle.exec_session.proofs.Causing.{cause_by_file, cause_passed}
+use Rattle.exec_session.proofs.Looking.{hints_looked}
+use Rattle.exec_session.specs.Stops.{stop_of_file}
+use Rattle.exec_session.specs.declared.stop.Stop.TheVariants.{Memory}
+use Rattle.exec_session.proofs.Stopping.{hint_of_file, hint_of_stop, refused_of_stop, unrefused_within}
+use Rattle.page_seeking.specs.Refs.{MisledBy}
+use Rattle.disk_records.specs.Tapes.{pack}
+use Rattle.page_seeking.specs.Parts.{IsPast}
 use Rattle.exec_session.proofs.contents.append_part.Goals as goal
+
+past_none : {p : Pack} {f : Fid} {offset n : ℕ} → offset ≤ file_length p f → IsPast p f offset n → ⊥
+past_none within past =
+    let is = past.is in
+    let less = past.past in
+    omega (arith, within, is, less)
 
 -- ---- the part isn't read
 pub returns-in_err-count-clause-read : goal.returns-in_err-count-clause-read
@@ -53,3 +70,44 @@ returns-clause-soon g c = λ told noted.
 
 pub returns-clause-next : goal.returns-clause-next
 returns-clause-next g c = c.in_ok-count.ensures.next
+
+pub returns-in_err-count-clause-cause : goal.returns-in_err-count-clause-cause
+returns-in_err-count-clause-cause g c = cause_passed (g.D.Tape.tape c.args.disk.now) (g.D.Tape.tape c.read_part.new.disk) (stop_of_file c.in_err-count.field-0.0) c.from_residual.result c.from_residual.ensures.1 (cause_by_file (g.D.Tape.tape c.args.disk.now) (g.D.Tape.tape c.read_part.new.disk) c.in_err-count.field-0.0 c.in_err-count.ensures.cause)
+
+pub returns-in_err-count-clause-looks : goal.returns-in_err-count-clause-looks
+returns-in_err-count-clause-looks g c = hints_looked c.args.session.now c.read_part.new.hints c.in_err-count.ensures.looks c.in_err-count.ensures.table c.in_err-count.ensures.refused c.in_err-count.ensures.handy
+
+pub returns-in_err-extend_from_slice-clause-cause : goal.returns-in_err-extend_from_slice-clause-cause
+returns-in_err-extend_from_slice-clause-cause g c = cause_passed (g.D.Tape.tape c.args.disk.now) (g.D.Tape.tape c.read_part.new.disk) Memory c.from_residual-in_err-extend_from_slice.result c.from_residual-in_err-extend_from_slice.ensures.1 tt
+
+pub returns-in_err-extend_from_slice-clause-looks : goal.returns-in_err-extend_from_slice-clause-looks
+returns-in_err-extend_from_slice-clause-looks g c = hints_looked c.args.session.now c.read_part.new.hints c.in_ok-count.ensures.looks c.in_ok-count.ensures.table c.in_ok-count.ensures.refused c.in_ok-count.ensures.handy
+
+pub returns-clause-looks : goal.returns-clause-looks
+returns-clause-looks g c = hints_looked c.args.session.now c.read_part.new.hints c.in_ok-count.ensures.looks c.in_ok-count.ensures.table c.in_ok-count.ensures.refused c.in_ok-count.ensures.handy
+
+pub returns-in_err-count-clause-unrefused : goal.returns-in_err-count-clause-unrefused
+returns-in_err-count-clause-unrefused g c = λ told whole within. unrefused_within ℕ (IsPast (pack (g.D.Tape.tape c.args.disk.now)) c.args.file.now.fid c.args.offset) c.in_err-count.field-0.0 c.from_residual.result c.from_residual.ensures.1 (λ n past. past_none within past) (c.in_err-count.ensures.beyond told whole)
+
+pub returns-in_err-count-clause-misled : goal.returns-in_err-count-clause-misled
+returns-in_err-count-clause-misled g c = λ told from. hint_of_file ℕ (MisledBy (pack (g.D.Tape.tape c.args.disk.now)) [] c.args.file.now.fid) (MisledBy (pack (g.D.Tape.tape c.args.disk.now)) [] c.args.file.now.fid) c.in_err-count.field-0.0 c.from_residual.result c.from_residual.ensures.1 (λ place at wanted found h. h) (c.in_err-count.ensures.misled told from)
+
+pub returns-in_err-extend_from_slice-clause-unrefused : goal.returns-in_err-extend_from_slice-clause-unrefused
+returns-in_err-extend_from_slice-clause-unrefused g c = λ told whole within. refused_of_stop (Unit {0}) (λ r. ⊥) (λ r. ⊥) Memory c.from_residual-in_err-extend_from_slice.result c.from_residual-in_err-extend_from_slice.ensures.1 (λ r none. none) tt
+
+pub returns-in_err-extend_from_slice-clause-misled : goal.returns-in_err-extend_from_slice-clause-misled
+returns-in_err-extend_from_slice-clause-misled g c = λ told from. hint_of_stop (Unit {0}) (MisledBy (pack (g.D.Tape.tape c.args.disk.now)) [] c.args.file.now.fid) (MisledBy (pack (g.D.Tape.tape c.args.disk.now)) [] c.args.file.now.fid) Memory c.from_residual-in_err-extend_from_slice.result c.from_residual-in_err-extend_from_slice.ensures.1 (λ place at wanted found h. h) tt
+
+pub returns-clause-unrefused : goal.returns-clause-unrefused
+returns-clause-unrefused g c = λ told whole within. tt
+
+pub returns-clause-misled : goal.returns-clause-misled
+returns-clause-misled g c = λ told from. tt
+
+pub returns-clause-cause : goal.returns-clause-cause
+returns-clause-cause g c = tt
+
+pub returns-clause-filled : goal.returns-clause-filled
+returns-clause-filled g c = λ told noted whole.
+    let few = c.in_ok-count.ensures.filled noted.at told noted.listed (noted.carries told) (omega (arith, whole)) whole in
+    omega (arith, few)

@@ -16,9 +16,12 @@ use Rattle.page_seeking.specs.Refs.{MisledBy}
 use Rattle.page_seeking.specs.declared.refs.FileRef.{FileRef}
 use Rattle.exec_session.specs.Meant.{IfRefused}
 use Rattle.exec_session.specs.NewNames.{IsGiven, IsTaken}
-use Rattle.exec_session.proofs.Looking.{hints_looked, looks_about_twice}
-use Rattle.exec_session.proofs.NewNaming.{found_of_stands, given_exact, given_newest, taken_by_hold, taken_exact, taken_newest}
-use Rattle.exec_session.proofs.Stopping.{hint_of_file, hint_of_stop, refused_as, refused_of_stop}
+use Rattle.exec_session.proofs.Looking.{hints_looked, looks_about_twice, looks_about_within}
+use Rattle.exec_session.proofs.NewNaming.{after_cause, after_hint, after_unwanted, found_of_stands, given_exact, given_newest, taken_by_hold, taken_exact, taken_newest}
+use Rattle.exec_session.proofs.Stopping.{hint_of_file, hint_of_stop, refused_as, refused_of_stop, unrefused_by_file}
+use Rattle.exec_session.proofs.Causing.{cause_after, cause_by_length, cause_passed, not_wanted, not_wanted_by_file, refused_unwanted}
+use Rattle.exec_session.specs.Stops.{stop_of_file}
+use Rattle.exec_session.proofs.Parts.{ok_of_error}
 use Rattle.exec_session.proofs.new_names.name_given.Goals as goal
 
 pub returns-in_err-found-clause-misled : goal.returns-in_err-found-clause-misled
@@ -117,3 +120,66 @@ returns-in-Newest-clause-taken g c = λ told stands.
     let great = great_of p dir c.args.wanted.now c.base.result found stands c.base.ensures (c.in_ok-found.ensures.found told) in
     subst (λ x. IfRefused c.next_version.result (IsTaken p dir.fid x)) (sym c.in-Newest.is)
     (taken_newest p dir c.in-Newest.base found c.next_version.result stands (subst (λ x. IsGreatest p dir.fid (base_wanted x) found) c.in-Newest.is great) c.next_version.ensures)
+
+pub returns-in_err-found-clause-given : goal.returns-in_err-found-clause-given
+returns-in_err-found-clause-given g c = λ told stands. ok_of_error _ _ c.from_residual.result c.from_residual.ensures.1
+
+pub returns-in_err-found-clause-taken : goal.returns-in_err-found-clause-taken
+returns-in_err-found-clause-taken g c = λ told stands. unrefused_by_file (IsTaken (pack (g.D.Tape.tape c.args.disk.now)) c.args.dir.now.fid c.args.wanted.now) (g.D.Tape.tape c.args.disk.now) (g.D.Tape.tape c.greatest.new.disk) c.in_err-found.field-0.0 c.from_residual.result c.from_residual.ensures.1 c.in_err-found.ensures.cause
+
+pub returns-in_err-found-clause-cause : goal.returns-in_err-found-clause-cause
+returns-in_err-found-clause-cause g c = cause_passed (g.D.Tape.tape c.args.disk.now) (g.D.Tape.tape c.greatest.new.disk) (stop_of_file c.in_err-found.field-0.0) c.from_residual.result c.from_residual.ensures.1 (cause_by_length (g.D.Tape.tape c.args.disk.now) (g.D.Tape.tape c.greatest.new.disk) c.in_err-found.field-0.0 c.in_err-found.ensures.cause)
+
+pub returns-in_err-found-clause-want : goal.returns-in_err-found-clause-want
+returns-in_err-found-clause-want g c = λ told. not_wanted_by_file VersionFound c.in_err-found.field-0.0 c.from_residual.result c.from_residual.ensures.1 (c.in_err-found.ensures.want told)
+
+pub returns-in_err-refuse_entry-in-Exact-clause-given : goal.returns-in_err-refuse_entry-in-Exact-clause-given
+returns-in_err-refuse_entry-in-Exact-clause-given g c = λ told stands. ok_of_error _ _ c.from_residual-in_err-refuse_entry-in-Exact.result c.from_residual-in_err-refuse_entry-in-Exact.ensures.1
+
+pub returns-in_err-refuse_entry-in-Exact-clause-cause : goal.returns-in_err-refuse_entry-in-Exact-clause-cause
+returns-in_err-refuse_entry-in-Exact-clause-cause g c = cause_after (g.D.Tape.tape c.args.disk.now) (g.D.Tape.tape c.greatest.new.disk) (g.D.Tape.tape c.refuse_entry.new.disk) c.in_err-refuse_entry-in-Exact.field-0.0 c.from_residual-in_err-refuse_entry-in-Exact.result c.from_residual-in_err-refuse_entry-in-Exact.ensures.1 c.in_ok-found.ensures.looks.alone.grown c.in_err-refuse_entry-in-Exact.ensures.cause
+
+pub returns-in_err-refuse_entry-in-Exact-clause-want : goal.returns-in_err-refuse_entry-in-Exact-clause-want
+returns-in_err-refuse_entry-in-Exact-clause-want g c = λ told. not_wanted (Unit {0}) c.in_err-refuse_entry-in-Exact.field-0.0 c.from_residual-in_err-refuse_entry-in-Exact.result c.from_residual-in_err-refuse_entry-in-Exact.ensures.1 (c.in_err-refuse_entry-in-Exact.ensures.want told)
+
+pub returns-in_err-found-clause-looks : goal.returns-in_err-found-clause-looks
+returns-in_err-found-clause-looks g c = looks_about_within 8596750336 (omega arith) (hints_looked c.args.session.now c.greatest.new.hints c.in_err-found.ensures.looks c.in_err-found.ensures.table c.in_err-found.ensures.refused c.in_err-found.ensures.handy)
+
+pub returns-then-found-clause-given : goal.returns-then-found-clause-given
+returns-then-found-clause-given g c = λ told stands. rw c.refused.ensures tt
+
+pub returns-then-found-clause-misled : goal.returns-then-found-clause-misled
+returns-then-found-clause-misled g c = λ told stands. rw c.refused.ensures tt
+
+pub returns-then-found-clause-cause : goal.returns-then-found-clause-cause
+returns-then-found-clause-cause g c = rw c.refused.ensures tt
+
+pub returns-then-found-clause-want : goal.returns-then-found-clause-want
+returns-then-found-clause-want g c = λ told. refused_unwanted c.refused.result refusal.NameTaken c.refused.ensures
+
+pub returns-then-found-clause-looks : goal.returns-then-found-clause-looks
+returns-then-found-clause-looks g c = looks_about_within 8596750336 (omega arith) (hints_looked c.args.session.now c.greatest.new.hints c.in_ok-found.ensures.looks c.in_ok-found.ensures.table c.in_ok-found.ensures.refused c.in_ok-found.ensures.handy)
+
+pub returns-in_ok-refuse_entry-in-Exact-clause-taken : goal.returns-in_ok-refuse_entry-in-Exact-clause-taken
+returns-in_ok-refuse_entry-in-Exact-clause-taken g c = λ told stands. tt
+
+pub returns-in_ok-refuse_entry-in-Exact-clause-misled : goal.returns-in_ok-refuse_entry-in-Exact-clause-misled
+returns-in_ok-refuse_entry-in-Exact-clause-misled g c = λ told stands. tt
+
+pub returns-in_ok-refuse_entry-in-Exact-clause-cause : goal.returns-in_ok-refuse_entry-in-Exact-clause-cause
+returns-in_ok-refuse_entry-in-Exact-clause-cause g c = tt
+
+pub returns-in_ok-refuse_entry-in-Exact-clause-want : goal.returns-in_ok-refuse_entry-in-Exact-clause-want
+returns-in_ok-refuse_entry-in-Exact-clause-want g c = λ told is. cc
+
+pub returns-in-Newest-clause-looks : goal.returns-in-Newest-clause-looks
+returns-in-Newest-clause-looks g c = looks_about_within 8596750336 (omega arith) (hints_looked c.args.session.now c.greatest.new.hints c.in_ok-found.ensures.looks c.in_ok-found.ensures.table c.in_ok-found.ensures.refused c.in_ok-found.ensures.handy)
+
+pub returns-in-Newest-clause-misled : goal.returns-in-Newest-clause-misled
+returns-in-Newest-clause-misled g c = λ told stands. rw c.next_version.ensures (after_hint c.in-Newest.base c.in_ok-found.found.version (MisledBy (pack (g.D.Tape.tape c.args.disk.now)) [] c.args.dir.now.fid))
+
+pub returns-in-Newest-clause-cause : goal.returns-in-Newest-clause-cause
+returns-in-Newest-clause-cause g c = rw c.next_version.ensures (after_cause c.in-Newest.base c.in_ok-found.found.version (g.D.Tape.tape c.args.disk.now) (g.D.Tape.tape c.greatest.new.disk))
+
+pub returns-in-Newest-clause-want : goal.returns-in-Newest-clause-want
+returns-in-Newest-clause-want g c = λ told is. after_unwanted c.in-Newest.base c.in_ok-found.found.version (sym c.next_version.ensures ∙ is)

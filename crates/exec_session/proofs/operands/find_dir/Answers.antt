@@ -13,6 +13,10 @@ use Rattle.exec_session.specs.Meant.{IsSoon}
 use Rattle.exec_session.proofs.Finding.{contains_first, hint_failing, looked_up, looked_up_none, root_found}
 use Rattle.exec_session.proofs.Looking.{dir_pages, quick_of_first}
 use Rattle.exec_session.proofs.Stopping.{hint_of_dir, refused_by_lookup}
+use Rattle.exec_session.proofs.Causing.{cause_by_dir, cause_passed, not_wanted_by_dir}
+use Rattle.exec_session.specs.Stops.{stop_of_dir}
+use Rattle.disk_records.specs.Causes.{never, other}
+use Rattle.exec_session.proofs.Parts.{ok_of_error}
 use Rattle.exec_session.proofs.operands.find_dir.Goals as goal
 
 pub returns-in_err-file-clause-absent : goal.returns-in_err-file-clause-absent
@@ -41,3 +45,15 @@ returns-clause-quick g c = λ told handy.
     let p = pack (g.D.Tape.tape c.args.disk.now) in
     let pages = ap (root_pages (read_as p)) c.in-Some.is ∙ dir_pages p sys_dir handy.sound (root_found p handy.sound).living refl in
     subst (λ n. IsSoon (n + 1) (g.D.Tape.tape c.args.disk.now) (g.D.Tape.tape c.lookup.new.disk) c.args.session.now (record c.args.session.now { hints = c.lookup.new.hints })) (sym pages) (c.in_ok-file.ensures.quick told (quick_of_first c.args.session.now sys_dir [] handy))
+
+pub returns-in_err-file-clause-found : goal.returns-in_err-file-clause-found
+returns-in_err-file-clause-found g c = λ told sound. ok_of_error _ _ c.from_residual.result c.from_residual.ensures.1
+
+pub returns-in_err-file-clause-quick : goal.returns-in_err-file-clause-quick
+returns-in_err-file-clause-quick g c = λ told handy. ok_of_error _ _ c.from_residual.result c.from_residual.ensures.1
+
+pub returns-in_err-file-clause-cause : goal.returns-in_err-file-clause-cause
+returns-in_err-file-clause-cause g c = cause_passed (g.D.Tape.tape c.args.disk.now) (g.D.Tape.tape c.lookup.new.disk) (stop_of_dir c.in_err-file.field-0.0) c.from_residual.result c.from_residual.ensures.1 (cause_by_dir other never never (g.D.Tape.tape c.args.disk.now) (g.D.Tape.tape c.lookup.new.disk) c.in_err-file.field-0.0 c.in_err-file.ensures.cause)
+
+pub returns-in_err-file-clause-want : goal.returns-in_err-file-clause-want
+returns-in_err-file-clause-want g c = λ told. not_wanted_by_dir (FileRef × List ℕ) c.in_err-file.field-0.0 c.from_residual.result c.from_residual.ensures.1 (c.in_err-file.ensures.want told)

@@ -26,6 +26,10 @@ use Rattle.exec_session.specs.Found.{IsAtPath, IsDirOf, IsNoneAt, dirs_followed}
 use Rattle.exec_session.proofs.Finding.{contains_second, dir_found, file_in, hint_failing, looked_up, looked_up_none, more_failing, nothing_wanted}
 use Rattle.exec_session.proofs.Looking.{all_first, dir_pages, hints_looked, looks_about_twice, quick_of_second, quick_stays, soon_twice}
 use Rattle.exec_session.proofs.Stopping.{hint_of_dir, hint_of_stop, refused_as, refused_by_lookup}
+use Rattle.exec_session.proofs.Causing.{cause_after, cause_by_dir, cause_passed, not_wanted, not_wanted_by_dir}
+use Rattle.exec_session.specs.Stops.{stop_of_dir}
+use Rattle.disk_records.specs.Causes.{never, other}
+use Rattle.exec_session.proofs.Parts.{ok_of_error}
 use Rattle.exec_session.proofs.operands.find_path.Goals as goal
 
 pub returns-in_err-dir-clause-misled : goal.returns-in_err-dir-clause-misled
@@ -129,3 +133,29 @@ returns-clause-quick g c = λ told handy.
     let first = c.in_ok-dir.ensures.quick told (all_first c.args.session.now sys_dir (dir_named m (ByPath path)) handy) in
     let size : pages_of_dir m (the_dir m path) ≡ page_of_byte (file_length q dir.fid) = pages p q path dir sound same is directory ∙ ap (λ r. page_of_byte (file_length r dir.fid)) (sym same) in
     soon_twice (root_pages m path.dir + 1) (page_of_byte (file_length q dir.fid) + 1) (sought_pages m path + 2) old mid new (omega (arith, size)) there.looked here.looked first (c.in_ok-file.ensures.quick told quick)
+
+pub returns-in_err-dir-clause-found : goal.returns-in_err-dir-clause-found
+returns-in_err-dir-clause-found g c = λ told sound. ok_of_error _ _ c.from_residual.result c.from_residual.ensures.1
+
+pub returns-in_err-dir-clause-quick : goal.returns-in_err-dir-clause-quick
+returns-in_err-dir-clause-quick g c = λ told handy. ok_of_error _ _ c.from_residual.result c.from_residual.ensures.1
+
+pub returns-in_err-dir-clause-cause : goal.returns-in_err-dir-clause-cause
+returns-in_err-dir-clause-cause g c = cause_passed (g.D.Tape.tape c.args.disk.now) (g.D.Tape.tape c.find_dir.new.disk) c.in_err-dir.field-0.0 c.from_residual.result c.from_residual.ensures.1 c.in_err-dir.ensures.cause
+
+pub returns-in_err-dir-clause-want : goal.returns-in_err-dir-clause-want
+returns-in_err-dir-clause-want g c = λ told. not_wanted FileRef c.in_err-dir.field-0.0 c.from_residual.result c.from_residual.ensures.1 (c.in_err-dir.ensures.want told)
+
+pub returns-in_err-file-clause-found : goal.returns-in_err-file-clause-found
+returns-in_err-file-clause-found g c = λ told sound. ok_of_error _ _ c.from_residual-in_err-file.result c.from_residual-in_err-file.ensures.1
+
+pub returns-in_err-file-clause-quick : goal.returns-in_err-file-clause-quick
+returns-in_err-file-clause-quick g c = λ told handy. ok_of_error _ _ c.from_residual-in_err-file.result c.from_residual-in_err-file.ensures.1
+
+pub returns-in_err-file-clause-cause : goal.returns-in_err-file-clause-cause
+returns-in_err-file-clause-cause g c =
+    cause_after (g.D.Tape.tape c.args.disk.now) (g.D.Tape.tape c.find_dir.new.disk) (g.D.Tape.tape c.lookup.new.disk) (stop_of_dir c.in_err-file.field-0.0) c.from_residual-in_err-file.result c.from_residual-in_err-file.ensures.1 c.in_ok-dir.ensures.looks.looks.alone.grown
+    (cause_by_dir other never never (g.D.Tape.tape c.find_dir.new.disk) (g.D.Tape.tape c.lookup.new.disk) c.in_err-file.field-0.0 c.in_err-file.ensures.cause)
+
+pub returns-in_err-file-clause-want : goal.returns-in_err-file-clause-want
+returns-in_err-file-clause-want g c = λ told. not_wanted_by_dir (FileRef × List ℕ) c.in_err-file.field-0.0 c.from_residual-in_err-file.result c.from_residual-in_err-file.ensures.1 (c.in_err-file.ensures.want told)

@@ -4,7 +4,10 @@ use Rattle.exec_words.specs.declared.reply.Refusal.TheVariants as refusal
 use Rattle.laws_hint.proofs.tables.Laws.{reserving_keeps_the_table}
 use Rattle.pack_model.specs.reading.Model.{read_as, room}
 use Rattle.page_alloc.specs.Free.{free_addresses}
-use Rattle.exec_session.proofs.SectorTaking.{each_sector, full_is, on_err, refused_of_alloc, room_enough, true_in_both}
+use Rattle.exec_session.proofs.SectorTaking.{each_sector, full_is, on_err, refused_of_alloc, room_enough, true_in_both, hint_of_alloc}
+use Rattle.exec_session.proofs.Causing.{cause_by_alloc, cause_passed}
+use Rattle.exec_session.specs.Stops.{stop_of_alloc}
+use Rattle.exec_session.proofs.Parts.{ok_of_error}
 use Rattle.exec_session.proofs.reserving.reserve_pages.Goals as goal
 
 pub returns-in_err-reserve-clause-full : goal.returns-in_err-reserve-clause-full
@@ -39,3 +42,24 @@ returns-clause-soon g c = λ told sound table.
     let few = c.in_ok-reserve.ensures.soon told both in
     let n = c.min-count.ensures in
     omega (arith, few, n)
+
+pub returns-in_err-reserve-clause-reserved : goal.returns-in_err-reserve-clause-reserved
+returns-in_err-reserve-clause-reserved g c = ok_of_error _ _ c.from_residual.result c.from_residual.ensures.1
+
+pub returns-in_err-reserve-clause-free : goal.returns-in_err-reserve-clause-free
+returns-in_err-reserve-clause-free g c = λ told. ok_of_error _ _ c.from_residual.result c.from_residual.ensures.1
+
+pub returns-in_err-reserve-clause-enough : goal.returns-in_err-reserve-clause-enough
+returns-in_err-reserve-clause-enough g c = λ told sound. ok_of_error _ _ c.from_residual.result c.from_residual.ensures.1
+
+pub returns-in_err-reserve-clause-table : goal.returns-in_err-reserve-clause-table
+returns-in_err-reserve-clause-table g c = λ told sound table. ok_of_error _ _ c.from_residual.result c.from_residual.ensures.1
+
+pub returns-in_err-reserve-clause-soon : goal.returns-in_err-reserve-clause-soon
+returns-in_err-reserve-clause-soon g c = λ told sound table. ok_of_error _ _ c.from_residual.result c.from_residual.ensures.1
+
+pub returns-in_err-reserve-clause-never_misled : goal.returns-in_err-reserve-clause-never_misled
+returns-in_err-reserve-clause-never_misled g c = hint_of_alloc (λ place at wanted found. ⊥) c.in_err-reserve.field-0.0 c.from_residual.result c.from_residual.ensures.1
+
+pub returns-in_err-reserve-clause-cause : goal.returns-in_err-reserve-clause-cause
+returns-in_err-reserve-clause-cause g c = cause_passed (g.D.Tape.tape c.args.disk.now) (g.D.Tape.tape c.reserve.new.disk) (stop_of_alloc c.in_err-reserve.field-0.0) c.from_residual.result c.from_residual.ensures.1 (cause_by_alloc (g.D.Tape.tape c.args.disk.now) (g.D.Tape.tape c.reserve.new.disk) c.in_err-reserve.field-0.0 c.in_err-reserve.ensures.cause)

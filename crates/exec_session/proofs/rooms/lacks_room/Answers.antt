@@ -4,6 +4,10 @@ use Rattle.page_seeking.specs.Refs.{MisledBy}
 use Rattle.exec_session.proofs.NewNaming.{found_of_stands}
 use Rattle.exec_session.proofs.RoomPlanning.{run_in_the_model}
 use Rattle.exec_session.proofs.Stopping.{hint_of_dir}
+use Rattle.exec_session.proofs.Causing.{cause_by_dir, cause_passed, not_wanted_by_dir}
+use Rattle.exec_session.specs.Stops.{stop_of_dir}
+use Rattle.disk_records.specs.Causes.{never}
+use Rattle.exec_session.proofs.Parts.{ok_of_error}
 use Rattle.exec_session.proofs.rooms.lacks_room.Goals as goal
 
 pub returns-in_err-room-clause-misled : goal.returns-in_err-room-clause-misled
@@ -19,3 +23,12 @@ returns-clause-lacks g c = λ told stands.
     let p = pack (g.D.Tape.tape c.args.disk.now) in
     let dir = c.args.dir.now in
     ap (λ n. nat_lt n c.args.words) (run_in_the_model p dir c.in_ok-room.field-0 stands (c.in_ok-room.ensures.found told (found_of_stands p dir stands)))
+
+pub returns-in_err-room-clause-lacks : goal.returns-in_err-room-clause-lacks
+returns-in_err-room-clause-lacks g c = λ told stands. ok_of_error _ _ c.from_residual.result c.from_residual.ensures.1
+
+pub returns-in_err-room-clause-cause : goal.returns-in_err-room-clause-cause
+returns-in_err-room-clause-cause g c = cause_passed (g.D.Tape.tape c.args.disk.now) (g.D.Tape.tape c.room.new.disk) (stop_of_dir c.in_err-room.field-0.0) c.from_residual.result c.from_residual.ensures.1 (cause_by_dir never never never (g.D.Tape.tape c.args.disk.now) (g.D.Tape.tape c.room.new.disk) c.in_err-room.field-0.0 c.in_err-room.ensures.cause)
+
+pub returns-in_err-room-clause-want : goal.returns-in_err-room-clause-want
+returns-in_err-room-clause-want g c = λ told. not_wanted_by_dir ℕ c.in_err-room.field-0.0 c.from_residual.result c.from_residual.ensures.1 (c.in_err-room.ensures.want told)

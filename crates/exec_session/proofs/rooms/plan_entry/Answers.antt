@@ -13,7 +13,9 @@ use Rattle.pack_model.specs.states.Whole.{Whole}
 use Rattle.session_model.specs.Turning.{HintFailing}
 use Rattle.exec_session.proofs.Finding.{contains_first, contains_second}
 use Rattle.exec_session.proofs.Looking.{looks_about_twice}
-use Rattle.exec_session.proofs.Stopping.{hint_of_stop}
+use Rattle.exec_session.proofs.Stopping.{hint_of_stop, refused_of_stop}
+use Rattle.exec_session.proofs.Causing.{cause_after, cause_passed, not_wanted}
+use Rattle.exec_session.proofs.Parts.{ok_of_error}
 use Rattle.exec_session.proofs.rooms.plan_entry.Goals as goal
 
 failing : (p : Pack) (d : Fid) (files : List Fid) (place : Place) (at : ℕ) (wanted : Page) (found : Option (List ℕ)) → Whole p → Contains files d → MisledBy p [] d place at wanted found → HintFailing p [] files place at wanted found
@@ -43,3 +45,27 @@ returns-in_err-room-clause-looks g c = looks_about_twice 8596750336 (omega arith
 
 pub returns-clause-looks : goal.returns-clause-looks
 returns-clause-looks g c = looks_about_twice 8596750336 (omega arith) c.in_ok-spare.ensures.looks c.in_ok-room.ensures.looks
+
+pub returns-in_err-spare-clause-planned : goal.returns-in_err-spare-clause-planned
+returns-in_err-spare-clause-planned g c = λ told root stands. ok_of_error _ _ c.from_residual.result c.from_residual.ensures.1
+
+pub returns-in_err-spare-clause-unrefused : goal.returns-in_err-spare-clause-unrefused
+returns-in_err-spare-clause-unrefused g c = refused_of_stop Bool (λ r. ⊥) (λ r. ⊥) c.in_err-spare.field-0.0 c.from_residual.result c.from_residual.ensures.1 (λ r h. h) c.in_err-spare.ensures.unrefused
+
+pub returns-in_err-spare-clause-cause : goal.returns-in_err-spare-clause-cause
+returns-in_err-spare-clause-cause g c = cause_passed (g.D.Tape.tape c.args.disk.now) (g.D.Tape.tape c.lacks_room.new.disk) c.in_err-spare.field-0.0 c.from_residual.result c.from_residual.ensures.1 c.in_err-spare.ensures.cause
+
+pub returns-in_err-spare-clause-want : goal.returns-in_err-spare-clause-want
+returns-in_err-spare-clause-want g c = λ told. not_wanted Bool c.in_err-spare.field-0.0 c.from_residual.result c.from_residual.ensures.1 (c.in_err-spare.ensures.want told)
+
+pub returns-in_err-room-clause-planned : goal.returns-in_err-room-clause-planned
+returns-in_err-room-clause-planned g c = λ told root stands. ok_of_error _ _ c.from_residual-in_err-room.result c.from_residual-in_err-room.ensures.1
+
+pub returns-in_err-room-clause-unrefused : goal.returns-in_err-room-clause-unrefused
+returns-in_err-room-clause-unrefused g c = refused_of_stop Bool (λ r. ⊥) (λ r. ⊥) c.in_err-room.field-0.0 c.from_residual-in_err-room.result c.from_residual-in_err-room.ensures.1 (λ r h. h) c.in_err-room.ensures.unrefused
+
+pub returns-in_err-room-clause-cause : goal.returns-in_err-room-clause-cause
+returns-in_err-room-clause-cause g c = cause_after (g.D.Tape.tape c.args.disk.now) (g.D.Tape.tape c.lacks_room.new.disk) (g.D.Tape.tape c.lacks_own_room.new.disk) c.in_err-room.field-0.0 c.from_residual-in_err-room.result c.from_residual-in_err-room.ensures.1 c.in_ok-spare.ensures.looks.looks.alone.grown c.in_err-room.ensures.cause
+
+pub returns-in_err-room-clause-want : goal.returns-in_err-room-clause-want
+returns-in_err-room-clause-want g c = λ told. not_wanted Bool c.in_err-room.field-0.0 c.from_residual-in_err-room.result c.from_residual-in_err-room.ensures.1 (c.in_err-room.ensures.want told)

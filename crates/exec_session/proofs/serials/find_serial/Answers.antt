@@ -1,6 +1,9 @@
 use Rattle.std.proofs.Common.{None, refl}
 use Rattle.disk_records.specs.Tapes.{pack}
 use Rattle.exec_session.proofs.SerialFiles.{found_no_serial, found_serial, least_of_all}
+use Rattle.exec_session.proofs.Causing.{cause_by_look, cause_passed}
+use Rattle.exec_session.specs.Stops.{stop_of_look}
+use Rattle.exec_session.proofs.Parts.{ok_of_error}
 use Rattle.exec_session.proofs.serials.find_serial.Goals as goal
 
 pub returns-in-Some-clause-found : goal.returns-in-Some-clause-found
@@ -15,3 +18,9 @@ returns-in-None-clause-absent g c = λ told sound.
     let p = pack (g.D.Tape.tape c.args.disk.now) in
     let least = least_of_all (record { serial = c.args.serial; best = None }) c.sweep.new.visitor refl c.in_ok-sweep.ensures.swept told in
     (refl, found_no_serial p c.args.serial c.sweep.new.visitor.best sound least c.in-None.is)
+
+pub returns-in_err-sweep-clause-found : goal.returns-in_err-sweep-clause-found
+returns-in_err-sweep-clause-found g c = λ told sound. ok_of_error _ _ c.from_residual.result c.from_residual.ensures.1
+
+pub returns-in_err-sweep-clause-cause : goal.returns-in_err-sweep-clause-cause
+returns-in_err-sweep-clause-cause g c = cause_passed (g.D.Tape.tape c.args.disk.now) (g.D.Tape.tape c.sweep.new.disk) (stop_of_look c.in_err-sweep.field-0.0) c.from_residual.result c.from_residual.ensures.1 (cause_by_look (g.D.Tape.tape c.args.disk.now) (g.D.Tape.tape c.sweep.new.disk) c.in_err-sweep.field-0.0 c.in_err-sweep.ensures.cause)

@@ -8,6 +8,9 @@ use Rattle.exec_session.specs.laws_call.proofs.counts.Laws.{count_of_a_call}
 use Rattle.exec_session.specs.laws_hint.specs.LineLinks.{opening_writes}
 use Rattle.exec_session.specs.Meant.{kept}
 use Rattle.exec_steps.proofs.Opening.{found_opened, midway_opened, none_when_open, same_place}
+use Rattle.exec_session.proofs.Causing.{cause_by_desc, cause_passed}
+use Rattle.exec_session.specs.Stops.{stop_of_desc}
+use Rattle.disk_records.specs.Causes.{never}
 use Rattle.exec_steps.proofs.beginning.open_mark.Goals as goal
 
 pub returns-in_err-mark_open-clause-unwritten : goal.returns-in_err-mark_open-clause-unwritten
@@ -34,3 +37,12 @@ returns-clause-starts g c = λ one at reserved told may.
       tally = may.tally;
       failing = tt;
     }
+
+pub returns-in_err-mark_open-clause-cause : goal.returns-in_err-mark_open-clause-cause
+returns-in_err-mark_open-clause-cause g c = cause_passed (g.D.Tape.tape c.args.disk.now) (g.D.Tape.tape c.mark_open.new.disk) (stop_of_desc c.in_err-mark_open.field-0.0) c.from_residual.result c.from_residual.ensures.1 (cause_by_desc never (g.D.Tape.tape c.args.disk.now) (g.D.Tape.tape c.mark_open.new.disk) c.in_err-mark_open.field-0.0 c.in_err-mark_open.ensures.cause)
+
+pub returns-in_err-mark_open-clause-alone : goal.returns-in_err-mark_open-clause-alone
+returns-in_err-mark_open-clause-alone g c = c.in_err-mark_open.ensures.alone
+
+pub returns-clause-alone : goal.returns-clause-alone
+returns-clause-alone g c = c.in_ok-mark_open.ensures.alone

@@ -10,6 +10,9 @@ use Rattle.exec_steps.specs.Midway.{StepsOn}
 use Rattle.exec_steps.proofs.Answers.{error_is}
 use Rattle.exec_steps.proofs.NewFile.{from_there}
 use Rattle.exec_steps.proofs.Widened.{as_number, first_free, widens_both, widens_stop}
+use Rattle.exec_session.proofs.Causing.{cause_passed, cause_sooner}
+use Rattle.exec_session.proofs.Stopping.{refused_of_stop}
+use Rattle.exec_steps.proofs.Frames.{works_twice}
 use Rattle.exec_steps.proofs.beginning.widen_first.Goals as goal
 
 pub returns-in_err-widen_if-clause-steps : goal.returns-in_err-widen_if-clause-steps
@@ -38,3 +41,30 @@ returns-clause-steps g c = λ told may.
 
 pub returns-clause-alone : goal.returns-clause-alone
 returns-clause-alone g c = alone_twice c.widen_if.ensures.alone c.widen_if-2.ensures.alone
+
+pub returns-in_err-widen_if-clause-unrefused : goal.returns-in_err-widen_if-clause-unrefused
+returns-in_err-widen_if-clause-unrefused g c = refused_of_stop (Unit {0}) (λ r. ⊥) (λ r. ⊥) c.in_err-widen_if.field-0.0 c.from_residual.result c.from_residual.ensures.1 (λ r h. h) c.in_err-widen_if.ensures.unrefused
+
+pub returns-in_err-widen_if-clause-cause : goal.returns-in_err-widen_if-clause-cause
+returns-in_err-widen_if-clause-cause g c = cause_passed (g.D.Tape.tape c.args.disk.now) (g.D.Tape.tape c.widen_if.new.disk) c.in_err-widen_if.field-0.0 c.from_residual.result c.from_residual.ensures.1 c.in_err-widen_if.ensures.cause
+
+pub returns-in_err-widen_if-clause-works : goal.returns-in_err-widen_if-clause-works
+returns-in_err-widen_if-clause-works g c = c.widen_if.ensures.works
+
+pub returns-in_err-widen_if-clause-descriptor : goal.returns-in_err-widen_if-clause-descriptor
+returns-in_err-widen_if-clause-descriptor g c = c.widen_if.ensures.descriptor
+
+pub returns-in_err-widen_if-clause-alone : goal.returns-in_err-widen_if-clause-alone
+returns-in_err-widen_if-clause-alone g c = c.widen_if.ensures.alone
+
+pub returns-clause-unrefused : goal.returns-clause-unrefused
+returns-clause-unrefused g c = c.widen_if-2.ensures.unrefused
+
+pub returns-clause-cause : goal.returns-clause-cause
+returns-clause-cause g c = cause_sooner (g.D.Tape.tape c.args.disk.now) (g.D.Tape.tape c.widen_if.new.disk) (g.D.Tape.tape c.widen_if-2.new.disk) c.widen_if-2.result c.widen_if.ensures.alone.grown c.widen_if-2.ensures.cause
+
+pub returns-clause-works : goal.returns-clause-works
+returns-clause-works g c = works_twice c.widen_if.ensures.works c.widen_if-2.ensures.works
+
+pub returns-clause-descriptor : goal.returns-clause-descriptor
+returns-clause-descriptor g c = c.widen_if-2.ensures.descriptor ∙ c.widen_if.ensures.descriptor

@@ -17,6 +17,10 @@ use Rattle.exec_steps.specs.Midway.{StepsOn}
 use Rattle.exec_steps.proofs.Answers.{error_is}
 use Rattle.exec_steps.proofs.Joining.{steps_err, steps_ok}
 use Rattle.exec_steps.proofs.NewFile.{as_asked, enter_ends, from_there, leader_stands, make_stops, widenings_stop}
+use Rattle.exec_session.proofs.Causing.{cause_after, cause_passed}
+use Rattle.exec_session.proofs.Stopping.{refused_of_stop}
+use Rattle.exec_steps.proofs.Frames.{works_twice}
+use Rattle.exec_session.proofs.Parts.{ok_of_error}
 use Rattle.exec_steps.proofs.making.make_entered.Goals as goal
 
 pub returns-in_err-widen_first-clause-steps : goal.returns-in_err-widen_first-clause-steps
@@ -135,3 +139,54 @@ returns-clause-stands g c = λ old one at done all rest told may midway.
     (λ next. subst (λ (k : ℕ). place (sights (pack m)) (made_fid dir (k + 1)) 0 ≡ Some (word later 0)) same (n.placed told next))
     d (kept v) (Unit {0}) c.in_ok-enter_file.field-0 old one at done all rest
     (λ asked. subst (λ (file : FileRef). MayEnterFile (pack m) e file.fid file.leader_at → StepsOn {T = Unit {0}} m d (kept u) (kept v) (enter e.dir.fid e.name file.fid ∷ []) [] (e.dir.fid ∷ []) (Ok c.in_ok-enter_file.field-0)) file_is (c.in_ok-enter_file.ensures.steps told) asked) midway)
+
+pub returns-in_err-widen_first-clause-made : goal.returns-in_err-widen_first-clause-made
+returns-in_err-widen_first-clause-made g c = ok_of_error _ _ c.from_residual.result c.from_residual.ensures.1
+
+pub returns-in_err-widen_first-clause-stands : goal.returns-in_err-widen_first-clause-stands
+returns-in_err-widen_first-clause-stands g c = λ old one at done all rest told may midway. ok_of_error _ _ c.from_residual.result c.from_residual.ensures.1
+
+pub returns-in_err-widen_first-clause-unrefused : goal.returns-in_err-widen_first-clause-unrefused
+returns-in_err-widen_first-clause-unrefused g c = refused_of_stop (Unit {0}) (λ r. ⊥) (λ r. ⊥) c.in_err-widen_first.field-0.0 c.from_residual.result c.from_residual.ensures.1 (λ r h. h) c.in_err-widen_first.ensures.unrefused
+
+pub returns-in_err-widen_first-clause-cause : goal.returns-in_err-widen_first-clause-cause
+returns-in_err-widen_first-clause-cause g c = cause_passed (g.D.Tape.tape c.args.disk.now) (g.D.Tape.tape c.widen_first.new.disk) c.in_err-widen_first.field-0.0 c.from_residual.result c.from_residual.ensures.1 c.in_err-widen_first.ensures.cause
+
+pub returns-in_err-widen_first-clause-works : goal.returns-in_err-widen_first-clause-works
+returns-in_err-widen_first-clause-works g c = c.widen_first.ensures.works
+
+pub returns-in_err-file-clause-made : goal.returns-in_err-file-clause-made
+returns-in_err-file-clause-made g c = ok_of_error _ _ c.from_residual-in_err-file.result c.from_residual-in_err-file.ensures.1
+
+pub returns-in_err-file-clause-stands : goal.returns-in_err-file-clause-stands
+returns-in_err-file-clause-stands g c = λ old one at done all rest told may midway. ok_of_error _ _ c.from_residual-in_err-file.result c.from_residual-in_err-file.ensures.1
+
+pub returns-in_err-file-clause-unrefused : goal.returns-in_err-file-clause-unrefused
+returns-in_err-file-clause-unrefused g c = refused_of_stop FileRef (λ r. ⊥) (λ r. ⊥) c.in_err-file.field-0.0 c.from_residual-in_err-file.result c.from_residual-in_err-file.ensures.1 (λ r h. h) c.in_err-file.ensures.unrefused
+
+pub returns-in_err-file-clause-cause : goal.returns-in_err-file-clause-cause
+returns-in_err-file-clause-cause g c = cause_after (g.D.Tape.tape c.args.disk.now) (g.D.Tape.tape c.widen_first.new.disk) (g.D.Tape.tape c.make_next.new.disk) c.in_err-file.field-0.0 c.from_residual-in_err-file.result c.from_residual-in_err-file.ensures.1 c.widen_first.ensures.alone.grown c.in_err-file.ensures.cause
+
+pub returns-in_err-file-clause-works : goal.returns-in_err-file-clause-works
+returns-in_err-file-clause-works g c = works_twice c.widen_first.ensures.works c.make_next.ensures.works
+
+pub returns-in_err-enter_file-clause-made : goal.returns-in_err-enter_file-clause-made
+returns-in_err-enter_file-clause-made g c = ok_of_error _ _ c.from_residual-in_err-enter_file.result c.from_residual-in_err-enter_file.ensures.1
+
+pub returns-in_err-enter_file-clause-stands : goal.returns-in_err-enter_file-clause-stands
+returns-in_err-enter_file-clause-stands g c = λ old one at done all rest told may midway. ok_of_error _ _ c.from_residual-in_err-enter_file.result c.from_residual-in_err-enter_file.ensures.1
+
+pub returns-in_err-enter_file-clause-unrefused : goal.returns-in_err-enter_file-clause-unrefused
+returns-in_err-enter_file-clause-unrefused g c = refused_of_stop (Unit {0}) (λ r. ⊥) (λ r. ⊥) c.in_err-enter_file.field-0.0 c.from_residual-in_err-enter_file.result c.from_residual-in_err-enter_file.ensures.1 (λ r h. h) c.in_err-enter_file.ensures.unrefused
+
+pub returns-in_err-enter_file-clause-cause : goal.returns-in_err-enter_file-clause-cause
+returns-in_err-enter_file-clause-cause g c = cause_after (g.D.Tape.tape c.args.disk.now) (g.D.Tape.tape c.make_next.new.disk) (g.D.Tape.tape c.enter_file.new.disk) c.in_err-enter_file.field-0.0 c.from_residual-in_err-enter_file.result c.from_residual-in_err-enter_file.ensures.1 (alone_twice c.widen_first.ensures.alone c.make_next.ensures.alone).grown c.in_err-enter_file.ensures.cause
+
+pub returns-in_err-enter_file-clause-works : goal.returns-in_err-enter_file-clause-works
+returns-in_err-enter_file-clause-works g c = works_twice (works_twice c.widen_first.ensures.works c.make_next.ensures.works) c.enter_file.ensures.works
+
+pub returns-in_err-widen_first-clause-alone : goal.returns-in_err-widen_first-clause-alone
+returns-in_err-widen_first-clause-alone g c = c.widen_first.ensures.alone
+
+pub returns-clause-works : goal.returns-clause-works
+returns-clause-works g c = works_twice (works_twice c.widen_first.ensures.works c.make_next.ensures.works) c.enter_file.ensures.works

@@ -8,9 +8,10 @@ use Rattle.exec_session.specs.Meant.{kept}
 use Rattle.exec_session.specs.Stops.{stop_written}
 use Rattle.exec_session.specs.declared.stop.Stop.{Stop}
 use Rattle.exec_steps.specs.Midway.{StepsOn}
-use Rattle.exec_steps.proofs.Answers.{on_written, quiet_silent, written_hints, written_operates}
+use Rattle.exec_steps.proofs.Answers.{on_written, quiet_silent, written_hints, written_operates, written_cause, written_unrefused}
 use Rattle.exec_steps.proofs.Calling.{hints_step, in_one}
 use Rattle.exec_steps.proofs.Grown.{grows_once, may_be_grown, nothing_grows, when_empty, when_some}
+use Rattle.exec_steps.proofs.Frames.{works_called}
 use Rattle.exec_steps.proofs.stamping.grow_file.Goals as goal
 
 pub returns-then-is_empty-clause-steps : goal.returns-then-is_empty-clause-steps
@@ -55,3 +56,18 @@ returns-clause-handy g c = λ told may.
     let a = g.D.Tape.tape c.args.disk.now in
     let file = c.args.file.now in
     rw c.written.ensures (on_written _ file c.grow-grown.result (c.grow-grown.ensures.handy (grow file.fid c.args.bytes.now) told may.found.stands (may_be_grown (pack a) file c.args.bytes.now c.args.fresh.now may)))
+
+pub returns-clause-unrefused : goal.returns-clause-unrefused
+returns-clause-unrefused g c = rw c.written.ensures (written_unrefused c.args.file.now c.grow-grown.result)
+
+pub returns-clause-cause : goal.returns-clause-cause
+returns-clause-cause g c = rw c.written.ensures (written_cause (g.D.Tape.tape c.args.disk.now) (g.D.Tape.tape c.grow-grown.new.disk) c.args.file.now c.grow-grown.result c.grow-grown.ensures.cause)
+
+pub returns-clause-works : goal.returns-clause-works
+returns-clause-works g c = works_called c.args.session.now c.grow-grown.new.hints c.grow-grown.new.tally c.grow-grown.ensures.sized c.grow-grown.ensures.refused
+
+pub returns-clause-descriptor : goal.returns-clause-descriptor
+returns-clause-descriptor g c = refl
+
+pub returns-clause-alone : goal.returns-clause-alone
+returns-clause-alone g c = c.grow-grown.ensures.alone

@@ -1,47 +1,135 @@
-use Rattle.std.proofs.Common.{sym, ◌∙◌, ap}
+use Rattle.std.proofs.Common.{sym, subst, ◌∙◌, ap}
+use Rattle.disk_records.proofs.Growing.{alone_here, nothing_added}
+use Rattle.exec_session.specs.Meant.{kept}
+use Rattle.session_model.specs.Keeping.{Formed}
 use Rattle.exec_words.specs.declared.line.Line.TheVariants as line
-use Rattle.executive.proofs.SettingTime.{time_turns}
+use Rattle.exec_session.proofs.Stopping.{if_refused}
+use Rattle.executive.proofs.SettingTime.{time_cause, time_formed, time_turns}
 use Rattle.executive.proofs.obeying.obey_line.Goals as goal
 
--- ---- the turn of each line is that of the call that has it
-pub returns-in-ListNames-clause-turns : goal.returns-in-ListNames-clause-turns
-returns-in-ListNames-clause-turns g c = rw c.in-ListNames.is c.list_names.ensures.turns
+-- ---- what each line owes, the call that has it ensures
+pub returns-in-ListNames : goal.returns-in-ListNames
+returns-in-ListNames g c = record {
+  turns = rw c.in-ListNames.is c.list_names.ensures.turns;
+  unwritten = λ told. if_refused _ c.list_names.result (c.list_names.ensures.silent told);
+  formed = c.list_names.ensures.stays.formed;
+  cause = c.list_names.ensures.cause;
+  alone = c.list_names.ensures.alone;
+}
 
-pub returns-in-TypeOut-clause-turns : goal.returns-in-TypeOut-clause-turns
-returns-in-TypeOut-clause-turns g c = rw c.in-TypeOut.is c.type_file.ensures.turns
+pub returns-in-TypeOut : goal.returns-in-TypeOut
+returns-in-TypeOut g c = record {
+  turns = rw c.in-TypeOut.is c.type_file.ensures.turns;
+  unwritten = λ told. if_refused _ c.type_file.result (c.type_file.ensures.silent told);
+  formed = c.type_file.ensures.stays.formed;
+  cause = c.type_file.ensures.cause;
+  alone = c.type_file.ensures.alone;
+}
 
-pub returns-in-Stat-clause-turns : goal.returns-in-Stat-clause-turns
-returns-in-Stat-clause-turns g c = rw c.in-Stat.is c.stat_file.ensures.turns
+pub returns-in-Stat : goal.returns-in-Stat
+returns-in-Stat g c = record {
+  turns = rw c.in-Stat.is c.stat_file.ensures.turns;
+  unwritten = λ told. if_refused _ c.stat_file.result (c.stat_file.ensures.silent told);
+  formed = c.stat_file.ensures.stays.formed;
+  cause = c.stat_file.ensures.cause;
+  alone = c.stat_file.ensures.alone;
+}
 
-pub returns-in-Make-clause-turns : goal.returns-in-Make-clause-turns
-returns-in-Make-clause-turns g c = rw c.in-Make.is c.make_file.ensures.turns
+pub returns-in-Make : goal.returns-in-Make
+returns-in-Make g c = record {
+  turns = rw c.in-Make.is c.make_file.ensures.turns;
+  unwritten = c.make_file.ensures.unwritten;
+  formed = c.make_file.ensures.stays.formed;
+  cause = c.make_file.ensures.cause;
+  alone = c.make_file.ensures.alone;
+}
 
-pub returns-in-Append-clause-turns : goal.returns-in-Append-clause-turns
-returns-in-Append-clause-turns g c = rw (c.in-Append.is ∙ ap (line.Append c.in-Append.file) (sym c.as_slice.ensures)) c.append_bytes.ensures.turns
+pub returns-in-Append : goal.returns-in-Append
+returns-in-Append g c = record {
+  turns = rw (c.in-Append.is ∙ ap (line.Append c.in-Append.file) (sym c.as_slice.ensures)) c.append_bytes.ensures.turns;
+  unwritten = c.append_bytes.ensures.unwritten;
+  formed = c.append_bytes.ensures.stays.formed;
+  cause = c.append_bytes.ensures.cause;
+  alone = c.append_bytes.ensures.alone;
+}
 
-pub returns-in-Patch-clause-turns : goal.returns-in-Patch-clause-turns
-returns-in-Patch-clause-turns g c = rw (c.in-Patch.is ∙ ap (line.Patch c.in-Patch.file c.in-Patch.offset) (sym c.as_slice-in-Patch.ensures)) c.patch_bytes.ensures.turns
+pub returns-in-Patch : goal.returns-in-Patch
+returns-in-Patch g c = record {
+  turns = rw (c.in-Patch.is ∙ ap (line.Patch c.in-Patch.file c.in-Patch.offset) (sym c.as_slice-in-Patch.ensures)) c.patch_bytes.ensures.turns;
+  unwritten = c.patch_bytes.ensures.unwritten;
+  formed = c.patch_bytes.ensures.stays.formed;
+  cause = c.patch_bytes.ensures.cause;
+  alone = c.patch_bytes.ensures.alone;
+}
 
-pub returns-in-Cut-clause-turns : goal.returns-in-Cut-clause-turns
-returns-in-Cut-clause-turns g c = rw c.in-Cut.is c.cut_file.ensures.turns
+pub returns-in-Cut : goal.returns-in-Cut
+returns-in-Cut g c = record {
+  turns = rw c.in-Cut.is c.cut_file.ensures.turns;
+  unwritten = c.cut_file.ensures.unwritten;
+  formed = c.cut_file.ensures.stays.formed;
+  cause = c.cut_file.ensures.cause;
+  alone = c.cut_file.ensures.alone;
+}
 
-pub returns-in-Copy-clause-turns : goal.returns-in-Copy-clause-turns
-returns-in-Copy-clause-turns g c = rw c.in-Copy.is c.copy_file.ensures.turns
+pub returns-in-Copy : goal.returns-in-Copy
+returns-in-Copy g c = record {
+  turns = rw c.in-Copy.is c.copy_file.ensures.turns;
+  unwritten = c.copy_file.ensures.unwritten;
+  formed = c.copy_file.ensures.stays.formed;
+  cause = c.copy_file.ensures.cause;
+  alone = c.copy_file.ensures.alone;
+}
 
-pub returns-in-Rename-clause-turns : goal.returns-in-Rename-clause-turns
-returns-in-Rename-clause-turns g c = rw c.in-Rename.is c.rename_file.ensures.turns
+pub returns-in-Rename : goal.returns-in-Rename
+returns-in-Rename g c = record {
+  turns = rw c.in-Rename.is c.rename_file.ensures.turns;
+  unwritten = c.rename_file.ensures.unwritten;
+  formed = c.rename_file.ensures.stays.formed;
+  cause = c.rename_file.ensures.cause;
+  alone = c.rename_file.ensures.alone;
+}
 
-pub returns-in-Delete-clause-turns : goal.returns-in-Delete-clause-turns
-returns-in-Delete-clause-turns g c = rw c.in-Delete.is c.delete_file.ensures.turns
+pub returns-in-Delete : goal.returns-in-Delete
+returns-in-Delete g c = record {
+  turns = rw c.in-Delete.is c.delete_file.ensures.turns;
+  unwritten = c.delete_file.ensures.unwritten;
+  formed = c.delete_file.ensures.stays.formed;
+  cause = c.delete_file.ensures.cause;
+  alone = c.delete_file.ensures.alone;
+}
 
-pub returns-in-MakeDir-clause-turns : goal.returns-in-MakeDir-clause-turns
-returns-in-MakeDir-clause-turns g c = rw c.in-MakeDir.is c.make_dir.ensures.turns
+pub returns-in-MakeDir : goal.returns-in-MakeDir
+returns-in-MakeDir g c = record {
+  turns = rw c.in-MakeDir.is c.make_dir.ensures.turns;
+  unwritten = c.make_dir.ensures.unwritten;
+  formed = c.make_dir.ensures.stays.formed;
+  cause = c.make_dir.ensures.cause;
+  alone = c.make_dir.ensures.alone;
+}
 
-pub returns-in-RemoveDir-clause-turns : goal.returns-in-RemoveDir-clause-turns
-returns-in-RemoveDir-clause-turns g c = rw c.in-RemoveDir.is c.remove_dir.ensures.turns
+pub returns-in-RemoveDir : goal.returns-in-RemoveDir
+returns-in-RemoveDir g c = record {
+  turns = rw c.in-RemoveDir.is c.remove_dir.ensures.turns;
+  unwritten = c.remove_dir.ensures.unwritten;
+  formed = c.remove_dir.ensures.stays.formed;
+  cause = c.remove_dir.ensures.cause;
+  alone = c.remove_dir.ensures.alone;
+}
 
-pub returns-in-Free-clause-turns : goal.returns-in-Free-clause-turns
-returns-in-Free-clause-turns g c = rw c.in-Free.is c.free_pages.ensures.turns
+pub returns-in-Free : goal.returns-in-Free
+returns-in-Free g c = record {
+  turns = rw c.in-Free.is c.free_pages.ensures.turns;
+  unwritten = λ told. if_refused _ c.free_pages.result (c.free_pages.ensures.silent told);
+  formed = subst (λ f. Formed f (kept c.args.session.now)) (sym c.free_pages.ensures.alone.grown.form) c.requires.obeys.formed;
+  cause = c.free_pages.ensures.cause;
+  alone = c.free_pages.ensures.alone;
+}
 
-pub returns-in-SetTime-clause-turns : goal.returns-in-SetTime-clause-turns
-returns-in-SetTime-clause-turns g c = rw c.in-SetTime.is (λ told. time_turns (g.D.Tape.tape c.args.disk.now) c.args.session.now c.set_time.new.session c.in-SetTime.moment c.set_time.result (rw c.in-SetTime.is at c.requires.obeys) c.set_time.ensures.done c.set_time.ensures.memory c.set_time.ensures.set c.set_time.ensures.left)
+pub returns-in-SetTime : goal.returns-in-SetTime
+returns-in-SetTime g c = record {
+  turns = rw c.in-SetTime.is (λ told. time_turns (g.D.Tape.tape c.args.disk.now) c.args.session.now c.set_time.new.session c.in-SetTime.moment c.set_time.result (rw c.in-SetTime.is at c.requires.obeys) c.set_time.ensures.done c.set_time.ensures.memory c.set_time.ensures.set c.set_time.ensures.left);
+  unwritten = λ told. if_refused _ c.set_time.result (nothing_added (g.D.Tape.tape c.args.disk.now).events);
+  formed = time_formed (g.D.Tape.tape c.args.disk.now).form c.args.session.now c.set_time.new.session c.in-SetTime.moment c.set_time.result c.requires.obeys.formed c.set_time.ensures.set c.set_time.ensures.left;
+  cause = time_cause (g.D.Tape.tape c.args.disk.now) c.set_time.result c.set_time.ensures.memory;
+  alone = alone_here (g.D.Tape.tape c.args.disk.now);
+}
