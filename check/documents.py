@@ -6,6 +6,7 @@ Prints each difference with its place, and ends with 1 where there is one.
 # Each check is a function that yields what it complains of.
 import argparse
 import collections
+import itertools
 import pathlib
 import re
 import subprocess
@@ -23,6 +24,8 @@ CRATE_EDITS = 10
 # `crate/edit`, and `crate::module::item (clause, clause)`
 EDIT = re.compile(r"`([a-z_]+/[a-z0-9_]+)`")
 CONTRACT = re.compile(r"\b([a-z_]+(?:::\w+)+)`?(?: \(([a-z0-9_]+(?:, [a-z0-9_]+)*)\))?")
+# `crate: test, test, and in words what of it`
+TESTS = re.compile(r"\b(test_[a-z]+): ([^;|]*)")
 PATH = re.compile(r"`((?:\w+::)+\w+)`")
 FILE = re.compile(r"(?<![\w./-])(?:\.ci|bench|check|crates|demo|docs|tools)/[\w./-]*\w")
 # what stands for any name, and what is built
@@ -95,6 +98,17 @@ def check_promises():
             yield f"{place}: the row has {len(cells)} cells, and is to have 4"
         elif cells and len(cells[0].split()) > PROMISE_WORDS:
             yield f"{place}: the promise has {len(cells[0].split())} words, and may have {PROMISE_WORDS}"
+
+
+def check_tests():
+    """Each test that docs/promises.md names is a module or a function of its crate."""
+    for place, line in lines_of(TOP / "docs/promises.md"):
+        for crate, listed in TESTS.findall(line):
+            folder = TOP / "crates" / crate / "src"
+            texts = [path.read_text() for path in sorted(folder.rglob("*.rt"))]
+            for test in itertools.takewhile(str.isidentifier, listed.strip().split(", ")):
+                if not (folder / f"{test}.rt").exists() and not any(re.search(rf"\bfn {test}\b", text) for text in texts):
+                    yield f"{place}: names the test {test} of {crate}, which isn't there"
 
 
 def promise_rows():
@@ -255,6 +269,7 @@ def main():
         *check_edits(),
         *check_few_edits(),
         *check_promises(),
+        *check_tests(),
         *check_shown(),
         *check_contracts(found),
         *check_paths(found),

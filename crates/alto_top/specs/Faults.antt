@@ -1,4 +1,4 @@
--- Faults by their causes: each but out of memory has its own count risen.
+-- Faults by their causes, and how what the program was asked for ends.
 use Rattle.std.specs.Prelude.{Result}
 use Rattle.disk_records.specs.Causes.{IsCause, HasCause, of_disk}
 use Rattle.disk_records.specs.Tapes.{Taped}
@@ -6,15 +6,10 @@ use Rattle.disk_descriptor.specs.declared.errors.FormatError.{FormatError}
 use Rattle.disk_descriptor.specs.declared.errors.FormatError.TheVariants as formatting
 use Rattle.pack_reading.specs.declared.error.ReadingError.{ReadingError}
 use Rattle.pack_reading.specs.declared.error.ReadingError.TheVariants as reading
-use Rattle.session_boot.specs.Faults.{cause_of_fault}
+use Rattle.session_boot.specs.Faults.{HasStatusCause, UnlessStopped, cause_of_fault}
 use Rattle.session_boot.specs.declared.status.Fault.{Fault}
 use Rattle.session_boot.specs.declared.status.Fault.TheVariants.{Disk, Memory}
-
-abbrev pub FaultCause : Taped → Taped → Fault → Type 0
-FaultCause old new fault = IsCause old new (cause_of_fault fault)
-
-abbrev pub HasFaultCause : {T : Type 0} → Taped → Taped → Result T Fault → Type 0
-HasFaultCause old new result = HasCause cause_of_fault old new result
+use Rattle.session_boot.specs.declared.status.Status.{Status}
 
 -- a call that is given a disk and no console: the disk alone may fail
 abbrev pub DiskFaultCause : Taped → Taped → Fault → Type 0
@@ -30,3 +25,9 @@ fault_of_reading reading.Memory = Memory
 abbrev pub fault_of_format : FormatError → Fault
 fault_of_format formatting.DiskFault = Disk
 fault_of_format formatting.Memory = Memory
+
+-- How what was asked for ends: a fault is answered only where the count of its device rose, or stands at its end; and unless a fault or out
+-- of memory is answered, this holds of the machine as it is left: no record write is held back.
+pub record Concludes (none_held : Type 0) (old new : Taped) (answer : Status) : Type 0 where
+  pub cause : HasStatusCause old new answer
+  pub handed_on : UnlessStopped answer none_held

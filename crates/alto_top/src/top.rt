@@ -4,6 +4,7 @@ ghost use Rattle.disk_records.specs.Addresses.{disks_of};
 ghost use Rattle.disk_records.specs.Tapes.{Grown, ShowAlone};
 ghost use Rattle.session_boot.specs.Boots.{AnswersBoot};
 ghost use Rattle.session_boot.specs.Faults.{HasStatusCause, UnlessStopped};
+ghost use Rattle.alto_top.specs.Faults.{Concludes};
 ghost use Rattle.alto_top.specs.Showing.{KeepsKeys};
 ghost use Rattle.alto_top.specs.Top.{AnswersPrepare, AnswersTo, AnswersUsage, AsksFor, BootedAlone, DoesAsAsked, PreparesOrUsage, ShowsUsage, Touches, pack_number};
 
@@ -144,8 +145,7 @@ pub fn alto<M: Machine>(alloc: Global, words: &[String], moment: u32, machine: &
     requires handed_on { M.handed_on machine.old }
     ensures does { IsTrue M.told → DoesAsAsked (map string_bytes words.now) moment (M.tape machine.old) (M.tape machine.new) result }
     ensures answers { AnswersTo (map string_bytes words.now) (disks_of (M.tape machine.old).form) result }
-    ensures cause { HasStatusCause (M.tape machine.old) (M.tape machine.new) result }
-    ensures handed_on { UnlessStopped result (M.handed_on machine.new) }
+    ensures ends { Concludes (M.handed_on machine.new) (M.tape machine.old) (M.tape machine.new) result }
     ensures touches { Touches (map string_bytes words.now) (M.tape machine.old) (M.tape machine.new) }
 {
     match asked_of(words) {
