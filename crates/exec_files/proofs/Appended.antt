@@ -16,8 +16,8 @@ use Rattle.exec_words.specs.declared.line.Path.{Path}
 use Rattle.exec_words.specs.declared.line.Target.{Target}
 use Rattle.exec_words.specs.declared.line.Target.TheVariants.{ByPath, BySerial}
 use Rattle.exec_words.specs.declared.reply.Refusal.TheVariants as refusal
-use Rattle.exec_steps.specs.laws_hint.specs.TableLaws.{TableReserves}
-use Rattle.exec_steps.specs.page_alloc.specs.Free.{IsReserved}
+use Rattle.exec_session.specs.laws_hint.specs.TableLaws.{TableReserves}
+use Rattle.exec_session.specs.page_alloc.specs.Free.{IsReserved}
 use Rattle.page_seeking.specs.Seeking.{LastNamed, Quick, all_listed, file_length}
 use Rattle.pack_model.specs.hints.Tables.{TableTrue}
 use Rattle.pack_model.specs.operations.Committing.{length_of, page_of_byte, pages_added}
@@ -42,12 +42,12 @@ use Rattle.exec_session.specs.declared.stop.Stop.{Stop}
 use Rattle.exec_session.specs.declared.stop.Stop.TheVariants as stop
 use Rattle.exec_session.proofs.Looking.{quick_stays}
 use Rattle.exec_session.proofs.Stopping.{error_is}
-use Rattle.exec_steps.specs.Asked.{MayGrowFile, Works}
-use Rattle.exec_steps.specs.Midway.{AreFree, MayStart}
+use Rattle.exec_session.specs.Asked.{MayGrowFile, Works}
+use Rattle.exec_session.specs.Midway.{AreFree, MayStart}
 use Rattle.exec_files.specs.Measured.{IsMeasured}
 use Rattle.exec_files.specs.declared.measuring.Measured.{Measured}
 use Rattle.exec_files.proofs.Appending.{append_full, append_plans, append_writes, few_bytes, few_pages, may_grow}
-use Rattle.exec_steps.proofs.Frames.{world_worked, works_looked, works_reserved, works_twice}
+use Rattle.exec_session.proofs.Frames.{world_worked, works_looked, works_reserved, works_twice}
 use Rattle.exec_files.proofs.Lengths.{measured_length}
 use Rattle.exec_files.proofs.Reserving.{alone_both, ready_reserved, reserved_free, same_but_reserved, silent_both, table_was}
 use Rattle.exec_files.proofs.Touching.{follows_file, handy_front, handy_of, named}

@@ -12,8 +12,8 @@ use Rattle.exec_words.specs.declared.line.Line.TheVariants as line
 use Rattle.exec_words.specs.declared.line.Target.{Target}
 use Rattle.exec_words.specs.declared.reply.Refusal.{Refusal}
 use Rattle.exec_words.specs.declared.reply.Refusal.TheVariants as refusal
-use Rattle.exec_steps.specs.laws_line.specs.SoundLines.IsKindOfLine.{changes}
-use Rattle.exec_steps.specs.laws_steps.specs.LineKeepingLaws.{StaysFoundOver}
+use Rattle.exec_session.specs.laws_line.specs.SoundLines.IsKindOfLine.{changes}
+use Rattle.exec_session.specs.laws_steps.specs.LineKeepingLaws.{StaysFoundOver}
 use Rattle.page_seeking.specs.Seeking.{file_length}
 use Rattle.page_seeking.specs.declared.refs.FileRef.{FileRef}
 use Rattle.pack_model.specs.operations.Committing.{length_of, pages_added, pages_for_operations}
@@ -29,14 +29,14 @@ use Rattle.session_model.specs.Streams.{grows}
 use Rattle.session_model.specs.Worlds.{World}
 use Rattle.exec_session.specs.Meant.{IsTakenUpBy}
 use Rattle.exec_session.specs.declared.stop.Stop.{Stop}
-use Rattle.exec_steps.specs.Asked.{MayGrowFile}
-use Rattle.exec_steps.specs.Midway.{AreFree, Arrived, MayStart, Started, StepsOn}
+use Rattle.exec_session.specs.Asked.{MayGrowFile}
+use Rattle.exec_session.specs.Midway.{AreFree, Arrived, MayStart, Started, StepsOn}
 use Rattle.exec_files.specs.Measured.{IsMeasured}
 use Rattle.exec_files.specs.Writing.{WritesAll}
 use Rattle.exec_files.specs.declared.measuring.Measured.{Measured}
 use Rattle.exec_files.proofs.Lengths.{is_file, measured_length, model_length}
 use Rattle.exec_files.proofs.Opening.{file_stands_still, opens_and_steps}
-use Rattle.exec_steps.specs.laws_session.specs.RefusedLaws.{first_of}
+use Rattle.exec_session.specs.laws_session.specs.RefusedLaws.{first_of}
 use Rattle.exec_files.proofs.Reasons.{has_room, lacks_room, none_streamed, operand_refused, operand_taken, room_comes, tests_of}
 use Rattle.exec_session.proofs.TakingUp.{typed_line}
 use Rattle.exec_files.proofs.Touching.{named, touches_file}

@@ -12,8 +12,8 @@ use Rattle.exec_words.specs.declared.line.Line.TheVariants as line
 use Rattle.exec_words.specs.declared.line.Target.{Target}
 use Rattle.exec_words.specs.declared.reply.Refusal.{Refusal}
 use Rattle.exec_words.specs.declared.reply.Refusal.TheVariants as refusal
-use Rattle.exec_steps.specs.laws_line.specs.SoundLines.IsKindOfLine.{changes}
-use Rattle.exec_steps.specs.laws_steps.specs.LineKeepingLaws.{StaysFoundOver}
+use Rattle.exec_session.specs.laws_line.specs.SoundLines.IsKindOfLine.{changes}
+use Rattle.exec_session.specs.laws_steps.specs.LineKeepingLaws.{StaysFoundOver}
 use Rattle.page_seeking.specs.Parts.{IsPast}
 use Rattle.page_seeking.specs.Refs as refs
 use Rattle.page_seeking.specs.Refs.{MisledBy}
@@ -36,14 +36,14 @@ use Rattle.exec_session.specs.Meant.{IfHint, IsTakenUpBy}
 use Rattle.exec_session.specs.Stops.{stop_written}
 use Rattle.exec_session.specs.declared.stop.Stop.{Stop}
 use Rattle.exec_session.proofs.Finding.{contains_first}
-use Rattle.exec_steps.specs.Midway.{Arrived, MayStart, Started, StepsOn}
+use Rattle.exec_session.specs.Midway.{Arrived, MayStart, Started, StepsOn}
 use Rattle.exec_files.specs.Cutting.{MayCutFile, cuts, cuts_and_stamps}
 use Rattle.exec_files.specs.Writing.{WritesAll}
 use Rattle.exec_files.specs.Measured.{IsMeasured}
 use Rattle.exec_files.specs.declared.measuring.Measured.{Measured}
 use Rattle.exec_files.proofs.Lengths.{is_file, measured_length, model_length}
 use Rattle.exec_files.proofs.Opening.{file_stands_still, opens_and_steps}
-use Rattle.exec_steps.specs.laws_session.specs.RefusedLaws.{first_of}
+use Rattle.exec_session.specs.laws_session.specs.RefusedLaws.{first_of}
 use Rattle.exec_files.proofs.Reasons.{beyond_comes, has_room, is_beyond, is_within, none_streamed, operand_refused, operand_taken, room_comes, tests_of}
 use Rattle.exec_files.proofs.Touching.{named, touches_file}
 use Rattle.exec_files.proofs.Turns.{AreOfALine, IsWriting, Plans}

@@ -10,7 +10,7 @@ use Rattle.exec_words.specs.declared.line.Line.{Line}
 use Rattle.exec_words.specs.declared.line.Line.TheVariants as line
 use Rattle.exec_words.specs.declared.line.Path.{Path}
 use Rattle.exec_words.specs.declared.reply.Reply.TheVariants as reply
-use Rattle.exec_steps.specs.laws_contents.proofs.pages.Laws.{formed_pages_have_256_words}
+use Rattle.exec_session.specs.laws_contents.proofs.pages.Laws.{formed_pages_have_256_words}
 use Rattle.pack_model.specs.reading.Files.{first}
 use Rattle.pack_model.specs.reading.Model.{Model, read_as}
 use Rattle.pack_model.specs.states.Sound.{Sound}
@@ -32,7 +32,7 @@ use Rattle.exec_session.specs.declared.operands.Found.{Found}
 use Rattle.exec_session.specs.declared.session.Session.{Session}
 use Rattle.exec_session.specs.declared.stop.Stop.{Stop}
 use Rattle.exec_session.specs.declared.stop.Stop.TheVariants as stop
-use Rattle.exec_steps.proofs.LookedBefore.{looked_before, same_count}
+use Rattle.exec_session.proofs.LookedBefore.{looked_before, same_count}
 use Rattle.exec_files.specs.Drops.{DropsFound, FindsDropped, IsDropped}
 use Rattle.exec_files.specs.Dropping.{MayDropFound, to_drop}
 

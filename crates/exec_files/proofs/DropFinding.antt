@@ -27,13 +27,13 @@ use Rattle.exec_words.specs.declared.line.Path.{Path}
 use Rattle.exec_words.specs.declared.line.Target.TheVariants.{ByPath}
 use Rattle.exec_words.specs.declared.reply.Refusal.{Refusal}
 use Rattle.exec_words.specs.declared.reply.Refusal.TheVariants as refusal
-use Rattle.exec_steps.specs.laws_line.specs.LineLaws.{IsEntered}
+use Rattle.exec_session.specs.laws_line.specs.LineLaws.{IsEntered}
 use Rattle.laws_lookup.proofs.dropping.Laws.{empty_directory_is_bare, ordinary_file_is_bare}
 use Rattle.laws_lookup.proofs.slots.Laws.{lookup_is_the_models}
-use Rattle.exec_steps.specs.laws_midway.proofs.found.Laws.{found_file_is_entered, found_file_lives, name_is_its_own}
+use Rattle.exec_session.specs.laws_midway.proofs.found.Laws.{found_file_is_entered, found_file_lives, name_is_its_own}
 use Rattle.laws_lookup.specs.DropLaws.{IsBare, is_an_entry}
-use Rattle.exec_steps.specs.laws_operation.proofs.entries.Laws.{items_are_slots}
-use Rattle.exec_steps.specs.pack_laws.proofs.Keys.{same_fid}
+use Rattle.exec_session.specs.laws_operation.proofs.entries.Laws.{items_are_slots}
+use Rattle.exec_session.specs.pack_laws.proofs.Keys.{same_fid}
 use Rattle.page_seeking.specs.Refs.{MisledBy}
 use Rattle.page_seeking.specs.declared.refs.FileError.TheVariants as fault
 use Rattle.pack_model.specs.hints.Links.{dir_slots}

@@ -8,10 +8,10 @@ use Rattle.disk_records.specs.Tapes.{DiskAlone, Taped, pack}
 use Rattle.exec_words.specs.Texts.{done_text}
 use Rattle.exec_words.specs.declared.line.Line.{Line}
 use Rattle.exec_words.specs.declared.reply.Reply.TheVariants as reply
-use Rattle.exec_steps.specs.laws_call.specs.SoundCalls.{LineFits}
-use Rattle.exec_steps.specs.laws_hint.proofs.tables.Laws.{table_without_reserved}
-use Rattle.exec_steps.specs.laws_line.specs.LineLaws.{IsEntered}
-use Rattle.exec_steps.specs.laws_line.specs.SoundLines.{goes}
+use Rattle.exec_session.specs.laws_call.specs.SoundCalls.{LineFits}
+use Rattle.exec_session.specs.laws_hint.proofs.tables.Laws.{table_without_reserved}
+use Rattle.exec_session.specs.laws_line.specs.LineLaws.{IsEntered}
+use Rattle.exec_session.specs.laws_line.specs.SoundLines.{goes}
 use Rattle.laws_lookup.specs.DropLaws.{IsBare}
 use Rattle.page_seeking.specs.Refs.{FileIsFrom}
 use Rattle.pack_model.specs.operations.Step.Operation.{drop_file}
@@ -21,7 +21,7 @@ use Rattle.pack_model.specs.reading.Namings.{namings_in}
 use Rattle.pack_model.specs.reading.Sights.{sights}
 use Rattle.pack_model.specs.sessions.Descriptor.{DescriptorFits}
 use Rattle.pack_model.specs.states.Sound.{Sound}
-use Rattle.exec_steps.specs.laws_midway.proofs.found.Laws.{found_file_lives}
+use Rattle.exec_session.specs.laws_midway.proofs.found.Laws.{found_file_lives}
 use Rattle.session_model.specs.Keeping.{Kept}
 use Rattle.session_model.specs.Turning.{State, cue_files, typed}
 use Rattle.exec_session.specs.Meant.{IfRefused, kept, kept_stopped, stopped}
@@ -30,11 +30,11 @@ use Rattle.exec_session.specs.declared.operands.Found.{Found}
 use Rattle.exec_session.specs.declared.session.Session.{Session}
 use Rattle.exec_session.specs.declared.stop.Stop.{Stop}
 use Rattle.exec_session.specs.declared.stop.Stop.TheVariants as stop
-use Rattle.exec_steps.specs.Asked.{Works}
-use Rattle.exec_steps.specs.Lines.{BreaksOff}
-use Rattle.exec_steps.specs.Midway.{MayStart, Midway, Started, Stepped, StepsOn}
-use Rattle.exec_steps.proofs.Stepping.{if_hint_weaker}
-use Rattle.exec_steps.proofs.laws.Laws.{line_is_done, line_stops, lines_break_off}
+use Rattle.exec_session.specs.Asked.{Works}
+use Rattle.exec_session.specs.Lines.{BreaksOff}
+use Rattle.exec_session.specs.Midway.{MayStart, Midway, Started, Stepped, StepsOn}
+use Rattle.exec_session.proofs.Stepping.{if_hint_weaker}
+use Rattle.exec_session.proofs.laws.Laws.{line_is_done, line_stops, lines_break_off}
 use Rattle.exec_files.specs.Drops.{DropsFound}
 use Rattle.exec_files.specs.Dropping.{MayDropFound}
 

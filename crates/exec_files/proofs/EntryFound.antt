@@ -9,12 +9,12 @@ use Rattle.dir_slots.proofs.Slots.{all_words-append}
 use Rattle.directory.specs.Leaving.{entry_named}
 use Rattle.disk_records.proofs.Bytes.{length-words_of}
 use Rattle.disk_records.specs.Packs.{Pack}
-use Rattle.exec_steps.specs.laws_contents.proofs.ends.Laws.{each_file_has_its_end, whole_file_ends_in_a_page}
-use Rattle.exec_steps.specs.laws_line.specs.LineLaws.{IsEntered}
+use Rattle.exec_session.specs.laws_contents.proofs.ends.Laws.{each_file_has_its_end, whole_file_ends_in_a_page}
+use Rattle.exec_session.specs.laws_line.specs.LineLaws.{IsEntered}
 use Rattle.laws_lookup.proofs.slots.Laws.{found_entry_splits_the_slots, lookup_is_the_models}
-use Rattle.exec_steps.specs.laws_midway.proofs.found.Laws.{found_entry_may_go}
-use Rattle.exec_steps.specs.laws_operation.specs.DirectoryWords.{HasEntry}
-use Rattle.exec_steps.specs.laws_steps.proofs.entries.Laws.{entered_is_meant}
+use Rattle.exec_session.specs.laws_midway.proofs.found.Laws.{found_entry_may_go}
+use Rattle.exec_session.specs.laws_operation.specs.DirectoryWords.{HasEntry}
+use Rattle.exec_session.specs.laws_steps.proofs.entries.Laws.{entered_is_meant}
 use Rattle.pack_model.specs.hints.Links.{dir_words}
 use Rattle.pack_model.specs.operations.Committing.{page_of_word}
 use Rattle.pack_model.specs.reading.Files.{file_bytes, lives, place}

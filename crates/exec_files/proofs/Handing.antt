@@ -9,8 +9,8 @@ use Rattle.disk_records.specs.Tapes.{Taped, pack}
 use Rattle.disk_records.specs.declared.records.Event.{Event}
 use Rattle.disk_records.specs.declared.records.Sector.{Sector}
 use Rattle.disk_records.specs.Words.{word}
-use Rattle.exec_steps.specs.laws_hint.specs.LineLinks.{opening_writes}
-use Rattle.exec_steps.specs.laws_line.specs.CrashLaws.{Batch, over}
+use Rattle.exec_session.specs.laws_hint.specs.LineLinks.{opening_writes}
+use Rattle.exec_session.specs.laws_line.specs.CrashLaws.{Batch, over}
 use Rattle.laws_lookup.proofs.others.Laws.{place_is_of_its_file, values_leave_others}
 use Rattle.laws_lookup.specs.OtherLaws.{LeavesOthers}
 use Rattle.page_seeking.specs.Seeking.{LastNamed, NamedNearEnd, file_length}
@@ -23,7 +23,7 @@ use Rattle.pack_model.specs.sessions.Descriptor.{opened_value}
 use Rattle.pack_model.specs.states.Sound.{mark_of, mark_open}
 use Rattle.pack_model.specs.states.Whole.{Whole}
 use Rattle.session_model.specs.Keeping.{Kept}
-use Rattle.exec_steps.specs.Midway.{Midway}
+use Rattle.exec_session.specs.Midway.{Midway}
 
 -- ---- the opening leaves all files but DiskDescriptor
 others_here : (f : Fid) (p : Pack) → LeavesOthers f p p

@@ -2,8 +2,8 @@
 use Rattle.std.proofs.Common.{◌≡◌, ◌∙◌, sym, true}
 use Rattle.disk_records.specs.Packs.{Pack}
 use Rattle.exec_words.specs.declared.line.Target.{Target}
-use Rattle.exec_steps.specs.laws_contents.proofs.model.Laws.{model_lengths_are_of_bytes}
-use Rattle.exec_steps.specs.laws_midway.proofs.found.Laws.{found_file_lives}
+use Rattle.exec_session.specs.laws_contents.proofs.model.Laws.{model_lengths_are_of_bytes}
+use Rattle.exec_session.specs.laws_midway.proofs.found.Laws.{found_file_lives}
 use Rattle.page_seeking.specs.Refs.{FileIsFrom}
 use Rattle.page_seeking.specs.Seeking.{file_length}
 use Rattle.page_seeking.specs.declared.refs.FileRef.{FileRef}
@@ -12,7 +12,7 @@ use Rattle.pack_model.specs.reading.Files.{lives}
 use Rattle.pack_model.specs.reading.Model.{read_as}
 use Rattle.pack_model.specs.reading.Sights.{sights}
 use Rattle.pack_model.specs.states.Sound.{Sound}
-use Rattle.exec_steps.specs.Asked.{IsFile}
+use Rattle.exec_session.specs.Asked.{IsFile}
 use Rattle.exec_files.specs.Measured.{IsMeasured}
 use Rattle.exec_files.specs.declared.measuring.Measured.{Measured}
 

@@ -11,7 +11,7 @@ use Rattle.disk_records.specs.Tapes.{Taped, capped, pack}
 use Rattle.exec_words.specs.declared.line.Line.{Line}
 use Rattle.exec_words.specs.declared.line.Target.{Target}
 use Rattle.exec_words.specs.declared.reply.Refusal.{Refusal}
-use Rattle.exec_steps.specs.laws_hint.proofs.tables.Laws.{table_without_reserved}
+use Rattle.exec_session.specs.laws_hint.proofs.tables.Laws.{table_without_reserved}
 use Rattle.pack_model.specs.hints.Tables.{TableTrue}
 use Rattle.pack_model.specs.reading.Model.{read_as}
 use Rattle.pack_model.specs.states.Sound.{Sound}
@@ -27,7 +27,7 @@ use Rattle.exec_session.specs.declared.stop.Stop.{Stop}
 use Rattle.exec_session.specs.declared.stop.Stop.TheVariants as stop
 use Rattle.exec_session.proofs.Looking.{same_but_looked}
 use Rattle.exec_session.proofs.Stopping.{error_is, hint_of_stop, refused_of_stop}
-use Rattle.exec_steps.proofs.LookedBefore.{same_count}
+use Rattle.exec_session.proofs.LookedBefore.{same_count}
 use Rattle.exec_files.proofs.Turns.{IsWriting, ReadyToWrite, unwritten_turns}
 
 -- ---- it isn't done

@@ -21,17 +21,17 @@ use Rattle.directory.specs.Leaving.{FreesSlot, Wrote, entry_named, freed, unfree
 use Rattle.directory.specs.Found.{IsAbsent}
 use Rattle.directory.specs.declared.errors.DirError.{DirError}
 use Rattle.directory.specs.declared.errors.DirError.TheVariants.{NoSuchName, NameTaken, NoSlot, File}
-use Rattle.exec_steps.specs.laws_call.specs.Acting.{Operates, Releases, around, begun, refused, releasing, unreleased}
-use Rattle.exec_steps.specs.laws_call.specs.Going.{Goes}
-use Rattle.exec_steps.specs.laws_hint.specs.MapChanges.{marked}
-use Rattle.exec_steps.specs.laws_line.specs.CrashLaws.{over}
+use Rattle.exec_session.specs.laws_call.specs.Acting.{Operates, Releases, around, begun, refused, releasing, unreleased}
+use Rattle.exec_session.specs.laws_call.specs.Going.{Goes}
+use Rattle.exec_session.specs.laws_hint.specs.MapChanges.{marked}
+use Rattle.exec_session.specs.laws_line.specs.CrashLaws.{over}
 use Rattle.laws_lookup.proofs.before.Laws.{release_misled_before}
-use Rattle.exec_steps.specs.laws_operation.proofs.drop.Laws.{release_carries_out}
-use Rattle.exec_steps.specs.laws_operation.specs.DirectoryWords.{HasEntry}
-use Rattle.exec_steps.specs.laws_operation.specs.LifeLaws.{MayDrop, first_moves}
-use Rattle.exec_steps.specs.laws_steps.proofs.dropping.Laws.{drop_is_joined}
-use Rattle.exec_steps.specs.laws_steps.specs.DroppingLaws.{DropJoins, StandsReleased, released_pack, slot_writes}
-use Rattle.exec_steps.specs.pack_laws.proofs.tallies.Laws.{tallies_join}
+use Rattle.exec_session.specs.laws_operation.proofs.drop.Laws.{release_carries_out}
+use Rattle.exec_session.specs.laws_operation.specs.DirectoryWords.{HasEntry}
+use Rattle.exec_session.specs.laws_operation.specs.LifeLaws.{MayDrop, first_moves}
+use Rattle.exec_session.specs.laws_steps.proofs.dropping.Laws.{drop_is_joined}
+use Rattle.exec_session.specs.laws_steps.specs.DroppingLaws.{DropJoins, StandsReleased, released_pack, slot_writes}
+use Rattle.exec_session.specs.pack_laws.proofs.tallies.Laws.{tallies_join}
 use Rattle.pack_model.specs.hints.Misled.{AnswersMisled, Finds, Misled}
 use Rattle.pack_model.specs.operations.Committing.{moves_of}
 use Rattle.pack_model.specs.operations.Operations.Move.{quiet}
@@ -55,7 +55,7 @@ use Rattle.exec_session.specs.Meant.{IfHint}
 use Rattle.exec_session.specs.Stops.{stop_entered, stop_writing, stop_written}
 use Rattle.exec_session.specs.declared.stop.Stop.{Stop}
 use Rattle.exec_session.specs.declared.stop.Stop.TheVariants as stop
-use Rattle.exec_steps.proofs.Counting.{first_few, obeys_many}
+use Rattle.exec_session.proofs.Counting.{first_few, obeys_many}
 use Rattle.exec_files.proofs.EntryFound.{IsFoundBy}
 
 -- ---- the answer of the second call

@@ -5,9 +5,9 @@ use Rattle.alto_words.specs.declared.fid.Fid.{Fid}
 use Rattle.disk_records.specs.Packs.{Pack}
 use Rattle.disk_records.specs.Tapes.{Taped, added, pack}
 use Rattle.exec_words.specs.declared.line.Line.{Line}
-use Rattle.exec_steps.specs.laws_call.specs.SoundCalls.{LineFits}
-use Rattle.exec_steps.specs.laws_steps.specs.LineKeepingLaws.{StaysFoundOver}
-use Rattle.exec_steps.specs.laws_midway.proofs.found.Laws.{found_file_lives}
+use Rattle.exec_session.specs.laws_call.specs.SoundCalls.{LineFits}
+use Rattle.exec_session.specs.laws_steps.specs.LineKeepingLaws.{StaysFoundOver}
+use Rattle.exec_session.specs.laws_midway.proofs.found.Laws.{found_file_lives}
 use Rattle.page_seeking.specs.Refs.{FileIsFrom}
 use Rattle.page_seeking.specs.declared.refs.FileRef.{FileRef}
 use Rattle.pack_model.specs.operations.Step.{Operation}
@@ -19,10 +19,10 @@ use Rattle.exec_session.specs.Turned.{Begins, line_ops}
 use Rattle.exec_session.specs.declared.stop.Stop.{Stop}
 use Rattle.exec_session.specs.declared.stop.Stop.TheVariants as stop
 use Rattle.exec_session.proofs.Stopping.{error_is}
-use Rattle.exec_steps.specs.Asked.{IsFile}
-use Rattle.exec_steps.specs.Lines.{BrokeOff}
-use Rattle.exec_steps.specs.Midway.{Arrived, MayStart, Midway, Started, Stepped, StepsOn}
-use Rattle.exec_steps.proofs.laws.Laws.{lines_break_off}
+use Rattle.exec_session.specs.Asked.{IsFile}
+use Rattle.exec_session.specs.Lines.{BrokeOff}
+use Rattle.exec_session.specs.Midway.{Arrived, MayStart, Midway, Started, Stepped, StepsOn}
+use Rattle.exec_session.proofs.laws.Laws.{lines_break_off}
 use Rattle.exec_files.specs.Writing.{WritesAll}
 
 -- ---- a file that was found, after some steps

@@ -1,8 +1,7 @@
 -- Bytes in the place of those of a file: their line by the model.
-use Rattle.std.proofs.Common.{◌≡◌, ◌==◌, ◌≤◌, ◌<◌, ◌∙◌, ◌∷◌, ◌+◌, ◌-◌, ◌%◌, ℕ, zero, suc, Bool, true, false, List, [], length, take, drop, min, Option, Some, Result, Ok, arith, ap, refl, sym, subst}
+use Rattle.std.proofs.Common.{Bool, List, Ok, Option, Result, Some, [], ap, arith, drop, false, length, length-drop, min, refl, subst, suc, sym, take, true, zero, ℕ, ◌%◌, ◌+◌, ◌-◌, ◌<◌, ◌==◌, ◌∙◌, ◌∷◌, ◌≡◌, ◌≤◌}
 use Rattle.std.proofs.lemmas.Bool.Decides.{nat_tests}
 use Rattle.std.proofs.lemmas.List.{length-take}
-use Rattle.std.proofs.Common.{length-drop}
 use Rattle.alto_words.specs.declared.fid.Fid.{Fid}
 use Rattle.disk_records.specs.Packs.{Pack}
 use Rattle.disk_records.specs.Tapes.{Taped, pack}
@@ -12,9 +11,9 @@ use Rattle.exec_words.specs.declared.line.Line.TheVariants as line
 use Rattle.exec_words.specs.declared.line.Target.{Target}
 use Rattle.exec_words.specs.declared.reply.Refusal.{Refusal}
 use Rattle.exec_words.specs.declared.reply.Refusal.TheVariants as refusal
-use Rattle.exec_steps.specs.laws_line.specs.LineLaws.{LeaveNames}
-use Rattle.exec_steps.specs.laws_line.specs.SoundLines.IsKindOfLine.{changes}
-use Rattle.exec_steps.specs.laws_steps.proofs.lengths.Laws.{put_keeps_the_length}
+use Rattle.exec_session.specs.laws_line.specs.LineLaws.{LeaveNames}
+use Rattle.exec_session.specs.laws_line.specs.SoundLines.IsKindOfLine.{changes}
+use Rattle.exec_session.specs.laws_steps.proofs.lengths.Laws.{put_keeps_the_length}
 use Rattle.page_seeking.specs.Seeking.{file_length}
 use Rattle.page_seeking.specs.declared.refs.FileRef.{FileRef}
 use Rattle.pack_model.specs.operations.Committing.{length_of, pages_for_operations}
@@ -31,7 +30,7 @@ use Rattle.session_model.specs.Streams.{puts, puts_from}
 use Rattle.session_model.specs.Worlds.{World}
 use Rattle.exec_session.specs.Meant.{IsTakenUpBy}
 use Rattle.exec_session.specs.declared.stop.Stop.{Stop}
-use Rattle.exec_steps.specs.Midway.{Arrived, MayStart, Started, StepsOn}
+use Rattle.exec_session.specs.Midway.{Arrived, MayStart, Started, StepsOn}
 use Rattle.exec_files.specs.Measured.{IsMeasured}
 use Rattle.exec_files.specs.Patching.{MayPatchFile}
 use Rattle.exec_files.specs.Writing.{WritesAll}
@@ -39,7 +38,7 @@ use Rattle.exec_files.specs.declared.measuring.Measured.{Measured}
 use Rattle.exec_files.proofs.Lengths.{is_file, measured_length, model_length}
 use Rattle.exec_files.proofs.Opening.{file_stands_still, opens_and_steps}
 use Rattle.exec_files.proofs.Putting.{puts_first}
-use Rattle.exec_steps.specs.laws_session.specs.RefusedLaws.{first_of}
+use Rattle.exec_session.specs.laws_session.specs.RefusedLaws.{first_of}
 use Rattle.exec_files.proofs.Reasons.{beyond_comes, has_room, is_beyond, is_within, none_streamed, operand_refused, operand_taken, room_comes, tests_of}
 use Rattle.exec_files.proofs.Touching.{named, touches_file}
 use Rattle.exec_files.proofs.Turns.{AreOfALine, IsWriting, Plans, Unrefused}

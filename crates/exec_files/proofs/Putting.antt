@@ -1,6 +1,5 @@
 -- Bytes that are put in the place of others, page by page.
-use Rattle.std.proofs.Common.{◌≡◌, ◌≤◌, ◌<◌, ◌∙◌, ◌∷◌, ◌++◌, ◌+◌, ◌-◌, ◌%◌, ℕ, zero, suc, Contains, List, [], length, take, take_all, drop, min, Result, Ok, Err, append_assoc, append-nil, ap, refl, sym, subst, inl, inr, ◌⊎◌, arith}
-use Rattle.std.proofs.Common.{length-drop}
+use Rattle.std.proofs.Common.{Contains, Err, List, Ok, Result, [], ap, append-nil, append_assoc, arith, drop, inl, inr, length, length-drop, min, refl, subst, suc, sym, take, take_all, zero, ℕ, ◌%◌, ◌++◌, ◌+◌, ◌-◌, ◌<◌, ◌∙◌, ◌∷◌, ◌≡◌, ◌≤◌, ◌⊎◌}
 use Rattle.std.proofs.lemmas.List.{drop-drop, length-take}
 use Rattle.alto_words.specs.declared.fid.Fid.{Fid}
 use Rattle.disk_records.specs.Packs.{Pack}
@@ -8,10 +7,10 @@ use Rattle.disk_records.specs.Tapes.{Taped, pack}
 use Rattle.disk_records.specs.declared.records.Event.{Event}
 use Rattle.disk_records.specs.declared.records.Place.{Place}
 use Rattle.file_pages.specs.Putting.{EndsBefore}
-use Rattle.exec_steps.specs.laws_call.specs.Acting.{Around}
-use Rattle.exec_steps.specs.laws_line.specs.Ready.{steps_of}
-use Rattle.exec_steps.specs.laws_steps.proofs.lengths.Laws.{put_keeps_the_length}
-use Rattle.exec_steps.specs.laws_steps.specs.LineKeepingLaws.{StaysFoundOver}
+use Rattle.exec_session.specs.laws_call.specs.Acting.{Around}
+use Rattle.exec_session.specs.laws_line.specs.Ready.{steps_of}
+use Rattle.exec_session.specs.laws_steps.proofs.lengths.Laws.{put_keeps_the_length}
+use Rattle.exec_session.specs.laws_steps.specs.LineKeepingLaws.{StaysFoundOver}
 use Rattle.page_seeking.specs.Refs as refs
 use Rattle.page_seeking.specs.Refs.{MisledBy}
 use Rattle.page_seeking.specs.Seeking.{file_length}
@@ -29,10 +28,10 @@ use Rattle.exec_session.specs.Meant.{IfHint}
 use Rattle.exec_session.specs.Stops.{stop_written}
 use Rattle.exec_session.specs.declared.stop.Stop.{Stop}
 use Rattle.exec_session.proofs.Finding.{contains_first}
-use Rattle.exec_steps.specs.Midway.{Arrived, StepsOn}
-use Rattle.exec_steps.proofs.Joining.{step_for, step_of_nothing, steps_err, steps_ok}
-use Rattle.exec_steps.proofs.Stepping.{steps_append}
-use Rattle.exec_steps.proofs.laws.Laws.{step_stops, steps_join}
+use Rattle.exec_session.specs.Midway.{Arrived, StepsOn}
+use Rattle.exec_session.proofs.Joining.{step_for, step_of_nothing, steps_err, steps_ok}
+use Rattle.exec_session.proofs.Stepping.{steps_append}
+use Rattle.exec_session.proofs.laws.Laws.{step_stops, steps_join}
 use Rattle.exec_files.specs.Patching.{MayPatchFile}
 use Rattle.exec_files.proofs.Lengths.{model_length}
 use Rattle.exec_files.proofs.Opening.{file_stands_still}

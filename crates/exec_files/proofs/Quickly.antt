@@ -5,7 +5,7 @@ use Rattle.alto_words.specs.Fid.{disk_descriptor}
 use Rattle.disk_records.proofs.Growing.{pack-after}
 use Rattle.disk_records.specs.Tapes.{Taped, pack}
 use Rattle.file_pages.specs.Calls.{StaysHandy}
-use Rattle.exec_steps.specs.hint_cache.specs.Caches.{Cached}
+use Rattle.exec_session.specs.hint_cache.specs.Caches.{Cached}
 use Rattle.page_seeking.specs.Seeking.{LastNamed, NamedNearEnd, Quick, QuickCache, Refused, all_listed}
 use Rattle.page_seeking.specs.declared.refs.FileRef.{FileRef}
 use Rattle.pack_model.specs.hints.Links.{LinksTrue}
@@ -15,8 +15,8 @@ use Rattle.session_model.specs.Streams.{grows}
 use Rattle.exec_session.specs.Meant.{IsSameButMark, IsSoon, kept}
 use Rattle.exec_session.specs.declared.session.Session.{Session}
 use Rattle.exec_session.specs.declared.stop.Stop.{Stop}
-use Rattle.exec_steps.specs.Asked.{MayGrowFile, Works, to_stamp}
-use Rattle.exec_steps.specs.Midway.{Arrived, MayStart, Midway, Started, StepsOn}
+use Rattle.exec_session.specs.Asked.{MayGrowFile, Works, to_stamp}
+use Rattle.exec_session.specs.Midway.{Arrived, MayStart, Midway, Started, StepsOn}
 use Rattle.exec_files.proofs.Appending.{may_grow_still}
 use Rattle.exec_files.proofs.Handing.{handy_stays, last_stays, near_of_last, opened_others}
 

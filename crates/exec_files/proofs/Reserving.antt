@@ -6,15 +6,15 @@ use Rattle.disk_records.proofs.Growing.{alone_twice, pack-silent, silent_twice}
 use Rattle.disk_records.specs.Events.{writes_in}
 use Rattle.disk_records.specs.Packs.{AreFormed, Pack, is_free_at}
 use Rattle.disk_records.specs.Tapes.{DiskAlone, Looks, Taped, added, capped, pack}
-use Rattle.exec_steps.specs.laws_hint.specs.TableLaws.{TableReserves}
-use Rattle.exec_steps.specs.page_alloc.specs.Free.{IsReserved}
+use Rattle.exec_session.specs.laws_hint.specs.TableLaws.{TableReserves}
+use Rattle.exec_session.specs.page_alloc.specs.Free.{IsReserved}
 use Rattle.pack_model.specs.hints.Tables.{TableTrue}
 use Rattle.pack_model.specs.states.Sound.{Sound}
 use Rattle.exec_session.specs.Meant.{IsSameButTable, LooksAbout, kept}
 use Rattle.exec_session.specs.Turned.{SameBut}
 use Rattle.exec_session.specs.declared.session.Session.{Session}
-use Rattle.exec_steps.specs.Midway.{AreFree}
-use Rattle.exec_steps.proofs.LookedBefore.{same_count}
+use Rattle.exec_session.specs.Midway.{AreFree}
+use Rattle.exec_session.proofs.LookedBefore.{same_count}
 use Rattle.exec_files.proofs.Looked.{hints_alone}
 use Rattle.exec_files.proofs.Turns.{ReadyToWrite}
 

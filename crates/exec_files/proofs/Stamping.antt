@@ -4,17 +4,17 @@ use Rattle.std.specs.Result.{IsErrAnd}
 use Rattle.std.proofs.lemmas.List.Elements.{Contains-append_cases}
 use Rattle.alto_words.specs.declared.fid.Fid.{Fid}
 use Rattle.disk_records.specs.Tapes.{Taped, pack}
-use Rattle.exec_steps.specs.laws_steps.specs.LineKeepingLaws.{StaysFoundOver}
+use Rattle.exec_session.specs.laws_steps.specs.LineKeepingLaws.{StaysFoundOver}
 use Rattle.page_seeking.specs.declared.refs.FileRef.{FileRef}
 use Rattle.pack_model.specs.operations.Step.{Operation}
 use Rattle.pack_model.specs.reading.Model.{Model}
 use Rattle.session_model.specs.Keeping.{Kept}
 use Rattle.exec_session.specs.declared.stop.Stop.{Stop}
 use Rattle.exec_session.proofs.Stopping.{error_is}
-use Rattle.exec_steps.specs.Asked.{IsFile, to_stamp}
-use Rattle.exec_steps.specs.Midway.{StepsOn}
-use Rattle.exec_steps.proofs.Joining.{step_for}
-use Rattle.exec_steps.proofs.laws.Laws.{step_stops, steps_join}
+use Rattle.exec_session.specs.Asked.{IsFile, to_stamp}
+use Rattle.exec_session.specs.Midway.{StepsOn}
+use Rattle.exec_session.proofs.Joining.{step_for}
+use Rattle.exec_session.proofs.laws.Laws.{step_stops, steps_join}
 use Rattle.exec_files.proofs.Opening.{file_stands_still}
 
 pub twice_one : (f g : Fid) → Contains ((f ∷ []) ++ (f ∷ [])) g → Contains (f ∷ []) g

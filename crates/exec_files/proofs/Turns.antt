@@ -9,12 +9,12 @@ use Rattle.disk_records.specs.Tapes.{DiskAlone, Taped, added, pack}
 use Rattle.disk_records.specs.declared.records.Event.{Event}
 use Rattle.exec_words.specs.declared.line.Line.{Line}
 use Rattle.exec_words.specs.declared.reply.Reply.TheVariants as reply
-use Rattle.exec_steps.specs.laws_call.specs.SoundCalls.{LineFits}
-use Rattle.exec_steps.specs.laws_contents.proofs.pages.Laws.{formed_pages_have_256_words}
-use Rattle.exec_steps.specs.laws_hint.specs.TableLaws.{TableReserves}
-use Rattle.exec_steps.specs.laws_line.specs.SoundLines.{IsKindOfLine}
-use Rattle.exec_steps.specs.laws_room.proofs.rooms.Laws.{free_is_the_room}
-use Rattle.exec_steps.specs.laws_session.specs.LineAnswers.{GoesOnWith}
+use Rattle.exec_session.specs.laws_call.specs.SoundCalls.{LineFits}
+use Rattle.exec_session.specs.laws_contents.proofs.pages.Laws.{formed_pages_have_256_words}
+use Rattle.exec_session.specs.laws_hint.specs.TableLaws.{TableReserves}
+use Rattle.exec_session.specs.laws_line.specs.SoundLines.{IsKindOfLine}
+use Rattle.exec_session.specs.laws_room.proofs.rooms.Laws.{free_is_the_room}
+use Rattle.exec_session.specs.laws_session.specs.LineAnswers.{GoesOnWith}
 use Rattle.pack_model.specs.hints.Tables.{TableTrue}
 use Rattle.pack_model.specs.operations.Committing.{pages_for_operations}
 use Rattle.pack_model.specs.operations.Step.{Operation}
@@ -40,13 +40,13 @@ use Rattle.exec_session.specs.Turned.{Begins, FewRuns, LeavesWorld, SameBut, Sam
 use Rattle.exec_session.proofs.Stopping.{error_is}
 use Rattle.exec_session.proofs.TakingUp.{goes_on, need_none, plain_text}
 use Rattle.exec_session.proofs.Turning.{line_is_refused, line_stops_unwritten, line_writes_nothing, turned_is_a_turn}
-use Rattle.exec_steps.specs.Lines.{BrokeOff}
-use Rattle.exec_steps.specs.Midway.{AreFree, MayStart, Midway}
-use Rattle.exec_steps.proofs.laws.Laws.{line_is_done, line_stops, lines_break_off}
-use Rattle.exec_steps.specs.Asked.{Works}
+use Rattle.exec_session.specs.Lines.{BrokeOff}
+use Rattle.exec_session.specs.Midway.{AreFree, MayStart, Midway}
+use Rattle.exec_session.proofs.laws.Laws.{line_is_done, line_stops, lines_break_off}
+use Rattle.exec_session.specs.Asked.{Works}
 use Rattle.exec_files.specs.Writing.{WritesAll, Wrote}
-use Rattle.exec_steps.proofs.Frames.{world_worked}
-use Rattle.exec_steps.proofs.LookedBefore.{looked_before}
+use Rattle.exec_session.proofs.Frames.{world_worked}
+use Rattle.exec_session.proofs.LookedBefore.{looked_before}
 
 -- ---- lines that write files
 -- It leaves the world, goes on with the session, and isn't obeyed while a scavenge is needed.

@@ -5,7 +5,7 @@ use Rattle.alto_words.specs.declared.fid.Fid.{Fid}
 use Rattle.disk_records.specs.Packs.{Pack}
 use Rattle.directory.specs.Asked.{DirStands}
 use Rattle.file_pages.specs.Dropping.{MayBeDropped}
-use Rattle.exec_steps.specs.laws_line.specs.LineLaws.{IsEntered}
+use Rattle.exec_session.specs.laws_line.specs.LineLaws.{IsEntered}
 use Rattle.laws_lookup.specs.DropLaws.{is_an_entry}
 use Rattle.pack_model.specs.hints.Links.{dir_words}
 use Rattle.pack_model.specs.operations.Step.{Operation}

@@ -1,7 +1,7 @@
 -- An ordinary file that was found, and its length.
 use Rattle.std.specs.Prelude.{◌≡◌, None}
 use Rattle.disk_records.specs.Packs.{Pack}
-use Rattle.exec_steps.specs.laws_operation.specs.ByteLaws.{IsOrdinary}
+use Rattle.exec_session.specs.laws_operation.specs.ByteLaws.{IsOrdinary}
 use Rattle.page_seeking.specs.Seeking.{file_length}
 use Rattle.exec_words.specs.declared.line.Target.{Target}
 use Rattle.session_model.specs.Operands.{no_directory}

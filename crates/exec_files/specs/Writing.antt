@@ -3,15 +3,15 @@ use Rattle.std.specs.Prelude.{◌≡◌, ℕ, List, [], Result, OnErr, OnOk}
 use Rattle.alto_words.specs.declared.fid.Fid.{Fid}
 use Rattle.disk_records.specs.Tapes.{Taped, added, pack}
 use Rattle.exec_words.specs.declared.line.Line.{Line}
-use Rattle.exec_steps.specs.laws_call.specs.SoundCalls.{LineFits}
+use Rattle.exec_session.specs.laws_call.specs.SoundCalls.{LineFits}
 use Rattle.pack_model.specs.operations.Step.{Operation}
 use Rattle.session_model.specs.Keeping.{Kept}
 use Rattle.session_model.specs.Turning.{HintFailing, State}
 use Rattle.exec_session.specs.Meant.{IfHint}
 use Rattle.exec_session.specs.Turned.{Begins, line_ops}
 use Rattle.exec_session.specs.declared.stop.Stop.{Stop}
-use Rattle.exec_steps.specs.Lines.{BrokeOff}
-use Rattle.exec_steps.specs.Midway.{MayStart, Midway}
+use Rattle.exec_session.specs.Lines.{BrokeOff}
+use Rattle.exec_session.specs.Midway.{MayStart, Midway}
 
 -- From a machine on which a line has only looked: at Ok its operations are all done, and no sector is reserved any more; an error breaks off
 -- each line that has these operations; a hint that misled is of one of these files.

@@ -5,8 +5,8 @@ ghost use Rattle.disk_records.specs.Tapes.{DiskAlone, Taped, added, pack};
 ghost use Rattle.exec_files.specs.Writing.{WritesAll};
 ghost use Rattle.exec_session.specs.Meant.{IfRefused, IsSoon, MayObey, Stays, TakesLine, kept};
 ghost use Rattle.exec_session.specs.Stops.{cause_of_stop};
-ghost use Rattle.exec_steps.specs.Asked.{MayGrowFile, Works};
-ghost use Rattle.exec_steps.specs.Midway.{MayStart, Midway, StepsOn};
+ghost use Rattle.exec_session.specs.Asked.{MayGrowFile, Works};
+ghost use Rattle.exec_session.specs.Midway.{MayStart, Midway, StepsOn};
 ghost use Rattle.pack_model.specs.hints.Links.{LinksTrue};
 ghost use Rattle.pack_model.specs.operations.Committing.{pages_added};
 ghost use Rattle.pack_model.specs.operations.Step.{Operation};
@@ -18,8 +18,7 @@ ghost use Rattle.exec_words.specs.declared.line.Line.TheVariants as line;
 
 use crate::measuring::find_measured;
 use disk_records::{Disk, PAGE_BYTES};
-use exec_session::{FileRef, Session, Stop, reserve_pages};
-use exec_steps::{grow_file, open_mark, stamp_file};
+use exec_session::{FileRef, Session, Stop, grow_file, open_mark, reserve_pages, stamp_file};
 use exec_words::{Target, length_text};
 use std::alloc::Global;
 

@@ -6,15 +6,14 @@ ghost use Rattle.exec_files.specs.Cutting.{MayCutFile, cuts, cuts_and_stamps};
 ghost use Rattle.exec_files.specs.Writing.{WritesAll};
 ghost use Rattle.exec_session.specs.Meant.{IfRefused, MayObey, Stays, TakesLine, kept};
 ghost use Rattle.exec_session.specs.Stops.{cause_of_stop};
-ghost use Rattle.exec_steps.specs.Asked.{Works};
-ghost use Rattle.exec_steps.specs.Midway.{StepsOn};
+ghost use Rattle.exec_session.specs.Asked.{Works};
+ghost use Rattle.exec_session.specs.Midway.{StepsOn};
 ghost use Rattle.std.specs.Prelude.{IsTrue, [], length as list_length, ◌∷◌, ◌≡◌};
 ghost use Rattle.exec_words.specs.declared.line.Line.TheVariants as line;
 
 use crate::measuring::{Measured, find_measured};
 use disk_records::{Disk, Sector};
-use exec_session::{Session, Stop, limit_of, refused, written};
-use exec_steps::{open_mark, stamp_file};
+use exec_session::{Session, Stop, limit_of, open_mark, refused, stamp_file, written};
 use exec_words::{Refusal, Target, length_text};
 use file_pages::cut;
 use std::alloc::Global;

@@ -1,6 +1,6 @@
 //! Lines that change an ordinary file, or take one away: `append`, `patch`, `cut`, `delete` and `rmdir`.
 //!
-//! Come here for what these lines do and answer. Below it stand exec_session, which finds what their operands mean, exec_steps, whose steps
+//! Come here for what these lines do and answer. Below it stand exec_session, which finds what their operands mean and whose steps
 //! they take, and the calls on files and directories. Each call refuses in order before it writes, reserves all sectors that it needs at once,
 //! opens the mark, does its operations in order, and answers the text of its line, or why the line isn't done. To the layers above, on every
 //! machine:

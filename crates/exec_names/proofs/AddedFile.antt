@@ -6,11 +6,11 @@ use Rattle.disk_records.specs.Packs.{Pack, is_free_at}
 use Rattle.disk_records.specs.Events.{writes_in}
 use Rattle.disk_records.specs.Tapes.{DiskAlone, Taped, added, capped, pack}
 use Rattle.exec_words.specs.declared.line.Line.{Line}
-use Rattle.exec_steps.specs.laws_call.specs.SoundCalls.{LineFits}
+use Rattle.exec_session.specs.laws_call.specs.SoundCalls.{LineFits}
 use Rattle.laws_hint.specs.TableLaws.{TableReserves}
-use Rattle.exec_steps.specs.laws_line.specs.SoundLines.{IsKindOfLine}
-use Rattle.exec_steps.specs.laws_session.proofs.unrefused.Laws.{unrefused_lines_have_their_pages}
-use Rattle.exec_steps.specs.laws_session.specs.UnrefusedLaws.{ops_on}
+use Rattle.exec_session.specs.laws_line.specs.SoundLines.{IsKindOfLine}
+use Rattle.exec_session.specs.laws_session.proofs.unrefused.Laws.{unrefused_lines_have_their_pages}
+use Rattle.exec_session.specs.laws_session.specs.UnrefusedLaws.{ops_on}
 use Rattle.page_alloc.specs.Free.{IsReserved}
 use Rattle.pack_model.specs.hints.Tables.{TableTrue}
 use Rattle.pack_model.specs.operations.Committing.{pages_for_operations}
@@ -23,31 +23,26 @@ use Rattle.pack_model.specs.states.Sound.{Sound}
 use Rattle.session_model.specs.Effects.{effect}
 use Rattle.session_model.specs.Refusals.{most_serials}
 use Rattle.session_model.specs.Replies.{ops, refusal as refusal_to}
-use Rattle.session_model.specs.Turning.{State}
-use Rattle.exec_session.specs.Meant.{IsSameButMark, IsSameButTable, kept}
+use Rattle.session_model.specs.Turning.{HintFailing, State, cue_files, typed}
+use Rattle.exec_session.specs.Meant.{IfHint, IfRefused, IsSameButMark, IsSameButTable, kept, kept_stopped, stopped}
 use Rattle.exec_session.specs.Rooms.{pages_planned}
-use Rattle.exec_session.specs.Turned.{Begins, LeavesWorld, line_ops}
+use Rattle.exec_session.specs.Turned.{Begins, LeavesWorld, Turned, line_ops}
 use Rattle.exec_session.specs.declared.rooms.NewEntry.{NewEntry}
 use Rattle.exec_session.specs.declared.session.Session.{Session}
 use Rattle.exec_session.specs.declared.stop.Stop.{Stop}
-use Rattle.exec_steps.specs.Asked.{MayMakeEntered, made_entered, made_fid}
-use Rattle.exec_steps.specs.Midway.{AreFree, Arrived, Midway, Started, StepsOn}
-use Rattle.exec_names.proofs.Writing.{MayWrite, opened}
+use Rattle.exec_session.specs.Asked.{MayMakeEntered, Works, made_entered, made_fid}
+use Rattle.exec_session.specs.Midway.{AreFree, Arrived, Midway, Started, StepsOn}
+use Rattle.exec_names.proofs.Writing.{MayWrite, opened, opening_stops, steps_done, steps_stop}
 use Rattle.exec_names.specs.Entries.{AddsFile, new_refusal}
 use Rattle.disk_records.proofs.Growing.{pack-silent}
 use Rattle.exec_words.specs.declared.reply.Reply.TheVariants as reply
 use Rattle.session_model.specs.Answering.{plain_reply}
 use Rattle.session_model.specs.Touched.{files_touched}
-use Rattle.session_model.specs.Turning.{HintFailing, cue_files, typed}
-use Rattle.exec_session.specs.Meant.{IfHint, IfRefused, kept_stopped, stopped}
-use Rattle.exec_session.specs.Turned.{Turned}
-use Rattle.exec_steps.proofs.Stepping.{if_hint_weaker}
-use Rattle.exec_steps.specs.Asked.{Works}
+use Rattle.exec_session.proofs.Stepping.{if_hint_weaker}
 use Rattle.exec_names.proofs.Ends.{begins_fits, begins_model, begins_sound, files_are, stops_unwritten}
-use Rattle.exec_steps.proofs.Frames.{world_worked}
+use Rattle.exec_session.proofs.Frames.{world_worked}
 use Rattle.exec_names.proofs.NewSectors.{refused_then}
-use Rattle.exec_steps.proofs.LookedBefore.{looked_before, same_count}
-use Rattle.exec_names.proofs.Writing.{opening_stops, steps_done, steps_stop}
+use Rattle.exec_session.proofs.LookedBefore.{looked_before, same_count}
 use Rattle.exec_names.specs.Writes.{IsWritten}
 use Rattle.exec_names.proofs.Adding.{are_free, begins_there, first_placed, may_make, same_but_reserved, some_made, touched_pair, unless_same, unrefused_ops}
 

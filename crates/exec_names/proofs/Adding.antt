@@ -9,10 +9,10 @@ use Rattle.disk_records.specs.Packs.{Pack, is_free_at}
 use Rattle.disk_records.specs.Tapes.{Taped, pack}
 use Rattle.exec_words.specs.declared.line.Line.{Line}
 use Rattle.exec_words.specs.declared.reply.Refusal.{Refusal}
-use Rattle.exec_steps.specs.laws_line.specs.Ready.{steps_of}
+use Rattle.exec_session.specs.laws_line.specs.Ready.{steps_of}
 use Rattle.laws_operation.proofs.places.Laws.{none_above_the_last_serial}
 use Rattle.laws_operation.specs.EntryLaws.{IsOpenTo}
-use Rattle.exec_steps.specs.laws_session.specs.UnrefusedLaws.{MakesFile}
+use Rattle.exec_session.specs.laws_session.specs.UnrefusedLaws.{MakesFile}
 use Rattle.page_alloc.specs.Free.{IsReserved}
 use Rattle.pack_model.specs.hints.Tables.{TableTrue}
 use Rattle.pack_model.specs.operations.Rooms.{largest_run}
@@ -25,7 +25,7 @@ use Rattle.pack_model.specs.reading.Versions.{exact}
 use Rattle.pack_model.specs.sessions.Descriptor.{DescriptorFits, data_pages}
 use Rattle.pack_model.specs.states.Sound.{Sound}
 use Rattle.session_model.specs.Effects.{effect, widenings}
-use Rattle.session_model.specs.Keeping.{Kept}
+use Rattle.session_model.specs.Keeping.{Keeping, Kept}
 use Rattle.session_model.specs.Refusals.{most_serials}
 use Rattle.session_model.specs.Replies.{ops, refusal as refusal_to, unless_refused}
 use Rattle.session_model.specs.Turning.{State}
@@ -33,15 +33,13 @@ use Rattle.session_model.specs.Worlds.{World}
 use Rattle.exec_session.proofs.Finding.{root_found}
 use Rattle.exec_session.specs.Found.{root_ref}
 use Rattle.exec_session.specs.Meant.{IsSameButTable, kept}
-use Rattle.exec_session.specs.Turned.{Begins}
+use Rattle.exec_session.specs.Turned.{Begins, SameBut}
 use Rattle.exec_session.specs.declared.rooms.NewEntry.{NewEntry}
 use Rattle.exec_session.specs.declared.session.Session.{Session}
-use Rattle.exec_steps.proofs.Calling.{dir_stands_still}
-use Rattle.exec_steps.specs.Asked.{MayMakeEntered, first_widenings, made_entered, made_fid}
-use Rattle.exec_steps.specs.Midway.{AreFree, Arrived}
-use Rattle.exec_steps.specs.laws_lookup.specs.HintLaws.{HasFullValues}
-use Rattle.session_model.specs.Keeping.{Keeping}
-use Rattle.exec_session.specs.Turned.{SameBut}
+use Rattle.exec_session.proofs.Calling.{dir_stands_still}
+use Rattle.exec_session.specs.Asked.{MayMakeEntered, first_widenings, made_entered, made_fid}
+use Rattle.exec_session.specs.Midway.{AreFree, Arrived}
+use Rattle.exec_session.specs.laws_lookup.specs.HintLaws.{HasFullValues}
 
 -- ---- reserved sectors
 pub are_free : (p : Pack) (end n : ℕ) (bits : List Bool) (fresh : List ℕ) → IsReserved end n bits fresh → All (λ i. is_free_at p i ≡ true) fresh → AreFree p fresh

@@ -10,30 +10,30 @@ use Rattle.disk_records.specs.Tapes.{DiskAlone, Taped, added, pack}
 use Rattle.disk_records.specs.declared.records.Event.{Event}
 use Rattle.disk_records.specs.declared.records.Page.{Page}
 use Rattle.disk_records.specs.declared.records.Place.{Place}
-use Rattle.exec_steps.specs.hint_cache.specs.declared.hints.Hints.{Hints}
+use Rattle.exec_session.specs.hint_cache.specs.declared.hints.Hints.{Hints}
 use Rattle.exec_words.specs.declared.line.Line.{Line}
 use Rattle.exec_words.specs.declared.line.Line.TheVariants as line
 use Rattle.exec_words.specs.declared.line.Path.{Path}
 use Rattle.exec_words.specs.declared.line.Target.{Target}
 use Rattle.exec_words.specs.declared.reply.Refusal.{Refusal}
 use Rattle.exec_words.specs.declared.reply.Reply.TheVariants as reply
-use Rattle.exec_steps.specs.laws_call.specs.SoundCalls.{LineFits}
-use Rattle.exec_steps.specs.laws_contents.proofs.model.Laws.{ordinary_file_is_its_pages}
+use Rattle.exec_session.specs.laws_call.specs.SoundCalls.{LineFits}
+use Rattle.exec_session.specs.laws_contents.proofs.model.Laws.{ordinary_file_is_its_pages}
 use Rattle.laws_hint.specs.MapMeanings.{HasEachSector}
 use Rattle.laws_hint.specs.TableLaws.{TableReserves}
-use Rattle.exec_steps.specs.laws_line.specs.Ready.{steps_of}
-use Rattle.exec_steps.specs.laws_line.specs.SoundLines.{IsKindOfLine}
-use Rattle.exec_steps.specs.laws_midway.proofs.found.Laws.{found_file_lives}
+use Rattle.exec_session.specs.laws_line.specs.Ready.{steps_of}
+use Rattle.exec_session.specs.laws_line.specs.SoundLines.{IsKindOfLine}
+use Rattle.exec_session.specs.laws_midway.proofs.found.Laws.{found_file_lives}
 use Rattle.laws_operation.proofs.places.Laws.{file_lives_in_a_place}
 use Rattle.laws_operation.specs.ByteLaws.{IsOrdinary}
-use Rattle.exec_steps.specs.laws_record.proofs.FilePages.{changed_pages}
-use Rattle.exec_steps.specs.laws_room.proofs.rooms.Laws.{free_is_the_room}
-use Rattle.exec_steps.specs.laws_session.proofs.unrefused.Laws.{copy_may_begin, unrefused_lines_have_their_pages}
-use Rattle.exec_steps.specs.laws_session.specs.UnrefusedLaws.{MakesFile}
-use Rattle.exec_steps.specs.laws_steps.proofs.hints.Laws.{no_hint_means_an_absent_file}
-use Rattle.exec_steps.specs.laws_steps.proofs.lengths.Laws.{new_file_is_empty}
-use Rattle.exec_steps.specs.laws_steps.proofs.parts.Laws.{pages_of_both_parts}
-use Rattle.exec_steps.specs.pack_laws.proofs.Sighted.{length-sights}
+use Rattle.exec_session.specs.laws_record.proofs.FilePages.{changed_pages}
+use Rattle.exec_session.specs.laws_room.proofs.rooms.Laws.{free_is_the_room}
+use Rattle.exec_session.specs.laws_session.proofs.unrefused.Laws.{copy_may_begin, unrefused_lines_have_their_pages}
+use Rattle.exec_session.specs.laws_session.specs.UnrefusedLaws.{MakesFile}
+use Rattle.exec_session.specs.laws_steps.proofs.hints.Laws.{no_hint_means_an_absent_file}
+use Rattle.exec_session.specs.laws_steps.proofs.lengths.Laws.{new_file_is_empty}
+use Rattle.exec_session.specs.laws_steps.proofs.parts.Laws.{pages_of_both_parts}
+use Rattle.exec_session.specs.pack_laws.proofs.Sighted.{length-sights}
 use Rattle.page_alloc.specs.Free.{IsReserved}
 use Rattle.page_seeking.specs.Refs.{MisledBy}
 use Rattle.page_seeking.specs.Seeking.{file_length}
@@ -67,11 +67,11 @@ use Rattle.exec_session.specs.Turned.{Begins, SameBut, Turned, line_ops}
 use Rattle.exec_session.specs.declared.rooms.NewEntry.{NewEntry}
 use Rattle.exec_session.specs.declared.session.Session.{Session}
 use Rattle.exec_session.specs.declared.stop.Stop.{Stop}
-use Rattle.exec_steps.proofs.Joining.{steps_err}
-use Rattle.exec_steps.proofs.Stepping.{if_hint_weaker, steps_append}
-use Rattle.exec_steps.proofs.laws.Laws.{line_stops, lines_break_off}
-use Rattle.exec_steps.specs.Asked.{Works, first_widenings, made_entered, made_fid}
-use Rattle.exec_steps.specs.Midway.{AreFree, Arrived, Midway, Started, Stepped, StepsOn}
+use Rattle.exec_session.proofs.Joining.{steps_err}
+use Rattle.exec_session.proofs.Stepping.{if_hint_weaker, steps_append}
+use Rattle.exec_session.proofs.laws.Laws.{line_stops, lines_break_off}
+use Rattle.exec_session.specs.Asked.{Works, first_widenings, made_entered, made_fid}
+use Rattle.exec_session.specs.Midway.{AreFree, Arrived, Midway, Started, Stepped, StepsOn}
 use Rattle.exec_names.specs.Entries.{new_refusal}
 use Rattle.exec_names.specs.Plans.{IsCopying, MayCopy, copied}
 use Rattle.exec_names.specs.Writes.{WritesLine}
@@ -79,12 +79,12 @@ use Rattle.exec_names.specs.declared.copy.Copying.{Copying}
 use Rattle.exec_names.proofs.Adding.{are_free, begins_there, first_placed, may_make, unrefused_ops}
 use Rattle.exec_names.proofs.Copying.{few_serials, unmarked}
 use Rattle.exec_names.proofs.Ends.{files_are, stops_unwritten}
-use Rattle.exec_steps.proofs.Frames.{world_worked}
+use Rattle.exec_session.proofs.Frames.{world_worked}
 use Rattle.exec_names.proofs.NamedEntries.{dir_is, dir_stands, given_is, ops_made, pages_made, states, widens_as_planned}
 use Rattle.exec_names.proofs.NewSectors.{below_most, refused_then, serials_spent}
 use Rattle.exec_names.proofs.NewPlaces.{names_place, names_source}
 use Rattle.exec_names.proofs.Refusing.{copy_refused}
-use Rattle.exec_steps.proofs.LookedBefore.{looked_before}
+use Rattle.exec_session.proofs.LookedBefore.{looked_before}
 use Rattle.exec_names.proofs.Writing.{MayWrite, opened, opening_stops, steps_done}
 
 -- ---- the refusals that are left

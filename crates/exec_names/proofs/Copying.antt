@@ -8,12 +8,12 @@ use Rattle.disk_records.specs.Packs.{Pack}
 use Rattle.disk_records.specs.Tapes.{Taped, pack}
 use Rattle.disk_records.specs.declared.records.Place.{Place}
 use Rattle.disk_records.specs.declared.records.Place.TheVariants.{Held}
-use Rattle.exec_steps.specs.laws_contents.proofs.model.Laws.{model_lengths_are_of_bytes}
-use Rattle.exec_steps.specs.laws_line.specs.Ready.{steps_of}
-use Rattle.exec_steps.specs.laws_midway.proofs.found.Laws.{found_file_lives}
-use Rattle.exec_steps.specs.laws_steps.proofs.lengths.Laws.{new_file_is_empty}
-use Rattle.exec_steps.specs.laws_steps.specs.LineKeepingLaws.{StaysFoundOver}
-use Rattle.exec_steps.specs.pack_laws.proofs.Keys.{same_fid}
+use Rattle.exec_session.specs.laws_contents.proofs.model.Laws.{model_lengths_are_of_bytes}
+use Rattle.exec_session.specs.laws_line.specs.Ready.{steps_of}
+use Rattle.exec_session.specs.laws_midway.proofs.found.Laws.{found_file_lives}
+use Rattle.exec_session.specs.laws_steps.proofs.lengths.Laws.{new_file_is_empty}
+use Rattle.exec_session.specs.laws_steps.specs.LineKeepingLaws.{StaysFoundOver}
+use Rattle.exec_session.specs.pack_laws.proofs.Keys.{same_fid}
 use Rattle.page_seeking.specs.Refs.{FileIsFrom}
 use Rattle.page_seeking.specs.Seeking.{file_length}
 use Rattle.page_seeking.specs.declared.refs.FileRef.{FileRef}
@@ -30,10 +30,10 @@ use Rattle.session_model.specs.Streams.{grows}
 use Rattle.exec_session.specs.Rooms.{pages_planned}
 use Rattle.exec_session.specs.declared.rooms.NewEntry.{NewEntry}
 use Rattle.exec_session.specs.declared.stop.Stop.{Stop}
-use Rattle.exec_steps.proofs.Joining.{step_for, step_of_nothing, step_stops, steps_join}
-use Rattle.exec_steps.proofs.Stepping.{free_left, steps_append}
-use Rattle.exec_steps.specs.Asked.{IsFile, MayGrowFile, first_widenings, made_entered, made_fid, new_ref}
-use Rattle.exec_steps.specs.Midway.{Arrived, Midway, StepsOn}
+use Rattle.exec_session.proofs.Joining.{step_for, step_of_nothing, step_stops, steps_join}
+use Rattle.exec_session.proofs.Stepping.{free_left, steps_append}
+use Rattle.exec_session.specs.Asked.{IsFile, MayGrowFile, first_widenings, made_entered, made_fid, new_ref}
+use Rattle.exec_session.specs.Midway.{Arrived, Midway, StepsOn}
 use Rattle.exec_names.specs.Plans.{MayCopy, copied}
 
 -- ---- bytes and a date

@@ -8,8 +8,8 @@ use Rattle.disk_records.specs.Tapes.{DiskAlone, Taped, added, pack}
 use Rattle.exec_words.specs.declared.line.Line.{Line}
 use Rattle.exec_words.specs.declared.reply.Reply.{Reply}
 use Rattle.exec_words.specs.declared.reply.Reply.TheVariants as reply
-use Rattle.exec_steps.specs.laws_contents.proofs.pages.Laws.{formed_pages_have_256_words}
-use Rattle.exec_steps.specs.laws_session.specs.LineAnswers.{GoesOnWith}
+use Rattle.exec_session.specs.laws_contents.proofs.pages.Laws.{formed_pages_have_256_words}
+use Rattle.exec_session.specs.laws_session.specs.LineAnswers.{GoesOnWith}
 use Rattle.pack_model.specs.reading.Files.{first}
 use Rattle.pack_model.specs.reading.Model.{Model, read_as}
 use Rattle.pack_model.specs.sessions.Descriptor.{DescriptorFits}
@@ -33,11 +33,11 @@ use Rattle.exec_session.specs.declared.session.Session.{Session}
 use Rattle.exec_session.specs.declared.stop.Stop.{Stop}
 use Rattle.exec_session.specs.declared.stop.Stop.TheVariants as stop
 use Rattle.exec_names.proofs.NewSectors.{refused_then}
-use Rattle.exec_steps.specs.laws_session.specs.RefusedLaws.{first_of}
+use Rattle.exec_session.specs.laws_session.specs.RefusedLaws.{first_of}
 use Rattle.exec_names.proofs.Reasons.{refused_by_operands}
 use Rattle.exec_names.specs.Entries.{OperandsRefuse}
 use Rattle.exec_names.specs.Writes.{IsWritten}
-use Rattle.exec_steps.proofs.LookedBefore.{looked_before}
+use Rattle.exec_session.proofs.LookedBefore.{looked_before}
 use Rattle.exec_names.proofs.Writing.{kept_before}
 
 -- ---- lines on files

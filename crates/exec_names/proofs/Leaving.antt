@@ -13,11 +13,11 @@ use Rattle.disk_records.specs.Causes.{HasCause, never, other}
 use Rattle.disk_records.specs.Packs.{Pack}
 use Rattle.disk_records.specs.Tapes.{Taped}
 use Rattle.exec_words.specs.declared.line.Path.{Path}
-use Rattle.exec_steps.specs.laws_line.specs.LineLaws.{IsEntered}
-use Rattle.exec_steps.specs.laws_lookup.proofs.slots.Laws.{lookup_is_the_models}
-use Rattle.exec_steps.specs.laws_midway.proofs.found.Laws.{found_file_is_entered, found_file_lives, name_is_its_own}
-use Rattle.exec_steps.specs.laws_steps.proofs.entries.Laws.{entered_is_meant}
-use Rattle.exec_steps.specs.pack_laws.proofs.Keys.{same_fid}
+use Rattle.exec_session.specs.laws_line.specs.LineLaws.{IsEntered}
+use Rattle.exec_session.specs.laws_lookup.proofs.slots.Laws.{lookup_is_the_models}
+use Rattle.exec_session.specs.laws_midway.proofs.found.Laws.{found_file_is_entered, found_file_lives, name_is_its_own}
+use Rattle.exec_session.specs.laws_steps.proofs.entries.Laws.{entered_is_meant}
+use Rattle.exec_session.specs.pack_laws.proofs.Keys.{same_fid}
 use Rattle.pack_model.specs.hints.Links.{dir_slots}
 use Rattle.pack_model.specs.reading.Files.{lives}
 use Rattle.pack_model.specs.reading.Lookup.{EntryAt, entered, entry_at}

@@ -19,8 +19,8 @@ use Rattle.exec_words.specs.declared.line.Path.{Path}
 use Rattle.exec_words.specs.declared.line.Target.TheVariants.{ByPath}
 use Rattle.exec_words.specs.declared.reply.Refusal.{Refusal}
 use Rattle.exec_words.specs.declared.reply.Refusal.TheVariants as refusal
-use Rattle.exec_steps.specs.laws_session.proofs.unrefused.Laws.{make_dir_may_begin, make_may_begin}
-use Rattle.exec_steps.specs.laws_session.specs.UnrefusedLaws.{MakesFile, StatesStored}
+use Rattle.exec_session.specs.laws_session.proofs.unrefused.Laws.{make_dir_may_begin, make_may_begin}
+use Rattle.exec_session.specs.laws_session.specs.UnrefusedLaws.{MakesFile, StatesStored}
 use Rattle.page_seeking.specs.Refs.{FileIsFrom}
 use Rattle.page_seeking.specs.declared.refs.FileRef.{FileRef}
 use Rattle.pack_model.specs.operations.Committing.{pages_for_operations}
@@ -45,10 +45,10 @@ use Rattle.exec_session.specs.Meant.{IsTakenUpBy}
 use Rattle.exec_session.specs.Rooms.{IsPlanned, pages_planned, widens_if}
 use Rattle.exec_session.specs.Turned.{Begins}
 use Rattle.exec_session.specs.declared.rooms.NewEntry.{NewEntry}
-use Rattle.exec_steps.specs.Asked.{first_widenings, made_entered}
+use Rattle.exec_session.specs.Asked.{first_widenings, made_entered}
 use Rattle.exec_names.proofs.Adding.{root_stands}
 use Rattle.exec_names.proofs.Ends.{IsOnFiles, begins_sound}
-use Rattle.exec_steps.specs.laws_session.specs.RefusedLaws.{first_of}
+use Rattle.exec_session.specs.laws_session.specs.RefusedLaws.{first_of}
 use Rattle.exec_names.proofs.Reasons.{last_two, refused_later}
 use Rattle.exec_names.specs.Entries.{AddsFile, PlansDir, PlansPath, new_refusal}
 

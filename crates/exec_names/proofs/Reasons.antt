@@ -4,8 +4,8 @@ use Rattle.std.specs.Option.{option_or}
 use Rattle.exec_words.specs.declared.line.Line.{Line}
 use Rattle.exec_words.specs.declared.reply.Refusal.{Refusal}
 use Rattle.exec_words.specs.declared.reply.Refusal.TheVariants as refusal
-use Rattle.exec_steps.specs.laws_session.proofs.refused.Laws.{refused_in_order}
-use Rattle.exec_steps.specs.laws_session.specs.RefusedLaws.{IsRefusedInOrder, first_of}
+use Rattle.exec_session.specs.laws_session.proofs.refused.Laws.{refused_in_order}
+use Rattle.exec_session.specs.laws_session.specs.RefusedLaws.{IsRefusedInOrder, first_of}
 use Rattle.pack_model.specs.operations.Step.{Operation}
 use Rattle.pack_model.specs.reading.Files.{first}
 use Rattle.pack_model.specs.reading.Model.{Model}

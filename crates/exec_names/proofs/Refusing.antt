@@ -26,7 +26,7 @@ use Rattle.exec_session.specs.Meant.{IsTakenUpBy}
 use Rattle.exec_session.proofs.OrdinaryFiles.{directory_of}
 use Rattle.exec_names.specs.Entries.{new_refusal}
 use Rattle.exec_names.specs.Plans.{kinds_refusal, place_refusal}
-use Rattle.exec_steps.specs.laws_session.specs.RefusedLaws.{first_of}
+use Rattle.exec_session.specs.laws_session.specs.RefusedLaws.{first_of}
 use Rattle.exec_names.proofs.Reasons.{last_two, refused_later}
 
 -- ---- two tests

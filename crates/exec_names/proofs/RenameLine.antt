@@ -14,14 +14,14 @@ use Rattle.exec_words.specs.declared.line.Target.TheVariants.{ByPath}
 use Rattle.exec_words.specs.declared.reply.Refusal.{Refusal}
 use Rattle.exec_words.specs.declared.reply.Refusal.TheVariants as refusal
 use Rattle.exec_words.specs.declared.reply.Reply.TheVariants as reply
-use Rattle.exec_steps.specs.laws_call.specs.SoundCalls.{LineFits}
+use Rattle.exec_session.specs.laws_call.specs.SoundCalls.{LineFits}
 use Rattle.laws_hint.specs.TableLaws.{TableReserves}
-use Rattle.exec_steps.specs.laws_line.specs.LineLaws.{IsEntered}
-use Rattle.exec_steps.specs.laws_line.specs.Ready.{steps_of}
-use Rattle.exec_steps.specs.laws_line.specs.SoundLines.{IsKindOfLine}
+use Rattle.exec_session.specs.laws_line.specs.LineLaws.{IsEntered}
+use Rattle.exec_session.specs.laws_line.specs.Ready.{steps_of}
+use Rattle.exec_session.specs.laws_line.specs.SoundLines.{IsKindOfLine}
 use Rattle.laws_operation.specs.EntryLaws.{IsOpenTo}
-use Rattle.exec_steps.specs.laws_session.proofs.unrefused.Laws.{rename_may_begin, unrefused_lines_have_their_pages}
-use Rattle.exec_steps.specs.laws_session.specs.UnrefusedLaws.{RenamesFile, TakesName}
+use Rattle.exec_session.specs.laws_session.proofs.unrefused.Laws.{rename_may_begin, unrefused_lines_have_their_pages}
+use Rattle.exec_session.specs.laws_session.specs.UnrefusedLaws.{RenamesFile, TakesName}
 use Rattle.page_alloc.specs.Free.{IsReserved}
 use Rattle.pack_model.specs.hints.Tables.{TableTrue}
 use Rattle.pack_model.specs.operations.Committing.{pages_for_operations}
@@ -52,23 +52,23 @@ use Rattle.exec_session.specs.Turned.{Begins, Turned, line_ops}
 use Rattle.exec_session.specs.declared.rooms.NewEntry.{NewEntry}
 use Rattle.exec_session.specs.declared.session.Session.{Session}
 use Rattle.exec_session.specs.declared.stop.Stop.{Stop}
-use Rattle.exec_steps.proofs.Calling.{dir_stands_still}
-use Rattle.exec_steps.proofs.Stepping.{if_hint_weaker}
-use Rattle.exec_steps.specs.Asked.{Works, first_widenings}
-use Rattle.exec_steps.specs.Midway.{AreFree, Arrived, Midway, Started, StepsOn}
+use Rattle.exec_session.proofs.Calling.{dir_stands_still}
+use Rattle.exec_session.proofs.Stepping.{if_hint_weaker}
+use Rattle.exec_session.specs.Asked.{Works, first_widenings}
+use Rattle.exec_session.specs.Midway.{AreFree, Arrived, Midway, Started, StepsOn}
 use Rattle.exec_names.specs.Plans.{IsRenaming, MayRename, changed_entry, renamed}
 use Rattle.exec_names.specs.Writes.{WritesLine}
 use Rattle.exec_names.specs.declared.rename.Renaming.{Renaming}
 use Rattle.exec_names.proofs.Adding.{are_free, begins_there, first_placed, root_stands, same_but_reserved, unrefused_ops}
 use Rattle.exec_names.proofs.Ends.{files_are, stops_unwritten}
-use Rattle.exec_steps.proofs.Frames.{world_worked}
+use Rattle.exec_session.proofs.Frames.{world_worked}
 use Rattle.exec_names.proofs.Leaving.{path_entered}
 use Rattle.exec_names.proofs.NamedEntries.{dir_is, dir_stands, given_is, states, widens_as_planned}
 use Rattle.exec_names.proofs.NewSectors.{few_planned, refused_then}
 use Rattle.exec_names.proofs.NewPlaces.{names_place, names_source, names_source_dirs}
 use Rattle.exec_names.proofs.Refusing.{rename_refused}
 use Rattle.exec_names.proofs.Renaming.{leader_stays}
-use Rattle.exec_steps.proofs.LookedBefore.{looked_before}
+use Rattle.exec_session.proofs.LookedBefore.{looked_before}
 use Rattle.exec_names.proofs.Writing.{MayWrite, opened, opening_stops, steps_done, steps_stop}
 
 -- ---- the pages that are planned, as a number of the machine

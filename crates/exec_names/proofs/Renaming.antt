@@ -9,18 +9,18 @@ use Rattle.disk_records.specs.Packs.{Pack, carried}
 use Rattle.disk_records.specs.Tapes.{Taped, pack}
 use Rattle.disk_records.specs.declared.records.Place.{Place}
 use Rattle.disk_records.specs.declared.records.Place.TheVariants.{Entry, Held, Next, Root}
-use Rattle.exec_steps.specs.laws_line.specs.LineLaws.{IsEntered}
-use Rattle.exec_steps.specs.laws_line.specs.Ready.{steps_of}
-use Rattle.exec_steps.specs.laws_lookup.proofs.names.Laws.{slots_stay}
-use Rattle.exec_steps.specs.laws_midway.proofs.found.Laws.{found_file_lives}
+use Rattle.exec_session.specs.laws_line.specs.LineLaws.{IsEntered}
+use Rattle.exec_session.specs.laws_line.specs.Ready.{steps_of}
+use Rattle.exec_session.specs.laws_lookup.proofs.names.Laws.{slots_stay}
+use Rattle.exec_session.specs.laws_midway.proofs.found.Laws.{found_file_lives}
 use Rattle.laws_operation.proofs.leave.Laws.{leave_takes_the_only_entry}
 use Rattle.laws_operation.proofs.places.Laws.{carried_in_place, file_lives_in_a_place}
 use Rattle.laws_operation.specs.EntryLaws.{HasName}
-use Rattle.exec_steps.specs.laws_steps.proofs.entries.Laws.{entered_is_meant, entered_stays}
-use Rattle.exec_steps.specs.laws_steps.proofs.names.Laws.{absent_name_stays_absent, leave_keeps_room}
-use Rattle.exec_steps.specs.laws_steps.specs.KeepingLaws.{IfByEntry}
-use Rattle.exec_steps.specs.laws_steps.specs.LineKeepingLaws.{StaysFoundOver}
-use Rattle.exec_steps.specs.pack_laws.proofs.files.Laws.{places_are_lowest}
+use Rattle.exec_session.specs.laws_steps.proofs.entries.Laws.{entered_is_meant, entered_stays}
+use Rattle.exec_session.specs.laws_steps.proofs.names.Laws.{absent_name_stays_absent, leave_keeps_room}
+use Rattle.exec_session.specs.laws_steps.specs.KeepingLaws.{IfByEntry}
+use Rattle.exec_session.specs.laws_steps.specs.LineKeepingLaws.{StaysFoundOver}
+use Rattle.exec_session.specs.pack_laws.proofs.files.Laws.{places_are_lowest}
 use Rattle.page_seeking.specs.Refs.{FileIsFrom, FileStands}
 use Rattle.page_seeking.specs.declared.refs.FileRef.{FileRef}
 use Rattle.pack_model.specs.hints.Misled.{leader_page}
@@ -37,11 +37,11 @@ use Rattle.session_model.specs.Keeping.{Kept}
 use Rattle.exec_session.specs.Rooms.{pages_planned, widens_if}
 use Rattle.exec_session.specs.declared.rooms.NewEntry.{NewEntry}
 use Rattle.exec_session.specs.declared.stop.Stop.{Stop}
-use Rattle.exec_steps.proofs.Calling.{dir_stands_still, widens_stay}
-use Rattle.exec_steps.proofs.Joining.{step_for, step_stops, steps_join}
-use Rattle.exec_steps.proofs.Stepping.{steps_append}
-use Rattle.exec_steps.specs.Asked.{MayEnterFile, first_widenings}
-use Rattle.exec_steps.specs.Midway.{Arrived, StepsOn}
+use Rattle.exec_session.proofs.Calling.{dir_stands_still, widens_stay}
+use Rattle.exec_session.proofs.Joining.{step_for, step_stops, steps_join}
+use Rattle.exec_session.proofs.Stepping.{steps_append}
+use Rattle.exec_session.specs.Asked.{MayEnterFile, first_widenings}
+use Rattle.exec_session.specs.Midway.{Arrived, StepsOn}
 use Rattle.exec_names.specs.Plans.{MayChange, MayRename, changed_entry, renamed}
 use Rattle.exec_names.specs.declared.rename.Renaming.{Renaming}
 use Rattle.exec_names.proofs.Leaving.{kinds_apart}

@@ -6,7 +6,7 @@ use Rattle.disk_records.specs.declared.records.Page.{Page}
 use Rattle.disk_records.specs.declared.records.Place.{Place}
 use Rattle.exec_words.specs.declared.line.Line.{Line}
 use Rattle.exec_words.specs.declared.reply.Reply.{Reply}
-use Rattle.exec_steps.specs.laws_call.specs.SoundCalls.{LineFits}
+use Rattle.exec_session.specs.laws_call.specs.SoundCalls.{LineFits}
 use Rattle.pack_model.specs.hints.Truth.{Truthful}
 use Rattle.pack_model.specs.operations.Step.{Operation}
 use Rattle.pack_model.specs.sessions.Tallies.{counted}
@@ -17,10 +17,10 @@ use Rattle.exec_session.specs.Meant.{IfHint, IfRefused, kept_stopped, stopped}
 use Rattle.exec_session.specs.Turned.{Begins, LeavesWorld, SameWorld, Turned, line_ops}
 use Rattle.exec_session.specs.declared.stop.Stop.{Stop}
 use Rattle.exec_session.specs.declared.stop.Stop.TheVariants as stop
-use Rattle.exec_steps.proofs.Joining.{steps_err}
-use Rattle.exec_steps.proofs.Stepping.{if_hint_weaker}
-use Rattle.exec_steps.proofs.laws.Laws.{line_is_done, line_stops, lines_break_off}
-use Rattle.exec_steps.specs.Midway.{MayStart, Midway, Started, Stepped, StepsOn}
+use Rattle.exec_session.proofs.Joining.{steps_err}
+use Rattle.exec_session.proofs.Stepping.{if_hint_weaker}
+use Rattle.exec_session.proofs.laws.Laws.{line_is_done, line_stops, lines_break_off}
+use Rattle.exec_session.specs.Midway.{MayStart, Midway, Started, Stepped, StepsOn}
 use Rattle.exec_names.specs.Writes.{IsWritten}
 
 -- ---- a turn from before some looks

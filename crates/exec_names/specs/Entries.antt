@@ -1,6 +1,5 @@
 -- New entries: what is planned for one, and by what a line is refused that makes a file for it.
-use Rattle.std.specs.Prelude.{◌≡◌, ℕ, ◌+◌, true, Bool, nat_le, nat_lt, List, Option, None, Some}
-use Rattle.std.specs.Prelude.{Contains}
+use Rattle.std.specs.Prelude.{Bool, Contains, List, None, Option, Some, nat_le, nat_lt, true, ℕ, ◌+◌, ◌≡◌}
 use Rattle.std.specs.Option.{option_or}
 use Rattle.alto_words.specs.Fid.{is_directory, sys_dir}
 use Rattle.alto_words.specs.Names.{is_stored_name}
@@ -12,7 +11,7 @@ use Rattle.exec_words.specs.declared.line.Line.TheVariants as line
 use Rattle.exec_words.specs.declared.line.Path.{Path}
 use Rattle.exec_words.specs.declared.reply.Refusal.{Refusal}
 use Rattle.exec_words.specs.declared.reply.Refusal.TheVariants as refusal
-use Rattle.exec_steps.specs.laws_session.specs.UnrefusedLaws.{IsUnrefused, MakesFile}
+use Rattle.exec_session.specs.laws_session.specs.UnrefusedLaws.{IsUnrefused, MakesFile}
 use Rattle.page_seeking.specs.declared.refs.FileRef.{FileRef}
 use Rattle.pack_model.specs.reading.Files.{first}
 use Rattle.pack_model.specs.reading.Model.{read_as, room}
@@ -25,7 +24,7 @@ use Rattle.exec_session.specs.Found.{IsDirOf, root_ref}
 use Rattle.exec_session.specs.NewNames.{IsGiven}
 use Rattle.exec_session.specs.Rooms.{IsPlanned, pages_planned}
 use Rattle.exec_session.specs.declared.rooms.NewEntry.{NewEntry}
-use Rattle.exec_steps.specs.Asked.{first_widenings, made_entered, made_fid}
+use Rattle.exec_session.specs.Asked.{first_widenings, made_entered, made_fid}
 
 -- ---- what is planned
 -- The name that a new entry gets which is wanted so in this directory is the model's, and a stored one; and the directories that get a page

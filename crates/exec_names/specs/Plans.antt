@@ -12,10 +12,10 @@ use Rattle.exec_words.specs.declared.line.Path.{Path}
 use Rattle.exec_words.specs.declared.line.Target.{Target}
 use Rattle.exec_words.specs.declared.reply.Refusal.{Refusal}
 use Rattle.exec_words.specs.declared.reply.Refusal.TheVariants as refusal
-use Rattle.exec_steps.specs.laws_line.specs.LineLaws.{IsEntered}
-use Rattle.exec_steps.specs.laws_lookup.specs.EnteringLaws.{IsEnterable}
+use Rattle.exec_session.specs.laws_line.specs.LineLaws.{IsEntered}
+use Rattle.exec_session.specs.laws_lookup.specs.EnteringLaws.{IsEnterable}
 use Rattle.laws_operation.specs.ByteLaws.{IsOrdinary}
-use Rattle.exec_steps.specs.laws_session.specs.UnrefusedLaws.{TakesName}
+use Rattle.exec_session.specs.laws_session.specs.UnrefusedLaws.{TakesName}
 use Rattle.page_seeking.specs.Refs.{FileStands}
 use Rattle.pack_model.specs.operations.Rooms.{largest_run}
 use Rattle.pack_model.specs.operations.Step.{Operation}
@@ -33,7 +33,7 @@ use Rattle.exec_session.specs.Found.{IsAt, IsAtPath, IsDirOf}
 use Rattle.exec_session.specs.Rooms.{pages_planned}
 use Rattle.exec_session.specs.declared.operands.Found.{Found}
 use Rattle.exec_session.specs.declared.rooms.NewEntry.{NewEntry}
-use Rattle.exec_steps.specs.Asked.{MayMakeEntered, MayWidenFirst, first_widenings, made_entered}
+use Rattle.exec_session.specs.Asked.{MayMakeEntered, MayWidenFirst, first_widenings, made_entered}
 use Rattle.exec_names.specs.Entries.{IsNewEntry, PlansPath}
 use Rattle.exec_names.specs.declared.copy.Copying.{Copying}
 use Rattle.exec_names.specs.declared.rename.Renaming.{Renaming}

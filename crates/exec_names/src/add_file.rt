@@ -7,7 +7,7 @@ ghost use Rattle.exec_names.specs.Writes.{WritesLine};
 ghost use Rattle.exec_session.specs.Meant.{IfRefused, kept};
 ghost use Rattle.exec_session.specs.Stops.{cause_of_stop};
 ghost use Rattle.exec_session.specs.Turned.{Begins};
-ghost use Rattle.exec_steps.specs.Asked.{Works, made_fid};
+ghost use Rattle.exec_session.specs.Asked.{Works, made_fid};
 ghost use Rattle.exec_words.specs.declared.line.Line.{Line};
 ghost use Rattle.session_model.specs.Turning.{State};
 ghost use Rattle.std.specs.Prelude.{IfOk, IsTrue, [], length, ◌+◌, ◌≡◌};
@@ -15,8 +15,7 @@ ghost use Rattle.std.specs.Prelude.{IfOk, IsTrue, [], length, ◌+◌, ◌≡◌
 use crate::reserving::reserve_new;
 use alto_words::Fid;
 use disk_records::Disk;
-use exec_session::{NewEntry, Session, Stop};
-use exec_steps::{make_entered, open_mark};
+use exec_session::{NewEntry, Session, Stop, make_entered, open_mark};
 use std::alloc::Global;
 
 /// Makes a file for an entry that is planned, a directory or an ordinary file, and answers its full name.

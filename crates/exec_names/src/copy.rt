@@ -10,8 +10,8 @@ ghost use Rattle.exec_session.specs.Meant.{IfHint, IfRefused, LooksAbout, MayObe
 ghost use Rattle.exec_session.specs.Rooms.{pages_planned};
 ghost use Rattle.exec_session.specs.Stops.{cause_of_stop};
 ghost use Rattle.exec_session.specs.Turned.{Begins};
-ghost use Rattle.exec_steps.specs.Asked.{MayGrowFile, Works, made_fid};
-ghost use Rattle.exec_steps.specs.Midway.{StepsOn};
+ghost use Rattle.exec_session.specs.Asked.{MayGrowFile, Works, made_fid};
+ghost use Rattle.exec_session.specs.Midway.{StepsOn};
 ghost use Rattle.exec_words.specs.Typed.{is_typed_path};
 ghost use Rattle.exec_words.specs.declared.line.Line.TheVariants as line;
 ghost use Rattle.exec_words.specs.declared.line.Path.{Path};
@@ -28,8 +28,10 @@ use crate::placing::plan_place;
 use crate::reserving::reserve_new;
 use alto_words::Fid;
 use disk_records::Disk;
-use exec_session::{FileRef, NewEntry, Session, Stop, bytes_of, find_target};
-use exec_steps::{grow_file, make_entered, open_mark, stamp_file};
+use exec_session::{
+    FileRef, NewEntry, Session, Stop, bytes_of, find_target, grow_file, make_entered, open_mark,
+    stamp_file,
+};
 use exec_words::{Path, Target, made_text};
 use std::alloc::Global;
 

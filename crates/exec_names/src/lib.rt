@@ -1,7 +1,7 @@
 //! Lines that give names: `make`, `mkdir`, `copy` and `rename`.
 //!
-//! Come here for what these lines do and answer. Below it stand exec_session, which finds what their operands mean and plans new entries, and
-//! exec_steps, by whose steps they write. Each call refuses in the order of the replies before it writes, takes all of its sectors at once,
+//! Come here for what these lines do and answer. Below it stands exec_session, which finds what their operands mean and plans new entries, and
+//! by whose steps they write. Each call refuses in the order of the replies before it writes, takes all of its sectors at once,
 //! opens the mark, does its operations in their order, and answers the text of its line, or why the line isn't done. A copy is a new file with
 //! its entry, then its bytes and its date; a rename writes the name in the leader, then the old entry goes, and then the new one comes. To the
 //! layers above, on every machine:

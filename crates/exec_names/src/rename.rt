@@ -11,8 +11,8 @@ ghost use Rattle.exec_session.specs.Meant.{IfHint, IfRefused, LooksAbout, MayObe
 ghost use Rattle.exec_session.specs.Rooms.{pages_planned};
 ghost use Rattle.exec_session.specs.Stops.{cause_of_stop};
 ghost use Rattle.exec_session.specs.Turned.{Begins};
-ghost use Rattle.exec_steps.specs.Asked.{Works};
-ghost use Rattle.exec_steps.specs.Midway.{StepsOn};
+ghost use Rattle.exec_session.specs.Asked.{Works};
+ghost use Rattle.exec_session.specs.Midway.{StepsOn};
 ghost use Rattle.exec_words.specs.Typed.{is_typed_path};
 ghost use Rattle.exec_words.specs.declared.line.Line.TheVariants as line;
 ghost use Rattle.exec_words.specs.declared.line.Path.{Path};
@@ -31,9 +31,9 @@ use crate::placing::plan_place;
 use directory::leave;
 use disk_records::{Disk, Sector};
 use exec_session::{
-    FileRef, Found, NewEntry, Session, Stop, entered, find_path, limit_of, reserve_pages, written,
+    FileRef, Found, NewEntry, Session, Stop, enter_file, entered, find_path, limit_of, open_mark,
+    reserve_pages, widen_first, written,
 };
-use exec_steps::{enter_file, open_mark, widen_first};
 use exec_words::{Path, done_text};
 use file_pages::title;
 use page_seeking::locate;

@@ -8,6 +8,10 @@ pub mod Rooms
 pub mod Contents
 pub mod Ends
 pub mod Opens
+pub mod Midway
+pub mod Steps
+pub mod Lines
+pub mod Asked
 pub use Rattle.label_check
 pub use Rattle.hint_cache
 pub use Rattle.page_alloc
@@ -25,3 +29,4 @@ pub use Rattle.laws_session
 pub use Rattle.directory.specs.laws_midway
 pub use Rattle.directory.specs.laws_call
 pub use Rattle.laws_steps
+pub use Rattle.disk_descriptor

@@ -11,7 +11,7 @@ use Rattle.exec_files.specs.Writing.{WritesAll}
 use Rattle.exec_files.specs.declared.measuring.Measured.{Measured}
 use Rattle.exec_files.proofs.Appended.{append_few, append_may, append_planned, append_ready, unreserved_turns}
 use Rattle.exec_files.proofs.Appending.{append_unfound, append_writes, few_bytes}
-use Rattle.exec_steps.proofs.Frames.{cause_after, cause_passed, if_refused, never_refused, stays_worked, works_looked, works_reserved, works_twice}
+use Rattle.exec_session.proofs.Frames.{cause_after, cause_passed, if_refused, never_refused, stays_worked, works_looked, works_reserved, works_twice}
 use Rattle.exec_files.proofs.Looked.{unfound_turns}
 use Rattle.exec_files.proofs.Turns.{broke_turns, done_turns, late_turns}
 use Rattle.exec_files.proofs.append.append_bytes.Goals as goal

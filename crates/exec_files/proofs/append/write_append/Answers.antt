@@ -6,7 +6,7 @@ use Rattle.exec_files.proofs.Appending.{append_opens}
 use Rattle.exec_files.proofs.Opening.{opening_fails}
 use Rattle.exec_files.proofs.Quickly.{opened_quickly}
 use Rattle.exec_session.proofs.Causing.{cause_sooner}
-use Rattle.exec_steps.proofs.Frames.{cause_passed, never_refused, works_twice}
+use Rattle.exec_session.proofs.Frames.{cause_passed, never_refused, works_twice}
 use Rattle.exec_files.proofs.append.write_append.Goals as goal
 
 pub returns-in_err-open_mark-clause-writes : goal.returns-in_err-open_mark-clause-writes

@@ -11,7 +11,7 @@ use Rattle.exec_files.specs.Cutting.{cuts_and_stamps}
 use Rattle.exec_files.specs.Writing.{WritesAll}
 use Rattle.exec_files.specs.declared.measuring.Measured.{Measured}
 use Rattle.exec_files.proofs.Cutting.{cut_beyond, cut_plans, cut_unfound, cut_writes, may_cut}
-use Rattle.exec_steps.proofs.Frames.{stays_worked, works_looked, works_twice, cause_after, cause_passed, if_refused, never_refused}
+use Rattle.exec_session.proofs.Frames.{stays_worked, works_looked, works_twice, cause_after, cause_passed, if_refused, never_refused}
 use Rattle.exec_files.proofs.Looked.{ready_looked, refused_turns, unfound_turns}
 use Rattle.exec_files.proofs.Turns.{broke_turns, done_turns, late_turns}
 use Rattle.exec_session.specs.declared.stop.Stop.TheVariants as stop

@@ -5,7 +5,7 @@ use Rattle.exec_files.specs.Cutting.{cuts}
 use Rattle.exec_files.proofs.Cutting.{cuts_stay}
 use Rattle.exec_files.proofs.Stamping.{stamped_after, unstamped}
 use Rattle.exec_session.proofs.Causing.{cause_sooner}
-use Rattle.exec_steps.proofs.Frames.{cause_passed, never_refused, works_twice}
+use Rattle.exec_session.proofs.Frames.{cause_passed, never_refused, works_twice}
 use Rattle.exec_files.proofs.cut.shorten_and_stamp.Goals as goal
 
 pub returns-in_err-shorten_file-clause-steps : goal.returns-in_err-shorten_file-clause-steps

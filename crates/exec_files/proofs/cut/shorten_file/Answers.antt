@@ -1,21 +1,20 @@
 use Rattle.std.proofs.Common.{List, Ok, Result, [], arith, refl, subst, sym, ◌∙◌, ◌∷◌}
 use Rattle.disk_records.specs.Tapes.{added, pack}
-use Rattle.exec_steps.specs.laws_call.specs.Acting.{around}
+use Rattle.exec_session.specs.laws_call.specs.Acting.{around}
 use Rattle.pack_model.specs.operations.Step.Operation.{cut}
 use Rattle.pack_model.specs.operations.Step.{Operation}
 use Rattle.exec_session.specs.Meant.{kept, IfRefused}
 use Rattle.exec_session.specs.Stops.{stop_written, cause_of_stop}
 use Rattle.exec_session.specs.declared.stop.Stop.{Stop}
-use Rattle.exec_steps.specs.Midway.{StepsOn}
-use Rattle.exec_steps.proofs.Answers.{written_operates}
-use Rattle.exec_steps.proofs.Calling.{hints_step}
-use Rattle.exec_steps.proofs.Joining.{step_of_nothing}
+use Rattle.exec_session.specs.Midway.{StepsOn}
+use Rattle.exec_session.proofs.StepAnswers.{written_operates, written_unrefused}
+use Rattle.exec_session.proofs.Calling.{hints_step}
+use Rattle.exec_session.proofs.Joining.{step_of_nothing}
 use Rattle.exec_files.specs.Cutting.{cuts}
 use Rattle.exec_files.proofs.Cutting.{cut_hints, cuts_none, cuts_one}
-use Rattle.exec_steps.proofs.Answers.{written_unrefused}
 use Rattle.exec_files.proofs.Causing.{put_cause}
 use Rattle.disk_records.specs.Causes.{HasCause}
-use Rattle.exec_steps.proofs.Frames.{works_here}
+use Rattle.exec_session.proofs.Frames.{works_here}
 use Rattle.disk_records.proofs.Growing.{alone_here}
 use Rattle.exec_files.proofs.cut.shorten_file.Goals as goal
 

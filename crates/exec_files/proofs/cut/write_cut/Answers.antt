@@ -5,7 +5,7 @@ use Rattle.exec_files.specs.Cutting.{cuts_and_stamps}
 use Rattle.exec_files.proofs.Cutting.{cut_opens}
 use Rattle.exec_files.proofs.Opening.{opening_fails}
 use Rattle.exec_session.proofs.Causing.{cause_sooner}
-use Rattle.exec_steps.proofs.Frames.{cause_passed, never_refused, works_twice}
+use Rattle.exec_session.proofs.Frames.{cause_passed, never_refused, works_twice}
 use Rattle.exec_files.proofs.cut.write_cut.Goals as goal
 
 pub returns-in_err-open_mark-clause-writes : goal.returns-in_err-open_mark-clause-writes

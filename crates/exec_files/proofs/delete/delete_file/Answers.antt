@@ -3,7 +3,7 @@ use Rattle.disk_records.proofs.Growing.{alone_twice}
 use Rattle.exec_words.specs.declared.line.Line.TheVariants as line
 use Rattle.exec_session.proofs.Looking.{stays_looked}
 use Rattle.exec_files.proofs.DropAnswers.{delete_drops, goes_on_found, stops_unfound}
-use Rattle.exec_steps.proofs.Frames.{stays_worked, works_looked, works_twice, cause_passed, if_refused}
+use Rattle.exec_session.proofs.Frames.{stays_worked, works_looked, works_twice, cause_passed, if_refused}
 use Rattle.disk_records.specs.Tapes.{added}
 use Rattle.exec_session.proofs.Causing.{cause_sooner}
 use Rattle.exec_files.proofs.Causing.{refuses_none}

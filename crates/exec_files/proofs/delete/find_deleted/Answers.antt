@@ -8,7 +8,7 @@ use Rattle.exec_session.proofs.OrdinaryFiles.{ok_test, by_test}
 use Rattle.exec_session.specs.Meant.{kept}
 use Rattle.exec_files.proofs.DropFinding.{delete_absent, delete_descriptor, delete_directory, delete_found, test_refused, unfound}
 use Rattle.exec_session.proofs.Causing.{cause_refused}
-use Rattle.exec_steps.proofs.Frames.{cause_passed}
+use Rattle.exec_session.proofs.Frames.{cause_passed}
 use Rattle.exec_files.proofs.delete.find_deleted.Goals as goal
 
 pub returns-in_err-found-clause-finds : goal.returns-in_err-found-clause-finds

@@ -1,7 +1,7 @@
 use Rattle.std.proofs.Common.{Bool, Contains, Err, List, Result, [], arith, refl, subst, sym, ◌∷◌, ◌∙◌, ap, length}
 use Rattle.disk_records.proofs.Growing.{alone_twice}
 use Rattle.disk_records.specs.Tapes.{added, pack}
-use Rattle.exec_steps.specs.laws_call.specs.Acting.{Operates, around}
+use Rattle.exec_session.specs.laws_call.specs.Acting.{Operates, around}
 use Rattle.page_seeking.specs.Refs.{FileStands}
 use Rattle.pack_model.specs.hints.Misled.{AnswersMisled}
 use Rattle.pack_model.specs.operations.Step.Operation.{drop_file}
@@ -9,14 +9,13 @@ use Rattle.exec_session.specs.Meant.{IfHint, kept, IfRefused}
 use Rattle.exec_session.specs.Stops.{stop_entered, cause_of_stop}
 use Rattle.exec_session.specs.declared.stop.Stop.{Stop}
 use Rattle.exec_session.specs.declared.stop.Stop.TheVariants as stop
-use Rattle.exec_steps.specs.Midway.{StepsOn}
-use Rattle.exec_steps.proofs.Answers.{error_is}
-use Rattle.exec_steps.proofs.Calling.{hints_step}
+use Rattle.exec_session.specs.Midway.{StepsOn}
+use Rattle.exec_session.proofs.StepAnswers.{entered_cause, entered_unrefused, error_is, written_cause, written_unrefused}
+use Rattle.exec_session.proofs.Calling.{hints_step}
 use Rattle.exec_files.proofs.EntryFound.{found_by}
 use Rattle.exec_files.proofs.OneDrop.{dir_left, drop_breaks, drop_ends, file_hints, slot_hints, went, whole_left}
 use Rattle.exec_session.proofs.Causing.{cause_sooner}
-use Rattle.exec_steps.proofs.Answers.{entered_cause, entered_unrefused, written_cause, written_unrefused}
-use Rattle.exec_steps.proofs.Frames.{cause_passed, never_refused}
+use Rattle.exec_session.proofs.Frames.{cause_passed, never_refused}
 use Rattle.disk_records.specs.Causes.{HasCause, never, other}
 use Rattle.exec_files.proofs.dropping.drop_found.Goals as goal
 

@@ -2,9 +2,9 @@ use Rattle.std.proofs.Common.{[], subst, sym}
 use Rattle.disk_records.proofs.Growing.{alone_twice}
 use Rattle.exec_session.specs.Meant.{kept, kept_replied, replied}
 use Rattle.exec_session.specs.Turned.{Turned}
-use Rattle.exec_steps.proofs.Answers.{error_is}
+use Rattle.exec_session.proofs.StepAnswers.{error_is}
 use Rattle.exec_files.proofs.DropTurn.{dropped, may_drop, may_start, starts_at, undropped, unopened, unsaid}
-use Rattle.exec_steps.proofs.Frames.{cause_after, cause_passed, never_refused, works_twice}
+use Rattle.exec_session.proofs.Frames.{cause_after, cause_passed, never_refused, works_twice}
 use Rattle.exec_session.specs.declared.stop.Stop.TheVariants as stop
 use Rattle.exec_files.proofs.dropping.drop_line.Goals as goal
 

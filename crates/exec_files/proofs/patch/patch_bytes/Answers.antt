@@ -12,7 +12,7 @@ use Rattle.exec_session.specs.declared.stop.Stop.TheVariants as stop
 use Rattle.exec_session.proofs.Looking.{same_but_looked}
 use Rattle.exec_session.proofs.Stopping.{error_is}
 use Rattle.exec_files.specs.declared.measuring.Measured.{Measured}
-use Rattle.exec_steps.proofs.Frames.{works_looked, works_twice, cause_after, cause_passed, if_refused, never_refused, stays_worked}
+use Rattle.exec_session.proofs.Frames.{works_looked, works_twice, cause_after, cause_passed, if_refused, never_refused, stays_worked}
 use Rattle.exec_files.proofs.Looked.{ready_looked, refused_turns, unfound_turns}
 use Rattle.exec_files.proofs.Patching.{may_patch, patch_answers, patch_beyond, patch_plans, patch_unfound, patch_writes, when_none, when_some}
 use Rattle.exec_files.proofs.Turns.{broke_turns, done_turns, late_turns, nothing_turns, unwritten_turns}

@@ -1,21 +1,20 @@
 use Rattle.std.proofs.Common.{◌+◌, ◌-◌, ◌%◌, ◌∷◌, List, Ok, Err, Result, [], ℕ, arith, inl, length, refl, subst, sym, take, ◌≡◌, ap}
 use Rattle.std.proofs.lemmas.List.{length-take}
 use Rattle.disk_records.specs.Tapes.{added, pack}
-use Rattle.exec_steps.specs.laws_call.specs.Acting.{around}
+use Rattle.exec_session.specs.laws_call.specs.Acting.{around}
 use Rattle.pack_model.specs.operations.Step.Operation.{put}
 use Rattle.exec_session.specs.Meant.{kept, IfRefused}
 use Rattle.exec_session.specs.Stops.{stop_written, cause_of_stop}
 use Rattle.exec_session.specs.declared.stop.Stop.{Stop}
 use Rattle.exec_session.proofs.Stopping.{error_is}
-use Rattle.exec_steps.specs.Midway.{StepsOn}
-use Rattle.exec_steps.proofs.Answers.{misled_silent, written_operates}
-use Rattle.exec_steps.proofs.Calling.{hints_step}
-use Rattle.exec_steps.proofs.Joining.{steps_err, steps_ok}
+use Rattle.exec_session.specs.Midway.{StepsOn}
+use Rattle.exec_session.proofs.StepAnswers.{misled_silent, written_operates, written_unrefused}
+use Rattle.exec_session.proofs.Calling.{hints_step}
+use Rattle.exec_session.proofs.Joining.{steps_err, steps_ok}
 use Rattle.exec_files.proofs.Putting.{part_is, put_hints}
 use Rattle.exec_session.proofs.Parts.{ok_of_error}
-use Rattle.exec_steps.proofs.Answers.{written_unrefused}
 use Rattle.exec_files.proofs.Causing.{put_cause}
-use Rattle.exec_steps.proofs.Frames.{cause_passed, never_refused}
+use Rattle.exec_session.proofs.Frames.{cause_passed, never_refused}
 use Rattle.disk_records.specs.Causes.{HasCause}
 use Rattle.exec_files.proofs.patch.put_part.Goals as goal
 

@@ -6,9 +6,9 @@ use Rattle.session_model.specs.Streams.{puts}
 use Rattle.exec_session.specs.Meant.{kept}
 use Rattle.exec_session.specs.declared.stop.Stop.{Stop}
 use Rattle.exec_session.proofs.Stopping.{error_is}
-use Rattle.exec_steps.specs.Midway.{StepsOn}
+use Rattle.exec_session.specs.Midway.{StepsOn}
 use Rattle.exec_files.specs.Patching.{MayPatchFile}
-use Rattle.exec_steps.proofs.Frames.{works_here, works_twice, cause_after, never_refused}
+use Rattle.exec_session.proofs.Frames.{works_here, works_twice, cause_after, never_refused}
 use Rattle.exec_files.proofs.Putting.{none_put, puts_end, puts_more, puts_stop, tail_is}
 use Rattle.exec_files.proofs.patch.put_parts.Goals as goal
 

@@ -1,7 +1,7 @@
 use Rattle.std.proofs.Common.{◌≤◌, ◌-◌, IsTrue, length}
 use Rattle.disk_records.specs.Tapes.{DiskAlone, pack}
 use Rattle.exec_session.specs.Meant.{kept}
-use Rattle.exec_steps.specs.Asked.{Works}
+use Rattle.exec_session.specs.Asked.{Works}
 use Rattle.exec_files.specs.Patching.{MayPatchFile}
 use Rattle.exec_files.proofs.Putting.{PutSoFar}
 use Rattle.exec_files.proofs.patch.put_parts.Given as goal

@@ -9,11 +9,11 @@ use Rattle.exec_session.proofs.Stopping.{error_is}
 use Rattle.exec_session.specs.Meant.{kept}
 use Rattle.exec_session.specs.Rooms.{pages_planned}
 use Rattle.exec_session.specs.declared.stop.Stop.{Stop}
-use Rattle.exec_steps.specs.Asked.{MayMakeEntered, made_entered, made_fid}
-use Rattle.exec_steps.specs.Midway.{StepsOn}
+use Rattle.exec_session.specs.Asked.{MayMakeEntered, made_entered, made_fid}
+use Rattle.exec_session.specs.Midway.{StepsOn}
 use Rattle.exec_names.proofs.AddedFile.{asks, file_done, file_stops, has_sectors, mark_stops, may, reserve_stops}
 use Rattle.exec_names.proofs.Ends.{begins_sound}
-use Rattle.exec_steps.proofs.Frames.{cause_after, cause_passed, if_refused, never_refused, works_reserved, works_twice}
+use Rattle.exec_session.proofs.Frames.{cause_after, cause_passed, if_refused, never_refused, works_reserved, works_twice}
 use Rattle.exec_names.specs.Writes.{WritesLine}
 use Rattle.exec_session.proofs.Parts.{ok_of_error}
 use Rattle.exec_names.proofs.add_file.add_file.Goals as goal

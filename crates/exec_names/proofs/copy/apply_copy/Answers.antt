@@ -17,16 +17,16 @@ use Rattle.exec_session.proofs.Stopping.{error_is}
 use Rattle.exec_session.specs.Meant.{kept}
 use Rattle.exec_session.specs.Rooms.{pages_planned}
 use Rattle.exec_session.specs.declared.stop.Stop.{Stop}
-use Rattle.exec_steps.specs.Asked.{made_fid}
-use Rattle.exec_steps.specs.Midway.{StepsOn}
+use Rattle.exec_session.specs.Asked.{made_fid}
+use Rattle.exec_session.specs.Midway.{StepsOn}
 use Rattle.exec_names.specs.Entries.{new_refusal}
 use Rattle.exec_names.specs.Plans.{MayCopy, copied}
 use Rattle.exec_names.specs.Writes.{WritesLine}
 use Rattle.exec_names.proofs.CopyLine.{asks, copying_ends, left_before, looked_hints, mark_stops, may, pages_asked, reading_stops, refusal_before, reserved_hints, reserves_before, reserving_stops, source_lives, true_before}
 use Rattle.exec_names.proofs.Ends.{begins_sound}
-use Rattle.exec_steps.proofs.Frames.{cause_after, cause_passed, if_refused, never_refused, works_looked, works_reserved, works_twice}
+use Rattle.exec_session.proofs.Frames.{cause_after, cause_passed, if_refused, never_refused, works_looked, works_reserved, works_twice}
 use Rattle.exec_names.proofs.NewSectors.{refused_then}
-use Rattle.exec_steps.proofs.LookedBefore.{same_count}
+use Rattle.exec_session.proofs.LookedBefore.{same_count}
 use Rattle.exec_session.proofs.Causing.{cause_sooner}
 use Rattle.exec_session.proofs.Parts.{ok_of_error}
 use Rattle.exec_names.proofs.copy.apply_copy.Goals as goal

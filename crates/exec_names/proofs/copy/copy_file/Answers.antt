@@ -12,15 +12,15 @@ use Rattle.session_model.specs.Keeping.{Kept, world_of}
 use Rattle.session_model.specs.Turning.{State}
 use Rattle.exec_session.specs.Meant.{kept}
 use Rattle.exec_session.specs.Turned.{Begins}
-use Rattle.exec_steps.specs.Asked.{made_fid}
+use Rattle.exec_session.specs.Asked.{made_fid}
 use Rattle.exec_names.specs.Plans.{IsCopying}
 use Rattle.exec_names.specs.declared.copy.Copying.{Copying}
 use Rattle.exec_names.proofs.Ends.{begins_last, begins_sound, planning_stops, text_missing, writing_done, writing_stops}
-use Rattle.exec_steps.proofs.Frames.{stays_worked, works_looked, works_twice, cause_after, cause_passed, if_refused, never_refused}
+use Rattle.exec_session.proofs.Frames.{stays_worked, works_looked, works_twice, cause_after, cause_passed, if_refused, never_refused}
 use Rattle.exec_session.proofs.TakingUp.{typed_line}
 use Rattle.exec_names.proofs.Refusing.{both}
 use Rattle.exec_names.proofs.Sorts.{copy_on}
-use Rattle.exec_steps.proofs.LookedBefore.{same_count}
+use Rattle.exec_session.proofs.LookedBefore.{same_count}
 use Rattle.alto_words.specs.declared.fid.Fid.{Fid}
 use Rattle.exec_session.proofs.Stopping.{refused_of_stop}
 use Rattle.exec_session.specs.declared.stop.Stop.TheVariants as stop

@@ -6,10 +6,10 @@ use Rattle.session_model.specs.Effects.{copied_ops}
 use Rattle.exec_session.proofs.Stopping.{error_is}
 use Rattle.exec_session.specs.Meant.{kept}
 use Rattle.exec_session.specs.declared.stop.Stop.{Stop}
-use Rattle.exec_steps.specs.Midway.{StepsOn}
+use Rattle.exec_session.specs.Midway.{StepsOn}
 use Rattle.exec_names.proofs.Copying.{filling_ends, growing_stops, nothing_fills}
 use Rattle.exec_session.proofs.Causing.{cause_sooner}
-use Rattle.exec_steps.proofs.Frames.{cause_passed, never_refused, works_twice, works_here}
+use Rattle.exec_session.proofs.Frames.{cause_passed, never_refused, works_twice, works_here}
 use Rattle.exec_names.proofs.copy.fill_copy.Goals as goal
 
 is_zero : (n : ℕ) → (n == 0) ≡ true → n ≡ 0

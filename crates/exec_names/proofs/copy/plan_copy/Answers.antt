@@ -14,7 +14,7 @@ use Rattle.exec_session.specs.Found.{IsNoneAt, dirs_followed}
 use Rattle.exec_session.specs.declared.rooms.NewEntry.{NewEntry}
 use Rattle.exec_names.specs.Entries.{OperandsRefuse}
 use Rattle.exec_names.specs.Plans.{IsPlaced, place_refusal}
-use Rattle.exec_steps.proofs.Frames.{looks_about_within, cause_after, cause_passed}
+use Rattle.exec_session.proofs.Frames.{looks_about_within, cause_after, cause_passed}
 use Rattle.exec_names.proofs.NamedEntries.{failing_more}
 use Rattle.exec_names.proofs.NewPlaces.{names_place, names_source_dirs}
 use Rattle.exec_names.proofs.Refusing.{source_absent, source_found}

@@ -9,12 +9,12 @@ use Rattle.exec_session.proofs.Stopping.{error_is}
 use Rattle.exec_session.specs.Meant.{kept}
 use Rattle.exec_session.specs.Rooms.{pages_planned}
 use Rattle.exec_session.specs.declared.stop.Stop.{Stop}
-use Rattle.exec_steps.proofs.Joining.{steps_err, steps_ok}
-use Rattle.exec_steps.specs.Asked.{made_fid}
-use Rattle.exec_steps.specs.Midway.{StepsOn}
+use Rattle.exec_session.proofs.Joining.{steps_err, steps_ok}
+use Rattle.exec_session.specs.Asked.{made_fid}
+use Rattle.exec_session.specs.Midway.{StepsOn}
 use Rattle.exec_names.specs.Plans.{copied}
 use Rattle.exec_names.proofs.Copying.{copy_ends, fills_made, from_there, making_stops}
-use Rattle.exec_steps.proofs.Frames.{cause_after, cause_passed, never_refused, works_twice}
+use Rattle.exec_session.proofs.Frames.{cause_after, cause_passed, never_refused, works_twice}
 use Rattle.exec_session.proofs.Parts.{ok_of_error}
 use Rattle.exec_names.proofs.copy.write_copy.Goals as goal
 

@@ -7,12 +7,12 @@ use Rattle.exec_words.specs.declared.line.Line.TheVariants as line
 use Rattle.session_model.specs.Keeping.{world_of}
 use Rattle.exec_session.specs.Meant.{kept}
 use Rattle.exec_session.specs.declared.rooms.NewEntry.{NewEntry}
-use Rattle.exec_steps.specs.Asked.{made_fid}
+use Rattle.exec_session.specs.Asked.{made_fid}
 use Rattle.exec_names.proofs.Ends.{begins_last, planning_stops, text_missing, writing_done, writing_stops}
-use Rattle.exec_steps.proofs.Frames.{stays_worked, works_looked, works_twice, cause_after, cause_passed, if_refused, never_refused}
+use Rattle.exec_session.proofs.Frames.{stays_worked, works_looked, works_twice, cause_after, cause_passed, if_refused, never_refused}
 use Rattle.exec_names.proofs.NamedEntries.{make_adds_there, make_on}
 use Rattle.exec_session.proofs.TakingUp.{typed_line}
-use Rattle.exec_steps.proofs.LookedBefore.{same_count}
+use Rattle.exec_session.proofs.LookedBefore.{same_count}
 use Rattle.alto_words.specs.declared.fid.Fid.{Fid}
 use Rattle.exec_session.proofs.Stopping.{refused_of_stop}
 use Rattle.exec_session.specs.declared.stop.Stop.TheVariants as stop

@@ -25,10 +25,10 @@ use Rattle.exec_session.specs.Meant.{IfHint, IfRefused}
 use Rattle.exec_session.specs.NewNames.{IsTaken}
 use Rattle.exec_session.specs.declared.rooms.NewEntry.{NewEntry}
 use Rattle.exec_session.specs.declared.stop.Stop.{Stop}
-use Rattle.exec_steps.proofs.Stepping.{if_hint_weaker}
+use Rattle.exec_session.proofs.Stepping.{if_hint_weaker}
 use Rattle.exec_names.specs.Entries.{IsNewEntry, OperandsRefuse, PlansPath}
 use Rattle.exec_names.proofs.Adding.{root_stands, touched_pair}
-use Rattle.exec_steps.proofs.Frames.{looks_about_within, cause_passed}
+use Rattle.exec_session.proofs.Frames.{looks_about_within, cause_passed}
 use Rattle.exec_names.proofs.NamedEntries.{dir_stands, failing_more, make_absent, make_found, path_touches, root_touched, root_touches}
 use Rattle.exec_names.proofs.NewSectors.{refused_then}
 use Rattle.exec_session.proofs.Causing.{cause_refused, cause_sooner, not_wanted, not_wanted_refused}

@@ -20,10 +20,10 @@ use Rattle.exec_session.specs.Meant.{IfHint}
 use Rattle.exec_session.specs.Rooms.{IsPlanned}
 use Rattle.exec_session.specs.declared.rooms.NewEntry.{NewEntry}
 use Rattle.exec_session.specs.declared.stop.Stop.{Stop}
-use Rattle.exec_steps.proofs.Stepping.{if_hint_weaker}
+use Rattle.exec_session.proofs.Stepping.{if_hint_weaker}
 use Rattle.exec_names.specs.Entries.{OperandsRefuse, PlansDir}
 use Rattle.exec_names.proofs.Adding.{root_stands, touched_pair}
-use Rattle.exec_steps.proofs.Frames.{looks_about_within, cause_passed}
+use Rattle.exec_session.proofs.Frames.{looks_about_within, cause_passed}
 use Rattle.exec_names.proofs.NamedEntries.{failing_more, make_dir_operand, root_touched}
 use Rattle.exec_names.proofs.NewSectors.{refused_then}
 use Rattle.exec_session.proofs.Causing.{cause_sooner, not_wanted}

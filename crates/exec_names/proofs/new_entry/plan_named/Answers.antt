@@ -23,7 +23,7 @@ use Rattle.exec_session.specs.Rooms.{IsPlanned}
 use Rattle.exec_session.specs.declared.rooms.NewEntry.{NewEntry}
 use Rattle.exec_session.specs.declared.stop.Stop.{Stop}
 use Rattle.exec_names.specs.Entries.{IsNewEntry}
-use Rattle.exec_steps.proofs.Frames.{looks_about_within, cause_passed}
+use Rattle.exec_session.proofs.Frames.{looks_about_within, cause_passed}
 use Rattle.exec_names.proofs.NewSectors.{refused_then}
 use Rattle.exec_session.proofs.Causing.{cause_sooner, not_wanted}
 use Rattle.exec_session.proofs.Parts.{ok_of_error}

@@ -6,13 +6,13 @@ use Rattle.exec_words.specs.declared.line.Line.TheVariants as line
 use Rattle.exec_session.proofs.Stopping.{error_is}
 use Rattle.exec_session.specs.Meant.{kept}
 use Rattle.exec_session.specs.declared.stop.Stop.{Stop}
-use Rattle.exec_steps.specs.Midway.{StepsOn}
+use Rattle.exec_session.specs.Midway.{StepsOn}
 use Rattle.exec_names.specs.Plans.{MayRename, renamed}
 use Rattle.exec_names.specs.Writes.{WritesLine}
 use Rattle.exec_names.proofs.Ends.{begins_sound}
-use Rattle.exec_steps.proofs.Frames.{works_reserved, works_twice, cause_after, cause_passed, if_refused, never_refused}
+use Rattle.exec_session.proofs.Frames.{works_reserved, works_twice, cause_after, cause_passed, if_refused, never_refused}
 use Rattle.exec_names.proofs.RenameLine.{asks, enough_as_planned, files, mark_stops, may, renaming_ends, reserved_as_planned, reserving_stops}
-use Rattle.exec_steps.proofs.LookedBefore.{same_count}
+use Rattle.exec_session.proofs.LookedBefore.{same_count}
 use Rattle.exec_session.proofs.Causing.{cause_sooner}
 use Rattle.exec_names.proofs.NewSectors.{refused_then}
 use Rattle.exec_names.proofs.rename.apply_rename.Goals as goal

@@ -3,11 +3,11 @@ use Rattle.disk_records.proofs.Growing.{alone_twice}
 use Rattle.exec_session.proofs.Stopping.{error_is}
 use Rattle.exec_session.specs.Meant.{kept}
 use Rattle.exec_session.specs.declared.stop.Stop.{Stop}
-use Rattle.exec_steps.specs.Midway.{StepsOn}
+use Rattle.exec_session.specs.Midway.{StepsOn}
 use Rattle.exec_names.specs.Plans.{changed_entry}
 use Rattle.exec_names.proofs.Renaming.{entry_changes, leaving_stops}
 use Rattle.exec_session.proofs.Causing.{cause_sooner}
-use Rattle.exec_steps.proofs.Frames.{cause_passed, never_refused, works_twice}
+use Rattle.exec_session.proofs.Frames.{cause_passed, never_refused, works_twice}
 use Rattle.exec_names.proofs.rename.change_entry.Goals as goal
 
 pub returns-in_err-leave_dir-clause-steps : goal.returns-in_err-leave_dir-clause-steps

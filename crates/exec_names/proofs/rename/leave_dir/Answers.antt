@@ -1,16 +1,15 @@
 use Rattle.std.proofs.Common.{Result, [], arith, refl, subst, sym, ◌∷◌, ap, length}
 use Rattle.disk_records.specs.Causes.{other, HasCause, never}
 use Rattle.disk_records.specs.Tapes.{added, pack}
-use Rattle.exec_steps.specs.laws_call.specs.Acting.{around}
+use Rattle.exec_session.specs.laws_call.specs.Acting.{around}
 use Rattle.pack_model.specs.operations.Step.Operation.{leave}
 use Rattle.exec_session.specs.Meant.{kept, IfRefused}
 use Rattle.exec_session.specs.Stops.{stop_entered, cause_of_stop}
 use Rattle.exec_session.specs.declared.stop.Stop.{Stop}
-use Rattle.exec_steps.specs.Midway.{StepsOn}
-use Rattle.exec_steps.proofs.Answers.{entered_hints, entered_operates, misled_quiet}
-use Rattle.exec_steps.proofs.Calling.{hints_step, in_one}
+use Rattle.exec_session.specs.Midway.{StepsOn}
+use Rattle.exec_session.proofs.StepAnswers.{entered_cause, entered_hints, entered_operates, entered_unrefused, misled_quiet}
+use Rattle.exec_session.proofs.Calling.{hints_step, in_one}
 use Rattle.exec_names.proofs.Leaving.{leaving_cause, leaving_roomy, leaving_untaken, never_absent, ordinary_entry}
-use Rattle.exec_steps.proofs.Answers.{entered_cause, entered_unrefused}
 use Rattle.exec_names.proofs.rename.leave_dir.Goals as goal
 
 pub returns-clause-steps : goal.returns-clause-steps

@@ -4,11 +4,11 @@ use Rattle.disk_records.proofs.Growing.{alone_twice}
 use Rattle.exec_session.proofs.Stopping.{error_is}
 use Rattle.exec_session.specs.Meant.{kept}
 use Rattle.exec_session.specs.declared.stop.Stop.{Stop}
-use Rattle.exec_steps.specs.Midway.{StepsOn}
+use Rattle.exec_session.specs.Midway.{StepsOn}
 use Rattle.exec_names.specs.Plans.{renamed}
 use Rattle.exec_names.proofs.Renaming.{pages_stop, rename_ends, title_stops}
 use Rattle.exec_session.proofs.Causing.{cause_sooner}
-use Rattle.exec_steps.proofs.Frames.{cause_after, cause_passed, never_refused, works_twice}
+use Rattle.exec_session.proofs.Frames.{cause_after, cause_passed, never_refused, works_twice}
 use Rattle.exec_names.proofs.rename.rename_entry.Goals as goal
 
 pub returns-in_err-widen_first-clause-steps : goal.returns-in_err-widen_first-clause-steps

@@ -13,11 +13,11 @@ use Rattle.exec_session.specs.Turned.{Begins}
 use Rattle.exec_names.specs.Plans.{IsRenaming}
 use Rattle.exec_names.specs.declared.rename.Renaming.{Renaming}
 use Rattle.exec_names.proofs.Ends.{begins_sound, planning_stops, text_missing, writing_done, writing_stops}
-use Rattle.exec_steps.proofs.Frames.{stays_worked, works_looked, works_twice, cause_after, cause_passed, if_refused, never_refused}
+use Rattle.exec_session.proofs.Frames.{stays_worked, works_looked, works_twice, cause_after, cause_passed, if_refused, never_refused}
 use Rattle.exec_session.proofs.TakingUp.{typed_line}
 use Rattle.exec_names.proofs.Refusing.{both}
 use Rattle.exec_names.proofs.Sorts.{rename_on}
-use Rattle.exec_steps.proofs.LookedBefore.{same_count}
+use Rattle.exec_session.proofs.LookedBefore.{same_count}
 use Rattle.exec_session.proofs.Stopping.{refused_of_stop}
 use Rattle.exec_session.specs.declared.stop.Stop.TheVariants as stop
 use Rattle.exec_names.proofs.rename.rename_file.Goals as goal

@@ -1,14 +1,13 @@
 use Rattle.std.proofs.Common.{Result, [], arith, refl, subst, sym, ◌∷◌, ap, length}
 use Rattle.disk_records.specs.Tapes.{added, pack}
-use Rattle.exec_steps.specs.laws_call.specs.Acting.{around}
+use Rattle.exec_session.specs.laws_call.specs.Acting.{around}
 use Rattle.pack_model.specs.operations.Step.Operation.{title}
 use Rattle.exec_session.specs.Meant.{kept, IfRefused}
 use Rattle.exec_session.specs.Stops.{stop_written, cause_of_stop}
 use Rattle.exec_session.specs.declared.stop.Stop.{Stop}
-use Rattle.exec_steps.specs.Midway.{StepsOn}
-use Rattle.exec_steps.proofs.Answers.{misled_silent, written_hints, written_operates}
-use Rattle.exec_steps.proofs.Calling.{hints_step, in_one}
-use Rattle.exec_steps.proofs.Answers.{written_cause, written_unrefused}
+use Rattle.exec_session.specs.Midway.{StepsOn}
+use Rattle.exec_session.proofs.StepAnswers.{misled_silent, written_cause, written_hints, written_operates, written_unrefused}
+use Rattle.exec_session.proofs.Calling.{hints_step, in_one}
 use Rattle.disk_records.specs.Causes.{HasCause}
 use Rattle.exec_names.proofs.rename.title_file.Goals as goal
 
