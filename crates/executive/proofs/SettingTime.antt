@@ -17,8 +17,8 @@ use Rattle.exec_session.specs.declared.stop.Stop.TheVariants as stop
 use Rattle.exec_session.specs.Meant.{IsTakenUpBy, MayObey, TakesLine, kept}
 use Rattle.exec_session.specs.Stops.{cause_of_stop}
 use Rattle.exec_session.proofs.Turning.{line_stops_unwritten, turned_is_a_turn}
-use Rattle.exec_names.specs.laws_session.proofs.lines.Laws.{silent_lines_answer}
-use Rattle.exec_names.specs.laws_session.specs.LineAnswers.{GoesOnWith, plain_state}
+use Rattle.exec_writing.specs.laws_session.proofs.lines.Laws.{silent_lines_answer}
+use Rattle.exec_writing.specs.laws_session.specs.LineAnswers.{GoesOnWith, plain_state}
 use Rattle.pack_model.specs.operations.Committing.{line_moves}
 use Rattle.pack_model.specs.operations.Operations.{Move}
 use Rattle.pack_model.specs.reading.Files.{first}

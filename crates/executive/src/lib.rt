@@ -1,6 +1,6 @@
 //! Typed lines on an open pack: what each is answered, and what it leaves.
 //!
-//! Come here to obey a line in a session. Below it stand the lines in crates by what they do (exec_reading, exec_files, exec_names), what
+//! Come here to obey a line in a session. Below it stand the lines in crates by what they do (exec_reading, exec_writing), what
 //! they share (exec_session), and their grammar and texts (exec_words). A session begins and ends by exec_session's calls. To the layers
 //! above, on every machine:
 //! 1. The session stays well formed (`formed`), its tally counts up to the limit that it was given (`limit`), a disk fault comes only where

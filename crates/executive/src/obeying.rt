@@ -13,11 +13,13 @@ ghost use Rattle.std.specs.Prelude.{IsTrue, [], false, true, ◌≡◌, ◌≢�
 use crate::moment::set_time;
 use crate::refusing::refuse_line;
 use disk_records::Disk;
-use exec_files::{append_bytes, cut_file, delete_file, patch_bytes, remove_dir};
-use exec_names::{copy_file, make_dir, make_file, rename_file};
 use exec_reading::{free_pages, list_names, stat_file, type_file};
 use exec_session::{Session, Stop, answer, limit_of, quit, stopped};
 use exec_words::{Line, Refusal, Reply};
+use exec_writing::{
+    append_bytes, copy_file, cut_file, delete_file, make_dir, make_file, patch_bytes, remove_dir,
+    rename_file,
+};
 use std::alloc::Global;
 
 /// Obeys a line that the session takes up, except `quit`: the text of its reply, or why it isn't done.

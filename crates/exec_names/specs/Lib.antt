@@ -1,9 +1,0 @@
-pub mod Entries
-pub mod Plans
-pub mod Writes
-pub use Rattle.exec_session.specs.pack_laws
-pub use Rattle.exec_session.specs.laws_record
-pub use Rattle.exec_session.specs.laws_contents
-pub use Rattle.exec_session.specs.laws_lookup
-pub use Rattle.exec_session.specs.laws_session
-pub use Rattle.exec_session.specs.disk_descriptor

@@ -1,0 +1,116 @@
+use Rattle.std.proofs.Common.{Result, Vec, get_or, ℕ, List, subst, sym, [], ◌≡◌}
+use Rattle.disk_records.proofs.Growing.{alone_twice}
+use Rattle.disk_records.specs.Tapes.{pack, added}
+use Rattle.std.specs.declared.alloc.Global.{Global}
+use Rattle.exec_words.specs.declared.line.Line.TheVariants as line
+use Rattle.exec_session.proofs.Stopping.{error_is}
+use Rattle.exec_session.specs.Meant.{kept}
+use Rattle.exec_session.specs.declared.stop.Stop.{Stop}
+use Rattle.exec_session.specs.Midway.{StepsOn}
+use Rattle.exec_writing.specs.Plans.{MayRename, renamed}
+use Rattle.exec_writing.specs.Writes.{WritesLine}
+use Rattle.exec_writing.proofs.Ends.{begins_sound}
+use Rattle.exec_session.proofs.Frames.{works_reserved, works_twice, cause_after, cause_passed, if_refused, never_refused}
+use Rattle.exec_writing.proofs.RenameLine.{asks, enough_as_planned, files, mark_stops, may, renaming_ends, reserved_as_planned, reserving_stops}
+use Rattle.exec_session.proofs.LookedBefore.{same_count}
+use Rattle.exec_session.proofs.Causing.{cause_sooner}
+use Rattle.exec_writing.proofs.NewSectors.{refused_then}
+use Rattle.exec_writing.proofs.rename.apply_rename.Goals as goal
+
+pub returns-in_err-fresh-clause-writes : goal.returns-in_err-fresh-clause-writes
+returns-in_err-fresh-clause-writes g c = λ s old new told begins is.
+    let a = g.D.Tape.tape c.args.disk.now in
+    let b = g.D.Tape.tape c.reserve_pages.new.disk in
+    let s0 = c.args.session.now in
+    let s1 = c.reserve_pages.new.session in
+    let e = c.in_err-fresh.ensures in
+    let sound = begins_sound begins in
+    subst (λ (r : Result (Unit {0}) Stop). WritesLine a b (kept s0) (kept s1) s (line.Rename old new) r) (sym (error_is c.from_residual.result c.from_residual.ensures.1))
+    (reserving_stops a b s0 s1 s old new c.args.plan.now begins is e.looks.alone (e.looks.silent told) e.same (Vec ℕ Global) c.pages.result c.in_err-fresh.field-0.0 c.pages.ensures (e.stays_true told sound) (e.full told sound) e.never_misled)
+
+pub returns-in_err-open_mark-clause-alone : goal.returns-in_err-open_mark-clause-alone
+returns-in_err-open_mark-clause-alone g c = alone_twice c.in_ok-fresh.ensures.looks.alone c.in_err-open_mark.ensures.alone
+
+pub returns-clause-alone : goal.returns-clause-alone
+returns-clause-alone g c = alone_twice c.in_ok-fresh.ensures.looks.alone (alone_twice c.in_ok-open_mark.ensures.alone c.rename_entry.ensures.alone)
+
+pub returns-in_err-open_mark-clause-writes : goal.returns-in_err-open_mark-clause-writes
+returns-in_err-open_mark-clause-writes g c = λ s old new told begins is.
+    let a = g.D.Tape.tape c.args.disk.now in
+    let b = g.D.Tape.tape c.reserve_pages.new.disk in
+    let d = g.D.Tape.tape c.open_mark.new.disk in
+    let s0 = c.args.session.now in
+    let s1 = c.reserve_pages.new.session in
+    let s2 = c.open_mark.new.session in
+    let plan = c.args.plan.now in
+    let fresh = c.in_ok-fresh.fresh.items in
+    let e = c.in_ok-fresh.ensures in
+    let h = c.in_err-open_mark.ensures in
+    let sound = begins_sound begins in
+    let silent = e.looks.silent told in
+    let writes = same_count a b e.looks.alone silent (g.met.D.Disk.counted c.args.disk.now told) (g.met.D.Disk.counted c.reserve_pages.new.disk told) in
+    let reserved = reserved_as_planned plan.entry c.pages.result _ s1.hints.table fresh c.pages.ensures e.reserved in
+    let enough = enough_as_planned (pack a) plan.entry c.pages.result c.pages.ensures (e.enough told sound) in
+    let m = may a b s0 s1 s old new plan begins is e.looks.alone silent e.same writes fresh _ reserved (e.free told) enough (e.table told sound) in
+    subst (λ (r : Result (Unit {0}) Stop). WritesLine a d (kept s0) (kept s2) s (line.Rename old new) r) (sym (error_is c.from_residual-in_err-open_mark.result c.from_residual-in_err-open_mark.ensures.1))
+    (mark_stops a b s0 s1 s old new plan begins is e.looks.alone silent e.same writes fresh _ reserved (e.free told) enough (e.table told sound)
+    d s2 c.in_err-open_mark.field-0.0 (works_twice (works_reserved e.same e.sized) h.works) h.alone h.unrefused (h.starts (kept s0) (get_or s0.descriptor.pages 0 0) fresh told m.start))
+
+pub returns-clause-writes : goal.returns-clause-writes
+returns-clause-writes g c = λ s old new told begins is.
+    let a = g.D.Tape.tape c.args.disk.now in
+    let b = g.D.Tape.tape c.reserve_pages.new.disk in
+    let d = g.D.Tape.tape c.open_mark.new.disk in
+    let z = g.D.Tape.tape c.rename_entry.new.disk in
+    let s0 = c.args.session.now in
+    let s1 = c.reserve_pages.new.session in
+    let s2 = c.open_mark.new.session in
+    let s3 = c.rename_entry.new.session in
+    let plan = c.args.plan.now in
+    let fresh = c.in_ok-fresh.fresh.items in
+    let e = c.in_ok-fresh.ensures in
+    let h = c.in_ok-open_mark.ensures in
+    let w = c.rename_entry.ensures in
+    let sound = begins_sound begins in
+    let silent = e.looks.silent told in
+    let writes = same_count a b e.looks.alone silent (g.met.D.Disk.counted c.args.disk.now told) (g.met.D.Disk.counted c.reserve_pages.new.disk told) in
+    let reserved = reserved_as_planned plan.entry c.pages.result _ s1.hints.table fresh c.pages.ensures e.reserved in
+    let enough = enough_as_planned (pack a) plan.entry c.pages.result c.pages.ensures (e.enough told sound) in
+    let m = may a b s0 s1 s old new plan begins is e.looks.alone silent e.same writes fresh _ reserved (e.free told) enough (e.table told sound) in
+    let started = h.starts (kept s0) (get_or s0.descriptor.pages 0 0) fresh told m.start in
+    let there = asks a b s0 s1 s old new plan begins is e.looks.alone silent e.same writes fresh _ reserved (e.free told) enough (e.table told sound) d s2 c.in_ok-open_mark.field-0 started in
+    renaming_ends a b s0 s1 s old new plan begins is e.looks.alone silent e.same writes fresh _ reserved (e.free told) enough (e.table told sound) d s2 c.in_ok-open_mark.field-0 started
+    z s3 c.rename_entry.result (works_twice (works_reserved e.same e.sized) (works_twice h.works w.works)) (alone_twice h.alone w.alone) w.unrefused (subst (λ (l : List ℕ). MayRename (pack d) plan l → StepsOn d z (kept s2) (kept s3) (renamed plan) l (files (pack a) old new plan is) c.rename_entry.result) c.deref.ensures.value (w.steps told) there)
+
+pub returns-in_err-fresh-clause-unwritten : goal.returns-in_err-fresh-clause-unwritten
+returns-in_err-fresh-clause-unwritten g c = λ told. if_refused (added (g.D.Tape.tape c.args.disk.now) (g.D.Tape.tape c.reserve_pages.new.disk) ≡ []) c.from_residual.result (c.in_err-fresh.ensures.looks.silent told)
+
+pub returns-in_err-fresh-clause-works : goal.returns-in_err-fresh-clause-works
+returns-in_err-fresh-clause-works g c = works_reserved c.in_err-fresh.ensures.same c.in_err-fresh.ensures.sized
+
+pub returns-in_err-fresh-clause-cause : goal.returns-in_err-fresh-clause-cause
+returns-in_err-fresh-clause-cause g c = cause_passed (g.D.Tape.tape c.args.disk.now) (g.D.Tape.tape c.reserve_pages.new.disk) c.in_err-fresh.field-0.0 c.from_residual.result c.from_residual.ensures.1 c.in_err-fresh.ensures.cause
+
+pub returns-in_err-fresh-clause-alone : goal.returns-in_err-fresh-clause-alone
+returns-in_err-fresh-clause-alone g c = c.in_err-fresh.ensures.looks.alone
+
+pub returns-in_err-open_mark-clause-unwritten : goal.returns-in_err-open_mark-clause-unwritten
+returns-in_err-open_mark-clause-unwritten g c =
+    λ told. never_refused (Unit {0}) (λ x. added (g.D.Tape.tape c.args.disk.now) (g.D.Tape.tape c.open_mark.new.disk) ≡ []) c.in_err-open_mark.field-0.0 c.from_residual-in_err-open_mark.result c.from_residual-in_err-open_mark.ensures.1 c.in_err-open_mark.ensures.unrefused
+
+pub returns-in_err-open_mark-clause-works : goal.returns-in_err-open_mark-clause-works
+returns-in_err-open_mark-clause-works g c = works_twice (works_reserved c.in_ok-fresh.ensures.same c.in_ok-fresh.ensures.sized) c.in_err-open_mark.ensures.works
+
+pub returns-in_err-open_mark-clause-cause : goal.returns-in_err-open_mark-clause-cause
+returns-in_err-open_mark-clause-cause g c =
+    cause_after (g.D.Tape.tape c.args.disk.now) (g.D.Tape.tape c.reserve_pages.new.disk) (g.D.Tape.tape c.open_mark.new.disk) c.in_err-open_mark.field-0.0 c.from_residual-in_err-open_mark.result c.from_residual-in_err-open_mark.ensures.1 c.in_ok-fresh.ensures.looks.alone.grown c.in_err-open_mark.ensures.cause
+
+pub returns-clause-unwritten : goal.returns-clause-unwritten
+returns-clause-unwritten g c = λ told. refused_then (λ r. ⊥) (λ r. added (g.D.Tape.tape c.args.disk.now) (g.D.Tape.tape c.rename_entry.new.disk) ≡ []) c.rename_entry.result (λ r none. absurd none) c.rename_entry.ensures.unrefused
+
+pub returns-clause-works : goal.returns-clause-works
+returns-clause-works g c = works_twice (works_twice (works_reserved c.in_ok-fresh.ensures.same c.in_ok-fresh.ensures.sized) c.in_ok-open_mark.ensures.works) c.rename_entry.ensures.works
+
+pub returns-clause-cause : goal.returns-clause-cause
+returns-clause-cause g c =
+    cause_sooner (g.D.Tape.tape c.args.disk.now) (g.D.Tape.tape c.open_mark.new.disk) (g.D.Tape.tape c.rename_entry.new.disk) c.rename_entry.result (alone_twice c.in_ok-fresh.ensures.looks.alone c.in_ok-open_mark.ensures.alone).grown c.rename_entry.ensures.cause

@@ -1,0 +1,144 @@
+use Rattle.std.proofs.Common.{◌≡◌, subst, sym, []}
+use Rattle.disk_records.proofs.Growing.{alone_twice, silent_twice}
+use Rattle.disk_records.proofs.Looking.{looks_pack}
+use Rattle.disk_records.specs.Tapes.{Taped, pack, added}
+use Rattle.exec_words.specs.Typed.{is_typed_path}
+use Rattle.exec_words.specs.declared.line.Line.TheVariants as line
+use Rattle.exec_words.specs.declared.line.Path.{Path}
+use Rattle.pack_model.specs.states.Sound.{Sound}
+use Rattle.session_model.specs.Keeping.{Kept, world_of}
+use Rattle.session_model.specs.Turning.{State}
+use Rattle.exec_session.specs.Meant.{kept}
+use Rattle.exec_session.specs.Turned.{Begins}
+use Rattle.exec_writing.specs.Plans.{IsRenaming}
+use Rattle.exec_writing.specs.declared.rename.Renaming.{Renaming}
+use Rattle.exec_writing.proofs.Ends.{begins_sound, planning_stops, text_missing, writing_done, writing_stops}
+use Rattle.exec_session.proofs.Frames.{stays_worked, works_looked, works_twice, cause_after, cause_passed, if_refused, never_refused}
+use Rattle.exec_session.proofs.TakingUp.{typed_line}
+use Rattle.exec_writing.proofs.Refusing.{both}
+use Rattle.exec_writing.proofs.Sorts.{rename_on}
+use Rattle.exec_session.proofs.LookedBefore.{same_count}
+use Rattle.exec_session.proofs.Stopping.{refused_of_stop}
+use Rattle.exec_session.specs.declared.stop.Stop.TheVariants as stop
+use Rattle.exec_writing.proofs.rename.rename_file.Goals as goal
+
+-- what is planned, on the pack that is as it was
+planned_there : (a b : Taped) {k : Kept} {s : State} {old new : Path} {plan : Renaming} → pack b ≡ pack a → Begins b k s (line.Rename old new) → (Sound (pack a) → IsRenaming (pack a) old new plan) → IsRenaming (pack b) old new plan
+planned_there a b {k} {s} {old} {new} {plan} same begins planned = subst (λ p. IsRenaming p old new plan) (sym same) (planned (subst Sound same (begins_sound begins)))
+
+-- ---- the plan
+pub plan_rename-requires : goal.plan_rename-requires
+plan_rename-requires g c = record { typed = both (is_typed_path c.args.old_path.now) (is_typed_path c.args.new_path.now) (typed_line (line.Rename c.args.old_path.now c.args.new_path.now) (world_of (kept c.args.session.now)) c.requires.obeys.taken_up) }
+
+pub returns-in_err-plan-clause-turns : goal.returns-in_err-plan-clause-turns
+returns-in_err-plan-clause-turns g c = λ told.
+    let old = c.args.old_path.now in
+    let new = c.args.new_path.now in
+    let h = c.in_err-plan.ensures in
+    planning_stops Renaming (g.D.Tape.tape c.args.disk.now) (g.D.Tape.tape c.plan_rename.new.disk) c.args.session.now c.plan_rename.new.session (line.Rename old new) c.in_err-plan.field-0.0 c.from_residual.result
+    (rename_on old new) told c.requires.obeys h.looks c.from_residual.ensures.1 (h.refused told) (h.misled told)
+
+pub returns-in_err-plan-clause-stays : goal.returns-in_err-plan-clause-stays
+returns-in_err-plan-clause-stays g c = stays_worked (g.D.Tape.tape c.args.disk.now) (g.D.Tape.tape c.plan_rename.new.disk) (works_looked c.in_err-plan.ensures.looks.looked) c.in_err-plan.ensures.looks.looks.alone.grown.form c.requires.obeys.formed
+
+-- ---- the disk alone
+pub returns-in_err-apply_rename-clause-alone : goal.returns-in_err-apply_rename-clause-alone
+returns-in_err-apply_rename-clause-alone g c = alone_twice c.in_ok-plan.ensures.looks.looks.alone c.in_err-apply_rename.ensures.alone
+
+pub returns-in_err-done_text-clause-alone : goal.returns-in_err-done_text-clause-alone
+returns-in_err-done_text-clause-alone g c = alone_twice c.in_ok-plan.ensures.looks.looks.alone c.in_ok-apply_rename.ensures.alone
+
+pub returns-clause-alone : goal.returns-clause-alone
+returns-clause-alone g c = alone_twice c.in_ok-plan.ensures.looks.looks.alone c.in_ok-apply_rename.ensures.alone
+
+-- ---- the steps
+pub returns-in_err-apply_rename-clause-turns : goal.returns-in_err-apply_rename-clause-turns
+returns-in_err-apply_rename-clause-turns g c = λ told.
+    let a = g.D.Tape.tape c.args.disk.now in
+    let b = g.D.Tape.tape c.plan_rename.new.disk in
+    let d = g.D.Tape.tape c.apply_rename.new.disk in
+    let s1 = c.plan_rename.new.session in
+    let old = c.args.old_path.now in
+    let new = c.args.new_path.now in
+    let h = c.in_ok-plan.ensures in
+    let w = c.in_err-apply_rename.ensures in
+    let count = same_count a b h.looks.looks.alone (h.looks.looks.silent told) (g.met.D.Disk.counted c.args.disk.now told) (g.met.D.Disk.counted c.plan_rename.new.disk told) in
+    writing_stops a b d c.args.session.now s1 c.apply_rename.new.session (line.Rename old new) (rename_on old new) told c.requires.obeys h.looks w.alone count (g.met.D.Disk.formed c.plan_rename.new.disk told) c.in_err-apply_rename.field-0.0 c.from_residual-in_err-apply_rename.result c.from_residual-in_err-apply_rename.ensures.1
+    (λ s begins. w.writes s old new told begins (planned_there a b (looks_pack h.looks.looks told) begins (h.planned told)))
+
+pub returns-in_err-apply_rename-clause-stays : goal.returns-in_err-apply_rename-clause-stays
+returns-in_err-apply_rename-clause-stays g c =
+    let h = c.in_ok-plan.ensures in
+    let w = c.in_err-apply_rename.ensures in
+    stays_worked (g.D.Tape.tape c.args.disk.now) (g.D.Tape.tape c.apply_rename.new.disk) (works_twice (works_looked h.looks.looked) w.works) (alone_twice h.looks.looks.alone w.alone).grown.form c.requires.obeys.formed
+
+pub returns-in_err-done_text-clause-turns : goal.returns-in_err-done_text-clause-turns
+returns-in_err-done_text-clause-turns g c = λ told.
+    let a = g.D.Tape.tape c.args.disk.now in
+    let b = g.D.Tape.tape c.plan_rename.new.disk in
+    let d = g.D.Tape.tape c.apply_rename.new.disk in
+    let s1 = c.plan_rename.new.session in
+    let old = c.args.old_path.now in
+    let new = c.args.new_path.now in
+    let h = c.in_ok-plan.ensures in
+    let w = c.in_ok-apply_rename.ensures in
+    let count = same_count a b h.looks.looks.alone (h.looks.looks.silent told) (g.met.D.Disk.counted c.args.disk.now told) (g.met.D.Disk.counted c.plan_rename.new.disk told) in
+    text_missing a b d c.args.session.now s1 c.apply_rename.new.session (line.Rename old new) (rename_on old new) told c.requires.obeys h.looks w.alone count (g.met.D.Disk.formed c.plan_rename.new.disk told) c.from_residual-in_err-done_text.result c.from_residual-in_err-done_text.ensures.1
+    (λ s begins. w.writes s old new told begins (planned_there a b (looks_pack h.looks.looks told) begins (h.planned told)))
+
+pub returns-in_err-done_text-clause-stays : goal.returns-in_err-done_text-clause-stays
+returns-in_err-done_text-clause-stays g c =
+    let h = c.in_ok-plan.ensures in
+    let w = c.in_ok-apply_rename.ensures in
+    stays_worked (g.D.Tape.tape c.args.disk.now) (g.D.Tape.tape c.apply_rename.new.disk) (works_twice (works_looked h.looks.looked) w.works) (alone_twice h.looks.looks.alone w.alone).grown.form c.requires.obeys.formed
+
+pub returns-clause-turns : goal.returns-clause-turns
+returns-clause-turns g c = λ told.
+    let a = g.D.Tape.tape c.args.disk.now in
+    let b = g.D.Tape.tape c.plan_rename.new.disk in
+    let d = g.D.Tape.tape c.apply_rename.new.disk in
+    let s1 = c.plan_rename.new.session in
+    let old = c.args.old_path.now in
+    let new = c.args.new_path.now in
+    let h = c.in_ok-plan.ensures in
+    let w = c.in_ok-apply_rename.ensures in
+    let count = same_count a b h.looks.looks.alone (h.looks.looks.silent told) (g.met.D.Disk.counted c.args.disk.now told) (g.met.D.Disk.counted c.plan_rename.new.disk told) in
+    writing_done a b d c.args.session.now s1 c.apply_rename.new.session (line.Rename old new) (rename_on old new) told c.requires.obeys h.looks w.alone count (g.met.D.Disk.formed c.plan_rename.new.disk told) c.in_ok-done_text.field-0
+    (λ s begins. w.writes s old new told begins (planned_there a b (looks_pack h.looks.looks told) begins (h.planned told)))
+    (λ s begins. c.in_ok-done_text.ensures)
+
+pub returns-clause-stays : goal.returns-clause-stays
+returns-clause-stays g c =
+    let h = c.in_ok-plan.ensures in
+    let w = c.in_ok-apply_rename.ensures in
+    stays_worked (g.D.Tape.tape c.args.disk.now) (g.D.Tape.tape c.apply_rename.new.disk) (works_twice (works_looked h.looks.looked) w.works) (alone_twice h.looks.looks.alone w.alone).grown.form c.requires.obeys.formed
+
+pub returns-in_err-plan-clause-unwritten : goal.returns-in_err-plan-clause-unwritten
+returns-in_err-plan-clause-unwritten g c = λ told. if_refused (added (g.D.Tape.tape c.args.disk.now) (g.D.Tape.tape c.plan_rename.new.disk) ≡ []) c.from_residual.result (c.in_err-plan.ensures.looks.looks.silent told)
+
+pub returns-in_err-plan-clause-cause : goal.returns-in_err-plan-clause-cause
+returns-in_err-plan-clause-cause g c = cause_passed (g.D.Tape.tape c.args.disk.now) (g.D.Tape.tape c.plan_rename.new.disk) c.in_err-plan.field-0.0 c.from_residual.result c.from_residual.ensures.1 c.in_err-plan.ensures.cause
+
+pub returns-in_err-plan-clause-alone : goal.returns-in_err-plan-clause-alone
+returns-in_err-plan-clause-alone g c = c.in_err-plan.ensures.looks.looks.alone
+
+pub returns-in_err-apply_rename-clause-unwritten : goal.returns-in_err-apply_rename-clause-unwritten
+returns-in_err-apply_rename-clause-unwritten g c = λ told. refused_of_stop (Unit {0}) (λ r. added (g.D.Tape.tape c.plan_rename.new.disk) (g.D.Tape.tape c.apply_rename.new.disk) ≡ []) (λ r. added (g.D.Tape.tape c.args.disk.now) (g.D.Tape.tape c.apply_rename.new.disk) ≡ []) c.in_err-apply_rename.field-0.0 c.from_residual-in_err-apply_rename.result c.from_residual-in_err-apply_rename.ensures.1
+    (λ r none. silent_twice c.in_ok-plan.ensures.looks.looks.alone.grown c.in_err-apply_rename.ensures.alone.grown (c.in_ok-plan.ensures.looks.looks.silent told) none) (c.in_err-apply_rename.ensures.unwritten told)
+
+pub returns-in_err-apply_rename-clause-cause : goal.returns-in_err-apply_rename-clause-cause
+returns-in_err-apply_rename-clause-cause g c =
+    cause_after (g.D.Tape.tape c.args.disk.now) (g.D.Tape.tape c.plan_rename.new.disk) (g.D.Tape.tape c.apply_rename.new.disk) c.in_err-apply_rename.field-0.0 c.from_residual-in_err-apply_rename.result c.from_residual-in_err-apply_rename.ensures.1 c.in_ok-plan.ensures.looks.looks.alone.grown c.in_err-apply_rename.ensures.cause
+
+pub returns-in_err-done_text-clause-unwritten : goal.returns-in_err-done_text-clause-unwritten
+returns-in_err-done_text-clause-unwritten g c =
+    λ told. never_refused (Unit {0}) (λ x. added (g.D.Tape.tape c.args.disk.now) (g.D.Tape.tape c.apply_rename.new.disk) ≡ []) stop.Memory c.from_residual-in_err-done_text.result c.from_residual-in_err-done_text.ensures.1 tt
+
+pub returns-in_err-done_text-clause-cause : goal.returns-in_err-done_text-clause-cause
+returns-in_err-done_text-clause-cause g c = cause_passed (g.D.Tape.tape c.args.disk.now) (g.D.Tape.tape c.apply_rename.new.disk) stop.Memory c.from_residual-in_err-done_text.result c.from_residual-in_err-done_text.ensures.1 tt
+
+pub returns-clause-unwritten : goal.returns-clause-unwritten
+returns-clause-unwritten g c = λ told. tt
+
+pub returns-clause-cause : goal.returns-clause-cause
+returns-clause-cause g c = tt

@@ -1,0 +1,49 @@
+use Rattle.std.proofs.Common.{[], ◌≡◌}
+use Rattle.disk_records.proofs.Growing.{alone_twice}
+use Rattle.exec_words.specs.declared.line.Line.TheVariants as line
+use Rattle.exec_session.proofs.Looking.{stays_looked}
+use Rattle.exec_writing.proofs.DropAnswers.{goes_on_found, rmdir_drops, stops_unfound}
+use Rattle.exec_session.proofs.Frames.{stays_worked, works_looked, works_twice, cause_passed, if_refused}
+use Rattle.disk_records.specs.Tapes.{added}
+use Rattle.exec_session.proofs.Causing.{cause_sooner}
+use Rattle.exec_writing.proofs.Causing.{refuses_none}
+use Rattle.exec_writing.proofs.rmdir.remove_dir.Goals as goal
+
+pub returns-in_err-found-clause-turns : goal.returns-in_err-found-clause-turns
+returns-in_err-found-clause-turns g c = λ told.
+    stops_unfound (g.D.Tape.tape c.args.disk.now) (g.D.Tape.tape c.find_removed.new.disk) c.args.session.now c.find_removed.new.session (line.RemoveDir c.args.name.now) c.in_err-found.field-0.0 c.from_residual.result (rmdir_drops c.args.name.now) told c.requires.obeys
+    c.find_removed.ensures.looks c.from_residual.ensures.1 (c.in_err-found.ensures.finds told)
+
+pub returns-clause-turns : goal.returns-clause-turns
+returns-clause-turns g c = λ told.
+    goes_on_found (g.D.Tape.tape c.args.disk.now) (g.D.Tape.tape c.find_removed.new.disk) (g.D.Tape.tape c.drop_line.new.disk) c.args.session.now c.find_removed.new.session c.drop_line.new.session (line.RemoveDir c.args.name.now) c.in_ok-found.found c.drop_line.result
+    (rmdir_drops c.args.name.now) told c.requires.obeys c.find_removed.ensures.looks c.drop_line.ensures.alone
+    (g.met.D.Disk.formed c.find_removed.new.disk told) (g.met.D.Disk.counted c.args.disk.now told) (g.met.D.Disk.counted c.find_removed.new.disk told)
+    (c.in_ok-found.ensures.finds told)
+    (λ s begins same drops may. c.drop_line.ensures.turned _ s (line.RemoveDir c.args.name.now) told begins same drops may)
+
+pub returns-in_err-found-clause-stays : goal.returns-in_err-found-clause-stays
+returns-in_err-found-clause-stays g c = stays_looked (g.D.Tape.tape c.args.disk.now) (g.D.Tape.tape c.find_removed.new.disk) c.find_removed.ensures.looks.looked c.find_removed.ensures.looks.looks.alone.grown.form c.requires.obeys.formed
+
+pub returns-clause-stays : goal.returns-clause-stays
+returns-clause-stays g c =
+    let alone = alone_twice c.find_removed.ensures.looks.looks.alone c.drop_line.ensures.alone in
+    stays_worked (g.D.Tape.tape c.args.disk.now) (g.D.Tape.tape c.drop_line.new.disk) (works_twice (works_looked c.find_removed.ensures.looks.looked) c.drop_line.ensures.works) alone.grown.form c.requires.obeys.formed
+
+pub returns-clause-alone : goal.returns-clause-alone
+returns-clause-alone g c = alone_twice c.find_removed.ensures.looks.looks.alone c.drop_line.ensures.alone
+
+pub returns-in_err-found-clause-unwritten : goal.returns-in_err-found-clause-unwritten
+returns-in_err-found-clause-unwritten g c = λ told. if_refused (added (g.D.Tape.tape c.args.disk.now) (g.D.Tape.tape c.find_removed.new.disk) ≡ []) c.from_residual.result (c.in_err-found.ensures.looks.looks.silent told)
+
+pub returns-in_err-found-clause-cause : goal.returns-in_err-found-clause-cause
+returns-in_err-found-clause-cause g c = cause_passed (g.D.Tape.tape c.args.disk.now) (g.D.Tape.tape c.find_removed.new.disk) c.in_err-found.field-0.0 c.from_residual.result c.from_residual.ensures.1 c.in_err-found.ensures.cause
+
+pub returns-in_err-found-clause-alone : goal.returns-in_err-found-clause-alone
+returns-in_err-found-clause-alone g c = c.in_err-found.ensures.looks.looks.alone
+
+pub returns-clause-unwritten : goal.returns-clause-unwritten
+returns-clause-unwritten g c = λ told. refuses_none (λ r. added (g.D.Tape.tape c.args.disk.now) (g.D.Tape.tape c.drop_line.new.disk) ≡ []) c.drop_line.result c.drop_line.ensures.unrefused
+
+pub returns-clause-cause : goal.returns-clause-cause
+returns-clause-cause g c = cause_sooner (g.D.Tape.tape c.args.disk.now) (g.D.Tape.tape c.find_removed.new.disk) (g.D.Tape.tape c.drop_line.new.disk) c.drop_line.result c.in_ok-found.ensures.looks.looks.alone.grown c.drop_line.ensures.cause

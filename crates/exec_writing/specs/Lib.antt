@@ -1,0 +1,15 @@
+pub mod Cutting
+pub mod Dropping
+pub mod Drops
+pub mod Entries
+pub mod Measured
+pub mod Patching
+pub mod Plans
+pub mod Writes
+pub mod Writing
+pub use Rattle.exec_session.specs.pack_laws
+pub use Rattle.exec_session.specs.laws_record
+pub use Rattle.exec_session.specs.laws_contents
+pub use Rattle.exec_session.specs.laws_lookup
+pub use Rattle.exec_session.specs.laws_session
+pub use Rattle.exec_session.specs.disk_descriptor
