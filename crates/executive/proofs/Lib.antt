@@ -1,3 +1,8 @@
-mod Limits
+mod Answering
+mod Contents
 mod FirstRefusals
+mod Limits
+mod Names
+mod Passing
 mod SettingTime
+mod Untaken

@@ -1,3 +1,5 @@
+pub mod Orders
+pub mod Reads
 pub use Rattle.pack_model
 pub use Rattle.exec_writing.specs.pack_laws
 pub use Rattle.exec_writing.specs.laws_record

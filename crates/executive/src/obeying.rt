@@ -10,10 +10,13 @@ ghost use Rattle.session_model.specs.Keeping.{Formed};
 ghost use Rattle.session_model.specs.Turning.{cue_for, is_quit};
 ghost use Rattle.std.specs.Prelude.{IsTrue, [], false, true, ◌≡◌, ◌≢◌};
 
+use crate::free::free_pages;
+use crate::list::list_names;
 use crate::moment::set_time;
 use crate::refusing::refuse_line;
+use crate::stat::stat_file;
+use crate::type_out::type_file;
 use disk_records::Disk;
-use exec_reading::{free_pages, list_names, stat_file, type_file};
 use exec_session::{Session, Stop, answer, limit_of, quit, stopped};
 use exec_words::{Line, Refusal, Reply};
 use exec_writing::{

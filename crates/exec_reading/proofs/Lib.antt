@@ -1,5 +1,0 @@
-mod Answering
-mod Contents
-mod Names
-mod Passing
-mod Untaken
