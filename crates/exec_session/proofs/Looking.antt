@@ -5,7 +5,7 @@ use Rattle.alto_words.specs.declared.fid.Fid.{Fid}
 use Rattle.alto_words.specs.Fid.{is_directory}
 use Rattle.disk_records.specs.Packs.{Pack}
 use Rattle.disk_records.specs.Tapes.{Taped, Looks, pack}
-use Rattle.disk_records.proofs.Looking.{looks_pack, looks_twice, looks_within}
+use Rattle.disk_records.proofs.Looking.{looks_none, looks_pack, looks_twice, looks_within}
 use Rattle.hint_cache.specs.Caches.{Cached}
 use Rattle.hint_cache.specs.declared.hints.Hints.{Hints}
 use Rattle.pack_model.specs.hints.Handy.{Handy}
@@ -42,6 +42,14 @@ hints_looked s h looks table refused handy = record {
   looked = record { same = ap (λ t. record s { hints = record { cache = h.cache; table = t } }) table; refused = refused };
   handy = handy;
 }
+
+-- one that isn't
+pub looks_about_same : {told : Bool} {most : ℕ} {x y : Taped} (s : Session) → Looks told most x y → LooksAbout told most x y s s
+looks_about_same s looks = record { looks = looks; looked = record { same = refl; refused = omega arith }; handy = λ told whole links f handy. handy }
+
+-- none at all
+pub looks_about_none : {told : Bool} (most : ℕ) (t : Taped) (s : Session) → LooksAbout told most t t s s
+looks_about_none most t s = looks_about_same s (looks_none most t)
 
 looked_twice : {a b c : Session} → Looked a b → Looked b c → Looked a c
 looked_twice {a} {b} {c} one two =

@@ -1,5 +1,5 @@
 -- Why a pack isn't opened, by what keeps each step from being done.
-use Rattle.std.proofs.Common.{◌≡◌, ℕ, zero, suc, ◌==◌, Bool, true, false, cond, List, [], ◌∷◌, Option, Some, None, Result, Ok, Err, refl, sym, subst, ◌∙◌, ap, arith, eq-eqb}
+use Rattle.std.proofs.Common.{◌≡◌, ℕ, zero, suc, ◌==◌, Bool, true, false, cond, List, [], ◌∷◌, Option, Some, None, Result, Ok, Err, IfOk, refl, sym, subst, ◌∙◌, ap, arith, eq-eqb}
 use Rattle.std.proofs.lemmas.Bool.Decides.{nat_tests}
 use Rattle.std.specs.Option.{option_or}
 use Rattle.std.specs.Prelude.{Contains, IfErr}
@@ -7,9 +7,9 @@ use Rattle.std.specs.Result.{IsErrAnd}
 use Rattle.alto_words.specs.declared.fid.Fid.{Fid}
 use Rattle.alto_words.specs.Fid.{disk_descriptor, sys_dir}
 use Rattle.disk_records.specs.Addresses.{descriptor_length}
-use Rattle.disk_records.specs.Causes.{IsCause}
+use Rattle.disk_records.specs.Causes.{HasCause, IsCause}
 use Rattle.disk_records.specs.Packs.{Pack, carried, label_found}
-use Rattle.disk_records.specs.Tapes.{Taped}
+use Rattle.disk_records.specs.Tapes.{Grown, Taped}
 use Rattle.disk_records.specs.Words.{word}
 use Rattle.disk_descriptor.specs.Opening.{HasBadWord, HasWrongLength, IfBadDescriptor, IfNotClean, IfOpenMisled, IfWrongLength, IsOpened, IsUnclean, bad_word, cause_of_opening, shape_words}
 use Rattle.disk_descriptor.specs.Fields.{Fields}
@@ -23,7 +23,7 @@ use Rattle.pack_model.specs.states.Sound.{mark_clean, mark_of}
 use Rattle.page_seeking.specs.Refs.{MisledBy}
 use Rattle.page_seeking.specs.Seeking.{file_length}
 use Rattle.session_model.specs.Opening.{Unready, bad_descriptor, descriptor_entry, is_descriptor, is_root, no_descriptor, no_root, not_clean, system_files, unless_so, unready, wrong_length}
-use Rattle.exec_session.specs.Opens.{DescriptorRefused, MayMislead, Refuses, RootRefused}
+use Rattle.exec_session.specs.Opens.{DescriptorRefused, MayMislead, Refuses, RootRefused, cause_of_open}
 use Rattle.exec_session.proofs.Finding.{contains_second, more_failing}
 
 -- ---- the tests, as one of DiskDescriptor's words together
@@ -174,6 +174,12 @@ module _ (p : Pack) where
       refused_by_entering T a b f error.DiskFault is cause size right clean misled on_disk = tt
       refused_by_entering T a b f error.Memory is cause size right clean misled on_disk = tt
 
+      pub refused_in_entering : (T : Type 0) (a b : Taped) (f : Fid) (r : Result T OpenError) → f ≡ disk_descriptor → HasCause cause_of_opening a b r
+          → IfWrongLength r (HasWrongLength p) → IfBadDescriptor r (HasBadWord p) → IfNotClean r (IsUnclean p)
+          → IfOpenMisled r (MisledBy p [] f) → IfOpenMisled r (λ place at wanted found. IsOnDisk place) → IfErr r (Refuses p)
+      refused_in_entering T a b f (Ok x) is cause size right clean misled on_disk = tt
+      refused_in_entering T a b f (Err e) is cause size right clean misled on_disk = refused_by_entering T a b f e is cause size right clean misled on_disk
+
 -- ---- the error that an answer passes on
 pub answer_is : {U : Type 0} {e : OpenError} (r : Result U OpenError) → IsErrAnd r (λ x. x ≡ e) → r ≡ Err e
 answer_is (Ok x) is = absurd is
@@ -181,3 +187,45 @@ answer_is (Err x) is = ap Err is
 
 pub passed_on : {U : Type 0} {e : OpenError} (P : OpenError → Type 0) (r : Result U OpenError) → IsErrAnd r (λ x. x ≡ e) → P e → IfErr r P
 passed_on P r is h = subst (λ x. IfErr x P) (sym (answer_is r is)) h
+
+-- an error says nothing of what Ok gives
+pub ok_of_open_error : {U : Type 0} (P : OpenError → Type 0) (Q : U → Type 0) (r : Result U OpenError) → IsErrAnd r P → IfOk r Q
+ok_of_open_error P Q (Ok x) is = absurd is
+ok_of_open_error P Q (Err x) is = tt
+
+-- its cause, in the first call or after others
+pub open_cause : {U : Type 0} (a b : Taped) (e : OpenError) (r : Result U OpenError) → IsErrAnd r (λ x. x ≡ e) → IsCause a b (cause_of_open e) → HasCause cause_of_open a b r
+open_cause a b e r is h = subst (HasCause cause_of_open a b) (sym (answer_is r is)) h
+
+open_cause_later : (e : OpenError) (a b c : Taped) → Grown a b → IsCause b c (cause_of_open e) → IsCause a c (cause_of_open e)
+open_cause_later (error.NoRoot found) a b c grown h = tt
+open_cause_later error.NoDescriptor a b c grown h = tt
+open_cause_later (error.Misled place at wanted found) a b c grown h = tt
+open_cause_later (error.WrongLength size) a b c grown h = tt
+open_cause_later (error.BadDescriptor w found) a b c grown h = tt
+open_cause_later (error.NotClean mark) a b c grown h = tt
+open_cause_later error.DiskFault a b c grown h = let less = grown.disk_faults in omega (arith, less, h)
+open_cause_later error.Memory a b c grown h = tt
+
+pub open_cause_after : {U : Type 0} (a b c : Taped) (e : OpenError) (r : Result U OpenError) → IsErrAnd r (λ x. x ≡ e) → Grown a b → IsCause b c (cause_of_open e) → HasCause cause_of_open a c r
+open_cause_after a b c e r is grown h = open_cause a c e r is (open_cause_later e a b c grown h)
+
+pub cause_of_entering : (a b : Taped) (e : OpenError) → IsCause a b (cause_of_opening e) → IsCause a b (cause_of_open e)
+cause_of_entering a b (error.NoRoot found) h = tt
+cause_of_entering a b error.NoDescriptor h = tt
+cause_of_entering a b (error.Misled place at wanted found) h = tt
+cause_of_entering a b (error.WrongLength size) h = tt
+cause_of_entering a b (error.BadDescriptor w found) h = tt
+cause_of_entering a b (error.NotClean mark) h = tt
+cause_of_entering a b error.DiskFault h = h
+cause_of_entering a b error.Memory h = tt
+
+-- of a call that ends with entering
+pub cause_in_entering : {T : Type 0} (a b c : Taped) (r : Result T OpenError) → Grown a b → HasCause cause_of_opening b c r → HasCause cause_of_open a c r
+cause_in_entering a b c (Ok x) grown h = tt
+cause_in_entering a b c (Err e) grown h = open_cause_later e a b c grown (cause_of_entering b c e h)
+
+-- what Ok gives says more
+pub if_ok_more : {T : Type 0} (P Q : T → Type 0) (r : Result T OpenError) → ((x : T) → P x → Q x) → IfOk r P → IfOk r Q
+if_ok_more P Q (Ok x) f h = f x h
+if_ok_more P Q (Err e) f h = tt

@@ -1,14 +1,14 @@
 -- The bytes of a file that are read in parts, and how many sector commands they take.
-use Rattle.std.proofs.Common.{◌≡◌, ◌⊎◌, ◌≤◌, ◌<◌, ◌+◌, ◌-◌, ◌*◌, ◌/◌, ℕ, zero, suc, Bool, List, ◌++◌, length, take, drop, inl, inr, Result, Ok, Err, IfOk, refl, sym, ap, subst, ◌∙◌, arith}
+use Rattle.std.proofs.Common.{◌≡◌, ◌⊎◌, ◌≤◌, ◌<◌, ◌+◌, ◌-◌, ◌*◌, ◌/◌, ℕ, zero, suc, Bool, List, ◌++◌, length, min, take, drop, inl, inr, Result, Ok, Err, IfOk, refl, sym, ap, subst, ◌∙◌, arith}
 use Rattle.std.proofs.Math.Seq.{take-add}
-use Rattle.std.proofs.lemmas.List.{take_all}
+use Rattle.std.proofs.lemmas.List.{length-append, length-drop, length-take-le, take-append-le, take_all}
 use Rattle.std.specs.Result.{IsErrAnd}
 use Rattle.alto_words.specs.declared.fid.Fid.{Fid}
 use Rattle.disk_records.specs.Packs.{Pack}
 use Rattle.disk_records.specs.Tapes.{Taped, pack}
 use Rattle.hint_cache.specs.Caches.{Cached}
 use Rattle.directory.specs.laws_midway.proofs.growing.Laws.{last_page_has_a_number}
-use Rattle.page_seeking.specs.Parts.{ListsNext}
+use Rattle.page_seeking.specs.Parts.{IsWithinPart, ListsNext}
 use Rattle.page_seeking.specs.Seeking.{Refused, file_length}
 use Rattle.pack_model.specs.operations.Committing.{page_of_byte}
 use Rattle.pack_model.specs.states.Whole.{Whole}
@@ -39,6 +39,27 @@ parts_end bytes k n read now h x few =
     let within = x.within in
     let all : length bytes ≤ k * 4096 + n = omega (arith, many, within, few) in
     x.read ∙ ap (λ l. l ++ take n (drop (k * 4096) bytes)) h.read_are ∙ sym (take-add (k * 4096) n bytes) ∙ take_all (k * 4096 + n) bytes all
+
+-- one part, by the call that read it into a buffer of as many bytes
+pub next_part : (bytes : List ℕ) (offset n : ℕ) (part now read new : List ℕ) → length part ≡ 4096 → IsWithinPart bytes offset part now n → new ≡ read ++ take n now → IsNextPart bytes offset read new n
+next_part bytes offset n part now read new size h is =
+    let many : n ≡ min 4096 (length bytes - offset) = h.part.many ∙ ap (λ k. min k (length bytes - offset)) size in
+    let left : length (drop offset bytes) ≡ length bytes - offset = length-drop offset bytes in
+    let fits : n ≤ length (drop offset bytes) = omega (arith, many, left) in
+    let taken : length (take n (drop offset bytes)) ≡ n = length-take-le n (drop offset bytes) fits in
+    record {
+      within = h.within;
+      many = many;
+      read =
+          is ∙ ap (λ l. read ++ take n l) h.part.read
+          ∙ ap (λ l. read ++ l) (take-append-le n (take n (drop offset bytes)) (drop n part) (omega (arith, taken)) ∙ take_all n (take n (drop offset bytes)) (omega (arith, taken)));
+    }
+
+pub part_many : (n : ℕ) (part now read new : List ℕ) → length part ≡ 4096 → length now ≡ 4096 → n ≤ length part → new ≡ read ++ take n now → (n ≤ 4096) × (length new ≡ length read + n)
+part_many n part now read new size same fits is =
+    let taken : length (take n now) ≡ n = length-take-le n now (omega (arith, size, same, fits)) in
+    let both : length new ≡ length read + length (take n now) = ap length is ∙ length-append read (take n now) in
+    (omega (arith, size, fits), omega (arith, both, taken))
 
 -- no file of a whole pack has as many
 pub too_many_parts : (p : Pack) (f : Fid) (k : ℕ) (bytes read : List ℕ) → Whole p → length bytes ≡ file_length p f → 8192 ≤ k → HasParts bytes k read → ⊥

@@ -1,5 +1,5 @@
 -- What keeps a line from being done, by the answers of the calls that it makes.
-use Rattle.std.proofs.Common.{◌≡◌, ◌≢◌, ℕ, List, Option, Result, Ok, Err, refl, sym, subst, ap}
+use Rattle.std.proofs.Common.{◌≡◌, ◌≢◌, ℕ, List, Option, Result, Ok, Err, refl, sym, subst, ap, ◌∙◌}
 use Rattle.std.specs.Result.{IsErrAnd}
 use Rattle.disk_records.specs.Causes.{IsCause, never, other}
 use Rattle.disk_records.specs.Tapes.{Taped}
@@ -8,6 +8,8 @@ use Rattle.disk_records.specs.declared.records.Place.{Place}
 use Rattle.exec_words.specs.declared.reply.Refusal.{Refusal}
 use Rattle.exec_words.specs.declared.reply.Refusal.TheVariants as refusal
 use Rattle.exec_words.specs.declared.reply.Reply.TheVariants as reply
+use Rattle.label_check.specs.declared.errors.LookError.{LookError}
+use Rattle.label_check.specs.declared.errors.LookError.TheVariants as look
 use Rattle.page_seeking.specs.Causes.{cause_of_length}
 use Rattle.page_seeking.specs.Refs as refs
 use Rattle.page_seeking.specs.declared.refs.FileError.{FileError}
@@ -18,7 +20,7 @@ use Rattle.directory.specs.declared.errors.DirError.TheVariants.{NoSuchName, Nam
 use Rattle.exec_session.specs.declared.stop.Stop.{Stop}
 use Rattle.exec_session.specs.declared.stop.Stop.TheVariants as stop
 use Rattle.exec_session.specs.Meant.{IfHint, IfRefused, stopped}
-use Rattle.exec_session.specs.Stops.{stop_of_dir, stop_of_file}
+use Rattle.exec_session.specs.Stops.{stop_of_dir, stop_of_file, stop_of_look}
 
 -- the error that an answer passes on
 pub error_is : {U : Type 0} {s : Stop} (r : Result U Stop) → IsErrAnd r (λ x. x ≡ s) → r ≡ Err s
@@ -94,6 +96,16 @@ refused_lookup U P a b (File e) h f = unrefused_file U P a b e h
 pub refused_by_lookup : {U : Type 0} (P : Refusal → Type 0) (a b : Taped) (e : DirError) (r : Result U Stop) → IsErrAnd r (λ s. s ≡ stop_of_dir e) → IsCause a b (cause_of other never never e) → (e ≡ NoSuchName → P refusal.NoSuchName) → IfRefused r P
 refused_by_lookup {U} P a b e r is h f = subst (λ x. IfRefused x P) (sym (error_is r is)) (refused_lookup U P a b e h f)
 
+-- one that only reads it
+unrefused_dir : (U : Type 0) (P : Refusal → Type 0) (a b : Taped) (e : DirError) → IsCause a b (cause_of never never never e) → IfRefused {T = U} (Err (stop_of_dir e)) P
+unrefused_dir U P a b NoSuchName h = absurd h
+unrefused_dir U P a b NameTaken h = absurd h
+unrefused_dir U P a b (NoSlot largest) h = absurd h
+unrefused_dir U P a b (File e) h = unrefused_file U P a b e h
+
+pub unrefused_by_dir : {U : Type 0} (P : Refusal → Type 0) (a b : Taped) (e : DirError) (r : Result U Stop) → IsErrAnd r (λ s. s ≡ stop_of_dir e) → IsCause a b (cause_of never never never e) → IfRefused r P
+unrefused_by_dir {U} P a b e r is h = subst (λ x. IfRefused x P) (sym (error_is r is)) (unrefused_dir U P a b e h)
+
 -- ---- of a call that stops a line
 hint_by_stop : (T U : Type 0) (P Q : Place → ℕ → Page → Option (List ℕ) → Type 0) (s : Stop) → ((place : Place) (at : ℕ) (wanted : Page) (found : Option (List ℕ)) → P place at wanted found → Q place at wanted found) → IfHint {T = T} (Err s) P → IfHint {T = U} (Err s) Q
 hint_by_stop T U P Q (stop.Refused r) f h = tt
@@ -112,3 +124,30 @@ refused_stop T U P Q stop.Memory f h = tt
 
 pub refused_of_stop : (T : Type 0) {U : Type 0} (P Q : Refusal → Type 0) (s : Stop) (r : Result U Stop) → IsErrAnd r (λ x. x ≡ s) → ((x : Refusal) → P x → Q x) → IfRefused {T = T} (Err s) P → IfRefused r Q
 refused_of_stop T {U} P Q s r is f h = subst (λ x. IfRefused x Q) (sym (error_is r is)) (refused_stop T U P Q s f h)
+
+-- ---- no hint misled
+pub never_hint : {U : Type 0} (r : Result U Stop) (P : Place → ℕ → Page → Option (List ℕ) → Type 0) → IfHint r (λ place at wanted found. ⊥) → IfHint r P
+never_hint (Ok x) P h = tt
+never_hint (Err (stop.Refused r)) P h = tt
+never_hint (Err (stop.Misled place at wanted found)) P h = absurd h
+never_hint (Err stop.DiskFault) P h = tt
+never_hint (Err stop.Memory) P h = tt
+
+-- ---- a call that is refused as one tells, whose other clauses speak of no refusal
+pub hint_refused : {U : Type 0} (e : Stop) (x : Refusal) (r : Result U Stop) (P : Place → ℕ → Page → Option (List ℕ) → Type 0) → IsErrAnd r (λ y. y ≡ e) → e ≡ stop.Refused x → IfHint r P
+hint_refused e x r P is refuses = subst (λ y. IfHint y P) (sym (error_is r is ∙ ap Err refuses)) tt
+
+-- ---- of a sweep
+unrefused_look : (U : Type 0) (P : Refusal → Type 0) (e : LookError) → IfRefused {T = U} (Err (stop_of_look e)) P
+unrefused_look U P look.DiskFault = tt
+unrefused_look U P look.Memory = tt
+
+pub unrefused_by_look : {U : Type 0} (P : Refusal → Type 0) (e : LookError) (r : Result U Stop) → IsErrAnd r (λ s. s ≡ stop_of_look e) → IfRefused r P
+unrefused_by_look {U} P e r is = subst (λ x. IfRefused x P) (sym (error_is r is)) (unrefused_look U P e)
+
+hint_look : (U : Type 0) (P : Place → ℕ → Page → Option (List ℕ) → Type 0) (e : LookError) → IfHint {T = U} (Err (stop_of_look e)) P
+hint_look U P look.DiskFault = tt
+hint_look U P look.Memory = tt
+
+pub hint_by_look : {U : Type 0} (P : Place → ℕ → Page → Option (List ℕ) → Type 0) (e : LookError) (r : Result U Stop) → IsErrAnd r (λ s. s ≡ stop_of_look e) → IfHint r P
+hint_by_look {U} P e r is = subst (λ x. IfHint x P) (sym (error_is r is)) (hint_look U P e)

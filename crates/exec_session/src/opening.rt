@@ -34,6 +34,22 @@ fn empty_hints(alloc: Global, pages: u16) -> Result<Hints, Memory>
     })
 }
 
+/// Enters the pack by SysDir at its fixed address and DiskDescriptor by its name, with these hints of no address. Nothing is written.
+fn enter_found<D: Disk>(disk: &mut D, hints: &mut Hints) -> Result<Descriptor, OpenError>
+    requires sized { length hints.old.table ≡ pages_of (D.tape disk.old).form }
+    ensures opened { IsTrue D.told → EachOnce (sights (pack (D.tape disk.old))) → IfOk result (λ d. (unready (pack (D.tape disk.old)) ≡ None) × IsOpened (pack (D.tape disk.old)) d hints.new.table) }
+    ensures refused { IsTrue D.told → EachOnce (sights (pack (D.tape disk.old))) → IfErr result (Refuses (pack (D.tape disk.old))) }
+    ensures shape { IfOk result (λ d. d.shape ≡ (D.tape disk.old).form) }
+    ensures sized { length hints.new.table ≡ length hints.old.table }
+    ensures cause { HasCause cause_of_open (D.tape disk.old) (D.tape disk.new) result }
+    ensures looks { Looks D.told (65588 * 131072) (D.tape disk.old) (D.tape disk.new) }
+{
+    let mut buf = Sector::ZEROS;
+    check_root(disk, &mut buf)?;
+    let entry = find_descriptor(disk, hints, &mut buf)?;
+    enter_pack(disk, hints, &entry)
+}
+
 /// Opens the pack, with empty caches. Nothing is written.
 pub(crate) fn open_pack<D: Disk>(alloc: Global, disk: &mut D) -> Result<Opened, OpenError>
     ensures opened { IsTrue D.told → EachOnce (sights (pack (D.tape disk.old))) → IfOk result (λ o. (unready (pack (D.tape disk.old)) ≡ None) × IsOpened (pack (D.tape disk.old)) o.descriptor o.hints.table) }
@@ -46,9 +62,6 @@ pub(crate) fn open_pack<D: Disk>(alloc: Global, disk: &mut D) -> Result<Opened, 
         Ok(hints) => hints,
         Err(Memory) => return Err(OpenError::Memory),
     };
-    let mut buf = Sector::ZEROS;
-    check_root(disk, &mut buf)?;
-    let entry = find_descriptor(disk, &mut hints, &mut buf)?;
-    let descriptor = enter_pack(disk, &mut hints, &entry)?;
+    let descriptor = enter_found(disk, &mut hints)?;
     Ok(Opened { descriptor, hints })
 }

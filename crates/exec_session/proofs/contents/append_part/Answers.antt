@@ -1,8 +1,11 @@
-use Rattle.std.proofs.Common.{◌≤◌, arith, [], ℕ}
+use Rattle.std.proofs.Common.{◌≡◌, ◌≤◌, arith, length, replicate, [], ℕ}
+use Rattle.std.proofs.lemmas.List.{length-replicate}
+use Rattle.pack_model.specs.reading.Files.{file_bytes}
+use Rattle.pack_model.specs.reading.Sights.{sights}
 use Rattle.alto_words.specs.declared.fid.Fid.{Fid}
 use Rattle.disk_records.specs.Packs.{Pack}
 use Rattle.page_seeking.specs.Seeking.{file_length}
-use Rattle.exec_session.proofs.Parts.{ok_of_error}
+use Rattle.exec_session.proofs.Parts.{next_part, ok_of_error, part_many}
 use Rattle.exec_session.proofs.Causing.{cause_by_file, cause_passed}
 use Rattle.exec_session.proofs.Looking.{hints_looked}
 use Rattle.exec_session.specs.Stops.{stop_of_file}
@@ -111,3 +114,12 @@ pub returns-clause-filled : goal.returns-clause-filled
 returns-clause-filled g c = λ told noted whole.
     let few = c.in_ok-count.ensures.filled noted.at told noted.listed (noted.carries told) (omega (arith, whole)) whole in
     omega (arith, few)
+
+pub returns-clause-many : goal.returns-clause-many
+returns-clause-many g c =
+    let whole : length (replicate {A = ℕ} 4096 0) ≡ 4096 = length-replicate {A = ℕ} 4096 0 in
+    let kept = c.read_part.auto.out in
+    part_many c.in_ok-count.count (replicate {A = ℕ} 4096 0) c.read_part.new.out c.args.bytes.now.items c.extend_from_slice.new.self.items (length-replicate {A = ℕ} 4096 0) (omega (arith, kept, whole)) c.in_ok-count.ensures.fits c.in_ok-extend_from_slice.ensures.items
+
+pub returns-clause-read : goal.returns-clause-read
+returns-clause-read g c = λ told whole. next_part (file_bytes (sights (pack (g.D.Tape.tape c.args.disk.now))) c.args.file.now.fid) c.args.offset c.in_ok-count.count (replicate {A = ℕ} 4096 0) c.read_part.new.out c.args.bytes.now.items c.extend_from_slice.new.self.items (length-replicate {A = ℕ} 4096 0) (c.in_ok-count.ensures.read told whole) c.in_ok-extend_from_slice.ensures.items

@@ -1,4 +1,4 @@
-use Rattle.std.proofs.Common.{ℕ, List, [], ◌∷◌, Err, refl, sym, ap, subst, ◌∙◌, ◌+◌}
+use Rattle.std.proofs.Common.{ℕ, List, [], ◌∷◌, Err, inl, refl, sym, ap, subst, ◌∙◌, ◌+◌, arith}
 use Rattle.alto_words.specs.Fid.{sys_dir}
 use Rattle.alto_words.specs.declared.wanted.Wanted.TheVariants.{Exact}
 use Rattle.disk_records.specs.Tapes.{pack}
@@ -11,7 +11,7 @@ use Rattle.session_model.specs.Turning.{HintFailing}
 use Rattle.exec_session.specs.Found.{IsNoDirOf, root_ref}
 use Rattle.exec_session.specs.Meant.{IsSoon}
 use Rattle.exec_session.proofs.Finding.{contains_first, hint_failing, looked_up, looked_up_none, root_found}
-use Rattle.exec_session.proofs.Looking.{dir_pages, quick_of_first}
+use Rattle.exec_session.proofs.Looking.{dir_pages, hints_looked, looks_about_none, looks_about_within, quick_of_first}
 use Rattle.exec_session.proofs.Stopping.{hint_of_dir, refused_by_lookup}
 use Rattle.exec_session.proofs.Causing.{cause_by_dir, cause_passed, not_wanted_by_dir}
 use Rattle.exec_session.specs.Stops.{stop_of_dir}
@@ -57,3 +57,40 @@ returns-in_err-file-clause-cause g c = cause_passed (g.D.Tape.tape c.args.disk.n
 
 pub returns-in_err-file-clause-want : goal.returns-in_err-file-clause-want
 returns-in_err-file-clause-want g c = λ told. not_wanted_by_dir (FileRef × List ℕ) c.in_err-file.field-0.0 c.from_residual.result c.from_residual.ensures.1 (c.in_err-file.ensures.want told)
+
+pub returns-in_err-file-clause-looks : goal.returns-in_err-file-clause-looks
+returns-in_err-file-clause-looks g c = looks_about_within 4298375168 (omega arith) (hints_looked c.args.session.now c.lookup.new.hints c.in_err-file.ensures.looks c.in_err-file.ensures.table c.in_err-file.ensures.refused c.in_err-file.ensures.handy)
+
+pub returns-clause-absent : goal.returns-clause-absent
+returns-clause-absent g c = λ told sound. tt
+
+pub returns-clause-misled : goal.returns-clause-misled
+returns-clause-misled g c = λ told sound. tt
+
+pub returns-clause-cause : goal.returns-clause-cause
+returns-clause-cause g c = tt
+
+pub returns-clause-want : goal.returns-clause-want
+returns-clause-want g c = λ told is. cc
+
+pub returns-clause-looks : goal.returns-clause-looks
+returns-clause-looks g c = looks_about_within 4298375168 (omega arith) (hints_looked c.args.session.now c.lookup.new.hints c.in_ok-file.ensures.looks c.in_ok-file.ensures.table c.in_ok-file.ensures.refused c.in_ok-file.ensures.handy)
+
+-- SysDir itself
+pub returns-in_default-clause-absent : goal.returns-in_default-clause-absent
+returns-in_default-clause-absent g c = λ told sound. tt
+
+pub returns-in_default-clause-misled : goal.returns-in_default-clause-misled
+returns-in_default-clause-misled g c = λ told sound. tt
+
+pub returns-in_default-clause-cause : goal.returns-in_default-clause-cause
+returns-in_default-clause-cause g c = tt
+
+pub returns-in_default-clause-want : goal.returns-in_default-clause-want
+returns-in_default-clause-want g c = λ told is. cc
+
+pub returns-in_default-clause-looks : goal.returns-in_default-clause-looks
+returns-in_default-clause-looks g c = looks_about_none 4298375168 (g.D.Tape.tape c.args.disk.now) c.args.session.now
+
+pub returns-in_default-clause-quick : goal.returns-in_default-clause-quick
+returns-in_default-clause-quick g c = λ told handy. inl (omega arith)

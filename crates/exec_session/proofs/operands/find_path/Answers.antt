@@ -24,9 +24,9 @@ use Rattle.session_model.specs.Touched.{dir_named, one_of}
 use Rattle.exec_session.specs.declared.session.Session.{Session}
 use Rattle.exec_session.specs.Found.{IsAtPath, IsDirOf, IsNoneAt, dirs_followed}
 use Rattle.exec_session.proofs.Finding.{contains_second, dir_found, file_in, hint_failing, looked_up, looked_up_none, more_failing, nothing_wanted}
-use Rattle.exec_session.proofs.Looking.{all_first, dir_pages, hints_looked, looks_about_twice, quick_of_second, quick_stays, soon_twice}
+use Rattle.exec_session.proofs.Looking.{all_first, dir_pages, hints_looked, looks_about_twice, looks_about_within, quick_of_second, quick_stays, soon_twice}
 use Rattle.exec_session.proofs.Stopping.{hint_of_dir, hint_of_stop, refused_as, refused_by_lookup}
-use Rattle.exec_session.proofs.Causing.{cause_after, cause_by_dir, cause_passed, not_wanted, not_wanted_by_dir}
+use Rattle.exec_session.proofs.Causing.{cause_after, cause_by_dir, cause_passed, not_wanted, not_wanted_by_dir, refused_unwanted}
 use Rattle.exec_session.specs.Stops.{stop_of_dir}
 use Rattle.disk_records.specs.Causes.{never, other}
 use Rattle.exec_session.proofs.Parts.{ok_of_error}
@@ -159,3 +159,36 @@ returns-in_err-file-clause-cause g c =
 
 pub returns-in_err-file-clause-want : goal.returns-in_err-file-clause-want
 returns-in_err-file-clause-want g c = λ told. not_wanted_by_dir (FileRef × List ℕ) c.in_err-file.field-0.0 c.from_residual-in_err-file.result c.from_residual-in_err-file.ensures.1 (c.in_err-file.ensures.want told)
+
+pub returns-in_err-dir-clause-looks : goal.returns-in_err-dir-clause-looks
+returns-in_err-dir-clause-looks g c = looks_about_within 8596750336 (omega arith) c.in_err-dir.ensures.looks
+
+pub returns-then-not-is_directory-clause-found : goal.returns-then-not-is_directory-clause-found
+returns-then-not-is_directory-clause-found g c = λ told sound. rw c.refused.ensures tt
+
+pub returns-then-not-is_directory-clause-misled : goal.returns-then-not-is_directory-clause-misled
+returns-then-not-is_directory-clause-misled g c = λ told sound. rw c.refused.ensures tt
+
+pub returns-then-not-is_directory-clause-cause : goal.returns-then-not-is_directory-clause-cause
+returns-then-not-is_directory-clause-cause g c = rw c.refused.ensures tt
+
+pub returns-then-not-is_directory-clause-want : goal.returns-then-not-is_directory-clause-want
+returns-then-not-is_directory-clause-want g c = λ told. refused_unwanted c.refused.result refusal.NoSuchName c.refused.ensures
+
+pub returns-then-not-is_directory-clause-looks : goal.returns-then-not-is_directory-clause-looks
+returns-then-not-is_directory-clause-looks g c = looks_about_within 8596750336 (omega arith) c.in_ok-dir.ensures.looks
+
+pub returns-then-not-is_directory-clause-quick : goal.returns-then-not-is_directory-clause-quick
+returns-then-not-is_directory-clause-quick g c = λ told handy. rw c.refused.ensures tt
+
+pub returns-clause-absent : goal.returns-clause-absent
+returns-clause-absent g c = λ told sound. tt
+
+pub returns-clause-misled : goal.returns-clause-misled
+returns-clause-misled g c = λ told sound. tt
+
+pub returns-clause-cause : goal.returns-clause-cause
+returns-clause-cause g c = tt
+
+pub returns-clause-want : goal.returns-clause-want
+returns-clause-want g c = λ told is. cc

@@ -63,3 +63,30 @@ returns-in_err-reserve-clause-never_misled g c = hint_of_alloc (λ place at want
 
 pub returns-in_err-reserve-clause-cause : goal.returns-in_err-reserve-clause-cause
 returns-in_err-reserve-clause-cause g c = cause_passed (g.D.Tape.tape c.args.disk.now) (g.D.Tape.tape c.reserve.new.disk) (stop_of_alloc c.in_err-reserve.field-0.0) c.from_residual.result c.from_residual.ensures.1 (cause_by_alloc (g.D.Tape.tape c.args.disk.now) (g.D.Tape.tape c.reserve.new.disk) c.in_err-reserve.field-0.0 c.in_err-reserve.ensures.cause)
+
+pub returns-in_err-reserve-clause-looks : goal.returns-in_err-reserve-clause-looks
+returns-in_err-reserve-clause-looks g c = c.reserve.ensures.looks
+
+pub returns-in_err-reserve-clause-sized : goal.returns-in_err-reserve-clause-sized
+returns-in_err-reserve-clause-sized g c = c.reserve.ensures.sized
+
+pub returns-clause-full : goal.returns-clause-full
+returns-clause-full g c = λ told sound. tt
+
+pub returns-clause-never_misled : goal.returns-clause-never_misled
+returns-clause-never_misled g c = tt
+
+pub returns-clause-stays_true : goal.returns-clause-stays_true
+returns-clause-stays_true g c = λ told sound table. tt
+
+pub returns-clause-sized : goal.returns-clause-sized
+returns-clause-sized g c = c.reserve.ensures.sized
+
+pub returns-clause-cause : goal.returns-clause-cause
+returns-clause-cause g c = tt
+
+pub returns-clause-looks : goal.returns-clause-looks
+returns-clause-looks g c = c.reserve.ensures.looks
+
+pub returns-clause-free : goal.returns-clause-free
+returns-clause-free g c = c.in_ok-reserve.ensures.free

@@ -1,9 +1,10 @@
-use Rattle.std.proofs.Common.{ℕ, [], ap, nat_lt}
+use Rattle.std.proofs.Common.{ℕ, [], ap, arith, nat_lt}
 use Rattle.disk_records.specs.Tapes.{pack}
 use Rattle.page_seeking.specs.Refs.{MisledBy}
 use Rattle.exec_session.proofs.NewNaming.{found_of_stands}
 use Rattle.exec_session.proofs.RoomPlanning.{run_in_the_model}
-use Rattle.exec_session.proofs.Stopping.{hint_of_dir}
+use Rattle.exec_session.proofs.Looking.{hints_looked, looks_about_within}
+use Rattle.exec_session.proofs.Stopping.{hint_of_dir, unrefused_by_dir}
 use Rattle.exec_session.proofs.Causing.{cause_by_dir, cause_passed, not_wanted_by_dir}
 use Rattle.exec_session.specs.Stops.{stop_of_dir}
 use Rattle.disk_records.specs.Causes.{never}
@@ -32,3 +33,24 @@ returns-in_err-room-clause-cause g c = cause_passed (g.D.Tape.tape c.args.disk.n
 
 pub returns-in_err-room-clause-want : goal.returns-in_err-room-clause-want
 returns-in_err-room-clause-want g c = λ told. not_wanted_by_dir ℕ c.in_err-room.field-0.0 c.from_residual.result c.from_residual.ensures.1 (c.in_err-room.ensures.want told)
+
+pub returns-in_err-room-clause-unrefused : goal.returns-in_err-room-clause-unrefused
+returns-in_err-room-clause-unrefused g c = unrefused_by_dir (λ r. ⊥) (g.D.Tape.tape c.args.disk.now) (g.D.Tape.tape c.room.new.disk) c.in_err-room.field-0.0 c.from_residual.result c.from_residual.ensures.1 c.in_err-room.ensures.cause
+
+pub returns-in_err-room-clause-looks : goal.returns-in_err-room-clause-looks
+returns-in_err-room-clause-looks g c = looks_about_within 4298375168 (omega arith) (hints_looked c.args.session.now c.room.new.hints c.in_err-room.ensures.looks c.in_err-room.ensures.table c.in_err-room.ensures.refused c.in_err-room.ensures.handy)
+
+pub returns-clause-unrefused : goal.returns-clause-unrefused
+returns-clause-unrefused g c = tt
+
+pub returns-clause-misled : goal.returns-clause-misled
+returns-clause-misled g c = λ told stands. tt
+
+pub returns-clause-cause : goal.returns-clause-cause
+returns-clause-cause g c = tt
+
+pub returns-clause-want : goal.returns-clause-want
+returns-clause-want g c = λ told is. cc
+
+pub returns-clause-looks : goal.returns-clause-looks
+returns-clause-looks g c = looks_about_within 4298375168 (omega arith) (hints_looked c.args.session.now c.room.new.hints c.in_ok-room.ensures.looks c.in_ok-room.ensures.table c.in_ok-room.ensures.refused c.in_ok-room.ensures.handy)

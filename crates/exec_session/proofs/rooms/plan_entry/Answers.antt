@@ -12,7 +12,7 @@ use Rattle.page_seeking.specs.Refs.{MisledBy}
 use Rattle.pack_model.specs.states.Whole.{Whole}
 use Rattle.session_model.specs.Turning.{HintFailing}
 use Rattle.exec_session.proofs.Finding.{contains_first, contains_second}
-use Rattle.exec_session.proofs.Looking.{looks_about_twice}
+use Rattle.exec_session.proofs.Looking.{looks_about_twice, looks_about_within}
 use Rattle.exec_session.proofs.Stopping.{hint_of_stop, refused_of_stop}
 use Rattle.exec_session.proofs.Causing.{cause_after, cause_passed, not_wanted}
 use Rattle.exec_session.proofs.Parts.{ok_of_error}
@@ -69,3 +69,18 @@ returns-in_err-room-clause-cause g c = cause_after (g.D.Tape.tape c.args.disk.no
 
 pub returns-in_err-room-clause-want : goal.returns-in_err-room-clause-want
 returns-in_err-room-clause-want g c = λ told. not_wanted Bool c.in_err-room.field-0.0 c.from_residual-in_err-room.result c.from_residual-in_err-room.ensures.1 (c.in_err-room.ensures.want told)
+
+pub returns-in_err-spare-clause-looks : goal.returns-in_err-spare-clause-looks
+returns-in_err-spare-clause-looks g c = looks_about_within 8596750336 (omega arith) c.in_err-spare.ensures.looks
+
+pub returns-clause-unrefused : goal.returns-clause-unrefused
+returns-clause-unrefused g c = tt
+
+pub returns-clause-misled : goal.returns-clause-misled
+returns-clause-misled g c = λ told root stands. tt
+
+pub returns-clause-cause : goal.returns-clause-cause
+returns-clause-cause g c = tt
+
+pub returns-clause-want : goal.returns-clause-want
+returns-clause-want g c = λ told is. cc

@@ -21,3 +21,87 @@ returns-else-eq-clause-refused g c = λ told there root.
 pub returns-in-Err-NoSuchName-clause-refused : goal.returns-in-Err-NoSuchName-clause-refused
 returns-in-Err-NoSuchName-clause-refused g c = λ told there root.
     descriptor_absent (pack (g.D.Tape.tape c.args.disk.now)) c.descriptor_name.result c.descriptor_name.ensures (c.in-Err-NoSuchName.ensures.absent told there (ap Err c.in-Err-NoSuchName.field-0-is))
+
+pub returns-then-eq-clause-refused : goal.returns-then-eq-clause-refused
+returns-then-eq-clause-refused g c = λ told there root. tt
+
+pub returns-then-eq-clause-cause : goal.returns-then-eq-clause-cause
+returns-then-eq-clause-cause g c = tt
+
+pub returns-then-eq-clause-looks : goal.returns-then-eq-clause-looks
+returns-then-eq-clause-looks g c = c.in-Ok.ensures.looks
+
+pub returns-then-eq-clause-table : goal.returns-then-eq-clause-table
+returns-then-eq-clause-table g c = c.in-Ok.ensures.table
+
+pub returns-else-eq-clause-found : goal.returns-else-eq-clause-found
+returns-else-eq-clause-found g c = λ told there. tt
+
+pub returns-else-eq-clause-is : goal.returns-else-eq-clause-is
+returns-else-eq-clause-is g c = λ told there. tt
+
+pub returns-else-eq-clause-cause : goal.returns-else-eq-clause-cause
+returns-else-eq-clause-cause g c = tt
+
+pub returns-else-eq-clause-looks : goal.returns-else-eq-clause-looks
+returns-else-eq-clause-looks g c = c.in-Ok.ensures.looks
+
+pub returns-else-eq-clause-table : goal.returns-else-eq-clause-table
+returns-else-eq-clause-table g c = c.in-Ok.ensures.table
+
+pub returns-in-Err-NoSuchName-clause-found : goal.returns-in-Err-NoSuchName-clause-found
+returns-in-Err-NoSuchName-clause-found g c = λ told there. tt
+
+pub returns-in-Err-NoSuchName-clause-is : goal.returns-in-Err-NoSuchName-clause-is
+returns-in-Err-NoSuchName-clause-is g c = λ told there. tt
+
+pub returns-in-Err-NoSuchName-clause-cause : goal.returns-in-Err-NoSuchName-clause-cause
+returns-in-Err-NoSuchName-clause-cause g c = tt
+
+pub returns-in-Err-NoSuchName-clause-looks : goal.returns-in-Err-NoSuchName-clause-looks
+returns-in-Err-NoSuchName-clause-looks g c = c.in-Err-NoSuchName.ensures.looks
+
+pub returns-in-Err-NoSuchName-clause-table : goal.returns-in-Err-NoSuchName-clause-table
+returns-in-Err-NoSuchName-clause-table g c = c.in-Err-NoSuchName.ensures.table
+
+pub returns-in-Err-NameTaken-clause-found : goal.returns-in-Err-NameTaken-clause-found
+returns-in-Err-NameTaken-clause-found g c = λ told there. tt
+
+pub returns-in-Err-NameTaken-clause-is : goal.returns-in-Err-NameTaken-clause-is
+returns-in-Err-NameTaken-clause-is g c = λ told there. tt
+
+pub returns-in-Err-NameTaken-clause-cause : goal.returns-in-Err-NameTaken-clause-cause
+returns-in-Err-NameTaken-clause-cause g c = tt
+
+pub returns-in-Err-NameTaken-clause-looks : goal.returns-in-Err-NameTaken-clause-looks
+returns-in-Err-NameTaken-clause-looks g c = c.in-Err-NameTaken.ensures.looks
+
+pub returns-in-Err-NameTaken-clause-table : goal.returns-in-Err-NameTaken-clause-table
+returns-in-Err-NameTaken-clause-table g c = c.in-Err-NameTaken.ensures.table
+
+pub returns-in-Err-NoSlot-clause-found : goal.returns-in-Err-NoSlot-clause-found
+returns-in-Err-NoSlot-clause-found g c = λ told there. tt
+
+pub returns-in-Err-NoSlot-clause-is : goal.returns-in-Err-NoSlot-clause-is
+returns-in-Err-NoSlot-clause-is g c = λ told there. tt
+
+pub returns-in-Err-NoSlot-clause-cause : goal.returns-in-Err-NoSlot-clause-cause
+returns-in-Err-NoSlot-clause-cause g c = tt
+
+pub returns-in-Err-NoSlot-clause-looks : goal.returns-in-Err-NoSlot-clause-looks
+returns-in-Err-NoSlot-clause-looks g c = c.in-Err-NoSlot.ensures.looks
+
+pub returns-in-Err-NoSlot-clause-table : goal.returns-in-Err-NoSlot-clause-table
+returns-in-Err-NoSlot-clause-table g c = c.in-Err-NoSlot.ensures.table
+
+pub returns-in-Err-File-clause-found : goal.returns-in-Err-File-clause-found
+returns-in-Err-File-clause-found g c = λ told there. tt
+
+pub returns-in-Err-File-clause-is : goal.returns-in-Err-File-clause-is
+returns-in-Err-File-clause-is g c = λ told there. tt
+
+pub returns-in-Err-File-clause-looks : goal.returns-in-Err-File-clause-looks
+returns-in-Err-File-clause-looks g c = c.in-Err-File.ensures.looks
+
+pub returns-in-Err-File-clause-table : goal.returns-in-Err-File-clause-table
+returns-in-Err-File-clause-table g c = c.in-Err-File.ensures.table

@@ -1,11 +1,12 @@
 use Rattle.std.proofs.Common.{◌≡◌, Some, sym, ap, ◌∙◌}
 use Rattle.disk_records.specs.Tapes.{pack}
+use Rattle.exec_words.specs.declared.reply.Refusal.TheVariants as refusal
 use Rattle.page_seeking.specs.declared.refs.FileRef.{FileRef}
 use Rattle.session_model.specs.Operands.{no_directory}
 use Rattle.exec_session.specs.Found.{IsNoneAt, operand, operand_refusal}
-use Rattle.exec_session.proofs.OrdinaryFiles.{absent_refused, descriptor_refused, directory_refused, none_refused}
-use Rattle.exec_session.proofs.Stopping.{refused_of_stop, hint_of_stop}
-use Rattle.exec_session.proofs.Causing.{cause_passed, not_wanted}
+use Rattle.exec_session.proofs.OrdinaryFiles.{absent_refused, by_test, descriptor_refused, directory_refused, none_refused}
+use Rattle.exec_session.proofs.Stopping.{refused_of_stop, hint_of_stop, hint_refused}
+use Rattle.exec_session.proofs.Causing.{cause_passed, cause_refused, not_wanted, not_wanted_refused}
 use Rattle.exec_session.proofs.Parts.{ok_of_error}
 use Rattle.exec_session.proofs.targets.find_ordinary.Goals as goal
 
@@ -87,3 +88,39 @@ returns-in_err-refuse_descriptor-clause-looks g c = c.in_ok-file.ensures.looks
 
 pub returns-clause-looks : goal.returns-clause-looks
 returns-clause-looks g c = c.in_ok-file.ensures.looks
+
+pub returns-in_err-refuse_directory-clause-misled : goal.returns-in_err-refuse_directory-clause-misled
+returns-in_err-refuse_directory-clause-misled g c = λ told sound. hint_refused c.in_err-refuse_directory.field-0.0 refusal.IsADirectory c.from_residual-in_err-refuse_directory.result _ c.from_residual-in_err-refuse_directory.ensures.1 (by_test _ _ _ c.in_err-refuse_directory.ensures).1
+
+pub returns-in_err-refuse_directory-clause-cause : goal.returns-in_err-refuse_directory-clause-cause
+returns-in_err-refuse_directory-clause-cause g c = cause_refused (g.D.Tape.tape c.args.disk.now) (g.D.Tape.tape c.find_target.new.disk) c.in_err-refuse_directory.field-0.0 refusal.IsADirectory c.from_residual-in_err-refuse_directory.result c.from_residual-in_err-refuse_directory.ensures.1 (by_test _ _ _ c.in_err-refuse_directory.ensures).1
+
+pub returns-in_err-refuse_directory-clause-want : goal.returns-in_err-refuse_directory-clause-want
+returns-in_err-refuse_directory-clause-want g c = λ told. not_wanted_refused c.in_err-refuse_directory.field-0.0 refusal.IsADirectory c.from_residual-in_err-refuse_directory.result c.from_residual-in_err-refuse_directory.ensures.1 (by_test _ _ _ c.in_err-refuse_directory.ensures).1
+
+pub returns-in_err-refuse_descriptor-clause-misled : goal.returns-in_err-refuse_descriptor-clause-misled
+returns-in_err-refuse_descriptor-clause-misled g c = λ told sound. hint_refused c.in_err-refuse_descriptor.field-0.0 refusal.SystemFile c.from_residual-in_err-refuse_descriptor.result _ c.from_residual-in_err-refuse_descriptor.ensures.1 (by_test _ _ _ c.in_err-refuse_descriptor.ensures).1
+
+pub returns-in_err-refuse_descriptor-clause-cause : goal.returns-in_err-refuse_descriptor-clause-cause
+returns-in_err-refuse_descriptor-clause-cause g c = cause_refused (g.D.Tape.tape c.args.disk.now) (g.D.Tape.tape c.find_target.new.disk) c.in_err-refuse_descriptor.field-0.0 refusal.SystemFile c.from_residual-in_err-refuse_descriptor.result c.from_residual-in_err-refuse_descriptor.ensures.1 (by_test _ _ _ c.in_err-refuse_descriptor.ensures).1
+
+pub returns-in_err-refuse_descriptor-clause-want : goal.returns-in_err-refuse_descriptor-clause-want
+returns-in_err-refuse_descriptor-clause-want g c = λ told. not_wanted_refused c.in_err-refuse_descriptor.field-0.0 refusal.SystemFile c.from_residual-in_err-refuse_descriptor.result c.from_residual-in_err-refuse_descriptor.ensures.1 (by_test _ _ _ c.in_err-refuse_descriptor.ensures).1
+
+pub returns-clause-found : goal.returns-clause-found
+returns-clause-found g c = c.in_ok-file.ensures.found
+
+pub returns-clause-refused : goal.returns-clause-refused
+returns-clause-refused g c = λ told sound. tt
+
+pub returns-clause-misled : goal.returns-clause-misled
+returns-clause-misled g c = λ told sound. tt
+
+pub returns-clause-cause : goal.returns-clause-cause
+returns-clause-cause g c = tt
+
+pub returns-clause-want : goal.returns-clause-want
+returns-clause-want g c = λ told is. cc
+
+pub returns-clause-quick : goal.returns-clause-quick
+returns-clause-quick g c = c.in_ok-file.ensures.quick
