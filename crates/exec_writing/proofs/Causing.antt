@@ -1,16 +1,19 @@
--- Causes of the errors of calls that put bytes, and answers that are no refusal.
+-- Causes of the errors of calls that put bytes and that list slots, and answers that are no refusal.
 use Rattle.std.proofs.Common.{Result, Ok, Err}
-use Rattle.disk_records.specs.Causes.{HasCause}
+use Rattle.disk_records.specs.Causes.{HasCause, IsCause}
 use Rattle.disk_records.specs.Tapes.{Taped}
 use Rattle.page_seeking.specs.Causes.{cause_of_file}
 use Rattle.page_seeking.specs.declared.refs.FileError.{FileError}
 use Rattle.page_seeking.specs.declared.refs.FileError.TheVariants as fault
 use Rattle.page_seeking.specs.declared.refs.FileRef.{FileRef}
+use Rattle.directory.specs.Errors.{cause_of_list}
+use Rattle.directory.specs.declared.errors.ListError.{ListError}
+use Rattle.directory.specs.declared.errors.ListError.TheVariants as listing
 use Rattle.exec_words.specs.declared.reply.Refusal.{Refusal}
 use Rattle.exec_session.specs.declared.stop.Stop.{Stop}
 use Rattle.exec_session.specs.declared.stop.Stop.TheVariants as stop
 use Rattle.exec_session.specs.Meant.{IfRefused}
-use Rattle.exec_session.specs.Stops.{cause_of_stop, stop_written}
+use Rattle.exec_session.specs.Stops.{cause_of_stop, stop_of_list, stop_written}
 
 -- what refuses nothing
 pub refuses_none : {U : Type 0} (P : Refusal → Type 0) (r : Result U Stop) → IfRefused r (λ x. ⊥) → IfRefused r P
@@ -27,3 +30,11 @@ put_cause a b file (Err (fault.Misled place at wanted found)) h = tt
 put_cause a b file (Err (fault.Beyond length)) h = tt
 put_cause a b file (Err fault.DiskFault) h = h
 put_cause a b file (Err fault.Memory) h = tt
+
+-- and of one that lists slots
+pub list_cause : (a b : Taped) (e : ListError) → IsCause a b (cause_of_list e) → IsCause a b (cause_of_stop (stop_of_list e))
+list_cause a b (listing.File (fault.Misled place at wanted found)) h = tt
+list_cause a b (listing.File (fault.Beyond length)) h = tt
+list_cause a b (listing.File fault.DiskFault) h = h
+list_cause a b (listing.File fault.Memory) h = tt
+list_cause a b listing.Memory h = tt

@@ -29,6 +29,7 @@ pub mod Reasons
 pub mod Refusing
 pub mod RenameLine
 pub mod Renaming
+pub mod Required
 mod Reserved
 pub mod Sorts
 mod Stamping

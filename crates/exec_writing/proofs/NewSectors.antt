@@ -1,5 +1,6 @@
 -- The serial and the sectors of a new file, by what is tested for them.
-use Rattle.std.proofs.Common.{◌≡◌, ◌≤◌, ◌<◌, ℕ, Bool, true, false, nat_le, nat_lt, Some, Result, Ok, Err, ap, arith}
+use Rattle.std.proofs.Common.{◌≡◌, ◌≤◌, ◌<◌, ℕ, Bool, true, false, nat_le, nat_lt, None, Some, OnOk, Result, Ok, Err, ap, ◌∙◌, arith}
+use Rattle.std.proofs.lemmas.Bool.{le-ltb, lt-ltb}
 use Rattle.std.proofs.lemmas.Bool.Decides.{nat_tests}
 use Rattle.std.specs.Option.{option_or}
 use Rattle.exec_words.specs.declared.reply.Refusal.{Refusal}
@@ -30,7 +31,22 @@ below_most last e = more most_serials last e
 pub serials_spent : (last pages free : ℕ) → nat_le most_serials last ≡ true → new_refusal last pages free ≡ Some (refusal.SerialsSpent last)
 serials_spent last pages free e = ap (λ b. option_or (when b (refusal.SerialsSpent last)) (when (nat_lt free pages) (refusal.Full pages free))) e
 
+-- neither test refuses, or the second one does
+module _ (last pages free : ℕ) (left : nat_le most_serials last ≡ false) where
+  tested : (few : Bool) → option_or (when (nat_le most_serials last) (refusal.SerialsSpent last)) (when few (refusal.Full pages free)) ≡ when few (refusal.Full pages free)
+  tested few = ap (λ b. option_or (when b (refusal.SerialsSpent last)) (when few (refusal.Full pages free))) left
+
+  pub nothing_refused : pages ≤ free → new_refusal last pages free ≡ None
+  nothing_refused enough = tested (nat_lt free pages) ∙ ap (λ b. when b (refusal.Full pages free)) (le-ltb free pages enough)
+
+  pub full_refused : free < pages → new_refusal last pages free ≡ Some (refusal.Full pages free)
+  full_refused few = tested (nat_lt free pages) ∙ ap (λ b. when b (refusal.Full pages free)) (lt-ltb free pages few)
+
 -- ---- answers
+pub on_ok : {T X : Type 0} (r : Result T Stop) → X → OnOk r X
+on_ok (Ok x) h = h
+on_ok (Err e) h = tt
+
 pub refused_then : {T : Type 0} (P Q : Refusal → Type 0) (r : Result T Stop) → ((x : Refusal) → P x → Q x) → IfRefused r P → IfRefused r Q
 refused_then P Q (Ok x) f h = tt
 refused_then P Q (Err (stop.Refused x)) f h = f x h

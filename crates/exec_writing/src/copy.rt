@@ -39,7 +39,7 @@ use std::alloc::Global;
 const MOST_PAGES: usize = 60_000;
 
 /// The file that is copied, and the entry of the new one.
-#[derive(Drop)]
+#[derive(Clone, Copy)]
 struct Copying {
     source: FileRef,
     entry: NewEntry,

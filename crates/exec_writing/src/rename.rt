@@ -40,7 +40,7 @@ use page_seeking::locate;
 use std::alloc::Global;
 
 /// The file that is renamed, with the sector of its leader, and its new entry.
-#[derive(Drop)]
+#[derive(Clone, Copy)]
 struct Renaming {
     found: Found,
     leader_at: u16,

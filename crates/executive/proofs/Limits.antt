@@ -12,7 +12,7 @@ use Rattle.exec_session.specs.declared.session.Session.{Session}
 use Rattle.exec_session.specs.declared.stop.Stop.{Stop}
 use Rattle.exec_session.specs.declared.stop.Stop.TheVariants as stop
 use Rattle.exec_session.specs.Ends.{cause_of_reply}
-use Rattle.exec_session.specs.Meant.{IfRefused, TakesLine, in_need, kept, kept_replied, replied}
+use Rattle.exec_session.specs.Meant.{IfRefused, TakesLine, in_need, kept, kept_replied, kept_stopped, replied}
 use Rattle.exec_session.specs.Stops.{cause_of_stop}
 use Rattle.exec_session.proofs.Stopping.{stopped_unscavenged}
 use Rattle.pack_model.specs.operations.Operations.{Move}
@@ -84,6 +84,12 @@ answered_turns old new one two l done limit after r limit_is turns after_is repl
 pub limit_stays : {T : Type 0} (done : Result T Stop) (limit : ℕ) (k : Kept) → (kept_replied done (kept_up_to limit k)).tally.limit ≡ limit
 limit_stays done limit k = ap (λ x. x.tally.limit) (replied_up_to done limit k)
 
+pub stopped_limit : (x : Stop) (k : Kept) → (kept_stopped x k).tally.limit ≡ k.tally.limit
+stopped_limit (stop.Refused r) k = refl
+stopped_limit (stop.Misled place at wanted found) k = refl
+stopped_limit stop.DiskFault k = refl
+stopped_limit stop.Memory k = refl
+
 in_need_formed : (form : Shape) (k : Kept) → Formed form k → Formed form (in_need k)
 in_need_formed form k h = record { shape = h.shape; bits = h.bits; memory = h.memory; streams = h.streams; apart = h.apart }
 
@@ -96,6 +102,9 @@ formed_replied form (Err (stop.Refused x)) k h = h
 formed_replied form (Err (stop.Misled place at wanted found)) k h = in_need_formed form k h
 formed_replied form (Err stop.DiskFault) k h = h
 formed_replied form (Err stop.Memory) k h = h
+
+pub stopped_formed : (form : Shape) (x : Stop) (k after : Kept) → Formed form k → after ≡ kept_stopped x k → Formed form after
+stopped_formed form x k after h is = subst (Formed form) (sym is) (formed_replied {T = Unit {0}} form (Err x) k h)
 
 pub answered_formed : {T : Type 0} (form : Shape) (done : Result T Stop) (limit : ℕ) (k after : Kept) → Formed form k → after ≡ kept_replied done (kept_up_to limit k) → Formed form after
 answered_formed form done limit k after h is = subst (Formed form) (sym is) (formed_replied form done (kept_up_to limit k) (formed_up_to form k limit h))

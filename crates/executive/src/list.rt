@@ -69,6 +69,14 @@ fn text_of(alloc: Global, names: &BTreeSet<Listed>) -> Result<Vec<u8>, Memory>
     names_text(alloc, &row)
 }
 
+/// The text of `list` for the entries among these slots.
+fn slots_text(alloc: Global, slots: &[Slot]) -> Result<Vec<u8>, Memory>
+    ensures { IfOk result (λ text. text.items ≡ list_text (map (λ n. n.name) (namings_in sys_dir (items_of slots.now)))) }
+{
+    let names = names_of(alloc, slots)?;
+    text_of(alloc, &names)
+}
+
 /// The slots of the directory that is to be listed.
 fn find_slots<D: Disk>(
     alloc: Global,
@@ -103,6 +111,5 @@ pub(crate) fn list_names<D: Disk>(
     ensures alone { DiskAlone (D.tape disk.old) (D.tape disk.new) }
 {
     let slots = find_slots(alloc, session, disk, dir)?;
-    let names = names_of(alloc, &slots)?;
-    Ok(text_of(alloc, &names)?)
+    Ok(slots_text(alloc, &slots)?)
 }

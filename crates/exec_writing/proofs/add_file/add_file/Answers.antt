@@ -1,4 +1,4 @@
-use Rattle.std.proofs.Common.{◌+◌, ◌≡◌, ◌∷◌, ℕ, List, [], Result, Ok, Err, get_or, take, sym, subst}
+use Rattle.std.proofs.Common.{◌+◌, ◌<◌, ◌≡◌, ◌∷◌, ℕ, List, [], Result, Ok, Err, get_or, take, sym, subst, ap, ◌∙◌}
 use Rattle.alto_words.specs.Fid.{sys_dir}
 use Rattle.alto_words.specs.declared.fid.Fid.{Fid}
 use Rattle.disk_records.proofs.Growing.{alone_twice}
@@ -6,17 +6,46 @@ use Rattle.disk_records.specs.Addresses.{pages_of}
 use Rattle.disk_records.specs.Tapes.{added, pack}
 use Rattle.page_seeking.specs.declared.refs.FileRef.{FileRef}
 use Rattle.exec_session.proofs.Stopping.{error_is}
+use Rattle.session_model.specs.Refusals.{most_serials}
 use Rattle.exec_session.specs.Meant.{kept}
 use Rattle.exec_session.specs.Rooms.{pages_planned}
+use Rattle.exec_session.specs.declared.session.Session.{Session}
 use Rattle.exec_session.specs.declared.stop.Stop.{Stop}
 use Rattle.exec_session.specs.Asked.{MayMakeEntered, made_entered, made_fid}
 use Rattle.exec_session.specs.Midway.{StepsOn}
 use Rattle.exec_writing.proofs.AddedFile.{asks, file_done, file_stops, has_sectors, mark_stops, may, reserve_stops}
 use Rattle.exec_writing.proofs.Ends.{begins_sound}
 use Rattle.exec_session.proofs.Frames.{cause_after, cause_passed, if_refused, never_refused, works_reserved, works_twice}
+use Rattle.exec_writing.proofs.Required.{enough_sectors, shape_worked, sized_worked}
 use Rattle.exec_writing.specs.Writes.{WritesLine}
 use Rattle.exec_session.proofs.Parts.{ok_of_error}
 use Rattle.exec_writing.proofs.add_file.add_file.Goals as goal
+
+-- ---- what is required
+pub open_mark-requires : goal.open_mark-requires
+open_mark-requires g c =
+    let r = c.in_ok-fresh.ensures in
+    record { shape = shape_worked (g.D.Tape.tape c.args.disk.now) (g.D.Tape.tape c.reserve_new.new.disk) (works_reserved r.same r.sized) r.looks.alone c.requires.shape }
+
+pub make_entered-requires-clause-shape : goal.make_entered-requires-clause-shape
+make_entered-requires-clause-shape g c =
+    let r = c.in_ok-fresh.ensures in
+    let m = c.in_ok-open_mark.ensures in
+    shape_worked (g.D.Tape.tape c.args.disk.now) (g.D.Tape.tape c.open_mark.new.disk) (works_twice (works_reserved r.same r.sized) m.works) (alone_twice r.looks.alone m.alone) c.requires.shape
+
+pub make_entered-requires-clause-sized : goal.make_entered-requires-clause-sized
+make_entered-requires-clause-sized g c =
+    let r = c.in_ok-fresh.ensures in
+    let m = c.in_ok-open_mark.ensures in
+    sized_worked (g.D.Tape.tape c.args.disk.now) (g.D.Tape.tape c.open_mark.new.disk) (works_twice (works_reserved r.same r.sized) m.works) (alone_twice r.looks.alone m.alone) c.requires.sized
+
+pub make_entered-requires-clause-left : goal.make_entered-requires-clause-left
+make_entered-requires-clause-left g c =
+    let last = λ (s : Session). s.descriptor.last in
+    subst (λ (n : ℕ). n < most_serials) (sym (ap last c.in_ok-open_mark.ensures.same ∙ ap last c.in_ok-fresh.ensures.same)) c.in_ok-fresh.ensures.left
+
+pub make_entered-requires-clause-many : goal.make_entered-requires-clause-many
+make_entered-requires-clause-many g c = enough_sectors c.args.entry.now 0 _ _ c.in_ok-fresh.fresh.items _ c.deref.ensures.value c.in_ok-fresh.ensures.reserved
 
 -- ---- no serial or no room is left
 pub returns-in_err-fresh-clause-writes : goal.returns-in_err-fresh-clause-writes
@@ -162,3 +191,8 @@ returns-in_err-file-clause-made g c = ok_of_error (λ s. s ≡ c.in_err-file.fie
 
 pub returns-clause-unwritten : goal.returns-clause-unwritten
 returns-clause-unwritten g c = λ told. tt
+
+pub returns-clause-made : goal.returns-clause-made
+returns-clause-made g c =
+    ap (λ (f : FileRef). f.fid) c.in_ok-file.ensures.made
+    ∙ ap (λ n. made_fid c.args.of_directory (n + 1)) (ap (λ (s : Session). s.descriptor.last) c.in_ok-open_mark.ensures.same ∙ ap (λ (s : Session). s.descriptor.last) c.in_ok-fresh.ensures.same)

@@ -1,4 +1,4 @@
-use Rattle.std.proofs.Common.{◌≡◌, ◌∙◌, ◌+◌, ◌∷◌, [], length, Ok, Err, arith, refl, subst}
+use Rattle.std.proofs.Common.{◌≡◌, ◌∙◌, ◌+◌, ◌∷◌, [], length, Ok, Err, arith, refl, subst, sym}
 use Rattle.disk_records.proofs.Growing.{alone_twice, silent_twice}
 use Rattle.disk_records.specs.Tapes.{added, pack}
 use Rattle.exec_words.specs.Texts.{length_text}
@@ -223,3 +223,25 @@ returns-clause-unwritten g c = λ told. tt
 
 pub returns-clause-cause : goal.returns-clause-cause
 returns-clause-cause g c = tt
+
+pub reserve_pages-requires-clause-shape : goal.reserve_pages-requires-clause-shape
+reserve_pages-requires-clause-shape g c =
+    let about = c.find_measured.ensures.looks in
+    sym (stays_worked (g.D.Tape.tape c.args.disk.now) (g.D.Tape.tape c.find_measured.new.disk) (works_looked about.looked) about.looks.alone.grown.form c.requires.obeys.formed).formed.shape
+
+pub reserve_pages-requires-clause-sized : goal.reserve_pages-requires-clause-sized
+reserve_pages-requires-clause-sized g c =
+    let about = c.find_measured.ensures.looks in
+    (stays_worked (g.D.Tape.tape c.args.disk.now) (g.D.Tape.tape c.find_measured.new.disk) (works_looked about.looked) about.looks.alone.grown.form c.requires.obeys.formed).formed.bits
+
+pub write_append-requires-clause-shape : goal.write_append-requires-clause-shape
+write_append-requires-clause-shape g c =
+    let about = c.find_measured.ensures.looks in
+    let r = c.reserve_pages.ensures in
+    sym (stays_worked (g.D.Tape.tape c.args.disk.now) (g.D.Tape.tape c.reserve_pages.new.disk) (works_twice (works_looked about.looked) (works_reserved r.same r.sized)) (r.looks.alone.grown.form ∙ about.looks.alone.grown.form) c.requires.obeys.formed).formed.shape
+
+pub write_append-requires-clause-sized : goal.write_append-requires-clause-sized
+write_append-requires-clause-sized g c =
+    let about = c.find_measured.ensures.looks in
+    let r = c.reserve_pages.ensures in
+    (stays_worked (g.D.Tape.tape c.args.disk.now) (g.D.Tape.tape c.reserve_pages.new.disk) (works_twice (works_looked about.looked) (works_reserved r.same r.sized)) (r.looks.alone.grown.form ∙ about.looks.alone.grown.form) c.requires.obeys.formed).formed.bits

@@ -1,3 +1,5 @@
+use Rattle.std.proofs.Common.{sym, ap, ◌∙◌}
+use Rattle.disk_records.specs.Addresses.{pages_of}
 use Rattle.disk_records.proofs.Growing.{alone_twice}
 use Rattle.session_model.specs.Streams.{grows}
 use Rattle.exec_session.specs.Meant.{kept}
@@ -5,6 +7,7 @@ use Rattle.exec_writing.proofs.Appending.{appends_stay}
 use Rattle.exec_writing.proofs.Quickly.{grown_quickly}
 use Rattle.exec_writing.proofs.Stamping.{stamped_after, unstamped}
 use Rattle.exec_session.proofs.Causing.{cause_sooner}
+use Rattle.exec_session.proofs.Parts.{ok_of_error}
 use Rattle.exec_session.proofs.Frames.{cause_passed, never_refused, works_twice}
 use Rattle.exec_writing.proofs.append.grow_and_stamp.Goals as goal
 
@@ -63,3 +66,12 @@ returns-clause-cause g c = cause_sooner (g.D.Tape.tape c.args.disk.now) (g.D.Tap
 
 pub returns-clause-works : goal.returns-clause-works
 returns-clause-works g c = works_twice c.in_ok-grow_file.ensures.works c.stamp_file.ensures.works
+
+pub returns-in_err-grow_file-clause-quick : goal.returns-in_err-grow_file-clause-quick
+returns-in_err-grow_file-clause-quick g c = λ old one at done all rest told may midway links quick last. ok_of_error _ _ c.from_residual.result c.from_residual.ensures.1
+
+pub stamp_file-requires-clause-shape : goal.stamp_file-requires-clause-shape
+stamp_file-requires-clause-shape g c = c.in_ok-grow_file.ensures.works.shape ∙ c.requires.shape ∙ sym c.in_ok-grow_file.ensures.alone.grown.form
+
+pub stamp_file-requires-clause-sized : goal.stamp_file-requires-clause-sized
+stamp_file-requires-clause-sized g c = c.in_ok-grow_file.ensures.works.sized ∙ c.requires.sized ∙ ap pages_of (sym c.in_ok-grow_file.ensures.alone.grown.form)

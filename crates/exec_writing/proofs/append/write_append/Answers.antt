@@ -1,4 +1,5 @@
-use Rattle.std.proofs.Common.{◌∷◌, []}
+use Rattle.std.proofs.Common.{◌∷◌, [], sym, ap, ◌∙◌}
+use Rattle.disk_records.specs.Addresses.{pages_of}
 use Rattle.disk_records.proofs.Growing.{alone_twice}
 use Rattle.session_model.specs.Effects.{appended_ops}
 use Rattle.exec_session.specs.Meant.{kept}
@@ -6,6 +7,7 @@ use Rattle.exec_writing.proofs.Appending.{append_opens}
 use Rattle.exec_writing.proofs.Opening.{opening_fails}
 use Rattle.exec_writing.proofs.Quickly.{opened_quickly}
 use Rattle.exec_session.proofs.Causing.{cause_sooner}
+use Rattle.exec_session.proofs.Parts.{ok_of_error}
 use Rattle.exec_session.proofs.Frames.{cause_passed, never_refused, works_twice}
 use Rattle.exec_writing.proofs.append.write_append.Goals as goal
 
@@ -62,3 +64,12 @@ returns-clause-cause g c = cause_sooner (g.D.Tape.tape c.args.disk.now) (g.D.Tap
 
 pub returns-clause-works : goal.returns-clause-works
 returns-clause-works g c = works_twice c.in_ok-open_mark.ensures.works c.grow_and_stamp.ensures.works
+
+pub returns-in_err-open_mark-clause-quick : goal.returns-in_err-open_mark-clause-quick
+returns-in_err-open_mark-clause-quick g c = λ one at told may start quick last. ok_of_error _ _ c.from_residual.result c.from_residual.ensures.1
+
+pub grow_and_stamp-requires-clause-shape : goal.grow_and_stamp-requires-clause-shape
+grow_and_stamp-requires-clause-shape g c = c.in_ok-open_mark.ensures.works.shape ∙ c.requires.shape ∙ sym c.in_ok-open_mark.ensures.alone.grown.form
+
+pub grow_and_stamp-requires-clause-sized : goal.grow_and_stamp-requires-clause-sized
+grow_and_stamp-requires-clause-sized g c = c.in_ok-open_mark.ensures.works.sized ∙ c.requires.sized ∙ ap pages_of (sym c.in_ok-open_mark.ensures.alone.grown.form)

@@ -1,4 +1,4 @@
-use Rattle.std.proofs.Common.{All, None, Some, Vec, false, min, true, ◌∷◌, Err, Result, [], List, ℕ, get_or, length, ◌+◌, ◌≡◌, ◌/◌, ◌∙◌, ap, subst, sym}
+use Rattle.std.proofs.Common.{All, None, Some, Vec, false, min, true, ◌∷◌, Err, IfOk, Result, [], List, ℕ, get_or, length, ◌+◌, ◌<◌, ◌≡◌, ◌/◌, ◌∙◌, ap, subst, sym}
 use Rattle.alto_words.specs.Fid.{sys_dir}
 use Rattle.alto_words.specs.declared.fid.Fid.{Fid}
 use Rattle.disk_records.proofs.Growing.{alone_twice, silent_twice}
@@ -14,8 +14,10 @@ use Rattle.pack_model.specs.reading.Model.{read_as, room}
 use Rattle.pack_model.specs.states.Sound.{Sound}
 use Rattle.exec_session.proofs.SectorTaking.{each_sector}
 use Rattle.exec_session.proofs.Stopping.{error_is}
+use Rattle.session_model.specs.Refusals.{most_serials}
 use Rattle.exec_session.specs.Meant.{kept}
 use Rattle.exec_session.specs.Rooms.{pages_planned}
+use Rattle.exec_session.specs.declared.session.Session.{Session}
 use Rattle.exec_session.specs.declared.stop.Stop.{Stop}
 use Rattle.exec_session.specs.Asked.{made_fid}
 use Rattle.exec_session.specs.Midway.{StepsOn}
@@ -26,10 +28,50 @@ use Rattle.exec_writing.proofs.CopyLine.{asks, copying_ends, left_before, looked
 use Rattle.exec_writing.proofs.Ends.{begins_sound}
 use Rattle.exec_session.proofs.Frames.{cause_after, cause_passed, if_refused, never_refused, works_looked, works_reserved, works_twice}
 use Rattle.exec_writing.proofs.NewSectors.{refused_then}
+use Rattle.exec_writing.proofs.Required.{enough_sectors, shape_worked, sized_worked}
 use Rattle.exec_session.proofs.LookedBefore.{same_count}
 use Rattle.exec_session.proofs.Causing.{cause_sooner}
 use Rattle.exec_session.proofs.Parts.{ok_of_error}
 use Rattle.exec_writing.proofs.copy.apply_copy.Goals as goal
+
+-- ---- what is required
+pub reserve_new-requires-clause-shape : goal.reserve_new-requires-clause-shape
+reserve_new-requires-clause-shape g c =
+    let h = c.in_ok-bytes.ensures.looks in
+    shape_worked (g.D.Tape.tape c.args.disk.now) (g.D.Tape.tape c.bytes_of.new.disk) (works_looked h.looked) h.looks.alone c.requires.shape
+
+pub reserve_new-requires-clause-sized : goal.reserve_new-requires-clause-sized
+reserve_new-requires-clause-sized g c =
+    let h = c.in_ok-bytes.ensures.looks in
+    sized_worked (g.D.Tape.tape c.args.disk.now) (g.D.Tape.tape c.bytes_of.new.disk) (works_looked h.looked) h.looks.alone c.requires.sized
+
+pub open_mark-requires : goal.open_mark-requires
+open_mark-requires g c =
+    let h = c.in_ok-bytes.ensures.looks in
+    let r = c.in_ok-fresh.ensures in
+    record { shape = shape_worked (g.D.Tape.tape c.args.disk.now) (g.D.Tape.tape c.reserve_new.new.disk) (works_twice (works_looked h.looked) (works_reserved r.same r.sized)) (alone_twice h.looks.alone r.looks.alone) c.requires.shape }
+
+pub write_copy-requires-clause-shape : goal.write_copy-requires-clause-shape
+write_copy-requires-clause-shape g c =
+    let h = c.in_ok-bytes.ensures.looks in
+    let r = c.in_ok-fresh.ensures in
+    let o = c.in_ok-open_mark.ensures in
+    shape_worked (g.D.Tape.tape c.args.disk.now) (g.D.Tape.tape c.open_mark.new.disk) (works_twice (works_twice (works_looked h.looked) (works_reserved r.same r.sized)) o.works) (alone_twice (alone_twice h.looks.alone r.looks.alone) o.alone) c.requires.shape
+
+pub write_copy-requires-clause-sized : goal.write_copy-requires-clause-sized
+write_copy-requires-clause-sized g c =
+    let h = c.in_ok-bytes.ensures.looks in
+    let r = c.in_ok-fresh.ensures in
+    let o = c.in_ok-open_mark.ensures in
+    sized_worked (g.D.Tape.tape c.args.disk.now) (g.D.Tape.tape c.open_mark.new.disk) (works_twice (works_twice (works_looked h.looked) (works_reserved r.same r.sized)) o.works) (alone_twice (alone_twice h.looks.alone r.looks.alone) o.alone) c.requires.sized
+
+pub write_copy-requires-clause-left : goal.write_copy-requires-clause-left
+write_copy-requires-clause-left g c =
+    let last = λ (s : Session). s.descriptor.last in
+    subst (λ (n : ℕ). n < most_serials) (sym (ap last c.in_ok-open_mark.ensures.same ∙ ap last c.in_ok-fresh.ensures.same)) c.in_ok-fresh.ensures.left
+
+pub write_copy-requires-clause-many : goal.write_copy-requires-clause-many
+write_copy-requires-clause-many g c = enough_sectors c.args.plan.now.entry _ _ _ c.in_ok-fresh.fresh.items _ c.deref-2.ensures.value c.in_ok-fresh.ensures.reserved
 
 -- ---- the disk alone
 pub returns-in_err-fresh-clause-alone : goal.returns-in_err-fresh-clause-alone
@@ -221,3 +263,9 @@ returns-in_err-open_mark-clause-made g c = ok_of_error (λ s. s ≡ c.in_err-ope
 pub returns-clause-cause : goal.returns-clause-cause
 returns-clause-cause g c =
     cause_sooner (g.D.Tape.tape c.args.disk.now) (g.D.Tape.tape c.open_mark.new.disk) (g.D.Tape.tape c.write_copy.new.disk) c.write_copy.result (alone_twice (alone_twice c.in_ok-bytes.ensures.looks.looks.alone c.in_ok-fresh.ensures.looks.alone) c.in_ok-open_mark.ensures.alone).grown c.write_copy.ensures.cause
+
+pub returns-clause-made : goal.returns-clause-made
+returns-clause-made g c =
+    let last = λ (s : Session). s.descriptor.last in
+    subst (λ (n : ℕ). IfOk c.write_copy.result (λ (fid : Fid). fid ≡ made_fid false (n + 1)))
+    (ap last c.in_ok-open_mark.ensures.same ∙ ap last c.in_ok-fresh.ensures.same ∙ ap last c.in_ok-bytes.ensures.looks.looked.same) c.write_copy.ensures.made

@@ -7,6 +7,7 @@ use Rattle.exec_session.proofs.Stopping.{error_is}
 use Rattle.exec_session.specs.Meant.{kept}
 use Rattle.exec_session.specs.declared.stop.Stop.{Stop}
 use Rattle.exec_session.specs.Midway.{StepsOn}
+use Rattle.exec_writing.proofs.Required.{shape_worked, sized_worked}
 use Rattle.exec_writing.proofs.Copying.{filling_ends, growing_stops, nothing_fills}
 use Rattle.exec_session.proofs.Causing.{cause_sooner}
 use Rattle.exec_session.proofs.Frames.{cause_passed, never_refused, works_twice, works_here}
@@ -83,3 +84,9 @@ returns-then-is_empty-clause-works g c = works_here c.args.session.now
 
 pub returns-then-is_empty-clause-alone : goal.returns-then-is_empty-clause-alone
 returns-then-is_empty-clause-alone g c = alone_here (g.D.Tape.tape c.args.disk.now)
+
+pub stamp_file-requires-clause-shape : goal.stamp_file-requires-clause-shape
+stamp_file-requires-clause-shape g c = shape_worked (g.D.Tape.tape c.args.disk.now) (g.D.Tape.tape c.grow_file.new.disk) c.in_ok-grow_file.ensures.works c.in_ok-grow_file.ensures.alone c.requires.shape
+
+pub stamp_file-requires-clause-sized : goal.stamp_file-requires-clause-sized
+stamp_file-requires-clause-sized g c = sized_worked (g.D.Tape.tape c.args.disk.now) (g.D.Tape.tape c.grow_file.new.disk) c.in_ok-grow_file.ensures.works c.in_ok-grow_file.ensures.alone c.requires.sized

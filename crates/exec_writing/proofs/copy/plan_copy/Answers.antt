@@ -114,3 +114,12 @@ returns-in_err-entry-clause-want g c = λ told. not_wanted NewEntry c.in_err-ent
 
 pub returns-clause-cause : goal.returns-clause-cause
 returns-clause-cause g c = tt
+
+pub returns-clause-refused : goal.returns-clause-refused
+returns-clause-refused g c = λ told sound. tt
+
+pub returns-clause-misled : goal.returns-clause-misled
+returns-clause-misled g c = λ told sound. tt
+
+pub returns-clause-want : goal.returns-clause-want
+returns-clause-want g c = λ told is. cc

@@ -13,6 +13,7 @@ use Rattle.exec_session.proofs.Joining.{steps_err, steps_ok}
 use Rattle.exec_session.specs.Asked.{made_fid}
 use Rattle.exec_session.specs.Midway.{StepsOn}
 use Rattle.exec_writing.specs.Plans.{copied}
+use Rattle.exec_writing.proofs.Required.{shape_worked, sized_worked}
 use Rattle.exec_writing.proofs.Copying.{copy_ends, fills_made, from_there, making_stops}
 use Rattle.exec_session.proofs.Frames.{cause_after, cause_passed, never_refused, works_twice}
 use Rattle.exec_session.proofs.Parts.{ok_of_error}
@@ -116,3 +117,12 @@ returns-clause-cause g c = tt
 
 pub returns-clause-works : goal.returns-clause-works
 returns-clause-works g c = works_twice c.in_ok-file.ensures.works c.in_ok-fill_copy.ensures.works
+
+pub returns-clause-made : goal.returns-clause-made
+returns-clause-made g c = ap (λ (f : FileRef). f.fid) c.in_ok-file.ensures.made
+
+pub fill_copy-requires-clause-shape : goal.fill_copy-requires-clause-shape
+fill_copy-requires-clause-shape g c = shape_worked (g.D.Tape.tape c.args.disk.now) (g.D.Tape.tape c.make_entered.new.disk) c.in_ok-file.ensures.works c.in_ok-file.ensures.alone c.requires.shape
+
+pub fill_copy-requires-clause-sized : goal.fill_copy-requires-clause-sized
+fill_copy-requires-clause-sized g c = sized_worked (g.D.Tape.tape c.args.disk.now) (g.D.Tape.tape c.make_entered.new.disk) c.in_ok-file.ensures.works c.in_ok-file.ensures.alone c.requires.sized

@@ -178,3 +178,13 @@ returns-then-found-length-clause-unwritten g c = λ told. if_refused (added (g.D
 
 pub returns-then-found-length-clause-cause : goal.returns-then-found-length-clause-cause
 returns-then-found-length-clause-cause g c = subst (HasCause cause_of_stop (g.D.Tape.tape c.args.disk.now) (g.D.Tape.tape c.find_measured.new.disk)) (sym c.refused.ensures) tt
+
+pub write_cut-requires-clause-shape : goal.write_cut-requires-clause-shape
+write_cut-requires-clause-shape g c =
+    let about = c.find_measured.ensures.looks in
+    sym (stays_worked (g.D.Tape.tape c.args.disk.now) (g.D.Tape.tape c.find_measured.new.disk) (works_looked about.looked) about.looks.alone.grown.form c.requires.obeys.formed).formed.shape
+
+pub write_cut-requires-clause-sized : goal.write_cut-requires-clause-sized
+write_cut-requires-clause-sized g c =
+    let about = c.find_measured.ensures.looks in
+    (stays_worked (g.D.Tape.tape c.args.disk.now) (g.D.Tape.tape c.find_measured.new.disk) (works_looked about.looked) about.looks.alone.grown.form c.requires.obeys.formed).formed.bits

@@ -1,4 +1,5 @@
-use Rattle.std.proofs.Common.{[]}
+use Rattle.std.proofs.Common.{[], sym, ap, ◌∙◌}
+use Rattle.disk_records.specs.Addresses.{pages_of}
 use Rattle.disk_records.proofs.Growing.{alone_twice}
 use Rattle.exec_session.specs.Meant.{kept}
 use Rattle.exec_writing.specs.Cutting.{cuts}
@@ -50,3 +51,9 @@ returns-clause-cause g c = cause_sooner (g.D.Tape.tape c.args.disk.now) (g.D.Tap
 
 pub returns-clause-works : goal.returns-clause-works
 returns-clause-works g c = works_twice c.in_ok-shorten_file.ensures.works c.stamp_file.ensures.works
+
+pub stamp_file-requires-clause-shape : goal.stamp_file-requires-clause-shape
+stamp_file-requires-clause-shape g c = c.in_ok-shorten_file.ensures.works.shape ∙ c.requires.shape ∙ sym c.in_ok-shorten_file.ensures.alone.grown.form
+
+pub stamp_file-requires-clause-sized : goal.stamp_file-requires-clause-sized
+stamp_file-requires-clause-sized g c = c.in_ok-shorten_file.ensures.works.sized ∙ c.requires.sized ∙ ap pages_of (sym c.in_ok-shorten_file.ensures.alone.grown.form)

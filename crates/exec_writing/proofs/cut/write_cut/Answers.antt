@@ -1,4 +1,5 @@
-use Rattle.std.proofs.Common.{[], ◌∷◌}
+use Rattle.std.proofs.Common.{[], ◌∷◌, sym, ap, ◌∙◌}
+use Rattle.disk_records.specs.Addresses.{pages_of}
 use Rattle.disk_records.proofs.Growing.{alone_twice}
 use Rattle.exec_session.specs.Meant.{kept}
 use Rattle.exec_writing.specs.Cutting.{cuts_and_stamps}
@@ -51,3 +52,9 @@ returns-clause-cause g c = cause_sooner (g.D.Tape.tape c.args.disk.now) (g.D.Tap
 
 pub returns-clause-works : goal.returns-clause-works
 returns-clause-works g c = works_twice c.in_ok-open_mark.ensures.works c.shorten_and_stamp.ensures.works
+
+pub shorten_and_stamp-requires-clause-shape : goal.shorten_and_stamp-requires-clause-shape
+shorten_and_stamp-requires-clause-shape g c = c.in_ok-open_mark.ensures.works.shape ∙ c.requires.shape ∙ sym c.in_ok-open_mark.ensures.alone.grown.form
+
+pub shorten_and_stamp-requires-clause-sized : goal.shorten_and_stamp-requires-clause-sized
+shorten_and_stamp-requires-clause-sized g c = c.in_ok-open_mark.ensures.works.sized ∙ c.requires.sized ∙ ap pages_of (sym c.in_ok-open_mark.ensures.alone.grown.form)

@@ -1,4 +1,4 @@
-use Rattle.std.proofs.Common.{[], ◌≡◌}
+use Rattle.std.proofs.Common.{[], ◌≡◌, sym}
 use Rattle.disk_records.proofs.Growing.{alone_twice}
 use Rattle.exec_words.specs.declared.line.Line.TheVariants as line
 use Rattle.exec_session.proofs.Looking.{stays_looked}
@@ -47,3 +47,13 @@ returns-clause-unwritten g c = λ told. refuses_none (λ r. added (g.D.Tape.tape
 
 pub returns-clause-cause : goal.returns-clause-cause
 returns-clause-cause g c = cause_sooner (g.D.Tape.tape c.args.disk.now) (g.D.Tape.tape c.find_deleted.new.disk) (g.D.Tape.tape c.drop_line.new.disk) c.drop_line.result c.in_ok-found.ensures.looks.looks.alone.grown c.drop_line.ensures.cause
+
+pub drop_line-requires-clause-shape : goal.drop_line-requires-clause-shape
+drop_line-requires-clause-shape g c =
+    let about = c.find_deleted.ensures.looks in
+    sym (stays_worked (g.D.Tape.tape c.args.disk.now) (g.D.Tape.tape c.find_deleted.new.disk) (works_looked about.looked) about.looks.alone.grown.form c.requires.obeys.formed).formed.shape
+
+pub drop_line-requires-clause-sized : goal.drop_line-requires-clause-sized
+drop_line-requires-clause-sized g c =
+    let about = c.find_deleted.ensures.looks in
+    (stays_worked (g.D.Tape.tape c.args.disk.now) (g.D.Tape.tape c.find_deleted.new.disk) (works_looked about.looked) about.looks.alone.grown.form c.requires.obeys.formed).formed.bits

@@ -1,4 +1,5 @@
-use Rattle.std.proofs.Common.{[], subst, sym}
+use Rattle.std.proofs.Common.{[], subst, sym, ap, ◌∙◌}
+use Rattle.disk_records.specs.Addresses.{pages_of}
 use Rattle.disk_records.proofs.Growing.{alone_twice}
 use Rattle.exec_session.specs.Meant.{kept, kept_replied, replied}
 use Rattle.exec_session.specs.Turned.{Turned}
@@ -118,3 +119,9 @@ returns-clause-cause g c = tt
 
 pub returns-clause-works : goal.returns-clause-works
 returns-clause-works g c = works_twice c.in_ok-open_mark.ensures.works c.in_ok-drop_found.ensures.works
+
+pub drop_found-requires-clause-shape : goal.drop_found-requires-clause-shape
+drop_found-requires-clause-shape g c = c.in_ok-open_mark.ensures.works.shape ∙ c.requires.shape ∙ sym c.in_ok-open_mark.ensures.alone.grown.form
+
+pub drop_found-requires-clause-sized : goal.drop_found-requires-clause-sized
+drop_found-requires-clause-sized g c = c.in_ok-open_mark.ensures.works.sized ∙ c.requires.sized ∙ ap pages_of (sym c.in_ok-open_mark.ensures.alone.grown.form)

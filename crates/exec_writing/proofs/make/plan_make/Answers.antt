@@ -179,3 +179,9 @@ returns-clause-cause g c = cause_sooner (g.D.Tape.tape c.args.disk.now) (g.D.Tap
 
 pub returns-clause-want : goal.returns-clause-want
 returns-clause-want g c = c.plan_named.ensures.want
+
+pub returns-in_err-require_directory-clause-misled : goal.returns-in_err-require_directory-clause-misled
+returns-in_err-require_directory-clause-misled g c = λ told sound.
+    let p = pack (g.D.Tape.tape c.args.disk.now) in
+    let t = by_test (not (is_directory c.in_ok-dir.dir.fid)) c.in_err-require_directory.field-0.0 refusal.NotADirectory c.in_err-require_directory.ensures in
+    subst (λ r. IfHint r (HintFailing p [] (files_named (line.Make c.args.path.now) (read_as p)))) (sym (error_is c.from_residual-in_err-require_directory.result c.from_residual-in_err-require_directory.ensures.1 ∙ ap Err t.1)) tt

@@ -132,3 +132,6 @@ returns-clause-refused g c = λ told sound. tt
 
 pub returns-clause-misled : goal.returns-clause-misled
 returns-clause-misled g c = λ told sound. tt
+
+pub returns-clause-want : goal.returns-clause-want
+returns-clause-want g c = λ told is. cc

@@ -233,3 +233,8 @@ returns-then-length-offset-clause-cause g c = subst (HasCause cause_of_stop (g.D
 
 pub returns-then-length-offset-clause-alone : goal.returns-then-length-offset-clause-alone
 returns-then-length-offset-clause-alone g c = c.find_measured.ensures.looks.looks.alone
+
+pub write_patch-requires-clause-shape : goal.write_patch-requires-clause-shape
+write_patch-requires-clause-shape g c =
+    let about = c.find_measured.ensures.looks in
+    sym (stays_worked (g.D.Tape.tape c.args.disk.now) (g.D.Tape.tape c.find_measured.new.disk) (works_looked about.looked) about.looks.alone.grown.form c.requires.obeys.formed).formed.shape

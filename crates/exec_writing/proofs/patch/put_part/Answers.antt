@@ -102,3 +102,6 @@ returns-clause-descriptor g c = refl
 
 pub returns-clause-alone : goal.returns-clause-alone
 returns-clause-alone g c = c.put-done.ensures.alone
+
+pub returns-clause-many : goal.returns-clause-many
+returns-clause-many g c = c.min-count.ensures

@@ -1,4 +1,4 @@
-use Rattle.std.proofs.Common.{Result, Vec, get_or, ℕ, List, subst, sym, [], ◌≡◌}
+use Rattle.std.proofs.Common.{Result, Vec, get_or, ℕ, List, subst, sym, ap, [], ◌≡◌, ◌∙◌, length}
 use Rattle.disk_records.proofs.Growing.{alone_twice}
 use Rattle.disk_records.specs.Tapes.{pack, added}
 use Rattle.std.specs.declared.alloc.Global.{Global}
@@ -15,7 +15,28 @@ use Rattle.exec_writing.proofs.RenameLine.{asks, enough_as_planned, files, mark_
 use Rattle.exec_session.proofs.LookedBefore.{same_count}
 use Rattle.exec_session.proofs.Causing.{cause_sooner}
 use Rattle.exec_writing.proofs.NewSectors.{refused_then}
+use Rattle.exec_writing.proofs.Required.{shape_worked, sized_worked}
 use Rattle.exec_writing.proofs.rename.apply_rename.Goals as goal
+
+pub open_mark-requires : goal.open_mark-requires
+open_mark-requires g c =
+    let e = c.in_ok-fresh.ensures in
+    record { shape = shape_worked (g.D.Tape.tape c.args.disk.now) (g.D.Tape.tape c.reserve_pages.new.disk) (works_reserved e.same e.sized) e.looks.alone c.requires.shape }
+
+pub rename_entry-requires-clause-shape : goal.rename_entry-requires-clause-shape
+rename_entry-requires-clause-shape g c =
+    let e = c.in_ok-fresh.ensures in
+    let o = c.in_ok-open_mark.ensures in
+    shape_worked (g.D.Tape.tape c.args.disk.now) (g.D.Tape.tape c.open_mark.new.disk) (works_twice (works_reserved e.same e.sized) o.works) (alone_twice e.looks.alone o.alone) c.requires.shape
+
+pub rename_entry-requires-clause-sized : goal.rename_entry-requires-clause-sized
+rename_entry-requires-clause-sized g c =
+    let e = c.in_ok-fresh.ensures in
+    let o = c.in_ok-open_mark.ensures in
+    sized_worked (g.D.Tape.tape c.args.disk.now) (g.D.Tape.tape c.open_mark.new.disk) (works_twice (works_reserved e.same e.sized) o.works) (alone_twice e.looks.alone o.alone) c.requires.sized
+
+pub rename_entry-requires-clause-number : goal.rename_entry-requires-clause-number
+rename_entry-requires-clause-number g c = ap length c.deref.ensures.value ∙ (reserved_as_planned c.args.plan.now.entry c.pages.result _ _ c.in_ok-fresh.fresh.items c.pages.ensures c.in_ok-fresh.ensures.reserved).count
 
 pub returns-in_err-fresh-clause-writes : goal.returns-in_err-fresh-clause-writes
 returns-in_err-fresh-clause-writes g c = λ s old new told begins is.

@@ -5,6 +5,7 @@ use Rattle.exec_session.specs.Meant.{kept}
 use Rattle.exec_session.specs.declared.stop.Stop.{Stop}
 use Rattle.exec_session.specs.Midway.{StepsOn}
 use Rattle.exec_writing.specs.Plans.{changed_entry}
+use Rattle.exec_writing.proofs.Required.{shape_worked, sized_worked}
 use Rattle.exec_writing.proofs.Renaming.{entry_changes, leaving_stops}
 use Rattle.exec_session.proofs.Causing.{cause_sooner}
 use Rattle.exec_session.proofs.Frames.{cause_passed, never_refused, works_twice}
@@ -56,3 +57,9 @@ returns-clause-works g c = works_twice c.in_ok-leave_dir.ensures.works c.enter_f
 
 pub returns-clause-descriptor : goal.returns-clause-descriptor
 returns-clause-descriptor g c = c.enter_file.ensures.descriptor ∙ c.in_ok-leave_dir.ensures.descriptor
+
+pub enter_file-requires-clause-shape : goal.enter_file-requires-clause-shape
+enter_file-requires-clause-shape g c = shape_worked (g.D.Tape.tape c.args.disk.now) (g.D.Tape.tape c.leave_dir.new.disk) c.in_ok-leave_dir.ensures.works c.in_ok-leave_dir.ensures.alone c.requires.shape
+
+pub enter_file-requires-clause-sized : goal.enter_file-requires-clause-sized
+enter_file-requires-clause-sized g c = sized_worked (g.D.Tape.tape c.args.disk.now) (g.D.Tape.tape c.leave_dir.new.disk) c.in_ok-leave_dir.ensures.works c.in_ok-leave_dir.ensures.alone c.requires.sized

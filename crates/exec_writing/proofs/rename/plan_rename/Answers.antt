@@ -19,7 +19,7 @@ use Rattle.exec_session.specs.declared.operands.Found.{Found}
 use Rattle.exec_session.specs.declared.rooms.NewEntry.{NewEntry}
 use Rattle.exec_writing.specs.Entries.{OperandsRefuse}
 use Rattle.exec_writing.specs.Plans.{IsPlaced, place_refusal}
-use Rattle.exec_session.proofs.Frames.{looks_about_within, cause_after, cause_passed}
+use Rattle.exec_session.proofs.Frames.{looks_about_within, cause_after, cause_passed, never_refused}
 use Rattle.exec_writing.proofs.NamedEntries.{failing_more}
 use Rattle.exec_writing.proofs.NewPlaces.{names_place, names_source, names_source_dirs}
 use Rattle.exec_writing.proofs.Refusing.{source_absent, source_found}
@@ -151,3 +151,15 @@ returns-in_err-leader_at-clause-want g c = λ told. not_wanted ℕ c.in_err-lead
 
 pub returns-clause-cause : goal.returns-clause-cause
 returns-clause-cause g c = tt
+
+pub returns-clause-refused : goal.returns-clause-refused
+returns-clause-refused g c = λ told sound. tt
+
+pub returns-clause-misled : goal.returns-clause-misled
+returns-clause-misled g c = λ told sound. tt
+
+pub returns-clause-want : goal.returns-clause-want
+returns-clause-want g c = λ told is. cc
+
+pub returns-in_err-leader_at-clause-refused : goal.returns-in_err-leader_at-clause-refused
+returns-in_err-leader_at-clause-refused g c = λ told sound. never_refused ℕ (OperandsRefuse (pack (g.D.Tape.tape c.args.disk.now)) (line.Rename c.args.old_path.now c.args.new_path.now)) c.in_err-leader_at.field-0.0 c.from_residual-in_err-leader_at.result c.from_residual-in_err-leader_at.ensures.1 c.in_err-leader_at.ensures.unrefused

@@ -6,6 +6,7 @@ use Rattle.exec_session.specs.Meant.{kept}
 use Rattle.exec_session.specs.declared.stop.Stop.{Stop}
 use Rattle.exec_session.specs.Midway.{StepsOn}
 use Rattle.exec_writing.specs.Plans.{renamed}
+use Rattle.exec_writing.proofs.Required.{shape_worked, sized_worked}
 use Rattle.exec_writing.proofs.Renaming.{pages_stop, rename_ends, title_stops}
 use Rattle.exec_session.proofs.Causing.{cause_sooner}
 use Rattle.exec_session.proofs.Frames.{cause_after, cause_passed, never_refused, works_twice}
@@ -94,3 +95,15 @@ returns-clause-works g c = works_twice (works_twice c.in_ok-widen_first.ensures.
 
 pub returns-clause-descriptor : goal.returns-clause-descriptor
 returns-clause-descriptor g c = c.change_entry.ensures.descriptor ∙ c.in_ok-title_file.ensures.descriptor ∙ c.in_ok-widen_first.ensures.descriptor
+
+pub change_entry-requires-clause-shape : goal.change_entry-requires-clause-shape
+change_entry-requires-clause-shape g c =
+    let w = c.in_ok-widen_first.ensures in
+    let t = c.in_ok-title_file.ensures in
+    shape_worked (g.D.Tape.tape c.args.disk.now) (g.D.Tape.tape c.title_file.new.disk) (works_twice w.works t.works) (alone_twice w.alone t.alone) c.requires.shape
+
+pub change_entry-requires-clause-sized : goal.change_entry-requires-clause-sized
+change_entry-requires-clause-sized g c =
+    let w = c.in_ok-widen_first.ensures in
+    let t = c.in_ok-title_file.ensures in
+    sized_worked (g.D.Tape.tape c.args.disk.now) (g.D.Tape.tape c.title_file.new.disk) (works_twice w.works t.works) (alone_twice w.alone t.alone) c.requires.sized

@@ -41,6 +41,13 @@ returns-in_err-plan-clause-turns g c = λ told.
 pub returns-in_err-plan-clause-stays : goal.returns-in_err-plan-clause-stays
 returns-in_err-plan-clause-stays g c = stays_worked (g.D.Tape.tape c.args.disk.now) (g.D.Tape.tape c.plan_rename.new.disk) (works_looked c.in_err-plan.ensures.looks.looked) c.in_err-plan.ensures.looks.looks.alone.grown.form c.requires.obeys.formed
 
+-- ---- what is required
+pub apply_rename-requires-clause-shape : goal.apply_rename-requires-clause-shape
+apply_rename-requires-clause-shape g c = sym (stays_worked (g.D.Tape.tape c.args.disk.now) (g.D.Tape.tape c.plan_rename.new.disk) (works_looked c.in_ok-plan.ensures.looks.looked) c.in_ok-plan.ensures.looks.looks.alone.grown.form c.requires.obeys.formed).formed.shape
+
+pub apply_rename-requires-clause-sized : goal.apply_rename-requires-clause-sized
+apply_rename-requires-clause-sized g c = (stays_worked (g.D.Tape.tape c.args.disk.now) (g.D.Tape.tape c.plan_rename.new.disk) (works_looked c.in_ok-plan.ensures.looks.looked) c.in_ok-plan.ensures.looks.looks.alone.grown.form c.requires.obeys.formed).formed.bits
+
 -- ---- the disk alone
 pub returns-in_err-apply_rename-clause-alone : goal.returns-in_err-apply_rename-clause-alone
 returns-in_err-apply_rename-clause-alone g c = alone_twice c.in_ok-plan.ensures.looks.looks.alone c.in_err-apply_rename.ensures.alone

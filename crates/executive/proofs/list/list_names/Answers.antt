@@ -1,10 +1,8 @@
 use Rattle.std.proofs.Common.{◌-◌, Ok, ap, ◌∙◌}
 use Rattle.dir_slots.specs.Items.{items_of}
 use Rattle.disk_records.specs.Tapes.{pack}
-use Rattle.exec_words.specs.Texts.{list_text, names_text}
+use Rattle.exec_words.specs.Texts.{list_text}
 use Rattle.exec_words.specs.declared.line.Line.TheVariants as line
-use Rattle.alto_words.specs.Names.{folded_cmp}
-use Rattle.pack_model.specs.showing.Listing.{in_order}
 use Rattle.exec_session.specs.Meant.{replied}
 use Rattle.exec_session.proofs.Looking.{stays_looked}
 use Rattle.exec_session.proofs.TakingUp.{few_none}
@@ -28,15 +26,15 @@ returns-clause-turns g c = λ told.
     let old = g.D.Tape.tape c.args.disk.now in
     let new = g.D.Tape.tape c.find_slots.new.disk in
     let l = line.ListNames c.args.dir.now in
-    reading_turns old new c.args.session.now c.find_slots.new.session l (Ok c.in_ok-text_of.field-0) (list_reads c.args.dir.now) told c.requires.obeys c.find_slots.ensures.looks
+    reading_turns old new c.args.session.now c.find_slots.new.session l (Ok c.in_ok-slots_text.field-0) (list_reads c.args.dir.now) told c.requires.obeys c.find_slots.ensures.looks
     (λ sound w taken.
     let said = (c.in_ok-slots.ensures.reads told sound w taken).said in
     record {
-      said = record { unrefused = said.unrefused; text_is = c.in_ok-text_of.ensures ∙ ap names_text (c.in_ok-names.ensures ∙ ap (λ s. in_order folded_cmp (names_among (items_of s))) c.deref.ensures.value) ∙ said.text_is };
+      said = record { unrefused = said.unrefused; text_is = c.in_ok-slots_text.ensures ∙ ap (λ s. list_text (names_among (items_of s))) c.deref.ensures.value ∙ said.text_is };
       refused = tt;
       misled = tt;
     })
-    (λ u keeping handy none. few_none l (λ p m n. tt) (pack old) u.model (replied (Ok c.in_ok-text_of.field-0)) (new.runs - old.runs))
+    (λ u keeping handy none. few_none l (λ p m n. tt) (pack old) u.model (replied (Ok c.in_ok-slots_text.field-0)) (new.runs - old.runs))
 
 pub returns-in_err-slots-clause-stays : goal.returns-in_err-slots-clause-stays
 returns-in_err-slots-clause-stays g c = stays_looked (g.D.Tape.tape c.args.disk.now) (g.D.Tape.tape c.find_slots.new.disk) c.find_slots.ensures.looks.looked c.find_slots.ensures.looks.looks.alone.grown.form c.requires.obeys.formed
@@ -44,29 +42,17 @@ returns-in_err-slots-clause-stays g c = stays_looked (g.D.Tape.tape c.args.disk.
 pub returns-clause-stays : goal.returns-clause-stays
 returns-clause-stays g c = stays_looked (g.D.Tape.tape c.args.disk.now) (g.D.Tape.tape c.find_slots.new.disk) c.find_slots.ensures.looks.looked c.find_slots.ensures.looks.looks.alone.grown.form c.requires.obeys.formed
 
-pub returns-in_err-names-clause-turns : goal.returns-in_err-names-clause-turns
-returns-in_err-names-clause-turns g c = λ told.
+pub returns-in_err-slots_text-clause-turns : goal.returns-in_err-slots_text-clause-turns
+returns-in_err-slots_text-clause-turns g c = λ told.
     let old = g.D.Tape.tape c.args.disk.now in
     let new = g.D.Tape.tape c.find_slots.new.disk in
     let l = line.ListNames c.args.dir.now in
-    reading_turns old new c.args.session.now c.find_slots.new.session l c.from_residual-in_err-names.result (list_reads c.args.dir.now) told c.requires.obeys c.find_slots.ensures.looks
-    (λ sound. passes_memory (pack old) l (λ v. v.items) c.from_residual-in_err-names.result c.from_residual-in_err-names.ensures.1)
-    (λ u keeping handy none. few_none l (λ p m n. tt) (pack old) u.model (replied c.from_residual-in_err-names.result) (new.runs - old.runs))
+    reading_turns old new c.args.session.now c.find_slots.new.session l c.from_residual-in_err-slots_text.result (list_reads c.args.dir.now) told c.requires.obeys c.find_slots.ensures.looks
+    (λ sound. passes_memory (pack old) l (λ v. v.items) c.from_residual-in_err-slots_text.result c.from_residual-in_err-slots_text.ensures.1)
+    (λ u keeping handy none. few_none l (λ p m n. tt) (pack old) u.model (replied c.from_residual-in_err-slots_text.result) (new.runs - old.runs))
 
-pub returns-in_err-text_of-clause-turns : goal.returns-in_err-text_of-clause-turns
-returns-in_err-text_of-clause-turns g c = λ told.
-    let old = g.D.Tape.tape c.args.disk.now in
-    let new = g.D.Tape.tape c.find_slots.new.disk in
-    let l = line.ListNames c.args.dir.now in
-    reading_turns old new c.args.session.now c.find_slots.new.session l c.from_residual-in_err-text_of.result (list_reads c.args.dir.now) told c.requires.obeys c.find_slots.ensures.looks
-    (λ sound. passes_memory (pack old) l (λ v. v.items) c.from_residual-in_err-text_of.result c.from_residual-in_err-text_of.ensures.1)
-    (λ u keeping handy none. few_none l (λ p m n. tt) (pack old) u.model (replied c.from_residual-in_err-text_of.result) (new.runs - old.runs))
-
-pub returns-in_err-names-clause-stays : goal.returns-in_err-names-clause-stays
-returns-in_err-names-clause-stays g c = stays_looked (g.D.Tape.tape c.args.disk.now) (g.D.Tape.tape c.find_slots.new.disk) c.find_slots.ensures.looks.looked c.find_slots.ensures.looks.looks.alone.grown.form c.requires.obeys.formed
-
-pub returns-in_err-text_of-clause-stays : goal.returns-in_err-text_of-clause-stays
-returns-in_err-text_of-clause-stays g c = stays_looked (g.D.Tape.tape c.args.disk.now) (g.D.Tape.tape c.find_slots.new.disk) c.find_slots.ensures.looks.looked c.find_slots.ensures.looks.looks.alone.grown.form c.requires.obeys.formed
+pub returns-in_err-slots_text-clause-stays : goal.returns-in_err-slots_text-clause-stays
+returns-in_err-slots_text-clause-stays g c = stays_looked (g.D.Tape.tape c.args.disk.now) (g.D.Tape.tape c.find_slots.new.disk) c.find_slots.ensures.looks.looked c.find_slots.ensures.looks.looks.alone.grown.form c.requires.obeys.formed
 
 pub returns-in_err-slots-clause-silent : goal.returns-in_err-slots-clause-silent
 returns-in_err-slots-clause-silent g c = c.in_err-slots.ensures.looks.looks.silent
@@ -77,23 +63,14 @@ returns-in_err-slots-clause-cause g c = cause_passed (g.D.Tape.tape c.args.disk.
 pub returns-in_err-slots-clause-alone : goal.returns-in_err-slots-clause-alone
 returns-in_err-slots-clause-alone g c = c.in_err-slots.ensures.looks.looks.alone
 
-pub returns-in_err-names-clause-silent : goal.returns-in_err-names-clause-silent
-returns-in_err-names-clause-silent g c = c.in_ok-slots.ensures.looks.looks.silent
+pub returns-in_err-slots_text-clause-silent : goal.returns-in_err-slots_text-clause-silent
+returns-in_err-slots_text-clause-silent g c = c.in_ok-slots.ensures.looks.looks.silent
 
-pub returns-in_err-names-clause-cause : goal.returns-in_err-names-clause-cause
-returns-in_err-names-clause-cause g c = cause_passed (g.D.Tape.tape c.args.disk.now) (g.D.Tape.tape c.find_slots.new.disk) stop.Memory c.from_residual-in_err-names.result c.from_residual-in_err-names.ensures.1 tt
+pub returns-in_err-slots_text-clause-cause : goal.returns-in_err-slots_text-clause-cause
+returns-in_err-slots_text-clause-cause g c = cause_passed (g.D.Tape.tape c.args.disk.now) (g.D.Tape.tape c.find_slots.new.disk) stop.Memory c.from_residual-in_err-slots_text.result c.from_residual-in_err-slots_text.ensures.1 tt
 
-pub returns-in_err-names-clause-alone : goal.returns-in_err-names-clause-alone
-returns-in_err-names-clause-alone g c = c.in_ok-slots.ensures.looks.looks.alone
-
-pub returns-in_err-text_of-clause-silent : goal.returns-in_err-text_of-clause-silent
-returns-in_err-text_of-clause-silent g c = c.in_ok-slots.ensures.looks.looks.silent
-
-pub returns-in_err-text_of-clause-cause : goal.returns-in_err-text_of-clause-cause
-returns-in_err-text_of-clause-cause g c = cause_passed (g.D.Tape.tape c.args.disk.now) (g.D.Tape.tape c.find_slots.new.disk) stop.Memory c.from_residual-in_err-text_of.result c.from_residual-in_err-text_of.ensures.1 tt
-
-pub returns-in_err-text_of-clause-alone : goal.returns-in_err-text_of-clause-alone
-returns-in_err-text_of-clause-alone g c = c.in_ok-slots.ensures.looks.looks.alone
+pub returns-in_err-slots_text-clause-alone : goal.returns-in_err-slots_text-clause-alone
+returns-in_err-slots_text-clause-alone g c = c.in_ok-slots.ensures.looks.looks.alone
 
 pub returns-clause-silent : goal.returns-clause-silent
 returns-clause-silent g c = c.in_ok-slots.ensures.looks.looks.silent

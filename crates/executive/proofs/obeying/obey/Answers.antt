@@ -1,12 +1,13 @@
 use Rattle.std.proofs.Common.{◌≡◌, [], refl, sym, ap, ◌∙◌}
 use Rattle.exec_words.specs.Built.{as_built}
+use Rattle.disk_records.proofs.Growing.{alone_here, nothing_added}
 use Rattle.disk_records.specs.Tapes.{added}
 use Rattle.exec_session.specs.Meant.{kept}
 use Rattle.session_model.specs.Keeping.{world_of}
 use Rattle.session_model.specs.Refusals.{by_line}
 use Rattle.exec_session.proofs.Stopping.{stopped_unscavenged}
 use Rattle.executive.proofs.FirstRefusals.{as_built_turns, first_of, may_obey, not_quit, stop_cause, stop_turns}
-use Rattle.executive.proofs.Limits.{answered_cause, answered_formed, answered_turns, answered_unscavenged, by_model_unwritten, limit_stays}
+use Rattle.executive.proofs.Limits.{answered_cause, answered_formed, answered_turns, answered_unscavenged, by_model_unwritten, limit_stays, stopped_formed, stopped_limit}
 use Rattle.executive.proofs.obeying.obey.Goals as goal
 
 pub returns-in-Err-clause-turns : goal.returns-in-Err-clause-turns
@@ -23,6 +24,18 @@ returns-in-Err-clause-cause g c =
     let t = g.D.Tape.tape c.args.disk.now in
     stop_cause t t c.in-Err.stop (first_of (by_line (as_built c.args.line.now) (world_of (kept c.args.session.now)))) c.stopped.result (sym c.in-Err.is ∙ c.refuse_line.ensures) c.stopped.ensures.reply
 
+pub returns-in-Err-clause-unwritten : goal.returns-in-Err-clause-unwritten
+returns-in-Err-clause-unwritten g c = λ told by_model. nothing_added (g.D.Tape.tape c.args.disk.now).events
+
+pub returns-in-Err-clause-limit : goal.returns-in-Err-clause-limit
+returns-in-Err-clause-limit g c = ap (λ k. k.tally.limit) c.stopped.ensures.kept ∙ stopped_limit c.in-Err.stop (kept c.args.session.now)
+
+pub returns-in-Err-clause-formed : goal.returns-in-Err-clause-formed
+returns-in-Err-clause-formed g c = stopped_formed (g.D.Tape.tape c.args.disk.now).form c.in-Err.stop (kept c.args.session.now) (kept c.stopped.new.session) c.requires.formed c.stopped.ensures.kept
+
+pub returns-in-Err-clause-alone : goal.returns-in-Err-clause-alone
+returns-in-Err-clause-alone g c = alone_here (g.D.Tape.tape c.args.disk.now)
+
 pub obey_line-done-requires : goal.obey_line-done-requires
 obey_line-done-requires g c =
     let may = may_obey (g.D.Tape.tape c.args.disk.now) c.args.session.now c.args.line.now c.in-Ok.field-0 c.requires.formed (sym c.in-Ok.is ∙ c.refuse_line.ensures) in
@@ -30,6 +43,24 @@ obey_line-done-requires g c =
 
 pub returns-in-Quit-clause-turns : goal.returns-in-Quit-clause-turns
 returns-in-Quit-clause-turns g c = rw c.in-Quit.is c.quit.ensures.turns
+
+pub returns-in-Quit-clause-unwritten : goal.returns-in-Quit-clause-unwritten
+returns-in-Quit-clause-unwritten g c = λ told by_model. absurd (c.quit.ensures.unrefused by_model)
+
+pub returns-in-Quit-clause-unscavenged : goal.returns-in-Quit-clause-unscavenged
+returns-in-Quit-clause-unscavenged g c = c.quit.ensures.unscavenged
+
+pub returns-in-Quit-clause-limit : goal.returns-in-Quit-clause-limit
+returns-in-Quit-clause-limit g c = c.quit.ensures.limit
+
+pub returns-in-Quit-clause-formed : goal.returns-in-Quit-clause-formed
+returns-in-Quit-clause-formed g c = c.quit.ensures.formed
+
+pub returns-in-Quit-clause-cause : goal.returns-in-Quit-clause-cause
+returns-in-Quit-clause-cause g c = c.quit.ensures.cause
+
+pub returns-in-Quit-clause-alone : goal.returns-in-Quit-clause-alone
+returns-in-Quit-clause-alone g c = c.quit.ensures.alone
 
 pub returns-in_default : goal.returns-in_default
 returns-in_default g c =

@@ -7,6 +7,46 @@ use Rattle.exec_session.proofs.Stopping.{if_refused}
 use Rattle.executive.proofs.SettingTime.{time_cause, time_formed, time_turns}
 use Rattle.executive.proofs.obeying.obey_line.Goals as goal
 
+-- ---- each call may be made
+pub list_names-requires : goal.list_names-requires
+list_names-requires g c = record { obeys = rw c.in-ListNames.is at c.requires.obeys }
+
+pub type_file-requires : goal.type_file-requires
+type_file-requires g c = record { obeys = rw c.in-TypeOut.is at c.requires.obeys }
+
+pub stat_file-requires : goal.stat_file-requires
+stat_file-requires g c = record { obeys = rw c.in-Stat.is at c.requires.obeys }
+
+pub make_file-requires : goal.make_file-requires
+make_file-requires g c = record { obeys = rw c.in-Make.is at c.requires.obeys }
+
+pub append_bytes-requires : goal.append_bytes-requires
+append_bytes-requires g c = record { obeys = rw (c.in-Append.is ∙ ap (line.Append c.in-Append.file) (sym c.as_slice.ensures)) at c.requires.obeys }
+
+pub patch_bytes-requires : goal.patch_bytes-requires
+patch_bytes-requires g c = record { obeys = rw (c.in-Patch.is ∙ ap (line.Patch c.in-Patch.file c.in-Patch.offset) (sym c.as_slice-in-Patch.ensures)) at c.requires.obeys }
+
+pub cut_file-requires : goal.cut_file-requires
+cut_file-requires g c = record { obeys = rw c.in-Cut.is at c.requires.obeys }
+
+pub copy_file-requires : goal.copy_file-requires
+copy_file-requires g c = record { obeys = rw c.in-Copy.is at c.requires.obeys }
+
+pub rename_file-requires : goal.rename_file-requires
+rename_file-requires g c = record { obeys = rw c.in-Rename.is at c.requires.obeys }
+
+pub delete_file-requires : goal.delete_file-requires
+delete_file-requires g c = record { obeys = rw c.in-Delete.is at c.requires.obeys }
+
+pub make_dir-requires : goal.make_dir-requires
+make_dir-requires g c = record { obeys = rw c.in-MakeDir.is at c.requires.obeys }
+
+pub remove_dir-requires : goal.remove_dir-requires
+remove_dir-requires g c = record { obeys = rw c.in-RemoveDir.is at c.requires.obeys }
+
+pub free_pages-requires : goal.free_pages-requires
+free_pages-requires g c = record { obeys = rw c.in-Free.is at c.requires.obeys }
+
 -- ---- what each line owes, the call that has it ensures
 pub returns-in-ListNames : goal.returns-in-ListNames
 returns-in-ListNames g c = record {
