@@ -1,11 +1,11 @@
 -- Addresses of entries, made true one after another.
-use Rattle.std.proofs.Common.{◌≡◌, ◌⊎◌, inl, inr, ℕ, zero, suc, ◌+◌, ◌/◌, ◌^◌, ◌<◌, ◌≤◌, ◌==◌, Bool, true, false, cond, List, [], ◌∷◌, ◌++◌, length, get_or, Option, Some, None, refl, sym, ap, subst, ◌∙◌, arith}
+use Rattle.std.proofs.Common.{◌≡◌, ◌⊎◌, inl, inr, ℕ, zero, suc, ◌+◌, ◌/◌, ◌^◌, ◌<◌, ◌≤◌, ◌==◌, Bool, true, false, cond, List, [], ◌∷◌, ◌++◌, length, get_or, Option, Some, None, refl, sym, ap, subst, ◌∙◌, eqb-true, arith}
 use Rattle.std.specs.Prelude.{All, Contains}
 use Rattle.std.specs.Option.{is_some, option_map, option_map_or, option_to_list}
 use Rattle.std.specs.Cmp.{tied_itself}
 use Rattle.std.specs.declared.cmp.Ordering.TheVariants.{Less, Equal}
-use Rattle.std.proofs.lemmas.Bool.Decides.{nat_tests}
 use Rattle.std.proofs.lemmas.List.Elements.{All-append, All-cons, All-contains, All-contains_itself, All-head, All-nil, All-tail}
+use borrow.Author.Tests.{eqb-false}
 use Rattle.alto_words.specs.declared.fid.Fid.{Fid}
 use Rattle.alto_words.specs.Fid.{fid_cmp, is_fid}
 use Rattle.dir_slots.proofs.Hands.{slots_within}
@@ -148,9 +148,9 @@ module _ (p : Pack) (files : List Living) (e : PlacedEntry) (es : List PlacedEnt
       by : (d : Fid) (t : SlotAt) → Contains (dir_slots p d) t → ((e.dir ≡ d → e.place ≡ t.place → ⊥) → IsTrueAddress (sights p) t.item t.address) → (a b : Bool) → is_fid e.dir d ≡ a → (e.place == t.place) ≡ b → IsTrueAddress (sights p) t.item t.address
       by d t here other true true a b =
           let dir : e.dir ≡ d = same_fid e.dir d a in
-          let at : e.place ≡ t.place = grind (arith, nat_tests, b) in
+          let at : e.place ≡ t.place = eqb-true e.place t.place b in
           same_slot (sights p) (dir_words p d) 0 (slots (dir_words p d)) (slot_of e) t e.fid e.name (subst (λ g. Contains (dir_slots p g) (slot_of e)) dir there.stands) here refl (sym at) (led ∙ ap (λ n. Some n) same)
-      by d t here other true false a b = other (λ dir at. (let no = subst (λ n. (e.place == n) ≡ false) (sym at) b in grind (arith, nat_tests, no)))
+      by d t here other true false a b = other (λ dir at. eqb-false e.place t.place b at)
       by d t here other false c a b = other (λ dir at. (let yes : is_fid e.dir d ≡ true = ap (λ g. is_fid g d) dir ∙ is_fid-itself d in let no : true ≡ false = sym yes ∙ a in cc))
 
   -- or becomes so
@@ -224,7 +224,7 @@ first_address p files e es may rest = by (x.leader_at == e.leader_at) refl
     words_are b test = ap (λ o. option_to_list (other_address e o) ++ address_words files es) alive ∙ ap (λ c. option_to_list (cond c None (Some (new_word e x))) ++ address_words files es) test
 
     by : (b : Bool) → (x.leader_at == e.leader_at) ≡ b → RunsTrue p (address_words files (e ∷ es))
-    by true test = subst (RunsTrue p) (sym (words_are true test)) (rest p (true_already p files e es may x alive (grind (arith, nat_tests, test))))
+    by true test = subst (RunsTrue p) (sym (words_are true test)) (rest p (true_already p files e es may x alive (eqb-true x.leader_at e.leader_at test)))
     by false test =
         let w = address_write p e x.leader_at (there p files e es may x alive) in
         let q : Pack = dir_written p (address_word e.place) w.0 (x.leader_at ∷ []) in

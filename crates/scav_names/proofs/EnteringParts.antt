@@ -11,18 +11,18 @@ use Rattle.pack_model.specs.reading.Model.{root_items}
 use Rattle.pack_model.specs.scavenger.Reports.{NamesMended}
 use Rattle.scav_entries.specs.declared.catalogue.Catalogue.{Catalogue}
 use Rattle.scav_entries.specs.declared.living.Living.{Living}
-use Rattle.scav_entries.specs.declared.parted.Parted.{Parted}
 use Rattle.scav_entries.specs.declared.placed.PlacedEntry.{PlacedEntry}
 use Rattle.scav_entries.specs.Catalogues.{HoldsNames}
 use Rattle.scav_entries.specs.Lacking.{adopted_among, lacking_files}
 use Rattle.scav_entries.specs.Living.{living_files}
-use Rattle.scav_entries.specs.Parting.{IsParted, kept_entries, unkept_entries}
+use Rattle.scav_entries.specs.Parting.{kept_entries}
 use Rattle.scav_entries.specs.Rooms.{HasSlots}
 use Rattle.scav_pages.specs.Changes.{AllChange}
 use Rattle.scav_pages.specs.declared.errors.Stop.{Stop}
 use Rattle.scav_pages.specs.declared.errors.Stop.TheVariants.{Astray}
+use Rattle.scav_names.specs.declared.root.Root.{Root}
 use Rattle.scav_names.specs.Does.{Does}
-use Rattle.scav_names.specs.Mending.{AreMended}
+use Rattle.scav_names.specs.Mending.{AreMended, AreReady, root_read}
 use Rattle.scav_names.specs.Parts.{MayBeAddressed, MayBeNamed, UnkeptFreed}
 use Rattle.scav_names.specs.Roots.{AllEntered, MayBeEntered}
 use Rattle.scav_names.proofs.EnteringCount.{few_lacking, lacking_counted}
@@ -50,28 +50,49 @@ read_does {a} {b} result grown silent found holds = record {
 pub read_may : {p q : Pack} {names : Catalogue} → AreRead p q names → MayBeNamed p → MayBeNamed q
 read_may read may = subst MayBeNamed (sym read.same) may
 
-pub read_unkept : {p q : Pack} {names : Catalogue} (unkept : List PlacedEntry) (parted : Parted) → AreRead p q names → IsParted p parted → unkept ≡ parted.unkept → unkept ≡ unkept_entries q
-read_unkept unkept parted read is all = all ∙ is.unkept ∙ ap unkept_entries (sym read.same)
-
-pub read_freed : {p q r : Pack} {names : Catalogue} → AreRead p q names → UnkeptFreed q r tt → UnkeptFreed p r tt
-read_freed {r = r} read freed = subst (λ p. UnkeptFreed p r tt) read.same freed
-
 -- ---- what is entered
-pub freed_may : {p q : Pack} {names : Catalogue} (new : Catalogue) (files : List Living) → MayBeNamed p → HoldsNames p names → UnkeptFreed p q tt → HasSlots new.rooms (root_items (mended_pack p)) → new.root_pages ≡ names.root_pages → files ≡ lacking_files p
-    → MayBeEntered q (record { rooms = new.rooms; pages = new.root_pages; from = 1 }) files
+freed_may : {p q : Pack} {names : Catalogue} (new : Catalogue) (files : List Living) → MayBeNamed p → HoldsNames p names → UnkeptFreed p q tt → HasSlots new.rooms (root_items (mended_pack p)) → new.root_pages ≡ names.root_pages → files ≡ lacking_files p → MayBeEntered q (root_read new) files
 freed_may {p} {q} {names} new files may holds freed rooms pages are =
-    subst (MayBeEntered q (record { rooms = new.rooms; pages = new.root_pages; from = 1 })) (sym are)
+    subst (MayBeEntered q (root_read new)) (sym are)
     (subst (λ l. MayBeEntered q (record { rooms = new.rooms; pages = l; from = 1 }) (lacking_files p)) (sym pages) (first_may_be_entered {names = names} {rooms = new.rooms} may.pages holds freed rooms))
 
--- ---- what is addressed
-pub entered_may : {p q r : Pack} (living : List Living) (kept : List PlacedEntry) → UnkeptFreed p q tt → AllEntered q r tt → living ≡ living_files p → kept ≡ kept_entries p → MayBeAddressed r living kept
-entered_may {p} {q} {r} living kept freed all files are =
-    subst (λ l. MayBeAddressed r l kept) (freed.living ∙ sym files)
-    (subst (MayBeAddressed r (living_files q)) (sym (tidy_entries q freed.named.pages freed.tidy) ∙ freed.kept ∙ sym are) (left_to_address freed.named.pages freed.tidy all))
-
--- ---- and counted
-pub names_are_mended_so : {p q : Pack} (files : List Living) (adopted : ℕ) → MayBeNamed p → NamesMended q → files ≡ lacking_files p → length p.sectors + 2 < 2 ^ 32 → (length files < 2 ^ 32 → adopted ≡ adopted_among files) → AreMended p q adopted
-names_are_mended_so {p} files adopted may mended are few counted =
+few_files : {p : Pack} (files : List Living) → MayBeNamed p → files ≡ lacking_files p → length p.sectors + 2 < 2 ^ 32 → length files < 2 ^ 32
+few_files {p} files may are few =
     let l = few_lacking p may.pages in
     let same = ap length are in
-    record { mended = mended; adopted_is = counted (omega (arith, l, same, few)) ∙ ap adopted_among are ∙ lacking_counted p may.pages }
+    omega (arith, l, same, few)
+
+pub are_ready : {p q : Pack} {names : Catalogue} (new : Catalogue) (kept : List PlacedEntry) (files : List Living) → MayBeNamed p → HoldsNames p names → UnkeptFreed p q tt → HasSlots new.rooms (root_items (mended_pack p)) → new.living ≡ names.living → new.root_pages ≡ names.root_pages → kept ≡ kept_entries p → files ≡ lacking_files p → length p.sectors + 2 < 2 ^ 32
+    → AreReady (root_read new) new.living kept p q files
+are_ready new kept files may holds freed rooms living pages kept_are are few = record {
+  named = may;
+  freed = freed;
+  may = freed_may new files may holds freed rooms pages are;
+  living_are = living ∙ holds.living;
+  kept_are = kept_are;
+  lacking_are = are;
+  few = few_files files may are few;
+}
+
+-- equal lists
+pub ready_same : {root : Root} {living living' files files' : List Living} {kept kept' : List PlacedEntry} {p q : Pack} → living' ≡ living → kept' ≡ kept → files' ≡ files → AreReady root living kept p q files → AreReady root living' kept' p q files'
+ready_same {root} {p = p} {q = q} l k f ready = record {
+  named = ready.named;
+  freed = ready.freed;
+  may = subst (MayBeEntered q root) (sym f) ready.may;
+  living_are = l ∙ ready.living_are;
+  kept_are = k ∙ ready.kept_are;
+  lacking_are = f ∙ ready.lacking_are;
+  few = subst (λ xs. length xs < 2 ^ 32) (sym f) ready.few;
+}
+
+-- ---- what is addressed
+pub ready_addressed : {root : Root} {files living : List Living} {kept : List PlacedEntry} {p q r : Pack} → AreReady root living kept p q files → AllEntered q r tt → MayBeAddressed r living kept
+ready_addressed {living = living} {kept = kept} {p = p} {q = q} {r = r} ready all =
+    let freed = ready.freed in
+    subst (λ l. MayBeAddressed r l kept) (freed.living ∙ sym ready.living_are)
+    (subst (MayBeAddressed r (living_files q)) (sym (tidy_entries q freed.named.pages freed.tidy) ∙ freed.kept ∙ sym ready.kept_are) (left_to_address freed.named.pages freed.tidy all))
+
+-- ---- and counted
+pub ready_mended : {root : Root} {files living : List Living} {kept : List PlacedEntry} {p q r : Pack} (adopted : ℕ) → AreReady root living kept p q files → NamesMended r → (length files < 2 ^ 32 → adopted ≡ adopted_among files) → AreMended p r adopted
+ready_mended {p = p} adopted ready mended counted = record { mended = mended; adopted_is = counted ready.few ∙ ap adopted_among ready.lacking_are ∙ lacking_counted p ready.named.pages }

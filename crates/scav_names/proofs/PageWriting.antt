@@ -11,7 +11,7 @@ use Rattle.disk_records.specs.Events.{IsFirstOf}
 use Rattle.disk_records.specs.Packs.{Pack, after, carried, sector_at}
 use Rattle.disk_records.specs.Tapes.{Grown, Taped, added, pack}
 use Rattle.disk_records.proofs.FirstOnes.{first_all, first_front, first_then}
-use Rattle.disk_records.proofs.Growing.{added-twice, grown_here, grown_twice, nothing_added, pack-after}
+use Rattle.disk_records.proofs.Growing.{added-twice, grown_twice, pack-after}
 use Rattle.scav_entries.specs.laws_operation.specs.PlaceLaws.{SamePlaces}
 use Rattle.scav_entries.specs.laws_operation.proofs.places.Laws.{values_keep_places}
 use Rattle.scav_entries.specs.pack_laws.proofs.guards.Laws.{value_writes_keep_the_page}
@@ -77,13 +77,6 @@ pub record WordsTo (words : List DirWord) (done : ℕ) (row : Row) (a b : Taped)
   pub grown : Grown a b
   pub seated : IsSeated (pack b) row
   pub writes : words_writes (pack a) (drop done words) ≡ added a b ++ words_writes (pack b) (drop more words)
-
-pub words_none : (words : List DirWord) (done : ℕ) (row : Row) (a : Taped) → IsSeated (pack a) row → WordsTo words done row a a done
-words_none words done row a seated = record {
-  grown = grown_here a;
-  seated = seated;
-  writes = sym (ap (λ l. l ++ words_writes (pack a) (drop done words)) (nothing_added a.events));
-}
 
 pub carries_seated : (p : Pack) (row : Row) → IsSeated p row → carried p row.at ≡ Some row.page
 carries_seated p row seated = ((places_are_lowest p row.page).lowest row.at seated).here

@@ -1,10 +1,10 @@
 -- SysDir with a page more: the sectors that it takes, the record writes, and what they leave.
-use Rattle.std.proofs.Common.{◌≡◌, ◌≢◌, inl, inr, ℕ, suc, ◌+◌, ◌-◌, ◌*◌, ◌/◌, ◌%◌, ◌<◌, ◌≤◌, ◌==◌, nat_lt, Bool, true, false, IsTrue, List, [], ◌∷◌, ◌++◌, get_or, length, map, replicate, cond, None, Some, Result, Ok, Err, refl, sym, ap, subst, ◌∙◌, arith}
+use Rattle.std.proofs.Common.{◌≡◌, ◌≢◌, inl, inr, ℕ, suc, ◌+◌, ◌-◌, ◌*◌, ◌/◌, ◌%◌, ◌<◌, ◌≤◌, ◌==◌, nat_lt, Bool, true, false, IsTrue, List, [], ◌∷◌, ◌++◌, get_or, length, map, replicate, cond, None, Some, Result, Ok, Err, refl, sym, ap, subst, ◌∙◌, eqb-true, ltb-true, ltb-false, arith}
 use Rattle.std.specs.Prelude.{IfErr, OnOk, nat_eq}
 use Rattle.std.specs.Cmp.Lexicographic.{bytes_decides, pointwise, same_text}
-use Rattle.std.proofs.lemmas.Bool.Decides.{nat_tests}
 use Rattle.std.proofs.lemmas.List.{get_or-append_right, get_or_append_left, length-append, length-replicate, set-get_or}
 use Rattle.std.proofs.lemmas.List.Elements.{All-get_or}
+use borrow.Author.Tests.{eqb-false}
 use Rattle.alto_words.specs.Fid.{sys_dir}
 use Rattle.disk_records.specs.declared.records.Event.{Event}
 use Rattle.disk_records.specs.declared.records.Event.TheVariants.{Wrote}
@@ -85,8 +85,8 @@ none_at_all : (p : Pack) (from at : ℕ) → NoneFreeBelow p from → NoneFreeFr
 none_at_all p from at below above = by (nat_lt at from) refl
   where
     by : (t : Bool) → nat_lt at from ≡ t → is_free_at p at ≡ false
-    by true l = below at (grind (arith, nat_tests, l))
-    by false l = above at (grind (arith, nat_tests, l))
+    by true l = below at (ltb-true at from l)
+    by false l = above at (ltb-false at from l)
 
 -- a sector that carries a page isn't free
 carried_not_free : (p : Pack) (at : ℕ) (page : Page) → carried p at ≡ Some page → is_free_at p at ≡ true → ⊥
@@ -318,14 +318,14 @@ module _ (a : Taped) (root : Root) (todo : List Living) (may : MayBeWidened (pac
       where
         was : is_free_at q k ≡ true → (s t : Bool) → (k == fresh) ≡ s → nat_lt k root.from ≡ t → ⊥
         was e true t same l =
-            let is : k ≡ fresh = grind (arith, nat_tests, same) in
+            let is : k ≡ fresh = eqb-true k fresh same in
             carried_not_free q fresh (page_number sys_dir (suc (last_number p sys_dir))) fresh_carried (ap (is_free_at q) (sym is) ∙ e)
         was e false true same l =
-            let below : k < root.from = grind (arith, nat_tests, l) in
+            let below : k < root.from = ltb-true k root.from l in
             let no : true ≡ false = sym (wide.free k e) ∙ may.may.known.none_below k below in cc
         was e false false same l =
-            let other : k ≢ fresh = λ is. (let no = subst (λ i. (i == fresh) ≡ false) is same in grind (arith, nat_tests, no)) in
-            let above : root.from ≤ k = grind (arith, nat_tests, l) in
+            let other : k ≢ fresh = eqb-false k fresh same in
+            let above : root.from ≤ k = ltb-false k root.from l in
             let no : true ≡ false = sym (wide.free k e) ∙ free.lowest k above (omega (arith, low, other)) in cc
 
         by : (u : Bool) → is_free_at q k ≡ u → is_free_at q k ≡ false
@@ -340,12 +340,12 @@ module _ (a : Taped) (root : Root) (todo : List Living) (may : MayBeWidened (pac
       where
         by : (t : Bool) → nat_lt n (length root.pages) ≡ t → place (sights q) sys_dir (suc n) ≡ Some (get_or (root.pages ++ fresh ∷ []) n 0)
         by true e =
-            let low : n < length root.pages = grind (arith, nat_tests, e) in
+            let low : n < length root.pages = ltb-true n (length root.pages) e in
             let long = pages_long in
             wide.widened.places_are sys_dir (suc n) (λ s is. omega (arith, low, long, is))
             ∙ may.may.known.pages n low ∙ ap (λ k. Some k) (sym (get_or_append_left root.pages (fresh ∷ []) 0 n low))
         by false e =
-            let high : length root.pages ≤ n = grind (arith, nat_tests, e) in
+            let high : length root.pages ≤ n = ltb-false n (length root.pages) e in
             let all : length (root.pages ++ fresh ∷ []) ≡ length root.pages + 1 = length-append root.pages (fresh ∷ []) in
             let same : n ≡ length root.pages = omega (arith, high, all, l) in
             let none : n - length root.pages ≡ 0 = omega (arith, same) in

@@ -1,8 +1,9 @@
 -- A pass that writes words of directories: those in the pages up to the row in hand are written.
-use Rattle.std.proofs.Common.{◌≡◌, ◌≢◌, ℕ, suc, ◌+◌, ◌*◌, ◌/◌, ◌<◌, ◌≤◌, ◌==◌, nat_le, Bool, true, false, cond, IsTrue, List, ◌∷◌, ◌++◌, length, drop, get_or, drop-cons, append_assoc, Option, Some, None, Result, Ok, refl, sym, ap, subst, ◌∙◌, arith}
+use Rattle.std.proofs.Common.{◌≡◌, ◌≢◌, ℕ, suc, ◌+◌, ◌*◌, ◌/◌, ◌<◌, ◌≤◌, ◌==◌, nat_le, Bool, true, false, cond, IsTrue, List, ◌∷◌, ◌++◌, length, drop, get_or, drop-cons, append_assoc, Option, Some, None, Result, Ok, refl, sym, ap, subst, ◌∙◌, eqb-true, leb-true, leb-false, arith}
 use Rattle.std.specs.Prelude.{IsErrAnd}
 use Rattle.std.proofs.lemmas.Bool.Decides.{nat_tests}
 use Rattle.std.proofs.lemmas.List.{append-nil, drop_all}
+use borrow.Author.Tests.{eqb-false}
 use Rattle.disk_records.specs.declared.records.Page.{Page}
 use Rattle.disk_records.specs.Events.{IsFirstOf}
 use Rattle.disk_records.specs.Labels.{page_of}
@@ -72,7 +73,7 @@ number_is d page same few = by (nat_le (d.place / 256 + 1) 65535) refl
   where
     by : (t : Bool) → nat_le (d.place / 256 + 1) 65535 ≡ t → cond t (Some (word_page d)) None ≡ Some page
     by true e = ap (λ x. Some x) same
-    by false e = absurd (grind (arith, nat_tests, e, few))
+    by false e = absurd (let high = leb-false (d.place / 256 + 1) 65535 e in omega (arith, high, few))
 
 pub record HasPage (p : Pack) (w : DirWord) : Type 0 where
   pub at : ℕ
@@ -101,9 +102,9 @@ module _ {words : List DirWord} {a b : Taped} {last : Option Row} {done : ℕ} (
   none_left none = by (nat_le (length words) done) refl
     where
       by : (t : Bool) → nat_le (length words) done ≡ t → length words ≤ done
-      by true e = grind (arith, nat_tests, e)
+      by true e = leb-true (length words) done e
       by false e =
-          let within : done < length words = grind (arith, nat_tests, e) in
+          let within : done < length words = leb-false (length words) done e in
           let d : DirWord = record { dir = record { high = 0; low = 0; version = 0 }; place = 0; word = 0 } in
           let has = has_page done d within in
           let r : Row = record { page = word_page (get_or words done d); at = has.at; bytes = word (sector_at (pack b) has.at).label 3 } in
@@ -127,9 +128,10 @@ module _ {words : List DirWord} {a b : Taped} {last : Option Row} {done : ℕ} (
       not_here k d least within same = by (k == more) refl
         where
           by : (t : Bool) → (k == more) ≡ t → ⊥
-          by true e = (let is : k ≡ more = grind (arith, nat_tests, e) in first_other d (omega (arith, is, within)) (ap (λ n. word_page (get_or words n d)) (sym is) ∙ same))
+          by true e = (let is : k ≡ more = eqb-true k more e in first_other d (omega (arith, is, within)) (ap (λ n. word_page (get_or words n d)) (sym is) ∙ same))
           by false e =
-              let before : more < k = grind (arith, nat_tests, e, least) in
+              let no : k ≢ more = eqb-false k more e in
+              let before : more < k = omega (arith, no, least) in
               let here : more < length words = omega (arith, before, within) in
               let has = has_page more d here in
               let w = get_or words more d in
@@ -157,12 +159,12 @@ module _ {words : List DirWord} {a b : Taped} {last : Option Row} {done : ℕ} (
 
           by : (t : Bool) → (at == row.at) ≡ t → is_below row r ≡ true
           by true e =
-              let same : at ≡ row.at = grind (arith, nat_tests, e) in
+              let same : at ≡ row.at = eqb-true at row.at e in
               let there : Some r.page ≡ Some row.page = sym (carried_row q at r is) ∙ ap (carried q) same ∙ wrote.carries in
               let pages : r.page ≡ row.page = cc in
               absurd (not_here k d least within (sym page ∙ pages))
           by false e =
-              let elsewhere : at ≢ row.at = λ same. (let no = subst (λ i. (i == row.at) ≡ false) same e in grind (arith, nat_tests, no)) in
+              let elsewhere : at ≢ row.at = eqb-false at row.at e in
               let before : row_at (pack b) at ≡ Some r = sym (row_stays at wrote.written elsewhere) ∙ is in
               let above = so_far.ahead k d (omega (arith, low, least)) within at r before page in
               above_row (is_below row r) refl elsewhere before (first.least at r before above)
@@ -171,9 +173,9 @@ module _ {words : List DirWord} {a b : Taped} {last : Option Row} {done : ℕ} (
       carries_still i = by (i == row.at) refl
         where
           by : (t : Bool) → (i == row.at) ≡ t → carried q i ≡ carried (pack b) i
-          by true e = (let same : i ≡ row.at = grind (arith, nat_tests, e) in ap (carried q) same ∙ wrote.carries ∙ sym wrote.was ∙ ap (carried (pack b)) (sym same))
+          by true e = (let same : i ≡ row.at = eqb-true i row.at e in ap (carried q) same ∙ wrote.carries ∙ sym wrote.was ∙ ap (carried (pack b)) (sym same))
           by false e =
-              let elsewhere : i ≢ row.at = λ same. (let no = subst (λ j. (j == row.at) ≡ false) same e in grind (arith, nat_tests, no)) in
+              let elsewhere : i ≢ row.at = eqb-false i row.at e in
               λ j. cond (is_usable (wrote.written.shape j) i (wrote.written.others i elsewhere j)) (page_of (wrote.written.others i elsewhere j).label) None
 
     -- the words in its page are written

@@ -1,6 +1,5 @@
 -- Words of directories that are written: the pack that they leave, and what they keep.
-use Rattle.std.proofs.Common.{◌≡◌, ℕ, ◌+◌, ◌/◌, ◌<◌, Bool, true, false, List, [], ◌∷◌, ◌++◌, None, Result, Ok, Err, refl, sym, ap, subst, ◌∙◌, arith}
-use Rattle.std.proofs.lemmas.Bool.Decides.{nat_tests}
+use Rattle.std.proofs.Common.{◌≡◌, ℕ, ◌+◌, ◌/◌, ◌<◌, Bool, true, false, List, [], ◌∷◌, ◌++◌, None, Result, Ok, Err, refl, sym, ap, subst, ◌∙◌, leb-true, leb-false, arith}
 use Rattle.std.proofs.lemmas.List.{length-append, length-take, nil_from_length}
 use Rattle.std.proofs.Math.Seq.{take-append_seam}
 use Rattle.std.specs.Option.{option_map_or}
@@ -50,10 +49,10 @@ put_stands : (from : ℕ) (new old : List ℕ) → put_at from new old ≡ old �
 put_stands from new old same = by (nat_le (from + length new) (length old)) refl
   where
     by : (t : Bool) → nat_le (from + length new) (length old) ≡ t → take (length new) (drop from old) ≡ new
-    by true e = ap (λ l. take (length new) (drop from l)) (sym same) ∙ ap (take (length new)) (put_drop from new old (grind (arith, nat_tests, e))) ∙ take-append_seam new (drop (from + length new) old)
+    by true e = ap (λ l. take (length new) (drop from l)) (sym same) ∙ ap (take (length new)) (put_drop from new old (leb-true (from + length new) (length old) e)) ∙ take-append_seam new (drop (from + length new) old)
     by false e =
         let rest : List ℕ = drop (from + length new) old in
-        let past : length old < from + length new = grind (arith, nat_tests, e) in
+        let past : length old < from + length new = leb-false (from + length new) (length old) e in
         let all : length (put_at from new old) ≡ (min from (length old) + length new) + length rest = length-append (take from old ++ new) rest ∙ ap (λ n. n + length rest) (length-append (take from old) new ∙ ap (λ n. n + length new) (length-take from old)) in
         let size : length (put_at from new old) ≡ length old = ap length same in
         let none : new ≡ [] = nil_from_length new (omega (arith, all, size, past)) in

@@ -1,6 +1,7 @@
 // All names of a pack.
-ghost use Rattle.std.specs.Prelude.{◌≡◌, ◌^◌, ◌<◌, length, IsTrue};
+ghost use Rattle.std.specs.Prelude.{◌≡◌, ◌^◌, ◌<◌, ◌≤◌, length, IsTrue};
 ghost use Rattle.disk_records.specs.Causes.{HasCause};
+ghost use Rattle.disk_records.specs.Packs.{Pack};
 ghost use Rattle.disk_records.specs.Tapes.{DiskAlone, pack};
 ghost use Rattle.pack_model.specs.scavenger.Reports.{PagesMended};
 ghost use Rattle.pack_model.specs.scavenger.Scavenging.{Scavengeable};
@@ -10,16 +11,19 @@ ghost use Rattle.scav_entries.specs.Parting.{IsParted};
 ghost use Rattle.scav_pages.specs.Stops.{cause_of_stop};
 ghost use Rattle.scav_table.specs.Causes.{cause_of_sweep};
 ghost use Rattle.scav_names.specs.Does.{Does};
-ghost use Rattle.scav_names.specs.Mending.{AreMended, MendsNames};
+ghost use Rattle.scav_names.specs.Mending.{AreMended, AreMendedSince, AreReady, MendsNames, root_read};
 ghost use Rattle.scav_names.specs.Parts.{MayBeNamed};
 
 use crate::addresses::mend_addresses;
 use crate::enter::enter_all;
 use crate::root::Root;
 use crate::unkept::free_unkept;
+use alto_words::List;
 use disk_records::Disk;
 use kept_names::is_system;
-use scav_entries::{Catalogue, Living, Parted, lacking, part_entries, read_names, root_rooms};
+use scav_entries::{
+    Catalogue, Living, Parted, PlacedEntry, lacking, part_entries, read_names, root_rooms,
+};
 use scav_pages::Stop;
 use scav_table::{SweepError, Table};
 use std::alloc::Global;
@@ -75,7 +79,7 @@ fn mend<D: Disk>(alloc: Global, disk: &mut D, table: &mut Table) -> Result<u32, 
     mend_parted(alloc, disk, table, names, &mut parted)
 }
 
-/// Mends the names of a pack that were read and parted, one part after another.
+/// Mends the names of a pack that were read and parted.
 fn mend_parted<D: Disk>(
     alloc: Global,
     disk: &mut D,
@@ -87,9 +91,7 @@ fn mend_parted<D: Disk>(
     ensures cause { HasCause cause_of_stop (D.tape disk.old) (D.tape disk.new) result }
     ensures alone { DiskAlone (D.tape disk.old) (D.tape disk.new) }
 {
-    free_unkept(alloc, disk, table, parted.unkept.as_slice())?;
-    root_rooms(&mut names, parted)?;
-    let files = lacking(alloc, names.living.as_slice(), parted)?;
+    let files = make_ready(alloc, disk, table, &mut names, parted)?;
     let Catalogue {
         living,
         rooms,
@@ -101,13 +103,52 @@ fn mend_parted<D: Disk>(
         pages: root_pages,
         from: 1,
     };
-    enter_all(alloc, disk, &mut root, files.as_slice())?;
-    mend_addresses(
+    name_files(
         alloc,
         disk,
         table,
+        &mut root,
         living.as_slice(),
         parted.kept.as_slice(),
-    )?;
-    Ok(count_adopted(files.as_slice()))
+        files.as_slice(),
+    )
+}
+
+/// Makes the slots of entries free that aren't kept, on the pack and in memory. Answers the entries that SysDir lacks then.
+fn make_ready<D: Disk>(
+    alloc: Global,
+    disk: &mut D,
+    table: &mut Table,
+    names: &mut Catalogue,
+    parted: &mut Parted,
+) -> Result<List<Living>, Stop>
+    ensures does { IsTrue D.told → MayBeNamed (pack (D.tape disk.old)) → HoldsNames (pack (D.tape disk.old)) names.old → IsParted (pack (D.tape disk.old)) parted.old → Does (AreReady (root_read names.new) names.new.living parted.new.kept) (D.tape disk.old) (D.tape disk.new) result }
+    ensures cause { HasCause cause_of_stop (D.tape disk.old) (D.tape disk.new) result }
+    ensures alone { DiskAlone (D.tape disk.old) (D.tape disk.new) }
+{
+    free_unkept(alloc, disk, table, parted.unkept.as_slice())?;
+    root_rooms(names, parted)?;
+    let files = lacking(alloc, names.living.as_slice(), parted)?;
+    Ok(files)
+}
+
+/// Enters in SysDir what it lacks, and makes the addresses of the entries that were kept true. Answers how many files got a name, the system
+/// files aside.
+fn name_files<D: Disk>(
+    alloc: Global,
+    disk: &mut D,
+    table: &mut Table,
+    root: &mut Root,
+    living: &[Living],
+    kept: &[PlacedEntry],
+    files: &[Living],
+) -> Result<u32, Stop>
+    requires first { 1 ≤ root.old.from }
+    ensures does { IsTrue D.told → (p : Pack) → AreReady root.old living.now kept.now p (pack (D.tape disk.old)) files.now → Does (AreMendedSince p) (D.tape disk.old) (D.tape disk.new) result }
+    ensures cause { HasCause cause_of_stop (D.tape disk.old) (D.tape disk.new) result }
+    ensures alone { DiskAlone (D.tape disk.old) (D.tape disk.new) }
+{
+    enter_all(alloc, disk, root, files)?;
+    mend_addresses(alloc, disk, table, living, kept)?;
+    Ok(count_adopted(files))
 }

@@ -6,6 +6,7 @@ use Rattle.scav_pages.proofs.Causing.{cause_of_part}
 use Rattle.scav_names.specs.Parts.{AddressesTrue}
 use Rattle.scav_names.specs.Words.{AreWordsOf, WritesWords, address_words}
 use Rattle.scav_names.proofs.Addressing.{are_words, few_places, run_addresses}
+use Rattle.scav_names.proofs.Going.{does_stop, so_far_here}
 use Rattle.scav_names.proofs.WordRuns.{does_writes, words_change}
 use Rattle.scav_names.proofs.addresses.mend_addresses.Goals as goal
 
@@ -25,3 +26,12 @@ returns-in_err-words-clause-cause g c = cause_of_part Memory c.from_residual.res
 
 pub returns-clause-cause : goal.returns-clause-cause
 returns-clause-cause g c = c.write_words.ensures.cause
+
+pub returns-in_err-words-clause-does : goal.returns-in_err-words-clause-does
+returns-in_err-words-clause-does g c = λ told may. does_stop Memory c.from_residual.result (so_far_here (g.D.Tape.tape c.args.disk.now)) (λ astray. cc) c.from_residual.ensures.1
+
+pub returns-in_err-words-clause-alone : goal.returns-in_err-words-clause-alone
+returns-in_err-words-clause-alone g c = alone_here _
+
+pub returns-clause-alone : goal.returns-clause-alone
+returns-clause-alone g c = c.write_words.ensures.alone

@@ -56,3 +56,12 @@ returns-in_err-write_entry-clause-cause g c = cause_of_part c.in_err-write_entry
 
 pub returns-in_err-fill-clause-cause : goal.returns-in_err-fill-clause-cause
 returns-in_err-fill-clause-cause g c = cause_of_part Memory c.from_residual-in_err-fill.result (alone_twice c.in_ok-room.ensures.alone c.in_ok-write_entry.ensures.alone) (alone_here _) tt c.from_residual-in_err-fill.ensures.1
+
+pub returns-in_err-room-clause-alone : goal.returns-in_err-room-clause-alone
+returns-in_err-room-clause-alone g c = c.in_err-room.ensures.alone
+
+pub returns-in_err-room-clause-first : goal.returns-in_err-room-clause-first
+returns-in_err-room-clause-first g c = c.in_err-room.ensures.first
+
+pub returns-clause-cause : goal.returns-clause-cause
+returns-clause-cause g c = tt

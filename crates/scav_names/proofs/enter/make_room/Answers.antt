@@ -6,7 +6,7 @@ use Rattle.pack_model.specs.hints.Links.{dir_words}
 use Rattle.pack_model.specs.reading.Slots.{slots}
 use Rattle.scav_pages.proofs.Causing.{cause_of_part}
 use Rattle.scav_names.proofs.Going.{does_ok, does_part, so_far_does, so_far_here}
-use Rattle.scav_names.proofs.NextEntry.{none_there, room_comes, room_then}
+use Rattle.scav_names.proofs.NextEntry.{none_there, room_comes, room_then, room_there}
 use Rattle.scav_names.proofs.enter.make_room.Goals as goal
 
 pub returns-in_err-widen_root-clause-does : goal.returns-in_err-widen_root-clause-does
@@ -34,3 +34,39 @@ returns-in-None-clause-does g c = λ told next todo is may.
 
 pub returns-in_err-widen_root-clause-cause : goal.returns-in_err-widen_root-clause-cause
 returns-in_err-widen_root-clause-cause g c = cause_of_part c.in_err-widen_root.field-0.0 c.from_residual.result (alone_here _) c.in_err-widen_root.ensures.alone c.in_err-widen_root.ensures.cause c.from_residual.ensures.1
+
+pub returns-in-Some-clause-does : goal.returns-in-Some-clause-does
+returns-in-Some-clause-does g c = λ told next todo is may. does_ok c.in-Some.room (so_far_here (g.D.Tape.tape c.args.disk.now)) (room_there c.args.words c.in-Some.room is may (c.in-Some.ensures.room (slots (dir_words (pack (g.D.Tape.tape c.args.disk.now)) sys_dir)) may.rooms))
+
+pub returns-in-Some-clause-first : goal.returns-in-Some-clause-first
+returns-in-Some-clause-first g c = c.requires.first
+
+pub returns-in-Some-clause-cause : goal.returns-in-Some-clause-cause
+returns-in-Some-clause-cause g c = tt
+
+pub returns-in-Some-clause-alone : goal.returns-in-Some-clause-alone
+returns-in-Some-clause-alone g c = alone_here _
+
+pub returns-in_err-widen_root-clause-first : goal.returns-in_err-widen_root-clause-first
+returns-in_err-widen_root-clause-first g c = c.in_err-widen_root.ensures.first
+
+pub returns-in_err-widen_root-clause-alone : goal.returns-in_err-widen_root-clause-alone
+returns-in_err-widen_root-clause-alone g c = c.in_err-widen_root.ensures.alone
+
+pub returns-in-Some-find-clause-first : goal.returns-in-Some-find-clause-first
+returns-in-Some-find-clause-first g c = c.in_ok-widen_root.ensures.first
+
+pub returns-in-Some-find-clause-cause : goal.returns-in-Some-find-clause-cause
+returns-in-Some-find-clause-cause g c = tt
+
+pub returns-in-Some-find-clause-alone : goal.returns-in-Some-find-clause-alone
+returns-in-Some-find-clause-alone g c = c.in_ok-widen_root.ensures.alone
+
+pub returns-in-None-clause-first : goal.returns-in-None-clause-first
+returns-in-None-clause-first g c = c.in_ok-widen_root.ensures.first
+
+pub returns-in-None-clause-cause : goal.returns-in-None-clause-cause
+returns-in-None-clause-cause g c = tt
+
+pub returns-in-None-clause-alone : goal.returns-in-None-clause-alone
+returns-in-None-clause-alone g c = c.in_ok-widen_root.ensures.alone

@@ -1,5 +1,6 @@
 use Rattle.std.proofs.Common.{◌/◌, [], ◌∷◌, get_or}
 use Rattle.disk_records.specs.Tapes.{pack}
+use Rattle.disk_records.proofs.Growing.{alone_here}
 use Rattle.pack_model.specs.operations.PageWords.{in_page}
 use Rattle.scav_names.proofs.Going.{does_ok, so_far_here}
 use Rattle.scav_names.proofs.OneRoom.{one_already, place_known, several_keep, several_made}
@@ -16,3 +17,12 @@ returns-clause-does g c = λ told next todo may.
 
 pub returns-clause-cause : goal.returns-clause-cause
 returns-clause-cause g c = c.put_in_root.ensures.cause
+
+pub returns-then-room-clause-cause : goal.returns-then-room-clause-cause
+returns-then-room-clause-cause g c = tt
+
+pub returns-then-room-clause-alone : goal.returns-then-room-clause-alone
+returns-then-room-clause-alone g c = alone_here _
+
+pub returns-clause-alone : goal.returns-clause-alone
+returns-clause-alone g c = c.put_in_root.ensures.alone

@@ -34,3 +34,15 @@ returns-in_err-found-clause-cause g c = cause_of_part c.in_err-found.field-0.0 c
 
 pub returns-clause-cause : goal.returns-clause-cause
 returns-clause-cause g c = c.put_words.ensures.cause
+
+pub returns-in_err-found-clause-alone : goal.returns-in_err-found-clause-alone
+returns-in_err-found-clause-alone g c = alone_here _
+
+pub returns-clause-alone : goal.returns-clause-alone
+returns-clause-alone g c = c.put_words.ensures.alone
+
+pub put_words-requires-clause-first : goal.put_words-requires-clause-first
+put_words-requires-clause-first g c = c.in_ok-found.ensures.first
+
+pub put_words-requires-clause-place : goal.put_words-requires-clause-place
+put_words-requires-clause-place g c = subst (λ f. c.in_ok-found.found.at < pages_of f) c.shape.ensures c.in_ok-found.ensures.within

@@ -1,5 +1,6 @@
 use Rattle.std.proofs.Common.{◌≡◌, ℕ, ◌+◌, ◌/◌, ◌<◌, ◌≤◌, List, [], ◌∷◌, get_or, length, refl, ap, subst, ◌∙◌, arith, rules}
 use Rattle.disk_records.specs.Tapes.{pack}
+use Rattle.disk_records.proofs.Growing.{alone_here}
 use Rattle.pack_model.specs.operations.PageWords.{in_page}
 use Rattle.scav_names.specs.Roots.{IsLater, LaterWritten}
 use Rattle.scav_names.specs.Words.{WritesPageWords, page_writes}
@@ -48,3 +49,18 @@ returns-clause-does g c = λ told next todo room may is.
 
 pub returns-clause-cause : goal.returns-clause-cause
 returns-clause-cause g c = c.put_in_root.ensures.cause
+
+pub returns-then-is_empty-clause-cause : goal.returns-then-is_empty-clause-cause
+returns-then-is_empty-clause-cause g c = tt
+
+pub returns-then-is_empty-clause-alone : goal.returns-then-is_empty-clause-alone
+returns-then-is_empty-clause-alone g c = alone_here _
+
+pub returns-in_default-clause-cause : goal.returns-in_default-clause-cause
+returns-in_default-clause-cause g c = tt
+
+pub returns-in_default-clause-alone : goal.returns-in_default-clause-alone
+returns-in_default-clause-alone g c = alone_here _
+
+pub returns-clause-alone : goal.returns-clause-alone
+returns-clause-alone g c = c.put_in_root.ensures.alone

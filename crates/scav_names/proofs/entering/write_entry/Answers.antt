@@ -7,7 +7,7 @@ use Rattle.scav_pages.specs.declared.errors.Stop.TheVariants.{Memory}
 use Rattle.scav_pages.proofs.Causing.{cause_of_part, cause_sooner}
 use Rattle.scav_names.specs.Roots.{AreEntryWords, EntryWritten, IsLed}
 use Rattle.scav_names.proofs.FillRoom.{entry_if, led_is_full, room_enough}
-use Rattle.scav_names.proofs.Going.{does_last, does_part, so_far_does, so_far_here}
+use Rattle.scav_names.proofs.Going.{does_last, does_part, does_stop, so_far_does, so_far_here}
 use Rattle.scav_names.proofs.entering.write_entry.Goals as goal
 
 pub returns-then-not-is_full_name-clause-does : goal.returns-then-not-is_full_name-clause-does
@@ -54,3 +54,21 @@ returns-in_err-make_one-clause-cause g c = cause_of_part c.in_err-make_one.field
 
 pub returns-clause-cause : goal.returns-clause-cause
 returns-clause-cause g c = cause_sooner (g.D.Tape.tape c.args.disk.now) (g.D.Tape.tape c.make_one.new.disk) (g.D.Tape.tape c.put_entry.new.disk) c.put_entry.result c.in_ok-make_one.ensures.alone.grown c.put_entry.ensures.cause
+
+pub returns-then-not-is_full_name-clause-cause : goal.returns-then-not-is_full_name-clause-cause
+returns-then-not-is_full_name-clause-cause g c = tt
+
+pub returns-then-not-is_full_name-clause-alone : goal.returns-then-not-is_full_name-clause-alone
+returns-then-not-is_full_name-clause-alone g c = alone_here _
+
+pub returns-in_err-words-clause-does : goal.returns-in_err-words-clause-does
+returns-in_err-words-clause-does g c = λ told todo may. does_stop Memory c.from_residual.result (so_far_here (g.D.Tape.tape c.args.disk.now)) (λ astray. cc) c.from_residual.ensures.1
+
+pub returns-in_err-words-clause-alone : goal.returns-in_err-words-clause-alone
+returns-in_err-words-clause-alone g c = alone_here _
+
+pub returns-in_err-make_one-clause-alone : goal.returns-in_err-make_one-clause-alone
+returns-in_err-make_one-clause-alone g c = c.in_err-make_one.ensures.alone
+
+pub put_entry-requires : goal.put_entry-requires
+put_entry-requires g c = record { most = subst (λ l. length l ≤ 27) (sym c.as_slice.ensures) c.in_ok-words.ensures.most }

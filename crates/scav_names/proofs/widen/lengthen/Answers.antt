@@ -95,3 +95,15 @@ returns-in_err-put_value-clause-cause g c = cause_of_part c.in_err-put_value.fie
 
 pub returns-in_err-relabel-clause-cause : goal.returns-in_err-relabel-clause-cause
 returns-in_err-relabel-clause-cause g c = cause_of_guarded c.in_err-relabel.field-0.0 c.from_residual-in_err-relabel.result (alone_twice c.in_ok-info.ensures.looks.alone c.in_ok-put_value.ensures.alone) c.in_err-relabel.ensures.alone c.in_err-relabel.ensures.cause c.from_residual-in_err-relabel.ensures.1
+
+pub returns-in_err-info-clause-alone : goal.returns-in_err-info-clause-alone
+returns-in_err-info-clause-alone g c = c.in_err-info.ensures.looks.alone
+
+pub put_value-requires-clause-first : goal.put_value-requires-clause-first
+put_value-requires-clause-first g c = c.requires.first
+
+pub relabel-requires-clause-first : goal.relabel-requires-clause-first
+relabel-requires-clause-first g c = c.requires.first
+
+pub returns-clause-cause : goal.returns-clause-cause
+returns-clause-cause g c = tt

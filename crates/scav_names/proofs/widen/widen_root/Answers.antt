@@ -16,7 +16,7 @@ use Rattle.scav_pages.specs.Stops.{cause_of_stop, stop_of_guard}
 use Rattle.scav_pages.proofs.Causing.{cause_of_guarded, cause_of_part}
 use Rattle.scav_names.specs.Roots.{Widened}
 use Rattle.scav_names.specs.Words.{page_with}
-use Rattle.scav_names.proofs.Going.{does_stop, so_far_here}
+use Rattle.scav_names.proofs.Going.{cause_of_memory, does_stop, so_far_here}
 use Rattle.scav_names.proofs.PageWriting.{page_is}
 use Rattle.scav_names.proofs.RootPages.{root_page}
 use Rattle.scav_names.proofs.Widening.{carries_last, ends_pushed, few_words, label_found, left_widened, lengthening_found, number_low, page_found, place_known, so_far_claim, so_far_lengthen, so_far_looks, some_is_free, widened}
@@ -142,3 +142,51 @@ returns-in_err-claim-clause-cause g c = cause_of_guarded c.in_err-claim.field-0.
 
 pub returns-in_err-lengthen-clause-cause : goal.returns-in_err-lengthen-clause-cause
 returns-in_err-lengthen-clause-cause g c = cause_of_part c.in_err-lengthen.field-0.0 c.from_residual-in_err-lengthen.result (alone_twice c.in_ok-fresh.ensures.looks.alone c.in_ok-claim.ensures.alone) c.in_err-lengthen.ensures.alone c.in_err-lengthen.ensures.cause c.from_residual-in_err-lengthen.ensures.1
+
+pub returns-in_err-last-clause-first : goal.returns-in_err-last-clause-first
+returns-in_err-last-clause-first g c = c.requires.first
+
+pub returns-in_err-last-clause-alone : goal.returns-in_err-last-clause-alone
+returns-in_err-last-clause-alone g c = alone_here _
+
+pub returns-in_err-fresh-clause-first : goal.returns-in_err-fresh-clause-first
+returns-in_err-fresh-clause-first g c = let least = c.in_err-fresh.ensures.least in let first = c.requires.first in omega (arith, least, first)
+
+pub returns-in_err-fresh-clause-alone : goal.returns-in_err-fresh-clause-alone
+returns-in_err-fresh-clause-alone g c = c.in_err-fresh.ensures.looks.alone
+
+pub returns-in_default-clause-first : goal.returns-in_default-clause-first
+returns-in_default-clause-first g c = let least = c.in_ok-fresh.ensures.least in let first = c.requires.first in omega (arith, least, first)
+
+pub returns-in_default-clause-cause : goal.returns-in_default-clause-cause
+returns-in_default-clause-cause g c = tt
+
+pub returns-in_default-clause-alone : goal.returns-in_default-clause-alone
+returns-in_default-clause-alone g c = c.in_ok-fresh.ensures.looks.alone
+
+pub claim-requires-clause-first : goal.claim-requires-clause-first
+claim-requires-clause-first g c = let least = c.in_ok-fresh.ensures.first in let first = c.requires.first in omega (arith, least, first)
+
+pub claim-requires-clause-place : goal.claim-requires-clause-place
+claim-requires-clause-place g c = subst (λ f. c.in_ok-fresh.fresh < pages_of f) (sym c.in_ok-fresh.ensures.looks.alone.grown.form) c.in_ok-fresh.ensures.place
+
+pub returns-in_err-claim-clause-first : goal.returns-in_err-claim-clause-first
+returns-in_err-claim-clause-first g c = let least = c.in_ok-fresh.ensures.least in let first = c.requires.first in omega (arith, least, first)
+
+pub lengthen-requires-clause-first : goal.lengthen-requires-clause-first
+lengthen-requires-clause-first g c = c.in_ok-last.ensures.first
+
+pub lengthen-requires-clause-place : goal.lengthen-requires-clause-place
+lengthen-requires-clause-place g c = subst (λ f. c.in_ok-last.last.at < pages_of f) (c.shape-shape.ensures ∙ sym (alone_twice c.in_ok-fresh.ensures.looks.alone c.in_ok-claim.ensures.alone).grown.form) c.in_ok-last.ensures.within
+
+pub lengthen-requires-clause-full_name : goal.lengthen-requires-clause-full_name
+lengthen-requires-clause-full_name g c = ap (λ (x : Page). is_full_name x.fid) (sym (page_is sys_dir c.end-end.result c.in_ok-last.last.page c.in_ok-last.ensures.page))
+
+pub returns-in_err-lengthen-clause-first : goal.returns-in_err-lengthen-clause-first
+returns-in_err-lengthen-clause-first g c = let least = c.in_ok-fresh.ensures.least in let first = c.requires.first in omega (arith, least, first)
+
+pub returns-clause-first : goal.returns-clause-first
+returns-clause-first g c = let least = c.in_ok-fresh.ensures.least in let first = c.requires.first in let from = c.push_page.ensures.from in omega (arith, least, first, from)
+
+pub returns-clause-cause : goal.returns-clause-cause
+returns-clause-cause g c = cause_of_memory (g.D.Tape.tape c.args.disk.now) (g.D.Tape.tape c.lengthen.new.disk) c.push_page.result c.push_page.ensures.memory
