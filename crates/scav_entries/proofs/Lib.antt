@@ -1,7 +1,8 @@
 pub mod Adopting
 pub mod Cataloguing
 pub mod Entering
-pub mod Filling
+pub mod Erring
+mod Filling
 pub mod Finding
 pub mod FreeSlots
 pub mod Growing

@@ -3,9 +3,10 @@ ghost use Rattle.std.specs.Prelude.{◌≡◌, [], ◌++◌, IfOk, OnOk};
 ghost use Rattle.std.specs.FinMap.{FinMap};
 ghost use Rattle.alto_words.specs.Fid.{fid_cmp};
 ghost use Rattle.disk_records.specs.Packs.{Pack};
+ghost use Rattle.kept_names.specs.Homes.{StandsFor};
 ghost use Rattle.pack_model.specs.showing.Settling.{unless};
 ghost use Rattle.pack_model.specs.showing.View.{Home};
-ghost use Rattle.scav_entries.specs.Adopting.{Knows, entered_then, named_then};
+ghost use Rattle.scav_entries.specs.Adopting.{Knows, all_entered, entered_then, named_then};
 ghost use Rattle.scav_entries.specs.Lacking.{lacking_files, system_living};
 ghost use Rattle.scav_entries.specs.Living.{Rises, living_files};
 ghost use Rattle.scav_entries.specs.Parting.{IsParted};
@@ -66,11 +67,24 @@ pub fn lacking(
         parted.names_descriptor,
         Fid::DISK_DESCRIPTOR,
     )?;
+    adopt_all(alloc, &mut files, living, &mut parted.names)?;
+    Ok(List::from_vec(files))
+}
+
+/// Appends the entries that these files get, in their order, those that are shown and have none.
+fn adopt_all(
+    alloc: Global,
+    files: &mut Vec<Living>,
+    living: &[Living],
+    names: &mut Names,
+) -> Result<(), Memory>
+    ensures { (homes : FinMap fid_cmp Home) → StandsFor names.old homes → OnOk result (files.new.items ≡ files.old.items ++ all_entered homes living.now) }
+{
     let mut passed = Passed::new(alloc);
     for file in living {
-        adopt_file(&mut files, &mut parted.names, &mut passed, file)?;
+        adopt_file(files, names, &mut passed, file)?;
     }
-    Ok(List::from_vec(files))
+    Ok(())
 }
 
 /// Appends the entry that a file gets, if it is shown and has none.

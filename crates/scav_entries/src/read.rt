@@ -31,12 +31,12 @@ impl Reading {
     ghost use Rattle.disk_records.specs.Addresses.{pages_of};
     ghost use Rattle.disk_records.specs.Causes.{HasCause};
     ghost use Rattle.disk_records.specs.Packs.{AreFormed, Pack, carried};
-    ghost use Rattle.disk_records.specs.Tapes.{Looks, pack};
+    ghost use Rattle.disk_records.specs.Tapes.{DiskAlone, Looks, added, pack};
     ghost use Rattle.scav_table.specs.declared.row.Row.{Row as RowOf};
     ghost use Rattle.scav_table.specs.Laws.{IsFirstAbove};
     ghost use Rattle.scav_pages.specs.Stops.{cause_of_stop};
     ghost use Rattle.scav_pages.specs.Walks.{AreWords, IsOtherFile};
-    ghost use Rattle.scav_entries.specs.Catalogues.{AreSectors};
+    ghost use Rattle.scav_entries.specs.Catalogues.{AreSectors, HoldsNames};
     ghost use Rattle.scav_entries.specs.Readings.{HasReadTo, KeepsSector, ReadsLeader, ReadsPage};
 
     /// Nothing yet; it takes no memory.
@@ -128,6 +128,23 @@ impl Reading {
         }
         Ok(())
     }
+
+    /// Reads all rows of a pack, of which none was read yet, in one pass along them.
+    fn read_rows<D: Disk>(&mut self, disk: &mut D, table: &mut Table) -> Result<(), Stop>
+        ensures names { IsTrue D.told → HasReadTo (pack (D.tape disk.old)) None self.old → OnOk result (HoldsNames (pack (D.tape disk.old)) self.new.catalogue) }
+        ensures found { IsTrue D.told → IsErrOf result Stop.Astray → ⊥ }
+        ensures sectors { AreSectors (D.tape disk.old).form self.old.catalogue.root_pages → OnOk result (AreSectors (D.tape disk.old).form self.new.catalogue.root_pages) }
+        ensures cause { HasCause cause_of_stop (D.tape disk.old) (D.tape disk.new) result }
+        ensures alone { DiskAlone (D.tape disk.old) (D.tape disk.new) }
+        ensures silent { IsTrue D.told → added (D.tape disk.old) (D.tape disk.new) ≡ [] }
+    {
+        let mut pass = Pass::begin(disk, table)?;
+        while let Some(row) = next_row(disk, table, &mut pass)? {
+            self.turn(&row);
+            self.meet(disk, &row)?;
+        }
+        Ok(())
+    }
 }
 
 /// Appends an item.
@@ -155,12 +172,8 @@ pub fn read_names<D: Disk>(
     ensures alone { DiskAlone (D.tape disk.old) (D.tape disk.new) }
     ensures silent { IsTrue D.told → added (D.tape disk.old) (D.tape disk.new) ≡ [] }
 {
-    let mut pass = Pass::begin(disk, table)?;
     let mut reading = Reading::new(alloc);
-    while let Some(row) = next_row(disk, table, &mut pass)? {
-        reading.turn(&row);
-        reading.meet(disk, &row)?;
-    }
+    reading.read_rows(disk, table)?;
     let Reading { catalogue, .. } = reading;
     Ok(catalogue)
 }

@@ -2,6 +2,7 @@ use Rattle.std.proofs.Common.{◌≡◌, ◌+◌, ◌∙◌, Some, inl, inr, ap,
 use Rattle.std.specs.Prelude.{◌&&◌, not}
 use Rattle.alto_words.specs.Fid.{is_directory, is_fid, sys_dir}
 use Rattle.disk_records.specs.Tapes.{pack}
+use Rattle.disk_records.proofs.Looking.{looks_none}
 use Rattle.scav_pages.specs.declared.files.FileWalk.{FileWalk}
 use Rattle.scav_pages.specs.declared.files.Met.TheVariants.{Copy, Leader, Next, Past}
 use Rattle.scav_pages.specs.Walks.{GoesOn, IsMet, Walked, bytes_met, file_in_hand, pages_met}
@@ -56,3 +57,45 @@ returns-in-Copy-clause-read g c = λ told last h words first.
     let no_next : c.meet.result ≡ Next → ⊥ = λ e. elim c.in-Copy.is [ inl is ↦ (let both : Copy ≡ Next = sym is ∙ e in cc) | inr is ↦ (let both : Past ≡ Next = sym is ∙ e in cc) ] in
     read_other p last c.args.row.now c.args.self.now _ h same words first (c.meet.ensures.walked p last h.walked first) c.meet.ensures.hand c.meet.result (c.meet.ensures.met p last h.walked first) no_leader
     (c.meet.ensures.pages same) (c.meet.ensures.bytes same) (λ next. c.meet.ensures.goes p last h.walked first next) (λ next. absurd (no_next next)) refl refl
+
+pub returns-in-Leader-clause-found : goal.returns-in-Leader-clause-found
+returns-in-Leader-clause-found g c = c.take_file.ensures.found
+
+pub returns-in-Leader-clause-cause : goal.returns-in-Leader-clause-cause
+returns-in-Leader-clause-cause g c = c.take_file.ensures.cause
+
+pub returns-in-Leader-clause-looks : goal.returns-in-Leader-clause-looks
+returns-in-Leader-clause-looks g c = c.take_file.ensures.looks
+
+pub returns-in-Next-clause-found : goal.returns-in-Next-clause-found
+returns-in-Next-clause-found g c = c.take_page.ensures.found
+
+pub returns-in-Next-clause-cause : goal.returns-in-Next-clause-cause
+returns-in-Next-clause-cause g c = c.take_page.ensures.cause
+
+pub returns-in-Next-clause-looks : goal.returns-in-Next-clause-looks
+returns-in-Next-clause-looks g c = c.take_page.ensures.looks
+
+pub returns-in-Next-2-clause-sectors : goal.returns-in-Next-2-clause-sectors
+returns-in-Next-2-clause-sectors g c = λ are. are
+
+pub returns-in-Next-2-clause-found : goal.returns-in-Next-2-clause-found
+returns-in-Next-2-clause-found g c = λ k here astray. cc
+
+pub returns-in-Next-2-clause-cause : goal.returns-in-Next-2-clause-cause
+returns-in-Next-2-clause-cause g c = tt
+
+pub returns-in-Next-2-clause-looks : goal.returns-in-Next-2-clause-looks
+returns-in-Next-2-clause-looks g c = looks_none 1 (g.D.Tape.tape c.args.disk.now)
+
+pub returns-in-Copy-clause-sectors : goal.returns-in-Copy-clause-sectors
+returns-in-Copy-clause-sectors g c = λ are. are
+
+pub returns-in-Copy-clause-found : goal.returns-in-Copy-clause-found
+returns-in-Copy-clause-found g c = λ k here astray. cc
+
+pub returns-in-Copy-clause-cause : goal.returns-in-Copy-clause-cause
+returns-in-Copy-clause-cause g c = tt
+
+pub returns-in-Copy-clause-looks : goal.returns-in-Copy-clause-looks
+returns-in-Copy-clause-looks g c = looks_none 1 (g.D.Tape.tape c.args.disk.now)

@@ -14,6 +14,7 @@ use Rattle.scav_entries.specs.Readings.{MeetsSlots, counted_words}
 use Rattle.scav_pages.proofs.Ranking.{page_ranged}
 use Rattle.scav_pages.proofs.Causing.{cause_of_guarded, cause_of_part}
 use Rattle.scav_entries.proofs.ReadingSlots.{slots_end, slots_more, slots_none}
+use Rattle.scav_entries.proofs.Erring.{found_guarded, found_memory}
 use Rattle.scav_entries.proofs.read.Reading.take_page.Goals as goal
 
 pub shared_ref_as_front-words : goal.shared_ref_as_front-words
@@ -112,3 +113,39 @@ returns-in_err-take-clause-cause g c = cause_of_part Memory c.from_residual-in_e
 
 pub returns-in_err-push-clause-cause : goal.returns-in_err-push-clause-cause
 returns-in_err-push-clause-cause g c = cause_of_part Memory c.from_residual-in_err-push.result c.in_ok-info.ensures.looks.alone (alone_here _) tt c.from_residual-in_err-push.ensures.1
+
+pub returns-in_err-info-clause-looks : goal.returns-in_err-info-clause-looks
+returns-in_err-info-clause-looks g c = c.in_err-info.ensures.looks
+
+pub returns-in_err-info-clause-found : goal.returns-in_err-info-clause-found
+returns-in_err-info-clause-found g c = λ k here astray. found_guarded c.in_err-info.field-0.0 c.from_residual.result (c.in_err-info.ensures.guarded k) here c.from_residual.ensures.1 astray
+
+pub returns-in_err-take-clause-looks : goal.returns-in_err-take-clause-looks
+returns-in_err-take-clause-looks g c = c.in_ok-info.ensures.looks
+
+pub returns-in_err-take-clause-found : goal.returns-in_err-take-clause-found
+returns-in_err-take-clause-found g c = λ k here astray. found_memory c.from_residual-in_err-take.result c.from_residual-in_err-take.ensures.1 astray
+
+pub returns-in_err-push-clause-looks : goal.returns-in_err-push-clause-looks
+returns-in_err-push-clause-looks g c = c.in_ok-info.ensures.looks
+
+pub returns-in_err-push-clause-found : goal.returns-in_err-push-clause-found
+returns-in_err-push-clause-found g c = λ k here astray. found_memory c.from_residual-in_err-push.result c.from_residual-in_err-push.ensures.1 astray
+
+pub returns-in_ok-push-clause-looks : goal.returns-in_ok-push-clause-looks
+returns-in_ok-push-clause-looks g c = c.in_ok-info.ensures.looks
+
+pub returns-in_ok-push-clause-cause : goal.returns-in_ok-push-clause-cause
+returns-in_ok-push-clause-cause g c = tt
+
+pub returns-in_ok-push-clause-found : goal.returns-in_ok-push-clause-found
+returns-in_ok-push-clause-found g c = λ k here astray. cc
+
+pub returns-else-eq-clause-looks : goal.returns-else-eq-clause-looks
+returns-else-eq-clause-looks g c = c.in_ok-info.ensures.looks
+
+pub returns-else-eq-clause-cause : goal.returns-else-eq-clause-cause
+returns-else-eq-clause-cause g c = tt
+
+pub returns-else-eq-clause-found : goal.returns-else-eq-clause-found
+returns-else-eq-clause-found g c = λ k here astray. cc
