@@ -1,8 +1,7 @@
 -- The pages of one file that are in use, and those that no sector carries.
-use Rattle.std.proofs.Common.{◌≡◌, ◌⊎◌, inl, inr, ℕ, zero, suc, ◌+◌, ◌*◌, ◌/◌, ◌<◌, ◌≤◌, nat_lt, Bool, true, false, cond, not, List, length, Option, Some, None, refl, sym, ap, ◌∙◌, arith}
+use Rattle.std.proofs.Common.{◌≡◌, ◌⊎◌, inl, inr, ℕ, zero, suc, ◌+◌, ◌*◌, ◌/◌, ◌<◌, ◌≤◌, nat_lt, Bool, true, false, cond, not, List, length, Option, Some, None, refl, sym, ap, ◌∙◌, lt-ltb, le-ltb, arith}
 use Rattle.std.specs.Option.{is_some}
 use Rattle.std.proofs.lemmas.Bool.{cases_lt}
-use Rattle.std.proofs.lemmas.Bool.Decides.{nat_tests}
 use Rattle.alto_words.specs.declared.fid.Fid.{Fid}
 use Rattle.alto_words.specs.Fid.{disk_descriptor, is_directory, is_fid}
 use Rattle.disk_records.specs.Addresses.{descriptor_length}
@@ -121,15 +120,15 @@ lacks_met p f pages other met = lacks_by_body p f other ∙ lacks_place p f (its
     reaches n e = sym (ap one_if e)
 
     by : (its_end p f < length (file_bytes (sights p) f) / 512) ⊎ (length (file_bytes (sights p) f) / 512 ≤ its_end p f) → PagesMet p f pages → one_if (not (is_some (place (sights p) f (suc (its_end p f))))) ≡ one_if (nat_lt pages (suc (its_end p f)))
-    by (inl less) (open_ended is none) = let few : nat_lt pages (suc (its_end p f)) ≡ false = grind (arith, nat_tests, less, is) in ap (λ b. one_if (not b)) (full_there p f (its_end p f) less) ∙ reaches (suc (its_end p f)) few
-    by (inl less) (closed is there) = let few : nat_lt pages (suc (its_end p f)) ≡ false = grind (arith, nat_tests, less, is) in ap (λ b. one_if (not b)) (full_there p f (its_end p f) less) ∙ reaches (suc (its_end p f)) few
+    by (inl less) (open_ended is none) = let few : nat_lt pages (suc (its_end p f)) ≡ false = le-ltb pages (suc (its_end p f)) (omega (arith, less, is)) in ap (λ b. one_if (not b)) (full_there p f (its_end p f) less) ∙ reaches (suc (its_end p f)) few
+    by (inl less) (closed is there) = let few : nat_lt pages (suc (its_end p f)) ≡ false = le-ltb pages (suc (its_end p f)) (omega (arith, less, is)) in ap (λ b. one_if (not b)) (full_there p f (its_end p f) less) ∙ reaches (suc (its_end p f)) few
     by (inr most) (open_ended is none) =
         let same : its_end p f ≡ length (file_bytes (sights p) f) / 512 = omega (arith, within, most) in
-        let few : nat_lt pages (suc (its_end p f)) ≡ true = grind (arith, nat_tests, same, is) in
+        let few : nat_lt pages (suc (its_end p f)) ≡ true = lt-ltb pages (suc (its_end p f)) (omega (arith, same, is)) in
         ap (λ n. one_if (not (is_some (place (sights p) f (suc n))))) same ∙ ap (λ o. one_if (not (is_some o))) none ∙ sym (ap one_if few)
     by (inr most) (closed is there) =
         let same : its_end p f ≡ length (file_bytes (sights p) f) / 512 = omega (arith, within, most) in
-        let few : nat_lt pages (suc (its_end p f)) ≡ false = grind (arith, nat_tests, same, is) in
+        let few : nat_lt pages (suc (its_end p f)) ≡ false = le-ltb pages (suc (its_end p f)) (omega (arith, same, is)) in
         ap (λ n. one_if (not (is_some (place (sights p) f (suc n))))) same ∙ ap (λ b. one_if (not b)) there ∙ sym (ap one_if few)
 
 -- ---- its number in memory
@@ -147,10 +146,10 @@ last_of_file p f n other isdir is =
 
 -- ---- how many it lacks, in memory
 pub met_fewer : (p : Pack) (f : Fid) (pages last : ℕ) → is_fid f disk_descriptor ≡ false → PagesMet p f pages → last ≡ last_in_use p f → pages < last → 1 ≡ lacking_of p f
-met_fewer p f pages last other met is few = let yes : nat_lt pages (last_in_use p f) ≡ true = grind (arith, nat_tests, is, few) in sym (ap one_if yes) ∙ sym (lacks_met p f pages other met)
+met_fewer p f pages last other met is few = let yes : nat_lt pages (last_in_use p f) ≡ true = lt-ltb pages (last_in_use p f) (omega (arith, is, few)) in sym (ap one_if yes) ∙ sym (lacks_met p f pages other met)
 
 pub met_all : (p : Pack) (f : Fid) (pages last : ℕ) → is_fid f disk_descriptor ≡ false → PagesMet p f pages → last ≡ last_in_use p f → last ≤ pages → 0 ≡ lacking_of p f
-met_all p f pages last other met is few = let no : nat_lt pages (last_in_use p f) ≡ false = grind (arith, nat_tests, is, few) in sym (ap one_if no) ∙ sym (lacks_met p f pages other met)
+met_all p f pages last other met is few = let no : nat_lt pages (last_in_use p f) ≡ false = le-ltb pages (last_in_use p f) (omega (arith, is, few)) in sym (ap one_if no) ∙ sym (lacks_met p f pages other met)
 
 pub lacks_descriptor : (p : Pack) (f : Fid) (shape : Shape) (n : ℕ) → is_fid f disk_descriptor ≡ true → p.shape ≡ shape → n ≡ missing (sights p) disk_descriptor (data_pages shape) → n ≡ lacking_of p f
 lacks_descriptor p f shape n is same number =

@@ -1,7 +1,6 @@
 -- The sectors of DiskDescriptor's pages, as a sweep meets them.
-use Rattle.std.proofs.Common.{◌≡◌, ◌==◌, ◌&&◌, ℕ, zero, suc, ◌+◌, ◌<◌, ◌≤◌, Bool, true, false, cond, IsTrue, List, [], ◌∷◌, ◌++◌, get_or, length, Option, Some, None, refl, sym, ap, ◌∙◌, arith}
+use Rattle.std.proofs.Common.{◌≡◌, ◌==◌, ◌&&◌, ℕ, zero, suc, ◌+◌, ◌<◌, ◌≤◌, Bool, true, false, cond, IsTrue, List, [], ◌∷◌, ◌++◌, get_or, length, Option, Some, None, refl, sym, ap, ◌∙◌, eqb-true, arith}
 use Rattle.std.specs.Option.{option_map_or, option_or}
-use Rattle.std.proofs.lemmas.Bool.Decides.{nat_tests}
 use Rattle.std.proofs.lemmas.List.{get_or_default, length-append}
 use Rattle.alto_words.specs.declared.fid.Fid.{Fid}
 use Rattle.alto_words.specs.Fid.{disk_descriptor}
@@ -48,7 +47,7 @@ noted_more None old new at false is above e = e ∙ ap (λ o. cond (o == 0 && fa
 noted_more (Some i) old new at carries is above e = e ∙ (let low : 1 ≤ i = above i refl in by (old == 0) refl low) ∙ is
   where
     by : (t : Bool) → (old == 0) ≡ t → 1 ≤ i → cond (old == 0 && carries) at old ≡ old
-    by true q low = absurd (grind (arith, nat_tests, q, is, low))
+    by true q low = absurd (let zero = eqb-true old 0 q in omega (arith, zero, is, low))
     by false q low = ap (λ t. cond (t && carries) at old) q
 
 pub noted_next : (rs : List Sight) (old new : List ℕ) (s : Sight) → HaveNoted rs old → NotesPage old (length rs) s new → HaveNoted (rs ++ s ∷ []) new

@@ -1,5 +1,5 @@
 -- All files are counted.
-use Rattle.std.proofs.Common.{◌≡◌, inl, inr, ◌==◌, ◌&&◌, ◌||◌, ℕ, zero, suc, ◌+◌, ◌*◌, ◌/◌, ◌<◌, ◌≤◌, nat_le, Bool, true, false, cond, not, max, min, List, [], ◌∷◌, get_or, length, Option, Some, None, T, refl, sym, ap, ◌∙◌, arith}
+use Rattle.std.proofs.Common.{◌≡◌, inl, inr, ◌==◌, ◌&&◌, ◌||◌, ℕ, zero, suc, ◌+◌, ◌*◌, ◌/◌, ◌<◌, ◌≤◌, nat_le, Bool, true, false, cond, not, max, min, List, [], ◌∷◌, get_or, length, Option, Some, None, T, refl, sym, ap, ◌∙◌, eqb-true, arith}
 use Rattle.std.specs.FinMap.{FinMap, contains_key, entries, entries_sorted, find, get, get-entries, is_sorted, len, len-entries, len-insert}
 use Rattle.std.specs.FinMap.Entries.{below_all, where_key}
 use Rattle.std.specs.Option.{is_some, option_map, option_map_or}
@@ -331,7 +331,7 @@ descriptor_lives p places are = file_lives_in_a_place p disk_descriptor ∙ by (
     by (Some at) e = ap is_some e ∙ sym (ap not (some (get_or places 0 0 == 0) refl (are 0 (omega arith) ∙ ap (λ o. option_map_or (λ at. at) o 0) e) (placed_first p disk_descriptor 0 at e)))
       where
         some : (t : Bool) → (get_or places 0 0 == 0) ≡ t → get_or places 0 0 ≡ at → 1 ≤ at → (get_or places 0 0 == 0) ≡ false
-        some true q here low = absurd (grind (arith, nat_tests, q, here, low))
+        some true q here low = absurd (let zero = eqb-true (get_or places 0 0) 0 q in omega (arith, zero, here, low))
         some false q here low = q
 
 pub descriptor_wanted : (p : Pack) (places : List ℕ) (shape : Shape) (n pages : ℕ) → ArePlaces p places → pages ≡ data_pages shape → n ≡ cond (get_or places 0 0 == 0) (1 + pages) 0 → n ≡ descriptor_lacks shape (sights p)

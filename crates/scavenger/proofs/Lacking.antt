@@ -1,7 +1,6 @@
 -- DiskDescriptor's pages that no sector carries, counted.
-use Rattle.std.proofs.Common.{◌≡◌, ◌≢◌, ◌==◌, ℕ, suc, ◌+◌, ◌-◌, ◌<◌, ◌≤◌, Bool, true, false, not, List, get_or, Option, Some, None, refl, sym, ap, ◌∙◌, arith}
+use Rattle.std.proofs.Common.{◌≡◌, ◌≢◌, ◌==◌, ℕ, suc, ◌+◌, ◌-◌, ◌<◌, ◌≤◌, Bool, true, false, not, List, get_or, Option, Some, None, refl, sym, ap, ◌∙◌, eqb-true, arith}
 use Rattle.std.specs.Option.{is_some, option_map_or}
-use Rattle.std.proofs.lemmas.Bool.Decides.{nat_tests}
 use Rattle.alto_words.specs.Fid.{disk_descriptor}
 use Rattle.disk_records.specs.Packs.{Pack}
 use Rattle.scav_names.specs.pack_laws.proofs.Placing.{no_page, page_of_place}
@@ -26,7 +25,7 @@ lacks_here p places n are few = by (place (sights p) disk_descriptor (suc n)) re
         ap (λ o. one_if (not (is_some o))) (page_of_place (sights p) disk_descriptor n at e).page_is ∙ sym (ap one_if (some (get_or places (suc n) 0 == 0) refl here low))
       where
         some : (t : Bool) → (get_or places (suc n) 0 == 0) ≡ t → get_or places (suc n) 0 ≡ at → 1 ≤ at → (get_or places (suc n) 0 == 0) ≡ false
-        some true q here low = absurd (grind (arith, nat_tests, q, here, low))
+        some true q here low = absurd (let zero = eqb-true (get_or places (suc n) 0) 0 q in omega (arith, zero, here, low))
         some false q here low = q
 
 -- one page more
@@ -51,4 +50,4 @@ one_noted places number k same some = by (get_or places number 0 == 0) refl
   where
     by : (t : Bool) → (get_or places number 0 == 0) ≡ t → one_if (get_or places number 0 == 0) ≡ 0
     by false e = ap one_if e
-    by true e = absurd (some (ap (λ i. get_or places i 0) same ∙ grind (arith, nat_tests, e)))
+    by true e = absurd (some (ap (λ i. get_or places i 0) same ∙ eqb-true (get_or places number 0) 0 e))

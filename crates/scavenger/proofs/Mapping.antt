@@ -1,7 +1,7 @@
 -- The free sectors of a pack, as a sweep meets them.
-use Rattle.std.proofs.Common.{◌≡◌, ◌≢◌, ◌&&◌, ◌==◌, ℕ, zero, suc, ◌<◌, ◌≤◌, nat_lt, Bool, true, false, cond, not, replicate, set, IsTrue, List, [], ◌∷◌, ◌++◌, get_or, length, refl, sym, ap, ◌∙◌, arith}
-use Rattle.std.proofs.lemmas.Bool.Decides.{nat_tests}
+use Rattle.std.proofs.Common.{◌≡◌, ◌≢◌, ◌&&◌, ◌==◌, ℕ, zero, suc, ◌<◌, ◌≤◌, nat_lt, Bool, true, false, cond, not, replicate, set, IsTrue, List, [], ◌∷◌, ◌++◌, get_or, length, refl, sym, ap, ◌∙◌, ltb-true, eqb-true, lt-ltb, arith}
 use Rattle.std.proofs.lemmas.List.{get_or-map, get_or-replicate, get_or-set_other, get_or-set_same, get_or_default, length-map, length-replicate, length-set, same_lists}
+use borrow.Author.Tests.{eqb-false}
 use Rattle.disk_records.specs.Addresses.{pages_of}
 use Rattle.disk_records.specs.Tapes.{Taped, pack}
 use Rattle.label_sweep.specs.Swept.{Swept}
@@ -36,7 +36,7 @@ marked_next : (end : ℕ) (rs : List Sight) (old new : List Bool) (s : Sight) �
 marked_next end rs old new s h step = by (is_free_sight s && nat_lt (length rs) (length old)) refl step
   where
     kept : (i : ℕ) → i < end → (i == length rs) ≡ false → get_or old i true ≡ not (is_free_sight (get_or (rs ++ s ∷ []) i hidden))
-    kept i few apart = h.each i few ∙ ap (λ x. not (is_free_sight x)) (sym ((push_at rs s i).1 (grind (arith, nat_tests, apart))))
+    kept i few apart = h.each i few ∙ ap (λ x. not (is_free_sight x)) (sym ((push_at rs s i).1 (eqb-false i (length rs) apart)))
 
     by : (t : Bool) → (is_free_sight s && nat_lt (length rs) (length old)) ≡ t → new ≡ cond t (set old (length rs) false) old → HaveMarked end (rs ++ s ∷ []) new
     by true q is = record {
@@ -55,17 +55,17 @@ marked_next end rs old new s h step = by (is_free_sight s && nat_lt (length rs) 
         within = right (is_free_sight s) (nat_lt (length rs) (length old)) q refl
           where
             right : (a b : Bool) → (a && b) ≡ true → nat_lt (length rs) (length old) ≡ b → length rs < length old
-            right true true e z = grind (arith, nat_tests, z)
+            right true true e z = ltb-true (length rs) (length old) z
             right true false e z = absurd cc
             right false b e z = absurd cc
 
         at : (i : ℕ) → i < end → (t : Bool) → (i == length rs) ≡ t → get_or new i true ≡ not (is_free_sight (get_or (rs ++ s ∷ []) i hidden))
         at i few true e =
-            let same : i ≡ length rs = grind (arith, nat_tests, e) in
+            let same : i ≡ length rs = eqb-true i (length rs) e in
             ap (λ l. get_or l i true) is ∙ ap (λ k. get_or (set old (length rs) false) k true) same ∙ get_or-set_same old (length rs) false true within
             ∙ sym (ap (λ x. not (is_free_sight x)) ((push_at rs s i).0 same) ∙ ap not free_is)
         at i few false e =
-            let other : i ≢ length rs = grind (arith, nat_tests, e) in
+            let other : i ≢ length rs = eqb-false i (length rs) e in
             ap (λ l. get_or l i true) is ∙ get_or-set_other old (length rs) i false true other ∙ kept i few e
     by false q is = record {
       size = ap length is ∙ h.size;
@@ -73,7 +73,7 @@ marked_next end rs old new s h step = by (is_free_sight s && nat_lt (length rs) 
     }
       where
         busy : (i : ℕ) → i < end → i ≡ length rs → not (is_free_sight (get_or rs i hidden)) ≡ not (is_free_sight s)
-        busy i few same = ap (λ x. not (is_free_sight x)) (past rs i (omega (arith, same))) ∙ sym (ap not (no (is_free_sight s) (nat_lt (length rs) (length old)) q (let size = h.size in grind (arith, nat_tests, size, same, few))))
+        busy i few same = ap (λ x. not (is_free_sight x)) (past rs i (omega (arith, same))) ∙ sym (ap not (no (is_free_sight s) (nat_lt (length rs) (length old)) q (lt-ltb (length rs) (length old) (let size = h.size in omega (arith, size, same, few)))))
           where
             no : (a b : Bool) → (a && b) ≡ false → b ≡ true → a ≡ false
             no true true e z = e
@@ -82,7 +82,7 @@ marked_next end rs old new s h step = by (is_free_sight s && nat_lt (length rs) 
 
         at : (i : ℕ) → i < end → (t : Bool) → (i == length rs) ≡ t → get_or new i true ≡ not (is_free_sight (get_or (rs ++ s ∷ []) i hidden))
         at i few true e =
-            let same : i ≡ length rs = grind (arith, nat_tests, e) in
+            let same : i ≡ length rs = eqb-true i (length rs) e in
             ap (λ l. get_or l i true) is ∙ h.each i few ∙ busy i few same ∙ sym (ap (λ x. not (is_free_sight x)) ((push_at rs s i).0 same))
         at i few false e = ap (λ l. get_or l i true) is ∙ kept i few e
 

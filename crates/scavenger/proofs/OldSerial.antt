@@ -1,5 +1,5 @@
 -- The last serial that the old DiskDescriptor says.
-use Rattle.std.proofs.Common.{◌≡◌, ◌⊎◌, inl, inr, ◌==◌, ◌&&◌, ◌||◌, ℕ, ◌+◌, ◌*◌, ◌/◌, ◌%◌, ◌<◌, ◌≤◌, nat_le, Bool, true, false, cond, List, length, Some, refl, sym, ap, ◌∙◌, arith}
+use Rattle.std.proofs.Common.{◌≡◌, ◌⊎◌, inl, inr, ◌==◌, ◌&&◌, ◌||◌, ℕ, ◌+◌, ◌*◌, ◌/◌, ◌%◌, ◌<◌, ◌≤◌, nat_le, Bool, true, false, cond, List, length, Some, refl, sym, ap, ◌∙◌, eqb-true, le-leb, arith}
 use Rattle.std.proofs.lemmas.Bool.Decides.{nat_tests}
 use Rattle.std.proofs.lemmas.List.{get_or-take}
 use Rattle.alto_words.specs.Fid.{disk_descriptor}
@@ -61,7 +61,7 @@ module _ (p : Pack) (words : List ℕ) (are : AreFirstWords p words) where
       by : (t : Bool) → (length (file_bytes (sights p) disk_descriptor) == 32 + 2 * map_words drives shape) ≡ t
           → (t && word (descriptor_words (sights p)) 0 == drives && word (descriptor_words (sights p)) 1 == cylinders_of shape && word (descriptor_words (sights p)) 2 == 2 && word (descriptor_words (sights p)) 3 == 12 && word (descriptor_words (sights p)) 8 == map_words drives shape) ≡ true
           → 32 ≤ length (file_bytes (sights p) disk_descriptor)
-      by true q h = let sized : length (file_bytes (sights p) disk_descriptor) ≡ 32 + 2 * map_words drives shape = grind (arith, nat_tests, q) in omega (arith, sized)
+      by true q h = let sized : length (file_bytes (sights p) disk_descriptor) ≡ 32 + 2 * map_words drives shape = eqb-true (length (file_bytes (sights p) disk_descriptor)) (32 + 2 * map_words drives shape) q in omega (arith, sized)
       by false q h = absurd cc
 
   -- the last serial in its words
@@ -73,7 +73,7 @@ module _ (p : Pack) (words : List ℕ) (are : AreFirstWords p words) where
       let many = many_words enough in
       let high = said_word enough 4 (omega arith) in
       let low = said_word enough 5 (omega arith) in
-      let there : nat_le 6 (length (descriptor_words (sights p))) ≡ true = grind (arith, nat_tests, many) in
+      let there : nat_le 6 (length (descriptor_words (sights p))) ≡ true = le-leb 6 (length (descriptor_words (sights p))) (omega (arith, many)) in
       let sum : last ≡ double (descriptor_words (sights p)) 4 = omega (arith, says, high, low) in
       sum ∙ sym (ap (λ t. cond t (double (descriptor_words (sights p)) 4) 0) there)
       ∙ sym (ap (λ t. cond t (last_serial (descriptor_words (sights p))) 0) ((λ i. sym first i || sym second i) ∙ some))

@@ -1,9 +1,9 @@
 -- The mark is opened.
-use Rattle.std.proofs.Common.{◌≡◌, ◌≢◌, ◌&&◌, ◌==◌, ℕ, suc, ◌+◌, nat_le, nat_lt, Bool, true, false, not, set, List, [], ◌∷◌, ◌++◌, get_or, length, OnOk, Some, Result, Ok, Err, refl, sym, ap, subst, ◌∙◌, arith}
+use Rattle.std.proofs.Common.{◌≡◌, ◌≢◌, ◌&&◌, ◌==◌, ℕ, suc, ◌+◌, nat_le, nat_lt, Bool, true, false, not, set, List, [], ◌∷◌, ◌++◌, get_or, length, OnOk, Some, Result, Ok, Err, refl, sym, ap, subst, ◌∙◌, eqb-true, arith}
 use Rattle.std.specs.FinMap.{entries, get}
-use Rattle.std.proofs.lemmas.Bool.Decides.{nat_tests}
 use Rattle.std.proofs.lemmas.List.{get_or-set_other, get_or-set_same, length-set}
 use Rattle.std.specs.Option.{is_some}
+use borrow.Author.Tests.{eqb-false}
 use Rattle.disk_records.specs.Addresses.{is_right_header}
 use Rattle.alto_words.specs.declared.fid.Fid.{Fid}
 use Rattle.alto_words.specs.Fid.{disk_descriptor, is_fid}
@@ -112,13 +112,13 @@ module _ (p : Pack) (at : ℕ) (value : List ℕ) (here : carried p at ≡ Some 
     where
       by : (t : Bool) → (i == at) ≡ t → IsAlike (get_or (sights p) i hidden) (get_or (sights written) i hidden)
       by true e =
-          let same : i ≡ at = grind (arith, nat_tests, e) in
+          let same : i ≡ at = eqb-true i at e in
           subst (λ k. IsAlike (get_or (sights p) k hidden) (get_or (sights written) k hidden)) (sym same)
           (subst (λ s. IsAlike s (get_or (sights written) at hidden)) (sym (carried_sight p at (record { fid = disk_descriptor; number = 1 }) here))
           (subst (λ s. IsAlike (page_sight disk_descriptor 1 (tag (sector_at p at).label).bytes (sector_at p at).value) s) (sym (carried_sight written at (record { fid = disk_descriptor; number = 1 }) there))
           (alike_pages disk_descriptor 0 (tag (sector_at p at).label).bytes (tag (sector_at written at).label).bytes (sector_at p at).value (sector_at written at).value)))
       by false e =
-          let other : i ≢ at = grind (arith, nat_tests, e) in
+          let other : i ≢ at = eqb-false i at e in
           subst (λ s. IsAlike (get_or (sights p) i hidden) s) (sym (ap (λ ss. get_or ss i hidden) (sights-write p at 2 value) ∙ get_or-set_other (sights p) at i (sight p.shape at (with_part 2 value (sector_at p at))) hidden other)) (alike_itself (get_or (sights p) i hidden))
 
   freed_as : freed_sectors p.shape (sights written) ≡ freed_sectors p.shape (sights p)

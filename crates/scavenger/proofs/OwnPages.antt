@@ -1,10 +1,10 @@
 -- DiskDescriptor's pages in memory are those of the pack.
-use Rattle.std.proofs.Common.{◌≡◌, ◌==◌, ◌||◌, ℕ, zero, suc, ◌+◌, ◌<◌, ◌≤◌, Bool, true, false, List, [], ◌∷◌, ◌++◌, drop, get_or, length, reverse, take, OnOk, Some, Result, Ok, Err, refl, sym, ap, subst, ◌∙◌, arith}
+use Rattle.std.proofs.Common.{◌≡◌, ◌==◌, ◌||◌, ℕ, zero, suc, ◌+◌, ◌<◌, ◌≤◌, Bool, true, false, List, [], ◌∷◌, ◌++◌, drop, get_or, length, reverse, take, OnOk, Some, Result, Ok, Err, refl, sym, ap, subst, ◌∙◌, eqb-true, arith}
 use Rattle.std.specs.List.{list_any}
 use Rattle.std.specs.Option.{option_map_or}
-use Rattle.std.proofs.lemmas.Bool.Decides.{nat_tests}
 use Rattle.std.proofs.lemmas.Grind.{same_number_lists}
 use Rattle.std.proofs.lemmas.List.{get_or-drop, get_or-take, length-drop, length-take}
+use borrow.Author.Tests.{eqb-false}
 use Rattle.alto_words.specs.Fid.{disk_descriptor}
 use Rattle.disk_descriptor.specs.Fields.{AreSectors}
 use Rattle.disk_records.specs.Addresses.{pages_of}
@@ -58,7 +58,7 @@ none_zero (x ∷ xs) none zero d few = by (x == 0) refl none
   where
     by : (t : Bool) → (x == 0) ≡ t → (t || list_any (λ y. y == 0) xs) ≡ false → 1 ≤ x
     by true q h = absurd cc
-    by false q h = grind (arith, nat_tests, q)
+    by false q h = (let some = eqb-false x 0 q in omega (arith, some))
 none_zero (x ∷ xs) none (suc k) d few = none_zero xs (right (x == 0) (list_any (λ y. y == 0) xs) none) k d (omega arith)
   where
     right : (a b : Bool) → (a || b) ≡ false → b ≡ false
@@ -70,7 +70,7 @@ some_zero [] each = refl
 some_zero (x ∷ xs) each = by (x == 0) refl (each 0 (omega arith)) (some_zero xs (λ k few. each (suc k) (omega arith)))
   where
     by : (t : Bool) → (x == 0) ≡ t → 1 ≤ x → list_any (λ y. y == 0) xs ≡ false → (t || list_any (λ y. y == 0) xs) ≡ false
-    by true q low rest = absurd (grind (arith, nat_tests, q, low))
+    by true q low rest = absurd (let zero = eqb-true x 0 q in omega (arith, zero, low))
     by false q low rest = rest
 
 pub all_sectors : (shape : Shape) (n : ℕ) (places : List ℕ) → n ≤ 5 → AreWithin (pages_of shape) places → length places ≡ 6 → list_any (λ y. y == 0) (mine n places) ≡ false → AreSectors shape (mine n places)

@@ -1,6 +1,6 @@
 -- Which refusal comes first.
-use Rattle.std.proofs.Common.{◌≡◌, ℕ, zero, suc, ◌+◌, ◌-◌, ◌<◌, ◌≤◌, nat_le, Bool, true, false, cond, not, List, [], ◌∷◌, get_or, length, Some, None, refl, sym, ap, ◌∙◌, arith}
-use Rattle.std.proofs.lemmas.Bool.Decides.{nat_tests}
+use Rattle.std.proofs.Common.{◌≡◌, ℕ, zero, suc, ◌+◌, ◌-◌, ◌<◌, ◌≤◌, nat_le, Bool, true, false, cond, not, List, [], ◌∷◌, get_or, length, Some, None, refl, sym, ap, ◌∙◌, le-leb, arith}
+use borrow.Author.Tests.{lt-leb}
 use Rattle.disk_records.specs.Addresses.{is_right_header, pages_of}
 use Rattle.disk_records.specs.Labels.{Tag, in_range, is_free, tag}
 use Rattle.disk_records.specs.Packs.{Pack, sector_at}
@@ -50,12 +50,12 @@ module _ (p : Pack) where
 
   pub first_full : is_good (get_or (sights p) 1 hidden) ≡ true → root_stands p.shape (sights p) (get_or (sights p) 1 hidden) ≡ true → (n m : ℕ) → n ≡ needed p.shape (sights p) → m ≡ available p.shape (sights p) → m < n → Some (pack_full n m) ≡ first_refusal p
   first_full e r n m a b less =
-      let no : nat_le (needed p.shape (sights p)) (available p.shape (sights p)) ≡ false = grind (arith, nat_tests, a, b, less) in
+      let no : nat_le (needed p.shape (sights p)) (available p.shape (sights p)) ≡ false = lt-leb (needed p.shape (sights p)) (available p.shape (sights p)) (omega (arith, a, b, less)) in
       (λ i. Some (pack_full (a i) (b i))) ∙ sym (after_stands e r ∙ ap (λ t. cond t None (Some (pack_full (needed p.shape (sights p)) (available p.shape (sights p))))) no)
 
   pub first_none : is_good (get_or (sights p) 1 hidden) ≡ true → root_stands p.shape (sights p) (get_or (sights p) 1 hidden) ≡ true → (n m : ℕ) → n ≡ needed p.shape (sights p) → m ≡ available p.shape (sights p) → n ≤ m → None ≡ first_refusal p
   first_none e r n m a b few =
-      let yes : nat_le (needed p.shape (sights p)) (available p.shape (sights p)) ≡ true = grind (arith, nat_tests, a, b, few) in
+      let yes : nat_le (needed p.shape (sights p)) (available p.shape (sights p)) ≡ true = le-leb (needed p.shape (sights p)) (available p.shape (sights p)) (omega (arith, a, b, few)) in
       sym (after_stands e r ∙ ap (λ t. cond t None (Some (pack_full (needed p.shape (sights p)) (available p.shape (sights p))))) yes)
 
 -- ---- the available sectors

@@ -1,6 +1,5 @@
 -- A scavenge that a line of a session asks for, as the turn over that line.
-use Rattle.std.proofs.Common.{◌≡◌, ℕ, zero, suc, nat_lt, Bool, true, false, List, [], ◌∷◌, length, Some, None, Result, Ok, Err, OnOk, IfOk, refl, sym, ap, subst, ◌∙◌, append-nil, arith}
-use Rattle.std.proofs.lemmas.Bool.Decides.{nat_tests}
+use Rattle.std.proofs.Common.{◌≡◌, ℕ, zero, suc, nat_lt, Bool, true, false, List, [], ◌∷◌, length, Some, None, Result, Ok, Err, OnOk, IfOk, refl, sym, ap, subst, ◌∙◌, append-nil, ltb-true, arith}
 use Rattle.std.specs.Option.{option_or}
 use Rattle.disk_records.specs.declared.records.Event.{Event}
 use Rattle.disk_records.specs.declared.records.Event.TheVariants.{Wrote}
@@ -160,7 +159,7 @@ room_for_none n r = ap (λ b. unless_refused (option_or (when b r) None) true fa
   where
     by : (b : Bool) → nat_lt n 0 ≡ b → nat_lt n 0 ≡ false
     by false is = is
-    by true is = absurd (grind (arith, nat_tests, is))
+    by true is = absurd (let less = ltb-true n 0 is in omega (arith, less))
 
 is_asked : (p : Pack) (moment : ℕ) → asks_scavenge (opening p moment) (typed line.Scavenge) ≡ true
 unfolding first

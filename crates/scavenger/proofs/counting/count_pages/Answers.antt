@@ -1,4 +1,4 @@
-use Rattle.std.proofs.Common.{◌≡◌, IsTrue, Some, None, IfSome, ap, sym, subst, ◌∙◌, rules}
+use Rattle.std.proofs.Common.{◌≡◌, ◌<◌, IsTrue, Some, None, IfSome, ap, sym, subst, ◌∙◌, rules}
 use Rattle.std.specs.Option.{option_or}
 use Rattle.disk_records.specs.Addresses.{pages_of}
 use Rattle.disk_records.specs.Packs.{Pack, carried, sector_at}
@@ -6,8 +6,10 @@ use Rattle.disk_records.specs.Tapes.{pack}
 use Rattle.disk_records.proofs.Looking.{looks_pack}
 use Rattle.disk_records.proofs.Growing.{alone_here, alone_twice, length-pack, pack-silent, silent_twice}
 use Rattle.scav_table.specs.Laws.{IsFirstAbove, IsNextRow}
+use Rattle.scav_table.specs.Passes.{IsNext}
 use Rattle.scav_pages.specs.Directories.{IsReadTo}
 use Rattle.scav_pages.specs.Walks.{AreWords, IsOtherFile, file_in_hand}
+use Rattle.scav_pages.proofs.Ahead.{ahead, ahead_falls}
 use Rattle.scav_pages.proofs.Passing.{carried_row, contrary, stands_same}
 use Rattle.scav_pages.proofs.Causing.{cause_of_part, cause_of_swept}
 use Rattle.scavenger.proofs.CountPass.{CountedTo, MayMeet, counted_meet, met_last, met_left, met_same, met_start}
@@ -97,3 +99,32 @@ returns-in_err-row-clause-cause g c = cause_of_part c.in_err-row.field-0.0 c.fro
 
 pub returns-in_err-meet_page-clause-cause : goal.returns-in_err-meet_page-clause-cause
 returns-in_err-meet_page-clause-cause g c = cause_of_part c.in_err-meet_page.field-0.0 c.from_residual-in_err-meet_page.result (alone_twice c.loop-row.invariant.alone c.in_ok-row.ensures.looks.alone) c.in_err-meet_page.ensures.looks.alone c.in_err-meet_page.ensures.cause c.from_residual-in_err-meet_page.ensures.1
+
+pub returns-in_err-system-clause-alone : goal.returns-in_err-system-clause-alone
+returns-in_err-system-clause-alone g c = c.in_err-system.ensures.looks.alone
+
+pub returns-in_err-system-clause-silent : goal.returns-in_err-system-clause-silent
+returns-in_err-system-clause-silent g c = c.in_err-system.ensures.looks.silent
+
+pub returns-in_err-pass-clause-silent : goal.returns-in_err-pass-clause-silent
+returns-in_err-pass-clause-silent g c = λ told. silent_twice c.in_ok-system.ensures.looks.alone.grown c.in_err-pass.ensures.looks.alone.grown (c.in_ok-system.ensures.looks.silent told) (c.in_err-pass.ensures.looks.silent told)
+
+pub returns-in_err-row-clause-silent : goal.returns-in_err-row-clause-silent
+returns-in_err-row-clause-silent g c = λ told. silent_twice c.loop-row.invariant.alone.grown c.in_err-row.ensures.looks.alone.grown (c.loop-row.invariant.silent told) (c.in_err-row.ensures.looks.silent told)
+
+pub returns-in_err-meet_page-clause-silent : goal.returns-in_err-meet_page-clause-silent
+returns-in_err-meet_page-clause-silent g c = λ told. silent_twice (alone_twice c.loop-row.invariant.alone c.in_ok-row.ensures.looks.alone).grown c.in_err-meet_page.ensures.looks.alone.grown (silent_twice c.loop-row.invariant.alone.grown c.in_ok-row.ensures.looks.alone.grown (c.loop-row.invariant.silent told) (c.in_ok-row.ensures.looks.silent told)) (c.in_err-meet_page.ensures.looks.silent told)
+
+pub returns-clause-found : goal.returns-clause-found
+returns-clause-found g c = λ told astray. cc
+
+pub returns-clause-cause : goal.returns-clause-cause
+returns-clause-cause g c = tt
+
+pub returns-clause-silent : goal.returns-clause-silent
+returns-clause-silent g c = λ told. silent_twice c.loop-row.invariant.alone.grown c.in_ok-row.ensures.looks.alone.grown (c.loop-row.invariant.silent told) (c.in_ok-row.ensures.looks.silent told)
+
+pub loop-row-smaller : goal.loop-row-smaller
+loop-row-smaller g c =
+    let last_is : c.next_row.new.pass.last ≡ Some c.in-Some.row = c.in_ok-row.ensures.last ∙ ap (λ o. option_or o c.loop-row.pass.last) c.in-Some.is in
+    subst (λ l. ahead l < ahead c.loop-row.pass.last) (sym last_is) (ahead_falls c.loop-row.pass.last c.in-Some.row (subst (IsNext c.loop-row.pass.last) c.in-Some.is c.in_ok-row.ensures.rises))

@@ -85,3 +85,18 @@ returns-clause-cause g c =
     let now = g.D.Tape.tape c.write_pages.new.disk in
     cause_sooner {T = Unit {0}} (g.D.Tape.tape c.args.disk.now) here now (Err c.stop_of_write.result) c.in_ok-map.ensures.looks.alone.grown
     (subst (λ s. IsCause here now (cause_of_stop s)) (sym c.stop_of_write.ensures) (cause_of_write here now c.in-Err.error c.in-Err.ensures.cause))
+
+pub returns-in_err-map-clause-alone : goal.returns-in_err-map-clause-alone
+returns-in_err-map-clause-alone g c = c.in_err-map.ensures.looks.alone
+
+pub returns-then-contains-clause-cause : goal.returns-then-contains-clause-cause
+returns-then-contains-clause-cause g c = tt
+
+pub returns-then-contains-clause-alone : goal.returns-then-contains-clause-alone
+returns-then-contains-clause-alone g c = c.in_ok-map.ensures.looks.alone
+
+pub returns-in-Ok-clause-found : goal.returns-in-Ok-clause-found
+returns-in-Ok-clause-found g c = λ told pages in_it astray. cc
+
+pub returns-in-Ok-clause-cause : goal.returns-in-Ok-clause-cause
+returns-in-Ok-clause-cause g c = tt

@@ -38,3 +38,15 @@ returns-in_err-read_page-clause-cause g c = cause_of_guarded c.in_err-read_page.
 
 pub returns-in_err-write_value-clause-cause : goal.returns-in_err-write_value-clause-cause
 returns-in_err-write_value-clause-cause g c = cause_of_guarded c.in_err-write_value.field-0.0 c.from_residual-in_err-write_value.result c.in_ok-read_page.ensures.looks.alone c.in_err-write_value.ensures.alone c.in_err-write_value.ensures.cause c.from_residual-in_err-write_value.ensures.1
+
+pub returns-then-at-eq0-clause-cause : goal.returns-then-at-eq0-clause-cause
+returns-then-at-eq0-clause-cause g c = tt
+
+pub returns-then-at-eq0-clause-alone : goal.returns-then-at-eq0-clause-alone
+returns-then-at-eq0-clause-alone g c = alone_here _
+
+pub returns-in_err-read_page-clause-alone : goal.returns-in_err-read_page-clause-alone
+returns-in_err-read_page-clause-alone g c = c.in_err-read_page.ensures.looks.alone
+
+pub returns-clause-cause : goal.returns-clause-cause
+returns-clause-cause g c = tt

@@ -10,7 +10,7 @@ use Rattle.pack_model.specs.scavenger.Scavenging.Refusal.{root_bad, root_taken}
 use Rattle.pack_model.specs.states.InUse.{available, is_good}
 use Rattle.pack_model.specs.scavenger.Needed.{needed, root_widens}
 use Rattle.disk_records.proofs.Looking.{looks_pack}
-use Rattle.disk_records.proofs.Growing.{alone_here, alone_twice, length-pack}
+use Rattle.disk_records.proofs.Growing.{alone_here, alone_twice, length-pack, silent_twice}
 use Rattle.scav_pages.specs.declared.errors.Stop.TheVariants.{Memory}
 use Rattle.scav_pages.proofs.Causing.{cause_of_looked, cause_of_part}
 use Rattle.scav_entries.specs.Catalogues.{HoldsNames}
@@ -106,3 +106,69 @@ returns-in_err-names-clause-cause g c = cause_of_part c.in_err-names.field-0.0 c
 
 pub returns-in_err-more-clause-cause : goal.returns-in_err-more-clause-cause
 returns-in_err-more-clause-cause g c = cause_of_part Memory c.from_residual-in_err-more.result (alone_twice c.in_ok-look.ensures.looks.alone c.in_ok-names.ensures.alone) (alone_here _) tt c.from_residual-in_err-more.ensures.1
+
+pub returns-in_err-look-clause-alone : goal.returns-in_err-look-clause-alone
+returns-in_err-look-clause-alone g c = c.in_err-look.ensures.looks.alone
+
+pub returns-in_err-look-clause-silent : goal.returns-in_err-look-clause-silent
+returns-in_err-look-clause-silent g c = c.in_err-look.ensures.looks.silent
+
+pub returns-then-not-branch-clause-refusal : goal.returns-then-not-branch-clause-refusal
+returns-then-not-branch-clause-refusal g c = tt
+
+pub returns-then-not-branch-clause-found : goal.returns-then-not-branch-clause-found
+returns-then-not-branch-clause-found g c = λ told astray. cc
+
+pub returns-then-not-branch-clause-cause : goal.returns-then-not-branch-clause-cause
+returns-then-not-branch-clause-cause g c = tt
+
+pub returns-then-not-branch-clause-alone : goal.returns-then-not-branch-clause-alone
+returns-then-not-branch-clause-alone g c = c.in_ok-look.ensures.looks.alone
+
+pub returns-then-not-branch-clause-silent : goal.returns-then-not-branch-clause-silent
+returns-then-not-branch-clause-silent g c = c.in_ok-look.ensures.looks.silent
+
+pub returns-then-counts-clause-refusal : goal.returns-then-counts-clause-refusal
+returns-then-counts-clause-refusal g c = tt
+
+pub returns-then-counts-clause-found : goal.returns-then-counts-clause-found
+returns-then-counts-clause-found g c = λ told astray. cc
+
+pub returns-then-counts-clause-cause : goal.returns-then-counts-clause-cause
+returns-then-counts-clause-cause g c = tt
+
+pub returns-then-counts-clause-alone : goal.returns-then-counts-clause-alone
+returns-then-counts-clause-alone g c = c.in_ok-look.ensures.looks.alone
+
+pub returns-then-counts-clause-silent : goal.returns-then-counts-clause-silent
+returns-then-counts-clause-silent g c = c.in_ok-look.ensures.looks.silent
+
+pub returns-in_err-names-clause-silent : goal.returns-in_err-names-clause-silent
+returns-in_err-names-clause-silent g c = λ told. silent_twice c.in_ok-look.ensures.looks.alone.grown c.in_err-names.ensures.alone.grown (c.in_ok-look.ensures.looks.silent told) (c.in_err-names.ensures.silent told)
+
+pub returns-in_err-more-clause-silent : goal.returns-in_err-more-clause-silent
+returns-in_err-more-clause-silent g c = λ told. silent_twice c.in_ok-look.ensures.looks.alone.grown c.in_ok-names.ensures.alone.grown (c.in_ok-look.ensures.looks.silent told) (c.in_ok-names.ensures.silent told)
+
+pub returns-then-needed-free-clause-refusal : goal.returns-then-needed-free-clause-refusal
+returns-then-needed-free-clause-refusal g c = tt
+
+pub returns-then-needed-free-clause-found : goal.returns-then-needed-free-clause-found
+returns-then-needed-free-clause-found g c = λ told astray. cc
+
+pub returns-then-needed-free-clause-cause : goal.returns-then-needed-free-clause-cause
+returns-then-needed-free-clause-cause g c = tt
+
+pub returns-then-needed-free-clause-silent : goal.returns-then-needed-free-clause-silent
+returns-then-needed-free-clause-silent g c = λ told. silent_twice c.in_ok-look.ensures.looks.alone.grown c.in_ok-names.ensures.alone.grown (c.in_ok-look.ensures.looks.silent told) (c.in_ok-names.ensures.silent told)
+
+pub returns-clause-refusal : goal.returns-clause-refusal
+returns-clause-refusal g c = tt
+
+pub returns-clause-found : goal.returns-clause-found
+returns-clause-found g c = λ told astray. cc
+
+pub returns-clause-cause : goal.returns-clause-cause
+returns-clause-cause g c = tt
+
+pub returns-clause-silent : goal.returns-clause-silent
+returns-clause-silent g c = λ told. silent_twice c.in_ok-look.ensures.looks.alone.grown c.in_ok-names.ensures.alone.grown (c.in_ok-look.ensures.looks.silent told) (c.in_ok-names.ensures.silent told)

@@ -86,3 +86,6 @@ returns-in_err-adopted-clause-cause g c = cause_of_unswept c.in_err-adopted.fiel
 
 pub returns-in_err-describe-clause-cause : goal.returns-in_err-describe-clause-cause
 returns-in_err-describe-clause-cause g c = cause_of_stopped c.in_err-describe.field-0.0 c.from_residual-in_err-describe.result (alone_twice (alone_twice c.in_ok-open_mark.ensures.alone c.in_ok-freed.ensures.alone) c.in_ok-adopted.ensures.alone) c.in_err-describe.ensures.alone c.in_err-describe.ensures.cause c.from_residual-in_err-describe.ensures.1
+
+pub returns-in_err-open_mark-clause-alone : goal.returns-in_err-open_mark-clause-alone
+returns-in_err-open_mark-clause-alone g c = c.in_err-open_mark.ensures.alone

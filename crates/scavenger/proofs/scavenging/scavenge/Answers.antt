@@ -83,3 +83,6 @@ returns-in_err-refusal-clause-scavenges g c = λ told.
     let quiet = silent_twice c.in_ok-table.ensures.looks.alone.grown c.in_ok-counts.ensures.alone.grown (c.in_ok-table.ensures.looks.silent told) (c.in_ok-counts.ensures.silent told) in
     let all = silent_twice before.grown c.in_err-refusal.ensures.alone.grown quiet (c.in_err-refusal.ensures.silent told) in
     stops_none (error_of_stop c.in_err-refusal.field-0.0) c.from_residual-in_err-refusal.result c.from_residual-in_err-refusal.ensures.1 all (of_stop c.in_err-refusal.field-0.0)
+
+pub returns-in_err-table-clause-alone : goal.returns-in_err-table-clause-alone
+returns-in_err-table-clause-alone g c = c.in_err-table.ensures.looks.alone

@@ -31,3 +31,12 @@ returns-in_err-places-clause-cause g c = cause_of_part c.in_err-places.field-0.0
 
 pub returns-in_err-words-clause-cause : goal.returns-in_err-words-clause-cause
 returns-in_err-words-clause-cause g c = cause_of_part c.in_err-words.field-0.0 c.from_residual-in_err-words.result (alone_twice c.in_ok-first.ensures.looks.alone c.in_ok-places.ensures.looks.alone) c.in_err-words.ensures.looks.alone c.in_err-words.ensures.cause c.from_residual-in_err-words.ensures.1
+
+pub returns-clause-want : goal.returns-clause-want
+returns-clause-want g c = λ told memory. cc
+
+pub returns-clause-found : goal.returns-clause-found
+returns-clause-found g c = λ told astray. cc
+
+pub returns-clause-cause : goal.returns-clause-cause
+returns-clause-cause g c = tt
