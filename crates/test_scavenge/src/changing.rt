@@ -2,18 +2,32 @@
 ghost use Rattle.std.specs.Prelude.{[], false};
 ghost use Rattle.std.proofs.lemmas.Bool.{false≢true};
 
+use crate::calling::{expect, shape_of};
 use disk_records::{
     Act, Disk, DiskError, Plan, Sector, Shape, Tape, first_mismatch, update_memory,
 };
+use scav_pages::{Stop, mend_pages, mend_pages_or_stop};
+use scav_table::{Table, sweep};
 use scavenger::{ScavError, scavenge};
+use std::alloc::Global;
 use std::test::Fail;
 
-/// A disk that isn't modelled. While it changes it is as if another process had written each sector just before its label is written.
+/// When another process seems to have written a sector.
+#[derive(Drop)]
+enum Change {
+    Never,
+    /// Just before its label is written.
+    BeforeWrite,
+    /// Just before it is checked.
+    BeforeCheck,
+}
+
+/// A disk that isn't modelled, as if another process wrote there meanwhile. It never fails, and is never out of memory.
 #[derive(Drop)]
 struct Changing {
     shape: Shape,
     sectors: Vec<Sector>,
-    changes: bool,
+    change: Change,
 }
 
 impl Tape for Changing {
@@ -34,7 +48,11 @@ impl Disk for Changing {
     }
 
     fn run(&mut self, at: u16, plan: Plan, buf: &mut Sector) -> Result<(), DiskError> {
-        let changed = self.changes && plan.label == Act::Write;
+        let changed = match self.change {
+            Change::Never => false,
+            Change::BeforeWrite => plan.label == Act::Write,
+            Change::BeforeCheck => true,
+        };
         let Some(sector) = self.sectors.get_mut(usize::from(at)) else {
             return Err(DiskError::Memory);
         };
@@ -58,29 +76,63 @@ impl Disk for Changing {
     ghost formed = { λ d told. absurd (false≢true told) };
 }
 
+/// The sectors of a pack, each with this label.
+fn push_sectors(sectors: &mut Vec<Sector>, shape: Shape, label: [u16; 8]) -> Result<(), Fail> {
+    for at in 0..shape.pages() {
+        let mut sector = Sector::ZEROS;
+        sector.header = [1, shape.real_of(at)];
+        sector.label = label;
+        sectors.push(sector)?;
+    }
+    Ok(())
+}
+
+/// A disk of 48 sectors, each with this label.
+fn changing_disk(alloc: Global, label: [u16; 8], change: Change) -> Result<Changing, Fail> {
+    let shape = shape_of(1, 2)?;
+    let mut sectors = Vec::new(alloc);
+    push_sectors(&mut sectors, shape, label)?;
+    Ok(Changing {
+        shape,
+        sectors,
+        change,
+    })
+}
+
+/// The label of a leader page.
+const LEADER: [u16; 8] = [0xFFFF, 0xFFFF, 0, 512, 0, 1, 0, 100];
+
+/// Mends the pages of a disk as far as they go, and then again, by a table that was swept.
+fn mend_by(disk: &mut Changing, table: &mut Table) -> Result<(), Fail> {
+    expect(table.rows().len() == 47, "rows")?;
+    expect(mend_pages(disk, table) == Ok(0), "memory")?;
+    expect(mend_pages_or_stop(disk, table) == Err(Stop::Astray), "told")
+}
+
+/// Sweeps a disk, and mends its pages.
+fn mend(alloc: Global, disk: &mut Changing) -> Result<(), Fail> {
+    let mut table = sweep(alloc, disk)?;
+    mend_by(disk, &mut table)
+}
+
+/// Each sector shows the leader page of one file when it is read, and nothing of that when it is checked. It is no want of memory, and is told.
+#[test]
+fn a_changing_page_is_not_out_of_memory(rt: HostRuntime) -> Result<(), Fail> {
+    let alloc = rt.alloc();
+    let mut disk = changing_disk(alloc, LEADER, Change::BeforeCheck)?;
+    mend(alloc, &mut disk)
+}
+
 #[test]
 fn a_change_while_pages_are_mended_ends_it(rt: HostRuntime) -> Result<(), Fail> {
     let alloc = rt.alloc();
-    let shape = Shape::new(1, 2).ok_or("no shape")?;
-    let mut sectors = Vec::new(alloc);
-    for at in 0..shape.pages() {
-        sectors.push(Sector {
-            header: [1, shape.real_of(at)],
-            label: [0xFFFF; 8],
-            value: [0; 256],
-        })?;
-    }
-    let mut disk = Changing {
-        shape,
-        sectors,
-        changes: false,
-    };
+    let mut disk = changing_disk(alloc, [0xFFFF; 8], Change::Never)?;
     assert!(rt; scavenge(alloc, &mut disk).is_ok());
     // the leader page of SysDir has no page before it
     disk.sectors.get_mut(1).ok_or("no sector 1")?.label[1] = 5;
-    disk.changes = true;
-    assert_eq!(rt; scavenge(alloc, &mut disk), Err(ScavError::Memory));
-    disk.changes = false;
+    disk.change = Change::BeforeWrite;
+    assert!(rt; scavenge(alloc, &mut disk) == Err(ScavError::Memory));
+    disk.change = Change::Never;
     assert!(rt; scavenge(alloc, &mut disk).is_ok());
     Ok(())
 }

@@ -1,6 +1,9 @@
 // Each damaged pack: scavenged; cut after each record write, and scavenged again; and with calls of a scavenge failing once.
-use crate::calling::{done, expect, listing, make_call, run, text_of};
-use crate::damaged::{DAMAGED, Damaged};
+use crate::calling::{
+    Call, Said, check_call, check_listing, done, expect, failing_machine, is_shown, machine_over,
+    pack_after, peek, run, shape_of,
+};
+use crate::damaged::{Damaged, rows};
 use crate::damaging::damaged_pack;
 use alto_top::Status;
 use disk_memory::MemMachine;
@@ -10,190 +13,313 @@ use std::test::Fail;
 
 /// The pack of a row.
 fn pack_of(alloc: Global, shape: Shape, row: &Damaged) -> Result<Vec<Sector>, Fail> {
-    damaged_pack(alloc, shape, row.typed, row.damages)
+    damaged_pack(alloc, row.name, shape, row.typed, row.damages)
 }
 
-/// Whether a pack shows what that of the row shows.
-fn shows_row(alloc: Global, shape: Shape, row: &Damaged, pack: &[Sector]) -> Result<bool, Fail> {
-    let shown = listing(alloc, shape, pack)?;
-    Ok(shown.as_slice() == text_of(alloc, row.shown)?.as_slice())
+/// Looks whether a pack shows what that of the row shows.
+fn check_shown(alloc: Global, shape: Shape, row: &Damaged, pack: &[Sector]) -> Result<(), Fail> {
+    check_listing(alloc, row.name, shape, pack, row.shown)
 }
 
-/// A machine over these sectors, without keys, of which the call with this number is to fail after so many of its record writes.
-fn machine_over(
+/// Scavenges a pack, and looks at the report; answers how many records were written.
+fn check_report(
     alloc: Global,
     shape: Shape,
-    pack: &[Sector],
-    fails: u64,
-    after: u8,
-) -> Result<MemMachine, Fail> {
-    let mut machine = MemMachine::new(alloc, shape, pack.to_vec(alloc)?, Vec::new(alloc))?;
-    machine.fail_at(alloc, fails, after)?;
-    Ok(machine)
+    row: &Damaged,
+    pack: &mut Vec<Sector>,
+    shown: &'static str,
+) -> Result<u64, Fail> {
+    let call = Call {
+        words: "scavenge",
+        typed: "",
+        shown,
+        status: Status::Done,
+    };
+    check_call(alloc, row.name, shape, pack, &call)
 }
 
-/// The pack after so many record writes of what a machine did.
-fn pack_after(alloc: Global, machine: &MemMachine, writes: u64) -> Result<Vec<Sector>, Fail> {
-    let count = machine.place_of_write(writes).min(machine.event_count());
-    Ok(machine.cut(alloc, count)?.into_sectors())
+/// Looks at the replies of a session on a pack that was scavenged.
+fn check_session(
+    alloc: Global,
+    shape: Shape,
+    row: &Damaged,
+    pack: &mut Vec<Sector>,
+) -> Result<(), Fail> {
+    let call = Call {
+        words: "boot",
+        typed: row.lines,
+        shown: row.replies,
+        status: Status::Done,
+    };
+    check_call(alloc, row.name, shape, pack, &call)?;
+    Ok(())
+}
+
+/// Scavenges a pack twice. The second time the mark and DiskDescriptor's data page are written: no record is that stands already.
+fn scavenge_twice(
+    alloc: Global,
+    shape: Shape,
+    row: &Damaged,
+    pack: &mut Vec<Sector>,
+) -> Result<(), Fail> {
+    check_shown(alloc, shape, row, pack)?;
+    check_report(alloc, shape, row, pack, row.report)?;
+    check_shown(alloc, shape, row, pack)?;
+    let writes = check_report(alloc, shape, row, pack, row.again)?;
+    expect(writes == 2, row.name)?;
+    check_session(alloc, shape, row, pack)
+}
+
+/// Scavenges the pack of a row twice.
+fn check_row(alloc: Global, shape: Shape, row: &Damaged) -> Result<(), Fail> {
+    let mut pack = pack_of(alloc, shape, row)?;
+    scavenge_twice(alloc, shape, row, &mut pack)
 }
 
 #[test]
 fn each_damage_is_told(rt: HostRuntime) -> Result<(), Fail> {
     let alloc = rt.alloc();
-    let shape = Shape::new(1, 2).ok_or("no shape")?;
-    for row in &DAMAGED {
-        let mut pack = pack_of(alloc, shape, row)?;
-        assert!(rt; shows_row(alloc, shape, row, &pack)?, "{}", row.name);
-        let report = done(alloc, shape, &mut pack, "scavenge", "")?;
-        assert_eq!(rt;
-            report.as_slice(),
-            text_of(alloc, row.report)?.as_slice(),
-            "{}",
-            row.name
-        );
-        assert!(rt; shows_row(alloc, shape, row, &pack)?, "{}", row.name);
-        let again = make_call(alloc, shape, &mut pack, "scavenge", "")?;
-        assert!(rt; again.status == Status::Done, "{}", row.name);
-        assert_eq!(rt;
-            again.shown.as_slice(),
-            text_of(alloc, row.again)?.as_slice(),
-            "{}",
-            row.name
-        );
-        // the mark and DiskDescriptor's data page: no record is written that stands already
-        assert!(rt; again.writes == 2, "{}", row.name);
-        let replies = done(alloc, shape, &mut pack, "boot", row.lines)?;
-        assert_eq!(rt;
-            replies.as_slice(),
-            text_of(alloc, row.replies)?.as_slice(),
-            "{}",
-            row.name
-        );
+    let shape = shape_of(1, 2)?;
+    for row in rows() {
+        check_row(alloc, shape, row)?;
     }
     Ok(())
 }
 
-/// Whether a session enters a pack, which stays as it is.
-fn is_entered(alloc: Global, shape: Shape, pack: &[Sector]) -> Result<bool, Fail> {
-    let mut pack = pack.to_vec(alloc)?;
-    let said = make_call(alloc, shape, &mut pack, "boot", "")?;
-    Ok(said.status == Status::Done)
-}
-
 /// Goes on with a pack that a stopped scavenge left: it shows what it showed, and once it is scavenged again it does so too, and a session has
 /// the replies of the row.
-fn goes_on(alloc: Global, shape: Shape, row: &Damaged, mut pack: Vec<Sector>) -> Result<(), Fail> {
-    expect(shows_row(alloc, shape, row, &pack)?, "before")?;
-    done(alloc, shape, &mut pack, "scavenge", "")?;
-    expect(shows_row(alloc, shape, row, &pack)?, "after")?;
-    let replies = done(alloc, shape, &mut pack, "boot", row.lines)?;
-    expect(
-        replies.as_slice() == text_of(alloc, row.replies)?.as_slice(),
-        "other replies",
-    )
+fn go_on(alloc: Global, shape: Shape, row: &Damaged, pack: &mut Vec<Sector>) -> Result<(), Fail> {
+    check_shown(alloc, shape, row, pack)?;
+    done(alloc, row.name, shape, pack, "scavenge", "")?;
+    check_shown(alloc, shape, row, pack)?;
+    check_session(alloc, shape, row, pack)
+}
+
+/// A machine over the pack of a row.
+fn machine_of(alloc: Global, shape: Shape, row: &Damaged) -> Result<MemMachine, Fail> {
+    let pack = pack_of(alloc, shape, row)?;
+    machine_over(alloc, shape, &pack, "")
+}
+
+/// Scavenges on a machine that doesn't fail.
+fn scavenge_whole(alloc: Global, row: &Damaged, machine: &mut MemMachine) -> Result<(), Fail> {
+    let status = run(alloc, "scavenge", machine)?;
+    expect(status == Status::Done, row.name)
+}
+
+/// Goes on with a pack that a scavenge left; midway no session enters it.
+fn enter_or_go_on(
+    alloc: Global,
+    shape: Shape,
+    row: &Damaged,
+    pack: &mut Vec<Sector>,
+    midway: bool,
+) -> Result<(), Fail> {
+    let entered = peek(alloc, shape, pack, "boot", "")?;
+    expect(!midway || entered.status != Status::Done, row.name)?;
+    go_on(alloc, shape, row, pack)
+}
+
+/// Cuts a scavenge after so many record writes.
+fn check_cut(
+    alloc: Global,
+    shape: Shape,
+    row: &Damaged,
+    machine: &MemMachine,
+    writes: u64,
+) -> Result<(), Fail> {
+    let mut left = pack_after(alloc, machine, writes)?;
+    let midway = 0 < writes && writes < machine.writes();
+    enter_or_go_on(alloc, shape, row, &mut left, midway)
+}
+
+/// Cuts a scavenge before its first record write and after each.
+fn check_cuts(
+    alloc: Global,
+    shape: Shape,
+    row: &Damaged,
+    machine: &mut MemMachine,
+) -> Result<(), Fail> {
+    scavenge_whole(alloc, row, machine)?;
+    for writes in 0..=machine.writes() {
+        check_cut(alloc, shape, row, machine, writes)?;
+    }
+    Ok(())
+}
+
+/// Cuts a scavenge of the pack of a row.
+fn cut_row(alloc: Global, shape: Shape, row: &Damaged) -> Result<(), Fail> {
+    let mut machine = machine_of(alloc, shape, row)?;
+    check_cuts(alloc, shape, row, &mut machine)
 }
 
 #[test]
 fn each_cut_is_scavenged_again(rt: HostRuntime) -> Result<(), Fail> {
     let alloc = rt.alloc();
-    let shape = Shape::new(1, 2).ok_or("no shape")?;
-    for row in &DAMAGED {
-        let pack = pack_of(alloc, shape, row)?;
-        let mut machine = machine_over(alloc, shape, &pack, u64::MAX, 0)?;
-        assert!(rt;
-            run(alloc, "scavenge", &mut machine)? == Status::Done,
-            "{}",
-            row.name
-        );
-        let whole = machine.writes();
-        for writes in 0..=whole {
-            let left = pack_after(alloc, &machine, writes)?;
-            let midway = 0 < writes && writes < whole;
-            assert!(rt;
-                !(midway && is_entered(alloc, shape, &left)?),
-                "{}",
-                row.name
-            );
-            goes_on(alloc, shape, row, left)?;
-        }
+    let shape = shape_of(1, 2)?;
+    for row in rows() {
+        cut_row(alloc, shape, row)?;
     }
     Ok(())
 }
 
-/// How a scavenge ends in which this call fails after so many of its record writes, and its machine. Only one that is done shows bytes, those
-/// of the report.
-fn broken(
-    alloc: Global,
-    shape: Shape,
-    row: &Damaged,
-    pack: &[Sector],
-    fails: u64,
-    after: u8,
-) -> Result<(Status, MemMachine), Fail> {
-    let mut machine = machine_over(alloc, shape, pack, fails, after)?;
-    let status = run(alloc, "scavenge", &mut machine)?;
-    let shown = machine.shown(alloc)?;
+/// Scavenges on a machine that may fail. Only a scavenge that is done shows bytes, those of the report.
+fn say_broken(alloc: Global, row: &Damaged, machine: &mut MemMachine) -> Result<Said, Fail> {
+    let status = run(alloc, "scavenge", machine)?;
     let told = if status == Status::Done {
         row.report
     } else {
         ""
     };
-    expect(
-        shown.as_slice() == text_of(alloc, told)?.as_slice(),
-        "another text",
-    )?;
-    Ok((status, machine))
+    let bytes = machine.shown(alloc)?;
+    Ok(Said {
+        status,
+        fits: is_shown(&bytes, told),
+        writes: machine.writes(),
+    })
 }
 
-#[test]
-fn each_call_fails_once(rt: HostRuntime) -> Result<(), Fail> {
-    let alloc = rt.alloc();
-    let shape = Shape::new(1, 2).ok_or("no shape")?;
-    let row = &DAMAGED[0];
-    let pack = pack_of(alloc, shape, row)?;
-    let mut whole = machine_over(alloc, shape, &pack, u64::MAX, 0)?;
-    assert!(rt; run(alloc, "scavenge", &mut whole)? == Status::Done);
+/// Scavenges a pack while this call fails after so many of its record writes, and leaves in it what that leaves.
+fn break_call(
+    alloc: Global,
+    shape: Shape,
+    row: &Damaged,
+    pack: &mut Vec<Sector>,
+    call: u64,
+    after: u8,
+) -> Result<Said, Fail> {
+    let mut machine = failing_machine(alloc, shape, pack, call, after)?;
+    let said = say_broken(alloc, row, &mut machine);
+    *pack = machine.into_sectors();
+    said
+}
+
+/// Whether this is the pack after so many record writes of a machine.
+fn is_after(
+    alloc: Global,
+    machine: &MemMachine,
+    writes: u64,
+    pack: &[Sector],
+) -> Result<bool, Fail> {
+    let left = pack_after(alloc, machine, writes)?;
+    Ok(left.as_slice() == pack)
+}
+
+/// Looks at a pack that a scavenge left in which a call failed: it is as after as many record writes of the whole scavenge.
+fn check_prefix(
+    alloc: Global,
+    shape: Shape,
+    row: &Damaged,
+    pack: &[Sector],
+    whole: &MemMachine,
+    said: &Said,
+) -> Result<(), Fail> {
+    let prefix = is_after(alloc, whole, said.writes, pack)?;
+    expect(said.fits && prefix, row.name)?;
+    check_shown(alloc, shape, row, pack)
+}
+
+/// Lets this call of a scavenge fail after one of its record writes, on the pack that the whole scavenge began with.
+fn fail_call(
+    alloc: Global,
+    shape: Shape,
+    row: &Damaged,
+    whole: &MemMachine,
+    call: u64,
+) -> Result<Said, Fail> {
+    let mut left = pack_after(alloc, whole, 0)?;
+    let said = break_call(alloc, shape, row, &mut left, call, 1)?;
+    check_prefix(alloc, shape, row, &left, whole, &said)?;
+    Ok(said)
+}
+
+/// Scavenges whole, and then lets each call fail, one after another. A scavenge that went on after the call would write more than one of
+/// which a later call fails. The report is shown at once.
+fn check_calls(
+    alloc: Global,
+    shape: Shape,
+    row: &Damaged,
+    whole: &mut MemMachine,
+) -> Result<(), Fail> {
+    scavenge_whole(alloc, row, whole)?;
     let mut shows = 0usize;
     let mut earlier = 0u64;
     for call in 0..5000u64 {
-        let (status, machine) = broken(alloc, shape, row, &pack, call, 1)?;
-        // one that went on after this call would write more than one of which a later call fails
-        let writes = machine.writes();
-        assert!(rt; earlier <= writes, "{call}");
-        earlier = writes;
-        let left = machine.into_sectors();
-        assert!(rt; left == pack_after(alloc, &whole, writes)?, "{call}");
-        assert!(rt; shows_row(alloc, shape, row, &left)?, "{call}");
-        match status {
+        let said = fail_call(alloc, shape, row, whole, call)?;
+        expect(earlier <= said.writes, row.name)?;
+        earlier = said.writes;
+        match said.status {
             Status::DiskFault => {}
             Status::DisplayFault => shows = shows.saturating_add(1),
             _ => break,
         }
     }
-    // the report is shown at once
-    assert!(rt; shows == 1);
+    expect(shows == 1, row.name)
+}
+
+#[test]
+fn each_call_fails_once(rt: HostRuntime) -> Result<(), Fail> {
+    let alloc = rt.alloc();
+    let shape = shape_of(1, 2)?;
+    let row = rows().first().ok_or("no row")?;
+    let mut whole = machine_of(alloc, shape, row)?;
+    check_calls(alloc, shape, row, &mut whole)
+}
+
+/// Goes on with the pack of a scavenge that met a fault; answers whether it met none.
+fn end_or_go_on(
+    alloc: Global,
+    shape: Shape,
+    row: &Damaged,
+    pack: &mut Vec<Sector>,
+    said: &Said,
+) -> Result<bool, Fail> {
+    expect(said.fits, row.name)?;
+    match said.status {
+        Status::Done => Ok(true),
+        Status::DiskFault | Status::DisplayFault => {
+            go_on(alloc, shape, row, pack)?;
+            Ok(false)
+        }
+        _ => Ok(None.ok_or(row.name)?),
+    }
+}
+
+/// Lets this call of a scavenge fail; answers whether there was none.
+fn check_fault(
+    alloc: Global,
+    shape: Shape,
+    row: &Damaged,
+    pack: &[Sector],
+    call: u64,
+) -> Result<bool, Fail> {
+    let mut left = pack.to_vec(alloc)?;
+    let said = break_call(alloc, shape, row, &mut left, call, (call % 2) as u8)?;
+    end_or_go_on(alloc, shape, row, &mut left, &said)
+}
+
+/// Lets every 31st call of a scavenge fail, one after another.
+fn check_faults(alloc: Global, shape: Shape, row: &Damaged, pack: &[Sector]) -> Result<(), Fail> {
+    for call in (0..5000u64).step_by(31) {
+        if check_fault(alloc, shape, row, pack, call)? {
+            break;
+        }
+    }
     Ok(())
+}
+
+/// Lets calls of a scavenge of the pack of a row fail.
+fn break_row(alloc: Global, shape: Shape, row: &Damaged) -> Result<(), Fail> {
+    let pack = pack_of(alloc, shape, row)?;
+    check_faults(alloc, shape, row, &pack)
 }
 
 #[test]
 fn each_fault_is_scavenged_again(rt: HostRuntime) -> Result<(), Fail> {
     let alloc = rt.alloc();
-    let shape = Shape::new(1, 2).ok_or("no shape")?;
-    for row in &DAMAGED {
-        let pack = pack_of(alloc, shape, row)?;
-        for call in (0..5000u64).step_by(31) {
-            let (status, machine) = broken(alloc, shape, row, &pack, call, (call % 2) as u8)?;
-            if status == Status::Done {
-                break;
-            }
-            assert!(rt;
-                status == Status::DiskFault || status == Status::DisplayFault,
-                "{} {call}",
-                row.name
-            );
-            goes_on(alloc, shape, row, machine.into_sectors())?;
-        }
+    let shape = shape_of(1, 2)?;
+    for row in rows() {
+        break_row(alloc, shape, row)?;
     }
     Ok(())
 }

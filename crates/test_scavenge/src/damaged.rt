@@ -30,7 +30,7 @@ const REPLIES: &str = "4142434445\n5 bytes\n41 pages free";
 /// The report of a scavenge that frees nothing and adopts nothing.
 const QUIET: &str = "scavenged: files 3, freed 0, bad 0, adopted 0";
 
-pub(crate) const DAMAGED: [Damaged; 17] = [
+const DAMAGED: [Damaged; 17] = [
     Damaged {
         name: "names are taken from two directories",
         typed: "mkdir D\nmake D>X\nmkdir E\nmake E>X\nmake X",
@@ -214,3 +214,8 @@ pub(crate) const DAMAGED: [Damaged; 17] = [
         replies: REPLIES,
     },
 ];
+
+/// The rows of the table.
+pub(crate) fn rows() -> &'static [Damaged] {
+    &DAMAGED
+}

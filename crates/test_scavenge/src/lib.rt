@@ -1,8 +1,11 @@
-//! Tests of the word `scavenge` over packs in memory: worked rows, and a table of damaged packs, each scavenged whole, cut after each
-//! record write and scavenged again, and with calls of it failing once; and of a scavenge over a disk that changes meanwhile.
+//! Tests of the Scavenger over packs in memory, and over a disk that changes meanwhile.
 //!
-//! Below it stand alto_top, scavenger and disk_memory. What is expected was worked out by hand from the rules of reading and of the Scavenger, and never
-//! taken from a run. There is nothing to call.
+//! Of the word `scavenge`: worked rows, and a table of damaged packs, each scavenged whole, cut after each record write and scavenged again,
+//! and with calls of it failing once. Of mended pages: a table of damaged packs, each looked at after each event, mended twice, and mended
+//! again after faults.
+//!
+//! Below it stand alto_top, whose listing says what a pack shows, scavenger, scav_pages and disk_memory. What is expected was worked out by
+//! hand from the rules of reading and of the Scavenger, and never taken from a run. There is nothing to call.
 #![tactic(auto)]
 
 #[cfg(test)]
@@ -15,5 +18,9 @@ mod cutting;
 mod damaged;
 #[cfg(test)]
 mod damaging;
+#[cfg(test)]
+mod mended;
+#[cfg(test)]
+mod mending;
 #[cfg(test)]
 mod rows;

@@ -1,18 +1,10 @@
 // Worked rows, each a list of calls on one pack.
-use crate::calling::{cut_call, expect, make_call, text_of};
+use crate::calling::{Call, check_call, cut_call, done, expect, shape_of};
 use crate::damaging::{Damage, damage_pack};
 use alto_top::Status;
 use disk_records::{Sector, Shape};
 use std::alloc::Global;
 use std::test::Fail;
-
-/// A call: its words, the typed lines without the last byte 10, which is added, what is shown without the last byte, and how it ends.
-struct Call {
-    words: &'static str,
-    typed: &'static str,
-    shown: &'static str,
-    status: Status,
-}
 
 /// What is done in a row.
 enum Step {
@@ -306,34 +298,12 @@ struct Stand {
     pack: Vec<Sector>,
 }
 
-/// Makes a call, and answers how many records it writes. The message of a failure is the row's name.
-fn check_call(
-    alloc: Global,
-    name: &'static str,
-    stand: &mut Stand,
-    asked: &Call,
-) -> Result<u64, Fail> {
-    let said = make_call(
-        alloc,
-        stand.shape,
-        &mut stand.pack,
-        asked.words,
-        asked.typed,
-    )?;
-    expect(said.status == asked.status, name)?;
-    expect(
-        said.shown.as_slice() == text_of(alloc, asked.shown)?.as_slice(),
-        name,
-    )?;
-    Ok(said.writes)
-}
-
 /// Puts a second drive of zeros beside the first.
 fn put_second(stand: &mut Stand) -> Result<(), Fail> {
     for _ in 0..stand.shape.pages() {
         stand.pack.push(Sector::ZEROS)?;
     }
-    stand.shape = Shape::new(2, stand.shape.cylinders()).ok_or("no shape")?;
+    stand.shape = shape_of(2, stand.shape.cylinders())?;
     Ok(())
 }
 
@@ -352,25 +322,35 @@ fn push_long_file(typed: &mut String, name: &str) -> Result<(), Fail> {
     Ok(())
 }
 
-/// Makes files with 131,076 bytes each.
-fn make_long_files(alloc: Global, stand: &mut Stand, names: &[&str]) -> Result<(), Fail> {
-    let mut typed = String::new(alloc);
+/// Appends lines that make files with 131,076 bytes each.
+fn push_long_files(typed: &mut String, names: &[&str]) -> Result<(), Fail> {
     for name in names {
-        push_long_file(&mut typed, name)?;
+        push_long_file(typed, name)?;
     }
     typed.push_str("quit")?;
-    let said = make_call(alloc, stand.shape, &mut stand.pack, "boot", &typed)?;
-    expect(said.status == Status::Done, "long files")
+    Ok(())
+}
+
+/// Makes files with 131,076 bytes each.
+fn make_long_files(
+    alloc: Global,
+    name: &'static str,
+    stand: &mut Stand,
+    names: &[&str],
+) -> Result<(), Fail> {
+    let mut typed = String::new(alloc);
+    push_long_files(&mut typed, names)?;
+    done(alloc, name, stand.shape, &mut stand.pack, "boot", &typed)
 }
 
 /// Does a step of a row.
 fn take(alloc: Global, name: &'static str, stand: &mut Stand, step: &Step) -> Result<(), Fail> {
     match step {
-        Step::Call(asked) => {
-            check_call(alloc, name, stand, asked)?;
+        Step::Call(call) => {
+            check_call(alloc, name, stand.shape, &mut stand.pack, call)?;
         }
-        Step::Unwritten(asked) => {
-            let writes = check_call(alloc, name, stand, asked)?;
+        Step::Unwritten(call) => {
+            let writes = check_call(alloc, name, stand.shape, &mut stand.pack, call)?;
             expect(writes == 0, name)?;
         }
         Step::Damage(damages) => damage_pack(&mut stand.pack, damages)?,
@@ -378,21 +358,32 @@ fn take(alloc: Global, name: &'static str, stand: &mut Stand, step: &Step) -> Re
             stand.pack = cut_call(alloc, stand.shape, &stand.pack, words, typed, *writes)?;
         }
         Step::Second => put_second(stand)?,
-        Step::LongFiles(names) => make_long_files(alloc, stand, names)?,
+        Step::LongFiles(names) => make_long_files(alloc, name, stand, names)?,
     }
     Ok(())
+}
+
+/// Does steps one after another. The message of a failure is the row's name.
+fn take_all(alloc: Global, row: &Row, stand: &mut Stand) -> Result<(), Fail> {
+    for step in row.steps {
+        take(alloc, row.name, stand, step)?;
+    }
+    Ok(())
+}
+
+/// Does a row.
+fn check_row(alloc: Global, row: &Row) -> Result<(), Fail> {
+    let shape = shape_of(1, row.cylinders)?;
+    let pack = vec![in alloc; Sector::ZEROS; shape.pages() as usize]?;
+    let mut stand = Stand { shape, pack };
+    take_all(alloc, row, &mut stand)
 }
 
 #[test]
 fn worked_rows(rt: HostRuntime) -> Result<(), Fail> {
     let alloc = rt.alloc();
     for row in &ROWS {
-        let shape = Shape::new(1, row.cylinders).ok_or("no shape")?;
-        let pack = vec![in alloc; Sector::ZEROS; shape.pages() as usize]?;
-        let mut stand = Stand { shape, pack };
-        for step in row.steps {
-            take(alloc, row.name, &mut stand, step)?;
-        }
+        check_row(alloc, row)?;
     }
     Ok(())
 }

@@ -1,9 +1,15 @@
 // Packs that are damaged, what a mending of their pages frees, and what they show before it, at each event, and then.
-use crate::damaging::{Damage, Wanted};
+use crate::damaging::Damage;
 
-/// A damaged pack: the drives that it stands on, the lines that were typed after file A was made, what was done to it, how many sectors a
-/// mending frees, what the pack shows throughout, and words that stand in the end.
-pub(crate) struct Row {
+/// A word of a label or a value that has to stand: its sector, its place, and the number.
+pub(crate) enum Wanted {
+    Label(u16, usize, u16),
+    Value(u16, usize, u16),
+}
+
+/// A damaged pack: the drives that it stands on, the typed lines that it is made by, what was done to it, how many sectors a mending frees,
+/// what the pack shows throughout, and words that stand in the end.
+pub(crate) struct Mended {
     pub name: &'static str,
     pub drives: u16,
     pub typed: &'static str,
@@ -15,21 +21,27 @@ pub(crate) struct Row {
 
 const ONES: u16 = 0xFFFF;
 
-/// The listing of the pack with one file of 600 bytes.
-const WHOLE: &str = "SysDir>A. length 600\n1 files\n";
+/// File A of 600 bytes, each of which is 41 in hex.
+pub(crate) const FILE: &str = "make A\nappend A 41*600";
+
+/// The file, and directory D.
+const FILE_AND_DIRECTORY: &str = "make A\nappend A 41*600\nmkdir D";
+
+/// The listing of the pack with the file.
+const WHOLE: &str = "SysDir>A. length 600\n1 files";
 
 /// The listing of the pack with directory D beside it.
-const WITH_DIRECTORY: &str = "SysDir>A. length 600\nSysDir>D. directory\n2 files\n";
+const WITH_DIRECTORY: &str = "SysDir>A. length 600\nSysDir>D. directory\n2 files";
 
 /// File A has its leader page on sector 5 and its data pages, of 512 and 88 bytes, on 6 and 7. SysDir's pages are on 1 and 2, those of
 /// DiskDescriptor on 3 and 4, and those of directory D, if it is made, on 8 and 9. The entry of A begins at word 24 of SysDir. Its
 /// leader's name is in the words from 6 on: the number of its bytes, and `Lost3.` where none can be read. Its dates are 1000, as those of
 /// all leaders, before the name.
-pub(crate) const ROWS: [Row; 23] = [
-    Row {
+const MENDED: [Mended; 23] = [
+    Mended {
         name: "every link is wrong",
         drives: 1,
-        typed: "",
+        typed: FILE,
         damages: &[
             Damage::Label(1, 0, ONES),
             Damage::Label(1, 1, 0),
@@ -65,22 +77,22 @@ pub(crate) const ROWS: [Row; 23] = [
             Wanted::Label(7, 1, 0x6000),
         ],
     },
-    Row {
+    Mended {
         name: "a link names its own sector",
         drives: 1,
-        typed: "",
+        typed: FILE,
         damages: &[Damage::Label(6, 0, 0x6000)],
         freed: 0,
         shown: WHOLE,
         then: &[Wanted::Label(6, 0, 0x7000)],
     },
-    Row {
+    Mended {
         name: "the last page is free",
         drives: 1,
-        typed: "",
+        typed: FILE,
         damages: &[Damage::Free(7)],
         freed: 0,
-        shown: "SysDir>A. length 512\n1 files\n",
+        shown: "SysDir>A. length 512\n1 files",
         then: &[
             Wanted::Label(7, 3, 0),
             Wanted::Label(7, 4, 2),
@@ -88,59 +100,59 @@ pub(crate) const ROWS: [Row; 23] = [
             Wanted::Value(7, 0, 0),
         ],
     },
-    Row {
+    Mended {
         name: "the leader page is free",
         drives: 1,
-        typed: "",
+        typed: FILE,
         damages: &[Damage::Free(5)],
         freed: 2,
-        shown: "0 files\n",
+        shown: "0 files",
         then: &[
             Wanted::Label(6, 7, ONES),
             Wanted::Label(7, 7, ONES),
             Wanted::Value(6, 0, ONES),
         ],
     },
-    Row {
+    Mended {
         name: "a page is carried twice",
         drives: 1,
-        typed: "",
+        typed: FILE,
         damages: &[Damage::Copy(6, 20), Damage::Value(20, 0, 0x4242)],
         freed: 1,
         shown: WHOLE,
         then: &[Wanted::Label(6, 7, 3), Wanted::Label(20, 7, ONES)],
     },
-    Row {
+    Mended {
         name: "a label is of no file",
         drives: 1,
-        typed: "",
+        typed: FILE,
         damages: &[Damage::Label(20, 5, 0)],
         freed: 1,
         shown: WHOLE,
         then: &[Wanted::Label(20, 5, ONES)],
     },
-    Row {
+    Mended {
         name: "a page is past the end",
         drives: 1,
-        typed: "",
+        typed: FILE,
         damages: &[Damage::Copy(7, 20), Damage::Label(20, 4, 9)],
         freed: 1,
         shown: WHOLE,
         then: &[Wanted::Label(20, 7, ONES)],
     },
-    Row {
+    Mended {
         name: "a label is of no file after a wrong header",
         drives: 1,
-        typed: "",
+        typed: FILE,
         damages: &[Damage::Label(20, 5, 0), Damage::Header(20, 1, 0)],
         freed: 0,
         shown: WHOLE,
         then: &[Wanted::Label(20, 5, 0), Wanted::Label(20, 6, ONES)],
     },
-    Row {
+    Mended {
         name: "the leader page of SysDir stands elsewhere",
         drives: 1,
-        typed: "",
+        typed: FILE,
         damages: &[Damage::Copy(1, 20), Damage::Free(1)],
         freed: 0,
         shown: WHOLE,
@@ -150,10 +162,10 @@ pub(crate) const ROWS: [Row; 23] = [
             Wanted::Label(20, 7, ONES),
         ],
     },
-    Row {
+    Mended {
         name: "SysDir has no leader page",
         drives: 1,
-        typed: "",
+        typed: FILE,
         damages: &[Damage::Free(1)],
         freed: 1,
         shown: WHOLE,
@@ -167,10 +179,10 @@ pub(crate) const ROWS: [Row; 23] = [
             Wanted::Value(1, 9, 0x722E),
         ],
     },
-    Row {
+    Mended {
         name: "DiskDescriptor has no leader page",
         drives: 1,
-        typed: "",
+        typed: FILE,
         damages: &[Damage::Free(3)],
         freed: 1,
         shown: WHOLE,
@@ -183,19 +195,19 @@ pub(crate) const ROWS: [Row; 23] = [
             Wanted::Value(4, 13, 0x722E),
         ],
     },
-    Row {
+    Mended {
         name: "a slot has no words",
         drives: 1,
-        typed: "",
+        typed: FILE,
         damages: &[Damage::Value(2, 24, 0)],
         freed: 0,
         shown: WHOLE,
         then: &[Wanted::Label(2, 3, 48)],
     },
-    Row {
+    Mended {
         name: "a leader's name has no bytes",
         drives: 1,
-        typed: "",
+        typed: FILE,
         damages: &[Damage::Value(5, 6, 0)],
         freed: 0,
         shown: WHOLE,
@@ -206,10 +218,10 @@ pub(crate) const ROWS: [Row; 23] = [
             Wanted::Value(5, 9, 0x2E00),
         ],
     },
-    Row {
+    Mended {
         name: "DiskDescriptor has no data page",
         drives: 1,
-        typed: "",
+        typed: FILE,
         damages: &[Damage::Free(4)],
         freed: 0,
         shown: WHOLE,
@@ -220,19 +232,19 @@ pub(crate) const ROWS: [Row; 23] = [
             Wanted::Value(4, 6, 0),
         ],
     },
-    Row {
+    Mended {
         name: "DiskDescriptor counts too few bytes",
         drives: 1,
-        typed: "",
+        typed: FILE,
         damages: &[Damage::Label(4, 3, 20)],
         freed: 0,
         shown: WHOLE,
         then: &[Wanted::Label(4, 3, 38), Wanted::Value(4, 6, 1)],
     },
-    Row {
+    Mended {
         name: "pages past the end of slots and one of DiskDescriptor are carried twice",
         drives: 1,
-        typed: "",
+        typed: FILE,
         damages: &[
             Damage::Copy(2, 20),
             Damage::Label(20, 4, 2),
@@ -251,19 +263,19 @@ pub(crate) const ROWS: [Row; 23] = [
             Wanted::Label(22, 7, ONES),
         ],
     },
-    Row {
+    Mended {
         name: "a slot of another directory has no words",
         drives: 1,
-        typed: "mkdir D\n",
+        typed: FILE_AND_DIRECTORY,
         damages: &[Damage::Value(9, 0, 0)],
         freed: 0,
         shown: WITH_DIRECTORY,
         then: &[Wanted::Label(9, 3, 0), Wanted::Label(2, 3, 510)],
     },
-    Row {
+    Mended {
         name: "slots end in the second page of a directory",
         drives: 1,
-        typed: "mkdir D\n",
+        typed: FILE_AND_DIRECTORY,
         damages: &[
             Damage::Copy(9, 20),
             Damage::Label(20, 3, 80),
@@ -282,10 +294,10 @@ pub(crate) const ROWS: [Row; 23] = [
             Wanted::Label(20, 3, 28),
         ],
     },
-    Row {
+    Mended {
         name: "slots end with the first page of a directory",
         drives: 1,
-        typed: "mkdir D\n",
+        typed: FILE_AND_DIRECTORY,
         damages: &[
             Damage::Copy(9, 20),
             Damage::Label(20, 3, 80),
@@ -302,23 +314,23 @@ pub(crate) const ROWS: [Row; 23] = [
             Wanted::Label(20, 4, 2),
         ],
     },
-    Row {
+    Mended {
         name: "the last page is free, and no other good sector",
         drives: 1,
-        typed: "",
+        typed: FILE,
         damages: &[Damage::Free(7), Damage::Headers(8, 48)],
         freed: 0,
-        shown: "SysDir>A. length 512\n1 files\n",
+        shown: "SysDir>A. length 512\n1 files",
         then: &[
             Wanted::Label(6, 0, 0x7000),
             Wanted::Label(7, 3, 0),
             Wanted::Label(7, 4, 2),
         ],
     },
-    Row {
+    Mended {
         name: "a page stands on the second drive",
         drives: 2,
-        typed: "",
+        typed: FILE,
         damages: &[
             Damage::Copy(7, 60),
             Damage::Free(7),
@@ -333,10 +345,10 @@ pub(crate) const ROWS: [Row; 23] = [
             Wanted::Label(60, 1, 0x6000),
         ],
     },
-    Row {
+    Mended {
         name: "the name of SysDir's leader has no bytes",
         drives: 1,
-        typed: "",
+        typed: FILE,
         damages: &[Damage::Value(1, 6, 0)],
         freed: 0,
         shown: WHOLE,
@@ -348,10 +360,10 @@ pub(crate) const ROWS: [Row; 23] = [
             Wanted::Value(1, 9, 0x722E),
         ],
     },
-    Row {
+    Mended {
         name: "the name of DiskDescriptor's leader has no bytes",
         drives: 1,
-        typed: "",
+        typed: FILE,
         damages: &[Damage::Value(3, 6, 0)],
         freed: 0,
         shown: WHOLE,
@@ -365,3 +377,8 @@ pub(crate) const ROWS: [Row; 23] = [
         ],
     },
 ];
+
+/// The rows of the table.
+pub(crate) fn rows() -> &'static [Mended] {
+    &MENDED
+}
