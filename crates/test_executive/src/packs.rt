@@ -3,38 +3,43 @@ use disk_descriptor::format;
 use disk_memory::SureMachine;
 use disk_records::{Sector, Shape};
 use std::alloc::Global;
-use std::test::Fail;
 
 /// The moment of all dates.
 pub(crate) const MOMENT: u32 = 1000;
 
-/// A word of a sector's value that is another.
+/// Words of a sector's value that are others, from `from` on and before `to`.
 pub(crate) struct Changed {
     pub at: usize,
-    pub word: usize,
+    pub from: usize,
+    pub to: usize,
     pub number: u16,
 }
 
-/// The shape of one drive with so many cylinders.
-pub(crate) fn shape_of(cylinders: u16) -> Result<Shape, Fail> {
-    Ok(Shape::new(1, cylinders).ok_or("no shape")?)
-}
-
-/// The sectors of a formatted pack of this shape.
-pub(crate) fn formatted(alloc: Global, shape: Shape) -> Result<Vec<Sector>, Fail> {
-    let zeros = vec![in alloc; Sector::ZEROS; shape.pages() as usize]?;
-    let mut machine = SureMachine::new(alloc, shape, zeros, Vec::new(alloc))?;
-    format(&mut machine, 1, MOMENT)?;
-    Ok(machine.into_sectors())
-}
-
-/// Puts these words in the place of others.
-pub(crate) fn change(sectors: &mut [Sector], words: &[Changed]) -> Result<(), Fail> {
-    for word in words {
-        let sector = sectors.get_mut(word.at).ok_or("no sector")?;
-        *sector.value.get_mut(word.word).ok_or("no word")? = word.number;
+/// The sectors of a formatted pack of this shape. None if no memory is left.
+pub(crate) fn formatted(alloc: Global, shape: Shape) -> Option<Vec<Sector>> {
+    let Ok(zeros) = vec![in alloc; Sector::ZEROS; shape.pages() as usize] else {
+        return None;
+    };
+    let Ok(mut machine) = SureMachine::new(alloc, shape, zeros, Vec::new(alloc)) else {
+        return None;
+    };
+    if format(&mut machine, 1, MOMENT).is_err() {
+        return None;
     }
-    Ok(())
+    Some(machine.into_sectors())
+}
+
+/// Puts a number in the place of words of a sector, and answers whether there is such a sector.
+pub(crate) fn change(sectors: &mut [Sector], changed: &Changed) -> bool {
+    let Some(sector) = sectors.get_mut(changed.at) else {
+        return false;
+    };
+    for (k, word) in sector.value.iter_mut().enumerate() {
+        if changed.from <= k && k < changed.to {
+            *word = changed.number;
+        }
+    }
+    true
 }
 
 /// The labels of the first five sectors, which a formatted pack of 48 sectors uses.

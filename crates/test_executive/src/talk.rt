@@ -2,12 +2,12 @@
 ghost use Rattle.disk_records.specs.declared.shape.Shape.{Shape};
 ghost use Rattle.exec_session.specs.Meant.{kept};
 ghost use Rattle.session_model.specs.Keeping.{Formed};
-ghost use Rattle.std.specs.Prelude.{IfOk};
+ghost use Rattle.std.specs.Prelude.{IfSome, ◌≡◌};
 
 use crate::packs::MOMENT;
-use alto_words::read_number;
+use alto_words::{Memory, read_number};
 use disk_memory::MemMachine;
-use disk_records::{Disk, Sector, Shape};
+use disk_records::{Disk, Sector, Shape, Tape};
 use executive::{Line, Reply, Session, obey, read_line, reply_text};
 use std::alloc::Global;
 use std::test::Fail;
@@ -15,38 +15,66 @@ use std::test::Fail;
 /// As many sector commands as there may be.
 pub(crate) const ANY: u64 = u64::MAX;
 
-/// A line, and what is shown without its last byte.
-pub(crate) type Turn = (&'static str, &'static str);
-
 /// Passes if this holds.
 pub(crate) fn expect(holds: bool, what: &'static str) -> Result<(), Fail> {
-    if holds { Ok(()) } else { Ok(None.ok_or(what)?) }
+    if holds { Ok(()) } else { Err(Fail::new(what)) }
 }
 
-/// A text in which a word `x*n` stands for n times x.
-pub(crate) fn expanded(alloc: Global, text: &str) -> Result<Vec<u8>, Fail> {
-    let mut whole = Vec::new(alloc);
-    for word in text.split(' ') {
-        match word.split_once('*') {
-            Some((byte, count)) => {
-                for _ in 0..read_number(count.as_bytes()).ok_or("no number")? {
-                    whole.extend_from_slice(byte.as_bytes())?;
-                }
-            }
-            None => whole.extend_from_slice(word.as_bytes())?,
+/// Puts a word after a text; a word `x*n` stands for n times x. Answers whether it is a word, and memory is left.
+fn push_word(word: &str, text: &mut Vec<u8>) -> bool {
+    let Some((bytes, count)) = word.split_once('*') else {
+        return text.extend_from_slice(word.as_bytes()).is_ok();
+    };
+    let Some(count) = read_number(count.as_bytes()) else {
+        return false;
+    };
+    for _ in 0..count {
+        if text.extend_from_slice(bytes.as_bytes()).is_err() {
+            return false;
         }
-        whole.push(b' ')?;
     }
-    whole.pop();
-    Ok(whole)
+    true
 }
 
-/// A session on a pack.
-pub(crate) fn begin(alloc: Global, shape: Shape, pack: &[Sector]) -> Result<Session, Fail>
-    ensures formed { IfOk result (λ session. Formed shape (kept session)) }
+/// The line that is typed with these words.
+fn line_of(alloc: Global, words: &str) -> Result<Line, Memory> {
+    let mut text = Vec::new(alloc);
+    for word in words.split(' ') {
+        if !push_word(word, &mut text) || text.push(b' ').is_err() {
+            return Err(Memory);
+        }
+    }
+    text.pop();
+    read_line(alloc, &text)
+}
+
+/// A machine over this pack, whose device fails after so many sector commands. None if no memory is left.
+fn machine_over(alloc: Global, shape: Shape, pack: &[Sector], most: u64) -> Option<MemMachine>
+    ensures form { IfSome result (λ machine. (⟦<MemMachine as Tape>⟧.tape machine).form ≡ shape) }
 {
-    let mut machine = MemMachine::new(alloc, shape, pack.to_vec(alloc)?, Vec::new(alloc))?;
-    Ok(Session::begin(alloc, &mut machine, MOMENT, 7)?)
+    let Ok(sectors) = pack.to_vec(alloc) else {
+        return None;
+    };
+    let Ok(mut machine) = MemMachine::new(alloc, shape, sectors, Vec::new(alloc)) else {
+        return None;
+    };
+    if machine.fail_at(alloc, most, 0).is_err() {
+        return None;
+    }
+    Some(machine)
+}
+
+/// A session on a pack. None if the pack isn't entered.
+pub(crate) fn begin(alloc: Global, shape: Shape, pack: &[Sector]) -> Option<Session>
+    ensures formed { IfSome result (λ session. Formed shape (kept session)) }
+{
+    let Some(mut machine) = machine_over(alloc, shape, pack, ANY) else {
+        return None;
+    };
+    match Session::begin(alloc, &mut machine, MOMENT, 7) {
+        Ok(session) => Some(session),
+        Err(_) => None,
+    }
 }
 
 /// Whether a line only reads.
@@ -57,89 +85,109 @@ fn only_reads(line: &Line) -> bool {
     )
 }
 
-/// Passes if a session has all levels, the whole memory, a bit for each sector, and the limit that it began with.
-fn expect_same_size(shape: Shape, session: &Session) -> Result<(), Fail> {
-    expect(session.level() == 8, "a level is gone")?;
-    expect(session.tally().limit == 7, "another limit")?;
-    expect(session.memory.as_slice().len() == 65_536, "another memory")?;
-    expect(
-        session.hints.table.pages() == shape.pages(),
-        "another table",
-    )
+/// Whether a session has all levels, the whole memory, a bit for each sector, and the limit that it began with.
+fn has_same_size(shape: Shape, session: &Session) -> bool {
+    session.level() == 8
+        && session.tally().limit == 7
+        && session.memory.as_slice().len() == 65_536
+        && session.hints.table.pages() == shape.pages()
 }
 
-/// Types a line in a session on this pack: the text that is shown. The device fails after so many sector commands. A line that only reads or
-/// is refused writes nothing, and a session keeps no more after a line than before.
-pub(crate) fn say(
+/// Puts the text of a reply after what was shown. A line that only reads or is refused writes nothing.
+fn show(
+    alloc: Global,
+    line: &Line,
+    reply: &Reply,
+    writes: u64,
+    shown: &mut Vec<u8>,
+) -> Result<(), Fail> {
+    if writes > 0 && (only_reads(line) || matches!(reply, Reply::Refused { .. })) {
+        return Err(Fail::new("it wrote"));
+    }
+    let Ok(text) = reply_text(alloc, reply) else {
+        return Err(Fail::new("no memory"));
+    };
+    expect(shown.extend_from_slice(&text).is_ok(), "no memory")
+}
+
+/// Types a line in a session on this pack, and puts what is shown after what was shown before. The device fails after so many sector commands.
+/// A line that only reads or is refused writes nothing, and a session keeps no more after a line than before.
+fn say(
     alloc: Global,
     shape: Shape,
     pack: &mut Vec<Sector>,
     session: &mut Session,
-    text: &str,
+    words: &str,
     most: u64,
-) -> Result<Vec<u8>, Fail>
+    shown: &mut Vec<u8>,
+) -> Result<(), Fail>
     requires formed { Formed shape (kept session.old) }
     ensures formed { Formed shape (kept session.new) }
 {
-    let line = read_line(alloc, &expanded(alloc, text)?)?;
-    let mut machine = MemMachine::new(alloc, shape, pack.to_vec(alloc)?, Vec::new(alloc))?;
-    machine.fail_at(alloc, most, 0)?;
+    let Ok(line) = line_of(alloc, words) else {
+        return Err(Fail::new("no line"));
+    };
+    let Some(mut machine) = machine_over(alloc, shape, pack, most) else {
+        return Err(Fail::new("no machine"));
+    };
     let reply = obey(alloc, session, &mut machine, &line);
-    if only_reads(&line) || matches!(reply, Reply::Refused { .. }) {
-        expect(machine.writes() == 0, "it wrote")?;
-    }
-    expect_same_size(shape, session)?;
+    let writes = machine.writes();
     *pack = machine.into_sectors();
-    Ok(reply_text(alloc, &reply)?)
+    if !has_same_size(shape, session) {
+        return Err(Fail::new("the session keeps more or less than before"));
+    }
+    show(alloc, &line, &reply, writes, shown)
 }
 
-/// What is shown of these lines in a session on this pack, each in at most so many sector commands.
+/// Types these lines in a session on this pack, none of an empty text, each in at most so many sector commands, and puts what is shown after
+/// what was shown before.
 pub(crate) fn talk(
     alloc: Global,
     shape: Shape,
     pack: &mut Vec<Sector>,
     session: &mut Session,
-    turns: &[Turn],
+    lines: &str,
     most: u64,
-) -> Result<Vec<u8>, Fail>
+    shown: &mut Vec<u8>,
+) -> Result<(), Fail>
     requires formed { Formed shape (kept session.old) }
     ensures formed { Formed shape (kept session.new) }
 {
-    let mut shown = Vec::new(alloc);
-    for (line, _) in turns {
-        let text = say(alloc, shape, pack, session, line, most)?;
-        shown.extend_from_slice(&text)?;
+    if lines.is_empty() {
+        return Ok(());
     }
-    Ok(shown)
+    for line in lines.split('\n') {
+        say(alloc, shape, pack, session, line, most, shown)?;
+    }
+    Ok(())
 }
 
-/// What is to be shown of them.
-pub(crate) fn wanted(alloc: Global, turns: &[Turn]) -> Result<Vec<u8>, Fail> {
-    let mut text = Vec::new(alloc);
-    for (_, shown) in turns {
-        text.extend_from_slice(shown.as_bytes())?;
-        text.push(b'\n')?;
-    }
-    Ok(text)
+/// Whether a session on this pack ends.
+fn end(alloc: Global, shape: Shape, pack: &mut Vec<Sector>, session: &mut Session) -> bool
+    requires formed { Formed shape (kept session.old) }
+{
+    let Some(mut machine) = machine_over(alloc, shape, pack, ANY) else {
+        return false;
+    };
+    let done = matches!(session.end(alloc, &mut machine), Reply::Done { .. });
+    *pack = machine.into_sectors();
+    done && has_same_size(shape, session)
 }
 
-/// Types these lines in a session on this pack, and ends it.
+/// Types these lines in a session on this pack, none of an empty text, and ends it.
 pub(crate) fn earlier_session(
     alloc: Global,
     shape: Shape,
     pack: &mut Vec<Sector>,
-    lines: &[&str],
+    lines: &str,
 ) -> Result<(), Fail> {
-    let mut session = begin(alloc, shape, pack)?;
-    for line in lines {
-        say(alloc, shape, pack, &mut session, line, ANY)?;
-    }
-    let mut machine = MemMachine::new(alloc, shape, pack.to_vec(alloc)?, Vec::new(alloc))?;
-    let reply = session.end(alloc, &mut machine);
-    *pack = machine.into_sectors();
-    expect_same_size(shape, &session)?;
+    let Some(mut session) = begin(alloc, shape, pack) else {
+        return Err(Fail::new("no session"));
+    };
+    let mut shown = Vec::new(alloc);
+    talk(alloc, shape, pack, &mut session, lines, ANY, &mut shown)?;
     expect(
-        matches!(reply, Reply::Done { .. }),
+        end(alloc, shape, pack, &mut session),
         "the session isn't ended",
     )
 }
