@@ -33,11 +33,29 @@ const WHOLE: &str = "SysDir>A. length 600\n1 files";
 /// The listing of the pack with directory D beside it.
 const WITH_DIRECTORY: &str = "SysDir>A. length 600\nSysDir>D. directory\n2 files";
 
+/// The true links of the pack with the file.
+const TRUE_LINKS: &[Wanted] = &[
+    Wanted::Label(1, 0, 0x2000),
+    Wanted::Label(1, 1, ONES),
+    Wanted::Label(2, 0, ONES),
+    Wanted::Label(2, 1, 0x1000),
+    Wanted::Label(3, 0, 0x4000),
+    Wanted::Label(3, 1, ONES),
+    Wanted::Label(4, 0, ONES),
+    Wanted::Label(4, 1, 0x3000),
+    Wanted::Label(5, 0, 0x6000),
+    Wanted::Label(5, 1, ONES),
+    Wanted::Label(6, 0, 0x7000),
+    Wanted::Label(6, 1, 0x5000),
+    Wanted::Label(7, 0, ONES),
+    Wanted::Label(7, 1, 0x6000),
+];
+
 /// File A has its leader page on sector 5 and its data pages, of 512 and 88 bytes, on 6 and 7. SysDir's pages are on 1 and 2, those of
 /// DiskDescriptor on 3 and 4, and those of directory D, if it is made, on 8 and 9. The entry of A begins at word 24 of SysDir. Its
 /// leader's name is in the words from 6 on: the number of its bytes, and `Lost3.` where none can be read. Its dates are 1000, as those of
 /// all leaders, before the name.
-const MENDED: [Mended; 23] = [
+const MENDED: [Mended; 24] = [
     Mended {
         name: "every link is wrong",
         drives: 1,
@@ -60,22 +78,25 @@ const MENDED: [Mended; 23] = [
         ],
         freed: 0,
         shown: WHOLE,
-        then: &[
-            Wanted::Label(1, 0, 0x2000),
-            Wanted::Label(1, 1, ONES),
-            Wanted::Label(2, 0, ONES),
-            Wanted::Label(2, 1, 0x1000),
-            Wanted::Label(3, 0, 0x4000),
-            Wanted::Label(3, 1, ONES),
-            Wanted::Label(4, 0, ONES),
-            Wanted::Label(4, 1, 0x3000),
-            Wanted::Label(5, 0, 0x6000),
-            Wanted::Label(5, 1, ONES),
-            Wanted::Label(6, 0, 0x7000),
-            Wanted::Label(6, 1, 0x5000),
-            Wanted::Label(7, 0, ONES),
-            Wanted::Label(7, 1, 0x6000),
+        then: TRUE_LINKS,
+    },
+    Mended {
+        name: "no page has a link",
+        drives: 1,
+        typed: FILE,
+        damages: &[
+            Damage::Label(1, 0, ONES),
+            Damage::Label(2, 1, ONES),
+            Damage::Label(3, 0, ONES),
+            Damage::Label(4, 1, ONES),
+            Damage::Label(5, 0, ONES),
+            Damage::Label(6, 0, ONES),
+            Damage::Label(6, 1, ONES),
+            Damage::Label(7, 1, ONES),
         ],
+        freed: 0,
+        shown: WHOLE,
+        then: TRUE_LINKS,
     },
     Mended {
         name: "a link names its own sector",
