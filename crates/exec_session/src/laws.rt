@@ -1,5 +1,5 @@
-//! What a line is as a turn that wrote nothing, which call is a step of a line, how steps join, and what a line is that is done or broke off:
-//! each law is what a function of its name ensures. The functions do nothing.
+//! How a line that wrote nothing is a turn, which call is a step of a line, how steps join, and how a line that is done or broke off is a
+//! turn: each law is what a function of its name ensures. The functions do nothing.
 ghost use Rattle.exec_session.specs.Lines.{LineIsDone, LineStops, LinesBreakOff};
 ghost use Rattle.exec_session.specs.Steps.{CallIsAStep, StepStops, StepsJoin};
 ghost use Rattle.exec_session.specs.Turned.{LineIsRefused, LineStopsUnwritten, LineWritesNothing, TurnedIsATurn};

@@ -1,6 +1,6 @@
 //! What typed lines share: the session, its beginning and its end, why a line isn't done, what the operands of lines mean, the names and the
-//! room of new entries, the bytes of files, sectors that are reserved, the steps of a line that writes, how steps join, and what a line is
-//! as a turn that wrote nothing, is done or broke off.
+//! room of new entries, the bytes of files, sectors that are reserved, the steps of a line that writes, how steps join, and how a line that
+//! wrote nothing, is done or broke off is a turn.
 //!
 //! Come here when you write a line. Below it stand the calls on files, directories and DiskDescriptor, whose words a session keeps, the
 //! sweep of all labels, and the laws of calls. A line finds its operands, refuses in order, and reserves all of its sectors at once, by the

@@ -8,7 +8,7 @@
 //!    its count rose (`cause`), and the disk is lent alone (`alone`).
 //!
 //! And where the machine is modelled:
-//! 2. A line that the model refuses, and not a hint, writes nothing (`unwritten`), nor does a line that only reads (`silent`).
+//! 2. A line that the model refuses, and not a hint, writes nothing (`unwritten`); nor, by `turns`, does a line that only reads.
 //! 3. Each line is a turn of the session, from each state for which what the session keeps is right (`turns`): its text, the refusals in
 //!    their order, a hint that misled, its record writes as its operations make them, all of them at Done and Quit and a prefix else, what is
 //!    counted of them, and for `type` and `append` few sector commands where hints are handy. A line whose verb isn't built yet is a bad line.

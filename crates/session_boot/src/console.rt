@@ -28,7 +28,7 @@ pub fn show_all<C: Console>(console: &mut C, bytes: &[u8]) -> Result<(), Fault>
     }
 }
 
-/// Shows the text of a reply, which is built whole before.
+/// Shows the text of a reply, which is built whole before: that of `Done` is there already.
 pub(crate) fn show_reply<C: Console>(
     alloc: Global,
     console: &mut C,
@@ -40,6 +40,9 @@ pub(crate) fn show_reply<C: Console>(
     ensures handed_on { C.handed_on console.new }
     ensures alone { ShowAlone (C.tape console.old) (C.tape console.new) }
 {
+    if let Reply::Done { text } = reply {
+        return show_all(console, text.as_slice());
+    }
     let text = reply_text(alloc, reply)?;
     show_all(console, &text)
 }

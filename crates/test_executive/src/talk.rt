@@ -36,7 +36,7 @@ fn push_word(word: &str, text: &mut Vec<u8>) -> bool {
     true
 }
 
-/// The line that is typed with these words.
+/// The line that is typed with these words. Memory: none was left for it, or one of them isn't a word.
 fn line_of(alloc: Global, words: &str) -> Result<Line, Memory> {
     let mut text = Vec::new(alloc);
     for word in words.split(' ') {
