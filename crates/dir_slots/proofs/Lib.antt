@@ -6,6 +6,7 @@ pub mod Slots
 pub mod Longest
 pub mod NameWords
 pub mod Writing
+pub mod Characters
 pub mod Passing
 pub mod Rooms
 pub mod Runs

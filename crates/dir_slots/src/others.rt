@@ -15,6 +15,29 @@ use alto_words::Name;
 /// What ends a name.
 const DOT: u16 = 46;
 
+/// Whether each byte may stand in a bare name.
+const CHARACTERS: [bool; 256] = [
+    false, false, false, false, false, false, false, false, false, false, false, false, false,
+    false, false, false, false, false, false, false, false, false, false, false, false, false,
+    false, false, false, false, false, false, false, false, false, false, true, false, false,
+    false, false, false, false, true, false, true, true, false, true, true, true, true, true, true,
+    true, true, true, true, false, false, false, false, false, false, false, true, true, true,
+    true, true, true, true, true, true, true, true, true, true, true, true, true, true, true, true,
+    true, true, true, true, true, true, true, false, false, false, false, false, false, true, true,
+    true, true, true, true, true, true, true, true, true, true, true, true, true, true, true, true,
+    true, true, true, true, true, true, true, true, false, false, false, false, false, false,
+    false, false, false, false, false, false, false, false, false, false, false, false, false,
+    false, false, false, false, false, false, false, false, false, false, false, false, false,
+    false, false, false, false, false, false, false, false, false, false, false, false, false,
+    false, false, false, false, false, false, false, false, false, false, false, false, false,
+    false, false, false, false, false, false, false, false, false, false, false, false, false,
+    false, false, false, false, false, false, false, false, false, false, false, false, false,
+    false, false, false, false, false, false, false, false, false, false, false, false, false,
+    false, false, false, false, false, false, false, false, false, false, false, false, false,
+    false, false, false, false, false, false, false, false, false, false, false, false, false,
+    false, false, false, false, false, false, false, false, false, false,
+];
+
 /// How many words the slot has that these words begin with, if all of it is here, and it is free or the entry of a bare name that isn't
 /// this one, in whatever case of its letters. None doesn't rule that out.
 pub(crate) fn other_here(words: &[u16], name: &Name) -> Option<usize>
@@ -127,7 +150,7 @@ fn is_pair(word: u16) -> bool
 fn is_character(c: u8) -> bool
     ensures { result ≡ is_name_character c }
 {
-    c.is_ascii_alphanumeric() | (c == b'+') | (c == b'-') | (c == b'.') | (c == b'$')
+    CHARACTERS[c as usize]
 }
 
 /// Whether an entry has another name than this one, in whatever case of its letters. False doesn't rule it out. The characters are
