@@ -1,3 +1,4 @@
+pub mod FreeBits
 pub mod Keys
 pub mod Listing
 pub mod Numbers

@@ -1,5 +1,5 @@
 // Which sectors are free.
-ghost use Rattle.std.specs.Prelude.{◌≡◌, IfOk};
+ghost use Rattle.std.specs.Prelude.{◌≡◌, not, position, IfOk};
 ghost use Rattle.hint_cache.specs.Bits.{bit_in, bits_in};
 
 use alto_words::Memory;
@@ -26,7 +26,7 @@ impl Model for BitTable {
 }
 
 impl BitTable {
-    ghost use Rattle.std.specs.Prelude.{◌≡◌, ℕ, ◌+◌, ◌*◌, ◌<◌, IfOk, true, false, length, replicate, get_or, slice_set};
+    ghost use Rattle.std.specs.Prelude.{◌≡◌, ℕ, ◌+◌, ◌*◌, ◌<◌, ◌≤◌, IfOk, IfSome, IfNone, true, false, length, replicate, get_or, slice_set};
     ghost use Rattle.hint_cache.specs.Bits.{busy_at, is_one, bits_in, digit_at, word_of};
 
     /// A table of so many sectors, all busy. Memory: none was left for its bits.
@@ -99,6 +99,24 @@ impl BitTable {
     {
         self.bits[usize::from(at)]
     }
+
+    /// The first sector from this address on that is marked as free. None if and only if there is none.
+    pub fn next_free(&self, from: u16) -> Option<u16>
+        requires { from ≤ length self.now }
+        ensures free { IfSome result (λ at. (from ≤ at) × (at < length self.now) × (busy_at self.now at ≡ false)) }
+        ensures first { IfSome result (λ at. (k : ℕ) → from ≤ k → k < at → busy_at self.now k ≡ true) }
+        ensures none { IfNone result ((k : ℕ) → from ≤ k → k < length self.now → busy_at self.now k ≡ true) }
+    {
+        let passed = first_free(&self.bits[usize::from(from)..])?;
+        Some(from + passed as u16)
+    }
+}
+
+/// How many busy sectors come before the first free one. None if and only if all are busy.
+fn first_free(bits: &[bool]) -> Option<usize>
+    ensures { result ≡ position not bits.now }
+{
+    bits.iter().position(|busy| !busy)
 }
 
 /// Whether these words have the sector at this address as busy. A missing word has ones.

@@ -136,6 +136,9 @@ fn a_new_table_is_busy(rt: HostRuntime) -> Result<(), Fail> {
     assert_eq!(rt; hints.table.word(3), 0);
     hints.table.set(47, false);
     assert!(rt; !hints.table.is_busy(47));
+    assert_eq!(rt; hints.table.next_free(1), Some(47));
+    assert_eq!(rt; hints.table.next_free(47), Some(47));
+    assert_eq!(rt; hints.table.next_free(48), None);
     assert!(rt; hints.table.is_busy(46));
     assert_eq!(rt; hints.table.word(2), 0xFFFE);
     assert_eq!(rt; hints.cache.recall(page(0)), None);

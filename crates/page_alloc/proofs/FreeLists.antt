@@ -27,6 +27,16 @@ below-add test at m = ap (filter test) (range_with_len-add 0 at m) ∙ filter-ap
 pub below-more : (test : ℕ → Bool) (at : ℕ) → below test (at + 1) ≡ below test at ++ cond (test at) (at ∷ []) []
 below-more test at = let plain : 0 + at ≡ at = omega arith in below-add test at 1 ∙ ap (λ (b : ℕ). below test at ++ filter test (range_with_len b 1)) plain
 
+-- addresses that don't pass are passed over
+below_passed : (test : ℕ → Bool) (from n : ℕ) → ((k : ℕ) → from ≤ k → k < from + n → test k ≡ false) → below test (from + n) ≡ below test from
+below_passed test from zero h = let same : from + 0 ≡ from = omega arith in ap (below test) same
+below_passed test from (suc n) h =
+    let one : from + suc n ≡ from + n + 1 = omega arith in
+    ap (below test) one ∙ below-more test (from + n) ∙ ap (λ b. below test (from + n) ++ cond b ((from + n) ∷ []) []) (h (from + n) (omega arith) (omega arith)) ∙ append-nil (below test (from + n)) ∙ below_passed test from n (λ k later before. h k later (omega arith))
+
+pub below_passed_over : (test : ℕ → Bool) (from at : ℕ) → from ≤ at → ((k : ℕ) → from ≤ k → k < at → test k ≡ false) → below test at ≡ below test from
+below_passed_over test from at low h = let there : from + (at - from) ≡ at = omega arith in ap (below test) (sym there) ∙ below_passed test from (at - from) (λ k later before. h k later (omega arith))
+
 pub length-below-le : (test : ℕ → Bool) (at end : ℕ) → at ≤ end → length (below test at) ≤ length (below test end)
 length-below-le test at end h =
     let rest : at + (end - at) ≡ end = omega arith in
@@ -160,6 +170,24 @@ offer_here bits (suc n) h = by (busy_at bits (suc n))
     by : (busy : Bool) → cond {A = ℕ} busy 0 1 ≡ cond (nat_lt 0 (suc n) && not busy) 1 0
     by true = grind (arith, nat_tests)
     by false = grind (arith, nat_tests)
+
+-- a busy sector isn't offered
+unoffered : (test busy : Bool) → busy ≡ true → test && not busy ≡ false
+unoffered true busy is = ap not is
+unoffered false busy is = refl
+
+pub offers_passed_over : (bits : List Bool) (from at : ℕ) → from ≤ at → ((k : ℕ) → from ≤ k → k < at → busy_at bits k ≡ true) → below (is_offered bits) at ≡ below (is_offered bits) from
+offers_passed_over bits from at low busy = below_passed_over (is_offered bits) from at low (λ k later before. unoffered (nat_lt 0 k) (busy_at bits k) (busy k later before))
+
+pub free_passed_over : (p : Pack) (bits : List Bool) (from at : ℕ) → from ≤ at → ((k : ℕ) → from ≤ k → k < at → busy_at bits k ≡ true) → below (is_offered_free p bits) at ≡ below (is_offered_free p bits) from
+free_passed_over p bits from at low busy = below_passed_over (is_offered_free p bits) from at low (λ k later before. unoffered (is_free_at p k) (busy_at bits k) (busy k later before))
+
+-- all of those that are offered and free, where no more are offered
+pub all_found : (p : Pack) (bits : List Bool) (wanted from end : ℕ) (found : List ℕ) → from ≤ end → ((k : ℕ) → from ≤ k → k < end → busy_at bits k ≡ true) → length found ≤ wanted → found ≡ below (is_offered_free p bits) from → found ≡ take wanted (below (is_offered_free p bits) end)
+all_found p bits wanted from end found low busy few is =
+    let all = is ∙ sym (free_passed_over p bits from end low busy) in
+    let long = ap length all in
+    all ∙ sym (take_all wanted (below (is_offered_free p bits) end) (omega (arith, few, long)))
 
 pub left_here : (bits : List Bool) (at : ℕ) → 1 ≤ at → cond {A = ℕ} (busy_at bits at) 1 0 ≡ cond (is_left bits at) 1 0
 left_here bits zero h = absurd (omega arith)

@@ -1,15 +1,24 @@
 -- Calls that write nothing, one after another.
-use Rattle.std.proofs.Common.{◌≡◌, ℕ, ◌+◌, ◌-◌, ◌≤◌, Bool, cond, List, length, sym, ◌∙◌, ap, arith}
+use Rattle.std.proofs.Common.{◌≡◌, ℕ, ◌+◌, ◌-◌, ◌<◌, ◌≤◌, Bool, true, false, cond, List, length, sym, ◌∙◌, ap, arith}
 use Rattle.disk_records.specs.Addresses.{pages_of}
 use Rattle.disk_records.specs.Tapes.{Looks, Taped}
 use Rattle.disk_records.proofs.Looking.{looks_twice, looks_within, looks_pages}
-use Rattle.page_alloc.specs.Free.{below, offered_sectors}
+use Rattle.hint_cache.specs.Bits.{busy_at}
+use Rattle.page_alloc.specs.Free.{below, is_offered, offered_sectors}
 use Rattle.page_alloc.specs.Inside.{is_left}
-use Rattle.page_alloc.proofs.FreeLists.{length-below-le, length-below-more, offered_or_left}
+use Rattle.page_alloc.proofs.FreeLists.{length-below-le, length-below-more, offer_here, offered_or_left, offers_passed_over}
 
 -- ---- looks at those addresses that pass a test
 pub looks_step : {told : Bool} {x y z : Taped} (test : ℕ → Bool) (at most : ℕ) → most ≡ cond (test at) 1 0 → Looks told (length (below test at)) x y → Looks told most y z → Looks told (length (below test (at + 1))) x z
 looks_step test at most is a b = let more = length-below-more test at in looks_twice (length (below test (at + 1))) a b (omega (arith, more, is))
+
+-- the next offer, after sectors that aren't offered
+pub looks_next : {told : Bool} {x y z : Taped} (bits : List Bool) (from at : ℕ) → 1 ≤ at → from ≤ at → ((k : ℕ) → from ≤ k → k < at → busy_at bits k ≡ true) → busy_at bits at ≡ false → Looks told (length (below (is_offered bits) from)) x y → Looks told 1 y z → Looks told (length (below (is_offered bits) (at + 1))) x z
+looks_next bits from at first low busy free a b =
+    let more = length-below-more (is_offered bits) at in
+    let same = ap length (offers_passed_over bits from at low busy) in
+    let here = ap (λ busy. cond {A = ℕ} busy 0 1) (sym free) ∙ offer_here bits at first in
+    looks_twice (length (below (is_offered bits) (at + 1))) a b (omega (arith, more, same, here))
 
 pub looks_below : {told : Bool} {x y : Taped} (test : ℕ → Bool) (at end : ℕ) → at ≤ end → Looks told (length (below test at)) x y → Looks told (length (below test end)) x y
 looks_below test at end h a = looks_within (length (below test end)) a (length-below-le test at end h)

@@ -1,5 +1,5 @@
 -- Tables of busy bits that are corrected.
-use Rattle.std.proofs.Common.{◌≡◌, ℕ, zero, suc, ◌+◌, ◌<◌, ◌⊎◌, ◌&&◌, inl, inr, Bool, true, false, not, IsTrue, List, [], ◌∷◌, length, take, get_or, set, refl, sym, ◌∙◌, ap, subst, arith}
+use Rattle.std.proofs.Common.{◌≡◌, ℕ, zero, suc, ◌+◌, ◌<◌, ◌≤◌, ◌⊎◌, ◌&&◌, inl, inr, Bool, true, false, not, IsTrue, List, [], ◌∷◌, length, take, get_or, set, refl, sym, ◌∙◌, ap, subst, arith}
 use Rattle.std.specs.Prelude.{All, Contains, nat_lt}
 use Rattle.std.proofs.lemmas.List.Elements.{All-more, All-weaker, Contains-get_or}
 use Rattle.disk_records.specs.Packs.{Pack, is_free_at}
@@ -82,10 +82,23 @@ checked_more p offers now end checked here at first low free = by (nat_lt at end
 pub checked_then : {told : Bool} {most : ℕ} {x y : Taped} (offers a b : List Bool) (end : ℕ) → Looks told most x y → IsTrue told → AreChecked (pack x) offers a end → IsCorrected (pack x) a b → AreChecked (pack y) offers b end
 checked_then {told} {most} {x} {y} offers a b end looks t checked corrected = subst (λ p. AreChecked p offers b end) (sym (looks_pack looks t)) (checked_corrected (pack x) offers a b end checked corrected)
 
-pub checked_step : {told : Bool} {most : ℕ} {x y : Taped} (offers a b : List Bool) (at : ℕ) → Looks told most x y → IsTrue told → busy_at a at ≡ busy_at offers at → AreChecked (pack x) offers a at → IsCorrected (pack y) a b → IsCheckedAt (pack y) a b at → AreChecked (pack x) offers b (at + 1)
-checked_step {told} {most} {x} {y} offers a b at looks t same checked corrected here =
-    let here_too = subst (λ p. IsCheckedAt p a b at) (looks_pack looks t) here in
-    checked_more (pack x) offers b at (checked_corrected (pack x) offers a b at checked (subst (λ p. IsCorrected p a b) (looks_pack looks t) corrected)) (λ free. here_too (same ∙ free))
+-- sectors that aren't offered are passed over
+pub checked_passed_over : (p : Pack) (offers now : List Bool) (from end : ℕ) → ((k : ℕ) → from ≤ k → k < end → busy_at offers k ≡ true) → AreChecked p offers now from → AreChecked p offers now end
+checked_passed_over p offers now from end busy checked at first low free = by (nat_lt at from) refl
+  where
+    by : (inner : Bool) → nat_lt at from ≡ inner → busy_at now at ≡ not (is_free_at p at)
+    by true e = checked at first (lt-test at from e) free
+    by false e = let here : busy_at offers at ≡ true = busy at (le-test at from e) low in cc
 
-pub offer_then : {told : Bool} {most : ℕ} {x y : Taped} (offers a : List Bool) (at : ℕ) (free : Bool) → Looks told most x y → IsTrue told → busy_at a at ≡ busy_at offers at → free ≡ is_offered_free (pack y) a at → free ≡ is_offered_free (pack x) offers at
-offer_then {told} {most} {x} {y} offers a at free looks t same is = is ∙ ap (λ p. is_offered_free p a at) (looks_pack looks t) ∙ ap (λ busy. is_free_at (pack x) at && not busy) same
+pub checked_step : {told : Bool} {most : ℕ} {x y : Taped} (offers a b : List Bool) (from at : ℕ) → Looks told most x y → IsTrue told → ((k : ℕ) → from ≤ k → k < at → busy_at offers k ≡ true) → AreChecked (pack x) offers a from → IsCorrected (pack y) a b → busy_at b at ≡ not (is_free_at (pack y) at) → AreChecked (pack x) offers b (at + 1)
+checked_step {told} {most} {x} {y} offers a b from at looks t busy checked corrected here =
+    let same = looks_pack looks t in
+    let so_far = checked_corrected (pack x) offers a b at (checked_passed_over (pack x) offers a from at busy checked) (subst (λ p. IsCorrected p a b) same corrected) in
+    checked_more (pack x) offers b at so_far (λ free. here ∙ ap (λ p. not (is_free_at p at)) same)
+
+with_true : (b : Bool) → b ≡ b && true
+with_true true = refl
+with_true false = refl
+
+pub offer_then : {told : Bool} {most : ℕ} {x y : Taped} (offers : List Bool) (at : ℕ) (free : Bool) → Looks told most x y → IsTrue told → busy_at offers at ≡ false → free ≡ is_free_at (pack y) at → free ≡ is_offered_free (pack x) offers at
+offer_then {told} {most} {x} {y} offers at free looks t offered is = is ∙ ap (λ p. is_free_at p at) (looks_pack looks t) ∙ with_true (is_free_at (pack x) at) ∙ ap (λ busy. is_free_at (pack x) at && not busy) (sym offered)
