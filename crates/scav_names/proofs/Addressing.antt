@@ -12,9 +12,9 @@ use Rattle.dir_slots.proofs.Hands.{slots_within}
 use Rattle.dir_slots.proofs.Slots.{all_words-append}
 use Rattle.disk_records.specs.Packs.{Pack, after}
 use Rattle.disk_records.proofs.Growing.{after-append}
-use Rattle.scav_entries.specs.laws_contents.proofs.pages.Laws.{page_numbers_are_words}
-use Rattle.scav_entries.specs.laws_contents.proofs.words.Laws.{each_word_has_its_page}
-use Rattle.scav_entries.specs.laws_lookup.proofs.Replacing.{range}
+use Rattle.scav_pages.specs.laws_contents.proofs.pages.Laws.{page_numbers_are_words}
+use Rattle.scav_pages.specs.laws_contents.proofs.words.Laws.{each_word_has_its_page}
+use Rattle.scav_pages.specs.laws_lookup.proofs.Replacing.{range}
 use Rattle.laws_names.specs.Keeping.{AllKeepOpen}
 use Rattle.laws_names.specs.WriteLaws.{AddressIsSet}
 use Rattle.laws_names.proofs.entries.Laws.{names_are_mended, slot_splits}
@@ -22,9 +22,9 @@ use Rattle.laws_names.proofs.lacking.Laws.{none_lacking_is_named}
 use Rattle.laws_names.proofs.joins.Laws.{keeps_open_join, nothing_keeps_open}
 use Rattle.laws_names.proofs.writes.Laws.{address_is_written}
 use Rattle.laws_names.proofs.parts.Laws.{mended_has_parts}
-use Rattle.scav_entries.specs.laws_operation.proofs.places.Laws.{file_lives_in_a_place}
-use Rattle.scav_entries.specs.laws_record.specs.DirLaws.{DirWrite, dir_written}
-use Rattle.scav_entries.specs.pack_laws.proofs.Keys.{fid_total, is_fid-itself, same_fid}
+use Rattle.scav_pages.specs.laws_operation.proofs.places.Laws.{file_lives_in_a_place}
+use Rattle.scav_pages.specs.laws_record.specs.DirLaws.{DirWrite, dir_written}
+use Rattle.scav_pages.specs.pack_laws.proofs.Keys.{fid_total, is_fid-itself, same_fid}
 use Rattle.pack_model.specs.hints.Links.{IsTrueAddress, dir_slots, dir_words}
 use Rattle.pack_model.specs.operations.PageWords.{in_page}
 use Rattle.pack_model.specs.reading.Files.{lives, place}
@@ -34,10 +34,10 @@ use Rattle.pack_model.specs.reading.Slots.{Item, all_words, entry_length, item_w
 use Rattle.pack_model.specs.reading.Slots.Item.{space, entry}
 use Rattle.pack_model.specs.scavenger.Mended.{lacking}
 use Rattle.pack_model.specs.scavenger.Reports.{NamesMended}
-use Rattle.scav_entries.specs.declared.living.Living.{Living}
-use Rattle.scav_entries.specs.declared.placed.PlacedEntry.{PlacedEntry}
-use Rattle.scav_entries.specs.Living.{living_in}
+use Rattle.scav_names.specs.declared.living.Living.{Living}
+use Rattle.scav_names.specs.declared.placed.PlacedEntry.{PlacedEntry}
 use Rattle.scav_names.specs.declared.words.DirWord.{DirWord}
+use Rattle.scav_names.specs.Living.{living_in}
 use Rattle.scav_names.specs.Parts.{AreInOrder, IsAlive, IsTrueBut, MayBeAddressed, StandsBefore, StandsThere, slot_of}
 use Rattle.scav_names.specs.Words as words
 use Rattle.scav_names.specs.Words.{AreWordsOf, ComesFirst, IsWordOf, true_address, address_words, other_address, page_writes, word_writes, words_writes}

@@ -8,10 +8,10 @@ use Rattle.alto_words.specs.Fid.{disk_descriptor, fid_cmp, is_system, sys_dir}
 use Rattle.disk_records.specs.Packs.{Pack}
 use Rattle.laws_names.proofs.lacking.Laws.{lacking_are_adopted}
 use Rattle.laws_names.proofs.models.Laws.{mended_is_read}
-use Rattle.scav_entries.specs.laws_record.proofs.Mending.{entries-tidied}
-use Rattle.scav_entries.specs.laws_room.specs.NextLaws.{mended_pack}
-use Rattle.scav_entries.specs.pack_laws.proofs.ByLists.{described_list, found_by, is_shown, puts, seen_list}
-use Rattle.scav_entries.specs.pack_laws.proofs.Sighted.{length-sights}
+use Rattle.scav_pages.specs.laws_record.proofs.Mending.{entries-tidied}
+use Rattle.laws_room.specs.NextLaws.{mended_pack}
+use Rattle.scav_pages.specs.pack_laws.proofs.ByLists.{described_list, found_by, is_shown, puts, seen_list}
+use Rattle.scav_pages.specs.pack_laws.proofs.Sighted.{length-sights}
 use Rattle.pack_model.specs.reading.Bodies.{File, described, file_of, is_described}
 use Rattle.pack_model.specs.reading.Leaders.{Leader}
 use Rattle.pack_model.specs.reading.Model.{Model, is_named, read_as, read_sights}
@@ -26,7 +26,7 @@ use Rattle.pack_model.specs.sessions.Maps.{map_entries}
 use Rattle.pack_model.specs.showing.Settling.{adopted, chosen, given_names, unless}
 use Rattle.pack_model.specs.showing.View.{Home, Seen, seen_of, view}
 use Rattle.pack_model.specs.states.InUse.{how_many, one_if}
-use Rattle.scav_entries.specs.Lacking.{adopted_among, lacking_file, lacking_files}
+use Rattle.scav_names.specs.Lacking.{adopted_among, lacking_file, lacking_files}
 
 -- ---- counted
 among_pairs : (p : Pack) (es : List (Fid × List ℕ)) → adopted_among (map (lacking_file p) es) ≡ how_many {X = Fid × List ℕ} (λ e. not (is_system e.0)) es

@@ -10,16 +10,16 @@ use Rattle.alto_words.specs.Fid.{disk_descriptor, fid_cmp, is_fid, sys_dir}
 use Rattle.disk_records.specs.Packs.{Pack, is_free_at}
 use Rattle.disk_records.proofs.Bytes.{length-words_of}
 use Rattle.laws_names.proofs.models.Laws.{mended_is_read, mended_slots, tidy_mended_is_read}
-use Rattle.scav_entries.specs.laws_operation.proofs.places.Laws.{file_lives_in_a_place}
-use Rattle.scav_entries.specs.laws_record.proofs.Around.{around}
-use Rattle.scav_entries.specs.laws_record.proofs.DirReads.{has_leader}
-use Rattle.scav_entries.specs.laws_record.proofs.Heads.{all_read}
-use Rattle.scav_entries.specs.laws_record.proofs.Mending.{entries-tidied}
-use Rattle.scav_entries.specs.laws_record.proofs.Reading.{get-found, read_file}
-use Rattle.scav_entries.specs.laws_room.proofs.SystemFiles.{leader_shown}
-use Rattle.scav_entries.specs.laws_room.specs.NextLaws.{mended_pack}
-use Rattle.scav_entries.specs.pack_laws.proofs.ByLists.{described_list, found_by, found_list, is_shown, seen_list}
-use Rattle.scav_entries.specs.pack_laws.proofs.Keys.{fid_same, fid_total, is_fid-itself}
+use Rattle.scav_pages.specs.laws_operation.proofs.places.Laws.{file_lives_in_a_place}
+use Rattle.scav_pages.specs.laws_record.proofs.Around.{around}
+use Rattle.scav_pages.specs.laws_record.proofs.DirReads.{has_leader}
+use Rattle.scav_pages.specs.laws_record.proofs.Heads.{all_read}
+use Rattle.scav_pages.specs.laws_record.proofs.Mending.{entries-tidied}
+use Rattle.scav_pages.specs.laws_record.proofs.Reading.{get-found, read_file}
+use Rattle.laws_room.proofs.SystemFiles.{leader_shown}
+use Rattle.laws_room.specs.NextLaws.{mended_pack}
+use Rattle.scav_pages.specs.pack_laws.proofs.ByLists.{described_list, found_by, found_list, is_shown, seen_list}
+use Rattle.scav_pages.specs.pack_laws.proofs.Keys.{fid_same, fid_total, is_fid-itself}
 use Rattle.pack_model.specs.hints.Links.{dir_words}
 use Rattle.pack_model.specs.reading.Bodies.{File, described, found, is_described}
 use Rattle.pack_model.specs.reading.Files.{file_bytes, leader, lives, place}
@@ -33,13 +33,13 @@ use Rattle.pack_model.specs.sessions.Maps.{map_entries}
 use Rattle.pack_model.specs.showing.Settling.{adopted, chosen, given_names, unless}
 use Rattle.pack_model.specs.showing.View.{Home, Seen, seen_of, view}
 use Rattle.pack_model.specs.scavenger.Reports.{PagesMended}
-use Rattle.scav_entries.specs.declared.catalogue.Catalogue.{Catalogue}
-use Rattle.scav_entries.specs.declared.rooms.Rooms.{Rooms}
-use Rattle.scav_entries.specs.Catalogues.{HoldsNames, root_slots}
-use Rattle.scav_entries.specs.Lacking.{entry_for, lacking_file, lacking_files}
-use Rattle.scav_entries.specs.Living.{leader_sector}
-use Rattle.scav_entries.specs.Rooms.{HasRooms, HasSlots}
+use Rattle.scav_names.specs.declared.catalogue.Catalogue.{Catalogue}
+use Rattle.scav_names.specs.declared.rooms.Rooms.{Rooms}
+use Rattle.scav_names.specs.Catalogues.{HoldsNames, root_slots}
+use Rattle.scav_names.specs.Lacking.{entry_for, lacking_file, lacking_files}
+use Rattle.scav_names.specs.Living.{leader_sector}
 use Rattle.scav_names.specs.Parts.{UnkeptFreed}
+use Rattle.scav_names.specs.Rooms.{HasRooms, HasSlots}
 use Rattle.scav_names.specs.Roots.{IsLed, MayBeEntered}
 
 -- ---- the words of SysDir

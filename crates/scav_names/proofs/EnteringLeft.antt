@@ -11,14 +11,14 @@ use Rattle.std.proofs.lemmas.List.Elements.{All-append, All-cons, All-head, All-
 use Rattle.alto_words.specs.declared.fid.Fid.{Fid}
 use Rattle.alto_words.specs.Fid.{fid_cmp, is_directory, is_fid}
 use Rattle.disk_records.specs.Packs.{Pack}
-use Rattle.scav_entries.specs.laws_lookup.proofs.Replacing.{range}
+use Rattle.scav_pages.specs.laws_lookup.proofs.Replacing.{range}
 use Rattle.laws_names.proofs.models.Laws.{mended_lives}
-use Rattle.scav_entries.specs.laws_operation.proofs.places.Laws.{file_lives_in_a_place}
-use Rattle.scav_entries.specs.laws_record.proofs.Addressing.{entry_words_many}
-use Rattle.scav_entries.specs.laws_record.proofs.Around.{around, first_part, is_less, second_part}
-use Rattle.scav_entries.specs.laws_record.proofs.DirReads.{has_leader}
-use Rattle.scav_entries.specs.laws_record.proofs.Reading.{get-found, read_file}
-use Rattle.scav_entries.specs.pack_laws.proofs.Keys.{fid_same, fid_total, same_fid}
+use Rattle.scav_pages.specs.laws_operation.proofs.places.Laws.{file_lives_in_a_place}
+use Rattle.scav_pages.specs.laws_record.proofs.Addressing.{entry_words_many}
+use Rattle.scav_pages.specs.laws_record.proofs.Around.{around, first_part, is_less, second_part}
+use Rattle.scav_pages.specs.laws_record.proofs.DirReads.{has_leader}
+use Rattle.scav_pages.specs.laws_record.proofs.Reading.{get-found, read_file}
+use Rattle.scav_pages.specs.pack_laws.proofs.Keys.{fid_same, fid_total, same_fid}
 use Rattle.pack_model.specs.hints.Links.{IsTrueAddress, dir_slots, dir_words}
 use Rattle.pack_model.specs.reading.Bodies.{File, found}
 use Rattle.pack_model.specs.reading.Files.{file_bytes, leader, lives, place}
@@ -30,16 +30,16 @@ use Rattle.pack_model.specs.reading.Slots.{Item, item_words, slots}
 use Rattle.pack_model.specs.reading.Slots.Item.{space, entry}
 use Rattle.pack_model.specs.scavenger.Reports.{PagesMended}
 use Rattle.pack_model.specs.states.Whole.{Tidy}
-use Rattle.scav_entries.specs.declared.living.Living.{Living}
-use Rattle.scav_entries.specs.declared.placed.PlacedEntry.{PlacedEntry}
-use Rattle.scav_entries.specs.Catalogues.{entries_among, entries_of, file_entries, naming_of, pack_entries, with_entry}
-use Rattle.scav_entries.specs.Living.{leader_sector, living_files, living_in, living_of}
-use Rattle.scav_entries.specs.Parting.{kept_among, kept_entries}
-use Rattle.scav_entries.proofs.LivingFiles.{living_found, living_rise}
-use Rattle.scav_entries.proofs.MendedEntries.{described_named}
+use Rattle.scav_names.specs.declared.living.Living.{Living}
+use Rattle.scav_names.specs.declared.placed.PlacedEntry.{PlacedEntry}
+use Rattle.scav_names.specs.Catalogues.{entries_among, entries_of, file_entries, naming_of, pack_entries, with_entry}
+use Rattle.scav_names.specs.Living.{leader_sector, living_files, living_in, living_of}
+use Rattle.scav_names.specs.Parting.{kept_among, kept_entries}
 use Rattle.scav_names.specs.Parts.{AreInOrder, IsAlive, MayBeAddressed, StandsBefore, StandsThere, slot_of}
 use Rattle.scav_names.specs.Roots.{AllEntered}
 use Rattle.scav_names.proofs.EnteringFirst.{found_live}
+use Rattle.scav_names.proofs.LivingFiles.{living_found, living_rise}
+use Rattle.scav_names.proofs.MendedEntries.{described_named}
 
 -- ---- all of them are kept
 kept_all : (alive : Fid → Bool) (before : List Naming) (es : List PlacedEntry) → AllKept (is_kept alive) before (map naming_of es) → kept_among alive before es ≡ es

@@ -6,24 +6,24 @@ use Rattle.disk_records.specs.Tapes.{Grown, Taped, added, pack}
 use Rattle.disk_records.proofs.Growing.{pack-after}
 use Rattle.laws_names.specs.Keeping.{AllKeepOpen}
 use Rattle.laws_names.proofs.joins.Laws.{nothing_keeps_open}
-use Rattle.scav_entries.specs.laws_room.specs.NextLaws.{mended_pack}
+use Rattle.laws_room.specs.NextLaws.{mended_pack}
 use Rattle.pack_model.specs.reading.Model.{root_items}
 use Rattle.pack_model.specs.scavenger.Reports.{NamesMended}
-use Rattle.scav_entries.specs.declared.catalogue.Catalogue.{Catalogue}
-use Rattle.scav_entries.specs.declared.living.Living.{Living}
-use Rattle.scav_entries.specs.declared.placed.PlacedEntry.{PlacedEntry}
-use Rattle.scav_entries.specs.Catalogues.{HoldsNames}
-use Rattle.scav_entries.specs.Lacking.{adopted_among, lacking_files}
-use Rattle.scav_entries.specs.Living.{living_files}
-use Rattle.scav_entries.specs.Parting.{kept_entries}
-use Rattle.scav_entries.specs.Rooms.{HasSlots}
 use Rattle.scav_pages.specs.Changes.{AllChange}
 use Rattle.scav_pages.specs.declared.errors.Stop.{Stop}
 use Rattle.scav_pages.specs.declared.errors.Stop.TheVariants.{Astray}
+use Rattle.scav_names.specs.declared.catalogue.Catalogue.{Catalogue}
+use Rattle.scav_names.specs.declared.living.Living.{Living}
+use Rattle.scav_names.specs.declared.placed.PlacedEntry.{PlacedEntry}
 use Rattle.scav_names.specs.declared.root.Root.{Root}
+use Rattle.scav_names.specs.Catalogues.{HoldsNames}
 use Rattle.scav_names.specs.Does.{Does}
+use Rattle.scav_names.specs.Lacking.{adopted_among, lacking_files}
+use Rattle.scav_names.specs.Living.{living_files}
 use Rattle.scav_names.specs.Mending.{AreMended, AreReady, root_read}
+use Rattle.scav_names.specs.Parting.{kept_entries}
 use Rattle.scav_names.specs.Parts.{MayBeAddressed, MayBeNamed, UnkeptFreed}
+use Rattle.scav_names.specs.Rooms.{HasSlots}
 use Rattle.scav_names.specs.Roots.{AllEntered, MayBeEntered}
 use Rattle.scav_names.proofs.EnteringCount.{few_lacking, lacking_counted}
 use Rattle.scav_names.proofs.EnteringFirst.{first_may_be_entered}

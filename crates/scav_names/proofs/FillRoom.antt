@@ -11,23 +11,23 @@ use Rattle.dir_slots.proofs.Slots.{all_words-append}
 use Rattle.disk_records.specs.declared.records.Page.{Page}
 use Rattle.disk_records.specs.Packs.{Pack, after, carried, sector_at}
 use Rattle.disk_records.specs.Labels.{Tag, in_range, tag}
-use Rattle.scav_entries.specs.laws_contents.proofs.pages.Laws.{page_numbers_are_words}
+use Rattle.scav_pages.specs.laws_contents.proofs.pages.Laws.{page_numbers_are_words}
 use Rattle.laws_names.specs.Keeping.{AllKeepOpen, KeepsOpen}
 use Rattle.laws_names.specs.WriteLaws.{CanBeEntered, EntryIsEntered, RoomIsWritten}
 use Rattle.laws_names.proofs.entries.Laws.{entries_stay_on, nothing_keeps_entries}
 use Rattle.laws_names.proofs.lacking.Laws.{next_may_be_entered}
 use Rattle.laws_names.proofs.parts.Laws.{mended_has_parts}
 use Rattle.laws_names.proofs.writes.Laws.{next_entry_is_entered, room_words_leave, written_words_stand}
-use Rattle.scav_entries.specs.laws_operation.specs.NameLaws.{IsRoom}
-use Rattle.scav_entries.specs.laws_operation.proofs.places.Laws.{file_lives_in_a_place}
-use Rattle.scav_entries.specs.laws_record.proofs.Carried.{carries_within}
-use Rattle.scav_entries.specs.laws_record.proofs.Roomy.{run_enough}
-use Rattle.scav_entries.specs.laws_record.specs.DirLaws.{DirWrite, dir_written, entered}
-use Rattle.scav_entries.specs.pack_laws.proofs.Carrying.{carried_shown}
-use Rattle.scav_entries.specs.pack_laws.proofs.Guarding.{carried_parts}
-use Rattle.scav_entries.specs.pack_laws.proofs.Keys.{is_fid-itself}
-use Rattle.scav_entries.specs.pack_laws.proofs.Sighted.{length-sights}
-use Rattle.scav_entries.specs.pack_laws.proofs.files.Laws.{places_are_lowest}
+use Rattle.scav_pages.specs.laws_operation.specs.NameLaws.{IsRoom}
+use Rattle.scav_pages.specs.laws_operation.proofs.places.Laws.{file_lives_in_a_place}
+use Rattle.scav_pages.specs.laws_record.proofs.Carried.{carries_within}
+use Rattle.scav_pages.specs.laws_record.proofs.Roomy.{run_enough}
+use Rattle.scav_pages.specs.laws_record.specs.DirLaws.{DirWrite, dir_written, entered}
+use Rattle.scav_pages.specs.pack_laws.proofs.Carrying.{carried_shown}
+use Rattle.scav_pages.specs.pack_laws.proofs.Guarding.{carried_parts}
+use Rattle.scav_pages.specs.pack_laws.proofs.Keys.{is_fid-itself}
+use Rattle.scav_pages.specs.pack_laws.proofs.Sighted.{length-sights}
+use Rattle.scav_pages.specs.pack_laws.proofs.files.Laws.{places_are_lowest}
 use Rattle.pack_model.specs.hints.Links.{dir_words}
 use Rattle.pack_model.specs.operations.PageWords.{in_page}
 use Rattle.pack_model.specs.operations.Rooms.{items_entered}
@@ -38,12 +38,12 @@ use Rattle.pack_model.specs.reading.Slots.{all_words, entry_length, slots}
 use Rattle.pack_model.specs.reading.Slots.Item.{entry, space}
 use Rattle.pack_model.specs.scavenger.Mended.{lacking}
 use Rattle.pack_model.specs.scavenger.Reports.{PagesMended}
-use Rattle.scav_entries.specs.declared.living.Living.{Living}
-use Rattle.scav_entries.specs.declared.rooms.EntryRoom.{EntryRoom}
-use Rattle.scav_entries.specs.Lacking.{entry_for}
-use Rattle.scav_names.specs.declared.root.Root.{Root}
-use Rattle.scav_names.specs.Roots.{AreEntryWords, EntryWritten, IsLater, LaterWritten, MayBeFilled, RoomMadeOne}
 use Rattle.scav_pages.specs.declared.errors.Stop.{Stop}
+use Rattle.scav_names.specs.declared.living.Living.{Living}
+use Rattle.scav_names.specs.declared.rooms.EntryRoom.{EntryRoom}
+use Rattle.scav_names.specs.declared.root.Root.{Root}
+use Rattle.scav_names.specs.Lacking.{entry_for}
+use Rattle.scav_names.specs.Roots.{AreEntryWords, EntryWritten, IsLater, LaterWritten, MayBeFilled, RoomMadeOne}
 use Rattle.scav_names.specs.Words.{page_writes}
 use Rattle.scav_names.proofs.OneRoom.{knows_still, word_known}
 use Rattle.scav_names.proofs.RootPages.{root_page}

@@ -10,13 +10,13 @@ use Rattle.pack_model.specs.hints.Links.{dir_words}
 use Rattle.pack_model.specs.operations.Rooms.{find_room, items_entered}
 use Rattle.pack_model.specs.reading.Slots.{entry_length, slots}
 use Rattle.pack_model.specs.reading.Slots.Item.{entry}
-use Rattle.scav_entries.specs.declared.living.Living.{Living}
-use Rattle.scav_entries.specs.declared.rooms.EntryRoom.{EntryRoom}
-use Rattle.scav_entries.specs.Catalogues.{ArePagesOf}
-use Rattle.scav_entries.specs.Rooms.{HasRooms, IsFirstRoom}
 use Rattle.scav_pages.specs.Free.{NoneFreeBelow}
+use Rattle.scav_names.specs.declared.living.Living.{Living}
+use Rattle.scav_names.specs.declared.rooms.EntryRoom.{EntryRoom}
 use Rattle.scav_names.specs.declared.root.Root.{Root}
+use Rattle.scav_names.specs.Catalogues.{ArePagesOf}
 use Rattle.scav_names.specs.Does.{Does}
+use Rattle.scav_names.specs.Rooms.{HasRooms, IsFirstRoom}
 use Rattle.scav_names.specs.Roots.{AllEntered, Entered, IsLed, EntryWritten, MayBeEntered, MayBeWidened, RoomMade, Widened}
 use Rattle.scav_names.proofs.Going.{SoFar, so_far_does, so_far_here}
 

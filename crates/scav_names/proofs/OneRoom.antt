@@ -9,20 +9,20 @@ use Rattle.laws_names.specs.Keeping.{AllKeepOpen, KeepsOpen}
 use Rattle.laws_names.specs.WriteLaws.{FoundRoom, NamesWritten, RoomIsOne}
 use Rattle.laws_names.proofs.entries.Laws.{nothing_keeps_entries}
 use Rattle.laws_names.proofs.writes.Laws.{room_is_found, room_is_made_one}
-use Rattle.scav_entries.specs.laws_operation.specs.NameLaws.{IsRoom}
-use Rattle.scav_entries.specs.laws_record.proofs.Roomy.{run_enough}
-use Rattle.scav_entries.specs.laws_record.specs.DirLaws.{dir_written, freed}
-use Rattle.scav_entries.specs.pack_laws.proofs.Bytes.{length-put_at}
+use Rattle.scav_pages.specs.laws_operation.specs.NameLaws.{IsRoom}
+use Rattle.scav_pages.specs.laws_record.proofs.Roomy.{run_enough}
+use Rattle.scav_pages.specs.laws_record.specs.DirLaws.{dir_written, freed}
+use Rattle.scav_pages.specs.pack_laws.proofs.Bytes.{length-put_at}
 use Rattle.pack_model.specs.hints.Links.{dir_words}
 use Rattle.pack_model.specs.operations.PageWords.{in_page}
 use Rattle.pack_model.specs.reading.Files.{place}
 use Rattle.pack_model.specs.reading.Sights.{sights}
 use Rattle.pack_model.specs.reading.Slots.{all_words, entry_length, slots}
 use Rattle.pack_model.specs.reading.Slots.Item.{space}
-use Rattle.scav_entries.specs.declared.living.Living.{Living}
-use Rattle.scav_entries.specs.declared.rooms.EntryRoom.{EntryRoom}
-use Rattle.scav_entries.specs.Lacking.{entry_for}
+use Rattle.scav_names.specs.declared.living.Living.{Living}
+use Rattle.scav_names.specs.declared.rooms.EntryRoom.{EntryRoom}
 use Rattle.scav_names.specs.declared.root.Root.{Root}
+use Rattle.scav_names.specs.Lacking.{entry_for}
 use Rattle.scav_names.specs.Roots.{IsLed, KnowsPages, MayBeWritten, RoomMadeOne}
 use Rattle.scav_names.specs.Words.{page_writes}
 use Rattle.scav_names.proofs.Order.{divided}

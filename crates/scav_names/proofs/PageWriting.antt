@@ -12,10 +12,10 @@ use Rattle.disk_records.specs.Packs.{Pack, after, carried, sector_at}
 use Rattle.disk_records.specs.Tapes.{Grown, Taped, added, pack}
 use Rattle.disk_records.proofs.FirstOnes.{first_all, first_front, first_then}
 use Rattle.disk_records.proofs.Growing.{added-twice, grown_twice, pack-after}
-use Rattle.scav_entries.specs.laws_operation.specs.PlaceLaws.{SamePlaces}
-use Rattle.scav_entries.specs.laws_operation.proofs.places.Laws.{values_keep_places}
-use Rattle.scav_entries.specs.pack_laws.proofs.guards.Laws.{value_writes_keep_the_page}
-use Rattle.scav_entries.specs.pack_laws.proofs.files.Laws.{places_are_lowest}
+use Rattle.scav_pages.specs.laws_operation.specs.PlaceLaws.{SamePlaces}
+use Rattle.scav_pages.specs.laws_operation.proofs.places.Laws.{values_keep_places}
+use Rattle.scav_pages.specs.pack_laws.proofs.guards.Laws.{value_writes_keep_the_page}
+use Rattle.scav_pages.specs.pack_laws.proofs.files.Laws.{places_are_lowest}
 use Rattle.pack_model.specs.operations.PageWords.{in_page}
 use Rattle.pack_model.specs.reading.Bytes.{put_at}
 use Rattle.pack_model.specs.reading.Files.{place}

@@ -5,12 +5,12 @@ use Rattle.disk_records.specs.declared.records.Page.{Page}
 use Rattle.disk_records.specs.Addresses.{pages_of}
 use Rattle.disk_records.specs.Packs.{Pack, carried, sector_at}
 use Rattle.disk_records.specs.Words.{word}
-use Rattle.scav_entries.specs.laws_contents.proofs.pages.Laws.{page_numbers_are_words}
-use Rattle.scav_entries.specs.pack_laws.proofs.files.Laws.{places_are_lowest}
+use Rattle.scav_pages.specs.laws_contents.proofs.pages.Laws.{page_numbers_are_words}
+use Rattle.scav_pages.specs.pack_laws.proofs.files.Laws.{places_are_lowest}
 use Rattle.pack_model.specs.reading.Files.{place}
 use Rattle.pack_model.specs.reading.Sights.{sights}
-use Rattle.scav_entries.specs.Catalogues.{ArePagesOf}
 use Rattle.scav_pages.proofs.Passing.{row_carried, row_placed}
+use Rattle.scav_names.specs.Catalogues.{ArePagesOf}
 use Rattle.scav_names.specs.Words.{page_with}
 use Rattle.scav_names.proofs.WordPass.{number_is}
 

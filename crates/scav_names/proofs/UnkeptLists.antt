@@ -6,11 +6,11 @@ use Rattle.std.specs.declared.cmp.Ordering.TheVariants.{Less, Equal}
 use Rattle.std.proofs.lemmas.List.Elements.{All-cons, All-contains, All-head, All-tail, Contains-append_cases, Contains-append_left, Contains-append_right}
 use Rattle.alto_words.specs.declared.fid.Fid.{Fid}
 use Rattle.alto_words.specs.Fid.{fid_cmp}
-use Rattle.scav_entries.specs.pack_laws.proofs.Keys.{fid_total}
+use Rattle.scav_pages.specs.pack_laws.proofs.Keys.{fid_total}
 use Rattle.pack_model.specs.reading.Namings.{Naming, is_kept}
-use Rattle.scav_entries.specs.declared.placed.PlacedEntry.{PlacedEntry}
-use Rattle.scav_entries.specs.Catalogues.{naming_of}
-use Rattle.scav_entries.specs.Parting.{kept_among, kept_names_of, unkept_among}
+use Rattle.scav_names.specs.declared.placed.PlacedEntry.{PlacedEntry}
+use Rattle.scav_names.specs.Catalogues.{naming_of}
+use Rattle.scav_names.specs.Parting.{kept_among, kept_names_of, unkept_among}
 use Rattle.scav_names.specs.Parts.{AreInOrder, StandsBefore}
 
 -- ---- one of a list

@@ -14,7 +14,7 @@ use Rattle.laws_names.proofs.entries.Laws.{leaders_are_listed, slot_splits}
 use Rattle.laws_names.proofs.joins.Laws.{keeps_open_join, nothing_keeps_open}
 use Rattle.laws_names.proofs.models.Laws.{mended_lives}
 use Rattle.laws_names.proofs.parts.Laws.{mended_has_parts}
-use Rattle.scav_entries.specs.laws_record.proofs.Addressing.{entry_words_many}
+use Rattle.scav_pages.specs.laws_record.proofs.Addressing.{entry_words_many}
 use Rattle.pack_model.specs.hints.Links.{dir_words}
 use Rattle.pack_model.specs.operations.PageWords.{in_page}
 use Rattle.pack_model.specs.reading.Bodies.{File, found}
@@ -31,17 +31,17 @@ use Rattle.pack_model.specs.sessions.Maps.{map_entries}
 use Rattle.pack_model.specs.showing.Settling.{given_names}
 use Rattle.pack_model.specs.showing.View.{view}
 use Rattle.pack_model.specs.states.Whole.{Tidy}
-use Rattle.scav_entries.specs.declared.living.Living.{Living}
-use Rattle.scav_entries.specs.declared.placed.PlacedEntry.{PlacedEntry}
-use Rattle.scav_entries.specs.Catalogues.{naming_of, pack_entries}
-use Rattle.scav_entries.specs.Living.{leader_sector, living_files, living_of}
-use Rattle.scav_entries.specs.Parting.{lives_then, unkept_among, unkept_entries}
-use Rattle.scav_entries.proofs.MendedEntries.{described_named}
+use Rattle.scav_names.specs.declared.living.Living.{Living}
+use Rattle.scav_names.specs.declared.placed.PlacedEntry.{PlacedEntry}
 use Rattle.scav_names.specs.declared.words.DirWord.{DirWord}
+use Rattle.scav_names.specs.Catalogues.{naming_of, pack_entries}
+use Rattle.scav_names.specs.Living.{leader_sector, living_files, living_of}
+use Rattle.scav_names.specs.Parting.{lives_then, unkept_among, unkept_entries}
 use Rattle.scav_names.specs.Parts.{AreInOrder, MayBeNamed, StandsBefore, StandsThere, UnkeptFreed, slot_of}
 use Rattle.scav_names.specs.Words as words
 use Rattle.scav_names.specs.Words.{AreWordsOf, ComesFirst, IsWordOf, freeing_word, page_writes, word_writes, words_writes}
 use Rattle.scav_names.proofs.EnteringLeft.{entries_stand}
+use Rattle.scav_names.proofs.MendedEntries.{described_named}
 use Rattle.scav_names.proofs.UnkeptLists.{all_unkept, first_unkept, unkept_order}
 use Rattle.scav_names.proofs.UnkeptSlots.{kept_now, order_of, pack_freed, slot_freed, stands_unkept, unkept_frees, unkept_now}
 use Rattle.scav_names.proofs.WordRuns.{page_keeps, page_left}

@@ -9,23 +9,23 @@ use Rattle.alto_words.specs.Fid.{fid_cmp, is_fid}
 use Rattle.dir_slots.proofs.Hands.{slots_within}
 use Rattle.dir_slots.proofs.Slots.{all_words-append}
 use Rattle.disk_records.specs.Packs.{Pack}
-use Rattle.scav_entries.specs.laws_contents.proofs.words.Laws.{each_word_has_its_page}
-use Rattle.scav_entries.specs.laws_lookup.proofs.Replacing.{range, replacing_turns_round, split_at, still}
+use Rattle.scav_pages.specs.laws_contents.proofs.words.Laws.{each_word_has_its_page}
+use Rattle.scav_pages.specs.laws_lookup.proofs.Replacing.{range, replacing_turns_round, split_at, still}
 use Rattle.laws_names.specs.ModelLaws.{kept_past}
 use Rattle.laws_names.specs.WriteLaws.{SlotIsFreed}
 use Rattle.laws_names.proofs.entries.Laws.{slot_splits}
 use Rattle.laws_names.proofs.models.Laws.{mended_lives, mended_slot}
 use Rattle.laws_names.proofs.writes.Laws.{unkept_slot_is_freed}
-use Rattle.scav_entries.specs.laws_operation.proofs.places.Laws.{file_lives_in_a_place}
-use Rattle.scav_entries.specs.laws_record.proofs.Addressing.{entry_words_many}
-use Rattle.scav_entries.specs.laws_record.proofs.Around.{around}
-use Rattle.scav_entries.specs.laws_record.proofs.DirReads.{has_leader}
-use Rattle.scav_entries.specs.laws_record.proofs.Heads.{head_of, slots_cons}
-use Rattle.scav_entries.specs.laws_record.proofs.Reading.{get-found, read_file}
-use Rattle.scav_entries.specs.laws_record.specs.DirLaws.{Frees, freed}
-use Rattle.scav_entries.specs.laws_room.specs.NextLaws.{mended_pack}
-use Rattle.scav_entries.specs.pack_laws.proofs.ByLists.{found_list, puts}
-use Rattle.scav_entries.specs.pack_laws.proofs.Keys.{fid_same, fid_total, same_fid}
+use Rattle.scav_pages.specs.laws_operation.proofs.places.Laws.{file_lives_in_a_place}
+use Rattle.scav_pages.specs.laws_record.proofs.Addressing.{entry_words_many}
+use Rattle.scav_pages.specs.laws_record.proofs.Around.{around}
+use Rattle.scav_pages.specs.laws_record.proofs.DirReads.{has_leader}
+use Rattle.scav_pages.specs.laws_record.proofs.Heads.{head_of, slots_cons}
+use Rattle.scav_pages.specs.laws_record.proofs.Reading.{get-found, read_file}
+use Rattle.scav_pages.specs.laws_record.specs.DirLaws.{Frees, freed}
+use Rattle.laws_room.specs.NextLaws.{mended_pack}
+use Rattle.scav_pages.specs.pack_laws.proofs.ByLists.{found_list, puts}
+use Rattle.scav_pages.specs.pack_laws.proofs.Keys.{fid_same, fid_total, same_fid}
 use Rattle.pack_model.specs.hints.Links.{dir_slots, dir_words}
 use Rattle.pack_model.specs.operations.Rooms.{most_free}
 use Rattle.pack_model.specs.reading.Bodies.{File, body_of, file_of, found}
@@ -42,12 +42,12 @@ use Rattle.pack_model.specs.reading.Stored.{leader_entries, stored_file}
 use Rattle.pack_model.specs.scavenger.Mended.{with_system}
 use Rattle.pack_model.specs.scavenger.Reports.{PagesMended}
 use Rattle.pack_model.specs.sessions.Maps.{map_entries}
-use Rattle.scav_entries.specs.declared.placed.PlacedEntry.{PlacedEntry}
-use Rattle.scav_entries.specs.Catalogues.{entries_among, entries_of, file_entries, naming_of, pack_entries, with_entry}
-use Rattle.scav_entries.specs.Parting.{kept_among, kept_entries, kept_names_of, lives_then, unkept_among, unkept_entries}
-use Rattle.scav_entries.proofs.RootItems.{among_kept, file_kept}
+use Rattle.scav_names.specs.declared.placed.PlacedEntry.{PlacedEntry}
+use Rattle.scav_names.specs.Catalogues.{entries_among, entries_of, file_entries, naming_of, pack_entries, with_entry}
+use Rattle.scav_names.specs.Parting.{kept_among, kept_entries, kept_names_of, lives_then, unkept_among, unkept_entries}
 use Rattle.scav_names.specs.Parts.{AreInOrder, StandsThere, slot_of}
 use Rattle.scav_names.proofs.EnteringLeft.{entries_append, entries_stand, entry_at, files_order, in_pack}
+use Rattle.scav_names.proofs.RootItems.{among_kept, file_kept}
 use Rattle.scav_names.proofs.UnkeptLists.{FirstUnkept, at_front, beside, in_front, not_twice, or_itself, order_without, same_entry, same_in_order, same_prefix}
 
 -- ---- in parts

@@ -20,7 +20,7 @@ use Rattle.label_check.specs.declared.errors.GuardError.{GuardError}
 use Rattle.label_check.specs.declared.errors.GuardError.TheVariants as guard_error
 use Rattle.label_check.specs.declared.errors.PageInfo.{PageInfo}
 use Rattle.label_check.specs.Guarded.{Carries, Guarded, info_of}
-use Rattle.scav_entries.specs.pack_laws.proofs.guards.Laws.{value_writes_keep_the_page}
+use Rattle.scav_pages.specs.pack_laws.proofs.guards.Laws.{value_writes_keep_the_page}
 use Rattle.pack_model.specs.operations.PageWords.{filled}
 use Rattle.scav_pages.proofs.Doing.{error_is}
 use Rattle.scav_pages.specs.declared.errors.Stop.{Stop}

@@ -13,9 +13,9 @@ use Rattle.disk_records.specs.Words.{word}
 use Rattle.disk_records.proofs.FirstOnes.{first_then}
 use Rattle.disk_records.proofs.Growing.{added-twice, grown_twice}
 use Rattle.disk_records.proofs.Looking.{looks_pack}
-use Rattle.scav_entries.specs.laws_contents.proofs.pages.Laws.{carried_once_is_in_place, once_is_by_labels, page_numbers_are_words}
-use Rattle.scav_entries.specs.laws_contents.proofs.words.Laws.{each_word_has_its_page}
-use Rattle.scav_entries.specs.pack_laws.proofs.files.Laws.{places_are_lowest}
+use Rattle.scav_pages.specs.laws_contents.proofs.pages.Laws.{carried_once_is_in_place, once_is_by_labels, page_numbers_are_words}
+use Rattle.scav_pages.specs.laws_contents.proofs.words.Laws.{each_word_has_its_page}
+use Rattle.scav_pages.specs.pack_laws.proofs.files.Laws.{places_are_lowest}
 use Rattle.pack_model.specs.reading.Sights.{sights}
 use Rattle.pack_model.specs.states.Sentences.{EachOnce}
 use Rattle.scav_pages.specs.declared.errors.Stop.{Stop}

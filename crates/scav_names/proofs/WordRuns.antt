@@ -13,8 +13,8 @@ use Rattle.disk_records.proofs.Growing.{pack-after}
 use Rattle.laws_names.specs.Keeping.{AllKeepOpen, KeepsOpen}
 use Rattle.laws_names.proofs.joins.Laws.{keeps_open_breaks_off, nothing_keeps_open, one_keeps_open}
 use Rattle.laws_names.proofs.writes.Laws.{standing_words_write_nothing}
-use Rattle.scav_entries.specs.laws_operation.proofs.EntryWrite.{put_drop}
-use Rattle.scav_entries.specs.laws_record.specs.DirLaws.{dir_written}
+use Rattle.scav_pages.specs.laws_operation.proofs.EntryWrite.{put_drop}
+use Rattle.scav_pages.specs.laws_record.specs.DirLaws.{dir_written}
 use Rattle.pack_model.specs.operations.PageWords.{in_page}
 use Rattle.pack_model.specs.reading.Bytes.{put_at}
 use Rattle.pack_model.specs.reading.Files.{place}
@@ -22,9 +22,9 @@ use Rattle.pack_model.specs.reading.Sights.{sights}
 use Rattle.scav_pages.proofs.Changing.{change_first, change_join, value_changes}
 use Rattle.scav_pages.specs.Changes.{AllChange}
 use Rattle.scav_pages.specs.declared.errors.Stop.{Stop}
+use Rattle.scav_names.specs.declared.words.DirWord.{DirWord}
 use Rattle.scav_names.specs.Does.{Does}
 use Rattle.scav_names.specs.Words.{WritesPageWords, page_writes, word_writes, words_writes}
-use Rattle.scav_names.specs.declared.words.DirWord.{DirWord}
 
 -- ---- words in one page
 -- the pack with them, also where they stand there already

@@ -5,15 +5,15 @@ use Rattle.disk_records.specs.Tapes.{Taped, pack, added}
 use Rattle.pack_model.specs.scavenger.Reports.{NamesMended, adopted_files}
 use Rattle.pack_model.specs.scavenger.Scavenging.{Keeps, Throughout, Unmarked}
 use Rattle.pack_model.specs.states.Sound.{Clean}
-use Rattle.scav_entries.specs.declared.catalogue.Catalogue.{Catalogue}
-use Rattle.scav_entries.specs.declared.living.Living.{Living}
-use Rattle.scav_entries.specs.declared.placed.PlacedEntry.{PlacedEntry}
-use Rattle.scav_entries.specs.Lacking.{lacking_files}
-use Rattle.scav_entries.specs.Living.{living_files}
-use Rattle.scav_entries.specs.Parting.{kept_entries}
 use Rattle.scav_pages.specs.Changes.{AllChange}
 use Rattle.scav_table.specs.declared.errors.SweepError.{SweepError}
+use Rattle.scav_names.specs.declared.catalogue.Catalogue.{Catalogue}
+use Rattle.scav_names.specs.declared.living.Living.{Living}
+use Rattle.scav_names.specs.declared.placed.PlacedEntry.{PlacedEntry}
 use Rattle.scav_names.specs.declared.root.Root.{Root}
+use Rattle.scav_names.specs.Lacking.{lacking_files}
+use Rattle.scav_names.specs.Living.{living_files}
+use Rattle.scav_names.specs.Parting.{kept_entries}
 use Rattle.scav_names.specs.Parts.{MayBeNamed, UnkeptFreed}
 use Rattle.scav_names.specs.Roots.{MayBeEntered}
 
@@ -39,7 +39,7 @@ pub record AreMended (p q : Pack) (adopted : ℕ) : Type 0 where
   pub mended : NamesMended q
   pub adopted_is : adopted ≡ adopted_files p
 
--- and parts of the work were done before these two
+-- The same of p and q, where `before` is the pack as the call begins: parts of the work were done from p to it.
 abbrev pub AreMendedSince : Pack → Pack → Pack → ℕ → Type 0
 AreMendedSince p before q adopted = AreMended p q adopted
 

@@ -5,7 +5,7 @@ use Rattle.std.specs.declared.cmp.Ordering.TheVariants.{Less}
 use Rattle.alto_words.specs.declared.fid.Fid.{Fid}
 use Rattle.alto_words.specs.Fid.{fid_cmp, is_directory}
 use Rattle.disk_records.specs.Packs.{Pack}
-use Rattle.scav_entries.specs.laws_room.specs.NextLaws.{Lacking, mended_pack}
+use Rattle.laws_room.specs.NextLaws.{Lacking, mended_pack}
 use Rattle.pack_model.specs.hints.Links.{IsTrueAddress, dir_slots}
 use Rattle.pack_model.specs.reading.Files.{lives, place}
 use Rattle.pack_model.specs.reading.Model.{root_items}
@@ -16,10 +16,10 @@ use Rattle.pack_model.specs.scavenger.Mended.{lacking}
 use Rattle.pack_model.specs.scavenger.Reports.{NamesMended, PagesMended, adopted_files}
 use Rattle.pack_model.specs.scavenger.Scavenging.{Scavengeable}
 use Rattle.pack_model.specs.states.Whole.{Tidy}
-use Rattle.scav_entries.specs.declared.living.Living.{Living}
-use Rattle.scav_entries.specs.declared.placed.PlacedEntry.{PlacedEntry}
-use Rattle.scav_entries.specs.Living.{Rises, living_files, living_in}
-use Rattle.scav_entries.specs.Parting.{kept_entries}
+use Rattle.scav_names.specs.declared.living.Living.{Living}
+use Rattle.scav_names.specs.declared.placed.PlacedEntry.{PlacedEntry}
+use Rattle.scav_names.specs.Living.{Rises, living_files, living_in}
+use Rattle.scav_names.specs.Parting.{kept_entries}
 
 -- ---- before
 -- the pack can be scavenged, and its pages are mended

@@ -10,8 +10,8 @@ use Rattle.disk_records.specs.Labels.{label_of}
 use Rattle.disk_records.specs.Packs.{Pack, sector_at}
 use Rattle.disk_records.specs.Words.{word}
 use Rattle.laws_names.specs.EntriesLaws.{EntriesStay}
-use Rattle.scav_entries.specs.laws_operation.specs.NameLaws.{IsRoom}
-use Rattle.scav_entries.specs.laws_room.specs.NextLaws.{Lacking, LackingNext}
+use Rattle.scav_pages.specs.laws_operation.specs.NameLaws.{IsRoom}
+use Rattle.laws_room.specs.NextLaws.{Lacking, LackingNext}
 use Rattle.pack_model.specs.hints.Links.{dir_words}
 use Rattle.pack_model.specs.operations.PageWords.{entered_words, filled}
 use Rattle.pack_model.specs.operations.Rooms.{find_room, items_entered}
@@ -22,13 +22,13 @@ use Rattle.pack_model.specs.reading.Slots.Item.{entry, space}
 use Rattle.pack_model.specs.scavenger.Reports.{PagesMended}
 use Rattle.pack_model.specs.scavenger.Scavenging.{Scavengeable}
 use Rattle.pack_model.specs.states.Whole.{Tidy}
-use Rattle.scav_entries.specs.declared.living.Living.{Living}
-use Rattle.scav_entries.specs.declared.rooms.EntryRoom.{EntryRoom}
-use Rattle.scav_entries.specs.Catalogues.{ArePagesOf}
-use Rattle.scav_entries.specs.Lacking.{entry_for}
-use Rattle.scav_entries.specs.Rooms.{HasRooms, IsFirstRoom}
 use Rattle.scav_pages.specs.Free.{NoneFreeBelow}
+use Rattle.scav_names.specs.declared.living.Living.{Living}
+use Rattle.scav_names.specs.declared.rooms.EntryRoom.{EntryRoom}
 use Rattle.scav_names.specs.declared.root.Root.{Root}
+use Rattle.scav_names.specs.Catalogues.{ArePagesOf}
+use Rattle.scav_names.specs.Lacking.{entry_for}
+use Rattle.scav_names.specs.Rooms.{HasRooms, IsFirstRoom}
 use Rattle.scav_names.specs.Words.{changed_writes}
 
 -- ---- what is known of it

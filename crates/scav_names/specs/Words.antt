@@ -19,13 +19,13 @@ use Rattle.pack_model.specs.reading.Sights.{sights}
 use Rattle.pack_model.specs.reading.SlotWords.{address_word}
 use Rattle.pack_model.specs.reading.Slots.{entry_length}
 use Rattle.pack_model.specs.states.Sentences.{EachOnce}
-use Rattle.scav_entries.specs.declared.living.Living.{Living}
-use Rattle.scav_entries.specs.declared.placed.PlacedEntry.{PlacedEntry}
-use Rattle.scav_entries.specs.Living.{living_in}
 use Rattle.scav_pages.specs.declared.errors.Stop.{Stop}
 use Rattle.scav_pages.specs.declared.errors.Stop.TheVariants.{Astray}
 use Rattle.scav_table.specs.declared.row.Row.{Row}
+use Rattle.scav_names.specs.declared.living.Living.{Living}
+use Rattle.scav_names.specs.declared.placed.PlacedEntry.{PlacedEntry}
 use Rattle.scav_names.specs.declared.words.DirWord.{DirWord}
+use Rattle.scav_names.specs.Living.{living_in}
 
 -- the page of a directory with this word; none where no page has a number for it
 abbrev pub page_with : Fid → ℕ → Option Page

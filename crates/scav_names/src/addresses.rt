@@ -2,16 +2,17 @@
 ghost use Rattle.std.specs.Prelude.{◌≡◌, ◌+◌, ◌^◌, ◌<◌, IsTrue, IfOk, All};
 ghost use Rattle.disk_records.specs.Causes.{HasCause};
 ghost use Rattle.disk_records.specs.Tapes.{DiskAlone, pack};
-ghost use Rattle.scav_entries.specs.Living.{Rises};
 ghost use Rattle.scav_pages.specs.Stops.{cause_of_stop};
 ghost use Rattle.scav_names.specs.Does.{Does};
+ghost use Rattle.scav_names.specs.Living.{Rises};
 ghost use Rattle.scav_names.specs.Parts.{AddressesTrue, MayBeAddressed};
 ghost use Rattle.scav_names.specs.Words.{address_words, true_address};
 
+use crate::living::{Living, find_living};
+use crate::placed::PlacedEntry;
 use crate::words::{DirWord, write_words};
 use alto_words::{List, Memory};
 use disk_records::Disk;
-use scav_entries::{Living, PlacedEntry, find_living};
 use scav_pages::Stop;
 use scav_table::Table;
 use std::alloc::Global;

@@ -3,17 +3,18 @@ ghost use Rattle.std.specs.Prelude.{◌≡◌, ◌≤◌, ◌∷◌, [], IfOk, I
 ghost use Rattle.disk_records.specs.Causes.{HasCause};
 ghost use Rattle.disk_records.specs.Tapes.{DiskAlone, pack};
 ghost use Rattle.pack_model.specs.reading.Slots.{entry_length};
-ghost use Rattle.scav_entries.specs.declared.living.Living.{Living as File};
 ghost use Rattle.scav_pages.specs.Stops.{cause_of_stop};
+ghost use Rattle.scav_names.specs.declared.living.Living.{Living as File};
 ghost use Rattle.scav_names.specs.Does.{Does};
 ghost use Rattle.scav_names.specs.Roots.{AllEntered, Entered, MayBeEntered, RoomMade};
 
 use crate::entering::write_entry;
+use crate::living::Living;
+use crate::rooms::EntryRoom;
 use crate::root::Root;
 use crate::widen::widen_root;
 use dir_slots::entry_words;
 use disk_records::Disk;
-use scav_entries::{EntryRoom, Living};
 use scav_pages::Stop;
 use std::alloc::Global;
 

@@ -6,20 +6,21 @@ ghost use Rattle.disk_records.specs.Causes.{HasCause};
 ghost use Rattle.disk_records.specs.Tapes.{DiskAlone, pack};
 ghost use Rattle.pack_model.specs.operations.PageWords.{entered_words, in_page};
 ghost use Rattle.pack_model.specs.reading.Slots.{entry_length};
-ghost use Rattle.scav_entries.specs.declared.living.Living.{Living as File};
 ghost use Rattle.scav_pages.specs.Stops.{cause_of_stop};
+ghost use Rattle.scav_names.specs.declared.living.Living.{Living as File};
+ghost use Rattle.scav_names.specs.declared.rooms.EntryRoom.{EntryRoom as Room};
+ghost use Rattle.scav_names.specs.Catalogues.{ArePagesOf};
 ghost use Rattle.scav_names.specs.Does.{Does};
-ghost use Rattle.scav_entries.specs.declared.rooms.EntryRoom.{EntryRoom as Room};
-ghost use Rattle.scav_entries.specs.Catalogues.{ArePagesOf};
-ghost use Rattle.scav_names.specs.Words.{WritesPageWords, page_writes};
 ghost use Rattle.scav_names.specs.Roots.{AreEntryWords, EntryWritten, IsLater, LaterWritten, MayBeFilled, MayBeWritten, RoomMadeOne};
+ghost use Rattle.scav_names.specs.Words.{WritesPageWords, page_writes};
 
+use crate::living::Living;
+use crate::rooms::EntryRoom;
 use crate::root::Root;
 use crate::words::{PAGE_WORDS, put_words};
 use alto_words::{List, Memory, Name};
 use dir_slots::{Slot, entry_words, write_slots};
 use disk_records::Disk;
-use scav_entries::{EntryRoom, Living};
 use scav_pages::Stop;
 use std::alloc::Global;
 

@@ -5,25 +5,29 @@ ghost use Rattle.disk_records.specs.Packs.{Pack};
 ghost use Rattle.disk_records.specs.Tapes.{DiskAlone, pack};
 ghost use Rattle.pack_model.specs.scavenger.Reports.{PagesMended};
 ghost use Rattle.pack_model.specs.scavenger.Scavenging.{Scavengeable};
-ghost use Rattle.scav_entries.specs.Catalogues.{HoldsNames};
-ghost use Rattle.scav_entries.specs.Lacking.{adopted_among};
-ghost use Rattle.scav_entries.specs.Parting.{IsParted};
 ghost use Rattle.scav_pages.specs.Stops.{cause_of_stop};
 ghost use Rattle.scav_table.specs.Causes.{cause_of_sweep};
+ghost use Rattle.scav_names.specs.Catalogues.{HoldsNames};
 ghost use Rattle.scav_names.specs.Does.{Does};
+ghost use Rattle.scav_names.specs.Lacking.{adopted_among};
 ghost use Rattle.scav_names.specs.Mending.{AreMended, AreMendedSince, AreReady, MendsNames, root_read};
+ghost use Rattle.scav_names.specs.Parting.{IsParted};
 ghost use Rattle.scav_names.specs.Parts.{MayBeNamed};
 
 use crate::addresses::mend_addresses;
+use crate::catalogue::Catalogue;
 use crate::enter::enter_all;
+use crate::freed::root_rooms;
+use crate::lacked::lacking;
+use crate::living::Living;
+use crate::parted::{Parted, part_entries};
+use crate::placed::PlacedEntry;
+use crate::read::read_names;
 use crate::root::Root;
 use crate::unkept::free_unkept;
 use alto_words::List;
 use disk_records::Disk;
 use kept_names::is_system;
-use scav_entries::{
-    Catalogue, Living, Parted, PlacedEntry, lacking, part_entries, read_names, root_rooms,
-};
 use scav_pages::Stop;
 use scav_table::{SweepError, Table};
 use std::alloc::Global;

@@ -1,9 +1,9 @@
 // SysDir while entries come into it.
 
+use crate::rooms::Rooms;
 use crate::words::{PAGE_WORDS, page_with};
 use alto_words::{Fid, List};
 use disk_records::{Page, Shape};
-use scav_entries::Rooms;
 use scav_pages::Stop;
 
 /// A page of a directory, and the sector that carries it.

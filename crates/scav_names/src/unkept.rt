@@ -2,16 +2,16 @@
 ghost use Rattle.std.specs.Prelude.{◌≡◌, map, IsTrue, IfOk};
 ghost use Rattle.disk_records.specs.Causes.{HasCause};
 ghost use Rattle.disk_records.specs.Tapes.{DiskAlone, pack};
-ghost use Rattle.scav_entries.specs.Parting.{unkept_entries};
 ghost use Rattle.scav_pages.specs.Stops.{cause_of_stop};
 ghost use Rattle.scav_names.specs.Does.{Does};
+ghost use Rattle.scav_names.specs.Parting.{unkept_entries};
 ghost use Rattle.scav_names.specs.Parts.{MayBeNamed, UnkeptFreed};
 ghost use Rattle.scav_names.specs.Words.{freeing_word};
 
+use crate::placed::PlacedEntry;
 use crate::words::{DirWord, write_words};
 use alto_words::{List, Memory};
 use disk_records::Disk;
-use scav_entries::PlacedEntry;
 use scav_pages::Stop;
 use scav_table::Table;
 use std::alloc::Global;

@@ -1,19 +1,18 @@
 // SysDir gets a page more.
-ghost use Rattle.std.specs.Prelude.{◌≡◌, ◌≤◌, ◌<◌, ◌+◌, ◌^◌, ◌∷◌, ◌++◌, [], true, Some, IsTrue, IfErr, OnOk};
+ghost use Rattle.std.specs.Prelude.{◌≡◌, ◌≤◌, ◌<◌, ◌+◌, ◌^◌, ◌∷◌, ◌++◌, [], true, List, Some, IsTrue, IfErr, OnOk};
 ghost use Rattle.pack_model.specs.reading.Slots.{Item, all_words};
 ghost use Rattle.pack_model.specs.scavenger.Mended.{with_page};
-ghost use Rattle.scav_entries.specs.Rooms.{HasRooms};
 ghost use Rattle.alto_words.specs.Fid.{is_full_name};
 ghost use Rattle.disk_records.specs.Addresses.{pages_of};
 ghost use Rattle.disk_records.specs.Causes.{HasCause};
 ghost use Rattle.disk_records.specs.Packs.{carried};
 ghost use Rattle.disk_records.specs.Tapes.{DiskAlone, pack};
-ghost use Rattle.scav_entries.specs.declared.living.Living.{Living as File};
 ghost use Rattle.scav_pages.specs.Stops.{cause_of_stop};
+ghost use Rattle.scav_names.specs.declared.living.Living.{Living as File};
 ghost use Rattle.scav_names.specs.Does.{Does};
+ghost use Rattle.scav_names.specs.Rooms.{HasRooms};
 ghost use Rattle.scav_names.specs.Roots.{MayBeWidened, Widened, lengthened_value, lengthening_writes};
 ghost use Rattle.scav_names.specs.Words.{WritesPageWords};
-ghost use Rattle.std.specs.Prelude.{List};
 
 use crate::root::Root;
 use crate::words::{PAGE_WORDS, put_value};

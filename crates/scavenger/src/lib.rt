@@ -1,8 +1,8 @@
 //! The Scavenger: any pack that it doesn't refuse, whatever stands on it, becomes sound and clean and shows what it showed.
 //!
 //! Come here to mend a pack: one that wasn't closed, one with hints that mislead, or one that is damaged. Below stand scav_pages and
-//! scav_names, which mend its pages and names, scav_entries and scav_table, label_sweep, and disk_descriptor, which writes DiskDescriptor;
-//! and laws_session, which the laws alone cite.
+//! scav_names, which mend its pages and names, scav_table, label_sweep, and disk_descriptor, which writes DiskDescriptor; and laws_session,
+//! which the laws alone cite.
 //! To the layers above, where the machine is modelled, for every pack whatever:
 //! 1. A pack that can't be scavenged is refused with nothing written: its sector 1 has a wrong header, or is in use by another page than
 //!    SysDir's leader, or more sectors are needed than are available, in this order; and no other pack is (`answers`, `silent`).

@@ -1,5 +1,5 @@
 use Rattle.std.proofs.Common.{◌≡◌, ◌+◌, ◌^◌, ◌<◌, ◌++◌, All, drop}
-use Rattle.scav_entries.specs.Living.{Rises}
+use Rattle.scav_names.specs.Living.{Rises}
 use Rattle.scav_names.specs.Words.{address_words}
 use Rattle.scav_names.proofs.addresses.addresses_of.Given as goal
 

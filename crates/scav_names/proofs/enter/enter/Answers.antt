@@ -6,7 +6,7 @@ use Rattle.pack_model.specs.hints.Links.{dir_words}
 use Rattle.pack_model.specs.reading.Slots.{slots}
 use Rattle.scav_pages.specs.declared.errors.Stop.TheVariants.{Memory}
 use Rattle.scav_pages.proofs.Causing.{cause_of_part}
-use Rattle.scav_entries.specs.Rooms.{IsFirstRoom}
+use Rattle.scav_names.specs.Rooms.{IsFirstRoom}
 use Rattle.scav_names.proofs.Going.{does_ok, does_part, does_stop, so_far_does, so_far_here}
 use Rattle.scav_names.proofs.NextEntry.{entered, entered_after}
 use Rattle.scav_names.proofs.enter.enter.Goals as goal

@@ -1,9 +1,9 @@
 use Rattle.std.proofs.Common.{◌≡◌, ℕ, ◌+◌, ◌<◌, true, false, not, List, length, drop, get_or, add-one, drop-cons, sym, ap, ◌∙◌, arith, rules}
 use Rattle.alto_words.specs.Fid.{is_system}
 use Rattle.pack_model.specs.states.InUse.{one_if}
-use Rattle.scav_entries.specs.declared.living.Living.{Living}
-use Rattle.scav_entries.specs.Lacking.{adopted_among}
 use Rattle.scav_pages.proofs.Ahead.{few_pass}
+use Rattle.scav_names.specs.declared.living.Living.{Living}
+use Rattle.scav_names.specs.Lacking.{adopted_among}
 use Rattle.scav_names.proofs.mend.count_adopted.Goals as goal
 use Rattle.scav_names.proofs.mend.count_adopted.Goals.{then-not-is_system, else-not-is_system}
 

@@ -1,5 +1,5 @@
 use Rattle.std.proofs.Common.{◌≡◌, ◌+◌, ◌^◌, ◌<◌, drop, length}
-use Rattle.scav_entries.specs.Lacking.{adopted_among}
+use Rattle.scav_names.specs.Lacking.{adopted_among}
 use Rattle.scav_names.proofs.mend.count_adopted.Given as goal
 
 abbrev pub invariant-loop-file : goal.invariant-loop-file

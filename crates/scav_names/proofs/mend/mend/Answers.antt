@@ -3,9 +3,9 @@ use Rattle.disk_records.specs.Tapes.{pack}
 use Rattle.disk_records.proofs.Growing.{alone_here, alone_twice}
 use Rattle.scav_pages.specs.declared.errors.Stop.TheVariants.{Memory}
 use Rattle.scav_pages.proofs.Causing.{cause_of_part, cause_sooner}
-use Rattle.scav_entries.specs.Catalogues.{HoldsNames}
-use Rattle.scav_entries.specs.Parting.{IsParted}
+use Rattle.scav_names.specs.Catalogues.{HoldsNames}
 use Rattle.scav_names.specs.Mending.{AreMended}
+use Rattle.scav_names.specs.Parting.{IsParted}
 use Rattle.scav_names.proofs.EnteringParts.{read_does, read_may}
 use Rattle.scav_names.proofs.Going.{does_last, does_part, does_stop, so_far_does, so_far_here}
 use Rattle.scav_names.proofs.mend.mend.Goals as goal

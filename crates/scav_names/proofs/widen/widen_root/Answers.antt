@@ -9,7 +9,7 @@ use Rattle.disk_records.specs.Tapes.{added, pack}
 use Rattle.disk_records.specs.Causes.{IsCause}
 use Rattle.disk_records.proofs.Looking.{looks_pack}
 use Rattle.disk_records.proofs.Growing.{alone_here, alone_twice}
-use Rattle.scav_entries.specs.laws_operation.proofs.Making.{named_page}
+use Rattle.scav_pages.specs.laws_operation.proofs.Making.{named_page}
 use Rattle.pack_model.specs.hints.Links.{dir_words}
 use Rattle.pack_model.specs.reading.Slots.{slots}
 use Rattle.scav_pages.specs.Stops.{cause_of_stop, stop_of_guard}
@@ -19,7 +19,7 @@ use Rattle.scav_names.specs.Words.{page_with}
 use Rattle.scav_names.proofs.Going.{cause_of_memory, does_stop, so_far_here}
 use Rattle.scav_names.proofs.PageWriting.{page_is}
 use Rattle.scav_names.proofs.RootPages.{root_page}
-use Rattle.scav_names.proofs.Widening.{carries_last, ends_pushed, few_words, label_found, left_widened, lengthening_found, number_low, page_found, place_known, so_far_claim, so_far_lengthen, so_far_looks, some_is_free, widened}
+use Rattle.scav_names.proofs.RootWidening.{carries_last, ends_pushed, few_words, label_found, left_widened, lengthening_found, number_low, page_found, place_known, so_far_claim, so_far_lengthen, so_far_looks, some_is_free, widened}
 use Rattle.scav_names.proofs.WideningPage.{found_held, label_names}
 use Rattle.scav_names.proofs.widen.widen_root.Goals as goal
 

@@ -13,7 +13,7 @@ use Rattle.disk_records.proofs.Looking.{looks_pack}
 use Rattle.disk_records.proofs.Growing.{alone_here, alone_twice, length-pack, silent_twice}
 use Rattle.scav_pages.specs.declared.errors.Stop.TheVariants.{Memory}
 use Rattle.scav_pages.proofs.Causing.{cause_of_looked, cause_of_part}
-use Rattle.scav_entries.specs.Catalogues.{HoldsNames}
+use Rattle.scav_names.specs.Catalogues.{HoldsNames}
 use Rattle.scavenger.proofs.Finishing.{few_needed}
 use Rattle.scavenger.proofs.Refusals.{available_is, first_bad, first_full, first_none, first_taken, good_header}
 use Rattle.scavenger.proofs.refusing.refuse.Goals as goal

@@ -7,8 +7,8 @@ use Rattle.scav_names.specs.laws_room.specs.NextLaws.{mended_pack}
 use Rattle.pack_model.specs.reading.Model.{root_items}
 use Rattle.pack_model.specs.reading.Slots.{all_words}
 use Rattle.pack_model.specs.scavenger.Mended.{lacking, widens}
-use Rattle.scav_entries.specs.Lacking.{entry_for, lacking_file, lacking_files}
-use Rattle.scav_entries.specs.Living.{living_files}
+use Rattle.scav_names.specs.Lacking.{entry_for, lacking_file, lacking_files}
+use Rattle.scav_names.specs.Living.{living_files}
 use Rattle.scavenger.proofs.Finishing.{few_words}
 use Rattle.scavenger.proofs.refusing.widens_parted.Goals as goal
 
