@@ -26,6 +26,7 @@ pub mod Ranking
 mod Releasing
 mod Rooting
 pub mod SlotReading
+mod Stopping
 mod Straying
 mod Using
 pub mod Walking

@@ -1,6 +1,7 @@
-use Rattle.std.proofs.Common.{◌≡◌, ◌<◌, ◌≤◌, ◌-◌, ◌*◌, suc, get_or, length, slice_set, Some, ap, ◌∙◌, refl, sym, subst, arith}
+use Rattle.std.proofs.Common.{◌≡◌, ℕ, ◌<◌, ◌≤◌, ◌-◌, ◌*◌, suc, get_or, length, slice_set, Some, ap, ◌∙◌, refl, sym, subst, arith}
 use Rattle.std.specs.Prelude.{min}
-use Rattle.disk_records.specs.Addresses.{descriptor_length}
+use Rattle.std.proofs.lemmas.List.Elements.{All-set}
+use Rattle.disk_records.specs.Addresses.{descriptor_length, pages_of}
 use Rattle.disk_records.specs.Labels.{page_of}
 use Rattle.disk_records.specs.Packs.{after, carried, sector_at}
 use Rattle.disk_records.specs.Commands.{relabel_writes}
@@ -16,6 +17,12 @@ use Rattle.scav_pages.proofs.Claiming.{going_scavengeable, names_its_page}
 use Rattle.scav_pages.proofs.Describing.{already_described, carries_page_there, claim_described, count_described, count_mends, few_data_pages, its_page, may_claim_data}
 use Rattle.scav_pages.proofs.Keeping.{Mends, mends_nothing}
 use Rattle.scav_pages.proofs.descriptor.mend_data_page.Goals as goal
+
+pub claim_page-requires-clause-place : goal.claim_page-requires-clause-place
+claim_page-requires-clause-place g c =
+    let most = few_data_pages (g.D.Tape.tape c.args.disk.now).form in
+    let is = c.from-index.ensures in
+    c.requires.within (c.from-index.result - 1) 0 (omega (arith, most, is, c.requires.most))
 
 pub returns-in_err-places-clause-does : goal.returns-in_err-places-clause-does
 returns-in_err-places-clause-does g c = λ told may.
@@ -45,6 +52,15 @@ returns-then-at-eq0-clause-does g c = λ told may.
     does_ok tt going (subst (λ i. MayDescribePage (pack b) (suc c.args.number) (slice_set places i at) c.claim_page.new.from) (sym is)
     (claim_described (pack a) c.args.number c.args.from.now places may c.requires.one c.requires.most (pack b) at c.claim_page.new.from bytes d.leaves (g.met.D.Disk.formed c.claim_page.new.disk told) (going_scavengeable going may.scavengeable) size none long))
 
+pub returns-then-at-eq0-clause-within : goal.returns-then-at-eq0-clause-within
+returns-then-at-eq0-clause-within g c = All-set (λ (at : ℕ). at < pages_of (g.D.Tape.tape c.args.disk.now).form) c.args.places.now c.from-index.result c.in_ok-places.field-0 c.in_ok-places.ensures.place.1 c.requires.within
+
+pub read_page-requires-clause-place : goal.read_page-requires-clause-place
+read_page-requires-clause-place g c =
+    let most = few_data_pages (g.D.Tape.tape c.args.disk.now).form in
+    let is = c.from-index.ensures in
+    c.requires.within c.from-index.result 0 (omega (arith, most, is, c.requires.most))
+
 pub returns-in_err-info-clause-does : goal.returns-in_err-info-clause-does
 returns-in_err-info-clause-does g c = λ told may.
     let a = g.D.Tape.tape c.args.disk.now in
@@ -57,6 +73,12 @@ returns-in_err-info-clause-does g c = λ told may.
 
 pub returns-in_err-info-clause-cause : goal.returns-in_err-info-clause-cause
 returns-in_err-info-clause-cause g c = cause_of_guarded c.in_err-info.field-0.0 c.from_residual-in_err-info.result (alone_here _) c.in_err-info.ensures.looks.alone c.in_err-info.ensures.cause c.from_residual-in_err-info.ensures.1
+
+pub relabel-requires-clause-place : goal.relabel-requires-clause-place
+relabel-requires-clause-place g c =
+    let most = few_data_pages (g.D.Tape.tape c.args.disk.now).form in
+    let is = c.from-index.ensures in
+    subst (λ s. get_or c.args.places.now c.from-index.result 0 < pages_of s) (sym c.in_ok-info.ensures.looks.alone.grown.form) (c.requires.within c.from-index.result 0 (omega (arith, most, is, c.requires.most)))
 
 pub relabel-requires-clause-same : goal.relabel-requires-clause-same
 relabel-requires-clause-same g c =

@@ -1,4 +1,4 @@
-use Rattle.std.proofs.Common.{◌≡◌, ◌≢◌, ◌*◌, ◌%◌, ◌<◌, Some, ap, ◌∙◌, sym, subst, arith}
+use Rattle.std.proofs.Common.{◌≡◌, ◌≢◌, ◌*◌, ◌%◌, ◌<◌, None, Some, ap, inl, refl, ◌∙◌, sym, subst, arith}
 use Rattle.disk_records.specs.Addresses.{pages_of}
 use Rattle.disk_records.specs.Commands.{relabel_writes}
 use Rattle.disk_records.specs.Labels.{tag}
@@ -6,14 +6,40 @@ use Rattle.disk_records.specs.Packs.{after, carried, sector_at}
 use Rattle.disk_records.specs.Tapes.{pack}
 use Rattle.disk_records.proofs.Growing.{alone_here, alone_twice}
 use Rattle.disk_records.proofs.Looking.{looks_pack}
-use Rattle.scav_pages.specs.Parts.{RelabelsHand}
+use Rattle.disk_records.specs.Packs.{Pack}
+use Rattle.laws_mend.specs.Parts.{Cleared}
+use Rattle.scav_pages.specs.declared.directory.Directory.{Directory}
+use Rattle.scav_pages.specs.Parts.{DirectoryEnds, RelabelsHand}
 use Rattle.scav_pages.specs.Walks.{file_in_hand}
 use Rattle.scav_pages.proofs.Causing.{cause_of_guarded}
 use Rattle.scav_pages.proofs.Cutting.{carried_here, cut_ends, cut_mends, dead_alone, file_alone, made_names, no_word, number_low, placed_here, relabels_hand, whole_alone, word_of}
 use Rattle.scav_pages.proofs.Doing.{does_ok, does_stop_two, going_done, going_here, going_looks, pack_done}
 use Rattle.scav_pages.proofs.Keeping.{Mends, mends_nothing}
+use Rattle.scav_pages.proofs.Stopping.{no_ok}
 use Rattle.scav_pages.proofs.directories.cut_directory.Goals as goal
 use Rattle.scav_pages.proofs.directories.cut_directory.Goals.{then-not-lives-via-then-not-lives, then-not-lives-via-else-not-lives+then-not-is_directory, then-not-lives-via-else-not-lives+else-not-is_directory+then-end-length, then-dir-lt1-via-then-dir-lt1, then-dir-lt1-via-else-dir-lt1+then-dir-pages}
+
+-- before the first row there is no file to cut
+none_alone : (p : Pack) (dir : Directory) → Cleared p → file_in_hand dir.walk ≡ None → DirectoryEnds dir p p tt
+none_alone p dir cleared none = record {
+  cleared = cleared;
+  ends = λ d e living isdir. absurd (let no : None ≡ Some d = sym none ∙ e in cc);
+  others = λ f n. refl;
+  lives_are = λ f. refl;
+  places_are = λ f n. refl;
+  frees = record { free = omega arith; available_is = refl };
+}
+
+pub returns-in_default-clause-does : goal.returns-in_default-clause-does
+returns-in_default-clause-does g c = λ told cleared may.
+    let a = g.D.Tape.tape c.args.disk.now in
+    does_ok tt (going_here a) (none_alone (pack a) c.args.dir.now cleared (sym c.fid.ensures ∙ c.in_default.is))
+
+pub returns-in_default-clause-wrote : goal.returns-in_default-clause-wrote
+returns-in_default-clause-wrote g c = λ told. inl refl
+
+pub returns-then-not-lives-clause-wrote : goal.returns-then-not-lives-clause-wrote
+returns-then-not-lives-clause-wrote g c = λ told. inl refl
 
 pub overflow_mul-end : goal.overflow_mul-end
 overflow_mul-end g c = let few = c.args.dir.now.few in let low = c.args.dir.now.walk.low in let is = c.place-end.ensures.place in omega (arith, few, low, is)
@@ -58,12 +84,21 @@ returns-in_err-info-clause-does g c = λ told cleared may.
     (carried_here (pack a) dir c.in-Some.fid cleared hand may (sym c.lives.ensures ∙ c.if-not-lives.false) (sym c.is_directory.ensures ∙ c.if-not-is_directory.false) (let other = c.if-end-length.false in let is = c.length.ensures in let at = c.place-end.ensures.place in (λ same. other (omega (arith, same, is, at)))) c.in-Ok.number number)
     (mends_nothing (pack a)) (omega arith) (c.in_err-info.ensures.guarded told) c.from_residual.ensures.1
 
+pub returns-in_err-info-clause-wrote : goal.returns-in_err-info-clause-wrote
+returns-in_err-info-clause-wrote g c = λ told. no_ok _ _ c.from_residual.result c.from_residual.ensures.1
+
 pub returns-in_err-info-clause-cause : goal.returns-in_err-info-clause-cause
 returns-in_err-info-clause-cause g c = cause_of_guarded c.in_err-info.field-0.0 c.from_residual.result (alone_here _) c.in_err-info.ensures.looks.alone c.in_err-info.ensures.cause c.from_residual.ensures.1
+
+pub relabel-requires-clause-place : goal.relabel-requires-clause-place
+relabel-requires-clause-place g c = let high = c.if-dir-pages.false in let is = c.pages.ensures ∙ ap pages_of (c.shape.ensures ∙ sym c.in_ok-info.ensures.looks.alone.grown.form) in omega (arith, high, is)
 
 pub relabel-requires-clause-same : goal.relabel-requires-clause-same
 relabel-requires-clause-same g c =
     made_names c.read_page.new.buf.label (record { fid = c.in-Some.fid; number = c.in-Ok.number }) (2 * c.place-end.result % c.from.result) 65535 c.in_ok-info.info.previous c.in_ok-info.ensures.page.names c.label_of-label.ensures (let is = c.from.ensures in let low : 2 * c.place-end.result % c.from.result < c.from.result = omega (arith, is) in omega (arith, is, low))
+
+pub returns-in_err-relabel-clause-wrote : goal.returns-in_err-relabel-clause-wrote
+returns-in_err-relabel-clause-wrote g c = λ told. no_ok _ _ c.from_residual-in_err-relabel.result c.from_residual-in_err-relabel.ensures.1
 
 pub returns-in_err-relabel-clause-cause : goal.returns-in_err-relabel-clause-cause
 returns-in_err-relabel-clause-cause g c = cause_of_guarded c.in_err-relabel.field-0.0 c.from_residual-in_err-relabel.result c.in_ok-info.ensures.looks.alone c.in_err-relabel.ensures.alone c.in_err-relabel.ensures.cause c.from_residual-in_err-relabel.ensures.1

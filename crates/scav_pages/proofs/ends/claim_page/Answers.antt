@@ -1,4 +1,5 @@
-use Rattle.std.proofs.Common.{◌≡◌, Some, true, false, ap, ◌∙◌, sym, subst, rules, replicate}
+use Rattle.std.proofs.Common.{◌≡◌, ◌<◌, Some, true, false, ap, ◌∙◌, sym, subst, rules, replicate}
+use Rattle.disk_records.specs.Addresses.{pages_of}
 use Rattle.disk_records.specs.Labels.{page_of}
 use Rattle.disk_records.specs.Packs.{after, is_free_at}
 use Rattle.disk_records.specs.Commands.{claim_writes}
@@ -8,9 +9,10 @@ use Rattle.disk_records.proofs.Growing.{alone_here, alone_twice}
 use Rattle.disk_records.proofs.Looking.{looks_pack}
 use Rattle.scav_pages.specs.Free.{NoneFreeBelow}
 use Rattle.scav_pages.proofs.Causing.{cause_of_guarded, cause_of_part}
-use Rattle.scav_pages.proofs.Doing.{does_ok, does_stop_claim, going_done, going_here, going_looks, pack_done}
-use Rattle.scav_pages.proofs.Claiming.{claim_mends, named_ranged, names_its_page, none_below_claimed}
+use Rattle.scav_pages.proofs.Doing.{does_ok, does_stop_claim, does_stop_looking, going_done, going_here, going_looks, pack_done}
+use Rattle.scav_pages.proofs.Claiming.{claim_mends, named_ranged, names_its_page, none_below_claimed, some_is_free}
 use Rattle.scav_pages.proofs.Keeping.{Mends}
+use Rattle.scav_pages.proofs.Stopping.{no_ok}
 use Rattle.scav_pages.proofs.ends.claim_page.Goals as goal
 
 pub claim-requires-clause-label : goal.claim-requires-clause-label
@@ -21,8 +23,29 @@ returns-then-not-names-clause-does g c = λ told may.
     let names : page_of c.label_of-label.result ≡ Some c.args.page = ap page_of c.label_of-label.ensures ∙ names_its_page c.args.page c.args.bytes 65535 c.match-before.previous may.named may.number c.requires.bytes in
     absurd (let no : false ≡ true = sym c.if-not-names.true ∙ (c.names.ensures).1 names in cc)
 
+pub returns-in_err-at-clause-does : goal.returns-in_err-at-clause-does
+returns-in_err-at-clause-does g c = λ told may.
+    let a = g.D.Tape.tape c.args.disk.now in
+    does_stop_looking c.in_err-at.field-0.0 c.from_residual.result (going_here a) c.in_err-at.ensures.looks told
+    (λ astray. some_is_free (pack a) c.args.page c.args.bytes c.args.from.now may (c.in_err-at.ensures.none told astray)) (c.in_err-at.ensures.want told) c.from_residual.ensures.1
+
+pub returns-in_err-at-clause-wrote : goal.returns-in_err-at-clause-wrote
+returns-in_err-at-clause-wrote g c = λ told. no_ok _ _ c.from_residual.result c.from_residual.ensures.1
+
+pub returns-in_err-at-clause-place : goal.returns-in_err-at-clause-place
+returns-in_err-at-clause-place g c = no_ok _ _ c.from_residual.result c.from_residual.ensures.1
+
 pub returns-in_err-at-clause-cause : goal.returns-in_err-at-clause-cause
 returns-in_err-at-clause-cause g c = cause_of_part c.in_err-at.field-0.0 c.from_residual.result (alone_here _) c.in_err-at.ensures.looks.alone c.in_err-at.ensures.cause c.from_residual.ensures.1
+
+pub claim-requires-clause-place : goal.claim-requires-clause-place
+claim-requires-clause-place g c = subst (λ s. c.in_ok-at.at < pages_of s) (sym c.in_ok-at.ensures.looks.alone.grown.form) c.in_ok-at.ensures.place
+
+pub returns-in_err-claim-clause-wrote : goal.returns-in_err-claim-clause-wrote
+returns-in_err-claim-clause-wrote g c = λ told. no_ok _ _ c.from_residual-in_err-claim.result c.from_residual-in_err-claim.ensures.1
+
+pub returns-in_err-claim-clause-place : goal.returns-in_err-claim-clause-place
+returns-in_err-claim-clause-place g c = no_ok _ _ c.from_residual-in_err-claim.result c.from_residual-in_err-claim.ensures.1
 
 pub returns-in_err-claim-clause-cause : goal.returns-in_err-claim-clause-cause
 returns-in_err-claim-clause-cause g c = cause_of_guarded c.in_err-claim.field-0.0 c.from_residual-in_err-claim.result c.in_ok-at.ensures.looks.alone c.in_err-claim.ensures.alone c.in_err-claim.ensures.cause c.from_residual-in_err-claim.ensures.1
