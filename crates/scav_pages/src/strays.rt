@@ -38,7 +38,8 @@ fn release_stray<D: Disk>(disk: &mut D, at: u16, buf: &mut Sector) -> Result<boo
     ensures cause { HasCause cause_of_stop (D.tape disk.old) (D.tape disk.new) result }
     ensures alone { DiskAlone (D.tape disk.old) (D.tape disk.new) }
 {
-    if !look(disk, at, buf)? || page_of(&buf.label).is_some() || is_free_label(&buf.label) {
+    let right = look(disk, at, buf)?;
+    if !right || page_of(&buf.label).is_some() || is_free_label(&buf.label) {
         return Ok(false);
     }
     buf.label = [0xFFFF; 8];
