@@ -1,5 +1,6 @@
-use Rattle.std.proofs.Common.{◌≡◌, ◌≢◌, IfSome, IsTrue, None, Some, arith, rules, subst, sym, ap, ◌∙◌}
+use Rattle.std.proofs.Common.{◌≡◌, ◌≢◌, ◌<◌, ◌≤◌, IfSome, IsTrue, None, Some, arith, rules, subst, sym, ap, ◌∙◌}
 use Rattle.std.specs.Option.{option_map, option_or}
+use Rattle.disk_records.specs.Addresses.{pages_of}
 use Rattle.disk_records.specs.Tapes.{pack}
 use Rattle.disk_records.proofs.Growing.{alone_here, alone_twice}
 use Rattle.scav_table.specs.Laws.{IsFirstAbove, IsNextRow}
@@ -38,6 +39,13 @@ pub returns-in_err-row-clause-does : goal.returns-in_err-row-clause-does
 returns-in_err-row-clause-does g c = λ told.
     let read = c.in_err-row.ensures in
     does_stop_looking c.in_err-row.field-0.0 c.from_residual-in_err-row.result (c.loop-row.invariant.pass.released told).going read.looks told (read.found told) (read.want told) c.from_residual-in_err-row.ensures.1
+
+pub release-requires-clause-first : goal.release-requires-clause-first
+release-requires-clause-first g c = (subst (λ o. IfSome o (λ r. (1 ≤ r.at) × (r.at < pages_of (g.D.Tape.tape c.loop-row.disk).form))) c.in-Some.is c.in_ok-row.ensures.place).0
+
+pub release-requires-clause-place : goal.release-requires-clause-place
+release-requires-clause-place g c =
+    subst (λ s. c.in-Some.row.at < pages_of s) (sym c.in_ok-row.ensures.looks.alone.grown.form) (subst (λ o. IfSome o (λ r. (1 ≤ r.at) × (r.at < pages_of (g.D.Tape.tape c.loop-row.disk).form))) c.in-Some.is c.in_ok-row.ensures.place).1
 
 pub returns-in_err-release-clause-cause : goal.returns-in_err-release-clause-cause
 returns-in_err-release-clause-cause g c = cause_of_guarded c.in_err-release.field-0.0 c.from_residual-in_err-release.result (alone_twice c.loop-row.invariant.pass.alone c.in_ok-row.ensures.looks.alone) c.in_err-release.ensures.alone c.in_err-release.ensures.cause c.from_residual-in_err-release.ensures.1
