@@ -1,11 +1,12 @@
 -- Words of directories that stand in the page of one row, written one after another.
 use Rattle.std.proofs.Common.{◌≡◌, ◌≢◌, ℕ, ◌+◌, ◌/◌, Bool, true, false, List, [], ◌∷◌, ◌++◌, append_assoc, Some, None, Result, Ok, Err, refl, sym, ap, subst, ◌∙◌, arith}
-use Rattle.std.specs.Prelude.{IsErrAnd, cond, drop, length, nat_eq, nat_le, take}
+use Rattle.std.specs.Prelude.{IsErrAnd, cond, drop, length, nat_eq, nat_le, not, take}
 use Rattle.std.specs.Cmp.Lexicographic.{pointwise}
 use Rattle.std.specs.Option.{option_map_or}
 use Rattle.alto_words.specs.declared.fid.Fid.{Fid}
 use Rattle.disk_records.specs.declared.records.Event.{Event}
 use Rattle.disk_records.specs.declared.records.Page.{Page}
+use Rattle.disk_records.specs.declared.records.Sector.{Sector}
 use Rattle.disk_records.specs.Commands.{value_writes}
 use Rattle.disk_records.specs.Events.{IsFirstOf}
 use Rattle.disk_records.specs.Packs.{Pack, after, carried, sector_at}
@@ -70,6 +71,33 @@ page_written_more {b = b} {c = c} at from words page x grown is =
 -- a call that does all of its record writes
 pub all_done : {T : Type 0} {a b : Taped} {writes : List Event} (value : T) → added a b ≡ writes → WritesPageWords writes a b (Ok value)
 all_done {a = a} {b = b} {writes = writes} value is = record { some = subst (IsFirstOf writes) (sym is) (first_all writes); ok = is; found = λ astray. cc }
+
+-- ---- words of one value
+-- the record writes by the sector that was read: none where the words stand there
+pub puts_none : (p : Pack) (at from : ℕ) (words : List ℕ) (buf : Sector) (changed : Bool) → buf ≡ sector_at p at → changed ≡ not (pointwise nat_eq (take (length words) (drop from buf.value)) words) → changed ≡ false → page_writes p at from words ≡ []
+puts_none p at from words buf changed holds is same =
+    ap (λ (s : Sector). cond (pointwise nat_eq (take (length words) (drop from s.value)) words) [] (value_writes at (put_at from words s.value))) (sym holds)
+    ∙ by (pointwise nat_eq (take (length words) (drop from buf.value)) words) (sym is ∙ same)
+  where
+    by : (t : Bool) → not t ≡ false → cond t [] (value_writes at (put_at from words buf.value)) ≡ []
+    by true e = refl
+    by false e = cc
+
+-- and the value with them where others do
+pub puts_value : (p : Pack) (at from : ℕ) (words : List ℕ) (buf : Sector) (changed : Bool) {value : List ℕ} → buf ≡ sector_at p at → changed ≡ not (pointwise nat_eq (take (length words) (drop from buf.value)) words) → changed ≡ true → value ≡ put_at from words buf.value
+    → page_writes p at from words ≡ value_writes at value
+puts_value p at from words buf changed {value} holds is other put =
+    ap (λ (s : Sector). cond (pointwise nat_eq (take (length words) (drop from s.value)) words) [] (value_writes at (put_at from words s.value))) (sym holds)
+    ∙ by (pointwise nat_eq (take (length words) (drop from buf.value)) words) (sym is ∙ other)
+    ∙ ap (value_writes at) (sym put)
+  where
+    by : (t : Bool) → not t ≡ true → cond t [] (value_writes at (put_at from words buf.value)) ≡ value_writes at (put_at from words buf.value)
+    by true e = cc
+    by false e = refl
+
+-- what is added after a look that wrote nothing
+pub added_looked : {a b c : Taped} → Grown a b → added a b ≡ [] → Grown b c → added a c ≡ added b c
+added_looked {b = b} {c = c} x silent y = added-twice x y ∙ ap (λ l. l ++ added b c) silent
 
 -- ---- so far
 -- those from the one numbered `done` up to the one numbered `more` are written

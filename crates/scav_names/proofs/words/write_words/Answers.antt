@@ -1,11 +1,11 @@
-use Rattle.std.proofs.Common.{◌≡◌, Err, IfSome, IsTrue, None, Some, ap, arith, sym, subst, ◌∙◌}
+use Rattle.std.proofs.Common.{◌≡◌, ◌<◌, Err, IfSome, IsTrue, None, Some, ap, sym, subst, ◌∙◌}
 use Rattle.std.specs.Option.{option_or}
 use Rattle.disk_records.specs.Tapes.{pack}
 use Rattle.disk_records.proofs.Looking.{looks_pack}
 use Rattle.disk_records.proofs.Growing.{alone_here, alone_twice}
 use Rattle.scav_pages.specs.Walks.{AreWords, IsSeated}
 use Rattle.scav_pages.specs.Links.{WritesPage}
-use Rattle.scav_pages.proofs.Ahead.{ahead_falls}
+use Rattle.scav_pages.proofs.Ahead.{ahead, ahead_falls}
 use Rattle.scav_pages.proofs.Passing.{carried_row}
 use Rattle.scav_pages.proofs.Causing.{cause_of_part, cause_of_swept}
 use Rattle.scav_table.specs.Laws.{IsFirstAbove, IsNextRow}
@@ -62,12 +62,8 @@ loop-row-preserved g c =
 
 pub loop-row-smaller : goal.loop-row-smaller
 loop-row-smaller g c =
-    let read = c.in_ok-row.ensures in
-    let row = c.in-Some.row in
-    let next : c.next_row.new.pass.last ≡ Some row = read.last ∙ ap (λ o. option_or o c.loop-row.pass.last) c.in-Some.is in
-    let falls = ahead_falls c.loop-row.pass.last row (subst (IsNext c.loop-row.pass.last) c.in-Some.is read.rises) in
-    let is = ap Rattle.scav_pages.proofs.Ahead.ahead next in
-    omega (arith, falls, is)
+    let last_is : c.next_row.new.pass.last ≡ Some c.in-Some.row = c.in_ok-row.ensures.last ∙ ap (λ o. option_or o c.loop-row.pass.last) c.in-Some.is in
+    subst (λ l. ahead l < ahead c.loop-row.pass.last) (sym last_is) (ahead_falls c.loop-row.pass.last c.in-Some.row (subst (IsNext c.loop-row.pass.last) c.in-Some.is c.in_ok-row.ensures.rises))
 
 pub returns-clause-writes : goal.returns-clause-writes
 returns-clause-writes g c = λ told are.
