@@ -12,8 +12,8 @@ use Rattle.scav_names.specs.Rooms.{HasSlots, freed_at}
 use Rattle.scav_names.proofs.Growing.{have_words}
 use Rattle.scav_names.proofs.LivingFiles.{living_found, living_rise}
 use Rattle.scav_names.proofs.RootItems.{IsFreeing, free_all, freeing_begins, freeing_ends, freeing_other, freeing_root, fresh_then, next_left, none_then, root_then}
-use Rattle.scav_names.proofs.root.root_rooms.Goals as goal
-use Rattle.scav_names.proofs.root.root_rooms.Goals.{then-eq+in_ok-free, else-eq}
+use Rattle.scav_names.proofs.freed.root_rooms.Goals as goal
+use Rattle.scav_names.proofs.freed.root_rooms.Goals.{then-eq+in_ok-free, else-eq}
 
 pub loop-entry-init : goal.loop-entry-init
 loop-entry-init c = record {

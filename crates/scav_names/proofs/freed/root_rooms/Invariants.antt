@@ -3,7 +3,7 @@ use Rattle.disk_records.specs.Packs.{Pack}
 use Rattle.scav_names.specs.Catalogues.{HoldsNames, root_slots}
 use Rattle.scav_names.specs.Parting.{IsParted, unkept_entries}
 use Rattle.scav_names.proofs.RootItems.{IsFreeing, free_all}
-use Rattle.scav_names.proofs.root.root_rooms.Given as goal
+use Rattle.scav_names.proofs.freed.root_rooms.Given as goal
 
 abbrev pub invariant-loop-entry : goal.invariant-loop-entry
 invariant-loop-entry l = record {
