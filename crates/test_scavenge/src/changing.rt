@@ -3,6 +3,7 @@ ghost use Rattle.std.specs.Prelude.{[], false};
 ghost use Rattle.std.proofs.lemmas.Bool.{false≢true};
 
 use crate::calling::{expect, shape_of};
+use crate::damaging::zeros;
 use disk_records::{
     Act, Disk, DiskError, Plan, Sector, Shape, Tape, first_mismatch, update_memory,
 };
@@ -76,22 +77,14 @@ impl Disk for Changing {
     ghost formed = { λ d told. absurd (false≢true told) };
 }
 
-/// The sectors of a pack, each with this label.
-fn push_sectors(sectors: &mut Vec<Sector>, shape: Shape, label: [u16; 8]) -> Result<(), Fail> {
-    for at in 0..shape.pages() {
-        let mut sector = Sector::ZEROS;
-        sector.header = [1, shape.real_of(at)];
-        sector.label = label;
-        sectors.push(sector)?;
-    }
-    Ok(())
-}
-
 /// A disk of 48 sectors, each with this label.
 fn changing_disk(alloc: Global, label: [u16; 8], change: Change) -> Result<Changing, Fail> {
     let shape = shape_of(1, 2)?;
-    let mut sectors = Vec::new(alloc);
-    push_sectors(&mut sectors, shape, label)?;
+    let mut sectors = zeros(alloc, shape)?;
+    for (at, sector) in sectors.iter_mut().enumerate() {
+        sector.header = [1, shape.real_of(at as u16)];
+        sector.label = label;
+    }
     Ok(Changing {
         shape,
         sectors,
@@ -103,16 +96,16 @@ fn changing_disk(alloc: Global, label: [u16; 8], change: Change) -> Result<Chang
 const LEADER: [u16; 8] = [0xFFFF, 0xFFFF, 0, 512, 0, 1, 0, 100];
 
 /// Mends the pages of a disk as far as they go, and then again, by a table that was swept.
-fn mend_by(disk: &mut Changing, table: &mut Table) -> Result<(), Fail> {
-    expect(table.rows().len() == 47, "rows")?;
-    expect(mend_pages(disk, table) == Ok(0), "memory")?;
-    expect(mend_pages_or_stop(disk, table) == Err(Stop::Astray), "told")
-}
-
-/// Sweeps a disk, and mends its pages.
 fn mend(alloc: Global, disk: &mut Changing) -> Result<(), Fail> {
-    let mut table = sweep(alloc, disk)?;
-    mend_by(disk, &mut table)
+    let Ok(mut table) = sweep(alloc, disk) else {
+        return Err(Fail::new("no table"));
+    };
+    expect(table.rows().len() == 47, "rows")?;
+    expect(mend_pages(disk, &mut table) == Ok(0), "memory")?;
+    expect(
+        mend_pages_or_stop(disk, &mut table) == Err(Stop::Astray),
+        "told",
+    )
 }
 
 /// Each sector shows the leader page of one file when it is read, and nothing of that when it is checked. It is no want of memory, and is told.
@@ -123,16 +116,26 @@ fn a_changing_page_is_not_out_of_memory(rt: HostRuntime) -> Result<(), Fail> {
     mend(alloc, &mut disk)
 }
 
+/// Scavenges a disk three times. Before the second one the leader page of SysDir gets a link to a page before it, which has to be mended, and
+/// sectors change.
+fn scavenge_thrice(alloc: Global, disk: &mut Changing) -> Result<(), Fail> {
+    expect(scavenge(alloc, disk).is_ok(), "the first")?;
+    let Some(sector) = disk.sectors.get_mut(1) else {
+        return Err(Fail::new("no sector 1"));
+    };
+    sector.label[1] = 5;
+    disk.change = Change::BeforeWrite;
+    expect(
+        scavenge(alloc, disk) == Err(ScavError::Memory),
+        "the second",
+    )?;
+    disk.change = Change::Never;
+    expect(scavenge(alloc, disk).is_ok(), "the third")
+}
+
 #[test]
 fn a_change_while_pages_are_mended_ends_it(rt: HostRuntime) -> Result<(), Fail> {
     let alloc = rt.alloc();
     let mut disk = changing_disk(alloc, [0xFFFF; 8], Change::Never)?;
-    assert!(rt; scavenge(alloc, &mut disk).is_ok());
-    // the leader page of SysDir has no page before it
-    disk.sectors.get_mut(1).ok_or("no sector 1")?.label[1] = 5;
-    disk.change = Change::BeforeWrite;
-    assert!(rt; scavenge(alloc, &mut disk) == Err(ScavError::Memory));
-    disk.change = Change::Never;
-    assert!(rt; scavenge(alloc, &mut disk).is_ok());
-    Ok(())
+    scavenge_thrice(alloc, &mut disk)
 }

@@ -1,68 +1,66 @@
 // Packs that are made by typed lines, and damaged by hand.
-use crate::calling::done;
+use crate::calling::{ANYTHING, check_done, expect};
 use disk_records::{Sector, Shape};
 use std::alloc::Global;
 use std::test::Fail;
 
-/// What is done to a sector: a word of its header, label or value gets another number, its label becomes a free one, or it gets the label and
-/// the value of another sector; or what is done to several: the headers of sectors in a row get a wrong address, or all sectors get labels and
-/// values of ones.
-pub(crate) enum Damage {
-    /// The sector, the word's place in the header, and the number.
-    Header(u16, usize, u16),
-    /// The sector, the word's place in the label, and the number.
-    Label(u16, usize, u16),
-    /// The sector, the word's place in the value, and the number.
-    Value(u16, usize, u16),
-    /// The sector.
-    Free(u16),
-    /// The other sector, and the sector.
-    Copy(u16, u16),
-    /// The first of them, and the sector after the last.
-    Headers(u16, u16),
-    /// All from sector 1 on.
-    Blank,
+/// A phrase: a word, and the three numbers after it, of which those that aren't there are 0.
+#[derive(Drop)]
+pub(crate) struct Phrase<'a> {
+    pub verb: &'a str,
+    pub first: u16,
+    pub second: u16,
+    pub third: u16,
 }
 
-/// The sector at an address.
-fn sector_at(pack: &[Sector], at: u16) -> Result<Sector, Fail> {
-    Ok(*pack.get(usize::from(at)).ok_or("no sector")?)
+/// The number with which a text begins, in decimal digits or in hex after `0x`, and what stands after it and a space; 0 of an empty text.
+fn take_number(text: &str) -> Option<(u16, &str)> {
+    let (word, rest) = text.split_once(' ').unwrap_or((text, ""));
+    let number = match word.strip_prefix("0x") {
+        Some(digits) => u16::from_str_radix(digits, 16).ok()?,
+        None if word.is_empty() => 0,
+        None => u16::from_str_radix(word, 10).ok()?,
+    };
+    Some((number, rest))
 }
 
-/// Puts a sector at an address.
-fn put_sector(pack: &mut [Sector], at: u16, sector: Sector) -> Result<(), Fail> {
-    *pack.get_mut(usize::from(at)).ok_or("no sector")? = sector;
-    Ok(())
+/// Reads a phrase. None if what comes after its first word aren't numbers.
+pub(crate) fn read_phrase(text: &str) -> Option<Phrase<'_>> {
+    let (verb, rest) = text.split_once(' ').unwrap_or((text, ""));
+    let (first, rest) = take_number(rest)?;
+    let (second, rest) = take_number(rest)?;
+    let (third, _) = take_number(rest)?;
+    Some(Phrase {
+        verb,
+        first,
+        second,
+        third,
+    })
 }
 
-/// Puts a number in the place of a word.
-fn put(words: &mut [u16], word: usize, number: u16) -> Result<(), Fail> {
-    *words.get_mut(word).ok_or("no word")? = number;
-    Ok(())
+/// Puts a phrase's third number in the place of the word that its second one counts. None if there is no such word.
+fn put(words: &mut [u16], phrase: &Phrase) -> Option<()> {
+    *words.get_mut(usize::from(phrase.second))? = phrase.third;
+    Some(())
 }
 
-/// Gives a sector a free label.
-fn free_sector(pack: &mut [Sector], at: u16) -> Result<(), Fail> {
-    let mut sector = sector_at(pack, at)?;
-    sector.label = [0xFFFF; 8];
-    put_sector(pack, at, sector)
-}
-
-/// Gives a sector the label and the value of another.
-pub(crate) fn copy_page(pack: &mut [Sector], from: u16, at: u16) -> Result<(), Fail> {
-    let source = sector_at(pack, from)?;
-    let header = sector_at(pack, at)?.header;
-    put_sector(pack, at, Sector { header, ..source })
-}
-
-/// Gives the headers of sectors in a row a wrong address.
-fn put_headers(pack: &mut [Sector], first: u16, end: u16) -> Result<(), Fail> {
+/// Gives sectors in a row the label and the value of another. None if one of them isn't there.
+fn copy_page(pack: &mut [Sector], from: usize, first: u16, end: u16) -> Option<()> {
+    let source = *pack.get(from)?;
     for at in first..end {
-        let mut sector = sector_at(pack, at)?;
-        sector.header[1] = 0;
-        put_sector(pack, at, sector)?;
+        let sector = pack.get_mut(usize::from(at))?;
+        sector.label = source.label;
+        sector.value = source.value;
     }
-    Ok(())
+    Some(())
+}
+
+/// Gives the headers of sectors in a row a wrong address. None if one of them isn't there.
+fn put_headers(pack: &mut [Sector], first: u16, end: u16) -> Option<()> {
+    for at in first..end {
+        pack.get_mut(usize::from(at))?.header[1] = 0;
+    }
+    Some(())
 }
 
 /// Gives all sectors from 1 on labels and values of ones.
@@ -73,40 +71,52 @@ fn blank(pack: &mut [Sector]) {
     }
 }
 
-/// Does one damage to a pack.
-fn damage_sector(pack: &mut [Sector], damage: &Damage) -> Result<(), Fail> {
-    match *damage {
-        Damage::Header(at, word, number) => {
-            let mut sector = sector_at(pack, at)?;
-            put(&mut sector.header, word, number)?;
-            put_sector(pack, at, sector)
+/// Does to a pack what a phrase says. None if it isn't one of those that `damage_pack` names, or if its sector or its word isn't there.
+fn damage_sector(pack: &mut [Sector], text: &str) -> Option<()> {
+    let phrase = read_phrase(text)?;
+    let at = usize::from(phrase.first);
+    match phrase.verb {
+        "header" => put(&mut pack.get_mut(at)?.header, &phrase),
+        "label" => put(&mut pack.get_mut(at)?.label, &phrase),
+        "value" => put(&mut pack.get_mut(at)?.value, &phrase),
+        "free" => {
+            pack.get_mut(at)?.label = [0xFFFF; 8];
+            Some(())
         }
-        Damage::Label(at, word, number) => {
-            let mut sector = sector_at(pack, at)?;
-            put(&mut sector.label, word, number)?;
-            put_sector(pack, at, sector)
-        }
-        Damage::Value(at, word, number) => {
-            let mut sector = sector_at(pack, at)?;
-            put(&mut sector.value, word, number)?;
-            put_sector(pack, at, sector)
-        }
-        Damage::Free(at) => free_sector(pack, at),
-        Damage::Copy(from, at) => copy_page(pack, from, at),
-        Damage::Headers(first, end) => put_headers(pack, first, end),
-        Damage::Blank => {
+        "copy" => copy_page(pack, at, phrase.second, phrase.second.checked_add(1)?),
+        "copies" => copy_page(pack, at, phrase.second, phrase.third),
+        "headers" => put_headers(pack, phrase.first, phrase.second),
+        "blank" => {
             blank(pack);
-            Ok(())
+            Some(())
         }
+        _ => None,
     }
 }
 
-/// Does all of them, in order.
-pub(crate) fn damage_pack(pack: &mut [Sector], damages: &[Damage]) -> Result<(), Fail> {
-    for damage in damages {
-        damage_sector(pack, damage)?;
+/// Does to a pack what these phrases say, which are parted by `, `, in order; nothing of an empty text. Each names addresses of sectors first:
+/// 1. `header 20 1 0`, `label ..` and `value ..`: a word of this sector's header, label or value, at this place, gets a number.
+/// 2. `free 5`: the sector's label becomes a free one.
+/// 3. `copy 6 20`: the second sector gets the label and the value of the first.
+/// 4. `copies 6 100 1300`: so do those from the second on and before the third.
+/// 5. `headers 8 48`: the headers of the sectors from the first on and before the second get a wrong address.
+/// 6. `blank`: all sectors from 1 on get labels and values of ones.
+pub(crate) fn damage_pack(pack: &mut [Sector], phrases: &str) -> Result<(), Fail> {
+    for phrase in phrases.split(", ") {
+        expect(
+            phrases.is_empty() || damage_sector(pack, phrase).is_some(),
+            "no sector or no word",
+        )?;
     }
     Ok(())
+}
+
+/// A pack of this shape whose sectors are zeros.
+pub(crate) fn zeros(alloc: Global, shape: Shape) -> Result<Vec<Sector>, Fail> {
+    match vec![in alloc; Sector::ZEROS; shape.pages() as usize] {
+        Ok(pack) => Ok(pack),
+        Err(_) => Err(Fail::new("no memory")),
+    }
 }
 
 /// Formats a pack, obeys typed lines on it, and damages it. What fails has this name.
@@ -115,11 +125,11 @@ fn use_pack(
     name: &'static str,
     shape: Shape,
     pack: &mut Vec<Sector>,
-    typed: &str,
-    damages: &[Damage],
+    typed: &'static str,
+    damages: &str,
 ) -> Result<(), Fail> {
-    done(alloc, name, shape, pack, "format 1", "")?;
-    done(alloc, name, shape, pack, "boot", typed)?;
+    check_done(alloc, name, shape, pack, "format 1", "", ANYTHING)?;
+    check_done(alloc, name, shape, pack, "boot", typed, ANYTHING)?;
     damage_pack(pack, damages)
 }
 
@@ -128,10 +138,10 @@ pub(crate) fn damaged_pack(
     alloc: Global,
     name: &'static str,
     shape: Shape,
-    typed: &str,
-    damages: &[Damage],
+    typed: &'static str,
+    damages: &str,
 ) -> Result<Vec<Sector>, Fail> {
-    let mut pack = vec![in alloc; Sector::ZEROS; shape.pages() as usize]?;
+    let mut pack = zeros(alloc, shape)?;
     use_pack(alloc, name, shape, &mut pack, typed, damages)?;
     Ok(pack)
 }

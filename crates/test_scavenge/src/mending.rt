@@ -1,29 +1,33 @@
 // Each damaged pack of the table, mended: the answer, what is shown at each event, and words that stand then.
-use crate::calling::{check_listing, expect, failing_machine, machine_over, pack_at, shape_of};
-use crate::damaging::{copy_page, damaged_pack};
-use crate::mended::{FILE, Mended, Wanted, rows};
+use crate::calling::{NEVER, check_done, expect, machine_over, pack_at, shape_of};
+use crate::damaging::{damaged_pack, read_phrase};
+use crate::mended::{COPIES, FILE, Mended, rows};
 use disk_memory::MemMachine;
 use disk_records::{Sector, Shape};
 use scav_pages::mend_pages;
-use scav_table::{SweepError, Table, sweep};
+use scav_table::{SweepError, sweep};
 use std::alloc::Global;
 use std::test::Fail;
 
-/// Whether this word stands.
-fn has_word(pack: &[Sector], wanted: &Wanted) -> bool {
-    match *wanted {
-        Wanted::Label(at, word, number) => pack
-            .get(usize::from(at))
-            .is_some_and(|sector| sector.label.get(word) == Some(&number)),
-        Wanted::Value(at, word, number) => pack
-            .get(usize::from(at))
-            .is_some_and(|sector| sector.value.get(word) == Some(&number)),
+/// Whether the word stands of which a phrase says, as `damage_pack` reads them, what number it is to be.
+fn has_word(pack: &[Sector], phrase: &str) -> bool {
+    let Some(phrase) = read_phrase(phrase) else {
+        return false;
+    };
+    let Some(sector) = pack.get(usize::from(phrase.first)) else {
+        return false;
+    };
+    let place = usize::from(phrase.second);
+    match phrase.verb {
+        "label" => sector.label.get(place) == Some(&phrase.third),
+        "value" => sector.value.get(place) == Some(&phrase.third),
+        _ => false,
     }
 }
 
 /// Whether all of these words stand.
-fn has_words(pack: &[Sector], wanted: &[Wanted]) -> bool {
-    wanted.iter().all(|word| has_word(pack, word))
+fn has_words(pack: &[Sector], phrases: &str) -> bool {
+    phrases.split(", ").all(|phrase| has_word(pack, phrase))
 }
 
 /// Whether a sector is DiskDescriptor's first data page by its label, and has the clean mark.
@@ -31,36 +35,19 @@ fn is_clean(pack: &[Sector]) -> bool {
     pack.iter().any(|sector| sector.label[4..] == [1, 1, 0, 2] && sector.value[6] == 1)
 }
 
-/// Mends the pages of a machine's pack by a table that is moved on from its window.
-fn mend_by(machine: &mut MemMachine, table: &mut Table) -> Result<u32, SweepError> {
-    table.advance(machine)?;
-    mend_pages(machine, table)
-}
-
 /// Mends the pages of a machine's pack by a table that was swept, and moved on from its first window.
 fn mend(alloc: Global, machine: &mut MemMachine) -> Result<u32, SweepError> {
     let mut table = sweep(alloc, machine)?;
-    mend_by(machine, &mut table)
+    table.advance(machine)?;
+    mend_pages(machine, &mut table)
 }
 
-/// The row's pack, damaged.
+/// The pack of a row, damaged.
 fn pack_of(alloc: Global, shape: Shape, row: &Mended) -> Result<Vec<Sector>, Fail> {
     damaged_pack(alloc, row.name, shape, row.typed, row.damages)
 }
 
-/// Looks at what a pack shows, and for a clean mark where there was none.
-fn check_pack(
-    alloc: Global,
-    shape: Shape,
-    row: &Mended,
-    pack: &[Sector],
-    was_clean: bool,
-) -> Result<(), Fail> {
-    expect(was_clean || !is_clean(pack), row.name)?;
-    check_listing(alloc, row.name, shape, pack, row.shown)
-}
-
-/// Looks at the pack after so many events.
+/// Looks at what is shown after so many events, and for a clean mark where there was none.
 fn check_event(
     alloc: Global,
     shape: Shape,
@@ -69,20 +56,23 @@ fn check_event(
     count: usize,
     was_clean: bool,
 ) -> Result<(), Fail> {
-    let left = pack_at(alloc, machine, count)?;
-    check_pack(alloc, shape, row, &left, was_clean)
+    let mut left = pack_at(alloc, machine, count)?;
+    expect(was_clean || !is_clean(&left), row.name)?;
+    check_done(alloc, row.name, shape, &mut left, "show", "", row.shown)?;
+    Ok(())
 }
 
-/// Mends a pack on a machine, and looks at each event.
+/// Mends a pack on a machine, and looks at each event, or at one in so many.
 fn check_events(
     alloc: Global,
     shape: Shape,
     row: &Mended,
     machine: &mut MemMachine,
     was_clean: bool,
+    step: usize,
 ) -> Result<(), Fail> {
     expect(mend(alloc, machine) == Ok(row.freed), row.name)?;
-    for count in 0..=machine.event_count() {
+    for count in (0..=machine.event_count()).step_by(step) {
         check_event(alloc, shape, row, machine, count, was_clean)?;
     }
     Ok(())
@@ -90,63 +80,33 @@ fn check_events(
 
 /// Mends a mended pack again: nothing is freed, and nothing written.
 fn check_again(alloc: Global, shape: Shape, row: &Mended, pack: &[Sector]) -> Result<(), Fail> {
-    expect(has_words(pack, row.then), row.name)?;
-    let mut machine = machine_over(alloc, shape, pack, "")?;
+    let mut machine = machine_over(alloc, shape, pack, "", NEVER, 0)?;
     let freed = mend(alloc, &mut machine);
-    expect(freed == Ok(0) && machine.event_count() == 0, row.name)
+    expect(freed == Ok(0) && machine.event_count() == 0, row.name)?;
+    expect(has_words(pack, row.then), row.name)
 }
 
 /// Mends a pack, and then again.
 fn mend_twice(alloc: Global, shape: Shape, row: &Mended, pack: &[Sector]) -> Result<(), Fail> {
-    let mut machine = machine_over(alloc, shape, pack, "")?;
-    check_events(alloc, shape, row, &mut machine, is_clean(pack))?;
+    let mut machine = machine_over(alloc, shape, pack, "", NEVER, 0)?;
+    check_events(alloc, shape, row, &mut machine, is_clean(pack), 1)?;
     check_again(alloc, shape, row, &machine.into_sectors())
 }
 
-/// Mends the pack of a row.
-fn check_row(alloc: Global, row: &Mended) -> Result<(), Fail> {
-    let shape = shape_of(row.drives, 2)?;
-    let pack = pack_of(alloc, shape, row)?;
-    mend_twice(alloc, shape, row, &pack)
-}
-
-#[test]
-fn each_damage_is_mended(rt: HostRuntime) -> Result<(), Fail> {
-    let alloc = rt.alloc();
-    for row in rows() {
-        check_row(alloc, row)?;
-    }
-    Ok(())
-}
-
-/// Ends a mending that stopped: a second one does.
-fn end_mending(alloc: Global, shape: Shape, row: &Mended, pack: &[Sector]) -> Result<(), Fail> {
-    let mut machine = machine_over(alloc, shape, pack, "")?;
-    let answer = mend(alloc, &mut machine);
-    let left = machine.into_sectors();
-    expect(answer.is_ok() && has_words(&left, row.then), row.name)
-}
-
-/// Goes on with the pack of a mending that met a fault, which shows what it showed; answers whether it met none.
-fn end_or_go_on(
+/// Ends a mending that met a fault: its pack shows what it showed, and a second one does all that is left.
+fn end_mending(
     alloc: Global,
     shape: Shape,
     row: &Mended,
-    pack: &[Sector],
-    answer: Result<u32, SweepError>,
-) -> Result<bool, Fail> {
-    match answer {
-        Ok(_) => Ok(true),
-        Err(error) => {
-            expect(error == SweepError::DiskFault, row.name)?;
-            check_listing(alloc, row.name, shape, pack, row.shown)?;
-            end_mending(alloc, shape, row, pack)?;
-            Ok(false)
-        }
-    }
+    pack: &mut Vec<Sector>,
+) -> Result<(), Fail> {
+    check_done(alloc, row.name, shape, pack, "show", "", row.shown)?;
+    let mut machine = machine_over(alloc, shape, pack, "", NEVER, 0)?;
+    expect(mend(alloc, &mut machine).is_ok(), row.name)?;
+    expect(has_words(&machine.into_sectors(), row.then), row.name)
 }
 
-/// Lets this call of a mending fail; answers whether there was none.
+/// Lets this call of a mending fail, and ends it; answers whether there was no such call.
 fn check_fault(
     alloc: Global,
     shape: Shape,
@@ -154,9 +114,15 @@ fn check_fault(
     pack: &[Sector],
     call: u64,
 ) -> Result<bool, Fail> {
-    let mut machine = failing_machine(alloc, shape, pack, call, (call % 2) as u8)?;
-    let answer = mend(alloc, &mut machine);
-    end_or_go_on(alloc, shape, row, &machine.into_sectors(), answer)
+    let mut machine = machine_over(alloc, shape, pack, "", call, (call % 2) as u8)?;
+    match mend(alloc, &mut machine) {
+        Ok(_) => Ok(true),
+        Err(SweepError::DiskFault) => {
+            end_mending(alloc, shape, row, &mut machine.into_sectors())?;
+            Ok(false)
+        }
+        Err(SweepError::Memory) => Err(Fail::new(row.name)),
+    }
 }
 
 /// Lets every 31st call of a mending fail, one after another.
@@ -169,65 +135,43 @@ fn check_faults(alloc: Global, shape: Shape, row: &Mended, pack: &[Sector]) -> R
     Ok(())
 }
 
-/// Lets calls of a mending of the pack of a row fail.
-fn break_row(alloc: Global, row: &Mended) -> Result<(), Fail> {
-    let shape = shape_of(row.drives, 2)?;
-    let pack = pack_of(alloc, shape, row)?;
-    check_faults(alloc, shape, row, &pack)
+/// Mends the pack of each row, with calls failing or without.
+fn each_row(alloc: Global, fails: bool) -> Result<(), Fail> {
+    for row in rows() {
+        let shape = shape_of(row.drives, 2)?;
+        let pack = pack_of(alloc, shape, row)?;
+        if fails {
+            check_faults(alloc, shape, row, &pack)?;
+        } else {
+            mend_twice(alloc, shape, row, &pack)?;
+        }
+    }
+    Ok(())
+}
+
+#[test]
+fn each_damage_is_mended(rt: HostRuntime) -> Result<(), Fail> {
+    each_row(rt.alloc(), false)
 }
 
 /// The disk fails at every 31st call, fewer than a sweep has, so that each pass fails once at least; before the record writes of the call and
 /// after its first one in turn. The answer is DiskFault, what is shown stays, and a second mending ends the work.
 #[test]
 fn each_fault_is_mended_again(rt: HostRuntime) -> Result<(), Fail> {
-    let alloc = rt.alloc();
-    for row in rows() {
-        break_row(alloc, row)?;
-    }
-    Ok(())
+    each_row(rt.alloc(), true)
 }
 
-/// Copies the page in sector 6 to those from 100 to 1,299.
-fn copy_pages(pack: &mut [Sector]) -> Result<(), Fail> {
-    for at in 100..1300u16 {
-        copy_page(pack, 6, at)?;
-    }
-    Ok(())
-}
-
-/// Looks at what is shown after so many events.
-fn check_copies_at(
+/// Mends a pack with copies of a page, and looks at every 300th event. Then the pack is as before.
+fn mend_copies(
     alloc: Global,
     shape: Shape,
-    machine: &MemMachine,
-    count: usize,
+    before: &[Sector],
+    pack: &[Sector],
 ) -> Result<(), Fail> {
-    let left = pack_at(alloc, machine, count)?;
-    check_listing(alloc, "copies", shape, &left, "SysDir>A. length 2\n1 files")
-}
-
-/// Mends a pack whose page stands in 1,201 sectors, and looks at every 300th event.
-fn check_copies(alloc: Global, shape: Shape, machine: &mut MemMachine) -> Result<(), Fail> {
-    expect(mend(alloc, machine) == Ok(1200), "copies")?;
-    expect(machine.event_count() == 2400, "copies")?;
-    for count in (0..=2400usize).step_by(300) {
-        check_copies_at(alloc, shape, machine, count)?;
-    }
-    Ok(())
-}
-
-/// A machine over a pack whose page in sector 6 is copied.
-fn copied(alloc: Global, shape: Shape, pack: &[Sector]) -> Result<MemMachine, Fail> {
-    let mut pack = pack.to_vec(alloc)?;
-    copy_pages(&mut pack)?;
-    machine_over(alloc, shape, &pack, "")
-}
-
-/// Copies a page and mends the pack, which is as before then.
-fn mend_copies(alloc: Global, shape: Shape, before: &[Sector]) -> Result<(), Fail> {
-    let mut machine = copied(alloc, shape, before)?;
-    check_copies(alloc, shape, &mut machine)?;
-    expect(machine.into_sectors().as_slice() == before, "copies")
+    let mut machine = machine_over(alloc, shape, pack, "", NEVER, 0)?;
+    check_events(alloc, shape, &COPIES, &mut machine, true, 300)?;
+    expect(machine.event_count() == 2400, COPIES.name)?;
+    expect(machine.into_sectors().as_slice() == before, COPIES.name)
 }
 
 /// One page stands in 1,201 sectors, so that its rows are more than a window has.
@@ -235,19 +179,20 @@ fn mend_copies(alloc: Global, shape: Shape, before: &[Sector]) -> Result<(), Fai
 fn copies_over_two_windows(rt: HostRuntime) -> Result<(), Fail> {
     let alloc = rt.alloc();
     let shape = shape_of(1, 60)?;
-    let before = damaged_pack(alloc, "copies", shape, "make A\nappend A 0102", &[])?;
-    mend_copies(alloc, shape, &before)
+    let before = damaged_pack(alloc, COPIES.name, shape, COPIES.typed, "")?;
+    mend_copies(alloc, shape, &before, &pack_of(alloc, shape, &COPIES)?)
 }
 
 /// The answer of a mending of a pack in which this call fails before its record writes.
-fn answer_at(
+fn answers(
     alloc: Global,
     shape: Shape,
     pack: &[Sector],
     call: u64,
-) -> Result<Result<u32, SweepError>, Fail> {
-    let mut machine = failing_machine(alloc, shape, pack, call, 0)?;
-    Ok(mend(alloc, &mut machine))
+    answer: Result<u32, SweepError>,
+) -> Result<(), Fail> {
+    let mut machine = machine_over(alloc, shape, pack, "", call, 0)?;
+    expect(mend(alloc, &mut machine) == answer, "a sound pack")
 }
 
 /// Of 48 sectors, 7 of which carry pages, all but the first are looked at in a sweep: one takes the table, one moves it on, and five passes
@@ -257,8 +202,7 @@ fn answer_at(
 fn a_sound_pack_takes_few_commands(rt: HostRuntime) -> Result<(), Fail> {
     let alloc = rt.alloc();
     let shape = shape_of(1, 2)?;
-    let pack = damaged_pack(alloc, "a sound pack", shape, FILE, &[])?;
-    assert!(rt; answer_at(alloc, shape, &pack, 385)? == Ok(0));
-    assert!(rt; answer_at(alloc, shape, &pack, 384)? == Err(SweepError::DiskFault));
-    Ok(())
+    let pack = damaged_pack(alloc, "a sound pack", shape, FILE, "")?;
+    answers(alloc, shape, &pack, 385, Ok(0))?;
+    answers(alloc, shape, &pack, 384, Err(SweepError::DiskFault))
 }

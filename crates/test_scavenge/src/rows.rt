@@ -1,6 +1,8 @@
 // Worked rows, each a list of calls on one pack.
-use crate::calling::{Call, check_call, cut_call, done, expect, shape_of};
-use crate::damaging::{Damage, damage_pack};
+use crate::calling::{
+    ANYTHING, Call, NEVER, check_call, expect, machine_over, pack_at, run, shape_of,
+};
+use crate::damaging::{damage_pack, zeros};
 use alto_top::Status;
 use disk_records::{Sector, Shape};
 use std::alloc::Global;
@@ -10,16 +12,14 @@ use std::test::Fail;
 enum Step {
     /// A call.
     Call(Call),
-    /// A call that writes no record.
-    Unwritten(Call),
+    /// The last call is looked at again: it wrote so many records.
+    Wrote(u64),
     /// Damages that are done by hand.
-    Damage(&'static [Damage]),
+    Damage(&'static str),
     /// A call of these words with these typed lines, of which the pack is left as it stood after so many record writes.
     Cut(&'static str, &'static str, u64),
     /// A second drive of zeros is put beside the first.
     Second,
-    /// A session that makes each of these files, with 131,076 bytes.
-    LongFiles(&'static [&'static str]),
 }
 
 /// The steps of a row on a pack of zeros, one drive with so many cylinders.
@@ -43,16 +43,38 @@ const MADE: Step = Step::Call(Call {
     status: Status::Done,
 });
 
-const ROWS: [Row; 11] = [
+/// Five files come, each with 131,076 bytes.
+const FIVE_FILES: &str = "\
+    make Alpha\n\
+    append Alpha 41*2000^65\n\
+    append Alpha 41*1076\n\
+    make Beta\n\
+    append Beta 41*2000^65\n\
+    append Beta 41*1076\n\
+    make Gamma\n\
+    append Gamma 41*2000^65\n\
+    append Gamma 41*1076\n\
+    make Delta\n\
+    append Delta 41*2000^65\n\
+    append Delta 41*1076\n\
+    make Omega\n\
+    append Omega 41*2000^65\n\
+    append Omega 41*1076\n\
+    quit";
+
+const ROWS: [Row; 12] = [
     Row {
         name: "a pack of zeros",
         cylinders: 2,
-        steps: &[Step::Unwritten(Call {
-            words: "scavenge",
-            typed: "",
-            shown: "root bad: 0 0",
-            status: Status::CannotScavenge,
-        })],
+        steps: &[
+            Step::Call(Call {
+                words: "scavenge",
+                typed: "",
+                shown: "root bad: 0 0",
+                status: Status::CannotScavenge,
+            }),
+            Step::Wrote(0),
+        ],
     },
     Row {
         name: "the sector of SysDir's leader page is in use",
@@ -65,13 +87,14 @@ const ROWS: [Row; 11] = [
                 shown: "made #3\nlength 5",
                 status: Status::Done,
             }),
-            Step::Damage(&[Damage::Copy(6, 1)]),
-            Step::Unwritten(Call {
+            Step::Damage("copy 6 1"),
+            Step::Call(Call {
                 words: "scavenge",
                 typed: "",
                 shown: "root taken: 65535 20480 0 5 1 1 0 3",
                 status: Status::CannotScavenge,
             }),
+            Step::Wrote(0),
         ],
     },
     Row {
@@ -85,17 +108,14 @@ const ROWS: [Row; 11] = [
                 shown: "made #3\nlength 2000\nlength 4000\nlength 6000\nlength 8000\nlength 10000\nlength 12000\nlength 14000\nlength 16000\nlength 18000\nlength 20000\nlength 20480\n1 pages free",
                 status: Status::Done,
             }),
-            Step::Damage(&[
-                Damage::Free(1),
-                Damage::Header(2, 1, 0),
-                Damage::Header(47, 1, 0),
-            ]),
-            Step::Unwritten(Call {
+            Step::Damage("free 1, header 2 1 0, header 47 1 0"),
+            Step::Call(Call {
                 words: "scavenge",
                 typed: "",
                 shown: "pack full: needed 2 free 1",
                 status: Status::CannotScavenge,
             }),
+            Step::Wrote(0),
         ],
     },
     Row {
@@ -104,12 +124,13 @@ const ROWS: [Row; 11] = [
         steps: &[
             SMALL,
             Step::Cut("boot", "make A\nquit", 7),
-            Step::Unwritten(Call {
+            Step::Call(Call {
                 words: "boot",
                 typed: "free",
                 shown: "pack not clean: mark 2",
                 status: Status::NeedsScavenge,
             }),
+            Step::Wrote(0),
             Step::Call(Call {
                 words: "scavenge",
                 typed: "",
@@ -219,12 +240,13 @@ const ROWS: [Row; 11] = [
             }),
             MADE,
             Step::Second,
-            Step::Unwritten(Call {
+            Step::Call(Call {
                 words: "boot",
                 typed: "free",
                 shown: "wrong descriptor length 642",
                 status: Status::NeedsScavenge,
             }),
+            Step::Wrote(0),
             Step::Call(Call {
                 words: "prepare 1",
                 typed: "",
@@ -255,7 +277,12 @@ const ROWS: [Row; 11] = [
                 shown: "formatted: 4866 pages free",
                 status: Status::Done,
             }),
-            Step::LongFiles(&["Alpha", "Beta", "Gamma", "Delta", "Omega"]),
+            Step::Call(Call {
+                words: "boot",
+                typed: FIVE_FILES,
+                shown: ANYTHING,
+                status: Status::Done,
+            }),
             Step::Call(Call {
                 words: "scavenge",
                 typed: "",
@@ -270,120 +297,116 @@ const ROWS: [Row; 11] = [
             }),
         ],
     },
+    // one record write opens the mark, three claim the page, two write the label before it, one its entry, and one DiskDescriptor
+    Row {
+        name: "the words that count in a longer SysDir stand there already",
+        cylinders: 2,
+        steps: &[
+            SMALL,
+            MADE,
+            Step::Damage(
+                "label 2 3 48, value 2 24 256, value 2 26 0, value 2 27 0, value 2 29 0, value 2 30 0",
+            ),
+            Step::Damage("value 2 31 0, value 2 32 0"),
+            Step::Call(Call {
+                words: "scavenge",
+                typed: "",
+                shown: "scavenged: files 3, freed 0, bad 0, adopted 1",
+                status: Status::Done,
+            }),
+            Step::Wrote(8),
+        ],
+    },
     Row {
         name: "other words",
         cylinders: 2,
         steps: &[
             SMALL,
-            Step::Unwritten(Call {
+            Step::Call(Call {
                 words: "scavenge 1",
                 typed: "",
                 shown: "usage",
                 status: Status::Usage,
             }),
-            Step::Unwritten(Call {
+            Step::Wrote(0),
+            Step::Call(Call {
                 words: "Scavenge",
                 typed: "",
                 shown: "usage",
                 status: Status::Usage,
             }),
+            Step::Wrote(0),
         ],
     },
 ];
 
-/// The pack of a row, and its shape.
+/// The pack of a row, its shape, and how many records the last call wrote.
 #[derive(Drop)]
 struct Stand {
     shape: Shape,
     pack: Vec<Sector>,
+    wrote: u64,
 }
 
 /// Puts a second drive of zeros beside the first.
 fn put_second(stand: &mut Stand) -> Result<(), Fail> {
-    for _ in 0..stand.shape.pages() {
-        stand.pack.push(Sector::ZEROS)?;
-    }
-    stand.shape = shape_of(2, stand.shape.cylinders())?;
-    Ok(())
+    let shape = shape_of(2, stand.shape.cylinders())?;
+    stand.shape = shape;
+    expect(
+        stand
+            .pack
+            .resize(shape.pages() as usize, Sector::ZEROS)
+            .is_ok(),
+        "no memory",
+    )
 }
 
-/// Appends lines that make a file with 131,076 bytes, 2,000 at a time.
-fn push_long_file(typed: &mut String, name: &str) -> Result<(), Fail> {
-    typed.push_str("make ")?;
-    typed.push_str(name)?;
-    for _ in 0..65 {
-        typed.push_str("\nappend ")?;
-        typed.push_str(name)?;
-        typed.push_str(" 41*2000")?;
-    }
-    typed.push_str("\nappend ")?;
-    typed.push_str(name)?;
-    typed.push_str(" 41*1076\n")?;
-    Ok(())
-}
-
-/// Appends lines that make files with 131,076 bytes each.
-fn push_long_files(typed: &mut String, names: &[&str]) -> Result<(), Fail> {
-    for name in names {
-        push_long_file(typed, name)?;
-    }
-    typed.push_str("quit")?;
-    Ok(())
-}
-
-/// Makes files with 131,076 bytes each.
-fn make_long_files(
+/// Leaves of a call the pack as it stood after so many of its record writes.
+fn cut_call(
     alloc: Global,
-    name: &'static str,
     stand: &mut Stand,
-    names: &[&str],
+    words: &str,
+    typed: &str,
+    writes: u64,
 ) -> Result<(), Fail> {
-    let mut typed = String::new(alloc);
-    push_long_files(&mut typed, names)?;
-    done(alloc, name, stand.shape, &mut stand.pack, "boot", &typed)
+    let mut machine = machine_over(alloc, stand.shape, &stand.pack, typed, NEVER, 0)?;
+    run(alloc, words, &mut machine);
+    stand.pack = pack_at(alloc, &machine, machine.place_of_write(writes))?;
+    Ok(())
 }
 
-/// Does a step of a row.
+/// Does a step of a row. The message of a failure is the row's name.
 fn take(alloc: Global, name: &'static str, stand: &mut Stand, step: &Step) -> Result<(), Fail> {
     match step {
         Step::Call(call) => {
-            check_call(alloc, name, stand.shape, &mut stand.pack, call)?;
+            stand.wrote = check_call(alloc, name, stand.shape, &mut stand.pack, call)?;
+            Ok(())
         }
-        Step::Unwritten(call) => {
-            let writes = check_call(alloc, name, stand.shape, &mut stand.pack, call)?;
-            expect(writes == 0, name)?;
-        }
-        Step::Damage(damages) => damage_pack(&mut stand.pack, damages)?,
-        Step::Cut(words, typed, writes) => {
-            stand.pack = cut_call(alloc, stand.shape, &stand.pack, words, typed, *writes)?;
-        }
-        Step::Second => put_second(stand)?,
-        Step::LongFiles(names) => make_long_files(alloc, name, stand, names)?,
+        Step::Wrote(writes) => expect(stand.wrote == *writes, name),
+        Step::Damage(damages) => damage_pack(&mut stand.pack, damages),
+        Step::Cut(words, typed, writes) => cut_call(alloc, stand, words, typed, *writes),
+        Step::Second => put_second(stand),
     }
-    Ok(())
-}
-
-/// Does steps one after another. The message of a failure is the row's name.
-fn take_all(alloc: Global, row: &Row, stand: &mut Stand) -> Result<(), Fail> {
-    for step in row.steps {
-        take(alloc, row.name, stand, step)?;
-    }
-    Ok(())
 }
 
 /// Does a row.
 fn check_row(alloc: Global, row: &Row) -> Result<(), Fail> {
     let shape = shape_of(1, row.cylinders)?;
-    let pack = vec![in alloc; Sector::ZEROS; shape.pages() as usize]?;
-    let mut stand = Stand { shape, pack };
-    take_all(alloc, row, &mut stand)
+    let mut stand = Stand {
+        shape,
+        pack: zeros(alloc, shape)?,
+        wrote: 0,
+    };
+    for step in row.steps {
+        take(alloc, row.name, &mut stand, step)?;
+    }
+    Ok(())
 }
 
 #[test]
 fn worked_rows(rt: HostRuntime) -> Result<(), Fail> {
-    let alloc = rt.alloc();
     for row in &ROWS {
-        check_row(alloc, row)?;
+        check_row(rt.alloc(), row)?;
     }
     Ok(())
 }
