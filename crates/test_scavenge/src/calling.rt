@@ -29,15 +29,8 @@ pub(crate) fn expect(holds: bool, name: &'static str) -> Result<(), Fail> {
     if holds { Ok(()) } else { Err(Fail::new(name)) }
 }
 
-/// The shape of so many drives with so many cylinders.
-pub(crate) fn shape_of(drives: u16, cylinders: u16) -> Result<Shape, Fail> {
-    match Shape::new(drives, cylinders) {
-        Some(shape) => Ok(shape),
-        None => Err(Fail::new("no shape")),
-    }
-}
-
-/// A text, and how often it stands there: as often as the number after the mark says, or once where there is no mark.
+/// A text, and how often it stands there: as often as the number after the mark says, or once where there is no mark. None if no number
+/// follows it.
 fn repeated(text: &str, mark: char) -> Option<(&str, u32)> {
     match text.split_once(mark) {
         Some((piece, count)) => Some((piece, read_number(count.as_bytes())?)),
@@ -94,7 +87,7 @@ fn is_shown(shown: &[u8], lines: &str) -> bool {
 }
 
 /// A machine over these sectors with the keys of these lines, none of an empty text. Its call with this number fails after so many of its
-/// record writes.
+/// record writes. None if no memory is left, or if these are no lines.
 pub(crate) fn machine_over(
     alloc: Global,
     shape: Shape,
@@ -102,21 +95,21 @@ pub(crate) fn machine_over(
     typed: &str,
     call: u64,
     after: u8,
-) -> Result<MemMachine, Fail> {
+) -> Option<MemMachine> {
     let mut keys = Vec::new(alloc);
     if !typed.is_empty() && !push_lines(typed, &mut keys) {
-        return Err(Fail::new("no keys"));
+        return None;
     }
     let Ok(sectors) = pack.to_vec(alloc) else {
-        return Err(Fail::new("no memory"));
+        return None;
     };
     let Ok(mut machine) = MemMachine::new(alloc, shape, sectors, keys) else {
-        return Err(Fail::new("no machine"));
+        return None;
     };
     if machine.fail_at(alloc, call, after).is_err() {
-        return Err(Fail::new("no memory"));
+        return None;
     }
-    Ok(machine)
+    Some(machine)
 }
 
 /// Does what these words ask for on a machine. Memory, too, if none was left for the words.
@@ -133,16 +126,35 @@ pub(crate) fn run(alloc: Global, words: &str, machine: &mut MemMachine) -> Statu
     alto(alloc, &list, MOMENT, machine)
 }
 
-/// How a call ends, whether it shows what it has to, and how many records it writes.
+/// How a call ends, and how many records it writes.
 #[derive(Drop)]
 pub(crate) struct Said {
     pub status: Status,
-    pub fits: bool,
     pub writes: u64,
 }
 
+/// Makes a call on a machine. None if it shows anything but what it has to: nothing, where it ends otherwise than it has to.
+fn say(alloc: Global, machine: &mut MemMachine, call: &Call) -> Option<Said> {
+    let status = run(alloc, call.words, machine);
+    let wanted = if status == call.status {
+        call.shown
+    } else {
+        ""
+    };
+    let Ok(bytes) = machine.shown(alloc) else {
+        return None;
+    };
+    if !is_shown(&bytes, wanted) {
+        return None;
+    }
+    Some(Said {
+        status,
+        writes: machine.writes(),
+    })
+}
+
 /// Makes a call on this pack, and leaves in it what that leaves. The call of a device with this number fails after so many of its record
-/// writes, and then nothing is to be shown.
+/// writes. None as in `say`.
 pub(crate) fn make_call(
     alloc: Global,
     shape: Shape,
@@ -150,65 +162,65 @@ pub(crate) fn make_call(
     call: &Call,
     fails: u64,
     after: u8,
-) -> Result<Said, Fail> {
+) -> Option<Said> {
     let mut machine = machine_over(alloc, shape, pack, call.typed, fails, after)?;
-    let status = run(alloc, call.words, &mut machine);
-    let wanted = match status {
-        Status::DiskFault | Status::DisplayFault => "",
-        _ => call.shown,
-    };
-    let Ok(bytes) = machine.shown(alloc) else {
-        return Err(Fail::new("no memory"));
-    };
-    let said = Said {
-        status,
-        fits: is_shown(&bytes, wanted),
-        writes: machine.writes(),
-    };
+    let said = say(alloc, &mut machine, call);
     *pack = machine.into_sectors();
-    Ok(said)
+    said
 }
 
-/// Makes a call, looks at how it ends and at what it shows, and answers how many records it writes.
+/// Makes a call on this pack, and answers how many records it writes. None if it ends otherwise, or shows anything else.
 pub(crate) fn check_call(
     alloc: Global,
-    name: &'static str,
     shape: Shape,
     pack: &mut Vec<Sector>,
     call: &Call,
-) -> Result<u64, Fail> {
+) -> Option<u64> {
     let said = make_call(alloc, shape, pack, call, NEVER, 0)?;
-    expect(said.status == call.status && said.fits, name)?;
-    Ok(said.writes)
+    if said.status != call.status {
+        return None;
+    }
+    Some(said.writes)
 }
 
-/// Makes a call that is to be done, with these words, typed lines, and lines that it shows. Answers how many records it writes.
-pub(crate) fn check_done(
+/// Makes a call on this pack with these words and typed lines, and answers whether it is done and shows these lines.
+pub(crate) fn does(
     alloc: Global,
-    name: &'static str,
     shape: Shape,
     pack: &mut Vec<Sector>,
     words: &'static str,
     typed: &'static str,
     shown: &'static str,
-) -> Result<u64, Fail> {
+) -> bool {
     let call = Call {
         words,
         typed,
         shown,
         status: Status::Done,
     };
-    check_call(alloc, name, shape, pack, &call)
+    check_call(alloc, shape, pack, &call).is_some()
 }
 
-/// The pack after so many events of a machine, or after all of them where they are fewer.
-pub(crate) fn pack_at(
+/// Whether a pack shows these lines, and stays as it is.
+pub(crate) fn shows(
     alloc: Global,
-    machine: &MemMachine,
-    count: usize,
-) -> Result<Vec<Sector>, Fail> {
+    shape: Shape,
+    pack: &mut Vec<Sector>,
+    shown: &'static str,
+) -> bool {
+    let call = Call {
+        words: "show",
+        typed: "",
+        shown,
+        status: Status::Done,
+    };
+    check_call(alloc, shape, pack, &call) == Some(0)
+}
+
+/// The pack after so many events of a machine, or after all of them where they are fewer. None if no memory is left.
+pub(crate) fn pack_at(alloc: Global, machine: &MemMachine, count: usize) -> Option<Vec<Sector>> {
     match machine.cut(alloc, count.min(machine.event_count())) {
-        Ok(left) => Ok(left.into_sectors()),
-        Err(_) => Err(Fail::new("no memory")),
+        Ok(left) => Some(left.into_sectors()),
+        Err(_) => None,
     }
 }

@@ -2,7 +2,7 @@
 ghost use Rattle.std.specs.Prelude.{[], false};
 ghost use Rattle.std.proofs.lemmas.Bool.{false≢true};
 
-use crate::calling::{expect, shape_of};
+use crate::calling::expect;
 use crate::damaging::zeros;
 use disk_records::{
     Act, Disk, DiskError, Plan, Sector, Shape, Tape, first_mismatch, update_memory,
@@ -77,15 +77,20 @@ impl Disk for Changing {
     ghost formed = { λ d told. absurd (false≢true told) };
 }
 
-/// A disk of 48 sectors, each with this label.
-fn changing_disk(alloc: Global, label: [u16; 8], change: Change) -> Result<Changing, Fail> {
-    let shape = shape_of(1, 2)?;
-    let mut sectors = zeros(alloc, shape)?;
+/// Gives all sectors headers with their addresses, and this label.
+fn put_labels(sectors: &mut [Sector], shape: Shape, label: [u16; 8]) {
     for (at, sector) in sectors.iter_mut().enumerate() {
         sector.header = [1, shape.real_of(at as u16)];
         sector.label = label;
     }
-    Ok(Changing {
+}
+
+/// A disk of 48 sectors, each with this label. None if no memory is left.
+fn changing_disk(alloc: Global, label: [u16; 8], change: Change) -> Option<Changing> {
+    let shape = Shape::new(1, 2)?;
+    let mut sectors = zeros(alloc, shape)?;
+    put_labels(&mut sectors, shape, label);
+    Some(Changing {
         shape,
         sectors,
         change,
@@ -96,46 +101,51 @@ fn changing_disk(alloc: Global, label: [u16; 8], change: Change) -> Result<Chang
 const LEADER: [u16; 8] = [0xFFFF, 0xFFFF, 0, 512, 0, 1, 0, 100];
 
 /// Mends the pages of a disk as far as they go, and then again, by a table that was swept.
-fn mend(alloc: Global, disk: &mut Changing) -> Result<(), Fail> {
-    let Ok(mut table) = sweep(alloc, disk) else {
-        return Err(Fail::new("no table"));
-    };
-    expect(table.rows().len() == 47, "rows")?;
-    expect(mend_pages(disk, &mut table) == Ok(0), "memory")?;
-    expect(
-        mend_pages_or_stop(disk, &mut table) == Err(Stop::Astray),
-        "told",
-    )
+fn goes_astray_by(disk: &mut Changing, table: &mut Table) -> bool {
+    table.rows().len() == 47
+        && mend_pages(disk, table) == Ok(0)
+        && mend_pages_or_stop(disk, table) == Err(Stop::Astray)
+}
+
+/// Sweeps a disk, and mends its pages.
+fn goes_astray(alloc: Global, disk: &mut Changing) -> bool {
+    match sweep(alloc, disk) {
+        Ok(mut table) => goes_astray_by(disk, &mut table),
+        Err(_) => false,
+    }
 }
 
 /// Each sector shows the leader page of one file when it is read, and nothing of that when it is checked. It is no want of memory, and is told.
 #[test]
 fn a_changing_page_is_not_out_of_memory(rt: HostRuntime) -> Result<(), Fail> {
     let alloc = rt.alloc();
-    let mut disk = changing_disk(alloc, LEADER, Change::BeforeCheck)?;
-    mend(alloc, &mut disk)
+    let Some(mut disk) = changing_disk(alloc, LEADER, Change::BeforeCheck) else {
+        return Err(Fail::new("no disk"));
+    };
+    expect(goes_astray(alloc, &mut disk), "another answer")
 }
 
 /// Scavenges a disk three times. Before the second one the leader page of SysDir gets a link to a page before it, which has to be mended, and
 /// sectors change.
-fn scavenge_thrice(alloc: Global, disk: &mut Changing) -> Result<(), Fail> {
-    expect(scavenge(alloc, disk).is_ok(), "the first")?;
+fn scavenges_thrice(alloc: Global, disk: &mut Changing) -> bool {
+    if scavenge(alloc, disk).is_err() {
+        return false;
+    }
     let Some(sector) = disk.sectors.get_mut(1) else {
-        return Err(Fail::new("no sector 1"));
+        return false;
     };
     sector.label[1] = 5;
     disk.change = Change::BeforeWrite;
-    expect(
-        scavenge(alloc, disk) == Err(ScavError::Memory),
-        "the second",
-    )?;
+    let second = scavenge(alloc, disk);
     disk.change = Change::Never;
-    expect(scavenge(alloc, disk).is_ok(), "the third")
+    second == Err(ScavError::Memory) && scavenge(alloc, disk).is_ok()
 }
 
 #[test]
 fn a_change_while_pages_are_mended_ends_it(rt: HostRuntime) -> Result<(), Fail> {
     let alloc = rt.alloc();
-    let mut disk = changing_disk(alloc, [0xFFFF; 8], Change::Never)?;
-    scavenge_thrice(alloc, &mut disk)
+    let Some(mut disk) = changing_disk(alloc, [0xFFFF; 8], Change::Never) else {
+        return Err(Fail::new("no disk"));
+    };
+    expect(scavenges_thrice(alloc, &mut disk), "another answer")
 }

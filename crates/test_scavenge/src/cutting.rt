@@ -1,7 +1,7 @@
 // Each damaged pack: scavenged; cut after each record write, and scavenged again; and with calls of a scavenge failing once.
 use crate::calling::{
-    ANYTHING, Call, NEVER, Said, check_done, expect, machine_over, make_call, pack_at, run,
-    shape_of,
+    ANYTHING, Call, NEVER, Said, check_call, does, expect, machine_over, make_call, pack_at, run,
+    shows,
 };
 use crate::damaged::{Damaged, rows};
 use crate::damaging::damaged_pack;
@@ -11,185 +11,162 @@ use disk_records::{Disk, Sector, Shape};
 use std::alloc::Global;
 use std::test::Fail;
 
-/// The pack of a row.
-fn pack_of(alloc: Global, shape: Shape, row: &Damaged) -> Result<Vec<Sector>, Fail> {
-    damaged_pack(alloc, row.name, shape, row.typed, row.damages)
+/// A scavenge that is done, with this report.
+fn scavenge(report: &'static str) -> Call {
+    Call {
+        words: "scavenge",
+        typed: "",
+        shown: report,
+        status: Status::Done,
+    }
 }
 
-/// Scavenges a pack, which shows what that of the row shows, before it and after it.
-fn check_scavenge(
+/// Scavenges a pack. Answers whether it shows what that of the row shows, before and after, and this report comes.
+fn scavenges(
     alloc: Global,
     shape: Shape,
     row: &Damaged,
     pack: &mut Vec<Sector>,
     report: &'static str,
-) -> Result<(), Fail> {
-    check_done(alloc, row.name, shape, pack, "show", "", row.shown)?;
-    check_done(alloc, row.name, shape, pack, "scavenge", "", report)?;
-    check_done(alloc, row.name, shape, pack, "show", "", row.shown)?;
-    Ok(())
+) -> bool {
+    shows(alloc, shape, pack, row.shown)
+        && does(alloc, shape, pack, "scavenge", "", report)
+        && shows(alloc, shape, pack, row.shown)
 }
 
-/// Looks at the replies of a session on a pack that was scavenged.
-fn check_session(
-    alloc: Global,
-    shape: Shape,
-    row: &Damaged,
-    pack: &mut Vec<Sector>,
-) -> Result<(), Fail> {
-    check_done(alloc, row.name, shape, pack, "boot", row.lines, row.replies)?;
-    Ok(())
+/// Whether a session on a pack that was scavenged has the replies of the row.
+fn replies(alloc: Global, shape: Shape, row: &Damaged, pack: &mut Vec<Sector>) -> bool {
+    does(alloc, shape, pack, "boot", row.lines, row.replies)
 }
 
 /// Scavenges a pack twice. The second time the mark and DiskDescriptor's data page are written: no record is that stands already.
-fn scavenge_twice(
-    alloc: Global,
-    shape: Shape,
-    row: &Damaged,
-    pack: &mut Vec<Sector>,
-) -> Result<(), Fail> {
-    check_scavenge(alloc, shape, row, pack, row.report)?;
-    let writes = check_done(alloc, row.name, shape, pack, "scavenge", "", row.again)?;
-    expect(writes == 2, row.name)?;
-    check_session(alloc, shape, row, pack)
+fn scavenges_twice(alloc: Global, shape: Shape, row: &Damaged, pack: &mut Vec<Sector>) -> bool {
+    scavenges(alloc, shape, row, pack, row.report)
+        && check_call(alloc, shape, pack, &scavenge(row.again)) == Some(2)
+        && replies(alloc, shape, row, pack)
 }
 
 /// Goes on with a pack that a stopped scavenge left: it shows what it showed, and once it is scavenged again it does so too, and a session has
 /// the replies of the row.
-fn go_on(alloc: Global, shape: Shape, row: &Damaged, pack: &mut Vec<Sector>) -> Result<(), Fail> {
-    check_scavenge(alloc, shape, row, pack, ANYTHING)?;
-    check_session(alloc, shape, row, pack)
+fn goes_on(alloc: Global, shape: Shape, row: &Damaged, pack: &mut Vec<Sector>) -> bool {
+    scavenges(alloc, shape, row, pack, ANYTHING) && replies(alloc, shape, row, pack)
 }
 
 /// Whether a session enters a pack, which stays as it is.
-fn enters(alloc: Global, shape: Shape, pack: &[Sector]) -> Result<bool, Fail> {
-    let mut machine = machine_over(alloc, shape, pack, "", NEVER, 0)?;
-    Ok(run(alloc, "boot", &mut machine) == Status::Done)
+fn enters(alloc: Global, shape: Shape, pack: &[Sector]) -> bool {
+    match machine_over(alloc, shape, pack, "", NEVER, 0) {
+        Some(mut machine) => run(alloc, "boot", &mut machine) == Status::Done,
+        None => true,
+    }
 }
 
 /// Cuts a scavenge after so many record writes, and goes on with the pack; midway no session enters it.
-fn check_cut(
+fn survives_cut(
     alloc: Global,
     shape: Shape,
     row: &Damaged,
     whole: &MemMachine,
     writes: u64,
-) -> Result<(), Fail> {
-    let mut left = pack_at(alloc, whole, whole.place_of_write(writes))?;
+) -> bool {
+    let Some(mut left) = pack_at(alloc, whole, whole.place_of_write(writes)) else {
+        return false;
+    };
     let midway = 0 < writes && writes < whole.writes();
-    expect(!midway || !enters(alloc, shape, &left)?, row.name)?;
-    go_on(alloc, shape, row, &mut left)
+    !(midway && enters(alloc, shape, &left)) && goes_on(alloc, shape, row, &mut left)
 }
 
 /// Cuts a scavenge before its first record write and after each.
-fn check_cuts(alloc: Global, shape: Shape, row: &Damaged, whole: &MemMachine) -> Result<(), Fail> {
+fn survives_cuts(alloc: Global, shape: Shape, row: &Damaged, whole: &MemMachine) -> bool {
     for writes in 0..=whole.writes() {
-        check_cut(alloc, shape, row, whole, writes)?;
+        if !survives_cut(alloc, shape, row, whole, writes) {
+            return false;
+        }
     }
-    Ok(())
+    true
 }
 
-/// A machine on which a pack was scavenged whole.
-fn scavenged(
-    alloc: Global,
-    shape: Shape,
-    row: &Damaged,
-    pack: &[Sector],
-) -> Result<MemMachine, Fail> {
-    let mut machine = machine_over(alloc, shape, pack, "", NEVER, 0)?;
-    expect(
-        run(alloc, "scavenge", &mut machine) == Status::Done,
-        row.name,
-    )?;
-    Ok(machine)
+/// Whether this is the pack after so many record writes of a machine.
+fn is_after(alloc: Global, whole: &MemMachine, writes: u64, pack: &[Sector]) -> bool {
+    match pack_at(alloc, whole, whole.place_of_write(writes)) {
+        Some(left) => left.as_slice() == pack,
+        None => false,
+    }
 }
 
-/// Scavenges a pack while this call fails after so many of its record writes, and leaves in it what that leaves. Only a scavenge that is done
-/// shows bytes, those of the report.
-fn break_call(
-    alloc: Global,
-    shape: Shape,
-    row: &Damaged,
-    pack: &mut Vec<Sector>,
-    call: u64,
-    after: u8,
-) -> Result<Said, Fail> {
-    let scavenge = Call {
-        words: "scavenge",
-        typed: "",
-        shown: row.report,
-        status: Status::Done,
-    };
-    let said = make_call(alloc, shape, pack, &scavenge, call, after)?;
-    expect(said.fits, row.name)?;
-    Ok(said)
-}
-
-/// Lets this call of a scavenge fail after one of its record writes, on the pack that the whole scavenge began with. What it leaves is as after
-/// as many record writes of the whole scavenge, and shows what was shown.
+/// Lets this call of a scavenge fail after one of its record writes, on the pack that the whole scavenge began with. None if what it leaves
+/// isn't as after as many record writes of the whole scavenge, or shows anything but what was shown, or if the scavenge shows any byte: a
+/// scavenge that is done shows its report.
 fn fail_call(
     alloc: Global,
     shape: Shape,
     row: &Damaged,
     whole: &MemMachine,
     call: u64,
-) -> Result<Said, Fail> {
+) -> Option<Said> {
     let mut left = pack_at(alloc, whole, 0)?;
-    let said = break_call(alloc, shape, row, &mut left, call, 1)?;
-    let prefix = pack_at(alloc, whole, whole.place_of_write(said.writes))?;
-    expect(left.as_slice() == prefix.as_slice(), row.name)?;
-    check_done(alloc, row.name, shape, &mut left, "show", "", row.shown)?;
-    Ok(said)
+    let said = make_call(alloc, shape, &mut left, &scavenge(row.report), call, 1)?;
+    let stays = is_after(alloc, whole, said.writes, &left)
+        && shows(alloc, shape, &mut left, row.shown);
+    if stays { Some(said) } else { None }
 }
 
 /// Lets each call of a scavenge fail, one after another. A scavenge that went on after the call would write more than one of which a later
 /// call fails. The report is shown at once.
-fn check_calls(alloc: Global, shape: Shape, row: &Damaged, whole: &MemMachine) -> Result<(), Fail> {
-    let mut shows = 0usize;
+fn fails_at_once(alloc: Global, shape: Shape, row: &Damaged, whole: &MemMachine) -> bool {
+    let mut displays = 0usize;
     let mut earlier = 0u64;
     for call in 0..5000u64 {
-        let said = fail_call(alloc, shape, row, whole, call)?;
-        expect(earlier <= said.writes, row.name)?;
+        let Some(said) = fail_call(alloc, shape, row, whole, call) else {
+            return false;
+        };
+        if said.writes < earlier {
+            return false;
+        }
         earlier = said.writes;
         match said.status {
             Status::DiskFault => {}
-            Status::DisplayFault => shows = shows.saturating_add(1),
-            _ => break,
+            Status::DisplayFault => displays = displays.saturating_add(1),
+            Status::Done => break,
+            _ => return false,
         }
     }
-    expect(shows == 1, row.name)
+    displays == 1
 }
 
-/// Lets this call of a scavenge fail, and goes on with the pack; answers whether there was no such call.
-fn check_fault(
+/// Lets this call of a scavenge fail, and goes on with the pack. Answers whether there was no such call; None if that fails otherwise.
+fn survive_fault(
     alloc: Global,
     shape: Shape,
     row: &Damaged,
     pack: &[Sector],
     call: u64,
-) -> Result<bool, Fail> {
+) -> Option<bool> {
     let Ok(mut left) = pack.to_vec(alloc) else {
-        return Err(Fail::new("no memory"));
+        return None;
     };
-    let said = break_call(alloc, shape, row, &mut left, call, (call % 2) as u8)?;
-    match said.status {
-        Status::Done => Ok(true),
-        Status::DiskFault | Status::DisplayFault => {
-            go_on(alloc, shape, row, &mut left)?;
-            Ok(false)
-        }
-        _ => Err(Fail::new(row.name)),
+    let after = (call % 2) as u8;
+    let said = make_call(alloc, shape, &mut left, &scavenge(row.report), call, after)?;
+    if said.status == Status::Done {
+        return Some(true);
+    }
+    let failed = matches!(said.status, Status::DiskFault | Status::DisplayFault);
+    if failed && goes_on(alloc, shape, row, &mut left) {
+        Some(false)
+    } else {
+        None
     }
 }
 
 /// Lets every 31st call of a scavenge fail, one after another.
-fn check_faults(alloc: Global, shape: Shape, row: &Damaged, pack: &[Sector]) -> Result<(), Fail> {
+fn survives_faults(alloc: Global, shape: Shape, row: &Damaged, pack: &[Sector]) -> bool {
     for call in (0..5000u64).step_by(31) {
-        if check_fault(alloc, shape, row, pack, call)? {
-            break;
+        match survive_fault(alloc, shape, row, pack, call) {
+            Some(true) => break,
+            Some(false) => {}
+            None => return false,
         }
     }
-    Ok(())
+    true
 }
 
 /// What is done with the pack of a row.
@@ -205,22 +182,39 @@ enum Way {
     Again,
 }
 
-/// Does it with the pack of a row.
-fn check_row(alloc: Global, shape: Shape, row: &Damaged, way: &Way) -> Result<(), Fail> {
-    let mut pack = pack_of(alloc, shape, row)?;
+/// Scavenges a pack whole, and then does what is asked for.
+fn passes_whole(alloc: Global, shape: Shape, row: &Damaged, pack: &[Sector], way: &Way) -> bool {
+    let Some(mut whole) = machine_over(alloc, shape, pack, "", NEVER, 0) else {
+        return false;
+    };
+    if run(alloc, "scavenge", &mut whole) != Status::Done {
+        return false;
+    }
     match way {
-        Way::Twice => scavenge_twice(alloc, shape, row, &mut pack),
-        Way::Cut => check_cuts(alloc, shape, row, &scavenged(alloc, shape, row, &pack)?),
-        Way::EachCall => check_calls(alloc, shape, row, &scavenged(alloc, shape, row, &pack)?),
-        Way::Again => check_faults(alloc, shape, row, &pack),
+        Way::EachCall => fails_at_once(alloc, shape, row, &whole),
+        _ => survives_cuts(alloc, shape, row, &whole),
     }
 }
 
-/// Does it with the packs of the first rows, so many of them.
+/// Does this with the pack of a row.
+fn passes(alloc: Global, shape: Shape, row: &Damaged, way: &Way) -> bool {
+    let Some(mut pack) = damaged_pack(alloc, shape, row.typed, row.damages) else {
+        return false;
+    };
+    match way {
+        Way::Twice => scavenges_twice(alloc, shape, row, &mut pack),
+        Way::Again => survives_faults(alloc, shape, row, &pack),
+        _ => passes_whole(alloc, shape, row, &pack, way),
+    }
+}
+
+/// Does this with the packs of the first rows, so many of them. The message of a failure is the row's name.
 fn check_rows(alloc: Global, count: usize, way: &Way) -> Result<(), Fail> {
-    let shape = shape_of(1, 2)?;
+    let Some(shape) = Shape::new(1, 2) else {
+        return Err(Fail::new("no shape"));
+    };
     for row in rows().iter().take(count) {
-        check_row(alloc, shape, row, way)?;
+        expect(passes(alloc, shape, row, way), row.name)?;
     }
     Ok(())
 }

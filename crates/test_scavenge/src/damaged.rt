@@ -1,17 +1,20 @@
 // Packs that are damaged: the report of a scavenge of each, what it shows before it, at each event and after it, and a session on it then.
+use crate::damaging::Damage;
 
 /// A damaged pack: the typed lines that it is made by and what was done to it then; the report, what it shows throughout, and the report of a
 /// second scavenge; and the lines of a session on the scavenged pack, with their replies.
 pub(crate) struct Damaged {
     pub name: &'static str,
     pub typed: &'static str,
-    pub damages: &'static str,
+    pub damages: &'static [Damage],
     pub report: &'static str,
     pub shown: &'static str,
     pub again: &'static str,
     pub lines: &'static str,
     pub replies: &'static str,
 }
+
+const ONES: u16 = 0xFFFF;
 
 /// A file with its leader page on sector 5 and its bytes on 6. Its entry begins at word 24 of SysDir, whose pages are on 1 and 2. Those of
 /// DiskDescriptor are on 3 and 4.
@@ -27,11 +30,11 @@ const REPLIES: &str = "4142434445\n5 bytes\n41 pages free";
 /// The report of a scavenge that frees nothing and adopts nothing.
 const QUIET: &str = "scavenged: files 3, freed 0, bad 0, adopted 0";
 
-const DAMAGED: [Damaged; 18] = [
+static DAMAGED: [Damaged; 18] = [
     Damaged {
         name: "names are taken from two directories",
         typed: "mkdir D\nmake D>X\nmkdir E\nmake E>X\nmake X",
-        damages: "value 6 0 8, value 10 0 8",
+        damages: &[Damage::Value(6, 0, 8), Damage::Value(10, 0, 8)],
         report: "scavenged: files 7, freed 0, bad 0, adopted 2",
         shown: "SysDir>D. directory\nSysDir>E. directory\nSysDir>X. length 0\nSysDir>X.$1. length 0\nSysDir>X.$2. length 0\n5 files",
         again: "scavenged: files 7, freed 0, bad 0, adopted 0",
@@ -41,7 +44,12 @@ const DAMAGED: [Damaged; 18] = [
     Damaged {
         name: "a page is carried twice",
         typed: FILE,
-        damages: "copy 6 20, value 20 0 0x5858, value 20 1 0x5858, value 20 2 0x5800",
+        damages: &[
+            Damage::Copy(6, 20),
+            Damage::Value(20, 0, 0x5858),
+            Damage::Value(20, 1, 0x5858),
+            Damage::Value(20, 2, 0x5800),
+        ],
         report: "scavenged: files 3, freed 1, bad 0, adopted 0",
         shown: SHOWN,
         again: QUIET,
@@ -51,7 +59,7 @@ const DAMAGED: [Damaged; 18] = [
     Damaged {
         name: "a next link names its own sector",
         typed: FILE,
-        damages: "label 5 0 0x5000",
+        damages: &[Damage::Label(5, 0, 0x5000)],
         report: QUIET,
         shown: SHOWN,
         again: QUIET,
@@ -61,7 +69,7 @@ const DAMAGED: [Damaged; 18] = [
     Damaged {
         name: "a slot has no words",
         typed: FILE,
-        damages: "value 2 24 0",
+        damages: &[Damage::Value(2, 24, 0)],
         report: "scavenged: files 3, freed 0, bad 0, adopted 1",
         shown: SHOWN,
         again: QUIET,
@@ -71,7 +79,7 @@ const DAMAGED: [Damaged; 18] = [
     Damaged {
         name: "an entry of no file has the one room",
         typed: FILE,
-        damages: "value 2 26 9, label 2 3 64",
+        damages: &[Damage::Value(2, 26, 9), Damage::Label(2, 3, 64)],
         report: "scavenged: files 3, freed 0, bad 0, adopted 1",
         shown: SHOWN,
         again: QUIET,
@@ -81,7 +89,7 @@ const DAMAGED: [Damaged; 18] = [
     Damaged {
         name: "every label and value is ones",
         typed: FILE,
-        damages: "blank",
+        damages: &[Damage::Blank],
         report: "scavenged: files 2, freed 0, bad 0, adopted 0",
         shown: "0 files",
         again: "scavenged: files 2, freed 0, bad 0, adopted 0",
@@ -91,7 +99,7 @@ const DAMAGED: [Damaged; 18] = [
     Damaged {
         name: "the mark is open",
         typed: FILE,
-        damages: "value 4 6 2",
+        damages: &[Damage::Value(4, 6, 2)],
         report: QUIET,
         shown: SHOWN,
         again: QUIET,
@@ -101,7 +109,7 @@ const DAMAGED: [Damaged; 18] = [
     Damaged {
         name: "an entry has the address of another page",
         typed: FILE,
-        damages: "value 2 29 6",
+        damages: &[Damage::Value(2, 29, 6)],
         report: QUIET,
         shown: SHOWN,
         again: QUIET,
@@ -111,7 +119,7 @@ const DAMAGED: [Damaged; 18] = [
     Damaged {
         name: "a header is wrong",
         typed: FILE,
-        damages: "header 20 1 0",
+        damages: &[Damage::Header(20, 1, 0)],
         report: "scavenged: files 3, freed 0, bad 1, adopted 0",
         shown: SHOWN,
         again: "scavenged: files 3, freed 0, bad 1, adopted 0",
@@ -121,7 +129,7 @@ const DAMAGED: [Damaged; 18] = [
     Damaged {
         name: "a label names no page",
         typed: FILE,
-        damages: "label 20 5 0",
+        damages: &[Damage::Label(20, 5, 0)],
         report: "scavenged: files 3, freed 1, bad 0, adopted 0",
         shown: SHOWN,
         again: QUIET,
@@ -131,7 +139,7 @@ const DAMAGED: [Damaged; 18] = [
     Damaged {
         name: "a page is past the end",
         typed: FILE,
-        damages: "copy 6 20, label 20 4 9",
+        damages: &[Damage::Copy(6, 20), Damage::Label(20, 4, 9)],
         report: "scavenged: files 3, freed 1, bad 0, adopted 0",
         shown: SHOWN,
         again: QUIET,
@@ -141,7 +149,7 @@ const DAMAGED: [Damaged; 18] = [
     Damaged {
         name: "the last page is free",
         typed: "make A\nappend A 11*600",
-        damages: "free 7",
+        damages: &[Damage::Free(7)],
         report: QUIET,
         shown: "SysDir>A. length 512\n1 files",
         again: QUIET,
@@ -151,7 +159,7 @@ const DAMAGED: [Damaged; 18] = [
     Damaged {
         name: "the leader page is free",
         typed: FILE,
-        damages: "free 5",
+        damages: &[Damage::Free(5)],
         report: "scavenged: files 2, freed 1, bad 0, adopted 0",
         shown: "0 files",
         again: "scavenged: files 2, freed 0, bad 0, adopted 0",
@@ -161,7 +169,7 @@ const DAMAGED: [Damaged; 18] = [
     Damaged {
         name: "a file without an entry has no name",
         typed: FILE,
-        damages: "value 5 6 0, value 2 24 8",
+        damages: &[Damage::Value(5, 6, 0), Damage::Value(2, 24, 8)],
         report: "scavenged: files 3, freed 0, bad 0, adopted 1",
         shown: "SysDir>Lost3. length 5\n1 files",
         again: QUIET,
@@ -171,7 +179,7 @@ const DAMAGED: [Damaged; 18] = [
     Damaged {
         name: "the leader page of SysDir stands elsewhere",
         typed: FILE,
-        damages: "copy 1 20, free 1",
+        damages: &[Damage::Copy(1, 20), Damage::Free(1)],
         report: QUIET,
         shown: SHOWN,
         again: QUIET,
@@ -181,7 +189,7 @@ const DAMAGED: [Damaged; 18] = [
     Damaged {
         name: "SysDir has no leader page",
         typed: FILE,
-        damages: "free 1",
+        damages: &[Damage::Free(1)],
         report: "scavenged: files 3, freed 1, bad 0, adopted 1",
         shown: SHOWN,
         again: QUIET,
@@ -191,7 +199,7 @@ const DAMAGED: [Damaged; 18] = [
     Damaged {
         name: "DiskDescriptor has no leader page",
         typed: FILE,
-        damages: "free 3",
+        damages: &[Damage::Free(3)],
         report: "scavenged: files 3, freed 1, bad 0, adopted 0",
         shown: SHOWN,
         again: QUIET,
@@ -201,7 +209,14 @@ const DAMAGED: [Damaged; 18] = [
     Damaged {
         name: "every link is ones",
         typed: FILE,
-        damages: "label 1 0 0xffff, label 2 1 0xffff, label 3 0 0xffff, label 4 1 0xffff, label 5 0 0xffff, label 6 1 0xffff",
+        damages: &[
+            Damage::Label(1, 0, ONES),
+            Damage::Label(2, 1, ONES),
+            Damage::Label(3, 0, ONES),
+            Damage::Label(4, 1, ONES),
+            Damage::Label(5, 0, ONES),
+            Damage::Label(6, 1, ONES),
+        ],
         report: QUIET,
         shown: SHOWN,
         again: QUIET,

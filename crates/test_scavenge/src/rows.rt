@@ -1,8 +1,6 @@
 // Worked rows, each a list of calls on one pack.
-use crate::calling::{
-    ANYTHING, Call, NEVER, check_call, expect, machine_over, pack_at, run, shape_of,
-};
-use crate::damaging::{damage_pack, zeros};
+use crate::calling::{ANYTHING, Call, NEVER, check_call, expect, machine_over, pack_at, run};
+use crate::damaging::{Damage, damage_pack, zeros};
 use alto_top::Status;
 use disk_records::{Sector, Shape};
 use std::alloc::Global;
@@ -15,7 +13,7 @@ enum Step {
     /// The last call is looked at again: it wrote so many records.
     Wrote(u64),
     /// Damages that are done by hand.
-    Damage(&'static str),
+    Damage(&'static [Damage]),
     /// A call of these words with these typed lines, of which the pack is left as it stood after so many record writes.
     Cut(&'static str, &'static str, u64),
     /// A second drive of zeros is put beside the first.
@@ -62,7 +60,7 @@ const FIVE_FILES: &str = "\
     append Omega 41*1076\n\
     quit";
 
-const ROWS: [Row; 12] = [
+static ROWS: [Row; 12] = [
     Row {
         name: "a pack of zeros",
         cylinders: 2,
@@ -87,7 +85,7 @@ const ROWS: [Row; 12] = [
                 shown: "made #3\nlength 5",
                 status: Status::Done,
             }),
-            Step::Damage("copy 6 1"),
+            Step::Damage(&[Damage::Copy(6, 1)]),
             Step::Call(Call {
                 words: "scavenge",
                 typed: "",
@@ -108,7 +106,11 @@ const ROWS: [Row; 12] = [
                 shown: "made #3\nlength 2000\nlength 4000\nlength 6000\nlength 8000\nlength 10000\nlength 12000\nlength 14000\nlength 16000\nlength 18000\nlength 20000\nlength 20480\n1 pages free",
                 status: Status::Done,
             }),
-            Step::Damage("free 1, header 2 1 0, header 47 1 0"),
+            Step::Damage(&[
+                Damage::Free(1),
+                Damage::Header(2, 1, 0),
+                Damage::Header(47, 1, 0),
+            ]),
             Step::Call(Call {
                 words: "scavenge",
                 typed: "",
@@ -297,17 +299,24 @@ const ROWS: [Row; 12] = [
             }),
         ],
     },
-    // one record write opens the mark, three claim the page, two write the label before it, one its entry, and one DiskDescriptor
+    // one record write opens the mark, three claim SysDir's new page, two give the page before it its label with its value, one enters A, and
+    // one writes DiskDescriptor
     Row {
         name: "the words that count in a longer SysDir stand there already",
         cylinders: 2,
         steps: &[
             SMALL,
             MADE,
-            Step::Damage(
-                "label 2 3 48, value 2 24 256, value 2 26 0, value 2 27 0, value 2 29 0, value 2 30 0",
-            ),
-            Step::Damage("value 2 31 0, value 2 32 0"),
+            Step::Damage(&[
+                Damage::Label(2, 3, 48),
+                Damage::Value(2, 24, 256),
+                Damage::Value(2, 26, 0),
+                Damage::Value(2, 27, 0),
+                Damage::Value(2, 29, 0),
+                Damage::Value(2, 30, 0),
+                Damage::Value(2, 31, 0),
+                Damage::Value(2, 32, 0),
+            ]),
             Step::Call(Call {
                 words: "scavenge",
                 typed: "",
@@ -348,65 +357,85 @@ struct Stand {
     wrote: u64,
 }
 
-/// Puts a second drive of zeros beside the first.
-fn put_second(stand: &mut Stand) -> Result<(), Fail> {
-    let shape = shape_of(2, stand.shape.cylinders())?;
+/// Puts a second drive of zeros beside the first. Answers whether memory is left.
+fn put_second(stand: &mut Stand) -> bool {
+    let Some(shape) = Shape::new(2, stand.shape.cylinders()) else {
+        return false;
+    };
     stand.shape = shape;
-    expect(
-        stand
-            .pack
-            .resize(shape.pages() as usize, Sector::ZEROS)
-            .is_ok(),
-        "no memory",
-    )
+    let count = usize::from(shape.pages());
+    stand.pack.resize(count, Sector::ZEROS).is_ok()
 }
 
-/// Leaves of a call the pack as it stood after so many of its record writes.
+/// Leaves of a call the pack as it stood after so many of its record writes. None if no memory is left.
 fn cut_call(
     alloc: Global,
-    stand: &mut Stand,
+    shape: Shape,
+    pack: &[Sector],
     words: &str,
     typed: &str,
     writes: u64,
-) -> Result<(), Fail> {
-    let mut machine = machine_over(alloc, stand.shape, &stand.pack, typed, NEVER, 0)?;
+) -> Option<Vec<Sector>> {
+    let mut machine = machine_over(alloc, shape, pack, typed, NEVER, 0)?;
     run(alloc, words, &mut machine);
-    stand.pack = pack_at(alloc, &machine, machine.place_of_write(writes))?;
-    Ok(())
+    pack_at(alloc, &machine, machine.place_of_write(writes))
 }
 
-/// Does a step of a row. The message of a failure is the row's name.
-fn take(alloc: Global, name: &'static str, stand: &mut Stand, step: &Step) -> Result<(), Fail> {
+/// Does a step of a row. Answers whether it goes as it has to.
+fn take(alloc: Global, stand: &mut Stand, step: &Step) -> bool {
     match step {
-        Step::Call(call) => {
-            stand.wrote = check_call(alloc, name, stand.shape, &mut stand.pack, call)?;
-            Ok(())
-        }
-        Step::Wrote(writes) => expect(stand.wrote == *writes, name),
+        Step::Call(call) => match check_call(alloc, stand.shape, &mut stand.pack, call) {
+            Some(wrote) => {
+                stand.wrote = wrote;
+                true
+            }
+            None => false,
+        },
+        Step::Wrote(writes) => stand.wrote == *writes,
         Step::Damage(damages) => damage_pack(&mut stand.pack, damages),
-        Step::Cut(words, typed, writes) => cut_call(alloc, stand, words, typed, *writes),
+        Step::Cut(words, typed, writes) => {
+            match cut_call(alloc, stand.shape, &stand.pack, words, typed, *writes) {
+                Some(left) => {
+                    stand.pack = left;
+                    true
+                }
+                None => false,
+            }
+        }
         Step::Second => put_second(stand),
     }
 }
 
+/// Does steps one after another.
+fn take_all(alloc: Global, stand: &mut Stand, steps: &[Step]) -> bool {
+    for step in steps {
+        if !take(alloc, stand, step) {
+            return false;
+        }
+    }
+    true
+}
+
 /// Does a row.
-fn check_row(alloc: Global, row: &Row) -> Result<(), Fail> {
-    let shape = shape_of(1, row.cylinders)?;
+fn passes(alloc: Global, row: &Row) -> bool {
+    let Some(shape) = Shape::new(1, row.cylinders) else {
+        return false;
+    };
+    let Some(pack) = zeros(alloc, shape) else {
+        return false;
+    };
     let mut stand = Stand {
         shape,
-        pack: zeros(alloc, shape)?,
+        pack,
         wrote: 0,
     };
-    for step in row.steps {
-        take(alloc, row.name, &mut stand, step)?;
-    }
-    Ok(())
+    take_all(alloc, &mut stand, row.steps)
 }
 
 #[test]
 fn worked_rows(rt: HostRuntime) -> Result<(), Fail> {
     for row in &ROWS {
-        check_row(rt.alloc(), row)?;
+        expect(passes(rt.alloc(), row), row.name)?;
     }
     Ok(())
 }
