@@ -79,9 +79,11 @@ impl Disk for Changing {
 
 /// Gives all sectors headers with their addresses, and this label.
 fn put_labels(sectors: &mut [Sector], shape: Shape, label: [u16; 8]) {
-    for (at, sector) in sectors.iter_mut().enumerate() {
-        sector.header = [1, shape.real_of(at as u16)];
-        sector.label = label;
+    for at in 0..shape.pages() {
+        if let Some(sector) = sectors.get_mut(usize::from(at)) {
+            sector.header = [1, shape.real_of(at)];
+            sector.label = label;
+        }
     }
 }
 

@@ -1,4 +1,4 @@
-// Each damaged pack: scavenged; cut after each record write, and scavenged again; and with calls of a scavenge failing once.
+// Each damaged pack: scavenged; cut after each record write, and scavenged again, with cuts again; and with calls of a scavenge failing once.
 use crate::calling::{
     ANYTHING, Call, NEVER, Said, check_call, does, expect, machine_over, make_call, pack_at, run,
     shows,
@@ -79,6 +79,42 @@ fn survives_cut(
 fn survives_cuts(alloc: Global, shape: Shape, row: &Damaged, whole: &MemMachine) -> bool {
     for writes in 0..=whole.writes() {
         if !survives_cut(alloc, shape, row, whole, writes) {
+            return false;
+        }
+    }
+    true
+}
+
+/// A machine that has scavenged this pack whole. None if that isn't done.
+fn scavenged(alloc: Global, shape: Shape, pack: &[Sector]) -> Option<MemMachine> {
+    let mut machine = machine_over(alloc, shape, pack, "", NEVER, 0)?;
+    if run(alloc, "scavenge", &mut machine) != Status::Done {
+        return None;
+    }
+    Some(machine)
+}
+
+/// Cuts a scavenge after so many record writes, and the one after it before its first record write and after each.
+fn survives_two_cuts(
+    alloc: Global,
+    shape: Shape,
+    row: &Damaged,
+    whole: &MemMachine,
+    writes: u64,
+) -> bool {
+    let Some(left) = pack_at(alloc, whole, whole.place_of_write(writes)) else {
+        return false;
+    };
+    match scavenged(alloc, shape, &left) {
+        Some(second) => survives_cuts(alloc, shape, row, &second),
+        None => false,
+    }
+}
+
+/// Cuts a scavenge after every 13th record write, and the one after it too.
+fn survives_second_cuts(alloc: Global, shape: Shape, row: &Damaged, whole: &MemMachine) -> bool {
+    for writes in (1..=whole.writes()).step_by(13) {
+        if !survives_two_cuts(alloc, shape, row, whole, writes) {
             return false;
         }
     }
@@ -176,6 +212,8 @@ enum Way {
     Twice,
     /// The scavenge is cut.
     Cut,
+    /// The scavenge is cut, and so is the one after it.
+    CutTwice,
     /// Each call of the scavenge fails once.
     EachCall,
     /// Calls of the scavenge fail, and it is scavenged again.
@@ -184,14 +222,12 @@ enum Way {
 
 /// Scavenges a pack whole, and then does what is asked for.
 fn passes_whole(alloc: Global, shape: Shape, row: &Damaged, pack: &[Sector], way: &Way) -> bool {
-    let Some(mut whole) = machine_over(alloc, shape, pack, "", NEVER, 0) else {
+    let Some(whole) = scavenged(alloc, shape, pack) else {
         return false;
     };
-    if run(alloc, "scavenge", &mut whole) != Status::Done {
-        return false;
-    }
     match way {
         Way::EachCall => fails_at_once(alloc, shape, row, &whole),
+        Way::CutTwice => survives_second_cuts(alloc, shape, row, &whole),
         _ => survives_cuts(alloc, shape, row, &whole),
     }
 }
@@ -227,6 +263,12 @@ fn each_damage_is_told(rt: HostRuntime) -> Result<(), Fail> {
 #[test]
 fn each_cut_is_scavenged_again(rt: HostRuntime) -> Result<(), Fail> {
     check_rows(rt.alloc(), rows().len(), &Way::Cut)
+}
+
+/// The first cut leaves a pack that is scavenged again, and that scavenge is cut in its turn.
+#[test]
+fn each_second_cut_is_scavenged_again(rt: HostRuntime) -> Result<(), Fail> {
+    check_rows(rt.alloc(), rows().len(), &Way::CutTwice)
 }
 
 #[test]

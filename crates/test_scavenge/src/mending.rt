@@ -1,4 +1,6 @@
 // Each damaged pack of the table, mended: the answer, what is shown at each event, and words that stand then.
+ghost use Rattle.std.specs.Prelude.{◌≤◌};
+
 use crate::calling::{NEVER, expect, machine_over, pack_at, shows};
 use crate::damaging::damaged_pack;
 use crate::mended::{COPIES, FILE, Mended, Wanted, rows};
@@ -68,7 +70,9 @@ fn mends(
     machine: &mut MemMachine,
     was_clean: bool,
     step: usize,
-) -> bool {
+) -> bool
+    requires { 1 ≤ step }
+{
     if mend(alloc, machine) != Ok(row.freed) {
         return false;
     }
