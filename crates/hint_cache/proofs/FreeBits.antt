@@ -1,8 +1,10 @@
 -- The first free bit from an address on.
-use Rattle.std.proofs.Common.{◌≡◌, ℕ, ◌+◌, ◌-◌, ◌<◌, ◌≤◌, Bool, true, false, not, cond, List, length, take, drop, get_or, Option, Some, None, position, IfNone, refl, sym, ◌∙◌, ap, arith, nat_lt, length-drop}
-use Rattle.std.specs.List.{position_or_len}
-use Rattle.std.proofs.lemmas.Bool.{ltb-false}
+use Rattle.std.proofs.Common.{◌≡◌, ℕ, zero, suc, ◌+◌, ◌-◌, ◌<◌, ◌≤◌, Bool, true, false, not, cond, List, [], ◌∷◌, length, take, drop, get_or, Option, Some, None, position, IfNone, refl, sym, ◌∙◌, ap, arith, nat_lt, length-drop, take-add}
+use Rattle.std.specs.List.{list_all, position_or_len}
+use Rattle.std.specs.Option.{option_map}
+use Rattle.std.proofs.lemmas.Bool.{ltb-true, ltb-false, lt-ltb, le-ltb}
 use Rattle.std.proofs.lemmas.List.{get_or-drop, take_all}
+use Rattle.std.proofs.lemmas.List.Folds.{list_all-append}
 use Rattle.std.proofs.lemmas.List.Quantifiers.{position-Some}
 use Rattle.std.proofs.lemmas.List.Sums.{fails_before_first}
 use Rattle.hint_cache.specs.Bits.{busy_at}
@@ -51,3 +53,29 @@ all_busy bits from is k later inside =
 pub as_none : {X : Type 0} {P : Type 0} (answer : Option X) → P → IfNone answer P
 as_none None is = is
 as_none (Some x) is = tt
+
+-- ---- bits that are passed over
+-- busy ones, and after them more of them
+pub busy_on : (m n : ℕ) (bits : List Bool) → list_all (λ b. b) (take m bits) ≡ true → list_all (λ b. b) (take n (drop m bits)) ≡ true → list_all (λ b. b) (take (m + n) bits) ≡ true
+busy_on m n bits before more = ap (list_all (λ b. b)) (take-add m n bits) ∙ list_all-append (λ b. b) (take m bits) (take n (drop m bits)) ∙ rw (before, more) refl
+
+one_later : (i n : ℕ) → cond (nat_lt (1 + i) (suc n)) (Some (1 + i)) None ≡ option_map suc (cond (nat_lt i n) (Some i) None)
+one_later i n = (elim (nat_lt i n) as (λ b. nat_lt i n ≡ b → cond (nat_lt (1 + i) (suc n)) (Some (1 + i)) None ≡ option_map suc (cond b (Some i) None)) [
+  | true ↦ λ is. ap (λ b. cond b (Some (1 + i)) None) (lt-ltb (1 + i) (suc n) (omega (arith, ltb-true i n is))) ∙ ap Some (omega arith)
+  | false ↦ λ is. ap (λ b. cond b (Some (1 + i)) None) (le-ltb (1 + i) (suc n) (omega (arith, ltb-false i n is)))
+]) refl
+
+moved_on : (n : ℕ) (at : Option ℕ) → option_map suc (option_map (λ i. n + i) at) ≡ option_map (λ i. suc n + i) at
+moved_on n None = refl
+moved_on n (Some i) = ap Some (omega arith)
+
+not_moved : (at : Option ℕ) → at ≡ option_map (λ i. 0 + i) at
+not_moved None = refl
+not_moved (Some i) = ap Some (omega arith)
+
+-- the first free bit is the first after busy ones
+pub first_after : (n : ℕ) (bits : List Bool) → list_all (λ b. b) (take n bits) ≡ true → position not bits ≡ option_map (λ i. n + i) (position not (drop n bits))
+first_after zero bits busy = not_moved (position not bits)
+first_after (suc n) [] busy = refl
+first_after (suc n) (true ∷ bits) busy = one_later (position_or_len not bits) (length bits) ∙ ap (option_map suc) (first_after n bits busy) ∙ moved_on n (position not (drop n bits))
+first_after (suc n) (false ∷ bits) busy = cc

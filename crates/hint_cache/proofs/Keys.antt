@@ -1,6 +1,6 @@
 -- The pairs that a cache keeps, as entries: the first pair of a page is its only one.
 use Rattle.std.proofs.Common.{◌≡◌, ◌≢◌, ℕ, suc, Bool, true, false, not, cond, List, [], ◌∷◌, take, Option, Some, None, IsSome, IfSome, IfNone, refl, sym, ◌∙◌, ap, subst, arith}
-use Rattle.std.specs.Prelude.{find, All}
+use Rattle.std.specs.Prelude.{find, slice_get, All}
 use Rattle.std.specs.Option.{option_map, option_map_or, MatchOption}
 use Rattle.std.specs.Map.{lookup, lookup_entry, remove_entry}
 use Rattle.std.proofs.lemmas.List.{take_all, take-map}
@@ -9,7 +9,7 @@ use Rattle.disk_records.specs.declared.records.Page.{Page}
 use Rattle.hint_cache.specs.declared.cache.Entry.{Entry}
 use Rattle.hint_cache.specs.Caches.{IsCacheList, is_page, address_in, without, noted, entry_of, entries_of, Cached}
 use Rattle.hint_cache.proofs.Listing.{filter-found, cache_noted}
-use Rattle.hint_cache.proofs.Pages.{is_page-sym, same_page, by_fields, by_fields_is}
+use Rattle.hint_cache.proofs.Pages.{is_page-itself, is_page-sym, same_page, by_fields, by_fields_is}
 use Rattle.lru.specs.LruCache.{LruCache, lru_cache, promoted, put_entries}
 use Rattle.lru.proofs.CallerLemmas.{Contains-lookup_entry}
 use Rattle.lru.proofs.Pairs.{lookup-lookup_entry}
@@ -135,3 +135,24 @@ module _ (page : Page) (pairs : List (Page × ℕ)) (h : IsCacheList (entries_of
     pub recalled_none : (answer : Option ℕ) → answer ≡ lookup (by_fields page) pairs → IfNone answer (◌≡◌ {A = Cached} (record { entries = entries_of new; refused = was.refused }) now)
     recalled_none None is = (λ i. record { entries = (ap entries_of (recalled is) ∙ listed) i; refused = was.refused }) ∙ v
     recalled_none (Some at) is = tt
+
+-- ---- a page whose pair is in front already
+module _ (page newest : Page) (at : ℕ) (passes : by_fields newest page ≡ true) where
+  in_front : (x : Page × ℕ) (xs : List (Page × ℕ)) → slice_get (x ∷ xs) 0 ≡ Some (newest, at) → x ≡ (page, at)
+  in_front x xs is = ap (λ (o : Option (Page × ℕ)). option_map_or (λ (p : Page × ℕ). p) o x) is ∙ ap (λ (p : Page). (p, at)) (same_page newest page (sym (by_fields_is newest page) ∙ passes))
+
+  pub front_listed : (pairs : List (Page × ℕ)) → slice_get pairs 0 ≡ Some (newest, at) → address_in (entries_of pairs) page ≡ Some at
+  front_listed [] is = cc
+  front_listed (x ∷ xs) is =
+      let same = in_front x xs is in
+      subst (λ (p : Page × ℕ). address_in (entries_of (p ∷ xs)) page ≡ Some at) (sym same) (rw (is_page-itself page) refl)
+
+  pub front_stays : (pairs : List (Page × ℕ)) → IsCacheList (entries_of pairs) → slice_get pairs 0 ≡ Some (newest, at) → noted page at (entries_of pairs) ≡ entries_of pairs
+  front_stays [] h is = cc
+  front_stays (x ∷ xs) h is =
+      let same = in_front x xs is in
+      let front : entry_of x ≡ record { page = page; at = at } = ap entry_of same in
+      let own : is_page x.0 page ≡ true = ap (λ (p : Page × ℕ). is_page p.0 page) same ∙ is_page-itself page in
+      let others : without page (entries_of (x ∷ xs)) ≡ entries_of xs =
+      rw own (all_others page (entries_of xs) (subst (λ (e : Entry). All (λ (o : Entry). e.page ≢ o.page) (entries_of xs)) front (heads_page (entry_of x) (entries_of xs) h))) in
+      (λ i. take 48 (sym front i ∷ others i)) ∙ take_all 48 (entries_of (x ∷ xs)) h.few

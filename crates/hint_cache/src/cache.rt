@@ -42,7 +42,7 @@ impl Model for HintCache {
 }
 
 impl HintCache {
-    ghost use Rattle.std.specs.Prelude.{◌≡◌, ◌+◌, ◌^◌, ◌-◌, ◌≤◌, min, [], IfOk, IsOk, OnOk, OnErr, IsSome, IfSome, IfNone};
+    ghost use Rattle.std.specs.Prelude.{◌≡◌, ◌+◌, ◌^◌, ◌-◌, ◌≤◌, min, [], IfOk, IsOk, OnOk, OnErr, Some, IsSome, IfSome, IfNone};
     ghost use Rattle.hint_cache.specs.Caches.{Cached, IsCacheList, address_in, without, noted, NoneListed, IsHighestBelow};
 
     /// A cache without entries. Memory: none was left for its map.
@@ -64,6 +64,9 @@ impl HintCache {
         ensures kept { IsCacheList self.new.entries }
         ensures grows { self.old.refused ≤ self.new.refused }
     {
+        if let Some(at) = self.newest(page) {
+            return Some(at);
+        }
         self.pages.get(&page).copied()
     }
 
@@ -76,12 +79,27 @@ impl HintCache {
         ensures kept { IsCacheList self.new.entries }
         ensures grows { self.old.refused ≤ self.new.refused }
     {
+        if self.newest(page) == Some(at) {
+            return Ok(());
+        }
         match self.pages.put(page, at) {
             Ok(_) => Ok(()),
             Err(_) => {
                 self.refused = self.refused.saturating_add(1);
                 Err(Memory)
             }
+        }
+    }
+
+    /// The address that is listed for this page where its entry is in front already, so that to use it or to note it again
+    /// changes nothing; None where it isn't in front. No page is hashed for this.
+    fn newest(&self, page: Page) -> Option<u16>
+        ensures listed { IfSome result (λ at. address_in self.now.entries page ≡ Some at) }
+        ensures in_front { IfSome result (λ at. noted page at self.now.entries ≡ self.now.entries) }
+    {
+        match self.pages.peek_mru() {
+            Some((newest, at)) if *newest == page => Some(*at),
+            _ => None,
         }
     }
 

@@ -1,5 +1,6 @@
 // Which sectors are free.
-ghost use Rattle.std.specs.Prelude.{◌≡◌, not, position, IfOk};
+ghost use Rattle.std.specs.Prelude.{◌≡◌, ◌≤◌, not, position, true, length, take, IfOk};
+ghost use Rattle.std.specs.List.{list_all};
 ghost use Rattle.hint_cache.specs.Bits.{bit_in, bits_in};
 
 use alto_words::Memory;
@@ -8,6 +9,9 @@ use std::marker::Model;
 
 /// The bits of a word.
 const WORD_BITS: u16 = 16;
+
+/// The bits that are passed over at once while no sector of theirs is free.
+const CHUNK: usize = 64;
 
 /// Which sectors of a pack are busy, a bit for each. Contracts see the list of its bits, in which true is busy.
 #[derive(Drop)]
@@ -116,7 +120,40 @@ impl BitTable {
 fn first_free(bits: &[bool]) -> Option<usize>
     ensures { result ≡ position not bits.now }
 {
+    let passed = busy_ahead(bits);
+    let more = first_in_turn(&bits[passed..])?;
+    Some(passed + more)
+}
+
+/// What `first_free` answers, found bit by bit.
+fn first_in_turn(bits: &[bool]) -> Option<usize>
+    ensures { result ≡ position not bits.now }
+{
     bits.iter().position(|busy| !busy)
+}
+
+/// How many bits at the front are passed over in whole chunks, in which all sectors are busy. A search bit by bit branches on each of
+/// them, and this once a chunk.
+fn busy_ahead(bits: &[bool]) -> usize
+    ensures within { result ≤ length bits.now }
+    ensures busy { list_all (λ busy. busy) (take result bits.now) ≡ true }
+{
+    let mut at = 0;
+    while bits.len() - at >= CHUNK && are_busy(&bits[at..at + CHUNK]) {
+        at += CHUNK;
+    }
+    at
+}
+
+/// Whether all of these bits are busy. It goes over all of them, since a loop that ends at the first free one compares one at a time.
+fn are_busy(bits: &[bool]) -> bool
+    ensures { result ≡ list_all (λ busy. busy) bits.now }
+{
+    let mut all = true;
+    for busy in bits {
+        all &= *busy;
+    }
+    all
 }
 
 /// Whether these words have the sector at this address as busy. A missing word has ones.
