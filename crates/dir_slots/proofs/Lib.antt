@@ -7,7 +7,7 @@ pub mod Longest
 pub mod NameWords
 pub mod Writing
 pub mod Characters
-pub mod Passing
+pub mod PassedOver
 pub mod Rooms
 pub mod Runs
 pub mod Shortening

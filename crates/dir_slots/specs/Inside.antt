@@ -1,5 +1,5 @@
 -- What the steps of reading a slot answer, and of looking for room.
-use Rattle.std.specs.Prelude.{◌≡◌, ℕ, ◌+◌, ◌/◌, ◌%◌, ◌≤◌, ◌==◌, ◌&&◌, Bool, true, false, cond, List, [], ◌∷◌, length, take, drop, Option, Some, None}
+use Rattle.std.specs.Prelude.{◌≡◌, ℕ, ◌+◌, ◌/◌, ◌%◌, ◌≤◌, ◌==◌, ◌&&◌, Bool, true, false, cond, List, [], ◌∷◌, length, take, drop, IfSome, Option, Some, None}
 use Rattle.std.specs.List.{list_all}
 use Rattle.alto_words.specs.Names.{is_bare_name, is_name_character, is_same_name, is_stored_name}
 use Rattle.disk_records.specs.Words.{word}
@@ -10,6 +10,7 @@ use Rattle.pack_model.specs.reading.SlotWords.{address_at}
 use Rattle.dir_slots.specs.Items.{address_of, item_of}
 use Rattle.dir_slots.specs.Others.{IsOther}
 use Rattle.dir_slots.specs.Walks.{Walking}
+use Rattle.dir_slots.specs.declared.others.Passing.{Passing}
 use Rattle.dir_slots.specs.declared.room.Room.{Room}
 use Rattle.dir_slots.specs.declared.slot.Slot.{Slot}
 
@@ -62,17 +63,17 @@ pub record IsBareEntry (words : List ℕ) : Type 0 where
   pub bare : is_bare_name (slot_name words) ≡ true
   pub size : length words ≡ entry_length (word words 6 / 256)
 
--- and that name isn't this one
-pub record IsOtherEntry (name words : List ℕ) : Type 0 where
+-- and that name isn't this one, if there is one
+pub record IsOtherEntry (name : Option (List ℕ)) (words : List ℕ) : Type 0 where
   pub entry : IsBareEntry words
-  pub other : is_same_name (slot_name words) name ≡ false
+  pub other : IfSome name (λ n. is_same_name (slot_name words) n ≡ false)
 
--- The first n of these words are a slot that a scan for this name may pass over.
-pub record IsOtherAt (name words : List ℕ) (n : ℕ) : Type 0 where
+-- The first n of these words are a slot that a scan may pass over.
+pub record IsOtherAt (passing : Passing) (words : List ℕ) (n : ℕ) : Type 0 where
   pub slot : Slot
   pub least : 1 ≤ n
   pub within : n ≤ length words
   pub states : first_length words ≡ n
   pub reads : Some (item_of slot) ≡ slot_at (take n words)
   pub address : address_of slot ≡ address_at (take n words) 0 (item_of slot)
-  pub other : IsOther name (item_of slot)
+  pub other : IsOther passing (item_of slot)

@@ -18,8 +18,9 @@
 //! 3. `slot_here` reads one slot from 26 words at most, and so from a page at a time; `first_slot` reads that at the head of words
 //!    that are all there, so that slots are read one after another with none kept.
 //! 4. A `Walk` meets the slots of a directory whose words are given page by page: after each page exactly those that end in what was
-//!    given (`meets`, `walked`), each with its place. Over a page's end it keeps 26 words at most, and it takes no memory. A scan for the
-//!    entry of a name may let it pass over slots that can't be that one (`passes`): these are judged where they stand, with no slot made.
+//!    given (`meets`, `walked`), each with its place. Over a page's end it keeps 26 words at most, and it takes no memory. A scan may
+//!    let it pass over slots that need not be met (`passes`): free ones, entries of bare names other than one, or of all bare names. These
+//!    are judged where they stand, with no slot made.
 //! 5. `find_room` answers the first room for an entry, and None if and only if no free slots in a row have so many words.
 //! Not promised: that an address is that of the leader. Who follows one checks it by the label that stands there.
 #![tactic(auto)]
@@ -35,6 +36,7 @@ mod write;
 
 pub use codec::slot_here;
 pub use laws::{longest_is_read, reads_back};
+pub use others::Passing;
 pub use read::{first_slot, read_slots};
 pub use room::{Room, find_room, largest_run};
 pub use slot::{MAX_ENTRY_WORDS, MAX_FREE_WORDS, Slot, entry_words};

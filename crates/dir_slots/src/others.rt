@@ -1,4 +1,4 @@
-// Slots that can't be the entry of a name, judged where they stand, with no `Slot` made.
+// Slots that a scan need not be handed, judged where they stand, with no `Slot` made.
 ghost use Rattle.std.specs.Prelude.{◌≡◌, ℕ, ◌+◌, ◌-◌, ◌<◌, ◌≤◌, ◌/◌, ◌==◌, ◌++◌, true, false, List, length, take, IfSome};
 ghost use Rattle.std.specs.List.{list_all};
 ghost use Rattle.alto_words.specs.Names.{fold_case, is_name_character, is_same_name};
@@ -11,6 +11,16 @@ ghost use Rattle.dir_slots.specs.Walks.{Walked, Walking};
 use crate::codec::{ENTRY_TYPE, MIN_ENTRY_WORDS, NAME, fid_of, is_entry_head};
 use crate::slot::MAX_ENTRY_WORDS;
 use alto_words::Name;
+
+/// What a scan need not be handed.
+#[derive(Clone, Copy, Debug)]
+pub struct Passing {
+    /// Whether free slots are passed over.
+    pub free: bool,
+    /// The bare name whose entries are met, in whatever case of its letters. Those of other bare names are passed over; where there is None,
+    /// those of all bare names.
+    pub name: Option<Name>,
+}
 
 /// What ends a name.
 const DOT: u16 = 46;
@@ -38,10 +48,9 @@ const CHARACTERS: [bool; 256] = [
     false, false, false, false, false, false, false, false, false, false,
 ];
 
-/// How many words the slot has that these words begin with, if all of it is here, and it is free or the entry of a bare name that isn't
-/// this one, in whatever case of its letters. None doesn't rule that out.
-pub(crate) fn other_here(words: &[u16], name: &Name) -> Option<usize>
-    ensures other { IfSome result (IsOtherAt name.now words.now) }
+/// How many words the slot has that these words begin with, if all of it is here and it may be passed over. None doesn't rule that out.
+pub(crate) fn other_here(words: &[u16], passing: &Passing) -> Option<usize>
+    ensures other { IfSome result (IsOtherAt passing.now words.now) }
     ensures least { IfSome result (λ n. 1 ≤ n) }
     ensures within { IfSome result (λ n. n ≤ length words.now) }
 {
@@ -51,36 +60,42 @@ pub(crate) fn other_here(words: &[u16], name: &Name) -> Option<usize>
         return None;
     }
     if first as usize == length {
+        if !passing.free {
+            return None;
+        }
         return Some(length);
     }
-    if !is_other_entry(&words[..length], name.as_bytes()) {
+    if !is_other_entry(&words[..length], &passing.name) {
         return None;
     }
     Some(length)
 }
 
 /// Where slots end that `other_here` passes over, from a word of a page on which a slot begins.
-pub(crate) fn others_end(page: &[u16], from: usize, name: &Name) -> usize
+pub(crate) fn others_end(page: &[u16], from: usize, passing: &Passing) -> usize
     requires { from ≤ length page.now }
     ensures on { from ≤ result }
     ensures within { result ≤ length page.now }
-    ensures passes { (given : List ℕ) (walk : Walking) → walk.held ≡ 0 → walk.ended ≡ false → Walked (given ++ take from page.now) walk → Passes name.now (given ++ take from page.now) (given ++ take result page.now) (further walk (result - from)) }
+    ensures passes { (given : List ℕ) (walk : Walking) → walk.held ≡ 0 → walk.ended ≡ false → Walked (given ++ take from page.now) walk → Passes passing.now (given ++ take from page.now) (given ++ take result page.now) (further walk (result - from)) }
 {
     let mut at = from;
-    while let Some(length) = other_here(&page[at..], name) {
+    while let Some(length) = other_here(&page[at..], passing) {
         at += length;
     }
     at
 }
 
-/// Whether these words are the entry of a bare name that isn't this one. False doesn't rule it out.
-fn is_other_entry(words: &[u16], name: &[u8]) -> bool
+/// Whether these words are the entry of a bare name that isn't this one, if there is one. False doesn't rule it out.
+fn is_other_entry(words: &[u16], name: &Option<Name>) -> bool
     ensures { result ≡ true → IsOtherEntry name.now words.now }
 {
     if !is_bare_entry(words) {
         return false;
     }
-    is_named_otherwise(words, name)
+    match name {
+        Some(name) => is_named_otherwise(words, name.as_bytes()),
+        None => true,
+    }
 }
 
 /// Whether these words are the entry of a bare name. False doesn't rule it out.

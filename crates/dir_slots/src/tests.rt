@@ -1,7 +1,7 @@
 // Rows of slots whose words and rooms are known, and each call that takes memory once with enough of it.
 use crate::{
-    PlacedSlot, Room, Slot, Walk, entry_words, find_room, largest_run, read_slots, slot_here,
-    write_slots,
+    Passing, PlacedSlot, Room, Slot, Walk, entry_words, find_room, largest_run, read_slots,
+    slot_here, write_slots,
 };
 use alto_words::{Fid, Memory, Name};
 use std::alloc::Global;
@@ -247,11 +247,48 @@ fn a_walk_passes_over_other_names(rt: HostRuntime) -> Result<(), Fail> {
     page[13..21].copy_from_slice(&ENTRY_OF_A);
     page[21..30].copy_from_slice(&ENTRY_WITH_A_VERSION);
     let (mut walk, mut from) = (Walk::new(), 0);
-    walk.pass_others(&page, &mut from, &Name::parse(b"a").ok_or("a name")?);
+    let but_a = Passing {
+        free: true,
+        name: Some(Name::parse(b"a").ok_or("a name")?),
+    };
+    walk.pass_others(&page, &mut from, &but_a);
     assert_eq!(rt; from, 13);
-    walk.pass_others(&page, &mut from, &Name::parse(b"b").ok_or("a name")?);
+    let but_b = Passing {
+        free: true,
+        name: Some(Name::parse(b"b").ok_or("a name")?),
+    };
+    walk.pass_others(&page, &mut from, &but_b);
     // a version is met
     assert_eq!(rt; from, 21);
     assert_eq!(rt; walk.place(), 21);
     Ok(())
+}
+
+#[test]
+fn a_walk_passes_over_entries_alone(rt: HostRuntime) {
+    // the entry of A, a free slot, that entry again, and then one of A!2
+    let mut page = [0; 256];
+    page[..8].copy_from_slice(&ENTRY_OF_A);
+    page[8] = 5;
+    page[13..21].copy_from_slice(&ENTRY_OF_A);
+    page[21..30].copy_from_slice(&ENTRY_WITH_A_VERSION);
+    let entries = Passing {
+        free: false,
+        name: None,
+    };
+    let (mut walk, mut from) = (Walk::new(), 0);
+    walk.pass_others(&page, &mut from, &entries);
+    // a free slot is met
+    assert_eq!(rt; from, 8);
+    assert_eq!(rt;
+        walk.next(&page, &mut from),
+        Some(PlacedSlot {
+            place: 8,
+            slot: Slot::Free { words: 5 }
+        })
+    );
+    walk.pass_others(&page, &mut from, &entries);
+    // and a version
+    assert_eq!(rt; from, 21);
+    assert_eq!(rt; walk.place(), 21);
 }

@@ -2,9 +2,8 @@
 ghost use Rattle.std.specs.Prelude.{◌≡◌, ℕ, List, [], ◌∷◌, ◌++◌, ◌+◌, length, take};
 
 use crate::codec::{ENTRY_TYPE, slot_here};
-use crate::others::others_end;
+use crate::others::{Passing, others_end};
 use crate::slot::{MAX_ENTRY_WORDS, Slot};
-use alto_words::Name;
 use std::marker::Model;
 
 /// A slot, and the place of its first word among the words of its directory, counted from 0.
@@ -134,13 +133,13 @@ impl Walk {
         Some(PlacedSlot { place, slot })
     }
 
-    /// Passes over slots that end in the rest of this page and can't be the entry of this name or of a version of it: free ones, and entries
-    /// of other bare names. It may stop earlier, and while a slot is in hand it passes over none. `from` is as for `next`, and goes on to
-    /// the word after them.
-    pub fn pass_others(&mut self, page: &[u16], from: &mut usize, name: &Name)
+    /// Passes over slots that end in the rest of this page and need not be met: free ones, if these are among them, and entries of bare
+    /// names other than one, or of all bare names. So no entry of a version of a name is passed over. It may stop earlier, and while a slot
+    /// is in hand it passes over none. `from` is as for `next`, and goes on to the word after them.
+    pub fn pass_others(&mut self, page: &[u16], from: &mut usize, passing: &Passing)
         requires within { from.old ≤ length page.now }
         requires fits { self.old.place + self.old.held + length page.now < 2 ^ 32 + from.old }
-        ensures passes { (given : List ℕ) → Walked (given ++ take from.old page.now) self.old → Passes name.now (given ++ take from.old page.now) (given ++ take from.new page.now) self.new }
+        ensures passes { (given : List ℕ) → Walked (given ++ take from.old page.now) self.old → Passes passing.now (given ++ take from.old page.now) (given ++ take from.new page.now) self.new }
         ensures on { from.old ≤ from.new }
         ensures within { from.new ≤ length page.now }
         ensures taken { self.new.place + self.new.held + from.old ≡ self.old.place + self.old.held + from.new }
@@ -148,7 +147,7 @@ impl Walk {
         if self.ended || self.held != 0 {
             return;
         }
-        let at = others_end(page, *from, name);
+        let at = others_end(page, *from, passing);
         self.place += (at - *from) as u32;
         *from = at;
     }

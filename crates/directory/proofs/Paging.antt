@@ -4,6 +4,7 @@ use Rattle.std.specs.List.{All, FoldsTo}
 use Rattle.std.proofs.lemmas.Fn.{FoldsTo-push}
 use Rattle.std.proofs.lemmas.List.{append-nil, length-take-le, take_all}
 use Rattle.alto_words.specs.declared.fid.Fid.{Fid}
+use Rattle.dir_slots.specs.declared.others.Passing.{Passing}
 use Rattle.dir_slots.specs.declared.walk.PlacedSlot.{PlacedSlot}
 use Rattle.dir_slots.specs.Others.{IsOther, Passes}
 use Rattle.dir_slots.specs.Walks.{Meets, Walked, Walking, placed_slots, slot_met}
@@ -51,8 +52,8 @@ stays : {V A : Type 0} (step : V → A → V → Type 0) (v : V) (xs : List A) �
 stays step v [] all = refl
 stays step v (x ∷ xs) all = (v, all 0 x (omega arith), stays step v xs (λ k d l. all (suc k) d (omega (arith, l))))
 
-pub visits_passed : {V : Type 0} (step : V → SlotAt → V → Type 0) (name given later : List ℕ) (walk : Walking) (v : V) → ((s : SlotAt) → IsOther name s.item → step v s v) → Passes name given later walk → Visits step given later walk v v
-visits_passed step name given later walk v same passes = record { walked = passes.walked; seen = passes.seen; slots = passes.slots; folds = stays step v passes.seen (λ k d l. same (get_or passes.seen k d) (passes.others k d l)) }
+pub visits_passed : {V : Type 0} (step : V → SlotAt → V → Type 0) (passing : Passing) (given later : List ℕ) (walk : Walking) (v : V) → ((s : SlotAt) → IsOther passing s.item → step v s v) → Passes passing given later walk → Visits step given later walk v v
+visits_passed step passing given later walk v same passes = record { walked = passes.walked; seen = passes.seen; slots = passes.slots; folds = stays step v passes.seen (λ k d l. same (get_or passes.seen k d) (passes.others k d l)) }
 
 -- words after others
 pub visits_on : {V : Type 0} (step : V → SlotAt → V → Type 0) (given mid later : List ℕ) (old walk : Walking) (u v w : V) → Visits step given mid old u v → Visits step mid later walk v w → Visits step given later walk u w

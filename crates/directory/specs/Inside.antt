@@ -5,6 +5,8 @@ use Rattle.alto_words.specs.Wanted.{base_wanted}
 use Rattle.dir_slots.specs.Items.{address_of, items_of}
 use Rattle.file_pages.specs.laws_midway.specs.RoomLaws.{row_words}
 use Rattle.pack_model.specs.reading.Lookup.{EntryAt, holds_base, meant_by}
+use Rattle.pack_model.specs.reading.Slots.{Item}
+use Rattle.pack_model.specs.reading.Slots.Item.{entry, space}
 use Rattle.pack_model.specs.reading.SlotWords.{SlotAt}
 use Rattle.directory.specs.declared.entry.EntryFound.{EntryFound}
 use Rattle.directory.specs.declared.finding.Finding.{Finding}
@@ -15,6 +17,11 @@ use Rattle.directory.specs.declared.versions.Versions.{Versions}
 -- an entry that was met, as pack_model has it
 abbrev pub found_at : EntryFound → EntryAt
 found_at e = record { fid = e.fid; name = e.name; place = e.place; address = e.leader_at }
+
+-- the entry of a file, and no free slot
+abbrev pub IsEntry : Item → Type 0
+IsEntry (space n) = ⊥
+IsEntry (entry f name) = Unit {0}
 
 -- ---- one slot more
 -- the entry that is meant

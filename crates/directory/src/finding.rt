@@ -18,7 +18,7 @@ ghost use Rattle.directory.specs.Inside.{found_at};
 use crate::entry::EntryFound;
 use crate::walk::{Visit, visit_slots};
 use alto_words::{Memory, Name, Wanted};
-use dir_slots::{PlacedSlot, Slot};
+use dir_slots::{Passing, PlacedSlot, Slot};
 use disk_records::{Disk, Sector};
 use hint_cache::Hints;
 use page_seeking::{FileError, FileRef};
@@ -83,11 +83,15 @@ impl Visit for Finding {
 
     ghost takes_memory = { false };
 
-    fn sought(&self) -> Option<&Name> {
-        match &self.wanted {
-            Wanted::Exact { name } => Some(name),
-            Wanted::Newest { base } => Some(base),
-        }
+    fn passes(&self) -> Option<Passing> {
+        let name = match self.wanted {
+            Wanted::Exact { name } => name,
+            Wanted::Newest { base } => base,
+        };
+        Some(Passing {
+            free: true,
+            name: Some(name),
+        })
     }
 
     fn visit(&mut self, met: PlacedSlot) -> Result<(), Memory> {

@@ -39,6 +39,7 @@ impl Model for FreeRow {
 }
 
 impl FreeRow {
+    ghost use Rattle.std.specs.Prelude.{true};
     ghost use Rattle.directory.specs.FoundRooms.{IsRoomIn};
 
     /// No slots, where an entry needs so many words.
@@ -52,6 +53,14 @@ impl FreeRow {
             count: 0,
             slots: [Slot::Free { words: 0 }; MAX_ENTRY_WORDS],
         }
+    }
+
+    /// Whether it has no slots.
+    pub(crate) fn is_empty(&self) -> bool
+        ensures empty { result ≡ true → self.now.items ≡ [] }
+        ensures needed { 1 ≤ self.now.needed }
+    {
+        self.count == 0
     }
 
     /// Lets the slots go, as an entry follows them.

@@ -21,7 +21,7 @@ use crate::runs::Runs;
 use crate::walk::{Visit, visit_slots};
 use crate::{DirError, FileRef};
 use alto_words::{Memory, Name, Wanted};
-use dir_slots::{PlacedSlot, Slot, entry_words};
+use dir_slots::{Passing, PlacedSlot, Slot, entry_words};
 use disk_records::{Disk, Sector};
 use hint_cache::Hints;
 
@@ -62,6 +62,9 @@ fn room_with(row: &mut FreeRow, met: &PlacedSlot) -> Option<RoomFound>
 }
 
 impl Seeking {
+    ghost use Rattle.std.specs.Prelude.{true};
+    ghost use Rattle.pack_model.specs.reading.SlotWords.{SlotAt};
+    ghost use Rattle.directory.specs.Inside.{IsEntry};
     ghost use Rattle.directory.specs.Seeking.{MeetsRoom};
 
     /// Looks for the room, once this slot is met too.
@@ -74,6 +77,13 @@ impl Seeking {
             self.room = room_with(&mut self.row, met);
         }
     }
+
+    /// Whether it would stay as it is at an entry: the room is found, or no free slot is at the end of those met so far.
+    fn stays_at_entries(&self) -> bool
+        ensures { result ≡ true → (s : SlotAt) → IsEntry s.item → MeetsRoom self.now s self.now }
+    {
+        self.room.is_some() || self.row.is_empty()
+    }
 }
 
 impl Visit for Placing {
@@ -84,8 +94,15 @@ impl Visit for Placing {
 
     ghost takes_memory = { false };
 
-    fn sought(&self) -> Option<&Name> {
-        None
+    fn passes(&self) -> Option<Passing> {
+        if self.runs.row != 0 || !self.seeking.stays_at_entries() {
+            return None;
+        }
+        let passing = self.same.passes()?;
+        Some(Passing {
+            free: false,
+            name: passing.name,
+        })
     }
 
     fn visit(&mut self, met: PlacedSlot) -> Result<(), Memory> {

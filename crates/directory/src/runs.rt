@@ -14,8 +14,8 @@ ghost use Rattle.directory.specs.Found.{IsQuick, ListsLastPage};
 
 use crate::walk::{Visit, visit_slots};
 use crate::{DirError, FileRef};
-use alto_words::{Memory, Name};
-use dir_slots::{PlacedSlot, Slot};
+use alto_words::Memory;
+use dir_slots::{Passing, PlacedSlot, Slot};
 use disk_records::{Disk, Sector};
 use hint_cache::Hints;
 
@@ -49,8 +49,14 @@ impl Visit for Runs {
 
     ghost takes_memory = { false };
 
-    fn sought(&self) -> Option<&Name> {
-        None
+    fn passes(&self) -> Option<Passing> {
+        if self.row != 0 {
+            return None;
+        }
+        Some(Passing {
+            free: false,
+            name: None,
+        })
     }
 
     fn visit(&mut self, met: PlacedSlot) -> Result<(), Memory> {

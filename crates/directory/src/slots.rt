@@ -11,8 +11,8 @@ ghost use Rattle.directory.specs.Found.{AreSlots, IsQuick, ListsLastPage};
 
 use crate::walk::{Visit, visit_slots};
 use crate::{FileRef, ListError};
-use alto_words::{Memory, Name};
-use dir_slots::{PlacedSlot, Slot};
+use alto_words::Memory;
+use dir_slots::{Passing, PlacedSlot, Slot};
 use disk_records::{Disk, Sector};
 use hint_cache::Hints;
 use std::alloc::Global;
@@ -31,7 +31,7 @@ impl Visit for Slots {
 
     ghost takes_memory = { true };
 
-    fn sought(&self) -> Option<&Name> {
+    fn passes(&self) -> Option<Passing> {
         None
     }
 

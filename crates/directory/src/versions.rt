@@ -17,7 +17,7 @@ use crate::finding::{Finding, version_met};
 use crate::walk::{Visit, visit_slots};
 use crate::{FileError, FileRef};
 use alto_words::{Fid, Memory, Name, Wanted};
-use dir_slots::{PlacedSlot, Slot};
+use dir_slots::{Passing, PlacedSlot, Slot};
 use disk_records::{Disk, Sector};
 use hint_cache::Hints;
 
@@ -62,11 +62,14 @@ impl Visit for Versions {
 
     ghost takes_memory = { false };
 
-    fn sought(&self) -> Option<&Name> {
-        match &self.newest.wanted {
+    fn passes(&self) -> Option<Passing> {
+        match self.newest.wanted {
             // an entry of the base itself counts then, too
             Wanted::Exact { .. } => None,
-            Wanted::Newest { base } => Some(base),
+            Wanted::Newest { base } => Some(Passing {
+                free: true,
+                name: Some(base),
+            }),
         }
     }
 

@@ -19,8 +19,8 @@ ghost use Rattle.directory.specs.Bounds.{most_words};
 ghost use Rattle.directory.specs.Found.{IsQuick, ListsLastPage};
 ghost use Rattle.directory.specs.Visits.{Visits, ended};
 
-use alto_words::{Memory, Name};
-use dir_slots::{PlacedSlot, Walk};
+use alto_words::Memory;
+use dir_slots::{Passing, PlacedSlot, Walk};
 use disk_records::{Disk, PAGE_BYTES, Sector};
 use hint_cache::Hints;
 use page_seeking::{FileError, FileRef, locate};
@@ -33,10 +33,9 @@ pub(crate) trait Visit {
     /// Whether a step takes memory: a constant of the type.
     ghost takes_memory: { Bool };
 
-    /// The name that it seeks, if it would stay as it is at each free slot and at each entry of another bare name: it need not be handed
-    /// those.
-    fn sought(&self) -> Option<&Name>
-        ensures { IfSome result (λ name. (s : SlotAt) → IsOther name.now s.item → step self.now s self.now) };
+    /// The slots that it need not be handed now, if there are any: at each of them it would stay as it is.
+    fn passes(&self) -> Option<Passing>
+        ensures { IfSome result (λ passing. (s : SlotAt) → IsOther passing s.item → step self.now s self.now) };
 
     /// Takes the next slot of the directory. Memory: no memory was left.
     fn visit(&mut self, met: PlacedSlot) -> Result<(), Memory>
@@ -56,8 +55,8 @@ fn pass_for<V: Visit>(walk: &mut Walk, words: &[u16], from: &mut usize, visitor:
     ensures within { from.new ≤ length words.now }
     ensures taken { walk.new.place + walk.new.held + from.old ≡ walk.old.place + walk.old.held + from.new }
 {
-    if let Some(name) = visitor.sought() {
-        walk.pass_others(words, from, name);
+    if let Some(passing) = visitor.passes() {
+        walk.pass_others(words, from, &passing);
     }
 }
 
@@ -100,7 +99,7 @@ fn ended(error: FileError) -> Result<(), FileError>
     }
 }
 
-/// Hands each slot of a directory to the visitor, in order, except those that it need not be handed (`sought`). Its pages are located one
+/// Hands each slot of a directory to the visitor, in order, except those that it need not be handed (`passes`). Its pages are located one
 /// after another; `buf` holds the last one then. It takes no memory of its own.
 ///
 /// Misled and DiskFault come as from `locate`, and Beyond never. Memory: none was left for the visitor. After each of them the visitor has

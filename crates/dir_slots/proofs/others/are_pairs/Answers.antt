@@ -1,4 +1,4 @@
-use Rattle.dir_slots.proofs.Passing.{one_pair_more}
+use Rattle.dir_slots.proofs.PassedOver.{one_pair_more}
 use Rattle.dir_slots.proofs.others.are_pairs.Goals as goal
 
 pub loop-word-preserved : goal.loop-word-preserved

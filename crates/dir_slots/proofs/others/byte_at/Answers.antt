@@ -1,5 +1,5 @@
 use Rattle.std.proofs.Common.{arith}
-use Rattle.dir_slots.proofs.Passing.{byte_high, byte_low}
+use Rattle.dir_slots.proofs.PassedOver.{byte_high, byte_low}
 use Rattle.dir_slots.proofs.others.byte_at.Goals as goal
 
 pub returns-then-at-eq0 : goal.returns-then-at-eq0

@@ -2,7 +2,7 @@ use Rattle.std.proofs.Common.{◌-◌, length, take, drop, sym, ap, ◌∙◌, a
 use Rattle.std.proofs.lemmas.Bool.{and_parts, eqb-true}
 use Rattle.std.proofs.lemmas.List.{length-drop, take_rest}
 use Rattle.alto_words.specs.Fid.{is_full_name}
-use Rattle.dir_slots.proofs.Passing.{bare_entry}
+use Rattle.dir_slots.proofs.PassedOver.{bare_entry}
 use Rattle.dir_slots.proofs.Words.{name_after}
 use Rattle.dir_slots.proofs.others.is_bare_entry.Goals as goal
 

@@ -1,6 +1,6 @@
 use Rattle.std.proofs.Common.{◌-◌, ◌==◌, ℕ, get_or, sym, ap, ◌∙◌, arith}
 use Rattle.alto_words.specs.Names.{fold_case}
-use Rattle.dir_slots.proofs.Passing.{other_character, other_long}
+use Rattle.dir_slots.proofs.PassedOver.{other_character, other_long}
 use Rattle.dir_slots.proofs.others.is_named_otherwise.Goals as goal
 
 pub returns-then-name-length : goal.returns-then-name-length

@@ -1,12 +1,12 @@
 use Rattle.std.proofs.Common.{◌++◌, take, arith}
-use Rattle.dir_slots.proofs.Passing.{few_of_page, passes_more, passes_start}
+use Rattle.dir_slots.proofs.PassedOver.{few_of_page, passes_more, passes_start}
 use Rattle.dir_slots.proofs.others.others_end.Goals as goal
 
 pub loop-length-init : goal.loop-length-init
 loop-length-init c = record {
   on = omega arith;
   within = c.requires;
-  passes = λ given walk none going walked. passes_start c.args.name.now (given ++ take c.args.from c.args.page.now) walk c.args.from walked;
+  passes = λ given walk none going walked. passes_start c.args.passing.now (given ++ take c.args.from c.args.page.now) walk c.args.from walked;
 }
 
 pub loop-length-preserved : goal.loop-length-preserved
@@ -18,7 +18,7 @@ loop-length-preserved c =
     record {
       on = omega (arith, inv.on);
       within = few;
-      passes = λ given walk none going walked. passes_more c.args.name.now page c.args.from c.loop-length.at c.in-Some.length given walk inv.on inv.within none going (inv.passes given walk none going walked) o;
+      passes = λ given walk none going walked. passes_more c.args.passing.now page c.args.from c.loop-length.at c.in-Some.length given walk inv.on inv.within none going (inv.passes given walk none going walked) o;
     }
 
 pub returns-clause-passes : goal.returns-clause-passes

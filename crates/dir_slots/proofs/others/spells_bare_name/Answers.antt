@@ -1,6 +1,6 @@
 use Rattle.std.proofs.Common.{◌-◌, length, take, drop, get_or, sym, ◌∙◌}
 use Rattle.std.proofs.lemmas.Bool.{eqb-true}
-use Rattle.dir_slots.proofs.Passing.{spelled_even, spelled_odd, split_words}
+use Rattle.dir_slots.proofs.PassedOver.{spelled_even, spelled_odd, split_words}
 use Rattle.dir_slots.proofs.others.spells_bare_name.Goals as goal
 
 pub returns-then-length-eq0 : goal.returns-then-length-eq0

@@ -1,5 +1,5 @@
 -- Slots that are passed over where they stand: bare names in the words of entries, and a walk after such slots.
-use Rattle.std.proofs.Common.{◌≡◌, ℕ, zero, suc, ◌+◌, ◌-◌, ◌*◌, ◌/◌, ◌%◌, ◌<◌, ◌≤◌, Bool, true, false, ◌==◌, ◌&&◌, List, [], ◌∷◌, ◌++◌, length, take, drop, get_or, Some, None, refl, sym, ap, ◌∙◌, subst, arith, append_assoc, append-nil}
+use Rattle.std.proofs.Common.{◌≡◌, ℕ, zero, suc, ◌+◌, ◌-◌, ◌*◌, ◌/◌, ◌%◌, ◌<◌, ◌≤◌, Bool, true, false, ◌==◌, ◌&&◌, IsTrue, List, [], ◌∷◌, ◌++◌, length, take, drop, get_or, Some, None, refl, sym, ap, ◌∙◌, subst, arith, append_assoc, append-nil}
 use Rattle.std.specs.List.{list_all}
 use Rattle.std.proofs.lemmas.Bool.{and_from, and_parts, both_ways, cond-true, eq-eqb, eqb-true, false_from_ne_true, le-leb}
 use Rattle.std.proofs.lemmas.List.{get_or-drop, get_or-map, get_or-take, length-drop, length-map, length-take-le, length_push, take_all, take_more}
@@ -16,6 +16,7 @@ use Rattle.pack_model.specs.reading.Bytes.{bytes_of}
 use Rattle.pack_model.specs.reading.Slots.{entry_length, first_length, is_entry, item_words, slot_at, slot_bytes, slot_fid, slot_name}
 use Rattle.pack_model.specs.reading.Slots.Item.{space, entry}
 use Rattle.pack_model.specs.reading.SlotWords.{address_at}
+use Rattle.dir_slots.specs.declared.others.Passing.{Passing}
 use Rattle.dir_slots.specs.declared.slot.Slot.TheVariants.{Free, Entry}
 use Rattle.dir_slots.specs.declared.walk.PlacedSlot.{PlacedSlot}
 use Rattle.dir_slots.specs.Inside.{IsBareEntry, IsBareSpelled, IsOtherAt, IsOtherEntry, entry_of, further, is_pair, name_of}
@@ -199,8 +200,8 @@ taken_first : (words : List ℕ) (n : ℕ) → 1 ≤ n → first_length words �
 taken_first words n least states = ap (λ w. w % 1024) (get_or-take n words 0 0 (omega (arith, least))) ∙ states
 
 -- a free one
-pub free_other : (name words : List ℕ) (n : ℕ) → 1 ≤ n → n ≤ length words → first_length words ≡ n → word words 0 ≡ n → IsOtherAt name words n
-free_other name words n least within states free =
+pub free_other : (p : Passing) (words : List ℕ) (n : ℕ) → IsTrue p.free → 1 ≤ n → n ≤ length words → first_length words ≡ n → word words 0 ≡ n → IsOtherAt p words n
+free_other p words n may least within states free =
     let long : length (take n words) ≡ n = length-take-le n words within in
     let head = taken_first words n least states in
     let is = slot_at-free (take n words) (omega (arith, head, least)) (omega (arith, head, long)) (get_or-take n words 0 0 (omega (arith, least)) ∙ free ∙ sym head) in
@@ -211,12 +212,12 @@ free_other name words n least within states free =
       states = states;
       reads = sym (is ∙ ap (λ m. Some (space m)) head);
       address = refl;
-      other = tt;
+      other = may;
     }
 
 -- the entry of another bare name
-pub entry_other : (name words : List ℕ) (n : ℕ) → 1 ≤ n → n ≤ length words → first_length words ≡ n → (word words 0 ≡ n → ⊥) → IsOtherEntry name (take n words) → IsOtherAt name words n
-entry_other name words n least within states file other =
+pub entry_other : (p : Passing) (words : List ℕ) (n : ℕ) → 1 ≤ n → n ≤ length words → first_length words ≡ n → (word words 0 ≡ n → ⊥) → IsOtherEntry p.name (take n words) → IsOtherAt p words n
+entry_other p words n least within states file other =
     let w : List ℕ = take n words in
     let long : length w ≡ n = length-take-le n words within in
     let head = taken_first words n least states in
@@ -233,19 +234,19 @@ entry_other name words n least within states file other =
     }
 
 -- ---- a walk after such slots
-pub passes_none : (name given : List ℕ) (walk : Walking) → Walked given walk → Passes name given given walk
-passes_none name given walk walked = record { walked = walked; seen = []; slots = sym (append-nil (placed_slots given)); others = λ k d l. absurd (omega (arith, l)) }
+pub passes_none : (p : Passing) (given : List ℕ) (walk : Walking) → Walked given walk → Passes p given given walk
+passes_none p given walk walked = record { walked = walked; seen = []; slots = sym (append-nil (placed_slots given)); others = λ k d l. absurd (omega (arith, l)) }
 
-passes_next : (name first mid later : List ℕ) (old walk : Walking) (met : PlacedSlot) → Passes name first mid old → Meets mid later walk (Some met) → IsOther name (item_of met.slot) → Passes name first later walk
-passes_next name first mid later old walk met before meets other = record {
+passes_next : (p : Passing) (first mid later : List ℕ) (old walk : Walking) (met : PlacedSlot) → Passes p first mid old → Meets mid later walk (Some met) → IsOther p (item_of met.slot) → Passes p first later walk
+passes_next p first mid later old walk met before meets other = record {
   walked = meets.walked;
   seen = before.seen ++ slot_met met ∷ [];
   slots = meets.slots ∙ ap (λ l. l ++ slot_met met ∷ []) before.slots ∙ append_assoc (placed_slots first) before.seen (slot_met met ∷ []);
-  others = All-push (λ s. IsOther name s.item) before.seen (slot_met met) before.others other;
+  others = All-push (λ s. IsOther p s.item) before.seen (slot_met met) before.others other;
 }
 
-passes_one : (name given words : List ℕ) (n : ℕ) (walk : Walking) → Walked given walk → walk.held ≡ 0 → walk.ended ≡ false → (o : IsOtherAt name words n) → Meets given (given ++ take n words) (further walk n) (Some (record { place = walk.place; slot = o.slot }))
-passes_one name given words n walk walked none going o =
+passes_one : (p : Passing) (given words : List ℕ) (n : ℕ) (walk : Walking) → Walked given walk → walk.held ≡ 0 → walk.ended ≡ false → (o : IsOtherAt p words n) → Meets given (given ++ take n words) (further walk n) (Some (record { place = walk.place; slot = o.slot }))
+passes_one p given words n walk walked none going o =
     let was = walked.held going in
     let empty : hand_of given ≡ [] = nothing_is (hand_of given) (sym none ∙ was.held) in
     let joined : hand_of given ++ take n words ≡ take n words = ap (λ l. l ++ take n words) empty in
@@ -256,10 +257,10 @@ passes_one name given words n walk walked none going o =
     (record { held = none; front = was.front ∙ ap (take 26) empty }) (ap slot_at joined ∙ sym o.reads) (whole ∙ sym size) (o.address ∙ ap (λ l. address_at l 0 (item_of o.slot)) (sym joined))
 
 -- none was passed over yet
-pub passes_start : (name given : List ℕ) (walk : Walking) (from : ℕ) → Walked given walk → Passes name given given (further walk (from - from))
-passes_start name given walk from walked =
+pub passes_start : (p : Passing) (given : List ℕ) (walk : Walking) (from : ℕ) → Walked given walk → Passes p given given (further walk (from - from))
+passes_start p given walk from walked =
     let same : walk.place + (from - from) ≡ walk.place = omega arith in
-    passes_none name given (further walk (from - from)) (record {
+    passes_none p given (further walk (from - from)) (record {
       place = same ∙ walked.place;
       held = λ going. let was = walked.held going in record { held = was.held; front = was.front };
       unfinished = walked.unfinished;
@@ -271,15 +272,15 @@ pub few_of_page : (page : List ℕ) (at n : ℕ) → at ≤ length page → n �
 few_of_page page at n within few = omega (arith, few, within, length-take-le (length page - at) (drop at page) (omega (arith, length-drop at page)))
 
 -- one slot more of a page
-pub passes_more : (name page : List ℕ) (from at n : ℕ) (given : List ℕ) (walk : Walking) → from ≤ at → at ≤ length page → walk.held ≡ 0 → walk.ended ≡ false → Passes name (given ++ take from page) (given ++ take at page) (further walk (at - from))
-    → IsOtherAt name (take (length page - at) (drop at page)) n → Passes name (given ++ take from page) (given ++ take (at + n) page) (further walk (at + n - from))
-passes_more name page from at n given walk on within none going before o =
+pub passes_more : (p : Passing) (page : List ℕ) (from at n : ℕ) (given : List ℕ) (walk : Walking) → from ≤ at → at ≤ length page → walk.held ≡ 0 → walk.ended ≡ false → Passes p (given ++ take from page) (given ++ take at page) (further walk (at - from))
+    → IsOtherAt p (take (length page - at) (drop at page)) n → Passes p (given ++ take from page) (given ++ take (at + n) page) (further walk (at + n - from))
+passes_more p page from at n given walk on within none going before o =
     let words : List ℕ = take (length page - at) (drop at page) in
     let few : n ≤ length page - at = let e = few_of_page page at n within o.within in omega (arith, e) in
     let met : PlacedSlot = record { place = walk.place + (at - from); slot = o.slot } in
     let meets : Meets (given ++ take at page) (given ++ take (at + n) page) (further (further walk (at - from)) n) (Some met) =
     subst (λ l. Meets (given ++ take at page) l (further (further walk (at - from)) n) (Some met)) (more_of_page given page at n within few)
-    (passes_one name (given ++ take at page) words n (further walk (at - from)) before.walked none going o) in
+    (passes_one p (given ++ take at page) words n (further walk (at - from)) before.walked none going o) in
     let place : walk.place + (at - from) + n ≡ walk.place + (at + n - from) = omega (arith, on) in
-    subst (λ (k : ℕ). Passes name (given ++ take from page) (given ++ take (at + n) page) (record { place = k; held = walk.held; front = walk.front; ended = walk.ended })) place
-    (passes_next name (given ++ take from page) (given ++ take at page) (given ++ take (at + n) page) (further walk (at - from)) (further (further walk (at - from)) n) met before meets o.other)
+    subst (λ (k : ℕ). Passes p (given ++ take from page) (given ++ take (at + n) page) (record { place = k; held = walk.held; front = walk.front; ended = walk.ended })) place
+    (passes_next p (given ++ take from page) (given ++ take at page) (given ++ take (at + n) page) (further walk (at - from)) (further (further walk (at - from)) n) met before meets o.other)
