@@ -22,7 +22,7 @@ import packs
 SECONDS = 10
 DONE, USAGE, IN_NEED, DISK_FAILED, KEYS_FAILED, DISPLAY_FAILED, NO_MEMORY, CANNOT_SCAVENGE, NO_SESSION = range(9)
 SMALL = 25_536
-# where the last sector of such a file begins, which alone is held back as all sectors were written
+# where the last sector of such a file begins, which is held back with others as all sectors were written
 LAST = 25_004
 THREE = 38_304
 LARGEST = 5_183_808
@@ -333,7 +333,7 @@ def check_format(program):
     stopped = Run(program, format_1, {"pack": pack}, before=limited(1_000))
     stopped.gives(-signal.SIGXFSZ, left=stopped.left)
     without_dates(Run(program, format_1, stopped.left)).gives(DONE, FORMATTED, left={"pack": formatted})
-    # it fails as the last sector, which is held back until then, is handed on: nothing is told
+    # it fails as the last sectors, which are held back until then, are handed on, of which the very last one doesn't fit: nothing is told
     refused = without_dates(Run(program, format_1, {"pack": pack}, before=refused_past(LAST)))
     refused.gives(DISK_FAILED, left={"pack": formatted[:LAST] + pack[LAST:]})
     # larger ones, and two drives, each drive whole: headers, labels and values

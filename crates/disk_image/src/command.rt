@@ -3,20 +3,20 @@
 // A sector that isn't kept is read with its whole cylinder, by one read call, and the cylinder is kept. Where there is no memory
 // for it, or it can't be read whole, the records that the command reads are read alone. A command that writes hands its sector to the
 // file whole, so that what it writes touches what was written of the neighbouring sectors.
-ghost use Rattle.std.specs.Prelude.{◌≡◌, ◌/◌, ◌≤◌, IfOk, IfSome, IfNone, OnOk, IsTrue};
+ghost use Rattle.std.specs.Prelude.{◌≡◌, ◌/◌, ◌≤◌, None, IfOk, IfSome, IfNone, OnOk, IsTrue};
 ghost use Rattle.disk_records.specs.Checks.{is_legal, is_checked, mismatch, memory_after};
-ghost use Rattle.disk_image.specs.Kept.{ReadsKept, NoOtherChanges};
+ghost use Rattle.disk_image.specs.Kept.{kept_at, ReadsKept, NoOtherChanges};
 ghost use Rattle.disk_image.specs.Records.{writes_after_all};
 
 use crate::kept::KeptSectors;
 use crate::records::{read_cylinder, read_front, seek_to, seek_to_cylinder, write_back};
 use crate::spot::{CYLINDER_SECTORS, Spot};
-use disk_records::{Act, Plan, Sector, first_mismatch, update_memory};
+use disk_records::{Plan, Sector, first_mismatch, update_memory};
 use std::io;
 use std::io::{Read, Seek, Write};
 
-/// Reads and checks the records before the first Write: those of the sector that is kept, else those of the file. Answers the first word
-/// that differs, if one does.
+/// Reads and checks the records before the first Write, of a sector that isn't kept: those of its cylinder, which is kept from now on,
+/// else its own alone. Answers the first word that differs, if one does.
 pub(crate) fn read_in_file<F: Read + Seek>(
     file: &mut F,
     spot: Spot,
@@ -24,25 +24,19 @@ pub(crate) fn read_in_file<F: Read + Seek>(
     buf: &mut Sector,
     kept: &mut KeptSectors,
 ) -> io::Result<Option<(u8, u16)>>
-    requires { IsTrue (is_legal plan) }
+    requires legal { IsTrue (is_legal plan) }
+    requires not_kept { kept_at kept.old spot.at ≡ None }
     ensures checked { IfOk result (λ found. IfSome found (λ place. IsTrue (is_checked plan place.0))) }
     ensures kept { ReadsKept spot.at plan buf.old buf.new kept.old kept.new result }
 {
-    if plan.header == Act::Write {
-        return Ok(None);
+    keep_cylinder_of(file, spot, kept);
+    match kept.sector(spot.at) {
+        Some(disk) => Ok(compare(plan, buf, disk)),
+        None => compare_in_file(file, spot, plan, buf),
     }
-    if kept.sector(spot.at).is_none() {
-        keep_cylinder_of(file, spot, kept);
-    }
-    if let Some(disk) = kept.sector(spot.at) {
-        return Ok(compare(plan, buf, disk));
-    }
-    compare_in_file(file, spot, plan, buf)
 }
 
-/// Reads and checks the records before the first Write, of a sector that isn't kept. Like the call below it stands apart from the commands
-/// on what is kept, which are far more and would else clear its memory each time.
-#[inline(never)]
+/// Reads and checks the records before the first Write, of a sector whose cylinder can't be kept.
 fn compare_in_file<F: Read + Seek>(
     file: &mut F,
     spot: Spot,
@@ -58,7 +52,6 @@ fn compare_in_file<F: Read + Seek>(
 }
 
 /// Keeps the cylinder of a sector. Where there is no memory for it, or it can't be read whole, all that is kept stays as it was.
-#[inline(never)]
 fn keep_cylinder_of<F: Read + Seek>(file: &mut F, spot: Spot, kept: &mut KeptSectors)
     ensures { NoOtherChanges (spot.at / 24) kept.old kept.new }
 {
@@ -69,7 +62,7 @@ fn keep_cylinder_of<F: Read + Seek>(file: &mut F, spot: Spot, kept: &mut KeptSec
 }
 
 /// The first word of memory that differs from the disk's. Where there is none, memory gets the records that the command reads or checks.
-fn compare(plan: Plan, memory: &mut Sector, disk: &Sector) -> Option<(u8, u16)>
+pub(crate) fn compare(plan: Plan, memory: &mut Sector, disk: &Sector) -> Option<(u8, u16)>
     ensures found { result ≡ mismatch plan memory.old disk.now }
     ensures same { IfNone result (memory.new ≡ memory_after plan memory.old disk.now) }
 {

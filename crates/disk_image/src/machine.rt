@@ -2,33 +2,33 @@
 //
 // Sectors that were read are kept in memory (kept.rt), and a sector command on one that is kept makes no read call. Else it goes to the
 // sector's cylinder, in the file of its drive, makes one read call for all of it, and keeps it: until another cylinder is read for the
-// first time, or for good where it was read before. Where there is no memory for that, or the cylinder can't be read whole, it goes to
-// the sector and makes one read call for the records before its first Write. A command that begins with a Write reads nothing. To go
-// to a place makes no call: each read and write call names its place (placed.rt).
+// first time, or for good where it was read before or is written while it is kept. Where there is no memory for that, or the cylinder
+// can't be read whole, it goes to the sector and makes one read call for the records before its first Write. A command that begins with
+// a Write reads nothing. To go to a place makes no call: each read and write call names its place (placed.rt).
 //
 // A command that writes hands its sector on whole. The records before its first Write were read or compared just before, so memory has
-// them as they stand. The bytes are held back (held.rt) as long as those of one command after another touch or overlap and are all in one
-// page of 4,096 bytes of one file. They are written by one call before a command writes elsewhere, in this file or in the other drive's,
-// before a cylinder or a sector is read from this file, and at `flush`. A sector that crosses a multiple of 4,096 bytes isn't held back: it
-// is written at once, by a call of its own. Where no memory was left to hold bytes each sector is. What is kept of a sector is changed with
-// the command that writes it, and after a fault of that command it is kept no longer. What is said here and in records.rt of the number
-// of calls holds for calls that are neither short nor interrupted by a signal: after a short one another does the rest, and an interrupted
-// one is made again.
+// them as they stand. The bytes are held back (held.rt) as long as those of one command after another touch or overlap, are all in four
+// pages of 4,096 bytes of one file that follow each other, and begin in the page of the last byte that is held or a later one. They are
+// written by one call before a command writes elsewhere, in this file or in the other drive's, before a cylinder or a sector is read from
+// this file, and at `flush`. Where no memory was left to hold bytes each sector is written at once, by a call of its own. What is kept of a
+// sector is changed with the command that writes it, and after a fault of that command it is kept no longer. What is said here and in
+// records.rt of the number of calls holds for calls that are neither short nor interrupted by a signal: after a short one another does the
+// rest, and an interrupted one is made again.
 //
 // That a process which is stopped leaves a prefix of its record writes in the files, each of them whole, is a premise. It holds for one
 // that is stopped between two calls, of which the first wasn't short: the record writes that are held back are the last ones, and none of
-// them stands. It holds for one that a signal kills within a write call unless a record of it crosses a multiple of 4,096 bytes in its
-// file: Linux writes the bytes of a call in rising order and looks for such a signal between two pages of memory. So the bytes that were
-// held back, which are of one page, stand all or none, in whichever order the commands wrote them; a record that crosses may be torn.
-// About one sector in 8 has such a record; the value of a file's sector 7, at the bytes 3,744 to 4,255, is the first. The premise doesn't
-// hold where a call writes a part of its bytes and the one for the rest fails, or is stopped by a limit on the size of files that lies within
-// them: they stand in the order of the file, which needn't be that of the commands. Nothing is synced to the device, so a power failure may
-// leave less; and a machine that is dropped without a flush takes along what it holds back.
+// them stands. It holds for one that a signal kills within a write call unless a record of it crosses the multiple of 4,096 bytes of its
+// file at which the call ends then: Linux writes the bytes of a call in rising order and looks for such a signal between two pages of
+// memory, and all that is held from a multiple on was written after all that is held before it, but for a sector that crosses it. That one
+// was written between them; of a record of it that crosses the multiple the front may be new and the rest old. About one sector in 8
+// has such a record; the first is the value of a file's sector 7, which is the bytes 3,744 to 4,255. The premise doesn't hold where a call
+// writes a part of its bytes and the one for the rest fails, or is stopped by a limit on the size of files that lies within them: they
+// stand in the order of the file, which needn't be that of the commands. Nothing is synced to the device, so a power failure may leave
+// less; and a machine that is dropped without a flush takes along what it holds back.
 //
-// Before its write calls, of which there are two at most, a command or a flush asks for the file's length, by a seek to its end, so that no
-// write makes the file longer, unless another process shortens the file between the question and the write. Where the file is too short,
-// or the call fails, the command fails in which that was tried, or the flush; what is held back stays so and is tried again first, so
-// nothing goes ahead of it.
+// Before each write call a command or a flush asks for the file's length, by a seek to its end, so that no write makes the file longer,
+// unless another process shortens the file between the question and the write. Where the file is too short, or the call fails, the command
+// fails in which that was tried, or the flush; what is held back stays so and is tried again first, so nothing goes ahead of it.
 //
 // Keys are read ahead. Those of one line that were are taken at once, and none past the line's end (`read_piece`).
 ghost use Rattle.std.specs.Prelude.{◌≡◌, ◌≢◌, ◌-◌, ◌<◌, ◌≤◌, false, [], length, take, IfOk, IfErr, OnErr};
@@ -40,7 +40,7 @@ ghost use Rattle.std.specs.IoError.{error_kind};
 ghost use Rattle.disk_records.specs.Addresses.{disks_of};
 ghost use Rattle.disk_records.specs.Tapes.{IsUnbroken};
 
-use crate::command::{read_in_file, write_in_file};
+use crate::command::{compare, read_in_file, write_in_file};
 use crate::drives::{OnDrive, drive_of};
 use crate::kept::KeptSectors;
 use crate::placed::Placed;
@@ -60,9 +60,9 @@ const MOST_TRIES: u64 = u64::MAX;
 /// A machine over a pack file, or over two of them for two drives, standard input and standard output. It isn't modelled: contracts see its
 /// shape and its counts, and nothing of what the files, the keys and the display hold. The last record writes may be held back until
 /// `flush`. Each fault of the outside, as a read past a file's end, raises the count of its device by one and is answered by Failed; a
-/// count stands at 2^64 - 1 once there. Without faults each cylinder is read twice at most, and from the second time on kept in memory for
-/// all sectors of the pack that is taken as the machine is made; where that memory is refused, each sector is read from its file each
-/// time. No call takes memory, and a sector that is kept meets no fault of a read.
+/// count stands at 2^64 - 1 once there. Without faults each cylinder is read twice at most, and from the second time on, or once it is
+/// written while it is kept, it stays in memory for all sectors of the pack that is taken as the machine is made; where that memory is
+/// refused, each sector is read from its file each time. No call takes memory, and a sector that is kept meets no fault of a read.
 #[derive(Drop)]
 pub struct FileMachine<'a, R: Files + Input + Print> {
     rt: &'a R,
@@ -277,14 +277,14 @@ impl<'a, R: Files + Input + Print> FileMachine<'a, R>
 where
     R::File: FileExt,
 {
-    ghost use Rattle.std.specs.Prelude.{◌≡◌, ◌≢◌, ◌<◌, ◌≤◌, ◌↔◌, IfOk, IfSome, IfNone, IsTrue, OnOk};
+    ghost use Rattle.std.specs.Prelude.{◌≡◌, ◌≢◌, ◌<◌, ◌≤◌, None, IfOk, IfSome, IfNone, IsTrue, OnOk};
     ghost use Rattle.disk_records.specs.declared.records.Act.TheVariants.{Write};
     ghost use Rattle.disk_records.specs.Addresses.{pages_of};
     ghost use Rattle.disk_records.specs.Checks.{is_legal, is_checked};
     ghost use Rattle.disk_records.specs.Tapes.{DiskAlone};
     ghost use Rattle.disk_image.specs.Holding.{HoldsNone};
     ghost use Rattle.disk_image.specs.Images.{first_drive};
-    ghost use Rattle.disk_image.specs.Kept.{ReadsKept, ObeysKept, kept_at};
+    ghost use Rattle.disk_image.specs.Kept.{kept_at, ReadsKept, ObeysKept};
     ghost use Rattle.disk_image.specs.Records.{writes_after_all};
 
     /// Does one sector command on a sector that is kept, or in the file of its drive, and answers the first word that differs, if one
@@ -319,13 +319,6 @@ where
         }
     }
 
-    /// Whether a sector command reads the file of its drive: it reads or checks a record of a sector that isn't kept.
-    fn reads_file(&self, at: u16, plan: Plan) -> bool
-        ensures { IsTrue result ↔ (plan.header ≢ Write) × (kept_at self.now.kept at ≡ None) }
-    {
-        plan.header != Act::Write && self.kept.sector(at).is_none()
-    }
-
     /// Does what a sector command reads, and answers the first word that differs, if one does. What is held back of the file goes ahead where
     /// it is read. The other drive's file isn't touched.
     fn read_on_drive(
@@ -342,19 +335,41 @@ where
         ensures second_kept { at < first_drive self.old.shape → self.new.second ≡ self.old.second }
         ensures kept { ReadsKept at plan buf.old buf.new self.old.kept self.new.kept result }
     {
-        let reads = self.reads_file(at, plan);
+        if plan.header == Act::Write {
+            return Ok(None);
+        }
+        if let Some(disk) = self.kept.sector(at) {
+            return Ok(compare(plan, buf, disk));
+        }
+        self.read_from_file(at, plan, buf)
+    }
+
+    /// Does the same of a sector that isn't kept. It stands apart from the commands on what is kept, which are far more and would else clear
+    /// its memory each time.
+    #[inline(never)]
+    fn read_from_file(
+        &mut self,
+        at: u16,
+        plan: Plan,
+        buf: &mut Sector,
+    ) -> io::Result<Option<(u8, u16)>>
+        requires place { at < pages_of (⟦<FileMachine<'a, R> as Tape>⟧.tape self.old).form }
+        requires legal { IsTrue (is_legal plan) }
+        requires not_kept { kept_at self.old.kept at ≡ None }
+        ensures same { (⟦<FileMachine<'a, R> as Tape>⟧.tape self.new) ≡ (⟦<FileMachine<'a, R> as Tape>⟧.tape self.old) }
+        ensures checked { IfOk result (λ found. IfSome found (λ place. IsTrue (is_checked plan place.0))) }
+        ensures first_kept { first_drive self.old.shape ≤ at → self.new.first ≡ self.old.first }
+        ensures second_kept { at < first_drive self.old.shape → self.new.second ≡ self.old.second }
+        ensures kept { ReadsKept at plan buf.old buf.new self.old.kept self.new.kept result }
+    {
         match drive_of(self.shape, at) {
             OnDrive::First(spot) => {
-                if reads {
-                    self.first.hand_on()?;
-                }
+                self.first.hand_on()?;
                 read_in_file(&mut self.first, spot, plan, buf, &mut self.kept)
             }
             OnDrive::Second(spot) => match &mut self.second {
                 Some(file) => {
-                    if reads {
-                        file.hand_on()?;
-                    }
+                    file.hand_on()?;
                     read_in_file(file, spot, plan, buf, &mut self.kept)
                 }
                 None => unreachable!(),

@@ -1,6 +1,7 @@
 // A file that is read and written at a place that is kept in memory: a seek to a place makes no call of the outside, and each read and
-// write names its place in the call that it makes. Bytes that are written are held back as long as they follow each other within one page
-// of memory of the file (held.rt), and go ahead of all that is read or written after them.
+// write names its place in the call that it makes. Bytes that are written are held back as long as they touch each other in some pages of
+// memory of the file that follow each other, in an order in which one call may write them all (held.rt). They go ahead of all that is read
+// or written after them.
 ghost use Rattle.std.specs.Prelude.{◌≡◌, ◌↔◌, ◌+◌, ◌≤◌, IsTrue, OnOk, OnErr};
 ghost use Rattle.disk_image.specs.Holding.{HoldsNone};
 
@@ -35,30 +36,19 @@ impl<F> Placed<F> {
 }
 
 impl<F: FileExt + Seek> Placed<F> {
-    /// Hands on to the file what is held back of it, by one write call. Where that fails it is held back still, and nothing goes ahead
-    /// of it later.
+    /// Hands on to the file what is held back of it, by one write call, after a question for the file's length. Where that fails it is held
+    /// back still, and nothing goes ahead of it later.
     pub(crate) fn hand_on(&mut self) -> io::Result<()>
         ensures ok { OnOk result (HoldsNone self.new.held) }
         ensures err { OnErr result (self.new.held ≡ self.old.held) }
         ensures place { self.new.at ≡ self.old.at }
     {
-        self.hand_on_asking()?;
-        Ok(())
-    }
-
-    /// Hands on what is held back, as the call above, and answers the file's length if it was asked for.
-    fn hand_on_asking(&mut self) -> io::Result<Option<u64>>
-        ensures ok { OnOk result (HoldsNone self.new.held) }
-        ensures err { OnErr result (self.new.held ≡ self.old.held) }
-        ensures place { self.new.at ≡ self.old.at }
-    {
         if self.held.is_empty() {
-            return Ok(None);
+            return Ok(());
         }
-        let length = self.file.seek(SeekFrom::End(0))?;
-        write_at_place(&mut self.file, length, self.held.place(), self.held.bytes())?;
+        write_asking(&mut self.file, self.held.place(), self.held.bytes())?;
         self.held.clear();
-        Ok(Some(length))
+        Ok(())
     }
 }
 
@@ -69,10 +59,11 @@ fn has_bytes(length: u64, at: u64, count: usize) -> bool
     at <= length && count as u64 <= length - at
 }
 
-/// Writes bytes to their place in a file that has the whole of it, as its length was told just before, by one write call. UnexpectedEof:
-/// it no longer has. Records written there would make the file longer again, and those that were lost would be read as zeros. That holds
-/// for the moment of the question: another process can shorten the file after it.
-fn write_at_place<F: FileExt>(file: &mut F, length: u64, at: u64, bytes: &[u8]) -> io::Result<()> {
+/// Writes bytes to their place in a file that has the whole of it, by one write call, after a question for its length. UnexpectedEof: it no
+/// longer has. Records written there would make the file longer again, and those that were lost would be read as zeros. That holds for the
+/// moment of the question: another process can shorten the file after it.
+fn write_asking<F: FileExt + Seek>(file: &mut F, at: u64, bytes: &[u8]) -> io::Result<()> {
+    let length = file.seek(SeekFrom::End(0))?;
     if !has_bytes(length, at, bytes.len()) {
         return Err(Error::from(ErrorKind::UnexpectedEof));
     }
@@ -89,18 +80,14 @@ impl<F: FileExt + Seek> Read for Placed<F> {
 }
 
 impl<F: FileExt + Write + Seek> Write for Placed<F> {
-    /// Bytes that are all in one page of memory of the file are held back, those that are held and stand elsewhere going ahead of them. Others are
-    /// written by a call of their own, after those that are held; and so are all where there is no memory to hold any. For both calls the
-    /// file's length is asked once.
+    /// The bytes are held back. Those that are held go ahead of them, by one call, unless these may join them: so all that one call writes
+    /// from a multiple of 4,096 on was written here after all that it writes before it, or together with it. Bytes that there is no memory
+    /// to hold are written by a call of their own.
     fn write(&mut self, buf: &[u8]) -> io::Result<usize> {
         if !self.held.put(self.at, buf) {
-            let asked = self.hand_on_asking()?;
+            self.hand_on()?;
             if !self.held.put(self.at, buf) {
-                let length = match asked {
-                    Some(length) => length,
-                    None => self.file.seek(SeekFrom::End(0))?,
-                };
-                write_at_place(&mut self.file, length, self.at, buf)?;
+                write_asking(&mut self.file, self.at, buf)?;
             }
         }
         self.at = self.at.saturating_add(buf.len() as u64);

@@ -20,7 +20,7 @@ use std::rt::Files;
 use std::{fs, io};
 
 /// The most keys that are read ahead.
-const KEYS_AHEAD: usize = 65536;
+const KEYS_AHEAD: usize = 16_384;
 
 impl<'a, R: Files + Input + Print> FileMachine<'a, R> {
     /// A machine of one drive over the pack file at this path, which is opened for reading and writing. The file isn't read yet.

@@ -70,6 +70,22 @@ impl SectorTable {
         }
     }
 
+    /// Puts the first 24 sectors of another table at the numbers from this one on, None for one that is missing there. No memory is taken.
+    pub(crate) fn put_from(&mut self, first: usize, other: &SectorTable)
+        requires { first + 24 ≤ vec_capacity self.old.sectors }
+        ensures here { (k : ℕ) → k < 24 → sector_in self.new (first + k) ≡ sector_in other.now k }
+        ensures below { (k : ℕ) → k < first → sector_in self.new k ≡ sector_in self.old k }
+        ensures above { (k : ℕ) → first + 24 ≤ k → sector_in self.new k ≡ sector_in self.old k }
+    {
+        self.reach_to(first + CYLINDER_SECTORS as usize);
+        for sector in 0..CYLINDER_SECTORS as usize {
+            match other.sectors.get(sector) {
+                Some(place) => self.sectors[first + sector] = *place,
+                None => self.sectors[first + sector] = None,
+            }
+        }
+    }
+
     /// Has at least so many sectors in the list, the new ones missing.
     fn reach_to(&mut self, end: usize)
         requires { end ≤ vec_capacity self.old.sectors }
@@ -103,8 +119,8 @@ impl SectorTable {
         ensures here { sector_in self.new number ≡ option_map (λ old. sector.now) (sector_in self.old number) }
         ensures others { (k : ℕ) → k ≢ number → sector_in self.new k ≡ sector_in self.old k }
     {
-        if self.sector(number).is_some() {
-            self.sectors[number as usize] = Some(*sector);
+        if let Some(place) = self.sectors.get_mut(number as usize) {
+            write_over(place, sector);
         }
     }
 
@@ -116,5 +132,14 @@ impl SectorTable {
         if let Some(sector) = self.sectors.get_mut(number as usize) {
             *sector = None;
         }
+    }
+}
+
+/// Puts this sector in the place of another, if one is there. It is copied once, which `Some(*sector)` isn't.
+fn write_over(place: &mut Option<Sector>, sector: &Sector)
+    ensures { place.new ≡ option_map (λ old. sector.now) place.old }
+{
+    if let Some(old) = place {
+        *old = *sector;
     }
 }

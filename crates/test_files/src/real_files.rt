@@ -186,7 +186,7 @@ fn a_sector_command_is_few_calls(rt: HostRuntime) -> Result<(), Fail> {
 }
 
 #[test]
-fn writes_within_a_page_are_handed_on_by_one_call(rt: HostRuntime) -> Result<(), Fail> {
+fn writes_that_touch_are_handed_on_by_one_call(rt: HostRuntime) -> Result<(), Fail> {
     let alloc = rt.alloc();
     let log = Log::new(alloc);
     let outside = Outside::new(&rt, b"", Broken::Nothing, &log);
@@ -195,13 +195,11 @@ fn writes_within_a_page_are_handed_on_by_one_call(rt: HostRuntime) -> Result<(),
     let end = FileCall::Seek(SeekFrom::End(0));
     let three = [end, FileCall::WriteAt(0, 1_596)];
     let two = [end, FileCall::WriteAt(532, 1_064)];
-    let fifth = [end, FileCall::WriteAt(2_128, 532)];
-    // the length is asked once for both
-    let both = [
-        end,
-        FileCall::WriteAt(4_256, 532),
-        FileCall::WriteAt(3_724, 532),
-    ];
+    let sector_4 = [end, FileCall::WriteAt(2_128, 532)];
+    let sector_6 = [end, FileCall::WriteAt(3_192, 532)];
+    let sector_7 = [end, FileCall::WriteAt(3_724, 532)];
+    let sector_8 = [end, FileCall::WriteAt(4_256, 532)];
+    let both = [end, FileCall::WriteAt(3_724, 1_064)];
     // the sector that is written, or none where the machine is flushed, and the calls for it
     let rows = [
         (Some(0u16), [].as_slice()),
@@ -215,11 +213,21 @@ fn writes_within_a_page_are_handed_on_by_one_call(rt: HostRuntime) -> Result<(),
         (Some(1), &[]),
         // sector 3 is left out
         (Some(4), &two),
-        // sector 8 begins the next page
-        (Some(8), &fifth),
-        // sector 7 crosses byte 4,096
+        (Some(8), &sector_4),
+        // sector 7 crosses byte 4,096, so that it begins in the page before that of sector 8
+        (Some(7), &sector_8),
+        // and ends in the page after it, so that it isn't held with what it was before
+        (Some(7), &sector_7),
+        (None, &sector_7),
+        // sector 6 is in the page before that in which sector 7 ends
+        (Some(7), &[]),
+        (Some(6), &sector_7),
+        (None, &sector_6),
+        // sector 7 again, after which sector 8 is held
+        (Some(7), &[]),
+        (Some(8), &[]),
         (Some(7), &both),
-        (None, &[]),
+        (None, &sector_7),
         (Some(0), &[]),
     ];
     for (sector, calls) in rows {
@@ -246,11 +254,55 @@ fn writes_within_a_page_are_handed_on_by_one_call(rt: HostRuntime) -> Result<(),
 }
 
 #[test]
+fn writes_over_some_pages_are_handed_on_by_one_call(rt: HostRuntime) -> Result<(), Fail> {
+    let alloc = rt.alloc();
+    let log = Log::new(alloc);
+    let outside = Outside::new(&rt, b"", Broken::Nothing, &log);
+    let mut machine = FileMachine::create(&outside, alloc, "paged", 2)?;
+    drop(log.take_file_calls(alloc)?);
+    let end = FileCall::Seek(SeekFrom::End(0));
+    // the sectors from one on up to another, and the call for them. Each is written twice, but those once that cross a multiple of 4,096, as
+    // sectors 7 and 15 do. Sectors 0 to 29 are in four pages, and sector 30 ends after them, at byte 16,492
+    for (from, until, place, count) in [
+        (7u16, 16u16, 3_724u64, 4_788usize),
+        (0, 30, 0, 15_960),
+        (30, 40, 15_960, 5_320),
+    ] {
+        for at in from..until {
+            let times = if [7, 15, 23, 30, 38].contains(&at) {
+                1
+            } else {
+                2
+            };
+            for _ in 0..times {
+                assert!(rt; at < machine.shape().pages());
+                machine.run(at, Plan::WRITE_ALL, &mut NUMBERED)?;
+            }
+        }
+        machine.flush()?;
+        let calls = [end, FileCall::WriteAt(place, count)];
+        assert!(rt;
+            log.take_file_calls(alloc)?.as_slice() == calls.as_slice(),
+            "from {from}"
+        );
+    }
+    // sector 30 isn't held with the 30 ahead of it
+    for at in 0u16..=30 {
+        assert!(rt; at < machine.shape().pages());
+        machine.run(at, Plan::WRITE_ALL, &mut NUMBERED)?;
+    }
+    let four = [end, FileCall::WriteAt(0, 15_960)];
+    assert!(rt; log.take_file_calls(alloc)?.as_slice() == four.as_slice());
+    fs::remove_file(&rt, "paged")?;
+    Ok(())
+}
+
+#[test]
 fn what_cannot_be_handed_on_is_a_fault_and_stays(rt: HostRuntime) -> Result<(), Fail> {
     let alloc = rt.alloc();
     let made = FileMachine::create(&rt, alloc, "stuck", 2)?;
     drop(made);
-    // the first write call fails: in a flush, in a command on the next page, or in one that reads another cylinder
+    // the first write call fails: in a flush, in a command that writes elsewhere, or in one that reads another cylinder
     for way in 0..3u8 {
         let log = Log::new(alloc);
         let outside = Outside::new(&rt, b"", Broken::WriteCall(0), &log);
@@ -330,7 +382,7 @@ fn a_cylinder_is_read_twice_at_most_and_else_by_sectors(rt: HostRuntime) -> Resu
     Ok(())
 }
 
-/// The bytes of sector 7 where so many of its records are those of `NUMBERED` and the others zeros.
+/// The bytes of a sector where so many of its records are those of `NUMBERED` and the others zeros.
 fn first_records(at: usize, records: u64) -> u8 {
     let (record, byte) = match at {
         0..=3 => (0, 1),
@@ -341,17 +393,6 @@ fn first_records(at: usize, records: u64) -> u8 {
         byte
     } else {
         0
-    }
-}
-
-/// The sector where so many of its records are those of `NUMBERED` and the others zeros.
-fn numbered_front(records: u64) -> Sector {
-    let header = if records > 0 { 1 } else { 0 };
-    let label = if records > 1 { 2 } else { 0 };
-    Sector {
-        header: [header; 2],
-        label: [label; 8],
-        value: [0; 256],
     }
 }
 
@@ -366,17 +407,12 @@ fn a_write_that_breaks_off_leaves_the_records_ahead(rt: HostRuntime) -> Result<(
         let outside = Outside::new(&rt, b"", Broken::Full(room), &log);
         let mut machine = FileMachine::reach(&outside, alloc, "failing")?;
         assert!(rt; 7 < machine.shape().pages());
-        let mut sector = NUMBERED;
-        machine.run(7, Plan::READ, &mut sector)?;
-        assert!(rt; sector == ZEROS, "{room}");
-        let failed = machine.run(7, Plan::WRITE_ALL, &mut NUMBERED);
+        machine.run(7, Plan::WRITE_ALL, &mut NUMBERED)?;
+        assert!(rt; machine.flush() == Err(DiskError::Failed), "{room}");
+        // the sector is held back still, and a command that doesn't touch it fails as it is tried again
+        let failed = machine.run(0, Plan::WRITE_ALL, &mut NUMBERED);
         assert!(rt; failed == Err(DiskError::Failed), "{room}");
-        // none of a command that failed is counted
-        assert!(rt; machine.writes() == 0, "{room}");
-        // the sector that was kept is read again
-        assert!(rt; 7 < machine.shape().pages());
-        machine.run(7, Plan::READ, &mut sector)?;
-        assert!(rt; sector == numbered_front(records), "{room}");
+        assert!(rt; machine.writes() == 3, "{room}");
         let bytes = fs::read(&rt, "failing")?;
         assert!(rt; bytes.len() == 25_536, "{room}");
         for (place, byte) in bytes.iter().enumerate() {
@@ -392,10 +428,40 @@ fn a_write_that_breaks_off_leaves_the_records_ahead(rt: HostRuntime) -> Result<(
 }
 
 #[test]
+fn a_call_that_breaks_off_at_a_page_leaves_what_was_written_first(
+    rt: HostRuntime,
+) -> Result<(), Fail> {
+    let alloc = rt.alloc();
+    let made = FileMachine::create(&rt, alloc, "parted", 2)?;
+    drop(made);
+    let log = Log::new(alloc);
+    let outside = Outside::new(&rt, b"", Broken::Full(4_096), &log);
+    let mut machine = FileMachine::reach(&outside, alloc, "parted")?;
+    for at in [3u16, 2, 1, 0, 4, 5, 6, 7, 8, 9] {
+        assert!(rt; at < machine.shape().pages());
+        machine.run(at, Plan::WRITE_ALL, &mut NUMBERED)?;
+    }
+    assert!(rt; machine.flush() == Err(DiskError::Failed));
+    let bytes = fs::read(&rt, "parted")?;
+    assert!(rt; bytes.len() == 25_536);
+    // sector 7 crosses byte 4,096
+    for (place, byte) in bytes.iter().enumerate() {
+        let wanted = if place < 4_096 {
+            first_records(place % 532, 3)
+        } else {
+            0
+        };
+        assert!(rt; *byte == wanted, "{place}");
+    }
+    fs::remove_file(&rt, "parted")?;
+    Ok(())
+}
+
+#[test]
 fn keys_are_read_ahead_and_replies_shown_whole(rt: HostRuntime) -> Result<(), Fail> {
     let alloc = rt.alloc();
-    // a pair of lines has 1,017 keys: 19,323 of them in one read and one that finds the end, and 67,122 in two and one
-    for (pairs, most_reads) in [(19u64, 2), (66, 3)] {
+    // a pair of lines has 1,017 keys: 19,323 of them in two reads and one that finds the end, and 67,122 in five and one
+    for (pairs, most_reads) in [(19u64, 3), (66, 6)] {
         let mut keys = Vec::new(alloc);
         let mut replies = Vec::new(alloc);
         for _ in 0..pairs {

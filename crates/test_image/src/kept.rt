@@ -68,12 +68,32 @@ fn a_cylinder_that_is_read_again_stays(rt: HostRuntime) -> Result<(), Fail> {
 }
 
 #[test]
+fn a_cylinder_that_is_written_stays(rt: HostRuntime) -> Result<(), Fail> {
+    let ones = filled(0x0101, 0x0101, 0x0101);
+    let mut machine = FileMachine::create(&rt, rt.alloc(), "stays", 2)?;
+    fs::write(&rt, "stays", bytes_of(rt.alloc(), 1, 25_536)?.as_slice())?;
+    // each cylinder is read once, and the first one is written before the second is read
+    assert!(rt; read_at(&mut machine, 0) == Ok(ones));
+    machine.run(1, Plan::WRITE_ALL, &mut filled(7, 8, 9))?;
+    assert!(rt; read_at(&mut machine, 24) == Ok(ones));
+    // no call reads the file that is full of another byte by now
+    fs::write(&rt, "stays", bytes_of(rt.alloc(), 2, 25_536)?.as_slice())?;
+    for at in 0u16..48 {
+        let wanted = if at == 1 { filled(7, 8, 9) } else { ones };
+        assert!(rt; read_at(&mut machine, at) == Ok(wanted), "{at}");
+    }
+    fs::remove_file(&rt, "stays")?;
+    Ok(())
+}
+
+#[test]
 fn a_sector_is_forgotten_after_a_fault(rt: HostRuntime) -> Result<(), Fail> {
     let mut machine = FileMachine::create(&rt, rt.alloc(), "forgotten", 2)?;
-    // sector 7 crosses byte 4,096, so that it is written at once
     machine.run(7, Plan::WRITE_ALL, &mut filled(1, 2, 3))?;
     machine.run(6, Plan::WRITE_ALL, &mut filled(4, 5, 6))?;
     assert!(rt; read_at(&mut machine, 7) == Ok(filled(1, 2, 3)));
+    // sector 20 is held back, and has to go ahead of sector 7, which it doesn't touch
+    machine.run(20, Plan::WRITE_ALL, &mut filled(7, 8, 9))?;
     let file = OpenOptions::new().write(true).open(&rt, "forgotten")?;
     file.set_len(0)?;
     let failed = machine.run(7, Plan::WRITE_VALUE, &mut filled(0, 0, 7));
@@ -81,11 +101,12 @@ fn a_sector_is_forgotten_after_a_fault(rt: HostRuntime) -> Result<(), Fail> {
     assert!(rt; read_at(&mut machine, 7) == Err(DiskError::Failed));
     assert!(rt; read_at(&mut machine, 6) == Ok(filled(4, 5, 6)));
     assert!(rt; fs::read(&rt, "forgotten")?.is_empty());
-    // now it is read again, with its cylinder
+    // now it is read again, with its cylinder, of which sector 20 was handed on just before
     file.set_len(25_536)?;
     assert!(rt; read_at(&mut machine, 7) == Ok(filled(0, 0, 0)));
     assert!(rt; read_at(&mut machine, 6) == Ok(filled(0, 0, 0)));
-    assert_eq!(rt; machine.writes(), 6);
+    assert!(rt; read_at(&mut machine, 20) == Ok(filled(7, 8, 9)));
+    assert_eq!(rt; machine.writes(), 9);
     fs::remove_file(&rt, "forgotten")?;
     Ok(())
 }
@@ -170,7 +191,7 @@ fn a_write_at_a_lost_sector_is_a_fault(rt: HostRuntime) -> Result<(), Fail> {
             machine.flush() == Err(DiskError::Failed),
             "{at} of {length}"
         );
-        // nothing goes ahead of them, and sector 7, which crosses byte 4,096, is lost too
+        // nothing goes ahead of them: sector 7, which they don't touch, can't be written either
         for plan in [Plan::WRITE_ALL, Plan::WRITE_VALUE] {
             let failed = machine.run(7, plan, &mut filled(0, 0, 7));
             assert!(rt; failed == Err(DiskError::Failed), "{at} of {length}");
