@@ -17,7 +17,7 @@ use alto_words::Name;
 pub struct Passing {
     /// Whether free slots are passed over.
     pub free: bool,
-    /// The bare name whose entries are met, in whatever case of its letters. Those of other bare names are passed over; where there is None,
+    /// The name whose entries are met, in whatever case of its letters. Those of other bare names are passed over; where there is None,
     /// those of all bare names.
     pub name: Option<Name>,
 }

@@ -133,9 +133,9 @@ impl Walk {
         Some(PlacedSlot { place, slot })
     }
 
-    /// Passes over slots that end in the rest of this page and need not be met: free ones, if these are among them, and entries of bare
-    /// names other than one, or of all bare names. So no entry of a version of a name is passed over. It may stop earlier, and while a slot
-    /// is in hand it passes over none. `from` is as for `next`, and goes on to the word after them.
+    /// Passes over slots that end in the rest of this page and need not be met: free ones, if `passing` has these, and entries of bare
+    /// names other than the one that it names, or of all bare names. So no entry of a version is passed over. It may stop earlier, and while
+    /// a slot is in hand it passes over none. `from` is as for `next`, and goes on to the word after them.
     pub fn pass_others(&mut self, page: &[u16], from: &mut usize, passing: &Passing)
         requires within { from.old ≤ length page.now }
         requires fits { self.old.place + self.old.held + length page.now < 2 ^ 32 + from.old }
