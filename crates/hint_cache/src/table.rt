@@ -104,7 +104,7 @@ impl BitTable {
         self.bits[usize::from(at)]
     }
 
-    /// The first sector from this address on that is marked as free. None if and only if there is none.
+    /// The first sector marked as free from this address on, which is at most the number of sectors. None if and only if there is none.
     pub fn next_free(&self, from: u16) -> Option<u16>
         requires { from ≤ length self.now }
         ensures free { IfSome result (λ at. (from ≤ at) × (at < length self.now) × (busy_at self.now at ≡ false)) }
