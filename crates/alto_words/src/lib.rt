@@ -21,7 +21,7 @@ pub use fid::Fid;
 pub use list::List;
 pub use memory::Memory;
 pub use name::Name;
-pub use numbers::{HexError, push_hex, push_number, read_hex, read_number};
+pub use numbers::{HexError, push_hex, push_number, put_hex, read_hex, read_number};
 pub use wanted::Wanted;
 
 #[cfg(test)]

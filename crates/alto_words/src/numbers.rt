@@ -21,9 +21,6 @@ pub enum HexError {
 /// The most decimal digits that `read_number` reads: those of 2^32 - 1.
 const MAX_DIGITS: usize = 10;
 
-/// The most bytes whose digits are made in place.
-const BYTES_AT_ONCE: usize = 32;
-
 /// The number that a text of 1 to 10 decimal digits gives, leading zeros included; None for any
 /// other text, and for a value of 2^32 or more.
 pub fn read_number(text: &[u8]) -> Option<u32>
@@ -156,31 +153,14 @@ pub fn push_hex(alloc: Global, out: &mut Vec<u8>, bytes: &[u8]) -> Result<(), Me
     ensures ok { OnOk result (out.new.items ≡ out.old.items ++ hex_of bytes.now) }
     ensures err { OnErr result (out.new.items ≡ out.old.items) }
 {
-    if bytes.len() <= BYTES_AT_ONCE {
-        return push_digits(out, bytes);
-    }
     let digits = hex::encode(alloc, bytes)?;
     out.extend_from_slice(digits.as_bytes())?;
     Ok(())
 }
 
-/// Appends the digits of a few bytes, as `push_hex`: as many as are shown on a line. No memory is taken for the digits alone, which would
-/// cost as much as to make them.
-fn push_digits(out: &mut Vec<u8>, bytes: &[u8]) -> Result<(), Memory>
-    requires { length bytes.now ≤ 32 }
-    ensures ok { OnOk result (out.new.items ≡ out.old.items ++ hex_of bytes.now) }
-    ensures err { OnErr result (out.new.items ≡ out.old.items) }
-{
-    let mut digits = [0; 2 * BYTES_AT_ONCE];
-    let digits = &mut digits[..2 * bytes.len()];
-    put_digits(bytes, digits);
-    out.extend_from_slice(digits)?;
-    Ok(())
-}
-
-/// Puts the digits of bytes, two a byte, in the place of others. `hex::encode_to_slice` looks each of them up in a table, and this makes
-/// many at once.
-fn put_digits(bytes: &[u8], digits: &mut [u8])
+/// Puts two hexadecimal digits a byte, in lower case, the high digit first, in the place of as many bytes. `hex::encode_to_slice` looks
+/// each of them up in a table, and this makes many at once.
+pub fn put_hex(bytes: &[u8], digits: &mut [u8])
     requires { length digits.old ≡ 2 * length bytes.now }
     ensures { digits.new ≡ hex_of bytes.now }
 {

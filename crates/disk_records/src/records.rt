@@ -1,5 +1,11 @@
 // What stands on a pack, and what happens to it.
+ghost use Rattle.std.specs.Prelude.{◌+◌, ◌*◌};
+ghost use Rattle.std.proofs.Common.{rules};
+ghost use Rattle.std.specs.Cmp.Rules.{hashing};
+ghost use Rattle.std.specs.Hash as fed;
+
 use alto_words::{Fid, List};
+use std::hash::{Hash, Hasher};
 
 /// One sector: its three records in their order on the disk.
 #[derive(Clone, Copy, Debug, PartialEq, Eq, Drop)]
@@ -75,12 +81,25 @@ impl Plan {
 }
 
 /// A page of a file: page 0 is the leader page, data pages are numbered from 1.
-#[derive(Clone, Copy, Debug, PartialEq, Eq, PartialOrd, Ord, Hash)]
+#[derive(Clone, Copy, Debug, PartialEq, Eq, PartialOrd, Ord)]
 pub struct Page {
     /// The file's full name.
     pub fid: Fid,
     /// Its number in the file.
     pub number: u16,
+}
+
+impl Hash for Page {
+    ghost hash_input = { λ page. fed.u64 (((page.fid.high * 65536 + page.fid.low) * 65536 + page.fid.version) * 65536 + page.number) };
+
+    ghost respects_eq = { Prim.search (hashing, rules) };
+
+    /// Its words are fed as one number, since a cache hashes a page at each look and four numbers take four times as long.
+    fn hash<H: Hasher>(&self, state: &mut H) {
+        let serial = self.fid.high as u64 * 65_536 + self.fid.low as u64;
+        let file = serial * 65_536 + self.fid.version as u64;
+        (file * 65_536 + self.number as u64).hash(state);
+    }
 }
 
 /// Where the address of a page was taken from, for an answer that says that it names another sector than it should.
