@@ -1,5 +1,6 @@
 pub mod Cutting
 pub mod HexLines
+mod InPlace
 pub mod Names
 pub mod Operands
 pub mod Plain

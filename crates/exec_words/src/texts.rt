@@ -1,11 +1,12 @@
 // The texts of lines that are done.
-ghost use Rattle.std.specs.Prelude.{◌≡◌, ◌++◌, length, IfOk, OnOk};
+ghost use Rattle.std.specs.Prelude.{◌≡◌, ◌≤◌, ◌++◌, length, IfOk, OnOk};
 ghost use Rattle.std.specs.List.{flat_map};
+ghost use Rattle.alto_words.specs.Numbers.{hex_of};
 ghost use Rattle.exec_words.specs.Texts.{made_text, length_text, at_text, level_text, stream_text, free_text, word_text, got_text, written_text, not_written_text, hex_lines, type_text, names_text, stat_text, report_text, line_of, done_text};
 
 use crate::push::{numbered, plain, push, push_bytes, push_with_number};
 use crate::reply::Stat;
-use alto_words::{Fid, Memory, Name, push_hex, push_number};
+use alto_words::{Fid, Memory, Name, push_hex, push_number, put_hex};
 use disk_records::PAGE_BYTES;
 use std::alloc::Global;
 
@@ -14,6 +15,12 @@ const PAGE: u32 = PAGE_BYTES as u32;
 
 /// So many bytes are shown in hex on one line.
 const BYTES_A_LINE: usize = 32;
+
+/// The byte that ends a line.
+const LINE_END: u8 = b'\n';
+
+/// Enough bytes for the end of the last line in hex and a line with the number of bytes.
+const LAST_LINES: usize = 32;
 
 /// `done`.
 pub fn done_text(alloc: Global) -> Result<Vec<u8>, Memory>
@@ -102,13 +109,24 @@ pub fn not_written_text(alloc: Global, message: &[u8]) -> Result<Vec<u8>, Memory
     Ok(out)
 }
 
+/// Appends a line of bytes in hex, whose digits are made where they stand.
+fn push_hex_line(out: &mut Vec<u8>, bytes: &[u8]) -> Result<(), Memory>
+    requires { length bytes.now ≤ 32 }
+    ensures { OnOk result (out.new.items ≡ out.old.items ++ line_of (hex_of bytes.now)) }
+{
+    let from = out.len();
+    let end = from + 2 * bytes.len();
+    out.resize(end + 1, LINE_END)?;
+    put_hex(bytes, &mut out[from..end]);
+    Ok(())
+}
+
 /// Appends bytes in hex, 32 to a line.
-fn push_hex_lines(alloc: Global, out: &mut Vec<u8>, bytes: &[u8]) -> Result<(), Memory>
+fn push_hex_lines(out: &mut Vec<u8>, bytes: &[u8]) -> Result<(), Memory>
     ensures { OnOk result (out.new.items ≡ out.old.items ++ hex_lines (length bytes.now) bytes.now) }
 {
     for piece in bytes.chunks(BYTES_A_LINE) {
-        push_hex(alloc, out, piece)?;
-        push(out, b"\n")?;
+        push_hex_line(out, piece)?;
     }
     Ok(())
 }
@@ -117,8 +135,11 @@ fn push_hex_lines(alloc: Global, out: &mut Vec<u8>, bytes: &[u8]) -> Result<(), 
 pub fn type_text(alloc: Global, bytes: &[u8]) -> Result<Vec<u8>, Memory>
     ensures { IfOk result (λ text. text.items ≡ type_text bytes.now) }
 {
-    let mut out = Vec::new(alloc);
-    push_hex_lines(alloc, &mut out, bytes)?;
+    // so that the text doesn't move as it grows
+    let room = bytes.len().saturating_mul(2);
+    let room = room.saturating_add(bytes.len() / BYTES_A_LINE + LAST_LINES);
+    let mut out = Vec::with_capacity(alloc, room)?;
+    push_hex_lines(&mut out, bytes)?;
     push_number(alloc, &mut out, bytes.len() as u64)?;
     push(&mut out, b" bytes\n")?;
     Ok(out)
