@@ -1,5 +1,5 @@
 -- Slots that are passed over where they stand: bare names in the words of entries, and a walk after such slots.
-use Rattle.std.proofs.Common.{◌≡◌, ℕ, zero, suc, ◌+◌, ◌-◌, ◌*◌, ◌/◌, ◌%◌, ◌<◌, ◌≤◌, Bool, true, false, ◌==◌, ◌&&◌, IsTrue, List, [], ◌∷◌, ◌++◌, length, take, drop, get_or, Some, None, refl, sym, ap, ◌∙◌, subst, arith, append_assoc, append-nil}
+use Rattle.std.proofs.Common.{◌≡◌, ℕ, zero, suc, ◌+◌, ◌-◌, ◌*◌, ◌/◌, ◌%◌, ◌≤◌, true, false, ◌==◌, IsTrue, List, [], ◌∷◌, ◌++◌, length, take, drop, get_or, Some, None, refl, sym, ap, ◌∙◌, subst, arith, append_assoc, append-nil}
 use Rattle.std.specs.List.{list_all}
 use Rattle.std.proofs.lemmas.Bool.{and_from, and_parts, both_ways, cond-true, eq-eqb, eqb-true, false_from_ne_true, le-leb}
 use Rattle.std.proofs.lemmas.List.{get_or-drop, get_or-map, get_or-take, length-drop, length-map, length-take-le, length_push, take_all, take_more}
@@ -44,19 +44,6 @@ all_pairs (w ∷ words) all =
     let both = and_parts (is_name_character (w / 256)) (is_name_character (w % 256)) parts.0 in
     and_from (is_name_character (w / 256)) (list_all is_name_character ((w % 256) ∷ bytes_of words)) both.0
     (and_from (is_name_character (w % 256)) (list_all is_name_character (bytes_of words)) both.1 (all_pairs words parts.1))
-
-and_true : (b : Bool) → (b && true) ≡ b
-and_true true = refl
-and_true false = refl
-
-pub one_pair_more : (words : List ℕ) (k : ℕ) (all one : Bool) → k < length words → all ≡ list_all is_pair (take k words) → one ≡ is_pair (get_or words k 0) → (all && one) ≡ list_all is_pair (take (k + 1) words)
-one_pair_more words k all one within so_far here =
-    (λ i. so_far i && here i)
-    ∙ sym (
-    ap (list_all is_pair) (take_more words k 0 within)
-    ∙ list_all-append is_pair (take k words) (get_or words k 0 ∷ [])
-    ∙ ap (λ b. list_all is_pair (take k words) && b) (and_true (is_pair (get_or words k 0)))
-    )
 
 -- a byte of an even number is the high one of its word
 high_byte : (words : List ℕ) (k : ℕ) → k ≤ length words → word (bytes_of words) (2 * k) ≡ word words k / 256

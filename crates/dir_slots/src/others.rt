@@ -147,11 +147,7 @@ fn spells_bare_name(words: &[u16]) -> bool
 fn are_pairs(words: &[u16]) -> bool
     ensures { result ≡ list_all is_pair words.now }
 {
-    let mut all = true;
-    for word in words {
-        all &= is_pair(*word);
-    }
-    all
+    words.iter().all(|word| is_pair(*word))
 }
 
 /// Whether both bytes of a word may stand in a bare name.
@@ -192,7 +188,8 @@ fn is_named_otherwise(words: &[u16], name: &[u8]) -> bool
 fn is_same_character(own: u8, other: u8) -> bool
     ensures { result ≡ (fold_case own == fold_case other) }
 {
-    own.to_ascii_lowercase() == other.to_ascii_lowercase()
+    // the case changes none of the low five bits, and most pairs differ in them
+    own % 32 == other % 32 && own.to_ascii_lowercase() == other.to_ascii_lowercase()
 }
 
 /// A byte of the name of an entry; that at 0 is its length.
