@@ -7,21 +7,20 @@ use Rattle.disk_records.specs.declared.records.Act.TheVariants.{Check, Write}
 use Rattle.disk_records.specs.Words.{word}
 use Rattle.disk_records.specs.Addresses.{pages_of, real_of}
 use Rattle.disk_records.specs.Labels.{tag, is_free}
-use Rattle.disk_records.specs.Checks.{mismatch, mismatch_from, writes_of}
+use Rattle.disk_records.specs.Checks.{mismatch, mismatch_from}
 use Rattle.disk_records.specs.declared.records.Plan.{Plan}
 use Rattle.disk_records.specs.declared.traits.DiskError.TheVariants.{Mismatch, Failed}
 use Rattle.disk_records.specs.declared.traits.DiskError.TheVariants as disk_error
-use Rattle.disk_records.specs.Commands.{value_writes, claim_writes}
+use Rattle.disk_records.specs.Commands.{value_writes, relabel_writes, claim_writes}
 use Rattle.disk_records.specs.Packs.{Pack, after, sector_at, no_sector, with_part, is_usable, is_free_at}
-use Rattle.disk_records.specs.declared.shape.Shape.{Shape}
 use Rattle.disk_records.specs.Tapes.{Taped, DiskAlone, Ran, pack}
 use Rattle.label_check.specs.declared.errors.GuardError.{GuardError}
 use Rattle.label_check.specs.declared.errors.GuardError.TheVariants.{DiskFault, Memory}
 use Rattle.label_check.specs.Guarded.{IsFree, Guarded, DoneWhole}
-use Rattle.label_check.specs.Steps.{Finished, Refused}
+use Rattle.label_check.specs.Steps.{Finished, Refused, asks_free}
 use Rattle.label_check.proofs.Guarding.{guarded_then, guarded_whole, guarded_broken, guarded_short, guarded_refused}
 use Rattle.disk_records.proofs.Growing.{pack-after}
-use Rattle.disk_records.proofs.Checking.{matched_word, all_matched}
+use Rattle.disk_records.proofs.Checking.{no_mismatch, matched_word, all_matched}
 use Rattle.disk_records.proofs.Reals.{real_of-above}
 
 abbrev pub free_mask : List ℕ
@@ -29,10 +28,6 @@ free_mask = 0 ∷ 0 ∷ 0 ∷ 0 ∷ 0 ∷ 65535 ∷ 65535 ∷ 65535 ∷ []
 
 abbrev pub header_of : ℕ → List ℕ
 header_of real = 0 ∷ real ∷ []
-
--- the memory side of the check, with the value that is to be written
-abbrev pub request : ℕ → List ℕ → Sector
-request real value = record { header = header_of real; label = free_mask; value = value }
 
 abbrev pub check_and_write : Plan
 check_and_write = record { header = Check; label = Check; value = Write }
@@ -92,42 +87,42 @@ free_header p at free =
 
 -- a free sector matches, and a sector that matches is free
 pub free_is_matched : (p : Pack) (at : ℕ) (value : List ℕ) → is_free_at p at ≡ true
-    → mismatch check_and_write (request (real_of p.shape at) value) (sector_at p at) ≡ None
+    → mismatch check_and_write (asks_free p.shape at value) (sector_at p at) ≡ None
 free_is_matched p at value free =
     rw (header_matches (real_of p.shape at) (sector_at p at).header (free_header p at free), free_matches (sector_at p at).label (free_parts p at free).1) refl
 
 pub matched_is_free : (p : Pack) (at : ℕ) (value : List ℕ) → 1 ≤ at → at < pages_of p.shape
-    → mismatch check_and_write (request (real_of p.shape at) value) (sector_at p at) ≡ None → is_free_at p at ≡ true
+    → mismatch check_and_write (asks_free p.shape at value) (sector_at p at) ≡ None → is_free_at p at ≡ true
 matched_is_free p at value first within none =
     let both = no_first (mismatch_from 0 (header_of (real_of p.shape at)) (sector_at p at).header) (mismatch_from 0 free_mask (sector_at p at).label) none in
     let header : word (sector_at p at).header 1 ≡ real_of p.shape at = matched_word 0 (header_of (real_of p.shape at)) (sector_at p at).header 1 both.0 (real_of-above p.shape at first within) in
     let free = matched_free (sector_at p at).label both.1 in
     grind (arith, nat_tests)
 
--- the memory side, as the program makes it of the shape that the disk tells
-requested : {shape form : Shape} (at : ℕ) (value : List ℕ) (memory : Sector) → shape ≡ form → memory ≡ request (real_of shape at) value → memory ≡ request (real_of form at) value
-requested at value memory same is = is ∙ ap (λ (s : Shape). request (real_of s at) value) same
+-- the same of a memory side that asks for a free sector
+asked_is_free : (a : Taped) (at : ℕ) (memory : Sector) → 1 ≤ at → at < pages_of a.form → memory ≡ asks_free a.form at memory.value → mismatch check_and_write memory (sector_at (pack a) at) ≡ None → IsFree at (pack a)
+asked_is_free a at memory first within is none = matched_is_free (pack a) at memory.value first within (subst (λ (m : Sector). mismatch check_and_write m (sector_at (pack a) at) ≡ None) is none)
 
 -- the four ways in which the command on a sector that is to be free may end
-pub filled : {a b : Taped} {shape : Shape} {buffer : Sector} (at : ℕ) (value : List ℕ) (memory : Sector) → 1 ≤ at → at < pages_of a.form → shape ≡ a.form → memory ≡ request (real_of shape at) value
-    → Ran at check_and_write memory buffer a b (Ok tt) → Guarded {T = Unit {0}} (IsFree at) at [] (value_writes at value) 1 a b (Ok tt)
-filled {a} {b} {buffer = buffer} at value memory first within form is ran =
-    guarded_whole (matched_is_free (pack a) at value first within) (subst (λ m. Ran at check_and_write m buffer a b (Ok tt)) (requested at value memory form is) ran)
+pub filled : {a b : Taped} {buffer : Sector} (at : ℕ) (memory : Sector) → 1 ≤ at → at < pages_of a.form → memory ≡ asks_free a.form at memory.value
+    → Ran at check_and_write memory buffer a b (Ok tt) → Guarded {T = Unit {0}} (IsFree at) at [] (value_writes at memory.value) 1 a b (Ok tt)
+filled {a} {b} {buffer} at memory first within is ran =
+    guarded_whole (asked_is_free a at memory first within is) ran
 
-pub half_filled : {a b : Taped} {shape : Shape} {buffer : Sector} (at : ℕ) (value : List ℕ) (memory : Sector) → 1 ≤ at → at < pages_of a.form → shape ≡ a.form → memory ≡ request (real_of shape at) value
-    → Ran at check_and_write memory buffer a b (Err Failed) → Guarded {T = Unit {0}} (IsFree at) at [] (value_writes at value) 1 a b (Err DiskFault)
-half_filled {a} {b} {buffer = buffer} at value memory first within form is ran =
-    guarded_broken (matched_is_free (pack a) at value first within) (subst (λ m. Ran at check_and_write m buffer a b (Err Failed)) (requested at value memory form is) ran)
+pub half_filled : {a b : Taped} {buffer : Sector} (at : ℕ) (memory : Sector) → 1 ≤ at → at < pages_of a.form → memory ≡ asks_free a.form at memory.value
+    → Ran at check_and_write memory buffer a b (Err Failed) → Guarded {T = Unit {0}} (IsFree at) at [] (value_writes at memory.value) 1 a b (Err DiskFault)
+half_filled {a} {b} {buffer} at memory first within is ran =
+    guarded_broken (asked_is_free a at memory first within is) ran
 
-pub short_filled : {a b : Taped} {shape : Shape} {buffer : Sector} (at : ℕ) (value : List ℕ) (memory : Sector) → 1 ≤ at → at < pages_of a.form → shape ≡ a.form → memory ≡ request (real_of shape at) value
-    → Ran at check_and_write memory buffer a b (Err disk_error.Memory) → Guarded {T = Unit {0}} (IsFree at) at [] (value_writes at value) 1 a b (Err Memory)
-short_filled {a} {b} {buffer = buffer} at value memory first within form is ran =
-    guarded_short (matched_is_free (pack a) at value first within) (subst (λ m. Ran at check_and_write m buffer a b (Err disk_error.Memory)) (requested at value memory form is) ran)
+pub short_filled : {a b : Taped} {buffer : Sector} (at : ℕ) (memory : Sector) → 1 ≤ at → at < pages_of a.form → memory ≡ asks_free a.form at memory.value
+    → Ran at check_and_write memory buffer a b (Err disk_error.Memory) → Guarded {T = Unit {0}} (IsFree at) at [] (value_writes at memory.value) 1 a b (Err Memory)
+short_filled {a} {b} {buffer} at memory first within is ran =
+    guarded_short (asked_is_free a at memory first within is) ran
 
-pub not_filled : {a b c : Taped} {shape : Shape} {buffer : Sector} {part word : ℕ} {error : GuardError} (at : ℕ) (value : List ℕ) (memory : Sector) → shape ≡ a.form → memory ≡ request (real_of shape at) value → DiskAlone a b → DiskAlone b c
-    → Ran at check_and_write memory buffer a b (Err (Mismatch part word)) → Refused at b c error → Guarded {T = Unit {0}} (IsFree at) at [] (value_writes at value) 1 a c (Err error)
-not_filled {a} {b} {buffer = buffer} {part = part} {word = word} {error = error} at value memory form is x y ran refused =
-    guarded_refused error (free_is_matched (pack a) at value) x y (subst (λ m. Ran at check_and_write m buffer a b (Err (Mismatch part word))) (requested at value memory form is) ran) refused
+pub not_filled : {a b c : Taped} {buffer : Sector} {part word : ℕ} {error : GuardError} (at : ℕ) (memory : Sector) → memory ≡ asks_free a.form at memory.value → DiskAlone a b → DiskAlone b c
+    → Ran at check_and_write memory buffer a b (Err (Mismatch part word)) → Refused at b c error → Guarded {T = Unit {0}} (IsFree at) at [] (value_writes at memory.value) 1 a c (Err error)
+not_filled {a} {error = error} at memory is x y ran refused =
+    guarded_refused error (λ free. subst (λ (m : Sector). mismatch check_and_write m (sector_at (pack a) at) ≡ None) (sym is) (free_is_matched (pack a) at memory.value free)) x y ran refused
 
 -- a sector keeps its header where its value is written
 header_kept : (sectors : List Sector) (at : ℕ) (value : List ℕ) → (get_or (set sectors at (with_part 2 value (get_or sectors at no_sector))) at no_sector).header ≡ (get_or sectors at no_sector).header
@@ -135,14 +130,17 @@ header_kept [] at value = refl
 header_kept (s ∷ sectors) zero value = refl
 header_kept (s ∷ sectors) (suc at) value = header_kept sectors at value
 
--- so after its value was written the header of a free sector still matches, and its label can be
-pub claimed : {a b c : Taped} {shape : Shape} {result : Result (Unit {0}) GuardError} (at : ℕ) (label value : List ℕ) (memory : Sector) → DiskAlone a b → DiskAlone b c → shape ≡ b.form → memory ≡ record { header = header_of (real_of shape at); label = label; value = value }
-    → DoneWhole (IsFree at) (value_writes at value) 1 a b → (mismatch check_and_relabel memory (sector_at (pack b) at) ≡ None → Finished (writes_of at check_and_relabel memory) b c result)
-    → Guarded (IsFree at) at (value_writes at value) (claim_writes at label value) 2 a c result
-claimed {a} {b} {c} {shape} {result} at label value memory x y form is done finish =
-    let now : pack b ≡ after (pack a) (value_writes at value) = pack-after x.grown ∙ ap (after (pack a)) done.wrote in
-    let kept : (sector_at (pack b) at).header ≡ (sector_at (pack a) at).header = ap (λ (p : Pack). (sector_at p at).header) now ∙ header_kept (pack a).sectors at value in
-    let right : word (sector_at (pack b) at).header 1 ≡ real_of shape at = ap (λ header. word header 1) kept ∙ free_header (pack a) at done.held ∙ ap (λ (s : Shape). real_of s at) (sym x.grown.form ∙ sym form) in
-    let request : Sector = record { header = header_of (real_of shape at); label = label; value = value } in
-    let matched : mismatch check_and_relabel request (sector_at (pack b) at) ≡ None = rw (header_matches (real_of shape at) (sector_at (pack b) at).header right) refl in
-    guarded_then x y done (subst (λ m. Finished (writes_of at check_and_relabel m) b c result) is (finish (rw is matched)))
+-- so after its value was written the buffer has the header that stands there
+pub header_stands : {a b : Taped} (at : ℕ) (memory buffer : Sector) → DiskAlone a b → Ran at check_and_write memory buffer a b (Ok tt) → buffer.header ≡ (sector_at (pack b) at).header
+header_stands {a} {b} at memory buffer x ran =
+    let now : pack b ≡ after (pack a) (value_writes at memory.value) = pack-after x.grown ∙ ap (after (pack a)) ran.ok.wrote in
+    let kept : (sector_at (pack b) at).header ≡ (sector_at (pack a) at).header = ap (λ (p : Pack). (sector_at p at).header) now ∙ header_kept (pack a).sectors at memory.value in
+    ap (λ (s : Sector). s.header) ran.ok.read ∙ sym kept
+
+-- and its label can be written
+pub claimed : {a b c : Taped} {result : Result (Unit {0}) GuardError} (at : ℕ) (label : List ℕ) (memory buffer : Sector) → DiskAlone a b → DiskAlone b c → buffer.header ≡ (sector_at (pack b) at).header → buffer.value ≡ memory.value
+    → DoneWhole (IsFree at) (value_writes at memory.value) 1 a b → (mismatch check_and_relabel (record { header = buffer.header; label = label; value = buffer.value }) (sector_at (pack b) at) ≡ None → Finished (relabel_writes at label buffer.value) b c result)
+    → Guarded (IsFree at) at (value_writes at memory.value) (claim_writes at label memory.value) 2 a c result
+claimed {a} {b} {c} {result} at label memory buffer x y header value done finish =
+    let matched : mismatch check_and_relabel (record { header = buffer.header; label = label; value = buffer.value }) (sector_at (pack b) at) ≡ None = rw (header, no_mismatch 0 (sector_at (pack b) at).header) refl in
+    guarded_then x y done (subst (λ v. Finished (relabel_writes at label v) b c result) value (finish matched))

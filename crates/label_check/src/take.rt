@@ -1,13 +1,14 @@
 // Taking a free sector.
-ghost use Rattle.std.specs.Prelude.{◌≡◌, ◌<◌, ◌≤◌, IsTrue, true, [], ◌∷◌};
-ghost use Rattle.disk_records.specs.Addresses.{pages_of, real_of};
+ghost use Rattle.std.specs.Prelude.{◌≡◌, ◌<◌, ◌≤◌, IsTrue, OnOk, true, []};
+ghost use Rattle.disk_records.specs.Addresses.{pages_of};
 ghost use Rattle.disk_records.specs.Causes.{HasCause, IsCause};
 ghost use Rattle.disk_records.specs.Commands.{claim_writes, value_writes};
 ghost use Rattle.disk_records.specs.Labels.{tag, in_range};
-ghost use Rattle.disk_records.specs.Tapes.{DiskAlone, Looks};
+ghost use Rattle.disk_records.specs.Packs.{sector_at};
+ghost use Rattle.disk_records.specs.Tapes.{DiskAlone, Looks, pack};
 ghost use Rattle.label_check.specs.Causes.{cause_of_guard};
 ghost use Rattle.label_check.specs.Guarded.{IsFree, Guarded};
-ghost use Rattle.label_check.specs.Steps.{Refused};
+ghost use Rattle.label_check.specs.Steps.{Refused, asks_free};
 
 use crate::GuardError;
 use crate::read::look;
@@ -18,15 +19,15 @@ use disk_records::{Disk, DiskError, Plan, Sector, Shape};
 /// the others are 0 and match any word.
 const FREE: [u16; 8] = [0, 0, 0, 0, 0, 0xFFFF, 0xFFFF, 0xFFFF];
 
-/// The memory side of a command on the sector at `at`. The real address isn't 0 from sector 1 on, so the disk compares it; the
-/// pack number is 0 and matches any.
-fn sector_for(shape: Shape, at: u16, label: [u16; 8], value: &[u16; 256]) -> Sector
+/// The memory side of a command that writes this value to the sector at `at` if it is free. The real address isn't 0 from sector 1
+/// on, so the disk compares it; the pack number is 0 and matches any.
+fn free_sector(shape: Shape, at: u16, value: &[u16; 256]) -> Sector
     requires { at < pages_of shape }
-    ensures { result ≡ record { header = 0 ∷ real_of shape at ∷ []; label = label; value = value.now } }
+    ensures { result ≡ asks_free shape at value.now }
 {
     Sector {
         header: [0, shape.real_of(at)],
-        label,
+        label: FREE,
         value: *value,
     }
 }
@@ -48,18 +49,21 @@ fn refusal<D: Disk>(disk: &mut D, at: u16, buf: &mut Sector) -> GuardError
     }
 }
 
-/// Writes the value of a free sector. One sector command, or two where Wrong.
-fn fill<D: Disk>(disk: &mut D, at: u16, value: &[u16; 256]) -> Result<(), GuardError>
+/// Writes the value in `buf` to a free sector. One sector command, or two where Wrong. At Ok `buf` has the header that stands there,
+/// and its value as before.
+fn fill<D: Disk>(disk: &mut D, at: u16, buf: &mut Sector) -> Result<(), GuardError>
     requires first { 1 ≤ at }
     requires place { at < pages_of (D.tape disk.old).form }
-    ensures guarded { IsTrue D.told → Guarded (IsFree at) at [] (value_writes at value.now) 1 (D.tape disk.old) (D.tape disk.new) result }
+    requires asks_free { buf.old ≡ asks_free (D.tape disk.old).form at buf.old.value }
+    ensures guarded { IsTrue D.told → Guarded (IsFree at) at [] (value_writes at buf.old.value) 1 (D.tape disk.old) (D.tape disk.new) result }
+    ensures header { IsTrue D.told → OnOk result (buf.new.header ≡ (sector_at (pack (D.tape disk.new)) at).header) }
+    ensures value { IsTrue D.told → OnOk result (buf.new.value ≡ buf.old.value) }
     ensures cause { HasCause cause_of_guard (D.tape disk.old) (D.tape disk.new) result }
     ensures alone { DiskAlone (D.tape disk.old) (D.tape disk.new) }
 {
-    let mut buf = sector_for(disk.shape(), at, FREE, value);
-    match disk.run(at, Plan::WRITE_VALUE, &mut buf) {
+    match disk.run(at, Plan::WRITE_VALUE, buf) {
         Ok(()) => Ok(()),
-        Err(DiskError::Mismatch { .. }) => Err(refusal(disk, at, &mut buf)),
+        Err(DiskError::Mismatch { .. }) => Err(refusal(disk, at, buf)),
         Err(DiskError::Failed) => Err(GuardError::DiskFault),
         Err(DiskError::Memory) => Err(GuardError::Memory),
     }
@@ -80,7 +84,8 @@ pub fn claim<D: Disk>(
     ensures cause { HasCause cause_of_guard (D.tape disk.old) (D.tape disk.new) result }
     ensures alone { DiskAlone (D.tape disk.old) (D.tape disk.new) }
 {
-    fill(disk, at, value)?;
-    let mut buf = sector_for(disk.shape(), at, label, value);
+    let mut buf = free_sector(disk.shape(), at, value);
+    fill(disk, at, &mut buf)?;
+    buf.label = label;
     finish(disk, at, Plan::WRITE_LABEL, &mut buf)
 }
