@@ -1,11 +1,11 @@
 -- Tables of busy bits that are corrected.
-use Rattle.std.proofs.Common.{◌≡◌, ℕ, zero, suc, ◌+◌, ◌<◌, ◌≤◌, ◌⊎◌, ◌&&◌, inl, inr, Bool, true, false, not, IsTrue, List, [], ◌∷◌, length, take, get_or, set, refl, sym, ◌∙◌, ap, subst, arith}
+use Rattle.std.proofs.Common.{◌≡◌, ◌≢◌, ℕ, zero, suc, ◌+◌, ◌<◌, ◌≤◌, ◌⊎◌, ◌&&◌, inl, inr, Bool, true, false, not, IsTrue, List, [], ◌∷◌, length, take, get_or, set, refl, sym, ◌∙◌, ap, subst, arith}
 use Rattle.std.specs.Prelude.{All, Contains, nat_lt}
 use Rattle.std.proofs.lemmas.List.Elements.{All-more, All-weaker, Contains-get_or}
 use Rattle.disk_records.specs.Packs.{Pack, is_free_at}
 use Rattle.disk_records.specs.Tapes.{Looks, Taped, pack}
 use Rattle.hint_cache.specs.Bits.{busy_at}
-use Rattle.page_alloc.specs.Free.{is_offered_free, IsCorrected, IsCorrectedBut}
+use Rattle.page_alloc.specs.Free.{is_offered_free, IsCorrectedAt, IsCorrected, IsCorrectedBut}
 use Rattle.page_alloc.specs.Inside.{IsCheckedAt, AreChecked}
 use Rattle.disk_records.proofs.Looking.{looks_pack}
 use Rattle.page_alloc.proofs.FreeLists.{lt-test, le-test}
@@ -15,6 +15,19 @@ corrected_twice p a b c x y at = elim (y at) [
   | inl same ↦ elim (x at) [ inl before ↦ inl (same ∙ before) | inr told ↦ inr (same ∙ told) ]
   | inr told ↦ inr told
 ]
+
+-- one bit is as its label says, and the others are as they were
+pub corrected_here : (p : Pack) (a b : List Bool) (at : ℕ) → ((k : ℕ) → k ≢ at → busy_at b k ≡ busy_at a k) → busy_at b at ≡ not (is_free_at p at) → IsCorrected p a b
+corrected_here p a b at others here k = by (nat_lt k at) (nat_lt at k) refl refl
+  where
+    by : (lower higher : Bool) → nat_lt k at ≡ lower → nat_lt at k ≡ higher → IsCorrectedAt p a b k
+    by true higher low high = let below = lt-test k at low in inl (others k (omega (arith, below)))
+    by false true low high = let above = lt-test at k high in inl (others k (omega (arith, above)))
+    by false false low high =
+        let x = le-test k at low in
+        let y = le-test at k high in
+        let same : at ≡ k = omega (arith, x, y) in
+        inr (subst (λ (j : ℕ). busy_at b j ≡ not (is_free_at p j)) same here)
 
 -- ---- bits that are set
 set_here : (bits : List Bool) (at : ℕ) → busy_at (set bits at true) at ≡ true
@@ -90,11 +103,11 @@ checked_passed_over p offers now from end busy checked at first low free = by (n
     by true e = checked at first (lt-test at from e) free
     by false e = let here : busy_at offers at ≡ true = busy at (le-test at from e) low in cc
 
-pub checked_step : {told : Bool} {most : ℕ} {x y : Taped} (offers a b : List Bool) (from at : ℕ) → Looks told most x y → IsTrue told → ((k : ℕ) → from ≤ k → k < at → busy_at offers k ≡ true) → AreChecked (pack x) offers a from → IsCorrected (pack y) a b → busy_at b at ≡ not (is_free_at (pack y) at) → AreChecked (pack x) offers b (at + 1)
-checked_step {told} {most} {x} {y} offers a b from at looks t busy checked corrected here =
-    let same = looks_pack looks t in
-    let so_far = checked_corrected (pack x) offers a b at (checked_passed_over (pack x) offers a from at busy checked) (subst (λ p. IsCorrected p a b) same corrected) in
-    checked_more (pack x) offers b at so_far (λ free. here ∙ ap (λ p. not (is_free_at p at)) same)
+-- the next offer, whose bit says by now what its label says
+pub checked_step : (p : Pack) (offers a b : List Bool) (from at : ℕ) → ((k : ℕ) → from ≤ k → k < at → busy_at offers k ≡ true) → AreChecked p offers a from → ((k : ℕ) → k ≢ at → busy_at b k ≡ busy_at a k) → busy_at b at ≡ not (is_free_at p at) → AreChecked p offers b (at + 1)
+checked_step p offers a b from at busy checked others here =
+    let so_far = checked_corrected p offers a b at (checked_passed_over p offers a from at busy checked) (corrected_here p a b at others here) in
+    checked_more p offers b at so_far (λ free. here)
 
 with_true : (b : Bool) → b ≡ b && true
 with_true true = refl

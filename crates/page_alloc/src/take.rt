@@ -9,7 +9,7 @@ ghost use Rattle.page_alloc.specs.Causes.{cause_of_alloc};
 ghost use Rattle.page_alloc.specs.Free.{IsReserved, free_addresses, offered_sectors, offered_free, IsTrueTable, IsCorrected, IsCorrectedBut, IsRising, IfFull};
 
 use crate::AllocError;
-use crate::offers::gather_offered;
+use crate::offers::{Offered, gather_offered, offers_kept};
 use crate::sweep::sweep;
 use disk_records::{Disk, Sector};
 use hint_cache::BitTable;
@@ -38,12 +38,12 @@ fn find_free<D: Disk>(
     ensures soon { IsTrue D.told → IsTrueTable (pack (D.tape disk.old)) table.old → OnOk result ((D.tape disk.new).runs ≤ (D.tape disk.old).runs + wanted) }
     ensures offered { IsTrue D.told → wanted ≤ length (offered_free (pack (D.tape disk.old)) table.old) → (D.tape disk.new).runs ≤ (D.tape disk.old).runs + length (offered_sectors table.old) }
 {
-    // Bits change as offers are looked at, and a sweep is to pass over each sector that was one.
-    let offers = table.copied(alloc)?;
-    let offered = gather_offered(alloc, disk, table, wanted, buf)?;
-    if offered.len() == wanted as usize {
-        return Ok(offered);
+    let Offered { found, offers } = gather_offered(alloc, disk, table, wanted, buf)?;
+    if found.len() == wanted as usize {
+        return Ok(found);
     }
+    // A sweep is to pass over each sector that was offered, and the bits of wrong offers have changed.
+    let offers = offers_kept(alloc, offers, table)?;
     let swept = sweep(alloc, disk, table, &offers, wanted, buf)?;
     if swept.free < wanted {
         return Err(AllocError::Full {
