@@ -1,82 +1,69 @@
--- The last page of a file, by its leader's words and by its own label.
-use Rattle.std.proofs.Common.{Bool, List, None, Option, Some, ap, arith, cond, false, length, nat_lt, refl, suc, sym, true, ℕ, ◌&&◌, ◌-◌, ◌/◌, ◌<◌, ◌∙◌, ◌≡◌, ◌≢◌, ◌≤◌}
+-- The last page of a file, from a data page of it on.
+use Rattle.std.proofs.Common.{Bool, IsTrue, List, None, Option, Some, [], arith, cond, false, inr, nat_lt, refl, subst, sym, true, ℕ, ◌&&◌, ◌<◌, ◌==◌, ◌≡◌, ◌≢◌, ◌≤◌}
 use Rattle.std.proofs.lemmas.Bool.Decides.{nat_tests}
 use Rattle.alto_words.specs.declared.fid.Fid.{Fid}
-use Rattle.disk_records.specs.Addresses.{is_right_header, pages_of}
-use Rattle.disk_records.specs.Labels.{page_of, tag}
+use Rattle.disk_records.proofs.Looking.{looks_pack}
+use Rattle.disk_records.specs.Addresses.{pages_of, real_of}
+use Rattle.disk_records.specs.Labels.{page_of}
 use Rattle.disk_records.specs.Packs.{Pack, carried, sector_at}
+use Rattle.disk_records.specs.Tapes.{Looks, Taped, pack}
 use Rattle.disk_records.specs.Words.{word}
 use Rattle.disk_records.specs.declared.records.Page.{Page}
-use Rattle.disk_records.specs.declared.records.Sector.{Sector}
-use Rattle.label_check.specs.Guarded.{info_of}
+use Rattle.disk_records.specs.declared.records.Place.{Place}
 use Rattle.label_check.specs.declared.errors.PageInfo.{PageInfo}
-use Rattle.laws_operation.proofs.lengths.Laws.{full_page_is_not_the_last, length_by_the_last_page}
-use Rattle.laws_operation.proofs.places.Laws.{carried_in_place}
-use Rattle.laws_call.specs.laws_record.proofs.Copying.{place_carried}
-use Rattle.laws_call.specs.pack_laws.proofs.Sighted.{counted}
 use Rattle.pack_model.specs.operations.Committing.{page_of_byte}
-use Rattle.pack_model.specs.reading.Files.{place}
-use Rattle.pack_model.specs.reading.Sights.{sights}
 use Rattle.pack_model.specs.states.Whole.{Whole}
-use Rattle.page_seeking.proofs.Ending.{ranged}
-use Rattle.page_seeking.proofs.Handing.{placed_within}
-use Rattle.page_seeking.specs.Seeking.{IsLast, LastNamed, Stands, file_length, page_number}
-use Rattle.file_pages.specs.Ends.{NamesFileEnd}
+use Rattle.page_seeking.proofs.Lasting.{is_last}
+use Rattle.page_seeking.specs.Refs.{MisledBy}
+use Rattle.page_seeking.specs.Seeking.{EndsAtPage, IsLast, file_length, page_number}
+use Rattle.file_pages.proofs.Remaining.{not_last}
+use Rattle.file_pages.specs.Ends.{IsDataPage}
+use Rattle.file_pages.specs.Releasing.{Follows, IsKnown, MisledSince}
 
-one : {a b : ℕ} → ◌≡◌ {A = Option ℕ} (Some a) (Some b) → a ≡ b
-one e = cc
-
--- a leader that was found names the page that the file's leader names
-pub names_last : (p : Pack) (f : Fid) (at : ℕ) (leader : Sector) → Whole p → Stands p (page_number f 0) at leader → LastNamed p f → NamesFileEnd p f leader.value
-names_last p f at leader whole stands named =
-    let same : at ≡ named.leader_at = one (sym (carried_in_place p (page_number f 0) at whole stands.carries) ∙ named.leader) in
-    let value : leader.value ≡ (sector_at p named.leader_at).value = ap (λ (s : Sector). s.value) stands.holds ∙ ap (λ i. (sector_at p i).value) same in
-    record {
-      number = ap (λ l. word l 254) value ∙ named.number;
-      placed = named.at ∙ ap (λ l. Some (word l 253)) (sym value);
-    }
-
--- a sector that carries a page isn't the first
-first_sector : (p : Pack) (at : ℕ) (page : Page) → carried p at ≡ Some page → 1 ≤ at
-first_sector p at page = by (nat_lt 0 at) refl
+-- a sector that carries a page is a usable one
+pub carried_within : (p : Pack) (at : ℕ) (page : Page) → carried p at ≡ Some page → (1 ≤ at) × (at < pages_of p.shape)
+carried_within p at page = by (nat_lt 0 at) (nat_lt at (pages_of p.shape)) refl refl
   where
-    by : (b : Bool) → nat_lt 0 at ≡ b → cond (b && is_right_header p.shape at (sector_at p at).header) (page_of (sector_at p at).label) None ≡ Some page → 1 ≤ at
-    by true is e = grind (arith, nat_tests)
-    by false is e = absurd cc
+    by : (a b : Bool) → nat_lt 0 at ≡ a → nat_lt at (pages_of p.shape) ≡ b → cond (a && (b && (word (sector_at p at).header 1 == real_of p.shape at))) (page_of (sector_at p at).label) None ≡ Some page → (1 ≤ at) × (at < pages_of p.shape)
+    by true true first last e = (grind (arith, nat_tests), grind (arith, nat_tests))
+    by true false first last e = absurd cc
+    by false b first last e = absurd cc
 
--- the page that is named is carried
-pub named_is_there : (p : Pack) (f : Fid) (leader : List ℕ) → NamesFileEnd p f leader → carried p (word leader 253) ≡ Some (page_number f (word leader 254))
-named_is_there p f leader names = place_carried p (page_number f (page_of_byte (file_length p f))) (word leader 253) names.placed ∙ ap (λ n. Some (page_number f n)) (sym names.number)
+-- ---- a data page that was read
+-- nothing was written since
+pub page_before : {told : Bool} {n : ℕ} {a b : Taped} {f : Fid} {number at : ℕ} {info : PageInfo} → Looks told n a b → IsDataPage told (pack b) f number at info → IsDataPage told (pack a) f number at info
+page_before {f = f} {number} {at} {info} looks page = record {
+  first = page.first;
+  most = page.most;
+  known = λ told. subst (λ (p : Pack). IsKnown p (page_number f number) at info) (looks_pack looks told) (page.known told);
+}
 
--- and its words are those of a page and of a sector
-pub named_within : (p : Pack) (f : Fid) (leader : List ℕ) → NamesFileEnd p f leader → (1 ≤ word leader 254) × ((1 ≤ word leader 253) × (word leader 253 < pages_of p.shape))
-named_within p f leader names =
-    let number = names.number in
-    (omega (arith, number), (first_sector p (word leader 253) (page_number f (word leader 254)) (named_is_there p f leader names), placed_within p f (file_length p f / 512) (word leader 253) names.placed))
+pub page_after_looks : {told : Bool} {n : ℕ} {a b : Taped} {f : Fid} {number at : ℕ} {info : PageInfo} → Looks told n a b → IsDataPage told (pack a) f number at info → IsDataPage told (pack b) f number at info
+page_after_looks {f = f} {number} {at} {info} looks page = record {
+  first = page.first;
+  most = page.most;
+  known = λ told. subst (λ (p : Pack). IsKnown p (page_number f number) at info) (sym (looks_pack looks told)) (page.known told);
+}
 
-module _ (p : Pack) (f : Fid) (n at : ℕ) (info : PageInfo) (whole : Whole p) (carries : carried p at ≡ Some (page_number f n)) (sized : length (sector_at p at).value ≡ 256) (first : 1 ≤ n) (tells : info ≡ info_of (sector_at p at).label) where
-  above : suc (n - 1) ≡ n
-  above = omega (arith, first)
+-- one that ends the file is the last
+pub last_of : {told : Bool} {p : Pack} {f : Fid} {number at : ℕ} {info : PageInfo} → Whole p → IsTrue told → IsDataPage told p f number at info → EndsAtPage number info.bytes → IsLast p f (record { number = number; at = at; info = info })
+last_of {p = p} {at = at} {info} whole told page end =
+    let known = page.known told in
+    is_last {form = p.shape} {found = record { at = at; info = info }} whole told (record {
+      first = page.first;
+      known = record { first = known.first; last = known.last; carries = λ told. known.carries; tells = λ told. known.tells; sized = λ told. known.sized };
+      ends = end.ends;
+    })
 
-  sector : place (sights p) f (suc (n - 1)) ≡ Some at
-  sector = ap (place (sights p) f) above ∙ carried_in_place p (page_number f n) at whole carries
+-- and the last isn't full
+pub last_is_short : {told : Bool} {p : Pack} {f : Fid} {number at : ℕ} {info : PageInfo} → Whole p → IsTrue told → IsDataPage told p f number at info → number ≡ page_of_byte (file_length p f) → info.bytes ≢ 512
+last_is_short {p = p} {f} {number} {at} {info} whole told page is full = not_last p f number at info (page.known told) (inr full) whole is
 
-  count : info.bytes ≡ word (sector_at p at).label 3
-  count = ap (λ (i : PageInfo). i.bytes) tells
+-- ---- a link that is followed from it
+pub follows_itself : {p : Pack} {page : Page} {at : ℕ} {info : PageInfo} → IsKnown p page at info → Follows p p page at info
+follows_itself known = record { shape = refl; known = known; later = λ i n above there. refl; only = λ i page there. there }
 
-  -- a page that isn't full is the last
-  pub last_by_label : info.bytes ≢ 512 → IsLast p f (record { number = n; at = at; info = info })
-  last_by_label short =
-      let most = counted (tag (sector_at p at).label) (ranged p at (page_number f n) carries) in
-      let size = length_by_the_last_page p f (n - 1) at (word (sector_at p at).label 3) whole (record { sector = sector; sized = sized; bytes = refl }) (omega (arith, count, most, short)) in
-      record {
-        number = omega (arith, size, first, count, most, short);
-        bytes = omega (arith, size, first, count, most, short);
-        placed = carried_in_place p (page_number f n) at whole carries;
-      }
-
-  -- the last page isn't full
-  pub last_is_short : n ≡ page_of_byte (file_length p f) → info.bytes ≢ 512
-  last_is_short is full =
-      let more = full_page_is_not_the_last p f (n - 1) at whole (record { sector = sector; sized = sized; bytes = sym count ∙ full }) in
-      omega (arith, more, is, first)
+-- one that misled since then misled then
+pub misled_then : {told : Bool} {n : ℕ} {a b : Taped} (f : Fid) (place : Place) (at : ℕ) (wanted : Page) (found : Option (List ℕ)) → Looks told n a b → IsTrue told → MisledSince (pack b) (pack b) f place at wanted found → MisledBy (pack a) [] f place at wanted found
+misled_then f place at wanted found looks told x =
+    subst (λ (p : Pack). MisledBy p [] f place at wanted found) (looks_pack looks told) (record { own = x.link.own; answers = record { misled = x.misled; on_disk = x.on_disk; finds = x.finds } })

@@ -48,7 +48,7 @@ pub record NextOf (p : Pack) (f : Fid) (number : ℕ) (pages : List ℕ) : Type 
   pub alone : (i : ℕ) → carried p i ≡ Some (page_number f (number + 1)) → i ≡ to
   pub left : AreAfter p f (number + 1) rest
 
-not_last : (p : Pack) (f : Fid) (number at : ℕ) (info : PageInfo) → IsKnown p (page_number f number) at info → IsFull (page_number f number) info.bytes → Whole p → number ≡ page_of_byte (file_length p f) → ⊥
+pub not_last : (p : Pack) (f : Fid) (number at : ℕ) (info : PageInfo) → IsKnown p (page_number f number) at info → IsFull (page_number f number) info.bytes → Whole p → number ≡ page_of_byte (file_length p f) → ⊥
 not_last p f number at info known (inl first) whole last = omega (arith, first, last)
 not_last p f zero at info known (inr full) whole last = omega (arith, last)
 not_last p f (suc k) at info known (inr full) whole last =

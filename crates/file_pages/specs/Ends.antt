@@ -1,21 +1,19 @@
--- The last page of a file, by its leader.
-use Rattle.std.specs.Prelude.{Bool, List, Some, ℕ, ◌≡◌, ◌≤◌, ◌⊎◌}
+-- The last page of a file, by a page before it.
+use Rattle.std.specs.Prelude.{Bool, IsTrue, ℕ, ◌≤◌, ◌⊎◌}
 use Rattle.alto_words.specs.declared.fid.Fid.{Fid}
 use Rattle.disk_records.specs.Packs.{Pack}
-use Rattle.disk_records.specs.Words.{word}
-use Rattle.pack_model.specs.hints.Handy.{last_at_word, last_number_word}
-use Rattle.pack_model.specs.operations.Committing.{page_of_byte}
-use Rattle.pack_model.specs.reading.Files.{place}
-use Rattle.pack_model.specs.reading.Sights.{sights}
 use Rattle.hint_cache.specs.Caches.{Cached}
+use Rattle.label_check.specs.declared.errors.PageInfo.{PageInfo}
 use Rattle.page_seeking.specs.Parts.{IsListed}
-use Rattle.page_seeking.specs.Seeking.{EndsAtPage, Refused, file_length, page_number}
+use Rattle.page_seeking.specs.Seeking.{EndsAtPage, Refused, page_number}
 use Rattle.page_seeking.specs.declared.ends.LastPage.{LastPage}
+use Rattle.file_pages.specs.Releasing.{IsKnown}
 
--- The words of a leader name the last page of this file, and its place.
-pub record NamesFileEnd (p : Pack) (f : Fid) (leader : List ℕ) : Type 0 where
-  pub number : word leader last_number_word ≡ page_of_byte (file_length p f)
-  pub placed : place (sights p) f (page_of_byte (file_length p f)) ≡ Some (word leader last_at_word)
+-- A data page of this file that was read: its number and its count, and where the machine is modelled its sector and its label's words.
+pub record IsDataPage (told : Bool) (p : Pack) (f : Fid) (number at : ℕ) (info : PageInfo) : Type 0 where
+  pub first : 1 ≤ number
+  pub most : info.bytes ≤ 512
+  pub known : IsTrue told → IsKnown p (page_number f number) at info
 
 -- The page ends its file, and is listed at its sector, unless a `note` was refused.
 pub record ListsEndAt (told : Bool) (p : Pack) (f : Fid) (last : LastPage) (old new : Cached) : Type 0 where

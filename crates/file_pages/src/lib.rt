@@ -21,7 +21,7 @@
 //!    write of every file, directories too (`puts`), and `grow` its record writes with the words that come after the bytes (`grows`).
 //! 6. With true links a cache that was handy for a file is so on the pack afterwards (`handy`), and where all hints of the file are handy,
 //!    few sector commands are taken (`quick`); of a new file and of a growth only if no note was refused. A growth leaves the page that the
-//!    leader names (`named`), and from there a stamp takes one sector command a page (`climbs`).
+//!    leader names (`named`), and from there a stamp takes at most one sector command a page (`climbs`).
 //!
 //! Not promised: that the sectors for new pages are free where the machine isn't modelled. Such a call answers Misled.
 #![tactic(auto)]

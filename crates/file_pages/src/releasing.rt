@@ -23,7 +23,7 @@ use hint_cache::{HintCache, Hints};
 use label_check::{PageInfo, read_page, release};
 
 /// Whether another page comes after this one.
-fn goes_on(number: u16, info: PageInfo) -> bool
+pub(crate) fn goes_on(number: u16, info: PageInfo) -> bool
     ensures full { result ≡ true → (number ≡ 0) ⊎ (info.bytes ≡ 512) }
     ensures short { result ≡ false → (1 ≤ number) × (info.bytes ≢ 512) }
 {
@@ -32,7 +32,7 @@ fn goes_on(number: u16, info: PageInfo) -> bool
 
 /// Reads the page after one whose label was read, by its next link: this can mislead. One sector command. Answers the virtual address of
 /// its sector, and its label's words.
-fn read_after<D: Disk>(
+pub(crate) fn read_after<D: Disk>(
     disk: &mut D,
     page: Page,
     at: u16,

@@ -127,7 +127,7 @@ const COMMANDS: [(Call, [u16; 2], u64, u64, u16, u16); 5] = [
     (Call::Put, [0, 0], 6, 3, 3, 8),
     (Call::Title, [0, 0], 3, 3, 0, 5),
     (Call::Stamp, [8, 3], 4, 4, 3, 8),
-    (Call::Stamp, [6, 1], 8, 4, 3, 8),
+    (Call::Stamp, [6, 1], 6, 4, 3, 8),
     (Call::Grow, [8, 3], 6, 6, 3, 8),
 ];
 
